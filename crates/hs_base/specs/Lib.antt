@@ -1,0 +1,10 @@
+pub mod Refusals
+pub mod ByteSets
+pub mod Lists
+pub mod Trees
+pub mod Assertions
+pub mod Spans
+pub mod Patterns
+pub mod Reports
+pub mod Told
+pub mod MatchText

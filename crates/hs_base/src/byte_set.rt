@@ -1,0 +1,77 @@
+ghost use Rattle.std.specs.Prelude.{◌≡◌, ℕ, ◌<◌, ◌==◌, not};
+ghost use Rattle.std.specs.Int.{bit_at};
+
+/// A set of bytes.
+#[derive(Clone, Copy, Debug, PartialEq, Eq)]
+pub struct ByteSet {
+    /// Byte `b` is bit `b % 64` of word `b / 64`.
+    words: [u64; 4],
+}
+
+impl ByteSet {
+    ghost use Rattle.std.specs.Prelude.{◌≡◌, ℕ, ◌<◌, ◌==◌, ◌||◌, not};
+    ghost use Rattle.hs_base.specs.ByteSets.{has};
+
+    /// No byte.
+    pub const EMPTY: ByteSet = ByteSet { words: [0; 4] };
+    /// Every byte.
+    pub const ALL: ByteSet = ByteSet {
+        words: [u64::MAX; 4],
+    };
+    /// Every byte but the line feed: `.` without the option s.
+    pub const NOT_NEWLINE: ByteSet = ByteSet {
+        words: [u64::MAX - (1 << 10), u64::MAX, u64::MAX, u64::MAX],
+    };
+
+    /// The set of one byte.
+    pub fn of(byte: u8) -> ByteSet
+        ensures { (b : ℕ) → b < 256 → has result b ≡ (b == byte) }
+    {
+        let mut set = ByteSet::EMPTY;
+        set.insert(byte);
+        set
+    }
+
+    /// Whether the byte is a member.
+    #[tactic(auto, using(std::proofs::lemmas::Nat::Bits::shr_and_one), unfolding(crate::specs::ByteSets::has))]
+    pub fn contains(&self, byte: u8) -> bool
+        ensures { result ≡ has self.now byte }
+    {
+        (self.words[byte as usize / 64] >> (byte % 64)) & 1 == 1
+    }
+
+    /// Adds a byte.
+    pub fn insert(&mut self, byte: u8)
+        ensures { (b : ℕ) → b < 256 → has self.new b ≡ ((b == byte) || has self.old b) }
+    {
+        self.words[byte as usize / 64] |= 1 << (byte % 64);
+    }
+
+    /// The bytes of either set.
+    pub fn union(&self, other: &ByteSet) -> ByteSet
+        ensures { (b : ℕ) → b < 256 → has result b ≡ (has self.now b || has other.now b) }
+    {
+        let [a0, a1, a2, a3] = self.words;
+        let [b0, b1, b2, b3] = other.words;
+        ByteSet {
+            words: [a0 | b0, a1 | b1, a2 | b2, a3 | b3],
+        }
+    }
+
+    /// The bytes that aren't members.
+    pub fn complement(&self) -> ByteSet
+        ensures { (b : ℕ) → b < 256 → has result b ≡ not (has self.now b) }
+    {
+        let [w0, w1, w2, w3] = self.words;
+        ByteSet {
+            words: [flipped(w0), flipped(w1), flipped(w2), flipped(w3)],
+        }
+    }
+}
+
+/// The word with every bit turned over.
+fn flipped(word: u64) -> u64
+    ensures { (i : ℕ) → i < 64 → (bit_at result i == 1) ≡ not (bit_at word i == 1) }
+{
+    !word
+}

@@ -1,0 +1,13 @@
+//! What every other crate speaks of: identifiers, sets of bytes, assertions, reports and refusals. `specs/` says
+//! what a match is.
+#![tactic(auto)]
+
+mod assertion;
+mod byte_set;
+mod entry;
+mod refusal;
+
+pub use assertion::Assertion;
+pub use byte_set::ByteSet;
+pub use entry::{ExprId, Flags, Report};
+pub use refusal::{Construct, Refusal};

@@ -1,0 +1,8 @@
+//! The tree of an expression. `specs/Meaning.antt` says which plain tree it stands for, and that crate's definitions
+//! what the tree matches.
+#![tactic(auto)]
+
+mod expr;
+
+pub use expr::Expr;
+pub use hs_base::Assertion;
