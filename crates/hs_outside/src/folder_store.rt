@@ -7,6 +7,7 @@ use crate::fault::raise;
 use crate::{Failed, Store, StoreFault};
 use std::fs;
 use std::io::{ErrorKind, Seek, SeekFrom};
+use std::marker::Model;
 use std::rt::Files;
 
 /// A store over files, whose names are paths from the current folder. It tells nothing of their contents, and counts
@@ -18,10 +19,18 @@ pub struct FolderStore<F> {
     chunk: Chunk,
 }
 
+impl<F> Model for FolderStore<F> {
+    ghost use Rattle.std.specs.Prelude.{ℕ};
+
+    ghost Value = { ℕ };
+
+    ghost view = { λ store. store.faults };
+}
+
 impl<F: Files> FolderStore<F> {
     /// A store that has not failed yet.
     pub fn new(files: F) -> Self
-        ensures { result.faults ≡ 0 }
+        ensures { result ≡ 0 }
     {
         FolderStore {
             files,
@@ -34,7 +43,7 @@ impl<F: Files> FolderStore<F> {
 impl<F: Files> Store for FolderStore<F> {
     ghost told = { λ _ _. untold };
 
-    ghost faults = { λ store. store.faults };
+    ghost faults = { λ store. store };
 
     fn read_at(&mut self, name: &str, offset: u64, buf: &mut [u8]) -> Result<usize, StoreFault> {
         match read_part(&self.files, &mut self.chunk, name, offset, buf) {

@@ -10,6 +10,8 @@ mod source;
 mod std_sink;
 mod std_source;
 mod store;
+#[cfg(test)]
+mod tests;
 
 pub use fault::{Failed, StoreFault};
 pub use folder_store::FolderStore;

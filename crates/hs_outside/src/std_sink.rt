@@ -5,6 +5,7 @@ ghost use Rattle.hs_outside.specs.Counts.{Rose};
 use crate::fault::raise;
 use crate::{Failed, Sink};
 use std::io::{ErrorKind, Write};
+use std::marker::Model;
 
 /// A sink over a writer. It tells nothing of the bytes, and counts each error of the writer.
 #[derive(Drop)]
@@ -13,10 +14,18 @@ pub struct StdSink<W> {
     faults: u64,
 }
 
+impl<W> Model for StdSink<W> {
+    ghost use Rattle.std.specs.Prelude.{ℕ};
+
+    ghost Value = { ℕ };
+
+    ghost view = { λ sink. sink.faults };
+}
+
 impl<W: Write> StdSink<W> {
     /// A sink that has not failed yet.
     pub fn new(writer: W) -> Self
-        ensures { result.faults ≡ 0 }
+        ensures { result ≡ 0 }
     {
         StdSink { writer, faults: 0 }
     }
@@ -25,7 +34,7 @@ impl<W: Write> StdSink<W> {
 impl<W: Write> Sink for StdSink<W> {
     ghost written = { λ _. None };
 
-    ghost faults = { λ sink. sink.faults };
+    ghost faults = { λ sink. sink };
 
     fn write(&mut self, bytes: &[u8]) -> Result<usize, Failed> {
         let answer = write_some(&mut self.writer, bytes);

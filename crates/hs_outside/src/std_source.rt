@@ -5,6 +5,7 @@ use crate::chunk::Chunk;
 use crate::fault::raise;
 use crate::{Failed, Source};
 use std::io::Read;
+use std::marker::Model;
 
 /// A source over a reader. It tells nothing of the bytes, and counts each error of the reader.
 #[derive(Drop)]
@@ -14,10 +15,18 @@ pub struct StdSource<R> {
     chunk: Chunk,
 }
 
+impl<R> Model for StdSource<R> {
+    ghost use Rattle.std.specs.Prelude.{ℕ};
+
+    ghost Value = { ℕ };
+
+    ghost view = { λ source. source.faults };
+}
+
 impl<R: Read> StdSource<R> {
     /// A source that has not failed yet.
     pub fn new(reader: R) -> Self
-        ensures { result.faults ≡ 0 }
+        ensures { result ≡ 0 }
     {
         StdSource {
             reader,
@@ -30,7 +39,7 @@ impl<R: Read> StdSource<R> {
 impl<R: Read> Source for StdSource<R> {
     ghost left = { λ _. None };
 
-    ghost faults = { λ source. source.faults };
+    ghost faults = { λ source. source };
 
     fn read(&mut self, buf: &mut [u8]) -> Result<usize, Failed> {
         match self.chunk.read(&mut self.reader, buf) {
