@@ -1,0 +1,4 @@
+pub mod Counts
+pub mod Source
+pub mod Sink
+pub mod Store

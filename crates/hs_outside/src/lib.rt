@@ -1,0 +1,22 @@
+//! The outside: sources, sinks and stores, with a meaning that contracts can speak of; versions of them over memory,
+//! adapters over the real thing, and the loops that read to an end and write a whole text.
+#![tactic(auto)]
+
+mod chunk;
+mod fault;
+mod folder_store;
+mod sink;
+mod source;
+mod std_sink;
+mod std_source;
+mod store;
+#[cfg(test)]
+mod tests;
+
+pub use fault::{Failed, StoreFault};
+pub use folder_store::FolderStore;
+pub use sink::Sink;
+pub use source::Source;
+pub use std_sink::StdSink;
+pub use std_source::StdSource;
+pub use store::Store;
