@@ -15,6 +15,7 @@ pub(crate) struct Chunk {
 }
 
 impl Chunk {
+    /// Room that holds zeros.
     pub(crate) fn new() -> Self {
         Chunk {
             bytes: [0; CHUNK_LEN],

@@ -12,11 +12,13 @@ mod std_source;
 mod store;
 #[cfg(test)]
 mod tests;
+mod transfer;
 
-pub use fault::{Failed, StoreFault};
+pub use fault::{Failed, FileFault, SourceFault, StoreFault};
 pub use folder_store::FolderStore;
 pub use sink::Sink;
 pub use source::Source;
 pub use std_sink::StdSink;
 pub use std_source::StdSource;
 pub use store::Store;
+pub use transfer::{read_file, read_to_end, write_all};

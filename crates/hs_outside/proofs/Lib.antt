@@ -1,0 +1,4 @@
+pub mod Counting
+pub mod Sending
+pub mod Taking
+pub mod Viewing

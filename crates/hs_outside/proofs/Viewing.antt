@@ -1,0 +1,63 @@
+-- Reading a file in pieces.
+use Rattle.std.proofs.Common.{◌≡◌, ◌≢◌, ℕ, ◌<◌, ◌≤◌, ◌+◌, List, [], ◌∷◌, ◌++◌, length, take, drop, sym, subst, ◌∙◌, ap, refl, append_assoc, append-nil, arith, length-append}
+use Rattle.std.proofs.Math.Seq.{drop-append_seam}
+use Rattle.hs_outside.specs.Store.{Told, untold, lacks, holds, HasAt, EndsBy, ReadsAt, IsPresent, Begins, IsFile, IsLonger}
+
+-- at first nothing is seen
+pub Begins-nothing : (told : Told) → Begins told []
+Begins-nothing untold = tt
+Begins-nothing lacks = refl
+Begins-nothing (holds file) = (file, refl)
+
+-- the bytes at the end of what was seen
+pub Begins-append : (told : Told) (seen piece : List ℕ) → Begins told seen → HasAt told (length seen) piece → Begins told (seen ++ piece)
+Begins-append untold seen piece h k = tt
+Begins-append lacks seen piece h k = absurd k
+Begins-append (holds file) seen piece h k =
+    let from_seam : drop (length seen) file ≡ h.0 = ap (λ (f : List ℕ). drop (length seen) f) h.1 ∙ drop-append_seam seen h.0 in
+    (k.0, h.1 ∙ ap (λ (x : List ℕ). seen ++ x) (sym from_seam ∙ k.1) ∙ sym (append_assoc seen piece k.0))
+
+-- no list with a part more is as short as the part before it
+nothing_more : (rest : List ℕ) (n : ℕ) → n + length rest ≤ n → rest ≡ []
+nothing_more [] n h = refl
+nothing_more (x ∷ rest) n h = absurd (omega arith)
+
+-- where the file ends by the end of what was seen, that is the file
+pub IsFile-at_end : (told : Told) (seen : List ℕ) → Begins told seen → EndsBy told (length seen) → IsFile told seen
+IsFile-at_end untold seen h end = tt
+IsFile-at_end lacks seen h end = end
+IsFile-at_end (holds file) seen h end =
+    let none : h.0 ≡ [] = nothing_more h.0 (length seen) (omega (arith, ap length h.1, length-append seen h.0)) in
+    h.1 ∙ ap (λ (x : List ℕ). seen ++ x) none ∙ append-nil seen
+
+-- a file of which more than the limit was seen is longer
+pub IsLonger-seen : (told : Told) (seen : List ℕ) (limit : ℕ) → Begins told seen → limit < length seen → IsLonger told limit
+IsLonger-seen untold seen limit h more = tt
+IsLonger-seen lacks seen limit h more = omega (arith, ap length h)
+IsLonger-seen (holds file) seen limit h more = omega (arith, ap length h.1, length-append seen h.0)
+
+-- a file with bytes somewhere isn't missing
+pub IsPresent-read : (told : Told) (offset : ℕ) (bytes : List ℕ) → HasAt told offset bytes → IsPresent told
+IsPresent-read untold offset bytes h = tt
+IsPresent-read lacks offset bytes h = h
+IsPresent-read (holds file) offset bytes h = tt
+
+-- what is told of a name by a store that tells what it told
+pub told_again : (before now : List ℕ → Told) (name : List ℕ) → now ≡ before → now name ≡ before name
+told_again before now name same = ap (λ (told : List ℕ → Told). told name) same
+
+-- what a read says of a store that tells what it told
+pub ReadsAt-again : (before now : List ℕ → Told) (name : List ℕ) (offset : ℕ) (old new : List ℕ) (n : ℕ) → now ≡ before → ReadsAt (now name) offset old new n → ReadsAt (before name) offset old new n
+ReadsAt-again before now name offset old new n same reads =
+    subst (λ (told : List ℕ → Told). ReadsAt (told name) offset old new n) same reads
+
+-- a read at the end of what was seen gives the next bytes
+pub Begins-read : (told : Told) (seen : List ℕ) (offset : ℕ) (old new : List ℕ) (n : ℕ) → Begins told seen → offset ≡ length seen → ReadsAt told offset old new n → Begins told (seen ++ take n new)
+Begins-read told seen offset old new n h at_end reads =
+    Begins-append told seen (take n new) h (subst (λ (o : ℕ). HasAt told o (take n new)) at_end reads.given)
+
+-- a read at the end of what was seen that gives nothing, though there is room, shows the whole file
+pub IsFile-read : (told : Told) (seen : List ℕ) (offset : ℕ) (old new : List ℕ) (n : ℕ) → Begins told seen → offset ≡ length seen → ReadsAt told offset old new n → n ≡ 0 → 0 < length new → IsFile told seen
+IsFile-read told seen offset old new n h at_end reads none room =
+    let some_room : new ≢ [] = λ empty. omega (arith, ap length empty) in
+    IsFile-at_end told seen h (subst (λ (o : ℕ). EndsBy told o) at_end (reads.end none some_room))
