@@ -1,5 +1,5 @@
 -- Reading a file in pieces.
-use Rattle.std.proofs.Common.{◌≡◌, ◌≢◌, ℕ, ◌<◌, ◌≤◌, ◌+◌, List, [], ◌∷◌, ◌++◌, length, take, drop, sym, subst, ◌∙◌, ap, refl, append_assoc, append-nil, arith, length-append}
+use Rattle.std.proofs.Common.{◌≡◌, ℕ, ◌<◌, ◌≤◌, ◌+◌, List, [], ◌∷◌, ◌++◌, length, take, drop, sym, subst, ◌∙◌, ap, refl, append_assoc, append-nil, arith, length-append}
 use Rattle.std.proofs.Math.Seq.{drop-append_seam}
 use Rattle.hs_outside.specs.Store.{Told, untold, lacks, holds, HasAt, EndsBy, ReadsAt, IsPresent, Begins, IsFile, IsLonger}
 
@@ -59,5 +59,4 @@ Begins-read told seen offset old new n h at_end reads =
 -- a read at the end of what was seen that gives nothing, though there is room, shows the whole file
 pub IsFile-read : (told : Told) (seen : List ℕ) (offset : ℕ) (old new : List ℕ) (n : ℕ) → Begins told seen → offset ≡ length seen → ReadsAt told offset old new n → n ≡ 0 → 0 < length new → IsFile told seen
 IsFile-read told seen offset old new n h at_end reads none room =
-    let some_room : new ≢ [] = λ empty. omega (arith, ap length empty) in
-    IsFile-at_end told seen h (subst (λ (o : ℕ). EndsBy told o) at_end (reads.end none some_room))
+    IsFile-at_end told seen h (subst (λ (o : ℕ). EndsBy told o) at_end (reads.end none room))

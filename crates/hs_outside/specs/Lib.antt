@@ -1,4 +1,7 @@
 pub mod Counts
-pub mod Source
+pub mod FaultPlan
+pub mod MemSink
+pub mod MemSource
 pub mod Sink
+pub mod Source
 pub mod Store

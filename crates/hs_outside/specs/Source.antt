@@ -1,5 +1,5 @@
 -- What a source has left, and what a read says of it.
-use Rattle.std.specs.Prelude.{◌≡◌, ◌≢◌, ℕ, ◌<◌, ◌≤◌, List, [], ◌++◌, length, take, drop, Option, None, Some}
+use Rattle.std.specs.Prelude.{◌≡◌, ℕ, ◌<◌, ◌≤◌, List, [], ◌++◌, length, take, drop, Option, None, Some}
 use Rattle.hs_outside.specs.Counts.{Rose}
 use Rattle.hs_outside.specs.declared.fault.SourceFault.{SourceFault}
 use Rattle.hs_outside.specs.declared.fault.SourceFault.TheVariants.{Failed, Limit, Memory}
@@ -21,7 +21,7 @@ pub record Reads (before now : Option (List ℕ)) (old new : List ℕ) (n : ℕ)
   pub within : n ≤ length new
   pub given : Gave before now (take n new)
   pub rest : drop n new ≡ drop n old
-  pub end : n ≡ 0 → new ≢ [] → IsAtEnd now
+  pub end : n ≡ 0 → 0 < length new → IsAtEnd now
 
 -- all that was left was given, and it is no longer than the limit
 pub record GaveAll (before now : Option (List ℕ)) (limit : ℕ) (bytes : List ℕ) : Type 0 where

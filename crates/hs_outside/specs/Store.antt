@@ -29,7 +29,7 @@ pub record ReadsAt (told : Told) (offset : ℕ) (old new : List ℕ) (n : ℕ) :
   pub within : n ≤ length new
   pub given : HasAt told offset (take n new)
   pub rest : drop n new ≡ drop n old
-  pub end : n ≡ 0 → new ≢ [] → EndsBy told offset
+  pub end : n ≡ 0 → 0 < length new → EndsBy told offset
 
 -- where it is told, the store has no such file
 abbrev pub IsMissing : Told → Type 0

@@ -4,7 +4,10 @@
 
 mod chunk;
 mod fault;
+mod fault_plan;
 mod folder_store;
+mod mem_sink;
+mod mem_source;
 mod sink;
 mod source;
 mod std_sink;
@@ -16,6 +19,8 @@ mod transfer;
 
 pub use fault::{Failed, FileFault, SourceFault, StoreFault};
 pub use folder_store::FolderStore;
+pub use mem_sink::MemSink;
+pub use mem_source::MemSource;
 pub use sink::Sink;
 pub use source::Source;
 pub use std_sink::StdSink;
