@@ -3,7 +3,8 @@ use Rattle.std.proofs.Common.{◌≡◌, ◌≢◌, ℕ, zero, suc, ◌+◌, ◌
 use Rattle.std.specs.Str.{bytes_eq}
 use Rattle.std.proofs.lemmas.Slice.Eq.{bytes_eq-Decides}
 use Rattle.std.proofs.Math.ListN.{set}
-use Rattle.hs_outside.specs.MemStore.{File, IsFirstNamed, content_of, put_in, total_len}
+use Rattle.hs_outside.specs.Store.{Puts, holds, told_put}
+use Rattle.hs_outside.specs.MemStore.{File, IsFirstNamed, told_of, content_of, put_in, total_len}
 
 -- a name is found equal to itself
 same_name : (a b : List ℕ) → a ≡ b → bytes_eq a b ≡ true
@@ -91,3 +92,14 @@ content_of-put_other (file ∷ later) name bytes other differ = by_test (bytes_e
         let not_other : bytes_eq file.name other ≡ false = other_name file.name other (λ e. differ (sym e ∙ same)) in
         rw h (rw not_other refl)
     by_test false h rest = rw h (ap (λ (found : Option (List ℕ)). cond (bytes_eq file.name other) (Some file.content) found) rest)
+
+-- what a put into the files tells
+pub Puts-in : (files now : List File) (name bytes : List ℕ) → now ≡ put_in files name bytes → Puts (λ n. told_of (content_of files n)) (λ n. told_of (content_of now n)) name bytes
+Puts-in files now name bytes is = record {
+  file = ap told_of (ap (λ (fs : List File). content_of fs name) is ∙ content_of-put_in files name bytes) ∙ told_then (content_of files name);
+  others = λ other differ. ap told_of (ap (λ (fs : List File). content_of fs other) is ∙ content_of-put_other files name bytes other differ)
+}
+  where
+    told_then : (before : Option (List ℕ)) → holds bytes ≡ told_put (told_of before) bytes
+    told_then None = refl
+    told_then (Some content) = refl

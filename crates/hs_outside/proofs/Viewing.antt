@@ -1,5 +1,6 @@
 -- Reading a file in pieces.
-use Rattle.std.proofs.Common.{◌≡◌, ℕ, ◌<◌, ◌≤◌, ◌+◌, List, [], ◌∷◌, ◌++◌, length, take, drop, sym, subst, ◌∙◌, ap, refl, append_assoc, append-nil, arith, length-append}
+use Rattle.std.proofs.Common.{◌≡◌, ℕ, zero, suc, ◌<◌, ◌≤◌, ◌+◌, ◌-◌, min, List, [], ◌∷◌, ◌++◌, length, take, drop, sym, subst, ◌∙◌, ap, refl, append_assoc, append-nil, arith, length-append, length-drop}
+use Rattle.std.proofs.lemmas.List.{take-append-drop, take_at, drop_at, length-take-le}
 use Rattle.std.proofs.Math.Seq.{drop-append_seam}
 use Rattle.hs_outside.specs.Store.{Told, untold, lacks, holds, HasAt, EndsBy, ReadsAt, IsPresent, Begins, IsFile, IsLonger}
 
@@ -60,3 +61,26 @@ Begins-read told seen offset old new n h at_end reads =
 pub IsFile-read : (told : Told) (seen : List ℕ) (offset : ℕ) (old new : List ℕ) (n : ℕ) → Begins told seen → offset ≡ length seen → ReadsAt told offset old new n → n ≡ 0 → 0 < length new → IsFile told seen
 IsFile-read told seen offset old new n h at_end reads none room =
     IsFile-at_end told seen h (subst (λ (o : ℕ). EndsBy told o) at_end (reads.end none room))
+
+-- a buffer whose front was overwritten by a file's bytes from some place on: the offset, or the file's end where that is before it
+pub ReadsAt-copied : (file old front : List ℕ) (start offset n : ℕ) → front ≡ take n (drop start file) → start ≡ min (length file) offset → n ≡ min (length old) (length file - start) → ReadsAt (holds file) offset old (front ++ drop n old) n
+ReadsAt-copied file old front start offset n copied starts counts =
+    let there : n ≤ length (drop start file) = omega (arith, length-drop start file) in
+    let len : length front ≡ n = omega (arith, ap length copied, length-take-le n (drop start file) there) in
+    let total : length (front ++ drop n old) ≡ n + length (drop n old) = omega (arith, length-append front (drop n old)) in
+    record {
+      within = omega arith;
+      given = (drop n (drop start file), drop-from_min file offset start starts ∙ sym (take-append-drop n (drop start file)) ∙ ap (λ (xs : List ℕ). xs ++ drop n (drop start file)) (sym copied ∙ sym (take_at front (drop n old) n len)));
+      rest = drop_at front (drop n old) n len;
+      end = λ none some. omega (arith, length-drop n old)
+    }
+  where
+    drop-from_min : (xs : List ℕ) (k m : ℕ) → m ≡ min (length xs) k → drop k xs ≡ drop m xs
+    drop-from_min [] zero zero h = refl
+    drop-from_min [] zero (suc m) h = refl
+    drop-from_min [] (suc k) zero h = refl
+    drop-from_min [] (suc k) (suc m) h = refl
+    drop-from_min (x ∷ xs) zero zero h = refl
+    drop-from_min (x ∷ xs) zero (suc m) h = absurd (omega arith)
+    drop-from_min (x ∷ xs) (suc k) zero h = absurd (omega arith)
+    drop-from_min (x ∷ xs) (suc k) (suc m) h = drop-from_min xs k m (omega arith)

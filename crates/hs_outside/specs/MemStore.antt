@@ -59,12 +59,15 @@ put_in (file ∷ later) name bytes =
     then record file { content = bytes } ∷ later
     else file ∷ put_in later name bytes
 
--- a put fails where it is listed, and where the files would be too many or too long
+-- after the put there would be no more files and bytes than there is room for
+abbrev pub has_room : StoreState → List ℕ → List ℕ → Bool
+has_room store name bytes =
+    nat_le (length (put_in store.files name bytes)) store.most_files
+    && nat_le (total_len (put_in store.files name bytes)) store.room
+
+-- a put fails where it is listed, and where it has no room
 abbrev pub refuses_put : StoreState → List ℕ → List ℕ → Bool
-refuses_put store name bytes =
-    is_listed store.plan
-    || not (nat_le (length (put_in store.files name bytes)) store.most_files
-    && nat_le (total_len (put_in store.files name bytes)) store.room)
+refuses_put store name bytes = is_listed store.plan || not (has_room store name bytes)
 
 -- the store after a put
 abbrev pub after_put : StoreState → List ℕ → List ℕ → StoreState
