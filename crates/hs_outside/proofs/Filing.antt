@@ -97,7 +97,7 @@ content_of-put_other (file ∷ later) name bytes other differ = by_test (bytes_e
 pub Puts-in : (files now : List File) (name bytes : List ℕ) → now ≡ put_in files name bytes → Puts (λ n. told_of (content_of files n)) (λ n. told_of (content_of now n)) name bytes
 Puts-in files now name bytes is = record {
   file = ap told_of (ap (λ (fs : List File). content_of fs name) is ∙ content_of-put_in files name bytes) ∙ told_then (content_of files name);
-  others = λ other differ. ap told_of (ap (λ (fs : List File). content_of fs other) is ∙ content_of-put_other files name bytes other differ)
+  others = λ other differ. ap told_of (ap (λ (fs : List File). content_of fs other) is ∙ content_of-put_other files name bytes other differ);
 }
   where
     told_then : (before : Option (List ℕ)) → holds bytes ≡ told_put (told_of before) bytes

@@ -54,9 +54,10 @@ pub put_len-none : (slots : List Slot) (name bytes : List ℕ) → All (λ file.
     (length (put_in (files_of slots) name bytes) ≡ length slots + 1) × (total_len (put_in (files_of slots) name bytes) ≡ total_len (files_of slots) + (length name + length bytes))
 put_len-none slots name bytes none =
     let added = put_in-none (files_of slots) name bytes none in
-    let file : File = record { name = name; content = bytes } in
-    (omega (arith, ap length added, length-append (files_of slots) (file ∷ []), length-files_of slots),
-      ap total_len added ∙ total_len-append (files_of slots) file)
+    let file : File = record { name = name; content = bytes } in (
+      omega (arith, ap length added, length-append (files_of slots) (file ∷ []), length-files_of slots),
+      ap total_len added ∙ total_len-append (files_of slots) file,
+    )
 
 -- the tests of room: of bytes in the place of others
 pub room-slot : (bytes room used content files most total : ℕ) → content ≤ used → used ≤ room → files ≤ most → total + content ≡ used + bytes → nat_le bytes (room - (used - content)) ≡ (nat_le files most && nat_le total room)

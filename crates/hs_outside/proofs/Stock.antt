@@ -62,7 +62,7 @@ replaced_stock slots spare places used room name bytes place slot stock first he
       within = fits.1;
       sizes = All-set (λ (s : Slot). s.room ≡ room) slots place (record slot { content = bytes }) size stock.sizes;
       spare_sizes = stock.spare_sizes;
-      enough = omega (arith, stock.enough, length-set slots place (record slot { content = bytes }))
+      enough = omega (arith, stock.enough, length-set slots place (record slot { content = bytes }));
     }
 
 -- the last of the spare slots
@@ -114,7 +114,7 @@ added_stock slots rest slot places now used room name bytes stock none test grow
       within = fits.2;
       sizes = All-append (λ (s : Slot). s.room ≡ room) slots added stock.sizes (only_one spare.1);
       spare_sizes = spare.0;
-      enough = omega (arith, stock.enough, length-append slots added, length-append rest (slot ∷ []))
+      enough = omega (arith, stock.enough, length-append slots added, length-append rest (slot ∷ []));
     }
   where
     only_one : slot.room ≡ room → All (λ s. s.room ≡ room) ((record slot { name = name; content = bytes }) ∷ [])

@@ -72,7 +72,7 @@ ReadsAt-copied file old front start offset n copied starts counts =
       within = omega arith;
       given = (drop n (drop start file), drop-from_min file offset start starts ∙ sym (take-append-drop n (drop start file)) ∙ ap (λ (xs : List ℕ). xs ++ drop n (drop start file)) (sym copied ∙ sym (take_at front (drop n old) n len)));
       rest = drop_at front (drop n old) n len;
-      end = λ none some. omega (arith, length-drop n old)
+      end = λ none some. omega (arith, length-drop n old);
     }
   where
     drop-from_min : (xs : List ℕ) (k m : ℕ) → m ≡ min (length xs) k → drop k xs ≡ drop m xs

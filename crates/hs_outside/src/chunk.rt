@@ -16,7 +16,9 @@ pub(crate) struct Chunk {
 
 impl Chunk {
     /// Room that holds zeros.
-    pub(crate) fn new() -> Self {
+    pub(crate) fn new() -> Self
+        ensures { length result.bytes ≡ CHUNK_LEN }
+    {
         Chunk {
             bytes: [0; CHUNK_LEN],
         }

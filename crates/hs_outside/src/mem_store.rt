@@ -163,7 +163,8 @@ impl Store for MemStore {
         ensures answer { result ≡ read_answer (content_of self.old.files name.now) (is_listed self.old.plan) offset
             (length buf.old) }
         ensures after { self.new ≡ record self.old {
-            plan = plan_read (content_of self.old.files name.now) self.old.plan } }
+          plan = plan_read (content_of self.old.files name.now) self.old.plan;
+        } }
         ensures untouched { OnErr result (buf.new ≡ buf.old) }
         ensures given { IfOk result (λ n. ReadsAt (told_in self.old name.now) offset buf.old buf.new n) }
         ensures counted { OnOk result (self.new.plan.faults ≡ self.old.plan.faults) }
