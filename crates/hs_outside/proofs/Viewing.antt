@@ -2,7 +2,8 @@
 use Rattle.std.proofs.Common.{◌≡◌, ℕ, zero, suc, ◌<◌, ◌≤◌, ◌+◌, ◌-◌, min, List, [], ◌∷◌, ◌++◌, length, take, drop, sym, subst, ◌∙◌, ap, refl, append_assoc, append-nil, arith, length-append, length-drop}
 use Rattle.std.proofs.lemmas.List.{take-append-drop, take_at, drop_at, length-take-le}
 use Rattle.std.proofs.Math.Seq.{drop-append_seam}
-use Rattle.hs_outside.specs.Store.{Told, untold, lacks, holds, HasAt, EndsBy, ReadsAt, IsPresent, Begins, IsFile, IsLonger}
+use Rattle.hs_outside.specs.declared.fault.StoreFault.{StoreFault}
+use Rattle.hs_outside.specs.Store.{Refuses, Told, untold, lacks, holds, HasAt, EndsBy, ReadsAt, IsPresent, Begins, IsFile, IsLonger}
 
 -- at first nothing is seen
 pub Begins-nothing : (told : Told) → Begins told []
@@ -84,3 +85,8 @@ ReadsAt-copied file old front start offset n copied starts counts =
     drop-from_min (x ∷ xs) zero (suc m) h = absurd (omega arith)
     drop-from_min (x ∷ xs) (suc k) zero h = absurd (omega arith)
     drop-from_min (x ∷ xs) (suc k) (suc m) h = drop-from_min xs k m (omega arith)
+
+-- a refusal by a store that tells and counts what it did
+pub Refuses-again : (before now : List ℕ → Told) (name : List ℕ) (fault : StoreFault) (count counted later : ℕ) → now ≡ before → counted ≡ count → Refuses fault (now name) counted later → Refuses fault (before name) count later
+Refuses-again before now name fault count counted later same stays refused =
+    subst (λ (told : List ℕ → Told). Refuses fault (told name) count later) same (subst (λ (c : ℕ). Refuses fault (now name) c later) stays refused)

@@ -29,6 +29,20 @@ impl<W: Write> StdSink<W> {
     {
         StdSink { writer, faults: 0 }
     }
+
+    /// Hands on what the writer held back, as a buffered one does. A failure is counted as one of a write.
+    pub fn flush(&mut self) -> Result<(), Failed>
+        ensures counted { OnOk result (self.new ≡ self.old) }
+        ensures failed { OnErr result (Rose self.old self.new) }
+    {
+        match self.writer.flush() {
+            Ok(()) => Ok(()),
+            Err(_) => {
+                self.faults = raise(self.faults);
+                Err(Failed)
+            }
+        }
+    }
 }
 
 impl<W: Write> Sink for StdSink<W> {

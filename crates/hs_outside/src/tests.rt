@@ -134,6 +134,7 @@ fn adapters_move_the_bytes_of_a_file(rt: HostRuntime) -> Result<(), Fail> {
     let mut sink = StdSink::new(fs::create(&rt, path)?);
     assert_eq!(rt; sink.write(b"Look, "), Ok(6));
     assert_eq!(rt; sink.write(b"a bird"), Ok(6));
+    assert_eq!(rt; sink.flush(), Ok(()));
     let mut source = StdSource::new(fs::open(&rt, path)?);
     let mut buf = *b"________________";
     assert_eq!(rt; source.read(&mut buf), Ok(12));

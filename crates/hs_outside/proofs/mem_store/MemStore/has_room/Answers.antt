@@ -1,4 +1,4 @@
-use Rattle.std.proofs.Common.{◌≡◌, ◌+◌, length, sym, ◌∙◌, ap, arith, inl, inr}
+use Rattle.std.proofs.Common.{◌+◌, length, ap, arith}
 use Rattle.hs_outside.specs.MemStore.{put_in, total_len}
 use Rattle.hs_outside.specs.MemFile.{files_of}
 use Rattle.hs_outside.proofs.Slots.{content-counted, put_len-slot, put_len-none, room-slot, room-added, room-many, room-long, some_from_test, none_from_test}

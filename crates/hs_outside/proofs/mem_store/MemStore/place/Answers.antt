@@ -1,4 +1,4 @@
-use Rattle.std.proofs.Common.{◌≡◌, ◌+◌, ◌-◌, ◌<◌, List, ℕ, [], ◌∷◌, ◌++◌, length, sym, subst, ◌∙◌, ap, arith, refl, vec_capacity, length-set, length-append}
+use Rattle.std.proofs.Common.{◌≡◌, ◌+◌, List, [], ◌∷◌, ◌++◌, length, subst, ◌∙◌, ap, arith, refl, vec_capacity, length-set, length-append}
 use Rattle.hs_outside.specs.MemFile.{Slot, IsStocked}
 use Rattle.hs_outside.proofs.Stock.{PassesTest, replaced_fits, replaced_files, replaced_stock, added_spare, added_fits, added_files, added_stock}
 use Rattle.hs_outside.proofs.mem_store.MemStore.place.Goals as goal

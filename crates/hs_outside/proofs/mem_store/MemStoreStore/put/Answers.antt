@@ -1,5 +1,5 @@
 use Rattle.std.proofs.Common.{List, ℕ, ap, ◌∙◌}
-use Rattle.hs_outside.specs.MemStore.{StoreState, File, put_in}
+use Rattle.hs_outside.specs.MemStore.{StoreState, put_in}
 use Rattle.hs_outside.proofs.Filing.{Puts-in}
 use Rattle.hs_outside.proofs.mem_store.MemStoreStore.put.Goals as goal
 
