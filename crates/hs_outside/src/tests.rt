@@ -3,8 +3,8 @@ use crate::{
     Failed, FileFault, FolderStore, MemSink, MemSource, MemStore, Sink, Source, SourceFault,
     StdSink, StdSource, Store, StoreFault, read_file, read_to_end, write_all,
 };
-use std::fs;
 use std::test::Fail;
+use std::{fs, process};
 
 #[test]
 fn a_source_gives_pieces_and_fails_at_listed_reads(rt: HostRuntime) -> Result<(), Fail> {
@@ -130,7 +130,8 @@ fn a_file_is_read_whole_within_the_limit(rt: HostRuntime) -> Result<(), Fail> {
 
 #[test]
 fn adapters_move_the_bytes_of_a_file(rt: HostRuntime) -> Result<(), Fail> {
-    let path = "/tmp/hs_outside-adapters";
+    let file = format!(in rt.alloc(); "/tmp/hs_outside-{}-adapters", process::id(rt.process()))?;
+    let path = file.as_str();
     let mut sink = StdSink::new(fs::create(&rt, path)?);
     assert_eq!(rt; sink.write(b"Look, "), Ok(6));
     assert_eq!(rt; sink.write(b"a bird"), Ok(6));
@@ -148,7 +149,8 @@ fn adapters_move_the_bytes_of_a_file(rt: HostRuntime) -> Result<(), Fail> {
 
 #[test]
 fn a_folder_store_reads_what_was_put(rt: HostRuntime) -> Result<(), Fail> {
-    let path = "/tmp/hs_outside-store";
+    let file = format!(in rt.alloc(); "/tmp/hs_outside-{}-store", process::id(rt.process()))?;
+    let path = file.as_str();
     let mut store = FolderStore::new(&rt);
     let mut buf = *b"________";
     assert_eq!(rt; store.read_at(path, 0, &mut buf), Err(StoreFault::Absent));
@@ -156,6 +158,15 @@ fn a_folder_store_reads_what_was_put(rt: HostRuntime) -> Result<(), Fail> {
     assert_eq!(rt; store.read_at(path, 6, &mut buf), Ok(6));
     assert_eq!(rt; buf.as_slice(), b"a bird__".as_slice());
     assert_eq!(rt; store.read_at(path, 12, &mut buf), Ok(0));
+    assert_eq!(rt;
+        store.read_at("/tmp/hs_outside-none", 12, &mut buf),
+        Err(StoreFault::Absent)
+    );
+    assert_eq!(rt; store.read_at(path, 0, &mut buf), Ok(8));
+    assert_eq!(rt; store.put(path, b"No birds, no planes"), Ok(()));
+    assert_eq!(rt; store.read_at(path, 8, &mut buf), Ok(8));
+    assert_eq!(rt; store.read_at(path, 16, &mut buf), Ok(3));
+    assert_eq!(rt; buf.as_slice(), b"neso pla".as_slice());
     assert_eq!(rt; store.read_at(path, 1 << 40, &mut buf), Ok(0));
     assert_eq!(rt; store.read_at("/tmp", 0, &mut buf), Err(StoreFault::Failed));
     assert_eq!(rt; store.put("/tmp", b""), Err(Failed));
