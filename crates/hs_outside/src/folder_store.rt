@@ -17,8 +17,10 @@ const NAME_LEN: usize = 4096;
 #[derive(Drop)]
 struct LastRead<T> {
     file: T,
+    // The first `name_len` bytes, where there are so many. A longer name isn't kept, and fits none.
     name: [u8; NAME_LEN],
     name_len: usize,
+    // The offset, in bytes, at which the file stands.
     end: u64,
 }
 

@@ -14,6 +14,7 @@ use std::marker::Model;
 #[derive(Drop)]
 pub struct MemSink {
     bytes: Vec<u8>,
+    // The most bytes. There is capacity for them from the start.
     room: usize,
     plan: FaultPlan,
 }

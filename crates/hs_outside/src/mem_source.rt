@@ -14,8 +14,10 @@ use std::marker::Model;
 #[derive(Drop)]
 pub struct MemSource {
     bytes: Vec<u8>,
+    // How many of the bytes were given.
     taken: usize,
     pieces: Vec<usize>,
+    // The place of the next piece, which doesn't go past the last one.
     read: usize,
     plan: FaultPlan,
 }

@@ -18,7 +18,9 @@ use std::marker::Model;
 #[derive(Drop)]
 pub struct MemStore {
     files: Vec<MemFile>,
+    // Files for names to come. Each file has room for all the bytes of the store, so that no put wants memory.
     spare: Vec<MemFile>,
+    // How many bytes the names and contents have together, at most `room`.
     used: usize,
     room: usize,
     plan: FaultPlan,
@@ -68,6 +70,7 @@ fn content_in<'a>(files: &'a [MemFile], name: &[u8]) -> Option<&'a [u8]>
 impl MemStore {
     /// A store without files, with room for `files` files whose names and contents have `bytes` bytes together. The
     /// calls whose numbers, from 1 on, are in `fails` fail and change nothing, but a read of a file that isn't there.
+    /// It takes memory for `files` names and contents of `bytes` bytes each.
     pub fn new(alloc: Global, files: usize, bytes: usize, fails: &[u64]) -> Result<Self, AllocError>
         ensures { IfOk result (λ store. store ≡ first_store files bytes fails.now) }
     {
