@@ -1,4 +1,9 @@
 pub mod Counts
-pub mod Source
+pub mod FaultPlan
+pub mod MemFile
+pub mod MemSink
+pub mod MemSource
+pub mod MemStore
 pub mod Sink
+pub mod Source
 pub mod Store

@@ -1,5 +1,5 @@
 -- What a sink has taken, and what a write says of it.
-use Rattle.std.specs.Prelude.{◌≡◌, ◌≢◌, ℕ, ◌<◌, ◌≤◌, List, [], ◌++◌, length, take, Option, None, Some}
+use Rattle.std.specs.Prelude.{◌≡◌, ℕ, ◌<◌, ◌≤◌, List, ◌++◌, length, take, Option, None, Some}
 
 -- the bytes were added; a sink may stop telling what it took, and then tells nothing later
 abbrev pub Took : Option (List ℕ) → Option (List ℕ) → List ℕ → Type 0
@@ -11,7 +11,7 @@ Took (Some before) (Some now) bytes = now ≡ before ++ bytes
 -- the first n bytes of the piece were added; 0 of a piece that isn't empty is never the answer
 pub record Writes (before now : Option (List ℕ)) (piece : List ℕ) (n : ℕ) : Type 0 where
   pub within : n ≤ length piece
-  pub some : piece ≢ [] → 0 < n
+  pub some : 0 < length piece → 0 < n
   pub taken : Took before now (take n piece)
 
 -- some first bytes of the piece were added, maybe none, maybe all

@@ -1,8 +1,10 @@
 -- What a store tells of each name, and what its calls say of it.
-use Rattle.std.specs.Prelude.{◌≡◌, ◌≢◌, ℕ, ◌≤◌, List, [], ◌++◌, length, take, drop}
+use Rattle.std.specs.Prelude.{◌≡◌, ◌≢◌, ℕ, ◌<◌, ◌≤◌, List, [], ◌++◌, length, take, drop}
 use Rattle.hs_outside.specs.Counts.{Rose}
 use Rattle.hs_outside.specs.declared.fault.StoreFault.{StoreFault}
 use Rattle.hs_outside.specs.declared.fault.StoreFault.TheVariants.{Absent, Failed}
+use Rattle.hs_outside.specs.declared.fault.FileFault.{FileFault}
+use Rattle.hs_outside.specs.declared.fault.FileFault.TheVariants.{Absent as Gone, Failed as Broken, Limit, Memory}
 
 -- what a store tells of a name: nothing, that it has no such file, or the file's bytes
 pub data Told : Type 0 where
@@ -27,7 +29,7 @@ pub record ReadsAt (told : Told) (offset : ℕ) (old new : List ℕ) (n : ℕ) :
   pub within : n ≤ length new
   pub given : HasAt told offset (take n new)
   pub rest : drop n new ≡ drop n old
-  pub end : n ≡ 0 → new ≢ [] → EndsBy told offset
+  pub end : n ≡ 0 → 0 < length new → EndsBy told offset
 
 -- where it is told, the store has no such file
 abbrev pub IsMissing : Told → Type 0
@@ -65,3 +67,28 @@ pub record Puts (before now : List ℕ → Told) (name bytes : List ℕ) : Type 
 pub record Spoils (before now : List ℕ → Told) (name : List ℕ) : Type 0 where
   pub untold_stays : before name ≡ untold → now name ≡ untold
   pub others : KeepsOthers before now name
+
+-- the file begins with these bytes; of a file that is missing they are none
+abbrev pub Begins : Told → List ℕ → Type 0
+Begins untold seen = Unit {0}
+Begins lacks seen = seen ≡ []
+Begins (holds file) seen = (rest : List ℕ) × (file ≡ seen ++ rest)
+
+-- the file is these bytes
+abbrev pub IsFile : Told → List ℕ → Type 0
+IsFile untold bytes = Unit {0}
+IsFile lacks bytes = ⊥
+IsFile (holds file) bytes = file ≡ bytes
+
+-- the file is longer than the limit
+abbrev pub IsLonger : Told → ℕ → Type 0
+IsLonger untold limit = Unit {0}
+IsLonger lacks limit = ⊥
+IsLonger (holds file) limit = limit < length file
+
+-- why a file wasn't read whole, with the count of faults before and now
+abbrev pub Prevents : FileFault → Told → ℕ → ℕ → ℕ → Type 0
+Prevents Gone told limit before now = IsMissing told × (now ≡ before)
+Prevents Broken told limit before now = IsPresent told × Rose before now
+Prevents Limit told limit before now = IsLonger told limit × (now ≡ before)
+Prevents Memory told limit before now = IsPresent told × (now ≡ before)

@@ -15,7 +15,10 @@ pub(crate) struct Chunk {
 }
 
 impl Chunk {
-    pub(crate) fn new() -> Self {
+    /// Room that holds zeros.
+    pub(crate) fn new() -> Self
+        ensures { length result.bytes ≡ CHUNK_LEN }
+    {
         Chunk {
             bytes: [0; CHUNK_LEN],
         }

@@ -20,6 +20,37 @@ pub enum StoreFault {
     Failed,
 }
 
+/// Why a source wasn't read to its end.
+#[derive(Clone, Copy, Debug, PartialEq, Eq, Error)]
+pub enum SourceFault {
+    /// The source failed, and its count of faults rose.
+    #[error("the source failed")]
+    Failed,
+    /// It gave more bytes than the limit.
+    #[error("the source is longer than the limit")]
+    Limit,
+    /// Memory ran out.
+    #[error("out of memory")]
+    Memory,
+}
+
+/// Why a file wasn't read whole.
+#[derive(Clone, Copy, Debug, PartialEq, Eq, Error)]
+pub enum FileFault {
+    /// The store has no file of that name.
+    #[error("no such file")]
+    Absent,
+    /// The store failed, and its count of faults rose.
+    #[error("the store failed")]
+    Failed,
+    /// The file is longer than the limit.
+    #[error("the file is longer than the limit")]
+    Limit,
+    /// Memory ran out.
+    #[error("out of memory")]
+    Memory,
+}
+
 /// A count of faults after one more. At 2^64 - 1 it stands still.
 pub(crate) fn raise(faults: u64) -> u64
     ensures { result ≡ raised faults }

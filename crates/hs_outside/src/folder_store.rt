@@ -1,5 +1,5 @@
 //! A store over real files, named by their paths.
-ghost use Rattle.std.specs.Prelude.{◌≡◌, ◌≤◌, IfOk, length, drop};
+ghost use Rattle.std.specs.Prelude.{◌≡◌};
 ghost use Rattle.hs_outside.specs.Store.{untold};
 
 use crate::chunk::Chunk;
@@ -10,16 +10,31 @@ use std::io::{ErrorKind, Seek, SeekFrom};
 use std::marker::Model;
 use std::rt::Files;
 
+/// The longest name, in bytes, of a file that stays open between two reads.
+const NAME_LEN: usize = 4096;
+
+/// The file that was read last. A read of it that begins where that one ended needs no opening.
+#[derive(Drop)]
+struct LastRead<T> {
+    file: T,
+    // The first `name_len` bytes, where there are so many. A longer name isn't kept, and fits none.
+    name: [u8; NAME_LEN],
+    name_len: usize,
+    // The offset, in bytes, at which the file stands.
+    end: u64,
+}
+
 /// A store over files, whose names are paths from the current folder. It tells nothing of their contents, and counts
 /// each error but that a file isn't there.
 #[derive(Drop)]
-pub struct FolderStore<F> {
+pub struct FolderStore<F: Files> {
     files: F,
     faults: u64,
     chunk: Chunk,
+    last: Option<LastRead<F::File>>,
 }
 
-impl<F> Model for FolderStore<F> {
+impl<F: Files> Model for FolderStore<F> {
     ghost use Rattle.std.specs.Prelude.{ℕ};
 
     ghost Value = { ℕ };
@@ -36,6 +51,7 @@ impl<F: Files> FolderStore<F> {
             files,
             faults: 0,
             chunk: Chunk::new(),
+            last: None,
         }
     }
 }
@@ -46,10 +62,21 @@ impl<F: Files> Store for FolderStore<F> {
     ghost faults = { λ store. store };
 
     fn read_at(&mut self, name: &str, offset: u64, buf: &mut [u8]) -> Result<usize, StoreFault> {
-        match read_part(&self.files, &mut self.chunk, name, offset, buf) {
-            Ok(n) => Ok(n),
-            Err(StoreFault::Absent) => Err(StoreFault::Absent),
+        let mut last = match reopen(&self.files, self.last.take(), name, offset) {
+            Ok(last) => last,
+            Err(StoreFault::Absent) => return Err(StoreFault::Absent),
             Err(StoreFault::Failed) => {
+                self.faults = raise(self.faults);
+                return Err(StoreFault::Failed);
+            }
+        };
+        match self.chunk.read(&mut last.file, buf) {
+            Ok(n) => {
+                last.end = offset.saturating_add(n as u64);
+                self.last = Some(last);
+                Ok(n)
+            }
+            Err(Failed) => {
                 self.faults = raise(self.faults);
                 Err(StoreFault::Failed)
             }
@@ -57,6 +84,7 @@ impl<F: Files> Store for FolderStore<F> {
     }
 
     fn put(&mut self, name: &str, bytes: &[u8]) -> Result<(), Failed> {
+        self.last = None;
         match fs::write(&self.files, name, bytes) {
             Ok(()) => Ok(()),
             Err(_) => {
@@ -67,27 +95,46 @@ impl<F: Files> Store for FolderStore<F> {
     }
 }
 
-/// Opens a file, goes to the offset and reads once.
-fn read_part<F: Files>(
+impl<T> LastRead<T> {
+    /// Whether a read of this file from this offset goes on where the last one ended.
+    fn goes_on(&self, name: &[u8], offset: u64) -> bool {
+        offset == self.end && self.name.get(..self.name_len) == Some(name)
+    }
+}
+
+/// The file at the offset: the last one, if the read goes on there, or else opened anew.
+fn reopen<F: Files>(
     files: &F,
-    chunk: &mut Chunk,
+    last: Option<LastRead<F::File>>,
     name: &str,
     offset: u64,
-    buf: &mut [u8],
-) -> Result<usize, StoreFault>
-    ensures within { IfOk result (λ n. n ≤ length buf.new) }
-    ensures rest { IfOk result (λ n. drop n buf.new ≡ drop n buf.old) }
-{
+) -> Result<LastRead<F::File>, StoreFault> {
+    match last {
+        Some(last) if offset > 0 && last.goes_on(name.as_bytes(), offset) => Ok(last),
+        Some(_) | None => open_at(files, name, offset),
+    }
+}
+
+/// Opens a file and goes to the offset.
+fn open_at<F: Files>(files: &F, name: &str, offset: u64) -> Result<LastRead<F::File>, StoreFault> {
     let mut file = match fs::open(files, name) {
         Ok(file) => file,
         Err(error) if error.kind() == ErrorKind::NotFound => return Err(StoreFault::Absent),
         Err(_) => return Err(StoreFault::Failed),
     };
-    if file.seek(SeekFrom::Start(offset)).is_err() {
+    if offset > 0 && file.seek(SeekFrom::Start(offset)).is_err() {
         return Err(StoreFault::Failed);
     }
-    match chunk.read(&mut file, buf) {
-        Ok(n) => Ok(n),
-        Err(Failed) => Err(StoreFault::Failed),
+    let bytes = name.as_bytes();
+    let mut kept = [0; NAME_LEN];
+    let name_len = bytes.len();
+    if name_len <= NAME_LEN {
+        kept[..name_len].copy_from_slice(bytes);
     }
+    Ok(LastRead {
+        file,
+        name: kept,
+        name_len,
+        end: offset,
+    })
 }

@@ -4,7 +4,12 @@
 
 mod chunk;
 mod fault;
+mod fault_plan;
 mod folder_store;
+mod mem_file;
+mod mem_sink;
+mod mem_source;
+mod mem_store;
 mod sink;
 mod source;
 mod std_sink;
@@ -12,11 +17,16 @@ mod std_source;
 mod store;
 #[cfg(test)]
 mod tests;
+mod transfer;
 
-pub use fault::{Failed, StoreFault};
+pub use fault::{Failed, FileFault, SourceFault, StoreFault};
 pub use folder_store::FolderStore;
+pub use mem_sink::MemSink;
+pub use mem_source::MemSource;
+pub use mem_store::MemStore;
 pub use sink::Sink;
 pub use source::Source;
 pub use std_sink::StdSink;
 pub use std_source::StdSource;
 pub use store::Store;
+pub use transfer::{read_file, read_to_end, write_all};

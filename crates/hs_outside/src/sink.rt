@@ -13,7 +13,8 @@ pub trait Sink {
     /// How often it has failed. The count stands still at 2^64 - 1.
     ghost faults: { Self → ℕ };
 
-    /// Takes the first bytes of `bytes`, and gives their number, at least 1 where there is one.
+    /// Takes the first bytes of `bytes`, and gives their number, at least 1 where there is one. A failed sink may have
+    /// taken some too.
     fn write(&mut self, bytes: &[u8]) -> Result<usize, Failed>
         ensures taken { IfOk result (λ n. Writes (written self.old) (written self.new) bytes.now n) }
         ensures counted { OnOk result (faults self.new ≡ faults self.old) }

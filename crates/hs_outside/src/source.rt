@@ -14,7 +14,7 @@ pub trait Source {
     ghost faults: { Self → ℕ };
 
     /// Moves the next bytes into the front of `buf`, and gives their number. For a buffer that isn't empty 0 is the
-    /// end of input.
+    /// end of input. After a failure the buffer may hold anything.
     fn read(&mut self, buf: &mut [u8]) -> Result<usize, Failed>
         ensures given { IfOk result (λ n. Reads (left self.old) (left self.new) buf.old buf.new n) }
         ensures counted { OnOk result (faults self.new ≡ faults self.old) }

@@ -1,5 +1,5 @@
 //! A sink over any of std's writers.
-ghost use Rattle.std.specs.Prelude.{◌≡◌, ◌≢◌, [], ◌<◌, ◌≤◌, None, IfOk, OnOk, OnErr, length};
+ghost use Rattle.std.specs.Prelude.{◌≡◌, ◌<◌, ◌≤◌, None, IfOk, OnOk, OnErr, length};
 ghost use Rattle.hs_outside.specs.Counts.{Rose};
 
 use crate::fault::raise;
@@ -29,6 +29,20 @@ impl<W: Write> StdSink<W> {
     {
         StdSink { writer, faults: 0 }
     }
+
+    /// Hands on what the writer held back, as a buffered one does. A failure is counted as one of a write.
+    pub fn flush(&mut self) -> Result<(), Failed>
+        ensures counted { OnOk result (self.new ≡ self.old) }
+        ensures failed { OnErr result (Rose self.old self.new) }
+    {
+        match self.writer.flush() {
+            Ok(()) => Ok(()),
+            Err(_) => {
+                self.faults = raise(self.faults);
+                Err(Failed)
+            }
+        }
+    }
 }
 
 impl<W: Write> Sink for StdSink<W> {
@@ -48,7 +62,7 @@ impl<W: Write> Sink for StdSink<W> {
 /// One write, tried again while a signal interrupts it. To take none of some bytes is a failure.
 fn write_some<W: Write>(writer: &mut W, bytes: &[u8]) -> Result<usize, Failed>
     ensures within { IfOk result (λ n. n ≤ length bytes.now) }
-    ensures some { bytes.now ≢ [] → IfOk result (λ n. 0 < n) }
+    ensures some { 0 < length bytes.now → IfOk result (λ n. 0 < n) }
 {
     for _ in 0..u64::MAX {
         match writer.write(bytes) {

@@ -1,27 +1,156 @@
-//! The adapters over real files.
-use crate::{FolderStore, Sink, Source, StdSink, StdSource, Store, StoreFault};
-use std::fs;
+//! The versions over memory call by call, the loops over them, and the adapters over real files.
+use crate::{
+    Failed, FileFault, FolderStore, MemSink, MemSource, MemStore, Sink, Source, SourceFault,
+    StdSink, StdSource, Store, StoreFault, read_file, read_to_end, write_all,
+};
 use std::test::Fail;
+use std::{fs, process};
+
+#[test]
+fn a_source_gives_pieces_and_fails_at_listed_reads(rt: HostRuntime) -> Result<(), Fail> {
+    let mut source = MemSource::new(rt.alloc(), b"Look, a bird", &[2, 0, 3], &[2, 6])?;
+    let reads = [
+        Ok(2),
+        Err(Failed),
+        Ok(1),
+        Ok(3),
+        Ok(3),
+        Err(Failed),
+        Ok(3),
+        Ok(0),
+        Ok(0),
+    ];
+    for (at, read) in reads.iter().enumerate() {
+        let mut buf = *b"____";
+        assert_eq!(rt; source.read(&mut buf), *read, "read {at}");
+    }
+    assert_eq!(rt; source.faults(), 2);
+    Ok(())
+}
+
+#[test]
+fn a_source_without_pieces_fills_the_buffer(rt: HostRuntime) -> Result<(), Fail> {
+    let mut source = MemSource::new(rt.alloc(), b"Look, a bird", &[], &[])?;
+    let mut buf = *b"_________";
+    assert_eq!(rt; source.read(&mut buf), Ok(9));
+    assert_eq!(rt; buf.as_slice(), b"Look, a b".as_slice());
+    assert_eq!(rt; source.read(&mut buf), Ok(3));
+    assert_eq!(rt; buf.as_slice(), b"irdk, a b".as_slice());
+    Ok(())
+}
+
+#[test]
+fn a_sink_takes_what_fits(rt: HostRuntime) -> Result<(), Fail> {
+    let mut sink = MemSink::new(rt.alloc(), 8, &[2])?;
+    assert_eq!(rt; sink.write(b"Look"), Ok(4));
+    assert_eq!(rt; sink.write(b", a"), Err(Failed));
+    assert_eq!(rt; sink.write(b", a bird"), Ok(4));
+    assert_eq!(rt; sink.write(b"bird"), Err(Failed));
+    assert_eq!(rt; sink.write(b""), Ok(0));
+    assert_eq!(rt; sink.written(), b"Look, a ".as_slice());
+    assert_eq!(rt; sink.faults(), 2);
+    Ok(())
+}
+
+#[test]
+fn a_store_keeps_files_within_its_room(rt: HostRuntime) -> Result<(), Fail> {
+    let mut store = MemStore::new(rt.alloc(), 2, 12, &[3])?;
+    assert_eq!(rt; store.put("a", b"Look"), Ok(()));
+    assert_eq!(rt; store.put("b", b"bird"), Ok(()));
+    assert_eq!(rt; store.put("a", b"!"), Err(Failed), "listed");
+    assert_eq!(rt; store.put("c", b""), Err(Failed), "a third file");
+    assert_eq!(rt; store.put("a", b"Look, a"), Err(Failed), "13 bytes");
+    assert_eq!(rt; store.put("a", b"Look, "), Ok(()), "12 bytes");
+    assert_eq!(rt; store.file("a").unwrap_or(b""), b"Look, ".as_slice());
+    assert_eq!(rt; store.file("b").unwrap_or(b""), b"bird".as_slice());
+    assert!(rt; store.file("c").is_none());
+    assert_eq!(rt; store.faults(), 3);
+    Ok(())
+}
+
+#[test]
+fn a_store_reads_from_an_offset(rt: HostRuntime) -> Result<(), Fail> {
+    let mut store = MemStore::new(rt.alloc(), 1, 99, &[3, 4])?;
+    let mut buf = *b"______";
+    assert_eq!(rt; store.put("a", b"Look, a bird"), Ok(()));
+    assert_eq!(rt; store.read_at("a", 8, &mut buf), Ok(4));
+    assert_eq!(rt; buf.as_slice(), b"bird__".as_slice());
+    assert_eq!(rt; store.read_at("a", 0, &mut buf), Err(StoreFault::Failed));
+    assert_eq!(rt;
+        store.read_at("b", 0, &mut buf),
+        Err(StoreFault::Absent),
+        "listed"
+    );
+    assert_eq!(rt; store.read_at("a", 12, &mut buf), Ok(0));
+    assert_eq!(rt; store.read_at("a", u64::MAX, &mut buf), Ok(0));
+    assert_eq!(rt; store.faults(), 1);
+    Ok(())
+}
+
+#[test]
+fn loops_go_to_the_end_or_the_fault(rt: HostRuntime) -> Result<(), Fail> {
+    let text = b"Look, a bird";
+    let cases = [
+        (12, 0, None),
+        (11, 0, Some(SourceFault::Limit)),
+        (12, 3, Some(SourceFault::Failed)),
+    ];
+    for (limit, fails, fault) in cases {
+        let mut source = MemSource::new(rt.alloc(), text, &[5], &[fails])?;
+        let read = read_to_end(rt.alloc(), &mut source, limit);
+        assert_eq!(rt; read.as_ref().err().copied(), fault, "limit {limit}");
+        assert!(rt; fault.is_some() || read.is_ok_and(|bytes| bytes.as_slice() == text.as_slice()));
+    }
+    let mut sink = MemSink::new(rt.alloc(), 14, &[])?;
+    assert_eq!(rt; write_all(&mut sink, text), Ok(()));
+    assert_eq!(rt; write_all(&mut sink, text), Err(Failed));
+    assert_eq!(rt; sink.written(), b"Look, a birdLo".as_slice());
+    Ok(())
+}
+
+#[test]
+fn a_file_is_read_whole_within_the_limit(rt: HostRuntime) -> Result<(), Fail> {
+    let text = b"Look, a bird";
+    let mut store = MemStore::new(rt.alloc(), 1, 99, &[9])?;
+    assert_eq!(rt; store.put("a", text), Ok(()));
+    let cases = [
+        ("a", 12, None),
+        ("a", 11, Some(FileFault::Limit)),
+        ("b", 12, Some(FileFault::Absent)),
+        ("a", 12, None),
+        ("a", 12, Some(FileFault::Failed)),
+    ];
+    for (name, limit, fault) in cases {
+        let read = read_file(rt.alloc(), &mut store, name, limit);
+        assert_eq!(rt; read.as_ref().err().copied(), fault, "limit {limit}");
+        assert!(rt; fault.is_some() || read.is_ok_and(|bytes| bytes.as_slice() == text.as_slice()));
+    }
+    Ok(())
+}
 
 #[test]
 fn adapters_move_the_bytes_of_a_file(rt: HostRuntime) -> Result<(), Fail> {
-    let path = "/tmp/hs_outside-adapters";
+    let file = format!(in rt.alloc(); "/tmp/hs_outside-{}-adapters", process::id(rt.process()))?;
+    let path = file.as_str();
     let mut sink = StdSink::new(fs::create(&rt, path)?);
-    let taken = sink.write(b"Look, ").is_ok();
-    assert!(rt; taken);
+    assert_eq!(rt; sink.write(b"Look, "), Ok(6));
     assert_eq!(rt; sink.write(b"a bird"), Ok(6));
+    assert_eq!(rt; sink.flush(), Ok(()));
     let mut source = StdSource::new(fs::open(&rt, path)?);
     let mut buf = *b"________________";
     assert_eq!(rt; source.read(&mut buf), Ok(12));
     assert_eq!(rt; buf.as_slice(), b"Look, a bird____".as_slice());
     assert_eq!(rt; source.read(&mut buf), Ok(0));
+    let mut folder = StdSource::new(fs::open(&rt, "/tmp")?);
+    assert_eq!(rt; folder.read(&mut buf), Err(Failed));
     fs::remove_file(&rt, path)?;
     Ok(())
 }
 
 #[test]
 fn a_folder_store_reads_what_was_put(rt: HostRuntime) -> Result<(), Fail> {
-    let path = "/tmp/hs_outside-store";
+    let file = format!(in rt.alloc(); "/tmp/hs_outside-{}-store", process::id(rt.process()))?;
+    let path = file.as_str();
     let mut store = FolderStore::new(&rt);
     let mut buf = *b"________";
     assert_eq!(rt; store.read_at(path, 0, &mut buf), Err(StoreFault::Absent));
@@ -29,8 +158,18 @@ fn a_folder_store_reads_what_was_put(rt: HostRuntime) -> Result<(), Fail> {
     assert_eq!(rt; store.read_at(path, 6, &mut buf), Ok(6));
     assert_eq!(rt; buf.as_slice(), b"a bird__".as_slice());
     assert_eq!(rt; store.read_at(path, 12, &mut buf), Ok(0));
+    assert_eq!(rt;
+        store.read_at("/tmp/hs_outside-none", 12, &mut buf),
+        Err(StoreFault::Absent)
+    );
+    assert_eq!(rt; store.read_at(path, 0, &mut buf), Ok(8));
+    assert_eq!(rt; store.put(path, b"No birds, no planes"), Ok(()));
+    assert_eq!(rt; store.read_at(path, 8, &mut buf), Ok(8));
+    assert_eq!(rt; store.read_at(path, 16, &mut buf), Ok(3));
+    assert_eq!(rt; buf.as_slice(), b"neso pla".as_slice());
     assert_eq!(rt; store.read_at(path, 1 << 40, &mut buf), Ok(0));
     assert_eq!(rt; store.read_at("/tmp", 0, &mut buf), Err(StoreFault::Failed));
+    assert_eq!(rt; store.put("/tmp", b""), Err(Failed));
     fs::remove_file(&rt, path)?;
     Ok(())
 }
