@@ -1,1 +1,3 @@
 pub mod ByteSetLemmas
+pub mod ListLemmas
+pub mod SpanLemmas

@@ -8,3 +8,4 @@ pub mod Patterns
 pub mod Reports
 pub mod Told
 pub mod MatchText
+pub mod AssertionFree
