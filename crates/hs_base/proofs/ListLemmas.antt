@@ -80,9 +80,9 @@ rising-unique R order (x ∷ xs) [] rising rising' to from = absurd (to x (inl r
 rising-unique R order (x ∷ xs) (y ∷ ys) rising rising' to from =
     let head : x ≡ y = same-head R order x y xs ys rising.0 rising'.0 (to x (inl refl)) (from y (inl refl)) in
     let tail : xs ≡ ys =
-        rising-unique R order xs ys rising.1 rising'.1
-        (λ z member. tail-member R order x y z ys head (each-member (R x) xs z rising.0 member) (to z (inr member)))
-        (λ z member. tail-member R order y x z xs (sym head) (each-member (R y) ys z rising'.0 member) (from z (inr member))) in
+    rising-unique R order xs ys rising.1 rising'.1
+    (λ z member. tail-member R order x y z ys head (each-member (R x) xs z rising.0 member) (to z (inr member)))
+    (λ z member. tail-member R order y x z xs (sym head) (each-member (R y) ys z rising'.0 member) (from z (inr member))) in
     cc
 
 pub rising-append : {A : Type 0} (R : A → A → Type 0) (xs ys : List A) → IsRising R xs → IsRising R ys → Each (λ x. Each (R x) ys) xs → IsRising R (xs ++ ys)
@@ -116,12 +116,16 @@ pub rising-cut : {A : Type 0} (R : A → A → Type 0) (key : A → ℕ) → ((x
 rising-cut R key keys n [] rising = record { front = []; back = []; whole = refl; low = tt; high = tt }
 rising-cut R key keys n (x ∷ xs) rising = elim (cases_lt n (key x)) [
   | inl above ↦ record {
-      front = [];
-      back = x ∷ xs;
-      whole = refl;
-      low = tt;
-      high = (above, each-of_members (λ y. n < key y) xs (λ y member.
-          let later : key x ≤ key y = keys x y (each-member (R x) xs y rising.0 member) in omega arith)) }
+    front = [];
+    back = x ∷ xs;
+    whole = refl;
+    low = tt;
+    high = (
+      above,
+      each-of_members (λ y. n < key y) xs (λ y member.
+          let later : key x ≤ key y = keys x y (each-member (R x) xs y rising.0 member) in omega arith),
+    );
+  }
   | inr below ↦
       let rest : IsCut key n xs = rising-cut R key keys n xs rising.1 in
       record {
@@ -129,5 +133,6 @@ rising-cut R key keys n (x ∷ xs) rising = elim (cases_lt n (key x)) [
         back = rest.back;
         whole = ap (λ ys. x ∷ ys) rest.whole;
         low = (below, rest.low);
-        high = rest.high }
-  ]
+        high = rest.high;
+      }
+]

@@ -1,12 +1,12 @@
 -- Spans carried from one stream to another.
-use Rattle.std.proofs.Common.{◌≡◌, ℕ, zero, suc, ◌+◌, ◌<◌, ◌≤◌, ◌⊎◌, Bool, true, false, List, [], ◌∷◌, ◌++◌, length, take, drop, Option, Some, None, slice_get, get_or, encode_utf8, IsTrue, refl, sym, ap, subst, ◌∙◌, inl, inr, arith, length-append, length-drop}
-use Rattle.std.proofs.lemmas.Option.{slice_get_within, slice_get-get_or, none-some, slice_get_past}
+use Rattle.std.proofs.Common.{◌≡◌, ℕ, zero, suc, ◌+◌, ◌<◌, ◌≤◌, Bool, true, false, List, ◌++◌, length, take, drop, Some, slice_get, encode_utf8, IsTrue, refl, sym, ap, ◌∙◌, inl, inr, arith, length-append, length-drop}
+use Rattle.std.proofs.lemmas.Option.{slice_get_within, slice_get-get_or}
 use Rattle.std.proofs.lemmas.List.{get_or_append_left, take-append-le, drop-append-le}
 use Rattle.hs_base.specs.declared.assertion.Assertion.{Assertion}
 use Rattle.hs_base.specs.declared.assertion.Assertion.TheVariants.{StreamStart, LineStart, LineEnd, EndOrFinalNewline, StreamEnd, WordBoundary, NotWordBoundary}
 use Rattle.hs_base.specs.Trees.{Tree, Trees, empty, class, points, assert, cat, alt, repeat, none, more}
-use Rattle.hs_base.specs.Assertions.{Holds, byte_before, byte_after, is_word, IsKnown, IsEnd}
-use Rattle.hs_base.specs.Spans.{IsByteOf, HasBytesAt, IsPointOf, Copies, Spans, CatSpans, AltSpans}
+use Rattle.hs_base.specs.Assertions.{Holds, byte_before, is_word, IsEnd}
+use Rattle.hs_base.specs.Spans.{HasBytesAt, Copies, Spans, CatSpans, AltSpans}
 use Rattle.hs_base.specs.AssertionFree.{EachAssertion, EachAssertionOf}
 
 copies-order : (R : ℕ → ℕ → Type 0) → ((i j : ℕ) → R i j → i ≤ j) → (n i j : ℕ) → Copies R n i j → i ≤ j
@@ -68,7 +68,8 @@ mutual
         scalar = span.scalar;
         member = span.member;
         bytes = allows.texts i (encode_utf8 span.code_point) within span.bytes;
-        end = span.end }
+        end = span.end;
+      }
   span-carry Q w ended w' ended' p allows (assert assertion) each i j below (same, holds) =
       let within : i ≤ p = omega arith in
       (same, allows.holds assertion i each within holds)
@@ -126,12 +127,14 @@ bytes-longer u v i b byte = byte-append u v i (slice_get_within u i b byte) ∙ 
 pub texts-longer : (u v : List ℕ) (i : ℕ) (text : List ℕ) → HasBytesAt u i text → HasBytesAt (u ++ v) i text
 texts-longer u v i text has = record {
   within = omega (arith, has.within, length-append u v);
-  same = text-append u v i (length text) has.within ∙ has.same }
+  same = text-append u v i (length text) has.within ∙ has.same;
+}
 
 pub texts-shorter : (u v : List ℕ) (i : ℕ) (text : List ℕ) → i + length text ≤ length u → HasBytesAt (u ++ v) i text → HasBytesAt u i text
 texts-shorter u v i text within has = record {
   within = within;
-  same = sym (text-append u v i (length text) within) ∙ has.same }
+  same = sym (text-append u v i (length text) within) ∙ has.same;
+}
 
 not-ended : IsTrue false → ⊥
 not-ended ended = let e : false ≡ true = ended in cc
@@ -179,7 +182,8 @@ spans-longer u v ended t i j span =
     (record {
       bytes = λ k b _ byte. bytes-longer u v k b byte;
       texts = λ k text _ has. texts-longer u v k text has;
-      holds = λ a k _ _ holds. holds-longer u v ended a k holds })
+      holds = λ a k _ _ holds. holds-longer u v ended a k holds;
+    })
     t (each-unit t) i j (omega arith) span
 
 -- a span that ends before the last byte that is known needs no later byte
@@ -189,7 +193,8 @@ spans-shorter u v t i j below span =
     (record {
       bytes = λ k b before byte. sym (byte-append u v k (omega arith)) ∙ byte;
       texts = λ k text within has. texts-shorter u v k text (omega arith) has;
-      holds = λ a k _ before holds. holds-shorter u v a k (omega arith) holds })
+      holds = λ a k _ before holds. holds-shorter u v a k (omega arith) holds;
+    })
     t (each-unit t) i j (omega arith) span
 
 -- the spans of an expression without assertions that end within u are the same whatever follows, and at its end
@@ -199,5 +204,6 @@ spans-free u v ended ended' t free i j below span =
     (record {
       bytes = λ k b before byte. sym (byte-append u v k (omega arith)) ∙ byte;
       texts = λ k text within has. texts-shorter u v k text (omega arith) has;
-      holds = λ a k none before holds. absurd none })
+      holds = λ a k none before holds. absurd none;
+    })
     t free i j (omega arith) span

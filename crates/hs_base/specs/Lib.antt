@@ -9,3 +9,4 @@ pub mod Reports
 pub mod Told
 pub mod MatchText
 pub mod AssertionFree
+pub mod Laws
