@@ -31,19 +31,28 @@ one_of-map P R [] weaker found = absurd found
 one_of-map P R (x ∷ xs) weaker (inl here) = inl (weaker x here)
 one_of-map P R (x ∷ xs) weaker (inr there) = inr (one_of-map P R xs weaker there)
 
+pub one_of-left : {A : Type 0} (P : A → Type 0) (xs ys : List A) → OneOf P xs → OneOf P (xs ++ ys)
+one_of-left P [] ys found = absurd found
+one_of-left P (x ∷ xs) ys (inl here) = inl here
+one_of-left P (x ∷ xs) ys (inr there) = inr (one_of-left P xs ys there)
+
+pub one_of-right : {A : Type 0} (P : A → Type 0) (xs ys : List A) → OneOf P ys → OneOf P (xs ++ ys)
+one_of-right P [] ys found = found
+one_of-right P (x ∷ xs) ys found = inr (one_of-right P xs ys found)
+
+pub one_of-append : {A : Type 0} (P : A → Type 0) (xs ys : List A) → OneOf P (xs ++ ys) → OneOf P xs ⊎ OneOf P ys
+one_of-append P [] ys found = inr found
+one_of-append P (x ∷ xs) ys (inl here) = inl (inl here)
+one_of-append P (x ∷ xs) ys (inr there) = elim (one_of-append P xs ys there) [ inl left ↦ inl (inr left) | inr right ↦ inr right ]
+
 pub member-left : {A : Type 0} (xs ys : List A) (x : A) → IsMember x xs → IsMember x (xs ++ ys)
-member-left [] ys x member = absurd member
-member-left (z ∷ xs) ys x (inl same) = inl same
-member-left (z ∷ xs) ys x (inr member) = inr (member-left xs ys x member)
+member-left xs ys x member = one_of-left (λ y. x ≡ y) xs ys member
 
 pub member-right : {A : Type 0} (xs ys : List A) (x : A) → IsMember x ys → IsMember x (xs ++ ys)
-member-right [] ys x member = member
-member-right (z ∷ xs) ys x member = inr (member-right xs ys x member)
+member-right xs ys x member = one_of-right (λ y. x ≡ y) xs ys member
 
 pub member-append : {A : Type 0} (xs ys : List A) (x : A) → IsMember x (xs ++ ys) → IsMember x xs ⊎ IsMember x ys
-member-append [] ys x member = inr member
-member-append (z ∷ xs) ys x (inl same) = inl (inl same)
-member-append (z ∷ xs) ys x (inr member) = elim (member-append xs ys x member) [ inl left ↦ inl (inr left) | inr right ↦ inr right ]
+member-append xs ys x member = one_of-append (λ y. x ≡ y) xs ys member
 
 pub member-map : {A B : Type 0} (f : A → B) (xs : List A) (x : A) → IsMember x xs → IsMember (f x) (map f xs)
 member-map f [] x member = absurd member

@@ -1,0 +1,6 @@
+pub mod ByteLemmas
+pub mod OffsetLemmas
+pub mod RepeatLemmas
+pub mod PointLemmas
+pub mod CatLemmas
+pub mod TreeEquations

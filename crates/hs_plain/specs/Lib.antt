@@ -1,0 +1,3 @@
+pub mod OffsetSets
+pub mod Points
+pub mod Repeats

@@ -1,0 +1,12 @@
+//! The plain program: what a match is, computed from the definitions by sets of offsets. It is slow, and shares nothing
+//! with any automaton: faster programs are compared with it.
+#![tactic(auto)]
+
+mod assertions;
+mod ends;
+mod offsets;
+mod points;
+
+pub use assertions::holds;
+pub use ends::{ends_from, ends_of};
+pub use offsets::Offsets;
