@@ -145,3 +145,16 @@ rising-cut R key keys n (x ∷ xs) rising = elim (cases_lt n (key x)) [
         high = rest.high;
       }
 ]
+
+pub each-right : {A : Type 0} (P : A → Type 0) (xs ys : List A) → Each P (xs ++ ys) → Each P ys
+each-right P [] ys all = all
+each-right P (x ∷ xs) ys all = each-right P xs ys all.1
+
+pub rising-right : {A : Type 0} (R : A → A → Type 0) (xs ys : List A) → IsRising R (xs ++ ys) → IsRising R ys
+rising-right R [] ys rising = rising
+rising-right R (x ∷ xs) ys rising = rising-right R xs ys rising.1
+
+-- each member of the first part is before each of the second
+pub rising-across : {A : Type 0} (R : A → A → Type 0) (xs ys : List A) → IsRising R (xs ++ ys) → Each (λ x. Each (R x) ys) xs
+rising-across R [] ys rising = tt
+rising-across R (x ∷ xs) ys rising = (each-right (R x) xs ys rising.0, rising-across R xs ys rising.1)

@@ -4,3 +4,5 @@ pub mod RepeatLemmas
 pub mod PointLemmas
 pub mod CatLemmas
 pub mod TreeEquations
+pub mod PairLemmas
+pub mod EndLemmas

@@ -1,5 +1,5 @@
 -- Sets of offsets added to step by step, and the ends that relations lead to.
-use Rattle.std.proofs.Common.{◌≡◌, ℕ, zero, suc, ◌+◌, ◌<◌, ◌≤◌, ◌⊎◌, ◌↔◌, ◌||◌, ◌==◌, Bool, true, false, slice_index_or, Result, Ok, Err, IfOk, refl, sym, ap, subst, ◌∙◌, inl, inr, arith}
+use Rattle.std.proofs.Common.{◌≡◌, ℕ, zero, suc, ◌+◌, ◌<◌, ◌≤◌, ◌⊎◌, ◌↔◌, ◌||◌, ◌==◌, Bool, true, false, slice_index_or, Result, Ok, Err, IfOk, OnOk, refl, sym, ap, subst, ◌∙◌, inl, inr, arith}
 use Rattle.std.proofs.lemmas.Bool.{cases_lt, eq-eqb, eqb-true}
 use Rattle.std.proofs.lemmas.List.{get_or_past}
 use Rattle.hs_plain.specs.declared.offsets.Offsets.{Offsets}
@@ -183,3 +183,7 @@ ends-never R s t size empty never = record {
 pub if_ok-map : {A E : Type 0} (P Q : A → Type 0) (r : Result A E) → ((x : A) → P x → Q x) → IfOk r P → IfOk r Q
 if_ok-map P Q (Ok x) weaker is = weaker x is
 if_ok-map P Q (Err e) weaker is = is
+
+pub on_ok-map : {A E : Type 0} (P Q : Type 0) (r : Result A E) → (P → Q) → OnOk r P → OnOk r Q
+on_ok-map P Q (Ok x) weaker is = weaker is
+on_ok-map P Q (Err e) weaker is = is

@@ -1,4 +1,4 @@
-ghost use Rattle.std.specs.Prelude.{◌≡◌, ℕ, ◌<◌, ◌≤◌, ◌↔◌, ◌||◌, ◌==◌, Bool, false, IfOk, IsTrue};
+ghost use Rattle.std.specs.Prelude.{◌≡◌, ℕ, ◌<◌, ◌≤◌, ◌↔◌, ◌||◌, ◌==◌, Bool, false, true, IfOk, IsTrue};
 ghost use Rattle.hs_plain.specs.OffsetSets.{room, has};
 
 use std::alloc::{AllocError, Global};
@@ -11,7 +11,7 @@ pub struct Offsets {
 }
 
 impl Offsets {
-    ghost use Rattle.std.specs.Prelude.{◌≡◌, ℕ, ◌<◌, ◌≤◌, ◌↔◌, ◌||◌, ◌==◌, Bool, false, IfOk, IsTrue};
+    ghost use Rattle.std.specs.Prelude.{◌≡◌, ℕ, ◌<◌, ◌≤◌, ◌↔◌, ◌||◌, ◌==◌, Bool, false, true, IfOk, IsTrue};
     ghost use Rattle.hs_plain.specs.OffsetSets.{room, has};
 
     /// No offset of the room.
@@ -21,6 +21,16 @@ impl Offsets {
     {
         Ok(Offsets {
             marks: vec![in alloc; false; offsets]?,
+        })
+    }
+
+    /// Every offset of the room.
+    pub fn all(alloc: Global, offsets: usize) -> Result<Offsets, AllocError>
+        ensures size { IfOk result (λ s. room s ≡ offsets) }
+        ensures members { IfOk result (λ s. (j : ℕ) → j < offsets → has s j ≡ true) }
+    {
+        Ok(Offsets {
+            marks: vec![in alloc; true; offsets]?,
         })
     }
 

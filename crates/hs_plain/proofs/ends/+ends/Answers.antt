@@ -53,10 +53,11 @@ pub up_to_ends-loop-copy-preserved : goal.up_to_ends-loop-copy-preserved
 up_to_ends-loop-copy-preserved t c =
     let R : ℕ → ℕ → Type 0 = Spans c.args.stream.now c.args.ended (tree_of c.args.body.now) in
     let one_more : AreEnds (Copies R (c.loop-copy._copy + 1)) c.args.starts.now c.in_ok-next.next =
-        ends-copies_more R c.loop-copy._copy c.args.starts.now c.loop-copy.ends c.in_ok-next.next c.loop-copy.invariant.ends c.in_ok-next.ensures in
+    ends-copies_more R c.loop-copy._copy c.args.starts.now c.loop-copy.ends c.in_ok-next.next c.loop-copy.invariant.ends c.in_ok-next.ensures in
     record {
       ends = one_more;
-      all = ends-up_to_more R c.loop-copy._copy c.args.starts.now c.loop-copy.all c.in_ok-next.next c.add.new.self c.loop-copy.invariant.all one_more c.add.ensures.size c.add.ensures.members }
+      all = ends-up_to_more R c.loop-copy._copy c.args.starts.now c.loop-copy.all c.in_ok-next.next c.add.new.self c.loop-copy.invariant.all one_more c.add.ensures.size c.add.ensures.members;
+    }
 
 pub up_to_ends-returns : goal.up_to_ends-returns
 up_to_ends-returns t c =
@@ -76,7 +77,7 @@ any_number_ends-loop-from-preserved t c =
       | any_number_ends-else-contains w ↦
           subst P (sym w.all-is)
           (closed-other R c.args.starts.now c.loop-from.all n (sym c.contains.ensures ∙ w.if-contains.false) c.loop-from.invariant)
-      ]
+    ]
 
 pub any_number_ends-returns : goal.any_number_ends-returns
 any_number_ends-returns t c =

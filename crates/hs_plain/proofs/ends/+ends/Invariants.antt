@@ -18,7 +18,8 @@ invariant-copies_ends-loop-copy l = AreEnds (Copies (Spans l.stream l.ended (tre
 abbrev pub invariant-up_to_ends-loop-copy : goal.invariant-up_to_ends-loop-copy
 invariant-up_to_ends-loop-copy l = record {
   ends : AreEnds (Copies (Spans l.stream l.ended (tree_of l.body)) l._copy) l.starts l.ends;
-  all : AreEnds (UpTo (Spans l.stream l.ended (tree_of l.body)) l._copy) l.starts l.all }
+  all : AreEnds (UpTo (Spans l.stream l.ended (tree_of l.body)) l._copy) l.starts l.all;
+}
 
 abbrev pub invariant-any_number_ends-loop-from : goal.invariant-any_number_ends-loop-from
 invariant-any_number_ends-loop-from l = IsClosedBelow (Spans l.stream l.ended (tree_of l.body)) l.starts l.all l.from

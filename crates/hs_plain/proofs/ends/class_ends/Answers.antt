@@ -19,7 +19,7 @@ loop-at-preserved c =
       | else-contains w ↦
           subst P (sym w.ends-is)
           (from_below-other R starts c.in_ok-ends.ends c.loop-at.ends c.loop-at.at (sym c.contains.ensures ∙ w.if-contains.false) c.loop-at.invariant)
-      ]
+    ]
 
 pub returns : goal.returns
 returns c =
