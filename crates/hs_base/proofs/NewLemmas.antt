@@ -225,3 +225,8 @@ new_start P = told-new P [] [] (told_start P)
 
 pub new_more : (P : List Pattern) (u v : List ℕ) (xs ys : List Pair) → IsNew P [] u xs → IsNew P u v ys → IsNew P [] (u ++ v) (xs ++ ys)
 new_more P u v xs ys new next = new-joins P [] u v xs ys new next
+
+-- What is new after a stream follows what is told of it.
+pub told_more : (P : List Pattern) (u v : List ℕ) (told new : List Pair) → IsTold P u told → IsNew P u v new → IsTold P (u ++ v) (told ++ new)
+told_more P u v told new is next =
+    subst (λ ts. IsTold P (u ++ v) (ts ++ new)) (told-once P u next.told told next.before is) next.after

@@ -152,3 +152,8 @@ report-free P free w id to begun (each many pair) = each many (pair-free P free 
 report-free P free w id to begun (first single least) = first single least
 report-free P free w id to begun (first_at_end single nothing least) =
     absurd (nothing to (pair-free P free w id to begun least.holds))
+
+-- a report is a pair of the stream as it is
+pub report-pair_now : (P : List Pattern) (w : List ℕ) (ended : Bool) (id to : ℕ) → IsReport P w ended id to → IsPair P w ended id to
+report-pair_now P w true id to report = elim (report-pair P w true id to report) [ inl pair ↦ pairs-ended P w id to pair | inr pair ↦ pair ]
+report-pair_now P w false id to report = report-pair_before_end P w id to report

@@ -6,3 +6,4 @@ pub mod CatLemmas
 pub mod TreeEquations
 pub mod PairLemmas
 pub mod EndLemmas
+pub mod ReportLemmas

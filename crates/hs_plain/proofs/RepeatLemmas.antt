@@ -1,11 +1,11 @@
 -- Repeats: copies in a row, added one by one, and closed under the body.
-use Rattle.std.proofs.Common.{◌≡◌, ℕ, zero, suc, ◌+◌, ◌-◌, ◌<◌, ◌≤◌, ◌⊎◌, ◌↔◌, ◌||◌, ◌==◌, Bool, true, false, Option, Some, None, IfSome, refl, sym, ap, subst, ◌∙◌, inl, inr, arith}
+use Rattle.std.proofs.Common.{◌≡◌, ℕ, zero, suc, ◌+◌, ◌-◌, ◌<◌, ◌≤◌, ◌⊎◌, ◌↔◌, ◌||◌, true, false, Some, None, refl, sym, subst, ◌∙◌, inl, inr, arith}
 use Rattle.std.proofs.lemmas.Bool.{cases_lt}
 use Rattle.hs_base.specs.Spans.{Copies}
 use Rattle.hs_plain.specs.declared.offsets.Offsets.{Offsets}
-use Rattle.hs_plain.specs.OffsetSets.{room, has, AreEnds, Adds}
+use Rattle.hs_plain.specs.OffsetSets.{room, has, AreEnds}
 use Rattle.hs_plain.specs.Repeats.{UpTo, AnyNumber, RepeatSpans}
-use Rattle.hs_plain.proofs.OffsetLemmas.{either, left_either, right_either, member-below, ends-then, ends-map, ends-either, ends-same, ends-stay, ends-never}
+use Rattle.hs_plain.proofs.OffsetLemmas.{either, left_either, right_either, member-below, ends-then, ends-map, ends-either, ends-never}
 
 copies-split : (R : ℕ → ℕ → Type 0) (n k i j : ℕ) → Copies R (n + k) i j → (m : ℕ) × Copies R n i m × Copies R k m j
 copies-split R zero k i j copies =

@@ -1,5 +1,5 @@
 -- The tree of each node.
-use Rattle.std.proofs.Common.{◌≡◌, ℕ, map, Option, Vec, Box, Global, sym, ap, ◌∙◌}
+use Rattle.std.proofs.Common.{◌≡◌, ℕ, Option, Box, Global, sym, ap, ◌∙◌}
 use Rattle.hs_base.specs.Trees.{Tree, empty, assert, repeat}
 use Rattle.hs_base.specs.declared.assertion.Assertion.{Assertion}
 use Rattle.hs_expr.specs.Meaning.{tree_of, node_tree}

@@ -1,5 +1,5 @@
 -- Sets of offsets, and where a relation leads from one.
-use Rattle.std.specs.Prelude.{◌≡◌, ℕ, ◌<◌, ◌⊎◌, ◌↔◌, Bool, true, false, slice_index_or, vec_len}
+use Rattle.std.specs.Prelude.{◌≡◌, ℕ, ◌⊎◌, ◌↔◌, Bool, true, false, slice_index_or, vec_len}
 use Rattle.hs_plain.specs.declared.offsets.Offsets.{Offsets}
 
 -- how many offsets, from 0 on, the set is made of

@@ -1,5 +1,5 @@
 -- The plain patterns and pairs that the program's values stand for.
-use Rattle.std.specs.Prelude.{◌≡◌, ℕ, ◌≤◌, ◌⊎◌, ◌↔◌, Bool, List, length, map}
+use Rattle.std.specs.Prelude.{ℕ, ◌⊎◌, ◌↔◌, Bool, List, map}
 use Rattle.hs_base.specs.Lists.{IsMember, IsRising}
 use Rattle.hs_base.specs.Patterns as base
 use Rattle.hs_base.specs.Patterns.{IsPair}

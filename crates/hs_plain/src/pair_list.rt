@@ -128,7 +128,7 @@ fn is_at(found: &[Report], place: usize, report: Report) -> bool
     place < found.len() && is_same(found[place], report)
 }
 
-fn is_same(left: Report, right: Report) -> bool
+pub(crate) fn is_same(left: Report, right: Report) -> bool
     ensures { IsTrue result ↔ (left ≡ right) }
 {
     left.to == right.to && left.id.0 == right.id.0

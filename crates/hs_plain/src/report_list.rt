@@ -1,13 +1,14 @@
 //! What is reported of a stream.
 
-ghost use Rattle.std.specs.Prelude.{◌≡◌, ℕ, ◌↔◌, Bool, false, true, List, length, map, IfOk, IsTrue, MatchOption};
+ghost use Rattle.std.specs.Prelude.{◌≡◌, ℕ, ◌↔◌, ◌&&◌, ◌==◌, Bool, false, true, List, length, map, IfOk, IsTrue, MatchOption};
+ghost use Rattle.std.specs.List.{list_any};
 ghost use Rattle.hs_base.specs.Lists.{IsMember, IsRising};
 ghost use Rattle.hs_base.specs.Patterns.{IsPair, is_single};
 ghost use Rattle.hs_base.specs.Reports.{IsLeast, IsReport};
 ghost use Rattle.hs_base.specs.Told.{IsBefore, IsTold, IsLast};
 ghost use Rattle.hs_plain.specs.PlainPatterns.{pattern_of, patterns_of, pair_of, pairs_of, ArePairs, AreReports, KeepsPairs};
 
-use crate::pair_list::pairs;
+use crate::pair_list::{is_same, pairs};
 use crate::pattern::Pattern;
 use hs_base::{ExprId, Report};
 use std::alloc::{AllocError, Global};
@@ -64,16 +65,28 @@ pub fn reports(
 {
     let before = pairs(alloc, patterns, stream, false)?;
     let all = pairs(alloc, patterns, stream, ended)?;
+    reported(alloc, patterns, &before, &all)
+}
+
+/// Those of all pairs that are reports, where these are the pairs before the end and all pairs.
+fn reported(
+    alloc: Global,
+    patterns: &[Pattern],
+    before: &[Report],
+    all: &[Report],
+) -> Result<Vec<Report>, AllocError>
+    ensures { IfOk result (λ found. (w : List ℕ) (ended : Bool) → ArePairs (patterns_of patterns.now) w false (pairs_of before.now) → ArePairs (patterns_of patterns.now) w ended (pairs_of all.now) → AreReports (patterns_of patterns.now) w ended (pairs_of found.items)) }
+{
     let mut found = Vec::new(alloc);
     for i in 0..all.len() {
-        if is_reported(patterns, &before, &all, all[i]) {
+        if is_reported(patterns, before, all, all[i]) {
             found.push(all[i])?;
         }
     }
     Ok(found)
 }
 
-/// Whether a pair is a report, where these are the pairs before the end and all pairs.
+/// Whether one of all pairs is a report.
 fn is_reported(patterns: &[Pattern], before: &[Report], all: &[Report], report: Report) -> bool
     ensures { (w : List ℕ) (ended : Bool) → ArePairs (patterns_of patterns.now) w false (pairs_of before.now) → ArePairs (patterns_of patterns.now) w ended (pairs_of all.now) → IsMember (pair_of report) (pairs_of all.now) → (IsTrue result ↔ IsReport (patterns_of patterns.now) w ended report.id.0 report.to) }
 {
@@ -88,6 +101,12 @@ fn is_reported(patterns: &[Pattern], before: &[Report], all: &[Report], report: 
 
 fn is_single(patterns: &[Pattern], id: ExprId) -> bool
     ensures { result ≡ is_single (patterns_of patterns.now) id.0 }
+{
+    has_single(patterns, id)
+}
+
+fn has_single(patterns: &[Pattern], id: ExprId) -> bool
+    ensures { result ≡ list_any (λ x. (x.id.0 == id.0) && x.single) patterns.now }
 {
     patterns.iter().any(|x| x.id.0 == id.0 && x.single)
 }
@@ -131,7 +150,7 @@ fn is_among(found: &[Report], report: Report) -> bool
     ensures { IsTrue result ↔ IsMember (pair_of report) (pairs_of found.now) }
 {
     for i in 0..found.len() {
-        if found[i].to == report.to && found[i].id.0 == report.id.0 {
+        if is_same(found[i], report) {
             return true;
         }
     }

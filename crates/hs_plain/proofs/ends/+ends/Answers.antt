@@ -1,13 +1,12 @@
-use Rattle.std.proofs.Common.{◌≡◌, ℕ, ◌+◌, ◌-◌, ◌<◌, ◌≤◌, Bool, true, false, Option, Some, None, IfOk, slice_index_or, sym, ap, subst, ◌∙◌, refl, arith}
-use Rattle.hs_base.specs.Trees.{Tree, repeat}
+use Rattle.std.proofs.Common.{◌≡◌, ℕ, ◌+◌, ◌-◌, ◌≤◌, false, Some, None, IfOk, slice_index_or, sym, ap, subst, ◌∙◌, arith}
+use Rattle.hs_base.specs.Trees.{repeat}
 use Rattle.hs_base.specs.Spans.{Spans, Copies}
 use Rattle.hs_base.proofs.SpanLemmas.{span-order}
-use Rattle.hs_expr.specs.declared.expr.Expr.{Expr}
 use Rattle.hs_expr.specs.Meaning.{tree_of}
 use Rattle.hs_plain.specs.declared.offsets.Offsets.{Offsets}
-use Rattle.hs_plain.specs.OffsetSets.{room, has, AreEnds}
+use Rattle.hs_plain.specs.OffsetSets.{AreEnds}
 use Rattle.hs_plain.specs.Repeats.{UpTo, AnyNumber, RepeatSpans}
-use Rattle.hs_plain.proofs.OffsetLemmas.{ends-map, ends-same, if_ok-map}
+use Rattle.hs_plain.proofs.OffsetLemmas.{ends-same, if_ok-map}
 use Rattle.hs_plain.proofs.RepeatLemmas.{IsClosedBelow, ends-copies_more, ends-copies_enough, ends-up_to_more, ends-up_to_enough, closed-member, closed-other, ends-any_number, ends-at_least, ends-between}
 use Rattle.hs_plain.proofs.CatLemmas.{cat_ends-more, alt_ends-more}
 use Rattle.hs_plain.proofs.TreeEquations.{tree-Repeat}

@@ -1,4 +1,4 @@
-use Rattle.std.proofs.Common.{◌≡◌, ℕ, map, take, length, vec_len}
+use Rattle.std.proofs.Common.{map, take}
 use Rattle.hs_base.specs.Spans.{Spans, Copies, CatSpans, AltSpans}
 use Rattle.hs_expr.specs.Meaning.{trees_of, tree_of}
 use Rattle.hs_plain.specs.OffsetSets.{AreEnds}

@@ -1,4 +1,4 @@
-use Rattle.std.proofs.Common.{◌≡◌, ◌<◌, IsTrue, false, true, sym, ◌∙◌, get_or, arith}
+use Rattle.std.proofs.Common.{◌≡◌, ◌<◌, false, true, sym, ◌∙◌, get_or, arith}
 use Rattle.hs_plain.proofs.ByteLemmas.{byte_of-has, has-byte_of}
 use Rattle.hs_plain.proofs.ends.is_byte_of.Goals as goal
 

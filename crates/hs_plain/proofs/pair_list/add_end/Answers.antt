@@ -1,6 +1,6 @@
-use Rattle.std.proofs.Common.{◌≡◌, true, sym, ◌∙◌, OnOk}
+use Rattle.std.proofs.Common.{◌≡◌, true, sym, ◌∙◌}
 use Rattle.hs_base.specs.Told.{Pair}
-use Rattle.hs_plain.specs.PlainPatterns.{pair_of, pairs_of, AddsPairs}
+use Rattle.hs_plain.specs.PlainPatterns.{pairs_of, AddsPairs}
 use Rattle.hs_plain.specs.OffsetSets.{has}
 use Rattle.hs_plain.proofs.EndLemmas.{IsEndAt}
 use Rattle.hs_plain.proofs.OffsetLemmas.{on_ok-map}

@@ -1,7 +1,7 @@
-use Rattle.std.proofs.Common.{◌≡◌, ◌≤◌, ◌<◌, ◌⊎◌, length, take, [], true, false, IsTrue, sym, subst, ap, ◌∙◌, arith}
+use Rattle.std.proofs.Common.{◌≡◌, length, take, [], subst, ap, ◌∙◌, arith}
 use Rattle.std.proofs.Math.Seq.{take-length}
 use Rattle.hs_plain.specs.PlainPatterns.{patterns_of, pairs_of, AddsPairs}
-use Rattle.hs_plain.proofs.EndLemmas.{IsGiven, given-more, given-pairs, no-pairs}
+use Rattle.hs_plain.proofs.EndLemmas.{IsGiven, given-more, given-pairs}
 use Rattle.hs_plain.proofs.pair_list.pairs.Goals as goal
 
 pub loop-i-preserved : goal.loop-i-preserved

@@ -1,4 +1,4 @@
-use Rattle.std.proofs.Common.{◌≡◌, ℕ, ◌<◌, ◌≤◌, ◌||◌, false, slice_index_or}
+use Rattle.std.proofs.Common.{◌≡◌, ℕ, ◌<◌, ◌≤◌, ◌||◌}
 use Rattle.hs_plain.specs.OffsetSets.{room, has}
 use Rattle.hs_plain.proofs.offsets.Offsets.add.Given as goal
 

@@ -1,4 +1,4 @@
-use Rattle.std.proofs.Common.{subst, sym, IsTrue, ◌≡◌, ◌∙◌}
+use Rattle.std.proofs.Common.{sym, ◌∙◌}
 use Rattle.std.specs.Cmp.{booleans_Decides}
 use lib.Pointwise.{pointwise_decides}
 use Rattle.hs_plain.proofs.offsets.Offsets.is_same.Goals as goal
