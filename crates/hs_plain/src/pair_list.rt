@@ -128,6 +128,7 @@ fn is_at(found: &[Report], place: usize, report: Report) -> bool
     place < found.len() && is_same(found[place], report)
 }
 
+/// Whether two reports are one.
 pub(crate) fn is_same(left: Report, right: Report) -> bool
     ensures { IsTrue result ↔ (left ≡ right) }
 {
