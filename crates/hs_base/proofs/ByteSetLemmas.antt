@@ -1,6 +1,13 @@
 -- Bits of four words.
-use Rattle.std.proofs.Common.{◌≡◌, ℕ, zero, suc, ◌-◌, ◌*◌, ◌/◌, ◌%◌, ◌^◌, ◌<◌, Bool, true, false, not, ◌||◌, List, [], ◌∷◌, length, get_or, set, eqb, max, refl, ap, ◌∙◌, inl, inr, arith, bit_or, w64}
+use Rattle.std.proofs.Common.{◌≡◌, ℕ, zero, suc, ◌-◌, ◌*◌, ◌/◌, ◌%◌, ◌^◌, ◌<◌, Bool, true, false, not, ◌||◌, List, [], ◌∷◌, length, get_or, set, eqb, max, refl, ap, ◌∙◌, inl, inr, arith, bit_or, w64, Some, zero-add}
 use Rattle.std.specs.Int.{bit_at}
+use Rattle.std.specs.Prelude.{slice_get}
+use Rattle.std.specs.Option.{option_map}
+use Rattle.std.specs.List.{range_with_len}
+use Rattle.std.proofs.lemmas.List.FromFn.{length-range_with_len, get_or-range_with_len}
+use Rattle.std.proofs.lemmas.Option.{slice_get-map, slice_get-get_or}
+use Rattle.hs_base.specs.declared.byte_set.ByteSet.{ByteSet}
+use Rattle.hs_base.specs.ByteSets.{has, members}
 use Rattle.std.proofs.lemmas.Bool.{cases_eq, eq-eqb, ne_eqb}
 use Rattle.std.proofs.lemmas.List.{get_or-set_same, get_or-set_other}
 use Rattle.std.proofs.lemmas.Nat.Bits.{bit_at-lt, bit_at_or, bit_at_not, bit_at_set_same, bit_at_set_other}
@@ -67,3 +74,12 @@ bit-with_bit words k b four hk =
       | inr apart ↦
           rw (get_or-set_other words (k / 64) (b / 64) (bit_or (get_or words (k / 64) 0) (1 * 2 ^ (k % 64) % 2 ^ 64)) 0 apart, ne_eqb b k (λ e. apart (ap (λ n. n / 64) e))) refl
     ]
+
+-- the members of a set, read at a byte
+pub members-at : (s : ByteSet) (b : ℕ) → b < 256 → slice_get (members s) b ≡ Some (has s b)
+unfolding members
+members-at s b below =
+    let bytes : List ℕ = range_with_len 0 256 in
+    let within : b < length bytes = omega (arith, length-range_with_len 0 256) in
+    slice_get-map (has s) bytes b
+    ∙ ap (option_map (has s)) (slice_get-get_or bytes b 0 within ∙ ap (λ x. Some x) (get_or-range_with_len 0 256 b 0 below ∙ zero-add b))

@@ -8,3 +8,5 @@ pub mod Patterns
 pub mod Reports
 pub mod Told
 pub mod MatchText
+pub mod AssertionFree
+pub mod Laws

@@ -1,7 +1,7 @@
 -- Patterns, and the pairs of an identifier and an end that they give.
-use Rattle.std.specs.Prelude.{◌≡◌, ℕ, ◌<◌, ◌≤◌, ◌⊎◌, Bool, ◌&&◌, ◌==◌, List, length, IsTrue}
+use Rattle.std.specs.Prelude.{◌≡◌, ℕ, ◌^◌, ◌<◌, ◌≤◌, ◌⊎◌, Bool, false, ◌&&◌, ◌==◌, List, length, IsTrue}
 use Rattle.std.specs.List.{list_any}
-use Rattle.hs_base.specs.Lists.{OneOf}
+use Rattle.hs_base.specs.Lists.{OneOf, Each}
 use Rattle.hs_base.specs.Trees.{Tree, IsProper}
 use Rattle.hs_base.specs.Spans.{Spans}
 
@@ -17,11 +17,18 @@ pub record Pattern : Type 0 where
 
 -- all values of a pattern are within their types
 pub record IsProperPattern (x : Pattern) : Type 0 where
+  pub id : x.id < 2 ^ 32
+  pub least : x.least < 2 ^ 64
+  pub greatest : x.greatest < 2 ^ 64
   pub tree : IsProper x.tree
 
 -- the identifier is reported at most once in a stream
 abbrev pub is_single : List Pattern → ℕ → Bool
 is_single P id = list_any (λ x. (x.id == id) && x.single) P
+
+-- no identifier is reported at most once
+abbrev pub AreNotSingle : List Pattern → Type 0
+AreNotSingle P = Each (λ x. x.single ≡ false) P
 
 -- the pattern has that identifier, and a match that ends there
 pub record HasEnd (w : List ℕ) (ended : Bool) (id to : ℕ) (x : Pattern) : Type 0 where

@@ -5,6 +5,7 @@
 mod assertion;
 mod byte_set;
 mod entry;
+pub mod laws;
 mod refusal;
 
 pub use assertion::Assertion;

@@ -1,0 +1,4 @@
+pub mod OffsetSets
+pub mod PlainPatterns
+pub mod Points
+pub mod Repeats
