@@ -1,0 +1,9 @@
+//! The parser of expressions. `specs/Grammar.antt` says which tree a text is read as, `specs/Faults.antt` which refusal
+//! a text has that isn't read.
+#![tactic(auto)]
+
+mod fault;
+mod parser;
+
+pub use fault::ParseFault;
+pub use parser::{MAX_TEXT_LEN, parse};
