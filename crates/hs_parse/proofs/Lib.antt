@@ -1,0 +1,7 @@
+pub mod GrammarLemmas
+pub mod ReadingLemmas
+pub mod FaultLemmas
+pub mod SequenceLemmas
+pub mod SetLemmas
+pub mod ParserLemmas
+pub mod TreeLemmas

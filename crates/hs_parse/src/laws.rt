@@ -1,0 +1,28 @@
+//! Laws of the grammar and of faults. Each is the contract of a function that does nothing.
+
+ghost use Rattle.hs_parse.specs.Laws.{OneTree, OneFault, NeverBoth, AlwaysOne, ReadsSequences};
+
+/// A text is read as one tree at most.
+pub fn one_tree()
+    ensures { OneTree }
+{}
+
+/// A text has one fault at most.
+pub fn one_fault()
+    ensures { OneFault }
+{}
+
+/// No text is both read and refused.
+pub fn never_both()
+    ensures { NeverBoth }
+{}
+
+/// Every text is read, or has a fault.
+pub fn always_one()
+    ensures { AlwaysOne }
+{}
+
+/// What is read is a sequence of at most `MAX_TEXT_LEN` items, with its values within their types.
+pub fn reads_sequences()
+    ensures { ReadsSequences }
+{}
