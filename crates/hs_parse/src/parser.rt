@@ -120,3 +120,6 @@ fn joined(mut items: Vec<Expr>) -> Expr
         _ => Expr::Cat(items),
     }
 }
+
+#[cfg(test)]
+mod tests;
