@@ -63,11 +63,11 @@ one_sequence (item_first item row) end (item_first other rest) stop =
     let again = one_sequence row end (started same.end rest) stop in
     record { trees = cc (same.tree, again.trees); end = again.end }
 
-atom_rises : {text : List ℕ} {options : Options} {at j : ℕ} {t : Tree} → Atom text options at t j → at < j
+pub atom_rises : {text : List ℕ} {options : Options} {at j : ℕ} {t : Tree} → Atom text options at t j → at < j
 atom_rises (any p) = omega arith
 atom_rises (literal p l) = omega arith
 
-quantifier_rises : {text : List ℕ} {options : Options} {at n j : ℕ} {m : Option ℕ} → Quantifier text options at n m j → at < j
+pub quantifier_rises : {text : List ℕ} {options : Options} {at n j : ℕ} {m : Option ℕ} → Quantifier text options at n m j → at < j
 quantifier_rises (any_number p) = omega arith
 
 pub item_rises : {text : List ℕ} {options : Options} {at j : ℕ} {t : Tree} → Item text options at t j → at < j

@@ -5,3 +5,4 @@ pub mod SequenceLemmas
 pub mod SetLemmas
 pub mod ParserLemmas
 pub mod TreeLemmas
+pub mod FirstByteLemmas

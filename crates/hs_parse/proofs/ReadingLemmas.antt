@@ -23,27 +23,34 @@ no_atom_with b p differs special tree end atom = refuted p differs special (atom
 pub no_quantifier_with : {text : List ℕ} {options : Options} {at : ℕ} → (slice_get text at ≡ Some star → ⊥) → NoQuantifier text options at
 no_quantifier_with differs least greatest end q = differs (quantifier_star q)
 
+-- an item stands at a place
+pub record Standing (text : List ℕ) (options : Options) (at : ℕ) : Type 0 where
+  pub tree : Tree
+  pub end : ℕ
+  pub item : Item text options at tree end
+
 -- an item stands at a place, or none
 pub data Turn (text : List ℕ) (options : Options) (at : ℕ) : Type 0 where
-  stands : (tree : Tree) (end : ℕ) → Item text options at tree end → Turn text options at
+  stands : Standing text options at → Turn text options at
   stops : NoItem text options at → Turn text options at
 
 star_or_not : (o : Option ℕ) → (o ≡ Some star) ⊎ (o ≡ Some star → ⊥)
 star_or_not None = inr (λ e. cc)
 star_or_not (Some b) = elim (cases_eq b star) [ inl e ↦ inl (ap Some e) | inr differs ↦ inr (λ e. differs (cc e)) ]
 
-with_atom : {text : List ℕ} {options : Options} {at end : ℕ} {tree : Tree} → Atom text options at tree end → Turn text options at
+-- where an atom stands, an item does
+pub with_atom : {text : List ℕ} {options : Options} {at end : ℕ} {tree : Tree} → Atom text options at tree end → Standing text options at
 with_atom {text = text} {end = end} atom =
     elim (star_or_not (slice_get text end)) [
-      | inl starred ↦ stands _ _ (repeated atom (any_number starred))
-      | inr bare ↦ stands _ _ (once atom (no_quantifier_with bare))
+      | inl starred ↦ record { tree = _; end = _; item = repeated atom (any_number starred) }
+      | inr bare ↦ record { tree = _; end = _; item = once atom (no_quantifier_with bare) }
     ]
 
 with_byte : {text : List ℕ} {options : Options} {at : ℕ} (b : ℕ) (l : Bool) → slice_get text at ≡ Some b → is_literal b ≡ l → Turn text options at
-with_byte b true e l = with_atom (literal e l)
+with_byte b true e l = stands (with_atom (literal e l))
 with_byte b false e l =
     elim (cases_eq b full_stop) [
-      | inl same ↦ with_atom (any (e ∙ ap Some same))
+      | inl same ↦ stands (with_atom (any (e ∙ ap Some same)))
       | inr differs ↦ stops (no_item_of_no_atom (no_atom_with b e differs l))
     ]
 
@@ -69,8 +76,8 @@ pub reading : (fuel : ℕ) (text : List ℕ) (options : Options) (at : ℕ) → 
 reading zero text options at h = record { trees = []; end = at; row = nothing; stop = no_item_of_no_atom (no_atom_past (omega (arith, h))) }
 reading (suc fuel) text options at h =
     elim (turn text options at) [
-      | stands tree end item ↦
-          let later = reading fuel text options end (omega (arith, h, item_rises item)) in
-          record { trees = tree ∷ later.trees; end = later.end; row = item_first item later.row; stop = later.stop }
+      | stands here ↦
+          let later = reading fuel text options here.end (omega (arith, h, item_rises here.item)) in
+          record { trees = here.tree ∷ later.trees; end = later.end; row = item_first here.item later.row; stop = later.stop }
       | stops stop ↦ record { trees = []; end = at; row = nothing; stop = stop }
     ]
