@@ -7,7 +7,7 @@ use Rattle.hs_base.specs.declared.refusal.Refusal.TheVariants.{Unsupported}
 use Rattle.hs_base.specs.declared.refusal.Construct.TheVariants.{Later}
 use Rattle.hs_base.specs.Trees.{Tree}
 use Rattle.hs_parse.specs.Grammar.{Options, greatest_length, Sequence, sequence_tree, Alternation, one, Reads}
-use Rattle.hs_parse.specs.Faults.{IsStuck, HasRefusal, unread, too_long, IsFirst, Fault}
+use Rattle.hs_parse.specs.Faults.{IsStuck, HasFault, unread, too_long, IsFirst, Fault}
 use Rattle.hs_parse.specs.Laws.{OneTree, OneFault, NeverBoth, Outcome, read, refused, AlwaysOne}
 use Rattle.hs_parse.proofs.GrammarLemmas.{one_sequence, no_further, no_item_at_end, sequence_within}
 use Rattle.hs_parse.proofs.ReadingLemmas.{Reading, reading}
@@ -28,7 +28,7 @@ one_tree text flags tree other r s =
     let stop = no_item_at_end text flags in
     a.whole ∙ ap sequence_tree (one_sequence a.row stop b.row stop).trees ∙ sym b.whole
 
-refusal_at : {text : List ℕ} {flags : Flags} {at : ℕ} {r : Refusal} → HasRefusal text flags at r → r ≡ Unsupported Later at
+refusal_at : {text : List ℕ} {flags : Flags} {at : ℕ} {r : Refusal} → HasFault text flags at r → r ≡ Unsupported Later at
 refusal_at (unread stuck) = refl
 refusal_at (too_long h) = refl
 
@@ -43,7 +43,7 @@ one_fault text flags refusal other f g =
     ∙ ap (Unsupported Later) (same_place f.at g.at refusal other (f.first g.at other g.has) (g.first f.at refusal f.has))
     ∙ sym (refusal_at g.has)
 
-not_both : {text : List ℕ} {flags : Flags} {tree : Tree} {at : ℕ} {r : Refusal} → Reads text flags tree → HasRefusal text flags at r → ⊥
+not_both : {text : List ℕ} {flags : Flags} {tree : Tree} {at : ℕ} {r : Refusal} → Reads text flags tree → HasFault text flags at r → ⊥
 not_both {text = text} {flags = flags} reads (unread stuck) =
     let a = row_of reads.whole in
     let same = one_sequence a.row (no_item_at_end text flags) stuck.before stuck.no_item in
@@ -57,14 +57,14 @@ never_both text flags tree refusal reads fault = not_both reads fault.has
 not_behind : (a b : ℕ) → a ≤ b → IsFirst a (Unsupported Later a) b (Unsupported Later b)
 not_behind a b h = elim (cases_eq a b) [ inl same ↦ inr (same, omega arith) | inr differs ↦ inl (omega arith) ]
 
-stuck_first : {text : List ℕ} {flags : Flags} {at place : ℕ} {other : Refusal} → IsStuck text flags at → at ≤ greatest_length → HasRefusal text flags place other → IsFirst at (Unsupported Later at) place other
+stuck_first : {text : List ℕ} {flags : Flags} {at place : ℕ} {other : Refusal} → IsStuck text flags at → at ≤ greatest_length → HasFault text flags place other → IsFirst at (Unsupported Later at) place other
 stuck_first stuck h (unread there) = not_behind _ _ (omega (arith, (one_sequence stuck.before stuck.no_item there.before there.no_item).end))
 stuck_first stuck h (too_long k) = not_behind _ _ h
 
 pub stuck_fault : {text : List ℕ} {flags : Flags} {at : ℕ} → IsStuck text flags at → at ≤ greatest_length → Fault text flags (Unsupported Later at)
 stuck_fault stuck h = record { at = _; has = unread stuck; first = λ place other has. stuck_first stuck h has }
 
-long_first : {text : List ℕ} {flags : Flags} {end place : ℕ} {trees : List Tree} {other : Refusal} → Sequence text flags 0 trees end → greatest_length ≤ end → HasRefusal text flags place other → IsFirst greatest_length (Unsupported Later greatest_length) place other
+long_first : {text : List ℕ} {flags : Flags} {end place : ℕ} {trees : List Tree} {other : Refusal} → Sequence text flags 0 trees end → greatest_length ≤ end → HasFault text flags place other → IsFirst greatest_length (Unsupported Later greatest_length) place other
 long_first row h (unread there) = not_behind _ _ (omega (arith, h, no_further row there.before there.no_item))
 long_first row h (too_long k) = not_behind _ _ (omega arith)
 

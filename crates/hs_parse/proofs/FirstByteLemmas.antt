@@ -1,5 +1,5 @@
 -- A fault stands at the first byte with which no text goes on that is read.
-use Rattle.std.proofs.Common.{◌≡◌, ℕ, zero, suc, ◌+◌, ◌<◌, ◌≤◌, ◌⊎◌, inl, inr, List, [], ◌∷◌, ◌++◌, length, take, drop, Option, Some, None, refl, sym, ap, subst, ◌∙◌, arith}
+use Rattle.std.proofs.Common.{◌≡◌, ℕ, zero, suc, ◌+◌, ◌<◌, ◌≤◌, inl, inr, List, [], ◌∷◌, ◌++◌, length, take, drop, Option, Some, refl, sym, ap, subst, ◌∙◌, arith}
 use Rattle.std.specs.List.{slice_get}
 use Rattle.std.proofs.lemmas.Bool.{cases_eq, cases_lt}
 use Rattle.std.proofs.lemmas.List.{length-take-le, length-append, take-append-drop, take-take}
@@ -10,11 +10,11 @@ use Rattle.hs_base.specs.declared.refusal.Refusal.{Refusal}
 use Rattle.hs_base.specs.declared.refusal.Refusal.TheVariants.{Unsupported}
 use Rattle.hs_base.specs.declared.refusal.Construct.TheVariants.{Later}
 use Rattle.hs_base.specs.Trees.{Tree}
-use Rattle.hs_parse.specs.Grammar.{Options, greatest_length, star, Atom, any, literal, NoAtom, Quantifier, any_number, NoQuantifier, Item, once, repeated, NoItem, Sequence, nothing, item_first, Reads}
-use Rattle.hs_parse.specs.Faults.{IsStuck, HasRefusal, unread, too_long, IsFirst, Fault}
+use Rattle.hs_parse.specs.Grammar.{Options, greatest_length, star, Atom, any, literal, Quantifier, any_number, NoQuantifier, Item, once, repeated, NoItem, Sequence, nothing, item_first, Reads}
+use Rattle.hs_parse.specs.Faults.{IsStuck, HasFault, unread, too_long, IsFirst, Fault}
 use Rattle.hs_parse.specs.Laws.{Outcome, read, refused, IsFirstOther, FaultsAreFirst}
-use Rattle.hs_parse.proofs.GrammarLemmas.{one_sequence, no_item_at_end, atom_rises, quantifier_rises, sequence_rises, sequence_within, no_item_of_no_atom, item_atom}
-use Rattle.hs_parse.proofs.ReadingLemmas.{Standing, with_atom, no_quantifier_with, Reading, reading}
+use Rattle.hs_parse.proofs.GrammarLemmas.{one_sequence, no_item_at_end, atom_rises, quantifier_rises, sequence_rises, sequence_within, no_item_of_no_atom}
+use Rattle.hs_parse.proofs.ReadingLemmas.{with_atom, no_quantifier_with, Reading, reading}
 use Rattle.hs_parse.proofs.FaultLemmas.{row_of, whole_text, always_one}
 
 slice_get-take : (xs : List ℕ) (n i : ℕ) → i < n → slice_get (take n xs) i ≡ slice_get xs i
@@ -118,8 +118,10 @@ long_before text flags long none_before = read_up (reading (length cut) cut flag
   where
     cut : List ℕ
     cut = take greatest_length text
+
     length-cut : length (take greatest_length text) ≡ greatest_length
     length-cut = length-take-le greatest_length text (omega (arith, long))
+
     stuck_early : (r : Reading (take greatest_length text) flags 0) → r.end < greatest_length → IsStuck text flags r.end
     stuck_early r early = record {
       trees = r.trees;
@@ -127,6 +129,7 @@ long_before text flags long none_before = read_up (reading (length cut) cut flag
       within = omega (arith, early, long);
       no_item = no_item_moves (slice_get-take text greatest_length r.end early) r.stop;
     }
+
     read_up : Reading (take greatest_length text) flags 0 → (tree : Tree) × Reads (take greatest_length text) flags tree
     read_up r =
         let inside = sequence_within r.row (omega arith) in
@@ -153,7 +156,7 @@ record Marks (text : List ℕ) (flags : Flags) (at : ℕ) (refusal : Refusal) : 
   pub is : refusal ≡ Unsupported Later at
   pub first : IsFirstOther text flags at
 
-marks : {text : List ℕ} {flags : Flags} {at : ℕ} {r : Refusal} → HasRefusal text flags at r → ((place : ℕ) (other : Refusal) → HasRefusal text flags place other → IsFirst at r place other) → Marks text flags at r
+marks : {text : List ℕ} {flags : Flags} {at : ℕ} {r : Refusal} → HasFault text flags at r → ((place : ℕ) (other : Refusal) → HasFault text flags place other → IsFirst at r place other) → Marks text flags at r
 marks {text = text} {at = at} (unread stuck) first =
     let short : at ≤ greatest_length = elim (cases_lt greatest_length (length text)) [
       | inl long ↦ no_later at greatest_length (first greatest_length _ (too_long long))
@@ -176,9 +179,9 @@ one_place {text = text} {at = at} {place = place} here there =
     elim (cases_lt at place) [
       | inl less ↦ absurd (not_past here less (omega (arith, there.within)) there.before)
       | inr least ↦ elim (cases_lt place at) [
-          | inl more ↦ absurd (not_past there more (omega (arith, here.within)) here.before)
-          | inr most ↦ omega (arith, least, most)
-        ]
+        | inl more ↦ absurd (not_past there more (omega (arith, here.within)) here.before)
+        | inr most ↦ omega (arith, least, most)
+      ]
     ]
 
 outcome_fault : {text : List ℕ} {flags : Flags} {at : ℕ} → IsFirstOther text flags at → Outcome text flags → Fault text flags (Unsupported Later at)
@@ -191,4 +194,5 @@ outcome_fault {text = text} {flags = flags} here (refused fault) =
 pub faults_are_first : FaultsAreFirst
 faults_are_first text flags refusal = (
   (λ fault. let there = marks fault.has fault.first in (fault.at, there.is, there.first)),
-  (λ (at, is, first). subst (Fault text flags) (sym is) (outcome_fault first (always_one text flags))))
+  (λ (at, is, first). subst (Fault text flags) (sym is) (outcome_fault first (always_one text flags))),
+)

@@ -3,8 +3,8 @@ use Rattle.std.proofs.Common.{◌≡◌, ℕ, zero, suc, ◌+◌, ◌≤◌, Lis
 use Rattle.hs_base.specs.Trees.{Tree, Trees, empty, class, points, assert, cat, alt, repeat, IsProper, AreProper, AreBounds}
 use Rattle.hs_expr.specs.Meaning.{trees_of}
 use Rattle.hs_parse.specs.Grammar.{Options, greatest_length, Atom, any, literal, Quantifier, any_number, Item, once, repeated, Sequence, nothing, item_first, sequence_tree}
-use Rattle.hs_parse.specs.Sequences.{IsAtom, IsItem, AreItems, IsSequence, count, item_count}
-use Rattle.hs_parse.specs.Laws.{IsShortSequence, ReadsSequences}
+use Rattle.hs_parse.specs.Sequences.{IsAtom, IsItem, AreItems, IsSequence, count, item_count, IsShortSequence}
+use Rattle.hs_parse.specs.Laws.{ReadsSequences}
 use Rattle.hs_parse.proofs.GrammarLemmas.{item_rises, sequence_rises}
 use Rattle.hs_parse.proofs.FaultLemmas.{row_of}
 

@@ -17,21 +17,26 @@ pub record IsStuck (text : List ℕ) (options : Options) (at : ℕ) : Type 0 whe
   pub within : at < length text
   pub no_item : NoItem text options at
 
--- The text has the refusal at the place: a form that isn't read yet begins there, or the text goes on there behind its
+-- The text has the refusal at the place: a form that isn't read yet begins there, or there the text goes on behind the
 -- greatest length.
-pub data HasRefusal (text : List ℕ) (flags : Flags) : ℕ → Refusal → Type 0 where
-  unread : {at : ℕ} → IsStuck text flags at → HasRefusal text flags at (Unsupported Later at)
-  too_long : greatest_length < length text → HasRefusal text flags greatest_length (Unsupported Later greatest_length)
+pub data HasFault (text : List ℕ) (flags : Flags) : ℕ → Refusal → Type 0 where
+  unread : {at : ℕ} →
+      IsStuck text flags at →
+      HasFault text flags at (Unsupported Later at)
+  too_long :
+      greatest_length < length text →
+      HasFault text flags greatest_length (Unsupported Later greatest_length)
 
--- a refusal at a place isn't behind another one: its place is less, or the same, and its number is no greater
+-- a refusal comes first: its place is less, or the same and its number is no greater
 abbrev pub IsFirst : ℕ → Refusal → ℕ → Refusal → Type 0
 IsFirst at refusal place other = (at < place) ⊎ ((at ≡ place) × (number_of refusal ≤ number_of other))
 
 -- The fault of a text: of the refusals that it has the one of least place, of two at one place that of least number.
 pub record Fault (text : List ℕ) (flags : Flags) (refusal : Refusal) : Type 0 where
   pub at : ℕ
-  pub has : HasRefusal text flags at refusal
-  pub first : (place : ℕ) (other : Refusal) → HasRefusal text flags place other → IsFirst at refusal place other
+  pub has : HasFault text flags at refusal
+  pub first :
+      (place : ℕ) (other : Refusal) → HasFault text flags place other → IsFirst at refusal place other
 
 -- Why a text gave no tree: its fault, or no memory.
 abbrev pub IsFaultOf : List ℕ → Flags → ParseFault → Type 0

@@ -46,8 +46,13 @@ just b = set_where (λ c. c == b)
 
 -- An atom: `.`, which takes every byte but the line feed, or a byte that stands for itself.
 pub data Atom (text : List ℕ) : Options → ℕ → Tree → ℕ → Type 0 where
-  any : {options : Options} {at : ℕ} → slice_get text at ≡ Some full_stop → Atom text options at (class not_newline) (at + 1)
-  literal : {options : Options} {at b : ℕ} → slice_get text at ≡ Some b → is_literal b ≡ true → Atom text options at (class (just b)) (at + 1)
+  any : {options : Options} {at : ℕ} →
+      slice_get text at ≡ Some full_stop →
+      Atom text options at (class not_newline) (at + 1)
+  literal : {options : Options} {at b : ℕ} →
+      slice_get text at ≡ Some b →
+      is_literal b ≡ true →
+      Atom text options at (class (just b)) (at + 1)
 
 -- no atom begins at the place
 abbrev pub NoAtom : List ℕ → Options → ℕ → Type 0
@@ -55,16 +60,25 @@ NoAtom text options at = (tree : Tree) (end : ℕ) → Atom text options at tree
 
 -- A quantifier, with the least and the greatest number of copies: `*`, any number.
 pub data Quantifier (text : List ℕ) : Options → ℕ → ℕ → Option ℕ → ℕ → Type 0 where
-  any_number : {options : Options} {at : ℕ} → slice_get text at ≡ Some star → Quantifier text options at 0 None (at + 1)
+  any_number : {options : Options} {at : ℕ} →
+      slice_get text at ≡ Some star →
+      Quantifier text options at 0 None (at + 1)
 
 -- no quantifier begins at the place
 abbrev pub NoQuantifier : List ℕ → Options → ℕ → Type 0
-NoQuantifier text options at = (least : ℕ) (greatest : Option ℕ) (end : ℕ) → Quantifier text options at least greatest end → ⊥
+NoQuantifier text options at =
+    (least : ℕ) (greatest : Option ℕ) (end : ℕ) → Quantifier text options at least greatest end → ⊥
 
 -- An item: an atom, repeated where a quantifier directly follows it.
 pub data Item (text : List ℕ) : Options → ℕ → Tree → ℕ → Type 0 where
-  once : {options : Options} {at end : ℕ} {tree : Tree} → Atom text options at tree end → NoQuantifier text options end → Item text options at tree end
-  repeated : {options : Options} {at middle end least : ℕ} {greatest : Option ℕ} {tree : Tree} → Atom text options at tree middle → Quantifier text options middle least greatest end → Item text options at (repeat tree least greatest) end
+  once : {options : Options} {at end : ℕ} {tree : Tree} →
+      Atom text options at tree end →
+      NoQuantifier text options end →
+      Item text options at tree end
+  repeated : {options : Options} {at middle end least : ℕ} {greatest : Option ℕ} {tree : Tree} →
+      Atom text options at tree middle →
+      Quantifier text options middle least greatest end →
+      Item text options at (repeat tree least greatest) end
 
 -- no item begins at the place
 abbrev pub NoItem : List ℕ → Options → ℕ → Type 0
@@ -72,8 +86,12 @@ NoItem text options at = (tree : Tree) (end : ℕ) → Item text options at tree
 
 -- A sequence: items, one behind the other.
 pub data Sequence (text : List ℕ) : Options → ℕ → List Tree → ℕ → Type 0 where
-  nothing : {options : Options} {at : ℕ} → Sequence text options at [] at
-  item_first : {options : Options} {at middle end : ℕ} {tree : Tree} {trees : List Tree} → Item text options at tree middle → Sequence text options middle trees end → Sequence text options at (tree ∷ trees) end
+  nothing : {options : Options} {at : ℕ} →
+      Sequence text options at [] at
+  item_first : {options : Options} {at middle end : ℕ} {tree : Tree} {trees : List Tree} →
+      Item text options at tree middle →
+      Sequence text options middle trees end →
+      Sequence text options at (tree ∷ trees) end
 
 -- The tree of a sequence: no item is the empty text, one is that item.
 abbrev pub sequence_tree : List Tree → Tree
@@ -83,7 +101,9 @@ sequence_tree (item ∷ other ∷ items) = cat (trees_of (item ∷ other ∷ ite
 
 -- Alternatives: so far one, a sequence.
 pub data Alternation (text : List ℕ) : Options → ℕ → Tree → ℕ → Type 0 where
-  one : {options : Options} {at end : ℕ} {trees : List Tree} → Sequence text options at trees end → Alternation text options at (sequence_tree trees) end
+  one : {options : Options} {at end : ℕ} {trees : List Tree} →
+      Sequence text options at trees end →
+      Alternation text options at (sequence_tree trees) end
 
 -- The text, from its start to its end, is read as the tree.
 pub record Reads (text : List ℕ) (flags : Flags) (tree : Tree) : Type 0 where

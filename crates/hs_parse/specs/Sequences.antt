@@ -1,6 +1,7 @@
 -- Trees of the form that is read so far: a sequence of sets of bytes, each repeated any number of times or not.
-use Rattle.std.specs.Prelude.{◌≡◌, ℕ, ◌+◌, None}
-use Rattle.hs_base.specs.Trees.{Tree, Trees, empty, class, points, assert, cat, alt, repeat, none, more}
+use Rattle.std.specs.Prelude.{◌≡◌, ℕ, ◌+◌, ◌≤◌, None}
+use Rattle.hs_base.specs.Trees.{Tree, Trees, empty, class, points, assert, cat, alt, repeat, none, more, IsProper}
+use Rattle.hs_parse.specs.Grammar.{greatest_length}
 
 -- one byte of a set
 abbrev pub IsAtom : Tree → Type 0
@@ -50,3 +51,9 @@ item_count (assert assertion) = 1
 item_count (cat items) = count items
 item_count (alt items) = 1
 item_count (repeat body least greatest) = 1
+
+-- a sequence of no more items than a text has bytes, whose values are within their types
+pub record IsShortSequence (tree : Tree) : Type 0 where
+  pub proper : IsProper tree
+  pub sequence : IsSequence tree
+  pub few : item_count tree ≤ greatest_length

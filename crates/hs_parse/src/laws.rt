@@ -25,8 +25,7 @@ pub fn always_one()
 /// A fault stands at the first byte with which no text goes on that is read.
 pub fn faults_are_first()
     ensures { FaultsAreFirst }
-{
-}
+{}
 
 /// What is read is a sequence of at most `MAX_TEXT_LEN` items, with its values within their types.
 pub fn reads_sequences()

@@ -1,10 +1,10 @@
-ghost use Rattle.std.specs.Prelude.{◌≡◌, ℕ, ◌+◌, ◌<◌, ◌≤◌, [], map, length, None, IfOk, IfErr, MatchBool, MatchOption};
+ghost use Rattle.std.specs.Prelude.{◌≡◌, ◌+◌, ◌<◌, ◌≤◌, map, length, None, IfOk, IfErr, MatchBool, MatchOption};
 ghost use Rattle.hs_base.specs.ByteSets.{members};
 ghost use Rattle.hs_base.specs.Trees.{class};
 ghost use Rattle.hs_expr.specs.Meaning.{tree_of};
-ghost use Rattle.hs_parse.specs.Grammar.{is_literal, Atom, NoAtom, Quantifier, NoQuantifier, Item, NoItem, Sequence, sequence_tree, Reads};
+ghost use Rattle.hs_parse.specs.Grammar.{is_literal, Atom, NoAtom, Quantifier, NoQuantifier, Item, NoItem, sequence_tree, Reads};
 ghost use Rattle.hs_parse.specs.Faults.{IsFaultOf};
-ghost use Rattle.hs_parse.specs.Laws.{IsShortSequence};
+ghost use Rattle.hs_parse.specs.Sequences.{IsShortSequence};
 
 use crate::fault::ParseFault;
 use hs_base::{ByteSet, Construct, Flags, Refusal};
@@ -65,7 +65,9 @@ fn item_at(
     at: usize,
 ) -> Result<Option<(Expr, usize)>, AllocError>
     requires { at < length text.now }
-    ensures { IfOk result (λ found. MatchOption found (NoItem text.now flags at) (λ item. Item text.now flags at (tree_of item.0) item.1)) }
+    ensures { IfOk result (λ found. MatchOption found
+        (NoItem text.now flags at)
+        (λ item. Item text.now flags at (tree_of item.0) item.1)) }
 {
     let Some(set) = atom_at(text, flags, at) else {
         return Ok(None);
@@ -81,7 +83,9 @@ fn item_at(
 /// The bytes that the atom at a place stands for, which is one byte long.
 fn atom_at(text: &[u8], flags: Flags, at: usize) -> Option<ByteSet>
     requires { at < length text.now }
-    ensures { MatchOption result (NoAtom text.now flags at) (λ set. Atom text.now flags at (class (members set)) (at + 1)) }
+    ensures { MatchOption result
+        (NoAtom text.now flags at)
+        (λ set. Atom text.now flags at (class (members set)) (at + 1)) }
 {
     let byte = text[at];
     if byte == b'.' {
@@ -105,7 +109,9 @@ fn is_literal(byte: u8) -> bool
 
 /// Whether the quantifier `*` stands at a place.
 fn is_star_at(text: &[u8], flags: Flags, at: usize) -> bool
-    ensures { MatchBool result (Quantifier text.now flags at 0 None (at + 1)) (NoQuantifier text.now flags at) }
+    ensures { MatchBool result
+        (Quantifier text.now flags at 0 None (at + 1))
+        (NoQuantifier text.now flags at) }
 {
     at < text.len() && text[at] == b'*'
 }

@@ -204,3 +204,16 @@ fn looks_at_no_flag(rt: HostRuntime) -> Result<(), Fail> {
     }
     Ok(())
 }
+
+#[test]
+fn tells_its_faults(rt: HostRuntime) -> Result<(), Fail> {
+    let refused = ParseFault::Refused(Refusal::Unsupported(Construct::Later, 7));
+    let text = format!(in rt.alloc(); "{refused}")?;
+    assert_eq!(rt;
+        text.as_str(),
+        "the expression is refused: Unsupported(Later, 7)"
+    );
+    let memory = format!(in rt.alloc(); "{}", ParseFault::Memory)?;
+    assert_eq!(rt; memory.as_str(), "out of memory");
+    Ok(())
+}

@@ -1,5 +1,5 @@
 use Rattle.std.proofs.Common.{sym, subst}
-use Rattle.hs_parse.specs.Laws.{IsShortSequence}
+use Rattle.hs_parse.specs.Sequences.{IsShortSequence}
 use Rattle.hs_parse.proofs.SequenceLemmas.{reads_sequences}
 use Rattle.hs_parse.proofs.parser.parse.Goals as goal
 
