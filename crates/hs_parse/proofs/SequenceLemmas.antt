@@ -13,6 +13,7 @@ record AtomForm (tree : Tree) : Type 0 where
   pub atom : IsAtom tree
   pub item : IsItem tree
 
+-- an atom is one set
 atom_form : {text : List ℕ} {options : Options} {at j : ℕ} {t : Tree} → Atom text options at t j → AtomForm t
 atom_form (any p) = record { proper = refl; atom = tt; item = tt }
 atom_form (literal p l) = record { proper = refl; atom = tt; item = tt }
@@ -22,13 +23,17 @@ record BoundsForm (n : ℕ) (m : Option ℕ) : Type 0 where
   pub least : n ≡ 0
   pub greatest : m ≡ None
 
-bounds_form : {text : List ℕ} {options : Options} {at n j : ℕ} {m : Option ℕ} → Quantifier text options at n m j → BoundsForm n m
+-- a quantifier has the bounds of a star
+bounds_form :
+    {text : List ℕ} {options : Options} {at n j : ℕ} {m : Option ℕ} →
+    Quantifier text options at n m j → BoundsForm n m
 bounds_form (any_number p) = record { proper = record { least = omega arith; greatest = tt }; least = refl; greatest = refl }
 
 record ItemForm (tree : Tree) : Type 0 where
   pub proper : IsProper tree
   pub item : IsItem tree
 
+-- an item is a set, repeated or not
 item_form : {text : List ℕ} {options : Options} {at j : ℕ} {t : Tree} → Item text options at t j → ItemForm t
 item_form (once a n) = let form = atom_form a in record { proper = form.proper; item = form.item }
 item_form (repeated a q) =
@@ -41,7 +46,10 @@ record RowForm (items : Trees) (most : ℕ) : Type 0 where
   pub each : AreItems items
   pub few : count items ≤ most
 
-row_form : {text : List ℕ} {options : Options} {at j : ℕ} {ts : List Tree} → Sequence text options at ts j → (most : ℕ) → j ≤ at + most → RowForm (trees_of ts) most
+-- a sequence has items, no more than it has bytes
+row_form :
+    {text : List ℕ} {options : Options} {at j : ℕ} {ts : List Tree} →
+    Sequence text options at ts j → (most : ℕ) → j ≤ at + most → RowForm (trees_of ts) most
 row_form nothing most h = record { proper = tt; each = tt; few = omega arith }
 row_form (item_first item row) zero h = absurd (omega (arith, item_rises item, sequence_rises row))
 row_form (item_first item row) (suc most) h =
@@ -69,12 +77,14 @@ single_count (cat items) form = absurd form
 single_count (alt items) form = absurd form
 single_count (repeat body least greatest) form = refl
 
+-- the tree of a short row
 short : (ts : List Tree) → RowForm (trees_of ts) greatest_length → IsShortSequence (sequence_tree ts)
 short [] form = record { proper = tt; sequence = tt; few = omega arith }
 short (t ∷ []) form =
     record { proper = form.proper.0; sequence = single t form.each.0; few = omega (arith, single_count t form.each.0) }
 short (t ∷ u ∷ ts) form = record { proper = form.proper; sequence = form.each; few = form.few }
 
+-- what is read is a short sequence
 pub reads_sequences : ReadsSequences
 reads_sequences text flags tree reads =
     let row = row_of reads.whole in

@@ -27,7 +27,7 @@ pub data HasFault (text : List ℕ) (flags : Flags) : ℕ → Refusal → Type 0
       greatest_length < length text →
       HasFault text flags greatest_length (Unsupported Later greatest_length)
 
--- a refusal comes first: its place is less, or the same and its number is no greater
+-- one refusal isn't behind another: its place is less, or the same and its number no greater
 abbrev pub IsFirst : ℕ → Refusal → ℕ → Refusal → Type 0
 IsFirst at refusal place other = (at < place) ⊎ ((at ≡ place) × (number_of refusal ≤ number_of other))
 
