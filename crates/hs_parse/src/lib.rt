@@ -1,0 +1,10 @@
+//! The parser of expressions. `specs/Grammar.antt` says which tree a text is read as, `specs/Faults.antt` which refusal
+//! a text has that isn't read.
+#![tactic(auto)]
+
+mod fault;
+pub mod laws;
+mod parser;
+
+pub use fault::ParseFault;
+pub use parser::{MAX_TEXT_LEN, parse};
