@@ -2,7 +2,9 @@
 //! what the tree matches.
 #![tactic(auto)]
 
+mod empty_span;
 mod expr;
 
+pub use empty_span::matches_empty;
 pub use expr::Expr;
 pub use hs_base::Assertion;
