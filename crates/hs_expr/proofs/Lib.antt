@@ -1,2 +1,3 @@
-pub mod TreeLemmas
+pub mod CountLemmas
 pub mod EmptySpans
+pub mod TreeLemmas

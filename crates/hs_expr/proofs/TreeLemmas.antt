@@ -1,6 +1,6 @@
 -- The equations of `tree_of`, one for each variant.
-use Rattle.std.proofs.Common.{◌≡◌, ℕ, suc, ◌+◌, ◌<◌, map, drop, length, get_or, List, ◌∷◌, Option, Vec, Box, Global, sym, ap, ◌∙◌, add-one, drop-cons}
-use Rattle.hs_base.specs.Trees.{Tree, empty, class, points, assert, cat, alt, repeat, more}
+use Rattle.std.proofs.Common.{◌≡◌, ℕ, suc, ◌+◌, ◌<◌, ◌≤◌, map, drop, length, get_or, List, ◌∷◌, Option, Vec, Box, Global, sym, ap, ◌∙◌, add-one, drop-cons, drop_of_length-le}
+use Rattle.hs_base.specs.Trees.{Tree, empty, class, points, assert, cat, alt, repeat, none, more}
 use Rattle.hs_base.specs.ByteSets.{members}
 use Rattle.hs_base.specs.declared.byte_set.ByteSet.{ByteSet}
 use Rattle.hs_base.specs.declared.assertion.Assertion.{Assertion}
@@ -37,3 +37,7 @@ pub trees_of-drop : (items : List Expr) (i : ℕ) (item : Expr) → i < length i
 trees_of-drop items i item within is =
     ap (λ rest. trees_of (map tree_of rest))
     (drop-cons items i item within ∙ ap (λ x. x ∷ drop (suc i) items) (sym is) ∙ ap (λ n. item ∷ drop n items) (sym (add-one i)))
+
+-- behind the last item there is no tree
+pub trees_of-drop_all : (items : List Expr) (i : ℕ) → length items ≤ i → trees_of (map tree_of (drop i items)) ≡ none
+trees_of-drop_all items i past = ap (λ rest. trees_of (map tree_of rest)) (drop_of_length-le items past)

@@ -2,9 +2,11 @@
 //! what the tree matches.
 #![tactic(auto)]
 
+mod counts;
 mod empty_span;
 mod expr;
 
+pub use counts::{GREATEST_COUNT, LONGEST_ENCODING, greatest_width, least_width, positions};
 pub use empty_span::matches_empty;
 pub use expr::Expr;
 pub use hs_base::Assertion;
