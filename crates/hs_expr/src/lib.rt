@@ -5,8 +5,10 @@
 mod counts;
 mod empty_span;
 mod expr;
+mod items;
 
 pub use counts::{GREATEST_COUNT, LONGEST_ENCODING, greatest_width, least_width, positions};
 pub use empty_span::matches_empty;
 pub use expr::Expr;
 pub use hs_base::Assertion;
+pub use items::flatten;
