@@ -1,49 +1,16 @@
 -- The empty span of the stream that has no byte and has ended.
-use Rattle.std.proofs.Common.{◌≡◌, ◌≢◌, ℕ, zero, suc, ◌<◌, ◌≤◌, ◌↔◌, inl, inr, Bool, true, false, List, [], length, Option, IfSome, IsTrue, refl, sym, subst, ◌∙◌, arith}
+use Rattle.std.proofs.Common.{◌≡◌, ◌≢◌, ℕ, zero, suc, ◌<◌, ◌≤◌, ◌↔◌, Bool, true, false, List, [], Option, IfSome, IsTrue, refl, sym, subst, ◌∙◌, arith}
 use Rattle.std.proofs.lemmas.Bool.{false≢true}
-use Rattle.std.proofs.lemmas.Str.{length-encode, len_utf8_bounds}
-use Rattle.std.specs.Prelude.{encode_utf8}
-use Rattle.hs_base.specs.Trees.{Tree, Trees, empty, class, points, assert, cat, alt, repeat, none, more}
-use Rattle.hs_base.specs.Spans.{Spans, CatSpans, AltSpans, Copies}
+use Rattle.hs_base.specs.Trees.{Tree, Trees, points, cat, repeat, more}
+use Rattle.hs_base.specs.Spans.{Spans, CatSpans, Copies}
+use Rattle.hs_expr.specs.Counts.{least_width}
+use Rattle.hs_expr.proofs.WidthLemmas.{encoding_bounds, spans-least, copies-least}
 
--- an encoding has a byte
-pub encoding_bounds : (c : ℕ) → (1 ≤ length (encode_utf8 c)) × (length (encode_utf8 c) ≤ 4)
-encoding_bounds c = let e = length-encode c in let b = len_utf8_bounds c in (omega arith, omega arith)
-
-copies-rise : (R : ℕ → ℕ → Type 0) → ((i j : ℕ) → R i j → i ≤ j) → (n i j : ℕ) → Copies R n i j → i ≤ j
-copies-rise R rise zero i j h = omega arith
-copies-rise R rise (suc n) i j (m, first, others) =
-    let a = rise i m first in let b = copies-rise R rise n m j others in omega arith
-
--- a span doesn't end before it begins
-mutual
-  pub spans-rise : (w : List ℕ) (ended : Bool) (t : Tree) (i j : ℕ) → Spans w ended t i j → i ≤ j
-  spans-rise w ended empty i j h = omega arith
-  spans-rise w ended (class set) i j h = omega arith
-  spans-rise w ended (points ranges) i j h = omega (arith, h.end)
-  spans-rise w ended (assert assertion) i j h = omega (arith, h.0)
-  spans-rise w ended (cat items) i j h = cat_spans-rise w ended items i j h
-  spans-rise w ended (alt items) i j h = alt_spans-rise w ended items i j h
-  spans-rise w ended (repeat body least greatest) i j (n, above, below, copies) =
-      copies-rise (Spans w ended body) (spans-rise w ended body) n i j copies
-
-  pub cat_spans-rise : (w : List ℕ) (ended : Bool) (items : Trees) (i j : ℕ) → CatSpans w ended items i j → i ≤ j
-  cat_spans-rise w ended none i j h = omega arith
-  cat_spans-rise w ended (more item items) i j (m, first, others) =
-      let a = spans-rise w ended item i m first in
-      let b = cat_spans-rise w ended items m j others in
-      omega arith
-
-  alt_spans-rise : (w : List ℕ) (ended : Bool) (items : Trees) (i j : ℕ) → AltSpans w ended items i j → i ≤ j
-  alt_spans-rise w ended none i j h = absurd h
-  alt_spans-rise w ended (more item items) i j (inl here) = spans-rise w ended item i j here
-  alt_spans-rise w ended (more item items) i j (inr later) = alt_spans-rise w ended items i j later
-
--- the point where two rising spans from and to 0 meet is 0
+-- spans don't lead back, so that those of an empty span meet where it stands
 cat-empty : (item : Tree) (items : Trees) →
     CatSpans [] true (more item items) 0 0 → Spans [] true item 0 0 × CatSpans [] true items 0 0
 cat-empty item items (m, first, others) =
-    let at_zero : m ≡ 0 = let a = cat_spans-rise [] true items m 0 others in omega arith in (
+    let at_zero : m ≡ 0 = let a = spans-least [] true (cat items) m 0 others in omega arith in (
       subst (λ k. Spans [] true item 0 k) at_zero first,
       subst (λ k. CatSpans [] true items k 0) at_zero others,
     )
@@ -68,7 +35,7 @@ copies-stay R here (suc n) = (0, here, copies-stay R here n)
 copies-first : (body : Tree) (n : ℕ) → 0 < n → Copies (Spans [] true body) n 0 0 → Spans [] true body 0 0
 copies-first body zero some h = absurd (omega arith)
 copies-first body (suc n) some (m, first, others) =
-    let back = copies-rise (Spans [] true body) (spans-rise [] true body) n m 0 others in
+    let back = copies-least (Spans [] true body) (least_width body) (spans-least [] true body) n m 0 others in
     let at_zero : m ≡ 0 = omega arith in
     subst (λ k. Spans [] true body 0 k) at_zero first
 

@@ -1,10 +1,11 @@
 -- The items of an expression have its spans, and none of them can be opened further.
 use Rattle.std.proofs.Common.{◌≡◌, ℕ, zero, suc, ◌≤◌, Bool, true, false, List, [], ◌∷◌, ◌++◌, Option, Some, None, refl, sym, ap, subst, if◌then◌else◌, arith}
 use Rattle.std.proofs.lemmas.Bool.Decides.{nat_tests}
+use Rattle.hs_base.specs.Lists.{Each}
 use Rattle.hs_base.specs.Trees.{Tree, Trees, empty, class, points, assert, cat, alt, repeat, none, more}
 use Rattle.hs_base.specs.Spans.{Spans, CatSpans, Copies}
 use Rattle.hs_expr.specs.Meaning.{trees_of}
-use Rattle.hs_expr.specs.Items.{items_of, items_of_all, is_once, HaveSameSpans}
+use Rattle.hs_expr.specs.Items.{items_of, items_of_all, is_once, IsItem, HaveSameSpans}
 
 -- spans of one list of items and then of another
 data Joined (w : List ℕ) (ended : Bool) (xs ys : List Tree) (i j : ℕ) : Type 0 where
@@ -110,3 +111,29 @@ mutual
 -- the concatenation of the items has the spans of the expression
 pub items-have_spans : (t : Tree) → HaveSameSpans (cat (trees_of (items_of t))) t
 items-have_spans t = λ w ended i j. (items-spans w ended t i j, spans-items w ended t i j)
+
+Each-append : {A : Type 0} (P : A → Type 0) (xs ys : List A) → Each P xs → Each P ys → Each P (xs ++ ys)
+Each-append P [] ys before behind = behind
+Each-append P (x ∷ xs) ys before behind = (before.0, Each-append P xs ys before.1 behind)
+
+repeat-Each : (body : Tree) (least : ℕ) (greatest : Option ℕ) (once : Bool) → is_once least greatest ≡ once →
+    Each IsItem (items_of body) → Each IsItem (if once then items_of body else repeat body least greatest ∷ [])
+repeat-Each body least greatest true is inside = inside
+repeat-Each body least greatest false is inside = (is, tt)
+
+-- no item can be opened further
+mutual
+  pub items-Each : (t : Tree) → Each IsItem (items_of t)
+  items-Each empty = tt
+  items-Each (class set) = (tt, tt)
+  items-Each (points ranges) = (tt, tt)
+  items-Each (assert assertion) = (tt, tt)
+  items-Each (cat items) = all_items-Each items
+  items-Each (alt items) = (tt, tt)
+  items-Each (repeat body least greatest) =
+      repeat-Each body least greatest (is_once least greatest) refl (items-Each body)
+
+  all_items-Each : (items : Trees) → Each IsItem (items_of_all items)
+  all_items-Each none = tt
+  all_items-Each (more item items) =
+      Each-append IsItem (items_of item) (items_of_all items) (items-Each item) (all_items-Each items)

@@ -8,14 +8,14 @@ use Rattle.hs_base.specs.Spans.{Spans, CatSpans, AltSpans, Copies}
 use Rattle.hs_expr.specs.Counts.{least_width, least_widths, greatest_width, greatest_widths, add_bounds, greater_bound, repeated_bound, IsWithinWidths}
 
 -- an encoding has 1 to 4 bytes
-encoding_bounds : (c : ℕ) → (1 ≤ length (encode_utf8 c)) × (length (encode_utf8 c) ≤ 4)
+pub encoding_bounds : (c : ℕ) → (1 ≤ length (encode_utf8 c)) × (length (encode_utf8 c) ≤ 4)
 encoding_bounds c = let e = length-encode c in let b = len_utf8_bounds c in (omega arith, omega arith)
 
 fold-min-le : (n : ℕ) (ns : List ℕ) → fold min n ns ≤ n
 fold-min-le n [] = omega arith
 fold-min-le n (m ∷ ns) = let rest = fold-min-le (min n m) ns in omega arith
 
-copies-least : (R : ℕ → ℕ → Type 0) (width : ℕ) → ((i j : ℕ) → R i j → i + width ≤ j) →
+pub copies-least : (R : ℕ → ℕ → Type 0) (width : ℕ) → ((i j : ℕ) → R i j → i + width ≤ j) →
     (n i j : ℕ) → Copies R n i j → i + width * n ≤ j
 copies-least R width one zero i j same = omega arith
 copies-least R width one (suc n) i j (m, first, others) =

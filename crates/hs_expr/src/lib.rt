@@ -6,9 +6,11 @@ mod counts;
 mod empty_span;
 mod expr;
 mod items;
+mod laws;
 
 pub use counts::{GREATEST_COUNT, LONGEST_ENCODING, greatest_width, least_width, positions};
 pub use empty_span::matches_empty;
 pub use expr::Expr;
 pub use hs_base::Assertion;
 pub use items::flatten;
+pub use laws::{no_item_can_be_opened, spans_are_within_widths};

@@ -1,0 +1,15 @@
+//! Laws of the definitions: functions that do nothing, whose contracts state them.
+ghost use Rattle.hs_base.specs.Lists.{Each};
+ghost use Rattle.hs_base.specs.Trees.{Tree};
+ghost use Rattle.hs_expr.specs.Counts.{IsWithinWidths};
+ghost use Rattle.hs_expr.specs.Items.{items_of, IsItem};
+
+/// Every span of an expression is at least as long as its least width and at most as long as its greatest.
+pub fn spans_are_within_widths()
+    ensures { (t : Tree) → IsWithinWidths t }
+{}
+
+/// No item of a concatenation can be opened further, so that flattening the items again changes nothing.
+pub fn no_item_can_be_opened()
+    ensures { (t : Tree) → Each IsItem (items_of t) }
+{}
