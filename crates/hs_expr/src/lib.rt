@@ -14,3 +14,6 @@ pub use expr::Expr;
 pub use hs_base::Assertion;
 pub use items::flatten;
 pub use laws::{no_item_can_be_opened, spans_are_within_widths};
+
+#[cfg(test)]
+mod tests;
