@@ -13,15 +13,6 @@ struct Counts {
 }
 
 impl Counts {
-    fn new(least: u32, greatest: Option<u32>, positions: u32, empty: bool) -> Counts {
-        Counts {
-            least,
-            greatest,
-            positions,
-            empty,
-        }
-    }
-
     fn of(expr: &Expr) -> Counts {
         Counts {
             least: least_width(expr),
@@ -32,38 +23,73 @@ impl Counts {
     }
 }
 
-fn byte(byte: u8) -> Expr {
-    Expr::Class(ByteSet::of(byte))
+/// The lists of items that are open while a tree is read, the innermost last.
+#[derive(Drop)]
+struct Open {
+    outer: Vec<Vec<Expr>>,
+    items: Vec<Expr>,
 }
 
-fn text(alloc: Global, bytes: &[u8]) -> Result<Expr, Fail> {
-    let mut items = Vec::new(alloc);
-    for b in bytes {
-        items.push(byte(*b))?;
+impl Open {
+    fn begin(&mut self, alloc: Global) -> Result<(), Fail> {
+        let items = std::mem::replace(&mut self.items, Vec::new(alloc));
+        self.outer.push(items)?;
+        Ok(())
     }
-    Ok(Expr::Cat(items))
-}
 
-fn pair(alloc: Global, first: Expr, second: Expr) -> Result<Vec<Expr>, Fail> {
-    Ok(vec![in alloc; first, second]?)
-}
-
-fn repeat(alloc: Global, body: Expr, least: u32, greatest: Option<u32>) -> Result<Expr, Fail> {
-    Ok(Expr::Repeat(Box::new(alloc, body)?, least, greatest))
-}
-
-/// The tree of `foo.*bar`, with both words and the star in one concatenation.
-fn foo_any_bar(alloc: Global) -> Result<Expr, Fail> {
-    let star = repeat(alloc, Expr::Class(ByteSet::NOT_NEWLINE), 0, None)?;
-    let mut items = Vec::new(alloc);
-    for b in b"foo" {
-        items.push(byte(*b))?;
+    fn end(&mut self) -> Result<Vec<Expr>, Fail> {
+        let outer = self.outer.pop().ok_or("nothing is open")?;
+        Ok(std::mem::replace(&mut self.items, outer))
     }
-    items.push(star)?;
-    for b in b"bar" {
-        items.push(byte(*b))?;
+
+    fn repeat(&mut self, alloc: Global, least: u32, greatest: Option<u32>) -> Result<Expr, Fail> {
+        let body = self.items.pop().ok_or("nothing is repeated")?;
+        Ok(Expr::Repeat(Box::new(alloc, body)?, least, greatest))
     }
-    Ok(Expr::Cat(items))
+}
+
+/// One node, which a byte ends.
+fn node(alloc: Global, open: &mut Open, byte: u8) -> Result<Expr, Fail> {
+    Ok(match byte {
+        b')' => Expr::Cat(open.end()?),
+        b']' => Expr::Alt(open.end()?),
+        b'*' => open.repeat(alloc, 0, None)?,
+        b'+' => open.repeat(alloc, 1, None)?,
+        b'?' => open.repeat(alloc, 0, Some(1))?,
+        b'0'..=b'9' => {
+            let copies = u32::from(byte - b'0');
+            open.repeat(alloc, copies, Some(copies))?
+        }
+        b'#' => open.repeat(alloc, 32_767, Some(32_767))?,
+        b'=' => open.repeat(alloc, 3, Some(5))?,
+        b'!' => open.repeat(alloc, 3, Some(1))?,
+        b'~' => open.repeat(alloc, 2, None)?,
+        b'_' => Expr::Empty,
+        b'.' => Expr::Class(ByteSet::NOT_NEWLINE),
+        b'$' => Expr::Assert(Assertion::LineEnd),
+        b'%' => Expr::Assert(Assertion::WordBoundary),
+        b'@' => Expr::Points(Vec::from_slice(alloc, &[(0x80, 0x7ff)])?),
+        _ => Expr::Class(ByteSet::of(byte)),
+    })
+}
+
+/// A tree from its text: `(..)` is a concatenation, `[..]` an alternative of items, a digit d is `{d,d}` of the item
+/// before it, `#` is `{32767,32767}`, `=` is `{3,5}`, `!` is `{3,1}`, `~` is `{2,}`, `_` the empty text, `%` is `\b`,
+/// `@` some code points, and a letter its byte.
+fn tree(alloc: Global, text: &str) -> Result<Expr, Fail> {
+    let mut open = Open {
+        outer: Vec::new(alloc),
+        items: Vec::new(alloc),
+    };
+    for byte in text.as_bytes() {
+        if *byte == b'(' || *byte == b'[' {
+            open.begin(alloc)?;
+        } else {
+            let item = node(alloc, &mut open, *byte)?;
+            open.items.push(item)?;
+        }
+    }
+    Ok(open.items.pop().ok_or("no tree")?)
 }
 
 /// One letter for each item: the kind of its node.
@@ -84,12 +110,69 @@ fn kinds(alloc: Global, items: &[Expr]) -> Result<String, Fail> {
 }
 
 #[test]
-fn counts_leaves(rt: HostRuntime) -> Result<(), Fail> {
-    let alloc = rt.alloc();
-    let points = Expr::Points(vec![in alloc; (0x80, 0x7ff)]?);
-    assert_eq!(rt; Counts::of(&Expr::Empty), Counts::new(0, Some(0), 0, true));
-    assert_eq!(rt; Counts::of(&byte(b'a')), Counts::new(1, Some(1), 1, false));
-    assert_eq!(rt; Counts::of(&points), Counts::new(1, Some(4), 1, false));
+fn counts_by_the_rules(rt: HostRuntime) -> Result<(), Fail> {
+    let cap = Some(u32::MAX);
+    let table = [
+        ("_", 0, Some(0), 0, true),
+        ("a", 1, Some(1), 1, false),
+        ("@", 1, Some(4), 1, false),
+        ("$", 0, Some(0), 0, true),
+        ("%", 0, Some(0), 0, false),
+        ("()", 0, Some(0), 0, true),
+        ("(abc)", 3, Some(3), 3, false),
+        ("(a_)", 1, Some(1), 1, false),
+        ("($_)", 0, Some(0), 0, true),
+        ("(foo.*bar)", 6, None, 7, false),
+        ("[]", 0, Some(0), 0, false),
+        ("[(bcd)a]", 1, Some(3), 4, false),
+        ("[a_]", 0, Some(1), 1, true),
+        ("[%a]", 0, Some(1), 1, false),
+        ("[a*b]", 0, None, 2, true),
+        ("a*", 0, None, 1, true),
+        ("a+", 1, None, 1, false),
+        ("a?", 0, Some(1), 1, true),
+        ("a=", 3, Some(5), 5, false),
+        ("(ab)~", 4, None, 4, false),
+        ("a0", 0, Some(0), 0, true),
+        ("a*0", 0, Some(0), 0, true),
+        ("$*~", 0, Some(0), 0, true),
+        ("%2", 0, Some(0), 0, false),
+        ("_!", 0, Some(0), 0, false),
+        ("a!", 3, Some(1), 1, false),
+        (
+            "a##",
+            1_073_676_289,
+            Some(1_073_676_289),
+            1_073_676_289,
+            false,
+        ),
+        (
+            "a##4",
+            4_294_705_156,
+            Some(4_294_705_156),
+            4_294_705_156,
+            false,
+        ),
+        ("a##5", u32::MAX, cap, u32::MAX, false),
+        ("a##50", 0, Some(0), 0, true),
+        ("(a##4a##)", u32::MAX, cap, u32::MAX, false),
+        (
+            "[a##4a##]",
+            1_073_676_289,
+            Some(4_294_705_156),
+            u32::MAX,
+            false,
+        ),
+    ];
+    for (text, least, greatest, positions, empty) in table {
+        let wanted = Counts {
+            least,
+            greatest,
+            positions,
+            empty,
+        };
+        assert_eq!(rt; Counts::of(&tree(rt.alloc(), text)?), wanted, "{text}");
+    }
     Ok(())
 }
 
@@ -105,165 +188,28 @@ fn only_a_word_boundary_needs_a_byte(rt: HostRuntime) {
         (Assertion::NotWordBoundary, true),
     ];
     for (assertion, empty) in table {
-        assert_eq!(rt;
-            Counts::of(&Expr::Assert(assertion)),
-            Counts::new(0, Some(0), 0, empty)
-        );
+        assert_eq!(rt; matches_empty(&Expr::Assert(assertion)), empty);
     }
-}
-
-#[test]
-fn counts_sequences_and_alternatives(rt: HostRuntime) -> Result<(), Fail> {
-    let alloc = rt.alloc();
-    let boundary = Expr::Assert(Assertion::WordBoundary);
-    let table = vec![in alloc;
-        (text(alloc, b"")?, Counts::new(0, Some(0), 0, true)),
-        (text(alloc, b"abc")?, Counts::new(3, Some(3), 3, false)),
-        (
-            Expr::Alt(Vec::new(alloc)),
-            Counts::new(0, Some(0), 0, false)
-        ),
-        (
-            Expr::Alt(pair(alloc, text(alloc, b"bcd")?, byte(b'a'))?),
-            Counts::new(1, Some(3), 4, false)
-        ),
-        (
-            Expr::Alt(pair(alloc, byte(b'a'), Expr::Empty)?),
-            Counts::new(0, Some(1), 1, true)
-        ),
-        (
-            Expr::Alt(pair(alloc, boundary, byte(b'a'))?),
-            Counts::new(0, Some(1), 1, false)
-        ),
-        (
-            Expr::Cat(pair(alloc, byte(b'a'), Expr::Empty)?),
-            Counts::new(1, Some(1), 1, false)
-        ),
-        (foo_any_bar(alloc)?, Counts::new(6, None, 7, false)),
-    ]?;
-    for (expr, wanted) in &table {
-        assert_eq!(rt; Counts::of(expr), *wanted);
-    }
-    Ok(())
-}
-
-#[test]
-fn counts_repeats(rt: HostRuntime) -> Result<(), Fail> {
-    let alloc = rt.alloc();
-    let boundary = Expr::Assert(Assertion::WordBoundary);
-    let any = repeat(alloc, Expr::Assert(Assertion::LineEnd), 0, None)?;
-    let star = repeat(alloc, byte(b'a'), 0, None)?;
-    let table = vec![in alloc;
-        (
-            repeat(alloc, byte(b'a'), 0, None)?,
-            Counts::new(0, None, 1, true)
-        ),
-        (
-            repeat(alloc, byte(b'a'), 1, None)?,
-            Counts::new(1, None, 1, false)
-        ),
-        (
-            repeat(alloc, byte(b'a'), 0, Some(1))?,
-            Counts::new(0, Some(1), 1, true)
-        ),
-        (
-            repeat(alloc, byte(b'a'), 3, Some(5))?,
-            Counts::new(3, Some(5), 5, false)
-        ),
-        (
-            repeat(alloc, text(alloc, b"ab")?, 2, None)?,
-            Counts::new(4, None, 4, false)
-        ),
-        (
-            repeat(alloc, byte(b'a'), 0, Some(0))?,
-            Counts::new(0, Some(0), 0, true)
-        ),
-        (
-            repeat(alloc, star, 0, Some(0))?,
-            Counts::new(0, Some(0), 0, true)
-        ),
-        (
-            repeat(alloc, any, 3, None)?,
-            Counts::new(0, Some(0), 0, true)
-        ),
-        (
-            repeat(alloc, boundary, 2, Some(2))?,
-            Counts::new(0, Some(0), 0, false)
-        ),
-        (
-            repeat(alloc, Expr::Empty, 3, Some(1))?,
-            Counts::new(0, Some(0), 0, false)
-        ),
-    ]?;
-    for (expr, wanted) in &table {
-        assert_eq!(rt; Counts::of(expr), *wanted);
-    }
-    Ok(())
-}
-
-#[test]
-fn counts_up_to_the_cap(rt: HostRuntime) -> Result<(), Fail> {
-    let alloc = rt.alloc();
-    let row = repeat(alloc, byte(b'a'), 32_767, Some(32_767))?;
-    let square = repeat(alloc, row, 32_767, Some(32_767))?;
-    let below = repeat(alloc, square.copy(alloc)?, 4, Some(4))?;
-    let above = repeat(alloc, square.copy(alloc)?, 5, Some(5))?;
-    let none = repeat(alloc, above.copy(alloc)?, 0, Some(0))?;
-    let table = vec![in alloc;
-        (
-            Expr::Cat(pair(alloc, below.copy(alloc)?, above.copy(alloc)?)?),
-            Counts::new(u32::MAX, Some(u32::MAX), u32::MAX, false)
-        ),
-        (
-            square,
-            Counts::new(1_073_676_289, Some(1_073_676_289), 1_073_676_289, false)
-        ),
-        (
-            below,
-            Counts::new(4_294_705_156, Some(4_294_705_156), 4_294_705_156, false)
-        ),
-        (
-            above,
-            Counts::new(u32::MAX, Some(u32::MAX), u32::MAX, false)
-        ),
-        (none, Counts::new(0, Some(0), 0, true)),
-    ]?;
-    for (expr, wanted) in &table {
-        assert_eq!(rt; Counts::of(expr), *wanted);
-    }
-    Ok(())
 }
 
 #[test]
 fn flattens_to_items(rt: HostRuntime) -> Result<(), Fail> {
-    let alloc = rt.alloc();
-    let once = repeat(
-        alloc,
-        repeat(alloc, text(alloc, b"ab")?, 1, Some(1))?,
-        1,
-        Some(1),
-    )?;
-    let nested = Expr::Cat(pair(
-        alloc,
-        once,
-        Expr::Cat(pair(alloc, Expr::Empty, byte(b'c'))?),
-    )?);
-    let twice = repeat(alloc, text(alloc, b"ab")?, 2, Some(2))?;
-    let never = repeat(alloc, byte(b'a'), 0, Some(0))?;
-    let alternatives = Expr::Alt(pair(alloc, byte(b'a'), Expr::Empty)?);
-    let table = vec![in alloc;
-        (foo_any_bar(alloc)?, "cccrccc"),
-        (Expr::Empty, ""),
-        (byte(b'a'), "c"),
-        (Expr::Points(vec![in alloc; (0x80, 0x7ff)]?), "p"),
-        (Expr::Assert(Assertion::WordBoundary), "s"),
-        (nested, "ccc"),
-        (Expr::Cat(pair(alloc, twice, never)?), "rr"),
-        (repeat(alloc, byte(b'a'), 1, None)?, "r"),
-        (repeat(alloc, alternatives, 1, Some(1))?, "a"),
-    ]?;
-    for (expr, wanted) in &table {
-        assert_eq!(rt; kinds(alloc, &flatten(alloc, expr)?)?.as_str(), *wanted);
+    let table = [
+        ("(foo.*bar)", "cccrccc"),
+        ("_", ""),
+        ("()", ""),
+        ("a", "c"),
+        ("@", "p"),
+        ("%", "s"),
+        ("((ab)11(_c))", "ccc"),
+        ("((ab)2a0)", "rr"),
+        ("a+", "r"),
+        ("(a?[a_]1)", "ra"),
+        ("((((a))))", "c"),
+    ];
+    for (text, wanted) in table {
+        let items = flatten(rt.alloc(), &tree(rt.alloc(), text)?)?;
+        assert_eq!(rt; kinds(rt.alloc(), &items)?.as_str(), wanted, "{text}");
     }
     Ok(())
 }
