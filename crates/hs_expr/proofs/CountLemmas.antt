@@ -66,7 +66,7 @@ capped-greatest = fold-respects greater_bound (option_map capped) capped-greater
 
 -- one width more, from its capped value
 pub capped-one_added : (width part total : ℕ) (bound : Option ℕ) → Some part ≡ option_map capped bound →
-    total ≡ min (width + part) 4294967295 → option_map capped (Some total) ≡ option_map capped (add_bounds (Some width) bound)
+    total ≡ min (width + part) GREATEST_COUNT → option_map capped (Some total) ≡ option_map capped (add_bounds (Some width) bound)
 capped-one_added width part total None same sum = cc
 capped-one_added width part total (Some n) same sum =
     let inner : part ≡ capped n = cc in

@@ -1,5 +1,5 @@
 -- The items of an expression have its spans, and none of them can be opened further.
-use Rattle.std.proofs.Common.{◌≡◌, ℕ, zero, suc, ◌≤◌, Bool, true, false, List, [], ◌∷◌, ◌++◌, Option, Some, None, refl, sym, ap, subst, if◌then◌else◌, arith}
+use Rattle.std.proofs.Common.{◌≡◌, ℕ, zero, suc, ◌≤◌, Bool, true, false, List, [], ◌∷◌, ◌++◌, Option, Some, None, refl, sym, ap, ◌∙◌, subst, if◌then◌else◌, arith}
 use Rattle.std.proofs.lemmas.Bool.Decides.{nat_tests}
 use Rattle.hs_base.specs.Lists.{Each}
 use Rattle.hs_base.specs.Trees.{Tree, Trees, empty, class, points, assert, cat, alt, repeat, none, more}
@@ -137,3 +137,24 @@ mutual
   all_items-Each none = tt
   all_items-Each (more item items) =
       Each-append IsItem (items_of item) (items_of_all items) (items-Each item) (all_items-Each items)
+
+-- an item is its own only item
+items_of-item : (t : Tree) → IsItem t → items_of t ≡ t ∷ []
+items_of-item empty is = absurd is
+items_of-item (class set) is = refl
+items_of-item (points ranges) is = refl
+items_of-item (assert assertion) is = refl
+items_of-item (cat items) is = absurd is
+items_of-item (alt items) is = refl
+items_of-item (repeat body least greatest) is =
+    ap (λ once. if once then items_of body else repeat body least greatest ∷ []) is
+
+items_of_all-items : (items : List Tree) → Each IsItem items → items_of_all (trees_of items) ≡ items
+items_of_all-items [] each = refl
+items_of_all-items (item ∷ items) each =
+    ap (λ first. first ++ items_of_all (trees_of items)) (items_of-item item each.0)
+    ∙ ap (λ others. item ∷ others) (items_of_all-items items each.1)
+
+-- opening the items again changes nothing
+pub items_of-again : (t : Tree) → items_of (cat (trees_of (items_of t))) ≡ items_of t
+items_of-again t = items_of_all-items (items_of t) (items-Each t)

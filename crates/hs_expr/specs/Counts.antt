@@ -1,6 +1,6 @@
 -- Counts over an expression: the widths of what it matches, in bytes, and its positions. They have no limit; what is
 -- answered is capped. A code point counts as one place of 1 to 4 bytes, as its encoding in UTF-8.
-use Rattle.std.specs.Prelude.{ℕ, zero, suc, ◌+◌, ◌*◌, ◌≤◌, min, max, List, [], ◌∷◌, sum, fold, Bool, Option, Some, None, IfSome}
+use Rattle.std.specs.Prelude.{ℕ, zero, suc, ◌+◌, ◌*◌, ◌≤◌, min, max, List, [], ◌∷◌, sum, fold, Option, Some, None, IfSome}
 use Rattle.hs_base.specs.Trees.{Tree, Trees, empty, class, points, assert, cat, alt, repeat, none, more}
 use Rattle.hs_base.specs.Spans.{Spans}
 use Rattle.hs_expr.specs.declared.counts.TheConstants.{GREATEST_COUNT, LONGEST_ENCODING}
@@ -29,19 +29,20 @@ abbrev mutual
   least_widths none = []
   least_widths (more item items) = least_width item ∷ least_widths items
 
--- The bound on a sum. A bound may be missing: then there is none.
+-- the bound on a sum: there is none where one of the parts has none
 abbrev pub add_bounds : Option ℕ → Option ℕ → Option ℕ
 add_bounds None n = None
 add_bounds (Some m) None = None
 add_bounds (Some m) (Some n) = Some (m + n)
 
--- the greater of two bounds
+-- the bound on either: there is none where one of the two has none
 abbrev pub greater_bound : Option ℕ → Option ℕ → Option ℕ
 greater_bound None n = None
 greater_bound (Some m) None = None
 greater_bound (Some m) (Some n) = Some (max m n)
 
--- the bound on so many copies, of which there may be no greatest number: no copies are empty, and so are empty ones
+-- The bound on copies of a body, from its width and from their number, which both may have no bound: 0 where there is
+-- no copy, or every copy is empty.
 abbrev pub repeated_bound : Option ℕ → Option ℕ → Option ℕ
 repeated_bound (Some width) (Some copies) = Some (width * copies)
 repeated_bound (Some zero) None = Some 0

@@ -1,9 +1,10 @@
 //! Widths and positions of an expression. Each is counted without limit and answered as at most `GREATEST_COUNT`.
-ghost use Rattle.std.specs.Prelude.{◌≡◌, map, sum};
+ghost use Rattle.std.specs.Prelude.{◌≡◌, Some, fold, map, sum};
 ghost use Rattle.std.specs.Option.{option_map};
 ghost use Rattle.hs_expr.specs.Meaning.{tree_of, trees_of};
-ghost use Rattle.hs_expr.specs.Counts.{capped, least_width, least_widths, least_of, greatest_width, greatest_widths, add_bounds, greater_bound, repeated_bound, positions, position_counts, written_copies};
-ghost use Rattle.std.specs.Prelude.{fold, Some};
+ghost use Rattle.hs_expr.specs.Counts.{capped, least_width, least_widths, least_of};
+ghost use Rattle.hs_expr.specs.Counts.{greatest_width, greatest_widths, add_bounds, greater_bound, repeated_bound};
+ghost use Rattle.hs_expr.specs.Counts.{positions, position_counts, written_copies};
 
 use crate::expr::Expr;
 
@@ -29,6 +30,7 @@ pub fn least_width(expr: &Expr) -> u32
     }
 }
 
+/// The least width of items one after the other.
 #[cycle(least_width)]
 fn sum_of_least_widths(items: &[Expr]) -> u32
     ensures { result ≡ capped (sum (least_widths (trees_of (map tree_of items.now)))) }
@@ -40,6 +42,7 @@ fn sum_of_least_widths(items: &[Expr]) -> u32
     width
 }
 
+/// The least width of alternatives.
 #[cycle(least_width)]
 fn least_of_least_widths(items: &[Expr]) -> u32
     ensures { result ≡ capped (least_of (least_widths (trees_of (map tree_of items.now)))) }
@@ -71,9 +74,11 @@ pub fn greatest_width(expr: &Expr) -> Option<u32>
     }
 }
 
+/// The greatest width of items one after the other.
 #[cycle(greatest_width)]
 fn sum_of_greatest_widths(items: &[Expr]) -> Option<u32>
-    ensures { result ≡ option_map capped (fold add_bounds (Some 0) (greatest_widths (trees_of (map tree_of items.now)))) }
+    ensures { result
+        ≡ option_map capped (fold add_bounds (Some 0) (greatest_widths (trees_of (map tree_of items.now)))) }
 {
     let mut width: u32 = 0;
     for item in items {
@@ -82,9 +87,11 @@ fn sum_of_greatest_widths(items: &[Expr]) -> Option<u32>
     Some(width)
 }
 
+/// The greatest width of alternatives.
 #[cycle(greatest_width)]
 fn greatest_of_greatest_widths(items: &[Expr]) -> Option<u32>
-    ensures { result ≡ option_map capped (fold greater_bound (Some 0) (greatest_widths (trees_of (map tree_of items.now)))) }
+    ensures { result
+        ≡ option_map capped (fold greater_bound (Some 0) (greatest_widths (trees_of (map tree_of items.now)))) }
 {
     let mut width: u32 = 0;
     for item in items {
@@ -126,6 +133,7 @@ pub fn positions(expr: &Expr) -> u32
     }
 }
 
+/// The positions of several expressions together.
 #[cycle(positions)]
 fn sum_of_positions(items: &[Expr]) -> u32
     ensures { result ≡ capped (sum (position_counts (trees_of (map tree_of items.now)))) }

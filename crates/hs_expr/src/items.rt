@@ -11,7 +11,8 @@ use std::alloc::{AllocError, Global};
 /// and the empty text is left out. What is no concatenation is its own only item.
 pub fn flatten(alloc: Global, expr: &Expr) -> Result<Vec<Expr>, AllocError>
     ensures items { IfOk result (λ items. map tree_of items.items ≡ items_of (tree_of expr.now)) }
-    ensures spans { IfOk result (λ items. HaveSameSpans (cat (trees_of (map tree_of items.items))) (tree_of expr.now)) }
+    ensures spans { IfOk result
+        (λ items. HaveSameSpans (cat (trees_of (map tree_of items.items))) (tree_of expr.now)) }
 {
     let mut items = Vec::new(alloc);
     push_items(alloc, expr, &mut items)?;
@@ -21,7 +22,8 @@ pub fn flatten(alloc: Global, expr: &Expr) -> Result<Vec<Expr>, AllocError>
 /// Appends the items of one expression.
 #[cycle(push_items)]
 fn push_items(alloc: Global, expr: &Expr, items: &mut Vec<Expr>) -> Result<(), AllocError>
-    ensures { IfOk result (λ done. map tree_of items.new.items ≡ map tree_of items.old.items ++ items_of (tree_of expr.now)) }
+    ensures { IfOk result
+        (λ done. map tree_of items.new.items ≡ map tree_of items.old.items ++ items_of (tree_of expr.now)) }
 {
     match expr {
         Expr::Empty => Ok(()),
@@ -43,7 +45,8 @@ fn push_items(alloc: Global, expr: &Expr, items: &mut Vec<Expr>) -> Result<(), A
 /// Appends the items of several expressions, one after the other.
 #[cycle(push_items)]
 fn push_items_of_all(alloc: Global, parts: &[Expr], items: &mut Vec<Expr>) -> Result<(), AllocError>
-    ensures { IfOk result (λ done. map tree_of items.new.items ≡ map tree_of items.old.items ++ items_of_all (trees_of (map tree_of parts.now))) }
+    ensures { IfOk result (λ done. map tree_of items.new.items
+        ≡ map tree_of items.old.items ++ items_of_all (trees_of (map tree_of parts.now))) }
 {
     for part in parts {
         push_items(alloc, part, items)?;
@@ -53,7 +56,8 @@ fn push_items_of_all(alloc: Global, parts: &[Expr], items: &mut Vec<Expr>) -> Re
 
 /// Appends the expression as one item.
 fn push_copy(alloc: Global, expr: &Expr, items: &mut Vec<Expr>) -> Result<(), AllocError>
-    ensures { IfOk result (λ done. map tree_of items.new.items ≡ map tree_of items.old.items ++ tree_of expr.now ∷ []) }
+    ensures { IfOk result
+        (λ done. map tree_of items.new.items ≡ map tree_of items.old.items ++ tree_of expr.now ∷ []) }
 {
     items.push(expr.copy(alloc)?)?;
     Ok(())

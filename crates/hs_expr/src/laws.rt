@@ -1,6 +1,8 @@
 //! Laws of the definitions: functions that do nothing, whose contracts state them.
+ghost use Rattle.std.specs.Prelude.{◌≡◌};
 ghost use Rattle.hs_base.specs.Lists.{Each};
-ghost use Rattle.hs_base.specs.Trees.{Tree};
+ghost use Rattle.hs_base.specs.Trees.{Tree, cat};
+ghost use Rattle.hs_expr.specs.Meaning.{trees_of};
 ghost use Rattle.hs_expr.specs.Counts.{IsWithinWidths};
 ghost use Rattle.hs_expr.specs.Items.{items_of, IsItem};
 
@@ -9,7 +11,8 @@ pub fn spans_are_within_widths()
     ensures { (t : Tree) → IsWithinWidths t }
 {}
 
-/// No item of a concatenation can be opened further, so that flattening the items again changes nothing.
-pub fn no_item_can_be_opened()
-    ensures { (t : Tree) → Each IsItem (items_of t) }
+/// No item of a concatenation can be opened further, and flattening the items again changes nothing.
+pub fn items_stay_as_they_are()
+    ensures whole { (t : Tree) → Each IsItem (items_of t) }
+    ensures again { (t : Tree) → items_of (cat (trees_of (items_of t))) ≡ items_of t }
 {}

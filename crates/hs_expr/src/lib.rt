@@ -13,7 +13,7 @@ pub use empty_span::matches_empty;
 pub use expr::Expr;
 pub use hs_base::Assertion;
 pub use items::flatten;
-pub use laws::{no_item_can_be_opened, spans_are_within_widths};
+pub use laws::{items_stay_as_they_are, spans_are_within_widths};
 
 #[cfg(test)]
 mod tests;
