@@ -1,6 +1,6 @@
 -- Counts over an expression: the widths of what it matches, in bytes, and its positions. They have no limit; what is
 -- answered is capped. A code point counts as one place of 1 to 4 bytes, as its encoding in UTF-8.
-use Rattle.std.specs.Prelude.{ℕ, zero, suc, ◌+◌, ◌*◌, ◌≤◌, min, max, List, [], ◌∷◌, sum, fold, Option, Some, None, IfSome}
+use Rattle.std.specs.Prelude.{ℕ, zero, suc, ◌+◌, ◌*◌, ◌≤◌, min, max, List, [], ◌∷◌, sum, fold, Bool, Option, Some, None, IfSome}
 use Rattle.hs_base.specs.Trees.{Tree, Trees, empty, class, points, assert, cat, alt, repeat, none, more}
 use Rattle.hs_base.specs.Spans.{Spans}
 use Rattle.hs_expr.specs.declared.counts.TheConstants.{GREATEST_COUNT, LONGEST_ENCODING}
