@@ -2,7 +2,18 @@
 //! what the tree matches.
 #![tactic(auto)]
 
+mod counts;
+mod empty_span;
 mod expr;
+mod items;
+mod laws;
 
+pub use counts::{GREATEST_COUNT, LONGEST_ENCODING, greatest_width, least_width, positions};
+pub use empty_span::matches_empty;
 pub use expr::Expr;
 pub use hs_base::Assertion;
+pub use items::flatten;
+pub use laws::{items_stay_as_they_are, spans_are_within_widths};
+
+#[cfg(test)]
+mod tests;

@@ -1,0 +1,5 @@
+pub mod CountLemmas
+pub mod EmptySpans
+pub mod ItemLemmas
+pub mod TreeLemmas
+pub mod WidthLemmas

@@ -1,0 +1,8 @@
+use Rattle.hs_expr.specs.Meaning.{tree_of}
+use Rattle.hs_expr.proofs.ItemLemmas.{items-have_spans}
+use Rattle.hs_expr.proofs.items.flatten.Goals as goal
+
+pub returns-clause-spans : goal.returns-clause-spans
+returns-clause-spans c =
+    let same = rw c.new-items.ensures.items at c.in_ok-push_items.ensures in
+    rw same (items-have_spans (tree_of c.args.expr.now))
