@@ -1,0 +1,7 @@
+pub mod FileLemmas
+pub mod SequenceLemmas
+pub mod ScanLemmas
+pub mod AnswerLemmas
+pub mod OnceLemmas
+pub mod DueLemmas
+pub mod StatusLemmas

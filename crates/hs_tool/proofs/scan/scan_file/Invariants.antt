@@ -1,0 +1,18 @@
+use Rattle.std.proofs.Common.{◌≡◌, ◌-◌, ◌≤◌, length}
+use Rattle.hs_tool.specs.declared.scan.TheConstants.{PIECE_LEN}
+use Rattle.hs_tool.specs.Scanning.{greatest_offset, IsScannedTo}
+use Rattle.hs_tool.proofs.scan.scan_file.Given as goal
+
+abbrev pub invariant-loop-count : goal.invariant-loop-count
+invariant-loop-count g l = record {
+  scanned : IsScannedTo (g.S.Store.told l.fn.store l.name) l.fn.compiled l.compiled l.offset
+      (g.O.Sink.written l.fn.out) (g.O.Sink.written l.out) l.fn.pending l.pending;
+  within : l.offset ≤ greatest_offset;
+  stored : g.S.Store.faults l.store ≡ g.S.Store.faults l.fn.store;
+  sunk : g.O.Sink.faults l.out ≡ g.O.Sink.faults l.fn.out;
+  room : length l.piece ≡ PIECE_LEN;
+  kept : g.S.Store.told l.store ≡ g.S.Store.told l.fn.store;
+}
+
+abbrev pub decreases-loop-count : goal.decreases-loop-count
+decreases-loop-count g l = greatest_offset - l.offset

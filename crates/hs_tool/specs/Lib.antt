@@ -1,0 +1,12 @@
+pub mod Lines
+pub mod PatternFile
+pub mod Automata
+pub mod Following
+pub mod Accepting
+pub mod Running
+pub mod Passing
+pub mod Scanning
+pub mod Requests
+pub mod Causes
+pub mod Answers
+pub mod Loading

@@ -1,0 +1,95 @@
+//! Why a command wasn't done.
+ghost use Rattle.std.specs.Prelude.{◌≡◌, ◌++◌, codes, OnOk, OnErr};
+ghost use Rattle.hs_outside.specs.Counts.{Rose};
+ghost use Rattle.hs_outside.specs.Sink.{Took, TookPrefix};
+ghost use Rattle.hs_tool.specs.Lines.{refusal_line as line_of_refusal};
+
+use crate::lines::{self, LINE_LEN};
+use hs_base::{ExprId, Refusal};
+use hs_outside::{Failed, Sink, write_all};
+
+/// Why a command wasn't done.
+#[derive(Clone, Copy, Debug)]
+pub enum Fault<'a> {
+    /// The words are no command.
+    Usage,
+    /// The list is refused: by a line of its file, or by the entry of this number, counted from 1.
+    Refused(Option<(u32, ExprId)>, Refusal),
+    /// The sink failed.
+    Write,
+    /// The store failed.
+    Store,
+    /// The store lacks the file of this name.
+    Absent(&'a str),
+    /// A file is longer than its limit.
+    Limit,
+    /// Memory was wanted.
+    Memory,
+}
+
+impl Fault<'_> {
+    ghost use Rattle.std.specs.Prelude.{◌≡◌, OnOk, OnErr};
+    ghost use Rattle.hs_outside.specs.Counts.{Rose};
+    ghost use Rattle.hs_outside.specs.Sink.{Took, TookPrefix};
+    ghost use Rattle.hs_tool.specs.Causes.{cause_of, status_of_cause, line_of_cause};
+
+    /// The status that the program ends with.
+    pub fn status(&self) -> u8
+        ensures { result ≡ status_of_cause (cause_of self.now) }
+    {
+        match self {
+            Fault::Usage => 1,
+            Fault::Refused(_, _) => 2,
+            Fault::Write | Fault::Store => 3,
+            Fault::Memory => 6,
+            Fault::Absent(_) => 7,
+            Fault::Limit => 8,
+        }
+    }
+
+    /// Writes the fault's line.
+    pub fn tell<E: Sink>(&self, err: &mut E) -> Result<(), Failed>
+        ensures told { OnOk result (Took (E.written err.old) (E.written err.new) (line_of_cause (cause_of self.now))) }
+        ensures counted { OnOk result (E.faults err.new ≡ E.faults err.old) }
+        ensures cut { OnErr result (TookPrefix (E.written err.old) (E.written err.new) (line_of_cause (cause_of self.now))) }
+        ensures failed { OnErr result (Rose (E.faults err.old) (E.faults err.new)) }
+    {
+        match self {
+            Fault::Usage => write_all(err, b"fault usage\n"),
+            Fault::Refused(entry, refusal) => tell_refusal(*entry, refusal, err),
+            Fault::Write => write_all(err, b"fault write\n"),
+            Fault::Store => write_all(err, b"fault store\n"),
+            Fault::Absent(name) => tell_absent(name, err),
+            Fault::Limit => write_all(err, b"fault limit\n"),
+            Fault::Memory => write_all(err, b"fault memory\n"),
+        }
+    }
+}
+
+/// Writes the line of a refusal.
+fn tell_refusal<E: Sink>(
+    entry: Option<(u32, ExprId)>,
+    refusal: &Refusal,
+    err: &mut E,
+) -> Result<(), Failed>
+    ensures told { OnOk result (Took (E.written err.old) (E.written err.new) (line_of_refusal entry refusal.now)) }
+    ensures counted { OnOk result (E.faults err.new ≡ E.faults err.old) }
+    ensures cut { OnErr result (TookPrefix (E.written err.old) (E.written err.new) (line_of_refusal entry refusal.now)) }
+    ensures failed { OnErr result (Rose (E.faults err.old) (E.faults err.new)) }
+{
+    let mut line = [0; LINE_LEN];
+    let len = lines::refusal_line(entry, refusal, &mut line);
+    write_all(err, &line[..len])
+}
+
+/// Writes the line `fault absent NAME`.
+fn tell_absent<E: Sink>(name: &str, err: &mut E) -> Result<(), Failed>
+    ensures told { OnOk result (Took (E.written err.old) (E.written err.new) (codes "fault absent " ++ name.now ++ codes "\n")) }
+    ensures counted { OnOk result (E.faults err.new ≡ E.faults err.old) }
+    ensures cut { OnErr result (TookPrefix (E.written err.old) (E.written err.new) (codes "fault absent " ++ name.now ++ codes "\n")) }
+    ensures failed { OnErr result (Rose (E.faults err.old) (E.faults err.new)) }
+{
+    write_all(err, b"fault absent ")?;
+    write_all(err, name.as_bytes())?;
+    write_all(err, b"\n")
+}
