@@ -4,3 +4,4 @@ pub mod SpanLemmas
 pub mod ReportLemmas
 pub mod ToldLemmas
 pub mod NewLemmas
+pub mod ExactLemmas

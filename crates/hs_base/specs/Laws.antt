@@ -1,5 +1,6 @@
 -- What holds of the definitions, for every list of patterns and every stream.
-use Rattle.std.specs.Prelude.{◌≡◌, ℕ, ◌<◌, Bool, true, false, List, ◌++◌, length}
+use Rattle.std.specs.Prelude.{◌≡◌, ◌≢◌, ℕ, ◌<◌, ◌↔◌, Bool, true, false, List, ◌++◌, length}
+use Rattle.hs_base.specs.Lists.{IsMember, IsRising}
 use Rattle.hs_base.specs.Trees.{Tree}
 use Rattle.hs_base.specs.Spans.{Spans}
 use Rattle.hs_base.specs.Patterns.{Pattern}
@@ -57,3 +58,12 @@ pub record IsNewInTwo (P : List Pattern) (u v x : List ℕ) (all : List Pair) : 
 -- The new reports of v and x after u are made of those two.
 abbrev pub NewSplits : Type 0
 NewSplits = (P : List Pattern) (u v x : List ℕ) (all : List Pair) → IsNew P u (v ++ x) all → IsNewInTwo P u v x all
+
+-- The told list of a stream has what is reported of it before the end, and nothing else.
+abbrev pub ToldIsExact : Type 0
+ToldIsExact =
+    (P : List Pattern) (w : List ℕ) (told : List Pair) → IsTold P w told → (p : Pair) → IsMember p told ↔ IsReport P w false p.id p.to
+
+-- A told list has no pair twice.
+abbrev pub ToldRepeatsNothing : Type 0
+ToldRepeatsNothing = (P : List Pattern) (w : List ℕ) (told : List Pair) → IsTold P w told → IsRising (λ x y. x ≢ y) told

@@ -1,6 +1,6 @@
 //! Laws over the definitions of `specs/`: each is the contract of a function that does nothing.
 
-ghost use Rattle.hs_base.specs.Laws.{IsLastOnce, IsNewOnce, IsToldOnce, NewJoins, NewSplits, ReportsStay, ReportsStayAtEnd, SpansNeedNoLaterByte, SpansStay, ToldGrows};
+ghost use Rattle.hs_base.specs.Laws.{IsLastOnce, IsNewOnce, IsToldOnce, NewJoins, NewSplits, ReportsStay, ReportsStayAtEnd, SpansNeedNoLaterByte, SpansStay, ToldGrows, ToldIsExact, ToldRepeatsNothing};
 
 /// A span of a stream that may go on is one of each longer stream, ended or not.
 pub fn spans_stay()
@@ -51,4 +51,14 @@ pub fn new_joins()
 /// The new list of bytes splits wherever the bytes are split.
 pub fn new_splits()
     ensures { NewSplits }
+{}
+
+/// A told list has each report of its stream that may go on, and nothing else.
+pub fn told_is_exact()
+    ensures { ToldIsExact }
+{}
+
+/// A told list has no pair twice.
+pub fn told_repeats_nothing()
+    ensures { ToldRepeatsNothing }
 {}
