@@ -1,12 +1,12 @@
 -- A told list has each report of its stream, and each once.
-use Rattle.std.proofs.Common.{◌≡◌, ◌≢◌, ℕ, zero, suc, ◌+◌, ◌<◌, ◌≤◌, ◌⊎◌, ◌↔◌, Bool, true, false, List, [], ◌∷◌, ◌++◌, length, map, take, drop, refl, sym, ap, subst, ◌∙◌, inl, inr, arith}
+use Rattle.std.proofs.Common.{◌≡◌, ◌≢◌, ℕ, zero, suc, ◌+◌, ◌<◌, ◌≤◌, ◌⊎◌, ◌↔◌, false, List, [], ◌∷◌, length, map, take, drop, sym, ap, subst, ◌∙◌, inl, inr, arith}
 use Rattle.std.proofs.lemmas.Bool.{cases_lt, cases_eq}
 use Rattle.std.proofs.lemmas.List.{take-append-drop}
 use Rattle.std.proofs.Math.Seq.{take-length}
-use Rattle.hs_base.specs.Lists.{OneOf, Each, IsMember, IsRising}
+use Rattle.hs_base.specs.Lists.{Each, IsMember, IsRising}
 use Rattle.hs_base.specs.Patterns.{Pattern}
 use Rattle.hs_base.specs.Reports.{IsReport}
-use Rattle.hs_base.specs.Told.{Pair, IsBefore, Mark, IsDecidedBefore, IsDecided, AreMarks, IsTold}
+use Rattle.hs_base.specs.Told.{Pair, IsBefore, Mark, IsDecidedBefore, IsDecided, IsTold}
 use Rattle.hs_base.proofs.ListLemmas.{each-member, each-of_members, member-map, map-member}
 use Rattle.hs_base.proofs.ReportLemmas.{reports-longer}
 use Rattle.hs_base.proofs.ToldLemmas.{pair-order}

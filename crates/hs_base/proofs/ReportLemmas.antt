@@ -7,10 +7,7 @@ use Rattle.hs_base.specs.Patterns.{Pattern, HasEnd, IsPair, is_single, AreNotSin
 use Rattle.hs_base.specs.Reports.{IsLeast, IsReport, each, first, first_at_end}
 use Rattle.hs_base.specs.AssertionFree.{IsAssertionFree, AreAssertionFree}
 use Rattle.hs_base.proofs.ListLemmas.{one_of-map, one_of-each}
-use Rattle.hs_base.proofs.SpanLemmas.{spans-longer, spans-shorter, spans-free}
-
-pub not-ended : IsTrue false → ⊥
-not-ended ended = let e : false ≡ true = ended in cc
+use Rattle.hs_base.proofs.SpanLemmas.{not-ended, spans-longer, spans-shorter, spans-free}
 
 -- a stream that may go on and has a pair has a byte
 pub pair-begun : (P : List Pattern) (u : List ℕ) (id to : ℕ) → IsPair P u false id to → 0 < length u

@@ -136,7 +136,7 @@ texts-shorter u v i text within has = record {
   same = sym (text-append u v i (length text) within) ∙ has.same;
 }
 
-not-ended : IsTrue false → ⊥
+pub not-ended : IsTrue false → ⊥
 not-ended ended = let e : false ≡ true = ended in cc
 
 no-end : (w : List ℕ) (p : ℕ) → IsEnd w false p → ⊥
