@@ -1,13 +1,13 @@
 -- Bits of four words.
-use Rattle.std.proofs.Common.{◌≡◌, ℕ, zero, suc, ◌-◌, ◌*◌, ◌/◌, ◌%◌, ◌^◌, ◌<◌, Bool, true, false, not, ◌||◌, List, [], ◌∷◌, length, get_or, set, eqb, max, refl, ap, ◌∙◌, inl, inr, arith, bit_or, w64, Some, zero-add}
+use Rattle.std.proofs.Common.{◌≡◌, ℕ, zero, suc, ◌+◌, ◌-◌, ◌*◌, ◌/◌, ◌%◌, ◌^◌, ◌<◌, ◌≤◌, Bool, true, false, not, ◌||◌, List, [], ◌∷◌, length, get_or, set, eqb, max, refl, ap, ◌∙◌, inl, inr, arith, bit_or, w64, Some, zero-add}
 use Rattle.std.specs.Int.{bit_at}
 use Rattle.std.specs.Prelude.{slice_get}
 use Rattle.std.specs.Option.{option_map}
-use Rattle.std.specs.List.{range_with_len}
+use Rattle.std.specs.List.{range_with_len, filter}
 use Rattle.std.proofs.lemmas.List.FromFn.{length-range_with_len, get_or-range_with_len}
 use Rattle.std.proofs.lemmas.Option.{slice_get-map, slice_get-get_or}
 use Rattle.hs_base.specs.declared.byte_set.ByteSet.{ByteSet}
-use Rattle.hs_base.specs.ByteSets.{has, members}
+use Rattle.hs_base.specs.ByteSets.{has, members, members_from}
 use Rattle.std.proofs.lemmas.Bool.{cases_eq, eq-eqb, ne_eqb}
 use Rattle.std.proofs.lemmas.List.{get_or-set_same, get_or-set_other}
 use Rattle.std.proofs.lemmas.Nat.Bits.{bit_at-lt, bit_at_or, bit_at_not, bit_at_set_same, bit_at_set_other}
@@ -83,3 +83,22 @@ members-at s b below =
     let within : b < length bytes = omega (arith, length-range_with_len 0 256) in
     slice_get-map (has s) bytes b
     ∙ ap (option_map (has s)) (slice_get-get_or bytes b 0 within ∙ ap (λ x. Some x) (get_or-range_with_len 0 256 b 0 below ∙ zero-add b))
+
+-- the members from a byte that is one, from a byte that isn't, and behind the last byte
+pub members_from-in : (s : ByteSet) (n : ℕ) → n < 256 → has s n ≡ true → members_from s n ≡ n ∷ members_from s (n + 1)
+unfolding members_from
+members_from-in s n below member =
+    let e : 256 - n ≡ suc (256 - (n + 1)) = omega arith in
+    ap (λ m. filter (has s) (range_with_len n m)) e ∙ rw member refl
+
+pub members_from-out : (s : ByteSet) (n : ℕ) → n < 256 → has s n ≡ false → members_from s n ≡ members_from s (n + 1)
+unfolding members_from
+members_from-out s n below other =
+    let e : 256 - n ≡ suc (256 - (n + 1)) = omega arith in
+    ap (λ m. filter (has s) (range_with_len n m)) e ∙ rw other refl
+
+pub members_from-end : (s : ByteSet) (n : ℕ) → 256 ≤ n → members_from s n ≡ []
+unfolding members_from
+members_from-end s n past =
+    let e : 256 - n ≡ 0 = omega arith in
+    ap (λ m. filter (has s) (range_with_len n m)) e

@@ -1,5 +1,6 @@
 pub mod Refusals
 pub mod ByteSets
+pub mod Members
 pub mod Lists
 pub mod Trees
 pub mod Assertions

@@ -1,6 +1,8 @@
 ghost use Rattle.std.specs.Prelude.{◌≡◌, ℕ, ◌<◌, ◌==◌, not};
 ghost use Rattle.std.specs.Int.{bit_at};
 
+use crate::members::Members;
+
 /// A set of bytes.
 #[derive(Clone, Copy, Debug, PartialEq, Eq)]
 pub struct ByteSet {
@@ -9,8 +11,10 @@ pub struct ByteSet {
 }
 
 impl ByteSet {
-    ghost use Rattle.std.specs.Prelude.{◌≡◌, ℕ, ◌<◌, ◌==◌, ◌||◌, not};
-    ghost use Rattle.hs_base.specs.ByteSets.{has};
+    ghost use Rattle.std.specs.Prelude.{◌≡◌, ℕ, ◌<◌, ◌==◌, ◌||◌, not, true, false};
+    ghost use Rattle.hs_base.specs.ByteSets.{has, members, members_from, bytes_where, is_digit, is_space};
+    ghost use Rattle.hs_base.specs.Assertions.{line_feed, is_word_byte};
+    ghost use Rattle.hs_base.specs.Members.{members_left};
 
     /// No byte.
     pub const EMPTY: ByteSet = ByteSet { words: [0; 4] };
@@ -22,6 +26,29 @@ impl ByteSet {
     pub const NOT_NEWLINE: ByteSet = ByteSet {
         words: [u64::MAX - (1 << 10), u64::MAX, u64::MAX, u64::MAX],
     };
+
+    /// The decimal digits: `\d`.
+    pub const DIGITS: ByteSet = ByteSet {
+        words: [0x03FF_0000_0000_0000, 0, 0, 0],
+    };
+    /// The word bytes, letters, digits and the underscore: `\w`.
+    pub const WORD: ByteSet = ByteSet {
+        words: [0x03FF_0000_0000_0000, 0x07FF_FFFE_87FF_FFFE, 0, 0],
+    };
+    /// The blanks from 09 to 0D, and the space: `\s`.
+    pub const SPACE: ByteSet = ByteSet {
+        words: [0x0000_0001_0000_3E00, 0, 0, 0],
+    };
+
+    /// The named sets are those that their names say.
+    pub fn named_sets()
+        ensures empty { members ByteSet.EMPTY ≡ bytes_where (λ _. false) }
+        ensures all { members ByteSet.ALL ≡ bytes_where (λ _. true) }
+        ensures not_newline { members ByteSet.NOT_NEWLINE ≡ bytes_where (λ b. not (b == line_feed)) }
+        ensures digits { members ByteSet.DIGITS ≡ bytes_where is_digit }
+        ensures word { members ByteSet.WORD ≡ bytes_where is_word_byte }
+        ensures space { members ByteSet.SPACE ≡ bytes_where is_space }
+    {}
 
     /// The set of one byte.
     pub fn of(byte: u8) -> ByteSet
@@ -45,6 +72,13 @@ impl ByteSet {
         ensures { (b : ℕ) → b < 256 → has self.new b ≡ ((b == byte) || has self.old b) }
     {
         self.words[byte as usize / 64] |= 1 << (byte % 64);
+    }
+
+    /// The members, rising.
+    pub fn iter(&self) -> Members
+        ensures { members_left result ≡ members_from self.now 0 }
+    {
+        Members::new(*self)
     }
 
     /// The bytes of either set.

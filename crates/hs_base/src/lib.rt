@@ -6,9 +6,11 @@ mod assertion;
 mod byte_set;
 mod entry;
 pub mod laws;
+mod members;
 mod refusal;
 
 pub use assertion::Assertion;
 pub use byte_set::ByteSet;
 pub use entry::{ExprId, Flags, Report};
+pub use members::Members;
 pub use refusal::{Construct, Refusal};

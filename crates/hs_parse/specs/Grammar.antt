@@ -1,10 +1,11 @@
 -- The grammar of expressions (PCRE pattern syntax). A text is a list of bytes, and a place an offset in it. A relation
 -- reads a form of the grammar, under the options that are in force, from the place where the form begins to the place
 -- behind it.
-use Rattle.std.specs.Prelude.{◌≡◌, ℕ, ◌+◌, ◌≤◌, Bool, true, not, ◌==◌, List, [], ◌∷◌, length, map, codes, Option, Some, None, slice_get}
-use Rattle.std.specs.List.{range_with_len, list_any}
+use Rattle.std.specs.Prelude.{◌≡◌, ℕ, ◌+◌, ◌≤◌, Bool, true, not, ◌==◌, List, [], ◌∷◌, length, codes, Option, Some, None, slice_get}
+use Rattle.std.specs.List.{list_any}
 use Rattle.hs_base.specs.declared.entry.Flags.{Flags}
 use Rattle.hs_base.specs.Assertions.{line_feed}
+use Rattle.hs_base.specs.ByteSets.{bytes_where}
 use Rattle.hs_base.specs.Trees.{Tree, empty, class, cat, repeat}
 use Rattle.hs_expr.specs.Meaning.{trees_of}
 
@@ -32,17 +33,13 @@ special_bytes = codes ".*\\[(){^$|+?"
 abbrev pub is_literal : ℕ → Bool
 is_literal b = not (list_any (λ c. c == b) special_bytes)
 
--- the set of the bytes that pass a test
-abbrev pub set_where : (ℕ → Bool) → List Bool
-set_where test = map test (range_with_len 0 256)
-
 -- every byte but the line feed
 abbrev pub not_newline : List Bool
-not_newline = set_where (λ c. not (c == line_feed))
+not_newline = bytes_where (λ c. not (c == line_feed))
 
 -- one byte alone
 abbrev pub just : ℕ → List Bool
-just b = set_where (λ c. c == b)
+just b = bytes_where (λ c. c == b)
 
 -- An atom: `.`, which takes every byte but the line feed, or a byte that stands for itself.
 pub data Atom (text : List ℕ) : Options → ℕ → Tree → ℕ → Type 0 where

@@ -10,6 +10,7 @@ use Rattle.hs_base.specs.ByteSets.{has, members}
 use Rattle.hs_base.specs.Trees.{Tree, Trees, empty, class, points, assert, cat, alt, repeat, none, more}
 use Rattle.hs_base.specs.Spans.{Spans, CatSpans, Copies, IsByteOf}
 use Rattle.hs_base.specs.AssertionFree.{EachAssertion, EachAssertionOf, IsAssertionFree}
+use Rattle.hs_base.proofs.ByteSetLemmas.{members-at}
 use Rattle.hs_base.proofs.SpanLemmas.{spans-free, spans-longer}
 use Rattle.hs_expr.specs.Meaning.{tree_of, trees_of}
 use Rattle.hs_expr.specs.declared.expr.Expr.{Expr}
@@ -126,16 +127,6 @@ ends-any items set u b (inr (member, (i, span))) =
           (suc parts.2.0, omega arith, tt, copies-push (Spans (u ++ b ∷ []) false (class set)) parts.2.0 parts.0 (length u) (length (u ++ b ∷ [])) copies (last-of set u b member, length_push u b)),
     )
 
--- the byte at a place of a range
-range_get : (n a k : ℕ) → k < n → slice_get (range_with_len a n) k ≡ Some (a + k)
-range_get zero a k below = absurd (omega arith)
-range_get (suc n) a zero below = ap Some (omega arith)
-range_get (suc n) a (suc k) below = range_get n (a + 1) k (omega arith) ∙ ap Some (omega arith)
-
-pub member-has : (s : ByteSet) (b : ℕ) → b < 256 → slice_get (members s) b ≡ Some (has s b)
-unfolding members
-member-has s b below = slice_get-map (has s) (range_with_len 0 256) b ∙ (ap (option_map (has s)) (range_get 256 0 b below) ∙ ap (λ k. Some (has s k)) (zero-add b))
-
 and-true : (a b : Bool) → (a && b) ≡ true → (a ≡ true) × (b ≡ true)
 and-true true b e = (refl, e)
 and-true false b e = absurd (false≢true e)
@@ -159,10 +150,10 @@ arrives-single : (items : List Tree) (s : ByteSet) (u : List ℕ) (b : ℕ) → 
 arrives-single items s u b below free before known = (
   λ e.
       let both = and-true (has s b) before e in
-      ends-class items (members s) u b (member-has s b below ∙ ap Some both.0) (known.0 both.1),
+      ends-class items (members s) u b (members-at s b below ∙ ap Some both.0) (known.0 both.1),
   λ ends.
       let both = class-ends items (members s) u b free ends in
-      true-and (has s b) before (some_is (sym (member-has s b below) ∙ both.0)) (known.1 both.1),
+      true-and (has s b) before (some_is (sym (members-at s b below) ∙ both.0)) (known.1 both.1),
 )
 
 arrives-repeated : (items : List Tree) (s : ByteSet) (u : List ℕ) (b : ℕ) → b < 256 → EachAssertionOf (λ a. ⊥) (trees_of items) → (was behind : Bool) → Decides was (EndsHere (tree_of_items (items ++ any_of (members s) ∷ [])) u) → Decides behind (EndsHere (tree_of_items items) (u ++ b ∷ [])) → Decides (behind || (has s b && was)) (EndsHere (tree_of_items (items ++ any_of (members s) ∷ [])) (u ++ b ∷ []))
@@ -173,13 +164,13 @@ arrives-repeated items s u b below free was behind knew know = (
         | inl p ↦ inl (know.0 p)
         | inr p ↦
             let both = and-true (has s b) was p in
-            inr (member-has s b below ∙ ap Some both.0, knew.0 both.1)
+            inr (members-at s b below ∙ ap Some both.0, knew.0 both.1)
       ]),
   λ ends.
       true-or behind (has s b && was)
       (elim (any-ends items (members s) u b free ends) [
         | inl p ↦ inl (know.1 p)
-        | inr p ↦ inr (true-and (has s b) was (some_is (sym (member-has s b below) ∙ p.0)) (knew.1 p.1))
+        | inr p ↦ inr (true-and (has s b) was (some_is (sym (members-at s b below) ∙ p.0)) (knew.1 p.1))
       ]),
 )
 
