@@ -1,6 +1,11 @@
 pub mod ByteSetLemmas
 pub mod ListLemmas
+pub mod ContextLemmas
+pub mod ContextSetLemmas
 pub mod SpanLemmas
+pub mod StreamContexts
+pub mod WrittenOutLemmas
+pub mod EndAssertionLemmas
 pub mod ReportLemmas
 pub mod ToldLemmas
 pub mod NewLemmas

@@ -4,10 +4,17 @@ pub mod Members
 pub mod Lists
 pub mod Trees
 pub mod Assertions
+pub mod Contexts
+pub mod ContextSets
 pub mod Spans
+pub mod WrittenOut
+pub mod EndAssertions
+pub mod Fields
 pub mod Patterns
 pub mod Reports
 pub mod Told
 pub mod MatchText
 pub mod AssertionFree
 pub mod Laws
+pub mod ContextLaws
+pub mod WrittenOutLaws

@@ -1,0 +1,90 @@
+-- Lists cut at a separator: at most one cut is before the first, and at most one behind the last.
+use Rattle.std.proofs.Common.{◌≡◌, ◌≢◌, ℕ, suc, ◌+◌, ◌-◌, ◌<◌, ◌≤◌, true, false, eqb, List, [], ◌∷◌, ◌++◌, length, get_or, take, drop, Option, None, MatchOption, refl, sym, ap, ◌∙◌, subst, arith}
+use Rattle.std.proofs.lemmas.Bool.{eq-eqb, eqb-true, false≢true}
+use Rattle.std.proofs.lemmas.List.{take-append-drop, get_or-take, get_or-drop, drop_more, take_rest, length-take, length-drop}
+use Rattle.hs_base.specs.Lists.{Each}
+
+-- two pairs of equal parts
+pub record AreSame {A B : Type 0} (a a' : A) (b b' : B) : Type 0 where
+  pub left : a ≡ a'
+  pub right : b ≡ b'
+
+pub each-from_index : (P : ℕ → Type 0) (xs : List ℕ) → ((k : ℕ) → k < length xs → P (get_or xs k 0)) → Each P xs
+each-from_index P [] h = tt
+each-from_index P (x ∷ xs) h = (h 0 (omega arith), each-from_index P xs (λ k below. h (suc k) (omega arith)))
+
+pub each-append : (P : ℕ → Type 0) (xs ys : List ℕ) → Each P xs → Each P ys → Each P (xs ++ ys)
+each-append P [] ys p q = q
+each-append P (x ∷ xs) ys p q = (p.0, each-append P xs ys p.1 q)
+
+pub each-weaken : (P Q : ℕ → Type 0) (xs : List ℕ) → ((b : ℕ) → P b → Q b) → Each P xs → Each Q xs
+each-weaken P Q [] f p = tt
+each-weaken P Q (x ∷ xs) f p = (f x p.0, each-weaken P Q xs f p.1)
+
+-- a list with the separator has it
+pub no_separator : (c : ℕ) (xs ys : List ℕ) → Each (λ b. b ≢ c) (xs ++ c ∷ ys) → ⊥
+no_separator c [] ys each = each.0 refl
+no_separator c (x ∷ xs) ys each = no_separator c xs ys each.1
+
+-- the cut at the first separator is the only one before which none stands
+pub cut_once : (c : ℕ) (a b x y : List ℕ) → Each (λ n. n ≢ c) a → Each (λ n. n ≢ c) b → a ++ c ∷ x ≡ b ++ c ∷ y → AreSame a b x y
+cut_once c [] [] x y p q e = record { left = refl; right = cc }
+cut_once c [] (b ∷ bs) x y p q e = let same : c ≡ b = cc in absurd (q.0 (sym same))
+cut_once c (a ∷ as') [] x y p q e = let same : a ≡ c = cc in absurd (p.0 same)
+cut_once c (a ∷ as') (b ∷ bs) x y p q e =
+    let rest : as' ++ c ∷ x ≡ bs ++ c ∷ y = cc in
+    let same : a ≡ b = cc in
+    let both = cut_once c as' bs x y p.1 q.1 rest in
+    let tails : as' ≡ bs = both.left in
+    record { left = cc; right = both.right }
+
+-- the cut at the last separator is the only one behind which none stands
+pub cut_last_once : (c : ℕ) (a b x y : List ℕ) → Each (λ n. n ≢ c) x → Each (λ n. n ≢ c) y → a ++ c ∷ x ≡ b ++ c ∷ y → AreSame a b x y
+cut_last_once c [] [] x y p q e = record { left = refl; right = cc }
+cut_last_once c [] (b ∷ bs) x y p q e =
+    let rest : x ≡ bs ++ c ∷ y = cc in
+    absurd (no_separator c bs y (subst (λ l. Each (λ n. n ≢ c) l) rest p))
+cut_last_once c (a ∷ as') [] x y p q e =
+    let rest : as' ++ c ∷ x ≡ y = cc in
+    absurd (no_separator c as' x (subst (λ l. Each (λ n. n ≢ c) l) (sym rest) q))
+cut_last_once c (a ∷ as') (b ∷ bs) x y p q e =
+    let rest : as' ++ c ∷ x ≡ bs ++ c ∷ y = cc in
+    let same : a ≡ b = cc in
+    let both = cut_last_once c as' bs x y p q rest in
+    let tails : as' ≡ bs = both.left in
+    record { left = cc; right = both.right }
+
+-- no place has the byte
+pub each-nowhere : (c : ℕ) (xs : List ℕ) → ((k : ℕ) → 0 ≤ k → k < length xs → eqb (get_or xs k 0) c ≡ true → ⊥) → Each (λ b. b ≢ c) xs
+each-nowhere c xs none = each-from_index _ xs (λ k below e. none k (omega arith) below (eq-eqb _ _ e))
+
+-- no place before has the byte
+pub each-before : (c : ℕ) (xs : List ℕ) (at : ℕ) → at < length xs → ((k : ℕ) → 0 ≤ k → k < at → eqb (get_or xs k 0) c ≡ true → ⊥) → Each (λ b. b ≢ c) (take at xs)
+each-before c xs at within none =
+    each-from_index _ (take at xs) (λ k below e.
+    let inside : k < at = omega (arith, length-take at xs) in
+    none k (omega arith) inside (eq-eqb _ _ (sym (get_or-take at xs k 0 inside) ∙ e)))
+
+-- no place behind has the byte
+pub each-behind : (c : ℕ) (xs : List ℕ) (at : ℕ) → at < length xs → ((k : ℕ) → at + 1 ≤ k → k < length xs → eqb (get_or xs k 0) c ≡ true → ⊥) → Each (λ b. b ≢ c) (take (length xs - (at + 1)) (drop (at + 1) xs))
+each-behind c xs at within none =
+    subst
+    (λ ys. Each (λ b. b ≢ c) ys)
+    (sym (take_rest xs (at + 1)))
+    (each-from_index _ (drop (at + 1) xs) (λ k below e.
+    let inside : at + 1 + k < length xs = omega (arith, length-drop (at + 1) xs) in
+    none (at + 1 + k) (omega arith) inside (eq-eqb _ _ (sym (get_or-drop (at + 1) xs k 0) ∙ e))))
+
+-- the two parts, with the byte between
+pub cut_whole : (c : ℕ) (xs : List ℕ) (at : ℕ) → at < length xs → eqb (get_or xs at 0) c ≡ true → xs ≡ take at xs ++ c ∷ take (length xs - (at + 1)) (drop (at + 1) xs)
+cut_whole c xs at within here =
+    sym (take-append-drop at xs)
+    ∙ ap (λ ys. take at xs ++ ys) (drop_more xs at 0 within ∙ (ap (λ b. b ∷ drop (at + 1) xs) (eqb-true _ _ here) ∙ ap (λ ys. c ∷ ys) (sym (take_rest xs (at + 1)))))
+
+pub not_nil : (xs : List ℕ) → eqb (length xs) 0 ≡ false → xs ≢ []
+not_nil [] h e = false≢true (sym h)
+not_nil (x ∷ xs) h e = cc
+
+-- what holds where there is no value
+pub when_none : {A : Type 0} (r : Option A) (P : Type 0) (Q : A → Type 0) → r ≡ None → P → MatchOption r P Q
+when_none r P Q e p = subst (λ o. MatchOption o P Q) (sym e) p

@@ -1,0 +1,6 @@
+pub mod CutLemmas
+pub mod NumberLemmas
+pub mod SettingLemmas
+pub mod LineLemmas
+pub mod FileLemmas
+pub mod ReadingLemmas

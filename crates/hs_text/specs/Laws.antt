@@ -1,0 +1,24 @@
+-- What holds of every file.
+use Rattle.std.specs.Prelude.{◌≡◌, ℕ, List}
+use Rattle.hs_text.specs.EntryLines.{ListedEntry}
+use Rattle.hs_text.specs.PatternFile.{IsList, HasBadLine}
+
+-- A file is a list in at most one way.
+abbrev pub IsListOnce : Type 0
+IsListOnce = (file : List ℕ) (xs ys : List ListedEntry) → IsList file xs → IsList file ys → xs ≡ ys
+
+-- A file has at most one first bad line.
+abbrev pub IsBadOnce : Type 0
+IsBadOnce = (file : List ℕ) (m n : ℕ) → HasBadLine file m → HasBadLine file n → m ≡ n
+
+-- No file is a list and has a bad line.
+abbrev pub NeverBoth : Type 0
+NeverBoth = (file : List ℕ) (entries : List ListedEntry) (number : ℕ) → IsList file entries → HasBadLine file number → ⊥
+
+-- Every file is one of them: none is no list and has no bad line.
+abbrev pub NeverNeither : Type 0
+NeverNeither =
+    (file : List ℕ) →
+    ((entries : List ListedEntry) → IsList file entries → ⊥) →
+    ((number : ℕ) → HasBadLine file number → ⊥) →
+    ⊥
