@@ -11,6 +11,8 @@ mod match_command;
 mod output;
 mod request;
 mod scan;
+#[cfg(test)]
+mod tests;
 mod top;
 
 use fault::Fault;
