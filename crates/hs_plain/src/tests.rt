@@ -17,7 +17,7 @@ enum Step {
     Text(&'static [u8]),
     /// `.`: one byte but the line feed.
     Dot,
-    /// `.` over code points, of ranges that are short, since the plain program goes through each of them.
+    /// `.` over code points: one but the line feed.
     Point,
     /// An assertion.
     At(Assertion),
@@ -53,13 +53,7 @@ fn node(alloc: Global, stack: &mut Vec<Expr>, step: Step) -> Result<Expr, AllocE
         Step::Nothing => Ok(Expr::Empty),
         Step::Text(bytes) => text(alloc, bytes),
         Step::Dot => Ok(Expr::Class(ByteSet::NOT_NEWLINE)),
-        Step::Point => Ok(Expr::Points(vec![in alloc;
-            (0, 9),
-            (11, 0xFF),
-            (0x2000, 0x20FF),
-            (0xD700, 0xE0FF),
-            (0x1F600, 0x1F6FF),
-        ]?)),
+        Step::Point => Ok(Expr::Points(vec![in alloc; (0, 9), (11, 0x10FFFF)]?)),
         Step::At(assertion) => Ok(Expr::Assert(assertion)),
         Step::Row(count) => Ok(Expr::Cat(parts(alloc, stack, count)?)),
         Step::Either(count) => Ok(Expr::Alt(parts(alloc, stack, count)?)),
