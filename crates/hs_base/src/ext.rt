@@ -1,11 +1,13 @@
 use crate::entry::{ExprId, Flags};
 
-/// The extended parameters of an expression (Hyperscan Developer's Reference Guide, `hs_expr_ext_t`): which are given, a
-/// bit each, and the least and the greatest offset in bytes at which a match may end, both inclusive.
+/// The extended parameters of an expression (Hyperscan Developer's Reference Guide, `hs_expr_ext_t`).
 #[derive(Clone, Copy, Debug, PartialEq, Eq)]
 pub struct Ext {
+    /// Which parameters are given, a bit each.
     pub bits: u8,
+    /// The least offset in bytes at which a match may end.
     pub min_offset: u64,
+    /// The greatest offset in bytes at which a match may end.
     pub max_offset: u64,
 }
 
@@ -31,8 +33,11 @@ impl Ext {
 /// An expression of a list, with what is asked of its matches.
 #[derive(Debug, Drop)]
 pub struct Entry {
+    /// The identifier that the expression is reported with.
     pub id: ExprId,
+    /// The flags that are set.
     pub flags: Flags,
+    /// The parameters that are given, and the missing values of the others.
     pub ext: Ext,
     /// The expression's bytes as they stand in the list.
     pub text: Vec<u8>,

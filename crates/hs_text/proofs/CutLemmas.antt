@@ -1,7 +1,6 @@
 -- Lists cut at a separator: at most one cut is before the first, and at most one behind the last.
-use Rattle.std.proofs.Common.{◌≡◌, ◌≢◌, ℕ, suc, ◌+◌, ◌-◌, ◌<◌, ◌≤◌, true, false, eqb, List, [], ◌∷◌, ◌++◌, length, get_or, take, drop, Option, None, MatchOption, refl, sym, ap, ◌∙◌, subst, arith}
-use Rattle.std.proofs.lemmas.Bool.{eq-eqb, eqb-true, false≢true}
-use Rattle.std.proofs.lemmas.List.{take-append-drop, get_or-take, get_or-drop, drop_more, take_rest, length-take, length-drop}
+use Rattle.std.proofs.Common.{◌≡◌, ◌≢◌, ℕ, suc, ◌<◌, false, eqb, List, [], ◌∷◌, ◌++◌, length, get_or, Option, None, MatchOption, refl, sym, subst, arith}
+use Rattle.std.proofs.lemmas.Bool.{false≢true}
 use Rattle.hs_base.specs.Lists.{Each}
 
 -- two pairs of equal parts
@@ -53,33 +52,6 @@ cut_last_once c (a ∷ as') (b ∷ bs) x y p q e =
     let both = cut_last_once c as' bs x y p q rest in
     let tails : as' ≡ bs = both.left in
     record { left = cc; right = both.right }
-
--- no place has the byte
-pub each-nowhere : (c : ℕ) (xs : List ℕ) → ((k : ℕ) → 0 ≤ k → k < length xs → eqb (get_or xs k 0) c ≡ true → ⊥) → Each (λ b. b ≢ c) xs
-each-nowhere c xs none = each-from_index _ xs (λ k below e. none k (omega arith) below (eq-eqb _ _ e))
-
--- no place before has the byte
-pub each-before : (c : ℕ) (xs : List ℕ) (at : ℕ) → at < length xs → ((k : ℕ) → 0 ≤ k → k < at → eqb (get_or xs k 0) c ≡ true → ⊥) → Each (λ b. b ≢ c) (take at xs)
-each-before c xs at within none =
-    each-from_index _ (take at xs) (λ k below e.
-    let inside : k < at = omega (arith, length-take at xs) in
-    none k (omega arith) inside (eq-eqb _ _ (sym (get_or-take at xs k 0 inside) ∙ e)))
-
--- no place behind has the byte
-pub each-behind : (c : ℕ) (xs : List ℕ) (at : ℕ) → at < length xs → ((k : ℕ) → at + 1 ≤ k → k < length xs → eqb (get_or xs k 0) c ≡ true → ⊥) → Each (λ b. b ≢ c) (take (length xs - (at + 1)) (drop (at + 1) xs))
-each-behind c xs at within none =
-    subst
-    (λ ys. Each (λ b. b ≢ c) ys)
-    (sym (take_rest xs (at + 1)))
-    (each-from_index _ (drop (at + 1) xs) (λ k below e.
-    let inside : at + 1 + k < length xs = omega (arith, length-drop (at + 1) xs) in
-    none (at + 1 + k) (omega arith) inside (eq-eqb _ _ (sym (get_or-drop (at + 1) xs k 0) ∙ e))))
-
--- the two parts, with the byte between
-pub cut_whole : (c : ℕ) (xs : List ℕ) (at : ℕ) → at < length xs → eqb (get_or xs at 0) c ≡ true → xs ≡ take at xs ++ c ∷ take (length xs - (at + 1)) (drop (at + 1) xs)
-cut_whole c xs at within here =
-    sym (take-append-drop at xs)
-    ∙ ap (λ ys. take at xs ++ ys) (drop_more xs at 0 within ∙ (ap (λ b. b ∷ drop (at + 1) xs) (eqb-true _ _ here) ∙ ap (λ ys. c ∷ ys) (sym (take_rest xs (at + 1)))))
 
 pub not_nil : (xs : List ℕ) → eqb (length xs) 0 ≡ false → xs ≢ []
 not_nil [] h e = false≢true (sym h)

@@ -1,13 +1,13 @@
 -- Files: each is a list in one way or has one first bad line, and never both.
-use Rattle.std.proofs.Common.{◌≡◌, ◌≢◌, ℕ, zero, suc, ◌+◌, ◌<◌, ◌≤◌, Bool, true, false, eqb, List, [], ◌∷◌, ◌++◌, length, refl, sym, ap, ◌∙◌, subst, arith, inl, inr, ◌⊎◌}
+use Rattle.std.proofs.Common.{◌≡◌, ◌≢◌, ℕ, zero, suc, ◌<◌, Bool, true, false, eqb, List, [], ◌∷◌, ◌++◌, length, refl, sym, ap, ◌∙◌, subst, arith}
 use Rattle.std.proofs.lemmas.Bool.{eq-eqb, eqb-true, false≢true}
 use Rattle.std.proofs.lemmas.List.{length-append}
 use Rattle.hs_base.specs.Lists.{Each}
 use Rattle.hs_base.specs.Assertions.{line_feed}
-use Rattle.hs_text.specs.Lines.{carriage_return, IsLineOf, plain, returned, Begins, unended, ended}
+use Rattle.hs_text.specs.Lines.{IsLineOf, plain, returned, Begins, unended, ended}
 use Rattle.hs_text.specs.EntryLines.{ListedEntry, IsEntryLine}
 use Rattle.hs_text.specs.PatternFile.{IsSkipped, IsBad, IsList, nothing, skipped, listed, HasBadLine, first, behind_skipped, behind_entry}
-use Rattle.hs_text.specs.Laws.{IsListOnce, IsBadOnce, NeverBoth, NeverNeither}
+use Rattle.hs_text.specs.Laws.{NeverNeither}
 use Rattle.hs_text.proofs.LineLemmas.{begins_once, entry_once, skipped-no_entry}
 
 -- an empty file has no line

@@ -1,14 +1,14 @@
 -- Lines: a file begins with one line, and a line says one thing.
-use Rattle.std.proofs.Common.{◌≡◌, ◌≢◌, ℕ, ◌<◌, ◌≤◌, Bool, true, false, eqb, List, [], ◌∷◌, ◌++◌, length, get_or, refl, sym, ap, ◌∙◌, subst, arith, codes, MatchBool}
+use Rattle.std.proofs.Common.{◌≡◌, ◌≢◌, ℕ, ◌≤◌, Bool, true, false, eqb, List, [], ◌∷◌, ◌++◌, length, get_or, refl, sym, ap, ◌∙◌, subst, arith, MatchBool}
 use Rattle.std.proofs.lemmas.Bool.{eq-eqb, eqb-true, false≢true}
 use Rattle.std.proofs.lemmas.List.{same_from_push}
 use Rattle.hs_base.specs.Lists.{Each}
 use Rattle.hs_base.specs.Assertions.{line_feed}
 use Rattle.hs_base.specs.declared.ext.Ext.{Ext}
 use Rattle.hs_text.specs.Numbers.{IsDigit, value_from}
-use Rattle.hs_text.specs.FlagLetters.{flags_from, AreFlags}
+use Rattle.hs_text.specs.FlagLetters.{AreFlags}
 use Rattle.hs_text.specs.Parameters.{no_parameters, AreSettings}
-use Rattle.hs_text.specs.Lines.{carriage_return, IsLineOf, plain, returned, Begins, unended, ended}
+use Rattle.hs_text.specs.Lines.{IsLineOf, plain, returned, Begins, unended, ended}
 use Rattle.hs_text.specs.EntryLines.{ListedEntry, HasTail, bare, braced, IsEntryLine}
 use Rattle.hs_text.specs.PatternFile.{IsSkipped, empty, comment}
 use Rattle.hs_text.proofs.CutLemmas.{AreSame, each-append, no_separator, cut_once, cut_last_once}

@@ -1,15 +1,10 @@
 -- Numbers in digits and flags in letters: what their bytes aren't, and that they are read in one way.
-use Rattle.std.proofs.Common.{◌≡◌, ◌≢◌, ℕ, zero, suc, ◌+◌, ◌-◌, ◌*◌, ◌<◌, ◌≤◌, List, [], ◌∷◌, ◌++◌, length, get_or, drop, sym, ◌∙◌, subst, arith, bit_or}
+use Rattle.std.proofs.Common.{◌≡◌, ◌≢◌, ℕ, ◌+◌, ◌-◌, ◌*◌, ◌<◌, ◌≤◌, List, [], ◌∷◌, length, get_or, drop, sym, ◌∙◌, subst, arith}
 use Rattle.std.proofs.lemmas.List.{at_drop_more}
 use Rattle.hs_base.specs.Lists.{Each}
 use Rattle.hs_text.specs.Numbers.{IsDigit, value_from, IsNumber}
-use Rattle.hs_text.specs.FlagLetters.{flag_bit, flags_from, AreFlags}
+use Rattle.hs_text.specs.FlagLetters.{flag_bit, AreFlags}
 use Rattle.hs_text.proofs.CutLemmas.{each-weaken}
-
-pub each-at : (P : ℕ → Type 0) (xs : List ℕ) (k : ℕ) → Each P xs → k < length xs → P (get_or xs k 0)
-each-at P [] k each below = absurd (omega arith)
-each-at P (x ∷ xs) zero each below = each.0
-each-at P (x ∷ xs) (suc k) each below = each-at P xs k each.1 (omega arith)
 
 -- a number grows as digits are put behind it
 pub value_from-le : (n : ℕ) (digits : List ℕ) → n ≤ value_from n digits

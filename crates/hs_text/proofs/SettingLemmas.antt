@@ -1,13 +1,13 @@
 -- Settings of parameters: what their bytes aren't, and that they are read in one way.
-use Rattle.std.proofs.Common.{◌≡◌, ◌≢◌, ℕ, ◌<◌, ◌≤◌, Bool, true, false, eqb, cond, List, [], ◌∷◌, ◌++◌, length, get_or, refl, sym, ap, ◌∙◌, subst, arith, codes, rules, Option, Some, None, MatchOption}
+use Rattle.std.proofs.Common.{◌≡◌, ◌≢◌, ℕ, ◌≤◌, eqb, cond, List, ◌∷◌, ◌++◌, get_or, refl, sym, ap, ◌∙◌, subst, arith, rules, Option, Some, None, MatchOption}
 use Rattle.hs_base.specs.Lists.{Each}
 use Rattle.hs_base.specs.declared.ext.Ext.{Ext}
 use Rattle.hs_text.specs.declared.parameter.Parameter.{Parameter}
 use Rattle.hs_text.specs.declared.parameter.Parameter.TheVariants.{MinOffset, MaxOffset, MinLength, EditDistance, HammingDistance}
 use Rattle.hs_text.specs.Numbers.{IsDigit, value_from}
-use Rattle.hs_text.specs.Parameters.{name_of, bit_of, with_value, no_parameters, Sets, AreSettings, one, more}
+use Rattle.hs_text.specs.Parameters.{name_of, with_value, no_parameters, Sets, AreSettings, one, more}
 use Rattle.hs_text.proofs.CutLemmas.{AreSame, each-append, each-weaken, no_separator, cut_once}
-use Rattle.hs_text.proofs.NumberLemmas.{number_once, number_apart}
+use Rattle.hs_text.proofs.NumberLemmas.{number_apart}
 
 -- one of `_` to `z`
 abbrev pub IsNameByte : ℕ → Type 0

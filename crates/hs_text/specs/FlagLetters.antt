@@ -1,5 +1,5 @@
 -- The flags of an expression, written as letters.
-use Rattle.std.specs.Prelude.{◌≡◌, ℕ, ◌+◌, ◌*◌, ◌<◌, ◌==◌, if◌then◌else◌, List, [], ◌∷◌, bit_or, codes}
+use Rattle.std.specs.Prelude.{◌≡◌, ℕ, ◌*◌, ◌<◌, ◌==◌, if◌then◌else◌, List, [], ◌∷◌, bit_or, codes}
 use Rattle.hs_base.specs.Lists.{Each}
 
 -- the bit of a letter among letters, of which the first has the bit given and each next one twice the bit before it; no

@@ -1,5 +1,5 @@
 -- The extended parameters of an expression, written as `name=N` with commas between.
-use Rattle.std.specs.Prelude.{◌≡◌, ℕ, ◌^◌, List, ◌∷◌, ◌++◌, bit_and, bit_or, codes}
+use Rattle.std.specs.Prelude.{◌≡◌, ℕ, ◌^◌, List, ◌++◌, bit_and, bit_or, codes}
 use Rattle.hs_base.specs.declared.ext.Ext.{Ext}
 use Rattle.hs_text.specs.declared.parameter.Parameter.{Parameter}
 use Rattle.hs_text.specs.declared.parameter.Parameter.TheVariants.{MinOffset, MaxOffset, MinLength, EditDistance, HammingDistance}
@@ -27,11 +27,11 @@ no_parameters = record { bits = 0; min_offset = 0; max_offset = 1844674407370955
 
 -- the parameters with one more; of those that aren't offsets only the bit is kept
 abbrev pub with_value : Ext → Parameter → ℕ → Ext
-with_value ext MinOffset value = record ext { bits = bit_or ext.bits 1; min_offset = value }
-with_value ext MaxOffset value = record ext { bits = bit_or ext.bits 2; max_offset = value }
-with_value ext MinLength value = record ext { bits = bit_or ext.bits 4 }
-with_value ext EditDistance value = record ext { bits = bit_or ext.bits 8 }
-with_value ext HammingDistance value = record ext { bits = bit_or ext.bits 16 }
+with_value ext MinOffset value = record ext { bits = bit_or ext.bits (bit_of MinOffset); min_offset = value }
+with_value ext MaxOffset value = record ext { bits = bit_or ext.bits (bit_of MaxOffset); max_offset = value }
+with_value ext MinLength value = record ext { bits = bit_or ext.bits (bit_of MinLength) }
+with_value ext EditDistance value = record ext { bits = bit_or ext.bits (bit_of EditDistance) }
+with_value ext HammingDistance value = record ext { bits = bit_or ext.bits (bit_of HammingDistance) }
 
 -- The text is `name=N`, of a parameter that isn't given before, and gives it.
 pub record Sets (text : List ℕ) (before after : Ext) : Type 0 where

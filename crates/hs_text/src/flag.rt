@@ -4,6 +4,29 @@ ghost use Rattle.hs_text.specs.FlagLetters.{flag_bit, AreFlags};
 
 use hs_base::Flags;
 
+// The bit of each flag (Hyperscan Developer's Reference Guide, "Pattern flags").
+const CASELESS: u16 = 1;
+
+const DOTALL: u16 = 2;
+
+const MULTILINE: u16 = 4;
+
+const SINGLEMATCH: u16 = 8;
+
+const ALLOWEMPTY: u16 = 16;
+
+const UTF8: u16 = 32;
+
+const UCP: u16 = 64;
+
+const PREFILTER: u16 = 128;
+
+const SOM_LEFTMOST: u16 = 256;
+
+const COMBINATION: u16 = 512;
+
+const QUIET: u16 = 1024;
+
 /// The flags that the letters name, in any order; a letter that stands there twice means nothing more.
 pub fn flags_of(letters: &[u8]) -> Option<Flags>
     ensures { MatchOption result
@@ -39,25 +62,3 @@ fn bit_of(letter: u8) -> Option<u16>
         _ => None,
     }
 }
-
-const CASELESS: u16 = 1;
-
-const DOTALL: u16 = 2;
-
-const MULTILINE: u16 = 4;
-
-const SINGLEMATCH: u16 = 8;
-
-const ALLOWEMPTY: u16 = 16;
-
-const UTF8: u16 = 32;
-
-const UCP: u16 = 64;
-
-const PREFILTER: u16 = 128;
-
-const SOM_LEFTMOST: u16 = 256;
-
-const COMBINATION: u16 = 512;
-
-const QUIET: u16 = 1024;

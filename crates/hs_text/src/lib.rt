@@ -14,4 +14,3 @@ mod tests;
 
 pub use fault::ListFault;
 pub use list::read_list;
-pub use parameter::Parameter;

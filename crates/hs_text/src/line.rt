@@ -31,6 +31,7 @@ pub struct EntryParts<'a> {
     pub id: ExprId,
     pub flags: Flags,
     pub ext: Ext,
+    /// The bytes between `:/` and the line's last `/`.
     pub text: &'a [u8],
 }
 

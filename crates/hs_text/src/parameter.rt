@@ -47,7 +47,7 @@ impl Parameter {
     }
 
     /// The parameter's bit.
-    pub fn bit(&self) -> u8
+    fn bit(&self) -> u8
         ensures { result ≡ bit_of self.now }
     {
         match self {

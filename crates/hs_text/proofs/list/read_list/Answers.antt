@@ -1,4 +1,4 @@
-use Rattle.std.proofs.Common.{arith, length, sym, ◌∙◌}
+use Rattle.std.proofs.Common.{arith, sym, ◌∙◌}
 use Rattle.hs_text.specs.PatternFile.{first}
 use Rattle.hs_text.proofs.ReadingLemmas.{list_step, bad_step, behind_shorter, list_end}
 use Rattle.hs_text.proofs.list.read_list.Goals as goal

@@ -1,0 +1,3 @@
+pub mod Automata
+pub mod Bits
+pub mod Engines

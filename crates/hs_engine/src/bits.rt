@@ -1,0 +1,42 @@
+//! Bits in a row of bytes: the only functions that touch the bits of a region.
+
+ghost use Rattle.std.specs.Prelude.{◌≡◌, ℕ, ◌*◌, ◌<◌, IsTrue, ◌↔◌, ◌==◌, ◌||◌, length};
+ghost use Rattle.hs_engine.specs.Bits.{AreZero, has_bit};
+
+/// How many bits a byte has.
+pub const BYTE_BITS: usize = 8;
+
+/// Whether the bit of that number is set.
+#[tactic(auto, using(std::proofs::lemmas::Nat::Bits::shr_and_one), unfolding(crate::specs::Bits::has_bit))]
+pub fn contains_bit(bytes: &[u8], bit: usize) -> bool
+    requires { bit < 8 * length bytes.now }
+    ensures { result ≡ has_bit bytes.now bit }
+{
+    (bytes[bit / BYTE_BITS] >> (bit % BYTE_BITS)) & 1 == 1
+}
+
+/// Sets the bit of that number.
+pub fn insert_bit(bytes: &mut [u8], bit: usize)
+    requires { bit < 8 * length bytes.old }
+    ensures len { length bytes.new ≡ length bytes.old }
+    ensures bits { (k : ℕ) → has_bit bytes.new k ≡ ((k == bit) || has_bit bytes.old k) }
+{
+    bytes[bit / BYTE_BITS] |= 1 << (bit % BYTE_BITS);
+}
+
+/// Unsets every bit.
+pub fn clear_bits(bytes: &mut [u8])
+    ensures len { length bytes.new ≡ length bytes.old }
+    ensures zero { AreZero bytes.new }
+{
+    for byte in bytes.iter_mut() {
+        *byte = 0;
+    }
+}
+
+/// Whether no bit is set.
+pub fn is_zero(bytes: &[u8]) -> bool
+    ensures { IsTrue result ↔ AreZero bytes.now }
+{
+    bytes.iter().all(|byte| *byte == 0)
+}

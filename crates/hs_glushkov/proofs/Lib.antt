@@ -1,0 +1,5 @@
+pub mod PositionLemmas
+pub mod AlikeLemmas
+pub mod AgreementLemmas
+pub mod CountLemmas
+pub mod PlainLemmas

@@ -1,0 +1,270 @@
+-- Bits of a field as they move over a byte.
+use Rattle.std.proofs.Common.{◌≡◌, ℕ, zero, suc, ◌+◌, ◌*◌, ◌/◌, ◌%◌, ◌<◌, ◌≤◌, Bool, true, false, ◌&&◌, ◌||◌, List, [], ◌∷◌, ◌++◌, length, get_or, take, replicate, Some, None, slice_get, IsTrue, eqb, refl, sym, ap, subst, ◌∙◌, inl, inr, arith, vec_len}
+use Rattle.std.specs.Prelude.{nat_lt, slice_index_or}
+use Rattle.std.specs.List.{list_any}
+use Rattle.std.specs.Int.{bit_at}
+use Rattle.std.proofs.lemmas.Bool.{cases_eq, cases_lt, eq-eqb, eqb-true, ne_eqb, lt-ltb, le-ltb}
+use Rattle.std.proofs.lemmas.Nat.Bits.{bit_at-zero}
+use Rattle.std.proofs.lemmas.Option.{slice_get_past, slice_get_within}
+use Rattle.std.proofs.lemmas.List.{get_or_past, get_or-replicate, length-replicate}
+use Rattle.std.proofs.lemmas.List.Folds.{list_any_more, list_any_none, Any-from_list_any, list_any-from_Any}
+use Rattle.hs_base.specs.declared.context.Next.{Next}
+use Rattle.hs_base.specs.declared.context.Prev.{Prev}
+use Rattle.hs_base.specs.Contexts.{Context, class_of, prev_at, context_of}
+use Rattle.hs_base.specs.ContextSets.{has_context}
+use Rattle.hs_base.specs.Trees.{Tree}
+use Rattle.hs_base.specs.Fields.{Leaves}
+use Rattle.hs_base.specs.WrittenOut.{Core, write_out, IsReached, set_of}
+use Rattle.hs_base.proofs.ContextLemmas.{first_of_both, second_of_both, of_both, of_either, left_of_either, right_of_either}
+use Rattle.hs_engine.specs.declared.automaton.Automaton.{Automaton}
+use Rattle.hs_engine.specs.declared.automaton.Edge.{Edge}
+use Rattle.hs_engine.specs.Automata.{in_mask, in_set, takes, enters, accepts, joins, follows}
+use Rattle.hs_engine.specs.Bits.{AreZero, has_bit}
+use Rattle.hs_engine.specs.Engines.{IsQuiet}
+use Rattle.hs_engine.proofs.BitLemmas.{bits-zero}
+use Rattle.hs_glushkov.specs.Positions.{null, enter, accept, follow}
+use Rattle.hs_glushkov.specs.Agreement.{StepsTo, steps_in, steps_on, IsAccepting}
+use Rattle.hs_glushkov.specs.Tables.{IsFor, Runs, IsField, leads_to, is_moved}
+use Rattle.hs_glushkov.proofs.AgreementLemmas.{reached-steps, steps-reached, leaves-accepting, accepting-leaves}
+
+pub not-true : (b : Bool) → (b ≡ true → ⊥) → b ≡ false
+not-true true h = absurd (h refl)
+not-true false h = refl
+
+pub true-false : {A : Type 0} (b : Bool) → b ≡ true → b ≡ false → A
+true-false b is isnt = absurd (let e : true ≡ false = sym is ∙ isnt in cc)
+
+pub same-truth : (a b : Bool) → (a ≡ true → b ≡ true) → (b ≡ true → a ≡ true) → a ≡ b
+same-truth true b there back = sym (there refl)
+same-truth false true there back = back refl
+same-truth false false there back = refl
+
+or-turned : (p a b : Bool) → (p || (a || b)) ≡ ((a || p) || b)
+or-turned true true b = refl
+or-turned true false b = refl
+or-turned false true b = refl
+or-turned false false b = refl
+
+-- one more edge
+pub led-more : (p : Edge → Bool) (edges : List Edge) (i : ℕ) (edge : Edge) (before after first : Bool) → i < length edges → get_or edges i edge ≡ edge →
+    before ≡ (list_any p (take i edges) || first) → after ≡ (p edge || before) → after ≡ (list_any p (take (i + 1) edges) || first)
+led-more p edges i edge before after first below there known step =
+    let more : list_any p (take (i + 1) edges) ≡ (list_any p (take i edges) || p (get_or edges i edge)) = list_any_more p edges i edge below in
+    step
+    ∙ (ap (λ b. p edge || b) known
+    ∙ (or-turned (p edge) (list_any p (take i edges)) first
+    ∙ ap (λ b. b || first) (sym (more ∙ ap (λ e. list_any p (take i edges) || p e) there))))
+
+seam : (a b : Bool) → a ≡ b → ((true && a) || (false && b)) ≡ (true && b)
+seam true b same = same
+seam false b same = same
+
+-- one more position
+pub moved-more : (f : ℕ → Bool) (p k : ℕ) → ((eqb k p && f p) || (nat_lt k p && f k)) ≡ (nat_lt k (p + 1) && f k)
+moved-more f p k =
+    elim (cases_eq k p) [
+      | inl same ↦
+          let below : k < p + 1 = omega arith in
+          let above : p ≤ k = omega arith in
+          rw (eq-eqb k p same, le-ltb k p above, lt-ltb k (p + 1) below) (seam (f p) (f k) (ap f (sym same)))
+      | inr apart ↦
+          elim (cases_lt k p) [
+            | inl under ↦
+                let below : k < p + 1 = omega arith in
+                rw (ne_eqb k p apart, lt-ltb k p under, lt-ltb k (p + 1) below) refl
+            | inr over ↦
+                let above : p + 1 ≤ k = omega arith in
+                rw (ne_eqb k p apart, le-ltb k p over, le-ltb k (p + 1) above) refl
+          ]
+    ]
+
+-- bytes that are zero
+
+zero-all : (bytes : List ℕ) → AreZero bytes → (i : ℕ) → get_or bytes i 0 ≡ 0
+zero-all bytes zeros i =
+    elim (cases_lt i (length bytes)) [
+      | inl below ↦ zeros i below
+      | inr above ↦ get_or_past bytes i 0 above
+    ]
+
+pub zero-bits : (bytes : List ℕ) → AreZero bytes → (k : ℕ) → has_bit bytes k ≡ false
+zero-bits bytes zeros = bits-zero bytes (zero-all bytes zeros)
+
+same-zeros : (xs ys : List ℕ) → length xs ≡ length ys → ((i : ℕ) → get_or xs i 0 ≡ 0) → ((i : ℕ) → get_or ys i 0 ≡ 0) → xs ≡ ys
+same-zeros [] [] len zx zy = refl
+same-zeros [] (y ∷ ys) len zx zy = absurd (omega arith)
+same-zeros (x ∷ xs) [] len zx zy = absurd (omega arith)
+same-zeros (x ∷ xs) (y ∷ ys) len zx zy =
+    let heads : x ≡ y = zx 0 ∙ sym (zy 0) in
+    let tails : xs ≡ ys = same-zeros xs ys (omega arith) (λ i. zx (suc i)) (λ i. zy (suc i)) in
+    ap (λ z. z ∷ xs) heads ∙ ap (λ zs. y ∷ zs) tails
+
+pub same-zero : (xs ys : List ℕ) → length xs ≡ length ys → AreZero xs → AreZero ys → xs ≡ ys
+same-zero xs ys len zx zy = same-zeros xs ys len (zero-all xs zx) (zero-all ys zy)
+
+of_three : (a b c : Bool) → a ≡ true → (b && c) ≡ true → (a && b && c) ≡ true
+of_three true b c first rest = rest
+of_three false b c first rest = absurd (let e : false ≡ true = first in cc)
+
+three_of : (a b c : Bool) → (a && b && c) ≡ true → (a ≡ true) × (b ≡ true) × (c ≡ true)
+three_of true true true all = (refl, refl, refl)
+three_of true true false all = absurd (let e : false ≡ true = all in cc)
+three_of true false c all = absurd (let e : false ≡ true = all in cc)
+three_of false b c all = absurd (let e : false ≡ true = all in cc)
+
+-- an edge leads from a position whose bit is set
+
+module _ (a : Automaton) (bytes : List ℕ) (c : Context) (k : ℕ) where
+  -- the tests of an edge, in the order in which each names them
+  joined : (x : ℕ) (edge : Edge) → eqb edge.from x ≡ true → (eqb edge.to k && has_context edge.mask c) ≡ true → joins x k c edge ≡ true
+  joined x edge from rest = of_three (eqb edge.from x) (eqb edge.to k) (has_context edge.mask c) from rest
+
+  led_by : (x : ℕ) (edge : Edge) → has_bit bytes x ≡ true → joins x k c edge ≡ true → leads_to bytes c k edge ≡ true
+  led_by x edge set is =
+      let three : (eqb edge.from x ≡ true) × (eqb edge.to k ≡ true) × (has_context edge.mask c ≡ true) = three_of (eqb edge.from x) (eqb edge.to k) (has_context edge.mask c) is in
+      let from_x : edge.from ≡ x = eqb-true edge.from x three.0 in
+      of_both (eqb k edge.to) (has_bit bytes edge.from && has_context edge.mask c) (eq-eqb k edge.to (sym (eqb-true edge.to k three.1)))
+      (of_both (has_bit bytes edge.from) (has_context edge.mask c) (subst (λ y. has_bit bytes y ≡ true) (sym from_x) set) three.2)
+
+  pub led-follows : list_any (leads_to bytes c k) a.edges.items ≡ true → (x : ℕ) × (has_bit bytes x ≡ true) × (follows a x k c ≡ true)
+  led-follows led =
+      let (i, edge, below, there, is) = Any-from_list_any (leads_to bytes c k) a.edges.items led in
+      let to : eqb k edge.to ≡ true = first_of_both (eqb k edge.to) (has_bit bytes edge.from && has_context edge.mask c) is in
+      let rest : (has_bit bytes edge.from && has_context edge.mask c) ≡ true = second_of_both (eqb k edge.to) (has_bit bytes edge.from && has_context edge.mask c) is in
+      let to_k : (eqb edge.to k && has_context edge.mask c) ≡ true =
+          of_both (eqb edge.to k) (has_context edge.mask c) (eq-eqb edge.to k (sym (eqb-true k edge.to to))) (second_of_both (has_bit bytes edge.from) (has_context edge.mask c) rest) in
+      (edge.from, first_of_both (has_bit bytes edge.from) (has_context edge.mask c) rest,
+        list_any-from_Any (joins edge.from k c) a.edges.items (i, edge, below, there, joined edge.from edge (eq-eqb edge.from edge.from refl) to_k))
+
+  pub follows-led : (x : ℕ) → has_bit bytes x ≡ true → follows a x k c ≡ true → list_any (leads_to bytes c k) a.edges.items ≡ true
+  follows-led x set follows =
+      let (i, edge, below, there, is) = Any-from_list_any (joins x k c) a.edges.items follows in
+      list_any-from_Any (leads_to bytes c k) a.edges.items (i, edge, below, there, led_by x edge set is)
+
+-- beyond its positions an automaton takes no byte
+no-set : (a : Automaton) (b k : ℕ) → vec_len a.sets ≤ k → takes a k b ≡ false
+no-set a b k above =
+    let past : length a.sets.items ≤ k = omega (arith, a.sets.ok.0) in
+    ap (λ o. in_set o b) (slice_get_past a.sets.items k past)
+
+-- the field over one more byte
+
+module _ (a : Automaton) (r : Core) (tables : IsFor a r) (u : List ℕ) (entered : List Bool) (len : length entered ≡ length u) (old : List ℕ) (field : IsField old r u entered)
+    (b : ℕ) (byte : b < 256) (entering : Bool) (led : List ℕ) (all_led : (k : ℕ) → has_bit led k ≡ list_any (leads_to old (context_of u (class_of b)) k) a.edges.items) where
+  abbrev Here : Context
+  Here = context_of u (class_of b)
+
+  moved-steps : (k : ℕ) → is_moved a led Here entering b k ≡ true → StepsTo r u entered b entering k
+  moved-steps k moved =
+      let lead : Bool = has_bit led k || (entering && enters a k Here) in
+      let member : slice_get (set_of r k) b ≡ Some true = (tables.sets k b byte).0 (second_of_both lead (takes a k b) moved) in
+      elim (of_either (has_bit led k) (entering && enters a k Here) (first_of_both lead (takes a k b) moved)) [
+        | inl on ↦
+            let (x, set, edge) = led-follows a old Here k (sym (all_led k) ∙ on) in
+            steps_on x member ((field x).0 set) (sym (tables.follows x k Here) ∙ edge)
+        | inr begin ↦
+            steps_in member (first_of_both entering (enters a k Here) begin) (sym (tables.enters k Here) ∙ second_of_both entering (enters a k Here) begin)
+      ]
+
+  steps-moved : (k : ℕ) → StepsTo r u entered b entering k → is_moved a led Here entering b k ≡ true
+  steps-moved k (steps_in member enters_now is) =
+      of_both (has_bit led k || (entering && enters a k Here)) (takes a k b)
+      (right_of_either (has_bit led k) (entering && enters a k Here) (of_both entering (enters a k Here) enters_now (tables.enters k Here ∙ is)))
+      ((tables.sets k b byte).1 member)
+  steps-moved k (steps_on x member reached is) =
+      of_both (has_bit led k || (entering && enters a k Here)) (takes a k b)
+      (left_of_either (has_bit led k) (entering && enters a k Here) (all_led k ∙ follows-led a old Here k x ((field x).1 reached) (tables.follows x k Here ∙ is)))
+      ((tables.sets k b byte).1 member)
+
+  takes-below : (k : ℕ) → takes a k b ≡ true → k < vec_len a.sets
+  takes-below k is =
+      elim (cases_lt k (vec_len a.sets)) [
+        | inl below ↦ below
+        | inr above ↦ true-false (takes a k b) is (no-set a b k above)
+      ]
+
+  pub field-step : (new : List ℕ) → ((k : ℕ) → has_bit new k ≡ (nat_lt k (vec_len a.sets) && is_moved a led Here entering b k)) → IsField new r (u ++ b ∷ []) (entered ++ entering ∷ [])
+  field-step new bits k =
+      (λ set.
+          let both : (nat_lt k (vec_len a.sets) && is_moved a led Here entering b k) ≡ true = sym (bits k) ∙ set in
+          steps-reached r u entered b entering k len (moved-steps k (second_of_both (nat_lt k (vec_len a.sets)) (is_moved a led Here entering b k) both)),
+        λ reached.
+          let moved : is_moved a led Here entering b k ≡ true = steps-moved k (reached-steps r u entered b entering k len reached) in
+          let below : k < vec_len a.sets = takes-below k (second_of_both (has_bit led k || (entering && enters a k Here)) (takes a k b) moved) in
+          bits k ∙ of_both (nat_lt k (vec_len a.sets)) (is_moved a led Here entering b k) (lt-ltb k (vec_len a.sets) below) moved)
+
+-- the same, where the context has another name
+pub field-step_in : (a : Automaton) (r : Core) (tables : IsFor a r) (u : List ℕ) (entered : List Bool) (len : length entered ≡ length u) (old : List ℕ) (field : IsField old r u entered) →
+    (b : ℕ) (byte : b < 256) (entering : Bool) (led : List ℕ) (here : Context) → context_of u (class_of b) ≡ here →
+    ((k : ℕ) → has_bit led k ≡ list_any (leads_to old here k) a.edges.items) → (new : List ℕ) →
+    ((k : ℕ) → has_bit new k ≡ (nat_lt k (vec_len a.sets) && is_moved a led here entering b k)) → IsField new r (u ++ b ∷ []) (entered ++ entering ∷ [])
+field-step_in a r tables u entered len old field b byte entering led here same =
+    let P : Context → Type 0 = λ h. ((k : ℕ) → has_bit led k ≡ list_any (leads_to old h k) a.edges.items) → (new : List ℕ) →
+        ((k : ℕ) → has_bit new k ≡ (nat_lt k (vec_len a.sets) && is_moved a led h entering b k)) → IsField new r (u ++ b ∷ []) (entered ++ entering ∷ []) in
+    subst P same (field-step a r tables u entered len old field b byte entering led)
+
+-- a step from a region at rest, without being entered, moves no position
+pub none-moved : (a : Automaton) (old : List ℕ) → AreZero old → (led : List ℕ) (here : Context) (b : ℕ) → ((k : ℕ) → has_bit led k ≡ list_any (leads_to old here k) a.edges.items) →
+    (k : ℕ) → is_moved a led here false b k ≡ false
+none-moved a old zeros led here b all_led k =
+    not-true (is_moved a led here false b k)
+    (λ moved.
+        elim (of_either (has_bit led k) (false && enters a k here) (first_of_both (has_bit led k || (false && enters a k here)) (takes a k b) moved)) [
+          | inl on ↦
+              let (x, set, edge) = led-follows a old here k (sym (all_led k) ∙ on) in
+              true-false (has_bit old x) set (zero-bits old zeros x)
+          | inr begin ↦ let e : false ≡ true = begin in cc
+        ])
+
+-- where the expression is left
+
+module _ (a : Automaton) (tree : Tree) (runs : Runs a tree) (u : List ℕ) (entered : List Bool) (region : List ℕ) (field : IsField region (write_out tree) u entered) (next : Next) where
+  pub bit-leaves : (x : ℕ) → has_bit region x ≡ true → accepts a x (context_of u next) ≡ true → Leaves tree u entered next
+  bit-leaves x set is =
+      accepting-leaves tree u entered next runs.plain runs.ends_last
+      (record { position = x; reached = (field x).0 set; accepts = sym (runs.tables.accepts x (context_of u next)) ∙ is })
+
+  pub leaves-bit : Leaves tree u entered next → (x : ℕ) × (has_bit region x ≡ true) × (accepts a x (context_of u next) ≡ true)
+  leaves-bit leaves =
+      let at : IsAccepting (write_out tree) u entered next = leaves-accepting tree u entered next runs.plain runs.ends_last leaves in
+      (at.position, (field at.position).1 at.reached, runs.tables.accepts at.position (context_of u next) ∙ at.accepts)
+
+-- a field without a bit
+
+no-bits_steps : (r : Core) (u : List ℕ) (entered : List Bool) (region : List ℕ) → IsField region r u entered → ((k : ℕ) → has_bit region k ≡ false) → (b y : ℕ) → StepsTo r u entered b false y → ⊥
+no-bits_steps r u entered region field none b y (steps_in member enters_now is) = let e : false ≡ true = enters_now in cc
+no-bits_steps r u entered region field none b y (steps_on x member reached is) = true-false (has_bit region x) ((field x).1 reached) (none x)
+
+pub field-quiet : (a : Automaton) (region : List ℕ) → AreZero region → IsQuiet (λ tree. Runs a tree) (λ tree u entered. IsField region (write_out tree) u entered)
+field-quiet a region zeros =
+    record {
+      stays = λ tree u entered runs len field b byte k.
+        (λ set. true-false (has_bit region k) set (zero-bits region zeros k),
+          λ reached. absurd (no-bits_steps (write_out tree) u entered region field (zero-bits region zeros) b k (reached-steps (write_out tree) u entered b false k len reached)));
+      leaves_nothing = λ tree u entered runs len field next leaves.
+        let (x, set, is) = leaves-bit a tree runs u entered region field next leaves in
+        true-false (has_bit region x) set (zero-bits region zeros x);
+    }
+
+-- no position is reached in the empty stream
+pub field-empty : (region : List ℕ) (r : Core) → AreZero region → IsField region r [] []
+field-empty region r zeros x =
+    (λ set. true-false (has_bit region x) set (zero-bits region zeros x), λ reached. absurd (let none : None ≡ Some true = reached.is_entered in cc))
+
+-- beyond the bytes no bit is set
+pub bits-past : (bytes : List ℕ) (k : ℕ) → 8 * length bytes ≤ k → has_bit bytes k ≡ false
+unfolding has_bit
+bits-past bytes k past =
+    let above : length bytes ≤ k / 8 = omega arith in
+    ap (λ n. eqb (bit_at n (k % 8)) 1) (get_or_past bytes (k / 8) 0 above) ∙ ap (λ n. eqb n 1) (bit_at-zero (k % 8))
+
+zeros-replicate : (n : ℕ) → AreZero (replicate n 0)
+zeros-replicate n i below = get_or-replicate n i 0 0 (omega (arith, length-replicate {A = ℕ} n 0))
+
+or-dropped : (x any z : Bool) → x ≡ (any || z) → z ≡ false → x ≡ any
+or-dropped x true z both none = both
+or-dropped x false z both none = both ∙ none
+
+-- where no bit was set before, those that edges lead to are set
+pub led-from_zeros : (led : List ℕ) (n k : ℕ) (any : Bool) → has_bit led k ≡ (any || has_bit (replicate n 0) k) → has_bit led k ≡ any
+led-from_zeros led n k any bits = or-dropped (has_bit led k) any (has_bit (replicate n 0) k) bits (zero-bits (replicate n 0) (zeros-replicate n) k)

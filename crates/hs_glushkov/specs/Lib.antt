@@ -1,0 +1,4 @@
+pub mod Positions
+pub mod Agreement
+pub mod Tables
+pub mod PlainEngines

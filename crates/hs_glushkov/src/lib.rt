@@ -1,0 +1,8 @@
+//! The position automaton of an expression (Glushkov, "The abstract theory of automata"), with tests of the context at
+//! each transition for its assertions.
+#![tactic(auto)]
+
+pub mod laws;
+mod plain;
+
+pub use plain::Plain;

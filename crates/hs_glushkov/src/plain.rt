@@ -1,0 +1,214 @@
+//! The engine that goes through the positions one by one: it keeps one bit for each position that is reached.
+
+ghost use Rattle.std.specs.Prelude.{◌≡◌, ◌↔◌, ℕ, ◌+◌, ◌*◌, ◌/◌, ◌^◌, ◌<◌, ◌≤◌, Bool, true, false, ◌&&◌, ◌||◌, ◌==◌, nat_lt, length, vec_len, IsTrue, All, IfOk, slice_get};
+ghost use Rattle.std.specs.List.{list_any};
+ghost use Rattle.hs_base.specs.declared.context.Next.{Next};
+ghost use Rattle.hs_base.specs.Contexts.{Context};
+ghost use Rattle.hs_base.specs.ContextSets.{has_context, has_next};
+ghost use Rattle.hs_base.specs.ByteSets.{has};
+ghost use Rattle.hs_engine.specs.Automata.{in_mask, in_set};
+ghost use Rattle.hs_engine.specs.Bits.{AreZero, has_bit};
+ghost use Rattle.hs_glushkov.specs.Tables.{IsClearFrom, IsCopy, is_moved, leads_to};
+
+use hs_base::{ByteSet, Mask, Next, NextSet, Prev};
+use hs_engine::{
+    Automaton, BYTE_BITS, Edge, Engine, MAX_POSITIONS, Steps, clear_bits, contains_bit, insert_bit, is_zero,
+};
+use std::alloc::{AllocError, Global};
+use std::sync::ledger::Ledger;
+
+/// The bytes that hold a bit for each of the most positions.
+const MAX_REGION_LEN: usize = MAX_POSITIONS / BYTE_BITS;
+
+/// Runs a position automaton, one position after the other.
+#[derive(Debug, Drop)]
+pub struct Plain {
+    automaton: Automaton,
+}
+
+impl Plain {
+    ghost use Rattle.hs_base.specs.Trees.{Tree};
+    ghost use Rattle.hs_glushkov.specs.Tables.{IsCopy, Runs};
+    ghost use Rattle.hs_glushkov.specs.PlainEngines.{automaton_of};
+
+    /// The engine of an automaton, whose tables it copies.
+    pub fn build(alloc: Global, automaton: &Automaton) -> Result<Plain, AllocError>
+        ensures copied { IfOk result (λ plain. IsCopy (automaton_of plain) automaton.now) }
+        ensures runs { IfOk result (λ plain. (tree : Tree) → Runs automaton.now tree → Runs (automaton_of plain) tree) }
+    {
+        Ok(Plain {
+            automaton: copy_of(alloc, automaton)?,
+        })
+    }
+}
+
+/// A copy that shares no memory with the original.
+fn copy_of(alloc: Global, automaton: &Automaton) -> Result<Automaton, AllocError>
+    ensures { IfOk result (λ copy. IsCopy copy automaton.now) }
+{
+    Ok(Automaton {
+        sets: Vec::from_slice(alloc, &automaton.sets)?,
+        enters: Vec::from_slice(alloc, &automaton.enters)?,
+        accepts: Vec::from_slice(alloc, &automaton.accepts)?,
+        edges: Vec::from_slice(alloc, &automaton.edges)?,
+        null: automaton.null,
+        has_assertion: automaton.has_assertion,
+    })
+}
+
+impl Engine for Plain {
+    ghost use Rattle.hs_base.specs.WrittenOut.{write_out};
+    ghost use Rattle.hs_glushkov.specs.Tables.{IsField, Runs};
+
+    ghost width = { λ e. (vec_len e.automaton.sets + 7) / 8 };
+    ghost is_for = { λ e tree. Runs e.automaton tree };
+    ghost field = { λ e bytes tree u entered. IsField bytes (write_out tree) u entered };
+    ghost rests = { λ e bytes. AreZero bytes };
+    ghost well = { λ e bytes at. IsClearFrom bytes (vec_len e.automaton.sets) };
+    ghost enters_always = { λ e. false };
+
+    fn size(&self) -> usize {
+        (self.automaton.sets.len() + (BYTE_BITS - 1)) / BYTE_BITS
+    }
+
+    fn clear(&self, region: &mut [u8]) {
+        clear_bits(region);
+    }
+
+    fn step<L: Ledger>(&self, region: &mut [u8], prev: Prev, _at: u64, enter: NextSet, byte: u8, steps: &mut Steps<L>) {
+        steps.tick();
+        let next = Next::class_of(byte);
+        let mut led = [0u8; MAX_REGION_LEN];
+        follow(&self.automaton.edges, region, prev, next, &mut led);
+        clear_bits(region);
+        settle(&self.automaton, &led, prev, next, enter.contains(next), byte, region);
+    }
+
+    fn out(&self, region: &[u8], prev: Prev, _at: u64) -> NextSet {
+        accepted(&self.automaton.accepts, region, prev)
+    }
+
+    fn at_rest(&self, region: &[u8]) -> bool {
+        is_zero(region)
+    }
+
+    fn well_formed(&self, region: &[u8], _at: u64) -> bool {
+        is_clear_from(region, self.automaton.sets.len())
+    }
+}
+
+/// Sets the bits of the positions to which edges lead from those whose bits are set in the region.
+fn follow(edges: &[Edge], region: &[u8], prev: Prev, next: Next, led: &mut [u8])
+    requires within { All (λ edge. (edge.from < 8 * length region.now) × (edge.to < 8 * length led.old)) edges.now }
+    ensures len { length led.new ≡ length led.old }
+    ensures bits { (k : ℕ) → has_bit led.new k ≡ (list_any (leads_to region.now (record { prev = prev; next = next }) k) edges.now || has_bit led.old k) }
+{
+    for edge in edges {
+        follow_edge(*edge, region, prev, next, led);
+    }
+}
+
+/// Sets the bit of the position to which the edge leads, if it leads from one whose bit is set in the region.
+fn follow_edge(edge: Edge, region: &[u8], prev: Prev, next: Next, led: &mut [u8])
+    requires from { edge.from < 8 * length region.now }
+    requires to { edge.to < 8 * length led.old }
+    ensures len { length led.new ≡ length led.old }
+    ensures bits { (k : ℕ) → has_bit led.new k ≡ (leads_to region.now (record { prev = prev; next = next }) k edge || has_bit led.old k) }
+{
+    if contains_bit(region, edge.from as usize) && edge.mask.contains(prev, next) {
+        insert_bit(led, edge.to as usize);
+    }
+}
+
+/// Sets the bits of the positions that take the byte, of those to which an edge has led or which are entered.
+fn settle(automaton: &Automaton, led: &[u8], prev: Prev, next: Next, entering: bool, byte: u8, region: &mut [u8])
+    requires zero { AreZero region.old }
+    requires led { vec_len automaton.now.sets ≤ 8 * length led.now }
+    requires room { vec_len automaton.now.sets ≤ 8 * length region.old }
+    ensures len { length region.new ≡ length region.old }
+    ensures bits { (k : ℕ) → has_bit region.new k ≡ (nat_lt k (vec_len automaton.now.sets) && is_moved automaton.now led.now (record { prev = prev; next = next }) entering byte k) }
+    ensures stays { ((k : ℕ) → is_moved automaton.now led.now (record { prev = prev; next = next }) entering byte k ≡ false) → region.new ≡ region.old }
+{
+    for position in 0..automaton.sets.len() {
+        settle_one(automaton, led, position, prev, next, entering, byte, region);
+    }
+}
+
+/// Sets the bit of the position, if the byte leads to it.
+fn settle_one(automaton: &Automaton, led: &[u8], position: usize, prev: Prev, next: Next, entering: bool, byte: u8, region: &mut [u8])
+    requires position { position < vec_len automaton.now.sets }
+    requires led { position < 8 * length led.now }
+    requires room { position < 8 * length region.old }
+    ensures len { length region.new ≡ length region.old }
+    ensures bits { (k : ℕ) → has_bit region.new k ≡ (((k == position) && is_moved automaton.now led.now (record { prev = prev; next = next }) entering byte position) || has_bit region.old k) }
+    ensures stays { is_moved automaton.now led.now (record { prev = prev; next = next }) entering byte position ≡ false → region.new ≡ region.old }
+{
+    if leads(automaton, led, position, prev, next, entering, byte) {
+        insert_bit(region, position);
+    }
+}
+
+/// Whether the byte leads to the position.
+fn leads(automaton: &Automaton, led: &[u8], position: usize, prev: Prev, next: Next, entering: bool, byte: u8) -> bool
+    requires position { position < vec_len automaton.now.sets }
+    requires led { position < 8 * length led.now }
+    ensures { result ≡ is_moved automaton.now led.now (record { prev = prev; next = next }) entering byte position }
+{
+    let entered = entering && mask_contains(&automaton.enters, position, prev, next);
+    (contains_bit(led, position) || entered) && set_contains(&automaton.sets, position, byte)
+}
+
+/// Whether the mask of that number has the context.
+fn mask_contains(masks: &[Mask], number: usize, prev: Prev, next: Next) -> bool
+    requires { number < length masks.now }
+    ensures { result ≡ in_mask (slice_get masks.now number) (record { prev = prev; next = next }) }
+{
+    masks[number].contains(prev, next)
+}
+
+/// Whether the set of that number has the byte.
+fn set_contains(sets: &[ByteSet], number: usize, byte: u8) -> bool
+    requires { number < length sets.now }
+    ensures { result ≡ in_set (slice_get sets.now number) byte }
+{
+    sets[number].contains(byte)
+}
+
+/// What may come next where a position whose bit is set accepts.
+fn accepted(accepts: &[Mask], region: &[u8], prev: Prev) -> NextSet
+    requires { length accepts.now ≤ 8 * length region.now }
+    ensures sound { (next : Next) → has_next result next ≡ true → (x : ℕ) × (has_bit region.now x ≡ true) × (in_mask (slice_get accepts.now x) (record { prev = prev; next = next }) ≡ true) }
+    ensures whole { (next : Next) (x : ℕ) → has_bit region.now x ≡ true → in_mask (slice_get accepts.now x) (record { prev = prev; next = next }) ≡ true → has_next result next ≡ true }
+{
+    let mut all = NextSet::empty();
+    for position in 0..accepts.len() {
+        all = all.union(accepted_at(accepts, position, region, prev));
+    }
+    all
+}
+
+/// What may come next where that position accepts, if its bit is set.
+fn accepted_at(accepts: &[Mask], position: usize, region: &[u8], prev: Prev) -> NextSet
+    requires position { position < length accepts.now }
+    requires room { position < 8 * length region.now }
+    ensures { (next : Next) → has_next result next ≡ (has_bit region.now position && in_mask (slice_get accepts.now position) (record { prev = prev; next = next })) }
+{
+    if contains_bit(region, position) {
+        accepts[position].row(prev)
+    } else {
+        NextSet::empty()
+    }
+}
+
+/// Whether no bit from that one on is set.
+fn is_clear_from(region: &[u8], first: usize) -> bool
+    requires { 8 * length region.now < 2 ^ 64 }
+    ensures { IsTrue result ↔ IsClearFrom region.now first }
+{
+    for bit in first..BYTE_BITS * region.len() {
+        if contains_bit(region, bit) {
+            return false;
+        }
+    }
+    true
+}
