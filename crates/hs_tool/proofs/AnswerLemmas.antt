@@ -8,10 +8,10 @@ use Rattle.hs_base.specs.Told.{Pair, IsTold, IsNew, IsLast}
 use Rattle.hs_base.specs.MatchText.{report_lines, end_line, IsMatchText}
 use Rattle.hs_base.proofs.SpanLemmas.{span-order}
 use Rattle.hs_base.proofs.ToldLemmas.{new-once, last-once, new-splits}
-use Rattle.hs_base.proofs.NewLemmas.{told_start, last_none, last_of_empty, last_of_nothing}
+use Rattle.hs_base.proofs.NewLemmas.{told_start, last_none, last_of_empty, last_of_nothing, new_nothing}
 use Rattle.hs_outside.specs.Counts.{Rose}
 use Rattle.hs_outside.specs.Sink.{Took, TookPrefix}
-use Rattle.hs_outside.specs.Store.{Told, holds, Begins, IsFile}
+use Rattle.hs_outside.specs.Store.{Told, lacks, holds, Begins, IsFile}
 use Rattle.hs_outside.proofs.Sending.{Took-append, TookPrefix-after}
 use Rattle.hs_tool.specs.Accepting.{pattern_of}
 use Rattle.hs_tool.specs.Running.{IsRunning, Runs, none, one}
@@ -106,6 +106,17 @@ begins_text P c seen more text front rest reports is split match =
 begins-of_told : (told : Told) (seen bytes : List ℕ) → told ≡ holds bytes → Begins told seen → (more : List ℕ) × (bytes ≡ seen ++ more)
 begins-of_told told seen bytes same begins = subst (λ t. Begins t seen) same begins
 
+nothing_before : (xs ys : List ℕ) → xs ++ ys ≡ [] → xs ≡ []
+nothing_before [] ys e = refl
+nothing_before (x ∷ xs) ys e = absurd (omega (arith, ap length e))
+
+-- nothing is written of a file that the store lacks
+nothing_seen : (told : Told) (P : List Pattern) (seen front rest : List ℕ) (reports : List Pair) → told ≡ lacks → Begins told seen → IsNew P [] seen reports → report_lines reports ≡ front ++ rest → front ≡ []
+nothing_seen told P seen front rest reports gone begins is split =
+    let empty : seen ≡ [] = subst (λ t. Begins t seen) gone begins in
+    let no_report : reports ≡ [] = new-once P [] [] reports [] (subst (λ w. IsNew P [] w reports) empty is) (new_nothing P [] [] (told_start P)) in
+    nothing_before front rest (sym split ∙ ap report_lines no_report)
+
 pub begun-part : (told : Told) (P : List Pattern) (c : Option Compiled) (p q : Option (List ℕ)) → Runs P [] c → IsFilePartlyScanned told c p q [] → HasBegun told P p q
 begun-part told P c p q runs part = record {
   front = part.passes.front;
@@ -113,6 +124,7 @@ begun-part told P c p q runs part = record {
   begins = λ bytes text same match.
       let (more, whole) = begins-of_told told part.seen bytes same part.begins in
       begins_text P c part.seen more text part.passes.front part.passes.rest part.reports (from_start P c part.seen part.reports runs part.decided) part.passes.split (subst (λ w. IsMatchText P w text) whole match);
+  nothing = λ gone. nothing_seen told P part.seen part.passes.front part.passes.rest part.reports gone part.begins (from_start P c part.seen part.reports runs part.decided) part.passes.split;
 }
 
 -- the file that is told is the one that was read
@@ -156,6 +168,7 @@ begun-whole told P c d count p q r waits runs scan cut =
         part.rest,
         text_once P scan.bytes other text (subst (λ w. IsMatchText P w other) (file-told told scan.bytes bytes same scan.file) is) match ∙ part.split,
       );
+      nothing = λ gone. absurd (subst (λ t. IsFile t scan.bytes) gone scan.file);
     }
 
 -- ---- the endings of `match`

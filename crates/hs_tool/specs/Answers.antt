@@ -56,11 +56,13 @@ pub record HasWritten (told : Told) (P : List Pattern) (before now : Option (Lis
   pub match : IsMatchText P bytes text
   pub taken : Took before now text
 
--- The sink took a beginning of the text of the match of the file under the list, where the file is told.
+-- The sink took a beginning of the text of the match of the file under the list, where the file is told, and nothing
+-- where the store lacks it.
 pub record HasBegun (told : Told) (P : List Pattern) (before now : Option (List ℕ)) : Type 0 where
   pub front : List ℕ
   pub taken : Took before now front
   pub begins : (bytes text : List ℕ) → told ≡ holds bytes → IsMatchText P bytes text → (rest : List ℕ) × (text ≡ front ++ rest)
+  pub nothing : told ≡ lacks → front ≡ []
 
 -- How `match PATTERNS FILE` may end: done, or by a cause.
 pub data MatchEnds (patterns file : List ℕ) (before now : Outside) : Option Cause → Type 0 where
