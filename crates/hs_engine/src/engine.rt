@@ -45,29 +45,33 @@ pub trait Engine {
 
     /// Takes a byte of the stream, the one at the offset `at`, behind `prev`; the expression is entered before it where
     /// the byte's class is in `enter`. It counts as one step.
-    fn step<L: Ledger>(&self, region: &mut [u8], prev: Prev, at: u64, enter: NextSet, byte: u8, steps: &mut Steps<L>)
+    fn step<L: Ledger>(
+        &self,
+        region: &mut [u8],
+        prev: Prev,
+        at: u64,
+        enter: NextSet,
+        byte: u8,
+        steps: &mut Steps<L>,
+    )
         requires len { length region.old ≡ width self.now }
         requires well { well self.now region.old at }
         requires room { at < 2 ^ 63 }
         ensures len { length region.new ≡ width self.now }
         ensures well { well self.now region.new (at + 1) }
         ensures ticks { steps.new ≡ steps.old + 1 }
-        ensures takes {
-            (tree : Tree) (u : List ℕ) (entered : List Bool) → is_for self.now tree → length entered ≡ length u → at ≡ length u →
+        ensures takes { (tree : Tree) (u : List ℕ) (entered : List Bool) → is_for self.now tree → length entered ≡ length u → at ≡ length u →
             prev ≡ prev_at u (length u) → field self.now region.old tree u entered →
-            field self.now region.new tree (u ++ byte ∷ []) (entered ++ has_next enter (class_of byte) ∷ [])
-        }
+            field self.now region.new tree (u ++ byte ∷ []) (entered ++ has_next enter (class_of byte) ∷ []) }
         ensures stays { rests self.now region.old → has_next enter (class_of byte) ≡ false → enters_always self.now ≡ false → region.new ≡ region.old };
 
     /// What may come next where the expression ends at the offset `at` after at least one byte.
     fn out(&self, region: &[u8], prev: Prev, at: u64) -> NextSet
         requires len { length region.now ≡ width self.now }
         requires well { well self.now region.now at }
-        ensures leaves {
-            (tree : Tree) (u : List ℕ) (entered : List Bool) → is_for self.now tree → length entered ≡ length u → at ≡ length u →
+        ensures leaves { (tree : Tree) (u : List ℕ) (entered : List Bool) → is_for self.now tree → length entered ≡ length u → at ≡ length u →
             prev ≡ prev_at u (length u) → field self.now region.now tree u entered →
-            (next : Next) → (has_next result next ≡ true) ↔ Leaves tree u entered next
-        }
+            (next : Next) → (has_next result next ≡ true) ↔ Leaves tree u entered next }
         ensures rests { rests self.now region.now → (next : Next) → has_next result next ≡ false };
 
     /// Whether nothing is live. Then nothing ends here, and a byte before which the expression isn't entered changes

@@ -14,7 +14,9 @@ impl<L: Ledger> Model for Steps<L> {
     ghost use Rattle.std.specs.Prelude.{ℕ, ◌<◌};
 
     ghost Value = { ℕ };
+
     ghost view = { λ s. s.book.total };
+
     ghost invariant = { λ s. 0 < s.share.parts };
 }
 

@@ -1,28 +1,26 @@
 -- Bits of a field as they move over a byte.
-use Rattle.std.proofs.Common.{◌≡◌, ℕ, zero, suc, ◌+◌, ◌*◌, ◌/◌, ◌%◌, ◌<◌, ◌≤◌, Bool, true, false, ◌&&◌, ◌||◌, List, [], ◌∷◌, ◌++◌, length, get_or, take, replicate, Some, None, slice_get, IsTrue, eqb, refl, sym, ap, subst, ◌∙◌, inl, inr, arith, vec_len}
-use Rattle.std.specs.Prelude.{nat_lt, slice_index_or}
+use Rattle.std.proofs.Common.{◌≡◌, ℕ, suc, ◌+◌, ◌*◌, ◌/◌, ◌%◌, ◌<◌, ◌≤◌, Bool, true, false, ◌&&◌, ◌||◌, List, [], ◌∷◌, ◌++◌, length, get_or, take, replicate, Some, None, slice_get, eqb, refl, sym, ap, subst, ◌∙◌, inl, inr, arith, vec_len}
+use Rattle.std.specs.Prelude.{nat_lt}
 use Rattle.std.specs.List.{list_any}
 use Rattle.std.specs.Int.{bit_at}
 use Rattle.std.proofs.lemmas.Bool.{cases_eq, cases_lt, eq-eqb, eqb-true, ne_eqb, lt-ltb, le-ltb}
 use Rattle.std.proofs.lemmas.Nat.Bits.{bit_at-zero}
-use Rattle.std.proofs.lemmas.Option.{slice_get_past, slice_get_within}
+use Rattle.std.proofs.lemmas.Option.{slice_get_past}
 use Rattle.std.proofs.lemmas.List.{get_or_past, get_or-replicate, length-replicate}
-use Rattle.std.proofs.lemmas.List.Folds.{list_any_more, list_any_none, Any-from_list_any, list_any-from_Any}
+use Rattle.std.proofs.lemmas.List.Folds.{list_any_more, Any-from_list_any, list_any-from_Any}
 use Rattle.hs_base.specs.declared.context.Next.{Next}
-use Rattle.hs_base.specs.declared.context.Prev.{Prev}
-use Rattle.hs_base.specs.Contexts.{Context, class_of, prev_at, context_of}
+use Rattle.hs_base.specs.Contexts.{Context, class_of, context_of}
 use Rattle.hs_base.specs.ContextSets.{has_context}
 use Rattle.hs_base.specs.Trees.{Tree}
 use Rattle.hs_base.specs.Fields.{Leaves}
-use Rattle.hs_base.specs.WrittenOut.{Core, write_out, IsReached, set_of}
+use Rattle.hs_base.specs.WrittenOut.{Core, write_out, set_of}
 use Rattle.hs_base.proofs.ContextLemmas.{first_of_both, second_of_both, of_both, of_either, left_of_either, right_of_either}
 use Rattle.hs_engine.specs.declared.automaton.Automaton.{Automaton}
 use Rattle.hs_engine.specs.declared.automaton.Edge.{Edge}
-use Rattle.hs_engine.specs.Automata.{in_mask, in_set, takes, enters, accepts, joins, follows}
+use Rattle.hs_engine.specs.Automata.{in_set, takes, enters, accepts, joins, follows}
 use Rattle.hs_engine.specs.Bits.{AreZero, has_bit}
 use Rattle.hs_engine.specs.Engines.{IsQuiet}
 use Rattle.hs_engine.proofs.BitLemmas.{bits-zero}
-use Rattle.hs_glushkov.specs.Positions.{null, enter, accept, follow}
 use Rattle.hs_glushkov.specs.Agreement.{StepsTo, steps_in, steps_on, IsAccepting}
 use Rattle.hs_glushkov.specs.Tables.{IsFor, Runs, IsField, leads_to, is_moved}
 use Rattle.hs_glushkov.proofs.AgreementLemmas.{reached-steps, steps-reached, leaves-accepting, accepting-leaves}
@@ -132,9 +130,11 @@ module _ (a : Automaton) (bytes : List ℕ) (c : Context) (k : ℕ) where
       let to : eqb k edge.to ≡ true = first_of_both (eqb k edge.to) (has_bit bytes edge.from && has_context edge.mask c) is in
       let rest : (has_bit bytes edge.from && has_context edge.mask c) ≡ true = second_of_both (eqb k edge.to) (has_bit bytes edge.from && has_context edge.mask c) is in
       let to_k : (eqb edge.to k && has_context edge.mask c) ≡ true =
-          of_both (eqb edge.to k) (has_context edge.mask c) (eq-eqb edge.to k (sym (eqb-true k edge.to to))) (second_of_both (has_bit bytes edge.from) (has_context edge.mask c) rest) in
-      (edge.from, first_of_both (has_bit bytes edge.from) (has_context edge.mask c) rest,
-        list_any-from_Any (joins edge.from k c) a.edges.items (i, edge, below, there, joined edge.from edge (eq-eqb edge.from edge.from refl) to_k))
+      of_both (eqb edge.to k) (has_context edge.mask c) (eq-eqb edge.to k (sym (eqb-true k edge.to to))) (second_of_both (has_bit bytes edge.from) (has_context edge.mask c) rest) in (
+        edge.from,
+        first_of_both (has_bit bytes edge.from) (has_context edge.mask c) rest,
+        list_any-from_Any (joins edge.from k c) a.edges.items (i, edge, below, there, joined edge.from edge (eq-eqb edge.from edge.from refl) to_k),
+      )
 
   pub follows-led : (x : ℕ) → has_bit bytes x ≡ true → follows a x k c ≡ true → list_any (leads_to bytes c k) a.edges.items ≡ true
   follows-led x set follows =
@@ -184,14 +184,15 @@ module _ (a : Automaton) (r : Core) (tables : IsFor a r) (u : List ℕ) (entered
       ]
 
   pub field-step : (new : List ℕ) → ((k : ℕ) → has_bit new k ≡ (nat_lt k (vec_len a.sets) && is_moved a led Here entering b k)) → IsField new r (u ++ b ∷ []) (entered ++ entering ∷ [])
-  field-step new bits k =
-      (λ set.
-          let both : (nat_lt k (vec_len a.sets) && is_moved a led Here entering b k) ≡ true = sym (bits k) ∙ set in
-          steps-reached r u entered b entering k len (moved-steps k (second_of_both (nat_lt k (vec_len a.sets)) (is_moved a led Here entering b k) both)),
-        λ reached.
-          let moved : is_moved a led Here entering b k ≡ true = steps-moved k (reached-steps r u entered b entering k len reached) in
-          let below : k < vec_len a.sets = takes-below k (second_of_both (has_bit led k || (entering && enters a k Here)) (takes a k b) moved) in
-          bits k ∙ of_both (nat_lt k (vec_len a.sets)) (is_moved a led Here entering b k) (lt-ltb k (vec_len a.sets) below) moved)
+  field-step new bits k = (
+    λ set.
+        let both : (nat_lt k (vec_len a.sets) && is_moved a led Here entering b k) ≡ true = sym (bits k) ∙ set in
+        steps-reached r u entered b entering k len (moved-steps k (second_of_both (nat_lt k (vec_len a.sets)) (is_moved a led Here entering b k) both)),
+    λ reached.
+        let moved : is_moved a led Here entering b k ≡ true = steps-moved k (reached-steps r u entered b entering k len reached) in
+        let below : k < vec_len a.sets = takes-below k (second_of_both (has_bit led k || (entering && enters a k Here)) (takes a k b) moved) in
+        bits k ∙ of_both (nat_lt k (vec_len a.sets)) (is_moved a led Here entering b k) (lt-ltb k (vec_len a.sets) below) moved,
+  )
 
 -- the same, where the context has another name
 pub field-step_in : (a : Automaton) (r : Core) (tables : IsFor a r) (u : List ℕ) (entered : List Bool) (len : length entered ≡ length u) (old : List ℕ) (field : IsField old r u entered) →
@@ -200,7 +201,7 @@ pub field-step_in : (a : Automaton) (r : Core) (tables : IsFor a r) (u : List �
     ((k : ℕ) → has_bit new k ≡ (nat_lt k (vec_len a.sets) && is_moved a led here entering b k)) → IsField new r (u ++ b ∷ []) (entered ++ entering ∷ [])
 field-step_in a r tables u entered len old field b byte entering led here same =
     let P : Context → Type 0 = λ h. ((k : ℕ) → has_bit led k ≡ list_any (leads_to old h k) a.edges.items) → (new : List ℕ) →
-        ((k : ℕ) → has_bit new k ≡ (nat_lt k (vec_len a.sets) && is_moved a led h entering b k)) → IsField new r (u ++ b ∷ []) (entered ++ entering ∷ []) in
+    ((k : ℕ) → has_bit new k ≡ (nat_lt k (vec_len a.sets) && is_moved a led h entering b k)) → IsField new r (u ++ b ∷ []) (entered ++ entering ∷ []) in
     subst P same (field-step a r tables u entered len old field b byte entering led)
 
 -- a step from a region at rest, without being entered, moves no position
@@ -209,12 +210,12 @@ pub none-moved : (a : Automaton) (old : List ℕ) → AreZero old → (led : Lis
 none-moved a old zeros led here b all_led k =
     not-true (is_moved a led here false b k)
     (λ moved.
-        elim (of_either (has_bit led k) (false && enters a k here) (first_of_both (has_bit led k || (false && enters a k here)) (takes a k b) moved)) [
-          | inl on ↦
-              let (x, set, edge) = led-follows a old here k (sym (all_led k) ∙ on) in
-              true-false (has_bit old x) set (zero-bits old zeros x)
-          | inr begin ↦ let e : false ≡ true = begin in cc
-        ])
+    elim (of_either (has_bit led k) (false && enters a k here) (first_of_both (has_bit led k || (false && enters a k here)) (takes a k b) moved)) [
+      | inl on ↦
+          let (x, set, edge) = led-follows a old here k (sym (all_led k) ∙ on) in
+          true-false (has_bit old x) set (zero-bits old zeros x)
+      | inr begin ↦ let e : false ≡ true = begin in cc
+    ])
 
 -- where the expression is left
 
@@ -238,12 +239,13 @@ no-bits_steps r u entered region field none b y (steps_on x member reached is) =
 pub field-quiet : (a : Automaton) (region : List ℕ) → AreZero region → IsQuiet (λ tree. Runs a tree) (λ tree u entered. IsField region (write_out tree) u entered)
 field-quiet a region zeros =
     record {
-      stays = λ tree u entered runs len field b byte k.
-        (λ set. true-false (has_bit region k) set (zero-bits region zeros k),
-          λ reached. absurd (no-bits_steps (write_out tree) u entered region field (zero-bits region zeros) b k (reached-steps (write_out tree) u entered b false k len reached)));
+      stays = λ tree u entered runs len field b byte k. (
+        λ set. true-false (has_bit region k) set (zero-bits region zeros k),
+        λ reached. absurd (no-bits_steps (write_out tree) u entered region field (zero-bits region zeros) b k (reached-steps (write_out tree) u entered b false k len reached)),
+      );
       leaves_nothing = λ tree u entered runs len field next leaves.
-        let (x, set, is) = leaves-bit a tree runs u entered region field next leaves in
-        true-false (has_bit region x) set (zero-bits region zeros x);
+          let (x, set, is) = leaves-bit a tree runs u entered region field next leaves in
+          true-false (has_bit region x) set (zero-bits region zeros x);
     }
 
 -- no position is reached in the empty stream

@@ -12,7 +12,8 @@ ghost use Rattle.hs_glushkov.specs.Tables.{IsClearFrom, IsCopy, is_moved, leads_
 
 use hs_base::{ByteSet, Mask, Next, NextSet, Prev};
 use hs_engine::{
-    Automaton, BYTE_BITS, Edge, Engine, MAX_POSITIONS, Steps, clear_bits, contains_bit, insert_bit, is_zero,
+    Automaton, BYTE_BITS, Edge, Engine, MAX_POSITIONS, Steps, clear_bits, contains_bit, insert_bit,
+    is_zero,
 };
 use std::alloc::{AllocError, Global};
 use std::sync::ledger::Ledger;
@@ -61,10 +62,15 @@ impl Engine for Plain {
     ghost use Rattle.hs_glushkov.specs.Tables.{IsField, Runs};
 
     ghost width = { λ e. (vec_len e.automaton.sets + 7) / 8 };
+
     ghost is_for = { λ e tree. Runs e.automaton tree };
+
     ghost field = { λ e bytes tree u entered. IsField bytes (write_out tree) u entered };
+
     ghost rests = { λ e bytes. AreZero bytes };
+
     ghost well = { λ e bytes at. IsClearFrom bytes (vec_len e.automaton.sets) };
+
     ghost enters_always = { λ e. false };
 
     fn size(&self) -> usize {
@@ -75,13 +81,29 @@ impl Engine for Plain {
         clear_bits(region);
     }
 
-    fn step<L: Ledger>(&self, region: &mut [u8], prev: Prev, _at: u64, enter: NextSet, byte: u8, steps: &mut Steps<L>) {
+    fn step<L: Ledger>(
+        &self,
+        region: &mut [u8],
+        prev: Prev,
+        _at: u64,
+        enter: NextSet,
+        byte: u8,
+        steps: &mut Steps<L>,
+    ) {
         steps.tick();
         let next = Next::class_of(byte);
         let mut led = [0u8; MAX_REGION_LEN];
         follow(&self.automaton.edges, region, prev, next, &mut led);
         clear_bits(region);
-        settle(&self.automaton, &led, prev, next, enter.contains(next), byte, region);
+        settle(
+            &self.automaton,
+            &led,
+            prev,
+            next,
+            enter.contains(next),
+            byte,
+            region,
+        );
     }
 
     fn out(&self, region: &[u8], prev: Prev, _at: u64) -> NextSet {
@@ -121,7 +143,15 @@ fn follow_edge(edge: Edge, region: &[u8], prev: Prev, next: Next, led: &mut [u8]
 }
 
 /// Sets the bits of the positions that take the byte, of those to which an edge has led or which are entered.
-fn settle(automaton: &Automaton, led: &[u8], prev: Prev, next: Next, entering: bool, byte: u8, region: &mut [u8])
+fn settle(
+    automaton: &Automaton,
+    led: &[u8],
+    prev: Prev,
+    next: Next,
+    entering: bool,
+    byte: u8,
+    region: &mut [u8],
+)
     requires zero { AreZero region.old }
     requires led { vec_len automaton.now.sets ≤ 8 * length led.now }
     requires room { vec_len automaton.now.sets ≤ 8 * length region.old }
@@ -135,7 +165,16 @@ fn settle(automaton: &Automaton, led: &[u8], prev: Prev, next: Next, entering: b
 }
 
 /// Sets the bit of the position, if the byte leads to it.
-fn settle_one(automaton: &Automaton, led: &[u8], position: usize, prev: Prev, next: Next, entering: bool, byte: u8, region: &mut [u8])
+fn settle_one(
+    automaton: &Automaton,
+    led: &[u8],
+    position: usize,
+    prev: Prev,
+    next: Next,
+    entering: bool,
+    byte: u8,
+    region: &mut [u8],
+)
     requires position { position < vec_len automaton.now.sets }
     requires led { position < 8 * length led.now }
     requires room { position < 8 * length region.old }
@@ -149,7 +188,15 @@ fn settle_one(automaton: &Automaton, led: &[u8], position: usize, prev: Prev, ne
 }
 
 /// Whether the byte leads to the position.
-fn leads(automaton: &Automaton, led: &[u8], position: usize, prev: Prev, next: Next, entering: bool, byte: u8) -> bool
+fn leads(
+    automaton: &Automaton,
+    led: &[u8],
+    position: usize,
+    prev: Prev,
+    next: Next,
+    entering: bool,
+    byte: u8,
+) -> bool
     requires position { position < vec_len automaton.now.sets }
     requires led { position < 8 * length led.now }
     ensures { result ≡ is_moved automaton.now led.now (record { prev = prev; next = next }) entering byte position }
@@ -211,4 +258,106 @@ fn is_clear_from(region: &[u8], first: usize) -> bool
         }
     }
     true
+}
+
+#[cfg(test)]
+mod tests {
+    use super::Plain;
+    use hs_base::{Assertion, ByteSet, Mask, Next, NextSet, Prev};
+    use hs_engine::{Automaton, Edge, Engine, Steps};
+    use std::alloc::{AllocError, Global};
+    use std::marker::Brand;
+    use std::sync::ledger::{Blank, Ledger};
+    use std::test::Fail;
+
+    /// What may come next behind the text, where the expression is entered before each of its bytes.
+    fn left_behind<E: Engine, L: Ledger>(
+        engine: &E,
+        region: &mut [u8],
+        text: &[u8],
+        blank: Blank,
+    ) -> NextSet
+        requires region { length region.old ≡ E.width engine.now }
+        requires text { length text.now < 2 ^ 63 }
+        requires name { blank.name ≡ L.name }
+        requires parts { blank.parts ≡ L.parts }
+        requires some { 0 < L.parts }
+    {
+        let mut steps = Steps::<L>::open(blank);
+        engine.clear(region);
+        let mut prev = Prev::Start;
+        let mut at = 0;
+        for byte in text {
+            engine.step(region, prev, at, NextSet::all(), *byte, &mut steps);
+            prev = Prev::behind(*byte);
+            at += 1;
+        }
+        engine.out(region, prev, at)
+    }
+
+    /// `\ba(?:b+\z)?`.
+    fn words(alloc: Global) -> Result<Automaton, AllocError> {
+        let end = Mask::of(Assertion::StreamEnd);
+        Ok(Automaton {
+            sets: Vec::from_slice(alloc, &[ByteSet::of(b'a'), ByteSet::of(b'b')])?,
+            enters: Vec::from_slice(alloc, &[Mask::of(Assertion::WordBoundary), Mask::empty()])?,
+            accepts: Vec::from_slice(alloc, &[Mask::all(), end])?,
+            edges: Vec::from_slice(
+                alloc,
+                &[
+                    Edge {
+                        from: 0,
+                        to: 1,
+                        mask: Mask::all(),
+                    },
+                    Edge {
+                        from: 1,
+                        to: 1,
+                        mask: Mask::all(),
+                    },
+                ],
+            )?,
+            null: Mask::empty(),
+            has_assertion: true,
+        })
+    }
+
+    #[test]
+    fn leaves_where_the_expression_matches(rt: HostRuntime) -> Result<(), Fail> {
+        let alloc = rt.alloc();
+        let engine = Plain::build(alloc, &words(alloc)?)?;
+        let table = [
+            ("a", Next::End, true),
+            ("a", Next::Unknown, true),
+            ("xa", Next::End, false),
+            (" a", Next::Word, true),
+            ("ab", Next::End, true),
+            ("ab", Next::Unknown, false),
+            ("abb", Next::End, true),
+            ("abc", Next::End, false),
+            ("", Next::End, false),
+        ];
+        for (text, next, wanted) in table {
+            let mut region = vec![in alloc; 0xffu8; engine.size()]?;
+            let found = left_behind::<Plain, Brand>(
+                &engine,
+                &mut region,
+                text.as_bytes(),
+                Blank::new(1),
+            );
+            assert_eq!(rt; found.contains(next), wanted, "{text}");
+        }
+        Ok(())
+    }
+
+    #[test]
+    fn rests_until_it_is_entered(rt: HostRuntime) -> Result<(), Fail> {
+        let alloc = rt.alloc();
+        let engine = Plain::build(alloc, &words(alloc)?)?;
+        let mut region = vec![in alloc; 0u8; engine.size()]?;
+        assert!(rt; engine.at_rest(&region) && engine.well_formed(&region, 0));
+        let _set = left_behind::<Plain, Brand>(&engine, &mut region, b"a", Blank::new(1));
+        assert!(rt; !engine.at_rest(&region) && engine.well_formed(&region, 1));
+        Ok(())
+    }
 }

@@ -22,9 +22,6 @@ fn append(buf: &mut [u8; LINE_LEN], len: usize, bytes: &[u8]) -> usize
     end
 }
 
-/// How many digits a number has at most.
-const MAX_DIGITS: usize = 20;
-
 /// Puts a number in decimal digits behind the first `len` bytes.
 fn append_number(buf: &mut [u8; LINE_LEN], len: usize, number: u64) -> usize
     requires whole { length buf.old ≡ LINE_LEN }

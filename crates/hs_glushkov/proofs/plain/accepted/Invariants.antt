@@ -8,5 +8,5 @@ use Rattle.hs_glushkov.proofs.plain.accepted.Given as goal
 abbrev pub invariant-loop-position : goal.invariant-loop-position
 invariant-loop-position l = record {
   sound : (next : Next) → has_next l.all next ≡ true → (x : ℕ) × (has_bit l.region x ≡ true) × (in_mask (slice_get l.accepts x) (record { prev = l.prev; next = next }) ≡ true);
-  whole : (next : Next) (x : ℕ) → x < l.position → has_bit l.region x ≡ true → in_mask (slice_get l.accepts x) (record { prev = l.prev; next = next }) ≡ true → has_next l.all next ≡ true
+  whole : (next : Next) (x : ℕ) → x < l.position → has_bit l.region x ≡ true → in_mask (slice_get l.accepts x) (record { prev = l.prev; next = next }) ≡ true → has_next l.all next ≡ true;
 }

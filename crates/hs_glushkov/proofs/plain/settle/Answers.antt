@@ -8,8 +8,8 @@ use Rattle.hs_glushkov.proofs.plain.settle.Goals as goal
 pub loop-position-init : goal.loop-position-init
 loop-position-init c = record {
   bits = λ k.
-    zero-bits c.args.region.now c.requires.zero k
-    ∙ sym (ap (λ b. b && is_moved c.args.automaton.now c.args.led.now (record { prev = c.args.prev; next = c.args.next }) c.args.entering c.args.byte k) (le-ltb k 0 (omega arith)));
+      zero-bits c.args.region.now c.requires.zero k
+      ∙ sym (ap (λ b. b && is_moved c.args.automaton.now c.args.led.now (record { prev = c.args.prev; next = c.args.next }) c.args.entering c.args.byte k) (le-ltb k 0 (omega arith)));
   stays = λ none. refl;
 }
 
@@ -19,8 +19,8 @@ loop-position-preserved c =
     let here : Context = record { prev = c.args.prev; next = c.args.next } in
     record {
       bits = λ k.
-        c.settle_one.ensures.bits k
-        ∙ (ap (λ b. (eqb k p && is_moved c.args.automaton.now c.args.led.now here c.args.entering c.args.byte p) || b) (c.loop-position.invariant.bits k)
-        ∙ moved-more (is_moved c.args.automaton.now c.args.led.now here c.args.entering c.args.byte) p k);
+          c.settle_one.ensures.bits k
+          ∙ (ap (λ b. (eqb k p && is_moved c.args.automaton.now c.args.led.now here c.args.entering c.args.byte p) || b) (c.loop-position.invariant.bits k)
+          ∙ moved-more (is_moved c.args.automaton.now c.args.led.now here c.args.entering c.args.byte) p k);
       stays = λ none. c.settle_one.ensures.stays (none p) ∙ c.loop-position.invariant.stays none;
     }

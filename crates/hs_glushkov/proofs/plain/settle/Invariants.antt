@@ -7,5 +7,5 @@ use Rattle.hs_glushkov.proofs.plain.settle.Given as goal
 abbrev pub invariant-loop-position : goal.invariant-loop-position
 invariant-loop-position l = record {
   bits : (k : ℕ) → has_bit l.region k ≡ (nat_lt k l.position && is_moved l.automaton l.led (record { prev = l.prev; next = l.next }) l.entering l.byte k);
-  stays : ((k : ℕ) → is_moved l.automaton l.led (record { prev = l.prev; next = l.next }) l.entering l.byte k ≡ false) → l.region ≡ l.initial.region
+  stays : ((k : ℕ) → is_moved l.automaton l.led (record { prev = l.prev; next = l.next }) l.entering l.byte k ≡ false) → l.region ≡ l.initial.region;
 }

@@ -1,4 +1,4 @@
-use Rattle.std.proofs.Common.{◌≡◌, ℕ, ◌<◌, ◌^◌, Bool, true, false, ◌||◌, List, [], ◌∷◌, ◌++◌, length, replicate, refl, sym, ap, subst, ◌∙◌, arith}
+use Rattle.std.proofs.Common.{◌≡◌, ℕ, ◌<◌, false, ◌||◌, List, [], ◌∷◌, ◌++◌, length, replicate, sym, ap, subst, ◌∙◌, arith}
 use Rattle.std.specs.List.{list_any}
 use Rattle.hs_base.specs.Contexts.{Context, class_of, context_of, prev_at}
 use Rattle.hs_base.specs.ContextSets.{has_next}
@@ -19,8 +19,8 @@ returns-clause-takes g c tree u entered runs len at prev field =
     let same : context_of u (class_of b) ≡ here = same-context (prev_at u (length u)) c.args.prev (class_of b) c.class_of-next.result (sym prev) (sym c.class_of-next.ensures) in
     let entering : c.contains.result ≡ has_next c.args.enter (class_of b) = c.contains.ensures ∙ ap (has_next c.args.enter) c.class_of-next.ensures in
     let all_led : (k : ℕ) → has_bit led k ≡ list_any (leads_to c.args.region.now here k) a.edges.items =
-        λ k. led-from_zeros led 64 k (list_any (leads_to c.args.region.now here k) a.edges.items)
-          (subst (λ edges. has_bit led k ≡ (list_any (leads_to c.args.region.now here k) edges || has_bit (replicate 64 0) k)) c.deref.ensures.value (c.follow.ensures.bits k)) in
+    λ k. led-from_zeros led 64 k (list_any (leads_to c.args.region.now here k) a.edges.items)
+    (subst (λ edges. has_bit led k ≡ (list_any (leads_to c.args.region.now here k) edges || has_bit (replicate 64 0) k)) c.deref.ensures.value (c.follow.ensures.bits k)) in
     subst (λ i. IsField c.settle.new.region (write_out tree) (u ++ b ∷ []) (entered ++ i ∷ [])) entering
     (field-step_in a (write_out tree) runs.tables u entered len c.args.region.now field b byte c.contains.result led here same all_led c.settle.new.region c.settle.ensures.bits)
 
@@ -32,7 +32,7 @@ returns-clause-stays g c zeros outside once =
     let led : List ℕ = c.follow.new.led in
     let entering : c.contains.result ≡ false = c.contains.ensures ∙ (ap (has_next c.args.enter) c.class_of-next.ensures ∙ outside) in
     let all_led : (k : ℕ) → has_bit led k ≡ list_any (leads_to c.args.region.now here k) a.edges.items =
-        λ k. led-from_zeros led 64 k (list_any (leads_to c.args.region.now here k) a.edges.items)
-          (subst (λ edges. has_bit led k ≡ (list_any (leads_to c.args.region.now here k) edges || has_bit (replicate 64 0) k)) c.deref.ensures.value (c.follow.ensures.bits k)) in
+    λ k. led-from_zeros led 64 k (list_any (leads_to c.args.region.now here k) a.edges.items)
+    (subst (λ edges. has_bit led k ≡ (list_any (leads_to c.args.region.now here k) edges || has_bit (replicate 64 0) k)) c.deref.ensures.value (c.follow.ensures.bits k)) in
     c.settle.ensures.stays (λ k. subst (λ i. is_moved a led here i b k ≡ false) (sym entering) (none-moved a c.args.region.now zeros led here b all_led k))
     ∙ same-zero c.clear_bits.new.bytes c.args.region.now c.clear_bits.ensures.len c.clear_bits.ensures.zero zeros
