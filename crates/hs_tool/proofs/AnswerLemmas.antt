@@ -11,12 +11,12 @@ use Rattle.hs_base.proofs.ToldLemmas.{new-once, last-once, new-splits}
 use Rattle.hs_base.proofs.NewLemmas.{told_start, last_none, last_of_empty, last_of_nothing, new_nothing}
 use Rattle.hs_outside.specs.Counts.{Rose}
 use Rattle.hs_outside.specs.Sink.{Took, TookPrefix}
-use Rattle.hs_outside.specs.Store.{Told, lacks, holds, Begins, IsFile}
+use Rattle.hs_outside.specs.Store.{Told, holds, Begins, IsFile}
 use Rattle.hs_outside.proofs.Sending.{Took-append, TookPrefix-after}
 use Rattle.hs_tool.specs.Accepting.{pattern_of}
 use Rattle.hs_tool.specs.Running.{IsRunning, Runs, none, one}
 use Rattle.hs_tool.specs.Passing.{Passes}
-use Rattle.hs_tool.specs.Scanning.{Interrupts, IsFileScanned, IsFilePartlyScanned}
+use Rattle.hs_tool.specs.Scanning.{Interrupts, IsScannedTo, IsFileScanned, IsFilePartlyScanned}
 use Rattle.hs_tool.specs.Causes.{Cause, usage, refused, write, store, absent, limit, memory}
 use Rattle.hs_tool.specs.Answers.{Outside, NoFault, TookNothing, HasList, HasWritten, HasBegun, MatchEnds, done, no_list, list_failed, long_list, list_refused, no_memory, no_file, file_failed, long_file, sink_failed}
 use Rattle.hs_tool.specs.Loading.{IsLoaded, StopsLoad, StopsScan}
@@ -110,12 +110,18 @@ nothing_before : (xs ys : List ℕ) → xs ++ ys ≡ [] → xs ≡ []
 nothing_before [] ys e = refl
 nothing_before (x ∷ xs) ys e = absurd (omega (arith, ap length e))
 
--- nothing is written of a file that the store lacks
-nothing_seen : (told : Told) (P : List Pattern) (seen front rest : List ℕ) (reports : List Pair) → told ≡ lacks → Begins told seen → IsNew P [] seen reports → report_lines reports ≡ front ++ rest → front ≡ []
-nothing_seen told P seen front rest reports gone begins is split =
-    let empty : seen ≡ [] = subst (λ t. Begins t seen) gone begins in
-    let no_report : reports ≡ [] = new-once P [] [] reports [] (subst (λ w. IsNew P [] w reports) empty is) (new_nothing P [] [] (told_start P)) in
-    nothing_before front rest (sym split ∙ ap report_lines no_report)
+-- nothing is written before a byte was scanned
+pub nothing-scanned : (told : Told) (P : List Pattern) (c d : Option Compiled) (p q : Option (List ℕ)) (waits : List ℕ) → Runs P [] c → IsScannedTo told c d 0 p q [] waits → Took p q []
+nothing-scanned told P c d p q waits runs so_far =
+    let passes = so_far.scanned.passes in
+    let reports = so_far.scanned.reports in
+    let is : IsNew P [] so_far.seen reports = from_start P c so_far.seen reports runs so_far.scanned.decided in
+    let no_report : reports ≡ [] = new-once P [] [] reports [] (subst (λ w. IsNew P [] w reports) (no_byte so_far.seen (sym so_far.length)) is) (new_nothing P [] [] (told_start P)) in
+    subst (λ w. Took p q w) (nothing_before passes.written waits (passes.whole ∙ ap report_lines no_report)) passes.taken
+  where
+    no_byte : (xs : List ℕ) → length xs ≡ 0 → xs ≡ []
+    no_byte [] e = refl
+    no_byte (x ∷ xs) e = absurd (omega (arith, e))
 
 pub begun-part : (told : Told) (P : List Pattern) (c : Option Compiled) (p q : Option (List ℕ)) → Runs P [] c → IsFilePartlyScanned told c p q [] → HasBegun told P p q
 begun-part told P c p q runs part = record {
@@ -124,7 +130,6 @@ begun-part told P c p q runs part = record {
   begins = λ bytes text same match.
       let (more, whole) = begins-of_told told part.seen bytes same part.begins in
       begins_text P c part.seen more text part.passes.front part.passes.rest part.reports (from_start P c part.seen part.reports runs part.decided) part.passes.split (subst (λ w. IsMatchText P w text) whole match);
-  nothing = λ gone. nothing_seen told P part.seen part.passes.front part.passes.rest part.reports gone part.begins (from_start P c part.seen part.reports runs part.decided) part.passes.split;
 }
 
 -- the file that is told is the one that was read
@@ -168,7 +173,6 @@ begun-whole told P c d count p q r waits runs scan cut =
         part.rest,
         text_once P scan.bytes other text (subst (λ w. IsMatchText P w other) (file-told told scan.bytes bytes same scan.file) is) match ∙ part.split,
       );
-      nothing = λ gone. absurd (subst (λ t. IsFile t scan.bytes) gone scan.file);
     }
 
 -- ---- the endings of `match`
@@ -187,22 +191,23 @@ load_ends patterns file before now (absent name) stops quiet still =
 load_ends patterns file before now limit stops quiet still = long_list stops.0 quiet (record { store = stops.1; sink = still })
 load_ends patterns file before now memory stops quiet still = no_memory quiet (record { store = stops; sink = still })
 
-pub scan_ends : (patterns file : List ℕ) (before now : Outside) (P : List Pattern) (fault : ScanFault) (cause : Cause) → HasList (before.told patterns) P → HasBegun (before.told file) P before.out now.out → Interrupts fault (before.told file) before.stored now.stored before.sunk now.sunk → StopsScan file fault cause → MatchEnds patterns file before now (Some cause)
-scan_ends patterns file before now P Absent cause list begun stops is =
-    subst (λ x. MatchEnds patterns file before now (Some x)) (sym is) (no_file P list stops.0 begun (record { store = stops.1; sink = stops.2 }))
-scan_ends patterns file before now P Store cause list begun stops is =
+pub scan_ends : (patterns file : List ℕ) (before now : Outside) (P : List Pattern) (fault : ScanFault) (cause : Cause) → HasList (before.told patterns) P → HasBegun (before.told file) P before.out now.out → (fault ≡ Absent → TookNothing before now) → Interrupts fault (before.told file) before.stored now.stored before.sunk now.sunk → StopsScan file fault cause → MatchEnds patterns file before now (Some cause)
+scan_ends patterns file before now P Absent cause list begun quiet stops is =
+    subst (λ x. MatchEnds patterns file before now (Some x)) (sym is) (no_file P list stops.0 (quiet refl) (record { store = stops.1; sink = stops.2 }))
+scan_ends patterns file before now P Store cause list begun quiet stops is =
     subst (λ x. MatchEnds patterns file before now (Some x)) (sym is) (file_failed P list begun stops.1)
-scan_ends patterns file before now P Write cause list begun stops is =
+scan_ends patterns file before now P Write cause list begun quiet stops is =
     subst (λ x. MatchEnds patterns file before now (Some x)) (sym is) (sink_failed P list begun stops.2)
-scan_ends patterns file before now P Limit cause list begun stops is =
+scan_ends patterns file before now P Limit cause list begun quiet stops is =
     subst (λ x. MatchEnds patterns file before now (Some x)) (sym is) (long_file P list stops.0 begun (record { store = stops.1; sink = stops.2 }))
 
 -- the scan of the file stopped; `told`, `count` and `waited` are what held before it
-pub scan_stops : (patterns file : List ℕ) (before now : Outside) (told : List ℕ → Told) (count : ℕ) (waited : List ℕ) (c : Option Compiled) (fault : ScanFault) (cause : Cause) → told ≡ before.told → count ≡ before.stored → waited ≡ [] → IsLoaded (before.told patterns) c → IsFilePartlyScanned (told file) c before.out now.out waited → Interrupts fault (told file) count now.stored before.sunk now.sunk → StopsScan file fault cause → MatchEnds patterns file before now (Some cause)
-scan_stops patterns file before now told count waited c fault cause same_told same_count nothing loaded part stops is =
+pub scan_stops : (patterns file : List ℕ) (before now : Outside) (told : List ℕ → Told) (count : ℕ) (waited waits : List ℕ) (c d : Option Compiled) (fault : ScanFault) (cause : Cause) → told ≡ before.told → count ≡ before.stored → waited ≡ [] → IsLoaded (before.told patterns) c → IsFilePartlyScanned (told file) c before.out now.out waited → (fault ≡ Absent → IsScannedTo (told file) c d 0 before.out now.out waited waits) → Interrupts fault (told file) count now.stored before.sunk now.sunk → StopsScan file fault cause → MatchEnds patterns file before now (Some cause)
+scan_stops patterns file before now told count waited waits c d fault cause same_told same_count nothing loaded part unread stops is =
     scan_ends patterns file before now loaded.compiles.patterns fault cause (has_list (before.told patterns) c loaded)
     (begun-part (before.told file) loaded.compiles.patterns c before.out now.out loaded.compiles.runs
     (subst (λ w. IsFilePartlyScanned (before.told file) c before.out now.out w) nothing (subst (λ t. IsFilePartlyScanned (t file) c before.out now.out waited) same_told part)))
+    (λ gone. nothing-scanned (told file) loaded.compiles.patterns c d before.out now.out waits loaded.compiles.runs (subst (λ w. IsScannedTo (told file) c d 0 before.out now.out w waits) nothing (unread gone)))
     (subst (λ n. Interrupts fault (before.told file) n now.stored before.sunk now.sunk) same_count (subst (λ t. Interrupts fault (t file) count now.stored before.sunk now.sunk) same_told stops))
     is
 

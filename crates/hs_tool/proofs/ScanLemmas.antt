@@ -15,7 +15,7 @@ use Rattle.hs_base.proofs.SpanLemmas.{span-order, spans-free}
 use Rattle.hs_base.proofs.ToldLemmas.{told-once, new-joins}
 use Rattle.hs_base.proofs.NewLemmas.{IsByteEnd, AreByteEnds, new_by_end, new_of_nothing, new_nothing}
 use Rattle.hs_outside.specs.Sink.{TookPrefix}
-use Rattle.hs_outside.specs.Store.{Told, untold, lacks, holds, ReadsAt, Begins, IsLonger}
+use Rattle.hs_outside.specs.Store.{Told, untold, lacks, holds, ReadsAt, Begins, IsLonger, IsMissing, IsFile}
 use Rattle.hs_outside.proofs.Viewing.{Begins-nothing, Begins-read, IsFile-read, IsLonger-seen}
 use Rattle.hs_outside.proofs.Sending.{Took-nothing, Took-append, TookPrefix-after, TookPrefix-longer}
 use Rattle.hs_tool.specs.Accepting.{pattern_of, MatchesNothing}
@@ -301,6 +301,21 @@ pub seen-end : {told : Told} {a b : Option Compiled} {p q : Option (List ℕ)} {
 seen-end {told} {a} {b} {p} {q} {f} {g} {old} {new} offset n nothing room so_far reads = record {
   bytes = so_far.seen;
   file = IsFile-read told so_far.seen offset old new n so_far.begins so_far.length reads nothing room;
+  within = so_far.within;
+  length = so_far.length;
+  scanned = so_far.scanned;
+}
+
+IsFile-gone : (told : Told) (seen : List ℕ) → 0 < length seen → Begins told seen → IsMissing told → IsFile told seen
+IsFile-gone untold seen some begins missing = tt
+IsFile-gone lacks seen some begins missing = absurd (omega (arith, some, ap length begins))
+IsFile-gone (holds file) seen some begins missing = absurd missing
+
+-- a store that gave bytes and then lacks the file tells nothing of it
+pub seen-gone : {told : Told} {a b : Option Compiled} {p q : Option (List ℕ)} {f g : List ℕ} (offset : ℕ) → 0 < offset → IsMissing told → IsScannedTo told a b offset p q f g → IsFileScanned told a b offset p q f g
+seen-gone {told} {a} {b} {p} {q} {f} {g} offset some missing so_far = record {
+  bytes = so_far.seen;
+  file = IsFile-gone told so_far.seen (omega (arith, some, so_far.length)) so_far.begins missing;
   within = so_far.within;
   length = so_far.length;
   scanned = so_far.scanned;

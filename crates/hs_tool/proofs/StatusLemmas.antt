@@ -65,23 +65,24 @@ ends_rose None before now outcome ends e = absurd (let same = ap status_of ends.
 ends_rose (Some (match_file patterns file)) before now outcome ends e = match_rose patterns file before now outcome ends e
 
 -- another status isn't silent
-loud : (n : ℕ) → (n ≡ 1 → ⊥) × (n ≡ 2 → ⊥) × (n ≡ 6 → ⊥) → IsSilentStatus n → ⊥
+loud : (n : ℕ) → (n ≡ 1 → ⊥) × (n ≡ 2 → ⊥) × (n ≡ 6 → ⊥) × (n ≡ 7 → ⊥) → IsSilentStatus n → ⊥
 loud n apart (inl e) = apart.0 e
 loud n apart (inr (inl e)) = apart.1 e
 loud n apart (inr (inr (inl e))) = apart.2 e
-loud n apart (inr (inr (inr e))) = e
+loud n apart (inr (inr (inr (inl e)))) = apart.3 e
+loud n apart (inr (inr (inr (inr e)))) = e
 
 match_silent : (patterns file : List ℕ) (before now : Outside) (outcome : Option Cause) → MatchEnds patterns file before now outcome → IsSilentStatus (status_of outcome) → Took before.out now.out []
-match_silent patterns file before now _ (Answers.done P list written none) e = absurd (loud 0 (λ x. omega arith, λ x. omega arith, λ x. omega arith) e)
+match_silent patterns file before now _ (Answers.done P list written none) e = absurd (loud 0 (λ x. omega arith, λ x. omega arith, λ x. omega arith, λ x. omega arith) e)
 match_silent patterns file before now _ (Answers.no_list missing nothing none) e = nothing
 match_silent patterns file before now _ (Answers.list_failed nothing rose) e = nothing
 match_silent patterns file before now _ (Answers.long_list longer nothing none) e = nothing
 match_silent patterns file before now _ (Answers.list_refused entry refusal has nothing none) e = nothing
 match_silent patterns file before now _ (Answers.no_memory nothing none) e = nothing
-match_silent patterns file before now _ (Answers.no_file P list missing begun none) e = absurd (loud 7 (λ x. omega arith, λ x. omega arith, λ x. omega arith) e)
-match_silent patterns file before now _ (Answers.file_failed P list begun rose) e = absurd (loud 3 (λ x. omega arith, λ x. omega arith, λ x. omega arith) e)
-match_silent patterns file before now _ (Answers.long_file P list longer begun none) e = absurd (loud 8 (λ x. omega arith, λ x. omega arith, λ x. omega arith) e)
-match_silent patterns file before now _ (Answers.sink_failed P list begun rose) e = absurd (loud 3 (λ x. omega arith, λ x. omega arith, λ x. omega arith) e)
+match_silent patterns file before now _ (Answers.no_file P list missing nothing none) e = nothing
+match_silent patterns file before now _ (Answers.file_failed P list begun rose) e = absurd (loud 3 (λ x. omega arith, λ x. omega arith, λ x. omega arith, λ x. omega arith) e)
+match_silent patterns file before now _ (Answers.long_file P list longer begun none) e = absurd (loud 8 (λ x. omega arith, λ x. omega arith, λ x. omega arith, λ x. omega arith) e)
+match_silent patterns file before now _ (Answers.sink_failed P list begun rose) e = absurd (loud 3 (λ x. omega arith, λ x. omega arith, λ x. omega arith, λ x. omega arith) e)
 
 ends_silent : (request : Option Request) (before now : Outside) (outcome : Option Cause) → Ends request before now outcome → IsSilentStatus (status_of outcome) → Took before.out now.out []
 ends_silent None before now outcome ends e = ends.1

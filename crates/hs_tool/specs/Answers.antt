@@ -56,13 +56,11 @@ pub record HasWritten (told : Told) (P : List Pattern) (before now : Option (Lis
   pub match : IsMatchText P bytes text
   pub taken : Took before now text
 
--- The sink took a beginning of the text of the match of the file under the list, where the file is told, and nothing
--- where the store lacks it.
+-- The sink took a beginning of the text of the match of the file under the list, where the file is told.
 pub record HasBegun (told : Told) (P : List Pattern) (before now : Option (List ℕ)) : Type 0 where
   pub front : List ℕ
   pub taken : Took before now front
   pub begins : (bytes text : List ℕ) → told ≡ holds bytes → IsMatchText P bytes text → (rest : List ℕ) × (text ≡ front ++ rest)
-  pub nothing : told ≡ lacks → front ≡ []
 
 -- How `match PATTERNS FILE` may end: done, or by a cause.
 pub data MatchEnds (patterns file : List ℕ) (before now : Outside) : Option Cause → Type 0 where
@@ -74,7 +72,7 @@ pub data MatchEnds (patterns file : List ℕ) (before now : Outside) : Option Ca
   list_refused : (entry : Option (ℕ × ExprId)) (refusal : Refusal) → HasRefusedList (before.told patterns) entry refusal → TookNothing before now → NoFault before now → MatchEnds patterns file before now (Some (refused entry refusal))
   no_memory : TookNothing before now → NoFault before now → MatchEnds patterns file before now (Some memory)
   -- the file
-  no_file : (P : List Pattern) → HasList (before.told patterns) P → IsMissing (before.told file) → HasBegun (before.told file) P before.out now.out → NoFault before now → MatchEnds patterns file before now (Some (absent file))
+  no_file : (P : List Pattern) → HasList (before.told patterns) P → IsMissing (before.told file) → TookNothing before now → NoFault before now → MatchEnds patterns file before now (Some (absent file))
   file_failed : (P : List Pattern) → HasList (before.told patterns) P → HasBegun (before.told file) P before.out now.out → Rose before.stored now.stored → MatchEnds patterns file before now (Some store)
   long_file : (P : List Pattern) → HasList (before.told patterns) P → IsLonger (before.told file) greatest_offset → HasBegun (before.told file) P before.out now.out → NoFault before now → MatchEnds patterns file before now (Some limit)
   sink_failed : (P : List Pattern) → HasList (before.told patterns) P → HasBegun (before.told file) P before.out now.out → Rose before.sunk now.sunk → MatchEnds patterns file before now (Some write)
@@ -116,6 +114,6 @@ pub record IsAnswer (request : Option Request) (before now : Outside) (err erred
 abbrev pub IsStatus : ℕ → Type 0
 IsStatus status = OneOf (λ n. status ≡ n) (0 ∷ 1 ∷ 2 ∷ 3 ∷ 6 ∷ 7 ∷ 8 ∷ [])
 
--- the statuses with which nothing was written to the sink: wrong words, a refusal, no memory
+-- the statuses with which nothing was written to the sink: wrong words, a refusal, no memory, no file
 abbrev pub IsSilentStatus : ℕ → Type 0
-IsSilentStatus status = OneOf (λ n. status ≡ n) (1 ∷ 2 ∷ 6 ∷ [])
+IsSilentStatus status = OneOf (λ n. status ≡ n) (1 ∷ 2 ∷ 6 ∷ 7 ∷ [])

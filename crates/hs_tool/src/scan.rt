@@ -5,7 +5,8 @@ ghost use Rattle.hs_outside.specs.Counts.{Rose};
 ghost use Rattle.hs_outside.specs.Sink.{TookPrefix};
 ghost use Rattle.hs_tool.specs.Lines.{pair_of};
 ghost use Rattle.hs_tool.specs.Passing.{Passes};
-ghost use Rattle.hs_tool.specs.Scanning.{greatest_offset, IsScanned, IsCutShort, Interrupts, IsFileScanned, IsFilePartlyScanned};
+ghost use Rattle.hs_tool.specs.declared.scan.ScanFault.TheVariants.{Absent};
+ghost use Rattle.hs_tool.specs.Scanning.{greatest_offset, IsScanned, IsCutShort, Interrupts, IsScannedTo, IsFileScanned, IsFilePartlyScanned};
 
 use crate::compile::Compiled;
 use crate::lines::{self, LINE_LEN};
@@ -45,6 +46,8 @@ pub fn scan_file<S: Store, O: Sink>(
     ensures counted { OnOk result ((S.faults store.new ≡ S.faults store.old) × (O.faults out.new ≡ O.faults out.old)) }
     ensures cut { OnErr result (IsFilePartlyScanned (S.told store.old name.now) compiled.old
         (O.written out.old) (O.written out.new) pending.old) }
+    ensures unread { IfErr result (λ fault. fault ≡ Absent → IsScannedTo (S.told store.old name.now) compiled.old compiled.new 0
+        (O.written out.old) (O.written out.new) pending.old pending.new) }
     ensures fault { IfErr result (λ fault. Interrupts fault (S.told store.old name.now)
         (S.faults store.old) (S.faults store.new) (O.faults out.old) (O.faults out.new)) }
     ensures kept { S.told store.new ≡ S.told store.old }
@@ -55,7 +58,9 @@ pub fn scan_file<S: Store, O: Sink>(
         let count = match store.read_at(name, offset, &mut piece) {
             Ok(0) => return Ok(offset),
             Ok(count) => count,
-            Err(StoreFault::Absent) => return Err(ScanFault::Absent),
+            Err(StoreFault::Absent) if offset == 0 => return Err(ScanFault::Absent),
+            // A store that gave bytes of the file and now lacks it tells nothing of it: the file ends here.
+            Err(StoreFault::Absent) => return Ok(offset),
             Err(StoreFault::Failed) => return Err(ScanFault::Store),
         };
         if MAX_OFFSET - offset < count as u64 {

@@ -12,8 +12,8 @@ pub returns-in-Err-scan_file-clause-ends : goal.returns-in-Err-scan_file-clause-
 returns-in-Err-scan_file-clause-ends g c =
     let loaded = c.in-Ok.ensures in
     let scan = c.in-Err-scan_file.ensures in
-    scan_stops c.args.patterns.now c.args.file.now _ _ (g.S.Store.told c.load.new.store) (g.S.Store.faults c.load.new.store) c.new-pending.result c.in-Ok.compiled c.in-Err-scan_file.fault _
-    loaded.kept loaded.counted c.new-pending.ensures loaded.loaded scan.cut scan.fault c.fault_of.ensures
+    scan_stops c.args.patterns.now c.args.file.now _ _ (g.S.Store.told c.load.new.store) (g.S.Store.faults c.load.new.store) c.new-pending.result c.scan_file.new.pending c.in-Ok.compiled c.scan_file.new.compiled c.in-Err-scan_file.fault _
+    loaded.kept loaded.counted c.new-pending.ensures loaded.loaded scan.cut scan.unread scan.fault c.fault_of.ensures
 
 pub returns-in-Ok-finish-clause-ends : goal.returns-in-Ok-finish-clause-ends
 returns-in-Ok-finish-clause-ends g c =
