@@ -1,4 +1,5 @@
 pub mod Refusals
+pub mod Entries
 pub mod ByteSets
 pub mod Members
 pub mod Lists

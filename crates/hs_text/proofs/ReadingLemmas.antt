@@ -7,7 +7,7 @@ use Rattle.hs_base.specs.declared.ext.Entry.{Entry}
 use Rattle.hs_text.specs.declared.line.Line.{Line}
 use Rattle.hs_text.specs.declared.line.Line.TheVariants as line
 use Rattle.hs_text.specs.Lines.{Begins, unended, ended}
-use Rattle.hs_text.specs.EntryLines.{ListedEntry}
+use Rattle.hs_base.specs.Entries.{ListedEntry}
 use Rattle.hs_text.specs.PatternFile.{IsList, nothing, skipped, listed, HasBadLine, behind_skipped, behind_entry}
 use Rattle.hs_text.specs.Reading.{listed_parts, IsReadAs, Adds}
 use Rattle.hs_text.specs.Reading as reading
