@@ -15,6 +15,7 @@ pub mod Patterns
 pub mod Reports
 pub mod Told
 pub mod MatchText
+pub mod Settling
 pub mod AssertionFree
 pub mod Laws
 pub mod ContextLaws
