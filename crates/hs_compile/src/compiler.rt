@@ -1,0 +1,40 @@
+//! The list, entry by entry.
+ghost use Rattle.std.specs.Prelude.{◌≡◌, ◌≤◌, ℕ, ◌+◌, IfOk, IfErr, length, map, take};
+ghost use Rattle.hs_base.specs.Entries.{listed};
+ghost use Rattle.hs_compile.specs.Answers.{IsCompiled, IsCauseOf, AreCompiled};
+
+use crate::database::Database;
+use crate::entry::compile_entry;
+use crate::fault::CompileFault;
+use hs_base::Entry;
+use hs_glushkov::Plain;
+use hs_rose::{Expression, Program};
+use std::alloc::Global;
+
+/// The most entries of a list.
+pub const MAX_ENTRIES: usize = 65_536;
+
+/// Compiles a list of expressions. A list is refused by its first entry that has a refusal, with the first of those, in
+/// the order of their numbers; else it is what scans each of its expressions.
+pub fn compile(alloc: Global, entries: &[Entry]) -> Result<Database, CompileFault>
+    ensures compiled { IfOk result (IsCompiled (map listed entries.now)) }
+    ensures refused { IfErr result (IsCauseOf (map listed entries.now)) }
+{
+    let expressions = compile_entries(alloc, entries)?;
+    Ok(Database::new(Program::build(alloc, expressions)?))
+}
+
+/// What runs each expression of the list, in order.
+fn compile_entries(alloc: Global, entries: &[Entry]) -> Result<Vec<Expression<Plain>>, CompileFault>
+    ensures compiled { IfOk result (λ expressions. AreCompiled (map listed entries.now) expressions.items) }
+    ensures refused { IfErr result (IsCauseOf (map listed entries.now)) }
+{
+    let mut expressions = Vec::new(alloc);
+    for i in 0..entries.len()
+        invariant compiled { AreCompiled (map listed (take i entries.now)) expressions.items }
+    {
+        let expression = compile_entry(alloc, i + 1, &entries[i])?;
+        expressions.push(expression)?;
+    }
+    Ok(expressions)
+}

@@ -1,0 +1,11 @@
+//! From a list of expressions to what scans them: the first refusal of the list, or a database.
+#![tactic(auto)]
+
+mod compiler;
+mod database;
+mod entry;
+mod fault;
+
+pub use compiler::{MAX_ENTRIES, compile};
+pub use database::Database;
+pub use fault::CompileFault;
