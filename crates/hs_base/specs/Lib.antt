@@ -1,4 +1,5 @@
 pub mod Refusals
+pub mod Entries
 pub mod ByteSets
 pub mod Members
 pub mod Lists
@@ -14,6 +15,7 @@ pub mod Patterns
 pub mod Reports
 pub mod Told
 pub mod MatchText
+pub mod Settling
 pub mod AssertionFree
 pub mod Laws
 pub mod ContextLaws

@@ -1,4 +1,5 @@
-use crate::entry::{ExprId, Flags};
+use crate::entry::ExprId;
+use crate::flags::Flags;
 
 /// The extended parameters of an expression (Hyperscan Developer's Reference Guide, `hs_expr_ext_t`).
 #[derive(Clone, Copy, Debug, PartialEq, Eq)]

@@ -4,10 +4,12 @@
 
 mod assertion;
 mod byte_set;
+mod construct;
 mod context;
 pub mod context_laws;
 mod entry;
 mod ext;
+mod flags;
 pub mod laws;
 mod members;
 mod refusal;
@@ -15,8 +17,10 @@ pub mod written_out_laws;
 
 pub use assertion::Assertion;
 pub use byte_set::ByteSet;
+pub use construct::Construct;
 pub use context::{Mask, Next, NextSet, Prev};
-pub use entry::{ExprId, Flags, Report};
+pub use entry::{ExprId, Report};
 pub use ext::{Entry, Ext};
+pub use flags::Flags;
 pub use members::Members;
-pub use refusal::{Construct, Refusal};
+pub use refusal::Refusal;

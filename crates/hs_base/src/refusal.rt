@@ -1,21 +1,43 @@
 ghost use Rattle.std.specs.Prelude.{◌≡◌};
 ghost use Rattle.hs_base.specs.Refusals.{number_of};
 
-/// A form of the pattern syntax that is read and refused.
-#[derive(Clone, Copy, Debug, PartialEq, Eq)]
-pub enum Construct {
-    /// A form that this version doesn't read yet.
-    Later,
-}
+use crate::construct::Construct;
+use crate::entry::ExprId;
 
-/// Why a list of expressions is refused. Places are offsets in bytes in the text of an expression, lines are counted
-/// from 1.
+/// Why a list of expressions is refused. Places are offsets in bytes in the text of an expression; entries and lines are
+/// counted from 1.
 #[derive(Clone, Copy, Debug, PartialEq, Eq)]
 pub enum Refusal {
+    /// At this place the text has no form.
+    Syntax(u32),
+    /// The escape that begins at this place isn't known.
+    UnknownEscape(u32),
     /// The construct that begins at this place isn't supported.
     Unsupported(Construct, u32),
+    /// This flag, one bit, isn't supported.
+    UnsupportedFlag(u32),
+    /// This extended parameter, one bit, isn't supported.
+    UnsupportedParameter(u32),
     /// The expression matches the empty text, which has to be allowed by a flag.
     MatchesEmpty,
+    /// Bytes may still be consumed behind an assertion of the stream's end.
+    EmbeddedEnd,
+    /// A bound of a quantifier, given here, is too great.
+    RepeatLimit(u32),
+    /// The expression has too many positions: so many.
+    PositionLimit(u32),
+    /// The text is too long.
+    LengthLimit,
+    /// Too many groups are open at once.
+    DepthLimit,
+    /// The list has too many entries.
+    CountLimit,
+    /// The state of a stream would take too many bytes: so many.
+    StateLimit(u64),
+    /// An earlier entry of this identifier differs in whether it is reported at most once.
+    MixedSingle(ExprId),
+    /// The least end offset is above the greatest.
+    OffsetOrder,
     /// This line of the pattern file has another form.
     ListLine(u64),
 }
@@ -26,8 +48,21 @@ impl Refusal {
         ensures { result ≡ number_of self.now }
     {
         match self {
+            Refusal::Syntax(_) => 1,
+            Refusal::UnknownEscape(_) => 2,
             Refusal::Unsupported(_, _) => 3,
+            Refusal::UnsupportedFlag(_) => 4,
+            Refusal::UnsupportedParameter(_) => 5,
             Refusal::MatchesEmpty => 6,
+            Refusal::EmbeddedEnd => 7,
+            Refusal::RepeatLimit(_) => 8,
+            Refusal::PositionLimit(_) => 9,
+            Refusal::LengthLimit => 10,
+            Refusal::DepthLimit => 11,
+            Refusal::CountLimit => 12,
+            Refusal::StateLimit(_) => 13,
+            Refusal::MixedSingle(_) => 14,
+            Refusal::OffsetOrder => 15,
             Refusal::ListLine(_) => 16,
         }
     }

@@ -5,7 +5,8 @@ use Rattle.std.proofs.lemmas.List.{length-append}
 use Rattle.hs_base.specs.Lists.{Each}
 use Rattle.hs_base.specs.Assertions.{line_feed}
 use Rattle.hs_text.specs.Lines.{IsLineOf, plain, returned, Begins, unended, ended}
-use Rattle.hs_text.specs.EntryLines.{ListedEntry, IsEntryLine}
+use Rattle.hs_base.specs.Entries.{ListedEntry}
+use Rattle.hs_text.specs.EntryLines.{IsEntryLine}
 use Rattle.hs_text.specs.PatternFile.{IsSkipped, IsBad, IsList, nothing, skipped, listed, HasBadLine, first, behind_skipped, behind_entry}
 use Rattle.hs_text.specs.Laws.{NeverNeither}
 use Rattle.hs_text.proofs.LineLemmas.{begins_once, entry_once, skipped-no_entry}

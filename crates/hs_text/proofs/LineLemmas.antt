@@ -9,7 +9,8 @@ use Rattle.hs_text.specs.Numbers.{IsDigit, value_from}
 use Rattle.hs_text.specs.FlagLetters.{AreFlags}
 use Rattle.hs_text.specs.Parameters.{no_parameters, AreSettings}
 use Rattle.hs_text.specs.Lines.{IsLineOf, plain, returned, Begins, unended, ended}
-use Rattle.hs_text.specs.EntryLines.{ListedEntry, HasTail, bare, braced, IsEntryLine}
+use Rattle.hs_base.specs.Entries.{ListedEntry}
+use Rattle.hs_text.specs.EntryLines.{HasTail, bare, braced, IsEntryLine}
 use Rattle.hs_text.specs.PatternFile.{IsSkipped, empty, comment}
 use Rattle.hs_text.proofs.CutLemmas.{AreSame, each-append, no_separator, cut_once, cut_last_once}
 use Rattle.hs_text.proofs.NumberLemmas.{number_apart, flags_once, letters_apart}

@@ -7,7 +7,8 @@ use Rattle.hs_base.specs.declared.ext.Entry.{Entry}
 use Rattle.hs_text.specs.declared.line.Line.{Line}
 use Rattle.hs_text.specs.declared.line.Line.TheVariants as line
 use Rattle.hs_text.specs.Lines.{Begins, unended, ended}
-use Rattle.hs_text.specs.EntryLines.{ListedEntry}
+use Rattle.hs_base.specs.Entries.{ListedEntry}
+use Rattle.hs_base.specs.Entries as base
 use Rattle.hs_text.specs.PatternFile.{IsList, nothing, skipped, listed, HasBadLine, behind_skipped, behind_entry}
 use Rattle.hs_text.specs.Reading.{listed_parts, IsReadAs, Adds}
 use Rattle.hs_text.specs.Reading as reading
@@ -22,14 +23,14 @@ behind_shorter {file = file} (unended some p l none) = let long = not_shorter fi
 behind_shorter {rest = rest} (ended raw p l whole) = omega (arith, ap length whole ∙ length-append raw (line_feed ∷ rest))
 
 -- the list of the lines that are left goes on the entries before
-pub list_step : (bytes file text rest : List ℕ) (read : Line) (before after : List Entry) → Begins text rest file → IsReadAs text read → Adds read before after → ((xs : List ListedEntry) → IsList file xs → IsList bytes (map reading.listed before ++ xs)) → (xs : List ListedEntry) → IsList rest xs → IsList bytes (map reading.listed after ++ xs)
+pub list_step : (bytes file text rest : List ℕ) (read : Line) (before after : List Entry) → Begins text rest file → IsReadAs text read → Adds read before after → ((xs : List ListedEntry) → IsList file xs → IsList bytes (map base.listed before ++ xs)) → (xs : List ListedEntry) → IsList rest xs → IsList bytes (map base.listed after ++ xs)
 list_step bytes file text rest line.Skipped before after begins s same kept xs list =
     subst (λ es. IsList bytes (es ++ xs)) (sym same) (kept xs (skipped begins s list))
 list_step bytes file text rest (line.Entry parts) before after begins h added kept xs list =
     subst
     (λ es. IsList bytes (es ++ xs))
     (sym added)
-    (subst (IsList bytes) (sym (append_assoc (map reading.listed before) (listed_parts parts ∷ []) xs)) (kept (listed_parts parts ∷ xs) (listed begins h list)))
+    (subst (IsList bytes) (sym (append_assoc (map base.listed before) (listed_parts parts ∷ []) xs)) (kept (listed_parts parts ∷ xs) (listed begins h list)))
 
 -- a bad line of those that are left is one of the file, by as many lines later as were read
 pub bad_step : (bytes file text rest : List ℕ) (number : ℕ) (read : Line) → Begins text rest file → IsReadAs text read → ((n : ℕ) → HasBadLine file n → HasBadLine bytes (number + n)) → (n : ℕ) → HasBadLine rest n → HasBadLine bytes (number + 1 + n)
@@ -39,6 +40,6 @@ bad_step bytes file text rest number (line.Entry parts) begins h kept n bad =
     subst (HasBadLine bytes) (let e : number + suc n ≡ number + 1 + n = omega arith in e) (kept (suc n) (behind_entry begins h bad))
 
 -- where no line is left, the entries are the list
-pub list_end : (bytes file : List ℕ) (entries : List Entry) → eqb (length file) 0 ≡ true → ((xs : List ListedEntry) → IsList file xs → IsList bytes (map reading.listed entries ++ xs)) → IsList bytes (map reading.listed entries)
-list_end bytes [] entries e kept = subst (IsList bytes) (append-nil (map reading.listed entries)) (kept [] nothing)
+pub list_end : (bytes file : List ℕ) (entries : List Entry) → eqb (length file) 0 ≡ true → ((xs : List ListedEntry) → IsList file xs → IsList bytes (map base.listed entries ++ xs)) → IsList bytes (map base.listed entries)
+list_end bytes [] entries e kept = subst (IsList bytes) (append-nil (map base.listed entries)) (kept [] nothing)
 list_end bytes (x ∷ xs) entries e kept = let none = eqb-true _ _ e in absurd (omega arith)

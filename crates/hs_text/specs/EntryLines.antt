@@ -1,16 +1,10 @@
 -- The line of an entry: `ID:/expression/flags`, with `{name=N,..}` behind it where parameters are given.
 use Rattle.std.specs.Prelude.{◌≡◌, ℕ, ◌^◌, List, ◌++◌, codes}
 use Rattle.hs_base.specs.declared.ext.Ext.{Ext}
+use Rattle.hs_base.specs.Entries.{ListedEntry}
 use Rattle.hs_text.specs.Numbers.{IsNumber}
 use Rattle.hs_text.specs.FlagLetters.{AreFlags}
 use Rattle.hs_text.specs.Parameters.{no_parameters, AreSettings}
-
--- an expression of a list, with what is asked of its matches
-pub record ListedEntry : Type 0 where
-  pub id : ℕ
-  pub flags : ℕ
-  pub ext : Ext
-  pub text : List ℕ
 
 -- Behind the expression stand letters of flags, and the parameters in braces where some are given.
 pub data HasTail (tail : List ℕ) (flags : ℕ) (ext : Ext) : Type 0 where

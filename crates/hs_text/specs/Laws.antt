@@ -1,6 +1,6 @@
 -- What holds of every file.
 use Rattle.std.specs.Prelude.{◌≡◌, ℕ, List}
-use Rattle.hs_text.specs.EntryLines.{ListedEntry}
+use Rattle.hs_base.specs.Entries.{ListedEntry}
 use Rattle.hs_text.specs.PatternFile.{IsList, HasBadLine}
 
 -- A file is a list in at most one way.

@@ -1,7 +1,8 @@
 -- Pattern files: which list a file is, or which line is the first that isn't of the form.
 use Rattle.std.specs.Prelude.{◌≡◌, ℕ, suc, List, [], ◌∷◌, ◌++◌, codes}
 use Rattle.hs_text.specs.Lines.{Begins}
-use Rattle.hs_text.specs.EntryLines.{ListedEntry, IsEntryLine}
+use Rattle.hs_base.specs.Entries.{ListedEntry}
+use Rattle.hs_text.specs.EntryLines.{IsEntryLine}
 
 -- the line says nothing: it is empty, or begins with `#`
 pub data IsSkipped (line : List ℕ) : Type 0 where

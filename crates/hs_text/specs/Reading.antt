@@ -7,12 +7,9 @@ use Rattle.hs_text.specs.declared.fault.ListFault.TheVariants as fault
 use Rattle.hs_text.specs.declared.line.Line.{Line}
 use Rattle.hs_text.specs.declared.line.Line.TheVariants as line
 use Rattle.hs_text.specs.declared.line.EntryParts.{EntryParts}
-use Rattle.hs_text.specs.EntryLines.{ListedEntry, IsEntryLine}
+use Rattle.hs_base.specs.Entries.{ListedEntry, listed}
+use Rattle.hs_text.specs.EntryLines.{IsEntryLine}
 use Rattle.hs_text.specs.PatternFile.{IsSkipped, HasBadLine}
-
--- the entry of a list that is kept
-abbrev pub listed : Entry → ListedEntry
-listed entry = record { id = entry.id.0; flags = entry.flags.0; ext = entry.ext; text = entry.text.items }
 
 -- the entry that parts of a line say
 abbrev pub listed_parts : EntryParts → ListedEntry

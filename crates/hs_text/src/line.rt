@@ -3,7 +3,8 @@ ghost use Rattle.std.specs.Prelude.{◌≡◌, ◌≢◌, ℕ, [], ◌^◌, List
 ghost use Rattle.hs_base.specs.declared.ext.Ext.{Ext};
 ghost use Rattle.hs_text.specs.Numbers.{IsNumber};
 ghost use Rattle.hs_text.specs.Lines.{Begins, IsLineOf};
-ghost use Rattle.hs_text.specs.EntryLines.{ListedEntry, HasTail, IsEntryLine};
+ghost use Rattle.hs_base.specs.Entries.{ListedEntry};
+ghost use Rattle.hs_text.specs.EntryLines.{HasTail, IsEntryLine};
 ghost use Rattle.hs_text.specs.PatternFile.{IsSkipped, IsBad};
 ghost use Rattle.hs_text.specs.Reading.{listed_parts, IsReadAs};
 

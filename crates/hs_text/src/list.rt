@@ -2,7 +2,8 @@
 ghost use Rattle.std.specs.Prelude.{◌≡◌, map, MatchResult};
 ghost use Rattle.hs_text.specs.declared.fault.ListFault.TheVariants.{Memory};
 ghost use Rattle.hs_text.specs.PatternFile.{IsList};
-ghost use Rattle.hs_text.specs.Reading.{listed, IsEntryOf, Adds, IsFaultOf};
+ghost use Rattle.hs_base.specs.Entries.{listed};
+ghost use Rattle.hs_text.specs.Reading.{IsEntryOf, Adds, IsFaultOf};
 
 use crate::fault::ListFault;
 use crate::line::{EntryParts, Line, first_line, read_line};

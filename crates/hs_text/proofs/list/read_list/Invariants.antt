@@ -1,7 +1,7 @@
 use Rattle.std.proofs.Common.{ℕ, List, ◌++◌, ◌+◌, ◌≤◌, length, map}
-use Rattle.hs_text.specs.EntryLines.{ListedEntry}
+use Rattle.hs_base.specs.Entries.{ListedEntry}
 use Rattle.hs_text.specs.PatternFile.{IsList, HasBadLine}
-use Rattle.hs_text.specs.Reading.{listed}
+use Rattle.hs_base.specs.Entries.{listed}
 use Rattle.hs_text.proofs.list.read_list.Given as goal
 
 abbrev pub invariant-loop-rest : goal.invariant-loop-rest
