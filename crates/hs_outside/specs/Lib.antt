@@ -7,3 +7,6 @@ pub mod MemStore
 pub mod Sink
 pub mod Source
 pub mod Store
+pub mod SureSink
+pub mod SureSource
+pub mod SureStore

@@ -1,5 +1,5 @@
 -- What a store tells of each name, and what its calls say of it.
-use Rattle.std.specs.Prelude.{◌≡◌, ◌≢◌, ℕ, ◌<◌, ◌≤◌, List, [], ◌++◌, length, take, drop}
+use Rattle.std.specs.Prelude.{◌≡◌, ◌≢◌, ◌⊎◌, ℕ, ◌<◌, ◌≤◌, List, [], ◌++◌, length, take, drop}
 use Rattle.hs_outside.specs.Counts.{Rose}
 use Rattle.hs_outside.specs.declared.fault.StoreFault.{StoreFault}
 use Rattle.hs_outside.specs.declared.fault.StoreFault.TheVariants.{Absent, Failed}
@@ -62,6 +62,14 @@ KeepsOthers before now name = (other : List ℕ) → other ≢ name → now othe
 pub record Puts (before now : List ℕ → Told) (name bytes : List ℕ) : Type 0 where
   pub file : now name ≡ told_put (before name) bytes
   pub others : KeepsOthers before now name
+
+-- nothing is told of any name
+abbrev pub TellsNothing : (List ℕ → Told) → Type 0
+TellsNothing now = (name : List ℕ) → now name ≡ untold
+
+-- a store may stop telling with a put, and then tells nothing later
+abbrev pub PutsOrHides : (List ℕ → Told) → (List ℕ → Told) → List ℕ → List ℕ → Type 0
+PutsOrHides before now name bytes = Puts before now name bytes ⊎ TellsNothing now
 
 -- the one file may be anything now, and what is told of each other name is as it was; what wasn't told isn't told now
 pub record Spoils (before now : List ℕ → Told) (name : List ℕ) : Type 0 where

@@ -15,6 +15,9 @@ mod source;
 mod std_sink;
 mod std_source;
 mod store;
+mod sure_sink;
+mod sure_source;
+mod sure_store;
 #[cfg(test)]
 mod tests;
 mod transfer;
@@ -29,4 +32,7 @@ pub use source::Source;
 pub use std_sink::StdSink;
 pub use std_source::StdSource;
 pub use store::Store;
+pub use sure_sink::SureSink;
+pub use sure_source::SureSource;
+pub use sure_store::SureStore;
 pub use transfer::{read_file, read_to_end, write_all};

@@ -5,7 +5,7 @@ ghost use Rattle.hs_outside.specs.Counts.{Rose};
 ghost use Rattle.hs_outside.specs.FaultPlan.{is_listed};
 ghost use Rattle.hs_outside.specs.MemFile.{files_of};
 ghost use Rattle.hs_outside.specs.MemStore.{IsFirstNamed, first_store, content_of, told_in, read_answer, plan_read, put_in, has_room, refuses_put, after_put};
-ghost use Rattle.hs_outside.specs.Store.{holds, ReadsAt, Refuses, Puts, Spoils};
+ghost use Rattle.hs_outside.specs.Store.{holds, ReadsAt, Refuses, Puts, PutsOrHides, Spoils};
 
 use crate::fault_plan::FaultPlan;
 use crate::mem_file::MemFile;
@@ -195,7 +195,8 @@ impl Store for MemStore {
     fn put(&mut self, name: &str, bytes: &[u8]) -> Result<(), Failed>
         ensures full { IsErr result ↔ IsTrue (refuses_put self.old name.now bytes.now) }
         ensures after { self.new ≡ after_put self.old name.now bytes.now }
-        ensures done { OnOk result (Puts (told_in self.old) (told_in self.new) name.now bytes.now) }
+        ensures filed { OnOk result (Puts (told_in self.old) (told_in self.new) name.now bytes.now) }
+        ensures done { OnOk result (PutsOrHides (told_in self.old) (told_in self.new) name.now bytes.now) }
         ensures counted { OnOk result (self.new.plan.faults ≡ self.old.plan.faults) }
         ensures spoiled { OnErr result (Spoils (told_in self.old) (told_in self.new) name.now) }
         ensures failed { OnErr result (Rose self.old.plan.faults self.new.plan.faults) }

@@ -1,7 +1,7 @@
 //! What holds files by name.
 ghost use Rattle.std.specs.Prelude.{◌≡◌, ℕ, List, IfOk, OnOk, IfErr, OnErr};
 ghost use Rattle.hs_outside.specs.Counts.{Rose};
-ghost use Rattle.hs_outside.specs.Store.{Told, ReadsAt, Refuses, Puts, Spoils};
+ghost use Rattle.hs_outside.specs.Store.{Told, ReadsAt, Refuses, PutsOrHides, Spoils};
 
 use crate::{Failed, StoreFault};
 
@@ -22,9 +22,9 @@ pub trait Store {
         ensures kept { told self.new ≡ told self.old };
 
     /// Makes `bytes` the whole of the file `name`, which needn't be there before. After a failure that one file may be
-    /// anything.
+    /// anything. A store may lose a put, if it tells nothing of any file from then on.
     fn put(&mut self, name: &str, bytes: &[u8]) -> Result<(), Failed>
-        ensures done { OnOk result (Puts (told self.old) (told self.new) name.now bytes.now) }
+        ensures done { OnOk result (PutsOrHides (told self.old) (told self.new) name.now bytes.now) }
         ensures counted { OnOk result (faults self.new ≡ faults self.old) }
         ensures spoiled { OnErr result (Spoils (told self.old) (told self.new) name.now) }
         ensures failed { OnErr result (Rose (faults self.old) (faults self.new)) };

@@ -1,7 +1,8 @@
 //! The versions over memory call by call, the loops over them, and the adapters over real files.
 use crate::{
     Failed, FileFault, FolderStore, MemSink, MemSource, MemStore, Sink, Source, SourceFault,
-    StdSink, StdSource, Store, StoreFault, read_file, read_to_end, write_all,
+    StdSink, StdSource, Store, StoreFault, SureSink, SureSource, SureStore, read_file, read_to_end,
+    write_all,
 };
 use std::test::Fail;
 use std::{fs, process};
@@ -125,6 +126,60 @@ fn a_file_is_read_whole_within_the_limit(rt: HostRuntime) -> Result<(), Fail> {
         assert_eq!(rt; read.as_ref().err().copied(), fault, "limit {limit}");
         assert!(rt; fault.is_some() || read.is_ok_and(|bytes| bytes.as_slice() == text.as_slice()));
     }
+    Ok(())
+}
+
+#[test]
+fn a_sure_source_gives_pieces(rt: HostRuntime) -> Result<(), Fail> {
+    let mut source = SureSource::new(rt.alloc(), b"Look, a bird", &[2, 1, 5])?;
+    for (at, read) in [2, 1, 4, 4, 1, 0, 0].iter().enumerate() {
+        let mut buf = *b"____";
+        assert_eq!(rt; source.read(&mut buf), Ok(*read), "read {at}");
+    }
+    let mut source = SureSource::new(rt.alloc(), b"Look, a bird", &[])?;
+    let read = read_to_end(rt.alloc(), &mut source, 12);
+    assert!(rt; read.is_ok_and(|bytes| bytes.as_slice() == b"Look, a bird".as_slice()));
+    Ok(())
+}
+
+#[test]
+fn a_sure_sink_tells_until_it_is_full(rt: HostRuntime) -> Result<(), Fail> {
+    let mut sink = SureSink::new(rt.alloc(), 12)?;
+    assert_eq!(rt; write_all(&mut sink, b"Look, "), Ok(()));
+    assert_eq!(rt; write_all(&mut sink, b"a bird"), Ok(()));
+    assert_eq!(rt; sink.write(b""), Ok(0));
+    assert!(rt;
+        sink.written()
+            .is_some_and(|bytes| bytes == b"Look, a bird".as_slice())
+    );
+    assert_eq!(rt; sink.write(b"!"), Ok(1));
+    assert!(rt; sink.written().is_none());
+    assert_eq!(rt; sink.write(b""), Ok(0));
+    assert!(rt; sink.written().is_none());
+    Ok(())
+}
+
+#[test]
+fn a_sure_store_tells_until_it_is_full(rt: HostRuntime) -> Result<(), Fail> {
+    let mut store = SureStore::new(rt.alloc(), 2, 12)?;
+    assert_eq!(rt; store.put("a", b"Look"), Ok(()));
+    assert_eq!(rt; store.put("b", b"bird"), Ok(()));
+    assert_eq!(rt; store.put("a", b"Look, "), Ok(()), "12 bytes");
+    assert!(rt; store.is_told());
+    assert_eq!(rt; store.put("a", b"Look, a"), Ok(()), "13 bytes");
+    assert!(rt; !store.is_told());
+    assert_eq!(rt; store.put("b", b"!"), Ok(()));
+    assert!(rt; !store.is_told());
+    assert_eq!(rt; store.file("a").unwrap_or(b""), b"Look, ".as_slice());
+    let mut buf = *b"____";
+    assert_eq!(rt; store.read_at("b", 0, &mut buf), Ok(1));
+    assert_eq!(rt; buf.as_slice(), b"!___".as_slice());
+    assert_eq!(rt; store.read_at("a", 4, &mut buf), Ok(2));
+    assert_eq!(rt; store.read_at("c", 0, &mut buf), Err(StoreFault::Absent));
+    let mut store = SureStore::new(rt.alloc(), 1, 12)?;
+    assert_eq!(rt; store.put("a", b""), Ok(()));
+    assert_eq!(rt; store.put("b", b""), Ok(()), "a second file");
+    assert!(rt; !store.is_told());
     Ok(())
 }
 

@@ -6,3 +6,7 @@ pub mod EntryLines
 pub mod PatternFile
 pub mod Reading
 pub mod Laws
+pub mod ReportLines
+pub mod RefusalValues
+pub mod RefusalLines
+pub mod ValueTexts

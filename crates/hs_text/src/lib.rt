@@ -1,4 +1,6 @@
-//! The reader of pattern files. `specs/PatternFile.antt` says which lists a file is, and which line is its first bad one.
+//! The texts of the program: the reader of pattern files, and the lines that are written. `specs/PatternFile.antt` says
+//! which lists a file is, and which line is its first bad one; `specs/ReportLines.antt` and `specs/RefusalLines.antt` say
+//! the lines.
 #![tactic(auto)]
 
 mod cut;
@@ -6,11 +8,18 @@ mod fault;
 mod flag;
 pub mod laws;
 mod line;
+mod line_buffer;
 mod list;
 mod number;
 mod parameter;
+mod refusal_lines;
+mod refusal_values;
+mod report_lines;
 #[cfg(test)]
 mod tests;
 
 pub use fault::ListFault;
+pub use line_buffer::LINE_LEN;
 pub use list::read_list;
+pub use refusal_lines::refusal_line;
+pub use report_lines::{NAME_LEN, end_line, report_line};
