@@ -1,5 +1,4 @@
-pub mod FileLemmas
-pub mod SequenceLemmas
+pub mod PassLemmas
 pub mod ScanLemmas
 pub mod AnswerLemmas
 pub mod OnceLemmas

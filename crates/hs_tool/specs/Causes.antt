@@ -2,7 +2,7 @@
 use Rattle.std.specs.Prelude.{ℕ, List, [], ◌++◌, codes, Option, Some, None, Result, Ok, Err}
 use Rattle.hs_base.specs.declared.entry.ExprId.{ExprId}
 use Rattle.hs_base.specs.declared.refusal.Refusal.{Refusal}
-use Rattle.hs_tool.specs.Lines.{refusal_line}
+use Rattle.hs_text.specs.RefusalLines.{refusal_line}
 use Rattle.hs_tool.specs.declared.fault.Fault.{Fault}
 use Rattle.hs_tool.specs.declared.fault.Fault.TheVariants.{Usage, Refused, Write, Store, Absent, Limit, Memory}
 

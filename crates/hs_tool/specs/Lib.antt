@@ -1,10 +1,7 @@
-pub mod Lines
-pub mod PatternFile
-pub mod Automata
-pub mod Following
 pub mod Accepting
 pub mod Running
 pub mod Passing
+pub mod Printing
 pub mod Scanning
 pub mod Requests
 pub mod Causes

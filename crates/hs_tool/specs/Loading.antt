@@ -1,20 +1,24 @@
 -- What the steps of a command that scans a file leave.
-use Rattle.std.specs.Prelude.{◌≡◌, ℕ, ◌≤◌, List, length, Option}
+use Rattle.std.specs.Prelude.{◌≡◌, ℕ, ◌≤◌, List, length}
 use Rattle.hs_outside.specs.Counts.{Rose}
 use Rattle.hs_outside.specs.Store.{Told, IsFile, IsLonger, IsMissing}
-use Rattle.hs_tool.specs.Running.{IsCompiled}
+use Rattle.hs_base.specs.Patterns.{Pattern}
+use Rattle.hs_compile.specs.declared.database.Database.{Database}
+use Rattle.hs_compile.specs.Databases.{IsDatabaseOf}
+use Rattle.hs_tool.specs.Accepting.{IsAccepted}
 use Rattle.hs_tool.specs.Causes.{Cause, usage, refused, write, store, absent, limit, memory}
 use Rattle.hs_tool.specs.Answers.{greatest_list, HasRefusedList}
-use Rattle.hs_tool.specs.declared.compile.Compiled.{Compiled}
 use Rattle.hs_tool.specs.declared.scan.ScanFault.{ScanFault}
 use Rattle.hs_tool.specs.declared.scan.ScanFault.TheVariants.{Absent, Store, Write, Limit}
 
--- the pattern file is there, not too long, and compiled
-pub record IsLoaded (told : Told) (compiled : Option Compiled) : Type 0 where
+-- The pattern file is there, not too long, and accepted, and the database is that of its patterns.
+pub record IsLoaded (told : Told) (database : Database) : Type 0 where
   pub bytes : List ℕ
   pub file : IsFile told bytes
   pub within : length bytes ≤ greatest_list
-  pub compiles : IsCompiled bytes compiled
+  pub patterns : List Pattern
+  pub accepted : IsAccepted bytes patterns
+  pub runs : IsDatabaseOf database patterns
 
 -- why the pattern file isn't loaded, with the store's count of faults before and now
 abbrev pub StopsLoad : List ℕ → Told → ℕ → ℕ → Cause → Type 0

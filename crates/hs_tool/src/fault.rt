@@ -2,11 +2,11 @@
 ghost use Rattle.std.specs.Prelude.{◌≡◌, ◌++◌, codes, OnOk, OnErr};
 ghost use Rattle.hs_outside.specs.Counts.{Rose};
 ghost use Rattle.hs_outside.specs.Sink.{Took, TookPrefix};
-ghost use Rattle.hs_tool.specs.Lines.{refusal_line as line_of_refusal};
+ghost use Rattle.hs_text.specs.RefusalLines.{refusal_line as line_of_refusal};
 
-use crate::lines::{self, LINE_LEN};
 use hs_base::{ExprId, Refusal};
 use hs_outside::{Failed, Sink, write_all};
+use hs_text::{LINE_LEN, refusal_line};
 
 /// Why a command wasn't done.
 #[derive(Clone, Copy, Debug)]
@@ -78,7 +78,7 @@ fn tell_refusal<E: Sink>(
     ensures failed { OnErr result (Rose (E.faults err.old) (E.faults err.new)) }
 {
     let mut line = [0; LINE_LEN];
-    let len = lines::refusal_line(entry, refusal, &mut line);
+    let len = refusal_line(entry, refusal, &mut line);
     write_all(err, &line[..len])
 }
 

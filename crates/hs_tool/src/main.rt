@@ -2,13 +2,10 @@
 //! files and streams.
 #![tactic(auto)]
 
-mod automaton;
-mod compile;
 mod fault;
-mod lines;
-mod list;
 mod match_command;
 mod output;
+mod report_lines;
 mod request;
 mod scan;
 #[cfg(test)]

@@ -1,19 +1,30 @@
 //! The command `match PATTERNS FILE`.
-ghost use Rattle.std.specs.Prelude.{◌≡◌, ◌++◌, IfOk, IfErr, OnOk, OnErr};
+ghost use Rattle.std.specs.Prelude.{◌≡◌, ◌<◌, ◌++◌, ℕ, List, IfOk, IfErr, OnOk, OnErr, MatchResult};
+ghost use Rattle.hs_base.specs.Patterns.{Pattern};
 ghost use Rattle.hs_base.specs.MatchText.{end_line as line_of_end};
 ghost use Rattle.hs_outside.specs.Counts.{Rose};
 ghost use Rattle.hs_outside.specs.Sink.{Took, TookPrefix};
+ghost use Rattle.hs_run.specs.States.{IsRunnable};
+ghost use Rattle.hs_glushkov.specs.PlainEngines.{width_of};
+ghost use Rattle.hs_compile.specs.Databases.{IsDatabaseOf, program_of};
 ghost use Rattle.hs_tool.specs.Causes.{cause_of, outcome_of};
-ghost use Rattle.hs_tool.specs.Answers.{MatchEnds};
+ghost use Rattle.hs_tool.specs.Answers.{HasList, MatchEnds};
+ghost use Rattle.hs_tool.specs.Running.{IsReady, Stands};
+ghost use Rattle.hs_tool.specs.Scanning.{IsClosed, IsPartlyClosed};
 ghost use Rattle.hs_tool.specs.Loading.{IsLoaded, StopsLoad, StopsScan};
 
-use crate::compile::{CompileFault, Compiled, compile};
 use crate::fault::Fault;
-use crate::lines::{self, LINE_LEN};
 use crate::output::Pending;
-use crate::scan::{ScanFault, scan_file};
+use crate::scan::{Scan, ScanFault, end_scan, scan_file};
+use hs_base::Refusal;
+use hs_compile::{CompileFault, Database, compile};
+use hs_engine::{Engine, Steps};
 use hs_outside::{Failed, FileFault, Sink, Store, read_file};
+use hs_rose::Program;
+use hs_text::{LINE_LEN, ListFault, end_line, read_list};
 use std::alloc::Global;
+use std::marker::Brand;
+use std::sync::ledger::{Blank, Ledger};
 
 /// The greatest length of a pattern file, in bytes.
 pub const MAX_LIST_LEN: u64 = 2_147_483_648;
@@ -32,19 +43,11 @@ pub fn match_file<'a, S: Store, O: Sink>(
         (outcome_of result) }
     ensures kept { S.told store.new ≡ S.told store.old }
 {
-    let mut compiled = match load(alloc, patterns, store) {
-        Ok(compiled) => compiled,
+    let database = match load(alloc, patterns, store) {
+        Ok(database) => database,
         Err(fault) => return Err(fault),
     };
-    let mut pending = Pending::new();
-    let total = match scan_file(&mut compiled, file, store, out, &mut pending) {
-        Ok(total) => total,
-        Err(fault) => return Err(fault_of(fault, file)),
-    };
-    match finish(total, out, &mut pending) {
-        Ok(()) => Ok(()),
-        Err(Failed) => Err(Fault::Write),
-    }
+    match_stream::<S, O, Brand>(alloc, &database, file, store, out, Blank::new(1))
 }
 
 /// Reads a pattern file and compiles its list.
@@ -52,7 +55,7 @@ fn load<'a, S: Store>(
     alloc: Global,
     patterns: &'a str,
     store: &mut S,
-) -> Result<Option<Compiled>, Fault<'a>>
+) -> Result<Database, Fault<'a>>
     ensures loaded { IfOk result (IsLoaded (S.told store.old patterns.now)) }
     ensures counted { OnOk result (S.faults store.new ≡ S.faults store.old) }
     ensures fault { IfErr result (λ fault. StopsLoad patterns.now (S.told store.old patterns.now)
@@ -66,10 +69,53 @@ fn load<'a, S: Store>(
         Err(FileFault::Limit) => return Err(Fault::Limit),
         Err(FileFault::Memory) => return Err(Fault::Memory),
     };
-    match compile(alloc, list.as_slice()) {
-        Ok(compiled) => Ok(compiled),
-        Err(CompileFault::Refused(entry, refusal)) => Err(Fault::Refused(entry, refusal)),
+    let entries = match read_list(alloc, list.as_slice()) {
+        Ok(entries) => entries,
+        Err(ListFault::Line(line)) => return Err(Fault::Refused(None, Refusal::ListLine(line))),
+        Err(ListFault::Memory) => return Err(Fault::Memory),
+    };
+    match compile(alloc, entries.as_slice()) {
+        Ok(database) => Ok(database),
+        Err(CompileFault::Refused { entry, id, refusal }) => {
+            Err(Fault::Refused(Some((entry, id)), refusal))
+        }
         Err(CompileFault::Memory) => Err(Fault::Memory),
+    }
+}
+
+/// Scans a file as one stream, and writes the text of the match.
+fn match_stream<'a, S: Store, O: Sink, L: Ledger>(
+    alloc: Global,
+    database: &Database,
+    file: &'a str,
+    store: &mut S,
+    out: &mut O,
+    blank: Blank,
+) -> Result<(), Fault<'a>>
+    requires runnable { IsRunnable width_of (program_of database.now) }
+    requires name { blank.name ≡ L.name }
+    requires parts { blank.parts ≡ L.parts }
+    requires some { 0 < L.parts }
+    ensures ends { (patterns : List ℕ) (P : List Pattern) → HasList (S.told store.old patterns) P → IsDatabaseOf database.now P → MatchEnds patterns file.now
+        (record { told = S.told store.old; stored = S.faults store.old; out = O.written out.old; sunk = O.faults out.old })
+        (record { told = S.told store.new; stored = S.faults store.new; out = O.written out.new; sunk = O.faults out.new })
+        (outcome_of result) }
+    ensures kept { S.told store.new ≡ S.told store.old }
+{
+    let program = database.program();
+    let mut scan = match Scan::new(alloc, program) {
+        Ok(scan) => scan,
+        Err(_) => return Err(Fault::Memory),
+    };
+    let mut pending = Pending::new();
+    let mut steps = Steps::<L>::open(blank);
+    let total = match scan_file(program, &mut scan, file, store, out, &mut pending, &mut steps) {
+        Ok(total) => total,
+        Err(fault) => return Err(fault_of(fault, file)),
+    };
+    match close(program, &mut scan, total, out, &mut pending) {
+        Ok(()) => Ok(()),
+        Err(Failed) => Err(Fault::Write),
     }
 }
 
@@ -85,15 +131,37 @@ fn fault_of<'a>(fault: ScanFault, file: &'a str) -> Fault<'a>
     }
 }
 
-/// Writes the pending lines and the line of the stream's length.
-fn finish<O: Sink>(total: u64, out: &mut O, pending: &mut Pending) -> Result<(), Failed>
+/// Ends the stream, and writes the lines that wait, those of the reports that its end decides, and that of its length.
+fn close<E: Engine, O: Sink>(
+    program: &Program<E>,
+    scan: &mut Scan,
+    total: u64,
+    out: &mut O,
+    pending: &mut Pending,
+) -> Result<(), Failed>
+    requires runnable { IsRunnable E.width program.now }
+    requires ready { IsReady E.well program.now scan.old }
+    ensures closed { MatchResult result
+        (λ _. IsClosed (Stands E.is_for E.field program.now) scan.old total (O.written out.old) (O.written out.new) pending.old)
+        (λ _. IsPartlyClosed (Stands E.is_for E.field program.now) scan.old total (O.written out.old) (O.written out.new) pending.old) }
+    ensures counted { OnOk result (O.faults out.new ≡ O.faults out.old) }
+    ensures failed { OnErr result (Rose (O.faults out.old) (O.faults out.new)) }
+{
+    match end_scan(program, scan, out, pending) {
+        Ok(()) => write_end(total, out, pending),
+        Err(Failed) => Err(Failed),
+    }
+}
+
+/// Writes the lines that wait, and that of the stream's length.
+fn write_end<O: Sink>(total: u64, out: &mut O, pending: &mut Pending) -> Result<(), Failed>
     ensures written { OnOk result (Took (O.written out.old) (O.written out.new) (pending.old ++ line_of_end total)) }
     ensures counted { OnOk result (O.faults out.new ≡ O.faults out.old) }
     ensures cut { OnErr result (TookPrefix (O.written out.old) (O.written out.new) (pending.old ++ line_of_end total)) }
     ensures failed { OnErr result (Rose (O.faults out.old) (O.faults out.new)) }
 {
     let mut line = [0; LINE_LEN];
-    let len = lines::end_line(total, &mut line);
+    let len = end_line(total, &mut line);
     match pending.put(&line[..len], out) {
         Ok(()) => pending.flush(out),
         Err(Failed) => Err(Failed),

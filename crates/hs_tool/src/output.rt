@@ -4,10 +4,10 @@ ghost use Rattle.hs_outside.specs.Counts.{Rose};
 ghost use Rattle.hs_outside.specs.Sink.{Took, TookPrefix};
 ghost use Rattle.hs_tool.specs.Passing.{Passes};
 ghost use Rattle.hs_tool.specs.declared.output.TheConstants.{CAPACITY};
-ghost use Rattle.hs_tool.specs.declared.lines.TheConstants.{LINE_LEN};
+ghost use Rattle.hs_text.specs.declared.line_buffer.TheConstants.{LINE_LEN};
 
-use crate::lines::LINE_LEN;
 use hs_outside::{Failed, Sink, write_all};
+use hs_text::LINE_LEN;
 use std::marker::Model;
 
 /// How many bytes wait at most.

@@ -1,18 +1,21 @@
 //! The scan of a file, piece by piece.
-ghost use Rattle.std.specs.Prelude.{◌≡◌, ℕ, ◌+◌, ◌≤◌, ◌<◌, [], ◌∷◌, length, Some, OnOk, OnErr, IfOk, IfErr, MatchResult};
-ghost use Rattle.hs_base.specs.MatchText.{report_line as line_of_report};
+ghost use Rattle.std.specs.Prelude.{◌≡◌, ℕ, ◌+◌, ◌≤◌, [], length, OnOk, OnErr, IfOk, IfErr, MatchResult};
+ghost use Rattle.hs_base.specs.Patterns.{Pattern};
 ghost use Rattle.hs_outside.specs.Counts.{Rose};
-ghost use Rattle.hs_outside.specs.Sink.{TookPrefix};
-ghost use Rattle.hs_tool.specs.Lines.{pair_of};
-ghost use Rattle.hs_tool.specs.Passing.{Passes};
+ghost use Rattle.hs_rose.specs.Programs.{roles_of};
+ghost use Rattle.hs_run.specs.States.{IsRunnable, Runs};
 ghost use Rattle.hs_tool.specs.declared.scan.ScanFault.TheVariants.{Absent};
-ghost use Rattle.hs_tool.specs.Scanning.{greatest_offset, IsScanned, IsCutShort, Interrupts, IsScannedTo, IsFileScanned, IsFilePartlyScanned};
+ghost use Rattle.hs_tool.specs.Running.{IsReady, Stands, offset_of};
+ghost use Rattle.hs_tool.specs.Scanning.{greatest_offset, IsScanned, IsCutShort, Interrupts, IsScannedTo, IsFileScanned, IsFilePartlyScanned, IsEnded, IsEndCutShort};
 
-use crate::compile::Compiled;
-use crate::lines::{self, LINE_LEN};
 use crate::output::Pending;
-use hs_base::Report;
+use crate::report_lines::ReportLines;
+use hs_engine::{Engine, Steps};
 use hs_outside::{Failed, Sink, Store, StoreFault};
+use hs_rose::Program;
+use hs_run::{Scratch, State, feed, finish};
+use std::alloc::{AllocError, Global};
+use std::sync::ledger::Ledger;
 
 /// How many bytes of a file are read at once.
 const PIECE_LEN: usize = 65536;
@@ -33,20 +36,49 @@ pub enum ScanFault {
     Limit,
 }
 
-/// Scans a file to its end and gives its length. The lines of its reports are written, or wait.
-pub fn scan_file<S: Store, O: Sink>(
-    compiled: &mut Option<Compiled>,
+/// A stream that is scanned: its state, and room to work in.
+#[derive(Drop)]
+pub struct Scan {
+    state: State,
+    scratch: Scratch,
+}
+
+impl Scan {
+    /// A stream of which no byte has come.
+    pub fn new<E: Engine>(alloc: Global, program: &Program<E>) -> Result<Scan, AllocError>
+        requires { IsRunnable E.width program.now }
+        ensures ready { IfOk result (IsReady E.well program.now) }
+        ensures start { IfOk result (λ scan. offset_of scan ≡ 0) }
+        ensures stands { IfOk result (λ scan. (P : List Pattern) → Runs E.is_for program.now P → Stands E.is_for E.field program.now P [] scan) }
+    {
+        Ok(Scan {
+            state: State::new(alloc, program)?,
+            scratch: Scratch::new(alloc, program)?,
+        })
+    }
+}
+
+/// Scans a file from the start of a stream to the file's end, and gives its length. The lines of the reports that its
+/// bytes decide are written, or wait.
+pub fn scan_file<E: Engine, S: Store, O: Sink, L: Ledger>(
+    program: &Program<E>,
+    scan: &mut Scan,
     name: &str,
     store: &mut S,
     out: &mut O,
     pending: &mut Pending,
+    steps: &mut Steps<L>,
 ) -> Result<u64, ScanFault>
-    ensures scanned { IfOk result (λ count. IsFileScanned (S.told store.old name.now) compiled.old compiled.new count
+    requires runnable { IsRunnable E.width program.now }
+    requires ready { IsReady E.well program.now scan.old }
+    requires start { offset_of scan.old ≡ 0 }
+    ensures ready { IsReady E.well program.now scan.new }
+    ensures scanned { IfOk result (λ count. IsFileScanned (Stands E.is_for E.field program.now) (S.told store.old name.now) scan.old scan.new count
         (O.written out.old) (O.written out.new) pending.old pending.new) }
     ensures counted { OnOk result ((S.faults store.new ≡ S.faults store.old) × (O.faults out.new ≡ O.faults out.old)) }
-    ensures cut { OnErr result (IsFilePartlyScanned (S.told store.old name.now) compiled.old
+    ensures cut { OnErr result (IsFilePartlyScanned (Stands E.is_for E.field program.now) (S.told store.old name.now) scan.old
         (O.written out.old) (O.written out.new) pending.old) }
-    ensures unread { IfErr result (λ fault. fault ≡ Absent → IsScannedTo (S.told store.old name.now) compiled.old compiled.new 0
+    ensures unread { IfErr result (λ fault. fault ≡ Absent → IsScannedTo (Stands E.is_for E.field program.now) (S.told store.old name.now) scan.old scan.new 0
         (O.written out.old) (O.written out.new) pending.old pending.new) }
     ensures fault { IfErr result (λ fault. Interrupts fault (S.told store.old name.now)
         (S.faults store.old) (S.faults store.new) (O.faults out.old) (O.faults out.new)) }
@@ -66,7 +98,7 @@ pub fn scan_file<S: Store, O: Sink>(
         if MAX_OFFSET - offset < count as u64 {
             return Err(ScanFault::Limit);
         }
-        match scan_piece(compiled, &piece[..count], offset, out, pending) {
+        match scan_piece(program, scan, &piece[..count], out, pending, steps) {
             Ok(()) => {}
             Err(Failed) => return Err(ScanFault::Write),
         }
@@ -74,85 +106,47 @@ pub fn scan_file<S: Store, O: Sink>(
     }
 }
 
-/// Scans the bytes of a piece that begins at the offset.
-fn scan_piece<O: Sink>(
-    compiled: &mut Option<Compiled>,
+/// Scans the bytes of a piece. The lines of the reports that they decide are written, or wait.
+fn scan_piece<E: Engine, O: Sink, L: Ledger>(
+    program: &Program<E>,
+    scan: &mut Scan,
     bytes: &[u8],
-    offset: u64,
+    out: &mut O,
+    pending: &mut Pending,
+    steps: &mut Steps<L>,
+) -> Result<(), Failed>
+    requires runnable { IsRunnable E.width program.now }
+    requires ready { IsReady E.well program.now scan.old }
+    requires room { offset_of scan.old + length bytes.now ≤ greatest_offset }
+    ensures ready { IsReady E.well program.now scan.new }
+    ensures offset { offset_of scan.new ≡ offset_of scan.old + length bytes.now }
+    ensures scanned { MatchResult result
+        (λ _. IsScanned (Stands E.is_for E.field program.now) scan.old scan.new bytes.now (O.written out.old) (O.written out.new) pending.old pending.new)
+        (λ _. IsCutShort (Stands E.is_for E.field program.now) scan.old bytes.now (O.written out.old) (O.written out.new) pending.old) }
+    ensures counted { OnOk result (O.faults out.new ≡ O.faults out.old) }
+    ensures failed { OnErr result (Rose (O.faults out.old) (O.faults out.new)) }
+{
+    let mut lines = ReportLines::new(out, pending);
+    feed(program, &mut scan.state, &mut scan.scratch, bytes, &mut lines, steps);
+    lines.close()
+}
+
+/// Ends the stream. The lines of the reports that its end decides are written, or wait.
+pub fn end_scan<E: Engine, O: Sink>(
+    program: &Program<E>,
+    scan: &mut Scan,
     out: &mut O,
     pending: &mut Pending,
 ) -> Result<(), Failed>
-    requires { offset + length bytes.now ≤ greatest_offset }
-    ensures scanned { MatchResult result
-        (λ _. IsScanned compiled.old compiled.new offset bytes.now (O.written out.old) (O.written out.new) pending.old pending.new)
-        (λ _. IsCutShort compiled.old offset bytes.now (O.written out.old) (O.written out.new) pending.old) }
+    requires runnable { IsRunnable E.width program.now }
+    requires ready { IsReady E.well program.now scan.old }
+    ensures ended { MatchResult result
+        (λ _. IsEnded (Stands E.is_for E.field program.now) scan.old (O.written out.old) (O.written out.new) pending.old pending.new)
+        (λ _. IsEndCutShort (Stands E.is_for E.field program.now) scan.old (O.written out.old) (O.written out.new) pending.old) }
     ensures counted { OnOk result (O.faults out.new ≡ O.faults out.old) }
     ensures failed { OnErr result (Rose (O.faults out.old) (O.faults out.new)) }
 {
-    match compiled {
-        None => Ok(()),
-        Some(compiled) => scan_bytes(compiled, bytes, offset, out, pending),
-    }
-}
-
-/// Scans bytes, from the offset on, for one expression.
-fn scan_bytes<O: Sink>(
-    compiled: &mut Compiled,
-    bytes: &[u8],
-    offset: u64,
-    out: &mut O,
-    pending: &mut Pending,
-) -> Result<(), Failed>
-    requires { offset + length bytes.now ≤ greatest_offset }
-    ensures scanned { MatchResult result
-        (λ _. IsScanned (Some compiled.old) (Some compiled.new) offset bytes.now (O.written out.old) (O.written out.new) pending.old pending.new)
-        (λ _. IsCutShort (Some compiled.old) offset bytes.now (O.written out.old) (O.written out.new) pending.old) }
-    ensures counted { OnOk result (O.faults out.new ≡ O.faults out.old) }
-    ensures failed { OnErr result (Rose (O.faults out.old) (O.faults out.new)) }
-{
-    let mut at = offset;
-    for byte in bytes {
-        match scan_byte(compiled, *byte, at, out, pending) {
-            Ok(()) => {}
-            Err(Failed) => return Err(Failed),
-        }
-        at += 1;
-    }
-    Ok(())
-}
-
-/// Scans the byte at an offset, and puts the line of its report behind the pending ones.
-#[inline]
-fn scan_byte<O: Sink>(
-    compiled: &mut Compiled,
-    byte: u8,
-    at: u64,
-    out: &mut O,
-    pending: &mut Pending,
-) -> Result<(), Failed>
-    requires { at < greatest_offset }
-    ensures scanned { MatchResult result
-        (λ _. IsScanned (Some compiled.old) (Some compiled.new) at (byte ∷ []) (O.written out.old) (O.written out.new) pending.old pending.new)
-        (λ _. IsCutShort (Some compiled.old) at (byte ∷ []) (O.written out.old) (O.written out.new) pending.old) }
-    ensures counted { OnOk result (O.faults out.new ≡ O.faults out.old) }
-    ensures failed { OnErr result (Rose (O.faults out.old) (O.faults out.new)) }
-{
-    if compiled.automaton.step(byte) {
-        let id = compiled.id;
-        report(Report { id, to: at + 1 }, out, pending)
-    } else {
-        Ok(())
-    }
-}
-
-/// Puts the line of a report behind the pending ones.
-fn report<O: Sink>(report: Report, out: &mut O, pending: &mut Pending) -> Result<(), Failed>
-    ensures passed { OnOk result (Passes (O.written out.old) (O.written out.new) pending.old pending.new (line_of_report (pair_of report))) }
-    ensures counted { OnOk result (O.faults out.new ≡ O.faults out.old) }
-    ensures cut { OnErr result (TookPrefix (O.written out.old) (O.written out.new) pending.old) }
-    ensures failed { OnErr result (Rose (O.faults out.old) (O.faults out.new)) }
-{
-    let mut line = [0; LINE_LEN];
-    let len = lines::report_line(report, &mut line);
-    pending.put(&line[..len], out)
+    let mut lines = ReportLines::new(out, pending);
+    finish(program, &scan.state, &mut scan.scratch, &mut lines);
+    lines.close()
 }

@@ -1,7 +1,0 @@
-use Rattle.std.proofs.Common.{◌≡◌, ◌<◌, ◌^◌, drop}
-use Rattle.hs_tool.specs.PatternFile.{value_from}
-use Rattle.hs_tool.proofs.list.identifier.Given as goal
-
-abbrev pub invariant-loop-digit : goal.invariant-loop-digit
-invariant-loop-digit l =
-    (value_from l.value (drop l.digit-index l.digits) ≡ value_from 0 l.digits) × (l.value < 2 ^ 32)
