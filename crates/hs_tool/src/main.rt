@@ -3,6 +3,8 @@
 #![tactic(auto)]
 
 mod fault;
+#[cfg(test)]
+mod list_tests;
 mod match_command;
 mod output;
 mod report_lines;
