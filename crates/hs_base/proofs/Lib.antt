@@ -10,3 +10,4 @@ pub mod ReportLemmas
 pub mod ToldLemmas
 pub mod NewLemmas
 pub mod ExactLemmas
+pub mod CutLemmas
