@@ -11,3 +11,4 @@ pub mod ToldLemmas
 pub mod NewLemmas
 pub mod ExactLemmas
 pub mod CutLemmas
+pub mod EndLemmas
