@@ -13,3 +13,4 @@ pub mod ExactLemmas
 pub mod CutLemmas
 pub mod EndLemmas
 pub mod SettlingLemmas
+pub mod PairListLemmas
