@@ -7,14 +7,15 @@ use Rattle.std.proofs.lemmas.List.{take_all}
 use Rattle.std.proofs.lemmas.List.FromFn.{length-range_with_len, get_or-range_with_len}
 use Rattle.std.proofs.lemmas.Option.{same_Some, slice_get-map, slice_get-get_or, slice_get_within}
 use Rattle.hs_base.specs.Lists.{OneOf, Each, IsMember, IsRising}
-use Rattle.hs_base.specs.Patterns.{Pattern, HasEnd, IsPair}
+use Rattle.hs_base.specs.declared.context.Next.TheVariants as after
+use Rattle.hs_base.specs.Patterns.{Pattern, HasEnd, is_single, IsPair}
 use Rattle.hs_base.specs.Reports.{IsReport}
 use Rattle.hs_base.specs.Told.{Pair, IsBefore, IsTold, IsNew, IsLast}
-use Rattle.hs_base.specs.Settling.{IsLeftToEnd, pairs_told, AreRising, AreIdentifiers}
+use Rattle.hs_base.specs.Settling.{HasEndHere, Kept, IsLeftToEnd, IsKept, Ends, tells_before, tells_behind, tells_end, pairs_told, AreRising, AreIdentifiers}
 use Rattle.hs_base.proofs.ListLemmas.{each-of_members, member-left, member-right, member-append, rising-append}
 use Rattle.hs_base.proofs.ReportLemmas.{report-pair_now}
 use Rattle.hs_base.proofs.NewLemmas.{AreByteReports, new_by_reports, told_more}
-use Rattle.hs_base.proofs.SettlingLemmas.{only-two, only-last-two}
+use Rattle.hs_base.proofs.SettlingLemmas.{IsSettled, only-two, only-last-two, end-settled}
 
 -- the values of a function of the index, for so many indices
 abbrev pub values_by : (ℕ → Bool) → ℕ → List Bool
@@ -236,6 +237,37 @@ IsNewBehind P u b id = IsReport P (u ++ b ∷ []) false id (length u + 1)
 -- the pair that ends at the end of the stream is newly reported there
 abbrev pub IsNewAtEnd : List Pattern → List ℕ → ℕ → Type 0
 IsNewAtEnd P w id = IsReport P w true id (length w) × (IsReport P w false id (length w) → ⊥)
+
+-- Values that are those settled of each identifier, by index, tell that.
+
+pub settled-tell_before : (P : List Pattern) (u : List ℕ) (b : ℕ) (ids : List ℕ) (values : List Bool) (single : ℕ → Bool) (old : ℕ → Kept) (ends : ℕ → Ends) →
+    ((i id : ℕ) → slice_get ids i ≡ Some id → IsSettled P u b id (single i) (old i) (ends i)) →
+    ((i id : ℕ) → slice_get ids i ≡ Some id → slice_get values i ≡ Some (tells_before (single i) (old i) (ends i))) → Tell ids values (IsNewBefore P u b)
+settled-tell_before P u b ids values single old ends are is =
+    tell-values ids values (λ i. tells_before (single i) (old i) (ends i)) (IsNewBefore P u b) is (λ i id named. (are i id named).before)
+
+pub settled-tell_behind : (P : List Pattern) (u : List ℕ) (b : ℕ) (ids : List ℕ) (values : List Bool) (single : ℕ → Bool) (old : ℕ → Kept) (ends : ℕ → Ends) →
+    ((i id : ℕ) → slice_get ids i ≡ Some id → IsSettled P u b id (single i) (old i) (ends i)) →
+    ((i id : ℕ) → slice_get ids i ≡ Some id → slice_get values i ≡ Some (tells_behind (single i) (old i) (ends i))) → Tell ids values (IsNewBehind P u b)
+settled-tell_behind P u b ids values single old ends are is =
+    tell-values ids values (λ i. tells_behind (single i) (old i) (ends i)) (IsNewBehind P u b) is (λ i id named. (are i id named).behind)
+
+pub kept-tell_last : (P : List Pattern) (w ids : List ℕ) (values : List Bool) (kept : ℕ → Kept) →
+    ((i id : ℕ) → slice_get ids i ≡ Some id → IsKept P w id (kept i)) →
+    ((i id : ℕ) → slice_get ids i ≡ Some id → slice_get values i ≡ Some (kept i).last) → Tell ids values (IsLeftToEnd P w)
+kept-tell_last P w ids values kept are is =
+    tell-values ids values (λ i. (kept i).last) (IsLeftToEnd P w) is (λ i id named. (are i id named).last)
+
+pub kept-tell_end : (P : List Pattern) (w ids : List ℕ) (values : List Bool) (single : ℕ → Bool) (kept : ℕ → Kept) (at_end : ℕ → Bool) →
+    ((i id : ℕ) → slice_get ids i ≡ Some id → is_single P id ≡ single i) →
+    ((i id : ℕ) → slice_get ids i ≡ Some id → IsKept P w id (kept i)) →
+    ((i id : ℕ) → slice_get ids i ≡ Some id → (at_end i ≡ true) ↔ HasEndHere P id w after.End) →
+    ((i id : ℕ) → slice_get ids i ≡ Some id → slice_get values i ≡ Some (tells_end (single i) (kept i) (at_end i))) → Tell ids values (IsNewAtEnd P w)
+kept-tell_end P w ids values single kept at_end same are ends is =
+    tell-values ids values (λ i. tells_end (single i) (kept i) (at_end i)) (IsNewAtEnd P w) is
+    (λ i id named.
+    subst (λ s. (tells_end s (kept i) (at_end i) ≡ true) ↔ IsNewAtEnd P w id) (same i id named)
+    (end-settled P w id (kept i) (at_end i) (are i id named) (ends i id named)))
 
 -- What a byte newly gives, from values that tell the two ends of each identifier.
 pub byte-reports : (P : List Pattern) (u : List ℕ) (b : ℕ) (ids : List ℕ) (befores behinds : List Bool) → AreIdentifiers P ids →
