@@ -10,3 +10,7 @@ pub mod ReportLemmas
 pub mod ToldLemmas
 pub mod NewLemmas
 pub mod ExactLemmas
+pub mod CutLemmas
+pub mod EndLemmas
+pub mod SettlingLemmas
+pub mod PairListLemmas
