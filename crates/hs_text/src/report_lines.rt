@@ -16,7 +16,7 @@ pub const NAME_LEN: usize = 32;
 /// line's length.
 pub fn report_line(stream: Option<&[u8]>, report: Report, buf: &mut [u8; LINE_LEN]) -> usize
     requires whole { length buf.old ≡ LINE_LEN }
-    requires short { IfSome stream.entry (λ name. length name.now ≤ NAME_LEN) }
+    requires short { IfSome stream (λ name. length name.now ≤ NAME_LEN) }
     ensures within { result ≤ LINE_LEN }
     ensures text { take result buf.new ≡ line_of_report (option_copied stream.entry) report }
 {
