@@ -11,7 +11,6 @@ use Rattle.hs_base.specs.Entries.{ListedEntry}
 use Rattle.hs_base.specs.Entries as base
 use Rattle.hs_text.specs.PatternFile.{IsList, nothing, skipped, listed, HasBadLine, behind_skipped, behind_entry}
 use Rattle.hs_text.specs.Reading.{listed_parts, IsReadAs, Adds}
-use Rattle.hs_text.specs.Reading as reading
 
 not_shorter : (file : List ℕ) → (file ≡ [] → ⊥) → 0 < length file
 not_shorter [] some = absurd (some refl)

@@ -9,6 +9,8 @@ mod flag;
 pub mod laws;
 mod line;
 mod line_buffer;
+#[cfg(test)]
+mod line_tests;
 mod list;
 mod number;
 mod parameter;

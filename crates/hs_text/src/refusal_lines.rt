@@ -1,5 +1,5 @@
 //! The line of a refused list.
-ghost use Rattle.std.specs.Prelude.{◌≡◌, ◌+◌, ◌≤◌, ◌++◌, length, take, codes, decimal};
+ghost use Rattle.std.specs.Prelude.{◌≡◌, ℕ, ◌+◌, ◌≤◌, ◌++◌, length, take, drop, codes, decimal};
 ghost use Rattle.hs_base.specs.Refusals.{number_of};
 ghost use Rattle.hs_text.specs.RefusalValues.{word_of as text_of_word, name_of as text_of_name, values_of as texts_of_values};
 ghost use Rattle.hs_text.specs.RefusalLines.{entry_text, spaced, refusal_line as line_of_refusal};
@@ -11,7 +11,7 @@ use hs_base::{Construct, ExprId, Refusal};
 
 /// Makes the line `refused ENTRY ID NUMBER NAME VALUES` of a refusal. The entry is given by its number, counted from 1,
 /// and its identifier; a refusal of a line of the list is one of no entry, and has `- -` there. The answer is the line's
-/// length.
+/// length; the buffer behind it stays as it was.
 pub fn refusal_line(
     entry: Option<(u32, ExprId)>,
     refusal: &Refusal,
@@ -20,6 +20,7 @@ pub fn refusal_line(
     requires { length buf.old ≡ LINE_LEN }
     ensures within { result ≤ LINE_LEN }
     ensures text { take result buf.new ≡ line_of_refusal entry refusal.now }
+    ensures rest { drop result buf.new ≡ drop result buf.old }
 {
     let len = append(buf, 0, b"refused ");
     let len = append_entry(buf, len, entry);
@@ -36,8 +37,10 @@ fn append_entry(buf: &mut [u8; LINE_LEN], len: usize, entry: Option<(u32, ExprId
     requires whole { length buf.old ≡ LINE_LEN }
     requires room { len + 21 ≤ LINE_LEN }
     ensures whole { length buf.new ≡ LINE_LEN }
-    ensures length { result ≤ len + 21 }
+    ensures grows { len ≤ result }
+    ensures within { result ≤ len + 21 }
     ensures text { take result buf.new ≡ take len buf.old ++ entry_text entry }
+    ensures rest { (k : ℕ) → result ≤ k → drop k buf.new ≡ drop k buf.old }
 {
     match entry {
         Some((number, id)) => {
@@ -54,8 +57,10 @@ fn append_values(buf: &mut [u8; LINE_LEN], len: usize, refusal: &Refusal) -> usi
     requires whole { length buf.old ≡ LINE_LEN }
     requires room { len + 38 ≤ LINE_LEN }
     ensures whole { length buf.new ≡ LINE_LEN }
-    ensures length { result ≤ len + 38 }
+    ensures grows { len ≤ result }
+    ensures within { result ≤ len + 38 }
     ensures text { take result buf.new ≡ take len buf.old ++ spaced (texts_of_values refusal.now) }
+    ensures rest { (k : ℕ) → result ≤ k → drop k buf.new ≡ drop k buf.old }
 {
     match values_of(refusal) {
         Values::Nothing => len,
@@ -72,8 +77,10 @@ fn append_word(buf: &mut [u8; LINE_LEN], len: usize, construct: Construct) -> us
     requires whole { length buf.old ≡ LINE_LEN }
     requires room { len + 17 ≤ LINE_LEN }
     ensures whole { length buf.new ≡ LINE_LEN }
-    ensures length { result ≤ len + 17 }
+    ensures grows { len ≤ result }
+    ensures within { result ≤ len + 17 }
     ensures text { take result buf.new ≡ take len buf.old ++ (codes " " ++ text_of_word construct) }
+    ensures rest { (k : ℕ) → result ≤ k → drop k buf.new ≡ drop k buf.old }
 {
     let len = append(buf, len, b" ");
     append(buf, len, word_of(construct))
@@ -84,8 +91,10 @@ fn append_value(buf: &mut [u8; LINE_LEN], len: usize, number: u64) -> usize
     requires whole { length buf.old ≡ LINE_LEN }
     requires room { len + 21 ≤ LINE_LEN }
     ensures whole { length buf.new ≡ LINE_LEN }
-    ensures length { result ≤ len + 21 }
+    ensures grows { len ≤ result }
+    ensures within { result ≤ len + 21 }
     ensures text { take result buf.new ≡ take len buf.old ++ (codes " " ++ decimal number) }
+    ensures rest { (k : ℕ) → result ≤ k → drop k buf.new ≡ drop k buf.old }
 {
     let len = append(buf, len, b" ");
     append_number(buf, len, number)
