@@ -10,7 +10,8 @@ use Rattle.hs_outside.proofs.Sending.{Took-nothing, Took-append, TookPrefix-afte
 use Rattle.hs_outside.proofs.Counting.{Rose-after_same}
 use Rattle.hs_run.specs.Events.{Through, still, onward}
 use Rattle.hs_tool.specs.Passing.{Passes, PassesPart}
-use Rattle.hs_tool.specs.Printing.{Way, Prints, passed, cut, over}
+use Rattle.hs_tool.specs.declared.report_lines.ReportLines.{ReportLines}
+use Rattle.hs_tool.specs.Printing.{Way, Prints, passed, cut, over, way_of, Writes}
 
 pub passes-nothing : (taken : Option (List ℕ)) (waited : List ℕ) → Passes taken taken waited waited []
 passes-nothing taken waited = record { written = []; taken = Took-nothing taken; whole = sym (append-nil waited) }
@@ -42,8 +43,8 @@ passes-longer x y a s t p = subst (λ text. TookPrefix x y text) (append_assoc a
 
 -- what waited couldn't be written behind what was
 pub passes-then_cut : {p q r : Option (List ℕ)} {waited waits line : List ℕ} → Passes p q waited waits line → TookPrefix q r waits → TookPrefix p r (waited ++ line)
-passes-then_cut {p} {q} {r} {waited} {waits} {line} passes cut =
-    subst (λ text. TookPrefix p r text) passes.whole (TookPrefix-after p q r passes.written waits passes.taken cut)
+passes-then_cut {p} {q} {r} {waited} {waits} {line} passes front =
+    subst (λ text. TookPrefix p r text) passes.whole (TookPrefix-after p q r passes.written waits passes.taken front)
 
 pub lines-join : (xs ys : List Pair) → report_lines (xs ++ ys) ≡ report_lines xs ++ report_lines ys
 lines-join xs ys = flat_map-append report_line xs ys
@@ -88,8 +89,23 @@ printed-more before between after pairs p (part failed rose passes) (over was sa
     (subst (λ text. PassesPart before.taken between.taken before.waits text) (lines-push pairs p)
     (passes-longer before.taken between.taken before.waits (report_lines pairs) (report_line p) passes)))
 
-pub printed : {V : Type 0} (way : V → Way) (Tells : V → ℕ → ℕ → V → Type 0) → ((before : V) (id to : ℕ) (after : V) → Tells before id to after → Prints (way before) id to (way after)) →
-    (start : V) (pairs : List Pair) (end : V) → (way start).failed ≡ false → Through Tells start pairs end → Printed (way start) pairs (way end)
-printed way Tells tells start _ _ fresh still = all fresh refl (passes-nothing (way start).taken (way start).waits)
-printed way Tells tells start _ end fresh (onward {pairs} {between} p through told) =
-    printed-more (way start) (way between) (way end) pairs p (printed way Tells tells start pairs between fresh through) (tells between p.id p.to end told)
+module _ {O : Type 0} (Written : O → Option (List ℕ)) (Faults : O → ℕ) where
+  -- the reports made that of the lines, by the same two references
+  pub record Wrote (start : ReportLines O) (pairs : List Pair) (end : ReportLines O) : Type 0 where
+    pub same_out : end.out.ghost_name ≡ start.out.ghost_name
+    pub same_pending : end.pending.ghost_name ≡ start.pending.ghost_name
+    pub printed : Printed (way_of Written Faults start) pairs (way_of Written Faults end)
+
+  pub wrote : (start : ReportLines O) (pairs : List Pair) (end : ReportLines O) → start.failed ≡ false → Through (Writes Written Faults) start pairs end → Wrote start pairs end
+  wrote start _ _ fresh still = record {
+    same_out = refl;
+    same_pending = refl;
+    printed = all fresh refl (passes-nothing (Written start.out.now) start.pending.now);
+  }
+  wrote start _ end fresh (onward {pairs} {between} p through writes) =
+      let so_far = wrote start pairs between fresh through in
+      record {
+        same_out = writes.same_out ∙ so_far.same_out;
+        same_pending = writes.same_pending ∙ so_far.same_pending;
+        printed = printed-more (way_of Written Faults start) (way_of Written Faults between) (way_of Written Faults end) pairs p so_far.printed writes.prints;
+      }

@@ -5,6 +5,7 @@ use Rattle.hs_base.specs.MatchText.{report_line}
 use Rattle.hs_outside.specs.Counts.{Rose}
 use Rattle.hs_outside.specs.Sink.{TookPrefix}
 use Rattle.hs_tool.specs.Passing.{Passes}
+use Rattle.hs_tool.specs.declared.report_lines.ReportLines.{ReportLines}
 
 -- what the sink took, its count of faults, what waits, and whether the sink failed
 pub record Way : Type 0 where
@@ -28,3 +29,14 @@ pub data Prints (before : Way) (id to : ℕ) (after : Way) : Type 0 where
       TookPrefix before.taken after.taken before.waits →
       Prints before id to after
   over : before.failed ≡ true → after ≡ before → Prints before id to after
+
+module _ {O : Type 0} (Written : O → Option (List ℕ)) (Faults : O → ℕ) where
+  -- what the lines of reports have made of the sink so far
+  abbrev pub way_of : ReportLines O → Way
+  way_of lines = record { taken = Written lines.out.now; faults = Faults lines.out.now; waits = lines.pending.now; failed = lines.failed }
+
+  -- One report makes that of it, by the same two references.
+  pub record Writes (before : ReportLines O) (id to : ℕ) (after : ReportLines O) : Type 0 where
+    pub same_out : after.out.ghost_name ≡ before.out.ghost_name
+    pub same_pending : after.pending.ghost_name ≡ before.pending.ghost_name
+    pub prints : Prints (way_of before) id to (way_of after)

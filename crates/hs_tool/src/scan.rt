@@ -126,9 +126,13 @@ fn scan_piece<E: Engine, O: Sink, L: Ledger>(
     ensures counted { OnOk result (O.faults out.new ≡ O.faults out.old) }
     ensures failed { OnErr result (Rose (O.faults out.old) (O.faults out.new)) }
 {
-    let mut lines = ReportLines::new(out, pending);
+    let mut lines = ReportLines {
+        out,
+        pending,
+        failed: false,
+    };
     feed(program, &mut scan.state, &mut scan.scratch, bytes, &mut lines, steps);
-    lines.close()
+    if lines.failed { Err(Failed) } else { Ok(()) }
 }
 
 /// Ends the stream. The lines of the reports that its end decides are written, or wait.
@@ -146,7 +150,11 @@ pub fn end_scan<E: Engine, O: Sink>(
     ensures counted { OnOk result (O.faults out.new ≡ O.faults out.old) }
     ensures failed { OnErr result (Rose (O.faults out.old) (O.faults out.new)) }
 {
-    let mut lines = ReportLines::new(out, pending);
+    let mut lines = ReportLines {
+        out,
+        pending,
+        failed: false,
+    };
     finish(program, &scan.state, &mut scan.scratch, &mut lines);
-    lines.close()
+    if lines.failed { Err(Failed) } else { Ok(()) }
 }
