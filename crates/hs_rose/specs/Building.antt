@@ -34,8 +34,3 @@ module _ {E : Type 0} where
     pub greatest : r.max_offset ≡ e.max_offset
     pub engine : r.engine ≡ e.engine
     pub null : r.null ≡ e.null
-
-  -- There is such a role for each expression, in order.
-  pub record AreRolesFor (ids : List ℕ) (es : List (Expression E)) (roles : List (Role E)) : Type 0 where
-    pub count : length roles ≡ length es
-    pub each : (k : ℕ) (e : Expression E) (r : Role E) → slice_get es k ≡ Some e → slice_get roles k ≡ Some r → IsRoleFor ids e r

@@ -1,9 +1,9 @@
 //! Building the program of a list.
 ghost use Rattle.std.specs.Prelude.{◌≡◌, ℕ, ◌^◌, ◌<◌, ◌≤◌, List, Some, slice_get, map, filter, true, vec_len, IfOk, length};
-ghost use Rattle.std.specs.List.{All};
+ghost use Rattle.std.specs.List.{All, AllZip};
 ghost use Rattle.std.specs.List.Sorted.{IsStrictlyIncreasing};
 ghost use Rattle.hs_base.specs.Patterns.{Pattern};
-ghost use Rattle.hs_rose.specs.Building.{has_id, identifier_for, id_of, singles_of, sums_from, IsRoleFor, AreRolesFor};
+ghost use Rattle.hs_rose.specs.Building.{has_id, identifier_for, id_of, singles_of, sums_from, IsRoleFor};
 ghost use Rattle.hs_rose.specs.Programs.{roles_of, identifiers_of, starts_of, region_len_of};
 ghost use Rattle.hs_rose.specs.Roles.{AreExpressionsOf, AreRolesOf, AreStartsOf};
 
@@ -108,7 +108,7 @@ fn roles_for<E: Drop>(
 ) -> Result<Vec<Role<E>>, AllocError>
     requires rises { IsStrictlyIncreasing ids.now }
     requires known { All (λ e. has_id ids.now (id_of e) ≡ true) expressions.items }
-    ensures { IfOk result (λ roles. AreRolesFor ids.now expressions.items roles.items) }
+    ensures { IfOk result (λ roles. AllZip (IsRoleFor ids.now) expressions.items roles.items) }
 {
     let mut roles = Vec::with_capacity(alloc, expressions.len())?;
     for expression in expressions {
