@@ -1,6 +1,6 @@
 -- The roles and identifiers that are made from expressions are those of their patterns.
-use Rattle.std.proofs.Common.{◌≡◌, ℕ, zero, suc, ◌<◌, Bool, true, false, ◌||◌, ◌&&◌, ◌==◌, cond, List, [], ◌∷◌, ◌++◌, length, map, get_or, slice_get, Option, Some, None, filter, refl, sym, ap, subst, ◌∙◌, inl, inr, arith}
-use Rattle.std.specs.List.{All, AllZip, list_any}
+use Rattle.std.proofs.Common.{◌≡◌, ℕ, zero, suc, ◌<◌, Bool, true, false, ◌||◌, ◌&&◌, ◌==◌, cond, List, [], ◌∷◌, ◌++◌, length, map, get_or, slice_get, Some, refl, sym, ap, subst, ◌∙◌, inl, inr, arith}
+use Rattle.std.specs.List.{All, AllZip}
 use Rattle.std.specs.List.Sorted.{IsStrictlyIncreasing}
 use Rattle.std.specs.Option.{option_map}
 use Rattle.std.proofs.lemmas.Option.{slice_get-map, slice_get-get_or, slice_get_within, slice_get_cases}
@@ -14,7 +14,7 @@ use Rattle.hs_rose.specs.declared.program.Role.{Role}
 use Rattle.hs_rose.specs.declared.program.Identifier.{Identifier}
 use Rattle.hs_rose.specs.Building.{has_id, identifier_for, id_of, singles_of, IsRoleFor}
 use Rattle.hs_rose.specs.Roles.{ids_of, IsExpressionOf, AreExpressionsOf, IsRoleOf, AreRolesOf, IsNullMask}
-use Rattle.hs_rose.proofs.IdLemmas.{has_id-place, place-has_id, has_id-member, rising-from_increasing}
+use Rattle.hs_rose.proofs.IdLemmas.{place-has_id, has_id-member, rising-from_increasing}
 
 pub all_zip-push : {A B : Type 0} (R : A → B → Type 0) (xs : List A) (ys : List B) (x : A) (y : B) → AllZip R xs ys → R x y → AllZip R (xs ++ x ∷ []) (ys ++ y ∷ [])
 all_zip-push R [] [] x y all one = (one, tt)

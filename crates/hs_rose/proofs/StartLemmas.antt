@@ -1,5 +1,5 @@
 -- Where the bytes of the roles begin and end.
-use Rattle.std.proofs.Common.{◌≡◌, ℕ, zero, suc, ◌+◌, ◌-◌, ◌*◌, ◌^◌, ◌<◌, ◌≤◌, List, [], ◌∷◌, ◌++◌, length, map, take, get_or, slice_get, Some, None, refl, sym, ap, subst, ◌∙◌, inl, inr, arith}
+use Rattle.std.proofs.Common.{◌≡◌, ℕ, zero, suc, ◌+◌, ◌-◌, ◌*◌, ◌^◌, ◌<◌, ◌≤◌, List, [], ◌∷◌, ◌++◌, length, map, take, get_or, slice_get, Some, refl, sym, ap, subst, ◌∙◌, inl, inr, arith}
 use Rattle.std.specs.List.{All, AllZip}
 use Rattle.std.specs.Option.{option_map}
 use Rattle.std.proofs.lemmas.Option.{slice_get-map, slice_get-get_or, slice_get_within, slice_get_cases, get_or_from_slice_get}
@@ -83,8 +83,7 @@ starts-more width es i e starts starts' at size within here are is sized pushed 
     ap (sums_from 0) more ∙ sums-push 0 (map (λ x. width x.engine) (take i es)) (width e.engine) in
     let sum : total (map (λ x. width x.engine) (take (i + 1) es)) ≡ total (map (λ x. width x.engine) (take i es)) + width e.engine =
     ap total more ∙ total-push (map (λ x. width x.engine) (take i es)) (width e.engine) in
-    let same : at + size ≡ 0 + total (map (λ x. width x.engine) (take i es)) + width e.engine = omega arith in
-    (
+    let same : at + size ≡ 0 + total (map (λ x. width x.engine) (take i es)) + width e.engine = omega arith in (
       pushed ∙ ap (λ xs. xs ++ (at + size) ∷ []) are ∙ ap (λ n. sums_from 0 (map (λ x. width x.engine) (take i es)) ++ n ∷ []) same ∙ sym grown,
       let e : at + size ≡ total (map (λ x. width x.engine) (take i es)) + width e.engine = omega arith in e ∙ sym sum,
     )

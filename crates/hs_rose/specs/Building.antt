@@ -1,5 +1,5 @@
 -- The parts of a program, from the expressions alone.
-use Rattle.std.specs.Prelude.{◌≡◌, ℕ, ◌+◌, ◌==◌, Bool, List, [], ◌∷◌, length, map, filter, Some, slice_get}
+use Rattle.std.specs.Prelude.{◌≡◌, ℕ, ◌+◌, ◌==◌, Bool, List, [], ◌∷◌, map, filter, Some, slice_get}
 use Rattle.std.specs.List.{list_any}
 use Rattle.hs_rose.specs.declared.program.Expression.{Expression}
 use Rattle.hs_rose.specs.declared.program.Role.{Role}

@@ -27,7 +27,11 @@ impl<E: Engine + Drop> Program<E> {
         let identifiers = identifiers_for(alloc, &ids, &singles)?;
         let starts = starts_for(alloc, &expressions)?;
         let roles = roles_for(alloc, expressions, &ids)?;
-        Ok(Program { roles, identifiers, starts })
+        Ok(Program {
+            roles,
+            identifiers,
+            starts,
+        })
     }
 }
 
@@ -71,7 +75,10 @@ fn identifiers_for(
     let mut identifiers = Vec::with_capacity(alloc, ids.len())?;
     for id in ids {
         let single = contains(singles, *id);
-        identifiers.push(Identifier { id: ExprId(*id), single })?;
+        identifiers.push(Identifier {
+            id: ExprId(*id),
+            single,
+        })?;
     }
     Ok(identifiers)
 }
@@ -85,7 +92,10 @@ fn contains(ids: &[u32], id: u32) -> bool
 }
 
 /// Where the bytes of each expression begin, one behind the other, and where those of the last one end.
-fn starts_for<E: Engine>(alloc: Global, expressions: &[Expression<E>]) -> Result<Vec<usize>, AllocError>
+fn starts_for<E: Engine>(
+    alloc: Global,
+    expressions: &[Expression<E>],
+) -> Result<Vec<usize>, AllocError>
     requires few { length expressions.now < 2 ^ 32 }
     requires small { All (λ e. E.width e.engine ≤ 2 ^ 24) expressions.now }
     ensures { IfOk result (λ starts. starts.items ≡ sums_from 0 (map (λ e. E.width e.engine) expressions.now)) }
@@ -124,8 +134,21 @@ fn role_for<E>(expression: Expression<E>, ids: &[u32]) -> Role<E>
     ensures { IsRoleFor ids.now expression result }
 {
     let identifier = place_of(ids, expression.id.0);
-    let Expression { id: _, single: _, min_offset, max_offset, engine, null } = expression;
-    Role { identifier, min_offset, max_offset, engine, null }
+    let Expression {
+        id: _,
+        single: _,
+        min_offset,
+        max_offset,
+        engine,
+        null,
+    } = expression;
+    Role {
+        identifier,
+        min_offset,
+        max_offset,
+        engine,
+        null,
+    }
 }
 
 /// The place of a number among those that rise.

@@ -3,5 +3,7 @@
 
 mod builder;
 mod program;
+#[cfg(test)]
+mod tests;
 
 pub use program::{Expression, Identifier, Program, Role};

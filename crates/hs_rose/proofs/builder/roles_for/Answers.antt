@@ -1,5 +1,3 @@
-use Rattle.std.proofs.Common.{sym, subst}
-use Rattle.std.specs.List.{AllZip}
 use Rattle.hs_rose.specs.Building.{IsRoleFor}
 use Rattle.hs_rose.proofs.RoleLemmas.{all_zip-push}
 use Rattle.hs_rose.proofs.builder.roles_for.Goals as goal

@@ -1,4 +1,4 @@
-use Rattle.std.proofs.Common.{◌<◌, ◌≤◌, ◌^◌, length, get_or, sym, subst, arith}
+use Rattle.std.proofs.Common.{◌<◌, ◌≤◌, ◌^◌, length, sym, subst, arith}
 use Rattle.hs_rose.proofs.StartLemmas.{starts-more}
 use Rattle.hs_rose.proofs.builder.starts_for.Goals as goal
 

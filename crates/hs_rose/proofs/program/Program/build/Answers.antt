@@ -1,4 +1,4 @@
-use Rattle.std.proofs.Common.{◌≡◌, ℕ, List, length, map, sym, ap, subst, ◌∙◌, arith}
+use Rattle.std.proofs.Common.{ℕ, map, sym, ap, subst, ◌∙◌, arith}
 use Rattle.std.specs.List.{AllZip}
 use Rattle.hs_rose.specs.Building.{has_id, identifier_for, id_of, singles_of, sums_from, IsRoleFor}
 use Rattle.hs_rose.specs.Roles.{AreRolesOf, AreStartsOf}
