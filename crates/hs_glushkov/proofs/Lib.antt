@@ -3,3 +3,4 @@ pub mod AlikeLemmas
 pub mod AgreementLemmas
 pub mod CountLemmas
 pub mod PlainLemmas
+pub mod FollowLemmas

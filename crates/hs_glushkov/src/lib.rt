@@ -2,7 +2,9 @@
 //! each transition for its assertions.
 #![tactic(auto)]
 
+mod follow_masks;
 pub mod laws;
+mod parts;
 mod plain;
 
 pub use plain::Plain;
