@@ -4,3 +4,5 @@ pub mod AgreementLemmas
 pub mod CountLemmas
 pub mod PlainLemmas
 pub mod FollowLemmas
+pub mod PartLemmas
+pub mod RowLemmas
