@@ -229,3 +229,34 @@ row-copies old t u n p m e k l done a r f g one place behind na nr row joined =
 pub null-copies : (done : ℕ) (a r : Core) (f g both : Context → Bool) → IsNull f a → IsNull g (copies_then done a r) → ((c : Context) → both c ≡ (f c && g c)) → IsNull both (copies_then (done + 1) a r)
 null-copies done a r f g both na nr is c =
     is c ∙ (ap (λ z. z && g c) (na c) ∙ (ap (λ z. null a c && z) (nr c) ∙ ap (λ z. null (copies_then z a r) c) (sym (add-one done))))
+
+-- where a copy stands, and what is behind it
+
+pub copy-place : (n w c k l : ℕ) → k ≡ l → w ≡ c → n + k * w ≡ n + l * c
+copy-place n w c k l same wide = ap (λ z. n + z * w) same ∙ ap (λ z. n + l * z) wide
+
+pub copy-behind : (n w c k l : ℕ) → k ≡ l → w ≡ c → n + k * w + w ≡ n + (l + 1) * c
+copy-behind n w c k l same wide =
+    let step : (l + 1) * c ≡ l * c + c = omega arith in
+    omega (arith, copy-place n w c k l same wide)
+
+pub at_least-more : (least : ℕ) (a : Core) → (least ≡ 0 → ⊥) → copies_then (least - 1) a (plus a) ≡ at_least least a
+at_least-more zero a some = absurd (some refl)
+at_least-more (suc n) a some =
+    let e : suc n - 1 ≡ n = omega arith in
+    ap (λ k. copies_then k a (plus a)) e
+
+-- the repeat without a bound, of no copy at least and of some
+
+pub star-added : (old t u : Table) (n p e least : ℕ) (a : Core) (all : Context → Bool) → least ≡ 0 → p ≡ n → ((c : Context) → all c ≡ true) → IsRow old t n a (max least 1) empty e → IsLooped t u p e → IsAdded old u n (at_least least a) all
+star-added old t u n p e least a all none place is row looped =
+    let one : max least 1 ≡ 0 + 1 = omega arith in
+    let first : p ≡ n + 0 * count a = omega arith in
+    let once : IsRow old t n a (0 + 1) empty e = subst (λ k. IsRow old t n a k empty e) one row in
+    let round : IsRow old u n a 0 (star a) e = row-option old u n e 0 a (plus a) (row-plus old t u n p e 0 a first once looped) in
+    subst (λ k. IsAdded old u n (at_least k a) all) (sym none) (row-added old u n e a (star a) all (λ c. is c ∙ sym (null-option (plus a) c)) round)
+
+pub row-rounds : (old t u : Table) (n p e least : ℕ) (a : Core) → (least ≡ 0 → ⊥) → p ≡ n + (least - 1) * count a → IsRow old t n a (max least 1) empty e → IsLooped t u p e → IsRow old u n a (least - 1) (plus a) e
+row-rounds old t u n p e least a some place row looped =
+    let one : max least 1 ≡ (least - 1) + 1 = omega arith in
+    row-plus old t u n p e (least - 1) a place (subst (λ k. IsRow old t n a k empty e) one row) looped

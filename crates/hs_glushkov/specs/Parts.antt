@@ -1,5 +1,5 @@
 -- Tables under construction: parts of one table, each for an expression, and what joins them.
-use Rattle.std.specs.Prelude.{◌≡◌, ℕ, ◌+◌, ◌*◌, ◌<◌, ◌≤◌, ◌⊎◌, Bool, true, false, not, ◌&&◌, ◌||◌, ◌==◌, nat_le, nat_lt, Option, Some, None, slice_get}
+use Rattle.std.specs.Prelude.{◌≡◌, ℕ, zero, suc, ◌+◌, ◌*◌, ◌<◌, ◌≤◌, ◌⊎◌, Bool, true, false, not, ◌&&◌, ◌||◌, ◌==◌, nat_le, nat_lt, Option, Some, None, slice_get}
 use Rattle.hs_base.specs.Contexts.{Context}
 use Rattle.hs_base.specs.WrittenOut.{Core, count, set_of}
 use Rattle.hs_glushkov.specs.Positions.{null, enter, accept, follow}
@@ -84,3 +84,8 @@ pub record IsRow (old new : Table) (n : ℕ) (a : Core) (copies : ℕ) (r : Core
   pub end : e ≡ n + copies * count a + count r
   pub keeps : Keeps old new n
   pub clear : IsClear new e
+
+-- whether the empty text matches so many copies of a body, or more, where it matches one of them if `one` says so
+abbrev pub null_in_copies : ℕ → (one : Bool) → Bool
+null_in_copies zero one = true
+null_in_copies (suc n) one = one

@@ -1,7 +1,7 @@
 //! The tables of an automaton under construction: the positions so far, and what joins those of one part with those of
 //! the next.
 
-ghost use Rattle.std.specs.Prelude.{◌≡◌, ℕ, ◌+◌, ◌*◌, ◌-◌, ◌<◌, ◌≤◌, Bool, true, false, ◌&&◌, ◌==◌, IfOk, Option, Some, None, slice_get, length, vec_len};
+ghost use Rattle.std.specs.Prelude.{◌≡◌, ℕ, ◌+◌, ◌*◌, ◌-◌, ◌<◌, ◌≤◌, Bool, true, false, ◌&&◌, ◌==◌, max, IfOk, IfSome, Option, Some, None, slice_get, length, vec_len};
 ghost use Rattle.hs_base.specs.Contexts.{Context};
 ghost use Rattle.hs_base.specs.ContextSets.{has_context};
 ghost use Rattle.hs_engine.specs.Automata.{in_mask};
@@ -32,7 +32,7 @@ pub struct Parts {
 
 impl Parts {
     ghost use Rattle.hs_base.specs.ByteSets.{members};
-    ghost use Rattle.hs_base.specs.WrittenOut.{Core, class, count, copies_then, up_to, repeat_of, empty};
+    ghost use Rattle.hs_base.specs.WrittenOut.{Core, class, count, at_least, copies_then, up_to, repeat_of, empty};
     ghost use Rattle.hs_glushkov.specs.Parts.{Table, IsAdded, IsClear, IsJoined, IsLooped, IsNull, IsRow};
     ghost use Rattle.hs_glushkov.specs.BuiltParts.{table_of};
     ghost use Rattle.hs_expr.specs.Counts.{written_copies};
@@ -94,6 +94,97 @@ impl Parts {
         let end = self.filled;
         self.follows
             .connect(&self.accepts, &self.enters, start, end, start, end);
+    }
+
+    /// Makes of the copies of a body in a row its repeat: the positions from `start` on, `width` for each copy, in whose
+    /// place the empty text matches in the contexts of the mask. Gives those in which it matches in place of the repeat.
+    pub fn repeat(
+        &mut self,
+        start: usize,
+        width: usize,
+        least: u32,
+        greatest: Option<u32>,
+        null: Mask,
+    ) -> Mask
+        requires ordered { IfSome greatest (λ most. least ≤ most) }
+        requires room { start + written_copies least greatest * width ≡ self.old.filled }
+        ensures size { vec_len self.new.sets ≡ vec_len self.old.sets }
+        ensures filled { self.new.filled ≡ self.old.filled }
+        ensures added { (old : Table) (a : Core) → width ≡ count a → IsNull (has_context null) a → IsRow old (table_of self.old) start a (written_copies least greatest) empty self.old.filled →
+            IsAdded old (table_of self.new) start (repeat_of least greatest a) (has_context result) }
+    {
+        match greatest {
+            None => self.repeat_without_end(start, width, least as usize, null),
+            Some(most) => {
+                let least = least as usize;
+                self.join_options(start, width, least, most as usize, null);
+                self.join_copies(start, width, least, null, Mask::all())
+            }
+        }
+    }
+
+    /// The repeat of so many copies at least, but at least one is written out: the last one goes round.
+    fn repeat_without_end(&mut self, start: usize, width: usize, least: usize, null: Mask) -> Mask
+        requires room { start + max least 1 * width ≡ self.old.filled }
+        ensures size { vec_len self.new.sets ≡ vec_len self.old.sets }
+        ensures filled { self.new.filled ≡ self.old.filled }
+        ensures added { (old : Table) (a : Core) → width ≡ count a → IsNull (has_context null) a → IsRow old (table_of self.old) start a (max least 1) empty self.old.filled →
+            IsAdded old (table_of self.new) start (at_least least a) (has_context result) }
+    {
+        self.go_round(self.filled - width);
+        if least == 0 {
+            return Mask::all();
+        }
+        self.join_copies(start, width, least - 1, null, null)
+    }
+
+    /// Joins the copies from `least` up to `most`, each optional inside the one before.
+    fn join_options(&mut self, start: usize, width: usize, least: usize, most: usize, null: Mask)
+        requires ordered { least ≤ most }
+        requires room { start + most * width ≤ self.old.filled }
+        ensures size { vec_len self.new.sets ≡ vec_len self.old.sets }
+        ensures filled { self.new.filled ≡ self.old.filled }
+        ensures row { (old : Table) (a : Core) → width ≡ count a → IsNull (has_context null) a → IsRow old (table_of self.old) start a most empty self.old.filled →
+            IsRow old (table_of self.new) start a least (up_to (most - least) a) self.new.filled }
+    {
+        for done in 0..most - least {
+            self.join_copy(start, width, most - 1 - done, null, Mask::all());
+        }
+    }
+
+    /// Joins so many copies, which must be taken, and what is behind them, in whose place the empty text matches in the
+    /// contexts `rest`. Gives those in which it matches in place of all.
+    fn join_copies(
+        &mut self,
+        start: usize,
+        width: usize,
+        copies: usize,
+        null: Mask,
+        rest: Mask,
+    ) -> Mask
+        requires room { start + copies * width ≤ self.old.filled }
+        ensures size { vec_len self.new.sets ≡ vec_len self.old.sets }
+        ensures filled { self.new.filled ≡ self.old.filled }
+        ensures added { (old : Table) (a r : Core) → width ≡ count a → IsNull (has_context null) a → IsNull (has_context rest) r → IsRow old (table_of self.old) start a copies r self.old.filled →
+            IsAdded old (table_of self.new) start (copies_then copies a r) (has_context result) }
+    {
+        let mut all = rest;
+        for done in 0..copies {
+            self.join_copy(start, width, copies - 1 - done, null, all);
+            all = null.intersection(all);
+        }
+        all
+    }
+
+    /// Joins the copy of that number with all behind it, in whose place the empty text matches in the contexts `rest`.
+    fn join_copy(&mut self, start: usize, width: usize, number: usize, null: Mask, rest: Mask)
+        requires room { start + number * width + width ≤ self.old.filled }
+        ensures size { vec_len self.new.sets ≡ vec_len self.old.sets }
+        ensures filled { self.new.filled ≡ self.old.filled }
+        ensures joined { IsJoined (table_of self.old) (table_of self.new) (start + number * width) (start + number * width + width) self.old.filled (has_context null) (has_context rest) }
+    {
+        let first = start + number * width;
+        self.join(first, first + width, null, rest);
     }
 }
 
