@@ -6,3 +6,5 @@ pub mod PlainLemmas
 pub mod FollowLemmas
 pub mod PartLemmas
 pub mod RowLemmas
+pub mod PastLemmas
+pub mod BuildLemmas
