@@ -1,15 +1,14 @@
 -- From the tables under construction to the automaton.
-use Rattle.std.proofs.Common.{◌≡◌, ◌↔◌, ℕ, zero, suc, ◌+◌, ◌-◌, ◌*◌, ◌<◌, ◌≤◌, ◌⊎◌, Bool, true, false, ◌&&◌, ◌||◌, List, [], Option, Some, None, IfSome, length, slice_get, vec_len, nat_lt, refl, sym, ap, subst, ◌∙◌, inl, inr, arith}
+use Rattle.std.proofs.Common.{◌≡◌, ℕ, zero, suc, ◌+◌, ◌-◌, ◌*◌, ◌<◌, ◌≤◌, Bool, true, false, ◌&&◌, Option, Some, None, IfSome, length, slice_get, vec_len, nat_lt, refl, sym, ap, ◌∙◌, inl, inr, arith}
 use Rattle.std.specs.List.{list_any}
-use Rattle.std.proofs.lemmas.Bool.{cases_lt, lt-ltb, le-ltb}
+use Rattle.std.proofs.lemmas.Bool.{cases_lt}
 use Rattle.std.proofs.lemmas.Option.{slice_get_past}
 use Rattle.std.proofs.Math.Nat.{mul-le-mul_left, le-mul_of_pos_right}
 use Rattle.hs_base.specs.Trees as tree
 use Rattle.hs_base.specs.Trees.{Tree, Trees}
 use Rattle.hs_base.specs.Contexts.{Context}
 use Rattle.hs_base.specs.ContextSets.{has_context}
-use Rattle.hs_base.specs.EndAssertions.{has_embedded_end}
-use Rattle.hs_base.specs.WrittenOut.{Core, cat, alt, plus, copies_then, up_to, repeat_of, write_out, cat_from, alt_from, IsPlain, count, set_of}
+use Rattle.hs_base.specs.WrittenOut.{Core, cat, alt, plus, copies_then, up_to, repeat_of, write_out, cat_from, alt_from, count, set_of}
 use Rattle.hs_engine.specs.declared.automaton.Automaton.{Automaton}
 use Rattle.hs_engine.specs.Automata.{in_mask, in_set, joins, takes, enters, accepts, follows}
 use Rattle.hs_expr.specs.Counts.{written_copies}
@@ -17,7 +16,7 @@ use Rattle.hs_glushkov.specs.declared.follow_masks.FollowMasks.{FollowMasks}
 use Rattle.hs_glushkov.specs.FollowTables.{is_followed}
 use Rattle.hs_glushkov.specs.Parts.{Table, is_set, IsAdded, is_within, null_in_copies}
 use Rattle.hs_glushkov.specs.Positions.{null, enter, accept, follow}
-use Rattle.hs_glushkov.specs.Tables.{IsFor, Runs}
+use Rattle.hs_glushkov.specs.Tables.{IsFor}
 use Rattle.hs_glushkov.proofs.CountLemmas.{count-repeat}
 use Rattle.hs_glushkov.proofs.FollowLemmas.{within-true}
 use Rattle.hs_glushkov.proofs.PastLemmas.{set-past, enter-past, accept-past, follow-past}

@@ -1,5 +1,5 @@
 -- The table of masks, and loops that go over its rows.
-use Rattle.std.proofs.Common.{◌≡◌, ℕ, ◌+◌, ◌*◌, ◌<◌, ◌≤◌, Bool, true, false, not, ◌&&◌, ◌||◌, List, length, get_or, set, eqb, nat_lt, nat_le, slice_get, Some, None, refl, sym, ap, ◌∙◌, inl, inr, arith}
+use Rattle.std.proofs.Common.{◌≡◌, ℕ, ◌+◌, ◌*◌, ◌<◌, ◌≤◌, Bool, true, false, ◌&&◌, ◌||◌, List, length, get_or, set, eqb, nat_lt, nat_le, slice_get, Some, refl, sym, ap, ◌∙◌, inl, inr, arith}
 use Rattle.std.proofs.lemmas.Bool.{cases_eq, cases_lt, eq-eqb, ne_eqb, lt-ltb, le-ltb, le-leb, leb-true, eqb-true}
 use Rattle.std.proofs.Math.Nat.{mul-le-mul_left}
 use Rattle.std.proofs.lemmas.Option.{slice_get_past, slice_get-get_or}
@@ -86,7 +86,7 @@ same_cell size x y from to hy ht same =
           elim (cases_lt from x) [
             | inl under ↦
                 let next : from + 1 ≤ x = omega arith in
-              let step : size * (from + 1) ≤ size * x = mul-le-mul_left size next in
+                let step : size * (from + 1) ≤ size * x = mul-le-mul_left size next in
                 let wide : size * (from + 1) ≡ size * from + size = omega arith in
                 absurd (omega arith)
             | inr back ↦

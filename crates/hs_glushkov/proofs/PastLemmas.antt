@@ -1,9 +1,9 @@
 -- Beyond its positions an expression says nothing.
-use Rattle.std.proofs.Common.{◌≡◌, ℕ, zero, suc, ◌+◌, ◌<◌, ◌≤◌, ◌⊎◌, Bool, true, false, ◌&&◌, ◌||◌, List, [], refl, sym, ap, ◌∙◌, inl, inr, arith}
+use Rattle.std.proofs.Common.{◌≡◌, ℕ, zero, suc, ◌+◌, ◌≤◌, ◌⊎◌, Bool, true, false, ◌&&◌, ◌||◌, [], refl, ap, ◌∙◌, inl, inr, arith}
 use Rattle.hs_base.specs.Contexts.{Context}
 use Rattle.hs_base.specs.WrittenOut.{Core, fail, empty, class, assert, cat, alt, plus, count, set_of}
 use Rattle.hs_glushkov.specs.Positions.{enter, accept, follow}
-use Rattle.hs_glushkov.proofs.PositionLemmas.{Side, lower, upper, side, set-cat_upper, set-alt_upper, enter-cat_upper, enter-alt_upper, accept-cat_upper, accept-alt_upper, follow-cat_lower_lower, follow-cat_lower_upper, follow-cat_upper_lower, follow-cat_upper_upper, follow-alt_lower_lower, follow-alt_lower_upper, follow-alt_upper_lower, follow-alt_upper_upper}
+use Rattle.hs_glushkov.proofs.PositionLemmas.{Side, lower, upper, side, set-cat_upper, set-alt_upper, enter-cat_upper, enter-alt_upper, accept-cat_upper, accept-alt_upper, follow-cat_lower_upper, follow-cat_upper_lower, follow-cat_upper_upper, follow-alt_lower_upper, follow-alt_upper_lower, follow-alt_upper_upper}
 
 and-nothing : (a b : Bool) → b ≡ false → (a && b) ≡ false
 and-nothing true b isnt = isnt

@@ -1,6 +1,5 @@
 -- What tables under construction say.
-use Rattle.std.specs.Prelude.{ℕ, ◌+◌, ◌*◌, Bool, ◌&&◌, nat_lt, slice_get}
-use Rattle.hs_base.specs.Contexts.{Context}
+use Rattle.std.specs.Prelude.{slice_get}
 use Rattle.hs_engine.specs.Automata.{in_mask, in_set}
 use Rattle.hs_glushkov.specs.Parts.{Table}
 use Rattle.hs_glushkov.specs.FollowTables.{is_followed}

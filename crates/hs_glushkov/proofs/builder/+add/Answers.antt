@@ -1,13 +1,13 @@
-use Rattle.std.proofs.Common.{rules, ◌≡◌, ℕ, ◌+◌, ◌-◌, ◌*◌, ◌≤◌, map, drop, refl, sym, ap, subst, ◌∙◌, arith}
+use Rattle.std.proofs.Common.{rules, ◌≡◌, ℕ, ◌+◌, ◌-◌, ◌*◌, ◌≤◌, map, drop, sym, ap, subst, ◌∙◌, arith}
 use Rattle.hs_base.specs.ContextSets.{has_context}
 use Rattle.hs_base.specs.Trees.{Trees}
-use Rattle.hs_base.specs.WrittenOut.{Core, IsPlain, ArePlain, cat, alt, empty, fail, count, write_out, cat_from, alt_from, repeat_of}
+use Rattle.hs_base.specs.WrittenOut.{Core, ArePlain, cat, alt, empty, fail, count, write_out, cat_from, alt_from, repeat_of}
 use Rattle.hs_expr.specs.Meaning.{tree_of, trees_of}
 use Rattle.hs_expr.specs.Counts.{written_copies}
 use Rattle.hs_expr.specs.declared.expr.Expr.{the_lemmas}
 use Rattle.hs_expr.proofs.TreeLemmas.{trees_of-drop}
 use Rattle.hs_glushkov.specs.BuiltParts.{table_of}
-use Rattle.hs_glushkov.specs.Parts.{Table, IsAdded, IsClear, IsRow, null_in_copies}
+use Rattle.hs_glushkov.specs.Parts.{Table, IsClear, IsRow, null_in_copies}
 use Rattle.hs_glushkov.proofs.CountLemmas.{count-repeat}
 use Rattle.hs_glushkov.proofs.RowLemmas.{added-cat, added-alt, added-other, row-none, row-more}
 use Rattle.hs_glushkov.proofs.BuildLemmas.{count-cat_from, count-alt_from, body-within, copies-whole, null-repeat}
@@ -38,7 +38,7 @@ add_alt-loop-item-preserved t c =
         subst (λ z. alt_from r z ≡ alt_from fail (trees_of (map tree_of c.args.items.now))) from same,
         omega (arith, filled, c.add.ensures.filled),
         added-alt (table_of c.args.parts.now) (table_of c.loop-item.parts) (table_of c.add.new.parts) c.args.parts.now.filled c.loop-item.parts.filled r item
-        (has_context c.loop-item.null) (has_context c.add.result) (has_context c.union-null.result) filled added c.add.ensures.added c.union-null.ensures,
+            (has_context c.loop-item.null) (has_context c.add.result) (has_context c.union-null.result) filled added c.add.ensures.added c.union-null.ensures,
       );
     }
 
@@ -67,7 +67,7 @@ add_cat-loop-item-preserved t c =
         subst (λ z. cat_from r z ≡ cat_from empty (trees_of (map tree_of c.args.items.now))) from same,
         omega (arith, filled, c.add-last.ensures.filled, c.join.ensures.filled),
         added-cat (table_of c.args.parts.now) (table_of c.loop-item.parts) (table_of c.add-last.new.parts) (table_of c.join.new.self) c.args.parts.now.filled c.loop-item.parts.filled c.add-last.new.parts.filled r item
-        (has_context c.loop-item.null) (has_context c.add-last.result) (has_context c.intersection-null.result) filled c.add-last.ensures.filled added c.add-last.ensures.added c.join.ensures.joined c.intersection-null.ensures,
+            (has_context c.loop-item.null) (has_context c.add-last.result) (has_context c.intersection-null.result) filled c.add-last.ensures.filled added c.add-last.ensures.added c.join.ensures.joined c.intersection-null.ensures,
       );
     }
 

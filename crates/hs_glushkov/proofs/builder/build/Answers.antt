@@ -1,11 +1,11 @@
-use Rattle.std.proofs.Common.{◌≡◌, ℕ, ◌≤◌, vec_len, sym, ap, subst, ◌∙◌, arith}
+use Rattle.std.proofs.Common.{◌≡◌, vec_len, subst, arith}
 use Rattle.hs_base.specs.ContextSets.{has_context}
 use Rattle.hs_base.specs.WrittenOut.{Core, count, write_out}
 use Rattle.hs_expr.specs.Counts.{positions}
 use Rattle.hs_expr.specs.Meaning.{tree_of}
 use Rattle.hs_glushkov.specs.BuiltParts.{table_of}
 use Rattle.hs_glushkov.specs.FollowTables.{is_followed}
-use Rattle.hs_glushkov.specs.Parts.{Table, IsAdded}
+use Rattle.hs_glushkov.specs.Parts.{IsAdded}
 use Rattle.hs_glushkov.proofs.CountLemmas.{count-written}
 use Rattle.hs_glushkov.proofs.BuildLemmas.{tables-for}
 use Rattle.hs_glushkov.proofs.builder.build.Goals as goal

@@ -1,7 +1,6 @@
-use Rattle.std.proofs.Common.{◌≡◌, ℕ, ◌&&◌, set, get_or, length, slice_get, refl, ap, sym, ◌∙◌, arith}
+use Rattle.std.proofs.Common.{◌&&◌, set, slice_get, refl, ap, sym, ◌∙◌, arith}
 use Rattle.std.proofs.lemmas.List.{length-set}
 use Rattle.hs_base.specs.ContextSets.{has_context}
-use Rattle.hs_base.specs.declared.context.Mask.{Mask}
 use Rattle.hs_engine.specs.Automata.{in_mask}
 use Rattle.hs_glushkov.proofs.FollowLemmas.{narrowed-none, narrowed-more, mask-read, get-set_same, get-set_other}
 use Rattle.hs_glushkov.proofs.parts.narrow.Goals as goal

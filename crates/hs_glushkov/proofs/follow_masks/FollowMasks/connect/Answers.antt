@@ -1,4 +1,4 @@
-use Rattle.std.proofs.Common.{◌≡◌, ℕ, Bool, ◌&&◌, ◌||◌, get_or, slice_get, eqb, Some, ap, sym, ◌∙◌, arith}
+use Rattle.std.proofs.Common.{◌&&◌, ◌||◌, get_or, slice_get, eqb, ap, sym, ◌∙◌, arith}
 use Rattle.hs_base.specs.ContextSets.{has_context}
 use Rattle.hs_engine.specs.Automata.{in_mask}
 use Rattle.hs_glushkov.specs.Parts.{is_within}

@@ -1,4 +1,4 @@
-use Rattle.std.proofs.Common.{◌≡◌, ℕ, length, ◌*◌, arith}
+use Rattle.std.proofs.Common.{◌≡◌, length, ◌*◌, arith}
 use Rattle.hs_glushkov.proofs.FollowLemmas.{put-cell}
 use Rattle.hs_glushkov.proofs.follow_masks.FollowMasks.put.Goals as goal
 

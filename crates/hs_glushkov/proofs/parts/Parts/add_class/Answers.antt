@@ -1,7 +1,6 @@
-use Rattle.std.proofs.Common.{◌≡◌, ℕ, length, arith}
+use Rattle.std.proofs.Common.{arith}
 use Rattle.hs_glushkov.specs.FollowTables.{is_followed}
 use Rattle.hs_glushkov.proofs.PartLemmas.{class-added}
-use Rattle.hs_glushkov.proofs.RowLemmas.{row-copies}
 use Rattle.hs_glushkov.proofs.parts.Parts.add_class.Goals as goal
 
 pub returns-clause-added : goal.returns-clause-added

@@ -1,4 +1,4 @@
-use Rattle.std.proofs.Common.{◌≡◌, ℕ, ◌+◌, ◌-◌, ◌*◌, sym, ap, subst, ◌∙◌, arith}
+use Rattle.std.proofs.Common.{◌≡◌, ℕ, ◌+◌, ◌-◌, ◌*◌, sym, subst, ◌∙◌, arith}
 use Rattle.hs_base.specs.ContextSets.{has_context}
 use Rattle.hs_base.specs.WrittenOut.{copies_then}
 use Rattle.hs_glushkov.specs.Parts.{Table, IsAdded, IsRow}

@@ -1,4 +1,4 @@
-use Rattle.std.proofs.Common.{◌≡◌, ℕ, ◌-◌, vec_len}
+use Rattle.std.proofs.Common.{◌≡◌, ◌-◌, vec_len}
 use Rattle.hs_base.specs.ContextSets.{has_context}
 use Rattle.hs_base.specs.WrittenOut.{Core, count, empty, up_to}
 use Rattle.hs_glushkov.specs.Parts.{Table, IsNull, IsRow}

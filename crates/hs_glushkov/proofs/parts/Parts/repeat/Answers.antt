@@ -1,4 +1,4 @@
-use Rattle.std.proofs.Common.{◌≡◌, ℕ, ◌-◌, sym, ◌∙◌}
+use Rattle.std.proofs.Common.{◌-◌, sym, ◌∙◌}
 use Rattle.hs_base.specs.WrittenOut.{up_to}
 use Rattle.hs_glushkov.proofs.RowLemmas.{null-up_to}
 use Rattle.hs_glushkov.proofs.parts.Parts.repeat.Goals as goal

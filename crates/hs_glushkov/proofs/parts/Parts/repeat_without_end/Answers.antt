@@ -1,7 +1,7 @@
 use Rattle.std.proofs.Common.{◌≡◌, ℕ, ◌+◌, ◌-◌, ◌*◌, max, sym, ap, subst, ◌∙◌, arith}
 use Rattle.hs_base.specs.ContextSets.{has_context}
 use Rattle.hs_base.specs.WrittenOut.{count, plus}
-use Rattle.hs_glushkov.specs.Parts.{Table, IsAdded, IsRow}
+use Rattle.hs_glushkov.specs.Parts.{IsAdded, IsRow}
 use Rattle.hs_glushkov.specs.BuiltParts.{table_of}
 use Rattle.hs_glushkov.proofs.RowLemmas.{star-added, row-rounds, at_least-more}
 use Rattle.hs_glushkov.proofs.parts.Parts.repeat_without_end.Goals as goal
