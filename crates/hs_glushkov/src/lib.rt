@@ -2,7 +2,14 @@
 //! each transition for its assertions.
 #![tactic(auto)]
 
+mod assertion_test;
+mod builder;
+mod edge_list;
+mod follow_masks;
 pub mod laws;
+mod parts;
 mod plain;
 
+pub use assertion_test::has_assertion;
+pub use builder::build;
 pub use plain::Plain;
