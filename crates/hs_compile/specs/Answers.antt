@@ -1,9 +1,9 @@
 -- What the answers of the compiler say.
-use Rattle.std.specs.Prelude.{◌≡◌, ℕ, ◌≤◌, ◌⊎◌, List, Option, Some, None, Result, Ok, Err}
+use Rattle.std.specs.Prelude.{◌≡◌, ℕ, ◌<◌, ◌≤◌, List, Option, Some, None}
 use Rattle.hs_base.specs.declared.refusal.Refusal.{Refusal}
-use Rattle.hs_base.specs.Entries.{ListedEntry, flags_of}
+use Rattle.hs_base.specs.declared.refusal.Refusal.TheVariants.{CountLimit}
+use Rattle.hs_base.specs.Entries.{ListedEntry}
 use Rattle.hs_base.specs.Refusals.{number_of}
-use Rattle.hs_base.specs.Trees.{Tree}
 use Rattle.hs_base.specs.Patterns.{Pattern}
 use Rattle.hs_glushkov.specs.declared.plain.Plain.{Plain}
 use Rattle.hs_glushkov.specs.PlainEngines.{width_of}
@@ -13,7 +13,7 @@ use Rattle.hs_base.specs.Lists.{Each}
 use Rattle.hs_compile.specs.declared.database.Database.{Database}
 use Rattle.hs_compile.specs.declared.fault.CompileFault.{CompileFault}
 use Rattle.hs_compile.specs.declared.fault.CompileFault.TheVariants.{Refused, Memory}
-use Rattle.hs_compile.specs.Lists.{IsAcceptedAs, AreAcceptedAs, IsRefusalOf, IsFirstRefusal}
+use Rattle.hs_compile.specs.Lists.{greatest_count, IsAcceptedAs, AreAcceptedAs, IsRefusalOf, IsFirstRefusal}
 use Rattle.hs_compile.specs.Databases.{IsEngineOf, IsDatabaseOf}
 
 -- The list is accepted, and the database is that of its patterns.
@@ -31,6 +31,11 @@ IsCauseOf entries Memory = Unit {0}
 abbrev pub IsSmall : Expression Plain → Type 0
 IsSmall expression = width_of expression.engine ≤ 64
 
+-- What runs an expression: its engine runs the pattern, and keeps few bytes.
+pub record IsRunBy (x : Pattern) (expression : Expression Plain) : Type 0 where
+  pub run : IsExpressionOf IsEngineOf expression x
+  pub small : IsSmall expression
+
 -- The entries are accepted, and these are what runs their patterns.
 pub record AreCompiled (entries : List ListedEntry) (expressions : List (Expression Plain)) : Type 0 where
   pub patterns : List Pattern
@@ -42,5 +47,20 @@ pub record AreCompiled (entries : List ListedEntry) (expressions : List (Express
 pub record IsCompiledEntry (number : ℕ) (entry : ListedEntry) (expression : Expression Plain) : Type 0 where
   pub pattern : Pattern
   pub accepted : IsAcceptedAs number entry pattern
-  pub run : IsExpressionOf IsEngineOf expression pattern
-  pub small : IsSmall expression
+  pub run : IsRunBy pattern expression
+
+-- Why the entry of that number isn't compiled: its refusal, or no memory.
+abbrev pub IsEntryCause : (number : ℕ) → ListedEntry → CompileFault → Type 0
+IsEntryCause number entry (Refused n id refusal) = (n ≡ number) × (id.0 ≡ entry.id) × IsRefusalOf number entry refusal
+IsEntryCause number entry Memory = Unit {0}
+
+-- the one of two refusals that has the lesser number, the first where they have the same
+pub data IsLesser (refusal : Refusal) : Option Refusal → Refusal → Type 0 where
+  alone : IsLesser refusal None refusal
+  first : {other : Refusal} → number_of refusal ≤ number_of other → IsLesser refusal (Some other) refusal
+  second : {other : Refusal} → number_of other < number_of refusal → IsLesser refusal (Some other) other
+
+-- the entry of that number has too many before it, or none
+pub data IsCounted (number : ℕ) : Option Refusal → Type 0 where
+  within : number ≤ greatest_count → IsCounted number None
+  beyond : greatest_count < number → IsCounted number (Some CountLimit)

@@ -1,15 +1,14 @@
 -- Which lists of expressions are accepted, as which patterns, and how the others are refused.
-use Rattle.std.specs.Prelude.{◌≡◌, ◌==◌, ℕ, suc, ◌<◌, ◌≤◌, Bool, List, [], ◌∷◌, bit_and}
+use Rattle.std.specs.Prelude.{◌≡◌, ◌==◌, ℕ, suc, ◌<◌, Bool, List, [], ◌∷◌, bit_and}
 use Rattle.hs_base.specs.declared.entry.ExprId.{ExprId}
 use Rattle.hs_base.specs.declared.refusal.Refusal.{Refusal}
 use Rattle.hs_base.specs.declared.refusal.Refusal.TheVariants.{CountLimit}
 use Rattle.hs_base.specs.Entries.{ListedEntry, flags_of}
-use Rattle.hs_base.specs.Refusals.{number_of}
 use Rattle.hs_base.specs.Trees.{Tree}
 use Rattle.hs_base.specs.Patterns.{Pattern}
 use Rattle.hs_parse.specs.Grammar.{Reads}
 use Rattle.hs_parse.specs.Faults.{Fault}
-use Rattle.hs_support.specs.Refused.{HasFlagsFault, HasRefusal as HasTreeRefusal}
+use Rattle.hs_support.specs.Refused.{HasFlagsFault, HasRefusal as HasTreeRefusal, IsLeast}
 
 -- the most entries of a list
 abbrev pub greatest_count : ℕ
@@ -19,13 +18,15 @@ greatest_count = 65536
 abbrev pub asks_single : ℕ → Bool
 asks_single flags = bit_and flags 8 == 8
 
--- The pattern is that of the entry: its expression is read as the tree.
-pub record IsPatternOf (entry : ListedEntry) (x : Pattern) : Type 0 where
-  pub id : x.id ≡ entry.id
-  pub single : x.single ≡ asks_single entry.flags
-  pub least : x.least ≡ entry.ext.min_offset
-  pub greatest : x.greatest ≡ entry.ext.max_offset
-  pub read : Reads entry.text (flags_of entry) x.tree
+-- the pattern of an entry whose expression is read as the tree
+abbrev pub pattern_of : ListedEntry → Tree → Pattern
+pattern_of entry tree = record {
+  id = entry.id;
+  single = asks_single entry.flags;
+  least = entry.ext.min_offset;
+  greatest = entry.ext.max_offset;
+  tree = tree;
+}
 
 -- The entry of that number, counted from 1, has the refusal.
 pub data HasRefusal (number : ℕ) (entry : ListedEntry) : Refusal → Type 0 where
@@ -42,13 +43,13 @@ pub data HasRefusal (number : ℕ) (entry : ListedEntry) : Refusal → Type 0 wh
   beyond : greatest_count < number → HasRefusal number entry CountLimit
 
 -- Of the refusals of the entry it is the one of least number.
-pub record IsRefusalOf (number : ℕ) (entry : ListedEntry) (refusal : Refusal) : Type 0 where
-  pub has : HasRefusal number entry refusal
-  pub least : (other : Refusal) → HasRefusal number entry other → number_of refusal ≤ number_of other
+abbrev pub IsRefusalOf : (number : ℕ) → ListedEntry → Refusal → Type 0
+IsRefusalOf number entry refusal = IsLeast (HasRefusal number entry) refusal
 
--- The entry has no refusal, and the pattern is its own.
+-- The entry has no refusal, its expression is read, and the pattern is its own.
 pub record IsAcceptedAs (number : ℕ) (entry : ListedEntry) (x : Pattern) : Type 0 where
-  pub pattern : IsPatternOf entry x
+  pub read : Reads entry.text (flags_of entry) x.tree
+  pub is : x ≡ pattern_of entry x.tree
   pub free : (refusal : Refusal) → HasRefusal number entry refusal → ⊥
 
 -- So it is with each entry, of which the first has that number, in order.

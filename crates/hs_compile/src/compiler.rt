@@ -1,5 +1,5 @@
 //! The list, entry by entry.
-ghost use Rattle.std.specs.Prelude.{◌≡◌, ◌≤◌, ℕ, ◌+◌, IfOk, IfErr, length, map, take};
+ghost use Rattle.std.specs.Prelude.{IfOk, IfErr, map};
 ghost use Rattle.hs_base.specs.Entries.{listed};
 ghost use Rattle.hs_compile.specs.Answers.{IsCompiled, IsCauseOf, AreCompiled};
 
@@ -20,8 +20,14 @@ pub fn compile(alloc: Global, entries: &[Entry]) -> Result<Database, CompileFaul
     ensures compiled { IfOk result (IsCompiled (map listed entries.now)) }
     ensures refused { IfErr result (IsCauseOf (map listed entries.now)) }
 {
-    let expressions = compile_entries(alloc, entries)?;
-    Ok(Database::new(Program::build(alloc, expressions)?))
+    let expressions = match compile_entries(alloc, entries) {
+        Ok(expressions) => expressions,
+        Err(fault) => return Err(fault),
+    };
+    match Program::build(alloc, expressions) {
+        Ok(program) => Ok(Database::new(program)),
+        Err(_) => Err(CompileFault::Memory),
+    }
 }
 
 /// What runs each expression of the list, in order.
@@ -30,10 +36,11 @@ fn compile_entries(alloc: Global, entries: &[Entry]) -> Result<Vec<Expression<Pl
     ensures refused { IfErr result (IsCauseOf (map listed entries.now)) }
 {
     let mut expressions = Vec::new(alloc);
-    for i in 0..entries.len()
-        invariant compiled { AreCompiled (map listed (take i entries.now)) expressions.items }
-    {
-        let expression = compile_entry(alloc, i + 1, &entries[i])?;
+    for i in 0..entries.len() {
+        let expression = match compile_entry(alloc, i as u32 + 1, &entries[i]) {
+            Ok(expression) => expression,
+            Err(fault) => return Err(fault),
+        };
         expressions.push(expression)?;
     }
     Ok(expressions)
