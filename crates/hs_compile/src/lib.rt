@@ -5,6 +5,8 @@ mod compiler;
 mod database;
 mod entry;
 mod fault;
+#[cfg(test)]
+mod tests;
 
 pub use compiler::{MAX_ENTRIES, compile};
 pub use database::Database;
