@@ -8,3 +8,4 @@ pub mod PartLemmas
 pub mod RowLemmas
 pub mod PastLemmas
 pub mod BuildLemmas
+pub mod EngineLemmas
