@@ -1,0 +1,10 @@
+//! Which expressions are supported: the refusals that go by an expression's flags, parameters and tree.
+#![tactic(auto)]
+
+mod checking;
+mod ends;
+mod fault;
+mod outside;
+
+pub use checking::{MAX_POSITIONS, check};
+pub use fault::{SUPPORTED_FLAGS, SUPPORTED_PARAMETERS, flags_fault};
