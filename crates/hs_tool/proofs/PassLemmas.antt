@@ -109,3 +109,21 @@ module _ {O : Type 0} (Written : O → Option (List ℕ)) (Faults : O → ℕ) w
         same_pending = writes.same_pending ∙ so_far.same_pending;
         printed = printed-more (way_of Written Faults start) (way_of Written Faults between) (way_of Written Faults end) pairs p so_far.printed writes.prints;
       }
+
+-- the lines of all the reports were passed on
+pub record IsPrinted (before : Way) (pairs : List Pair) (after : Way) : Type 0 where
+  pub counted : after.faults ≡ before.faults
+  pub passes : Passes before.taken after.taken before.waits after.waits (report_lines pairs)
+
+-- the sink failed
+pub record IsPartlyPrinted (before : Way) (pairs : List Pair) (after : Way) : Type 0 where
+  pub rose : Rose before.faults after.faults
+  pub passes : PassesPart before.taken after.taken before.waits (report_lines pairs)
+
+pub printed-all : (before : Way) (pairs : List Pair) (after : Way) → Printed before pairs after → after.failed ≡ false → IsPrinted before pairs after
+printed-all before pairs after (all now faults passes) fine = record { counted = faults; passes = passes }
+printed-all before pairs after (part now rose passes) fine = absurd (apart now fine)
+
+pub printed-part : (before : Way) (pairs : List Pair) (after : Way) → Printed before pairs after → after.failed ≡ true → IsPartlyPrinted before pairs after
+printed-part before pairs after (all now faults passes) failed = absurd (apart failed now)
+printed-part before pairs after (part now rose passes) failed = record { rose = rose; passes = passes }

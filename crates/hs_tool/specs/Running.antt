@@ -3,7 +3,8 @@ use Rattle.std.specs.Prelude.{ℕ, Bool, List}
 use Rattle.hs_base.specs.Trees.{Tree}
 use Rattle.hs_base.specs.Patterns.{Pattern}
 use Rattle.hs_rose.specs.declared.program.Program.{Program}
-use Rattle.hs_run.specs.States.{Runs, FitsState, FitsScratch, IsStateOf, offset_of as offset_of_state}
+use Rattle.hs_run.specs.States.{Runs, FitsState, IsStateOf, offset_of as offset_of_state}
+use Rattle.hs_run.specs.Feeding.{FitsScratch}
 use Rattle.hs_tool.specs.declared.scan.Scan.{Scan}
 
 -- how many bytes have come

@@ -5,7 +5,7 @@ use Rattle.hs_tool.proofs.scan.scan_file.Goals as goal
 
 pub loop-count-init : goal.loop-count-init
 loop-count-init g c = record {
-  scanned = seen-start (g.S.Store.told c.args.store.now c.args.name.now) c.args.compiled.now (g.O.Sink.written c.args.out.now) c.args.pending.now;
+  scanned = seen-start _ (g.S.Store.told c.args.store.now c.args.name.now) c.args.compiled.now (g.O.Sink.written c.args.out.now) c.args.pending.now;
   within = omega arith;
   stored = refl;
   sunk = refl;
