@@ -1,10 +1,9 @@
 -- The items of a concatenation from one on: what they have, the whole has.
-use Rattle.std.proofs.Common.{◌≡◌, ℕ, zero, suc, ◌+◌, ◌<◌, ◌≤◌, Bool, true, false, ◌||◌, List, [], ◌∷◌, length, map, drop, get_or, refl, sym, ap, ◌∙◌}
-use Rattle.hs_base.specs.Trees.{Tree, Trees, more}
+use Rattle.std.proofs.Common.{◌≡◌, ℕ, zero, suc, ◌+◌, ◌<◌, Bool, true, false, ◌||◌, List, [], ◌∷◌, length, map, drop, get_or, refl, sym, ap, ◌∙◌}
 use Rattle.hs_base.specs.EndAssertions.{may_consume, one_may_consume, has_embedded_end, sequence_has_embedded_end, one_has_embedded_end}
 use Rattle.hs_expr.specs.declared.expr.Expr.{Expr}
 use Rattle.hs_expr.specs.Meaning.{tree_of, trees_of}
-use Rattle.hs_expr.proofs.TreeLemmas.{trees_of-drop, trees_of-drop_all}
+use Rattle.hs_expr.proofs.TreeLemmas.{trees_of-drop}
 use Rattle.hs_base.proofs.ContextLemmas.{right_of_either}
 
 -- what later items have, all have

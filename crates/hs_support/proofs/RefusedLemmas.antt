@@ -1,5 +1,5 @@
 -- Which refusal is the one of least number.
-use Rattle.std.proofs.Common.{◌≡◌, ℕ, ◌+◌, ◌<◌, ◌≤◌, true, false, [], refl, arith}
+use Rattle.std.proofs.Common.{◌≡◌, ℕ, ◌<◌, ◌≤◌, true, false, [], arith}
 use Rattle.hs_base.specs.declared.ext.Ext.{Ext}
 use Rattle.hs_base.specs.declared.flags.Flags.{Flags}
 use Rattle.hs_base.specs.declared.refusal.Refusal.{Refusal}

@@ -1,6 +1,5 @@
 use Rattle.hs_support.proofs.OutsideLemmas.{none-beyond}
-use Rattle.std.proofs.Common.{◌<◌, ℕ, arith}
-use Rattle.hs_support.specs.Support.{IsOutside}
+use Rattle.std.proofs.Common.{arith}
 use Rattle.hs_support.proofs.outside.least_outside.Goals as goal
 
 pub returns : goal.returns
