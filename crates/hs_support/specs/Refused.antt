@@ -1,5 +1,5 @@
 -- The refusals of an expression that go by its flags, its parameters and its tree.
-use Rattle.std.specs.Prelude.{◌≡◌, ℕ, ◌<◌, ◌≤◌, Bool, true, false, [], bit_and}
+use Rattle.std.specs.Prelude.{◌≡◌, ℕ, ◌<◌, ◌≤◌, true, false, [], bit_and}
 use Rattle.hs_base.specs.declared.ext.Ext.{Ext}
 use Rattle.hs_base.specs.declared.flags.Flags.{Flags}
 use Rattle.hs_base.specs.declared.refusal.Refusal.{Refusal}

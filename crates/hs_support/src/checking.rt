@@ -1,7 +1,8 @@
 //! The refusals of an expression that its text doesn't show.
-ghost use Rattle.std.specs.Prelude.{MatchResult};
+ghost use Rattle.std.specs.Prelude.{true, [], MatchBool, MatchResult};
+ghost use Rattle.hs_base.specs.Spans.{Spans};
 ghost use Rattle.hs_expr.specs.Meaning.{tree_of};
-ghost use Rattle.hs_support.specs.Refused.{HasRefusal, IsAccepted, IsLeast};
+ghost use Rattle.hs_support.specs.Refused.{AllowsEmpty, HasRefusal, IsAccepted, IsLeast};
 
 use crate::ends::has_embedded_end;
 use crate::fault::flags_fault;
@@ -20,7 +21,7 @@ pub fn check(expr: &Expr, flags: Flags, ext: Ext) -> Result<(), Refusal>
     if let Some(refusal) = flags_fault(flags, ext) {
         return Err(refusal);
     }
-    if !flags.contains(Flags::ALLOWEMPTY) && matches_empty(expr) {
+    if needs_leave_to_be_empty(expr, flags) {
         return Err(Refusal::MatchesEmpty);
     }
     if has_embedded_end(expr, false) {
@@ -34,4 +35,15 @@ pub fn check(expr: &Expr, flags: Flags, ext: Ext) -> Result<(), Refusal>
         return Err(Refusal::OffsetOrder);
     }
     Ok(())
+}
+
+/// Whether the expression matches the empty text over the stream that has no byte and has ended, and no flag allows it.
+fn needs_leave_to_be_empty(expr: &Expr, flags: Flags) -> bool
+    ensures { MatchBool result ((AllowsEmpty flags → ⊥) × Spans [] true (tree_of expr.now) 0 0)
+        ((AllowsEmpty flags → ⊥) → Spans [] true (tree_of expr.now) 0 0 → ⊥) }
+{
+    if flags.contains(Flags::ALLOWEMPTY) {
+        return false;
+    }
+    matches_empty(expr)
 }

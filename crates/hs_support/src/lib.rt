@@ -5,6 +5,8 @@ mod checking;
 mod ends;
 mod fault;
 mod outside;
+#[cfg(test)]
+mod tests;
 
 pub use checking::{MAX_POSITIONS, check};
 pub use fault::{SUPPORTED_FLAGS, SUPPORTED_PARAMETERS, flags_fault};

@@ -1,0 +1,4 @@
+pub mod AcceptedLemmas
+pub mod EndLemmas
+pub mod OutsideLemmas
+pub mod RefusedLemmas

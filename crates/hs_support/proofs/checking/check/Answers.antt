@@ -1,0 +1,31 @@
+use Rattle.std.proofs.Common.{◌<◌, ◌≤◌, sym, subst, ◌∙◌, arith}
+use Rattle.hs_base.specs.declared.refusal.Refusal.TheVariants.{PositionLimit}
+use Rattle.hs_expr.specs.Counts.{positions}
+use Rattle.hs_expr.specs.Meaning.{tree_of}
+use Rattle.hs_support.specs.Refused.{most_positions, HasRefusal, IsLeast}
+use Rattle.hs_support.proofs.RefusedLemmas.{unsupported-least, empty-least, end-least, limit-least, order-least}
+use Rattle.hs_support.proofs.checking.check.Goals as goal
+
+pub returns-in-Some : goal.returns-in-Some
+returns-in-Some c = unsupported-least c.args.flags c.args.ext (tree_of c.args.expr.now) c.in-Some.refusal c.in-Some.ensures
+
+pub returns-then-needs_leave_to_be_empty : goal.returns-then-needs_leave_to_be_empty
+returns-then-needs_leave_to_be_empty c =
+    let (not_allowed, spans) = c.if-needs_leave_to_be_empty.ensures in
+    empty-least c.args.flags c.args.ext (tree_of c.args.expr.now) c.in_default.ensures not_allowed spans
+
+pub returns-then-has_embedded_end : goal.returns-then-has_embedded_end
+returns-then-has_embedded_end c =
+    end-least c.args.flags c.args.ext (tree_of c.args.expr.now) c.in_default.ensures c.if-needs_leave_to_be_empty.ensures
+    (sym c.has_embedded_end.ensures ∙ c.if-has_embedded_end.true)
+
+pub returns-then-count-gt-MAX_POSITIONS : goal.returns-then-count-gt-MAX_POSITIONS
+returns-then-count-gt-MAX_POSITIONS c =
+    let above : most_positions < positions (tree_of c.args.expr.now) = omega (arith, c.positions-count.ensures) in
+    subst (λ n. IsLeast (HasRefusal c.args.flags c.args.ext (tree_of c.args.expr.now)) (PositionLimit n)) (sym c.positions-count.ensures)
+    (limit-least c.args.flags c.args.ext (tree_of c.args.expr.now) c.in_default.ensures c.if-needs_leave_to_be_empty.ensures (sym c.has_embedded_end.ensures ∙ c.if-has_embedded_end.false) above)
+
+pub returns-then-ext : goal.returns-then-ext
+returns-then-ext c =
+    let few : positions (tree_of c.args.expr.now) ≤ most_positions = omega (arith, c.positions-count.ensures) in
+    order-least c.args.flags c.args.ext (tree_of c.args.expr.now) c.in_default.ensures c.if-needs_leave_to_be_empty.ensures (sym c.has_embedded_end.ensures ∙ c.if-has_embedded_end.false) few (omega arith)
