@@ -1,16 +1,23 @@
 -- The refusal of an entry, from what its parts say.
-use Rattle.std.proofs.Common.{◌≡◌, ℕ, ◌<◌, ◌≤◌, Option, Some, None, MatchOption, refl, sym, subst, arith}
+use Rattle.std.proofs.Common.{◌≡◌, ◌↔◌, ℕ, ◌<◌, ◌≤◌, Bool, true, false, Option, Some, None, MatchOption, IsTrue, bit_and, eqb, refl, sym, subst, arith, inl, inr}
+use Rattle.std.proofs.lemmas.Bool.{cases_Bool, eq-eqb, eqb-true, false≢true}
 use Rattle.hs_base.specs.declared.refusal.Refusal.{Refusal}
 use Rattle.hs_base.specs.declared.refusal.Refusal.TheVariants.{CountLimit}
+use Rattle.hs_base.specs.declared.flags.Flags.{Flags}
+use Rattle.hs_base.specs.declared.ext.Ext.{Ext}
 use Rattle.hs_base.specs.Entries.{ListedEntry, flags_of}
 use Rattle.hs_base.specs.Refusals.{number_of}
 use Rattle.hs_base.specs.Trees.{Tree}
+use Rattle.hs_base.specs.WrittenOut.{IsPlain, write_out, count}
+use Rattle.hs_glushkov.proofs.CountLemmas.{count-written}
 use Rattle.hs_parse.specs.Grammar.{Reads}
 use Rattle.hs_parse.specs.Faults.{Fault}
-use Rattle.hs_parse.proofs.FaultLemmas.{one_tree, one_fault, never_both}
+use Rattle.hs_parse.proofs.GrammarLemmas.{one_tree}
+use Rattle.hs_parse.proofs.PathLemmas.{one_fault, never_both}
 use Rattle.hs_support.specs.Refused.{HasFlagsFault, HasRefusal as HasTreeRefusal, IsLeast, IsAccepted}
 use Rattle.hs_support.specs.Refused as tree
-use Rattle.hs_compile.specs.Lists.{greatest_count, HasRefusal, unread, unsupported, unfit, beyond, IsRefusalOf}
+use Rattle.hs_support.proofs.AcceptedLemmas.{accepted-positions}
+use Rattle.hs_compile.specs.Lists.{greatest_count, asks_single, HasRefusal, unread, unsupported, unfit, beyond, IsRefusalOf}
 use Rattle.hs_compile.specs.Answers.{IsLesser, alone, first, second, IsCounted}
 use Rattle.hs_compile.specs.Answers as answer
 use Rattle.hs_compile.proofs.NumberLemmas.{fault_low, flags-number, IsFlagNumber}
@@ -106,3 +113,21 @@ module _ (number : ℕ) (entry : ListedEntry) (t : Tree) (reads : Reads entry.te
   tree-refusal _ refusal _ least (answer.within few) alone = tree-least refusal least (λ more. absurd (omega (arith, few, more)))
   tree-refusal _ refusal _ least (answer.beyond more) (first lower) = tree-least refusal least (λ again. lower)
   tree-refusal _ refusal _ least (answer.beyond more) (second lower) = count-lesser refusal least more lower
+
+-- ---- what runs it
+
+-- whether a single report is asked for
+pub single-asked : (asked : Bool) (flags : ℕ) → IsTrue asked ↔ (bit_and flags 8 ≡ 8) → asked ≡ asks_single flags
+single-asked true flags tells = sym (eq-eqb (bit_and flags 8) 8 (tells.0 refl))
+single-asked false flags tells = elim (cases_Bool (eqb (bit_and flags 8) 8)) [
+    | inl same ↦ absurd (false≢true (tells.1 (eqb-true (bit_and flags 8) 8 same)))
+    | inr apart ↦ sym apart
+  ]
+
+-- an entry that isn't refused is supported
+pub supported : (number : ℕ) (entry : ListedEntry) (t : Tree) → Reads entry.text (flags_of entry) t → ((refusal : Refusal) → HasRefusal number entry refusal → ⊥) → IsAccepted (flags_of entry) entry.ext t
+supported number entry t reads free refusal has = free refusal (unfit t reads has)
+
+-- its positions, written out, are few
+pub few-positions : (flags : Flags) (ext : Ext) (t : Tree) → IsPlain t → IsAccepted flags ext t → count (write_out t) ≤ 512
+few-positions flags ext t plain accepted = let few = accepted-positions flags ext t accepted in omega (arith, few, count-written t plain)

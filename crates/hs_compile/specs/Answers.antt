@@ -1,5 +1,5 @@
 -- What the answers of the compiler say.
-use Rattle.std.specs.Prelude.{◌≡◌, ℕ, ◌<◌, ◌≤◌, List, Option, Some, None}
+use Rattle.std.specs.Prelude.{◌≡◌, ℕ, ◌<◌, ◌≤◌, List, length, Option, Some, None}
 use Rattle.hs_base.specs.declared.refusal.Refusal.{Refusal}
 use Rattle.hs_base.specs.declared.refusal.Refusal.TheVariants.{CountLimit}
 use Rattle.hs_base.specs.Entries.{ListedEntry}
@@ -42,6 +42,7 @@ pub record AreCompiled (entries : List ListedEntry) (expressions : List (Express
   pub accepted : AreAcceptedAs entries patterns
   pub run : AreExpressionsOf IsEngineOf expressions patterns
   pub small : Each IsSmall expressions
+  pub few : length entries ≤ greatest_count
 
 -- The entry of that number is accepted, and this is what runs its pattern.
 pub record IsCompiledEntry (number : ℕ) (entry : ListedEntry) (expression : Expression Plain) : Type 0 where
