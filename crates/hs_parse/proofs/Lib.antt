@@ -1,0 +1,6 @@
+pub mod PieceLemmas
+pub mod ClassLemmas
+pub mod TokenLemmas
+pub mod RunLemmas
+pub mod GrammarLemmas
+pub mod PathLemmas
