@@ -179,9 +179,9 @@ moved_alternation {text = text} {depth = depth} {options = options} {k = k} {ts 
     subst (λ x. Alternation text depth options x ts k) (sym same) row
 
 same_rows :
-    {as bs ss ts : List Tree} → as ≡ bs → ss ≡ ts → sequence_tree as ∷ ss ≡ sequence_tree bs ∷ ts
-same_rows {as = as} {bs = bs} {ss = ss} {ts = ts} e f =
-    ap (λ xs. sequence_tree xs ∷ ss) e ∙ ap (λ xs. sequence_tree bs ∷ xs) f
+    {xs ys ss ts : List Tree} → xs ≡ ys → ss ≡ ts → sequence_tree xs ∷ ss ≡ sequence_tree ys ∷ ts
+same_rows {xs = xs} {ys = ys} {ss = ss} {ts = ts} e f =
+    ap (λ row. sequence_tree row ∷ ss) e ∙ ap (λ rows. sequence_tree ys ∷ rows) f
 
 -- each form is read in one way
 mutual

@@ -4,3 +4,5 @@ pub mod TokenLemmas
 pub mod RunLemmas
 pub mod GrammarLemmas
 pub mod PathLemmas
+pub mod StopLemmas
+pub mod TotalLemmas

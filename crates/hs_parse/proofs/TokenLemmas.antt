@@ -217,3 +217,29 @@ pub as_token :
     role_at text at ≡ r → Begins text options at r token end → TokenAt text options at token end
 as_token {text = text} {options = options} {at = at} {end = end} {token = token} e there =
     subst (λ r. Begins text options at r token end) (sym e) there
+
+ending_of :
+    {text : List ℕ} {options : Options} {at end : ℕ} {r : Role} {token : Token} →
+    Begins text options at r token end → token ≡ Token.ending → r ≡ role.End
+ending_of text_end e = refl
+ending_of any_byte e = absurd cc
+ending_of (literal p) e = absurd cc
+ending_of (escaped p) e = absurd cc
+ending_of (bad_escape p) e = absurd cc
+ending_of (bracket (tokens.named n)) e = absurd cc
+ending_of (bracket (tokens.closed n items c)) e = absurd cc
+ending_of (bracket (tokens.unclosed n items c)) e = absurd cc
+ending_of (bracket (tokens.refused n items c)) e = absurd cc
+ending_of (group_start p) e = absurd cc
+ending_of (unread_group p) e = absurd cc
+ending_of group_end e = absurd cc
+ending_of divider e = absurd cc
+ending_of star_mark e = absurd cc
+ending_of plus_mark e = absurd cc
+ending_of tokens.question_mark e = absurd cc
+ending_of unread_mark e = absurd cc
+
+-- the end stands behind the text
+pub ending_past :
+    {text : List ℕ} {options : Options} {at end : ℕ} → TokenAt text options at Token.ending end → length text ≤ at
+ending_past {text = text} {at = at} there = end_past text at (ending_of there refl)
