@@ -133,7 +133,7 @@ pub group_stops :
     (text : List ℕ) (flags : Flags) (depth at inner : ℕ) (reason : ParseFault) →
     depth < greatest_depth → TokenAt text flags at Token.opening inner →
     StopsFrom text flags (depth + 1) inner reason → StopsFrom text flags depth at reason
-group_stops text flags depth at inner (fault.Refused refusal) below there stop outside before h ready run =
+group_stops text flags depth at inner (fault.Refused refusal) below there stop = λ outside before h ready run.
     stop (flags ∷ outside) beginning (omega arith) (inl refl)
     (run_then run (one_step there (opens_group at inner flags outside before (omega arith))))
 group_stops text flags depth at inner fault.Memory below there stop = tt
@@ -175,7 +175,7 @@ twice_stops text flags depth at middle end n m tree refusal a q behind outside b
 pub passes_stops :
     (text : List ℕ) (flags : Flags) (depth at end : ℕ) (reason : ParseFault) →
     Passes text flags depth at end → StopsFrom text flags depth end reason → StopsFrom text flags depth at reason
-passes_stops text flags depth at end (fault.Refused refusal) passes stop outside before h ready run =
+passes_stops text flags depth at end (fault.Refused refusal) passes stop = λ outside before h ready run.
     let there = passes outside before h ready in stop outside there.0 h there.1 (run_then run there.2)
 passes_stops text flags depth at end fault.Memory passes stop = tt
 

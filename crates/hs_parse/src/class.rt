@@ -100,7 +100,7 @@ fn items_of(text: &[u8], flags: Flags, start: usize) -> Result<Option<(ByteSet, 
 fn insert_range(set: &mut ByteSet, first: u8, last: u8)
     ensures { (b : ℕ) → b < 256 → has set.new b ≡ (is_between first last b || has set.old b) }
 {
-    for byte in first..=last {
-        set.insert(byte);
+    for byte in first as usize..last as usize + 1 {
+        set.insert(byte as u8);
     }
 }
