@@ -1,8 +1,10 @@
 pub mod PieceLemmas
 pub mod ClassLemmas
+pub mod SetLemmas
 pub mod TokenLemmas
 pub mod RunLemmas
 pub mod GrammarLemmas
 pub mod PathLemmas
 pub mod StopLemmas
 pub mod TotalLemmas
+pub mod ParserLemmas

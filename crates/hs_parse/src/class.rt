@@ -1,10 +1,9 @@
 //! Classes of characters: `[`, an optional `^`, items, `]`.
-ghost use Rattle.std.specs.Prelude.{◌≡◌, ℕ, ◌+◌, ◌<◌, ◌≤◌, ◌||◌, Bool, length, drop, slice_get, MatchResult, IfOk, IfErr, MatchOption};
+ghost use Rattle.std.specs.Prelude.{◌≡◌, ℕ, ◌<◌, ◌≤◌, ◌||◌, not, if◌then◌else◌, length, MatchResult};
 ghost use Rattle.hs_base.specs.ByteSets.{has, members};
-ghost use Rattle.hs_parse.specs.Syntax.{colon, circumflex, is_byte};
-ghost use Rattle.hs_parse.specs.Classes.{is_between, is_name, closes_name, is_negated};
+ghost use Rattle.hs_parse.specs.Classes.{is_between, is_name, closes_name, is_negated, start_of};
 ghost use Rattle.hs_parse.specs.Tokens.{single, faulty, is_named, ClassToken};
-ghost use Rattle.hs_parse.specs.Reading.{HasItems, EndsItems, AreItemsOf};
+ghost use Rattle.hs_parse.specs.Reading.{AreItemsOf};
 
 use crate::parser::MAX_TEXT_LEN;
 use crate::piece::{Item, item_at};
@@ -21,13 +20,35 @@ pub(crate) fn class_at(text: &[u8], flags: Flags, at: usize) -> Result<(ByteSet,
     if is_named(text, at) {
         return Err(Refusal::Syntax(at as u32));
     }
-    let negated = is_negated(text, at);
-    let start = if negated { at + 2 } else { at + 1 };
-    let Some((set, close)) = items_of(text, flags, start)? else {
-        return Err(Refusal::Syntax(at as u32));
-    };
-    let set = if negated { set.complement() } else { set };
-    Ok((set, close + 1))
+    match items_of(text, flags, start_of(text, at)) {
+        Ok(Some((set, close))) => Ok((class_of(text, at, set), close + 1)),
+        Ok(None) => Err(Refusal::Syntax(at as u32)),
+        Err(refusal) => Err(refusal),
+    }
+}
+
+/// Where the items of the class that begins at a place begin.
+fn start_of(text: &[u8], at: usize) -> usize
+    requires { at < MAX_TEXT_LEN }
+    ensures { result ≡ start_of text.now at }
+{
+    if is_negated(text, at) {
+        at + 2
+    } else {
+        at + 1
+    }
+}
+
+/// The bytes of the class that begins at a place, by those that its items have.
+fn class_of(text: &[u8], at: usize, set: ByteSet) -> ByteSet
+    requires { at < MAX_TEXT_LEN }
+    ensures { (b : ℕ) → b < 256 → has result b ≡ (if is_negated text.now at then not (has set b) else has set b) }
+{
+    if is_negated(text, at) {
+        set.complement()
+    } else {
+        set
+    }
 }
 
 /// Whether the class that begins at a place is of the bytes that its items don't have.

@@ -1,9 +1,7 @@
-ghost use Rattle.std.specs.Prelude.{◌≡◌, ℕ, ◌+◌, ◌<◌, ◌≤◌, map, length, None, IfOk, IfErr, MatchOption};
-ghost use Rattle.hs_base.specs.Trees.{Tree};
+ghost use Rattle.std.specs.Prelude.{◌≡◌, ◌+◌, ◌<◌, ◌≤◌, map, length, IfOk, IfErr, MatchOption};
 ghost use Rattle.hs_expr.specs.Meaning.{tree_of};
-ghost use Rattle.hs_parse.specs.Syntax.{role_at};
 ghost use Rattle.hs_parse.specs.Tokens.{TokenAt, opening};
-ghost use Rattle.hs_parse.specs.Grammar.{Atom, Quantifier, NoQuantifier, sequence_tree, alternation_tree, Reads};
+ghost use Rattle.hs_parse.specs.Grammar.{Quantifier, NoQuantifier, sequence_tree, alternation_tree, Reads};
 ghost use Rattle.hs_parse.specs.Faults.{IsFaultOf};
 ghost use Rattle.hs_parse.specs.Reading.{EndsSequence, StopsFrom, StopsBehind, ReadsAtom, ReadsItem, ReadsSequence, ReadsGroup};
 
