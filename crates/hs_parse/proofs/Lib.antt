@@ -8,3 +8,4 @@ pub mod PathLemmas
 pub mod StopLemmas
 pub mod TotalLemmas
 pub mod ParserLemmas
+pub mod LoopLemmas

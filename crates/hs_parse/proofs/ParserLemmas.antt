@@ -1,5 +1,5 @@
 -- What the functions of the parser know, in the words of the grammar.
-use Rattle.std.proofs.Common.{◌≡◌, ℕ, ◌+◌, ◌<◌, ◌≤◌, ◌⊎◌, inl, inr, Bool, true, false, not, List, [], ◌∷◌, ◌++◌, length, get_or, map, Option, Some, None, refl, sym, ap, subst, ◌∙◌, arith}
+use Rattle.std.proofs.Common.{◌≡◌, ℕ, ◌+◌, ◌<◌, ◌≤◌, ◌⊎◌, inl, inr, Bool, true, false, not, List, [], ◌∷◌, ◌++◌, length, get_or, map, Option, Some, None, Result, Ok, Err, refl, sym, ap, subst, ◌∙◌, arith}
 use Rattle.std.specs.Prelude.{◌==◌, if◌then◌else◌}
 use Rattle.std.specs.List.{slice_get}
 use Rattle.std.proofs.lemmas.Option.{slice_get-get_or}
@@ -19,7 +19,7 @@ use Rattle.hs_parse.specs.Classes.{item_at, is_negated, start_of, class_of}
 use Rattle.hs_parse.specs.Tokens.{Token, not_newline, just, is_named, ClassToken, named, closed, unclosed, refused, Begins, text_end, any_byte, literal, escaped, bad_escape, bracket, group_start, unread_group, group_end, divider, star_mark, plus_mark, unread_mark, TokenAt}
 use Rattle.hs_parse.specs.Tokens as tokens
 use Rattle.hs_parse.specs.Grammar.{Quantifier, star, plus, question, NoQuantifier}
-use Rattle.hs_parse.specs.Reading.{HasItems, EndsItems, StopsBehind}
+use Rattle.hs_parse.specs.Reading.{HasItems, EndsItems, AreItemsOf, StopsBehind}
 use Rattle.hs_parse.proofs.PieceLemmas.{escape_end, escape_is, IsEscape}
 use Rattle.hs_parse.proofs.PieceLemmas as pieces
 use Rattle.hs_parse.proofs.ClassLemmas.{class_within}
@@ -141,6 +141,29 @@ no_other_escape text at other = by_piece (escape_is text at) other
     by_piece (pieces.refused refusal p) (inl e) = cc
     by_piece (pieces.refused refusal p) (inr e) = cc
 
+-- what the items of a class are, at the start that the parser has
+pub as_closed :
+    (text : List ℕ) (options : Options) (at start close : ℕ) (set : ByteSet) (o : Option (ByteSet × ℕ)) →
+    start ≡ start_of text at → o ≡ Some (set, close) → AreItemsOf text options start (Ok o) →
+    HasItems text options (start_of text at) set close × (item_at text (start_of text at) close ≡ item.Close)
+as_closed text options at start close set o same e there =
+    let here = subst (λ x. AreItemsOf text options start (Ok x)) e there in
+    subst (λ x. AreItemsOf text options x (Ok (Some (set, close)))) same here
+
+pub as_unclosed :
+    (text : List ℕ) (options : Options) (at start : ℕ) (o : Option (ByteSet × ℕ)) →
+    start ≡ start_of text at → o ≡ None → AreItemsOf text options start (Ok o) →
+    EndsItems text options (start_of text at) item.End
+as_unclosed text options at start o same e there =
+    let here = subst (λ x. AreItemsOf text options start (Ok x)) e there in
+    subst (λ x. AreItemsOf text options x (Ok None)) same here
+
+pub as_refused :
+    (text : List ℕ) (options : Options) (at start : ℕ) (refusal : Refusal) →
+    start ≡ start_of text at → EndsItems text options start (item.Refused refusal) →
+    EndsItems text options (start_of text at) (item.Refused refusal)
+as_refused text options at start refusal same there = subst (λ x. EndsItems text options x (item.Refused refusal)) same there
+
 -- a class that is closed
 pub closed_at :
     (text : List ℕ) (options : Options) (at close : ℕ) (set whole : ByteSet) →
@@ -179,3 +202,39 @@ pub no_class_at :
     role_at text at ≡ role.Class → ClassToken text options at (Token.faulty refusal) at →
     TokenAt text options at (Token.faulty refusal) at
 no_class_at text options at refusal e there = as_token e (bracket there)
+
+-- a role that is none of the quantifiers
+no_mark :
+    (r : Role) →
+    (r ≡ role.End) ⊎ ((r ≡ role.Any) ⊎ ((r ≡ role.Literal) ⊎ ((r ≡ role.Escape) ⊎ ((r ≡ role.Class)
+    ⊎ ((r ≡ role.Opening) ⊎ ((r ≡ role.Closing) ⊎ ((r ≡ role.Bar) ⊎ (r ≡ role.Unread)))))))) →
+    quantifies r ≡ false
+no_mark r (inl e) = ap quantifies e
+no_mark r (inr (inl e)) = ap quantifies e
+no_mark r (inr (inr (inl e))) = ap quantifies e
+no_mark r (inr (inr (inr (inl e)))) = ap quantifies e
+no_mark r (inr (inr (inr (inr (inl e))))) = ap quantifies e
+no_mark r (inr (inr (inr (inr (inr (inl e)))))) = ap quantifies e
+no_mark r (inr (inr (inr (inr (inr (inr (inl e))))))) = ap quantifies e
+no_mark r (inr (inr (inr (inr (inr (inr (inr (inl e)))))))) = ap quantifies e
+no_mark r (inr (inr (inr (inr (inr (inr (inr (inr e)))))))) = ap quantifies e
+
+pub no_mark_at :
+    (text : List ℕ) (options : Options) (at : ℕ) (r : Role) → r ≡ role_at text at →
+    (r ≡ role.End) ⊎ ((r ≡ role.Any) ⊎ ((r ≡ role.Literal) ⊎ ((r ≡ role.Escape) ⊎ ((r ≡ role.Class)
+    ⊎ ((r ≡ role.Opening) ⊎ ((r ≡ role.Closing) ⊎ ((r ≡ role.Bar) ⊎ (r ≡ role.Unread)))))))) →
+    NoQuantifier text options at
+no_mark_at text options at r same other = bare_at text options at (ap quantifies (sym same) ∙ no_mark r other)
+
+-- `+` or `?` behind a quantifier
+pub mark_behind :
+    (text : List ℕ) (options : Options) (at : ℕ) (r : Role) → r ≡ role_at text at →
+    (r ≡ role.Plus) ⊎ (r ≡ role.Question) → StopsBehind text options at (Unsupported Later at)
+mark_behind text options at r same (inl e) = plus_behind text options at (sym same ∙ e)
+mark_behind text options at r same (inr e) = question_behind text options at (sym same ∙ e)
+
+-- the parser's escape is no other piece
+pub other_escape :
+    (text : List ℕ) (at : ℕ) (p : Piece) → p ≡ escape_at text at → (p ≡ piece.End) ⊎ (p ≡ piece.Close) → ⊥
+other_escape text at p same (inl e) = no_other_escape text at (inl (sym same ∙ e))
+other_escape text at p same (inr e) = no_other_escape text at (inr (sym same ∙ e))

@@ -1,5 +1,6 @@
-ghost use Rattle.std.specs.Prelude.{◌≡◌, ◌+◌, ◌<◌, ◌≤◌, map, length, IfOk, IfErr, MatchOption};
+ghost use Rattle.std.specs.Prelude.{◌≡◌, ◌+◌, ◌<◌, ◌≤◌, map, length, IfOk, IfErr, MatchBool, MatchOption};
 ghost use Rattle.hs_expr.specs.Meaning.{tree_of};
+ghost use Rattle.hs_parse.specs.Syntax.{role_at};
 ghost use Rattle.hs_parse.specs.Tokens.{TokenAt, opening};
 ghost use Rattle.hs_parse.specs.Grammar.{Quantifier, NoQuantifier, sequence_tree, alternation_tree, Reads};
 ghost use Rattle.hs_parse.specs.Faults.{IsFaultOf};
@@ -58,11 +59,18 @@ fn alternation_at(
     loop {
         let (sequence, end) = sequence_at(alloc, text, flags, depth, at)?;
         alternatives.push(sequence)?;
-        if role_at(text, end) != Role::Bar {
+        if !is_bar_at(text, end) {
             return Ok((alternation_of(alternatives), end));
         }
         at = end + 1;
     }
+}
+
+/// Whether a `|` stands at a place.
+fn is_bar_at(text: &[u8], at: usize) -> bool
+    ensures { MatchBool result (role_at text.now at ≡ Role.Bar) (role_at text.now at ≡ Role.Bar → ⊥) }
+{
+    matches!(role_at(text, at), Role::Bar)
 }
 
 /// The tree of the sequence from a place to its end, and that place.
