@@ -105,6 +105,7 @@ pub record ReadsSequence (text : List ℕ) (options : Options) (depth at : ℕ) 
   pub whole : Sequence text depth options at trees end
   pub is : tree ≡ sequence_tree trees
   pub ended : EndsSequence text options end
+  pub rises : at ≤ end
   pub within : end ≤ length text
 
 -- alternatives are read to their end
@@ -113,4 +114,5 @@ pub record ReadsGroup (text : List ℕ) (options : Options) (depth at : ℕ) (tr
   pub whole : Alternation text depth options at trees end
   pub is : tree ≡ alternation_tree trees
   pub ended : EndsGroup text options end
+  pub rises : at ≤ end
   pub within : end ≤ length text
