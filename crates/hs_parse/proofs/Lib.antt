@@ -9,3 +9,5 @@ pub mod StopLemmas
 pub mod TotalLemmas
 pub mod ParserLemmas
 pub mod LoopLemmas
+pub mod PlainLemmas
+pub mod NumberLemmas
