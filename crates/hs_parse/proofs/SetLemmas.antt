@@ -1,10 +1,18 @@
--- The sets that atoms stand for.
-use Rattle.std.proofs.Common.{◌≡◌, ℕ, zero, suc, ◌+◌, ◌-◌, ◌^◌, ◌<◌, Bool, [], ◌∷◌, map, refl, arith}
-use Rattle.std.specs.Prelude.{◌==◌}
-use Rattle.std.specs.List.{range_with_len}
+-- The sets of atoms of one byte.
+use Rattle.std.proofs.Common.{◌≡◌, ℕ, zero, suc, ◌+◌, ◌-◌, ◌^◌, ◌/◌, ◌%◌, ◌<◌, Bool, false, not, ◌||◌, List, [], ◌∷◌, ◌++◌, map, eqb, refl, sym, ap, ◌∙◌, arith}
+use Rattle.std.specs.Prelude.{◌==◌, if◌then◌else◌}
+use Rattle.std.specs.List.{range_with_len, list_any}
+use Rattle.std.specs.Int.{bit_at}
+use Rattle.std.proofs.lemmas.Nat.Bits.{bit_at-zero}
 use Rattle.hs_base.specs.declared.byte_set.ByteSet.{ByteSet}
 use Rattle.hs_base.specs.ByteSets.{has, members}
-use Rattle.hs_parse.specs.Grammar.{just, not_newline}
+use Rattle.hs_base.proofs.ByteSetLemmas.{word_at}
+use Rattle.hs_parse.specs.declared.piece.Item.TheVariants as item
+use Rattle.hs_parse.specs.Syntax.{Options}
+use Rattle.hs_parse.specs.Classes.{is_between, item_at, Items, nothing, class_of}
+use Rattle.hs_parse.specs.Tokens.{just, not_newline}
+use Rattle.hs_parse.specs.Reading.{HasItems}
+use Rattle.hs_parse.proofs.ClassLemmas.{items_last, any_last}
 
 -- tests that agree on a range give one list
 same_on_range :
@@ -21,8 +29,47 @@ pub members-just : (s : ByteSet) (x : ℕ) → ((b : ℕ) → b < 256 → has s 
 unfolding members
 members-just s x same = same_on_range (has s) (λ b. b == x) 256 0 same
 
--- the words of all bits but that of the line feed
+-- the set of every byte but the line feed
 pub members-not_newline :
     members (record { words = (2 ^ 64 - 1 - 2 ^ 10) ∷ (2 ^ 64 - 1) ∷ (2 ^ 64 - 1) ∷ (2 ^ 64 - 1) ∷ [] }) ≡ not_newline
 unfolding has members
 members-not_newline = refl
+
+-- the set of a class
+pub members-class :
+    (s whole : ByteSet) (negated : Bool) (tests : List (ℕ → Bool)) →
+    ((b : ℕ) → b < 256 → has s b ≡ list_any (λ (t : ℕ → Bool). t b) tests) →
+    ((b : ℕ) → b < 256 → has whole b ≡ (if negated then not (has s b) else has s b)) →
+    members whole ≡ class_of negated tests
+unfolding members
+members-class s whole negated tests items all =
+    same_on_range (has whole)
+    (λ b. if negated then not (list_any (λ (t : ℕ → Bool). t b) tests) else list_any (λ (t : ℕ → Bool). t b) tests) 256 0
+    (λ b h. all b h ∙ ap (λ x. if negated then not x else x) (items b h))
+
+-- no byte is in the empty set
+no_member : (b : ℕ) → b < 256 → has (record { words = 0 ∷ 0 ∷ 0 ∷ 0 ∷ [] }) b ≡ false
+unfolding has
+no_member b h =
+    ap (λ n. eqb (bit_at n (b % 64)) 1) (word_at (λ _. 0) (b / 64) (omega arith)) ∙ ap (λ n. eqb n 1) (bit_at-zero (b % 64))
+
+-- no item is read yet
+pub no_items :
+    (text : List ℕ) (options : Options) (start : ℕ) →
+    HasItems text options start (record { words = 0 ∷ 0 ∷ 0 ∷ 0 ∷ [] }) start
+no_items text options start = record { tests = []; items = nothing; same = no_member }
+
+-- one item more
+pub more_items :
+    (text : List ℕ) (options : Options) (start here first last end : ℕ) (old new : ByteSet) →
+    HasItems text options start old here → item_at text start here ≡ item.Range first last end →
+    ((b : ℕ) → b < 256 → has new b ≡ (is_between first last b || has old b)) →
+    HasItems text options start new end
+more_items text options start here first last end old new before e added = record {
+  tests = before.tests ++ is_between first last ∷ [];
+  items = items_last before.items e;
+  same = λ b h.
+      added b h
+      ∙ ap (λ x. is_between first last b || x) (before.same b h)
+      ∙ sym (any_last b before.tests (is_between first last));
+}

@@ -1,4 +1,7 @@
+pub mod Syntax
+pub mod Classes
+pub mod Tokens
 pub mod Grammar
 pub mod Faults
-pub mod Sequences
+pub mod Reading
 pub mod Laws

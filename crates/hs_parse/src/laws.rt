@@ -1,6 +1,6 @@
 //! Laws of the grammar and of faults. Each is the contract of a function that does nothing.
 
-ghost use Rattle.hs_parse.specs.Laws.{OneTree, OneFault, NeverBoth, AlwaysOne, FaultsAreFirst, ReadsSequences};
+ghost use Rattle.hs_parse.specs.Laws.{OneTree, OneFault, NeverBoth, AlwaysOne};
 
 /// A text is read as one tree at most.
 pub fn one_tree()
@@ -20,14 +20,4 @@ pub fn never_both()
 /// Every text is read, or has a fault.
 pub fn always_one()
     ensures { AlwaysOne }
-{}
-
-/// A fault stands at the first byte with which no text goes on that is read.
-pub fn faults_are_first()
-    ensures { FaultsAreFirst }
-{}
-
-/// What is read is a sequence of at most `MAX_TEXT_LEN` items, with its values within their types.
-pub fn reads_sequences()
-    ensures { ReadsSequences }
 {}

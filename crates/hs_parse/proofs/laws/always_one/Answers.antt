@@ -1,4 +1,4 @@
-use Rattle.hs_parse.proofs.FaultLemmas.{always_one}
+use Rattle.hs_parse.proofs.TotalLemmas.{always_one}
 use Rattle.hs_parse.proofs.laws.always_one.Goals as goal
 
 pub returns : goal.returns
