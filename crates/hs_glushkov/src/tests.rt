@@ -151,6 +151,14 @@ fn left_from<E: Engine, L: Ledger>(
     engine.out(region, prev, at)
 }
 
+/// What may come next behind the text in the engine, from a region with every bit set.
+fn left_by(alloc: Global, engine: &Plain, text: &[u8], from: u64) -> Result<NextSet, Fail>
+    requires { length text.now < 2 ^ 63 }
+{
+    let mut region = vec![in alloc; 0xffu8; engine.size()]?;
+    Ok(left_from::<Plain, Brand>(engine, &mut region, text, from, Blank::new(1)))
+}
+
 /// What stands behind the text.
 fn prev_of(text: &[u8]) -> Prev {
     match text.last() {
@@ -164,15 +172,8 @@ fn compare(rt: &impl Abort, alloc: Global, name: &str, text: &[u8]) -> Result<()
     let expr = tree(alloc, name)?;
     let automaton = automaton_of(rt, alloc, &expr)?;
     let engine = Plain::build(alloc, &automaton)?;
-    let mut region = vec![in alloc; 0xffu8; engine.size()]?;
     for from in 0..=text.len() {
-        let left = left_from::<Plain, Brand>(
-            &engine,
-            &mut region,
-            text,
-            from as u64,
-            Blank::new(1),
-        );
+        let left = left_by(alloc, &engine, text, from as u64)?;
         for (next, bytes, ended) in AFTER {
             let mut stream = text.to_vec(alloc)?;
             stream.extend_from_slice(bytes.as_bytes())?;
@@ -286,17 +287,15 @@ fn has_as_many_positions_as_are_written_out(rt: HostRuntime) -> Result<(), Fail>
     Ok(())
 }
 
-// Two copies at least keep the class of what follows between them: the last of three is reached behind the third byte.
 #[test]
 fn long_repeats_leave_where_enough_bytes_have_come(rt: HostRuntime) -> Result<(), Fail> {
     let alloc = rt.alloc();
     let expr = tree(alloc, "a<")?;
     let engine = Plain::new(automaton_of(&rt, alloc, &expr)?);
     assert_eq!(rt; engine.size(), 64);
-    let mut region = vec![in alloc; 0u8; engine.size()]?;
     for (count, wanted) in [(2, false), (3, true), (512, true), (513, false)] {
         let text = vec![in alloc; b'a'; count]?;
-        let left = left_from::<Plain, Brand>(&engine, &mut region, &text, 0, Blank::new(1));
+        let left = left_by(alloc, &engine, &text, 0)?;
         assert_eq!(rt; left.contains(Next::Unknown), wanted, "{count}");
     }
     Ok(())
