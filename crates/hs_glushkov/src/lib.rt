@@ -4,6 +4,8 @@
 
 mod assertion_test;
 mod builder;
+#[cfg(test)]
+mod conditions;
 mod edge_list;
 mod follow_masks;
 pub mod laws;
@@ -13,3 +15,6 @@ mod plain;
 pub use assertion_test::has_assertion;
 pub use builder::build;
 pub use plain::Plain;
+
+#[cfg(test)]
+mod tests;

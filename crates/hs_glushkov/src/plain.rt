@@ -135,15 +135,7 @@ impl Engine for Plain {
         let mut led = [0u8; MAX_REGION_LEN];
         follow(&self.automaton.edges, region, prev, next, &mut led);
         clear_bits(region);
-        settle(
-            &self.automaton,
-            &led,
-            prev,
-            next,
-            entering,
-            byte,
-            region,
-        );
+        settle(&self.automaton, &led, prev, next, entering, byte, region);
     }
 
     fn out(&self, region: &[u8], prev: Prev, _at: u64) -> NextSet {
