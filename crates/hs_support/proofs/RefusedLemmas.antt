@@ -36,7 +36,8 @@ module _ (flags : Flags) (ext : Ext) where
   no-fault none none' refusal (flag bit outside) = none outside.place outside.outside
   no-fault none none' refusal (parameter bit outside) = none' outside.place outside.outside
 
-  fault-number : (refusal : Refusal) → HasFlagsFault flags ext refusal → number_of refusal ≤ 5
+  -- the numbers of faults of flags and parameters come first
+  pub fault-number : (refusal : Refusal) → HasFlagsFault flags ext refusal → number_of refusal ≤ 5
   fault-number refusal (flag bit outside) = omega arith
   fault-number refusal (parameter bit outside) = omega arith
 

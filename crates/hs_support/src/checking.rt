@@ -16,7 +16,8 @@ pub const MAX_POSITIONS: u32 = 512;
 /// that isn't supported, a match of the empty text that no flag allows, bytes behind an assertion of the stream's end,
 /// too many positions, a least end offset above the greatest. The error is the one of least number.
 pub fn check(expr: &Expr, flags: Flags, ext: Ext) -> Result<(), Refusal>
-    ensures { MatchResult result (λ done. IsAccepted flags ext (tree_of expr.now)) (IsLeast (HasRefusal flags ext (tree_of expr.now))) }
+    ensures { MatchResult result (λ done. IsAccepted flags ext (tree_of expr.now))
+        (IsLeast (HasRefusal flags ext (tree_of expr.now))) }
 {
     if let Some(refusal) = flags_fault(flags, ext) {
         return Err(refusal);

@@ -14,7 +14,8 @@ pub const SUPPORTED_PARAMETERS: u8 = 0;
 
 /// The refusal of a flag that isn't supported, the least one; else that of a parameter that isn't, the least one.
 pub fn flags_fault(flags: Flags, ext: Ext) -> Option<Refusal>
-    ensures { MatchOption result ((refusal : Refusal) → HasFlagsFault flags ext refusal → ⊥) (IsLeast (HasFlagsFault flags ext)) }
+    ensures { MatchOption result ((refusal : Refusal) → HasFlagsFault flags ext refusal → ⊥)
+        (IsLeast (HasFlagsFault flags ext)) }
 {
     if let Some(bit) = least_outside(u32::from(SUPPORTED_FLAGS), u32::from(flags.0)) {
         return Some(Refusal::UnsupportedFlag(bit));

@@ -4,6 +4,7 @@
 mod checking;
 mod ends;
 mod fault;
+pub mod laws;
 mod outside;
 #[cfg(test)]
 mod tests;

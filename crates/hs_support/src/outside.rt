@@ -4,7 +4,8 @@ ghost use Rattle.hs_support.specs.Support.{IsOutside, IsLeastOutside};
 
 /// The least bit that is set and isn't supported, as a number of one bit.
 pub fn least_outside(supported: u32, bits: u32) -> Option<u32>
-    ensures { MatchOption result ((place : ℕ) → IsOutside supported bits place → ⊥) (IsLeastOutside supported bits) }
+    ensures { MatchOption result ((place : ℕ) → IsOutside supported bits place → ⊥)
+        (IsLeastOutside supported bits) }
 {
     for place in 0..u32::BITS {
         if is_outside(supported, bits, place) {
