@@ -12,6 +12,7 @@ use Rattle.hs_parse.specs.Grammar.{Reads}
 use Rattle.hs_parse.specs.Faults.{Fault, IsOfText, syntax_fault, unknown_escape, unsupported as unsupported_form, repeat_limit, length_limit, depth_limit}
 use Rattle.hs_parse.proofs.GrammarLemmas.{one_tree}
 use Rattle.hs_parse.proofs.PathLemmas.{one_fault, never_both}
+use Rattle.hs_parse.proofs.NumberLemmas.{fault-number}
 use Rattle.hs_support.specs.Support.{IsLeastOutside}
 use Rattle.hs_support.specs.Refused.{HasFlagsFault, flag, parameter, HasRefusal as HasTreeRefusal, IsLeast}
 use Rattle.hs_support.specs.Refused as tree
@@ -21,7 +22,7 @@ use Rattle.hs_compile.specs.Lists.{HasRefusal, unread, unsupported, unfit, beyon
 
 -- a number is one of those of texts
 pub text-number : (text : List ℕ) (flags : Flags) (refusal : Refusal) → Fault text flags refusal → IsOfText (number_of refusal)
-text-number text flags refusal fault = ?
+text-number text flags refusal fault = fault-number fault
 
 low : (n : ℕ) → IsOfText n → n ≤ 11
 low _ syntax_fault = omega arith

@@ -2,6 +2,7 @@ use Rattle.std.proofs.Common.{subst}
 use Rattle.hs_base.specs.Entries.{listed, flags_of}
 use Rattle.hs_expr.specs.Meaning.{tree_of}
 use Rattle.hs_parse.specs.Grammar.{Reads}
+use Rattle.hs_parse.proofs.PlainLemmas.{reads-plain}
 use Rattle.hs_support.specs.Refused.{IsAccepted}
 use Rattle.hs_support.proofs.AcceptedLemmas.{accepted-ends}
 use Rattle.hs_compile.proofs.EntryLemmas.{supported, few-positions}
@@ -15,7 +16,7 @@ accepted : (c : goal.After-expr-3-1) → IsAccepted c.args.entry.now.flags c.arg
 accepted c = supported c.args.number (listed c.args.entry.now) (tree_of c.in-Ok.expr) (reads c) (c.in_default.ensures (reads c))
 
 pub expression_of-requires-clause-plain : goal.expression_of-requires-clause-plain
-expression_of-requires-clause-plain c = ?
+expression_of-requires-clause-plain c = reads-plain (reads c)
 
 pub expression_of-requires-clause-few : goal.expression_of-requires-clause-few
 expression_of-requires-clause-few c = few-positions c.args.entry.now.flags c.args.entry.now.ext (tree_of c.in-Ok.expr) (expression_of-requires-clause-plain c) (accepted c)
