@@ -1,8 +1,11 @@
 //! The runner of a program: bytes to reports, with one small state for a stream.
 #![tactic(auto)]
 
+mod ends;
 mod events;
+mod roles;
 mod state;
 
+pub use ends::Ends;
 pub use events::Events;
 pub use state::{Kept, State};

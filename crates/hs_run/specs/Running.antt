@@ -1,0 +1,61 @@
+-- What a runner finds of its roles at one offset of a stream.
+use Rattle.std.specs.Prelude.{◌≡◌, ◌↔◌, ℕ, Bool, true, false, List, length, Some, slice_get}
+use Rattle.hs_base.specs.declared.context.Prev.{Prev}
+use Rattle.hs_base.specs.declared.context.Next.{Next}
+use Rattle.hs_base.specs.declared.context.Next.TheVariants as after
+use Rattle.hs_base.specs.declared.context.NextSet.{NextSet}
+use Rattle.hs_base.specs.Trees.{Tree}
+use Rattle.hs_base.specs.Contexts.{prev_at}
+use Rattle.hs_base.specs.ContextSets.{has_next}
+use Rattle.hs_base.specs.Fields.{entered_always}
+use Rattle.hs_base.specs.Patterns.{Pattern}
+use Rattle.hs_base.specs.Settling.{Ends, AreEnds, EndsHere, HasEndHere}
+use Rattle.hs_rose.specs.declared.program.Role.{Role}
+use Rattle.hs_rose.specs.declared.program.Identifier.{Identifier}
+use Rattle.hs_run.specs.declared.ends.Ends.{Ends as EndsAbout}
+use Rattle.hs_run.specs.States.{part_of}
+
+-- where matches of an identifier end about a byte, as plain data
+abbrev pub ends_of : EndsAbout → Ends
+ends_of ends = record { before = ends.before; before_last = ends.before_last; behind = ends.behind }
+
+-- no match ends
+abbrev pub no_ends : EndsAbout
+no_ends = record { before = false; before_last = false; behind = false }
+
+-- The runner stands behind the bytes u.
+pub record IsAt (u : List ℕ) (prev : Prev) (at : ℕ) : Type 0 where
+  pub offset : at ≡ length u
+  pub behind : prev ≡ prev_at u (length u)
+
+-- the set has what may come next where matches of the pattern end behind the bytes u
+abbrev pub IsEndSet : Pattern → List ℕ → NextSet → Type 0
+IsEndSet x u set = (next : Next) → (has_next set next ≡ true) ↔ EndsHere x.id u next x
+
+-- about each identifier, those are where its matches end about the byte behind u
+abbrev pub AreEndsAbout : List Pattern → List ℕ → ℕ → List Identifier → List EndsAbout → Type 0
+AreEndsAbout P u b identifiers ends =
+    (i : ℕ) (identifier : Identifier) (e : EndsAbout) →
+    slice_get identifiers i ≡ Some identifier → slice_get ends i ≡ Some e → AreEnds P u b identifier.id.0 (ends_of e)
+
+-- about each identifier, whether a match of it ends with the stream u is what is noted as behind
+abbrev pub AreLastEnds : List Pattern → List ℕ → List Identifier → List EndsAbout → Type 0
+AreLastEnds P u identifiers ends =
+    (i : ℕ) (identifier : Identifier) (e : EndsAbout) →
+    slice_get identifiers i ≡ Some identifier → slice_get ends i ≡ Some e → (e.behind ≡ true) ↔ HasEndHere P identifier.id.0 u after.End
+
+-- each part of the region has the length that the role wants
+abbrev pub AreWide : {E : Type 0} → (E → ℕ) → List (Role E) → List ℕ → List ℕ → Type 0
+AreWide {E} width roles starts region =
+    (k : ℕ) (r : Role E) → slice_get roles k ≡ Some r → length (part_of starts region k) ≡ width r.engine
+
+-- each part of the region may be a field of its role at the offset
+abbrev pub AreWell : {E : Type 0} → (E → List ℕ → ℕ → Type 0) → List (Role E) → List ℕ → List ℕ → ℕ → Type 0
+AreWell {E} Well roles starts region at =
+    (k : ℕ) (r : Role E) → slice_get roles k ≡ Some r → Well r.engine (part_of starts region k) at
+
+-- each part of the region is the field of its pattern behind the bytes u
+abbrev pub AreFields : {E : Type 0} → (E → List ℕ → Tree → List ℕ → List Bool → Type 0) → List (Role E) → List ℕ → List ℕ → List Pattern → List ℕ → Type 0
+AreFields {E} Field roles starts region P u =
+    (k : ℕ) (r : Role E) (x : Pattern) →
+    slice_get roles k ≡ Some r → slice_get P k ≡ Some x → Field r.engine (part_of starts region k) x.tree u (entered_always u)
