@@ -10,3 +10,5 @@ pub mod ReportLemmas
 pub mod ToldLemmas
 pub mod NewLemmas
 pub mod ExactLemmas
+pub mod CutLemmas
+pub mod EndLemmas
