@@ -1,0 +1,4 @@
+pub mod TruthLemmas
+pub mod StreamLemmas
+pub mod RoleLemmas
+pub mod PartLemmas

@@ -1,17 +1,19 @@
 -- What a runner finds of its roles at one offset of a stream.
-use Rattle.std.specs.Prelude.{◌≡◌, ◌↔◌, ℕ, Bool, true, false, List, length, Some, slice_get}
+use Rattle.std.specs.Prelude.{◌≡◌, ◌↔◌, ◌⊎◌, ℕ, ◌<◌, Bool, true, false, List, [], ◌∷◌, ◌++◌, length, Some, slice_get}
 use Rattle.hs_base.specs.declared.context.Prev.{Prev}
 use Rattle.hs_base.specs.declared.context.Next.{Next}
 use Rattle.hs_base.specs.declared.context.Next.TheVariants as after
 use Rattle.hs_base.specs.declared.context.NextSet.{NextSet}
 use Rattle.hs_base.specs.Trees.{Tree}
-use Rattle.hs_base.specs.Contexts.{prev_at}
+use Rattle.hs_base.specs.Assertions.{line_feed}
+use Rattle.hs_base.specs.Contexts.{class_of, prev_at}
 use Rattle.hs_base.specs.ContextSets.{has_next}
 use Rattle.hs_base.specs.Fields.{entered_always}
 use Rattle.hs_base.specs.Patterns.{Pattern}
 use Rattle.hs_base.specs.Settling.{Ends, AreEnds, EndsHere, HasEndHere}
 use Rattle.hs_rose.specs.declared.program.Role.{Role}
 use Rattle.hs_rose.specs.declared.program.Identifier.{Identifier}
+use Rattle.hs_rose.specs.Roles.{AreStartsOf}
 use Rattle.hs_run.specs.declared.ends.Ends.{Ends as EndsAbout}
 use Rattle.hs_run.specs.States.{part_of}
 
@@ -31,6 +33,14 @@ pub record IsAt (u : List ℕ) (prev : Prev) (at : ℕ) : Type 0 where
 -- the set has what may come next where matches of the pattern end behind the bytes u
 abbrev pub IsEndSet : Pattern → List ℕ → NextSet → Type 0
 IsEndSet x u set = (next : Next) → (has_next set next ≡ true) ↔ EndsHere x.id u next x
+
+-- The bytes of a role are the field of its pattern behind the byte too, and its matches about the byte were added to the
+-- ends of its identifier.
+pub record IsMoved (Field : Tree → List ℕ → List Bool → Type 0) (x : Pattern) (u : List ℕ) (b : ℕ) (old new : Ends) : Type 0 where
+  pub field : Field x.tree (u ++ b ∷ []) (entered_always (u ++ b ∷ []))
+  pub before : (new.before ≡ true) ↔ ((old.before ≡ true) ⊎ EndsHere x.id u (class_of b) x)
+  pub before_last : (new.before_last ≡ true) ↔ ((old.before_last ≡ true) ⊎ ((b ≡ line_feed) × EndsHere x.id u after.FinalNewline x))
+  pub behind : (new.behind ≡ true) ↔ ((old.behind ≡ true) ⊎ EndsHere x.id (u ++ b ∷ []) after.Unknown x)
 
 -- about each identifier, those are where its matches end about the byte behind u
 abbrev pub AreEndsAbout : List Pattern → List ℕ → ℕ → List Identifier → List EndsAbout → Type 0
@@ -59,3 +69,17 @@ abbrev pub AreFields : {E : Type 0} → (E → List ℕ → Tree → List ℕ �
 AreFields {E} Field roles starts region P u =
     (k : ℕ) (r : Role E) (x : Pattern) →
     slice_get roles k ≡ Some r → slice_get P k ≡ Some x → Field r.engine (part_of starts region k) x.tree u (entered_always u)
+
+-- the parts of the region lie where the starts say, each with the length that its role wants, and fill it
+pub record IsLaid {E : Type 0} (width : E → ℕ) (roles : List (Role E)) (starts : List ℕ) (len : ℕ) : Type 0 where
+  pub rows : AreStartsOf width roles starts
+  pub whole : slice_get starts (length roles) ≡ Some len
+
+-- each role names an identifier, of that many
+abbrev pub AreNamed : {E : Type 0} → List (Role E) → ℕ → Type 0
+AreNamed {E} roles count = (k : ℕ) (r : Role E) → slice_get roles k ≡ Some r → r.identifier < count
+
+-- Each part is the field of its pattern behind the byte too, and those are the ends of each identifier about it.
+pub record AreMoved {E : Type 0} (Field : E → List ℕ → Tree → List ℕ → List Bool → Type 0) (roles : List (Role E)) (starts region : List ℕ) (identifiers : List Identifier) (P : List Pattern) (u : List ℕ) (b : ℕ) (ends : List EndsAbout) : Type 0 where
+  pub fields : AreFields Field roles starts region P (u ++ b ∷ [])
+  pub about : AreEndsAbout P u b identifiers ends

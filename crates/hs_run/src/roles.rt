@@ -8,7 +8,7 @@ ghost use Rattle.hs_base.specs.Settling.{AreEnds};
 ghost use Rattle.hs_rose.specs.declared.program.Role.{Role as RoleOf};
 ghost use Rattle.hs_rose.specs.declared.program.Identifier.{Identifier};
 ghost use Rattle.hs_rose.specs.Roles.{IsRoleOf, AreRolesOf, AreStartsOf};
-ghost use Rattle.hs_run.specs.Running.{IsAt, IsEndSet, AreEndsAbout, AreLastEnds, AreWell, AreFields, ends_of};
+ghost use Rattle.hs_run.specs.Running.{IsAt, IsEndSet, AreEndsAbout, AreLastEnds, AreWell, AreFields, IsMoved, IsLaid, AreNamed, AreMoved, ends_of};
 
 use crate::ends::{Ends, forget};
 use hs_base::{Next, NextSet, Prev};
@@ -27,4 +27,68 @@ fn ends_at<E: Engine>(role: &Role<E>, part: &[u8], prev: Prev, at: u64) -> NextS
         return NextSet::empty();
     }
     role.engine.out(part, prev, at).union(role.null.row(prev))
+}
+
+/// Takes a byte for one role, and notes where its matches end about it.
+fn step_role<E: Engine, L: Ledger>(
+    role: &Role<E>,
+    part: &mut [u8],
+    prev: Prev,
+    at: u64,
+    byte: u8,
+    ends: &mut Ends,
+    steps: &mut Steps<L>,
+)
+    requires len { length part.old ≡ E.width role.now.engine }
+    requires well { E.well role.now.engine part.old at }
+    requires room { at < 2 ^ 63 }
+    ensures len { length part.new ≡ E.width role.now.engine }
+    ensures well { E.well role.now.engine part.new (at + 1) }
+    ensures ticks { steps.new ≡ steps.old + 1 }
+    ensures moves { (identifiers : List Identifier) (x : Pattern) (u : List ℕ) → IsRoleOf E.is_for identifiers role.now x →
+        IsAt u prev at → E.field role.now.engine part.old x.tree u (entered_always u) →
+        IsMoved (E.field role.now.engine part.new) x u byte (ends_of ends.old) (ends_of ends.new) }
+{
+    let before = ends_at(role, part, prev, at);
+    role.engine.step(part, prev, at, NextSet::all(), byte, steps);
+    let behind = ends_at(role, part, Prev::behind(byte), at + 1);
+    ends.note(byte, before, behind);
+}
+
+/// Takes a byte for every role, and notes where matches of each identifier end about it.
+pub fn step_roles<E: Engine, L: Ledger>(
+    roles: &[Role<E>],
+    starts: &[usize],
+    region: &mut [u8],
+    prev: Prev,
+    at: u64,
+    byte: u8,
+    ends: &mut [Ends],
+    steps: &mut Steps<L>,
+)
+    requires laid { IsLaid E.width roles.now starts.now (length region.old) }
+    requires named { AreNamed roles.now (length ends.old) }
+    requires well { AreWell E.well roles.now starts.now region.old at }
+    requires room { at < 2 ^ 63 }
+    ensures len { length region.new ≡ length region.old }
+    ensures ends { length ends.new ≡ length ends.old }
+    ensures well { AreWell E.well roles.now starts.now region.new (at + 1) }
+    ensures ticks { steps.new ≡ steps.old + length roles.now }
+    ensures moves { (P : List Pattern) (identifiers : List Identifier) (u : List ℕ) → AreRolesOf E.is_for roles.now identifiers P →
+        IsAt u prev at → AreFields E.field roles.now starts.now region.old P u →
+        AreMoved E.field roles.now starts.now region.new identifiers P u byte ends.new }
+{
+    forget(ends);
+    for k in 0..roles.len() {
+        let role = &roles[k];
+        step_role(
+            role,
+            &mut region[starts[k]..starts[k + 1]],
+            prev,
+            at,
+            byte,
+            &mut ends[role.identifier],
+            steps,
+        );
+    }
 }
