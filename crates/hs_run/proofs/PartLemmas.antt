@@ -17,47 +17,99 @@ there [] k below = absurd (omega arith)
 there (x ∷ xs) zero below = (x, refl)
 there (x ∷ xs) (suc k) below = there xs k (omega arith)
 
-module _ {E : Type 0} (width : E → ℕ) (roles : List (Role E)) (starts : List ℕ) (len : ℕ) (laid : IsLaid width roles starts len) where
+-- Where the parts lie, from what the program says.
+module _ {E : Type 0} (width : E → ℕ) (roles : List (Role E)) (starts : List ℕ) (rows : AreStartsOf width roles starts) where
   start : (k : ℕ) → k ≤ length roles → slice_get starts k ≡ Some (get_or starts k 0)
-  start k within = slice_get-get_or starts k 0 (omega (arith, laid.rows.count))
+  start k within = slice_get-get_or starts k 0 (omega (arith, rows.count))
 
-  -- a part begins where the one before ends
-  pub start-next : (k : ℕ) (r : Role E) → slice_get roles k ≡ Some r → get_or starts (k + 1) 0 ≡ get_or starts k 0 + width r.engine
+  start-next : (k : ℕ) (r : Role E) → slice_get roles k ≡ Some r → get_or starts (k + 1) 0 ≡ get_or starts k 0 + width r.engine
   start-next k r role =
       let below : k < length roles = slice_get_within roles k r role in
-      let next : slice_get starts (suc k) ≡ Some (get_or starts k 0 + width r.engine) = laid.rows.next k (get_or starts k 0) r role (start k (omega arith)) in
+      let next : slice_get starts (suc k) ≡ Some (get_or starts k 0 + width r.engine) = rows.next k (get_or starts k 0) r role (start k (omega arith)) in
       let same : k + 1 ≡ suc k = omega arith in
       ap (λ n. get_or starts n 0) same ∙ get_or_from_slice_get starts (suc k) (get_or starts k 0 + width r.engine) 0 next
 
   start-step : (k : ℕ) → k < length roles → get_or starts k 0 ≤ get_or starts (k + 1) 0
   start-step k below = let (r, role) = there roles k below in omega (arith, start-next k r role)
 
-  -- the starts rise
-  pub starts-rise : (n j : ℕ) → j + n ≤ length roles → get_or starts j 0 ≤ get_or starts (j + n) 0
+  starts-rise : (n j : ℕ) → j + n ≤ length roles → get_or starts j 0 ≤ get_or starts (j + n) 0
   starts-rise zero j within = let same : j + zero ≡ j = omega arith in omega (arith, ap (λ m. get_or starts m 0) same)
   starts-rise (suc n) j within =
       let step : get_or starts (j + n) 0 ≤ get_or starts ((j + n) + 1) 0 = start-step (j + n) (omega arith) in
       let same : j + suc n ≡ (j + n) + 1 = omega arith in
       omega (arith, starts-rise n j (omega arith), step, ap (λ m. get_or starts m 0) same)
 
-  pub starts-order : (j k : ℕ) → j ≤ k → k ≤ length roles → get_or starts j 0 ≤ get_or starts k 0
+  starts-order : (j k : ℕ) → j ≤ k → k ≤ length roles → get_or starts j 0 ≤ get_or starts k 0
   starts-order j k order within =
       let same : j + (k - j) ≡ k = omega arith in
       omega (arith, starts-rise (k - j) j (omega arith), ap (λ m. get_or starts m 0) same)
 
-  -- and lie in the region
-  pub start-within : (k : ℕ) → k ≤ length roles → get_or starts k 0 ≤ len
-  start-within k within =
-      omega (arith, starts-order k (length roles) within (omega arith), get_or_from_slice_get starts (length roles) len 0 laid.whole)
+  -- they lie in a region as long as the last one's end
+  pub laid-starts : (len : ℕ) → len ≡ get_or starts (length starts - 1) 0 → IsLaid width roles starts len
+  laid-starts len whole =
+      let last : length starts - 1 ≡ length roles = omega (arith, rows.count) in
+      let end : len ≡ get_or starts (length roles) 0 = whole ∙ ap (λ n. get_or starts n 0) last in
+      record {
+        count = omega (arith, rows.count);
+        rising = start-step;
+        within = λ k below. omega (arith, end, starts-order k (length roles) (omega (arith, rows.count)) (omega arith));
+        next = start-next;
+      }
+
+module _ {E : Type 0} (width : E → ℕ) (roles : List (Role E)) (starts : List ℕ) (len : ℕ) (laid : IsLaid width roles starts len) where
+  climbs : (n j : ℕ) → j + n ≤ length roles → get_or starts j 0 ≤ get_or starts (j + n) 0
+  climbs zero j within = let same : j + zero ≡ j = omega arith in omega (arith, ap (λ m. get_or starts m 0) same)
+  climbs (suc n) j within =
+      let step : get_or starts (j + n) 0 ≤ get_or starts ((j + n) + 1) 0 = laid.rising (j + n) (omega arith) in
+      let same : j + suc n ≡ (j + n) + 1 = omega arith in
+      omega (arith, climbs n j (omega arith), step, ap (λ m. get_or starts m 0) same)
+
+  order : (j k : ℕ) → j ≤ k → k ≤ length roles → get_or starts j 0 ≤ get_or starts k 0
+  order j k before within =
+      let same : j + (k - j) ≡ k = omega arith in
+      omega (arith, climbs (k - j) j (omega arith), ap (λ m. get_or starts m 0) same)
+
+  inside : (k : ℕ) → k ≤ length roles → get_or starts k 0 ≤ len
+  inside k within = laid.within k (omega (arith, laid.count))
 
   -- a part has the length that its role wants
   pub part-length : (region : List ℕ) → length region ≡ len → (k : ℕ) (r : Role E) → slice_get roles k ≡ Some r → length (part_of starts region k) ≡ width r.engine
   part-length region whole k r role =
       let below : k < length roles = slice_get_within roles k r role in
-      length-between region (get_or starts k 0) (get_or starts (k + 1) 0) (omega (arith, start-within (k + 1) (omega arith)))
-      ∙ omega (arith, start-next k r role)
+      length-between region (get_or starts k 0) (get_or starts (k + 1) 0) (omega (arith, inside (k + 1) (omega arith)))
+      ∙ omega (arith, laid.next k r role)
 
   -- the region after a write of one part
   module _ (old : List ℕ) (whole : length old ≡ len) (i : ℕ) (r : Role E) (role : slice_get roles i ≡ Some r) (w : List ℕ) (wide : length w ≡ width r.engine) where
-    written : List ℕ
+    abbrev written : List ℕ
     written = put_mid (get_or starts i 0) (get_or starts (i + 1) 0 - get_or starts i 0) old w
+
+    width-is : length w ≡ get_or starts (i + 1) 0 - get_or starts i 0
+    width-is = omega (arith, laid.next i r role)
+
+    pub part-written : part_of starts written i ≡ w
+    part-written =
+        let below : i < length roles = slice_get_within roles i r role in
+        between-put_mid (get_or starts i 0) (get_or starts (i + 1) 0 - get_or starts i 0) old w (get_or starts (i + 1) 0)
+        (omega (arith, inside i (omega arith))) width-is
+
+    pub part-before : (j : ℕ) → j < i → part_of starts written j ≡ part_of starts old j
+    part-before j before =
+        let below : i < length roles = slice_get_within roles i r role in
+        between_is written (get_or starts j 0) (get_or starts (j + 1) 0)
+        ∙ (ap (drop (get_or starts j 0))
+        (take-put_mid_below (get_or starts i 0) (get_or starts (i + 1) 0 - get_or starts i 0) old w (get_or starts (j + 1) 0)
+        (order (j + 1) i (omega arith) (omega arith)) (omega (arith, inside i (omega arith))))
+        ∙ sym (between_is old (get_or starts j 0) (get_or starts (j + 1) 0)))
+
+    pub part-behind : (j : ℕ) → i < j → j < length roles → part_of starts written j ≡ part_of starts old j
+    part-behind j behind within =
+        ap (take (get_or starts (j + 1) 0 - get_or starts j 0))
+        (drop-put_mid (get_or starts i 0) (get_or starts (i + 1) 0 - get_or starts i 0) old w (get_or starts j 0)
+        (omega (arith, order (i + 1) j (omega arith) (omega arith), laid.next i r role)) (omega (arith, inside i (omega arith))) width-is)
+
+    pub part-other : (j : ℕ) → (j ≡ i → ⊥) → j < length roles → part_of starts written j ≡ part_of starts old j
+    part-other j apart within = elim (cases_lt j i) [
+      | inl before ↦ part-before j before
+      | inr above ↦ part-behind j (elim (cases_lt i j) [ inl behind ↦ behind | inr equal ↦ absurd (apart (omega arith)) ]) within
+    ]

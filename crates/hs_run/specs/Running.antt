@@ -1,5 +1,5 @@
 -- What a runner finds of its roles at one offset of a stream.
-use Rattle.std.specs.Prelude.{◌≡◌, ◌↔◌, ◌⊎◌, ℕ, ◌<◌, Bool, true, false, List, [], ◌∷◌, ◌++◌, length, Some, slice_get}
+use Rattle.std.specs.Prelude.{◌≡◌, ◌↔◌, ◌⊎◌, ℕ, ◌+◌, ◌<◌, ◌≤◌, Bool, true, false, List, [], ◌∷◌, ◌++◌, length, Some, slice_get, slice_index}
 use Rattle.hs_base.specs.declared.context.Prev.{Prev}
 use Rattle.hs_base.specs.declared.context.Next.{Next}
 use Rattle.hs_base.specs.declared.context.Next.TheVariants as after
@@ -13,7 +13,6 @@ use Rattle.hs_base.specs.Patterns.{Pattern}
 use Rattle.hs_base.specs.Settling.{Ends, AreEnds, EndsHere, HasEndHere}
 use Rattle.hs_rose.specs.declared.program.Role.{Role}
 use Rattle.hs_rose.specs.declared.program.Identifier.{Identifier}
-use Rattle.hs_rose.specs.Roles.{AreStartsOf}
 use Rattle.hs_run.specs.declared.ends.Ends.{Ends as EndsAbout}
 use Rattle.hs_run.specs.States.{part_of}
 
@@ -70,10 +69,12 @@ AreFields {E} Field roles starts region P u =
     (k : ℕ) (r : Role E) (x : Pattern) →
     slice_get roles k ≡ Some r → slice_get P k ≡ Some x → Field r.engine (part_of starts region k) x.tree u (entered_always u)
 
--- the parts of the region lie where the starts say, each with the length that its role wants, and fill it
+-- The parts of a region of that length lie where the starts say, each with the length that its role wants.
 pub record IsLaid {E : Type 0} (width : E → ℕ) (roles : List (Role E)) (starts : List ℕ) (len : ℕ) : Type 0 where
-  pub rows : AreStartsOf width roles starts
-  pub whole : slice_get starts (length roles) ≡ Some len
+  pub count : length starts ≡ length roles + 1
+  pub rising : (k : ℕ) → k < length roles → slice_index starts k ≤ slice_index starts (k + 1)
+  pub within : (k : ℕ) → k < length starts → slice_index starts k ≤ len
+  pub next : (k : ℕ) (r : Role E) → slice_get roles k ≡ Some r → slice_index starts (k + 1) ≡ slice_index starts k + width r.engine
 
 -- each role names an identifier, of that many
 abbrev pub AreNamed : {E : Type 0} → List (Role E) → ℕ → Type 0
