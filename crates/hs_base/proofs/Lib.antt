@@ -12,3 +12,5 @@ pub mod NewLemmas
 pub mod ExactLemmas
 pub mod CutLemmas
 pub mod EndLemmas
+pub mod SettlingLemmas
+pub mod PairListLemmas
