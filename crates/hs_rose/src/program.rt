@@ -49,11 +49,11 @@ pub struct Identifier {
 #[derive(Debug, Drop)]
 pub struct Program<E> {
     /// A role for each expression, in the order of the list.
-    roles: Vec<Role<E>>,
+    pub(crate) roles: Vec<Role<E>>,
     /// The identifiers of the expressions, each once, rising.
-    identifiers: Vec<Identifier>,
+    pub(crate) identifiers: Vec<Identifier>,
     /// Where the bytes of each role begin in the region of a stream, and where those of the last one end.
-    starts: Vec<usize>,
+    pub(crate) starts: Vec<usize>,
 }
 
 impl<E> Program<E> {
