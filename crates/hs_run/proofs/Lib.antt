@@ -2,3 +2,4 @@ pub mod TruthLemmas
 pub mod StreamLemmas
 pub mod RoleLemmas
 pub mod PartLemmas
+pub mod AboutLemmas
