@@ -1,5 +1,5 @@
 -- The parts of a region, and a region of which one part changed.
-use Rattle.std.proofs.Common.{◌≡◌, ℕ, zero, suc, ◌+◌, ◌-◌, ◌<◌, ◌≤◌, ◌⊎◌, List, [], ◌∷◌, length, get_or, take, drop, Some, slice_get, refl, sym, ap, subst, ◌∙◌, inl, inr, arith}
+use Rattle.std.proofs.Common.{◌≡◌, ℕ, zero, suc, ◌+◌, ◌-◌, ◌<◌, ◌≤◌, ◌⊎◌, List, [], ◌∷◌, length, get_or, take, drop, Some, slice_get, refl, sym, ap, subst, ◌∙◌, inl, inr, arith, ◌++◌, length-append, length-drop, length-take-le}
 use Rattle.std.specs.List.{between}
 use Rattle.std.proofs.lemmas.Bool.{cases_lt}
 use Rattle.std.proofs.lemmas.Option.{slice_get-get_or, slice_get_within, get_or_from_slice_get}
@@ -81,7 +81,7 @@ module _ {E : Type 0} (width : E → ℕ) (roles : List (Role E)) (starts : List
 
   -- the region after a write of one part
   module _ (old : List ℕ) (whole : length old ≡ len) (i : ℕ) (r : Role E) (role : slice_get roles i ≡ Some r) (w : List ℕ) (wide : length w ≡ width r.engine) where
-    abbrev written : List ℕ
+    abbrev pub written : List ℕ
     written = put_mid (get_or starts i 0) (get_or starts (i + 1) 0 - get_or starts i 0) old w
 
     width-is : length w ≡ get_or starts (i + 1) 0 - get_or starts i 0
@@ -113,3 +113,12 @@ module _ {E : Type 0} (width : E → ℕ) (roles : List (Role E)) (starts : List
       | inl before ↦ part-before j before
       | inr above ↦ part-behind j (elim (cases_lt i j) [ inl behind ↦ behind | inr equal ↦ absurd (apart (omega arith)) ]) within
     ]
+
+    pub length-written : length written ≡ length old
+    length-written =
+        let below : i < length roles = slice_get_within roles i r role in
+        let a : ℕ = get_or starts i 0 in
+        let n : ℕ = get_or starts (i + 1) 0 - get_or starts i 0 in
+        length-append (take a old) (w ++ drop n (drop a old))
+        ∙ (ap (λ m. length (take a old) + m) (length-append w (drop n (drop a old)))
+        ∙ omega (arith, length-take-le a old (omega (arith, inside i (omega arith))), length-drop n (drop a old), length-drop a old, width-is, inside (i + 1) (omega arith), laid.rising i below))
