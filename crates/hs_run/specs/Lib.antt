@@ -1,3 +1,4 @@
 pub mod Events
 pub mod States
 pub mod Running
+pub mod Reporting

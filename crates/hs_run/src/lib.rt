@@ -3,6 +3,7 @@
 
 mod ends;
 mod events;
+mod reporting;
 mod roles;
 mod state;
 

@@ -1,14 +1,15 @@
 //! The roles of a program over one byte: their engines move, and where their matches end is noted.
-ghost use Rattle.std.specs.Prelude.{◌≡◌, ℕ, ◌+◌, ◌*◌, ◌<◌, ◌^◌, [], ◌∷◌, ◌++◌, List, length, Some, slice_get};
-ghost use Rattle.hs_base.specs.Contexts.{prev_at};
+ghost use Rattle.std.specs.Prelude.{◌≡◌, ℕ, ◌+◌, ◌*◌, ◌<◌, ◌^◌, ◌↔◌, ◌⊎◌, true, [], ◌∷◌, ◌++◌, List, length, Some, slice_get};
+ghost use Rattle.hs_base.specs.declared.context.Next.TheVariants as after;
 ghost use Rattle.hs_base.specs.Fields.{entered_always};
 ghost use Rattle.hs_base.specs.Patterns.{Pattern};
 ghost use Rattle.hs_base.specs.Trees.{Tree};
-ghost use Rattle.hs_base.specs.Settling.{AreEnds};
+ghost use Rattle.hs_base.specs.Settling.{EndsHere};
 ghost use Rattle.hs_rose.specs.declared.program.Role.{Role as RoleOf};
 ghost use Rattle.hs_rose.specs.declared.program.Identifier.{Identifier};
-ghost use Rattle.hs_rose.specs.Roles.{IsRoleOf, AreRolesOf, AreStartsOf};
-ghost use Rattle.hs_run.specs.Running.{IsAt, IsEndSet, AreEndsAbout, AreLastEnds, AreWell, AreFields, IsMoved, IsLaid, AreNamed, AreMoved, ends_of};
+ghost use Rattle.hs_rose.specs.Roles.{IsRoleOf, AreRolesOf};
+ghost use Rattle.hs_run.specs.States.{part_of};
+ghost use Rattle.hs_run.specs.Running.{IsAt, IsEndSet, AreLastEnds, AreWell, AreFields, IsMoved, IsLaid, AreNamed, AreMoved, ends_of};
 
 use crate::ends::{Ends, forget};
 use hs_base::{Next, NextSet, Prev};
@@ -90,5 +91,70 @@ pub fn step_roles<E: Engine, L: Ledger>(
             &mut ends[role.identifier],
             steps,
         );
+    }
+}
+
+/// Notes where matches of one role end, if the stream ends.
+fn end_role<E: Engine>(role: &Role<E>, part: &[u8], prev: Prev, at: u64, ends: &mut Ends)
+    requires len { length part.now ≡ E.width role.now.engine }
+    requires well { E.well role.now.engine part.now at }
+    ensures { (identifiers : List Identifier) (x : Pattern) (u : List ℕ) → IsRoleOf E.is_for identifiers role.now x →
+        IsAt u prev at → E.field role.now.engine part.now x.tree u (entered_always u) →
+        (ends.new.behind ≡ true) ↔ ((ends.old.behind ≡ true) ⊎ EndsHere x.id u after.End x) }
+{
+    let behind = ends_at(role, part, prev, at);
+    ends.note_end(behind);
+}
+
+/// Notes of each identifier whether a match of it ends, if the stream ends.
+pub fn end_roles<E: Engine>(
+    roles: &[Role<E>],
+    starts: &[usize],
+    region: &[u8],
+    prev: Prev,
+    at: u64,
+    ends: &mut [Ends],
+)
+    requires laid { IsLaid E.width roles.now starts.now (length region.now) }
+    requires named { AreNamed roles.now (length ends.old) }
+    requires well { AreWell E.well roles.now starts.now region.now at }
+    ensures len { length ends.new ≡ length ends.old }
+    ensures about { (P : List Pattern) (identifiers : List Identifier) (u : List ℕ) → AreRolesOf E.is_for roles.now identifiers P →
+        IsAt u prev at → AreFields E.field roles.now starts.now region.now P u →
+        AreLastEnds P u identifiers ends.new }
+{
+    forget(ends);
+    for k in 0..roles.len() {
+        let role = &roles[k];
+        end_role(
+            role,
+            &region[starts[k]..starts[k + 1]],
+            prev,
+            at,
+            &mut ends[role.identifier],
+        );
+    }
+}
+
+/// Makes the part of a role that of the empty stream.
+fn clear_role<E: Engine>(role: &Role<E>, part: &mut [u8])
+    requires { length part.old ≡ E.width role.now.engine }
+    ensures len { length part.new ≡ E.width role.now.engine }
+    ensures well { E.well role.now.engine part.new 0 }
+    ensures starts { (tree : Tree) → E.is_for role.now.engine tree → E.field role.now.engine part.new tree [] [] }
+{
+    role.engine.clear(part);
+}
+
+/// Makes the part of each role that of the empty stream.
+pub fn clear_roles<E: Engine>(roles: &[Role<E>], starts: &[usize], region: &mut [u8])
+    requires { IsLaid E.width roles.now starts.now (length region.old) }
+    ensures len { length region.new ≡ length region.old }
+    ensures well { AreWell E.well roles.now starts.now region.new 0 }
+    ensures starts { (k : ℕ) (r : RoleOf E) (tree : Tree) → slice_get roles.now k ≡ Some r → E.is_for r.engine tree →
+        E.field r.engine (part_of starts.now region.new k) tree [] [] }
+{
+    for k in 0..roles.len() {
+        clear_role(&roles[k], &mut region[starts[k]..starts[k + 1]]);
     }
 }
