@@ -5,3 +5,5 @@ pub mod PartLemmas
 pub mod AboutLemmas
 pub mod EventLemmas
 pub mod ReportingLemmas
+pub mod StateLemmas
+pub mod FeedLemmas

@@ -2,3 +2,4 @@ pub mod Events
 pub mod States
 pub mod Running
 pub mod Reporting
+pub mod Feeding

@@ -13,6 +13,7 @@ use Rattle.hs_base.specs.Patterns.{Pattern}
 use Rattle.hs_base.specs.Settling.{Ends, AreEnds, EndsHere, HasEndHere}
 use Rattle.hs_rose.specs.declared.program.Role.{Role}
 use Rattle.hs_rose.specs.declared.program.Identifier.{Identifier}
+use Rattle.hs_rose.specs.Roles.{AreRolesOf}
 use Rattle.hs_run.specs.declared.ends.Ends.{Ends as EndsAbout}
 use Rattle.hs_run.specs.States.{part_of}
 
@@ -84,3 +85,20 @@ AreNamed {E} roles count = (k : ℕ) (r : Role E) → slice_get roles k ≡ Some
 pub record AreMoved {E : Type 0} (Field : E → List ℕ → Tree → List ℕ → List Bool → Type 0) (roles : List (Role E)) (starts region : List ℕ) (identifiers : List Identifier) (P : List Pattern) (u : List ℕ) (b : ℕ) (ends : List EndsAbout) : Type 0 where
   pub fields : AreFields Field roles starts region P (u ++ b ∷ [])
   pub about : AreEndsAbout P u b identifiers ends
+
+-- whatever patterns the roles run, and behind whatever stream they stand
+abbrev pub MovesRoles : {E : Type 0} → (E → Tree → Type 0) → (E → List ℕ → Tree → List ℕ → List Bool → Type 0) → List (Role E) → List ℕ → List ℕ → List ℕ → Prev → ℕ → ℕ → List EndsAbout → Type 0
+MovesRoles {E} IsFor Field roles starts old new prev at b ends =
+    (P : List Pattern) (identifiers : List Identifier) (u : List ℕ) → AreRolesOf IsFor roles identifiers P →
+    IsAt u prev at → AreFields Field roles starts old P u → AreMoved Field roles starts new identifiers P u b ends
+
+-- likewise, whether matches end with the stream
+abbrev pub EndsRoles : {E : Type 0} → (E → Tree → Type 0) → (E → List ℕ → Tree → List ℕ → List Bool → Type 0) → List (Role E) → List ℕ → List ℕ → Prev → ℕ → List EndsAbout → Type 0
+EndsRoles {E} IsFor Field roles starts region prev at ends =
+    (P : List Pattern) (identifiers : List Identifier) (u : List ℕ) → AreRolesOf IsFor roles identifiers P →
+    IsAt u prev at → AreFields Field roles starts region P u → AreLastEnds P u identifiers ends
+
+-- each part of the region is the field of the empty stream
+abbrev pub AreStarted : {E : Type 0} → (E → Tree → Type 0) → (E → List ℕ → Tree → List ℕ → List Bool → Type 0) → List (Role E) → List ℕ → List ℕ → Type 0
+AreStarted {E} IsFor Field roles starts region =
+    (k : ℕ) (r : Role E) (tree : Tree) → slice_get roles k ≡ Some r → IsFor r.engine tree → Field r.engine (part_of starts region k) tree [] []

@@ -24,6 +24,17 @@ pub struct Ends {
 }
 
 impl Ends {
+    /// No match ends.
+    pub fn none() -> Ends
+        ensures { result ≡ no_ends }
+    {
+        Ends {
+            before: false,
+            before_last: false,
+            behind: false,
+        }
+    }
+
     /// Adds the matches of an expression: what may come next where they end before the byte, and where they end behind
     /// it.
     pub fn note(&mut self, byte: u8, before: NextSet, behind: NextSet)
@@ -50,10 +61,6 @@ pub fn forget(ends: &mut [Ends])
     ensures none { (i : ℕ) (e : EndsAbout) → slice_get ends.new i ≡ Some e → e ≡ no_ends }
 {
     for one in ends.iter_mut() {
-        *one = Ends {
-            before: false,
-            before_last: false,
-            behind: false,
-        };
+        *one = Ends::none();
     }
 }

@@ -5,8 +5,12 @@ mod ends;
 mod events;
 mod reporting;
 mod roles;
+mod runner;
+mod scratch;
 mod state;
 
 pub use ends::Ends;
 pub use events::Events;
+pub use runner::{feed, finish};
+pub use scratch::Scratch;
 pub use state::{Kept, State};

@@ -5,11 +5,9 @@ ghost use Rattle.hs_base.specs.Fields.{entered_always};
 ghost use Rattle.hs_base.specs.Patterns.{Pattern};
 ghost use Rattle.hs_base.specs.Trees.{Tree};
 ghost use Rattle.hs_base.specs.Settling.{EndsHere};
-ghost use Rattle.hs_rose.specs.declared.program.Role.{Role as RoleOf};
 ghost use Rattle.hs_rose.specs.declared.program.Identifier.{Identifier};
-ghost use Rattle.hs_rose.specs.Roles.{IsRoleOf, AreRolesOf};
-ghost use Rattle.hs_run.specs.States.{part_of};
-ghost use Rattle.hs_run.specs.Running.{IsAt, IsEndSet, AreLastEnds, AreWell, AreFields, IsMoved, IsLaid, AreNamed, AreMoved, ends_of};
+ghost use Rattle.hs_rose.specs.Roles.{IsRoleOf};
+ghost use Rattle.hs_run.specs.Running.{IsAt, IsEndSet, AreWell, IsMoved, IsLaid, AreNamed, MovesRoles, EndsRoles, AreStarted, ends_of};
 
 use crate::ends::{Ends, forget};
 use hs_base::{Next, NextSet, Prev};
@@ -75,9 +73,7 @@ pub fn step_roles<E: Engine, L: Ledger>(
     ensures ends { length ends.new ≡ length ends.old }
     ensures well { AreWell E.well roles.now starts.now region.new (at + 1) }
     ensures ticks { steps.new ≡ steps.old + length roles.now }
-    ensures moves { (P : List Pattern) (identifiers : List Identifier) (u : List ℕ) → AreRolesOf E.is_for roles.now identifiers P →
-        IsAt u prev at → AreFields E.field roles.now starts.now region.old P u →
-        AreMoved E.field roles.now starts.now region.new identifiers P u byte ends.new }
+    ensures moves { MovesRoles E.is_for E.field roles.now starts.now region.old region.new prev at byte ends.new }
 {
     forget(ends);
     for k in 0..roles.len() {
@@ -119,9 +115,7 @@ pub fn end_roles<E: Engine>(
     requires named { AreNamed roles.now (length ends.old) }
     requires well { AreWell E.well roles.now starts.now region.now at }
     ensures len { length ends.new ≡ length ends.old }
-    ensures about { (P : List Pattern) (identifiers : List Identifier) (u : List ℕ) → AreRolesOf E.is_for roles.now identifiers P →
-        IsAt u prev at → AreFields E.field roles.now starts.now region.now P u →
-        AreLastEnds P u identifiers ends.new }
+    ensures about { EndsRoles E.is_for E.field roles.now starts.now region.now prev at ends.new }
 {
     forget(ends);
     for k in 0..roles.len() {
@@ -151,8 +145,7 @@ pub fn clear_roles<E: Engine>(roles: &[Role<E>], starts: &[usize], region: &mut 
     requires { IsLaid E.width roles.now starts.now (length region.old) }
     ensures len { length region.new ≡ length region.old }
     ensures well { AreWell E.well roles.now starts.now region.new 0 }
-    ensures starts { (k : ℕ) (r : RoleOf E) (tree : Tree) → slice_get roles.now k ≡ Some r → E.is_for r.engine tree →
-        E.field r.engine (part_of starts.now region.new k) tree [] [] }
+    ensures starts { AreStarted E.is_for E.field roles.now starts.now region.new }
 {
     for k in 0..roles.len() {
         clear_role(&roles[k], &mut region[starts[k]..starts[k + 1]]);
