@@ -24,7 +24,7 @@ use Rattle.hs_run.specs.declared.ends.Ends.{Ends as EndsAbout}
 use Rattle.hs_run.specs.declared.state.Kept.{Kept as KeptOf}
 use Rattle.hs_run.specs.declared.state.State.{State}
 use Rattle.hs_run.specs.declared.reporting.Moment.TheVariants.{BeforeByte, BehindByte, BeforeLastByte, AtEnd}
-use Rattle.hs_run.specs.Events.{Takes, still}
+use Rattle.hs_run.specs.Events.{Through, Takes, still}
 use Rattle.hs_run.specs.States.{Runs, IsStateOf, kept_of}
 use Rattle.hs_run.specs.Running.{IsAt, AreMoved, AreLastEnds, MovesRoles, EndsRoles, ends_of}
 use Rattle.hs_run.specs.Reporting.{tells, values_of, pairs_at, AreSettled}
@@ -73,8 +73,8 @@ module _ {E : Type 0} (IsFor : E → Tree → Type 0) (Field : E → List ℕ �
       let decided : (i : ℕ) (x : Identifier) (k : KeptOf) (e : EndsAbout) → slice_get ids i ≡ Some x → slice_get old.kept.items i ≡ Some k → slice_get ends i ≡ Some e →
       IsSettled P u b x.id.0 x.single (kept_of k) (ends_of e) =
       λ i x k e at at' at''.
-          subst (λ single. IsSettled P u b x.id.0 single (kept_of k) (ends_of e)) (sym (runs.single i x at))
-          (byte-settled P u b x.id.0 (kept_of k) (ends_of e) (is.kept i x k at at') (moved.about i x e at at'')) in
+      subst (λ single. IsSettled P u b x.id.0 single (kept_of k) (ends_of e)) (sym (runs.single i x at))
+      (byte-settled P u b x.id.0 (kept_of k) (ends_of e) (is.kept i x k at at') (moved.about i x e at at'')) in
       let befores : List Bool = values_of BeforeByte ids old.kept.items ends in
       let behinds : List Bool = values_of BehindByte ids old.kept.items ends in
       let told_before = tell-each BeforeByte ids old.kept.items ends kept noted (IsNewBefore P u b) (λ i x k e at at' at''. (decided i x k e at at' at'').before) in
@@ -137,7 +137,47 @@ module _ {E : Type 0} (IsFor : E → Tree → Type 0) (Field : E → List ℕ �
       let lates : List Bool = values_of AtEnd ids state.kept.items ends in
       let told_last = tell-each BeforeLastByte ids state.kept.items ends kept noted (IsLeftToEnd P u) (λ i x k e at at' at''. (is.kept i x k at at').last) in
       let told_end = tell-each AtEnd ids state.kept.items ends kept noted (IsNewAtEnd P u) (λ i x k e at at' at''.
-          subst (λ single. (tells_end single (kept_of k) e.behind ≡ true) ↔ IsNewAtEnd P u x.id.0) (sym (runs.single i x at))
-          (end-settled P u x.id.0 (kept_of k) e.behind (is.kept i x k at at') (about i x e at at''))) in
+      subst (λ single. (tells_end single (kept_of k) e.behind ≡ true) ↔ IsNewAtEnd P u x.id.0) (sym (runs.single i x at))
+      (end-settled P u x.id.0 (kept_of k) e.behind (is.kept i x k at at') (about i x e at at''))) in
       subst (λ n. IsLast P u (pairs_at BeforeLastByte ids state.kept.items ends (n - 1) ++ pairs_at AtEnd ids state.kept.items ends n)) (sym is.offset)
       (last-reports P u (ids_of ids) lasts lates (runs-identifiers IsFor (roles_of program) ids P runs) told_last told_end)
+
+  -- From what the calls say.
+  pub byte-takes : {V : Type 0} (Tells : V → ℕ → ℕ → V → Type 0) (start middle end : V) (old new : State) (b : ℕ) (roles : List (Role E)) (starts bytes moved : List ℕ) (ends : List EndsAbout) →
+      roles ≡ roles_of program → starts ≡ starts_of program → bytes ≡ old.region.items → moved ≡ new.region.items →
+      MovesRoles IsFor Field roles starts bytes moved old.prev old.offset b ends →
+      length old.kept.items ≡ length (identifiers_of program) → length ends ≡ length (identifiers_of program) → length new.kept.items ≡ length (identifiers_of program) →
+      AreSettled (identifiers_of program) old.kept.items ends new.kept.items →
+      new.offset ≡ old.offset + 1 → new.prev ≡ prev_by (eqb b line_feed) (is_word_byte b) →
+      Through Tells start (pairs_at BeforeByte (identifiers_of program) old.kept.items ends old.offset) middle →
+      Through Tells middle (pairs_at BehindByte (identifiers_of program) old.kept.items ends (old.offset + 1)) end →
+      Takes Tells start end (Feeds IsFor Field program old new (b ∷ []))
+  byte-takes Tells start middle end old new b roles starts bytes moved ends is_roles is_starts is_bytes is_moved moves kept noted keeps settles offset prev first second = record {
+    pairs = pairs_at BeforeByte (identifiers_of program) old.kept.items ends old.offset ++ pairs_at BehindByte (identifiers_of program) old.kept.items ends (old.offset + 1);
+    through = through-join Tells first second;
+    holds =
+        byte-feeds old new b ends
+        (subst (λ rs. MovesRoles IsFor Field rs (starts_of program) old.region.items new.region.items old.prev old.offset b ends) is_roles
+        (subst (λ ss. MovesRoles IsFor Field roles ss old.region.items new.region.items old.prev old.offset b ends) is_starts
+        (subst (λ bs. MovesRoles IsFor Field roles starts bs new.region.items old.prev old.offset b ends) is_bytes
+        (subst (λ bs. MovesRoles IsFor Field roles starts bytes bs old.prev old.offset b ends) is_moved moves))))
+        kept noted keeps settles offset prev;
+  }
+
+  pub end-takes : {V : Type 0} (Tells : V → ℕ → ℕ → V → Type 0) (start middle end : V) (state : State) (roles : List (Role E)) (starts bytes : List ℕ) (ends : List EndsAbout) →
+      roles ≡ roles_of program → starts ≡ starts_of program → bytes ≡ state.region.items →
+      EndsRoles IsFor Field roles starts bytes state.prev state.offset ends →
+      length state.kept.items ≡ length (identifiers_of program) → length ends ≡ length (identifiers_of program) →
+      Through Tells start (pairs_at BeforeLastByte (identifiers_of program) state.kept.items ends (state.offset - 1)) middle →
+      Through Tells middle (pairs_at AtEnd (identifiers_of program) state.kept.items ends state.offset) end →
+      Takes Tells start end (Finishes IsFor Field program state)
+  end-takes Tells start middle end state roles starts bytes ends is_roles is_starts is_bytes closes kept noted first second = record {
+    pairs = pairs_at BeforeLastByte (identifiers_of program) state.kept.items ends (state.offset - 1) ++ pairs_at AtEnd (identifiers_of program) state.kept.items ends state.offset;
+    through = through-join Tells first second;
+    holds =
+        end-finishes state ends
+        (subst (λ rs. EndsRoles IsFor Field rs (starts_of program) state.region.items state.prev state.offset ends) is_roles
+        (subst (λ ss. EndsRoles IsFor Field roles ss state.region.items state.prev state.offset ends) is_starts
+        (subst (λ bs. EndsRoles IsFor Field roles starts bs state.prev state.offset ends) is_bytes closes)))
+        kept noted;
+  }

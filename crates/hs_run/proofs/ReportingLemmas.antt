@@ -13,7 +13,8 @@ use Rattle.hs_run.specs.declared.reporting.Moment.{Moment}
 use Rattle.hs_run.specs.declared.state.Kept.{Kept as KeptOf}
 use Rattle.hs_run.specs.Running.{ends_of}
 use Rattle.hs_run.specs.States.{kept_of}
-use Rattle.hs_run.specs.Reporting.{tells, values_of}
+use Rattle.hs_run.specs.Events.{Through}
+use Rattle.hs_run.specs.Reporting.{tells, values_of, pairs_at, AreSettled}
 use Rattle.hs_run.proofs.PartLemmas.{there}
 
 -- what stands beyond a list, in the goals of a loop over it
@@ -66,3 +67,17 @@ tell-each moment xs ks es kept ends Q tells-it = record {
   where
     within : (ys : List Identifier) (i id : ℕ) → slice_get (ids_of ys) i ≡ Some id → i < length ys
     within ys i id named = omega (arith, slice_get_within (ids_of ys) i id named, length-map ys (λ y. y.id.0))
+
+-- what was reported and settled of lists that are the same
+pub through-same : {V : Type 0} (Tells : V → ℕ → ℕ → V → Type 0) (start end : V) (moment : Moment) (xs xs' : List Identifier) (ks ks' : List KeptOf) (es es' : List EndsAbout) (to : ℕ) → xs ≡ xs' → ks ≡ ks' → es ≡ es' →
+    Through Tells start (pairs_at moment xs ks es to) end → Through Tells start (pairs_at moment xs' ks' es' to) end
+through-same Tells start end moment xs xs' ks ks' es es' to same same' same'' through =
+    subst (λ v. Through Tells start (pairs_at moment v ks' es' to) end) same
+    (subst (λ v. Through Tells start (pairs_at moment xs v es' to) end) same'
+    (subst (λ v. Through Tells start (pairs_at moment xs ks v to) end) same'' through))
+
+pub settled-same : (xs xs' : List Identifier) (ks ks' : List KeptOf) (es es' : List EndsAbout) (ns ns' : List KeptOf) → xs ≡ xs' → ks ≡ ks' → es ≡ es' → ns ≡ ns' → AreSettled xs ks es ns → AreSettled xs' ks' es' ns'
+settled-same xs xs' ks ks' es es' ns ns' same same' same'' same''' settled =
+    subst (λ v. AreSettled v ks' es' ns') same
+    (subst (λ v. AreSettled xs v es' ns') same'
+    (subst (λ v. AreSettled xs ks v ns') same'' (subst (AreSettled xs ks es) same''' settled)))

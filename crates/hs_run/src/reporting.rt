@@ -64,7 +64,12 @@ fn tells(moment: Moment, single: bool, kept: Kept, ends: Ends) -> bool
         Moment::BehindByte => tells_behind(single, kept, ends),
         Moment::BeforeLastByte => kept.last,
         Moment::AtEnd => {
-            ends.behind && !(if single { kept.told || kept.last } else { kept.here })
+            ends.behind
+                && !(if single {
+                    kept.told || kept.last
+                } else {
+                    kept.here
+                })
         }
     }
 }

@@ -49,7 +49,8 @@ fn step_role<E: Engine, L: Ledger>(
         IsMoved (E.field role.now.engine part.new) x u byte (ends_of ends.old) (ends_of ends.new) }
 {
     let before = ends_at(role, part, prev, at);
-    role.engine.step(part, prev, at, NextSet::all(), byte, steps);
+    role.engine
+        .step(part, prev, at, NextSet::all(), byte, steps);
     let behind = ends_at(role, part, Prev::behind(byte), at + 1);
     ends.note(byte, before, behind);
 }

@@ -71,8 +71,22 @@ fn feed_byte<E: Engine, V: Events, L: Ledger>(
         steps,
     );
     let identifiers = program.identifiers();
-    report(Moment::BeforeByte, identifiers, &state.kept, &scratch.ends, at, events);
-    report(Moment::BehindByte, identifiers, &state.kept, &scratch.ends, at + 1, events);
+    report(
+        Moment::BeforeByte,
+        identifiers,
+        &state.kept,
+        &scratch.ends,
+        at,
+        events,
+    );
+    report(
+        Moment::BehindByte,
+        identifiers,
+        &state.kept,
+        &scratch.ends,
+        at + 1,
+        events,
+    );
     settle(identifiers, &mut state.kept, &scratch.ends);
     state.prev = Prev::behind(byte);
     state.offset = at + 1;
@@ -101,6 +115,20 @@ pub fn finish<E: Engine, V: Events>(
         &mut scratch.ends,
     );
     let identifiers = program.identifiers();
-    report(Moment::BeforeLastByte, identifiers, &state.kept, &scratch.ends, at.saturating_sub(1), events);
-    report(Moment::AtEnd, identifiers, &state.kept, &scratch.ends, at, events);
+    report(
+        Moment::BeforeLastByte,
+        identifiers,
+        &state.kept,
+        &scratch.ends,
+        at.saturating_sub(1),
+        events,
+    );
+    report(
+        Moment::AtEnd,
+        identifiers,
+        &state.kept,
+        &scratch.ends,
+        at,
+        events,
+    );
 }
