@@ -7,3 +7,4 @@ pub mod EventLemmas
 pub mod ReportingLemmas
 pub mod StateLemmas
 pub mod FeedLemmas
+pub mod CollectLemmas

@@ -3,3 +3,4 @@ pub mod States
 pub mod Running
 pub mod Reporting
 pub mod Feeding
+pub mod Collecting

@@ -1,6 +1,7 @@
 //! The runner of a program: bytes to reports, with one small state for a stream.
 #![tactic(auto)]
 
+mod collected;
 mod ends;
 mod events;
 mod reporting;
@@ -9,6 +10,7 @@ mod runner;
 mod scratch;
 mod state;
 
+pub use collected::Collected;
 pub use ends::Ends;
 pub use events::Events;
 pub use runner::{feed, finish};
