@@ -8,7 +8,9 @@ use Rattle.std.proofs.lemmas.Nat.Bits.{bit_at-zero}
 use Rattle.std.proofs.lemmas.Option.{slice_get_past}
 use Rattle.std.proofs.lemmas.List.{get_or_past, get_or-replicate, length-replicate}
 use Rattle.std.proofs.lemmas.List.Folds.{list_any_more, Any-from_list_any, list_any-from_Any}
+use Rattle.hs_base.specs.declared.byte_set.ByteSet.{ByteSet}
 use Rattle.hs_base.specs.declared.context.Next.{Next}
+use Rattle.hs_base.specs.ByteSets.{has}
 use Rattle.hs_base.specs.Contexts.{Context, class_of, context_of}
 use Rattle.hs_base.specs.ContextSets.{has_context}
 use Rattle.hs_base.specs.Trees.{Tree}
@@ -22,7 +24,7 @@ use Rattle.hs_engine.specs.Bits.{AreZero, has_bit}
 use Rattle.hs_engine.specs.Engines.{IsQuiet}
 use Rattle.hs_engine.proofs.BitLemmas.{bits-zero}
 use Rattle.hs_glushkov.specs.Agreement.{StepsTo, steps_in, steps_on, IsAccepting}
-use Rattle.hs_glushkov.specs.Tables.{IsFor, Runs, IsField, leads_to, is_moved}
+use Rattle.hs_glushkov.specs.Tables.{AreFirst, IsFor, Runs, IsField, leads_to, is_moved}
 use Rattle.hs_glushkov.proofs.AgreementLemmas.{reached-steps, steps-reached, leaves-accepting, accepting-leaves}
 
 pub not-true : (b : Bool) → (b ≡ true → ⊥) → b ≡ false
@@ -216,6 +218,21 @@ none-moved a old zeros led here b all_led k =
           true-false (has_bit old x) set (zero-bits old zeros x)
       | inr begin ↦ let e : false ≡ true = begin in cc
     ])
+
+-- a byte with which no match begins, or before which the expression isn't entered, leads nowhere from a region at rest
+module _ (a : Automaton) (r : Core) (first : ByteSet) (tables : IsFor a r) (begins : AreFirst a first) (u : List ℕ) (entered : List Bool) (len : length entered ≡ length u) (region : List ℕ) (field : IsField region r u entered)
+    (zeros : AreZero region) (b : ℕ) (byte : b < 256) (entering : Bool) (outside : (entering && has first b) ≡ false) where
+  no-step : (y : ℕ) → StepsTo r u entered b entering y → ⊥
+  no-step y (steps_in member enters_now is) =
+      let begin : has first b ≡ true = begins y b (context_of u (class_of b)) byte (tables.enters y (context_of u (class_of b)) ∙ is) ((tables.sets y b byte).1 member) in
+      true-false (entering && has first b) (of_both entering (has first b) enters_now begin) outside
+  no-step y (steps_on x member reached is) = true-false (has_bit region x) ((field x).1 reached) (zero-bits region zeros x)
+
+  pub field-rests : IsField region r (u ++ b ∷ []) (entered ++ entering ∷ [])
+  field-rests y = (
+    λ set. true-false (has_bit region y) set (zero-bits region zeros y),
+    λ reached. absurd (no-step y (reached-steps r u entered b entering y len reached)),
+  )
 
 -- where the expression is left
 

@@ -2,3 +2,7 @@ pub mod Positions
 pub mod Agreement
 pub mod Tables
 pub mod PlainEngines
+pub mod Parts
+pub mod FollowTables
+pub mod AssertionTests
+pub mod BuiltParts

@@ -1,10 +1,12 @@
 -- Tables that are the position automaton of an expression, and the field that `Plain` keeps.
 use Rattle.std.specs.Prelude.{◌≡◌, ◌↔◌, ℕ, ◌<◌, ◌≤◌, Bool, true, false, ◌&&◌, ◌||◌, ◌==◌, List, Some, slice_get, vec_len}
+use Rattle.hs_base.specs.ByteSets.{has}
 use Rattle.hs_base.specs.Contexts.{Context}
 use Rattle.hs_base.specs.ContextSets.{has_context}
 use Rattle.hs_base.specs.Trees.{Tree}
 use Rattle.hs_base.specs.EndAssertions.{has_embedded_end}
 use Rattle.hs_base.specs.WrittenOut.{Core, write_out, IsPlain, IsReached, set_of, count}
+use Rattle.hs_base.specs.declared.byte_set.ByteSet.{ByteSet}
 use Rattle.hs_engine.specs.declared.automaton.Automaton.{Automaton}
 use Rattle.hs_engine.specs.declared.automaton.Edge.{Edge}
 use Rattle.hs_engine.specs.Automata.{takes, enters, accepts, follows}
@@ -41,6 +43,10 @@ leads_to bytes c k edge = (k == edge.to) && (has_bit bytes edge.from && has_cont
 -- the byte b leads to the position k, to which an edge has led or which is entered
 abbrev pub is_moved : Automaton → List ℕ → Context → Bool → ℕ → ℕ → Bool
 is_moved a led c entering b k = (has_bit led k || (entering && enters a k c)) && takes a k b
+
+-- each byte that a position takes which is entered in some context is in the set
+abbrev pub AreFirst : Automaton → ByteSet → Type 0
+AreFirst a first = (x b : ℕ) (c : Context) → b < 256 → enters a x c ≡ true → takes a x b ≡ true → has first b ≡ true
 
 -- the same tables, in memory of their own
 pub record IsCopy (copy original : Automaton) : Type 0 where

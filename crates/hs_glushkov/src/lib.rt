@@ -2,7 +2,19 @@
 //! each transition for its assertions.
 #![tactic(auto)]
 
+mod assertion_test;
+mod builder;
+#[cfg(test)]
+mod conditions;
+mod edge_list;
+mod follow_masks;
 pub mod laws;
+mod parts;
 mod plain;
 
+pub use assertion_test::has_assertion;
+pub use builder::build;
 pub use plain::Plain;
+
+#[cfg(test)]
+mod tests;

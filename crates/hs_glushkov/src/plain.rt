@@ -8,7 +8,7 @@ ghost use Rattle.hs_base.specs.ContextSets.{has_context, has_next};
 ghost use Rattle.hs_base.specs.ByteSets.{has};
 ghost use Rattle.hs_engine.specs.Automata.{in_mask, in_set};
 ghost use Rattle.hs_engine.specs.Bits.{AreZero, has_bit};
-ghost use Rattle.hs_glushkov.specs.Tables.{IsClearFrom, IsCopy, is_moved, leads_to};
+ghost use Rattle.hs_glushkov.specs.Tables.{AreFirst, IsClearFrom, IsCopy, is_moved, leads_to};
 
 use hs_base::{ByteSet, Mask, Next, NextSet, Prev};
 use hs_engine::{
@@ -25,21 +25,57 @@ const MAX_REGION_LEN: usize = MAX_POSITIONS / BYTE_BITS;
 #[derive(Debug, Drop)]
 pub struct Plain {
     automaton: Automaton,
+    /// The bytes that positions take which may be entered: any other byte leads nowhere from a region at rest.
+    first: ByteSet,
+    ghost begins: { AreFirst automaton first },
 }
 
 impl Plain {
     ghost use Rattle.hs_base.specs.Trees.{Tree};
     ghost use Rattle.hs_glushkov.specs.Tables.{IsCopy, Runs};
-    ghost use Rattle.hs_glushkov.specs.PlainEngines.{automaton_of};
+    ghost use Rattle.hs_glushkov.specs.PlainEngines.{automaton_of, width_of};
+
+    /// The engine of an automaton.
+    pub fn new(automaton: Automaton) -> Plain
+        ensures of { automaton_of result ≡ automaton }
+        ensures width { width_of result ≤ 64 }
+    {
+        let first = first_bytes(&automaton.sets, &automaton.enters);
+        Plain { automaton, first }
+    }
 
     /// The engine of an automaton, whose tables it copies.
     pub fn build(alloc: Global, automaton: &Automaton) -> Result<Plain, AllocError>
         ensures copied { IfOk result (λ plain. IsCopy (automaton_of plain) automaton.now) }
         ensures runs { IfOk result (λ plain. (tree : Tree) → Runs automaton.now tree → Runs (automaton_of plain) tree) }
+        ensures width { IfOk result (λ plain. width_of plain ≤ 64) }
     {
-        Ok(Plain {
-            automaton: copy_of(alloc, automaton)?,
-        })
+        Ok(Plain::new(copy_of(alloc, automaton)?))
+    }
+}
+
+/// The bytes that are in the set of a position which is entered in some context.
+fn first_bytes(sets: &[ByteSet], enters: &[Mask]) -> ByteSet
+    requires { length enters.now ≡ length sets.now }
+    ensures { (x b : ℕ) (c : Context) → b < 256 → in_mask (slice_get enters.now x) c ≡ true → in_set (slice_get sets.now x) b ≡ true → has result b ≡ true }
+{
+    let mut first = ByteSet::EMPTY;
+    for position in 0..enters.len() {
+        first = first.union(&first_bytes_at(sets, enters, position));
+    }
+    first
+}
+
+/// The bytes of the position, if it is entered in some context.
+fn first_bytes_at(sets: &[ByteSet], enters: &[Mask], position: usize) -> ByteSet
+    requires enters { position < length enters.now }
+    requires sets { position < length sets.now }
+    ensures { (b : ℕ) (c : Context) → in_mask (slice_get enters.now position) c ≡ true → in_set (slice_get sets.now position) b ≡ true → has result b ≡ true }
+{
+    if enters[position] == Mask::empty() {
+        ByteSet::EMPTY
+    } else {
+        sets[position]
     }
 }
 
@@ -92,21 +128,20 @@ impl Engine for Plain {
     ) {
         steps.tick();
         let next = Next::class_of(byte);
+        let entering = enter.contains(next);
+        if self.stays_at_rest(region, entering, byte) {
+            return;
+        }
         let mut led = [0u8; MAX_REGION_LEN];
         follow(&self.automaton.edges, region, prev, next, &mut led);
         clear_bits(region);
-        settle(
-            &self.automaton,
-            &led,
-            prev,
-            next,
-            enter.contains(next),
-            byte,
-            region,
-        );
+        settle(&self.automaton, &led, prev, next, entering, byte, region);
     }
 
     fn out(&self, region: &[u8], prev: Prev, _at: u64) -> NextSet {
+        if is_zero(region) {
+            return NextSet::empty();
+        }
         accepted(&self.automaton.accepts, region, prev)
     }
 
@@ -116,6 +151,18 @@ impl Engine for Plain {
 
     fn well_formed(&self, region: &[u8], _at: u64) -> bool {
         is_clear_from(region, self.automaton.sets.len())
+    }
+}
+
+impl Plain {
+    ghost use Rattle.hs_base.specs.ByteSets.{has};
+
+    /// Whether the region is at rest and stays so over the byte.
+    fn stays_at_rest(&self, region: &[u8], entering: bool, byte: u8) -> bool
+        ensures zero { IsTrue result → AreZero region.now }
+        ensures outside { IsTrue result → (entering && has self.now.first byte) ≡ false }
+    {
+        !(entering && self.first.contains(byte)) && is_zero(region)
     }
 }
 

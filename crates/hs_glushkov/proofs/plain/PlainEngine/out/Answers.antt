@@ -8,6 +8,14 @@ use Rattle.hs_glushkov.proofs.PlainLemmas.{bit-leaves, leaves-bit, not-true, tru
 use Rattle.hs_engine.specs.Bits.{has_bit}
 use Rattle.hs_glushkov.proofs.plain.PlainEngine.out.Goals as goal
 
+pub returns-then-is_zero-clause-leaves : goal.returns-then-is_zero-clause-leaves
+returns-then-is_zero-clause-leaves c tree u entered runs len at prev field next = (
+  λ told. true-false (has_next c.empty.result next) told (c.empty.ensures next),
+  λ leaves.
+      let (x, set, is) = leaves-bit c.args.self.now.automaton tree runs u entered c.args.region.now field next leaves in
+      true-false (has_bit c.args.region.now x) set (zero-bits c.args.region.now (c.is_zero.ensures.0 c.if-is_zero.true) x),
+)
+
 pub returns-clause-leaves : goal.returns-clause-leaves
 returns-clause-leaves c tree u entered runs len at prev field next =
     let a = c.args.self.now.automaton in

@@ -6,8 +6,18 @@ use Rattle.hs_base.specs.WrittenOut.{write_out}
 use Rattle.hs_base.proofs.StreamContexts.{same-context}
 use Rattle.hs_engine.specs.Bits.{has_bit}
 use Rattle.hs_glushkov.specs.Tables.{IsField, leads_to, is_moved}
-use Rattle.hs_glushkov.proofs.PlainLemmas.{field-step_in, none-moved, led-from_zeros, same-zero}
+use Rattle.hs_glushkov.proofs.PlainLemmas.{field-rests, field-step_in, none-moved, led-from_zeros, same-zero}
 use Rattle.hs_glushkov.proofs.plain.PlainEngine.step.Goals as goal
+
+pub returns-then-stays_at_rest-clause-takes : goal.returns-then-stays_at_rest-clause-takes
+returns-then-stays_at_rest-clause-takes g c tree u entered runs len at prev field =
+    let a = c.args.self.now.automaton in
+    let b : ℕ = c.args.byte in
+    let byte : b < 256 = omega arith in
+    let entering : c.contains-entering.result ≡ has_next c.args.enter (class_of b) = c.contains-entering.ensures ∙ ap (has_next c.args.enter) c.class_of-next.ensures in
+    subst (λ i. IsField c.args.region.now (write_out tree) (u ++ b ∷ []) (entered ++ i ∷ [])) entering
+    (field-rests a (write_out tree) c.args.self.now.first runs.tables c.args.self.now.begins u entered len c.args.region.now field (c.stays_at_rest.ensures.zero c.if-stays_at_rest.true) b byte c.contains-entering.result
+    (c.stays_at_rest.ensures.outside c.if-stays_at_rest.true))
 
 pub returns-clause-takes : goal.returns-clause-takes
 returns-clause-takes g c tree u entered runs len at prev field =
@@ -17,12 +27,12 @@ returns-clause-takes g c tree u entered runs len at prev field =
     let led : List ℕ = c.follow.new.led in
     let byte : b < 256 = omega arith in
     let same : context_of u (class_of b) ≡ here = same-context (prev_at u (length u)) c.args.prev (class_of b) c.class_of-next.result (sym prev) (sym c.class_of-next.ensures) in
-    let entering : c.contains.result ≡ has_next c.args.enter (class_of b) = c.contains.ensures ∙ ap (has_next c.args.enter) c.class_of-next.ensures in
+    let entering : c.contains-entering.result ≡ has_next c.args.enter (class_of b) = c.contains-entering.ensures ∙ ap (has_next c.args.enter) c.class_of-next.ensures in
     let all_led : (k : ℕ) → has_bit led k ≡ list_any (leads_to c.args.region.now here k) a.edges.items =
     λ k. led-from_zeros led 64 k (list_any (leads_to c.args.region.now here k) a.edges.items)
     (subst (λ edges. has_bit led k ≡ (list_any (leads_to c.args.region.now here k) edges || has_bit (replicate 64 0) k)) c.deref.ensures.value (c.follow.ensures.bits k)) in
     subst (λ i. IsField c.settle.new.region (write_out tree) (u ++ b ∷ []) (entered ++ i ∷ [])) entering
-    (field-step_in a (write_out tree) runs.tables u entered len c.args.region.now field b byte c.contains.result led here same all_led c.settle.new.region c.settle.ensures.bits)
+    (field-step_in a (write_out tree) runs.tables u entered len c.args.region.now field b byte c.contains-entering.result led here same all_led c.settle.new.region c.settle.ensures.bits)
 
 pub returns-clause-stays : goal.returns-clause-stays
 returns-clause-stays g c zeros outside once =
@@ -30,7 +40,7 @@ returns-clause-stays g c zeros outside once =
     let here : Context = record { prev = c.args.prev; next = c.class_of-next.result } in
     let b : ℕ = c.args.byte in
     let led : List ℕ = c.follow.new.led in
-    let entering : c.contains.result ≡ false = c.contains.ensures ∙ (ap (has_next c.args.enter) c.class_of-next.ensures ∙ outside) in
+    let entering : c.contains-entering.result ≡ false = c.contains-entering.ensures ∙ (ap (has_next c.args.enter) c.class_of-next.ensures ∙ outside) in
     let all_led : (k : ℕ) → has_bit led k ≡ list_any (leads_to c.args.region.now here k) a.edges.items =
     λ k. led-from_zeros led 64 k (list_any (leads_to c.args.region.now here k) a.edges.items)
     (subst (λ edges. has_bit led k ≡ (list_any (leads_to c.args.region.now here k) edges || has_bit (replicate 64 0) k)) c.deref.ensures.value (c.follow.ensures.bits k)) in
