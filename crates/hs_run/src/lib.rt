@@ -9,6 +9,8 @@ mod roles;
 mod runner;
 mod scratch;
 mod state;
+#[cfg(test)]
+mod tests;
 
 pub use collected::Collected;
 pub use ends::Ends;

@@ -38,6 +38,7 @@ impl State {
     /// The state of a stream of which no byte has come.
     pub fn new<E: Engine>(alloc: Global, program: &Program<E>) -> Result<State, AllocError>
         requires { IsRunnable E.width program.now }
+        ensures offset { IfOk result (λ state. state.offset ≡ 0) }
         ensures fits { IfOk result (λ state. FitsState E.well program.now state) }
         ensures start { IfOk result (λ state. (P : List Pattern) → Runs E.is_for program.now P → IsStateOf E.field program.now P [] state) }
     {
