@@ -1,2 +1,6 @@
 pub mod Events
 pub mod States
+pub mod Running
+pub mod Reporting
+pub mod Feeding
+pub mod Collecting

@@ -17,6 +17,10 @@ use Rattle.hs_run.specs.declared.state.Kept.{Kept as KeptOf}
 abbrev pub kept_of : KeptOf → Kept
 kept_of kept = record { told = kept.told; here = kept.here; last = kept.last }
 
+-- how many bytes have come
+abbrev pub offset_of : State → ℕ
+offset_of state = state.offset
+
 -- the bytes of a role in the region of a stream
 abbrev pub part_of : List ℕ → List ℕ → ℕ → List ℕ
 part_of starts region k = slice_range region (slice_index starts k) (slice_index starts (k + 1))

@@ -1,0 +1,10 @@
+pub mod TruthLemmas
+pub mod StreamLemmas
+pub mod RoleLemmas
+pub mod PartLemmas
+pub mod AboutLemmas
+pub mod EventLemmas
+pub mod ReportingLemmas
+pub mod StateLemmas
+pub mod FeedLemmas
+pub mod CollectLemmas

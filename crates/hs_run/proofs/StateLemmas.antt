@@ -1,0 +1,53 @@
+-- Where the parts of a program's region lie, and the state of the empty stream.
+use Rattle.std.proofs.Common.{◌≡◌, ◌∙◌, ℕ, ◌<◌, Bool, List, [], length, replicate, Some, slice_get, refl, sym, ap, subst, arith}
+use Rattle.std.proofs.lemmas.List.{get_or-replicate, length-replicate}
+use Rattle.std.proofs.lemmas.Option.{same_Some, slice_get-get_or, slice_get_within}
+use Rattle.hs_base.specs.declared.context.Prev.TheVariants as before
+use Rattle.hs_base.specs.Contexts.{prev_at}
+use Rattle.hs_base.specs.Patterns.{Pattern}
+use Rattle.hs_base.specs.Settling.{IsKept}
+use Rattle.hs_base.proofs.SettlingLemmas.{kept-start}
+use Rattle.hs_base.specs.Trees.{Tree}
+use Rattle.hs_rose.specs.declared.program.Program.{Program}
+use Rattle.hs_rose.specs.declared.program.Role.{Role}
+use Rattle.hs_rose.specs.Programs.{roles_of, identifiers_of, starts_of, region_len_of}
+use Rattle.hs_run.specs.declared.state.State.{State}
+use Rattle.hs_run.specs.States.{IsRunnable, Runs, IsStateOf, kept_of}
+use Rattle.hs_run.specs.Running.{IsLaid, AreNamed, AreStarted}
+use Rattle.hs_run.proofs.PartLemmas.{laid-starts}
+use Rattle.hs_run.proofs.ReportingLemmas.{nothing}
+
+module _ {E : Type 0} (width : E → ℕ) (program : Program E) (runs : IsRunnable width program) (roles : List (Role E)) (starts : List ℕ)
+    (are_roles : roles ≡ roles_of program) (are_starts : starts ≡ starts_of program) where
+  pub program-laid : (len : ℕ) → len ≡ region_len_of program → IsLaid width roles starts len
+  program-laid len whole =
+      subst (λ rs. IsLaid width rs starts len) (sym are_roles)
+      (subst (λ ss. IsLaid width (roles_of program) ss len) (sym are_starts)
+      (laid-starts width (roles_of program) (starts_of program) runs.starts len whole))
+
+  pub program-named : (count : ℕ) → count ≡ length (identifiers_of program) → AreNamed roles count
+  program-named count whole =
+      subst (λ rs. AreNamed rs count) (sym are_roles) (subst (λ n. AreNamed (roles_of program) n) (sym whole) runs.named)
+
+-- the state of the empty stream
+
+replicate-at : {A : Type 0} (n i : ℕ) (d x : A) → slice_get (replicate n d) i ≡ Some x → d ≡ x
+replicate-at n i d x at =
+    let below : i < n = omega (arith, slice_get_within (replicate n d) i x at, length-replicate n d) in
+    same_Some d x (sym (slice_get-get_or (replicate n d) i d (slice_get_within (replicate n d) i x at) ∙ ap (λ z. Some z) (get_or-replicate n i d d below)) ∙ at)
+
+start-prev : before.Start ≡ prev_at [] 0
+unfolding prev_at
+start-prev = refl
+
+pub start-state : {E : Type 0} (IsFor : E → Tree → Type 0) (Field : E → List ℕ → Tree → List ℕ → List Bool → Type 0) (program : Program E) (P : List Pattern) → Runs IsFor program P →
+    (state : State) (n : ℕ) → state.offset ≡ 0 → state.prev ≡ before.Start → state.kept.items ≡ replicate n nothing →
+    AreStarted IsFor Field (roles_of program) (starts_of program) state.region.items → IsStateOf Field program P [] state
+start-state IsFor Field program P runs state n offset prev kept started = record {
+  offset = offset;
+  prev = prev ∙ start-prev;
+  kept = λ i x k at at'.
+      let same : nothing ≡ k = replicate-at n i nothing k (sym (ap (λ ks. slice_get ks i) kept) ∙ at') in
+      subst (λ v. IsKept P [] x.id.0 (kept_of v)) same (kept-start P x.id.0);
+  fields = λ k r x role pattern. started k r x.tree role (runs.each k r x role pattern).engine;
+}

@@ -1,0 +1,30 @@
+-- What bytes, or the end of the stream, make of a state and report.
+use Rattle.std.specs.Prelude.{◌≡◌, ℕ, Bool, List, ◌++◌, length}
+use Rattle.hs_base.specs.Trees.{Tree}
+use Rattle.hs_base.specs.Patterns.{Pattern}
+use Rattle.hs_base.specs.Told.{Pair, IsTold, IsNew, IsLast}
+use Rattle.hs_rose.specs.declared.program.Program.{Program}
+use Rattle.hs_rose.specs.Programs.{identifiers_of}
+use Rattle.hs_run.specs.declared.state.State.{State}
+use Rattle.hs_run.specs.declared.scratch.Scratch.{Scratch}
+use Rattle.hs_run.specs.States.{Runs, IsStateOf}
+
+-- the scratch has the room that the program takes
+abbrev pub FitsScratch : {E : Type 0} → Program E → Scratch → Type 0
+FitsScratch program scratch = length scratch.ends.items ≡ length (identifiers_of program)
+
+module _ {E : Type 0} (IsFor : E → Tree → Type 0) (Field : E → List ℕ → Tree → List ℕ → List Bool → Type 0) (program : Program E) where
+  -- The state is that of the stream u with the bytes behind it, and the pairs are the new reports of the bytes.
+  pub record IsFed (P : List Pattern) (u bytes : List ℕ) (now : State) (pairs : List Pair) : Type 0 where
+    pub state : IsStateOf Field program P (u ++ bytes) now
+    pub new : IsNew P u bytes pairs
+
+  -- That holds for all patterns that the program runs, and every stream that leads to the old state.
+  abbrev pub Feeds : State → State → List ℕ → List Pair → Type 0
+  Feeds old new bytes pairs =
+      (P : List Pattern) (u : List ℕ) (told : List Pair) → Runs IsFor program P → IsStateOf Field program P u old → IsTold P u told →
+      IsFed P u bytes new pairs
+
+  -- For all patterns that the program runs, and every stream that leads to the state, the pairs are the last reports.
+  abbrev pub Finishes : State → List Pair → Type 0
+  Finishes state pairs = (P : List Pattern) (u : List ℕ) → Runs IsFor program P → IsStateOf Field program P u state → IsLast P u pairs

@@ -1,0 +1,473 @@
+//! The runner beside the definitions as `hs_plain` computes them, with every cut of each text.
+ghost use Rattle.std.specs.Prelude.{◌≡◌, ◌<◌, ◌≤◌, ◌^◌, length, IsTrue, IfOk, vec_len};
+ghost use Rattle.std.specs.List.{All};
+ghost use Rattle.hs_glushkov.specs.PlainEngines.{width_of};
+ghost use Rattle.hs_rose.specs.Programs.{roles_of, identifiers_of, starts_of};
+ghost use Rattle.hs_rose.specs.Roles.{AreStartsOf};
+ghost use Rattle.hs_run.specs.Running.{AreNamed};
+ghost use Rattle.hs_run.specs.States.{IsRunnable};
+
+use crate::{Collected, Scratch, State, feed, finish};
+use hs_base::{Assertion, ByteSet, ExprId, Mask, Report};
+use hs_engine::{Automaton, Edge, Engine, Steps};
+use hs_expr::Expr;
+use hs_glushkov::Plain;
+use hs_plain::{Pattern, match_reports};
+use hs_rose::{Expression, Program, Role};
+use std::alloc::{AllocError, Global};
+use std::marker::Brand;
+use std::process::Abort;
+use std::sync::ledger::{Blank, Ledger};
+use std::test::Fail;
+
+/// How often a byte stands in an expression.
+#[derive(Clone, Copy)]
+enum Times {
+    /// Once.
+    Once,
+    /// At most once.
+    Optional,
+    /// Any number of times.
+    Any,
+}
+
+/// An expression: an assertion, copies of a byte (`.` is any but the line feed), an assertion.
+#[derive(Clone, Copy)]
+struct Shape {
+    before: Option<Assertion>,
+    byte: u8,
+    times: Times,
+    after: Option<Assertion>,
+}
+
+/// An expression of a list: its identifier, whether that is single, the least and the greatest end offset.
+type Entry = (u32, bool, u64, u64, Shape);
+
+fn set_of(byte: u8) -> ByteSet {
+    if byte == b'.' {
+        ByteSet::NOT_NEWLINE
+    } else {
+        ByteSet::of(byte)
+    }
+}
+
+fn expr_of(alloc: Global, shape: Shape) -> Result<Expr, AllocError> {
+    let mut items = Vec::new(alloc);
+    if let Some(assertion) = shape.before {
+        items.push(Expr::Assert(assertion))?;
+    }
+    let class = Expr::Class(set_of(shape.byte));
+    items.push(match shape.times {
+        Times::Once => class,
+        Times::Optional => Expr::Repeat(Box::new(alloc, class)?, 0, Some(1)),
+        Times::Any => Expr::Repeat(Box::new(alloc, class)?, 0, None),
+    })?;
+    if let Some(assertion) = shape.after {
+        items.push(Expr::Assert(assertion))?;
+    }
+    Ok(Expr::Cat(items))
+}
+
+fn mask_of(assertion: Option<Assertion>) -> Mask {
+    match assertion {
+        None => Mask::all(),
+        Some(assertion) => Mask::of(assertion),
+    }
+}
+
+/// The position automaton of the expression: one position.
+fn automaton_of(alloc: Global, shape: Shape) -> Result<Automaton, AllocError> {
+    let enter = mask_of(shape.before);
+    let accept = mask_of(shape.after);
+    let around = Edge {
+        from: 0,
+        to: 0,
+        mask: Mask::all(),
+    };
+    let again = match shape.times {
+        Times::Once | Times::Optional => Mask::empty(),
+        Times::Any => Mask::all(),
+    };
+    let null = match shape.times {
+        Times::Once => Mask::empty(),
+        Times::Optional | Times::Any => enter.intersection(accept),
+    };
+    Ok(Automaton {
+        sets: Vec::from_slice(alloc, &[set_of(shape.byte)])?,
+        enters: Vec::from_slice(alloc, &[enter])?,
+        accepts: Vec::from_slice(alloc, &[accept])?,
+        edges: Vec::from_slice(
+            alloc,
+            &[Edge {
+                mask: again,
+                ..around
+            }],
+        )?,
+        null,
+        has_assertion: true,
+    })
+}
+
+fn patterns_of(alloc: Global, entries: &[Entry]) -> Result<Vec<Pattern>, Fail> {
+    let mut patterns = Vec::new(alloc);
+    for (id, single, least, greatest, shape) in entries {
+        patterns.push(Pattern {
+            id: ExprId(*id),
+            single: *single,
+            least: *least,
+            greatest: *greatest,
+            expr: expr_of(alloc, *shape)?,
+        })?;
+    }
+    Ok(patterns)
+}
+
+fn expressions_of(alloc: Global, entries: &[Entry]) -> Result<Vec<Expression<Plain>>, Fail> {
+    let mut expressions = Vec::new(alloc);
+    for (id, single, min_offset, max_offset, shape) in entries {
+        let automaton = automaton_of(alloc, *shape)?;
+        expressions.push(Expression {
+            id: ExprId(*id),
+            single: *single,
+            min_offset: *min_offset,
+            max_offset: *max_offset,
+            null: automaton.null,
+            engine: Plain::new(automaton),
+        })?;
+    }
+    Ok(expressions)
+}
+
+/// Whether each role names an identifier, of that many.
+fn are_named<E>(roles: &[Role<E>], count: usize) -> bool
+    ensures { IsTrue result → AreNamed roles.now count }
+{
+    roles.iter().all(|role| role.identifier < count)
+}
+
+/// The reports of a text that comes in two parts: those that the bytes decide, and those that the end does.
+fn scan<E: Engine, L: Ledger>(
+    alloc: Global,
+    program: &Program<E>,
+    first: &[u8],
+    second: &[u8],
+    blank: Blank,
+) -> Result<(Collected, Collected), Fail>
+    requires runs { IsRunnable E.width program.now }
+    requires first { length first.now < 2 ^ 62 }
+    requires second { length second.now < 2 ^ 62 }
+    requires name { blank.name ≡ L.name }
+    requires parts { blank.parts ≡ L.parts }
+    requires some { 0 < L.parts }
+{
+    let mut steps = Steps::<L>::open(blank);
+    let mut state = State::new(alloc, program)?;
+    let mut scratch = Scratch::new(alloc, program)?;
+    let mut told = Collected::new(alloc, 1000)?;
+    feed(
+        program,
+        &mut state,
+        &mut scratch,
+        first,
+        &mut told,
+        &mut steps,
+    );
+    feed(
+        program,
+        &mut state,
+        &mut scratch,
+        second,
+        &mut told,
+        &mut steps,
+    );
+    let mut last = Collected::new(alloc, 1000)?;
+    finish(program, &state, &mut scratch, &mut last);
+    Ok((told, last))
+}
+
+/// The reports of a text that comes in two parts, for a list of expressions.
+fn scan_list(
+    rt: &impl Abort,
+    alloc: Global,
+    entries: &[Entry],
+    first: &[u8],
+    second: &[u8],
+) -> Result<(Collected, Collected), Fail>
+    requires first { length first.now < 2 ^ 62 }
+    requires second { length second.now < 2 ^ 62 }
+{
+    let expressions = expressions_of(alloc, entries)?;
+    assert!(rt; expressions.len() < 100);
+    let program = Program::build(alloc, expressions)?;
+    assert!(rt; are_named(program.roles(), program.identifiers().len()));
+    scan::<Plain, Brand>(alloc, &program, first, second, Blank::new(1))
+}
+
+/// Compares the reports of a text with the definitions, with every cut.
+fn compare(
+    rt: &impl Abort,
+    alloc: Global,
+    name: &str,
+    entries: &[Entry],
+    text: &[u8],
+) -> Result<(), Fail>
+    requires { length text.now < 2 ^ 62 }
+{
+    let patterns = patterns_of(alloc, entries)?;
+    let wanted = match_reports(alloc, &patterns, text)?;
+    for cut in 0..=text.len() {
+        let (told, last) = scan_list(rt, alloc, entries, &text[..cut], &text[cut..])?;
+        assert_eq!(rt;
+            told.reports(),
+            wanted.told.as_slice(),
+            "{name}: {text:?} cut at {cut}"
+        );
+        assert_eq!(rt;
+            last.reports(),
+            wanted.last.as_slice(),
+            "{name}: {text:?} cut at {cut}"
+        );
+    }
+    Ok(())
+}
+
+const fn piece(
+    before: Option<Assertion>,
+    byte: u8,
+    times: Times,
+    after: Option<Assertion>,
+) -> Shape {
+    Shape {
+        before,
+        byte,
+        times,
+        after,
+    }
+}
+
+#[test]
+fn reports_are_as_defined(rt: HostRuntime) -> Result<(), Fail> {
+    use Assertion::{
+        EndOrFinalNewline, LineEnd, LineStart, NotWordBoundary, StreamEnd, StreamStart,
+        WordBoundary,
+    };
+    use Times::{Any, Once, Optional};
+    let alloc = rt.alloc();
+    let far = u64::MAX;
+    let lists: [(&str, &[Entry]); 14] = [
+        ("no expression", &[]),
+        (
+            "one byte",
+            &[(7, false, 0, far, piece(None, b'a', Once, None))],
+        ),
+        (
+            "any number",
+            &[(7, false, 0, far, piece(None, b'a', Any, None))],
+        ),
+        ("single", &[(7, true, 0, far, piece(None, b'a', Any, None))]),
+        (
+            "one is single, so both are",
+            &[
+                (
+                    7,
+                    false,
+                    0,
+                    far,
+                    piece(None, b'a', Once, Some(WordBoundary)),
+                ),
+                (7, true, 0, far, piece(None, b'.', Once, Some(StreamEnd))),
+            ],
+        ),
+        (
+            "an identifier of three, one pair each",
+            &[
+                (3, false, 0, far, piece(None, b'a', Once, None)),
+                (3, false, 0, far, piece(None, b'.', Any, None)),
+                (
+                    3,
+                    false,
+                    0,
+                    far,
+                    piece(None, b'a', Optional, Some(EndOrFinalNewline)),
+                ),
+            ],
+        ),
+        (
+            "identifiers rise, lists don't",
+            &[
+                (9, false, 0, far, piece(None, b'a', Once, None)),
+                (4, true, 0, far, piece(None, b'.', Once, None)),
+                (6, false, 0, far, piece(None, b'.', Once, Some(LineEnd))),
+                (
+                    4_294_967_295,
+                    false,
+                    0,
+                    far,
+                    piece(Some(LineStart), b'a', Any, None),
+                ),
+            ],
+        ),
+        (
+            "bounds",
+            &[
+                (1, false, 1, 1, piece(None, b'.', Once, None)),
+                (2, false, 2, far, piece(None, b'a', Any, None)),
+                (3, false, 0, 0, piece(None, b'a', Optional, None)),
+                (4, true, 3, 3, piece(None, b'.', Any, Some(StreamEnd))),
+                (
+                    5,
+                    false,
+                    2,
+                    2,
+                    piece(None, b'.', Any, Some(EndOrFinalNewline)),
+                ),
+            ],
+        ),
+        (
+            "the end",
+            &[
+                (
+                    1,
+                    false,
+                    0,
+                    far,
+                    piece(None, b'.', Optional, Some(StreamEnd)),
+                ),
+                (
+                    2,
+                    false,
+                    0,
+                    far,
+                    piece(None, b'.', Optional, Some(EndOrFinalNewline)),
+                ),
+                (
+                    3,
+                    true,
+                    0,
+                    far,
+                    piece(None, b'.', Optional, Some(StreamEnd)),
+                ),
+                (
+                    4,
+                    true,
+                    0,
+                    far,
+                    piece(None, b'.', Optional, Some(EndOrFinalNewline)),
+                ),
+            ],
+        ),
+        (
+            "before the end, and at it",
+            &[
+                (1, true, 0, far, piece(None, b'b', Once, Some(StreamEnd))),
+                (
+                    1,
+                    false,
+                    0,
+                    far,
+                    piece(None, b'\n', Any, Some(EndOrFinalNewline)),
+                ),
+                (
+                    2,
+                    true,
+                    0,
+                    far,
+                    piece(None, b'\n', Optional, Some(EndOrFinalNewline)),
+                ),
+            ],
+        ),
+        (
+            "the start",
+            &[
+                (
+                    1,
+                    false,
+                    0,
+                    far,
+                    piece(Some(StreamStart), b'a', Optional, None),
+                ),
+                (
+                    2,
+                    false,
+                    0,
+                    far,
+                    piece(Some(LineStart), b'.', Optional, Some(LineEnd)),
+                ),
+                (3, true, 0, far, piece(Some(LineStart), b'b', Once, None)),
+            ],
+        ),
+        (
+            "words",
+            &[
+                (
+                    1,
+                    false,
+                    0,
+                    far,
+                    piece(Some(WordBoundary), b'a', Optional, None),
+                ),
+                (
+                    2,
+                    false,
+                    0,
+                    far,
+                    piece(None, b'.', Optional, Some(WordBoundary)),
+                ),
+                (
+                    3,
+                    false,
+                    0,
+                    far,
+                    piece(Some(NotWordBoundary), b'.', Optional, Some(NotWordBoundary)),
+                ),
+                (
+                    4,
+                    true,
+                    0,
+                    far,
+                    piece(None, b'a', Once, Some(NotWordBoundary)),
+                ),
+            ],
+        ),
+        (
+            "what waits for a byte, and what doesn't",
+            &[
+                (2, true, 0, far, piece(None, b'a', Once, Some(WordBoundary))),
+                (2, true, 2, far, piece(None, b'.', Once, None)),
+                (
+                    3,
+                    false,
+                    0,
+                    far,
+                    piece(None, b'a', Once, Some(WordBoundary)),
+                ),
+                (3, false, 0, far, piece(None, b'.', Once, Some(LineEnd))),
+            ],
+        ),
+        (
+            "more of one",
+            &[
+                (5, false, 0, far, piece(None, b'a', Once, None)),
+                (5, false, 0, far, piece(None, b'a', Once, None)),
+                (
+                    5,
+                    false,
+                    0,
+                    far,
+                    piece(None, b'.', Any, Some(EndOrFinalNewline)),
+                ),
+            ],
+        ),
+    ];
+    let texts = [
+        "", "a", "\n", "b", "aa", "ab", "a\n", "ba", "\n\n", "a b", "aab\n", "\na\nb", "a_a a",
+        "b\n\na\n",
+    ];
+    for (name, entries) in lists {
+        for text in texts {
+            assert!(rt; text.len() < 100);
+            compare(&rt, alloc, name, entries, text.as_bytes())?;
+        }
+    }
+    Ok(())
+}
