@@ -1,5 +1,5 @@
 -- From what the steps of a command leave to the command's answer.
-use Rattle.std.proofs.Common.{◌≡◌, ℕ, List, [], ◌∷◌, ◌++◌, length, Option, Some, None, refl, sym, ap, ◌∙◌, subst, arith, append_assoc}
+use Rattle.std.proofs.Common.{◌≡◌, ℕ, List, [], ◌∷◌, ◌++◌, length, Option, Some, None, Result, Ok, Err, OnOk, OnErr, MatchResult, refl, sym, ap, ◌∙◌, subst, arith, append_assoc}
 use Rattle.hs_base.specs.Patterns.{Pattern}
 use Rattle.hs_base.specs.Told.{Pair, IsTold, IsNew, IsLast}
 use Rattle.hs_base.specs.MatchText.{report_lines, end_line, IsMatchText}
@@ -93,6 +93,11 @@ module _ {A : Type 0} (Stands : List Pattern → List ℕ → A → Type 0) wher
         subst (λ text. TookPrefix p r text) (append_assoc waited (report_lines cut.reports) (end_line count))
         (TookPrefix-longer p r (waited ++ report_lines cut.reports) (end_line count) cut.passes);
   }
+
+  -- what came of it
+  pub close-result : {T E : Type 0} (result : Result T E) (now : A) (count : ℕ) (p q r : Option (List ℕ)) (waited waits : List ℕ) → IsEnded Stands now p q waited waits → OnOk result (Took q r (waits ++ end_line count)) → OnErr result (TookPrefix q r (waits ++ end_line count)) → MatchResult result (λ x. IsClosed Stands now count p r waited) (λ e. IsPartlyClosed Stands now count p r waited)
+  close-result (Ok x) now count p q r waited waits ended taken cut = ended-closed now count p q r waited waits ended taken
+  close-result (Err e) now count p q r waited waits ended taken cut = ended-partly now count p q r waited waits ended cut
 
   -- nothing is written before a byte was scanned
   pub nothing-scanned : (told : Told) (P : List Pattern) (a b : A) (p q : Option (List ℕ)) (waits : List ℕ) → Stands P [] a → IsScannedTo Stands told a b 0 p q [] waits → Took p q []
@@ -195,3 +200,32 @@ pub ends_since : (patterns file : List ℕ) (told told' : List ℕ → Told) (st
 ends_since patterns file told told' stored stored' out sunk now outcome same_told same_stored ends =
     subst (λ n. MatchEnds patterns file (record { told = told; stored = n; out = out; sunk = sunk }) now outcome) same_stored
     (subst (λ t. MatchEnds patterns file (record { told = t; stored = stored'; out = out; sunk = sunk }) now outcome) same_told ends)
+
+module _ {A : Type 0} (Stands : List Pattern → List ℕ → A → Type 0) where
+  -- the scan of the file stopped
+  pub scan_stops : (patterns file : List ℕ) (before now : Outside) (P : List Pattern) (a b : A) (waited waits : List ℕ) (fault : ScanFault) (cause : Cause) → waited ≡ [] → HasList (before.told patterns) P → Stands P [] a →
+      IsFilePartlyScanned Stands (before.told file) a before.out now.out waited → (fault ≡ Absent → IsScannedTo Stands (before.told file) a b 0 before.out now.out waited waits) →
+      Interrupts fault (before.told file) before.stored now.stored before.sunk now.sunk → StopsScan file fault cause → MatchEnds patterns file before now (Some cause)
+  scan_stops patterns file before now P a b waited waits fault cause nothing list stands part unread stops is =
+      scan_ends patterns file before now P fault cause list
+      (begun-part Stands (before.told file) P a before.out now.out stands (subst (λ w. IsFilePartlyScanned Stands (before.told file) a before.out now.out w) nothing part))
+      (λ gone. nothing-scanned Stands (before.told file) P a b before.out now.out waits stands (subst (λ w. IsScannedTo Stands (before.told file) a b 0 before.out now.out w waits) nothing (unread gone)))
+      stops is
+
+  -- the file was scanned to its end and the last line written
+  pub scan_done : (patterns file : List ℕ) (before now : Outside) (P : List Pattern) (a b : A) (total : ℕ) (out : Option (List ℕ)) (waited waits : List ℕ) → waited ≡ [] → HasList (before.told patterns) P → Stands P [] a →
+      IsFileScanned Stands (before.told file) a b total before.out out waited waits → IsClosed Stands b total out now.out waits → NoFault before now → MatchEnds patterns file before now None
+  scan_done patterns file before now P a b total out waited waits nothing list stands scan closed quiet =
+      done P list
+      (has_written Stands (before.told file) P a b total before.out out now.out waits stands
+      (subst (λ w. IsFileScanned Stands (before.told file) a b total before.out out w waits) nothing scan) closed)
+      quiet
+
+  -- the file was scanned to its end, and then the sink failed
+  pub scan_unwritten : (patterns file : List ℕ) (before now : Outside) (P : List Pattern) (a b : A) (total : ℕ) (out : Option (List ℕ)) (waited waits : List ℕ) → waited ≡ [] → HasList (before.told patterns) P → Stands P [] a →
+      IsFileScanned Stands (before.told file) a b total before.out out waited waits → IsPartlyClosed Stands b total out now.out waits → Rose before.sunk now.sunk → MatchEnds patterns file before now (Some write)
+  scan_unwritten patterns file before now P a b total out waited waits nothing list stands scan closed rose =
+      sink_failed P list
+      (begun-whole Stands (before.told file) P a b total before.out out now.out waits stands
+      (subst (λ w. IsFileScanned Stands (before.told file) a b total before.out out w waits) nothing scan) closed)
+      rose

@@ -1,7 +1,15 @@
 -- What the runner leaves, as what a scan leaves.
-use Rattle.std.proofs.Common.{ℕ, Bool, List}
+use Rattle.std.proofs.Common.{◌≡◌, ℕ, Bool, List, sym, subst}
 use Rattle.hs_base.specs.Trees.{Tree}
+use Rattle.hs_base.specs.Patterns.{Pattern}
 use Rattle.hs_base.specs.Told.{Pair}
+use Rattle.hs_glushkov.specs.declared.plain.Plain.{Plain}
+use Rattle.hs_glushkov.specs.PlainEngines.{width_of}
+use Rattle.hs_rose.specs.Programs.{roles_of, identifiers_of}
+use Rattle.hs_rose.proofs.RoleLemmas.{named}
+use Rattle.hs_compile.specs.declared.database.Database.{Database}
+use Rattle.hs_compile.specs.Databases.{IsEngineOf, IsDatabaseOf, program_of}
+use Rattle.hs_run.specs.States.{IsRunnable, Runs}
 use Rattle.hs_rose.specs.declared.program.Program.{Program}
 use Rattle.hs_run.specs.Feeding.{Feeds, Finishes}
 use Rattle.hs_tool.specs.declared.scan.Scan.{Scan}
@@ -19,3 +27,14 @@ module _ {E : Type 0} (IsFor : E → Tree → Type 0) (Field : E → List ℕ �
 
   pub finished-last : (scan : Scan) (pairs : List Pair) → Finishes IsFor Field program scan.state pairs → AreLastOf (Stands IsFor Field program) scan pairs
   finished-last scan pairs finishes P u stands = finishes P u stands.runs stands.state
+
+-- the program of a database can be run
+pub runnable : (database : Database) (P : List Pattern) → IsDatabaseOf database P → IsRunnable width_of (program_of database)
+runnable database P is = record {
+  starts = is.starts;
+  named = λ k r at. named IsEngineOf (roles_of (program_of database)) (identifiers_of (program_of database)) P is.roles k r at;
+}
+
+-- and runs its patterns
+pub runs-of : (database : Database) (program : Program Plain) (P : List Pattern) → program ≡ program_of database → IsDatabaseOf database P → Runs IsEngineOf program P
+runs-of database program P same is = subst (λ p. Runs IsEngineOf p P) (sym same) is.roles

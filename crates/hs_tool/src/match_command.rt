@@ -1,5 +1,5 @@
 //! The command `match PATTERNS FILE`.
-ghost use Rattle.std.specs.Prelude.{◌≡◌, ◌<◌, ◌++◌, ℕ, List, IfOk, IfErr, OnOk, OnErr, MatchResult};
+ghost use Rattle.std.specs.Prelude.{◌≡◌, ◌++◌, ℕ, List, IfOk, IfErr, OnOk, OnErr, MatchResult};
 ghost use Rattle.hs_base.specs.Patterns.{Pattern};
 ghost use Rattle.hs_base.specs.MatchText.{end_line as line_of_end};
 ghost use Rattle.hs_outside.specs.Counts.{Rose};
@@ -18,13 +18,11 @@ use crate::output::Pending;
 use crate::scan::{Scan, ScanFault, end_scan, scan_file};
 use hs_base::Refusal;
 use hs_compile::{CompileFault, Database, compile};
-use hs_engine::{Engine, Steps};
+use hs_engine::Engine;
 use hs_outside::{Failed, FileFault, Sink, Store, read_file};
 use hs_rose::Program;
 use hs_text::{LINE_LEN, ListFault, end_line, read_list};
 use std::alloc::Global;
-use std::marker::Brand;
-use std::sync::ledger::{Blank, Ledger};
 
 /// The greatest length of a pattern file, in bytes.
 pub const MAX_LIST_LEN: u64 = 2_147_483_648;
@@ -47,7 +45,7 @@ pub fn match_file<'a, S: Store, O: Sink>(
         Ok(database) => database,
         Err(fault) => return Err(fault),
     };
-    match_stream::<S, O, Brand>(alloc, &database, file, store, out, Blank::new(1))
+    match_stream(alloc, &database, file, store, out)
 }
 
 /// Reads a pattern file and compiles its list.
@@ -84,18 +82,14 @@ fn load<'a, S: Store>(
 }
 
 /// Scans a file as one stream, and writes the text of the match.
-fn match_stream<'a, S: Store, O: Sink, L: Ledger>(
+fn match_stream<'a, S: Store, O: Sink>(
     alloc: Global,
     database: &Database,
     file: &'a str,
     store: &mut S,
     out: &mut O,
-    blank: Blank,
 ) -> Result<(), Fault<'a>>
-    requires runnable { IsRunnable width_of (program_of database.now) }
-    requires name { blank.name ≡ L.name }
-    requires parts { blank.parts ≡ L.parts }
-    requires some { 0 < L.parts }
+    requires { IsRunnable width_of (program_of database.now) }
     ensures ends { (patterns : List ℕ) (P : List Pattern) → HasList (S.told store.old patterns) P → IsDatabaseOf database.now P → MatchEnds patterns file.now
         (record { told = S.told store.old; stored = S.faults store.old; out = O.written out.old; sunk = O.faults out.old })
         (record { told = S.told store.new; stored = S.faults store.new; out = O.written out.new; sunk = O.faults out.new })
@@ -108,8 +102,7 @@ fn match_stream<'a, S: Store, O: Sink, L: Ledger>(
         Err(_) => return Err(Fault::Memory),
     };
     let mut pending = Pending::new();
-    let mut steps = Steps::<L>::open(blank);
-    let total = match scan_file(program, &mut scan, file, store, out, &mut pending, &mut steps) {
+    let total = match scan_file(program, &mut scan, file, store, out, &mut pending) {
         Ok(total) => total,
         Err(fault) => return Err(fault_of(fault, file)),
     };

@@ -1,8 +1,7 @@
 //! The scan of a file, piece by piece.
-ghost use Rattle.std.specs.Prelude.{◌≡◌, ℕ, ◌+◌, ◌≤◌, [], length, OnOk, OnErr, IfOk, IfErr, MatchResult};
+ghost use Rattle.std.specs.Prelude.{◌≡◌, ℕ, ◌+◌, ◌<◌, ◌≤◌, List, [], length, OnOk, OnErr, IfOk, IfErr, MatchResult};
 ghost use Rattle.hs_base.specs.Patterns.{Pattern};
 ghost use Rattle.hs_outside.specs.Counts.{Rose};
-ghost use Rattle.hs_rose.specs.Programs.{roles_of};
 ghost use Rattle.hs_run.specs.States.{IsRunnable, Runs};
 ghost use Rattle.hs_tool.specs.declared.scan.ScanFault.TheVariants.{Absent};
 ghost use Rattle.hs_tool.specs.Running.{IsReady, Stands, offset_of};
@@ -15,7 +14,8 @@ use hs_outside::{Failed, Sink, Store, StoreFault};
 use hs_rose::Program;
 use hs_run::{Scratch, State, feed, finish};
 use std::alloc::{AllocError, Global};
-use std::sync::ledger::Ledger;
+use std::marker::Brand;
+use std::sync::ledger::{Blank, Ledger};
 
 /// How many bytes of a file are read at once.
 const PIECE_LEN: usize = 65536;
@@ -60,14 +60,13 @@ impl Scan {
 
 /// Scans a file from the start of a stream to the file's end, and gives its length. The lines of the reports that its
 /// bytes decide are written, or wait.
-pub fn scan_file<E: Engine, S: Store, O: Sink, L: Ledger>(
+pub fn scan_file<E: Engine, S: Store, O: Sink>(
     program: &Program<E>,
     scan: &mut Scan,
     name: &str,
     store: &mut S,
     out: &mut O,
     pending: &mut Pending,
-    steps: &mut Steps<L>,
 ) -> Result<u64, ScanFault>
     requires runnable { IsRunnable E.width program.now }
     requires ready { IsReady E.well program.now scan.old }
@@ -98,7 +97,7 @@ pub fn scan_file<E: Engine, S: Store, O: Sink, L: Ledger>(
         if MAX_OFFSET - offset < count as u64 {
             return Err(ScanFault::Limit);
         }
-        match scan_piece(program, scan, &piece[..count], out, pending, steps) {
+        match scan_piece(program, scan, &piece[..count], out, pending) {
             Ok(()) => {}
             Err(Failed) => return Err(ScanFault::Write),
         }
@@ -107,13 +106,12 @@ pub fn scan_file<E: Engine, S: Store, O: Sink, L: Ledger>(
 }
 
 /// Scans the bytes of a piece. The lines of the reports that they decide are written, or wait.
-fn scan_piece<E: Engine, O: Sink, L: Ledger>(
+fn scan_piece<E: Engine, O: Sink>(
     program: &Program<E>,
     scan: &mut Scan,
     bytes: &[u8],
     out: &mut O,
     pending: &mut Pending,
-    steps: &mut Steps<L>,
 ) -> Result<(), Failed>
     requires runnable { IsRunnable E.width program.now }
     requires ready { IsReady E.well program.now scan.old }
@@ -126,12 +124,46 @@ fn scan_piece<E: Engine, O: Sink, L: Ledger>(
     ensures counted { OnOk result (O.faults out.new ≡ O.faults out.old) }
     ensures failed { OnErr result (Rose (O.faults out.old) (O.faults out.new)) }
 {
+    scan_counted::<E, O, Brand>(program, scan, bytes, out, pending, Blank::new(1))
+}
+
+/// Scans the bytes of a piece, and counts the steps of engines in a ledger of its own.
+fn scan_counted<E: Engine, O: Sink, L: Ledger>(
+    program: &Program<E>,
+    scan: &mut Scan,
+    bytes: &[u8],
+    out: &mut O,
+    pending: &mut Pending,
+    blank: Blank,
+) -> Result<(), Failed>
+    requires runnable { IsRunnable E.width program.now }
+    requires ready { IsReady E.well program.now scan.old }
+    requires room { offset_of scan.old + length bytes.now ≤ greatest_offset }
+    requires name { blank.name ≡ L.name }
+    requires parts { blank.parts ≡ L.parts }
+    requires some { 0 < L.parts }
+    ensures ready { IsReady E.well program.now scan.new }
+    ensures offset { offset_of scan.new ≡ offset_of scan.old + length bytes.now }
+    ensures scanned { MatchResult result
+        (λ _. IsScanned (Stands E.is_for E.field program.now) scan.old scan.new bytes.now (O.written out.old) (O.written out.new) pending.old pending.new)
+        (λ _. IsCutShort (Stands E.is_for E.field program.now) scan.old bytes.now (O.written out.old) (O.written out.new) pending.old) }
+    ensures counted { OnOk result (O.faults out.new ≡ O.faults out.old) }
+    ensures failed { OnErr result (Rose (O.faults out.old) (O.faults out.new)) }
+{
+    let mut steps = Steps::<L>::open(blank);
     let mut lines = ReportLines {
         out,
         pending,
         failed: false,
     };
-    feed(program, &mut scan.state, &mut scan.scratch, bytes, &mut lines, steps);
+    feed(
+        program,
+        &mut scan.state,
+        &mut scan.scratch,
+        bytes,
+        &mut lines,
+        &mut steps,
+    );
     if lines.failed { Err(Failed) } else { Ok(()) }
 }
 

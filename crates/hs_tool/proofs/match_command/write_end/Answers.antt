@@ -1,5 +1,5 @@
 use Rattle.std.proofs.lemmas.Result.{on_err_weaker}
-use Rattle.hs_tool.proofs.AnswerLemmas.{passes-then_cut}
+use Rattle.hs_tool.proofs.PassLemmas.{passes-then_cut}
 use Rattle.hs_tool.proofs.match_command.write_end.Goals as goal
 
 pub returns-in-Ok-clause-cut : goal.returns-in-Ok-clause-cut
