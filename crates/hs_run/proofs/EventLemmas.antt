@@ -3,7 +3,7 @@ use Rattle.std.proofs.Common.{◌≡◌, ℕ, Bool, true, false, List, [], ◌�
 use Rattle.std.proofs.lemmas.List.{append-nil}
 use Rattle.hs_base.specs.Told.{Pair}
 use Rattle.hs_base.proofs.PairListLemmas.{one_told}
-use Rattle.hs_run.specs.Events.{Through, still, onward, Takes}
+use Rattle.hs_run.specs.Events.{Through, still, onward}
 
 module _ {V : Type 0} (Tells : V → ℕ → ℕ → V → Type 0) where
   pub through-one : (value : Bool) (id to : ℕ) (start end : V) → value ≡ true → Tells start id to end → Through Tells start (one_told value id to) end

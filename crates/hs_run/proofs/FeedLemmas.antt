@@ -1,15 +1,14 @@
 -- What one byte, many bytes and the end make of a state, over plain values.
-use Rattle.std.proofs.Common.{◌≡◌, ◌↔◌, ℕ, zero, suc, ◌+◌, ◌-◌, Bool, true, List, [], ◌∷◌, ◌++◌, length, map, eqb, Some, slice_get, refl, sym, ap, subst, ◌∙◌, inl, inr, arith, append_assoc}
+use Rattle.std.proofs.Common.{◌≡◌, ◌↔◌, ℕ, zero, suc, ◌+◌, ◌-◌, Bool, true, List, [], ◌∷◌, ◌++◌, length, eqb, Some, slice_get, sym, ap, subst, ◌∙◌, inl, inr, arith, append_assoc}
 use Rattle.std.proofs.lemmas.List.{append-nil}
 use Rattle.std.proofs.lemmas.Option.{same_Some, slice_get_within}
-use Rattle.hs_base.specs.declared.context.Prev.{Prev}
 use Rattle.hs_base.specs.Assertions.{line_feed, is_word_byte}
-use Rattle.hs_base.specs.Contexts.{prev_at, prev_by}
-use Rattle.hs_base.specs.Lists.{Each, IsMember}
+use Rattle.hs_base.specs.Contexts.{prev_by}
+use Rattle.hs_base.specs.Lists.{IsMember}
 use Rattle.hs_base.specs.Trees.{Tree}
-use Rattle.hs_base.specs.Patterns.{Pattern, is_single}
-use Rattle.hs_base.specs.Told.{Pair, IsTold, IsNew, IsLast}
-use Rattle.hs_base.specs.Settling.{Kept, Ends, AreEnds, IsKept, IsLeftToEnd, AreIdentifiers, settled, tells_end}
+use Rattle.hs_base.specs.Patterns.{Pattern}
+use Rattle.hs_base.specs.Told.{Pair, IsNew, IsLast}
+use Rattle.hs_base.specs.Settling.{IsKept, IsLeftToEnd, AreIdentifiers, tells_end}
 use Rattle.hs_base.proofs.ListLemmas.{each-of_members}
 use Rattle.hs_base.proofs.NewLemmas.{new_nothing, told_more}
 use Rattle.hs_base.proofs.ToldLemmas.{new-joins}
@@ -25,10 +24,10 @@ use Rattle.hs_run.specs.declared.state.Kept.{Kept as KeptOf}
 use Rattle.hs_run.specs.declared.state.State.{State}
 use Rattle.hs_run.specs.declared.reporting.Moment.TheVariants.{BeforeByte, BehindByte, BeforeLastByte, AtEnd}
 use Rattle.hs_run.specs.Events.{Through, Takes, still}
-use Rattle.hs_run.specs.States.{Runs, IsStateOf, kept_of}
-use Rattle.hs_run.specs.Running.{IsAt, AreMoved, AreLastEnds, MovesRoles, EndsRoles, ends_of}
-use Rattle.hs_run.specs.Reporting.{tells, values_of, pairs_at, AreSettled}
-use Rattle.hs_run.specs.Feeding.{IsFed, Feeds, Finishes}
+use Rattle.hs_run.specs.States.{IsStateOf, kept_of}
+use Rattle.hs_run.specs.Running.{IsAt, MovesRoles, EndsRoles, ends_of}
+use Rattle.hs_run.specs.Reporting.{values_of, pairs_at, AreSettled}
+use Rattle.hs_run.specs.Feeding.{Feeds, Finishes}
 use Rattle.hs_run.proofs.StreamLemmas.{length-push, prev-push}
 use Rattle.hs_run.proofs.PartLemmas.{there}
 use Rattle.hs_run.proofs.EventLemmas.{through-join}

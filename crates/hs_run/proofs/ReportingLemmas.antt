@@ -3,8 +3,7 @@ use Rattle.std.proofs.Common.{◌≡◌, ◌↔◌, ℕ, zero, suc, ◌+◌, ◌
 use Rattle.std.proofs.lemmas.List.{length-map}
 use Rattle.std.specs.Prelude.{option_map}
 use Rattle.std.proofs.lemmas.Option.{same_Some, slice_get-map, slice_get_within}
-use Rattle.hs_base.specs.declared.entry.ExprId.{ExprId}
-use Rattle.hs_base.specs.Settling.{Kept, Ends, pairs_told}
+use Rattle.hs_base.specs.Settling.{pairs_told}
 use Rattle.hs_base.proofs.PairListLemmas.{one_told, pairs-next, Tell}
 use Rattle.hs_rose.specs.declared.program.Identifier.{Identifier}
 use Rattle.hs_rose.specs.Roles.{ids_of}

@@ -5,7 +5,7 @@ use Rattle.hs_base.specs.declared.context.Prev.{Prev}
 use Rattle.hs_base.specs.declared.context.Next.{Next}
 use Rattle.hs_base.specs.declared.context.NextSet.{NextSet}
 use Rattle.hs_base.specs.Assertions.{line_feed}
-use Rattle.hs_base.specs.Contexts.{Context, prev_at, context_of, then_bytes, then_ended}
+use Rattle.hs_base.specs.Contexts.{context_of, then_bytes, then_ended}
 use Rattle.hs_base.specs.ContextSets.{has_next, has_context}
 use Rattle.hs_base.specs.Fields.{Leaves, entered_always}
 use Rattle.hs_base.specs.Patterns.{Pattern}

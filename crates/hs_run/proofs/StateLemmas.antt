@@ -11,11 +11,20 @@ use Rattle.hs_base.specs.Trees.{Tree}
 use Rattle.hs_rose.specs.declared.program.Program.{Program}
 use Rattle.hs_rose.specs.declared.program.Role.{Role}
 use Rattle.hs_rose.specs.Programs.{roles_of, identifiers_of, starts_of, region_len_of}
+use Rattle.hs_rose.specs.Roles.{AreStartsOf}
+use Rattle.hs_rose.proofs.RoleLemmas.{named}
 use Rattle.hs_run.specs.declared.state.State.{State}
 use Rattle.hs_run.specs.States.{IsRunnable, Runs, IsStateOf, kept_of}
 use Rattle.hs_run.specs.Running.{IsLaid, AreNamed, AreStarted}
 use Rattle.hs_run.proofs.PartLemmas.{laid-starts}
 use Rattle.hs_run.proofs.ReportingLemmas.{nothing}
+
+-- A program that runs some patterns can be run.
+pub runnable : {E : Type 0} (IsFor : E → Tree → Type 0) (width : E → ℕ) (program : Program E) (P : List Pattern) → Runs IsFor program P → AreStartsOf width (roles_of program) (starts_of program) → IsRunnable width program
+runnable IsFor width program P runs starts = record {
+  starts = starts;
+  named = named IsFor (roles_of program) (identifiers_of program) P runs;
+}
 
 module _ {E : Type 0} (width : E → ℕ) (program : Program E) (runs : IsRunnable width program) (roles : List (Role E)) (starts : List ℕ)
     (are_roles : roles ≡ roles_of program) (are_starts : starts ≡ starts_of program) where

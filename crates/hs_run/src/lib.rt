@@ -13,7 +13,6 @@ mod state;
 mod tests;
 
 pub use collected::Collected;
-pub use ends::Ends;
 pub use events::Events;
 pub use runner::{feed, finish};
 pub use scratch::Scratch;

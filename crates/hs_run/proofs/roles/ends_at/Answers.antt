@@ -1,7 +1,7 @@
 use Rattle.std.proofs.Common.{arith}
 use Rattle.hs_base.specs.Fields.{entered_always}
 use Rattle.hs_run.proofs.StreamLemmas.{always-length}
-use Rattle.hs_run.proofs.RoleLemmas.{ends-within, ends-outside}
+use Rattle.hs_run.proofs.RoleLemmas.{ends-within}
 use Rattle.hs_run.proofs.roles.ends_at.Goals as goal
 
 pub returns : goal.returns

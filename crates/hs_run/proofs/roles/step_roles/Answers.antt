@@ -1,12 +1,9 @@
-use Rattle.std.proofs.Common.{◌≡◌, ℕ, ◌+◌, ◌-◌, ◌<◌, ◌≤◌, List, [], ◌∷◌, ◌++◌, length, get_or, take, set, Some, slice_get, refl, sym, ap, subst, ◌∙◌, inl, inr, arith, rules}
-use Rattle.std.proofs.lemmas.Bool.{cases_lt, cases_eq}
+use Rattle.std.proofs.Common.{◌≡◌, ℕ, ◌+◌, ◌<◌, List, [], ◌∷◌, ◌++◌, length, get_or, take, Some, slice_get, refl, sym, ap, subst, ◌∙◌, inl, inr, arith}
+use Rattle.std.proofs.lemmas.Bool.{cases_eq}
 use Rattle.std.proofs.lemmas.Option.{slice_get_read, slice_get-get_or, slice_get_within, same_Some}
 use Rattle.std.proofs.lemmas.List.{length-set}
 use Rattle.std.proofs.Math.Seq.{take-length}
 use Rattle.hs_base.specs.Fields.{entered_always}
-use Rattle.hs_base.specs.Patterns.{Pattern}
-use Rattle.hs_rose.specs.declared.program.Role.{Role}
-use Rattle.hs_rose.specs.declared.program.Identifier.{Identifier}
 use Rattle.hs_run.specs.States.{part_of}
 use Rattle.hs_run.specs.Running.{AreEndsAbout, no_ends}
 use Rattle.hs_run.proofs.PartLemmas.{there, part-length, part-written, part-other, written, length-written}

@@ -1,7 +1,6 @@
-use Rattle.std.proofs.Common.{◌≡◌, ℕ, ◌+◌, ◌*◌, [], ◌∷◌, length, take, get_or, refl, sym, ap, subst, ◌∙◌, arith}
+use Rattle.std.proofs.Common.{◌≡◌, ℕ, [], ◌∷◌, length, take, get_or, sym, ap, subst, ◌∙◌, arith}
 use Rattle.std.proofs.lemmas.List.{take_more}
 use Rattle.std.proofs.Math.Seq.{take-length}
-use Rattle.hs_rose.specs.Programs.{roles_of}
 use Rattle.hs_run.specs.Events.{Takes}
 use Rattle.hs_run.specs.Feeding.{Feeds}
 use Rattle.hs_run.proofs.FeedLemmas.{takes-none, takes-more}

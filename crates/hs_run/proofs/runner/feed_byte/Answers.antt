@@ -2,7 +2,7 @@ use Rattle.std.proofs.Common.{◌≡◌, ℕ, ◌+◌, List, length, refl, sym, 
 use Rattle.std.specs.Vec.{with_items}
 use Rattle.std.proofs.lemmas.List.{with_items_is}
 use Rattle.hs_rose.specs.declared.program.Identifier.{Identifier}
-use Rattle.hs_rose.specs.Programs.{roles_of, identifiers_of, starts_of, region_len_of}
+use Rattle.hs_rose.specs.Programs.{roles_of, identifiers_of, starts_of}
 use Rattle.hs_run.specs.declared.ends.Ends.{Ends as EndsAbout}
 use Rattle.hs_run.specs.declared.reporting.Moment.TheVariants.{BeforeByte, BehindByte}
 use Rattle.hs_run.specs.declared.state.Kept.{Kept as KeptOf}

@@ -1,8 +1,8 @@
-use Rattle.std.proofs.Common.{◌≡◌, ◌∙◌, ℕ, List, [], length, refl, sym, ap, subst}
+use Rattle.std.proofs.Common.{◌≡◌, ◌∙◌, ℕ, List, length, refl, sym, ap, subst}
 use Rattle.std.specs.Vec.{with_items}
 use Rattle.std.proofs.lemmas.List.{with_items_is}
 use Rattle.hs_base.specs.declared.context.Prev.TheVariants as before
-use Rattle.hs_rose.specs.Programs.{roles_of, starts_of, region_len_of}
+use Rattle.hs_rose.specs.Programs.{starts_of}
 use Rattle.hs_run.specs.declared.state.State.{State}
 use Rattle.hs_run.specs.Running.{AreWell, AreStarted}
 use Rattle.hs_run.proofs.StateLemmas.{program-laid, start-state}
