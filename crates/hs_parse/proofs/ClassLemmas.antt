@@ -169,11 +169,11 @@ same_views (by_items n tests here items stop s j) (by_name m t k) = absurd cc
 same_views {text = text} {at = at} (by_items n tests here items stop s j) (by_items m others there more end t k) =
     let same = one_items items stop more end in
     let token : token_of text at tests (item_at text (start_of text at) here)
-        ≡ token_of text at others (item_at text (start_of text at) there) =
-        ap (λ xs. token_of text at xs (item_at text (start_of text at) here)) same.tests
-        ∙ ap (λ x. token_of text at others (item_at text (start_of text at) x)) same.end in
+    ≡ token_of text at others (item_at text (start_of text at) there) =
+    ap (λ xs. token_of text at xs (item_at text (start_of text at) here)) same.tests
+    ∙ ap (λ x. token_of text at others (item_at text (start_of text at) x)) same.end in
     let place : end_of at here (item_at text (start_of text at) here) ≡ end_of at there (item_at text (start_of text at) there) =
-        ap (λ x. end_of at x (item_at text (start_of text at) x)) same.end in
+    ap (λ x. end_of at x (item_at text (start_of text at) x)) same.end in
     record { token = s ∙ token ∙ sym t; end = j ∙ place ∙ sym k }
 
 -- a class is read in one way

@@ -141,7 +141,7 @@ pub all_alternatives :
 all_alternatives text flags depth start at end before after sequence result so_far read other e same =
     let whole = so_far.more (sequence_tree read.trees ∷ []) end (last read.whole) in
     let trees : map tree_of after ≡ map tree_of before ++ sequence_tree read.trees ∷ [] =
-        ap (map tree_of) e ∙ map_push tree_of before sequence ∙ ap (λ t. map tree_of before ++ t ∷ []) read.is in
+    ap (map tree_of) e ∙ map_push tree_of before sequence ∙ ap (λ t. map tree_of before ++ t ∷ []) read.is in
     record {
       trees = map tree_of before ++ sequence_tree read.trees ∷ [];
       whole = whole;
@@ -278,7 +278,7 @@ pub repeated_read :
     ReadsItem text flags depth at (tree_of (Repeat body n m)) (middle + 1)
 repeated_read text flags depth at middle n m atom body read q bare e =
     let tree : tree_of (Repeat body n m) ≡ repeat (tree_of atom) n m =
-        tree-repeat body n m ∙ ap (λ x. repeat (tree_of x) n m) e in
+    tree-repeat body n m ∙ ap (λ x. repeat (tree_of x) n m) e in
     record {
       whole = subst (λ t. Item text depth flags at t (middle + 1)) (sym tree) (repeated read.whole q);
       bare = bare;

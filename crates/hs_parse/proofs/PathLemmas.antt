@@ -109,7 +109,6 @@ not_both {text = text} {flags = flags} reads (stopped h stop) =
 pub never_both : NeverBoth
 never_both text flags tree refusal reads fault = not_both reads fault.has
 
-
 same_stops : {at to : ℕ} {r s : Refusal} → stops at r ≡ stops to s → (at ≡ to) × (r ≡ s)
 same_stops e = (cc, cc)
 

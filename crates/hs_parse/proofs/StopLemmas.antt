@@ -21,17 +21,19 @@ stop_now :
     (text : List ℕ) (flags : Flags) (depth at end place : ℕ) (token : Token) (refusal : Refusal) →
     TokenAt text flags at token end →
     ((outside : List Options) (before : Before) → length outside ≡ depth → IsReady text flags at before →
-        move token end (state at flags outside before) ≡ stops place refusal) →
+    move token end (state at flags outside before) ≡ stops place refusal) →
     StopsFrom text flags depth at (fault.Refused refusal)
-stop_now text flags depth at end place token refusal there m outside before h ready run =
-    (place, record {
-      last = state at flags outside before;
-      run = run;
-      token = token;
-      end = end;
-      there = there;
-      stopped = m outside before h ready;
-    })
+stop_now text flags depth at end place token refusal there m outside before h ready run = (
+  place,
+  record {
+    last = state at flags outside before;
+    run = run;
+    token = token;
+    end = end;
+    there = there;
+    stopped = m outside before h ready;
+  },
+)
 
 -- at a form that is refused
 pub faulty_stops :
@@ -146,30 +148,34 @@ pub unclosed_stops :
     StopsFrom text flags depth at (fault.Refused (Syntax close))
 unclosed_stops text flags depth at inner close end trees below there whole ended outside before h ready run =
     let inside = alternation_runs whole (flags ∷ outside) beginning (omega arith) in
-    let opened = one_step there (opens_group at inner flags outside before (omega arith)) in
-    (close, record {
-      last = state close flags (flags ∷ outside) inside.after;
-      run = run_then run (run_then opened inside.run);
-      token = Token.ending;
-      end = end;
-      there = ended;
-      stopped = refl;
-    })
+    let opened = one_step there (opens_group at inner flags outside before (omega arith)) in (
+      close,
+      record {
+        last = state close flags (flags ∷ outside) inside.after;
+        run = run_then run (run_then opened inside.run);
+        token = Token.ending;
+        end = end;
+        there = ended;
+        stopped = refl;
+      },
+    )
 
 -- a quantifier behind another one
 pub twice_stops :
     (text : List ℕ) (flags : Flags) (depth at middle end n : ℕ) (m : Option ℕ) (tree : Tree) (refusal : Refusal) →
     Atom text depth flags at tree middle → Quantifier text flags middle n m end → StopsBehind text flags end refusal →
     StopsFrom text flags depth at (fault.Refused refusal)
-twice_stops text flags depth at middle end n m tree refusal a q behind outside before h ready run =
-    (end, record {
-      last = state end flags outside quantifier;
-      run = run_then run (run_then (atom_runs a outside before h) (quantifier_runs q outside));
-      token = behind.token;
-      end = behind.end;
-      there = behind.there;
-      stopped = behind.stopped outside;
-    })
+twice_stops text flags depth at middle end n m tree refusal a q behind outside before h ready run = (
+  end,
+  record {
+    last = state end flags outside quantifier;
+    run = run_then run (run_then (atom_runs a outside before h) (quantifier_runs q outside));
+    token = behind.token;
+    end = behind.end;
+    there = behind.there;
+    stopped = behind.stopped outside;
+  },
+)
 
 -- a reading that comes to a place and stops later
 pub passes_stops :

@@ -32,11 +32,7 @@ fn start_of(text: &[u8], at: usize) -> usize
     requires { at < MAX_TEXT_LEN }
     ensures { result ≡ start_of text.now at }
 {
-    if is_negated(text, at) {
-        at + 2
-    } else {
-        at + 1
-    }
+    if is_negated(text, at) { at + 2 } else { at + 1 }
 }
 
 /// The bytes of the class that begins at a place, by those that its items have.

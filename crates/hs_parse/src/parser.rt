@@ -212,9 +212,7 @@ fn second_quantifier_at(text: &[u8], flags: Flags, at: usize) -> Option<Refusal>
 {
     match role_at(text, at) {
         Role::Star => Some(Refusal::Syntax(at as u32)),
-        Role::Plus | Role::Question => {
-            Some(Refusal::Unsupported(Construct::Later, at as u32))
-        }
+        Role::Plus | Role::Question => { Some(Refusal::Unsupported(Construct::Later, at as u32)) }
         Role::End
         | Role::Any
         | Role::Literal

@@ -10,7 +10,10 @@ fn write_set(out: &mut Vec<u8>, set: &ByteSet) -> Result<(), Fail> {
         out.push(b'_')?;
         return Ok(());
     }
-    let alone = set.iter().count() == 1;
+    let alone = set
+        .iter()
+        .next()
+        .is_some_and(|first| *set == ByteSet::of(first));
     if !alone {
         out.push(b'[')?;
     }
@@ -269,7 +272,10 @@ fn check_trees(rt: &impl Abort, alloc: Global, rows: &[(&[u8], &[u8])]) -> Resul
         let expr = parse(alloc, text, Flags::NONE)?;
         let mut written = Vec::new(alloc);
         write_tree(&mut written, &expr)?;
-        assert!(rt; written.as_slice() == *tree, "{text:?} is read as {written:?}");
+        assert!(rt;
+            written.as_slice() == *tree,
+            "{text:?} is read as {written:?}"
+        );
     }
     Ok(())
 }
@@ -316,9 +322,24 @@ const LONG: [(usize, u8, &[u8], Option<Refusal>); 14] = [
     (16_000, b'|', b"", None),
     (128, b'(', b"", Some(Refusal::Syntax(128))),
     (129, b'(', b"", Some(Refusal::DepthLimit)),
-    (128, b'(', b"(?:", Some(Refusal::Unsupported(Construct::Later, 128))),
-    (128, b'(', b"(*", Some(Refusal::Unsupported(Construct::Later, 128))),
-    (127, b'(', b"a)(b))((*", Some(Refusal::Unsupported(Construct::Later, 134))),
+    (
+        128,
+        b'(',
+        b"(?:",
+        Some(Refusal::Unsupported(Construct::Later, 128)),
+    ),
+    (
+        128,
+        b'(',
+        b"(*",
+        Some(Refusal::Unsupported(Construct::Later, 128)),
+    ),
+    (
+        127,
+        b'(',
+        b"a)(b))((*",
+        Some(Refusal::Unsupported(Construct::Later, 134)),
+    ),
     (128, b'(', b"a)(b", Some(Refusal::Syntax(132))),
     (16_000, b'(', b"", Some(Refusal::DepthLimit)),
 ];
@@ -345,7 +366,10 @@ fn closes_as_many_groups_as_open(rt: HostRuntime) -> Result<(), Fail> {
     let expr = parse(rt.alloc(), &text, Flags::NONE)?;
     let mut written = Vec::new(rt.alloc());
     write_tree(&mut written, &expr)?;
-    assert!(rt; written.as_slice() == b"a".as_slice(), "read as {written:?}");
+    assert!(rt;
+        written.as_slice() == b"a".as_slice(),
+        "read as {written:?}"
+    );
     Ok(())
 }
 
@@ -353,11 +377,8 @@ fn closes_as_many_groups_as_open(rt: HostRuntime) -> Result<(), Fail> {
 fn children(expr: &Expr) -> usize {
     match expr {
         Expr::Cat(items) | Expr::Alt(items) => items.len(),
-        Expr::Empty
-        | Expr::Class(_)
-        | Expr::Points(_)
-        | Expr::Assert(_)
-        | Expr::Repeat(_, _, _) => 0,
+        Expr::Empty | Expr::Class(_) | Expr::Points(_) | Expr::Assert(_) | Expr::Repeat(_, _, _) =>
+            0,
     }
 }
 
@@ -392,7 +413,10 @@ fn looks_at_no_flag(rt: HostRuntime) -> Result<(), Fail> {
         let expr = parse(rt.alloc(), b"a.[b]", Flags(flags))?;
         let mut written = Vec::new(rt.alloc());
         write_tree(&mut written, &expr)?;
-        assert!(rt; written.as_slice() == b"(a_b)".as_slice(), "under flags {flags}");
+        assert!(rt;
+            written.as_slice() == b"(a_b)".as_slice(),
+            "under flags {flags}"
+        );
     }
     Ok(())
 }
