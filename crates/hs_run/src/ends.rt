@@ -49,7 +49,7 @@ impl Ends {
 
     /// Adds the matches of an expression that end at the end of the stream, by what may come next where they end.
     pub fn note_end(&mut self, behind: NextSet)
-        ensures { self.new.behind ≡ (self.old.behind || has_next behind after.End) }
+        ensures { self.new ≡ record self.old { behind = self.old.behind || has_next behind after.End } }
     {
         self.behind |= behind.contains(Next::End);
     }
