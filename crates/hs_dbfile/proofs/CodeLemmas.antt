@@ -1,7 +1,8 @@
 -- Codes: what is read once, codes of pairs, and where reading a pair stops.
-use Rattle.std.proofs.Common.{◌≡◌, ℕ, suc, ◌+◌, ◌<◌, ◌≤◌, List, [], ◌∷◌, ◌++◌, length, refl, sym, ap, ◌∙◌, subst, append_assoc, append-nil, arith}
-use Rattle.std.proofs.lemmas.List.{length-append}
-use Rattle.hs_dbfile.specs.Reading.{IsRead, SameFirst, neither, same, Stops}
+use Rattle.std.proofs.Common.{◌≡◌, ℕ, suc, ◌+◌, ◌<◌, ◌≤◌, List, [], ◌∷◌, ◌++◌, length, refl, sym, ap, ◌∙◌, subst, append_assoc, append-nil, arith, Result, Ok, Err, MatchResult}
+use Rattle.std.specs.Result.{IsErrAnd}
+use Rattle.std.proofs.lemmas.List.{length-append, append_cancel_left}
+use Rattle.hs_dbfile.specs.Reading.{IsRead, SameFirst, neither, same, Stops, always, Always}
 
 -- two pairs of equal parts
 pub record AreSame {A : Type 0} (a b : A) (x y : List ℕ) : Type 0 where
@@ -43,14 +44,14 @@ pair_once {A = A} {B = B} f P g Q once then a b x y p q e =
     }
 
 -- where no first value stands, no pair does
-pub stops_first : {A B : Type 0} (f : A → List ℕ) (P : A → Type 0) (g : B → List ℕ) (Q : A → B → Type 0) (fill : B) (bytes rest : List ℕ) → ((a : A) → P a → Q a fill) → Stops f P bytes rest → Stops (pair_bytes f g) (ArePair P Q) bytes rest
+pub stops_first : {A B : Type 0} (f : A → List ℕ) (P : A → Type 0) (g : B → List ℕ) (Q : A → B → Type 0) (fill : A → B) (bytes rest : List ℕ) → ((a : A) → P a → Q a (fill a)) → Stops f P bytes rest → Stops (pair_bytes f g) (ArePair P Q) bytes rest
 stops_first f P g Q fill bytes rest filled s = record {
   front = s.front;
   parts = s.parts;
-  value = (s.value, fill);
-  more = s.more ++ g fill;
+  value = (s.value, fill s.value);
+  more = s.more ++ g (fill s.value);
   allowed = record { first = s.allowed; second = filled s.value s.allowed };
-  begins = ap (λ xs. xs ++ g fill) s.begins ∙ append_assoc s.front s.more (g fill);
+  begins = ap (λ xs. xs ++ g (fill s.value)) s.begins ∙ append_assoc s.front s.more (g (fill s.value));
   refused = λ others other behind first p e. s.refused others other.0 (g other.1 ++ behind) first p.first (e ∙ append_assoc (f other.0) (g other.1) behind);
 }
 
@@ -112,3 +113,24 @@ reads_as f P g Q bytes rest a is read = record {
   parts = read.parts ∙ ap (λ xs. xs ++ rest) (sym (is.to_bytes a read.allowed));
   allowed = is.to_allowed a read.allowed;
 }
+
+-- fewer values of a code are read once too
+pub once_weaken : {A : Type 0} (f : A → List ℕ) (P Q : A → Type 0) → ((a : A) → Q a → P a) → Once f P → Once f Q
+once_weaken f P Q allowed once a b x y p q e = once a b x y (allowed a p) (allowed b q) e
+
+pub always_once : (bytes : List ℕ) → Once (always bytes) Always
+always_once bytes a b x y p q e = record { value = refl; rest = append_cancel_left bytes x y e }
+
+-- both sides of a result, weakened
+pub match_weaken : {T E : Type 0} (r : Result T E) (P P' : T → Type 0) (Q Q' : E → Type 0) → ((x : T) → P x → P' x) → ((e : E) → Q e → Q' e) → MatchResult r P Q → MatchResult r P' Q'
+match_weaken (Ok x) P P' Q Q' p q h = p x h
+match_weaken (Err e) P P' Q Q' p q h = q e h
+
+-- what the exit of a `?` gives, where the error stays as it is
+pub when_err : {T E : Type 0} (r : Result T E) (e : E) (P : T → Type 0) (Q : E → Type 0) → IsErrAnd r (λ y. y ≡ e) → Q e → MatchResult r P Q
+when_err (Ok x) e P Q h q = absurd h
+when_err (Err y) e P Q h q = subst Q (sym h) q
+
+pub same_first : (xs : List ℕ) → SameFirst xs xs
+same_first [] = neither
+same_first (x ∷ xs) = same

@@ -1,2 +1,5 @@
 pub mod CodeLemmas
 pub mod NumberLemmas
+pub mod FieldLemmas
+pub mod EntryLemmas
+pub mod FileLemmas

@@ -13,38 +13,34 @@ use Rattle.hs_dbfile.proofs.CodeLemmas.{AreSame, Once, cut_same}
 abbrev pub AreBytes : List ℕ → Type 0
 AreBytes xs = (i : ℕ) → get_or xs i 0 < 256
 
--- a code of numbers below the limit, by so many bytes
-pub record IsNumberCode (code : ℕ → List ℕ) (size limit : ℕ) : Type 0 where
+-- a code of numbers below the limit, by so many bytes, and the number that bytes are
+pub record IsNumberCode (code : ℕ → List ℕ) (value : List ℕ → ℕ) (size limit : ℕ) : Type 0 where
   pub sized : (n : ℕ) → length (code n) ≡ size
-  pub value : List ℕ → ℕ
   pub small : (bytes : List ℕ) → length bytes ≡ size → AreBytes bytes → value bytes < limit
-  pub spelled : (bytes : List ℕ) → length bytes ≡ size → AreBytes bytes → code (value bytes) ≡ bytes
+  pub spelled : (bytes : List ℕ) (n : ℕ) → length bytes ≡ size → AreBytes bytes → n ≡ value bytes → code n ≡ bytes
   pub again : (n : ℕ) → n < limit → value (code n) ≡ n
 
-pub code_16 : IsNumberCode (to_le_bytes w16) 2 (2 ^ 16)
+pub code_16 : IsNumberCode (to_le_bytes w16) (from_le_bytes w16) 2 (2 ^ 16)
 code_16 = record {
   sized = λ n. refl;
-  value = from_le_bytes w16;
   small = λ bytes sized fits. omega (arith, fits 0, fits 1);
-  spelled = λ bytes sized fits. le_bytes_2 bytes _ sized fits refl;
+  spelled = λ bytes n sized fits is. le_bytes_2 bytes n sized fits is;
   again = λ n below. from_le_bytes-to_le_bytes_2 n below;
 }
 
-pub code_32 : IsNumberCode (to_le_bytes w32) 4 (2 ^ 32)
+pub code_32 : IsNumberCode (to_le_bytes w32) (from_le_bytes w32) 4 (2 ^ 32)
 code_32 = record {
   sized = λ n. refl;
-  value = from_le_bytes w32;
   small = λ bytes sized fits. omega (arith, fits 0, fits 1, fits 2, fits 3);
-  spelled = λ bytes sized fits. le_bytes_4 bytes _ sized fits refl;
+  spelled = λ bytes n sized fits is. le_bytes_4 bytes n sized fits is;
   again = λ n below. from_le_bytes-to_le_bytes_4 n below;
 }
 
-pub code_64 : IsNumberCode (to_le_bytes w64) 8 (2 ^ 64)
+pub code_64 : IsNumberCode (to_le_bytes w64) (from_le_bytes w64) 8 (2 ^ 64)
 code_64 = record {
   sized = λ n. refl;
-  value = from_le_bytes w64;
   small = λ bytes sized fits. omega (arith, fits 0, fits 1, fits 2, fits 3, fits 4, fits 5, fits 6, fits 7);
-  spelled = λ bytes sized fits. le_bytes_8 bytes _ sized fits refl;
+  spelled = λ bytes n sized fits is. le_bytes_8 bytes n sized fits is;
   again = λ n below. from_le_bytes-to_le_bytes_8 n below;
 }
 
@@ -52,53 +48,71 @@ code_64 = record {
 abbrev pub IsBelow : ℕ → ℕ → Type 0
 IsBelow limit n = n < limit
 
-pub number_once : (code : ℕ → List ℕ) (size limit : ℕ) → IsNumberCode code size limit → Once code (IsBelow limit)
-number_once code size limit is a b x y p q e =
+pub number_once : (code : ℕ → List ℕ) (value : List ℕ → ℕ) (size limit : ℕ) → IsNumberCode code value size limit → Once code (IsBelow limit)
+number_once code value size limit is a b x y p q e =
     let both = cut_same (code a) (code b) x y (is.sized a ∙ sym (is.sized b)) e in
-    record { value = sym (is.again a p) ∙ ap is.value both.0 ∙ is.again b q; rest = both.1 }
+    record { value = sym (is.again a p) ∙ ap value both.0 ∙ is.again b q; rest = both.1 }
 
-bytes_behind : (xs : List ℕ) (n : ℕ) → AreBytes xs → AreBytes (xs ++ replicate n 0)
-bytes_behind [] zero fits i = fits i
-bytes_behind [] (suc n) fits zero = omega arith
-bytes_behind [] (suc n) fits (suc i) = bytes_behind [] n fits i
-bytes_behind (x ∷ xs) n fits zero = fits 0
-bytes_behind (x ∷ xs) n fits (suc i) = bytes_behind xs n (λ k. fits (suc k)) i
+abbrev pub zeros : ℕ → List ℕ
+zeros n = replicate n 0
 
-length_replicate : (n : ℕ) → length (replicate n 0) ≡ n
-length_replicate zero = refl
-length_replicate (suc n) = let e = length_replicate n in omega (arith, e)
+pub length_zeros : (n : ℕ) → length (zeros n) ≡ n
+length_zeros zero = refl
+length_zeros (suc n) = let e = length_zeros n in omega (arith, e)
 
--- what is too short is longer with the code of any value behind it
-pub too_short : (bytes code behind : List ℕ) → length bytes < length code → bytes ++ [] ≡ code ++ behind → ⊥
-too_short bytes code behind short e =
+pub zeros_behind : (xs : List ℕ) (n : ℕ) → AreBytes xs → AreBytes (xs ++ zeros n)
+zeros_behind [] zero fits i = fits i
+zeros_behind [] (suc n) fits zero = omega arith
+zeros_behind [] (suc n) fits (suc i) = zeros_behind [] n fits i
+zeros_behind (x ∷ xs) n fits zero = fits 0
+zeros_behind (x ∷ xs) n fits (suc i) = zeros_behind xs n (λ k. fits (suc k)) i
+
+-- with so many zeros behind it, a list has this length
+pub padded_length : (xs : List ℕ) (size : ℕ) → length xs < size → length (xs ++ zeros (size - length xs)) ≡ size
+padded_length xs size short =
+    let both = length-append xs (zeros (size - length xs)) in
+    let behind = length_zeros (size - length xs) in
+    omega (arith, both, behind, short)
+
+-- a longer code doesn't stand where too few bytes are
+pub too_short : (bytes code others behind : List ℕ) → length bytes < length code → SameFirst [] others → bytes ++ others ≡ code ++ behind → ⊥
+too_short bytes code others behind short neither e =
     let l = ap length e in
     let left = length-append bytes [] in
     let right = length-append code behind in
     omega (arith, l, left, right, short)
 
 -- too few bytes begin a number
-pub number_cut : (code : ℕ → List ℕ) (size limit : ℕ) (bytes rest : List ℕ) → IsNumberCode code size limit → AreBytes bytes → length bytes < size → rest ≡ [] → Stops code (IsBelow limit) bytes rest
-number_cut code size limit bytes rest is fits short none =
-    let zeros = replicate (size - length bytes) 0 in
-    let padded = bytes ++ zeros in
-    let long : length padded ≡ size = length-append bytes zeros ∙ ap (λ k. length bytes + k) (length_replicate (size - length bytes)) ∙ omega (arith, short) in
-    let fits-too = bytes_behind bytes (size - length bytes) fits in
+pub number_cut : (code : ℕ → List ℕ) (value : List ℕ → ℕ) (size limit : ℕ) (bytes rest : List ℕ) → IsNumberCode code value size limit → AreBytes bytes → length bytes < size → rest ≡ [] → Stops code (IsBelow limit) bytes rest
+number_cut code value size limit bytes rest is fits short none =
+    let long = padded_length bytes size short in
+    let fits-too = zeros_behind bytes (size - length bytes) fits in
+    let padded : List ℕ = bytes ++ zeros (size - length bytes) in
     subst (λ r. Stops code (IsBelow limit) bytes r) (sym none) (record {
       front = bytes;
       parts = sym (append-nil bytes);
-      value = is.value padded;
-      more = zeros;
+      value = value padded;
+      more = zeros (size - length bytes);
       allowed = is.small padded long fits-too;
-      begins = is.spelled padded long fits-too;
-      refused = λ others other behind first p e. cut_refused code size bytes others other behind is.sized short first e;
+      begins = is.spelled padded (value padded) long fits-too refl;
+      refused = λ others other behind first p e. too_short bytes (code other) others behind (let l = is.sized other in omega (arith, l, short)) first e;
     })
 
-cut_refused : (code : ℕ → List ℕ) (size : ℕ) (bytes others : List ℕ) (other : ℕ) (behind : List ℕ) → ((n : ℕ) → length (code n) ≡ size) → length bytes < size → SameFirst [] others → bytes ++ others ≡ code other ++ behind → ⊥
-cut_refused code size bytes others other behind sized short neither e = too_short bytes (code other) behind (let l = sized other in omega (arith, l, short)) e
+bytes_taken : (n : ℕ) (xs : List ℕ) → AreBytes xs → AreBytes (take n xs)
+bytes_taken n xs fits i =
+    elim (cases_lt i n) [
+      | inl lt ↦ rw (get_or-take n xs i 0 lt) (fits i)
+      | inr le ↦ rw (get_or_past (take n xs) i 0 (let l = length-take n xs in omega (arith, l))) (omega arith)
+    ]
 
 -- as many bytes are one
-pub number_read : (code : ℕ → List ℕ) (size limit : ℕ) (bytes front rest : List ℕ) → IsNumberCode code size limit → (n : ℕ) → AreBytes bytes → code n ≡ front → n < limit → front ≡ take size bytes → rest ≡ drop size bytes → IsRead code (IsBelow limit) bytes n rest
-number_read code size limit bytes front rest is n fits spelled below f r = record {
-  parts = sym (take-append-drop size bytes) ∙ ap (λ xs. xs ++ drop size bytes) (sym (spelled ∙ f)) ∙ ap (λ xs. code n ++ xs) (sym r);
-  allowed = below;
-}
+pub number_read : (code : ℕ → List ℕ) (value : List ℕ → ℕ) (size limit : ℕ) (bytes front rest : List ℕ) (n : ℕ) → IsNumberCode code value size limit → AreBytes bytes → size ≤ length bytes → front ≡ take size bytes → rest ≡ drop size bytes → n ≡ value front → IsRead code (IsBelow limit) bytes n rest
+number_read code value size limit bytes front rest n is fits long f r e =
+    let sized : length (take size bytes) ≡ size = let l = length-take size bytes in omega (arith, l, long) in
+    let taken = bytes_taken size bytes fits in
+    let same-number : n ≡ value (take size bytes) = e ∙ ap value f in
+    let spelled = is.spelled (take size bytes) n sized taken same-number in
+    record {
+      parts = sym (take-append-drop size bytes) ∙ ap (λ xs. xs ++ drop size bytes) (sym spelled) ∙ ap (λ xs. code n ++ xs) (sym r);
+      allowed = subst (λ k. k < limit) (sym same-number) (is.small (take size bytes) sized taken);
+    }
