@@ -9,7 +9,7 @@ use Rattle.hs_base.specs.Lists.{Each}
 use Rattle.hs_dbfile.specs.Files.{text_bytes}
 use Rattle.hs_dbfile.specs.Reading.{IsRead, SameFirst, neither, same, Stops, always, Always, one_byte, IsBound, IsText}
 use Rattle.hs_dbfile.proofs.CodeLemmas.{AreSame, Once, cut_same, pair_bytes, ArePair, pair_once, stops_first, stops_second, reads_pair, IsSameCode, stops_as, once_as, reads_as, once_weaken}
-use Rattle.hs_dbfile.proofs.NumberLemmas.{AreBytes, IsBelow, code_16, code_64, number_once, zeros, length_zeros, zeros_behind, padded_length, too_short}
+use Rattle.hs_dbfile.proofs.NumberLemmas.{AreBytes, IsBelow, code_16, code_64, number_once, zeros, length_zeros, zeros_behind, padded_length, too_short, bytes_left, bytes_taken}
 
 -- ---- flags
 
@@ -185,9 +185,13 @@ pub text_stop_length : (bytes rest : List ℕ) → Stops (to_le_bytes w16) (IsBe
 text_stop_length bytes rest s =
     stops_as _ _ _ _ bytes rest text_same (stops_first (to_le_bytes w16) (IsBelow 65536) itself HasLength zeros bytes rest (λ n p. zeros_text n) s)
 
+bytes_behind : (bytes behind : List ℕ) (n : ℕ) → IsRead (to_le_bytes w16) (IsBelow 65536) bytes n behind → AreBytes bytes → AreBytes behind
+bytes_behind bytes behind n read fits = bytes_left (to_le_bytes w16 n) behind (subst AreBytes read.parts fits)
+
 -- a cut text
-pub text_stop_cut : (bytes behind rest : List ℕ) (n : ℕ) → IsRead (to_le_bytes w16) (IsBelow 65536) bytes n behind → AreBytes behind → length behind < n → rest ≡ [] → Stops text_bytes IsText bytes rest
+pub text_stop_cut : (bytes behind rest : List ℕ) (n : ℕ) → IsRead (to_le_bytes w16) (IsBelow 65536) bytes n behind → AreBytes bytes → length behind < n → rest ≡ [] → Stops text_bytes IsText bytes rest
 text_stop_cut bytes behind rest n read fits short none =
+    let fits-behind = bytes_behind bytes behind n read fits in
     let long = padded_length behind n short in
     let padded : List ℕ = behind ++ zeros (n - length behind) in
     let cut : Stops itself (HasLength n) behind [] = record {
@@ -195,7 +199,7 @@ text_stop_cut bytes behind rest n read fits short none =
       parts = sym (append-nil behind);
       value = padded;
       more = zeros (n - length behind);
-      allowed = record { sized = long; bytes = each_byte padded (zeros_behind behind (n - length behind) fits) };
+      allowed = record { sized = long; bytes = each_byte padded (zeros_behind behind (n - length behind) fits-behind) };
       begins = refl;
       refused = λ others other after first p e. too_short behind other others after (let l = p.sized in omega (arith, l, short)) first e;
     } in
@@ -203,9 +207,23 @@ text_stop_cut bytes behind rest n read fits short none =
     subst (λ r. Stops text_bytes IsText bytes r) (sym none) (stops_as _ _ _ _ bytes [] text_same whole)
 
 -- a text that is there
-pub text_read : (bytes behind text rest : List ℕ) (n : ℕ) → IsRead (to_le_bytes w16) (IsBelow 65536) bytes n behind → AreBytes text → text ≡ take n behind → rest ≡ drop n behind → length text ≡ n → IsRead text_bytes IsText bytes text rest
+pub text_read : (bytes behind text rest : List ℕ) (n : ℕ) → IsRead (to_le_bytes w16) (IsBelow 65536) bytes n behind → AreBytes bytes → text ≡ take n behind → rest ≡ drop n behind → length text ≡ n → IsRead text_bytes IsText bytes text rest
 unfolding text_same
 text_read bytes behind text rest n read fits t r sized =
     let parts : behind ≡ text ++ rest = sym (take-append-drop n behind) ∙ ap (λ xs. xs ++ drop n behind) (sym t) ∙ ap (λ xs. text ++ xs) (sym r) in
-    let second : IsRead itself (HasLength n) behind text rest = record { parts = parts; allowed = record { sized = sized; bytes = each_byte text fits } } in
+    let fits-text : AreBytes text = subst AreBytes (sym t) (bytes_taken n behind (bytes_behind bytes behind n read fits)) in
+    let second : IsRead itself (HasLength n) behind text rest = record { parts = parts; allowed = record { sized = sized; bytes = each_byte text fits-text } } in
     reads_as _ _ _ _ bytes rest (n, text) text_same (reads_pair _ _ _ _ n text bytes behind rest read second)
+
+-- no bytes begin flags
+pub flags_none : (bytes : List ℕ) → length bytes < 1 → Stops (to_le_bytes w16) (IsBelow 2048) bytes bytes
+flags_none [] none = record {
+  front = [];
+  parts = refl;
+  value = 0;
+  more = 0 ∷ 0 ∷ [];
+  allowed = omega arith;
+  begins = refl;
+  refused = λ others other behind first small e. too_short [] (to_le_bytes w16 other) others behind (omega arith) first e;
+}
+flags_none (b ∷ bytes) none = absurd (omega (arith, none))

@@ -60,6 +60,10 @@ pub length_zeros : (n : ℕ) → length (zeros n) ≡ n
 length_zeros zero = refl
 length_zeros (suc n) = let e = length_zeros n in omega (arith, e)
 
+pub bytes_left : (xs ys : List ℕ) → AreBytes (xs ++ ys) → AreBytes ys
+bytes_left [] ys fits = fits
+bytes_left (x ∷ xs) ys fits = bytes_left xs ys (λ i. fits (suc i))
+
 pub zeros_behind : (xs : List ℕ) (n : ℕ) → AreBytes xs → AreBytes (xs ++ zeros n)
 zeros_behind [] zero fits i = fits i
 zeros_behind [] (suc n) fits zero = omega arith
@@ -98,7 +102,7 @@ number_cut code value size limit bytes rest is fits short none =
       refused = λ others other behind first p e. too_short bytes (code other) others behind (let l = is.sized other in omega (arith, l, short)) first e;
     })
 
-bytes_taken : (n : ℕ) (xs : List ℕ) → AreBytes xs → AreBytes (take n xs)
+pub bytes_taken : (n : ℕ) (xs : List ℕ) → AreBytes xs → AreBytes (take n xs)
 bytes_taken n xs fits i =
     elim (cases_lt i n) [
       | inl lt ↦ rw (get_or-take n xs i 0 lt) (fits i)

@@ -78,10 +78,13 @@ pub fn fixed_at<'a>(bytes: &'a [u8], fixed: &[u8]) -> Result<&'a [u8], Stop<'a>>
 {
     let mut rest = bytes;
     for byte in fixed {
-        match rest {
-            [first, behind @ ..] if first == byte => rest = behind,
-            _ => return Err(Stop { rest }),
+        let [first, behind @ ..] = rest else {
+            return Err(Stop { rest });
+        };
+        if first != byte {
+            return Err(Stop { rest });
         }
+        rest = behind;
     }
     Ok(rest)
 }

@@ -89,7 +89,13 @@ fn parameters_at(bytes: &[u8]) -> Result<(u8, &[u8]), Stop<'_>>
         (λ stop. Stops one_byte (λ n. n < 2 ^ 5) bytes.now stop.rest.now) }
 {
     match bytes {
-        [bits, rest @ ..] if *bits < PARAMETERS => Ok((*bits, rest)),
-        _ => Err(Stop { rest: bytes }),
+        [] => Err(Stop { rest: bytes }),
+        [bits, rest @ ..] => {
+            if *bits < PARAMETERS {
+                Ok((*bits, rest))
+            } else {
+                Err(Stop { rest: bytes })
+            }
+        }
     }
 }
