@@ -8,4 +8,4 @@ returns-in_default c =
 
 pub returns-then-first-byte : goal.returns-then-first-byte
 returns-then-first-byte c =
-    fixed_stop c.args.fixed.now c.args.bytes.now c.loop-byte.rest.now c.loop-byte.byte-index c.loop-byte-test.true c.loop-byte.invariant (λ some e. let differs = c.if-first-byte.true in ?)
+    fixed_stop c.args.fixed.now c.args.bytes.now c.loop-byte.rest.now c.loop-byte.byte-index c.loop-byte-test.true c.loop-byte.invariant (λ some e. c.if-first-byte.true e)
