@@ -222,12 +222,12 @@ form_stop bytes rest s = record {
   place = place_is bytes s.front rest s.parts;
   begins = record { entries = s.value; rest = s.more; file = as_file (s.front ++ s.more) s.value s.allowed (sym s.begins) };
   longest = λ longer behind parts begun.
-    not_longer s.front longer (length bytes - length rest) (place_is bytes s.front rest s.parts) (λ long.
-    let on = goes_on s.front rest longer behind (sym s.parts ∙ parts) long in
-    let whole : s.front ++ (on.next ∷ (on.more ++ begun.rest)) ≡ file_bytes begun.entries ++ [] =
+      not_longer s.front longer (length bytes - length rest) (place_is bytes s.front rest s.parts) (λ long.
+      let on = goes_on s.front rest longer behind (sym s.parts ∙ parts) long in
+      let whole : s.front ++ (on.next ∷ (on.more ++ begun.rest)) ≡ file_bytes begun.entries ++ [] =
       sym (append_assoc s.front (on.next ∷ on.more) begun.rest) ∙ ap (λ xs. xs ++ begun.rest) (sym on.longer_is) ∙ begun.file.whole ∙ sym (append-nil (file_bytes begun.entries))
-    in
-    s.refused (on.next ∷ (on.more ++ begun.rest)) begun.entries [] (subst (λ r. SameFirst r (on.next ∷ (on.more ++ begun.rest))) (sym on.rest_is) same) (of_file begun.file) whole);
+      in
+      s.refused (on.next ∷ (on.more ++ begun.rest)) begun.entries [] (subst (λ r. SameFirst r (on.next ∷ (on.more ++ begun.rest))) (sym on.rest_is) same) (of_file begun.file) whole);
 }
 
 not_empty : (c : ℕ) (xs : List ℕ) → c ∷ xs ≡ [] → ⊥
@@ -237,19 +237,67 @@ not_empty c xs e = let l = ap length e in omega (arith, l)
 pub form_extra : (bytes rest : List ℕ) (entries : List ListedEntry) → IsRead file_bytes AreFile bytes entries rest → (rest ≡ [] → ⊥) → IsFormPlace bytes (length bytes - length rest)
 form_extra bytes rest entries read some = record {
   no_file = λ others file.
-    let both = file_once others entries [] rest (of_file file) read.allowed (append-nil (file_bytes others) ∙ sym file.whole ∙ read.parts) in
-    some (sym both.rest);
+      let both = file_once others entries [] rest (of_file file) read.allowed (append-nil (file_bytes others) ∙ sym file.whole ∙ read.parts) in
+      some (sym both.rest);
   front = file_bytes entries;
   rest = rest;
   parts = read.parts;
   place = place_is bytes (file_bytes entries) rest read.parts;
   begins = record { entries = entries; rest = []; file = as_file (file_bytes entries ++ []) entries read.allowed (append-nil (file_bytes entries)) };
   longest = λ longer behind parts begun.
-    not_longer (file_bytes entries) longer (length bytes - length rest) (place_is bytes (file_bytes entries) rest read.parts) (λ long.
-    let on = goes_on (file_bytes entries) rest longer behind (sym read.parts ∙ parts) long in
-    let whole : file_bytes entries ++ (on.next ∷ (on.more ++ begun.rest)) ≡ file_bytes begun.entries ++ [] =
+      not_longer (file_bytes entries) longer (length bytes - length rest) (place_is bytes (file_bytes entries) rest read.parts) (λ long.
+      let on = goes_on (file_bytes entries) rest longer behind (sym read.parts ∙ parts) long in
+      let whole : file_bytes entries ++ (on.next ∷ (on.more ++ begun.rest)) ≡ file_bytes begun.entries ++ [] =
       sym (append_assoc (file_bytes entries) (on.next ∷ on.more) begun.rest) ∙ ap (λ xs. xs ++ begun.rest) (sym on.longer_is) ∙ begun.file.whole ∙ sym (append-nil (file_bytes begun.entries))
-    in
-    let both = file_once entries begun.entries (on.next ∷ (on.more ++ begun.rest)) [] read.allowed (of_file begun.file) whole in
-    not_empty on.next (on.more ++ begun.rest) both.rest);
+      in
+      let both = file_once entries begun.entries (on.next ∷ (on.more ++ begun.rest)) [] read.allowed (of_file begun.file) whole in
+      not_empty on.next (on.more ++ begun.rest) both.rest);
 }
+
+-- ---- the reader's loop
+
+-- an entry that isn't there stops the file
+pub file_stop_entry : (bytes : List ℕ) (done : List ListedEntry) (n i : ℕ) (left rest : List ℕ) → IsRead start_bytes (IsBelow 4294967296) bytes n (entries_bytes done ++ left) → Each IsEntry done → length done ≡ i → i < n → Stops entry_bytes IsEntry left rest → Stops file_bytes AreFile bytes rest
+file_stop_entry bytes done n i left rest read each counted below s =
+    let between : List ℕ = entries_bytes done ++ left in
+    let inner = entries_stop done (n - suc (length done)) between left rest each refl s in
+    let e : length done + suc (n - suc (length done)) ≡ n = omega (arith, counted, below) in
+    file_stop_entries bytes between rest n read (subst (λ k. Stops entries_bytes (HasEntries k) between rest) e inner)
+
+pub stop_within : {bytes rest : List ℕ} → Stops file_bytes AreFile bytes rest → length rest ≤ length bytes
+stop_within {bytes = bytes} {rest = rest} s =
+    let l = ap length s.parts in
+    let both = length-append s.front rest in
+    omega (arith, l, both)
+
+pub read_within : {bytes rest : List ℕ} {entries : List ListedEntry} → IsRead file_bytes AreFile bytes entries rest → length rest ≤ length bytes
+read_within {bytes = bytes} {rest = rest} {entries = entries} read =
+    let l = ap length read.parts in
+    let both = length-append (file_bytes entries) rest in
+    omega (arith, l, both)
+
+entries_bytes-append : (xs ys : List ListedEntry) → entries_bytes (xs ++ ys) ≡ entries_bytes xs ++ entries_bytes ys
+entries_bytes-append [] ys = refl
+entries_bytes-append (x ∷ xs) ys =
+    ap (λ b. entry_bytes x ++ b) (entries_bytes-append xs ys) ∙ sym (append_assoc (entry_bytes x) (entries_bytes xs) (entries_bytes ys))
+
+-- the entries before and one more are read
+pub next_read : (bytes : List ℕ) (done : List ListedEntry) (entry : ListedEntry) (n : ℕ) (left rest : List ℕ) → IsRead start_bytes (IsBelow 4294967296) bytes n (entries_bytes done ++ left) → IsRead entry_bytes IsEntry left entry rest → IsRead start_bytes (IsBelow 4294967296) bytes n (entries_bytes (done ++ entry ∷ []) ++ rest)
+next_read bytes done entry n left rest read next =
+    let one : entries_bytes (entry ∷ []) ≡ entry_bytes entry = append-nil (entry_bytes entry) in
+    let longer : entries_bytes done ++ left ≡ entries_bytes (done ++ entry ∷ []) ++ rest =
+    ap (λ b. entries_bytes done ++ b) next.parts
+    ∙ sym (append_assoc (entries_bytes done) (entry_bytes entry) rest)
+    ∙ ap (λ b. (entries_bytes done ++ b) ++ rest) (sym one)
+    ∙ ap (λ b. b ++ rest) (sym (entries_bytes-append done (entry ∷ [])))
+    in
+    record { parts = read.parts ∙ ap (λ b. start_bytes n ++ b) longer; allowed = read.allowed }
+
+pub each_behind : (done : List ListedEntry) (entry : ListedEntry) → Each IsEntry done → IsEntry entry → Each IsEntry (done ++ entry ∷ [])
+each_behind [] entry each is = (is, tt)
+each_behind (first ∷ done) entry each is = (each.0, each_behind done entry each.1 is)
+
+-- all entries are read
+pub all_read : (bytes : List ℕ) (entries : List ListedEntry) (n i : ℕ) (rest : List ℕ) → IsRead start_bytes (IsBelow 4294967296) bytes n (entries_bytes entries ++ rest) → Each IsEntry entries → length entries ≡ i → n ≤ i → i ≤ n → IsRead file_bytes AreFile bytes entries rest
+all_read bytes entries n i rest read each counted least most =
+    file_read bytes (entries_bytes entries ++ rest) rest n entries read refl (omega (arith, counted, least, most)) each

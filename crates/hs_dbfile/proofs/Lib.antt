@@ -3,3 +3,4 @@ pub mod NumberLemmas
 pub mod FieldLemmas
 pub mod EntryLemmas
 pub mod FileLemmas
+pub mod WritingLemmas
