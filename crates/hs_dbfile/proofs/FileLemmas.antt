@@ -1,8 +1,8 @@
 -- The entries of a file, and where a file stops.
-use Rattle.std.proofs.Common.{◌≡◌, ℕ, zero, suc, ◌+◌, ◌-◌, ◌<◌, ◌≤◌, ◌^◌, List, [], ◌∷◌, ◌++◌, length, refl, sym, ap, ◌∙◌, subst, append_assoc, append-nil, arith, inl, inr}
+use Rattle.std.proofs.Common.{◌≡◌, ℕ, zero, suc, ◌+◌, ◌-◌, ◌<◌, ◌≤◌, ◌^◌, List, [], ◌∷◌, ◌++◌, length, refl, sym, ap, ◌∙◌, subst, append_assoc, append-nil, arith, inl, inr, true, false, eqb}
 use Rattle.std.specs.Int.{w32, to_le_bytes, from_le_bytes}
 use Rattle.std.proofs.lemmas.List.{length-append, append_cancel_left}
-use Rattle.std.proofs.lemmas.Bool.{cases_lt}
+use Rattle.std.proofs.lemmas.Bool.{cases_lt, eqb-true, false≢true}
 use Rattle.hs_base.specs.Lists.{Each}
 use Rattle.hs_base.specs.Entries.{ListedEntry}
 use Rattle.hs_dbfile.specs.Files.{entry_bytes, entries_bytes, head_bytes, file_bytes, IsWritable, IsWithinWidths, AreWritable, IsDatabaseFile, BeginsFile, IsFormPlace}
@@ -301,3 +301,11 @@ each_behind (first ∷ done) entry each is = (each.0, each_behind done entry eac
 pub all_read : (bytes : List ℕ) (entries : List ListedEntry) (n i : ℕ) (rest : List ℕ) → IsRead start_bytes (IsBelow 4294967296) bytes n (entries_bytes entries ++ rest) → Each IsEntry entries → length entries ≡ i → n ≤ i → i ≤ n → IsRead file_bytes AreFile bytes entries rest
 all_read bytes entries n i rest read each counted least most =
     file_read bytes (entries_bytes entries ++ rest) rest n entries read refl (omega (arith, counted, least, most)) each
+
+pub is_nothing : (xs : List ℕ) → eqb (length xs) 0 ≡ true → xs ≡ []
+is_nothing [] e = refl
+is_nothing (x ∷ xs) e = absurd (let l = eqb-true (length (x ∷ xs)) 0 e in omega (arith, l))
+
+pub is_something : (xs : List ℕ) → eqb (length xs) 0 ≡ false → xs ≡ [] → ⊥
+is_something [] e nothing = false≢true (sym e)
+is_something (x ∷ xs) e nothing = not_empty x xs nothing
