@@ -7,7 +7,7 @@ use Rattle.hs_base.specs.Lists.{Each}
 use Rattle.hs_base.specs.Entries.{ListedEntry}
 use Rattle.hs_dbfile.specs.Files.{entry_bytes, entries_bytes, head_bytes, file_bytes, IsWritable, IsWithinWidths, AreWritable, IsDatabaseFile, BeginsFile, IsFormPlace}
 use Rattle.hs_dbfile.specs.Entries.{IsEntry}
-use Rattle.hs_dbfile.specs.Laws.{IsFileOnce}
+use Rattle.hs_dbfile.specs.Laws.{IsFileOnce, IsPlaceOnce}
 use Rattle.hs_dbfile.specs.Reading.{IsRead, SameFirst, same, Stops, always, Always, start_bytes}
 use Rattle.hs_dbfile.proofs.CodeLemmas.{AreSame, Once, pair_bytes, ArePair, pair_once, stops_first, stops_second, reads_pair, IsSameCode, stops_as, once_as, reads_as, always_once, same_first}
 use Rattle.hs_dbfile.proofs.NumberLemmas.{IsBelow, code_32, number_once}
@@ -309,3 +309,11 @@ is_nothing (x ∷ xs) e = absurd (let l = eqb-true (length (x ∷ xs)) 0 e in om
 pub is_something : (xs : List ℕ) → eqb (length xs) 0 ≡ false → xs ≡ [] → ⊥
 is_something [] e nothing = false≢true (sym e)
 is_something (x ∷ xs) e nothing = not_empty x xs nothing
+
+-- ---- one place
+
+below_place : {bytes : List ℕ} {m n : ℕ} → IsFormPlace bytes m → IsFormPlace bytes n → n ≤ m
+below_place {m = m} p q = subst (λ k. k ≤ m) q.place (p.longest q.front q.rest q.parts q.begins)
+
+pub is_place_once : IsPlaceOnce
+is_place_once bytes m n p q = let least = below_place p q in let most = below_place q p in omega (arith, least, most)

@@ -24,7 +24,7 @@ list_bytes entries = to_le_bytes w32 (length entries) ++ entries_bytes entries
 
 -- what every database file begins with: its name, and version 1 in 16 bits
 abbrev pub head_bytes : List ℕ
-head_bytes = codes "HSDB" ++ (1 ∷ 0 ∷ [])
+head_bytes = codes "HSDB" ++ to_le_bytes w16 1
 
 -- the database file: the head and the list encoding, and nothing behind it
 abbrev pub file_bytes : List ListedEntry → List ℕ

@@ -10,3 +10,7 @@ IsFileOnce = (bytes : List ℕ) (xs ys : List ListedEntry) → IsDatabaseFile by
 -- No bytes are a database file and have a place where they stop being one.
 abbrev pub NeverBoth : Type 0
 NeverBoth = (bytes : List ℕ) (entries : List ListedEntry) (at : ℕ) → IsDatabaseFile bytes entries → IsFormPlace bytes at → ⊥
+
+-- Bytes stop being a database file at one place at most.
+abbrev pub IsPlaceOnce : Type 0
+IsPlaceOnce = (bytes : List ℕ) (m n : ℕ) → IsFormPlace bytes m → IsFormPlace bytes n → m ≡ n

@@ -27,9 +27,9 @@ loop-entry-preserved c =
     let done : List ListedEntry = map listed c.loop-entry.entries.items in
     let entry : ListedEntry = listed_parts c.in-Ok-entry_at.read.0 in
     let next : map listed c.push.new.self.items ≡ done ++ entry ∷ [] =
-      ap (map listed) c.in_ok-push.ensures.items
-      ∙ map-append listed c.loop-entry.entries.items (c.in_ok-entry.entry ∷ [])
-      ∙ ap (λ e. done ++ e ∷ []) c.in_ok-entry.ensures
+    ap (map listed) c.in_ok-push.ensures.items
+    ∙ map-append listed c.loop-entry.entries.items (c.in_ok-entry.entry ∷ [])
+    ∙ ap (λ e. done ++ e ∷ []) c.in_ok-entry.ensures
     in
     record {
       started = subst (λ es. IsRead start_bytes (IsBelow 4294967296) c.args.bytes.now c.in-Ok.read.0 (entries_bytes es ++ c.in-Ok-entry_at.read.1.now)) (sym next) (next_read c.args.bytes.now done entry c.in-Ok.read.0 c.loop-entry.rest.now c.in-Ok-entry_at.read.1.now kept.started c.in-Ok-entry_at.ensures);
