@@ -1,5 +1,5 @@
 -- Where an entry is read, and where reading one stops: it is its fields in pairs.
-use Rattle.std.proofs.Common.{◌≡◌, ℕ, ◌<◌, ◌^◌, List, [], ◌∷◌, ◌++◌, length, refl, bit_and, arith}
+use Rattle.std.proofs.Common.{ℕ, List, [], refl, bit_and, arith}
 use Rattle.std.specs.Int.{w16, w32, w64, to_le_bytes, from_le_bytes}
 use Rattle.hs_base.specs.Entries.{ListedEntry}
 use Rattle.hs_dbfile.specs.Files.{text_bytes, entry_bytes}

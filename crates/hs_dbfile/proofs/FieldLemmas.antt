@@ -1,14 +1,14 @@
 -- Where the fields of an entry are read, and where reading them stops.
-use Rattle.std.proofs.Common.{◌≡◌, ℕ, zero, suc, ◌+◌, ◌-◌, ◌<◌, ◌≤◌, ◌^◌, List, [], ◌∷◌, ◌++◌, length, get_or, take, drop, ◌/◌, ◌%◌, refl, sym, ap, ◌∙◌, subst, append_assoc, append-nil, arith}
+use Rattle.std.proofs.Common.{◌≡◌, ℕ, zero, suc, ◌-◌, ◌<◌, ◌≤◌, List, [], ◌∷◌, ◌++◌, length, get_or, take, drop, ◌/◌, ◌%◌, refl, sym, ap, ◌∙◌, subst, append_assoc, append-nil, arith}
 use Rattle.std.specs.Int.{w16, w64, to_le_bytes, from_le_bytes}
 use Rattle.std.proofs.lemmas.Nat.{le_bytes_2}
-use Rattle.std.proofs.lemmas.List.{length-append, take-append-drop, append_cancel_left}
+use Rattle.std.proofs.lemmas.List.{take-append-drop, append_cancel_left}
 use Rattle.std.proofs.Math.Seq.{take-length}
 use Rattle.std.proofs.Math.Seq.{drop-cons}
 use Rattle.hs_base.specs.Lists.{Each}
 use Rattle.hs_dbfile.specs.Files.{text_bytes}
 use Rattle.hs_dbfile.specs.Reading.{IsRead, SameFirst, neither, same, Stops, always, Always, one_byte, IsBound, IsText}
-use Rattle.hs_dbfile.proofs.CodeLemmas.{AreSame, Once, cut_same, pair_bytes, ArePair, pair_once, stops_first, stops_second, reads_pair, IsSameCode, stops_as, once_as, reads_as, once_weaken}
+use Rattle.hs_dbfile.proofs.CodeLemmas.{Once, cut_same, pair_bytes, ArePair, pair_once, stops_first, stops_second, reads_pair, IsSameCode, stops_as, once_as, reads_as, once_weaken}
 use Rattle.hs_dbfile.proofs.NumberLemmas.{AreBytes, IsBelow, code_16, code_64, number_once, zeros, length_zeros, zeros_behind, padded_length, too_short, bytes_left, bytes_taken}
 
 -- ---- flags

@@ -1,15 +1,15 @@
 -- The entries of a file, and where a file stops.
-use Rattle.std.proofs.Common.{◌≡◌, ℕ, zero, suc, ◌+◌, ◌-◌, ◌<◌, ◌≤◌, ◌^◌, List, [], ◌∷◌, ◌++◌, length, refl, sym, ap, ◌∙◌, subst, append_assoc, append-nil, arith, inl, inr, true, false, eqb}
+use Rattle.std.proofs.Common.{◌≡◌, ℕ, zero, suc, ◌+◌, ◌-◌, ◌<◌, ◌≤◌, List, [], ◌∷◌, ◌++◌, length, refl, sym, ap, ◌∙◌, subst, append_assoc, append-nil, arith, inl, inr, true, false, eqb}
 use Rattle.std.specs.Int.{w32, to_le_bytes, from_le_bytes}
-use Rattle.std.proofs.lemmas.List.{length-append, append_cancel_left}
+use Rattle.std.proofs.lemmas.List.{length-append}
 use Rattle.std.proofs.lemmas.Bool.{cases_lt, eqb-true, false≢true}
 use Rattle.hs_base.specs.Lists.{Each}
 use Rattle.hs_base.specs.Entries.{ListedEntry}
-use Rattle.hs_dbfile.specs.Files.{entry_bytes, entries_bytes, head_bytes, file_bytes, IsWritable, IsWithinWidths, AreWritable, IsDatabaseFile, BeginsFile, IsFormPlace}
+use Rattle.hs_dbfile.specs.Files.{entry_bytes, entries_bytes, head_bytes, file_bytes, IsWritable, IsWithinWidths, IsDatabaseFile, IsFormPlace}
 use Rattle.hs_dbfile.specs.Entries.{IsEntry}
 use Rattle.hs_dbfile.specs.Laws.{IsFileOnce, IsPlaceOnce}
 use Rattle.hs_dbfile.specs.Reading.{IsRead, SameFirst, same, Stops, always, Always, start_bytes}
-use Rattle.hs_dbfile.proofs.CodeLemmas.{AreSame, Once, pair_bytes, ArePair, pair_once, stops_first, stops_second, reads_pair, IsSameCode, stops_as, once_as, reads_as, always_once, same_first}
+use Rattle.hs_dbfile.proofs.CodeLemmas.{Once, pair_bytes, ArePair, pair_once, stops_first, stops_second, reads_pair, IsSameCode, stops_as, once_as, reads_as, always_once, same_first}
 use Rattle.hs_dbfile.proofs.NumberLemmas.{IsBelow, code_32, number_once}
 use Rattle.hs_dbfile.proofs.EntryLemmas.{entry_once, no_entry, no_entry_is}
 

@@ -1,13 +1,12 @@
 -- Numbers of some bytes, the lowest first.
-use Rattle.std.proofs.Common.{◌≡◌, ℕ, zero, suc, ◌+◌, ◌-◌, ◌<◌, ◌≤◌, ◌^◌, List, [], ◌∷◌, ◌++◌, length, get_or, take, drop, refl, sym, ap, ◌∙◌, subst, append_assoc, append-nil, arith, inl, inr}
+use Rattle.std.proofs.Common.{◌≡◌, ℕ, zero, suc, ◌-◌, ◌<◌, ◌≤◌, ◌^◌, List, [], ◌∷◌, ◌++◌, length, get_or, take, drop, refl, sym, ap, ◌∙◌, subst, append-nil, arith, inl, inr}
 use Rattle.std.specs.Prelude.{replicate}
 use Rattle.std.specs.Int.{w16, w32, w64, to_le_bytes, from_le_bytes}
 use Rattle.std.proofs.lemmas.Nat.{le_bytes_2, le_bytes_4, le_bytes_8, from_le_bytes-to_le_bytes_2, from_le_bytes-to_le_bytes_4, from_le_bytes-to_le_bytes_8}
-use Rattle.std.proofs.lemmas.List.{length-append, length-take, get_or-drop, get_or-take, get_or_past, take-append-drop}
+use Rattle.std.proofs.lemmas.List.{length-append, length-take, get_or-take, get_or_past, take-append-drop}
 use Rattle.std.proofs.lemmas.Bool.{cases_lt}
-use Rattle.hs_base.specs.Lists.{Each}
-use Rattle.hs_dbfile.specs.Reading.{IsRead, SameFirst, neither, same, Stops}
-use Rattle.hs_dbfile.proofs.CodeLemmas.{AreSame, Once, cut_same}
+use Rattle.hs_dbfile.specs.Reading.{IsRead, SameFirst, neither, Stops}
+use Rattle.hs_dbfile.proofs.CodeLemmas.{Once, cut_same}
 
 -- each item is a byte
 abbrev pub AreBytes : List ℕ → Type 0

@@ -1,5 +1,5 @@
 -- What it means to read a value from the front of bytes, for any code that gives each value its bytes.
-use Rattle.std.specs.Prelude.{◌≡◌, ℕ, ◌<◌, ◌≤◌, ◌^◌, List, [], ◌∷◌, ◌++◌, length}
+use Rattle.std.specs.Prelude.{◌≡◌, ℕ, ◌<◌, ◌^◌, List, [], ◌∷◌, ◌++◌, length}
 use Rattle.std.specs.Int.{w32, to_le_bytes}
 use Rattle.hs_base.specs.Lists.{Each}
 use Rattle.hs_dbfile.specs.Files.{head_bytes}

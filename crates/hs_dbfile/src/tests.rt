@@ -190,7 +190,9 @@ fn stops_at_the_first_wrong_byte(rt: HostRuntime) -> Result<(), Fail> {
     ];
     for (index, byte, expected) in table {
         let mut bytes = FOO;
-        bytes[index] = byte;
+        if let Some(old) = bytes.get_mut(index) {
+            *old = byte;
+        }
         let at = place(rt.alloc(), &bytes)?;
         assert_eq!(rt; at, expected, "{index} {byte}");
     }

@@ -1,5 +1,4 @@
 use Rattle.std.proofs.Common.{arith}
-use Rattle.std.specs.Int.{w16, to_le_bytes, from_le_bytes}
 use Rattle.hs_dbfile.proofs.FieldLemmas.{flags_stop, flags_none}
 use Rattle.hs_dbfile.proofs.parts.flags_at.Goals as goal
 

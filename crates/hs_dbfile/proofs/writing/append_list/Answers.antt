@@ -1,4 +1,4 @@
-use Rattle.hs_dbfile.proofs.WritingLemmas.{short_text, entries_left, step_written, each_left}
+use Rattle.hs_dbfile.proofs.WritingLemmas.{short_text, step_written, each_left}
 use Rattle.hs_dbfile.proofs.writing.append_list.Goals as goal
 
 pub append_entry-requires : goal.append_entry-requires
