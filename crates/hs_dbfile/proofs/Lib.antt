@@ -1,0 +1,6 @@
+pub mod CodeLemmas
+pub mod NumberLemmas
+pub mod FieldLemmas
+pub mod EntryLemmas
+pub mod FileLemmas
+pub mod WritingLemmas
