@@ -1,0 +1,4 @@
+pub mod FewLemmas
+pub mod RunLemmas
+pub mod LaneLemmas
+pub mod PlaceLemmas

@@ -1,0 +1,1 @@
+-- Least places: joined, moved, and found by the bits of a chunk.
