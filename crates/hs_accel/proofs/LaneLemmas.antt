@@ -25,7 +25,7 @@ pub marked_lanes : (lanes : List ℕ) (low more n : ℕ) → length lanes ≡ n
 marked_lanes lanes low more n long =
     let minus : zip2 less lanes (replicate n low) ≡ map (λ x. less x low) lanes = zip2_splat less lanes n low long in
     let le : zip2 leb (map (λ x. less x low) lanes) (replicate n more) ≡ map (λ x. leb (less x low) more) lanes =
-        zip2_splat leb (map (λ x. less x low) lanes) n more (length-map lanes (λ x. less x low) ∙ long) ∙ map-map (λ y. leb y more) (λ x. less x low) lanes in
+    zip2_splat leb (map (λ x. less x low) lanes) n more (length-map lanes (λ x. less x low) ∙ long) ∙ map-map (λ y. leb y more) (λ x. less x low) lanes in
     ap (λ ms. sel_l ms (replicate n 255) (replicate n 0))
     (tops_compared w8 leb (zip2 less lanes (replicate n low)) (replicate n more) ∙ ap (λ xs. zip2 leb xs (replicate n more)) minus ∙ le)
     ∙ subst (λ m. sel_l (map (λ x. leb (less x low) more) lanes) (replicate m 255) (replicate m 0) ≡ map (λ b. lane (in_run low more b)) lanes) long

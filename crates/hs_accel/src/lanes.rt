@@ -4,9 +4,8 @@ ghost use Rattle.std.specs.Prelude.{◌≡◌, ◌≤◌, ◌+◌, map, length};
 ghost use Rattle.std.specs.Simd.Lanes.{chunk, mask_l};
 ghost use Rattle.hs_accel.specs.Sets.{in_run, in_runs, lane};
 
-use std::simd::prelude::*;
-
 use crate::runs::Runs;
+use std::simd::prelude::*;
 
 /// How many bytes are looked at together.
 pub(crate) const LANES: usize = 64;

@@ -38,7 +38,8 @@ impl Runs {
         ensures { IsTrue result → (0 < self.now.count) × (slice_index self.now.low (self.now.count - 1) + slice_index self.now.more (self.now.count - 1) + 1 ≡ byte) }
     {
         let count = self.count;
-        count > 0 && self.low[count - 1] as usize + self.more[count - 1] as usize + 1 == byte as usize
+        count > 0
+            && self.low[count - 1] as usize + self.more[count - 1] as usize + 1 == byte as usize
     }
 
     /// Adds a byte to the last run where it stands just behind that one, and else as a run of its own; false where there

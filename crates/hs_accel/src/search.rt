@@ -6,12 +6,11 @@ ghost use Rattle.hs_base.specs.ByteSets.{has};
 ghost use Rattle.hs_accel.specs.Places.{IsLeastPlace, IsFirstOf};
 ghost use Rattle.hs_accel.specs.Sets.{in_runs};
 
-use hs_base::ByteSet;
-use memchr::{memchr, memchr2, memchr3};
-
 use crate::few::{Few, few_of};
 use crate::lanes::{LANES, marks};
 use crate::runs::Runs;
+use hs_base::ByteSet;
+use memchr::{memchr, memchr2, memchr3};
 
 /// How many bytes are looked at one by one before the set is looked through: a hit is often near.
 const NEAR: usize = 64;

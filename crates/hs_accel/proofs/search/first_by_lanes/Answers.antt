@@ -16,5 +16,5 @@ loop-at-preserved c =
       omega arith,
       omega arith,
       none_in_chunk (in_runs runs.low runs.more runs.count) (has c.args.set.now) c.args.bytes.now c.args.from c.loop-at.at c.marks-marked.result
-      (omega arith) c.type_inv.bytes c.requires.alike c.loop-at.invariant.2 c.marks-marked.ensures (omega arith),
+          (omega arith) c.type_inv.bytes c.requires.alike c.loop-at.invariant.2 c.marks-marked.ensures (omega arith),
     )
