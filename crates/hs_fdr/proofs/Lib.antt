@@ -1,1 +1,4 @@
-
+pub mod OrLemmas
+pub mod LaneLemmas
+pub mod AddingLemmas
+pub mod TableLemmas
