@@ -95,4 +95,5 @@ module _ (mask : ℕ → ℕ → ℕ) (width : ℕ) (text : List ℕ) (next i : 
 
   -- all that is said of a place is the formula's mask
   pub added_is_mask : added says (suc i) i ≡ mask_at mask width text next i
+  unfolding mask_at
   added_is_mask = formula_from 8 0 (suc i) refl (omega arith)

@@ -21,7 +21,7 @@ abbrev pub term : (mask : ℕ → ℕ → ℕ) (width : ℕ) → List ℕ → (n
 term mask width text next place j = if nat_le j place then mask j (super_at width text next (place - j)) else 0
 
 -- what the super-characters of the place and of the seven before it say of it
-abbrev pub mask_at : (mask : ℕ → ℕ → ℕ) (width : ℕ) → List ℕ → (next place : ℕ) → ℕ
+unfoldable pub mask_at : (mask : ℕ → ℕ → ℕ) (width : ℕ) → List ℕ → (next place : ℕ) → ℕ
 mask_at mask width text next place = or_all (map (term mask width text next place) (range_with_len 0 8))
 
 -- the byte, or 0 for none
@@ -30,6 +30,6 @@ byte_or_zero None = 0
 byte_or_zero (Some b) = b
 
 -- the mask of each of 64 places of a block behind the bytes before it, FF from the block's end on
-abbrev pub block_masks : (mask : ℕ → ℕ → ℕ) (width : ℕ) → (before block : List ℕ) → Option ℕ → List ℕ
+unfoldable pub block_masks : (mask : ℕ → ℕ → ℕ) (width : ℕ) → (before block : List ℕ) → Option ℕ → List ℕ
 block_masks mask width before block next =
     map (λ i. if nat_lt i (length block) then mask_at mask width (before ++ block) (byte_or_zero next) (length before + i) else 255) (range_with_len 0 64)

@@ -3,14 +3,14 @@
 ghost use Rattle.std.specs.Prelude.{◌≡◌, ◌≤◌, ◌<◌, ◌+◌, ◌-◌, ◌++◌, ℕ, length, slice_index};
 ghost use Rattle.std.specs.List.{slice_index_or};
 ghost use Rattle.hs_fdr.specs.Masks.{mask_of, width_of};
-ghost use Rattle.hs_fdr.specs.Blocks.{block_masks, byte_or_zero};
-ghost use Rattle.hs_fdr.specs.Lanes.{HasLanes};
+ghost use Rattle.hs_fdr.specs.Blocks.{block_masks};
+ghost use Rattle.hs_fdr.specs.Lanes.{HasLanes, IsStored};
 ghost use Rattle.hs_fdr.specs.Adding.{added, added_by, rows_of, text_rows};
 
 use std::simd::prelude::*;
 
 use crate::lanes::{eight_on, either, later, one_on};
-use crate::plain::byte_at;
+use crate::plain::{byte_at, or_zero};
 use crate::tables::{BLOCK_LEN, PLACES, Tables};
 
 /// The masks of a block of at most 64 bytes, behind at most seven bytes that stand before it and before `next`. Place `i`
@@ -28,21 +28,29 @@ pub fn scan_block(
     ensures { out.new ≡ block_masks (mask_of tables.now) (width_of tables.now) before.now block.now next }
 {
     *out = [0xFF; BLOCK_LEN];
-    let next = next.unwrap_or(0);
-    let mut ahead = ahead_of(tables, before, block, next);
+    let last = or_zero(next);
+    let mut ahead = ahead_of(tables, before, block, last);
     let mut at = 0;
     while at + PLACES < block.len() {
         let total = either(ahead, group(tables, block, at));
-        total
-            .extract::<0, PLACES>()
-            .copy_to_slice(&mut out[at..at + PLACES]);
+        store(total, PLACES, out, at);
         ahead = eight_on(total);
         at += PLACES;
     }
     let rest = &block[at..];
-    let total = either(ahead, group(tables, &with_next(rest, next), 0)).to_array();
-    for k in 0..rest.len() {
-        out[at + k] = total[k];
+    let total = either(ahead, group(tables, &with_next(rest, last), 0));
+    store(total, rest.len(), out, at);
+}
+
+/// Writes some of the first eight lanes from a place on.
+#[inline(always)]
+fn store(lanes: u8x16, count: usize, out: &mut [u8; BLOCK_LEN], at: usize)
+    requires { (count ≤ 8) × (at + count ≤ 64) }
+    ensures { IsStored lanes count at out.old out.new }
+{
+    let lanes = lanes.to_array();
+    for k in 0..count {
+        out[at + k] = lanes[k];
     }
 }
 
