@@ -1,10 +1,10 @@
-use Rattle.std.proofs.Common.{◌≡◌, ◌≤◌, ◌+◌, ◌-◌, ◌++◌, ℕ, length, get_or, cond, ltb, ap, ◌∙◌, subst, arith, length-drop}
+use Rattle.std.proofs.Common.{◌≡◌, ◌≤◌, ◌+◌, ◌-◌, ◌++◌, ℕ, length, get_or, cond, ltb, ap, ◌∙◌, subst, arith, take, drop, length-drop}
 use Rattle.std.proofs.lemmas.Bool.{le-ltb}
 use Rattle.std.proofs.lemmas.List.{take_rest}
 use Rattle.std.proofs.lemmas.Simd.{get_or-replicate}
 use Rattle.hs_fdr.specs.Masks.{mask_of, width_of}
 use Rattle.hs_fdr.specs.Blocks.{mask_at}
-use Rattle.hs_fdr.specs.Lanes.{HasLanes}
+use Rattle.hs_fdr.specs.Lanes.{HasLanes, IsStored}
 use Rattle.hs_fdr.specs.Adding.{added, text_rows}
 use Rattle.hs_fdr.proofs.BlockLemmas.{block_says, rest_says, mask_in_total, ahead_of_next, stored, block_masks-is}
 use Rattle.hs_fdr.proofs.block.scan_block.Goals as goal
@@ -58,8 +58,10 @@ returns c =
     let out = c.store-2.new.out in
     let end : at + (length block - at) ≡ length block = omega arith in
     let rest = subst (λ xs. (i : ℕ) → i ≤ length xs → get_or bytes i 0 ≡ get_or xs i last) (take_rest block at) c.with_next.ensures in
+    let count : length (take (length block - at) (drop at block)) ≡ length block - at = ap length (take_rest block at) ∙ length-drop at block in
     let written =
-        stored (λ i. mask (length before + i)) at (length block - at) total c.loop-at.out out c.loop-at.invariant.2 c.store-2.ensures
+        stored (λ i. mask (length before + i)) at (length block - at) total c.loop-at.out out c.loop-at.invariant.2
+        (subst (λ m. IsStored total m at c.loop-at.out out) count c.store-2.ensures)
         (λ k l.
         let place : n + k ≡ length before + (at + k) = omega arith in
         mask_in_total tables before block last n 0 bytes c.loop-at.ahead c.group-2.result total c.loop-at.invariant.1 c.group-2.ensures c.either-total-2.ensures k (omega arith)
