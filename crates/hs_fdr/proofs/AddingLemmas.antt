@@ -72,8 +72,8 @@ pub added_by-alike : (r s : ℕ → ℕ → ℕ) (p q count k : ℕ) → SayAlik
 added_by-alike r s p q zero k h = refl
 added_by-alike r s p q (suc count) zero h = cell_alike r s p q 0 (h 0 (omega arith) (omega arith) p q (omega arith) (omega arith) 0)
 added_by-alike r s p q (suc count) (suc k) h = (λ i. bit_or
-  (cell_alike r s p q (suc k) (h 0 (omega arith) (omega arith) p q (omega arith) (omega arith) (suc k)) i)
-  (added_by-alike r s (p + 1) (q + 1) count k (λ t x y a b e f. h (suc t) (omega arith) (omega arith) a b (omega arith) (omega arith)) i))
+    (cell_alike r s p q (suc k) (h 0 (omega arith) (omega arith) p q (omega arith) (omega arith) (suc k)) i)
+    (added_by-alike r s (p + 1) (q + 1) count k (λ t x y a b e f. h (suc t) (omega arith) (omega arith) a b (omega arith) (omega arith)) i))
 
 module _ (mask : ℕ → ℕ → ℕ) (width : ℕ) (text : List ℕ) (next i : ℕ) where
   abbrev says : ℕ → ℕ → ℕ

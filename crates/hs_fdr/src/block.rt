@@ -7,11 +7,10 @@ ghost use Rattle.hs_fdr.specs.Blocks.{block_masks};
 ghost use Rattle.hs_fdr.specs.Lanes.{HasLanes, IsStored};
 ghost use Rattle.hs_fdr.specs.Adding.{added, added_by, rows_of, text_rows};
 
-use std::simd::prelude::*;
-
 use crate::lanes::{eight_on, either, later, one_on};
 use crate::plain::{byte_at, or_zero};
 use crate::tables::{BLOCK_LEN, PLACES, Tables};
+use std::simd::prelude::*;
 
 /// The masks of a block of at most 64 bytes, behind at most seven bytes that stand before it and before `next`. Place `i`
 /// has a 0 for each bucket that may have a literal whose last byte is byte `i` of the block, and FF stands at the places

@@ -35,13 +35,13 @@ loop-at-preserved c =
     let next_start : n + 8 ≡ length before + (at + 8) = omega arith in (
       omega arith,
       subst (λ m. HasLanes c.eight_on-ahead.result (λ k. added says m (m + k))) next_start
-      (ahead_of_next tables before block last n at block ahead sum total c.loop-at.invariant.1 c.group.ensures c.either-total.ensures c.eight_on-ahead.result
-      (λ k. block_says tables before block last at k (omega arith)) c.eight_on-ahead.ensures),
+          (ahead_of_next tables before block last n at block ahead sum total c.loop-at.invariant.1 c.group.ensures c.either-total.ensures c.eight_on-ahead.result
+          (λ k. block_says tables before block last at k (omega arith)) c.eight_on-ahead.ensures),
       stored (λ i. mask (length before + i)) at 8 total c.loop-at.out c.store.new.out c.loop-at.invariant.2 c.store.ensures
-      (λ k l.
-      let place : n + k ≡ length before + (at + k) = omega arith in
-      mask_in_total tables before block last n at block ahead sum total c.loop-at.invariant.1 c.group.ensures c.either-total.ensures k l (block_says tables before block last at k (omega arith))
-      ∙ ap mask place),
+          (λ k l.
+          let place : n + k ≡ length before + (at + k) = omega arith in
+          mask_in_total tables before block last n at block ahead sum total c.loop-at.invariant.1 c.group.ensures c.either-total.ensures k l (block_says tables before block last at k (omega arith))
+          ∙ ap mask place),
     )
 
 pub returns : goal.returns
@@ -60,12 +60,12 @@ returns c =
     let rest = subst (λ xs. (i : ℕ) → i ≤ length xs → get_or bytes i 0 ≡ get_or xs i last) (take_rest block at) c.with_next.ensures in
     let count : length (take (length block - at) (drop at block)) ≡ length block - at = ap length (take_rest block at) ∙ length-drop at block in
     let written =
-        stored (λ i. mask (length before + i)) at (length block - at) total c.loop-at.out out c.loop-at.invariant.2
-        (subst (λ m. IsStored total m at c.loop-at.out out) count c.store-2.ensures)
-        (λ k l.
-        let place : n + k ≡ length before + (at + k) = omega arith in
-        mask_in_total tables before block last n 0 bytes c.loop-at.ahead c.group-2.result total c.loop-at.invariant.1 c.group-2.ensures c.either-total-2.ensures k (omega arith)
-        (rest_says tables before block last at k bytes (omega arith) (λ i h. rest i (omega (arith, length-drop at block))))
-        ∙ ap mask place) in
+    stored (λ i. mask (length before + i)) at (length block - at) total c.loop-at.out out c.loop-at.invariant.2
+    (subst (λ m. IsStored total m at c.loop-at.out out) count c.store-2.ensures)
+    (λ k l.
+    let place : n + k ≡ length before + (at + k) = omega arith in
+    mask_in_total tables before block last n 0 bytes c.loop-at.ahead c.group-2.result total c.loop-at.invariant.1 c.group-2.ensures c.either-total-2.ensures k (omega arith)
+    (rest_says tables before block last at k bytes (omega arith) (λ i h. rest i (omega (arith, length-drop at block))))
+    ∙ ap mask place) in
     block_masks-is tables before block last c.args.next out c.or_zero-last.ensures c.store-2.array_long
     (λ i h. written i h ∙ ap (λ m. cond (ltb i m) (mask (length before + i)) 255) end)

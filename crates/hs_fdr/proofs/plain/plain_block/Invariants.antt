@@ -6,4 +6,4 @@ use Rattle.hs_fdr.proofs.plain.plain_block.Given as goal
 abbrev pub invariant-loop-place : goal.invariant-loop-place
 invariant-loop-place l =
     (length l.out ≡ 64)
-    × ((i : ℕ) → i < l.place →  get_or l.out i 0 ≡ cond (ltb i (length l.block)) (mask_at (mask_of l.tables) (width_of l.tables) (l.before ++ l.block) l.last (length l.before + i)) 255)
+    × ((i : ℕ) → i < l.place → get_or l.out i 0 ≡ cond (ltb i (length l.block)) (mask_at (mask_of l.tables) (width_of l.tables) (l.before ++ l.block) l.last (length l.before + i)) 255)
