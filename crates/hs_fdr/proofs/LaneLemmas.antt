@@ -4,7 +4,7 @@ use Rattle.std.specs.List.{range_with_len}
 use Rattle.std.specs.Simd.Lanes.{zip2, chunk, pick_l}
 use Rattle.std.proofs.lemmas.List.{get_or-drop, get_or_past, take_rest}
 use Rattle.std.proofs.lemmas.Bool.{cases_lt, lt-ltb, le-ltb}
-use Rattle.std.proofs.lemmas.Simd.{length-chunk, get_or-chunk, pick_l-range_with_len, pick_l_whole, length-zip2, get_or-zip2, length-replicate}
+use Rattle.std.proofs.lemmas.Simd.{length-chunk, get_or-chunk, pick_l-range_with_len, length-zip2, get_or-zip2}
 use Rattle.hs_fdr.specs.Lanes.{HasLanes}
 
 zeros : (n k : ℕ) → ◌≡◌ {A = ℕ} (get_or (replicate n 0) k 0) 0

@@ -1,5 +1,5 @@
 -- The bitwise OR doesn't ask in which order it is taken.
-use Rattle.std.proofs.Common.{◌≡◌, ℕ, zero, suc, ◌+◌, ◌*◌, ◌/◌, ◌%◌, ◌^◌, ◌<◌, bit_or, refl, sym, ap, ◌∙◌, arith}
+use Rattle.std.proofs.Common.{◌≡◌, ℕ, zero, suc, ◌/◌, ◌%◌, ◌<◌, bit_or, refl, sym, ap, ◌∙◌, arith}
 use lib.Bits.{or_shr, or_mod}
 use lib.Arith.{bin_ind}
 

@@ -1,5 +1,5 @@
 -- Tables as contracts see them: a width, and a mask for each place and super-character.
-use Rattle.std.specs.Prelude.{◌≡◌, ℕ, ◌+◌, ◌*◌, ◌<◌, List, length, slice_index, nat_lt, if◌then◌else◌}
+use Rattle.std.specs.Prelude.{ℕ, ◌+◌, ◌*◌, List, slice_index, nat_lt, if◌then◌else◌}
 use Rattle.hs_fdr.specs.declared.tables.Tables.{Tables}
 use Rattle.hs_fdr.specs.Lanes.{HasLanes}
 

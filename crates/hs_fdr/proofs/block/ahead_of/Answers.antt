@@ -1,4 +1,4 @@
-use Rattle.std.proofs.Common.{◌≡◌, ◌+◌, ◌++◌, get_or, sym, subst, arith}
+use Rattle.std.proofs.Common.{◌≡◌, ◌++◌, get_or, sym, subst, arith}
 use Rattle.std.proofs.lemmas.List.{get_or_append_left}
 use Rattle.hs_fdr.specs.Masks.{width_of, IsRow}
 use Rattle.hs_fdr.specs.Blocks.{super_character}

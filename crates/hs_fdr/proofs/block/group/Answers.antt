@@ -1,4 +1,4 @@
-use Rattle.std.proofs.Common.{◌≡◌, suc, ◌+◌, ◌-◌, subst, sym, arith}
+use Rattle.std.proofs.Common.{◌≡◌, suc, ◌+◌, ◌-◌, subst, arith}
 use Rattle.hs_fdr.specs.Lanes.{HasLanes}
 use Rattle.hs_fdr.specs.Adding.{added_by, rows_of}
 use Rattle.hs_fdr.proofs.BlockLemmas.{group_step}

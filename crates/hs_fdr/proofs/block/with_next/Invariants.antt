@@ -1,4 +1,4 @@
-use Rattle.std.proofs.Common.{◌≡◌, ◌<◌, ◌≤◌, ℕ, length, get_or, cond, ltb}
+use Rattle.std.proofs.Common.{◌≡◌, ◌<◌, ℕ, length, get_or, cond, ltb}
 use Rattle.hs_fdr.proofs.block.with_next.Given as goal
 
 abbrev pub invariant-loop-k : goal.invariant-loop-k

@@ -1,4 +1,4 @@
-use Rattle.std.proofs.Common.{◌≡◌, ◌<◌, ◌+◌, ◌*◌, ◌/◌, ◌%◌, ◌^◌, ℕ, get_or, vec_len}
+use Rattle.std.proofs.Common.{◌≡◌, ◌<◌, ◌+◌, ◌*◌, ◌/◌, ◌%◌, ℕ, get_or, vec_len}
 use Rattle.hs_fdr.proofs.tables.Tables.from_masks.Given as goal
 
 abbrev pub invariant-loop-at : goal.invariant-loop-at
