@@ -1,7 +1,7 @@
 -- Sixty-four lanes, each computed from its byte.
-use Rattle.std.proofs.Common.{◌≡◌, ℕ, zero, suc, ◌+◌, ◌-◌, ◌%◌, ◌^◌, ◌<◌, ◌≤◌, Bool, true, false, not, ◌||◌, List, [], ◌∷◌, cond, length, get_or, map, replicate, add-one, eqb, leb, bit_or, refl, sym, ap, ◌∙◌, subst, arith, w8}
+use Rattle.std.proofs.Common.{◌≡◌, ℕ, ◌+◌, ◌-◌, ◌%◌, ◌^◌, Bool, true, false, not, ◌||◌, List, [], ◌∷◌, cond, length, get_or, map, replicate, add-one, eqb, leb, bit_or, refl, ap, ◌∙◌, subst, arith, w8}
 use Rattle.std.specs.Simd.Lanes.{zip2, sel_l, mask_l, top}
-use Rattle.std.proofs.lemmas.Simd.{tops_compared, zip2_splat, zip2_of_maps, map-map, bitmask_splat, splat_is_map}
+use Rattle.std.proofs.lemmas.Simd.{tops_compared, zip2_splat, zip2_of_maps, map-map, bitmask_splat}
 use Rattle.std.proofs.lemmas.List.{length-map}
 use Rattle.hs_accel.specs.Sets.{in_run, in_runs, lane}
 

@@ -1,5 +1,5 @@
 -- Least places: moved behind a beginning, and found by the bits of a chunk.
-use Rattle.std.proofs.Common.{◌≡◌, ℕ, ◌+◌, ◌-◌, ◌*◌, ◌^◌, ◌<◌, ◌≤◌, Bool, true, false, not, List, length, get_or, map, take, drop, Option, Some, None, refl, sym, ap, ◌∙◌, subst, arith, inl, inr, length-drop, Fits, w8, w64}
+use Rattle.std.proofs.Common.{◌≡◌, ℕ, ◌+◌, ◌-◌, ◌^◌, ◌<◌, ◌≤◌, Bool, true, false, List, length, get_or, map, take, drop, Option, Some, None, refl, sym, ap, ◌∙◌, subst, arith, inl, inr, length-drop, Fits, w8, w64}
 use Rattle.std.specs.Option.{option_map}
 use Rattle.std.specs.Int.Count.{count_trailing_zeros}
 use Rattle.std.specs.Simd.Lanes.{chunk, mask_l}
@@ -8,7 +8,7 @@ use Rattle.std.proofs.lemmas.Nat.Bits.{bit_at-trailing_zeros}
 use Rattle.std.proofs.lemmas.Bool.{cases_lt}
 use Rattle.std.proofs.lemmas.List.{get_or-drop, length-map, take_rest}
 use Rattle.memchr.specs.Find.{IsFirstByte}
-use Rattle.hs_accel.specs.Places.{NonePasses, IsFirstAt, IsFirstOf, IsLeastPlace}
+use Rattle.hs_accel.specs.Places.{NonePasses, IsFirstAt, IsLeastPlace}
 use Rattle.hs_accel.specs.Sets.{AreAlike}
 
 -- each element is a byte

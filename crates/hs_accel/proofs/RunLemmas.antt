@@ -1,6 +1,6 @@
 -- Runs to which a byte is added.
-use Rattle.std.proofs.Common.{◌≡◌, ℕ, zero, suc, ◌+◌, ◌-◌, ◌%◌, ◌<◌, ◌≤◌, Bool, true, false, ◌||◌, List, length, get_or, set, eqb, leb, refl, sym, ap, ◌∙◌, inl, inr, arith, eq-eqb, eqb-true, add-one}
-use Rattle.std.proofs.lemmas.Bool.{cases_eq, ne_eqb, leb-true, le-leb, or_cases}
+use Rattle.std.proofs.Common.{◌≡◌, ℕ, zero, suc, ◌+◌, ◌-◌, ◌%◌, ◌<◌, ◌≤◌, Bool, true, false, ◌||◌, List, length, get_or, set, eqb, refl, sym, inl, inr, arith, eq-eqb, eqb-true, add-one}
+use Rattle.std.proofs.lemmas.Bool.{cases_eq, ne_eqb, leb-true, le-leb}
 use Rattle.std.proofs.lemmas.List.{get_or-set_same, get_or-set_other}
 use Rattle.hs_accel.specs.Sets.{in_run, in_runs}
 

@@ -1,5 +1,5 @@
 -- The two other forms of a set of bytes: its members by name, and its runs.
-use Rattle.std.specs.Prelude.{◌≡◌, ℕ, zero, suc, ◌+◌, ◌-◌, ◌%◌, ◌<◌, Bool, true, false, ◌||◌, ◌==◌, nat_le, List, slice_index, if◌then◌else◌}
+use Rattle.std.specs.Prelude.{◌≡◌, ℕ, zero, suc, ◌+◌, ◌-◌, ◌%◌, ◌<◌, Bool, false, ◌||◌, nat_le, List, slice_index, if◌then◌else◌}
 use Rattle.memchr.specs.Find.{is_byte, is_byte2, is_byte3}
 use Rattle.hs_accel.specs.declared.few.Few.{Few}
 use Rattle.hs_accel.specs.declared.few.Few.TheVariants as few
