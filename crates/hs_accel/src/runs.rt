@@ -6,8 +6,8 @@ ghost use Rattle.hs_accel.specs.Sets.{in_runs};
 
 use hs_base::ByteSet;
 
-/// How many runs are kept. Past about as many a search byte by byte is faster than one that compares with each run.
-pub(crate) const MAX_RUNS: usize = 16;
+/// How many runs are kept. A search that compares with more is no faster than one byte by byte.
+pub(crate) const MAX_RUNS: usize = 12;
 
 /// Some runs of bytes.
 #[derive(Clone, Copy, Debug)]
@@ -18,7 +18,7 @@ pub(crate) struct Runs {
     pub(crate) more: [u8; MAX_RUNS],
     /// How many runs there are; what stands behind them in `low` and `more` counts for nothing.
     pub(crate) count: usize,
-    ghost room: { count ≤ 16 },
+    ghost room: { count ≤ 12 },
 }
 
 impl Runs {
