@@ -1,4 +1,4 @@
 pub mod FewLemmas
-pub mod RunLemmas
+pub mod NibbleLemmas
 pub mod LaneLemmas
 pub mod PlaceLemmas

@@ -4,7 +4,7 @@ use Rattle.std.specs.Option.{option_map}
 use Rattle.std.specs.Int.Count.{count_trailing_zeros}
 use Rattle.std.specs.Simd.Lanes.{chunk, mask_l}
 use Rattle.std.proofs.lemmas.Simd.{trailing_mask_l, run_in_chunk_fails, run_in_chunk_stops, none_from_empty_mask, length-chunk, mask_l-lt}
-use Rattle.std.proofs.lemmas.Nat.Bits.{bit_at-trailing_zeros}
+use Rattle.std.proofs.lemmas.Nat.Bits.{bit_at-trailing_zeros, bit_at_above}
 use Rattle.std.proofs.lemmas.Bool.{cases_lt}
 use Rattle.std.proofs.lemmas.List.{get_or-drop, length-map, take_rest}
 use Rattle.memchr.specs.Find.{IsFirstByte}
@@ -39,31 +39,37 @@ first_behind p q bytes from (Some at) within fit alike first =
     }
 
 -- a chunk with no bit set
-pub none_in_chunk : (p q : ℕ → Bool) (bytes : List ℕ) (from at m : ℕ) → at + 64 ≤ length bytes → AreBytes bytes → AreAlike p q → NonePasses q bytes from at → m ≡ mask_l (map p (chunk at 64 bytes)) → m ≡ 0
-    → NonePasses q bytes from (at + 64)
+pub none_in_chunk : (p q : ℕ → Bool) (bytes : List ℕ) (from at m : ℕ) → at + 16 ≤ length bytes → AreBytes bytes → AreAlike p q → NonePasses q bytes from at → m ≡ mask_l (map p (chunk at 16 bytes)) → m ≡ 0
+    → NonePasses q bytes from (at + 16)
 none_in_chunk p q bytes from at m room fit alike none is empty k low high =
     elim (cases_lt k at) [
       | inl before ↦ none k low before
-      | inr behind ↦ sym (alike (get_or bytes k 0) (fit k).fits) ∙ none_from_empty_mask p bytes at 64 0 room (sym is ∙ empty) k (omega arith) high
+      | inr behind ↦ sym (alike (get_or bytes k 0) (fit k).fits) ∙ none_from_empty_mask p bytes at 16 0 room (sym is ∙ empty) k (omega arith) high
     ]
 
 -- the lowest bit that is set
-pub first_in_chunk : (p q : ℕ → Bool) (bytes : List ℕ) (from at m : ℕ) → from ≤ at → at + 64 ≤ length bytes → AreBytes bytes → AreAlike p q → NonePasses q bytes from at → m ≡ mask_l (map p (chunk at 64 bytes)) → 0 < m
+pub first_in_chunk : (p q : ℕ → Bool) (bytes : List ℕ) (from at m : ℕ) → from ≤ at → at + 16 ≤ length bytes → AreBytes bytes → AreAlike p q → NonePasses q bytes from at → m ≡ mask_l (map p (chunk at 16 bytes)) → 0 < m
     → IsFirstAt q bytes from (length bytes) (at + count_trailing_zeros 64 m)
 first_in_chunk p q bytes from at m low room fit alike none is some =
-    let long : length (chunk at 64 bytes) ≡ 64 = length-chunk at 64 bytes room in
-    let small : m < 2 ^ 64 = subst (λ n. n < 2 ^ 64) (sym is) (subst (λ n. mask_l (map p (chunk at 64 bytes)) < 2 ^ n) (length-map (chunk at 64 bytes) p ∙ long) (mask_l-lt (map p (chunk at 64 bytes)))) in
+    let long : length (chunk at 16 bytes) ≡ 16 = length-chunk at 16 bytes room in
+    let small : m < 2 ^ 16 = subst (λ n. n < 2 ^ 16) (sym is) (subst (λ n. mask_l (map p (chunk at 16 bytes)) < 2 ^ n) (length-map (chunk at 16 bytes) p ∙ long) (mask_l-lt (map p (chunk at 16 bytes)))) in
     let r = count_trailing_zeros 64 m in
-    let within : r < 64 = (bit_at-trailing_zeros w64 m some small).0 in
-    let counted = ap (count_trailing_zeros 64) is ∙ trailing_mask_l p 64 (chunk at 64 bytes) (omega arith) (subst (λ n. 0 < n) is some) in
+    let wide : m < 2 ^ 64 = omega arith in
+    let lowest = bit_at-trailing_zeros w64 m some wide in
+    let within : r < 16 =
+    elim (cases_lt r 16) [
+      | inl l ↦ l
+      | inr g ↦ absurd (omega (arith, bit_at_above m 16 r small g, lowest.1))
+    ] in
+    let counted = ap (count_trailing_zeros 64) is ∙ trailing_mask_l p 64 (chunk at 16 bytes) (omega arith) (subst (λ n. 0 < n) is some) in
     record {
       low = omega arith;
       high = omega arith;
-      passes = sym (alike (get_or bytes (at + r) 0) (fit (at + r)).fits) ∙ run_in_chunk_stops p bytes at 64 r 0 room counted within;
+      passes = sym (alike (get_or bytes (at + r) 0) (fit (at + r)).fits) ∙ run_in_chunk_stops p bytes at 16 r 0 room counted within;
       least = λ k low' high.
           elim (cases_lt k at) [
             | inl before ↦ none k low' before
-            | inr behind ↦ sym (alike (get_or bytes k 0) (fit k).fits) ∙ run_in_chunk_fails p bytes at 64 r 0 room counted k (omega arith) high
+            | inr behind ↦ sym (alike (get_or bytes k 0) (fit k).fits) ∙ run_in_chunk_fails p bytes at 16 r 0 room counted k (omega arith) high
           ];
     }
 

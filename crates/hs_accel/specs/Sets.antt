@@ -1,5 +1,6 @@
--- The two other forms of a set of bytes: its members by name, and its runs.
-use Rattle.std.specs.Prelude.{◌≡◌, ℕ, zero, suc, ◌+◌, ◌-◌, ◌%◌, ◌<◌, Bool, false, ◌||◌, nat_le, List, slice_index, if◌then◌else◌}
+-- The two other forms of a set of bytes: its members by name, and two tables by the low half of a byte.
+use Rattle.std.specs.Prelude.{◌≡◌, ℕ, ◌/◌, ◌%◌, ◌<◌, Bool, false, ◌==◌, nat_lt, List, slice_index, if◌then◌else◌}
+use Rattle.std.specs.Int.{bit_at}
 use Rattle.memchr.specs.Find.{is_byte, is_byte2, is_byte3}
 use Rattle.hs_accel.specs.declared.few.Few.{Few}
 use Rattle.hs_accel.specs.declared.few.Few.TheVariants as few
@@ -16,15 +17,6 @@ IsFewOf test (few.Two a b) = AreAlike test (is_byte2 a b)
 IsFewOf test (few.Three a b c) = AreAlike test (is_byte3 a b c)
 IsFewOf test few.Many = Unit {0}
 
--- a byte is `low` or one of the `more` bytes behind it, 255 being followed by 0
-abbrev pub in_run : ℕ → ℕ → ℕ → Bool
-in_run low more b = nat_le ((b + (256 - low)) % 256) more
-
--- a byte lies in one of the first runs
-abbrev pub in_runs : List ℕ → List ℕ → ℕ → ℕ → Bool
-in_runs low more zero b = false
-in_runs low more (suc n) b = in_run (slice_index low n) (slice_index more n) b || in_runs low more n b
-
--- a lane that is marked, or not
-abbrev pub lane : Bool → ℕ
-lane marked = if marked then 255 else 0
+-- the bit of a byte in the first table, or in the second one from 128 on
+abbrev pub in_nibbles : (first second : List ℕ) → ℕ → Bool
+in_nibbles first second b = bit_at (slice_index (if nat_lt b 128 then first else second) (b % 16)) (b / 16 % 8) == 1

@@ -1,35 +1,64 @@
-//! Sixty-four bytes at a time: which of them lie in a run, or in one of several.
+//! Sixteen bytes at a time: which of them are in a set.
 
-ghost use Rattle.std.specs.Prelude.{◌≡◌, ◌≤◌, ◌+◌, map, length};
-ghost use Rattle.std.specs.Simd.Lanes.{chunk, mask_l};
-ghost use Rattle.hs_accel.specs.Sets.{in_run, in_runs, lane};
+ghost use Rattle.std.specs.Prelude.{◌≡◌, ◌≤◌, ◌<◌, ◌+◌, ◌/◌, ◌%◌, ℕ, map, length, slice_index, nat_lt};
+ghost use Rattle.std.specs.Simd.Lanes.{chunk, mask_l, sel_l};
+ghost use Rattle.hs_accel.specs.Sets.{in_nibbles};
 
-use crate::runs::Runs;
+use crate::nibbles::Nibbles;
 use std::simd::prelude::*;
 
 /// How many bytes are looked at together.
-pub(crate) const LANES: usize = 64;
+pub(crate) const LANES: usize = 16;
 
-/// All ones in the lanes whose bytes lie in the run of `low` and the `more` bytes behind it, else 0.
+/// For the high half of a byte, the bit that stands for it.
+const BITS: [u8; 16] = [1, 2, 4, 8, 16, 32, 64, 128, 1, 2, 4, 8, 16, 32, 64, 128];
+
+/// The low half of each byte.
 #[inline(always)]
-fn marked(lanes: u8x64, low: u8, more: u8) -> u8x64
-    ensures { result ≡ map (λ b. lane (in_run low more b)) lanes }
+fn low_nibbles(lanes: u8x16) -> u8x16
+    ensures { result ≡ map (λ b. b % 16) lanes }
 {
-    (lanes - u8x64::splat(low))
-        .simd_le(u8x64::splat(more))
-        .select(u8x64::splat(255), u8x64::splat(0))
+    lanes & u8x16::splat(15)
 }
 
-/// Bit `k` is whether the byte at `at + k` lies in one of the runs.
+/// The high half of each byte.
 #[inline(always)]
-pub(crate) fn marks(runs: &Runs, bytes: &[u8], at: usize) -> u64
-    requires { at + 64 ≤ length bytes.now }
-    ensures { result ≡ mask_l (map (in_runs runs.now.low runs.now.more runs.now.count) (chunk at 64 bytes.now)) }
+fn high_nibbles(lanes: u8x16) -> u8x16
+    ensures { result ≡ map (λ b. b / 16) lanes }
 {
-    let lanes = u8x64::from_slice(&bytes[at..]);
-    let mut hits = u8x64::splat(0);
-    for k in 0..runs.count {
-        hits |= marked(lanes, runs.low[k], runs.more[k]);
-    }
-    hits.simd_ne(u8x64::splat(0)).to_bitmask()
+    lanes >> u8x16::splat(4)
+}
+
+/// What a table has at each place.
+#[inline(always)]
+fn looked_up(table: [u8; 16], places: u8x16) -> u8x16
+    requires { (k : ℕ) → slice_index places k < 16 }
+    ensures { result ≡ map (λ j. slice_index table j) places }
+{
+    u8x16::from_array(table).swizzle_dyn(places)
+}
+
+/// The lanes of `first` where the byte is below 128, and of `second` elsewhere.
+#[inline(always)]
+fn by_half(lanes: u8x16, first: u8x16, second: u8x16) -> u8x16
+    ensures { result ≡ sel_l (map (λ b. nat_lt b 128) lanes) first second }
+{
+    lanes.simd_lt(u8x16::splat(128)).select(first, second)
+}
+
+/// Bit `k` is whether the byte at `at + k` is in the set.
+#[inline(always)]
+pub(crate) fn marks(nibbles: &Nibbles, bytes: &[u8], at: usize) -> u64
+    requires { at + 16 ≤ length bytes.now }
+    ensures { result ≡ mask_l (map (in_nibbles nibbles.now.first nibbles.now.second) (chunk at 16 bytes.now)) }
+{
+    let lanes = u8x16::from_slice(&bytes[at..]);
+    let low = low_nibbles(lanes);
+    let members = by_half(
+        lanes,
+        looked_up(nibbles.first, low),
+        looked_up(nibbles.second, low),
+    );
+    let bits = looked_up(BITS, high_nibbles(lanes));
+    (members & bits).simd_ne(u8x16::splat(0)).to_bitmask()
 }

@@ -4,11 +4,11 @@ ghost use Rattle.std.specs.Prelude.{◌≡◌, ◌≤◌, ◌<◌, ◌+◌, ◌^
 ghost use Rattle.std.specs.Option.{option_map};
 ghost use Rattle.hs_base.specs.ByteSets.{has};
 ghost use Rattle.hs_accel.specs.Places.{IsLeastPlace, IsFirstOf};
-ghost use Rattle.hs_accel.specs.Sets.{in_runs};
+ghost use Rattle.hs_accel.specs.Sets.{in_nibbles};
 
 use crate::few::{Few, few_of};
 use crate::lanes::{LANES, marks};
-use crate::runs::Runs;
+use crate::nibbles::Nibbles;
 use hs_base::ByteSet;
 use memchr::{memchr, memchr2, memchr3};
 
@@ -42,10 +42,7 @@ fn far(set: &ByteSet, bytes: &[u8], from: usize) -> Option<usize>
         Few::Three(first, second, third) => {
             behind(memchr3(first, second, third, rest), rest, from)
         }
-        Few::Many => match Runs::of(set) {
-            Some(runs) => first_by_lanes(set, &runs, bytes, from),
-            None => first_plain(set, bytes, from, bytes.len()),
-        },
+        Few::Many => first_by_lanes(set, &Nibbles::of(set), bytes, from),
     }
 }
 
@@ -59,14 +56,14 @@ fn behind(place: Option<usize>, rest: &[u8], start: usize) -> Option<usize>
 }
 
 /// The least place at or after `from`, by lanes, and byte by byte where fewer bytes are left than there are lanes.
-fn first_by_lanes(set: &ByteSet, runs: &Runs, bytes: &[u8], from: usize) -> Option<usize>
+fn first_by_lanes(set: &ByteSet, nibbles: &Nibbles, bytes: &[u8], from: usize) -> Option<usize>
     requires within { from ≤ length bytes.now }
-    requires alike { (b : ℕ) → b < 256 → in_runs runs.now.low runs.now.more runs.now.count b ≡ has set.now b }
+    requires alike { (b : ℕ) → b < 256 → in_nibbles nibbles.now.first nibbles.now.second b ≡ has set.now b }
     ensures { IsLeastPlace (has set.now) bytes.now from result }
 {
     let mut at = from;
     while bytes.len() - at >= LANES {
-        let marked = marks(runs, bytes, at);
+        let marked = marks(nibbles, bytes, at);
         if marked != 0 {
             return Some(at + marked.trailing_zeros() as usize);
         }
