@@ -1,0 +1,4 @@
+pub mod FewLemmas
+pub mod NibbleLemmas
+pub mod LaneLemmas
+pub mod PlaceLemmas
