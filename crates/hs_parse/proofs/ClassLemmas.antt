@@ -1,17 +1,16 @@
 -- A class is read in one way, and every `[` begins one or has a refusal.
-use Rattle.std.proofs.Common.{◌≡◌, ℕ, zero, suc, ◌+◌, ◌<◌, ◌≤◌, ◌⊎◌, inl, inr, Bool, true, false, ◌||◌, List, [], ◌∷◌, ◌++◌, length, Option, Some, None, refl, sym, ap, subst, ◌∙◌, arith}
+use Rattle.std.proofs.Common.{◌≡◌, ℕ, zero, suc, ◌+◌, ◌<◌, ◌≤◌, inl, inr, Bool, true, false, ◌||◌, List, [], ◌∷◌, ◌++◌, length, Option, Some, None, refl, sym, ap, subst, ◌∙◌, arith}
 use Rattle.std.specs.Prelude.{if◌then◌else◌}
 use Rattle.std.specs.List.{slice_get, list_any}
 use Rattle.std.proofs.lemmas.Bool.{cases_Bool}
 use Rattle.std.proofs.lemmas.Option.{slice_get_within}
-use Rattle.hs_base.specs.declared.refusal.Refusal.{Refusal}
 use Rattle.hs_base.specs.declared.refusal.Refusal.TheVariants.{Syntax}
 use Rattle.hs_parse.specs.declared.piece.Item.{Item}
 use Rattle.hs_parse.specs.declared.piece.Item.TheVariants as item
 use Rattle.hs_parse.specs.Syntax.{Options, circumflex, is_byte}
 use Rattle.hs_parse.specs.Classes.{item_at, is_between, Items, nothing, item_first, is_negated, start_of, class_of}
 use Rattle.hs_parse.specs.Tokens.{Token, single, faulty, is_named, ClassToken, named, closed, unclosed, refused}
-use Rattle.hs_parse.proofs.PieceLemmas.{EndsWithin, item_end, item_past, close_within, chosen}
+use Rattle.hs_parse.proofs.PieceLemmas.{item_end, item_past, close_within, chosen}
 
 -- whether an item goes on
 abbrev pub is_range : Item → Bool

@@ -1,14 +1,11 @@
 -- The grammar reads in one way.
-use Rattle.std.proofs.Common.{◌≡◌, ℕ, ◌+◌, ◌<◌, ◌≤◌, Bool, true, false, List, [], ◌∷◌, ◌++◌, length, Option, Some, None, refl, sym, ap, subst, ◌∙◌, arith}
-use Rattle.hs_base.specs.declared.flags.Flags.{Flags}
-use Rattle.hs_base.specs.Trees.{Tree, class, repeat}
-use Rattle.hs_parse.specs.declared.role.Role.TheVariants as role
-use Rattle.hs_parse.specs.Syntax.{Options, role_at}
+use Rattle.std.proofs.Common.{◌≡◌, ℕ, Bool, true, false, List, [], ◌∷◌, length, Option, Some, None, refl, sym, ap, subst, ◌∙◌, arith}
+use Rattle.hs_base.specs.Trees.{Tree}
+use Rattle.hs_parse.specs.Syntax.{Options}
 use Rattle.hs_parse.specs.Tokens.{Token, TokenAt, text_end}
-use Rattle.hs_parse.specs.Grammar.{Quantifier, star, plus, question, NoQuantifier, Atom, one_byte, group, Item, once, repeated, Sequence, nothing, item_first, sequence_tree, Alternation, last, alternative_first, alternation_tree, Reads}
+use Rattle.hs_parse.specs.Grammar.{Quantifier, star, plus, question, NoQuantifier, Atom, one_byte, group, Item, once, repeated, Sequence, nothing, item_first, sequence_tree, Alternation, last, alternative_first, alternation_tree}
 use Rattle.hs_parse.specs.Reading.{EndsGroup, at_closing, at_ending, EndsSequence, with_group, at_bar}
 use Rattle.hs_parse.specs.Laws.{OneTree}
-use Rattle.hs_parse.proofs.ClassLemmas.{AreSameTokens}
 use Rattle.hs_parse.proofs.TokenLemmas.{one_token, past_end, as_token}
 
 -- what a token that ends a sequence is not

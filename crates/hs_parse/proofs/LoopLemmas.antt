@@ -1,11 +1,10 @@
 -- What the parser's loops keep, and what its functions give.
-use Rattle.std.proofs.Common.{◌≡◌, ℕ, ◌+◌, ◌<◌, ◌≤◌, ◌⊎◌, inl, inr, Bool, true, false, List, [], ◌∷◌, ◌++◌, append_assoc, length, map, Option, Some, None, Result, Ok, Err, IfErr, Box, Global, refl, sym, ap, subst, ◌∙◌, arith}
+use Rattle.std.proofs.Common.{◌≡◌, ℕ, ◌+◌, ◌<◌, ◌≤◌, ◌⊎◌, inl, inr, List, [], ◌∷◌, ◌++◌, append_assoc, length, map, Option, Result, Ok, Err, IfErr, Box, Global, refl, sym, ap, subst, ◌∙◌, arith}
 use Rattle.std.specs.Result.{IsErr, IsErrAnd}
 use Rattle.std.proofs.lemmas.List.{map_push}
 use Rattle.hs_base.specs.declared.byte_set.ByteSet.{ByteSet}
 use Rattle.hs_base.specs.declared.flags.Flags.{Flags}
-use Rattle.hs_base.specs.declared.refusal.Refusal.{Refusal}
-use Rattle.hs_base.specs.declared.refusal.Refusal.TheVariants.{Syntax, DepthLimit}
+use Rattle.hs_base.specs.declared.refusal.Refusal.TheVariants.{Syntax}
 use Rattle.hs_base.specs.ByteSets.{members}
 use Rattle.hs_base.specs.Trees.{Tree, class, repeat}
 use Rattle.hs_expr.specs.declared.expr.Expr.{Expr}
@@ -15,7 +14,6 @@ use Rattle.hs_expr.specs.declared.expr.Expr.TheFolds.{fold-roll-Expr}
 use Rattle.hs_expr.specs.Meaning.{node_tree, tree_of}
 use Rattle.hs_parse.specs.declared.role.Role.{Role}
 use Rattle.hs_parse.specs.declared.role.Role.TheVariants as role
-use Rattle.hs_parse.specs.declared.fault.ParseFault.{ParseFault}
 use Rattle.hs_parse.specs.declared.token.Token.{Token as Seen}
 use Rattle.hs_parse.specs.declared.token.Token.TheVariants as seen
 use Rattle.hs_parse.specs.declared.fault.ParseFault.TheVariants as fault
@@ -23,10 +21,10 @@ use Rattle.hs_parse.specs.Syntax.{Options, role_at}
 use Rattle.hs_parse.specs.Tokens.{Token, TokenAt, Begins, text_end, any_byte, literal, escaped, bad_escape, bracket, named, closed, unclosed, refused, group_start, unread_group, group_end, divider, star_mark, plus_mark, unread_mark}
 use Rattle.hs_parse.specs.Tokens as tokens
 use Rattle.hs_parse.specs.Grammar.{greatest_length, greatest_depth, Quantifier, star, plus, question, NoQuantifier, Atom, one_byte, group, Item, once, repeated, Sequence, nothing, item_first, sequence_tree, Alternation, last, alternative_first, alternation_tree, Reads}
-use Rattle.hs_parse.specs.Faults.{Fault, IsFaultOf}
-use Rattle.hs_parse.specs.Reading.{EndsGroup, at_closing, at_ending, EndsSequence, with_group, at_bar, Passes, StopsFrom, StopsBehind, IsTokenAt, ReadsAtom, ReadsItem, ReadsSequence, ReadsGroup}
+use Rattle.hs_parse.specs.Faults.{Fault}
+use Rattle.hs_parse.specs.Reading.{EndsGroup, at_closing, at_ending, EndsSequence, with_group, at_bar, Passes, StopsFrom, IsTokenAt, ReadsAtom, ReadsItem, ReadsSequence, ReadsGroup}
 use Rattle.hs_parse.proofs.TokenLemmas.{token_takes, as_token, ending_past}
-use Rattle.hs_parse.proofs.StopLemmas.{quantifier_stops, depth_stops, group_stops, unclosed_stops, twice_stops, passes_stops, passes_here, passes_then, item_passes, sequence_passes, bar_passes, stops_fault, closing_fault}
+use Rattle.hs_parse.proofs.StopLemmas.{quantifier_stops, unclosed_stops, passes_here, passes_then, item_passes, sequence_passes, bar_passes, closing_fault}
 
 bar_role_of :
     {text : List ℕ} {options : Options} {at end : ℕ} {r : Role} {token : Token} →

@@ -1,5 +1,5 @@
 -- The numbers of refusals that a text has.
-use Rattle.std.proofs.Common.{◌≡◌, ℕ, ◌+◌, ◌⊎◌, inl, inr, Bool, true, false, not, ◌&&◌, List, [], ◌∷◌, length, Option, Some, None, refl, sym, subst}
+use Rattle.std.proofs.Common.{◌≡◌, ℕ, ◌+◌, inl, inr, Bool, not, ◌&&◌, List, [], ◌∷◌, length, Option, Some, None, refl, subst}
 use Rattle.std.specs.Prelude.{◌==◌, nat_lt}
 use Rattle.std.specs.List.{slice_get}
 use Rattle.std.specs.Char.{is_ascii_alphanumeric}
@@ -11,14 +11,13 @@ use Rattle.hs_base.specs.Refusals.{number_of}
 use Rattle.hs_parse.specs.declared.role.Role.{Role}
 use Rattle.hs_parse.specs.declared.piece.Piece.{Piece}
 use Rattle.hs_parse.specs.declared.piece.Piece.TheVariants as piece
-use Rattle.hs_parse.specs.declared.piece.Item.{Item}
 use Rattle.hs_parse.specs.declared.piece.Item.TheVariants as item
 use Rattle.hs_parse.specs.Syntax.{Options, backslash, closing_bracket, opening_bracket, hyphen, is_byte, escape_of, escape_at}
 use Rattle.hs_parse.specs.Classes.{is_unread_bracket, piece_of, piece_at, range_of, item_of, item_at}
 use Rattle.hs_parse.specs.Tokens.{Token, Begins, text_end, any_byte, literal, escaped, bad_escape, bracket, named, closed, unclosed, refused, group_start, unread_group, group_end, divider, star_mark, plus_mark, unread_mark, TokenAt}
 use Rattle.hs_parse.specs.Tokens as tokens
 use Rattle.hs_parse.specs.Grammar.{greatest_depth}
-use Rattle.hs_parse.specs.Faults.{Before, beginning, atom, quantifier, State, state, Move, goes, stops, end_move, close_move, quantifier_move, move, HasFault, too_long, stopped, Fault, IsOfText, syntax_fault, unsupported, length_limit, depth_limit}
+use Rattle.hs_parse.specs.Faults.{Before, beginning, atom, quantifier, State, state, goes, stops, end_move, close_move, quantifier_move, move, HasFault, too_long, stopped, Fault, IsOfText, syntax_fault, unsupported, length_limit, depth_limit}
 use Rattle.hs_parse.proofs.PieceLemmas.{chosen}
 
 moved : {a b : Refusal} → a ≡ b → IsOfText (number_of a) → IsOfText (number_of b)

@@ -1,10 +1,9 @@
 -- What the functions of the parser know, in the words of the grammar.
-use Rattle.std.proofs.Common.{◌≡◌, ℕ, ◌+◌, ◌<◌, ◌≤◌, ◌⊎◌, inl, inr, Bool, true, false, not, List, [], ◌∷◌, ◌++◌, length, get_or, map, Option, Some, None, Result, Ok, Err, refl, sym, ap, subst, ◌∙◌, arith}
+use Rattle.std.proofs.Common.{◌≡◌, ℕ, ◌+◌, ◌<◌, ◌≤◌, ◌⊎◌, inl, inr, Bool, true, false, not, List, length, get_or, Option, Some, None, Ok, refl, sym, ap, subst, ◌∙◌}
 use Rattle.std.specs.Prelude.{◌==◌, if◌then◌else◌}
 use Rattle.std.specs.List.{slice_get}
 use Rattle.std.proofs.lemmas.Option.{slice_get-get_or}
 use Rattle.hs_base.specs.declared.byte_set.ByteSet.{ByteSet}
-use Rattle.hs_base.specs.declared.flags.Flags.{Flags}
 use Rattle.hs_base.specs.declared.refusal.Refusal.{Refusal}
 use Rattle.hs_base.specs.declared.refusal.Refusal.TheVariants.{Syntax, Unsupported}
 use Rattle.hs_base.specs.declared.construct.Construct.TheVariants.{Later}
@@ -14,19 +13,18 @@ use Rattle.hs_parse.specs.declared.role.Role.TheVariants as role
 use Rattle.hs_parse.specs.declared.piece.Piece.{Piece}
 use Rattle.hs_parse.specs.declared.piece.Piece.TheVariants as piece
 use Rattle.hs_parse.specs.declared.piece.Item.TheVariants as item
-use Rattle.hs_parse.specs.Syntax.{Options, role_at, escape_at, is_unread_group}
-use Rattle.hs_parse.specs.Classes.{item_at, is_negated, start_of, class_of}
+use Rattle.hs_parse.specs.Syntax.{Options, role_at, escape_at}
+use Rattle.hs_parse.specs.Classes.{item_at, is_negated, start_of}
 use Rattle.hs_parse.specs.Tokens.{Token, not_newline, just, is_named, ClassToken, named, closed, unclosed, refused, Begins, text_end, any_byte, literal, escaped, bad_escape, bracket, group_start, unread_group, group_end, divider, star_mark, plus_mark, unread_mark, TokenAt}
 use Rattle.hs_parse.specs.Tokens as tokens
 use Rattle.hs_parse.specs.Grammar.{Quantifier, star, plus, question, NoQuantifier}
 use Rattle.hs_parse.specs.Reading.{HasItems, EndsItems, AreItemsOf, StopsBehind}
 use Rattle.hs_parse.proofs.PieceLemmas.{escape_end, escape_is, IsEscape}
 use Rattle.hs_parse.proofs.PieceLemmas as pieces
-use Rattle.hs_parse.proofs.ClassLemmas.{class_within}
-use Rattle.hs_parse.proofs.SetLemmas.{members-just, members-not_newline, members-class}
-use Rattle.hs_parse.proofs.TokenLemmas.{TokenRead, token_read, as_token, token_takes}
+use Rattle.hs_parse.proofs.SetLemmas.{members-just, members-class}
+use Rattle.hs_parse.proofs.TokenLemmas.{token_read, as_token, token_takes}
 use Rattle.hs_parse.proofs.GrammarLemmas.{is_quantifier, no_quantifier}
-use Rattle.hs_parse.proofs.StopLemmas.{second_of, second_stops}
+use Rattle.hs_parse.proofs.StopLemmas.{second_stops}
 
 -- whether a quantifier begins
 abbrev pub quantifies : Role → Bool

@@ -1,17 +1,16 @@
 -- Where the grammar reads, the reading goes on.
-use Rattle.std.proofs.Common.{◌≡◌, ℕ, ◌+◌, ◌<◌, ◌≤◌, ◌⊎◌, inl, inr, Bool, true, false, List, [], ◌∷◌, length, Option, refl, sym, ap, ◌∙◌, arith}
-use Rattle.std.specs.Prelude.{nat_lt, if◌then◌else◌}
+use Rattle.std.proofs.Common.{◌≡◌, ℕ, ◌<◌, ◌≤◌, inr, List, [], ◌∷◌, length, Option, refl, ap, arith}
+use Rattle.std.specs.Prelude.{if◌then◌else◌}
 use Rattle.std.proofs.lemmas.Bool.{lt-ltb, le-ltb}
 use Rattle.hs_base.specs.declared.flags.Flags.{Flags}
 use Rattle.hs_base.specs.declared.refusal.Refusal.{Refusal}
-use Rattle.hs_base.specs.declared.refusal.Refusal.TheVariants.{Syntax, LengthLimit, DepthLimit}
+use Rattle.hs_base.specs.declared.refusal.Refusal.TheVariants.{DepthLimit}
 use Rattle.hs_base.specs.Refusals.{number_of}
 use Rattle.hs_base.specs.Trees.{Tree}
-use Rattle.hs_parse.specs.declared.fault.ParseFault.TheVariants as fault
 use Rattle.hs_parse.specs.Syntax.{Options}
-use Rattle.hs_parse.specs.Tokens.{Token, TokenAt}
-use Rattle.hs_parse.specs.Grammar.{greatest_length, greatest_depth, Quantifier, star, plus, question, NoQuantifier, Atom, one_byte, group, Item, once, repeated, Sequence, nothing, item_first, Alternation, last, alternative_first, Reads}
-use Rattle.hs_parse.specs.Faults.{Before, beginning, atom, quantifier, State, state, start_state, Move, goes, accepts, stops, move, Run, here, on, StopsAt, HasFault, too_long, stopped, IsFirst, Fault}
+use Rattle.hs_parse.specs.Tokens.{Token}
+use Rattle.hs_parse.specs.Grammar.{greatest_depth, Quantifier, star, plus, question, Atom, one_byte, group, Item, once, repeated, Sequence, nothing, item_first, Alternation, last, alternative_first, Reads}
+use Rattle.hs_parse.specs.Faults.{Before, beginning, atom, quantifier, state, goes, accepts, stops, move, Run, here, on, HasFault, too_long, stopped, Fault}
 use Rattle.hs_parse.specs.Laws.{OneFault, NeverBoth}
 use Rattle.hs_parse.proofs.RunLemmas.{run_then, one_step, Halts, one_end, stops_halts}
 use Rattle.hs_parse.proofs.GrammarLemmas.{ends_there}

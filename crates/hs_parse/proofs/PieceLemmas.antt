@@ -1,5 +1,5 @@
 -- Where the pieces and the items of a class end.
-use Rattle.std.proofs.Common.{◌≡◌, ℕ, ◌+◌, ◌<◌, ◌≤◌, ◌⊎◌, inl, inr, Bool, true, false, not, ◌&&◌, List, length, Option, Some, None, refl, sym, ap, ◌∙◌, arith}
+use Rattle.std.proofs.Common.{◌≡◌, ℕ, ◌+◌, ◌<◌, ◌≤◌, ◌⊎◌, inl, inr, Bool, true, false, not, ◌&&◌, List, length, Option, Some, None, refl, sym, ap, arith}
 use Rattle.std.specs.Prelude.{◌==◌, nat_lt, if◌then◌else◌}
 use Rattle.std.specs.List.{slice_get}
 use Rattle.std.specs.Char.{is_ascii_alphanumeric}
@@ -10,7 +10,6 @@ use Rattle.hs_base.specs.declared.refusal.Refusal.TheVariants.{Syntax, Unsupport
 use Rattle.hs_base.specs.declared.construct.Construct.TheVariants.{Later}
 use Rattle.hs_parse.specs.declared.piece.Piece.{Piece}
 use Rattle.hs_parse.specs.declared.piece.Piece.TheVariants as piece
-use Rattle.hs_parse.specs.declared.piece.Item.{Item}
 use Rattle.hs_parse.specs.declared.piece.Item.TheVariants as item
 use Rattle.hs_parse.specs.Syntax.{backslash, closing_bracket, opening_bracket, hyphen, is_byte, escape_of, escape_at}
 use Rattle.hs_parse.specs.Classes.{is_unread_bracket, piece_of, piece_at, range_of, item_of, item_at}

@@ -1,11 +1,9 @@
 -- The reading goes one way.
-use Rattle.std.proofs.Common.{◌≡◌, ℕ, ◌<◌, ◌≤◌, Bool, true, false, List, length, refl, sym, ap, subst, ◌∙◌}
+use Rattle.std.proofs.Common.{◌≡◌, ℕ, Bool, true, false, List, refl, sym, ap, subst, ◌∙◌}
 use Rattle.hs_base.specs.declared.flags.Flags.{Flags}
 use Rattle.hs_base.specs.declared.refusal.Refusal.{Refusal}
-use Rattle.hs_parse.specs.Syntax.{Options}
 use Rattle.hs_parse.specs.Tokens.{Token, TokenAt}
-use Rattle.hs_parse.specs.Faults.{State, start_state, Move, goes, accepts, stops, move, Run, here, on, StopsAt}
-use Rattle.hs_parse.proofs.ClassLemmas.{AreSameTokens}
+use Rattle.hs_parse.specs.Faults.{State, Move, goes, accepts, stops, move, Run, here, on, StopsAt}
 use Rattle.hs_parse.proofs.TokenLemmas.{one_token}
 
 -- runs join

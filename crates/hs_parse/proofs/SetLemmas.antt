@@ -9,7 +9,7 @@ use Rattle.hs_base.specs.ByteSets.{has, members}
 use Rattle.hs_base.proofs.ByteSetLemmas.{word_at}
 use Rattle.hs_parse.specs.declared.piece.Item.TheVariants as item
 use Rattle.hs_parse.specs.Syntax.{Options}
-use Rattle.hs_parse.specs.Classes.{is_between, item_at, Items, nothing, class_of}
+use Rattle.hs_parse.specs.Classes.{is_between, item_at, nothing, class_of}
 use Rattle.hs_parse.specs.Tokens.{just, not_newline}
 use Rattle.hs_parse.specs.Reading.{HasItems}
 use Rattle.hs_parse.proofs.ClassLemmas.{items_last, any_last}

@@ -1,8 +1,8 @@
 -- Where the reading stops, and how far it comes before.
-use Rattle.std.proofs.Common.{◌≡◌, ℕ, ◌+◌, ◌<◌, ◌≤◌, ◌⊎◌, inl, inr, Bool, true, false, List, [], ◌∷◌, length, Option, refl, sym, ap, ◌∙◌, arith}
+use Rattle.std.proofs.Common.{◌≡◌, ℕ, ◌+◌, ◌<◌, ◌≤◌, inl, inr, true, List, [], ◌∷◌, length, Option, refl, ap, ◌∙◌, arith}
 use Rattle.hs_base.specs.declared.flags.Flags.{Flags}
 use Rattle.hs_base.specs.declared.refusal.Refusal.{Refusal}
-use Rattle.hs_base.specs.declared.refusal.Refusal.TheVariants.{Syntax, Unsupported, LengthLimit, DepthLimit}
+use Rattle.hs_base.specs.declared.refusal.Refusal.TheVariants.{Syntax, Unsupported, DepthLimit}
 use Rattle.hs_base.specs.declared.construct.Construct.TheVariants.{Later}
 use Rattle.hs_base.specs.Trees.{Tree}
 use Rattle.hs_parse.specs.declared.fault.ParseFault.{ParseFault}
@@ -10,10 +10,10 @@ use Rattle.hs_parse.specs.declared.fault.ParseFault.TheVariants as fault
 use Rattle.hs_parse.specs.Syntax.{Options}
 use Rattle.hs_parse.specs.Tokens.{Token, TokenAt}
 use Rattle.hs_parse.specs.Grammar.{greatest_length, greatest_depth, Quantifier, star, plus, question, NoQuantifier, Atom, Item, Sequence, Alternation}
-use Rattle.hs_parse.specs.Faults.{Before, beginning, atom, quantifier, state, start_state, goes, stops, place_of, move, Run, here, on, StopsAt, stopped, Fault, IsFaultOf}
-use Rattle.hs_parse.specs.Reading.{EndsGroup, at_closing, at_ending, EndsSequence, with_group, at_bar, IsReady, Passes, StopsFrom, StopsBehind}
+use Rattle.hs_parse.specs.Faults.{Before, beginning, quantifier, state, stops, place_of, move, here, stopped, Fault, IsFaultOf}
+use Rattle.hs_parse.specs.Reading.{at_closing, at_ending, EndsSequence, with_group, at_bar, IsReady, Passes, StopsFrom, StopsBehind}
 use Rattle.hs_parse.proofs.RunLemmas.{run_then, one_step}
-use Rattle.hs_parse.proofs.GrammarLemmas.{IsThere, is_quantifier, no_quantifier}
+use Rattle.hs_parse.proofs.GrammarLemmas.{is_quantifier, no_quantifier}
 use Rattle.hs_parse.proofs.PathLemmas.{opens_group, opens_no_group, quantifier_runs, atom_runs, item_runs, sequence_runs, alternation_runs, fault_of}
 
 -- a reading that has come to a place stops there

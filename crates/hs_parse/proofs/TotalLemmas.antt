@@ -1,20 +1,18 @@
 -- Every text is read, or has a fault.
-use Rattle.std.proofs.Common.{◌≡◌, ℕ, zero, suc, ◌+◌, ◌<◌, ◌≤◌, ◌⊎◌, inl, inr, Bool, true, false, List, [], ◌∷◌, length, Option, refl, sym, ap, subst, ◌∙◌, arith}
+use Rattle.std.proofs.Common.{◌≡◌, ℕ, zero, suc, ◌+◌, ◌<◌, ◌≤◌, inl, inr, true, List, [], ◌∷◌, length, refl, subst, arith}
 use Rattle.std.proofs.lemmas.Bool.{cases_lt, cases_Bool}
 use Rattle.hs_base.specs.declared.flags.Flags.{Flags}
 use Rattle.hs_base.specs.declared.refusal.Refusal.{Refusal}
 use Rattle.hs_base.specs.declared.refusal.Refusal.TheVariants.{Syntax, DepthLimit}
 use Rattle.hs_base.specs.Trees.{Tree}
-use Rattle.hs_parse.specs.declared.role.Role.TheVariants as role
 use Rattle.hs_parse.specs.declared.fault.ParseFault.TheVariants as fault
-use Rattle.hs_parse.specs.Syntax.{Options, role_at}
-use Rattle.hs_parse.specs.Tokens.{Token, TokenAt, Begins, text_end}
-use Rattle.hs_parse.specs.Grammar.{greatest_length, greatest_depth, NoQuantifier, Atom, one_byte, group, Item, once, repeated, Sequence, nothing, item_first, sequence_tree, Alternation, last, alternative_first, Reads}
+use Rattle.hs_parse.specs.Tokens.{Token, TokenAt, text_end}
+use Rattle.hs_parse.specs.Grammar.{greatest_length, greatest_depth, NoQuantifier, Atom, one_byte, group, Item, once, repeated, Sequence, nothing, item_first, sequence_tree, Alternation, last, alternative_first}
 use Rattle.hs_parse.specs.Faults.{too_long}
 use Rattle.hs_parse.specs.Reading.{EndsGroup, at_closing, at_ending, StopsFrom}
 use Rattle.hs_parse.specs.Laws.{Outcome, read, refused, AlwaysOne}
-use Rattle.hs_parse.proofs.TokenLemmas.{TokenRead, token_read, goes_on, TakesBytes, token_takes, ending_past, end_past, past_end, as_token}
-use Rattle.hs_parse.proofs.GrammarLemmas.{IsThere, is_quantifier, no_quantifier}
+use Rattle.hs_parse.proofs.TokenLemmas.{token_read, goes_on, TakesBytes, token_takes, ending_past, past_end, as_token}
+use Rattle.hs_parse.proofs.GrammarLemmas.{is_quantifier, no_quantifier}
 use Rattle.hs_parse.proofs.PathLemmas.{fault_of}
 use Rattle.hs_parse.proofs.StopLemmas.{faulty_stops, second_of, second_stops, quantifier_read, quantifier_stops, depth_stops, group_stops, unclosed_stops, twice_stops, passes_stops, item_passes, bar_passes, stops_fault, closing_fault}
 

@@ -3,7 +3,6 @@ use Rattle.std.specs.Prelude.{◌≡◌, ℕ, ◌+◌, Bool, false, not, ◌==�
 use Rattle.std.specs.List.{list_any}
 use Rattle.std.specs.Char.{is_ascii_lowercase}
 use Rattle.hs_base.specs.ByteSets.{bytes_where}
-use Rattle.hs_base.specs.declared.refusal.Refusal.{Refusal}
 use Rattle.hs_base.specs.declared.refusal.Refusal.TheVariants.{Syntax, Unsupported}
 use Rattle.hs_base.specs.declared.construct.Construct.TheVariants.{Later}
 use Rattle.hs_parse.specs.declared.piece.Piece.{Piece}

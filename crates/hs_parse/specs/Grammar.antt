@@ -7,7 +7,6 @@ use Rattle.hs_base.specs.Trees.{Tree, empty, class, cat, alt, repeat}
 use Rattle.hs_expr.specs.Meaning.{trees_of}
 use Rattle.hs_parse.specs.Syntax.{Options}
 use Rattle.hs_parse.specs.Tokens.{Token, TokenAt}
-use Rattle.hs_parse.specs.Tokens as token
 
 -- the greatest length of a text, in bytes
 abbrev pub greatest_length : ℕ

@@ -16,7 +16,7 @@ use Rattle.hs_parse.specs.Syntax.{Options}
 use Rattle.hs_parse.specs.Classes.{item_at, Items}
 use Rattle.hs_parse.specs.Tokens.{Token, ending, single, opening, closing, bar, star, plus, question, faulty, TokenAt}
 use Rattle.hs_parse.specs.Grammar.{NoQuantifier, Atom, Item, Sequence, sequence_tree, Alternation, alternation_tree}
-use Rattle.hs_parse.specs.Faults.{Before, beginning, quantifier, State, state, start_state, Run, StopsAt, move, stops}
+use Rattle.hs_parse.specs.Faults.{Before, beginning, quantifier, state, start_state, Run, StopsAt, move, stops}
 
 -- the set has the bytes of the items of a class, read up to a place
 pub record HasItems (text : List ℕ) (options : Options) (start : ℕ) (set : ByteSet) (here : ℕ) : Type 0 where

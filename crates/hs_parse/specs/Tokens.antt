@@ -1,5 +1,5 @@
 -- What an expression is made of: its tokens outside of classes, a class being one of them.
-use Rattle.std.specs.Prelude.{◌≡◌, ℕ, ◌+◌, Bool, true, false, not, ◌==◌, ◌&&◌, Some, List, length, drop, slice_get}
+use Rattle.std.specs.Prelude.{◌≡◌, ℕ, ◌+◌, Bool, true, false, not, ◌==◌, ◌&&◌, Some, List, drop, slice_get}
 use Rattle.hs_base.specs.Assertions.{line_feed}
 use Rattle.hs_base.specs.ByteSets.{bytes_where}
 use Rattle.hs_base.specs.declared.refusal.Refusal.{Refusal}

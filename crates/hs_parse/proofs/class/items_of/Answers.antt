@@ -1,6 +1,4 @@
-use Rattle.std.proofs.Common.{◌≡◌, sym, ◌∙◌, arith}
-use Rattle.hs_parse.specs.declared.piece.Item.TheVariants as item
-use Rattle.hs_parse.specs.Classes.{item_at}
+use Rattle.std.proofs.Common.{sym, ◌∙◌, arith}
 use Rattle.hs_parse.proofs.PieceLemmas.{item_end}
 use Rattle.hs_parse.proofs.SetLemmas.{no_items, more_items}
 use Rattle.hs_parse.proofs.class.items_of.Goals as goal

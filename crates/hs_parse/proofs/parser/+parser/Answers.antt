@@ -1,4 +1,4 @@
-use Rattle.std.proofs.Common.{sym, ◌∙◌, arith}
+use Rattle.std.proofs.Common.{arith}
 use Rattle.hs_parse.specs.Reading.{StopsFrom}
 use Rattle.hs_parse.proofs.StopLemmas.{faulty_stops, depth_stops, group_stops, twice_stops, passes_stops}
 use Rattle.hs_parse.proofs.LoopLemmas.{no_alternatives, no_sequence, more_sequence, more_alternatives, all_alternatives, group_read, group_open, sequence_ends, marks_stop, single_read, once_read, quantifier_within, repeated_read, sequence_read, handed_on}

@@ -1,4 +1,3 @@
-use Rattle.std.proofs.Common.{arith}
 use Rattle.hs_parse.specs.Faults.{IsFaultOf, too_long}
 use Rattle.hs_parse.proofs.PathLemmas.{fault_of}
 use Rattle.hs_parse.proofs.StopLemmas.{stops_fault}
