@@ -120,9 +120,9 @@ module _ (number : ℕ) (entry : ListedEntry) (t : Tree) (reads : Reads entry.te
 pub single-asked : (asked : Bool) (flags : ℕ) → IsTrue asked ↔ (bit_and flags 8 ≡ 8) → asked ≡ asks_single flags
 single-asked true flags tells = sym (eq-eqb (bit_and flags 8) 8 (tells.0 refl))
 single-asked false flags tells = elim (cases_Bool (eqb (bit_and flags 8) 8)) [
-    | inl same ↦ absurd (false≢true (tells.1 (eqb-true (bit_and flags 8) 8 same)))
-    | inr apart ↦ sym apart
-  ]
+  | inl same ↦ absurd (false≢true (tells.1 (eqb-true (bit_and flags 8) 8 same)))
+  | inr apart ↦ sym apart
+]
 
 -- an entry that isn't refused is supported
 pub supported : (number : ℕ) (entry : ListedEntry) (t : Tree) → Reads entry.text (flags_of entry) t → ((refusal : Refusal) → HasRefusal number entry refusal → ⊥) → IsAccepted (flags_of entry) entry.ext t

@@ -88,9 +88,9 @@ length_listed entries i entry is = length-map (take i entries) listed ∙ length
 -- the number of an entry that isn't refused is within the count
 within-count : (number : ℕ) (entry : ListedEntry) → ((refusal : Refusal) → HasRefusal number entry refusal → ⊥) → number ≤ greatest_count
 within-count number entry free = elim (cases_lt greatest_count number) [
-    | inl more ↦ absurd (free CountLimit (beyond more))
-    | inr few ↦ few
-  ]
+  | inl more ↦ absurd (free CountLimit (beyond more))
+  | inr few ↦ few
+]
 
 pub compiled-none : AreCompiled [] []
 compiled-none = record { patterns = []; accepted = tt; run = tt; small = tt; few = omega arith }

@@ -16,12 +16,13 @@ fn entry_of(alloc: Global, id: u32, text: &str, flags: Flags) -> Result<Entry, F
 
 /// Lists of identifiers, expressions and flags, and where they are refused.
 const REFUSED: &[(&[(u32, &str, Flags)], (u32, u32, Refusal))] = &[
+    (&[(9, "a*", Flags::NONE)], (1, 9, Refusal::MatchesEmpty)),
     (
-        &[(9, "a*", Flags::NONE)],
-        (1, 9, Refusal::MatchesEmpty),
-    ),
-    (
-        &[(1, "a", Flags::NONE), (2, "a)", Flags::NONE), (3, "*", Flags::NONE)],
+        &[
+            (1, "a", Flags::NONE),
+            (2, "a)", Flags::NONE),
+            (3, "*", Flags::NONE),
+        ],
         (2, 2, Refusal::Syntax(1)),
     ),
     (

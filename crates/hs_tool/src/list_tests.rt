@@ -14,7 +14,11 @@ const SCANNED: &[(&[u8], &[u8], &[u8])] = &[
     (b"2:/b/\n1:/ab/\n", b"ab", b"1 2\n2 2\nend 2\n"),
     (b"3:/a/\n1:/a/\n2:/a/\n", b"a", b"1 1\n2 1\n3 1\nend 1\n"),
     (b"12:/ab/\n12:/b/\n", b"ab", b"12 2\nend 2\n"),
-    (b"12:/a/\n5:/b/\n12:/b/\n", b"ab", b"12 1\n5 2\n12 2\nend 2\n"),
+    (
+        b"12:/a/\n5:/b/\n12:/b/\n",
+        b"ab",
+        b"12 1\n5 2\n12 2\nend 2\n",
+    ),
     (b"1:/a/b/", b"xa/b", b"1 4\nend 4\n"),
     (b"1:/a\\/b/", b"xa/b", b"1 4\nend 4\n"),
     (b"1:///", b"a/", b"1 2\nend 2\n"),
@@ -92,12 +96,18 @@ const REFUSED: &[(&[u8], &[u8])] = &[
     // Flags, parameters, and the lesser of two reasons.
     (b"25:/a/L", b"refused 1 25 4 UnsupportedFlag 256\n"),
     (b"1:/a/Hm", b"refused 1 1 4 UnsupportedFlag 4\n"),
-    (b"1:/a/{min_offset=1}", b"refused 1 1 5 UnsupportedParameter 1\n"),
+    (
+        b"1:/a/{min_offset=1}",
+        b"refused 1 1 5 UnsupportedParameter 1\n",
+    ),
     (
         b"1:/a/{edit_distance=1,max_offset=2}",
         b"refused 1 1 5 UnsupportedParameter 2\n",
     ),
-    (b"1:/a/L{max_offset=2}", b"refused 1 1 4 UnsupportedFlag 256\n"),
+    (
+        b"1:/a/L{max_offset=2}",
+        b"refused 1 1 4 UnsupportedFlag 256\n",
+    ),
     (b"1:/F[/L", b"refused 1 1 1 Syntax 1\n"),
     (b"1:/a*/L", b"refused 1 1 4 UnsupportedFlag 256\n"),
     // Expressions that match the empty text.
