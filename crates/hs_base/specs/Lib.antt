@@ -10,6 +10,10 @@ pub mod ContextSets
 pub mod Spans
 pub mod WrittenOut
 pub mod EndAssertions
+pub mod Literals
+pub mod LiteralView
+pub mod Items
+pub mod Chains
 pub mod Fields
 pub mod Patterns
 pub mod Reports

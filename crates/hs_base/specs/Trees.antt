@@ -1,5 +1,5 @@
 -- An expression as a tree of plain data.
-use Rattle.std.specs.Prelude.{◌≡◌, ℕ, ◌<◌, ◌≤◌, Bool, List, length, Option, IfSome}
+use Rattle.std.specs.Prelude.{◌≡◌, ℕ, ◌<◌, ◌≤◌, Bool, List, [], ◌∷◌, length, Option, IfSome}
 use Rattle.hs_base.specs.Lists.{Each}
 use Rattle.hs_base.specs.declared.assertion.Assertion.{Assertion}
 
@@ -24,6 +24,11 @@ mutual
   pub data Trees : Type 0 where
     none : Trees
     more : Tree → Trees → Trees
+
+-- trees in a row
+abbrev pub trees_of : List Tree → Trees
+trees_of [] = none
+trees_of (item ∷ items) = more item (trees_of items)
 
 -- the greatest bound that a repeat may have
 abbrev pub greatest_bound : ℕ

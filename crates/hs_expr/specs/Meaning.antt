@@ -1,15 +1,10 @@
 -- The plain tree that an `Expr` stands for.
-use Rattle.std.specs.Prelude.{List, [], ◌∷◌}
-use Rattle.hs_base.specs.Trees.{Tree, Trees, empty, class, points, assert, cat, alt, repeat, none, more}
+pub use Rattle.hs_base.specs.Trees.{trees_of}
+use Rattle.hs_base.specs.Trees.{Tree, empty, class, points, assert, cat, alt, repeat}
 use Rattle.hs_base.specs.ByteSets.{members}
 use Rattle.hs_expr.specs.declared.expr.Expr.{Expr}
 use Rattle.hs_expr.specs.declared.expr.Expr.TheOpen.{Expr-F}
 use Rattle.hs_expr.specs.declared.expr.Expr.TheFolds.{fold-Expr}
-
--- trees in a row
-abbrev pub trees_of : List Tree → Trees
-trees_of [] = none
-trees_of (item ∷ items) = more item (trees_of items)
 
 -- one node, with the trees of its children in their places
 abbrev pub node_tree : Expr-F Tree → Tree

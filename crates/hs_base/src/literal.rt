@@ -1,0 +1,54 @@
+//! A byte of a literal.
+ghost use Rattle.std.specs.Prelude.{◌≡◌, true, false};
+ghost use Rattle.hs_base.specs.Literals.{is_small_letter};
+
+/// How far a capital letter stands below its small one (The Unicode Standard, "C0 Controls and Basic Latin").
+const CASE_DISTANCE: u8 = 32;
+
+/// What stands at one place of a literal: one byte, or a letter in either case.
+#[derive(Clone, Copy, Debug, PartialEq, Eq)]
+pub struct LitByte {
+    /// The byte; where both cases count, the small letter.
+    pub byte: u8,
+    /// Whether the capital letter may stand here as well.
+    pub both_cases: bool,
+    pub ghost small: { both_cases ≡ true → is_small_letter byte ≡ true },
+}
+
+impl LitByte {
+    ghost use Rattle.std.specs.Prelude.{Some, None, Option};
+    ghost use Rattle.std.specs.Option.{option_map};
+    ghost use Rattle.hs_base.specs.ByteSets.{members};
+    ghost use Rattle.hs_base.specs.Literals.{LiteralByte, takes, literal_set, literal_of};
+    ghost use Rattle.hs_base.specs.LiteralView.{literal_byte};
+
+    /// Exactly that byte.
+    pub fn one(byte: u8) -> LitByte
+        ensures byte { result.byte ≡ byte }
+        ensures case { result.both_cases ≡ false }
+    {
+        LitByte {
+            byte,
+            both_cases: false,
+        }
+    }
+
+    /// Both cases of a letter, given by its small one.
+    pub fn letter(small: u8) -> LitByte
+        requires { is_small_letter small ≡ true }
+        ensures byte { result.byte ≡ small }
+        ensures case { result.both_cases ≡ true }
+    {
+        LitByte {
+            byte: small,
+            both_cases: true,
+        }
+    }
+
+    /// Whether the byte may stand here.
+    pub fn contains(&self, byte: u8) -> bool
+        ensures { result ≡ takes (literal_byte self.now) byte }
+    {
+        byte == self.byte || (self.both_cases && byte == self.byte - CASE_DISTANCE)
+    }
+}
