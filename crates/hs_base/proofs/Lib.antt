@@ -1,4 +1,5 @@
 pub mod ByteSetLemmas
+pub mod LiteralLemmas
 pub mod ListLemmas
 pub mod ContextLemmas
 pub mod ContextSetLemmas

@@ -1,6 +1,6 @@
 -- Chains of pieces: what an expression is split into, at its literals and its long repeats of one set.
-use Rattle.std.specs.Prelude.{◌≡◌, ℕ, zero, suc, ◌/◌, ◌≤◌, Bool, true, false, nat_le, List, [], ◌∷◌, ◌++◌, length, map, take, drop, Option, Some, None, if◌then◌else◌}
-use Rattle.hs_base.specs.Lists.{Each, OneOf}
+use Rattle.std.specs.Prelude.{◌≡◌, ℕ, zero, suc, ◌/◌, ◌≤◌, Bool, true, false, nat_le, List, [], ◌∷◌, ◌++◌, length, map, take, drop, Option, Some, None}
+use Rattle.hs_base.specs.Lists.{Each}
 use Rattle.hs_base.specs.Trees.{Tree, Trees, empty, class, points, assert, cat, alt, repeat, none, more, trees_of, AreBounds}
 use Rattle.hs_base.specs.Spans.{Spans}
 use Rattle.hs_base.specs.EndAssertions.{has_embedded_end}

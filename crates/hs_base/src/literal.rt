@@ -2,6 +2,8 @@
 ghost use Rattle.std.specs.Prelude.{◌≡◌, true, false};
 ghost use Rattle.hs_base.specs.Literals.{is_small_letter};
 
+use crate::byte_set::ByteSet;
+
 /// How far a capital letter stands below its small one (The Unicode Standard, "C0 Controls and Basic Latin").
 const CASE_DISTANCE: u8 = 32;
 
@@ -16,10 +18,10 @@ pub struct LitByte {
 }
 
 impl LitByte {
-    ghost use Rattle.std.specs.Prelude.{Some, None, Option};
+    ghost use Rattle.std.specs.Prelude.{[], ◌∷◌};
     ghost use Rattle.std.specs.Option.{option_map};
     ghost use Rattle.hs_base.specs.ByteSets.{members};
-    ghost use Rattle.hs_base.specs.Literals.{LiteralByte, takes, literal_set, literal_of};
+    ghost use Rattle.hs_base.specs.Literals.{takes, literal_set, literal_of, literal_of_places};
     ghost use Rattle.hs_base.specs.LiteralView.{literal_byte};
 
     /// Exactly that byte.
@@ -50,5 +52,45 @@ impl LitByte {
         ensures { result ≡ takes (literal_byte self.now) byte }
     {
         byte == self.byte || (self.both_cases && byte == self.byte - CASE_DISTANCE)
+    }
+
+    /// The bytes that may stand here.
+    pub fn set(&self) -> ByteSet
+        ensures { members result ≡ literal_set (literal_byte self.now) }
+    {
+        let mut set = ByteSet::of(self.byte);
+        if self.both_cases {
+            set.insert(self.byte - CASE_DISTANCE);
+        }
+        set
+    }
+
+    /// What stands for exactly that set, where it has one byte, or the two cases of one letter.
+    pub fn of_set(set: &ByteSet) -> Option<LitByte>
+        ensures { option_map literal_byte result ≡ literal_of (members set.now) }
+    {
+        let mut members = set.iter();
+        let first = match members.next() {
+            Some(byte) => byte,
+            None => return None,
+        };
+        let second = match members.next() {
+            Some(byte) => byte,
+            None => return Some(LitByte::one(first)),
+        };
+        match members.next() {
+            Some(_) => None,
+            None => LitByte::of_cases(first, second),
+        }
+    }
+
+    /// What stands for exactly two bytes, the first below the second.
+    fn of_cases(capital: u8, small: u8) -> Option<LitByte>
+        ensures { option_map literal_byte result ≡ literal_of_places (capital ∷ small ∷ []) }
+    {
+        if small.is_ascii_lowercase() && capital == small - CASE_DISTANCE {
+            return Some(LitByte::letter(small));
+        }
+        None
     }
 }
