@@ -1,0 +1,5 @@
+pub mod Meaning
+pub mod Kinds
+pub mod Splitting
+pub mod LookBack
+pub mod Laws

@@ -1,0 +1,16 @@
+//! The split of an expression into chains of pieces, at its literals and its long repeats of one set. hs_base's
+//! `specs/Chains.antt` says what the chains of an expression are.
+#![tactic(auto)]
+
+mod kind;
+mod laws;
+mod parts;
+mod piece;
+mod splitting;
+
+pub use laws::{chains_are_fit, chains_have_spans, pieces_have_no_more_positions};
+pub use piece::{Chain, LOOK_BACK_WINDOW, Piece};
+pub use splitting::split;
+
+#[cfg(test)]
+mod tests;
