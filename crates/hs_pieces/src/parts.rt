@@ -121,9 +121,10 @@ impl Parts {
             self.pieces.push(Piece::Lit(run))?;
             return Ok(());
         }
-        if let Some(byte) = run.first() {
-            self.items.push(Expr::Class(byte.set()))?;
-        }
+        let Some(byte) = run.first() else {
+            return Ok(());
+        };
+        self.items.push(Expr::Class(byte.set()))?;
         Ok(())
     }
 
