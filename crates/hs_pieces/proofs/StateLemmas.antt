@@ -1,5 +1,5 @@
 -- One more item, over the lists of a split.
-use Rattle.std.proofs.Common.{◌≡◌, ℕ, ◌+◌, ◌<◌, Bool, List, [], ◌∷◌, ◌++◌, length, map, Option, Vec, Global, refl, sym, ap, ◌∙◌, subst, arith}
+use Rattle.std.proofs.Common.{◌≡◌, ℕ, ◌+◌, ◌<◌, ◌≤◌, Bool, List, [], ◌∷◌, ◌++◌, length, map, slice_get, Option, Some, Vec, Global, refl, sym, ap, ◌∙◌, subst, arith}
 use Rattle.std.proofs.lemmas.List.{map-append, length-map, length-append}
 use Rattle.hs_base.specs.ByteSets.{members}
 use Rattle.hs_base.specs.Chains.{Part, literal, ordinary, long, rest_of_run}
@@ -114,3 +114,9 @@ pub ends-none : (run : List LitByte) → length run < 32 → rest_of_run (map li
 ends-none run short =
     let same : length (map literal_byte run) ≡ length run = length-map run literal_byte in
     sym (cut_from-none (map literal_byte run) (omega arith))
+
+-- a list of one member at most, by its first
+pub one-only : {A : Type 0} (xs : List A) (x : A) → length xs ≤ 1 → Some x ≡ slice_get xs 0 → xs ≡ x ∷ []
+one-only [] x few is = absurd (cc)
+one-only (y ∷ []) x few is = let e : x ≡ y = cc in ap (λ z. z ∷ []) (sym e)
+one-only (y ∷ z ∷ ys) x few is = absurd (omega arith)
