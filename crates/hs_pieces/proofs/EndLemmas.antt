@@ -51,7 +51,7 @@ one-consumes t = or-false (may_consume t)
 one-has_end : (t : Tree) (after : Bool) → row_has_end (t ∷ []) after ≡ has_embedded_end t after
 one-has_end t after = or-false (has_embedded_end t (after || false)) ∙ ap (has_embedded_end t) (or-false after)
 
-once-greatest : (least : ℕ) (greatest : Option ℕ) → is_once least greatest ≡ true → greatest ≡ Some 1
+pub once-greatest : (least : ℕ) (greatest : Option ℕ) → is_once least greatest ≡ true → greatest ≡ Some 1
 once-greatest least None once = absurd (cc)
 once-greatest least (Some greatest) once = let e : greatest ≡ 1 = grind (arith, nat_tests) in ap Some e
 

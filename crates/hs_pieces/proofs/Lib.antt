@@ -5,3 +5,4 @@ pub mod FlatLemmas
 pub mod SpanLemmas
 pub mod EndLemmas
 pub mod FitLemmas
+pub mod PositionLemmas

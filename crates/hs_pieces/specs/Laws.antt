@@ -28,4 +28,5 @@ HasPositions n (rep set least greatest) = Unit {0}
 
 -- No expression among the pieces has more positions than the whole.
 abbrev pub PiecesHaveNoMorePositions : Type 0
-PiecesHaveNoMorePositions = (t : Tree) → Each (λ chain. Each (HasPositions (positions t)) chain) (chains_of t)
+PiecesHaveNoMorePositions =
+    (t : Tree) → IsProper t → Each (λ chain. Each (HasPositions (positions t)) chain) (chains_of t)
