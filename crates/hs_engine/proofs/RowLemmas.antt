@@ -7,7 +7,9 @@ use Rattle.std.proofs.lemmas.Nat.Bits.{bit_at-zero}
 use Rattle.hs_base.proofs.ByteSetLemmas.{bit-or}
 use Rattle.hs_engine.specs.Bits.{has_bit}
 use Rattle.hs_engine.specs.RowSizes.{row_len}
-use Rattle.hs_engine.specs.Rows.{row_start}
+use Rattle.hs_engine.specs.Rows.{in_row, in_square, row_start, square_number}
+use Rattle.hs_engine.specs.declared.follow_rows.FollowRows.{FollowRows}
+use Rattle.hs_base.specs.Contexts.{Context}
 use Rattle.hs_engine.proofs.BitLemmas.{bits-zero}
 use Rattle.hs_engine.proofs.CellLemmas.{same_cell}
 
@@ -123,3 +125,11 @@ inserted-square old new size square from to bit hf ht at bits k x y =
             ∙ ap (λ b. b || has_bit old (8 * row_start size k x + y)) (bit-number size square from to k x y hf ht hx hy)))
       ]
     ]
+
+-- rows with the same bits say the same
+pub same-rows : (r s : FollowRows) → r.bits.items ≡ s.bits.items → r.size ≡ s.size → r.by_context ≡ s.by_context → (x y : ℕ) (c : Context) → in_row r x y c ≡ in_row s x y c
+unfolding in_square
+same-rows r s bits size by_context x y c =
+    ap (λ n. nat_lt x n && (nat_lt y (8 * row_len n) && has_bit r.bits.items (8 * row_start n (square_number r.by_context c) x + y))) size
+    ∙ (ap (λ by. nat_lt x s.size && (nat_lt y (8 * row_len s.size) && has_bit r.bits.items (8 * row_start s.size (square_number by c) x + y))) by_context
+    ∙ ap (λ items. nat_lt x s.size && (nat_lt y (8 * row_len s.size) && has_bit items (8 * row_start s.size (square_number s.by_context c) x + y))) bits)

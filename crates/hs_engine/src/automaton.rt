@@ -1,10 +1,13 @@
-ghost use Rattle.std.specs.Prelude.{◌≡◌, ◌≤◌, vec_len};
+ghost use Rattle.std.specs.Prelude.{◌≡◌, ◌+◌, ◌*◌, ◌≤◌, vec_len};
 
 use crate::follow_rows::FollowRows;
 use hs_base::{ByteSet, Mask};
 
 /// The most positions that an automaton may have.
 pub const MAX_POSITIONS: usize = 512;
+
+/// The bytes that a set and two masks take, which each position has.
+const POSITION_LEN: usize = 40;
 
 /// A position automaton: positions with their sets of bytes, and masks of contexts for entering, following and
 /// accepting.
@@ -26,4 +29,14 @@ pub struct Automaton {
     ghost enters_whole: { vec_len enters ≡ vec_len sets },
     ghost accepts_whole: { vec_len accepts ≡ vec_len sets },
     ghost follows_whole: { follows.size ≡ vec_len sets },
+}
+
+impl Automaton {
+    /// How many bytes the tables take: at most 404 KiB, whatever the expression.
+    pub fn tables_len(&self) -> usize
+        ensures len { result ≡ 40 * vec_len self.now.sets + vec_len self.now.follows.bits }
+        ensures few { result ≤ 413696 }
+    {
+        POSITION_LEN * self.sets.len() + self.follows.len()
+    }
 }

@@ -66,10 +66,10 @@ impl FollowRows {
         square_count_of(self.by_context)
     }
 
-    /// How many bytes the rows take.
+    /// How many bytes the rows take: at most 32 KiB for each square.
     pub fn len(&self) -> usize
         ensures len { result ≡ vec_len self.now.bits }
-        ensures few { result ≤ 393216 }
+        ensures few { result ≤ 32768 * square_count self.now.by_context }
     {
         self.bits.len()
     }

@@ -1,16 +1,16 @@
 -- From the tables under construction to the automaton.
 use Rattle.std.proofs.Common.{◌≡◌, ℕ, zero, suc, ◌+◌, ◌-◌, ◌*◌, ◌<◌, ◌≤◌, Bool, true, false, ◌&&◌, Option, Some, None, IfSome, length, slice_get, vec_len, nat_lt, refl, sym, ap, ◌∙◌, inl, inr, arith}
-use Rattle.std.specs.List.{list_any}
 use Rattle.std.proofs.lemmas.Bool.{cases_lt}
 use Rattle.std.proofs.lemmas.Option.{slice_get_past}
 use Rattle.std.proofs.Math.Nat.{mul-le-mul_left, le-mul_of_pos_right}
 use Rattle.hs_base.specs.Trees as tree
 use Rattle.hs_base.specs.Trees.{Tree, Trees}
-use Rattle.hs_base.specs.Contexts.{Context}
+use Rattle.hs_base.specs.declared.context.Prev.{Prev}
+use Rattle.hs_base.specs.Contexts.{Context, class_of}
 use Rattle.hs_base.specs.ContextSets.{has_context}
 use Rattle.hs_base.specs.WrittenOut.{Core, cat, alt, plus, copies_then, up_to, repeat_of, write_out, cat_from, alt_from, count, set_of}
 use Rattle.hs_engine.specs.declared.automaton.Automaton.{Automaton}
-use Rattle.hs_engine.specs.Automata.{in_mask, in_set, joins, takes, enters, accepts, follows}
+use Rattle.hs_engine.specs.Automata.{in_mask, in_set, takes, enters, accepts, follows}
 use Rattle.hs_expr.specs.Counts.{written_copies}
 use Rattle.hs_glushkov.specs.declared.follow_masks.FollowMasks.{FollowMasks}
 use Rattle.hs_glushkov.specs.FollowTables.{is_followed}
@@ -105,7 +105,7 @@ with_edges a edges = record {
   follows = edges;
 }
 
-module _ (a : Automaton) (old : Table) (edges : ℕ → ℕ → Context → Bool) (r : Core) (size : vec_len a.sets ≡ count r) (joined : (x y : ℕ) (c : Context) → list_any (joins x y c) a.edges.items ≡ edges x y c)
+module _ (a : Automaton) (old : Table) (edges : ℕ → ℕ → Context → Bool) (r : Core) (size : vec_len a.sets ≡ count r) (joined : (x y : ℕ) (prev : Prev) (b : ℕ) → follows a x y (record { prev = prev; next = class_of b }) ≡ edges x y (record { prev = prev; next = class_of b }))
     (added : IsAdded old (with_edges a edges) 0 r (has_context a.null)) where
   from-none : (x : ℕ) → 0 + x ≡ x
   from-none x = omega arith
@@ -137,14 +137,15 @@ module _ (a : Automaton) (old : Table) (edges : ℕ → ℕ → Context → Bool
             ap (λ o. in_mask o c) (slice_get_past a.accepts.items x over) ∙ sym (accept-past r x c past)
       ]
 
-  all-follows : (x y : ℕ) (c : Context) → follows a x y c ≡ follow r x y c
-  all-follows x y c =
+  all-follows : (x y : ℕ) (prev : Prev) (b : ℕ) → follows a x y (record { prev = prev; next = class_of b }) ≡ follow r x y (record { prev = prev; next = class_of b })
+  all-follows x y prev b =
+      let c : Context = record { prev = prev; next = class_of b } in
       elim (cases_lt x (count r)) [
         | inl hx ↦ elim (cases_lt y (count r)) [
-          | inl hy ↦ joined x y c ∙ (ap (λ z. edges z y c) (sym (from-none x)) ∙ (ap (λ z. edges (0 + x) z c) (sym (from-none y)) ∙ added.part.follows x y c hx hy))
-          | inr past ↦ joined x y c ∙ (added.clear x y c (inr (omega arith)) ∙ sym (follow-past r x y c (inr past)))
+          | inl hy ↦ joined x y prev b ∙ (ap (λ z. edges z y c) (sym (from-none x)) ∙ (ap (λ z. edges (0 + x) z c) (sym (from-none y)) ∙ added.part.follows x y c hx hy))
+          | inr past ↦ joined x y prev b ∙ (added.clear x y c (inr (omega arith)) ∙ sym (follow-past r x y c (inr past)))
         ]
-        | inr past ↦ joined x y c ∙ (added.clear x y c (inl (omega arith)) ∙ sym (follow-past r x y c (inl past)))
+        | inr past ↦ joined x y prev b ∙ (added.clear x y c (inl (omega arith)) ∙ sym (follow-past r x y c (inl past)))
       ]
 
   pub tables-for : IsFor a r

@@ -9,6 +9,7 @@ use Rattle.hs_base.specs.ContextSets.{has_context}
 use Rattle.hs_base.specs.declared.context.Mask.{Mask}
 use Rattle.hs_engine.specs.Automata.{in_mask}
 use Rattle.hs_base.proofs.ContextLemmas.{first_of_both}
+use Rattle.hs_engine.proofs.CellLemmas.{same_cell}
 use Rattle.hs_glushkov.specs.Parts.{is_within, narrowed}
 use Rattle.hs_glushkov.proofs.PlainLemmas.{not-true}
 
@@ -71,29 +72,6 @@ within-none low k =
     elim (cases_lt k low) [
       | inl under ↦ within-under low low k under
       | inr over ↦ within-over low low k over
-    ]
-
--- two numbers of masks are one only for the same positions
-pub same_cell : (size x y from to : ℕ) → y < size → to < size → size * x + y ≡ size * from + to → (x ≡ from) × (y ≡ to)
-same_cell size x y from to hy ht same =
-    elim (cases_lt x from) [
-      | inl under ↦
-          let next : x + 1 ≤ from = omega arith in
-          let step : size * (x + 1) ≤ size * from = mul-le-mul_left size next in
-          let wide : size * (x + 1) ≡ size * x + size = omega arith in
-          absurd (omega arith)
-      | inr over ↦
-          elim (cases_lt from x) [
-            | inl under ↦
-                let next : from + 1 ≤ x = omega arith in
-                let step : size * (from + 1) ≤ size * x = mul-le-mul_left size next in
-                let wide : size * (from + 1) ≡ size * from + size = omega arith in
-                absurd (omega arith)
-            | inr back ↦
-                let e : x ≡ from = omega arith in
-                let f : size * x ≡ size * from = ap (λ z. size * z) e in
-                (e, omega arith)
-          ]
     ]
 
 pub cell-within : (size from to : ℕ) → from < size → to < size → size * from + to < size * size

@@ -9,3 +9,4 @@ pub mod RowLemmas
 pub mod PastLemmas
 pub mod BuildLemmas
 pub mod EngineLemmas
+pub mod SquareLemmas

@@ -6,3 +6,5 @@ pub mod Parts
 pub mod FollowTables
 pub mod AssertionTests
 pub mod BuiltParts
+pub mod Squares
+pub mod AnyBelow

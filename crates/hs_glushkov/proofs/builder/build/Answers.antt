@@ -29,6 +29,6 @@ returns-clause-runs c =
       plain = c.requires.plain;
       ends_last = c.requires.ends_last;
       tables =
-          tables-for _ (table_of c.in_ok-parts.parts) (is_followed c.add-null.new.parts.follows) r size c.in_ok-edges.ensures.joins
+          tables-for _ (table_of c.in_ok-parts.parts) (is_followed c.add-null.new.parts.follows) r size c.in_ok-follows.ensures.follows
           (subst (λ n. IsAdded (table_of c.in_ok-parts.parts) (table_of c.add-null.new.parts) n r (has_context c.add-null.result)) c.in_ok-parts.ensures.filled c.add-null.ensures.added);
     }
