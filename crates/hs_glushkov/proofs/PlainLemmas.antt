@@ -1,5 +1,5 @@
 -- Bits of a field as they move over a byte.
-use Rattle.std.proofs.Common.{◌≡◌, ℕ, zero, suc, ◌+◌, ◌*◌, ◌/◌, ◌%◌, ◌<◌, ◌≤◌, Bool, true, false, ◌&&◌, ◌||◌, List, [], ◌∷◌, ◌++◌, length, get_or, take, replicate, Some, None, slice_get, eqb, refl, sym, ap, subst, ◌∙◌, inl, inr, arith, vec_len}
+use Rattle.std.proofs.Common.{◌≡◌, ℕ, zero, suc, ◌+◌, ◌*◌, ◌/◌, ◌%◌, ◌<◌, ◌≤◌, Bool, true, false, ◌&&◌, ◌||◌, List, [], ◌∷◌, ◌++◌, length, get_or, take, replicate, Some, None, slice_get, eqb, refl, sym, ap, subst, ◌∙◌, inl, inr, arith, vec_len, length-append}
 use Rattle.std.specs.Prelude.{nat_lt}
 use Rattle.std.specs.Int.{bit_at}
 use Rattle.std.proofs.lemmas.Bool.{cases_eq, cases_lt, eq-eqb, eqb-true, ne_eqb, lt-ltb, le-ltb}
@@ -19,7 +19,7 @@ use Rattle.hs_engine.specs.declared.automaton.Automaton.{Automaton}
 use Rattle.hs_engine.specs.declared.follow_rows.FollowRows.{FollowRows}
 use Rattle.hs_engine.specs.Automata.{in_set, takes, enters, accepts, follows}
 use Rattle.hs_engine.specs.Bits.{AreZero, has_bit}
-use Rattle.hs_engine.specs.Engines.{IsQuiet}
+use Rattle.hs_engine.specs.Engines.{IsQuiet, IsAsleep}
 use Rattle.hs_engine.proofs.BitLemmas.{bits-zero}
 use Rattle.hs_engine.proofs.RowLemmas.{bits-past}
 use Rattle.hs_engine.specs.Rows.{in_row}
@@ -282,6 +282,29 @@ field-quiet a region zeros =
       leaves_nothing = λ tree u entered runs len field next leaves.
           let (x, set, is) = leaves-bit a tree runs u entered region field next leaves in
           true-false (has_bit region x) set (zero-bits region zeros x);
+    }
+
+both-false : (a b : Bool) → b ≡ false → (a && b) ≡ false
+both-false true b isnt = isnt
+both-false false b isnt = refl
+
+longer : {A : Type 0} {B : Type 0} (xs : List A) (ys : List B) (x : A) (y : B) → length xs ≡ length ys → length (xs ++ x ∷ []) ≡ length (ys ++ y ∷ [])
+longer xs ys x y len = omega (arith, length-append xs (x ∷ []), length-append ys (y ∷ []), len)
+
+-- a field without a bit sleeps over each byte with which no match begins
+pub field-asleep : (a : Automaton) (first : ByteSet) → AreFirst a first → (region : List ℕ) → AreZero region → (b : ℕ) → b < 256 → has first b ≡ false →
+    IsAsleep (λ tree. Runs a tree) (λ tree u entered. IsField region (write_out tree) u entered) false b
+field-asleep a first begins region zeros b byte outside =
+    let stays : (tree : Tree) (u : List ℕ) (entered : List Bool) (enters : Bool) → Runs a tree → length entered ≡ length u → IsField region (write_out tree) u entered →
+    IsField region (write_out tree) (u ++ b ∷ []) (entered ++ enters ∷ []) =
+    λ tree u entered enters runs len field.
+    field-rests a (write_out tree) first runs.tables begins u entered len region field zeros b byte enters (both-false enters (has first b) outside) in
+    let quiet : IsQuiet (λ tree. Runs a tree) (λ tree u entered. IsField region (write_out tree) u entered) = field-quiet a region zeros in
+    record {
+      stays = λ tree u entered enters runs len field free. stays tree u entered enters runs len field;
+      leaves_nothing = quiet.leaves_nothing;
+      leaves_nothing_behind = λ tree u entered enters runs len field free next leaves.
+          quiet.leaves_nothing tree (u ++ b ∷ []) (entered ++ enters ∷ []) runs (longer entered u enters b len) (stays tree u entered enters runs len field) next leaves;
     }
 
 -- no position is reached in the empty stream

@@ -106,6 +106,8 @@ impl Engine for Plain {
 
     ghost rests = { λ e bytes. AreZero bytes };
 
+    ghost sleeps = { λ e bytes b. AreZero bytes × (has e.first b ≡ false) };
+
     ghost well = { λ e bytes at. IsClearFrom bytes (vec_len e.automaton.sets) };
 
     ghost enters_always = { λ e. false };
@@ -148,6 +150,10 @@ impl Engine for Plain {
 
     fn at_rest(&self, region: &[u8]) -> bool {
         is_zero(region)
+    }
+
+    fn sleeps(&self, region: &[u8], byte: u8) -> bool {
+        !self.first.contains(byte) && is_zero(region)
     }
 
     fn well_formed(&self, region: &[u8], _at: u64) -> bool {
@@ -429,8 +435,10 @@ mod tests {
         let engine = Plain::build(alloc, &words(alloc)?)?;
         let mut region = vec![in alloc; 0u8; engine.size()]?;
         assert!(rt; engine.at_rest(&region) && engine.well_formed(&region, 0));
+        assert!(rt; engine.sleeps(&region, b'b') && !engine.sleeps(&region, b'a'));
         let _set = left_behind::<Plain, Brand>(&engine, &mut region, b"a", Blank::new(1));
         assert!(rt; !engine.at_rest(&region) && engine.well_formed(&region, 1));
+        assert!(rt; !engine.sleeps(&region, b'b'));
         Ok(())
     }
 }
