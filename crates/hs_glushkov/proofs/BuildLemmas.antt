@@ -12,13 +12,10 @@ use Rattle.hs_base.specs.WrittenOut.{Core, cat, alt, plus, copies_then, up_to, r
 use Rattle.hs_engine.specs.declared.automaton.Automaton.{Automaton}
 use Rattle.hs_engine.specs.Automata.{in_mask, in_set, takes, enters, accepts, follows}
 use Rattle.hs_expr.specs.Counts.{written_copies}
-use Rattle.hs_glushkov.specs.declared.follow_masks.FollowMasks.{FollowMasks}
-use Rattle.hs_glushkov.specs.FollowTables.{is_followed}
-use Rattle.hs_glushkov.specs.Parts.{Table, is_set, IsAdded, is_within, null_in_copies}
+use Rattle.hs_glushkov.specs.Parts.{Table, is_set, IsAdded, null_in_copies}
 use Rattle.hs_glushkov.specs.Positions.{null, enter, accept, follow}
 use Rattle.hs_glushkov.specs.Tables.{IsFor}
 use Rattle.hs_glushkov.proofs.CountLemmas.{count-repeat}
-use Rattle.hs_glushkov.proofs.FollowLemmas.{within-true}
 use Rattle.hs_glushkov.proofs.PastLemmas.{set-past, enter-past, accept-past, follow-past}
 use Rattle.hs_glushkov.proofs.RowLemmas.{null-option, null-up_to}
 
@@ -69,23 +66,6 @@ null-repeat zero None a c = sym (null-option (plus a) c)
 null-repeat (suc n) None a c = sym (null-rounds n a c)
 null-repeat zero (Some m) a c = sym (null-up_to (m - 0) a c)
 null-repeat (suc n) (Some m) a c = sym (null-some n a (up_to (m - suc n) a) c (null-up_to (m - suc n) a c))
-
--- no position beyond the table is followed
-
-and-none : (a : Bool) → (a && false) ≡ false
-and-none true = refl
-and-none false = refl
-
-pub all-rows : (table : FollowMasks) (n x y : ℕ) (c : Context) → n ≡ table.size → (is_within 0 n x && is_followed table x y c) ≡ is_followed table x y c
-all-rows table n x y c same =
-    elim (cases_lt x n) [
-      | inl below ↦ ap (λ w. w && is_followed table x y c) (within-true 0 n x (omega arith) below)
-      | inr past ↦
-          let wide : table.size * table.size ≤ table.size * x = mul-le-mul_left table.size (omega arith) in
-          let over : length table.masks.items ≤ table.size * x + y = omega (arith, table.square, table.masks.ok.0) in
-          let none : is_followed table x y c ≡ false = ap (λ o. nat_lt y table.size && in_mask o c) (slice_get_past table.masks.items (table.size * x + y) over) ∙ and-none (nat_lt y table.size) in
-          ap (λ z. is_within 0 n x && z) none ∙ (and-none (is_within 0 n x) ∙ sym none)
-    ]
 
 -- the truth value that is there
 

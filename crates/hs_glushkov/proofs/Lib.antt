@@ -3,10 +3,9 @@ pub mod AlikeLemmas
 pub mod AgreementLemmas
 pub mod CountLemmas
 pub mod PlainLemmas
-pub mod FollowLemmas
+pub mod NarrowLemmas
 pub mod PartLemmas
 pub mod RowLemmas
 pub mod PastLemmas
 pub mod BuildLemmas
 pub mod EngineLemmas
-pub mod SquareLemmas

@@ -14,10 +14,10 @@ ghost use Rattle.hs_glushkov.specs.Tables.{Runs};
 
 use crate::assertion_test::has_assertion;
 use crate::parts::Parts;
-use crate::row_filling::rows_of;
 use hs_base::Mask;
 use hs_engine::Automaton;
 use hs_expr::{Expr, positions};
+use hs_follow::rows_of;
 use std::alloc::{AllocError, Global};
 
 /// The position automaton of an expression of at most `MAX_POSITIONS` positions, without code points, in which no end

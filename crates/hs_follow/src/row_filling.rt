@@ -6,8 +6,8 @@ ghost use Rattle.hs_base.specs.Contexts.{Context, class_of};
 ghost use Rattle.hs_base.specs.ContextSets.{has_context};
 ghost use Rattle.hs_engine.specs.RowSizes.{square_count};
 ghost use Rattle.hs_engine.specs.Rows.{in_row, in_square};
-ghost use Rattle.hs_glushkov.specs.FollowTables.{is_followed};
-ghost use Rattle.hs_glushkov.specs.Squares.{class_numbered, prev_numbered};
+ghost use Rattle.hs_follow.specs.FollowTables.{is_followed};
+ghost use Rattle.hs_follow.specs.Squares.{class_numbered, prev_numbered};
 
 use crate::follow_masks::FollowMasks;
 use hs_base::{Mask, Next, Prev};

@@ -1,7 +1,7 @@
 use Rattle.std.proofs.Common.{◌≡◌, ◌∙◌, sym, ap, arith}
 use Rattle.hs_engine.specs.RowSizes.{square_count}
-use Rattle.hs_glushkov.proofs.SquareLemmas.{rows-filled}
-use Rattle.hs_glushkov.proofs.row_filling.rows_of.Goals as goal
+use Rattle.hs_follow.proofs.SquareLemmas.{rows-filled}
+use Rattle.hs_follow.proofs.row_filling.rows_of.Goals as goal
 
 pub returns-clause-follows : goal.returns-clause-follows
 returns-clause-follows c x y prev b =

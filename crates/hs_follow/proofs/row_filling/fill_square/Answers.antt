@@ -1,11 +1,11 @@
 use Rattle.std.proofs.Common.{◌&&◌, ◌||◌, eqb, ap, ◌∙◌, arith}
 use Rattle.hs_base.specs.Contexts.{Context}
 use Rattle.hs_engine.specs.Rows.{in_square}
-use Rattle.hs_glushkov.specs.FollowTables.{is_followed}
-use Rattle.hs_glushkov.specs.Parts.{is_within}
-use Rattle.hs_glushkov.proofs.BuildLemmas.{all-rows}
-use Rattle.hs_glushkov.proofs.FollowLemmas.{and-swapped}
-use Rattle.hs_glushkov.proofs.row_filling.fill_square.Goals as goal
+use Rattle.hs_follow.specs.FollowTables.{is_followed}
+use Rattle.hs_follow.specs.Ranges.{is_within}
+use Rattle.hs_follow.proofs.FollowLemmas.{all-rows}
+use Rattle.hs_follow.proofs.FollowLemmas.{and-swapped}
+use Rattle.hs_follow.proofs.row_filling.fill_square.Goals as goal
 
 pub returns-clause-filled : goal.returns-clause-filled
 returns-clause-filled c k x y =

@@ -3,9 +3,9 @@ use Rattle.std.specs.Prelude.{◌==◌}
 use Rattle.hs_base.specs.Contexts.{Context}
 use Rattle.hs_base.specs.ContextSets.{has_context}
 use Rattle.hs_engine.specs.Automata.{in_mask}
-use Rattle.hs_glushkov.specs.Parts.{is_within}
-use Rattle.hs_glushkov.specs.FollowTables.{is_followed}
-use Rattle.hs_glushkov.proofs.follow_masks.FollowMasks.put_row.Given as goal
+use Rattle.hs_follow.specs.Ranges.{is_within}
+use Rattle.hs_follow.specs.FollowTables.{is_followed}
+use Rattle.hs_follow.proofs.follow_masks.FollowMasks.put_row.Given as goal
 
 abbrev pub invariant-loop-to : goal.invariant-loop-to
 invariant-loop-to l = record {

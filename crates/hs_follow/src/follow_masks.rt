@@ -4,7 +4,7 @@ ghost use Rattle.std.specs.Prelude.{◌≡◌, ℕ, ◌*◌, ◌<◌, ◌≤◌,
 ghost use Rattle.hs_base.specs.Contexts.{Context};
 ghost use Rattle.hs_base.specs.ContextSets.{has_context};
 ghost use Rattle.hs_engine.specs.Automata.{in_mask};
-ghost use Rattle.hs_glushkov.specs.Parts.{is_within};
+ghost use Rattle.hs_follow.specs.Ranges.{is_within};
 
 use hs_base::Mask;
 use std::alloc::{AllocError, Global};
@@ -13,15 +13,15 @@ use std::alloc::{AllocError, Global};
 #[derive(Debug, Drop)]
 pub struct FollowMasks {
     /// The mask of `from` and `to` is that of number `size * from + to`.
-    pub masks: Vec<Mask>,
+    pub(crate) masks: Vec<Mask>,
     /// How many positions there are.
-    pub size: usize,
+    pub(crate) size: usize,
     ghost few: { size ≤ 512 },
     ghost square: { vec_len masks ≡ size * size },
 }
 
 impl FollowMasks {
-    ghost use Rattle.hs_glushkov.specs.FollowTables.{is_followed};
+    ghost use Rattle.hs_follow.specs.FollowTables.{is_followed};
 
     /// The table of so many positions, of which none follows another.
     pub fn new(alloc: Global, size: usize) -> Result<FollowMasks, AllocError>

@@ -9,9 +9,9 @@ use Rattle.hs_base.specs.Contexts.{Context, class_of, next_by, prev_number}
 use Rattle.hs_engine.specs.declared.follow_rows.FollowRows.{FollowRows}
 use Rattle.hs_engine.specs.RowSizes.{square_count}
 use Rattle.hs_engine.specs.Rows.{in_row, in_square, square_number}
-use Rattle.hs_glushkov.specs.declared.follow_masks.FollowMasks.{FollowMasks}
-use Rattle.hs_glushkov.specs.FollowTables.{is_followed}
-use Rattle.hs_glushkov.specs.Squares.{context_numbered}
+use Rattle.hs_follow.specs.declared.follow_masks.FollowMasks.{FollowMasks}
+use Rattle.hs_follow.specs.FollowTables.{is_followed}
+use Rattle.hs_follow.specs.Squares.{context_numbered}
 
 -- a context in which a byte comes next is that of its number
 

@@ -10,8 +10,11 @@ use Rattle.hs_base.specs.declared.context.Mask.{Mask}
 use Rattle.hs_engine.specs.Automata.{in_mask}
 use Rattle.hs_base.proofs.ContextLemmas.{first_of_both}
 use Rattle.hs_engine.proofs.CellLemmas.{same_cell}
-use Rattle.hs_glushkov.specs.Parts.{is_within, narrowed}
-use Rattle.hs_glushkov.proofs.PlainLemmas.{not-true}
+use Rattle.hs_follow.specs.Ranges.{is_within}
+
+not-true : (b : Bool) → (b ≡ true → ⊥) → b ≡ false
+not-true true h = absurd (h refl)
+not-true false h = refl
 
 and-false : (b : Bool) → (b && false) ≡ false
 and-false true = refl
@@ -140,27 +143,19 @@ and-swapped false false c = refl
 pub mask-read : (masks : List Mask) (i : ℕ) (d : Mask) (c : Context) → i < length masks → has_context (get_or masks i d) c ≡ in_mask (slice_get masks i) c
 mask-read masks i d c below = ap (λ o. in_mask o c) (sym (slice_get-get_or masks i d below))
 
--- masks that are narrowed one after the other
+-- no position beyond the table is followed
 
-pub narrowed-none : (low k : ℕ) (allowed b : Bool) → b ≡ narrowed (is_within low low k) allowed b
-narrowed-none low k allowed b = ap (λ w. narrowed w allowed b) (sym (within-none low k))
+and-none : (a : Bool) → (a && false) ≡ false
+and-none true = refl
+and-none false = refl
 
-pub and-turned : (a b : Bool) → (a && b) ≡ (b && a)
-and-turned true true = refl
-and-turned true false = refl
-and-turned false true = refl
-and-turned false false = refl
-
-pub narrowed-more : (low i k : ℕ) (m b before now : Bool) → low ≤ i → (k ≡ i → now ≡ (before && m)) → ((k ≡ i → ⊥) → now ≡ before) →
-    before ≡ narrowed (is_within low i k) m b → now ≡ narrowed (is_within low (i + 1) k) m b
-narrowed-more low i k m b before now order here there known =
-    elim (cases_eq k i) [
-      | inl same ↦
-          let was : is_within low i k ≡ false = within-over low i k (omega arith) in
-          let is : is_within low (i + 1) k ≡ true = within-suc low i k order ∙ ap (λ e. e || is_within low i k) (eq-eqb k i same) in
-          let first : before ≡ b = known ∙ ap (λ w. narrowed w m b) was in
-          here same ∙ (ap (λ e. e && m) first ∙ (and-turned b m ∙ ap (λ w. narrowed w m b) (sym is)))
-      | inr apart ↦
-          let is : is_within low (i + 1) k ≡ is_within low i k = within-suc low i k order ∙ ap (λ e. e || is_within low i k) (ne_eqb k i apart) in
-          there apart ∙ (known ∙ ap (λ w. narrowed w m b) (sym is))
+pub all-rows : (table : FollowMasks) (n x y : ℕ) (c : Context) → n ≡ table.size → (is_within 0 n x && is_followed table x y c) ≡ is_followed table x y c
+all-rows table n x y c same =
+    elim (cases_lt x n) [
+      | inl below ↦ ap (λ w. w && is_followed table x y c) (within-true 0 n x (omega arith) below)
+      | inr past ↦
+          let wide : table.size * table.size ≤ table.size * x = mul-le-mul_left table.size (omega arith) in
+          let over : length table.masks.items ≤ table.size * x + y = omega (arith, table.square, table.masks.ok.0) in
+          let none : is_followed table x y c ≡ false = ap (λ o. nat_lt y table.size && in_mask o c) (slice_get_past table.masks.items (table.size * x + y) over) ∙ and-none (nat_lt y table.size) in
+          ap (λ z. is_within 0 n x && z) none ∙ (and-none (is_within 0 n x) ∙ sym none)
     ]

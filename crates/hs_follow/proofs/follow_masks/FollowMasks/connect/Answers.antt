@@ -1,10 +1,10 @@
 use Rattle.std.proofs.Common.{◌&&◌, ◌||◌, get_or, slice_get, eqb, ap, sym, ◌∙◌, arith}
 use Rattle.hs_base.specs.ContextSets.{has_context}
 use Rattle.hs_engine.specs.Automata.{in_mask}
-use Rattle.hs_glushkov.specs.Parts.{is_within}
-use Rattle.hs_glushkov.specs.FollowTables.{is_followed}
-use Rattle.hs_glushkov.proofs.FollowLemmas.{range-more, and-swapped, mask-read}
-use Rattle.hs_glushkov.proofs.follow_masks.FollowMasks.connect.Goals as goal
+use Rattle.hs_follow.specs.Ranges.{is_within}
+use Rattle.hs_follow.specs.FollowTables.{is_followed}
+use Rattle.hs_follow.proofs.FollowLemmas.{range-more, and-swapped, mask-read}
+use Rattle.hs_follow.proofs.follow_masks.FollowMasks.connect.Goals as goal
 
 pub loop-from-preserved : goal.loop-from-preserved
 loop-from-preserved c = record {

@@ -1,9 +1,9 @@
 use Rattle.std.proofs.Common.{◌≡◌, ℕ, ◌&&◌, ◌||◌, slice_get}
 use Rattle.hs_base.specs.Contexts.{Context}
 use Rattle.hs_engine.specs.Automata.{in_mask}
-use Rattle.hs_glushkov.specs.Parts.{is_within}
-use Rattle.hs_glushkov.specs.FollowTables.{is_followed}
-use Rattle.hs_glushkov.proofs.follow_masks.FollowMasks.connect.Given as goal
+use Rattle.hs_follow.specs.Ranges.{is_within}
+use Rattle.hs_follow.specs.FollowTables.{is_followed}
+use Rattle.hs_follow.proofs.follow_masks.FollowMasks.connect.Given as goal
 
 abbrev pub invariant-loop-from : goal.invariant-loop-from
 invariant-loop-from l = record {

@@ -1,6 +1,6 @@
 use Rattle.std.proofs.Common.{◌≡◌, length, ◌*◌, arith}
-use Rattle.hs_glushkov.proofs.FollowLemmas.{put-cell}
-use Rattle.hs_glushkov.proofs.follow_masks.FollowMasks.put.Goals as goal
+use Rattle.hs_follow.proofs.FollowLemmas.{put-cell}
+use Rattle.hs_follow.proofs.follow_masks.FollowMasks.put.Goals as goal
 
 pub returns-clause-follows : goal.returns-clause-follows
 returns-clause-follows c =

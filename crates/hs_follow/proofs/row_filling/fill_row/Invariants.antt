@@ -1,9 +1,9 @@
 use Rattle.std.proofs.Common.{◌≡◌, ℕ, ◌&&◌, ◌||◌}
 use Rattle.std.specs.Prelude.{◌==◌}
 use Rattle.hs_engine.specs.Rows.{in_square}
-use Rattle.hs_glushkov.specs.FollowTables.{is_followed}
-use Rattle.hs_glushkov.specs.Parts.{is_within}
-use Rattle.hs_glushkov.proofs.row_filling.fill_row.Given as goal
+use Rattle.hs_follow.specs.FollowTables.{is_followed}
+use Rattle.hs_follow.specs.Ranges.{is_within}
+use Rattle.hs_follow.proofs.row_filling.fill_row.Given as goal
 
 abbrev pub invariant-loop-to : goal.invariant-loop-to
 invariant-loop-to l = record {

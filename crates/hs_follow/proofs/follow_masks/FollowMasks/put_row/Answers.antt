@@ -1,9 +1,9 @@
 use Rattle.std.proofs.Common.{◌&&◌, slice_get, eqb, ap, sym, ◌∙◌, arith}
 use Rattle.hs_base.specs.ContextSets.{has_context}
 use Rattle.hs_engine.specs.Automata.{in_mask}
-use Rattle.hs_glushkov.specs.FollowTables.{is_followed}
-use Rattle.hs_glushkov.proofs.FollowLemmas.{range-more, mask-read}
-use Rattle.hs_glushkov.proofs.follow_masks.FollowMasks.put_row.Goals as goal
+use Rattle.hs_follow.specs.FollowTables.{is_followed}
+use Rattle.hs_follow.proofs.FollowLemmas.{range-more, mask-read}
+use Rattle.hs_follow.proofs.follow_masks.FollowMasks.put_row.Goals as goal
 
 pub loop-to-preserved : goal.loop-to-preserved
 loop-to-preserved c = record {

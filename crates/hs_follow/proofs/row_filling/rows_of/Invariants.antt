@@ -1,9 +1,9 @@
 use Rattle.std.proofs.Common.{◌≡◌, ℕ, ◌&&◌}
 use Rattle.std.specs.Prelude.{nat_lt}
 use Rattle.hs_engine.specs.Rows.{in_square}
-use Rattle.hs_glushkov.specs.FollowTables.{is_followed}
-use Rattle.hs_glushkov.specs.Squares.{context_numbered}
-use Rattle.hs_glushkov.proofs.row_filling.rows_of.Given as goal
+use Rattle.hs_follow.specs.FollowTables.{is_followed}
+use Rattle.hs_follow.specs.Squares.{context_numbered}
+use Rattle.hs_follow.proofs.row_filling.rows_of.Given as goal
 
 abbrev pub invariant-loop-square : goal.invariant-loop-square
 invariant-loop-square l = record {
