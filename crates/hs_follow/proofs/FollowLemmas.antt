@@ -11,6 +11,8 @@ use Rattle.hs_engine.specs.Automata.{in_mask}
 use Rattle.hs_base.proofs.ContextLemmas.{first_of_both}
 use Rattle.hs_engine.proofs.CellLemmas.{same_cell}
 use Rattle.hs_follow.specs.Ranges.{is_within}
+use Rattle.hs_follow.specs.FollowTables.{is_followed}
+use Rattle.hs_follow.specs.declared.follow_masks.FollowMasks.{FollowMasks}
 
 not-true : (b : Bool) → (b ≡ true → ⊥) → b ≡ false
 not-true true h = absurd (h refl)

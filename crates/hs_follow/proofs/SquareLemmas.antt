@@ -1,11 +1,10 @@
 -- From the table of masks to its squares of rows.
-use Rattle.std.proofs.Common.{◌≡◌, ℕ, ◌+◌, ◌*◌, ◌<◌, Bool, true, false, not, ◌&&◌, nat_lt, refl, sym, ap, ◌∙◌, arith}
-use Rattle.std.proofs.lemmas.Bool.{lt-ltb}
+use Rattle.std.proofs.Common.{◌≡◌, ℕ, Bool, true, false, not, ◌&&◌, nat_lt, refl, ap, ◌∙◌}
 use Rattle.hs_base.specs.declared.context.Prev.{Prev}
 use Rattle.hs_base.specs.declared.context.Prev.TheVariants as before
 use Rattle.hs_base.specs.Assertions.{line_feed, is_word_byte}
 use Rattle.std.specs.Prelude.{◌==◌}
-use Rattle.hs_base.specs.Contexts.{Context, class_of, next_by, prev_number}
+use Rattle.hs_base.specs.Contexts.{Context, class_of, next_by}
 use Rattle.hs_engine.specs.declared.follow_rows.FollowRows.{FollowRows}
 use Rattle.hs_engine.specs.RowSizes.{square_count}
 use Rattle.hs_engine.specs.Rows.{in_row, in_square, square_number}

@@ -1,5 +1,5 @@
 -- The contexts in which a byte comes next, by the numbers of their squares.
-use Rattle.std.specs.Prelude.{ℕ, zero, suc, ◌/◌, ◌%◌, Bool, true, false}
+use Rattle.std.specs.Prelude.{ℕ, zero, suc, ◌/◌, ◌%◌}
 use Rattle.hs_base.specs.declared.context.Prev.{Prev}
 use Rattle.hs_base.specs.declared.context.Prev.TheVariants as before
 use Rattle.hs_base.specs.declared.context.Next.{Next}

@@ -34,13 +34,7 @@ pub fn rows_of(alloc: Global, follows: &FollowMasks) -> Result<FollowRows, Alloc
 }
 
 /// Fills the square with what follows in that context.
-fn fill_square(
-    follows: &FollowMasks,
-    prev: Prev,
-    class: Next,
-    square: usize,
-    rows: &mut FollowRows,
-)
+fn fill_square(follows: &FollowMasks, prev: Prev, class: Next, square: usize, rows: &mut FollowRows)
     requires size { rows.old.size ≡ follows.now.size }
     requires square { square < square_count rows.old.by_context }
     ensures size { rows.new.size ≡ rows.old.size }
