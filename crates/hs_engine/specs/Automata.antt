@@ -1,13 +1,12 @@
 -- What the tables of a position automaton say.
-use Rattle.std.specs.Prelude.{ℕ, ◌&&◌, ◌==◌, Bool, false, Option, Some, None, slice_get}
-use Rattle.std.specs.List.{list_any}
+use Rattle.std.specs.Prelude.{ℕ, Bool, false, Option, Some, None, slice_get}
 use Rattle.hs_base.specs.declared.byte_set.ByteSet.{ByteSet}
 use Rattle.hs_base.specs.declared.context.Mask.{Mask}
 use Rattle.hs_base.specs.ByteSets.{has}
 use Rattle.hs_base.specs.Contexts.{Context}
 use Rattle.hs_base.specs.ContextSets.{has_context}
 use Rattle.hs_engine.specs.declared.automaton.Automaton.{Automaton}
-use Rattle.hs_engine.specs.declared.automaton.Edge.{Edge}
+use Rattle.hs_engine.specs.Rows.{in_row}
 
 -- the byte is in the set, if there is one
 abbrev pub in_set : Option ByteSet → ℕ → Bool
@@ -31,10 +30,6 @@ enters a x c = in_mask (slice_get a.enters.items x) c
 abbrev pub accepts : Automaton → ℕ → Context → Bool
 accepts a x c = in_mask (slice_get a.accepts.items x) c
 
--- the edge leads from the one position to the other, in that context
-abbrev pub joins : ℕ → ℕ → Context → Edge → Bool
-joins x y c edge = (edge.from == x) && (edge.to == y) && has_context edge.mask c
-
--- behind the byte of the one position may come that of the other, in that context
+-- behind the byte of the one position may come that of the other, in that context, in which a byte comes next
 abbrev pub follows : Automaton → ℕ → ℕ → Context → Bool
-follows a x y c = list_any (joins x y c) a.edges.items
+follows a x y c = in_row a.follows x y c

@@ -1,3 +1,5 @@
 pub mod Automata
 pub mod Bits
 pub mod Engines
+pub mod RowSizes
+pub mod Rows

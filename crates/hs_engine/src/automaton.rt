@@ -1,20 +1,13 @@
-ghost use Rattle.std.specs.Prelude.{◌≡◌, ◌<◌, ◌≤◌, vec_len, All};
+ghost use Rattle.std.specs.Prelude.{◌≡◌, ◌+◌, ◌*◌, ◌≤◌, vec_len};
 
+use crate::follow_rows::FollowRows;
 use hs_base::{ByteSet, Mask};
 
 /// The most positions that an automaton may have.
 pub const MAX_POSITIONS: usize = 512;
 
-/// A transition: behind the byte of one position may come that of another, in the contexts of the mask.
-#[derive(Clone, Copy, Debug, PartialEq, Eq)]
-pub struct Edge {
-    /// The position that was reached.
-    pub from: u32,
-    /// The position whose byte comes next.
-    pub to: u32,
-    /// The contexts between the two bytes in which it may.
-    pub mask: Mask,
-}
+/// The bytes that a set and two masks take, which each position has.
+const POSITION_LEN: usize = 40;
 
 /// A position automaton: positions with their sets of bytes, and masks of contexts for entering, following and
 /// accepting.
@@ -26,8 +19,8 @@ pub struct Automaton {
     pub enters: Vec<Mask>,
     /// The contexts behind the byte of each position in which a match may end there.
     pub accepts: Vec<Mask>,
-    /// The transitions. Two positions may have several, whose masks then count together.
-    pub edges: Vec<Edge>,
+    /// The positions whose bytes may come behind that of each position, in the contexts in which a byte comes next.
+    pub follows: FollowRows,
     /// The contexts in which the empty text matches.
     pub null: Mask,
     /// Whether the expression has an assertion.
@@ -35,5 +28,15 @@ pub struct Automaton {
     ghost few: { vec_len sets ≤ 512 },
     ghost enters_whole: { vec_len enters ≡ vec_len sets },
     ghost accepts_whole: { vec_len accepts ≡ vec_len sets },
-    ghost within: { All (λ edge. (edge.from < vec_len sets) × (edge.to < vec_len sets)) edges.items },
+    ghost follows_whole: { follows.size ≡ vec_len sets },
+}
+
+impl Automaton {
+    /// How many bytes the tables take: at most 404 KiB, whatever the expression.
+    pub fn tables_len(&self) -> usize
+        ensures len { result ≡ 40 * vec_len self.now.sets + vec_len self.now.follows.bits }
+        ensures few { result ≤ 413696 }
+    {
+        POSITION_LEN * self.sets.len() + self.follows.len()
+    }
 }

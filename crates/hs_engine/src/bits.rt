@@ -1,6 +1,6 @@
 //! Bits in a row of bytes: the only functions that touch the bits of a region.
 
-ghost use Rattle.std.specs.Prelude.{◌≡◌, ℕ, ◌*◌, ◌<◌, IsTrue, ◌↔◌, ◌==◌, ◌||◌, length};
+ghost use Rattle.std.specs.Prelude.{◌≡◌, ℕ, ◌*◌, ◌<◌, ◌≤◌, IsTrue, ◌↔◌, ◌==◌, ◌||◌, length};
 ghost use Rattle.hs_engine.specs.Bits.{AreZero, has_bit};
 
 /// How many bits a byte has.
@@ -31,6 +31,17 @@ pub fn clear_bits(bytes: &mut [u8])
 {
     for byte in bytes.iter_mut() {
         *byte = 0;
+    }
+}
+
+/// Sets the bits that are set in the row too.
+pub fn unite_bits(bytes: &mut [u8], row: &[u8])
+    requires { length row.now ≤ length bytes.old }
+    ensures len { length bytes.new ≡ length bytes.old }
+    ensures bits { (k : ℕ) → has_bit bytes.new k ≡ (has_bit row.now k || has_bit bytes.old k) }
+{
+    for place in 0..row.len() {
+        bytes[place] |= row[place];
     }
 }
 

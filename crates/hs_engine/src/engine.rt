@@ -4,7 +4,7 @@ ghost use Rattle.hs_base.specs.Contexts.{class_of, prev_at};
 ghost use Rattle.hs_base.specs.ContextSets.{has_next};
 ghost use Rattle.hs_base.specs.Trees.{Tree};
 ghost use Rattle.hs_base.specs.Fields.{Leaves};
-ghost use Rattle.hs_engine.specs.Engines.{IsQuiet};
+ghost use Rattle.hs_engine.specs.Engines.{IsQuiet, IsAsleep};
 
 use crate::steps::Steps;
 use hs_base::{NextSet, Prev};
@@ -24,6 +24,9 @@ pub trait Engine {
 
     /// Nothing is live in these bytes.
     ghost rests: { Self → List ℕ → Type 0 };
+
+    /// Nothing is live in these bytes, and that byte wakes nothing.
+    ghost sleeps: { Self → List ℕ → ℕ → Type 0 };
 
     /// These bytes may be a field at that offset.
     ghost well: { Self → List ℕ → ℕ → Type 0 };
@@ -80,6 +83,15 @@ pub trait Engine {
         requires { length region.now ≡ width self.now }
         ensures rests { IsTrue result ↔ rests self.now region.now }
         ensures quiet { IsTrue result → enters_always self.now ≡ false → IsQuiet (is_for self.now) (field self.now region.now) };
+
+    /// Whether the region may be passed over with that byte, without a step: nothing is live, and the byte wakes nothing,
+    /// even where the expression is entered before it. Then nothing ends before the byte nor behind it, and the region
+    /// is the field behind the byte as it is. An engine may answer false where this would hold too.
+    fn sleeps(&self, region: &[u8], byte: u8) -> bool
+        requires { length region.now ≡ width self.now }
+        ensures sleeps { IsTrue result ↔ sleeps self.now region.now byte }
+        ensures asleep { IsTrue result → IsAsleep (is_for self.now) (field self.now region.now) (enters_always self.now) byte }
+        ensures well { IsTrue result → (at : ℕ) → well self.now region.now at → well self.now region.now (at + 1) };
 
     /// Whether the region may be a field at that offset.
     fn well_formed(&self, region: &[u8], at: u64) -> bool

@@ -1,24 +1,21 @@
 -- From the tables under construction to the automaton.
 use Rattle.std.proofs.Common.{◌≡◌, ℕ, zero, suc, ◌+◌, ◌-◌, ◌*◌, ◌<◌, ◌≤◌, Bool, true, false, ◌&&◌, Option, Some, None, IfSome, length, slice_get, vec_len, nat_lt, refl, sym, ap, ◌∙◌, inl, inr, arith}
-use Rattle.std.specs.List.{list_any}
 use Rattle.std.proofs.lemmas.Bool.{cases_lt}
 use Rattle.std.proofs.lemmas.Option.{slice_get_past}
 use Rattle.std.proofs.Math.Nat.{mul-le-mul_left, le-mul_of_pos_right}
 use Rattle.hs_base.specs.Trees as tree
 use Rattle.hs_base.specs.Trees.{Tree, Trees}
-use Rattle.hs_base.specs.Contexts.{Context}
+use Rattle.hs_base.specs.declared.context.Prev.{Prev}
+use Rattle.hs_base.specs.Contexts.{Context, class_of}
 use Rattle.hs_base.specs.ContextSets.{has_context}
 use Rattle.hs_base.specs.WrittenOut.{Core, cat, alt, plus, copies_then, up_to, repeat_of, write_out, cat_from, alt_from, count, set_of}
 use Rattle.hs_engine.specs.declared.automaton.Automaton.{Automaton}
-use Rattle.hs_engine.specs.Automata.{in_mask, in_set, joins, takes, enters, accepts, follows}
+use Rattle.hs_engine.specs.Automata.{in_mask, in_set, takes, enters, accepts, follows}
 use Rattle.hs_expr.specs.Counts.{written_copies}
-use Rattle.hs_glushkov.specs.declared.follow_masks.FollowMasks.{FollowMasks}
-use Rattle.hs_glushkov.specs.FollowTables.{is_followed}
-use Rattle.hs_glushkov.specs.Parts.{Table, is_set, IsAdded, is_within, null_in_copies}
+use Rattle.hs_glushkov.specs.Parts.{Table, is_set, IsAdded, null_in_copies}
 use Rattle.hs_glushkov.specs.Positions.{null, enter, accept, follow}
 use Rattle.hs_glushkov.specs.Tables.{IsFor}
 use Rattle.hs_glushkov.proofs.CountLemmas.{count-repeat}
-use Rattle.hs_glushkov.proofs.FollowLemmas.{within-true}
 use Rattle.hs_glushkov.proofs.PastLemmas.{set-past, enter-past, accept-past, follow-past}
 use Rattle.hs_glushkov.proofs.RowLemmas.{null-option, null-up_to}
 
@@ -70,23 +67,6 @@ null-repeat (suc n) None a c = sym (null-rounds n a c)
 null-repeat zero (Some m) a c = sym (null-up_to (m - 0) a c)
 null-repeat (suc n) (Some m) a c = sym (null-some n a (up_to (m - suc n) a) c (null-up_to (m - suc n) a c))
 
--- no position beyond the table is followed
-
-and-none : (a : Bool) → (a && false) ≡ false
-and-none true = refl
-and-none false = refl
-
-pub all-rows : (table : FollowMasks) (n x y : ℕ) (c : Context) → n ≡ table.size → (is_within 0 n x && is_followed table x y c) ≡ is_followed table x y c
-all-rows table n x y c same =
-    elim (cases_lt x n) [
-      | inl below ↦ ap (λ w. w && is_followed table x y c) (within-true 0 n x (omega arith) below)
-      | inr past ↦
-          let wide : table.size * table.size ≤ table.size * x = mul-le-mul_left table.size (omega arith) in
-          let over : length table.masks.items ≤ table.size * x + y = omega (arith, table.square, table.masks.ok.0) in
-          let none : is_followed table x y c ≡ false = ap (λ o. nat_lt y table.size && in_mask o c) (slice_get_past table.masks.items (table.size * x + y) over) ∙ and-none (nat_lt y table.size) in
-          ap (λ z. is_within 0 n x && z) none ∙ (and-none (is_within 0 n x) ∙ sym none)
-    ]
-
 -- the truth value that is there
 
 is-set : (o : Option Bool) → is_set o ≡ true → o ≡ Some true
@@ -105,7 +85,7 @@ with_edges a edges = record {
   follows = edges;
 }
 
-module _ (a : Automaton) (old : Table) (edges : ℕ → ℕ → Context → Bool) (r : Core) (size : vec_len a.sets ≡ count r) (joined : (x y : ℕ) (c : Context) → list_any (joins x y c) a.edges.items ≡ edges x y c)
+module _ (a : Automaton) (old : Table) (edges : ℕ → ℕ → Context → Bool) (r : Core) (size : vec_len a.sets ≡ count r) (joined : (x y : ℕ) (prev : Prev) (b : ℕ) → follows a x y (record { prev = prev; next = class_of b }) ≡ edges x y (record { prev = prev; next = class_of b }))
     (added : IsAdded old (with_edges a edges) 0 r (has_context a.null)) where
   from-none : (x : ℕ) → 0 + x ≡ x
   from-none x = omega arith
@@ -137,14 +117,15 @@ module _ (a : Automaton) (old : Table) (edges : ℕ → ℕ → Context → Bool
             ap (λ o. in_mask o c) (slice_get_past a.accepts.items x over) ∙ sym (accept-past r x c past)
       ]
 
-  all-follows : (x y : ℕ) (c : Context) → follows a x y c ≡ follow r x y c
-  all-follows x y c =
+  all-follows : (x y : ℕ) (prev : Prev) (b : ℕ) → follows a x y (record { prev = prev; next = class_of b }) ≡ follow r x y (record { prev = prev; next = class_of b })
+  all-follows x y prev b =
+      let c : Context = record { prev = prev; next = class_of b } in
       elim (cases_lt x (count r)) [
         | inl hx ↦ elim (cases_lt y (count r)) [
-          | inl hy ↦ joined x y c ∙ (ap (λ z. edges z y c) (sym (from-none x)) ∙ (ap (λ z. edges (0 + x) z c) (sym (from-none y)) ∙ added.part.follows x y c hx hy))
-          | inr past ↦ joined x y c ∙ (added.clear x y c (inr (omega arith)) ∙ sym (follow-past r x y c (inr past)))
+          | inl hy ↦ joined x y prev b ∙ (ap (λ z. edges z y c) (sym (from-none x)) ∙ (ap (λ z. edges (0 + x) z c) (sym (from-none y)) ∙ added.part.follows x y c hx hy))
+          | inr past ↦ joined x y prev b ∙ (added.clear x y c (inr (omega arith)) ∙ sym (follow-past r x y c (inr past)))
         ]
-        | inr past ↦ joined x y c ∙ (added.clear x y c (inl (omega arith)) ∙ sym (follow-past r x y c (inl past)))
+        | inr past ↦ joined x y prev b ∙ (added.clear x y c (inl (omega arith)) ∙ sym (follow-past r x y c (inl past)))
       ]
 
   pub tables-for : IsFor a r

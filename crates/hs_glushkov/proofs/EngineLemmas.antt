@@ -1,15 +1,17 @@
 -- What the layers above take of automata and of the engine `Plain`.
-use Rattle.std.proofs.Common.{◌≡◌, ◌↔◌, ℕ, ◌≤◌, List, length, true, sym, ◌∙◌, arith}
+use Rattle.std.proofs.Common.{◌≡◌, ◌↔◌, ℕ, ◌≤◌, List, length, slice_get, true, ap, sym, ◌∙◌, arith}
 use Rattle.hs_base.specs.declared.context.Next.{Next}
-use Rattle.hs_base.specs.Contexts.{context_of, then_bytes, then_ended}
+use Rattle.hs_base.specs.Contexts.{class_of, context_of, then_bytes, then_ended}
 use Rattle.hs_base.specs.ContextSets.{has_context}
 use Rattle.hs_base.specs.Spans.{Spans}
 use Rattle.hs_base.specs.Trees.{Tree}
 use Rattle.hs_base.specs.WrittenOut.{count, write_out}
 use Rattle.hs_engine.specs.declared.automaton.Automaton.{Automaton}
+use Rattle.hs_engine.specs.Automata.{in_mask, in_set, takes}
+use Rattle.hs_engine.proofs.RowLemmas.{same-rows}
 use Rattle.hs_glushkov.specs.declared.plain.Plain.{Plain}
 use Rattle.hs_glushkov.specs.PlainEngines.{automaton_of, width_of}
-use Rattle.hs_glushkov.specs.Tables.{Runs}
+use Rattle.hs_glushkov.specs.Tables.{IsCopy, Runs}
 use Rattle.hs_glushkov.proofs.AgreementLemmas.{null-spans, spans-null}
 
 -- an engine of an expression of at most 512 positions keeps at most 64 bytes
@@ -23,3 +25,24 @@ null-exact a tree runs u next = (
   λ is. null-spans tree runs.plain u next (sym (runs.tables.null (context_of u next)) ∙ is),
   λ span. runs.tables.null (context_of u next) ∙ spans-null tree runs.plain u next span,
 )
+
+-- a copy runs what the original runs
+pub runs-copy : (copy original : Automaton) → IsCopy copy original → (tree : Tree) → Runs original tree → Runs copy tree
+runs-copy copy original same tree runs =
+    record {
+      plain = runs.plain;
+      ends_last = runs.ends_last;
+      tables = record {
+        size = omega (arith, copy.sets.ok.0, original.sets.ok.0, ap (λ items. length items) same.sets, runs.tables.size);
+        sets = λ x b byte.
+            let takes_same : takes copy x b ≡ takes original x b = ap (λ items. in_set (slice_get items x) b) same.sets in (
+              λ is. (runs.tables.sets x b byte).0 (sym takes_same ∙ is),
+              λ is. takes_same ∙ (runs.tables.sets x b byte).1 is,
+            );
+        enters = λ x c. ap (λ items. in_mask (slice_get items x) c) same.enters ∙ runs.tables.enters x c;
+        accepts = λ x c. ap (λ items. in_mask (slice_get items x) c) same.accepts ∙ runs.tables.accepts x c;
+        follows = λ x y prev b.
+            same-rows copy.follows original.follows same.follows same.size same.by_context x y (record { prev = prev; next = class_of b }) ∙ runs.tables.follows x y prev b;
+        null = λ c. ap (λ mask. has_context mask c) same.null ∙ runs.tables.null c;
+      };
+    }

@@ -3,7 +3,7 @@ pub mod AlikeLemmas
 pub mod AgreementLemmas
 pub mod CountLemmas
 pub mod PlainLemmas
-pub mod FollowLemmas
+pub mod NarrowLemmas
 pub mod PartLemmas
 pub mod RowLemmas
 pub mod PastLemmas

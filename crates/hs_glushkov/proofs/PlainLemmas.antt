@@ -1,30 +1,31 @@
 -- Bits of a field as they move over a byte.
-use Rattle.std.proofs.Common.{◌≡◌, ℕ, suc, ◌+◌, ◌*◌, ◌/◌, ◌%◌, ◌<◌, ◌≤◌, Bool, true, false, ◌&&◌, ◌||◌, List, [], ◌∷◌, ◌++◌, length, get_or, take, replicate, Some, None, slice_get, eqb, refl, sym, ap, subst, ◌∙◌, inl, inr, arith, vec_len}
+use Rattle.std.proofs.Common.{◌≡◌, ℕ, zero, suc, ◌+◌, ◌*◌, ◌/◌, ◌%◌, ◌<◌, ◌≤◌, Bool, true, false, ◌&&◌, ◌||◌, List, [], ◌∷◌, ◌++◌, length, get_or, take, replicate, Some, None, slice_get, eqb, refl, sym, ap, subst, ◌∙◌, inl, inr, arith, vec_len, length-append}
 use Rattle.std.specs.Prelude.{nat_lt}
-use Rattle.std.specs.List.{list_any}
 use Rattle.std.specs.Int.{bit_at}
 use Rattle.std.proofs.lemmas.Bool.{cases_eq, cases_lt, eq-eqb, eqb-true, ne_eqb, lt-ltb, le-ltb}
 use Rattle.std.proofs.lemmas.Nat.Bits.{bit_at-zero}
 use Rattle.std.proofs.lemmas.Option.{slice_get_past}
 use Rattle.std.proofs.lemmas.List.{get_or_past, get_or-replicate, length-replicate}
-use Rattle.std.proofs.lemmas.List.Folds.{list_any_more, Any-from_list_any, list_any-from_Any}
 use Rattle.hs_base.specs.declared.byte_set.ByteSet.{ByteSet}
 use Rattle.hs_base.specs.declared.context.Next.{Next}
 use Rattle.hs_base.specs.ByteSets.{has}
-use Rattle.hs_base.specs.Contexts.{Context, class_of, context_of}
+use Rattle.hs_base.specs.Contexts.{Context, class_of, context_of, prev_at}
 use Rattle.hs_base.specs.ContextSets.{has_context}
 use Rattle.hs_base.specs.Trees.{Tree}
 use Rattle.hs_base.specs.Fields.{Leaves}
 use Rattle.hs_base.specs.WrittenOut.{Core, write_out, set_of}
 use Rattle.hs_base.proofs.ContextLemmas.{first_of_both, second_of_both, of_both, of_either, left_of_either, right_of_either}
 use Rattle.hs_engine.specs.declared.automaton.Automaton.{Automaton}
-use Rattle.hs_engine.specs.declared.automaton.Edge.{Edge}
-use Rattle.hs_engine.specs.Automata.{in_set, takes, enters, accepts, joins, follows}
+use Rattle.hs_engine.specs.declared.follow_rows.FollowRows.{FollowRows}
+use Rattle.hs_engine.specs.Automata.{in_set, takes, enters, accepts, follows}
 use Rattle.hs_engine.specs.Bits.{AreZero, has_bit}
-use Rattle.hs_engine.specs.Engines.{IsQuiet}
+use Rattle.hs_engine.specs.Engines.{IsQuiet, IsAsleep}
 use Rattle.hs_engine.proofs.BitLemmas.{bits-zero}
+use Rattle.hs_engine.proofs.RowLemmas.{bits-past}
+use Rattle.hs_engine.specs.Rows.{in_row}
+use Rattle.hs_glushkov.specs.AnyBelow.{any_below}
 use Rattle.hs_glushkov.specs.Agreement.{StepsTo, steps_in, steps_on, IsAccepting}
-use Rattle.hs_glushkov.specs.Tables.{AreFirst, IsFor, Runs, IsField, leads_to, is_moved}
+use Rattle.hs_glushkov.specs.Tables.{AreFirst, IsClearFrom, IsFor, Runs, IsField, leads_to, is_moved}
 use Rattle.hs_glushkov.proofs.AgreementLemmas.{reached-steps, steps-reached, leaves-accepting, accepting-leaves}
 
 pub not-true : (b : Bool) → (b ≡ true → ⊥) → b ≡ false
@@ -39,21 +40,43 @@ same-truth true b there back = sym (there refl)
 same-truth false true there back = back refl
 same-truth false false there back = refl
 
-or-turned : (p a b : Bool) → (p || (a || b)) ≡ ((a || p) || b)
-or-turned true true b = refl
-or-turned true false b = refl
-or-turned false true b = refl
-or-turned false false b = refl
+-- one of the numbers below passes the test
 
--- one more edge
-pub led-more : (p : Edge → Bool) (edges : List Edge) (i : ℕ) (edge : Edge) (before after first : Bool) → i < length edges → get_or edges i edge ≡ edge →
-    before ≡ (list_any p (take i edges) || first) → after ≡ (p edge || before) → after ≡ (list_any p (take (i + 1) edges) || first)
-led-more p edges i edge before after first below there known step =
-    let more : list_any p (take (i + 1) edges) ≡ (list_any p (take i edges) || p (get_or edges i edge)) = list_any_more p edges i edge below in
-    step
-    ∙ (ap (λ b. p edge || b) known
-    ∙ (or-turned (p edge) (list_any p (take i edges)) first
-    ∙ ap (λ b. b || first) (sym (more ∙ ap (λ e. list_any p (take i edges) || p e) there))))
+pub any-some : (n : ℕ) (test : ℕ → Bool) → any_below n test ≡ true → (x : ℕ) × (test x ≡ true)
+any-some zero test any = absurd (let e : false ≡ true = any in cc)
+any-some (suc n) test any =
+    elim (of_either (test n) (any_below n test) any) [
+      | inl here ↦ (n, here)
+      | inr before ↦ any-some n test before
+    ]
+
+pub some-any : (n : ℕ) (test : ℕ → Bool) (x : ℕ) → x < n → test x ≡ true → any_below n test ≡ true
+some-any zero test x below is = absurd (omega arith)
+some-any (suc n) test x below is =
+    elim (cases_eq x n) [
+      | inl same ↦ left_of_either (test n) (any_below n test) (subst (λ z. test z ≡ true) same is)
+      | inr apart ↦ right_of_either (test n) (any_below n test) (some-any n test x (omega arith) is)
+    ]
+
+or-grouped : (a b c : Bool) → (a || (b || c)) ≡ ((a || b) || c)
+or-grouped true b c = refl
+or-grouped false b c = refl
+
+any-suc : (n : ℕ) (test : ℕ → Bool) → any_below (n + 1) test ≡ (test n || any_below n test)
+any-suc n test = let e : n + 1 ≡ suc n = omega arith in ap (λ m. any_below m test) e
+
+-- one more number
+pub any-more : (n : ℕ) (test : ℕ → Bool) (before now first : Bool) → before ≡ (any_below n test || first) → now ≡ (test n || before) → now ≡ (any_below (n + 1) test || first)
+any-more n test before now first known step =
+    step ∙ (ap (λ b. test n || b) known ∙ (or-grouped (test n) (any_below n test) first ∙ ap (λ b. b || first) (sym (any-suc n test))))
+
+-- numbers that don't pass
+pub any-skipped : (n m : ℕ) (test : ℕ → Bool) → ((x : ℕ) → n ≤ x → x < n + m → test x ≡ false) → any_below (n + m) test ≡ any_below n test
+any-skipped n zero test none = ap (λ k. any_below k test) (let e : n + 0 ≡ n = omega arith in e)
+any-skipped n (suc m) test none =
+    let e : n + suc m ≡ suc (n + m) = omega arith in
+    ap (λ k. any_below k test) e
+    ∙ (ap (λ b. b || any_below (n + m) test) (none (n + m) (omega arith) (omega arith)) ∙ any-skipped n m test (λ x above below. none x above (omega arith)))
 
 seam : (a b : Bool) → a ≡ b → ((true && a) || (false && b)) ≡ (true && b)
 seam true b same = same
@@ -102,46 +125,42 @@ same-zeros (x ∷ xs) (y ∷ ys) len zx zy =
 pub same-zero : (xs ys : List ℕ) → length xs ≡ length ys → AreZero xs → AreZero ys → xs ≡ ys
 same-zero xs ys len zx zy = same-zeros xs ys len (zero-all xs zx) (zero-all ys zy)
 
-of_three : (a b c : Bool) → a ≡ true → (b && c) ≡ true → (a && b && c) ≡ true
-of_three true b c first rest = rest
-of_three false b c first rest = absurd (let e : false ≡ true = first in cc)
-
-three_of : (a b c : Bool) → (a && b && c) ≡ true → (a ≡ true) × (b ≡ true) × (c ≡ true)
-three_of true true true all = (refl, refl, refl)
-three_of true true false all = absurd (let e : false ≡ true = all in cc)
-three_of true false c all = absurd (let e : false ≡ true = all in cc)
-three_of false b c all = absurd (let e : false ≡ true = all in cc)
-
--- an edge leads from a position whose bit is set
+-- a position follows one whose bit is set
 
 module _ (a : Automaton) (bytes : List ℕ) (c : Context) (k : ℕ) where
-  -- the tests of an edge, in the order in which each names them
-  joined : (x : ℕ) (edge : Edge) → eqb edge.from x ≡ true → (eqb edge.to k && has_context edge.mask c) ≡ true → joins x k c edge ≡ true
-  joined x edge from rest = of_three (eqb edge.from x) (eqb edge.to k) (has_context edge.mask c) from rest
-
-  led_by : (x : ℕ) (edge : Edge) → has_bit bytes x ≡ true → joins x k c edge ≡ true → leads_to bytes c k edge ≡ true
-  led_by x edge set is =
-      let three : (eqb edge.from x ≡ true) × (eqb edge.to k ≡ true) × (has_context edge.mask c ≡ true) = three_of (eqb edge.from x) (eqb edge.to k) (has_context edge.mask c) is in
-      let from_x : edge.from ≡ x = eqb-true edge.from x three.0 in
-      of_both (eqb k edge.to) (has_bit bytes edge.from && has_context edge.mask c) (eq-eqb k edge.to (sym (eqb-true edge.to k three.1)))
-      (of_both (has_bit bytes edge.from) (has_context edge.mask c) (subst (λ y. has_bit bytes y ≡ true) (sym from_x) set) three.2)
-
-  pub led-follows : list_any (leads_to bytes c k) a.edges.items ≡ true → (x : ℕ) × (has_bit bytes x ≡ true) × (follows a x k c ≡ true)
+  pub led-follows : any_below (8 * length bytes) (leads_to a.follows bytes c k) ≡ true → (x : ℕ) × (has_bit bytes x ≡ true) × (follows a x k c ≡ true)
   led-follows led =
-      let (i, edge, below, there, is) = Any-from_list_any (leads_to bytes c k) a.edges.items led in
-      let to : eqb k edge.to ≡ true = first_of_both (eqb k edge.to) (has_bit bytes edge.from && has_context edge.mask c) is in
-      let rest : (has_bit bytes edge.from && has_context edge.mask c) ≡ true = second_of_both (eqb k edge.to) (has_bit bytes edge.from && has_context edge.mask c) is in
-      let to_k : (eqb edge.to k && has_context edge.mask c) ≡ true =
-      of_both (eqb edge.to k) (has_context edge.mask c) (eq-eqb edge.to k (sym (eqb-true k edge.to to))) (second_of_both (has_bit bytes edge.from) (has_context edge.mask c) rest) in (
-        edge.from,
-        first_of_both (has_bit bytes edge.from) (has_context edge.mask c) rest,
-        list_any-from_Any (joins edge.from k c) a.edges.items (i, edge, below, there, joined edge.from edge (eq-eqb edge.from edge.from refl) to_k),
-      )
+      let (x, is) = any-some (8 * length bytes) (leads_to a.follows bytes c k) led in
+      (x, first_of_both (has_bit bytes x) (in_row a.follows x k c) is, second_of_both (has_bit bytes x) (in_row a.follows x k c) is)
 
-  pub follows-led : (x : ℕ) → has_bit bytes x ≡ true → follows a x k c ≡ true → list_any (leads_to bytes c k) a.edges.items ≡ true
-  follows-led x set follows =
-      let (i, edge, below, there, is) = Any-from_list_any (joins x k c) a.edges.items follows in
-      list_any-from_Any (leads_to bytes c k) a.edges.items (i, edge, below, there, led_by x edge set is)
+  pub follows-led : (x : ℕ) → has_bit bytes x ≡ true → follows a x k c ≡ true → any_below (8 * length bytes) (leads_to a.follows bytes c k) ≡ true
+  follows-led x set is =
+      elim (cases_lt x (8 * length bytes)) [
+        | inl below ↦ some-any (8 * length bytes) (leads_to a.follows bytes c k) x below (of_both (has_bit bytes x) (in_row a.follows x k c) set is)
+        | inr past ↦ true-false (has_bit bytes x) set (bits-past bytes x past)
+      ]
+
+-- a byte of the region in which no bit is set leads nowhere
+
+byte-zero : (bytes : List ℕ) (place x : ℕ) → get_or bytes place 0 ≡ 0 → 8 * place ≤ x → x < 8 * place + 8 → has_bit bytes x ≡ false
+unfolding has_bit
+byte-zero bytes place x zeros above below =
+    let same : x / 8 ≡ place = omega arith in
+    ap (λ i. eqb (bit_at (get_or bytes i 0) (x % 8)) 1) same ∙ (ap (λ n. eqb (bit_at n (x % 8)) 1) zeros ∙ ap (λ n. eqb n 1) (bit_at-zero (x % 8)))
+
+pub byte-skipped : (rows : FollowRows) (bytes : List ℕ) (c : Context) (place k : ℕ) (led first : Bool) → get_or bytes place 0 ≡ 0 → led ≡ (any_below (8 * place) (leads_to rows bytes c k) || first) →
+    led ≡ (any_below (8 * place + 8) (leads_to rows bytes c k) || first)
+byte-skipped rows bytes c place k led first zeros known =
+    known
+    ∙ ap (λ b. b || first) (sym (any-skipped (8 * place) 8 (leads_to rows bytes c k) (λ x above below. ap (λ b. b && in_row rows x k c) (byte-zero bytes place x zeros above below))))
+
+-- a bit is set only of a position
+pub set-below : (bytes : List ℕ) (n x : ℕ) → IsClearFrom bytes n → has_bit bytes x ≡ true → x < n
+set-below bytes n x clear set =
+    elim (cases_lt x n) [
+      | inl below ↦ below
+      | inr above ↦ true-false (has_bit bytes x) set (clear x above)
+    ]
 
 -- beyond its positions an automaton takes no byte
 no-set : (a : Automaton) (b k : ℕ) → vec_len a.sets ≤ k → takes a k b ≡ false
@@ -152,7 +171,7 @@ no-set a b k above =
 -- the field over one more byte
 
 module _ (a : Automaton) (r : Core) (tables : IsFor a r) (u : List ℕ) (entered : List Bool) (len : length entered ≡ length u) (old : List ℕ) (field : IsField old r u entered)
-    (b : ℕ) (byte : b < 256) (entering : Bool) (led : List ℕ) (all_led : (k : ℕ) → has_bit led k ≡ list_any (leads_to old (context_of u (class_of b)) k) a.edges.items) where
+    (b : ℕ) (byte : b < 256) (entering : Bool) (led : List ℕ) (all_led : (k : ℕ) → has_bit led k ≡ any_below (8 * length old) (leads_to a.follows old (context_of u (class_of b)) k)) where
   abbrev Here : Context
   Here = context_of u (class_of b)
 
@@ -163,7 +182,7 @@ module _ (a : Automaton) (r : Core) (tables : IsFor a r) (u : List ℕ) (entered
       elim (of_either (has_bit led k) (entering && enters a k Here) (first_of_both lead (takes a k b) moved)) [
         | inl on ↦
             let (x, set, edge) = led-follows a old Here k (sym (all_led k) ∙ on) in
-            steps_on x member ((field x).0 set) (sym (tables.follows x k Here) ∙ edge)
+            steps_on x member ((field x).0 set) (sym (tables.follows x k (prev_at u (length u)) b) ∙ edge)
         | inr begin ↦
             steps_in member (first_of_both entering (enters a k Here) begin) (sym (tables.enters k Here) ∙ second_of_both entering (enters a k Here) begin)
       ]
@@ -175,7 +194,7 @@ module _ (a : Automaton) (r : Core) (tables : IsFor a r) (u : List ℕ) (entered
       ((tables.sets k b byte).1 member)
   steps-moved k (steps_on x member reached is) =
       of_both (has_bit led k || (entering && enters a k Here)) (takes a k b)
-      (left_of_either (has_bit led k) (entering && enters a k Here) (all_led k ∙ follows-led a old Here k x ((field x).1 reached) (tables.follows x k Here ∙ is)))
+      (left_of_either (has_bit led k) (entering && enters a k Here) (all_led k ∙ follows-led a old Here k x ((field x).1 reached) (tables.follows x k (prev_at u (length u)) b ∙ is)))
       ((tables.sets k b byte).1 member)
 
   takes-below : (k : ℕ) → takes a k b ≡ true → k < vec_len a.sets
@@ -199,15 +218,15 @@ module _ (a : Automaton) (r : Core) (tables : IsFor a r) (u : List ℕ) (entered
 -- the same, where the context has another name
 pub field-step_in : (a : Automaton) (r : Core) (tables : IsFor a r) (u : List ℕ) (entered : List Bool) (len : length entered ≡ length u) (old : List ℕ) (field : IsField old r u entered) →
     (b : ℕ) (byte : b < 256) (entering : Bool) (led : List ℕ) (here : Context) → context_of u (class_of b) ≡ here →
-    ((k : ℕ) → has_bit led k ≡ list_any (leads_to old here k) a.edges.items) → (new : List ℕ) →
+    ((k : ℕ) → has_bit led k ≡ any_below (8 * length old) (leads_to a.follows old here k)) → (new : List ℕ) →
     ((k : ℕ) → has_bit new k ≡ (nat_lt k (vec_len a.sets) && is_moved a led here entering b k)) → IsField new r (u ++ b ∷ []) (entered ++ entering ∷ [])
 field-step_in a r tables u entered len old field b byte entering led here same =
-    let P : Context → Type 0 = λ h. ((k : ℕ) → has_bit led k ≡ list_any (leads_to old h k) a.edges.items) → (new : List ℕ) →
+    let P : Context → Type 0 = λ h. ((k : ℕ) → has_bit led k ≡ any_below (8 * length old) (leads_to a.follows old h k)) → (new : List ℕ) →
     ((k : ℕ) → has_bit new k ≡ (nat_lt k (vec_len a.sets) && is_moved a led h entering b k)) → IsField new r (u ++ b ∷ []) (entered ++ entering ∷ []) in
     subst P same (field-step a r tables u entered len old field b byte entering led)
 
 -- a step from a region at rest, without being entered, moves no position
-pub none-moved : (a : Automaton) (old : List ℕ) → AreZero old → (led : List ℕ) (here : Context) (b : ℕ) → ((k : ℕ) → has_bit led k ≡ list_any (leads_to old here k) a.edges.items) →
+pub none-moved : (a : Automaton) (old : List ℕ) → AreZero old → (led : List ℕ) (here : Context) (b : ℕ) → ((k : ℕ) → has_bit led k ≡ any_below (8 * length old) (leads_to a.follows old here k)) →
     (k : ℕ) → is_moved a led here false b k ≡ false
 none-moved a old zeros led here b all_led k =
     not-true (is_moved a led here false b k)
@@ -265,17 +284,33 @@ field-quiet a region zeros =
           true-false (has_bit region x) set (zero-bits region zeros x);
     }
 
+both-false : (a b : Bool) → b ≡ false → (a && b) ≡ false
+both-false true b isnt = isnt
+both-false false b isnt = refl
+
+longer : {A : Type 0} {B : Type 0} (xs : List A) (ys : List B) (x : A) (y : B) → length xs ≡ length ys → length (xs ++ x ∷ []) ≡ length (ys ++ y ∷ [])
+longer xs ys x y len = omega (arith, length-append xs (x ∷ []), length-append ys (y ∷ []), len)
+
+-- a field without a bit sleeps over each byte with which no match begins
+pub field-asleep : (a : Automaton) (first : ByteSet) → AreFirst a first → (region : List ℕ) → AreZero region → (b : ℕ) → b < 256 → has first b ≡ false →
+    IsAsleep (λ tree. Runs a tree) (λ tree u entered. IsField region (write_out tree) u entered) false b
+field-asleep a first begins region zeros b byte outside =
+    let stays : (tree : Tree) (u : List ℕ) (entered : List Bool) (enters : Bool) → Runs a tree → length entered ≡ length u → IsField region (write_out tree) u entered →
+    IsField region (write_out tree) (u ++ b ∷ []) (entered ++ enters ∷ []) =
+    λ tree u entered enters runs len field.
+    field-rests a (write_out tree) first runs.tables begins u entered len region field zeros b byte enters (both-false enters (has first b) outside) in
+    let quiet : IsQuiet (λ tree. Runs a tree) (λ tree u entered. IsField region (write_out tree) u entered) = field-quiet a region zeros in
+    record {
+      stays = λ tree u entered enters runs len field free. stays tree u entered enters runs len field;
+      leaves_nothing = quiet.leaves_nothing;
+      leaves_nothing_behind = λ tree u entered enters runs len field free next leaves.
+          quiet.leaves_nothing tree (u ++ b ∷ []) (entered ++ enters ∷ []) runs (longer entered u enters b len) (stays tree u entered enters runs len field) next leaves;
+    }
+
 -- no position is reached in the empty stream
 pub field-empty : (region : List ℕ) (r : Core) → AreZero region → IsField region r [] []
 field-empty region r zeros x =
     (λ set. true-false (has_bit region x) set (zero-bits region zeros x), λ reached. absurd (let none : None ≡ Some true = reached.is_entered in cc))
-
--- beyond the bytes no bit is set
-pub bits-past : (bytes : List ℕ) (k : ℕ) → 8 * length bytes ≤ k → has_bit bytes k ≡ false
-unfolding has_bit
-bits-past bytes k past =
-    let above : length bytes ≤ k / 8 = omega arith in
-    ap (λ n. eqb (bit_at n (k % 8)) 1) (get_or_past bytes (k / 8) 0 above) ∙ ap (λ n. eqb n 1) (bit_at-zero (k % 8))
 
 zeros-replicate : (n : ℕ) → AreZero (replicate n 0)
 zeros-replicate n i below = get_or-replicate n i 0 0 (omega (arith, length-replicate {A = ℕ} n 0))
@@ -284,6 +319,6 @@ or-dropped : (x any z : Bool) → x ≡ (any || z) → z ≡ false → x ≡ any
 or-dropped x true z both none = both
 or-dropped x false z both none = both ∙ none
 
--- where no bit was set before, those that edges lead to are set
+-- where no bit was set before, those to which others lead are set
 pub led-from_zeros : (led : List ℕ) (n k : ℕ) (any : Bool) → has_bit led k ≡ (any || has_bit (replicate n 0) k) → has_bit led k ≡ any
 led-from_zeros led n k any bits = or-dropped (has_bit led k) any (has_bit (replicate n 0) k) bits (zero-bits (replicate n 0) (zeros-replicate n) k)

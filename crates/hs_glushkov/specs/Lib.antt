@@ -3,6 +3,6 @@ pub mod Agreement
 pub mod Tables
 pub mod PlainEngines
 pub mod Parts
-pub mod FollowTables
 pub mod AssertionTests
 pub mod BuiltParts
+pub mod AnyBelow

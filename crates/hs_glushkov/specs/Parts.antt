@@ -1,7 +1,8 @@
 -- Tables under construction: parts of one table, each for an expression, and what joins them.
-use Rattle.std.specs.Prelude.{◌≡◌, ℕ, zero, suc, ◌+◌, ◌*◌, ◌<◌, ◌≤◌, ◌⊎◌, Bool, true, false, not, ◌&&◌, ◌||◌, nat_le, nat_lt, Option, Some, None, slice_get}
+use Rattle.std.specs.Prelude.{◌≡◌, ℕ, zero, suc, ◌+◌, ◌*◌, ◌<◌, ◌≤◌, ◌⊎◌, Bool, true, false, not, ◌&&◌, ◌||◌, Option, Some, None, slice_get}
 use Rattle.hs_base.specs.Contexts.{Context}
 use Rattle.hs_base.specs.WrittenOut.{Core, count, set_of}
+use Rattle.hs_follow.specs.Ranges.{is_within}
 use Rattle.hs_glushkov.specs.Positions.{null, enter, accept, follow}
 
 -- what the tables say of each position: the bytes that it takes, and where it is entered, accepts and is followed
@@ -49,10 +50,6 @@ pub record IsAdded (old new : Table) (n : ℕ) (r : Core) (none : Context → Bo
   pub null : IsNull none r
   pub keeps : Keeps old new n
   pub clear : IsClear new (n + count r)
-
--- the number is at least `low` and less than `high`
-abbrev pub is_within : ℕ → ℕ → ℕ → Bool
-is_within low high x = nat_le low x && nat_lt x high
 
 -- b, and where `within` says so only if `allowed`
 abbrev pub narrowed : (within allowed b : Bool) → Bool

@@ -13,11 +13,11 @@ ghost use Rattle.hs_glushkov.specs.Parts.{Table, IsAdded, IsClear, IsRow, null_i
 ghost use Rattle.hs_glushkov.specs.Tables.{Runs};
 
 use crate::assertion_test::has_assertion;
-use crate::edge_list::edges_of;
 use crate::parts::Parts;
 use hs_base::Mask;
 use hs_engine::Automaton;
 use hs_expr::{Expr, positions};
+use hs_follow::rows_of;
 use std::alloc::{AllocError, Global};
 
 /// The position automaton of an expression of at most `MAX_POSITIONS` positions, without code points, in which no end
@@ -32,12 +32,12 @@ pub fn build(alloc: Global, expr: &Expr) -> Result<Automaton, AllocError>
 {
     let mut parts = Parts::new(alloc, positions(expr) as usize)?;
     let null = add(expr, &mut parts);
-    let edges = edges_of(alloc, &parts.follows)?;
+    let follows = rows_of(alloc, &parts.follows)?;
     Ok(Automaton {
         sets: parts.sets,
         enters: parts.enters,
         accepts: parts.accepts,
-        edges,
+        follows,
         null,
         has_assertion: has_assertion(expr),
     })

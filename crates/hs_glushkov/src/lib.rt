@@ -6,8 +6,6 @@ mod assertion_test;
 mod builder;
 #[cfg(test)]
 mod conditions;
-mod edge_list;
-mod follow_masks;
 pub mod laws;
 mod parts;
 mod plain;

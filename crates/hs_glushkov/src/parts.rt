@@ -5,10 +5,11 @@ ghost use Rattle.std.specs.Prelude.{◌≡◌, ℕ, ◌+◌, ◌*◌, ◌-◌, �
 ghost use Rattle.hs_base.specs.Contexts.{Context};
 ghost use Rattle.hs_base.specs.ContextSets.{has_context};
 ghost use Rattle.hs_engine.specs.Automata.{in_mask};
-ghost use Rattle.hs_glushkov.specs.Parts.{is_within, narrowed};
+ghost use Rattle.hs_follow.specs.Ranges.{is_within};
+ghost use Rattle.hs_glushkov.specs.Parts.{narrowed};
 
-use crate::follow_masks::FollowMasks;
 use hs_base::{ByteSet, Mask};
+use hs_follow::FollowMasks;
 use std::alloc::{AllocError, Global};
 
 /// Tables with room for all positions, of which the first ones are in use.

@@ -1,19 +1,20 @@
 //! The engine that goes through the positions one by one: it keeps one bit for each position that is reached.
 
-ghost use Rattle.std.specs.Prelude.{◌≡◌, ◌↔◌, ℕ, ◌+◌, ◌*◌, ◌/◌, ◌^◌, ◌<◌, ◌≤◌, Bool, true, false, ◌&&◌, ◌||◌, ◌==◌, nat_lt, length, vec_len, IsTrue, All, IfOk, slice_get};
-ghost use Rattle.std.specs.List.{list_any};
+ghost use Rattle.std.specs.Prelude.{◌≡◌, ◌↔◌, ℕ, ◌+◌, ◌*◌, ◌/◌, ◌^◌, ◌<◌, ◌≤◌, Bool, true, false, ◌&&◌, ◌||◌, ◌==◌, nat_lt, length, vec_len, IsTrue, IfOk, slice_get};
 ghost use Rattle.hs_base.specs.declared.context.Next.{Next};
 ghost use Rattle.hs_base.specs.Contexts.{Context};
 ghost use Rattle.hs_base.specs.ContextSets.{has_context, has_next};
 ghost use Rattle.hs_base.specs.ByteSets.{has};
 ghost use Rattle.hs_engine.specs.Automata.{in_mask, in_set};
 ghost use Rattle.hs_engine.specs.Bits.{AreZero, has_bit};
+ghost use Rattle.hs_engine.specs.RowSizes.{row_len};
+ghost use Rattle.hs_glushkov.specs.AnyBelow.{any_below};
 ghost use Rattle.hs_glushkov.specs.Tables.{AreFirst, IsClearFrom, IsCopy, is_moved, leads_to};
 
 use hs_base::{ByteSet, Mask, Next, NextSet, Prev};
 use hs_engine::{
-    Automaton, BYTE_BITS, Edge, Engine, MAX_POSITIONS, Steps, clear_bits, contains_bit, insert_bit,
-    is_zero,
+    Automaton, BYTE_BITS, Engine, FollowRows, MAX_POSITIONS, Steps, clear_bits, contains_bit,
+    insert_bit, is_zero, unite_bits,
 };
 use std::alloc::{AllocError, Global};
 use std::sync::ledger::Ledger;
@@ -87,7 +88,7 @@ fn copy_of(alloc: Global, automaton: &Automaton) -> Result<Automaton, AllocError
         sets: Vec::from_slice(alloc, &automaton.sets)?,
         enters: Vec::from_slice(alloc, &automaton.enters)?,
         accepts: Vec::from_slice(alloc, &automaton.accepts)?,
-        edges: Vec::from_slice(alloc, &automaton.edges)?,
+        follows: automaton.follows.copy(alloc)?,
         null: automaton.null,
         has_assertion: automaton.has_assertion,
     })
@@ -104,6 +105,8 @@ impl Engine for Plain {
     ghost field = { λ e bytes tree u entered. IsField bytes (write_out tree) u entered };
 
     ghost rests = { λ e bytes. AreZero bytes };
+
+    ghost sleeps = { λ e bytes b. AreZero bytes × (has e.first b ≡ false) };
 
     ghost well = { λ e bytes at. IsClearFrom bytes (vec_len e.automaton.sets) };
 
@@ -133,7 +136,7 @@ impl Engine for Plain {
             return;
         }
         let mut led = [0u8; MAX_REGION_LEN];
-        follow(&self.automaton.edges, region, prev, next, &mut led);
+        follow(&self.automaton.follows, region, prev, next, &mut led);
         clear_bits(region);
         settle(&self.automaton, &led, prev, next, entering, byte, region);
     }
@@ -147,6 +150,10 @@ impl Engine for Plain {
 
     fn at_rest(&self, region: &[u8]) -> bool {
         is_zero(region)
+    }
+
+    fn sleeps(&self, region: &[u8], byte: u8) -> bool {
+        !self.first.contains(byte) && is_zero(region)
     }
 
     fn well_formed(&self, region: &[u8], _at: u64) -> bool {
@@ -166,30 +173,66 @@ impl Plain {
     }
 }
 
-/// Sets the bits of the positions to which edges lead from those whose bits are set in the region.
-fn follow(edges: &[Edge], region: &[u8], prev: Prev, next: Next, led: &mut [u8])
-    requires within { All (λ edge. (edge.from < 8 * length region.now) × (edge.to < 8 * length led.old)) edges.now }
+/// Sets the bits of the positions that may follow those whose bits are set in the region.
+fn follow(follows: &FollowRows, region: &[u8], prev: Prev, next: Next, led: &mut [u8])
+    requires clear { IsClearFrom region.now follows.now.size }
+    requires short { length region.now ≤ 64 }
+    requires room { row_len follows.now.size ≤ length led.old }
     ensures len { length led.new ≡ length led.old }
-    ensures bits { (k : ℕ) → has_bit led.new k ≡ (list_any (leads_to region.now (record { prev = prev; next = next }) k) edges.now || has_bit led.old k) }
+    ensures bits { (k : ℕ) → has_bit led.new k ≡ (any_below (8 * length region.now) (leads_to follows.now region.now (record { prev = prev; next = next }) k) || has_bit led.old k) }
 {
-    for edge in edges {
-        follow_edge(*edge, region, prev, next, led);
+    for place in 0..region.len() {
+        follow_byte(follows, region, place, prev, next, led);
     }
 }
 
-/// Sets the bit of the position to which the edge leads, if it leads from one whose bit is set in the region.
-fn follow_edge(edge: Edge, region: &[u8], prev: Prev, next: Next, led: &mut [u8])
-    requires from { edge.from < 8 * length region.now }
-    requires to { edge.to < 8 * length led.old }
+/// Sets the bits of the positions that may follow those whose bits are set in one byte of the region.
+fn follow_byte(
+    follows: &FollowRows,
+    region: &[u8],
+    place: usize,
+    prev: Prev,
+    next: Next,
+    led: &mut [u8],
+)
+    requires clear { IsClearFrom region.now follows.now.size }
+    requires short { length region.now ≤ 64 }
+    requires place { place < length region.now }
+    requires room { row_len follows.now.size ≤ length led.old }
     ensures len { length led.new ≡ length led.old }
-    ensures bits { (k : ℕ) → has_bit led.new k ≡ (leads_to region.now (record { prev = prev; next = next }) k edge || has_bit led.old k) }
+    ensures bits { (k : ℕ) (first : Bool) →
+        has_bit led.old k ≡ (any_below (8 * place) (leads_to follows.now region.now (record { prev = prev; next = next }) k) || first) →
+        has_bit led.new k ≡ (any_below (8 * place + 8) (leads_to follows.now region.now (record { prev = prev; next = next }) k) || first) }
 {
-    if contains_bit(region, edge.from as usize) && edge.mask.contains(prev, next) {
-        insert_bit(led, edge.to as usize);
+    if region[place] == 0 {
+        return;
+    }
+    for position in BYTE_BITS * place..BYTE_BITS * place + BYTE_BITS {
+        follow_one(follows, region, position, prev, next, led);
     }
 }
 
-/// Sets the bits of the positions that take the byte, of those to which an edge has led or which are entered.
+/// Sets the bits of the positions that may follow that one, if its bit is set in the region.
+fn follow_one(
+    follows: &FollowRows,
+    region: &[u8],
+    position: usize,
+    prev: Prev,
+    next: Next,
+    led: &mut [u8],
+)
+    requires clear { IsClearFrom region.now follows.now.size }
+    requires position { position < 8 * length region.now }
+    requires room { row_len follows.now.size ≤ length led.old }
+    ensures len { length led.new ≡ length led.old }
+    ensures bits { (k : ℕ) → has_bit led.new k ≡ (leads_to follows.now region.now (record { prev = prev; next = next }) k position || has_bit led.old k) }
+{
+    if contains_bit(region, position) {
+        unite_bits(led, follows.row(prev, next, position));
+    }
+}
+
+/// Sets the bits of the positions that take the byte, of those to which another has led or which are entered.
 fn settle(
     automaton: &Automaton,
     led: &[u8],
@@ -311,7 +354,7 @@ fn is_clear_from(region: &[u8], first: usize) -> bool
 mod tests {
     use super::Plain;
     use hs_base::{Assertion, ByteSet, Mask, Next, NextSet, Prev};
-    use hs_engine::{Automaton, Edge, Engine, Steps};
+    use hs_engine::{Automaton, Engine, FollowRows, Steps};
     use std::alloc::{AllocError, Global};
     use std::marker::Brand;
     use std::sync::ledger::{Blank, Ledger};
@@ -345,25 +388,14 @@ mod tests {
     /// `\ba(?:b+\z)?`.
     fn words(alloc: Global) -> Result<Automaton, AllocError> {
         let end = Mask::of(Assertion::StreamEnd);
+        let mut follows = FollowRows::new(alloc, 2, false)?;
+        follows.insert(0, 0, 1);
+        follows.insert(0, 1, 1);
         Ok(Automaton {
             sets: Vec::from_slice(alloc, &[ByteSet::of(b'a'), ByteSet::of(b'b')])?,
             enters: Vec::from_slice(alloc, &[Mask::of(Assertion::WordBoundary), Mask::empty()])?,
             accepts: Vec::from_slice(alloc, &[Mask::all(), end])?,
-            edges: Vec::from_slice(
-                alloc,
-                &[
-                    Edge {
-                        from: 0,
-                        to: 1,
-                        mask: Mask::all(),
-                    },
-                    Edge {
-                        from: 1,
-                        to: 1,
-                        mask: Mask::all(),
-                    },
-                ],
-            )?,
+            follows,
             null: Mask::empty(),
             has_assertion: true,
         })
@@ -403,8 +435,10 @@ mod tests {
         let engine = Plain::build(alloc, &words(alloc)?)?;
         let mut region = vec![in alloc; 0u8; engine.size()]?;
         assert!(rt; engine.at_rest(&region) && engine.well_formed(&region, 0));
+        assert!(rt; engine.sleeps(&region, b'b') && !engine.sleeps(&region, b'a'));
         let _set = left_behind::<Plain, Brand>(&engine, &mut region, b"a", Blank::new(1));
         assert!(rt; !engine.at_rest(&region) && engine.well_formed(&region, 1));
+        assert!(rt; !engine.sleeps(&region, b'b'));
         Ok(())
     }
 }

@@ -8,7 +8,7 @@ ghost use Rattle.hs_expr.specs.Meaning.{tree_of};
 use crate::conditions::{has_embedded_end, is_plain};
 use crate::{Plain, build, has_assertion};
 use hs_base::{Assertion, ByteSet, Next, NextSet, Prev};
-use hs_engine::{Automaton, Engine, MAX_POSITIONS, Steps};
+use hs_engine::{Automaton, Engine, Steps};
 use hs_expr::{Expr, positions};
 use hs_plain::ends_of;
 use std::alloc::Global;
@@ -279,10 +279,7 @@ fn has_as_many_positions_as_are_written_out(rt: HostRuntime) -> Result<(), Fail>
         assert_eq!(rt; automaton.sets.len(), count, "{name}");
         assert_eq!(rt; automaton.has_assertion, with_assertion, "{name}");
         assert_eq!(rt; has_assertion(&expr), with_assertion, "{name}");
-        assert!(rt;
-            automaton.edges.len() <= MAX_POSITIONS * MAX_POSITIONS,
-            "{name}"
-        );
+        assert!(rt; automaton.tables_len() <= 404 << 10, "{name}");
     }
     Ok(())
 }

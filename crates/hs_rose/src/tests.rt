@@ -21,6 +21,8 @@ impl Engine for Idle {
 
     ghost rests = { λ e bytes. ⊥ };
 
+    ghost sleeps = { λ e bytes b. ⊥ };
+
     ghost well = { λ e bytes at. Unit {0} };
 
     ghost enters_always = { λ e. true };
@@ -48,6 +50,10 @@ impl Engine for Idle {
     }
 
     fn at_rest(&self, _region: &[u8]) -> bool {
+        false
+    }
+
+    fn sleeps(&self, _region: &[u8], _byte: u8) -> bool {
         false
     }
 

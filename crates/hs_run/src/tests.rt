@@ -9,7 +9,7 @@ ghost use Rattle.hs_run.specs.States.{IsRunnable};
 
 use crate::{Collected, Scratch, State, feed, finish};
 use hs_base::{Assertion, ByteSet, ExprId, Mask, Report};
-use hs_engine::{Automaton, Edge, Engine, Steps};
+use hs_engine::{Automaton, Engine, FollowRows, Steps};
 use hs_expr::Expr;
 use hs_glushkov::Plain;
 use hs_plain::{Pattern, match_reports};
@@ -79,15 +79,10 @@ fn mask_of(assertion: Option<Assertion>) -> Mask {
 fn automaton_of(alloc: Global, shape: Shape) -> Result<Automaton, AllocError> {
     let enter = mask_of(shape.before);
     let accept = mask_of(shape.after);
-    let around = Edge {
-        from: 0,
-        to: 0,
-        mask: Mask::all(),
-    };
-    let again = match shape.times {
-        Times::Once | Times::Optional => Mask::empty(),
-        Times::Any => Mask::all(),
-    };
+    let mut follows = FollowRows::new(alloc, 1, false)?;
+    if matches!(shape.times, Times::Any) {
+        follows.insert(0, 0, 0);
+    }
     let null = match shape.times {
         Times::Once => Mask::empty(),
         Times::Optional | Times::Any => enter.intersection(accept),
@@ -96,13 +91,7 @@ fn automaton_of(alloc: Global, shape: Shape) -> Result<Automaton, AllocError> {
         sets: Vec::from_slice(alloc, &[set_of(shape.byte)])?,
         enters: Vec::from_slice(alloc, &[enter])?,
         accepts: Vec::from_slice(alloc, &[accept])?,
-        edges: Vec::from_slice(
-            alloc,
-            &[Edge {
-                mask: again,
-                ..around
-            }],
-        )?,
+        follows,
         null,
         has_assertion: true,
     })

@@ -4,7 +4,7 @@ use Rattle.hs_base.specs.WrittenOut.{Core, count, write_out}
 use Rattle.hs_expr.specs.Counts.{positions}
 use Rattle.hs_expr.specs.Meaning.{tree_of}
 use Rattle.hs_glushkov.specs.BuiltParts.{table_of}
-use Rattle.hs_glushkov.specs.FollowTables.{is_followed}
+use Rattle.hs_follow.specs.FollowTables.{is_followed}
 use Rattle.hs_glushkov.specs.Parts.{IsAdded}
 use Rattle.hs_glushkov.proofs.CountLemmas.{count-written}
 use Rattle.hs_glushkov.proofs.BuildLemmas.{tables-for}
@@ -29,6 +29,6 @@ returns-clause-runs c =
       plain = c.requires.plain;
       ends_last = c.requires.ends_last;
       tables =
-          tables-for _ (table_of c.in_ok-parts.parts) (is_followed c.add-null.new.parts.follows) r size c.in_ok-edges.ensures.joins
+          tables-for _ (table_of c.in_ok-parts.parts) (is_followed c.add-null.new.parts.follows) r size c.in_ok-follows.ensures.follows
           (subst (λ n. IsAdded (table_of c.in_ok-parts.parts) (table_of c.add-null.new.parts) n r (has_context c.add-null.result)) c.in_ok-parts.ensures.filled c.add-null.ensures.added);
     }

@@ -1,6 +1,6 @@
 use Rattle.std.proofs.Common.{◌*◌, length, arith, inl, inr, refl}
 use Rattle.std.proofs.lemmas.Bool.{cases_lt}
-use Rattle.hs_glushkov.proofs.PlainLemmas.{bits-past}
+use Rattle.hs_engine.proofs.RowLemmas.{bits-past}
 use Rattle.hs_glushkov.proofs.plain.is_clear_from.Goals as goal
 
 pub returns : goal.returns

@@ -1,0 +1,3 @@
+pub mod Ranges
+pub mod FollowTables
+pub mod Squares
