@@ -12,14 +12,14 @@ pub loop-byte-init : goal.loop-byte-init
 loop-byte-init g c =
     let forgotten : (with_items c.args.scratch.now.ends c.forget.new.ends).items ≡ c.forget.new.ends = with_items_is c.args.scratch.now.ends c.forget.new.ends (c.forget.ensures.len ∙ c.deref_mut.ensures.len) in
     record {
-  state = c.requires.state;
-  scratch = ap length forgotten ∙ (c.forget.ensures.len ∙ (ap length c.deref_mut.ensures.value ∙ c.requires.scratch));
-  offset = omega arith;
-  ticks = omega arith;
-  none = subst AreNoEnds (sym forgotten) c.forget.ensures.none;
-  closed = λ shut. absurd (let e : true ≡ false = shut in cc);
-  taken = takes-none g.E.Engine.is_for g.E.Engine.field c.args.program.now g.V.Events.tells c.args.events.now c.args.state.now;
-}
+      state = c.requires.state;
+      scratch = ap length forgotten ∙ (c.forget.ensures.len ∙ (ap length c.deref_mut.ensures.value ∙ c.requires.scratch));
+      offset = omega arith;
+      ticks = omega arith;
+      none = subst AreNoEnds (sym forgotten) c.forget.ensures.none;
+      closed = λ shut. absurd (let e : true ≡ false = shut in cc);
+      taken = takes-none g.E.Engine.is_for g.E.Engine.field c.args.program.now g.V.Events.tells c.args.events.now c.args.state.now;
+    }
 
 pub loop-byte-preserved : goal.loop-byte-preserved
 loop-byte-preserved g c =
