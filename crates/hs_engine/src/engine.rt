@@ -46,8 +46,7 @@ pub trait Engine {
         ensures rests { enters_always self.now ≡ false → rests self.now region.new }
         ensures well { well self.now region.new 0 };
 
-    /// Takes a byte of the stream, the one at the offset `at`, behind `prev`; the expression is entered before it where
-    /// the byte's class is in `enter`. It counts as one step.
+    /// Takes the byte at `at`, behind `prev`, in one step; the expression is entered before it if `enter` has its class.
     fn step<L: Ledger>(
         &self,
         region: &mut [u8],
@@ -77,16 +76,14 @@ pub trait Engine {
             (next : Next) → (has_next result next ≡ true) ↔ Leaves tree u entered next }
         ensures rests { rests self.now region.now → (next : Next) → has_next result next ≡ false };
 
-    /// Whether nothing is live. Then nothing ends here, and a byte before which the expression isn't entered changes
-    /// nothing.
+    /// Whether nothing is live: nothing ends here, and a byte before which the expression isn't entered changes nothing.
     fn at_rest(&self, region: &[u8]) -> bool
         requires { length region.now ≡ width self.now }
         ensures rests { IsTrue result ↔ rests self.now region.now }
         ensures quiet { IsTrue result → enters_always self.now ≡ false → IsQuiet (is_for self.now) (field self.now region.now) };
 
-    /// Whether the region may be passed over with that byte, without a step: nothing is live, and the byte wakes nothing,
-    /// even where the expression is entered before it. Then nothing ends before the byte nor behind it, and the region
-    /// is the field behind the byte as it is. An engine may answer false where this would hold too.
+    /// Whether the region may be passed over with that byte, even where the expression is entered before it: nothing ends
+    /// before the byte nor behind it, and the region stays. An engine may answer false where this would hold too.
     fn sleeps(&self, region: &[u8], byte: u8) -> bool
         requires { length region.now ≡ width self.now }
         ensures sleeps { IsTrue result ↔ sleeps self.now region.now byte }

@@ -1,5 +1,5 @@
 -- Where matches of each identifier end, as the roles are gone through one by one.
-use Rattle.std.proofs.Common.{◌≡◌, ◌↔◌, ◌⊎◌, ℕ, zero, suc, ◌+◌, ◌<◌, Bool, true, false, List, [], ◌∷◌, ◌++◌, take, set, Some, slice_get, refl, sym, ap, subst, ◌∙◌, inl, inr, arith}
+use Rattle.std.proofs.Common.{◌≡◌, ◌↔◌, ◌⊎◌, ℕ, zero, suc, ◌+◌, ◌<◌, Bool, true, false, ◌||◌, List, [], ◌∷◌, ◌++◌, take, set, Some, slice_get, refl, sym, ap, subst, ◌∙◌, inl, inr, arith}
 use Rattle.std.proofs.lemmas.Bool.{cases_eq}
 use Rattle.std.proofs.lemmas.Option.{same_Some}
 use Rattle.hs_base.specs.declared.context.Next.{Next}
@@ -14,7 +14,7 @@ use Rattle.hs_rose.specs.declared.program.Role.{Role}
 use Rattle.hs_rose.specs.declared.program.Identifier.{Identifier}
 use Rattle.hs_rose.specs.Roles.{IsRoleOf, AreRolesOf, ids_of}
 use Rattle.hs_run.specs.declared.ends.Ends.{Ends as EndsAbout}
-use Rattle.hs_run.specs.Running.{IsMoved, AreEndsAbout, AreLastEnds, ends_of, no_ends}
+use Rattle.hs_run.specs.Running.{IsMoved, AreEndsAbout, AreLastEnds, AreNoEnds, ends_of, no_ends}
 
 -- lists
 
@@ -185,3 +185,14 @@ last-ends IsFor roles identifiers P are u k r x role pattern ends old new here j
           (λ same. apart (once identifiers are.rising i r.identifier identifier is.identifier named is.named (sym same ∙ sym is.id)))
           (about i identifier e named (sym (set-other ends i r.identifier new apart) ∙ at))
     ])
+
+-- nothing was noted, and the next role notes nothing
+pub no_ends-more : (ends : List EndsAbout) (j : ℕ) (old new : EndsAbout) (noted adds : Bool) → slice_get ends j ≡ Some old → (noted ≡ false → AreNoEnds ends) → (adds ≡ false → new ≡ old) →
+    (noted || adds) ≡ false → AreNoEnds (set ends j new)
+no_ends-more ends j old new true adds here none same still i e at = absurd (let e : true ≡ false = still in cc)
+no_ends-more ends j old new false adds here none same still i e at = elim (cases_eq i j) [
+  | inl one ↦
+      let is_new : new ≡ e = same_Some new e (sym (set-same ends j old new here) ∙ (ap (slice_get (set ends j new)) (sym one) ∙ at)) in
+      sym is_new ∙ (same still ∙ none refl j old here)
+  | inr apart ↦ none refl i e (sym (set-other ends i j new apart) ∙ at)
+]

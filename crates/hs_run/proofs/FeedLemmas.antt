@@ -26,7 +26,7 @@ use Rattle.hs_run.specs.declared.reporting.Moment.TheVariants.{BeforeByte, Behin
 use Rattle.hs_run.specs.Events.{Through, Takes, still}
 use Rattle.hs_run.specs.States.{IsStateOf, kept_of}
 use Rattle.hs_run.specs.Running.{IsAt, MovesRoles, EndsRoles, ends_of}
-use Rattle.hs_run.specs.Reporting.{values_of, pairs_at, AreSettled}
+use Rattle.hs_run.specs.Reporting.{values_of, pairs_at, pairs_about, AreSettled}
 use Rattle.hs_run.specs.Feeding.{Feeds, Finishes}
 use Rattle.hs_run.proofs.StreamLemmas.{length-push, prev-push}
 use Rattle.hs_run.proofs.PartLemmas.{there}
@@ -142,18 +142,17 @@ module _ {E : Type 0} (IsFor : E → Tree → Type 0) (Field : E → List ℕ �
       (last-reports P u (ids_of ids) lasts lates (runs-identifiers IsFor (roles_of program) ids P runs) told_last told_end)
 
   -- From what the calls say.
-  pub byte-takes : {V : Type 0} (Tells : V → ℕ → ℕ → V → Type 0) (start middle end : V) (old new : State) (b : ℕ) (roles : List (Role E)) (starts bytes moved : List ℕ) (ends : List EndsAbout) →
+  pub byte-takes : {V : Type 0} (Tells : V → ℕ → ℕ → V → Type 0) (start end : V) (old new : State) (b : ℕ) (roles : List (Role E)) (starts bytes moved : List ℕ) (ends : List EndsAbout) →
       roles ≡ roles_of program → starts ≡ starts_of program → bytes ≡ old.region.items → moved ≡ new.region.items →
       MovesRoles IsFor Field roles starts bytes moved old.prev old.offset b ends →
       length old.kept.items ≡ length (identifiers_of program) → length ends ≡ length (identifiers_of program) → length new.kept.items ≡ length (identifiers_of program) →
       AreSettled (identifiers_of program) old.kept.items ends new.kept.items →
       new.offset ≡ old.offset + 1 → new.prev ≡ prev_by (eqb b line_feed) (is_word_byte b) →
-      Through Tells start (pairs_at BeforeByte (identifiers_of program) old.kept.items ends old.offset) middle →
-      Through Tells middle (pairs_at BehindByte (identifiers_of program) old.kept.items ends (old.offset + 1)) end →
+      Through Tells start (pairs_about (identifiers_of program) old.kept.items ends old.offset) end →
       Takes Tells start end (Feeds IsFor Field program old new (b ∷ []))
-  byte-takes Tells start middle end old new b roles starts bytes moved ends is_roles is_starts is_bytes is_moved moves kept noted keeps settles offset prev first second = record {
-    pairs = pairs_at BeforeByte (identifiers_of program) old.kept.items ends old.offset ++ pairs_at BehindByte (identifiers_of program) old.kept.items ends (old.offset + 1);
-    through = through-join Tells first second;
+  byte-takes Tells start end old new b roles starts bytes moved ends is_roles is_starts is_bytes is_moved moves kept noted keeps settles offset prev told = record {
+    pairs = pairs_about (identifiers_of program) old.kept.items ends old.offset;
+    through = told;
     holds =
         byte-feeds old new b ends
         (subst (λ rs. MovesRoles IsFor Field rs (starts_of program) old.region.items new.region.items old.prev old.offset b ends) is_roles

@@ -1,19 +1,20 @@
 -- One go over the identifiers: the values that tell what is reported.
-use Rattle.std.proofs.Common.{◌≡◌, ◌↔◌, ℕ, zero, suc, ◌+◌, ◌<◌, Bool, true, false, List, [], ◌∷◌, ◌++◌, length, take, Some, slice_get, sym, ap, subst, ◌∙◌, arith}
+use Rattle.std.proofs.Common.{◌≡◌, ◌↔◌, ℕ, zero, suc, ◌+◌, ◌<◌, Bool, true, false, List, [], ◌∷◌, ◌++◌, length, take, Some, slice_get, refl, sym, ap, subst, ◌∙◌, arith}
 use Rattle.std.proofs.lemmas.List.{length-map}
 use Rattle.std.specs.Prelude.{option_map}
 use Rattle.std.proofs.lemmas.Option.{same_Some, slice_get-map, slice_get_within}
-use Rattle.hs_base.specs.Settling.{pairs_told}
+use Rattle.hs_base.specs.Settling.{Kept, pairs_told, settled}
 use Rattle.hs_base.proofs.PairListLemmas.{one_told, pairs-next, Tell}
 use Rattle.hs_rose.specs.declared.program.Identifier.{Identifier}
 use Rattle.hs_rose.specs.Roles.{ids_of}
 use Rattle.hs_run.specs.declared.ends.Ends.{Ends as EndsAbout}
 use Rattle.hs_run.specs.declared.reporting.Moment.{Moment}
+use Rattle.hs_run.specs.declared.reporting.Moment.TheVariants.{BeforeByte, BehindByte}
 use Rattle.hs_run.specs.declared.state.Kept.{Kept as KeptOf}
-use Rattle.hs_run.specs.Running.{ends_of}
+use Rattle.hs_run.specs.Running.{ends_of, no_ends, AreNoEnds}
 use Rattle.hs_run.specs.States.{kept_of}
-use Rattle.hs_run.specs.Events.{Through}
-use Rattle.hs_run.specs.Reporting.{tells, values_of, pairs_at, AreSettled}
+use Rattle.hs_run.specs.Events.{Through, still}
+use Rattle.hs_run.specs.Reporting.{tells, values_of, pairs_at, pairs_about, AreClosed, AreSettled}
 use Rattle.hs_run.proofs.PartLemmas.{there}
 
 -- what stands beyond a list, in the goals of a loop over it
@@ -75,8 +76,45 @@ through-same Tells start end moment xs xs' ks ks' es es' to same same' same'' th
     (subst (λ v. Through Tells start (pairs_at moment xs v es' to) end) same'
     (subst (λ v. Through Tells start (pairs_at moment xs ks v to) end) same'' through))
 
+pub about-same : {V : Type 0} (Tells : V → ℕ → ℕ → V → Type 0) (start end : V) (xs xs' : List Identifier) (ks ks' : List KeptOf) (es es' : List EndsAbout) (at : ℕ) → xs ≡ xs' → ks ≡ ks' → es ≡ es' →
+    Through Tells start (pairs_about xs ks es at) end → Through Tells start (pairs_about xs' ks' es' at) end
+about-same Tells start end xs xs' ks ks' es es' at same same' same'' through =
+    subst (λ v. Through Tells start (pairs_about v ks' es' at) end) same
+    (subst (λ v. Through Tells start (pairs_about xs v es' at) end) same'
+    (subst (λ v. Through Tells start (pairs_about xs ks v at) end) same'' through))
+
 pub settled-same : (xs xs' : List Identifier) (ks ks' : List KeptOf) (es es' : List EndsAbout) (ns ns' : List KeptOf) → xs ≡ xs' → ks ≡ ks' → es ≡ es' → ns ≡ ns' → AreSettled xs ks es ns → AreSettled xs' ks' es' ns'
 settled-same xs xs' ks ks' es es' ns ns' same same' same'' same''' settled =
     subst (λ v. AreSettled v ks' es' ns') same
     (subst (λ v. AreSettled xs v es' ns') same'
     (subst (λ v. AreSettled xs ks v ns') same'' (subst (AreSettled xs ks es) same''' settled)))
+
+-- where no match ends
+
+silent : (moment : Moment) → ((single : Bool) (k : Kept) → tells moment single k (ends_of no_ends) ≡ false) → (xs : List Identifier) (ks : List KeptOf) (es : List EndsAbout) → AreNoEnds es → (to : ℕ) →
+    pairs_at moment xs ks es to ≡ []
+silent moment never [] ks es none to = refl
+silent moment never (x ∷ xs) [] es none to = refl
+silent moment never (x ∷ xs) (k ∷ ks) [] none to = refl
+silent moment never (x ∷ xs) (k ∷ ks) (e ∷ es) none to =
+    let is : e ≡ no_ends = none zero e refl in
+    let value : tells moment x.single (kept_of k) (ends_of e) ≡ false = ap (λ f. tells moment x.single (kept_of k) (ends_of f)) is ∙ never x.single (kept_of k) in
+    ap (λ v. pairs_told (ids_of (x ∷ xs)) (v ∷ values_of moment xs ks es) to) value ∙ silent moment never xs ks es (λ i f at. none (suc i) f at) to
+
+pub about-silent : (xs : List Identifier) (ks : List KeptOf) (es : List EndsAbout) → AreNoEnds es → (at : ℕ) → pairs_about xs ks es at ≡ []
+about-silent xs ks es none at =
+    ap (λ ps. ps ++ pairs_at BehindByte xs ks es (at + 1)) (silent BeforeByte (λ single k. refl) xs ks es none at)
+    ∙ silent BehindByte (λ single k. refl) xs ks es none (at + 1)
+
+pub through-silent : {V : Type 0} (Tells : V → ℕ → ℕ → V → Type 0) (start : V) (xs : List Identifier) (ks : List KeptOf) (es : List EndsAbout) → AreNoEnds es → (at : ℕ) → Through Tells start (pairs_about xs ks es at) start
+through-silent Tells start xs ks es none at = subst (λ ps. Through Tells start ps start) (sym (about-silent xs ks es none at)) still
+
+pub closed-settled : (xs : List Identifier) (ks : List KeptOf) (es : List EndsAbout) (ns : List KeptOf) → length ks ≡ length xs → length es ≡ length xs → length ns ≡ length xs → AreNoEnds es → AreSettled xs ks es ns → AreClosed ns
+closed-settled xs ks es ns kept noted keeps none settles i k' at_now =
+    let below : i < length ns = slice_get_within ns i k' at_now in
+    let (x, at) = there xs i (omega arith) in
+    let (k, at_k) = there ks i (omega arith) in
+    let (e, at_e) = there es i (omega arith) in
+    let is : kept_of k' ≡ settled x.single (kept_of k) (ends_of no_ends) =
+    settles i x k k' e at at_k at_e at_now ∙ ap (λ f. settled x.single (kept_of k) (ends_of f)) (none i e at_e) in
+    (ap (λ z. z.here) is, ap (λ z. z.last) is)

@@ -1,22 +1,25 @@
 -- Where matches of one role's pattern end.
-use Rattle.std.proofs.Common.{◌≡◌, ◌↔◌, ◌⊎◌, ℕ, ◌<◌, ◌≤◌, Bool, true, false, ◌||◌, ◌&&◌, List, length, eqb, refl, sym, ap, subst, ◌∙◌, inl, inr, arith}
+use Rattle.std.proofs.Common.{◌≡◌, ◌↔◌, ◌⊎◌, ℕ, ◌<◌, ◌≤◌, Bool, true, false, ◌||◌, ◌&&◌, List, [], ◌∷◌, ◌++◌, length, eqb, refl, sym, ap, subst, ◌∙◌, inl, inr, arith}
 use Rattle.std.proofs.lemmas.Bool.{eq-eqb, eqb-true}
 use Rattle.hs_base.specs.declared.context.Prev.{Prev}
 use Rattle.hs_base.specs.declared.context.Next.{Next}
 use Rattle.hs_base.specs.declared.context.NextSet.{NextSet}
 use Rattle.hs_base.specs.Assertions.{line_feed}
-use Rattle.hs_base.specs.Contexts.{context_of, then_bytes, then_ended}
+use Rattle.hs_base.specs.declared.context.Next.TheVariants as after
+use Rattle.hs_base.specs.Contexts.{Context, class_of, context_of, then_bytes, then_ended}
 use Rattle.hs_base.specs.ContextSets.{has_next, has_context}
 use Rattle.hs_base.specs.Fields.{Leaves, entered_always}
 use Rattle.hs_base.specs.Patterns.{Pattern}
 use Rattle.hs_base.specs.Trees.{Tree}
 use Rattle.hs_base.specs.Spans.{Spans}
-use Rattle.hs_base.specs.Settling.{EndsHere}
+use Rattle.hs_base.specs.Settling.{Ends, EndsHere}
 use Rattle.hs_base.proofs.EndLemmas.{behind-leaves, leaves-behind}
+use Rattle.hs_engine.specs.Engines.{IsAsleep}
 use Rattle.hs_rose.specs.declared.program.Role.{Role}
 use Rattle.hs_rose.specs.declared.program.Identifier.{Identifier}
 use Rattle.hs_rose.specs.Roles.{IsRoleOf}
-use Rattle.hs_run.specs.Running.{IsAt, IsEndSet}
+use Rattle.hs_run.specs.Running.{IsAt, IsEndSet, IsMoved}
+use Rattle.hs_run.proofs.StreamLemmas.{always-length, always-push}
 use Rattle.hs_run.proofs.TruthLemmas.{or-true, true-or, and-true, true-and}
 
 module _ {E : Type 0} (IsFor : E → Tree → Type 0) (identifiers : List Identifier) (r : Role E) (x : Pattern) (u : List ℕ) (prev : Prev) (at : ℕ)
@@ -91,3 +94,36 @@ noted_last has u b next x old new tells joins = (
     | inr both ↦ inr (true-and (eqb b line_feed) has (eq-eqb b line_feed both.0) (tells.1 both.1))
   ]),
 )
+
+-- a role that is passed over
+
+no-end : {E : Type 0} (IsFor : E → Tree → Type 0) (identifiers : List Identifier) (r : Role E) (x : Pattern) (u : List ℕ) → IsRoleOf IsFor identifiers r x → ((c : Context) → has_context r.null c ≡ false) →
+    ((next : Next) → Leaves x.tree u (entered_always u) next → ⊥) → (next : Next) → EndsHere x.id u next x → ⊥
+no-end IsFor identifiers r x u is null quiet next ends = elim (behind-leaves x.tree u next ends.from ends.spans) [
+  | inl left ↦ quiet next left
+  | inr empty ↦
+      let never : has_context r.null (context_of u next) ≡ true = (is.null u next).1 empty in
+      let isnt : has_context r.null (context_of u next) ≡ false = null (context_of u next) in
+      let e : true ≡ false = sym never ∙ isnt in
+      cc
+]
+
+unmoved : (old : Bool) (Ends : Type 0) → (Ends → ⊥) → (old ≡ true) ↔ ((old ≡ true) ⊎ Ends)
+unmoved old Ends never = (λ is. inl is, λ either. elim either [ inl before ↦ before | inr ends ↦ absurd (never ends) ])
+
+pub asleep-moved : {E : Type 0} (IsFor : E → Tree → Type 0) (Field : E → List ℕ → Tree → List ℕ → List Bool → Type 0) (identifiers : List Identifier) (r : Role E) (x : Pattern) (u part : List ℕ) (b : ℕ) (always : Bool) →
+    IsAsleep (IsFor r.engine) (Field r.engine part) always b → ((c : Context) → has_context r.null c ≡ false) → IsRoleOf IsFor identifiers r x →
+    Field r.engine part x.tree u (entered_always u) → (ends : Ends) → IsMoved (Field r.engine part) x u b ends ends
+asleep-moved IsFor Field identifiers r x u part b always asleep null is field ends =
+    let entered : entered_always u ++ true ∷ [] ≡ entered_always (u ++ b ∷ []) = sym (always-push u b) in
+    let before : (next : Next) → EndsHere x.id u next x → ⊥ =
+    no-end IsFor identifiers r x u is null (asleep.leaves_nothing x.tree u (entered_always u) is.engine (always-length u) field) in
+    let behind : (next : Next) → EndsHere x.id (u ++ b ∷ []) next x → ⊥ =
+    no-end IsFor identifiers r x (u ++ b ∷ []) is null (subst (λ es. (next : Next) → Leaves x.tree (u ++ b ∷ []) es next → ⊥) entered
+    (asleep.leaves_nothing_behind x.tree u (entered_always u) true is.engine (always-length u) field (λ yes. refl))) in
+    record {
+      field = subst (Field r.engine part x.tree (u ++ b ∷ [])) entered (asleep.stays x.tree u (entered_always u) true is.engine (always-length u) field (λ yes. refl));
+      before = unmoved ends.before (EndsHere x.id u (class_of b) x) (before (class_of b));
+      before_last = unmoved ends.before_last ((b ≡ line_feed) × EndsHere x.id u after.FinalNewline x) (λ both. before after.FinalNewline both.1);
+      behind = unmoved ends.behind (EndsHere x.id (u ++ b ∷ []) after.Unknown x) (behind after.Unknown);
+    }

@@ -17,3 +17,11 @@ and-true false b is = absurd (cc)
 pub true-and : (a b : Bool) → a ≡ true → b ≡ true → (a && b) ≡ true
 true-and true b a-is is = is
 true-and false b a-is is = absurd (cc)
+
+pub neither_left : (a b : Bool) → (a || b) ≡ false → a ≡ false
+neither_left true b none = none
+neither_left false b none = refl
+
+pub neither_right : (a b : Bool) → (a || b) ≡ false → b ≡ false
+neither_right true b none = absurd (let e : true ≡ false = none in cc)
+neither_right false b none = none

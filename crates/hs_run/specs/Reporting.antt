@@ -1,5 +1,5 @@
 -- Which pairs are reported in one go over the identifiers.
-use Rattle.std.specs.Prelude.{◌≡◌, ℕ, Bool, List, [], ◌∷◌, Some, slice_get}
+use Rattle.std.specs.Prelude.{◌≡◌, ℕ, ◌+◌, Bool, false, List, [], ◌∷◌, ◌++◌, Some, slice_get}
 use Rattle.hs_base.specs.Told.{Pair}
 use Rattle.hs_base.specs.Settling.{Kept, Ends, tells_before, tells_behind, tells_end, settled, pairs_told}
 use Rattle.hs_rose.specs.declared.program.Identifier.{Identifier}
@@ -28,6 +28,14 @@ values_of moment (x ∷ xs) (k ∷ ks) (e ∷ es) = tells moment x.single (kept_
 -- the pairs with one end that are reported
 abbrev pub pairs_at : Moment → List Identifier → List KeptOf → List EndsAbout → ℕ → List Pair
 pairs_at moment identifiers kept ends to = pairs_told (ids_of identifiers) (values_of moment identifiers kept ends) to
+
+-- those that end before the byte at that offset, and then those that end behind it
+abbrev pub pairs_about : List Identifier → List KeptOf → List EndsAbout → ℕ → List Pair
+pairs_about identifiers kept ends at = pairs_at BeforeByte identifiers kept ends at ++ pairs_at BehindByte identifiers kept ends (at + 1)
+
+-- nothing is kept of any identifier but that a pair of it is told
+abbrev pub AreClosed : List KeptOf → Type 0
+AreClosed kept = (i : ℕ) (k : KeptOf) → slice_get kept i ≡ Some k → (k.here ≡ false) × (k.last ≡ false)
 
 -- what is kept of each identifier behind the byte
 abbrev pub AreSettled : List Identifier → List KeptOf → List EndsAbout → List KeptOf → Type 0

@@ -25,6 +25,10 @@ ends_of ends = record { before = ends.before; before_last = ends.before_last; be
 abbrev pub no_ends : EndsAbout
 no_ends = record { before = false; before_last = false; behind = false }
 
+-- of each identifier
+abbrev pub AreNoEnds : List EndsAbout → Type 0
+AreNoEnds ends = (i : ℕ) (e : EndsAbout) → slice_get ends i ≡ Some e → e ≡ no_ends
+
 -- The runner stands behind the bytes u.
 pub record IsAt (u : List ℕ) (prev : Prev) (at : ℕ) : Type 0 where
   pub offset : at ≡ length u

@@ -5,7 +5,7 @@ ghost use Rattle.hs_base.specs.Contexts.{class_of};
 ghost use Rattle.hs_base.specs.ContextSets.{has_next};
 ghost use Rattle.hs_base.specs.declared.context.Next.TheVariants as after;
 ghost use Rattle.hs_run.specs.declared.ends.Ends.{Ends as EndsAbout};
-ghost use Rattle.hs_run.specs.Running.{no_ends};
+ghost use Rattle.hs_run.specs.Running.{no_ends, AreNoEnds};
 
 use hs_base::{Next, NextSet};
 
@@ -36,15 +36,20 @@ impl Ends {
     }
 
     /// Adds the matches of an expression: what may come next where they end before the byte, and where they end behind
-    /// it.
-    pub fn note(&mut self, byte: u8, before: NextSet, behind: NextSet)
+    /// it. Answers whether there is one.
+    pub fn note(&mut self, byte: u8, before: NextSet, behind: NextSet) -> bool
+        ensures noted { result ≡ false → self.new ≡ self.old }
         ensures before { self.new.before ≡ (self.old.before || has_next before (class_of byte)) }
         ensures before_last { self.new.before_last ≡ (self.old.before_last || ((byte == line_feed) && has_next before after.FinalNewline)) }
         ensures behind { self.new.behind ≡ (self.old.behind || has_next behind after.Unknown) }
     {
-        self.before |= before.contains(Next::class_of(byte));
-        self.before_last |= (byte == LINE_FEED) & before.contains(Next::FinalNewline);
-        self.behind |= behind.contains(Next::Unknown);
+        let ends_before = before.contains(Next::class_of(byte));
+        let ends_before_last = (byte == LINE_FEED) & before.contains(Next::FinalNewline);
+        let ends_behind = behind.contains(Next::Unknown);
+        self.before |= ends_before;
+        self.before_last |= ends_before_last;
+        self.behind |= ends_behind;
+        ends_before | ends_before_last | ends_behind
     }
 
     /// Adds the matches of an expression that end at the end of the stream, by what may come next where they end.
@@ -58,7 +63,7 @@ impl Ends {
 /// Makes all of them say that no match ends.
 pub fn forget(ends: &mut [Ends])
     ensures len { length ends.new ≡ length ends.old }
-    ensures none { (i : ℕ) (e : EndsAbout) → slice_get ends.new i ≡ Some e → e ≡ no_ends }
+    ensures none { AreNoEnds ends.new }
 {
     for one in ends.iter_mut() {
         *one = Ends::none();

@@ -1,13 +1,13 @@
 //! Reports in one go over the identifiers of a program.
-ghost use Rattle.std.specs.Prelude.{◌≡◌, ℕ, length};
+ghost use Rattle.std.specs.Prelude.{◌≡◌, ℕ, ◌+◌, ◌<◌, ◌^◌, false, length};
 ghost use Rattle.hs_base.specs.Settling.{tells_before, tells_behind, settled};
 ghost use Rattle.hs_base.proofs.PairListLemmas.{one_told};
 ghost use Rattle.hs_run.specs.Events.{Through};
-ghost use Rattle.hs_run.specs.Reporting.{tells, pairs_at, AreSettled};
-ghost use Rattle.hs_run.specs.Running.{ends_of};
+ghost use Rattle.hs_run.specs.Reporting.{tells, pairs_at, pairs_about, AreClosed, AreSettled};
+ghost use Rattle.hs_run.specs.Running.{ends_of, AreNoEnds};
 ghost use Rattle.hs_run.specs.States.{kept_of};
 
-use crate::ends::Ends;
+use crate::ends::{Ends, forget};
 use crate::events::Events;
 use crate::state::Kept;
 use hs_base::ExprId;
@@ -103,7 +103,7 @@ fn settled(single: bool, kept: Kept, ends: Ends) -> Kept
 }
 
 /// Keeps of each identifier what the byte settles.
-pub fn settle(identifiers: &[Identifier], kept: &mut [Kept], ends: &[Ends])
+fn settle(identifiers: &[Identifier], kept: &mut [Kept], ends: &[Ends])
     requires kept { length kept.old ≡ length identifiers.now }
     requires ends { length ends.now ≡ length identifiers.now }
     ensures len { length kept.new ≡ length kept.old }
@@ -112,4 +112,36 @@ pub fn settle(identifiers: &[Identifier], kept: &mut [Kept], ends: &[Ends])
     for i in 0..identifiers.len() {
         kept[i] = settled(identifiers[i].single, kept[i], ends[i]);
     }
+}
+
+/// Reports the pairs that a byte at the offset `at` decides, those that end before it and then those that end behind it,
+/// each by identifier, keeps what it settles, and forgets where matches ended. Where nothing is due that none was noted and
+/// no identifier is open, all this would change nothing, and none of it is done.
+pub fn settle_byte<V: Events>(
+    is_due: bool,
+    identifiers: &[Identifier],
+    kept: &mut [Kept],
+    ends: &mut [Ends],
+    at: u64,
+    events: &mut V,
+)
+    requires kept { length kept.old ≡ length identifiers.now }
+    requires ends { length ends.old ≡ length identifiers.now }
+    requires room { at < 2 ^ 63 }
+    requires none { is_due ≡ false → AreNoEnds ends.old }
+    requires closed { is_due ≡ false → AreClosed kept.old }
+    ensures kept { length kept.new ≡ length kept.old }
+    ensures ends { length ends.new ≡ length ends.old }
+    ensures none { AreNoEnds ends.new }
+    ensures closed { AreNoEnds ends.old → AreClosed kept.new }
+    ensures settled { AreSettled identifiers.now kept.old ends.old kept.new }
+    ensures told { Through V.tells events.old (pairs_about identifiers.now kept.old ends.old at) events.new }
+{
+    if !is_due {
+        return;
+    }
+    report(Moment::BeforeByte, identifiers, kept, ends, at, events);
+    report(Moment::BehindByte, identifiers, kept, ends, at + 1, events);
+    settle(identifiers, kept, ends);
+    forget(ends);
 }

@@ -1,12 +1,15 @@
 //! The runner: bytes to reports, byte by byte over all roles.
-ghost use Rattle.std.specs.Prelude.{◌≡◌, ℕ, ◌+◌, ◌*◌, ◌<◌, ◌^◌, [], ◌∷◌, length};
+ghost use Rattle.std.specs.Prelude.{◌≡◌, ℕ, ◌+◌, ◌*◌, ◌<◌, ◌≤◌, ◌^◌, false, [], ◌∷◌, length};
 ghost use Rattle.hs_rose.specs.Programs.{roles_of};
 ghost use Rattle.hs_run.specs.Events.{Takes};
+ghost use Rattle.hs_run.specs.Reporting.{AreClosed};
+ghost use Rattle.hs_run.specs.Running.{AreNoEnds};
 ghost use Rattle.hs_run.specs.States.{IsRunnable, FitsState};
 ghost use Rattle.hs_run.specs.Feeding.{FitsScratch, Feeds, Finishes};
 
+use crate::ends::forget;
 use crate::events::Events;
-use crate::reporting::{Moment, report, settle};
+use crate::reporting::{Moment, report, settle_byte};
 use crate::roles::{end_roles, step_roles};
 use crate::scratch::Scratch;
 use crate::state::State;
@@ -16,7 +19,7 @@ use hs_rose::Program;
 use std::sync::ledger::Ledger;
 
 /// Takes the next bytes of a stream, and reports what they decide, in the order in which they do. A step is counted for
-/// each role and byte. The offset stays below 2^63.
+/// each role and byte that the role doesn't sleep over. The offset stays below 2^63.
 pub fn feed<E: Engine, V: Events, L: Ledger>(
     program: &Program<E>,
     state: &mut State,
@@ -32,35 +35,43 @@ pub fn feed<E: Engine, V: Events, L: Ledger>(
     ensures state { FitsState E.well program.now state.new }
     ensures scratch { FitsScratch program.now scratch.new }
     ensures offset { state.new.offset ≡ state.old.offset + length bytes.now }
-    ensures ticks { steps.new ≡ steps.old + length (roles_of program.now) * length bytes.now }
+    ensures ticks { steps.new ≤ steps.old + length (roles_of program.now) * length bytes.now }
     ensures taken { Takes V.tells events.old events.new (Feeds E.is_for E.field program.now state.old state.new bytes.now) }
 {
+    forget(&mut scratch.ends);
+    let mut is_open = true;
     for byte in bytes {
-        feed_byte(program, state, scratch, *byte, events, steps);
+        is_open = feed_byte(program, state, scratch, *byte, is_open, events, steps);
     }
 }
 
-/// Takes the next byte of a stream, and reports what it decides.
+/// Takes the next byte of a stream, and reports what it decides. No end is noted in the scratch before nor behind it. Something
+/// else may be kept of an identifier than that a pair of it is told only if `is_open`; answers whether behind the byte.
 fn feed_byte<E: Engine, V: Events, L: Ledger>(
     program: &Program<E>,
     state: &mut State,
     scratch: &mut Scratch,
     byte: u8,
+    is_open: bool,
     events: &mut V,
     steps: &mut Steps<L>,
-)
+) -> bool
     requires runs { IsRunnable E.width program.now }
     requires state { FitsState E.well program.now state.old }
     requires scratch { FitsScratch program.now scratch.old }
     requires room { state.old.offset + 1 < 2 ^ 63 }
+    requires none { AreNoEnds scratch.old.ends.items }
+    requires closed { is_open ≡ false → AreClosed state.old.kept.items }
     ensures state { FitsState E.well program.now state.new }
     ensures scratch { FitsScratch program.now scratch.new }
     ensures offset { state.new.offset ≡ state.old.offset + 1 }
-    ensures ticks { steps.new ≡ steps.old + length (roles_of program.now) }
+    ensures none { AreNoEnds scratch.new.ends.items }
+    ensures closed { result ≡ false → AreClosed state.new.kept.items }
+    ensures ticks { steps.new ≤ steps.old + length (roles_of program.now) }
     ensures taken { Takes V.tells events.old events.new (Feeds E.is_for E.field program.now state.old state.new (byte ∷ [])) }
 {
     let at = state.offset;
-    step_roles(
+    let noted = step_roles(
         program.roles(),
         program.starts(),
         &mut state.region,
@@ -70,26 +81,17 @@ fn feed_byte<E: Engine, V: Events, L: Ledger>(
         &mut scratch.ends,
         steps,
     );
-    let identifiers = program.identifiers();
-    report(
-        Moment::BeforeByte,
-        identifiers,
-        &state.kept,
-        &scratch.ends,
+    settle_byte(
+        noted | is_open,
+        program.identifiers(),
+        &mut state.kept,
+        &mut scratch.ends,
         at,
         events,
     );
-    report(
-        Moment::BehindByte,
-        identifiers,
-        &state.kept,
-        &scratch.ends,
-        at + 1,
-        events,
-    );
-    settle(identifiers, &mut state.kept, &scratch.ends);
     state.prev = Prev::behind(byte);
     state.offset = at + 1;
+    noted
 }
 
 /// Reports what only the end of the stream decides, if it ends here. The state stays as it is.

@@ -3,9 +3,9 @@ use Rattle.hs_base.specs.declared.context.Next.TheVariants as after
 use Rattle.hs_base.specs.Contexts.{class_of}
 use Rattle.hs_base.specs.ContextSets.{has_next}
 use Rattle.hs_base.specs.Fields.{entered_always}
-use Rattle.hs_run.specs.Running.{IsAt}
+use Rattle.hs_run.specs.Running.{IsAt, ends_of}
 use Rattle.hs_run.proofs.StreamLemmas.{always-length, always-push, at-push}
-use Rattle.hs_run.proofs.RoleLemmas.{noted, noted_last}
+use Rattle.hs_run.proofs.RoleLemmas.{noted, noted_last, asleep-moved}
 use Rattle.hs_run.proofs.roles.step_role.Goals as goal
 
 pub returns-clause-moves : goal.returns-clause-moves
@@ -30,3 +30,8 @@ returns-clause-moves g c identifiers x u is here field =
           (before after.FinalNewline) c.note.ensures.before_last;
       behind = noted (has_next c.ends_at-behind.result after.Unknown) (u ++ b ∷ []) after.Unknown x old.behind new.behind (behind after.Unknown) c.note.ensures.behind;
     }
+
+pub returns-then-passes-clause-moves : goal.returns-then-passes-clause-moves
+returns-then-passes-clause-moves g c identifiers x u is here field =
+    asleep-moved g.E.Engine.is_for g.E.Engine.field identifiers c.args.role.now x u c.args.part.now c.args.byte (g.E.Engine.enters_always c.args.role.now.engine)
+    (c.passes.ensures.asleep c.if-passes.true) (c.passes.ensures.null c.if-passes.true) is field (ends_of c.args.ends.now)

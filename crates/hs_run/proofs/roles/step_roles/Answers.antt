@@ -7,7 +7,7 @@ use Rattle.hs_base.specs.Fields.{entered_always}
 use Rattle.hs_run.specs.States.{part_of}
 use Rattle.hs_run.specs.Running.{AreEndsAbout, no_ends}
 use Rattle.hs_run.proofs.PartLemmas.{there, part-length, part-written, part-other, written, length-written}
-use Rattle.hs_run.proofs.AboutLemmas.{about-none, about-more}
+use Rattle.hs_run.proofs.AboutLemmas.{about-none, about-more, no_ends-more}
 use Rattle.hs_run.proofs.roles.step_roles.Goals as goal
 
 pub bounds-ends-role : goal.bounds-ends-role
@@ -21,13 +21,13 @@ offset_bounds-ends-role g c =
     let below : c.index-roles-k.result.identifier < length c.loop-k.ends = omega (arith, c.requires.named c.loop-k.k c.index-roles-k.result role, c.loop-k.invariant.room) in
     omega arith
 
-pub step_role-requires-clause-len : goal.step_role-requires-clause-len
-step_role-requires-clause-len g c =
+pub step_role-noted-requires-clause-len : goal.step_role-noted-requires-clause-len
+step_role-noted-requires-clause-len g c =
     let role = slice_get_read c.args.roles.now (length c.args.roles.now) c.loop-k.k c.index-roles-k.result refl c.loop-k-test.true c.index-roles-k.is in
     part-length g.E.Engine.width c.args.roles.now c.args.starts.now (length c.args.region.now) c.requires.laid c.loop-k.region c.loop-k.invariant.region c.loop-k.k c.index-roles-k.result role
 
-pub step_role-requires-clause-well : goal.step_role-requires-clause-well
-step_role-requires-clause-well g c =
+pub step_role-noted-requires-clause-well : goal.step_role-noted-requires-clause-well
+step_role-noted-requires-clause-well g c =
     let role = slice_get_read c.args.roles.now (length c.args.roles.now) c.loop-k.k c.index-roles-k.result refl c.loop-k-test.true c.index-roles-k.is in
     subst (λ part. g.E.Engine.well c.index-roles-k.result.engine part c.args.at) (sym (c.loop-k.invariant.others c.loop-k.k (omega arith) c.loop-k-test.true))
     (c.requires.well c.loop-k.k c.index-roles-k.result role)
@@ -35,12 +35,13 @@ step_role-requires-clause-well g c =
 pub loop-k-init : goal.loop-k-init
 loop-k-init g c = record {
   region = refl;
-  room = c.forget.ensures.len;
+  room = refl;
   ticks = omega arith;
+  none = λ same. c.requires.none;
   others = λ j above below. refl;
   well = λ j r below. absurd (omega arith);
   fields = λ P identifiers u are here old j r x below. absurd (omega arith);
-  about = λ P identifiers u are here old. about-none u c.args.byte identifiers c.forget.new.ends c.forget.ensures.none;
+  about = λ P identifiers u are here old. about-none u c.args.byte identifiers c.args.ends.now c.requires.none;
 }
 
 pub loop-k-preserved : goal.loop-k-preserved
@@ -53,8 +54,8 @@ loop-k-preserved g c =
     let r = c.index-roles-k.result in
     let role : slice_get roles k ≡ Some r = slice_get_read roles (length roles) k r refl c.loop-k-test.true c.index-roles-k.is in
     let region : List ℕ = c.loop-k.region in
-    let part : List ℕ = c.step_role.new.part in
-    let wide : length part ≡ g.E.Engine.width r.engine = c.step_role.ensures.len in
+    let part : List ℕ = c.step_role-noted.new.part in
+    let wide : length part ≡ g.E.Engine.width r.engine = c.step_role-noted.ensures.len in
     let inv = c.loop-k.invariant in
     let now : List ℕ = written g.E.Engine.width roles starts len c.requires.laid region inv.region k r role part wide in
     let here_is : part_of starts now k ≡ part = part-written g.E.Engine.width roles starts len c.requires.laid region inv.region k r role part wide in
@@ -65,15 +66,16 @@ loop-k-preserved g c =
     part-other g.E.Engine.width roles starts len c.requires.laid region inv.region k r role part wide in
     record {
       region = length-written g.E.Engine.width roles starts len c.requires.laid region inv.region k r role part wide ∙ inv.region;
-      room = length-set c.loop-k.ends r.identifier c.step_role.new.ends ∙ inv.room;
-      ticks = omega (arith, c.step_role.ensures.ticks, inv.ticks);
+      room = length-set c.loop-k.ends r.identifier c.step_role-noted.new.ends ∙ inv.room;
+      ticks = omega (arith, c.step_role-noted.ensures.ticks, inv.ticks);
+      none = no_ends-more c.loop-k.ends r.identifier (get_or c.loop-k.ends r.identifier no_ends) c.step_role-noted.new.ends c.loop-k.noted c.step_role-noted.result slot inv.none c.step_role-noted.ensures.noted;
       others = λ j above below. other j (λ same. let e : j ≡ k = same in omega arith) below ∙ inv.others j (omega arith) below;
       well = λ j r' below at.
           elim (cases_eq j k) [
             | inl same ↦
                 let one : r ≡ r' = same_Some r r' (sym role ∙ (ap (slice_get roles) (sym same) ∙ at)) in
                 subst (λ q. g.E.Engine.well q.engine (part_of starts now j) (c.args.at + 1)) one
-                (subst (λ p. g.E.Engine.well r.engine p (c.args.at + 1)) (sym (ap (part_of starts now) same ∙ here_is)) c.step_role.ensures.well)
+                (subst (λ p. g.E.Engine.well r.engine p (c.args.at + 1)) (sym (ap (part_of starts now) same ∙ here_is)) c.step_role-noted.ensures.well)
             | inr apart ↦
                 subst (λ p. g.E.Engine.well r'.engine p (c.args.at + 1)) (sym (other j apart (slice_get_within roles j r' at)))
                 (inv.well j r' (omega arith) at)
@@ -85,7 +87,7 @@ loop-k-preserved g c =
                 let pattern_k : slice_get P k ≡ Some x = ap (slice_get P) (sym same) ∙ pattern in
                 let field : g.E.Engine.field r.engine (part_of starts region k) x.tree u (entered_always u) =
                 subst (λ p. g.E.Engine.field r.engine p x.tree u (entered_always u)) (sym before) (old k r x role pattern_k) in
-                let moved = c.step_role.ensures.moves identifiers x u (are.each k r x role pattern_k) here field in
+                let moved = c.step_role-noted.ensures.moves identifiers x u (are.each k r x role pattern_k) here field in
                 subst (λ q. g.E.Engine.field q.engine (part_of starts now j) x.tree (u ++ b ∷ []) (entered_always (u ++ b ∷ []))) one
                 (subst (λ p. g.E.Engine.field r.engine p x.tree (u ++ b ∷ []) (entered_always (u ++ b ∷ []))) (sym (ap (part_of starts now) same ∙ here_is)) moved.field)
             | inr apart ↦
@@ -97,8 +99,8 @@ loop-k-preserved g c =
           let field : g.E.Engine.field r.engine (part_of starts region k) x.tree u (entered_always u) =
           subst (λ p. g.E.Engine.field r.engine p x.tree u (entered_always u)) (sym before) (old k r x role pattern_k) in
           about-more g.E.Engine.is_for (g.E.Engine.field r.engine part) roles identifiers P are u b k r x role pattern_k c.loop-k.ends
-          (get_or c.loop-k.ends r.identifier no_ends) c.step_role.new.ends slot
-          (c.step_role.ensures.moves identifiers x u (are.each k r x role pattern_k) here field)
+          (get_or c.loop-k.ends r.identifier no_ends) c.step_role-noted.new.ends slot
+          (c.step_role-noted.ensures.moves identifiers x u (are.each k r x role pattern_k) here field)
           (inv.about P identifiers u are here old);
     }
 

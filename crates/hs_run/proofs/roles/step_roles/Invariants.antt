@@ -1,18 +1,19 @@
-use Rattle.std.proofs.Common.{◌≡◌, ℕ, ◌+◌, ◌<◌, ◌≤◌, List, [], ◌∷◌, ◌++◌, length, take, Some, slice_get}
+use Rattle.std.proofs.Common.{◌≡◌, ℕ, ◌+◌, ◌<◌, ◌≤◌, false, List, [], ◌∷◌, ◌++◌, length, take, Some, slice_get}
 use Rattle.hs_base.specs.Fields.{entered_always}
 use Rattle.hs_base.specs.Patterns.{Pattern}
 use Rattle.hs_rose.specs.declared.program.Role.{Role}
 use Rattle.hs_rose.specs.declared.program.Identifier.{Identifier}
 use Rattle.hs_rose.specs.Roles.{AreRolesOf}
 use Rattle.hs_run.specs.States.{part_of}
-use Rattle.hs_run.specs.Running.{IsAt, AreFields, AreEndsAbout}
+use Rattle.hs_run.specs.Running.{IsAt, AreFields, AreEndsAbout, AreNoEnds}
 use Rattle.hs_run.proofs.roles.step_roles.Given as goal
 
 abbrev pub invariant-loop-k : goal.invariant-loop-k
 invariant-loop-k g l = record {
   region : length l.region ≡ length l.fn.region;
   room : length l.ends ≡ length l.fn.ends;
-  ticks : l.steps ≡ l.fn.steps + l.k;
+  ticks : l.steps ≤ l.fn.steps + l.k;
+  none : l.noted ≡ false → AreNoEnds l.ends;
   others : (j : ℕ) → l.k ≤ j → j < length l.roles → part_of l.starts l.region j ≡ part_of l.starts l.fn.region j;
   well : (j : ℕ) (r : Role g.row.E.Denot) → j < l.k → slice_get l.roles j ≡ Some r → g.E.Engine.well r.engine (part_of l.starts l.region j) (l.at + 1);
   fields : (P : List Pattern) (identifiers : List Identifier) (u : List ℕ) → AreRolesOf g.E.Engine.is_for l.roles identifiers P → IsAt u l.prev l.at →

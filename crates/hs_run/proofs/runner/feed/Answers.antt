@@ -1,19 +1,25 @@
-use Rattle.std.proofs.Common.{◌≡◌, ℕ, [], ◌∷◌, length, take, get_or, sym, ap, subst, ◌∙◌, arith}
-use Rattle.std.proofs.lemmas.List.{take_more}
+use Rattle.std.proofs.Common.{◌≡◌, ℕ, true, false, [], ◌∷◌, length, take, get_or, sym, ap, subst, ◌∙◌, arith}
+use Rattle.std.specs.Vec.{with_items}
+use Rattle.std.proofs.lemmas.List.{take_more, with_items_is}
 use Rattle.std.proofs.Math.Seq.{take-length}
 use Rattle.hs_run.specs.Events.{Takes}
+use Rattle.hs_run.specs.Running.{AreNoEnds}
 use Rattle.hs_run.specs.Feeding.{Feeds}
 use Rattle.hs_run.proofs.FeedLemmas.{takes-none, takes-more}
 use Rattle.hs_run.proofs.runner.feed.Goals as goal
 
 pub loop-byte-init : goal.loop-byte-init
-loop-byte-init g c = record {
-  state = c.requires.state;
-  scratch = c.requires.scratch;
-  offset = omega arith;
-  ticks = omega arith;
-  taken = takes-none g.E.Engine.is_for g.E.Engine.field c.args.program.now g.V.Events.tells c.args.events.now c.args.state.now;
-}
+loop-byte-init g c =
+    let forgotten : (with_items c.args.scratch.now.ends c.forget.new.ends).items ≡ c.forget.new.ends = with_items_is c.args.scratch.now.ends c.forget.new.ends (c.forget.ensures.len ∙ c.deref_mut.ensures.len) in
+    record {
+      state = c.requires.state;
+      scratch = ap length forgotten ∙ (c.forget.ensures.len ∙ (ap length c.deref_mut.ensures.value ∙ c.requires.scratch));
+      offset = omega arith;
+      ticks = omega arith;
+      none = subst AreNoEnds (sym forgotten) c.forget.ensures.none;
+      closed = λ shut. absurd (let e : true ≡ false = shut in cc);
+      taken = takes-none g.E.Engine.is_for g.E.Engine.field c.args.program.now g.V.Events.tells c.args.events.now c.args.state.now;
+    }
 
 pub loop-byte-preserved : goal.loop-byte-preserved
 loop-byte-preserved g c =
@@ -22,15 +28,17 @@ loop-byte-preserved g c =
     let i : ℕ = c.loop-byte.byte-index in
     let inv = c.loop-byte.invariant in
     record {
-      state = c.feed_byte.ensures.state;
-      scratch = c.feed_byte.ensures.scratch;
-      offset = omega (arith, c.feed_byte.ensures.offset, inv.offset);
-      ticks = omega (arith, c.feed_byte.ensures.ticks, inv.ticks);
+      state = c.feed_byte-is_open.ensures.state;
+      scratch = c.feed_byte-is_open.ensures.scratch;
+      offset = omega (arith, c.feed_byte-is_open.ensures.offset, inv.offset);
+      none = c.feed_byte-is_open.ensures.none;
+      closed = c.feed_byte-is_open.ensures.closed;
+      ticks = omega (arith, c.feed_byte-is_open.ensures.ticks, inv.ticks);
       taken =
-          subst (λ bs. Takes g.V.Events.tells c.args.events.now c.feed_byte.new.events (Feeds g.E.Engine.is_for g.E.Engine.field program c.args.state.now c.feed_byte.new.state bs))
+          subst (λ bs. Takes g.V.Events.tells c.args.events.now c.feed_byte-is_open.new.events (Feeds g.E.Engine.is_for g.E.Engine.field program c.args.state.now c.feed_byte-is_open.new.state bs))
           (sym (take_more bytes i 0 c.loop-byte-test.true))
-          (takes-more g.E.Engine.is_for g.E.Engine.field program g.V.Events.tells c.args.events.now c.loop-byte.events c.feed_byte.new.events
-          c.args.state.now c.loop-byte.state c.feed_byte.new.state (take i bytes) (get_or bytes i 0 ∷ []) inv.taken c.feed_byte.ensures.taken);
+          (takes-more g.E.Engine.is_for g.E.Engine.field program g.V.Events.tells c.args.events.now c.loop-byte.events c.feed_byte-is_open.new.events
+          c.args.state.now c.loop-byte.state c.feed_byte-is_open.new.state (take i bytes) (get_or bytes i 0 ∷ []) inv.taken c.feed_byte-is_open.ensures.taken);
     }
 
 pub returns-clause-taken : goal.returns-clause-taken

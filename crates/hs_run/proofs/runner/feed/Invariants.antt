@@ -1,6 +1,8 @@
-use Rattle.std.proofs.Common.{◌≡◌, ◌+◌, ◌*◌, length, take}
+use Rattle.std.proofs.Common.{◌≡◌, ◌≤◌, false, ◌+◌, ◌*◌, length, take}
 use Rattle.hs_rose.specs.Programs.{roles_of}
 use Rattle.hs_run.specs.Events.{Takes}
+use Rattle.hs_run.specs.Reporting.{AreClosed}
+use Rattle.hs_run.specs.Running.{AreNoEnds}
 use Rattle.hs_run.specs.States.{FitsState}
 use Rattle.hs_run.specs.Feeding.{FitsScratch, Feeds}
 use Rattle.hs_run.proofs.runner.feed.Given as goal
@@ -10,6 +12,8 @@ invariant-loop-byte g l = record {
   state : FitsState g.E.Engine.well l.program l.state;
   scratch : FitsScratch l.program l.scratch;
   offset : l.state.offset ≡ l.fn.state.offset + l.byte-index;
-  ticks : l.steps ≡ l.fn.steps + length (roles_of l.program) * l.byte-index;
+  none : AreNoEnds l.scratch.ends.items;
+  closed : l.is_open ≡ false → AreClosed l.state.kept.items;
+  ticks : l.steps ≤ l.fn.steps + length (roles_of l.program) * l.byte-index;
   taken : Takes g.V.Events.tells l.fn.events l.events (Feeds g.E.Engine.is_for g.E.Engine.field l.program l.fn.state l.state (take l.byte-index l.bytes));
 }
