@@ -2,13 +2,12 @@
 use Rattle.std.proofs.Common.{◌≡◌, ℕ, ◌^◌, ◌<◌, ◌≤◌, ◌⊎◌, List, refl, sym, ap, ◌∙◌, subst, arith, inl, inr}
 use Rattle.std.proofs.lemmas.Bool.{cases_lt}
 use Rattle.hs_base.specs.declared.refusal.Refusal.{Refusal}
-use Rattle.hs_base.specs.declared.refusal.Refusal.TheVariants.{UnsupportedFlag, UnsupportedParameter, CountLimit}
+use Rattle.hs_base.specs.declared.refusal.Refusal.TheVariants.{UnsupportedFlag, UnsupportedParameter}
 use Rattle.hs_base.specs.declared.flags.Flags.{Flags}
 use Rattle.hs_base.specs.declared.ext.Ext.{Ext}
 use Rattle.hs_base.specs.Entries.{ListedEntry, flags_of}
 use Rattle.hs_base.specs.Refusals.{number_of}
 use Rattle.hs_base.specs.Trees.{Tree}
-use Rattle.hs_parse.specs.Grammar.{Reads}
 use Rattle.hs_parse.specs.Faults.{Fault, IsOfText, syntax_fault, unknown_escape, unsupported as unsupported_form, repeat_limit, length_limit, depth_limit}
 use Rattle.hs_parse.proofs.GrammarLemmas.{one_tree}
 use Rattle.hs_parse.proofs.PathLemmas.{one_fault, never_both}
@@ -16,7 +15,7 @@ use Rattle.hs_parse.proofs.NumberLemmas.{fault-number}
 use Rattle.hs_support.specs.Support.{IsLeastOutside}
 use Rattle.hs_support.specs.Refused.{HasFlagsFault, flag, parameter, HasRefusal as HasTreeRefusal, IsLeast}
 use Rattle.hs_support.specs.Refused as tree
-use Rattle.hs_compile.specs.Lists.{HasRefusal, unread, unsupported, unfit, beyond, IsRefusalOf}
+use Rattle.hs_compile.specs.Lists.{HasPlaceFault, beyond, mixed, HasRefusal, unread, unsupported, unfit, misplaced, IsRefusalOf}
 
 -- ---- numbers
 
@@ -52,12 +51,40 @@ pub flags-number : (flags : Flags) (ext : Ext) (refusal : Refusal) → HasFlagsF
 flags-number flags ext _ (flag bit least) = record { least = omega arith; greatest = omega arith }
 flags-number flags ext _ (parameter bit least) = record { least = omega arith; greatest = omega arith }
 
-tree-number : (flags : Flags) (ext : Ext) (t : Tree) (refusal : Refusal) → HasTreeRefusal flags ext t refusal → number_of refusal ≡ 12 → ⊥
-tree-number flags ext t refusal (tree.unsupported _ fault) e = let n = flags-number flags ext refusal fault in omega (arith, n.greatest)
-tree-number flags ext t _ (tree.matches_empty none span) e = omega arith
-tree-number flags ext t _ (tree.embedded_end is) e = omega arith
-tree-number flags ext t _ (tree.position_limit more) e = omega arith
-tree-number flags ext t _ (tree.offset_order above) e = omega arith
+-- the numbers of the faults of a place
+pub data IsPlaceNumber : ℕ → Type 0 where
+  count_limit : IsPlaceNumber 12
+  mixed_single : IsPlaceNumber 14
+
+pub place-number : (before : List ListedEntry) (entry : ListedEntry) (refusal : Refusal) → HasPlaceFault before entry refusal → IsPlaceNumber (number_of refusal)
+place-number before entry _ (beyond more) = count_limit
+place-number before entry _ (mixed is) = mixed_single
+
+above : (n : ℕ) → IsPlaceNumber n → 12 ≤ n
+above _ count_limit = omega arith
+above _ mixed_single = omega arith
+
+pub place-above : (before : List ListedEntry) (entry : ListedEntry) (refusal : Refusal) → HasPlaceFault before entry refusal → 12 ≤ number_of refusal
+place-above before entry refusal fault = above (number_of refusal) (place-number before entry refusal fault)
+
+-- none of them is that of a tree
+tree-number : (flags : Flags) (ext : Ext) (t : Tree) (refusal : Refusal) → HasTreeRefusal flags ext t refusal → (number_of refusal ≤ 9) ⊎ (number_of refusal ≡ 15)
+tree-number flags ext t refusal (tree.unsupported _ fault) = inl (let n = flags-number flags ext refusal fault in omega (arith, n.greatest))
+tree-number flags ext t _ (tree.matches_empty none span) = inl (omega arith)
+tree-number flags ext t _ (tree.embedded_end is) = inl (omega arith)
+tree-number flags ext t _ (tree.position_limit more) = inl (omega arith)
+tree-number flags ext t _ (tree.offset_order order) = inr refl
+
+apart : (n : ℕ) → IsPlaceNumber n → (n ≤ 9) ⊎ (n ≡ 15) → ⊥
+apart _ count_limit (inl few) = omega (arith, few)
+apart _ count_limit (inr same) = omega (arith, same)
+apart _ mixed_single (inl few) = omega (arith, few)
+apart _ mixed_single (inr same) = omega (arith, same)
+
+tree-place : (flags : Flags) (ext : Ext) (t : Tree) (before : List ListedEntry) (entry : ListedEntry) (r s : Refusal) →
+    HasTreeRefusal flags ext t r → HasPlaceFault before entry s → number_of r ≡ number_of s → ⊥
+tree-place flags ext t before entry r s p q e =
+    apart (number_of s) (place-number before entry s q) (subst (λ n. (n ≤ 9) ⊎ (n ≡ 15)) e (tree-number flags ext t r p))
 
 -- ---- one of each number
 
@@ -107,35 +134,46 @@ one-of_tree flags ext t _ _ (tree.offset_order a) (tree.embedded_end i) e = absu
 one-of_tree flags ext t _ _ (tree.offset_order a) (tree.position_limit m) e = absurd (omega arith)
 one-of_tree flags ext t _ _ (tree.offset_order a) (tree.offset_order a') e = refl
 
+-- the reasons of a place
+one-place : (before : List ListedEntry) (entry : ListedEntry) (r s : Refusal) → HasPlaceFault before entry r → HasPlaceFault before entry s → number_of r ≡ number_of s → r ≡ s
+one-place before entry _ _ (beyond m) (beyond m') e = refl
+one-place before entry _ _ (beyond m) (mixed i) e = absurd (omega arith)
+one-place before entry _ _ (mixed i) (beyond m) e = absurd (omega arith)
+one-place before entry _ _ (mixed i) (mixed i') e = refl
+
 -- ---- of an entry
 
-one-number : (number : ℕ) (entry : ListedEntry) (r s : Refusal) → HasRefusal number entry r → HasRefusal number entry s → number_of r ≡ number_of s → r ≡ s
-one-number number entry r s (unread p) (unread q) e = one_fault entry.text (flags_of entry) r s p q
-one-number number entry r s (unread p) (unsupported q) e =
+one-number : (before : List ListedEntry) (entry : ListedEntry) (r s : Refusal) → HasRefusal before entry r → HasRefusal before entry s → number_of r ≡ number_of s → r ≡ s
+one-number before entry r s (unread p) (unread q) e = one_fault entry.text (flags_of entry) r s p q
+one-number before entry r s (unread p) (unsupported q) e =
     let n = flags-number (flags_of entry) entry.ext s q in
     absurd (not-flags (number_of r) (text-number entry.text (flags_of entry) r p) (omega (arith, n.least)) (omega (arith, n.greatest)))
-one-number number entry r s (unread p) (unfit t reads q) e = absurd (never_both entry.text (flags_of entry) t r reads p)
-one-number number entry r _ (unread p) (beyond more) e = let n = fault_low entry.text (flags_of entry) r p in absurd (omega arith)
-one-number number entry r s (unsupported p) (unread q) e =
+one-number before entry r s (unread p) (unfit t reads q) e = absurd (never_both entry.text (flags_of entry) t r reads p)
+one-number before entry r s (unread p) (misplaced q) e =
+    let n = fault_low entry.text (flags_of entry) r p in let m = place-above before entry s q in absurd (omega arith)
+one-number before entry r s (unsupported p) (unread q) e =
     let n = flags-number (flags_of entry) entry.ext r p in
     absurd (not-flags (number_of s) (text-number entry.text (flags_of entry) s q) (omega (arith, n.least)) (omega (arith, n.greatest)))
-one-number number entry r s (unsupported p) (unsupported q) e = one-flag (flags_of entry) entry.ext r s p q e
-one-number number entry r s (unsupported p) (unfit t reads q) e = flag-or (flags_of entry) entry.ext t r s p q e
-one-number number entry r _ (unsupported p) (beyond more) e = let n = flags-number (flags_of entry) entry.ext r p in absurd (omega (arith, n.greatest))
-one-number number entry r s (unfit t reads p) (unread q) e = absurd (never_both entry.text (flags_of entry) t s reads q)
-one-number number entry r s (unfit t reads p) (unsupported q) e = sym (flag-or (flags_of entry) entry.ext t s r q p (sym e))
-one-number number entry r s (unfit t reads p) (unfit t' reads' q) e =
+one-number before entry r s (unsupported p) (unsupported q) e = one-flag (flags_of entry) entry.ext r s p q e
+one-number before entry r s (unsupported p) (unfit t reads q) e = flag-or (flags_of entry) entry.ext t r s p q e
+one-number before entry r s (unsupported p) (misplaced q) e =
+    let n = flags-number (flags_of entry) entry.ext r p in let m = place-above before entry s q in absurd (omega (arith, n.greatest))
+one-number before entry r s (unfit t reads p) (unread q) e = absurd (never_both entry.text (flags_of entry) t s reads q)
+one-number before entry r s (unfit t reads p) (unsupported q) e = sym (flag-or (flags_of entry) entry.ext t s r q p (sym e))
+one-number before entry r s (unfit t reads p) (unfit t' reads' q) e =
     one-of_tree (flags_of entry) entry.ext t r s p
     (subst (λ x. HasTreeRefusal (flags_of entry) entry.ext x s) (one_tree entry.text (flags_of entry) t' t reads' reads) q) e
-one-number number entry r _ (unfit t reads p) (beyond more) e = absurd (tree-number (flags_of entry) entry.ext t r p e)
-one-number number entry _ s (beyond more) (unread q) e = let n = fault_low entry.text (flags_of entry) s q in absurd (omega arith)
-one-number number entry _ s (beyond more) (unsupported q) e = let n = flags-number (flags_of entry) entry.ext s q in absurd (omega (arith, n.greatest))
-one-number number entry _ s (beyond more) (unfit t reads q) e = absurd (tree-number (flags_of entry) entry.ext t s q (sym e))
-one-number number entry _ _ (beyond more) (beyond more') e = refl
+one-number before entry r s (unfit t reads p) (misplaced q) e = absurd (tree-place (flags_of entry) entry.ext t before entry r s p q e)
+one-number before entry r s (misplaced p) (unread q) e =
+    let n = fault_low entry.text (flags_of entry) s q in let m = place-above before entry r p in absurd (omega arith)
+one-number before entry r s (misplaced p) (unsupported q) e =
+    let n = flags-number (flags_of entry) entry.ext s q in let m = place-above before entry r p in absurd (omega (arith, n.greatest))
+one-number before entry r s (misplaced p) (unfit t reads q) e = absurd (tree-place (flags_of entry) entry.ext t before entry s r q p (sym e))
+one-number before entry r s (misplaced p) (misplaced q) e = one-place before entry r s p q e
 
 -- an entry is refused in one way
-pub refusal_once : (number : ℕ) (entry : ListedEntry) (r s : Refusal) → IsRefusalOf number entry r → IsRefusalOf number entry s → r ≡ s
-refusal_once number entry r s p q =
+pub refusal_once : (before : List ListedEntry) (entry : ListedEntry) (r s : Refusal) → IsRefusalOf before entry r → IsRefusalOf before entry s → r ≡ s
+refusal_once before entry r s p q =
     let below : number_of r ≤ number_of s = p.least s q.has in
-    let above : number_of s ≤ number_of r = q.least r p.has in
-    one-number number entry r s p.has q.has (omega arith)
+    let back : number_of s ≤ number_of r = q.least r p.has in
+    one-number before entry r s p.has q.has (omega arith)

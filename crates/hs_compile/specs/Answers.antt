@@ -1,7 +1,6 @@
 -- What the answers of the compiler say.
-use Rattle.std.specs.Prelude.{◌≡◌, ℕ, ◌<◌, ◌≤◌, List, length, Option, Some, None}
+use Rattle.std.specs.Prelude.{◌≡◌, suc, ◌<◌, ◌≤◌, List, length, Option, Some, None}
 use Rattle.hs_base.specs.declared.refusal.Refusal.{Refusal}
-use Rattle.hs_base.specs.declared.refusal.Refusal.TheVariants.{CountLimit}
 use Rattle.hs_base.specs.Entries.{ListedEntry}
 use Rattle.hs_base.specs.Refusals.{number_of}
 use Rattle.hs_base.specs.Patterns.{Pattern}
@@ -44,24 +43,19 @@ pub record AreCompiled (entries : List ListedEntry) (expressions : List (Express
   pub small : Each IsSmall expressions
   pub few : length entries ≤ greatest_count
 
--- The entry of that number is accepted, and this is what runs its pattern.
-pub record IsCompiledEntry (number : ℕ) (entry : ListedEntry) (expression : Expression Plain) : Type 0 where
+-- The entry behind these is accepted, and this is what runs its pattern.
+pub record IsCompiledEntry (before : List ListedEntry) (entry : ListedEntry) (expression : Expression Plain) : Type 0 where
   pub pattern : Pattern
-  pub accepted : IsAcceptedAs number entry pattern
+  pub accepted : IsAcceptedAs before entry pattern
   pub run : IsRunBy pattern expression
 
--- Why the entry of that number isn't compiled: its refusal, or no memory.
-abbrev pub IsEntryCause : (number : ℕ) → ListedEntry → CompileFault → Type 0
-IsEntryCause number entry (Refused n id refusal) = (n ≡ number) × (id.0 ≡ entry.id) × IsRefusalOf number entry refusal
-IsEntryCause number entry Memory = Unit {0}
+-- Why the entry behind these isn't compiled: its refusal, or no memory.
+abbrev pub IsEntryCause : (before : List ListedEntry) → ListedEntry → CompileFault → Type 0
+IsEntryCause before entry (Refused number id refusal) = (number ≡ suc (length before)) × (id.0 ≡ entry.id) × IsRefusalOf before entry refusal
+IsEntryCause before entry Memory = Unit {0}
 
 -- the one of two refusals that has the lesser number, the first where they have the same
 pub data IsLesser (refusal : Refusal) : Option Refusal → Refusal → Type 0 where
   alone : IsLesser refusal None refusal
   first : {other : Refusal} → number_of refusal ≤ number_of other → IsLesser refusal (Some other) refusal
   second : {other : Refusal} → number_of other < number_of refusal → IsLesser refusal (Some other) other
-
--- the entry of that number has too many before it, or none
-pub data IsCounted (number : ℕ) : Option Refusal → Type 0 where
-  within : number ≤ greatest_count → IsCounted number None
-  beyond : greatest_count < number → IsCounted number (Some CountLimit)

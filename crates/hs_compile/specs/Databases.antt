@@ -1,5 +1,5 @@
 -- Which database is that of a list of patterns.
-use Rattle.std.specs.Prelude.{ℕ, List}
+use Rattle.std.specs.Prelude.{List}
 use Rattle.hs_base.specs.Trees.{Tree}
 use Rattle.hs_base.specs.Patterns.{Pattern}
 use Rattle.hs_glushkov.specs.declared.plain.Plain.{Plain}

@@ -1,3 +1,4 @@
 pub mod Lists
 pub mod Databases
 pub mod Answers
+pub mod Remembered

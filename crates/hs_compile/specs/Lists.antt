@@ -1,9 +1,10 @@
 -- Which lists of expressions are accepted, as which patterns, and how the others are refused.
-use Rattle.std.specs.Prelude.{◌≡◌, ◌==◌, ℕ, suc, ◌<◌, Bool, List, [], ◌∷◌, bit_and}
+use Rattle.std.specs.Prelude.{◌≡◌, ◌==◌, ℕ, suc, ◌<◌, Bool, not, List, [], ◌∷◌, ◌++◌, length, bit_and}
 use Rattle.hs_base.specs.declared.entry.ExprId.{ExprId}
 use Rattle.hs_base.specs.declared.refusal.Refusal.{Refusal}
-use Rattle.hs_base.specs.declared.refusal.Refusal.TheVariants.{CountLimit}
+use Rattle.hs_base.specs.declared.refusal.Refusal.TheVariants.{CountLimit, MixedSingle}
 use Rattle.hs_base.specs.Entries.{ListedEntry, flags_of}
+use Rattle.hs_base.specs.Lists.{OneOf}
 use Rattle.hs_base.specs.Trees.{Tree}
 use Rattle.hs_base.specs.Patterns.{Pattern}
 use Rattle.hs_parse.specs.Grammar.{Reads}
@@ -28,49 +29,65 @@ pattern_of entry tree = record {
   tree = tree;
 }
 
--- The entry of that number, counted from 1, has the refusal.
-pub data HasRefusal (number : ℕ) (entry : ListedEntry) : Refusal → Type 0 where
+-- The earlier entry is of the same identifier, and a single report is asked for by one of the two alone.
+pub record Differs (entry earlier : ListedEntry) : Type 0 where
+  pub named : earlier.id ≡ entry.id
+  pub otherwise : asks_single earlier.flags ≡ not (asks_single entry.flags)
+
+-- an entry before it differs so
+abbrev pub IsMixed : (before : List ListedEntry) → ListedEntry → Type 0
+IsMixed before entry = OneOf (Differs entry) before
+
+-- The entry is refused where it stands, behind these.
+pub data HasPlaceFault (before : List ListedEntry) (entry : ListedEntry) : Refusal → Type 0 where
+  -- its number, counted from 1, is above the greatest
+  beyond : greatest_count < suc (length before) → HasPlaceFault before entry CountLimit
+  -- an entry before it differs in whether its identifier is to be reported at most once
+  mixed : IsMixed before entry → HasPlaceFault before entry (MixedSingle (record { 0 = entry.id }))
+
+-- The entry behind these has the refusal.
+pub data HasRefusal (before : List ListedEntry) (entry : ListedEntry) : Refusal → Type 0 where
   -- its expression isn't read
-  unread : {refusal : Refusal} → Fault entry.text (flags_of entry) refusal → HasRefusal number entry refusal
+  unread : {refusal : Refusal} → Fault entry.text (flags_of entry) refusal → HasRefusal before entry refusal
   -- a flag or a parameter isn't supported
-  unsupported : {refusal : Refusal} → HasFlagsFault (flags_of entry) entry.ext refusal → HasRefusal number entry refusal
+  unsupported : {refusal : Refusal} → HasFlagsFault (flags_of entry) entry.ext refusal → HasRefusal before entry refusal
   -- its tree isn't supported, with these flags and parameters
   unfit : {refusal : Refusal} (tree : Tree) →
       Reads entry.text (flags_of entry) tree →
       HasTreeRefusal (flags_of entry) entry.ext tree refusal →
-      HasRefusal number entry refusal
-  -- there are too many entries before it
-  beyond : greatest_count < number → HasRefusal number entry CountLimit
+      HasRefusal before entry refusal
+  -- where it stands
+  misplaced : {refusal : Refusal} → HasPlaceFault before entry refusal → HasRefusal before entry refusal
 
 -- Of the refusals of the entry it is the one of least number.
-abbrev pub IsRefusalOf : (number : ℕ) → ListedEntry → Refusal → Type 0
-IsRefusalOf number entry refusal = IsLeast (HasRefusal number entry) refusal
+abbrev pub IsRefusalOf : (before : List ListedEntry) → ListedEntry → Refusal → Type 0
+IsRefusalOf before entry refusal = IsLeast (HasRefusal before entry) refusal
 
 -- The entry has no refusal, its expression is read, and the pattern is its own.
-pub record IsAcceptedAs (number : ℕ) (entry : ListedEntry) (x : Pattern) : Type 0 where
+pub record IsAcceptedAs (before : List ListedEntry) (entry : ListedEntry) (x : Pattern) : Type 0 where
   pub read : Reads entry.text (flags_of entry) x.tree
   pub is : x ≡ pattern_of entry x.tree
-  pub free : (refusal : Refusal) → HasRefusal number entry refusal → ⊥
+  pub free : (refusal : Refusal) → HasRefusal before entry refusal → ⊥
 
--- So it is with each entry, of which the first has that number, in order.
-abbrev pub AreAcceptedFrom : ℕ → List ListedEntry → List Pattern → Type 0
-AreAcceptedFrom number [] [] = Unit {0}
-AreAcceptedFrom number [] (x ∷ P) = ⊥
-AreAcceptedFrom number (entry ∷ entries) [] = ⊥
-AreAcceptedFrom number (entry ∷ entries) (x ∷ P) = IsAcceptedAs number entry x × AreAcceptedFrom (suc number) entries P
+-- So it is with each of the entries behind these, in order.
+abbrev pub AreAcceptedFrom : (before : List ListedEntry) → List ListedEntry → List Pattern → Type 0
+AreAcceptedFrom before [] [] = Unit {0}
+AreAcceptedFrom before [] (x ∷ P) = ⊥
+AreAcceptedFrom before (entry ∷ entries) [] = ⊥
+AreAcceptedFrom before (entry ∷ entries) (x ∷ P) = IsAcceptedAs before entry x × AreAcceptedFrom (before ++ entry ∷ []) entries P
 
 -- The list is accepted as these patterns.
 abbrev pub AreAcceptedAs : List ListedEntry → List Pattern → Type 0
-AreAcceptedAs entries P = AreAcceptedFrom 1 entries P
+AreAcceptedAs entries P = AreAcceptedFrom [] entries P
 
--- Among the entries, of which the first has the number `from`, the first that is refused has that number and identifier
--- and that refusal.
-pub data IsFirstRefusalFrom : (from : ℕ) → List ListedEntry → (number : ℕ) → (id : ExprId) → Refusal → Type 0 where
-  here : {from : ℕ} {entry : ListedEntry} {entries : List ListedEntry} {refusal : Refusal} →
-      IsRefusalOf from entry refusal → IsFirstRefusalFrom from (entry ∷ entries) from (record { 0 = entry.id }) refusal
-  behind : {from number : ℕ} {entry : ListedEntry} {entries : List ListedEntry} {id : ExprId} {refusal : Refusal} (x : Pattern) →
-      IsAcceptedAs from entry x → IsFirstRefusalFrom (suc from) entries number id refusal → IsFirstRefusalFrom from (entry ∷ entries) number id refusal
+-- Among the entries behind these, the first that is refused has that number, counted from 1 over all, and that
+-- identifier and refusal.
+pub data IsFirstRefusalFrom : (before : List ListedEntry) → List ListedEntry → (number : ℕ) → (id : ExprId) → Refusal → Type 0 where
+  here : {before : List ListedEntry} {entry : ListedEntry} {entries : List ListedEntry} {refusal : Refusal} →
+      IsRefusalOf before entry refusal → IsFirstRefusalFrom before (entry ∷ entries) (suc (length before)) (record { 0 = entry.id }) refusal
+  behind : {before : List ListedEntry} {number : ℕ} {entry : ListedEntry} {entries : List ListedEntry} {id : ExprId} {refusal : Refusal} (x : Pattern) →
+      IsAcceptedAs before entry x → IsFirstRefusalFrom (before ++ entry ∷ []) entries number id refusal → IsFirstRefusalFrom before (entry ∷ entries) number id refusal
 
 -- The list is refused by its entry of that number and identifier, with that refusal.
 abbrev pub IsFirstRefusal : List ListedEntry → (number : ℕ) → (id : ExprId) → Refusal → Type 0
-IsFirstRefusal entries number id refusal = IsFirstRefusalFrom 1 entries number id refusal
+IsFirstRefusal entries number id refusal = IsFirstRefusalFrom [] entries number id refusal

@@ -6,6 +6,7 @@ ghost use Rattle.hs_compile.specs.Answers.{IsCompiled, IsCauseOf, AreCompiled};
 use crate::database::Database;
 use crate::entry::compile_entry;
 use crate::fault::CompileFault;
+use crate::seen::Seen;
 use hs_base::Entry;
 use hs_glushkov::Plain;
 use hs_rose::{Expression, Program};
@@ -35,12 +36,15 @@ fn compile_entries(alloc: Global, entries: &[Entry]) -> Result<Vec<Expression<Pl
     ensures compiled { IfOk result (λ expressions. AreCompiled (map listed entries.now) expressions.items) }
     ensures refused { IfErr result (IsCauseOf (map listed entries.now)) }
 {
+    let mut seen = Seen::new(alloc);
     let mut expressions = Vec::new(alloc);
     for i in 0..entries.len() {
-        let expression = match compile_entry(alloc, i as u32 + 1, &entries[i]) {
+        let entry = &entries[i];
+        let expression = match compile_entry(alloc, i as u32 + 1, &seen, entry) {
             Ok(expression) => expression,
             Err(fault) => return Err(fault),
         };
+        seen.add(entry)?;
         expressions.push(expression)?;
     }
     Ok(expressions)

@@ -1,18 +1,21 @@
 //! One entry of a list: its expression is read, then checked, then built.
-ghost use Rattle.std.specs.Prelude.{◌≡◌, ◌≤◌, ℕ, IfOk, IfErr, MatchOption, false};
+ghost use Rattle.std.specs.Prelude.{◌≡◌, ◌≤◌, suc, List, length, IfOk, IfErr, IfNone, MatchOption, false};
 ghost use Rattle.hs_base.specs.declared.refusal.Refusal.{Refusal};
 ghost use Rattle.hs_base.specs.EndAssertions.{has_embedded_end};
-ghost use Rattle.hs_base.specs.Entries.{listed, flags_of};
+ghost use Rattle.hs_base.specs.Entries.{ListedEntry, listed, flags_of};
 ghost use Rattle.hs_base.specs.WrittenOut.{IsPlain, write_out, count};
 ghost use Rattle.hs_expr.specs.Meaning.{tree_of};
 ghost use Rattle.hs_parse.specs.Faults.{Fault};
 ghost use Rattle.hs_parse.specs.Grammar.{Reads};
-ghost use Rattle.hs_compile.specs.Lists.{HasRefusal, IsRefusalOf, pattern_of};
-ghost use Rattle.hs_compile.specs.Answers.{IsCompiledEntry, IsEntryCause, IsLesser, IsCounted, IsRunBy};
+ghost use Rattle.hs_support.specs.Refused.{IsAccepted, IsLeast};
+ghost use Rattle.hs_compile.specs.Lists.{HasPlaceFault, HasRefusal, IsRefusalOf, pattern_of};
+ghost use Rattle.hs_compile.specs.Remembered.{Precede};
+ghost use Rattle.hs_compile.specs.Answers.{IsCompiledEntry, IsEntryCause, IsLesser, IsRunBy};
 
 use crate::compiler::MAX_ENTRIES;
 use crate::fault::CompileFault;
-use hs_base::{Entry, Flags, Refusal};
+use crate::seen::{Seen, asks_single};
+use hs_base::{Entry, Refusal};
 use hs_expr::Expr;
 use hs_glushkov::{Plain, build};
 use hs_parse::{ParseFault, parse};
@@ -20,14 +23,17 @@ use hs_rose::Expression;
 use hs_support::{check, flags_fault};
 use std::alloc::{AllocError, Global};
 
-/// What runs the expression of the entry of that number, counted from 1.
+/// What runs the expression of the entry of that number, counted from 1, behind those that were seen.
 pub fn compile_entry(
     alloc: Global,
     number: u32,
+    seen: &Seen,
     entry: &Entry,
 ) -> Result<Expression<Plain>, CompileFault>
-    ensures compiled { IfOk result (IsCompiledEntry number (listed entry.now)) }
-    ensures refused { IfErr result (IsEntryCause number (listed entry.now)) }
+    ensures compiled { IfOk result (λ expression. (before : List ListedEntry) → Precede before number seen.now →
+        IsCompiledEntry before (listed entry.now) expression) }
+    ensures refused { IfErr result (λ fault. (before : List ListedEntry) → Precede before number seen.now →
+        IsEntryCause before (listed entry.now) fault) }
 {
     let expr = match parse(alloc, &entry.text, entry.flags) {
         Ok(expr) => expr,
@@ -37,7 +43,7 @@ pub fn compile_entry(
         }
         Err(ParseFault::Memory) => return Err(CompileFault::Memory),
     };
-    if let Some(refusal) = tree_refusal(number, entry, &expr) {
+    if let Some(refusal) = tree_refusal(number, seen, entry, &expr) {
         return Err(refused(number, entry, refusal));
     }
     match expression_of(alloc, entry, &expr) {
@@ -48,7 +54,8 @@ pub fn compile_entry(
 
 /// The fault of a list that is refused by the entry of that number.
 fn refused(number: u32, entry: &Entry, refusal: Refusal) -> CompileFault
-    ensures { IsRefusalOf number (listed entry.now) refusal → IsEntryCause number (listed entry.now) result }
+    ensures { (before : List ListedEntry) → number ≡ suc (length before) →
+        IsRefusalOf before (listed entry.now) refusal → IsEntryCause before (listed entry.now) result }
 {
     CompileFault::Refused {
         entry: number,
@@ -59,31 +66,38 @@ fn refused(number: u32, entry: &Entry, refusal: Refusal) -> CompileFault
 
 /// The refusal of an entry whose expression isn't read, for this reason.
 fn unread_refusal(entry: &Entry, fault: Refusal) -> Refusal
-    ensures { (number : ℕ) → Fault entry.now.text.items entry.now.flags fault → IsRefusalOf number (listed entry.now) result }
+    ensures { (before : List ListedEntry) → Fault entry.now.text.items entry.now.flags fault →
+        IsRefusalOf before (listed entry.now) result }
 {
     lesser(fault, flags_fault(entry.flags, entry.ext))
 }
 
 /// The refusal of the entry of that number whose expression is read as the tree, if it has one.
-fn tree_refusal(number: u32, entry: &Entry, expr: &Expr) -> Option<Refusal>
-    ensures { Reads entry.now.text.items entry.now.flags (tree_of expr.now) →
-        MatchOption result ((refusal : Refusal) → HasRefusal number (listed entry.now) refusal → ⊥) (IsRefusalOf number (listed entry.now)) }
+fn tree_refusal(number: u32, seen: &Seen, entry: &Entry, expr: &Expr) -> Option<Refusal>
+    ensures supported { IfNone result (IsAccepted entry.now.flags entry.now.ext (tree_of expr.now)) }
+    ensures least { (before : List ListedEntry) → Precede before number seen.now →
+        Reads entry.now.text.items entry.now.flags (tree_of expr.now) →
+        MatchOption result ((refusal : Refusal) → HasRefusal before (listed entry.now) refusal → ⊥) (IsRefusalOf before (listed entry.now)) }
 {
     match check(expr, entry.flags, entry.ext) {
-        Ok(()) => counted_refusal(number),
-        Err(refusal) => Some(lesser(refusal, counted_refusal(number))),
+        Ok(()) => place_refusal(number, seen, entry),
+        Err(refusal) => Some(lesser(refusal, place_refusal(number, seen, entry))),
     }
 }
 
-/// Whether the entry of that number has too many before it.
-fn counted_refusal(number: u32) -> Option<Refusal>
-    ensures { IsCounted number result }
+/// The refusal of the entry of that number that goes by those before it, if it has one: there are too many, or one of
+/// its identifier differs in whether a single report is asked for.
+fn place_refusal(number: u32, seen: &Seen, entry: &Entry) -> Option<Refusal>
+    ensures { (before : List ListedEntry) → Precede before number seen.now →
+        MatchOption result ((refusal : Refusal) → HasPlaceFault before (listed entry.now) refusal → ⊥) (IsLeast (HasPlaceFault before (listed entry.now))) }
 {
     if number as usize > MAX_ENTRIES {
-        Some(Refusal::CountLimit)
-    } else {
-        None
+        return Some(Refusal::CountLimit);
     }
+    if seen.is_mixed(entry) {
+        return Some(Refusal::MixedSingle(entry.id));
+    }
+    None
 }
 
 /// The refusal of lesser number, the first one where they have the same.
@@ -116,7 +130,7 @@ fn expression_of(alloc: Global, entry: &Entry, expr: &Expr) -> Result<Expression
     let null = automaton.null;
     Ok(Expression {
         id: entry.id,
-        single: entry.flags.contains(Flags::SINGLEMATCH),
+        single: asks_single(entry),
         min_offset: entry.ext.min_offset,
         max_offset: entry.ext.max_offset,
         engine: Plain::new(automaton),

@@ -5,6 +5,7 @@ mod compiler;
 mod database;
 mod entry;
 mod fault;
+mod seen;
 #[cfg(test)]
 mod tests;
 

@@ -1,8 +1,14 @@
 use crate::compiler::{MAX_ENTRIES, compile};
 use crate::fault::CompileFault;
-use hs_base::{Construct, Entry, ExprId, Ext, Flags, Refusal};
+use hs_base::{Entry, ExprId, Ext, Flags, Refusal};
 use std::alloc::Global;
 use std::test::Fail;
+
+/// An entry of a list: its identifier, its expression, its flags, and its parameters.
+type Row = (u32, &'static str, Flags, Ext);
+
+/// A refusal of a list: the number of its entry, the identifier, the reason.
+type Found = (u32, u32, Refusal);
 
 /// An entry without parameters.
 fn entry_of(alloc: Global, id: u32, text: &str, flags: Flags) -> Result<Entry, Fail> {
@@ -14,48 +20,110 @@ fn entry_of(alloc: Global, id: u32, text: &str, flags: Flags) -> Result<Entry, F
     })
 }
 
-/// Lists of identifiers, expressions and flags, and where they are refused.
-const REFUSED: &[(&[(u32, &str, Flags)], (u32, u32, Refusal))] = &[
-    (&[(9, "a*", Flags::NONE)], (1, 9, Refusal::MatchesEmpty)),
+/// The refusal of a list, if it has one.
+fn first_refusal(alloc: Global, list: &[Row]) -> Result<Option<Found>, Fail> {
+    let mut entries = Vec::new(alloc);
+    for (id, text, flags, ext) in list {
+        let entry = entry_of(alloc, *id, text, *flags)?;
+        entries.push(Entry { ext: *ext, ..entry })?;
+    }
+    Ok(match compile(alloc, &entries) {
+        Err(CompileFault::Refused { entry, id, refusal }) => Some((entry, id.0, refusal)),
+        Ok(_) | Err(CompileFault::Memory) => None,
+    })
+}
+
+/// Ends from 10 to 15.
+const WITHIN: Ext = Ext {
+    bits: 3,
+    min_offset: 10,
+    max_offset: 15,
+};
+
+/// Ends from 2 to 1.
+const OUT_OF_ORDER: Ext = Ext {
+    bits: 3,
+    min_offset: 2,
+    max_offset: 1,
+};
+
+/// `H` and `V`.
+const SINGLE_OR_EMPTY: Flags = Flags(24);
+
+/// Lists, and where they are refused.
+const LISTS: &[(&[Row], Option<Found>)] = &[
+    (
+        &[(9, "a*", Flags::NONE, Ext::NONE)],
+        Some((1, 9, Refusal::MatchesEmpty)),
+    ),
     (
         &[
-            (1, "a", Flags::NONE),
-            (2, "a)", Flags::NONE),
-            (3, "*", Flags::NONE),
+            (1, "a", Flags::NONE, Ext::NONE),
+            (2, "a)", Flags::NONE, Ext::NONE),
+            (3, "*", Flags::NONE, Ext::NONE),
         ],
-        (2, 2, Refusal::Syntax(1)),
+        Some((2, 2, Refusal::Syntax(1))),
     ),
     (
-        &[(1, "a", Flags::NONE), (1, "\\d", Flags::NONE)],
-        (2, 1, Refusal::Unsupported(Construct::Later, 0)),
+        &[(25, "a", Flags::SOM_LEFTMOST, Ext::NONE)],
+        Some((1, 25, Refusal::UnsupportedFlag(256))),
     ),
     (
-        &[(25, "a", Flags::SOM_LEFTMOST)],
-        (1, 25, Refusal::UnsupportedFlag(256)),
+        &[(25, "a*", Flags::SOM_LEFTMOST, OUT_OF_ORDER)],
+        Some((1, 25, Refusal::UnsupportedFlag(256))),
     ),
     (
-        &[(25, "a*", Flags::SOM_LEFTMOST)],
-        (1, 25, Refusal::UnsupportedFlag(256)),
+        &[(25, "a)", Flags::SOM_LEFTMOST, Ext::NONE)],
+        Some((1, 25, Refusal::Syntax(1))),
+    ),
+    (&[(2, "a*", Flags::ALLOWEMPTY, Ext::NONE)], None),
+    (
+        &[
+            (2, "a*", SINGLE_OR_EMPTY, Ext::NONE),
+            (2, "b", Flags::SINGLEMATCH, WITHIN),
+        ],
+        None,
     ),
     (
-        &[(25, "a)", Flags::SOM_LEFTMOST)],
-        (1, 25, Refusal::Syntax(1)),
+        &[
+            (12, "ab", Flags::NONE, Ext::NONE),
+            (12, "b", Flags::NONE, Ext::NONE),
+        ],
+        None,
+    ),
+    (
+        &[
+            (12, "ab", Flags::NONE, Ext::NONE),
+            (12, "b", Flags::SINGLEMATCH, Ext::NONE),
+        ],
+        Some((2, 12, Refusal::MixedSingle(ExprId(12)))),
+    ),
+    (
+        &[
+            (12, "ab", Flags::SINGLEMATCH, Ext::NONE),
+            (7, "b", Flags::NONE, Ext::NONE),
+            (12, "b", Flags::NONE, OUT_OF_ORDER),
+        ],
+        Some((3, 12, Refusal::MixedSingle(ExprId(12)))),
+    ),
+    (
+        &[
+            (12, "ab", Flags::SINGLEMATCH, Ext::NONE),
+            (12, "b*", Flags::NONE, OUT_OF_ORDER),
+        ],
+        Some((2, 12, Refusal::MatchesEmpty)),
+    ),
+    (
+        &[(25, "a", Flags::NONE, OUT_OF_ORDER)],
+        Some((1, 25, Refusal::OffsetOrder)),
     ),
 ];
 
 #[test]
 fn refuses_by_the_first_reason(rt: HostRuntime) -> Result<(), Fail> {
     let alloc = rt.alloc();
-    for (row, (list, wanted)) in REFUSED.iter().enumerate() {
-        let mut entries = Vec::new(alloc);
-        for (id, text, flags) in list.iter() {
-            entries.push(entry_of(alloc, *id, text, *flags)?)?;
-        }
-        let found = match compile(alloc, &entries) {
-            Err(CompileFault::Refused { entry, id, refusal }) => Some((entry, id.0, refusal)),
-            Ok(_) | Err(CompileFault::Memory) => None,
-        };
-        assert_eq!(rt; found, Some(*wanted), "row {row}");
+    for (row, (list, wanted)) in LISTS.iter().enumerate() {
+        assert_eq!(rt; first_refusal(alloc, list)?, *wanted, "row {row}");
     }
     Ok(())
 }

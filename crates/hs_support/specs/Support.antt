@@ -1,14 +1,16 @@
 -- Bits that are set and not supported.
-use Rattle.std.specs.Prelude.{◌≡◌, ℕ, ◌^◌, ◌<◌}
+use Rattle.std.specs.Prelude.{◌≡◌, ℕ, ◌+◌, ◌^◌, ◌<◌}
 use Rattle.std.specs.Int.{bit_at}
 
--- the flags that are supported, a bit each (Hyperscan Developer's Reference Guide, "Compiling Patterns")
+-- the flags that are supported, a bit each: CASELESS, DOTALL, MULTILINE, SINGLEMATCH and ALLOWEMPTY (Hyperscan
+-- Developer's Reference Guide, "Compiling Patterns")
 abbrev pub supported_flags : ℕ
-supported_flags = 0
+supported_flags = 1 + 2 + 4 + 8 + 16
 
--- the extended parameters that are supported, a bit each (Hyperscan Developer's Reference Guide, `hs_expr_ext_t`)
+-- the extended parameters that are supported, a bit each: the least and the greatest end offset (Hyperscan Developer's
+-- Reference Guide, `hs_expr_ext_t`)
 abbrev pub supported_parameters : ℕ
-supported_parameters = 0
+supported_parameters = 1 + 2
 
 -- the bit at the place is set, and isn't supported
 abbrev pub IsOutside : (supported bits place : ℕ) → Type 0

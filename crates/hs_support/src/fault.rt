@@ -7,10 +7,14 @@ use crate::outside::least_outside;
 use hs_base::{Ext, Flags, Refusal};
 
 /// The flags that are supported, a bit each (Hyperscan Developer's Reference Guide, "Compiling Patterns").
-pub const SUPPORTED_FLAGS: u16 = 0;
+pub const SUPPORTED_FLAGS: u16 = Flags::CASELESS.0
+    | Flags::DOTALL.0
+    | Flags::MULTILINE.0
+    | Flags::SINGLEMATCH.0
+    | Flags::ALLOWEMPTY.0;
 
 /// The extended parameters that are supported, a bit each (Hyperscan Developer's Reference Guide, `hs_expr_ext_t`).
-pub const SUPPORTED_PARAMETERS: u8 = 0;
+pub const SUPPORTED_PARAMETERS: u8 = Ext::MIN_OFFSET | Ext::MAX_OFFSET;
 
 /// The refusal of a flag that isn't supported, the least one; else that of a parameter that isn't, the least one.
 pub fn flags_fault(flags: Flags, ext: Ext) -> Option<Refusal>

@@ -1,5 +1,5 @@
 -- A pattern file is read in one way: it is accepted, or refused, and as one thing.
-use Rattle.std.proofs.Common.{◌≡◌, ℕ, List, Option, Some, refl, sym, ap, ◌∙◌, subst}
+use Rattle.std.proofs.Common.{◌≡◌, ℕ, List, [], Option, Some, refl, sym, ap, ◌∙◌, subst}
 use Rattle.hs_base.specs.Patterns.{Pattern}
 use Rattle.hs_base.specs.Entries.{ListedEntry}
 use Rattle.hs_base.specs.declared.entry.ExprId.{ExprId}
@@ -20,7 +20,7 @@ pub record AreSame {A B : Type 0} (a a' : A) (b b' : B) : Type 0 where
 pub accepted-refused : {file : List ℕ} {P : List Pattern} {entry : Option (ℕ × ExprId)} {refusal : Refusal} → IsAccepted file P → IsRefused file entry refusal → ⊥
 accepted-refused {file} accepted (bad_line {line} bad) = never_both accepted.list bad
 accepted-refused {file} {P} accepted (bad_entry {entries} {number} {id} {refusal} list first) =
-    list_accepted-refused 1 number entries P id refusal (subst (λ es. AreAcceptedAs es P) (list_once accepted.list list) accepted.accepted) first
+    list_accepted-refused [] number entries P id refusal (subst (λ es. AreAcceptedAs es P) (list_once accepted.list list) accepted.accepted) first
 
 -- a file is refused in one way
 pub refused_once : {file : List ℕ} {entry entry' : Option (ℕ × ExprId)} {refusal refusal' : Refusal} → IsRefused file entry refusal → IsRefused file entry' refusal' → AreSame entry entry' refusal refusal'
@@ -29,5 +29,5 @@ refused_once {file} (bad_line {line} bad) (bad_entry {entries} list first) = abs
 refused_once {file} (bad_entry {entries} list first) (bad_line {line} bad) = absurd (never_both list bad)
 refused_once {file} (bad_entry {entries = entries} {number = number} {id = id} {refusal = refusal} list first) (bad_entry {entries = entries'} {number = number'} {id = id'} {refusal = refusal'} list' first') =
     let same = list_once list' list in
-    let once = first_once 1 number number' entries id id' refusal refusal' first (subst (λ es. IsFirstRefusal es number' id' refusal') same first') in
+    let once = first_once [] number number' entries id id' refusal refusal' first (subst (λ es. IsFirstRefusal es number' id' refusal') same first') in
     record { left = ap (λ n. Some (n, id)) once.same_number ∙ ap (λ i. Some (number', i)) once.same_id; right = once.same_refusal }

@@ -1,7 +1,7 @@
 use Rattle.std.proofs.Common.{map, take}
 use Rattle.hs_base.specs.Entries.{listed}
-use Rattle.hs_compile.specs.Answers.{AreCompiled}
+use Rattle.hs_compile.specs.Remembered.{AreSoFar}
 use Rattle.hs_compile.proofs.compiler.compile_entries.Given as goal
 
 abbrev pub invariant-loop-i : goal.invariant-loop-i
-invariant-loop-i l = AreCompiled (map listed (take l.i l.entries)) l.expressions.items
+invariant-loop-i l = AreSoFar (map listed (take l.i l.entries)) l.expressions.items l.seen

@@ -1,11 +1,10 @@
 use Rattle.std.proofs.Common.{subst}
-use Rattle.hs_base.specs.Entries.{listed, flags_of}
 use Rattle.hs_expr.specs.Meaning.{tree_of}
 use Rattle.hs_parse.specs.Grammar.{Reads}
 use Rattle.hs_parse.proofs.PlainLemmas.{reads-plain}
 use Rattle.hs_support.specs.Refused.{IsAccepted}
 use Rattle.hs_support.proofs.AcceptedLemmas.{accepted-ends}
-use Rattle.hs_compile.proofs.EntryLemmas.{supported, few-positions}
+use Rattle.hs_compile.proofs.EntryLemmas.{few-positions}
 use Rattle.hs_compile.proofs.entry.compile_entry.Goals as goal
 
 -- the expression is read as the tree
@@ -13,7 +12,7 @@ reads : (c : goal.After-expr-3-1) → Reads c.args.entry.now.text.items c.args.e
 reads c = subst (λ text. Reads text c.args.entry.now.flags (tree_of c.in-Ok.expr)) c.deref.ensures.value c.in-Ok.ensures.read
 
 accepted : (c : goal.After-expr-3-1) → IsAccepted c.args.entry.now.flags c.args.entry.now.ext (tree_of c.in-Ok.expr)
-accepted c = supported c.args.number (listed c.args.entry.now) (tree_of c.in-Ok.expr) (reads c) (c.in_default.ensures (reads c))
+accepted c = c.in_default.ensures.supported
 
 pub expression_of-requires-clause-plain : goal.expression_of-requires-clause-plain
 expression_of-requires-clause-plain c = reads-plain (reads c)

@@ -2,14 +2,13 @@ use Rattle.std.proofs.Common.{refl, sym, subst}
 use Rattle.hs_expr.specs.Meaning.{tree_of}
 use Rattle.hs_glushkov.specs.Tables.{Runs}
 use Rattle.hs_glushkov.proofs.EngineLemmas.{null-exact}
-use Rattle.hs_compile.proofs.EntryLemmas.{single-asked}
 use Rattle.hs_compile.proofs.entry.expression_of.Goals as goal
 
 pub returns : goal.returns
 returns c = record {
   run = record {
     id = refl;
-    single = single-asked c.contains.result c.args.entry.now.flags.0 c.contains.ensures;
+    single = c.asks_single.ensures;
     least = refl;
     greatest = refl;
     engine = subst (λ a. Runs a (tree_of c.args.expr.now)) (sym c.new.ensures.of) c.in-Ok.ensures.runs;
