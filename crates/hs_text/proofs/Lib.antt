@@ -1,3 +1,4 @@
+pub mod CommandLemmas
 pub mod CutLemmas
 pub mod NumberLemmas
 pub mod SettingLemmas
