@@ -74,10 +74,14 @@ fn makes_each_reply(rt: HostRuntime) -> Result<(), Fail> {
 
 #[test]
 fn tells_where_a_script_ends(rt: HostRuntime) -> Result<(), Fail> {
-    let mut buf = [0; LINE_LEN];
-    let len = script_fault_line(ScriptFault::Script(1), &mut buf);
-    assert_eq!(rt; buf.get(..len), Some(b"fault script 1\n".as_slice()));
-    let len = script_fault_line(ScriptFault::Truncated(2), &mut buf);
-    assert_eq!(rt; buf.get(..len), Some(b"fault truncated 2\n".as_slice()));
+    let table: [(ScriptFault, &[u8]); 2] = [
+        (ScriptFault::Script(1), b"fault script 1\n"),
+        (ScriptFault::Truncated(2), b"fault truncated 2\n"),
+    ];
+    for (fault, line) in table {
+        let mut buf = [0; LINE_LEN];
+        let len = script_fault_line(fault, &mut buf);
+        assert_eq!(rt; buf.get(..len), Some(line));
+    }
     Ok(())
 }

@@ -1,0 +1,5 @@
+pub mod MachineLemmas
+pub mod RunLemmas
+pub mod IsolationLemmas
+pub mod ScriptLemmas
+pub mod LineLemmas

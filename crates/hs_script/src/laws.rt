@@ -1,0 +1,34 @@
+//! Laws over the definitions of `specs/`: each is the contract of a function that does nothing.
+
+ghost use Rattle.hs_script.specs.Laws.{IsScriptOnce, IsAlwaysScript, IsTextOnce, IsIsolated, IsComplete, IsBounded};
+
+/// Bytes are a script in at most one way.
+pub fn script_once()
+    ensures { IsScriptOnce }
+{}
+
+/// No bytes are a script in no way.
+pub fn always_script()
+    ensures { IsAlwaysScript }
+{}
+
+/// Runs over the same bytes that lack memory at the same commands have one text.
+pub fn text_once()
+    ensures { IsTextOnce }
+{}
+
+/// The lines of a name depend on the commands on that name alone, where none of them is refused for want of memory or
+/// for the number of open streams.
+pub fn isolated()
+    ensures { IsIsolated }
+{}
+
+/// In every run a write below the length limit, a reset and a close of an open stream are done.
+pub fn complete()
+    ensures { IsComplete }
+{}
+
+/// At most 4,096 streams are open in every run.
+pub fn bounded()
+    ensures { IsBounded }
+{}
