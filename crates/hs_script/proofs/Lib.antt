@@ -3,3 +3,5 @@ pub mod RunLemmas
 pub mod IsolationLemmas
 pub mod ScriptLemmas
 pub mod LineLemmas
+pub mod CountLemmas
+pub mod CutLemmas

@@ -7,9 +7,10 @@ use Rattle.hs_text.specs.declared.reply_lines.ScriptFault.TheVariants as fault
 use Rattle.hs_text.specs.Commands.{Order, IsCommand}
 use Rattle.hs_text.specs.Commands as order
 use Rattle.hs_text.proofs.CommandLemmas.{command_once}
+use Rattle.hs_text.proofs.DecisionLemmas.{IsToldCommand, some_command, none_command, command_told}
 use Rattle.hs_script.specs.Actions.{Action, Open, Write, Cut, Reset, Close, IsAlone, open_alone, reset_alone, close_alone}
 use Rattle.hs_script.specs.Scripts.{BeginsLine, First, Goes, Ends, behind_payload, written_by, IsFirst, no_command, alone, write, IsScript, nothing, goes, ends}
-use Rattle.hs_script.specs.Laws.{IsSameScript}
+use Rattle.hs_script.specs.Laws.{IsSameScript, IsSomeScript}
 use Rattle.hs_script.proofs.LineLemmas.{line_once, no_line, HasLine, has_line}
 
 same_command : {l m r s bytes : List ℕ} {x y : Order} → BeginsLine l r bytes → BeginsLine m s bytes → IsCommand l x → IsCommand m y → x ≡ y
@@ -100,33 +101,38 @@ write_shorter number name count rest action behind e = by_test (nat_lt (length r
         let short = behind_shorter number name (take count rest) (drop count rest) action behind e in
         omega (arith, short, length-drop count rest)
 
--- no bytes of this length are in no way a script
-abbrev pub IsAlways : ℕ → Type 0
-IsAlways most =
-    (number : ℕ) (bytes : List ℕ) → length bytes ≤ most → ((actions : List Action) (ending : Option ScriptFault) → IsScript number bytes actions ending → ⊥) → ⊥
+-- all bytes of this length at most are a script
+abbrev pub AreScripts : ℕ → Type 0
+AreScripts most = (number : ℕ) (bytes : List ℕ) → length bytes ≤ most → IsSomeScript number bytes
 
-from_first : (most number : ℕ) (bytes : List ℕ) → IsAlways most → (first : First) → IsFirst number bytes first → ((action : Action) (behind : List ℕ) → first ≡ Goes action behind → length behind ≤ most) → ((actions : List Action) (ending : Option ScriptFault) → IsScript number bytes actions ending → ⊥) → ⊥
-from_first most number bytes always (Goes action behind) is short none =
-    always (suc number) behind (short action behind refl) (λ actions ending s. none (action ∷ actions) ending (goes is s))
-from_first most number bytes always (Ends actions fault) is short none = none actions (Some fault) (ends is)
+from_first : (most number : ℕ) (bytes : List ℕ) → AreScripts most → (first : First) → IsFirst number bytes first → ((action : Action) (behind : List ℕ) → first ≡ Goes action behind → length behind ≤ most) → IsSomeScript number bytes
+from_first most number bytes others (Goes action behind) is short =
+    let rest = others (suc number) behind (short action behind refl) in
+    record { actions = action ∷ rest.actions; ending = rest.ending; script = goes is rest.script }
+from_first most number bytes others (Ends actions fault) is short = record { actions = actions; ending = Some fault; script = ends is }
 
 goes_shorter : (most : ℕ) (rest : List ℕ) (a : Action) → length rest ≤ most → (action : Action) (behind : List ℕ) → Goes a rest ≡ Goes action behind → length behind ≤ most
 goes_shorter most rest a short action behind e = let same : rest ≡ behind = cc (e) in omega (arith, short, ap length same)
 
-from_order : (most number : ℕ) (bytes line rest : List ℕ) → IsAlways most → BeginsLine line rest bytes → length rest ≤ most → ((actions : List Action) (ending : Option ScriptFault) → IsScript number bytes actions ending → ⊥) → (x : Order) → IsCommand line x → ⊥
-from_order most number bytes line rest always begins short none (order.Open name) is =
-    from_first most number bytes always (Goes (Open name) rest) (alone begins is open_alone refl) (goes_shorter most rest (Open name) short) none
-from_order most number bytes line rest always begins short none (order.Write name count) is =
-    from_first most number bytes always (written_by number name count rest) (write begins is refl) (λ action behind e. let l = write_shorter number name count rest action behind e in omega (arith, l, short)) none
-from_order most number bytes line rest always begins short none (order.Reset name) is =
-    from_first most number bytes always (Goes (Reset name) rest) (alone begins is reset_alone refl) (goes_shorter most rest (Reset name) short) none
-from_order most number bytes line rest always begins short none (order.Close name) is =
-    from_first most number bytes always (Goes (Close name) rest) (alone begins is close_alone refl) (goes_shorter most rest (Close name) short) none
+from_order : (most number : ℕ) (bytes line rest : List ℕ) → AreScripts most → BeginsLine line rest bytes → length rest ≤ most → (x : Order) → IsCommand line x → IsSomeScript number bytes
+from_order most number bytes line rest others begins short (order.Open name) is =
+    from_first most number bytes others (Goes (Open name) rest) (alone begins is open_alone refl) (goes_shorter most rest (Open name) short)
+from_order most number bytes line rest others begins short (order.Write name count) is =
+    from_first most number bytes others (written_by number name count rest) (write begins is refl) (λ action behind e. let l = write_shorter number name count rest action behind e in omega (arith, l, short))
+from_order most number bytes line rest others begins short (order.Reset name) is =
+    from_first most number bytes others (Goes (Reset name) rest) (alone begins is reset_alone refl) (goes_shorter most rest (Reset name) short)
+from_order most number bytes line rest others begins short (order.Close name) is =
+    from_first most number bytes others (Goes (Close name) rest) (alone begins is close_alone refl) (goes_shorter most rest (Close name) short)
 
-pub always_script : (most : ℕ) → IsAlways most
-always_script most number [] short none = none [] None nothing
-always_script zero number (b ∷ bytes) short none = absurd (omega arith)
-always_script (suc most) number (b ∷ bytes) short none =
+from_line : (most number : ℕ) (bytes line rest : List ℕ) → AreScripts most → BeginsLine line rest bytes → length rest ≤ most → IsToldCommand line → IsSomeScript number bytes
+from_line most number bytes line rest others begins short (some_command x is) = from_order most number bytes line rest others begins short x is
+from_line most number bytes line rest others begins short (none_command none) =
+    record { actions = []; ending = Some (fault.Script number); script = ends (no_command begins none refl) }
+
+pub are_scripts : (most : ℕ) → AreScripts most
+are_scripts most number [] short = record { actions = []; ending = None; script = nothing }
+are_scripts zero number (b ∷ bytes) short = absurd (omega arith)
+are_scripts (suc most) number (b ∷ bytes) short =
     let has = has_line b bytes in
     let shorter = has.shorter in
-    none [] (Some (fault.Script number)) (ends (no_command has.begins (from_order most number (b ∷ bytes) has.line has.rest (always_script most) has.begins (omega arith) none) refl))
+    from_line most number (b ∷ bytes) has.line has.rest (are_scripts most) has.begins (omega arith) (command_told has.line)

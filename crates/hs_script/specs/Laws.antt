@@ -1,6 +1,6 @@
 -- What holds of scripts, and of all runs of the machine.
-use Rattle.std.specs.Prelude.{◌≡◌, ◌≢◌, ℕ, ◌+◌, ◌≤◌, Bool, true, false, List, [], ◌∷◌, ◌++◌, length, map, bytes_eq, Option, None, Some, if◌then◌else◌}
-use Rattle.hs_base.specs.Lists.{Each}
+use Rattle.std.specs.Prelude.{◌≡◌, ◌≢◌, ℕ, ◌+◌, ◌≤◌, ◌↔◌, Bool, true, false, List, [], ◌∷◌, ◌++◌, length, map, bytes_eq, Option, None, Some, if◌then◌else◌}
+use Rattle.hs_base.specs.Lists.{Each, IsMember, IsRising}
 use Rattle.hs_base.specs.Patterns.{Pattern}
 use Rattle.hs_text.specs.declared.commands.Verb.TheVariants as verb
 use Rattle.hs_text.specs.declared.reply_lines.Word.{Word}
@@ -10,7 +10,7 @@ use Rattle.hs_text.specs.declared.reply_lines.Reply.TheVariants.{Done, No}
 use Rattle.hs_text.specs.declared.reply_lines.ScriptFault.{ScriptFault}
 use Rattle.hs_script.specs.Actions.{Action, Write, Reset, Close, name_of}
 use Rattle.hs_script.specs.Scripts.{IsScript}
-use Rattle.hs_script.specs.Machine.{most_streams, most_bytes, Answer, Machine, start, Steps}
+use Rattle.hs_script.specs.Machine.{most_streams, most_bytes, Answer, Moves, Machine, start, Steps}
 use Rattle.hs_script.specs.Runs.{IsRun, run_text, IsRunText}
 
 -- the word of memory, and that of too many streams
@@ -54,9 +54,15 @@ IsScriptOnce =
     (bytes : List ℕ) (xs ys : List Action) (e f : Option ScriptFault) →
     IsScript 1 bytes xs e → IsScript 1 bytes ys f → IsSameScript xs ys e f
 
--- Any bytes are a script: none are in no way.
+-- The bytes are a script, whose command lines are counted from this number on.
+pub record IsSomeScript (number : ℕ) (bytes : List ℕ) : Type 0 where
+  pub actions : List Action
+  pub ending : Option ScriptFault
+  pub script : IsScript number bytes actions ending
+
+-- Any bytes are a script.
 abbrev pub IsAlwaysScript : Type 0
-IsAlwaysScript = (bytes : List ℕ) → ((actions : List Action) (ending : Option ScriptFault) → IsScript 1 bytes actions ending → ⊥) → ⊥
+IsAlwaysScript = (bytes : List ℕ) → IsSomeScript 1 bytes
 
 -- Two runs over the same bytes that lack memory at the same commands have the same text.
 abbrev pub IsTextOnce : Type 0
@@ -125,3 +131,33 @@ abbrev pub IsBounded : Type 0
 IsBounded =
     (P : List Pattern) (actions : List Action) (answers : List Answer) (after : Machine) →
     IsRun P start actions answers after → after.count ≤ most_streams
+
+-- two answers in place of one, and the streams behind them
+pub record IsInTwo (x y z : Answer) (j k : Option (List ℕ)) : Type 0 where
+  pub reports : z.reports ≡ x.reports ++ y.reports
+  pub streams : j ≡ k
+
+-- Where a write is cut into two, both together report what it reports, and the stream behind them is the same.
+abbrev pub IsCutAnywhere : Type 0
+IsCutAnywhere =
+    (P : List Pattern) (c d e : ℕ) (name h v w : List ℕ) (x y z : Answer) (i j k : Option (List ℕ)) →
+    length h + length (v ++ w) ≤ most_bytes →
+    Moves P c (Some h) (Write name v) x i → Moves P d i (Write name w) y j → Moves P e (Some h) (Write name (v ++ w)) z k →
+    IsInTwo x y z j k
+
+-- the names of these streams are just those that are open, each once
+pub record AreOpen (m : Machine) (names : List (List ℕ)) : Type 0 where
+  pub each : (name : List ℕ) → IsMember name names ↔ (m.stream name ≢ None)
+  pub once : IsRising (λ x y. x ≢ y) names
+  pub counted : length names ≡ m.count
+
+-- a machine with the names of its open streams
+pub record IsCounted (m : Machine) : Type 0 where
+  pub names : List (List ℕ)
+  pub are_open : AreOpen m names
+
+-- The count of a machine is the number of its open streams.
+abbrev pub CountsOpen : Type 0
+CountsOpen =
+    (P : List Pattern) (actions : List Action) (answers : List Answer) (after : Machine) →
+    IsRun P start actions answers after → IsCounted after

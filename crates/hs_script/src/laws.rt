@@ -1,13 +1,13 @@
 //! Laws over the definitions of `specs/`: each is the contract of a function that does nothing.
 
-ghost use Rattle.hs_script.specs.Laws.{IsScriptOnce, IsAlwaysScript, IsTextOnce, IsIsolated, IsComplete, IsBounded};
+ghost use Rattle.hs_script.specs.Laws.{IsScriptOnce, IsAlwaysScript, IsTextOnce, IsIsolated, IsComplete, IsBounded, IsCutAnywhere, CountsOpen};
 
 /// Bytes are a script in at most one way.
 pub fn script_once()
     ensures { IsScriptOnce }
 {}
 
-/// No bytes are a script in no way.
+/// Any bytes are a script: whole, or up to its fault.
 pub fn always_script()
     ensures { IsAlwaysScript }
 {}
@@ -31,4 +31,14 @@ pub fn complete()
 /// At most 4,096 streams are open in every run.
 pub fn bounded()
     ensures { IsBounded }
+{}
+
+/// Where a write is cut into two, both together report what it reports.
+pub fn cut_anywhere()
+    ensures { IsCutAnywhere }
+{}
+
+/// The count of a machine is the number of its open streams.
+pub fn counts_open()
+    ensures { CountsOpen }
 {}

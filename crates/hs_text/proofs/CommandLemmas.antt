@@ -52,7 +52,7 @@ number-decimal ds v lead h =
     ∙ ap decimal h.spelled
 
 -- the verb of a word, by its second byte
-verb_from : List ℕ → Verb
+pub verb_from : List ℕ → Verb
 verb_from word =
     cond (eqb (get_or word 1 0) 112) verb.Open
     (cond (eqb (get_or word 1 0) 114) verb.Write (cond (eqb (get_or word 1 0) 101) verb.Reset verb.Close))
@@ -67,6 +67,10 @@ verb_from-text verb.Close = refl
 -- no two commands have one word
 pub verb_once : (v w : Verb) → verb_text v ≡ verb_text w → v ≡ w
 verb_once v w e = sym (verb_from-text v) ∙ (ap verb_from e ∙ verb_from-text w)
+
+-- a word of a command is that of its verb
+pub verb_of_word : (word : List ℕ) (v : Verb) → word ≡ verb_text v → verb_from word ≡ v
+verb_of_word word v e = ap verb_from e ∙ verb_from-text v
 
 no_space : (v : Verb) → Each (λ b. b ≢ 32) (verb_text v)
 no_space verb.Open = search rules
