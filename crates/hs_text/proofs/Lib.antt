@@ -1,3 +1,5 @@
+pub mod CommandLemmas
+pub mod DecisionLemmas
 pub mod CutLemmas
 pub mod NumberLemmas
 pub mod SettingLemmas

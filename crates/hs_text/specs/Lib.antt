@@ -10,3 +10,6 @@ pub mod ReportLines
 pub mod RefusalValues
 pub mod RefusalLines
 pub mod ValueTexts
+pub mod ReplyLines
+pub mod Commands
+pub mod CommandParts

@@ -3,6 +3,11 @@
 //! the lines.
 #![tactic(auto)]
 
+pub mod command_laws;
+mod command_lines;
+#[cfg(test)]
+mod command_tests;
+mod commands;
 mod cut;
 mod fault;
 mod flag;
@@ -16,12 +21,16 @@ mod number;
 mod parameter;
 mod refusal_lines;
 mod refusal_values;
+mod reply_lines;
 mod report_lines;
 #[cfg(test)]
 mod tests;
 
+pub use command_lines::command;
+pub use commands::{Command, Verb};
 pub use fault::ListFault;
 pub use line_buffer::LINE_LEN;
 pub use list::read_list;
 pub use refusal_lines::refusal_line;
+pub use reply_lines::{Reply, ScriptFault, Word, reply_line, script_fault_line};
 pub use report_lines::{NAME_LEN, end_line, report_line};

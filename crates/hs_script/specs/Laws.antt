@@ -1,0 +1,163 @@
+-- What holds of scripts, and of all runs of the machine.
+use Rattle.std.specs.Prelude.{◌≡◌, ◌≢◌, ℕ, ◌+◌, ◌≤◌, ◌↔◌, Bool, true, false, List, [], ◌∷◌, ◌++◌, length, map, bytes_eq, Option, None, Some, if◌then◌else◌}
+use Rattle.hs_base.specs.Lists.{Each, IsMember, IsRising}
+use Rattle.hs_base.specs.Patterns.{Pattern}
+use Rattle.hs_text.specs.declared.commands.Verb.TheVariants as verb
+use Rattle.hs_text.specs.declared.reply_lines.Word.{Word}
+use Rattle.hs_text.specs.declared.reply_lines.Word.TheVariants as word
+use Rattle.hs_text.specs.declared.reply_lines.Reply.{Reply}
+use Rattle.hs_text.specs.declared.reply_lines.Reply.TheVariants.{Done, No}
+use Rattle.hs_text.specs.declared.reply_lines.ScriptFault.{ScriptFault}
+use Rattle.hs_script.specs.Actions.{Action, Write, Reset, Close, name_of}
+use Rattle.hs_script.specs.Scripts.{IsScript}
+use Rattle.hs_script.specs.Machine.{most_streams, most_bytes, Answer, Moves, Machine, start, Steps}
+use Rattle.hs_script.specs.Runs.{IsRun, run_text, IsRunText}
+
+-- the word of memory, and that of too many streams
+abbrev pub is_memory : Word → Bool
+is_memory word.Exists = false
+is_memory word.Unknown = false
+is_memory word.Full = false
+is_memory word.Length = false
+is_memory word.Memory = true
+
+abbrev pub is_full : Word → Bool
+is_full word.Exists = false
+is_full word.Unknown = false
+is_full word.Full = true
+is_full word.Length = false
+is_full word.Memory = false
+
+-- it is a refusal by such a word
+abbrev pub is_refused : (Word → Bool) → Option Reply → Bool
+is_refused test None = false
+is_refused test (Some (Done verb number)) = false
+is_refused test (Some (No verb word)) = test word
+
+-- whether it was refused for want of memory
+abbrev pub lacks_memory : Answer → Bool
+lacks_memory answer = is_refused is_memory answer.reply
+
+-- it was refused neither for want of memory nor for the number of open streams
+pub record IsOwn (answer : Answer) : Type 0 where
+  pub memory : lacks_memory answer ≡ false
+  pub full : is_refused is_full answer.reply ≡ false
+
+-- the same actions and ending
+pub record IsSameScript (actions actions' : List Action) (ending ending' : Option ScriptFault) : Type 0 where
+  pub same_actions : actions ≡ actions'
+  pub same_ending : ending ≡ ending'
+
+-- Bytes are a script in at most one way.
+abbrev pub IsScriptOnce : Type 0
+IsScriptOnce =
+    (bytes : List ℕ) (xs ys : List Action) (e f : Option ScriptFault) →
+    IsScript 1 bytes xs e → IsScript 1 bytes ys f → IsSameScript xs ys e f
+
+-- The bytes are a script, whose command lines are counted from this number on.
+pub record IsSomeScript (number : ℕ) (bytes : List ℕ) : Type 0 where
+  pub actions : List Action
+  pub ending : Option ScriptFault
+  pub script : IsScript number bytes actions ending
+
+-- Any bytes are a script.
+abbrev pub IsAlwaysScript : Type 0
+IsAlwaysScript = (bytes : List ℕ) → IsSomeScript 1 bytes
+
+-- Two runs over the same bytes that lack memory at the same commands have the same text.
+abbrev pub IsTextOnce : Type 0
+IsTextOnce =
+    (P : List Pattern) (bytes : List ℕ) (xs ys : List Answer) (text text' : List ℕ) →
+    IsRunText P bytes xs text → IsRunText P bytes ys text' → map lacks_memory xs ≡ map lacks_memory ys → text ≡ text'
+
+-- the actions on the stream of a name, in order
+abbrev pub actions_on : List ℕ → List Action → List Action
+actions_on name [] = []
+actions_on name (action ∷ actions) =
+    if bytes_eq (name_of action) name then action ∷ actions_on name actions else actions_on name actions
+
+-- their answers
+abbrev pub answers_on : List ℕ → List Action → List Answer → List Answer
+answers_on name [] answers = []
+answers_on name (action ∷ actions) [] = []
+answers_on name (action ∷ actions) (answer ∷ answers) =
+    if bytes_eq (name_of action) name then answer ∷ answers_on name actions answers else answers_on name actions answers
+
+-- the lines of a name in a run
+abbrev pub lines_of : List ℕ → List Action → List Answer → List ℕ
+lines_of name actions answers = run_text (actions_on name actions) (answers_on name actions answers)
+
+-- The answers and the lines of a name are the same in both runs.
+pub record IsAlikeOn (name : List ℕ) (actions actions' : List Action) (xs ys : List Answer) : Type 0 where
+  pub answers : answers_on name actions xs ≡ answers_on name actions' ys
+  pub lines : lines_of name actions xs ≡ lines_of name actions' ys
+
+-- Streams see nothing of each other: in two runs with the same actions on a name, none of which was refused for want of
+-- memory or for the number of open streams, the lines of that name are the same, whatever the other actions are.
+abbrev pub IsIsolated : Type 0
+IsIsolated =
+    (P : List Pattern) (name : List ℕ) (actions actions' : List Action) (xs ys : List Answer) (m n : Machine) →
+    IsRun P start actions xs m → IsRun P start actions' ys n → actions_on name actions ≡ actions_on name actions' →
+    Each IsOwn (answers_on name actions xs) → Each IsOwn (answers_on name actions' ys) → IsAlikeOn name actions actions' xs ys
+
+-- What is always done to an open stream that took these bytes, with its reply.
+pub data IsSure (h : List ℕ) : Action → Reply → Type 0 where
+  sure_write : {name v : List ℕ} → length h + length v ≤ most_bytes → IsSure h (Write name v) (Done verb.Write (Some (length v)))
+  sure_reset : {name : List ℕ} → IsSure h (Reset name) (Done verb.Reset None)
+  sure_close : {name : List ℕ} → IsSure h (Close name) (Done verb.Close None)
+
+-- a run through an action: what the machine did before it, at it, and behind it
+pub record IsThrough (P : List Pattern) (from : Machine) (front : List Action) (action : Action) (back : List Action) (answers : List Answer) (after : Machine) : Type 0 where
+  pub first : List Answer
+  pub answer : Answer
+  pub others : List Answer
+  pub before : Machine
+  pub behind : Machine
+  pub whole : answers ≡ first ++ answer ∷ others
+  pub leads : IsRun P from front first before
+  pub steps : Steps P before action answer behind
+  pub follows : IsRun P behind back others after
+  -- a write below the length limit, a reset and a close of an open stream are done
+  pub sure : (h : List ℕ) (reply : Reply) → before.stream (name_of action) ≡ Some h → IsSure h action reply → answer.reply ≡ Some reply
+
+-- In every run a write below the length limit, a reset and a close of an open stream are done.
+abbrev pub IsComplete : Type 0
+IsComplete =
+    (P : List Pattern) (front back : List Action) (action : Action) (answers : List Answer) (after : Machine) →
+    IsRun P start (front ++ action ∷ back) answers after → IsThrough P start front action back answers after
+
+-- No more streams are open than may be.
+abbrev pub IsBounded : Type 0
+IsBounded =
+    (P : List Pattern) (actions : List Action) (answers : List Answer) (after : Machine) →
+    IsRun P start actions answers after → after.count ≤ most_streams
+
+-- two answers in place of one, and the streams behind them
+pub record IsInTwo (x y z : Answer) (j k : Option (List ℕ)) : Type 0 where
+  pub reports : z.reports ≡ x.reports ++ y.reports
+  pub streams : j ≡ k
+
+-- Where a write is cut into two, both together report what it reports, and the stream behind them is the same.
+abbrev pub IsCutAnywhere : Type 0
+IsCutAnywhere =
+    (P : List Pattern) (c d e : ℕ) (name h v w : List ℕ) (x y z : Answer) (i j k : Option (List ℕ)) →
+    length h + length (v ++ w) ≤ most_bytes →
+    Moves P c (Some h) (Write name v) x i → Moves P d i (Write name w) y j → Moves P e (Some h) (Write name (v ++ w)) z k →
+    IsInTwo x y z j k
+
+-- the names of these streams are just those that are open, each once
+pub record AreOpen (m : Machine) (names : List (List ℕ)) : Type 0 where
+  pub each : (name : List ℕ) → IsMember name names ↔ (m.stream name ≢ None)
+  pub once : IsRising (λ x y. x ≢ y) names
+  pub counted : length names ≡ m.count
+
+-- a machine with the names of its open streams
+pub record IsCounted (m : Machine) : Type 0 where
+  pub names : List (List ℕ)
+  pub are_open : AreOpen m names
+
+-- The count of a machine is the number of its open streams.
+abbrev pub CountsOpen : Type 0
+CountsOpen =
+    (P : List Pattern) (actions : List Action) (answers : List Answer) (after : Machine) →
+    IsRun P start actions answers after → IsCounted after

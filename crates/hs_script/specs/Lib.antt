@@ -1,0 +1,5 @@
+pub mod Actions
+pub mod Scripts
+pub mod Machine
+pub mod Runs
+pub mod Laws

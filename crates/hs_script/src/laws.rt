@@ -1,0 +1,44 @@
+//! Laws over the definitions of `specs/`: each is the contract of a function that does nothing.
+
+ghost use Rattle.hs_script.specs.Laws.{IsScriptOnce, IsAlwaysScript, IsTextOnce, IsIsolated, IsComplete, IsBounded, IsCutAnywhere, CountsOpen};
+
+/// Bytes are a script in at most one way.
+pub fn script_once()
+    ensures { IsScriptOnce }
+{}
+
+/// Any bytes are a script: whole, or up to its fault.
+pub fn always_script()
+    ensures { IsAlwaysScript }
+{}
+
+/// Runs over the same bytes that lack memory at the same commands have one text.
+pub fn text_once()
+    ensures { IsTextOnce }
+{}
+
+/// The lines of a name depend on the commands on that name alone, where none of them is refused for want of memory or
+/// for the number of open streams.
+pub fn isolated()
+    ensures { IsIsolated }
+{}
+
+/// In every run a write below the length limit, a reset and a close of an open stream are done.
+pub fn complete()
+    ensures { IsComplete }
+{}
+
+/// At most 4,096 streams are open in every run.
+pub fn bounded()
+    ensures { IsBounded }
+{}
+
+/// Where a write is cut into two, both together report what it reports.
+pub fn cut_anywhere()
+    ensures { IsCutAnywhere }
+{}
+
+/// The count of a machine is the number of its open streams.
+pub fn counts_open()
+    ensures { CountsOpen }
+{}

@@ -1,0 +1,23 @@
+//! The commands of a script.
+
+/// A command of a script, by its word.
+#[derive(Clone, Copy, Debug, PartialEq, Eq)]
+pub enum Verb {
+    Open,
+    Write,
+    Reset,
+    Close,
+}
+
+/// A command of a script, with the name of its stream.
+#[derive(Clone, Copy, Debug, PartialEq, Eq)]
+pub enum Command<'a> {
+    /// Opens a stream of that name, which is empty.
+    Open(&'a [u8]),
+    /// Writes so many bytes, which stand behind the line.
+    Write(&'a [u8], u64),
+    /// Closes the stream and opens it anew.
+    Reset(&'a [u8]),
+    /// Closes the stream.
+    Close(&'a [u8]),
+}
