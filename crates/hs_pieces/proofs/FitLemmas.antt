@@ -4,14 +4,14 @@ use Rattle.std.proofs.lemmas.Bool.Decides.{nat_tests}
 use Rattle.std.proofs.lemmas.List.{map-append, take-append-drop, length-take, length-drop}
 use Rattle.hs_base.specs.Lists.{Each}
 use Rattle.hs_base.specs.Trees.{Tree, Trees, empty, class, points, assert, cat, alt, repeat, none, more, trees_of, IsProper, AreProper, AreBounds}
-use Rattle.hs_base.specs.EndAssertions.{may_consume, one_may_consume, has_embedded_end, sequence_has_embedded_end, one_has_embedded_end}
+use Rattle.hs_base.specs.EndAssertions.{one_may_consume, has_embedded_end, sequence_has_embedded_end, one_has_embedded_end}
 use Rattle.hs_base.specs.WrittenOut.{IsPlain, ArePlain}
 use Rattle.hs_base.specs.Literals.{LiteralByte, is_small_letter, places_from, literal_of_places, literal_of}
 use Rattle.hs_base.specs.Items.{items_of}
-use Rattle.hs_base.specs.Chains.{Piece, Part, literal, ordinary, long, part_of, class_part, repeat_part, is_long, with_literal, with_ordinary, runs_joined, runs_cut, ordinary_joined, rest_of_run, cut_times, cut_run, piece_of, piece_tree, pieces_of, chain_trees, alternatives_of, alternatives_of_all, chains_of, IsLiteralByte, IsFitPiece, IsFitChain}
+use Rattle.hs_base.specs.Chains.{Part, literal, ordinary, long, part_of, class_part, repeat_part, is_long, with_literal, with_ordinary, runs_joined, runs_cut, ordinary_joined, rest_of_run, cut_times, cut_run, piece_of, piece_tree, pieces_of, chain_trees, alternatives_of, alternatives_of_all, chains_of, IsLiteralByte, IsFitPiece, IsFitChain}
 use Rattle.hs_base.proofs.ListLemmas.{each-append, each-left, each-right}
 use Rattle.hs_base.proofs.EndAssertionLemmas.{neither}
-use Rattle.hs_pieces.proofs.FlatLemmas.{items_within, parts_of, parts_of-same}
+use Rattle.hs_pieces.proofs.FlatLemmas.{parts_of, parts_of-same}
 use Rattle.hs_pieces.proofs.SpanLemmas.{items-proper}
 use Rattle.hs_pieces.proofs.EndLemmas.{items-have_end, chain-has_end, ends-sooner, items-plain, chain-plain}
 

@@ -2,7 +2,7 @@
 use Rattle.std.proofs.Common.{◌≡◌, ℕ, zero, suc, ◌/◌, Bool, true, false, List, [], ◌∷◌, ◌++◌, length, map, take, drop, Option, Some, None, refl, sym, ap, ◌∙◌}
 use Rattle.std.proofs.lemmas.List.{append_assoc, append-nil, map-append, take-append-drop}
 use Rattle.hs_base.specs.Lists.{Each}
-use Rattle.hs_base.specs.Trees.{Tree, Trees, empty, class, points, assert, cat, alt, repeat, IsProper, AreBounds}
+use Rattle.hs_base.specs.Trees.{Tree, empty, class, points, assert, cat, alt, repeat, IsProper}
 use Rattle.hs_base.specs.Literals.{LiteralByte, literal_set, literal_of}
 use Rattle.hs_base.specs.Chains.{Part, literal, ordinary, long, part_of, class_part, repeat_part, is_long, with_literal, with_ordinary, runs_joined, runs_cut, ordinary_joined, rest_of_run, cut_times, cut_run}
 use Rattle.hs_pieces.proofs.ExactLemmas.{literal-exact}

@@ -1,10 +1,10 @@
 -- Parts behind what waits: what one more item does to the pieces.
-use Rattle.std.proofs.Common.{◌≡◌, ℕ, zero, suc, ◌+◌, ◌/◌, ◌<◌, ◌≤◌, Bool, List, [], ◌∷◌, ◌++◌, length, map, take, drop, Option, refl, sym, ap, ◌∙◌, arith}
-use Rattle.std.proofs.lemmas.List.{append_assoc, append-nil, map-append, length-append}
+use Rattle.std.proofs.Common.{◌≡◌, ℕ, suc, ◌+◌, ◌/◌, ◌<◌, Bool, List, [], ◌∷◌, ◌++◌, length, map, take, drop, Option, refl, sym, ap, ◌∙◌, arith}
+use Rattle.std.proofs.lemmas.List.{append_assoc, append-nil, length-append}
 use Rattle.std.proofs.Math.Seq.{take-append_seam, drop-append_seam}
-use Rattle.hs_base.specs.Trees.{Tree, class}
-use Rattle.hs_base.specs.Literals.{LiteralByte, literal_set}
-use Rattle.hs_base.specs.Chains.{Piece, lit, nfa, rep, Part, literal, ordinary, long, with_literal, with_ordinary, runs_joined, runs_cut, ordinary_joined, piece_of, rest_of_run, cut_times, cut_run}
+use Rattle.hs_base.specs.Trees.{Tree}
+use Rattle.hs_base.specs.Literals.{LiteralByte}
+use Rattle.hs_base.specs.Chains.{Piece, lit, rep, Part, literal, ordinary, long, with_literal, with_ordinary, runs_joined, runs_cut, ordinary_joined, piece_of, rest_of_run, cut_times, cut_run}
 use Rattle.hs_pieces.specs.Splitting.{with_run, with_items, closed, pieces_of_cut, cut_from}
 
 -- one more byte behind a run that waits

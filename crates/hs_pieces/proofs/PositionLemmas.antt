@@ -5,7 +5,7 @@ use Rattle.std.proofs.lemmas.List.Sums.{sum_by-cons}
 use Rattle.hs_base.specs.Lists.{Each}
 use Rattle.hs_base.specs.Trees.{Tree, Trees, empty, class, points, assert, cat, alt, repeat, none, more, trees_of, IsProper, AreProper}
 use Rattle.hs_base.specs.Items.{items_of, items_of_all, is_once}
-use Rattle.hs_base.specs.Chains.{Piece, Part, literal, ordinary, long, piece_of, pieces_of, alternatives_of, alternatives_of_all, chains_of}
+use Rattle.hs_base.specs.Chains.{Part, literal, ordinary, long, piece_of, pieces_of, alternatives_of, alternatives_of_all, chains_of}
 use Rattle.hs_base.proofs.ListLemmas.{each-append}
 use Rattle.hs_expr.specs.Counts.{positions, position_counts}
 use Rattle.hs_pieces.specs.Laws.{HasPositions}
@@ -21,7 +21,7 @@ row-cons : (t : Tree) (ts : List Tree) → row (t ∷ ts) ≡ positions t + row 
 row-cons t ts = sum_by-cons (λ x. x) (positions t) (position_counts (trees_of ts))
 
 row-append : (xs ys : List Tree) → row (xs ++ ys) ≡ row xs + row ys
-row-append [] ys = refl
+row-append [] ys = omega arith
 row-append (x ∷ xs) ys =
     let all = row-cons x (xs ++ ys) in
     let front = row-cons x xs in

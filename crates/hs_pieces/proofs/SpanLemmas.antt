@@ -1,11 +1,11 @@
 -- Chains have the spans of what they are made of.
-use Rattle.std.proofs.Common.{◌≡◌, ℕ, ◌↔◌, ◌⊎◌, Bool, true, false, List, [], ◌∷◌, ◌++◌, map, Option, refl, sym, ap, ◌∙◌, subst, inl, inr, if◌then◌else◌}
+use Rattle.std.proofs.Common.{◌≡◌, ℕ, ◌↔◌, Bool, true, false, List, [], ◌∷◌, ◌++◌, map, Option, refl, sym, subst, inl, inr, if◌then◌else◌}
 use Rattle.std.proofs.lemmas.List.{map-append}
 use Rattle.hs_base.specs.Lists.{Each, OneOf}
-use Rattle.hs_base.specs.Trees.{Tree, Trees, empty, class, points, assert, cat, alt, repeat, none, more, trees_of, IsProper, AreProper, AreBounds}
+use Rattle.hs_base.specs.Trees.{Tree, Trees, empty, class, points, assert, cat, alt, repeat, none, more, trees_of, IsProper, AreProper}
 use Rattle.hs_base.specs.Spans.{Spans, CatSpans, AltSpans}
 use Rattle.hs_base.specs.Items.{items_of, items_of_all, is_once}
-use Rattle.hs_base.specs.Chains.{Piece, Part, literal, ordinary, long, piece_of, piece_tree, pieces_of, chain_trees, ChainSpans, alternatives_of, alternatives_of_all, chains_of}
+use Rattle.hs_base.specs.Chains.{Part, literal, ordinary, long, piece_of, piece_tree, pieces_of, chain_trees, ChainSpans, alternatives_of, alternatives_of_all, chains_of}
 use Rattle.hs_base.proofs.ListLemmas.{one_of-left, one_of-right, one_of-append, each-append}
 use Rattle.hs_expr.proofs.ItemLemmas.{items-have_spans}
 use Rattle.hs_pieces.proofs.FlatLemmas.{items_in, items_within, parts_of, parts_of-same}

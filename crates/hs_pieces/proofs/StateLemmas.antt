@@ -1,5 +1,5 @@
 -- One more item, over the lists of a split.
-use Rattle.std.proofs.Common.{◌≡◌, ℕ, ◌+◌, ◌<◌, ◌≤◌, Bool, List, [], ◌∷◌, ◌++◌, length, map, slice_get, Option, Some, Vec, Global, refl, sym, ap, ◌∙◌, subst, arith}
+use Rattle.std.proofs.Common.{◌≡◌, ℕ, ◌+◌, ◌<◌, ◌≤◌, Bool, List, [], ◌∷◌, ◌++◌, length, map, slice_get, Option, Some, Vec, Global, refl, sym, ap, ◌∙◌, arith}
 use Rattle.std.proofs.lemmas.List.{map-append, length-map, length-append}
 use Rattle.hs_base.specs.ByteSets.{members}
 use Rattle.hs_base.specs.Chains.{Part, literal, ordinary, long, rest_of_run}
@@ -16,7 +16,7 @@ use Rattle.hs_pieces.specs.Meaning.{plain_piece}
 use Rattle.hs_pieces.specs.Splitting.{closed, pieces_of_cut, cut_from}
 use Rattle.hs_pieces.specs.declared.piece.Piece.{Piece}
 use Rattle.hs_pieces.specs.declared.piece.Piece.TheVariants.{Lit, Rep}
-use Rattle.hs_pieces.proofs.PartLemmas.{cut_from-full, cut_from-ordinary, cut_from-long, cut_from-none, literal-complete, long-complete, all-complete, ordinary-added, rest-literal}
+use Rattle.hs_pieces.proofs.PartLemmas.{cut_from-full, cut_from-ordinary, cut_from-long, cut_from-none, literal-complete, long-complete, ordinary-added, rest-literal}
 
 -- what waits is nothing
 nothing : (left : List Expr) (run : List LitByte) (parts : List Part) → left ≡ [] → run ≡ [] →
