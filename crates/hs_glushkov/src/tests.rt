@@ -279,7 +279,22 @@ fn has_as_many_positions_as_are_written_out(rt: HostRuntime) -> Result<(), Fail>
         assert_eq!(rt; automaton.sets.len(), count, "{name}");
         assert_eq!(rt; automaton.has_assertion, with_assertion, "{name}");
         assert_eq!(rt; has_assertion(&expr), with_assertion, "{name}");
-        assert!(rt; automaton.tables_len() <= 404 << 10, "{name}");
+    }
+    Ok(())
+}
+
+#[test]
+fn tables_stay_small(rt: HostRuntime) -> Result<(), Fail> {
+    let alloc = rt.alloc();
+    let table = [
+        ("(foo.*bar)", 287),
+        ("[abcd]!*", 52 << 10),
+        ("([abcd]B)!*", 404 << 10),
+    ];
+    for (name, len) in table {
+        let expr = tree(alloc, name)?;
+        let automaton = automaton_of(&rt, alloc, &expr)?;
+        assert_eq!(rt; automaton.tables_len(), len, "{name}");
     }
     Ok(())
 }
