@@ -6,11 +6,12 @@ use Rattle.hs_base.specs.declared.context.Next.TheVariants as after
 use Rattle.hs_base.specs.declared.context.NextSet.{NextSet}
 use Rattle.hs_base.specs.Trees.{Tree}
 use Rattle.hs_base.specs.Assertions.{line_feed}
-use Rattle.hs_base.specs.Contexts.{class_of, prev_at}
-use Rattle.hs_base.specs.ContextSets.{has_next}
+use Rattle.hs_base.specs.Contexts.{Context, class_of, prev_at}
+use Rattle.hs_base.specs.ContextSets.{has_context, has_next}
 use Rattle.hs_base.specs.Fields.{entered_always}
 use Rattle.hs_base.specs.Patterns.{Pattern}
 use Rattle.hs_base.specs.Settling.{Ends, AreEnds, EndsHere, HasEndHere}
+use Rattle.hs_engine.specs.Engines.{IsAsleep}
 use Rattle.hs_rose.specs.declared.program.Role.{Role}
 use Rattle.hs_rose.specs.declared.program.Identifier.{Identifier}
 use Rattle.hs_rose.specs.Roles.{AreRolesOf}
@@ -37,6 +38,23 @@ pub record IsAt (u : List ℕ) (prev : Prev) (at : ℕ) : Type 0 where
 -- the set has what may come next where matches of the pattern end behind the bytes u
 abbrev pub IsEndSet : Pattern → List ℕ → NextSet → Type 0
 IsEndSet x u set = (next : Next) → (has_next set next ≡ true) ↔ EndsHere x.id u next x
+
+-- A role may be passed over with the byte b, where its bytes are these: none of its matches ends about the byte, and its
+-- bytes stay.
+pub record IsPassed {E : Type 0} (IsFor : E → Tree → Type 0) (Field : E → List ℕ → Tree → List ℕ → List Bool → Type 0) (Well : E → List ℕ → ℕ → Type 0) (always : E → Bool) (r : Role E) (part : List ℕ) (b : ℕ) : Type 0 where
+  pub asleep : IsAsleep (IsFor r.engine) (Field r.engine part) (always r.engine) b
+  pub null : (c : Context) → has_context r.null c ≡ false
+  pub well : (at : ℕ) → Well r.engine part at → Well r.engine part (at + 1)
+
+-- the role may be passed over with each of the bytes from the one place up to the other
+abbrev pub Waits : {E : Type 0} → (E → Tree → Type 0) → (E → List ℕ → Tree → List ℕ → List Bool → Type 0) → (E → List ℕ → ℕ → Type 0) → (E → Bool) → Role E → List ℕ → List ℕ → ℕ → ℕ → Type 0
+Waits {E} IsFor Field Well always r part bytes from to =
+    (j b : ℕ) → from ≤ j → j < to → slice_get bytes j ≡ Some b → IsPassed IsFor Field Well always r part b
+
+-- each role up to the place that is noted of it
+abbrev pub AreWaiting : {E : Type 0} → (E → Tree → Type 0) → (E → List ℕ → Tree → List ℕ → List Bool → Type 0) → (E → List ℕ → ℕ → Type 0) → (E → Bool) → List (Role E) → List ℕ → List ℕ → List ℕ → ℕ → List ℕ → Type 0
+AreWaiting {E} IsFor Field Well always roles starts region bytes from waits =
+    (k to : ℕ) (r : Role E) → slice_get roles k ≡ Some r → slice_get waits k ≡ Some to → Waits IsFor Field Well always r (part_of starts region k) bytes from to
 
 -- The bytes of a role are the field of its pattern behind the byte too, and its matches about the byte were added to the
 -- ends of its identifier.

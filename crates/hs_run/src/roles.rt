@@ -1,16 +1,13 @@
 //! The roles of a program over one byte: their engines move, and where their matches end is noted.
-ghost use Rattle.std.specs.Prelude.{◌≡◌, ℕ, ◌+◌, ◌<◌, ◌≤◌, ◌^◌, ◌↔◌, ◌⊎◌, true, false, IsTrue, [], ◌∷◌, ◌++◌, List, length, Some, slice_get};
+ghost use Rattle.std.specs.Prelude.{◌≡◌, ℕ, ◌+◌, ◌<◌, ◌≤◌, ◌^◌, ◌↔◌, ◌⊎◌, true, false, IsTrue, [], ◌∷◌, ◌++◌, List, length, Some, slice_get, slice_index};
 ghost use Rattle.hs_base.specs.declared.context.Next.TheVariants as after;
-ghost use Rattle.hs_base.specs.Contexts.{Context};
-ghost use Rattle.hs_base.specs.ContextSets.{has_context};
 ghost use Rattle.hs_base.specs.Fields.{entered_always};
 ghost use Rattle.hs_base.specs.Patterns.{Pattern};
 ghost use Rattle.hs_base.specs.Trees.{Tree};
 ghost use Rattle.hs_base.specs.Settling.{EndsHere};
-ghost use Rattle.hs_engine.specs.Engines.{IsAsleep};
 ghost use Rattle.hs_rose.specs.declared.program.Identifier.{Identifier};
 ghost use Rattle.hs_rose.specs.Roles.{IsRoleOf};
-ghost use Rattle.hs_run.specs.Running.{IsAt, IsEndSet, AreWell, IsMoved, IsLaid, AreNamed, AreNoEnds, MovesRoles, EndsRoles, AreStarted, ends_of};
+ghost use Rattle.hs_run.specs.Running.{IsAt, IsEndSet, AreWell, IsMoved, IsLaid, AreNamed, AreNoEnds, AreWaiting, IsPassed, Waits, MovesRoles, EndsRoles, AreStarted, ends_of};
 
 use crate::ends::{Ends, forget};
 use hs_base::{Mask, Next, NextSet, Prev};
@@ -35,16 +32,46 @@ fn ends_at<E: Engine>(role: &Role<E>, part: &[u8], prev: Prev, at: u64) -> NextS
 /// as they are.
 fn passes<E: Engine>(role: &Role<E>, part: &[u8], byte: u8) -> bool
     requires { length part.now ≡ E.width role.now.engine }
-    ensures asleep { IsTrue result → IsAsleep (E.is_for role.now.engine) (E.field role.now.engine part.now) (E.enters_always role.now.engine) byte }
-    ensures null { IsTrue result → (c : Context) → has_context role.now.null c ≡ false }
-    ensures well { IsTrue result → (at : ℕ) → E.well role.now.engine part.now at → E.well role.now.engine part.now (at + 1) }
+    ensures { IsTrue result → IsPassed E.is_for E.field E.well E.enters_always role.now part.now byte }
 {
     role.null == Mask::empty() && role.engine.sleeps(part, byte)
 }
 
-/// Takes a byte for one role, and notes where its matches end about it. Answers whether one does. A role that sleeps over
-/// the byte is passed over.
-fn step_role<E: Engine, L: Ledger>(
+/// A place of the bytes, from the one at `from` on, up to which all may be passed over for the role.
+fn waits_until<E: Engine>(role: &Role<E>, part: &[u8], bytes: &[u8], from: usize) -> usize
+    requires { length part.now ≡ E.width role.now.engine }
+    ensures { Waits E.is_for E.field E.well E.enters_always role.now part.now bytes.now from result }
+{
+    for place in from..bytes.len() {
+        if !passes(role, part, bytes[place]) {
+            return place;
+        }
+    }
+    bytes.len()
+}
+
+/// Up to which place all bytes from the one at `place` on may be passed over for the role, if up to `until` they may: it is
+/// looked at again where nothing more is known of it.
+fn waits_again<E: Engine>(
+    role: &Role<E>,
+    part: &[u8],
+    bytes: &[u8],
+    place: usize,
+    until: usize,
+) -> usize
+    requires len { length part.now ≡ E.width role.now.engine }
+    requires waits { Waits E.is_for E.field E.well E.enters_always role.now part.now bytes.now place until }
+    ensures { Waits E.is_for E.field E.well E.enters_always role.now part.now bytes.now place result }
+{
+    if until <= place {
+        waits_until(role, part, bytes, place)
+    } else {
+        until
+    }
+}
+
+/// Takes a byte for one role, and notes where its matches end about it. Answers whether one does.
+fn move_role<E: Engine, L: Ledger>(
     role: &Role<E>,
     part: &mut [u8],
     prev: Prev,
@@ -58,15 +85,12 @@ fn step_role<E: Engine, L: Ledger>(
     requires room { at < 2 ^ 63 }
     ensures len { length part.new ≡ E.width role.now.engine }
     ensures well { E.well role.now.engine part.new (at + 1) }
-    ensures ticks { steps.new ≤ steps.old + 1 }
+    ensures ticks { steps.new ≡ steps.old + 1 }
     ensures noted { result ≡ false → ends.new ≡ ends.old }
     ensures moves { (identifiers : List Identifier) (x : Pattern) (u : List ℕ) → IsRoleOf E.is_for identifiers role.now x →
         IsAt u prev at → E.field role.now.engine part.old x.tree u (entered_always u) →
         IsMoved (E.field role.now.engine part.new) x u byte (ends_of ends.old) (ends_of ends.new) }
 {
-    if passes(role, part, byte) {
-        return false;
-    }
     let before = ends_at(role, part, prev, at);
     role.engine
         .step(part, prev, at, NextSet::all(), byte, steps);
@@ -74,14 +98,51 @@ fn step_role<E: Engine, L: Ledger>(
     ends.note(byte, before, behind)
 }
 
-/// Takes a byte for every role, and notes where matches of each identifier end about it. Answers whether one does.
+/// Takes the byte at `place` for one role, and notes where its matches end about it. Answers whether one does. A role that
+/// sleeps over the byte is passed over; up to which place it may be is kept in `until`.
+fn step_role<E: Engine, L: Ledger>(
+    role: &Role<E>,
+    part: &mut [u8],
+    prev: Prev,
+    at: u64,
+    bytes: &[u8],
+    place: usize,
+    until: &mut usize,
+    ends: &mut Ends,
+    steps: &mut Steps<L>,
+) -> bool
+    requires len { length part.old ≡ E.width role.now.engine }
+    requires well { E.well role.now.engine part.old at }
+    requires room { at < 2 ^ 63 }
+    requires place { place < length bytes.now }
+    requires waits { Waits E.is_for E.field E.well E.enters_always role.now part.old bytes.now place until.old }
+    ensures len { length part.new ≡ E.width role.now.engine }
+    ensures well { E.well role.now.engine part.new (at + 1) }
+    ensures ticks { steps.new ≤ steps.old + 1 }
+    ensures waits { Waits E.is_for E.field E.well E.enters_always role.now part.new bytes.now (place + 1) until.new }
+    ensures noted { result ≡ false → ends.new ≡ ends.old }
+    ensures moves { (identifiers : List Identifier) (x : Pattern) (u : List ℕ) → IsRoleOf E.is_for identifiers role.now x →
+        IsAt u prev at → E.field role.now.engine part.old x.tree u (entered_always u) →
+        IsMoved (E.field role.now.engine part.new) x u (slice_index bytes.now place) (ends_of ends.old) (ends_of ends.new) }
+{
+    *until = waits_again(role, part, bytes, place, *until);
+    if place < *until {
+        return false;
+    }
+    move_role(role, part, prev, at, bytes[place], ends, steps)
+}
+
+/// Takes the byte at `place` for every role, and notes where matches of each identifier end about it. Answers whether one
+/// does.
 pub fn step_roles<E: Engine, L: Ledger>(
     roles: &[Role<E>],
     starts: &[usize],
     region: &mut [u8],
     prev: Prev,
     at: u64,
-    byte: u8,
+    bytes: &[u8],
+    place: usize,
+    waits: &mut [usize],
     ends: &mut [Ends],
     steps: &mut Steps<L>,
 ) -> bool
@@ -89,13 +150,18 @@ pub fn step_roles<E: Engine, L: Ledger>(
     requires named { AreNamed roles.now (length ends.old) }
     requires well { AreWell E.well roles.now starts.now region.old at }
     requires room { at < 2 ^ 63 }
+    requires place { place < length bytes.now }
     requires none { AreNoEnds ends.old }
+    requires count { length waits.old ≡ length roles.now }
+    requires waiting { AreWaiting E.is_for E.field E.well E.enters_always roles.now starts.now region.old bytes.now place waits.old }
     ensures len { length region.new ≡ length region.old }
     ensures ends { length ends.new ≡ length ends.old }
     ensures well { AreWell E.well roles.now starts.now region.new (at + 1) }
     ensures ticks { steps.new ≤ steps.old + length roles.now }
+    ensures count { length waits.new ≡ length waits.old }
+    ensures waiting { AreWaiting E.is_for E.field E.well E.enters_always roles.now starts.now region.new bytes.now (place + 1) waits.new }
     ensures noted { result ≡ false → AreNoEnds ends.new }
-    ensures moves { MovesRoles E.is_for E.field roles.now starts.now region.old region.new prev at byte ends.new }
+    ensures moves { MovesRoles E.is_for E.field roles.now starts.now region.old region.new prev at (slice_index bytes.now place) ends.new }
 {
     let mut noted = false;
     for k in 0..roles.len() {
@@ -105,7 +171,9 @@ pub fn step_roles<E: Engine, L: Ledger>(
             &mut region[starts[k]..starts[k + 1]],
             prev,
             at,
-            byte,
+            bytes,
+            place,
+            &mut waits[k],
             &mut ends[role.identifier],
             steps,
         );

@@ -1,9 +1,9 @@
 //! The runner: bytes to reports, byte by byte over all roles.
-ghost use Rattle.std.specs.Prelude.{◌≡◌, ℕ, ◌+◌, ◌*◌, ◌<◌, ◌≤◌, ◌^◌, false, [], ◌∷◌, length};
-ghost use Rattle.hs_rose.specs.Programs.{roles_of};
+ghost use Rattle.std.specs.Prelude.{◌≡◌, ℕ, ◌+◌, ◌*◌, ◌<◌, ◌≤◌, ◌^◌, false, [], ◌∷◌, length, Some, slice_get, slice_index};
+ghost use Rattle.hs_rose.specs.Programs.{roles_of, starts_of};
 ghost use Rattle.hs_run.specs.Events.{Takes};
 ghost use Rattle.hs_run.specs.Reporting.{AreClosed};
-ghost use Rattle.hs_run.specs.Running.{AreNoEnds};
+ghost use Rattle.hs_run.specs.Running.{AreNoEnds, AreWaiting};
 ghost use Rattle.hs_run.specs.States.{IsRunnable, FitsState};
 ghost use Rattle.hs_run.specs.Feeding.{FitsScratch, Feeds, Finishes};
 
@@ -39,19 +39,34 @@ pub fn feed<E: Engine, V: Events, L: Ledger>(
     ensures taken { Takes V.tells events.old events.new (Feeds E.is_for E.field program.now state.old state.new bytes.now) }
 {
     forget(&mut scratch.ends);
+    wake(&mut scratch.waits);
     let mut is_open = true;
-    for byte in bytes {
-        is_open = feed_byte(program, state, scratch, *byte, is_open, events, steps);
+    for place in 0..bytes.len() {
+        is_open = feed_byte(
+            program, state, scratch, bytes, place, is_open, events, steps,
+        );
     }
 }
 
-/// Takes the next byte of a stream, and reports what it decides. No end is noted in the scratch before nor behind it. Something
-/// else may be kept of an identifier than that a pair of it is told only if `is_open`; answers whether behind the byte.
+/// Notes of each role that nothing is known of where it sleeps.
+fn wake(waits: &mut [usize])
+    ensures len { length waits.new ≡ length waits.old }
+    ensures none { (k to : ℕ) → slice_get waits.new k ≡ Some to → to ≡ 0 }
+{
+    for one in waits.iter_mut() {
+        *one = 0;
+    }
+}
+
+/// Takes the byte of a stream at `place`, and reports what it decides. No end is noted in the scratch before nor behind it.
+/// Something else may be kept of an identifier than that a pair of it is told only if `is_open`; answers whether behind the
+/// byte.
 fn feed_byte<E: Engine, V: Events, L: Ledger>(
     program: &Program<E>,
     state: &mut State,
     scratch: &mut Scratch,
-    byte: u8,
+    bytes: &[u8],
+    place: usize,
     is_open: bool,
     events: &mut V,
     steps: &mut Steps<L>,
@@ -60,15 +75,18 @@ fn feed_byte<E: Engine, V: Events, L: Ledger>(
     requires state { FitsState E.well program.now state.old }
     requires scratch { FitsScratch program.now scratch.old }
     requires room { state.old.offset + 1 < 2 ^ 63 }
+    requires place { place < length bytes.now }
     requires none { AreNoEnds scratch.old.ends.items }
     requires closed { is_open ≡ false → AreClosed state.old.kept.items }
+    requires waiting { AreWaiting E.is_for E.field E.well E.enters_always (roles_of program.now) (starts_of program.now) state.old.region.items bytes.now place scratch.old.waits.items }
     ensures state { FitsState E.well program.now state.new }
     ensures scratch { FitsScratch program.now scratch.new }
     ensures offset { state.new.offset ≡ state.old.offset + 1 }
     ensures none { AreNoEnds scratch.new.ends.items }
     ensures closed { result ≡ false → AreClosed state.new.kept.items }
+    ensures waiting { AreWaiting E.is_for E.field E.well E.enters_always (roles_of program.now) (starts_of program.now) state.new.region.items bytes.now (place + 1) scratch.new.waits.items }
     ensures ticks { steps.new ≤ steps.old + length (roles_of program.now) }
-    ensures taken { Takes V.tells events.old events.new (Feeds E.is_for E.field program.now state.old state.new (byte ∷ [])) }
+    ensures taken { Takes V.tells events.old events.new (Feeds E.is_for E.field program.now state.old state.new (slice_index bytes.now place ∷ [])) }
 {
     let at = state.offset;
     let noted = step_roles(
@@ -77,7 +95,9 @@ fn feed_byte<E: Engine, V: Events, L: Ledger>(
         &mut state.region,
         state.prev,
         at,
-        byte,
+        bytes,
+        place,
+        &mut scratch.waits,
         &mut scratch.ends,
         steps,
     );
@@ -89,7 +109,7 @@ fn feed_byte<E: Engine, V: Events, L: Ledger>(
         at,
         events,
     );
-    state.prev = Prev::behind(byte);
+    state.prev = Prev::behind(bytes[place]);
     state.offset = at + 1;
     noted
 }

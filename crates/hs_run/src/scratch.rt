@@ -11,6 +11,8 @@ use std::alloc::{AllocError, Global};
 pub struct Scratch {
     /// Where matches of each identifier end.
     pub(crate) ends: Vec<Ends>,
+    /// Up to which place of the bytes of a call each role sleeps, as far as it was looked at.
+    pub(crate) waits: Vec<usize>,
 }
 
 impl Scratch {
@@ -21,13 +23,14 @@ impl Scratch {
         ensures { IfOk result (λ scratch. FitsScratch program.now scratch) }
     {
         let ends = vec![in alloc; Ends::none(); program.identifiers().len()]?;
-        Ok(Scratch { ends })
+        let waits = vec![in alloc; 0usize; program.roles().len()]?;
+        Ok(Scratch { ends, waits })
     }
 
     /// Whether the scratch serves the program.
     pub fn fits<E>(&self, program: &Program<E>) -> bool
         ensures { IsTrue result ↔ FitsScratch program.now self.now }
     {
-        self.ends.len() == program.identifiers().len()
+        self.ends.len() == program.identifiers().len() && self.waits.len() == program.roles().len()
     }
 }

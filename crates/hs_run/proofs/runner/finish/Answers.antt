@@ -41,7 +41,7 @@ returns-clause-taken g c =
     state c.roles.result.now c.starts.result.now c.deref.result.now ends
     c.roles.ensures c.starts.ensures c.deref.ensures.value c.end_roles.ensures.about
     c.requires.state.kept
-    (c.end_roles.ensures.len ∙ (ap length c.deref_mut.ensures.value ∙ c.requires.scratch))
+    (c.end_roles.ensures.len ∙ (ap length c.deref_mut.ensures.value ∙ c.requires.scratch.ends))
     (through-same g.V.Events.tells c.args.events.now c.report.new.events BeforeLastByte xs ids c.deref-2.result.now state.kept.items c.deref-3.result.now ends (state.offset - 1)
     c.identifiers-identifiers.ensures c.deref-2.ensures.value (c.deref-3.ensures.value ∙ is_ends) first)
     (through-same g.V.Events.tells c.report.new.events c.report-2.new.events AtEnd xs ids c.deref-4.result.now state.kept.items c.deref-5.result.now ends state.offset
