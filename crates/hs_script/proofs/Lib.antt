@@ -5,3 +5,4 @@ pub mod ScriptLemmas
 pub mod LineLemmas
 pub mod CountLemmas
 pub mod CutLemmas
+pub mod JoinLemmas
