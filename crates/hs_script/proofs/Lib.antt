@@ -6,3 +6,4 @@ pub mod LineLemmas
 pub mod CountLemmas
 pub mod CutLemmas
 pub mod JoinLemmas
+pub mod PayloadLemmas
