@@ -1,11 +1,11 @@
 -- What a write takes of the bytes behind its line.
-use Rattle.std.proofs.Common.{◌≡◌, ◌≢◌, ℕ, ◌+◌, ◌<◌, ◌≤◌, Bool, true, false, nat_lt, ◌==◌, List, [], ◌∷◌, ◌++◌, length, take, drop, refl, sym, ap, ◌∙◌, lt-ltb, le-ltb, ne_eqb, arith, if◌then◌else◌}
+use Rattle.std.proofs.Common.{◌≡◌, ℕ, ◌≤◌, List, [], ◌∷◌, ◌++◌, length, take, drop, ap, ◌∙◌, lt-ltb, le-ltb, ne_eqb, arith, if◌then◌else◌}
 use Rattle.std.proofs.Math.Seq.{take-append_seam, drop-append_seam, take-length, drop-length}
 use Rattle.std.proofs.lemmas.List.{length-append}
 use Rattle.hs_base.specs.Assertions.{line_feed}
 use Rattle.hs_text.specs.declared.reply_lines.ScriptFault.TheVariants as fault
 use Rattle.hs_script.specs.Actions.{Write, Cut}
-use Rattle.hs_script.specs.Scripts.{First, Goes, Ends, behind_payload, written_by}
+use Rattle.hs_script.specs.Scripts.{Goes, Ends, behind_payload, written_by}
 use Rattle.hs_script.specs.Laws.{TakesPayload}
 
 -- with all its bytes there a write is judged by what stands behind them

@@ -1,5 +1,5 @@
 -- How runs go on, for whoever makes one command by command.
-use Rattle.std.specs.Prelude.{◌≡◌, ℕ, List, [], ◌∷◌, ◌++◌}
+use Rattle.std.specs.Prelude.{◌≡◌, List, [], ◌∷◌, ◌++◌}
 use Rattle.hs_base.specs.Patterns.{Pattern}
 use Rattle.hs_script.specs.Actions.{Action}
 use Rattle.hs_script.specs.Machine.{Answer, Machine, start, Steps}
