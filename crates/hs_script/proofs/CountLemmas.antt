@@ -1,14 +1,12 @@
 -- The count of a machine is the number of its open streams; and a write may be cut anywhere.
-use Rattle.std.proofs.Common.{◌≡◌, ◌≢◌, ℕ, suc, ◌+◌, ◌≤◌, ◌⊎◌, inl, inr, List, [], ◌∷◌, ◌++◌, length, Option, None, Some, refl, sym, ap, ◌∙◌, subst, append_assoc, arith}
-use Rattle.std.proofs.lemmas.List.{length-append}
-use Rattle.hs_base.specs.Lists.{Each, IsMember, IsRising}
+use Rattle.std.proofs.Common.{◌≡◌, ◌≢◌, ℕ, suc, inl, inr, List, [], ◌∷◌, length, Option, None, Some, refl, sym, ◌∙◌, subst, arith}
+use Rattle.hs_base.specs.Lists.{IsMember, IsRising}
 use Rattle.hs_base.specs.Patterns.{Pattern}
 use Rattle.hs_base.proofs.ListLemmas.{each-member, each-of_members}
-use Rattle.hs_base.proofs.ToldLemmas.{new-once}
-use Rattle.hs_script.specs.Actions.{Action, Write, name_of}
-use Rattle.hs_script.specs.Machine.{most_bytes, Answer, Moves, too_long, written, Machine, start, opens, Steps}
+use Rattle.hs_script.specs.Actions.{Action, name_of}
+use Rattle.hs_script.specs.Machine.{Answer, Machine, start, opens, Steps}
 use Rattle.hs_script.specs.Runs.{IsRun, none, more}
-use Rattle.hs_script.specs.Laws.{AreOpen, IsCounted, IsInTwo}
+use Rattle.hs_script.specs.Laws.{AreOpen, IsCounted}
 use Rattle.hs_script.proofs.MachineLemmas.{same_or_not}
 
 -- the others of names, each once, with one of them left out
@@ -73,17 +71,18 @@ step_counted {P} {m} {n} {action} s counted = by_streams (open_or_not (m.stream 
     by_streams (is_open p o) (is_open q r) = record {
       names = names;
       are_open = record {
-        each = λ name.
-            (λ member.
-            elim (same_or_not name (name_of action)) [
-              | inl is ↦ subst (λ a. n.stream a ≢ None) (sym is) q
-              | inr other ↦ open_other name other ((are.each name).0 member)
-            ],
-            λ open_now.
-            elim (same_or_not name (name_of action)) [
-              | inl is ↦ (are.each name).1 (subst (λ a. m.stream a ≢ None) (sym is) p)
-              | inr other ↦ (are.each name).1 (other_open name other open_now)
-            ]);
+        each = λ name. (
+          λ member.
+              elim (same_or_not name (name_of action)) [
+                | inl is ↦ subst (λ a. n.stream a ≢ None) (sym is) q
+                | inr other ↦ open_other name other ((are.each name).0 member)
+              ],
+          λ open_now.
+              elim (same_or_not name (name_of action)) [
+                | inl is ↦ (are.each name).1 (subst (λ a. m.stream a ≢ None) (sym is) p)
+                | inr other ↦ (are.each name).1 (other_open name other open_now)
+              ],
+        );
         once = are.once;
         counted = let c = are.counted in let d = s.counted in omega (arith, c, d, o, r);
       };
@@ -93,13 +92,14 @@ step_counted {P} {m} {n} {action} s counted = by_streams (open_or_not (m.stream 
         record {
           names = w.left;
           are_open = record {
-            each = λ name.
-                (λ member. open_other name (w.each name member).1 ((are.each name).0 (w.each name member).0),
-                λ open_now.
-                elim (same_or_not name (name_of action)) [
-                  | inl is ↦ absurd (open_now (subst (λ a. n.stream a ≡ None) (sym is) q))
-                  | inr other ↦ w.kept name ((are.each name).1 (other_open name other open_now)) other
-                ]);
+            each = λ name. (
+              λ member. open_other name (w.each name member).1 ((are.each name).0 (w.each name member).0),
+              λ open_now.
+                  elim (same_or_not name (name_of action)) [
+                    | inl is ↦ absurd (open_now (subst (λ a. n.stream a ≡ None) (sym is) q))
+                    | inr other ↦ w.kept name ((are.each name).1 (other_open name other open_now)) other
+                  ],
+            );
             once = w.once;
             counted = let c = are.counted in let d = s.counted in let l = w.counted in omega (arith, c, d, l, o, r);
           };
@@ -107,18 +107,19 @@ step_counted {P} {m} {n} {action} s counted = by_streams (open_or_not (m.stream 
     by_streams (is_closed p o) (is_open q r) = record {
       names = name_of action ∷ names;
       are_open = record {
-        each = λ name.
-            (λ member.
-            elim member [
-              | inl is ↦ subst (λ a. n.stream a ≢ None) (sym is) q
-              | inr there ↦
-                  open_other name (λ is. (are.each name).0 there (subst (λ a. m.stream a ≡ None) (sym is) p)) ((are.each name).0 there)
-            ],
-            λ open_now.
-            elim (same_or_not name (name_of action)) [
-              | inl is ↦ inl is
-              | inr other ↦ inr ((are.each name).1 (other_open name other open_now))
-            ]);
+        each = λ name. (
+          λ member.
+              elim member [
+                | inl is ↦ subst (λ a. n.stream a ≢ None) (sym is) q
+                | inr there ↦
+                    open_other name (λ is. (are.each name).0 there (subst (λ a. m.stream a ≡ None) (sym is) p)) ((are.each name).0 there)
+              ],
+          λ open_now.
+              elim (same_or_not name (name_of action)) [
+                | inl is ↦ inl is
+                | inr other ↦ inr ((are.each name).1 (other_open name other open_now))
+              ],
+        );
         once = (each-of_members (λ y. name_of action ≢ y) names (λ y member e. (are.each y).0 member (subst (λ a. m.stream a ≡ None) e p)), are.once);
         counted = let c = are.counted in let d = s.counted in omega (arith, c, d, o, r);
       };
@@ -126,17 +127,18 @@ step_counted {P} {m} {n} {action} s counted = by_streams (open_or_not (m.stream 
     by_streams (is_closed p o) (is_closed q r) = record {
       names = names;
       are_open = record {
-        each = λ name.
-            (λ member.
-            elim (same_or_not name (name_of action)) [
-              | inl is ↦ absurd ((are.each name).0 member (subst (λ a. m.stream a ≡ None) (sym is) p))
-              | inr other ↦ open_other name other ((are.each name).0 member)
-            ],
-            λ open_now.
-            elim (same_or_not name (name_of action)) [
-              | inl is ↦ absurd (open_now (subst (λ a. n.stream a ≡ None) (sym is) q))
-              | inr other ↦ (are.each name).1 (other_open name other open_now)
-            ]);
+        each = λ name. (
+          λ member.
+              elim (same_or_not name (name_of action)) [
+                | inl is ↦ absurd ((are.each name).0 member (subst (λ a. m.stream a ≡ None) (sym is) p))
+                | inr other ↦ open_other name other ((are.each name).0 member)
+              ],
+          λ open_now.
+              elim (same_or_not name (name_of action)) [
+                | inl is ↦ absurd (open_now (subst (λ a. n.stream a ≡ None) (sym is) q))
+                | inr other ↦ (are.each name).1 (other_open name other open_now)
+              ],
+        );
         once = are.once;
         counted = let c = are.counted in let d = s.counted in omega (arith, c, d, o, r);
       };

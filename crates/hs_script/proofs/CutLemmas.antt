@@ -1,9 +1,9 @@
 -- A write may be cut anywhere.
-use Rattle.std.proofs.Common.{◌≡◌, ℕ, ◌+◌, ◌≤◌, List, ◌++◌, length, Option, Some, refl, sym, ap, ◌∙◌, append_assoc, arith}
+use Rattle.std.proofs.Common.{ℕ, ◌+◌, ◌≤◌, List, ◌++◌, length, Option, Some, ap, append_assoc, arith}
 use Rattle.std.proofs.lemmas.List.{length-append}
 use Rattle.hs_base.specs.Patterns.{Pattern}
 use Rattle.hs_base.proofs.ToldLemmas.{new-once, new-joins}
-use Rattle.hs_script.specs.Actions.{Action, Write}
+use Rattle.hs_script.specs.Actions.{Write}
 use Rattle.hs_script.specs.Machine.{most_bytes, Answer, Moves, too_long, written}
 use Rattle.hs_script.specs.Laws.{IsInTwo}
 

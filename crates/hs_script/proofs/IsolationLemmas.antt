@@ -1,5 +1,5 @@
 -- What a run is on the stream of one name: it depends on the actions on that name alone.
-use Rattle.std.proofs.Common.{◌≡◌, ◌≢◌, ℕ, Bool, true, false, List, [], ◌∷◌, bytes_eq, Option, refl, sym, ap, ◌∙◌, subst, if◌then◌else◌}
+use Rattle.std.proofs.Common.{◌≡◌, ℕ, Bool, true, false, List, [], ◌∷◌, bytes_eq, Option, refl, sym, ap, ◌∙◌, subst, if◌then◌else◌}
 use Rattle.std.proofs.lemmas.Bool.{false≢true}
 use Rattle.std.proofs.lemmas.Slice.Eq.{bytes_eq-Decides}
 use Rattle.hs_base.specs.Lists.{Each}
@@ -36,12 +36,12 @@ pub answers_once : {P : List Pattern} {h : Option (List ℕ)} {actions : List Ac
 answers_once still still owns owns' = refl
 answers_once {P} (moved {actions = actions} {answers = xs} s r) (moved {answer = y} {answers = ys} t q) owns owns' =
     let alike =
-            moves_once
-            s
-            t
-            (owns.0.memory ∙ sym owns'.0.memory)
-            (λ p l is. false≢true (sym owns.0.full ∙ is))
-            (λ p l is. false≢true (sym owns'.0.full ∙ is)) in
+    moves_once
+    s
+    t
+    (owns.0.memory ∙ sym owns'.0.memory)
+    (λ p l is. false≢true (sym owns.0.full ∙ is))
+    (λ p l is. false≢true (sym owns'.0.full ∙ is)) in
     ap (λ a. a ∷ xs) alike.answers
     ∙ ap (λ l. y ∷ l) (answers_once r (subst (λ h. IsStreamRun P h actions ys) (sym alike.streams) q) owns.1 owns'.1)
 

@@ -5,3 +5,5 @@ pub mod ScriptLemmas
 pub mod LineLemmas
 pub mod CountLemmas
 pub mod CutLemmas
+pub mod JoinLemmas
+pub mod PayloadLemmas

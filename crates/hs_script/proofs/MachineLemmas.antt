@@ -1,5 +1,5 @@
 -- One step of the machine: it is determined but for want of memory, and on an open stream it is done.
-use Rattle.std.proofs.Common.{◌≡◌, ◌≢◌, ℕ, ◌+◌, ◌<◌, ◌≤◌, ◌⊎◌, inl, inr, Bool, true, false, List, [], ◌++◌, length, bytes_eq, Option, None, Some, refl, sym, ap, ◌∙◌, subst, arith}
+use Rattle.std.proofs.Common.{◌≡◌, ◌≢◌, ℕ, ◌+◌, ◌<◌, ◌≤◌, ◌⊎◌, inl, inr, Bool, true, false, List, length, bytes_eq, Option, None, Some, refl, sym, ap, ◌∙◌, subst, arith}
 use Rattle.std.proofs.lemmas.Bool.{false≢true}
 use Rattle.std.proofs.lemmas.Slice.Eq.{bytes_eq-Decides}
 use Rattle.hs_base.specs.Patterns.{Pattern}
@@ -7,7 +7,7 @@ use Rattle.hs_base.proofs.ToldLemmas.{new-once, last-once}
 use Rattle.hs_text.specs.declared.commands.Verb.TheVariants as verb
 use Rattle.hs_text.specs.declared.reply_lines.Reply.{Reply}
 use Rattle.hs_script.specs.Actions.{Action, name_of}
-use Rattle.hs_script.specs.Machine.{most_streams, most_bytes, Answer, done, unanswered, Moves, exists, full, memory, opened, write_unknown, too_long, written, cut_unknown, cut_too_long, cut_written, reset_unknown, reset, close_unknown, closed, Machine, opens, Steps}
+use Rattle.hs_script.specs.Machine.{most_streams, Answer, done, unanswered, Moves, exists, full, memory, opened, write_unknown, too_long, written, cut_unknown, cut_too_long, cut_written, reset_unknown, reset, close_unknown, closed, Machine, opens, Steps}
 use Rattle.hs_script.specs.Laws.{is_full, is_refused, lacks_memory, IsSure, sure_write, sure_reset, sure_close}
 
 -- the same answers, and the same streams behind them

@@ -1,11 +1,10 @@
 -- Runs of the machine: determined but for want of memory, cut at any command, and bounded.
-use Rattle.std.proofs.Common.{◌≡◌, ℕ, ◌≤◌, Bool, List, [], ◌∷◌, ◌++◌, map, Option, Some, refl, sym, ap, ◌∙◌, subst, arith}
+use Rattle.std.proofs.Common.{◌≡◌, ℕ, ◌≤◌, Bool, List, [], ◌∷◌, ◌++◌, map, refl, sym, ap, ◌∙◌, subst}
 use Rattle.hs_base.specs.Patterns.{Pattern}
-use Rattle.hs_text.specs.declared.reply_lines.Reply.{Reply}
 use Rattle.hs_script.specs.Actions.{Action, name_of}
-use Rattle.hs_script.specs.Machine.{most_streams, Answer, Moves, Machine, start, Steps}
+use Rattle.hs_script.specs.Machine.{most_streams, Answer, Moves, Machine, start}
 use Rattle.hs_script.specs.Runs.{IsRun, none, more, run_text, ending_text, IsRunText}
-use Rattle.hs_script.specs.Laws.{lacks_memory, IsSure, IsThrough}
+use Rattle.hs_script.specs.Laws.{lacks_memory, IsThrough}
 use Rattle.hs_script.proofs.MachineLemmas.{IsSame, sure_moves, moves_bounded, steps_once}
 use Rattle.hs_script.proofs.ScriptLemmas.{script_once}
 

@@ -1,5 +1,5 @@
 -- Bytes are a script in exactly one way.
-use Rattle.std.proofs.Common.{◌≡◌, ◌≢◌, ℕ, zero, suc, ◌+◌, ◌<◌, ◌≤◌, Bool, true, false, eqb, nat_lt, ◌==◌, List, [], ◌∷◌, length, take, drop, Option, None, Some, refl, sym, ap, ◌∙◌, subst, arith, if◌then◌else◌}
+use Rattle.std.proofs.Common.{◌≡◌, ℕ, zero, suc, ◌≤◌, Bool, true, false, nat_lt, ◌==◌, List, [], ◌∷◌, length, take, drop, Option, None, Some, refl, sym, ap, ◌∙◌, subst, arith, if◌then◌else◌}
 use Rattle.std.proofs.lemmas.List.{length-drop}
 use Rattle.hs_base.specs.Assertions.{line_feed}
 use Rattle.hs_text.specs.declared.reply_lines.ScriptFault.{ScriptFault}
@@ -11,7 +11,7 @@ use Rattle.hs_text.proofs.DecisionLemmas.{IsToldCommand, some_command, none_comm
 use Rattle.hs_script.specs.Actions.{Action, Open, Write, Cut, Reset, Close, IsAlone, open_alone, reset_alone, close_alone}
 use Rattle.hs_script.specs.Scripts.{BeginsLine, First, Goes, Ends, behind_payload, written_by, IsFirst, no_command, alone, write, IsScript, nothing, goes, ends}
 use Rattle.hs_script.specs.Laws.{IsSameScript, IsSomeScript}
-use Rattle.hs_script.proofs.LineLemmas.{line_once, no_line, HasLine, has_line}
+use Rattle.hs_script.proofs.LineLemmas.{line_once, no_line, has_line}
 
 same_command : {l m r s bytes : List ℕ} {x y : Order} → BeginsLine l r bytes → BeginsLine m s bytes → IsCommand l x → IsCommand m y → x ≡ y
 same_command {l} {m} {x = x} {y = y} p q c d = command_once l x y c (subst (λ t. IsCommand t y) (sym (line_once p q).left) d)

@@ -1,5 +1,5 @@
 -- What holds of scripts, and of all runs of the machine.
-use Rattle.std.specs.Prelude.{◌≡◌, ◌≢◌, ℕ, ◌+◌, ◌≤◌, ◌↔◌, Bool, true, false, List, [], ◌∷◌, ◌++◌, length, map, bytes_eq, Option, None, Some, if◌then◌else◌}
+use Rattle.std.specs.Prelude.{◌≡◌, ◌≢◌, ℕ, ◌+◌, ◌<◌, ◌≤◌, ◌↔◌, Bool, true, false, List, [], ◌∷◌, ◌++◌, length, map, bytes_eq, Option, None, Some, if◌then◌else◌}
 use Rattle.hs_base.specs.Lists.{Each, IsMember, IsRising}
 use Rattle.hs_base.specs.Patterns.{Pattern}
 use Rattle.hs_text.specs.declared.commands.Verb.TheVariants as verb
@@ -8,8 +8,10 @@ use Rattle.hs_text.specs.declared.reply_lines.Word.TheVariants as word
 use Rattle.hs_text.specs.declared.reply_lines.Reply.{Reply}
 use Rattle.hs_text.specs.declared.reply_lines.Reply.TheVariants.{Done, No}
 use Rattle.hs_text.specs.declared.reply_lines.ScriptFault.{ScriptFault}
-use Rattle.hs_script.specs.Actions.{Action, Write, Reset, Close, name_of}
-use Rattle.hs_script.specs.Scripts.{IsScript}
+use Rattle.hs_text.specs.declared.reply_lines.ScriptFault.TheVariants as fault
+use Rattle.hs_base.specs.Assertions.{line_feed}
+use Rattle.hs_script.specs.Actions.{Action, Write, Cut, Reset, Close, name_of}
+use Rattle.hs_script.specs.Scripts.{IsScript, Goes, Ends, written_by}
 use Rattle.hs_script.specs.Machine.{most_streams, most_bytes, Answer, Moves, Machine, start, Steps}
 use Rattle.hs_script.specs.Runs.{IsRun, run_text, IsRunText}
 
@@ -63,6 +65,20 @@ pub record IsSomeScript (number : ℕ) (bytes : List ℕ) : Type 0 where
 -- Any bytes are a script.
 abbrev pub IsAlwaysScript : Type 0
 IsAlwaysScript = (bytes : List ℕ) → IsSomeScript 1 bytes
+
+-- What a write takes of the bytes behind its line, in the words of the form: its payload and one line feed; the line feed
+-- may be missing at the end of the bytes; any other byte is a fault of this line; and too few bytes cut the write short.
+pub record TakesPayload (number : ℕ) (name payload behind : List ℕ) : Type 0 where
+  pub with_feed : written_by number name (length payload) (payload ++ line_feed ∷ behind) ≡ Goes (Write name payload) behind
+  pub at_end : written_by number name (length payload) payload ≡ Goes (Write name payload) []
+  pub with_other : (b : ℕ) → b ≢ line_feed →
+      written_by number name (length payload) (payload ++ b ∷ behind) ≡ Ends (Write name payload ∷ []) (fault.Script number)
+  pub cut_short : (count : ℕ) → length payload < count →
+      written_by number name count payload ≡ Ends (Cut name count payload ∷ []) (fault.Truncated number)
+
+-- Each write takes its payload so.
+abbrev pub AlwaysTakesPayload : Type 0
+AlwaysTakesPayload = (number : ℕ) (name payload behind : List ℕ) → TakesPayload number name payload behind
 
 -- Two runs over the same bytes that lack memory at the same commands have the same text.
 abbrev pub IsTextOnce : Type 0

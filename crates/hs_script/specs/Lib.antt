@@ -3,3 +3,4 @@ pub mod Scripts
 pub mod Machine
 pub mod Runs
 pub mod Laws
+pub mod Joins

@@ -1,6 +1,7 @@
 //! Laws over the definitions of `specs/`: each is the contract of a function that does nothing.
 
-ghost use Rattle.hs_script.specs.Laws.{IsScriptOnce, IsAlwaysScript, IsTextOnce, IsIsolated, IsComplete, IsBounded, IsCutAnywhere, CountsOpen};
+ghost use Rattle.hs_script.specs.Laws.{IsScriptOnce, IsAlwaysScript, AlwaysTakesPayload, IsTextOnce, IsIsolated, IsComplete, IsBounded, IsCutAnywhere, CountsOpen};
+ghost use Rattle.hs_script.specs.Joins.{RunsGoOn};
 
 /// Bytes are a script in at most one way.
 pub fn script_once()
@@ -10,6 +11,12 @@ pub fn script_once()
 /// Any bytes are a script: whole, or up to its fault.
 pub fn always_script()
     ensures { IsAlwaysScript }
+{}
+
+/// A write takes its payload and one line feed, which may be missing at the end; any other byte there is a fault, and too
+/// few bytes cut the write short.
+pub fn takes_payload()
+    ensures { AlwaysTakesPayload }
 {}
 
 /// Runs over the same bytes that lack memory at the same commands have one text.
@@ -41,4 +48,9 @@ pub fn cut_anywhere()
 /// The count of a machine is the number of its open streams.
 pub fn counts_open()
     ensures { CountsOpen }
+{}
+
+/// A run goes on by any step, and its text grows at its end, by the lines of that step.
+pub fn runs_go_on()
+    ensures { RunsGoOn }
 {}
