@@ -1,8 +1,9 @@
 -- The classes of bytes that have a name or a letter (PCRE pattern syntax, "Generic character types" and "POSIX character
 -- classes").
-use Rattle.std.specs.Prelude.{ℕ, ◌+◌, Bool, true, false, not, ◌==◌, ◌&&◌, ◌||◌, nat_eq, nat_le, nat_lt, Option, Some, None, if◌then◌else◌, List, codes, drop, take, slice_get}
+use Rattle.std.specs.Prelude.{ℕ, ◌+◌, Bool, true, false, not, ◌==◌, ◌&&◌, ◌||◌, nat_eq, nat_le, nat_lt, Option, Some, None, if◌then◌else◌, option_map, List, codes, drop, take, slice_get}
 use Rattle.std.specs.Char.{is_ascii_alphabetic, is_ascii_alphanumeric, is_ascii_lowercase, is_ascii_uppercase}
 use Rattle.std.specs.Int.{is_in_range}
+use Rattle.std.specs.Option.{option_or}
 use Rattle.hs_base.specs.Assertions.{is_word_byte}
 use Rattle.hs_base.specs.ByteSets.{is_digit, is_space}
 use Rattle.hs_syntax.specs.declared.named.Named.{Named}
@@ -45,17 +46,22 @@ named_letter b =
 abbrev pub spells : String → List ℕ → Bool
 spells word bytes = pointwise nat_eq bytes (codes word)
 
--- `[:name:]`; under i the small and the large letters are all letters
-unfoldable pub class_of_name : (caseless : Bool) → List ℕ → Option Named
-class_of_name caseless name =
-    if spells "alpha" name then Some Letter
-    else if spells "lower" name then (if caseless then Some Letter else Some SmallLetter)
-    else if spells "upper" name then (if caseless then Some Letter else Some LargeLetter)
+-- the names that speak of letters and digits
+unfoldable pub letter_class : List ℕ → Option Named
+letter_class name =
+    if spells "xdigit" name then Some HexadecimalDigit
+    else if spells "alpha" name then Some Letter
+    else if spells "lower" name then Some SmallLetter
+    else if spells "upper" name then Some LargeLetter
     else if spells "digit" name then Some Digit
     else if spells "alnum" name then Some LetterOrDigit
-    else if spells "xdigit" name then Some HexadecimalDigit
     else if spells "word" name then Some Word
-    else if spells "space" name then Some Space
+    else None
+
+-- and the others
+unfoldable pub other_class : List ℕ → Option Named
+other_class name =
+    if spells "space" name then Some Space
     else if spells "blank" name then Some Blank
     else if spells "cntrl" name then Some Control
     else if spells "ascii" name then Some Ascii
@@ -63,6 +69,20 @@ class_of_name caseless name =
     else if spells "print" name then Some Printed
     else if spells "punct" name then Some Punctuation
     else None
+
+-- letters of one case
+abbrev pub is_of_one_case : Named → Bool
+is_of_one_case SmallLetter = true
+is_of_one_case LargeLetter = true
+is_of_one_case other = false
+
+-- under i the small and the large letters are all letters
+abbrev pub under_case : (caseless : Bool) → Named → Named
+under_case caseless class = if caseless && is_of_one_case class then Letter else class
+
+-- `[:name:]`
+abbrev pub class_of_name : (caseless : Bool) → List ℕ → Option Named
+class_of_name caseless name = option_map (under_case caseless) (option_or (letter_class name) (other_class name))
 
 -- the byte `]`
 abbrev pub closing_bracket : ℕ

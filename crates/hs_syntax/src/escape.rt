@@ -111,6 +111,7 @@ fn coded(code: u32, length: usize) -> Escape
 /// The character of digits in braces.
 #[tactic(auto, unfolding(crate::specs::Escapes::braced_at))]
 fn braced_at(radix: u32, bytes: &[u8]) -> Escape
+    requires positive { 0 < radix }
     requires base { radix ≤ 16 }
     ensures { result ≡ braced_at radix bytes.now }
 {
@@ -128,6 +129,7 @@ fn braced_at(radix: u32, bytes: &[u8]) -> Escape
 /// The character of up to two digits that stand behind a letter or a `0`.
 #[tactic(auto, unfolding(crate::specs::Escapes::short_at))]
 fn short_at(radix: u32, bytes: &[u8]) -> Escape
+    requires positive { 0 < radix }
     requires base { radix ≤ 16 }
     requires there { 2 ≤ length bytes.now }
     ensures { result ≡ short_at radix bytes.now }

@@ -1,6 +1,6 @@
 //! Classes of bytes that have a name or a letter.
 ghost use Rattle.std.specs.Prelude.{◌≡◌};
-ghost use Rattle.hs_syntax.specs.Names.{is_of, named_letter, class_of_name};
+ghost use Rattle.hs_syntax.specs.Names.{is_of, named_letter, letter_class, other_class, under_case, class_of_name};
 
 /// A class of bytes that has a name or a letter.
 #[derive(Clone, Copy, Debug, PartialEq, Eq)]
@@ -82,19 +82,43 @@ pub(crate) fn named_letter(byte: u8) -> Option<Named>
 }
 
 /// The class of a name between `[:` and `:]`.
-#[tactic(auto, unfolding(crate::specs::Names::class_of_name))]
 pub(crate) fn class_of_name(caseless: bool, name: &[u8]) -> Option<Named>
     ensures { result ≡ class_of_name caseless name.now }
 {
+    if let Some(class) = letter_class(name) {
+        return Some(under_case(caseless, class));
+    }
+    if let Some(class) = other_class(name) {
+        return Some(under_case(caseless, class));
+    }
+    None
+}
+
+/// The class of a name that speaks of letters and digits.
+#[tactic(auto, unfolding(crate::specs::Names::letter_class))]
+fn letter_class(name: &[u8]) -> Option<Named>
+    ensures { result ≡ letter_class name.now }
+{
+    if name == b"xdigit".as_slice() {
+        return Some(Named::HexadecimalDigit);
+    }
     match name {
         b"alpha" => Some(Named::Letter),
-        b"lower" if !caseless => Some(Named::SmallLetter),
-        b"upper" if !caseless => Some(Named::LargeLetter),
-        b"lower" | b"upper" => Some(Named::Letter),
+        b"lower" => Some(Named::SmallLetter),
+        b"upper" => Some(Named::LargeLetter),
         b"digit" => Some(Named::Digit),
         b"alnum" => Some(Named::LetterOrDigit),
-        b"xdigit" => Some(Named::HexadecimalDigit),
         b"word" => Some(Named::Word),
+        _ => None,
+    }
+}
+
+/// The class of another name.
+#[tactic(auto, unfolding(crate::specs::Names::other_class))]
+fn other_class(name: &[u8]) -> Option<Named>
+    ensures { result ≡ other_class name.now }
+{
+    match name {
         b"space" => Some(Named::Space),
         b"blank" => Some(Named::Blank),
         b"cntrl" => Some(Named::Control),
@@ -103,5 +127,16 @@ pub(crate) fn class_of_name(caseless: bool, name: &[u8]) -> Option<Named>
         b"print" => Some(Named::Printed),
         b"punct" => Some(Named::Punctuation),
         _ => None,
+    }
+}
+
+/// The class, all letters in place of those of one case where case has no meaning.
+fn under_case(caseless: bool, class: Named) -> Named
+    ensures { result ≡ under_case caseless class }
+{
+    if caseless && matches!(class, Named::SmallLetter | Named::LargeLetter) {
+        Named::Letter
+    } else {
+        class
     }
 }

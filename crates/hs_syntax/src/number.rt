@@ -1,5 +1,5 @@
 //! Numbers in an expression.
-ghost use Rattle.std.specs.Prelude.{◌≡◌, ◌+◌, ◌*◌, ◌<◌, ◌≤◌, length, drop};
+ghost use Rattle.std.specs.Prelude.{◌≡◌, ◌+◌, ◌*◌, ◌<◌, ◌≤◌, ◌&&◌, nat_lt, length, drop};
 ghost use Rattle.hs_syntax.specs.Numbers.{digit_of, capped, number_at, decimal_at};
 
 /// What digits spell, 4,294,967,295 where that is more, and how many they are.
@@ -38,8 +38,16 @@ fn with_digit(value: u32, radix: u32, digit: u32) -> u32
     }
 }
 
+/// Whether a digit behind so many others is read.
+fn is_more(count: usize, most: usize, digit: u32, radix: u32) -> bool
+    ensures { result ≡ (nat_lt count most && nat_lt digit radix) }
+{
+    count < most && digit < radix
+}
+
 /// The digits from a place on, so many at most.
 pub(crate) fn number_at(radix: u32, most: usize, bytes: &[u8], at: usize) -> Number
+    requires positive { 0 < radix }
     requires base { radix ≤ 16 }
     requires within { at ≤ length bytes.now }
     ensures is { result ≡ number_at radix most bytes.now at }
@@ -50,7 +58,7 @@ pub(crate) fn number_at(radix: u32, most: usize, bytes: &[u8], at: usize) -> Num
     let mut rest = &bytes[at..];
     while let [byte, behind @ ..] = rest {
         let digit = digit_of(*byte);
-        if count == most || digit >= radix {
+        if !is_more(count, most, digit, radix) {
             break;
         }
         value = with_digit(value, radix, digit);
