@@ -1,19 +1,20 @@
 -- What the bytes begin with is some of them.
-use Rattle.std.proofs.Common.{◌≡◌, ℕ, ◌+◌, ◌*◌, ◌<◌, ◌≤◌, Bool, true, false, List, [], ◌∷◌, length, drop, Option, Some, None, IfSome, refl, sym, ap, subst, ◌∙◌, arith}
+use Rattle.std.proofs.Common.{◌≡◌, ℕ, ◌+◌, ◌*◌, ◌<◌, ◌≤◌, inl, inr, Bool, true, false, List, [], ◌∷◌, length, drop, Option, Some, None, IfSome, refl, sym, ap, subst, ◌∙◌, arith}
 use Rattle.std.specs.Prelude.{◌&&◌, ◌||◌, ◌==◌, not, nat_lt, nat_le, is_some, if◌then◌else◌}
 use Rattle.std.specs.List.{slice_get}
 use Rattle.std.specs.Char.{is_ascii_lowercase, is_ascii_alphabetic, is_ascii_uppercase, to_ascii_uppercase}
 use Rattle.std.specs.Int.{is_in_range}
 use Rattle.std.proofs.lemmas.List.{length-drop}
 use Rattle.std.proofs.lemmas.Option.{slice_get_within}
-use Rattle.std.proofs.lemmas.Bool.{ltb-lt}
+use Rattle.std.proofs.lemmas.Bool.{cases_lt, le-ltb}
 use Rattle.hs_base.specs.Assertions.{is_word_byte}
+use Prim.Native.String.{String}
 use Rattle.hs_syntax.specs.declared.mode.Mode.{Mode}
 use Rattle.hs_syntax.specs.declared.mode.Change.{Change}
 use Rattle.hs_syntax.specs.declared.named.Named.{Named}
 use Rattle.hs_syntax.specs.declared.number.Number.{Number}
 use Rattle.hs_syntax.specs.declared.wrong.Wrong.TheVariants as wrong
-use Rattle.hs_syntax.specs.Bytes.{◌∈◌, is_byte, is_one_of, letters_on, word_bytes_on, place_on}
+use Rattle.hs_syntax.specs.Bytes.{◌∈◌, is_byte, is_digit, is_one_of, letters_on, word_bytes_on, place_on}
 use Rattle.hs_syntax.specs.Settings.{is_option, set_option, set_options, change}
 use Rattle.hs_syntax.specs.Numbers.{digit_of, number, number_on, capped, number_at, decimal_at}
 use Rattle.hs_syntax.specs.Names.{closing_bracket, name_end, group_name_end}
@@ -34,6 +35,14 @@ pub both_right : (a b : Bool) → (a && b) ≡ true → b ≡ true
 both_right true b h = h
 both_right false b h = absurd cc
 
+-- a number is less where the test says so
+pub less : (a b : ℕ) → nat_lt a b ≡ true → a < b
+less a b h =
+    elim (cases_lt a b) [
+      | inl below ↦ below
+      | inr above ↦ absurd (let bad : true ≡ false = sym h ∙ le-ltb a b above in cc)
+    ]
+
 -- where a byte is, the bytes go on
 byte_within_of : (bytes : List ℕ) (at b : ℕ) (o : Option ℕ) → slice_get bytes at ≡ o → is_byte b o ≡ true → at < length bytes
 byte_within_of bytes at b None e h = absurd cc
@@ -42,16 +51,12 @@ byte_within_of bytes at b (Some c) e h = slice_get_within bytes at c e
 pub byte_within : (bytes : List ℕ) (at b : ℕ) → is_byte b (slice_get bytes at) ≡ true → at < length bytes
 byte_within bytes at b h = byte_within_of bytes at b (slice_get bytes at) refl h
 
-abbrev pub is_there : Option ℕ → Bool
-is_there None = false
-is_there (Some b) = true
+one_within_of : (set : String) (bytes : List ℕ) (at : ℕ) (o : Option ℕ) → slice_get bytes at ≡ o → is_one_of set o ≡ true → at < length bytes
+one_within_of set bytes at None e h = absurd cc
+one_within_of set bytes at (Some c) e h = slice_get_within bytes at c e
 
-there_within_of : (bytes : List ℕ) (at : ℕ) (o : Option ℕ) → slice_get bytes at ≡ o → is_there o ≡ true → at < length bytes
-there_within_of bytes at None e h = absurd cc
-there_within_of bytes at (Some c) e h = slice_get_within bytes at c e
-
-pub there_within : (bytes : List ℕ) (at : ℕ) → is_there (slice_get bytes at) ≡ true → at < length bytes
-there_within bytes at h = there_within_of bytes at (slice_get bytes at) refl h
+pub is_one_within : (set : String) (bytes : List ℕ) (at : ℕ) → is_one_of set (slice_get bytes at) ≡ true → at < length bytes
+is_one_within set bytes at h = one_within_of set bytes at (slice_get bytes at) refl h
 
 -- so many bytes are behind a place
 pub behind_length : (bytes : List ℕ) (at : ℕ) → at ≤ length bytes → at + length (drop at bytes) ≡ length bytes
@@ -122,7 +127,7 @@ name_within mark bytes at =
     (λ h.
         let marks = both_right (nat_lt at end) _ h in
         let there = byte_within bytes (end + 1) closing_bracket (both_right (is_byte mark (slice_get bytes end)) _ marks) in
-        (ltb-lt at end (both_left (nat_lt at end) _ h), omega (arith, there)))
+        (less at end (both_left (nat_lt at end) _ h), omega (arith, there)))
     (λ h. tt)
   where
     end : ℕ
@@ -131,4 +136,14 @@ name_within mark bytes at =
 -- the name of a group ends within the bytes
 pub group_name_within : (mark : ℕ) (bytes : List ℕ) (at : ℕ) → IfSome (group_name_end mark bytes at) (λ end. (at < end) × (end ≤ length bytes))
 unfolding group_name_end
-group_name_within mark bytes at = ?
+group_name_within mark bytes at =
+    either (λ found. IfSome found (λ end. (at < end) × (end ≤ length bytes))) (nat_lt at end && (nat_le end (at + 32) && (not (is_digit (slice_get bytes at)) && is_byte mark (slice_get bytes end)))) _ _
+    (λ h.
+        let first = less at end (both_left (nat_lt at end) _ h) in
+        let there = byte_within bytes end mark
+        (both_right (not (is_digit (slice_get bytes at))) _ (both_right (nat_le end (at + 32)) _ (both_right (nat_lt at end) _ h))) in
+        (omega (arith, first), omega (arith, there)))
+    (λ h. tt)
+  where
+    end : ℕ
+    end = word_bytes_on at (drop at bytes)

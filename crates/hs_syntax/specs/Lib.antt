@@ -7,3 +7,4 @@ pub mod Groups
 pub mod Quantifiers
 pub mod Pieces
 pub mod Forms
+pub mod Lengths

@@ -3,6 +3,7 @@ ghost use Rattle.std.specs.Prelude.{◌≡◌, ◌≤◌, ◌<◌, length, drop,
 ghost use Rattle.hs_base.specs.Assertions.{line_feed};
 ghost use Rattle.hs_base.specs.ByteSets.{is_space};
 ghost use Rattle.hs_syntax.specs.Bytes.{place_on};
+ghost use Rattle.hs_syntax.specs.Lengths.{FormFits};
 ghost use Rattle.hs_syntax.specs.Escapes.{assertion_letter, construct_letter};
 ghost use Rattle.hs_syntax.specs.Forms.{letter_of, escaped_of, quoted_of, line_of, marked_by, plain_of, bracket_of, start_of, end_of, form_at};
 
@@ -47,8 +48,16 @@ pub enum Form {
 }
 
 /// What the bytes begin with under the options.
-#[tactic(auto, unfolding(crate::specs::Forms::form_at))]
 pub fn form_at(mode: Mode, bytes: &[u8]) -> Form
+    ensures is { result ≡ form_at mode bytes.now }
+    ensures fits { FormFits (length bytes.now) result }
+{
+    form_of(mode, bytes)
+}
+
+/// What the bytes begin with under the options, by the first one.
+#[tactic(auto, unfolding(crate::specs::Forms::form_at))]
+fn form_of(mode: Mode, bytes: &[u8]) -> Form
     ensures { result ≡ form_at mode bytes.now }
 {
     let Some(byte) = bytes.get(0) else {

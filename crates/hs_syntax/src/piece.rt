@@ -1,5 +1,6 @@
 //! What stands in a class.
 ghost use Rattle.std.specs.Prelude.{◌≡◌, ◌≤◌, ◌<◌, ◌+◌, length, slice_get};
+ghost use Rattle.hs_syntax.specs.Lengths.{PieceFits};
 ghost use Rattle.hs_syntax.specs.Names.{name_end};
 ghost use Rattle.hs_syntax.specs.Pieces.{escaped_of, collating_of, posix_at, bracket_at, piece_at};
 
@@ -25,8 +26,16 @@ pub enum Piece {
 }
 
 /// What the bytes begin with in a class, as its first piece or as a later one.
-#[tactic(auto, unfolding(crate::specs::Pieces::piece_at))]
 pub fn piece_at(caseless: bool, first: bool, bytes: &[u8]) -> Piece
+    ensures is { result ≡ piece_at caseless first bytes.now }
+    ensures fits { PieceFits (length bytes.now) result }
+{
+    piece_of(caseless, first, bytes)
+}
+
+/// What the bytes begin with in a class, by the first one.
+#[tactic(auto, unfolding(crate::specs::Pieces::piece_at))]
+fn piece_of(caseless: bool, first: bool, bytes: &[u8]) -> Piece
     ensures { result ≡ piece_at caseless first bytes.now }
 {
     let Some(byte) = bytes.get(0) else {
