@@ -1,5 +1,5 @@
 //! The items of a class.
-ghost use Rattle.std.specs.Prelude.{◌≡◌, ◌+◌, ◌≤◌, length, slice_get};
+ghost use Rattle.std.specs.Prelude.{◌≡◌, ◌+◌, ◌≤◌, if◌then◌else◌, length, slice_get};
 ghost use Rattle.hs_syntax.specs.Bytes.{is_byte};
 ghost use Rattle.hs_parse.specs.Classes.{hyphen, piece_of, range_of, item_at};
 
@@ -67,7 +67,14 @@ pub(crate) fn item_at(text: &[u8], caseless: bool, start: usize, at: usize) -> I
     match piece_of(text, caseless, start, at) {
         Piece::End => Item::End,
         Piece::Close => Item::Close,
-        Piece::Character(code, length) => character_at(text, caseless, start, at, code, at + length),
+        Piece::Character(code, length) => character_at(
+            text,
+            caseless,
+            start,
+            at,
+            code,
+            at + length,
+        ),
         Piece::Class(class, negated, length) => {
             Item::Bytes(Test::Class(class, negated), at + length)
         }
@@ -76,13 +83,20 @@ pub(crate) fn item_at(text: &[u8], caseless: bool, start: usize, at: usize) -> I
 }
 
 /// The item that begins at a place with a character, by the place behind that.
-fn character_at(text: &[u8], caseless: bool, start: usize, at: usize, code: u8, middle: usize) -> Item
+fn character_at(
+    text: &[u8],
+    caseless: bool,
+    start: usize,
+    at: usize,
+    code: u8,
+    middle: usize,
+) -> Item
     requires order { at ≤ middle }
     requires within { middle ≤ length text.now }
     requires short { length text.now ≤ MAX_TEXT_LEN }
     ensures { result ≡ (if is_byte hyphen (slice_get text.now middle)
         then range_of caseless at code middle (piece_of text.now caseless start (middle + 1))
-        else Bytes (Range caseless code code) middle) }
+        else Item.Bytes (Test.Range caseless code code) middle) }
 {
     if !is_hyphen_at(text, middle) {
         return Item::Bytes(Test::Range(caseless, code, code), middle);

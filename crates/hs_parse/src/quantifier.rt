@@ -1,7 +1,7 @@
 //! What may be wrong with a quantifier.
 ghost use Rattle.std.specs.Prelude.{◌≡◌, ◌≤◌, [], MatchOption};
-ghost use Rattle.hs_parse.specs.Faults.{atom, quantifier_faults};
-ghost use Rattle.hs_parse.specs.Reading.{IsLeastOf};
+ghost use Rattle.hs_parse.specs.Faults.{atom, bounds_faults, quantifier_faults};
+ghost use Rattle.hs_parse.specs.Reading.{IsLeastOf, bounds_list};
 
 use crate::parser::MAX_TEXT_LEN;
 use hs_base::{Construct, Refusal};
@@ -31,7 +31,7 @@ pub(crate) fn quantifier_fault(
 /// Why the bounds of a quantifier that begins at a place are refused.
 fn bounds_fault(at: usize, least: u32, greatest: Option<u32>) -> Option<Refusal>
     requires { at ≤ MAX_TEXT_LEN }
-    ensures { IsFaultOfBounds at least greatest result }
+    ensures { bounds_list result ≡ bounds_faults at least greatest }
 {
     if least > MAX_BOUND {
         return Some(Refusal::RepeatLimit(least));

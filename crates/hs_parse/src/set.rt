@@ -23,7 +23,8 @@ impl Test {
     {
         match self {
             Test::Range(caseless, first, last) => {
-                is_between(first, last, byte) || caseless && is_between(first, last, other_case(byte))
+                is_between(first, last, byte)
+                    || caseless && is_between(first, last, other_case(byte))
             }
             Test::Class(class, negated) => class.contains(byte) != negated,
         }

@@ -65,10 +65,20 @@ pub(crate) fn next_token(text: &[u8], from: Spot) -> Found
     loop {
         match made_at(text, start) {
             Made::Token(token, mode, length) => {
-                let behind = Spot { place: start.place + length, mode };
-                return Found { token, start, behind };
+                let behind = Spot {
+                    place: start.place + length,
+                    mode,
+                };
+                return Found {
+                    token,
+                    start,
+                    behind,
+                };
             }
-            Made::Skips(mode, length) => start = Spot { place: start.place + length, mode },
+            Made::Skips(mode, length) => start = Spot {
+                place: start.place + length,
+                mode,
+            },
             Made::Bracket => return bracket_at(text, start),
         }
     }
@@ -123,9 +133,20 @@ fn bracket_at(text: &[u8], start: Spot) -> Found
 {
     match class_at(text, start.mode.caseless, start.place) {
         Ok((set, end)) => {
-            let behind = Spot { place: end, mode: start.mode };
-            Found { token: Token::Single(set), start, behind }
+            let behind = Spot {
+                place: end,
+                mode: start.mode,
+            };
+            Found {
+                token: Token::Single(set),
+                start,
+                behind,
+            }
         }
-        Err(refusal) => Found { token: Token::Refused(refusal), start, behind: start },
+        Err(refusal) => Found {
+            token: Token::Refused(refusal),
+            start,
+            behind: start,
+        },
     }
 }
