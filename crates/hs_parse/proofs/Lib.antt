@@ -1,0 +1,7 @@
+pub mod ItemLemmas
+pub mod ClassLemmas
+pub mod SetLemmas
+pub mod TokenLemmas
+pub mod ReadingLemmas
+pub mod RunLemmas
+pub mod GrammarLemmas

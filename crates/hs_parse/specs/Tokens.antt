@@ -74,10 +74,10 @@ pub data ClassToken (text : List ℕ) (caseless : Bool) (at : ℕ) : Token → �
 
 -- The token that begins at a place, and what is behind it.
 pub data TokenAt (text : List ℕ) (s : Spot) : Token → Spot → Type 0 where
-  plain : {made : Token} {mode : Mode} {length : ℕ} →
+  formed : {made : Token} {mode : Mode} {length : ℕ} →
       made_at text s ≡ token made mode length →
       TokenAt text s made (spot (s.place + length) mode)
-  class : {made : Token} {end : ℕ} →
+  bracketed : {made : Token} {end : ℕ} →
       made_at text s ≡ bracket →
       ClassToken text s.mode.caseless s.place made end →
       TokenAt text s made (spot end s.mode)

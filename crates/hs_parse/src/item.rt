@@ -1,6 +1,7 @@
 //! The items of a class.
-ghost use Rattle.std.specs.Prelude.{◌≡◌, ◌+◌, ◌≤◌, if◌then◌else◌, length, slice_get};
+ghost use Rattle.std.specs.Prelude.{◌≡◌, ◌+◌, ◌-◌, ◌≤◌, if◌then◌else◌, length, slice_get};
 ghost use Rattle.hs_syntax.specs.Bytes.{is_byte};
+ghost use Rattle.hs_syntax.specs.Lengths.{PieceFits};
 ghost use Rattle.hs_parse.specs.Classes.{hyphen, piece_of, range_of, item_at};
 
 use crate::parser::MAX_TEXT_LEN;
@@ -32,29 +33,10 @@ fn is_hyphen_at(text: &[u8], at: usize) -> bool
 /// What stands at a place of the class whose items begin at the start.
 fn piece_of(text: &[u8], caseless: bool, start: usize, at: usize) -> Piece
     requires within { at ≤ length text.now }
-    ensures { result ≡ piece_of text.now caseless start at }
+    ensures is { result ≡ piece_of text.now caseless start at }
+    ensures fits { PieceFits (length text.now - at) result }
 {
     piece_at(caseless, at == start, &text[at..])
-}
-
-/// The item that begins with a character and a hyphen behind it, by the piece behind that.
-fn range_of(caseless: bool, at: usize, code: u8, middle: usize, piece: Piece) -> Item
-    requires short { middle ≤ MAX_TEXT_LEN }
-    requires order { at ≤ middle }
-    ensures { result ≡ range_of caseless at code middle piece }
-{
-    match piece {
-        Piece::End | Piece::Close | Piece::Class(_, _, _) => {
-            Item::Bytes(Test::Range(caseless, code, code), middle)
-        }
-        Piece::Character(last, length) => {
-            if last < code {
-                return Item::Refused(Refusal::Syntax(at as u32));
-            }
-            Item::Bytes(Test::Range(caseless, code, last), middle + 1 + length)
-        }
-        Piece::Refused(reason) => Item::Refused(refusal_at(reason, middle + 1)),
-    }
 }
 
 /// The item at a place of the class whose items begin at the start.
@@ -101,6 +83,16 @@ fn character_at(
     if !is_hyphen_at(text, middle) {
         return Item::Bytes(Test::Range(caseless, code, code), middle);
     }
-    let piece = piece_of(text, caseless, start, middle + 1);
-    range_of(caseless, at, code, middle, piece)
+    match piece_of(text, caseless, start, middle + 1) {
+        Piece::End | Piece::Close | Piece::Class(_, _, _) => {
+            Item::Bytes(Test::Range(caseless, code, code), middle)
+        }
+        Piece::Character(last, length) => {
+            if last < code {
+                return Item::Refused(Refusal::Syntax(at as u32));
+            }
+            Item::Bytes(Test::Range(caseless, code, last), middle + 1 + length)
+        }
+        Piece::Refused(reason) => Item::Refused(refusal_at(reason, middle + 1)),
+    }
 }

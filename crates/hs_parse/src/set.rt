@@ -54,9 +54,9 @@ fn other_case(byte: u8) -> u8
 pub(crate) fn insert_where(set: &mut ByteSet, test: Test)
     ensures { (b : ℕ) → b < 256 → has set.new b ≡ (passes test b || has set.old b) }
 {
-    for byte in 0..=u8::MAX {
-        if test.passes(byte) {
-            set.insert(byte);
+    for byte in 0..256usize {
+        if test.passes(byte as u8) {
+            set.insert(byte as u8);
         }
     }
 }
