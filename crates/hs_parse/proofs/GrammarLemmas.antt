@@ -116,8 +116,8 @@ pub record AreSame (a b : Tree) (t u : Spot) : Type 0 where
   pub end : t ≡ u
 
 -- the trees and the end of two readings are the same
-pub record AreSameRows (as bs : List Tree) (t u : Spot) : Type 0 where
-  pub trees : as ≡ bs
+pub record AreSameRows (xs ys : List Tree) (t u : Spot) : Type 0 where
+  pub trees : xs ≡ ys
   pub end : t ≡ u
 
 pub moved_next : {text : List ℕ} {s r start t : Spot} {a : Token} → s ≡ r → Next text r start a t → Next text s start a t
@@ -142,8 +142,6 @@ same_close : {close other i j : Spot} → close ≡ other → i ≡ j → spot c
 same_close {close = close} {other = other} {i = i} {j = j} e f =
     ap (λ (x : Spot). spot x.place i.mode) e ∙ ap (λ (x : Spot). spot other.place x.mode) f
 
-same_quantifiers : {n k : ℕ} {m l : Option ℕ} {tree : Tree} → quantifier n m false ≡ quantifier k l false → Tree → (n ≡ k) × (m ≡ l)
-same_quantifiers e tree = (cc, cc)
 
 -- each form is read in one way
 mutual
@@ -180,9 +178,9 @@ mutual
       record { tree = let e = marks.token in cc (atoms.tree, e); end = marks.behind }
 
   one_sequence :
-      {text : List ℕ} {depth : ℕ} {s t u : Spot} {as bs : List Tree} →
-      Sequence text depth s as t → EndsSequence text t →
-      Sequence text depth s bs u → EndsSequence text u → AreSameRows as bs t u
+      {text : List ℕ} {depth : ℕ} {s t u : Spot} {xs ys : List Tree} →
+      Sequence text depth s xs t → EndsSequence text t →
+      Sequence text depth s ys u → EndsSequence text u → AreSameRows xs ys t u
   one_sequence nothing end nothing stop = record { trees = refl; end = refl }
   one_sequence nothing end (item_first item row) stop = absurd (no_item end item)
   one_sequence nothing end (setting_first p row) stop = absurd (setting_no_end end p)
@@ -198,9 +196,9 @@ mutual
       one_sequence row end (moved_sequence (one_next p q).behind rest) stop
 
   one_alternation :
-      {text : List ℕ} {depth : ℕ} {s t u : Spot} {as bs : List Tree} →
-      Alternation text depth s as t → EndsGroup text t →
-      Alternation text depth s bs u → EndsGroup text u → AreSameRows as bs t u
+      {text : List ℕ} {depth : ℕ} {s t u : Spot} {xs ys : List Tree} →
+      Alternation text depth s xs t → EndsGroup text t →
+      Alternation text depth s ys u → EndsGroup text u → AreSameRows xs ys t u
   one_alternation (last row) end (last other) stop =
       let same = one_sequence row (with_group end) other (with_group stop) in
       record { trees = ap (λ xs. sequence_tree xs ∷ []) same.trees; end = same.end }

@@ -5,3 +5,7 @@ pub mod TokenLemmas
 pub mod ReadingLemmas
 pub mod RunLemmas
 pub mod GrammarLemmas
+pub mod FaultLemmas
+pub mod PathLemmas
+pub mod StopLemmas
+pub mod LoopLemmas

@@ -44,7 +44,7 @@ bracket_no_skip e f = cc
 pub one_token :
     {text : List ℕ} {s t u : Spot} {a b : Token} →
     TokenAt text s a t → TokenAt text s b u → AreSameTokens a b t u
-one_token {s = s} (formed e) (plain f) =
+one_token {s = s} (formed e) (formed f) =
     let same = same_made e f in record { token = same.token; behind = same_spots s.place same.mode same.length }
 one_token (formed e) (bracketed f there) = absurd (token_no_bracket e f)
 one_token (bracketed f there) (formed e) = absurd (token_no_bracket e f)
