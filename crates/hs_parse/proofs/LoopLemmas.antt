@@ -1,10 +1,11 @@
 -- What the parser's loops keep, and what its functions give.
 use Rattle.std.proofs.Common.{◌≡◌, ◌≢◌, ℕ, ◌+◌, ◌<◌, ◌≤◌, ◌⊎◌, inl, inr, Bool, true, false, List, [], ◌∷◌, ◌++◌, append_assoc, length, map, Option, Result, Ok, Err, IfErr, Box, Global, refl, sym, ap, subst, ◌∙◌, arith}
 use Rattle.std.specs.Result.{IsErr, IsErrAnd}
-use Rattle.std.proofs.lemmas.List.{map_push}
+use Rattle.std.proofs.lemmas.List.{map_push, append_nil}
 use Rattle.hs_base.specs.declared.assertion.Assertion.{Assertion}
 use Rattle.hs_base.specs.declared.byte_set.ByteSet.{ByteSet}
 use Rattle.hs_base.specs.declared.flags.Flags.{Flags}
+use Rattle.hs_base.specs.declared.refusal.Refusal.{Refusal}
 use Rattle.hs_base.specs.declared.refusal.Refusal.TheVariants.{Syntax}
 use Rattle.hs_base.specs.ByteSets.{members}
 use Rattle.hs_base.specs.Trees.{Tree, class, assert, repeat, AreBounds}
@@ -21,12 +22,13 @@ use Rattle.hs_parse.specs.declared.spot.Spot.{Spot}
 use Rattle.hs_parse.specs.Spots.{spot, start_of}
 use Rattle.hs_parse.specs.Tokens.{Token, ending, single, assertion, opening, closing, bar, quantifier, setting, faulty, Next}
 use Rattle.hs_parse.specs.Grammar.{greatest_length, greatest_depth, NoQuantifier, Atom, one_byte, asserted, group, Item, once, repeated, Sequence, nothing, item_first, setting_first, sequence_tree, Alternation, last, alternative_first, alternation_tree, Reads}
-use Rattle.hs_parse.specs.Faults.{Fault, quantifier_faults, atom}
-use Rattle.hs_parse.specs.Reading.{EndsGroup, at_closing, at_ending, EndsSequence, with_group, at_bar, Passes, StopsFrom, plain_token, IsNext, ReadsAtom, ReadsItem, ReadsSequence, ReadsGroup}
+use Rattle.hs_parse.specs.Faults.{Fault, quantifier_faults}
+use Rattle.hs_parse.specs.Faults as faults
+use Rattle.hs_parse.specs.Reading.{EndsGroup, at_closing, at_ending, EndsSequence, with_group, at_bar, Passes, StopsFrom, plain_token, goes_on, IsNext, IsLeastOf, ReadsAtom, ReadsItem, ReadsSequence, ReadsGroup}
 use Rattle.hs_parse.proofs.TokenLemmas.{one_next, next_ending}
 use Rattle.hs_parse.proofs.FaultLemmas.{all_right}
 use Rattle.hs_parse.proofs.GrammarLemmas.{is_quantifier, no_quantifier}
-use Rattle.hs_parse.proofs.StopLemmas.{unclosed_stops, passes_here, passes_then, item_passes, setting_passes, sequence_passes, bar_passes, closing_fault}
+use Rattle.hs_parse.proofs.StopLemmas.{unclosed_stops, wrong_stops, twice_stops, passes_here, passes_then, item_passes, setting_passes, sequence_passes, bar_passes, closing_fault}
 
 -- the next token, by what the parser sees
 pub as_next :
@@ -163,12 +165,21 @@ setting_sequence text depth start at f trees so_far next e =
       within = next.within;
     }
 
--- it takes bytes
+-- how far the next token goes, by what the parser sees
+pub as_rises :
+    {text : List ℕ} {s : Spot} {f : Found} {t : Seen} →
+    IsNext text s f → f.token ≡ t → goes_on (plain_token t) f.start.place f.behind.place
+as_rises {f = f} next e = subst (λ x. goes_on (plain_token x) f.start.place f.behind.place) e next.rises
+
+-- a change of options takes bytes
 pub setting_rises : (text : List ℕ) (at : Spot) (f : Found) → IsNext text at f → f.token ≡ seen.Setting → at.place < f.behind.place
-setting_rises text at f next e = rises f.token next.rises e
-  where
-    rises : (t : Seen) → Rattle.hs_parse.specs.Reading.goes_on (plain_token t) f.start.place f.behind.place → t ≡ seen.Setting → at.place < f.behind.place
-    rises t h same = ?
+setting_rises text at f next e =
+    let rises : f.start.place < f.behind.place = as_rises next e in omega (arith, rises, next.reached)
+
+-- and so does a `|`
+pub bar_rises : (text : List ℕ) (at : Spot) (f : Found) → IsNext text at f → f.token ≡ seen.Bar → at.place < f.behind.place
+bar_rises text at f next e =
+    let rises : f.start.place < f.behind.place = as_rises next e in omega (arith, rises, next.reached)
 
 -- one more alternative, and a `|`
 pub more_alternatives :
@@ -215,25 +226,180 @@ all_alternatives text depth start at end f before after sequence result so_far r
 
 -- a group
 pub group_read :
-    (text : List ℕ) (depth : ℕ) (s last : Spot) (f close : Found) (tree : Tree) →
+    (text : List ℕ) (depth : ℕ) (s end : Spot) (f close : Found) (tree : Tree) →
     depth < greatest_depth → IsNext text s f → f.token ≡ seen.Opening →
-    ReadsGroup text (depth + 1) f.behind tree last → IsNext text last close → close.token ≢ seen.End →
+    ReadsGroup text (depth + 1) f.behind tree end → IsNext text end close → close.token ≢ seen.End →
     ReadsAtom text depth s tree (spot close.behind.place f.start.mode)
-group_read text depth s last f close tree below next opens read ended other =
+group_read text depth s end f close tree below next opens read ended other =
     let closes = group_closes read.ended ended other in
     let there : Next text s f.start opening f.behind = as_next next opens in
+    let rises : f.start.place < f.behind.place = as_rises next opens in
     record {
       whole = subst (λ t. Atom text depth s t (spot close.behind.place f.start.mode)) (sym read.is) (group below there read.whole closes);
-      rises = ?;
+      rises = omega (arith, next.reached, rises, read.rises, ended.reached, ended.forward);
       within = ended.within;
     }
 
 -- a group that the text ends in
 pub group_open :
-    (text : List ℕ) (flags : Flags) (depth : ℕ) (s last : Spot) (f close : Found) (tree : Tree) →
+    (text : List ℕ) (flags : Flags) (depth : ℕ) (s end : Spot) (f close : Found) (tree : Tree) →
     depth < greatest_depth → IsNext text s f → f.token ≡ seen.Opening →
-    ReadsGroup text (depth + 1) f.behind tree last → IsNext text last close → close.token ≡ seen.End →
+    ReadsGroup text (depth + 1) f.behind tree end → IsNext text end close → close.token ≡ seen.End →
     StopsFrom text flags depth s (fault.Refused (Syntax close.start.place))
-group_open text flags depth s last f close tree below next opens read ended is =
-    unclosed_stops text flags depth s f.start f.behind last close.start close.behind read.trees below (as_next next opens) read.whole
+group_open text flags depth s end f close tree below next opens read ended is =
+    unclosed_stops text flags depth s f.start f.behind end close.start close.behind read.trees below (as_next next opens) read.whole
     (as_next ended is)
+
+-- the end of a sequence, as the parser sees it
+pub sequence_ends :
+    (text : List ℕ) (s : Spot) (f : Found) →
+    IsNext text s f → (f.token ≡ seen.End) ⊎ ((f.token ≡ seen.Closing) ⊎ ((f.token ≡ seen.Bar) ⊎ (f.token ≡ seen.Setting))) →
+    f.token ≢ seen.Setting → EndsSequence text s
+sequence_ends text s f next (inl e) other = with_group (at_ending (as_next next e))
+sequence_ends text s f next (inr (inl e)) other = with_group (at_closing (as_next next e))
+sequence_ends text s f next (inr (inr (inl e))) other = at_bar (as_next next e)
+sequence_ends text s f next (inr (inr (inr e))) other = absurd (other e)
+
+-- the tree of a set
+tree-class : (set : ByteSet) → tree_of (Class set) ≡ class (members set)
+tree-class set = ap tree_of (sym (rolls-Class set)) ∙ fold-roll-Expr Tree node_tree (Expr-F.Class set)
+
+-- the tree of an assertion
+tree-assert : (here : Assertion) → tree_of (Assert here) ≡ assert here
+tree-assert here = ap tree_of (sym (rolls-Assert here)) ∙ fold-roll-Expr Tree node_tree (Expr-F.Assert here)
+
+-- the tree of a repeat
+tree-repeat :
+    (body : Box Expr Global) (n : ℕ) (m : Option ℕ) →
+    tree_of (Repeat body n m) ≡ repeat (tree_of body.value) n m
+tree-repeat body n m =
+    ap tree_of (sym (rolls-Repeat body n m)) ∙ fold-roll-Expr Tree node_tree (Expr-F.Repeat body n m)
+
+-- an atom of one byte
+pub single_read :
+    (text : List ℕ) (depth : ℕ) (s : Spot) (f : Found) (set : ByteSet) →
+    IsNext text s f → f.token ≡ seen.Single set → ReadsAtom text depth s (tree_of (Class set)) f.behind
+single_read text depth s f set next e =
+    let there : Next text s f.start (single (members set)) f.behind = as_next next e in
+    let rises : f.start.place < f.behind.place = as_rises next e in
+    record {
+      whole = subst (λ t. Atom text depth s t f.behind) (sym (tree-class set)) (one_byte there);
+      rises = omega (arith, next.reached, rises);
+      within = next.within;
+    }
+
+-- an assertion
+pub assertion_read :
+    (text : List ℕ) (depth : ℕ) (s : Spot) (f : Found) (here : Assertion) →
+    IsNext text s f → f.token ≡ seen.Assert here → ReadsAtom text depth s (tree_of (Assert here)) f.behind
+assertion_read text depth s f here next e =
+    let there : Next text s f.start (assertion here) f.behind = as_next next e in
+    let rises : f.start.place < f.behind.place = as_rises next e in
+    record {
+      whole = subst (λ t. Atom text depth s t f.behind) (sym (tree-assert here)) (asserted there);
+      rises = omega (arith, next.reached, rises);
+      within = next.within;
+    }
+
+-- an item without a quantifier
+pub once_read :
+    (text : List ℕ) (depth : ℕ) (s middle : Spot) (f : Found) (tree : Tree) →
+    ReadsAtom text depth s tree middle → IsNext text middle f → sees_quantifier f.token ≡ false → ReadsItem text depth s tree middle
+once_read text depth s middle f tree read next other =
+    let bare = bare_next next other in
+    record { whole = once read.whole bare; bare = bare; rises = read.rises; within = read.within }
+
+-- an item with one
+pub repeated_read :
+    (text : List ℕ) (depth : ℕ) (s middle : Spot) (f again : Found) (n : ℕ) (m : Option ℕ) (possessive : Bool)
+    (atom : Expr) (body : Box Expr Global) →
+    ReadsAtom text depth s (tree_of atom) middle → IsNext text middle f → f.token ≡ seen.Quantifier n m possessive →
+    quantifier_faults f.start.place n m possessive faults.atom ≡ [] →
+    IsNext text f.behind again → sees_quantifier again.token ≡ false → body.value ≡ atom →
+    ReadsItem text depth s (tree_of (Repeat body n m)) f.behind
+repeated_read text depth s middle f again n m possessive atom body read next e right behind other same =
+    let good = all_right f.start.place n m possessive right in
+    let marks : Next text middle f.start (quantifier n m possessive) f.behind = as_next next e in
+    let mark : Next text middle f.start (quantifier n m false) f.behind =
+    subst (λ b. Next text middle f.start (quantifier n m b) f.behind) good.1 marks in
+    let rises : f.start.place < f.behind.place = as_rises next e in
+    let tree : tree_of (Repeat body n m) ≡ repeat (tree_of atom) n m =
+    tree-repeat body n m ∙ ap (λ x. repeat (tree_of x) n m) same in
+    record {
+      whole = subst (λ t. Item text depth s t f.behind) (sym tree) (repeated read.whole mark good.0);
+      bare = bare_next behind other;
+      rises = omega (arith, read.rises, next.reached, rises);
+      within = next.within;
+    }
+
+-- a quantifier behind it
+pub twice_read :
+    (text : List ℕ) (flags : Flags) (depth : ℕ) (s middle : Spot) (f again : Found) (n k : ℕ) (m l : Option ℕ)
+    (possessive other : Bool) (tree : Tree) →
+    ReadsAtom text depth s tree middle → IsNext text middle f → f.token ≡ seen.Quantifier n m possessive →
+    quantifier_faults f.start.place n m possessive faults.atom ≡ [] →
+    IsNext text f.behind again → again.token ≡ seen.Quantifier k l other →
+    StopsFrom text flags depth s (fault.Refused (Syntax again.start.place))
+twice_read text flags depth s middle f again n k m l possessive other tree read next e right behind is =
+    let good = all_right f.start.place n m possessive right in
+    let marks : Next text middle f.start (quantifier n m possessive) f.behind = as_next next e in
+    let mark : Next text middle f.start (quantifier n m false) f.behind =
+    subst (λ b. Next text middle f.start (quantifier n m b) f.behind) good.1 marks in
+    twice_stops text flags depth s middle f.start f.behind again.start again.behind n k m l other tree read.whole mark good.0
+    (as_next behind is)
+
+-- a quantifier with which something is wrong
+pub wrong_read :
+    (text : List ℕ) (flags : Flags) (depth : ℕ) (s middle : Spot) (f : Found) (n : ℕ) (m : Option ℕ)
+    (possessive : Bool) (tree : Tree) (refusal : Refusal) →
+    ReadsAtom text depth s tree middle → IsNext text middle f → f.token ≡ seen.Quantifier n m possessive →
+    IsLeastOf refusal (quantifier_faults f.start.place n m possessive faults.atom) →
+    StopsFrom text flags depth s (fault.Refused refusal)
+wrong_read text flags depth s middle f n m possessive tree refusal read next e least =
+    wrong_stops text flags depth s middle f.start f.behind n m possessive tree refusal read.whole (as_next next e) least
+
+-- a whole sequence
+pub sequence_read :
+    (text : List ℕ) (depth : ℕ) (start end : Spot) (items : List Expr) (result : Expr) →
+    SequenceRead text depth start (map tree_of items) end → EndsSequence text end →
+    tree_of result ≡ sequence_tree (map tree_of items) → ReadsSequence text depth start (tree_of result) end
+sequence_read text depth start end items result so_far ended same = record {
+  trees = map tree_of items;
+  whole =
+      subst (λ xs. Sequence text depth start xs end) (append_nil (map tree_of items)) (so_far.more [] end nothing);
+  is = same;
+  ended = ended;
+  rises = so_far.rises;
+  within = so_far.within;
+}
+
+-- the whole text
+pub text_read :
+    (text : List ℕ) (flags : Flags) (tree : Tree) (end : Spot) (f : Found) →
+    length text ≤ greatest_length → ReadsGroup text 0 (start_of flags) tree end → IsNext text end f → f.token ≡ seen.End →
+    Reads text flags tree
+text_read text flags tree end f short read next e = record {
+  within = short;
+  trees = read.trees;
+  last = end;
+  whole = read.whole;
+  start = f.start;
+  behind = f.behind;
+  ended = as_next next e;
+  is = read.is;
+}
+
+-- a `)` before its end
+pub text_closed :
+    (text : List ℕ) (flags : Flags) (tree : Tree) (end : Spot) (f : Found) →
+    length text ≤ greatest_length → ReadsGroup text 0 (start_of flags) tree end → IsNext text end f → f.token ≢ seen.End →
+    Fault text flags (Syntax f.start.place)
+text_closed text flags tree end f short read next other =
+    closing_fault text flags end f.start f.behind read.trees short read.whole (group_closes read.ended next other)
+
+-- an error that is handed on
+pub handed_on :
+    {A E : Type 0} (P : E → Type 0) (result : Result A E) (e : E) →
+    IsErr result × IsErrAnd result (λ x. x ≡ e) → P e → IfErr result P
+handed_on P (Ok x) e (told, same) h = tt
+handed_on P (Err x) e (told, same) h = subst P (sym same) h

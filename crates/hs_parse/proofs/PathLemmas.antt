@@ -145,16 +145,16 @@ at_one {r = r} {s = s} (stopped h stop has) (stopped k other there) =
     let same = one_stop stop other in
     record { place = same.place; apart = stop_apart stop r s has (subst (IsOneOf s) (sym same.reasons) there) }
 
-first_number : {at to : ℕ} {r s : Refusal} → at ≡ to → IsFirst at r to s → number_of r ≤ number_of s
-first_number e (inl before) = absurd (omega (arith, e, before))
-first_number e (inr (place, number)) = number
+first_number : (at to : ℕ) (r s : Refusal) → at ≡ to → IsFirst at r to s → number_of r ≤ number_of s
+first_number at to r s e (inl before) = absurd (omega (arith, e, before))
+first_number at to r s e (inr (place, number)) = number
 
 -- a text has one fault at most
 pub one_fault : OneFault
 one_fault text flags refusal other f g =
     let one = at_one f.has g.has in
-    let less = first_number one.place (f.first g.at other g.has) in
-    let more = first_number (sym one.place) (g.first f.at refusal f.has) in
+    let less = first_number _ _ _ _ one.place (f.first g.at other g.has) in
+    let more = first_number _ _ _ _ (sym one.place) (g.first f.at refusal f.has) in
     one.apart (omega (arith, less, more))
 
 -- the refusal of a text that is too long comes first
