@@ -154,16 +154,28 @@ record View (text : List ℕ) (caseless : Bool) (at : ℕ) (made : Token) (end :
 
 view : {text : List ℕ} {caseless : Bool} {at end : ℕ} {made : Token} → ClassToken text caseless at made end → View text caseless at made end
 view {text = text} {at = at} (closed {tests = tests} {close = close} items e) = record {
-  tests = tests; here = close; items = items; stop = ap goes_on e;
-  token-is = ap (token_of text at tests) (sym e); end-is = ap (end_of at close) (sym e);
+  tests = tests;
+  here = close;
+  items = items;
+  stop = ap goes_on e;
+  token-is = ap (token_of text at tests) (sym e);
+  end-is = ap (end_of at close) (sym e);
 }
 view {text = text} {at = at} (unclosed {tests = tests} {end = end} items e) = record {
-  tests = tests; here = end; items = items; stop = ap goes_on e;
-  token-is = ap (token_of text at tests) (sym e); end-is = ap (end_of at end) (sym e);
+  tests = tests;
+  here = end;
+  items = items;
+  stop = ap goes_on e;
+  token-is = ap (token_of text at tests) (sym e);
+  end-is = ap (end_of at end) (sym e);
 }
 view {text = text} {at = at} (refused {tests = tests} {here = here} items e) = record {
-  tests = tests; here = here; items = items; stop = ap goes_on e;
-  token-is = ap (token_of text at tests) (sym e); end-is = ap (end_of at here) (sym e);
+  tests = tests;
+  here = here;
+  items = items;
+  stop = ap goes_on e;
+  token-is = ap (token_of text at tests) (sym e);
+  end-is = ap (end_of at here) (sym e);
 }
 
 -- the token and the end of two readings are the same

@@ -69,17 +69,19 @@ has_least r (s ∷ rs) = lesser (has_least s rs)
         (other : Refusal) → IsOneOf other (r ∷ s ∷ rs) → number_of r ≤ number_of other
     before m h k other (inl e) = let same = ap number_of e in omega (arith, same)
     before m h k other (inr there) = let far = h.least other there in omega (arith, far, k)
+
     behind : (m : Refusal) → IsLeastOf m (s ∷ rs) → number_of m < number_of r →
         (other : Refusal) → IsOneOf other (r ∷ s ∷ rs) → number_of m ≤ number_of other
     behind m h k other (inl e) = let same = ap number_of e in omega (arith, same, k)
     behind m h k other (inr there) = h.least other there
+
     lesser : HasLeast (s ∷ rs) → HasLeast (r ∷ s ∷ rs)
     lesser h =
         elim (cases_lt (number_of h.refusal) (number_of r)) [
           | inl less ↦ record {
-              refusal = h.refusal;
-              least = record { has = inr h.least.has; least = behind h.refusal h.least less };
-            }
+            refusal = h.refusal;
+            least = record { has = inr h.least.has; least = behind h.refusal h.least less };
+          }
           | inr more ↦ record { refusal = r; least = record { has = inl refl; least = before h.refusal h.least more } }
         ]
 
@@ -221,17 +223,20 @@ bounds_right at n (Some m) e =
   where
     last : List Refusal
     last = if nat_lt m n then Syntax at ∷ [] else []
+
     rest : List Refusal
     rest = if nat_lt greatest_bound m then RepeatLimit m ∷ [] else last
+
     ordered : nat_lt greatest_bound n ≡ false → nat_lt greatest_bound m ≡ false → last ≡ [] → AreBounds n (Some m)
     ordered below near f =
         elim (cases_Bool (nat_lt m n)) [
           | inl crossed ↦ absurd (let bad : Syntax at ∷ [] ≡ [] = sym (ap (λ b. if b then Syntax at ∷ [] else []) crossed) ∙ f in cc)
           | inr order ↦ record {
-              least = not_less greatest_bound n below;
-              greatest = (not_less m n order, not_less greatest_bound m near);
-            }
+            least = not_less greatest_bound n below;
+            greatest = (not_less m n order, not_less greatest_bound m near);
+          }
         ]
+
     small : nat_lt greatest_bound n ≡ false → rest ≡ [] → AreBounds n (Some m)
     small below f =
         elim (cases_Bool (nat_lt greatest_bound m)) [
@@ -265,9 +270,11 @@ all_right at n m possessive e = (bounds_right at n m (left_empty (bounds_faults 
     left_empty : (xs ys : List Refusal) → xs ++ ys ≡ [] → xs ≡ []
     left_empty [] ys e = refl
     left_empty (x ∷ xs) ys e = absurd cc
+
     right_empty : (xs ys : List Refusal) → xs ++ ys ≡ [] → ys ≡ []
     right_empty [] ys e = e
     right_empty (x ∷ xs) ys e = absurd cc
+
     by_mark : (b : Bool) → mark_faults at b ≡ [] → b ≡ false
     by_mark true e = absurd cc
     by_mark false e = refl

@@ -142,7 +142,6 @@ same_close : {close other i j : Spot} → close ≡ other → i ≡ j → spot c
 same_close {close = close} {other = other} {i = i} {j = j} e f =
     ap (λ (x : Spot). spot x.place i.mode) e ∙ ap (λ (x : Spot). spot other.place x.mode) f
 
-
 -- each form is read in one way
 mutual
   one_atom :

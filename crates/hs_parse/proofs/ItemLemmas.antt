@@ -48,9 +48,9 @@ item_of_fits text caseless start at piece.Close h fits = omega (arith, fits.with
 item_of_fits text caseless start at (piece.Character code n) h fits =
     either (ItemFits (length text) at) (is_byte hyphen (slice_get text (at + n))) _ _
     (λ e.
-        let there = byte_within text (at + n) hyphen e in
-        range_fits (length text) at code (at + n) caseless (piece_of text caseless start (at + n + 1)) (omega (arith, fits.some)) there
-        (piece_left text caseless start (at + n + 1)))
+    let there = byte_within text (at + n) hyphen e in
+    range_fits (length text) at code (at + n) caseless (piece_of text caseless start (at + n + 1)) (omega (arith, fits.some)) there
+    (piece_left text caseless start (at + n + 1)))
     (λ _. (omega (arith, fits.some), omega (arith, h, fits.within)))
 item_of_fits text caseless start at (piece.Class class negated n) h fits = (omega (arith, fits.some), omega (arith, h, fits.within))
 item_of_fits text caseless start at (piece.Refused reason) h fits = tt

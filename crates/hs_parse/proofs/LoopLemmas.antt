@@ -1,7 +1,7 @@
 -- What the parser's loops keep, and what its functions give.
 use Rattle.std.proofs.Common.{◌≡◌, ◌≢◌, ℕ, ◌+◌, ◌<◌, ◌≤◌, ◌⊎◌, inl, inr, Bool, true, false, List, [], ◌∷◌, ◌++◌, append_assoc, length, map, Option, Result, Ok, Err, IfErr, Box, Global, refl, sym, ap, subst, ◌∙◌, arith}
 use Rattle.std.specs.Result.{IsErr, IsErrAnd}
-use Rattle.std.proofs.lemmas.List.{map_push, append_nil}
+use Rattle.std.proofs.lemmas.List.{map_push, append-nil}
 use Rattle.hs_base.specs.declared.assertion.Assertion.{Assertion}
 use Rattle.hs_base.specs.declared.byte_set.ByteSet.{ByteSet}
 use Rattle.hs_base.specs.declared.flags.Flags.{Flags}
@@ -24,7 +24,7 @@ use Rattle.hs_parse.specs.Tokens.{Token, ending, single, assertion, opening, clo
 use Rattle.hs_parse.specs.Grammar.{greatest_length, greatest_depth, NoQuantifier, Atom, one_byte, asserted, group, Item, once, repeated, Sequence, nothing, item_first, setting_first, sequence_tree, Alternation, last, alternative_first, alternation_tree, Reads}
 use Rattle.hs_parse.specs.Faults.{Fault, quantifier_faults}
 use Rattle.hs_parse.specs.Faults as faults
-use Rattle.hs_parse.specs.Reading.{EndsGroup, at_closing, at_ending, EndsSequence, with_group, at_bar, Passes, StopsFrom, plain_token, goes_on, IsNext, IsLeastOf, ReadsAtom, ReadsItem, ReadsSequence, ReadsGroup}
+use Rattle.hs_parse.specs.Reading.{EndsGroup, at_closing, at_ending, EndsSequence, with_group, at_bar, Passes, StopsFrom, plain_token, sees_quantifier, goes_on, IsNext, IsLeastOf, ReadsAtom, ReadsItem, ReadsSequence, ReadsGroup}
 use Rattle.hs_parse.proofs.TokenLemmas.{one_next, next_ending}
 use Rattle.hs_parse.proofs.FaultLemmas.{all_right}
 use Rattle.hs_parse.proofs.GrammarLemmas.{is_quantifier, no_quantifier}
@@ -36,18 +36,6 @@ pub as_next :
     IsNext text s f → f.token ≡ t → Next text s f.start (plain_token t) f.behind
 as_next {text = text} {s = s} {f = f} next e =
     subst (λ x. Next text s f.start (plain_token x) f.behind) e next.there
-
--- whether the parser sees a quantifier
-abbrev pub sees_quantifier : Seen → Bool
-sees_quantifier seen.End = false
-sees_quantifier (seen.Single set) = false
-sees_quantifier (seen.Assert here) = false
-sees_quantifier seen.Opening = false
-sees_quantifier seen.Closing = false
-sees_quantifier seen.Bar = false
-sees_quantifier (seen.Quantifier least greatest possessive) = true
-sees_quantifier seen.Setting = false
-sees_quantifier (seen.Refused refusal) = false
 
 plain_quantifier : (t : Seen) → is_quantifier (plain_token t) ≡ sees_quantifier t
 plain_quantifier seen.End = refl
@@ -64,7 +52,11 @@ plain_quantifier (seen.Refused refusal) = refl
 pub bare_next : {text : List ℕ} {s : Spot} {f : Found} → IsNext text s f → sees_quantifier f.token ≡ false → NoQuantifier text s
 bare_next {f = f} next h =
     no_quantifier (record {
-      made = plain_token f.token; start = f.start; behind = f.behind; there = next.there; told = plain_quantifier f.token ∙ h;
+      made = plain_token f.token;
+      start = f.start;
+      behind = f.behind;
+      there = next.there;
+      told = plain_quantifier f.token ∙ h;
     })
 
 -- a sequence that ends at no `|` ends its group
@@ -366,7 +358,7 @@ pub sequence_read :
 sequence_read text depth start end items result so_far ended same = record {
   trees = map tree_of items;
   whole =
-      subst (λ xs. Sequence text depth start xs end) (append_nil (map tree_of items)) (so_far.more [] end nothing);
+      subst (λ xs. Sequence text depth start xs end) (append-nil (map tree_of items)) (so_far.more [] end nothing);
   is = same;
   ended = ended;
   rises = so_far.rises;

@@ -220,8 +220,8 @@ next_fuel zero text s h k =
 next_fuel (suc fuel) text s h k =
     next_made text s (made_at text s) refl
     (λ mode n e.
-        let skip = skip_takes text s mode n h e in
-        next_fuel fuel text (spot (s.place + n) mode) skip.within (omega (arith, skip.rises, k)))
+    let skip = skip_takes text s mode n h e in
+    next_fuel fuel text (spot (s.place + n) mode) skip.within (omega (arith, skip.rises, k)))
 
 pub next_read : (text : List ℕ) (s : Spot) → s.place ≤ length text → NextRead text s
 next_read text s h = next_fuel (length text) text s h (omega arith)

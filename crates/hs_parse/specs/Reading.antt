@@ -1,5 +1,5 @@
 -- What the functions of the parser find out on their way.
-use Rattle.std.specs.Prelude.{◌≡◌, ℕ, ◌+◌, ◌<◌, ◌≤◌, ◌⊎◌, Bool, Option, Some, None, List, [], ◌∷◌, length, Result, Ok, Err}
+use Rattle.std.specs.Prelude.{◌≡◌, ℕ, ◌+◌, ◌<◌, ◌≤◌, ◌⊎◌, Bool, true, false, Option, Some, None, List, [], ◌∷◌, length, Result, Ok, Err}
 use Rattle.std.specs.List.{list_any}
 use Rattle.hs_base.specs.declared.byte_set.ByteSet.{ByteSet}
 use Rattle.hs_base.specs.declared.flags.Flags.{Flags}
@@ -54,6 +54,18 @@ plain_token seen.Bar = bar
 plain_token (seen.Quantifier least greatest possessive) = quantifier least greatest possessive
 plain_token seen.Setting = setting
 plain_token (seen.Refused refusal) = faulty refusal
+
+-- whether the parser sees a quantifier
+abbrev pub sees_quantifier : Seen → Bool
+sees_quantifier seen.End = false
+sees_quantifier (seen.Single set) = false
+sees_quantifier (seen.Assert here) = false
+sees_quantifier seen.Opening = false
+sees_quantifier seen.Closing = false
+sees_quantifier seen.Bar = false
+sees_quantifier (seen.Quantifier least greatest possessive) = true
+sees_quantifier seen.Setting = false
+sees_quantifier (seen.Refused refusal) = false
 
 -- what a form makes, as the parser sees it
 abbrev pub plain_made : SeenMade → Made

@@ -38,7 +38,7 @@ pub fn parse(alloc: Global, text: &[u8], flags: Flags) -> Result<Expr, ParseFaul
     };
     let (expr, end) = alternation_at(alloc, text, flags, 0, start)?;
     let found = next_token(text, end);
-    if !matches!(found.token, Token::End) {
+    if !found.token.is_end() {
         return Err(ParseFault::Refused(Refusal::Syntax(found.start.place as u32)));
     }
     Ok(expr)
@@ -65,7 +65,7 @@ fn alternation_at(
         let (sequence, end) = sequence_at(alloc, text, flags, depth, at)?;
         alternatives.push(sequence)?;
         let found = next_token(text, end);
-        if !matches!(found.token, Token::Bar) {
+        if !found.token.is_bar() {
             return Ok((alternation_of(alternatives), end));
         }
         at = found.behind;
@@ -91,7 +91,7 @@ fn sequence_at(
     let mut at = start;
     loop {
         let found = next_token(text, at);
-        if matches!(found.token, Token::Setting) {
+        if found.token.is_setting() {
             at = found.behind;
             continue;
         }
@@ -126,14 +126,14 @@ fn item_at(
         return Ok(None);
     };
     let next = next_token(text, middle);
-    let Token::Quantifier(least, greatest, possessive) = next.token else {
+    let Some((least, greatest, possessive)) = next.token.quantifier() else {
         return Ok(Some((atom, middle)));
     };
     if let Some(refusal) = quantifier_fault(next.start.place, least, greatest, possessive) {
         return Err(ParseFault::Refused(refusal));
     }
     let behind = next_token(text, next.behind);
-    if let Token::Quantifier(_, _, _) = behind.token {
+    if behind.token.quantifier().is_some() {
         return Err(ParseFault::Refused(Refusal::Syntax(behind.start.place as u32)));
     }
     let body = Box::new(alloc, atom)?;
@@ -193,7 +193,7 @@ fn group_at(
     }
     let (body, last) = alternation_at(alloc, text, flags, depth + 1, found.behind)?;
     let close = next_token(text, last);
-    if matches!(close.token, Token::End) {
+    if close.token.is_end() {
         return Err(ParseFault::Refused(Refusal::Syntax(close.start.place as u32)));
     }
     let behind = Spot {

@@ -1,7 +1,7 @@
 //! The tokens of an expression.
-ghost use Rattle.std.specs.Prelude.{◌≡◌, ◌+◌, ◌<◌, ◌≤◌, length};
-ghost use Rattle.hs_parse.specs.Tokens.{Next, made_by, made_at, bracket};
-ghost use Rattle.hs_parse.specs.Reading.{plain_token, plain_made, IsNext};
+ghost use Rattle.std.specs.Prelude.{◌≡◌, ◌<◌, ◌≤◌, false, length, MatchBool, MatchOption};
+ghost use Rattle.hs_parse.specs.Tokens.{made_by, made_at, bracket};
+ghost use Rattle.hs_parse.specs.Reading.{plain_made, sees_quantifier, IsNext};
 
 use crate::class::class_at;
 use crate::parser::MAX_TEXT_LEN;
@@ -31,6 +31,48 @@ pub(crate) enum Token {
     Setting,
     /// A form that is refused.
     Refused(Refusal),
+}
+
+impl Token {
+    /// Whether the text ends.
+    pub(crate) fn is_end(self) -> bool
+        ensures { MatchBool result (self ≡ Token.End) (self ≡ Token.End → ⊥) }
+    {
+        matches!(self, Token::End)
+    }
+
+    /// Whether it is a `|`.
+    pub(crate) fn is_bar(self) -> bool
+        ensures { MatchBool result (self ≡ Token.Bar) (self ≡ Token.Bar → ⊥) }
+    {
+        matches!(self, Token::Bar)
+    }
+
+    /// Whether it changes options.
+    pub(crate) fn is_setting(self) -> bool
+        ensures { MatchBool result (self ≡ Token.Setting) (self ≡ Token.Setting → ⊥) }
+    {
+        matches!(self, Token::Setting)
+    }
+
+    /// The bounds of a quantifier, and whether it is possessive; `None` where it is none.
+    pub(crate) fn quantifier(self) -> Option<(u32, Option<u32>, bool)>
+        ensures { MatchOption result
+            (sees_quantifier self ≡ false)
+            (λ quantifier. self ≡ Token.Quantifier quantifier.0 quantifier.1 quantifier.2) }
+    {
+        match self {
+            Token::Quantifier(least, greatest, possessive) => Some((least, greatest, possessive)),
+            Token::End
+            | Token::Single(_)
+            | Token::Assert(_)
+            | Token::Opening
+            | Token::Closing
+            | Token::Bar
+            | Token::Setting
+            | Token::Refused(_) => None,
+        }
+    }
 }
 
 /// A token, where it begins, and what is behind it.
