@@ -9,3 +9,4 @@ pub mod FaultLemmas
 pub mod PathLemmas
 pub mod StopLemmas
 pub mod LoopLemmas
+pub mod TotalLemmas

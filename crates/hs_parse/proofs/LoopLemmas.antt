@@ -324,21 +324,40 @@ repeated_read text depth s middle f again n m possessive atom body read next e r
       within = next.within;
     }
 
+-- the quantifier that the parser sees
+record QuantifierSeen (t : Seen) : Type 0 where
+  pub least : ℕ
+  pub greatest : Option ℕ
+  pub possessive : Bool
+  pub is : t ≡ seen.Quantifier least greatest possessive
+
+quantifier_seen : (t : Seen) → sees_quantifier t ≡ true → QuantifierSeen t
+quantifier_seen seen.End e = absurd cc
+quantifier_seen (seen.Single set) e = absurd cc
+quantifier_seen (seen.Assert here) e = absurd cc
+quantifier_seen seen.Opening e = absurd cc
+quantifier_seen seen.Closing e = absurd cc
+quantifier_seen seen.Bar e = absurd cc
+quantifier_seen (seen.Quantifier least greatest possessive) e = record { least = _; greatest = _; possessive = _; is = refl }
+quantifier_seen seen.Setting e = absurd cc
+quantifier_seen (seen.Refused refusal) e = absurd cc
+
 -- a quantifier behind it
 pub twice_read :
-    (text : List ℕ) (flags : Flags) (depth : ℕ) (s middle : Spot) (f again : Found) (n k : ℕ) (m l : Option ℕ)
-    (possessive other : Bool) (tree : Tree) →
+    (text : List ℕ) (flags : Flags) (depth : ℕ) (s middle : Spot) (f again : Found) (n : ℕ) (m : Option ℕ)
+    (possessive : Bool) (tree : Tree) →
     ReadsAtom text depth s tree middle → IsNext text middle f → f.token ≡ seen.Quantifier n m possessive →
     quantifier_faults f.start.place n m possessive faults.atom ≡ [] →
-    IsNext text f.behind again → again.token ≡ seen.Quantifier k l other →
+    IsNext text f.behind again → sees_quantifier again.token ≡ true →
     StopsFrom text flags depth s (fault.Refused (Syntax again.start.place))
-twice_read text flags depth s middle f again n k m l possessive other tree read next e right behind is =
+twice_read text flags depth s middle f again n m possessive tree read next e right behind is =
     let good = all_right f.start.place n m possessive right in
     let marks : Next text middle f.start (quantifier n m possessive) f.behind = as_next next e in
     let mark : Next text middle f.start (quantifier n m false) f.behind =
     subst (λ b. Next text middle f.start (quantifier n m b) f.behind) good.1 marks in
-    twice_stops text flags depth s middle f.start f.behind again.start again.behind n k m l other tree read.whole mark good.0
-    (as_next behind is)
+    let other = quantifier_seen again.token is in
+    twice_stops text flags depth s middle f.start f.behind again.start again.behind n other.least m other.greatest other.possessive
+    tree read.whole mark good.0 (as_next behind other.is)
 
 -- a quantifier with which something is wrong
 pub wrong_read :

@@ -133,7 +133,7 @@ fn item_at(
         return Err(ParseFault::Refused(refusal));
     }
     let behind = next_token(text, next.behind);
-    if behind.token.quantifier().is_some() {
+    if behind.token.is_quantifier() {
         return Err(ParseFault::Refused(Refusal::Syntax(behind.start.place as u32)));
     }
     let body = Box::new(alloc, atom)?;

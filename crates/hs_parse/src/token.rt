@@ -55,6 +55,13 @@ impl Token {
         matches!(self, Token::Setting)
     }
 
+    /// Whether it is a quantifier.
+    pub(crate) fn is_quantifier(self) -> bool
+        ensures { result ≡ sees_quantifier self }
+    {
+        matches!(self, Token::Quantifier(_, _, _))
+    }
+
     /// The bounds of a quantifier, and whether it is possessive; `None` where it is none.
     pub(crate) fn quantifier(self) -> Option<(u32, Option<u32>, bool)>
         ensures { MatchOption result

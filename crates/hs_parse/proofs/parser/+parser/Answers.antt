@@ -1,4 +1,4 @@
-use Rattle.std.proofs.Common.{arith}
+use Rattle.std.proofs.Common.{sym, ◌∙◌, arith}
 use Rattle.hs_parse.specs.Reading.{StopsFrom}
 use Rattle.hs_parse.proofs.StopLemmas.{faulty_stops, depth_stops, group_stops, quantifier_stops, passes_stops}
 use Rattle.hs_parse.proofs.LoopLemmas.{as_next, setting_rises, bar_rises, no_alternatives, no_sequence, more_sequence, setting_sequence, more_alternatives, all_alternatives, group_read, group_open, sequence_ends, single_read, assertion_read, once_read, repeated_read, twice_read, wrong_read, sequence_read, handed_on}
@@ -73,3 +73,43 @@ pub sequence_at-returns-in_err-item-clause-refused : goal.sequence_at-returns-in
 sequence_at-returns-in_err-item-clause-refused t c =
     handed_on (StopsFrom c.args.text.now c.args.flags c.args.depth c.args.start) c.from_residual.result _ c.from_residual.ensures
     (passes_stops _ _ _ _ _ _ c.loop-at.invariant.passes c.in_err-item.ensures.refused)
+
+pub item_at-returns-in_default-quantifier-clause-read : goal.item_at-returns-in_default-quantifier-clause-read
+item_at-returns-in_default-quantifier-clause-read t c =
+    let atom = rw c.in-Some.is at c.in_ok-atom.ensures.read in
+    once_read _ _ _ _ c.next_token-next.result _ atom c.next_token-next.ensures c.in_default-quantifier.ensures
+
+pub item_at-returns-in-Some-quantifier_fault-clause-refused : goal.item_at-returns-in-Some-quantifier_fault-clause-refused
+item_at-returns-in-Some-quantifier_fault-clause-refused t c =
+    let atom = rw c.in-Some.is at c.in_ok-atom.ensures.read in
+    wrong_read _ _ _ _ _ c.next_token-next.result _ _ _ _ _ atom c.next_token-next.ensures c.in-Some-quantifier.ensures
+    c.in-Some-quantifier_fault.ensures
+
+pub item_at-returns-then-is_quantifier-clause-refused : goal.item_at-returns-then-is_quantifier-clause-refused
+item_at-returns-then-is_quantifier-clause-refused t c =
+    let atom = rw c.in-Some.is at c.in_ok-atom.ensures.read in
+    twice_read _ _ _ _ _ c.next_token-next.result c.next_token-behind.result _ _ _ _ atom c.next_token-next.ensures
+    c.in-Some-quantifier.ensures c.in_default-quantifier_fault.ensures c.next_token-behind.ensures
+    (sym c.is_quantifier.ensures ∙ c.if-is_quantifier.true)
+
+pub item_at-returns-clause-read : goal.item_at-returns-clause-read
+item_at-returns-clause-read t c =
+    let atom = rw c.in-Some.is at c.in_ok-atom.ensures.read in
+    repeated_read _ _ _ _ c.next_token-next.result c.next_token-behind.result _ _ _ c.in-Some.atom c.in_ok-body.body atom
+    c.next_token-next.ensures c.in-Some-quantifier.ensures c.in_default-quantifier_fault.ensures c.next_token-behind.ensures
+    (sym c.is_quantifier.ensures ∙ c.if-is_quantifier.false) c.in_ok-body.ensures.ok
+
+pub sequence_at-loop-at-preserved-then-is_setting : goal.sequence_at-loop-at-preserved-then-is_setting
+sequence_at-loop-at-preserved-then-is_setting t c =
+    setting_sequence _ _ _ _ c.next_token-found.result _ c.loop-at.invariant c.next_token-found.ensures c.if-is_setting.ensures
+
+pub sequence_at-returns-in_default-clause-read : goal.sequence_at-returns-in_default-clause-read
+sequence_at-returns-in_default-clause-read t c =
+    let ended = rw c.in_default.is at c.in_ok-item.ensures.read in
+    sequence_read _ _ _ _ c.loop-at.items.items c.sequence_of.result c.loop-at.invariant ended c.sequence_of.ensures
+
+pub sequence_at-loop-at-preserved : goal.sequence_at-loop-at-preserved
+sequence_at-loop-at-preserved t c =
+    let item = rw c.in-Some.is at c.in_ok-item.ensures.read in
+    more_sequence _ _ _ _ _ c.loop-at.items.items c.push.new.self.items c.in-Some.item c.loop-at.invariant item
+    c.in_ok-push.ensures.items
