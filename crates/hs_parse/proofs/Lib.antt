@@ -10,3 +10,5 @@ pub mod PathLemmas
 pub mod StopLemmas
 pub mod LoopLemmas
 pub mod TotalLemmas
+pub mod PlainLemmas
+pub mod NumberLemmas

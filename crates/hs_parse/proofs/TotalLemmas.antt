@@ -14,7 +14,7 @@ use Rattle.hs_parse.specs.Grammar.{greatest_length, greatest_depth, NoQuantifier
 use Rattle.hs_parse.specs.Faults.{quantifier_faults, atom}
 use Rattle.hs_parse.specs.Reading.{EndsGroup, at_closing, at_ending, IsLeastOf, StopsFrom}
 use Rattle.hs_parse.specs.Laws.{Outcome, read, refused, AlwaysOne}
-use Rattle.hs_parse.proofs.TokenLemmas.{next_takes, next_read, NextRead}
+use Rattle.hs_parse.proofs.TokenLemmas.{NextTakes, next_takes, next_read, NextRead}
 use Rattle.hs_parse.proofs.FaultLemmas.{has_least, all_right}
 use Rattle.hs_parse.proofs.GrammarLemmas.{is_quantifier, no_quantifier}
 use Rattle.hs_parse.proofs.PathLemmas.{long_fault}
@@ -122,10 +122,12 @@ behind_quantifier :
 behind_quantifier text flags depth s middle start t tree n m deep later a q bounds =
     by_next (next_read text t takes.within)
   where
-    takes : _
+    takes : NextTakes text (quantifier n m false) middle.place start.place t.place
     takes = next_takes a.far.within q
+
     far : IsFurther text s t
     far = record { rises = omega (arith, a.far.rises, takes.reached, takes.forward); within = takes.within }
+
     by_next : NextRead text t → Way text flags depth s
     by_next next =
         elim (cases_Bool (is_quantifier next.made)) [

@@ -10,7 +10,6 @@ use crate::spot::Spot;
 use crate::token::{Found, Token, next_token};
 use hs_base::{Flags, Refusal};
 use hs_expr::Expr;
-use hs_syntax::Mode;
 use std::alloc::Global;
 
 /// The greatest length of an expression's text, in bytes.
@@ -32,11 +31,7 @@ pub fn parse(alloc: Global, text: &[u8], flags: Flags) -> Result<Expr, ParseFaul
     if text.len() > MAX_TEXT_LEN {
         return Err(ParseFault::Refused(Refusal::LengthLimit));
     }
-    let start = Spot {
-        place: 0,
-        mode: Mode::of(flags),
-    };
-    let (expr, end) = alternation_at(alloc, text, flags, 0, start)?;
+    let (expr, end) = alternation_at(alloc, text, flags, 0, Spot::of(flags))?;
     let found = next_token(text, end);
     if !found.token.is_end() {
         return Err(ParseFault::Refused(Refusal::Syntax(found.start.place as u32)));

@@ -1,9 +1,9 @@
 //! Where the reading of an expression is.
 ghost use Rattle.std.specs.Prelude.{◌≡◌, ◌≤◌, ◌+◌};
-ghost use Rattle.hs_parse.specs.Spots.{refusal_at};
+ghost use Rattle.hs_parse.specs.Spots.{start_of, refusal_at};
 
 use crate::parser::MAX_TEXT_LEN;
-use hs_base::Refusal;
+use hs_base::{Flags, Refusal};
 use hs_syntax::{Mode, Wrong};
 
 /// A place of an expression, an offset in bytes, and the options in force there.
@@ -13,6 +13,18 @@ pub(crate) struct Spot {
     pub(crate) place: usize,
     /// The options.
     pub(crate) mode: Mode,
+}
+
+impl Spot {
+    /// Where an expression with the flags begins.
+    pub(crate) fn of(flags: Flags) -> Spot
+        ensures { result ≡ start_of flags }
+    {
+        Spot {
+            place: 0,
+            mode: Mode::of(flags),
+        }
+    }
 }
 
 /// The refusal of a form that begins at a place.
