@@ -10,17 +10,17 @@ use Rattle.hs_outside.specs.Sink.{Took, TookPrefix}
 use Rattle.hs_outside.specs.Store.{Told, holds, Begins, IsFile}
 use Rattle.hs_outside.proofs.Sending.{Took-append, TookPrefix-after, TookPrefix-longer}
 use Rattle.hs_base.specs.Entries.{ListedEntry}
-use Rattle.hs_tool.specs.Passing.{Passes}
-use Rattle.hs_tool.specs.Scanning.{Interrupts, Moves, AreReportsOf, IsScanned, IsScannedTo, IsFileScanned, IsFilePartlyScanned, IsEnded, IsEndCutShort, IsClosed, IsPartlyClosed}
+use Rattle.hs_scan.proofs.CloseLemmas.{behind}
+use Rattle.hs_scan.specs.Scanning.{Interrupts, Moves, AreReportsOf, IsScanned, IsScannedTo, IsFileScanned, IsFilePartlyScanned, IsEnded, IsEndCutShort, IsClosed, IsPartlyClosed}
 use Rattle.hs_tool.specs.Causes.{Cause, write, memory}
 use Rattle.hs_tool.specs.Commands.{ListKind}
 use Rattle.hs_tool.specs.Answers
 use Rattle.hs_tool.specs.Answers.{Outside, NoFault, TookNothing, HasList, HasWritten, HasBegun, StopsEarly, ScanEnds, no_memory}
 use Rattle.hs_tool.specs.Loading.{IsLoaded, StopsScan, entries_of}
 use Rattle.hs_tool.specs.declared.load.Loaded.{Loaded}
-use Rattle.hs_tool.specs.declared.scan.ScanFault.{ScanFault}
-use Rattle.hs_tool.specs.declared.scan.ScanFault.TheVariants.{Absent, Store, Write, Limit}
-use Rattle.hs_tool.proofs.PassLemmas.{lines-join}
+use Rattle.hs_scan.specs.declared.scan.ScanFault.{ScanFault}
+use Rattle.hs_scan.specs.declared.scan.ScanFault.TheVariants.{Absent, Store, Write, Limit}
+use Rattle.hs_scan.proofs.PassLemmas.{lines-join}
 
 -- ---- the text of a match
 
@@ -59,49 +59,9 @@ nothing_before (x ∷ xs) ys e = absurd (omega (arith, ap length e))
 file-told : (told : Told) (bytes other : List ℕ) → told ≡ holds other → IsFile told bytes → other ≡ bytes
 file-told told bytes other same file = subst (λ t. IsFile t bytes) same file
 
--- what was written of some lines, and then what waited and more
-behind : (written waits lines more : List ℕ) → written ++ waits ≡ lines → written ++ (waits ++ more) ≡ lines ++ more
-behind written waits lines more whole = sym (append_assoc written waits more) ∙ ap (λ x. x ++ more) whole
-
 -- ---- a stream that stands behind a file
 
 module _ {A : Type 0} (Stands : List Pattern → List ℕ → A → Type 0) where
-  -- the last lines were written
-  pub ended-closed : (now : A) (count : ℕ) (p q r : Option (List ℕ)) (waited waits : List ℕ) → IsEnded Stands now p q waited waits → Took q r (waits ++ end_line count) → IsClosed Stands now count p r waited
-  ended-closed now count p q r waited waits ended taken = record {
-    reports = ended.reports;
-    last = ended.last;
-    written =
-        subst (λ text. Took p r text)
-        (behind ended.passes.written waits (waited ++ report_lines ended.reports) (end_line count) ended.passes.whole ∙ append_assoc waited (report_lines ended.reports) (end_line count))
-        (Took-append p q r ended.passes.written (waits ++ end_line count) ended.passes.taken taken);
-  }
-
-  -- the sink failed when the last lines were written
-  pub ended-partly : (now : A) (count : ℕ) (p q r : Option (List ℕ)) (waited waits : List ℕ) → IsEnded Stands now p q waited waits → TookPrefix q r (waits ++ end_line count) → IsPartlyClosed Stands now count p r waited
-  ended-partly now count p q r waited waits ended cut = record {
-    reports = ended.reports;
-    last = ended.last;
-    written =
-        subst (λ text. TookPrefix p r text)
-        (behind ended.passes.written waits (waited ++ report_lines ended.reports) (end_line count) ended.passes.whole ∙ append_assoc waited (report_lines ended.reports) (end_line count))
-        (TookPrefix-after p q r ended.passes.written (waits ++ end_line count) ended.passes.taken cut);
-  }
-
-  pub cut-partly : (now : A) (count : ℕ) (p r : Option (List ℕ)) (waited : List ℕ) → IsEndCutShort Stands now p r waited → IsPartlyClosed Stands now count p r waited
-  cut-partly now count p r waited cut = record {
-    reports = cut.reports;
-    last = cut.last;
-    written =
-        subst (λ text. TookPrefix p r text) (append_assoc waited (report_lines cut.reports) (end_line count))
-        (TookPrefix-longer p r (waited ++ report_lines cut.reports) (end_line count) cut.passes);
-  }
-
-  -- what came of it
-  pub close-result : {T E : Type 0} (result : Result T E) (now : A) (count : ℕ) (p q r : Option (List ℕ)) (waited waits : List ℕ) → IsEnded Stands now p q waited waits → OnOk result (Took q r (waits ++ end_line count)) → OnErr result (TookPrefix q r (waits ++ end_line count)) → MatchResult result (λ x. IsClosed Stands now count p r waited) (λ e. IsPartlyClosed Stands now count p r waited)
-  close-result (Ok x) now count p q r waited waits ended taken cut = ended-closed now count p q r waited waits ended taken
-  close-result (Err e) now count p q r waited waits ended taken cut = ended-partly now count p q r waited waits ended cut
-
   -- nothing is written before a byte was scanned
   pub nothing-scanned : (told : Told) (P : List Pattern) (a b : A) (p q : Option (List ℕ)) (waits : List ℕ) → Stands P [] a → IsScannedTo Stands told a b 0 p q [] waits → Took p q []
   nothing-scanned told P a b p q waits stands so_far =

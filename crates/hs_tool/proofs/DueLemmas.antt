@@ -7,7 +7,7 @@ use Rattle.hs_outside.specs.Store.{Told, lacks, holds, IsFile, IsMissing, IsLong
 use Rattle.hs_request.specs.Requests.{Request, match_file, check_list, compile_list, tell_database, scan_file}
 use Rattle.hs_tool.specs.Commands.{ListKind, pattern_file, database_file, list_kind, list_name, scanned_name}
 use Rattle.hs_tool.specs.Accepting.{IsAccepted, IsRefused}
-use Rattle.hs_tool.specs.Scanning.{greatest_offset}
+use Rattle.hs_scan.specs.Scanning.{greatest_offset}
 use Rattle.hs_tool.specs.Causes.{Cause, usage, absent, limit, memory}
 use Rattle.hs_tool.specs.Answers
 use Rattle.hs_tool.specs.Answers.{greatest_list, Outside, HasList, HasRefusedList, HasWritten, StopsList, ScanEnds, TellEnds, CompileEnds, UsageEnds, Ends, IsListDue, TellsList, IsDue, IsDueOutcome}

@@ -13,8 +13,8 @@ use Rattle.hs_dbfile.specs.Files.{IsDatabaseFile}
 use Rattle.hs_request.specs.Requests.{Request, match_file, check_list, compile_list, tell_database, scan_file}
 use Rattle.hs_tool.specs.Commands.{ListKind, pattern_file, database_file, list_kind, list_name, scanned_name}
 use Rattle.hs_tool.specs.Accepting.{IsAccepted, IsRefused}
-use Rattle.hs_tool.specs.Scanning.{greatest_offset}
-use Rattle.hs_tool.specs.Causes.{Cause, usage, refused, write, store, absent, limit, memory, status_of, line_of}
+use Rattle.hs_scan.specs.Scanning.{greatest_offset}
+use Rattle.hs_tool.specs.Causes.{Cause, usage, write, store, absent, limit, memory, status_of, line_of}
 
 -- the greatest length of a pattern file or a database file, 2^31 bytes
 abbrev pub greatest_list : ℕ

@@ -1,8 +1,4 @@
 pub mod Accepting
-pub mod Running
-pub mod Passing
-pub mod Printing
-pub mod Scanning
 pub mod Commands
 pub mod Causes
 pub mod Answers

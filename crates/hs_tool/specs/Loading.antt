@@ -10,8 +10,8 @@ use Rattle.hs_tool.specs.Accepting.{IsAccepted}
 use Rattle.hs_tool.specs.Causes.{Cause, write, store, absent, limit}
 use Rattle.hs_tool.specs.Answers.{greatest_list}
 use Rattle.hs_tool.specs.declared.load.Loaded.{Loaded}
-use Rattle.hs_tool.specs.declared.scan.ScanFault.{ScanFault}
-use Rattle.hs_tool.specs.declared.scan.ScanFault.TheVariants.{Absent, Store, Write, Limit}
+use Rattle.hs_scan.specs.declared.scan.ScanFault.{ScanFault}
+use Rattle.hs_scan.specs.declared.scan.ScanFault.TheVariants.{Absent, Store, Write, Limit}
 
 -- the entries that are kept, as plain data
 abbrev pub entries_of : Loaded → List ListedEntry

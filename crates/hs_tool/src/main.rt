@@ -6,15 +6,12 @@ mod check_command;
 mod compile_command;
 mod fault;
 mod info_command;
-#[cfg(test)]
-mod list_tests;
+
+
 mod load;
 mod match_command;
-mod output;
-mod report_lines;
-mod scan;
-#[cfg(test)]
-mod tests;
+
+
 mod top;
 
 use fault::Fault;

@@ -1,29 +1,20 @@
 //! The commands `match PATTERNS FILE` and `scan DB FILE`.
-ghost use Rattle.std.specs.Prelude.{◌≡◌, ◌++◌, ℕ, List, OnOk, OnErr, MatchResult};
+ghost use Rattle.std.specs.Prelude.{◌≡◌, ℕ, List};
 ghost use Rattle.hs_base.specs.Entries.{ListedEntry};
 ghost use Rattle.hs_base.specs.Patterns.{Pattern};
-ghost use Rattle.hs_base.specs.MatchText.{end_line as line_of_end};
-ghost use Rattle.hs_outside.specs.Counts.{Rose};
-ghost use Rattle.hs_outside.specs.Sink.{Took, TookPrefix};
 ghost use Rattle.hs_run.specs.States.{IsRunnable};
 ghost use Rattle.hs_glushkov.specs.PlainEngines.{width_of};
 ghost use Rattle.hs_compile.specs.Databases.{IsDatabaseOf, program_of};
 ghost use Rattle.hs_tool.specs.Causes.{cause_of, outcome_of};
 ghost use Rattle.hs_tool.specs.Commands.{ListKind as ListKindOf, kind_of};
 ghost use Rattle.hs_tool.specs.Answers.{HasList, ScanEnds};
-ghost use Rattle.hs_tool.specs.Running.{IsReady, Stands};
-ghost use Rattle.hs_tool.specs.Scanning.{IsClosed, IsPartlyClosed};
 ghost use Rattle.hs_tool.specs.Loading.{StopsScan};
 
 use crate::fault::Fault;
 use crate::load::{ListKind, load};
-use crate::output::Pending;
-use crate::scan::{Scan, ScanFault, end_scan, scan_file};
 use hs_compile::Database;
-use hs_engine::Engine;
 use hs_outside::{Failed, Sink, Store};
-use hs_rose::Program;
-use hs_text::{LINE_LEN, end_line};
+use hs_scan::{Pending, Scan, ScanFault, close_scan, scan_file};
 use std::alloc::Global;
 
 /// Scans the file `file` for the expressions of the file `list`, and writes the text of the match.
@@ -73,7 +64,7 @@ fn match_stream<'a, S: Store, O: Sink>(
         Ok(total) => total,
         Err(fault) => return Err(fault_of(fault, file)),
     };
-    match close(program, &mut scan, total, out, &mut pending) {
+    match close_scan(program, &mut scan, total, out, &mut pending) {
         Ok(()) => Ok(()),
         Err(Failed) => Err(Fault::Write),
     }
@@ -88,42 +79,5 @@ fn fault_of<'a>(fault: ScanFault, file: &'a str) -> Fault<'a>
         ScanFault::Store => Fault::Store,
         ScanFault::Write => Fault::Write,
         ScanFault::Limit => Fault::Limit,
-    }
-}
-
-/// Ends the stream, and writes the lines that wait, those of the reports that its end decides, and that of its length.
-fn close<E: Engine, O: Sink>(
-    program: &Program<E>,
-    scan: &mut Scan,
-    total: u64,
-    out: &mut O,
-    pending: &mut Pending,
-) -> Result<(), Failed>
-    requires runnable { IsRunnable E.width program.now }
-    requires ready { IsReady E.well program.now scan.old }
-    ensures closed { MatchResult result
-        (λ _. IsClosed (Stands E.is_for E.field program.now) scan.old total (O.written out.old) (O.written out.new) pending.old)
-        (λ _. IsPartlyClosed (Stands E.is_for E.field program.now) scan.old total (O.written out.old) (O.written out.new) pending.old) }
-    ensures counted { OnOk result (O.faults out.new ≡ O.faults out.old) }
-    ensures failed { OnErr result (Rose (O.faults out.old) (O.faults out.new)) }
-{
-    match end_scan(program, scan, out, pending) {
-        Ok(()) => write_end(total, out, pending),
-        Err(Failed) => Err(Failed),
-    }
-}
-
-/// Writes the lines that wait, and that of the stream's length.
-fn write_end<O: Sink>(total: u64, out: &mut O, pending: &mut Pending) -> Result<(), Failed>
-    ensures written { OnOk result (Took (O.written out.old) (O.written out.new) (pending.old ++ line_of_end total)) }
-    ensures counted { OnOk result (O.faults out.new ≡ O.faults out.old) }
-    ensures cut { OnErr result (TookPrefix (O.written out.old) (O.written out.new) (pending.old ++ line_of_end total)) }
-    ensures failed { OnErr result (Rose (O.faults out.old) (O.faults out.new)) }
-{
-    let mut line = [0; LINE_LEN];
-    let len = end_line(total, &mut line);
-    match pending.put(&line[..len], out) {
-        Ok(()) => pending.flush(out),
-        Err(Failed) => Err(Failed),
     }
 }

@@ -16,18 +16,18 @@ returns-in-Err-scan_file-clause-ends g c kind list entries P has is =
     scan_stops _ kind list c.args.file.now _ _ entries P c.in-Ok.scan c.scan_file.new.scan c.new-pending.result c.scan_file.new.pending c.in-Err-scan_file.fault _
     c.new-pending.ensures has stands scan.cut scan.unread scan.fault c.fault_of.ensures
 
-pub returns-in-Ok-close-clause-ends : goal.returns-in-Ok-close-clause-ends
-returns-in-Ok-close-clause-ends g c kind list entries P has is =
+pub returns-in-Ok-close_scan-clause-ends : goal.returns-in-Ok-close_scan-clause-ends
+returns-in-Ok-close_scan-clause-ends g c kind list entries P has is =
     let stands = c.in-Ok.ensures.stands P (runs-of c.args.database.now c.program-program.result.now P c.program-program.ensures is) in
     let scan = c.in-Ok-scan_file.ensures in
     scan_done _ kind list c.args.file.now _ _ entries P c.in-Ok.scan c.scan_file.new.scan c.in-Ok-scan_file.total (g.O.Sink.written c.scan_file.new.out) c.new-pending.result c.scan_file.new.pending
-    c.new-pending.ensures has stands scan.scanned c.in-Ok-close.ensures.closed
-    (record { store = scan.counted.0; sink = c.in-Ok-close.ensures.counted ∙ scan.counted.1 })
+    c.new-pending.ensures has stands scan.scanned c.in-Ok-close_scan.ensures.closed
+    (record { store = scan.counted.0; sink = c.in-Ok-close_scan.ensures.counted ∙ scan.counted.1 })
 
 pub returns-clause-ends : goal.returns-clause-ends
 returns-clause-ends g c kind list entries P has is =
     let stands = c.in-Ok.ensures.stands P (runs-of c.args.database.now c.program-program.result.now P c.program-program.ensures is) in
     let scan = c.in-Ok-scan_file.ensures in
     scan_unwritten _ kind list c.args.file.now _ _ entries P c.in-Ok.scan c.scan_file.new.scan c.in-Ok-scan_file.total (g.O.Sink.written c.scan_file.new.out) c.new-pending.result c.scan_file.new.pending
-    c.new-pending.ensures has stands scan.scanned c.in-Err-close.ensures.closed
-    (Rose-after_same _ _ _ scan.counted.1 c.in-Err-close.ensures.failed)
+    c.new-pending.ensures has stands scan.scanned c.in-Err-close_scan.ensures.closed
+    (Rose-after_same _ _ _ scan.counted.1 c.in-Err-close_scan.ensures.failed)
