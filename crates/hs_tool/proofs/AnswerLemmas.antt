@@ -1,5 +1,5 @@
 -- From what the steps of a command leave to the command's answer.
-use Rattle.std.proofs.Common.{◌≡◌, ℕ, List, [], ◌∷◌, ◌++◌, length, Option, Some, None, Result, Ok, Err, OnOk, OnErr, MatchResult, refl, sym, ap, ◌∙◌, subst, arith, append_assoc}
+use Rattle.std.proofs.Common.{◌≡◌, ℕ, ◌≤◌, List, [], ◌∷◌, ◌++◌, length, Option, Some, None, Result, Ok, Err, OnOk, OnErr, MatchResult, refl, sym, ap, ◌∙◌, subst, arith, append_assoc}
 use Rattle.hs_base.specs.Patterns.{Pattern}
 use Rattle.hs_base.specs.Told.{Pair, IsTold, IsNew, IsLast}
 use Rattle.hs_base.specs.MatchText.{report_lines, end_line, IsMatchText}
@@ -15,7 +15,8 @@ use Rattle.hs_scan.specs.Scanning.{Interrupts, Moves, AreReportsOf, IsScanned, I
 use Rattle.hs_tool.specs.Causes.{Cause, write, memory}
 use Rattle.hs_tool.specs.Commands.{ListKind}
 use Rattle.hs_tool.specs.Answers
-use Rattle.hs_tool.specs.Answers.{Outside, NoFault, TookNothing, HasList, HasWritten, HasBegun, StopsEarly, ScanEnds, no_memory}
+use Rattle.hs_tool.specs.Accepting.{HoldsList, IsFormCause, formless, unread, IsEntryCause, first, uncompiled, bad_form, bad_entry}
+use Rattle.hs_tool.specs.Answers.{greatest_list, Outside, NoFault, TookNothing, HasList, HasWritten, HasBegun, StopsList, StopsEarly, ScanEnds, CompileEnds, list_refused, no_memory}
 use Rattle.hs_tool.specs.Loading.{IsLoaded, StopsScan, entries_of}
 use Rattle.hs_tool.specs.declared.load.Loaded.{Loaded}
 use Rattle.hs_scan.specs.declared.scan.ScanFault.{ScanFault}
@@ -157,6 +158,27 @@ pub ends_since : (kind : ListKind) (list file : List ℕ) (told told' : List ℕ
 ends_since kind list file told told' stored stored' out sunk now outcome same_told same_stored ends =
     subst (λ n. ScanEnds kind list file (record { told = told; stored = n; out = out; sunk = sunk }) now outcome) same_stored
     (subst (λ t. ScanEnds kind list file (record { told = t; stored = stored'; out = out; sunk = sunk }) now outcome) same_told ends)
+
+pub compile_since : (patterns database : List ℕ) (told told' : List ℕ → Told) (stored stored' : ℕ) (out : Option (List ℕ)) (sunk : ℕ) (now : Outside) (outcome : Option Cause) → told' ≡ told → stored' ≡ stored →
+    CompileEnds patterns database (record { told = told'; stored = stored'; out = out; sunk = sunk }) now outcome →
+    CompileEnds patterns database (record { told = told; stored = stored; out = out; sunk = sunk }) now outcome
+compile_since patterns database told told' stored stored' out sunk now outcome same_told same_stored ends =
+    subst (λ n. CompileEnds patterns database (record { told = told; stored = n; out = out; sunk = sunk }) now outcome) same_stored
+    (subst (λ t. CompileEnds patterns database (record { told = t; stored = stored'; out = out; sunk = sunk }) now outcome) same_told ends)
+
+-- ---- the list
+
+-- the file isn't of the form, or memory was wanted to read it
+pub form-stops : (kind : ListKind) (name : List ℕ) (told : Told) (before now : ℕ) (bytes : List ℕ) (cause : Cause) → IsFile told bytes → length bytes ≤ greatest_list → now ≡ before → IsFormCause kind bytes cause → StopsList kind name told before now cause
+form-stops kind name told before now bytes _ file within same (formless bad) = list_refused (record { bytes = bytes; file = file; within = within; refused = bad_form bad }) same
+form-stops kind name told before now bytes _ file within same unread = no_memory same
+
+-- an entry is refused, or memory was wanted to compile them
+pub entry-stops : (kind : ListKind) (name : List ℕ) (told : Told) (before now : ℕ) (bytes : List ℕ) (entries : List ListedEntry) (cause : Cause) → IsFile told bytes → length bytes ≤ greatest_list → now ≡ before → HoldsList kind bytes entries → IsEntryCause entries cause → StopsList kind name told before now cause
+entry-stops kind name told before now bytes entries _ file within same list (first refused) = list_refused (record { bytes = bytes; file = file; within = within; refused = bad_entry list refused }) same
+entry-stops kind name told before now bytes entries _ file within same list uncompiled = no_memory same
+
+-- ---- a scan
 
 module _ {A : Type 0} (Stands : List Pattern → List ℕ → A → Type 0) where
   -- the scan of the file stopped

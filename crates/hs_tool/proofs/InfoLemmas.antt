@@ -16,6 +16,7 @@ use Rattle.hs_tool.specs.Answers.{IsInfoText}
 
 -- a member has a place
 member-place : {A : Type 0} (xs : List A) (x : A) → IsMember x xs → (k : ℕ) × (slice_get xs k ≡ Some x)
+member-place [] x none = absurd none
 member-place (y ∷ xs) x (inl e) = (0, ap Some (sym e))
 member-place (y ∷ xs) x (inr e) = let (k, at) = member-place xs x e in (suc k, at)
 

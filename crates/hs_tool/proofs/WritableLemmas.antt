@@ -30,7 +30,7 @@ accepted-short number entry x accepted =
 
 -- a list that is accepted has few entries
 accepted-few : (from : ℕ) (entries : List ListedEntry) (P : List Pattern) → AreAcceptedFrom from entries P → from ≤ 65537 → length entries + from ≤ 65537
-accepted-few from [] [] accepted within = within
+accepted-few from [] [] accepted within = omega (arith, within)
 accepted-few from [] (x ∷ P) accepted within = absurd accepted
 accepted-few from (entry ∷ entries) [] accepted within = absurd accepted
 accepted-few from (entry ∷ entries) (x ∷ P) accepted within =
@@ -55,8 +55,8 @@ accepted-each from (entry ∷ entries) (x ∷ P) accepted known = (
 )
 
 -- the list of a pattern file that is accepted can be written
-pub writable : {file : List ℕ} {entries : List ListedEntry} {P : List Pattern} → IsList file entries → AreAcceptedAs entries P → AreWritable entries
-writable {file} {entries} {P} list accepted = record {
+pub writable : (file : List ℕ) (entries : List ListedEntry) (P : List Pattern) → IsList file entries → AreAcceptedAs entries P → AreWritable entries
+writable file entries P list accepted = record {
   few = (let most = accepted-few 1 entries P accepted (omega arith) in omega (arith, most));
   each = accepted-each 1 entries P accepted (entries_known list);
 }

@@ -93,11 +93,11 @@ fn execute<'a, S: Store, O: Sink>(
     store: &mut S,
     out: &mut O,
 ) -> Result<(), Fault<'a>>
-    ensures ends { Ends (Some (plain_request request))
+    ensures ends { Ends (Some (plain_request request.entry))
         (record { told = S.told store.old; stored = S.faults store.old; out = O.written out.old; sunk = O.faults out.old })
         (record { told = S.told store.new; stored = S.faults store.new; out = O.written out.new; sunk = O.faults out.new })
         (outcome_of result) }
-    ensures kept { KeepsFiles (Some (plain_request request)) (S.told store.old) (S.told store.new) }
+    ensures kept { KeepsFiles (Some (plain_request request.entry)) (S.told store.old) (S.told store.new) }
 {
     match request {
         Request::Match { patterns, file } => {
