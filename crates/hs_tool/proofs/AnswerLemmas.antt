@@ -1,5 +1,5 @@
 -- From what the steps of a command leave to the command's answer.
-use Rattle.std.proofs.Common.{◌≡◌, ℕ, ◌≤◌, List, [], ◌∷◌, ◌++◌, length, Option, Some, None, Result, Ok, Err, OnOk, OnErr, MatchResult, refl, sym, ap, ◌∙◌, subst, arith, append_assoc}
+use Rattle.std.proofs.Common.{◌≡◌, ℕ, ◌≤◌, List, [], ◌∷◌, ◌++◌, length, Option, Some, None, Result, Ok, Err, OnOk, OnErr, MatchResult, refl, sym, ap, ◌∙◌, subst, arith, append_assoc, inr}
 use Rattle.hs_base.specs.Patterns.{Pattern}
 use Rattle.hs_base.specs.Told.{Pair, IsTold, IsNew, IsLast}
 use Rattle.hs_base.specs.MatchText.{report_lines, end_line, IsMatchText}
@@ -8,15 +8,16 @@ use Rattle.hs_base.proofs.NewLemmas.{told_start, new_nothing}
 use Rattle.hs_outside.specs.Counts.{Rose}
 use Rattle.hs_outside.specs.Sink.{Took, TookPrefix}
 use Rattle.hs_outside.specs.Store.{Told, holds, Begins, IsFile}
-use Rattle.hs_outside.proofs.Sending.{Took-append, TookPrefix-after, TookPrefix-longer}
+use Rattle.hs_outside.proofs.Sending.{Took-nothing, Took-append, TookPrefix-after, TookPrefix-longer}
 use Rattle.hs_base.specs.Entries.{ListedEntry}
 use Rattle.hs_scan.proofs.CloseLemmas.{behind}
 use Rattle.hs_scan.specs.Scanning.{Interrupts, Moves, AreReportsOf, IsScanned, IsScannedTo, IsFileScanned, IsFilePartlyScanned, IsEnded, IsEndCutShort, IsClosed, IsPartlyClosed}
 use Rattle.hs_tool.specs.Causes.{Cause, write, memory}
-use Rattle.hs_tool.specs.Commands.{ListKind}
+use Rattle.hs_request.specs.Requests.{Request, match_file, check_list, compile_list, tell_database, scan_file}
+use Rattle.hs_tool.specs.Commands.{ListKind, pattern_file, database_file}
 use Rattle.hs_tool.specs.Answers
 use Rattle.hs_tool.specs.Accepting.{HoldsList, IsFormCause, formless, unread, IsEntryCause, first, uncompiled, bad_form, bad_entry}
-use Rattle.hs_tool.specs.Answers.{greatest_list, Outside, NoFault, TookNothing, HasList, HasWritten, HasBegun, StopsList, StopsEarly, ScanEnds, CompileEnds, list_refused, no_memory}
+use Rattle.hs_tool.specs.Answers.{greatest_list, Outside, NoFault, TookNothing, HasList, HasWritten, HasBegun, StopsList, StopsEarly, ScanEnds, CompileEnds, Ends, list_refused, no_memory}
 use Rattle.hs_tool.specs.Loading.{IsLoaded, StopsScan, entries_of}
 use Rattle.hs_tool.specs.declared.load.Loaded.{Loaded}
 use Rattle.hs_scan.specs.declared.scan.ScanFault.{ScanFault}
@@ -185,10 +186,10 @@ module _ {A : Type 0} (Stands : List Pattern → List ℕ → A → Type 0) wher
   pub scan_stops : (kind : ListKind) (list file : List ℕ) (before now : Outside) (entries : List ListedEntry) (P : List Pattern) (a b : A) (waited waits : List ℕ) (fault : ScanFault) (cause : Cause) → waited ≡ [] → HasList kind (before.told list) entries P → Stands P [] a →
       IsFilePartlyScanned Stands (before.told file) a before.out now.out waited → (fault ≡ Absent → IsScannedTo Stands (before.told file) a b 0 before.out now.out waited waits) →
       Interrupts fault (before.told file) before.stored now.stored before.sunk now.sunk → StopsScan file fault cause → ScanEnds kind list file before now (Some cause)
-  scan_stops kind list file before now entries P a b waited waits fault cause nothing has stands part unread stops is =
+  scan_stops kind list file before now entries P a b waited waits fault cause nothing has stands part unscanned stops is =
       scan_ends kind list file before now entries P fault cause has
       (begun-part Stands (before.told file) P a before.out now.out stands (subst (λ w. IsFilePartlyScanned Stands (before.told file) a before.out now.out w) nothing part))
-      (λ gone. nothing-scanned Stands (before.told file) P a b before.out now.out waits stands (subst (λ w. IsScannedTo Stands (before.told file) a b 0 before.out now.out w waits) nothing (unread gone)))
+      (λ gone. nothing-scanned Stands (before.told file) P a b before.out now.out waits stands (subst (λ w. IsScannedTo Stands (before.told file) a b 0 before.out now.out w waits) nothing (unscanned gone)))
       stops is
 
   -- the file was scanned to its end and the last line written
@@ -208,3 +209,14 @@ module _ {A : Type 0} (Stands : List Pattern → List ℕ → A → Type 0) wher
       (begun-whole Stands (before.told file) P a b total before.out out now.out waits stands
       (subst (λ w. IsFileScanned Stands (before.told file) a b total before.out out w waits) nothing scan) closed)
       rose
+
+-- ---- the words
+
+-- memory was wanted to read them
+pub unread-words : (request : Option Request) (before : Outside) → Ends request before before (Some memory)
+unread-words None before = record { cause = inr refl; quiet = Took-nothing before.out; none = record { store = refl; sink = refl } }
+unread-words (Some (match_file patterns file)) before = Answers.stopped memory (no_memory_early pattern_file patterns before before (Took-nothing before.out) (record { store = refl; sink = refl }))
+unread-words (Some (check_list patterns)) before = Answers.stopped memory (no_memory_early pattern_file patterns before before (Took-nothing before.out) (record { store = refl; sink = refl }))
+unread-words (Some (compile_list patterns database)) before = Answers.stopped memory (no_memory_early pattern_file patterns before before (Took-nothing before.out) (record { store = refl; sink = refl })) refl
+unread-words (Some (tell_database database)) before = Answers.stopped memory (no_memory_early database_file database before before (Took-nothing before.out) (record { store = refl; sink = refl }))
+unread-words (Some (scan_file database file)) before = Answers.stopped memory (no_memory_early database_file database before before (Took-nothing before.out) (record { store = refl; sink = refl }))

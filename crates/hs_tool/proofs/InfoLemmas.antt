@@ -41,27 +41,37 @@ same-names from [] (x ∷ P) accepted = absurd accepted
 same-names from (entry ∷ entries) [] accepted = absurd accepted
 same-names from (entry ∷ entries) (x ∷ P) accepted = ap₂ (λ n ns. n ∷ ns) (ap (λ (y : Pattern). y.id) accepted.0.is) (same-names (suc from) entries P accepted.1)
 
+-- an identifier of the program is that of an entry
+program-entry : (database : Database) (P : List Pattern) (names : List ℕ) → map (λ (x : Pattern). x.id) P ≡ names → IsDatabaseOf database P → (id : ℕ) → IsMember id (ids_of (identifiers_of (program_of database))) → IsMember id names
+program-entry database P names same is id member =
+    let identifiers : List Identifier = identifiers_of (program_of database) in
+    let (identifier, there, named) = map-member (λ (i : Identifier). i.id.0) identifiers id member in
+    let (k, at) = member-place identifiers identifier there in
+    let used : IsMember identifier.id.0 (map (λ (x : Pattern). x.id) P) = is.roles.used k identifier at in
+    subst (λ (ns : List ℕ). IsMember id ns) same (subst (λ (n : ℕ). IsMember n (map (λ (x : Pattern). x.id) P)) (sym named) used)
+
+-- the identifier of an entry is one of the program
+entry-program : (database : Database) (P : List Pattern) (names : List ℕ) → map (λ (x : Pattern). x.id) P ≡ names → IsDatabaseOf database P → (id : ℕ) → IsMember id names → IsMember id (ids_of (identifiers_of (program_of database)))
+entry-program database P names same is id member =
+    let identifiers : List Identifier = identifiers_of (program_of database) in
+    let (x, there, named) = map-member (λ (x : Pattern). x.id) P id (subst (λ (ns : List ℕ). IsMember id ns) (sym same) member) in
+    let (k, at) = member-place P x there in
+    let (r, role_at) = same-place _ P x k is.roles.count at in
+    let role = is.roles.each k r x role_at at in
+    let listed : IsMember role.identifier.id.0 (ids_of identifiers) = member-map (λ (i : Identifier). i.id.0) identifiers role.identifier (place-member identifiers role.identifier r.identifier role.named) in
+    subst (λ (n : ℕ). IsMember n (ids_of identifiers)) (role.id ∙ sym named) listed
+
 -- what the lines of a database say
 pub info-text : (database : Database) (entries : List ListedEntry) (P : List Pattern) → AreAcceptedAs entries P → IsDatabaseOf database P →
     IsInfoText entries (info_lines (length entries) (length (identifiers_of (program_of database))))
 info-text database entries P accepted is =
-    let identifiers = identifiers_of (program_of database) in
     let names = same-names 1 entries P accepted in
     record {
-      identifiers = ids_of identifiers;
+      identifiers = ids_of (identifiers_of (program_of database));
       once = is.roles.rising;
       same = λ id. (
-        (λ member.
-            let (identifier, there, same) = map-member (λ (i : Identifier). i.id.0) identifiers id member in
-            let (k, at) = member-place identifiers identifier there in
-            subst (λ ns. IsMember id ns) names (subst (λ n. IsMember n (map (λ (x : Pattern). x.id) P)) (sym same) (is.roles.used k identifier at))),
-        (λ member.
-            let (x, there, same) = map-member (λ (x : Pattern). x.id) P id (subst (λ ns. IsMember id ns) (sym names) member) in
-            let (k, at) = member-place P x there in
-            let (r, role_at) = same-place _ P x k is.roles.count at in
-            let role = is.roles.each k r x role_at at in
-            subst (λ n. IsMember n (ids_of identifiers)) (role.id ∙ sym same)
-            (member-map (λ (i : Identifier). i.id.0) identifiers role.identifier (place-member identifiers role.identifier r.identifier role.named))),
+        program-entry database P (map (λ (entry : ListedEntry). entry.id) entries) names is id,
+        entry-program database P (map (λ (entry : ListedEntry). entry.id) entries) names is id,
       );
-      whole = ap (λ n. info_lines (length entries) n) (sym (length-map identifiers (λ (i : Identifier). i.id.0)));
+      whole = ap (λ n. info_lines (length entries) n) (sym (length-map (identifiers_of (program_of database)) (λ (i : Identifier). i.id.0)));
     }

@@ -1,4 +1,4 @@
-use Rattle.std.proofs.Common.{ℕ, List, length, ◌∙◌, refl, sym, ap, subst}
+use Rattle.std.proofs.Common.{◌≡◌, ℕ, List, length, refl, ap, subst, arith}
 use Rattle.std.proofs.lemmas.List.{length-map}
 use Rattle.hs_base.specs.Entries.{listed}
 use Rattle.hs_outside.specs.Sink.{Took, TookPrefix}
@@ -15,7 +15,8 @@ returns-in-Err-clause-ends g c = Answers.stopped _ (record { stops = c.in-Err.en
 pub returns-in-Ok-write_accepted-clause-ends : goal.returns-in-Ok-write_accepted-clause-ends
 returns-in-Ok-write_accepted-clause-ends g c =
     let loaded = c.in-Ok.ensures.loaded in
-    let line = ap accepted_line (c.len.ensures ∙ sym (length-map c.in-Ok.loaded.entries.items listed)) in
+    let count : c.len.result ≡ length (entries_of c.in-Ok.loaded) = omega (arith, c.len.ensures, c.in-Ok.loaded.entries.ok.0, length-map c.in-Ok.loaded.entries.items listed) in
+    let line = ap accepted_line count in
     Answers.done (entries_of c.in-Ok.loaded) loaded.patterns (accepted_line (length (entries_of c.in-Ok.loaded))) (has_list _ _ c.in-Ok.loaded loaded) refl
     (subst (λ (text : List ℕ). Took (g.O.Sink.written c.args.out.now) (g.O.Sink.written c.write_accepted.new.out) text) line c.in-Ok-write_accepted.ensures.written)
     (record { store = c.in-Ok.ensures.counted; sink = c.in-Ok-write_accepted.ensures.counted })
@@ -23,7 +24,8 @@ returns-in-Ok-write_accepted-clause-ends g c =
 pub returns-clause-ends : goal.returns-clause-ends
 returns-clause-ends g c =
     let loaded = c.in-Ok.ensures.loaded in
-    let line = ap accepted_line (c.len.ensures ∙ sym (length-map c.in-Ok.loaded.entries.items listed)) in
+    let count : c.len.result ≡ length (entries_of c.in-Ok.loaded) = omega (arith, c.len.ensures, c.in-Ok.loaded.entries.ok.0, length-map c.in-Ok.loaded.entries.items listed) in
+    let line = ap accepted_line count in
     Answers.sink_failed (entries_of c.in-Ok.loaded) loaded.patterns (accepted_line (length (entries_of c.in-Ok.loaded))) (has_list _ _ c.in-Ok.loaded loaded) refl
     (subst (λ (text : List ℕ). TookPrefix (g.O.Sink.written c.args.out.now) (g.O.Sink.written c.write_accepted.new.out) text) line c.in-Err-write_accepted.ensures.cut)
     c.in-Err-write_accepted.ensures.failed

@@ -1,4 +1,4 @@
-use Rattle.std.proofs.Common.{ℕ, List, map, refl, sym, ap₂, subst}
+use Rattle.std.proofs.Common.{◌≡◌, ℕ, List, length, map, refl, sym, ap₂, subst, arith}
 use Rattle.std.proofs.lemmas.List.{length-map}
 use Rattle.hs_base.specs.Entries.{listed}
 use Rattle.hs_outside.specs.Sink.{Took, TookPrefix}
@@ -21,7 +21,8 @@ returns-in-Err-put-clause-ends g c patterns P has =
 pub returns-in-Ok-write_compiled-clause-ends : goal.returns-in-Ok-write_compiled-clause-ends
 returns-in-Ok-write_compiled-clause-ends g c patterns P has =
     let put = subst (λ (bytes : List ℕ). PutsOrHides (g.S.Store.told c.args.store.now) (g.S.Store.told c.put.new.self) c.args.database.now bytes) c.as_slice.ensures.value c.in-Ok-put.ensures.done in
-    let line = ap₂ compiled_line (sym (length-map c.args.entries.now listed)) c.len.ensures in
+    let size : c.len.result ≡ length c.in-Ok.bytes.items = omega (arith, c.len.ensures, c.in-Ok.bytes.ok.0) in
+    let line = ap₂ compiled_line (sym (length-map c.args.entries.now listed)) size in
     Answers.done (map listed c.args.entries.now) P c.in-Ok.bytes.items has c.in-Ok.ensures put
     (subst (λ (text : List ℕ). Took (g.O.Sink.written c.args.out.now) (g.O.Sink.written c.write_compiled.new.out) text) line c.in-Ok-write_compiled.ensures.written)
     (record { store = c.in-Ok-put.ensures.counted; sink = c.in-Ok-write_compiled.ensures.counted })
@@ -29,7 +30,8 @@ returns-in-Ok-write_compiled-clause-ends g c patterns P has =
 pub returns-clause-ends : goal.returns-clause-ends
 returns-clause-ends g c patterns P has =
     let put = subst (λ (bytes : List ℕ). PutsOrHides (g.S.Store.told c.args.store.now) (g.S.Store.told c.put.new.self) c.args.database.now bytes) c.as_slice.ensures.value c.in-Ok-put.ensures.done in
-    let line = ap₂ compiled_line (sym (length-map c.args.entries.now listed)) c.len.ensures in
+    let size : c.len.result ≡ length c.in-Ok.bytes.items = omega (arith, c.len.ensures, c.in-Ok.bytes.ok.0) in
+    let line = ap₂ compiled_line (sym (length-map c.args.entries.now listed)) size in
     Answers.sink_failed (map listed c.args.entries.now) P c.in-Ok.bytes.items has c.in-Ok.ensures put
     (subst (λ (text : List ℕ). TookPrefix (g.O.Sink.written c.args.out.now) (g.O.Sink.written c.write_compiled.new.out) text) line c.in-Err-write_compiled.ensures.cut)
     c.in-Err-write_compiled.ensures.failed

@@ -1,4 +1,4 @@
-use Rattle.std.proofs.Common.{ℕ, List, length, ◌∙◌, refl, sym, ap, ap₂, subst}
+use Rattle.std.proofs.Common.{◌≡◌, ℕ, List, length, ◌∙◌, refl, ap, ap₂, subst, arith}
 use Rattle.std.proofs.lemmas.List.{length-map}
 use Rattle.hs_base.specs.Entries.{listed}
 use Rattle.hs_outside.specs.Sink.{Took, TookPrefix}
@@ -20,7 +20,8 @@ returns-in-Ok-write_info-clause-ends g c =
     let loaded = c.in-Ok.ensures.loaded in
     let entries = entries_of c.in-Ok.loaded in
     let identifiers = identifiers_of (program_of c.in-Ok.loaded.database) in
-    let line = ap₂ info_lines (c.len.ensures ∙ sym (length-map c.in-Ok.loaded.entries.items listed)) (ap length (c.identifiers.ensures ∙ ap identifiers_of c.program.ensures)) in
+    let count : c.len-expressions.result ≡ length entries = omega (arith, c.len-expressions.ensures, c.in-Ok.loaded.entries.ok.0, length-map c.in-Ok.loaded.entries.items listed) in
+    let line = ap₂ info_lines count (ap length (c.identifiers.ensures ∙ ap identifiers_of c.program.ensures)) in
     Answers.done entries loaded.patterns (info_lines (length entries) (length identifiers)) (has_list _ _ c.in-Ok.loaded loaded)
     (info-text c.in-Ok.loaded.database entries loaded.patterns loaded.accepted.accepted loaded.runs)
     (subst (λ (text : List ℕ). Took (g.O.Sink.written c.args.out.now) (g.O.Sink.written c.write_info.new.out) text) line c.in-Ok-write_info.ensures.written)
@@ -31,7 +32,8 @@ returns-clause-ends g c =
     let loaded = c.in-Ok.ensures.loaded in
     let entries = entries_of c.in-Ok.loaded in
     let identifiers = identifiers_of (program_of c.in-Ok.loaded.database) in
-    let line = ap₂ info_lines (c.len.ensures ∙ sym (length-map c.in-Ok.loaded.entries.items listed)) (ap length (c.identifiers.ensures ∙ ap identifiers_of c.program.ensures)) in
+    let count : c.len-expressions.result ≡ length entries = omega (arith, c.len-expressions.ensures, c.in-Ok.loaded.entries.ok.0, length-map c.in-Ok.loaded.entries.items listed) in
+    let line = ap₂ info_lines count (ap length (c.identifiers.ensures ∙ ap identifiers_of c.program.ensures)) in
     Answers.sink_failed entries loaded.patterns (info_lines (length entries) (length identifiers)) (has_list _ _ c.in-Ok.loaded loaded)
     (info-text c.in-Ok.loaded.database entries loaded.patterns loaded.accepted.accepted loaded.runs)
     (subst (λ (text : List ℕ). TookPrefix (g.O.Sink.written c.args.out.now) (g.O.Sink.written c.write_info.new.out) text) line c.in-Err-write_info.ensures.cut)
