@@ -25,7 +25,7 @@ module _ {E : Type 0} (IsFor : E → Tree → Type 0) (Field : E → List ℕ �
       let w : List ℕ = u ++ joined pieces in
       let fed : IsFed IsFor Field program P u (joined pieces) end pairs = writes-join program start end pieces pairs written P u told runs here is in
       let fed' : IsFed IsFor Field program P u (joined pieces) end' pairs' =
-          subst (λ bytes. IsFed IsFor Field program P u bytes end' pairs') (sym same) (writes-join program start' end' pieces' pairs' written' P u told runs here' is) in
+      subst (λ bytes. IsFed IsFor Field program P u bytes end' pairs') (sym same) (writes-join program start' end' pieces' pairs' written' P u told runs here' is) in
       record {
         reports = new-once P u (joined pieces) pairs pairs' fed.new fed'.new;
         state = fed.state;

@@ -6,8 +6,10 @@ use Rattle.hs_stream.specs.Engines.{MayKeep}
 use Rattle.hs_stream.proofs.stream.Stream.fits.Goals as goal
 
 pub returns : goal.returns
-returns c =
-    (λ is. record {
-      digest = search rules;
-      state = subst (λ (p : Program Plain). FitsState MayKeep p c.args.self.now.state) c.program.ensures (c.fits.ensures.0 is);
-    }, λ fits. c.fits.ensures.1 (subst (λ (p : Program Plain). FitsState MayKeep p c.args.self.now.state) (sym c.program.ensures) fits.state))
+returns c = (
+  λ is. record {
+    digest = search rules;
+    state = subst (λ (p : Program Plain). FitsState MayKeep p c.args.self.now.state) c.program.ensures (c.fits.ensures.0 is);
+  },
+  λ fits. c.fits.ensures.1 (subst (λ (p : Program Plain). FitsState MayKeep p c.args.self.now.state) (sym c.program.ensures) fits.state),
+)
