@@ -2,3 +2,4 @@ pub mod NumberLemmas
 pub mod EntryLemmas
 pub mod ListLemmas
 pub mod SeenLemmas
+pub mod LengthLemmas

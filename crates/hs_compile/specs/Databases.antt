@@ -1,5 +1,5 @@
 -- Which database is that of a list of patterns.
-use Rattle.std.specs.Prelude.{List}
+use Rattle.std.specs.Prelude.{ℕ, List}
 use Rattle.hs_base.specs.Trees.{Tree}
 use Rattle.hs_base.specs.Patterns.{Pattern}
 use Rattle.hs_glushkov.specs.declared.plain.Plain.{Plain}
@@ -13,6 +13,10 @@ use Rattle.hs_compile.specs.declared.database.Database.{Database}
 -- what a scan with it runs
 abbrev pub program_of : Database → Program Plain
 program_of database = database.program
+
+-- the digest of its list
+abbrev pub digest_of : Database → List ℕ
+digest_of database = database.digest
 
 -- the engine runs the expression
 abbrev pub IsEngineOf : Plain → Tree → Type 0

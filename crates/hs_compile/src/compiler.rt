@@ -1,6 +1,9 @@
 //! The list, entry by entry.
-ghost use Rattle.std.specs.Prelude.{IfOk, IfErr, map};
+ghost use Rattle.std.specs.Prelude.{◌≡◌, IfOk, IfErr, map};
+ghost use Rattle.sha2.specs.Sha256.{sha256};
 ghost use Rattle.hs_base.specs.Entries.{listed};
+ghost use Rattle.hs_dbfile.specs.Files.{list_bytes};
+ghost use Rattle.hs_compile.specs.Databases.{digest_of};
 ghost use Rattle.hs_compile.specs.Answers.{IsCompiled, IsCauseOf, AreCompiled};
 
 use crate::database::Database;
@@ -8,6 +11,7 @@ use crate::entry::compile_entry;
 use crate::fault::CompileFault;
 use crate::seen::Seen;
 use hs_base::Entry;
+use hs_dbfile::digest;
 use hs_glushkov::Plain;
 use hs_rose::{Expression, Program};
 use std::alloc::Global;
@@ -19,6 +23,7 @@ pub const MAX_ENTRIES: usize = 65_536;
 /// the order of their numbers; else it is what scans each of its expressions.
 pub fn compile(alloc: Global, entries: &[Entry]) -> Result<Database, CompileFault>
     ensures compiled { IfOk result (IsCompiled (map listed entries.now)) }
+    ensures digest { IfOk result (λ database. digest_of database ≡ sha256 (list_bytes (map listed entries.now))) }
     ensures refused { IfErr result (IsCauseOf (map listed entries.now)) }
 {
     let expressions = match compile_entries(alloc, entries) {
@@ -26,7 +31,7 @@ pub fn compile(alloc: Global, entries: &[Entry]) -> Result<Database, CompileFaul
         Err(fault) => return Err(fault),
     };
     match Program::build(alloc, expressions) {
-        Ok(program) => Ok(Database::new(program)),
+        Ok(program) => Ok(Database::new(program, digest(entries))),
         Err(_) => Err(CompileFault::Memory),
     }
 }

@@ -1,5 +1,5 @@
 ghost use Rattle.std.specs.Prelude.{◌≡◌};
-ghost use Rattle.hs_compile.specs.Databases.{program_of};
+ghost use Rattle.hs_compile.specs.Databases.{program_of, digest_of};
 
 use hs_glushkov::Plain;
 use hs_rose::Program;
@@ -8,14 +8,16 @@ use hs_rose::Program;
 #[derive(Debug, Drop)]
 pub struct Database {
     program: Program<Plain>,
+    digest: [u8; 32],
 }
 
 impl Database {
-    /// The database of a program.
-    pub(crate) fn new(program: Program<Plain>) -> Database
-        ensures { program_of result ≡ program }
+    /// The database of a program, and of the digest of its list.
+    pub(crate) fn new(program: Program<Plain>, digest: [u8; 32]) -> Database
+        ensures program { program_of result ≡ program }
+        ensures digest { digest_of result ≡ digest }
     {
-        Database { program }
+        Database { program, digest }
     }
 
     /// What a scan runs.
@@ -23,5 +25,13 @@ impl Database {
         ensures { result.now ≡ program_of self.now }
     {
         &self.program
+    }
+
+    /// The SHA-256 digest of the encoding of its list, by which states of streams are told apart that belong to other
+    /// lists.
+    pub fn digest(&self) -> &[u8; 32]
+        ensures { result.now ≡ digest_of self.now }
+    {
+        &self.digest
     }
 }

@@ -13,6 +13,10 @@ each_at P [] i d each below = absurd (omega (arith, below))
 each_at P (entry ∷ entries) zero d each below = each.0
 each_at P (entry ∷ entries) (suc i) d each below = each_at P entries i d each.1 (omega (arith, below))
 
+-- the text of an entry of a list that has an encoding is short
+pub encodable_text : (entries : List Entry) (i : ℕ) (entry : Entry) → Each (λ e. length e.text < 65536) (map listed entries) → i < length entries → entry ≡ get_or entries i entry → length entry.text.items < 65536
+encodable_text entries i entry each below is = subst (λ (e : Entry). length e.text.items < 65536) (sym is) (each_at (λ e. length e.text < 65536) entries i entry each below)
+
 -- the text of an entry that can be written is short
 pub short_text : (entries : List Entry) (i : ℕ) (entry : Entry) → Each IsWritable (map listed entries) → i < length entries → entry ≡ get_or entries i entry → length entry.text.items < 65536
 short_text entries i entry each below is = (subst (λ e. IsWritable (listed e)) (sym is) (each_at IsWritable entries i entry each below)).short

@@ -51,6 +51,11 @@ pub record AreWritable (entries : List ListedEntry) : Type 0 where
   pub few : length entries < 2 ^ 32
   pub each : Each IsWritable entries
 
+-- The list has an encoding: the number of its entries has 32 bits, and the length of each text 16.
+pub record AreEncodable (entries : List ListedEntry) : Type 0 where
+  pub few : length entries < 2 ^ 32
+  pub short : Each (λ entry. length entry.text < 2 ^ 16) entries
+
 -- The bytes are the database file of the entries.
 pub record IsDatabaseFile (bytes : List ℕ) (entries : List ListedEntry) : Type 0 where
   pub writable : AreWritable entries

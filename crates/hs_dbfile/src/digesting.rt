@@ -2,7 +2,7 @@
 ghost use Rattle.std.specs.Prelude.{◌≡◌, map};
 ghost use Rattle.sha2.specs.Sha256.{sha256};
 ghost use Rattle.hs_base.specs.Entries.{listed};
-ghost use Rattle.hs_dbfile.specs.Files.{AreWritable, list_bytes};
+ghost use Rattle.hs_dbfile.specs.Files.{AreEncodable, list_bytes};
 
 use crate::writing::{count_bytes, fields_of};
 use hs_base::Entry;
@@ -10,7 +10,7 @@ use sha2::{Digest, Sha256};
 
 /// The SHA-256 digest (FIPS 180-4) of the list encoding. It takes no memory.
 pub fn digest(entries: &[Entry]) -> [u8; 32]
-    requires { AreWritable (map listed entries.now) }
+    requires { AreEncodable (map listed entries.now) }
     ensures { result ≡ sha256 (list_bytes (map listed entries.now)) }
 {
     let mut hasher = Sha256::new();

@@ -14,10 +14,9 @@ use Rattle.hs_rose.specs.Programs.{roles_of, identifiers_of, starts_of, region_l
 use Rattle.hs_rose.specs.Roles.{AreStartsOf}
 use Rattle.hs_rose.proofs.RoleLemmas.{named}
 use Rattle.hs_run.specs.declared.state.State.{State}
-use Rattle.hs_run.specs.States.{IsRunnable, Runs, IsStateOf, kept_of}
+use Rattle.hs_run.specs.States.{IsRunnable, Runs, IsStateOf, kept_of, unkept, AreUnkept}
 use Rattle.hs_run.specs.Running.{IsLaid, AreNamed, AreStarted}
 use Rattle.hs_run.proofs.PartLemmas.{laid-starts}
-use Rattle.hs_run.proofs.ReportingLemmas.{nothing}
 
 -- A program that runs some patterns can be run.
 pub runnable : {E : Type 0} (IsFor : E → Tree → Type 0) (width : E → ℕ) (program : Program E) (P : List Pattern) → Runs IsFor program P → AreStartsOf width (roles_of program) (starts_of program) → IsRunnable width program
@@ -49,14 +48,19 @@ start-prev : before.Start ≡ prev_at [] 0
 unfolding prev_at
 start-prev = refl
 
-pub start-state : {E : Type 0} (IsFor : E → Tree → Type 0) (Field : E → List ℕ → Tree → List ℕ → List Bool → Type 0) (program : Program E) (P : List Pattern) → Runs IsFor program P →
-    (state : State) (n : ℕ) → state.offset ≡ 0 → state.prev ≡ before.Start → state.kept.items ≡ replicate n nothing →
+pub cleared-state : {E : Type 0} (IsFor : E → Tree → Type 0) (Field : E → List ℕ → Tree → List ℕ → List Bool → Type 0) (program : Program E) (P : List Pattern) → Runs IsFor program P →
+    (state : State) → state.offset ≡ 0 → state.prev ≡ before.Start → AreUnkept state.kept.items →
     AreStarted IsFor Field (roles_of program) (starts_of program) state.region.items → IsStateOf Field program P [] state
-start-state IsFor Field program P runs state n offset prev kept started = record {
+cleared-state IsFor Field program P runs state offset prev nothing started = record {
   offset = offset;
   prev = prev ∙ start-prev;
-  kept = λ i x k at at'.
-      let same : nothing ≡ k = replicate-at n i nothing k (sym (ap (λ ks. slice_get ks i) kept) ∙ at') in
-      subst (λ v. IsKept P [] x.id.0 (kept_of v)) same (kept-start P x.id.0);
+  kept = λ i x k at at'. subst (λ v. IsKept P [] x.id.0 (kept_of v)) (sym (nothing i k at')) (kept-start P x.id.0);
   fields = λ k r x role pattern. started k r x.tree role (runs.each k r x role pattern).engine;
 }
+
+pub start-state : {E : Type 0} (IsFor : E → Tree → Type 0) (Field : E → List ℕ → Tree → List ℕ → List Bool → Type 0) (program : Program E) (P : List Pattern) → Runs IsFor program P →
+    (state : State) (n : ℕ) → state.offset ≡ 0 → state.prev ≡ before.Start → state.kept.items ≡ replicate n unkept →
+    AreStarted IsFor Field (roles_of program) (starts_of program) state.region.items → IsStateOf Field program P [] state
+start-state IsFor Field program P runs state n offset prev kept started =
+    cleared-state IsFor Field program P runs state offset prev
+    (λ i k at. sym (replicate-at n i unkept k (sym (ap (λ ks. slice_get ks i) kept) ∙ at))) started

@@ -1,5 +1,5 @@
 -- The state of a stream that a program scans.
-use Rattle.std.specs.Prelude.{◌≡◌, ℕ, ◌+◌, ◌<◌, Bool, List, length, Some, slice_get, slice_range, slice_index}
+use Rattle.std.specs.Prelude.{◌≡◌, ℕ, ◌+◌, ◌<◌, Bool, false, List, length, Some, slice_get, slice_range, slice_index}
 use Rattle.hs_base.specs.Trees.{Tree}
 use Rattle.hs_base.specs.Contexts.{prev_at}
 use Rattle.hs_base.specs.Fields.{entered_always}
@@ -16,6 +16,14 @@ use Rattle.hs_run.specs.declared.state.Kept.{Kept as KeptOf}
 -- what is kept of an identifier, as plain data
 abbrev pub kept_of : KeptOf → Kept
 kept_of kept = record { told = kept.told; here = kept.here; last = kept.last }
+
+-- nothing is kept of an identifier
+abbrev pub unkept : KeptOf
+unkept = record { told = false; here = false; last = false }
+
+-- of each identifier nothing is kept
+abbrev pub AreUnkept : List KeptOf → Type 0
+AreUnkept kept = (i : ℕ) (k : KeptOf) → slice_get kept i ≡ Some k → k ≡ unkept
 
 -- how many bytes have come
 abbrev pub offset_of : State → ℕ

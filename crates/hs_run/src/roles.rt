@@ -242,3 +242,24 @@ pub fn clear_roles<E: Engine>(roles: &[Role<E>], starts: &[usize], region: &mut 
         clear_role(&roles[k], &mut region[starts[k]..starts[k + 1]]);
     }
 }
+
+/// Whether the part of a role may be a field of its engine at the offset.
+fn is_well<E: Engine>(role: &Role<E>, part: &[u8], at: u64) -> bool
+    requires { length part.now ≡ E.width role.now.engine }
+    ensures { IsTrue result ↔ E.well role.now.engine part.now at }
+{
+    role.engine.well_formed(part, at)
+}
+
+/// Whether the part of each role may be a field of its engine at the offset.
+pub fn are_well<E: Engine>(roles: &[Role<E>], starts: &[usize], region: &[u8], at: u64) -> bool
+    requires { IsLaid E.width roles.now starts.now (length region.now) }
+    ensures { IsTrue result ↔ AreWell E.well roles.now starts.now region.now at }
+{
+    for k in 0..roles.len() {
+        if !is_well(&roles[k], &region[starts[k]..starts[k + 1]], at) {
+            return false;
+        }
+    }
+    true
+}

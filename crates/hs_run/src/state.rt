@@ -1,8 +1,9 @@
 //! What is kept of a stream between two of its bytes.
-ghost use Rattle.std.specs.Prelude.{◌≡◌, List, [], IfOk};
+ghost use Rattle.std.specs.Prelude.{◌≡◌, ◌↔◌, List, [], length, IsTrue, IfOk};
 ghost use Rattle.hs_base.specs.Patterns.{Pattern};
+ghost use Rattle.hs_run.specs.States.{AreUnkept};
 
-use crate::roles::clear_roles;
+use crate::roles::{are_well, clear_roles};
 use hs_base::Prev;
 use hs_engine::Engine;
 use hs_rose::Program;
@@ -17,6 +18,15 @@ pub struct Kept {
     pub here: bool,
     /// Were the stream ended now, its pair that ends before the last byte would be reported, and it hasn't been.
     pub last: bool,
+}
+
+impl Kept {
+    /// What is kept of an identifier before the first byte.
+    const NOTHING: Kept = Kept {
+        told: false,
+        here: false,
+        last: false,
+    };
 }
 
 /// The state of a stream that a program scans.
@@ -44,12 +54,7 @@ impl State {
     {
         let mut region = vec![in alloc; 0u8; program.region_len()]?;
         clear_roles(program.roles(), program.starts(), &mut region);
-        let nothing = Kept {
-            told: false,
-            here: false,
-            last: false,
-        };
-        let kept = vec![in alloc; nothing; program.identifiers().len()]?;
+        let kept = vec![in alloc; Kept::NOTHING; program.identifiers().len()]?;
         Ok(State {
             offset: 0,
             prev: Prev::Start,
@@ -63,5 +68,43 @@ impl State {
         ensures { result ≡ self.now.offset }
     {
         self.offset
+    }
+
+    /// Whether the state has the room that the program takes, and its bytes may be those of engines at its offset.
+    pub fn fits<E: Engine>(&self, program: &Program<E>) -> bool
+        requires { IsRunnable E.width program.now }
+        ensures { IsTrue result ↔ FitsState E.well program.now self.now }
+    {
+        if self.kept.len() != program.identifiers().len() {
+            return false;
+        }
+        if self.region.len() != program.region_len() {
+            return false;
+        }
+        are_well(program.roles(), program.starts(), &self.region, self.offset)
+    }
+
+    /// Makes it the state of a stream of which no byte has come. It takes no memory.
+    pub fn clear<E: Engine>(&mut self, program: &Program<E>)
+        requires runs { IsRunnable E.width program.now }
+        requires fits { FitsState E.well program.now self.old }
+        ensures offset { self.new.offset ≡ 0 }
+        ensures fits { FitsState E.well program.now self.new }
+        ensures start { (P : List Pattern) → Runs E.is_for program.now P → IsStateOf E.field program.now P [] self.new }
+    {
+        clear_roles(program.roles(), program.starts(), &mut self.region);
+        keep_nothing(&mut self.kept);
+        self.offset = 0;
+        self.prev = Prev::Start;
+    }
+}
+
+/// Makes it what is kept of the identifiers before the first byte.
+fn keep_nothing(kept: &mut [Kept])
+    ensures len { length kept.new ≡ length kept.old }
+    ensures unkept { AreUnkept kept.new }
+{
+    for one in kept.iter_mut() {
+        *one = Kept::NOTHING;
     }
 }

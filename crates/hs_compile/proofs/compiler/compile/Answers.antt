@@ -4,6 +4,7 @@ use Rattle.hs_rose.specs.Programs.{roles_of, identifiers_of, starts_of}
 use Rattle.hs_rose.specs.Roles.{AreRolesOf, AreStartsOf}
 use Rattle.hs_compile.specs.Databases.{IsEngineOf}
 use Rattle.hs_compile.proofs.ListLemmas.{few-expressions}
+use Rattle.hs_compile.proofs.LengthLemmas.{encodable}
 use Rattle.hs_compile.proofs.compiler.compile.Goals as goal
 
 pub build-requires-clause-few : goal.build-requires-clause-few
@@ -16,7 +17,10 @@ returns-in-Ok-build-clause-compiled c =
       patterns = compiled.patterns;
       accepted = compiled.accepted;
       runs = record {
-        roles = subst (λ program. AreRolesOf IsEngineOf (roles_of program) (identifiers_of program) compiled.patterns) (sym c.new.ensures) (c.in-Ok-build.ensures.roles compiled.patterns compiled.run);
-        starts = subst (λ program. AreStartsOf width_of (roles_of program) (starts_of program)) (sym c.new.ensures) c.in-Ok-build.ensures.starts;
+        roles = subst (λ program. AreRolesOf IsEngineOf (roles_of program) (identifiers_of program) compiled.patterns) (sym c.new.ensures.program) (c.in-Ok-build.ensures.roles compiled.patterns compiled.run);
+        starts = subst (λ program. AreStartsOf width_of (roles_of program) (starts_of program)) (sym c.new.ensures.program) c.in-Ok-build.ensures.starts;
       };
     }
+
+pub digest-requires : goal.digest-requires
+digest-requires c = encodable _ c.in-Ok.expressions.items c.in-Ok.ensures.compiled

@@ -1,12 +1,12 @@
 use Rattle.std.proofs.Common.{◌++◌, refl, List, ℕ}
 use Rattle.hs_base.specs.Entries.{listed}
 use Rattle.hs_dbfile.specs.Files.{list_bytes}
-use Rattle.hs_dbfile.proofs.WritingLemmas.{short_text, step_written, entry_written}
+use Rattle.hs_dbfile.proofs.WritingLemmas.{encodable_text, step_written, entry_written}
 use Rattle.hs_dbfile.proofs.digesting.digest.Goals as goal
 use Rattle.std.proofs.Common.{map}
 
 pub fields_of-requires : goal.fields_of-requires
-fields_of-requires c = short_text c.args.entries.now c.loop-entry.entry-index c.entry-item.result c.requires.each c.loop-entry-test.true c.entry-item.is
+fields_of-requires c = encodable_text c.args.entries.now c.loop-entry.entry-index c.entry-item.result c.requires.short c.loop-entry-test.true c.entry-item.is
 
 pub loop-entry-preserved : goal.loop-entry-preserved
 loop-entry-preserved c =

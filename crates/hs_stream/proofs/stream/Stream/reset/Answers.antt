@@ -1,0 +1,16 @@
+use Rattle.std.proofs.Common.{subst}
+use Rattle.hs_glushkov.specs.declared.plain.Plain.{Plain}
+use Rattle.hs_rose.specs.declared.program.Program.{Program}
+use Rattle.hs_compile.specs.Databases.{IsEngineOf}
+use Rattle.hs_run.specs.Events.{Takes}
+use Rattle.hs_run.specs.Feeding.{Finishes}
+use Rattle.hs_stream.specs.Engines.{Keeps}
+use Rattle.hs_stream.specs.Writing.{IsStart}
+use Rattle.hs_stream.proofs.stream.Stream.reset.Goals as goal
+
+pub returns-clause-fresh : goal.returns-clause-fresh
+returns-clause-fresh g c = subst (λ (p : Program Plain). IsStart IsEngineOf Keeps p c.clear.new.self) c.program-2.ensures c.clear.ensures.start
+
+pub returns-clause-told : goal.returns-clause-told
+returns-clause-told g c =
+    subst (λ (p : Program Plain). Takes g.V.Events.tells c.args.events.now c.finish.new.events (Finishes IsEngineOf Keeps p c.args.self.now.state)) c.program.ensures c.finish.ensures.taken

@@ -1,0 +1,6 @@
+pub mod Limits
+pub mod Engines
+pub mod Scratches
+pub mod Fitting
+pub mod Streams
+pub mod Writing
