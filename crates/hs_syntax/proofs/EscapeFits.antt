@@ -50,8 +50,8 @@ unfolding braced_at
 braced_fits radix bytes =
     either (EscapeFits (length bytes)) (is_one_of "{" (slice_get bytes 2) && (nat_lt 0 number.count && is_one_of "}" (slice_get bytes (number.count + 3)))) _ _
     (λ h.
-        let there = is_one_within "}" bytes (number.count + 3) (both_right (nat_lt 0 number.count) _ (both_right (is_one_of "{" (slice_get bytes 2)) _ h)) in
-        coded_fits (length bytes) number.value (number.count + 4) (omega arith) (omega (arith, there)))
+    let there = is_one_within "}" bytes (number.count + 3) (both_right (nat_lt 0 number.count) _ (both_right (is_one_of "{" (slice_get bytes 2)) _ h)) in
+    coded_fits (length bytes) number.value (number.count + 4) (omega arith) (omega (arith, there)))
     (λ _. tt)
   where
     number : Number
@@ -110,6 +110,7 @@ posix_fits caseless bytes h = posix_name_fits caseless negated bytes at (name_en
   where
     negated : Bool
     negated = is_one_of "^" (slice_get bytes 2)
+
     at : ℕ
     at = if negated then 3 else 2
 

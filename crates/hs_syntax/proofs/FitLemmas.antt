@@ -98,7 +98,7 @@ options_near on mode at [] = record { rises = omega arith; near = omega arith }
 options_near on mode at (b ∷ bytes) =
     either (λ (c : Change). IsNear at c.end (at + length (b ∷ bytes))) (is_option b) _ _
     (λ h. let rest = options_near on (set_option b on mode) (at + 1) bytes in
-        record { rises = omega (arith, rest.rises); near = omega (arith, rest.near) })
+    record { rises = omega (arith, rest.rises); near = omega (arith, rest.near) })
     (λ h. record { rises = omega arith; near = omega arith })
 
 number_near :
@@ -108,7 +108,7 @@ number_near radix most value count [] = record { rises = omega arith; near = ome
 number_near radix most value count (b ∷ bytes) =
     either (λ (n : Number). IsNear count n.count (count + length (b ∷ bytes))) (nat_lt count most && nat_lt (digit_of b) radix) _ _
     (λ h. let rest = number_near radix most (value * radix + digit_of b) (count + 1) bytes in
-        record { rises = omega (arith, rest.rises); near = omega (arith, rest.near) })
+    record { rises = omega (arith, rest.rises); near = omega (arith, rest.near) })
     (λ h. record { rises = omega arith; near = omega arith })
 
 -- digits end within the bytes
@@ -125,9 +125,9 @@ unfolding name_end
 name_within mark bytes at =
     either (λ found. IfSome found (λ end. (at < end) × (end + 2 ≤ length bytes))) (nat_lt at end && (is_byte mark (slice_get bytes end) && is_byte closing_bracket (slice_get bytes (end + 1)))) _ _
     (λ h.
-        let marks = both_right (nat_lt at end) _ h in
-        let there = byte_within bytes (end + 1) closing_bracket (both_right (is_byte mark (slice_get bytes end)) _ marks) in
-        (less at end (both_left (nat_lt at end) _ h), omega (arith, there)))
+    let marks = both_right (nat_lt at end) _ h in
+    let there = byte_within bytes (end + 1) closing_bracket (both_right (is_byte mark (slice_get bytes end)) _ marks) in
+    (less at end (both_left (nat_lt at end) _ h), omega (arith, there)))
     (λ h. tt)
   where
     end : ℕ
@@ -139,10 +139,10 @@ unfolding group_name_end
 group_name_within mark bytes at =
     either (λ found. IfSome found (λ end. (at < end) × (end ≤ length bytes))) (nat_lt at end && (nat_le end (at + 32) && (not (is_digit (slice_get bytes at)) && is_byte mark (slice_get bytes end)))) _ _
     (λ h.
-        let first = less at end (both_left (nat_lt at end) _ h) in
-        let there = byte_within bytes end mark
-        (both_right (not (is_digit (slice_get bytes at))) _ (both_right (nat_le end (at + 32)) _ (both_right (nat_lt at end) _ h))) in
-        (omega (arith, first), omega (arith, there)))
+    let first = less at end (both_left (nat_lt at end) _ h) in
+    let there = byte_within bytes end mark
+    (both_right (not (is_digit (slice_get bytes at))) _ (both_right (nat_le end (at + 32)) _ (both_right (nat_lt at end) _ h))) in
+    (omega (arith, first), omega (arith, there)))
     (λ h. tt)
   where
     end : ℕ

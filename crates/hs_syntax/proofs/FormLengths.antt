@@ -114,16 +114,16 @@ second_fits : (bytes : List ℕ) (first second : Number) (at : ℕ) → 1 ≤ le
 second_fits bytes first second at h =
     either (FormFits (length bytes)) (is_one_of "}" (slice_get bytes at)) _ _
     (λ e.
-        let there = is_one_within "}" bytes at e in
-        quantifier_fits first.value (if second.count == 0 then None else Some second.value) bytes (at + 1) (omega arith) (omega (arith, there)))
+    let there = is_one_within "}" bytes at e in
+    quantifier_fits first.value (if second.count == 0 then None else Some second.value) bytes (at + 1) (omega arith) (omega (arith, there)))
     (λ _. fits (omega arith) h)
 
 first_fits : (bytes : List ℕ) (first : Number) (at : ℕ) → 1 ≤ length bytes → FormFits (length bytes) (first_of bytes first at)
 first_fits bytes first at h =
     either (FormFits (length bytes)) (is_one_of "}" (slice_get bytes at)) _ _
     (λ e.
-        let there = is_one_within "}" bytes at e in
-        quantifier_fits first.value (Some first.value) bytes (at + 1) (omega arith) (omega (arith, there)))
+    let there = is_one_within "}" bytes at e in
+    quantifier_fits first.value (Some first.value) bytes (at + 1) (omega arith) (omega (arith, there)))
     (λ _. either (FormFits (length bytes)) (is_one_of "," (slice_get bytes at)) _ _
     (λ _. second_fits bytes first (decimal_at bytes (at + 1)) (at + 1 + (decimal_at bytes (at + 1)).count) h)
     (λ _. fits (omega arith) h))
@@ -189,8 +189,8 @@ quoted_fits mode bytes (Some b) e =
     let there = slice_get_within bytes 0 b e in
     either (FormFits (length bytes)) ((b ∈ "\\") && is_one_of "E" (slice_get bytes 1)) _ _
     (λ h.
-        let next = is_one_within "E" bytes 1 (both_right (b ∈ "\\") _ h) in
-        fits (omega arith) (omega (arith, next)))
+    let next = is_one_within "E" bytes 1 (both_right (b ∈ "\\") _ h) in
+    fits (omega arith) (omega (arith, next)))
     (λ _. fits (omega arith) (omega (arith, there)))
 
 -- a form takes some of the bytes

@@ -1,5 +1,3 @@
-use self::faults::FAULTS;
-use self::trees::{ASSERTIONS, CLASSES, ESCAPES, GROUPS, QUANTIFIERS, RANGES, Row, SKIPPED, TREES};
 use super::*;
 use hs_base::{Assertion, ByteSet, Construct};
 use std::process::Abort;
@@ -7,6 +5,23 @@ use std::test::Fail;
 
 mod faults;
 mod trees;
+
+/// Appends a byte, by `%` and two hexadecimal digits where it isn't printed.
+fn write_byte(out: &mut Vec<u8>, byte: u8) -> Result<(), Fail> {
+    if matches!(byte, 0x21..=0x7E) {
+        out.push(byte)?;
+        return Ok(());
+    }
+    out.push(b'%')?;
+    for digit in [byte / 16, byte % 16] {
+        out.push(if digit < 10 {
+            b'0' + digit
+        } else {
+            b'A' + digit - 10
+        })?;
+    }
+    Ok(())
+}
 
 /// Appends a set: `_` for every byte but the line feed, the byte itself where it is the only one, and else the ranges of
 /// the members between brackets.
@@ -30,7 +45,7 @@ fn write_set(out: &mut Vec<u8>, set: &ByteSet) -> Result<(), Fail> {
             if before {
                 out.push(b'-')?;
             }
-            out.push(byte)?;
+            write_byte(out, byte)?;
         }
         before = here;
     }
@@ -123,58 +138,101 @@ fn write_number(out: &mut Vec<u8>, number: u32) -> Result<(), Fail> {
     Ok(())
 }
 
-/// Checks texts against their trees.
-fn check_trees(rt: &impl Abort, alloc: Global, rows: &[Row]) -> Result<(), Fail> {
-    for (flags, text, tree) in rows {
-        let expr = parse(alloc, text, Flags(*flags))?;
-        let mut written = Vec::new(alloc);
-        write_tree(&mut written, &expr)?;
-        assert!(rt;
-            written.as_slice() == *tree,
-            "{text:?} is read as {written:?}"
-        );
+/// The bytes before the first mark, and those behind it.
+fn cut(bytes: &[u8], mark: u8) -> (&[u8], &[u8]) {
+    match bytes.iter().position(|byte| *byte == mark) {
+        Some(at) => (&bytes[..at], &bytes[at + 1..]),
+        None => (bytes, &[]),
+    }
+}
+
+/// The flags that a row begins with, its text, and what is expected of it.
+fn fields(row: &[u8]) -> (Flags, &[u8], &[u8]) {
+    let (flags, behind) = cut(row, b'\t');
+    let (text, expected) = cut(behind, b'\t');
+    let flags = match flags {
+        [digit, ..] => *digit as u16 % 8,
+        [] => 0,
+    };
+    (Flags(flags), text, expected)
+}
+
+/// Checks a text against its tree.
+fn check_tree(
+    rt: &impl Abort,
+    alloc: Global,
+    flags: Flags,
+    text: &[u8],
+    tree: &[u8],
+) -> Result<(), Fail> {
+    let expr = parse(alloc, text, flags)?;
+    let mut written = Vec::new(alloc);
+    write_tree(&mut written, &expr)?;
+    assert!(rt;
+        written.as_slice() == tree,
+        "{text:?} is read as {written:?}"
+    );
+    Ok(())
+}
+
+/// Checks the texts of some rows against their trees.
+fn check_trees(rt: &impl Abort, alloc: Global, rows: &[u8]) -> Result<(), Fail> {
+    let mut rest = rows;
+    while !rest.is_empty() {
+        let (row, behind) = cut(rest, b'\n');
+        let (flags, text, tree) = fields(row);
+        check_tree(rt, alloc, flags, text, tree)?;
+        rest = behind;
     }
     Ok(())
 }
 
 #[test]
 fn reads_the_grammar(rt: HostRuntime) -> Result<(), Fail> {
-    check_trees(&rt, rt.alloc(), &TREES)
+    check_trees(&rt, rt.alloc(), trees::TREES)
 }
 
 #[test]
 fn reads_ranges(rt: HostRuntime) -> Result<(), Fail> {
-    check_trees(&rt, rt.alloc(), &RANGES)
+    check_trees(&rt, rt.alloc(), trees::RANGES)
 }
 
 #[test]
 fn reads_classes(rt: HostRuntime) -> Result<(), Fail> {
-    check_trees(&rt, rt.alloc(), &CLASSES)
+    check_trees(&rt, rt.alloc(), trees::CLASSES)
 }
 
 #[test]
 fn reads_escapes(rt: HostRuntime) -> Result<(), Fail> {
-    check_trees(&rt, rt.alloc(), &ESCAPES)
+    check_trees(&rt, rt.alloc(), trees::ESCAPES)
 }
 
 #[test]
 fn reads_assertions(rt: HostRuntime) -> Result<(), Fail> {
-    check_trees(&rt, rt.alloc(), &ASSERTIONS)
+    check_trees(&rt, rt.alloc(), trees::ASSERTIONS)
 }
 
 #[test]
 fn reads_quantifiers(rt: HostRuntime) -> Result<(), Fail> {
-    check_trees(&rt, rt.alloc(), &QUANTIFIERS)
+    check_trees(&rt, rt.alloc(), trees::QUANTIFIERS)
 }
 
 #[test]
 fn reads_groups_and_options(rt: HostRuntime) -> Result<(), Fail> {
-    check_trees(&rt, rt.alloc(), &GROUPS)
+    check_trees(&rt, rt.alloc(), trees::GROUPS)
 }
 
 #[test]
 fn skips_what_has_no_meaning(rt: HostRuntime) -> Result<(), Fail> {
-    check_trees(&rt, rt.alloc(), &SKIPPED)
+    check_trees(&rt, rt.alloc(), trees::SKIPPED)
+}
+
+#[test]
+fn reads_blanks(rt: HostRuntime) -> Result<(), Fail> {
+    for (flags, text, tree) in trees::BLANKS {
+        check_tree(&rt, rt.alloc(), Flags(flags), text, tree)?;
+    }
+    Ok(())
 }
 
 /// The refusal, or `None` where there is none.
@@ -185,12 +243,35 @@ fn refusal_of(outcome: Result<Expr, ParseFault>) -> Option<Refusal> {
     }
 }
 
+/// Checks a text against its fault.
+fn check_fault(
+    rt: &impl Abort,
+    alloc: Global,
+    flags: Flags,
+    text: &[u8],
+    fault: &[u8],
+) -> Result<(), Fail> {
+    let Some(refusal) = refusal_of(parse(alloc, text, flags)) else {
+        panic!(rt; "{text:?} isn't refused")
+    };
+    let written = format!(in alloc; "{refusal:?}")?;
+    assert!(rt; written.as_bytes() == fault, "{text:?} has {written}");
+    Ok(())
+}
+
 #[test]
-fn refuses_the_first_fault(rt: HostRuntime) {
-    for (flags, text, fault) in FAULTS {
-        let outcome = refusal_of(parse(rt.alloc(), text, Flags(flags)));
-        assert_eq!(rt; outcome, Some(fault), "{text:?}");
+fn refuses_the_first_fault(rt: HostRuntime) -> Result<(), Fail> {
+    let mut rest = faults::FAULTS;
+    while !rest.is_empty() {
+        let (row, behind) = cut(rest, b'\n');
+        let (flags, text, fault) = fields(row);
+        check_fault(&rt, rt.alloc(), flags, text, fault)?;
+        rest = behind;
     }
+    for (flags, text, fault) in faults::BLANKS {
+        check_fault(&rt, rt.alloc(), Flags(flags), text, fault)?;
+    }
+    Ok(())
 }
 
 /// Texts of so many bytes that are the same, and then these, with the fault if there is one.

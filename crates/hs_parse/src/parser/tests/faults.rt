@@ -1,395 +1,314 @@
-//! Texts with their faults, by the pattern syntax.
-
-use hs_base::{Construct, Refusal};
-
-/// Flags, a text and its fault.
-pub(crate) type FaultRow = (u16, &'static [u8], Refusal);
+//! Texts with their faults, by the pattern syntax. A row is flags, a text and its fault, with tabs between them.
 
 /// Texts that are refused.
-pub(crate) const FAULTS: [FaultRow; 305] = [
-    (0, b"*", Refusal::Syntax(0)),
-    (0, b"+a", Refusal::Syntax(0)),
-    (0, b"?", Refusal::Syntax(0)),
-    (0, b"a**", Refusal::Syntax(2)),
-    (0, b"a+*", Refusal::Syntax(2)),
-    (0, b"a?*", Refusal::Syntax(2)),
-    (0, b"a|*", Refusal::Syntax(2)),
-    (0, b"(+a)", Refusal::Syntax(1)),
-    (0, b"(a)+*", Refusal::Syntax(4)),
-    (0, b"a*?*", Refusal::Syntax(3)),
-    (0, b"a*?+", Refusal::Syntax(3)),
-    (0, b"a*??", Refusal::Syntax(3)),
-    (0, b"a{2}*", Refusal::Syntax(4)),
-    (0, b"a{2}{3}", Refusal::Syntax(4)),
-    (0, b"{2}", Refusal::Syntax(0)),
-    (0, b"a|{2}", Refusal::Syntax(2)),
-    (0, b"({2,3})", Refusal::Syntax(1)),
-    (0, b"(?i)*", Refusal::Syntax(4)),
-    (0, b"(?i){2}", Refusal::Syntax(4)),
-    (0, b"a(?i)*", Refusal::Syntax(5)),
-    (0, b"(?:*a)", Refusal::Syntax(3)),
-    (0, b"(?i:+)", Refusal::Syntax(4)),
-    (0, b"(?|?)", Refusal::Syntax(3)),
-    (0, b"(?x) *", Refusal::Syntax(5)),
-    (0, b"(?#x)*", Refusal::Syntax(5)),
-    (0, b"a*(?#)*", Refusal::Syntax(6)),
-    (0, b"a*\\E*", Refusal::Syntax(4)),
-    (0, b"\\Q\\E*", Refusal::Syntax(4)),
-    (0, b"a{3,2}", Refusal::Syntax(1)),
-    (0, b"a{1,0}", Refusal::Syntax(1)),
-    (0, b"a{3,2}+", Refusal::Syntax(1)),
-    (0, b")", Refusal::Syntax(0)),
-    (0, b"a)", Refusal::Syntax(1)),
-    (0, b"(a))", Refusal::Syntax(3)),
-    (0, b"a|b)c(", Refusal::Syntax(3)),
-    (0, b"(?i))", Refusal::Syntax(4)),
-    (0, b"(", Refusal::Syntax(1)),
-    (0, b"(a", Refusal::Syntax(2)),
-    (0, b"((a)", Refusal::Syntax(4)),
-    (0, b"(a|", Refusal::Syntax(3)),
-    (0, b"(?:a", Refusal::Syntax(4)),
-    (0, b"(?i:a", Refusal::Syntax(5)),
-    (0, b"(?<n>a", Refusal::Syntax(6)),
-    (0, b"(a(?i)b", Refusal::Syntax(7)),
-    (0, b"(\\Q)", Refusal::Syntax(4)),
-    (0, b"(a(?#x)", Refusal::Syntax(7)),
-    (0, b"(?x)(#)", Refusal::Syntax(7)),
-    (0, b"a(?#\\)b)", Refusal::Syntax(7)),
-    (0, b"\\", Refusal::Syntax(0)),
-    (0, b"a\\", Refusal::Syntax(1)),
-    (0, b"(\\", Refusal::Syntax(1)),
-    (0, b"\\c", Refusal::Syntax(0)),
-    (0, b"\\c\n", Refusal::Syntax(0)),
-    (0, b"\\c\x7f", Refusal::Syntax(0)),
-    (0, b"\\c\x80", Refusal::Syntax(0)),
-    (0, b"a\\c", Refusal::Syntax(1)),
-    (0, b"\\x{", Refusal::Syntax(0)),
-    (0, b"\\x{}", Refusal::Syntax(0)),
-    (0, b"\\x{4", Refusal::Syntax(0)),
-    (0, b"\\x{g}", Refusal::Syntax(0)),
-    (0, b"\\x{4g}", Refusal::Syntax(0)),
-    (0, b"\\x{100}", Refusal::Syntax(0)),
-    (0, b"\\x{ffffffff}", Refusal::Syntax(0)),
-    (0, b"\\x{000000041}", Refusal::Syntax(0)),
-    (0, b"\\x{ 41}", Refusal::Syntax(0)),
-    (0, b"\\o", Refusal::Syntax(0)),
-    (0, b"\\o1", Refusal::Syntax(0)),
-    (0, b"\\o{", Refusal::Syntax(0)),
-    (0, b"\\o{}", Refusal::Syntax(0)),
-    (0, b"\\o{8}", Refusal::Syntax(0)),
-    (0, b"\\o{400}", Refusal::Syntax(0)),
-    (0, b"\\o{000000101}", Refusal::Syntax(0)),
-    (0, b"\\o{18}", Refusal::Syntax(0)),
-    (0, b"[", Refusal::Syntax(0)),
-    (0, b"a[", Refusal::Syntax(1)),
-    (0, b"[]", Refusal::Syntax(0)),
-    (0, b"[^", Refusal::Syntax(0)),
-    (0, b"[^]", Refusal::Syntax(0)),
-    (0, b"[a", Refusal::Syntax(0)),
-    (0, b"[a-", Refusal::Syntax(0)),
-    (0, b"[a-b", Refusal::Syntax(0)),
-    (0, b"(a[b", Refusal::Syntax(2)),
-    (0, b"[z-a]", Refusal::Syntax(1)),
-    (0, b"[z-a", Refusal::Syntax(1)),
-    (0, b"[ab-a]", Refusal::Syntax(2)),
-    (0, b"[a--]", Refusal::Syntax(1)),
-    (0, b"[^z-a]", Refusal::Syntax(2)),
-    (0, b"[\\", Refusal::Syntax(1)),
-    (0, b"[a\\", Refusal::Syntax(2)),
-    (0, b"[a-\\", Refusal::Syntax(3)),
-    (0, b"[\\c", Refusal::Syntax(1)),
-    (0, b"[\\x{g}]", Refusal::Syntax(1)),
-    (0, b"[a\\x{100}]", Refusal::Syntax(2)),
-    (0, b"[a-\\x{100}]", Refusal::Syntax(3)),
-    (0, b"[\\o]", Refusal::Syntax(1)),
-    (0, b"[\\x62-a]", Refusal::Syntax(1)),
-    (0, b"[\\c]", Refusal::Syntax(0)),
-    (0, b"[[:foo:]]", Refusal::Syntax(1)),
-    (0, b"[[:^foo:]]", Refusal::Syntax(1)),
-    (0, b"[a[:foo:]]", Refusal::Syntax(2)),
-    (0, b"[a-[:foo:]]", Refusal::Syntax(3)),
-    (0, b"[[:alphaa:]]", Refusal::Syntax(1)),
-    (0, b"[[:a:]", Refusal::Syntax(1)),
-    (0, b"[:alpha:]", Refusal::Syntax(0)),
-    (0, b"a[:xyz:]b", Refusal::Syntax(1)),
-    (0, b"[:a:]]", Refusal::Syntax(0)),
-    (0, b"[:a:", Refusal::Syntax(0)),
-    (0, b"[:^alpha:", Refusal::Syntax(0)),
-    (0, b"[[:alpha:]", Refusal::Syntax(0)),
-    (0, b"[[:alpha:", Refusal::Syntax(0)),
-    (0, b"(?", Refusal::Syntax(0)),
-    (0, b"(?<", Refusal::Syntax(0)),
-    (0, b"(?<>a)", Refusal::Syntax(0)),
-    (0, b"(?<n", Refusal::Syntax(0)),
-    (0, b"(?<n a>b)", Refusal::Syntax(0)),
-    (0, b"(?<1n>a)", Refusal::Syntax(0)),
-    (0, b"(?<n-m>a)", Refusal::Syntax(0)),
-    (0, b"(?P<>a)", Refusal::Syntax(0)),
-    (0, b"(?P<1>a)", Refusal::Syntax(0)),
-    (0, b"(?P<n", Refusal::Syntax(0)),
-    (0, b"(?''a)", Refusal::Syntax(0)),
-    (0, b"(?'n", Refusal::Syntax(0)),
-    (0, b"(?'n>a)", Refusal::Syntax(0)),
-    (
-        0,
-        b"(?<nnnnnnnnnnnnnnnnnnnnnnnnnnnnnnnnn>a)",
-        Refusal::Syntax(0),
-    ),
-    (0, b"(?#", Refusal::Syntax(0)),
-    (0, b"a(?#x", Refusal::Syntax(1)),
-    (0, b"(?#\\", Refusal::Syntax(0)),
-    (0, b"(?i", Refusal::Syntax(0)),
-    (0, b"(?i-", Refusal::Syntax(0)),
-    (0, b"(?-", Refusal::Syntax(0)),
-    (0, b"(?i-i-i)", Refusal::Syntax(0)),
-    (0, b"(?--i)", Refusal::Syntax(0)),
-    (0, b"(?i-1)", Refusal::Syntax(0)),
-    (0, b"(?i*)", Refusal::Syntax(0)),
-    (0, b"(?^)", Refusal::Syntax(0)),
-    (0, b"(?i^)", Refusal::Syntax(0)),
-    (0, b"(?*)", Refusal::Syntax(0)),
-    (0, b"(?[)", Refusal::Syntax(0)),
-    (0, b"(?,)", Refusal::Syntax(0)),
-    (0, b"(?$)", Refusal::Syntax(0)),
-    (0, b"(?\xe9)", Refusal::Syntax(0)),
-    (0, b"a(?@", Refusal::Syntax(1)),
-    (0, b"a{32768}", Refusal::RepeatLimit(32768)),
-    (0, b"a{32768,}", Refusal::RepeatLimit(32768)),
-    (0, b"a{0,32768}", Refusal::RepeatLimit(32768)),
-    (0, b"a{1,99999}", Refusal::RepeatLimit(99999)),
-    (0, b"a{40000,50000}", Refusal::RepeatLimit(40000)),
-    (0, b"a{40000,1}", Refusal::RepeatLimit(40000)),
-    (0, b"a{4294967295}", Refusal::RepeatLimit(4294967295)),
-    (0, b"a{4294967296}", Refusal::RepeatLimit(4294967295)),
-    (
-        0,
-        b"a{99999999999999999999}",
-        Refusal::RepeatLimit(4294967295),
-    ),
-    (0, b"a{2,4294967294}", Refusal::RepeatLimit(4294967294)),
-    (0, b"a{32768}?", Refusal::RepeatLimit(32768)),
-    (0, b"a*+", Refusal::Unsupported(Construct::Possessive, 1)),
-    (0, b"a++", Refusal::Unsupported(Construct::Possessive, 1)),
-    (0, b"a?+", Refusal::Unsupported(Construct::Possessive, 1)),
-    (0, b"a{2}+", Refusal::Unsupported(Construct::Possessive, 1)),
-    (0, b"a{2,}+", Refusal::Unsupported(Construct::Possessive, 1)),
-    (
-        0,
-        b"a{2,3}+",
-        Refusal::Unsupported(Construct::Possessive, 1),
-    ),
-    (
-        0,
-        b"a{32768}+",
-        Refusal::Unsupported(Construct::Possessive, 1),
-    ),
-    (
-        0,
-        b"a{1,32768}+",
-        Refusal::Unsupported(Construct::Possessive, 1),
-    ),
-    (0, b"(a)*+", Refusal::Unsupported(Construct::Possessive, 3)),
-    (0, b"*+", Refusal::Syntax(0)),
-    (0, b"a**+", Refusal::Syntax(2)),
-    (0, b"{32768}", Refusal::Syntax(0)),
-    (0, b"a*{32768}", Refusal::Syntax(2)),
-    (0, b"{3,2}+", Refusal::Syntax(0)),
-    (0, b"\\1", Refusal::Unsupported(Construct::Backreference, 0)),
-    (0, b"\\2", Refusal::Unsupported(Construct::Backreference, 0)),
-    (0, b"\\3", Refusal::Unsupported(Construct::Backreference, 0)),
-    (0, b"\\4", Refusal::Unsupported(Construct::Backreference, 0)),
-    (0, b"\\5", Refusal::Unsupported(Construct::Backreference, 0)),
-    (0, b"\\6", Refusal::Unsupported(Construct::Backreference, 0)),
-    (0, b"\\7", Refusal::Unsupported(Construct::Backreference, 0)),
-    (0, b"\\8", Refusal::Unsupported(Construct::Backreference, 0)),
-    (0, b"\\9", Refusal::Unsupported(Construct::Backreference, 0)),
-    (0, b"\\g", Refusal::Unsupported(Construct::Backreference, 0)),
-    (0, b"\\k", Refusal::Unsupported(Construct::Backreference, 0)),
-    (
-        0,
-        b"(a)\\1",
-        Refusal::Unsupported(Construct::Backreference, 3),
-    ),
-    (
-        0,
-        b"[\\1]",
-        Refusal::Unsupported(Construct::Backreference, 1),
-    ),
-    (
-        0,
-        b"[\\9]",
-        Refusal::Unsupported(Construct::Backreference, 1),
-    ),
-    (
-        0,
-        b"[\\g]",
-        Refusal::Unsupported(Construct::Backreference, 1),
-    ),
-    (
-        0,
-        b"[\\k]",
-        Refusal::Unsupported(Construct::Backreference, 1),
-    ),
-    (
-        0,
-        b"\\k<n>",
-        Refusal::Unsupported(Construct::Backreference, 0),
-    ),
-    (
-        0,
-        b"\\g{1}",
-        Refusal::Unsupported(Construct::Backreference, 0),
-    ),
-    (0, b"\\p", Refusal::Unsupported(Construct::Property, 0)),
-    (0, b"[\\p]", Refusal::Unsupported(Construct::Property, 1)),
-    (0, b"a\\p{L}", Refusal::Unsupported(Construct::Property, 1)),
-    (0, b"\\P", Refusal::Unsupported(Construct::Property, 0)),
-    (0, b"[\\P]", Refusal::Unsupported(Construct::Property, 1)),
-    (0, b"a\\P{L}", Refusal::Unsupported(Construct::Property, 1)),
-    (
-        0,
-        b"\\R",
-        Refusal::Unsupported(Construct::NewlineSequence, 0),
-    ),
-    (
-        0,
-        b"a\\R*",
-        Refusal::Unsupported(Construct::NewlineSequence, 1),
-    ),
-    (0, b"\\C", Refusal::Unsupported(Construct::AnyByte, 0)),
-    (0, b"a\\C*", Refusal::Unsupported(Construct::AnyByte, 1)),
-    (0, b"\\K", Refusal::Unsupported(Construct::Keep, 0)),
-    (0, b"a\\K*", Refusal::Unsupported(Construct::Keep, 1)),
-    (0, b"\\N", Refusal::Unsupported(Construct::NotNewline, 0)),
-    (0, b"a\\N*", Refusal::Unsupported(Construct::NotNewline, 1)),
-    (0, b"\\X", Refusal::Unsupported(Construct::Grapheme, 0)),
-    (0, b"a\\X*", Refusal::Unsupported(Construct::Grapheme, 1)),
-    (0, b"\\G", Refusal::Unsupported(Construct::MatchStart, 0)),
-    (0, b"a\\G*", Refusal::Unsupported(Construct::MatchStart, 1)),
-    (0, b"\\i", Refusal::UnknownEscape(0)),
-    (0, b"\\j", Refusal::UnknownEscape(0)),
-    (0, b"\\l", Refusal::UnknownEscape(0)),
-    (0, b"\\m", Refusal::UnknownEscape(0)),
-    (0, b"\\q", Refusal::UnknownEscape(0)),
-    (0, b"\\u", Refusal::UnknownEscape(0)),
-    (0, b"\\y", Refusal::UnknownEscape(0)),
-    (0, b"\\F", Refusal::UnknownEscape(0)),
-    (0, b"\\I", Refusal::UnknownEscape(0)),
-    (0, b"\\J", Refusal::UnknownEscape(0)),
-    (0, b"\\L", Refusal::UnknownEscape(0)),
-    (0, b"\\M", Refusal::UnknownEscape(0)),
-    (0, b"\\O", Refusal::UnknownEscape(0)),
-    (0, b"\\T", Refusal::UnknownEscape(0)),
-    (0, b"\\U", Refusal::UnknownEscape(0)),
-    (0, b"\\Y", Refusal::UnknownEscape(0)),
-    (0, b"[a\\i]", Refusal::UnknownEscape(2)),
-    (0, b"[a\\j]", Refusal::UnknownEscape(2)),
-    (0, b"[a\\l]", Refusal::UnknownEscape(2)),
-    (0, b"[a\\m]", Refusal::UnknownEscape(2)),
-    (0, b"[a\\q]", Refusal::UnknownEscape(2)),
-    (0, b"[a\\u]", Refusal::UnknownEscape(2)),
-    (0, b"[a\\y]", Refusal::UnknownEscape(2)),
-    (0, b"[a\\z]", Refusal::UnknownEscape(2)),
-    (0, b"[a\\A]", Refusal::UnknownEscape(2)),
-    (0, b"[a\\B]", Refusal::UnknownEscape(2)),
-    (0, b"[a\\C]", Refusal::UnknownEscape(2)),
-    (0, b"[a\\E]", Refusal::UnknownEscape(2)),
-    (0, b"[a\\F]", Refusal::UnknownEscape(2)),
-    (0, b"[a\\G]", Refusal::UnknownEscape(2)),
-    (0, b"[a\\I]", Refusal::UnknownEscape(2)),
-    (0, b"[a\\J]", Refusal::UnknownEscape(2)),
-    (0, b"[a\\K]", Refusal::UnknownEscape(2)),
-    (0, b"[a\\L]", Refusal::UnknownEscape(2)),
-    (0, b"[a\\M]", Refusal::UnknownEscape(2)),
-    (0, b"[a\\N]", Refusal::UnknownEscape(2)),
-    (0, b"[a\\O]", Refusal::UnknownEscape(2)),
-    (0, b"[a\\Q]", Refusal::UnknownEscape(2)),
-    (0, b"[a\\R]", Refusal::UnknownEscape(2)),
-    (0, b"[a\\T]", Refusal::UnknownEscape(2)),
-    (0, b"[a\\U]", Refusal::UnknownEscape(2)),
-    (0, b"[a\\X]", Refusal::UnknownEscape(2)),
-    (0, b"[a\\Y]", Refusal::UnknownEscape(2)),
-    (0, b"[a\\Z]", Refusal::UnknownEscape(2)),
-    (0, b"[a-\\y]", Refusal::UnknownEscape(3)),
-    (0, b"a\\y)", Refusal::UnknownEscape(1)),
-    (0, b"[\\Qa]", Refusal::UnknownEscape(1)),
-    (0, b"[[.a.]]", Refusal::Unsupported(Construct::Collating, 1)),
-    (0, b"[[=a=]]", Refusal::Unsupported(Construct::Collating, 1)),
-    (
-        0,
-        b"[x[.space.]y]",
-        Refusal::Unsupported(Construct::Collating, 2),
-    ),
-    (
-        0,
-        b"[a-[.b.]]",
-        Refusal::Unsupported(Construct::Collating, 3),
-    ),
-    (0, b"[[=ab=]", Refusal::Unsupported(Construct::Collating, 1)),
-    (0, b"(*a)", Refusal::Unsupported(Construct::Verb, 0)),
-    (0, b"(*", Refusal::Unsupported(Construct::Verb, 0)),
-    (0, b"a(*ACCEPT)", Refusal::Unsupported(Construct::Verb, 1)),
-    (0, b"((*", Refusal::Unsupported(Construct::Verb, 1)),
-    (0, b"(?=a)", Refusal::Unsupported(Construct::Lookaround, 0)),
-    (0, b"(?!a)", Refusal::Unsupported(Construct::Lookaround, 0)),
-    (0, b"(?<=a)", Refusal::Unsupported(Construct::Lookaround, 0)),
-    (0, b"(?<!a)", Refusal::Unsupported(Construct::Lookaround, 0)),
-    (0, b"a(?=", Refusal::Unsupported(Construct::Lookaround, 1)),
-    (0, b"(?>a)", Refusal::Unsupported(Construct::Atomic, 0)),
-    (0, b"(?>", Refusal::Unsupported(Construct::Atomic, 0)),
-    (
-        0,
-        b"(?(1)a)",
-        Refusal::Unsupported(Construct::Conditional, 0),
-    ),
-    (0, b"(?(", Refusal::Unsupported(Construct::Conditional, 0)),
-    (0, b"(?C)", Refusal::Unsupported(Construct::Callout, 0)),
-    (0, b"(?C1)", Refusal::Unsupported(Construct::Callout, 0)),
-    (0, b"(?R)", Refusal::Unsupported(Construct::Recursion, 0)),
-    (0, b"(?&n)", Refusal::Unsupported(Construct::Recursion, 0)),
-    (0, b"(?P>n)", Refusal::Unsupported(Construct::Recursion, 0)),
-    (0, b"(?+1)", Refusal::Unsupported(Construct::Recursion, 0)),
-    (0, b"(?1)", Refusal::Unsupported(Construct::Recursion, 0)),
-    (0, b"(?0)", Refusal::Unsupported(Construct::Recursion, 0)),
-    (0, b"(?9)", Refusal::Unsupported(Construct::Recursion, 0)),
-    (0, b"(?-1)", Refusal::Unsupported(Construct::Recursion, 0)),
-    (
-        0,
-        b"(?P=n)",
-        Refusal::Unsupported(Construct::Backreference, 0),
-    ),
-    (0, b"(?z)", Refusal::Unsupported(Construct::Option, 0)),
-    (0, b"(?iz)", Refusal::Unsupported(Construct::Option, 0)),
-    (0, b"(?i-z)", Refusal::Unsupported(Construct::Option, 0)),
-    (0, b"(?-z)", Refusal::Unsupported(Construct::Option, 0)),
-    (0, b"(?J)", Refusal::Unsupported(Construct::Option, 0)),
-    (0, b"(?P)", Refusal::Unsupported(Construct::Option, 0)),
-    (0, b"(?Pa)", Refusal::Unsupported(Construct::Option, 0)),
-    (0, b"(?U)", Refusal::Unsupported(Construct::Option, 0)),
-    (0, b"(?L)", Refusal::Unsupported(Construct::Option, 0)),
-    (0, b"a(?ixj)", Refusal::Unsupported(Construct::Option, 1)),
-    (1, b"F[", Refusal::Syntax(1)),
-    (7, b"a\\", Refusal::Syntax(1)),
-    (0, b"[Z-a", Refusal::Syntax(0)),
-    (1, b"[a-Z]", Refusal::Syntax(1)),
-    (2, b")", Refusal::Syntax(0)),
-    (0, b"\\y)", Refusal::UnknownEscape(0)),
-    (0, b")\\y", Refusal::Syntax(0)),
-    (0, b"(\\y", Refusal::UnknownEscape(1)),
-    (0, b"[\\y", Refusal::UnknownEscape(1)),
-    (0, b"[z-a\\y]", Refusal::Syntax(1)),
-    (
-        0,
-        b"a\\1(",
-        Refusal::Unsupported(Construct::Backreference, 1),
-    ),
-    (0, b"a{32768}(", Refusal::RepeatLimit(32768)),
-    (
-        0,
-        b"(?=a)\\y",
-        Refusal::Unsupported(Construct::Lookaround, 0),
-    ),
-    (0, b"\\Q\\y\\E\\y", Refusal::UnknownEscape(6)),
-    (0, b"(?#\\y)\\y", Refusal::UnknownEscape(6)),
-    (0, b"(?x)#\\y\n\\y", Refusal::UnknownEscape(8)),
+pub(crate) const FAULTS: &[u8] = b"\
+0\t*\tSyntax(0)
+0\t+a\tSyntax(0)
+0\t?\tSyntax(0)
+0\ta**\tSyntax(2)
+0\ta+*\tSyntax(2)
+0\ta?*\tSyntax(2)
+0\ta|*\tSyntax(2)
+0\t(+a)\tSyntax(1)
+0\t(a)+*\tSyntax(4)
+0\ta*?*\tSyntax(3)
+0\ta*?+\tSyntax(3)
+0\ta*??\tSyntax(3)
+0\ta{2}*\tSyntax(4)
+0\ta{2}{3}\tSyntax(4)
+0\t{2}\tSyntax(0)
+0\ta|{2}\tSyntax(2)
+0\t({2,3})\tSyntax(1)
+0\t(?i)*\tSyntax(4)
+0\t(?i){2}\tSyntax(4)
+0\ta(?i)*\tSyntax(5)
+0\t(?:*a)\tSyntax(3)
+0\t(?i:+)\tSyntax(4)
+0\t(?|?)\tSyntax(3)
+0\t(?x) *\tSyntax(5)
+0\t(?#x)*\tSyntax(5)
+0\ta*(?#)*\tSyntax(6)
+0\ta*\\E*\tSyntax(4)
+0\t\\Q\\E*\tSyntax(4)
+0\ta{3,2}\tSyntax(1)
+0\ta{1,0}\tSyntax(1)
+0\ta{3,2}+\tSyntax(1)
+0\t)\tSyntax(0)
+0\ta)\tSyntax(1)
+0\t(a))\tSyntax(3)
+0\ta|b)c(\tSyntax(3)
+0\t(?i))\tSyntax(4)
+0\t(\tSyntax(1)
+0\t(a\tSyntax(2)
+0\t((a)\tSyntax(4)
+0\t(a|\tSyntax(3)
+0\t(?:a\tSyntax(4)
+0\t(?i:a\tSyntax(5)
+0\t(?<n>a\tSyntax(6)
+0\t(a(?i)b\tSyntax(7)
+0\t(\\Q)\tSyntax(4)
+0\t(a(?#x)\tSyntax(7)
+0\t(?x)(#)\tSyntax(7)
+0\ta(?#\\)b)\tSyntax(7)
+0\t\\\tSyntax(0)
+0\ta\\\tSyntax(1)
+0\t(\\\tSyntax(1)
+0\t\\c\tSyntax(0)
+0\t\\c\x7f\tSyntax(0)
+0\t\\c\x80\tSyntax(0)
+0\ta\\c\tSyntax(1)
+0\t\\x{\tSyntax(0)
+0\t\\x{}\tSyntax(0)
+0\t\\x{4\tSyntax(0)
+0\t\\x{g}\tSyntax(0)
+0\t\\x{4g}\tSyntax(0)
+0\t\\x{100}\tSyntax(0)
+0\t\\x{ffffffff}\tSyntax(0)
+0\t\\x{000000041}\tSyntax(0)
+0\t\\x{ 41}\tSyntax(0)
+0\t\\o\tSyntax(0)
+0\t\\o1\tSyntax(0)
+0\t\\o{\tSyntax(0)
+0\t\\o{}\tSyntax(0)
+0\t\\o{8}\tSyntax(0)
+0\t\\o{400}\tSyntax(0)
+0\t\\o{000000101}\tSyntax(0)
+0\t\\o{18}\tSyntax(0)
+0\t[\tSyntax(0)
+0\ta[\tSyntax(1)
+0\t[]\tSyntax(0)
+0\t[^\tSyntax(0)
+0\t[^]\tSyntax(0)
+0\t[a\tSyntax(0)
+0\t[a-\tSyntax(0)
+0\t[a-b\tSyntax(0)
+0\t(a[b\tSyntax(2)
+0\t[z-a]\tSyntax(1)
+0\t[z-a\tSyntax(1)
+0\t[ab-a]\tSyntax(2)
+0\t[a--]\tSyntax(1)
+0\t[^z-a]\tSyntax(2)
+0\t[\\\tSyntax(1)
+0\t[a\\\tSyntax(2)
+0\t[a-\\\tSyntax(3)
+0\t[\\c\tSyntax(1)
+0\t[\\x{g}]\tSyntax(1)
+0\t[a\\x{100}]\tSyntax(2)
+0\t[a-\\x{100}]\tSyntax(3)
+0\t[\\o]\tSyntax(1)
+0\t[\\x62-a]\tSyntax(1)
+0\t[\\c]\tSyntax(0)
+0\t[[:foo:]]\tSyntax(1)
+0\t[[:^foo:]]\tSyntax(1)
+0\t[a[:foo:]]\tSyntax(2)
+0\t[a-[:foo:]]\tSyntax(3)
+0\t[[:alphaa:]]\tSyntax(1)
+0\t[[:a:]\tSyntax(1)
+0\t[:alpha:]\tSyntax(0)
+0\ta[:xyz:]b\tSyntax(1)
+0\t[:a:]]\tSyntax(0)
+0\t[:a:\tSyntax(0)
+0\t[:^alpha:\tSyntax(0)
+0\t[[:alpha:]\tSyntax(0)
+0\t[[:alpha:\tSyntax(0)
+0\t(?\tSyntax(0)
+0\t(?<\tSyntax(0)
+0\t(?<>a)\tSyntax(0)
+0\t(?<n\tSyntax(0)
+0\t(?<n a>b)\tSyntax(0)
+0\t(?<1n>a)\tSyntax(0)
+0\t(?<n-m>a)\tSyntax(0)
+0\t(?P<>a)\tSyntax(0)
+0\t(?P<1>a)\tSyntax(0)
+0\t(?P<n\tSyntax(0)
+0\t(?''a)\tSyntax(0)
+0\t(?'n\tSyntax(0)
+0\t(?'n>a)\tSyntax(0)
+0\t(?<nnnnnnnnnnnnnnnnnnnnnnnnnnnnnnnnn>a)\tSyntax(0)
+0\t(?#\tSyntax(0)
+0\ta(?#x\tSyntax(1)
+0\t(?#\\\tSyntax(0)
+0\t(?i\tSyntax(0)
+0\t(?i-\tSyntax(0)
+0\t(?-\tSyntax(0)
+0\t(?i-i-i)\tSyntax(0)
+0\t(?--i)\tSyntax(0)
+0\t(?i-1)\tSyntax(0)
+0\t(?i*)\tSyntax(0)
+0\t(?^)\tSyntax(0)
+0\t(?i^)\tSyntax(0)
+0\t(?*)\tSyntax(0)
+0\t(?[)\tSyntax(0)
+0\t(?,)\tSyntax(0)
+0\t(?$)\tSyntax(0)
+0\t(?\xe9)\tSyntax(0)
+0\ta(?@\tSyntax(1)
+0\ta{32768}\tRepeatLimit(32768)
+0\ta{32768,}\tRepeatLimit(32768)
+0\ta{0,32768}\tRepeatLimit(32768)
+0\ta{1,99999}\tRepeatLimit(99999)
+0\ta{40000,50000}\tRepeatLimit(40000)
+0\ta{40000,1}\tRepeatLimit(40000)
+0\ta{4294967295}\tRepeatLimit(4294967295)
+0\ta{4294967296}\tRepeatLimit(4294967295)
+0\ta{99999999999999999999}\tRepeatLimit(4294967295)
+0\ta{2,4294967294}\tRepeatLimit(4294967294)
+0\ta{32768}?\tRepeatLimit(32768)
+0\ta*+\tUnsupported(Possessive, 1)
+0\ta++\tUnsupported(Possessive, 1)
+0\ta?+\tUnsupported(Possessive, 1)
+0\ta{2}+\tUnsupported(Possessive, 1)
+0\ta{2,}+\tUnsupported(Possessive, 1)
+0\ta{2,3}+\tUnsupported(Possessive, 1)
+0\ta{32768}+\tUnsupported(Possessive, 1)
+0\ta{1,32768}+\tUnsupported(Possessive, 1)
+0\t(a)*+\tUnsupported(Possessive, 3)
+0\t*+\tSyntax(0)
+0\ta**+\tSyntax(2)
+0\t{32768}\tSyntax(0)
+0\ta*{32768}\tSyntax(2)
+0\t{3,2}+\tSyntax(0)
+0\t\\1\tUnsupported(Backreference, 0)
+0\t\\2\tUnsupported(Backreference, 0)
+0\t\\3\tUnsupported(Backreference, 0)
+0\t\\4\tUnsupported(Backreference, 0)
+0\t\\5\tUnsupported(Backreference, 0)
+0\t\\6\tUnsupported(Backreference, 0)
+0\t\\7\tUnsupported(Backreference, 0)
+0\t\\8\tUnsupported(Backreference, 0)
+0\t\\9\tUnsupported(Backreference, 0)
+0\t\\g\tUnsupported(Backreference, 0)
+0\t\\k\tUnsupported(Backreference, 0)
+0\t(a)\\1\tUnsupported(Backreference, 3)
+0\t[\\1]\tUnsupported(Backreference, 1)
+0\t[\\9]\tUnsupported(Backreference, 1)
+0\t[\\g]\tUnsupported(Backreference, 1)
+0\t[\\k]\tUnsupported(Backreference, 1)
+0\t\\k<n>\tUnsupported(Backreference, 0)
+0\t\\g{1}\tUnsupported(Backreference, 0)
+0\t\\p\tUnsupported(Property, 0)
+0\t[\\p]\tUnsupported(Property, 1)
+0\ta\\p{L}\tUnsupported(Property, 1)
+0\t\\P\tUnsupported(Property, 0)
+0\t[\\P]\tUnsupported(Property, 1)
+0\ta\\P{L}\tUnsupported(Property, 1)
+0\t\\R\tUnsupported(NewlineSequence, 0)
+0\ta\\R*\tUnsupported(NewlineSequence, 1)
+0\t\\C\tUnsupported(AnyByte, 0)
+0\ta\\C*\tUnsupported(AnyByte, 1)
+0\t\\K\tUnsupported(Keep, 0)
+0\ta\\K*\tUnsupported(Keep, 1)
+0\t\\N\tUnsupported(NotNewline, 0)
+0\ta\\N*\tUnsupported(NotNewline, 1)
+0\t\\X\tUnsupported(Grapheme, 0)
+0\ta\\X*\tUnsupported(Grapheme, 1)
+0\t\\G\tUnsupported(MatchStart, 0)
+0\ta\\G*\tUnsupported(MatchStart, 1)
+0\t\\i\tUnknownEscape(0)
+0\t\\j\tUnknownEscape(0)
+0\t\\l\tUnknownEscape(0)
+0\t\\m\tUnknownEscape(0)
+0\t\\q\tUnknownEscape(0)
+0\t\\u\tUnknownEscape(0)
+0\t\\y\tUnknownEscape(0)
+0\t\\F\tUnknownEscape(0)
+0\t\\I\tUnknownEscape(0)
+0\t\\J\tUnknownEscape(0)
+0\t\\L\tUnknownEscape(0)
+0\t\\M\tUnknownEscape(0)
+0\t\\O\tUnknownEscape(0)
+0\t\\T\tUnknownEscape(0)
+0\t\\U\tUnknownEscape(0)
+0\t\\Y\tUnknownEscape(0)
+0\t[a\\i]\tUnknownEscape(2)
+0\t[a\\j]\tUnknownEscape(2)
+0\t[a\\l]\tUnknownEscape(2)
+0\t[a\\m]\tUnknownEscape(2)
+0\t[a\\q]\tUnknownEscape(2)
+0\t[a\\u]\tUnknownEscape(2)
+0\t[a\\y]\tUnknownEscape(2)
+0\t[a\\z]\tUnknownEscape(2)
+0\t[a\\A]\tUnknownEscape(2)
+0\t[a\\B]\tUnknownEscape(2)
+0\t[a\\C]\tUnknownEscape(2)
+0\t[a\\E]\tUnknownEscape(2)
+0\t[a\\F]\tUnknownEscape(2)
+0\t[a\\G]\tUnknownEscape(2)
+0\t[a\\I]\tUnknownEscape(2)
+0\t[a\\J]\tUnknownEscape(2)
+0\t[a\\K]\tUnknownEscape(2)
+0\t[a\\L]\tUnknownEscape(2)
+0\t[a\\M]\tUnknownEscape(2)
+0\t[a\\N]\tUnknownEscape(2)
+0\t[a\\O]\tUnknownEscape(2)
+0\t[a\\Q]\tUnknownEscape(2)
+0\t[a\\R]\tUnknownEscape(2)
+0\t[a\\T]\tUnknownEscape(2)
+0\t[a\\U]\tUnknownEscape(2)
+0\t[a\\X]\tUnknownEscape(2)
+0\t[a\\Y]\tUnknownEscape(2)
+0\t[a\\Z]\tUnknownEscape(2)
+0\t[a-\\y]\tUnknownEscape(3)
+0\ta\\y)\tUnknownEscape(1)
+0\t[\\Qa]\tUnknownEscape(1)
+0\t[[.a.]]\tUnsupported(Collating, 1)
+0\t[[=a=]]\tUnsupported(Collating, 1)
+0\t[x[.space.]y]\tUnsupported(Collating, 2)
+0\t[a-[.b.]]\tUnsupported(Collating, 3)
+0\t[[=ab=]\tUnsupported(Collating, 1)
+0\t(*a)\tUnsupported(Verb, 0)
+0\t(*\tUnsupported(Verb, 0)
+0\ta(*ACCEPT)\tUnsupported(Verb, 1)
+0\t((*\tUnsupported(Verb, 1)
+0\t(?=a)\tUnsupported(Lookaround, 0)
+0\t(?!a)\tUnsupported(Lookaround, 0)
+0\t(?<=a)\tUnsupported(Lookaround, 0)
+0\t(?<!a)\tUnsupported(Lookaround, 0)
+0\ta(?=\tUnsupported(Lookaround, 1)
+0\t(?>a)\tUnsupported(Atomic, 0)
+0\t(?>\tUnsupported(Atomic, 0)
+0\t(?(1)a)\tUnsupported(Conditional, 0)
+0\t(?(\tUnsupported(Conditional, 0)
+0\t(?C)\tUnsupported(Callout, 0)
+0\t(?C1)\tUnsupported(Callout, 0)
+0\t(?R)\tUnsupported(Recursion, 0)
+0\t(?&n)\tUnsupported(Recursion, 0)
+0\t(?P>n)\tUnsupported(Recursion, 0)
+0\t(?+1)\tUnsupported(Recursion, 0)
+0\t(?1)\tUnsupported(Recursion, 0)
+0\t(?0)\tUnsupported(Recursion, 0)
+0\t(?9)\tUnsupported(Recursion, 0)
+0\t(?-1)\tUnsupported(Recursion, 0)
+0\t(?P=n)\tUnsupported(Backreference, 0)
+0\t(?z)\tUnsupported(Option, 0)
+0\t(?iz)\tUnsupported(Option, 0)
+0\t(?i-z)\tUnsupported(Option, 0)
+0\t(?-z)\tUnsupported(Option, 0)
+0\t(?J)\tUnsupported(Option, 0)
+0\t(?P)\tUnsupported(Option, 0)
+0\t(?Pa)\tUnsupported(Option, 0)
+0\t(?U)\tUnsupported(Option, 0)
+0\t(?L)\tUnsupported(Option, 0)
+0\ta(?ixj)\tUnsupported(Option, 1)
+1\tF[\tSyntax(1)
+7\ta\\\tSyntax(1)
+0\t[Z-a\tSyntax(0)
+1\t[a-Z]\tSyntax(1)
+2\t)\tSyntax(0)
+0\t\\y)\tUnknownEscape(0)
+0\t)\\y\tSyntax(0)
+0\t(\\y\tUnknownEscape(1)
+0\t[\\y\tUnknownEscape(1)
+0\t[z-a\\y]\tSyntax(1)
+0\ta\\1(\tUnsupported(Backreference, 1)
+0\ta{32768}(\tRepeatLimit(32768)
+0\t(?=a)\\y\tUnsupported(Lookaround, 0)
+0\t\\Q\\y\\E\\y\tUnknownEscape(6)
+0\t(?#\\y)\\y\tUnknownEscape(6)
+";
+
+/// Texts that are refused and have a line feed.
+pub(crate) const BLANKS: [(u16, &[u8], &[u8]); 2] = [
+    (0, b"\\c\n", b"Syntax(0)"),
+    (0, b"(?x)#\\y\n\\y", b"UnknownEscape(8)"),
 ];
