@@ -110,8 +110,9 @@ impl Stream {
         ensures fresh { IsFresh db.now self.new }
         ensures told { Takes V.tells events.old events.new (Ends db.now self.old) }
     {
-        finish(db.program(), &self.state, &mut scratch.room, events);
-        self.state.clear(db.program());
+        let program = db.program();
+        finish(program, &self.state, &mut scratch.room, events);
+        self.state.clear(program);
     }
 
     /// Whether the stream is one of the database: it has its digest, and its state fits what the database runs.

@@ -9,8 +9,8 @@ use Rattle.hs_stream.specs.Writing.{IsStart}
 use Rattle.hs_stream.proofs.stream.Stream.reset.Goals as goal
 
 pub returns-clause-fresh : goal.returns-clause-fresh
-returns-clause-fresh g c = subst (λ (p : Program Plain). IsStart IsEngineOf Keeps p c.clear.new.self) c.program-2.ensures c.clear.ensures.start
+returns-clause-fresh g c = subst (λ (p : Program Plain). IsStart IsEngineOf Keeps p c.clear.new.self) c.program-program.ensures c.clear.ensures.start
 
 pub returns-clause-told : goal.returns-clause-told
 returns-clause-told g c =
-    subst (λ (p : Program Plain). Takes g.V.Events.tells c.args.events.now c.finish.new.events (Finishes IsEngineOf Keeps p c.args.self.now.state)) c.program.ensures c.finish.ensures.taken
+    subst (λ (p : Program Plain). Takes g.V.Events.tells c.args.events.now c.finish.new.events (Finishes IsEngineOf Keeps p c.args.self.now.state)) c.program-program.ensures c.finish.ensures.taken
