@@ -1,7 +1,7 @@
 //! The lines that are written, as their tables say them.
 use crate::{
-    LINE_LEN, NAME_LEN, accepted_line, compiled_line, end_line, form_line, info_lines, refusal_line,
-    report_line,
+    LINE_LEN, NAME_LEN, accepted_line, compiled_line, end_line, form_line, info_lines,
+    refusal_line, report_line,
 };
 use hs_base::{Construct, ExprId, Refusal, Report};
 use std::test::Fail;
