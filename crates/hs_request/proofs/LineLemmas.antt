@@ -6,12 +6,12 @@ use Rattle.clap.specs.declared.builder.command.Command.{Command}
 use Rattle.clap.specs.declared.builder.command.Command.TheViews.{out-Command as fields_of}
 use Rattle.hs_request.specs.Requests.{IsCommand, program}
 
--- the program, of which a subcommand has to be given
-pub program-is : (new required : Command) → app_of new ≡ new_app (codes "hs_tool") → (fields_of new).has_globals ≡ false →
-    fields_of required ≡ record (fields_of new) { subcommand_required = true } → IsCommand program required
-program-is new required is plain fields = record {
-  shape = ap app_of_fields fields ∙ ap (on_top (λ s. record s { subcommand_required = true })) is;
-  plain = ap (λ f. f.has_globals) fields ∙ plain;
+-- the program, of which a subcommand has to be given, and none of which is `help`
+pub program-is : (new required helpless : Command) → app_of new ≡ new_app (codes "hs_tool") → (fields_of new).has_globals ≡ false →
+    fields_of required ≡ record (fields_of new) { subcommand_required = true } → fields_of helpless ≡ record (fields_of required) { disable_help_subcommand = true } → IsCommand program helpless
+program-is new required helpless is plain wants leaves = record {
+  shape = ap app_of_fields leaves ∙ (ap (λ f. app_of_fields (record f { disable_help_subcommand = true })) wants ∙ ap (on_top (λ s. record s { subcommand_required = true; disable_help_subcommand = true })) is);
+  plain = ap (λ f. f.has_globals) leaves ∙ (ap (λ f. f.has_globals) wants ∙ plain);
 }
 
 -- a command line with one subcommand more

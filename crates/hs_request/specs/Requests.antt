@@ -22,9 +22,9 @@ one_operand name first = with_rule (new_app name) (operand first)
 abbrev pub two_operands : Text → Text → Text → App
 two_operands name first second = with_rule (one_operand name first) (operand second)
 
--- the program, of which a subcommand has to be given
+-- the program, of which a subcommand has to be given, and none of which is `help`
 abbrev pub program : App
-program = on_top (λ s. record s { subcommand_required = true }) (new_app (codes "hs_tool"))
+program = on_top (λ s. record s { subcommand_required = true; disable_help_subcommand = true }) (new_app (codes "hs_tool"))
 
 -- the command line as `clap` is given it: subcommands with positional operands, and no other rule
 abbrev pub command_line : App

@@ -20,6 +20,7 @@ pub fn command_line<'a>(alloc: Global) -> Result<Command<'a>, AllocError>
     let loading = two(alloc, "scan", "DB", "FILE")?;
     Command::new(alloc, "hs_tool")
         .subcommand_required(true)
+        .disable_help_subcommand(true)
         .subcommand(scanning)?
         .subcommand(checking)?
         .subcommand(compiling)?

@@ -3,6 +3,7 @@
 #![tactic(auto)]
 
 mod command_line;
+pub mod laws;
 mod request;
 #[cfg(test)]
 mod tests;

@@ -4,7 +4,7 @@ use Rattle.hs_request.proofs.command_line.command_line.Goals as goal
 
 pub returns : goal.returns
 returns c =
-    let start = program-is c.new.result c.subcommand_required.result c.new.ensures.app c.new.ensures.local c.subcommand_required.ensures in
+    let start = program-is c.new.result c.subcommand_required.result c.disable_help_subcommand.result c.new.ensures.app c.new.ensures.local c.subcommand_required.ensures c.disable_help_subcommand.ensures in
     let first = line-more start c.in_ok-scanning.ensures c.in_ok-subcommand.ensures in
     let second = line-more first c.in_ok-checking.ensures c.in_ok-subcommand-2.ensures in
     let third = line-more second c.in_ok-compiling.ensures c.in_ok-subcommand-3.ensures in
