@@ -1,13 +1,14 @@
-pub mod PieceLemmas
+pub mod ItemLemmas
 pub mod ClassLemmas
 pub mod SetLemmas
 pub mod TokenLemmas
+pub mod ReadingLemmas
 pub mod RunLemmas
 pub mod GrammarLemmas
+pub mod FaultLemmas
 pub mod PathLemmas
 pub mod StopLemmas
-pub mod TotalLemmas
-pub mod ParserLemmas
 pub mod LoopLemmas
+pub mod TotalLemmas
 pub mod PlainLemmas
 pub mod NumberLemmas

@@ -1,162 +1,196 @@
 -- The numbers of refusals that a text has.
-use Rattle.std.proofs.Common.{◌≡◌, ℕ, ◌+◌, inl, inr, Bool, not, ◌&&◌, List, [], ◌∷◌, length, Option, Some, None, refl, subst}
-use Rattle.std.specs.Prelude.{◌==◌, nat_lt}
+use Rattle.std.proofs.Common.{◌≡◌, ℕ, ◌+◌, inl, inr, Bool, true, false, ◌⊎◌, List, [], ◌∷◌, ◌++◌, length, Option, Some, None, refl, sym, ap, subst, ◌∙◌}
+use Rattle.std.specs.Prelude.{nat_lt, if◌then◌else◌}
 use Rattle.std.specs.List.{slice_get}
-use Rattle.std.specs.Char.{is_ascii_alphanumeric}
 use Rattle.hs_base.specs.declared.flags.Flags.{Flags}
 use Rattle.hs_base.specs.declared.refusal.Refusal.{Refusal}
-use Rattle.hs_base.specs.declared.refusal.Refusal.TheVariants.{Syntax, Unsupported, DepthLimit}
-use Rattle.hs_base.specs.declared.construct.Construct.TheVariants.{Later}
+use Rattle.hs_base.specs.declared.refusal.Refusal.TheVariants.{Syntax, RepeatLimit, DepthLimit}
+use Rattle.hs_base.specs.declared.refusal.Refusal.TheVariants as refusals
+use Rattle.hs_base.specs.declared.construct.Construct.TheVariants.{Possessive}
 use Rattle.hs_base.specs.Refusals.{number_of}
-use Rattle.hs_parse.specs.declared.role.Role.{Role}
-use Rattle.hs_parse.specs.declared.piece.Piece.{Piece}
-use Rattle.hs_parse.specs.declared.piece.Piece.TheVariants as piece
-use Rattle.hs_parse.specs.declared.piece.Item.TheVariants as item
-use Rattle.hs_parse.specs.Syntax.{Options, backslash, closing_bracket, opening_bracket, hyphen, is_byte, escape_of, escape_at}
-use Rattle.hs_parse.specs.Classes.{is_unread_bracket, piece_of, piece_at, range_of, item_of, item_at}
-use Rattle.hs_parse.specs.Tokens.{Token, Begins, text_end, any_byte, literal, escaped, bad_escape, bracket, named, closed, unclosed, refused, group_start, unread_group, group_end, divider, star_mark, plus_mark, unread_mark, TokenAt}
-use Rattle.hs_parse.specs.Tokens as tokens
+use Rattle.hs_base.specs.Trees.{greatest_bound}
+use Rattle.hs_syntax.specs.declared.mode.Mode.{Mode}
+use Rattle.hs_syntax.specs.declared.wrong.Wrong.{Wrong}
+use Rattle.hs_syntax.specs.declared.wrong.Wrong.TheVariants as wrong
+use Rattle.hs_syntax.specs.declared.form.Form.{Form}
+use Rattle.hs_syntax.specs.declared.form.Form.TheVariants as form
+use Rattle.hs_syntax.specs.declared.piece.Piece.{Piece}
+use Rattle.hs_syntax.specs.declared.piece.Piece.TheVariants as piece
+use Rattle.hs_syntax.specs.Bytes.{is_byte}
+use Rattle.hs_syntax.proofs.FitLemmas.{either}
+use Rattle.hs_parse.specs.declared.item.Item.{Item}
+use Rattle.hs_parse.specs.declared.item.Item.TheVariants as item
+use Rattle.hs_parse.specs.declared.spot.Spot.{Spot}
+use Rattle.hs_parse.specs.Spots.{form_of, refusal_at}
+use Rattle.hs_parse.specs.Classes.{hyphen, piece_of, range_of, item_of, item_at}
+use Rattle.hs_parse.specs.Tokens.{Token, ending, single, assertion, opening, closing, bar, quantifier, setting, faulty, Made, token, skips, bracket, made_by, made_at, ClassToken, closed, unclosed, refused, TokenAt, formed, bracketed, Next, now, skipped}
 use Rattle.hs_parse.specs.Grammar.{greatest_depth}
-use Rattle.hs_parse.specs.Faults.{Before, beginning, atom, quantifier, State, state, goes, stops, end_move, close_move, quantifier_move, move, HasFault, too_long, stopped, Fault, IsOfText, syntax_fault, unsupported, length_limit, depth_limit}
-use Rattle.hs_parse.proofs.PieceLemmas.{chosen}
+use Rattle.hs_parse.specs.Faults.{Before, beginning, atom, repeated, Move, goes, accepts, stops, state, order_faults, bounds_faults, mark_faults, quantifier_faults, end_move, close_move, quantifier_move, move, IsOneOf, HasFault, too_long, stopped, Fault, IsOfText, syntax_fault, unknown_escape, unsupported, repeat_limit, length_limit, depth_limit}
+use Rattle.hs_parse.proofs.FaultLemmas.{one_of_both}
 
-moved : {a b : Refusal} → a ≡ b → IsOfText (number_of a) → IsOfText (number_of b)
-moved e h = subst (λ r. IsOfText (number_of r)) e h
+-- the number of a form that is refused
+form_number : (reason : Wrong) (at : ℕ) → IsOfText (number_of (refusal_at reason at))
+form_number wrong.Syntax at = syntax_fault
+form_number wrong.UnknownEscape at = unknown_escape
+form_number (wrong.Unsupported construct) at = unsupported
 
-from_piece : {a b : Refusal} → piece.Refused a ≡ piece.Refused b → IsOfText (number_of a) → IsOfText (number_of b)
-from_piece {a = a} {b = b} e h = let same : a ≡ b = cc in moved same h
+-- of an item
+abbrev ItemNumber : Item → Type 0
+ItemNumber item.End = Unit {0}
+ItemNumber item.Close = Unit {0}
+ItemNumber (item.Bytes test end) = Unit {0}
+ItemNumber (item.Refused refusal) = IsOfText (number_of refusal)
 
-from_item : {a b : Refusal} → item.Refused a ≡ item.Refused b → IsOfText (number_of a) → IsOfText (number_of b)
-from_item {a = a} {b = b} e h = let same : a ≡ b = cc in moved same h
-
-from_token : {a b : Refusal} → Token.faulty a ≡ Token.faulty b → IsOfText (number_of a) → IsOfText (number_of b)
-from_token {a = a} {b = b} e h = let same : a ≡ b = cc in moved same h
-
-from_move : {a b : Refusal} {j k : ℕ} → stops j a ≡ stops k b → IsOfText (number_of a) → IsOfText (number_of b)
-from_move {a = a} {b = b} e h = let same : a ≡ b = cc in moved same h
-
-escape_number_of : (at : ℕ) (o : Option ℕ) (r : Refusal) → escape_of at o ≡ piece.Refused r → IsOfText (number_of r)
-escape_number_of at None r e = from_piece e syntax_fault
-escape_number_of at (Some b) r e =
-    elim (chosen (is_ascii_alphanumeric b) (piece.Refused (Unsupported Later at)) (piece.Character b (at + 2)) (piece.Refused r) e) [
-      | inl bad ↦ from_piece bad.1 unsupported
-      | inr good ↦ absurd (let differs = good.1 in cc)
-    ]
-
-escape_number : (text : List ℕ) (at : ℕ) (r : Refusal) → escape_at text at ≡ piece.Refused r → IsOfText (number_of r)
-unfolding escape_at
-escape_number text at r e = escape_number_of at (slice_get text (at + 1)) r e
-
-piece_number_of :
-    (text : List ℕ) (first : Bool) (at : ℕ) (o next : Option ℕ) (r : Refusal) →
-    piece_of first at o next (escape_at text at) ≡ piece.Refused r → IsOfText (number_of r)
-piece_number_of text first at None next r e = absurd cc
-piece_number_of text first at (Some b) next r e =
-    elim (chosen (b == backslash) (escape_at text at) _ (piece.Refused r) e) [
-      | inl escape ↦ escape_number text at r escape.1
-      | inr other ↦
-          elim (chosen ((b == closing_bracket) && not first) piece.Close _ (piece.Refused r) other.1) [
-            | inl close ↦ absurd (let differs = close.1 in cc)
-            | inr within ↦
-                elim (chosen ((b == opening_bracket) && is_unread_bracket next) (piece.Refused (Unsupported Later at)) (piece.Character b (at + 1)) (piece.Refused r) within.1) [
-                  | inl bad ↦ from_piece bad.1 unsupported
-                  | inr good ↦ absurd (let differs = good.1 in cc)
-                ]
-          ]
-    ]
-
-piece_number : (text : List ℕ) (start at : ℕ) (r : Refusal) → piece_at text start at ≡ piece.Refused r → IsOfText (number_of r)
-unfolding piece_at
-piece_number text start at r e = piece_number_of text (at == start) at (slice_get text at) (slice_get text (at + 1)) r e
-
-range_number_of :
-    (text : List ℕ) (start at code middle : ℕ) (r : Refusal) (p : Piece) →
-    piece_at text start (middle + 1) ≡ p → range_of at code middle p ≡ item.Refused r → IsOfText (number_of r)
-range_number_of text start at code middle r piece.End there e = absurd cc
-range_number_of text start at code middle r piece.Close there e = absurd cc
-range_number_of text start at code middle r (piece.Character greatest behind) there e =
-    elim (chosen (nat_lt greatest code) (item.Refused (Syntax at)) (item.Range code greatest behind) (item.Refused r) e) [
-      | inl bad ↦ from_item bad.1 syntax_fault
-      | inr good ↦ absurd (let differs = good.1 in cc)
-    ]
-range_number_of text start at code middle r (piece.Refused refusal) there e =
-    from_item e (piece_number text start (middle + 1) refusal there)
+range_number : (caseless : Bool) (at code middle : ℕ) (p : Piece) → ItemNumber (range_of caseless at code middle p)
+range_number caseless at code middle piece.End = tt
+range_number caseless at code middle piece.Close = tt
+range_number caseless at code middle (piece.Character greatest n) =
+    either ItemNumber (nat_lt greatest code) _ _ (λ _. syntax_fault) (λ _. tt)
+range_number caseless at code middle (piece.Class named negated n) = tt
+range_number caseless at code middle (piece.Refused reason) = form_number reason (middle + 1)
 
 item_number_of :
-    (text : List ℕ) (start at : ℕ) (r : Refusal) (p : Piece) →
-    piece_at text start at ≡ p →
-    item_of at (λ place. is_byte hyphen (slice_get text place)) (λ place. piece_at text start place) p ≡ item.Refused r →
-    IsOfText (number_of r)
-item_number_of text start at r piece.End there e = absurd cc
-item_number_of text start at r piece.Close there e = absurd cc
-item_number_of text start at r (piece.Character code middle) there e =
-    elim (chosen (is_byte hyphen (slice_get text middle)) (range_of at code middle (piece_at text start (middle + 1))) (item.Range code code middle) (item.Refused r) e) [
-      | inl range ↦ range_number_of text start at code middle r (piece_at text start (middle + 1)) refl range.1
-      | inr alone ↦ absurd (let differs = alone.1 in cc)
-    ]
-item_number_of text start at r (piece.Refused refusal) there e = from_item e (piece_number text start at refusal there)
+    (caseless : Bool) (at : ℕ) (hyphens : ℕ → Bool) (pieces : ℕ → Piece) (p : Piece) →
+    ItemNumber (item_of caseless at hyphens pieces p)
+item_number_of caseless at hyphens pieces piece.End = tt
+item_number_of caseless at hyphens pieces piece.Close = tt
+item_number_of caseless at hyphens pieces (piece.Character code n) =
+    either ItemNumber (hyphens (at + n)) _ _ (λ _. range_number caseless at code (at + n) (pieces (at + n + 1))) (λ _. tt)
+item_number_of caseless at hyphens pieces (piece.Class named negated n) = tt
+item_number_of caseless at hyphens pieces (piece.Refused reason) = form_number reason at
 
-item_number : (text : List ℕ) (start at : ℕ) (r : Refusal) → item_at text start at ≡ item.Refused r → IsOfText (number_of r)
+item_number : (text : List ℕ) (caseless : Bool) (start at : ℕ) → ItemNumber (item_at text caseless start at)
 unfolding item_at
-item_number text start at r e = item_number_of text start at r (piece_at text start at) refl e
+item_number text caseless start at =
+    item_number_of caseless at (λ place. is_byte hyphen (slice_get text place)) (λ place. piece_of text caseless start place)
+    (piece_of text caseless start at)
 
-token_number :
-    {text : List ℕ} {options : Options} {at end : ℕ} {role : Role} {token : Token} (r : Refusal) →
-    Begins text options at role token end → token ≡ Token.faulty r → IsOfText (number_of r)
-token_number r text_end e = absurd cc
-token_number r any_byte e = absurd cc
-token_number r (literal p) e = absurd cc
-token_number r (escaped p) e = absurd cc
-token_number {text = text} {at = at} r (bad_escape {refusal = refusal} p) e = from_token e (escape_number text at refusal p)
-token_number r (bracket (named n)) e = from_token e syntax_fault
-token_number r (bracket (closed n items c)) e = absurd cc
-token_number r (bracket (unclosed n items c)) e = from_token e syntax_fault
-token_number {text = text} {at = at} r (bracket (refused {here = here} {refusal = refusal} n items c)) e =
-    from_token e (item_number text _ here refusal c)
-token_number r (group_start p) e = absurd cc
-token_number r (unread_group p) e = from_token e unsupported
-token_number r group_end e = absurd cc
-token_number r divider e = absurd cc
-token_number r star_mark e = absurd cc
-token_number r plus_mark e = absurd cc
-token_number r tokens.question_mark e = absurd cc
-token_number r unread_mark e = from_token e unsupported
+-- of a token
+abbrev TokenNumber : Token → Type 0
+TokenNumber ending = Unit {0}
+TokenNumber (single set) = Unit {0}
+TokenNumber (assertion here) = Unit {0}
+TokenNumber opening = Unit {0}
+TokenNumber closing = Unit {0}
+TokenNumber bar = Unit {0}
+TokenNumber (quantifier least greatest possessive) = Unit {0}
+TokenNumber setting = Unit {0}
+TokenNumber (faulty refusal) = IsOfText (number_of refusal)
 
-quantifier_number :
-    (twice : Refusal) (end : ℕ) (s : State) (before : Before) (place : ℕ) (r : Refusal) →
-    IsOfText (number_of twice) → quantifier_move twice end s before ≡ stops place r → IsOfText (number_of r)
-quantifier_number twice end s beginning place r h e = from_move e syntax_fault
-quantifier_number twice end s atom place r h e = absurd cc
-quantifier_number twice end s quantifier place r h e = from_move e h
+abbrev MadeNumber : Made → Type 0
+MadeNumber (token made mode n) = TokenNumber made
+MadeNumber (skips mode n) = Unit {0}
+MadeNumber bracket = Unit {0}
 
-end_number : (at : ℕ) (outside : List Options) (place : ℕ) (r : Refusal) → end_move at outside ≡ stops place r → IsOfText (number_of r)
-end_number at [] place r e = absurd cc
-end_number at (options ∷ outside) place r e = from_move e syntax_fault
+made_number : (mode : Mode) (at : ℕ) (f : Form) → MadeNumber (made_by mode at f)
+made_number mode at form.End = tt
+made_number mode at (form.Skipped behind n) = tt
+made_number mode at (form.Setting behind n) = tt
+made_number mode at (form.Opening inside n) = tt
+made_number mode at form.Closing = tt
+made_number mode at form.Bar = tt
+made_number mode at form.Any = tt
+made_number mode at (form.Character code n) = tt
+made_number mode at (form.Class named negated n) = tt
+made_number mode at form.Bracket = tt
+made_number mode at (form.Assert here n) = tt
+made_number mode at (form.Quantifier least greatest possessive n) = tt
+made_number mode at (form.Refused reason) = form_number reason at
 
-close_number : (at end : ℕ) (outside : List Options) (place : ℕ) (r : Refusal) → close_move at end outside ≡ stops place r → IsOfText (number_of r)
-close_number at end [] place r e = from_move e syntax_fault
-close_number at end (options ∷ outside) place r e = absurd cc
+made_at_number : (text : List ℕ) (s : Spot) → MadeNumber (made_at text s)
+unfolding made_at
+made_at_number text s = made_number s.mode s.place (form_of text s)
 
-stop_number :
-    {text : List ℕ} (s : State) (token : Token) (end place : ℕ) (r : Refusal) →
-    TokenAt text s.options s.at token end → move token end s ≡ stops place r → IsOfText (number_of r)
-stop_number s Token.ending end place r there e = end_number s.at s.outside place r e
-stop_number s (Token.single set) end place r there e = absurd cc
-stop_number s Token.opening end place r there e =
-    elim (chosen (nat_lt (length s.outside) greatest_depth) (goes (state end s.options (s.options ∷ s.outside) beginning)) (stops s.at DepthLimit) (stops place r) e) [
-      | inl opens ↦ absurd (let differs = opens.1 in cc)
-      | inr full ↦ from_move full.1 depth_limit
-    ]
-stop_number s Token.closing end place r there e = close_number s.at end s.outside place r e
-stop_number s Token.bar end place r there e = absurd cc
-stop_number s Token.star end place r there e = quantifier_number (Syntax s.at) end s s.before place r syntax_fault e
-stop_number s Token.plus end place r there e = quantifier_number (Unsupported Later s.at) end s s.before place r unsupported e
-stop_number s Token.question end place r there e = quantifier_number (Unsupported Later s.at) end s s.before place r unsupported e
-stop_number s (Token.faulty refusal) end place r there e = from_move e (token_number refusal there refl)
+class_number : {text : List ℕ} {caseless : Bool} {at end : ℕ} {made : Token} → ClassToken text caseless at made end → TokenNumber made
+class_number (closed items e) = tt
+class_number (unclosed items e) = syntax_fault
+class_number {text = text} {caseless = caseless} (refused {here = here} items e) = subst ItemNumber e (item_number text caseless _ here)
+
+token_number : {text : List ℕ} {s t : Spot} {made : Token} → TokenAt text s made t → TokenNumber made
+token_number {text = text} {s = s} (formed e) = subst MadeNumber e (made_at_number text s)
+token_number (bracketed e there) = class_number there
+
+next_number : {text : List ℕ} {s start t : Spot} {made : Token} → Next text s start made t → TokenNumber made
+next_number (now p) = token_number p
+next_number (skipped e there) = next_number there
+
+-- of each of some refusals
+abbrev AreOfText : List Refusal → Type 0
+AreOfText rs = (r : Refusal) → IsOneOf r rs → IsOfText (number_of r)
+
+none_of_text : AreOfText []
+none_of_text r never = absurd never
+
+only_of_text : (s : Refusal) → IsOfText (number_of s) → AreOfText (s ∷ [])
+only_of_text s h r (inl e) = subst (λ x. IsOfText (number_of x)) (sym e) h
+only_of_text s h r (inr never) = absurd never
+
+both_of_text : (xs ys : List Refusal) → AreOfText xs → AreOfText ys → AreOfText (xs ++ ys)
+both_of_text xs ys h k r there = by_case (one_of_both r xs ys there)
+  where
+    by_case : IsOneOf r xs ⊎ IsOneOf r ys → IsOfText (number_of r)
+    by_case (inl here) = h r here
+    by_case (inr here) = k r here
+
+order_number : (at : ℕ) (before : Before) → AreOfText (order_faults at before)
+order_number at beginning = only_of_text (Syntax at) syntax_fault
+order_number at atom = none_of_text
+order_number at repeated = only_of_text (Syntax at) syntax_fault
+
+bounds_number : (at n : ℕ) (m : Option ℕ) → AreOfText (bounds_faults at n m)
+bounds_number at n None =
+    either AreOfText (nat_lt greatest_bound n) _ _ (λ _. only_of_text (RepeatLimit n) repeat_limit) (λ _. none_of_text)
+bounds_number at n (Some m) =
+    either AreOfText (nat_lt greatest_bound n) _ _ (λ _. only_of_text (RepeatLimit n) repeat_limit)
+    (λ _. either AreOfText (nat_lt greatest_bound m) _ _ (λ _. only_of_text (RepeatLimit m) repeat_limit)
+    (λ _. either AreOfText (nat_lt m n) _ _ (λ _. only_of_text (Syntax at) syntax_fault) (λ _. none_of_text)))
+
+mark_number : (at : ℕ) (possessive : Bool) → AreOfText (mark_faults at possessive)
+mark_number at true = only_of_text (refusals.Unsupported Possessive at) unsupported
+mark_number at false = none_of_text
+
+quantifier_number : (at n : ℕ) (m : Option ℕ) (possessive : Bool) (before : Before) → AreOfText (quantifier_faults at n m possessive before)
+quantifier_number at n m possessive before =
+    both_of_text (order_faults at before) (bounds_faults at n m ++ mark_faults at possessive) (order_number at before)
+    (both_of_text (bounds_faults at n m) (mark_faults at possessive) (bounds_number at n m) (mark_number at possessive))
+
+-- of a move
+abbrev MoveNumbers : Move → Type 0
+MoveNumbers (goes s) = Unit {0}
+MoveNumbers accepts = Unit {0}
+MoveNumbers (stops at rs) = AreOfText rs
+
+end_numbers : (at : ℕ) (outside : List Mode) → MoveNumbers (end_move at outside)
+end_numbers at [] = tt
+end_numbers at (mode ∷ outside) = only_of_text (Syntax at) syntax_fault
+
+close_numbers : (at end : ℕ) (outside : List Mode) → MoveNumbers (close_move at end outside)
+close_numbers at end [] = only_of_text (Syntax at) syntax_fault
+close_numbers at end (mode ∷ outside) = tt
+
+quantifier_numbers : (at : ℕ) (behind : Spot) (outside : List Mode) (rs : List Refusal) → AreOfText rs → MoveNumbers (quantifier_move at behind outside rs)
+quantifier_numbers at behind outside [] h = tt
+quantifier_numbers at behind outside (r ∷ rs) h = h
+
+move_numbers : (made : Token) (start behind : Spot) (outside : List Mode) (before : Before) → TokenNumber made → MoveNumbers (move made start behind outside before)
+move_numbers ending start behind outside before h = end_numbers start.place outside
+move_numbers (single set) start behind outside before h = tt
+move_numbers (assertion here) start behind outside before h = tt
+move_numbers opening start behind outside before h =
+    either MoveNumbers (nat_lt (length outside) greatest_depth) _ _ (λ _. tt) (λ _. only_of_text DepthLimit depth_limit)
+move_numbers closing start behind outside before h = close_numbers start.place behind.place outside
+move_numbers bar start behind outside before h = tt
+move_numbers (quantifier n m possessive) start behind outside before h =
+    quantifier_numbers start.place behind outside (quantifier_faults start.place n m possessive before)
+    (quantifier_number start.place n m possessive before)
+move_numbers setting start behind outside before h = tt
+move_numbers (faulty refusal) start behind outside before h = only_of_text refusal h
 
 has_number : {text : List ℕ} {flags : Flags} {at : ℕ} {r : Refusal} → HasFault text flags at r → IsOfText (number_of r)
 has_number (too_long h) = length_limit
-has_number {r = r} (stopped {at = at} h stop) = stop_number stop.last stop.token stop.end at r stop.there stop.stopped
+has_number {r = r} (stopped h stop has) =
+    let numbers = move_numbers stop.token stop.start stop.behind stop.last.outside stop.last.before (next_number stop.there) in
+    subst MoveNumbers stop.stopped numbers r has
 
 -- a fault has a number of those that a text may have
 pub fault-number : {text : List ℕ} {flags : Flags} {refusal : Refusal} → Fault text flags refusal → IsOfText (number_of refusal)

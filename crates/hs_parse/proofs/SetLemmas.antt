@@ -1,16 +1,17 @@
--- The sets of atoms of one byte.
-use Rattle.std.proofs.Common.{◌≡◌, ℕ, zero, suc, ◌+◌, ◌-◌, ◌^◌, ◌/◌, ◌%◌, ◌<◌, Bool, false, not, ◌||◌, List, [], ◌∷◌, ◌++◌, map, eqb, refl, sym, ap, ◌∙◌, arith}
+-- Sets of the bytes that pass a test.
+use Rattle.std.proofs.Common.{◌≡◌, ℕ, zero, suc, ◌+◌, ◌-◌, ◌^◌, ◌/◌, ◌%◌, ◌<◌, Bool, true, false, not, ◌||◌, List, [], ◌∷◌, ◌++◌, map, eqb, refl, sym, ap, ◌∙◌, arith}
 use Rattle.std.specs.Prelude.{◌==◌, if◌then◌else◌}
 use Rattle.std.specs.List.{range_with_len, list_any}
 use Rattle.std.specs.Int.{bit_at}
 use Rattle.std.proofs.lemmas.Nat.Bits.{bit_at-zero}
 use Rattle.hs_base.specs.declared.byte_set.ByteSet.{ByteSet}
-use Rattle.hs_base.specs.ByteSets.{has, members}
+use Rattle.hs_base.specs.Assertions.{line_feed}
+use Rattle.hs_base.specs.ByteSets.{has, members, bytes_where}
 use Rattle.hs_base.proofs.ByteSetLemmas.{word_at}
-use Rattle.hs_parse.specs.declared.piece.Item.TheVariants as item
-use Rattle.hs_parse.specs.Syntax.{Options}
-use Rattle.hs_parse.specs.Classes.{is_between, item_at, nothing, class_of}
-use Rattle.hs_parse.specs.Tokens.{just, not_newline}
+use Rattle.hs_parse.specs.declared.item.Item.TheVariants as item
+use Rattle.hs_parse.specs.declared.set.Test.{Test}
+use Rattle.hs_parse.specs.Classes.{passes, item_at, nothing, class_of}
+use Rattle.hs_parse.specs.Tokens.{any_byte}
 use Rattle.hs_parse.specs.Reading.{HasItems}
 use Rattle.hs_parse.proofs.ClassLemmas.{items_last, any_last}
 
@@ -24,14 +25,20 @@ same_on_range f g (suc n) a same =
     let rest = same_on_range f g n (a + 1) (λ b h. same b (omega (arith, h))) in
     cc (first, rest)
 
--- the set of one byte
-pub members-just : (s : ByteSet) (x : ℕ) → ((b : ℕ) → b < 256 → has s b ≡ (b == x)) → members s ≡ just x
+-- the set of the bytes that pass a test
+pub members-where : (s : ByteSet) (test : ℕ → Bool) → ((b : ℕ) → b < 256 → has s b ≡ test b) → members s ≡ bytes_where test
 unfolding members
-members-just s x same = same_on_range (has s) (λ b. b == x) 256 0 same
+members-where s test same = same_on_range (has s) test 256 0 same
+
+-- the set of every byte
+pub members-all :
+    members (record { words = (2 ^ 64 - 1) ∷ (2 ^ 64 - 1) ∷ (2 ^ 64 - 1) ∷ (2 ^ 64 - 1) ∷ [] }) ≡ any_byte true
+unfolding has members
+members-all = refl
 
 -- the set of every byte but the line feed
 pub members-not_newline :
-    members (record { words = (2 ^ 64 - 1 - 2 ^ 10) ∷ (2 ^ 64 - 1) ∷ (2 ^ 64 - 1) ∷ (2 ^ 64 - 1) ∷ [] }) ≡ not_newline
+    members (record { words = (2 ^ 64 - 1 - 2 ^ 10) ∷ (2 ^ 64 - 1) ∷ (2 ^ 64 - 1) ∷ (2 ^ 64 - 1) ∷ [] }) ≡ any_byte false
 unfolding has members
 members-not_newline = refl
 
@@ -48,28 +55,39 @@ members-class s whole negated tests items all =
     (λ b h. all b h ∙ ap (λ x. if negated then not x else x) (items b h))
 
 -- no byte is in the empty set
-no_member : (b : ℕ) → b < 256 → has (record { words = 0 ∷ 0 ∷ 0 ∷ 0 ∷ [] }) b ≡ false
+pub no_member : (b : ℕ) → b < 256 → has (record { words = 0 ∷ 0 ∷ 0 ∷ 0 ∷ [] }) b ≡ false
 unfolding has
 no_member b h =
     ap (λ n. eqb (bit_at n (b % 64)) 1) (word_at (λ _. 0) (b / 64) (omega arith)) ∙ ap (λ n. eqb n 1) (bit_at-zero (b % 64))
 
+or_nothing : (a b : Bool) → b ≡ false → (a || b) ≡ a
+or_nothing true b e = refl
+or_nothing false b e = e
+
+-- the bytes that pass a test, in a set that was empty
+pub members-inserted :
+    (s empty : ByteSet) (test : ℕ → Bool) → ((b : ℕ) → b < 256 → has empty b ≡ false) →
+    ((b : ℕ) → b < 256 → has s b ≡ (test b || has empty b)) → members s ≡ bytes_where test
+members-inserted s empty test none added =
+    members-where s test (λ b h. added b h ∙ or_nothing (test b) (has empty b) (none b h))
+
 -- no item is read yet
 pub no_items :
-    (text : List ℕ) (options : Options) (start : ℕ) →
-    HasItems text options start (record { words = 0 ∷ 0 ∷ 0 ∷ 0 ∷ [] }) start
-no_items text options start = record { tests = []; items = nothing; same = no_member }
+    (text : List ℕ) (caseless : Bool) (start : ℕ) →
+    HasItems text caseless start (record { words = 0 ∷ 0 ∷ 0 ∷ 0 ∷ [] }) start
+no_items text caseless start = record { tests = []; items = nothing; same = no_member }
 
 -- one item more
 pub more_items :
-    (text : List ℕ) (options : Options) (start here first last end : ℕ) (old new : ByteSet) →
-    HasItems text options start old here → item_at text start here ≡ item.Range first last end →
-    ((b : ℕ) → b < 256 → has new b ≡ (is_between first last b || has old b)) →
-    HasItems text options start new end
-more_items text options start here first last end old new before e added = record {
-  tests = before.tests ++ is_between first last ∷ [];
+    (text : List ℕ) (caseless : Bool) (start here end : ℕ) (test : Test) (old new : ByteSet) →
+    HasItems text caseless start old here → item_at text caseless start here ≡ item.Bytes test end →
+    ((b : ℕ) → b < 256 → has new b ≡ (passes test b || has old b)) →
+    HasItems text caseless start new end
+more_items text caseless start here end test old new before e added = record {
+  tests = before.tests ++ passes test ∷ [];
   items = items_last before.items e;
   same = λ b h.
       added b h
-      ∙ ap (λ x. is_between first last b || x) (before.same b h)
-      ∙ sym (any_last b before.tests (is_between first last));
+      ∙ ap (λ x. passes test b || x) (before.same b h)
+      ∙ sym (any_last b before.tests (passes test));
 }

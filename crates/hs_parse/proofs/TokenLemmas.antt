@@ -1,244 +1,227 @@
 -- At every place begins one token.
-use Rattle.std.proofs.Common.{◌≡◌, ℕ, ◌+◌, ◌<◌, ◌≤◌, inl, inr, Bool, true, false, ◌||◌, List, length, get_or, Option, Some, None, refl, sym, ap, subst, ◌∙◌, arith}
-use Rattle.std.specs.Prelude.{◌==◌, if◌then◌else◌}
-use Rattle.std.specs.List.{slice_get}
-use Rattle.std.proofs.lemmas.Bool.{cases_lt, cases_Bool}
-use Rattle.std.proofs.lemmas.Option.{slice_get_within, slice_get_past, slice_get-get_or}
-use Rattle.hs_parse.specs.declared.role.Role.{Role}
-use Rattle.hs_parse.specs.declared.role.Role.TheVariants as role
-use Rattle.hs_parse.specs.declared.piece.Piece.{Piece}
-use Rattle.hs_parse.specs.declared.piece.Piece.TheVariants as piece
-use Rattle.hs_parse.specs.Syntax.{Options, full_stop, backslash, opening_bracket, opening_parenthesis, closing_parenthesis, vertical_bar, star, plus, question_mark, circumflex, dollar, opening_brace, byte_role, role_of, role_at, escape_at, is_unread_group}
-use Rattle.hs_parse.specs.Tokens.{Token, just, Begins, text_end, any_byte, literal, escaped, bad_escape, bracket, group_start, unread_group, group_end, divider, star_mark, plus_mark, unread_mark, TokenAt}
-use Rattle.hs_parse.specs.Tokens as tokens
-use Rattle.hs_parse.proofs.PieceLemmas.{escape_end, escape_is, IsEscape, read, refused}
-use Rattle.hs_parse.proofs.ClassLemmas.{AreSameTokens, one_class, class_read, class_within}
+use Rattle.std.proofs.Common.{◌≡◌, ℕ, zero, suc, ◌+◌, ◌-◌, ◌<◌, ◌≤◌, inl, inr, Bool, true, false, List, length, take, drop, refl, sym, ap, subst, ◌∙◌, arith}
+use Rattle.std.proofs.lemmas.List.{length-drop}
+use Rattle.std.proofs.lemmas.Bool.{cases_Bool}
+use Rattle.hs_syntax.specs.declared.mode.Mode.{Mode}
+use Rattle.hs_syntax.specs.declared.form.Form.{Form}
+use Rattle.hs_syntax.specs.declared.form.Form.TheVariants as form
+use Rattle.hs_syntax.specs.Forms.{form_at}
+use Rattle.hs_syntax.specs.Lengths.{IsLength, FormFits}
+use Rattle.hs_syntax.proofs.FormLengths.{form_fits}
+use Rattle.hs_parse.specs.declared.spot.Spot.{Spot}
+use Rattle.hs_parse.specs.Spots.{spot, form_of}
+use Rattle.hs_parse.specs.Tokens.{Token, ending, single, assertion, opening, closing, bar, quantifier, setting, faulty, Made, token, skips, bracket, made_by, made_at, ClassToken, closed, unclosed, refused, TokenAt, formed, bracketed, Next, now, skipped}
+use Rattle.hs_parse.specs.Reading.{goes_on}
+use Rattle.hs_parse.proofs.ClassLemmas.{one_class, class_read, class_within}
 
--- one byte is at a place
-some_one : {o : Option ℕ} {a b : ℕ} → o ≡ Some a → o ≡ Some b → a ≡ b
-some_one p q = cc
+-- the token and what is behind it are the same in two readings
+pub record AreSameTokens (a b : Token) (t u : Spot) : Type 0 where
+  pub token : a ≡ b
+  pub behind : t ≡ u
 
-same_escapes : {p : Piece} {a b j k : ℕ} → p ≡ piece.Character a j → p ≡ piece.Character b k → AreSameTokens (Token.single (just a)) (Token.single (just b)) j k
-same_escapes {a = a} {b = b} e f =
-    let code : a ≡ b = cc in
-    record { token = ap (λ x. Token.single (just x)) code; end = cc }
+-- one form is made in one way
+record AreSameMade (a b : Token) (m n : Mode) (j k : ℕ) : Type 0 where
+  pub token : a ≡ b
+  pub mode : m ≡ n
+  pub length : j ≡ k
 
--- what a byte begins is told in one way
-one_begun :
-    {text : List ℕ} {options : Options} {at j k : ℕ} {r : Role} {s t : Token} →
-    Begins text options at r s j → Begins text options at r t k → AreSameTokens s t j k
-one_begun text_end text_end = record { token = refl; end = refl }
-one_begun any_byte any_byte = record { token = refl; end = refl }
-one_begun (literal p) (literal q) = record { token = ap (λ b. Token.single (just b)) (some_one p q); end = refl }
-one_begun (escaped p) (escaped q) = same_escapes p q
-one_begun (escaped p) (bad_escape q) = absurd cc
-one_begun (bad_escape p) (escaped q) = absurd cc
-one_begun (bad_escape p) (bad_escape q) = record { token = cc; end = refl }
-one_begun (bracket p) (bracket q) = one_class p q
-one_begun (group_start p) (group_start q) = record { token = refl; end = refl }
-one_begun (group_start p) (unread_group q) = absurd cc
-one_begun (unread_group p) (group_start q) = absurd cc
-one_begun (unread_group p) (unread_group q) = record { token = refl; end = refl }
-one_begun group_end group_end = record { token = refl; end = refl }
-one_begun divider divider = record { token = refl; end = refl }
-one_begun star_mark star_mark = record { token = refl; end = refl }
-one_begun plus_mark plus_mark = record { token = refl; end = refl }
-one_begun tokens.question_mark tokens.question_mark = record { token = refl; end = refl }
-one_begun unread_mark unread_mark = record { token = refl; end = refl }
+same_made : {x : Made} {a b : Token} {m n : Mode} {j k : ℕ} → x ≡ token a m j → x ≡ token b n k → AreSameMade a b m n j k
+same_made e f = record { token = cc; mode = cc; length = cc }
+
+same_spots : (place : ℕ) {m n : Mode} {j k : ℕ} → m ≡ n → j ≡ k → spot (place + j) m ≡ spot (place + k) n
+same_spots place {m = m} {n = n} {j = j} {k = k} e f = ap (λ x. spot (place + x) m) f ∙ ap (λ (x : Mode). spot (place + k) x) e
+
+token_no_bracket : {x : Made} {a : Token} {m : Mode} {j : ℕ} → x ≡ token a m j → x ≡ bracket → ⊥
+token_no_bracket e f = cc
+
+token_no_skip : {x : Made} {a : Token} {m n : Mode} {j k : ℕ} → x ≡ token a m j → x ≡ skips n k → ⊥
+token_no_skip e f = cc
+
+bracket_no_skip : {x : Made} {n : Mode} {k : ℕ} → x ≡ bracket → x ≡ skips n k → ⊥
+bracket_no_skip e f = cc
 
 -- one token begins at a place
 pub one_token :
-    {text : List ℕ} {options : Options} {at j k : ℕ} {s t : Token} →
-    TokenAt text options at s j → TokenAt text options at t k → AreSameTokens s t j k
-one_token p q = one_begun p q
+    {text : List ℕ} {s t u : Spot} {a b : Token} →
+    TokenAt text s a t → TokenAt text s b u → AreSameTokens a b t u
+one_token {s = s} (formed e) (formed f) =
+    let same = same_made e f in record { token = same.token; behind = same_spots s.place same.mode same.length }
+one_token (formed e) (bracketed f there) = absurd (token_no_bracket e f)
+one_token (bracketed f there) (formed e) = absurd (token_no_bracket e f)
+one_token {s = s} (bracketed e here) (bracketed f there) =
+    let same = one_class here there in record { token = same.token; behind = ap (λ x. spot x s.mode) same.end }
 
--- whether the text ends
-abbrev is_end : Role → Bool
-is_end role.End = true
-is_end role.Any = false
-is_end role.Literal = false
-is_end role.Escape = false
-is_end role.Class = false
-is_end role.Opening = false
-is_end role.Closing = false
-is_end role.Bar = false
-is_end role.Star = false
-is_end role.Plus = false
-is_end role.Question = false
-is_end role.Unread = false
+-- what is skipped is no token
+pub token_stays : {text : List ℕ} {s t : Spot} {a : Token} {mode : Mode} {k : ℕ} → TokenAt text s a t → made_at text s ≡ skips mode k → ⊥
+token_stays (formed e) f = token_no_skip e f
+token_stays (bracketed e there) f = bracket_no_skip e f
 
-either_end : (b : Bool) (r s : Role) → is_end r ≡ false → is_end s ≡ false → is_end (if b then r else s) ≡ false
-either_end true r s h k = h
-either_end false r s h k = k
+-- the next token, where it begins and what is behind it are the same in two readings
+pub record AreSameNext (i j : Spot) (a b : Token) (t u : Spot) : Type 0 where
+  pub start : i ≡ j
+  pub token : a ≡ b
+  pub behind : t ≡ u
 
--- no byte ends the text
-byte_no_end : (b : ℕ) → is_end (byte_role b) ≡ false
-unfolding byte_role
-byte_no_end b =
-    either_end (b == full_stop) _ _ refl
-    (either_end (b == backslash) _ _ refl
-    (either_end (b == opening_bracket) _ _ refl
-    (either_end (b == opening_parenthesis) _ _ refl
-    (either_end (b == closing_parenthesis) _ _ refl
-    (either_end (b == vertical_bar) _ _ refl
-    (either_end (b == star) _ _ refl
-    (either_end (b == plus) _ _ refl
-    (either_end (b == question_mark) _ _ refl
-    (either_end ((b == circumflex) || ((b == dollar) || (b == opening_brace))) _ _ refl refl)))))))))
+same_skips : {x : Made} {m n : Mode} {j k : ℕ} (place : ℕ) → x ≡ skips m j → x ≡ skips n k → spot (place + j) m ≡ spot (place + k) n
+same_skips {m = m} {n = n} {j = j} {k = k} place e f =
+    let mode : m ≡ n = cc in
+    let length : j ≡ k = cc in
+    same_spots place mode length
 
--- the byte at a place, where the text goes on
-pub record HasByte (text : List ℕ) (at : ℕ) : Type 0 where
-  pub byte : ℕ
-  pub there : slice_get text at ≡ Some byte
-  pub within : at < length text
+pub moved_next : {text : List ℕ} {s r start t : Spot} {a : Token} → s ≡ r → Next text r start a t → Next text s start a t
+moved_next {text = text} {start = start} {t = t} {a = a} e there = subst (λ (x : Spot). Next text x start a t) (sym e) there
 
-byte_of : (text : List ℕ) (at : ℕ) (o : Option ℕ) → slice_get text at ≡ o → is_end (role_of o) ≡ false → HasByte text at
-byte_of text at None e h = absurd cc
-byte_of text at (Some b) e h = record { byte = b; there = e; within = slice_get_within text at b e }
+-- one token is next
+pub one_next :
+    {text : List ℕ} {s i j t u : Spot} {a b : Token} →
+    Next text s i a t → Next text s j b u → AreSameNext i j a b t u
+one_next (now p) (now q) = let same = one_token p q in record { start = refl; token = same.token; behind = same.behind }
+one_next (now p) (skipped e there) = absurd (token_stays p e)
+one_next (skipped e there) (now p) = absurd (token_stays p e)
+one_next {s = s} (skipped e there) (skipped f other) = one_next there (moved_next (same_skips s.place e f) other)
 
--- where another role than the end stands, a byte does
-pub has_byte : (text : List ℕ) (at : ℕ) (r : Role) → role_at text at ≡ r → is_end r ≡ false → HasByte text at
-has_byte text at r e h = byte_of text at (slice_get text at) refl (ap is_end e ∙ h)
+-- how far what is made goes, in so many bytes
+abbrev pub MadeFits : (bytes : ℕ) → Made → Type 0
+MadeFits bytes (token ending mode length) = (bytes ≡ 0) × (length ≡ 0)
+MadeFits bytes (token (single set) mode length) = IsLength bytes length
+MadeFits bytes (token (assertion here) mode length) = IsLength bytes length
+MadeFits bytes (token opening mode length) = IsLength bytes length
+MadeFits bytes (token closing mode length) = IsLength bytes length
+MadeFits bytes (token bar mode length) = IsLength bytes length
+MadeFits bytes (token (quantifier least greatest possessive) mode length) = IsLength bytes length
+MadeFits bytes (token setting mode length) = IsLength bytes length
+MadeFits bytes (token (faulty refusal) mode length) = length ≡ 0
+MadeFits bytes (skips mode length) = IsLength bytes length
+MadeFits bytes bracket = IsLength bytes 1
 
-end_of : (text : List ℕ) (at : ℕ) (o : Option ℕ) → slice_get text at ≡ o → role_of o ≡ role.End → length text ≤ at
-end_of text at None e h =
-    elim (cases_lt at (length text)) [
-      | inl within ↦ absurd (let some = there at within in cc)
-      | inr past ↦ past
-    ]
-  where
-    there : (i : ℕ) → i < length text → slice_get text i ≡ Some (get_or text i 0)
-    there i h = slice_get-get_or text i 0 h
-end_of text at (Some b) e h = absurd (let bad : false ≡ true = sym (byte_no_end b) ∙ ap is_end h in cc)
+made_by_fits : (bytes : ℕ) (mode : Mode) (at : ℕ) (f : Form) → FormFits bytes f → MadeFits bytes (made_by mode at f)
+made_by_fits bytes mode at form.End h = (h, refl)
+made_by_fits bytes mode at (form.Skipped behind length) h = h
+made_by_fits bytes mode at (form.Setting behind length) h = h
+made_by_fits bytes mode at (form.Opening inside length) h = h
+made_by_fits bytes mode at form.Closing h = h
+made_by_fits bytes mode at form.Bar h = h
+made_by_fits bytes mode at form.Any h = h
+made_by_fits bytes mode at (form.Character code length) h = h
+made_by_fits bytes mode at (form.Class named negated length) h = h
+made_by_fits bytes mode at form.Bracket h = h
+made_by_fits bytes mode at (form.Assert here length) h = h
+made_by_fits bytes mode at (form.Quantifier least greatest possessive length) h = h
+made_by_fits bytes mode at (form.Refused reason) h = refl
 
--- the end stands behind the text
-pub end_past : (text : List ℕ) (at : ℕ) → role_at text at ≡ role.End → length text ≤ at
-end_past text at e = end_of text at (slice_get text at) refl e
+made_at_fits : (text : List ℕ) (s : Spot) → MadeFits (length text - s.place) (made_at text s)
+unfolding made_at
+made_at_fits text s =
+    subst (λ n. MadeFits n (made_by s.mode s.place (form_of text s))) (length-drop s.place text)
+    (made_by_fits (length (drop s.place text)) s.mode s.place (form_of text s) (form_fits s.mode (drop s.place text)))
 
--- and behind the text stands the end
-pub past_end : (text : List ℕ) (at : ℕ) → length text ≤ at → role_at text at ≡ role.End
-past_end text at h = ap role_of (slice_get_past text at h)
-
--- a token stands at the place
-pub record TokenRead (text : List ℕ) (options : Options) (at : ℕ) : Type 0 where
-  pub token : Token
-  pub end : ℕ
-  pub there : TokenAt text options at token end
-
--- a role makes a token
-begun :
-    (text : List ℕ) (options : Options) (at : ℕ) (r : Role) → role_at text at ≡ r →
-    (s : Token) × (k : ℕ) × Begins text options at r s k
-begun text options at role.End e = (_, _, text_end)
-begun text options at role.Any e = (_, _, any_byte)
-begun text options at role.Literal e = let byte = has_byte text at role.Literal e refl in (_, _, literal byte.there)
-begun text options at role.Escape e = by_piece (escape_is text at)
-  where
-    by_piece : IsEscape (escape_at text at) → (s : Token) × (k : ℕ) × Begins text options at role.Escape s k
-    by_piece (read code end p) = (_, _, escaped p)
-    by_piece (refused refusal p) = (_, _, bad_escape p)
-begun text options at role.Class e = let class = class_read text options at in (_, _, bracket class.there)
-begun text options at role.Opening e =
-    elim (cases_Bool (is_unread_group (slice_get text (at + 1)))) [
-      | inl h ↦ (_, _, unread_group h)
-      | inr h ↦ (_, _, group_start h)
-    ]
-begun text options at role.Closing e = (_, _, group_end)
-begun text options at role.Bar e = (_, _, divider)
-begun text options at role.Star e = (_, _, star_mark)
-begun text options at role.Plus e = (_, _, plus_mark)
-begun text options at role.Question e = (_, _, tokens.question_mark)
-begun text options at role.Unread e = (_, _, unread_mark)
-
--- at every place a token begins
-pub token_read : (text : List ℕ) (options : Options) (at : ℕ) → TokenRead text options at
-token_read text options at =
-    let here = begun text options at (role_at text at) refl in
-    record { token = here.0; end = here.1; there = here.2 }
-
--- whether the reading goes on behind a token
-abbrev pub goes_on : Token → Bool
-goes_on Token.ending = false
-goes_on (Token.single set) = true
-goes_on Token.opening = true
-goes_on Token.closing = true
-goes_on Token.bar = true
-goes_on Token.star = true
-goes_on Token.plus = true
-goes_on Token.question = true
-goes_on (Token.faulty refusal) = false
+pub made_fits : (text : List ℕ) (s : Spot) (m : Made) → made_at text s ≡ m → MadeFits (length text - s.place) m
+made_fits text s m e = subst (MadeFits (length text - s.place)) e (made_at_fits text s)
 
 -- a token is some bytes of the text
-pub record TakesBytes (text : List ℕ) (at end : ℕ) : Type 0 where
-  pub rises : at < end
-  pub within : end ≤ length text
+pub record Takes (text : List ℕ) (made : Token) (start behind : ℕ) : Type 0 where
+  pub rises : goes_on made start behind
+  pub forward : start ≤ behind
+  pub within : behind ≤ length text
 
-one_byte : (text : List ℕ) (at : ℕ) (r : Role) → role_at text at ≡ r → is_end r ≡ false → TakesBytes text at (at + 1)
-one_byte text at r e h = let byte = has_byte text at r e h in record { rises = omega arith; within = omega (arith, byte.within) }
+plain_takes :
+    (text : List ℕ) (s : Spot) (made : Token) (mode : Mode) (n : ℕ) →
+    s.place ≤ length text → MadeFits (length text - s.place) (token made mode n) → Takes text made s.place (s.place + n)
+plain_takes text s ending mode n h fits = record { rises = tt; forward = omega arith; within = omega (arith, fits.1, h) }
+plain_takes text s (single set) mode n h fits = record { rises = omega (arith, fits.some); forward = omega arith; within = omega (arith, fits.within, h) }
+plain_takes text s (assertion here) mode n h fits = record { rises = omega (arith, fits.some); forward = omega arith; within = omega (arith, fits.within, h) }
+plain_takes text s opening mode n h fits = record { rises = omega (arith, fits.some); forward = omega arith; within = omega (arith, fits.within, h) }
+plain_takes text s closing mode n h fits = record { rises = omega (arith, fits.some); forward = omega arith; within = omega (arith, fits.within, h) }
+plain_takes text s bar mode n h fits = record { rises = omega (arith, fits.some); forward = omega arith; within = omega (arith, fits.within, h) }
+plain_takes text s (quantifier least greatest possessive) mode n h fits =
+    record { rises = omega (arith, fits.some); forward = omega arith; within = omega (arith, fits.within, h) }
+plain_takes text s setting mode n h fits = record { rises = omega (arith, fits.some); forward = omega arith; within = omega (arith, fits.within, h) }
+plain_takes text s (faulty refusal) mode n h fits = record { rises = tt; forward = omega arith; within = omega (arith, fits, h) }
 
-class_taken :
-    {text : List ℕ} {options : Options} {at end : ℕ} {token : Token} →
-    at < length text → goes_on token ≡ true → tokens.ClassToken text options at token end → TakesBytes text at end
-class_taken h g (tokens.named n) = absurd cc
-class_taken h g (tokens.closed n items c) =
-    let far = class_within h (tokens.closed n items c) in record { rises = far.0; within = far.1 }
-class_taken h g (tokens.unclosed n items c) = absurd cc
-class_taken h g (tokens.refused n items c) = absurd cc
+pub class_takes :
+    {text : List ℕ} {caseless : Bool} {at end : ℕ} {made : Token} →
+    at < length text → ClassToken text caseless at made end → Takes text made at end
+class_takes h (closed items e) =
+    let far = class_within h (closed items e) in record { rises = far.0; forward = omega (arith, far.0); within = far.1 }
+class_takes h (unclosed items e) = record { rises = tt; forward = omega arith; within = omega (arith, h) }
+class_takes h (refused items e) = record { rises = tt; forward = omega arith; within = omega (arith, h) }
 
-taken :
-    {text : List ℕ} {options : Options} {at end : ℕ} {r : Role} {token : Token} →
-    role_at text at ≡ r → goes_on token ≡ true → Begins text options at r token end → TakesBytes text at end
-taken e g text_end = absurd cc
-taken {text = text} {at = at} e g any_byte = one_byte text at _ e refl
-taken {text = text} {at = at} e g (literal p) = one_byte text at _ e refl
-taken {text = text} {at = at} e g (escaped {b = b} {end = end} p) =
-    let far = escape_end text at b end p in record { rises = far.rises; within = far.within }
-taken e g (bad_escape p) = absurd cc
-taken {text = text} {at = at} e g (bracket p) = class_taken (has_byte text at _ e refl).within g p
-taken {text = text} {at = at} e g (group_start p) = one_byte text at _ e refl
-taken e g (unread_group p) = absurd cc
-taken {text = text} {at = at} e g group_end = one_byte text at _ e refl
-taken {text = text} {at = at} e g divider = one_byte text at _ e refl
-taken {text = text} {at = at} e g star_mark = one_byte text at _ e refl
-taken {text = text} {at = at} e g plus_mark = one_byte text at _ e refl
-taken {text = text} {at = at} e g tokens.question_mark = one_byte text at _ e refl
-taken e g unread_mark = absurd cc
+-- where a class begins, a byte is
+pub bracket_within : (text : List ℕ) (s : Spot) → made_at text s ≡ bracket → s.place < length text
+bracket_within text s e = let fits : IsLength (length text - s.place) 1 = made_fits text s bracket e in omega (arith, fits.within)
 
--- a token that goes on takes bytes
-pub token_takes :
-    {text : List ℕ} {options : Options} {at end : ℕ} {token : Token} →
-    goes_on token ≡ true → TokenAt text options at token end → TakesBytes text at end
-token_takes g there = taken refl g there
+pub token_takes : {text : List ℕ} {s t : Spot} {made : Token} → s.place ≤ length text → TokenAt text s made t → Takes text made s.place t.place
+token_takes {text = text} {s = s} h (formed {made = made} {mode = mode} {length = n} e) =
+    plain_takes text s made mode n h (made_fits text s (token made mode n) e)
+token_takes {text = text} {s = s} h (bracketed e there) = class_takes (bracket_within text s e) there
 
--- a token of this kind begins there
-pub as_token :
-    {text : List ℕ} {options : Options} {at end : ℕ} {r : Role} {token : Token} →
-    role_at text at ≡ r → Begins text options at r token end → TokenAt text options at token end
-as_token {text = text} {options = options} {at = at} {end = end} {token = token} e there =
-    subst (λ r. Begins text options at r token end) (sym e) there
+-- the next token is some bytes of the text, and so is what is skipped
+pub record NextTakes (text : List ℕ) (made : Token) (at start behind : ℕ) : Type 0 where
+  pub reached : at ≤ start
+  pub rises : goes_on made start behind
+  pub forward : start ≤ behind
+  pub within : behind ≤ length text
 
-ending_of :
-    {text : List ℕ} {options : Options} {at end : ℕ} {r : Role} {token : Token} →
-    Begins text options at r token end → token ≡ Token.ending → r ≡ role.End
-ending_of text_end e = refl
-ending_of any_byte e = absurd cc
-ending_of (literal p) e = absurd cc
-ending_of (escaped p) e = absurd cc
-ending_of (bad_escape p) e = absurd cc
-ending_of (bracket (tokens.named n)) e = absurd cc
-ending_of (bracket (tokens.closed n items c)) e = absurd cc
-ending_of (bracket (tokens.unclosed n items c)) e = absurd cc
-ending_of (bracket (tokens.refused n items c)) e = absurd cc
-ending_of (group_start p) e = absurd cc
-ending_of (unread_group p) e = absurd cc
-ending_of group_end e = absurd cc
-ending_of divider e = absurd cc
-ending_of star_mark e = absurd cc
-ending_of plus_mark e = absurd cc
-ending_of tokens.question_mark e = absurd cc
-ending_of unread_mark e = absurd cc
+-- what is skipped is some bytes of the text
+pub record Skips (text : List ℕ) (at behind : ℕ) : Type 0 where
+  pub rises : at < behind
+  pub within : behind ≤ length text
 
--- the end stands behind the text
-pub ending_past :
-    {text : List ℕ} {options : Options} {at end : ℕ} → TokenAt text options at Token.ending end → length text ≤ at
-ending_past {text = text} {at = at} there = end_past text at (ending_of there refl)
+pub skip_takes : (text : List ℕ) (s : Spot) (mode : Mode) (n : ℕ) → s.place ≤ length text → made_at text s ≡ skips mode n → Skips text s.place (s.place + n)
+skip_takes text s mode n h e =
+    let fits : IsLength (length text - s.place) n = made_fits text s (skips mode n) e in
+    record { rises = omega (arith, fits.some); within = omega (arith, fits.within, h) }
+
+pub next_takes : {text : List ℕ} {s start t : Spot} {made : Token} → s.place ≤ length text → Next text s start made t → NextTakes text made s.place start.place t.place
+next_takes h (now p) =
+    let far = token_takes h p in record { reached = omega arith; rises = far.rises; forward = far.forward; within = far.within }
+next_takes {text = text} {s = s} h (skipped {mode = mode} {length = n} e there) =
+    let skip = skip_takes text s mode n h e in
+    let far = next_takes skip.within there in
+    record { reached = omega (arith, skip.rises, far.reached); rises = far.rises; forward = far.forward; within = far.within }
+
+-- the end of the text is behind all bytes
+ending_fits : (bytes n : ℕ) (mode : Mode) → MadeFits bytes (token ending mode n) → bytes ≡ 0
+ending_fits bytes n mode fits = fits.0
+
+pub ending_place : {text : List ℕ} {s t : Spot} {made : Token} → made ≡ ending → s.place ≤ length text → TokenAt text s made t → s.place ≡ length text
+ending_place {text = text} {s = s} same h (formed {made = made} {mode = mode} {length = n} e) =
+    let fits = made_fits text s (token ending mode n) (e ∙ ap (λ (x : Token). token x mode n) same) in omega (arith, fits.0, h)
+ending_place same h (bracketed e (closed items f)) = absurd cc
+ending_place same h (bracketed e (unclosed items f)) = absurd cc
+ending_place same h (bracketed e (refused items f)) = absurd cc
+
+pub next_ending : {text : List ℕ} {s start t : Spot} {made : Token} → made ≡ ending → s.place ≤ length text → Next text s start made t → start.place ≡ length text
+next_ending same h (now p) = ending_place same h p
+next_ending {text = text} {s = s} same h (skipped {mode = mode} {length = n} e there) =
+    next_ending same (skip_takes text s mode n h e).within there
+
+-- a token is next
+pub record NextRead (text : List ℕ) (s : Spot) : Type 0 where
+  pub start : Spot
+  pub made : Token
+  pub behind : Spot
+  pub there : Next text s start made behind
+
+next_made :
+    (text : List ℕ) (s : Spot) (m : Made) → made_at text s ≡ m →
+    ((mode : Mode) (n : ℕ) → made_at text s ≡ skips mode n → NextRead text (spot (s.place + n) mode)) → NextRead text s
+next_made text s (token made mode n) e more = record { start = _; made = _; behind = _; there = now (formed e) }
+next_made text s (skips mode n) e more =
+    let rest = more mode n e in record { start = _; made = _; behind = _; there = skipped e rest.there }
+next_made text s bracket e more =
+    let there = class_read text s.mode.caseless s.place (bracket_within text s e) in
+    record { start = _; made = _; behind = _; there = now (bracketed e there.there) }
+
+next_fuel : (fuel : ℕ) (text : List ℕ) (s : Spot) → s.place ≤ length text → length text ≤ s.place + fuel → NextRead text s
+next_fuel zero text s h k =
+    next_made text s (made_at text s) refl
+    (λ mode n e. let skip = skip_takes text s mode n h e in absurd (omega (arith, skip.rises, skip.within, k)))
+next_fuel (suc fuel) text s h k =
+    next_made text s (made_at text s) refl
+    (λ mode n e.
+    let skip = skip_takes text s mode n h e in
+    next_fuel fuel text (spot (s.place + n) mode) skip.within (omega (arith, skip.rises, k)))
+
+pub next_read : (text : List ℕ) (s : Spot) → s.place ≤ length text → NextRead text s
+next_read text s h = next_fuel (length text) text s h (omega arith)

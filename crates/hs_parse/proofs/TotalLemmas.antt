@@ -1,129 +1,182 @@
 -- Every text is read, or has a fault.
-use Rattle.std.proofs.Common.{◌≡◌, ℕ, zero, suc, ◌+◌, ◌<◌, ◌≤◌, inl, inr, true, List, [], ◌∷◌, length, refl, subst, arith}
+use Rattle.std.proofs.Common.{◌≡◌, ℕ, zero, suc, ◌+◌, ◌<◌, ◌≤◌, inl, inr, Bool, true, false, List, [], ◌∷◌, length, Option, refl, sym, subst, ◌∙◌, arith}
 use Rattle.std.proofs.lemmas.Bool.{cases_lt, cases_Bool}
 use Rattle.hs_base.specs.declared.flags.Flags.{Flags}
 use Rattle.hs_base.specs.declared.refusal.Refusal.{Refusal}
 use Rattle.hs_base.specs.declared.refusal.Refusal.TheVariants.{Syntax, DepthLimit}
-use Rattle.hs_base.specs.Trees.{Tree}
+use Rattle.hs_base.specs.Trees.{Tree, AreBounds}
+use Rattle.hs_syntax.specs.Settings.{mode_of}
 use Rattle.hs_parse.specs.declared.fault.ParseFault.TheVariants as fault
-use Rattle.hs_parse.specs.Tokens.{Token, TokenAt, text_end}
-use Rattle.hs_parse.specs.Grammar.{greatest_length, greatest_depth, NoQuantifier, Atom, one_byte, group, Item, once, repeated, Sequence, nothing, item_first, sequence_tree, Alternation, last, alternative_first}
-use Rattle.hs_parse.specs.Faults.{too_long}
-use Rattle.hs_parse.specs.Reading.{EndsGroup, at_closing, at_ending, StopsFrom}
+use Rattle.hs_parse.specs.declared.spot.Spot.{Spot}
+use Rattle.hs_parse.specs.Spots.{spot, start_of}
+use Rattle.hs_parse.specs.Tokens.{Token, ending, single, assertion, opening, closing, bar, quantifier, setting, faulty, Next}
+use Rattle.hs_parse.specs.Grammar.{greatest_length, greatest_depth, NoQuantifier, Atom, one_byte, asserted, group, Item, once, repeated, Sequence, nothing, item_first, setting_first, sequence_tree, Alternation, last, alternative_first}
+use Rattle.hs_parse.specs.Faults.{quantifier_faults, atom}
+use Rattle.hs_parse.specs.Reading.{EndsGroup, at_closing, at_ending, IsLeastOf, StopsFrom}
 use Rattle.hs_parse.specs.Laws.{Outcome, read, refused, AlwaysOne}
-use Rattle.hs_parse.proofs.TokenLemmas.{token_read, goes_on, TakesBytes, token_takes, ending_past, past_end, as_token}
+use Rattle.hs_parse.proofs.TokenLemmas.{NextTakes, next_takes, next_read, NextRead}
+use Rattle.hs_parse.proofs.FaultLemmas.{has_least, all_right}
 use Rattle.hs_parse.proofs.GrammarLemmas.{is_quantifier, no_quantifier}
-use Rattle.hs_parse.proofs.PathLemmas.{fault_of}
-use Rattle.hs_parse.proofs.StopLemmas.{faulty_stops, second_of, second_stops, quantifier_read, quantifier_stops, depth_stops, group_stops, unclosed_stops, twice_stops, passes_stops, item_passes, bar_passes, stops_fault, closing_fault}
+use Rattle.hs_parse.proofs.PathLemmas.{long_fault}
+use Rattle.hs_parse.proofs.StopLemmas.{faulty_stops, quantifier_stops, depth_stops, group_stops, unclosed_stops, wrong_stops, twice_stops, passes_stops, item_passes, setting_passes, bar_passes, stops_fault, closing_fault}
 
 -- further alternatives, or the end of the group
-data Tail (text : List ℕ) (flags : Flags) (depth : ℕ) : ℕ → List Tree → ℕ → Type 0 where
-  no_more : {at : ℕ} → EndsGroup text flags at → Tail text flags depth at [] at
-  further : {at next end : ℕ} {trees : List Tree} →
-      TokenAt text flags at Token.bar next → Alternation text depth flags next trees end → EndsGroup text flags end →
-      Tail text flags depth at trees end
+data Tail (text : List ℕ) (depth : ℕ) : Spot → List Tree → Spot → Type 0 where
+  no_more : {s : Spot} → EndsGroup text s → Tail text depth s [] s
+  further : {s start next t : Spot} {trees : List Tree} →
+      Next text s start bar next → Alternation text depth next trees t → EndsGroup text t →
+      Tail text depth s trees t
 
 -- the rest of a group is read
-record RestRead (text : List ℕ) (flags : Flags) (depth at : ℕ) : Type 0 where
+record RestRead (text : List ℕ) (depth : ℕ) (s : Spot) : Type 0 where
   pub trees : List Tree
-  pub middle : ℕ
-  pub row : Sequence text depth flags at trees middle
+  pub middle : Spot
+  pub row : Sequence text depth s trees middle
   pub others : List Tree
-  pub end : ℕ
-  pub tail : Tail text flags depth middle others end
-  pub rises : at ≤ end
-  pub within : end ≤ length text
+  pub end : Spot
+  pub tail : Tail text depth middle others end
+  pub rises : s.place ≤ end.place
+  pub within : end.place ≤ length text
 
 -- the alternatives of it
-record WholeRead (text : List ℕ) (flags : Flags) (depth at end : ℕ) (trees : List Tree) : Type 0 where
-  pub whole : Alternation text depth flags at trees end
-  pub ended : EndsGroup text flags end
+record WholeRead (text : List ℕ) (depth : ℕ) (s end : Spot) (trees : List Tree) : Type 0 where
+  pub whole : Alternation text depth s trees end
+  pub ended : EndsGroup text end
 
 whole_of :
-    {text : List ℕ} {flags : Flags} {depth at middle end : ℕ} {trees others : List Tree} →
-    Sequence text depth flags at trees middle → Tail text flags depth middle others end →
-    WholeRead text flags depth at end (sequence_tree trees ∷ others)
+    {text : List ℕ} {depth : ℕ} {s middle end : Spot} {trees others : List Tree} →
+    Sequence text depth s trees middle → Tail text depth middle others end →
+    WholeRead text depth s end (sequence_tree trees ∷ others)
 whole_of row (no_more ended) = record { whole = last row; ended = ended }
-whole_of row (further bar more ended) = record { whole = alternative_first row bar more; ended = ended }
+whole_of row (further mark more ended) = record { whole = alternative_first row mark more; ended = ended }
 
--- a group is read from a place on, or the reading stops
-data Way (text : List ℕ) (flags : Flags) (depth at : ℕ) : Type 0 where
-  found : RestRead text flags depth at → Way text flags depth at
-  halts : (refusal : Refusal) → StopsFrom text flags depth at (fault.Refused refusal) → Way text flags depth at
+-- a group is read from a spot on, or the reading stops
+data Way (text : List ℕ) (flags : Flags) (depth : ℕ) (s : Spot) : Type 0 where
+  found : RestRead text depth s → Way text flags depth s
+  halts : (refusal : Refusal) → StopsFrom text flags depth s (fault.Refused refusal) → Way text flags depth s
 
--- what is known from places behind
-abbrev Later : List ℕ → Flags → ℕ → Type 0
-Later text flags at = (depth end : ℕ) → depth ≤ greatest_depth → TakesBytes text at end → Way text flags depth end
+-- a spot further on
+record IsFurther (text : List ℕ) (s t : Spot) : Type 0 where
+  pub rises : s.place < t.place
+  pub within : t.place ≤ length text
+
+-- what is known from spots further on
+abbrev Later : List ℕ → Flags → Spot → Type 0
+Later text flags s = (depth : ℕ) (t : Spot) → depth ≤ greatest_depth → IsFurther text s t → Way text flags depth t
+
+further_both : {text : List ℕ} {s t u : Spot} → IsFurther text s t → IsFurther text t u → IsFurther text s u
+further_both h k = record { rises = omega (arith, h.rises, k.rises); within = k.within }
 
 behind_item :
-    {text : List ℕ} {flags : Flags} {depth at end : ℕ} {tree : Tree} →
-    TakesBytes text at end → Item text depth flags at tree end → NoQuantifier text flags end → Way text flags depth end →
-    Way text flags depth at
-behind_item takes item bare (found rest) = found (record {
+    (text : List ℕ) (flags : Flags) (depth : ℕ) (s t : Spot) (tree : Tree) →
+    IsFurther text s t → Item text depth s tree t → NoQuantifier text t → Way text flags depth t → Way text flags depth s
+behind_item text flags depth s t tree far item bare (found rest) = found (record {
   trees = _;
   middle = rest.middle;
   row = item_first item rest.row;
   others = rest.others;
   end = rest.end;
   tail = rest.tail;
-  rises = omega (arith, takes.rises, rest.rises);
+  rises = omega (arith, far.rises, rest.rises);
   within = rest.within;
 })
-behind_item {text = text} {flags = flags} {depth = depth} {at = at} {end = end} {tree = tree} takes item bare (halts refusal stop) =
-    halts refusal
-    (passes_stops text flags depth at end (fault.Refused refusal) (item_passes text flags depth at end tree item bare) stop)
+behind_item text flags depth s t tree far item bare (halts refusal stop) =
+    halts refusal (passes_stops text flags depth s t (fault.Refused refusal) (item_passes text depth s t tree item bare) stop)
 
-takes_both : {text : List ℕ} {a b c : ℕ} → TakesBytes text a b → TakesBytes text b c → TakesBytes text a c
-takes_both h k = record { rises = omega (arith, h.rises, k.rises); within = k.within }
+-- an atom that goes on
+record AtomRead (text : List ℕ) (depth : ℕ) (s middle : Spot) (tree : Tree) : Type 0 where
+  pub whole : Atom text depth s tree middle
+  pub far : IsFurther text s middle
 
-quantifier_goes : (token : Token) → is_quantifier token ≡ true → goes_on token ≡ true
-quantifier_goes Token.ending q = absurd cc
-quantifier_goes (Token.single set) q = refl
-quantifier_goes Token.opening q = refl
-quantifier_goes Token.closing q = refl
-quantifier_goes Token.bar q = refl
-quantifier_goes Token.star q = refl
-quantifier_goes Token.plus q = refl
-quantifier_goes Token.question q = refl
-quantifier_goes (Token.faulty refusal) q = absurd cc
+bare_of : {text : List ℕ} {s : Spot} → (next : NextRead text s) → is_quantifier next.made ≡ false → NoQuantifier text s
+bare_of next other =
+    no_quantifier (record { made = next.made; start = next.start; behind = next.behind; there = next.there; told = other })
+
+-- the quantifier that a token is
+record QuantifierIs (made : Token) : Type 0 where
+  pub least : ℕ
+  pub greatest : Option ℕ
+  pub possessive : Bool
+  pub is : made ≡ quantifier least greatest possessive
+
+quantifier_is : (made : Token) → is_quantifier made ≡ true → QuantifierIs made
+quantifier_is ending q = absurd cc
+quantifier_is (single set) q = absurd cc
+quantifier_is (assertion here) q = absurd cc
+quantifier_is opening q = absurd cc
+quantifier_is closing q = absurd cc
+quantifier_is bar q = absurd cc
+quantifier_is (quantifier n m possessive) q = record { least = _; greatest = _; possessive = _; is = refl }
+quantifier_is setting q = absurd cc
+quantifier_is (faulty refusal) q = absurd cc
+
+as_quantifier :
+    {text : List ℕ} {s start t : Spot} {made : Token} → Next text s start made t → (q : QuantifierIs made) →
+    Next text s start (quantifier q.least q.greatest q.possessive) t
+as_quantifier {text = text} {s = s} {start = start} {t = t} there q = subst (λ (x : Token). Next text s start x t) q.is there
 
 behind_quantifier :
-    {text : List ℕ} {flags : Flags} {depth at middle end : ℕ} {tree : Tree} →
-    depth ≤ greatest_depth → Later text flags at → Atom text depth flags at tree middle → TakesBytes text at middle →
-    (token : Token) → is_quantifier token ≡ true → TokenAt text flags middle token end → Way text flags depth at
-behind_quantifier {text = text} {flags = flags} {depth = depth} {at = at} {middle = middle} {end = end} {tree = tree} deep later a takes token q there =
-    let mark = quantifier_read token q there in
-    let takes_on = token_takes (quantifier_goes token q) there in
-    let next = token_read text flags end in
-    elim (cases_Bool (is_quantifier next.token)) [
-      | inl again ↦
-          let behind = second_stops text flags end next.end next.token again next.there in
-          halts (second_of end next.token)
-          (twice_stops text flags depth at middle end mark.least mark.greatest tree (second_of end next.token) a mark.whole behind)
-      | inr other ↦
-          behind_item (takes_both takes takes_on) (repeated a mark.whole)
-          (no_quantifier (record { token = next.token; end = next.end; there = next.there; told = other }))
-          (later depth end deep (takes_both takes takes_on))
-    ]
+    (text : List ℕ) (flags : Flags) (depth : ℕ) (s middle start t : Spot) (tree : Tree) (n : ℕ) (m : Option ℕ) →
+    depth ≤ greatest_depth → Later text flags s → AtomRead text depth s middle tree →
+    Next text middle start (quantifier n m false) t → AreBounds n m → Way text flags depth s
+behind_quantifier text flags depth s middle start t tree n m deep later a q bounds =
+    by_next (next_read text t takes.within)
+  where
+    takes : NextTakes text (quantifier n m false) middle.place start.place t.place
+    takes = next_takes a.far.within q
+
+    far : IsFurther text s t
+    far = record { rises = omega (arith, a.far.rises, takes.reached, takes.forward); within = takes.within }
+
+    by_next : NextRead text t → Way text flags depth s
+    by_next next =
+        elim (cases_Bool (is_quantifier next.made)) [
+          | inl again ↦
+              let other = quantifier_is next.made again in
+              halts (Syntax next.start.place)
+              (twice_stops text flags depth s middle start t next.start next.behind n other.least m other.greatest other.possessive
+              tree a.whole q bounds (as_quantifier next.there other))
+          | inr other ↦
+              behind_item text flags depth s t _ far (repeated a.whole q bounds) (bare_of next other) (later depth t deep far)
+        ]
+
+-- a quantifier, by what is wrong with it
+marked :
+    (text : List ℕ) (flags : Flags) (depth : ℕ) (s middle start t : Spot) (tree : Tree) (n : ℕ) (m : Option ℕ) (possessive : Bool) →
+    depth ≤ greatest_depth → Later text flags s → AtomRead text depth s middle tree →
+    Next text middle start (quantifier n m possessive) t →
+    (faults : List Refusal) → quantifier_faults start.place n m possessive atom ≡ faults → Way text flags depth s
+marked text flags depth s middle start t tree n m possessive deep later a q [] e =
+    let good = all_right start.place n m possessive e in
+    behind_quantifier text flags depth s middle start t tree n m deep later a
+    (subst (λ b. Next text middle start (quantifier n m b) t) good.1 q) good.0
+marked text flags depth s middle start t tree n m possessive deep later a q (r ∷ rs) e =
+    let least = has_least r rs in
+    halts least.refusal
+    (wrong_stops text flags depth s middle start t n m possessive tree least.refusal a.whole q
+    (subst (IsLeastOf least.refusal) (sym e) least.least))
 
 behind_atom :
-    {text : List ℕ} {flags : Flags} {depth at middle : ℕ} {tree : Tree} →
-    depth ≤ greatest_depth → Later text flags at → Atom text depth flags at tree middle → TakesBytes text at middle →
-    Way text flags depth at
-behind_atom {text = text} {flags = flags} {depth = depth} {middle = middle} deep later a takes =
-    let next = token_read text flags middle in
-    elim (cases_Bool (is_quantifier next.token)) [
-      | inl q ↦ behind_quantifier deep later a takes next.token q next.there
-      | inr other ↦
-          behind_item takes (once a (no_quantifier (record { token = next.token; end = next.end; there = next.there; told = other })))
-          (no_quantifier (record { token = next.token; end = next.end; there = next.there; told = other }))
-          (later depth middle deep takes)
-    ]
+    (text : List ℕ) (flags : Flags) (depth : ℕ) (s middle : Spot) (tree : Tree) →
+    depth ≤ greatest_depth → Later text flags s → AtomRead text depth s middle tree → Way text flags depth s
+behind_atom text flags depth s middle tree deep later a = by_next (next_read text middle a.far.within)
+  where
+    by_next : NextRead text middle → Way text flags depth s
+    by_next next =
+        elim (cases_Bool (is_quantifier next.made)) [
+          | inl q ↦
+              let mark = quantifier_is next.made q in
+              marked text flags depth s middle next.start next.behind tree mark.least mark.greatest mark.possessive deep later a
+              (as_quantifier next.there mark) _ refl
+          | inr other ↦
+              behind_item text flags depth s middle tree a.far (once a.whole (bare_of next other)) (bare_of next other)
+              (later depth middle deep a.far)
+        ]
 
 behind_bar :
-    {text : List ℕ} {flags : Flags} {depth at end : ℕ} →
-    TakesBytes text at end → TokenAt text flags at Token.bar end → Way text flags depth end → Way text flags depth at
-behind_bar takes bar (found rest) =
+    (text : List ℕ) (flags : Flags) (depth : ℕ) (s start t : Spot) →
+    s.place ≤ t.place → Next text s start bar t → Way text flags depth t → Way text flags depth s
+behind_bar text flags depth s start t h mark (found rest) =
     let all = whole_of rest.row rest.tail in
     found (record {
       trees = [];
@@ -131,99 +184,127 @@ behind_bar takes bar (found rest) =
       row = nothing;
       others = _;
       end = rest.end;
-      tail = further bar all.whole all.ended;
-      rises = omega (arith, takes.rises, rest.rises);
+      tail = further mark all.whole all.ended;
+      rises = omega (arith, h, rest.rises);
       within = rest.within;
     })
-behind_bar {text = text} {flags = flags} {depth = depth} {at = at} {end = end} takes bar (halts refusal stop) =
-    halts refusal (passes_stops text flags depth at end (fault.Refused refusal) (bar_passes text flags depth at end bar) stop)
+behind_bar text flags depth s start t h mark (halts refusal stop) =
+    halts refusal (passes_stops text flags depth s t (fault.Refused refusal) (bar_passes text depth s start t mark) stop)
+
+behind_setting :
+    (text : List ℕ) (flags : Flags) (depth : ℕ) (s start t : Spot) →
+    s.place ≤ t.place → Next text s start setting t → Way text flags depth t → Way text flags depth s
+behind_setting text flags depth s start t h p (found rest) = found (record {
+  trees = _;
+  middle = rest.middle;
+  row = setting_first p rest.row;
+  others = rest.others;
+  end = rest.end;
+  tail = rest.tail;
+  rises = omega (arith, h, rest.rises);
+  within = rest.within;
+})
+behind_setting text flags depth s start t h p (halts refusal stop) =
+    halts refusal (passes_stops text flags depth s t (fault.Refused refusal) (setting_passes text depth s start t p) stop)
 
 closed_group :
-    {text : List ℕ} {flags : Flags} {depth at inner close : ℕ} {trees : List Tree} →
-    depth < greatest_depth → Later text flags at → TokenAt text flags at Token.opening inner → TakesBytes text at inner →
-    inner ≤ close → Alternation text (depth + 1) flags inner trees close → EndsGroup text flags close → Way text flags depth at
-closed_group below later opens takes h whole (at_closing c) =
-    let close_takes = token_takes refl c in
-    behind_atom (omega arith) later (group below opens whole c)
-    (record { rises = omega (arith, takes.rises, close_takes.rises, h); within = close_takes.within })
-closed_group {text = text} {flags = flags} {depth = depth} {at = at} {inner = inner} {close = close} {trees = trees} below later opens takes h whole (at_ending {end = end} e) =
-    halts (Syntax close) (unclosed_stops text flags depth at inner close end trees below opens whole e)
+    (text : List ℕ) (flags : Flags) (depth : ℕ) (s start inner end : Spot) (trees : List Tree) →
+    depth < greatest_depth → Later text flags s → Next text s start opening inner → s.place < inner.place →
+    inner.place ≤ end.place → end.place ≤ length text → Alternation text (depth + 1) inner trees end → EndsGroup text end →
+    Way text flags depth s
+closed_group text flags depth s start inner end trees below later opens rises h k whole (at_closing {t = t} c) =
+    let takes = next_takes k c in
+    behind_atom text flags depth s (spot t.place start.mode) _ (omega (arith, below)) later
+    (record {
+      whole = group below opens whole c;
+      far = record { rises = omega (arith, rises, h, takes.reached, takes.forward); within = takes.within };
+    })
+closed_group text flags depth s start inner end trees below later opens rises h k whole (at_ending {start = stop} {t = t} e) =
+    halts (Syntax stop.place) (unclosed_stops text flags depth s start inner end stop t trees below opens whole e)
 
 behind_opening :
-    {text : List ℕ} {flags : Flags} {depth at inner : ℕ} →
-    depth < greatest_depth → Later text flags at → TokenAt text flags at Token.opening inner → TakesBytes text at inner →
-    Way text flags (depth + 1) inner → Way text flags depth at
-behind_opening below later opens takes (found rest) =
-    let all = whole_of rest.row rest.tail in closed_group below later opens takes rest.rises all.whole all.ended
-behind_opening {text = text} {flags = flags} {depth = depth} {at = at} {inner = inner} below later opens takes (halts refusal stop) =
-    halts refusal (group_stops text flags depth at inner (fault.Refused refusal) below opens stop)
+    (text : List ℕ) (flags : Flags) (depth : ℕ) (s start inner : Spot) →
+    depth < greatest_depth → Later text flags s → Next text s start opening inner → s.place < inner.place →
+    Way text flags (depth + 1) inner → Way text flags depth s
+behind_opening text flags depth s start inner below later opens rises (found rest) =
+    let all = whole_of rest.row rest.tail in
+    closed_group text flags depth s start inner rest.end _ below later opens rises rest.rises rest.within all.whole all.ended
+behind_opening text flags depth s start inner below later opens rises (halts refusal stop) =
+    halts refusal (group_stops text flags depth s start inner (fault.Refused refusal) below opens stop)
 
--- from a place on, if that is known from places behind
+-- from a spot on, if that is known from spots further on
 way_at :
-    {text : List ℕ} {flags : Flags} {depth at end : ℕ} →
-    at ≤ length text → depth ≤ greatest_depth → Later text flags at → (token : Token) → TokenAt text flags at token end →
-    Way text flags depth at
-way_at h deep later Token.ending there =
+    (text : List ℕ) (flags : Flags) (depth : ℕ) (s start t : Spot) (made : Token) →
+    s.place ≤ length text → depth ≤ greatest_depth → Later text flags s → Next text s start made t → Way text flags depth s
+way_at text flags depth s start t ending h deep later there =
     found (record { trees = []; middle = _; row = nothing; others = []; end = _; tail = no_more (at_ending there); rises = omega arith; within = h })
-way_at {end = end} h deep later (Token.single set) there = behind_atom deep later (one_byte there) (token_takes refl there)
-way_at {text = text} {flags = flags} {depth = depth} {at = at} {end = end} h deep later Token.opening there =
+way_at text flags depth s start t (single set) h deep later there =
+    let takes = next_takes h there in
+    let rises : start.place < t.place = takes.rises in
+    behind_atom text flags depth s t _ deep later
+    (record { whole = one_byte there; far = record { rises = omega (arith, rises, takes.reached); within = takes.within } })
+way_at text flags depth s start t (assertion here) h deep later there =
+    let takes = next_takes h there in
+    let rises : start.place < t.place = takes.rises in
+    behind_atom text flags depth s t _ deep later
+    (record { whole = asserted there; far = record { rises = omega (arith, rises, takes.reached); within = takes.within } })
+way_at text flags depth s start t opening h deep later there =
     elim (cases_lt depth greatest_depth) [
       | inl below ↦
-          let takes = token_takes refl there in
-          behind_opening below later there takes (later (depth + 1) end (omega arith) takes)
-      | inr full ↦ halts DepthLimit (depth_stops text flags depth at end full there)
+          let takes = next_takes h there in
+          let rises : start.place < t.place = takes.rises in
+          let up : s.place < t.place = omega (arith, rises, takes.reached) in
+          behind_opening text flags depth s start t below later there up
+          (later (depth + 1) t (omega (arith, below)) (record { rises = up; within = takes.within }))
+      | inr full ↦ halts DepthLimit (depth_stops text flags depth s start t full there)
     ]
-way_at h deep later Token.closing there =
+way_at text flags depth s start t closing h deep later there =
     found (record { trees = []; middle = _; row = nothing; others = []; end = _; tail = no_more (at_closing there); rises = omega arith; within = h })
-way_at {depth = depth} {end = end} h deep later Token.bar there =
-    behind_bar (token_takes refl there) there (later depth end deep (token_takes refl there))
-way_at {text = text} {flags = flags} {depth = depth} {at = at} {end = end} h deep later Token.star there =
-    halts (Syntax at) (quantifier_stops text flags depth at end Token.star refl there)
-way_at {text = text} {flags = flags} {depth = depth} {at = at} {end = end} h deep later Token.plus there =
-    halts (Syntax at) (quantifier_stops text flags depth at end Token.plus refl there)
-way_at {text = text} {flags = flags} {depth = depth} {at = at} {end = end} h deep later Token.question there =
-    halts (Syntax at) (quantifier_stops text flags depth at end Token.question refl there)
-way_at {text = text} {flags = flags} {depth = depth} {at = at} {end = end} h deep later (Token.faulty refusal) there =
-    halts refusal (faulty_stops text flags depth at end refusal there)
+way_at text flags depth s start t bar h deep later there =
+    let takes = next_takes h there in
+    let rises : start.place < t.place = takes.rises in
+    let up : s.place < t.place = omega (arith, rises, takes.reached) in
+    behind_bar text flags depth s start t (omega (arith, up)) there (later depth t deep (record { rises = up; within = takes.within }))
+way_at text flags depth s start t (quantifier n m possessive) h deep later there =
+    halts (Syntax start.place) (quantifier_stops text flags depth s start t n m possessive there)
+way_at text flags depth s start t setting h deep later there =
+    let takes = next_takes h there in
+    let rises : start.place < t.place = takes.rises in
+    let up : s.place < t.place = omega (arith, rises, takes.reached) in
+    behind_setting text flags depth s start t (omega (arith, up)) there (later depth t deep (record { rises = up; within = takes.within }))
+way_at text flags depth s start t (faulty refusal) h deep later there =
+    halts refusal (faulty_stops text flags depth s start t refusal there)
 
--- from every place on
+-- from every spot on
 way :
-    (fuel : ℕ) (text : List ℕ) (flags : Flags) (depth at : ℕ) →
-    at ≤ length text → depth ≤ greatest_depth → length text ≤ at + fuel → Way text flags depth at
-way zero text flags depth at h deep k =
-    let ends = as_token {text = text} {options = flags} {at = at} {end = at} (past_end text at (omega arith)) text_end in
-    found (record { trees = []; middle = at; row = nothing; others = []; end = at; tail = no_more (at_ending ends); rises = omega arith; within = h })
-way (suc fuel) text flags depth at h deep k =
-    let token = token_read text flags at in
-    way_at h deep
-    (λ below end under takes. way fuel text flags below end takes.within under (omega (arith, k, takes.rises)))
-    token.token token.there
+    (fuel : ℕ) (text : List ℕ) (flags : Flags) (depth : ℕ) (s : Spot) →
+    s.place ≤ length text → depth ≤ greatest_depth → length text ≤ s.place + fuel → Way text flags depth s
+way zero text flags depth s h deep k =
+    let next = next_read text s h in
+    way_at text flags depth s next.start next.behind next.made h deep
+    (λ below t under far. absurd (omega (arith, k, far.rises, far.within))) next.there
+way (suc fuel) text flags depth s h deep k =
+    let next = next_read text s h in
+    way_at text flags depth s next.start next.behind next.made h deep
+    (λ below t under far. way fuel text flags below t far.within under (omega (arith, k, far.rises))) next.there
 
 ended_outcome :
-    {text : List ℕ} {flags : Flags} {end : ℕ} {trees : List Tree} →
-    length text ≤ greatest_length → end ≤ length text → Alternation text 0 flags 0 trees end → EndsGroup text flags end →
-    Outcome text flags
-ended_outcome {text = text} {flags = flags} {end = end} {trees = trees} short h whole (at_closing {end = behind} c) =
-    refused (closing_fault text flags end behind trees short whole c)
-ended_outcome {text = text} {flags = flags} {end = end} {trees = trees} short h whole (at_ending e) =
-    let past = ending_past e in
-    let same : end ≡ length text = omega arith in
-    read (record {
-      within = short;
-      trees = trees;
-      whole = subst (λ x. Alternation text 0 flags 0 trees x) same whole;
-      is = refl;
-    })
+    (text : List ℕ) (flags : Flags) (end : Spot) (trees : List Tree) →
+    length text ≤ greatest_length → Alternation text 0 (start_of flags) trees end → EndsGroup text end → Outcome text flags
+ended_outcome text flags end trees short whole (at_closing {start = close} {t = t} c) =
+    refused (closing_fault text flags end close t trees short whole c)
+ended_outcome text flags end trees short whole (at_ending {start = stop} {t = t} e) =
+    read (record { within = short; trees = trees; last = end; whole = whole; start = stop; behind = t; ended = e; is = refl })
 
-outcome : (text : List ℕ) (flags : Flags) → length text ≤ greatest_length → Way text flags 0 0 → Outcome text flags
+outcome : (text : List ℕ) (flags : Flags) → length text ≤ greatest_length → Way text flags 0 (start_of flags) → Outcome text flags
 outcome text flags short (found rest) =
-    let all = whole_of rest.row rest.tail in ended_outcome short rest.within all.whole all.ended
+    let all = whole_of rest.row rest.tail in ended_outcome text flags rest.end _ short all.whole all.ended
 outcome text flags short (halts refusal stop) = refused (stops_fault text flags (fault.Refused refusal) short stop)
 
 -- every text is read or has a fault
 pub always_one : AlwaysOne
 always_one text flags =
     elim (cases_lt greatest_length (length text)) [
-      | inl long ↦ refused (fault_of (too_long long))
-      | inr short ↦ outcome text flags short (way (length text) text flags 0 0 (omega arith) (omega arith) (omega arith))
+      | inl long ↦ refused (long_fault long)
+      | inr short ↦ outcome text flags short (way (length text) text flags 0 (start_of flags) (omega arith) (omega arith) (omega arith))
     ]

@@ -1,42 +1,46 @@
 -- The refusal of a text that isn't read.
-use Rattle.std.specs.Prelude.{◌≡◌, ℕ, ◌<◌, ◌≤◌, ◌⊎◌, nat_lt, if◌then◌else◌, List, [], ◌∷◌, length}
+use Rattle.std.specs.Prelude.{◌≡◌, ℕ, ◌+◌, ◌<◌, ◌≤◌, ◌⊎◌, Bool, true, false, Option, Some, None, nat_lt, if◌then◌else◌, List, [], ◌∷◌, ◌++◌, length}
 use Rattle.hs_base.specs.declared.flags.Flags.{Flags}
 use Rattle.hs_base.specs.declared.refusal.Refusal.{Refusal}
 use Rattle.hs_base.specs.declared.refusal.Refusal.TheVariants.{Syntax, UnknownEscape, Unsupported, UnsupportedFlag, UnsupportedParameter, MatchesEmpty, EmbeddedEnd, RepeatLimit, PositionLimit, LengthLimit, DepthLimit, CountLimit, StateLimit, MixedSingle, OffsetOrder, ListLine}
-use Rattle.hs_base.specs.declared.construct.Construct.TheVariants.{Later}
+use Rattle.hs_base.specs.declared.construct.Construct.TheVariants.{Possessive}
 use Rattle.hs_base.specs.Refusals.{number_of}
+use Rattle.hs_base.specs.Trees.{greatest_bound}
+use Rattle.hs_syntax.specs.declared.mode.Mode.{Mode}
 use Rattle.hs_parse.specs.declared.fault.ParseFault.{ParseFault}
 use Rattle.hs_parse.specs.declared.fault.ParseFault.TheVariants.{Refused, Memory}
-use Rattle.hs_parse.specs.Syntax.{Options}
-use Rattle.hs_parse.specs.Tokens.{Token, ending, single, opening, closing, bar, star, plus, question, faulty, TokenAt}
+use Rattle.hs_parse.specs.declared.spot.Spot.{Spot}
+use Rattle.hs_parse.specs.Spots.{spot, start_of}
+use Rattle.hs_parse.specs.Tokens.{Token, ending, single, assertion, opening, closing, bar, quantifier, setting, faulty, Next}
 use Rattle.hs_parse.specs.Grammar.{greatest_length, greatest_depth}
 
--- What stands before a place: the start of a sequence, an atom, which a quantifier may follow, or a quantifier.
+-- What stands before a place: the start of a sequence or a change of options, an atom, which a quantifier may follow, or a
+-- quantifier.
 pub data Before : Type 0 where
   beginning : Before
   atom : Before
-  quantifier : Before
+  repeated : Before
 
--- How far the reading from left to right has come: the place, the options in force, and for each open group, the
+-- How far the reading from left to right has come: the place and the options in force, and for each open group, the
 -- innermost first, those in force outside of it.
 pub record State : Type 0 where
-  pub at : ℕ
-  pub options : Options
-  pub outside : List Options
+  pub here : Spot
+  pub outside : List Mode
   pub before : Before
 
-abbrev pub state : ℕ → Options → List Options → Before → State
-state at options outside before = record { at = at; options = options; outside = outside; before = before }
+abbrev pub state : Spot → List Mode → Before → State
+state here outside before = record { here = here; outside = outside; before = before }
 
 -- how the reading begins
 abbrev pub start_state : Flags → State
-start_state flags = state 0 flags [] beginning
+start_state flags = state (start_of flags) [] beginning
 
--- What a token does to the reading: it goes on, has come to the end of a text that is read, or stops at a place.
+-- What a token does to the reading: it goes on, has come to the end of a text that is read, or stops at a place, for one
+-- reason or several.
 pub data Move : Type 0 where
   goes : State → Move
   accepts : Move
-  stops : ℕ → Refusal → Move
+  stops : ℕ → List Refusal → Move
 
 -- the place that a refusal names
 abbrev pub place_of : Refusal → ℕ
@@ -57,63 +61,95 @@ place_of (MixedSingle id) = 0
 place_of OffsetOrder = 0
 place_of (ListLine line) = 0
 
+-- a quantifier follows an atom
+abbrev pub order_faults : ℕ → Before → List Refusal
+order_faults at beginning = Syntax at ∷ []
+order_faults at atom = []
+order_faults at repeated = Syntax at ∷ []
+
+-- the bounds of a quantifier aren't too great, and in order
+abbrev pub bounds_faults : (at least : ℕ) → (greatest : Option ℕ) → List Refusal
+bounds_faults at least None = if nat_lt greatest_bound least then RepeatLimit least ∷ [] else []
+bounds_faults at least (Some greatest) =
+    if nat_lt greatest_bound least then RepeatLimit least ∷ []
+    else if nat_lt greatest_bound greatest then RepeatLimit greatest ∷ []
+    else if nat_lt greatest least then Syntax at ∷ []
+    else []
+
+-- a quantifier isn't possessive
+abbrev pub mark_faults : (at : ℕ) → (possessive : Bool) → List Refusal
+mark_faults at true = Unsupported Possessive at ∷ []
+mark_faults at false = []
+
+-- all that is wrong with a quantifier at a place
+abbrev pub quantifier_faults : (at least : ℕ) → (greatest : Option ℕ) → (possessive : Bool) → Before → List Refusal
+quantifier_faults at least greatest possessive before =
+    order_faults at before ++ (bounds_faults at least greatest ++ mark_faults at possessive)
+
 -- at the end of the text no group may be open
-abbrev pub end_move : ℕ → List Options → Move
+abbrev pub end_move : ℕ → List Mode → Move
 end_move at [] = accepts
-end_move at (options ∷ outside) = stops at (Syntax at)
+end_move at (mode ∷ outside) = stops at (Syntax at ∷ [])
 
--- a `)` closes the innermost group
-abbrev pub close_move : ℕ → ℕ → List Options → Move
-close_move at end [] = stops at (Syntax at)
-close_move at end (options ∷ outside) = goes (state end options outside atom)
+-- a `)` closes the innermost group, and the options are again those outside of it
+abbrev pub close_move : ℕ → (end : ℕ) → List Mode → Move
+close_move at end [] = stops at (Syntax at ∷ [])
+close_move at end (mode ∷ outside) = goes (state (spot end mode) outside atom)
 
--- a quantifier follows an atom; behind another quantifier it has a refusal of its own
-abbrev pub quantifier_move : Refusal → ℕ → State → Before → Move
-quantifier_move twice end s beginning = stops s.at (Syntax s.at)
-quantifier_move twice end s atom = goes (state end s.options s.outside quantifier)
-quantifier_move twice end s quantifier = stops s.at twice
+-- a quantifier with which nothing is wrong
+abbrev pub quantifier_move : ℕ → Spot → List Mode → List Refusal → Move
+quantifier_move at behind outside [] = goes (state behind outside repeated)
+quantifier_move at behind outside (fault ∷ faults) = stops at (fault ∷ faults)
 
--- What the token that begins where the reading has come, and ends at the place, does to it.
-abbrev pub move : Token → (end : ℕ) → State → Move
-move ending end s = end_move s.at s.outside
-move (single set) end s = goes (state end s.options s.outside atom)
-move opening end s =
-    if nat_lt (length s.outside) greatest_depth
-    then goes (state end s.options (s.options ∷ s.outside) beginning)
-    else stops s.at DepthLimit
-move closing end s = close_move s.at end s.outside
-move bar end s = goes (state end s.options s.outside beginning)
-move star end s = quantifier_move (Syntax s.at) end s s.before
-move plus end s = quantifier_move (Unsupported Later s.at) end s s.before
-move question end s = quantifier_move (Unsupported Later s.at) end s s.before
-move (faulty refusal) end s = stops (place_of refusal) refusal
+-- What a token that begins at a place, and what is behind it, does to the reading.
+abbrev pub move : Token → (start behind : Spot) → List Mode → Before → Move
+move ending start behind outside before = end_move start.place outside
+move (single set) start behind outside before = goes (state behind outside atom)
+move (assertion here) start behind outside before = goes (state behind outside atom)
+move opening start behind outside before =
+    if nat_lt (length outside) greatest_depth
+    then goes (state behind (start.mode ∷ outside) beginning)
+    else stops start.place (DepthLimit ∷ [])
+move closing start behind outside before = close_move start.place behind.place outside
+move bar start behind outside before = goes (state behind outside beginning)
+move (quantifier least greatest possessive) start behind outside before =
+    quantifier_move start.place behind outside (quantifier_faults start.place least greatest possessive before)
+move setting start behind outside before = goes (state behind outside beginning)
+move (faulty refusal) start behind outside before = stops (place_of refusal) (refusal ∷ [])
 
 -- The reading comes from one state to another, token by token.
 pub data Run (text : List ℕ) : State → State → Type 0 where
   here : {s : State} → Run text s s
-  on : {s t u : State} {token : Token} {end : ℕ} →
-      TokenAt text s.options s.at token end →
-      move token end s ≡ goes t →
+  on : {s t u : State} {start behind : Spot} {token : Token} →
+      Next text s.here start token behind →
+      move token start behind s.outside s.before ≡ goes t →
       Run text t u →
       Run text s u
 
--- The reading of the text stops at the place with the refusal.
-pub record StopsAt (text : List ℕ) (flags : Flags) (at : ℕ) (refusal : Refusal) : Type 0 where
+-- The reading of the text stops at the place for these reasons.
+pub record StopsAt (text : List ℕ) (flags : Flags) (at : ℕ) (refusals : List Refusal) : Type 0 where
   pub last : State
   pub run : Run text (start_state flags) last
   pub token : Token
-  pub end : ℕ
-  pub there : TokenAt text last.options last.at token end
-  pub stopped : move token end last ≡ stops at refusal
+  pub start : Spot
+  pub behind : Spot
+  pub there : Next text last.here start token behind
+  pub stopped : move token start behind last.outside last.before ≡ stops at refusals
+
+-- a refusal is one of these
+abbrev pub IsOneOf : Refusal → List Refusal → Type 0
+IsOneOf refusal [] = ⊥
+IsOneOf refusal (other ∷ others) = (refusal ≡ other) ⊎ IsOneOf refusal others
 
 -- The text has the refusal at the place: it is too long, which is told before all else, or its reading stops.
 pub data HasFault (text : List ℕ) (flags : Flags) : ℕ → Refusal → Type 0 where
   too_long :
       greatest_length < length text →
       HasFault text flags 0 LengthLimit
-  stopped : {at : ℕ} {refusal : Refusal} →
+  stopped : {at : ℕ} {refusals : List Refusal} {refusal : Refusal} →
       length text ≤ greatest_length →
-      StopsAt text flags at refusal →
+      StopsAt text flags at refusals →
+      IsOneOf refusal refusals →
       HasFault text flags at refusal
 
 -- one refusal isn't behind another: its place is less, or the same and its number no greater

@@ -1,4 +1,4 @@
-pub mod Syntax
+pub mod Spots
 pub mod Classes
 pub mod Tokens
 pub mod Grammar

@@ -1,118 +1,170 @@
--- What the functions of the parser answer, in the words of the grammar and of faults.
-use Rattle.std.specs.Prelude.{◌≡◌, ℕ, ◌+◌, ◌<◌, ◌≤◌, ◌⊎◌, Bool, List, length, Option, Some, None, Result, Ok, Err}
+-- What the functions of the parser find out on their way.
+use Rattle.std.specs.Prelude.{◌≡◌, ℕ, ◌+◌, ◌<◌, ◌≤◌, ◌⊎◌, Bool, true, false, Option, Some, None, List, [], ◌∷◌, length, Result, Ok, Err}
 use Rattle.std.specs.List.{list_any}
 use Rattle.hs_base.specs.declared.byte_set.ByteSet.{ByteSet}
 use Rattle.hs_base.specs.declared.flags.Flags.{Flags}
 use Rattle.hs_base.specs.declared.refusal.Refusal.{Refusal}
 use Rattle.hs_base.specs.ByteSets.{has, members}
+use Rattle.hs_base.specs.Refusals.{number_of}
 use Rattle.hs_base.specs.Trees.{Tree}
+use Rattle.hs_syntax.specs.declared.mode.Mode.{Mode}
 use Rattle.hs_parse.specs.declared.fault.ParseFault.{ParseFault}
 use Rattle.hs_parse.specs.declared.fault.ParseFault.TheVariants as fault
-use Rattle.hs_parse.specs.declared.piece.Item.{Item as ClassItem}
-use Rattle.hs_parse.specs.declared.piece.Item.TheVariants as item
+use Rattle.hs_parse.specs.declared.item.Item.{Item as ClassItem}
+use Rattle.hs_parse.specs.declared.item.Item.TheVariants as item
 use Rattle.hs_parse.specs.declared.token.Token.{Token as Seen}
 use Rattle.hs_parse.specs.declared.token.Token.TheVariants as seen
-use Rattle.hs_parse.specs.Syntax.{Options}
+use Rattle.hs_parse.specs.declared.token.Made.{Made as SeenMade}
+use Rattle.hs_parse.specs.declared.token.Made.TheVariants as seenmade
+use Rattle.hs_parse.specs.declared.token.Found.{Found}
+use Rattle.hs_parse.specs.declared.spot.Spot.{Spot}
 use Rattle.hs_parse.specs.Classes.{item_at, Items}
-use Rattle.hs_parse.specs.Tokens.{Token, ending, single, opening, closing, bar, star, plus, question, faulty, TokenAt}
+use Rattle.hs_parse.specs.Tokens.{Token, ending, single, assertion, opening, closing, bar, quantifier, setting, faulty, Made, token, skips, bracket, Next}
 use Rattle.hs_parse.specs.Grammar.{NoQuantifier, Atom, Item, Sequence, sequence_tree, Alternation, alternation_tree}
-use Rattle.hs_parse.specs.Faults.{Before, beginning, quantifier, state, start_state, Run, StopsAt, move, stops}
+use Rattle.hs_parse.specs.Faults.{Before, beginning, repeated, state, start_state, Run, StopsAt, IsOneOf, move, stops}
 
 -- the set has the bytes of the items of a class, read up to a place
-pub record HasItems (text : List ℕ) (options : Options) (start : ℕ) (set : ByteSet) (here : ℕ) : Type 0 where
+pub record HasItems (text : List ℕ) (caseless : Bool) (start : ℕ) (set : ByteSet) (here : ℕ) : Type 0 where
   pub tests : List (ℕ → Bool)
-  pub items : Items text options start start tests here
+  pub items : Items text caseless start start tests here
   pub same : (b : ℕ) → b < 256 → has set b ≡ list_any (λ test. test b) tests
 
 -- the items of a class are read up to a place, and there stands that
-pub record EndsItems (text : List ℕ) (options : Options) (start : ℕ) (last : ClassItem) : Type 0 where
+pub record EndsItems (text : List ℕ) (caseless : Bool) (start : ℕ) (last : ClassItem) : Type 0 where
   pub tests : List (ℕ → Bool)
   pub here : ℕ
-  pub items : Items text options start start tests here
-  pub there : item_at text start here ≡ last
+  pub items : Items text caseless start start tests here
+  pub there : item_at text caseless start here ≡ last
 
 -- What the items of a class are, and where it is closed; none where it isn't, or a refusal.
-abbrev pub AreItemsOf : List ℕ → Options → ℕ → Result (Option (ByteSet × ℕ)) Refusal → Type 0
-AreItemsOf text options start (Ok (Some (set, close))) =
-    HasItems text options start set close × (item_at text start close ≡ item.Close)
-AreItemsOf text options start (Ok None) = EndsItems text options start item.End
-AreItemsOf text options start (Err refusal) = EndsItems text options start (item.Refused refusal)
+abbrev pub AreItemsOf : List ℕ → Bool → ℕ → Result (Option (ByteSet × ℕ)) Refusal → Type 0
+AreItemsOf text caseless start (Ok (Some (set, close))) =
+    HasItems text caseless start set close × (item_at text caseless start close ≡ item.Close)
+AreItemsOf text caseless start (Ok None) = EndsItems text caseless start item.End
+AreItemsOf text caseless start (Err refusal) = EndsItems text caseless start (item.Refused refusal)
 
--- the token at a place, as the parser sees it
-abbrev pub IsTokenAt : List ℕ → Options → ℕ → Seen → Type 0
-IsTokenAt text options at seen.End = TokenAt text options at ending at
-IsTokenAt text options at (seen.Single set end) =
-    TokenAt text options at (single (members set)) end × (at < end) × (end ≤ length text)
-IsTokenAt text options at seen.Opening = TokenAt text options at opening (at + 1) × (at < length text)
-IsTokenAt text options at seen.Closing = TokenAt text options at closing (at + 1)
-IsTokenAt text options at seen.Bar = TokenAt text options at bar (at + 1)
-IsTokenAt text options at seen.Star = TokenAt text options at star (at + 1)
-IsTokenAt text options at seen.Plus = TokenAt text options at plus (at + 1)
-IsTokenAt text options at seen.Question = TokenAt text options at question (at + 1)
-IsTokenAt text options at (seen.Refused refusal) = (end : ℕ) × TokenAt text options at (faulty refusal) end
+-- the token that the parser sees
+abbrev pub plain_token : Seen → Token
+plain_token seen.End = ending
+plain_token (seen.Single set) = single (members set)
+plain_token (seen.Assert here) = assertion here
+plain_token seen.Opening = opening
+plain_token seen.Closing = closing
+plain_token seen.Bar = bar
+plain_token (seen.Quantifier least greatest possessive) = quantifier least greatest possessive
+plain_token seen.Setting = setting
+plain_token (seen.Refused refusal) = faulty refusal
 
--- a group ends at the place: with its `)`, or with the text
-pub data EndsGroup (text : List ℕ) (options : Options) (at : ℕ) : Type 0 where
-  at_closing : {end : ℕ} → TokenAt text options at closing end → EndsGroup text options at
-  at_ending : {end : ℕ} → TokenAt text options at ending end → EndsGroup text options at
+-- whether the parser sees a quantifier
+abbrev pub sees_quantifier : Seen → Bool
+sees_quantifier seen.End = false
+sees_quantifier (seen.Single set) = false
+sees_quantifier (seen.Assert here) = false
+sees_quantifier seen.Opening = false
+sees_quantifier seen.Closing = false
+sees_quantifier seen.Bar = false
+sees_quantifier (seen.Quantifier least greatest possessive) = true
+sees_quantifier seen.Setting = false
+sees_quantifier (seen.Refused refusal) = false
 
--- a sequence ends at the place: with its group, or with a `|`
-pub data EndsSequence (text : List ℕ) (options : Options) (at : ℕ) : Type 0 where
-  with_group : EndsGroup text options at → EndsSequence text options at
-  at_bar : {end : ℕ} → TokenAt text options at bar end → EndsSequence text options at
+-- what a form makes, as the parser sees it
+abbrev pub plain_made : SeenMade → Made
+plain_made (seenmade.Token here mode length) = token (plain_token here) mode length
+plain_made (seenmade.Skips mode length) = skips mode length
+plain_made seenmade.Bracket = bracket
 
--- what stands before a place leaves no room for a quantifier that is read: a sequence begins there, or none stands there
-abbrev pub IsReady : List ℕ → Options → ℕ → Before → Type 0
-IsReady text options at before = (before ≡ beginning) ⊎ NoQuantifier text options at
+-- how far a token goes: only the end of the text and a form that is refused take no byte
+abbrev pub goes_on : Token → (start behind : ℕ) → Type 0
+goes_on ending start behind = Unit {0}
+goes_on (single set) start behind = start < behind
+goes_on (assertion here) start behind = start < behind
+goes_on opening start behind = start < behind
+goes_on closing start behind = start < behind
+goes_on bar start behind = start < behind
+goes_on (quantifier least greatest possessive) start behind = start < behind
+goes_on setting start behind = start < behind
+goes_on (faulty refusal) start behind = Unit {0}
 
--- Wherever the reading comes to the first place, within so many groups, it comes to the second.
-abbrev pub Passes : List ℕ → Flags → ℕ → ℕ → ℕ → Type 0
-Passes text flags depth at end =
-    (outside : List Options) (before : Before) → length outside ≡ depth → IsReady text flags at before →
-    (after : Before) × IsReady text flags end after × Run text (state at flags outside before) (state end flags outside after)
+-- the next token from a spot on, within the text
+pub record IsNext (text : List ℕ) (s : Spot) (found : Found) : Type 0 where
+  pub there : Next text s found.start (plain_token found.token) found.behind
+  pub reached : s.place ≤ found.start.place
+  pub rises : goes_on (plain_token found.token) found.start.place found.behind.place
+  pub forward : found.start.place ≤ found.behind.place
+  pub within : found.behind.place ≤ length text
 
--- Wherever the reading comes to the place, within so many groups, it stops with the refusal later.
-abbrev pub StopsFrom : List ℕ → Flags → ℕ → ℕ → ParseFault → Type 0
-StopsFrom text flags depth at (fault.Refused refusal) =
-    (outside : List Options) (before : Before) → length outside ≡ depth → IsReady text flags at before →
-    Run text (start_state flags) (state at flags outside before) →
-    (place : ℕ) × StopsAt text flags place refusal
-StopsFrom text flags depth at fault.Memory = Unit {0}
+-- a group ends with the next token: with its `)`, or with the text
+pub data EndsGroup (text : List ℕ) (s : Spot) : Type 0 where
+  at_closing : {start t : Spot} → Next text s start closing t → EndsGroup text s
+  at_ending : {start t : Spot} → Next text s start ending t → EndsGroup text s
 
--- a token begins at the place that stops a reading that comes there from a quantifier
-pub record StopsBehind (text : List ℕ) (options : Options) (at : ℕ) (refusal : Refusal) : Type 0 where
-  pub token : Token
-  pub end : ℕ
-  pub there : TokenAt text options at token end
-  pub stopped : (outside : List Options) → move token end (state at options outside quantifier) ≡ stops at refusal
+-- a sequence ends with the next token: with its group, or with a `|`
+pub data EndsSequence (text : List ℕ) (s : Spot) : Type 0 where
+  with_group : EndsGroup text s → EndsSequence text s
+  at_bar : {start t : Spot} → Next text s start bar t → EndsSequence text s
+
+-- what stands before a spot leaves no room for a quantifier that is read: a sequence begins there, or none comes next
+abbrev pub IsReady : List ℕ → Spot → Before → Type 0
+IsReady text s before = (before ≡ beginning) ⊎ NoQuantifier text s
+
+-- Wherever the reading comes to the first spot, within so many groups, it comes to the second.
+abbrev pub Passes : List ℕ → ℕ → Spot → Spot → Type 0
+Passes text depth s t =
+    (outside : List Mode) (before : Before) → length outside ≡ depth → IsReady text s before →
+    (after : Before) × IsReady text t after × Run text (state s outside before) (state t outside after)
+
+-- of some refusals the one of least number
+pub record IsLeastOf (refusal : Refusal) (refusals : List Refusal) : Type 0 where
+  pub has : IsOneOf refusal refusals
+  pub least : (other : Refusal) → IsOneOf other refusals → number_of refusal ≤ number_of other
+
+-- no refusal, or one
+abbrev pub bounds_list : Option Refusal → List Refusal
+bounds_list None = []
+bounds_list (Some refusal) = refusal ∷ []
+
+-- the reading stops, and of the reasons that is the one of least number
+pub record StopsWith (text : List ℕ) (flags : Flags) (refusal : Refusal) : Type 0 where
+  pub at : ℕ
+  pub refusals : List Refusal
+  pub stop : StopsAt text flags at refusals
+  pub is : IsLeastOf refusal refusals
+
+-- Wherever the reading comes to the spot, within so many groups, it stops with the refusal later.
+abbrev pub StopsFrom : List ℕ → Flags → ℕ → Spot → ParseFault → Type 0
+StopsFrom text flags depth s (fault.Refused refusal) =
+    (outside : List Mode) (before : Before) → length outside ≡ depth → IsReady text s before →
+    Run text (start_state flags) (state s outside before) →
+    StopsWith text flags refusal
+StopsFrom text flags depth s fault.Memory = Unit {0}
 
 -- an atom is read
-pub record ReadsAtom (text : List ℕ) (options : Options) (depth at : ℕ) (tree : Tree) (end : ℕ) : Type 0 where
-  pub whole : Atom text depth options at tree end
-  pub rises : at < end
-  pub within : end ≤ length text
+pub record ReadsAtom (text : List ℕ) (depth : ℕ) (s : Spot) (tree : Tree) (t : Spot) : Type 0 where
+  pub whole : Atom text depth s tree t
+  pub rises : s.place < t.place
+  pub within : t.place ≤ length text
 
 -- an item is read, and no quantifier follows it
-pub record ReadsItem (text : List ℕ) (options : Options) (depth at : ℕ) (tree : Tree) (end : ℕ) : Type 0 where
-  pub whole : Item text depth options at tree end
-  pub bare : NoQuantifier text options end
-  pub rises : at < end
-  pub within : end ≤ length text
+pub record ReadsItem (text : List ℕ) (depth : ℕ) (s : Spot) (tree : Tree) (t : Spot) : Type 0 where
+  pub whole : Item text depth s tree t
+  pub bare : NoQuantifier text t
+  pub rises : s.place < t.place
+  pub within : t.place ≤ length text
 
 -- a sequence is read to its end
-pub record ReadsSequence (text : List ℕ) (options : Options) (depth at : ℕ) (tree : Tree) (end : ℕ) : Type 0 where
+pub record ReadsSequence (text : List ℕ) (depth : ℕ) (s : Spot) (tree : Tree) (t : Spot) : Type 0 where
   pub trees : List Tree
-  pub whole : Sequence text depth options at trees end
+  pub whole : Sequence text depth s trees t
   pub is : tree ≡ sequence_tree trees
-  pub ended : EndsSequence text options end
-  pub rises : at ≤ end
-  pub within : end ≤ length text
+  pub ended : EndsSequence text t
+  pub rises : s.place ≤ t.place
+  pub within : t.place ≤ length text
 
 -- alternatives are read to their end
-pub record ReadsGroup (text : List ℕ) (options : Options) (depth at : ℕ) (tree : Tree) (end : ℕ) : Type 0 where
+pub record ReadsGroup (text : List ℕ) (depth : ℕ) (s : Spot) (tree : Tree) (t : Spot) : Type 0 where
   pub trees : List Tree
-  pub whole : Alternation text depth options at trees end
+  pub whole : Alternation text depth s trees t
   pub is : tree ≡ alternation_tree trees
-  pub ended : EndsGroup text options end
-  pub rises : at ≤ end
-  pub within : end ≤ length text
+  pub ended : EndsGroup text t
+  pub rises : s.place ≤ t.place
+  pub within : t.place ≤ length text

@@ -1,26 +1,24 @@
 //! Classes of characters: `[`, an optional `^`, items, `]`.
-ghost use Rattle.std.specs.Prelude.{◌≡◌, ℕ, ◌<◌, ◌≤◌, ◌||◌, not, if◌then◌else◌, length, MatchResult};
+ghost use Rattle.std.specs.Prelude.{◌≡◌, ℕ, ◌<◌, ◌≤◌, not, if◌then◌else◌, length, MatchResult};
 ghost use Rattle.hs_base.specs.ByteSets.{has, members};
-ghost use Rattle.hs_parse.specs.Classes.{is_between, is_name, closes_name, is_negated, start_of};
-ghost use Rattle.hs_parse.specs.Tokens.{single, faulty, is_named, ClassToken};
+ghost use Rattle.hs_parse.specs.Classes.{is_negated, items_start};
+ghost use Rattle.hs_parse.specs.Tokens.{single, faulty, ClassToken};
 ghost use Rattle.hs_parse.specs.Reading.{AreItemsOf};
 
+use crate::item::{Item, item_at};
 use crate::parser::MAX_TEXT_LEN;
-use crate::piece::{Item, item_at};
-use hs_base::{ByteSet, Flags, Refusal};
+use crate::set::insert_where;
+use hs_base::{ByteSet, Refusal};
 
 /// The bytes of the class that begins at a place, and the place behind it, or why it is refused.
-pub(crate) fn class_at(text: &[u8], flags: Flags, at: usize) -> Result<(ByteSet, usize), Refusal>
+pub(crate) fn class_at(text: &[u8], caseless: bool, at: usize) -> Result<(ByteSet, usize), Refusal>
     requires within { at < length text.now }
     requires short { length text.now ≤ MAX_TEXT_LEN }
     ensures { MatchResult result
-        (λ class. ClassToken text.now flags at (single (members class.0)) class.1)
-        (λ refusal. ClassToken text.now flags at (faulty refusal) at) }
+        (λ class. ClassToken text.now caseless at (single (members class.0)) class.1)
+        (λ refusal. ClassToken text.now caseless at (faulty refusal) at) }
 {
-    if is_named(text, at) {
-        return Err(Refusal::Syntax(at as u32));
-    }
-    match items_of(text, flags, start_of(text, at)) {
+    match items_of(text, caseless, items_start(text, at)) {
         Ok(Some((set, close))) => Ok((class_of(text, at, set), close + 1)),
         Ok(None) => Err(Refusal::Syntax(at as u32)),
         Err(refusal) => Err(refusal),
@@ -28,9 +26,9 @@ pub(crate) fn class_at(text: &[u8], flags: Flags, at: usize) -> Result<(ByteSet,
 }
 
 /// Where the items of the class that begins at a place begin.
-fn start_of(text: &[u8], at: usize) -> usize
+fn items_start(text: &[u8], at: usize) -> usize
     requires { at < MAX_TEXT_LEN }
-    ensures { result ≡ start_of text.now at }
+    ensures { result ≡ items_start text.now at }
 {
     if is_negated(text, at) { at + 2 } else { at + 1 }
 }
@@ -55,69 +53,24 @@ fn is_negated(text: &[u8], at: usize) -> bool
     matches!(text.get(at + 1), Some(b'^'))
 }
 
-/// Whether what begins at a place is the name of a class.
-fn is_named(text: &[u8], at: usize) -> bool
-    requires within { at < length text.now }
-    requires short { length text.now ≤ MAX_TEXT_LEN }
-    ensures { result ≡ is_named text.now at }
-{
-    if !matches!(text.get(at + 1), Some(b':')) {
-        return false;
-    }
-    is_name(&text[at + 2..])
-}
-
-/// Whether the bytes begin with one or more small letters and `:]`.
-fn is_name(bytes: &[u8]) -> bool
-    ensures { result ≡ is_name bytes.now }
-{
-    let mut rest = bytes;
-    while let [byte, behind @ ..] = rest {
-        if !byte.is_ascii_lowercase() {
-            return false;
-        }
-        if closes_name(behind) {
-            return true;
-        }
-        rest = behind;
-    }
-    false
-}
-
-/// Whether the bytes begin with `:]`.
-fn closes_name(bytes: &[u8]) -> bool
-    ensures { result ≡ closes_name bytes.now }
-{
-    matches!(bytes, [b':', b']', ..])
-}
-
 /// The bytes of the items of a class, from their start, and the place of the `]` behind them; `None` where they go on to
 /// the end of the text.
-fn items_of(text: &[u8], flags: Flags, start: usize) -> Result<Option<(ByteSet, usize)>, Refusal>
+fn items_of(text: &[u8], caseless: bool, start: usize) -> Result<Option<(ByteSet, usize)>, Refusal>
     requires within { start ≤ length text.now }
     requires short { length text.now ≤ MAX_TEXT_LEN }
-    ensures { AreItemsOf text.now flags start result }
+    ensures { AreItemsOf text.now caseless start result }
 {
     let mut set = ByteSet::EMPTY;
     let mut here = start;
     loop {
-        match item_at(text, start, here) {
-            Item::Range(first, last, end) => {
-                insert_range(&mut set, first, last);
+        match item_at(text, caseless, start, here) {
+            Item::Bytes(test, end) => {
+                insert_where(&mut set, test);
                 here = end;
             }
             Item::Close => return Ok(Some((set, here))),
             Item::End => return Ok(None),
             Item::Refused(refusal) => return Err(refusal),
         }
-    }
-}
-
-/// Adds the bytes of a range.
-fn insert_range(set: &mut ByteSet, first: u8, last: u8)
-    ensures { (b : ℕ) → b < 256 → has set.new b ≡ (is_between first last b || has set.old b) }
-{
-    for byte in first as usize..last as usize + 1 {
-        set.insert(byte as u8);
     }
 }

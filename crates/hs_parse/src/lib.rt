@@ -4,10 +4,12 @@
 
 mod class;
 mod fault;
+mod item;
 pub mod laws;
 mod parser;
-mod piece;
-mod role;
+mod quantifier;
+mod set;
+mod spot;
 mod token;
 
 pub use fault::ParseFault;

@@ -1,15 +1,14 @@
-ghost use Rattle.std.specs.Prelude.{◌≡◌, ◌+◌, ◌<◌, ◌≤◌, map, length, IfOk, IfErr, MatchBool, MatchOption};
+ghost use Rattle.std.specs.Prelude.{◌≡◌, ◌≢◌, ◌≤◌, map, length, IfOk, IfErr, MatchOption};
 ghost use Rattle.hs_expr.specs.Meaning.{tree_of};
-ghost use Rattle.hs_parse.specs.Syntax.{role_at};
-ghost use Rattle.hs_parse.specs.Tokens.{TokenAt, opening};
-ghost use Rattle.hs_parse.specs.Grammar.{Quantifier, NoQuantifier, sequence_tree, alternation_tree, Reads};
+ghost use Rattle.hs_parse.specs.Grammar.{sequence_tree, alternation_tree, Reads};
 ghost use Rattle.hs_parse.specs.Faults.{IsFaultOf};
-ghost use Rattle.hs_parse.specs.Reading.{EndsSequence, StopsFrom, StopsBehind, ReadsAtom, ReadsItem, ReadsSequence, ReadsGroup};
+ghost use Rattle.hs_parse.specs.Reading.{IsNext, EndsSequence, StopsFrom, ReadsAtom, ReadsItem, ReadsSequence, ReadsGroup};
 
 use crate::fault::ParseFault;
-use crate::role::{Role, role_at};
-use crate::token::{Token, token_at};
-use hs_base::{Construct, Flags, Refusal};
+use crate::quantifier::quantifier_fault;
+use crate::spot::Spot;
+use crate::token::{Found, Token, next_token};
+use hs_base::{Flags, Refusal};
 use hs_expr::Expr;
 use std::alloc::Global;
 
@@ -19,12 +18,12 @@ pub const MAX_TEXT_LEN: usize = 16_000;
 /// The greatest number of groups that may be open at once.
 pub const MAX_DEPTH: usize = 128;
 
-/// Reads an expression of the plain part of the pattern syntax (PCRE pattern syntax): bytes that stand for themselves,
-/// also behind a backslash, `.`, classes of characters and ranges, groups, `|`, `*`, `+` and `?`. The flags have no
-/// effect yet.
+/// Reads an expression in bytes (PCRE pattern syntax). Of the flags caseless, dotall and multiline have an effect.
 ///
 /// Refused are a text of more than `MAX_TEXT_LEN` bytes, and else the first form that can't be read: one that has no
-/// meaning (`Syntax`), one that isn't read yet (`Unsupported`), or a group within `MAX_DEPTH` others (`DepthLimit`).
+/// meaning (`Syntax`), a letter behind a backslash that has none (`UnknownEscape`), a construct that isn't supported
+/// (`Unsupported`), a bound of a quantifier that is too great (`RepeatLimit`), or a group within `MAX_DEPTH` others
+/// (`DepthLimit`). Of several at one place it is the one of least number.
 pub fn parse(alloc: Global, text: &[u8], flags: Flags) -> Result<Expr, ParseFault>
     ensures read { IfOk result (λ expr. Reads text.now flags (tree_of expr)) }
     ensures refused { IfErr result (IsFaultOf text.now flags) }
@@ -32,26 +31,27 @@ pub fn parse(alloc: Global, text: &[u8], flags: Flags) -> Result<Expr, ParseFaul
     if text.len() > MAX_TEXT_LEN {
         return Err(ParseFault::Refused(Refusal::LengthLimit));
     }
-    let (expr, end) = alternation_at(alloc, text, flags, 0, 0)?;
-    if end < text.len() {
-        return Err(ParseFault::Refused(Refusal::Syntax(end as u32)));
+    let (expr, end) = alternation_at(alloc, text, flags, 0, Spot::of(flags))?;
+    let found = next_token(text, end);
+    if !found.token.is_end() {
+        return Err(ParseFault::Refused(Refusal::Syntax(found.start.place as u32)));
     }
     Ok(expr)
 }
 
-/// The tree of the alternatives from a place to the end of their group, and that place.
+/// The tree of the alternatives from a spot to the end of their group, and the spot behind the last one.
 #[cycle(parser)]
 fn alternation_at(
     alloc: Global,
     text: &[u8],
     flags: Flags,
     depth: usize,
-    start: usize,
-) -> Result<(Expr, usize), ParseFault>
+    start: Spot,
+) -> Result<(Expr, Spot), ParseFault>
     requires deep { depth ≤ MAX_DEPTH }
-    requires within { start ≤ length text.now }
+    requires within { start.place ≤ length text.now }
     requires short { length text.now ≤ MAX_TEXT_LEN }
-    ensures read { IfOk result (λ found. ReadsGroup text.now flags depth start (tree_of found.0) found.1) }
+    ensures read { IfOk result (λ found. ReadsGroup text.now depth start (tree_of found.0) found.1) }
     ensures refused { IfErr result (StopsFrom text.now flags depth start) }
 {
     let mut alternatives = Vec::new(alloc);
@@ -59,170 +59,143 @@ fn alternation_at(
     loop {
         let (sequence, end) = sequence_at(alloc, text, flags, depth, at)?;
         alternatives.push(sequence)?;
-        if !is_bar_at(text, end) {
+        let found = next_token(text, end);
+        if !found.token.is_bar() {
             return Ok((alternation_of(alternatives), end));
         }
-        at = end + 1;
+        at = found.behind;
     }
 }
 
-/// Whether a `|` stands at a place.
-fn is_bar_at(text: &[u8], at: usize) -> bool
-    ensures { MatchBool result (role_at text.now at ≡ Role.Bar) (role_at text.now at ≡ Role.Bar → ⊥) }
-{
-    matches!(role_at(text, at), Role::Bar)
-}
-
-/// The tree of the sequence from a place to its end, and that place.
+/// The tree of the sequence from a spot to its end, and the spot behind its last item.
 #[cycle(parser)]
 fn sequence_at(
     alloc: Global,
     text: &[u8],
     flags: Flags,
     depth: usize,
-    start: usize,
-) -> Result<(Expr, usize), ParseFault>
+    start: Spot,
+) -> Result<(Expr, Spot), ParseFault>
     requires deep { depth ≤ MAX_DEPTH }
-    requires within { start ≤ length text.now }
+    requires within { start.place ≤ length text.now }
     requires short { length text.now ≤ MAX_TEXT_LEN }
-    ensures read { IfOk result (λ found. ReadsSequence text.now flags depth start (tree_of found.0) found.1) }
+    ensures read { IfOk result (λ found. ReadsSequence text.now depth start (tree_of found.0) found.1) }
     ensures refused { IfErr result (StopsFrom text.now flags depth start) }
 {
     let mut items = Vec::new(alloc);
     let mut at = start;
-    while let Some((item, end)) = item_at(alloc, text, flags, depth, at)? {
+    loop {
+        let found = next_token(text, at);
+        if found.token.is_setting() {
+            at = found.behind;
+            continue;
+        }
+        let Some((item, end)) = item_at(alloc, text, flags, depth, at, found)? else {
+            return Ok((sequence_of(items), at));
+        };
         items.push(item)?;
         at = end;
     }
-    Ok((sequence_of(items), at))
 }
 
-/// The tree of the item that begins at a place, and the place behind it; `None` where the sequence ends.
+/// The tree of the item that the next token begins, and the spot behind it; `None` where the sequence ends.
 #[cycle(parser)]
 fn item_at(
     alloc: Global,
     text: &[u8],
     flags: Flags,
     depth: usize,
-    at: usize,
-) -> Result<Option<(Expr, usize)>, ParseFault>
+    at: Spot,
+    found: Found,
+) -> Result<Option<(Expr, Spot)>, ParseFault>
     requires deep { depth ≤ MAX_DEPTH }
-    requires within { at ≤ length text.now }
+    requires next { IsNext text.now at found }
+    requires item { found.token ≢ Token.Setting }
     requires short { length text.now ≤ MAX_TEXT_LEN }
     ensures read { IfOk result (λ found. MatchOption found
-        (EndsSequence text.now flags at)
-        (λ item. ReadsItem text.now flags depth at (tree_of item.0) item.1)) }
+        (EndsSequence text.now at)
+        (λ item. ReadsItem text.now depth at (tree_of item.0) item.1)) }
     ensures refused { IfErr result (StopsFrom text.now flags depth at) }
 {
-    let Some((atom, end)) = atom_at(alloc, text, flags, depth, at)? else {
+    let Some((atom, middle)) = atom_at(alloc, text, flags, depth, at, found)? else {
         return Ok(None);
     };
-    let Some((least, greatest)) = quantifier_at(text, flags, end) else {
-        return Ok(Some((atom, end)));
+    let next = next_token(text, middle);
+    let Some((least, greatest, possessive)) = next.token.quantifier() else {
+        return Ok(Some((atom, middle)));
     };
-    if let Some(refusal) = second_quantifier_at(text, flags, end + 1) {
+    if let Some(refusal) = quantifier_fault(next.start.place, least, greatest, possessive) {
         return Err(ParseFault::Refused(refusal));
     }
+    let behind = next_token(text, next.behind);
+    if behind.token.is_quantifier() {
+        return Err(ParseFault::Refused(Refusal::Syntax(behind.start.place as u32)));
+    }
     let body = Box::new(alloc, atom)?;
-    Ok(Some((Expr::Repeat(body, least, greatest), end + 1)))
+    Ok(Some((Expr::Repeat(body, least, greatest), next.behind)))
 }
 
-/// The tree of the atom that begins at a place, and the place behind it; `None` where the sequence ends.
+/// The tree of the atom that the next token begins, and the spot behind it; `None` where the sequence ends.
 #[cycle(parser)]
 fn atom_at(
     alloc: Global,
     text: &[u8],
     flags: Flags,
     depth: usize,
-    at: usize,
-) -> Result<Option<(Expr, usize)>, ParseFault>
+    at: Spot,
+    found: Found,
+) -> Result<Option<(Expr, Spot)>, ParseFault>
     requires deep { depth ≤ MAX_DEPTH }
-    requires within { at ≤ length text.now }
+    requires next { IsNext text.now at found }
+    requires item { found.token ≢ Token.Setting }
     requires short { length text.now ≤ MAX_TEXT_LEN }
     ensures read { IfOk result (λ found. MatchOption found
-        (EndsSequence text.now flags at)
-        (λ atom. ReadsAtom text.now flags depth at (tree_of atom.0) atom.1)) }
+        (EndsSequence text.now at)
+        (λ atom. ReadsAtom text.now depth at (tree_of atom.0) atom.1)) }
     ensures refused { IfErr result (StopsFrom text.now flags depth at) }
 {
-    match token_at(text, flags, at) {
-        Token::End | Token::Closing | Token::Bar => Ok(None),
-        Token::Single(set, end) => Ok(Some((Expr::Class(set), end))),
-        Token::Opening => Ok(Some(group_at(alloc, text, flags, depth, at)?)),
-        Token::Star | Token::Plus | Token::Question => {
-            Err(ParseFault::Refused(Refusal::Syntax(at as u32)))
+    match found.token {
+        Token::End | Token::Closing | Token::Bar | Token::Setting => Ok(None),
+        Token::Single(set) => Ok(Some((Expr::Class(set), found.behind))),
+        Token::Assert(assertion) => Ok(Some((Expr::Assert(assertion), found.behind))),
+        Token::Opening => Ok(Some(group_at(alloc, text, flags, depth, at, found)?)),
+        Token::Quantifier(_, _, _) => {
+            Err(ParseFault::Refused(Refusal::Syntax(found.start.place as u32)))
         }
         Token::Refused(refusal) => Err(ParseFault::Refused(refusal)),
     }
 }
 
-/// The tree of the group that opens at a place, and the place behind it.
+/// The tree of the group that the next token opens, and the spot behind it.
 #[cycle(parser)]
 fn group_at(
     alloc: Global,
     text: &[u8],
     flags: Flags,
     depth: usize,
-    at: usize,
-) -> Result<(Expr, usize), ParseFault>
+    at: Spot,
+    found: Found,
+) -> Result<(Expr, Spot), ParseFault>
     requires deep { depth ≤ MAX_DEPTH }
-    requires opens { TokenAt text.now flags at opening (at + 1) }
-    requires within { at < length text.now }
+    requires next { IsNext text.now at found }
+    requires opens { found.token ≡ Token.Opening }
     requires short { length text.now ≤ MAX_TEXT_LEN }
-    ensures read { IfOk result (λ found. ReadsAtom text.now flags depth at (tree_of found.0) found.1) }
+    ensures read { IfOk result (λ found. ReadsAtom text.now depth at (tree_of found.0) found.1) }
     ensures refused { IfErr result (StopsFrom text.now flags depth at) }
 {
     if depth == MAX_DEPTH {
         return Err(ParseFault::Refused(Refusal::DepthLimit));
     }
-    let (body, close) = alternation_at(alloc, text, flags, depth + 1, at + 1)?;
-    if close == text.len() {
-        return Err(ParseFault::Refused(Refusal::Syntax(close as u32)));
+    let (body, last) = alternation_at(alloc, text, flags, depth + 1, found.behind)?;
+    let close = next_token(text, last);
+    if close.token.is_end() {
+        return Err(ParseFault::Refused(Refusal::Syntax(close.start.place as u32)));
     }
-    Ok((body, close + 1))
-}
-
-/// The bounds of the quantifier that stands at a place.
-fn quantifier_at(text: &[u8], flags: Flags, at: usize) -> Option<(u32, Option<u32>)>
-    ensures { MatchOption result
-        (NoQuantifier text.now flags at)
-        (λ bounds. Quantifier text.now flags at bounds.0 bounds.1 (at + 1)) }
-{
-    match role_at(text, at) {
-        Role::Star => Some((0, None)),
-        Role::Plus => Some((1, None)),
-        Role::Question => Some((0, Some(1))),
-        Role::End
-        | Role::Any
-        | Role::Literal
-        | Role::Escape
-        | Role::Class
-        | Role::Opening
-        | Role::Closing
-        | Role::Bar
-        | Role::Unread => None,
-    }
-}
-
-/// Why a quantifier that stands at a place, behind another one, is refused.
-fn second_quantifier_at(text: &[u8], flags: Flags, at: usize) -> Option<Refusal>
-    requires { at ≤ MAX_TEXT_LEN }
-    ensures { MatchOption result
-        (NoQuantifier text.now flags at)
-        (λ refusal. StopsBehind text.now flags at refusal) }
-{
-    match role_at(text, at) {
-        Role::Star => Some(Refusal::Syntax(at as u32)),
-        Role::Plus | Role::Question => { Some(Refusal::Unsupported(Construct::Later, at as u32)) }
-        Role::End
-        | Role::Any
-        | Role::Literal
-        | Role::Escape
-        | Role::Class
-        | Role::Opening
-        | Role::Closing
-        | Role::Bar
-        | Role::Unread => None,
-    }
+    let behind = Spot {
+        place: close.behind.place,
+        mode: found.start.mode,
+    };
+    Ok((body, behind))
 }
 
 /// The tree of a sequence.

@@ -1,111 +1,201 @@
 //! The tokens of an expression.
-ghost use Rattle.std.specs.Prelude.{◌≡◌, ◌+◌, ◌<◌, ◌≤◌, length, slice_get};
-ghost use Rattle.hs_parse.specs.Syntax.{role_at, is_unread_group};
-ghost use Rattle.hs_parse.specs.Reading.{IsTokenAt};
+ghost use Rattle.std.specs.Prelude.{◌≡◌, ◌<◌, ◌≤◌, false, length, MatchBool, MatchOption};
+ghost use Rattle.hs_parse.specs.Tokens.{made_by, made_at, bracket};
+ghost use Rattle.hs_parse.specs.Reading.{plain_made, sees_quantifier, IsNext};
 
 use crate::class::class_at;
 use crate::parser::MAX_TEXT_LEN;
-use crate::piece::{Piece, escape_at};
-use crate::role::{Role, role_at};
-use hs_base::{ByteSet, Construct, Flags, Refusal};
+use crate::set::{Test, any_byte, set_where};
+use crate::spot::{Spot, refusal_at};
+use hs_base::{Assertion, ByteSet, Refusal};
+use hs_syntax::{Form, Mode, form_at};
 
-/// A token of an expression. It takes one byte where nothing else is said.
+/// A token of an expression.
 #[derive(Clone, Copy, Debug, PartialEq, Eq)]
 pub(crate) enum Token {
     /// Nothing: the text ends there.
     End,
-    /// One byte of the set, and the place behind the token.
-    Single(ByteSet, usize),
-    /// `(`, which opens a group.
+    /// One byte of the set.
+    Single(ByteSet),
+    /// An assertion.
+    Assert(Assertion),
+    /// The opening of a group.
     Opening,
     /// `)`
     Closing,
     /// `|`
     Bar,
-    /// `*`
-    Star,
-    /// `+`
-    Plus,
-    /// `?`
-    Question,
+    /// A quantifier: the least and the greatest number of copies, and whether it is possessive.
+    Quantifier(u32, Option<u32>, bool),
+    /// A change of options to the end of the group.
+    Setting,
     /// A form that is refused.
     Refused(Refusal),
 }
 
-/// The token that begins at a place.
-pub(crate) fn token_at(text: &[u8], flags: Flags, at: usize) -> Token
-    requires within { at ≤ length text.now }
-    requires short { length text.now ≤ MAX_TEXT_LEN }
-    ensures { IsTokenAt text.now flags at result }
-{
-    match role_at(text, at) {
-        Role::End => Token::End,
-        Role::Any => Token::Single(ByteSet::NOT_NEWLINE, at + 1),
-        Role::Literal => literal_at(text, flags, at),
-        Role::Escape => escaped_at(text, flags, at),
-        Role::Class => bracket_at(text, flags, at),
-        Role::Opening => opening_at(text, flags, at),
-        Role::Closing => Token::Closing,
-        Role::Bar => Token::Bar,
-        Role::Star => Token::Star,
-        Role::Plus => Token::Plus,
-        Role::Question => Token::Question,
-        Role::Unread => Token::Refused(Refusal::Unsupported(Construct::Later, at as u32)),
+impl Token {
+    /// Whether the text ends.
+    pub(crate) fn is_end(self) -> bool
+        ensures { MatchBool result (self ≡ Token.End) (self ≡ Token.End → ⊥) }
+    {
+        matches!(self, Token::End)
+    }
+
+    /// Whether it is a `|`.
+    pub(crate) fn is_bar(self) -> bool
+        ensures { MatchBool result (self ≡ Token.Bar) (self ≡ Token.Bar → ⊥) }
+    {
+        matches!(self, Token::Bar)
+    }
+
+    /// Whether it changes options.
+    pub(crate) fn is_setting(self) -> bool
+        ensures { MatchBool result (self ≡ Token.Setting) (self ≡ Token.Setting → ⊥) }
+    {
+        matches!(self, Token::Setting)
+    }
+
+    /// Whether it is a quantifier.
+    pub(crate) fn is_quantifier(self) -> bool
+        ensures { result ≡ sees_quantifier self }
+    {
+        matches!(self, Token::Quantifier(_, _, _))
+    }
+
+    /// The bounds of a quantifier, and whether it is possessive; `None` where it is none.
+    pub(crate) fn quantifier(self) -> Option<(u32, Option<u32>, bool)>
+        ensures { MatchOption result
+            (sees_quantifier self ≡ false)
+            (λ quantifier. self ≡ Token.Quantifier quantifier.0 quantifier.1 quantifier.2) }
+    {
+        match self {
+            Token::Quantifier(least, greatest, possessive) => Some((least, greatest, possessive)),
+            Token::End
+            | Token::Single(_)
+            | Token::Assert(_)
+            | Token::Opening
+            | Token::Closing
+            | Token::Bar
+            | Token::Setting
+            | Token::Refused(_) => None,
+        }
     }
 }
 
-/// The token of a byte that stands for itself.
-fn literal_at(text: &[u8], flags: Flags, at: usize) -> Token
-    requires role { role_at text.now at ≡ Role.Literal }
-    requires within { at < length text.now }
-    ensures { IsTokenAt text.now flags at result }
-{
-    Token::Single(ByteSet::of(text[at]), at + 1)
+/// A token, where it begins, and what is behind it.
+#[derive(Clone, Copy, Debug, PartialEq, Eq)]
+pub(crate) struct Found {
+    /// The token.
+    pub(crate) token: Token,
+    /// Where it begins.
+    pub(crate) start: Spot,
+    /// The place behind it, and the options in force there; of an opening, those inside.
+    pub(crate) behind: Spot,
 }
 
-/// The token that begins with a backslash.
-fn escaped_at(text: &[u8], flags: Flags, at: usize) -> Token
-    requires role { role_at text.now at ≡ Role.Escape }
-    requires within { at < length text.now }
+/// What a form makes.
+#[derive(Clone, Copy, Debug, PartialEq, Eq)]
+pub(crate) enum Made {
+    /// A token, the options behind it, and its length in bytes.
+    Token(Token, Mode, usize),
+    /// Nothing: so many bytes are skipped, and the options are those behind them.
+    Skips(Mode, usize),
+    /// A class.
+    Bracket,
+}
+
+/// The next token from a place on.
+pub(crate) fn next_token(text: &[u8], from: Spot) -> Found
+    requires within { from.place ≤ length text.now }
     requires short { length text.now ≤ MAX_TEXT_LEN }
-    ensures { IsTokenAt text.now flags at result }
+    ensures { IsNext text.now from result }
 {
-    match escape_at(text, at) {
-        Piece::Character(code, end) => Token::Single(ByteSet::of(code), end),
-        Piece::Refused(refusal) => Token::Refused(refusal),
-        Piece::End | Piece::Close => Token::End,
+    let mut start = from;
+    loop {
+        match made_at(text, start) {
+            Made::Token(token, mode, length) => {
+                let behind = Spot {
+                    place: start.place + length,
+                    mode,
+                };
+                return Found {
+                    token,
+                    start,
+                    behind,
+                };
+            }
+            Made::Skips(mode, length) => start = Spot {
+                place: start.place + length,
+                mode,
+            },
+            Made::Bracket => return bracket_at(text, start),
+        }
     }
 }
 
-/// The token that begins with `[`.
-fn bracket_at(text: &[u8], flags: Flags, at: usize) -> Token
-    requires role { role_at text.now at ≡ Role.Class }
-    requires within { at < length text.now }
+/// What begins at a place makes.
+#[tactic(auto, unfolding(crate::specs::Tokens::made_at))]
+fn made_at(text: &[u8], at: Spot) -> Made
+    requires within { at.place ≤ length text.now }
     requires short { length text.now ≤ MAX_TEXT_LEN }
-    ensures { IsTokenAt text.now flags at result }
+    ensures { plain_made result ≡ made_at text.now at }
 {
-    match class_at(text, flags, at) {
-        Ok((set, end)) => Token::Single(set, end),
-        Err(refusal) => Token::Refused(refusal),
+    made_by(at.mode, at.place, form_at(at.mode, &text[at.place..]))
+}
+
+/// What a form that begins at a place makes.
+fn made_by(mode: Mode, at: usize, form: Form) -> Made
+    requires short { at ≤ MAX_TEXT_LEN }
+    ensures { plain_made result ≡ made_by mode at form }
+{
+    match form {
+        Form::End => Made::Token(Token::End, mode, 0),
+        Form::Skipped(behind, length) => Made::Skips(behind, length),
+        Form::Setting(behind, length) => Made::Token(Token::Setting, behind, length),
+        Form::Opening(inside, length) => Made::Token(Token::Opening, inside, length),
+        Form::Closing => Made::Token(Token::Closing, mode, 1),
+        Form::Bar => Made::Token(Token::Bar, mode, 1),
+        Form::Any => Made::Token(Token::Single(any_byte(mode.dotall)), mode, 1),
+        Form::Character(code, length) => {
+            let test = Test::Range(mode.caseless, code, code);
+            Made::Token(Token::Single(set_where(test)), mode, length)
+        }
+        Form::Class(class, negated, length) => {
+            let test = Test::Class(class, negated);
+            Made::Token(Token::Single(set_where(test)), mode, length)
+        }
+        Form::Bracket => Made::Bracket,
+        Form::Assert(assertion, length) => Made::Token(Token::Assert(assertion), mode, length),
+        Form::Quantifier(least, greatest, possessive, length) => {
+            Made::Token(Token::Quantifier(least, greatest, possessive), mode, length)
+        }
+        Form::Refused(reason) => Made::Token(Token::Refused(refusal_at(reason, at)), mode, 0),
     }
 }
 
-/// The token that begins with `(`.
-fn opening_at(text: &[u8], flags: Flags, at: usize) -> Token
-    requires role { role_at text.now at ≡ Role.Opening }
-    requires within { at < length text.now }
+/// The class that begins at a place.
+fn bracket_at(text: &[u8], start: Spot) -> Found
+    requires made { made_at text.now start ≡ bracket }
+    requires within { start.place < length text.now }
     requires short { length text.now ≤ MAX_TEXT_LEN }
-    ensures { IsTokenAt text.now flags at result }
+    ensures { IsNext text.now start result }
 {
-    if is_unread_group(text, at + 1) {
-        return Token::Refused(Refusal::Unsupported(Construct::Later, at as u32));
+    match class_at(text, start.mode.caseless, start.place) {
+        Ok((set, end)) => {
+            let behind = Spot {
+                place: end,
+                mode: start.mode,
+            };
+            Found {
+                token: Token::Single(set),
+                start,
+                behind,
+            }
+        }
+        Err(refusal) => Found {
+            token: Token::Refused(refusal),
+            start,
+            behind: start,
+        },
     }
-    Token::Opening
-}
-
-/// Whether a `(` begins a form that isn't read yet, by the place behind it.
-fn is_unread_group(text: &[u8], at: usize) -> bool
-    ensures { result ≡ is_unread_group (slice_get text.now at) }
-{
-    matches!(text.get(at), Some(b'?' | b'*'))
 }

@@ -6,3 +6,4 @@ pub mod SettingLemmas
 pub mod LineLemmas
 pub mod FileLemmas
 pub mod ReadingLemmas
+pub mod KnownLemmas

@@ -1,7 +1,9 @@
 -- What holds of every file.
 use Rattle.std.specs.Prelude.{◌≡◌, ℕ, List}
 use Rattle.hs_base.specs.Entries.{ListedEntry}
+use Rattle.hs_base.specs.Lists.{Each}
 use Rattle.hs_text.specs.PatternFile.{IsList, HasBadLine}
+use Rattle.hs_text.specs.Known.{IsKnown}
 
 -- A file is a list in at most one way.
 abbrev pub IsListOnce : Type 0
@@ -22,3 +24,7 @@ NeverNeither =
     ((entries : List ListedEntry) → IsList file entries → ⊥) →
     ((number : ℕ) → HasBadLine file number → ⊥) →
     ⊥
+
+-- The entries of a file have flags and parameters that are known, and missing bounds at their missing values.
+abbrev pub HasKnownEntries : Type 0
+HasKnownEntries = (file : List ℕ) (entries : List ListedEntry) → IsList file entries → Each IsKnown entries

@@ -5,6 +5,8 @@ pub mod Lines
 pub mod EntryLines
 pub mod PatternFile
 pub mod Reading
+pub mod Known
+pub mod AnswerLines
 pub mod Laws
 pub mod ReportLines
 pub mod RefusalValues

@@ -1,6 +1,6 @@
 //! Laws over the definitions of `specs/`: each is the contract of a function that does nothing.
 
-ghost use Rattle.hs_text.specs.Laws.{IsListOnce, IsBadOnce, NeverBoth, NeverNeither};
+ghost use Rattle.hs_text.specs.Laws.{IsListOnce, IsBadOnce, NeverBoth, NeverNeither, HasKnownEntries};
 
 /// A file is a list in at most one way.
 pub fn list_once()
@@ -20,4 +20,9 @@ pub fn never_both()
 /// No file is neither.
 pub fn never_neither()
     ensures { NeverNeither }
+{}
+
+/// The entries of a file have flags and parameters that are known, and missing bounds at their missing values.
+pub fn known_entries()
+    ensures { HasKnownEntries }
 {}

@@ -1,8 +1,9 @@
 //! The texts of the program: the reader of pattern files, and the lines that are written. `specs/PatternFile.antt` says
-//! which lists a file is, and which line is its first bad one; `specs/ReportLines.antt` and `specs/RefusalLines.antt` say
-//! the lines.
+//! which lists a file is, and which line is its first bad one; `specs/ReportLines.antt`, `specs/RefusalLines.antt` and
+//! `specs/AnswerLines.antt` say the lines.
 #![tactic(auto)]
 
+mod answer_lines;
 pub mod command_laws;
 mod command_lines;
 #[cfg(test)]
@@ -26,6 +27,7 @@ mod report_lines;
 #[cfg(test)]
 mod tests;
 
+pub use answer_lines::{accepted_line, compiled_line, form_line, info_lines};
 pub use command_lines::command;
 pub use commands::{Command, Verb};
 pub use fault::ListFault;

@@ -1,5 +1,8 @@
 //! The lines that are written, as their tables say them.
-use crate::{LINE_LEN, NAME_LEN, end_line, refusal_line, report_line};
+use crate::{
+    LINE_LEN, NAME_LEN, accepted_line, compiled_line, end_line, form_line, info_lines,
+    refusal_line, report_line,
+};
 use hs_base::{Construct, ExprId, Refusal, Report};
 use std::test::Fail;
 
@@ -205,5 +208,21 @@ fn tells_reports_and_the_length(rt: HostRuntime) -> Result<(), Fail> {
         let len = end_line(total, &mut buf);
         assert_eq!(rt; buf.get(..len), Some(line));
     }
+    Ok(())
+}
+
+#[test]
+fn tells_what_a_command_answers(rt: HostRuntime) -> Result<(), Fail> {
+    let mut buf = [0; LINE_LEN];
+    let len = accepted_line(3, &mut buf);
+    assert_eq!(rt; buf.get(..len), Some(b"accepted 3\n".as_slice()));
+    let len = compiled_line(1, 38, &mut buf);
+    assert_eq!(rt; buf.get(..len), Some(b"compiled 1 38\n".as_slice()));
+    let len = info_lines(2, 1, &mut buf);
+    let lines = b"version 1\nexpressions 2\nidentifiers 1\n".as_slice();
+    assert_eq!(rt; buf.get(..len), Some(lines));
+    let len = form_line(MOST_64, &mut buf);
+    let line = b"fault database 18446744073709551615\n".as_slice();
+    assert_eq!(rt; buf.get(..len), Some(line));
     Ok(())
 }

@@ -1,5 +1,5 @@
 -- From what the steps of a command leave to the command's answer.
-use Rattle.std.proofs.Common.{◌≡◌, ℕ, List, [], ◌∷◌, ◌++◌, length, Option, Some, None, Result, Ok, Err, OnOk, OnErr, MatchResult, refl, sym, ap, ◌∙◌, subst, arith, append_assoc}
+use Rattle.std.proofs.Common.{◌≡◌, ℕ, ◌≤◌, List, [], ◌∷◌, ◌++◌, length, Option, Some, None, Result, Ok, Err, OnOk, OnErr, MatchResult, refl, sym, ap, ◌∙◌, subst, arith, append_assoc, inr}
 use Rattle.hs_base.specs.Patterns.{Pattern}
 use Rattle.hs_base.specs.Told.{Pair, IsTold, IsNew, IsLast}
 use Rattle.hs_base.specs.MatchText.{report_lines, end_line, IsMatchText}
@@ -8,16 +8,21 @@ use Rattle.hs_base.proofs.NewLemmas.{told_start, new_nothing}
 use Rattle.hs_outside.specs.Counts.{Rose}
 use Rattle.hs_outside.specs.Sink.{Took, TookPrefix}
 use Rattle.hs_outside.specs.Store.{Told, holds, Begins, IsFile}
-use Rattle.hs_outside.proofs.Sending.{Took-append, TookPrefix-after, TookPrefix-longer}
-use Rattle.hs_compile.specs.declared.database.Database.{Database}
-use Rattle.hs_tool.specs.Passing.{Passes}
-use Rattle.hs_tool.specs.Scanning.{Interrupts, Moves, AreReportsOf, IsScanned, IsScannedTo, IsFileScanned, IsFilePartlyScanned, IsEnded, IsEndCutShort, IsClosed, IsPartlyClosed}
-use Rattle.hs_tool.specs.Causes.{Cause, usage, refused, write, store, absent, limit, memory}
-use Rattle.hs_tool.specs.Answers.{Outside, NoFault, TookNothing, HasList, HasWritten, HasBegun, MatchEnds, done, no_list, list_failed, long_list, list_refused, no_memory, no_file, file_failed, long_file, sink_failed}
-use Rattle.hs_tool.specs.Loading.{IsLoaded, StopsLoad, StopsScan}
-use Rattle.hs_tool.specs.declared.scan.ScanFault.{ScanFault}
-use Rattle.hs_tool.specs.declared.scan.ScanFault.TheVariants.{Absent, Store, Write, Limit}
-use Rattle.hs_tool.proofs.PassLemmas.{lines-join}
+use Rattle.hs_outside.proofs.Sending.{Took-nothing, Took-append, TookPrefix-after, TookPrefix-longer}
+use Rattle.hs_base.specs.Entries.{ListedEntry}
+use Rattle.hs_scan.proofs.CloseLemmas.{behind}
+use Rattle.hs_scan.specs.Scanning.{Interrupts, Moves, AreReportsOf, IsScanned, IsScannedTo, IsFileScanned, IsFilePartlyScanned, IsEnded, IsEndCutShort, IsClosed, IsPartlyClosed}
+use Rattle.hs_tool.specs.Causes.{Cause, write, memory}
+use Rattle.hs_request.specs.Requests.{Request, match_file, check_list, compile_list, tell_database, scan_file}
+use Rattle.hs_tool.specs.Commands.{ListKind, pattern_file, database_file}
+use Rattle.hs_tool.specs.Answers
+use Rattle.hs_tool.specs.Accepting.{HoldsList, IsFormCause, formless, unread, IsEntryCause, first, uncompiled, bad_form, bad_entry}
+use Rattle.hs_tool.specs.Answers.{greatest_list, Outside, NoFault, TookNothing, HasList, HasWritten, HasBegun, StopsList, StopsEarly, ScanEnds, CompileEnds, Ends, list_refused, no_memory}
+use Rattle.hs_tool.specs.Loading.{IsLoaded, StopsScan, entries_of}
+use Rattle.hs_tool.specs.declared.load.Loaded.{Loaded}
+use Rattle.hs_scan.specs.declared.scan.ScanFault.{ScanFault}
+use Rattle.hs_scan.specs.declared.scan.ScanFault.TheVariants.{Absent, Store, Write, Limit}
+use Rattle.hs_scan.proofs.PassLemmas.{lines-join}
 
 -- ---- the text of a match
 
@@ -56,49 +61,9 @@ nothing_before (x ∷ xs) ys e = absurd (omega (arith, ap length e))
 file-told : (told : Told) (bytes other : List ℕ) → told ≡ holds other → IsFile told bytes → other ≡ bytes
 file-told told bytes other same file = subst (λ t. IsFile t bytes) same file
 
--- what was written of some lines, and then what waited and more
-behind : (written waits lines more : List ℕ) → written ++ waits ≡ lines → written ++ (waits ++ more) ≡ lines ++ more
-behind written waits lines more whole = sym (append_assoc written waits more) ∙ ap (λ x. x ++ more) whole
-
 -- ---- a stream that stands behind a file
 
 module _ {A : Type 0} (Stands : List Pattern → List ℕ → A → Type 0) where
-  -- the last lines were written
-  pub ended-closed : (now : A) (count : ℕ) (p q r : Option (List ℕ)) (waited waits : List ℕ) → IsEnded Stands now p q waited waits → Took q r (waits ++ end_line count) → IsClosed Stands now count p r waited
-  ended-closed now count p q r waited waits ended taken = record {
-    reports = ended.reports;
-    last = ended.last;
-    written =
-        subst (λ text. Took p r text)
-        (behind ended.passes.written waits (waited ++ report_lines ended.reports) (end_line count) ended.passes.whole ∙ append_assoc waited (report_lines ended.reports) (end_line count))
-        (Took-append p q r ended.passes.written (waits ++ end_line count) ended.passes.taken taken);
-  }
-
-  -- the sink failed when the last lines were written
-  pub ended-partly : (now : A) (count : ℕ) (p q r : Option (List ℕ)) (waited waits : List ℕ) → IsEnded Stands now p q waited waits → TookPrefix q r (waits ++ end_line count) → IsPartlyClosed Stands now count p r waited
-  ended-partly now count p q r waited waits ended cut = record {
-    reports = ended.reports;
-    last = ended.last;
-    written =
-        subst (λ text. TookPrefix p r text)
-        (behind ended.passes.written waits (waited ++ report_lines ended.reports) (end_line count) ended.passes.whole ∙ append_assoc waited (report_lines ended.reports) (end_line count))
-        (TookPrefix-after p q r ended.passes.written (waits ++ end_line count) ended.passes.taken cut);
-  }
-
-  pub cut-partly : (now : A) (count : ℕ) (p r : Option (List ℕ)) (waited : List ℕ) → IsEndCutShort Stands now p r waited → IsPartlyClosed Stands now count p r waited
-  cut-partly now count p r waited cut = record {
-    reports = cut.reports;
-    last = cut.last;
-    written =
-        subst (λ text. TookPrefix p r text) (append_assoc waited (report_lines cut.reports) (end_line count))
-        (TookPrefix-longer p r (waited ++ report_lines cut.reports) (end_line count) cut.passes);
-  }
-
-  -- what came of it
-  pub close-result : {T E : Type 0} (result : Result T E) (now : A) (count : ℕ) (p q r : Option (List ℕ)) (waited waits : List ℕ) → IsEnded Stands now p q waited waits → OnOk result (Took q r (waits ++ end_line count)) → OnErr result (TookPrefix q r (waits ++ end_line count)) → MatchResult result (λ x. IsClosed Stands now count p r waited) (λ e. IsPartlyClosed Stands now count p r waited)
-  close-result (Ok x) now count p q r waited waits ended taken cut = ended-closed now count p q r waited waits ended taken
-  close-result (Err e) now count p q r waited waits ended taken cut = ended-partly now count p q r waited waits ended cut
-
   -- nothing is written before a byte was scanned
   pub nothing-scanned : (told : Told) (P : List Pattern) (a b : A) (p q : Option (List ℕ)) (waits : List ℕ) → Stands P [] a → IsScannedTo Stands told a b 0 p q [] waits → Took p q []
   nothing-scanned told P a b p q waits stands so_far =
@@ -167,65 +132,91 @@ module _ {A : Type 0} (Stands : List Pattern → List ℕ → A → Type 0) wher
         );
       }
 
--- ---- the endings of `match`
+-- ---- the endings of a scan
 
-pub has_list : (told : Told) (database : Database) → (loaded : IsLoaded told database) → HasList told loaded.patterns
-has_list told database loaded = record { bytes = loaded.bytes; file = loaded.file; within = loaded.within; accepted = loaded.accepted }
+-- the list that was loaded
+pub has_list : (kind : ListKind) (told : Told) (loaded : Loaded) → (is : IsLoaded kind told loaded) → HasList kind told (entries_of loaded) is.patterns
+has_list kind told loaded is = record { bytes = is.bytes; file = is.file; within = is.within; accepted = is.accepted }
 
-pub load_ends : (patterns file : List ℕ) (before now : Outside) (cause : Cause) → StopsLoad patterns (before.told patterns) before.stored now.stored cause → TookNothing before now → now.sunk ≡ before.sunk → MatchEnds patterns file before now (Some cause)
-load_ends patterns file before now usage stops quiet still = absurd stops
-load_ends patterns file before now (refused entry refusal) stops quiet still =
-    list_refused entry refusal stops.0 quiet (record { store = stops.1; sink = still })
-load_ends patterns file before now write stops quiet still = absurd stops
-load_ends patterns file before now store stops quiet still = list_failed quiet stops
-load_ends patterns file before now (absent name) stops quiet still =
-    subst (λ n. MatchEnds patterns file before now (Some (absent n))) (sym stops.0) (no_list stops.1 quiet (record { store = stops.2; sink = still }))
-load_ends patterns file before now limit stops quiet still = long_list stops.0 quiet (record { store = stops.1; sink = still })
-load_ends patterns file before now memory stops quiet still = no_memory quiet (record { store = stops; sink = still })
+-- no memory was found, and nothing written
+pub no_memory_early : (kind : ListKind) (list : List ℕ) (before now : Outside) → TookNothing before now → NoFault before now → StopsEarly kind list before now memory
+no_memory_early kind list before now quiet none = record { stops = no_memory none.store; quiet = quiet; still = none.sink }
 
-pub scan_ends : (patterns file : List ℕ) (before now : Outside) (P : List Pattern) (fault : ScanFault) (cause : Cause) → HasList (before.told patterns) P → HasBegun (before.told file) P before.out now.out → (fault ≡ Absent → TookNothing before now) → Interrupts fault (before.told file) before.stored now.stored before.sunk now.sunk → StopsScan file fault cause → MatchEnds patterns file before now (Some cause)
-scan_ends patterns file before now P Absent cause list begun quiet stops is =
-    subst (λ x. MatchEnds patterns file before now (Some x)) (sym is) (no_file P list stops.0 (quiet refl) (record { store = stops.1; sink = stops.2 }))
-scan_ends patterns file before now P Store cause list begun quiet stops is =
-    subst (λ x. MatchEnds patterns file before now (Some x)) (sym is) (file_failed P list begun stops.1)
-scan_ends patterns file before now P Write cause list begun quiet stops is =
-    subst (λ x. MatchEnds patterns file before now (Some x)) (sym is) (sink_failed P list begun stops.2)
-scan_ends patterns file before now P Limit cause list begun quiet stops is =
-    subst (λ x. MatchEnds patterns file before now (Some x)) (sym is) (long_file P list stops.0 begun (record { store = stops.1; sink = stops.2 }))
+pub scan_ends : (kind : ListKind) (list file : List ℕ) (before now : Outside) (entries : List ListedEntry) (P : List Pattern) (fault : ScanFault) (cause : Cause) → HasList kind (before.told list) entries P → HasBegun (before.told file) P before.out now.out → (fault ≡ Absent → TookNothing before now) → Interrupts fault (before.told file) before.stored now.stored before.sunk now.sunk → StopsScan file fault cause → ScanEnds kind list file before now (Some cause)
+scan_ends kind list file before now entries P Absent cause has begun quiet stops is =
+    subst (λ x. ScanEnds kind list file before now (Some x)) (sym is) (Answers.no_file entries P has stops.0 (quiet refl) (record { store = stops.1; sink = stops.2 }))
+scan_ends kind list file before now entries P Store cause has begun quiet stops is =
+    subst (λ x. ScanEnds kind list file before now (Some x)) (sym is) (Answers.file_failed entries P has begun stops.1)
+scan_ends kind list file before now entries P Write cause has begun quiet stops is =
+    subst (λ x. ScanEnds kind list file before now (Some x)) (sym is) (Answers.sink_failed entries P has begun stops.2)
+scan_ends kind list file before now entries P Limit cause has begun quiet stops is =
+    subst (λ x. ScanEnds kind list file before now (Some x)) (sym is) (Answers.long_file entries P has stops.0 begun (record { store = stops.1; sink = stops.2 }))
 
 -- what holds since the list was loaded holds since the start
-pub ends_since : (patterns file : List ℕ) (told told' : List ℕ → Told) (stored stored' : ℕ) (out : Option (List ℕ)) (sunk : ℕ) (now : Outside) (outcome : Option Cause) → told' ≡ told → stored' ≡ stored →
-    MatchEnds patterns file (record { told = told'; stored = stored'; out = out; sunk = sunk }) now outcome →
-    MatchEnds patterns file (record { told = told; stored = stored; out = out; sunk = sunk }) now outcome
-ends_since patterns file told told' stored stored' out sunk now outcome same_told same_stored ends =
-    subst (λ n. MatchEnds patterns file (record { told = told; stored = n; out = out; sunk = sunk }) now outcome) same_stored
-    (subst (λ t. MatchEnds patterns file (record { told = t; stored = stored'; out = out; sunk = sunk }) now outcome) same_told ends)
+pub ends_since : (kind : ListKind) (list file : List ℕ) (told told' : List ℕ → Told) (stored stored' : ℕ) (out : Option (List ℕ)) (sunk : ℕ) (now : Outside) (outcome : Option Cause) → told' ≡ told → stored' ≡ stored →
+    ScanEnds kind list file (record { told = told'; stored = stored'; out = out; sunk = sunk }) now outcome →
+    ScanEnds kind list file (record { told = told; stored = stored; out = out; sunk = sunk }) now outcome
+ends_since kind list file told told' stored stored' out sunk now outcome same_told same_stored ends =
+    subst (λ n. ScanEnds kind list file (record { told = told; stored = n; out = out; sunk = sunk }) now outcome) same_stored
+    (subst (λ t. ScanEnds kind list file (record { told = t; stored = stored'; out = out; sunk = sunk }) now outcome) same_told ends)
+
+pub compile_since : (patterns database : List ℕ) (told told' : List ℕ → Told) (stored stored' : ℕ) (out : Option (List ℕ)) (sunk : ℕ) (now : Outside) (outcome : Option Cause) → told' ≡ told → stored' ≡ stored →
+    CompileEnds patterns database (record { told = told'; stored = stored'; out = out; sunk = sunk }) now outcome →
+    CompileEnds patterns database (record { told = told; stored = stored; out = out; sunk = sunk }) now outcome
+compile_since patterns database told told' stored stored' out sunk now outcome same_told same_stored ends =
+    subst (λ n. CompileEnds patterns database (record { told = told; stored = n; out = out; sunk = sunk }) now outcome) same_stored
+    (subst (λ t. CompileEnds patterns database (record { told = t; stored = stored'; out = out; sunk = sunk }) now outcome) same_told ends)
+
+-- ---- the list
+
+-- the file isn't of the form, or memory was wanted to read it
+pub form-stops : (kind : ListKind) (name : List ℕ) (told : Told) (before now : ℕ) (bytes : List ℕ) (cause : Cause) → IsFile told bytes → length bytes ≤ greatest_list → now ≡ before → IsFormCause kind bytes cause → StopsList kind name told before now cause
+form-stops kind name told before now bytes _ file within same (formless bad) = list_refused (record { bytes = bytes; file = file; within = within; refused = bad_form bad }) same
+form-stops kind name told before now bytes _ file within same unread = no_memory same
+
+-- an entry is refused, or memory was wanted to compile them
+pub entry-stops : (kind : ListKind) (name : List ℕ) (told : Told) (before now : ℕ) (bytes : List ℕ) (entries : List ListedEntry) (cause : Cause) → IsFile told bytes → length bytes ≤ greatest_list → now ≡ before → HoldsList kind bytes entries → IsEntryCause entries cause → StopsList kind name told before now cause
+entry-stops kind name told before now bytes entries _ file within same list (first refused) = list_refused (record { bytes = bytes; file = file; within = within; refused = bad_entry list refused }) same
+entry-stops kind name told before now bytes entries _ file within same list uncompiled = no_memory same
+
+-- ---- a scan
 
 module _ {A : Type 0} (Stands : List Pattern → List ℕ → A → Type 0) where
   -- the scan of the file stopped
-  pub scan_stops : (patterns file : List ℕ) (before now : Outside) (P : List Pattern) (a b : A) (waited waits : List ℕ) (fault : ScanFault) (cause : Cause) → waited ≡ [] → HasList (before.told patterns) P → Stands P [] a →
+  pub scan_stops : (kind : ListKind) (list file : List ℕ) (before now : Outside) (entries : List ListedEntry) (P : List Pattern) (a b : A) (waited waits : List ℕ) (fault : ScanFault) (cause : Cause) → waited ≡ [] → HasList kind (before.told list) entries P → Stands P [] a →
       IsFilePartlyScanned Stands (before.told file) a before.out now.out waited → (fault ≡ Absent → IsScannedTo Stands (before.told file) a b 0 before.out now.out waited waits) →
-      Interrupts fault (before.told file) before.stored now.stored before.sunk now.sunk → StopsScan file fault cause → MatchEnds patterns file before now (Some cause)
-  scan_stops patterns file before now P a b waited waits fault cause nothing list stands part unread stops is =
-      scan_ends patterns file before now P fault cause list
+      Interrupts fault (before.told file) before.stored now.stored before.sunk now.sunk → StopsScan file fault cause → ScanEnds kind list file before now (Some cause)
+  scan_stops kind list file before now entries P a b waited waits fault cause nothing has stands part unscanned stops is =
+      scan_ends kind list file before now entries P fault cause has
       (begun-part Stands (before.told file) P a before.out now.out stands (subst (λ w. IsFilePartlyScanned Stands (before.told file) a before.out now.out w) nothing part))
-      (λ gone. nothing-scanned Stands (before.told file) P a b before.out now.out waits stands (subst (λ w. IsScannedTo Stands (before.told file) a b 0 before.out now.out w waits) nothing (unread gone)))
+      (λ gone. nothing-scanned Stands (before.told file) P a b before.out now.out waits stands (subst (λ w. IsScannedTo Stands (before.told file) a b 0 before.out now.out w waits) nothing (unscanned gone)))
       stops is
 
   -- the file was scanned to its end and the last line written
-  pub scan_done : (patterns file : List ℕ) (before now : Outside) (P : List Pattern) (a b : A) (total : ℕ) (out : Option (List ℕ)) (waited waits : List ℕ) → waited ≡ [] → HasList (before.told patterns) P → Stands P [] a →
-      IsFileScanned Stands (before.told file) a b total before.out out waited waits → IsClosed Stands b total out now.out waits → NoFault before now → MatchEnds patterns file before now None
-  scan_done patterns file before now P a b total out waited waits nothing list stands scan closed quiet =
-      done P list
+  pub scan_done : (kind : ListKind) (list file : List ℕ) (before now : Outside) (entries : List ListedEntry) (P : List Pattern) (a b : A) (total : ℕ) (out : Option (List ℕ)) (waited waits : List ℕ) → waited ≡ [] → HasList kind (before.told list) entries P → Stands P [] a →
+      IsFileScanned Stands (before.told file) a b total before.out out waited waits → IsClosed Stands b total out now.out waits → NoFault before now → ScanEnds kind list file before now None
+  scan_done kind list file before now entries P a b total out waited waits nothing has stands scan closed quiet =
+      Answers.done entries P has
       (has_written Stands (before.told file) P a b total before.out out now.out waits stands
       (subst (λ w. IsFileScanned Stands (before.told file) a b total before.out out w waits) nothing scan) closed)
       quiet
 
   -- the file was scanned to its end, and then the sink failed
-  pub scan_unwritten : (patterns file : List ℕ) (before now : Outside) (P : List Pattern) (a b : A) (total : ℕ) (out : Option (List ℕ)) (waited waits : List ℕ) → waited ≡ [] → HasList (before.told patterns) P → Stands P [] a →
-      IsFileScanned Stands (before.told file) a b total before.out out waited waits → IsPartlyClosed Stands b total out now.out waits → Rose before.sunk now.sunk → MatchEnds patterns file before now (Some write)
-  scan_unwritten patterns file before now P a b total out waited waits nothing list stands scan closed rose =
-      sink_failed P list
+  pub scan_unwritten : (kind : ListKind) (list file : List ℕ) (before now : Outside) (entries : List ListedEntry) (P : List Pattern) (a b : A) (total : ℕ) (out : Option (List ℕ)) (waited waits : List ℕ) → waited ≡ [] → HasList kind (before.told list) entries P → Stands P [] a →
+      IsFileScanned Stands (before.told file) a b total before.out out waited waits → IsPartlyClosed Stands b total out now.out waits → Rose before.sunk now.sunk → ScanEnds kind list file before now (Some write)
+  scan_unwritten kind list file before now entries P a b total out waited waits nothing has stands scan closed rose =
+      Answers.sink_failed entries P has
       (begun-whole Stands (before.told file) P a b total before.out out now.out waits stands
       (subst (λ w. IsFileScanned Stands (before.told file) a b total before.out out w waits) nothing scan) closed)
       rose
+
+-- ---- the words
+
+-- memory was wanted to read them
+pub unread-words : (request : Option Request) (before : Outside) → Ends request before before (Some memory)
+unread-words None before = record { cause = inr refl; quiet = Took-nothing before.out; none = record { store = refl; sink = refl } }
+unread-words (Some (match_file patterns file)) before = Answers.stopped memory (no_memory_early pattern_file patterns before before (Took-nothing before.out) (record { store = refl; sink = refl }))
+unread-words (Some (check_list patterns)) before = Answers.stopped memory (no_memory_early pattern_file patterns before before (Took-nothing before.out) (record { store = refl; sink = refl }))
+unread-words (Some (compile_list patterns database)) before = Answers.stopped memory (no_memory_early pattern_file patterns before before (Took-nothing before.out) (record { store = refl; sink = refl })) refl
+unread-words (Some (tell_database database)) before = Answers.stopped memory (no_memory_early database_file database before before (Took-nothing before.out) (record { store = refl; sink = refl }))
+unread-words (Some (scan_file database file)) before = Answers.stopped memory (no_memory_early database_file database before before (Took-nothing before.out) (record { store = refl; sink = refl }))

@@ -1,11 +1,15 @@
 -- What the status of an answer says by itself.
-use Rattle.std.proofs.Common.{◌≡◌, ℕ, ◌⊎◌, ◌↔◌, List, [], Option, Some, None, refl, sym, ap, ◌∙◌, subst, arith, inl, inr}
+use Rattle.std.proofs.Common.{◌≡◌, ℕ, ◌⊎◌, List, [], Option, Some, None, refl, sym, ap, ◌∙◌, subst, arith, inl, inr}
+use Rattle.hs_base.specs.Entries.{ListedEntry}
 use Rattle.hs_outside.specs.Counts.{Rose}
 use Rattle.hs_outside.specs.Sink.{Took}
-use Rattle.hs_tool.specs.Requests.{Request, match_file}
-use Rattle.hs_tool.specs.Causes.{Cause, usage, refused, write, store, absent, limit, memory, status_of}
+use Rattle.hs_outside.specs.Store.{Told}
+use Rattle.hs_request.specs.Requests.{Request, match_file, check_list, compile_list, tell_database, scan_file}
+use Rattle.hs_tool.specs.Commands.{ListKind}
+use Rattle.hs_tool.specs.Accepting.{IsRefused, bad_line, bad_bytes, bad_form, bad_entry}
+use Rattle.hs_tool.specs.Causes.{Cause, usage, refused, write, store, absent, limit, form, memory, status_of, status_of_cause}
 use Rattle.hs_tool.specs.Answers
-use Rattle.hs_tool.specs.Answers.{Outside, MatchEnds, Ends, IsDue, IsAnswer, IsStatus, IsSilentStatus}
+use Rattle.hs_tool.specs.Answers.{Outside, StopsList, ScanEnds, TellEnds, CompileEnds, Ends, KeepsFiles, IsDue, IsAnswer, IsStatus, IsSilentStatus}
 
 is_status : (outcome : Option Cause) → IsStatus (status_of outcome)
 is_status None = inl refl
@@ -13,97 +17,195 @@ is_status (Some usage) = inr (inl refl)
 is_status (Some (refused entry refusal)) = inr (inr (inl refl))
 is_status (Some write) = inr (inr (inr (inl refl)))
 is_status (Some store) = inr (inr (inr (inl refl)))
-is_status (Some memory) = inr (inr (inr (inr (inl refl))))
-is_status (Some (absent name)) = inr (inr (inr (inr (inr (inl refl)))))
-is_status (Some limit) = inr (inr (inr (inr (inr (inr (inl refl))))))
+is_status (Some (form at)) = inr (inr (inr (inr (inl refl))))
+is_status (Some memory) = inr (inr (inr (inr (inr (inl refl)))))
+is_status (Some (absent name)) = inr (inr (inr (inr (inr (inr (inl refl))))))
+is_status (Some limit) = inr (inr (inr (inr (inr (inr (inr (inl refl)))))))
 
--- status 1 is that of wrong words alone
-is_usage : (outcome : Option Cause) → status_of outcome ≡ 1 → outcome ≡ Some usage
-is_usage None e = absurd (omega arith)
-is_usage (Some usage) e = refl
-is_usage (Some (refused entry refusal)) e = absurd (omega arith)
-is_usage (Some write) e = absurd (omega arith)
-is_usage (Some store) e = absurd (omega arith)
-is_usage (Some memory) e = absurd (omega arith)
-is_usage (Some (absent name)) e = absurd (omega arith)
-is_usage (Some limit) e = absurd (omega arith)
+-- ---- the list
 
-no_usage : (patterns file : List ℕ) (before now : Outside) (outcome : Option Cause) → MatchEnds patterns file before now outcome → outcome ≡ Some usage → ⊥
-no_usage patterns file before now _ (Answers.done P list written none) e = cc
-no_usage patterns file before now _ (Answers.no_list missing nothing none) e = cc
-no_usage patterns file before now _ (Answers.list_failed nothing rose) e = cc
-no_usage patterns file before now _ (Answers.long_list longer nothing none) e = cc
-no_usage patterns file before now _ (Answers.list_refused entry refusal has nothing none) e = cc
-no_usage patterns file before now _ (Answers.no_memory nothing none) e = cc
-no_usage patterns file before now _ (Answers.no_file P list missing begun none) e = cc
-no_usage patterns file before now _ (Answers.file_failed P list begun rose) e = cc
-no_usage patterns file before now _ (Answers.long_file P list longer begun none) e = cc
-no_usage patterns file before now _ (Answers.sink_failed P list begun rose) e = cc
+-- a list is refused with status 2 or 4
+refused_status : {kind : ListKind} {file : List ℕ} {cause : Cause} → IsRefused kind file cause → (status_of_cause cause ≡ 2) ⊎ (status_of_cause cause ≡ 4)
+refused_status (bad_form (bad_line bad)) = inl refl
+refused_status (bad_form (bad_bytes place)) = inr refl
+refused_status (bad_entry list first) = inl refl
 
-usage_request : (request : Option Request) (before now : Outside) (outcome : Option Cause) → Ends request before now outcome → outcome ≡ Some usage → request ≡ None
+refused_as : {kind : ListKind} {file : List ℕ} {cause : Cause} (n : ℕ) → IsRefused kind file cause → status_of_cause cause ≡ n → (n ≡ 2 → ⊥) → (n ≡ 4 → ⊥) → ⊥
+refused_as n bad e two four =
+    elim (refused_status bad) [
+      | inl is ↦ two (sym e ∙ is)
+      | inr is ↦ four (sym e ∙ is)
+    ]
+
+stops_usage : {kind : ListKind} {name : List ℕ} {told : Told} {before now : ℕ} {cause : Cause} → StopsList kind name told before now cause → status_of_cause cause ≡ 1 → ⊥
+stops_usage (Answers.no_list missing none) e = omega (arith, e)
+stops_usage (Answers.list_failed rose) e = omega (arith, e)
+stops_usage (Answers.long_list longer none) e = omega (arith, e)
+stops_usage (Answers.list_refused has none) e = refused_as 1 has.refused e (λ x. omega (arith, x)) (λ x. omega (arith, x))
+stops_usage (Answers.no_memory none) e = omega (arith, e)
+
+stops_rose : {kind : ListKind} {name : List ℕ} {told : Told} {before now : ℕ} {cause : Cause} → StopsList kind name told before now cause → status_of_cause cause ≡ 3 → Rose before now
+stops_rose (Answers.no_list missing none) e = absurd (omega (arith, e))
+stops_rose (Answers.list_failed rose) e = rose
+stops_rose (Answers.long_list longer none) e = absurd (omega (arith, e))
+stops_rose (Answers.list_refused has none) e = absurd (refused_as 3 has.refused e (λ x. omega (arith, x)) (λ x. omega (arith, x)))
+stops_rose (Answers.no_memory none) e = absurd (omega (arith, e))
+
+-- ---- status 1: wrong words alone
+
+scan_usage : {kind : ListKind} {list file : List ℕ} {before now : Outside} {outcome : Option Cause} → ScanEnds kind list file before now outcome → status_of outcome ≡ 1 → ⊥
+scan_usage (Answers.done entries P has written none) e = omega (arith, e)
+scan_usage (Answers.stopped cause early) e = stops_usage early.stops e
+scan_usage (Answers.no_file entries P has missing nothing none) e = omega (arith, e)
+scan_usage (Answers.file_failed entries P has begun rose) e = omega (arith, e)
+scan_usage (Answers.long_file entries P has longer begun none) e = omega (arith, e)
+scan_usage (Answers.sink_failed entries P has begun rose) e = omega (arith, e)
+
+tell_usage : {IsText : List ListedEntry → List ℕ → Type 0} {kind : ListKind} {list : List ℕ} {before now : Outside} {outcome : Option Cause} → TellEnds IsText kind list before now outcome → status_of outcome ≡ 1 → ⊥
+tell_usage (Answers.done entries P text has is taken none) e = omega (arith, e)
+tell_usage (Answers.stopped cause early) e = stops_usage early.stops e
+tell_usage (Answers.sink_failed entries P text has is taken rose) e = omega (arith, e)
+
+compile_usage : {patterns database : List ℕ} {before now : Outside} {outcome : Option Cause} → CompileEnds patterns database before now outcome → status_of outcome ≡ 1 → ⊥
+compile_usage (Answers.done entries P bytes has is put taken none) e = omega (arith, e)
+compile_usage (Answers.stopped cause early kept) e = stops_usage early.stops e
+compile_usage (Answers.put_failed entries P has spoils nothing rose) e = omega (arith, e)
+compile_usage (Answers.sink_failed entries P bytes has is put taken rose) e = omega (arith, e)
+
+usage_request : (request : Option Request) (before now : Outside) (outcome : Option Cause) → Ends request before now outcome → status_of outcome ≡ 1 → request ≡ None
 usage_request None before now outcome ends e = refl
-usage_request (Some (match_file patterns file)) before now outcome ends e = absurd (no_usage patterns file before now outcome ends e)
+usage_request (Some (match_file patterns file)) before now outcome ends e = absurd (scan_usage ends e)
+usage_request (Some (check_list patterns)) before now outcome ends e = absurd (tell_usage ends e)
+usage_request (Some (compile_list patterns database)) before now outcome ends e = absurd (compile_usage ends e)
+usage_request (Some (tell_database database)) before now outcome ends e = absurd (tell_usage ends e)
+usage_request (Some (scan_file database file)) before now outcome ends e = absurd (scan_usage ends e)
 
-request_usage : (request : Option Request) (before now : Outside) (outcome : Option Cause) → Ends request before now outcome → request ≡ None → outcome ≡ Some usage
-request_usage None before now outcome ends e = ends.0
-request_usage (Some (match_file patterns file)) before now outcome ends e = absurd (cc)
+request_usage : (request : Option Request) (before now : Outside) (outcome : Option Cause) → Ends request before now outcome → request ≡ None → (status_of outcome ≡ 1) ⊎ (status_of outcome ≡ 6)
+request_usage None before now outcome ends e =
+    elim ends.cause [
+      | inl wrong ↦ inl (ap status_of wrong)
+      | inr wanted ↦ inr (ap status_of wanted)
+    ]
+request_usage (Some request) before now outcome ends e = absurd (cc)
 
-match_rose : (patterns file : List ℕ) (before now : Outside) (outcome : Option Cause) → MatchEnds patterns file before now outcome → status_of outcome ≡ 3 → Rose before.stored now.stored ⊎ Rose before.sunk now.sunk
-match_rose patterns file before now _ (Answers.done P list written none) e = absurd (omega arith)
-match_rose patterns file before now _ (Answers.no_list missing nothing none) e = absurd (omega arith)
-match_rose patterns file before now _ (Answers.list_failed nothing rose) e = inl rose
-match_rose patterns file before now _ (Answers.long_list longer nothing none) e = absurd (omega arith)
-match_rose patterns file before now _ (Answers.list_refused entry refusal has nothing none) e = absurd (omega arith)
-match_rose patterns file before now _ (Answers.no_memory nothing none) e = absurd (omega arith)
-match_rose patterns file before now _ (Answers.no_file P list missing begun none) e = absurd (omega arith)
-match_rose patterns file before now _ (Answers.file_failed P list begun rose) e = inl rose
-match_rose patterns file before now _ (Answers.long_file P list longer begun none) e = absurd (omega arith)
-match_rose patterns file before now _ (Answers.sink_failed P list begun rose) e = inr rose
+-- ---- status 3: a call failed
+
+scan_rose : {kind : ListKind} {list file : List ℕ} {before now : Outside} {outcome : Option Cause} → ScanEnds kind list file before now outcome → status_of outcome ≡ 3 → Rose before.stored now.stored ⊎ Rose before.sunk now.sunk
+scan_rose (Answers.done entries P has written none) e = absurd (omega (arith, e))
+scan_rose (Answers.stopped cause early) e = inl (stops_rose early.stops e)
+scan_rose (Answers.no_file entries P has missing nothing none) e = absurd (omega (arith, e))
+scan_rose (Answers.file_failed entries P has begun rose) e = inl rose
+scan_rose (Answers.long_file entries P has longer begun none) e = absurd (omega (arith, e))
+scan_rose (Answers.sink_failed entries P has begun rose) e = inr rose
+
+tell_rose : {IsText : List ListedEntry → List ℕ → Type 0} {kind : ListKind} {list : List ℕ} {before now : Outside} {outcome : Option Cause} → TellEnds IsText kind list before now outcome → status_of outcome ≡ 3 → Rose before.stored now.stored ⊎ Rose before.sunk now.sunk
+tell_rose (Answers.done entries P text has is taken none) e = absurd (omega (arith, e))
+tell_rose (Answers.stopped cause early) e = inl (stops_rose early.stops e)
+tell_rose (Answers.sink_failed entries P text has is taken rose) e = inr rose
+
+compile_rose : {patterns database : List ℕ} {before now : Outside} {outcome : Option Cause} → CompileEnds patterns database before now outcome → status_of outcome ≡ 3 → Rose before.stored now.stored ⊎ Rose before.sunk now.sunk
+compile_rose (Answers.done entries P bytes has is put taken none) e = absurd (omega (arith, e))
+compile_rose (Answers.stopped cause early kept) e = inl (stops_rose early.stops e)
+compile_rose (Answers.put_failed entries P has spoils nothing rose) e = inl rose
+compile_rose (Answers.sink_failed entries P bytes has is put taken rose) e = inr rose
 
 ends_rose : (request : Option Request) (before now : Outside) (outcome : Option Cause) → Ends request before now outcome → status_of outcome ≡ 3 → Rose before.stored now.stored ⊎ Rose before.sunk now.sunk
-ends_rose None before now outcome ends e = absurd (let same = ap status_of ends.0 in omega arith)
-ends_rose (Some (match_file patterns file)) before now outcome ends e = match_rose patterns file before now outcome ends e
+ends_rose None before now outcome ends e =
+    absurd (elim ends.cause [
+      | inl wrong ↦ (let same = ap status_of wrong in omega (arith, e, same))
+      | inr wanted ↦ (let same = ap status_of wanted in omega (arith, e, same))
+    ])
+ends_rose (Some (match_file patterns file)) before now outcome ends e = scan_rose ends e
+ends_rose (Some (check_list patterns)) before now outcome ends e = tell_rose ends e
+ends_rose (Some (compile_list patterns database)) before now outcome ends e = compile_rose ends e
+ends_rose (Some (tell_database database)) before now outcome ends e = tell_rose ends e
+ends_rose (Some (scan_file database file)) before now outcome ends e = scan_rose ends e
+
+-- ---- the silent statuses
 
 -- another status isn't silent
-loud : (n : ℕ) → (n ≡ 1 → ⊥) × (n ≡ 2 → ⊥) × (n ≡ 6 → ⊥) × (n ≡ 7 → ⊥) → IsSilentStatus n → ⊥
+loud : (n : ℕ) → (n ≡ 1 → ⊥) × (n ≡ 2 → ⊥) × (n ≡ 4 → ⊥) × (n ≡ 6 → ⊥) × (n ≡ 7 → ⊥) → IsSilentStatus n → ⊥
 loud n apart (inl e) = apart.0 e
 loud n apart (inr (inl e)) = apart.1 e
 loud n apart (inr (inr (inl e))) = apart.2 e
 loud n apart (inr (inr (inr (inl e)))) = apart.3 e
-loud n apart (inr (inr (inr (inr e)))) = e
+loud n apart (inr (inr (inr (inr (inl e))))) = apart.4 e
+loud n apart (inr (inr (inr (inr (inr e))))) = e
 
-match_silent : (patterns file : List ℕ) (before now : Outside) (outcome : Option Cause) → MatchEnds patterns file before now outcome → IsSilentStatus (status_of outcome) → Took before.out now.out []
-match_silent patterns file before now _ (Answers.done P list written none) e = absurd (loud 0 (λ x. omega arith, λ x. omega arith, λ x. omega arith, λ x. omega arith) e)
-match_silent patterns file before now _ (Answers.no_list missing nothing none) e = nothing
-match_silent patterns file before now _ (Answers.list_failed nothing rose) e = nothing
-match_silent patterns file before now _ (Answers.long_list longer nothing none) e = nothing
-match_silent patterns file before now _ (Answers.list_refused entry refusal has nothing none) e = nothing
-match_silent patterns file before now _ (Answers.no_memory nothing none) e = nothing
-match_silent patterns file before now _ (Answers.no_file P list missing nothing none) e = nothing
-match_silent patterns file before now _ (Answers.file_failed P list begun rose) e = absurd (loud 3 (λ x. omega arith, λ x. omega arith, λ x. omega arith, λ x. omega arith) e)
-match_silent patterns file before now _ (Answers.long_file P list longer begun none) e = absurd (loud 8 (λ x. omega arith, λ x. omega arith, λ x. omega arith, λ x. omega arith) e)
-match_silent patterns file before now _ (Answers.sink_failed P list begun rose) e = absurd (loud 3 (λ x. omega arith, λ x. omega arith, λ x. omega arith, λ x. omega arith) e)
+-- 0, 3 and 8 aren't silent
+loud-done : IsSilentStatus 0 → ⊥
+loud-done e = loud 0 (λ x. omega (arith, x), λ x. omega (arith, x), λ x. omega (arith, x), λ x. omega (arith, x), λ x. omega (arith, x)) e
+
+loud-failed : IsSilentStatus 3 → ⊥
+loud-failed e = loud 3 (λ x. omega (arith, x), λ x. omega (arith, x), λ x. omega (arith, x), λ x. omega (arith, x), λ x. omega (arith, x)) e
+
+loud-long : IsSilentStatus 8 → ⊥
+loud-long e = loud 8 (λ x. omega (arith, x), λ x. omega (arith, x), λ x. omega (arith, x), λ x. omega (arith, x), λ x. omega (arith, x)) e
+
+scan_silent : {kind : ListKind} {list file : List ℕ} {before now : Outside} {outcome : Option Cause} → ScanEnds kind list file before now outcome → IsSilentStatus (status_of outcome) → Took before.out now.out []
+scan_silent (Answers.done entries P has written none) e = absurd (loud-done e)
+scan_silent (Answers.stopped cause early) e = early.quiet
+scan_silent (Answers.no_file entries P has missing nothing none) e = nothing
+scan_silent (Answers.file_failed entries P has begun rose) e = absurd (loud-failed e)
+scan_silent (Answers.long_file entries P has longer begun none) e = absurd (loud-long e)
+scan_silent (Answers.sink_failed entries P has begun rose) e = absurd (loud-failed e)
+
+tell_silent : {IsText : List ListedEntry → List ℕ → Type 0} {kind : ListKind} {list : List ℕ} {before now : Outside} {outcome : Option Cause} → TellEnds IsText kind list before now outcome → IsSilentStatus (status_of outcome) → Took before.out now.out []
+tell_silent (Answers.done entries P text has is taken none) e = absurd (loud-done e)
+tell_silent (Answers.stopped cause early) e = early.quiet
+tell_silent (Answers.sink_failed entries P text has is taken rose) e = absurd (loud-failed e)
+
+compile_silent : {patterns database : List ℕ} {before now : Outside} {outcome : Option Cause} → CompileEnds patterns database before now outcome → IsSilentStatus (status_of outcome) → Took before.out now.out []
+compile_silent (Answers.done entries P bytes has is put taken none) e = absurd (loud-done e)
+compile_silent (Answers.stopped cause early kept) e = early.quiet
+compile_silent (Answers.put_failed entries P has spoils nothing rose) e = nothing
+compile_silent (Answers.sink_failed entries P bytes has is put taken rose) e = absurd (loud-failed e)
 
 ends_silent : (request : Option Request) (before now : Outside) (outcome : Option Cause) → Ends request before now outcome → IsSilentStatus (status_of outcome) → Took before.out now.out []
-ends_silent None before now outcome ends e = ends.1
-ends_silent (Some (match_file patterns file)) before now outcome ends e = match_silent patterns file before now outcome ends e
+ends_silent None before now outcome ends e = ends.quiet
+ends_silent (Some (match_file patterns file)) before now outcome ends e = scan_silent ends e
+ends_silent (Some (check_list patterns)) before now outcome ends e = tell_silent ends e
+ends_silent (Some (compile_list patterns database)) before now outcome ends e = compile_silent ends e
+ends_silent (Some (tell_database database)) before now outcome ends e = tell_silent ends e
+ends_silent (Some (scan_file database file)) before now outcome ends e = scan_silent ends e
+
+compile_unput : {patterns database : List ℕ} {before now : Outside} {outcome : Option Cause} → CompileEnds patterns database before now outcome → IsSilentStatus (status_of outcome) → now.told ≡ before.told
+compile_unput (Answers.done entries P bytes has is put taken none) e = absurd (loud-done e)
+compile_unput (Answers.stopped cause early kept) e = kept
+compile_unput (Answers.put_failed entries P has spoils nothing rose) e = absurd (loud-failed e)
+compile_unput (Answers.sink_failed entries P bytes has is put taken rose) e = absurd (loud-failed e)
+
+ends_unput : (request : Option Request) (before now : Outside) (outcome : Option Cause) → Ends request before now outcome → KeepsFiles request before.told now.told → IsSilentStatus (status_of outcome) → now.told ≡ before.told
+ends_unput None before now outcome ends kept e = kept
+ends_unput (Some (match_file patterns file)) before now outcome ends kept e = kept
+ends_unput (Some (check_list patterns)) before now outcome ends kept e = kept
+ends_unput (Some (compile_list patterns database)) before now outcome ends kept e = compile_unput ends e
+ends_unput (Some (tell_database database)) before now outcome ends kept e = kept
+ends_unput (Some (scan_file database file)) before now outcome ends kept e = kept
 
 -- ---- of an answer
 
 pub answer_status : {request : Option Request} {before now : Outside} {err erred : Option (List ℕ)} {count counted status : ℕ} → IsAnswer request before now err erred count counted status → IsStatus status
 answer_status answer = subst IsStatus (sym answer.ended) (is_status answer.outcome)
 
-pub answer_usage : {request : Option Request} {before now : Outside} {err erred : Option (List ℕ)} {count counted status : ℕ} → IsAnswer request before now err erred count counted status → (status ≡ 1) ↔ (request ≡ None)
-answer_usage {request} {before} {now} answer = (
-  λ e. usage_request request before now answer.outcome answer.ends (is_usage answer.outcome (sym answer.ended ∙ e)),
-  λ e. answer.ended ∙ ap status_of (request_usage request before now answer.outcome answer.ends e),
-)
+pub answer_usage : {request : Option Request} {before now : Outside} {err erred : Option (List ℕ)} {count counted status : ℕ} → IsAnswer request before now err erred count counted status → status ≡ 1 → request ≡ None
+answer_usage {request} {before} {now} answer e = usage_request request before now answer.outcome answer.ends (sym answer.ended ∙ e)
+
+pub answer_no_command : {request : Option Request} {before now : Outside} {err erred : Option (List ℕ)} {count counted status : ℕ} → IsAnswer request before now err erred count counted status → request ≡ None → (status ≡ 1) ⊎ (status ≡ 6)
+answer_no_command {request} {before} {now} answer e =
+    elim (request_usage request before now answer.outcome answer.ends e) [
+      | inl wrong ↦ inl (answer.ended ∙ wrong)
+      | inr wanted ↦ inr (answer.ended ∙ wanted)
+    ]
 
 pub answer_fault : {request : Option Request} {before now : Outside} {err erred : Option (List ℕ)} {count counted status : ℕ} → IsAnswer request before now err erred count counted status → status ≡ 3 → Rose before.stored now.stored ⊎ Rose before.sunk now.sunk
 answer_fault {request} {before} {now} answer e = ends_rose request before now answer.outcome answer.ends (sym answer.ended ∙ e)
 
 pub answer_silent : {request : Option Request} {before now : Outside} {err erred : Option (List ℕ)} {count counted status : ℕ} → IsAnswer request before now err erred count counted status → IsSilentStatus status → Took before.out now.out []
 answer_silent {request} {before} {now} answer e = ends_silent request before now answer.outcome answer.ends (subst IsSilentStatus answer.ended e)
+
+pub answer_unput : {request : Option Request} {before now : Outside} {err erred : Option (List ℕ)} {count counted status : ℕ} → IsAnswer request before now err erred count counted status → KeepsFiles request before.told now.told → IsSilentStatus status → now.told ≡ before.told
+answer_unput {request} {before} {now} answer kept e = ends_unput request before now answer.outcome answer.ends kept (subst IsSilentStatus answer.ended e)
 
 pub answer_complete : {request : Option Request} {before now : Outside} {err erred : Option (List ℕ)} {count counted status : ℕ} → IsAnswer request before now err erred count counted status → (due : Option Cause) → IsDue before.told request due → (Rose before.stored now.stored → ⊥) → (Rose before.sunk now.sunk → ⊥) → (status ≡ status_of due) ⊎ (status ≡ 6)
 answer_complete answer due is quiet still =

@@ -1,19 +1,22 @@
 -- The answers of the program: each with what it says of the store, the sink and the files.
-use Rattle.std.specs.Prelude.{◌≡◌, ℕ, ◌<◌, ◌≤◌, ◌⊎◌, List, [], ◌∷◌, ◌++◌, length, Option, Some, None}
-use Rattle.hs_base.specs.Lists.{OneOf}
-use Rattle.hs_base.specs.declared.entry.ExprId.{ExprId}
-use Rattle.hs_base.specs.declared.refusal.Refusal.{Refusal}
+use Rattle.std.specs.Prelude.{◌≡◌, ◌↔◌, ℕ, ◌<◌, ◌≤◌, ◌⊎◌, List, [], ◌∷◌, ◌++◌, length, map, Option, Some, None}
+use Rattle.hs_base.specs.Lists.{OneOf, IsMember}
+use Rattle.hs_base.specs.Entries.{ListedEntry}
 use Rattle.hs_base.specs.Patterns.{Pattern}
+use Rattle.hs_base.specs.Settling.{AreRising}
 use Rattle.hs_base.specs.MatchText.{IsMatchText}
 use Rattle.hs_outside.specs.Counts.{Rose}
 use Rattle.hs_outside.specs.Sink.{Took, TookPrefix}
-use Rattle.hs_outside.specs.Store.{Told, lacks, holds, IsFile, IsLonger, IsMissing}
+use Rattle.hs_outside.specs.Store.{Told, lacks, holds, IsFile, IsLonger, IsMissing, PutsOrHides, Spoils, KeepsOthers, TellsNothing}
+use Rattle.hs_text.specs.AnswerLines.{accepted_line, compiled_line, info_lines}
+use Rattle.hs_dbfile.specs.Files.{IsDatabaseFile}
+use Rattle.hs_request.specs.Requests.{Request, match_file, check_list, compile_list, tell_database, scan_file}
+use Rattle.hs_tool.specs.Commands.{ListKind, pattern_file, database_file, list_kind, list_name, scanned_name}
 use Rattle.hs_tool.specs.Accepting.{IsAccepted, IsRefused}
-use Rattle.hs_tool.specs.Scanning.{greatest_offset}
-use Rattle.hs_tool.specs.Requests.{Request, match_file}
-use Rattle.hs_tool.specs.Causes.{Cause, usage, refused, write, store, absent, limit, memory, status_of, line_of}
+use Rattle.hs_scan.specs.Scanning.{greatest_offset}
+use Rattle.hs_tool.specs.Causes.{Cause, usage, write, store, absent, limit, memory, status_of, line_of}
 
--- the greatest length of a pattern file, 2^31 bytes
+-- the greatest length of a pattern file or a database file, 2^31 bytes
 abbrev pub greatest_list : ℕ
 greatest_list = 2147483648
 
@@ -33,19 +36,37 @@ pub record NoFault (before now : Outside) : Type 0 where
 abbrev pub TookNothing : Outside → Outside → Type 0
 TookNothing before now = Took before.out now.out []
 
--- The pattern file is there, not too long, and accepted as this list.
-pub record HasList (told : Told) (P : List Pattern) : Type 0 where
-  pub bytes : List ℕ
-  pub file : IsFile told bytes
-  pub within : length bytes ≤ greatest_list
-  pub accepted : IsAccepted bytes P
+-- ---- the list of a command
 
--- The pattern file is there, not too long, and refused.
-pub record HasRefusedList (told : Told) (entry : Option (ℕ × ExprId)) (refusal : Refusal) : Type 0 where
+-- The file of the list is there, not too long, and accepted as these patterns.
+pub record HasList (kind : ListKind) (told : Told) (entries : List ListedEntry) (P : List Pattern) : Type 0 where
   pub bytes : List ℕ
   pub file : IsFile told bytes
   pub within : length bytes ≤ greatest_list
-  pub refused : IsRefused bytes entry refusal
+  pub accepted : IsAccepted kind bytes entries P
+
+-- The file of the list is there, not too long, and refused.
+pub record HasRefusedList (kind : ListKind) (told : Told) (cause : Cause) : Type 0 where
+  pub bytes : List ℕ
+  pub file : IsFile told bytes
+  pub within : length bytes ≤ greatest_list
+  pub refused : IsRefused kind bytes cause
+
+-- Why a list isn't loaded from the file of this name, with the store's count of faults before and now.
+pub data StopsList (kind : ListKind) (name : List ℕ) (told : Told) (before now : ℕ) : Cause → Type 0 where
+  no_list : IsMissing told → now ≡ before → StopsList kind name told before now (absent name)
+  list_failed : Rose before now → StopsList kind name told before now store
+  long_list : IsLonger told greatest_list → now ≡ before → StopsList kind name told before now limit
+  list_refused : {cause : Cause} → HasRefusedList kind told cause → now ≡ before → StopsList kind name told before now cause
+  no_memory : now ≡ before → StopsList kind name told before now memory
+
+-- The list isn't loaded, and nothing is written.
+pub record StopsEarly (kind : ListKind) (list : List ℕ) (before now : Outside) (cause : Cause) : Type 0 where
+  pub stops : StopsList kind list (before.told list) before.stored now.stored cause
+  pub quiet : TookNothing before now
+  pub still : now.sunk ≡ before.sunk
+
+-- ---- the endings of the commands
 
 -- The sink took the text of the match of the whole file under the list.
 pub record HasWritten (told : Told) (P : List Pattern) (before now : Option (List ℕ)) : Type 0 where
@@ -62,40 +83,94 @@ pub record HasBegun (told : Told) (P : List Pattern) (before now : Option (List 
   pub taken : Took before now front
   pub begins : (bytes text : List ℕ) → told ≡ holds bytes → IsMatchText P bytes text → (rest : List ℕ) × (text ≡ front ++ rest)
 
--- How `match PATTERNS FILE` may end: done, or by a cause.
-pub data MatchEnds (patterns file : List ℕ) (before now : Outside) : Option Cause → Type 0 where
-  done : (P : List Pattern) → HasList (before.told patterns) P → HasWritten (before.told file) P before.out now.out → NoFault before now → MatchEnds patterns file before now None
-  -- the pattern file
-  no_list : IsMissing (before.told patterns) → TookNothing before now → NoFault before now → MatchEnds patterns file before now (Some (absent patterns))
-  list_failed : TookNothing before now → Rose before.stored now.stored → MatchEnds patterns file before now (Some store)
-  long_list : IsLonger (before.told patterns) greatest_list → TookNothing before now → NoFault before now → MatchEnds patterns file before now (Some limit)
-  list_refused : (entry : Option (ℕ × ExprId)) (refusal : Refusal) → HasRefusedList (before.told patterns) entry refusal → TookNothing before now → NoFault before now → MatchEnds patterns file before now (Some (refused entry refusal))
-  no_memory : TookNothing before now → NoFault before now → MatchEnds patterns file before now (Some memory)
-  -- the file
-  no_file : (P : List Pattern) → HasList (before.told patterns) P → IsMissing (before.told file) → TookNothing before now → NoFault before now → MatchEnds patterns file before now (Some (absent file))
-  file_failed : (P : List Pattern) → HasList (before.told patterns) P → HasBegun (before.told file) P before.out now.out → Rose before.stored now.stored → MatchEnds patterns file before now (Some store)
-  long_file : (P : List Pattern) → HasList (before.told patterns) P → IsLonger (before.told file) greatest_offset → HasBegun (before.told file) P before.out now.out → NoFault before now → MatchEnds patterns file before now (Some limit)
-  sink_failed : (P : List Pattern) → HasList (before.told patterns) P → HasBegun (before.told file) P before.out now.out → Rose before.sunk now.sunk → MatchEnds patterns file before now (Some write)
+-- How a command may end that scans the file with the list: done, or by a cause.
+pub data ScanEnds (kind : ListKind) (list file : List ℕ) (before now : Outside) : Option Cause → Type 0 where
+  done : (entries : List ListedEntry) (P : List Pattern) → HasList kind (before.told list) entries P → HasWritten (before.told file) P before.out now.out → NoFault before now → ScanEnds kind list file before now None
+  stopped : (cause : Cause) → StopsEarly kind list before now cause → ScanEnds kind list file before now (Some cause)
+  no_file : (entries : List ListedEntry) (P : List Pattern) → HasList kind (before.told list) entries P → IsMissing (before.told file) → TookNothing before now → NoFault before now → ScanEnds kind list file before now (Some (absent file))
+  file_failed : (entries : List ListedEntry) (P : List Pattern) → HasList kind (before.told list) entries P → HasBegun (before.told file) P before.out now.out → Rose before.stored now.stored → ScanEnds kind list file before now (Some store)
+  long_file : (entries : List ListedEntry) (P : List Pattern) → HasList kind (before.told list) entries P → IsLonger (before.told file) greatest_offset → HasBegun (before.told file) P before.out now.out → NoFault before now → ScanEnds kind list file before now (Some limit)
+  sink_failed : (entries : List ListedEntry) (P : List Pattern) → HasList kind (before.told list) entries P → HasBegun (before.told file) P before.out now.out → Rose before.sunk now.sunk → ScanEnds kind list file before now (Some write)
+
+-- How a command may end that writes a text on the list.
+pub data TellEnds (IsText : List ListedEntry → List ℕ → Type 0) (kind : ListKind) (list : List ℕ) (before now : Outside) : Option Cause → Type 0 where
+  done : (entries : List ListedEntry) (P : List Pattern) (text : List ℕ) → HasList kind (before.told list) entries P → IsText entries text → Took before.out now.out text → NoFault before now → TellEnds IsText kind list before now None
+  stopped : (cause : Cause) → StopsEarly kind list before now cause → TellEnds IsText kind list before now (Some cause)
+  sink_failed : (entries : List ListedEntry) (P : List Pattern) (text : List ℕ) → HasList kind (before.told list) entries P → IsText entries text → TookPrefix before.out now.out text → Rose before.sunk now.sunk → TellEnds IsText kind list before now (Some write)
+
+-- that the list is accepted, with how many entries it has
+abbrev pub IsAcceptedText : List ListedEntry → List ℕ → Type 0
+IsAcceptedText entries text = text ≡ accepted_line (length entries)
+
+-- what a database holds: how many entries, and how many identifiers, each counted once
+pub record IsInfoText (entries : List ListedEntry) (text : List ℕ) : Type 0 where
+  pub identifiers : List ℕ
+  pub once : AreRising identifiers
+  pub same : (id : ℕ) → IsMember id identifiers ↔ IsMember id (map (λ entry. entry.id) entries)
+  pub whole : text ≡ info_lines (length entries) (length identifiers)
+
+-- How `compile PATTERNS DB` may end.
+pub data CompileEnds (patterns database : List ℕ) (before now : Outside) : Option Cause → Type 0 where
+  done : (entries : List ListedEntry) (P : List Pattern) (bytes : List ℕ) → HasList pattern_file (before.told patterns) entries P → IsDatabaseFile bytes entries → PutsOrHides before.told now.told database bytes → Took before.out now.out (compiled_line (length entries) (length bytes)) → NoFault before now → CompileEnds patterns database before now None
+  stopped : (cause : Cause) → StopsEarly pattern_file patterns before now cause → now.told ≡ before.told → CompileEnds patterns database before now (Some cause)
+  put_failed : (entries : List ListedEntry) (P : List Pattern) → HasList pattern_file (before.told patterns) entries P → Spoils before.told now.told database → TookNothing before now → Rose before.stored now.stored → CompileEnds patterns database before now (Some store)
+  sink_failed : (entries : List ListedEntry) (P : List Pattern) (bytes : List ℕ) → HasList pattern_file (before.told patterns) entries P → IsDatabaseFile bytes entries → PutsOrHides before.told now.told database bytes → TookPrefix before.out now.out (compiled_line (length entries) (length bytes)) → Rose before.sunk now.sunk → CompileEnds patterns database before now (Some write)
+
+-- How the program may end where the words are no command: it says so, or memory was wanted to read them.
+pub record UsageEnds (before now : Outside) (outcome : Option Cause) : Type 0 where
+  pub cause : (outcome ≡ Some usage) ⊎ (outcome ≡ Some memory)
+  pub quiet : TookNothing before now
+  pub none : NoFault before now
 
 -- How the program may end on a command line: one case for each command.
 abbrev pub Ends : Option Request → Outside → Outside → Option Cause → Type 0
-Ends None before now outcome = (outcome ≡ Some usage) × TookNothing before now × NoFault before now
-Ends (Some (match_file patterns file)) before now outcome = MatchEnds patterns file before now outcome
+Ends None before now outcome = UsageEnds before now outcome
+Ends (Some (match_file patterns file)) before now outcome = ScanEnds pattern_file patterns file before now outcome
+Ends (Some (check_list patterns)) before now outcome = TellEnds IsAcceptedText pattern_file patterns before now outcome
+Ends (Some (compile_list patterns database)) before now outcome = CompileEnds patterns database before now outcome
+Ends (Some (tell_database database)) before now outcome = TellEnds IsInfoText database_file database before now outcome
+Ends (Some (scan_file database file)) before now outcome = ScanEnds database_file database file before now outcome
+
+-- The files are as they were, but for the one that `compile` puts; with its put a store may stop telling of any.
+abbrev pub KeepsFiles : Option Request → (List ℕ → Told) → (List ℕ → Told) → Type 0
+KeepsFiles (Some (compile_list patterns database)) before now = KeepsOthers before now database ⊎ TellsNothing now
+KeepsFiles request before now = now ≡ before
+
+-- ---- the answer that is due
+
+-- Where the store tells the file of the list, it isn't loaded by this cause.
+pub data IsListDue (kind : ListKind) (name : List ℕ) (told : Told) : Cause → Type 0 where
+  no_list : told ≡ lacks → IsListDue kind name told (absent name)
+  long_list : (bytes : List ℕ) → told ≡ holds bytes → greatest_list < length bytes → IsListDue kind name told limit
+  list_refused : {cause : Cause} (bytes : List ℕ) → told ≡ holds bytes → length bytes ≤ greatest_list → IsRefused kind bytes cause → IsListDue kind name told cause
+
+-- The store tells the file of the list, and it is accepted.
+pub record TellsList (kind : ListKind) (told : Told) : Type 0 where
+  pub bytes : List ℕ
+  pub entries : List ListedEntry
+  pub patterns : List Pattern
+  pub here : told ≡ holds bytes
+  pub within : length bytes ≤ greatest_list
+  pub accepted : IsAccepted kind bytes entries patterns
 
 -- Where the store tells the files that the words name, one answer is due, in this order of causes.
 pub data IsDue (told : List ℕ → Told) : Option Request → Option Cause → Type 0 where
   no_command : IsDue told None (Some usage)
-  no_list : (patterns file : List ℕ) → told patterns ≡ lacks → IsDue told (Some (match_file patterns file)) (Some (absent patterns))
-  long_list : (patterns file bytes : List ℕ) → told patterns ≡ holds bytes → greatest_list < length bytes → IsDue told (Some (match_file patterns file)) (Some limit)
-  list_refused : (patterns file bytes : List ℕ) (entry : Option (ℕ × ExprId)) (refusal : Refusal) → told patterns ≡ holds bytes → length bytes ≤ greatest_list → IsRefused bytes entry refusal → IsDue told (Some (match_file patterns file)) (Some (refused entry refusal))
-  no_file : (patterns file bytes : List ℕ) (P : List Pattern) → told patterns ≡ holds bytes → length bytes ≤ greatest_list → IsAccepted bytes P → told file ≡ lacks → IsDue told (Some (match_file patterns file)) (Some (absent file))
-  long_file : (patterns file bytes contents : List ℕ) (P : List Pattern) → told patterns ≡ holds bytes → length bytes ≤ greatest_list → IsAccepted bytes P → told file ≡ holds contents → greatest_offset < length contents → IsDue told (Some (match_file patterns file)) (Some limit)
-  whole : (patterns file bytes contents : List ℕ) (P : List Pattern) → told patterns ≡ holds bytes → length bytes ≤ greatest_list → IsAccepted bytes P → told file ≡ holds contents → length contents ≤ greatest_offset → IsDue told (Some (match_file patterns file)) None
+  -- the list
+  unloaded : (request : Request) (cause : Cause) → IsListDue (list_kind request) (list_name request) (told (list_name request)) cause → IsDue told (Some request) (Some cause)
+  -- the file that is scanned
+  no_file : (request : Request) (file : List ℕ) → scanned_name request ≡ Some file → TellsList (list_kind request) (told (list_name request)) → told file ≡ lacks → IsDue told (Some request) (Some (absent file))
+  long_file : (request : Request) (file contents : List ℕ) → scanned_name request ≡ Some file → TellsList (list_kind request) (told (list_name request)) → told file ≡ holds contents → greatest_offset < length contents → IsDue told (Some request) (Some limit)
+  whole : (request : Request) (file contents : List ℕ) → scanned_name request ≡ Some file → TellsList (list_kind request) (told (list_name request)) → told file ≡ holds contents → length contents ≤ greatest_offset → IsDue told (Some request) None
+  -- no file is scanned
+  loaded : (request : Request) → scanned_name request ≡ None → TellsList (list_kind request) (told (list_name request)) → IsDue told (Some request) None
 
 -- The outcome is the one that is due, where one is and no call on the outside failed, or memory was wanted.
 abbrev pub IsDueOutcome : Option Request → Outside → Outside → Option Cause → Type 0
 IsDueOutcome request before now outcome =
     (due : Option Cause) → IsDue before.told request due → (Rose before.stored now.stored → ⊥) → (Rose before.sunk now.sunk → ⊥) → (outcome ≡ due) ⊎ (outcome ≡ Some memory)
+
+-- ---- the program
 
 -- The line was written, or a beginning of it where the sink failed.
 pub data Tells (line : List ℕ) (before now : Option (List ℕ)) (count counted : ℕ) : Type 0 where
@@ -112,8 +187,8 @@ pub record IsAnswer (request : Option Request) (before now : Outside) (err erred
 
 -- the statuses of the program
 abbrev pub IsStatus : ℕ → Type 0
-IsStatus status = OneOf (λ n. status ≡ n) (0 ∷ 1 ∷ 2 ∷ 3 ∷ 6 ∷ 7 ∷ 8 ∷ [])
+IsStatus status = OneOf (λ n. status ≡ n) (0 ∷ 1 ∷ 2 ∷ 3 ∷ 4 ∷ 6 ∷ 7 ∷ 8 ∷ [])
 
--- the statuses with which nothing was written to the sink: wrong words, a refusal, no memory, no file
+-- the statuses with which nothing was written to the sink: wrong words, a refusal, another form, no memory, no file
 abbrev pub IsSilentStatus : ℕ → Type 0
-IsSilentStatus status = OneOf (λ n. status ≡ n) (1 ∷ 2 ∷ 6 ∷ 7 ∷ [])
+IsSilentStatus status = OneOf (λ n. status ≡ n) (1 ∷ 2 ∷ 4 ∷ 6 ∷ 7 ∷ [])

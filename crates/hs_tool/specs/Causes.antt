@@ -3,8 +3,9 @@ use Rattle.std.specs.Prelude.{ℕ, List, [], ◌++◌, codes, Option, Some, None
 use Rattle.hs_base.specs.declared.entry.ExprId.{ExprId}
 use Rattle.hs_base.specs.declared.refusal.Refusal.{Refusal}
 use Rattle.hs_text.specs.RefusalLines.{refusal_line}
+use Rattle.hs_text.specs.AnswerLines.{form_line}
 use Rattle.hs_tool.specs.declared.fault.Fault.{Fault}
-use Rattle.hs_tool.specs.declared.fault.Fault.TheVariants.{Usage, Refused, Write, Store, Absent, Limit, Memory}
+use Rattle.hs_tool.specs.declared.fault.Fault.TheVariants.{Usage, Refused, Write, Store, Absent, Limit, Form, Memory}
 
 pub data Cause : Type 0 where
   -- the words are no command
@@ -19,6 +20,8 @@ pub data Cause : Type 0 where
   absent : List ℕ → Cause
   -- a file is longer than its limit
   limit : Cause
+  -- the bytes aren't a database file from this place on
+  form : ℕ → Cause
   -- memory was wanted
   memory : Cause
 
@@ -30,6 +33,7 @@ cause_of Write = write
 cause_of Store = store
 cause_of (Absent name) = absent name.now
 cause_of Limit = limit
+cause_of (Form at) = form at
 cause_of Memory = memory
 
 -- how a command ended: nothing, where it was done, else the cause
@@ -44,6 +48,7 @@ status_of_cause write = 3
 status_of_cause store = 3
 status_of_cause (absent name) = 7
 status_of_cause limit = 8
+status_of_cause (form at) = 4
 status_of_cause memory = 6
 
 -- the status: 0 where the command was done
@@ -58,6 +63,7 @@ line_of_cause write = codes "fault write\n"
 line_of_cause store = codes "fault store\n"
 line_of_cause (absent name) = codes "fault absent " ++ name ++ codes "\n"
 line_of_cause limit = codes "fault limit\n"
+line_of_cause (form at) = form_line at
 line_of_cause memory = codes "fault memory\n"
 
 -- the line on standard error: none where the command was done

@@ -1,9 +1,5 @@
 pub mod Accepting
-pub mod Running
-pub mod Passing
-pub mod Printing
-pub mod Scanning
-pub mod Requests
+pub mod Commands
 pub mod Causes
 pub mod Answers
 pub mod Loading

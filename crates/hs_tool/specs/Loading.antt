@@ -1,34 +1,30 @@
--- What the steps of a command that scans a file leave.
-use Rattle.std.specs.Prelude.{◌≡◌, ℕ, ◌≤◌, List, length}
-use Rattle.hs_outside.specs.Counts.{Rose}
-use Rattle.hs_outside.specs.Store.{Told, IsFile, IsLonger, IsMissing}
+-- What the steps of a command leave that loads a list.
+use Rattle.std.specs.Prelude.{◌≡◌, ℕ, ◌≤◌, List, length, map}
+use Rattle.hs_base.specs.Entries.{ListedEntry, listed}
 use Rattle.hs_base.specs.Patterns.{Pattern}
+use Rattle.hs_outside.specs.Store.{Told, IsFile}
 use Rattle.hs_compile.specs.declared.database.Database.{Database}
 use Rattle.hs_compile.specs.Databases.{IsDatabaseOf}
+use Rattle.hs_tool.specs.Commands.{ListKind}
 use Rattle.hs_tool.specs.Accepting.{IsAccepted}
-use Rattle.hs_tool.specs.Causes.{Cause, usage, refused, write, store, absent, limit, memory}
-use Rattle.hs_tool.specs.Answers.{greatest_list, HasRefusedList}
-use Rattle.hs_tool.specs.declared.scan.ScanFault.{ScanFault}
-use Rattle.hs_tool.specs.declared.scan.ScanFault.TheVariants.{Absent, Store, Write, Limit}
+use Rattle.hs_tool.specs.Causes.{Cause, write, store, absent, limit}
+use Rattle.hs_tool.specs.Answers.{greatest_list}
+use Rattle.hs_tool.specs.declared.load.Loaded.{Loaded}
+use Rattle.hs_scan.specs.declared.scan.ScanFault.{ScanFault}
+use Rattle.hs_scan.specs.declared.scan.ScanFault.TheVariants.{Absent, Store, Write, Limit}
 
--- The pattern file is there, not too long, and accepted, and the database is that of its patterns.
-pub record IsLoaded (told : Told) (database : Database) : Type 0 where
+-- the entries that are kept, as plain data
+abbrev pub entries_of : Loaded → List ListedEntry
+entries_of loaded = map listed loaded.entries.items
+
+-- The file of the list is there, not too long, and accepted, and these are its entries and the database of its patterns.
+pub record IsLoaded (kind : ListKind) (told : Told) (loaded : Loaded) : Type 0 where
   pub bytes : List ℕ
   pub file : IsFile told bytes
   pub within : length bytes ≤ greatest_list
   pub patterns : List Pattern
-  pub accepted : IsAccepted bytes patterns
-  pub runs : IsDatabaseOf database patterns
-
--- why the pattern file isn't loaded, with the store's count of faults before and now
-abbrev pub StopsLoad : List ℕ → Told → ℕ → ℕ → Cause → Type 0
-StopsLoad name told before now usage = ⊥
-StopsLoad name told before now (refused entry refusal) = HasRefusedList told entry refusal × (now ≡ before)
-StopsLoad name told before now write = ⊥
-StopsLoad name told before now store = Rose before now
-StopsLoad name told before now (absent other) = (other ≡ name) × IsMissing told × (now ≡ before)
-StopsLoad name told before now limit = IsLonger told greatest_list × (now ≡ before)
-StopsLoad name told before now memory = now ≡ before
+  pub accepted : IsAccepted kind bytes (entries_of loaded) patterns
+  pub runs : IsDatabaseOf loaded.database patterns
 
 -- the cause that a fault of the scan is
 abbrev pub StopsScan : List ℕ → ScanFault → Cause → Type 0

@@ -3,10 +3,11 @@ ghost use Rattle.std.specs.Prelude.{◌≡◌, ◌++◌, codes, OnOk, OnErr};
 ghost use Rattle.hs_outside.specs.Counts.{Rose};
 ghost use Rattle.hs_outside.specs.Sink.{Took, TookPrefix};
 ghost use Rattle.hs_text.specs.RefusalLines.{refusal_line as line_of_refusal};
+ghost use Rattle.hs_text.specs.AnswerLines.{form_line as line_of_form};
 
 use hs_base::{ExprId, Refusal};
 use hs_outside::{Failed, Sink, write_all};
-use hs_text::{LINE_LEN, refusal_line};
+use hs_text::{LINE_LEN, form_line, refusal_line};
 
 /// Why a command wasn't done.
 #[derive(Clone, Copy, Debug)]
@@ -23,6 +24,8 @@ pub enum Fault<'a> {
     Absent(&'a str),
     /// A file is longer than its limit.
     Limit,
+    /// The bytes aren't a database file from this place on.
+    Form(u64),
     /// Memory was wanted.
     Memory,
 }
@@ -41,6 +44,7 @@ impl Fault<'_> {
             Fault::Usage => 1,
             Fault::Refused(_, _) => 2,
             Fault::Write | Fault::Store => 3,
+            Fault::Form(_) => 4,
             Fault::Memory => 6,
             Fault::Absent(_) => 7,
             Fault::Limit => 8,
@@ -61,6 +65,7 @@ impl Fault<'_> {
             Fault::Store => write_all(err, b"fault store\n"),
             Fault::Absent(name) => tell_absent(name, err),
             Fault::Limit => write_all(err, b"fault limit\n"),
+            Fault::Form(at) => tell_form(*at, err),
             Fault::Memory => write_all(err, b"fault memory\n"),
         }
     }
@@ -79,6 +84,18 @@ fn tell_refusal<E: Sink>(
 {
     let mut line = [0; LINE_LEN];
     let len = refusal_line(entry, refusal, &mut line);
+    write_all(err, &line[..len])
+}
+
+/// Writes the line `fault database AT`.
+fn tell_form<E: Sink>(at: u64, err: &mut E) -> Result<(), Failed>
+    ensures told { OnOk result (Took (E.written err.old) (E.written err.new) (line_of_form at)) }
+    ensures counted { OnOk result (E.faults err.new ≡ E.faults err.old) }
+    ensures cut { OnErr result (TookPrefix (E.written err.old) (E.written err.new) (line_of_form at)) }
+    ensures failed { OnErr result (Rose (E.faults err.old) (E.faults err.new)) }
+{
+    let mut line = [0; LINE_LEN];
+    let len = form_line(at, &mut line);
     write_all(err, &line[..len])
 }
 

@@ -2,14 +2,16 @@
 //! files and streams.
 #![tactic(auto)]
 
+mod check_command;
+#[cfg(test)]
+mod command_tests;
+mod compile_command;
 mod fault;
+mod info_command;
 #[cfg(test)]
 mod list_tests;
+mod load;
 mod match_command;
-mod output;
-mod report_lines;
-mod request;
-mod scan;
 #[cfg(test)]
 mod tests;
 mod top;

@@ -1,84 +1,42 @@
-//! The command `match PATTERNS FILE`.
-ghost use Rattle.std.specs.Prelude.{◌≡◌, ◌++◌, ℕ, List, IfOk, IfErr, OnOk, OnErr, MatchResult};
+//! The commands `match PATTERNS FILE` and `scan DB FILE`.
+ghost use Rattle.std.specs.Prelude.{◌≡◌, ℕ, List};
+ghost use Rattle.hs_base.specs.Entries.{ListedEntry};
 ghost use Rattle.hs_base.specs.Patterns.{Pattern};
-ghost use Rattle.hs_base.specs.MatchText.{end_line as line_of_end};
-ghost use Rattle.hs_outside.specs.Counts.{Rose};
-ghost use Rattle.hs_outside.specs.Sink.{Took, TookPrefix};
 ghost use Rattle.hs_run.specs.States.{IsRunnable};
 ghost use Rattle.hs_glushkov.specs.PlainEngines.{width_of};
 ghost use Rattle.hs_compile.specs.Databases.{IsDatabaseOf, program_of};
 ghost use Rattle.hs_tool.specs.Causes.{cause_of, outcome_of};
-ghost use Rattle.hs_tool.specs.Answers.{HasList, MatchEnds};
-ghost use Rattle.hs_tool.specs.Running.{IsReady, Stands};
-ghost use Rattle.hs_tool.specs.Scanning.{IsClosed, IsPartlyClosed};
-ghost use Rattle.hs_tool.specs.Loading.{IsLoaded, StopsLoad, StopsScan};
+ghost use Rattle.hs_tool.specs.Commands.{ListKind as ListKindOf, kind_of};
+ghost use Rattle.hs_tool.specs.Answers.{HasList, ScanEnds};
+ghost use Rattle.hs_tool.specs.Loading.{StopsScan};
 
 use crate::fault::Fault;
-use crate::output::Pending;
-use crate::scan::{Scan, ScanFault, end_scan, scan_file};
-use hs_base::Refusal;
-use hs_compile::{CompileFault, Database, compile};
-use hs_engine::Engine;
-use hs_outside::{Failed, FileFault, Sink, Store, read_file};
-use hs_rose::Program;
-use hs_text::{LINE_LEN, ListFault, end_line, read_list};
+use crate::load::{ListKind, load};
+use hs_compile::Database;
+use hs_outside::{Failed, Sink, Store};
+use hs_scan::{Pending, Scan, ScanFault, close_scan, scan_file};
 use std::alloc::Global;
 
-/// The greatest length of a pattern file, in bytes.
-pub const MAX_LIST_LEN: u64 = 2_147_483_648;
-
-/// Scans the file `file` for the expressions of the pattern file `patterns`, and writes the text of the match.
+/// Scans the file `file` for the expressions of the file `list`, and writes the text of the match.
 pub fn match_file<'a, S: Store, O: Sink>(
     alloc: Global,
-    patterns: &'a str,
+    kind: ListKind,
+    list: &'a str,
     file: &'a str,
     store: &mut S,
     out: &mut O,
 ) -> Result<(), Fault<'a>>
-    ensures ends { MatchEnds patterns.now file.now
+    ensures ends { ScanEnds (kind_of kind) list.now file.now
         (record { told = S.told store.old; stored = S.faults store.old; out = O.written out.old; sunk = O.faults out.old })
         (record { told = S.told store.new; stored = S.faults store.new; out = O.written out.new; sunk = O.faults out.new })
         (outcome_of result) }
     ensures kept { S.told store.new ≡ S.told store.old }
 {
-    let database = match load(alloc, patterns, store) {
-        Ok(database) => database,
+    let loaded = match load(alloc, kind, list, store) {
+        Ok(loaded) => loaded,
         Err(fault) => return Err(fault),
     };
-    match_stream(alloc, &database, file, store, out)
-}
-
-/// Reads a pattern file and compiles its list.
-fn load<'a, S: Store>(
-    alloc: Global,
-    patterns: &'a str,
-    store: &mut S,
-) -> Result<Database, Fault<'a>>
-    ensures loaded { IfOk result (IsLoaded (S.told store.old patterns.now)) }
-    ensures counted { OnOk result (S.faults store.new ≡ S.faults store.old) }
-    ensures fault { IfErr result (λ fault. StopsLoad patterns.now (S.told store.old patterns.now)
-        (S.faults store.old) (S.faults store.new) (cause_of fault)) }
-    ensures kept { S.told store.new ≡ S.told store.old }
-{
-    let list = match read_file(alloc, store, patterns, MAX_LIST_LEN) {
-        Ok(list) => list,
-        Err(FileFault::Absent) => return Err(Fault::Absent(patterns)),
-        Err(FileFault::Failed) => return Err(Fault::Store),
-        Err(FileFault::Limit) => return Err(Fault::Limit),
-        Err(FileFault::Memory) => return Err(Fault::Memory),
-    };
-    let entries = match read_list(alloc, list.as_slice()) {
-        Ok(entries) => entries,
-        Err(ListFault::Line(line)) => return Err(Fault::Refused(None, Refusal::ListLine(line))),
-        Err(ListFault::Memory) => return Err(Fault::Memory),
-    };
-    match compile(alloc, entries.as_slice()) {
-        Ok(database) => Ok(database),
-        Err(CompileFault::Refused { entry, id, refusal }) => {
-            Err(Fault::Refused(Some((entry, id)), refusal))
-        }
-        Err(CompileFault::Memory) => Err(Fault::Memory),
-    }
+    match_stream(alloc, &loaded.database, file, store, out)
 }
 
 /// Scans a file as one stream, and writes the text of the match.
@@ -90,7 +48,7 @@ fn match_stream<'a, S: Store, O: Sink>(
     out: &mut O,
 ) -> Result<(), Fault<'a>>
     requires { IsRunnable width_of (program_of database.now) }
-    ensures ends { (patterns : List ℕ) (P : List Pattern) → HasList (S.told store.old patterns) P → IsDatabaseOf database.now P → MatchEnds patterns file.now
+    ensures ends { (kind : ListKindOf) (list : List ℕ) (entries : List ListedEntry) (P : List Pattern) → HasList kind (S.told store.old list) entries P → IsDatabaseOf database.now P → ScanEnds kind list file.now
         (record { told = S.told store.old; stored = S.faults store.old; out = O.written out.old; sunk = O.faults out.old })
         (record { told = S.told store.new; stored = S.faults store.new; out = O.written out.new; sunk = O.faults out.new })
         (outcome_of result) }
@@ -106,7 +64,7 @@ fn match_stream<'a, S: Store, O: Sink>(
         Ok(total) => total,
         Err(fault) => return Err(fault_of(fault, file)),
     };
-    match close(program, &mut scan, total, out, &mut pending) {
+    match close_scan(program, &mut scan, total, out, &mut pending) {
         Ok(()) => Ok(()),
         Err(Failed) => Err(Fault::Write),
     }
@@ -121,42 +79,5 @@ fn fault_of<'a>(fault: ScanFault, file: &'a str) -> Fault<'a>
         ScanFault::Store => Fault::Store,
         ScanFault::Write => Fault::Write,
         ScanFault::Limit => Fault::Limit,
-    }
-}
-
-/// Ends the stream, and writes the lines that wait, those of the reports that its end decides, and that of its length.
-fn close<E: Engine, O: Sink>(
-    program: &Program<E>,
-    scan: &mut Scan,
-    total: u64,
-    out: &mut O,
-    pending: &mut Pending,
-) -> Result<(), Failed>
-    requires runnable { IsRunnable E.width program.now }
-    requires ready { IsReady E.well program.now scan.old }
-    ensures closed { MatchResult result
-        (λ _. IsClosed (Stands E.is_for E.field program.now) scan.old total (O.written out.old) (O.written out.new) pending.old)
-        (λ _. IsPartlyClosed (Stands E.is_for E.field program.now) scan.old total (O.written out.old) (O.written out.new) pending.old) }
-    ensures counted { OnOk result (O.faults out.new ≡ O.faults out.old) }
-    ensures failed { OnErr result (Rose (O.faults out.old) (O.faults out.new)) }
-{
-    match end_scan(program, scan, out, pending) {
-        Ok(()) => write_end(total, out, pending),
-        Err(Failed) => Err(Failed),
-    }
-}
-
-/// Writes the lines that wait, and that of the stream's length.
-fn write_end<O: Sink>(total: u64, out: &mut O, pending: &mut Pending) -> Result<(), Failed>
-    ensures written { OnOk result (Took (O.written out.old) (O.written out.new) (pending.old ++ line_of_end total)) }
-    ensures counted { OnOk result (O.faults out.new ≡ O.faults out.old) }
-    ensures cut { OnErr result (TookPrefix (O.written out.old) (O.written out.new) (pending.old ++ line_of_end total)) }
-    ensures failed { OnErr result (Rose (O.faults out.old) (O.faults out.new)) }
-{
-    let mut line = [0; LINE_LEN];
-    let len = end_line(total, &mut line);
-    match pending.put(&line[..len], out) {
-        Ok(()) => pending.flush(out),
-        Err(Failed) => Err(Failed),
     }
 }

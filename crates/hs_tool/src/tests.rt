@@ -11,23 +11,25 @@ use std::test::Fail;
 /// How many bytes a store or a sink has room for.
 pub(crate) const ROOM: usize = 262_144;
 
-/// What the program is run on. The store's first two calls put the files `p` and `f`, where both are there.
+/// What the program is run on. The store's first calls put the files `p`, `f` and `d` that are there.
 #[derive(Clone, Copy)]
-struct Setting<'p, 'f> {
-    words: &'static [&'static str],
-    patterns: Option<&'p [u8]>,
-    file: Option<&'f [u8]>,
+pub(crate) struct Setting<'p, 'f, 'd> {
+    pub(crate) words: &'static [&'static str],
+    pub(crate) patterns: Option<&'p [u8]>,
+    pub(crate) file: Option<&'f [u8]>,
+    pub(crate) database: Option<&'d [u8]>,
     /// The calls that fail, counted from 1.
-    store_fails: &'static [u64],
-    out_fails: &'static [u64],
-    err_fails: &'static [u64],
+    pub(crate) store_fails: &'static [u64],
+    pub(crate) out_fails: &'static [u64],
+    pub(crate) err_fails: &'static [u64],
 }
 
 /// The command over both files, which are still to be given.
-const MATCH: Setting<'static, 'static> = Setting {
+pub(crate) const MATCH: Setting<'static, 'static, 'static> = Setting {
     words: &["hs_tool", "match", "p", "f"],
     patterns: None,
     file: None,
+    database: None,
     store_fails: &[],
     out_fails: &[],
     err_fails: &[],
@@ -39,20 +41,25 @@ pub(crate) struct Answer {
     pub(crate) status: u8,
     pub(crate) out: Vec<u8>,
     pub(crate) err: Vec<u8>,
+    /// The file `d` that it left; empty where there is none.
+    pub(crate) database: Vec<u8>,
 }
 
 /// Runs the program.
-fn answer_of(alloc: Global, setting: &Setting<'_, '_>) -> Result<Answer, Fail> {
+pub(crate) fn answer_of(alloc: Global, setting: &Setting<'_, '_, '_>) -> Result<Answer, Fail> {
     let mut words = Vec::new(alloc);
     for word in setting.words {
         words.push(String::from_str(alloc, word)?)?;
     }
-    let mut store = MemStore::new(alloc, 2, ROOM, setting.store_fails)?;
+    let mut store = MemStore::new(alloc, 3, ROOM, setting.store_fails)?;
     if let Some(patterns) = setting.patterns {
         store.put("p", patterns)?;
     }
     if let Some(file) = setting.file {
         store.put("f", file)?;
+    }
+    if let Some(database) = setting.database {
+        store.put("d", database)?;
     }
     let mut input = MemSource::new(alloc, b"", &[], &[])?;
     let mut out = MemSink::new(alloc, ROOM, setting.out_fails)?;
@@ -69,6 +76,7 @@ fn answer_of(alloc: Global, setting: &Setting<'_, '_>) -> Result<Answer, Fail> {
         status,
         out: out.written().to_vec(alloc)?,
         err: err.written().to_vec(alloc)?,
+        database: store.file("d").unwrap_or(b"").to_vec(alloc)?,
     })
 }
 
@@ -85,7 +93,7 @@ pub(crate) fn match_answer(alloc: Global, patterns: &[u8], file: &[u8]) -> Resul
 /// A run in which something fails or is absent. Where it fails in the midst of the scan, `out` is the whole text, of
 /// which a beginning may be written.
 struct Failing {
-    setting: Setting<'static, 'static>,
+    setting: Setting<'static, 'static, 'static>,
     status: u8,
     out: &'static [u8],
     err: &'static [u8],
@@ -243,13 +251,8 @@ const WRONG_WORDS: &[&[&str]] = &[
     &["hs_tool", "--help"],
     &["hs_tool", "match", "p"],
     &["hs_tool", "match", "p", "f", "f"],
-    &["hs_tool", "scan", "p", "f"],
-    &["hs_tool", "Match", "p", "f"],
-    &["hs_tool", "matches", "p", "f"],
-    &["hs_tool", "", "p", "f"],
+    &["hs_tool", "scan", "d"],
     &["hs_tool", "match", "-x", "f"],
-    &["hs_tool", "match", "p", "-x"],
-    &["hs_tool", "match", "p", "-"],
     &["match", "p", "f"],
 ];
 

@@ -1,15 +1,19 @@
 //! The whole program over any store, source and sinks.
-ghost use Rattle.std.specs.Prelude.{◌≡◌, ◌⊎◌, ◌↔◌, [], map, string_bytes, Option, None};
+ghost use Rattle.std.specs.Prelude.{◌≡◌, ◌⊎◌, [], map, string_bytes, Option, Some, None};
 ghost use Rattle.hs_outside.specs.Counts.{Rose};
 ghost use Rattle.hs_outside.specs.Sink.{Took};
-ghost use Rattle.hs_tool.specs.Requests.{request_of as request_of_words};
+ghost use Rattle.hs_request.specs.Requests.{request_of as request_of_words, plain_request};
 ghost use Rattle.hs_tool.specs.Causes.{Cause, cause_of, outcome_of, status_of, status_of_cause, line_of_cause};
-ghost use Rattle.hs_tool.specs.Answers.{Ends, IsDue, Tells, IsAnswer, IsStatus, IsSilentStatus};
+ghost use Rattle.hs_tool.specs.Answers.{Ends, IsDue, KeepsFiles, Tells, IsAnswer, IsStatus, IsSilentStatus};
 
+use crate::check_command::check_list;
+use crate::compile_command::compile_list;
 use crate::fault::Fault;
+use crate::info_command::tell_database;
+use crate::load::ListKind;
 use crate::match_command::match_file;
-use crate::request::{Request, request_of};
 use hs_outside::{Failed, Sink, Source, Store};
+use hs_request::{Request, request_of};
 use std::alloc::Global;
 
 /// Does what the words ask for, which begin with the program's name, and gives the status that the program ends with.
@@ -27,18 +31,20 @@ pub fn run<S: Store, I: Source, O: Sink, E: Sink>(
         (record { told = S.told store.new; stored = S.faults store.new; out = O.written out.new; sunk = O.faults out.new })
         (E.written err.old) (E.written err.new) (E.faults err.old) (E.faults err.new) result }
 
-    // 0 to 3 and 6 to 8, and what some of them say by themselves.
+    // 0 to 4 and 6 to 8, and what some of them say by themselves.
     ensures status { IsStatus result }
-    ensures usage { (result ≡ 1) ↔ (request_of_words (map string_bytes words.now) ≡ None) }
+    ensures usage { result ≡ 1 → request_of_words (map string_bytes words.now) ≡ None }
+    ensures no_command { request_of_words (map string_bytes words.now) ≡ None → (result ≡ 1) ⊎ (result ≡ 6) }
     ensures fault { result ≡ 3 → Rose (S.faults store.old) (S.faults store.new) ⊎ Rose (O.faults out.old) (O.faults out.new) }
     ensures silent { IsSilentStatus result → Took (O.written out.old) (O.written out.new) [] }
+    ensures unput { IsSilentStatus result → S.told store.new ≡ S.told store.old }
 
     // Where the store tells the files and no call on the store or on `out` failed, the status is the due one, or 6.
     ensures complete { (due : Option Cause) → IsDue (S.told store.old) (request_of_words (map string_bytes words.now)) due
         → (Rose (S.faults store.old) (S.faults store.new) → ⊥) → (Rose (O.faults out.old) (O.faults out.new) → ⊥)
         → (result ≡ status_of due) ⊎ (result ≡ 6) }
 
-    ensures kept { S.told store.new ≡ S.told store.old }
+    ensures kept { KeepsFiles (request_of_words (map string_bytes words.now)) (S.told store.old) (S.told store.new) }
     ensures input { input.new ≡ input.old }
 {
     let _ = input;
@@ -70,10 +76,40 @@ fn perform<'a, S: Store, O: Sink>(
         (record { told = S.told store.old; stored = S.faults store.old; out = O.written out.old; sunk = O.faults out.old })
         (record { told = S.told store.new; stored = S.faults store.new; out = O.written out.new; sunk = O.faults out.new })
         (outcome_of result) }
-    ensures kept { S.told store.new ≡ S.told store.old }
+    ensures kept { KeepsFiles (request_of_words (map string_bytes words.now)) (S.told store.old) (S.told store.new) }
 {
-    match request_of(words) {
-        None => Err(Fault::Usage),
-        Some(Request::Match { patterns, file }) => match_file(alloc, patterns, file, store, out),
+    let request = match request_of(alloc, words) {
+        Ok(Some(request)) => request,
+        Ok(None) => return Err(Fault::Usage),
+        Err(_) => return Err(Fault::Memory),
+    };
+    execute(alloc, request, store, out)
+}
+
+/// Does what is asked for.
+fn execute<'a, S: Store, O: Sink>(
+    alloc: Global,
+    request: Request<'a>,
+    store: &mut S,
+    out: &mut O,
+) -> Result<(), Fault<'a>>
+    ensures ends { Ends (Some (plain_request request.entry))
+        (record { told = S.told store.old; stored = S.faults store.old; out = O.written out.old; sunk = O.faults out.old })
+        (record { told = S.told store.new; stored = S.faults store.new; out = O.written out.new; sunk = O.faults out.new })
+        (outcome_of result) }
+    ensures kept { KeepsFiles (Some (plain_request request.entry)) (S.told store.old) (S.told store.new) }
+{
+    match request {
+        Request::Match { patterns, file } => {
+            match_file(alloc, ListKind::Patterns, patterns, file, store, out)
+        }
+        Request::Check { patterns } => check_list(alloc, patterns, store, out),
+        Request::Compile { patterns, database } => {
+            compile_list(alloc, patterns, database, store, out)
+        }
+        Request::Info { database } => tell_database(alloc, database, store, out),
+        Request::Scan { database, file } => {
+            match_file(alloc, ListKind::Database, database, file, store, out)
+        }
     }
 }

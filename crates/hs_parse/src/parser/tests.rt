@@ -1,7 +1,27 @@
 use super::*;
-use hs_base::ByteSet;
+use hs_base::{Assertion, ByteSet, Construct};
 use std::process::Abort;
 use std::test::Fail;
+
+mod faults;
+mod trees;
+
+/// Appends a byte, by `%` and two hexadecimal digits where it isn't printed.
+fn write_byte(out: &mut Vec<u8>, byte: u8) -> Result<(), Fail> {
+    if matches!(byte, 0x21..=0x7E) {
+        out.push(byte)?;
+        return Ok(());
+    }
+    out.push(b'%')?;
+    for digit in [byte / 16, byte % 16] {
+        out.push(if digit < 10 {
+            b'0' + digit
+        } else {
+            b'A' + digit - 10
+        })?;
+    }
+    Ok(())
+}
 
 /// Appends a set: `_` for every byte but the line feed, the byte itself where it is the only one, and else the ranges of
 /// the members between brackets.
@@ -25,7 +45,7 @@ fn write_set(out: &mut Vec<u8>, set: &ByteSet) -> Result<(), Fail> {
             if before {
                 out.push(b'-')?;
             }
-            out.push(byte)?;
+            write_byte(out, byte)?;
         }
         before = here;
     }
@@ -35,14 +55,18 @@ fn write_set(out: &mut Vec<u8>, set: &ByteSet) -> Result<(), Fail> {
     Ok(())
 }
 
-/// Appends a tree: `~` for the empty text, `(..)` for a concatenation, `<..>` for an alternation, and a repeat by its
-/// quantifier behind its body, or `{` for another one.
+/// Appends a tree: `~` for the empty text, `(..)` for a concatenation, `<..>` for an alternation, `!` and a letter for an
+/// assertion, and a repeat by its quantifier behind its body.
 #[cycle(write)]
 fn write_tree(out: &mut Vec<u8>, expr: &Expr) -> Result<(), Fail> {
     match expr {
         Expr::Empty => out.push(b'~')?,
         Expr::Class(set) => write_set(out, set)?,
-        Expr::Points(_) | Expr::Assert(_) => out.push(b'!')?,
+        Expr::Points(_) => out.push(b'#')?,
+        Expr::Assert(assertion) => {
+            out.push(b'!')?;
+            out.push(letter(*assertion))?;
+        }
         Expr::Cat(items) => {
             out.push(b'(')?;
             write_trees(out, items)?;
@@ -55,7 +79,7 @@ fn write_tree(out: &mut Vec<u8>, expr: &Expr) -> Result<(), Fail> {
         }
         Expr::Repeat(body, least, greatest) => {
             write_tree(out, body)?;
-            out.push(quantifier(*least, *greatest))?;
+            write_quantifier(out, *least, *greatest)?;
         }
     }
     Ok(())
@@ -69,225 +93,146 @@ fn write_trees(out: &mut Vec<u8>, items: &[Expr]) -> Result<(), Fail> {
     Ok(())
 }
 
-/// The quantifier of two bounds.
-fn quantifier(least: u32, greatest: Option<u32>) -> u8 {
-    match (least, greatest) {
-        (0, None) => b'*',
-        (1, None) => b'+',
-        (0, Some(1)) => b'?',
-        _ => b'{',
+/// The letter of an assertion.
+fn letter(assertion: Assertion) -> u8 {
+    match assertion {
+        Assertion::StreamStart => b'A',
+        Assertion::LineStart => b'^',
+        Assertion::LineEnd => b'$',
+        Assertion::EndOrFinalNewline => b'Z',
+        Assertion::StreamEnd => b'z',
+        Assertion::WordBoundary => b'b',
+        Assertion::NotWordBoundary => b'B',
     }
 }
 
-/// Texts with their trees, by the grammar: what stands for itself, quantifiers, groups and alternatives.
-const TREES: [(&[u8], &[u8]); 52] = [
-    (b"", b"~"),
-    (b"a", b"a"),
-    (b".", b"_"),
-    (b"ab", b"(ab)"),
-    (b"a.c", b"(a_c)"),
-    (b"a*", b"a*"),
-    (b"a+", b"a+"),
-    (b"a?", b"a?"),
-    (b".*", b"_*"),
-    (b"ab*", b"(ab*)"),
-    (b"a*b", b"(a*b)"),
-    (b"a*b+c?", b"(a*b+c?)"),
-    (b"a|b", b"<ab>"),
-    (b"a|b|c", b"<abc>"),
-    (b"ab|c", b"<(ab)c>"),
-    (b"a|bc*", b"<a(bc*)>"),
-    (b"|", b"<~~>"),
-    (b"a|", b"<a~>"),
-    (b"|a", b"<~a>"),
-    (b"||", b"<~~~>"),
-    (b"()", b"~"),
-    (b"(a)", b"a"),
-    (b"((a))", b"a"),
-    (b"(a)(b)", b"(ab)"),
-    (b"a()b", b"(a~b)"),
-    (b"(ab)c", b"((ab)c)"),
-    (b"(a|b)", b"<ab>"),
-    (b"(a|b)c", b"(<ab>c)"),
-    (b"a(b|c)d", b"(a<bc>d)"),
-    (b"a|(b|c)", b"<a<bc>>"),
-    (b"(a|b)*", b"<ab>*"),
-    (b"(ab)+c", b"((ab)+c)"),
-    (b"(a*)*", b"a**"),
-    (b"(a?)+", b"a?+"),
-    (b"()*", b"~*"),
-    (b"(|a)b", b"(<~a>b)"),
-    (b"(a|)", b"<a~>"),
-    (b"}", b"}"),
-    (b"a]", b"(a])"),
-    (b"]*", b"]*"),
-    (b"a-z", b"(a-z)"),
-    (b"a,#:=!", b"(a,#:=!)"),
-    (b"\\.", b"."),
-    (b"\\*+", b"*+"),
-    (b"\\(a\\)", b"((a))"),
-    (b"\\\\\\[", b"(\\[)"),
-    (b"\\^\\$\\{\\|", b"(^${|)"),
-    (b"\\\x00\\ ", b"(\x00 )"),
-    (b"\\\x80*", b"\x80*"),
-    (b"\\\n", b"\n"),
-    (b"a\n", b"(a\n)"),
-    (b"\xff\xc3\xa9?", b"(\xff\xc3\xa9?)"),
-];
+/// Appends the quantifier of two bounds.
+fn write_quantifier(out: &mut Vec<u8>, least: u32, greatest: Option<u32>) -> Result<(), Fail> {
+    match (least, greatest) {
+        (0, None) => out.push(b'*')?,
+        (1, None) => out.push(b'+')?,
+        (0, Some(1)) => out.push(b'?')?,
+        (_, None) => {
+            out.push(b'{')?;
+            write_number(out, least)?;
+            out.extend_from_slice(b",}")?;
+        }
+        (_, Some(bound)) => {
+            out.push(b'{')?;
+            write_number(out, least)?;
+            out.push(b',')?;
+            write_number(out, bound)?;
+            out.push(b'}')?;
+        }
+    }
+    Ok(())
+}
 
-/// Classes with their sets, by the grammar.
-const CLASSES: [(&[u8], &[u8]); 46] = [
-    (b"[a]", b"a"),
-    (b"[ab]", b"[a-b]"),
-    (b"[ca]", b"[ac]"),
-    (b"[a-c]", b"[a-c]"),
-    (b"[a-a]", b"a"),
-    (b"[a-cx-z5]", b"[5a-cx-z]"),
-    (b"[a-cb-e]", b"[a-e]"),
-    (b"[]]", b"]"),
-    (b"[]a]", b"[]a]"),
-    (b"[]-a]", b"[]-a]"),
-    (b"[a-]", b"[-a]"),
-    (b"[-a]", b"[-a]"),
-    (b"[-]", b"-"),
-    (b"[a-c-]", b"[-a-c]"),
-    (b"[a-c-e]", b"[-a-ce]"),
-    (b"[--a]", b"[--a]"),
-    (b"[a-c--f]", b"[--f]"),
-    (b"[+--]", b"[+--]"),
-    (b"[^a]", b"[\x00-`b-\xff]"),
-    (b"[^a-c]", b"[\x00-`d-\xff]"),
-    (b"[^]]", b"[\x00-\\^-\xff]"),
-    (b"[^^]", b"[\x00-]_-\xff]"),
-    (b"[^-a]", b"[\x00-,.-`b-\xff]"),
-    (b"[a^]", b"[^a]"),
-    (b"[.]", b"."),
-    (b"[*+?]", b"[*-+?]"),
-    (b"[(|)]", b"[(-)|]"),
-    (b"[{$}]", b"[${}]"),
-    (b"[[]", b"["),
-    (b"[[a]", b"[[a]"),
-    (b"[a[]", b"[[a]"),
-    (b"[[-a]", b"[[-a]"),
-    (b"[\\]]", b"]"),
-    (b"[\\-a]", b"[-a]"),
-    (b"[a\\-z]", b"[-az]"),
-    (b"[\\[-\\]]", b"[[-]]"),
-    (b"[\n\\\\]", b"[\n\\]"),
-    (b"[\xf0-\xff]", b"[\xf0-\xff]"),
-    (b"[:alph]", b"[:ahlp]"),
-    (b"[:^alpha:]", b"[:^ahlp]"),
-    (b"[:Alpha:]", b"[:Aahlp]"),
-    (b"[:a1:]", b"[1:a]"),
-    (b"[::]", b":"),
-    (b"[ab]*", b"[a-b]*"),
-    (b"[a]]", b"(a])"),
-    (b"x([a-b]|c)+", b"(x<[a-b]c>+)"),
-];
+/// Appends a number in decimal digits.
+fn write_number(out: &mut Vec<u8>, number: u32) -> Result<(), Fail> {
+    for place in [10_000, 1_000, 100, 10, 1] {
+        if number >= place || place == 1 {
+            out.push(b'0' + (number / place % 10) as u8)?;
+        }
+    }
+    Ok(())
+}
 
-/// Texts with the place and the number of their fault, by the grammar: 1 where the text has no form, 3 where a form isn't
-/// read yet.
-const FAULTS: [(&[u8], u32, u8); 76] = [
-    (b"*", 0, 1),
-    (b"+a", 0, 1),
-    (b"?", 0, 1),
-    (b"a**", 2, 1),
-    (b"a+*", 2, 1),
-    (b"a?*", 2, 1),
-    (b"a*?", 2, 3),
-    (b"a*+", 2, 3),
-    (b"a+?", 2, 3),
-    (b"a??", 2, 3),
-    (b"a++", 2, 3),
-    (b"a|*", 2, 1),
-    (b"(+a)", 1, 1),
-    (b"(a)+*", 4, 1),
-    (b"[a]*?", 4, 3),
-    (b"(*a)", 0, 3),
-    (b"(?:a)", 0, 3),
-    (b"a(?", 1, 3),
-    (b"(?", 0, 3),
-    (b"((*", 1, 3),
-    (b")", 0, 1),
-    (b"a)", 1, 1),
-    (b"(a))", 3, 1),
-    (b"a|b)c(", 3, 1),
-    (b"(", 1, 1),
-    (b"(a", 2, 1),
-    (b"((a)", 4, 1),
-    (b"(a|", 3, 1),
-    (b"\\", 0, 1),
-    (b"a\\", 1, 1),
-    (b"(\\", 1, 1),
-    (b"\\a", 0, 3),
-    (b"\\Z", 0, 3),
-    (b"\\0", 0, 3),
-    (b"a\\9", 1, 3),
-    (b"^", 0, 3),
-    (b"a^", 1, 3),
-    (b"$", 0, 3),
-    (b"a$)", 1, 3),
-    (b"a{2}", 1, 3),
-    (b"{", 0, 3),
-    (b"a*{", 2, 3),
-    (b"({", 1, 3),
-    (b"a{,3}", 1, 3),
-    (b"[", 0, 1),
-    (b"a[", 1, 1),
-    (b"[]", 0, 1),
-    (b"[^", 0, 1),
-    (b"[^]", 0, 1),
-    (b"[a", 0, 1),
-    (b"[a-", 0, 1),
-    (b"[a-b", 0, 1),
-    (b"(a[b", 2, 1),
-    (b"[z-a]", 1, 1),
-    (b"[z-a", 1, 1),
-    (b"[ab-a]", 2, 1),
-    (b"[a--]", 1, 1),
-    (b"[^z-a]", 2, 1),
-    (b"[\\d]", 1, 3),
-    (b"[a\\d", 2, 3),
-    (b"[a-\\d]", 3, 3),
-    (b"[z-\\d]", 3, 3),
-    (b"[\\", 1, 1),
-    (b"[a\\", 2, 1),
-    (b"[a-\\", 3, 1),
-    (b"[[:alpha:]]", 1, 3),
-    (b"[[:", 1, 3),
-    (b"[[.a.]]", 1, 3),
-    (b"[[=a=]]", 1, 3),
-    (b"[a-[:b:]]", 3, 3),
-    (b"[a[:", 2, 3),
-    (b"[:alpha:]", 0, 1),
-    (b"a[:xyz:]b", 1, 1),
-    (b"[:a:]]", 0, 1),
-    (b"[:a:", 0, 1),
-    (b"[:^alpha:", 0, 1),
-];
+/// The bytes before the first mark, and those behind it.
+fn cut(bytes: &[u8], mark: u8) -> (&[u8], &[u8]) {
+    match bytes.iter().position(|byte| *byte == mark) {
+        Some(at) => (&bytes[..at], &bytes[at + 1..]),
+        None => (bytes, &[]),
+    }
+}
 
-/// Checks texts against their trees.
-fn check_trees(rt: &impl Abort, alloc: Global, rows: &[(&[u8], &[u8])]) -> Result<(), Fail> {
-    for (text, tree) in rows {
-        let expr = parse(alloc, text, Flags::NONE)?;
-        let mut written = Vec::new(alloc);
-        write_tree(&mut written, &expr)?;
-        assert!(rt;
-            written.as_slice() == *tree,
-            "{text:?} is read as {written:?}"
-        );
+/// The flags that a row begins with, its text, and what is expected of it.
+fn fields(row: &[u8]) -> (Flags, &[u8], &[u8]) {
+    let (flags, behind) = cut(row, b'\t');
+    let (text, expected) = cut(behind, b'\t');
+    let flags = match flags {
+        [digit, ..] => *digit as u16 % 8,
+        [] => 0,
+    };
+    (Flags(flags), text, expected)
+}
+
+/// Checks a text against its tree.
+fn check_tree(
+    rt: &impl Abort,
+    alloc: Global,
+    flags: Flags,
+    text: &[u8],
+    tree: &[u8],
+) -> Result<(), Fail> {
+    let expr = parse(alloc, text, flags)?;
+    let mut written = Vec::new(alloc);
+    write_tree(&mut written, &expr)?;
+    assert!(rt;
+        written.as_slice() == tree,
+        "{text:?} is read as {written:?}"
+    );
+    Ok(())
+}
+
+/// Checks the texts of some rows against their trees.
+fn check_trees(rt: &impl Abort, alloc: Global, rows: &[u8]) -> Result<(), Fail> {
+    let mut rest = rows;
+    while !rest.is_empty() {
+        let (row, behind) = cut(rest, b'\n');
+        let (flags, text, tree) = fields(row);
+        check_tree(rt, alloc, flags, text, tree)?;
+        rest = behind;
     }
     Ok(())
 }
 
 #[test]
 fn reads_the_grammar(rt: HostRuntime) -> Result<(), Fail> {
-    check_trees(&rt, rt.alloc(), &TREES)
+    check_trees(&rt, rt.alloc(), trees::TREES)
+}
+
+#[test]
+fn reads_ranges(rt: HostRuntime) -> Result<(), Fail> {
+    check_trees(&rt, rt.alloc(), trees::RANGES)
 }
 
 #[test]
 fn reads_classes(rt: HostRuntime) -> Result<(), Fail> {
-    check_trees(&rt, rt.alloc(), &CLASSES)
+    check_trees(&rt, rt.alloc(), trees::CLASSES)
+}
+
+#[test]
+fn reads_escapes(rt: HostRuntime) -> Result<(), Fail> {
+    check_trees(&rt, rt.alloc(), trees::ESCAPES)
+}
+
+#[test]
+fn reads_assertions(rt: HostRuntime) -> Result<(), Fail> {
+    check_trees(&rt, rt.alloc(), trees::ASSERTIONS)
+}
+
+#[test]
+fn reads_quantifiers(rt: HostRuntime) -> Result<(), Fail> {
+    check_trees(&rt, rt.alloc(), trees::QUANTIFIERS)
+}
+
+#[test]
+fn reads_groups_and_options(rt: HostRuntime) -> Result<(), Fail> {
+    check_trees(&rt, rt.alloc(), trees::GROUPS)
+}
+
+#[test]
+fn skips_what_has_no_meaning(rt: HostRuntime) -> Result<(), Fail> {
+    check_trees(&rt, rt.alloc(), trees::SKIPPED)
+}
+
+#[test]
+fn reads_blanks(rt: HostRuntime) -> Result<(), Fail> {
+    for (flags, text, tree) in trees::BLANKS {
+        check_tree(&rt, rt.alloc(), Flags(flags), text, tree)?;
+    }
+    Ok(())
 }
 
 /// The refusal, or `None` where there is none.
@@ -298,21 +243,39 @@ fn refusal_of(outcome: Result<Expr, ParseFault>) -> Option<Refusal> {
     }
 }
 
+/// Checks a text against its fault.
+fn check_fault(
+    rt: &impl Abort,
+    alloc: Global,
+    flags: Flags,
+    text: &[u8],
+    fault: &[u8],
+) -> Result<(), Fail> {
+    let Some(refusal) = refusal_of(parse(alloc, text, flags)) else {
+        panic!(rt; "{text:?} isn't refused")
+    };
+    let written = format!(in alloc; "{refusal:?}")?;
+    assert!(rt; written.as_bytes() == fault, "{text:?} has {written}");
+    Ok(())
+}
+
 #[test]
-fn refuses_the_first_fault(rt: HostRuntime) {
-    for (text, at, number) in FAULTS {
-        let fault = if number == 1 {
-            Refusal::Syntax(at)
-        } else {
-            Refusal::Unsupported(Construct::Later, at)
-        };
-        let outcome = refusal_of(parse(rt.alloc(), text, Flags::NONE));
-        assert_eq!(rt; outcome, Some(fault), "{text:?}");
+fn refuses_the_first_fault(rt: HostRuntime) -> Result<(), Fail> {
+    let mut rest = faults::FAULTS;
+    while !rest.is_empty() {
+        let (row, behind) = cut(rest, b'\n');
+        let (flags, text, fault) = fields(row);
+        check_fault(&rt, rt.alloc(), flags, text, fault)?;
+        rest = behind;
     }
+    for (flags, text, fault) in faults::BLANKS {
+        check_fault(&rt, rt.alloc(), Flags(flags), text, fault)?;
+    }
+    Ok(())
 }
 
 /// Texts of so many bytes that are the same, and then these, with the fault if there is one.
-const LONG: [(usize, u8, &[u8], Option<Refusal>); 14] = [
+const LONG: [(usize, u8, &[u8], Option<Refusal>); 15] = [
     (16_000, b'a', b"", None),
     (16_001, b'a', b"", Some(Refusal::LengthLimit)),
     (16_000, b'a', b"*", Some(Refusal::LengthLimit)),
@@ -325,20 +288,21 @@ const LONG: [(usize, u8, &[u8], Option<Refusal>); 14] = [
     (
         128,
         b'(',
-        b"(?:",
-        Some(Refusal::Unsupported(Construct::Later, 128)),
+        b"(?=",
+        Some(Refusal::Unsupported(Construct::Lookaround, 128)),
     ),
+    (128, b'(', b"(?:", Some(Refusal::DepthLimit)),
     (
         128,
         b'(',
         b"(*",
-        Some(Refusal::Unsupported(Construct::Later, 128)),
+        Some(Refusal::Unsupported(Construct::Verb, 128)),
     ),
     (
         127,
         b'(',
         b"a)(b))((*",
-        Some(Refusal::Unsupported(Construct::Later, 134)),
+        Some(Refusal::Unsupported(Construct::Verb, 134)),
     ),
     (128, b'(', b"a)(b", Some(Refusal::Syntax(132))),
     (16_000, b'(', b"", Some(Refusal::DepthLimit)),
@@ -408,13 +372,13 @@ fn reads_whole_texts_of_a_form(rt: HostRuntime) -> Result<(), Fail> {
 }
 
 #[test]
-fn looks_at_no_flag(rt: HostRuntime) -> Result<(), Fail> {
-    for flags in [0, 1, 2, 4, 8, 32, u16::MAX] {
-        let expr = parse(rt.alloc(), b"a.[b]", Flags(flags))?;
+fn looks_at_three_flags(rt: HostRuntime) -> Result<(), Fail> {
+    for flags in [0, 8, 16, 32, 64, u16::MAX - 7] {
+        let expr = parse(rt.alloc(), b"a.[b]^", Flags(flags))?;
         let mut written = Vec::new(rt.alloc());
         write_tree(&mut written, &expr)?;
         assert!(rt;
-            written.as_slice() == b"(a_b)".as_slice(),
+            written.as_slice() == b"(a_b!A)".as_slice(),
             "under flags {flags}"
         );
     }
@@ -423,11 +387,11 @@ fn looks_at_no_flag(rt: HostRuntime) -> Result<(), Fail> {
 
 #[test]
 fn tells_its_faults(rt: HostRuntime) -> Result<(), Fail> {
-    let refused = ParseFault::Refused(Refusal::Unsupported(Construct::Later, 7));
+    let refused = ParseFault::Refused(Refusal::Unsupported(Construct::Keep, 7));
     let text = format!(in rt.alloc(); "{refused}")?;
     assert_eq!(rt;
         text.as_str(),
-        "the expression is refused: Unsupported(Later, 7)"
+        "the expression is refused: Unsupported(Keep, 7)"
     );
     let memory = format!(in rt.alloc(); "{}", ParseFault::Memory)?;
     assert_eq!(rt; memory.as_str(), "out of memory");

@@ -1,17 +1,18 @@
 use Rattle.std.proofs.Common.{sym, ◌∙◌, arith}
-use Rattle.hs_parse.proofs.PieceLemmas.{item_end}
+use Rattle.hs_parse.specs.declared.item.Item.TheVariants as item
+use Rattle.hs_parse.proofs.ItemLemmas.{item_end}
 use Rattle.hs_parse.proofs.SetLemmas.{no_items, more_items}
 use Rattle.hs_parse.proofs.class.items_of.Goals as goal
 
-pub loop-first-init : goal.loop-first-init
-loop-first-init c = (no_items _ _ _, omega arith)
+pub loop-test-init : goal.loop-test-init
+loop-test-init c = (no_items _ _ _, c.requires.within)
 
-pub loop-first-smaller : goal.loop-first-smaller
-loop-first-smaller c =
-    let far = item_end _ _ _ _ _ _ (sym c.item_at.ensures ∙ c.in-Range.is) in omega (arith, far.rises, far.within)
+pub loop-test-smaller : goal.loop-test-smaller
+loop-test-smaller c =
+    let far = item_end _ _ _ _ (item.Bytes c.in-Bytes.test c.in-Bytes.end) c.loop-test.invariant.1 (sym c.item_at.ensures ∙ c.in-Bytes.is) in omega (arith, far.0, far.1)
 
-pub loop-first-preserved : goal.loop-first-preserved
-loop-first-preserved c =
-    let there = sym c.item_at.ensures ∙ c.in-Range.is in
-    let far = item_end _ _ _ _ _ _ there in
-    (more_items _ _ _ _ _ _ _ _ _ c.loop-first.invariant.0 there c.insert_range.ensures, far.within)
+pub loop-test-preserved : goal.loop-test-preserved
+loop-test-preserved c =
+    let there = sym c.item_at.ensures ∙ c.in-Bytes.is in
+    let far = item_end _ _ _ _ (item.Bytes c.in-Bytes.test c.in-Bytes.end) c.loop-test.invariant.1 there in
+    (more_items _ _ _ _ _ _ _ _ c.loop-test.invariant.0 there c.insert_where.ensures, far.1)

@@ -18,18 +18,17 @@ decreases-sequence_at l = 5 * (128 - l.depth) + 3
 abbrev pub decreases-alternation_at : goal.decreases-alternation_at
 decreases-alternation_at l = 5 * (128 - l.depth) + 4
 
--- the alternatives so far are read up to the place
+-- the alternatives so far are read up to the spot
 abbrev pub invariant-alternation_at-loop-alternatives : goal.invariant-alternation_at-loop-alternatives
 invariant-alternation_at-loop-alternatives l =
-    AlternativesRead l.text l.fn.flags l.fn.depth l.fn.start (map tree_of l.alternatives.items) l.at
+    AlternativesRead l.text l.fn.depth l.fn.start (map tree_of l.alternatives.items) l.at
 
 abbrev pub decreases-alternation_at-loop-alternatives : goal.decreases-alternation_at-loop-alternatives
-decreases-alternation_at-loop-alternatives l = length l.text - l.at
+decreases-alternation_at-loop-alternatives l = length l.text - l.at.place
 
--- the items so far are read up to the place
-abbrev pub invariant-sequence_at-loop-items : goal.invariant-sequence_at-loop-items
-invariant-sequence_at-loop-items l =
-    SequenceRead l.text l.fn.flags l.fn.depth l.fn.start (map tree_of l.items.items) l.at
+-- the items so far are read up to the spot
+abbrev pub invariant-sequence_at-loop-at : goal.invariant-sequence_at-loop-at
+invariant-sequence_at-loop-at l = SequenceRead l.text l.fn.depth l.fn.start (map tree_of l.items.items) l.at
 
-abbrev pub decreases-sequence_at-loop-items : goal.decreases-sequence_at-loop-items
-decreases-sequence_at-loop-items l = length l.text - l.at
+abbrev pub decreases-sequence_at-loop-at : goal.decreases-sequence_at-loop-at
+decreases-sequence_at-loop-at l = length l.text - l.at.place

@@ -1,9 +1,9 @@
-use Rattle.hs_parse.proofs.ParserLemmas.{class_at, no_class_at}
+use Rattle.hs_parse.specs.declared.token.Token.TheVariants as seen
+use Rattle.hs_parse.proofs.ReadingLemmas.{class_next}
 use Rattle.hs_parse.proofs.token.bracket_at.Goals as goal
 
 pub returns-in-Ok : goal.returns-in-Ok
-returns-in-Ok c =
-    let there = class_at _ c.args.flags _ _ _ c.requires.role c.in-Ok.ensures in (there.there, there.rises, there.within)
+returns-in-Ok c = class_next _ _ _ (seen.Single c.in-Ok.set) c.requires.made c.requires.within c.in-Ok.ensures
 
 pub returns-in-Err : goal.returns-in-Err
-returns-in-Err c = (c.args.at, no_class_at _ c.args.flags _ _ c.requires.role c.in-Err.ensures)
+returns-in-Err c = class_next _ _ _ (seen.Refused c.in-Err.refusal) c.requires.made c.requires.within c.in-Err.ensures

@@ -1,6 +1,6 @@
 use Rattle.std.proofs.Common.{◌≡◌, ℕ, get_or, Some, slice_get, arith}
 use Rattle.std.proofs.lemmas.Option.{slice_get-get_or}
-use Rattle.hs_run.specs.Running.{IsPassed, ends_of}
+use Rattle.hs_run.specs.Running.{ends_of}
 use Rattle.hs_run.proofs.RoleLemmas.{asleep-moved}
 use Rattle.hs_run.proofs.roles.step_role.Goals as goal
 

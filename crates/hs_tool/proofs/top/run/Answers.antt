@@ -1,10 +1,10 @@
 use Rattle.std.proofs.Common.{map, string_bytes, None, Some, refl}
 use Rattle.hs_outside.proofs.Sending.{Took-nothing}
-use Rattle.hs_tool.specs.Requests.{request_of}
+use Rattle.hs_request.specs.Requests.{request_of}
 use Rattle.hs_tool.specs.Causes.{cause_of}
 use Rattle.hs_tool.specs.Answers.{told}
 use Rattle.hs_tool.proofs.DueLemmas.{due_outcome}
-use Rattle.hs_tool.proofs.StatusLemmas.{answer_status, answer_usage, answer_fault, answer_silent, answer_complete}
+use Rattle.hs_tool.proofs.StatusLemmas.{answer_status, answer_usage, answer_no_command, answer_fault, answer_silent, answer_unput, answer_complete}
 use Rattle.hs_tool.proofs.top.run.Goals as goal
 
 pub returns-in-Ok-clause-answer : goal.returns-in-Ok-clause-answer
@@ -31,11 +31,17 @@ returns-in-Ok-clause-status g c = answer_status (returns-in-Ok-clause-answer g c
 pub returns-in-Ok-clause-usage : goal.returns-in-Ok-clause-usage
 returns-in-Ok-clause-usage g c = answer_usage (returns-in-Ok-clause-answer g c)
 
+pub returns-in-Ok-clause-no_command : goal.returns-in-Ok-clause-no_command
+returns-in-Ok-clause-no_command g c = answer_no_command (returns-in-Ok-clause-answer g c)
+
 pub returns-in-Ok-clause-fault : goal.returns-in-Ok-clause-fault
 returns-in-Ok-clause-fault g c = answer_fault (returns-in-Ok-clause-answer g c)
 
 pub returns-in-Ok-clause-silent : goal.returns-in-Ok-clause-silent
 returns-in-Ok-clause-silent g c = answer_silent (returns-in-Ok-clause-answer g c)
+
+pub returns-in-Ok-clause-unput : goal.returns-in-Ok-clause-unput
+returns-in-Ok-clause-unput g c = answer_unput (returns-in-Ok-clause-answer g c) c.in-Ok.ensures.kept
 
 pub returns-in-Ok-clause-complete : goal.returns-in-Ok-clause-complete
 returns-in-Ok-clause-complete g c = answer_complete (returns-in-Ok-clause-answer g c)
@@ -46,11 +52,17 @@ returns-in-Err-clause-status g c = answer_status (returns-in-Err-clause-answer g
 pub returns-in-Err-clause-usage : goal.returns-in-Err-clause-usage
 returns-in-Err-clause-usage g c = answer_usage (returns-in-Err-clause-answer g c)
 
+pub returns-in-Err-clause-no_command : goal.returns-in-Err-clause-no_command
+returns-in-Err-clause-no_command g c = answer_no_command (returns-in-Err-clause-answer g c)
+
 pub returns-in-Err-clause-fault : goal.returns-in-Err-clause-fault
 returns-in-Err-clause-fault g c = answer_fault (returns-in-Err-clause-answer g c)
 
 pub returns-in-Err-clause-silent : goal.returns-in-Err-clause-silent
 returns-in-Err-clause-silent g c = answer_silent (returns-in-Err-clause-answer g c)
+
+pub returns-in-Err-clause-unput : goal.returns-in-Err-clause-unput
+returns-in-Err-clause-unput g c = answer_unput (returns-in-Err-clause-answer g c) c.in-Err.ensures.kept
 
 pub returns-in-Err-clause-complete : goal.returns-in-Err-clause-complete
 returns-in-Err-clause-complete g c = answer_complete (returns-in-Err-clause-answer g c)

@@ -13,15 +13,17 @@ pub returns : goal.returns
 returns g c =
     let old = c.args.self.now in
     let program = c.args.program.now in
-    let count : length c.identifiers.result.now ≡ length (identifiers_of program) = ap length c.identifiers.ensures in
-    (λ is. record {
-      kept = omega (arith, c.len.ensures, count, old.kept.ok.0, c.if-len-identifiers.false);
-      region = omega (arith, c.len-2.ensures, c.region_len.ensures, old.region.ok.0, c.if-len-region_len.false);
-      well =
-          subst (λ rs. AreWell g.E.Engine.well rs (starts_of program) old.region.items old.offset) c.roles.ensures
-          (subst (λ ss. AreWell g.E.Engine.well c.roles.result.now ss old.region.items old.offset) c.starts.ensures
-          (subst (λ bs. AreWell g.E.Engine.well c.roles.result.now c.starts.result.now bs old.offset) c.deref.ensures.value (c.are_well.ensures.0 is)));
-    }, λ fits. c.are_well.ensures.1
-        (subst (λ rs. AreWell g.E.Engine.well rs c.starts.result.now c.deref.result.now old.offset) (sym c.roles.ensures)
-        (subst (λ ss. AreWell g.E.Engine.well (roles_of program) ss c.deref.result.now old.offset) (sym c.starts.ensures)
-        (subst (λ bs. AreWell g.E.Engine.well (roles_of program) (starts_of program) bs old.offset) (sym c.deref.ensures.value) fits.well))))
+    let count : length c.identifiers.result.now ≡ length (identifiers_of program) = ap length c.identifiers.ensures in (
+      λ is. record {
+        kept = omega (arith, c.len.ensures, count, old.kept.ok.0, c.if-len-identifiers.false);
+        region = omega (arith, c.len-2.ensures, c.region_len.ensures, old.region.ok.0, c.if-len-region_len.false);
+        well =
+            subst (λ rs. AreWell g.E.Engine.well rs (starts_of program) old.region.items old.offset) c.roles.ensures
+            (subst (λ ss. AreWell g.E.Engine.well c.roles.result.now ss old.region.items old.offset) c.starts.ensures
+            (subst (λ bs. AreWell g.E.Engine.well c.roles.result.now c.starts.result.now bs old.offset) c.deref.ensures.value (c.are_well.ensures.0 is)));
+      },
+      λ fits. c.are_well.ensures.1
+          (subst (λ rs. AreWell g.E.Engine.well rs c.starts.result.now c.deref.result.now old.offset) (sym c.roles.ensures)
+          (subst (λ ss. AreWell g.E.Engine.well (roles_of program) ss c.deref.result.now old.offset) (sym c.starts.ensures)
+          (subst (λ bs. AreWell g.E.Engine.well (roles_of program) (starts_of program) bs old.offset) (sym c.deref.ensures.value) fits.well))),
+    )

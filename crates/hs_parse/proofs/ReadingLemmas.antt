@@ -1,0 +1,116 @@
+-- What the functions that read tokens find out, in the words of the grammar.
+use Rattle.std.proofs.Common.{◌≡◌, ℕ, ◌+◌, ◌<◌, ◌≤◌, Bool, not, List, length, Option, Some, None, Ok, refl, sym, ap, subst, ◌∙◌, arith}
+use Rattle.std.specs.Prelude.{if◌then◌else◌}
+use Rattle.hs_base.specs.declared.byte_set.ByteSet.{ByteSet}
+use Rattle.hs_base.specs.declared.refusal.Refusal.{Refusal}
+use Rattle.hs_base.specs.declared.refusal.Refusal.TheVariants.{Syntax}
+use Rattle.hs_base.specs.ByteSets.{has, members}
+use Rattle.hs_syntax.specs.declared.mode.Mode.{Mode}
+use Rattle.hs_parse.specs.declared.item.Item.TheVariants as item
+use Rattle.hs_parse.specs.declared.spot.Spot.{Spot}
+use Rattle.hs_parse.specs.declared.token.Found.{Found}
+use Rattle.hs_parse.specs.declared.token.Token.{Token as Seen}
+use Rattle.hs_parse.specs.declared.token.Token.TheVariants as seen
+use Rattle.hs_parse.specs.Spots.{spot}
+use Rattle.hs_parse.specs.Classes.{item_at, is_negated, items_start}
+use Rattle.hs_parse.specs.Tokens.{Token, single, faulty, token, skips, bracket, made_at, ClassToken, closed, unclosed, refused, formed, bracketed, Next, now, skipped}
+use Rattle.hs_parse.specs.Reading.{HasItems, EndsItems, AreItemsOf, plain_token, IsNext}
+use Rattle.hs_parse.proofs.SetLemmas.{members-class}
+use Rattle.hs_parse.proofs.TokenLemmas.{class_takes, token_takes, skip_takes}
+
+-- what the items of a class are, at the start that the parser has
+pub as_closed :
+    (text : List ℕ) (caseless : Bool) (at start close : ℕ) (set : ByteSet) (o : Option (ByteSet × ℕ)) →
+    start ≡ items_start text at → o ≡ Some (set, close) → AreItemsOf text caseless start (Ok o) →
+    HasItems text caseless (items_start text at) set close × (item_at text caseless (items_start text at) close ≡ item.Close)
+as_closed text caseless at start close set o same e there =
+    let here = subst (λ x. AreItemsOf text caseless start (Ok x)) e there in
+    subst (λ x. AreItemsOf text caseless x (Ok (Some (set, close)))) same here
+
+pub as_unclosed :
+    (text : List ℕ) (caseless : Bool) (at start : ℕ) (o : Option (ByteSet × ℕ)) →
+    start ≡ items_start text at → o ≡ None → AreItemsOf text caseless start (Ok o) →
+    EndsItems text caseless (items_start text at) item.End
+as_unclosed text caseless at start o same e there =
+    let here = subst (λ x. AreItemsOf text caseless start (Ok x)) e there in
+    subst (λ x. AreItemsOf text caseless x (Ok None)) same here
+
+pub as_refused :
+    (text : List ℕ) (caseless : Bool) (at start : ℕ) (refusal : Refusal) →
+    start ≡ items_start text at → EndsItems text caseless start (item.Refused refusal) →
+    EndsItems text caseless (items_start text at) (item.Refused refusal)
+as_refused text caseless at start refusal same there = subst (λ x. EndsItems text caseless x (item.Refused refusal)) same there
+
+-- a class that is closed
+pub closed_at :
+    (text : List ℕ) (caseless : Bool) (at close : ℕ) (set whole : ByteSet) →
+    HasItems text caseless (items_start text at) set close →
+    item_at text caseless (items_start text at) close ≡ item.Close →
+    ((b : ℕ) → b < 256 → has whole b ≡ (if is_negated text at then not (has set b) else has set b)) →
+    ClassToken text caseless at (single (members whole)) (close + 1)
+closed_at text caseless at close set whole items e same =
+    subst (λ bytes. ClassToken text caseless at (single bytes) (close + 1))
+    (sym (members-class set whole (is_negated text at) items.tests items.same same))
+    (closed items.items e)
+
+-- one that isn't
+pub unclosed_at :
+    (text : List ℕ) (caseless : Bool) (at : ℕ) →
+    EndsItems text caseless (items_start text at) item.End → ClassToken text caseless at (faulty (Syntax at)) at
+unclosed_at text caseless at ends = unclosed ends.items ends.there
+
+-- one with an item that is refused
+pub refused_at :
+    (text : List ℕ) (caseless : Bool) (at : ℕ) (refusal : Refusal) →
+    EndsItems text caseless (items_start text at) (item.Refused refusal) → ClassToken text caseless at (faulty refusal) at
+refused_at text caseless at refusal ends = refused ends.items ends.there
+
+abbrev pub found : Seen → (start behind : Spot) → Found
+found here start behind = record { token = here; start = start; behind = behind }
+
+-- a class that is next
+pub class_next :
+    (text : List ℕ) (s : Spot) (end : ℕ) (here : Seen) →
+    made_at text s ≡ bracket → s.place < length text → ClassToken text s.mode.caseless s.place (plain_token here) end →
+    IsNext text s (found here s (spot end s.mode))
+class_next text s end here e h there =
+    let far = class_takes h there in
+    record { there = now (bracketed e there); reached = omega arith; rises = far.rises; forward = far.forward; within = far.within }
+
+-- bytes are skipped from one spot to another
+pub record IsSkipped (text : List ℕ) (from to : Spot) : Type 0 where
+  pub more : {start t : Spot} {made : Token} → Next text to start made t → Next text from start made t
+  pub reached : from.place ≤ to.place
+  pub within : to.place ≤ length text
+
+pub none_skipped : (text : List ℕ) (s : Spot) → s.place ≤ length text → IsSkipped text s s
+none_skipped text s h = record { more = λ there. there; reached = omega arith; within = h }
+
+pub more_skipped :
+    (text : List ℕ) (from to : Spot) (mode : Mode) (n : ℕ) →
+    IsSkipped text from to → made_at text to ≡ skips mode n → IsSkipped text from (spot (to.place + n) mode)
+more_skipped text from to mode n before e =
+    let skip = skip_takes text to mode n before.within e in
+    record {
+      more = λ there. before.more (skipped e there);
+      reached = omega (arith, before.reached, skip.rises);
+      within = skip.within;
+    }
+
+-- what is next behind what is skipped
+pub next_behind : (text : List ℕ) (from to : Spot) (f : Found) → IsSkipped text from to → IsNext text to f → IsNext text from f
+next_behind text from to f before next = record {
+  there = before.more next.there;
+  reached = omega (arith, before.reached, next.reached);
+  rises = next.rises;
+  forward = next.forward;
+  within = next.within;
+}
+
+-- a token that is next
+pub token_next :
+    (text : List ℕ) (s : Spot) (here : Seen) (mode : Mode) (n : ℕ) →
+    s.place ≤ length text → made_at text s ≡ token (plain_token here) mode n → IsNext text s (found here s (spot (s.place + n) mode))
+token_next text s here mode n h e =
+    let far = token_takes h (formed e) in
+    record { there = now (formed e); reached = omega arith; rises = far.rises; forward = far.forward; within = far.within }

@@ -1,0 +1,82 @@
+//! Sets of bytes, by a test of each byte.
+ghost use Rattle.std.specs.Prelude.{◌≡◌, ℕ, ◌<◌, ◌||◌};
+ghost use Rattle.hs_base.specs.ByteSets.{has, members, bytes_where};
+ghost use Rattle.hs_parse.specs.Classes.{other_case, is_between, passes};
+ghost use Rattle.hs_parse.specs.Tokens.{any_byte};
+
+use hs_base::ByteSet;
+use hs_syntax::Named;
+
+/// Which bytes a character, a range or a class has.
+#[derive(Clone, Copy, Debug, PartialEq, Eq)]
+pub(crate) enum Test {
+    /// From the first to the last, which may be the same; where the truth value says so, in both cases.
+    Range(bool, u8, u8),
+    /// Those of the class, or those that it hasn't.
+    Class(Named, bool),
+}
+
+impl Test {
+    /// Whether a byte is one of them.
+    fn passes(self, byte: u8) -> bool
+        ensures { result ≡ passes self byte }
+    {
+        match self {
+            Test::Range(caseless, first, last) => {
+                is_between(first, last, byte)
+                    || caseless && is_between(first, last, other_case(byte))
+            }
+            Test::Class(class, negated) => class.contains(byte) != negated,
+        }
+    }
+}
+
+/// Whether the byte is within a range, both ends included.
+fn is_between(first: u8, last: u8, byte: u8) -> bool
+    ensures { result ≡ is_between first last byte }
+{
+    first <= byte && byte <= last
+}
+
+/// The same letter in the other case; another byte is itself.
+#[tactic(auto, unfolding(crate::specs::Classes::other_case))]
+fn other_case(byte: u8) -> u8
+    ensures { result ≡ other_case byte }
+{
+    match byte {
+        b'A'..=b'Z' => byte + 32,
+        b'a'..=b'z' => byte - 32,
+        _ => byte,
+    }
+}
+
+/// Adds the bytes that pass the test.
+pub(crate) fn insert_where(set: &mut ByteSet, test: Test)
+    ensures { (b : ℕ) → b < 256 → has set.new b ≡ (passes test b || has set.old b) }
+{
+    for byte in 0..256usize {
+        if test.passes(byte as u8) {
+            set.insert(byte as u8);
+        }
+    }
+}
+
+/// The bytes that pass the test.
+pub(crate) fn set_where(test: Test) -> ByteSet
+    ensures { members result ≡ bytes_where (passes test) }
+{
+    let mut set = ByteSet::EMPTY;
+    insert_where(&mut set, test);
+    set
+}
+
+/// What `.` takes.
+pub(crate) fn any_byte(dotall: bool) -> ByteSet
+    ensures { members result ≡ any_byte dotall }
+{
+    if dotall {
+        ByteSet::ALL
+    } else {
+        ByteSet::NOT_NEWLINE
+    }
+}

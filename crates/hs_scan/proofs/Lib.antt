@@ -1,0 +1,4 @@
+pub mod PassLemmas
+pub mod ScanLemmas
+pub mod FeedLemmas
+pub mod CloseLemmas

@@ -1,0 +1,4 @@
+pub mod Running
+pub mod Passing
+pub mod Printing
+pub mod Scanning

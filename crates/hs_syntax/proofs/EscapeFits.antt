@@ -1,0 +1,145 @@
+-- The lengths of escapes and of pieces of classes.
+use Rattle.std.proofs.Common.{◌≡◌, ℕ, ◌+◌, ◌-◌, ◌<◌, ◌≤◌, Bool, true, false, List, [], ◌∷◌, length, take, drop, Option, Some, None, IfSome, refl, sym, ap, ◌∙◌, arith}
+use Rattle.std.specs.Prelude.{◌&&◌, ◌==◌, not, nat_lt, nat_le, if◌then◌else◌}
+use Rattle.std.specs.List.{slice_get}
+use Rattle.std.specs.Char.{is_ascii_alphabetic, is_ascii_uppercase, to_ascii_uppercase}
+use Rattle.std.specs.Int.{is_in_range}
+use Rattle.std.proofs.lemmas.Option.{slice_get_within}
+use Rattle.hs_syntax.specs.declared.named.Named.{Named}
+use Rattle.hs_syntax.specs.declared.wrong.Wrong.{Wrong}
+use Rattle.hs_syntax.specs.declared.number.Number.{Number}
+use Rattle.hs_syntax.specs.declared.escape.Escape.{Escape}
+use Rattle.hs_syntax.specs.declared.escape.Escape.TheVariants as escape
+use Rattle.hs_syntax.specs.declared.piece.Piece.{Piece}
+use Rattle.hs_syntax.specs.declared.piece.Piece.TheVariants as piece
+use Rattle.hs_syntax.specs.Bytes.{◌∈◌, is_byte, is_one_of}
+use Rattle.hs_syntax.specs.Numbers.{number_at}
+use Rattle.hs_syntax.specs.Names.{named_letter, class_of_name, name_end}
+use Rattle.hs_syntax.specs.Escapes.{character_letter, turned_over, control_of, coded, short_at, braced_of, braced_at, hexadecimal_at, letter_of, escape_by, escape_of, escape_at}
+use Rattle.hs_syntax.specs.Pieces.{escaped_of, posix_of, posix_name, posix_at, collating_of, bracket_at, piece_of, piece_at, colon, full_stop, equals_sign}
+use Rattle.hs_syntax.specs.Lengths.{IsLength, PieceFits}
+use Rattle.hs_syntax.proofs.FitLemmas.{either, both_left, both_right, is_one_within, number_within, name_within}
+
+-- the length of an escape, of so many bytes
+abbrev pub EscapeFits : ℕ → Escape → Type 0
+EscapeFits n (escape.Character code length) = IsLength n length
+EscapeFits n (escape.Class class negated) = 2 ≤ n
+EscapeFits n (escape.Other b) = 2 ≤ n
+EscapeFits n (escape.Refused reason) = Unit {0}
+
+pub fits : {n k : ℕ} → 0 < k → k ≤ n → IsLength n k
+fits h l = record { some = h; within = l }
+
+coded_fits : (n code k : ℕ) → 0 < k → k ≤ n → EscapeFits n (coded code k)
+coded_fits n code k h l = either (EscapeFits n) (nat_le code 0xFF) _ _ (λ _. fits h l) (λ _. tt)
+
+control_fits : (bytes : List ℕ) (o : Option ℕ) → slice_get bytes 2 ≡ o → EscapeFits (length bytes) (control_of o)
+control_fits bytes None e = tt
+control_fits bytes (Some b) e =
+    let there = slice_get_within bytes 2 b e in
+    either (EscapeFits (length bytes)) (is_in_range 0x20 0x7E b) _ _ (λ _. fits (omega arith) (omega (arith, there))) (λ _. tt)
+
+short_fits : (radix : ℕ) (bytes : List ℕ) → 2 ≤ length bytes → EscapeFits (length bytes) (short_at radix bytes)
+unfolding short_at
+short_fits radix bytes h =
+    let far = number_within radix 2 bytes 2 h in
+    coded_fits (length bytes) (number_at radix 2 bytes 2).value ((number_at radix 2 bytes 2).count + 2) (omega arith) (omega (arith, far))
+
+braced_fits : (radix : ℕ) (bytes : List ℕ) → EscapeFits (length bytes) (braced_at radix bytes)
+unfolding braced_at
+braced_fits radix bytes =
+    either (EscapeFits (length bytes)) (is_one_of "{" (slice_get bytes 2) && (nat_lt 0 number.count && is_one_of "}" (slice_get bytes (number.count + 3)))) _ _
+    (λ h.
+    let there = is_one_within "}" bytes (number.count + 3) (both_right (nat_lt 0 number.count) _ (both_right (is_one_of "{" (slice_get bytes 2)) _ h)) in
+    coded_fits (length bytes) number.value (number.count + 4) (omega arith) (omega (arith, there)))
+    (λ _. tt)
+  where
+    number : Number
+    number = number_at radix 8 bytes 3
+
+hexadecimal_fits : (bytes : List ℕ) → 2 ≤ length bytes → EscapeFits (length bytes) (hexadecimal_at bytes)
+hexadecimal_fits bytes h =
+    either (EscapeFits (length bytes)) (is_one_of "{" (slice_get bytes 2)) _ _ (λ _. braced_fits 16 bytes) (λ _. short_fits 16 bytes h)
+
+letter_fits : (n b : ℕ) (character : Option ℕ) (named : Option Named) → 2 ≤ n → EscapeFits n (letter_of b character named)
+letter_fits n b (Some code) named h = fits (omega arith) h
+letter_fits n b None (Some class) h = h
+letter_fits n b None None h =
+    either (EscapeFits n) (is_ascii_alphabetic b) _ _ (λ _. h) (λ _. fits (omega arith) h)
+
+escape_by_fits : (bytes : List ℕ) (b : ℕ) → 2 ≤ length bytes → EscapeFits (length bytes) (escape_by bytes b)
+unfolding escape_by
+escape_by_fits bytes b h =
+    either (EscapeFits (length bytes)) (b ∈ "c") _ _ (λ _. control_fits bytes (slice_get bytes 2) refl)
+    (λ _. either (EscapeFits (length bytes)) (b ∈ "x") _ _ (λ _. hexadecimal_fits bytes h)
+    (λ _. either (EscapeFits (length bytes)) (b ∈ "o") _ _ (λ _. braced_fits 8 bytes)
+    (λ _. either (EscapeFits (length bytes)) (b ∈ "0") _ _ (λ _. short_fits 8 bytes h)
+    (λ _. either (EscapeFits (length bytes)) (b ∈ "123456789gk") _ _ (λ _. tt)
+    (λ _. either (EscapeFits (length bytes)) (b ∈ "pP") _ _ (λ _. tt)
+    (λ _. letter_fits (length bytes) b (character_letter b) (named_letter b) h))))))
+
+escape_of_fits : (bytes : List ℕ) (o : Option ℕ) → slice_get bytes 1 ≡ o → EscapeFits (length bytes) (escape_of bytes o)
+escape_of_fits bytes None e = tt
+escape_of_fits bytes (Some b) e = let there = slice_get_within bytes 1 b e in escape_by_fits bytes b (omega (arith, there))
+
+pub escape_fits : (bytes : List ℕ) → EscapeFits (length bytes) (escape_at bytes)
+unfolding escape_at
+escape_fits bytes = escape_of_fits bytes (slice_get bytes 1) refl
+
+escaped_fits : (n : ℕ) (e : Escape) → EscapeFits n e → PieceFits n (escaped_of e)
+escaped_fits n (escape.Character code length) h = h
+escaped_fits n (escape.Class class negated) h = fits (omega arith) h
+escaped_fits n (escape.Other b) h = either (PieceFits n) (b ∈ "b") _ _ (λ _. fits (omega arith) h) (λ _. tt)
+escaped_fits n (escape.Refused reason) h = tt
+
+posix_of_fits : (n end : ℕ) (negated : Bool) (o : Option Named) → 0 < end → end ≤ n → PieceFits n (posix_of negated end o)
+posix_of_fits n end negated None h l = tt
+posix_of_fits n end negated (Some class) h l = fits h l
+
+posix_name_fits :
+    (caseless negated : Bool) (bytes : List ℕ) (at : ℕ) (end : Option ℕ) → 1 ≤ length bytes →
+    IfSome end (λ end. (at < end) × (end + 2 ≤ length bytes)) →
+    PieceFits (length bytes) (posix_name caseless negated bytes at end)
+posix_name_fits caseless negated bytes at None h l = fits (omega arith) h
+posix_name_fits caseless negated bytes at (Some end) h l =
+    posix_of_fits (length bytes) (end + 2) negated (class_of_name caseless (take (end - at) (drop at bytes))) (omega arith) l.1
+
+posix_fits : (caseless : Bool) (bytes : List ℕ) → 1 ≤ length bytes → PieceFits (length bytes) (posix_at caseless bytes)
+unfolding posix_at
+posix_fits caseless bytes h = posix_name_fits caseless negated bytes at (name_end colon bytes at) h (name_within colon bytes at)
+  where
+    negated : Bool
+    negated = is_one_of "^" (slice_get bytes 2)
+
+    at : ℕ
+    at = if negated then 3 else 2
+
+collating_fits : (n : ℕ) (o : Option ℕ) → 1 ≤ n → PieceFits n (collating_of o)
+collating_fits n None h = fits (omega arith) h
+collating_fits n (Some end) h = tt
+
+bracket_fits : (caseless : Bool) (bytes : List ℕ) → 1 ≤ length bytes → PieceFits (length bytes) (bracket_at caseless bytes)
+unfolding bracket_at
+bracket_fits caseless bytes h =
+    either (PieceFits (length bytes)) (is_one_of ":" (slice_get bytes 1)) _ _ (λ _. posix_fits caseless bytes h)
+    (λ _. either (PieceFits (length bytes)) (is_one_of "." (slice_get bytes 1)) _ _ (λ _. collating_fits (length bytes) (name_end full_stop bytes 2) h)
+    (λ _. either (PieceFits (length bytes)) (is_one_of "=" (slice_get bytes 1)) _ _ (λ _. collating_fits (length bytes) (name_end equals_sign bytes 2) h)
+    (λ _. fits (omega arith) h)))
+
+pub no_first : (bytes : List ℕ) → slice_get bytes 0 ≡ None → length bytes ≡ 0
+no_first [] e = refl
+no_first (b ∷ bytes) e = absurd cc
+
+piece_of_fits : (caseless first : Bool) (bytes : List ℕ) (o : Option ℕ) → slice_get bytes 0 ≡ o → PieceFits (length bytes) (piece_of caseless first bytes o)
+piece_of_fits caseless first bytes None e = no_first bytes e
+piece_of_fits caseless first bytes (Some b) e =
+    let there = slice_get_within bytes 0 b e in
+    either (PieceFits (length bytes)) (b ∈ "\\") _ _ (λ _. escaped_fits (length bytes) (escape_at bytes) (escape_fits bytes))
+    (λ _. either (PieceFits (length bytes)) (b ∈ "[") _ _ (λ _. bracket_fits caseless bytes (omega (arith, there)))
+    (λ _. either (PieceFits (length bytes)) ((b ∈ "]") && not first) _ _ (λ _. fits (omega arith) (omega (arith, there)))
+    (λ _. fits (omega arith) (omega (arith, there)))))
+
+-- a piece takes some of the bytes
+pub piece_fits : (caseless first : Bool) (bytes : List ℕ) → PieceFits (length bytes) (piece_at caseless first bytes)
+unfolding piece_at
+piece_fits caseless first bytes = piece_of_fits caseless first bytes (slice_get bytes 0) refl

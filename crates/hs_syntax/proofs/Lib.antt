@@ -1,0 +1,4 @@
+pub mod NumberLemmas
+pub mod FitLemmas
+pub mod EscapeFits
+pub mod FormLengths

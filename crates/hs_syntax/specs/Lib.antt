@@ -1,0 +1,10 @@
+pub mod Bytes
+pub mod Settings
+pub mod Numbers
+pub mod Names
+pub mod Escapes
+pub mod Groups
+pub mod Quantifiers
+pub mod Pieces
+pub mod Forms
+pub mod Lengths

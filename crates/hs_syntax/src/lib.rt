@@ -1,0 +1,23 @@
+//! What the bytes of an expression begin, under the options in force: the tables of the pattern syntax. Which tree they
+//! make together is said by the crate above.
+#![tactic(auto)]
+
+mod escape;
+mod form;
+mod group;
+mod mode;
+mod name;
+mod named;
+mod number;
+mod piece;
+mod quantifier;
+mod wrong;
+
+pub use form::{Form, form_at};
+pub use mode::Mode;
+pub use named::Named;
+pub use piece::{Piece, piece_at};
+pub use wrong::Wrong;
+
+#[cfg(test)]
+mod tests;

@@ -1,0 +1,12 @@
+use hs_base::Construct;
+
+/// Why some bytes are refused. The place is told by who knows it.
+#[derive(Clone, Copy, Debug, PartialEq, Eq)]
+pub enum Wrong {
+    /// They have no form.
+    Syntax,
+    /// An escape that isn't known.
+    UnknownEscape,
+    /// A construct that isn't supported.
+    Unsupported(Construct),
+}
