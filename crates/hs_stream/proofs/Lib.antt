@@ -1,2 +1,3 @@
 pub mod WriteLemmas
 pub mod DatabaseLemmas
+pub mod StandLemmas

@@ -1,5 +1,6 @@
-//! Laws over the definitions of `specs/`, for whatever engine runs the expressions: each is the contract of a function that
-//! does nothing.
+//! Laws over the definitions of `specs/`: each is the contract of a function that does nothing. Those over lists of writes
+//! hold whatever engine runs the expressions.
+ghost use Rattle.hs_stream.specs.Standing.{FreshStands, WriteMoves, EndIsLast};
 ghost use Rattle.hs_stream.specs.Streams.{CompiledIsUsable};
 ghost use Rattle.hs_stream.specs.Writing.{WritesJoin, CutsTellNothing, StartsAreAlike};
 
@@ -8,6 +9,21 @@ use hs_engine::Engine;
 /// What a list is compiled to serves streams.
 pub fn compiled_is_usable()
     ensures { CompiledIsUsable }
+{}
+
+/// A stream that was opened, or reset, stands behind no byte.
+pub fn fresh_stands()
+    ensures { FreshStands }
+{}
+
+/// A write moves a stream on by its bytes, and reports what they newly decide.
+pub fn write_moves()
+    ensures { WriteMoves }
+{}
+
+/// A close, or a reset, reports what only the end of the stream decides.
+pub fn end_is_last()
+    ensures { EndIsLast }
 {}
 
 /// Any list of writes reports in total what one write of their bytes reports, and leads to the same state.

@@ -226,6 +226,124 @@ fn reports_the_same_at_every_cut(rt: HostRuntime) -> Result<(), Fail> {
     Ok(())
 }
 
+/// Bytes that are written, and what they report.
+type Piece = (&'static [u8], &'static [Told]);
+
+/// Lists, pieces that are written one after another, and what the end reports behind them.
+const DECISIONS: &[(&[Row], &[Piece], &[Told])] = &[
+    (
+        &[(4, "a$", Flags::MULTILINE)],
+        &[(b"a", &[]), (b"\nb", &[(4, 1)])],
+        &[],
+    ),
+    (
+        &[(5, "\\bfoo\\b", Flags::NONE)],
+        &[(b"foo", &[])],
+        &[(5, 3)],
+    ),
+    (
+        &[(5, "\\bfoo\\b", Flags::NONE)],
+        &[(b"foo", &[]), (b"d", &[])],
+        &[],
+    ),
+    (&[(17, "a$", Flags::NONE)], &[(b"a", &[])], &[(17, 1)]),
+    (
+        &[(17, "a$", Flags::NONE)],
+        &[(b"a", &[]), (b"\n", &[])],
+        &[(17, 1)],
+    ),
+    (
+        &[(15, "[0-9]+foo[a-z]*bar", Flags::NONE)],
+        &[
+            (b"1f", &[]),
+            (b"oox", &[]),
+            (b"ba", &[]),
+            (b"r", &[(15, 8)]),
+        ],
+        &[],
+    ),
+    (
+        &[(5, "a\\b", Flags::NONE), (9, "a", Flags::NONE)],
+        &[(b"a", &[(9, 1)]), (b" ", &[(5, 1)])],
+        &[],
+    ),
+    (
+        &[(12, "a$|\\n", Flags::SINGLEMATCH)],
+        &[(b"a", &[]), (b"\n", &[(12, 2)])],
+        &[],
+    ),
+];
+
+/// Writes the pieces one after another.
+fn write_pieces<L: Ledger>(
+    rt: &impl Abort,
+    alloc: Global,
+    db: &Database,
+    scratch: &mut Scratch,
+    stream: &mut Stream,
+    steps: &mut Steps<L>,
+    pieces: &[Piece],
+) -> Result<(), Fail>
+    requires usable { IsUsable db.now }
+    requires stream { IsStreamOf db.now stream.old }
+    requires scratch { IsScratchOf db.now scratch.old }
+    ensures stream { IsStreamOf db.now stream.new }
+    ensures scratch { IsScratchOf db.now scratch.new }
+{
+    for (bytes, wanted) in pieces {
+        write(rt, alloc, db, scratch, stream, steps, bytes, wanted)?;
+    }
+    Ok(())
+}
+
+/// Writes the pieces, resets, writes them again, and closes.
+fn scan_pieces<L: Ledger>(
+    rt: &impl Abort,
+    alloc: Global,
+    list: &[Row],
+    pieces: &[Piece],
+    last: &[Told],
+    blank: Blank,
+) -> Result<(), Fail>
+    requires name { blank.name ≡ L.name }
+    requires parts { blank.parts ≡ L.parts }
+    requires some { 0 < L.parts }
+{
+    let db = database_of(alloc, list)?;
+    let mut steps = Steps::<L>::open(blank);
+    let mut scratch = Scratch::new(alloc, &db)?;
+    let mut stream = Stream::open(alloc, &db)?;
+    write_pieces(
+        rt,
+        alloc,
+        &db,
+        &mut scratch,
+        &mut stream,
+        &mut steps,
+        pieces,
+    )?;
+    reset(rt, alloc, &db, &mut scratch, &mut stream, last)?;
+    write_pieces(
+        rt,
+        alloc,
+        &db,
+        &mut scratch,
+        &mut stream,
+        &mut steps,
+        pieces,
+    )?;
+    close(rt, alloc, &db, &mut scratch, stream, last)
+}
+
+#[test]
+fn reports_when_it_is_decided(rt: HostRuntime) -> Result<(), Fail> {
+    let alloc = rt.alloc();
+    for (list, pieces, last) in DECISIONS {
+        scan_pieces::<Brand>(&rt, alloc, list, pieces, last, Blank::new(1))?;
+    }
+    Ok(())
+}
+
 /// Two streams take turns with one scratch, and one is reset in the midst of a match.
 fn scan_in_turns<L: Ledger>(rt: &impl Abort, alloc: Global, blank: Blank) -> Result<(), Fail>
     requires name { blank.name ≡ L.name }
