@@ -1,0 +1,4 @@
+pub mod EntryLemmas
+pub mod DistanceLemmas
+pub mod FirstLemmas
+pub mod LastLemmas
