@@ -86,7 +86,7 @@ abbrev pub IsLastOf : ByteSet → ℕ → Tree → Type 0
 IsLastOf set m tree = (tree ≡ repeat (class (members set)) 0 (Some m)) ⊎ (tree ≡ repeat (class (members set)) 1 (Some m))
 
 module _ (set : ByteSet) (m : ℕ) (bytes : List ℕ) (zero_row : distance_of bytes ≡ 0) where
-  last-empty : (tree : Tree) (u : List ℕ) (entered : List Bool) → IsLastOf set m tree → IsLastRow m (members set) bytes u entered → (next : Next) → Leaves tree u entered next → ⊥
+  pub last-empty : (tree : Tree) (u : List ℕ) (entered : List Bool) → IsLastOf set m tree → IsLastRow m (members set) bytes u entered → (next : Next) → Leaves tree u entered next → ⊥
   last-empty tree u entered (inl is) last next leaves =
       leaves-last set 0 m (omega arith) u entered (distance_of bytes) last next (subst (λ t. Leaves t u entered next) is leaves) zero_row
   last-empty tree u entered (inr is) last next leaves =
@@ -115,3 +115,11 @@ module _ (set : ByteSet) (m : ℕ) (bytes : List ℕ) (zero_row : distance_of by
     leaves_nothing = λ tree u entered is len last. last-empty tree u entered is last;
     leaves_nothing_behind = λ tree u entered enters is len last always. last-empty tree (u ++ b ∷ []) (entered ++ enters ∷ []) is (last-outside u entered len b byte enters isnt);
   }
+
+-- a row that isn't at rest
+
+pub left-last : (set : ByteSet) (m : ℕ) (bytes : List ℕ) → 0 < distance_of bytes → (tree : Tree) (u : List ℕ) (entered : List Bool) → IsLastOf set m tree → IsLastRow m (members set) bytes u entered → (next : Next) → Leaves tree u entered next
+left-last set m bytes ahead tree u entered (inl is) last next =
+    subst (λ t. Leaves t u entered next) (sym is) (last-leaves set 0 m (omega arith) u entered (distance_of bytes) last next ahead)
+left-last set m bytes ahead tree u entered (inr is) last next =
+    subst (λ t. Leaves t u entered next) (sym is) (last-leaves set 1 m (omega arith) u entered (distance_of bytes) last next ahead)

@@ -122,8 +122,7 @@ impl Engine for Ring {
     }
 
     fn well_formed(&self, region: &[u8], at: u64) -> bool {
-        let greatest = self.greatest as usize;
-        let places = if at < u64::from(self.greatest) { at as usize } else { greatest };
-        !has_bit_in(region, places, BYTE_BITS * region.len())
+        let places = u64::from(self.greatest).min(at);
+        !has_bit_in(region, places as usize, BYTE_BITS * region.len())
     }
 }
