@@ -9,6 +9,8 @@ use Rattle.std.proofs.lemmas.Nat.Bits.{bit_at-lt, bit_at-zero, bit_at_xor, bit_a
 use Rattle.std.proofs.Math.Nat.{mod-eq_of_lt, mod-lt, add-mod_right}
 use Rattle.hs_engine.specs.Bits.{AreZero, has_bit}
 use Rattle.hs_engine.proofs.BitLemmas.{bits-zero}
+use Rattle.hs_engine.proofs.RowLemmas.{bits-past}
+use mathlib.Core.Bool.{beq, not}
 use Rattle.hs_repeat.specs.BitRanges.{HasBitIn, HasBitRound}
 
 -- one bit turned over
@@ -44,7 +46,7 @@ same_byte bytes k b below e =
     let within : k / 8 < length bytes = omega arith in
     rw e (rw get_or-set_same (ap (λ n. bit_xor (get_or bytes (k / 8) 0) n) (power (k % 8) (omega arith))))
 
-pub bit-flipped : (bytes : List ℕ) (k b : ℕ) (value : Bool) → k < 8 * length bytes → (has_bit bytes k ≡ value → ⊥) → has_bit (flipped bytes k) b ≡ (if b == k then value else has_bit bytes b)
+pub bit-flipped : (bytes : List ℕ) (k b : ℕ) (value : Bool) → k < 8 * length bytes → (has_bit bytes k ≡ value → ⊥) → has_bit (flipped bytes k) b ≡ (if eqb b k then value else has_bit bytes b)
 unfolding has_bit
 bit-flipped bytes k b value below other =
     elim (cases_eq (b / 8) (k / 8)) [
@@ -166,3 +168,23 @@ module _ (bytes : List ℕ) (size first count : ℕ) (start : first < size) (wit
             let f : x % size ≡ x - size = ap (λ n. n % size) (sym e) ∙ (add-mod_right (x - size) size ∙ mod-eq_of_lt near) in
             inr (record { bit = x - size; above = omega arith; below = omega arith; set = subst (λ p. has_bit bytes p ≡ true) f some.set }, omega arith)
       ]
+
+-- truth values
+
+pub apart : (a b : Bool) → not (beq a b) ≡ true → a ≡ b → ⊥
+apart true true told same = let e : false ≡ true = told in cc
+apart true false told same = let e : true ≡ false = same in cc
+apart false true told same = let e : false ≡ true = same in cc
+apart false false told same = let e : false ≡ true = told in cc
+
+pub denied : (b : Bool) → (b ≡ true → ⊥) → b ≡ false
+denied true isnt = absurd (isnt refl)
+denied false isnt = refl
+
+-- no bit of a range that goes to the end of the bytes is set
+pub bits-none : (bytes : List ℕ) (first : ℕ) → (HasBitIn bytes first (8 * length bytes) → ⊥) → (k : ℕ) → first ≤ k → has_bit bytes k ≡ false
+bits-none bytes first none k above =
+    elim (cases_lt k (8 * length bytes)) [
+      | inl below ↦ denied (has_bit bytes k) (λ is. none (record { bit = k; above = above; below = below; set = is }))
+      | inr past ↦ bits-past bytes k past
+    ]
