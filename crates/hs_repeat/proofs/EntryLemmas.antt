@@ -91,11 +91,13 @@ module _ (set : ByteSet) (u : List ℕ) (entered : List Bool) (len : length ente
 copies-bytes : (set : List Bool) (w : List ℕ) (k i j : ℕ) → Copies (λ x y. IsByteOf set w x × (y ≡ x + 1)) k i j → (j ≡ i + k) × ((x : ℕ) → i ≤ x → x < i + k → IsByteOf set w x)
 copies-bytes set w zero i j same = (omega arith, λ x above below. absurd (omega arith))
 copies-bytes set w (suc k) i j (m, (byte, next), rest) =
-    let (end, bytes) = copies-bytes set w k m j rest in
-    (omega arith, λ x above below. elim (cases_eq i x) [
-      | inl same ↦ subst (IsByteOf set w) same byte
-      | inr apart ↦ bytes x (omega arith) (omega arith)
-    ])
+    let (end, bytes) = copies-bytes set w k m j rest in (
+      omega arith,
+      λ x above below. elim (cases_eq i x) [
+        | inl same ↦ subst (IsByteOf set w) same byte
+        | inr apart ↦ bytes x (omega arith) (omega arith)
+      ],
+    )
 
 bytes-copies : (set : List Bool) (w : List ℕ) (k i j : ℕ) → j ≡ i + k → ((x : ℕ) → i ≤ x → x < i + k → IsByteOf set w x) → Copies (λ x y. IsByteOf set w x × (y ≡ x + 1)) k i j
 bytes-copies set w zero i j end bytes = omega arith
@@ -109,16 +111,20 @@ pub leaves-away : (set : List Bool) (n : ℕ) (m : Option ℕ) (u : List ℕ) (e
 leaves-away set n m u entered next leaves =
     let (k, low, high, copies) = leaves.spans in
     let (end, bytes) = copies-bytes set (then_bytes u next) k leaves.from (length u) copies in
-    let (v, begins) = then-begins u next in
-    (k, record {
-      from = leaves.from;
-      ends = sym end;
-      unbroken = record {
-        is_entered = leaves.is_entered;
-        before = leaves.before;
-        inside = λ i above below. byte_of-shorter u v set i below (subst (λ w. IsByteOf set w i) begins (bytes i above (omega arith)));
-      };
-    }, low, high)
+    let (v, begins) = then-begins u next in (
+      k,
+      record {
+        from = leaves.from;
+        ends = sym end;
+        unbroken = record {
+          is_entered = leaves.is_entered;
+          before = leaves.before;
+          inside = λ i above below. byte_of-shorter u v set i below (subst (λ w. IsByteOf set w i) begins (bytes i above (omega arith)));
+        };
+      },
+      low,
+      high,
+    )
 
 pub away-leaves : (set : List Bool) (n : ℕ) (m : Option ℕ) (u : List ℕ) (entered : List Bool) (next : Next) (d : ℕ) →
     IsAway set u entered d → n ≤ d → IfSome m (λ k. d ≤ k) → Leaves (repeat (class set) n m) u entered next
@@ -129,8 +135,13 @@ away-leaves set n m u entered next d away low high =
       from = away.from;
       is_entered = away.unbroken.is_entered;
       before = away.unbroken.before;
-      spans = (d, low, high, bytes-copies set (then_bytes u next) d away.from (length u) (sym ends)
-      (λ x above below.
-      let within : x < length u = omega arith in
-      subst (λ w. IsByteOf set w x) (sym begins) (byte_of-longer u v set x within (away.unbroken.inside x above within))));
+      spans = (
+        d,
+        low,
+        high,
+        bytes-copies set (then_bytes u next) d away.from (length u) (sym ends)
+            (λ x above below.
+            let within : x < length u = omega arith in
+            subst (λ w. IsByteOf set w x) (sym begins) (byte_of-longer u v set x within (away.unbroken.inside x above within))),
+      );
     }

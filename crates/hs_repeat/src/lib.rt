@@ -12,3 +12,5 @@ pub use first::First;
 pub use last::Last;
 pub use ring::Ring;
 
+#[cfg(test)]
+mod tests;

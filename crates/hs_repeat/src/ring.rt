@@ -58,7 +58,12 @@ impl Ring {
         }
         let first = (at - farthest) % u64::from(self.greatest);
         let count = farthest - nearest + 1;
-        has_bit_round(region, self.greatest as usize, first as usize, count as usize)
+        has_bit_round(
+            region,
+            self.greatest as usize,
+            first as usize,
+            count as usize,
+        )
     }
 }
 
