@@ -1,0 +1,4 @@
+pub mod BitRanges
+pub mod Entries
+pub mod RepeatEngines
+pub mod RepeatRows

@@ -1,0 +1,122 @@
+//! The engine of at most so many bytes of a set.
+
+ghost use Rattle.std.specs.Prelude.{◌≡◌, ℕ, ◌+◌, ◌<◌, ◌≤◌, Bool, true, false, List, [], ◌∷◌, ◌++◌, length, Some};
+ghost use Rattle.hs_base.specs.ByteSets.{has, members};
+ghost use Rattle.hs_base.specs.Trees.{greatest_bound};
+ghost use Rattle.hs_repeat.specs.Entries.{IsAway};
+ghost use Rattle.hs_repeat.specs.RepeatRows.{IsDistanceAt, IsLastDistance, IsLastRow, distance_of};
+
+use crate::distance::{DISTANCE_LEN, read_distance, write_distance};
+use hs_base::{ByteSet, Next, NextSet, Prev};
+use hs_engine::{Engine, Steps};
+use std::sync::ledger::Ledger;
+
+/// Runs at most so many bytes of a set, and none or one at least, as `a{0,100}`. It keeps how far the nearest entry is away
+/// whose bytes are all in the set: it lives longest.
+#[derive(Debug, Drop)]
+pub struct Last {
+    set: ByteSet,
+    /// The greatest number of bytes.
+    greatest: u32,
+    ghost some: { 0 < greatest },
+    ghost bounded: { greatest ≤ greatest_bound },
+}
+
+impl Last {
+    ghost use Rattle.hs_repeat.specs.RepeatEngines.{RunsLast, repeat_of};
+
+    /// The engine of at most `greatest` bytes of the set.
+    pub fn new(set: ByteSet, greatest: u32) -> Last
+        requires some { 0 < greatest }
+        requires bounded { greatest ≤ greatest_bound }
+        ensures from_none { RunsLast result (repeat_of set 0 (Some greatest)) }
+        ensures from_one { RunsLast result (repeat_of set 1 (Some greatest)) }
+    {
+        Last { set, greatest }
+    }
+
+    /// The distance behind the byte, before which the repeat is entered or not.
+    fn next_distance(&self, distance: u32, entering: bool, byte: u8) -> u32
+        requires { distance ≤ self.now.greatest }
+        ensures bounded { result ≤ self.now.greatest }
+        ensures within { result ≤ distance + 1 }
+        ensures moves { (u : List ℕ) (entered : List Bool) → length entered ≡ length u →
+            IsLastDistance self.now.greatest (IsAway (members self.now.set) u entered) distance →
+            IsLastDistance self.now.greatest (IsAway (members self.now.set) (u ++ byte ∷ []) (entered ++ entering ∷ [])) result }
+        ensures rests { distance ≡ 0 → entering ≡ false → result ≡ 0 }
+    {
+        if !self.set.contains(byte) {
+            0
+        } else if entering {
+            1
+        } else if distance == 0 {
+            0
+        } else if distance < self.greatest {
+            distance + 1
+        } else {
+            0
+        }
+    }
+}
+
+impl Engine for Last {
+    ghost use Rattle.hs_repeat.specs.RepeatEngines.{RunsLast};
+
+    ghost width = { λ e. 2 };
+
+    ghost is_for = { λ e tree. RunsLast e tree };
+
+    ghost field = { λ e bytes tree u entered. IsLastRow e.greatest (members e.set) bytes u entered };
+
+    ghost rests = { λ e bytes. distance_of bytes ≡ 0 };
+
+    ghost sleeps = { λ e bytes b. (distance_of bytes ≡ 0) × (has e.set b ≡ false) };
+
+    ghost well = { λ e bytes at. IsDistanceAt e.greatest (distance_of bytes) at };
+
+    ghost enters_always = { λ e. false };
+
+    fn size(&self) -> usize {
+        DISTANCE_LEN
+    }
+
+    fn clear(&self, region: &mut [u8]) {
+        write_distance(region, 0);
+    }
+
+    fn step<L: Ledger>(
+        &self,
+        region: &mut [u8],
+        _prev: Prev,
+        _at: u64,
+        enter: NextSet,
+        byte: u8,
+        steps: &mut Steps<L>,
+    ) {
+        steps.tick();
+        let entering = enter.contains(Next::class_of(byte));
+        let distance = self.next_distance(read_distance(region), entering, byte);
+        write_distance(region, distance);
+    }
+
+    fn out(&self, region: &[u8], _prev: Prev, _at: u64) -> NextSet {
+        if read_distance(region) == 0 {
+            NextSet::empty()
+        } else {
+            NextSet::all()
+        }
+    }
+
+    fn at_rest(&self, region: &[u8]) -> bool {
+        read_distance(region) == 0
+    }
+
+    fn sleeps(&self, region: &[u8], byte: u8) -> bool {
+        read_distance(region) == 0 && !self.set.contains(byte)
+    }
+
+    fn well_formed(&self, region: &[u8], at: u64) -> bool {
+        let distance = read_distance(region);
+        distance <= self.greatest && u64::from(distance) <= at
+    }
+}

@@ -1,0 +1,16 @@
+//! Engines of long repeats of one set of bytes. Each keeps of its entries only what tells where the repeat may be left, and
+//! takes no memory of its own.
+#![tactic(auto)]
+
+mod bit_ranges;
+mod distance;
+mod first;
+mod last;
+mod ring;
+
+pub use first::First;
+pub use last::Last;
+pub use ring::Ring;
+
+#[cfg(test)]
+mod tests;
