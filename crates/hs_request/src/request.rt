@@ -6,26 +6,36 @@ ghost use Rattle.clap.specs.declared.error.ErrorKind.TheVariants.{OutOfMemory};
 ghost use Rattle.hs_request.specs.Requests.{request_of as request_of_words, request_in, request_named, plain_request, operand_in};
 
 use crate::command_line::command_line;
-use clap::{ArgMatches, Error};
 use clap::error::ErrorKind;
+use clap::{ArgMatches, Error};
 use std::alloc::{AllocError, Global};
 
 /// What the words ask for.
 #[derive(Clone, Copy, Debug, PartialEq, Eq)]
 pub enum Request<'a> {
     /// `match PATTERNS FILE`: scan a file for the expressions of a pattern file.
-    Match { patterns: &'a str, file: &'a str },
+    Match {
+        patterns: &'a str,
+        file: &'a str,
+    },
     /// `check PATTERNS`: whether the list of a pattern file is accepted.
-    Check { patterns: &'a str },
+    Check {
+        patterns: &'a str,
+    },
     /// `compile PATTERNS DB`: put the database file of a pattern file.
     Compile {
         patterns: &'a str,
         database: &'a str,
     },
     /// `info DB`: what a database file holds.
-    Info { database: &'a str },
+    Info {
+        database: &'a str,
+    },
     /// `scan DB FILE`: scan a file for the expressions of a database file.
-    Scan { database: &'a str, file: &'a str },
+    Scan {
+        database: &'a str,
+        file: &'a str,
+    },
 }
 
 /// The request of the words, which begin with the program's name; none where the command line doesn't take them.

@@ -89,7 +89,11 @@ fn takes_subcommands_with_operands(rt: HostRuntime) -> Result<(), Fail> {
         for word in taken.iter() {
             words.push(String::from_str(alloc, word)?)?;
         }
-        assert_eq!(rt; request_of(alloc, words.as_slice())?, Some(*request), "row {row}");
+        assert_eq!(rt;
+            request_of(alloc, words.as_slice())?,
+            Some(*request),
+            "row {row}"
+        );
     }
     Ok(())
 }

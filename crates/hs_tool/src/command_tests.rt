@@ -60,18 +60,8 @@ const CHECKED: &[(&[u8], u8, &[u8], &[u8])] = &[
 
 /// Database files, and what `info` answers.
 const TOLD: &[(&[u8], u8, &[u8], &[u8])] = &[
-    (
-        &FOO,
-        0,
-        b"version 1\nexpressions 1\nidentifiers 1\n",
-        b"",
-    ),
-    (
-        &EMPTY,
-        0,
-        b"version 1\nexpressions 0\nidentifiers 0\n",
-        b"",
-    ),
+    (&FOO, 0, b"version 1\nexpressions 1\nidentifiers 1\n", b""),
+    (&EMPTY, 0, b"version 1\nexpressions 0\nidentifiers 0\n", b""),
     (&FLAGGED, 2, b"", b"refused 1 16 4 UnsupportedFlag 256\n"),
     (b"HSDX", 4, b"", b"fault database 3\n"),
     (b"", 4, b"", b"fault database 0\n"),
