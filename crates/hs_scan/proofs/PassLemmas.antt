@@ -1,6 +1,7 @@
 -- Lines on their way to a sink, one after the other.
 use Rattle.std.proofs.Common.{◌≡◌, ℕ, Bool, true, false, List, [], ◌∷◌, ◌++◌, Option, refl, sym, ap, ◌∙◌, subst, append_assoc, append-nil}
 use Rattle.std.proofs.lemmas.Bool.{false≢true}
+use Rattle.std.specs.List.{flat_map}
 use Rattle.std.proofs.lemmas.List.Concat.{flat_map-append}
 use Rattle.hs_base.specs.Told.{Pair}
 use Rattle.hs_base.specs.MatchText.{report_line, report_lines}
@@ -49,52 +50,71 @@ passes-then_cut {p} {q} {r} {waited} {waits} {line} passes front =
 pub lines-join : (xs ys : List Pair) → report_lines (xs ++ ys) ≡ report_lines xs ++ report_lines ys
 lines-join xs ys = flat_map-append report_line xs ys
 
-lines-push : (xs : List Pair) (p : Pair) → report_lines xs ++ report_line p ≡ report_lines (xs ++ p ∷ [])
-lines-push xs p = ap (λ line. report_lines xs ++ line) (sym (append-nil (report_line p))) ∙ sym (lines-join xs (p ∷ []))
-
--- ---- the lines of several reports
-
--- the lines of the reports were passed on, or the sink failed
-pub data Printed (before : Way) (pairs : List Pair) (after : Way) : Type 0 where
-  all :
-      after.failed ≡ false →
-      after.faults ≡ before.faults →
-      Passes before.taken after.taken before.waits after.waits (report_lines pairs) →
-      Printed before pairs after
-  part :
-      after.failed ≡ true →
-      Rose before.faults after.faults →
-      PassesPart before.taken after.taken before.waits (report_lines pairs) →
-      Printed before pairs after
-
 apart : {b : Bool} → b ≡ true → b ≡ false → ⊥
 apart p q = false≢true (sym q ∙ p)
 
-printed-more : (before between after : Way) (pairs : List Pair) (p : Pair) → Printed before pairs between → Prints between p.id p.to after → Printed before (pairs ++ p ∷ []) after
-printed-more before between after pairs p (all failed faults passes) (passed was now same line) =
-    all now (same ∙ faults)
-    (subst (λ text. Passes before.taken after.taken before.waits after.waits text) (lines-push pairs p)
-    (passes-join before.taken between.taken after.taken before.waits between.waits after.waits (report_lines pairs) (report_line p) passes line))
-printed-more before between after pairs p (all failed faults passes) (cut was now rose front) =
-    part now (Rose-after_same before.faults between.faults after.faults faults rose)
-    (subst (λ text. PassesPart before.taken after.taken before.waits text) (lines-push pairs p)
-    (passes-cut before.taken between.taken after.taken before.waits between.waits (report_lines pairs) (report_line p) passes
-    (TookPrefix-longer between.taken after.taken between.waits (report_line p) front)))
-printed-more before between after pairs p (all failed faults passes) (over was same) = absurd (apart was failed)
-printed-more before between after pairs p (part failed rose passes) (passed was now same line) = absurd (apart failed was)
-printed-more before between after pairs p (part failed rose passes) (cut was now rose' front) = absurd (apart failed was)
-printed-more before between after pairs p (part failed rose passes) (over was same) =
-    subst (λ w. Printed before (pairs ++ p ∷ []) w) (sym same)
-    (part failed rose
-    (subst (λ text. PassesPart before.taken between.taken before.waits text) (lines-push pairs p)
-    (passes-longer before.taken between.taken before.waits (report_lines pairs) (report_line p) passes)))
+-- ---- the lines of several reports, each of which has a line of this form
+
+module _ (line_of : Pair → List ℕ) where
+  lines_push : (xs : List Pair) (p : Pair) → flat_map line_of xs ++ line_of p ≡ flat_map line_of (xs ++ p ∷ [])
+  lines_push xs p = ap (λ line. flat_map line_of xs ++ line) (sym (append-nil (line_of p))) ∙ sym (flat_map-append line_of xs (p ∷ []))
+
+  -- the lines of the reports were passed on, or the sink failed
+  pub data Printed (before : Way) (pairs : List Pair) (after : Way) : Type 0 where
+    all :
+        after.failed ≡ false →
+        after.faults ≡ before.faults →
+        Passes before.taken after.taken before.waits after.waits (flat_map line_of pairs) →
+        Printed before pairs after
+    part :
+        after.failed ≡ true →
+        Rose before.faults after.faults →
+        PassesPart before.taken after.taken before.waits (flat_map line_of pairs) →
+        Printed before pairs after
+
+  pub printed-more : (before between after : Way) (pairs : List Pair) (p : Pair) → Printed before pairs between → Prints between (line_of p) after → Printed before (pairs ++ p ∷ []) after
+  printed-more before between after pairs p (all failed faults passes) (passed was now same line) =
+      all now (same ∙ faults)
+      (subst (λ text. Passes before.taken after.taken before.waits after.waits text) (lines_push pairs p)
+      (passes-join before.taken between.taken after.taken before.waits between.waits after.waits (flat_map line_of pairs) (line_of p) passes line))
+  printed-more before between after pairs p (all failed faults passes) (cut was now rose front) =
+      part now (Rose-after_same before.faults between.faults after.faults faults rose)
+      (subst (λ text. PassesPart before.taken after.taken before.waits text) (lines_push pairs p)
+      (passes-cut before.taken between.taken after.taken before.waits between.waits (flat_map line_of pairs) (line_of p) passes
+      (TookPrefix-longer between.taken after.taken between.waits (line_of p) front)))
+  printed-more before between after pairs p (all failed faults passes) (over was same) = absurd (apart was failed)
+  printed-more before between after pairs p (part failed rose passes) (passed was now same line) = absurd (apart failed was)
+  printed-more before between after pairs p (part failed rose passes) (cut was now rose' front) = absurd (apart failed was)
+  printed-more before between after pairs p (part failed rose passes) (over was same) =
+      subst (λ w. Printed before (pairs ++ p ∷ []) w) (sym same)
+      (part failed rose
+      (subst (λ text. PassesPart before.taken between.taken before.waits text) (lines_push pairs p)
+      (passes-longer before.taken between.taken before.waits (flat_map line_of pairs) (line_of p) passes)))
+
+  -- the lines of all the reports were passed on
+  pub record IsPrinted (before : Way) (pairs : List Pair) (after : Way) : Type 0 where
+    pub counted : after.faults ≡ before.faults
+    pub passes : Passes before.taken after.taken before.waits after.waits (flat_map line_of pairs)
+
+  -- the sink failed
+  pub record IsPartlyPrinted (before : Way) (pairs : List Pair) (after : Way) : Type 0 where
+    pub rose : Rose before.faults after.faults
+    pub passes : PassesPart before.taken after.taken before.waits (flat_map line_of pairs)
+
+  pub printed-all : (before : Way) (pairs : List Pair) (after : Way) → Printed before pairs after → after.failed ≡ false → IsPrinted before pairs after
+  printed-all before pairs after (all now faults passes) fine = record { counted = faults; passes = passes }
+  printed-all before pairs after (part now rose passes) fine = absurd (apart now fine)
+
+  pub printed-part : (before : Way) (pairs : List Pair) (after : Way) → Printed before pairs after → after.failed ≡ true → IsPartlyPrinted before pairs after
+  printed-part before pairs after (all now faults passes) failed = absurd (apart failed now)
+  printed-part before pairs after (part now rose passes) failed = record { rose = rose; passes = passes }
 
 module _ {O : Type 0} (Written : O → Option (List ℕ)) (Faults : O → ℕ) where
   -- the reports made that of the lines, by the same two references
   pub record Wrote (start : ReportLines O) (pairs : List Pair) (end : ReportLines O) : Type 0 where
     pub same_out : end.out.ghost_name ≡ start.out.ghost_name
     pub same_pending : end.pending.ghost_name ≡ start.pending.ghost_name
-    pub printed : Printed (way_of Written Faults start) pairs (way_of Written Faults end)
+    pub printed : Printed report_line (way_of Written Faults start) pairs (way_of Written Faults end)
 
   pub wrote : (start : ReportLines O) (pairs : List Pair) (end : ReportLines O) → start.failed ≡ false → Through (Writes Written Faults) start pairs end → Wrote start pairs end
   wrote start _ _ fresh still = record {
@@ -107,23 +127,5 @@ module _ {O : Type 0} (Written : O → Option (List ℕ)) (Faults : O → ℕ) w
       record {
         same_out = writes.same_out ∙ so_far.same_out;
         same_pending = writes.same_pending ∙ so_far.same_pending;
-        printed = printed-more (way_of Written Faults start) (way_of Written Faults between) (way_of Written Faults end) pairs p so_far.printed writes.prints;
+        printed = printed-more report_line (way_of Written Faults start) (way_of Written Faults between) (way_of Written Faults end) pairs p so_far.printed writes.prints;
       }
-
--- the lines of all the reports were passed on
-pub record IsPrinted (before : Way) (pairs : List Pair) (after : Way) : Type 0 where
-  pub counted : after.faults ≡ before.faults
-  pub passes : Passes before.taken after.taken before.waits after.waits (report_lines pairs)
-
--- the sink failed
-pub record IsPartlyPrinted (before : Way) (pairs : List Pair) (after : Way) : Type 0 where
-  pub rose : Rose before.faults after.faults
-  pub passes : PassesPart before.taken after.taken before.waits (report_lines pairs)
-
-pub printed-all : (before : Way) (pairs : List Pair) (after : Way) → Printed before pairs after → after.failed ≡ false → IsPrinted before pairs after
-printed-all before pairs after (all now faults passes) fine = record { counted = faults; passes = passes }
-printed-all before pairs after (part now rose passes) fine = absurd (apart now fine)
-
-pub printed-part : (before : Way) (pairs : List Pair) (after : Way) → Printed before pairs after → after.failed ≡ true → IsPartlyPrinted before pairs after
-printed-part before pairs after (all now faults passes) failed = absurd (apart failed now)
-printed-part before pairs after (part now rose passes) failed = record { rose = rose; passes = passes }

@@ -14,21 +14,21 @@ pub record Way : Type 0 where
   pub waits : List ℕ
   pub failed : Bool
 
--- What one report makes of it: its line is passed on, or the sink fails, and from then on nothing is written.
-pub data Prints (before : Way) (id to : ℕ) (after : Way) : Type 0 where
+-- What the line of one report makes of it: it is passed on, or the sink fails, and from then on nothing is written.
+pub data Prints (before : Way) (line : List ℕ) (after : Way) : Type 0 where
   passed :
       before.failed ≡ false →
       after.failed ≡ false →
       after.faults ≡ before.faults →
-      Passes before.taken after.taken before.waits after.waits (report_line (record { id = id; to = to })) →
-      Prints before id to after
+      Passes before.taken after.taken before.waits after.waits line →
+      Prints before line after
   cut :
       before.failed ≡ false →
       after.failed ≡ true →
       Rose before.faults after.faults →
       TookPrefix before.taken after.taken before.waits →
-      Prints before id to after
-  over : before.failed ≡ true → after ≡ before → Prints before id to after
+      Prints before line after
+  over : before.failed ≡ true → after ≡ before → Prints before line after
 
 module _ {O : Type 0} (Written : O → Option (List ℕ)) (Faults : O → ℕ) where
   -- what the lines of reports have made of the sink so far
@@ -39,4 +39,4 @@ module _ {O : Type 0} (Written : O → Option (List ℕ)) (Faults : O → ℕ) w
   pub record Writes (before : ReportLines O) (id to : ℕ) (after : ReportLines O) : Type 0 where
     pub same_out : after.out.ghost_name ≡ before.out.ghost_name
     pub same_pending : after.pending.ghost_name ≡ before.pending.ghost_name
-    pub prints : Prints (way_of before) id to (way_of after)
+    pub prints : Prints (way_of before) (report_line (record { id = id; to = to })) (way_of after)

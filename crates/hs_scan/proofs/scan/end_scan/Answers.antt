@@ -1,4 +1,5 @@
 use Rattle.std.proofs.Common.{rules, refl}
+use Rattle.hs_base.specs.MatchText.{report_line}
 use Rattle.hs_scan.proofs.PassLemmas.{wrote, printed-all, printed-part}
 use Rattle.hs_scan.proofs.FeedLemmas.{finished-last}
 use Rattle.hs_scan.proofs.scan.end_scan.Goals as goal
@@ -8,7 +9,7 @@ returns-then-lines-clause-failed g c =
     let taken = c.finish.ensures.taken in
     let lines = wrote g.O.Sink.written g.O.Sink.faults _ taken.pairs c.finish.new.events refl taken.through in
     let same = lines.same_out in
-    let rose = (printed-part _ taken.pairs _ lines.printed c.if-lines.true).rose in
+    let rose = (printed-part report_line _ taken.pairs _ lines.printed c.if-lines.true).rose in
     search (rules, same, rose)
 
 pub returns-then-lines-clause-ended : goal.returns-then-lines-clause-ended
@@ -16,7 +17,7 @@ returns-then-lines-clause-ended g c =
     let taken = c.finish.ensures.taken in
     let lines = wrote g.O.Sink.written g.O.Sink.faults _ taken.pairs c.finish.new.events refl taken.through in
     let same = lines.same_out in
-    let part = (printed-part _ taken.pairs _ lines.printed c.if-lines.true).passes in
+    let part = (printed-part report_line _ taken.pairs _ lines.printed c.if-lines.true).passes in
     record {
       reports = taken.pairs;
       last = finished-last g.E.Engine.is_for g.E.Engine.field c.args.program.now c.args.scan.now taken.pairs taken.holds;
@@ -28,7 +29,7 @@ returns-else-lines-clause-counted g c =
     let taken = c.finish.ensures.taken in
     let lines = wrote g.O.Sink.written g.O.Sink.faults _ taken.pairs c.finish.new.events refl taken.through in
     let same = lines.same_out in
-    let counted = (printed-all _ taken.pairs _ lines.printed c.if-lines.false).counted in
+    let counted = (printed-all report_line _ taken.pairs _ lines.printed c.if-lines.false).counted in
     search (rules, same, counted)
 
 pub returns-else-lines-clause-ended : goal.returns-else-lines-clause-ended
@@ -37,7 +38,7 @@ returns-else-lines-clause-ended g c =
     let lines = wrote g.O.Sink.written g.O.Sink.faults _ taken.pairs c.finish.new.events refl taken.through in
     let same_out = lines.same_out in
     let same_pending = lines.same_pending in
-    let all = (printed-all _ taken.pairs _ lines.printed c.if-lines.false).passes in
+    let all = (printed-all report_line _ taken.pairs _ lines.printed c.if-lines.false).passes in
     record {
       reports = taken.pairs;
       last = finished-last g.E.Engine.is_for g.E.Engine.field c.args.program.now c.args.scan.now taken.pairs taken.holds;
