@@ -1,4 +1,6 @@
-use Rattle.std.proofs.Common.{subst}
+use Rattle.std.proofs.Common.{refl, subst}
+use Rattle.hs_base.specs.Entries.{listed}
+use Rattle.hs_compile.specs.Lists.{pattern_of}
 use Rattle.hs_expr.specs.Meaning.{tree_of}
 use Rattle.hs_parse.specs.Grammar.{Reads}
 use Rattle.hs_parse.proofs.PlainLemmas.{reads-plain}
@@ -22,3 +24,13 @@ expression_of-requires-clause-few c = few-positions c.args.entry.now.flags c.arg
 
 pub expression_of-requires-clause-ends_last : goal.expression_of-requires-clause-ends_last
 expression_of-requires-clause-ends_last c = accepted-ends c.args.entry.now.flags c.args.entry.now.ext (tree_of c.in-Ok.expr) (accepted c)
+
+pub returns-in-Ok-expression_of-clause-compiled : goal.returns-in-Ok-expression_of-clause-compiled
+returns-in-Ok-expression_of-clause-compiled c = λ before precede.
+    let read : Reads c.args.entry.now.text.items c.args.entry.now.flags (tree_of c.in-Ok.expr) =
+    subst (λ text. Reads text c.args.entry.now.flags (tree_of c.in-Ok.expr)) c.deref.ensures.value c.in-Ok.ensures.read in
+    record {
+      pattern = pattern_of (listed c.args.entry.now) (tree_of c.in-Ok.expr);
+      accepted = record { read = read; is = refl; free = c.in_default.ensures.least before precede read };
+      run = c.in-Ok-expression_of.ensures;
+    }
