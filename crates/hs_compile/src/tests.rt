@@ -164,3 +164,19 @@ fn refuses_the_entry_behind_the_last(rt: HostRuntime) -> Result<(), Fail> {
     assert!(rt; refused);
     Ok(())
 }
+
+/// The SHA-256 digest of the encoding of the list `16:/foo/`, as another program gives it.
+const FOO_DIGEST: [u8; 32] = [
+    0xb6, 0x44, 0x73, 0xca, 0xa5, 0xbd, 0x19, 0x63, 0x46, 0x77, 0xab, 0xa9, 0x1b, 0x8d, 0x64, 0xd5,
+    0xc1, 0x8b, 0x61, 0xc3, 0x89, 0x57, 0xe4, 0xe1, 0x72, 0xed, 0x56, 0xdd, 0x2e, 0x31, 0x53, 0x62,
+];
+
+#[test]
+fn has_the_digest_of_its_list(rt: HostRuntime) -> Result<(), Fail> {
+    let alloc = rt.alloc();
+    let mut entries = Vec::new(alloc);
+    entries.push(entry_of(alloc, 16, "foo", Flags::NONE)?)?;
+    let database = compile(alloc, &entries)?;
+    assert!(rt; *database.digest() == FOO_DIGEST);
+    Ok(())
+}
