@@ -1,5 +1,5 @@
 -- The identifiers of a database are those of its entries, each once.
-use Rattle.std.proofs.Common.{◌≡◌, ℕ, zero, suc, List, [], ◌∷◌, length, map, Some, slice_get, refl, sym, ap, ap₂, ◌∙◌, subst, inl, inr}
+use Rattle.std.proofs.Common.{◌≡◌, ℕ, zero, suc, List, [], ◌∷◌, ◌++◌, length, map, Some, slice_get, refl, sym, ap, ap₂, ◌∙◌, subst, inl, inr}
 use Rattle.std.proofs.lemmas.List.{length-map}
 use Rattle.hs_base.specs.Lists.{IsMember}
 use Rattle.hs_base.specs.Entries.{ListedEntry}
@@ -35,11 +35,11 @@ same-place (a ∷ xs) (b ∷ ys) y zero e at = (a, refl)
 same-place (a ∷ xs) (b ∷ ys) y (suc k) e at = same-place xs ys y k (cc) at
 
 -- patterns have the identifiers of their entries
-same-names : (from : ℕ) (entries : List ListedEntry) (P : List Pattern) → AreAcceptedFrom from entries P → map (λ (x : Pattern). x.id) P ≡ map (λ (entry : ListedEntry). entry.id) entries
-same-names from [] [] accepted = refl
-same-names from [] (x ∷ P) accepted = absurd accepted
-same-names from (entry ∷ entries) [] accepted = absurd accepted
-same-names from (entry ∷ entries) (x ∷ P) accepted = ap₂ (λ n ns. n ∷ ns) (ap (λ (y : Pattern). y.id) accepted.0.is) (same-names (suc from) entries P accepted.1)
+same-names : (before entries : List ListedEntry) (P : List Pattern) → AreAcceptedFrom before entries P → map (λ (x : Pattern). x.id) P ≡ map (λ (entry : ListedEntry). entry.id) entries
+same-names before [] [] accepted = refl
+same-names before [] (x ∷ P) accepted = absurd accepted
+same-names before (entry ∷ entries) [] accepted = absurd accepted
+same-names before (entry ∷ entries) (x ∷ P) accepted = ap₂ (λ n ns. n ∷ ns) (ap (λ (y : Pattern). y.id) accepted.0.is) (same-names (before ++ entry ∷ []) entries P accepted.1)
 
 -- an identifier of the program is that of an entry
 program-entry : (database : Database) (P : List Pattern) (names : List ℕ) → map (λ (x : Pattern). x.id) P ≡ names → IsDatabaseOf database P → (id : ℕ) → IsMember id (ids_of (identifiers_of (program_of database))) → IsMember id names
@@ -65,7 +65,7 @@ entry-program database P names same is id member =
 pub info-text : (database : Database) (entries : List ListedEntry) (P : List Pattern) → AreAcceptedAs entries P → IsDatabaseOf database P →
     IsInfoText entries (info_lines (length entries) (length (identifiers_of (program_of database))))
 info-text database entries P accepted is =
-    let names = same-names 1 entries P accepted in
+    let names = same-names [] entries P accepted in
     record {
       identifiers = ids_of (identifiers_of (program_of database));
       once = is.roles.rising;
