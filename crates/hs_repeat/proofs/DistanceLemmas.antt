@@ -1,9 +1,9 @@
 -- Distances of entries that live, as they move over a byte.
-use Rattle.std.proofs.Common.{◌≡◌, ℕ, ◌+◌, ◌-◌, ◌<◌, ◌≤◌, Bool, true, false, List, [], ◌∷◌, ◌++◌, length, inl, inr, arith, length-append}
+use Rattle.std.proofs.Common.{◌≡◌, ℕ, ◌+◌, ◌-◌, ◌<◌, Bool, true, false, List, [], ◌∷◌, ◌++◌, length, inl, inr, arith, length-append}
 use Rattle.std.specs.Prelude.{◌⊎◌}
 use Rattle.hs_base.specs.declared.byte_set.ByteSet.{ByteSet}
 use Rattle.hs_base.specs.ByteSets.{has, members}
-use Rattle.hs_repeat.specs.Entries.{IsUnbroken, IsAway}
+use Rattle.hs_repeat.specs.Entries.{IsAway}
 use Rattle.hs_repeat.proofs.EntryLemmas.{unbroken-kept, unbroken-new, unbroken-only, unbroken-none}
 
 -- The distances Later are those behind a byte of the set: each of Away is one more, and 1 is new if the repeat is entered.

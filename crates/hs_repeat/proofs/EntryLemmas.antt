@@ -1,17 +1,17 @@
 -- Entries that live, over one more byte; and where a repeat of one set is left.
-use Rattle.std.proofs.Common.{◌≡◌, ℕ, zero, suc, ◌+◌, ◌<◌, ◌≤◌, Bool, true, false, List, [], ◌∷◌, ◌++◌, length, Option, Some, None, slice_get, refl, sym, ap, subst, ◌∙◌, inl, inr, arith, length-append}
+use Rattle.std.proofs.Common.{◌≡◌, ℕ, zero, suc, ◌+◌, ◌<◌, ◌≤◌, Bool, true, false, List, [], ◌∷◌, ◌++◌, length, Option, Some, slice_get, refl, sym, ap, subst, ◌∙◌, inl, inr, arith, length-append}
 use Rattle.std.specs.Prelude.{IfSome, ◌⊎◌}
 use Rattle.std.proofs.lemmas.Bool.{cases_eq, cases_lt}
-use Rattle.std.proofs.lemmas.Option.{slice_get_within, slice_get-get_or}
+use Rattle.std.proofs.lemmas.Option.{slice_get-get_or}
 use Rattle.std.proofs.lemmas.List.{get_or_append_left}
 use Rattle.std.proofs.Math.Seq.{get_or-append_seam}
 use Rattle.hs_base.specs.declared.byte_set.ByteSet.{ByteSet}
 use Rattle.hs_base.specs.declared.context.Next.{Next}
 use Rattle.hs_base.specs.ByteSets.{has, members}
-use Rattle.hs_base.specs.Contexts.{then_bytes, then_ended}
+use Rattle.hs_base.specs.Contexts.{then_bytes}
 use Rattle.hs_base.specs.Fields.{Leaves}
 use Rattle.hs_base.specs.Spans.{Copies, IsByteOf}
-use Rattle.hs_base.specs.Trees.{Tree, class, repeat}
+use Rattle.hs_base.specs.Trees.{class, repeat}
 use Rattle.hs_base.proofs.ByteSetLemmas.{members-at}
 use Rattle.hs_base.proofs.StreamContexts.{byte_of-longer, byte_of-shorter, then-begins}
 use Rattle.hs_repeat.specs.Entries.{IsUnbroken, IsAway}

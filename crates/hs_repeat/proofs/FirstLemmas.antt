@@ -8,10 +8,10 @@ use Rattle.hs_base.specs.Fields.{Leaves}
 use Rattle.hs_base.specs.Trees.{Tree, class, repeat}
 use Rattle.hs_repeat.specs.Entries.{IsAway}
 use Rattle.hs_engine.specs.Engines.{IsQuiet, IsAsleep}
-use Rattle.hs_repeat.specs.RepeatRows.{IsGreatest, IsFirstDistance, IsFirstRow, distance_of}
+use Rattle.hs_repeat.specs.RepeatRows.{IsFirstDistance, IsFirstRow, distance_of}
 use Rattle.hs_repeat.specs.RepeatRows.IsFirstDistance.{none, some}
 use Rattle.hs_repeat.proofs.EntryLemmas.{away-leaves, leaves-away}
-use Rattle.hs_repeat.proofs.DistanceLemmas.{Moves, away-moves, away-none, away-positive}
+use Rattle.hs_repeat.proofs.DistanceLemmas.{Moves, away-moves, away-none}
 
 -- where the distance is 0, no entry lives
 pub first-none : (n : ℕ) (Away : ℕ → Type 0) (value : ℕ) → 0 < n → ((d : ℕ) → Away d → 0 < d) → IsFirstDistance n Away value → value ≡ 0 → (d : ℕ) → Away d → ⊥

@@ -5,7 +5,6 @@ use Rattle.hs_base.specs.declared.byte_set.ByteSet.{ByteSet}
 use Rattle.hs_base.specs.declared.context.Next.{Next}
 use Rattle.hs_base.specs.ByteSets.{has, members}
 use Rattle.hs_base.specs.Fields.{Leaves}
-use Rattle.hs_base.specs.Reports.{IsLeast}
 use Rattle.hs_base.specs.Trees.{Tree, class, repeat}
 use Rattle.hs_repeat.specs.Entries.{IsAway}
 use Rattle.hs_repeat.specs.RepeatRows.{IsLastDistance, IsLastRow, distance_of}

@@ -1,6 +1,6 @@
 -- The bits of the last offsets, as they move over a byte.
-use Rattle.std.proofs.Common.{◌≡◌, ℕ, ◌+◌, ◌-◌, ◌*◌, ◌/◌, ◌%◌, ◌<◌, ◌≤◌, Bool, true, false, eqb, refl, sym, ap, subst, ◌∙◌, inl, inr, arith, List, [], ◌∷◌, ◌++◌, length, length-append}
-use Rattle.std.specs.Prelude.{min, Some, ◌⊎◌, if◌then◌else◌}
+use Rattle.std.proofs.Common.{◌≡◌, ℕ, ◌+◌, ◌-◌, ◌*◌, ◌%◌, ◌<◌, ◌≤◌, Bool, true, false, eqb, refl, sym, ap, subst, ◌∙◌, inl, inr, arith, List, [], ◌∷◌, ◌++◌, length, length-append}
+use Rattle.std.specs.Prelude.{min, Some, if◌then◌else◌}
 use Rattle.std.proofs.lemmas.Bool.{cases_eq, cases_lt, eq-eqb, ne_eqb}
 use Rattle.std.proofs.Math.Nat.{mod-le, mod-lt}
 use Rattle.hs_base.specs.declared.byte_set.ByteSet.{ByteSet}
@@ -11,11 +11,10 @@ use Rattle.hs_base.specs.Trees.{Tree, class, repeat}
 use Rattle.hs_engine.specs.Bits.{AreZero, has_bit}
 use Rattle.hs_engine.specs.Engines.{IsQuiet, IsAsleep}
 use Rattle.hs_repeat.specs.BitRanges.{HasBitIn, HasBitRound}
-use Rattle.hs_repeat.specs.Entries.{IsUnbroken, IsAway}
+use Rattle.hs_repeat.specs.Entries.{IsAway}
 use Rattle.hs_repeat.specs.RepeatRows.{IsHeld, IsRingAt, IsRingRow}
 use Rattle.hs_repeat.proofs.BitRangeLemmas.{bits-none, zero-bits}
-use Rattle.hs_repeat.proofs.DistanceLemmas.{away-positive}
-use Rattle.hs_repeat.proofs.EntryLemmas.{away-leaves, leaves-away, unbroken-kept, unbroken-new, unbroken-only, unbroken-none}
+use Rattle.hs_repeat.proofs.EntryLemmas.{leaves-away, unbroken-kept, unbroken-new, unbroken-only, unbroken-none}
 use Rattle.hs_repeat.proofs.PlaceLemmas.{ahead-place, round-place, same-place}
 
 pub clash : {A : Type 0} (b : Bool) → b ≡ true → b ≡ false → A

@@ -1,5 +1,5 @@
 -- What the rows of repeats say, behind the bytes u: of which entries they tell.
-use Rattle.std.specs.Prelude.{◌≡◌, ◌↔◌, ℕ, ◌+◌, ◌*◌, ◌%◌, ◌<◌, ◌≤◌, min, Bool, true, false, List, length, slice_index}
+use Rattle.std.specs.Prelude.{◌≡◌, ◌↔◌, ℕ, ◌+◌, ◌*◌, ◌%◌, ◌≤◌, min, Bool, true, false, List, length, slice_index}
 use Rattle.hs_base.specs.Reports.{IsLeast}
 use Rattle.hs_engine.specs.Bits.{has_bit}
 use Rattle.hs_repeat.specs.Entries.{IsUnbroken, IsAway}

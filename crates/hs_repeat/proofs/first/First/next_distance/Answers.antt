@@ -1,5 +1,4 @@
-use Rattle.std.proofs.Common.{◌≡◌, ℕ, ◌<◌, ◌+◌, true, false, List, [], ◌∷◌, ◌++◌, refl, arith}
-use Rattle.std.specs.Prelude.{min}
+use Rattle.std.proofs.Common.{◌≡◌, ℕ, ◌<◌, ◌+◌, true, false, [], ◌∷◌, ◌++◌, refl, arith}
 use Rattle.hs_base.specs.ByteSets.{has, members}
 use Rattle.hs_repeat.specs.Entries.{IsAway}
 use Rattle.hs_repeat.specs.RepeatRows.IsFirstDistance.{none}

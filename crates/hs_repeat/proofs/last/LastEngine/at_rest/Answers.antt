@@ -1,4 +1,4 @@
-use Rattle.std.proofs.Common.{◌≡◌, arith}
+use Rattle.std.proofs.Common.{◌≡◌}
 use Rattle.hs_repeat.specs.RepeatRows.{distance_of}
 use Rattle.hs_repeat.proofs.LastLemmas.{last-quiet}
 use Rattle.hs_repeat.proofs.last.LastEngine.at_rest.Goals as goal
