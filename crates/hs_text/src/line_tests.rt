@@ -213,16 +213,19 @@ fn tells_reports_and_the_length(rt: HostRuntime) -> Result<(), Fail> {
 
 #[test]
 fn tells_what_a_command_answers(rt: HostRuntime) -> Result<(), Fail> {
-    let mut buf = [0; LINE_LEN];
-    let len = accepted_line(3, &mut buf);
-    assert_eq!(rt; buf.get(..len), Some(b"accepted 3\n".as_slice()));
-    let len = compiled_line(1, 38, &mut buf);
-    assert_eq!(rt; buf.get(..len), Some(b"compiled 1 38\n".as_slice()));
-    let len = info_lines(2, 1, &mut buf);
+    let mut accepted = [0; LINE_LEN];
+    let len = accepted_line(3, &mut accepted);
+    assert_eq!(rt; &accepted[..len], b"accepted 3\n".as_slice());
+    let mut compiled = [0; LINE_LEN];
+    let len = compiled_line(1, 38, &mut compiled);
+    assert_eq!(rt; &compiled[..len], b"compiled 1 38\n".as_slice());
+    let mut info = [0; LINE_LEN];
+    let len = info_lines(2, 1, &mut info);
     let lines = b"version 1\nexpressions 2\nidentifiers 1\n".as_slice();
-    assert_eq!(rt; buf.get(..len), Some(lines));
-    let len = form_line(MOST_64, &mut buf);
+    assert_eq!(rt; &info[..len], lines);
+    let mut form = [0; LINE_LEN];
+    let len = form_line(MOST_64, &mut form);
     let line = b"fault database 18446744073709551615\n".as_slice();
-    assert_eq!(rt; buf.get(..len), Some(line));
+    assert_eq!(rt; &form[..len], line);
     Ok(())
 }
