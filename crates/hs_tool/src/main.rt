@@ -3,17 +3,11 @@
 #![tactic(auto)]
 
 mod check_command;
-#[cfg(test)]
-mod command_tests;
 mod compile_command;
 mod fault;
 mod info_command;
-#[cfg(test)]
-mod list_tests;
 mod load;
 mod match_command;
-#[cfg(test)]
-mod tests;
 mod top;
 
 use fault::Fault;
