@@ -1,0 +1,11 @@
+pub mod ReadLemmas
+pub mod MapLemmas
+pub mod StreamLemmas
+pub mod LineLemmas
+pub mod PayloadLemmas
+pub mod WriteLemmas
+pub mod CommandLemmas
+pub mod ShortLemmas
+pub mod RunLemmas
+pub mod ServeLemmas
+pub mod EndLemmas

@@ -1,0 +1,124 @@
+-- The bytes of a write, as they come.
+use Rattle.std.proofs.Common.{◌≡◌, ◌≢◌, ℕ, zero, suc, ◌+◌, ◌-◌, ◌<◌, ◌≤◌, Bool, true, false, List, [], ◌∷◌, ◌++◌, length, take, drop, Option, Result, Ok, Err, refl, sym, ap, ◌∙◌, subst, arith, append-nil, length-append}
+use Rattle.std.proofs.lemmas.Bool.{false≢true}
+use Rattle.std.specs.Result.{IsErr, OnOk}
+use Rattle.std.specs.List.{flat_map}
+use Rattle.hs_compile.specs.declared.database.Database.{Database}
+use Rattle.hs_compile.specs.Databases.{program_of, IsEngineOf}
+use Rattle.hs_run.proofs.FeedLemmas.{feeds-none, feeds-more}
+use Rattle.hs_stream.specs.declared.stream.Stream.{Stream}
+use Rattle.hs_stream.specs.Engines.{Keeps}
+use Rattle.hs_stream.specs.Fitting.{state_of}
+use Rattle.hs_script.specs.Runs.{named_line}
+use Rattle.hs_session.specs.declared.fault.Break.{Break}
+use Rattle.hs_session.specs.declared.fault.Break.TheVariants as stop
+use Rattle.hs_session.specs.Reading.{Ahead, Consumes}
+use Rattle.hs_session.specs.Breaks.{StopsAt}
+use Rattle.hs_session.specs.Sending.{Sends}
+use Rattle.hs_session.specs.Payloads.{IsScanned, Comes, SomeCome}
+use Rattle.hs_session.proofs.ReadLemmas.{consumes-nothing, consumes-join, consumes-front}
+use Rattle.hs_session.proofs.LineLemmas.{sends-nothing, sends-join, named-join}
+
+-- where it was no fault
+pub when_ok : {T E : Type 0} {P : Type 0} (r : Result T E) → (IsErr r → ⊥) → OnOk r P → P
+when_ok (Ok x) fine p = p
+when_ok (Err e) fine p = absurd (fine refl)
+
+-- ---- some of so many bytes
+
+-- these came, and so many are left to come
+pub record HasCome (before now : Option (List ℕ)) (old new : Ahead) (count left : ℕ) (came : List ℕ) : Type 0 where
+  pub consumes : Consumes before now old new came
+  pub sum : length came + left ≡ count
+
+pub comes-start : (left : Option (List ℕ)) (ahead : Ahead) (count : ℕ) → HasCome left left ahead ahead count count []
+comes-start left ahead count = record { consumes = consumes-nothing left ahead; sum = omega arith }
+
+front_rest : (n : ℕ) (xs : List ℕ) → xs ≡ take n xs ++ drop (length (take n xs)) xs
+front_rest zero xs = refl
+front_rest (suc n) [] = refl
+front_rest (suc n) (x ∷ xs) = ap (λ l. x ∷ l) (front_rest n xs)
+
+pub some_taken : (n : ℕ) (xs : List ℕ) → 0 < n → xs ≢ [] → 0 < length (take n xs)
+some_taken zero xs more some = absurd (omega (arith, more))
+some_taken (suc n) [] more some = absurd (some refl)
+some_taken (suc n) (x ∷ xs) more some = omega arith
+
+pub few_taken : (n : ℕ) (xs : List ℕ) → length (take n xs) ≤ n
+few_taken zero xs = omega arith
+few_taken (suc n) [] = omega arith
+few_taken (suc n) (x ∷ xs) = omega (arith, few_taken n xs)
+
+pub taken_within : (n : ℕ) (xs : List ℕ) → length (take n xs) ≤ length xs
+taken_within zero xs = omega arith
+taken_within (suc n) [] = omega arith
+taken_within (suc n) (x ∷ xs) = omega (arith, taken_within n xs)
+
+-- a piece more
+pub comes-piece : {p q r : Option (List ℕ)} {a b c d : Ahead} {count left : ℕ} {came : List ℕ} (bytes : List ℕ) → HasCome p q a b count left came → Consumes q r b c [] → c.ended ≡ false → bytes ≡ take left c.bytes → d.bytes ≡ drop (length bytes) c.bytes → d.at ≡ c.at + length bytes → d.ended ≡ c.ended → HasCome p r a d count (left - length bytes) (came ++ bytes)
+comes-piece {r = r} {c = c} {d = d} {left = left} {came = came} bytes so_far fills goes_on is rest at same =
+    record {
+      consumes = consumes-join so_far.consumes (consumes-join fills (consumes-front r c d bytes split at same goes_on));
+      sum = omega (arith, so_far.sum, length-append came bytes, few_taken left c.bytes, ap length is);
+    }
+  where
+    split : c.bytes ≡ bytes ++ d.bytes
+    split =
+        front_rest left c.bytes
+        ∙ (ap (λ l. l ++ drop (length l) c.bytes) (sym is) ∙ ap (λ l. bytes ++ l) (sym rest))
+
+-- all came
+pub comes-all : {p q : Option (List ℕ)} {a b : Ahead} {count left : ℕ} {came : List ℕ} → HasCome p q a b count left came → left ≤ 0 → Comes p q a b count came (Ok true)
+comes-all so_far none =
+    record { consumes = so_far.consumes; within = omega (arith, so_far.sum); ends = omega (arith, so_far.sum, none) }
+
+-- the input ended before
+pub comes-short : {p q r : Option (List ℕ)} {a b c : Ahead} {count left : ℕ} {came : List ℕ} → HasCome p q a b count left came → Consumes q r b c [] → 0 < left → c.ended ≡ true → Comes p r a c count came (Ok false)
+comes-short {p} {q} {r} {a} {b} {c} {came = came} so_far fills more ended =
+    record {
+      consumes = subst (λ l. Consumes p r a c l) (append-nil came) (consumes-join so_far.consumes fills);
+      within = omega (arith, so_far.sum);
+      ends = (omega (arith, so_far.sum, more), ended);
+    }
+
+-- reading was broken off
+pub comes-broken : {p q r : Option (List ℕ)} {a b c : Ahead} {count left : ℕ} {came : List ℕ} (stop : Break) → HasCome p q a b count left came → Consumes q r b c [] → StopsAt c stop → Comes p r a c count came (Err stop)
+comes-broken {p} {q} {r} {a} {b} {c} {came = came} stop so_far fills at =
+    record {
+      consumes = subst (λ l. Consumes p r a c l) (append-nil came) (consumes-join so_far.consumes fills);
+      within = omega (arith, so_far.sum);
+      ends = at;
+    }
+
+-- some bytes of which it isn't said which
+pub record SomeHaveCome (before now : Option (List ℕ)) (old new : Ahead) (count left : ℕ) : Type 0 where
+  pub came : List ℕ
+  pub come : HasCome before now old new count left came
+
+-- ---- bytes that are scanned
+
+pub scanned-nothing : (db : Database) (name : List ℕ) (stream : Stream) (taken : Option (List ℕ)) (waited : List ℕ) → IsScanned db name false stream stream [] taken taken waited waited
+scanned-nothing db name stream taken waited = record {
+  pairs = [];
+  writes = feeds-none IsEngineOf Keeps (program_of db) (state_of stream);
+  sends = sends-nothing taken waited;
+}
+
+pub scanned-join : {db : Database} {name : List ℕ} (lost : Bool) {a b c : Stream} {x y : List ℕ} {p q r : Option (List ℕ)} {f g h : List ℕ} → IsScanned db name false a b x p q f g → IsScanned db name lost b c y q r g h → IsScanned db name lost a c (x ++ y) p r f h
+scanned-join {db} {name} lost {a} {b} {c} {x} {y} {p} {q} {r} {f} {g} {h} first then = record {
+  pairs = first.pairs ++ then.pairs;
+  writes = feeds-more IsEngineOf Keeps (program_of db) (state_of a) (state_of b) (state_of c) x y first.pairs then.pairs first.writes then.writes;
+  sends =
+      subst (λ text. Sends lost p r f h text) (sym (named-join name first.pairs then.pairs))
+      (sends-join lost p q r f g h (flat_map (named_line name) first.pairs) (flat_map (named_line name) then.pairs) first.sends then.sends);
+}
+
+-- so many bytes were scanned so far
+pub record IsScannedSoFar (db : Database) (name : List ℕ) (count left : ℕ) (old new : Stream) (before now : Option (List ℕ)) (ahead aheads : Ahead) (taken takes : Option (List ℕ)) (waited waits : List ℕ) : Type 0 where
+  pub came : List ℕ
+  pub come : HasCome before now ahead aheads count left came
+  pub scanned : IsScanned db name false old new came taken takes waited waits
+
+-- the sink failed when the last of them were scanned
+pub comes-lost : {p q : Option (List ℕ)} {a b : Ahead} {count left : ℕ} {came : List ℕ} → HasCome p q a b count left came → b.ended ≡ false → Comes p q a b count came (Err stop.Write)
+comes-lost so_far goes_on = record { consumes = so_far.consumes; within = omega (arith, so_far.sum); ends = goes_on }

@@ -1,0 +1,53 @@
+use Rattle.std.proofs.Common.{◌≡◌, ◌∙◌, ◌++◌, [], length, take, true, false, refl, ap, arith}
+use Rattle.hs_session.proofs.ReadLemmas.{when_true}
+use Rattle.hs_session.proofs.PayloadLemmas.{comes-start, comes-piece, comes-lost, few_taken, scanned-nothing, scanned-join}
+use Rattle.hs_session.proofs.payload.scan_payload.Goals as goal
+
+pub loop-left-init : goal.loop-left-init
+loop-left-init g c = record {
+  scanned = record {
+    came = [];
+    come = comes-start (g.I.Source.left c.args.input.now) c.args.reader.now c.args.count;
+    scanned = scanned-nothing c.args.db.now c.args.name.now c.args.stream.now (g.O.Sink.written c.args.out.now) c.args.pending.now;
+  };
+  fits = c.requires.fits;
+  scratch = c.requires.scratch;
+  room = c.requires.room;
+  counted = record { source = refl; sink = refl };
+}
+
+pub loop-left-preserved : goal.loop-left-preserved
+loop-left-preserved g c =
+    let so_far = c.loop-left.invariant.scanned in
+    let bytes = c.first_of-bytes.result.now in
+    let waits = when_true _ _ c.in-Ok-true.field-0-test c.in-Ok-true.ensures.waits in
+    let is : bytes ≡ take c.loop-left.left c.fill.new.self.bytes = c.first_of-bytes.ensures ∙ ap (λ l. take c.loop-left.left l) c.waiting.ensures in
+    record {
+      scanned = record {
+        came = so_far.came ++ bytes;
+        come = comes-piece bytes so_far.come c.fill.ensures.consumes waits.1 is c.advance.ensures.bytes c.advance.ensures.place c.advance.ensures.ended;
+        scanned = scanned-join false so_far.scanned c.in-Ok.ensures.scanned;
+      };
+      fits = c.scan_piece-scanned.ensures.fits;
+      scratch = c.scan_piece-scanned.ensures.scratch;
+      room = omega (arith, c.loop-left.invariant.room, c.scan_piece-scanned.ensures.offset, ap length is, few_taken c.loop-left.left c.fill.new.self.bytes);
+      counted = record {
+        source = c.in-Ok-true.ensures.counts ∙ c.loop-left.invariant.counted.source;
+        sink = c.in-Ok.ensures.counted ∙ c.loop-left.invariant.counted.sink;
+      };
+    }
+
+pub returns-in-Err-scanned-clause-scanned : goal.returns-in-Err-scanned-clause-scanned
+returns-in-Err-scanned-clause-scanned g c =
+    let so_far = c.loop-left.invariant.scanned in
+    let bytes = c.first_of-bytes.result.now in
+    let waits = when_true _ _ c.in-Ok-true.field-0-test c.in-Ok-true.ensures.waits in
+    let is : bytes ≡ take c.loop-left.left c.fill.new.self.bytes = c.first_of-bytes.ensures ∙ ap (λ l. take c.loop-left.left l) c.waiting.ensures in
+    record {
+      came = so_far.came ++ bytes;
+      comes =
+          comes-lost
+          (comes-piece bytes so_far.come c.fill.ensures.consumes waits.1 is c.advance.ensures.bytes c.advance.ensures.place c.advance.ensures.ended)
+          (c.advance.ensures.ended ∙ waits.1);
+      scanned = scanned-join true so_far.scanned c.in-Err-scanned.ensures.scanned;
+    }

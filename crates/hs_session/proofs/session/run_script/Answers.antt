@@ -1,0 +1,49 @@
+use Rattle.std.proofs.Common.{◌∙◌, false, refl, sym, subst, arith}
+use Rattle.hs_session.proofs.StreamLemmas.{no_stream}
+use Rattle.hs_session.proofs.ServeLemmas.{SoFar, fresh, so_far-start, so_far-next, so_far-numbered, line-long}
+use Rattle.hs_session.proofs.EndLemmas.{ends-complete, ends-unread, ends-by, line-none, line-one}
+use Rattle.hs_session.proofs.session.run_script.Goals as goal
+
+pub loop-streams-init : goal.loop-streams-init
+loop-streams-init g c = record {
+  so_far =
+      subst (λ r. SoFar c.args.db.now 1 (g.I.Source.left c.args.input.now) (g.I.Source.left c.args.input.now) fresh r c.new-streams.result
+      (g.O.Sink.written c.args.out.now) (g.O.Sink.written c.args.out.now) c.args.pending.now c.args.pending.now false) (sym c.new-reader.ensures)
+      (so_far-start c.args.db.now (g.I.Source.left c.args.input.now) fresh c.new-streams.result (g.O.Sink.written c.args.out.now) c.args.pending.now c.new-streams.ensures.none c.new-streams.ensures.count);
+  fits = λ name stream at. absurd (no_stream (sym (c.new-streams.ensures.none name) ∙ at));
+  scratch = c.requires.scratch;
+  counted = record { source = refl; sink = refl };
+}
+
+pub returns-in-Ok-false-clause-ends : goal.returns-in-Ok-false-clause-ends
+returns-in-Ok-false-clause-ends g c =
+    ends-complete c.loop-streams.invariant.so_far (line-none (g.I.Source.left c.loop-streams.input) (g.I.Source.left c.read_line.new.input) c.loop-streams.reader c.read_line.new.self c.read_line.new.line c.in-Ok-false.field-0-test c.in-Ok-false.ensures.read)
+
+pub returns-in-Err-clause-ends : goal.returns-in-Err-clause-ends
+returns-in-Err-clause-ends g c =
+    ends-unread c.in-Err.stop _ _ c.loop-streams.invariant.so_far c.in-Err.ensures.read c.in-Err.ensures.broken c.in-Err.ensures.counts
+
+pub returns-in-Err-run_line-clause-ends : goal.returns-in-Err-run_line-clause-ends
+returns-in-Err-run_line-clause-ends g c =
+    let line = line-one (g.I.Source.left c.loop-streams.input) (g.I.Source.left c.read_line.new.input) c.loop-streams.reader c.read_line.new.self c.read_line.new.line c.in-Ok-true.field-0-test c.in-Ok-true.ensures.read in
+    ends-by (g.I.Source.left c.run_line.new.input) c.run_line.new.reader c.run_line.new.streams (g.O.Sink.written c.run_line.new.out) c.run_line.new.pending c.loop-streams.invariant.so_far line c.in-Err-run_line.stop (c.in-Err-run_line.ensures.runs line.line line.keeps) c.in-Err-run_line.ensures.leaves
+
+pub loop-streams-smaller : goal.loop-streams-smaller
+loop-streams-smaller g c =
+    let line = line-one (g.I.Source.left c.loop-streams.input) (g.I.Source.left c.read_line.new.input) c.loop-streams.reader c.read_line.new.self c.read_line.new.line c.in-Ok-true.field-0-test c.in-Ok-true.ensures.read in
+    let runs = c.in-Ok.ensures.runs line.line line.keeps in
+    omega (arith, line-long line, runs.consumes.here, c.in-Ok-true.ensures.small)
+
+pub loop-streams-preserved : goal.loop-streams-preserved
+loop-streams-preserved g c =
+    let line = line-one (g.I.Source.left c.loop-streams.input) (g.I.Source.left c.read_line.new.input) c.loop-streams.reader c.read_line.new.self c.read_line.new.line c.in-Ok-true.field-0-test c.in-Ok-true.ensures.read in
+    let runs = c.in-Ok.ensures.runs line.line line.keeps in
+    record {
+      so_far = so_far-numbered (omega arith) (so_far-next false c.loop-streams.invariant.so_far line runs);
+      fits = c.run_line.ensures.fits;
+      scratch = c.run_line.ensures.scratch;
+      counted = record {
+        source = c.in-Ok.ensures.counts.source ∙ (c.in-Ok-true.ensures.counts ∙ c.loop-streams.invariant.counted.source);
+        sink = c.in-Ok.ensures.counts.sink ∙ c.loop-streams.invariant.counted.sink;
+      };
+    }

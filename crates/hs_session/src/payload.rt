@@ -1,0 +1,258 @@
+//! The bytes of a write, as they come.
+ghost use Rattle.std.specs.Prelude.{◌≡◌, ℕ, ◌+◌, ◌<◌, ◌≤◌, take, length, is_err, MatchBool, OnOk, OnErr};
+ghost use Rattle.hs_outside.specs.Counts.{Rose};
+ghost use Rattle.hs_stream.specs.Limits.{greatest_offset};
+ghost use Rattle.hs_stream.specs.Scratches.{IsScratchOf};
+ghost use Rattle.hs_stream.specs.Streams.{offset_of, IsUsable, IsStreamOf};
+ghost use Rattle.hs_session.specs.Breaks.{ReadCounts, Counts};
+ghost use Rattle.hs_session.specs.Payloads.{IsScanned, SomeCome, IsPayloadScanned, IsPayloadRefused, IsPayloadWritten, IsPayloadTaken};
+ghost use Rattle.hs_session.specs.Streams.{AreStreamsOf};
+
+use crate::fault::Break;
+use crate::name::Name;
+use crate::named_lines::NamedLines;
+use crate::reader::Reader;
+use crate::streams::Streams;
+use hs_compile::Database;
+use hs_engine::Steps;
+use hs_outside::{Failed, Sink, Source};
+use hs_scan::Pending;
+use hs_stream::{MAX_OFFSET, Scratch, Stream};
+use hs_text::{Reply, Verb, Word};
+use std::marker::Brand;
+use std::sync::ledger::{Blank, Ledger};
+
+/// What came of a write.
+#[derive(Drop)]
+pub(crate) struct Payload {
+    /// The answer that is due.
+    pub(crate) reply: Reply,
+    /// Whether all its bytes came.
+    pub(crate) whole: bool,
+}
+
+/// Takes so many bytes for the stream of that name, or drops them where it isn't open or would become too long.
+pub(crate) fn take_payload<I: Source, O: Sink>(
+    db: &Database,
+    name: &Name,
+    count: u64,
+    streams: &mut Streams,
+    scratch: &mut Scratch,
+    reader: &mut Reader,
+    input: &mut I,
+    out: &mut O,
+    pending: &mut Pending,
+) -> Result<Payload, Break>
+    requires usable { IsUsable db.now }
+    requires fits { AreStreamsOf db.now streams.old }
+    requires scratch { IsScratchOf db.now scratch.old }
+    ensures fits { AreStreamsOf db.now streams.new }
+    ensures scratch { IsScratchOf db.now scratch.new }
+    ensures taken { IsPayloadTaken db.now name.now count streams.old streams.new (I.left input.old) (I.left input.new) reader.old reader.new
+        (O.written out.old) (O.written out.new) pending.old pending.new result }
+    ensures counts { Counts (I.faults input.old) (I.faults input.new) (O.faults out.old) (O.faults out.new) result }
+{
+    match streams.map.get_mut(name.as_slice()) {
+        None => refuse_payload(Word::Unknown, count, reader, input),
+        Some(stream) => write_payload(
+            db, name, count, stream, scratch, reader, input, out, pending,
+        ),
+    }
+}
+
+/// Drops the bytes of a write that is refused for this reason.
+fn refuse_payload<I: Source>(
+    word: Word,
+    count: u64,
+    reader: &mut Reader,
+    input: &mut I,
+) -> Result<Payload, Break>
+    ensures refused { IsPayloadRefused word count (I.left input.old) (I.left input.new) reader.old reader.new result }
+    ensures counts { ReadCounts (I.faults input.old) (I.faults input.new) result }
+{
+    match drop_payload(count, reader, input) {
+        Ok(whole) => Ok(Payload {
+            reply: Reply::No(Verb::Write, word),
+            whole,
+        }),
+        Err(stop) => Err(stop),
+    }
+}
+
+/// Writes so many bytes to the stream, or drops them where it would become too long.
+fn write_payload<I: Source, O: Sink>(
+    db: &Database,
+    name: &Name,
+    count: u64,
+    stream: &mut Stream,
+    scratch: &mut Scratch,
+    reader: &mut Reader,
+    input: &mut I,
+    out: &mut O,
+    pending: &mut Pending,
+) -> Result<Payload, Break>
+    requires usable { IsUsable db.now }
+    requires fits { IsStreamOf db.now stream.old }
+    requires scratch { IsScratchOf db.now scratch.old }
+    ensures fits { IsStreamOf db.now stream.new }
+    ensures scratch { IsScratchOf db.now scratch.new }
+    ensures written { IsPayloadWritten db.now name.now count stream.old stream.new (I.left input.old) (I.left input.new) reader.old reader.new
+        (O.written out.old) (O.written out.new) pending.old pending.new result }
+    ensures counts { Counts (I.faults input.old) (I.faults input.new) (O.faults out.old) (O.faults out.new) result }
+{
+    if !has_room(stream.offset(db), count) {
+        return refuse_payload(Word::Length, count, reader, input);
+    }
+    match scan_payload(
+        db, name, count, stream, scratch, reader, input, out, pending,
+    ) {
+        Ok(whole) => Ok(Payload {
+            reply: Reply::Done(Verb::Write, Some(count)),
+            whole,
+        }),
+        Err(stop) => Err(stop),
+    }
+}
+
+/// Whether so many bytes may come at the offset.
+fn has_room(offset: u64, count: u64) -> bool
+    ensures { MatchBool result (offset + count ≤ greatest_offset) (greatest_offset < offset + count) }
+{
+    offset <= MAX_OFFSET && count <= MAX_OFFSET - offset
+}
+
+/// Drops so many bytes, and tells whether all came.
+fn drop_payload<I: Source>(
+    count: u64,
+    reader: &mut Reader,
+    input: &mut I,
+) -> Result<bool, Break>
+    ensures come { SomeCome (I.left input.old) (I.left input.new) reader.old reader.new count result }
+    ensures counts { ReadCounts (I.faults input.old) (I.faults input.new) result }
+{
+    let mut left = count;
+    while left > 0 {
+        if !reader.fill(input)? {
+            return Ok(false);
+        }
+        let taken = first_of(reader.waiting(), left).len();
+        reader.advance(taken);
+        left -= taken as u64;
+    }
+    Ok(true)
+}
+
+/// Scans so many bytes as they come, and tells whether all came. The lines of what they report are written, or wait.
+fn scan_payload<I: Source, O: Sink>(
+    db: &Database,
+    name: &Name,
+    count: u64,
+    stream: &mut Stream,
+    scratch: &mut Scratch,
+    reader: &mut Reader,
+    input: &mut I,
+    out: &mut O,
+    pending: &mut Pending,
+) -> Result<bool, Break>
+    requires usable { IsUsable db.now }
+    requires fits { IsStreamOf db.now stream.old }
+    requires scratch { IsScratchOf db.now scratch.old }
+    requires room { offset_of stream.old + count ≤ greatest_offset }
+    ensures fits { IsStreamOf db.now stream.new }
+    ensures scratch { IsScratchOf db.now scratch.new }
+    ensures scanned { IsPayloadScanned db.now name.now count stream.old stream.new (I.left input.old) (I.left input.new) reader.old reader.new
+        (O.written out.old) (O.written out.new) pending.old pending.new result }
+    ensures counts { Counts (I.faults input.old) (I.faults input.new) (O.faults out.old) (O.faults out.new) result }
+{
+    let mut left = count;
+    while left > 0 {
+        match reader.fill(input) {
+            Ok(true) => {}
+            Ok(false) => return Ok(false),
+            Err(stop) => return Err(stop),
+        }
+        let bytes = first_of(reader.waiting(), left);
+        let taken = bytes.len();
+        let scanned = scan_piece(db, name, stream, scratch, bytes, out, pending);
+        reader.advance(taken);
+        left -= taken as u64;
+        match scanned {
+            Ok(()) => {}
+            Err(Failed) => return Err(Break::Write),
+        }
+    }
+    Ok(true)
+}
+
+/// The first bytes, so many at most.
+fn first_of(bytes: &[u8], most: u64) -> &[u8]
+    ensures { result.now ≡ take most bytes.now }
+{
+    if most >= bytes.len() as u64 {
+        bytes
+    } else {
+        &bytes[..most as usize]
+    }
+}
+
+/// Writes bytes to the stream. The lines of what they report are written, or wait.
+fn scan_piece<O: Sink>(
+    db: &Database,
+    name: &Name,
+    stream: &mut Stream,
+    scratch: &mut Scratch,
+    bytes: &[u8],
+    out: &mut O,
+    pending: &mut Pending,
+) -> Result<(), Failed>
+    requires usable { IsUsable db.now }
+    requires fits { IsStreamOf db.now stream.old }
+    requires scratch { IsScratchOf db.now scratch.old }
+    requires room { offset_of stream.old + length bytes.now ≤ greatest_offset }
+    ensures fits { IsStreamOf db.now stream.new }
+    ensures scratch { IsScratchOf db.now scratch.new }
+    ensures offset { offset_of stream.new ≡ offset_of stream.old + length bytes.now }
+    ensures scanned { IsScanned db.now name.now (is_err result) stream.old stream.new bytes.now (O.written out.old) (O.written out.new) pending.old pending.new }
+    ensures counted { OnOk result (O.faults out.new ≡ O.faults out.old) }
+    ensures failed { OnErr result (Rose (O.faults out.old) (O.faults out.new)) }
+{
+    scan_counted::<O, Brand>(db, name, stream, scratch, bytes, out, pending, Blank::new(1))
+}
+
+/// Writes bytes to the stream, and counts the steps of engines in a ledger of its own.
+fn scan_counted<O: Sink, L: Ledger>(
+    db: &Database,
+    name: &Name,
+    stream: &mut Stream,
+    scratch: &mut Scratch,
+    bytes: &[u8],
+    out: &mut O,
+    pending: &mut Pending,
+    blank: Blank,
+) -> Result<(), Failed>
+    requires usable { IsUsable db.now }
+    requires fits { IsStreamOf db.now stream.old }
+    requires scratch { IsScratchOf db.now scratch.old }
+    requires room { offset_of stream.old + length bytes.now ≤ greatest_offset }
+    requires name { blank.name ≡ L.name }
+    requires parts { blank.parts ≡ L.parts }
+    requires some { 0 < L.parts }
+    ensures fits { IsStreamOf db.now stream.new }
+    ensures scratch { IsScratchOf db.now scratch.new }
+    ensures offset { offset_of stream.new ≡ offset_of stream.old + length bytes.now }
+    ensures scanned { IsScanned db.now name.now (is_err result) stream.old stream.new bytes.now (O.written out.old) (O.written out.new) pending.old pending.new }
+    ensures counted { OnOk result (O.faults out.new ≡ O.faults out.old) }
+    ensures failed { OnErr result (Rose (O.faults out.old) (O.faults out.new)) }
+{
+    let mut steps = Steps::<L>::open(blank);
+    let mut lines = NamedLines {
+        name,
+        out,
+        pending,
+        failed: false,
+    };
+    match stream.write(db, scratch, bytes, &mut lines, &mut steps) {
+        Ok(()) | Err(_) => {}
+    }
+    if lines.failed { Err(Failed) } else { Ok(()) }
+}

@@ -1,0 +1,129 @@
+//! A script, from its first byte to its end.
+ghost use Rattle.std.specs.Prelude.{◌≡◌};
+ghost use Rattle.hs_outside.specs.Sink.{Took, TookPrefix};
+ghost use Rattle.hs_scan.specs.Passing.{Passes, PassesPart};
+ghost use Rattle.hs_stream.specs.Scratches.{IsScratchOf};
+ghost use Rattle.hs_stream.specs.Streams.{IsUsable};
+ghost use Rattle.hs_session.specs.Breaks.{is_write as is_sink};
+ghost use Rattle.hs_session.specs.Commands.{StopCounts};
+ghost use Rattle.hs_session.specs.Serving.{ScriptEnds, EndCounts, Flushes, lost_of};
+
+use crate::commands::run_line;
+use crate::fault::{Break, ScriptStop};
+use crate::line::Line;
+use crate::reader::Reader;
+use crate::streams::Streams;
+use hs_compile::Database;
+use hs_outside::{Failed, Sink, Source};
+use hs_scan::Pending;
+use hs_stream::Scratch;
+use std::alloc::Global;
+
+/// Runs the script that `input` holds over streams of the database. What it answers and reports goes to `out`.
+///
+/// # Errors
+///
+/// `Fault` where the script has a fault, whose line was written; `Broken` where the source or the sink failed or the script
+/// is too long; `Memory` before a byte is read or written. Later want of memory is an answer of the script.
+pub fn serve<I: Source, O: Sink>(
+    alloc: Global,
+    db: &Database,
+    input: &mut I,
+    out: &mut O,
+) -> Result<(), ScriptStop>
+    requires { IsUsable db.now }
+    ensures ends { ScriptEnds db.now (I.left input.old) (I.left input.new) (λ text. Took (O.written out.old) (O.written out.new) text)
+        (λ text. TookPrefix (O.written out.old) (O.written out.new) text) result }
+    ensures counts { EndCounts (I.faults input.old) (I.faults input.new) (O.faults out.old) (O.faults out.new) result }
+{
+    let mut scratch = match Scratch::new(alloc, db) {
+        Ok(scratch) => scratch,
+        Err(_) => return Err(ScriptStop::Memory),
+    };
+    let mut pending = Pending::new();
+    let ended = run_script(alloc, db, &mut scratch, input, out, &mut pending);
+    flush(ended, out, &mut pending)
+}
+
+/// Runs the script to its end, or until it stops. Lines may wait then.
+fn run_script<I: Source, O: Sink>(
+    alloc: Global,
+    db: &Database,
+    scratch: &mut Scratch,
+    input: &mut I,
+    out: &mut O,
+    pending: &mut Pending,
+) -> Result<(), ScriptStop>
+    requires usable { IsUsable db.now }
+    requires scratch { IsScratchOf db.now scratch.old }
+    ensures ends { ScriptEnds db.now (I.left input.old) (I.left input.new)
+        (λ text. Passes (O.written out.old) (O.written out.new) pending.old pending.new text)
+        (λ text. PassesPart (O.written out.old) (O.written out.new) pending.old text) result }
+    ensures counts { StopCounts (I.faults input.old) (I.faults input.new) (O.faults out.old) (O.faults out.new) result }
+{
+    let mut streams = Streams::new(alloc);
+    let mut reader = Reader::new();
+    let mut line = Line::new();
+    let mut number: u64 = 1;
+    loop {
+        match reader.read_line(input, &mut line) {
+            Ok(true) => {}
+            Ok(false) => return Ok(()),
+            Err(stop) => return Err(ScriptStop::Broken(stop)),
+        }
+        match run_line(
+            alloc,
+            db,
+            &line,
+            number,
+            &mut streams,
+            scratch,
+            &mut reader,
+            input,
+            out,
+            pending,
+        ) {
+            Ok(()) => {}
+            Err(stop) => return Err(stop),
+        }
+        number += 1;
+    }
+}
+
+/// Writes the lines that wait, unless the sink failed.
+fn flush<O: Sink>(
+    ended: Result<(), ScriptStop>,
+    out: &mut O,
+    pending: &mut Pending,
+) -> Result<(), ScriptStop>
+    ensures { Flushes ended result (O.written out.old) (O.written out.new) pending.old (O.faults out.old) (O.faults out.new) }
+{
+    if is_lost(&ended) {
+        return ended;
+    }
+    match pending.flush(out) {
+        Ok(()) => ended,
+        Err(Failed) => Err(ScriptStop::Broken(Break::Write)),
+    }
+}
+
+/// Whether the sink failed.
+fn is_lost(ended: &Result<(), ScriptStop>) -> bool
+    ensures { result ≡ lost_of ended.now }
+{
+    match ended {
+        Ok(()) => false,
+        Err(ScriptStop::Fault(_)) | Err(ScriptStop::Memory) => false,
+        Err(ScriptStop::Broken(stop)) => is_write(*stop),
+    }
+}
+
+/// Whether it is the sink's failure.
+fn is_write(stop: Break) -> bool
+    ensures { result ≡ is_sink stop }
+{
+    match stop {
+        Break::Read | Break::Limit => false,
+        Break::Write => true,
+    }
+}
