@@ -146,15 +146,20 @@ fn cut(bytes: &[u8], mark: u8) -> (&[u8], &[u8]) {
     }
 }
 
-/// The flags that a row begins with, its text, and what is expected of it.
-fn fields(row: &[u8]) -> (Flags, &[u8], &[u8]) {
-    let (flags, behind) = cut(row, b'\t');
-    let (text, expected) = cut(behind, b'\t');
-    let flags = match flags {
-        [digit, ..] => *digit as u16 % 8,
-        [] => 0,
-    };
-    (Flags(flags), text, expected)
+/// The next field, behind the marks before it, and what is behind it.
+fn field(bytes: &[u8], mark: u8) -> (&[u8], &[u8]) {
+    match bytes.iter().position(|byte| *byte != mark) {
+        Some(at) => cut(&bytes[at..], mark),
+        None => (&[], &[]),
+    }
+}
+
+/// The flags of a line, by their digit.
+fn flags_of(digit: &[u8]) -> Flags {
+    match digit {
+        [digit, ..] => Flags(*digit as u16 % 8),
+        [] => Flags::NONE,
+    }
 }
 
 /// Checks a text against its tree.
@@ -175,16 +180,30 @@ fn check_tree(
     Ok(())
 }
 
-/// Checks the texts of some rows against their trees.
-fn check_trees(rt: &impl Abort, alloc: Global, rows: &[u8]) -> Result<(), Fail> {
-    let mut rest = rows;
-    for _row in 0..rows.len() {
+/// Checks the texts of a line against their trees.
+fn check_trees_of(rt: &impl Abort, alloc: Global, mark: u8, line: &[u8]) -> Result<(), Fail> {
+    let (digit, mut rest) = field(line, mark);
+    for _text in 0..line.len() {
+        let (text, behind) = field(rest, mark);
+        let (tree, behind) = field(behind, mark);
+        if text.is_empty() {
+            break;
+        }
+        check_tree(rt, alloc, flags_of(digit), text, tree)?;
+        rest = behind;
+    }
+    Ok(())
+}
+
+/// Checks the texts of a table against their trees, by the mark between its fields.
+fn check_trees(rt: &impl Abort, alloc: Global, mark: u8, table: &[u8]) -> Result<(), Fail> {
+    let mut rest = table;
+    for _line in 0..table.len() {
         if rest.is_empty() {
             break;
         }
-        let (row, behind) = cut(rest, b'\n');
-        let (flags, text, tree) = fields(row);
-        check_tree(rt, alloc, flags, text, tree)?;
+        let (line, behind) = cut(rest, b'\n');
+        check_trees_of(rt, alloc, mark, line)?;
         rest = behind;
     }
     Ok(())
@@ -192,46 +211,47 @@ fn check_trees(rt: &impl Abort, alloc: Global, rows: &[u8]) -> Result<(), Fail> 
 
 #[test]
 fn reads_the_grammar(rt: HostRuntime) -> Result<(), Fail> {
-    check_trees(&rt, rt.alloc(), trees::TREES)
+    check_trees(&rt, rt.alloc(), b' ', trees::TREES)
 }
 
 #[test]
 fn reads_ranges(rt: HostRuntime) -> Result<(), Fail> {
-    check_trees(&rt, rt.alloc(), trees::RANGES)
+    check_trees(&rt, rt.alloc(), b' ', trees::RANGES)
 }
 
 #[test]
 fn reads_classes(rt: HostRuntime) -> Result<(), Fail> {
-    check_trees(&rt, rt.alloc(), trees::CLASSES)
+    check_trees(&rt, rt.alloc(), b' ', trees::CLASSES)
 }
 
 #[test]
 fn reads_escapes(rt: HostRuntime) -> Result<(), Fail> {
-    check_trees(&rt, rt.alloc(), trees::ESCAPES)
+    check_trees(&rt, rt.alloc(), b' ', trees::ESCAPES)
 }
 
 #[test]
 fn reads_assertions(rt: HostRuntime) -> Result<(), Fail> {
-    check_trees(&rt, rt.alloc(), trees::ASSERTIONS)
+    check_trees(&rt, rt.alloc(), b' ', trees::ASSERTIONS)
 }
 
 #[test]
 fn reads_quantifiers(rt: HostRuntime) -> Result<(), Fail> {
-    check_trees(&rt, rt.alloc(), trees::QUANTIFIERS)
+    check_trees(&rt, rt.alloc(), b' ', trees::QUANTIFIERS)
 }
 
 #[test]
 fn reads_groups_and_options(rt: HostRuntime) -> Result<(), Fail> {
-    check_trees(&rt, rt.alloc(), trees::GROUPS)
+    check_trees(&rt, rt.alloc(), b' ', trees::GROUPS)
 }
 
 #[test]
 fn skips_what_has_no_meaning(rt: HostRuntime) -> Result<(), Fail> {
-    check_trees(&rt, rt.alloc(), trees::SKIPPED)
+    check_trees(&rt, rt.alloc(), b' ', trees::SKIPPED)
 }
 
 #[test]
 fn reads_blanks(rt: HostRuntime) -> Result<(), Fail> {
+    check_trees(&rt, rt.alloc(), b';', trees::SPACED)?;
     for (flags, text, tree) in trees::BLANKS {
         check_tree(&rt, rt.alloc(), Flags(flags), text, tree)?;
     }
@@ -246,7 +266,7 @@ fn refusal_of(outcome: Result<Expr, ParseFault>) -> Option<Refusal> {
     }
 }
 
-/// Checks a text against its fault.
+/// Checks a text against its fault, which is written without blanks.
 fn check_fault(
     rt: &impl Abort,
     alloc: Global,
@@ -257,21 +277,41 @@ fn check_fault(
     let Some(refusal) = refusal_of(parse(alloc, text, flags)) else {
         panic!(rt; "{text:?} isn't refused")
     };
-    let written = format!(in alloc; "{refusal:?}")?;
-    assert!(rt; written.as_bytes() == fault, "{text:?} has {written}");
+    let shown = format!(in alloc; "{refusal:?}")?;
+    let mut written = Vec::new(alloc);
+    for byte in shown.as_bytes() {
+        if *byte != b' ' {
+            written.push(*byte)?;
+        }
+    }
+    assert!(rt; written.as_slice() == fault, "{text:?} has {shown}");
     Ok(())
 }
 
-/// Checks the texts of some rows against their faults.
-fn check_faults(rt: &impl Abort, alloc: Global, rows: &[u8]) -> Result<(), Fail> {
-    let mut rest = rows;
-    for _row in 0..rows.len() {
+/// Checks that the texts of a line have its fault.
+fn check_faults_of(rt: &impl Abort, alloc: Global, mark: u8, line: &[u8]) -> Result<(), Fail> {
+    let (digit, behind) = field(line, mark);
+    let (fault, mut rest) = field(behind, mark);
+    for _text in 0..line.len() {
+        let (text, behind) = field(rest, mark);
+        if text.is_empty() {
+            break;
+        }
+        check_fault(rt, alloc, flags_of(digit), text, fault)?;
+        rest = behind;
+    }
+    Ok(())
+}
+
+/// Checks the texts of a table against their faults, by the mark between its fields.
+fn check_faults(rt: &impl Abort, alloc: Global, mark: u8, table: &[u8]) -> Result<(), Fail> {
+    let mut rest = table;
+    for _line in 0..table.len() {
         if rest.is_empty() {
             break;
         }
-        let (row, behind) = cut(rest, b'\n');
-        let (flags, text, fault) = fields(row);
-        check_fault(rt, alloc, flags, text, fault)?;
+        let (line, behind) = cut(rest, b'\n');
+        check_faults_of(rt, alloc, mark, line)?;
         rest = behind;
     }
     Ok(())
@@ -279,7 +319,8 @@ fn check_faults(rt: &impl Abort, alloc: Global, rows: &[u8]) -> Result<(), Fail>
 
 #[test]
 fn refuses_the_first_fault(rt: HostRuntime) -> Result<(), Fail> {
-    check_faults(&rt, rt.alloc(), faults::FAULTS)?;
+    check_faults(&rt, rt.alloc(), b' ', faults::FAULTS)?;
+    check_faults(&rt, rt.alloc(), b';', faults::SPACED)?;
     for (flags, text, fault) in faults::BLANKS {
         check_fault(&rt, rt.alloc(), Flags(flags), text, fault)?;
     }

@@ -1,310 +1,74 @@
-//! Texts with their faults, by the pattern syntax. A row is flags, a text and its fault, with tabs between them.
+//! Texts with their faults, by the pattern syntax. A line has flags and a fault, and then texts that have that fault.
 
 /// Texts that are refused.
 pub(crate) const FAULTS: &[u8] = b"\
-0\t*\tSyntax(0)
-0\t+a\tSyntax(0)
-0\t?\tSyntax(0)
-0\ta**\tSyntax(2)
-0\ta+*\tSyntax(2)
-0\ta?*\tSyntax(2)
-0\ta|*\tSyntax(2)
-0\t(+a)\tSyntax(1)
-0\t(a)+*\tSyntax(4)
-0\ta*?*\tSyntax(3)
-0\ta*?+\tSyntax(3)
-0\ta*??\tSyntax(3)
-0\ta{2}*\tSyntax(4)
-0\ta{2}{3}\tSyntax(4)
-0\t{2}\tSyntax(0)
-0\ta|{2}\tSyntax(2)
-0\t({2,3})\tSyntax(1)
-0\t(?i)*\tSyntax(4)
-0\t(?i){2}\tSyntax(4)
-0\ta(?i)*\tSyntax(5)
-0\t(?:*a)\tSyntax(3)
-0\t(?i:+)\tSyntax(4)
-0\t(?|?)\tSyntax(3)
-0\t(?x) *\tSyntax(5)
-0\t(?#x)*\tSyntax(5)
-0\ta*(?#)*\tSyntax(6)
-0\ta*\\E*\tSyntax(4)
-0\t\\Q\\E*\tSyntax(4)
-0\ta{3,2}\tSyntax(1)
-0\ta{1,0}\tSyntax(1)
-0\ta{3,2}+\tSyntax(1)
-0\t)\tSyntax(0)
-0\ta)\tSyntax(1)
-0\t(a))\tSyntax(3)
-0\ta|b)c(\tSyntax(3)
-0\t(?i))\tSyntax(4)
-0\t(\tSyntax(1)
-0\t(a\tSyntax(2)
-0\t((a)\tSyntax(4)
-0\t(a|\tSyntax(3)
-0\t(?:a\tSyntax(4)
-0\t(?i:a\tSyntax(5)
-0\t(?<n>a\tSyntax(6)
-0\t(a(?i)b\tSyntax(7)
-0\t(\\Q)\tSyntax(4)
-0\t(a(?#x)\tSyntax(7)
-0\t(?x)(#)\tSyntax(7)
-0\ta(?#\\)b)\tSyntax(7)
-0\t\\\tSyntax(0)
-0\ta\\\tSyntax(1)
-0\t(\\\tSyntax(1)
-0\t\\c\tSyntax(0)
-0\t\\c\x7f\tSyntax(0)
-0\t\\c\x80\tSyntax(0)
-0\ta\\c\tSyntax(1)
-0\t\\x{\tSyntax(0)
-0\t\\x{}\tSyntax(0)
-0\t\\x{4\tSyntax(0)
-0\t\\x{g}\tSyntax(0)
-0\t\\x{4g}\tSyntax(0)
-0\t\\x{100}\tSyntax(0)
-0\t\\x{ffffffff}\tSyntax(0)
-0\t\\x{000000041}\tSyntax(0)
-0\t\\x{ 41}\tSyntax(0)
-0\t\\o\tSyntax(0)
-0\t\\o1\tSyntax(0)
-0\t\\o{\tSyntax(0)
-0\t\\o{}\tSyntax(0)
-0\t\\o{8}\tSyntax(0)
-0\t\\o{400}\tSyntax(0)
-0\t\\o{000000101}\tSyntax(0)
-0\t\\o{18}\tSyntax(0)
-0\t[\tSyntax(0)
-0\ta[\tSyntax(1)
-0\t[]\tSyntax(0)
-0\t[^\tSyntax(0)
-0\t[^]\tSyntax(0)
-0\t[a\tSyntax(0)
-0\t[a-\tSyntax(0)
-0\t[a-b\tSyntax(0)
-0\t(a[b\tSyntax(2)
-0\t[z-a]\tSyntax(1)
-0\t[z-a\tSyntax(1)
-0\t[ab-a]\tSyntax(2)
-0\t[a--]\tSyntax(1)
-0\t[^z-a]\tSyntax(2)
-0\t[\\\tSyntax(1)
-0\t[a\\\tSyntax(2)
-0\t[a-\\\tSyntax(3)
-0\t[\\c\tSyntax(1)
-0\t[\\x{g}]\tSyntax(1)
-0\t[a\\x{100}]\tSyntax(2)
-0\t[a-\\x{100}]\tSyntax(3)
-0\t[\\o]\tSyntax(1)
-0\t[\\x62-a]\tSyntax(1)
-0\t[\\c]\tSyntax(0)
-0\t[[:foo:]]\tSyntax(1)
-0\t[[:^foo:]]\tSyntax(1)
-0\t[a[:foo:]]\tSyntax(2)
-0\t[a-[:foo:]]\tSyntax(3)
-0\t[[:alphaa:]]\tSyntax(1)
-0\t[[:a:]\tSyntax(1)
-0\t[:alpha:]\tSyntax(0)
-0\ta[:xyz:]b\tSyntax(1)
-0\t[:a:]]\tSyntax(0)
-0\t[:a:\tSyntax(0)
-0\t[:^alpha:\tSyntax(0)
-0\t[[:alpha:]\tSyntax(0)
-0\t[[:alpha:\tSyntax(0)
-0\t(?\tSyntax(0)
-0\t(?<\tSyntax(0)
-0\t(?<>a)\tSyntax(0)
-0\t(?<n\tSyntax(0)
-0\t(?<n a>b)\tSyntax(0)
-0\t(?<1n>a)\tSyntax(0)
-0\t(?<n-m>a)\tSyntax(0)
-0\t(?P<>a)\tSyntax(0)
-0\t(?P<1>a)\tSyntax(0)
-0\t(?P<n\tSyntax(0)
-0\t(?''a)\tSyntax(0)
-0\t(?'n\tSyntax(0)
-0\t(?'n>a)\tSyntax(0)
-0\t(?<nnnnnnnnnnnnnnnnnnnnnnnnnnnnnnnnn>a)\tSyntax(0)
-0\t(?#\tSyntax(0)
-0\ta(?#x\tSyntax(1)
-0\t(?#\\\tSyntax(0)
-0\t(?i\tSyntax(0)
-0\t(?i-\tSyntax(0)
-0\t(?-\tSyntax(0)
-0\t(?i-i-i)\tSyntax(0)
-0\t(?--i)\tSyntax(0)
-0\t(?i-1)\tSyntax(0)
-0\t(?i*)\tSyntax(0)
-0\t(?^)\tSyntax(0)
-0\t(?i^)\tSyntax(0)
-0\t(?*)\tSyntax(0)
-0\t(?[)\tSyntax(0)
-0\t(?,)\tSyntax(0)
-0\t(?$)\tSyntax(0)
-0\t(?\xe9)\tSyntax(0)
-0\ta(?@\tSyntax(1)
-0\ta{32768}\tRepeatLimit(32768)
-0\ta{32768,}\tRepeatLimit(32768)
-0\ta{0,32768}\tRepeatLimit(32768)
-0\ta{1,99999}\tRepeatLimit(99999)
-0\ta{40000,50000}\tRepeatLimit(40000)
-0\ta{40000,1}\tRepeatLimit(40000)
-0\ta{4294967295}\tRepeatLimit(4294967295)
-0\ta{4294967296}\tRepeatLimit(4294967295)
-0\ta{99999999999999999999}\tRepeatLimit(4294967295)
-0\ta{2,4294967294}\tRepeatLimit(4294967294)
-0\ta{32768}?\tRepeatLimit(32768)
-0\ta*+\tUnsupported(Possessive, 1)
-0\ta++\tUnsupported(Possessive, 1)
-0\ta?+\tUnsupported(Possessive, 1)
-0\ta{2}+\tUnsupported(Possessive, 1)
-0\ta{2,}+\tUnsupported(Possessive, 1)
-0\ta{2,3}+\tUnsupported(Possessive, 1)
-0\ta{32768}+\tUnsupported(Possessive, 1)
-0\ta{1,32768}+\tUnsupported(Possessive, 1)
-0\t(a)*+\tUnsupported(Possessive, 3)
-0\t*+\tSyntax(0)
-0\ta**+\tSyntax(2)
-0\t{32768}\tSyntax(0)
-0\ta*{32768}\tSyntax(2)
-0\t{3,2}+\tSyntax(0)
-0\t\\1\tUnsupported(Backreference, 0)
-0\t\\2\tUnsupported(Backreference, 0)
-0\t\\3\tUnsupported(Backreference, 0)
-0\t\\4\tUnsupported(Backreference, 0)
-0\t\\5\tUnsupported(Backreference, 0)
-0\t\\6\tUnsupported(Backreference, 0)
-0\t\\7\tUnsupported(Backreference, 0)
-0\t\\8\tUnsupported(Backreference, 0)
-0\t\\9\tUnsupported(Backreference, 0)
-0\t\\g\tUnsupported(Backreference, 0)
-0\t\\k\tUnsupported(Backreference, 0)
-0\t(a)\\1\tUnsupported(Backreference, 3)
-0\t[\\1]\tUnsupported(Backreference, 1)
-0\t[\\9]\tUnsupported(Backreference, 1)
-0\t[\\g]\tUnsupported(Backreference, 1)
-0\t[\\k]\tUnsupported(Backreference, 1)
-0\t\\k<n>\tUnsupported(Backreference, 0)
-0\t\\g{1}\tUnsupported(Backreference, 0)
-0\t\\p\tUnsupported(Property, 0)
-0\t[\\p]\tUnsupported(Property, 1)
-0\ta\\p{L}\tUnsupported(Property, 1)
-0\t\\P\tUnsupported(Property, 0)
-0\t[\\P]\tUnsupported(Property, 1)
-0\ta\\P{L}\tUnsupported(Property, 1)
-0\t\\R\tUnsupported(NewlineSequence, 0)
-0\ta\\R*\tUnsupported(NewlineSequence, 1)
-0\t\\C\tUnsupported(AnyByte, 0)
-0\ta\\C*\tUnsupported(AnyByte, 1)
-0\t\\K\tUnsupported(Keep, 0)
-0\ta\\K*\tUnsupported(Keep, 1)
-0\t\\N\tUnsupported(NotNewline, 0)
-0\ta\\N*\tUnsupported(NotNewline, 1)
-0\t\\X\tUnsupported(Grapheme, 0)
-0\ta\\X*\tUnsupported(Grapheme, 1)
-0\t\\G\tUnsupported(MatchStart, 0)
-0\ta\\G*\tUnsupported(MatchStart, 1)
-0\t\\i\tUnknownEscape(0)
-0\t\\j\tUnknownEscape(0)
-0\t\\l\tUnknownEscape(0)
-0\t\\m\tUnknownEscape(0)
-0\t\\q\tUnknownEscape(0)
-0\t\\u\tUnknownEscape(0)
-0\t\\y\tUnknownEscape(0)
-0\t\\F\tUnknownEscape(0)
-0\t\\I\tUnknownEscape(0)
-0\t\\J\tUnknownEscape(0)
-0\t\\L\tUnknownEscape(0)
-0\t\\M\tUnknownEscape(0)
-0\t\\O\tUnknownEscape(0)
-0\t\\T\tUnknownEscape(0)
-0\t\\U\tUnknownEscape(0)
-0\t\\Y\tUnknownEscape(0)
-0\t[a\\i]\tUnknownEscape(2)
-0\t[a\\j]\tUnknownEscape(2)
-0\t[a\\l]\tUnknownEscape(2)
-0\t[a\\m]\tUnknownEscape(2)
-0\t[a\\q]\tUnknownEscape(2)
-0\t[a\\u]\tUnknownEscape(2)
-0\t[a\\y]\tUnknownEscape(2)
-0\t[a\\z]\tUnknownEscape(2)
-0\t[a\\A]\tUnknownEscape(2)
-0\t[a\\B]\tUnknownEscape(2)
-0\t[a\\C]\tUnknownEscape(2)
-0\t[a\\E]\tUnknownEscape(2)
-0\t[a\\F]\tUnknownEscape(2)
-0\t[a\\G]\tUnknownEscape(2)
-0\t[a\\I]\tUnknownEscape(2)
-0\t[a\\J]\tUnknownEscape(2)
-0\t[a\\K]\tUnknownEscape(2)
-0\t[a\\L]\tUnknownEscape(2)
-0\t[a\\M]\tUnknownEscape(2)
-0\t[a\\N]\tUnknownEscape(2)
-0\t[a\\O]\tUnknownEscape(2)
-0\t[a\\Q]\tUnknownEscape(2)
-0\t[a\\R]\tUnknownEscape(2)
-0\t[a\\T]\tUnknownEscape(2)
-0\t[a\\U]\tUnknownEscape(2)
-0\t[a\\X]\tUnknownEscape(2)
-0\t[a\\Y]\tUnknownEscape(2)
-0\t[a\\Z]\tUnknownEscape(2)
-0\t[a-\\y]\tUnknownEscape(3)
-0\ta\\y)\tUnknownEscape(1)
-0\t[\\Qa]\tUnknownEscape(1)
-0\t[[.a.]]\tUnsupported(Collating, 1)
-0\t[[=a=]]\tUnsupported(Collating, 1)
-0\t[x[.space.]y]\tUnsupported(Collating, 2)
-0\t[a-[.b.]]\tUnsupported(Collating, 3)
-0\t[[=ab=]\tUnsupported(Collating, 1)
-0\t(*a)\tUnsupported(Verb, 0)
-0\t(*\tUnsupported(Verb, 0)
-0\ta(*ACCEPT)\tUnsupported(Verb, 1)
-0\t((*\tUnsupported(Verb, 1)
-0\t(?=a)\tUnsupported(Lookaround, 0)
-0\t(?!a)\tUnsupported(Lookaround, 0)
-0\t(?<=a)\tUnsupported(Lookaround, 0)
-0\t(?<!a)\tUnsupported(Lookaround, 0)
-0\ta(?=\tUnsupported(Lookaround, 1)
-0\t(?>a)\tUnsupported(Atomic, 0)
-0\t(?>\tUnsupported(Atomic, 0)
-0\t(?(1)a)\tUnsupported(Conditional, 0)
-0\t(?(\tUnsupported(Conditional, 0)
-0\t(?C)\tUnsupported(Callout, 0)
-0\t(?C1)\tUnsupported(Callout, 0)
-0\t(?R)\tUnsupported(Recursion, 0)
-0\t(?&n)\tUnsupported(Recursion, 0)
-0\t(?P>n)\tUnsupported(Recursion, 0)
-0\t(?+1)\tUnsupported(Recursion, 0)
-0\t(?1)\tUnsupported(Recursion, 0)
-0\t(?0)\tUnsupported(Recursion, 0)
-0\t(?9)\tUnsupported(Recursion, 0)
-0\t(?-1)\tUnsupported(Recursion, 0)
-0\t(?P=n)\tUnsupported(Backreference, 0)
-0\t(?z)\tUnsupported(Option, 0)
-0\t(?iz)\tUnsupported(Option, 0)
-0\t(?i-z)\tUnsupported(Option, 0)
-0\t(?-z)\tUnsupported(Option, 0)
-0\t(?J)\tUnsupported(Option, 0)
-0\t(?P)\tUnsupported(Option, 0)
-0\t(?Pa)\tUnsupported(Option, 0)
-0\t(?U)\tUnsupported(Option, 0)
-0\t(?L)\tUnsupported(Option, 0)
-0\ta(?ixj)\tUnsupported(Option, 1)
-1\tF[\tSyntax(1)
-7\ta\\\tSyntax(1)
-0\t[Z-a\tSyntax(0)
-1\t[a-Z]\tSyntax(1)
-2\t)\tSyntax(0)
-0\t\\y)\tUnknownEscape(0)
-0\t)\\y\tSyntax(0)
-0\t(\\y\tUnknownEscape(1)
-0\t[\\y\tUnknownEscape(1)
-0\t[z-a\\y]\tSyntax(1)
-0\ta\\1(\tUnsupported(Backreference, 1)
-0\ta{32768}(\tRepeatLimit(32768)
-0\t(?=a)\\y\tUnsupported(Lookaround, 0)
-0\t\\Q\\y\\E\\y\tUnknownEscape(6)
-0\t(?#\\y)\\y\tUnknownEscape(6)
+0 Syntax(0) * +a ? {2} ) \\ \\c \\c\x7f \\c\x80 \\x{ \\x{} \\x{4 \\x{g} \\x{4g} \\x{100} \\x{ffffffff}\n\
+0 Syntax(0) \\x{000000041} \\o \\o1 \\o{ \\o{} \\o{8} \\o{400} \\o{000000101} \\o{18} [ [] [^ [^] [a [a- [a-b [\\c]\n\
+0 Syntax(0) [:alpha:] [:a:]] [:a: [:^alpha: [[:alpha:] [[:alpha: (? (?< (?<>a) (?<n (?<1n>a) (?<n-m>a) (?P<>a)\n\
+0 Syntax(0) (?P<1>a) (?P<n (?''a) (?'n (?'n>a) (?<nnnnnnnnnnnnnnnnnnnnnnnnnnnnnnnnn>a) (?# (?#\\ (?i (?i- (?-\n\
+0 Syntax(0) (?i-i-i) (?--i) (?i-1) (?i*) (?^) (?i^) (?*) (?[) (?,) (?$) (?\xe9) *+ {32768} {3,2}+ [Z-a )\\y\n\
+0 Syntax(2) a** a+* a?* a|* a|{2} (a (a[b [ab-a] [^z-a] [a\\ [a\\x{100}] [a[:foo:]] a**+ a*{32768}\n\
+0 Syntax(1) (+a) ({2,3}) a{3,2} a{1,0} a{3,2}+ a) ( a\\ (\\ a\\c a[ [z-a] [z-a [a--] [\\ [\\c [\\x{g}] [\\o]\n\
+0 Syntax(1) [\\x62-a] [[:foo:]] [[:^foo:]] [[:alphaa:]] [[:a:] a[:xyz:]b a(?#x a(?@ [z-a\\y] a{3,2}?\n\
+0 Syntax(4) (a)+* a{2}* a{2}{3} (?i)* (?i){2} (?i:+) a*\\E* \\Q\\E* (?i)) ((a) (?:a (\\Q)\n\
+0 Syntax(3) a*?* a*?+ a*?? (?:*a) (?|?) (a)) a|b)c( (a| [a-\\ [a-\\x{100}] [a-[:foo:]]\n\
+0 Syntax(5) a(?i)* (?#x)* (?i:a\n\
+0 Syntax(6) a*(?#)* (?<n>a\n\
+0 Syntax(7) (a(?i)b (a(?#x) (?x)(#) a(?#\\)b)\n\
+0 RepeatLimit(32768) a{32768} a{32768,} a{0,32768} a{32768}? a{32768}(\n\
+0 RepeatLimit(99999) a{1,99999}\n\
+0 RepeatLimit(40000) a{40000,50000} a{40000,1}\n\
+0 RepeatLimit(4294967295) a{4294967295} a{4294967296} a{99999999999999999999}\n\
+0 RepeatLimit(4294967294) a{2,4294967294}\n\
+0 Unsupported(Possessive,1) a*+ a++ a?+ a{2}+ a{2,}+ a{2,3}+ a{32768}+ a{1,32768}+\n\
+0 Unsupported(Possessive,3) (a)*+\n\
+0 Unsupported(Backreference,0) \\1 \\2 \\3 \\4 \\5 \\6 \\7 \\8 \\9 \\g \\k \\k<n> \\g{1} (?P=n)\n\
+0 Unsupported(Backreference,3) (a)\\1\n\
+0 Unsupported(Backreference,1) [\\1] [\\9] [\\g] [\\k] a\\1(\n\
+0 Unsupported(Property,0) \\p \\P\n\
+0 Unsupported(Property,1) [\\p] a\\p{L} [\\P] a\\P{L}\n\
+0 Unsupported(NewlineSequence,0) \\R\n\
+0 Unsupported(NewlineSequence,1) a\\R*\n\
+0 Unsupported(AnyByte,0) \\C\n\
+0 Unsupported(AnyByte,1) a\\C*\n\
+0 Unsupported(Keep,0) \\K\n\
+0 Unsupported(Keep,1) a\\K*\n\
+0 Unsupported(NotNewline,0) \\N\n\
+0 Unsupported(NotNewline,1) a\\N*\n\
+0 Unsupported(Grapheme,0) \\X\n\
+0 Unsupported(Grapheme,1) a\\X*\n\
+0 Unsupported(MatchStart,0) \\G\n\
+0 Unsupported(MatchStart,1) a\\G*\n\
+0 UnknownEscape(0) \\i \\j \\l \\m \\q \\u \\y \\F \\I \\J \\L \\M \\O \\T \\U \\Y \\y)\n\
+0 UnknownEscape(2) [a\\i] [a\\j] [a\\l] [a\\m] [a\\q] [a\\u] [a\\y] [a\\z] [a\\A] [a\\B] [a\\C] [a\\E] [a\\F]\n\
+0 UnknownEscape(2) [a\\G] [a\\I] [a\\J] [a\\K] [a\\L] [a\\M] [a\\N] [a\\O] [a\\Q] [a\\R] [a\\T] [a\\U] [a\\X]\n\
+0 UnknownEscape(2) [a\\Y] [a\\Z]\n\
+0 UnknownEscape(3) [a-\\y]\n\
+0 UnknownEscape(1) a\\y) [\\Qa] (\\y [\\y\n\
+0 Unsupported(Collating,1) [[.a.]] [[=a=]] [[=ab=]\n\
+0 Unsupported(Collating,2) [x[.space.]y]\n\
+0 Unsupported(Collating,3) [a-[.b.]]\n\
+0 Unsupported(Verb,0) (*a) (*\n\
+0 Unsupported(Verb,1) a(*ACCEPT) ((*\n\
+0 Unsupported(Lookaround,0) (?=a) (?!a) (?<=a) (?<!a) (?=a)\\y\n\
+0 Unsupported(Lookaround,1) a(?=\n\
+0 Unsupported(Atomic,0) (?>a) (?>\n\
+0 Unsupported(Conditional,0) (?(1)a) (?(\n\
+0 Unsupported(Callout,0) (?C) (?C1)\n\
+0 Unsupported(Recursion,0) (?R) (?&n) (?P>n) (?+1) (?1) (?0) (?9) (?-1) (?2) (?3) (?4) (?5) (?6) (?7) (?8) (?-0)\n\
+0 Unsupported(Recursion,0) (?-9) (?+a)\n\
+0 Unsupported(Option,0) (?z) (?iz) (?i-z) (?-z) (?J) (?P) (?Pa) (?U) (?L)\n\
+0 Unsupported(Option,1) a(?ixj)\n\
+1 Syntax(1) F[ [a-Z]\n\
+7 Syntax(1) a\\\n\
+2 Syntax(0) )\n\
+0 UnknownEscape(6) \\Q\\y\\E\\y (?#\\y)\\y\n\
+";
+
+/// Texts that are refused and have a space, with semicolons between the fields.
+pub(crate) const SPACED: &[u8] = b"\
+0;Syntax(5);(?x) *\n\
+0;Syntax(0);\\x{ 41};(?<n a>b)\n\
 ";
 
 /// Texts that are refused and have a line feed.
