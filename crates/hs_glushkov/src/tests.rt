@@ -261,6 +261,20 @@ fn spans_are_as_defined(rt: HostRuntime) -> Result<(), Fail> {
 }
 
 #[test]
+fn the_most_positions_span_as_defined(rt: HostRuntime) -> Result<(), Fail> {
+    let alloc = rt.alloc();
+    let table = [
+        ("a<", "aaaab"),
+        ("(a?b?a?b?)!", "ab aab"),
+        ("([aB]b?a?b?)!", "ba abb"),
+    ];
+    for (name, text) in table {
+        compare(&rt, alloc, name, text.as_bytes())?;
+    }
+    Ok(())
+}
+
+#[test]
 fn has_as_many_positions_as_are_written_out(rt: HostRuntime) -> Result<(), Fail> {
     let alloc = rt.alloc();
     let table = [
