@@ -3,11 +3,17 @@
 #![tactic(auto)]
 
 mod check_command;
+#[cfg(test)]
+mod command_tests;
 mod compile_command;
 mod fault;
 mod info_command;
+#[cfg(test)]
+mod list_tests;
 mod load;
 mod match_command;
+#[cfg(test)]
+mod tests;
 mod top;
 
 use fault::Fault;
