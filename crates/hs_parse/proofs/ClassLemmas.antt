@@ -1,7 +1,6 @@
 -- A class is read in one way, and every `[` begins one or has a refusal.
 use Rattle.std.proofs.Common.{◌≡◌, ℕ, zero, suc, ◌+◌, ◌<◌, ◌≤◌, Bool, true, false, ◌||◌, List, [], ◌∷◌, ◌++◌, length, refl, sym, ap, subst, ◌∙◌, arith}
-use Rattle.std.specs.Prelude.{if◌then◌else◌}
-use Rattle.std.specs.List.{slice_get, list_any}
+use Rattle.std.specs.List.{list_any}
 use Rattle.hs_base.specs.declared.refusal.Refusal.TheVariants.{Syntax}
 use Rattle.hs_syntax.proofs.FitLemmas.{either, byte_within}
 use Rattle.hs_parse.specs.declared.item.Item.{Item}

@@ -1,7 +1,6 @@
 -- The grammar reads in one way.
-use Rattle.std.proofs.Common.{◌≡◌, ℕ, Bool, true, false, List, [], ◌∷◌, length, Option, Some, None, refl, sym, ap, subst, ◌∙◌, arith}
+use Rattle.std.proofs.Common.{◌≡◌, ℕ, Bool, true, false, List, [], ◌∷◌, refl, sym, ap, subst, ◌∙◌}
 use Rattle.hs_base.specs.Trees.{Tree}
-use Rattle.hs_syntax.specs.declared.mode.Mode.{Mode}
 use Rattle.hs_parse.specs.declared.spot.Spot.{Spot}
 use Rattle.hs_parse.specs.Spots.{spot}
 use Rattle.hs_parse.specs.Tokens.{Token, ending, single, assertion, opening, closing, bar, quantifier, setting, faulty, Next}

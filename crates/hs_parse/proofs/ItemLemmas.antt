@@ -1,15 +1,13 @@
 -- Where the items of a class end.
-use Rattle.std.proofs.Common.{◌≡◌, ℕ, ◌+◌, ◌-◌, ◌<◌, ◌≤◌, inl, inr, Bool, true, false, List, length, take, drop, refl, sym, ap, subst, ◌∙◌, arith}
-use Rattle.std.specs.Prelude.{◌==◌, nat_lt, if◌then◌else◌}
+use Rattle.std.proofs.Common.{◌≡◌, ℕ, ◌+◌, ◌-◌, ◌<◌, ◌≤◌, Bool, List, length, take, drop, ap, subst, arith}
+use Rattle.std.specs.Prelude.{◌==◌, nat_lt}
 use Rattle.std.specs.List.{slice_get}
 use Rattle.std.proofs.Math.Seq.{take-length}
 use Rattle.std.proofs.lemmas.List.{length-drop}
-use Rattle.std.proofs.lemmas.Bool.{cases_lt}
-use Rattle.hs_base.specs.declared.refusal.Refusal.TheVariants.{Syntax}
 use Rattle.hs_syntax.specs.declared.piece.Piece.{Piece}
 use Rattle.hs_syntax.specs.declared.piece.Piece.TheVariants as piece
 use Rattle.hs_syntax.specs.Bytes.{is_byte}
-use Rattle.hs_syntax.specs.Lengths.{IsLength, PieceFits}
+use Rattle.hs_syntax.specs.Lengths.{PieceFits}
 use Rattle.hs_syntax.proofs.FitLemmas.{either, byte_within}
 use Rattle.hs_syntax.proofs.EscapeFits.{piece_fits}
 use Rattle.hs_parse.specs.declared.item.Item.{Item}

@@ -8,7 +8,7 @@ use Rattle.hs_base.specs.declared.flags.Flags.{Flags}
 use Rattle.hs_base.specs.declared.refusal.Refusal.{Refusal}
 use Rattle.hs_base.specs.declared.refusal.Refusal.TheVariants.{Syntax}
 use Rattle.hs_base.specs.ByteSets.{members}
-use Rattle.hs_base.specs.Trees.{Tree, class, assert, repeat, AreBounds}
+use Rattle.hs_base.specs.Trees.{Tree, class, assert, repeat}
 use Rattle.hs_expr.specs.declared.expr.Expr.{Expr}
 use Rattle.hs_expr.specs.declared.expr.Expr.TheVariants.{Class, Assert, Repeat, rolls-Class, rolls-Assert, rolls-Repeat}
 use Rattle.hs_expr.specs.declared.expr.Expr.TheOpen.{Expr-F}
@@ -20,12 +20,12 @@ use Rattle.hs_parse.specs.declared.token.Found.{Found}
 use Rattle.hs_parse.specs.declared.fault.ParseFault.TheVariants as fault
 use Rattle.hs_parse.specs.declared.spot.Spot.{Spot}
 use Rattle.hs_parse.specs.Spots.{spot, start_of}
-use Rattle.hs_parse.specs.Tokens.{Token, ending, single, assertion, opening, closing, bar, quantifier, setting, faulty, Next}
+use Rattle.hs_parse.specs.Tokens.{Token, ending, single, assertion, opening, closing, bar, quantifier, setting, Next}
 use Rattle.hs_parse.specs.Grammar.{greatest_length, greatest_depth, NoQuantifier, Atom, one_byte, asserted, group, Item, once, repeated, Sequence, nothing, item_first, setting_first, sequence_tree, Alternation, last, alternative_first, alternation_tree, Reads}
 use Rattle.hs_parse.specs.Faults.{Fault, quantifier_faults}
 use Rattle.hs_parse.specs.Faults as faults
 use Rattle.hs_parse.specs.Reading.{EndsGroup, at_closing, at_ending, EndsSequence, with_group, at_bar, Passes, StopsFrom, plain_token, sees_quantifier, goes_on, IsNext, IsLeastOf, ReadsAtom, ReadsItem, ReadsSequence, ReadsGroup}
-use Rattle.hs_parse.proofs.TokenLemmas.{one_next, next_ending}
+use Rattle.hs_parse.proofs.TokenLemmas.{one_next}
 use Rattle.hs_parse.proofs.FaultLemmas.{all_right}
 use Rattle.hs_parse.proofs.GrammarLemmas.{is_quantifier, no_quantifier}
 use Rattle.hs_parse.proofs.StopLemmas.{unclosed_stops, wrong_stops, twice_stops, passes_here, passes_then, item_passes, setting_passes, sequence_passes, bar_passes, closing_fault}

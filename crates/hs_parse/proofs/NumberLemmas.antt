@@ -1,6 +1,6 @@
 -- The numbers of refusals that a text has.
-use Rattle.std.proofs.Common.{◌≡◌, ℕ, ◌+◌, inl, inr, Bool, true, false, ◌⊎◌, List, [], ◌∷◌, ◌++◌, length, Option, Some, None, refl, sym, ap, subst, ◌∙◌}
-use Rattle.std.specs.Prelude.{nat_lt, if◌then◌else◌}
+use Rattle.std.proofs.Common.{ℕ, ◌+◌, inl, inr, Bool, true, false, ◌⊎◌, List, [], ◌∷◌, ◌++◌, length, Option, Some, None, sym, subst}
+use Rattle.std.specs.Prelude.{nat_lt}
 use Rattle.std.specs.List.{slice_get}
 use Rattle.hs_base.specs.declared.flags.Flags.{Flags}
 use Rattle.hs_base.specs.declared.refusal.Refusal.{Refusal}
@@ -25,7 +25,7 @@ use Rattle.hs_parse.specs.Spots.{form_of, refusal_at}
 use Rattle.hs_parse.specs.Classes.{hyphen, piece_of, range_of, item_of, item_at}
 use Rattle.hs_parse.specs.Tokens.{Token, ending, single, assertion, opening, closing, bar, quantifier, setting, faulty, Made, token, skips, bracket, made_by, made_at, ClassToken, closed, unclosed, refused, TokenAt, formed, bracketed, Next, now, skipped}
 use Rattle.hs_parse.specs.Grammar.{greatest_depth}
-use Rattle.hs_parse.specs.Faults.{Before, beginning, atom, repeated, Move, goes, accepts, stops, state, order_faults, bounds_faults, mark_faults, quantifier_faults, end_move, close_move, quantifier_move, move, IsOneOf, HasFault, too_long, stopped, Fault, IsOfText, syntax_fault, unknown_escape, unsupported, repeat_limit, length_limit, depth_limit}
+use Rattle.hs_parse.specs.Faults.{Before, beginning, atom, repeated, Move, goes, accepts, stops, order_faults, bounds_faults, mark_faults, quantifier_faults, end_move, close_move, quantifier_move, move, IsOneOf, HasFault, too_long, stopped, Fault, IsOfText, syntax_fault, unknown_escape, unsupported, repeat_limit, length_limit, depth_limit}
 use Rattle.hs_parse.proofs.FaultLemmas.{one_of_both}
 
 -- the number of a form that is refused

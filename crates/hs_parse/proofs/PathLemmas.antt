@@ -1,5 +1,5 @@
 -- Where the grammar reads, the reading goes on.
-use Rattle.std.proofs.Common.{◌≡◌, ℕ, ◌+◌, ◌<◌, ◌≤◌, ◌⊎◌, inl, inr, false, List, [], ◌∷◌, length, Option, refl, sym, ap, subst, arith}
+use Rattle.std.proofs.Common.{◌≡◌, ℕ, ◌<◌, ◌≤◌, inl, inr, false, List, [], ◌∷◌, length, Option, refl, sym, ap, subst, arith}
 use Rattle.std.specs.Prelude.{if◌then◌else◌}
 use Rattle.std.proofs.lemmas.Bool.{lt-ltb, le-ltb}
 use Rattle.hs_base.specs.declared.flags.Flags.{Flags}
@@ -9,7 +9,7 @@ use Rattle.hs_base.specs.Refusals.{number_of}
 use Rattle.hs_base.specs.Trees.{Tree, AreBounds}
 use Rattle.hs_syntax.specs.declared.mode.Mode.{Mode}
 use Rattle.hs_parse.specs.declared.spot.Spot.{Spot}
-use Rattle.hs_parse.specs.Tokens.{Token, ending, opening, quantifier, Next}
+use Rattle.hs_parse.specs.Tokens.{ending, opening, quantifier, Next}
 use Rattle.hs_parse.specs.Grammar.{greatest_length, greatest_depth, Atom, one_byte, asserted, group, Item, once, repeated, Sequence, nothing, item_first, setting_first, Alternation, last, alternative_first, Reads}
 use Rattle.hs_parse.specs.Faults.{Before, beginning, atom, repeated as behind_mark, state, goes, accepts, stops, move, Run, here, on, StopsAt, IsOneOf, HasFault, too_long, stopped, IsFirst, Fault}
 use Rattle.hs_parse.specs.Reading.{IsLeastOf}

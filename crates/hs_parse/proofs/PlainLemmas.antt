@@ -1,5 +1,5 @@
 -- What is read is plain: its values are within their types.
-use Rattle.std.proofs.Common.{◌≡◌, ℕ, ◌≤◌, Bool, List, [], ◌∷◌, length, Option, Some, None, IfSome, refl, sym, subst, arith}
+use Rattle.std.proofs.Common.{◌≡◌, ℕ, ◌≤◌, Bool, List, [], ◌∷◌, length, Option, Some, None, IfSome, refl, sym, subst}
 use Rattle.hs_base.specs.declared.flags.Flags.{Flags}
 use Rattle.hs_base.specs.Trees.{Tree, Trees, AreBounds, IsProper, AreProper}
 use Rattle.hs_base.specs.WrittenOut.{IsPlain, ArePlain}

@@ -1,5 +1,5 @@
 -- What the functions that read tokens find out, in the words of the grammar.
-use Rattle.std.proofs.Common.{◌≡◌, ℕ, ◌+◌, ◌<◌, ◌≤◌, Bool, not, List, length, Option, Some, None, Ok, refl, sym, ap, subst, ◌∙◌, arith}
+use Rattle.std.proofs.Common.{◌≡◌, ℕ, ◌+◌, ◌<◌, ◌≤◌, Bool, not, List, length, Option, Some, None, Ok, sym, subst, arith}
 use Rattle.std.specs.Prelude.{if◌then◌else◌}
 use Rattle.hs_base.specs.declared.byte_set.ByteSet.{ByteSet}
 use Rattle.hs_base.specs.declared.refusal.Refusal.{Refusal}
@@ -10,7 +10,6 @@ use Rattle.hs_parse.specs.declared.item.Item.TheVariants as item
 use Rattle.hs_parse.specs.declared.spot.Spot.{Spot}
 use Rattle.hs_parse.specs.declared.token.Found.{Found}
 use Rattle.hs_parse.specs.declared.token.Token.{Token as Seen}
-use Rattle.hs_parse.specs.declared.token.Token.TheVariants as seen
 use Rattle.hs_parse.specs.Spots.{spot}
 use Rattle.hs_parse.specs.Classes.{item_at, is_negated, items_start}
 use Rattle.hs_parse.specs.Tokens.{Token, single, faulty, token, skips, bracket, made_at, ClassToken, closed, unclosed, refused, formed, bracketed, Next, now, skipped}

@@ -1,5 +1,5 @@
 -- Where the reading stops, and how far it comes before.
-use Rattle.std.proofs.Common.{◌≡◌, ℕ, ◌+◌, ◌<◌, ◌≤◌, inl, inr, Bool, true, false, List, [], ◌∷◌, length, Option, refl, ap, ◌∙◌, arith}
+use Rattle.std.proofs.Common.{◌≡◌, ℕ, ◌+◌, ◌<◌, ◌≤◌, inl, inr, Bool, false, List, [], ◌∷◌, length, Option, refl, ap, arith}
 use Rattle.hs_base.specs.declared.flags.Flags.{Flags}
 use Rattle.hs_base.specs.declared.refusal.Refusal.{Refusal}
 use Rattle.hs_base.specs.declared.refusal.Refusal.TheVariants.{Syntax, DepthLimit}
@@ -11,11 +11,11 @@ use Rattle.hs_parse.specs.declared.spot.Spot.{Spot}
 use Rattle.hs_parse.specs.Spots.{start_of}
 use Rattle.hs_parse.specs.Tokens.{Token, ending, closing, bar, opening, quantifier, setting, faulty, Next}
 use Rattle.hs_parse.specs.Grammar.{greatest_length, greatest_depth, NoQuantifier, Atom, Item, Sequence, Alternation}
-use Rattle.hs_parse.specs.Faults.{Before, beginning, atom, repeated, state, start_state, Run, stops, place_of, move, here, quantifier_faults, quantifier_move, bounds_faults, mark_faults, IsOneOf, Fault, IsFaultOf}
-use Rattle.hs_parse.specs.Reading.{at_closing, at_ending, EndsSequence, with_group, at_bar, IsReady, Passes, IsLeastOf, StopsFrom, StopsWith}
+use Rattle.hs_parse.specs.Faults.{Before, beginning, atom, repeated, state, start_state, Run, stops, place_of, move, here, quantifier_faults, quantifier_move, Fault, IsFaultOf}
+use Rattle.hs_parse.specs.Reading.{at_closing, at_ending, EndsSequence, with_group, at_bar, Passes, IsLeastOf, StopsFrom, StopsWith}
 use Rattle.hs_parse.proofs.FaultLemmas.{syntax_least, only_least, wrong_move}
 use Rattle.hs_parse.proofs.RunLemmas.{run_then, one_step}
-use Rattle.hs_parse.proofs.GrammarLemmas.{is_quantifier, no_quantifier}
+use Rattle.hs_parse.proofs.GrammarLemmas.{no_quantifier}
 use Rattle.hs_parse.proofs.PathLemmas.{opens_group, opens_no_group, quantifier_runs, atom_runs, item_runs, sequence_runs, alternation_runs, fault_of}
 
 -- a reading that has come to a spot stops there

@@ -1,11 +1,9 @@
 -- At every place begins one token.
-use Rattle.std.proofs.Common.{◌≡◌, ℕ, zero, suc, ◌+◌, ◌-◌, ◌<◌, ◌≤◌, inl, inr, Bool, true, false, List, length, take, drop, refl, sym, ap, subst, ◌∙◌, arith}
+use Rattle.std.proofs.Common.{◌≡◌, ℕ, zero, suc, ◌+◌, ◌-◌, ◌<◌, ◌≤◌, Bool, List, length, drop, refl, sym, ap, subst, ◌∙◌, arith}
 use Rattle.std.proofs.lemmas.List.{length-drop}
-use Rattle.std.proofs.lemmas.Bool.{cases_Bool}
 use Rattle.hs_syntax.specs.declared.mode.Mode.{Mode}
 use Rattle.hs_syntax.specs.declared.form.Form.{Form}
 use Rattle.hs_syntax.specs.declared.form.Form.TheVariants as form
-use Rattle.hs_syntax.specs.Forms.{form_at}
 use Rattle.hs_syntax.specs.Lengths.{IsLength, FormFits}
 use Rattle.hs_syntax.proofs.FormLengths.{form_fits}
 use Rattle.hs_parse.specs.declared.spot.Spot.{Spot}

@@ -8,7 +8,7 @@ use Rattle.hs_base.specs.Trees.{Tree, empty, class, assert, cat, alt, repeat, Ar
 use Rattle.hs_expr.specs.Meaning.{trees_of}
 use Rattle.hs_parse.specs.declared.spot.Spot.{Spot}
 use Rattle.hs_parse.specs.Spots.{spot, start_of}
-use Rattle.hs_parse.specs.Tokens.{Token, single, assertion, opening, closing, bar, quantifier, setting, ending, Next}
+use Rattle.hs_parse.specs.Tokens.{single, assertion, opening, closing, bar, quantifier, setting, ending, Next}
 
 -- the greatest length of a text, in bytes
 abbrev pub greatest_length : ℕ

@@ -1,5 +1,5 @@
 -- What the functions of the parser find out on their way.
-use Rattle.std.specs.Prelude.{◌≡◌, ℕ, ◌+◌, ◌<◌, ◌≤◌, ◌⊎◌, Bool, true, false, Option, Some, None, List, [], ◌∷◌, length, Result, Ok, Err}
+use Rattle.std.specs.Prelude.{◌≡◌, ℕ, ◌<◌, ◌≤◌, ◌⊎◌, Bool, true, false, Option, Some, None, List, [], ◌∷◌, length, Result, Ok, Err}
 use Rattle.std.specs.List.{list_any}
 use Rattle.hs_base.specs.declared.byte_set.ByteSet.{ByteSet}
 use Rattle.hs_base.specs.declared.flags.Flags.{Flags}
@@ -21,7 +21,7 @@ use Rattle.hs_parse.specs.declared.spot.Spot.{Spot}
 use Rattle.hs_parse.specs.Classes.{item_at, Items}
 use Rattle.hs_parse.specs.Tokens.{Token, ending, single, assertion, opening, closing, bar, quantifier, setting, faulty, Made, token, skips, bracket, Next}
 use Rattle.hs_parse.specs.Grammar.{NoQuantifier, Atom, Item, Sequence, sequence_tree, Alternation, alternation_tree}
-use Rattle.hs_parse.specs.Faults.{Before, beginning, repeated, state, start_state, Run, StopsAt, IsOneOf, move, stops}
+use Rattle.hs_parse.specs.Faults.{Before, beginning, state, start_state, Run, StopsAt, IsOneOf}
 
 -- the set has the bytes of the items of a class, read up to a place
 pub record HasItems (text : List ℕ) (caseless : Bool) (start : ℕ) (set : ByteSet) (here : ℕ) : Type 0 where

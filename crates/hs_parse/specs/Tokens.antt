@@ -1,5 +1,5 @@
 -- What an expression is made of: its tokens, a class being one of them.
-use Rattle.std.specs.Prelude.{◌≡◌, ℕ, ◌+◌, Bool, true, false, not, ◌==◌, ◌||◌, Option, List}
+use Rattle.std.specs.Prelude.{◌≡◌, ℕ, ◌+◌, Bool, not, ◌==◌, ◌||◌, Option, List}
 use Rattle.hs_base.specs.Assertions.{line_feed}
 use Rattle.hs_base.specs.ByteSets.{bytes_where}
 use Rattle.hs_base.specs.declared.assertion.Assertion.{Assertion}

@@ -1,3 +1,4 @@
+//! Reads the text of an expression as its tree, from left to right: alternatives, sequences, items and groups.
 ghost use Rattle.std.specs.Prelude.{◌≡◌, ◌≢◌, ◌≤◌, map, length, IfOk, IfErr, MatchOption};
 ghost use Rattle.hs_expr.specs.Meaning.{tree_of};
 ghost use Rattle.hs_parse.specs.Grammar.{sequence_tree, alternation_tree, Reads};

@@ -1,24 +1,21 @@
 -- The lengths of escapes and of pieces of classes.
-use Rattle.std.proofs.Common.{◌≡◌, ℕ, ◌+◌, ◌-◌, ◌<◌, ◌≤◌, Bool, true, false, List, [], ◌∷◌, length, take, drop, Option, Some, None, IfSome, refl, sym, ap, ◌∙◌, arith}
-use Rattle.std.specs.Prelude.{◌&&◌, ◌==◌, not, nat_lt, nat_le, if◌then◌else◌}
+use Rattle.std.proofs.Common.{◌≡◌, ℕ, ◌+◌, ◌-◌, ◌<◌, ◌≤◌, Bool, List, [], ◌∷◌, length, take, drop, Option, Some, None, IfSome, refl, arith}
+use Rattle.std.specs.Prelude.{◌&&◌, not, nat_lt, nat_le, if◌then◌else◌}
 use Rattle.std.specs.List.{slice_get}
-use Rattle.std.specs.Char.{is_ascii_alphabetic, is_ascii_uppercase, to_ascii_uppercase}
+use Rattle.std.specs.Char.{is_ascii_alphabetic}
 use Rattle.std.specs.Int.{is_in_range}
 use Rattle.std.proofs.lemmas.Option.{slice_get_within}
 use Rattle.hs_syntax.specs.declared.named.Named.{Named}
-use Rattle.hs_syntax.specs.declared.wrong.Wrong.{Wrong}
 use Rattle.hs_syntax.specs.declared.number.Number.{Number}
 use Rattle.hs_syntax.specs.declared.escape.Escape.{Escape}
 use Rattle.hs_syntax.specs.declared.escape.Escape.TheVariants as escape
-use Rattle.hs_syntax.specs.declared.piece.Piece.{Piece}
-use Rattle.hs_syntax.specs.declared.piece.Piece.TheVariants as piece
-use Rattle.hs_syntax.specs.Bytes.{◌∈◌, is_byte, is_one_of}
+use Rattle.hs_syntax.specs.Bytes.{◌∈◌, is_one_of}
 use Rattle.hs_syntax.specs.Numbers.{number_at}
 use Rattle.hs_syntax.specs.Names.{named_letter, class_of_name, name_end}
-use Rattle.hs_syntax.specs.Escapes.{character_letter, turned_over, control_of, coded, short_at, braced_of, braced_at, hexadecimal_at, letter_of, escape_by, escape_of, escape_at}
+use Rattle.hs_syntax.specs.Escapes.{character_letter, control_of, coded, short_at, braced_at, hexadecimal_at, letter_of, escape_by, escape_of, escape_at}
 use Rattle.hs_syntax.specs.Pieces.{escaped_of, posix_of, posix_name, posix_at, collating_of, bracket_at, piece_of, piece_at, colon, full_stop, equals_sign}
 use Rattle.hs_syntax.specs.Lengths.{IsLength, PieceFits}
-use Rattle.hs_syntax.proofs.FitLemmas.{either, both_left, both_right, is_one_within, number_within, name_within}
+use Rattle.hs_syntax.proofs.FitLemmas.{either, both_right, is_one_within, number_within, name_within}
 
 -- the length of an escape, of so many bytes
 abbrev pub EscapeFits : ℕ → Escape → Type 0

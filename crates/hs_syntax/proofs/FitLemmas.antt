@@ -1,9 +1,8 @@
 -- What the bytes begin with is some of them.
-use Rattle.std.proofs.Common.{◌≡◌, ℕ, ◌+◌, ◌*◌, ◌<◌, ◌≤◌, inl, inr, Bool, true, false, List, [], ◌∷◌, length, drop, Option, Some, None, IfSome, refl, sym, ap, subst, ◌∙◌, arith}
-use Rattle.std.specs.Prelude.{◌&&◌, ◌||◌, ◌==◌, not, nat_lt, nat_le, is_some, if◌then◌else◌}
+use Rattle.std.proofs.Common.{◌≡◌, ℕ, ◌+◌, ◌*◌, ◌<◌, ◌≤◌, inl, inr, Bool, true, false, List, [], ◌∷◌, length, drop, Option, Some, None, IfSome, refl, sym, ◌∙◌, arith}
+use Rattle.std.specs.Prelude.{◌&&◌, ◌==◌, not, nat_lt, nat_le, if◌then◌else◌}
 use Rattle.std.specs.List.{slice_get}
-use Rattle.std.specs.Char.{is_ascii_lowercase, is_ascii_alphabetic, is_ascii_uppercase, to_ascii_uppercase}
-use Rattle.std.specs.Int.{is_in_range}
+use Rattle.std.specs.Char.{is_ascii_lowercase}
 use Rattle.std.proofs.lemmas.List.{length-drop}
 use Rattle.std.proofs.lemmas.Option.{slice_get_within}
 use Rattle.std.proofs.lemmas.Bool.{cases_lt, le-ltb}
@@ -11,12 +10,10 @@ use Rattle.hs_base.specs.Assertions.{is_word_byte}
 use Prim.Native.String.{String}
 use Rattle.hs_syntax.specs.declared.mode.Mode.{Mode}
 use Rattle.hs_syntax.specs.declared.mode.Change.{Change}
-use Rattle.hs_syntax.specs.declared.named.Named.{Named}
 use Rattle.hs_syntax.specs.declared.number.Number.{Number}
-use Rattle.hs_syntax.specs.declared.wrong.Wrong.TheVariants as wrong
-use Rattle.hs_syntax.specs.Bytes.{◌∈◌, is_byte, is_digit, is_one_of, letters_on, word_bytes_on, place_on}
-use Rattle.hs_syntax.specs.Settings.{is_option, set_option, set_options, change}
-use Rattle.hs_syntax.specs.Numbers.{digit_of, number, number_on, capped, number_at, decimal_at}
+use Rattle.hs_syntax.specs.Bytes.{is_byte, is_digit, is_one_of, letters_on, word_bytes_on, place_on}
+use Rattle.hs_syntax.specs.Settings.{is_option, set_option, set_options}
+use Rattle.hs_syntax.specs.Numbers.{digit_of, number_on, number_at}
 use Rattle.hs_syntax.specs.Names.{closing_bracket, name_end, group_name_end}
 
 -- what holds of both choices holds of a choice

@@ -1,5 +1,5 @@
 -- The lengths of groups, quantifiers and forms.
-use Rattle.std.proofs.Common.{◌≡◌, ℕ, ◌+◌, ◌<◌, ◌≤◌, Bool, true, false, List, [], ◌∷◌, length, drop, Option, Some, None, IfSome, refl, sym, ap, subst, ◌∙◌, arith}
+use Rattle.std.proofs.Common.{◌≡◌, ℕ, ◌+◌, ◌<◌, ◌≤◌, true, List, length, drop, Option, Some, None, IfSome, refl, arith}
 use Rattle.std.specs.Prelude.{◌&&◌, ◌==◌, is_some, if◌then◌else◌}
 use Rattle.std.specs.List.{slice_get}
 use Rattle.std.specs.Char.{is_ascii_alphabetic}
@@ -13,8 +13,6 @@ use Rattle.hs_syntax.specs.declared.mode.Change.{Change}
 use Rattle.hs_syntax.specs.declared.number.Number.{Number}
 use Rattle.hs_syntax.specs.declared.escape.Escape.{Escape}
 use Rattle.hs_syntax.specs.declared.escape.Escape.TheVariants as escape
-use Rattle.hs_syntax.specs.declared.form.Form.{Form}
-use Rattle.hs_syntax.specs.declared.form.Form.TheVariants as form
 use Rattle.hs_syntax.specs.Bytes.{◌∈◌, is_one_of, is_digit, place_on}
 use Rattle.hs_syntax.specs.Settings.{set_options}
 use Rattle.hs_syntax.specs.Numbers.{decimal_at}
@@ -22,10 +20,10 @@ use Rattle.hs_syntax.specs.Names.{name_end, group_name_end}
 use Rattle.hs_syntax.specs.Pieces.{colon}
 use Rattle.hs_syntax.specs.Escapes.{escape_at, assertion_letter, construct_letter}
 use Rattle.hs_syntax.specs.Groups.{closing_parenthesis, greater_sign, apostrophe, comment_of, named_of, settings_of, changed, settings_at, letter_group, angle_group, hyphen_group, question_by, question_of, group_at}
-use Rattle.hs_syntax.specs.Quantifiers.{marked, quantifier_at, second_of, first_of, brace_at}
+use Rattle.hs_syntax.specs.Quantifiers.{quantifier_at, second_of, first_of, brace_at}
 use Rattle.hs_syntax.specs.Forms.{letter_of, escaped_of, quoted_of, line_of, bracket_of, marked_by, plain_of, form_at}
-use Rattle.hs_syntax.specs.Lengths.{IsLength, FormFits}
-use Rattle.hs_syntax.proofs.FitLemmas.{either, both_left, both_right, is_one_within, behind_length, place_near, options_near, number_within, group_name_within}
+use Rattle.hs_syntax.specs.Lengths.{FormFits}
+use Rattle.hs_syntax.proofs.FitLemmas.{either, both_right, is_one_within, behind_length, place_near, group_name_within}
 use Rattle.hs_syntax.proofs.EscapeFits.{EscapeFits, escape_fits, fits, no_first}
 
 comment_fits : (n : ℕ) (mode : Mode) (o : Option ℕ) → IfSome o (λ place. place < n) → FormFits n (comment_of mode o)

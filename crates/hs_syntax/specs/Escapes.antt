@@ -1,5 +1,5 @@
 -- What stands behind a backslash (PCRE pattern syntax, "Backslash"). Bytes begin with the backslash.
-use Rattle.std.specs.Prelude.{ℕ, ◌+◌, ◌-◌, Bool, ◌&&◌, ◌==◌, nat_le, nat_lt, Option, Some, None, if◌then◌else◌, List, slice_get}
+use Rattle.std.specs.Prelude.{ℕ, ◌+◌, ◌-◌, ◌&&◌, nat_le, nat_lt, Option, Some, None, if◌then◌else◌, List, slice_get}
 use Rattle.std.specs.Char.{is_ascii_alphabetic, is_ascii_uppercase, to_ascii_uppercase}
 use Rattle.std.specs.Int.{is_in_range}
 use Rattle.hs_base.specs.declared.construct.Construct.{Construct}

@@ -1,6 +1,6 @@
 -- What the bytes of an expression begin outside of classes, under the options in force (PCRE pattern syntax, "Characters
 -- and metacharacters").
-use Rattle.std.specs.Prelude.{ℕ, ◌+◌, Bool, true, false, ◌&&◌, Option, Some, None, is_some, if◌then◌else◌, List, length, drop, slice_get}
+use Rattle.std.specs.Prelude.{ℕ, ◌+◌, true, false, ◌&&◌, Option, Some, None, is_some, if◌then◌else◌, List, length, drop, slice_get}
 use Rattle.hs_base.specs.declared.assertion.Assertion.{Assertion}
 use Rattle.hs_base.specs.declared.assertion.Assertion.TheVariants.{StreamStart, LineStart, LineEnd, EndOrFinalNewline}
 use Rattle.hs_base.specs.declared.construct.Construct.{Construct}

@@ -1,6 +1,4 @@
 use Rattle.std.proofs.Common.{arith}
-use Rattle.hs_parse.specs.declared.item.Item.TheVariants as item
-use Rattle.hs_parse.proofs.ItemLemmas.{item_end}
 use Rattle.hs_parse.proofs.ClassLemmas.{start_within, items_within}
 use Rattle.hs_parse.proofs.ReadingLemmas.{as_closed, as_unclosed, as_refused, closed_at, unclosed_at, refused_at}
 use Rattle.hs_parse.proofs.class.class_at.Goals as goal

@@ -1,7 +1,7 @@
 use Rattle.std.proofs.Common.{sym, ◌∙◌, arith}
 use Rattle.hs_parse.specs.Reading.{StopsFrom}
 use Rattle.hs_parse.proofs.StopLemmas.{faulty_stops, depth_stops, group_stops, quantifier_stops, passes_stops}
-use Rattle.hs_parse.proofs.LoopLemmas.{as_next, setting_rises, bar_rises, no_alternatives, no_sequence, more_sequence, setting_sequence, more_alternatives, all_alternatives, group_read, group_open, sequence_ends, single_read, assertion_read, once_read, repeated_read, twice_read, wrong_read, sequence_read, handed_on}
+use Rattle.hs_parse.proofs.LoopLemmas.{as_next, bar_rises, no_alternatives, no_sequence, more_sequence, setting_sequence, more_alternatives, all_alternatives, group_read, group_open, sequence_ends, single_read, assertion_read, once_read, repeated_read, twice_read, wrong_read, sequence_read, handed_on}
 use Rattle.hs_parse.proofs.parser.+parser.Goals as goal
 
 pub alternation_at-loop-alternatives-init : goal.alternation_at-loop-alternatives-init

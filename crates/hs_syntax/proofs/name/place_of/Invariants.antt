@@ -1,4 +1,4 @@
-use Rattle.std.proofs.Common.{◌≡◌, ◌≤◌, ◌+◌, length, drop}
+use Rattle.std.proofs.Common.{◌≡◌, ◌+◌, length, drop}
 use Rattle.hs_syntax.specs.Bytes.{place_on}
 use Rattle.hs_syntax.proofs.name.place_of.Given as goal
 
