@@ -67,17 +67,16 @@ ends_from-exact entries bucket text offset within =
     let p = number_ends entries bucket text offset in
     record {
       rising = passing-rising (length entries - 0) p 0;
-      exact = λ number.
-          (
-            λ member.
-                let is : IsPassing p 0 (length entries - 0) number = member-passing (length entries - 0) p 0 number member in
-                bucket_end entries bucket text offset number within (number_end entries bucket text offset number is.passes),
-            λ is.
-                let passes : p number ≡ true = entry_end entries bucket text offset number is in
-                let found : IsEntryEnd entries bucket text offset number = number_end entries bucket text offset number passes in
-                passing-member (length entries - 0) p 0 number
-                (record { low = omega arith; high = omega (arith, slice_get_within entries number found.entry found.numbered); passes = passes }),
-          );
+      exact = λ number. (
+        λ member.
+            let is : IsPassing p 0 (length entries - 0) number = member-passing (length entries - 0) p 0 number member in
+            bucket_end entries bucket text offset number within (number_end entries bucket text offset number is.passes),
+        λ is.
+            let passes : p number ≡ true = entry_end entries bucket text offset number is in
+            let found : IsEntryEnd entries bucket text offset number = number_end entries bucket text offset number passes in
+            passing-member (length entries - 0) p 0 number
+            (record { low = omega arith; high = omega (arith, slice_get_within entries number found.entry found.numbered); passes = passes }),
+      );
     }
 
 -- one that ends there stands in the row of the bucket and the key

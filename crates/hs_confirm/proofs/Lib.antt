@@ -4,3 +4,4 @@ pub mod NumberLemmas
 pub mod ChainLemmas
 pub mod EndLemmas
 pub mod FilingLemmas
+pub mod PlainLemmas

@@ -3,6 +3,7 @@ pub mod BucketEnds
 pub mod Taking
 pub mod Keys
 pub mod Rows
+pub mod Plain
 pub mod Widths
 pub mod Entries
 pub mod Filed

@@ -21,13 +21,13 @@ loop-number-preserved c =
     let width : get_or widths entry.bucket 0 ≡ get_or widths bucket 0 = ap (λ b. get_or widths b 0) made.bucket in
     record {
       literals = ap (map literal_in) c.in_ok-push.ensures.items ∙ map_push literal_in entries entry
-      ∙ push-more (λ l. map literal_byte l.items) (map literal_in entries) (literal_in entry) literals c.loop-number.number literal (omega arith) c.index-literals-number.is c.loop-number.invariant.literals (ap (map literal_byte) same);
+          ∙ push-more (λ l. map literal_byte l.items) (map literal_in entries) (literal_in entry) literals c.loop-number.number literal (omega arith) c.index-literals-number.is c.loop-number.invariant.literals (ap (map literal_byte) same);
       buckets = ap (map (λ e. e.bucket)) c.in_ok-push.ensures.items ∙ map_push (λ e. e.bucket) entries entry
-      ∙ take-push (map (λ e. e.bucket) entries) entry.bucket c.args.buckets.now c.loop-number.number (omega (arith, c.requires.each)) c.loop-number.invariant.buckets made.bucket;
+          ∙ take-push (map (λ e. e.bucket) entries) entry.bucket c.args.buckets.now c.loop-number.number (omega (arith, c.requires.each)) c.loop-number.invariant.buckets made.bucket;
       keyed = subst (AreKeyed c.args.widths.now) (sym c.in_ok-push.ensures.items) (keyed-push c.args.widths.now entries entry c.loop-number.invariant.keyed (record {
         short = omega (arith, len, read, width, c.requires.short c.loop-number.number (omega arith));
         key = made.key
-        ∙ ap (λ w. literal_key w (map literal_byte c.as_slice.result.now)) (ap (λ b. get_or widths b 0) c.from.ensures ∙ sym width)
-        ∙ ap (λ xs. literal_key (get_or widths entry.bucket 0) (map literal_byte xs)) (sym made.literal);
+            ∙ ap (λ w. literal_key w (map literal_byte c.as_slice.result.now)) (ap (λ b. get_or widths b 0) c.from.ensures ∙ sym width)
+            ∙ ap (λ xs. literal_key (get_or widths entry.bucket 0) (map literal_byte xs)) (sym made.literal);
       }));
     }

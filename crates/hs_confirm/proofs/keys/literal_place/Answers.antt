@@ -13,6 +13,6 @@ returns-then-place-literal c =
 pub returns-else-back-width : goal.returns-else-back-width
 returns-else-back-width c =
     elim c.else-back-width.branch [
-      else-back-width-via-then-back-width+else-place-literal w ↦ sym (literal_place-past c.args.width c.args.literal.now c.args.back (omega arith))
+      | else-back-width-via-then-back-width+else-place-literal w ↦ sym (literal_place-past c.args.width c.args.literal.now c.args.back (omega arith))
       | else-back-width-via-else-back-width w ↦ sym (literal_place-past_width c.args.width _ c.args.back (omega arith))
     ]

@@ -14,6 +14,6 @@ returns-else-entry-self-2 c =
     c.if-entry-self-2.false
     ∙ sym (entry_ends-read confirm.widths confirm.entries.items ends.bucket ends.key _ _ c.args.number entry confirm.keyed ends.keyed numbered (λ filed same there.
     elim c.if-entry-self.branch [
-      then-entry-self w ↦ false≢true (sym c.if-entry-self-2.false ∙ w.value-is ∙ eq-eqb entry.key ends.key same)
+      | then-entry-self w ↦ false≢true (sym c.if-entry-self-2.false ∙ w.value-is ∙ eq-eqb entry.key ends.key same)
       | else-entry-self w ↦ w.if-entry-self.false filed
     ]))
