@@ -1,0 +1,10 @@
+pub mod LiteralEnds
+pub mod BucketEnds
+pub mod Taking
+pub mod Keys
+pub mod Rows
+pub mod Plain
+pub mod Widths
+pub mod Entries
+pub mod Filed
+pub mod Left

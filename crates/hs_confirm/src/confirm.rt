@@ -1,0 +1,77 @@
+//! The table of all literals: by bucket and last bytes.
+
+ghost use Rattle.std.specs.Prelude.{◌≡◌, ◌<◌, ◌≤◌, ◌+◌, ℕ, ◌++◌, IfOk, length, map, slice_index, vec_len};
+ghost use Rattle.hs_base.specs.LiteralView.{literal_byte};
+ghost use Rattle.hs_confirm.specs.Rows.{AreChains};
+ghost use Rattle.hs_confirm.specs.Entries.{AreKeyed, rows_of_entries};
+
+use crate::chains::Chains;
+use crate::ends::Ends;
+use crate::entry::Entry;
+use crate::filing::{entries_of, row_count, rows_of};
+use crate::widths::{BUCKETS, widths_of};
+use hs_base::LitByte;
+use std::alloc::{AllocError, Global};
+
+/// Literals, each in one of eight buckets, ready to tell which of a bucket end at a place.
+#[derive(Debug, Drop)]
+pub struct Confirm {
+    /// The literals, by number.
+    pub(crate) entries: Vec<Entry>,
+    /// How many of the last bytes count for the keys of each bucket.
+    pub(crate) widths: [u8; BUCKETS],
+    /// The numbers of the literals, in rows by bucket and key.
+    pub(crate) chains: Chains,
+    ghost keyed: { AreKeyed widths entries.items },
+    ghost numbered: { vec_len chains.nexts ≡ vec_len entries },
+    ghost chained: { AreChains (rows_of_entries (vec_len chains.heads) entries.items) chains.heads.items chains.nexts.items },
+}
+
+impl Confirm {
+    ghost use Rattle.hs_confirm.specs.BucketEnds.{AreBucketEnds};
+    ghost use Rattle.hs_confirm.specs.Filed.{literals_of, buckets_of};
+    ghost use Rattle.hs_confirm.specs.Left.{ends_left};
+
+    /// The table of these literals; `buckets` has the bucket of each, 0 to 7.
+    ///
+    /// # Errors
+    ///
+    /// There may be no memory.
+    pub fn build(
+        alloc: Global,
+        literals: &[Vec<LitByte>],
+        buckets: &[u8],
+    ) -> Result<Confirm, AllocError>
+        requires each { length buckets.now ≡ length literals.now }
+        requires few { (k : ℕ) → k < length buckets.now → slice_index buckets.now k < 8 }
+        ensures literals { IfOk result (λ confirm. literals_of confirm ≡ map (λ literal. map literal_byte literal.items) literals.now) }
+        ensures buckets { IfOk result (λ confirm. buckets_of confirm ≡ buckets.now) }
+    {
+        let widths = widths_of(literals, buckets);
+        let entries = entries_of(alloc, literals, buckets, &widths)?;
+        let count = row_count(literals.len());
+        let rows = rows_of(alloc, &entries, count)?;
+        let chains = Chains::build(alloc, &rows, count)?;
+        Ok(Confirm {
+            entries,
+            widths,
+            chains,
+        })
+    }
+
+    /// The numbers of the literals of a bucket that end at `at`, an offset in bytes in `bytes`, behind their last byte. A
+    /// literal may begin in `history`, which stands before `bytes`.
+    pub fn ends_at<'a>(
+        &'a self,
+        bucket: u8,
+        history: &'a [u8],
+        bytes: &'a [u8],
+        at: usize,
+    ) -> Ends<'a>
+        requires bucket { bucket < 8 }
+        requires within { at ≤ length bytes.now }
+        ensures { AreBucketEnds (literals_of self.now) (buckets_of self.now) bucket (history.now ++ bytes.now) (length history.now + at) (ends_left result) }
+    {
+        Ends::new(self, bucket, history, bytes, at)
+    }
+}

@@ -1,0 +1,94 @@
+//! The literals of a bucket that end at a place, rising.
+
+ghost use Rattle.std.specs.Prelude.{◌≡◌, ◌<◌, ◌≤◌, ◌+◌, ◌++◌, length, slice_index, vec_len};
+ghost use Rattle.hs_confirm.specs.Keys.{row_of, text_key};
+ghost use Rattle.hs_confirm.specs.Entries.{number_ends, rows_of_entries};
+
+use crate::confirm::Confirm;
+use crate::keys::{row_of, text_key};
+use crate::taking::ends_there;
+
+/// The numbers of the literals of a bucket that end at a place, rising.
+#[derive(Debug, Drop)]
+pub struct Ends<'a> {
+    confirm: &'a Confirm,
+    /// What stands before `bytes`.
+    history: &'a [u8],
+    bytes: &'a [u8],
+    /// The place, an offset in `bytes`.
+    at: usize,
+    bucket: u8,
+    /// The key of what stands in front of the place, at the width of the bucket.
+    key: u32,
+    /// The least number that hasn't been looked at: of the row of that bucket and key, or the count of all literals.
+    next: usize,
+    ghost eight: { bucket < 8 },
+    ghost within: { at ≤ length bytes.now },
+    ghost keyed: { key ≡ text_key (slice_index confirm.now.widths bucket) (history.now ++ bytes.now) (length history.now + at) },
+    ghost stands: { next < vec_len confirm.now.entries → slice_index (rows_of_entries (vec_len confirm.now.chains.heads) confirm.now.entries.items) next ≡ row_of (vec_len confirm.now.chains.heads) bucket key },
+}
+
+impl<'a> Ends<'a> {
+    ghost use Rattle.hs_confirm.specs.BucketEnds.{AreBucketEnds};
+    ghost use Rattle.hs_confirm.specs.Filed.{literals_of, buckets_of};
+    ghost use Rattle.hs_confirm.specs.Left.{ends_left};
+
+    /// Those that end at `at`.
+    pub(crate) fn new(
+        confirm: &'a Confirm,
+        bucket: u8,
+        history: &'a [u8],
+        bytes: &'a [u8],
+        at: usize,
+    ) -> Ends<'a>
+        requires bucket { bucket < 8 }
+        requires within { at ≤ length bytes.now }
+        ensures { AreBucketEnds (literals_of confirm.now) (buckets_of confirm.now) bucket (history.now ++ bytes.now) (length history.now + at) (ends_left result) }
+    {
+        let key = text_key(history, bytes, at, confirm.widths[usize::from(bucket)]);
+        let row = row_of(confirm.chains.rows(), bucket, key);
+        Ends {
+            confirm,
+            history,
+            bytes,
+            at,
+            bucket,
+            key,
+            next: confirm.chains.first(row),
+        }
+    }
+
+    /// Whether the literal of that number is in the bucket and ends at the place.
+    fn ends_there(&self, number: usize) -> bool
+        requires { number < vec_len self.now.confirm.now.entries }
+        ensures { result ≡ number_ends self.now.confirm.now.entries.items self.now.bucket (self.now.history.now ++ self.now.bytes.now) (length self.now.history.now + self.now.at) number }
+    {
+        let entry = &self.confirm.entries[number];
+        entry.bucket == self.bucket
+            && entry.key == self.key
+            && ends_there(&entry.literal, self.history, self.bytes, self.at)
+    }
+}
+
+impl<'a> Iterator for Ends<'a> {
+    ghost use Rattle.std.specs.Iterator.{YieldsFirst, item_count};
+    ghost use Rattle.hs_confirm.specs.Left.{ends_left};
+
+    type Item = usize;
+
+    ghost next_gives = { YieldsFirst ends_left };
+
+    ghost remaining = { item_count ends_left };
+
+    fn next(&mut self) -> Option<usize> {
+        while self.next < self.confirm.entries.len() {
+            let number = self.next;
+            let ends = self.ends_there(number);
+            self.next = self.confirm.chains.after(number);
+            if ends {
+                return Some(number);
+            }
+        }
+        None
+    }
+}

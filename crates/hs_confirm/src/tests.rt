@@ -1,0 +1,125 @@
+ghost use Rattle.std.specs.Prelude.{◌≡◌, ◌≤◌, ◌<◌, ℕ, length, slice_index, IfOk, vec_len};
+
+use crate::{Confirm, plain_ends};
+use hs_base::LitByte;
+use std::alloc::{AllocError, Global};
+use std::test::Fail;
+
+/// One literal a line. A small letter behind `~` stands for both cases.
+fn literals_of(alloc: Global, lines: &[u8]) -> Result<Vec<Vec<LitByte>>, AllocError> {
+    let mut literals = Vec::new(alloc);
+    let mut literal = Vec::new(alloc);
+    let mut caseless = false;
+    for byte in lines {
+        if *byte == b'\n' {
+            literals.push(literal)?;
+            literal = Vec::new(alloc);
+        } else if *byte == b'~' {
+            caseless = true;
+        } else if caseless && byte.is_ascii_lowercase() {
+            literal.push(LitByte::letter(*byte))?;
+            caseless = false;
+        } else {
+            literal.push(LitByte::one(*byte))?;
+        }
+    }
+    Ok(literals)
+}
+
+/// Buckets that follow no pattern, as many as asked for.
+fn mixed_buckets(alloc: Global, count: usize) -> Result<Vec<u8>, AllocError>
+    ensures each { IfOk result (λ buckets. vec_len buckets ≡ count) }
+    ensures few { IfOk result (λ buckets. (k : ℕ) → k < length buckets.items → slice_index buckets.items k < 8) }
+{
+    let mut buckets = Vec::new(alloc);
+    let mut state = 1u32;
+    for _ in 0..count {
+        state = state.wrapping_mul(1_664_525).wrapping_add(1_013_904_223);
+        buckets.push((state >> 24) as u8 % 8)?;
+    }
+    Ok(buckets)
+}
+
+/// The numbers that are told of literals in the first bucket, at the end of the bytes.
+fn told(
+    alloc: Global,
+    lines: &[u8],
+    history: &[u8],
+    bytes: &[u8],
+) -> Result<Vec<usize>, AllocError> {
+    let literals = literals_of(alloc, lines)?;
+    let buckets = vec![in alloc; 0u8; literals.len()]?;
+    let confirm = Confirm::build(alloc, literals.as_slice(), buckets.as_slice())?;
+    confirm
+        .ends_at(0, history, bytes, bytes.len())
+        .collect(alloc)
+}
+
+/// Lines of literals, what stands before, the bytes, and which numbers end behind the last byte.
+type Row = (
+    &'static [u8],
+    &'static [u8],
+    &'static [u8],
+    &'static [usize],
+);
+
+const ROWS: [Row; 16] = [
+    (b"", b"ab", b"cd", &[]),
+    (b"ab\n", b"", b"", &[]),
+    (b"ab\n", b"", b"ab", &[0]),
+    (b"ab\n", b"a", b"b", &[0]),
+    (b"ab\n", b"ab", b"", &[0]),
+    (b"abc\n", b"", b"bc", &[]),
+    (b"abc\n", b"b", b"c", &[]),
+    (b"ab\nab\nab\n", b"", b"xab", &[0, 1, 2]),
+    (b"abcd\nbcd\ncd\nxcd\n", b"ab", b"cd", &[0, 1, 2]),
+    (b"cd\nbcd\nabcd\n", b"abc", b"d", &[0, 1, 2]),
+    (b"~a~b\nAB\nab\nAb\n~ab\n", b"", b"AB", &[0, 1]),
+    (b"~a~b\nAB\nab\nAb\n~ab\n", b"", b"Ab", &[0, 3, 4]),
+    (b"@@\n``\n@`\n", b"", b"@`", &[2]),
+    (b"[{\n{{\n[[\n", b"", b"{{", &[1]),
+    (b"~zz\n", b"", b"\x5az", &[0]),
+    (b"~k~k\n", b"", b"\x0bk", &[]),
+];
+
+#[test]
+fn tells_the_literals_that_end(rt: HostRuntime) -> Result<(), Fail> {
+    for (row, (lines, history, bytes, wanted)) in ROWS.iter().enumerate() {
+        let told = told(rt.alloc(), lines, history, bytes)?;
+        assert!(rt; told.as_slice() == *wanted, "row {row}");
+    }
+    Ok(())
+}
+
+const LINES: &[u8] =
+    b"aa\nab\nba\naaa\naba\n~a~a\n~ab\nbab\nabab\nbabab\nabbaabba\nabaabaabaabaabaabaabaabaabaabaab\n";
+
+const TEXT: &[u8] = b"abaabaabaabaabaabaabaabaabaabaababbaabbAABbaBABABaAb";
+
+#[test]
+fn agrees_with_the_plain_program_at_each_place(rt: HostRuntime) -> Result<(), Fail> {
+    let literals = literals_of(rt.alloc(), LINES)?;
+    let buckets = mixed_buckets(rt.alloc(), literals.len())?;
+    let confirm = Confirm::build(rt.alloc(), literals.as_slice(), buckets.as_slice())?;
+    for cut in [0, 1, 2, 33, TEXT.len()] {
+        let (history, bytes) = TEXT.split_at(cut);
+        for at in 0..bytes.len() + 1 {
+            for bucket in 0..8 {
+                let fast: Vec<usize> = confirm
+                    .ends_at(bucket, history, bytes, at)
+                    .collect(rt.alloc())?;
+                let plain = plain_ends(
+                    rt.alloc(),
+                    literals.as_slice(),
+                    buckets.as_slice(),
+                    bucket,
+                    history,
+                    bytes,
+                    at,
+                )?;
+                assert!(rt; fast.as_slice() == plain.as_slice(), "cut {cut} at {at}");
+            }
+        }
+    }
+    Ok(())
+}
