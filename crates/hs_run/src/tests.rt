@@ -43,7 +43,7 @@ struct Shape {
 /// An expression of a list: its identifier, whether that is single, the least and the greatest end offset.
 type Entry = (u32, bool, u64, u64, Shape);
 
-fn set_of(byte: u8) -> ByteSet {
+pub(crate) fn set_of(byte: u8) -> ByteSet {
     if byte == b'.' {
         ByteSet::NOT_NEWLINE
     } else {
@@ -128,7 +128,7 @@ fn expressions_of(alloc: Global, entries: &[Entry]) -> Result<Vec<Expression<Pla
 }
 
 /// Whether each role names an identifier, of that many.
-fn are_named<E>(roles: &[Role<E>], count: usize) -> bool
+pub(crate) fn are_named<E>(roles: &[Role<E>], count: usize) -> bool
     ensures { IsTrue result → AreNamed roles.now count }
 {
     roles.iter().all(|role| role.identifier < count)
