@@ -144,7 +144,6 @@ module _ (db : Database) (number : ℕ) (old new : Streams) (line name : List �
         one db line number old new false Goes (consumes-join taken.comes.consumes takes) (fed (exactly taken.came command all) refl) (taken.all all) (plainly _ _ _ _ _ false sent)
     write-done is (nothing takes ended) =
         one db line number old new false Goes (nothing_more takes) (unfed (exactly taken.came command all) refl ended) (taken.all all) (plainly _ _ _ _ _ false sent)
-
     write-done is (another n apart takes) = absurd (false≢true is)
 
     -- another byte stands behind them
@@ -153,7 +152,6 @@ module _ (db : Database) (number : ℕ) (old new : Streams) (line name : List �
         faulty (Runs db line number old new p r a c x z' f h') x z z' f h h' _ (Script number) told
         (λ lost text. one db line number old new lost (Faulty (Script number)) (consumes-join taken.comes.consumes takes) (other n (exactly taken.came command all) apart refl) (taken.all all) text)
         sent sends
-
     write-other z' h' told is (line_end takes) sends = absurd (false≢true (sym is))
     write-other z' h' told is (nothing takes ended) sends = absurd (false≢true (sym is))
 
