@@ -15,7 +15,7 @@ use Rattle.hs_session.specs.declared.fault.Break.TheVariants as stop
 use Rattle.hs_session.specs.Reading.{Ahead, Consumes}
 use Rattle.hs_session.specs.Breaks.{StopsAt}
 use Rattle.hs_session.specs.Sending.{Sends}
-use Rattle.hs_session.specs.Payloads.{IsScanned, Comes, SomeCome}
+use Rattle.hs_session.specs.Payloads.{IsScanned, PayloadEnds, Comes, SomeCome}
 use Rattle.hs_session.proofs.ReadLemmas.{consumes-nothing, consumes-join, consumes-front}
 use Rattle.hs_session.proofs.LineLemmas.{sends-nothing, sends-join, named-join}
 
@@ -81,13 +81,18 @@ comes-short {p} {q} {r} {a} {b} {c} {came = came} so_far fills more ended =
       ends = (omega (arith, so_far.sum, more), ended);
     }
 
+ends-broken : (came count left : ℕ) (ahead : Ahead) (stop : Break) → came + left ≡ count → 0 < left → StopsAt ahead stop → PayloadEnds came count ahead (Err stop)
+ends-broken came count left ahead stop.Read sum more at = (omega (arith, sum, more), at)
+ends-broken came count left ahead stop.Limit sum more at = (omega (arith, sum, more), at)
+ends-broken came count left ahead stop.Write sum more at = at
+
 -- reading was broken off
-pub comes-broken : {p q r : Option (List ℕ)} {a b c : Ahead} {count left : ℕ} {came : List ℕ} (stop : Break) → HasCome p q a b count left came → Consumes q r b c [] → StopsAt c stop → Comes p r a c count came (Err stop)
-comes-broken {p} {q} {r} {a} {b} {c} {came = came} stop so_far fills at =
+pub comes-broken : {p q r : Option (List ℕ)} {a b c : Ahead} {count left : ℕ} {came : List ℕ} (stop : Break) → HasCome p q a b count left came → Consumes q r b c [] → 0 < left → StopsAt c stop → Comes p r a c count came (Err stop)
+comes-broken {p} {q} {r} {a} {b} {c} {count} {left} {came} stop so_far fills more at =
     record {
       consumes = subst (λ l. Consumes p r a c l) (append-nil came) (consumes-join so_far.consumes fills);
       within = omega (arith, so_far.sum);
-      ends = at;
+      ends = ends-broken (length came) count left c stop so_far.sum more at;
     }
 
 -- some bytes of which it isn't said which

@@ -1,6 +1,6 @@
 -- How the command of a line runs.
-use Rattle.std.proofs.Common.{◌≡◌, ◌≢◌, ℕ, ◌<◌, ◌≤◌, Bool, true, false, not, List, [], ◌∷◌, ◌++◌, length, Option, None, Some, Result, Ok, Err, refl, sym, ap, ◌∙◌, subst, append_assoc, append-nil}
-use Rattle.std.proofs.lemmas.Bool.{false≢true}
+use Rattle.std.proofs.Common.{◌≡◌, ◌≢◌, ℕ, ◌<◌, ◌≤◌, ◌⊎◌, Bool, true, false, not, List, [], ◌∷◌, ◌++◌, length, Option, None, Some, Result, Ok, Err, refl, sym, ap, ◌∙◌, subst, inl, inr, arith, append_assoc, append-nil}
+use Rattle.std.proofs.lemmas.Bool.{false≢true, cases_lt}
 use Rattle.std.specs.List.{flat_map}
 use Rattle.std.specs.Result.{is_err}
 use Rattle.hs_base.specs.Told.{Pair}
@@ -88,14 +88,26 @@ was_false true e = absurd (false≢true e)
 was_false false e = refl
 
 module _ (db : Database) (number : ℕ) (old new : Streams) (line name : List ℕ) (count : ℕ) (command : IsCommand line (order.Write name count)) where
+  -- the sink failed before all came, or when they had come
+  write-sunk : {p q : Option (List ℕ)} {a b : Ahead} {x y : Option (List ℕ)} {f g : List ℕ} (taken : IsPayloadTaken db name count old new p q a b x y f g (Err stop.Write)) → (length taken.came < count) ⊎ (count ≤ length taken.came) → RunsSomehow (Runs db line number old new p q a b x y f g)
+  write-sunk {g = g} taken (inl before) =
+      record { how = Part; runs = one db line number old new true Part taken.comes.consumes (part command before refl taken.comes.ends) taken.part (plainly _ _ _ g _ true (plainly _ _ _ g _ true taken.sends)) }
+  write-sunk {x = x} {y = y} {f = f} {g = g} taken (inr over) =
+      let all : length taken.came ≡ count = omega (arith, taken.comes.within, over) in
+      record {
+        how = Part;
+        runs =
+            one db line number old new true Part taken.comes.consumes (behind (exactly taken.came command all) refl taken.comes.ends) (taken.all all)
+            (plainly x y f g _ true (sends-longer x y f g (flat_map (named_line name) taken.pairs) (reply_line name taken.reply) taken.sends));
+      }
+
   -- the bytes were broken off
   pub write-broken : {p q : Option (List ℕ)} {a b : Ahead} {x y : Option (List ℕ)} {f g : List ℕ} (stop : Break) → IsPayloadTaken db name count old new p q a b x y f g (Err stop) → RunsBy (Runs db line number old new p q a b x y f g) (Err (Broken stop))
   write-broken stop.Read taken =
-      one db line number old new false Part taken.comes.consumes (part command taken.comes.within refl taken.comes.ends.still_open) taken.part (plainly _ _ _ _ _ false (plainly _ _ _ _ _ false taken.sends))
+      one db line number old new false Part taken.comes.consumes (part command taken.comes.ends.0 refl taken.comes.ends.1.still_open) taken.part (plainly _ _ _ _ _ false (plainly _ _ _ _ _ false taken.sends))
   write-broken stop.Limit taken =
-      one db line number old new false Part taken.comes.consumes (part command taken.comes.within refl taken.comes.ends.dry.still_open) taken.part (plainly _ _ _ _ _ false (plainly _ _ _ _ _ false taken.sends))
-  write-broken {g = g} stop.Write taken =
-      record { how = Part; runs = one db line number old new true Part taken.comes.consumes (part command taken.comes.within refl taken.comes.ends) taken.part (plainly _ _ _ g _ true (plainly _ _ _ g _ true taken.sends)) }
+      one db line number old new false Part taken.comes.consumes (part command taken.comes.ends.0 refl taken.comes.ends.1.dry.still_open) taken.part (plainly _ _ _ _ _ false (plainly _ _ _ _ _ false taken.sends))
+  write-broken stop.Write taken = write-sunk taken (cases_lt (length taken.came) count)
 
   -- all came
   all_came : {p q : Option (List ℕ)} {a b : Ahead} {x y : Option (List ℕ)} {f g : List ℕ} (payload : Payload) → not payload.whole ≡ false → (taken : IsPayloadTaken db name count old new p q a b x y f g (Ok payload)) → length taken.came ≡ count
@@ -144,7 +156,6 @@ module _ (db : Database) (number : ℕ) (old new : Streams) (line name : List �
         one db line number old new false Goes (consumes-join taken.comes.consumes takes) (fed (exactly taken.came command all) refl) (taken.all all) (plainly _ _ _ _ _ false sent)
     write-done is (nothing takes ended) =
         one db line number old new false Goes (nothing_more takes) (unfed (exactly taken.came command all) refl ended) (taken.all all) (plainly _ _ _ _ _ false sent)
-
     write-done is (another n apart takes) = absurd (false≢true is)
 
     -- another byte stands behind them
@@ -153,7 +164,6 @@ module _ (db : Database) (number : ℕ) (old new : Streams) (line name : List �
         faulty (Runs db line number old new p r a c x z' f h') x z z' f h h' _ (Script number) told
         (λ lost text. one db line number old new lost (Faulty (Script number)) (consumes-join taken.comes.consumes takes) (other n (exactly taken.came command all) apart refl) (taken.all all) text)
         sent sends
-
     write-other z' h' told is (line_end takes) sends = absurd (false≢true (sym is))
     write-other z' h' told is (nothing takes ended) sends = absurd (false≢true (sym is))
 

@@ -151,12 +151,12 @@ performs-move {db} {old} {now} action answer w puts moved P m is tracks =
     each other =
         elim (same_or_not other (name_of action)) [
           | inl same ↦
-            subst (λ n. Follows db P (after.stream n) (stream_at now n)) (sym same)
-            (subst (λ i. Follows db P i (stream_at now (name_of action))) (sym (moved_here m (name_of action) step.h (count_of now)))
-            (subst (λ s. Follows db P step.h s) (sym puts.here) step.follows))
+              subst (λ n. Follows db P (after.stream n) (stream_at now n)) (sym same)
+              (subst (λ i. Follows db P i (stream_at now (name_of action))) (sym (moved_here m (name_of action) step.h (count_of now)))
+              (subst (λ s. Follows db P step.h s) (sym puts.here) step.follows))
           | inr apart ↦
-            subst (λ i. Follows db P i (stream_at now other)) (sym (moved_elsewhere m (name_of action) step.h (count_of now) other apart))
-            (subst (λ s. Follows db P (m.stream other) s) (sym (puts.others other apart)) (tracks.each other))
+              subst (λ i. Follows db P i (stream_at now other)) (sym (moved_elsewhere m (name_of action) step.h (count_of now) other apart))
+              (subst (λ s. Follows db P (m.stream other) s) (sym (puts.others other apart)) (tracks.each other))
         ]
 
 -- an action on a name that isn't open, which leaves it so
@@ -164,16 +164,16 @@ pub performs-unopened : {db : Database} {old now : Streams} (action : Action) (a
 performs-unopened {db} {old} action answer unknown puts moves =
     performs-move action answer None puts
     (λ P i is f.
-        let none = follows-none db P i (subst (λ s. Follows db P i s) unknown f) in
-        record { h = None; moves = subst (λ j. Moves P (count_of old) j action answer None) (sym none) (moves P); follows = tt })
+    let none = follows-none db P i (subst (λ s. Follows db P i s) unknown f) in
+    record { h = None; moves = subst (λ j. Moves P (count_of old) j action answer None) (sym none) (moves P); follows = tt })
 
 -- an action on an open stream
 pub performs-opened : {db : Database} {old now : Streams} (action : Action) (answer : Answer) (stream : Stream) (w : Option Stream) → stream_at old (name_of action) ≡ Some stream → Puts old now (name_of action) w → ((P : List Pattern) (h : List ℕ) → IsDatabaseOf db P → StandsBehind db P h stream → IsMoved db P (count_of old) (Some h) action answer w) → Performs db old now (action ∷ []) (answer ∷ [])
 performs-opened {db} {old} action answer stream w known puts moved =
     performs-move action answer w puts
     (λ P i is f.
-        let some = follows-some db P i stream (subst (λ s. Follows db P i s) known f) in
-        subst (λ j. IsMoved db P (count_of old) j action answer w) (sym some.is) (moved P some.h is some.stands))
+    let some = follows-some db P i stream (subst (λ s. Follows db P i s) known f) in
+    subst (λ j. IsMoved db P (count_of old) j action answer w) (sym some.is) (moved P some.h is some.stands))
 
 -- ---- the commands
 
@@ -186,12 +186,12 @@ pub performs-open : {db : Database} {old now : Streams} (name : List ℕ) → st
 performs-open {db} {old} name unknown room adds =
     performs-move (Open name) (done verb.Open [] None) (Some adds.stream) adds.puts
     (λ P i is f.
-        let none = follows-none db P i (subst (λ s. Follows db P i s) unknown f) in
-        record {
-          h = Some [];
-          moves = subst (λ j. Moves P (count_of old) j (Open name) (done verb.Open [] None) (Some [])) (sym none) (move.opened room);
-          follows = record { state = adds.fresh P is.roles; told = []; is_told = told_start P };
-        })
+    let none = follows-none db P i (subst (λ s. Follows db P i s) unknown f) in
+    record {
+      h = Some [];
+      moves = subst (λ j. Moves P (count_of old) j (Open name) (done verb.Open [] None) (Some [])) (sym none) (move.opened room);
+      follows = record { state = adds.fresh P is.roles; told = []; is_told = told_start P };
+    })
 
 pub performs-reset : {db : Database} {old now : Streams} (name : List ℕ) (stream stream' : Stream) (pairs : List Pair) → stream_at old name ≡ Some stream → Puts old now name (Some stream') → IsFresh db stream' → Ends db stream pairs → Performs db old now (Reset name ∷ []) (done verb.Reset pairs None ∷ [])
 performs-reset {db} {old} name stream stream' pairs known puts fresh ends =

@@ -57,7 +57,7 @@ pub data IsBehind (line : List ℕ) (number : ℕ) (seen : List ℕ) (ended : Bo
   unfed : {name came : List ℕ} → IsCommand line (order.Write name (length came)) → seen ≡ came → ended ≡ true → IsBehind line number seen ended (Write name came ∷ []) Goes
   other : {name came : List ℕ} (b : ℕ) → IsCommand line (order.Write name (length came)) → b ≢ line_feed → seen ≡ came ++ b ∷ [] → IsBehind line number seen ended (Write name came ∷ []) (Faulty (Script number))
   cut : {name came : List ℕ} {count : ℕ} → IsCommand line (order.Write name count) → length came < count → seen ≡ came → ended ≡ true → IsBehind line number seen ended (Cut name count came ∷ []) (Faulty (Truncated number))
-  part : {name came : List ℕ} {count : ℕ} → IsCommand line (order.Write name count) → length came ≤ count → seen ≡ came → ended ≡ false → IsBehind line number seen ended (Cut name count came ∷ []) Part
+  part : {name came : List ℕ} {count : ℕ} → IsCommand line (order.Write name count) → length came < count → seen ≡ came → ended ≡ false → IsBehind line number seen ended (Cut name count came ∷ []) Part
   behind : {name came : List ℕ} → IsCommand line (order.Write name (length came)) → seen ≡ came → ended ≡ false → IsBehind line number seen ended (Write name came ∷ []) Part
 
 -- The command of a line ran so: what was taken behind the line, the streams, and the lines that were sent.

@@ -15,10 +15,11 @@ use Rattle.hs_script.specs.Actions.{Write, Cut}
 use Rattle.hs_script.specs.Machine.{unanswered}
 use Rattle.hs_script.specs.Runs.{named_line}
 use Rattle.hs_session.specs.declared.fault.Break.{Break}
+use Rattle.hs_session.specs.declared.fault.Break.TheVariants as stop
 use Rattle.hs_session.specs.declared.payload.Payload.{Payload}
 use Rattle.hs_session.specs.declared.streams.Streams.{Streams}
 use Rattle.hs_session.specs.Reading.{Ahead, Consumes}
-use Rattle.hs_session.specs.Breaks.{StopsAt, is_lost}
+use Rattle.hs_session.specs.Breaks.{IsDry, IsTooLong, is_lost}
 use Rattle.hs_session.specs.Sending.{Sends}
 use Rattle.hs_session.specs.Streams.{Performs}
 
@@ -28,11 +29,13 @@ pub record IsScanned (db : Database) (name : List ℕ) (lost : Bool) (old new : 
   pub writes : Writes db old new bytes pairs
   pub sends : Sends lost taken takes waited waits (flat_map (named_line name) pairs)
 
--- how the bytes of a write end: all came, or the input ended before, or they were broken off
+-- how the bytes of a write end: all came, or the input ended before or was broken off before, or the sink failed
 abbrev pub PayloadEnds : ℕ → ℕ → Ahead → Result Bool Break → Type 0
 PayloadEnds came count ahead (Ok true) = came ≡ count
 PayloadEnds came count ahead (Ok false) = (came < count) × (ahead.ended ≡ true)
-PayloadEnds came count ahead (Err stop) = StopsAt ahead stop
+PayloadEnds came count ahead (Err stop.Read) = (came < count) × IsDry ahead
+PayloadEnds came count ahead (Err stop.Limit) = (came < count) × IsTooLong ahead
+PayloadEnds came count ahead (Err stop.Write) = ahead.ended ≡ false
 
 -- Of so many bytes these came.
 pub record Comes (before now : Option (List ℕ)) (old new : Ahead) (count : ℕ) (came : List ℕ) (outcome : Result Bool Break) : Type 0 where

@@ -1,5 +1,5 @@
 -- What a script leaves that was run as it came: what was taken of it, and the text that is due.
-use Rattle.std.specs.Prelude.{◌≡◌, ◌≢◌, ℕ, suc, ◌≤◌, ◌⊎◌, Bool, true, false, List, [], ◌∷◌, ◌++◌, length, Option, None, Some, Result, Ok, Err}
+use Rattle.std.specs.Prelude.{◌≡◌, ◌≢◌, ℕ, suc, ◌<◌, ◌≤◌, ◌⊎◌, Bool, true, false, List, [], ◌∷◌, ◌++◌, length, Option, None, Some, Result, Ok, Err}
 use Rattle.hs_base.specs.Lists.{Each}
 use Rattle.hs_base.specs.Assertions.{line_feed}
 use Rattle.hs_base.specs.Patterns.{Pattern}
@@ -36,7 +36,7 @@ pub record Finished (db : Database) (taken : List ℕ) (ended : Bool) (ending : 
 pub data IsPart (bytes : List ℕ) : List Action → Type 0 where
   in_line : Each (λ b. b ≢ line_feed) bytes → IsPart bytes []
   in_payload : (line : List ℕ) {name came : List ℕ} {count : ℕ} →
-      IsCommand line (order.Write name count) → length came ≤ count → bytes ≡ line ++ line_feed ∷ came → IsPart bytes (Cut name count came ∷ [])
+      IsCommand line (order.Write name count) → length came < count → bytes ≡ line ++ line_feed ∷ came → IsPart bytes (Cut name count came ∷ [])
   behind_payload : (line : List ℕ) {name came : List ℕ} →
       IsCommand line (order.Write name (length came)) → bytes ≡ line ++ line_feed ∷ came → IsPart bytes (Write name came ∷ [])
 

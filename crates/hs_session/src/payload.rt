@@ -122,11 +122,7 @@ fn has_room(offset: u64, count: u64) -> bool
 }
 
 /// Drops so many bytes, and tells whether all came.
-fn drop_payload<I: Source>(
-    count: u64,
-    reader: &mut Reader,
-    input: &mut I,
-) -> Result<bool, Break>
+fn drop_payload<I: Source>(count: u64, reader: &mut Reader, input: &mut I) -> Result<bool, Break>
     ensures come { SomeCome (I.left input.old) (I.left input.new) reader.old reader.new count result }
     ensures counts { ReadCounts (I.faults input.old) (I.faults input.new) result }
 {
@@ -216,7 +212,16 @@ fn scan_piece<O: Sink>(
     ensures counted { OnOk result (O.faults out.new ≡ O.faults out.old) }
     ensures failed { OnErr result (Rose (O.faults out.old) (O.faults out.new)) }
 {
-    scan_counted::<O, Brand>(db, name, stream, scratch, bytes, out, pending, Blank::new(1))
+    scan_counted::<O, Brand>(
+        db,
+        name,
+        stream,
+        scratch,
+        bytes,
+        out,
+        pending,
+        Blank::new(1),
+    )
 }
 
 /// Writes bytes to the stream, and counts the steps of engines in a ledger of its own.

@@ -46,7 +46,7 @@ impl Model for Reader {
     } };
 
     ghost invariant = { λ reader. (reader.from ≤ reader.to) × (reader.to ≤ 65536) × (reader.ended ≡ true → reader.from ≡ reader.to)
-      × (reader.at + (reader.to - reader.from) ≤ 9223372036854841343) };
+        × (reader.at + (reader.to - reader.from) ≤ 9223372036854841343) };
 }
 
 impl Reader {
