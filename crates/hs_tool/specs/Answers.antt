@@ -16,7 +16,7 @@ use Rattle.hs_request.specs.Requests.{Request, match_file, check_list, compile_l
 use Rattle.hs_script.specs.Actions.{Action}
 use Rattle.hs_script.specs.Scripts.{IsScript}
 use Rattle.hs_session.specs.Reading.{most_script}
-use Rattle.hs_tool.specs.Commands.{ListKind, pattern_file, database_file, list_kind, list_name, nothing, file_named, script_of_input, scanned_by, IsStream}
+use Rattle.hs_tool.specs.Commands.{ListKind, pattern_file, database_file, list_kind, list_name, no_bytes, file_named, script_of_input, scanned_by, IsStream}
 use Rattle.hs_tool.specs.Accepting.{IsAccepted, IsRefused}
 use Rattle.hs_scan.specs.Scanning.{greatest_offset}
 use Rattle.hs_tool.specs.Causes.{Cause, usage, read, write, store, absent, limit, script, memory, status_of, line_of}
@@ -185,10 +185,10 @@ pub data IsDue (told : List ℕ → Told) (left : Option (List ℕ)) : Option Re
   long_file : (request : Request) (file contents : List ℕ) → scanned_by request ≡ file_named file → TellsList (list_kind request) (told (list_name request)) → told file ≡ holds contents → greatest_offset < length contents → IsDue told left (Some request) (Some limit)
   whole : (request : Request) (file contents : List ℕ) → scanned_by request ≡ file_named file → TellsList (list_kind request) (told (list_name request)) → told file ≡ holds contents → length contents ≤ greatest_offset → IsDue told left (Some request) None
   -- the script of the input: without a fault, or with one
-  run : (request : Request) (bytes : List ℕ) (actions : List Action) → scanned_by request ≡ script_of_input → TellsList (list_kind request) (told (list_name request)) → left ≡ Some bytes → length bytes < most_script → IsScript 1 bytes actions None → IsDue told left (Some request) None
-  faulty : (request : Request) (bytes : List ℕ) (actions : List Action) (fault : ScriptFault) → scanned_by request ≡ script_of_input → TellsList (list_kind request) (told (list_name request)) → left ≡ Some bytes → length bytes < most_script → IsScript 1 bytes actions (Some fault) → IsDue told left (Some request) (Some (script fault))
+  whole_script : (request : Request) (bytes : List ℕ) (actions : List Action) → scanned_by request ≡ script_of_input → TellsList (list_kind request) (told (list_name request)) → left ≡ Some bytes → length bytes < most_script → IsScript 1 bytes actions None → IsDue told left (Some request) None
+  faulty_script : (request : Request) (bytes : List ℕ) (actions : List Action) (fault : ScriptFault) → scanned_by request ≡ script_of_input → TellsList (list_kind request) (told (list_name request)) → left ≡ Some bytes → length bytes < most_script → IsScript 1 bytes actions (Some fault) → IsDue told left (Some request) (Some (script fault))
   -- nothing is scanned
-  loaded : (request : Request) → scanned_by request ≡ nothing → TellsList (list_kind request) (told (list_name request)) → IsDue told left (Some request) None
+  loaded : (request : Request) → scanned_by request ≡ no_bytes → TellsList (list_kind request) (told (list_name request)) → IsDue told left (Some request) None
 
 -- The outcome is the one that is due, where one is and no call on the outside failed, or memory was wanted.
 abbrev pub IsDueOutcome : Option Request → Outside → Outside → Input → Input → Option Cause → Type 0

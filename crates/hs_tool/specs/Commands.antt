@@ -34,16 +34,16 @@ list_name (run_script database) = database
 
 -- what is scanned: nothing, the file of this name, or what the script of the input writes
 pub data Scanned : Type 0 where
-  nothing : Scanned
+  no_bytes : Scanned
   file_named : List ℕ → Scanned
   script_of_input : Scanned
 
 -- what a command scans
 abbrev pub scanned_by : Request → Scanned
 scanned_by (match_file patterns file) = file_named file
-scanned_by (check_list patterns) = nothing
-scanned_by (compile_list patterns database) = nothing
-scanned_by (tell_database database) = nothing
+scanned_by (check_list patterns) = no_bytes
+scanned_by (compile_list patterns database) = no_bytes
+scanned_by (tell_database database) = no_bytes
 scanned_by (scan_file database file) = file_named file
 scanned_by (run_script database) = script_of_input
 

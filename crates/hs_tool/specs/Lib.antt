@@ -4,3 +4,4 @@ pub mod Causes
 pub mod Streaming
 pub mod Answers
 pub mod Loading
+pub mod Stopping

@@ -8,6 +8,9 @@ mod fault;
 mod info_command;
 mod load;
 mod match_command;
+mod stream_command;
+#[cfg(test)]
+mod stream_tests;
 mod top;
 
 use fault::Fault;
