@@ -109,3 +109,10 @@ stream_ends db database before now input inputs entries P _ has of same (serving
 stream_ends db database before now input inputs entries P _ has of same (serving.no_memory gave took) counts =
     Answers.stopped _ (no_memory_early database_file database before now took (record { store = same; sink = counts.sink }))
     (ap₂ (λ (l : Option (List ℕ)) (n : ℕ). record { left = l; faults = n }) (gave-none input.left inputs.left gave) counts.source)
+
+-- the script stopped by this cause
+pub stream_stops : (db : Database) (database : List ℕ) (before now : Outside) (input inputs : Input) (entries : List ListedEntry) (P : List Pattern) (stop : ScriptStop) (cause : Cause) → cause ≡ cause_of_stop stop → HasList database_file (before.told database) entries P → IsDatabaseOf db P → now.stored ≡ before.stored →
+    ScriptEnds db input.left inputs.left (λ text. Took before.out now.out text) (λ text. TookPrefix before.out now.out text) (Err stop) → EndCounts input.faults inputs.faults before.sunk now.sunk (Err stop) →
+    StreamEnds database before now input inputs (Some cause)
+stream_stops db database before now input inputs entries P stop cause is has of same ends counts =
+    subst (λ x. StreamEnds database before now input inputs (Some x)) (sym is) (stream_ends db database before now input inputs entries P (Err stop) has of same ends counts)

@@ -1,5 +1,5 @@
 -- What a script leaves that is run over streams of a list's patterns.
-use Rattle.std.specs.Prelude.{◌≡◌, ◌⊎◌, ℕ, suc, List, [], ◌++◌, length, Option, Some, None}
+use Rattle.std.specs.Prelude.{◌≡◌, ℕ, suc, List, ◌++◌, length, Option}
 use Rattle.hs_base.specs.Patterns.{Pattern}
 use Rattle.hs_outside.specs.Source.{Gave, GaveSome, IsWhole}
 use Rattle.hs_outside.specs.Sink.{Took, TookPrefix}
