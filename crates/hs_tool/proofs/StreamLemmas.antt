@@ -23,7 +23,7 @@ use Rattle.hs_tool.specs.Answers.{Outside, Input, NoFault, HasList, StreamEnds}
 use Rattle.hs_tool.proofs.AnswerLemmas.{no_memory_early}
 
 -- what a source has left, and nothing where it doesn't tell
-rest_of : Option (List ℕ) → List ℕ
+abbrev rest_of : Option (List ℕ) → List ℕ
 rest_of None = []
 rest_of (Some rest) = rest
 
@@ -37,8 +37,8 @@ whole_of (Some all) None taken gave = absurd gave
 whole_of (Some all) (Some rest) taken gave = gave
 
 -- the text of a script that was run to its end or its fault
-pub text_over : {db : Database} {P : List Pattern} {left lefts : Option (List ℕ)} {taken : List ℕ} {ended : Bool} {ending : Option ScriptFault} {text : List ℕ} → IsDatabaseOf db P → Gave left lefts taken → (ended ≡ true → IsAtEnd lefts) → Finished db taken ended ending text → IsTextOver P left ending text
-text_over {P = P} {left = left} {lefts = lefts} {taken = taken} {ended = ended} of gave settled finished = record {
+pub text_over : {db : Database} {P : List Pattern} {left : Option (List ℕ)} (lefts : Option (List ℕ)) {taken : List ℕ} {ended : Bool} {ending : Option ScriptFault} {text : List ℕ} → IsDatabaseOf db P → Gave left lefts taken → (ended ≡ true → IsAtEnd lefts) → Finished db taken ended ending text → IsTextOver P left ending text
+text_over {P = P} {left = left} lefts {taken = taken} {ended = ended} of gave settled finished = record {
   bytes = taken ++ rest_of lefts;
   whole = whole_of left lefts taken gave;
   answers = finished.answers;
@@ -74,8 +74,8 @@ some_text {left = left} {lefts = lefts} of gave (serving.begun unread begun) =
     Streaming.part (begun.front ++ begun.rest) unread
     (subst (λ (xs : List ℕ). Gave left lefts xs) (begun.split ∙ sym (append_assoc begun.front begun.rest unread)) gave)
     (text_so_far (begun.front ++ begun.rest) of begun refl)
-some_text {taken = taken} of gave (serving.over ended ending settled finished) =
-    Streaming.all ending (record { taken = taken; given = gave }) (text_over of gave settled finished)
+some_text {lefts = lefts} {taken = taken} of gave (serving.over ended ending settled finished) =
+    Streaming.all ending (record { taken = taken; given = gave }) (text_over lefts of gave settled finished)
 
 -- nothing was taken
 gave-none : (left lefts : Option (List ℕ)) → Gave left lefts [] → lefts ≡ left
@@ -94,11 +94,11 @@ pub stream_ends : (db : Database) (database : List ℕ) (before now : Outside) (
     StreamEnds database before now input inputs (outcome_of_stop result)
 stream_ends db database before now input inputs entries P _ has of same (serving.complete taken text gave end finished took) counts =
     Answers.done entries P has
-    (record { text = text; over = text_over of gave (λ e. end) finished; taken = took; given = record { taken = taken; given = gave } })
+    (record { text = text; over = text_over inputs.left of gave (λ e. end) finished; taken = took; given = record { taken = taken; given = gave } })
     end (record { store = same; sink = counts.sink }) counts.source
 stream_ends db database before now input inputs entries P _ has of same (serving.faulty fault taken text ended gave settled finished took) counts =
     Answers.faulty entries P fault has
-    (record { text = text; over = text_over of gave settled finished; taken = took; given = record { taken = taken; given = gave } })
+    (record { text = text; over = text_over inputs.left of gave settled finished; taken = took; given = record { taken = taken; given = gave } })
     (record { store = same; sink = counts.sink }) counts.source
 stream_ends db database before now input inputs entries P _ has of same (serving.unread taken text gave begun took) counts =
     Answers.source_failed entries P taken has (answered of gave begun took) (record { store = same; sink = counts.1 }) counts.0
