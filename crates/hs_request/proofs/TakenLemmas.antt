@@ -35,7 +35,7 @@ AreNamed (s ∷ shapes) = IsNamed s × AreNamed shapes
 named : AreNamed (built command_line).subs
 unfolding clap_on_literals
 named =
-    (λ rows e. absurd (cc), (λ rows e. absurd (cc), (λ rows e. absurd (cc), (λ rows e. absurd (cc), (λ rows e. absurd (cc), tt)))))
+    (λ rows e. absurd (cc), (λ rows e. absurd (cc), (λ rows e. absurd (cc), (λ rows e. absurd (cc), (λ rows e. absurd (cc), (λ rows e. absurd (cc), tt))))))
 
 -- what is found among them is a request
 abbrev IsAsked : Option Shape → List Text → Type 0

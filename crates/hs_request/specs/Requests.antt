@@ -6,7 +6,7 @@ use Rattle.clap.specs.Words.{App, Kinds, Row, Rule, Text, app_of, first_of, faul
 use Rattle.clap.specs.declared.builder.command.Command.{Command}
 use Rattle.clap.specs.declared.builder.command.Command.TheViews.{out-Command as fields_of}
 use Rattle.hs_request.specs.declared.request.Request.{Request as Asked}
-use Rattle.hs_request.specs.declared.request.Request.TheVariants.{Match, Check, Compile, Info, Scan}
+use Rattle.hs_request.specs.declared.request.Request.TheVariants.{Match, Check, Compile, Info, Scan, Stream}
 
 -- ---- the command line
 
@@ -33,11 +33,13 @@ command_line =
     (with_subcommand
     (with_subcommand
     (with_subcommand
+    (with_subcommand
     (with_subcommand program (two_operands (codes "match") (codes "PATTERNS") (codes "FILE")).top)
     (one_operand (codes "check") (codes "PATTERNS")).top)
     (two_operands (codes "compile") (codes "PATTERNS") (codes "DB")).top)
     (one_operand (codes "info") (codes "DB")).top)
-    (two_operands (codes "scan") (codes "DB") (codes "FILE")).top
+    (two_operands (codes "scan") (codes "DB") (codes "FILE")).top)
+    (one_operand (codes "stream") (codes "DB")).top
 
 -- ---- the request
 
@@ -53,6 +55,8 @@ pub data Request : Type 0 where
   tell_database : (database : List ℕ) → Request
   -- scan the file for the expressions of the database file
   scan_file : (database file : List ℕ) → Request
+  -- run the script of the input over streams of the database file
+  run_script : (database : List ℕ) → Request
 
 -- the word given for an operand
 abbrev pub operand_in : List Row → Text → List ℕ
@@ -66,7 +70,8 @@ request_named name rows =
     else (if bytes_eq name (codes "compile") then Some (compile_list (operand_in rows (codes "PATTERNS")) (operand_in rows (codes "DB")))
     else (if bytes_eq name (codes "info") then Some (tell_database (operand_in rows (codes "DB")))
     else (if bytes_eq name (codes "scan") then Some (scan_file (operand_in rows (codes "DB")) (operand_in rows (codes "FILE")))
-    else None))))
+    else (if bytes_eq name (codes "stream") then Some (run_script (operand_in rows (codes "DB")))
+    else None)))))
 
 -- the request of the subcommand that was met
 abbrev pub request_in : Option (Text × List Row) → Option Request
@@ -89,6 +94,7 @@ plain_request (Check patterns) = check_list patterns.now
 plain_request (Compile patterns database) = compile_list patterns.now database.now
 plain_request (Info database) = tell_database database.now
 plain_request (Scan database file) = scan_file database.now file.now
+plain_request (Stream database) = run_script database.now
 
 -- ---- what a command that is built is
 

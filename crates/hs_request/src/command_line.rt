@@ -5,7 +5,7 @@ ghost use Rattle.hs_request.specs.Requests.{IsCommand, IsMore, one_operand, two_
 use clap::{Arg, Command};
 use std::alloc::{AllocError, Global};
 
-/// The command line: one of five subcommands, with its operands.
+/// The command line: one of six subcommands, with its operands.
 ///
 /// # Errors
 ///
@@ -18,6 +18,7 @@ pub fn command_line<'a>(alloc: Global) -> Result<Command<'a>, AllocError>
     let compiling = two(alloc, "compile", "PATTERNS", "DB")?;
     let telling = one(alloc, "info", "DB")?;
     let loading = two(alloc, "scan", "DB", "FILE")?;
+    let running = one(alloc, "stream", "DB")?;
     Command::new(alloc, "hs_tool")
         .subcommand_required(true)
         .disable_help_subcommand(true)
@@ -25,7 +26,8 @@ pub fn command_line<'a>(alloc: Global) -> Result<Command<'a>, AllocError>
         .subcommand(checking)?
         .subcommand(compiling)?
         .subcommand(telling)?
-        .subcommand(loading)
+        .subcommand(loading)?
+        .subcommand(running)
 }
 
 /// A subcommand with one operand.

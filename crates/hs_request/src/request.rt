@@ -36,6 +36,10 @@ pub enum Request<'a> {
         database: &'a str,
         file: &'a str,
     },
+    /// `stream DB`: run the script of the input over streams of a database file.
+    Stream {
+        database: &'a str,
+    },
 }
 
 /// The request of the words, which begin with the program's name; none where the command line doesn't take them.
@@ -96,6 +100,9 @@ fn named<'a>(name: &str, operands: &ArgMatches<'a>) -> Option<Request<'a>>
         "scan" => Some(Request::Scan {
             database: operand(operands, "DB"),
             file: operand(operands, "FILE"),
+        }),
+        "stream" => Some(Request::Stream {
+            database: operand(operands, "DB"),
         }),
         _ => None,
     }

@@ -27,6 +27,7 @@ const TAKEN: &[(&[&str], Request<'static>)] = &[
             file: "f",
         },
     ),
+    (&["stream", "d"], Request::Stream { database: "d" }),
     (
         &["match", "p", "-"],
         Request::Match {
@@ -77,7 +78,9 @@ const REFUSED: &[&[&str]] = &[
     &["compile", "p"],
     &["info"],
     &["scan", "d"],
-    &["stream", "d"],
+    &["stream"],
+    &["stream", "d", "f"],
+    &["soak", "1", "2"],
     &["help", "match"],
 ];
 

@@ -13,11 +13,11 @@ use Rattle.hs_base.specs.Entries.{ListedEntry}
 use Rattle.hs_scan.proofs.CloseLemmas.{behind}
 use Rattle.hs_scan.specs.Scanning.{Interrupts, Moves, AreReportsOf, IsScanned, IsScannedTo, IsFileScanned, IsFilePartlyScanned, IsEnded, IsEndCutShort, IsClosed, IsPartlyClosed}
 use Rattle.hs_tool.specs.Causes.{Cause, write, memory}
-use Rattle.hs_request.specs.Requests.{Request, match_file, check_list, compile_list, tell_database, scan_file}
+use Rattle.hs_request.specs.Requests.{Request, match_file, check_list, compile_list, tell_database, scan_file, run_script}
 use Rattle.hs_tool.specs.Commands.{ListKind, pattern_file, database_file}
 use Rattle.hs_tool.specs.Answers
 use Rattle.hs_tool.specs.Accepting.{HoldsList, IsFormCause, formless, unread, IsEntryCause, first, uncompiled, bad_form, bad_entry}
-use Rattle.hs_tool.specs.Answers.{greatest_list, Outside, NoFault, TookNothing, HasList, HasWritten, HasBegun, StopsList, StopsEarly, ScanEnds, CompileEnds, Ends, list_refused, no_memory}
+use Rattle.hs_tool.specs.Answers.{greatest_list, Outside, Input, NoFault, TookNothing, HasList, HasWritten, HasBegun, StopsList, StopsEarly, ScanEnds, CompileEnds, Ends, list_refused, no_memory}
 use Rattle.hs_tool.specs.Loading.{IsLoaded, StopsScan, entries_of}
 use Rattle.hs_tool.specs.declared.load.Loaded.{Loaded}
 use Rattle.hs_scan.specs.declared.scan.ScanFault.{ScanFault}
@@ -213,10 +213,11 @@ module _ {A : Type 0} (Stands : List Pattern → List ℕ → A → Type 0) wher
 -- ---- the words
 
 -- memory was wanted to read them
-pub unread-words : (request : Option Request) (before : Outside) → Ends request before before (Some memory)
-unread-words None before = record { cause = inr refl; quiet = Took-nothing before.out; none = record { store = refl; sink = refl } }
-unread-words (Some (match_file patterns file)) before = Answers.stopped memory (no_memory_early pattern_file patterns before before (Took-nothing before.out) (record { store = refl; sink = refl }))
-unread-words (Some (check_list patterns)) before = Answers.stopped memory (no_memory_early pattern_file patterns before before (Took-nothing before.out) (record { store = refl; sink = refl }))
-unread-words (Some (compile_list patterns database)) before = Answers.stopped memory (no_memory_early pattern_file patterns before before (Took-nothing before.out) (record { store = refl; sink = refl })) refl
-unread-words (Some (tell_database database)) before = Answers.stopped memory (no_memory_early database_file database before before (Took-nothing before.out) (record { store = refl; sink = refl }))
-unread-words (Some (scan_file database file)) before = Answers.stopped memory (no_memory_early database_file database before before (Took-nothing before.out) (record { store = refl; sink = refl }))
+pub unread-words : (request : Option Request) (before : Outside) (input : Input) → Ends request before before input input (Some memory)
+unread-words None before input = record { cause = inr refl; quiet = Took-nothing before.out; none = record { store = refl; sink = refl } }
+unread-words (Some (match_file patterns file)) before input = Answers.stopped memory (no_memory_early pattern_file patterns before before (Took-nothing before.out) (record { store = refl; sink = refl }))
+unread-words (Some (check_list patterns)) before input = Answers.stopped memory (no_memory_early pattern_file patterns before before (Took-nothing before.out) (record { store = refl; sink = refl }))
+unread-words (Some (compile_list patterns database)) before input = Answers.stopped memory (no_memory_early pattern_file patterns before before (Took-nothing before.out) (record { store = refl; sink = refl })) refl
+unread-words (Some (tell_database database)) before input = Answers.stopped memory (no_memory_early database_file database before before (Took-nothing before.out) (record { store = refl; sink = refl }))
+unread-words (Some (scan_file database file)) before input = Answers.stopped memory (no_memory_early database_file database before before (Took-nothing before.out) (record { store = refl; sink = refl }))
+unread-words (Some (run_script database)) before input = Answers.stopped memory (no_memory_early database_file database before before (Took-nothing before.out) (record { store = refl; sink = refl })) refl

@@ -1,16 +1,23 @@
 -- How a command ended is how it was due, where the store tells the files and no call on the outside failed.
-use Rattle.std.proofs.Common.{◌≡◌, ℕ, ◌<◌, ◌≤◌, ◌⊎◌, List, length, Option, Some, None, refl, sym, ap, ◌∙◌, subst, arith, inl, inr}
+use Rattle.std.proofs.Common.{◌≡◌, ℕ, ◌<◌, ◌≤◌, ◌⊎◌, List, length, ◌++◌, Option, Some, None, refl, sym, ap, ◌∙◌, subst, arith, length-append, inl, inr}
 use Rattle.hs_base.specs.Entries.{ListedEntry}
 use Rattle.hs_base.specs.Patterns.{Pattern}
 use Rattle.hs_outside.specs.Counts.{Rose}
+use Rattle.hs_outside.specs.Source.{Gave, IsWhole}
 use Rattle.hs_outside.specs.Store.{Told, lacks, holds, IsFile, IsMissing, IsLonger}
-use Rattle.hs_request.specs.Requests.{Request, match_file, check_list, compile_list, tell_database, scan_file}
-use Rattle.hs_tool.specs.Commands.{ListKind, pattern_file, database_file, list_kind, list_name, scanned_name}
+use Rattle.hs_text.specs.declared.reply_lines.ScriptFault.{ScriptFault}
+use Rattle.hs_script.specs.Actions.{Action}
+use Rattle.hs_script.specs.Scripts.{IsScript}
+use Rattle.hs_script.proofs.ScriptLemmas.{script_once}
+use Rattle.hs_session.specs.Reading.{most_script}
+use Rattle.hs_request.specs.Requests.{Request, match_file, check_list, compile_list, tell_database, scan_file, run_script}
+use Rattle.hs_tool.specs.Commands.{ListKind, pattern_file, database_file, Scanned, no_bytes, file_named, script_of_input, list_kind, list_name, scanned_by}
 use Rattle.hs_tool.specs.Accepting.{IsAccepted, IsRefused}
 use Rattle.hs_scan.specs.Scanning.{greatest_offset}
-use Rattle.hs_tool.specs.Causes.{Cause, usage, absent, limit, memory}
+use Rattle.hs_tool.specs.Causes.{Cause, usage, absent, limit, script, memory}
+use Rattle.hs_tool.specs.Streaming.{IsTextOver}
 use Rattle.hs_tool.specs.Answers
-use Rattle.hs_tool.specs.Answers.{greatest_list, Outside, HasList, HasRefusedList, HasWritten, StopsList, ScanEnds, TellEnds, CompileEnds, UsageEnds, Ends, IsListDue, TellsList, IsDue, IsDueOutcome}
+use Rattle.hs_tool.specs.Answers.{greatest_list, Outside, Input, HasList, HasRefusedList, HasWritten, StopsList, ScanEnds, TellEnds, CompileEnds, StreamEnds, UsageEnds, Ends, IsListDue, TellsList, IsDue, IsDueOutcome}
 use Rattle.hs_tool.proofs.OnceLemmas.{accepted-refused, refused_once}
 
 -- ---- what is told of a file that is missing, there or longer than its limit
@@ -72,82 +79,158 @@ stopped-told due (Answers.no_memory none) tells quiet = inr refl
 -- ---- the commands
 
 -- a command whose list isn't loaded
-due-stopped : (request : Request) (before now : Outside) (cause : Cause) → StopsList (list_kind request) (list_name request) (before.told (list_name request)) before.stored now.stored cause → IsDueOutcome (Some request) before now (Some cause)
-due-stopped request before now cause stops due (Answers.unloaded _ other is) quiet still = stopped-due stops is quiet
-due-stopped request before now cause stops due (Answers.no_file _ file scans tells gone) quiet still = stopped-told due stops tells quiet
-due-stopped request before now cause stops due (Answers.long_file _ file contents scans tells there longer) quiet still = stopped-told due stops tells quiet
-due-stopped request before now cause stops due (Answers.whole _ file contents scans tells there fits) quiet still = stopped-told due stops tells quiet
-due-stopped request before now cause stops due (Answers.loaded _ scans tells) quiet still = stopped-told due stops tells quiet
+due-stopped : (request : Request) (before now : Outside) (input inputs : Input) (cause : Cause) → StopsList (list_kind request) (list_name request) (before.told (list_name request)) before.stored now.stored cause → IsDueOutcome (Some request) before now input inputs (Some cause)
+due-stopped request before now input inputs cause stops due (Answers.unloaded _ other is) quiet still reads = stopped-due stops is quiet
+due-stopped request before now input inputs cause stops due (Answers.no_file _ file scans tells gone) quiet still reads = stopped-told due stops tells quiet
+due-stopped request before now input inputs cause stops due (Answers.long_file _ file contents scans tells there longer) quiet still reads = stopped-told due stops tells quiet
+due-stopped request before now input inputs cause stops due (Answers.whole _ file contents scans tells there fits) quiet still reads = stopped-told due stops tells quiet
+due-stopped request before now input inputs cause stops due (Answers.whole_script _ bytes actions scans tells gives within is') quiet still reads = stopped-told due stops tells quiet
+due-stopped request before now input inputs cause stops due (Answers.faulty_script _ bytes actions fault scans tells gives within is') quiet still reads = stopped-told due stops tells quiet
+due-stopped request before now input inputs cause stops due (Answers.loaded _ scans tells) quiet still reads = stopped-told due stops tells quiet
 
 -- one file is scanned
-same-name : {file other : List ℕ} → Some file ≡ Some other → file ≡ other
+same-name : {file other : List ℕ} → file_named file ≡ file_named other → file ≡ other
 same-name e = cc
 
-none-some : {file : List ℕ} → Some file ≡ None → ⊥
-none-some e = cc
+file-none : {file : List ℕ} → file_named file ≡ no_bytes → ⊥
+file-none e = cc
+
+file-script : {file : List ℕ} → file_named file ≡ script_of_input → ⊥
+file-script e = cc
+
+script-none : script_of_input ≡ no_bytes → ⊥
+script-none e = cc
 
 -- a command that scans a file
-due-scanned : (request : Request) (file : List ℕ) (before now : Outside) (entries : List ListedEntry) (P : List Pattern) → scanned_name request ≡ Some file → HasList (list_kind request) (before.told (list_name request)) entries P → HasWritten (before.told file) P before.out now.out → IsDueOutcome (Some request) before now None
-due-scanned request file before now entries P scans has written due (Answers.unloaded _ other is) quiet still = absurd (list-due has is)
-due-scanned request file before now entries P scans has written due (Answers.no_file _ other scans' tells gone) quiet still =
+due-scanned : (request : Request) (file : List ℕ) (before now : Outside) (input inputs : Input) (entries : List ListedEntry) (P : List Pattern) → scanned_by request ≡ file_named file → HasList (list_kind request) (before.told (list_name request)) entries P → HasWritten (before.told file) P before.out now.out → IsDueOutcome (Some request) before now input inputs None
+due-scanned request file before now input inputs entries P scans has written due (Answers.unloaded _ other is) quiet still reads = absurd (list-due has is)
+due-scanned request file before now input inputs entries P scans has written due (Answers.no_file _ other scans' tells gone) quiet still reads =
     absurd (lacks-file _ (ap before.told (same-name (sym scans ∙ scans')) ∙ gone) written.file)
-due-scanned request file before now entries P scans has written due (Answers.long_file _ other contents scans' tells there longer) quiet still =
+due-scanned request file before now input inputs entries P scans has written due (Answers.long_file _ other contents scans' tells there longer) quiet still reads =
     absurd (too_long _ _ (ap before.told (same-name (sym scans ∙ scans')) ∙ there) written.file written.within longer)
-due-scanned request file before now entries P scans has written due (Answers.whole _ other contents scans' tells there fits) quiet still = inl refl
-due-scanned request file before now entries P scans has written due (Answers.loaded _ scans' tells) quiet still = inl refl
+due-scanned request file before now input inputs entries P scans has written due (Answers.whole _ other contents scans' tells there fits) quiet still reads = inl refl
+due-scanned request file before now input inputs entries P scans has written due (Answers.whole_script _ bytes actions scans' tells gives within is') quiet still reads = absurd (file-script (sym scans ∙ scans'))
+due-scanned request file before now input inputs entries P scans has written due (Answers.faulty_script _ bytes actions fault scans' tells gives within is') quiet still reads = absurd (file-script (sym scans ∙ scans'))
+due-scanned request file before now input inputs entries P scans has written due (Answers.loaded _ scans' tells) quiet still reads = inl refl
 
-due-no_file : (request : Request) (file : List ℕ) (before now : Outside) (entries : List ListedEntry) (P : List Pattern) → scanned_name request ≡ Some file → HasList (list_kind request) (before.told (list_name request)) entries P → IsMissing (before.told file) → IsDueOutcome (Some request) before now (Some (absent file))
-due-no_file request file before now entries P scans has missing due (Answers.unloaded _ other is) quiet still = absurd (list-due has is)
-due-no_file request file before now entries P scans has missing due (Answers.no_file _ other scans' tells gone) quiet still = inl (ap (λ f. Some (absent f)) (same-name (sym scans ∙ scans')))
-due-no_file request file before now entries P scans has missing due (Answers.long_file _ other contents scans' tells there longer) quiet still =
+due-no_file : (request : Request) (file : List ℕ) (before now : Outside) (input inputs : Input) (entries : List ListedEntry) (P : List Pattern) → scanned_by request ≡ file_named file → HasList (list_kind request) (before.told (list_name request)) entries P → IsMissing (before.told file) → IsDueOutcome (Some request) before now input inputs (Some (absent file))
+due-no_file request file before now input inputs entries P scans has missing due (Answers.unloaded _ other is) quiet still reads = absurd (list-due has is)
+due-no_file request file before now input inputs entries P scans has missing due (Answers.no_file _ other scans' tells gone) quiet still reads = inl (ap (λ f. Some (absent f)) (same-name (sym scans ∙ scans')))
+due-no_file request file before now input inputs entries P scans has missing due (Answers.long_file _ other contents scans' tells there longer) quiet still reads =
     absurd (holds-missing (ap before.told (same-name (sym scans ∙ scans')) ∙ there) missing)
-due-no_file request file before now entries P scans has missing due (Answers.whole _ other contents scans' tells there fits) quiet still =
+due-no_file request file before now input inputs entries P scans has missing due (Answers.whole _ other contents scans' tells there fits) quiet still reads =
     absurd (holds-missing (ap before.told (same-name (sym scans ∙ scans')) ∙ there) missing)
-due-no_file request file before now entries P scans has missing due (Answers.loaded _ scans' tells) quiet still = absurd (none-some (sym scans ∙ scans'))
+due-no_file request file before now input inputs entries P scans has missing due (Answers.whole_script _ bytes actions scans' tells gives within is') quiet still reads = absurd (file-script (sym scans ∙ scans'))
+due-no_file request file before now input inputs entries P scans has missing due (Answers.faulty_script _ bytes actions fault scans' tells gives within is') quiet still reads = absurd (file-script (sym scans ∙ scans'))
+due-no_file request file before now input inputs entries P scans has missing due (Answers.loaded _ scans' tells) quiet still reads = absurd (file-none (sym scans ∙ scans'))
 
-due-long_file : (request : Request) (file : List ℕ) (before now : Outside) (entries : List ListedEntry) (P : List Pattern) → scanned_name request ≡ Some file → HasList (list_kind request) (before.told (list_name request)) entries P → IsLonger (before.told file) greatest_offset → IsDueOutcome (Some request) before now (Some limit)
-due-long_file request file before now entries P scans has more due (Answers.unloaded _ other is) quiet still = absurd (list-due has is)
-due-long_file request file before now entries P scans has more due (Answers.no_file _ other scans' tells gone) quiet still =
+due-long_file : (request : Request) (file : List ℕ) (before now : Outside) (input inputs : Input) (entries : List ListedEntry) (P : List Pattern) → scanned_by request ≡ file_named file → HasList (list_kind request) (before.told (list_name request)) entries P → IsLonger (before.told file) greatest_offset → IsDueOutcome (Some request) before now input inputs (Some limit)
+due-long_file request file before now input inputs entries P scans has more due (Answers.unloaded _ other is) quiet still reads = absurd (list-due has is)
+due-long_file request file before now input inputs entries P scans has more due (Answers.no_file _ other scans' tells gone) quiet still reads =
     absurd (lacks-longer _ (ap before.told (same-name (sym scans ∙ scans')) ∙ gone) more)
-due-long_file request file before now entries P scans has more due (Answers.long_file _ other contents scans' tells there longer) quiet still = inl refl
-due-long_file request file before now entries P scans has more due (Answers.whole _ other contents scans' tells there fits) quiet still =
+due-long_file request file before now input inputs entries P scans has more due (Answers.long_file _ other contents scans' tells there longer) quiet still reads = inl refl
+due-long_file request file before now input inputs entries P scans has more due (Answers.whole _ other contents scans' tells there fits) quiet still reads =
     absurd (short _ (ap before.told (same-name (sym scans ∙ scans')) ∙ there) fits more)
-due-long_file request file before now entries P scans has more due (Answers.loaded _ scans' tells) quiet still = absurd (none-some (sym scans ∙ scans'))
+due-long_file request file before now input inputs entries P scans has more due (Answers.whole_script _ bytes actions scans' tells gives within is') quiet still reads = absurd (file-script (sym scans ∙ scans'))
+due-long_file request file before now input inputs entries P scans has more due (Answers.faulty_script _ bytes actions fault scans' tells gives within is') quiet still reads = absurd (file-script (sym scans ∙ scans'))
+due-long_file request file before now input inputs entries P scans has more due (Answers.loaded _ scans' tells) quiet still reads = absurd (file-none (sym scans ∙ scans'))
 
-due-scan : (request : Request) (file : List ℕ) (before now : Outside) (outcome : Option Cause) → scanned_name request ≡ Some file → ScanEnds (list_kind request) (list_name request) file before now outcome → IsDueOutcome (Some request) before now outcome
-due-scan request file before now _ scans (Answers.done entries P has written none) = due-scanned request file before now entries P scans has written
-due-scan request file before now _ scans (Answers.stopped cause early) = due-stopped request before now cause early.stops
-due-scan request file before now _ scans (Answers.no_file entries P has missing nothing none) = due-no_file request file before now entries P scans has missing
-due-scan request file before now _ scans (Answers.file_failed entries P has begun rose) = λ due is quiet still. absurd (quiet rose)
-due-scan request file before now _ scans (Answers.long_file entries P has longer begun none) = due-long_file request file before now entries P scans has longer
-due-scan request file before now _ scans (Answers.sink_failed entries P has begun rose) = λ due is quiet still. absurd (still rose)
+due-scan : (request : Request) (file : List ℕ) (before now : Outside) (input inputs : Input) (outcome : Option Cause) → scanned_by request ≡ file_named file → ScanEnds (list_kind request) (list_name request) file before now outcome → IsDueOutcome (Some request) before now input inputs outcome
+due-scan request file before now input inputs _ scans (Answers.done entries P has written none) = due-scanned request file before now input inputs entries P scans has written
+due-scan request file before now input inputs _ scans (Answers.stopped cause early) = due-stopped request before now input inputs cause early.stops
+due-scan request file before now input inputs _ scans (Answers.no_file entries P has missing nothing none) = due-no_file request file before now input inputs entries P scans has missing
+due-scan request file before now input inputs _ scans (Answers.file_failed entries P has begun rose) = λ due is quiet still reads. absurd (quiet rose)
+due-scan request file before now input inputs _ scans (Answers.long_file entries P has longer begun none) = due-long_file request file before now input inputs entries P scans has longer
+due-scan request file before now input inputs _ scans (Answers.sink_failed entries P has begun rose) = λ due is quiet still reads. absurd (still rose)
 
 -- a command that scans none, and is done
-due-loaded : (request : Request) (before now : Outside) (entries : List ListedEntry) (P : List Pattern) → scanned_name request ≡ None → HasList (list_kind request) (before.told (list_name request)) entries P → IsDueOutcome (Some request) before now None
-due-loaded request before now entries P scans has due (Answers.unloaded _ other is) quiet still = absurd (list-due has is)
-due-loaded request before now entries P scans has due (Answers.no_file _ other scans' tells gone) quiet still = absurd (none-some (sym scans' ∙ scans))
-due-loaded request before now entries P scans has due (Answers.long_file _ other contents scans' tells there longer) quiet still = absurd (none-some (sym scans' ∙ scans))
-due-loaded request before now entries P scans has due (Answers.whole _ other contents scans' tells there fits) quiet still = inl refl
-due-loaded request before now entries P scans has due (Answers.loaded _ scans' tells) quiet still = inl refl
+due-loaded : (request : Request) (before now : Outside) (input inputs : Input) (entries : List ListedEntry) (P : List Pattern) → scanned_by request ≡ no_bytes → HasList (list_kind request) (before.told (list_name request)) entries P → IsDueOutcome (Some request) before now input inputs None
+due-loaded request before now input inputs entries P scans has due (Answers.unloaded _ other is) quiet still reads = absurd (list-due has is)
+due-loaded request before now input inputs entries P scans has due (Answers.no_file _ other scans' tells gone) quiet still reads = absurd (file-none (sym scans' ∙ scans))
+due-loaded request before now input inputs entries P scans has due (Answers.long_file _ other contents scans' tells there longer) quiet still reads = absurd (file-none (sym scans' ∙ scans))
+due-loaded request before now input inputs entries P scans has due (Answers.whole _ other contents scans' tells there fits) quiet still reads = inl refl
+due-loaded request before now input inputs entries P scans has due (Answers.whole_script _ bytes actions scans' tells gives within is') quiet still reads = absurd (script-none (sym scans' ∙ scans))
+due-loaded request before now input inputs entries P scans has due (Answers.faulty_script _ bytes actions fault scans' tells gives within is') quiet still reads = absurd (script-none (sym scans' ∙ scans))
+due-loaded request before now input inputs entries P scans has due (Answers.loaded _ scans' tells) quiet still reads = inl refl
 
-due-tell : (IsText : List ListedEntry → List ℕ → Type 0) (request : Request) (before now : Outside) (outcome : Option Cause) → scanned_name request ≡ None → TellEnds IsText (list_kind request) (list_name request) before now outcome → IsDueOutcome (Some request) before now outcome
-due-tell IsText request before now _ scans (Answers.done entries P text has is taken none) = due-loaded request before now entries P scans has
-due-tell IsText request before now _ scans (Answers.stopped cause early) = due-stopped request before now cause early.stops
-due-tell IsText request before now _ scans (Answers.sink_failed entries P text has is taken rose) = λ due is quiet still. absurd (still rose)
+due-tell : (IsText : List ListedEntry → List ℕ → Type 0) (request : Request) (before now : Outside) (input inputs : Input) (outcome : Option Cause) → scanned_by request ≡ no_bytes → TellEnds IsText (list_kind request) (list_name request) before now outcome → IsDueOutcome (Some request) before now input inputs outcome
+due-tell IsText request before now input inputs _ scans (Answers.done entries P text has is taken none) = due-loaded request before now input inputs entries P scans has
+due-tell IsText request before now input inputs _ scans (Answers.stopped cause early) = due-stopped request before now input inputs cause early.stops
+due-tell IsText request before now input inputs _ scans (Answers.sink_failed entries P text has is taken rose) = λ due is quiet still reads. absurd (still rose)
 
-due-compile : (patterns database : List ℕ) (before now : Outside) (outcome : Option Cause) → CompileEnds patterns database before now outcome → IsDueOutcome (Some (compile_list patterns database)) before now outcome
-due-compile patterns database before now _ (Answers.done entries P bytes has is put taken none) = due-loaded (compile_list patterns database) before now entries P refl has
-due-compile patterns database before now _ (Answers.stopped cause early kept) = due-stopped (compile_list patterns database) before now cause early.stops
-due-compile patterns database before now _ (Answers.put_failed entries P has spoils nothing rose) = λ due is quiet still. absurd (quiet rose)
-due-compile patterns database before now _ (Answers.sink_failed entries P bytes has is put taken rose) = λ due is quiet still. absurd (still rose)
+due-compile : (patterns database : List ℕ) (before now : Outside) (input inputs : Input) (outcome : Option Cause) → CompileEnds patterns database before now outcome → IsDueOutcome (Some (compile_list patterns database)) before now input inputs outcome
+due-compile patterns database before now input inputs _ (Answers.done entries P bytes has is put taken none) = due-loaded (compile_list patterns database) before now input inputs entries P refl has
+due-compile patterns database before now input inputs _ (Answers.stopped cause early kept) = due-stopped (compile_list patterns database) before now input inputs cause early.stops
+due-compile patterns database before now input inputs _ (Answers.put_failed entries P has spoils nothing rose) = λ due is quiet still reads. absurd (quiet rose)
+due-compile patterns database before now input inputs _ (Answers.sink_failed entries P bytes has is put taken rose) = λ due is quiet still reads. absurd (still rose)
 
-due-usage : (before now : Outside) (outcome : Option Cause) → UsageEnds before now outcome → IsDueOutcome None before now outcome
-due-usage before now outcome ends due Answers.no_command quiet still = ends.cause
+-- ---- the script of the input
 
-pub due_outcome : (request : Option Request) (before now : Outside) (outcome : Option Cause) → Ends request before now outcome → IsDueOutcome request before now outcome
-due_outcome None before now outcome ends = due-usage before now outcome ends
-due_outcome (Some (match_file patterns file)) before now outcome ends = due-scan (match_file patterns file) file before now outcome refl ends
-due_outcome (Some (check_list patterns)) before now outcome ends = due-tell _ (check_list patterns) before now outcome refl ends
-due_outcome (Some (compile_list patterns database)) before now outcome ends = due-compile patterns database before now outcome ends
-due_outcome (Some (tell_database database)) before now outcome ends = due-tell _ (tell_database database) before now outcome refl ends
-due_outcome (Some (scan_file database file)) before now outcome ends = due-scan (scan_file database file) file before now outcome refl ends
+-- the whole script is the one that the source told
+whole-told : {left : Option (List ℕ)} {bytes : List ℕ} (other : List ℕ) → left ≡ Some bytes → IsWhole left other → bytes ≡ other
+whole-told other same whole = subst (λ l. IsWhole l other) same whole
+
+-- no more was given than the source had
+given-within : (left lefts : Option (List ℕ)) (bytes taken : List ℕ) → left ≡ Some bytes → Gave left lefts taken → length taken ≤ length bytes
+given-within left None bytes taken same gave = absurd (subst (λ l. Gave l None taken) same gave)
+given-within left (Some rest) bytes taken same gave =
+    let split : bytes ≡ taken ++ rest = subst (λ l. Gave l (Some rest) taken) same gave in
+    let count = ap length split in omega (arith, count, length-append taken rest)
+
+too_many : (left lefts : Option (List ℕ)) (bytes taken : List ℕ) → left ≡ Some bytes → Gave left lefts taken → most_script ≤ length taken → length bytes < most_script → ⊥
+too_many left lefts bytes taken gives gave long within = let count = given-within left lefts bytes taken gives gave in omega arith
+
+-- it ends in one way
+same-ending : {P : List Pattern} {left : Option (List ℕ)} {ending other : Option ScriptFault} {text bytes : List ℕ} {actions : List Action} → IsTextOver P left ending text → left ≡ Some bytes → IsScript 1 bytes actions other → ending ≡ other
+same-ending {other = other} {actions = actions} over gives is =
+    sym over.run.is ∙ (script_once over.run.run.script (subst (λ b. IsScript 1 b actions other) (whole-told over.bytes gives over.whole) is)).same_ending
+
+-- the outcome of a script that ends so
+outcome_of_ending : Option ScriptFault → Option Cause
+outcome_of_ending None = None
+outcome_of_ending (Some fault) = Some (script fault)
+
+script-file : {file : List ℕ} → script_of_input ≡ file_named file → ⊥
+script-file e = cc
+
+-- a script that was run to its end or its fault
+due-served : (database : List ℕ) (before now : Outside) (input inputs : Input) (entries : List ListedEntry) (P : List Pattern) (ending : Option ScriptFault) (text : List ℕ) → HasList database_file (before.told database) entries P → IsTextOver P input.left ending text → IsDueOutcome (Some (run_script database)) before now input inputs (outcome_of_ending ending)
+due-served database before now input inputs entries P ending text has over due (Answers.unloaded _ other is) quiet still reads = absurd (list-due has is)
+due-served database before now input inputs entries P ending text has over due (Answers.no_file _ file scans tells gone) quiet still reads = absurd (script-file scans)
+due-served database before now input inputs entries P ending text has over due (Answers.long_file _ file contents scans tells there longer) quiet still reads = absurd (script-file scans)
+due-served database before now input inputs entries P ending text has over due (Answers.whole _ file contents scans tells there fits) quiet still reads = absurd (script-file scans)
+due-served database before now input inputs entries P ending text has over due (Answers.whole_script _ bytes actions scans tells gives within is) quiet still reads = inl (ap outcome_of_ending (same-ending over gives is))
+due-served database before now input inputs entries P ending text has over due (Answers.faulty_script _ bytes actions fault scans tells gives within is) quiet still reads = inl (ap outcome_of_ending (same-ending over gives is))
+due-served database before now input inputs entries P ending text has over due (Answers.loaded _ scans tells) quiet still reads = absurd (script-none scans)
+
+-- one that is too long
+due-long_script : (database : List ℕ) (before now : Outside) (input inputs : Input) (entries : List ListedEntry) (P : List Pattern) (taken : List ℕ) → HasList database_file (before.told database) entries P → Gave input.left inputs.left taken → most_script ≤ length taken → IsDueOutcome (Some (run_script database)) before now input inputs (Some limit)
+due-long_script database before now input inputs entries P taken has gave long due (Answers.unloaded _ other is) quiet still reads = absurd (list-due has is)
+due-long_script database before now input inputs entries P taken has gave long due (Answers.no_file _ file scans tells gone) quiet still reads = absurd (script-file scans)
+due-long_script database before now input inputs entries P taken has gave long due (Answers.long_file _ file contents scans tells there longer) quiet still reads = absurd (script-file scans)
+due-long_script database before now input inputs entries P taken has gave long due (Answers.whole _ file contents scans tells there fits) quiet still reads = absurd (script-file scans)
+due-long_script database before now input inputs entries P taken has gave long due (Answers.whole_script _ bytes actions scans tells gives within is) quiet still reads =
+    absurd (too_many input.left inputs.left bytes taken gives gave long within)
+due-long_script database before now input inputs entries P taken has gave long due (Answers.faulty_script _ bytes actions fault scans tells gives within is) quiet still reads =
+    absurd (too_many input.left inputs.left bytes taken gives gave long within)
+due-long_script database before now input inputs entries P taken has gave long due (Answers.loaded _ scans tells) quiet still reads = absurd (script-none scans)
+
+due-stream : (database : List ℕ) (before now : Outside) (input inputs : Input) (outcome : Option Cause) → StreamEnds database before now input inputs outcome → IsDueOutcome (Some (run_script database)) before now input inputs outcome
+due-stream database before now input inputs _ (Answers.done entries P has served end none still') = due-served database before now input inputs entries P None served.text has served.over
+due-stream database before now input inputs _ (Answers.faulty entries P fault has served none still') = due-served database before now input inputs entries P (Some fault) served.text has served.over
+due-stream database before now input inputs _ (Answers.stopped cause early same) = due-stopped (run_script database) before now input inputs cause early.stops
+due-stream database before now input inputs _ (Answers.source_failed entries P bytes has answered none rose) = λ due is quiet still reads. absurd (reads tt rose)
+due-stream database before now input inputs _ (Answers.long_script entries P bytes has answered long none still') = due-long_script database before now input inputs entries P bytes has answered.given long
+due-stream database before now input inputs _ (Answers.sink_failed entries P has begun rose) = λ due is quiet still reads. absurd (still rose)
+
+due-usage : (before now : Outside) (input inputs : Input) (outcome : Option Cause) → UsageEnds before now outcome → IsDueOutcome None before now input inputs outcome
+due-usage before now input inputs outcome ends due Answers.no_command quiet still reads = ends.cause
+
+pub due_outcome : (request : Option Request) (before now : Outside) (input inputs : Input) (outcome : Option Cause) → Ends request before now input inputs outcome → IsDueOutcome request before now input inputs outcome
+due_outcome None before now input inputs outcome ends = due-usage before now input inputs outcome ends
+due_outcome (Some (match_file patterns file)) before now input inputs outcome ends = due-scan (match_file patterns file) file before now input inputs outcome refl ends
+due_outcome (Some (check_list patterns)) before now input inputs outcome ends = due-tell _ (check_list patterns) before now input inputs outcome refl ends
+due_outcome (Some (compile_list patterns database)) before now input inputs outcome ends = due-compile patterns database before now input inputs outcome ends
+due_outcome (Some (tell_database database)) before now input inputs outcome ends = due-tell _ (tell_database database) before now input inputs outcome refl ends
+due_outcome (Some (scan_file database file)) before now input inputs outcome ends = due-scan (scan_file database file) file before now input inputs outcome refl ends
+due_outcome (Some (run_script database)) before now input inputs outcome ends = due-stream database before now input inputs outcome ends

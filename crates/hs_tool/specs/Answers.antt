@@ -6,15 +6,21 @@ use Rattle.hs_base.specs.Patterns.{Pattern}
 use Rattle.hs_base.specs.Settling.{AreRising}
 use Rattle.hs_base.specs.MatchText.{IsMatchText}
 use Rattle.hs_outside.specs.Counts.{Rose}
+use Rattle.hs_outside.specs.Source.{IsAtEnd}
 use Rattle.hs_outside.specs.Sink.{Took, TookPrefix}
 use Rattle.hs_outside.specs.Store.{Told, lacks, holds, IsFile, IsLonger, IsMissing, PutsOrHides, Spoils, KeepsOthers, TellsNothing}
+use Rattle.hs_text.specs.declared.reply_lines.ScriptFault.{ScriptFault}
 use Rattle.hs_text.specs.AnswerLines.{accepted_line, compiled_line, info_lines}
 use Rattle.hs_dbfile.specs.Files.{IsDatabaseFile}
-use Rattle.hs_request.specs.Requests.{Request, match_file, check_list, compile_list, tell_database, scan_file}
-use Rattle.hs_tool.specs.Commands.{ListKind, pattern_file, database_file, list_kind, list_name, scanned_name}
+use Rattle.hs_request.specs.Requests.{Request, match_file, check_list, compile_list, tell_database, scan_file, run_script}
+use Rattle.hs_script.specs.Actions.{Action}
+use Rattle.hs_script.specs.Scripts.{IsScript}
+use Rattle.hs_session.specs.Reading.{most_script}
+use Rattle.hs_tool.specs.Commands.{ListKind, pattern_file, database_file, list_kind, list_name, no_bytes, file_named, script_of_input, scanned_by, IsStream}
 use Rattle.hs_tool.specs.Accepting.{IsAccepted, IsRefused}
 use Rattle.hs_scan.specs.Scanning.{greatest_offset}
-use Rattle.hs_tool.specs.Causes.{Cause, usage, write, store, absent, limit, memory, status_of, line_of}
+use Rattle.hs_tool.specs.Causes.{Cause, usage, read, write, store, absent, limit, script, memory, status_of, line_of}
+use Rattle.hs_tool.specs.Streaming.{IsTextOver, HasServed, HasAnswered, HasBegunAnswers}
 
 -- the greatest length of a pattern file or a database file, 2^31 bytes
 abbrev pub greatest_list : ℕ
@@ -26,6 +32,11 @@ pub record Outside : Type 0 where
   pub stored : ℕ
   pub out : Option (List ℕ)
   pub sunk : ℕ
+
+-- the input at one moment: the bytes that the source has left, where it tells them, and its count of faults
+pub record Input : Type 0 where
+  pub left : Option (List ℕ)
+  pub faults : ℕ
 
 -- no call on the store or the sink failed
 pub record NoFault (before now : Outside) : Type 0 where
@@ -116,6 +127,15 @@ pub data CompileEnds (patterns database : List ℕ) (before now : Outside) : Opt
   put_failed : (entries : List ListedEntry) (P : List Pattern) → HasList pattern_file (before.told patterns) entries P → Spoils before.told now.told database → TookNothing before now → Rose before.stored now.stored → CompileEnds patterns database before now (Some store)
   sink_failed : (entries : List ListedEntry) (P : List Pattern) (bytes : List ℕ) → HasList pattern_file (before.told patterns) entries P → IsDatabaseFile bytes entries → PutsOrHides before.told now.told database bytes → TookPrefix before.out now.out (compiled_line (length entries) (length bytes)) → Rose before.sunk now.sunk → CompileEnds patterns database before now (Some write)
 
+-- How `stream DB` may end. Where the script has a fault, its line is the last of the text.
+pub data StreamEnds (database : List ℕ) (before now : Outside) (input inputs : Input) : Option Cause → Type 0 where
+  done : (entries : List ListedEntry) (P : List Pattern) → HasList database_file (before.told database) entries P → HasServed P None input.left inputs.left before.out now.out → IsAtEnd inputs.left → NoFault before now → inputs.faults ≡ input.faults → StreamEnds database before now input inputs None
+  faulty : (entries : List ListedEntry) (P : List Pattern) (fault : ScriptFault) → HasList database_file (before.told database) entries P → HasServed P (Some fault) input.left inputs.left before.out now.out → NoFault before now → inputs.faults ≡ input.faults → StreamEnds database before now input inputs (Some (script fault))
+  stopped : (cause : Cause) → StopsEarly database_file database before now cause → inputs ≡ input → StreamEnds database before now input inputs (Some cause)
+  source_failed : (entries : List ListedEntry) (P : List Pattern) (bytes : List ℕ) → HasList database_file (before.told database) entries P → HasAnswered P bytes input.left inputs.left before.out now.out → NoFault before now → Rose input.faults inputs.faults → StreamEnds database before now input inputs (Some read)
+  long_script : (entries : List ListedEntry) (P : List Pattern) (bytes : List ℕ) → HasList database_file (before.told database) entries P → HasAnswered P bytes input.left inputs.left before.out now.out → most_script ≤ length bytes → NoFault before now → inputs.faults ≡ input.faults → StreamEnds database before now input inputs (Some limit)
+  sink_failed : (entries : List ListedEntry) (P : List Pattern) → HasList database_file (before.told database) entries P → HasBegunAnswers P input.left inputs.left before.out now.out → Rose before.sunk now.sunk → StreamEnds database before now input inputs (Some write)
+
 -- How the program may end where the words are no command: it says so, or memory was wanted to read them.
 pub record UsageEnds (before now : Outside) (outcome : Option Cause) : Type 0 where
   pub cause : (outcome ≡ Some usage) ⊎ (outcome ≡ Some memory)
@@ -123,13 +143,14 @@ pub record UsageEnds (before now : Outside) (outcome : Option Cause) : Type 0 wh
   pub none : NoFault before now
 
 -- How the program may end on a command line: one case for each command.
-abbrev pub Ends : Option Request → Outside → Outside → Option Cause → Type 0
-Ends None before now outcome = UsageEnds before now outcome
-Ends (Some (match_file patterns file)) before now outcome = ScanEnds pattern_file patterns file before now outcome
-Ends (Some (check_list patterns)) before now outcome = TellEnds IsAcceptedText pattern_file patterns before now outcome
-Ends (Some (compile_list patterns database)) before now outcome = CompileEnds patterns database before now outcome
-Ends (Some (tell_database database)) before now outcome = TellEnds IsInfoText database_file database before now outcome
-Ends (Some (scan_file database file)) before now outcome = ScanEnds database_file database file before now outcome
+abbrev pub Ends : Option Request → Outside → Outside → Input → Input → Option Cause → Type 0
+Ends None before now input inputs outcome = UsageEnds before now outcome
+Ends (Some (match_file patterns file)) before now input inputs outcome = ScanEnds pattern_file patterns file before now outcome
+Ends (Some (check_list patterns)) before now input inputs outcome = TellEnds IsAcceptedText pattern_file patterns before now outcome
+Ends (Some (compile_list patterns database)) before now input inputs outcome = CompileEnds patterns database before now outcome
+Ends (Some (tell_database database)) before now input inputs outcome = TellEnds IsInfoText database_file database before now outcome
+Ends (Some (scan_file database file)) before now input inputs outcome = ScanEnds database_file database file before now outcome
+Ends (Some (run_script database)) before now input inputs outcome = StreamEnds database before now input inputs outcome
 
 -- The files are as they were, but for the one that `compile` puts; with its put a store may stop telling of any.
 abbrev pub KeepsFiles : Option Request → (List ℕ → Told) → (List ℕ → Told) → Type 0
@@ -153,22 +174,26 @@ pub record TellsList (kind : ListKind) (told : Told) : Type 0 where
   pub within : length bytes ≤ greatest_list
   pub accepted : IsAccepted kind bytes entries patterns
 
--- Where the store tells the files that the words name, one answer is due, in this order of causes.
-pub data IsDue (told : List ℕ → Told) : Option Request → Option Cause → Type 0 where
-  no_command : IsDue told None (Some usage)
+-- Where the store tells the files that the words name, and the source the script where one is run, one answer is due, in
+-- this order of causes.
+pub data IsDue (told : List ℕ → Told) (left : Option (List ℕ)) : Option Request → Option Cause → Type 0 where
+  no_command : IsDue told left None (Some usage)
   -- the list
-  unloaded : (request : Request) (cause : Cause) → IsListDue (list_kind request) (list_name request) (told (list_name request)) cause → IsDue told (Some request) (Some cause)
+  unloaded : (request : Request) (cause : Cause) → IsListDue (list_kind request) (list_name request) (told (list_name request)) cause → IsDue told left (Some request) (Some cause)
   -- the file that is scanned
-  no_file : (request : Request) (file : List ℕ) → scanned_name request ≡ Some file → TellsList (list_kind request) (told (list_name request)) → told file ≡ lacks → IsDue told (Some request) (Some (absent file))
-  long_file : (request : Request) (file contents : List ℕ) → scanned_name request ≡ Some file → TellsList (list_kind request) (told (list_name request)) → told file ≡ holds contents → greatest_offset < length contents → IsDue told (Some request) (Some limit)
-  whole : (request : Request) (file contents : List ℕ) → scanned_name request ≡ Some file → TellsList (list_kind request) (told (list_name request)) → told file ≡ holds contents → length contents ≤ greatest_offset → IsDue told (Some request) None
-  -- no file is scanned
-  loaded : (request : Request) → scanned_name request ≡ None → TellsList (list_kind request) (told (list_name request)) → IsDue told (Some request) None
+  no_file : (request : Request) (file : List ℕ) → scanned_by request ≡ file_named file → TellsList (list_kind request) (told (list_name request)) → told file ≡ lacks → IsDue told left (Some request) (Some (absent file))
+  long_file : (request : Request) (file contents : List ℕ) → scanned_by request ≡ file_named file → TellsList (list_kind request) (told (list_name request)) → told file ≡ holds contents → greatest_offset < length contents → IsDue told left (Some request) (Some limit)
+  whole : (request : Request) (file contents : List ℕ) → scanned_by request ≡ file_named file → TellsList (list_kind request) (told (list_name request)) → told file ≡ holds contents → length contents ≤ greatest_offset → IsDue told left (Some request) None
+  -- the script of the input: without a fault, or with one
+  whole_script : (request : Request) (bytes : List ℕ) (actions : List Action) → scanned_by request ≡ script_of_input → TellsList (list_kind request) (told (list_name request)) → left ≡ Some bytes → length bytes < most_script → IsScript 1 bytes actions None → IsDue told left (Some request) None
+  faulty_script : (request : Request) (bytes : List ℕ) (actions : List Action) (fault : ScriptFault) → scanned_by request ≡ script_of_input → TellsList (list_kind request) (told (list_name request)) → left ≡ Some bytes → length bytes < most_script → IsScript 1 bytes actions (Some fault) → IsDue told left (Some request) (Some (script fault))
+  -- nothing is scanned
+  loaded : (request : Request) → scanned_by request ≡ no_bytes → TellsList (list_kind request) (told (list_name request)) → IsDue told left (Some request) None
 
 -- The outcome is the one that is due, where one is and no call on the outside failed, or memory was wanted.
-abbrev pub IsDueOutcome : Option Request → Outside → Outside → Option Cause → Type 0
-IsDueOutcome request before now outcome =
-    (due : Option Cause) → IsDue before.told request due → (Rose before.stored now.stored → ⊥) → (Rose before.sunk now.sunk → ⊥) → (outcome ≡ due) ⊎ (outcome ≡ Some memory)
+abbrev pub IsDueOutcome : Option Request → Outside → Outside → Input → Input → Option Cause → Type 0
+IsDueOutcome request before now input inputs outcome =
+    (due : Option Cause) → IsDue before.told input.left request due → (Rose before.stored now.stored → ⊥) → (Rose before.sunk now.sunk → ⊥) → (IsStream request → Rose input.faults inputs.faults → ⊥) → (outcome ≡ due) ⊎ (outcome ≡ Some memory)
 
 -- ---- the program
 
@@ -178,17 +203,34 @@ pub data Tells (line : List ℕ) (before now : Option (List ℕ)) (count counted
   cut : TookPrefix before now line → Rose count counted → Tells line before now count counted
 
 -- The program's answer: its status, what it leaves, and the line that it writes are those of one outcome.
-pub record IsAnswer (request : Option Request) (before now : Outside) (err erred : Option (List ℕ)) (count counted : ℕ) (status : ℕ) : Type 0 where
+pub record IsAnswer (request : Option Request) (before now : Outside) (input inputs : Input) (err erred : Option (List ℕ)) (count counted : ℕ) (status : ℕ) : Type 0 where
   pub outcome : Option Cause
   pub ended : status ≡ status_of outcome
-  pub ends : Ends request before now outcome
-  pub due : IsDueOutcome request before now outcome
+  pub ends : Ends request before now input inputs outcome
+  pub due : IsDueOutcome request before now input inputs outcome
   pub line : Tells (line_of outcome) err erred count counted
 
 -- the statuses of the program
 abbrev pub IsStatus : ℕ → Type 0
-IsStatus status = OneOf (λ n. status ≡ n) (0 ∷ 1 ∷ 2 ∷ 3 ∷ 4 ∷ 6 ∷ 7 ∷ 8 ∷ [])
+IsStatus status = OneOf (λ n. status ≡ n) (0 ∷ 1 ∷ 2 ∷ 3 ∷ 4 ∷ 5 ∷ 6 ∷ 7 ∷ 8 ∷ [])
 
 -- the statuses with which nothing was written to the sink: wrong words, a refusal, another form, no memory, no file
 abbrev pub IsSilentStatus : ℕ → Type 0
 IsSilentStatus status = OneOf (λ n. status ≡ n) (1 ∷ 2 ∷ 4 ∷ 6 ∷ 7 ∷ [])
+
+-- the statuses with which a script was run to its end: without a fault, and with one
+abbrev pub status_of_ending : Option ScriptFault → ℕ
+status_of_ending None = 0
+status_of_ending (Some fault) = 5
+
+-- The database is accepted, the script that the source has ends so that the status is this one, and the sink took the
+-- text of a run of the machine over it.
+pub record HasRun (told : Told) (left out outs : Option (List ℕ)) (status : ℕ) : Type 0 where
+  pub entries : List ListedEntry
+  pub patterns : List Pattern
+  pub list : HasList database_file told entries patterns
+  pub ending : Option ScriptFault
+  pub ended : status ≡ status_of_ending ending
+  pub text : List ℕ
+  pub over : IsTextOver patterns left ending text
+  pub taken : Took out outs text

@@ -1,6 +1,6 @@
--- Which files the commands are about.
-use Rattle.std.specs.Prelude.{ℕ, List, Option, Some, None}
-use Rattle.hs_request.specs.Requests.{Request, match_file, check_list, compile_list, tell_database, scan_file}
+-- What the commands are about: the files that they name, and the script of the input.
+use Rattle.std.specs.Prelude.{ℕ, List, Option, Some}
+use Rattle.hs_request.specs.Requests.{Request, match_file, check_list, compile_list, tell_database, scan_file, run_script}
 use Rattle.hs_tool.specs.declared.load.ListKind.{ListKind as LoadedKind}
 use Rattle.hs_tool.specs.declared.load.ListKind.TheVariants.{Patterns, Database}
 
@@ -21,6 +21,7 @@ list_kind (check_list patterns) = pattern_file
 list_kind (compile_list patterns database) = pattern_file
 list_kind (tell_database database) = database_file
 list_kind (scan_file database file) = database_file
+list_kind (run_script database) = database_file
 
 -- the name of the file that holds the list of a command
 abbrev pub list_name : Request → List ℕ
@@ -29,11 +30,24 @@ list_name (check_list patterns) = patterns
 list_name (compile_list patterns database) = patterns
 list_name (tell_database database) = database
 list_name (scan_file database file) = database
+list_name (run_script database) = database
 
--- the name of the file that a command scans, if it scans one
-abbrev pub scanned_name : Request → Option (List ℕ)
-scanned_name (match_file patterns file) = Some file
-scanned_name (check_list patterns) = None
-scanned_name (compile_list patterns database) = None
-scanned_name (tell_database database) = None
-scanned_name (scan_file database file) = Some file
+-- what is scanned: nothing, the file of this name, or what the script of the input writes
+pub data Scanned : Type 0 where
+  no_bytes : Scanned
+  file_named : List ℕ → Scanned
+  script_of_input : Scanned
+
+-- what a command scans
+abbrev pub scanned_by : Request → Scanned
+scanned_by (match_file patterns file) = file_named file
+scanned_by (check_list patterns) = no_bytes
+scanned_by (compile_list patterns database) = no_bytes
+scanned_by (tell_database database) = no_bytes
+scanned_by (scan_file database file) = file_named file
+scanned_by (run_script database) = script_of_input
+
+-- the command is `stream`, which alone reads the input
+abbrev pub IsStream : Option Request → Type 0
+IsStream (Some (run_script database)) = Unit {0}
+IsStream request = ⊥

@@ -7,7 +7,7 @@ ghost use Rattle.hs_text.specs.AnswerLines.{form_line as line_of_form};
 
 use hs_base::{ExprId, Refusal};
 use hs_outside::{Failed, Sink, write_all};
-use hs_text::{LINE_LEN, form_line, refusal_line};
+use hs_text::{LINE_LEN, ScriptFault, form_line, refusal_line};
 
 /// Why a command wasn't done.
 #[derive(Clone, Copy, Debug)]
@@ -16,16 +16,20 @@ pub enum Fault<'a> {
     Usage,
     /// The list is refused: by a line of its file, or by the entry of this number, counted from 1.
     Refused(Option<(u32, ExprId)>, Refusal),
+    /// The source failed.
+    Read,
     /// The sink failed.
     Write,
     /// The store failed.
     Store,
     /// The store lacks the file of this name.
     Absent(&'a str),
-    /// A file is longer than its limit.
+    /// A file or the script is longer than its limit.
     Limit,
     /// The bytes aren't a database file from this place on.
     Form(u64),
+    /// The script has a fault, whose line was written among its answers.
+    Script(ScriptFault),
     /// Memory was wanted.
     Memory,
 }
@@ -43,15 +47,16 @@ impl Fault<'_> {
         match self {
             Fault::Usage => 1,
             Fault::Refused(_, _) => 2,
-            Fault::Write | Fault::Store => 3,
+            Fault::Read | Fault::Write | Fault::Store => 3,
             Fault::Form(_) => 4,
+            Fault::Script(_) => 5,
             Fault::Memory => 6,
             Fault::Absent(_) => 7,
             Fault::Limit => 8,
         }
     }
 
-    /// Writes the fault's line.
+    /// Writes the fault's line, if it has one of its own.
     pub fn tell<E: Sink>(&self, err: &mut E) -> Result<(), Failed>
         ensures told { OnOk result (Took (E.written err.old) (E.written err.new) (line_of_cause (cause_of self.now))) }
         ensures counted { OnOk result (E.faults err.new ≡ E.faults err.old) }
@@ -61,11 +66,13 @@ impl Fault<'_> {
         match self {
             Fault::Usage => write_all(err, b"fault usage\n"),
             Fault::Refused(entry, refusal) => tell_refusal(*entry, refusal, err),
+            Fault::Read => write_all(err, b"fault read\n"),
             Fault::Write => write_all(err, b"fault write\n"),
             Fault::Store => write_all(err, b"fault store\n"),
             Fault::Absent(name) => tell_absent(name, err),
             Fault::Limit => write_all(err, b"fault limit\n"),
             Fault::Form(at) => tell_form(*at, err),
+            Fault::Script(_) => Ok(()),
             Fault::Memory => write_all(err, b"fault memory\n"),
         }
     }

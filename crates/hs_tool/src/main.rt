@@ -12,6 +12,9 @@ mod info_command;
 mod list_tests;
 mod load;
 mod match_command;
+mod stream_command;
+#[cfg(test)]
+mod stream_tests;
 #[cfg(test)]
 mod tests;
 mod top;

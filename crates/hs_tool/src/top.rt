@@ -1,10 +1,11 @@
 //! The whole program over any store, source and sinks.
-ghost use Rattle.std.specs.Prelude.{◌≡◌, ◌⊎◌, [], map, string_bytes, Option, Some, None};
+ghost use Rattle.std.specs.Prelude.{◌≡◌, ◌⊎◌, ℕ, List, [], map, string_bytes, Option, Some, None};
 ghost use Rattle.hs_outside.specs.Counts.{Rose};
 ghost use Rattle.hs_outside.specs.Sink.{Took};
-ghost use Rattle.hs_request.specs.Requests.{request_of as request_of_words, plain_request};
+ghost use Rattle.hs_request.specs.Requests.{request_of as request_of_words, plain_request, run_script as run_script_of};
+ghost use Rattle.hs_tool.specs.Commands.{IsStream};
 ghost use Rattle.hs_tool.specs.Causes.{Cause, cause_of, outcome_of, status_of, status_of_cause, line_of_cause};
-ghost use Rattle.hs_tool.specs.Answers.{Ends, IsDue, KeepsFiles, Tells, IsAnswer, IsStatus, IsSilentStatus};
+ghost use Rattle.hs_tool.specs.Answers.{Ends, IsDue, KeepsFiles, Tells, IsAnswer, IsStatus, IsSilentStatus, HasRun};
 
 use crate::check_command::check_list;
 use crate::compile_command::compile_list;
@@ -12,12 +13,13 @@ use crate::fault::Fault;
 use crate::info_command::tell_database;
 use crate::load::ListKind;
 use crate::match_command::match_file;
+use crate::stream_command::run_script;
 use hs_outside::{Failed, Sink, Source, Store};
 use hs_request::{Request, request_of};
 use std::alloc::Global;
 
 /// Does what the words ask for, which begin with the program's name, and gives the status that the program ends with.
-/// What is asked for is written to `out`, a fault's line to `err`.
+/// What is asked for is written to `out`, a fault's line to `err`. Only `stream` reads from `input`.
 pub fn run<S: Store, I: Source, O: Sink, E: Sink>(
     alloc: Global,
     words: &[String],
@@ -29,32 +31,42 @@ pub fn run<S: Store, I: Source, O: Sink, E: Sink>(
     ensures answer { IsAnswer (request_of_words (map string_bytes words.now))
         (record { told = S.told store.old; stored = S.faults store.old; out = O.written out.old; sunk = O.faults out.old })
         (record { told = S.told store.new; stored = S.faults store.new; out = O.written out.new; sunk = O.faults out.new })
+        (record { left = I.left input.old; faults = I.faults input.old })
+        (record { left = I.left input.new; faults = I.faults input.new })
         (E.written err.old) (E.written err.new) (E.faults err.old) (E.faults err.new) result }
 
-    // 0 to 4 and 6 to 8, and what some of them say by themselves.
+    // 0 to 8, and what some of them say by themselves.
     ensures status { IsStatus result }
     ensures usage { result ≡ 1 → request_of_words (map string_bytes words.now) ≡ None }
     ensures no_command { request_of_words (map string_bytes words.now) ≡ None → (result ≡ 1) ⊎ (result ≡ 6) }
-    ensures fault { result ≡ 3 → Rose (S.faults store.old) (S.faults store.new) ⊎ Rose (O.faults out.old) (O.faults out.new) }
+    ensures fault { result ≡ 3 → Rose (S.faults store.old) (S.faults store.new) ⊎ (Rose (O.faults out.old) (O.faults out.new)
+        ⊎ (IsStream (request_of_words (map string_bytes words.now)) × Rose (I.faults input.old) (I.faults input.new))) }
+    ensures script { result ≡ 5 → IsStream (request_of_words (map string_bytes words.now)) }
     ensures silent { IsSilentStatus result → Took (O.written out.old) (O.written out.new) [] }
     ensures unput { IsSilentStatus result → S.told store.new ≡ S.told store.old }
+    ensures unread { IsSilentStatus result → I.left input.new ≡ I.left input.old }
 
-    // Where the store tells the files and no call on the store or on `out` failed, the status is the due one, or 6.
-    ensures complete { (due : Option Cause) → IsDue (S.told store.old) (request_of_words (map string_bytes words.now)) due
+    // Where `stream` ends with 0 or 5, `out` took the text of a run of the machine over the whole script.
+    ensures stream { (database : List ℕ) → request_of_words (map string_bytes words.now) ≡ Some (run_script_of database) → (result ≡ 0) ⊎ (result ≡ 5)
+        → HasRun (S.told store.old database) (I.left input.old) (O.written out.old) (O.written out.new) result }
+
+    // Where the store tells the files, the source the script that is run, and no call on them or on `out` failed, the
+    // status is the due one, or 6.
+    ensures complete { (due : Option Cause) → IsDue (S.told store.old) (I.left input.old) (request_of_words (map string_bytes words.now)) due
         → (Rose (S.faults store.old) (S.faults store.new) → ⊥) → (Rose (O.faults out.old) (O.faults out.new) → ⊥)
+        → (IsStream (request_of_words (map string_bytes words.now)) → Rose (I.faults input.old) (I.faults input.new) → ⊥)
         → (result ≡ status_of due) ⊎ (result ≡ 6) }
 
     ensures kept { KeepsFiles (request_of_words (map string_bytes words.now)) (S.told store.old) (S.told store.new) }
-    ensures input { input.new ≡ input.old }
+    ensures input { (IsStream (request_of_words (map string_bytes words.now)) → ⊥) → input.new ≡ input.old }
 {
-    let _ = input;
-    match perform(alloc, words, store, out) {
+    match perform(alloc, words, store, input, out) {
         Ok(()) => 0,
         Err(fault) => refuse(&fault, err),
     }
 }
 
-/// Writes the line of a fault, and gives its status.
+/// Writes the line of a fault, if it has one, and gives its status.
 pub fn refuse<E: Sink>(fault: &Fault<'_>, err: &mut E) -> u8
     ensures status { result ≡ status_of_cause (cause_of fault.now) }
     ensures line { Tells (line_of_cause (cause_of fault.now)) (E.written err.old) (E.written err.new) (E.faults err.old) (E.faults err.new) }
@@ -66,38 +78,46 @@ pub fn refuse<E: Sink>(fault: &Fault<'_>, err: &mut E) -> u8
 }
 
 /// Does what the words ask for.
-fn perform<'a, S: Store, O: Sink>(
+fn perform<'a, S: Store, I: Source, O: Sink>(
     alloc: Global,
     words: &'a [String],
     store: &mut S,
+    input: &mut I,
     out: &mut O,
 ) -> Result<(), Fault<'a>>
     ensures ends { Ends (request_of_words (map string_bytes words.now))
         (record { told = S.told store.old; stored = S.faults store.old; out = O.written out.old; sunk = O.faults out.old })
         (record { told = S.told store.new; stored = S.faults store.new; out = O.written out.new; sunk = O.faults out.new })
+        (record { left = I.left input.old; faults = I.faults input.old })
+        (record { left = I.left input.new; faults = I.faults input.new })
         (outcome_of result) }
     ensures kept { KeepsFiles (request_of_words (map string_bytes words.now)) (S.told store.old) (S.told store.new) }
+    ensures input { (IsStream (request_of_words (map string_bytes words.now)) → ⊥) → input.new ≡ input.old }
 {
     let request = match request_of(alloc, words) {
         Ok(Some(request)) => request,
         Ok(None) => return Err(Fault::Usage),
         Err(_) => return Err(Fault::Memory),
     };
-    execute(alloc, request, store, out)
+    execute(alloc, request, store, input, out)
 }
 
 /// Does what is asked for.
-fn execute<'a, S: Store, O: Sink>(
+fn execute<'a, S: Store, I: Source, O: Sink>(
     alloc: Global,
     request: Request<'a>,
     store: &mut S,
+    input: &mut I,
     out: &mut O,
 ) -> Result<(), Fault<'a>>
     ensures ends { Ends (Some (plain_request request.entry))
         (record { told = S.told store.old; stored = S.faults store.old; out = O.written out.old; sunk = O.faults out.old })
         (record { told = S.told store.new; stored = S.faults store.new; out = O.written out.new; sunk = O.faults out.new })
+        (record { left = I.left input.old; faults = I.faults input.old })
+        (record { left = I.left input.new; faults = I.faults input.new })
         (outcome_of result) }
     ensures kept { KeepsFiles (Some (plain_request request.entry)) (S.told store.old) (S.told store.new) }
+    ensures input { (IsStream (Some (plain_request request.entry)) → ⊥) → input.new ≡ input.old }
 {
     match request {
         Request::Match { patterns, file } => {
@@ -111,5 +131,6 @@ fn execute<'a, S: Store, O: Sink>(
         Request::Scan { database, file } => {
             match_file(alloc, ListKind::Database, database, file, store, out)
         }
+        Request::Stream { database } => run_script(alloc, database, store, input, out),
     }
 }

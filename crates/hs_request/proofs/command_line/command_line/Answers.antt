@@ -9,4 +9,5 @@ returns c =
     let second = line-more first c.in_ok-checking.ensures c.in_ok-subcommand-2.ensures in
     let third = line-more second c.in_ok-compiling.ensures c.in_ok-subcommand-3.ensures in
     let fourth = line-more third c.in_ok-telling.ensures c.in_ok-subcommand-4.ensures in
-    IfOk-weaker c.subcommand-5.result _ _ (λ line adds. line-more fourth c.in_ok-loading.ensures adds) c.subcommand-5.ensures
+    let fifth = line-more fourth c.in_ok-loading.ensures c.in_ok-subcommand-5.ensures in
+    IfOk-weaker c.subcommand-6.result _ _ (λ line adds. line-more fifth c.in_ok-running.ensures adds) c.subcommand-6.ensures

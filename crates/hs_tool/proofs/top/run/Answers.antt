@@ -1,10 +1,10 @@
-use Rattle.std.proofs.Common.{map, string_bytes, None, Some, refl}
+use Rattle.std.proofs.Common.{map, string_bytes, None, Some, refl, ap}
 use Rattle.hs_outside.proofs.Sending.{Took-nothing}
 use Rattle.hs_request.specs.Requests.{request_of}
 use Rattle.hs_tool.specs.Causes.{cause_of}
 use Rattle.hs_tool.specs.Answers.{told}
 use Rattle.hs_tool.proofs.DueLemmas.{due_outcome}
-use Rattle.hs_tool.proofs.StatusLemmas.{answer_status, answer_usage, answer_no_command, answer_fault, answer_silent, answer_unput, answer_complete}
+use Rattle.hs_tool.proofs.StatusLemmas.{answer_status, answer_usage, answer_no_command, answer_fault, answer_silent, answer_unput, answer_complete, answer_script, answer_unread, answer_run}
 use Rattle.hs_tool.proofs.top.run.Goals as goal
 
 pub returns-in-Ok-clause-answer : goal.returns-in-Ok-clause-answer
@@ -12,7 +12,7 @@ returns-in-Ok-clause-answer g c = record {
   outcome = None;
   ended = refl;
   ends = c.in-Ok.ensures.ends;
-  due = due_outcome (request_of (map string_bytes c.args.words.now)) _ _ None c.in-Ok.ensures.ends;
+  due = due_outcome (request_of (map string_bytes c.args.words.now)) _ _ _ _ None c.in-Ok.ensures.ends;
   line = told (Took-nothing (g.E.Sink.written c.args.err.now)) refl;
 }
 
@@ -21,7 +21,7 @@ returns-in-Err-clause-answer g c = record {
   outcome = Some (cause_of c.in-Err.fault);
   ended = c.refuse.ensures.status;
   ends = c.in-Err.ensures.ends;
-  due = due_outcome (request_of (map string_bytes c.args.words.now)) _ _ (Some (cause_of c.in-Err.fault)) c.in-Err.ensures.ends;
+  due = due_outcome (request_of (map string_bytes c.args.words.now)) _ _ _ _ (Some (cause_of c.in-Err.fault)) c.in-Err.ensures.ends;
   line = c.refuse.ensures.line;
 }
 
@@ -66,3 +66,21 @@ returns-in-Err-clause-unput g c = answer_unput (returns-in-Err-clause-answer g c
 
 pub returns-in-Err-clause-complete : goal.returns-in-Err-clause-complete
 returns-in-Err-clause-complete g c = answer_complete (returns-in-Err-clause-answer g c)
+
+pub returns-in-Ok-clause-script : goal.returns-in-Ok-clause-script
+returns-in-Ok-clause-script g c = answer_script (returns-in-Ok-clause-answer g c)
+
+pub returns-in-Ok-clause-unread : goal.returns-in-Ok-clause-unread
+returns-in-Ok-clause-unread g c = answer_unread (returns-in-Ok-clause-answer g c) (λ other. ap g.I.Source.left (c.in-Ok.ensures.input other))
+
+pub returns-in-Ok-clause-stream : goal.returns-in-Ok-clause-stream
+returns-in-Ok-clause-stream g c = answer_run (returns-in-Ok-clause-answer g c)
+
+pub returns-in-Err-clause-script : goal.returns-in-Err-clause-script
+returns-in-Err-clause-script g c = answer_script (returns-in-Err-clause-answer g c)
+
+pub returns-in-Err-clause-unread : goal.returns-in-Err-clause-unread
+returns-in-Err-clause-unread g c = answer_unread (returns-in-Err-clause-answer g c) (λ other. ap g.I.Source.left (c.in-Err.ensures.input other))
+
+pub returns-in-Err-clause-stream : goal.returns-in-Err-clause-stream
+returns-in-Err-clause-stream g c = answer_run (returns-in-Err-clause-answer g c)

@@ -1,0 +1,51 @@
+//! The command `stream DB`.
+ghost use Rattle.std.specs.Prelude.{◌≡◌};
+ghost use Rattle.hs_tool.specs.Causes.{cause_of, outcome_of};
+ghost use Rattle.hs_tool.specs.Answers.{StreamEnds};
+ghost use Rattle.hs_tool.specs.Stopping.{cause_of_stop};
+
+use crate::fault::Fault;
+use crate::load::{ListKind, load};
+use hs_outside::{Sink, Source, Store};
+use hs_session::{Break, ScriptStop, serve};
+use std::alloc::Global;
+
+/// Runs the script of the input over streams of the database file, and writes what the streams report and its commands
+/// are answered.
+pub fn run_script<'a, S: Store, I: Source, O: Sink>(
+    alloc: Global,
+    database: &'a str,
+    store: &mut S,
+    input: &mut I,
+    out: &mut O,
+) -> Result<(), Fault<'a>>
+    ensures ends { StreamEnds database.now
+        (record { told = S.told store.old; stored = S.faults store.old; out = O.written out.old; sunk = O.faults out.old })
+        (record { told = S.told store.new; stored = S.faults store.new; out = O.written out.new; sunk = O.faults out.new })
+        (record { left = I.left input.old; faults = I.faults input.old })
+        (record { left = I.left input.new; faults = I.faults input.new })
+        (outcome_of result) }
+    ensures kept { S.told store.new ≡ S.told store.old }
+{
+    let loaded = match load(alloc, ListKind::Database, database, store) {
+        Ok(loaded) => loaded,
+        Err(fault) => return Err(fault),
+    };
+    match serve(alloc, &loaded.database, input, out) {
+        Ok(()) => Ok(()),
+        Err(stop) => Err(fault_of(stop)),
+    }
+}
+
+/// The fault of a command whose script stopped.
+fn fault_of<'a>(stop: ScriptStop) -> Fault<'a>
+    ensures { cause_of result ≡ cause_of_stop stop }
+{
+    match stop {
+        ScriptStop::Fault(fault) => Fault::Script(fault),
+        ScriptStop::Broken(Break::Read) => Fault::Read,
+        ScriptStop::Broken(Break::Limit) => Fault::Limit,
+        ScriptStop::Broken(Break::Write) => Fault::Write,
+        ScriptStop::Memory => Fault::Memory,
+    }
+}
