@@ -37,10 +37,8 @@ type Broken = (
     Break,
 );
 
-/// What a list is compiled to.
-fn database_of(alloc: Global, list: &[Row]) -> Result<Database, Fail>
-    ensures { IfOk result IsUsable }
-{
+/// A list of entries without parameters.
+fn entries_of(alloc: Global, list: &[Row]) -> Result<Vec<Entry>, AllocError> {
     let mut entries = Vec::new(alloc);
     for (id, text, flags) in list {
         entries.push(Entry {
@@ -50,7 +48,16 @@ fn database_of(alloc: Global, list: &[Row]) -> Result<Database, Fail>
             text: Vec::from_slice(alloc, text.as_bytes())?,
         })?;
     }
-    Ok(compile(alloc, &entries)?)
+    Ok(entries)
+}
+
+/// What a list is compiled to.
+fn database_of(alloc: Global, list: &[Row]) -> Result<Database, Fail>
+    ensures { IfOk result IsUsable }
+{
+    let entries = entries_of(alloc, list)?;
+    let database = compile(alloc, &entries)?;
+    Ok(database)
 }
 
 /// Runs the script in pieces of a length, which gives the text and ends so.
