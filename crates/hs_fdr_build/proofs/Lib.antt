@@ -1,0 +1,4 @@
+pub mod ClearLemmas
+pub mod LiteralByteLemmas
+pub mod WidthLemmas
+pub mod ColumnLemmas

@@ -1,0 +1,104 @@
+//! The masks of literals in buckets.
+
+ghost use Rattle.std.specs.Prelude.{◌≡◌, ◌≤◌, ◌<◌, ◌+◌, ◌*◌, ◌/◌, ◌%◌, ◌^◌, ◌-◌, ◌⊎◌, ℕ, IsTrue, All, IfOk, length, map, vec_len, replicate, slice_index};
+ghost use Rattle.hs_base.specs.LiteralView.{literal_byte};
+ghost use Rattle.hs_fdr_build.specs.Clearing.{Clears, IsClear};
+ghost use Rattle.hs_fdr_build.specs.Asking.{literal_of, MayStand, IsAsked};
+ghost use Rattle.hs_fdr_build.specs.MaskPlaces.{IsPlaceOf, IsAskedPast, AreMasksOf};
+
+use crate::clear::{clear, clear_inner, clear_last};
+use hs_base::LitByte;
+use hs_fdr::PLACES;
+use std::alloc::{AllocError, Global};
+
+/// Makes the bit of a bucket 0 in the masks for the place `j` before the last byte of a literal, unless it doesn't reach
+/// that far.
+fn clear_place(masks: &mut [u8], width: u8, literal: &[LitByte], j: usize, bucket: u8)
+    requires width { (9 ≤ width) × (width ≤ 15) }
+    requires place { j < 8 }
+    requires filled { length masks.old ≡ 8 * 2 ^ width }
+    requires bucket { bucket < 8 }
+    ensures { Clears (λ place b. (b ≡ bucket) × IsPlaceOf width (map literal_byte literal.now) j place) masks.old masks.new }
+{
+    if j >= literal.len() {
+        return;
+    }
+    let last = literal.len() - 1;
+    let x = &literal[last - j];
+    if j == 0 {
+        clear_last(masks, width, x, bucket);
+    } else {
+        clear_inner(masks, width, j << width, x, &literal[last - (j - 1)], bucket);
+    }
+}
+
+/// Makes the bit of a bucket 0 in the masks for each of the last bytes of a literal.
+fn clear_literal(masks: &mut [u8], width: u8, literal: &[LitByte], bucket: u8)
+    requires width { (9 ≤ width) × (width ≤ 15) }
+    requires filled { length masks.old ≡ 8 * 2 ^ width }
+    requires bucket { bucket < 8 }
+    ensures { Clears (λ place b. (b ≡ bucket) × (j : ℕ) × (j < 8) × IsPlaceOf width (map literal_byte literal.now) j place) masks.old masks.new }
+{
+    for j in 0..PLACES {
+        clear_place(masks, width, literal, j, bucket);
+    }
+}
+
+/// Makes the bit of a bucket 0 for each place that a literal of that length doesn't reach.
+fn clear_past(past: &mut [u8; PLACES], length: usize, bucket: u8)
+    requires { bucket < 8 }
+    ensures { Clears (λ j b. (b ≡ bucket) × (length ≤ j)) past.old past.new }
+{
+    for j in 0..PLACES {
+        if length <= j {
+            clear(past, j, bucket);
+        }
+    }
+}
+
+/// For each place before the last byte a mask with a 0 for each bucket that has a literal that doesn't reach that far.
+fn past_of(literals: &[Vec<LitByte>], buckets: &[u8]) -> [u8; PLACES]
+    requires one_each { length buckets.now ≡ length literals.now }
+    requires below { All (λ b. b < 8) buckets.now }
+    ensures { Clears (λ j b. IsAskedPast (map literal_of literals.now) buckets.now b j) (replicate 8 255) result }
+{
+    let mut past = [0xFF; PLACES];
+    for number in 0..literals.len() {
+        clear_past(&mut past, literals[number].len(), buckets[number]);
+    }
+    past
+}
+
+/// As many masks as tables of that width have, each as `past` says of its place before the last byte.
+fn filled(alloc: Global, width: u8, past: &[u8; PLACES]) -> Result<Vec<u8>, AllocError>
+    requires { (9 ≤ width) × (width ≤ 15) }
+    ensures filled { IfOk result (λ masks. vec_len masks ≡ 8 * 2 ^ width) }
+    ensures each { IfOk result (λ masks. (at : ℕ) → at < 8 * 2 ^ width → slice_index masks.items at ≡ slice_index past.now (at / 2 ^ width)) }
+{
+    let count = PLACES << width;
+    let mut masks = Vec::with_capacity(alloc, count)?;
+    for at in 0..count {
+        masks.push(past[at >> width])?;
+    }
+    Ok(masks)
+}
+
+/// The masks of literals in their buckets: that of place `j` and super-character `v` is at `j * 2^width + v`.
+///
+/// # Errors
+///
+/// There may be no memory.
+pub(crate) fn masks_of(alloc: Global, width: u8, literals: &[Vec<LitByte>], buckets: &[u8]) -> Result<Vec<u8>, AllocError>
+    requires width { (9 ≤ width) × (width ≤ 15) }
+    requires one_each { length buckets.now ≡ length literals.now }
+    requires below { All (λ b. b < 8) buckets.now }
+    ensures filled { IfOk result (λ masks. vec_len masks ≡ 8 * 2 ^ width) }
+    ensures exact { IfOk result (λ masks. AreMasksOf width (map literal_of literals.now) buckets.now masks.items) }
+{
+    let past = past_of(literals, buckets);
+    let mut masks = filled(alloc, width, &past)?;
+    for number in 0..literals.len() {
+        clear_literal(masks.as_mut_slice(), width, literals[number].as_slice(), buckets[number]);
+    }
+    Ok(masks)
+}
