@@ -36,7 +36,7 @@ Pair first spread byte after bucket place b = (b ≡ bucket) × (place ≡ first
 at_pair : (place first spread byte after x y : ℕ) → byte ≡ x → after ≡ y → place ≡ first + (byte + 256 * (after % spread)) → place ≡ first + (x + 256 * (y % spread))
 at_pair place first spread byte after x y e f at = at ∙ (λ i. first + (e i + 256 * (f i % spread)))
 
-module _ (here behind : ℕ → Bool) (one other next second first spread bucket : ℕ) (is : IsEither here one other) (it : IsEither behind next second) where
+module _ (here behind : ℕ → Bool) (one other next second first spread bucket : ℕ) (p : one < 256) (q : other < 256) (is : IsEither here one other) (it : IsEither behind next second) where
   abbrev Of : ℕ → ℕ → ℕ → ℕ → Type 0
   Of byte after = Pair first spread byte after bucket
 
@@ -44,13 +44,13 @@ module _ (here behind : ℕ → Bool) (one other next second first spread bucket
   Four place b = ((Of one next place b ⊎ Of one second place b) ⊎ Of other next place b) ⊎ Of other second place b
 
   abbrev Each : ℕ → ℕ → Type 0
-  Each place b = (b ≡ bucket) × (byte after : ℕ) × IsTrue (here byte) × IsTrue (behind after) × (place ≡ first + (byte + 256 * (after % spread)))
+  Each place b = (b ≡ bucket) × (byte after : ℕ) × (byte < 256) × IsTrue (here byte) × IsTrue (behind after) × (place ≡ first + (byte + 256 * (after % spread)))
 
   to : (place b : ℕ) → Four place b → Each place b
-  to place b (inl (inl (inl (same, at)))) = (same, one, next, (is one).1 (inl refl), (it next).1 (inl refl), at)
-  to place b (inl (inl (inr (same, at)))) = (same, one, second, (is one).1 (inl refl), (it second).1 (inr refl), at)
-  to place b (inl (inr (same, at))) = (same, other, next, (is other).1 (inr refl), (it next).1 (inl refl), at)
-  to place b (inr (same, at)) = (same, other, second, (is other).1 (inr refl), (it second).1 (inr refl), at)
+  to place b (inl (inl (inl (same, at)))) = (same, one, next, p, (is one).1 (inl refl), (it next).1 (inl refl), at)
+  to place b (inl (inl (inr (same, at)))) = (same, one, second, p, (is one).1 (inl refl), (it second).1 (inr refl), at)
+  to place b (inl (inr (same, at))) = (same, other, next, q, (is other).1 (inr refl), (it next).1 (inl refl), at)
+  to place b (inr (same, at)) = (same, other, second, q, (is other).1 (inr refl), (it second).1 (inr refl), at)
 
   from : (place b byte after : ℕ) → b ≡ bucket → (byte ≡ one) ⊎ (byte ≡ other) → (after ≡ next) ⊎ (after ≡ second) → place ≡ first + (byte + 256 * (after % spread)) → Four place b
   from place b byte after same (inl h) (inl n) at = inl (inl (inl (same, at_pair place first spread byte after one next h n at)))
@@ -60,9 +60,9 @@ module _ (here behind : ℕ → Bool) (one other next second first spread bucket
 
   -- four pairs are all super-characters of one of two bytes and one of two behind it
   pub pairs-are : (s t u v w : List ℕ) → Clears (Of one next) s t → Clears (Of one second) t u → Clears (Of other next) u v → Clears (Of other second) v w → Clears Each s w
-  pairs-are s t u v w p q r z =
-      clears-map Four Each s w (λ place b _ _. to place b)
-      (λ place b _ _ (same, byte, after, h, n, at). from place b byte after same ((is byte).0 h) ((it after).0 n) at)
+  pairs-are s t u v w a b c d =
+      clears-map Four Each s w (λ place bucket' _ _. to place bucket')
+      (λ place bucket' _ _ (same, byte, after, _, h, n, at). from place bucket' byte after same ((is byte).0 h) ((it after).0 n) at)
       (clears-then (λ place b. (Of one next place b ⊎ Of one second place b) ⊎ Of other next place b) (Of other second) s v w
       (clears-then (λ place b. Of one next place b ⊎ Of one second place b) (Of other next) s u v
-      (clears-then (Of one next) (Of one second) s t u p q) r) z)
+      (clears-then (Of one next) (Of one second) s t u a b) c) d)

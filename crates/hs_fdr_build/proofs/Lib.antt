@@ -2,3 +2,5 @@ pub mod ClearLemmas
 pub mod LiteralByteLemmas
 pub mod WidthLemmas
 pub mod ColumnLemmas
+pub mod PlaceLemmas
+pub mod LiteralListLemmas

@@ -20,20 +20,24 @@ pub record TakesBefore (literal : List LiteralByte) (j byte : ℕ) : Type 0 wher
   pub within : j < length literal
   pub taken : IsTrue (takes place byte)
 
--- a literal of the super-characters v that may stand j places before its last byte: all where it doesn't reach as far,
--- else those whose byte it takes there and whose further bits are those of a byte that it takes one place later
-pub data MayStand (width : ℕ) (literal : List LiteralByte) (v : ℕ) : ℕ → Type 0 where
-  beyond : {j : ℕ} → length literal ≤ j → MayStand width literal v j
-  last : TakesBefore literal 0 (v % 256) → MayStand width literal v 0
-  inner : {j : ℕ} (after : ℕ) → TakesBefore literal (j + 1) (v % 256) → TakesBefore literal j after → v / 256 ≡ after % 2 ^ (width - 8) → MayStand width literal v (j + 1)
+-- The super-character v may stand j places before the literal's last byte: any does where it doesn't reach as far. Else it
+-- takes its byte there, and its further bits are those of a byte that it takes one place later.
+pub data MayStand (width : ℕ) (literal : List LiteralByte) (j v : ℕ) : Type 0 where
+  beyond : length literal ≤ j → MayStand width literal j v
+  last : j ≡ 0 → TakesBefore literal j (v % 256) → MayStand width literal j v
+  inner : 0 < j → TakesBefore literal j (v % 256) → (after : ℕ) → TakesBefore literal (j - 1) after → v / 256 ≡ after % 2 ^ (width - 8) → MayStand width literal j v
 
--- a literal of the bucket may have the super-character v stand j places before its last byte
-pub record IsAsked (width : ℕ) (literals : List (List LiteralByte)) (buckets : List ℕ) (bucket j v : ℕ) : Type 0 where
+-- the literal stands in the list, in that bucket
+pub record StandsIn (literals : List (List LiteralByte)) (buckets : List ℕ) (bucket : ℕ) (literal : List LiteralByte) : Type 0 where
   pub number : ℕ
-  pub literal : List LiteralByte
   pub is : slice_get literals number ≡ Some literal
-  pub stands : slice_get buckets number ≡ Some bucket
-  pub may : MayStand width literal v j
+  pub goes : slice_get buckets number ≡ Some bucket
+
+-- the super-character v may stand j places before the last byte of a literal of that bucket
+pub record IsAsked (width : ℕ) (literals : List (List LiteralByte)) (buckets : List ℕ) (bucket j v : ℕ) : Type 0 where
+  pub literal : List LiteralByte
+  pub stands : StandsIn literals buckets bucket literal
+  pub may : MayStand width literal j v
 
 -- a bit of the tables' masks is 0 exactly where a literal of its bucket asks for it
 pub record AreTablesOf (literals : List (List LiteralByte)) (buckets : List ℕ) (tables : Tables) : Type 0 where

@@ -1,18 +1,12 @@
 -- No literal end is masked out.
-use Rattle.std.specs.Prelude.{◌≡◌, ℕ, ◌+◌, ◌<◌, List, ◌++◌, length, Option, Some, All, slice_get, slice_index}
+use Rattle.std.specs.Prelude.{◌≡◌, ℕ, ◌+◌, ◌<◌, List, ◌++◌, length, Option, All, slice_index}
 use Rattle.std.specs.Int.{bit_at}
 use Rattle.hs_base.specs.Literals.{LiteralByte}
 use Rattle.hs_fdr.specs.declared.tables.Tables.{Tables}
 use Rattle.hs_fdr.specs.Masks.{mask_of, width_of}
 use Rattle.hs_fdr.specs.Blocks.{mask_at, block_masks}
-use Rattle.hs_fdr_build.specs.Asking.{AreTablesOf}
+use Rattle.hs_fdr_build.specs.Asking.{StandsIn, AreTablesOf}
 use Rattle.hs_fdr_build.specs.LiteralEnds.{EndsAt}
-
--- the literal stands in the list, in that bucket
-pub record StandsIn (literals : List (List LiteralByte)) (buckets : List ℕ) (bucket : ℕ) (literal : List LiteralByte) : Type 0 where
-  pub number : ℕ
-  pub is : slice_get literals number ≡ Some literal
-  pub stands : slice_get buckets number ≡ Some bucket
 
 -- The bit of a literal's bucket is 0 in the mask of each place at which the literal ends, whatever the byte behind the text.
 abbrev pub NoEndIsMasked : List (List LiteralByte) → List ℕ → Tables → Type 0

@@ -82,7 +82,7 @@ pub(crate) fn clear_inner(masks: &mut [u8], width: u8, first: usize, x: &LitByte
     requires width { (9 ≤ width) × (width ≤ 15) }
     requires within { first + 2 ^ width ≤ length masks.old }
     requires bucket { bucket < 8 }
-    ensures { Clears (λ place b. (b ≡ bucket) × (byte after : ℕ) × IsTrue (takes (literal_byte x.now) byte) × IsTrue (takes (literal_byte behind.now) after) × (place ≡ first + (byte + 256 * (after % 2 ^ (width - 8))))) masks.old masks.new }
+    ensures { Clears (λ place b. (b ≡ bucket) × (byte after : ℕ) × (byte < 256) × IsTrue (takes (literal_byte x.now) byte) × IsTrue (takes (literal_byte behind.now) after) × (place ≡ first + (byte + 256 * (after % 2 ^ (width - 8))))) masks.old masks.new }
 {
     let (one, other) = bytes_of(x);
     let (next, second) = bytes_of(behind);

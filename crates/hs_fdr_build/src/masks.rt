@@ -4,12 +4,22 @@ ghost use Rattle.std.specs.Prelude.{◌≡◌, ◌≤◌, ◌<◌, ◌+◌, ◌*
 ghost use Rattle.hs_base.specs.LiteralView.{literal_byte};
 ghost use Rattle.hs_fdr_build.specs.Clearing.{Clears, IsClear};
 ghost use Rattle.hs_fdr_build.specs.Asking.{literal_of, MayStand, IsAsked};
-ghost use Rattle.hs_fdr_build.specs.MaskPlaces.{IsPlaceOf, IsAskedPast, AreMasksOf};
+ghost use Rattle.hs_fdr_build.specs.MaskPlaces.{IsPlaceOf, HasPlace, IsPast, IsAskedBy, AreMasksOf};
 
 use crate::clear::{clear, clear_inner, clear_last};
 use hs_base::LitByte;
 use hs_fdr::PLACES;
 use std::alloc::{AllocError, Global};
+
+/// Where the masks for the place `j` begin.
+fn first_place(width: u8, j: usize) -> usize
+    requires width { (9 ≤ width) × (width ≤ 15) }
+    requires place { j < 8 }
+    ensures value { result ≡ j * 2 ^ width }
+    ensures room { result + 2 ^ width ≤ 8 * 2 ^ width }
+{
+    j << width
+}
 
 /// Makes the bit of a bucket 0 in the masks for the place `j` before the last byte of a literal, unless it doesn't reach
 /// that far.
@@ -28,7 +38,7 @@ fn clear_place(masks: &mut [u8], width: u8, literal: &[LitByte], j: usize, bucke
     if j == 0 {
         clear_last(masks, width, x, bucket);
     } else {
-        clear_inner(masks, width, j << width, x, &literal[last - (j - 1)], bucket);
+        clear_inner(masks, width, first_place(width, j), x, &literal[last - (j - 1)], bucket);
     }
 }
 
@@ -37,20 +47,20 @@ fn clear_literal(masks: &mut [u8], width: u8, literal: &[LitByte], bucket: u8)
     requires width { (9 ≤ width) × (width ≤ 15) }
     requires filled { length masks.old ≡ 8 * 2 ^ width }
     requires bucket { bucket < 8 }
-    ensures { Clears (λ place b. (b ≡ bucket) × (j : ℕ) × (j < 8) × IsPlaceOf width (map literal_byte literal.now) j place) masks.old masks.new }
+    ensures { Clears (λ place b. (b ≡ bucket) × HasPlace width (map literal_byte literal.now) place) masks.old masks.new }
 {
     for j in 0..PLACES {
         clear_place(masks, width, literal, j, bucket);
     }
 }
 
-/// Makes the bit of a bucket 0 for each place that a literal of that length doesn't reach.
-fn clear_past(past: &mut [u8; PLACES], length: usize, bucket: u8)
+/// Makes the bit of a bucket 0 for each place that a literal doesn't reach.
+fn clear_past(past: &mut [u8; PLACES], literal: &[LitByte], bucket: u8)
     requires { bucket < 8 }
-    ensures { Clears (λ j b. (b ≡ bucket) × (length ≤ j)) past.old past.new }
+    ensures { Clears (λ j b. (b ≡ bucket) × IsPast (map literal_byte literal.now) j) past.old past.new }
 {
     for j in 0..PLACES {
-        if length <= j {
+        if literal.len() <= j {
             clear(past, j, bucket);
         }
     }
@@ -60,11 +70,11 @@ fn clear_past(past: &mut [u8; PLACES], length: usize, bucket: u8)
 fn past_of(literals: &[Vec<LitByte>], buckets: &[u8]) -> [u8; PLACES]
     requires one_each { length buckets.now ≡ length literals.now }
     requires below { All (λ b. b < 8) buckets.now }
-    ensures { Clears (λ j b. IsAskedPast (map literal_of literals.now) buckets.now b j) (replicate 8 255) result }
+    ensures { Clears (IsAskedBy IsPast (map literal_of literals.now) buckets.now) (replicate 8 255) result }
 {
     let mut past = [0xFF; PLACES];
     for number in 0..literals.len() {
-        clear_past(&mut past, literals[number].len(), buckets[number]);
+        clear_past(&mut past, literals[number].as_slice(), buckets[number]);
     }
     past
 }
