@@ -4,3 +4,4 @@ pub mod WidthLemmas
 pub mod ColumnLemmas
 pub mod PlaceLemmas
 pub mod LiteralListLemmas
+pub mod MaskLemmas

@@ -55,3 +55,19 @@ positive (suc k) = let h = positive k in omega arith
 -- the further bits above a byte
 pub spread-top : (width : ℕ) → 9 ≤ width → width ≤ 15 → (256 * 2 ^ (width - 8) ≡ 2 ^ width) × (0 < 2 ^ (width - 8))
 spread-top width low high = (ap (λ n. 256 * n) (sym (spread-power width low high)) ∙ spread-share width low high, positive (width - 8))
+
+top_by : (d : ℕ) → d < 7 → (1 * 2 ^ (9 + d) % 18446744073709551616 ≡ 2 ^ (9 + d)) × ((0 < 1 * 2 ^ (9 + d) % 18446744073709551616) × (1 * 2 ^ (9 + d) % 18446744073709551616 ≤ 32768))
+top_by zero h = (refl, (omega arith, omega arith))
+top_by (suc zero) h = (refl, (omega arith, omega arith))
+top_by (suc (suc zero)) h = (refl, (omega arith, omega arith))
+top_by (suc (suc (suc zero))) h = (refl, (omega arith, omega arith))
+top_by (suc (suc (suc (suc zero)))) h = (refl, (omega arith, omega arith))
+top_by (suc (suc (suc (suc (suc zero))))) h = (refl, (omega arith, omega arith))
+top_by (suc (suc (suc (suc (suc (suc zero)))))) h = (refl, (omega arith, omega arith))
+top_by (suc (suc (suc (suc (suc (suc (suc d))))))) h = absurd (omega arith)
+
+-- how many masks a place has
+pub top-is : (width : ℕ) → 9 ≤ width → width ≤ 15 → (1 * 2 ^ width % 18446744073709551616 ≡ 2 ^ width) × ((0 < 1 * 2 ^ width % 18446744073709551616) × (1 * 2 ^ width % 18446744073709551616 ≤ 32768))
+top-is width low high =
+    let e : 9 + (width - 9) ≡ width = omega arith in
+    subst (λ w. (1 * 2 ^ w % 18446744073709551616 ≡ 2 ^ w) × ((0 < 1 * 2 ^ w % 18446744073709551616) × (1 * 2 ^ w % 18446744073709551616 ≤ 32768))) e (top_by (width - 9) (omega arith))

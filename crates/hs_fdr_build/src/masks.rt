@@ -11,6 +11,15 @@ use hs_base::LitByte;
 use hs_fdr::PLACES;
 use std::alloc::{AllocError, Global};
 
+/// How many masks there are for one place.
+fn row_len(width: u8) -> usize
+    requires { (9 ≤ width) × (width ≤ 15) }
+    ensures value { result ≡ 2 ^ width }
+    ensures small { (0 < result) × (result ≤ 32768) }
+{
+    1 << width
+}
+
 /// Where the masks for the place `j` begin.
 fn first_place(width: u8, j: usize) -> usize
     requires width { (9 ≤ width) × (width ≤ 15) }
@@ -82,15 +91,29 @@ fn past_of(literals: &[Vec<LitByte>], buckets: &[u8]) -> [u8; PLACES]
 /// As many masks as tables of that width have, each as `past` says of its place before the last byte.
 fn filled(alloc: Global, width: u8, past: &[u8; PLACES]) -> Result<Vec<u8>, AllocError>
     requires { (9 ≤ width) × (width ≤ 15) }
-    ensures filled { IfOk result (λ masks. vec_len masks ≡ 8 * 2 ^ width) }
+    ensures whole { IfOk result (λ masks. vec_len masks ≡ 8 * 2 ^ width) }
     ensures each { IfOk result (λ masks. (at : ℕ) → at < 8 * 2 ^ width → slice_index masks.items at ≡ slice_index past.now (at / 2 ^ width)) }
 {
-    let count = PLACES << width;
+    let row = row_len(width);
+    let count = PLACES * row;
     let mut masks = Vec::with_capacity(alloc, count)?;
     for at in 0..count {
-        masks.push(past[at >> width])?;
+        masks.push(past[at / row])?;
     }
     Ok(masks)
+}
+
+/// Makes the bits 0 that the literals ask for in the places that they reach.
+fn clear_all(masks: &mut [u8], width: u8, literals: &[Vec<LitByte>], buckets: &[u8])
+    requires width { (9 ≤ width) × (width ≤ 15) }
+    requires filled { length masks.old ≡ 8 * 2 ^ width }
+    requires one_each { length buckets.now ≡ length literals.now }
+    requires below { All (λ b. b < 8) buckets.now }
+    ensures { Clears (IsAskedBy (HasPlace width) (map literal_of literals.now) buckets.now) masks.old masks.new }
+{
+    for number in 0..literals.len() {
+        clear_literal(masks, width, literals[number].as_slice(), buckets[number]);
+    }
 }
 
 /// The masks of literals in their buckets: that of place `j` and super-character `v` is at `j * 2^width + v`.
@@ -102,13 +125,11 @@ pub(crate) fn masks_of(alloc: Global, width: u8, literals: &[Vec<LitByte>], buck
     requires width { (9 ≤ width) × (width ≤ 15) }
     requires one_each { length buckets.now ≡ length literals.now }
     requires below { All (λ b. b < 8) buckets.now }
-    ensures filled { IfOk result (λ masks. vec_len masks ≡ 8 * 2 ^ width) }
+    ensures whole { IfOk result (λ masks. vec_len masks ≡ 8 * 2 ^ width) }
     ensures exact { IfOk result (λ masks. AreMasksOf width (map literal_of literals.now) buckets.now masks.items) }
 {
     let past = past_of(literals, buckets);
     let mut masks = filled(alloc, width, &past)?;
-    for number in 0..literals.len() {
-        clear_literal(masks.as_mut_slice(), width, literals[number].as_slice(), buckets[number]);
-    }
+    clear_all(masks.as_mut_slice(), width, literals, buckets);
     Ok(masks)
 }
