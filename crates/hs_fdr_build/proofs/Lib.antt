@@ -5,3 +5,6 @@ pub mod ColumnLemmas
 pub mod PlaceLemmas
 pub mod LiteralListLemmas
 pub mod MaskLemmas
+pub mod TableLemmas
+pub mod EndLemmas
+pub mod NoEndLemmas
