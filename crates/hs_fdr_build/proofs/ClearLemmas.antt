@@ -1,5 +1,5 @@
 -- Bits made 0 step by step.
-use Rattle.std.proofs.Common.{◌≡◌, ◌≢◌, ℕ, zero, suc, ◌+◌, ◌*◌, ◌%◌, ◌^◌, ◌<◌, ◌≤◌, ◌⊎◌, List, length, get_or, refl, sym, ap, subst, ◌∙◌, inl, inr, arith, bit_and, w8, ◌↔◌}
+use Rattle.std.proofs.Common.{◌≡◌, ℕ, ◌+◌, ◌*◌, ◌%◌, ◌^◌, ◌<◌, ◌⊎◌, List, length, get_or, refl, sym, ap, subst, ◌∙◌, inl, inr, arith, bit_and, w8, ◌↔◌}
 use Rattle.std.proofs.Math.ListN.{set, length-set}
 use Rattle.std.specs.Int.{bit_at, bit_not}
 use Rattle.std.proofs.lemmas.Bool.{cases_lt, cases_eq}
@@ -29,8 +29,7 @@ pub clears-then : (Q Q' : ℕ → ℕ → Type 0) (s t u : List ℕ) → Clears 
 clears-then Q Q' s t u one two = record {
   alike = two.alike ∙ one.alike;
   each = λ at b h k.
-      let h' : at < length t = subst (λ n. at < n) (sym one.alike) h in
-      (
+      let h' : at < length t = subst (λ n. at < n) (sym one.alike) h in (
         λ is. elim ((two.each at b h' k).0 is) [
           | inl old ↦ elim ((one.each at b h k).0 old) [ inl older ↦ inl older | inr more ↦ inr (inl more) ]
           | inr more ↦ inr (inr more)
@@ -62,6 +61,7 @@ from_below-more R n s t u one two =
     widen : (at b : ℕ) → FromBelow R n at b ⊎ R n at b → FromBelow R (n + 1) at b
     widen at b (inl (i, below, is)) = (i, omega arith, is)
     widen at b (inr is) = (n, omega arith, is)
+
     narrow : (at b i : ℕ) → i < n + 1 → R i at b → FromBelow R n at b ⊎ R n at b
     narrow at b i below is = elim (cases_lt i n) [
       | inl less ↦ inl (i, less, is)
@@ -77,12 +77,11 @@ module _ (s : List ℕ) (at b : ℕ) (within : at < length s) (small : b < 8) wh
       let e : get_or (set s at cleared) at 0 ≡ cleared = get_or-set_same s at cleared 0 within in
       elim (cases_eq bucket b) [
         | inl same ↦ (
-            λ is. inr (refl, same),
-            λ found. ap (λ x. bit_at x bucket) e ∙ subst (λ k. bit_at cleared k ≡ 0) (sym same) (bit_at_clear_same w8 (get_or s at 0) b small),
-          )
+          λ is. inr (refl, same),
+          λ found. ap (λ x. bit_at x bucket) e ∙ subst (λ k. bit_at cleared k ≡ 0) (sym same) (bit_at_clear_same w8 (get_or s at 0) b small),
+        )
         | inr other ↦
-            let stays : bit_at cleared bucket ≡ bit_at (get_or s at 0) bucket = bit_at_clear_other w8 (get_or s at 0) b small bucket h other in
-            (
+            let stays : bit_at cleared bucket ≡ bit_at (get_or s at 0) bucket = bit_at_clear_other w8 (get_or s at 0) b small bucket h other in (
               λ is. inl (sym stays ∙ sym (ap (λ x. bit_at x bucket) e) ∙ is),
               λ found. elim found [
                 | inl old ↦ ap (λ x. bit_at x bucket) e ∙ stays ∙ old
@@ -98,8 +97,7 @@ module _ (s : List ℕ) (at b : ℕ) (within : at < length s) (small : b < 8) wh
     each = λ place bucket _ h. elim (cases_eq place at) [
       | inl same ↦ subst (λ p. IsClear (set s at cleared) p bucket ↔ (IsClear s p bucket ⊎ ((p ≡ at) × (bucket ≡ b)))) (sym same) (at_here bucket h)
       | inr other ↦
-          let e : bit_at (get_or (set s at cleared) place 0) bucket ≡ bit_at (get_or s place 0) bucket = ap (λ x. bit_at x bucket) (get_or-set_other s at place cleared 0 other) in
-          (
+          let e : bit_at (get_or (set s at cleared) place 0) bucket ≡ bit_at (get_or s place 0) bucket = ap (λ x. bit_at x bucket) (get_or-set_other s at place cleared 0 other) in (
             λ is. inl (sym e ∙ is),
             λ found. elim found [
               | inl old ↦ e ∙ old

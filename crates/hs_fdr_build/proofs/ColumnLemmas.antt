@@ -1,5 +1,5 @@
 -- The super-characters of bytes, in two turns or in four.
-use Rattle.std.proofs.Common.{◌≡◌, ◌↔◌, ℕ, ◌+◌, ◌*◌, ◌/◌, ◌%◌, ◌^◌, ◌<◌, ◌≤◌, ◌⊎◌, Bool, true, IsTrue, List, length, refl, sym, ap, subst, ◌∙◌, inl, inr, arith}
+use Rattle.std.proofs.Common.{◌≡◌, ◌↔◌, ℕ, ◌+◌, ◌*◌, ◌/◌, ◌%◌, ◌<◌, ◌⊎◌, Bool, IsTrue, List, refl, ◌∙◌, inl, inr, arith}
 use Rattle.hs_fdr_build.specs.Clearing.{Clears}
 use Rattle.hs_fdr_build.proofs.ClearLemmas.{clears-map, clears-then}
 
@@ -27,6 +27,7 @@ columns-are test one other count top bucket s t u is p q e first second =
   where
     to : (place b low : ℕ) → low < 256 → Column low count bucket place b → (place % 256 ≡ low → IsTrue (test (place % 256))) → (b ≡ bucket) × (place < top) × IsTrue (test (place % 256))
     to place b low small (same, k, below, at) takes = (same, omega arith, takes (omega arith))
+
     from : (place b low : ℕ) → b ≡ bucket → place < top → place % 256 ≡ low → Column low count bucket place b
     from place b low same below r = (same, place / 256, omega arith, omega arith)
 

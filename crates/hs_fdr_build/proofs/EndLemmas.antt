@@ -29,8 +29,8 @@ ends-take literal text offset j at ends reaches e =
     let o : offset ≡ length ends.before + length ends.taken = ends.at in
     let place : at ≡ length ends.before + k = omega arith in
     let read : get_or text at 0 ≡ get_or ends.taken k 0 =
-        ap (λ t. get_or t at 0) ends.split ∙ ap (λ i. get_or (ends.before ++ (ends.taken ++ ends.behind)) i 0) place
-        ∙ get_or-append-add ends.before (ends.taken ++ ends.behind) k 0 ∙ get_or_append_left ends.taken ends.behind 0 k (omega arith) in
+    ap (λ t. get_or t at 0) ends.split ∙ ap (λ i. get_or (ends.before ++ (ends.taken ++ ends.behind)) i 0) place
+    ∙ get_or-append-add ends.before (ends.taken ++ ends.behind) k 0 ∙ get_or_append_left ends.taken ends.behind 0 k (omega arith) in
     record { place = there.0; stands = there.1; within = reaches; taken = subst (λ b. IsTrue (takes there.0 b)) (sym read) there.2 }
 
 -- the literal begins within the text

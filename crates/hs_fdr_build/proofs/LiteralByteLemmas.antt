@@ -1,7 +1,7 @@
 -- Which bytes may stand at a place of a literal.
-use Rattle.std.proofs.Common.{◌≡◌, ◌↔◌, ℕ, ◌+◌, ◌-◌, ◌≤◌, ◌⊎◌, Bool, true, false, ◌||◌, ◌==◌, refl, sym, ap, subst, ◌∙◌, inl, inr, arith}
+use Rattle.std.proofs.Common.{◌≡◌, ◌↔◌, ℕ, ◌+◌, ◌-◌, ◌≤◌, ◌⊎◌, Bool, true, false, ◌==◌, inl, inr, arith}
 use Rattle.std.proofs.lemmas.Bool.{eqb-true, eq-eqb, or_cases, or_left, or_right}
-use Rattle.hs_base.specs.Literals.{LiteralByte, takes}
+use Rattle.hs_base.specs.Literals.{takes}
 
 -- one byte
 pub takes-one : (byte : ℕ) (both : Bool) → both ≡ false → (b : ℕ) → (takes (record { byte = byte; both_cases = both }) b ≡ true) ↔ ((b ≡ byte) ⊎ (b ≡ byte))

@@ -1,5 +1,5 @@
 -- What the literals of a list ask for, literal by literal.
-use Rattle.std.proofs.Common.{◌≡◌, ◌↔◌, ℕ, zero, suc, ◌+◌, ◌<◌, ◌≤◌, ◌⊎◌, List, [], ◌∷◌, length, map, get_or, Option, Some, None, refl, sym, ap, subst, ◌∙◌, inl, inr, arith}
+use Rattle.std.proofs.Common.{◌≡◌, ℕ, ◌+◌, ◌<◌, List, length, map, get_or, Some, sym, ap, subst, ◌∙◌}
 use Rattle.std.specs.List.{slice_get}
 use Rattle.std.specs.Option.{option_map}
 use Rattle.std.specs.declared.vec.Vec.{Vec}
@@ -8,10 +8,10 @@ use Rattle.std.proofs.lemmas.Option.{slice_get-map, slice_get-get_or, slice_get_
 use Rattle.hs_base.specs.declared.literal.LitByte.{LitByte}
 use Rattle.hs_base.specs.Literals.{LiteralByte}
 use Rattle.hs_base.specs.LiteralView.{literal_byte}
-use Rattle.hs_fdr_build.specs.Asking.{StandsIn, literal_of}
+use Rattle.hs_fdr_build.specs.Asking.{literal_of}
 use Rattle.hs_fdr_build.specs.Clearing.{Clears}
 use Rattle.hs_fdr_build.specs.MaskPlaces.{IsAskedBy}
-use Rattle.hs_fdr_build.proofs.ClearLemmas.{FromBelow, from_below-none, from_below-more, clears-map}
+use Rattle.hs_fdr_build.proofs.ClearLemmas.{FromBelow, from_below-more, clears-map}
 
 -- the literal of that number, as plain data
 pub literal-there : (xs : List (Vec LitByte Global)) (n : ℕ) (v d : Vec LitByte Global) (items : List LitByte) → n < length xs → v ≡ get_or xs n d → items ≡ v.items → slice_get (map literal_of xs) n ≡ Some (map literal_byte items)

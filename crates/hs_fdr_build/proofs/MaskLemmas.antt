@@ -1,20 +1,20 @@
 -- All masks of a list of literals.
-use Rattle.std.proofs.Common.{◌≡◌, ◌↔◌, ℕ, zero, suc, ◌+◌, ◌-◌, ◌*◌, ◌/◌, ◌%◌, ◌^◌, ◌<◌, ◌≤◌, ◌⊎◌, List, length, get_or, replicate, take, drop, ◌++◌, refl, sym, ap, subst, ◌∙◌, inl, inr, arith}
+use Rattle.std.proofs.Common.{◌≡◌, ℕ, ◌+◌, ◌*◌, ◌/◌, ◌^◌, ◌<◌, List, length, get_or, replicate, take, drop, ◌++◌, refl, sym, ap, subst, ◌∙◌, inl, inr, arith}
 use Rattle.std.specs.Int.{bit_at}
 use Rattle.std.proofs.lemmas.Bool.{cases_lt}
 use Rattle.std.proofs.lemmas.Nat.{div-mul-add, mul-add-lt, same_from_place}
 use Rattle.std.proofs.lemmas.Nat.Bits.{bit_at_ones}
 use Rattle.std.proofs.lemmas.List.{get_or-replicate, take-append-le, take_all}
 use Rattle.hs_base.specs.Literals.{LiteralByte}
-use Rattle.hs_fdr_build.specs.Asking.{MayStand, beyond, StandsIn, IsAsked}
+use Rattle.hs_fdr_build.specs.Asking.{MayStand, beyond, IsAsked}
 use Rattle.hs_fdr_build.specs.Clearing.{IsClear, Clears}
-use Rattle.hs_fdr_build.specs.MaskPlaces.{IsPlaceOf, HasPlace, IsPast, IsAskedBy, AreMasksOf}
+use Rattle.hs_fdr_build.specs.MaskPlaces.{HasPlace, IsPast, IsAskedBy, AreMasksOf}
 
 -- a mask of ones has no bit that is 0
 ones : (j b : ℕ) → j < 8 → b < 8 → IsClear (replicate 8 255) j b → ⊥
 ones j b h k is =
     let all : bit_at 255 b ≡ 1 = bit_at_ones 8 b k in
-    let here : get_or (replicate 8 255) j 0 ≡ 255 = get_or-replicate 8 j 255 0 h in
+    let here : get_or (replicate {A = ℕ} 8 255) j 0 ≡ 255 = get_or-replicate {A = ℕ} 8 j 255 0 h in
     let e : bit_at 255 b ≡ 0 = sym (ap (λ m. bit_at m b) here) ∙ is in
     omega arith
 
@@ -27,7 +27,6 @@ module _ (width : ℕ) (literals : List (List LiteralByte)) (buckets past filled
     (same : (at : ℕ) → at < 8 * 2 ^ width → get_or filled at 0 ≡ get_or past (at / 2 ^ width) 0)
     (long : length filled ≡ 8 * 2 ^ width)
     (made : Clears (IsAskedBy (HasPlace width) literals buckets) filled masks) where
-
   module _ (bucket j v : ℕ) (b : bucket < 8) (p : j < 8) (s : v < 2 ^ width) where
     place : j * 2 ^ width + v < length filled
     place = let h : j * 2 ^ width + v < 2 ^ width * 8 = mul-add-lt j (2 ^ width) v 8 p s in omega arith

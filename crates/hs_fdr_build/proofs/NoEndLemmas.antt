@@ -1,5 +1,5 @@
 -- No literal end is masked out.
-use Rattle.std.proofs.Common.{◌≡◌, ℕ, zero, suc, ◌+◌, ◌-◌, ◌*◌, ◌/◌, ◌%◌, ◌^◌, ◌<◌, ◌≤◌, Bool, true, false, List, [], ◌∷◌, ◌++◌, All, IsTrue, Option, length, map, get_or, cond, leb, ltb, bit_or, refl, sym, ap, subst, ◌∙◌, inl, inr, arith, max, length-append}
+use Rattle.std.proofs.Common.{◌≡◌, ℕ, zero, suc, ◌+◌, ◌-◌, ◌*◌, ◌/◌, ◌%◌, ◌^◌, ◌<◌, ◌≤◌, List, ◌++◌, All, length, map, get_or, cond, ltb, refl, sym, ap, subst, ◌∙◌, inl, inr, arith, max, length-append}
 use Rattle.std.specs.List.{range_with_len}
 use Rattle.std.specs.Int.{bit_at}
 use Rattle.std.proofs.lemmas.Bool.{cases_lt, le-leb, lt-leb, lt-ltb}
@@ -10,9 +10,8 @@ use Rattle.std.proofs.lemmas.Nat.Bits.{bit_at_or, bit_at-zero}
 use Rattle.hs_base.specs.Literals.{LiteralByte}
 use Rattle.hs_fdr.specs.declared.tables.Tables.{Tables}
 use Rattle.hs_fdr.specs.Masks.{mask_of, width_of}
-use Rattle.hs_fdr.specs.Blocks.{super_character, super_at, or_all, term, mask_at, byte_or_zero, block_masks}
+use Rattle.hs_fdr.specs.Blocks.{super_at, or_all, term, mask_at, byte_or_zero, block_masks}
 use Rattle.hs_fdr_build.specs.Asking.{TakesBefore, MayStand, beyond, last, inner, StandsIn, AreTablesOf}
-use Rattle.hs_fdr_build.specs.LiteralEnds.{EndsAt}
 use Rattle.hs_fdr_build.specs.NoEndMasked.{NoEndIsMasked, NoEndIsMaskedInBlocks}
 use Rattle.hs_fdr_build.proofs.EndLemmas.{ends-take, ends-within}
 use Rattle.hs_fdr_build.proofs.WidthLemmas.{spread-top}
@@ -29,7 +28,6 @@ or-clear f b j (suc n) each =
 module _ (literals : List (List LiteralByte)) (buckets : List ℕ) (tables : Tables) (are : AreTablesOf literals buckets tables) (bucket : ℕ) (literal : List LiteralByte) (small : bucket < 8) (stands : StandsIn literals buckets bucket literal)
     (text : List ℕ) (bytes : All (λ b. b < 256) text) (next place : ℕ) (within : place < length text)
     (taken : (j : ℕ) → j < length literal → j ≤ place → TakesBefore literal j (get_or text (place - j) 0)) where
-
   abbrev byte : ℕ → ℕ
   byte j = get_or text (place - j) 0
 
@@ -57,7 +55,7 @@ module _ (literals : List (List LiteralByte)) (buckets : List ℕ) (tables : Tab
       | inl above ↦
           let at : place - j + 1 ≡ place - (j - 1) = omega arith in
           let after : get_or text (place - j + 1) next ≡ get_or text (place - (j - 1)) 0 =
-              get_or_default text (place - j + 1) next 0 (omega arith) ∙ ap (λ k. get_or text k 0) at in
+          get_or_default text (place - j + 1) next 0 (omega arith) ∙ ap (λ k. get_or text k 0) at in
           inner above (here j reaches room) (get_or text (place - (j - 1)) 0) (taken (j - 1) (omega arith) (omega arith)) (high-is j ∙ ap (λ a. a % 2 ^ (width_of tables - 8)) after)
     ]
   ]
@@ -90,14 +88,14 @@ no-end-is-masked-in-blocks literals buckets tables are bucket literal small stan
     let masked = λ (k : ℕ). cond (ltb k (length block)) (mask_at (mask_of tables) (width_of tables) (before ++ block) (byte_or_zero next) (length before + k)) 255 in
     let z : 0 + i ≡ i = omega arith in
     let read : get_or (map masked (range_with_len 0 64)) i 0 ≡ masked i =
-        get_or-map masked (range_with_len 0 64) i 0 0 (omega (arith, length-range_with_len 0 64)) ∙ ap masked (get_or-range_with_len 0 64 i 0 h ∙ z) in
+    get_or-map masked (range_with_len 0 64) i 0 0 (omega (arith, length-range_with_len 0 64)) ∙ ap masked (get_or-range_with_len 0 64 i 0 h ∙ z) in
     let inside : masked i ≡ mask_at (mask_of tables) (width_of tables) (before ++ block) (byte_or_zero next) (length before + i) = rw (lt-ltb i (length block) l) refl in
     let room : length before + i < length (before ++ block) = omega (arith, length-append before block) in
     ap (λ m. bit_at m bucket) (read ∙ inside)
     ∙ place-clear literals buckets tables are bucket literal small stands (before ++ block) bytes (byte_or_zero next) (length before + i) room (λ j reaches back.
     let at = length before + i - j in
     let same : get_or (earlier ++ (before ++ (block ++ later))) (length earlier + at) 0 ≡ get_or (before ++ block) at 0 =
-        get_or-append-add earlier (before ++ (block ++ later)) at 0
-        ∙ ap (λ t. get_or t at 0) (sym (append_assoc before block later))
-        ∙ get_or_append_left (before ++ block) later 0 at (omega arith) in
+    get_or-append-add earlier (before ++ (block ++ later)) at 0
+    ∙ ap (λ t. get_or t at 0) (sym (append_assoc before block later))
+    ∙ get_or_append_left (before ++ block) later 0 at (omega arith) in
     subst (TakesBefore literal j) same (ends-take literal (earlier ++ (before ++ (block ++ later))) (length earlier + (length before + (i + 1))) j (length earlier + at) ends reaches (omega arith)))

@@ -1,5 +1,5 @@
 -- Places of masks that a literal asks to be 0.
-use Rattle.std.proofs.Common.{◌≡◌, ◌↔◌, ℕ, zero, suc, ◌+◌, ◌-◌, ◌*◌, ◌/◌, ◌%◌, ◌^◌, ◌<◌, ◌≤◌, ◌⊎◌, IsTrue, List, length, map, get_or, Some, refl, sym, ap, subst, ◌∙◌, inl, inr, arith}
+use Rattle.std.proofs.Common.{◌≡◌, ℕ, ◌+◌, ◌-◌, ◌*◌, ◌%◌, ◌^◌, ◌<◌, ◌≤◌, IsTrue, List, length, map, get_or, Some, sym, ap, subst, ◌∙◌, arith}
 use Rattle.std.specs.List.{slice_get}
 use Rattle.std.specs.Option.{option_map}
 use Rattle.std.proofs.lemmas.List.{length-map}
@@ -41,19 +41,23 @@ module _ (width j bucket : ℕ) (literal : List LiteralByte) (x : LiteralByte) (
   -- at its last byte
   pub places-last : (s t : List ℕ) → j ≡ 0 → Clears (λ place b. (b ≡ bucket) × (place < 2 ^ width) × IsTrue (takes x (place % 256))) s t → Clears Places s t
   places-last s t first = clears-map _ Places s t
-      (λ place b _ _ (same, small, takes). (same, record {
-        v = place;
-        small = small;
-        at = sym (ap (λ n. n * 2 ^ width + place) first ∙ zeroed place);
-        reaches = reaches;
-        may = last first (record { place = x; stands = is; within = reaches; taken = takes });
-      }))
+      (λ place b _ _ (same, small, takes). (
+        same,
+        record {
+          v = place;
+          small = small;
+          at = sym (ap (λ n. n * 2 ^ width + place) first ∙ zeroed place);
+          reaches = reaches;
+          may = last first (record { place = x; stands = is; within = reaches; taken = takes });
+        },
+      ))
       (λ place b _ _ (same, it).
       let e : place ≡ it.v = it.at ∙ ap (λ n. n * 2 ^ width + it.v) first ∙ zeroed it.v in
       (same, subst (λ p. p < 2 ^ width) (sym e) it.small, subst (λ p. IsTrue (takes x (p % 256))) (sym e) (from it.v it.may)))
     where
       zeroed : (n : ℕ) → 0 * 2 ^ width + n ≡ n
       zeroed n = omega arith
+
       from : (v : ℕ) → MayStand width literal j v → IsTrue (takes x (v % 256))
       from v (beyond past) = absurd (omega arith)
       from v (last _ it) = taken-there literal j (v % 256) x is it
@@ -68,6 +72,7 @@ module _ (width j bucket : ℕ) (literal : List LiteralByte) (x : LiteralByte) (
     where
       top : (256 * 2 ^ (width - 8) ≡ 2 ^ width) × (0 < 2 ^ (width - 8))
       top = spread-top width low high
+
       to : (place byte after : ℕ) → byte < 256 → IsTrue (takes x byte) → IsTrue (takes y after) → place ≡ first + (byte + 256 * (after % 2 ^ (width - 8))) → IsPlaceOf width literal j place
       to place byte after small h n at =
           let spread = 2 ^ (width - 8) in
@@ -84,6 +89,7 @@ module _ (width j bucket : ℕ) (literal : List LiteralByte) (x : LiteralByte) (
             reaches = reaches;
             may = inner above (record { place = x; stands = is; within = reaches; taken = subst (λ b. IsTrue (takes x b)) r h }) after (record { place = y; stands = behind; within = omega arith; taken = n }) (omega arith);
           }
+
       from : (place b : ℕ) → b ≡ bucket → IsPlaceOf width literal j place → (b ≡ bucket) × (byte after : ℕ) × (byte < 256) × IsTrue (takes x byte) × IsTrue (takes y after) × (place ≡ first + (byte + 256 * (after % 2 ^ (width - 8))))
       from place b same it = parts it.v it.at it.may
         where

@@ -78,7 +78,14 @@ fn clear_pair(masks: &mut [u8], width: u8, first: usize, byte: u8, after: u8, bu
 
 /// Makes it 0 in the masks from a place on, for each super-character of a byte that may stand at one place and one that may
 /// stand behind it.
-pub(crate) fn clear_inner(masks: &mut [u8], width: u8, first: usize, x: &LitByte, behind: &LitByte, bucket: u8)
+pub(crate) fn clear_inner(
+    masks: &mut [u8],
+    width: u8,
+    first: usize,
+    x: &LitByte,
+    behind: &LitByte,
+    bucket: u8,
+)
     requires width { (9 ≤ width) × (width ≤ 15) }
     requires within { first + 2 ^ width ≤ length masks.old }
     requires bucket { bucket < 8 }

@@ -26,10 +26,10 @@ pub(crate) fn width_for(count: usize) -> u8
     ensures { (9 ≤ result) × (result ≤ 15) }
 {
     match count {
-        0..=15 => MIN_WIDTH,
-        16..=63 => 10,
-        64..=255 => 11,
-        256..=511 => 12,
+        0..=7 => MIN_WIDTH,
+        8..=31 => 10,
+        32..=127 => 11,
+        128..=511 => 12,
         512..=4095 => 13,
         4096..=16383 => 14,
         _ => MAX_WIDTH,

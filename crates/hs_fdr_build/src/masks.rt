@@ -47,7 +47,14 @@ fn clear_place(masks: &mut [u8], width: u8, literal: &[LitByte], j: usize, bucke
     if j == 0 {
         clear_last(masks, width, x, bucket);
     } else {
-        clear_inner(masks, width, first_place(width, j), x, &literal[last - (j - 1)], bucket);
+        clear_inner(
+            masks,
+            width,
+            first_place(width, j),
+            x,
+            &literal[last - (j - 1)],
+            bucket,
+        );
     }
 }
 
@@ -121,7 +128,12 @@ fn clear_all(masks: &mut [u8], width: u8, literals: &[Vec<LitByte>], buckets: &[
 /// # Errors
 ///
 /// There may be no memory.
-pub(crate) fn masks_of(alloc: Global, width: u8, literals: &[Vec<LitByte>], buckets: &[u8]) -> Result<Vec<u8>, AllocError>
+pub(crate) fn masks_of(
+    alloc: Global,
+    width: u8,
+    literals: &[Vec<LitByte>],
+    buckets: &[u8],
+) -> Result<Vec<u8>, AllocError>
     requires width { (9 ≤ width) × (width ≤ 15) }
     requires one_each { length buckets.now ≡ length literals.now }
     requires below { All (λ b. b < 8) buckets.now }

@@ -1,5 +1,5 @@
-use Rattle.std.proofs.Common.{◌≡◌, ◌+◌, ◌*◌, arith}
-use Rattle.hs_fdr_build.proofs.ClearLemmas.{FromBelow, from_below-none, from_below-more, clears-map}
+use Rattle.std.proofs.Common.{◌≡◌, ◌+◌, ◌*◌}
+use Rattle.hs_fdr_build.proofs.ClearLemmas.{from_below-more}
 use Rattle.hs_fdr_build.proofs.clear.clear_column.Goals as goal
 
 pub loop-further-preserved : goal.loop-further-preserved

@@ -1,4 +1,4 @@
-use Rattle.std.proofs.Common.{◌-◌, length, map, arith}
+use Rattle.std.proofs.Common.{◌-◌, map, arith}
 use Rattle.std.proofs.lemmas.List.{length-map}
 use Rattle.hs_base.specs.LiteralView.{literal_byte}
 use Rattle.hs_fdr_build.proofs.PlaceLemmas.{stands, places-none, places-last, places-inner}

@@ -1,4 +1,4 @@
-use Rattle.std.proofs.Common.{rules, map, sym, subst, ◌∙◌, arith}
+use Rattle.std.proofs.Common.{rules, map, sym, subst}
 use Rattle.hs_fdr_build.specs.Asking.{literal_of}
 use Rattle.hs_fdr_build.specs.Clearing.{Clears}
 use Rattle.hs_fdr_build.specs.MaskPlaces.{HasPlace, IsAskedBy, AreMasksOf}
