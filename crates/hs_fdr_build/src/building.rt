@@ -9,7 +9,12 @@ use hs_base::LitByte;
 use hs_fdr::Tables;
 use std::alloc::{AllocError, Global};
 
-/// The tables of a list of literals, and the bucket of each literal, in order.
+/// The tables of a list of literals, and the bucket of each literal, 0 to 7, in order. A bit of a mask is 0 exactly where a
+/// literal of its bucket asks for it.
+///
+/// Literals of like length and like last bytes share a bucket, and short ones are few in theirs. The more literals there
+/// are, the wider is a super-character: from 9 bits for a few to 15 for tens of thousands, so the tables take 4 KiB to
+/// 256 KiB. The time is about n log n, and for each literal some hundred masks.
 ///
 /// # Errors
 ///

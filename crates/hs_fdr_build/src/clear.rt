@@ -42,7 +42,7 @@ fn clear_column(masks: &mut [u8], low: u8, count: usize, bucket: u8)
 }
 
 /// The bytes that may stand at a place of a literal: the second is the first one again where there is but one.
-pub(crate) fn bytes_of(x: &LitByte) -> (u8, u8)
+fn bytes_of(x: &LitByte) -> (u8, u8)
     ensures { (b : ℕ) → IsTrue (takes (literal_byte x.now) b) ↔ ((b ≡ result.0) ⊎ (b ≡ result.1)) }
 {
     if x.both_cases {

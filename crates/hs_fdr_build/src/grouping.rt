@@ -1,4 +1,7 @@
-//! Which bucket a literal goes into, and how wide a super-character is.
+//! Which bucket a literal goes into, and how wide a super-character is. The literals are put in order, by length and then
+//! by their last bytes, so that those of a bucket are of like length and end alike. Each weighs the double of one that has a
+//! byte more, up to eight, and every bucket gets an eighth of the weight: so short ones, which are found by chance most
+//! often, are few in a bucket and don't spoil one of long ones.
 
 ghost use Rattle.std.specs.Prelude.{◌≡◌, ◌≤◌, ◌<◌, ℕ, All, IfOk, length, vec_len};
 
@@ -6,8 +9,8 @@ use hs_base::LitByte;
 use hs_fdr::{MAX_WIDTH, MIN_WIDTH, PLACES};
 use std::alloc::{AllocError, Global};
 
-/// The greatest number of a bucket.
-const LAST_BUCKET: u8 = 7;
+/// How many buckets there are.
+const BUCKETS: u64 = 8;
 
 /// Where a literal stands among the others: by length, as far as masks see it, and then by its last bytes.
 #[derive(Clone, Copy, Debug, PartialEq, Eq, PartialOrd, Ord)]
@@ -88,11 +91,12 @@ pub(crate) fn buckets_of(alloc: Global, literals: &[Vec<LitByte>]) -> Result<Vec
     ensures below { IfOk result (λ buckets. All (λ b. b < 8) buckets.items) }
 {
     let ranks = ranks_of(alloc, literals)?;
-    let share = total_of(ranks.as_slice()) / 8 + 1;
+    let total = total_of(ranks.as_slice()).max(1);
     let mut buckets = vec![in alloc; 0u8; literals.len()]?;
     let mut before = 0u64;
     for rank in ranks.iter() {
-        buckets[rank.number] = (before / share).min(7) as u8;
+        let bucket = before.saturating_mul(BUCKETS) / total;
+        buckets[rank.number] = bucket.min(BUCKETS - 1) as u8;
         before = before.saturating_add(weight_of(rank.length));
     }
     Ok(buckets)

@@ -166,3 +166,24 @@ fn makes_no_other_bit_zero(rt: HostRuntime) -> Result<(), Fail> {
     }
     Ok(())
 }
+
+#[test]
+fn misses_no_pair_of_bytes(rt: HostRuntime) -> Result<(), Fail> {
+    let mut list = Vec::new(rt.alloc());
+    for first in 0..=255u8 {
+        for second in 0..=255 {
+            list.push(literal(rt.alloc(), [first, second].as_slice(), false)?)?;
+        }
+    }
+    let (tables, buckets) = build(rt.alloc(), list.as_slice())?;
+    let text = b"any two bytes are one of the literals";
+    let masks = scanned(rt.alloc(), &tables, text.as_slice())?;
+    for (pair, mask) in text.windows(2).zip(masks.iter().skip(1)) {
+        let number = pair
+            .iter()
+            .fold(0, |number, byte| number * 256 + usize::from(*byte));
+        let bucket = buckets.get(number).copied().unwrap_or(0);
+        assert_eq!(rt; (*mask >> (bucket % 8)) & 1, 0);
+    }
+    Ok(())
+}
