@@ -186,7 +186,7 @@ same-ending {other = other} {actions = actions} over gives is =
     sym over.run.is ∙ (script_once over.run.run.script (subst (λ b. IsScript 1 b actions other) (whole-told over.bytes gives over.whole) is)).same_ending
 
 -- the outcome of a script that ends so
-outcome_of_ending : Option ScriptFault → Option Cause
+abbrev outcome_of_ending : Option ScriptFault → Option Cause
 outcome_of_ending None = None
 outcome_of_ending (Some fault) = Some (script fault)
 
