@@ -1,0 +1,10 @@
+pub mod ClearLemmas
+pub mod LiteralByteLemmas
+pub mod WidthLemmas
+pub mod ColumnLemmas
+pub mod PlaceLemmas
+pub mod LiteralListLemmas
+pub mod MaskLemmas
+pub mod TableLemmas
+pub mod EndLemmas
+pub mod NoEndLemmas

@@ -1,0 +1,5 @@
+pub mod LiteralEnds
+pub mod Asking
+pub mod Clearing
+pub mod MaskPlaces
+pub mod NoEndMasked
