@@ -14,6 +14,6 @@ invariant_of-result c =
     let few : AreFew (buckets_of confirm) = subst AreFew (sym buckets) (few-from_all c.in_ok-tables.buckets.items c.in_ok-tables.ensures.below) in
     record {
       hides_none = tables_hide_none tables (literals_of confirm) (buckets_of confirm) few
-      (subst (λ ls. AreTablesOf ls (buckets_of confirm) tables) (sym literals) (subst (λ bs. AreTablesOf (map literal_of c.args.literals.now) bs tables) (sym buckets) c.in_ok-tables.ensures.exact));
+          (subst (λ ls. AreTablesOf ls (buckets_of confirm) tables) (sym literals) (subst (λ bs. AreTablesOf (map literal_of c.args.literals.now) bs tables) (sym buckets) c.in_ok-tables.ensures.exact));
       few = few;
     }

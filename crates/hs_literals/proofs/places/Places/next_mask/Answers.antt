@@ -14,10 +14,9 @@ returns-clause-next c =
     let at : length new.history.now + (new.block + i + 1) ≡ length new.history.now + (new.at + 1) = omega (arith, new.behind) in
     let hides : HidesNone mask (literals_of new.literals.now.confirm) (buckets_of new.literals.now.confirm) (new.history.now ++ new.bytes.now) (length new.history.now + (new.at + 1)) =
     subst (λ n. HidesNone mask (literals_of new.literals.now.confirm) (buckets_of new.literals.now.confirm) (new.history.now ++ new.bytes.now) n) at
-    (new.hide_none i (omega (arith, same.near, new.behind)) (omega (arith, inside, new.behind))) in
-    (
+    (new.hide_none i (omega (arith, same.near, new.behind)) (omega (arith, inside, new.behind))) in (
       omega (arith, same.at),
       subst (λ l. HidesNone mask (literals_of l.now.confirm) (buckets_of l.now.confirm) (old.history.now ++ old.bytes.now) (length old.history.now + (new.at + 1))) same.literals
-      (subst (λ h. HidesNone mask (literals_of new.literals.now.confirm) (buckets_of new.literals.now.confirm) (h.now ++ old.bytes.now) (length h.now + (new.at + 1))) same.history
-      (subst (λ b. HidesNone mask (literals_of new.literals.now.confirm) (buckets_of new.literals.now.confirm) (new.history.now ++ b.now) (length new.history.now + (new.at + 1))) same.bytes hides)),
+          (subst (λ h. HidesNone mask (literals_of new.literals.now.confirm) (buckets_of new.literals.now.confirm) (h.now ++ old.bytes.now) (length h.now + (new.at + 1))) same.history
+          (subst (λ b. HidesNone mask (literals_of new.literals.now.confirm) (buckets_of new.literals.now.confirm) (new.history.now ++ b.now) (length new.history.now + (new.at + 1))) same.bytes hides)),
     )

@@ -17,12 +17,11 @@ returns-then-mask-clause-next c =
     let old = c.loop-mask.self in
     let same = c.loop-mask.invariant in
     let n = c.next_mask.new.self.at in
-    let mask = c.in-Some.mask in
-    (
+    let mask = c.in-Some.mask in (
       omega (arith, same.low, c.in-Some.ensures.next.0),
       subst (λ l. HidesNone mask (literals_of l.now.confirm) (buckets_of l.now.confirm) (first.history.now ++ first.bytes.now) (length first.history.now + n)) same.literals
-      (subst (λ h. HidesNone mask (literals_of old.literals.now.confirm) (buckets_of old.literals.now.confirm) (h.now ++ first.bytes.now) (length h.now + n)) same.history
-      (subst (λ b. HidesNone mask (literals_of old.literals.now.confirm) (buckets_of old.literals.now.confirm) (old.history.now ++ b.now) (length old.history.now + n)) same.bytes c.in-Some.ensures.next.1)),
+          (subst (λ h. HidesNone mask (literals_of old.literals.now.confirm) (buckets_of old.literals.now.confirm) (h.now ++ first.bytes.now) (length h.now + n)) same.history
+          (subst (λ b. HidesNone mask (literals_of old.literals.now.confirm) (buckets_of old.literals.now.confirm) (old.history.now ++ b.now) (length old.history.now + n)) same.bytes c.in-Some.ensures.next.1)),
     )
 
 pub loop-mask-preserved : goal.loop-mask-preserved
@@ -56,8 +55,7 @@ returns-clause-none_before c = λ end number literal low high numbered ends.
     c.loop-mask.invariant.none end number literal low (omega (arith, high, c.in_default.ensures.next.1)) numbered ends
 
 pub returns-clause-next : goal.returns-clause-next
-returns-clause-next c =
-    (
-      c.in_default.ensures.next.1 ∙ c.in_default.ensures.next.0 ∙ ap (λ b. length b.now) c.loop-mask.invariant.bytes,
-      λ end number literal low high numbered ends. c.loop-mask.invariant.none end number literal low (omega (arith, high, c.in_default.ensures.next.1)) numbered ends,
-    )
+returns-clause-next c = (
+  c.in_default.ensures.next.1 ∙ c.in_default.ensures.next.0 ∙ ap (λ b. length b.now) c.loop-mask.invariant.bytes,
+  λ end number literal low high numbered ends. c.loop-mask.invariant.none end number literal low (omega (arith, high, c.in_default.ensures.next.1)) numbered ends,
+)

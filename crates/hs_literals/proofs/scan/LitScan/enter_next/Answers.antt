@@ -10,11 +10,10 @@ pub returns-in-None-clause-next : goal.returns-in-None-clause-next
 returns-in-None-clause-next c =
     let old = c.args.self.now.places in
     let new = c.next_open.new.self in
-    let end = c.in-None.ensures.next.0 in
-    (
+    let end = c.in-None.ensures.next.0 in (
       refl,
       ends_behind-skip (new.at - old.at) (held old.literals.now) old.history.now old.bytes.now old.at new.at (omega (arith, end, old.within)) (omega (arith, end)) c.in-None.ensures.next.1
-      ∙ ends_behind-end (held old.literals.now) old.history.now old.bytes.now new.at (omega (arith, end)),
+          ∙ ends_behind-end (held old.literals.now) old.history.now old.bytes.now new.at (omega (arith, end)),
       ends_behind-end (held new.literals.now) new.history.now new.bytes.now new.at (omega (arith, end, ap (λ b. length b.now) c.in-None.ensures.bytes)),
     )
 
@@ -32,12 +31,11 @@ pub returns-clause-next : goal.returns-clause-next
 returns-clause-next c =
     let old = c.args.self.now.places in
     let new = c.next_open.new.self in
-    let same = c.in-Some.ensures in
-    (
+    let same = c.in-Some.ensures in (
       same.next.0,
       ends_behind-enter (held old.literals.now) old.history.now old.bytes.now old.at new.at same.next.0 (omega (arith, new.within, ap (λ b. length b.now) same.bytes)) same.none_before
-      ∙ ap (λ l. pairs_at new.at (numbers_at (held l.now) (old.history.now ++ old.bytes.now) (length old.history.now + new.at)) ++ ends_behind (held l.now) old.history.now old.bytes.now new.at) (sym same.literals)
-      ∙ ap (λ h. pairs_at new.at (numbers_at (held new.literals.now) (h.now ++ old.bytes.now) (length h.now + new.at)) ++ ends_behind (held new.literals.now) h.now old.bytes.now new.at) (sym same.history)
-      ∙ ap (λ b. pairs_at new.at (numbers_at (held new.literals.now) (new.history.now ++ b.now) (length new.history.now + new.at)) ++ ends_behind (held new.literals.now) new.history.now b.now new.at) (sym same.bytes)
-      ∙ ap (λ numbers. pairs_at new.at numbers ++ ends_behind (held new.literals.now) new.history.now new.bytes.now new.at) (sym c.ends-self.ensures),
+          ∙ ap (λ l. pairs_at new.at (numbers_at (held l.now) (old.history.now ++ old.bytes.now) (length old.history.now + new.at)) ++ ends_behind (held l.now) old.history.now old.bytes.now new.at) (sym same.literals)
+          ∙ ap (λ h. pairs_at new.at (numbers_at (held new.literals.now) (h.now ++ old.bytes.now) (length h.now + new.at)) ++ ends_behind (held new.literals.now) h.now old.bytes.now new.at) (sym same.history)
+          ∙ ap (λ b. pairs_at new.at (numbers_at (held new.literals.now) (new.history.now ++ b.now) (length new.history.now + new.at)) ++ ends_behind (held new.literals.now) new.history.now b.now new.at) (sym same.bytes)
+          ∙ ap (λ numbers. pairs_at new.at numbers ++ ends_behind (held new.literals.now) new.history.now new.bytes.now new.at) (sym c.ends-self.ensures),
     )
