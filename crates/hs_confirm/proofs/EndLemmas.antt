@@ -31,19 +31,19 @@ entry_end_option entries bucket text offset number (Some entry) is says =
     let both = and_parts (eqb entry.bucket bucket) (ends_there (literal_in entry) text offset) says in
     record { entry = entry; numbered = is; filed = eqb-true entry.bucket bucket both.0; ends = both.1 }
 
-number_end : (entries : List Entry) (bucket : ℕ) (text : List ℕ) (offset number : ℕ) → number_ends entries bucket text offset number ≡ true → IsEntryEnd entries bucket text offset number
+pub number_end : (entries : List Entry) (bucket : ℕ) (text : List ℕ) (offset number : ℕ) → number_ends entries bucket text offset number ≡ true → IsEntryEnd entries bucket text offset number
 number_end entries bucket text offset number says = entry_end_option entries bucket text offset number (slice_get entries number) refl says
 
-end_number : (entries : List Entry) (bucket : ℕ) (text : List ℕ) (offset number : ℕ) (entry : Entry) → slice_get entries number ≡ Some entry → entry.bucket ≡ bucket → ends_there (literal_in entry) text offset ≡ true → number_ends entries bucket text offset number ≡ true
+pub end_number : (entries : List Entry) (bucket : ℕ) (text : List ℕ) (offset number : ℕ) (entry : Entry) → slice_get entries number ≡ Some entry → entry.bucket ≡ bucket → ends_there (literal_in entry) text offset ≡ true → number_ends entries bucket text offset number ≡ true
 end_number entries bucket text offset number entry is filed ends =
     ap (entry_ends_option bucket text offset) is ∙ and_from (eqb entry.bucket bucket) (ends_there (literal_in entry) text offset) (eq-eqb entry.bucket bucket filed) ends
 
 -- what a map of a list has at a number
-mapped : {A B : Type 0} (f : A → B) (xs : List A) (k : ℕ) (found : Option A) (y : B) → slice_get xs k ≡ found → slice_get (map f xs) k ≡ Some y → (x : A) × (slice_get xs k ≡ Some x) × (f x ≡ y)
+pub mapped : {A B : Type 0} (f : A → B) (xs : List A) (k : ℕ) (found : Option A) (y : B) → slice_get xs k ≡ found → slice_get (map f xs) k ≡ Some y → (x : A) × (slice_get xs k ≡ Some x) × (f x ≡ y)
 mapped f xs k None y is says = absurd (none-some y (sym (slice_get-map f xs k ∙ ap (option_map f) is) ∙ says))
 mapped f xs k (Some x) y is says = (x, is, same_Some (f x) y (sym (slice_get-map f xs k ∙ ap (option_map f) is) ∙ says))
 
-bucket_end : (entries : List Entry) (bucket : ℕ) (text : List ℕ) (offset number : ℕ) → offset ≤ length text → IsEntryEnd entries bucket text offset number → IsBucketEnd (map literal_in entries) (map (λ entry. entry.bucket) entries) bucket text offset number
+pub bucket_end : (entries : List Entry) (bucket : ℕ) (text : List ℕ) (offset number : ℕ) → offset ≤ length text → IsEntryEnd entries bucket text offset number → IsBucketEnd (map literal_in entries) (map (λ entry. entry.bucket) entries) bucket text offset number
 bucket_end entries bucket text offset number within is = record {
   literal = literal_in is.entry;
   numbered = slice_get-map literal_in entries number ∙ ap (option_map literal_in) is.numbered;
@@ -154,3 +154,14 @@ entry_ends-read widths entries bucket key text offset number entry keyed is numb
     ∙ ap (λ b. text_key (get_or widths b 0) text offset) filed
     ∙ sym is)
     ends)
+
+-- the key of an entry that ends there is that of the text
+pub end_key : (widths : List ℕ) (entries : List Entry) (bucket : ℕ) (text : List ℕ) (offset number : ℕ) (entry : Entry) → AreKeyed widths entries → number_ends entries bucket text offset number ≡ true → slice_get entries number ≡ Some entry
+    → entry.key ≡ text_key (get_or widths bucket 0) text offset
+end_key widths entries bucket text offset number entry keyed says numbered =
+    let found : IsEntryEnd entries bucket text offset number = number_end entries bucket text offset number says in
+    let same : found.entry ≡ entry = same_Some found.entry entry (sym found.numbered ∙ numbered) in
+    let known : IsKeyed widths entry = keyed number entry numbered in
+    known.key
+    ∙ keys-same (get_or widths entry.bucket 0) (literal_in entry) text offset (are_small entry.literal.items) known.short (sym (ap (λ e. ends_there (literal_in e) text offset) same) ∙ found.ends)
+    ∙ ap (λ b. text_key (get_or widths b 0) text offset) (sym (ap (λ e. e.bucket) same) ∙ found.filed)

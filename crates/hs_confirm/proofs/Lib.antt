@@ -5,3 +5,4 @@ pub mod ChainLemmas
 pub mod EndLemmas
 pub mod FilingLemmas
 pub mod PlainLemmas
+pub mod HeadLemmas

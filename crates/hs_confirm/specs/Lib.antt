@@ -8,3 +8,6 @@ pub mod Widths
 pub mod Entries
 pub mod Filed
 pub mod Left
+pub mod PlaceEnds
+pub mod Heads
+pub mod PlaceLeft

@@ -9,6 +9,7 @@ use crate::chains::Chains;
 use crate::ends::Ends;
 use crate::entry::Entry;
 use crate::filing::{entries_of, row_count, rows_of};
+use crate::place_ends::PlaceEnds;
 use crate::widths::{BUCKETS, widths_of};
 use hs_base::LitByte;
 use std::alloc::{AllocError, Global};
@@ -31,6 +32,8 @@ impl Confirm {
     ghost use Rattle.hs_confirm.specs.BucketEnds.{AreBucketEnds};
     ghost use Rattle.hs_confirm.specs.Filed.{literals_of, buckets_of};
     ghost use Rattle.hs_confirm.specs.Left.{ends_left};
+    ghost use Rattle.hs_confirm.specs.PlaceEnds.{ArePlaceEnds};
+    ghost use Rattle.hs_confirm.specs.PlaceLeft.{place_left};
 
     /// The table of these literals; `buckets` has the bucket of each, 0 to 7.
     ///
@@ -73,5 +76,19 @@ impl Confirm {
         ensures { AreBucketEnds (literals_of self.now) (buckets_of self.now) bucket (history.now ++ bytes.now) (length history.now + at) (ends_left result) }
     {
         Ends::new(self, bucket, history, bytes, at)
+    }
+
+    /// The numbers of the literals that end at `at`, of all buckets whose bit in the mask is 0; else as `ends_at`.
+    pub fn place_ends<'a>(
+        &'a self,
+        mask: u8,
+        history: &'a [u8],
+        bytes: &'a [u8],
+        at: usize,
+    ) -> PlaceEnds<'a>
+        requires within { at ≤ length bytes.now }
+        ensures { ArePlaceEnds (literals_of self.now) (buckets_of self.now) mask (history.now ++ bytes.now) (length history.now + at) (place_left result) }
+    {
+        PlaceEnds::new(self, mask, history, bytes, at)
     }
 }

@@ -1,8 +1,8 @@
 //! The literals of a bucket that end at a place, rising.
 
-ghost use Rattle.std.specs.Prelude.{◌≡◌, ◌<◌, ◌≤◌, ◌+◌, ◌++◌, length, slice_index, vec_len};
+ghost use Rattle.std.specs.Prelude.{◌≡◌, ◌<◌, ◌≤◌, ◌+◌, ◌++◌, true, length, slice_index, vec_len};
 ghost use Rattle.hs_confirm.specs.Keys.{row_of, text_key};
-ghost use Rattle.hs_confirm.specs.Entries.{number_ends, rows_of_entries};
+ghost use Rattle.hs_confirm.specs.Entries.{number_ends, ends_from, rows_of_entries};
 
 use crate::confirm::Confirm;
 use crate::keys::{row_of, text_key};
@@ -43,7 +43,8 @@ impl<'a> Ends<'a> {
     ) -> Ends<'a>
         requires bucket { bucket < 8 }
         requires within { at ≤ length bytes.now }
-        ensures { AreBucketEnds (literals_of confirm.now) (buckets_of confirm.now) bucket (history.now ++ bytes.now) (length history.now + at) (ends_left result) }
+        ensures left { ends_left result ≡ ends_from confirm.now.entries.items bucket (history.now ++ bytes.now) (length history.now + at) 0 }
+        ensures exact { AreBucketEnds (literals_of confirm.now) (buckets_of confirm.now) bucket (history.now ++ bytes.now) (length history.now + at) (ends_left result) }
     {
         let key = text_key(history, bytes, at, confirm.widths[usize::from(bucket)]);
         let row = row_of(confirm.chains.rows(), bucket, key);
@@ -55,6 +56,32 @@ impl<'a> Ends<'a> {
             bucket,
             key,
             next: confirm.chains.first(row),
+        }
+    }
+
+    /// Those behind a number that ends there, of its bucket.
+    pub(crate) fn behind(
+        confirm: &'a Confirm,
+        number: usize,
+        bucket: u8,
+        history: &'a [u8],
+        bytes: &'a [u8],
+        at: usize,
+    ) -> Ends<'a>
+        requires bucket { bucket < 8 }
+        requires within { at ≤ length bytes.now }
+        requires number { number < vec_len confirm.now.entries }
+        requires ends { number_ends confirm.now.entries.items bucket (history.now ++ bytes.now) (length history.now + at) number ≡ true }
+        ensures { ends_left result ≡ ends_from confirm.now.entries.items bucket (history.now ++ bytes.now) (length history.now + at) (number + 1) }
+    {
+        Ends {
+            confirm,
+            history,
+            bytes,
+            at,
+            bucket,
+            key: confirm.entries[number].key,
+            next: confirm.chains.after(number),
         }
     }
 

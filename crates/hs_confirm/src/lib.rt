@@ -8,6 +8,7 @@ mod ends;
 mod entry;
 mod filing;
 mod keys;
+mod place_ends;
 mod plain;
 mod taking;
 #[cfg(test)]
@@ -16,4 +17,5 @@ mod widths;
 
 pub use confirm::Confirm;
 pub use ends::Ends;
+pub use place_ends::PlaceEnds;
 pub use plain::plain_ends;

@@ -123,3 +123,16 @@ fn agrees_with_the_plain_program_at_each_place(rt: HostRuntime) -> Result<(), Fa
     }
     Ok(())
 }
+
+#[test]
+fn tells_all_buckets_that_are_left_open(rt: HostRuntime) -> Result<(), Fail> {
+    let literals = literals_of(rt.alloc(), b"ab\nb\nab\ncab\nxab\nab\n")?;
+    let confirm = Confirm::build(rt.alloc(), literals.as_slice(), &[3, 0, 7, 1, 0, 0])?;
+    let all: Vec<usize> = confirm.place_ends(0, b"ca", b"b", 1).collect(rt.alloc())?;
+    assert!(rt; all.as_slice() == [0, 1, 2, 3, 5].as_slice());
+    let some: Vec<usize> = confirm
+        .place_ends(0b1111_0110, b"ca", b"b", 1)
+        .collect(rt.alloc())?;
+    assert!(rt; some.as_slice() == [0, 1, 5].as_slice());
+    Ok(())
+}

@@ -25,6 +25,7 @@ loop-number-preserved c =
       buckets = ap (map (λ e. e.bucket)) c.in_ok-push.ensures.items ∙ map_push (λ e. e.bucket) entries entry
           ∙ take-push (map (λ e. e.bucket) entries) entry.bucket c.args.buckets.now c.loop-number.number (omega (arith, c.requires.each)) c.loop-number.invariant.buckets made.bucket;
       keyed = subst (AreKeyed c.args.widths.now) (sym c.in_ok-push.ensures.items) (keyed-push c.args.widths.now entries entry c.loop-number.invariant.keyed (record {
+        few = omega (arith, made.bucket, c.requires.few c.loop-number.number (omega (arith, c.requires.each)));
         short = omega (arith, len, read, width, c.requires.short c.loop-number.number (omega arith));
         key = made.key
             ∙ ap (λ w. literal_key w (map literal_byte c.as_slice.result.now)) (ap (λ b. get_or widths b 0) c.from.ensures ∙ sym width)

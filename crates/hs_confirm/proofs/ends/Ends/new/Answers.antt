@@ -7,15 +7,21 @@ use Rattle.hs_confirm.proofs.ChainLemmas.{first_least}
 use Rattle.hs_confirm.proofs.EndLemmas.{ends_from-exact, ends_from-skip}
 use Rattle.hs_confirm.proofs.ends.Ends.new.Goals as goal
 
-pub returns : goal.returns
-unfolding literals_of buckets_of
-returns c =
+pub returns-clause-left : goal.returns-clause-left
+returns-clause-left c =
     let confirm = c.args.confirm.now in
     let entries = confirm.entries.items in
     let text = c.args.history.now ++ c.args.bytes.now in
     let offset = length c.args.history.now + c.args.at in
     let least = first_least (rows_of_entries (vec_len confirm.chains.heads) entries) confirm.chains.heads.items confirm.chains.nexts.items c.row_of-row.result (row_of (vec_len confirm.chains.heads) c.args.bucket c.text_key-key.result) c.first.result confirm.chained
     (omega (arith, c.row_of-row.ensures.within, c.rows.ensures.count, confirm.chains.heads.ok.0)) (c.row_of-row.ensures.row ∙ ap (λ n. row_of n c.args.bucket c.text_key-key.result) c.rows.ensures.count) c.first.ensures in
-    subst (λ numbers. AreBucketEnds (literals_of confirm) (buckets_of confirm) c.args.bucket text offset numbers)
-    (ends_from-skip confirm.widths entries (vec_len confirm.chains.heads) c.args.bucket c.text_key-key.result text offset 0 c.first.result confirm.keyed (c.text_key-key.ensures ∙ ap (λ b. text_key (get_or confirm.widths b 0) text offset) c.from.ensures) least)
-    (ends_from-exact entries c.args.bucket text offset (omega (arith, length-append c.args.history.now c.args.bytes.now, c.requires.within)))
+    sym (ends_from-skip confirm.widths entries (vec_len confirm.chains.heads) c.args.bucket c.text_key-key.result text offset 0 c.first.result confirm.keyed (c.text_key-key.ensures ∙ ap (λ b. text_key (get_or confirm.widths b 0) text offset) c.from.ensures) least)
+
+pub returns-clause-exact : goal.returns-clause-exact
+unfolding literals_of buckets_of
+returns-clause-exact c =
+    let confirm = c.args.confirm.now in
+    let text = c.args.history.now ++ c.args.bytes.now in
+    let offset = length c.args.history.now + c.args.at in
+    subst (λ numbers. AreBucketEnds (literals_of confirm) (buckets_of confirm) c.args.bucket text offset numbers) (sym (returns-clause-left c))
+    (ends_from-exact confirm.entries.items c.args.bucket text offset (omega (arith, length-append c.args.history.now c.args.bytes.now, c.requires.within)))

@@ -1,0 +1,18 @@
+use Rattle.std.proofs.Common.{◌≡◌, ◌≤◌, ◌++◌, ◌+◌, ◌∙◌, length, vec_len, sym, ap, subst, arith}
+use Rattle.std.specs.Option.{unwrap_or}
+use Rattle.hs_confirm.specs.Left.{ends_left}
+use Rattle.hs_confirm.specs.Entries.{number_ends}
+use Rattle.hs_confirm.specs.Heads.{IsFirstPassing}
+use Rattle.hs_confirm.proofs.HeadLemmas.{first_or, first_or-next, first_end}
+use Rattle.hs_confirm.proofs.place_ends.head_behind.Goals as goal
+
+pub returns : goal.returns
+returns c =
+    let entries = c.args.confirm.now.entries in
+    let text = c.args.history.now ++ c.args.bytes.now in
+    let offset = length c.args.history.now + c.args.at in
+    let within : c.args.number + 1 ≤ length entries.items = omega (arith, c.requires.number, entries.ok.0) in
+    let first = first_or-next c.next.result (ends_left c.behind.result) (ends_left c.next.new.self) (length entries.items) c.next.ensures.steps in
+    subst (λ count. IsFirstPassing (number_ends entries.items c.args.bucket text offset) (c.args.number + 1) count c.unwrap_or.result) (sym entries.ok.0)
+    (first_end entries.items c.args.bucket text offset (c.args.number + 1) c.unwrap_or.result within
+    (c.unwrap_or.ensures ∙ ap (unwrap_or c.next.result) (c.len.ensures ∙ entries.ok.0) ∙ first ∙ ap (λ xs. first_or xs (length entries.items)) c.behind.ensures))

@@ -1,0 +1,2 @@
+pub mod AllEndLemmas
+pub mod MaskLemmas

@@ -1,0 +1,6 @@
+pub mod ScanEnds
+pub mod Masking
+pub mod Places
+pub mod AllEnds
+pub mod Held
+pub mod Left
