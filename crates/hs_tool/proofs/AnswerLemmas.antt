@@ -1,17 +1,17 @@
 -- From what the steps of a command leave to the command's answer.
-use Rattle.std.proofs.Common.{◌≡◌, ℕ, ◌≤◌, List, [], ◌∷◌, ◌++◌, length, Option, Some, None, Result, Ok, Err, OnOk, OnErr, MatchResult, refl, sym, ap, ◌∙◌, subst, arith, append_assoc, inr}
+use Rattle.std.proofs.Common.{◌≡◌, ℕ, ◌≤◌, List, [], ◌∷◌, ◌++◌, length, Option, Some, None, refl, sym, ap, ◌∙◌, subst, arith, append_assoc, inr}
 use Rattle.hs_base.specs.Patterns.{Pattern}
-use Rattle.hs_base.specs.Told.{Pair, IsTold, IsNew, IsLast}
+use Rattle.hs_base.specs.Told.{Pair, IsNew, IsLast}
 use Rattle.hs_base.specs.MatchText.{report_lines, end_line, IsMatchText}
 use Rattle.hs_base.proofs.ToldLemmas.{new-once, last-once, new-splits}
 use Rattle.hs_base.proofs.NewLemmas.{told_start, new_nothing}
 use Rattle.hs_outside.specs.Counts.{Rose}
 use Rattle.hs_outside.specs.Sink.{Took, TookPrefix}
 use Rattle.hs_outside.specs.Store.{Told, holds, Begins, IsFile}
-use Rattle.hs_outside.proofs.Sending.{Took-nothing, Took-append, TookPrefix-after, TookPrefix-longer}
+use Rattle.hs_outside.proofs.Sending.{Took-nothing, Took-append, TookPrefix-after}
 use Rattle.hs_base.specs.Entries.{ListedEntry}
 use Rattle.hs_scan.proofs.CloseLemmas.{behind}
-use Rattle.hs_scan.specs.Scanning.{Interrupts, Moves, AreReportsOf, IsScanned, IsScannedTo, IsFileScanned, IsFilePartlyScanned, IsEnded, IsEndCutShort, IsClosed, IsPartlyClosed}
+use Rattle.hs_scan.specs.Scanning.{Interrupts, IsScanned, IsScannedTo, IsFileScanned, IsFilePartlyScanned, IsClosed, IsPartlyClosed}
 use Rattle.hs_tool.specs.Causes.{Cause, write, memory}
 use Rattle.hs_request.specs.Requests.{Request, match_file, check_list, compile_list, tell_database, scan_file, run_script}
 use Rattle.hs_tool.specs.Commands.{ListKind, pattern_file, database_file}

@@ -11,10 +11,10 @@ use Rattle.hs_script.specs.Scripts.{IsScript}
 use Rattle.hs_script.proofs.ScriptLemmas.{script_once}
 use Rattle.hs_session.specs.Reading.{most_script}
 use Rattle.hs_request.specs.Requests.{Request, match_file, check_list, compile_list, tell_database, scan_file, run_script}
-use Rattle.hs_tool.specs.Commands.{ListKind, pattern_file, database_file, Scanned, no_bytes, file_named, script_of_input, list_kind, list_name, scanned_by}
+use Rattle.hs_tool.specs.Commands.{ListKind, database_file, no_bytes, file_named, script_of_input, list_kind, list_name, scanned_by}
 use Rattle.hs_tool.specs.Accepting.{IsAccepted, IsRefused}
 use Rattle.hs_scan.specs.Scanning.{greatest_offset}
-use Rattle.hs_tool.specs.Causes.{Cause, usage, absent, limit, script, memory}
+use Rattle.hs_tool.specs.Causes.{Cause, absent, limit, script, memory}
 use Rattle.hs_tool.specs.Streaming.{IsTextOver}
 use Rattle.hs_tool.specs.Answers
 use Rattle.hs_tool.specs.Answers.{greatest_list, Outside, Input, HasList, HasRefusedList, HasWritten, StopsList, ScanEnds, TellEnds, CompileEnds, StreamEnds, UsageEnds, Ends, IsListDue, TellsList, IsDue, IsDueOutcome}

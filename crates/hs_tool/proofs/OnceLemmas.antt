@@ -1,8 +1,7 @@
 -- A file of a list is read in one way: it is accepted, or refused, and by one cause.
-use Rattle.std.proofs.Common.{◌≡◌, ℕ, List, [], Some, None, refl, sym, ap, ◌∙◌, subst}
+use Rattle.std.proofs.Common.{◌≡◌, ℕ, List, [], Some, None, ap, ◌∙◌, subst}
 use Rattle.hs_base.specs.Patterns.{Pattern}
 use Rattle.hs_base.specs.Entries.{ListedEntry}
-use Rattle.hs_base.specs.declared.entry.ExprId.{ExprId}
 use Rattle.hs_base.specs.declared.refusal.Refusal.TheVariants.{ListLine}
 use Rattle.hs_text.proofs.FileLemmas as texts
 use Rattle.hs_dbfile.proofs.FileLemmas.{is_file_once, is_place_once}

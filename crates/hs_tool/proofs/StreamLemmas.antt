@@ -1,15 +1,13 @@
 -- From what a script leaves to the answer of `stream`.
-use Rattle.std.proofs.Common.{◌≡◌, ℕ, ◌<◌, ◌≤◌, Bool, true, List, [], ◌++◌, length, Option, Some, None, Result, Ok, Err, refl, sym, ap, ap₂, ◌∙◌, subst, arith, append_assoc, append-nil, length-append}
+use Rattle.std.proofs.Common.{◌≡◌, ℕ, Bool, true, List, [], ◌++◌, Option, Some, None, Result, Ok, Err, refl, sym, ap, ap₂, ◌∙◌, subst, append_assoc, append-nil}
 use Rattle.hs_base.specs.Entries.{ListedEntry}
 use Rattle.hs_base.specs.Patterns.{Pattern}
-use Rattle.hs_outside.specs.Source.{Gave, GaveSome, IsAtEnd, IsWhole}
+use Rattle.hs_outside.specs.Source.{Gave, IsAtEnd, IsWhole}
 use Rattle.hs_outside.specs.Sink.{Took, TookPrefix}
 use Rattle.hs_text.specs.declared.reply_lines.ScriptFault.{ScriptFault}
 use Rattle.hs_compile.specs.declared.database.Database.{Database}
 use Rattle.hs_compile.specs.Databases.{IsDatabaseOf}
-use Rattle.hs_session.specs.declared.fault.Break.TheVariants.{Read, Limit, Write}
 use Rattle.hs_session.specs.declared.fault.ScriptStop.{ScriptStop}
-use Rattle.hs_session.specs.declared.fault.ScriptStop.TheVariants.{Fault, Broken, Memory}
 use Rattle.hs_session.specs.Reading.{MayCome}
 use Rattle.hs_session.specs.Serving as serving
 use Rattle.hs_session.specs.Serving.{Finished, Begun, SoFar, ScriptEnds, EndCounts}

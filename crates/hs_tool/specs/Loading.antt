@@ -3,7 +3,6 @@ use Rattle.std.specs.Prelude.{◌≡◌, ℕ, ◌≤◌, List, length, map}
 use Rattle.hs_base.specs.Entries.{ListedEntry, listed}
 use Rattle.hs_base.specs.Patterns.{Pattern}
 use Rattle.hs_outside.specs.Store.{Told, IsFile}
-use Rattle.hs_compile.specs.declared.database.Database.{Database}
 use Rattle.hs_compile.specs.Databases.{IsDatabaseOf}
 use Rattle.hs_tool.specs.Commands.{ListKind}
 use Rattle.hs_tool.specs.Accepting.{IsAccepted}
