@@ -1,5 +1,3 @@
-ghost use Rattle.std.specs.Prelude.{◌≡◌, ◌≤◌, ◌<◌, ℕ, length, slice_index, IfOk, vec_len};
-
 use crate::{Confirm, plain_ends};
 use hs_base::LitByte;
 use std::alloc::{AllocError, Global};
@@ -24,20 +22,6 @@ fn literals_of(alloc: Global, lines: &[u8]) -> Result<Vec<Vec<LitByte>>, AllocEr
         }
     }
     Ok(literals)
-}
-
-/// Buckets that follow no pattern, as many as asked for.
-fn mixed_buckets(alloc: Global, count: usize) -> Result<Vec<u8>, AllocError>
-    ensures each { IfOk result (λ buckets. vec_len buckets ≡ count) }
-    ensures few { IfOk result (λ buckets. (k : ℕ) → k < length buckets.items → slice_index buckets.items k < 8) }
-{
-    let mut buckets = Vec::new(alloc);
-    let mut state = 1u32;
-    for _ in 0..count {
-        state = state.wrapping_mul(1_664_525).wrapping_add(1_013_904_223);
-        buckets.push((state >> 24) as u8 % 8)?;
-    }
-    Ok(buckets)
 }
 
 /// The numbers that are told of literals in the first bucket, at the end of the bytes.
@@ -94,13 +78,15 @@ fn tells_the_literals_that_end(rt: HostRuntime) -> Result<(), Fail> {
 const LINES: &[u8] =
     b"aa\nab\nba\naaa\naba\n~a~a\n~ab\nbab\nabab\nbabab\nabbaabba\nabaabaabaabaabaabaabaabaabaabaab\n";
 
+const BUCKETS: [u8; 12] = [3, 1, 4, 1, 5, 2, 6, 5, 3, 5, 0, 7];
+
 const TEXT: &[u8] = b"abaabaabaabaabaabaabaabaabaabaababbaabbAABbaBABABaAb";
 
 #[test]
 fn agrees_with_the_plain_program_at_each_place(rt: HostRuntime) -> Result<(), Fail> {
     let literals = literals_of(rt.alloc(), LINES)?;
-    let buckets = mixed_buckets(rt.alloc(), literals.len())?;
-    let confirm = Confirm::build(rt.alloc(), literals.as_slice(), buckets.as_slice())?;
+    assert!(rt; literals.len() == BUCKETS.len());
+    let confirm = Confirm::build(rt.alloc(), literals.as_slice(), &BUCKETS)?;
     for cut in [0, 1, 2, 33, TEXT.len()] {
         let (history, bytes) = TEXT.split_at(cut);
         for at in 0..bytes.len() + 1 {
@@ -111,7 +97,7 @@ fn agrees_with_the_plain_program_at_each_place(rt: HostRuntime) -> Result<(), Fa
                 let plain = plain_ends(
                     rt.alloc(),
                     literals.as_slice(),
-                    buckets.as_slice(),
+                    &BUCKETS,
                     bucket,
                     history,
                     bytes,
@@ -127,6 +113,7 @@ fn agrees_with_the_plain_program_at_each_place(rt: HostRuntime) -> Result<(), Fa
 #[test]
 fn tells_all_buckets_that_are_left_open(rt: HostRuntime) -> Result<(), Fail> {
     let literals = literals_of(rt.alloc(), b"ab\nb\nab\ncab\nxab\nab\n")?;
+    assert!(rt; literals.len() == 6);
     let confirm = Confirm::build(rt.alloc(), literals.as_slice(), &[3, 0, 7, 1, 0, 0])?;
     let all: Vec<usize> = confirm.place_ends(0, b"ca", b"b", 1).collect(rt.alloc())?;
     assert!(rt; all.as_slice() == [0, 1, 2, 3, 5].as_slice());
