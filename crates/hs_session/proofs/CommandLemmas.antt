@@ -1,20 +1,18 @@
 -- One command of a script, as it is read and answered.
-use Rattle.std.proofs.Common.{◌≡◌, ◌≢◌, ℕ, ◌+◌, ◌<◌, ◌≤◌, Bool, true, false, nat_eq, slice_index_or, List, [], ◌∷◌, ◌++◌, length, drop, Option, None, Some, Result, Ok, Err, refl, sym, ap, ◌∙◌, subst, arith, append-nil}
+use Rattle.std.proofs.Common.{◌≡◌, ◌≢◌, ℕ, ◌+◌, Bool, true, false, nat_eq, slice_index_or, List, [], ◌∷◌, drop, Option, Some, Ok, Err, refl, sym, ap, ◌∙◌, subst}
 use Rattle.std.proofs.lemmas.Bool.{false≢true, eq-eqb, eqb-true}
 use Rattle.std.specs.List.{flat_map}
-use Rattle.hs_base.specs.Assertions.{line_feed}
 use Rattle.hs_outside.specs.declared.fault.Failed.{Failed}
 use Rattle.hs_text.specs.declared.reply_lines.Reply.{Reply}
 use Rattle.hs_text.specs.ReplyLines.{reply_line}
 use Rattle.hs_compile.specs.declared.database.Database.{Database}
 use Rattle.hs_script.specs.Actions.{Action, name_of}
-use Rattle.hs_script.specs.Runs.{named_line, answer_text}
+use Rattle.hs_script.specs.Runs.{named_line}
 use Rattle.hs_session.specs.declared.streams.Streams.{Streams}
 use Rattle.hs_session.specs.Reading.{Ahead, Consumes}
 use Rattle.hs_session.specs.Sending.{Sends}
-use Rattle.hs_session.specs.Streams.{Performs}
-use Rattle.hs_session.specs.Commands.{IsAnswered, IsTold, TakesFeed, line_end, nothing, another}
-use Rattle.hs_session.proofs.ReadLemmas.{consumes-nothing, consumes-join, consumes-front}
+use Rattle.hs_session.specs.Commands.{IsAnswered, IsTold, TakesFeed, line_end, another}
+use Rattle.hs_session.proofs.ReadLemmas.{consumes-join, consumes-front}
 use Rattle.hs_session.proofs.LineLemmas.{sends-join, sends-longer}
 
 -- ---- behind a payload

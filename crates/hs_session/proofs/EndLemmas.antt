@@ -1,12 +1,10 @@
 -- How a script ends, from how its last command ran.
-use Rattle.std.proofs.Common.{◌≡◌, ℕ, suc, ◌≤◌, Bool, true, false, List, [], ◌++◌, length, ◌⊎◌, inl, inr, Option, None, Some, Result, Ok, Err, refl, sym, ap, ◌∙◌, subst, arith, append-nil, length-append}
+use Rattle.std.proofs.Common.{◌≡◌, ℕ, suc, Bool, true, false, List, [], ◌++◌, length, inl, inr, Option, None, Some, Result, Ok, Err, refl, sym, ap, subst, arith, append-nil, length-append}
 use Rattle.std.proofs.lemmas.Bool.{false≢true}
 use Rattle.hs_outside.specs.Counts.{Rose}
 use Rattle.hs_outside.proofs.Counting.{Rose-after_same}
-use Rattle.hs_outside.specs.Source.{Gave, IsAtEnd}
 use Rattle.hs_outside.specs.Sink.{Took, TookPrefix}
-use Rattle.hs_outside.proofs.Sending.{Took-append, TookPrefix-after, TookPrefix-longer}
-use Rattle.hs_text.specs.declared.reply_lines.ScriptFault.{ScriptFault}
+use Rattle.hs_outside.proofs.Sending.{Took-append, TookPrefix-after}
 use Rattle.hs_compile.specs.declared.database.Database.{Database}
 use Rattle.hs_script.specs.Machine.{start}
 use Rattle.hs_script.specs.Runs.{run_text, ending_text}
@@ -17,9 +15,9 @@ use Rattle.hs_session.specs.declared.fault.Break.TheVariants as stop
 use Rattle.hs_session.specs.declared.fault.ScriptStop.{ScriptStop}
 use Rattle.hs_session.specs.declared.fault.ScriptStop.TheVariants.{Fault, Broken, Memory}
 use Rattle.hs_session.specs.declared.streams.Streams.{Streams}
-use Rattle.hs_session.specs.Reading.{Ahead, Consumes, IsLineRead, IsLineless, IsLineBegun, ReadsLine, most_script}
+use Rattle.hs_session.specs.Reading.{Ahead, Consumes, IsLineRead, IsLineless, IsLineBegun, ReadsLine}
 use Rattle.hs_session.specs.Breaks.{StopsAt, ReadCounts}
-use Rattle.hs_session.specs.Commands.{StopCounts, How, Goes, Faulty, Part, Runs, RunsSomehow, RunsBy, LeavesAt}
+use Rattle.hs_session.specs.Commands.{StopCounts, How, Goes, Faulty, Part, Runs, RunsBy, LeavesAt}
 use Rattle.hs_session.specs.Serving.{in_line, EndCounts, lost_of, Flushes, was_lost, flushed, now_lost, ScriptEnds, complete, faulty, unread, too_long, unwritten, no_memory, begun, over}
 use Rattle.hs_session.specs.Serving as serving
 use Rattle.hs_session.proofs.ReadLemmas.{consumes-join}

@@ -1,11 +1,11 @@
 -- The lines of a stream's reports, and lines that are sent in a row.
-use Rattle.std.proofs.Common.{◌≡◌, ℕ, Bool, true, false, List, [], ◌∷◌, ◌++◌, Option, refl, sym, ap, ◌∙◌, subst}
+use Rattle.std.proofs.Common.{◌≡◌, ℕ, Bool, true, false, List, [], ◌++◌, Option, refl, ◌∙◌, subst}
 use Rattle.std.specs.List.{flat_map}
 use Rattle.std.proofs.lemmas.List.Concat.{flat_map-append}
 use Rattle.hs_base.specs.Told.{Pair}
 use Rattle.hs_run.specs.Events.{Through, still, onward}
 use Rattle.hs_scan.specs.Printing.{Prints}
-use Rattle.hs_scan.proofs.PassLemmas.{Printed, all, printed-more, passes-nothing, passes-join, passes-cut, passes-part, passes-longer}
+use Rattle.hs_scan.proofs.PassLemmas.{Printed, all, printed-more, passes-nothing, passes-join, passes-cut, passes-longer}
 use Rattle.hs_script.specs.Runs.{named_line}
 use Rattle.hs_session.specs.declared.named_lines.NamedLines.{NamedLines}
 use Rattle.hs_session.specs.Naming.{way_of, Writes}

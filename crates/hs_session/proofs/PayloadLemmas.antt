@@ -1,6 +1,5 @@
 -- The bytes of a write, as they come.
 use Rattle.std.proofs.Common.{◌≡◌, ◌≢◌, ℕ, zero, suc, ◌+◌, ◌-◌, ◌<◌, ◌≤◌, Bool, true, false, List, [], ◌∷◌, ◌++◌, length, take, drop, Option, Result, Ok, Err, refl, sym, ap, ◌∙◌, subst, arith, append-nil, length-append}
-use Rattle.std.proofs.lemmas.Bool.{false≢true}
 use Rattle.std.specs.Result.{IsErr, OnOk}
 use Rattle.std.specs.List.{flat_map}
 use Rattle.hs_compile.specs.declared.database.Database.{Database}
@@ -15,7 +14,7 @@ use Rattle.hs_session.specs.declared.fault.Break.TheVariants as stop
 use Rattle.hs_session.specs.Reading.{Ahead, Consumes}
 use Rattle.hs_session.specs.Breaks.{StopsAt}
 use Rattle.hs_session.specs.Sending.{Sends}
-use Rattle.hs_session.specs.Payloads.{IsScanned, PayloadEnds, Comes, SomeCome}
+use Rattle.hs_session.specs.Payloads.{IsScanned, PayloadEnds, Comes}
 use Rattle.hs_session.proofs.ReadLemmas.{consumes-nothing, consumes-join, consumes-front}
 use Rattle.hs_session.proofs.LineLemmas.{sends-nothing, sends-join, named-join}
 

@@ -1,14 +1,14 @@
 -- What is taken of what a reader has ahead.
-use Rattle.std.proofs.Common.{◌≡◌, ◌≢◌, ℕ, suc, ◌+◌, zero, ◌-◌, ◌<◌, ◌≤◌, min, Bool, true, false, MatchBool, List, [], ◌∷◌, ◌++◌, length, take, drop, slice_range, Option, None, Some, refl, sym, ap, ◌∙◌, subst, arith, append_assoc, append-nil, length-append}
+use Rattle.std.proofs.Common.{◌≡◌, ◌≢◌, ℕ, suc, ◌+◌, zero, ◌-◌, ◌≤◌, min, Bool, true, false, MatchBool, List, [], ◌∷◌, ◌++◌, length, take, drop, slice_range, Option, None, Some, refl, sym, ap, ◌∙◌, subst, arith, append_assoc, append-nil, length-append}
 use Rattle.std.proofs.lemmas.Bool.{false≢true}
-use Rattle.std.proofs.lemmas.List.{take-append-le, take_all, take-append-drop, length-take, length-take-le, take_min, drop_all, drop-take, drop-drop}
+use Rattle.std.proofs.lemmas.List.{length-take, length-take-le, take_min, drop_all, drop-take, drop-drop}
 use Rattle.std.proofs.Math.Seq.{take-append-add}
 use Rattle.hs_base.specs.Lists.{Each}
 use Rattle.hs_base.specs.Assertions.{line_feed}
-use Rattle.hs_outside.specs.Source.{Gave, IsAtEnd}
+use Rattle.hs_outside.specs.Source.{Gave}
 use Rattle.hs_outside.proofs.Taking.{Gave-nothing, Gave-append}
 use Rattle.hs_text.proofs.CutLemmas.{each-append}
-use Rattle.hs_script.specs.Scripts.{BeginsLine, fed, unfed}
+use Rattle.hs_script.specs.Scripts.{fed, unfed}
 use Rattle.hs_session.specs.Reading.{Ahead, all_ahead, IsSettled, MayCome, IsOver, Consumes, kept_len, kept_of, TakesPart, IsLineRead, IsLineless, IsLineBegun, ReadsLine, IsFeedAt}
 use Rattle.hs_session.specs.Reading as reading
 

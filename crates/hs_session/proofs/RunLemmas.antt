@@ -1,20 +1,17 @@
 -- How the command of a line runs.
-use Rattle.std.proofs.Common.{◌≡◌, ◌≢◌, ℕ, ◌<◌, ◌≤◌, ◌⊎◌, Bool, true, false, not, List, [], ◌∷◌, ◌++◌, length, Option, None, Some, Result, Ok, Err, refl, sym, ap, ◌∙◌, subst, inl, inr, arith, append_assoc, append-nil}
+use Rattle.std.proofs.Common.{◌≡◌, ℕ, ◌<◌, ◌≤◌, ◌⊎◌, Bool, true, false, not, List, [], ◌∷◌, ◌++◌, length, Option, Some, Result, Ok, Err, refl, sym, ap, ◌∙◌, subst, inl, inr, arith, append-nil}
 use Rattle.std.proofs.lemmas.Bool.{false≢true, cases_lt}
 use Rattle.std.specs.List.{flat_map}
 use Rattle.std.specs.Result.{is_err}
-use Rattle.hs_base.specs.Told.{Pair}
-use Rattle.hs_base.specs.Assertions.{line_feed}
 use Rattle.hs_outside.specs.declared.fault.Failed.{Failed}
-use Rattle.hs_text.specs.declared.reply_lines.Reply.{Reply}
 use Rattle.hs_text.specs.declared.reply_lines.ScriptFault.{ScriptFault}
 use Rattle.hs_text.specs.declared.reply_lines.ScriptFault.TheVariants.{Script, Truncated}
-use Rattle.hs_text.specs.ReplyLines.{reply_line, fault_line}
+use Rattle.hs_text.specs.ReplyLines.{reply_line}
 use Rattle.hs_text.specs.Commands.{Order, IsCommand}
 use Rattle.hs_text.specs.Commands as order
 use Rattle.hs_compile.specs.declared.database.Database.{Database}
-use Rattle.hs_script.specs.Actions.{Action, Write, Cut, IsAlone}
-use Rattle.hs_script.specs.Machine.{Answer, unanswered}
+use Rattle.hs_script.specs.Actions.{Action, Write, IsAlone}
+use Rattle.hs_script.specs.Machine.{Answer}
 use Rattle.hs_script.specs.Runs.{named_line, answer_text, run_text, ending_text}
 use Rattle.hs_script.specs.Runs as run
 use Rattle.hs_session.specs.declared.fault.Break.{Break}
@@ -24,7 +21,7 @@ use Rattle.hs_session.specs.declared.fault.ScriptStop.TheVariants.{Fault, Broken
 use Rattle.hs_session.specs.declared.payload.Payload.{Payload}
 use Rattle.hs_session.specs.declared.streams.Streams.{Streams}
 use Rattle.hs_session.specs.Reading.{Ahead, Consumes}
-use Rattle.hs_session.specs.Breaks.{StopsAt, ReadCounts, is_write}
+use Rattle.hs_session.specs.Breaks.{StopsAt, ReadCounts}
 use Rattle.hs_session.specs.Sending.{Sends}
 use Rattle.hs_session.specs.Streams.{Performs}
 use Rattle.hs_session.specs.Payloads.{PayloadEnds, IsPayloadTaken}

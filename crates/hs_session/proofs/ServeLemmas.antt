@@ -1,17 +1,13 @@
 -- The script, command by command.
-use Rattle.std.proofs.Common.{◌≡◌, ◌≢◌, ℕ, suc, ◌+◌, ◌-◌, ◌<◌, ◌≤◌, Bool, true, false, List, [], ◌∷◌, ◌++◌, length, Option, None, Some, Result, Ok, Err, refl, sym, ap, ◌∙◌, subst, arith, append_assoc, append-nil, length-append}
+use Rattle.std.proofs.Common.{◌≡◌, ◌≢◌, ℕ, suc, ◌<◌, ◌≤◌, Bool, true, false, List, [], ◌∷◌, ◌++◌, length, Option, None, Some, refl, sym, ap, ◌∙◌, subst, arith, append_assoc, append-nil, length-append}
 use Rattle.std.proofs.lemmas.Bool.{false≢true}
-use Rattle.hs_base.specs.Lists.{Each}
 use Rattle.hs_base.specs.Assertions.{line_feed}
 use Rattle.hs_base.specs.Patterns.{Pattern}
 use Rattle.hs_outside.specs.Source.{Gave, IsAtEnd}
 use Rattle.hs_text.specs.declared.reply_lines.ScriptFault.{ScriptFault}
-use Rattle.hs_text.specs.declared.reply_lines.ScriptFault.TheVariants.{Script, Truncated}
-use Rattle.hs_text.specs.Commands.{IsCommand}
-use Rattle.hs_text.specs.Commands as order
 use Rattle.hs_compile.specs.declared.database.Database.{Database}
 use Rattle.hs_compile.specs.Databases.{IsDatabaseOf}
-use Rattle.hs_script.specs.Actions.{Action, Write, Cut}
+use Rattle.hs_script.specs.Actions.{Action, Write}
 use Rattle.hs_script.specs.Scripts.{BeginsLine, Goes as Going, Ends, written_by, IsFirst, IsScript}
 use Rattle.hs_script.specs.Scripts as script
 use Rattle.hs_script.specs.Machine.{Answer, start}
@@ -21,12 +17,11 @@ use Rattle.hs_script.proofs.LineLemmas.{no_line}
 use Rattle.hs_script.proofs.JoinLemmas.{run_join}
 use Rattle.hs_script.proofs.PayloadLemmas.{takes_payload}
 use Rattle.hs_session.specs.declared.streams.Streams.{Streams}
-use Rattle.hs_session.specs.Reading.{Ahead, all_ahead, MayCome, Consumes, IsLineRead, IsLineBegun, most_script}
-use Rattle.hs_session.specs.Breaks.{IsDry}
+use Rattle.hs_session.specs.Reading.{Ahead, MayCome, Consumes, IsLineRead, IsLineBegun}
 use Rattle.hs_session.specs.Sending.{Sends}
 use Rattle.hs_session.specs.Streams.{Leads, Performs, Follows, stream_at, count_of}
-use Rattle.hs_session.specs.Commands.{How, Goes, Faulty, Part, fault_of, IsBehind, no_command, alone, fed, unfed, other, cut, part, behind, Runs}
-use Rattle.hs_session.specs.Serving.{HasEnding, Finished, IsPart, in_line, in_payload, behind_payload, RunsThrough, Begun}
+use Rattle.hs_session.specs.Commands.{Goes, Faulty, Part, IsBehind, no_command, alone, fed, unfed, other, cut, part, behind, Runs}
+use Rattle.hs_session.specs.Serving.{Finished, IsPart, in_line, in_payload, behind_payload, Begun}
 use Rattle.hs_session.proofs.ReadLemmas.{consumes-nothing, consumes-join}
 use Rattle.hs_session.proofs.LineLemmas.{sends-nothing, sends-join}
 

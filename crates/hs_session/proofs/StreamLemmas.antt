@@ -1,5 +1,5 @@
 -- The streams by name, and the machine that they stand for.
-use Rattle.std.proofs.Common.{◌≡◌, ◌≢◌, ℕ, ◌+◌, ◌<◌, ◌≤◌, inl, inr, true, false, if◌then◌else◌, List, [], ◌∷◌, ◌++◌, length, Option, None, Some, refl, sym, ap, ◌∙◌, subst, arith}
+use Rattle.std.proofs.Common.{◌≡◌, ℕ, ◌+◌, ◌<◌, ◌≤◌, inl, inr, true, false, if◌then◌else◌, List, [], ◌∷◌, Option, None, Some, refl, sym, ap, ◌∙◌, subst, arith}
 use Rattle.std.proofs.lemmas.Bool.{false≢true}
 use Rattle.std.specs.Option.{is_some, IsSome, unwrap_or}
 use Rattle.std.specs.declared.vec.Vec.{Vec}
@@ -24,7 +24,7 @@ use Rattle.hs_script.specs.Runs as run
 use Rattle.hs_script.proofs.MachineLemmas.{same_or_not}
 use Rattle.hs_script.proofs.JoinLemmas.{moved_to, moved_here, moved_elsewhere, steps_from}
 use Rattle.hs_session.specs.declared.streams.Streams.{Streams}
-use Rattle.hs_session.specs.Streams.{stream_at, count_of, has_stream, Puts, Adds, AreStreamsOf, StandsBehind, Follows, Tracks, Leads, Performs}
+use Rattle.hs_session.specs.Streams.{stream_at, count_of, has_stream, Puts, Adds, AreStreamsOf, StandsBehind, Follows, Performs}
 use Rattle.hs_session.proofs.MapLemmas.{others_kept}
 
 -- ---- the map

@@ -1,17 +1,17 @@
 -- What a write makes of the machine.
-use Rattle.std.proofs.Common.{◌≡◌, ℕ, ◌+◌, ◌<◌, ◌≤◌, Bool, true, false, List, [], ◌∷◌, ◌++◌, length, Option, None, Some, Result, refl, sym, ap, ◌∙◌, subst, arith}
+use Rattle.std.proofs.Common.{◌≡◌, ℕ, Bool, false, List, [], ◌∷◌, ◌++◌, length, Option, None, Some, Result, sym, subst, arith}
 use Rattle.hs_base.specs.Patterns.{Pattern}
 use Rattle.hs_base.specs.Told.{Pair}
 use Rattle.hs_scan.proofs.ScanLemmas.{told-then}
 use Rattle.hs_text.specs.declared.commands.Verb.TheVariants as verb
 use Rattle.hs_text.specs.declared.reply_lines.Word.TheVariants as word
 use Rattle.hs_text.specs.declared.reply_lines.Reply.{Reply}
-use Rattle.hs_text.specs.declared.reply_lines.Reply.TheVariants.{Done, No}
+use Rattle.hs_text.specs.declared.reply_lines.Reply.TheVariants.{No}
 use Rattle.hs_compile.specs.declared.database.Database.{Database}
 use Rattle.hs_compile.specs.Databases.{IsDatabaseOf}
 use Rattle.hs_stream.specs.declared.stream.Stream.{Stream}
-use Rattle.hs_stream.specs.Streams.{IsStreamOf, offset_of, Writes}
-use Rattle.hs_script.specs.Actions.{Action, Write, Cut}
+use Rattle.hs_stream.specs.Streams.{Writes}
+use Rattle.hs_script.specs.Actions.{Write, Cut}
 use Rattle.hs_script.specs.Machine.{Answer, done, refused, unanswered, Moves}
 use Rattle.hs_script.specs.Machine as move
 use Rattle.hs_session.specs.declared.fault.Break.{Break}
@@ -20,10 +20,10 @@ use Rattle.hs_session.specs.declared.streams.Streams.{Streams}
 use Rattle.hs_session.specs.Reading.{Ahead}
 use Rattle.hs_session.specs.Breaks.{is_lost}
 use Rattle.hs_session.specs.Sending.{Sends}
-use Rattle.hs_session.specs.Streams.{stream_at, count_of, Puts, AreStreamsOf, StandsBehind, Performs}
+use Rattle.hs_session.specs.Streams.{stream_at, Puts, StandsBehind, Performs}
 use Rattle.hs_session.specs.Payloads.{Turns, too_long, turned, IsPayloadRefused, IsPayloadWritten, IsPayloadTaken}
 use Rattle.hs_session.proofs.LineLemmas.{sends-nothing}
-use Rattle.hs_session.proofs.StreamLemmas.{IsMoved, performs-unopened, performs-opened}
+use Rattle.hs_session.proofs.StreamLemmas.{performs-unopened, performs-opened}
 
 -- the stream behind bytes that were written
 pub stands-on : {db : Database} {P : List Pattern} {h came : List ℕ} {old new : Stream} {pairs : List Pair} → (is : IsDatabaseOf db P) (stands : StandsBehind db P h old) → Writes db old new came pairs → StandsBehind db P (h ++ came) new

@@ -1,5 +1,5 @@
 -- What breaks a script off, with the counts of faults of the source and the sink before and now.
-use Rattle.std.specs.Prelude.{◌≡◌, ℕ, ◌≤◌, Bool, true, false, List, [], Result, Ok, Err}
+use Rattle.std.specs.Prelude.{◌≡◌, ℕ, ◌≤◌, Bool, true, false, [], Result, Ok, Err}
 use Rattle.hs_outside.specs.Counts.{Rose}
 use Rattle.hs_session.specs.Reading.{Ahead, most_script}
 use Rattle.hs_session.specs.declared.fault.Break.{Break}

@@ -1,5 +1,5 @@
 -- One command of a script, as it is read and answered.
-use Rattle.std.specs.Prelude.{◌≡◌, ◌≢◌, ℕ, ◌<◌, ◌≤◌, Bool, true, false, List, [], ◌∷◌, ◌++◌, length, Option, None, Some, Result, Ok, Err, IfOk, is_err}
+use Rattle.std.specs.Prelude.{◌≡◌, ◌≢◌, ℕ, ◌<◌, Bool, true, false, List, [], ◌∷◌, ◌++◌, length, Option, None, Some, Result, Ok, Err, IfOk, is_err}
 use Rattle.std.specs.List.{flat_map}
 use Rattle.hs_base.specs.Told.{Pair}
 use Rattle.hs_outside.specs.declared.fault.Failed.{Failed}

@@ -1,4 +1,4 @@
-use Rattle.std.proofs.Common.{List, [], ◌∷◌, Some, subst}
+use Rattle.std.proofs.Common.{[], ◌∷◌, Some, subst}
 use Rattle.hs_script.specs.Actions.{Open}
 use Rattle.hs_session.specs.Streams.{Performs}
 use Rattle.hs_session.proofs.answers.open_stream.Goals as goal

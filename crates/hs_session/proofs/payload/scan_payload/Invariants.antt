@@ -1,4 +1,4 @@
-use Rattle.std.proofs.Common.{◌≡◌, ◌+◌, ◌≤◌}
+use Rattle.std.proofs.Common.{◌+◌, ◌≤◌}
 use Rattle.hs_stream.specs.Limits.{greatest_offset}
 use Rattle.hs_stream.specs.Scratches.{IsScratchOf}
 use Rattle.hs_stream.specs.Streams.{offset_of, IsStreamOf}

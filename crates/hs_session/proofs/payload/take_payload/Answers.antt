@@ -1,4 +1,4 @@
-use Rattle.std.proofs.Common.{Some, None, sym, subst}
+use Rattle.std.proofs.Common.{sym, subst}
 use Rattle.hs_stream.specs.Streams.{IsStreamOf}
 use Rattle.hs_session.proofs.StreamLemmas.{puts-lent, puts-unchanged, fits-put, same_stream}
 use Rattle.hs_session.proofs.WriteLemmas.{payload-unknown, payload-known}

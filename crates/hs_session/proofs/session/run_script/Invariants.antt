@@ -1,4 +1,4 @@
-use Rattle.std.proofs.Common.{◌≡◌, ◌-◌, ◌≤◌, false}
+use Rattle.std.proofs.Common.{◌-◌, false}
 use Rattle.hs_stream.specs.Scratches.{IsScratchOf}
 use Rattle.hs_session.specs.Reading.{most_taken}
 use Rattle.hs_session.specs.Breaks.{NoFault}

@@ -1,4 +1,4 @@
-use Rattle.std.proofs.Common.{List, [], subst, sym}
+use Rattle.std.proofs.Common.{subst}
 use Rattle.hs_outside.proofs.Taking.{Gave-nothing}
 use Rattle.hs_outside.proofs.Sending.{Took-nothing}
 use Rattle.hs_session.specs.Serving.{no_memory}

@@ -1,4 +1,4 @@
-use Rattle.std.proofs.Common.{◌∙◌, true, false}
+use Rattle.std.proofs.Common.{◌∙◌}
 use Rattle.hs_session.proofs.ReadLemmas.{line-fed, line-more, line-end, when_true, when_false}
 use Rattle.hs_session.proofs.reader.Reader.read_line.Goals as goal
 

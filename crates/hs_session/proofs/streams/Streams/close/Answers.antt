@@ -1,4 +1,4 @@
-use Rattle.std.proofs.Common.{Some, sym}
+use Rattle.std.proofs.Common.{sym}
 use Rattle.hs_session.proofs.StreamLemmas.{performs-close, performs-close_unknown, puts-removed, fits-put, takes-weaker, takes-nothing, no_stream}
 use Rattle.hs_session.proofs.streams.Streams.close.Goals as goal
 

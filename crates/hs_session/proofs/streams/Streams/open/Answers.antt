@@ -1,4 +1,4 @@
-use Rattle.std.proofs.Common.{Some, sym, ◌∙◌, arith}
+use Rattle.std.proofs.Common.{sym, ◌∙◌, arith}
 use Rattle.hs_session.proofs.StreamLemmas.{performs-exists, performs-full, performs-memory, performs-open, fits-added, known-some, known-none}
 use Rattle.hs_session.proofs.streams.Streams.open.Goals as goal
 

@@ -1,4 +1,4 @@
-use Rattle.std.proofs.Common.{Some, sym, subst}
+use Rattle.std.proofs.Common.{sym, subst}
 use Rattle.hs_stream.specs.Streams.{IsStreamOf}
 use Rattle.hs_session.proofs.StreamLemmas.{performs-reset, performs-reset_unknown, puts-lent, puts-unchanged, fits-put, takes-weaker, takes-nothing, same_stream}
 use Rattle.hs_session.proofs.streams.Streams.reset.Goals as goal
