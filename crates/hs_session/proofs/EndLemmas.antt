@@ -1,5 +1,5 @@
 -- How a script ends, from how its last command ran.
-use Rattle.std.proofs.Common.{◌≡◌, ℕ, suc, Bool, true, false, List, [], ◌++◌, length, inl, inr, Option, None, Some, Result, Ok, Err, refl, sym, ap, subst, arith, append-nil, length-append}
+use Rattle.std.proofs.Common.{◌≡◌, ℕ, Bool, true, false, List, [], ◌++◌, length, inl, inr, Option, None, Some, Result, Ok, Err, refl, sym, ap, subst, arith, append-nil, length-append}
 use Rattle.std.proofs.lemmas.Bool.{false≢true}
 use Rattle.hs_outside.specs.Counts.{Rose}
 use Rattle.hs_outside.proofs.Counting.{Rose-after_same}
@@ -61,22 +61,24 @@ ends-unread {db} {p = p} {r = r} {b = b} stop.Limit read reads so_far line at co
     (subst (λ l. serving.Begun db is.taken l (run_text so_far.actions so_far.answers)) (is.dry at.dry.dry) (begun-line so_far line is)) so_far.sends
 ends-unread stop.Write read reads so_far line at counts = absurd counts
 
+-- ---- the sink failed behind a command
+
+pub ends-lost : {db : Database} {number : ℕ} {p s : Option (List ℕ)} {c : Ahead} {new : Streams} {x z : Option (List ℕ)} {f h : List ℕ} → SoFar db number p s fresh c new x z f h true → EndsWaiting db p s x z f h (Err (Broken stop.Write))
+ends-lost {db} {number} {p} {s} {c} {new} {x} {z} {f} {h} next = by_end c.ended refl
+  where
+    is : IsGiven p s c next.seen
+    is = given p s c next.seen next.consumes
+
+    by_end : (t : Bool) → c.ended ≡ t → EndsWaiting db p s x z f h (Err (Broken stop.Write))
+    by_end true e = unwritten is.taken (run_text next.actions next.answers) is.gave (over true None (λ t. is.at_end e) (finished-end next is e)) next.sends
+    by_end false e = unwritten is.taken (run_text next.actions next.answers) is.gave (begun is.unread (begun-so_far next is e)) next.sends
+
 -- ---- a command that stopped the script
 
 module _ {db : Database} {number : ℕ} {p q r : Option (List ℕ)} {a b : Ahead} {kept : List ℕ} {old : Streams} {x y : Option (List ℕ)} {f g : List ℕ} (s : Option (List ℕ)) (c : Ahead) (new : Streams) (z : Option (List ℕ)) (h : List ℕ) (so_far : SoFar db number p q fresh a old x y f g false) (line : IsLineRead q r a b kept) where
   -- the sink failed when all of a command was there
   lost-goes : Runs db line.line number old new r s b c y z g h true Goes → EndsWaiting db p s x z f h (Err (Broken stop.Write))
-  lost-goes runs = by_end c.ended refl
-    where
-      next : SoFar db (suc number) p s fresh c new x z f h true
-      next = so_far-next true so_far line runs
-
-      is : IsGiven p s c next.seen
-      is = given p s c next.seen next.consumes
-
-      by_end : (t : Bool) → c.ended ≡ t → EndsWaiting db p s x z f h (Err (Broken stop.Write))
-      by_end true e = unwritten is.taken (run_text next.actions next.answers) is.gave (over true None (λ t. is.at_end e) (finished-end next is e)) next.sends
-      by_end false e = unwritten is.taken (run_text next.actions next.answers) is.gave (begun is.unread (begun-so_far next is e)) next.sends
+  lost-goes runs = ends-lost (so_far-next true so_far line runs)
 
   pub ends-by : (fault : ScriptStop) → RunsBy (Runs db line.line number old new r s b c y z g h) (Err fault) → LeavesAt c (Err fault) → EndsWaiting db p s x z f h (Err fault)
   ends-by (Fault fault) runs at =

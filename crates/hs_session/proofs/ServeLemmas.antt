@@ -182,6 +182,23 @@ so_far-next {db} {number} {d = d} {x = x} {y = y} {z = z} {f = f} {g = g} {h = h
         (subst (λ l. IsScript 1 l (so_far.actions ++ (runs.actions ++ following)) ending)
         (sym (append_assoc so_far.seen (line.seen ++ runs.seen) rest ∙ ap (λ l. so_far.seen ++ l) (append_assoc line.seen runs.seen rest))) all)
 
+-- what waits was written behind it, or some of that
+pub so_far-sent : {db : Database} {number : ℕ} {p q : Option (List ℕ)} {a b : Ahead} {streams : Streams} {x y z : Option (List ℕ)} {f g h : List ℕ} (lost : Bool) → SoFar db number p q a b streams x y f g false → Sends lost y z g h [] → SoFar db number p q a b streams x z f h lost
+so_far-sent {x = x} {y = y} {z = z} {f = f} {g = g} {h = h} lost so_far sent = record {
+  seen = so_far.seen;
+  actions = so_far.actions;
+  answers = so_far.answers;
+  consumes = so_far.consumes;
+  numbered = so_far.numbered;
+  few = so_far.few;
+  script = so_far.script;
+  paired = so_far.paired;
+  leads = so_far.leads;
+  sends =
+      subst (λ t. Sends lost x z f h t) (append-nil (run_text so_far.actions so_far.answers))
+      (sends-join lost x y z f g h (run_text so_far.actions so_far.answers) [] so_far.sends sent);
+}
+
 -- counted as it is counted
 pub so_far-numbered : {db : Database} {n m : ℕ} {p q : Option (List ℕ)} {a b : Ahead} {streams : Streams} {x y : Option (List ℕ)} {f g : List ℕ} {lost : Bool} → m ≡ n → SoFar db n p q a b streams x y f g lost → SoFar db m p q a b streams x y f g lost
 so_far-numbered {db} {p = p} {q = q} {a = a} {b = b} {streams = streams} {x = x} {y = y} {f = f} {g = g} {lost = lost} same so_far =

@@ -1,11 +1,13 @@
 //! A script, from its first byte to its end.
-ghost use Rattle.std.specs.Prelude.{◌≡◌};
+ghost use Rattle.std.specs.Prelude.{◌≡◌, [], is_err, OnOk, OnErr};
+ghost use Rattle.hs_outside.specs.Counts.{Rose};
 ghost use Rattle.hs_outside.specs.Sink.{Took, TookPrefix};
 ghost use Rattle.hs_scan.specs.Passing.{Passes, PassesPart};
 ghost use Rattle.hs_stream.specs.Scratches.{IsScratchOf};
 ghost use Rattle.hs_stream.specs.Streams.{IsUsable};
 ghost use Rattle.hs_session.specs.Breaks.{is_write as is_sink};
 ghost use Rattle.hs_session.specs.Commands.{StopCounts};
+ghost use Rattle.hs_session.specs.Sending.{Sends};
 ghost use Rattle.hs_session.specs.Serving.{ScriptEnds, EndCounts, Flushes, lost_of};
 
 use crate::commands::run_line;
@@ -86,8 +88,26 @@ fn run_script<I: Source, O: Sink>(
             Ok(()) => {}
             Err(stop) => return Err(stop),
         }
+        match answer_now(&reader, out, pending) {
+            Ok(()) => {}
+            Err(Failed) => return Err(ScriptStop::Broken(Break::Write)),
+        }
         number += 1;
     }
+}
+
+/// Writes the lines that wait where the next bytes of the script are still to be read: whoever writes it may be waiting for
+/// its answers.
+fn answer_now<O: Sink>(reader: &Reader, out: &mut O, pending: &mut Pending) -> Result<(), Failed>
+    ensures sends { Sends (is_err result) (O.written out.old) (O.written out.new) pending.old pending.new [] }
+    ensures none { OnOk result (reader.now.bytes ≡ [] → pending.new ≡ []) }
+    ensures counted { OnOk result (O.faults out.new ≡ O.faults out.old) }
+    ensures failed { OnErr result (Rose (O.faults out.old) (O.faults out.new)) }
+{
+    if !reader.waiting().is_empty() {
+        return Ok(());
+    }
+    pending.flush(out)
 }
 
 /// Writes the lines that wait, unless the sink failed.

@@ -273,6 +273,16 @@ const BROKEN: &[Broken] = &[
         b"",
         Break::Write,
     ),
+    // The first answer is written before the second line is read.
+    (
+        b"open s\nclose s\n",
+        &[7],
+        &[],
+        &[2],
+        ROOM,
+        b"ok open s\n",
+        Break::Write,
+    ),
     (b"opn s\n", &[], &[], &[1], ROOM, b"", Break::Write),
     (
         b"open s\nclose s\n",

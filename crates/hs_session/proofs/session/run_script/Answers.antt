@@ -1,7 +1,7 @@
-use Rattle.std.proofs.Common.{◌∙◌, false, refl, sym, subst, arith}
+use Rattle.std.proofs.Common.{◌∙◌, true, false, refl, sym, subst, arith}
 use Rattle.hs_session.proofs.StreamLemmas.{no_stream}
-use Rattle.hs_session.proofs.ServeLemmas.{SoFar, fresh, so_far-start, so_far-next, so_far-numbered, line-long}
-use Rattle.hs_session.proofs.EndLemmas.{ends-complete, ends-unread, ends-by, line-none, line-one}
+use Rattle.hs_session.proofs.ServeLemmas.{SoFar, fresh, so_far-start, so_far-next, so_far-sent, so_far-numbered, line-long}
+use Rattle.hs_session.proofs.EndLemmas.{ends-complete, ends-unread, ends-by, ends-lost, line-none, line-one}
 use Rattle.hs_session.proofs.session.run_script.Goals as goal
 
 pub loop-streams-init : goal.loop-streams-init
@@ -39,11 +39,17 @@ loop-streams-preserved g c =
     let line = line-one (g.I.Source.left c.loop-streams.input) (g.I.Source.left c.read_line.new.input) c.loop-streams.reader c.read_line.new.self c.read_line.new.line c.in-Ok-true.field-0-test c.in-Ok-true.ensures.read in
     let runs = c.in-Ok.ensures.runs line.line line.keeps in
     record {
-      so_far = so_far-numbered (omega arith) (so_far-next false c.loop-streams.invariant.so_far line runs);
+      so_far = so_far-numbered (omega arith) (so_far-sent false (so_far-next false c.loop-streams.invariant.so_far line runs) c.in-Ok-answer_now.ensures.sends);
       fits = c.run_line.ensures.fits;
       scratch = c.run_line.ensures.scratch;
       counted = record {
         source = c.in-Ok.ensures.counts.source ∙ (c.in-Ok-true.ensures.counts ∙ c.loop-streams.invariant.counted.source);
-        sink = c.in-Ok.ensures.counts.sink ∙ c.loop-streams.invariant.counted.sink;
+        sink = c.in-Ok-answer_now.ensures.counted ∙ (c.in-Ok.ensures.counts.sink ∙ c.loop-streams.invariant.counted.sink);
       };
     }
+
+pub returns-in-Err-answer_now-clause-ends : goal.returns-in-Err-answer_now-clause-ends
+returns-in-Err-answer_now-clause-ends g c =
+    let line = line-one (g.I.Source.left c.loop-streams.input) (g.I.Source.left c.read_line.new.input) c.loop-streams.reader c.read_line.new.self c.read_line.new.line c.in-Ok-true.field-0-test c.in-Ok-true.ensures.read in
+    let runs = c.in-Ok.ensures.runs line.line line.keeps in
+    ends-lost (so_far-sent true (so_far-next false c.loop-streams.invariant.so_far line runs) c.in-Err-answer_now.ensures.sends)
