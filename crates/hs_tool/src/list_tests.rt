@@ -103,7 +103,10 @@ const REFUSED: &[(&[u8], &[u8])] = &[
     (b"1:/[a[:b:]]/", b"refused 1 1 1 Syntax 2\n"),
     // Escapes without a meaning, and forms that aren't read.
     (b"1:/a\\y/", b"refused 1 1 2 UnknownEscape 1\n"),
-    (b"4:/(a)\\1/", b"refused 1 4 3 Unsupported backreference 3\n"),
+    (
+        b"4:/(a)\\1/",
+        b"refused 1 4 3 Unsupported backreference 3\n",
+    ),
     (b"1:/a++/", b"refused 1 1 3 Unsupported possessive 1\n"),
     (b"1:/a(?=b)/", b"refused 1 1 3 Unsupported lookaround 1\n"),
     (b"1:/a(*b)/", b"refused 1 1 3 Unsupported verb 1\n"),
@@ -195,7 +198,13 @@ fn refuses_what_is_beyond_the_limits(rt: HostRuntime) -> Result<(), Fail> {
         (b'*', 16_001, "", "", "refused 1 7 10 LengthLimit\n"),
         (b'(', 129, "", "", "refused 1 7 11 DepthLimit\n"),
         (b'(', 129, "a", "", "refused 1 7 11 DepthLimit\n"),
-        (b'(', 129, "?a", "", "refused 1 7 3 Unsupported option 128\n"),
+        (
+            b'(',
+            129,
+            "?a",
+            "",
+            "refused 1 7 3 Unsupported option 128\n",
+        ),
         (b'(', 128, "a", "", "refused 1 7 1 Syntax 129\n"),
     ];
     let file = padded(alloc, b"", b'a', 513, b"")?;
