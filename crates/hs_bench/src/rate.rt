@@ -4,7 +4,7 @@ use std::time::Duration;
 
 /// The shortest of some times that the same bytes took.
 #[derive(Clone, Copy, Debug)]
-pub struct Fastest {
+pub(crate) struct Fastest {
     /// How many bytes were scanned each time.
     bytes: usize,
     /// The shortest time in nanoseconds.
@@ -13,7 +13,7 @@ pub struct Fastest {
 
 impl Fastest {
     /// No time yet.
-    pub fn new(bytes: usize) -> Fastest {
+    pub(crate) fn new(bytes: usize) -> Fastest {
         Fastest {
             bytes,
             nanoseconds: u128::MAX,
@@ -21,12 +21,12 @@ impl Fastest {
     }
 
     /// One more time.
-    pub fn add(&mut self, time: Duration) {
+    pub(crate) fn add(&mut self, time: Duration) {
         self.nanoseconds = self.nanoseconds.min(time.as_nanos());
     }
 
     /// The rate in megabytes a second.
-    pub fn rate(&self) -> u128 {
+    pub(crate) fn rate(&self) -> u128 {
         (self.bytes as u128 * 1000)
             .checked_div(self.nanoseconds)
             .unwrap_or(0)

@@ -10,7 +10,7 @@ const MIN_LEN: usize = 2;
 const MAX_LEN: usize = 32;
 
 /// A literal for each line of 2 to 32 bytes.
-pub fn literals_of(alloc: Global, lines: &[u8]) -> Result<Vec<Vec<LitByte>>, AllocError> {
+pub(crate) fn literals_of(alloc: Global, lines: &[u8]) -> Result<Vec<Vec<LitByte>>, AllocError> {
     let mut literals = Vec::new(alloc);
     let mut literal = Vec::new(alloc);
     for byte in lines {

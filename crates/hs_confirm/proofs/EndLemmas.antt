@@ -51,7 +51,7 @@ bucket_end entries bucket text offset number within is = record {
   ends = ends_from_there (literal_in is.entry) text offset within is.ends;
 }
 
-entry_end : (entries : List Entry) (bucket : ℕ) (text : List ℕ) (offset number : ℕ) → IsBucketEnd (map literal_in entries) (map (λ entry. entry.bucket) entries) bucket text offset number → number_ends entries bucket text offset number ≡ true
+pub entry_end : (entries : List Entry) (bucket : ℕ) (text : List ℕ) (offset number : ℕ) → IsBucketEnd (map literal_in entries) (map (λ entry. entry.bucket) entries) bucket text offset number → number_ends entries bucket text offset number ≡ true
 entry_end entries bucket text offset number is =
     let (entry, numbered, literal) = mapped literal_in entries number (slice_get entries number) is.literal refl is.numbered in
     let (other, numbered', filed) = mapped (λ e. e.bucket) entries number (slice_get entries number) bucket refl is.filed in

@@ -1,6 +1,7 @@
 -- Widths of buckets, and entries one by one.
-use Rattle.std.proofs.Common.{◌≡◌, ℕ, zero, suc, ◌+◌, ◌-◌, ◌%◌, ◌<◌, ◌≤◌, List, [], ◌∷◌, ◌++◌, length, get_or, set, map, take, Some, refl, sym, ap, ◌∙◌, subst, arith, inl, inr, get_or-set_same, get_or-set_other}
+use Rattle.std.proofs.Common.{◌≡◌, ℕ, zero, suc, ◌+◌, ◌-◌, ◌*◌, ◌/◌, ◌<◌, ◌≤◌, List, [], ◌∷◌, ◌++◌, length, get_or, set, map, take, Some, refl, sym, ap, ◌∙◌, subst, arith, inl, inr, get_or-set_same, get_or-set_other}
 use Rattle.std.specs.Prelude.{slice_get}
+use Rattle.std.proofs.lemmas.Nat.{and_le_r}
 use Rattle.std.proofs.lemmas.List.{map_more, take_more}
 use Rattle.std.proofs.lemmas.Bool.{cases_eq, cases_lt}
 use Rattle.std.proofs.lemmas.Option.{same_Some, none-some}
@@ -34,10 +35,13 @@ keyed-push widths [] entry keyed is (suc n) other found = absurd (none-some othe
 keyed-push widths (e ∷ entries) entry keyed is zero other found = keyed zero other found
 keyed-push widths (e ∷ entries) entry keyed is (suc n) other found = keyed-push widths entries entry (λ k x here. keyed (suc k) x here) is n other found
 
+row-within : (count bucket key : ℕ) → 0 < count → row_of count bucket key < count
+row-within count bucket key some = omega (arith, and_le_r (key * 2654435769 / 1048576 + bucket * 40503) (count - 1))
+
 -- each row is one of so many
 pub rows-within : (count : ℕ) (entries : List Entry) (k : ℕ) → 0 < count → k < length (rows_of_entries count entries) → get_or (rows_of_entries count entries) k 0 < count
 rows-within count [] k some below = absurd (omega arith)
-rows-within count (e ∷ entries) zero some below = omega arith
+rows-within count (e ∷ entries) zero some below = row-within count e.bucket e.key some
 rows-within count (e ∷ entries) (suc k) some below = rows-within count entries k some (omega arith)
 
 -- one element more of a list that a loop makes

@@ -14,9 +14,9 @@ use Rattle.hs_confirm.specs.BucketEnds.{IsBucketEnd}
 use Rattle.hs_confirm.specs.PlaceEnds.{IsPlaceEnd, ArePlaceEnds}
 use Rattle.hs_confirm.specs.Taking.{ends_there}
 use Rattle.hs_confirm.specs.Entries.{literal_in, IsKeyed, AreKeyed, number_ends, ends_from}
-use Rattle.hs_confirm.specs.Heads.{IsFirstPassing, IsHead, AreHeads, entry_left, number_left, left_behind}
+use Rattle.hs_confirm.specs.Heads.{IsFirstPassing, IsHead, HasNone, AreHeads, entry_left, number_left, left_behind}
 use Rattle.hs_confirm.proofs.TakingLemmas.{ends_from_there, there_from_ends}
-use Rattle.hs_confirm.proofs.EndLemmas.{IsEntryEnd, number_end, end_number, bucket_end, mapped}
+use Rattle.hs_confirm.proofs.EndLemmas.{IsEntryEnd, number_end, end_number, bucket_end, entry_end, mapped}
 use Rattle.hs_confirm.proofs.NumberLemmas.{passing, passing-in, passing-end, passing-skip, IsPassing, member-passing, passing-member, passing-rising}
 
 -- the first of a list, or else another number
@@ -235,3 +235,36 @@ left_behind-exact widths entries mask heads text offset keyed inside are =
             passing-member (length entries) p 0 number (record { low = omega arith; high = omega (arith, slice_get_within entries number left.entry left.numbered); passes = passes }),
       );
     }
+
+-- a head that is no number
+pub head-none : (entries : List Entry) (mask : ℕ) (text : List ℕ) (offset bucket number : ℕ) → IsHead entries mask text offset bucket number → length entries ≤ number → HasNone entries mask text offset bucket
+head-none entries mask text offset bucket number head past = λ unmasked k below. (head.unmasked unmasked).fail k (omega arith) (omega arith)
+
+-- where no bucket has one, there is none
+pub none-exact : (widths : List ℕ) (entries : List Entry) (mask : ℕ) (text : List ℕ) (offset : ℕ) → AreKeyed widths entries → ((b : ℕ) → b < 8 → HasNone entries mask text offset b)
+    → ArePlaceEnds (map literal_in entries) (map (λ entry. entry.bucket) entries) mask text offset []
+none-exact widths entries mask text offset keyed none = record {
+  rising = tt;
+  exact = λ number. (
+    λ member. absurd member,
+    λ is.
+        let says : number_ends entries is.bucket text offset number ≡ true = entry_end entries is.bucket text offset number (record { literal = is.literal; numbered = is.numbered; filed = is.filed; ends = is.ends }) in
+        let found : IsEntryEnd entries is.bucket text offset number = number_end entries is.bucket text offset number says in
+        let few : is.bucket < 8 = subst (λ b. b < 8) found.filed (keyed number found.entry found.numbered).few in
+        let within : number < length entries = slice_get_within entries number found.entry found.numbered in
+        absurd (false≢true (sym (none is.bucket few is.unmasked number within) ∙ says)),
+  );
+}
+
+-- where a bucket has one, there is one
+pub some-exact : (entries : List Entry) (mask : ℕ) (text : List ℕ) (offset bucket number : ℕ) (numbers : List ℕ) → offset ≤ length text → IsHead entries mask text offset bucket number → number < length entries
+    → ArePlaceEnds (map literal_in entries) (map (λ entry. entry.bucket) entries) mask text offset numbers → numbers ≢ []
+some-exact entries mask text offset bucket number numbers inside head within are =
+    elim (cases_eq (bit_at mask bucket) 0) [
+      | inl unmasked ↦
+          let found : IsEntryEnd entries bucket text offset number = number_end entries bucket text offset number ((head.unmasked unmasked).here within) in
+          let is : IsBucketEnd (map literal_in entries) (map (λ entry. entry.bucket) entries) bucket text offset number = bucket_end entries bucket text offset number inside found in
+          let member : IsMember number numbers = (are.exact number).1 (record { literal = is.literal; bucket = bucket; numbered = is.numbered; filed = is.filed; unmasked = unmasked; ends = is.ends }) in
+          λ none. subst (IsMember number) none member
+      | inr masked ↦ absurd (omega (arith, head.masked masked))
+    ]

@@ -34,3 +34,8 @@ number_left entries heads text offset number = entry_left heads text offset (sli
 -- the numbers that are still to be told, rising
 unfoldable pub left_behind : List Entry → (heads : List ℕ) → List ℕ → ℕ → List ℕ
 left_behind entries heads text offset = filter (number_left entries heads text offset) (range_with_len 0 (length entries))
+
+-- no literal of a bucket ends there, if the mask leaves the bucket open
+abbrev pub HasNone : List Entry → (mask : ℕ) → List ℕ → (offset bucket : ℕ) → Type 0
+HasNone entries mask text offset bucket =
+    bit_at mask bucket ≡ 0 → (number : ℕ) → number < length entries → number_ends entries bucket text offset number ≡ false

@@ -1,6 +1,6 @@
 -- The key of a literal, and of a text up to an offset: so many of the last bytes, capital letters as small ones. Where a
 -- literal ends, both have one key.
-use Rattle.std.specs.Prelude.{ℕ, ◌+◌, ◌*◌, ◌-◌, ◌%◌, ◌&&◌, nat_le, nat_lt, List, [], ◌∷◌, length, map, slice_index, if◌then◌else◌}
+use Rattle.std.specs.Prelude.{ℕ, ◌+◌, ◌*◌, ◌-◌, ◌/◌, bit_and, ◌&&◌, nat_le, nat_lt, List, [], ◌∷◌, length, map, slice_index, if◌then◌else◌}
 use Rattle.std.specs.Int.{from_le_bytes, w32}
 use Rattle.hs_base.specs.Literals.{LiteralByte}
 
@@ -34,4 +34,4 @@ text_key width text offset = key_of (text_place width text offset)
 
 -- in which of so many rows the literals of a bucket and a key stand
 abbrev pub row_of : (rows bucket key : ℕ) → ℕ
-row_of rows bucket key = (key + bucket * 2654435761) % rows
+row_of rows bucket key = bit_and (key * 2654435769 / 1048576 + bucket * 40503) (rows - 1)

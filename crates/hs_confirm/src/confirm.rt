@@ -1,6 +1,6 @@
 //! The table of all literals: by bucket and last bytes.
 
-ghost use Rattle.std.specs.Prelude.{◌≡◌, ◌<◌, ◌≤◌, ◌+◌, ℕ, ◌++◌, IfOk, length, map, slice_index, vec_len};
+ghost use Rattle.std.specs.Prelude.{◌≡◌, ◌<◌, ◌≤◌, ◌≢◌, ◌+◌, ℕ, [], ◌++◌, IfOk, MatchOption, length, map, slice_index, vec_len};
 ghost use Rattle.hs_base.specs.LiteralView.{literal_byte};
 ghost use Rattle.hs_confirm.specs.Rows.{AreChains};
 ghost use Rattle.hs_confirm.specs.Entries.{AreKeyed, rows_of_entries};
@@ -90,5 +90,19 @@ impl Confirm {
         ensures { ArePlaceEnds (literals_of self.now) (buckets_of self.now) mask (history.now ++ bytes.now) (length history.now + at) (place_left result) }
     {
         PlaceEnds::new(self, mask, history, bytes, at)
+    }
+
+    /// As `place_ends`, or None where none ends there.
+    pub fn some_place_ends<'a>(
+        &'a self,
+        mask: u8,
+        history: &'a [u8],
+        bytes: &'a [u8],
+        at: usize,
+    ) -> Option<PlaceEnds<'a>>
+        requires within { at ≤ length bytes.now }
+        ensures { MatchOption result (ArePlaceEnds (literals_of self.now) (buckets_of self.now) mask (history.now ++ bytes.now) (length history.now + at) []) (λ ends. (place_left ends ≢ []) × ArePlaceEnds (literals_of self.now) (buckets_of self.now) mask (history.now ++ bytes.now) (length history.now + at) (place_left ends)) }
+    {
+        PlaceEnds::some(self, mask, history, bytes, at)
     }
 }

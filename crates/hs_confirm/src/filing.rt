@@ -12,6 +12,12 @@ use crate::widths::BUCKETS;
 use hs_base::LitByte;
 use std::alloc::{AllocError, Global};
 
+/// How many rows a literal has at least, up to `MAX_ROWS`.
+const ROWS_EACH: usize = 8;
+
+/// How many rows there are at most.
+const MAX_ROWS: usize = 1_048_576;
+
 /// The literal with its bucket and its key.
 fn entry_of(alloc: Global, literal: &[LitByte], bucket: u8, width: u8) -> Result<Entry, AllocError>
     ensures literal { IfOk result (λ entry. entry.literal.items ≡ literal.now) }
@@ -48,11 +54,15 @@ pub(crate) fn entries_of(
     Ok(entries)
 }
 
-/// How many rows so many literals have: about as many, and an odd number, so that keys spread over them.
+/// How many rows so many literals have: a power of two, and so many more than literals that most rows are empty.
 pub(crate) fn row_count(literals: usize) -> usize
     ensures { 0 < result }
 {
-    literals / 2 * 2 + 1
+    let mut rows = ROWS_EACH;
+    while rows < MAX_ROWS && rows / ROWS_EACH < literals {
+        rows *= 2;
+    }
+    rows
 }
 
 /// The row of each entry, of so many rows.

@@ -12,8 +12,14 @@ pub(crate) const KEY_LEN: u8 = 4;
 /// How far a capital letter stands below its small one (The Unicode Standard, "C0 Controls and Basic Latin").
 const CASE_DISTANCE: u8 = 32;
 
-/// What a bucket adds to its keys, so that the buckets have rows of their own: 2^32 by the golden ratio.
-const BUCKET_STRIDE: usize = 2_654_435_761;
+/// What keys are multiplied by, so that each of their bits counts for the row: 2^32 by the golden ratio.
+const KEY_SPREAD: usize = 2_654_435_769;
+
+/// What the product is divided by: the bits below hold too few of the key's bits.
+const LOW_PART: usize = 1_048_576;
+
+/// What a bucket adds, so that the buckets have rows of their own.
+const BUCKET_STRIDE: usize = 40_503;
 
 /// The byte, a capital letter as its small one.
 fn folded(byte: u8) -> u8
@@ -89,5 +95,5 @@ pub(crate) fn row_of(rows: usize, bucket: u8, key: u32) -> usize
     ensures row { result ≡ row_of rows bucket key }
     ensures within { result < rows }
 {
-    (key as usize + usize::from(bucket) * BUCKET_STRIDE) % rows
+    (key as usize * KEY_SPREAD / LOW_PART + usize::from(bucket) * BUCKET_STRIDE) & (rows - 1)
 }

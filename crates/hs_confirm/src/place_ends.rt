@@ -1,6 +1,6 @@
 //! The literals of all buckets that end at a place, rising.
 
-ghost use Rattle.std.specs.Prelude.{◌≡◌, ◌<◌, ◌≤◌, ◌+◌, ◌++◌, ℕ, true, length, slice_index, vec_len};
+ghost use Rattle.std.specs.Prelude.{◌≡◌, ◌≢◌, ◌<◌, ◌≤◌, ◌+◌, ◌++◌, ℕ, [], true, MatchOption, length, slice_index, vec_len};
 ghost use Rattle.hs_confirm.specs.Entries.{number_ends};
 ghost use Rattle.hs_confirm.specs.Heads.{AreHeads, IsHead, IsFirstPassing};
 
@@ -106,6 +106,26 @@ impl<'a> PlaceEnds<'a> {
             at,
             heads,
         }
+    }
+
+    /// Those that end at `at`, of the buckets whose bit in the mask is 0, or None where there is none.
+    pub(crate) fn some(
+        confirm: &'a Confirm,
+        mask: u8,
+        history: &'a [u8],
+        bytes: &'a [u8],
+        at: usize,
+    ) -> Option<PlaceEnds<'a>>
+        requires within { at ≤ length bytes.now }
+        ensures { MatchOption result (ArePlaceEnds (literals_of confirm.now) (buckets_of confirm.now) mask (history.now ++ bytes.now) (length history.now + at) []) (λ ends. (place_left ends ≢ []) × ArePlaceEnds (literals_of confirm.now) (buckets_of confirm.now) mask (history.now ++ bytes.now) (length history.now + at) (place_left ends)) }
+    {
+        for bucket in 0..BUCKETS {
+            let head = head_of(confirm, mask, bucket as u8, history, bytes, at);
+            if head < confirm.entries.len() {
+                return Some(PlaceEnds::new(confirm, mask, history, bytes, at));
+            }
+        }
+        None
     }
 }
 

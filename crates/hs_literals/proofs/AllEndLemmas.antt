@@ -1,6 +1,6 @@
 -- All ends of literals: the numbers at one place, and the places one by one.
 use Rattle.std.proofs.Common.{◌≡◌, ℕ, zero, suc, ◌+◌, ◌-◌, ◌<◌, ◌≤◌, ◌⊎◌, ◌↔◌, Bool, true, false, List, [], ◌∷◌, ◌++◌, length, map, Option, Some, None, refl, sym, ap, ◌∙◌, subst, arith, inl, inr, length-append}
-use Rattle.std.specs.Prelude.{slice_get}
+use Rattle.std.specs.Prelude.{slice_get, MatchOption}
 use Rattle.std.specs.List.{range_with_len, filter, flat_map}
 use Rattle.std.proofs.lemmas.Bool.{false≢true, cases_lt, false_from_ne_true}
 use Rattle.std.proofs.lemmas.List.{length-map}
@@ -11,6 +11,8 @@ use Rattle.hs_base.proofs.ListLemmas.{each-member, each-of_members, member-left,
 use Rattle.hs_confirm.specs.LiteralEnds.{EndsAt}
 use Rattle.hs_confirm.specs.PlaceEnds.{IsPlaceEnd, ArePlaceEnds}
 use Rattle.hs_confirm.specs.declared.confirm.Confirm.{Confirm}
+use Rattle.hs_confirm.specs.declared.place_ends.PlaceEnds.{PlaceEnds}
+use Rattle.hs_confirm.specs.PlaceLeft.{place_left}
 use Rattle.hs_confirm.specs.Entries.{literal_in}
 use Rattle.hs_confirm.specs.Filed.{literals_of, buckets_of}
 use Rattle.hs_confirm.specs.Taking.{ends_there}
@@ -64,6 +66,13 @@ place_numbers literals buckets mask text offset numbers same inside hides are =
     let within : number < length literals = slice_get_within literals number is.literal is.numbered in
     let filed = slice_get-get_or buckets number 0 (omega arith) in
     (are.exact number).1 (record { literal = is.literal; bucket = _; numbered = is.numbered; filed = filed; unmasked = hides number _ is.literal is.numbered filed is.ends; ends = is.ends }))
+
+-- the same where there may be none
+pub option_numbers : (literals : List (List LiteralByte)) (buckets : List ℕ) (mask : ℕ) (text : List ℕ) (offset : ℕ) (found : Option PlaceEnds) → length buckets ≡ length literals → offset ≤ length text → HidesNone mask literals buckets text offset
+    → MatchOption found (ArePlaceEnds literals buckets mask text offset []) (λ ends. (place_left ends ≡ [] → ⊥) × ArePlaceEnds literals buckets mask text offset (place_left ends))
+    → MatchOption found (numbers_at literals text offset ≡ []) (λ ends. place_left ends ≡ numbers_at literals text offset)
+option_numbers literals buckets mask text offset None same inside hides are = sym (place_numbers literals buckets mask text offset [] same inside hides are)
+option_numbers literals buckets mask text offset (Some ends) same inside hides are = place_numbers literals buckets mask text offset (place_left ends) same inside hides are.1
 
 pub no_member : (xs : List ℕ) → ((x : ℕ) → IsMember x xs → ⊥) → xs ≡ []
 no_member [] none = refl

@@ -1,6 +1,6 @@
 //! The next place at which a literal may end.
 
-ghost use Rattle.std.specs.Prelude.{◌≡◌, ◌≤◌, ◌<◌, ◌+◌, ◌++◌, ◌⊎◌, MatchOption, length};
+ghost use Rattle.std.specs.Prelude.{◌≡◌, ◌≢◌, ◌≤◌, ◌<◌, ◌+◌, ◌++◌, ◌⊎◌, ℕ, [], MatchOption, length, slice_index};
 ghost use Rattle.hs_confirm.specs.Filed.{literals_of, buckets_of};
 ghost use Rattle.hs_literals.specs.Masking.{HidesNone, MasksHideNone};
 ghost use Rattle.hs_literals.specs.Places.{NoneBetween};
@@ -12,6 +12,22 @@ use hs_fdr::BLOCK_LEN;
 
 /// A mask that leaves no bucket open.
 const NO_BUCKET: u8 = 0xFF;
+
+/// The first place from one on and before another that has a bucket left open, or the other.
+#[inline]
+fn open_place(masks: &[u8; BLOCK_LEN], from: usize, end: usize) -> usize
+    requires { (from ≤ end) × (end ≤ 64) }
+    ensures low { from ≤ result }
+    ensures high { result ≤ end }
+    ensures closed { (k : ℕ) → from ≤ k → k < result → slice_index masks.now k ≡ 255 }
+    ensures open { result < end → slice_index masks.now result ≢ 255 }
+{
+    let mut at = from;
+    while at < end && masks[at] == NO_BUCKET {
+        at += 1;
+    }
+    at
+}
 
 /// A walk over the places of bytes.
 #[derive(Debug, Drop)]
@@ -69,6 +85,19 @@ impl<'a> Places<'a> {
         }
     }
 
+    /// Passes the places of the block that have no bucket left open, up to one that has.
+    #[inline]
+    fn pass_closed(&mut self)
+        ensures literals { self.new.literals ≡ self.old.literals }
+        ensures history { self.new.history ≡ self.old.history }
+        ensures bytes { self.new.bytes ≡ self.old.bytes }
+        ensures low { self.old.at ≤ self.new.at }
+        ensures none { NoneBetween (literals_of self.old.literals.now.confirm) self.old.history.now self.old.bytes.now self.old.at (self.new.at + 1) }
+    {
+        let end = (self.bytes.len() - self.block).min(BLOCK_LEN);
+        self.at = self.block + open_place(&self.masks, self.at - self.block, end);
+    }
+
     /// The mask of the next place, or None behind the last one.
     fn next_mask(&mut self) -> Option<u8>
         ensures literals { self.new.literals ≡ self.old.literals }
@@ -97,17 +126,18 @@ impl<'a> Places<'a> {
             if mask != NO_BUCKET {
                 return Some(mask);
             }
+            self.pass_closed();
         }
         None
     }
 
-    /// The literals that end at the place, given a mask that hides none of them.
-    pub(crate) fn ends(&self, mask: u8) -> PlaceEnds<'a>
+    /// The literals that end at the place, given a mask that hides none of them, or None where there is none.
+    pub(crate) fn ends(&self, mask: u8) -> Option<PlaceEnds<'a>>
         requires { HidesNone mask (literals_of self.now.literals.now.confirm) (buckets_of self.now.literals.now.confirm) (self.now.history.now ++ self.now.bytes.now) (length self.now.history.now + self.now.at) }
-        ensures { place_left result ≡ numbers_at (literals_of self.now.literals.now.confirm) (self.now.history.now ++ self.now.bytes.now) (length self.now.history.now + self.now.at) }
+        ensures { MatchOption result (numbers_at (literals_of self.now.literals.now.confirm) (self.now.history.now ++ self.now.bytes.now) (length self.now.history.now + self.now.at) ≡ []) (λ ends. place_left ends ≡ numbers_at (literals_of self.now.literals.now.confirm) (self.now.history.now ++ self.now.bytes.now) (length self.now.history.now + self.now.at)) }
     {
         self.literals
             .confirm
-            .place_ends(mask, self.history, self.bytes, self.at)
+            .some_place_ends(mask, self.history, self.bytes, self.at)
     }
 }

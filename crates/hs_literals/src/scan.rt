@@ -32,17 +32,18 @@ impl<'a> LitScan<'a> {
         }
     }
 
-    /// Goes on to the next place that may have ends, if there is one.
+    /// Goes on to the next place that has ends, if there is one.
     fn enter_next(&mut self) -> bool
         ensures bytes { self.new.places.bytes ≡ self.old.places.bytes }
         ensures next { MatchBool result ((self.old.places.at < self.new.places.at) × (ends_behind (held self.old.places.literals.now) self.old.places.history.now self.old.places.bytes.now self.old.places.at ≡ scan_left self.new)) ((self.new.ends ≡ self.old.ends) × (ends_behind (held self.old.places.literals.now) self.old.places.history.now self.old.places.bytes.now self.old.places.at ≡ []) × (ends_behind (held self.new.places.literals.now) self.new.places.history.now self.new.places.bytes.now self.new.places.at ≡ [])) }
     {
-        let mask = match self.places.next_open() {
-            Some(mask) => mask,
-            None => return false,
-        };
-        self.ends = self.places.ends(mask);
-        true
+        while let Some(mask) = self.places.next_open() {
+            if let Some(ends) = self.places.ends(mask) {
+                self.ends = ends;
+                return true;
+            }
+        }
+        false
     }
 }
 

@@ -6,20 +6,9 @@ use Rattle.hs_literals.specs.Masking.{HidesNone}
 use Rattle.hs_literals.proofs.AllEndLemmas.{ends_behind-skip, ends_behind-end, ends_behind-enter}
 use Rattle.hs_literals.proofs.scan.LitScan.enter_next.Goals as goal
 
-pub returns-in-None-clause-next : goal.returns-in-None-clause-next
-returns-in-None-clause-next c =
-    let old = c.args.self.now.places in
-    let new = c.next_open.new.self in
-    let end = c.in-None.ensures.next.0 in (
-      refl,
-      ends_behind-skip (new.at - old.at) (held old.literals.now) old.history.now old.bytes.now old.at new.at (omega (arith, end, old.within)) (omega (arith, end)) c.in-None.ensures.next.1
-          ∙ ends_behind-end (held old.literals.now) old.history.now old.bytes.now new.at (omega (arith, end)),
-      ends_behind-end (held new.literals.now) new.history.now new.bytes.now new.at (omega (arith, end, ap (λ b. length b.now) c.in-None.ensures.bytes)),
-    )
-
-pub ends-self-requires : goal.ends-self-requires
-ends-self-requires c =
-    let old = c.args.self.now.places in
+pub ends-requires : goal.ends-requires
+ends-requires c =
+    let old = c.loop-mask.self.places in
     let new = c.next_open.new.self in
     let same = c.in-Some.ensures in
     let mask = c.in-Some.mask in
@@ -27,15 +16,45 @@ ends-self-requires c =
     (subst (λ h. HidesNone mask (literals_of old.literals.now.confirm) (buckets_of old.literals.now.confirm) (h.now ++ new.bytes.now) (length h.now + new.at)) (sym same.history)
     (subst (λ b. HidesNone mask (literals_of old.literals.now.confirm) (buckets_of old.literals.now.confirm) (old.history.now ++ b.now) (length old.history.now + new.at)) (sym same.bytes) same.next.1))
 
-pub returns-clause-next : goal.returns-clause-next
-returns-clause-next c =
-    let old = c.args.self.now.places in
+pub returns-in-Some-ends-clause-next : goal.returns-in-Some-ends-clause-next
+returns-in-Some-ends-clause-next c =
+    let old = c.loop-mask.self.places in
     let new = c.next_open.new.self in
     let same = c.in-Some.ensures in (
-      same.next.0,
-      ends_behind-enter (held old.literals.now) old.history.now old.bytes.now old.at new.at same.next.0 (omega (arith, new.within, ap (λ b. length b.now) same.bytes)) same.none_before
+      omega (arith, same.next.0, c.loop-mask.invariant.low),
+      c.loop-mask.invariant.same
+          ∙ ends_behind-enter (held old.literals.now) old.history.now old.bytes.now old.at new.at same.next.0 (omega (arith, new.within, ap (λ b. length b.now) same.bytes)) same.none_before
           ∙ ap (λ l. pairs_at new.at (numbers_at (held l.now) (old.history.now ++ old.bytes.now) (length old.history.now + new.at)) ++ ends_behind (held l.now) old.history.now old.bytes.now new.at) (sym same.literals)
           ∙ ap (λ h. pairs_at new.at (numbers_at (held new.literals.now) (h.now ++ old.bytes.now) (length h.now + new.at)) ++ ends_behind (held new.literals.now) h.now old.bytes.now new.at) (sym same.history)
           ∙ ap (λ b. pairs_at new.at (numbers_at (held new.literals.now) (new.history.now ++ b.now) (length new.history.now + new.at)) ++ ends_behind (held new.literals.now) new.history.now b.now new.at) (sym same.bytes)
-          ∙ ap (λ numbers. pairs_at new.at numbers ++ ends_behind (held new.literals.now) new.history.now new.bytes.now new.at) (sym c.ends-self.ensures),
+          ∙ ap (λ numbers. pairs_at new.at numbers ++ ends_behind (held new.literals.now) new.history.now new.bytes.now new.at) (sym c.in-Some-ends.ensures),
+    )
+
+pub loop-mask-preserved : goal.loop-mask-preserved
+loop-mask-preserved c =
+    let old = c.loop-mask.self.places in
+    let new = c.next_open.new.self in
+    let same = c.in-Some.ensures in
+    record {
+      bytes = same.bytes ∙ c.loop-mask.invariant.bytes;
+      ends = c.loop-mask.invariant.ends;
+      low = omega (arith, same.next.0, c.loop-mask.invariant.low);
+      same = c.loop-mask.invariant.same
+          ∙ ends_behind-enter (held old.literals.now) old.history.now old.bytes.now old.at new.at same.next.0 (omega (arith, new.within, ap (λ b. length b.now) same.bytes)) same.none_before
+          ∙ ap (λ l. pairs_at new.at (numbers_at (held l.now) (old.history.now ++ old.bytes.now) (length old.history.now + new.at)) ++ ends_behind (held l.now) old.history.now old.bytes.now new.at) (sym same.literals)
+          ∙ ap (λ h. pairs_at new.at (numbers_at (held new.literals.now) (h.now ++ old.bytes.now) (length h.now + new.at)) ++ ends_behind (held new.literals.now) h.now old.bytes.now new.at) (sym same.history)
+          ∙ ap (λ b. pairs_at new.at (numbers_at (held new.literals.now) (new.history.now ++ b.now) (length new.history.now + new.at)) ++ ends_behind (held new.literals.now) new.history.now b.now new.at) (sym same.bytes)
+          ∙ ap (λ numbers. pairs_at new.at numbers ++ ends_behind (held new.literals.now) new.history.now new.bytes.now new.at) c.in_default-ends.ensures;
+    }
+
+pub returns-clause-next : goal.returns-clause-next
+returns-clause-next c =
+    let old = c.loop-mask.self.places in
+    let new = c.next_open.new.self in
+    let end = c.in_default.ensures.next.0 in (
+      c.loop-mask.invariant.ends,
+      c.loop-mask.invariant.same
+          ∙ ends_behind-skip (new.at - old.at) (held old.literals.now) old.history.now old.bytes.now old.at new.at (omega (arith, end, old.within)) (omega (arith, end)) c.in_default.ensures.next.1
+          ∙ ends_behind-end (held old.literals.now) old.history.now old.bytes.now new.at (omega (arith, end)),
+      ends_behind-end (held new.literals.now) new.history.now new.bytes.now new.at (omega (arith, end, ap (λ b. length b.now) c.in_default.ensures.bytes)),
     )
