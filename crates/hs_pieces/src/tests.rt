@@ -35,6 +35,15 @@ fn both_cases(capital: u8) -> ByteSet {
     ByteSet::of(capital).union(&ByteSet::of(capital.to_ascii_lowercase()))
 }
 
+/// The small letters.
+fn small_letters() -> ByteSet {
+    let mut set = ByteSet::EMPTY;
+    for byte in b'a'..=b'z' {
+        set.insert(byte);
+    }
+    set
+}
+
 /// One node, which a byte ends.
 fn node(alloc: Global, open: &mut Open, byte: u8) -> Result<Expr, Fail> {
     Ok(match byte {
@@ -54,7 +63,9 @@ fn node(alloc: Global, open: &mut Open, byte: u8) -> Result<Expr, Fail> {
         b'}' => open.repeat(alloc, 65, None)?,
         b'_' => Expr::Empty,
         b'.' => Expr::Class(ByteSet::NOT_NEWLINE),
+        b'!' => Expr::Class(ByteSet::ALL),
         b'&' => Expr::Class(ByteSet::DIGITS),
+        b'-' => Expr::Class(small_letters()),
         b'$' => Expr::Assert(Assertion::LineEnd),
         b'%' => Expr::Assert(Assertion::WordBoundary),
         b'A'..=b'Z' => Expr::Class(both_cases(byte)),
@@ -64,7 +75,8 @@ fn node(alloc: Global, open: &mut Open, byte: u8) -> Result<Expr, Fail> {
 
 /// A tree from its text: `(..)` is a concatenation, `[..]` an alternative of items, a digit d is `{d,d}` of the item
 /// before it, `#` is `{1000}`, `<` is `{64}`, `>` is `{0,65}`, `{` is `{64,}`, `}` is `{65,}`, `_` the empty text, `.`
-/// every byte but the line feed, `&` the digits, `%` is `\b`, a capital both cases of its letter, and any other its byte.
+/// every byte but the line feed, `!` every byte, `&` the digits, `-` the small letters, `%` is `\b`, a capital both cases of
+/// its letter, and any other its byte.
 fn tree(alloc: Global, text: &str) -> Result<Expr, Fail> {
     let mut open = Open {
         outer: Vec::new(alloc),
@@ -125,8 +137,8 @@ fn write_pieces(text: &mut String, pieces: &[Piece]) -> Result<(), Fail> {
 fn splits_at_literals_and_long_repeats(rt: HostRuntime) -> Result<(), Fail> {
     let table = [
         ("(%foo%)", "~e\"foo\"e;"),
-        ("(x.#y)", "ere;"),
-        ("(&+foo.*bar)", "e\"foo\"e\"bar\";"),
+        ("(x!#y)", "ere;"),
+        ("(&+foo-*bar)", "e\"foo\"e\"bar\";"),
         ("(f%oo)", "~e\"oo\";"),
         ("(FOo)", "\"FOo\";"),
         ("a", "e;"),
@@ -217,7 +229,7 @@ fn ends(alloc: Global, expr: &Expr, stream: &[u8], ended: bool) -> Result<String
 fn chains_end_where_the_tree_ends(rt: HostRuntime) -> Result<(), Fail> {
     let table = [
         ("(%foo%)", "a foo foobar foo"),
-        ("(&+foo.*bar)", "1foo2foobar bar"),
+        ("(&+foo-*bar)", "1foo2fooxbar bar"),
         ("(FOo)", "Foo fOo foO FOo"),
         ("[a[bc](de)(a+e$)]", "abcdede aae\naae"),
         ("(a1(b_)1c)", "abcabcbc"),
