@@ -12,6 +12,7 @@ pub mod WrittenOut
 pub mod EndAssertions
 pub mod Literals
 pub mod LiteralView
+pub mod LiteralEnds
 pub mod Items
 pub mod Chains
 pub mod Fields

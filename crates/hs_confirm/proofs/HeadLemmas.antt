@@ -9,7 +9,7 @@ use Rattle.std.proofs.lemmas.Option.{slice_get-map, slice_get_within, same_Some}
 use Rattle.hs_base.specs.Literals.{LiteralByte}
 use Rattle.hs_base.specs.Lists.{IsMember, IsRising}
 use Rattle.hs_confirm.specs.declared.entry.Entry.{Entry}
-use Rattle.hs_confirm.specs.LiteralEnds.{EndsAt}
+use Rattle.hs_base.specs.LiteralEnds.{EndsAt}
 use Rattle.hs_confirm.specs.BucketEnds.{IsBucketEnd}
 use Rattle.hs_confirm.specs.PlaceEnds.{IsPlaceEnd, ArePlaceEnds}
 use Rattle.hs_confirm.specs.Taking.{ends_there}

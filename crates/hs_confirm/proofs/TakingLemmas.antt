@@ -5,7 +5,7 @@ use Rattle.std.proofs.lemmas.Bool.{false≢true, and_from, and_left, and_parts, 
 use Rattle.hs_base.specs.declared.literal.LitByte.{LitByte}
 use Rattle.hs_base.specs.Literals.{LiteralByte, takes}
 use Rattle.hs_base.specs.LiteralView.{literal_byte}
-use Rattle.hs_confirm.specs.LiteralEnds.{IsTaken, EndsAt}
+use Rattle.hs_base.specs.LiteralEnds.{IsTaken, EndsAt}
 use Rattle.hs_confirm.specs.Taking.{takes_all, ends_there}
 
 -- one place further

@@ -2,7 +2,7 @@
 use Rattle.std.specs.Prelude.{◌≡◌, ℕ, ◌<◌, ◌↔◌, List, Some, slice_get}
 use Rattle.hs_base.specs.Literals.{LiteralByte}
 use Rattle.hs_base.specs.Lists.{IsMember, IsRising}
-use Rattle.hs_confirm.specs.LiteralEnds.{EndsAt}
+use Rattle.hs_base.specs.LiteralEnds.{EndsAt}
 
 -- the literal of that number is in the bucket and ends there
 pub record IsBucketEnd (literals : List (List LiteralByte)) (buckets : List ℕ) (bucket : ℕ) (text : List ℕ) (offset number : ℕ) : Type 0 where

@@ -1,4 +1,3 @@
-pub mod LiteralEnds
 pub mod BucketEnds
 pub mod Taking
 pub mod Keys

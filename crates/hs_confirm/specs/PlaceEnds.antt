@@ -3,7 +3,7 @@ use Rattle.std.specs.Prelude.{◌≡◌, ℕ, ◌<◌, ◌↔◌, List, Some, sl
 use Rattle.std.specs.Int.{bit_at}
 use Rattle.hs_base.specs.Literals.{LiteralByte}
 use Rattle.hs_base.specs.Lists.{IsMember, IsRising}
-use Rattle.hs_confirm.specs.LiteralEnds.{EndsAt}
+use Rattle.hs_base.specs.LiteralEnds.{EndsAt}
 
 -- the bit of the literal's bucket is 0, and the literal ends there
 pub record IsPlaceEnd (literals : List (List LiteralByte)) (buckets : List ℕ) (mask : ℕ) (text : List ℕ) (offset number : ℕ) : Type 0 where

@@ -4,7 +4,7 @@ use Rattle.std.specs.List.{slice_get}
 use Rattle.std.proofs.lemmas.List.{get_or_append_left, get_or-append-add}
 use Rattle.hs_base.specs.Literals.{LiteralByte, takes}
 use Rattle.hs_fdr_build.specs.Asking.{TakesBefore}
-use Rattle.hs_fdr_build.specs.LiteralEnds.{IsTaken, none, next, EndsAt}
+use Rattle.hs_base.specs.LiteralEnds.{IsTaken, none, next, EndsAt}
 
 pub taken-length : (literal : List LiteralByte) (bytes : List ℕ) → IsTaken literal bytes → length bytes ≡ length literal
 taken-length [] [] none = refl

@@ -1,4 +1,3 @@
-pub mod LiteralEnds
 pub mod Asking
 pub mod Clearing
 pub mod MaskPlaces

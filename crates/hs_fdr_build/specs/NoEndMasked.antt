@@ -6,7 +6,7 @@ use Rattle.hs_fdr.specs.declared.tables.Tables.{Tables}
 use Rattle.hs_fdr.specs.Masks.{mask_of, width_of}
 use Rattle.hs_fdr.specs.Blocks.{mask_at, block_masks}
 use Rattle.hs_fdr_build.specs.Asking.{StandsIn, AreTablesOf}
-use Rattle.hs_fdr_build.specs.LiteralEnds.{EndsAt}
+use Rattle.hs_base.specs.LiteralEnds.{EndsAt}
 
 -- The bit of a literal's bucket is 0 in the mask of each place at which the literal ends, whatever the byte behind the text.
 abbrev pub NoEndIsMasked : Type 0

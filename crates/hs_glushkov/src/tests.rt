@@ -264,12 +264,14 @@ fn spans_are_as_defined(rt: HostRuntime) -> Result<(), Fail> {
 fn the_most_positions_span_as_defined(rt: HostRuntime) -> Result<(), Fail> {
     let alloc = rt.alloc();
     let table = [
-        ("a<", "aaaab"),
-        ("(a?b?a?b?)!", "ab aab"),
-        ("([aB]b?a?b?)!", "ba abb"),
+        ("a<", "aab"),
+        ("(a?b?a?b?)!", "b a"),
+        ("([aB]b?a?b?)!", "a b"),
     ];
     for (name, text) in table {
-        compare(&rt, alloc, name, text.as_bytes())?;
+        for cut in 0..=text.len() {
+            compare(&rt, alloc, name, &text.as_bytes()[..cut])?;
+        }
     }
     Ok(())
 }

@@ -8,7 +8,7 @@ use Rattle.std.proofs.lemmas.Option.{slice_get_within, slice_get-get_or}
 use Rattle.hs_base.specs.Literals.{LiteralByte}
 use Rattle.hs_base.specs.Lists.{OneOf, Each, IsMember, IsRising}
 use Rattle.hs_base.proofs.ListLemmas.{each-member, each-of_members, member-left, member-right, member-append, member-map, map-member, IsOrder, rising-unique, rising-append, rising-map}
-use Rattle.hs_confirm.specs.LiteralEnds.{EndsAt}
+use Rattle.hs_base.specs.LiteralEnds.{EndsAt}
 use Rattle.hs_confirm.specs.PlaceEnds.{IsPlaceEnd, ArePlaceEnds}
 use Rattle.hs_confirm.specs.declared.confirm.Confirm.{Confirm}
 use Rattle.hs_confirm.specs.declared.place_ends.PlaceEnds.{PlaceEnds}

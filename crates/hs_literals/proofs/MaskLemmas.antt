@@ -7,30 +7,21 @@ use Rattle.std.proofs.lemmas.Bool.{cases_lt}
 use Rattle.std.proofs.lemmas.Nat.Bits.{bit_at_ones}
 use Rattle.std.proofs.lemmas.Option.{slice_get_within, slice_get-get_or, get_or_from_slice_get}
 use Rattle.std.proofs.lemmas.List.{take-append-drop, take_all, take-take, drop-take, append-nil, length-map, length-take-le, get_or-take, get_or-drop, get_or_past, get_or_default, get_or_append_left, get_or-append_right, get_or-append-add}
-use Rattle.hs_base.specs.Literals.{LiteralByte, takes}
-use Rattle.hs_confirm.specs.LiteralEnds.{IsTaken, EndsAt}
+use Rattle.hs_base.specs.Literals.{LiteralByte}
+use Rattle.hs_base.specs.LiteralEnds.{EndsAt}
 use Rattle.hs_confirm.specs.PlaceEnds.{IsPlaceEnd, ArePlaceEnds}
 use Rattle.hs_fdr.specs.declared.tables.Tables.{Tables}
 use Rattle.hs_fdr.specs.Masks.{mask_of, width_of}
 use Rattle.hs_fdr.specs.Blocks.{block_masks}
 use Rattle.hs_fdr_build.specs.Asking.{AreTablesOf}
-use Rattle.hs_fdr_build.specs.LiteralEnds.{IsTaken as IsTakenThere, EndsAt as EndsThere}
 use Rattle.hs_fdr_build.proofs.NoEndLemmas.{no-end-is-masked-in-blocks}
 use Rattle.hs_literals.proofs.AllEndLemmas.{no_member}
 use Rattle.hs_literals.specs.Masking.{HidesNone, TablesHideNone, MasksHideNone, AreFew, StandsBefore}
 
-taken_there : {literal : List LiteralByte} {bytes : List ℕ} → IsTaken literal bytes → IsTakenThere literal bytes
-taken_there IsTaken.none = IsTakenThere.none
-taken_there (IsTaken.next here others) = IsTakenThere.next here (taken_there others)
-
-ends_there : (literal : List LiteralByte) (text : List ℕ) (offset : ℕ) → EndsAt literal text offset → EndsThere literal text offset
-ends_there literal text offset ends = record { before = ends.before; taken = ends.taken; behind = ends.behind; split = ends.split; is = taken_there ends.is; at = ends.at }
-
 -- the tables of literals hide none of them
 pub tables_hide_none : (tables : Tables) (literals : List (List LiteralByte)) (buckets : List ℕ) → AreFew buckets → AreTablesOf literals buckets tables → TablesHideNone tables literals buckets
 tables_hide_none tables literals buckets few are = λ earlier before block later next i fit below within number bucket literal numbered filed ends.
-    no-end-is-masked-in-blocks literals buckets tables are bucket literal (few number bucket filed) (record { number = number; is = numbered; goes = filed }) earlier before block later next i fit below within
-    (ends_there literal (earlier ++ (before ++ (block ++ later))) (length earlier + (length before + (i + 1))) ends)
+    no-end-is-masked-in-blocks literals buckets tables are bucket literal (few number bucket filed) (record { number = number; is = numbered; goes = filed }) earlier before block later next i fit below within ends
 
 -- where a mask with all bits hides none, no literal ends
 pub none_ends : (literals : List (List LiteralByte)) (buckets text : List ℕ) (offset mask number : ℕ) (literal : List LiteralByte) → AreFew buckets → length buckets ≡ length literals → mask ≡ 255 → HidesNone mask literals buckets text offset

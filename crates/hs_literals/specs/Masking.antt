@@ -2,7 +2,7 @@
 use Rattle.std.specs.Prelude.{◌≡◌, ℕ, ◌+◌, ◌<◌, ◌≤◌, List, ◌++◌, Option, Some, All, length, take, slice_get, slice_index}
 use Rattle.std.specs.Int.{bit_at}
 use Rattle.hs_base.specs.Literals.{LiteralByte}
-use Rattle.hs_confirm.specs.LiteralEnds.{EndsAt}
+use Rattle.hs_base.specs.LiteralEnds.{EndsAt}
 use Rattle.hs_fdr.specs.declared.tables.Tables.{Tables}
 use Rattle.hs_fdr.specs.Masks.{mask_of, width_of}
 use Rattle.hs_fdr.specs.Blocks.{block_masks}

@@ -1,7 +1,7 @@
 -- Places between which no literal ends.
 use Rattle.std.specs.Prelude.{◌≡◌, ℕ, ◌+◌, ◌<◌, ◌≤◌, List, ◌++◌, Some, length, slice_get}
 use Rattle.hs_base.specs.Literals.{LiteralByte}
-use Rattle.hs_confirm.specs.LiteralEnds.{EndsAt}
+use Rattle.hs_base.specs.LiteralEnds.{EndsAt}
 
 -- no literal ends behind the one place and before the other
 abbrev pub NoneBetween : List (List LiteralByte) → (history bytes : List ℕ) → (from to : ℕ) → Type 0

@@ -3,7 +3,7 @@
 use Rattle.std.specs.Prelude.{◌≡◌, ℕ, ◌+◌, ◌<◌, ◌≤◌, ◌⊎◌, ◌↔◌, List, ◌++◌, Some, length, slice_get}
 use Rattle.hs_base.specs.Literals.{LiteralByte}
 use Rattle.hs_base.specs.Lists.{IsMember, IsRising}
-use Rattle.hs_confirm.specs.LiteralEnds.{EndsAt}
+use Rattle.hs_base.specs.LiteralEnds.{EndsAt}
 
 -- the literal of that number ends there, behind one of the bytes; it may begin in the history, which stands before them
 pub record IsScanEnd (literals : List (List LiteralByte)) (history bytes : List ℕ) (end number : ℕ) : Type 0 where

@@ -1,6 +1,6 @@
 use Rattle.std.proofs.Common.{◌≡◌, ◌<◌, ◌≤◌, ◌+◌, ◌-◌, ◌++◌, ◌∙◌, length, sym, ap, subst, arith, inl, inr}
 use Rattle.std.proofs.lemmas.Bool.{cases_lt}
-use Rattle.hs_confirm.specs.LiteralEnds.{EndsAt}
+use Rattle.hs_base.specs.LiteralEnds.{EndsAt}
 use Rattle.hs_confirm.specs.Filed.{literals_of, buckets_of}
 use Rattle.hs_literals.specs.Masking.{HidesNone}
 use Rattle.hs_literals.specs.Places.{NoneBetween}

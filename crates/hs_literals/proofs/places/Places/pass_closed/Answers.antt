@@ -1,5 +1,5 @@
 use Rattle.std.proofs.Common.{◌≡◌, ◌<◌, ◌≤◌, ◌+◌, ◌-◌, ◌++◌, length, subst, arith}
-use Rattle.hs_confirm.specs.LiteralEnds.{EndsAt}
+use Rattle.hs_base.specs.LiteralEnds.{EndsAt}
 use Rattle.hs_confirm.specs.Filed.{literals_of, buckets_of}
 use Rattle.hs_literals.proofs.AllEndLemmas.{as_many}
 use Rattle.hs_literals.proofs.MaskLemmas.{none_ends}
