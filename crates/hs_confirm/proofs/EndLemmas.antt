@@ -1,22 +1,19 @@
 -- The entries of a bucket that end at a place: which they are, and which are passed over.
-use Rattle.std.proofs.Common.{◌≡◌, ◌≢◌, ℕ, zero, suc, ◌+◌, ◌-◌, ◌<◌, ◌≤◌, ◌↔◌, Bool, true, false, ◌&&◌, List, [], ◌∷◌, length, get_or, map, Option, Some, None, refl, sym, ap, ◌∙◌, subst, arith, inl, inr, eqb}
+use Rattle.std.proofs.Common.{◌≡◌, ℕ, ◌+◌, ◌-◌, ◌<◌, ◌≤◌, true, false, List, [], ◌∷◌, length, get_or, map, Option, Some, None, refl, sym, ap, ◌∙◌, arith, eqb}
 use Rattle.std.specs.Prelude.{slice_get}
 use Rattle.std.specs.Option.{option_map}
 use Rattle.std.proofs.lemmas.List.{length-map}
 use Rattle.std.proofs.lemmas.Bool.{false≢true, and_parts, and_from, eqb-true, eq-eqb, false_from_ne_true}
 use Rattle.std.proofs.lemmas.Option.{slice_get-map, slice_get_within, same_Some, none-some, get_or_from_slice_get}
-use Rattle.hs_base.specs.Literals.{LiteralByte}
-use Rattle.hs_base.specs.Lists.{IsMember, IsRising}
 use Rattle.hs_confirm.specs.declared.entry.Entry.{Entry}
-use Rattle.hs_base.specs.LiteralEnds.{EndsAt}
 use Rattle.hs_confirm.specs.BucketEnds.{IsBucketEnd, AreBucketEnds}
 use Rattle.hs_confirm.specs.Taking.{ends_there}
-use Rattle.hs_confirm.specs.Keys.{literal_key, text_key, row_of}
-use Rattle.hs_confirm.specs.Rows.{IsLeastFrom, AreChains}
-use Rattle.hs_confirm.specs.Entries.{literal_in, IsKeyed, AreKeyed, rows_of_entries, entry_ends, entry_ends_option, number_ends, ends_from}
+use Rattle.hs_confirm.specs.Keys.{text_key, row_of}
+use Rattle.hs_confirm.specs.Rows.{IsLeastFrom}
+use Rattle.hs_confirm.specs.Entries.{literal_in, IsKeyed, AreKeyed, rows_of_entries, entry_ends_option, number_ends, ends_from}
 use Rattle.hs_confirm.proofs.TakingLemmas.{ends_from_there, there_from_ends}
 use Rattle.hs_confirm.proofs.KeyLemmas.{are_small, keys-same}
-use Rattle.hs_confirm.proofs.NumberLemmas.{passing, passing-end, passing-in, passing-out, passing-skip, IsPassing, member-passing, passing-member, passing-rising}
+use Rattle.hs_confirm.proofs.NumberLemmas.{passing-end, passing-in, passing-out, passing-skip, IsPassing, member-passing, passing-member, passing-rising}
 
 -- an entry of the bucket that ends there, with its number
 pub record IsEntryEnd (entries : List Entry) (bucket : ℕ) (text : List ℕ) (offset number : ℕ) : Type 0 where

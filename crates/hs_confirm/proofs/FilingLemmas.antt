@@ -1,12 +1,11 @@
 -- Widths of buckets, and entries one by one.
-use Rattle.std.proofs.Common.{◌≡◌, ℕ, zero, suc, ◌+◌, ◌-◌, ◌*◌, ◌/◌, ◌<◌, ◌≤◌, List, [], ◌∷◌, ◌++◌, length, get_or, set, map, take, Some, refl, sym, ap, ◌∙◌, subst, arith, inl, inr, get_or-set_same, get_or-set_other}
-use Rattle.std.specs.Prelude.{slice_get}
+use Rattle.std.proofs.Common.{◌≡◌, ℕ, zero, suc, ◌+◌, ◌-◌, ◌*◌, ◌/◌, ◌%◌, ◌^◌, ◌<◌, ◌≤◌, List, [], ◌∷◌, ◌++◌, length, get_or, set, map, take, sym, ap, ◌∙◌, subst, arith, inl, inr, get_or-set_same, get_or-set_other}
 use Rattle.std.proofs.lemmas.Nat.{and_le_r}
 use Rattle.std.proofs.lemmas.List.{map_more, take_more}
-use Rattle.std.proofs.lemmas.Bool.{cases_eq, cases_lt}
+use Rattle.std.proofs.lemmas.Bool.{cases_eq}
 use Rattle.std.proofs.lemmas.Option.{same_Some, none-some}
 use Rattle.hs_confirm.specs.declared.entry.Entry.{Entry}
-use Rattle.hs_confirm.specs.Keys.{row_of}
+use Rattle.hs_confirm.specs.Keys.{IsMask, row_of}
 use Rattle.hs_confirm.specs.Entries.{IsKeyed, AreKeyed, rows_of_entries}
 use Rattle.hs_confirm.specs.Widths.{AreShort}
 
@@ -28,6 +27,18 @@ short-step widths lens buckets number bucket width is within less fits short k b
           omega (arith, short k (omega arith))
     ]
 
+-- the mask of one bucket more
+pub mask-step : (widths masks : List ℕ) (bucket mask : ℕ) → bucket < length masks → IsMask (get_or widths bucket 0) mask → ((b : ℕ) → b < bucket → IsMask (get_or widths b 0) (get_or masks b 0)) → (b : ℕ) → b < bucket + 1
+    → IsMask (get_or widths b 0) (get_or (set masks bucket mask) b 0)
+mask-step widths masks bucket mask within is masked b below =
+    elim (cases_eq b bucket) [
+      | inl same ↦
+          let w : get_or widths b 0 ≡ get_or widths bucket 0 = ap (λ n. get_or widths n 0) same in
+          let m : get_or (set masks bucket mask) b 0 ≡ mask = ap (λ n. get_or (set masks bucket mask) n 0) same ∙ get_or-set_same masks bucket mask 0 within in
+          subst (λ v. IsMask v (get_or (set masks bucket mask) b 0)) (sym w) (subst (λ v. IsMask (get_or widths bucket 0) v) (sym m) is)
+      | inr apart ↦ subst (λ v. IsMask (get_or widths b 0) v) (sym (get_or-set_other masks bucket b mask 0 apart)) (masked b (omega arith))
+    ]
+
 -- one entry more
 pub keyed-push : (widths : List ℕ) (entries : List Entry) (entry : Entry) → AreKeyed widths entries → IsKeyed widths entry → AreKeyed widths (entries ++ entry ∷ [])
 keyed-push widths [] entry keyed is zero other found = subst (IsKeyed widths) (same_Some entry other found) is
@@ -36,7 +47,7 @@ keyed-push widths (e ∷ entries) entry keyed is zero other found = keyed zero o
 keyed-push widths (e ∷ entries) entry keyed is (suc n) other found = keyed-push widths entries entry (λ k x here. keyed (suc k) x here) is n other found
 
 row-within : (count bucket key : ℕ) → 0 < count → row_of count bucket key < count
-row-within count bucket key some = omega (arith, and_le_r (key * 2654435769 / 1048576 + bucket * 40503) (count - 1))
+row-within count bucket key some = omega (arith, and_le_r (key * 11400714819323198485 % 2 ^ 64 / 2 ^ 40 + bucket * 40503) (count - 1))
 
 -- each row is one of so many
 pub rows-within : (count : ℕ) (entries : List Entry) (k : ℕ) → 0 < count → k < length (rows_of_entries count entries) → get_or (rows_of_entries count entries) k 0 < count

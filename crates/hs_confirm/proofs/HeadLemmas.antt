@@ -1,20 +1,21 @@
 -- Heads of buckets: what is left behind them, and one of them told.
-use Rattle.std.proofs.Common.{◌≡◌, ◌≢◌, ℕ, zero, suc, ◌+◌, ◌-◌, ◌<◌, ◌≤◌, ◌↔◌, Bool, true, false, ◌&&◌, List, [], ◌∷◌, cond, length, get_or, set, map, Option, Some, None, refl, sym, ap, ◌∙◌, subst, arith, inl, inr, eqb, leb, get_or-set_same, get_or-set_other}
+use Rattle.std.proofs.Common.{◌≡◌, ◌≢◌, ℕ, zero, suc, ◌+◌, ◌*◌, ◌-◌, ◌%◌, ◌^◌, ◌<◌, ◌≤◌, Bool, true, false, ◌&&◌, List, [], ◌∷◌, cond, length, get_or, set, map, replicate, bit_and, Option, Some, None, refl, sym, ap, ◌∙◌, subst, arith, inl, inr, leb, get_or-set_same, get_or-set_other}
 use Rattle.std.specs.Prelude.{slice_get}
-use Rattle.std.specs.Int.{bit_at}
+use Rattle.std.specs.Int.{bit_at, w8}
 use Rattle.std.specs.Option.{option_map, unwrap_or, MatchOption}
 use Rattle.std.specs.List.{range_with_len, filter}
-use Rattle.std.proofs.lemmas.Bool.{false≢true, true≢false, and_parts, and_from, and_left, and_right, eqb-true, eq-eqb, le-leb, leb-true, lt-leb, cases_Bool, cases_lt, cases_eq, false_from_ne_true}
+use Rattle.std.proofs.lemmas.Bool.{false≢true, and_parts, and_from, and_right, le-leb, leb-true, cases_lt, cases_eq, false_from_ne_true}
+use Rattle.std.proofs.lemmas.List.{get_or-replicate}
+use Rattle.std.proofs.lemmas.Nat.{and_le_l}
+use Rattle.std.proofs.lemmas.Nat.Bits.{bit_at-zero, bit_at_not, bit_at_clear_same}
 use Rattle.std.proofs.lemmas.Option.{slice_get-map, slice_get_within, same_Some}
-use Rattle.hs_base.specs.Literals.{LiteralByte}
-use Rattle.hs_base.specs.Lists.{IsMember, IsRising}
+use Rattle.hs_base.specs.Lists.{IsMember}
 use Rattle.hs_confirm.specs.declared.entry.Entry.{Entry}
-use Rattle.hs_base.specs.LiteralEnds.{EndsAt}
 use Rattle.hs_confirm.specs.BucketEnds.{IsBucketEnd}
 use Rattle.hs_confirm.specs.PlaceEnds.{IsPlaceEnd, ArePlaceEnds}
 use Rattle.hs_confirm.specs.Taking.{ends_there}
-use Rattle.hs_confirm.specs.Entries.{literal_in, IsKeyed, AreKeyed, number_ends, ends_from}
-use Rattle.hs_confirm.specs.Heads.{IsFirstPassing, IsHead, HasNone, AreHeads, entry_left, number_left, left_behind}
+use Rattle.hs_confirm.specs.Entries.{literal_in, AreKeyed, number_ends, ends_from}
+use Rattle.hs_confirm.specs.Heads.{IsFirstPassing, IsHead, IsFirstHead, HasNone, AreOpen, OutsideHave, AreHeads, entry_left, number_left, left_behind}
 use Rattle.hs_confirm.proofs.TakingLemmas.{ends_from_there, there_from_ends}
 use Rattle.hs_confirm.proofs.EndLemmas.{IsEntryEnd, number_end, end_number, bucket_end, entry_end, mapped}
 use Rattle.hs_confirm.proofs.NumberLemmas.{passing, passing-in, passing-end, passing-skip, IsPassing, member-passing, passing-member, passing-rising}
@@ -268,3 +269,96 @@ some-exact entries mask text offset bucket number numbers inside head within are
           λ none. subst (IsMember number) none member
       | inr masked ↦ absurd (omega (arith, head.masked masked))
     ]
+
+-- the buckets that a mask leaves open
+pub open-all : (mask : ℕ) → mask < 256 → AreOpen mask (255 - mask)
+open-all mask fits bucket few is = omega (arith, bit_at_not w8 mask bucket fits few, is)
+
+pub outside-masked : (entries : List Entry) (mask : ℕ) (text : List ℕ) (offset : ℕ) → mask < 256 → OutsideHave (HasNone entries mask text offset) (255 - mask)
+outside-masked entries mask text offset fits bucket few out = λ unmasked. absurd (omega (arith, bit_at_not w8 mask bucket fits few, out, unmasked))
+
+-- one bucket less
+pub fewer-left : (left bucket : ℕ) → bucket < 8 → bit_at left bucket ≡ 1 → bit_and left (255 - 1 * 2 ^ bucket % 256) < left
+fewer-left left bucket few one =
+    let less = bit_and left (255 - 1 * 2 ^ bucket % 256) in
+    elim (cases_eq less left) [
+      | inl same ↦ absurd (omega (arith, bit_at_clear_same w8 left bucket few, ap (λ n. bit_at n bucket) same, one))
+      | inr apart ↦ omega (arith, and_le_l left (255 - 1 * 2 ^ bucket % 256), apart)
+    ]
+
+pub open-step : (mask left less bucket : ℕ) → AreOpen mask left → bit_at less bucket ≡ 0 → ((other : ℕ) → other < 8 → other ≢ bucket → bit_at less other ≡ bit_at left other) → AreOpen mask less
+open-step mask left less bucket are out others other few is =
+    elim (cases_eq other bucket) [
+      | inl same ↦ absurd (omega (arith, is, ap (bit_at less) same, out))
+      | inr apart ↦ are other few (sym (others other few apart) ∙ is)
+    ]
+
+pub outside-step : (P : ℕ → Type 0) (left less bucket : ℕ) → OutsideHave P left → P bucket → ((other : ℕ) → other < 8 → other ≢ bucket → bit_at less other ≡ bit_at left other) → OutsideHave P less
+outside-step P left less bucket have is others other few out =
+    elim (cases_eq other bucket) [
+      | inl same ↦ subst P (sym same) is
+      | inr apart ↦ have other few (sym (others other few apart) ∙ out)
+    ]
+
+pub outside-all : (P : ℕ → Type 0) (left : ℕ) → left ≡ 0 → OutsideHave P left → (bucket : ℕ) → bucket < 8 → P bucket
+outside-all P left e have bucket few = have bucket few (ap (λ n. bit_at n bucket) e ∙ bit_at-zero bucket)
+
+-- the first number that passes is none
+pub passing-none : (entries : List Entry) (mask : ℕ) (text : List ℕ) (offset bucket number : ℕ) → IsFirstPassing (number_ends entries bucket text offset) 0 (length entries) number → length entries ≤ number → HasNone entries mask text offset bucket
+passing-none entries mask text offset bucket number first past = λ unmasked k below. first.fail k (omega arith) (omega arith)
+
+none-head : (entries : List Entry) (mask : ℕ) (text : List ℕ) (offset bucket number : ℕ) → HasNone entries mask text offset bucket → number ≡ length entries → IsHead entries mask text offset bucket number
+none-head entries mask text offset bucket number none e = record {
+  unmasked = λ unmasked. record { low = omega arith; fail = λ k low high. none unmasked k (omega arith); here = λ within. absurd (omega arith) };
+  masked = λ masked. e;
+}
+
+pub open-head : (entries : List Entry) (mask : ℕ) (text : List ℕ) (offset bucket number : ℕ) → bit_at mask bucket ≡ 0 → IsFirstPassing (number_ends entries bucket text offset) 0 (length entries) number → IsHead entries mask text offset bucket number
+open-head entries mask text offset bucket number unmasked first = record { unmasked = λ _. first; masked = λ masked. absurd (masked unmasked) }
+
+-- the first bucket that was found, with those before it
+pub first-head : (entries : List Entry) (mask : ℕ) (text : List ℕ) (offset left less bucket number : ℕ) → bucket < 8 → bit_at left bucket ≡ 1 → AreOpen mask left → OutsideHave (HasNone entries mask text offset) left → bit_at less bucket ≡ 0
+    → ((other : ℕ) → other < 8 → other ≢ bucket → bit_at less other ≡ bit_at left other) → IsFirstPassing (number_ends entries bucket text offset) 0 (length entries) number → number < length entries → IsFirstHead entries mask text offset bucket number less
+first-head entries mask text offset left less bucket number few one are none out others first within = record {
+  few = few;
+  unmasked = are bucket few one;
+  first = first;
+  within = within;
+  unmasked_left = open-step mask left less bucket are out others;
+  none = λ other below is apart. none other below (sym (others other below apart) ∙ is);
+}
+
+-- the heads where one bucket is known to have one
+pub heads-first : (entries : List Entry) (mask : ℕ) (text : List ℕ) (offset bucket number left count : ℕ) → count ≡ length entries → IsFirstHead entries mask text offset bucket number left
+    → OutsideHave (λ b. IsHead entries mask text offset b (get_or (set (replicate 8 count) bucket number) b 0)) left
+heads-first entries mask text offset bucket number left count e first other few out =
+    elim (cases_eq other bucket) [
+      | inl same ↦
+          let is : get_or (set (replicate 8 count) bucket number) bucket 0 ≡ number = get_or-set_same (replicate 8 count) bucket number 0 first.few in
+          subst (λ b. IsHead entries mask text offset b (get_or (set (replicate 8 count) bucket number) b 0)) (sym same)
+          (subst (λ n. IsHead entries mask text offset bucket n) (sym is) (open-head entries mask text offset bucket number first.unmasked first.first))
+      | inr apart ↦
+          none-head entries mask text offset other _ (first.none other few out apart)
+          (get_or-set_other (replicate 8 count) bucket other number 0 apart ∙ get_or-replicate 8 other count 0 few ∙ e)
+    ]
+
+-- one head more
+pub heads-step : (entries : List Entry) (mask : ℕ) (heads text : List ℕ) (offset left less bucket number : ℕ) → length heads ≡ 8 → bucket < 8 → bit_at mask bucket ≡ 0 → IsFirstPassing (number_ends entries bucket text offset) 0 (length entries) number
+    → ((other : ℕ) → other < 8 → other ≢ bucket → bit_at less other ≡ bit_at left other) → OutsideHave (λ b. IsHead entries mask text offset b (get_or heads b 0)) left
+    → OutsideHave (λ b. IsHead entries mask text offset b (get_or (set heads bucket number) b 0)) less
+heads-step entries mask heads text offset left less bucket number eight few unmasked first others are other below out =
+    elim (cases_eq other bucket) [
+      | inl same ↦
+          let is : get_or (set heads bucket number) bucket 0 ≡ number = get_or-set_same heads bucket number 0 (omega arith) in
+          subst (λ b. IsHead entries mask text offset b (get_or (set heads bucket number) b 0)) (sym same)
+          (subst (λ n. IsHead entries mask text offset bucket n) (sym is) (open-head entries mask text offset bucket number unmasked first))
+      | inr apart ↦
+          subst (λ n. IsHead entries mask text offset other n) (sym (get_or-set_other heads bucket other number 0 apart))
+          (are other below (sym (others other below apart) ∙ out))
+    ]
+
+-- heads that are all no number
+pub left_behind-empty : (widths : List ℕ) (entries : List Entry) (text : List ℕ) (offset count : ℕ) → AreKeyed widths entries → count ≡ length entries → left_behind entries (replicate 8 count) text offset ≡ []
+left_behind-empty widths entries text offset count keyed e =
+    let read : (b : ℕ) → b < 8 → get_or (replicate 8 count) b 0 ≡ count = λ b few. get_or-replicate 8 b count 0 few in
+    left_behind-none widths entries (replicate 8 count) text offset 0 keyed (λ b few. omega (arith, read b few)) (omega arith)

@@ -1,7 +1,7 @@
 -- The numbers from one on that pass a test, rising.
-use Rattle.std.proofs.Common.{◌≡◌, ℕ, zero, suc, ◌+◌, ◌-◌, ◌<◌, ◌≤◌, Bool, true, false, List, [], ◌∷◌, cond, length, refl, sym, ap, ◌∙◌, subst, arith, inl, inr, ◌⊎◌}
+use Rattle.std.proofs.Common.{◌≡◌, ℕ, zero, suc, ◌+◌, ◌-◌, ◌<◌, ◌≤◌, Bool, true, false, List, [], ◌∷◌, cond, refl, sym, ap, ◌∙◌, arith, inl, inr, ◌⊎◌}
 use Rattle.std.specs.List.{range_with_len, filter}
-use Rattle.std.proofs.lemmas.Bool.{false≢true, cases_lt, cases_Bool}
+use Rattle.std.proofs.lemmas.Bool.{false≢true, cases_lt}
 use Rattle.hs_base.specs.Lists.{Each, IsMember, IsRising}
 
 -- the numbers from one on and below a count that pass

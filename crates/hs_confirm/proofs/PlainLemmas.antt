@@ -1,14 +1,12 @@
 -- Literals looked at from their last byte back, and numbers looked at one by one.
-use Rattle.std.proofs.Common.{◌≡◌, ℕ, zero, suc, ◌+◌, ◌-◌, ◌<◌, ◌≤◌, ◌↔◌, Bool, true, false, ◌&&◌, List, [], ◌∷◌, ◌++◌, cond, length, get_or, map, take, drop, Some, None, refl, sym, ap, ◌∙◌, subst, arith, inl, inr, eqb}
-use Rattle.std.specs.Prelude.{slice_get}
+use Rattle.std.proofs.Common.{◌≡◌, ℕ, zero, suc, ◌+◌, ◌-◌, ◌<◌, ◌≤◌, Bool, true, false, List, [], ◌∷◌, ◌++◌, cond, length, get_or, map, take, drop, Some, sym, ap, ◌∙◌, arith, eqb}
 use Rattle.std.specs.List.{range_with_len, filter}
-use Rattle.std.proofs.lemmas.List.{drop_more, get_or-take, get_or-drop, get_or-map, length-map, drop_all, take_all, length-take-le, append-nil}
-use Rattle.std.proofs.lemmas.Bool.{false≢true, true≢false, and_parts, and_from, eqb-true, eq-eqb, le-leb, leb-true, cases_Bool, false_from_ne_true}
+use Rattle.std.proofs.lemmas.List.{drop_more, get_or-take, get_or-drop, length-map, drop_all, append-nil}
+use Rattle.std.proofs.lemmas.Bool.{false≢true, and_parts, and_from, eqb-true, eq-eqb, le-leb, leb-true, false_from_ne_true}
 use Rattle.std.proofs.lemmas.Option.{slice_get-get_or, slice_get_within, get_or_from_slice_get}
 use Rattle.hs_base.specs.declared.literal.LitByte.{LitByte}
 use Rattle.hs_base.specs.Literals.{LiteralByte, takes}
 use Rattle.hs_base.specs.LiteralView.{literal_byte}
-use Rattle.hs_base.specs.Lists.{IsMember, IsRising}
 use Rattle.hs_confirm.specs.BucketEnds.{IsBucketEnd, AreBucketEnds}
 use Rattle.hs_confirm.specs.Taking.{takes_all, ends_there}
 use Rattle.hs_confirm.specs.Plain.{plain_ends_there}

@@ -1,7 +1,7 @@
 -- Bytes that a literal takes, and where it ends.
-use Rattle.std.proofs.Common.{◌≡◌, ℕ, ◌+◌, ◌-◌, ◌<◌, ◌≤◌, Bool, true, false, ◌&&◌, List, [], ◌∷◌, ◌++◌, length, get_or, map, take, drop, suc, refl, sym, ap, ◌∙◌, subst, arith, inl, inr, length-drop, length-take, length-append, append_assoc}
-use Rattle.std.proofs.lemmas.List.{drop_more, drop-drop, drop_at, take_at, take-append-drop, take_all, drop_all, drop-append-le, length-take-le, length-map, drop-map, take-map, take_rest}
-use Rattle.std.proofs.lemmas.Bool.{false≢true, and_from, and_left, and_parts, cases_lt, le-leb, lt-leb, leb-true}
+use Rattle.std.proofs.Common.{◌≡◌, ℕ, ◌+◌, ◌-◌, ◌<◌, ◌≤◌, Bool, true, false, ◌&&◌, List, [], ◌∷◌, ◌++◌, length, get_or, map, take, drop, suc, refl, sym, ap, ◌∙◌, subst, arith, length-drop}
+use Rattle.std.proofs.lemmas.List.{drop_more, drop-drop, drop_at, take_at, take-append-drop, drop_all, drop-append-le, length-take-le, length-map, drop-map, take-map, take_rest}
+use Rattle.std.proofs.lemmas.Bool.{false≢true, and_from, and_left, and_parts, le-leb, lt-leb, leb-true}
 use Rattle.hs_base.specs.declared.literal.LitByte.{LitByte}
 use Rattle.hs_base.specs.Literals.{LiteralByte, takes}
 use Rattle.hs_base.specs.LiteralView.{literal_byte}

@@ -17,6 +17,28 @@ pub record IsHead (entries : List Entry) (mask : ℕ) (text : List ℕ) (offset 
   pub unmasked : bit_at mask bucket ≡ 0 → IsFirstPassing (number_ends entries bucket text offset) 0 (length entries) number
   pub masked : bit_at mask bucket ≢ 0 → number ≡ length entries
 
+-- no literal of a bucket ends there, if the mask leaves the bucket open
+abbrev pub HasNone : List Entry → (mask : ℕ) → List ℕ → (offset bucket : ℕ) → Type 0
+HasNone entries mask text offset bucket =
+    bit_at mask bucket ≡ 0 → (number : ℕ) → number < length entries → number_ends entries bucket text offset number ≡ false
+
+-- the buckets whose bit is 1 are ones that the mask leaves open
+abbrev pub AreOpen : (mask left : ℕ) → Type 0
+AreOpen mask left = (bucket : ℕ) → bucket < 8 → bit_at left bucket ≡ 1 → bit_at mask bucket ≡ 0
+
+-- that holds of each bucket whose bit is 0
+abbrev pub OutsideHave : (ℕ → Type 0) → (left : ℕ) → Type 0
+OutsideHave P left = (bucket : ℕ) → bucket < 8 → bit_at left bucket ≡ 0 → P bucket
+
+-- a literal of that bucket ends there, and of all others at most of those whose bit is 1
+pub record IsFirstHead (entries : List Entry) (mask : ℕ) (text : List ℕ) (offset bucket number left : ℕ) : Type 0 where
+  pub few : bucket < 8
+  pub unmasked : bit_at mask bucket ≡ 0
+  pub first : IsFirstPassing (number_ends entries bucket text offset) 0 (length entries) number
+  pub within : number < length entries
+  pub unmasked_left : AreOpen mask left
+  pub none : OutsideHave (λ other. other ≢ bucket → HasNone entries mask text offset other) left
+
 -- each head is a number of its bucket that ends there, or no number
 abbrev pub AreHeads : List Entry → List ℕ → (offset : ℕ) → List ℕ → Type 0
 AreHeads entries text offset heads =
@@ -34,8 +56,3 @@ number_left entries heads text offset number = entry_left heads text offset (sli
 -- the numbers that are still to be told, rising
 unfoldable pub left_behind : List Entry → (heads : List ℕ) → List ℕ → ℕ → List ℕ
 left_behind entries heads text offset = filter (number_left entries heads text offset) (range_with_len 0 (length entries))
-
--- no literal of a bucket ends there, if the mask leaves the bucket open
-abbrev pub HasNone : List Entry → (mask : ℕ) → List ℕ → (offset bucket : ℕ) → Type 0
-HasNone entries mask text offset bucket =
-    bit_at mask bucket ≡ 0 → (number : ℕ) → number < length entries → number_ends entries bucket text offset number ≡ false

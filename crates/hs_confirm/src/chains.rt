@@ -1,9 +1,12 @@
 //! Numbers in rows, as chains.
 
-ghost use Rattle.std.specs.Prelude.{◌≡◌, ◌<◌, ℕ, IfOk, length, slice_index, vec_len};
-ghost use Rattle.hs_confirm.specs.Rows.{AreChains};
+ghost use Rattle.std.specs.Prelude.{◌≡◌, ◌<◌, ◌≤◌, ◌*◌, ℕ, IfOk, length, slice_index, vec_len};
+ghost use Rattle.hs_confirm.specs.Rows.{AreChains, AreMarked};
 
 use std::alloc::{AllocError, Global};
+
+/// How many rows one word has bits for.
+const WORD_BITS: usize = 64;
 
 /// The numbers of each row, rising: its first one, and behind each number the next one of its row.
 #[derive(Debug, Drop)]
@@ -12,7 +15,11 @@ pub(crate) struct Chains {
     pub(crate) heads: Vec<usize>,
     /// Behind each number the next one of its row, or the count of all numbers behind the last.
     pub(crate) nexts: Vec<usize>,
+    /// A bit for each row: 0 where the row is empty. They are few enough to stay in the nearest cache.
+    marks: Vec<u64>,
     ghost rows: { 0 < vec_len heads },
+    ghost enough: { vec_len heads ≤ 64 * vec_len marks },
+    ghost marked: { AreMarked marks.items heads.items (vec_len nexts) },
 }
 
 impl Chains {
@@ -26,14 +33,20 @@ impl Chains {
     {
         let mut heads = vec![in alloc; rows.len(); count]?;
         let mut nexts = vec![in alloc; rows.len(); rows.len()]?;
+        let mut marks = vec![in alloc; 0; count / WORD_BITS + 1]?;
         let mut number = rows.len();
         while number > 0 {
             number -= 1;
             let row = rows[number];
             nexts[number] = heads[row];
             heads[row] = number;
+            marks[row / WORD_BITS] |= 1 << (row % WORD_BITS);
         }
-        Ok(Chains { heads, nexts })
+        Ok(Chains {
+            heads,
+            nexts,
+            marks,
+        })
     }
 
     /// How many rows there are.
@@ -45,10 +58,14 @@ impl Chains {
     }
 
     /// The first number of a row, or the count of all numbers.
+    #[inline(always)]
     pub(crate) fn first(&self, row: usize) -> usize
         requires { row < vec_len self.now.heads }
         ensures { result ≡ slice_index self.now.heads.items row }
     {
+        if (self.marks[row / WORD_BITS] >> (row % WORD_BITS)) & 1 == 0 {
+            return self.nexts.len();
+        }
         self.heads[row]
     }
 

@@ -3,6 +3,7 @@
 ghost use Rattle.std.specs.Prelude.{◌≡◌, ◌<◌, ◌≤◌, ◌≢◌, ◌+◌, ℕ, [], ◌++◌, IfOk, MatchOption, length, map, slice_index, vec_len};
 ghost use Rattle.hs_base.specs.LiteralView.{literal_byte};
 ghost use Rattle.hs_confirm.specs.Rows.{AreChains};
+ghost use Rattle.hs_confirm.specs.Keys.{AreMasks, key_at};
 ghost use Rattle.hs_confirm.specs.Entries.{AreKeyed, rows_of_entries};
 
 use crate::chains::Chains;
@@ -10,7 +11,7 @@ use crate::ends::Ends;
 use crate::entry::Entry;
 use crate::filing::{entries_of, row_count, rows_of};
 use crate::place_ends::PlaceEnds;
-use crate::widths::{BUCKETS, widths_of};
+use crate::widths::{BUCKETS, masks_of, widths_of};
 use hs_base::LitByte;
 use std::alloc::{AllocError, Global};
 
@@ -21,9 +22,12 @@ pub struct Confirm {
     pub(crate) entries: Vec<Entry>,
     /// How many of the last bytes count for the keys of each bucket.
     pub(crate) widths: [u8; BUCKETS],
+    /// For each bucket the bits of keys that count.
+    pub(crate) masks: [u64; BUCKETS],
     /// The numbers of the literals, in rows by bucket and key.
     pub(crate) chains: Chains,
     ghost keyed: { AreKeyed widths entries.items },
+    ghost masked: { AreMasks widths masks },
     ghost numbered: { vec_len chains.nexts ≡ vec_len entries },
     ghost chained: { AreChains (rows_of_entries (vec_len chains.heads) entries.items) chains.heads.items chains.nexts.items },
 }
@@ -57,9 +61,19 @@ impl Confirm {
         let chains = Chains::build(alloc, &rows, count)?;
         Ok(Confirm {
             entries,
+            masks: masks_of(&widths),
             widths,
             chains,
         })
+    }
+
+    /// The key at the width of a bucket, given the last eight bytes.
+    #[inline(always)]
+    pub(crate) fn key_at(&self, bucket: u8, full: u64) -> u64
+        requires { bucket < 8 }
+        ensures { result ≡ key_at (slice_index self.now.widths bucket) full }
+    {
+        full & self.masks[usize::from(bucket)]
     }
 
     /// The numbers of the literals of a bucket that end at `at`, an offset in bytes in `bytes`, behind their last byte. A

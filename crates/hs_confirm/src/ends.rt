@@ -1,11 +1,11 @@
 //! The literals of a bucket that end at a place, rising.
 
 ghost use Rattle.std.specs.Prelude.{◌≡◌, ◌<◌, ◌≤◌, ◌+◌, ◌++◌, true, length, slice_index, vec_len};
-ghost use Rattle.hs_confirm.specs.Keys.{row_of, text_key};
+ghost use Rattle.hs_confirm.specs.Keys.{row_of, full_text_key, text_key};
 ghost use Rattle.hs_confirm.specs.Entries.{number_ends, ends_from, rows_of_entries};
 
 use crate::confirm::Confirm;
-use crate::keys::{row_of, text_key};
+use crate::keys::{full_text_key, row_of};
 use crate::taking::ends_there;
 
 /// The numbers of the literals of a bucket that end at a place, rising.
@@ -19,7 +19,7 @@ pub struct Ends<'a> {
     at: usize,
     bucket: u8,
     /// The key of what stands in front of the place, at the width of the bucket.
-    key: u32,
+    key: u64,
     /// The least number that hasn't been looked at: of the row of that bucket and key, or the count of all literals.
     next: usize,
     ghost eight: { bucket < 8 },
@@ -43,10 +43,29 @@ impl<'a> Ends<'a> {
     ) -> Ends<'a>
         requires bucket { bucket < 8 }
         requires within { at ≤ length bytes.now }
+        ensures { AreBucketEnds (literals_of confirm.now) (buckets_of confirm.now) bucket (history.now ++ bytes.now) (length history.now + at) (ends_left result) }
+    {
+        let full = full_text_key(history, bytes, at);
+        Ends::with_key(confirm, bucket, full, history, bytes, at)
+    }
+
+    /// Those that end at `at`, given the last eight bytes in front of it.
+    #[inline(always)]
+    pub(crate) fn with_key(
+        confirm: &'a Confirm,
+        bucket: u8,
+        full: u64,
+        history: &'a [u8],
+        bytes: &'a [u8],
+        at: usize,
+    ) -> Ends<'a>
+        requires bucket { bucket < 8 }
+        requires within { at ≤ length bytes.now }
+        requires full { full ≡ full_text_key (history.now ++ bytes.now) (length history.now + at) }
         ensures left { ends_left result ≡ ends_from confirm.now.entries.items bucket (history.now ++ bytes.now) (length history.now + at) 0 }
         ensures exact { AreBucketEnds (literals_of confirm.now) (buckets_of confirm.now) bucket (history.now ++ bytes.now) (length history.now + at) (ends_left result) }
     {
-        let key = text_key(history, bytes, at, confirm.widths[usize::from(bucket)]);
+        let key = confirm.key_at(bucket, full);
         let row = row_of(confirm.chains.rows(), bucket, key);
         Ends {
             confirm,
@@ -91,8 +110,8 @@ impl<'a> Ends<'a> {
         ensures { result ≡ number_ends self.now.confirm.now.entries.items self.now.bucket (self.now.history.now ++ self.now.bytes.now) (length self.now.history.now + self.now.at) number }
     {
         let entry = &self.confirm.entries[number];
-        entry.bucket == self.bucket
-            && entry.key == self.key
+        entry.key == self.key
+            && entry.bucket == self.bucket
             && ends_there(&entry.literal, self.history, self.bytes, self.at)
     }
 }

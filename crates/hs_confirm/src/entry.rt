@@ -10,5 +10,5 @@ pub(crate) struct Entry {
     /// The bucket, 0 to 7.
     pub(crate) bucket: u8,
     /// The key of the literal at the width of its bucket.
-    pub(crate) key: u32,
+    pub(crate) key: u64,
 }

@@ -1,22 +1,23 @@
 //! Keys: the last bytes of a literal or in front of a place, without the case of letters.
 
-ghost use Rattle.std.specs.Prelude.{◌≡◌, ◌≤◌, ◌<◌, ◌+◌, ◌++◌, length, map};
+ghost use Rattle.std.specs.Prelude.{◌≡◌, ◌≤◌, ◌<◌, ◌+◌, ◌-◌, ◌^◌, ◌++◌, ℕ, length, map, slice_index};
 ghost use Rattle.hs_base.specs.LiteralView.{literal_byte};
-ghost use Rattle.hs_confirm.specs.Keys.{folded, literal_place, text_place, literal_key, text_key, row_of};
+ghost use Rattle.hs_confirm.specs.Keys.{folded, literal_place, text_place, eight_places, full_literal_key, full_text_key, literal_key, IsMask, row_of};
 
 use hs_base::LitByte;
+use std::simd::prelude::*;
 
 /// How many of the last bytes count for a key at most.
-pub(crate) const KEY_LEN: u8 = 4;
+pub(crate) const KEY_LEN: u8 = 8;
 
-/// How far a capital letter stands below its small one (The Unicode Standard, "C0 Controls and Basic Latin").
-const CASE_DISTANCE: u8 = 32;
+/// The bit that a small letter has and its capital hasn't (The Unicode Standard, "C0 Controls and Basic Latin").
+const CASE_BIT: u8 = 32;
 
-/// What keys are multiplied by, so that each of their bits counts for the row: 2^32 by the golden ratio.
-const KEY_SPREAD: usize = 2_654_435_769;
+/// What keys are multiplied by, so that each of their bits counts for the row: 2^64 by the golden ratio.
+const KEY_SPREAD: u64 = 0x9E37_79B9_7F4A_7C15;
 
-/// What the product is divided by: the bits below hold too few of the key's bits.
-const LOW_PART: usize = 1_048_576;
+/// How many of the product's bits are left out: those below hold too few of the key's bits.
+const LOW_BITS: u32 = 40;
 
 /// What a bucket adds, so that the buckets have rows of their own.
 const BUCKET_STRIDE: usize = 40_503;
@@ -25,38 +26,29 @@ const BUCKET_STRIDE: usize = 40_503;
 fn folded(byte: u8) -> u8
     ensures { result ≡ folded byte }
 {
-    if byte >= b'A' && byte <= b'Z' {
-        byte + CASE_DISTANCE
-    } else {
-        byte
-    }
+    byte | CASE_BIT
 }
 
-/// The folded byte so many places before the last one of the literal, or 0 past the width.
-fn literal_place(literal: &[LitByte], width: u8, back: u8) -> u8
-    ensures { result ≡ literal_place width (map literal_byte literal.now) back }
+/// The folded byte so many places before the last one of the literal, or 0 where there is none.
+fn literal_place(literal: &[LitByte], back: usize) -> u8
+    ensures { result ≡ literal_place (map literal_byte literal.now) back }
 {
-    let place = usize::from(back);
-    if back < width && place < literal.len() {
-        folded(literal[literal.len() - 1 - place].byte)
+    if back < literal.len() {
+        folded(literal[literal.len() - 1 - back].byte)
     } else {
         0
     }
 }
 
-/// The folded byte so many places before the last one in front of `at`, or 0 past the width.
-fn text_place(history: &[u8], bytes: &[u8], at: usize, width: u8, back: u8) -> u8
+/// The folded byte so many places before the last one in front of `at`, or 0 where there is none.
+fn text_place(history: &[u8], bytes: &[u8], at: usize, back: usize) -> u8
     requires { at ≤ length bytes.now }
-    ensures { result ≡ text_place width (history.now ++ bytes.now) (length history.now + at) back }
+    ensures { result ≡ text_place (history.now ++ bytes.now) (length history.now + at) back }
 {
-    if back >= width {
-        return 0;
+    if back < at {
+        return folded(bytes[at - 1 - back]);
     }
-    let place = usize::from(back);
-    if place < at {
-        return folded(bytes[at - 1 - place]);
-    }
-    let early = place - at;
+    let early = back - at;
     if early < history.len() {
         folded(history[history.len() - 1 - early])
     } else {
@@ -64,36 +56,87 @@ fn text_place(history: &[u8], bytes: &[u8], at: usize, width: u8, back: u8) -> u
     }
 }
 
-/// The key of a literal: so many of its last bytes.
-pub(crate) fn literal_key(literal: &[LitByte], width: u8) -> u32
-    ensures { result ≡ literal_key width (map literal_byte literal.now) }
+/// The last eight bytes of a literal.
+fn full_literal_key(literal: &[LitByte]) -> u64
+    ensures { result ≡ full_literal_key (map literal_byte literal.now) }
 {
-    u32::from_le_bytes([
-        literal_place(literal, width, 0),
-        literal_place(literal, width, 1),
-        literal_place(literal, width, 2),
-        literal_place(literal, width, 3),
+    u64::from_le_bytes([
+        literal_place(literal, 0),
+        literal_place(literal, 1),
+        literal_place(literal, 2),
+        literal_place(literal, 3),
+        literal_place(literal, 4),
+        literal_place(literal, 5),
+        literal_place(literal, 6),
+        literal_place(literal, 7),
     ])
 }
 
-/// The key of what stands in front of `at`: so many bytes, the first ones of them perhaps in `history`.
-pub(crate) fn text_key(history: &[u8], bytes: &[u8], at: usize, width: u8) -> u32
+/// The last eight bytes in front of `at`, one by one.
+#[cold]
+fn early_key(history: &[u8], bytes: &[u8], at: usize) -> u64
     requires { at ≤ length bytes.now }
-    ensures { result ≡ text_key width (history.now ++ bytes.now) (length history.now + at) }
+    ensures { result ≡ full_text_key (history.now ++ bytes.now) (length history.now + at) }
 {
-    u32::from_le_bytes([
-        text_place(history, bytes, at, width, 0),
-        text_place(history, bytes, at, width, 1),
-        text_place(history, bytes, at, width, 2),
-        text_place(history, bytes, at, width, 3),
+    u64::from_le_bytes([
+        text_place(history, bytes, at, 0),
+        text_place(history, bytes, at, 1),
+        text_place(history, bytes, at, 2),
+        text_place(history, bytes, at, 3),
+        text_place(history, bytes, at, 4),
+        text_place(history, bytes, at, 5),
+        text_place(history, bytes, at, 6),
+        text_place(history, bytes, at, 7),
     ])
+}
+
+/// Eight bytes from a place on as one number, the last of them the lowest.
+#[inline(always)]
+fn eight_bytes(bytes: &[u8], from: usize) -> u64
+    requires { from + 8 ≤ length bytes.now }
+    ensures { result ≡ eight_places (λ back. folded (slice_index bytes.now (from + 7 - back))) }
+{
+    let last = u8x8::from_slice(&bytes[from..]) | u8x8::splat(CASE_BIT);
+    u64x1::from_le_bytes(last.reverse()).to_array()[0]
+}
+
+/// The last eight bytes in front of `at`, the first ones of them perhaps in `history`.
+#[inline(always)]
+pub(crate) fn full_text_key(history: &[u8], bytes: &[u8], at: usize) -> u64
+    requires { at ≤ length bytes.now }
+    ensures { result ≡ full_text_key (history.now ++ bytes.now) (length history.now + at) }
+{
+    if at < usize::from(KEY_LEN) {
+        return early_key(history, bytes, at);
+    }
+    eight_bytes(bytes, at - usize::from(KEY_LEN))
+}
+
+/// The bits that count at a width.
+pub(crate) fn mask_of(width: u8) -> u64
+    ensures { IsMask width result }
+{
+    if width >= KEY_LEN {
+        u64::MAX
+    } else {
+        (1 << (width * 8)) - 1
+    }
+}
+
+/// The key of a literal: so many of its last bytes.
+pub(crate) fn literal_key(literal: &[LitByte], width: u8) -> u64
+    ensures { result ≡ literal_key width (map literal_byte literal.now) }
+{
+    full_literal_key(literal) & mask_of(width)
 }
 
 /// In which of so many rows the literals of that bucket and key stand.
-pub(crate) fn row_of(rows: usize, bucket: u8, key: u32) -> usize
+#[inline(always)]
+pub(crate) fn row_of(rows: usize, bucket: u8, key: u64) -> usize
     requires { 0 < rows }
     ensures row { result ≡ row_of rows bucket key }
     ensures within { result < rows }
 {
-    (key as usize * KEY_SPREAD / LOW_PART + usize::from(bucket) * BUCKET_STRIDE) & (rows - 1)
+    ((key.wrapping_mul(KEY_SPREAD) >> LOW_BITS) as usize + usize::from(bucket) * BUCKET_STRIDE)
+        & (rows - 1)
 }

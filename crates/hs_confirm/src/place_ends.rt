@@ -2,10 +2,13 @@
 
 ghost use Rattle.std.specs.Prelude.{◌≡◌, ◌≢◌, ◌<◌, ◌≤◌, ◌+◌, ◌++◌, ℕ, [], true, MatchOption, length, slice_index, vec_len};
 ghost use Rattle.hs_confirm.specs.Entries.{number_ends};
-ghost use Rattle.hs_confirm.specs.Heads.{AreHeads, IsHead, IsFirstPassing};
+ghost use Rattle.hs_confirm.specs.Heads.{AreHeads, IsHead, IsFirstHead, IsFirstPassing, HasNone};
+ghost use Rattle.hs_confirm.specs.Keys.{full_text_key};
+ghost use Rattle.std.specs.Int.{bit_at};
 
 use crate::confirm::Confirm;
 use crate::ends::Ends;
+use crate::keys::full_text_key;
 use crate::widths::BUCKETS;
 
 /// The numbers of the literals that end at a place, of all buckets that were left open, rising.
@@ -24,25 +27,112 @@ pub struct PlaceEnds<'a> {
     ghost ends: { AreHeads confirm.now.entries.items (history.now ++ bytes.now) (length history.now + at) heads },
 }
 
-/// The first number of a bucket that ends at `at`, or the count of all literals; the count for a bucket whose bit is 1.
+/// A bucket in which a literal ends.
+#[derive(Clone, Copy, Debug)]
+struct Head {
+    bucket: u8,
+    /// The first number of the bucket that ends.
+    number: usize,
+    /// A bit for each open bucket that hasn't been looked at.
+    left: u8,
+}
+
+/// The least bucket whose bit is 1.
+#[inline(always)]
+fn least_of(left: u8) -> u8
+    requires { 0 < left }
+    ensures few { result < 8 }
+    ensures one { bit_at left result ≡ 1 }
+{
+    left.trailing_zeros() as u8
+}
+
+/// The same buckets without one of them.
+#[inline(always)]
+fn without(left: u8, bucket: u8) -> u8
+    requires few { bucket < 8 }
+    requires one { bit_at left bucket ≡ 1 }
+    ensures fewer { result < left }
+    ensures out { bit_at result bucket ≡ 0 }
+    ensures others { (other : ℕ) → other < 8 → other ≢ bucket → bit_at result other ≡ bit_at left other }
+{
+    left & !(1 << bucket)
+}
+
+/// The first number of a bucket that ends at `at`, or the count of all literals, given the last eight bytes before `at`.
+#[inline(always)]
 fn head_of(
     confirm: &Confirm,
-    mask: u8,
     bucket: u8,
+    full: u64,
     history: &[u8],
     bytes: &[u8],
     at: usize,
 ) -> usize
     requires bucket { bucket < 8 }
     requires within { at ≤ length bytes.now }
-    ensures { IsHead confirm.now.entries.items mask (history.now ++ bytes.now) (length history.now + at) bucket result }
+    requires full { full ≡ full_text_key (history.now ++ bytes.now) (length history.now + at) }
+    ensures { IsFirstPassing (number_ends confirm.now.entries.items bucket (history.now ++ bytes.now) (length history.now + at)) 0 (vec_len confirm.now.entries) result }
 {
-    if (mask >> bucket) & 1 == 1 {
-        return confirm.entries.len();
-    }
-    Ends::new(confirm, bucket, history, bytes, at)
+    Ends::with_key(confirm, bucket, full, history, bytes, at)
         .next()
         .unwrap_or(confirm.entries.len())
+}
+
+/// A bucket in which a literal ends at `at`, if there is one among those whose bit in the mask is 0.
+#[inline(always)]
+fn first_head(
+    confirm: &Confirm,
+    mask: u8,
+    full: u64,
+    history: &[u8],
+    bytes: &[u8],
+    at: usize,
+) -> Option<Head>
+    requires within { at ≤ length bytes.now }
+    requires full { full ≡ full_text_key (history.now ++ bytes.now) (length history.now + at) }
+    ensures { MatchOption result ((bucket : ℕ) → bucket < 8 → HasNone confirm.now.entries.items mask (history.now ++ bytes.now) (length history.now + at) bucket) (λ head. IsFirstHead confirm.now.entries.items mask (history.now ++ bytes.now) (length history.now + at) head.bucket head.number head.left) }
+{
+    let mut left = !mask;
+    while left != 0 {
+        let bucket = least_of(left);
+        left = without(left, bucket);
+        let number = head_of(confirm, bucket, full, history, bytes, at);
+        if number < confirm.entries.len() {
+            return Some(Head {
+                bucket,
+                number,
+                left,
+            });
+        }
+    }
+    None
+}
+
+/// For each bucket its first number that ends at `at`, or the count of all literals, given the first one of them.
+fn heads_of(
+    confirm: &Confirm,
+    mask: u8,
+    first: Head,
+    full: u64,
+    history: &[u8],
+    bytes: &[u8],
+    at: usize,
+) -> [usize; BUCKETS]
+    requires within { at ≤ length bytes.now }
+    requires full { full ≡ full_text_key (history.now ++ bytes.now) (length history.now + at) }
+    requires first { IsFirstHead confirm.now.entries.items mask (history.now ++ bytes.now) (length history.now + at) first.bucket first.number first.left }
+    ensures { (bucket : ℕ) → bucket < 8 → IsHead confirm.now.entries.items mask (history.now ++ bytes.now) (length history.now + at) bucket (slice_index result bucket) }
+{
+    let mut heads = [confirm.entries.len(); BUCKETS];
+    heads[usize::from(first.bucket)] = first.number;
+    let mut left = first.left;
+    while left != 0 {
+        let bucket = least_of(left);
+        left = without(left, bucket);
+        heads[usize::from(bucket)] = head_of(confirm, bucket, full, history, bytes, at);
+    }
+    heads
 }
 
 /// The next number of that number's bucket that ends at `at`, or the count of all literals.
@@ -95,16 +185,15 @@ impl<'a> PlaceEnds<'a> {
         requires within { at ≤ length bytes.now }
         ensures { ArePlaceEnds (literals_of confirm.now) (buckets_of confirm.now) mask (history.now ++ bytes.now) (length history.now + at) (place_left result) }
     {
-        let mut heads = [confirm.entries.len(); BUCKETS];
-        for bucket in 0..BUCKETS {
-            heads[bucket] = head_of(confirm, mask, bucket as u8, history, bytes, at);
+        if let Some(ends) = PlaceEnds::some(confirm, mask, history, bytes, at) {
+            return ends;
         }
         PlaceEnds {
             confirm,
             history,
             bytes,
             at,
-            heads,
+            heads: [confirm.entries.len(); BUCKETS],
         }
     }
 
@@ -119,13 +208,18 @@ impl<'a> PlaceEnds<'a> {
         requires within { at ≤ length bytes.now }
         ensures { MatchOption result (ArePlaceEnds (literals_of confirm.now) (buckets_of confirm.now) mask (history.now ++ bytes.now) (length history.now + at) []) (λ ends. (place_left ends ≢ []) × ArePlaceEnds (literals_of confirm.now) (buckets_of confirm.now) mask (history.now ++ bytes.now) (length history.now + at) (place_left ends)) }
     {
-        for bucket in 0..BUCKETS {
-            let head = head_of(confirm, mask, bucket as u8, history, bytes, at);
-            if head < confirm.entries.len() {
-                return Some(PlaceEnds::new(confirm, mask, history, bytes, at));
-            }
-        }
-        None
+        let full = full_text_key(history, bytes, at);
+        let first = match first_head(confirm, mask, full, history, bytes, at) {
+            Some(first) => first,
+            None => return None,
+        };
+        Some(PlaceEnds {
+            confirm,
+            history,
+            bytes,
+            at,
+            heads: heads_of(confirm, mask, first, full, history, bytes, at),
+        })
     }
 }
 

@@ -47,7 +47,7 @@ type Row = (
     &'static [usize],
 );
 
-const ROWS: [Row; 16] = [
+const ROWS: [Row; 26] = [
     (b"", b"ab", b"cd", &[]),
     (b"ab\n", b"", b"", &[]),
     (b"ab\n", b"", b"ab", &[0]),
@@ -64,7 +64,30 @@ const ROWS: [Row; 16] = [
     (b"[{\n{{\n[[\n", b"", b"{{", &[1]),
     (b"~zz\n", b"", b"\x5az", &[0]),
     (b"~k~k\n", b"", b"\x0bk", &[]),
+    (b"00\n\x10\x10\n", b"", b"00", &[0]),
+    (
+        b"xabcdefgh\nyabcdefgh\nabcdefgh\n",
+        b"",
+        b"xabcdefgh",
+        &[0, 2],
+    ),
+    (
+        b"xabcdefgh\nyabcdefgh\nabcdefgh\n",
+        b"y",
+        b"abcdefgh",
+        &[1, 2],
+    ),
+    (b"xabcdefgh\nyabcdefgh\n", b"", b"abcdefgh", &[]),
+    (LENGTHS, b"", b"abcdefghi", &[0, 1, 2, 3, 4, 5, 6, 7]),
+    (LENGTHS, b"xc", b"defghi", &[0, 1, 2, 3, 4, 5]),
+    (LENGTHS, b"abcdefghi", b"", &[0, 1, 2, 3, 4, 5, 6, 7]),
+    (LENGTHS, b"", b"ghi", &[0, 1]),
+    (b"~a~b~c~d~e~f~g~h~i\n", b"", b"ABCDEFGHI", &[0]),
+    (b"~a~b~c~d~e~f~g~h~i\n", b"Ab", b"CdEfGhI", &[0]),
 ];
+
+/// Literals of two to nine bytes.
+const LENGTHS: &[u8] = b"hi\nghi\nfghi\nefghi\ndefghi\ncdefghi\nbcdefghi\nabcdefghi\n";
 
 #[test]
 fn tells_the_literals_that_end(rt: HostRuntime) -> Result<(), Fail> {
@@ -76,9 +99,9 @@ fn tells_the_literals_that_end(rt: HostRuntime) -> Result<(), Fail> {
 }
 
 const LINES: &[u8] =
-    b"aa\nab\nba\naaa\naba\n~a~a\n~ab\nbab\nabab\nbabab\nabbaabba\nabaabaabaabaabaabaabaabaabaabaab\n";
+    b"aa\nab\nba\naaa\naba\n~a~a\n~ab\nbab\nabab\nbabab\nabbaabba\nabaabaabaabaabaabaabaabaabaabaab\nbaabaaba\nabaabaaba\naabaabaaba\n";
 
-const BUCKETS: [u8; 12] = [3, 1, 4, 1, 5, 2, 6, 5, 3, 5, 0, 7];
+const BUCKETS: [u8; 15] = [3, 1, 4, 1, 5, 2, 2, 5, 3, 5, 0, 7, 6, 6, 6];
 
 const TEXT: &[u8] = b"abaabaabaabaabaabaabaabaabaabaababbaabbAABbaBABABaAb";
 

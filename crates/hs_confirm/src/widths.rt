@@ -1,9 +1,10 @@
 //! How many of the last bytes count for the keys of each bucket.
 
 ghost use Rattle.std.specs.Prelude.{◌≡◌, ◌<◌, ◌≤◌, ℕ, length, map, slice_index, vec_len};
+ghost use Rattle.hs_confirm.specs.Keys.{AreMasks};
 ghost use Rattle.hs_confirm.specs.Widths.{AreShort};
 
-use crate::keys::KEY_LEN;
+use crate::keys::{KEY_LEN, mask_of};
 use hs_base::LitByte;
 
 /// How many buckets there are.
@@ -21,7 +22,7 @@ fn narrowed(width: u8, literal: &[LitByte]) -> u8
     }
 }
 
-/// For each bucket, how many of the last bytes count: up to four, and no more than its shortest literal has.
+/// For each bucket, how many of the last bytes count: up to eight, and no more than its shortest literal has.
 pub(crate) fn widths_of(literals: &[Vec<LitByte>], buckets: &[u8]) -> [u8; BUCKETS]
     requires each { length buckets.now ≡ length literals.now }
     requires few { (k : ℕ) → k < length buckets.now → slice_index buckets.now k < 8 }
@@ -33,4 +34,15 @@ pub(crate) fn widths_of(literals: &[Vec<LitByte>], buckets: &[u8]) -> [u8; BUCKE
         widths[bucket] = narrowed(widths[bucket], literals[number].as_slice());
     }
     widths
+}
+
+/// For each bucket the bits of keys that count.
+pub(crate) fn masks_of(widths: &[u8; BUCKETS]) -> [u64; BUCKETS]
+    ensures { AreMasks widths.now result }
+{
+    let mut masks = [0; BUCKETS];
+    for bucket in 0..BUCKETS {
+        masks[bucket] = mask_of(widths[bucket]);
+    }
+    masks
 }

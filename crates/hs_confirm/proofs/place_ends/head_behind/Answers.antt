@@ -1,4 +1,4 @@
-use Rattle.std.proofs.Common.{◌≡◌, ◌≤◌, ◌++◌, ◌+◌, ◌∙◌, length, vec_len, sym, ap, subst, arith}
+use Rattle.std.proofs.Common.{◌≤◌, ◌++◌, ◌+◌, ◌∙◌, length, sym, ap, subst, arith}
 use Rattle.std.specs.Option.{unwrap_or}
 use Rattle.hs_confirm.specs.Left.{ends_left}
 use Rattle.hs_confirm.specs.Entries.{number_ends}

@@ -1,6 +1,5 @@
-use Rattle.std.proofs.Common.{◌≡◌, ◌+◌, ◌++◌, ◌∙◌, List, [], length, map, get_or, sym, ap, eq-eqb}
+use Rattle.std.proofs.Common.{◌≡◌, ◌+◌, ◌++◌, ◌∙◌, [], length, map, get_or, sym, ap, eq-eqb}
 use Rattle.std.proofs.lemmas.List.{get_or-map}
-use Rattle.hs_base.specs.Literals.{LiteralByte}
 use Rattle.hs_base.specs.LiteralView.{literal_byte}
 use Rattle.hs_confirm.specs.Taking.{ends_there}
 use Rattle.hs_confirm.proofs.TakingLemmas.{and_true}

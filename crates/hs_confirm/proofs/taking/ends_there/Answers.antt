@@ -1,4 +1,4 @@
-use Rattle.std.proofs.Common.{◌≡◌, ◌∙◌, sym, arith}
+use Rattle.std.proofs.Common.{◌∙◌, sym, arith}
 use Rattle.std.proofs.lemmas.List.{length-map}
 use Rattle.hs_base.specs.LiteralView.{literal_byte}
 use Rattle.hs_confirm.proofs.TakingLemmas.{ends_there-late, ends_there-long, ends_there-early, and_true, and_false}

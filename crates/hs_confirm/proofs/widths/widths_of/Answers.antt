@@ -1,4 +1,4 @@
-use Rattle.std.proofs.Common.{◌≡◌, ◌∙◌, length, map, sym, ap, arith, length-set}
+use Rattle.std.proofs.Common.{◌∙◌, length, map, sym, ap, arith, length-set}
 use Rattle.std.proofs.lemmas.List.{get_or-map}
 use Rattle.hs_confirm.proofs.FilingLemmas.{short-step}
 use Rattle.hs_confirm.proofs.widths.widths_of.Goals as goal

@@ -1,7 +1,7 @@
-use Rattle.std.proofs.Common.{◌≡◌, ◌<◌, ◌++◌, ◌+◌, ◌∙◌, length, vec_len, get_or, sym, ap, arith}
+use Rattle.std.proofs.Common.{◌<◌, ◌++◌, ◌+◌, length, vec_len, sym, arith}
 use Rattle.std.proofs.lemmas.List.{length-map}
 use Rattle.std.proofs.lemmas.Option.{slice_get_read}
-use Rattle.hs_confirm.specs.Keys.{text_key, row_of}
+use Rattle.hs_confirm.specs.Keys.{row_of}
 use Rattle.hs_confirm.specs.Rows.{IsLeastFrom}
 use Rattle.hs_confirm.specs.Entries.{rows_of_entries}
 use Rattle.hs_confirm.proofs.ChainLemmas.{next_least}

@@ -1,4 +1,4 @@
-use Rattle.std.proofs.Common.{◌≡◌, vec_len, ◌∙◌, sym, eq-eqb}
+use Rattle.std.proofs.Common.{vec_len, ◌∙◌, sym, eq-eqb}
 use Rattle.std.proofs.lemmas.Bool.{false≢true}
 use Rattle.std.proofs.lemmas.Option.{slice_get_read}
 use Rattle.hs_confirm.proofs.EndLemmas.{entry_ends-read}
@@ -14,6 +14,6 @@ returns-else-entry-self-2 c =
     c.if-entry-self-2.false
     ∙ sym (entry_ends-read confirm.widths confirm.entries.items ends.bucket ends.key _ _ c.args.number entry confirm.keyed ends.keyed numbered (λ filed same there.
     elim c.if-entry-self.branch [
-      | then-entry-self w ↦ false≢true (sym c.if-entry-self-2.false ∙ w.value-is ∙ eq-eqb entry.key ends.key same)
-      | else-entry-self w ↦ w.if-entry-self.false filed
+      | then-entry-self w ↦ false≢true (sym c.if-entry-self-2.false ∙ w.value-is ∙ eq-eqb entry.bucket ends.bucket filed)
+      | else-entry-self w ↦ w.if-entry-self.false same
     ]))

@@ -1,4 +1,4 @@
-use Rattle.std.proofs.Common.{◌≡◌, ◌<◌, ◌∙◌, sym, ap, length, vec_len, arith, rules}
+use Rattle.std.proofs.Common.{◌<◌, ◌∙◌, sym, ap, length, vec_len, arith, rules}
 use Rattle.std.proofs.lemmas.List.{length-map}
 use Rattle.hs_confirm.specs.Keys.{row_of}
 use Rattle.hs_confirm.specs.Entries.{rows_of_entries}

@@ -1,23 +1,25 @@
-use Rattle.std.proofs.Common.{◌++◌, ◌+◌, length, arith, length-append}
+use Rattle.std.proofs.Common.{◌≤◌, ◌++◌, ◌+◌, length, arith, length-append}
 use Rattle.hs_confirm.specs.Filed.{literals_of, buckets_of}
-use Rattle.hs_confirm.specs.PlaceLeft.{place_left}
-use Rattle.hs_confirm.proofs.HeadLemmas.{head-none, none-exact, some-exact}
+use Rattle.hs_confirm.proofs.HeadLemmas.{open-head, left_behind-exact, none-exact, some-exact}
 use Rattle.hs_confirm.proofs.place_ends.PlaceEnds.some.Goals as goal
 
-pub returns-then-head-len : goal.returns-then-head-len
+pub returns-in-None : goal.returns-in-None
 unfolding literals_of buckets_of
-returns-then-head-len c =
+returns-in-None c =
     let confirm = c.args.confirm.now in
-    let history = c.args.history.now in
-    let bytes = c.args.bytes.now in (
-      some-exact confirm.entries.items c.args.mask (history ++ bytes) (length history + c.args.at) _ c.head_of-head.result (place_left c.new.result) (omega (arith, length-append history bytes, c.requires.within)) c.head_of-head.ensures
-          (omega (arith, c.if-head-len.true, c.len.ensures, confirm.entries.ok.0)) c.new.ensures,
-      c.new.ensures,
-    )
+    none-exact confirm.widths confirm.entries.items c.args.mask (c.args.history.now ++ c.args.bytes.now) (length c.args.history.now + c.args.at) confirm.keyed c.in-None.ensures
 
 pub returns : goal.returns
 unfolding literals_of buckets_of
 returns c =
     let confirm = c.args.confirm.now in
-    none-exact confirm.widths confirm.entries.items c.args.mask (c.args.history.now ++ c.args.bytes.now) (length c.args.history.now + c.args.at) confirm.keyed
-    (λ b below. c.loop-bucket.invariant b (omega (arith, below, c.loop-bucket-test.false)))
+    let entries = confirm.entries.items in
+    let text = c.args.history.now ++ c.args.bytes.now in
+    let offset = length c.args.history.now + c.args.at in
+    let inside : offset ≤ length text = omega (arith, length-append c.args.history.now c.args.bytes.now, c.requires.within) in
+    let first = c.in-Some.first in
+    let known = c.in-Some.ensures in
+    let are = left_behind-exact confirm.widths entries c.args.mask c.heads_of.result text offset confirm.keyed inside c.heads_of.ensures in (
+      some-exact entries c.args.mask text offset first.bucket first.number _ inside (open-head entries c.args.mask text offset first.bucket first.number known.unmasked known.first) known.within are,
+      are,
+    )

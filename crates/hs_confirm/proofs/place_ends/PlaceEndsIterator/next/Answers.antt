@@ -1,4 +1,4 @@
-use Rattle.std.proofs.Common.{rules, ◌≡◌, ◌++◌, ◌+◌, ◌∙◌, length, get_or, refl, sym, ap, subst, arith}
+use Rattle.std.proofs.Common.{rules, ◌++◌, ◌+◌, length, get_or, refl, ap, subst, arith}
 use Rattle.hs_confirm.specs.Entries.{number_ends}
 use Rattle.hs_confirm.specs.Heads.{IsFirstPassing}
 use Rattle.hs_confirm.proofs.HeadLemmas.{left_behind-told, left_behind-none}
