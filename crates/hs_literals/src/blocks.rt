@@ -3,6 +3,7 @@
 ghost use Rattle.std.specs.Prelude.{◌≡◌, ◌≤◌, ◌<◌, ◌+◌, ◌⊎◌, length};
 ghost use Rattle.hs_confirm.specs.Filed.{literals_of, buckets_of};
 ghost use Rattle.hs_literals.specs.Masking.{MasksHideNone, StandsBefore};
+ghost use Rattle.hs_literals.specs.OpenPlaces.{ClosedBehind};
 
 use crate::literals::Literals;
 use hs_fdr::{BLOCK_LEN, PLACES, scan_block};
@@ -19,7 +20,8 @@ fn bytes_before<'a>(history: &'a [u8], bytes: &'a [u8], from: usize) -> &'a [u8]
     &history[history.len().saturating_sub(PLACES - 1)..]
 }
 
-/// The masks of 64 places from one on, which is the first of all or has enough bytes before it.
+/// The masks of 64 places from one on, which is the first of all or has enough bytes before it. Behind the last byte they
+/// leave no bucket open.
 pub(crate) fn masks_at(
     literals: &Literals,
     history: &[u8],
@@ -28,7 +30,8 @@ pub(crate) fn masks_at(
 ) -> [u8; BLOCK_LEN]
     requires within { from ≤ length bytes.now }
     requires whole { (from ≡ 0) ⊎ (8 ≤ from) }
-    ensures { MasksHideNone result (literals_of literals.now.confirm) (buckets_of literals.now.confirm) history.now bytes.now from }
+    ensures closed { ClosedBehind result bytes.now from }
+    ensures hide_none { MasksHideNone result (literals_of literals.now.confirm) (buckets_of literals.now.confirm) history.now bytes.now from }
 {
     let before = bytes_before(history, bytes, from);
     let rest = &bytes[from..];
