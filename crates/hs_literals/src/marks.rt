@@ -7,7 +7,7 @@ use hs_fdr::BLOCK_LEN;
 use std::simd::prelude::*;
 
 /// A mask that leaves no bucket open.
-const NO_BUCKET: u8 = 0xFF;
+pub(crate) const NO_BUCKET: u8 = 0xFF;
 
 /// A 1 for each place whose mask leaves a bucket open.
 #[inline(always)]

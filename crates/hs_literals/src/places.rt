@@ -6,9 +6,9 @@ ghost use Rattle.hs_literals.specs.Masking.{HidesNone, MasksHideNone};
 ghost use Rattle.hs_literals.specs.OpenPlaces.{AreOpen, ClosedBehind};
 ghost use Rattle.hs_literals.specs.Places.{NoneBetween};
 
-use crate::blocks::masks_at;
+use crate::blocks::write_masks;
 use crate::literals::Literals;
-use crate::marks::{lowest_place, open_marks, without_lowest};
+use crate::marks::{NO_BUCKET, lowest_place, open_marks, without_lowest};
 use hs_confirm::PlaceEnds;
 use hs_fdr::BLOCK_LEN;
 
@@ -47,7 +47,8 @@ impl<'a> Places<'a> {
         ensures bytes { result.bytes.now ≡ bytes.now }
         ensures at { result.at ≡ 0 }
     {
-        let masks = masks_at(literals, history, bytes, 0);
+        let mut masks = [NO_BUCKET; BLOCK_LEN];
+        write_masks(literals, history, bytes, 0, &mut masks);
         Places {
             literals,
             history,
@@ -74,7 +75,13 @@ impl<'a> Places<'a> {
         if self.at == self.bytes.len() {
             return false;
         }
-        self.masks = masks_at(self.literals, self.history, self.bytes, self.at);
+        write_masks(
+            self.literals,
+            self.history,
+            self.bytes,
+            self.at,
+            &mut self.masks,
+        );
         self.marks = open_marks(&self.masks);
         self.block = self.at;
         true

@@ -4,7 +4,7 @@ use Rattle.hs_confirm.specs.Filed.{literals_of, buckets_of}
 use Rattle.hs_fdr.specs.Masks.{mask_of, width_of}
 use Rattle.hs_fdr.specs.Blocks.{block_masks}
 use Rattle.hs_literals.proofs.MaskLemmas.{block_hides_none, closed_behind_block, before_bytes}
-use Rattle.hs_literals.proofs.blocks.masks_at.Goals as goal
+use Rattle.hs_literals.proofs.blocks.write_masks.Goals as goal
 
 pub returns-clause-hide_none : goal.returns-clause-hide_none
 returns-clause-hide_none c =
