@@ -1,12 +1,12 @@
 -- Masks of a block, and masks that leave no bucket open.
-use Rattle.std.proofs.Common.{◌≡◌, ◌≢◌, ℕ, ◌+◌, ◌-◌, ◌^◌, ◌<◌, ◌≤◌, List, [], ◌∷◌, ◌++◌, cond, ltb, length, get_or, map, take, drop, Option, Some, refl, sym, ap, ◌∙◌, subst, arith, inl, inr, Fits, w8, append_assoc, length-append, length-take, length-drop}
+use Rattle.std.proofs.Common.{◌≡◌, ℕ, ◌+◌, ◌-◌, ◌<◌, ◌≤◌, List, [], ◌++◌, cond, ltb, length, get_or, take, drop, Option, Some, refl, sym, ap, ◌∙◌, subst, arith, inl, inr, Fits, w8, append_assoc, length-append, length-take, length-drop}
 use Rattle.std.specs.Prelude.{slice_get}
 use Rattle.std.specs.List.{All}
 use Rattle.std.specs.Int.{bit_at}
 use Rattle.std.proofs.lemmas.Bool.{cases_lt, le-ltb}
 use Rattle.std.proofs.lemmas.Nat.Bits.{bit_at_ones}
 use Rattle.std.proofs.lemmas.Option.{slice_get_within, slice_get-get_or, get_or_from_slice_get}
-use Rattle.std.proofs.lemmas.List.{take-append-drop, take_all, take-take, drop-take, append-nil, length-map, length-take-le, get_or-take, get_or-drop, get_or_past, get_or_default, get_or_append_left, get_or-append_right, get_or-append-add}
+use Rattle.std.proofs.lemmas.List.{take-append-drop, take_all, take-take, drop-take, append-nil, length-take-le, get_or-take, get_or-drop, get_or_past, get_or_default, get_or_append_left, get_or-append_right, get_or-append-add}
 use Rattle.std.proofs.lemmas.List.FromFn.{get_or-map-range_with_len}
 use Rattle.hs_base.specs.Literals.{LiteralByte}
 use Rattle.hs_base.specs.LiteralEnds.{EndsAt}

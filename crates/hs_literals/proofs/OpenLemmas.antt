@@ -1,5 +1,5 @@
 -- Places that are left open, as the bits of a word, and what closed places tell.
-use Rattle.std.proofs.Common.{◌≡◌, ◌≢◌, ℕ, zero, suc, ◌+◌, ◌-◌, ◌/◌, ◌%◌, ◌^◌, ◌<◌, ◌≤◌, ◌↔◌, Bool, true, false, not, cond, List, ◌++◌, length, get_or, map, replicate, eqb, bit_and, refl, sym, ap, ◌∙◌, subst, arith, inl, inr, eq-eqb, w8, w64}
+use Rattle.std.proofs.Common.{◌≡◌, ◌≢◌, ℕ, zero, suc, ◌+◌, ◌-◌, ◌/◌, ◌%◌, ◌^◌, ◌<◌, ◌≤◌, Bool, true, false, not, cond, List, ◌++◌, length, get_or, map, replicate, eqb, bit_and, refl, sym, ap, ◌∙◌, subst, arith, inl, inr, eq-eqb, w8, w64}
 use Rattle.std.specs.Int.{bit_at}
 use Rattle.std.specs.Int.Count.{count_trailing_zeros}
 use Rattle.std.specs.Simd.Lanes.{zip2, mask_l, top}

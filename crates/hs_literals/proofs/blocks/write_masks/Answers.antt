@@ -1,4 +1,4 @@
-use Rattle.std.proofs.Common.{◌≡◌, ◌≤◌, ◌-◌, ◌∙◌, length, take, drop, sym, ap, arith, length-drop, length-take}
+use Rattle.std.proofs.Common.{◌≡◌, ◌-◌, ◌∙◌, length, take, drop, ap, arith, length-drop}
 use Rattle.std.proofs.lemmas.List.{take_rest}
 use Rattle.hs_confirm.specs.Filed.{literals_of, buckets_of}
 use Rattle.hs_fdr.specs.Masks.{mask_of, width_of}

@@ -1,4 +1,4 @@
-use Rattle.std.proofs.Common.{◌≡◌, ◌<◌, ◌≤◌, ◌+◌, ◌-◌, length, subst, arith}
+use Rattle.std.proofs.Common.{◌≡◌, ◌+◌, ◌-◌, subst, arith}
 use Rattle.hs_confirm.specs.Filed.{literals_of, buckets_of}
 use Rattle.hs_literals.specs.OpenPlaces.{AreOpen}
 use Rattle.hs_literals.proofs.AllEndLemmas.{as_many}

@@ -1,4 +1,4 @@
-use Rattle.std.proofs.Common.{◌≡◌, ◌<◌, ◌≤◌, ◌+◌, ◌-◌, ◌++◌, ◌∙◌, length, sym, ap, arith}
+use Rattle.std.proofs.Common.{◌+◌, ◌∙◌, length, ap, arith}
 use Rattle.hs_confirm.specs.Filed.{literals_of, buckets_of}
 use Rattle.hs_literals.specs.Places.{NoneBetween}
 use Rattle.hs_literals.proofs.OpenLemmas.{none_joined, hides_alike}

@@ -1,7 +1,5 @@
-use Rattle.std.proofs.Common.{◌≡◌, ◌<◌, ◌≤◌, ◌+◌, ◌-◌, ◌++◌, length, get_or, subst, arith}
-use Rattle.std.proofs.lemmas.Bool.{cases_lt}
+use Rattle.std.proofs.Common.{◌<◌, ◌+◌, ◌-◌, length, arith}
 use Rattle.hs_confirm.specs.Filed.{literals_of, buckets_of}
-use Rattle.hs_literals.specs.Masking.{HidesNone}
 use Rattle.hs_literals.proofs.AllEndLemmas.{as_many}
 use Rattle.hs_literals.proofs.OpenLemmas.{none_between_closed, unmarked_is_closed, open_is_inside}
 use Rattle.hs_literals.proofs.places.Places.pass_closed.Goals as goal
