@@ -1,13 +1,13 @@
 -- All ends of literals: the numbers at one place, and the places one by one.
-use Rattle.std.proofs.Common.{◌≡◌, ℕ, zero, suc, ◌+◌, ◌-◌, ◌<◌, ◌≤◌, ◌⊎◌, ◌↔◌, Bool, true, false, List, [], ◌∷◌, ◌++◌, length, map, Option, Some, None, refl, sym, ap, ◌∙◌, subst, arith, inl, inr, length-append}
+use Rattle.std.proofs.Common.{◌≡◌, ℕ, zero, suc, ◌+◌, ◌-◌, ◌<◌, ◌≤◌, Bool, true, List, [], ◌∷◌, ◌++◌, length, Option, Some, None, refl, sym, ap, ◌∙◌, subst, arith, inl, inr, length-append}
 use Rattle.std.specs.Prelude.{slice_get, MatchOption}
-use Rattle.std.specs.List.{range_with_len, filter, flat_map}
-use Rattle.std.proofs.lemmas.Bool.{false≢true, cases_lt, false_from_ne_true}
+use Rattle.std.specs.List.{range_with_len, flat_map}
+use Rattle.std.proofs.lemmas.Bool.{false≢true, cases_lt}
 use Rattle.std.proofs.lemmas.List.{length-map}
 use Rattle.std.proofs.lemmas.Option.{slice_get_within, slice_get-get_or}
 use Rattle.hs_base.specs.Literals.{LiteralByte}
-use Rattle.hs_base.specs.Lists.{OneOf, Each, IsMember, IsRising}
-use Rattle.hs_base.proofs.ListLemmas.{each-member, each-of_members, member-left, member-right, member-append, member-map, map-member, IsOrder, rising-unique, rising-append, rising-map}
+use Rattle.hs_base.specs.Lists.{Each, IsMember, IsRising}
+use Rattle.hs_base.proofs.ListLemmas.{each-of_members, member-left, member-right, member-append, member-map, map-member, IsOrder, rising-unique, rising-append, rising-map}
 use Rattle.hs_base.specs.LiteralEnds.{EndsAt}
 use Rattle.hs_confirm.specs.PlaceEnds.{IsPlaceEnd, ArePlaceEnds}
 use Rattle.hs_confirm.specs.declared.confirm.Confirm.{Confirm}
@@ -15,10 +15,9 @@ use Rattle.hs_confirm.specs.declared.place_ends.PlaceEnds.{PlaceEnds}
 use Rattle.hs_confirm.specs.PlaceLeft.{place_left}
 use Rattle.hs_confirm.specs.Entries.{literal_in}
 use Rattle.hs_confirm.specs.Filed.{literals_of, buckets_of}
-use Rattle.hs_confirm.specs.Taking.{ends_there}
 use Rattle.hs_confirm.proofs.TakingLemmas.{ends_from_there, there_from_ends}
-use Rattle.hs_confirm.proofs.NumberLemmas.{passing, passing-end, passing-skip, IsPassing, member-passing, passing-member, passing-rising}
-use Rattle.hs_literals.specs.ScanEnds.{IsScanEnd, IsBefore, AreScanEnds}
+use Rattle.hs_confirm.proofs.NumberLemmas.{IsPassing, member-passing, passing-member, passing-rising}
+use Rattle.hs_literals.specs.ScanEnds.{IsBefore, AreScanEnds}
 use Rattle.hs_literals.specs.Masking.{HidesNone}
 use Rattle.hs_literals.specs.Places.{NoneBetween}
 use Rattle.hs_literals.specs.AllEnds.{literal_ends, numbers_at, pairs_at, ends_behind}

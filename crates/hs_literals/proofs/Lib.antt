@@ -1,2 +1,3 @@
 pub mod AllEndLemmas
 pub mod MaskLemmas
+pub mod OpenLemmas

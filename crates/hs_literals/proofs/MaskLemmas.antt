@@ -1,22 +1,24 @@
 -- Masks of a block, and masks that leave no bucket open.
-use Rattle.std.proofs.Common.{◌≡◌, ◌≢◌, ℕ, ◌+◌, ◌-◌, ◌^◌, ◌<◌, ◌≤◌, List, [], ◌∷◌, ◌++◌, length, get_or, map, take, drop, Option, Some, refl, sym, ap, ◌∙◌, subst, arith, inl, inr, Fits, w8, append_assoc, length-append, length-take, length-drop}
+use Rattle.std.proofs.Common.{◌≡◌, ℕ, ◌+◌, ◌-◌, ◌<◌, ◌≤◌, List, [], ◌++◌, cond, ltb, length, get_or, take, drop, Option, Some, refl, sym, ap, ◌∙◌, subst, arith, inl, inr, Fits, w8, append_assoc, length-append, length-take, length-drop}
 use Rattle.std.specs.Prelude.{slice_get}
 use Rattle.std.specs.List.{All}
 use Rattle.std.specs.Int.{bit_at}
-use Rattle.std.proofs.lemmas.Bool.{cases_lt}
+use Rattle.std.proofs.lemmas.Bool.{cases_lt, le-ltb}
 use Rattle.std.proofs.lemmas.Nat.Bits.{bit_at_ones}
 use Rattle.std.proofs.lemmas.Option.{slice_get_within, slice_get-get_or, get_or_from_slice_get}
-use Rattle.std.proofs.lemmas.List.{take-append-drop, take_all, take-take, drop-take, append-nil, length-map, length-take-le, get_or-take, get_or-drop, get_or_past, get_or_default, get_or_append_left, get_or-append_right, get_or-append-add}
+use Rattle.std.proofs.lemmas.List.{take-append-drop, take_all, take-take, drop-take, append-nil, length-take-le, get_or-take, get_or-drop, get_or_past, get_or_default, get_or_append_left, get_or-append_right, get_or-append-add}
+use Rattle.std.proofs.lemmas.List.FromFn.{get_or-map-range_with_len}
 use Rattle.hs_base.specs.Literals.{LiteralByte}
 use Rattle.hs_base.specs.LiteralEnds.{EndsAt}
 use Rattle.hs_confirm.specs.PlaceEnds.{IsPlaceEnd, ArePlaceEnds}
 use Rattle.hs_fdr.specs.declared.tables.Tables.{Tables}
 use Rattle.hs_fdr.specs.Masks.{mask_of, width_of}
-use Rattle.hs_fdr.specs.Blocks.{block_masks}
+use Rattle.hs_fdr.specs.Blocks.{mask_at, byte_or_zero, block_masks}
 use Rattle.hs_fdr_build.specs.Asking.{AreTablesOf}
 use Rattle.hs_fdr_build.proofs.NoEndLemmas.{no-end-is-masked-in-blocks}
 use Rattle.hs_literals.proofs.AllEndLemmas.{no_member}
 use Rattle.hs_literals.specs.Masking.{HidesNone, TablesHideNone, MasksHideNone, AreFew, StandsBefore}
+use Rattle.hs_literals.specs.OpenPlaces.{ClosedBehind}
 
 -- the tables of literals hide none of them
 pub tables_hide_none : (tables : Tables) (literals : List (List LiteralByte)) (buckets : List ℕ) → AreFew buckets → AreTablesOf literals buckets tables → TablesHideNone tables literals buckets
@@ -100,6 +102,16 @@ block_hides_none tables literals buckets history bytes before masks next from si
     subst (λ n. EndsAt literal (stands.earlier ++ (before ++ (block ++ later))) n) at (subst (λ text. EndsAt literal text (length history + (from + i + 1))) split ends) in
     ap (λ ms. bit_at (get_or ms i 0) bucket) is
     ∙ hides stands.earlier before block later next i (bytes-append before block fit (bytes-part bytes size from fit')) below (omega (arith, whole i below within, length-take size rest, length-drop from bytes)) number bucket literal numbered filed there
+
+-- the masks of a block leave none open behind it
+pub closed_behind_block : (tables : Tables) (before bytes masks : List ℕ) (next : Option ℕ) (from size : ℕ) → size ≤ length bytes - from → masks ≡ block_masks (mask_of tables) (width_of tables) before (take size (drop from bytes)) next
+    → ClosedBehind masks bytes from
+unfolding block_masks
+closed_behind_block tables before bytes masks next from size inside is i below past =
+    let block = take size (drop from bytes) in
+    let mask = λ (k : ℕ). cond (ltb k (length block)) (mask_at (mask_of tables) (width_of tables) (before ++ block) (byte_or_zero next) (length before + k)) 255 in
+    let behind : length block ≤ i = omega (arith, length-take size (drop from bytes), length-drop from bytes) in
+    ap (λ ms. get_or ms i 0) is ∙ get_or-map-range_with_len mask 0 64 i i 0 below (omega arith) ∙ rw (le-ltb i (length block) behind) refl
 
 -- buckets that are all below eight
 pub few-from_all : (buckets : List ℕ) → All (λ b. b < 8) buckets → AreFew buckets

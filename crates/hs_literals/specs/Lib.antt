@@ -1,5 +1,6 @@
 pub mod ScanEnds
 pub mod Masking
+pub mod OpenPlaces
 pub mod Places
 pub mod AllEnds
 pub mod Held

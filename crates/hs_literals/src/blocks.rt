@@ -3,6 +3,7 @@
 ghost use Rattle.std.specs.Prelude.{◌≡◌, ◌≤◌, ◌<◌, ◌+◌, ◌⊎◌, length};
 ghost use Rattle.hs_confirm.specs.Filed.{literals_of, buckets_of};
 ghost use Rattle.hs_literals.specs.Masking.{MasksHideNone, StandsBefore};
+ghost use Rattle.hs_literals.specs.OpenPlaces.{ClosedBehind};
 
 use crate::literals::Literals;
 use hs_fdr::{BLOCK_LEN, PLACES, scan_block};
@@ -19,27 +20,29 @@ fn bytes_before<'a>(history: &'a [u8], bytes: &'a [u8], from: usize) -> &'a [u8]
     &history[history.len().saturating_sub(PLACES - 1)..]
 }
 
-/// The masks of 64 places from one on, which is the first of all or has enough bytes before it.
-pub(crate) fn masks_at(
+/// Writes the masks of 64 places from one on, which is the first of all or has enough bytes before it. Behind the last byte
+/// they leave no bucket open.
+pub(crate) fn write_masks(
     literals: &Literals,
     history: &[u8],
     bytes: &[u8],
     from: usize,
-) -> [u8; BLOCK_LEN]
+    masks: &mut [u8; BLOCK_LEN],
+)
     requires within { from ≤ length bytes.now }
     requires whole { (from ≡ 0) ⊎ (8 ≤ from) }
-    ensures { MasksHideNone result (literals_of literals.now.confirm) (buckets_of literals.now.confirm) history.now bytes.now from }
+    ensures sixty_four { length masks.new ≡ 64 }
+    ensures closed { ClosedBehind masks.new bytes.now from }
+    ensures hide_none { MasksHideNone masks.new (literals_of literals.now.confirm) (buckets_of literals.now.confirm) history.now bytes.now from }
 {
     let before = bytes_before(history, bytes, from);
     let rest = &bytes[from..];
     let block = &rest[..rest.len().min(BLOCK_LEN)];
-    let mut masks = [0; BLOCK_LEN];
     scan_block(
         &literals.tables,
         before,
         block,
         rest.get(BLOCK_LEN).copied(),
-        &mut masks,
+        masks,
     );
-    masks
 }

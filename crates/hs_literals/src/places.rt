@@ -1,33 +1,16 @@
 //! The next place at which a literal may end.
 
-ghost use Rattle.std.specs.Prelude.{◌≡◌, ◌≢◌, ◌≤◌, ◌<◌, ◌+◌, ◌++◌, ◌⊎◌, ℕ, [], MatchOption, length, slice_index};
+ghost use Rattle.std.specs.Prelude.{◌≡◌, ◌≢◌, ◌≤◌, ◌<◌, ◌+◌, ◌-◌, ◌++◌, [], MatchBool, MatchOption, length};
 ghost use Rattle.hs_confirm.specs.Filed.{literals_of, buckets_of};
 ghost use Rattle.hs_literals.specs.Masking.{HidesNone, MasksHideNone};
+ghost use Rattle.hs_literals.specs.OpenPlaces.{AreOpen, ClosedBehind};
 ghost use Rattle.hs_literals.specs.Places.{NoneBetween};
 
-use crate::blocks::masks_at;
+use crate::blocks::write_masks;
 use crate::literals::Literals;
+use crate::marks::{NO_BUCKET, lowest_place, open_marks, without_lowest};
 use hs_confirm::PlaceEnds;
 use hs_fdr::BLOCK_LEN;
-
-/// A mask that leaves no bucket open.
-const NO_BUCKET: u8 = 0xFF;
-
-/// The first place from one on and before another that has a bucket left open, or the other.
-#[inline]
-fn open_place(masks: &[u8; BLOCK_LEN], from: usize, end: usize) -> usize
-    requires { (from ≤ end) × (end ≤ 64) }
-    ensures low { from ≤ result }
-    ensures high { result ≤ end }
-    ensures closed { (k : ℕ) → from ≤ k → k < result → slice_index masks.now k ≡ 255 }
-    ensures open { result < end → slice_index masks.now result ≢ 255 }
-{
-    let mut at = from;
-    while at < end && masks[at] == NO_BUCKET {
-        at += 1;
-    }
-    at
-}
 
 /// A walk over the places of bytes.
 #[derive(Debug, Drop)]
@@ -38,6 +21,8 @@ pub(crate) struct Places<'a> {
     pub(crate) bytes: &'a [u8],
     /// The masks of the block's places.
     masks: [u8; BLOCK_LEN],
+    /// Which of these places are not passed and have a bucket left open: a 1 for each.
+    marks: u64,
     /// Where the block begins in `bytes`.
     block: usize,
     /// How many bytes have been passed.
@@ -46,6 +31,8 @@ pub(crate) struct Places<'a> {
     ghost behind: { block ≤ at },
     ghost near: { at ≤ block + 64 },
     ghost sixty_four: { length masks ≡ 64 },
+    ghost are_open: { AreOpen masks (at - block) marks },
+    ghost closed_behind: { ClosedBehind masks bytes.now block },
     ghost hide_none: { MasksHideNone masks (literals_of literals.now.confirm) (buckets_of literals.now.confirm) history.now bytes.now block },
 }
 
@@ -60,61 +47,65 @@ impl<'a> Places<'a> {
         ensures bytes { result.bytes.now ≡ bytes.now }
         ensures at { result.at ≡ 0 }
     {
+        let mut masks = [NO_BUCKET; BLOCK_LEN];
+        write_masks(literals, history, bytes, 0, &mut masks);
         Places {
             literals,
             history,
             bytes,
-            masks: masks_at(literals, history, bytes, 0),
+            masks,
+            marks: open_marks(&masks),
             block: 0,
             at: 0,
         }
     }
 
-    /// Makes the masks of the next block, where the place is behind the block.
-    fn enter_block(&mut self)
-        requires { self.old.at < length self.old.bytes.now }
-        ensures literals { self.new.literals ≡ self.old.literals }
-        ensures history { self.new.history ≡ self.old.history }
-        ensures bytes { self.new.bytes ≡ self.old.bytes }
-        ensures at { self.new.at ≡ self.old.at }
-        ensures near { self.new.at < self.new.block + 64 }
-    {
-        if self.at == self.block + BLOCK_LEN {
-            self.masks = masks_at(self.literals, self.history, self.bytes, self.at);
-            self.block = self.at;
-        }
-    }
-
-    /// Passes the places of the block that have no bucket left open, up to one that has.
-    #[inline]
-    fn pass_closed(&mut self)
+    /// Passes the rest of the block, where no place has a bucket left open, and makes the masks of the next block. It is
+    /// false where the block was the last one.
+    fn enter_block(&mut self) -> bool
+        requires { self.old.marks ≡ 0 }
         ensures literals { self.new.literals ≡ self.old.literals }
         ensures history { self.new.history ≡ self.old.history }
         ensures bytes { self.new.bytes ≡ self.old.bytes }
         ensures low { self.old.at ≤ self.new.at }
         ensures none { NoneBetween (literals_of self.old.literals.now.confirm) self.old.history.now self.old.bytes.now self.old.at (self.new.at + 1) }
+        ensures more { MatchBool result (self.old.block < self.new.block) (self.new.at ≡ length self.old.bytes.now) }
     {
-        let end = (self.bytes.len() - self.block).min(BLOCK_LEN);
-        self.at = self.block + open_place(&self.masks, self.at - self.block, end);
+        self.at = self.block + (self.bytes.len() - self.block).min(BLOCK_LEN);
+        if self.at == self.bytes.len() {
+            return false;
+        }
+        write_masks(
+            self.literals,
+            self.history,
+            self.bytes,
+            self.at,
+            &mut self.masks,
+        );
+        self.marks = open_marks(&self.masks);
+        self.block = self.at;
+        true
     }
 
-    /// The mask of the next place, or None behind the last one.
-    fn next_mask(&mut self) -> Option<u8>
+    /// Goes on to the next place of the block that has a bucket left open, and gives its mask.
+    #[inline]
+    fn pass_closed(&mut self) -> u8
+        requires { self.old.marks ≢ 0 }
         ensures literals { self.new.literals ≡ self.old.literals }
         ensures history { self.new.history ≡ self.old.history }
         ensures bytes { self.new.bytes ≡ self.old.bytes }
-        ensures next { MatchOption result ((self.old.at ≡ length self.old.bytes.now) × (self.new.at ≡ self.old.at)) (λ mask. (self.new.at ≡ self.old.at + 1) × HidesNone mask (literals_of self.old.literals.now.confirm) (buckets_of self.old.literals.now.confirm) (self.old.history.now ++ self.old.bytes.now) (length self.old.history.now + self.new.at)) }
+        ensures low { self.old.at < self.new.at }
+        ensures none_before { NoneBetween (literals_of self.old.literals.now.confirm) self.old.history.now self.old.bytes.now self.old.at self.new.at }
+        ensures hides { HidesNone result (literals_of self.old.literals.now.confirm) (buckets_of self.old.literals.now.confirm) (self.old.history.now ++ self.old.bytes.now) (length self.old.history.now + self.new.at) }
     {
-        if self.at == self.bytes.len() {
-            return None;
-        }
-        self.enter_block();
-        let mask = self.masks[self.at - self.block];
-        self.at += 1;
-        Some(mask)
+        let place = lowest_place(self.marks);
+        self.marks = without_lowest(self.marks);
+        self.at = self.block + place + 1;
+        self.masks[place]
     }
 
     /// Goes on to the next place that has a bucket left open, and gives its mask; None where there is no more.
+    #[inline]
     pub(crate) fn next_open(&mut self) -> Option<u8>
         ensures literals { self.new.literals ≡ self.old.literals }
         ensures history { self.new.history ≡ self.old.history }
@@ -122,13 +113,12 @@ impl<'a> Places<'a> {
         ensures none_before { NoneBetween (literals_of self.old.literals.now.confirm) self.old.history.now self.old.bytes.now self.old.at self.new.at }
         ensures next { MatchOption result ((self.new.at ≡ length self.old.bytes.now) × NoneBetween (literals_of self.old.literals.now.confirm) self.old.history.now self.old.bytes.now self.old.at (self.new.at + 1)) (λ mask. (self.old.at < self.new.at) × HidesNone mask (literals_of self.old.literals.now.confirm) (buckets_of self.old.literals.now.confirm) (self.old.history.now ++ self.old.bytes.now) (length self.old.history.now + self.new.at)) }
     {
-        while let Some(mask) = self.next_mask() {
-            if mask != NO_BUCKET {
-                return Some(mask);
+        while self.marks == 0 {
+            if !self.enter_block() {
+                return None;
             }
-            self.pass_closed();
         }
-        None
+        Some(self.pass_closed())
     }
 
     /// The literals that end at the place, given a mask that hides none of them, or None where there is none.

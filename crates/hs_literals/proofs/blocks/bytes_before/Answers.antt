@@ -1,4 +1,4 @@
-use Rattle.std.proofs.Common.{◌≡◌, ◌≤◌, refl, sym, arith, inl, inr}
+use Rattle.std.proofs.Common.{refl, arith, inl, inr}
 use Rattle.hs_literals.proofs.MaskLemmas.{before_inside, before_history}
 use Rattle.hs_literals.proofs.blocks.bytes_before.Goals as goal
 

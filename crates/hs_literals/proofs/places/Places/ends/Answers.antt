@@ -1,6 +1,5 @@
-use Rattle.std.proofs.Common.{◌≡◌, ◌≤◌, ◌+◌, ◌++◌, ◌∙◌, [], length, sym, arith, length-append}
+use Rattle.std.proofs.Common.{◌+◌, ◌++◌, length, arith, length-append}
 use Rattle.hs_confirm.specs.Filed.{literals_of, buckets_of}
-use Rattle.hs_confirm.specs.PlaceLeft.{place_left}
 use Rattle.hs_literals.proofs.AllEndLemmas.{option_numbers, as_many}
 use Rattle.hs_literals.proofs.places.Places.ends.Goals as goal
 

@@ -3,8 +3,8 @@ use Rattle.hs_confirm.specs.Filed.{literals_of}
 use Rattle.hs_literals.specs.Places.{NoneBetween}
 use Rattle.hs_literals.proofs.places.Places.next_open.Given as goal
 
-abbrev pub invariant-loop-mask : goal.invariant-loop-mask
-invariant-loop-mask l = record {
+abbrev pub invariant-loop-self : goal.invariant-loop-self
+invariant-loop-self l = record {
   literals : l.self.literals ≡ l.fn.self.literals;
   history : l.self.history ≡ l.fn.self.history;
   bytes : l.self.bytes ≡ l.fn.self.bytes;
@@ -12,5 +12,5 @@ invariant-loop-mask l = record {
   none : NoneBetween (literals_of l.fn.self.literals.now.confirm) l.fn.self.history.now l.fn.self.bytes.now l.fn.self.at (l.self.at + 1);
 }
 
-abbrev pub decreases-loop-mask : goal.decreases-loop-mask
-decreases-loop-mask l = length l.self.bytes.now - l.self.at
+abbrev pub decreases-loop-self : goal.decreases-loop-self
+decreases-loop-self l = length l.self.bytes.now - l.self.block

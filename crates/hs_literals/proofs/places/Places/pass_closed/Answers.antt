@@ -1,19 +1,24 @@
-use Rattle.std.proofs.Common.{◌≡◌, ◌<◌, ◌≤◌, ◌+◌, ◌-◌, ◌++◌, length, subst, arith}
-use Rattle.hs_base.specs.LiteralEnds.{EndsAt}
+use Rattle.std.proofs.Common.{◌<◌, ◌+◌, ◌-◌, length, arith}
 use Rattle.hs_confirm.specs.Filed.{literals_of, buckets_of}
 use Rattle.hs_literals.proofs.AllEndLemmas.{as_many}
-use Rattle.hs_literals.proofs.MaskLemmas.{none_ends}
+use Rattle.hs_literals.proofs.OpenLemmas.{none_between_closed, unmarked_is_closed, open_is_inside}
 use Rattle.hs_literals.proofs.places.Places.pass_closed.Goals as goal
 
-pub returns-clause-none : goal.returns-clause-none
-returns-clause-none c = λ end number literal low high numbered ends.
+pub returns-clause-none_before : goal.returns-clause-none_before
+returns-clause-none_before c =
     let old = c.args.self.now in
     let confirm = old.literals.now.confirm in
-    let i = end - 1 - old.block in
-    let short = c.open_place.ensures.high in
-    let at : end ≡ old.block + i + 1 = omega (arith, low, old.behind) in
-    let before : i < c.open_place.result = omega (arith, high, low, old.behind) in
-    let inside : i < 64 = omega (arith, before, short, c.min-end.ensures) in
-    let within : old.block + i < length old.bytes.now = omega (arith, before, short, c.min-end.ensures, old.behind, old.within) in
-    none_ends (literals_of confirm) (buckets_of confirm) (old.history.now ++ old.bytes.now) (length old.history.now + (old.block + i + 1)) _ number literal old.literals.now.few (as_many confirm) (c.open_place.ensures.closed i (omega (arith, low, old.behind)) before) (old.hide_none i inside within) numbered
-    (subst (λ k. EndsAt literal (old.history.now ++ old.bytes.now) (length old.history.now + k)) at ends)
+    let place = c.lowest_place-place.result in
+    let lowest = c.lowest_place-place.ensures in
+    let there = (old.are_open place).0 lowest.marked in
+    let inside : old.block + place < length old.bytes.now = open_is_inside old.masks old.bytes.now old.block place old.closed_behind there.1 there.2 in
+    none_between_closed (literals_of confirm) (buckets_of confirm) old.history.now old.bytes.now old.masks old.block old.at (old.block + place + 1) old.literals.now.few (as_many confirm) old.hide_none old.behind (omega (arith, there.1)) (omega (arith, inside))
+    (λ i low high. unmarked_is_closed old.masks (old.at - old.block) old.marks i old.are_open (lowest.lowest i (omega arith)) low (omega (arith, there.1, high)))
+
+pub returns-clause-hides : goal.returns-clause-hides
+returns-clause-hides c =
+    let old = c.args.self.now in
+    let confirm = old.literals.now.confirm in
+    let place = c.lowest_place-place.result in
+    let there = (old.are_open place).0 c.lowest_place-place.ensures.marked in
+    old.hide_none place there.1 (open_is_inside old.masks old.bytes.now old.block place old.closed_behind there.1 there.2)
