@@ -75,7 +75,7 @@ fn group(tables: &Tables, bytes: &[u8], at: usize) -> u8x16
     let mut sum = u8x16::splat(0);
     for back in 0..PLACES {
         let place = at + (PLACES - 1 - back);
-        sum = either(tables.row(bytes[place], bytes[place + 1]), later(sum));
+        sum = either(tables.row_at(bytes, place), later(sum));
     }
     sum
 }

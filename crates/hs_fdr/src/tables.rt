@@ -82,16 +82,45 @@ impl Tables {
         (byte as usize + ((after as usize) << 8)) & self.low_bits
     }
 
-    /// The masks of the super-character of a byte and the one behind it, and then zeros.
+    /// The super-character of the byte at a place and the one behind it, which one load reads.
     #[inline(always)]
-    pub(crate) fn row(&self, byte: u8, after: u8) -> u8x16
-        ensures { IsRow self.now (super_character (width_of self.now) byte after) result }
+    fn super_character_at(&self, bytes: &[u8], at: usize) -> usize
+        requires { at + 2 ≤ length bytes.now }
+        ensures value { result ≡ super_character (width_of self.now) (slice_index bytes.now at) (slice_index bytes.now (at + 1)) }
+        ensures small { result < 2 ^ width_of self.now }
     {
-        let start = PLACES * self.super_character(byte, after);
+        let pair = u16x1::from_le_bytes(u8x2::from_slice(&bytes[at..]));
+        pair.to_array()[0] as usize & self.low_bits
+    }
+
+    /// The masks of a super-character, and then zeros.
+    #[inline(always)]
+    fn masks_of(&self, v: usize) -> u8x16
+        requires { v < 2 ^ width_of self.now }
+        ensures { IsRow self.now v result }
+    {
+        let start = PLACES * v;
         let masks = u8x8::from_slice(&self.rows[start..]);
         masks.shuffle(
             u8x8::splat(0),
             [0, 1, 2, 3, 4, 5, 6, 7, 8, 9, 10, 11, 12, 13, 14, 15],
         )
+    }
+
+    /// The masks of the super-character of a byte and the one behind it, and then zeros.
+    #[inline(always)]
+    pub(crate) fn row(&self, byte: u8, after: u8) -> u8x16
+        ensures { IsRow self.now (super_character (width_of self.now) byte after) result }
+    {
+        self.masks_of(self.super_character(byte, after))
+    }
+
+    /// The masks of the super-character of the byte at a place and the one behind it, and then zeros.
+    #[inline(always)]
+    pub(crate) fn row_at(&self, bytes: &[u8], at: usize) -> u8x16
+        requires { at + 2 ≤ length bytes.now }
+        ensures { IsRow self.now (super_character (width_of self.now) (slice_index bytes.now at) (slice_index bytes.now (at + 1))) result }
+    {
+        self.masks_of(self.super_character_at(bytes, at))
     }
 }

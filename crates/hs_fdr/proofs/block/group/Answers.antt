@@ -12,8 +12,8 @@ loop-back-preserved c =
     let from : c.args.at + (8 - back) ≡ p + 1 = omega arith in
     let to : p ≡ c.args.at + (8 - (back + 1)) = omega arith in
     let more : suc back ≡ back + 1 = omega arith in
-    let done = group_step rows p back c.loop-back.sum c.later.result c.row.result c.either-sum.result
-    (subst (λ n. HasLanes c.loop-back.sum (λ k. added_by rows n back k)) from c.loop-back.invariant) c.later.ensures c.row.ensures c.either-sum.ensures in
+    let done = group_step rows p back c.loop-back.sum c.later.result c.row_at.result c.either-sum.result
+    (subst (λ n. HasLanes c.loop-back.sum (λ k. added_by rows n back k)) from c.loop-back.invariant) c.later.ensures c.row_at.ensures c.either-sum.ensures in
     subst (λ n. HasLanes c.either-sum.result (λ k. added_by rows n (back + 1) k)) to
     (subst (λ n. HasLanes c.either-sum.result (λ k. added_by rows p n k)) more done)
 
