@@ -2,11 +2,15 @@
 //! `hs_bench kernel FILE` makes only the masks of FILE. Without words it prints nothing.
 #![tactic(auto)]
 
+ghost use Rattle.std.specs.Prelude.{◌≡◌, ◌-◌, ◌^◌, length, min};
+ghost use Rattle.hs_literals.specs.Left.{scan_left};
+
+mod kernel;
 mod rate;
 mod words;
 
-use hs_fdr::{BLOCK_LEN, Tables, scan_block};
 use hs_literals::{LitScan, Literals};
+use kernel::run_kernel;
 use rate::Fastest;
 use std::time::Instant;
 use std::{env, fs, io};
@@ -14,9 +18,6 @@ use words::literals_of;
 
 /// How often a file is scanned; the fastest time counts.
 const ROUNDS: usize = 5;
-
-/// How many bytes before a block count for its masks.
-const BEFORE: usize = 7;
 
 fn main(rt: HostRuntime) -> io::Result<()> {
     let words: Vec<String> = env::args(&rt)?.collect(rt.alloc())?;
@@ -51,50 +52,32 @@ fn scan_literals(rt: &HostRuntime, words: &str, file: &str) -> io::Result<()> {
 }
 
 /// How many ends a scan tells.
-fn count_ends(scan: LitScan) -> usize {
+fn count_ends(scan: LitScan) -> usize
+    ensures { result ≡ min (length (scan_left scan.entry)) (2 ^ 64 - 1) }
+{
     let mut ends = 0usize;
-    for _ in scan {
+    for end in scan {
         ends = ends.saturating_add(1);
     }
     ends
 }
 
-/// Makes the masks of a file for a few common words, and counts the places that are left open.
+/// Measures how fast the masks of all blocks of a file are made, by tables for a few common words. Beside the masks it does no
+/// more than to take the first one of each block into account, and neither looks for open places nor confirms a literal.
 fn scan_blocks(rt: &HostRuntime, file: &str) -> io::Result<()> {
     let text = fs::read(rt, file)?;
     let literals = literals_of(rt.alloc(), b"the\nand\nwhich\nbetween\n")?;
     let (tables, _) = hs_fdr_build::build(rt.alloc(), literals.as_slice())?;
     let mut fastest = Fastest::new(text.len());
-    let mut places = 0;
+    let mut ones = 0;
     for _ in 0..ROUNDS {
         let start = Instant::now(rt)?;
-        places = open_places(&tables, text.as_slice());
+        ones = run_kernel(&tables, text.as_slice());
         fastest.add(start.elapsed(rt)?);
     }
     println!(rt;
-        "{} bytes, {places} places: {} MB/s",
+        "{} bytes, {ones:#04x} in each block's first mask: {} MB/s",
         text.len(),
         fastest.rate()
     )
-}
-
-/// How many places of a text have a bucket left open.
-fn open_places(tables: &Tables, text: &[u8]) -> usize {
-    let mut masks = [0; BLOCK_LEN];
-    let mut count = 0usize;
-    let mut from = 0;
-    while from < text.len() {
-        let end = text.len().min(from.saturating_add(BLOCK_LEN));
-        let before = &text[from.saturating_sub(BEFORE)..from];
-        scan_block(
-            tables,
-            before,
-            &text[from..end],
-            text.get(end).copied(),
-            &mut masks,
-        );
-        count = count.saturating_add(masks.iter().filter(|mask| **mask != 0xFF).count());
-        from = end;
-    }
-    count
 }

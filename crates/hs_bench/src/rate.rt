@@ -1,5 +1,7 @@
 //! How fast bytes were scanned.
 
+ghost use Rattle.std.specs.Prelude.{◌≡◌, ◌-◌, ◌^◌, min};
+
 use std::time::Duration;
 
 /// The shortest of some times that the same bytes took.
@@ -7,13 +9,19 @@ use std::time::Duration;
 pub(crate) struct Fastest {
     /// How many bytes were scanned each time.
     bytes: usize,
-    /// The shortest time in nanoseconds.
+    /// The shortest time in nanoseconds; before the first one, more than any.
     nanoseconds: u128,
 }
 
 impl Fastest {
+    ghost use Rattle.std.specs.Duration.{as_nanos};
+    ghost use Rattle.hs_bench.specs.Rates.{rate_of};
+
     /// No time yet.
-    pub(crate) fn new(bytes: usize) -> Fastest {
+    pub(crate) fn new(bytes: usize) -> Fastest
+        ensures bytes { result.bytes ≡ bytes }
+        ensures nanoseconds { result.nanoseconds ≡ 2 ^ 128 - 1 }
+    {
         Fastest {
             bytes,
             nanoseconds: u128::MAX,
@@ -21,12 +29,17 @@ impl Fastest {
     }
 
     /// One more time.
-    pub(crate) fn add(&mut self, time: Duration) {
+    pub(crate) fn add(&mut self, time: Duration)
+        ensures bytes { self.new.bytes ≡ self.old.bytes }
+        ensures nanoseconds { self.new.nanoseconds ≡ min self.old.nanoseconds (as_nanos time) }
+    {
         self.nanoseconds = self.nanoseconds.min(time.as_nanos());
     }
 
-    /// The rate in megabytes a second.
-    pub(crate) fn rate(&self) -> u128 {
+    /// The rate in megabytes a second, or 0 where no time has passed.
+    pub(crate) fn rate(&self) -> u128
+        ensures { result ≡ rate_of self.now.bytes self.now.nanoseconds }
+    {
         (self.bytes as u128 * 1000)
             .checked_div(self.nanoseconds)
             .unwrap_or(0)
