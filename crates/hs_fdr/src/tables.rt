@@ -82,8 +82,7 @@ impl Tables {
         (byte as usize + ((after as usize) << 8)) & self.low_bits
     }
 
-    /// The super-character of the byte at a place and the one behind it, both read by one load: for two loads of a byte each
-    /// the compiler has no other form, since neighbours share their bytes.
+    /// The super-character of the byte at a place and the one behind it, which one load reads.
     #[inline(always)]
     fn super_character_at(&self, bytes: &[u8], at: usize) -> usize
         requires { at + 2 ≤ length bytes.now }
@@ -116,7 +115,7 @@ impl Tables {
         self.masks_of(self.super_character(byte, after))
     }
 
-    /// The same of the byte at a place and the one behind it.
+    /// The masks of the super-character of the byte at a place and the one behind it, and then zeros.
     #[inline(always)]
     pub(crate) fn row_at(&self, bytes: &[u8], at: usize) -> u8x16
         requires { at + 2 ≤ length bytes.now }
