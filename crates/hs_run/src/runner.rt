@@ -1,11 +1,13 @@
 //! The runner: bytes to reports, byte by byte over all roles.
-ghost use Rattle.std.specs.Prelude.{◌≡◌, ℕ, ◌+◌, ◌*◌, ◌<◌, ◌≤◌, ◌^◌, false, [], ◌∷◌, length, Some, slice_get, slice_index};
+ghost use Rattle.std.specs.Prelude.{◌≡◌, ◌+◌, ◌*◌, ◌<◌, ◌≤◌, ◌^◌, false, [], ◌∷◌, length};
 ghost use Rattle.hs_rose.specs.Programs.{roles_of, starts_of};
+ghost use Rattle.hs_rose.specs.Wakes.{rest_of};
 ghost use Rattle.hs_run.specs.Events.{Takes};
 ghost use Rattle.hs_run.specs.Reporting.{AreClosed};
-ghost use Rattle.hs_run.specs.Running.{AreNoEnds, AreWaiting};
+ghost use Rattle.hs_run.specs.Running.{AreNoEnds};
 ghost use Rattle.hs_run.specs.States.{IsRunnable, FitsState};
 ghost use Rattle.hs_run.specs.Feeding.{FitsScratch, Feeds, Finishes};
+ghost use Rattle.hs_run.specs.Waking.{AreAtRest};
 
 use crate::ends::forget;
 use crate::events::Events;
@@ -13,6 +15,7 @@ use crate::reporting::{Moment, report, settle_byte};
 use crate::roles::{end_roles, step_roles};
 use crate::scratch::Scratch;
 use crate::state::State;
+use crate::waking::wake;
 use hs_base::Prev;
 use hs_engine::{Engine, Steps};
 use hs_rose::Program;
@@ -28,7 +31,7 @@ pub fn feed<E: Engine, V: Events, L: Ledger>(
     events: &mut V,
     steps: &mut Steps<L>,
 )
-    requires runs { IsRunnable E.width program.now }
+    requires runs { IsRunnable E.is_for E.field E.well E.enters_always E.width program.now }
     requires state { FitsState E.well program.now state.old }
     requires scratch { FitsScratch program.now scratch.old }
     requires room { state.old.offset + length bytes.now < 2 ^ 63 }
@@ -39,65 +42,65 @@ pub fn feed<E: Engine, V: Events, L: Ledger>(
     ensures taken { Takes V.tells events.old events.new (Feeds E.is_for E.field program.now state.old state.new bytes.now) }
 {
     forget(&mut scratch.ends);
-    wake(&mut scratch.waits);
+    wake(
+        program.roles(),
+        program.starts(),
+        program.rest(),
+        &state.region,
+        &mut scratch.live,
+    );
     let mut is_open = true;
     for place in 0..bytes.len() {
         is_open = feed_byte(
-            program, state, scratch, bytes, place, is_open, events, steps,
+            program,
+            state,
+            scratch,
+            bytes[place],
+            is_open,
+            events,
+            steps,
         );
     }
 }
 
-/// Notes of each role that nothing is known of where it sleeps.
-fn wake(waits: &mut [usize])
-    ensures len { length waits.new ≡ length waits.old }
-    ensures none { (k to : ℕ) → slice_get waits.new k ≡ Some to → to ≡ 0 }
-{
-    for one in waits.iter_mut() {
-        *one = 0;
-    }
-}
-
-/// Takes the byte of a stream at `place`, and reports what it decides. No end is noted in the scratch before nor behind it.
-/// Something else may be kept of an identifier than that a pair of it is told only if `is_open`; answers whether behind the
+/// Takes a byte of a stream, and reports what it decides. No end is noted in the scratch before nor behind it. Something else may be kept of an identifier than that a pair of it is told only if `is_open`; answers whether behind the
 /// byte.
 fn feed_byte<E: Engine, V: Events, L: Ledger>(
     program: &Program<E>,
     state: &mut State,
     scratch: &mut Scratch,
-    bytes: &[u8],
-    place: usize,
+    byte: u8,
     is_open: bool,
     events: &mut V,
     steps: &mut Steps<L>,
 ) -> bool
-    requires runs { IsRunnable E.width program.now }
+    requires runs { IsRunnable E.is_for E.field E.well E.enters_always E.width program.now }
     requires state { FitsState E.well program.now state.old }
     requires scratch { FitsScratch program.now scratch.old }
     requires room { state.old.offset + 1 < 2 ^ 63 }
-    requires place { place < length bytes.now }
     requires none { AreNoEnds scratch.old.ends.items }
     requires closed { is_open ≡ false → AreClosed state.old.kept.items }
-    requires waiting { AreWaiting E.is_for E.field E.well E.enters_always (roles_of program.now) (starts_of program.now) state.old.region.items bytes.now place scratch.old.waits.items }
+    requires rests { AreAtRest (starts_of program.now) (length (roles_of program.now)) state.old.region.items (rest_of program.now) scratch.old.live.items }
     ensures state { FitsState E.well program.now state.new }
     ensures scratch { FitsScratch program.now scratch.new }
     ensures offset { state.new.offset ≡ state.old.offset + 1 }
     ensures none { AreNoEnds scratch.new.ends.items }
     ensures closed { result ≡ false → AreClosed state.new.kept.items }
-    ensures waiting { AreWaiting E.is_for E.field E.well E.enters_always (roles_of program.now) (starts_of program.now) state.new.region.items bytes.now (place + 1) scratch.new.waits.items }
+    ensures rests { AreAtRest (starts_of program.now) (length (roles_of program.now)) state.new.region.items (rest_of program.now) scratch.new.live.items }
     ensures ticks { steps.new ≤ steps.old + length (roles_of program.now) }
-    ensures taken { Takes V.tells events.old events.new (Feeds E.is_for E.field program.now state.old state.new (slice_index bytes.now place ∷ [])) }
+    ensures taken { Takes V.tells events.old events.new (Feeds E.is_for E.field program.now state.old state.new (byte ∷ [])) }
 {
     let at = state.offset;
     let noted = step_roles(
         program.roles(),
         program.starts(),
+        program.rest(),
+        program.wakes().row(byte),
         &mut state.region,
         state.prev,
         at,
-        bytes,
-        place,
-        &mut scratch.waits,
+        byte,
+        &mut scratch.live,
         &mut scratch.ends,
         steps,
     );
@@ -109,7 +112,7 @@ fn feed_byte<E: Engine, V: Events, L: Ledger>(
         at,
         events,
     );
-    state.prev = Prev::behind(bytes[place]);
+    state.prev = Prev::behind(byte);
     state.offset = at + 1;
     noted
 }
@@ -121,7 +124,7 @@ pub fn finish<E: Engine, V: Events>(
     scratch: &mut Scratch,
     events: &mut V,
 )
-    requires runs { IsRunnable E.width program.now }
+    requires runs { IsRunnable E.is_for E.field E.well E.enters_always E.width program.now }
     requires state { FitsState E.well program.now state.now }
     requires scratch { FitsScratch program.now scratch.old }
     ensures scratch { FitsScratch program.now scratch.new }

@@ -142,7 +142,7 @@ fn scan<E: Engine, L: Ledger>(
     second: &[u8],
     blank: Blank,
 ) -> Result<(Collected, Collected), Fail>
-    requires runs { IsRunnable E.width program.now }
+    requires runs { IsRunnable E.is_for E.field E.well E.enters_always E.width program.now }
     requires first { length first.now < 2 ^ 62 }
     requires second { length second.now < 2 ^ 62 }
     requires name { blank.name ≡ L.name }

@@ -2,23 +2,45 @@ use Rattle.std.proofs.Common.{◌≡◌, ℕ, true, false, [], ◌∷◌, length
 use Rattle.std.specs.Vec.{with_items}
 use Rattle.std.proofs.lemmas.List.{take_more, with_items_is}
 use Rattle.std.proofs.Math.Seq.{take-length}
+use Rattle.hs_rose.specs.Programs.{roles_of, starts_of}
+use Rattle.hs_rose.specs.Wakes.{rest_of}
+use Rattle.hs_rose.specs.WordBits.{word_count}
 use Rattle.hs_run.specs.Events.{Takes}
 use Rattle.hs_run.specs.Running.{AreNoEnds}
 use Rattle.hs_run.specs.Feeding.{Feeds}
+use Rattle.hs_run.specs.Waking.{AreAtRest}
+use Rattle.hs_run.proofs.StateLemmas.{program-laid}
+use Rattle.hs_run.proofs.WakingLemmas.{at-rest-same}
 use Rattle.hs_run.proofs.FeedLemmas.{takes-none, takes-more}
 use Rattle.hs_run.proofs.runner.feed.Goals as goal
+
+pub wake-requires-clause-laid : goal.wake-requires-clause-laid
+wake-requires-clause-laid g c =
+    program-laid g.E.Engine.width c.args.program.now c.requires.runs c.roles.result.now c.starts.result.now c.roles.ensures c.starts.ensures
+    (length c.deref.result.now) (ap length c.deref.ensures.value ∙ c.requires.state.region)
+
+pub wake-requires-clause-rest : goal.wake-requires-clause-rest
+wake-requires-clause-rest g c =
+    ap length c.rest.ensures ∙ (c.requires.runs.wakes.rest ∙ (sym c.requires.state.region ∙ sym (ap length c.deref.ensures.value)))
+
+pub wake-requires-clause-room : goal.wake-requires-clause-room
+wake-requires-clause-room g c =
+    ap length c.deref_mut-2.ensures.value ∙ (c.requires.scratch.live ∙ (c.requires.runs.wakes.rows.count ∙ ap word_count (sym (ap length c.roles.ensures))))
 
 pub loop-place-init : goal.loop-place-init
 loop-place-init g c =
     let forgotten : (with_items c.args.scratch.now.ends c.forget.new.ends).items ≡ c.forget.new.ends = with_items_is c.args.scratch.now.ends c.forget.new.ends (c.forget.ensures.len ∙ c.deref_mut.ensures.len) in
-    let woken : (with_items c.args.scratch.now.waits c.wake.new.waits).items ≡ c.wake.new.waits = with_items_is c.args.scratch.now.waits c.wake.new.waits (c.wake.ensures.len ∙ c.deref_mut-2.ensures.len) in
+    let woken : (with_items c.args.scratch.now.live c.wake.new.live).items ≡ c.wake.new.live = with_items_is c.args.scratch.now.live c.wake.new.live (c.wake.ensures.len ∙ c.deref_mut-2.ensures.len) in
     record {
       state = c.requires.state;
       scratch = record {
         ends = ap length forgotten ∙ (c.forget.ensures.len ∙ (ap length c.deref_mut.ensures.value ∙ c.requires.scratch.ends));
-        waits = ap length woken ∙ (c.wake.ensures.len ∙ (ap length c.deref_mut-2.ensures.value ∙ c.requires.scratch.waits));
+        live = ap length woken ∙ (c.wake.ensures.len ∙ (ap length c.deref_mut-2.ensures.value ∙ c.requires.scratch.live));
       };
-      waiting = λ k to r role at j b above below at_j. absurd (omega (arith, c.wake.ensures.none k to (ap (λ ws. slice_get ws k) (sym woken) ∙ at), below));
+      rests =
+          subst (λ rs. AreAtRest (starts_of c.args.program.now) (length rs) c.args.state.now.region.items (rest_of c.args.program.now) (with_items c.args.scratch.now.live c.wake.new.live).items) c.roles.ensures
+          (at-rest-same (length c.roles.result.now) c.starts.result.now (starts_of c.args.program.now) c.deref.result.now c.args.state.now.region.items c.rest.result.now (rest_of c.args.program.now) c.wake.new.live (with_items c.args.scratch.now.live c.wake.new.live).items
+          c.starts.ensures c.deref.ensures.value c.rest.ensures (sym woken) c.wake.ensures.rest);
       offset = omega arith;
       ticks = omega arith;
       none = subst AreNoEnds (sym forgotten) c.forget.ensures.none;
@@ -36,7 +58,7 @@ loop-place-preserved g c =
       state = c.feed_byte-is_open.ensures.state;
       scratch = c.feed_byte-is_open.ensures.scratch;
       offset = omega (arith, c.feed_byte-is_open.ensures.offset, inv.offset);
-      waiting = c.feed_byte-is_open.ensures.waiting;
+      rests = c.feed_byte-is_open.ensures.rests;
       none = c.feed_byte-is_open.ensures.none;
       closed = c.feed_byte-is_open.ensures.closed;
       ticks = omega (arith, c.feed_byte-is_open.ensures.ticks, inv.ticks);
