@@ -8,4 +8,5 @@ pub mod EventLemmas
 pub mod ReportingLemmas
 pub mod StateLemmas
 pub mod FeedLemmas
+pub mod OverLemmas
 pub mod CollectLemmas

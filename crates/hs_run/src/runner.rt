@@ -1,5 +1,8 @@
-//! The runner: bytes to reports, byte by byte over all roles.
-ghost use Rattle.std.specs.Prelude.{◌≡◌, ◌+◌, ◌*◌, ◌<◌, ◌≤◌, ◌^◌, false, [], ◌∷◌, length};
+//! The runner: bytes to reports, byte by byte over the roles that are live or woken; bytes that change nothing are passed
+//! over at once.
+ghost use Rattle.std.specs.Prelude.{◌≡◌, ◌+◌, ◌*◌, ◌<◌, ◌≤◌, ◌^◌, false, [], ◌∷◌, length, slice_index, slice_range};
+ghost use Rattle.std.specs.Slice.Scan.{IsFirstPlace};
+ghost use Rattle.hs_base.specs.ByteSets.{has};
 ghost use Rattle.hs_rose.specs.Programs.{roles_of, starts_of};
 ghost use Rattle.hs_rose.specs.Wakes.{rest_of};
 ghost use Rattle.hs_run.specs.Events.{Takes};
@@ -16,9 +19,10 @@ use crate::roles::{end_roles, step_roles};
 use crate::scratch::Scratch;
 use crate::state::State;
 use crate::waking::wake;
-use hs_base::Prev;
+use hs_accel::next_in;
+use hs_base::{ByteSet, Prev};
 use hs_engine::{Engine, Steps};
-use hs_rose::Program;
+use hs_rose::{Program, is_unset};
 use std::sync::ledger::Ledger;
 
 /// Takes the next bytes of a stream, and reports what they decide, in the order in which they do. A step is counted for
@@ -50,7 +54,8 @@ pub fn feed<E: Engine, V: Events, L: Ledger>(
         &mut scratch.live,
     );
     let mut is_open = true;
-    for place in 0..bytes.len() {
+    let mut place = 0;
+    while place < bytes.len() {
         is_open = feed_byte(
             program,
             state,
@@ -60,6 +65,54 @@ pub fn feed<E: Engine, V: Events, L: Ledger>(
             events,
             steps,
         );
+        place = pass_over(program, state, &scratch.live, bytes, place + 1, is_open);
+    }
+}
+
+/// Passes over bytes from `place` on that change nothing but where the stream stands: where no role is live and no
+/// identifier is open, those before the next one that wakes a role. Answers the place of the next byte to take.
+fn pass_over<E: Engine>(
+    program: &Program<E>,
+    state: &mut State,
+    live: &[u64],
+    bytes: &[u8],
+    place: usize,
+    is_open: bool,
+) -> usize
+    requires runs { IsRunnable E.is_for E.field E.well E.enters_always E.width program.now }
+    requires state { FitsState E.well program.now state.old }
+    requires room { state.old.offset + length bytes.now < 2 ^ 63 + place }
+    requires place { place ≤ length bytes.now }
+    requires closed { is_open ≡ false → AreClosed state.old.kept.items }
+    requires rests { AreAtRest (starts_of program.now) (length (roles_of program.now)) state.old.region.items (rest_of program.now) live.now }
+    ensures low { place ≤ result }
+    ensures high { result ≤ length bytes.now }
+    ensures state { FitsState E.well program.now state.new }
+    ensures offset { state.new.offset + place ≡ state.old.offset + result }
+    ensures kept { state.new.kept ≡ state.old.kept }
+    ensures region { state.new.region ≡ state.old.region }
+    ensures passed { Feeds E.is_for E.field program.now state.old state.new (slice_range bytes.now place result) [] }
+{
+    if is_open || !is_unset(live) {
+        return place;
+    }
+    let next = next_waker(program.wakes().wakers(), bytes, place);
+    if next == place {
+        return place;
+    }
+    state.offset += (next - place) as u64;
+    state.prev = Prev::behind(bytes[next - 1]);
+    next
+}
+
+/// The place of the next byte from `place` on that wakes a role, or the end of the bytes.
+fn next_waker(wakers: &ByteSet, bytes: &[u8], place: usize) -> usize
+    requires { place ≤ length bytes.now }
+    ensures { IsFirstPlace (λ k. has wakers.now (slice_index bytes.now k)) place (length bytes.now) result }
+{
+    match next_in(wakers, bytes, place) {
+        Some(at) => at,
+        None => bytes.len(),
     }
 }
 

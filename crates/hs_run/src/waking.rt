@@ -1,5 +1,5 @@
 //! Which roles are gone through: those that are live, and those that a byte wakes.
-ghost use Rattle.std.specs.Prelude.{◌≡◌, ◌*◌, ◌<◌, ◌≤◌, ◌^◌, nat_lt, false, Some, None, if◌then◌else◌, length};
+ghost use Rattle.std.specs.Prelude.{◌≡◌, ◌*◌, ◌<◌, ◌≤◌, ◌^◌, nat_lt, true, false, Some, None, if◌then◌else◌, length};
 ghost use Rattle.hs_rose.specs.Regions.{IsLaid};
 ghost use Rattle.hs_rose.specs.WordBits.{word_count};
 ghost use Rattle.hs_run.specs.Waking.{AreAtRest, IsNextOf};
@@ -49,9 +49,10 @@ fn before(role: usize, count: usize) -> Option<usize>
     if role < count { Some(role) } else { None }
 }
 
-/// Whether the part of a role may be another than that of the empty stream.
+/// Whether the part of a role is another than that of the empty stream.
 pub fn is_live(part: &[u8], rest: &[u8]) -> bool
-    ensures { result ≡ false → part.now ≡ rest.now }
+    ensures same { result ≡ false → part.now ≡ rest.now }
+    ensures other { result ≡ true → part.now ≡ rest.now → ⊥ }
 {
     part != rest
 }

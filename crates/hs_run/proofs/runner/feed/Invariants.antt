@@ -1,4 +1,4 @@
-use Rattle.std.proofs.Common.{◌≡◌, ◌≤◌, false, ◌+◌, ◌*◌, length, take}
+use Rattle.std.proofs.Common.{◌≡◌, ◌≤◌, false, ◌+◌, ◌-◌, ◌*◌, length, take}
 use Rattle.hs_rose.specs.Programs.{roles_of, starts_of}
 use Rattle.hs_rose.specs.Wakes.{rest_of}
 use Rattle.hs_run.specs.Events.{Takes}
@@ -11,6 +11,7 @@ use Rattle.hs_run.proofs.runner.feed.Given as goal
 
 abbrev pub invariant-loop-place : goal.invariant-loop-place
 invariant-loop-place g l = record {
+  within : l.place ≤ length l.bytes;
   state : FitsState g.E.Engine.well l.program l.state;
   scratch : FitsScratch l.program l.scratch;
   offset : l.state.offset ≡ l.fn.state.offset + l.place;
@@ -20,3 +21,6 @@ invariant-loop-place g l = record {
   ticks : l.steps ≤ l.fn.steps + length (roles_of l.program) * l.place;
   taken : Takes g.V.Events.tells l.fn.events l.events (Feeds g.E.Engine.is_for g.E.Engine.field l.program l.fn.state l.state (take l.place l.bytes));
 }
+
+abbrev pub decreases-loop-place : goal.decreases-loop-place
+decreases-loop-place g l = length l.bytes - l.place

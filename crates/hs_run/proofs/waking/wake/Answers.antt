@@ -13,7 +13,7 @@ loop-k-preserved g c =
           elim (cases_eq j k) [
             | inl same ↦
                 let still : part_of c.args.starts.now c.args.region.now k ≡ part_of c.args.starts.now c.args.rest.now k =
-                c.is_live-live_now.ensures (sym c.put_bit.ensures.put ∙ (ap (has_word_bit c.put_bit.new.words) (sym same) ∙ unset)) in
+                c.is_live-live_now.ensures.same (sym c.put_bit.ensures.put ∙ (ap (has_word_bit c.put_bit.new.words) (sym same) ∙ unset)) in
                 ap (part_of c.args.starts.now c.args.region.now) same ∙ (still ∙ ap (part_of c.args.starts.now c.args.rest.now) (sym same))
             | inr apart ↦ c.loop-k.invariant.rest j (omega arith) (sym (c.put_bit.ensures.others j apart) ∙ unset)
           ];
