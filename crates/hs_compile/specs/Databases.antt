@@ -8,6 +8,8 @@ use Rattle.hs_glushkov.specs.PlainEngines.{automaton_of, width_of}
 use Rattle.hs_rose.specs.declared.program.Program.{Program}
 use Rattle.hs_rose.specs.Programs.{roles_of, identifiers_of, starts_of}
 use Rattle.hs_rose.specs.Roles.{AreRolesOf, AreStartsOf}
+use Rattle.hs_rose.specs.Wakes.{TellsWakes}
+use Rattle.hs_compile.specs.Engines.{Keeps, MayKeep, enters_always}
 use Rattle.hs_compile.specs.declared.database.Database.{Database}
 
 -- what a scan with it runs
@@ -22,7 +24,8 @@ digest_of database = database.digest
 abbrev pub IsEngineOf : Plain → Tree → Type 0
 IsEngineOf engine tree = Runs (automaton_of engine) tree
 
--- Its program has a role for each pattern, and says where the bytes of each lie.
+-- Its program has a role for each pattern, and says where the bytes of each lie, and which of them a byte wakes.
 pub record IsDatabaseOf (database : Database) (P : List Pattern) : Type 0 where
   pub roles : AreRolesOf IsEngineOf (roles_of (program_of database)) (identifiers_of (program_of database)) P
   pub starts : AreStartsOf width_of (roles_of (program_of database)) (starts_of (program_of database))
+  pub wakes : TellsWakes IsEngineOf Keeps MayKeep enters_always (program_of database)

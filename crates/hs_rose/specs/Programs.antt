@@ -1,9 +1,9 @@
 -- The tables of a program.
-use Rattle.std.specs.Prelude.{ℕ, ◌-◌, List, length}
-use Rattle.std.specs.List.{slice_index_or}
+use Rattle.std.specs.Prelude.{ℕ, List}
 use Rattle.hs_rose.specs.declared.program.Program.{Program}
 use Rattle.hs_rose.specs.declared.program.Role.{Role}
 use Rattle.hs_rose.specs.declared.program.Identifier.{Identifier}
+use Rattle.hs_rose.specs.Regions.{end_of}
 
 module _ {E : Type 0} where
   -- its roles
@@ -20,4 +20,4 @@ module _ {E : Type 0} where
 
 -- where the bytes of the last role end
 abbrev pub region_len_of : {E : Type 0} → Program E → ℕ
-region_len_of program = slice_index_or (starts_of program) (length (starts_of program) - 1) 0
+region_len_of program = end_of (starts_of program)

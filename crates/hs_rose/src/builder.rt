@@ -6,8 +6,11 @@ ghost use Rattle.hs_base.specs.Patterns.{Pattern};
 ghost use Rattle.hs_rose.specs.Building.{has_id, identifier_for, id_of, singles_of, sums_from, IsRoleFor};
 ghost use Rattle.hs_rose.specs.Programs.{roles_of, identifiers_of, starts_of, region_len_of};
 ghost use Rattle.hs_rose.specs.Roles.{AreExpressionsOf, AreRolesOf, AreStartsOf};
+ghost use Rattle.hs_rose.specs.Wakes.{TellsWakes};
 
 use crate::program::{Expression, Identifier, Program, Role};
+use crate::regions::rest_for;
+use crate::wakes::WakeRows;
 use hs_base::ExprId;
 use hs_engine::Engine;
 use std::alloc::{AllocError, Global};
@@ -21,16 +24,21 @@ impl<E: Engine + Drop> Program<E> {
             AreRolesOf E.is_for (roles_of program) (identifiers_of program) P) }
         ensures starts { IfOk result (λ program. AreStartsOf E.width (roles_of program) (starts_of program)) }
         ensures bounded { IfOk result (λ program. region_len_of program ≤ 2 ^ 56) }
+        ensures wakes { IfOk result (TellsWakes E.is_for E.field E.well E.enters_always) }
     {
         let ids = rising(all_ids(alloc, &expressions)?);
         let singles = rising(single_ids(alloc, &expressions)?);
         let identifiers = identifiers_for(alloc, &ids, &singles)?;
         let starts = starts_for(alloc, &expressions)?;
         let roles = roles_for(alloc, expressions, &ids)?;
+        let rest = rest_for(alloc, &roles, &starts)?;
+        let wakes = WakeRows::build(alloc, &roles, &starts, &rest)?;
         Ok(Program {
             roles,
             identifiers,
             starts,
+            rest,
+            wakes,
         })
     }
 }

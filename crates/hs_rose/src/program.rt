@@ -1,7 +1,10 @@
 //! What a scan runs, as tables.
 ghost use Rattle.std.specs.Prelude.{◌≡◌};
 ghost use Rattle.hs_rose.specs.Programs.{roles_of, identifiers_of, starts_of, region_len_of};
+ghost use Rattle.hs_rose.specs.Wakes.{rest_of, wakes_of};
 
+use crate::regions::region_len_for;
+use crate::wakes::WakeRows;
 use hs_base::{ExprId, Mask};
 
 /// An expression of a list, ready to run from the first byte of a stream.
@@ -54,6 +57,10 @@ pub struct Program<E> {
     pub(crate) identifiers: Vec<Identifier>,
     /// Where the bytes of each role begin in the region of a stream, and where those of the last one end.
     pub(crate) starts: Vec<usize>,
+    /// The bytes of the roles in the region of the empty stream.
+    pub(crate) rest: Vec<u8>,
+    /// Which roles a byte wakes from that.
+    pub(crate) wakes: WakeRows,
 }
 
 impl<E> Program<E> {
@@ -82,6 +89,20 @@ impl<E> Program<E> {
     pub fn region_len(&self) -> usize
         ensures { result ≡ region_len_of self.now }
     {
-        self.starts.last().copied().unwrap_or(0)
+        region_len_for(&self.starts)
+    }
+
+    /// The bytes of the roles in the region of the empty stream.
+    pub fn rest(&self) -> &[u8]
+        ensures { result.now ≡ rest_of self.now }
+    {
+        &self.rest
+    }
+
+    /// Which roles a byte wakes, where their bytes are those of the empty stream.
+    pub fn wakes(&self) -> &WakeRows
+        ensures { result.now ≡ wakes_of self.now }
+    {
+        &self.wakes
     }
 }

@@ -149,3 +149,23 @@ fn takes_a_list_of_65536_expressions(rt: HostRuntime) -> Result<(), Fail> {
     assert_eq!(rt; singles, 1);
     Ok(())
 }
+
+#[test]
+fn each_byte_has_a_bit_for_each_role_that_it_wakes(rt: HostRuntime) -> Result<(), Fail> {
+    let alloc = rt.alloc();
+    for (count, wanted) in [(64u32, [u64::MAX, 0]), (65, [u64::MAX, 1])] {
+        let mut rows = Vec::new(alloc);
+        for number in 0..count {
+            rows.push((number, 1, false))?;
+        }
+        let list = expressions(alloc, &rows)?;
+        assert!(rt; list.len() == 64 || list.len() == 65);
+        let program = Program::build(alloc, list)?;
+        let wakes = program.wakes();
+        for byte in [0, 10, 255] {
+            assert_eq!(rt; wakes.row(byte), &wanted[..wakes.row_len().min(2)]);
+            assert!(rt; wakes.wakers().contains(byte));
+        }
+    }
+    Ok(())
+}

@@ -29,7 +29,7 @@ use Rattle.hs_run.specs.Running.{IsAt, MovesRoles, EndsRoles, ends_of}
 use Rattle.hs_run.specs.Reporting.{values_of, pairs_at, pairs_about, AreSettled}
 use Rattle.hs_run.specs.Feeding.{Feeds, Finishes}
 use Rattle.hs_run.proofs.StreamLemmas.{length-push, prev-push}
-use Rattle.hs_run.proofs.PartLemmas.{there}
+use Rattle.hs_rose.proofs.PartLemmas.{there}
 use Rattle.hs_run.proofs.EventLemmas.{through-join}
 use Rattle.hs_run.proofs.ReportingLemmas.{id-at, tell-each}
 

@@ -1,10 +1,12 @@
 pub mod TruthLemmas
 pub mod StreamLemmas
 pub mod RoleLemmas
-pub mod PartLemmas
 pub mod AboutLemmas
+pub mod WakingLemmas
+pub mod StepLemmas
 pub mod EventLemmas
 pub mod ReportingLemmas
 pub mod StateLemmas
 pub mod FeedLemmas
+pub mod OverLemmas
 pub mod CollectLemmas

@@ -15,7 +15,7 @@ use Rattle.hs_run.specs.Running.{ends_of, no_ends, AreNoEnds}
 use Rattle.hs_run.specs.States.{kept_of}
 use Rattle.hs_run.specs.Events.{Through, still}
 use Rattle.hs_run.specs.Reporting.{tells, values_of, pairs_at, pairs_about, AreClosed, AreSettled}
-use Rattle.hs_run.proofs.PartLemmas.{there}
+use Rattle.hs_rose.proofs.PartLemmas.{there}
 
 -- what stands beyond a list, in the goals of a loop over it
 abbrev pub no_identifier : Identifier

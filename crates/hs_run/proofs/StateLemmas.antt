@@ -12,21 +12,25 @@ use Rattle.hs_rose.specs.declared.program.Program.{Program}
 use Rattle.hs_rose.specs.declared.program.Role.{Role}
 use Rattle.hs_rose.specs.Programs.{roles_of, identifiers_of, starts_of, region_len_of}
 use Rattle.hs_rose.specs.Roles.{AreStartsOf}
+use Rattle.hs_rose.specs.Wakes.{TellsWakes}
 use Rattle.hs_rose.proofs.RoleLemmas.{named}
 use Rattle.hs_run.specs.declared.state.State.{State}
 use Rattle.hs_run.specs.States.{IsRunnable, Runs, IsStateOf, kept_of, unkept, AreUnkept}
-use Rattle.hs_run.specs.Running.{IsLaid, AreNamed, AreStarted}
-use Rattle.hs_run.proofs.PartLemmas.{laid-starts}
+use Rattle.hs_run.specs.Running.{AreNamed}
+use Rattle.hs_rose.specs.Regions.{IsLaid, AreStarted}
+use Rattle.hs_rose.proofs.PartLemmas.{laid-starts}
 
 -- A program that runs some patterns can be run.
-pub runnable : {E : Type 0} (IsFor : E → Tree → Type 0) (width : E → ℕ) (program : Program E) (P : List Pattern) → Runs IsFor program P → AreStartsOf width (roles_of program) (starts_of program) → IsRunnable width program
-runnable IsFor width program P runs starts = record {
+pub runnable : {E : Type 0} (IsFor : E → Tree → Type 0) (Field : E → List ℕ → Tree → List ℕ → List Bool → Type 0) (Well : E → List ℕ → ℕ → Type 0) (always : E → Bool) (width : E → ℕ) (program : Program E) (P : List Pattern) →
+    Runs IsFor program P → AreStartsOf width (roles_of program) (starts_of program) → TellsWakes IsFor Field Well always program → IsRunnable IsFor Field Well always width program
+runnable IsFor Field Well always width program P runs starts wakes = record {
   starts = starts;
+  wakes = wakes;
   named = named IsFor (roles_of program) (identifiers_of program) P runs;
 }
 
-module _ {E : Type 0} (width : E → ℕ) (program : Program E) (runs : IsRunnable width program) (roles : List (Role E)) (starts : List ℕ)
-    (are_roles : roles ≡ roles_of program) (are_starts : starts ≡ starts_of program) where
+module _ {E : Type 0} {IsFor : E → Tree → Type 0} {Field : E → List ℕ → Tree → List ℕ → List Bool → Type 0} {Well : E → List ℕ → ℕ → Type 0} {always : E → Bool} (width : E → ℕ) (program : Program E) (runs : IsRunnable IsFor Field Well always width program)
+    (roles : List (Role E)) (starts : List ℕ) (are_roles : roles ≡ roles_of program) (are_starts : starts ≡ starts_of program) where
   pub program-laid : (len : ℕ) → len ≡ region_len_of program → IsLaid width roles starts len
   program-laid len whole =
       subst (λ rs. IsLaid width rs starts len) (sym are_roles)

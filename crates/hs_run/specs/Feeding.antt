@@ -4,7 +4,8 @@ use Rattle.hs_base.specs.Trees.{Tree}
 use Rattle.hs_base.specs.Patterns.{Pattern}
 use Rattle.hs_base.specs.Told.{Pair, IsTold, IsNew, IsLast}
 use Rattle.hs_rose.specs.declared.program.Program.{Program}
-use Rattle.hs_rose.specs.Programs.{identifiers_of, roles_of}
+use Rattle.hs_rose.specs.Programs.{identifiers_of}
+use Rattle.hs_rose.specs.Wakes.{row_len_of, wakes_of}
 use Rattle.hs_run.specs.declared.state.State.{State}
 use Rattle.hs_run.specs.declared.scratch.Scratch.{Scratch}
 use Rattle.hs_run.specs.States.{Runs, IsStateOf}
@@ -12,7 +13,7 @@ use Rattle.hs_run.specs.States.{Runs, IsStateOf}
 -- The scratch has the room that the program takes.
 pub record FitsScratch {E : Type 0} (program : Program E) (scratch : Scratch) : Type 0 where
   pub ends : length scratch.ends.items ≡ length (identifiers_of program)
-  pub waits : length scratch.waits.items ≡ length (roles_of program)
+  pub live : length scratch.live.items ≡ row_len_of (wakes_of program)
 
 module _ {E : Type 0} (IsFor : E → Tree → Type 0) (Field : E → List ℕ → Tree → List ℕ → List Bool → Type 0) (program : Program E) where
   -- The state is that of the stream u with the bytes behind it, and the pairs are the new reports of the bytes.

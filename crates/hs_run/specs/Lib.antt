@@ -4,3 +4,4 @@ pub mod Running
 pub mod Reporting
 pub mod Feeding
 pub mod Collecting
+pub mod Waking

@@ -16,7 +16,7 @@ use Rattle.hs_rose.specs.declared.program.Role.{Role}
 use Rattle.hs_rose.specs.declared.program.Identifier.{Identifier}
 use Rattle.hs_rose.specs.Roles.{AreRolesOf}
 use Rattle.hs_run.specs.declared.ends.Ends.{Ends as EndsAbout}
-use Rattle.hs_run.specs.States.{part_of}
+use Rattle.hs_rose.specs.Regions.{part_of}
 
 -- where matches of an identifier end about a byte, as plain data
 abbrev pub ends_of : EndsAbout → Ends
@@ -38,23 +38,6 @@ pub record IsAt (u : List ℕ) (prev : Prev) (at : ℕ) : Type 0 where
 -- the set has what may come next where matches of the pattern end behind the bytes u
 abbrev pub IsEndSet : Pattern → List ℕ → NextSet → Type 0
 IsEndSet x u set = (next : Next) → (has_next set next ≡ true) ↔ EndsHere x.id u next x
-
--- A role may be passed over with the byte b, where its bytes are these: none of its matches ends about the byte, and its
--- bytes stay.
-pub record IsPassed {E : Type 0} (IsFor : E → Tree → Type 0) (Field : E → List ℕ → Tree → List ℕ → List Bool → Type 0) (Well : E → List ℕ → ℕ → Type 0) (always : E → Bool) (r : Role E) (part : List ℕ) (b : ℕ) : Type 0 where
-  pub asleep : IsAsleep (IsFor r.engine) (Field r.engine part) (always r.engine) b
-  pub null : (c : Context) → has_context r.null c ≡ false
-  pub well : (at : ℕ) → Well r.engine part at → Well r.engine part (at + 1)
-
--- the role may be passed over with each of the bytes from the one place up to the other
-abbrev pub Waits : {E : Type 0} → (E → Tree → Type 0) → (E → List ℕ → Tree → List ℕ → List Bool → Type 0) → (E → List ℕ → ℕ → Type 0) → (E → Bool) → Role E → List ℕ → List ℕ → ℕ → ℕ → Type 0
-Waits {E} IsFor Field Well always r part bytes from to =
-    (j b : ℕ) → from ≤ j → j < to → slice_get bytes j ≡ Some b → IsPassed IsFor Field Well always r part b
-
--- each role up to the place that is noted of it
-abbrev pub AreWaiting : {E : Type 0} → (E → Tree → Type 0) → (E → List ℕ → Tree → List ℕ → List Bool → Type 0) → (E → List ℕ → ℕ → Type 0) → (E → Bool) → List (Role E) → List ℕ → List ℕ → List ℕ → ℕ → List ℕ → Type 0
-AreWaiting {E} IsFor Field Well always roles starts region bytes from waits =
-    (k to : ℕ) (r : Role E) → slice_get roles k ≡ Some r → slice_get waits k ≡ Some to → Waits IsFor Field Well always r (part_of starts region k) bytes from to
 
 -- The bytes of a role are the field of its pattern behind the byte too, and its matches about the byte were added to the
 -- ends of its identifier.
@@ -81,23 +64,11 @@ abbrev pub AreWide : {E : Type 0} → (E → ℕ) → List (Role E) → List ℕ
 AreWide {E} width roles starts region =
     (k : ℕ) (r : Role E) → slice_get roles k ≡ Some r → length (part_of starts region k) ≡ width r.engine
 
--- each part of the region may be a field of its role at the offset
-abbrev pub AreWell : {E : Type 0} → (E → List ℕ → ℕ → Type 0) → List (Role E) → List ℕ → List ℕ → ℕ → Type 0
-AreWell {E} Well roles starts region at =
-    (k : ℕ) (r : Role E) → slice_get roles k ≡ Some r → Well r.engine (part_of starts region k) at
-
 -- each part of the region is the field of its pattern behind the bytes u
 abbrev pub AreFields : {E : Type 0} → (E → List ℕ → Tree → List ℕ → List Bool → Type 0) → List (Role E) → List ℕ → List ℕ → List Pattern → List ℕ → Type 0
 AreFields {E} Field roles starts region P u =
     (k : ℕ) (r : Role E) (x : Pattern) →
     slice_get roles k ≡ Some r → slice_get P k ≡ Some x → Field r.engine (part_of starts region k) x.tree u (entered_always u)
-
--- The parts of a region of that length lie where the starts say, each with the length that its role wants.
-pub record IsLaid {E : Type 0} (width : E → ℕ) (roles : List (Role E)) (starts : List ℕ) (len : ℕ) : Type 0 where
-  pub count : length starts ≡ length roles + 1
-  pub rising : (k : ℕ) → k < length roles → slice_index starts k ≤ slice_index starts (k + 1)
-  pub within : (k : ℕ) → k < length starts → slice_index starts k ≤ len
-  pub next : (k : ℕ) (r : Role E) → slice_get roles k ≡ Some r → slice_index starts (k + 1) ≡ slice_index starts k + width r.engine
 
 -- each role names an identifier, of that many
 abbrev pub AreNamed : {E : Type 0} → List (Role E) → ℕ → Type 0
@@ -119,8 +90,3 @@ abbrev pub EndsRoles : {E : Type 0} → (E → Tree → Type 0) → (E → List 
 EndsRoles {E} IsFor Field roles starts region prev at ends =
     (P : List Pattern) (identifiers : List Identifier) (u : List ℕ) → AreRolesOf IsFor roles identifiers P →
     IsAt u prev at → AreFields Field roles starts region P u → AreLastEnds P u identifiers ends
-
--- each part of the region is the field of the empty stream
-abbrev pub AreStarted : {E : Type 0} → (E → Tree → Type 0) → (E → List ℕ → Tree → List ℕ → List Bool → Type 0) → List (Role E) → List ℕ → List ℕ → Type 0
-AreStarted {E} IsFor Field roles starts region =
-    (k : ℕ) (r : Role E) (tree : Tree) → slice_get roles k ≡ Some r → IsFor r.engine tree → Field r.engine (part_of starts region k) tree [] []

@@ -10,6 +10,8 @@ use Rattle.hs_rose.specs.declared.program.Role.{Role}
 use Rattle.hs_rose.specs.declared.program.Identifier.{Identifier}
 use Rattle.hs_rose.specs.Programs.{roles_of, identifiers_of, starts_of, region_len_of}
 use Rattle.hs_rose.specs.Roles.{AreRolesOf, AreStartsOf}
+use Rattle.hs_rose.specs.Regions.{part_of}
+use Rattle.hs_rose.specs.Wakes.{TellsWakes}
 use Rattle.hs_run.specs.declared.state.State.{State}
 use Rattle.hs_run.specs.declared.state.Kept.{Kept as KeptOf}
 
@@ -29,14 +31,12 @@ AreUnkept kept = (i : ℕ) (k : KeptOf) → slice_get kept i ≡ Some k → k �
 abbrev pub offset_of : State → ℕ
 offset_of state = state.offset
 
--- the bytes of a role in the region of a stream
-abbrev pub part_of : List ℕ → List ℕ → ℕ → List ℕ
-part_of starts region k = slice_range region (slice_index starts k) (slice_index starts (k + 1))
-
--- A program that can be run: the bytes of its roles lie where it says, and each role names an identifier.
-pub record IsRunnable {E : Type 0} (width : E → ℕ) (program : Program E) : Type 0 where
+-- A program that can be run: the bytes of its roles lie where it says, each role names an identifier, and it is told which
+-- roles a byte wakes.
+pub record IsRunnable {E : Type 0} (IsFor : E → Tree → Type 0) (Field : E → List ℕ → Tree → List ℕ → List Bool → Type 0) (Well : E → List ℕ → ℕ → Type 0) (always : E → Bool) (width : E → ℕ) (program : Program E) : Type 0 where
   pub starts : AreStartsOf width (roles_of program) (starts_of program)
   pub named : (k : ℕ) (r : Role E) → slice_get (roles_of program) k ≡ Some r → r.identifier < length (identifiers_of program)
+  pub wakes : TellsWakes IsFor Field Well always program
 
 -- The program runs these patterns.
 abbrev pub Runs : {E : Type 0} → (E → Tree → Type 0) → Program E → List Pattern → Type 0

@@ -231,7 +231,7 @@ fn feed_pieces<E: Engine, L: Ledger>(
     told: &mut Collected,
     steps: &mut Steps<L>,
 )
-    requires runs { IsRunnable E.width program.now }
+    requires runs { IsRunnable E.is_for E.field E.well E.enters_always E.width program.now }
     requires state { FitsState E.well program.now state.old }
     requires scratch { FitsScratch program.now scratch.old }
     ensures state { FitsState E.well program.now state.new }
@@ -261,7 +261,7 @@ fn compare_cut<E: Engine, L: Ledger>(
     wanted: &MatchReports,
     steps: &mut Steps<L>,
 ) -> Result<(), Fail>
-    requires { IsRunnable E.width program.now }
+    requires { IsRunnable E.is_for E.field E.well E.enters_always E.width program.now }
 {
     let mut state = State::new(alloc, program)?;
     let mut scratch = Scratch::new(alloc, program)?;
@@ -300,7 +300,7 @@ fn compare_text<E: Engine, L: Ledger>(
     text: &[u8],
     steps: &mut Steps<L>,
 ) -> Result<(), Fail>
-    requires { IsRunnable E.width program.now }
+    requires { IsRunnable E.is_for E.field E.well E.enters_always E.width program.now }
 {
     let wanted = match_reports(alloc, patterns, text)?;
     for cuts in 0..CUTS {
@@ -317,7 +317,7 @@ fn compare_texts<E: Engine, L: Ledger>(
     texts: &[Vec<u8>],
     blank: Blank,
 ) -> Result<(), Fail>
-    requires runs { IsRunnable E.width program.now }
+    requires runs { IsRunnable E.is_for E.field E.well E.enters_always E.width program.now }
     requires name { blank.name ≡ L.name }
     requires parts { blank.parts ≡ L.parts }
     requires some { 0 < L.parts }

@@ -13,6 +13,7 @@ mod scratch;
 mod state;
 #[cfg(test)]
 mod tests;
+mod waking;
 
 pub use collected::Collected;
 pub use events::Events;

@@ -1,18 +1,23 @@
-//! The roles of a program over one byte: their engines move, and where their matches end is noted.
-ghost use Rattle.std.specs.Prelude.{◌≡◌, ℕ, ◌+◌, ◌<◌, ◌≤◌, ◌^◌, ◌↔◌, ◌⊎◌, true, false, IsTrue, [], ◌∷◌, ◌++◌, List, length, Some, slice_get, slice_index};
+//! The roles of a program over one byte: the engines of those that are live or woken move, and where their matches end is
+//! noted.
+ghost use Rattle.std.specs.Prelude.{◌≡◌, ℕ, ◌+◌, ◌*◌, ◌<◌, ◌≤◌, ◌^◌, ◌↔◌, ◌⊎◌, true, false, IsTrue, List, length};
 ghost use Rattle.hs_base.specs.declared.context.Next.TheVariants as after;
 ghost use Rattle.hs_base.specs.Fields.{entered_always};
 ghost use Rattle.hs_base.specs.Patterns.{Pattern};
-ghost use Rattle.hs_base.specs.Trees.{Tree};
 ghost use Rattle.hs_base.specs.Settling.{EndsHere};
 ghost use Rattle.hs_rose.specs.declared.program.Identifier.{Identifier};
 ghost use Rattle.hs_rose.specs.Roles.{IsRoleOf};
-ghost use Rattle.hs_run.specs.Running.{IsAt, IsEndSet, AreWell, IsMoved, IsLaid, AreNamed, AreNoEnds, AreWaiting, IsPassed, Waits, MovesRoles, EndsRoles, AreStarted, ends_of};
+ghost use Rattle.hs_run.specs.Running.{IsAt, IsEndSet, IsMoved, AreNamed, AreNoEnds, MovesRoles, EndsRoles, ends_of};
+ghost use Rattle.hs_rose.specs.Passing.{ArePassed};
+ghost use Rattle.hs_rose.specs.WordBits.{has_word_bit, word_count};
+ghost use Rattle.hs_run.specs.Waking.{AreAtRest};
+ghost use Rattle.hs_rose.specs.Regions.{AreWell, IsLaid};
 
 use crate::ends::{Ends, forget};
-use hs_base::{Mask, Next, NextSet, Prev};
+use crate::waking::{is_live, next_role};
+use hs_base::{NextSet, Prev};
 use hs_engine::{Engine, Steps};
-use hs_rose::Role;
+use hs_rose::{Role, put_bit};
 use std::sync::ledger::Ledger;
 
 /// What may come next where matches of the role's expression end at the offset `at`.
@@ -26,48 +31,6 @@ fn ends_at<E: Engine>(role: &Role<E>, part: &[u8], prev: Prev, at: u64) -> NextS
         return NextSet::empty();
     }
     role.engine.out(part, prev, at).union(role.null.row(prev))
-}
-
-/// Whether the byte may be passed over for the role: no match of it ends before the byte nor behind it, and its bytes stay
-/// as they are.
-fn passes<E: Engine>(role: &Role<E>, part: &[u8], byte: u8) -> bool
-    requires { length part.now ≡ E.width role.now.engine }
-    ensures { IsTrue result → IsPassed E.is_for E.field E.well E.enters_always role.now part.now byte }
-{
-    role.null == Mask::empty() && role.engine.sleeps(part, byte)
-}
-
-/// A place of the bytes, from the one at `from` on, up to which all may be passed over for the role.
-fn waits_until<E: Engine>(role: &Role<E>, part: &[u8], bytes: &[u8], from: usize) -> usize
-    requires { length part.now ≡ E.width role.now.engine }
-    ensures { Waits E.is_for E.field E.well E.enters_always role.now part.now bytes.now from result }
-{
-    for place in from..bytes.len() {
-        if !passes(role, part, bytes[place]) {
-            return place;
-        }
-    }
-    bytes.len()
-}
-
-/// Up to which place all bytes from the one at `place` on may be passed over for the role, if up to `until` they may: it is
-/// looked at again where nothing more is known of it.
-fn waits_again<E: Engine>(
-    role: &Role<E>,
-    part: &[u8],
-    bytes: &[u8],
-    place: usize,
-    until: usize,
-) -> usize
-    requires len { length part.now ≡ E.width role.now.engine }
-    requires waits { Waits E.is_for E.field E.well E.enters_always role.now part.now bytes.now place until }
-    ensures { Waits E.is_for E.field E.well E.enters_always role.now part.now bytes.now place result }
-{
-    if until <= place {
-        waits_until(role, part, bytes, place)
-    } else {
-        until
-    }
 }
 
 /// Takes a byte for one role, and notes where its matches end about it. Answers whether one does.
@@ -98,85 +61,92 @@ fn move_role<E: Engine, L: Ledger>(
     ends.note(byte, before, behind)
 }
 
-/// Takes the byte at `place` for one role, and notes where its matches end about it. Answers whether one does. A role that
-/// sleeps over the byte is passed over; up to which place it may be is kept in `until`.
+/// Takes a byte for the role of that number, notes where its matches end about it, and whether the role is live behind it.
+/// Answers whether a match ends.
 fn step_role<E: Engine, L: Ledger>(
     role: &Role<E>,
+    k: usize,
     part: &mut [u8],
+    rest: &[u8],
     prev: Prev,
     at: u64,
-    bytes: &[u8],
-    place: usize,
-    until: &mut usize,
+    byte: u8,
+    live: &mut [u64],
     ends: &mut Ends,
     steps: &mut Steps<L>,
 ) -> bool
     requires len { length part.old ≡ E.width role.now.engine }
     requires well { E.well role.now.engine part.old at }
     requires room { at < 2 ^ 63 }
-    requires place { place < length bytes.now }
-    requires waits { Waits E.is_for E.field E.well E.enters_always role.now part.old bytes.now place until.old }
+    requires bit { k < 64 * length live.old }
     ensures len { length part.new ≡ E.width role.now.engine }
     ensures well { E.well role.now.engine part.new (at + 1) }
-    ensures ticks { steps.new ≤ steps.old + 1 }
-    ensures waits { Waits E.is_for E.field E.well E.enters_always role.now part.new bytes.now (place + 1) until.new }
+    ensures ticks { steps.new ≡ steps.old + 1 }
+    ensures live { length live.new ≡ length live.old }
+    ensures others { (j : ℕ) → (j ≡ k → ⊥) → has_word_bit live.new j ≡ has_word_bit live.old j }
+    ensures rests { has_word_bit live.new k ≡ false → part.new ≡ rest.now }
     ensures noted { result ≡ false → ends.new ≡ ends.old }
     ensures moves { (identifiers : List Identifier) (x : Pattern) (u : List ℕ) → IsRoleOf E.is_for identifiers role.now x →
         IsAt u prev at → E.field role.now.engine part.old x.tree u (entered_always u) →
-        IsMoved (E.field role.now.engine part.new) x u (slice_index bytes.now place) (ends_of ends.old) (ends_of ends.new) }
+        IsMoved (E.field role.now.engine part.new) x u byte (ends_of ends.old) (ends_of ends.new) }
 {
-    *until = waits_again(role, part, bytes, place, *until);
-    if place < *until {
-        return false;
-    }
-    move_role(role, part, prev, at, bytes[place], ends, steps)
+    let noted = move_role(role, part, prev, at, byte, ends, steps);
+    put_bit(live, k, is_live(part, rest));
+    noted
 }
 
-/// Takes the byte at `place` for every role, and notes where matches of each identifier end about it. Answers whether one
-/// does.
+/// Takes a byte for every role that is live or that the row of the byte wakes, and notes where matches of each identifier
+/// end about it. Answers whether one does. All other roles may be passed over.
 pub fn step_roles<E: Engine, L: Ledger>(
     roles: &[Role<E>],
     starts: &[usize],
+    rest: &[u8],
+    row: &[u64],
     region: &mut [u8],
     prev: Prev,
     at: u64,
-    bytes: &[u8],
-    place: usize,
-    waits: &mut [usize],
+    byte: u8,
+    live: &mut [u64],
     ends: &mut [Ends],
     steps: &mut Steps<L>,
 ) -> bool
+    requires few { length roles.now < 2 ^ 32 }
     requires laid { IsLaid E.width roles.now starts.now (length region.old) }
+    requires resting { length rest.now ≡ length region.old }
     requires named { AreNamed roles.now (length ends.old) }
     requires well { AreWell E.well roles.now starts.now region.old at }
     requires room { at < 2 ^ 63 }
-    requires place { place < length bytes.now }
     requires none { AreNoEnds ends.old }
-    requires count { length waits.old ≡ length roles.now }
-    requires waiting { AreWaiting E.is_for E.field E.well E.enters_always roles.now starts.now region.old bytes.now place waits.old }
+    requires live { length live.old ≡ word_count (length roles.now) }
+    requires row { length row.now ≡ word_count (length roles.now) }
+    requires rests { AreAtRest starts.now (length roles.now) region.old rest.now live.old }
+    requires passed { ArePassed E.is_for E.field E.well E.enters_always roles.now starts.now rest.now row.now byte }
     ensures len { length region.new ≡ length region.old }
     ensures ends { length ends.new ≡ length ends.old }
+    ensures live { length live.new ≡ length live.old }
     ensures well { AreWell E.well roles.now starts.now region.new (at + 1) }
     ensures ticks { steps.new ≤ steps.old + length roles.now }
-    ensures count { length waits.new ≡ length waits.old }
-    ensures waiting { AreWaiting E.is_for E.field E.well E.enters_always roles.now starts.now region.new bytes.now (place + 1) waits.new }
+    ensures rests { AreAtRest starts.now (length roles.now) region.new rest.now live.new }
     ensures noted { result ≡ false → AreNoEnds ends.new }
-    ensures moves { MovesRoles E.is_for E.field roles.now starts.now region.old region.new prev at (slice_index bytes.now place) ends.new }
+    ensures moves { MovesRoles E.is_for E.field roles.now starts.now region.old region.new prev at byte ends.new }
 {
     let mut noted = false;
-    for k in 0..roles.len() {
+    let mut from = 0;
+    while let Some(k) = next_role(live, row, from, roles.len()) {
         let role = &roles[k];
         noted |= step_role(
             role,
+            k,
             &mut region[starts[k]..starts[k + 1]],
+            &rest[starts[k]..starts[k + 1]],
             prev,
             at,
-            bytes,
-            place,
-            &mut waits[k],
+            byte,
+            live,
             &mut ends[role.identifier],
             steps,
         );
+        from = k + 1;
     }
     noted
 }
@@ -218,28 +188,6 @@ pub fn end_roles<E: Engine>(
             at,
             &mut ends[role.identifier],
         );
-    }
-}
-
-/// Makes the part of a role that of the empty stream.
-fn clear_role<E: Engine>(role: &Role<E>, part: &mut [u8])
-    requires { length part.old ≡ E.width role.now.engine }
-    ensures len { length part.new ≡ E.width role.now.engine }
-    ensures well { E.well role.now.engine part.new 0 }
-    ensures starts { (tree : Tree) → E.is_for role.now.engine tree → E.field role.now.engine part.new tree [] [] }
-{
-    role.engine.clear(part);
-}
-
-/// Makes the part of each role that of the empty stream.
-pub fn clear_roles<E: Engine>(roles: &[Role<E>], starts: &[usize], region: &mut [u8])
-    requires { IsLaid E.width roles.now starts.now (length region.old) }
-    ensures len { length region.new ≡ length region.old }
-    ensures well { AreWell E.well roles.now starts.now region.new 0 }
-    ensures starts { AreStarted E.is_for E.field roles.now starts.now region.new }
-{
-    for k in 0..roles.len() {
-        clear_role(&roles[k], &mut region[starts[k]..starts[k + 1]]);
     }
 }
 

@@ -1,11 +1,16 @@
-//! The runner: bytes to reports, byte by byte over all roles.
-ghost use Rattle.std.specs.Prelude.{◌≡◌, ℕ, ◌+◌, ◌*◌, ◌<◌, ◌≤◌, ◌^◌, false, [], ◌∷◌, length, Some, slice_get, slice_index};
+//! The runner: bytes to reports, byte by byte over the roles that are live or woken; bytes that change nothing are passed
+//! over at once.
+ghost use Rattle.std.specs.Prelude.{◌≡◌, ◌+◌, ◌*◌, ◌<◌, ◌≤◌, ◌^◌, false, [], ◌∷◌, length, slice_index, slice_range};
+ghost use Rattle.std.specs.Slice.Scan.{IsFirstPlace};
+ghost use Rattle.hs_base.specs.ByteSets.{has};
 ghost use Rattle.hs_rose.specs.Programs.{roles_of, starts_of};
+ghost use Rattle.hs_rose.specs.Wakes.{rest_of};
 ghost use Rattle.hs_run.specs.Events.{Takes};
 ghost use Rattle.hs_run.specs.Reporting.{AreClosed};
-ghost use Rattle.hs_run.specs.Running.{AreNoEnds, AreWaiting};
+ghost use Rattle.hs_run.specs.Running.{AreNoEnds};
 ghost use Rattle.hs_run.specs.States.{IsRunnable, FitsState};
 ghost use Rattle.hs_run.specs.Feeding.{FitsScratch, Feeds, Finishes};
+ghost use Rattle.hs_run.specs.Waking.{AreAtRest};
 
 use crate::ends::forget;
 use crate::events::Events;
@@ -13,9 +18,11 @@ use crate::reporting::{Moment, report, settle_byte};
 use crate::roles::{end_roles, step_roles};
 use crate::scratch::Scratch;
 use crate::state::State;
-use hs_base::Prev;
+use crate::waking::wake;
+use hs_accel::next_in;
+use hs_base::{ByteSet, Prev};
 use hs_engine::{Engine, Steps};
-use hs_rose::Program;
+use hs_rose::{Program, is_unset};
 use std::sync::ledger::Ledger;
 
 /// Takes the next bytes of a stream, and reports what they decide, in the order in which they do. A step is counted for
@@ -28,7 +35,7 @@ pub fn feed<E: Engine, V: Events, L: Ledger>(
     events: &mut V,
     steps: &mut Steps<L>,
 )
-    requires runs { IsRunnable E.width program.now }
+    requires runs { IsRunnable E.is_for E.field E.well E.enters_always E.width program.now }
     requires state { FitsState E.well program.now state.old }
     requires scratch { FitsScratch program.now scratch.old }
     requires room { state.old.offset + length bytes.now < 2 ^ 63 }
@@ -39,65 +46,114 @@ pub fn feed<E: Engine, V: Events, L: Ledger>(
     ensures taken { Takes V.tells events.old events.new (Feeds E.is_for E.field program.now state.old state.new bytes.now) }
 {
     forget(&mut scratch.ends);
-    wake(&mut scratch.waits);
+    wake(
+        program.roles(),
+        program.starts(),
+        program.rest(),
+        &state.region,
+        &mut scratch.live,
+    );
     let mut is_open = true;
-    for place in 0..bytes.len() {
+    let mut place = 0;
+    while place < bytes.len() {
         is_open = feed_byte(
-            program, state, scratch, bytes, place, is_open, events, steps,
+            program,
+            state,
+            scratch,
+            bytes[place],
+            is_open,
+            events,
+            steps,
         );
+        place = pass_over(program, state, &scratch.live, bytes, place + 1, is_open);
     }
 }
 
-/// Notes of each role that nothing is known of where it sleeps.
-fn wake(waits: &mut [usize])
-    ensures len { length waits.new ≡ length waits.old }
-    ensures none { (k to : ℕ) → slice_get waits.new k ≡ Some to → to ≡ 0 }
+/// Passes over bytes from `place` on that change nothing but where the stream stands: where no role is live and no
+/// identifier is open, those before the next one that wakes a role. Answers the place of the next byte to take.
+fn pass_over<E: Engine>(
+    program: &Program<E>,
+    state: &mut State,
+    live: &[u64],
+    bytes: &[u8],
+    place: usize,
+    is_open: bool,
+) -> usize
+    requires runs { IsRunnable E.is_for E.field E.well E.enters_always E.width program.now }
+    requires state { FitsState E.well program.now state.old }
+    requires room { state.old.offset + length bytes.now < 2 ^ 63 + place }
+    requires place { place ≤ length bytes.now }
+    requires closed { is_open ≡ false → AreClosed state.old.kept.items }
+    requires rests { AreAtRest (starts_of program.now) (length (roles_of program.now)) state.old.region.items (rest_of program.now) live.now }
+    ensures low { place ≤ result }
+    ensures high { result ≤ length bytes.now }
+    ensures state { FitsState E.well program.now state.new }
+    ensures offset { state.new.offset + place ≡ state.old.offset + result }
+    ensures kept { state.new.kept ≡ state.old.kept }
+    ensures region { state.new.region ≡ state.old.region }
+    ensures passed { Feeds E.is_for E.field program.now state.old state.new (slice_range bytes.now place result) [] }
 {
-    for one in waits.iter_mut() {
-        *one = 0;
+    if is_open || !is_unset(live) {
+        return place;
+    }
+    let next = next_waker(program.wakes().wakers(), bytes, place);
+    if next == place {
+        return place;
+    }
+    state.offset += (next - place) as u64;
+    state.prev = Prev::behind(bytes[next - 1]);
+    next
+}
+
+/// The place of the next byte from `place` on that wakes a role, or the end of the bytes.
+fn next_waker(wakers: &ByteSet, bytes: &[u8], place: usize) -> usize
+    requires { place ≤ length bytes.now }
+    ensures { IsFirstPlace (λ k. has wakers.now (slice_index bytes.now k)) place (length bytes.now) result }
+{
+    match next_in(wakers, bytes, place) {
+        Some(at) => at,
+        None => bytes.len(),
     }
 }
 
-/// Takes the byte of a stream at `place`, and reports what it decides. No end is noted in the scratch before nor behind it.
-/// Something else may be kept of an identifier than that a pair of it is told only if `is_open`; answers whether behind the
+/// Takes a byte of a stream, and reports what it decides. No end is noted in the scratch before nor behind it. Something else may be kept of an identifier than that a pair of it is told only if `is_open`; answers whether behind the
 /// byte.
 fn feed_byte<E: Engine, V: Events, L: Ledger>(
     program: &Program<E>,
     state: &mut State,
     scratch: &mut Scratch,
-    bytes: &[u8],
-    place: usize,
+    byte: u8,
     is_open: bool,
     events: &mut V,
     steps: &mut Steps<L>,
 ) -> bool
-    requires runs { IsRunnable E.width program.now }
+    requires runs { IsRunnable E.is_for E.field E.well E.enters_always E.width program.now }
     requires state { FitsState E.well program.now state.old }
     requires scratch { FitsScratch program.now scratch.old }
     requires room { state.old.offset + 1 < 2 ^ 63 }
-    requires place { place < length bytes.now }
     requires none { AreNoEnds scratch.old.ends.items }
     requires closed { is_open ≡ false → AreClosed state.old.kept.items }
-    requires waiting { AreWaiting E.is_for E.field E.well E.enters_always (roles_of program.now) (starts_of program.now) state.old.region.items bytes.now place scratch.old.waits.items }
+    requires rests { AreAtRest (starts_of program.now) (length (roles_of program.now)) state.old.region.items (rest_of program.now) scratch.old.live.items }
     ensures state { FitsState E.well program.now state.new }
     ensures scratch { FitsScratch program.now scratch.new }
     ensures offset { state.new.offset ≡ state.old.offset + 1 }
     ensures none { AreNoEnds scratch.new.ends.items }
     ensures closed { result ≡ false → AreClosed state.new.kept.items }
-    ensures waiting { AreWaiting E.is_for E.field E.well E.enters_always (roles_of program.now) (starts_of program.now) state.new.region.items bytes.now (place + 1) scratch.new.waits.items }
+    ensures rests { AreAtRest (starts_of program.now) (length (roles_of program.now)) state.new.region.items (rest_of program.now) scratch.new.live.items }
     ensures ticks { steps.new ≤ steps.old + length (roles_of program.now) }
-    ensures taken { Takes V.tells events.old events.new (Feeds E.is_for E.field program.now state.old state.new (slice_index bytes.now place ∷ [])) }
+    ensures taken { Takes V.tells events.old events.new (Feeds E.is_for E.field program.now state.old state.new (byte ∷ [])) }
 {
     let at = state.offset;
     let noted = step_roles(
         program.roles(),
         program.starts(),
+        program.rest(),
+        program.wakes().row(byte),
         &mut state.region,
         state.prev,
         at,
-        bytes,
-        place,
-        &mut scratch.waits,
+        byte,
+        &mut scratch.live,
         &mut scratch.ends,
         steps,
     );
@@ -109,7 +165,7 @@ fn feed_byte<E: Engine, V: Events, L: Ledger>(
         at,
         events,
     );
-    state.prev = Prev::behind(bytes[place]);
+    state.prev = Prev::behind(byte);
     state.offset = at + 1;
     noted
 }
@@ -121,7 +177,7 @@ pub fn finish<E: Engine, V: Events>(
     scratch: &mut Scratch,
     events: &mut V,
 )
-    requires runs { IsRunnable E.width program.now }
+    requires runs { IsRunnable E.is_for E.field E.well E.enters_always E.width program.now }
     requires state { FitsState E.well program.now state.now }
     requires scratch { FitsScratch program.now scratch.old }
     ensures scratch { FitsScratch program.now scratch.new }

@@ -11,8 +11,8 @@ use std::alloc::{AllocError, Global};
 pub struct Scratch {
     /// Where matches of each identifier end.
     pub(crate) ends: Vec<Ends>,
-    /// Up to which place of the bytes of a call each role sleeps, as far as it was looked at.
-    pub(crate) waits: Vec<usize>,
+    /// A bit for each role, set where its part of the region may be another than that of the empty stream.
+    pub(crate) live: Vec<u64>,
 }
 
 impl Scratch {
@@ -23,14 +23,15 @@ impl Scratch {
         ensures { IfOk result (λ scratch. FitsScratch program.now scratch) }
     {
         let ends = vec![in alloc; Ends::none(); program.identifiers().len()]?;
-        let waits = vec![in alloc; 0usize; program.roles().len()]?;
-        Ok(Scratch { ends, waits })
+        let live = vec![in alloc; 0u64; program.wakes().row_len()]?;
+        Ok(Scratch { ends, live })
     }
 
     /// Whether the scratch serves the program.
     pub fn fits<E>(&self, program: &Program<E>) -> bool
         ensures { IsTrue result ↔ FitsScratch program.now self.now }
     {
-        self.ends.len() == program.identifiers().len() && self.waits.len() == program.roles().len()
+        self.ends.len() == program.identifiers().len()
+            && self.live.len() == program.wakes().row_len()
     }
 }

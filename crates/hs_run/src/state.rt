@@ -3,10 +3,10 @@ ghost use Rattle.std.specs.Prelude.{◌≡◌, ◌↔◌, List, [], length, IsTr
 ghost use Rattle.hs_base.specs.Patterns.{Pattern};
 ghost use Rattle.hs_run.specs.States.{AreUnkept};
 
-use crate::roles::{are_well, clear_roles};
+use crate::roles::are_well;
 use hs_base::Prev;
 use hs_engine::Engine;
-use hs_rose::Program;
+use hs_rose::{Program, clear_roles};
 use std::alloc::{AllocError, Global};
 
 /// What is kept of an identifier.
@@ -47,7 +47,7 @@ impl State {
 
     /// The state of a stream of which no byte has come.
     pub fn new<E: Engine>(alloc: Global, program: &Program<E>) -> Result<State, AllocError>
-        requires { IsRunnable E.width program.now }
+        requires { IsRunnable E.is_for E.field E.well E.enters_always E.width program.now }
         ensures offset { IfOk result (λ state. state.offset ≡ 0) }
         ensures fits { IfOk result (λ state. FitsState E.well program.now state) }
         ensures start { IfOk result (λ state. (P : List Pattern) → Runs E.is_for program.now P → IsStateOf E.field program.now P [] state) }
@@ -72,7 +72,7 @@ impl State {
 
     /// Whether the state has the room that the program takes, and its bytes may be those of engines at its offset.
     pub fn fits<E: Engine>(&self, program: &Program<E>) -> bool
-        requires { IsRunnable E.width program.now }
+        requires { IsRunnable E.is_for E.field E.well E.enters_always E.width program.now }
         ensures { IsTrue result ↔ FitsState E.well program.now self.now }
     {
         if self.kept.len() != program.identifiers().len() {
@@ -86,7 +86,7 @@ impl State {
 
     /// Makes it the state of a stream of which no byte has come. It takes no memory.
     pub fn clear<E: Engine>(&mut self, program: &Program<E>)
-        requires runs { IsRunnable E.width program.now }
+        requires runs { IsRunnable E.is_for E.field E.well E.enters_always E.width program.now }
         requires fits { FitsState E.well program.now self.old }
         ensures offset { self.new.offset ≡ 0 }
         ensures fits { FitsState E.well program.now self.new }

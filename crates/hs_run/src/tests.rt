@@ -142,7 +142,7 @@ fn scan<E: Engine, L: Ledger>(
     second: &[u8],
     blank: Blank,
 ) -> Result<(Collected, Collected), Fail>
-    requires runs { IsRunnable E.width program.now }
+    requires runs { IsRunnable E.is_for E.field E.well E.enters_always E.width program.now }
     requires first { length first.now < 2 ^ 62 }
     requires second { length second.now < 2 ^ 62 }
     requires name { blank.name ≡ L.name }
@@ -186,7 +186,7 @@ fn scan_list(
     requires second { length second.now < 2 ^ 62 }
 {
     let expressions = expressions_of(alloc, entries)?;
-    assert!(rt; expressions.len() < 100);
+    assert!(rt; expressions.len() < 1000);
     let program = Program::build(alloc, expressions)?;
     assert!(rt; are_named(program.roles(), program.identifiers().len()));
     scan::<Plain, Brand>(alloc, &program, first, second, Blank::new(1))
@@ -457,6 +457,80 @@ fn reports_are_as_defined(rt: HostRuntime) -> Result<(), Fail> {
             assert!(rt; text.len() < 100);
             compare(&rt, alloc, name, entries, text.as_bytes())?;
         }
+    }
+    Ok(())
+}
+
+/// So many expressions of one byte each: the 64th, the 65th and the last have a byte that no other has.
+fn many(alloc: Global, count: u32) -> Result<Vec<Entry>, Fail> {
+    let mut entries = Vec::new(alloc);
+    for number in 0..count {
+        let byte = if number + 1 == count {
+            b'z'
+        } else {
+            match number {
+                63 => b'y',
+                64 => b'x',
+                _ => b'a',
+            }
+        };
+        entries.push((
+            number,
+            false,
+            0,
+            u64::MAX,
+            piece(None, byte, Times::Once, None),
+        ))?;
+    }
+    Ok(entries)
+}
+
+#[test]
+fn roles_at_the_edges_of_words_move(rt: HostRuntime) -> Result<(), Fail> {
+    let alloc = rt.alloc();
+    for count in [64, 65, 130] {
+        let entries = many(alloc, count)?;
+        for text in ["z", "-z-y-x", "xyz--zy"] {
+            assert!(rt; text.len() < 100);
+            compare(&rt, alloc, "many expressions", &entries, text.as_bytes())?;
+        }
+    }
+    Ok(())
+}
+
+#[test]
+fn a_long_text_that_wakes_nothing_is_passed_over(rt: HostRuntime) -> Result<(), Fail> {
+    use Assertion::{EndOrFinalNewline, LineEnd, LineStart, WordBoundary};
+    use Times::Once;
+    let alloc = rt.alloc();
+    let far = u64::MAX;
+    let entries: [Entry; 5] = [
+        (1, false, 0, far, piece(None, b'x', Once, None)),
+        (2, true, 9, far, piece(None, b'x', Once, Some(LineEnd))),
+        (3, false, 0, far, piece(Some(LineStart), b'x', Once, None)),
+        (
+            4,
+            false,
+            0,
+            160,
+            piece(Some(WordBoundary), b'x', Once, Some(WordBoundary)),
+        ),
+        (
+            5,
+            false,
+            0,
+            far,
+            piece(None, b'x', Once, Some(EndOrFinalNewline)),
+        ),
+    ];
+    for end in ["", "x", "\nx\n", "ax\n", "x-----"] {
+        let mut text = Vec::from_slice(alloc, b"x-x\n")?;
+        for _dash in 0..150 {
+            text.push(b'-')?;
+        }
+        text.extend_from_slice(end.as_bytes())?;
+        assert!(rt; text.len() < 200);
+        compare(&rt, alloc, "a long rest", &entries, &text)?;
     }
     Ok(())
 }

@@ -22,7 +22,7 @@ pub fn close_scan<E: Engine, O: Sink>(
     out: &mut O,
     pending: &mut Pending,
 ) -> Result<(), Failed>
-    requires runnable { IsRunnable E.width program.now }
+    requires runnable { IsRunnable E.is_for E.field E.well E.enters_always E.width program.now }
     requires ready { IsReady E.well program.now scan.old }
     ensures closed { MatchResult result
         (λ _. IsClosed (Stands E.is_for E.field program.now) scan.old total (O.written out.old) (O.written out.new) pending.old)

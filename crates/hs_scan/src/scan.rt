@@ -46,7 +46,7 @@ pub struct Scan {
 impl Scan {
     /// A stream of which no byte has come.
     pub fn new<E: Engine>(alloc: Global, program: &Program<E>) -> Result<Scan, AllocError>
-        requires { IsRunnable E.width program.now }
+        requires { IsRunnable E.is_for E.field E.well E.enters_always E.width program.now }
         ensures ready { IfOk result (IsReady E.well program.now) }
         ensures start { IfOk result (λ scan. offset_of scan ≡ 0) }
         ensures stands { IfOk result (λ scan. (P : List Pattern) → Runs E.is_for program.now P → Stands E.is_for E.field program.now P [] scan) }
@@ -68,7 +68,7 @@ pub fn scan_file<E: Engine, S: Store, O: Sink>(
     out: &mut O,
     pending: &mut Pending,
 ) -> Result<u64, ScanFault>
-    requires runnable { IsRunnable E.width program.now }
+    requires runnable { IsRunnable E.is_for E.field E.well E.enters_always E.width program.now }
     requires ready { IsReady E.well program.now scan.old }
     requires start { offset_of scan.old ≡ 0 }
     ensures ready { IsReady E.well program.now scan.new }
@@ -113,7 +113,7 @@ fn scan_piece<E: Engine, O: Sink>(
     out: &mut O,
     pending: &mut Pending,
 ) -> Result<(), Failed>
-    requires runnable { IsRunnable E.width program.now }
+    requires runnable { IsRunnable E.is_for E.field E.well E.enters_always E.width program.now }
     requires ready { IsReady E.well program.now scan.old }
     requires room { offset_of scan.old + length bytes.now ≤ greatest_offset }
     ensures ready { IsReady E.well program.now scan.new }
@@ -136,7 +136,7 @@ fn scan_counted<E: Engine, O: Sink, L: Ledger>(
     pending: &mut Pending,
     blank: Blank,
 ) -> Result<(), Failed>
-    requires runnable { IsRunnable E.width program.now }
+    requires runnable { IsRunnable E.is_for E.field E.well E.enters_always E.width program.now }
     requires ready { IsReady E.well program.now scan.old }
     requires room { offset_of scan.old + length bytes.now ≤ greatest_offset }
     requires name { blank.name ≡ L.name }
@@ -174,7 +174,7 @@ pub(crate) fn end_scan<E: Engine, O: Sink>(
     out: &mut O,
     pending: &mut Pending,
 ) -> Result<(), Failed>
-    requires runnable { IsRunnable E.width program.now }
+    requires runnable { IsRunnable E.is_for E.field E.well E.enters_always E.width program.now }
     requires ready { IsReady E.well program.now scan.old }
     ensures ended { MatchResult result
         (λ _. IsEnded (Stands E.is_for E.field program.now) scan.old (O.written out.old) (O.written out.new) pending.old pending.new)

@@ -6,7 +6,7 @@ use Rattle.hs_compile.specs.declared.database.Database.{Database}
 use Rattle.hs_compile.specs.Databases.{program_of, IsEngineOf}
 use Rattle.hs_run.proofs.FeedLemmas.{feeds-none, feeds-more}
 use Rattle.hs_stream.specs.declared.stream.Stream.{Stream}
-use Rattle.hs_stream.specs.Engines.{Keeps}
+use Rattle.hs_compile.specs.Engines.{Keeps}
 use Rattle.hs_stream.specs.Fitting.{state_of}
 use Rattle.hs_script.specs.Runs.{named_line}
 use Rattle.hs_session.specs.declared.fault.Break.{Break}

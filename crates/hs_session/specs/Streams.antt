@@ -9,7 +9,7 @@ use Rattle.hs_run.specs.States.{IsStateOf}
 use Rattle.hs_compile.specs.declared.database.Database.{Database}
 use Rattle.hs_compile.specs.Databases.{program_of, IsDatabaseOf}
 use Rattle.hs_stream.specs.declared.stream.Stream.{Stream}
-use Rattle.hs_stream.specs.Engines.{Keeps}
+use Rattle.hs_compile.specs.Engines.{Keeps}
 use Rattle.hs_stream.specs.Fitting.{state_of}
 use Rattle.hs_stream.specs.Streams.{IsStreamOf, IsFresh}
 use Rattle.hs_script.specs.Actions.{Action}

@@ -7,5 +7,6 @@ use Rattle.hs_stream.specs.Streams.{CompiledIsUsable}
 pub compiled-usable : CompiledIsUsable
 compiled-usable database P is = record {
   starts = is.starts;
+  wakes = is.wakes;
   named = λ k r at. named IsEngineOf (roles_of (program_of database)) (identifiers_of (program_of database)) P is.roles k r at;
 }

@@ -1,5 +1,4 @@
 pub mod Limits
-pub mod Engines
 pub mod Scratches
 pub mod Fitting
 pub mod Streams

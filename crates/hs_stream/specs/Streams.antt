@@ -8,7 +8,7 @@ use Rattle.hs_compile.specs.Databases.{program_of, digest_of as database_digest,
 use Rattle.hs_run.specs.States.{IsRunnable, offset_of as state_offset}
 use Rattle.hs_run.specs.Feeding.{Feeds, Finishes}
 use Rattle.hs_stream.specs.declared.stream.Stream.{Stream}
-use Rattle.hs_stream.specs.Engines.{Keeps, MayKeep}
+use Rattle.hs_compile.specs.Engines.{Keeps, MayKeep, enters_always}
 use Rattle.hs_stream.specs.Fitting.{state_of, Fits}
 use Rattle.hs_stream.specs.Writing.{IsStart}
 
@@ -18,7 +18,7 @@ offset_of stream = state_offset (state_of stream)
 
 -- streams can be scanned with the database, as with each that a list is compiled to
 abbrev pub IsUsable : Database → Type 0
-IsUsable db = IsRunnable width_of (program_of db)
+IsUsable db = IsRunnable IsEngineOf Keeps MayKeep enters_always width_of (program_of db)
 
 -- The database of a list of patterns is usable.
 abbrev pub CompiledIsUsable : Type 0

@@ -2,9 +2,8 @@
 ghost use Rattle.std.specs.Prelude.{◌≡◌, ℕ, List};
 ghost use Rattle.hs_base.specs.Entries.{ListedEntry};
 ghost use Rattle.hs_base.specs.Patterns.{Pattern};
-ghost use Rattle.hs_run.specs.States.{IsRunnable};
-ghost use Rattle.hs_glushkov.specs.PlainEngines.{width_of};
-ghost use Rattle.hs_compile.specs.Databases.{IsDatabaseOf, program_of};
+ghost use Rattle.hs_stream.specs.Streams.{IsUsable};
+ghost use Rattle.hs_compile.specs.Databases.{IsDatabaseOf};
 ghost use Rattle.hs_tool.specs.Causes.{cause_of, outcome_of};
 ghost use Rattle.hs_tool.specs.Commands.{ListKind as ListKindOf, kind_of};
 ghost use Rattle.hs_tool.specs.Answers.{HasList, ScanEnds};
@@ -47,7 +46,7 @@ fn match_stream<'a, S: Store, O: Sink>(
     store: &mut S,
     out: &mut O,
 ) -> Result<(), Fault<'a>>
-    requires { IsRunnable width_of (program_of database.now) }
+    requires { IsUsable database.now }
     ensures ends { (kind : ListKindOf) (list : List ℕ) (entries : List ListedEntry) (P : List Pattern) → HasList kind (S.told store.old list) entries P → IsDatabaseOf database.now P → ScanEnds kind list file.now
         (record { told = S.told store.old; stored = S.faults store.old; out = O.written out.old; sunk = O.faults out.old })
         (record { told = S.told store.new; stored = S.faults store.new; out = O.written out.new; sunk = O.faults out.new })

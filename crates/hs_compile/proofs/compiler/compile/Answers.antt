@@ -2,6 +2,8 @@ use Rattle.std.proofs.Common.{arith, subst, sym}
 use Rattle.hs_glushkov.specs.PlainEngines.{width_of}
 use Rattle.hs_rose.specs.Programs.{roles_of, identifiers_of, starts_of}
 use Rattle.hs_rose.specs.Roles.{AreRolesOf, AreStartsOf}
+use Rattle.hs_rose.specs.Wakes.{TellsWakes}
+use Rattle.hs_compile.specs.Engines.{Keeps, MayKeep, enters_always}
 use Rattle.hs_compile.specs.Databases.{IsEngineOf}
 use Rattle.hs_compile.proofs.ListLemmas.{few-expressions}
 use Rattle.hs_compile.proofs.LengthLemmas.{encodable}
@@ -19,6 +21,7 @@ returns-in-Ok-build-clause-compiled c =
       runs = record {
         roles = subst (λ program. AreRolesOf IsEngineOf (roles_of program) (identifiers_of program) compiled.patterns) (sym c.new.ensures.program) (c.in-Ok-build.ensures.roles compiled.patterns compiled.run);
         starts = subst (λ program. AreStartsOf width_of (roles_of program) (starts_of program)) (sym c.new.ensures.program) c.in-Ok-build.ensures.starts;
+        wakes = subst (TellsWakes IsEngineOf Keeps MayKeep enters_always) (sym c.new.ensures.program) c.in-Ok-build.ensures.wakes;
       };
     }
 

@@ -1,6 +1,6 @@
 use Rattle.std.proofs.Common.{◌≡◌, ℕ, ◌<◌, Some, slice_get}
 use Rattle.hs_rose.specs.declared.program.Role.{Role}
-use Rattle.hs_run.specs.States.{part_of}
+use Rattle.hs_rose.specs.Regions.{part_of}
 use Rattle.hs_run.proofs.roles.are_well.Given as goal
 
 abbrev pub invariant-loop-k : goal.invariant-loop-k

@@ -3,7 +3,7 @@ use Rattle.std.proofs.lemmas.Option.{slice_get_read, slice_get-get_or}
 use Rattle.std.proofs.lemmas.List.{length-set}
 use Rattle.std.proofs.Math.Seq.{take-length}
 use Rattle.hs_run.specs.Running.{AreLastEnds, no_ends}
-use Rattle.hs_run.proofs.PartLemmas.{there, part-length}
+use Rattle.hs_rose.proofs.PartLemmas.{there, part-length}
 use Rattle.hs_run.proofs.AboutLemmas.{last-none, last-ends}
 use Rattle.hs_run.proofs.roles.end_roles.Goals as goal
 

@@ -1,16 +1,22 @@
-use Rattle.std.proofs.Common.{◌≡◌, ℕ, ◌+◌, Bool, List, length, get_or, refl, sym, ap, subst, ◌∙◌}
+use Rattle.std.proofs.Common.{◌≡◌, ℕ, ◌+◌, List, length, refl, sym, ap, subst, ◌∙◌, arith}
 use Rattle.std.specs.Vec.{with_items}
 use Rattle.std.proofs.lemmas.List.{with_items_is}
-use Rattle.hs_base.specs.Trees.{Tree}
-use Rattle.hs_rose.specs.declared.program.Role.{Role}
+use Rattle.hs_rose.specs.declared.program.Program.{Program}
+use Rattle.hs_rose.specs.declared.wakes.WakeRows.{WakeRows}
 use Rattle.hs_rose.specs.declared.program.Identifier.{Identifier}
 use Rattle.hs_rose.specs.Programs.{roles_of, identifiers_of, starts_of}
+use Rattle.hs_rose.specs.Passing.{ArePassed}
+use Rattle.hs_rose.specs.Wakes.{rest_of, row_len_of, row_of, wakes_of}
+use Rattle.hs_rose.specs.WordBits.{word_count}
 use Rattle.hs_run.specs.declared.ends.Ends.{Ends as EndsAbout}
 use Rattle.hs_run.specs.declared.state.Kept.{Kept as KeptOf}
 use Rattle.hs_run.specs.declared.state.State.{State}
 use Rattle.hs_run.specs.Reporting.{AreClosed}
-use Rattle.hs_run.specs.Running.{AreNoEnds, AreWaiting, AreWell}
+use Rattle.hs_run.specs.Running.{AreNoEnds}
+use Rattle.hs_run.specs.Waking.{AreAtRest}
+use Rattle.hs_rose.specs.Regions.{AreWell}
 use Rattle.hs_run.proofs.StateLemmas.{program-laid}
+use Rattle.hs_run.proofs.WakingLemmas.{at-rest-same}
 use Rattle.hs_run.proofs.ReportingLemmas.{about-same, settled-same}
 use Rattle.hs_run.proofs.TruthLemmas.{neither_left, neither_right}
 use Rattle.hs_run.proofs.FeedLemmas.{byte-takes}
@@ -30,30 +36,52 @@ step_roles-noted-requires-clause-well g c =
     (subst (λ ss. AreWell Well (roles_of c.args.program.now) ss c.deref_mut.result.now at) (sym c.starts.ensures)
     (subst (λ bs. AreWell Well (roles_of c.args.program.now) (starts_of c.args.program.now) bs at) (sym c.deref_mut.ensures.value) c.requires.state.well))
 
-abbrev Waiting : {E : Type 0} → (E → Tree → Type 0) → (E → List ℕ → Tree → List ℕ → List Bool → Type 0) → (E → List ℕ → ℕ → Type 0) → (E → Bool) → List ℕ → ℕ → List (Role E) → List ℕ → List ℕ → List ℕ → Type 0
-Waiting {E} IsFor Field Well always bytes place roles starts region waits = AreWaiting IsFor Field Well always roles starts region bytes place waits
+row-is : {E : Type 0} (program : Program E) (rows : WakeRows) (b : ℕ) (row : List ℕ) → rows ≡ wakes_of program → row ≡ row_of rows b → row ≡ row_of (wakes_of program) b
+row-is program rows b row same is = is ∙ ap (λ ws. row_of ws b) same
 
-waiting-same : {E : Type 0} (Holds : List (Role E) → List ℕ → List ℕ → List ℕ → Type 0) (roles roles' : List (Role E)) (starts starts' region region' waits waits' : List ℕ) → roles ≡ roles' → starts ≡ starts' → region ≡ region' → waits ≡ waits' →
-    Holds roles starts region waits → Holds roles' starts' region' waits'
-waiting-same Holds roles roles' starts starts' region region' waits waits' r s b w is =
-    subst (λ v. Holds v starts' region' waits') r (subst (λ v. Holds roles v region' waits') s (subst (λ v. Holds roles starts v waits') b (subst (Holds roles starts region) w is)))
+pub step_roles-noted-requires-clause-few : goal.step_roles-noted-requires-clause-few
+step_roles-noted-requires-clause-few g c =
+    let count : length c.roles.result.now ≡ length (roles_of c.args.program.now) = ap length c.roles.ensures in
+    omega (arith, count, c.requires.runs.wakes.few)
 
-pub step_roles-noted-requires-clause-waiting : goal.step_roles-noted-requires-clause-waiting
-step_roles-noted-requires-clause-waiting g c =
-    waiting-same (Waiting g.E.Engine.is_for g.E.Engine.field g.E.Engine.well g.E.Engine.enters_always c.args.bytes.now c.args.place)
-    (roles_of c.args.program.now) c.roles.result.now (starts_of c.args.program.now) c.starts.result.now c.args.state.now.region.items c.deref_mut.result.now c.args.scratch.now.waits.items c.deref_mut-2.result.now
-    (sym c.roles.ensures) (sym c.starts.ensures) (sym c.deref_mut.ensures.value) (sym c.deref_mut-2.ensures.value) c.requires.waiting
+pub step_roles-noted-requires-clause-resting : goal.step_roles-noted-requires-clause-resting
+step_roles-noted-requires-clause-resting g c =
+    ap length c.rest.ensures ∙ (c.requires.runs.wakes.rest ∙ (sym c.requires.state.region ∙ sym (ap length c.deref_mut.ensures.value)))
 
-pub returns-clause-waiting : goal.returns-clause-waiting
-returns-clause-waiting g c =
+pub step_roles-noted-requires-clause-live : goal.step_roles-noted-requires-clause-live
+step_roles-noted-requires-clause-live g c =
+    ap length c.deref_mut-2.ensures.value ∙ (c.requires.scratch.live ∙ (c.requires.runs.wakes.rows.count ∙ ap word_count (sym (ap length c.roles.ensures))))
+
+pub step_roles-noted-requires-clause-row : goal.step_roles-noted-requires-clause-row
+step_roles-noted-requires-clause-row g c =
+    c.row.ensures.len ∙ (ap row_len_of c.wakes.ensures ∙ (c.requires.runs.wakes.rows.count ∙ ap word_count (sym (ap length c.roles.ensures))))
+
+pub step_roles-noted-requires-clause-rests : goal.step_roles-noted-requires-clause-rests
+step_roles-noted-requires-clause-rests g c =
+    subst (λ rs. AreAtRest c.starts.result.now (length rs) c.deref_mut.result.now c.rest.result.now c.deref_mut-2.result.now) (sym c.roles.ensures)
+    (at-rest-same (length (roles_of c.args.program.now)) (starts_of c.args.program.now) c.starts.result.now c.args.state.now.region.items c.deref_mut.result.now (rest_of c.args.program.now) c.rest.result.now c.args.scratch.now.live.items c.deref_mut-2.result.now
+    (sym c.starts.ensures) (sym c.deref_mut.ensures.value) (sym c.rest.ensures) (sym c.deref_mut-2.ensures.value) c.requires.rests)
+
+pub step_roles-noted-requires-clause-passed : goal.step_roles-noted-requires-clause-passed
+step_roles-noted-requires-clause-passed g c =
+    let Passed = ArePassed g.E.Engine.is_for g.E.Engine.field g.E.Engine.well g.E.Engine.enters_always in
+    let row : c.row.result.now ≡ row_of (wakes_of c.args.program.now) c.args.byte = row-is c.args.program.now c.wakes.result.now c.args.byte c.row.result.now c.wakes.ensures c.row.ensures.row in
+    subst (λ v. Passed v c.starts.result.now c.rest.result.now c.row.result.now c.args.byte) (sym c.roles.ensures)
+    (subst (λ v. Passed (roles_of c.args.program.now) v c.rest.result.now c.row.result.now c.args.byte) (sym c.starts.ensures)
+    (subst (λ v. Passed (roles_of c.args.program.now) (starts_of c.args.program.now) v c.row.result.now c.args.byte) (sym c.rest.ensures)
+    (subst (λ v. Passed (roles_of c.args.program.now) (starts_of c.args.program.now) (rest_of c.args.program.now) v c.args.byte) (sym row)
+    (c.requires.runs.wakes.rows.passed c.args.byte c.ranges.byte.fits))))
+
+pub returns-clause-rests : goal.returns-clause-rests
+returns-clause-rests g c =
     let old : State = c.args.state.now in
     let moved : List ℕ = c.step_roles-noted.new.region in
-    let waits : List ℕ = c.step_roles-noted.new.waits in
+    let live : List ℕ = c.step_roles-noted.new.live in
     let is_region : (with_items old.region moved).items ≡ moved = with_items_is old.region moved (c.step_roles-noted.ensures.len ∙ c.deref_mut.ensures.len) in
-    let is_waits : (with_items c.args.scratch.now.waits waits).items ≡ waits = with_items_is c.args.scratch.now.waits waits (c.step_roles-noted.ensures.count ∙ c.deref_mut-2.ensures.len) in
-    waiting-same (Waiting g.E.Engine.is_for g.E.Engine.field g.E.Engine.well g.E.Engine.enters_always c.args.bytes.now (c.args.place + 1))
-    c.roles.result.now (roles_of c.args.program.now) c.starts.result.now (starts_of c.args.program.now) moved (with_items old.region moved).items waits (with_items c.args.scratch.now.waits waits).items
-    c.roles.ensures c.starts.ensures (sym is_region) (sym is_waits) c.step_roles-noted.ensures.waiting
+    let is_live : (with_items c.args.scratch.now.live live).items ≡ live = with_items_is c.args.scratch.now.live live (c.step_roles-noted.ensures.live ∙ c.deref_mut-2.ensures.len) in
+    subst (λ rs. AreAtRest (starts_of c.args.program.now) (length rs) (with_items old.region moved).items (rest_of c.args.program.now) (with_items c.args.scratch.now.live live).items) c.roles.ensures
+    (at-rest-same (length c.roles.result.now) c.starts.result.now (starts_of c.args.program.now) moved (with_items old.region moved).items c.rest.result.now (rest_of c.args.program.now) live (with_items c.args.scratch.now.live live).items
+    c.starts.ensures (sym is_region) c.rest.ensures (sym is_live) c.step_roles-noted.ensures.rests)
 
 pub settle_byte-requires-clause-none : goal.settle_byte-requires-clause-none
 settle_byte-requires-clause-none g c shut =
@@ -111,7 +139,7 @@ returns-clause-taken g c =
     let is_kept : (with_items old.kept keeps).items ≡ keeps = with_items_is old.kept keeps (c.settle_byte.ensures.kept ∙ c.deref_mut-4.ensures.len) in
     let new : State = record { offset = old.offset + 1; prev = c.behind-state.result; kept = with_items old.kept keeps; region = with_items old.region moved } in
     byte-takes g.E.Engine.is_for g.E.Engine.field program g.V.Events.tells c.args.events.now c.settle_byte.new.events
-    old new (get_or c.args.bytes.now c.args.place 0) c.roles.result.now c.starts.result.now c.deref_mut.result.now moved ends
+    old new c.args.byte c.roles.result.now c.starts.result.now c.deref_mut.result.now moved ends
     c.roles.ensures c.starts.ensures c.deref_mut.ensures.value (sym is_region) c.step_roles-noted.ensures.moves
     c.requires.state.kept
     (c.step_roles-noted.ensures.ends ∙ (ap length c.deref_mut-3.ensures.value ∙ c.requires.scratch.ends))

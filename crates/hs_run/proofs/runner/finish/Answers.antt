@@ -8,7 +8,7 @@ use Rattle.hs_run.specs.declared.reporting.Moment.TheVariants.{BeforeLastByte, A
 use Rattle.hs_run.specs.declared.state.State.{State}
 use Rattle.hs_run.specs.Events.{Through}
 use Rattle.hs_run.specs.Reporting.{pairs_at}
-use Rattle.hs_run.specs.Running.{AreWell}
+use Rattle.hs_rose.specs.Regions.{AreWell}
 use Rattle.hs_run.proofs.StateLemmas.{program-laid}
 use Rattle.hs_run.proofs.ReportingLemmas.{through-same}
 use Rattle.hs_run.proofs.FeedLemmas.{end-takes}

@@ -4,11 +4,11 @@ use Rattle.hs_tool.specs.Commands.{kind_of}
 use Rattle.hs_tool.specs.Answers.{HasList, stopped}
 use Rattle.hs_tool.specs.Loading.{entries_of}
 use Rattle.hs_tool.proofs.AnswerLemmas.{ends_since, has_list}
-use Rattle.hs_tool.proofs.RunLemmas.{runnable}
+use Rattle.hs_stream.proofs.DatabaseLemmas.{compiled-usable}
 use Rattle.hs_tool.proofs.match_command.match_file.Goals as goal
 
 pub match_stream-requires : goal.match_stream-requires
-match_stream-requires g c = runnable c.in-Ok.loaded.database c.in-Ok.ensures.loaded.patterns c.in-Ok.ensures.loaded.runs
+match_stream-requires g c = compiled-usable c.in-Ok.loaded.database c.in-Ok.ensures.loaded.patterns c.in-Ok.ensures.loaded.runs
 
 pub returns-in-Err-clause-ends : goal.returns-in-Err-clause-ends
 returns-in-Err-clause-ends g c = stopped _ (record { stops = c.in-Err.ensures.fault; quiet = Took-nothing (g.O.Sink.written c.args.out.now); still = refl })

@@ -5,7 +5,7 @@ use Rattle.hs_base.specs.declared.context.Prev.TheVariants as before
 use Rattle.hs_rose.specs.Programs.{starts_of}
 use Rattle.hs_run.specs.declared.state.State.{State}
 use Rattle.hs_run.specs.States.{AreUnkept}
-use Rattle.hs_run.specs.Running.{AreWell, AreStarted}
+use Rattle.hs_rose.specs.Regions.{AreWell, AreStarted}
 use Rattle.hs_run.proofs.StateLemmas.{program-laid, cleared-state}
 use Rattle.hs_run.proofs.state.State.clear.Goals as goal
 

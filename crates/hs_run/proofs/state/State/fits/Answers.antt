@@ -1,6 +1,6 @@
 use Rattle.std.proofs.Common.{◌≡◌, ◌∙◌, length, sym, ap, subst, arith}
 use Rattle.hs_rose.specs.Programs.{roles_of, starts_of, identifiers_of, region_len_of}
-use Rattle.hs_run.specs.Running.{AreWell}
+use Rattle.hs_rose.specs.Regions.{AreWell}
 use Rattle.hs_run.proofs.StateLemmas.{program-laid}
 use Rattle.hs_run.proofs.state.State.fits.Goals as goal
 

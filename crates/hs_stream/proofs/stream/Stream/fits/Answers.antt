@@ -2,7 +2,7 @@ use Rattle.std.proofs.Common.{rules, sym, subst}
 use Rattle.hs_glushkov.specs.declared.plain.Plain.{Plain}
 use Rattle.hs_rose.specs.declared.program.Program.{Program}
 use Rattle.hs_run.specs.States.{FitsState}
-use Rattle.hs_stream.specs.Engines.{MayKeep}
+use Rattle.hs_compile.specs.Engines.{MayKeep}
 use Rattle.hs_stream.proofs.stream.Stream.fits.Goals as goal
 
 pub returns : goal.returns

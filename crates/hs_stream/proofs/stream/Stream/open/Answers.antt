@@ -2,7 +2,7 @@ use Rattle.std.proofs.Common.{subst}
 use Rattle.hs_glushkov.specs.declared.plain.Plain.{Plain}
 use Rattle.hs_rose.specs.declared.program.Program.{Program}
 use Rattle.hs_compile.specs.Databases.{IsEngineOf}
-use Rattle.hs_stream.specs.Engines.{Keeps}
+use Rattle.hs_compile.specs.Engines.{Keeps}
 use Rattle.hs_stream.specs.Writing.{IsStart}
 use Rattle.hs_stream.proofs.stream.Stream.open.Goals as goal
 

@@ -4,7 +4,7 @@ use Rattle.hs_rose.specs.declared.program.Program.{Program}
 use Rattle.hs_compile.specs.Databases.{IsEngineOf}
 use Rattle.hs_run.specs.Events.{Takes}
 use Rattle.hs_run.specs.Feeding.{Finishes}
-use Rattle.hs_stream.specs.Engines.{Keeps}
+use Rattle.hs_compile.specs.Engines.{Keeps}
 use Rattle.hs_stream.specs.Writing.{IsStart}
 use Rattle.hs_stream.proofs.stream.Stream.reset.Goals as goal
 

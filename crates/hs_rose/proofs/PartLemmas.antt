@@ -7,8 +7,7 @@ use Rattle.std.proofs.lemmas.List.Edits.{length-between}
 use borrow.Rule.Slice.PartMut.{put_mid}
 use Rattle.hs_rose.specs.declared.program.Role.{Role}
 use Rattle.hs_rose.specs.Roles.{AreStartsOf}
-use Rattle.hs_run.specs.Running.{IsLaid}
-use Rattle.hs_run.specs.States.{part_of}
+use Rattle.hs_rose.specs.Regions.{IsLaid, part_of}
 
 -- an element is there
 pub there : {A : Type 0} (xs : List A) (k : ℕ) → k < length xs → (x : A) × (slice_get xs k ≡ Some x)

@@ -1,8 +1,8 @@
 use Rattle.std.proofs.Common.{◌≡◌, ℕ, ◌<◌, [], length, Some, slice_get}
 use Rattle.hs_base.specs.Trees.{Tree}
 use Rattle.hs_rose.specs.declared.program.Role.{Role}
-use Rattle.hs_run.specs.States.{part_of}
-use Rattle.hs_run.proofs.roles.clear_roles.Given as goal
+use Rattle.hs_rose.specs.Regions.{part_of}
+use Rattle.hs_rose.proofs.regions.clear_roles.Given as goal
 
 abbrev pub invariant-loop-k : goal.invariant-loop-k
 invariant-loop-k g l = record {

@@ -1,9 +1,9 @@
 use Rattle.std.proofs.Common.{◌≡◌, ℕ, ◌<◌, List, [], length, Some, slice_get, refl, sym, ap, subst, ◌∙◌, inl, inr, arith}
 use Rattle.std.proofs.lemmas.Bool.{cases_eq}
 use Rattle.std.proofs.lemmas.Option.{slice_get_read, slice_get_within, same_Some}
-use Rattle.hs_run.specs.States.{part_of}
-use Rattle.hs_run.proofs.PartLemmas.{part-length, part-written, part-other, written, length-written}
-use Rattle.hs_run.proofs.roles.clear_roles.Goals as goal
+use Rattle.hs_rose.specs.Regions.{part_of}
+use Rattle.hs_rose.proofs.PartLemmas.{part-length, part-written, part-other, written, length-written}
+use Rattle.hs_rose.proofs.regions.clear_roles.Goals as goal
 
 pub clear_role-requires : goal.clear_role-requires
 clear_role-requires g c =

@@ -1,0 +1,43 @@
+use Rattle.std.proofs.Common.{◌≡◌, ℕ, ◌*◌, ◌<◌, Bool, true, false, not, length, Some, slice_get, refl, sym, ap, subst, ◌∙◌, inl, inr, arith}
+use Rattle.std.proofs.lemmas.Bool.{cases_eq}
+use Rattle.std.proofs.lemmas.Option.{slice_get_read, slice_get_within, same_Some}
+use Rattle.hs_rose.specs.Passing.{IsPassed}
+use Rattle.hs_rose.specs.Regions.{part_of}
+use Rattle.hs_rose.specs.WordBits.{has_word_bit}
+use Rattle.hs_rose.proofs.PartLemmas.{part-length}
+use Rattle.hs_rose.proofs.wakes.fill_row.Goals as goal
+
+pub passes-passed-requires : goal.passes-passed-requires
+passes-passed-requires g c =
+    let role = slice_get_read c.args.roles.now (length c.args.roles.now) c.loop-k.k c.index-roles-k.result refl c.loop-k-test.true c.index-roles-k.is in
+    part-length g.E.Engine.width c.args.roles.now c.args.starts.now (length c.args.rest.now) c.requires.laid c.args.rest.now refl c.loop-k.k c.index-roles-k.result role
+
+not_false : (b : Bool) → not b ≡ false → b ≡ true
+not_false true is = refl
+not_false false is = absurd (let e : true ≡ false = is in cc)
+
+pub loop-k-preserved : goal.loop-k-preserved
+loop-k-preserved g c =
+    let roles = c.args.roles.now in
+    let k : ℕ = c.loop-k.k in
+    let r = c.index-roles-k.result in
+    let role : slice_get roles k ≡ Some r = slice_get_read roles (length roles) k r refl c.loop-k-test.true c.index-roles-k.is in
+    let inv = c.loop-k.invariant in
+    record {
+      len = c.put_bit.ensures.len ∙ inv.len;
+      passed = λ j r' below at unset.
+          elim (cases_eq j k) [
+            | inl same ↦
+                let one : r ≡ r' = same_Some r r' (sym role ∙ (ap (slice_get roles) (sym same) ∙ at)) in
+                let passed : c.passes-passed.result ≡ true = not_false c.passes-passed.result (sym c.put_bit.ensures.put ∙ (ap (has_word_bit c.put_bit.new.words) (sym same) ∙ unset)) in
+                subst (λ n. IsPassed g.E.Engine.is_for g.E.Engine.field g.E.Engine.well g.E.Engine.enters_always r' (part_of c.args.starts.now c.args.rest.now n) c.args.byte) (sym same)
+                (subst (λ q. IsPassed g.E.Engine.is_for g.E.Engine.field g.E.Engine.well g.E.Engine.enters_always q (part_of c.args.starts.now c.args.rest.now k) c.args.byte) one
+                (c.passes-passed.ensures passed))
+            | inr apart ↦ inv.passed j r' (omega arith) at (sym (c.put_bit.ensures.others j apart) ∙ unset)
+          ];
+    }
+
+pub returns-clause-passed : goal.returns-clause-passed
+returns-clause-passed g c j r at unset =
+    let below : j < length c.args.roles.now = slice_get_within c.args.roles.now j r at in
+    c.loop-k.invariant.passed j r (omega arith) at unset

@@ -1,0 +1,52 @@
+//! The region of a stream: the bytes of all roles.
+ghost use Rattle.std.specs.Prelude.{◌≡◌, [], length, IfOk};
+ghost use Rattle.hs_base.specs.Trees.{Tree};
+ghost use Rattle.hs_rose.specs.Regions.{AreStarted, AreWell, IsLaid, end_of};
+ghost use Rattle.hs_rose.specs.Roles.{AreStartsOf};
+
+use crate::program::Role;
+use hs_engine::Engine;
+use std::alloc::{AllocError, Global};
+
+/// Where the bytes of the last role end.
+pub(crate) fn region_len_for(starts: &[usize]) -> usize
+    ensures { result ≡ end_of starts.now }
+{
+    starts.last().copied().unwrap_or(0)
+}
+
+/// The bytes of the roles in the region of the empty stream.
+pub(crate) fn rest_for<E: Engine>(
+    alloc: Global,
+    roles: &[Role<E>],
+    starts: &[usize],
+) -> Result<Vec<u8>, AllocError>
+    requires { AreStartsOf E.width roles.now starts.now }
+    ensures { IfOk result (λ rest. length rest.items ≡ end_of starts.now) }
+{
+    let mut rest = vec![in alloc; 0u8; region_len_for(starts)]?;
+    clear_roles(roles, starts, &mut rest);
+    Ok(rest)
+}
+
+/// Makes the part of a role that of the empty stream.
+fn clear_role<E: Engine>(role: &Role<E>, part: &mut [u8])
+    requires { length part.old ≡ E.width role.now.engine }
+    ensures len { length part.new ≡ E.width role.now.engine }
+    ensures well { E.well role.now.engine part.new 0 }
+    ensures starts { (tree : Tree) → E.is_for role.now.engine tree → E.field role.now.engine part.new tree [] [] }
+{
+    role.engine.clear(part);
+}
+
+/// Makes the part of each role that of the empty stream.
+pub fn clear_roles<E: Engine>(roles: &[Role<E>], starts: &[usize], region: &mut [u8])
+    requires { IsLaid E.width roles.now starts.now (length region.old) }
+    ensures len { length region.new ≡ length region.old }
+    ensures well { AreWell E.well roles.now starts.now region.new 0 }
+    ensures starts { AreStarted E.is_for E.field roles.now starts.now region.new }
+{
+    for k in 0..roles.len() {
+        clear_role(&roles[k], &mut region[starts[k]..starts[k + 1]]);
+    }
+}
