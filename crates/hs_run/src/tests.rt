@@ -234,6 +234,16 @@ const fn piece(
     }
 }
 
+/// An expression of which every end is reported.
+const fn each(id: u32, shape: Shape) -> Entry {
+    (id, false, 0, u64::MAX, shape)
+}
+
+/// An expression of which one end is reported.
+const fn once_only(id: u32, shape: Shape) -> Entry {
+    (id, true, 0, u64::MAX, shape)
+}
+
 #[test]
 fn reports_are_as_defined(rt: HostRuntime) -> Result<(), Fail> {
     use Assertion::{
@@ -245,55 +255,31 @@ fn reports_are_as_defined(rt: HostRuntime) -> Result<(), Fail> {
     let far = u64::MAX;
     let lists: [(&str, &[Entry]); 14] = [
         ("no expression", &[]),
-        (
-            "one byte",
-            &[(7, false, 0, far, piece(None, b'a', Once, None))],
-        ),
-        (
-            "any number",
-            &[(7, false, 0, far, piece(None, b'a', Any, None))],
-        ),
-        ("single", &[(7, true, 0, far, piece(None, b'a', Any, None))]),
+        ("one byte", &[each(7, piece(None, b'a', Once, None))]),
+        ("any number", &[each(7, piece(None, b'a', Any, None))]),
+        ("single", &[once_only(7, piece(None, b'a', Any, None))]),
         (
             "one is single, so both are",
             &[
-                (
-                    7,
-                    false,
-                    0,
-                    far,
-                    piece(None, b'a', Once, Some(WordBoundary)),
-                ),
-                (7, true, 0, far, piece(None, b'.', Once, Some(StreamEnd))),
+                each(7, piece(None, b'a', Once, Some(WordBoundary))),
+                once_only(7, piece(None, b'.', Once, Some(StreamEnd))),
             ],
         ),
         (
             "an identifier of three, one pair each",
             &[
-                (3, false, 0, far, piece(None, b'a', Once, None)),
-                (3, false, 0, far, piece(None, b'.', Any, None)),
-                (
-                    3,
-                    false,
-                    0,
-                    far,
-                    piece(None, b'a', Optional, Some(EndOrFinalNewline)),
-                ),
+                each(3, piece(None, b'a', Once, None)),
+                each(3, piece(None, b'.', Any, None)),
+                each(3, piece(None, b'a', Optional, Some(EndOrFinalNewline))),
             ],
         ),
         (
             "identifiers rise, lists don't",
             &[
-                (9, false, 0, far, piece(None, b'a', Once, None)),
-                (4, true, 0, far, piece(None, b'.', Once, None)),
-                (6, false, 0, far, piece(None, b'.', Once, Some(LineEnd))),
-                (
-                    4_294_967_295,
-                    false,
-                    0,
-                    far,
-                    piece(Some(LineStart), b'a', Any, None),
-                ),
+                each(9, piece(None, b'a', Once, None)),
+                once_only(4, piece(None, b'.', Once, None)),
+                each(6, piece(None, b'.', Once, Some(LineEnd))),
+                each(4_294_967_295, piece(Some(LineStart), b'a', Any, None)),
             ],
         ),
         (
@@ -315,136 +301,55 @@ fn reports_are_as_defined(rt: HostRuntime) -> Result<(), Fail> {
         (
             "the end",
             &[
-                (
-                    1,
-                    false,
-                    0,
-                    far,
-                    piece(None, b'.', Optional, Some(StreamEnd)),
-                ),
-                (
-                    2,
-                    false,
-                    0,
-                    far,
-                    piece(None, b'.', Optional, Some(EndOrFinalNewline)),
-                ),
-                (
-                    3,
-                    true,
-                    0,
-                    far,
-                    piece(None, b'.', Optional, Some(StreamEnd)),
-                ),
-                (
-                    4,
-                    true,
-                    0,
-                    far,
-                    piece(None, b'.', Optional, Some(EndOrFinalNewline)),
-                ),
+                each(1, piece(None, b'.', Optional, Some(StreamEnd))),
+                each(2, piece(None, b'.', Optional, Some(EndOrFinalNewline))),
+                once_only(3, piece(None, b'.', Optional, Some(StreamEnd))),
+                once_only(4, piece(None, b'.', Optional, Some(EndOrFinalNewline))),
             ],
         ),
         (
             "before the end, and at it",
             &[
-                (1, true, 0, far, piece(None, b'b', Once, Some(StreamEnd))),
-                (
-                    1,
-                    false,
-                    0,
-                    far,
-                    piece(None, b'\n', Any, Some(EndOrFinalNewline)),
-                ),
-                (
-                    2,
-                    true,
-                    0,
-                    far,
-                    piece(None, b'\n', Optional, Some(EndOrFinalNewline)),
-                ),
+                once_only(1, piece(None, b'b', Once, Some(StreamEnd))),
+                each(1, piece(None, b'\n', Any, Some(EndOrFinalNewline))),
+                once_only(2, piece(None, b'\n', Optional, Some(EndOrFinalNewline))),
             ],
         ),
         (
             "the start",
             &[
-                (
-                    1,
-                    false,
-                    0,
-                    far,
-                    piece(Some(StreamStart), b'a', Optional, None),
-                ),
-                (
-                    2,
-                    false,
-                    0,
-                    far,
-                    piece(Some(LineStart), b'.', Optional, Some(LineEnd)),
-                ),
-                (3, true, 0, far, piece(Some(LineStart), b'b', Once, None)),
+                each(1, piece(Some(StreamStart), b'a', Optional, None)),
+                each(2, piece(Some(LineStart), b'.', Optional, Some(LineEnd))),
+                once_only(3, piece(Some(LineStart), b'b', Once, None)),
             ],
         ),
         (
             "words",
             &[
-                (
-                    1,
-                    false,
-                    0,
-                    far,
-                    piece(Some(WordBoundary), b'a', Optional, None),
-                ),
-                (
-                    2,
-                    false,
-                    0,
-                    far,
-                    piece(None, b'.', Optional, Some(WordBoundary)),
-                ),
-                (
+                each(1, piece(Some(WordBoundary), b'a', Optional, None)),
+                each(2, piece(None, b'.', Optional, Some(WordBoundary))),
+                each(
                     3,
-                    false,
-                    0,
-                    far,
                     piece(Some(NotWordBoundary), b'.', Optional, Some(NotWordBoundary)),
                 ),
-                (
-                    4,
-                    true,
-                    0,
-                    far,
-                    piece(None, b'a', Once, Some(NotWordBoundary)),
-                ),
+                once_only(4, piece(None, b'a', Once, Some(NotWordBoundary))),
             ],
         ),
         (
             "what waits for a byte, and what doesn't",
             &[
-                (2, true, 0, far, piece(None, b'a', Once, Some(WordBoundary))),
+                once_only(2, piece(None, b'a', Once, Some(WordBoundary))),
                 (2, true, 2, far, piece(None, b'.', Once, None)),
-                (
-                    3,
-                    false,
-                    0,
-                    far,
-                    piece(None, b'a', Once, Some(WordBoundary)),
-                ),
-                (3, false, 0, far, piece(None, b'.', Once, Some(LineEnd))),
+                each(3, piece(None, b'a', Once, Some(WordBoundary))),
+                each(3, piece(None, b'.', Once, Some(LineEnd))),
             ],
         ),
         (
             "more of one",
             &[
-                (5, false, 0, far, piece(None, b'a', Once, None)),
-                (5, false, 0, far, piece(None, b'a', Once, None)),
-                (
-                    5,
-                    false,
-                    0,
-                    far,
-                    piece(None, b'.', Any, Some(EndOrFinalNewline)),
-                ),
+                each(5, piece(None, b'a', Once, None)),
+                each(5, piece(None, b'a', Once, None)),
+                each(5, piece(None, b'.', Any, Some(EndOrFinalNewline))),
             ],
         ),
     ];
@@ -474,13 +379,7 @@ fn many(alloc: Global, count: u32) -> Result<Vec<Entry>, Fail> {
                 _ => b'a',
             }
         };
-        entries.push((
-            number,
-            false,
-            0,
-            u64::MAX,
-            piece(None, byte, Times::Once, None),
-        ))?;
+        entries.push(each(number, piece(None, byte, Times::Once, None)))?;
     }
     Ok(entries)
 }
@@ -505,9 +404,9 @@ fn a_long_text_that_wakes_nothing_is_passed_over(rt: HostRuntime) -> Result<(), 
     let alloc = rt.alloc();
     let far = u64::MAX;
     let entries: [Entry; 5] = [
-        (1, false, 0, far, piece(None, b'x', Once, None)),
+        each(1, piece(None, b'x', Once, None)),
         (2, true, 9, far, piece(None, b'x', Once, Some(LineEnd))),
-        (3, false, 0, far, piece(Some(LineStart), b'x', Once, None)),
+        each(3, piece(Some(LineStart), b'x', Once, None)),
         (
             4,
             false,
@@ -515,13 +414,7 @@ fn a_long_text_that_wakes_nothing_is_passed_over(rt: HostRuntime) -> Result<(), 
             160,
             piece(Some(WordBoundary), b'x', Once, Some(WordBoundary)),
         ),
-        (
-            5,
-            false,
-            0,
-            far,
-            piece(None, b'x', Once, Some(EndOrFinalNewline)),
-        ),
+        each(5, piece(None, b'x', Once, Some(EndOrFinalNewline))),
     ];
     for end in ["", "x", "\nx\n", "ax\n", "x-----"] {
         let mut text = Vec::from_slice(alloc, b"x-x\n")?;
