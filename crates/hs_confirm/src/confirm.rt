@@ -107,6 +107,7 @@ impl Confirm {
     }
 
     /// As `place_ends`, or None where none ends there.
+    #[inline(always)]
     pub fn some_place_ends<'a>(
         &'a self,
         mask: u8,

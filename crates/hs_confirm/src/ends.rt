@@ -105,6 +105,7 @@ impl<'a> Ends<'a> {
     }
 
     /// Whether the literal of that number is in the bucket and ends at the place.
+    #[inline(always)]
     fn ends_there(&self, number: usize) -> bool
         requires { number < vec_len self.now.confirm.now.entries }
         ensures { result ≡ number_ends self.now.confirm.now.entries.items self.now.bucket (self.now.history.now ++ self.now.bytes.now) (length self.now.history.now + self.now.at) number }
@@ -126,6 +127,7 @@ impl<'a> Iterator for Ends<'a> {
 
     ghost remaining = { item_count ends_left };
 
+    #[inline(always)]
     fn next(&mut self) -> Option<usize> {
         while self.next < self.confirm.entries.len() {
             let number = self.next;

@@ -1,10 +1,10 @@
 //! The literals of all buckets that end at a place, rising.
 
 ghost use Rattle.std.specs.Prelude.{◌≡◌, ◌≢◌, ◌<◌, ◌≤◌, ◌+◌, ◌++◌, ℕ, [], true, MatchOption, length, slice_index, vec_len};
+ghost use Rattle.std.specs.Int.{bit_at};
 ghost use Rattle.hs_confirm.specs.Entries.{number_ends};
 ghost use Rattle.hs_confirm.specs.Heads.{AreHeads, IsHead, IsFirstHead, IsFirstPassing, HasNone};
 ghost use Rattle.hs_confirm.specs.Keys.{full_text_key};
-ghost use Rattle.std.specs.Int.{bit_at};
 
 use crate::confirm::Confirm;
 use crate::ends::Ends;
@@ -43,6 +43,7 @@ fn least_of(left: u8) -> u8
     requires { 0 < left }
     ensures few { result < 8 }
     ensures one { bit_at left result ≡ 1 }
+    ensures least { (bucket : ℕ) → bucket < result → bit_at left bucket ≡ 0 }
 {
     left.trailing_zeros() as u8
 }
@@ -80,7 +81,9 @@ fn head_of(
 }
 
 /// A bucket in which a literal ends at `at`, if there is one among those whose bit in the mask is 0.
-#[inline(always)]
+///
+/// At most places there is none, so this small answer is what is asked for first.
+#[inline(never)]
 fn first_head(
     confirm: &Confirm,
     mask: u8,
@@ -198,6 +201,7 @@ impl<'a> PlaceEnds<'a> {
     }
 
     /// Those that end at `at`, of the buckets whose bit in the mask is 0, or None where there is none.
+    #[inline(always)]
     pub(crate) fn some(
         confirm: &'a Confirm,
         mask: u8,

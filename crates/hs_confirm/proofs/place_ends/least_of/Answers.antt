@@ -5,3 +5,6 @@ use Rattle.hs_confirm.proofs.place_ends.least_of.Goals as goal
 
 pub returns-clause-one : goal.returns-clause-one
 returns-clause-one c = (bit_at-trailing_zeros w8 c.args.left c.requires (omega (arith, c.ranges.left.fits))).1
+
+pub returns-clause-least : goal.returns-clause-least
+returns-clause-least c = (bit_at-trailing_zeros w8 c.args.left c.requires (omega (arith, c.ranges.left.fits))).2
