@@ -29,6 +29,11 @@ abbrev pub EndsWaiting : Database → Option (List ℕ) → Option (List ℕ) �
 EndsWaiting db left lefts taken takes waited waits result =
     ScriptEnds db left lefts (λ text. Passes taken takes waited waits text) (λ text. PassesPart taken takes waited text) result
 
+-- it is so for the same database
+pub ends-same : {db db' : Database} {before now : Option (List ℕ)} {IsWritten IsCut : List ℕ → Type 0} {result : Result (Unit {0}) ScriptStop} → db ≡ db' → ScriptEnds db before now IsWritten IsCut result → ScriptEnds db' before now IsWritten IsCut result
+ends-same {before = before} {now = now} {IsWritten = IsWritten} {IsCut = IsCut} {result = result} same ends =
+    subst (λ d. ScriptEnds d before now IsWritten IsCut result) same ends
+
 -- ---- a line that didn't come
 
 pub ends-complete : {db : Database} {number : ℕ} {p q r : Option (List ℕ)} {a b : Ahead} {streams : Streams} {x y : Option (List ℕ)} {f g : List ℕ} → SoFar db number p q fresh a streams x y f g false → IsLineless q r a b → EndsWaiting db p r x y f g (Ok tt)

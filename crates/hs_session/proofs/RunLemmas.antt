@@ -192,3 +192,9 @@ runs-none db line number streams p a x y f g told none sends =
 pub runs-done : (db : Database) (line : List ℕ) (number : ℕ) (old new : Streams) (p : Option (List ℕ)) (a : Ahead) {x y : Option (List ℕ)} {f g : List ℕ} {order : Order} {action : Action} {result : Result (Unit {0}) ScriptStop} (written : Result (Unit {0}) Failed) → result ≡ done_of written → IsCommand line order → IsAlone order action → IsAnswered db action (is_err written) old new x y f g → RunsBy (Runs db line number old new p p a a x y f g) result
 runs-done db line number old new p a {x} {y} {f} {g} written is command no_write answered =
     subst (λ r. RunsBy (Runs db line number old new p p a a x y f g) r) (sym is) (runs-alone db line number old new p a written command no_write answered)
+
+-- it is so too where it is only known that what is ahead stayed the same
+pub runs-still : (db : Database) (line : List ℕ) (number : ℕ) (old new : Streams) (p q : Option (List ℕ)) (a b : Ahead) {x y : Option (List ℕ)} {f g : List ℕ} {order : Order} {action : Action} {result : Result (Unit {0}) ScriptStop} (written : Result (Unit {0}) Failed) → q ≡ p → b ≡ a → result ≡ done_of written → IsCommand line order → IsAlone order action → IsAnswered db action (is_err written) old new x y f g → RunsBy (Runs db line number old new p q a b x y f g) result
+runs-still db line number old new p q a b {x} {y} {f} {g} {result = result} written same_left same_ahead is command no_write answered =
+    subst (λ l. RunsBy (Runs db line number old new p l a b x y f g) result) (sym same_left)
+    (subst (λ r. RunsBy (Runs db line number old new p p a r x y f g) result) (sym same_ahead) (runs-done db line number old new p a written is command no_write answered))

@@ -204,6 +204,11 @@ pub so_far-numbered : {db : Database} {n m : ℕ} {p q : Option (List ℕ)} {a b
 so_far-numbered {db} {p = p} {q = q} {a = a} {b = b} {streams = streams} {x = x} {y = y} {f = f} {g = g} {lost = lost} same so_far =
     subst (λ k. SoFar db k p q a b streams x y f g lost) (sym same) so_far
 
+-- for the same database
+pub so_far-same : {db db' : Database} {n : ℕ} {p q : Option (List ℕ)} {a b : Ahead} {streams : Streams} {x y : Option (List ℕ)} {f g : List ℕ} {lost : Bool} → db ≡ db' → SoFar db n p q a b streams x y f g lost → SoFar db' n p q a b streams x y f g lost
+so_far-same {n = n} {p = p} {q = q} {a = a} {b = b} {streams = streams} {x = x} {y = y} {f = f} {g = g} {lost = lost} same so_far =
+    subst (λ d. SoFar d n p q a b streams x y f g lost) same so_far
+
 -- ---- what was taken of the source
 
 -- the bytes that were taken, those that were looked at and those that still wait

@@ -1,4 +1,4 @@
-//! One command of a script.
+//! The commands of a script.
 ghost use Rattle.std.specs.Prelude.{◌≡◌, List, ℕ};
 ghost use Rattle.hs_stream.specs.Scratches.{IsScratchOf};
 ghost use Rattle.hs_stream.specs.Streams.{IsUsable};
@@ -8,83 +8,161 @@ ghost use Rattle.hs_session.specs.Commands.{Runs, RunsBy, done_of, LeavesAt, Sto
 ghost use Rattle.hs_session.specs.Reading.{kept_of};
 ghost use Rattle.hs_session.specs.Streams.{AreStreamsOf};
 
-use crate::answers::{close_stream, open_stream, reset_stream, write_fault, write_reply};
+use crate::answers::{write_fault, write_reply};
 use crate::fault::{Break, ScriptStop};
 use crate::line::Line;
 use crate::name::Name;
-use crate::payload::take_payload;
-use crate::reader::Reader;
+use crate::session::Session;
 use crate::streams::Streams;
-use hs_compile::Database;
 use hs_outside::{Failed, Sink, Source};
-use hs_scan::Pending;
-use hs_stream::Scratch;
 use hs_text::{Command, ScriptFault, command};
-use std::alloc::Global;
 
-/// Runs the command of a line, whose number is counted from 1.
-pub(crate) fn run_line<I: Source, O: Sink>(
-    alloc: Global,
-    db: &Database,
-    line: &Line,
-    number: u64,
-    streams: &mut Streams,
-    scratch: &mut Scratch,
-    reader: &mut Reader,
-    input: &mut I,
-    out: &mut O,
-    pending: &mut Pending,
-) -> Result<(), ScriptStop>
-    requires usable { IsUsable db.now }
-    requires fits { AreStreamsOf db.now streams.old }
-    requires scratch { IsScratchOf db.now scratch.old }
-    ensures fits { AreStreamsOf db.now streams.new }
-    ensures scratch { IsScratchOf db.now scratch.new }
-    ensures runs { (whole : List ℕ) → line.now ≡ kept_of whole → RunsBy (Runs db.now whole number streams.old streams.new
-        (I.left input.old) (I.left input.new) reader.old reader.new (O.written out.old) (O.written out.new) pending.old pending.new) result }
-    ensures leaves { LeavesAt reader.new result }
-    ensures counts { StopCounts (I.faults input.old) (I.faults input.new) (O.faults out.old) (O.faults out.new) result }
-{
-    let Some(command) = command(line.as_slice()) else {
-        return Err(write_fault(ScriptFault::Script(number), out, pending));
-    };
-    match command {
-        Command::Open(name) => done(open_stream(
-            alloc,
-            db,
-            &Name::new(name),
-            streams,
-            out,
-            pending,
-        )),
-        Command::Write(name, count) => run_write(
-            db,
-            &Name::new(name),
-            count,
-            number,
-            streams,
-            scratch,
-            reader,
-            input,
-            out,
-            pending,
-        ),
-        Command::Reset(name) => done(reset_stream(
-            db,
-            &Name::new(name),
-            streams,
-            scratch,
-            out,
-            pending,
-        )),
-        Command::Close(name) => done(close_stream(
-            db,
-            &Name::new(name),
-            streams,
-            scratch,
-            out,
-            pending,
-        )),
+impl<I: Source, O: Sink> Session<'_, '_, '_, '_, I, O> {
+    /// Runs the command of a line, whose number is counted from 1.
+    pub(crate) fn run_line(
+        &mut self,
+        streams: &mut Streams,
+        line: &Line,
+        number: u64,
+    ) -> Result<(), ScriptStop>
+        requires usable { IsUsable self.old.db.now }
+        requires fits { AreStreamsOf self.old.db.now streams.old }
+        requires scratch { IsScratchOf self.old.db.now self.old.scratch.now }
+        ensures same_db { self.new.db.now ≡ self.old.db.now }
+        ensures same_input { self.new.input.ghost_name ≡ self.old.input.ghost_name }
+        ensures same_out { self.new.out.ghost_name ≡ self.old.out.ghost_name }
+        ensures fits { AreStreamsOf self.old.db.now streams.new }
+        ensures scratch { IsScratchOf self.old.db.now self.new.scratch.now }
+        ensures runs { (whole : List ℕ) → line.now ≡ kept_of whole → RunsBy (Runs self.old.db.now whole number streams.old streams.new
+            (I.left self.old.input.now) (I.left self.new.input.now) self.old.reader self.new.reader
+            (O.written self.old.out.now) (O.written self.new.out.now) self.old.pending self.new.pending) result }
+        ensures leaves { LeavesAt self.new.reader result }
+        ensures counts { StopCounts (I.faults self.old.input.now) (I.faults self.new.input.now)
+            (O.faults self.old.out.now) (O.faults self.new.out.now) result }
+    {
+        let Some(command) = command(line.as_slice()) else {
+            let fault = ScriptFault::Script(number);
+            return Err(write_fault(fault, self.out, &mut self.pending));
+        };
+        match command {
+            Command::Open(name) => self.open(streams, &Name::new(name)),
+            Command::Write(name, count) => self.write(streams, &Name::new(name), count, number),
+            Command::Reset(name) => self.reset(streams, &Name::new(name)),
+            Command::Close(name) => self.close(streams, &Name::new(name)),
+        }
+    }
+
+    /// Opens the stream of that name, and answers.
+    fn open(&mut self, streams: &mut Streams, name: &Name) -> Result<(), ScriptStop>
+        requires usable { IsUsable self.old.db.now }
+        requires fits { AreStreamsOf self.old.db.now streams.old }
+        requires scratch { IsScratchOf self.old.db.now self.old.scratch.now }
+        ensures same_db { self.new.db.now ≡ self.old.db.now }
+        ensures same_input { self.new.input.ghost_name ≡ self.old.input.ghost_name }
+        ensures same_out { self.new.out.ghost_name ≡ self.old.out.ghost_name }
+        ensures fits { AreStreamsOf self.old.db.now streams.new }
+        ensures scratch { IsScratchOf self.old.db.now self.new.scratch.now }
+        ensures runs { (whole : List ℕ) (number : ℕ) → IsCommand whole (order.Open name.now) → RunsBy (Runs self.old.db.now whole number streams.old streams.new
+            (I.left self.old.input.now) (I.left self.new.input.now) self.old.reader self.new.reader
+            (O.written self.old.out.now) (O.written self.new.out.now) self.old.pending self.new.pending) result }
+        ensures leaves { LeavesAt self.new.reader result }
+        ensures counts { StopCounts (I.faults self.old.input.now) (I.faults self.new.input.now)
+            (O.faults self.old.out.now) (O.faults self.new.out.now) result }
+    {
+        let reply = streams.open(self.alloc, self.db, name.as_slice());
+        done(write_reply(name, reply, self.out, &mut self.pending))
+    }
+
+    /// Takes so many bytes, which stand behind the line of this number, for the stream of that name, and answers behind the
+    /// lines of what they report.
+    fn write(
+        &mut self,
+        streams: &mut Streams,
+        name: &Name,
+        count: u64,
+        number: u64,
+    ) -> Result<(), ScriptStop>
+        requires usable { IsUsable self.old.db.now }
+        requires fits { AreStreamsOf self.old.db.now streams.old }
+        requires scratch { IsScratchOf self.old.db.now self.old.scratch.now }
+        ensures same_db { self.new.db.now ≡ self.old.db.now }
+        ensures same_input { self.new.input.ghost_name ≡ self.old.input.ghost_name }
+        ensures same_out { self.new.out.ghost_name ≡ self.old.out.ghost_name }
+        ensures fits { AreStreamsOf self.old.db.now streams.new }
+        ensures scratch { IsScratchOf self.old.db.now self.new.scratch.now }
+        ensures runs { (whole : List ℕ) → IsCommand whole (order.Write name.now count) → RunsBy (Runs self.old.db.now whole number streams.old streams.new
+            (I.left self.old.input.now) (I.left self.new.input.now) self.old.reader self.new.reader
+            (O.written self.old.out.now) (O.written self.new.out.now) self.old.pending self.new.pending) result }
+        ensures leaves { LeavesAt self.new.reader result }
+        ensures counts { StopCounts (I.faults self.old.input.now) (I.faults self.new.input.now)
+            (O.faults self.old.out.now) (O.faults self.new.out.now) result }
+    {
+        let payload = match self.take_payload(streams, name, count) {
+            Ok(payload) => payload,
+            Err(stop) => return Err(ScriptStop::Broken(stop)),
+        };
+        if !payload.whole {
+            let fault = ScriptFault::Truncated(number);
+            return Err(write_fault(fault, self.out, &mut self.pending));
+        }
+        match write_reply(name, payload.reply, self.out, &mut self.pending) {
+            Ok(()) => {}
+            Err(Failed) => return Err(ScriptStop::Broken(Break::Write)),
+        }
+        match self.reader.take_feed(self.input) {
+            Ok(true) => Ok(()),
+            Ok(false) => {
+                let fault = ScriptFault::Script(number);
+                Err(write_fault(fault, self.out, &mut self.pending))
+            }
+            Err(stop) => Err(ScriptStop::Broken(stop)),
+        }
+    }
+
+    /// Resets the stream of that name, and answers behind the lines of its last reports.
+    fn reset(&mut self, streams: &mut Streams, name: &Name) -> Result<(), ScriptStop>
+        requires usable { IsUsable self.old.db.now }
+        requires fits { AreStreamsOf self.old.db.now streams.old }
+        requires scratch { IsScratchOf self.old.db.now self.old.scratch.now }
+        ensures same_db { self.new.db.now ≡ self.old.db.now }
+        ensures same_input { self.new.input.ghost_name ≡ self.old.input.ghost_name }
+        ensures same_out { self.new.out.ghost_name ≡ self.old.out.ghost_name }
+        ensures fits { AreStreamsOf self.old.db.now streams.new }
+        ensures scratch { IsScratchOf self.old.db.now self.new.scratch.now }
+        ensures runs { (whole : List ℕ) (number : ℕ) → IsCommand whole (order.Reset name.now) → RunsBy (Runs self.old.db.now whole number streams.old streams.new
+            (I.left self.old.input.now) (I.left self.new.input.now) self.old.reader self.new.reader
+            (O.written self.old.out.now) (O.written self.new.out.now) self.old.pending self.new.pending) result }
+        ensures leaves { LeavesAt self.new.reader result }
+        ensures counts { StopCounts (I.faults self.old.input.now) (I.faults self.new.input.now)
+            (O.faults self.old.out.now) (O.faults self.new.out.now) result }
+    {
+        match self.tell_reset(streams, name) {
+            Ok(reply) => done(write_reply(name, reply, self.out, &mut self.pending)),
+            Err(Failed) => Err(ScriptStop::Broken(Break::Write)),
+        }
+    }
+
+    /// Closes the stream of that name, and answers behind the lines of its last reports.
+    fn close(&mut self, streams: &mut Streams, name: &Name) -> Result<(), ScriptStop>
+        requires usable { IsUsable self.old.db.now }
+        requires fits { AreStreamsOf self.old.db.now streams.old }
+        requires scratch { IsScratchOf self.old.db.now self.old.scratch.now }
+        ensures same_db { self.new.db.now ≡ self.old.db.now }
+        ensures same_input { self.new.input.ghost_name ≡ self.old.input.ghost_name }
+        ensures same_out { self.new.out.ghost_name ≡ self.old.out.ghost_name }
+        ensures fits { AreStreamsOf self.old.db.now streams.new }
+        ensures scratch { IsScratchOf self.old.db.now self.new.scratch.now }
+        ensures runs { (whole : List ℕ) (number : ℕ) → IsCommand whole (order.Close name.now) → RunsBy (Runs self.old.db.now whole number streams.old streams.new
+            (I.left self.old.input.now) (I.left self.new.input.now) self.old.reader self.new.reader
+            (O.written self.old.out.now) (O.written self.new.out.now) self.old.pending self.new.pending) result }
+        ensures leaves { LeavesAt self.new.reader result }
+        ensures counts { StopCounts (I.faults self.old.input.now) (I.faults self.new.input.now)
+            (O.faults self.old.out.now) (O.faults self.new.out.now) result }
+    {
+        match self.tell_close(streams, name) {
+            Ok(reply) => done(write_reply(name, reply, self.out, &mut self.pending)),
+            Err(Failed) => Err(ScriptStop::Broken(Break::Write)),
+        }
     }
 }
 
@@ -95,48 +173,5 @@ fn done(written: Result<(), Failed>) -> Result<(), ScriptStop>
     match written {
         Ok(()) => Ok(()),
         Err(Failed) => Err(ScriptStop::Broken(Break::Write)),
-    }
-}
-
-/// Runs a write of so many bytes, which stand behind the line of this number.
-fn run_write<I: Source, O: Sink>(
-    db: &Database,
-    name: &Name,
-    count: u64,
-    number: u64,
-    streams: &mut Streams,
-    scratch: &mut Scratch,
-    reader: &mut Reader,
-    input: &mut I,
-    out: &mut O,
-    pending: &mut Pending,
-) -> Result<(), ScriptStop>
-    requires usable { IsUsable db.now }
-    requires fits { AreStreamsOf db.now streams.old }
-    requires scratch { IsScratchOf db.now scratch.old }
-    ensures fits { AreStreamsOf db.now streams.new }
-    ensures scratch { IsScratchOf db.now scratch.new }
-    ensures runs { (whole : List ℕ) → IsCommand whole (order.Write name.now count) → RunsBy (Runs db.now whole number streams.old streams.new
-        (I.left input.old) (I.left input.new) reader.old reader.new (O.written out.old) (O.written out.new) pending.old pending.new) result }
-    ensures leaves { LeavesAt reader.new result }
-    ensures counts { StopCounts (I.faults input.old) (I.faults input.new) (O.faults out.old) (O.faults out.new) result }
-{
-    let payload = match take_payload(
-        db, name, count, streams, scratch, reader, input, out, pending,
-    ) {
-        Ok(payload) => payload,
-        Err(stop) => return Err(ScriptStop::Broken(stop)),
-    };
-    if !payload.whole {
-        return Err(write_fault(ScriptFault::Truncated(number), out, pending));
-    }
-    match write_reply(name, payload.reply, out, pending) {
-        Ok(()) => {}
-        Err(Failed) => return Err(ScriptStop::Broken(Break::Write)),
-    }
-    match reader.take_feed(input) {
-        Ok(true) => Ok(()),
-        Ok(false) => Err(write_fault(ScriptFault::Script(number), out, pending)),
-        Err(stop) => Err(ScriptStop::Broken(stop)),
     }
 }

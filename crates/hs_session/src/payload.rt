@@ -12,6 +12,7 @@ use crate::fault::Break;
 use crate::name::Name;
 use crate::named_lines::NamedLines;
 use crate::reader::Reader;
+use crate::session::Session;
 use crate::streams::Streams;
 use hs_compile::Database;
 use hs_engine::Steps;
@@ -31,32 +32,111 @@ pub(crate) struct Payload {
     pub(crate) whole: bool,
 }
 
-/// Takes so many bytes for the stream of that name, or drops them where it isn't open or would become too long.
-pub(crate) fn take_payload<I: Source, O: Sink>(
-    db: &Database,
-    name: &Name,
-    count: u64,
-    streams: &mut Streams,
-    scratch: &mut Scratch,
-    reader: &mut Reader,
-    input: &mut I,
-    out: &mut O,
-    pending: &mut Pending,
-) -> Result<Payload, Break>
-    requires usable { IsUsable db.now }
-    requires fits { AreStreamsOf db.now streams.old }
-    requires scratch { IsScratchOf db.now scratch.old }
-    ensures fits { AreStreamsOf db.now streams.new }
-    ensures scratch { IsScratchOf db.now scratch.new }
-    ensures taken { IsPayloadTaken db.now name.now count streams.old streams.new (I.left input.old) (I.left input.new) reader.old reader.new
-        (O.written out.old) (O.written out.new) pending.old pending.new result }
-    ensures counts { Counts (I.faults input.old) (I.faults input.new) (O.faults out.old) (O.faults out.new) result }
-{
-    match streams.map.get_mut(name.as_slice()) {
-        None => refuse_payload(Word::Unknown, count, reader, input),
-        Some(stream) => write_payload(
-            db, name, count, stream, scratch, reader, input, out, pending,
-        ),
+impl<I: Source, O: Sink> Session<'_, '_, '_, '_, I, O> {
+    /// Takes so many bytes for the stream of that name, or drops them where it isn't open or would become too long.
+    pub(crate) fn take_payload(
+        &mut self,
+        streams: &mut Streams,
+        name: &Name,
+        count: u64,
+    ) -> Result<Payload, Break>
+        requires usable { IsUsable self.old.db.now }
+        requires fits { AreStreamsOf self.old.db.now streams.old }
+        requires scratch { IsScratchOf self.old.db.now self.old.scratch.now }
+        ensures same_db { self.new.db.now ≡ self.old.db.now }
+        ensures same_input { self.new.input.ghost_name ≡ self.old.input.ghost_name }
+        ensures same_out { self.new.out.ghost_name ≡ self.old.out.ghost_name }
+        ensures fits { AreStreamsOf self.old.db.now streams.new }
+        ensures scratch { IsScratchOf self.old.db.now self.new.scratch.now }
+        ensures taken { IsPayloadTaken self.old.db.now name.now count streams.old streams.new
+            (I.left self.old.input.now) (I.left self.new.input.now) self.old.reader self.new.reader
+            (O.written self.old.out.now) (O.written self.new.out.now) self.old.pending self.new.pending result }
+        ensures counts { Counts (I.faults self.old.input.now) (I.faults self.new.input.now)
+            (O.faults self.old.out.now) (O.faults self.new.out.now) result }
+    {
+        match streams.map.get_mut(name.as_slice()) {
+            None => refuse_payload(Word::Unknown, count, &mut self.reader, self.input),
+            Some(stream) => self.write_payload(stream, name, count),
+        }
+    }
+
+    /// Writes so many bytes to the stream, or drops them where it would become too long.
+    fn write_payload(
+        &mut self,
+        stream: &mut Stream,
+        name: &Name,
+        count: u64,
+    ) -> Result<Payload, Break>
+        requires usable { IsUsable self.old.db.now }
+        requires fits { IsStreamOf self.old.db.now stream.old }
+        requires scratch { IsScratchOf self.old.db.now self.old.scratch.now }
+        ensures same_db { self.new.db.now ≡ self.old.db.now }
+        ensures same_input { self.new.input.ghost_name ≡ self.old.input.ghost_name }
+        ensures same_out { self.new.out.ghost_name ≡ self.old.out.ghost_name }
+        ensures fits { IsStreamOf self.old.db.now stream.new }
+        ensures scratch { IsScratchOf self.old.db.now self.new.scratch.now }
+        ensures written { IsPayloadWritten self.old.db.now name.now count stream.old stream.new
+            (I.left self.old.input.now) (I.left self.new.input.now) self.old.reader self.new.reader
+            (O.written self.old.out.now) (O.written self.new.out.now) self.old.pending self.new.pending result }
+        ensures counts { Counts (I.faults self.old.input.now) (I.faults self.new.input.now)
+            (O.faults self.old.out.now) (O.faults self.new.out.now) result }
+    {
+        if !has_room(stream.offset(self.db), count) {
+            return refuse_payload(Word::Length, count, &mut self.reader, self.input);
+        }
+        match self.scan_payload(stream, name, count) {
+            Ok(whole) => Ok(Payload {
+                reply: Reply::Done(Verb::Write, Some(count)),
+                whole,
+            }),
+            Err(stop) => Err(stop),
+        }
+    }
+
+    /// Scans so many bytes as they come, and tells whether all came. The lines of what they report are written, or wait.
+    fn scan_payload(&mut self, stream: &mut Stream, name: &Name, count: u64) -> Result<bool, Break>
+        requires usable { IsUsable self.old.db.now }
+        requires fits { IsStreamOf self.old.db.now stream.old }
+        requires scratch { IsScratchOf self.old.db.now self.old.scratch.now }
+        requires room { offset_of stream.old + count ≤ greatest_offset }
+        ensures same_db { self.new.db.now ≡ self.old.db.now }
+        ensures same_input { self.new.input.ghost_name ≡ self.old.input.ghost_name }
+        ensures same_out { self.new.out.ghost_name ≡ self.old.out.ghost_name }
+        ensures fits { IsStreamOf self.old.db.now stream.new }
+        ensures scratch { IsScratchOf self.old.db.now self.new.scratch.now }
+        ensures scanned { IsPayloadScanned self.old.db.now name.now count stream.old stream.new
+            (I.left self.old.input.now) (I.left self.new.input.now) self.old.reader self.new.reader
+            (O.written self.old.out.now) (O.written self.new.out.now) self.old.pending self.new.pending result }
+        ensures counts { Counts (I.faults self.old.input.now) (I.faults self.new.input.now)
+            (O.faults self.old.out.now) (O.faults self.new.out.now) result }
+    {
+        let db = self.db;
+        let mut left = count;
+        while left > 0 {
+            match self.reader.fill(self.input) {
+                Ok(true) => {}
+                Ok(false) => return Ok(false),
+                Err(stop) => return Err(stop),
+            }
+            let bytes = first_of(self.reader.waiting(), left);
+            let taken = bytes.len();
+            let scanned = scan_piece(
+                db,
+                name,
+                stream,
+                self.scratch,
+                bytes,
+                self.out,
+                &mut self.pending,
+            );
+            self.reader.advance(taken);
+            left -= taken as u64;
+            match scanned {
+                Ok(()) => {}
+                Err(Failed) => return Err(Break::Write),
+            }
+        }
+        Ok(true)
     }
 }
 
@@ -73,41 +153,6 @@ fn refuse_payload<I: Source>(
     match drop_payload(count, reader, input) {
         Ok(whole) => Ok(Payload {
             reply: Reply::No(Verb::Write, word),
-            whole,
-        }),
-        Err(stop) => Err(stop),
-    }
-}
-
-/// Writes so many bytes to the stream, or drops them where it would become too long.
-fn write_payload<I: Source, O: Sink>(
-    db: &Database,
-    name: &Name,
-    count: u64,
-    stream: &mut Stream,
-    scratch: &mut Scratch,
-    reader: &mut Reader,
-    input: &mut I,
-    out: &mut O,
-    pending: &mut Pending,
-) -> Result<Payload, Break>
-    requires usable { IsUsable db.now }
-    requires fits { IsStreamOf db.now stream.old }
-    requires scratch { IsScratchOf db.now scratch.old }
-    ensures fits { IsStreamOf db.now stream.new }
-    ensures scratch { IsScratchOf db.now scratch.new }
-    ensures written { IsPayloadWritten db.now name.now count stream.old stream.new (I.left input.old) (I.left input.new) reader.old reader.new
-        (O.written out.old) (O.written out.new) pending.old pending.new result }
-    ensures counts { Counts (I.faults input.old) (I.faults input.new) (O.faults out.old) (O.faults out.new) result }
-{
-    if !has_room(stream.offset(db), count) {
-        return refuse_payload(Word::Length, count, reader, input);
-    }
-    match scan_payload(
-        db, name, count, stream, scratch, reader, input, out, pending,
-    ) {
-        Ok(whole) => Ok(Payload {
-            reply: Reply::Done(Verb::Write, Some(count)),
             whole,
         }),
         Err(stop) => Err(stop),
@@ -134,48 +179,6 @@ fn drop_payload<I: Source>(count: u64, reader: &mut Reader, input: &mut I) -> Re
         let taken = first_of(reader.waiting(), left).len();
         reader.advance(taken);
         left -= taken as u64;
-    }
-    Ok(true)
-}
-
-/// Scans so many bytes as they come, and tells whether all came. The lines of what they report are written, or wait.
-fn scan_payload<I: Source, O: Sink>(
-    db: &Database,
-    name: &Name,
-    count: u64,
-    stream: &mut Stream,
-    scratch: &mut Scratch,
-    reader: &mut Reader,
-    input: &mut I,
-    out: &mut O,
-    pending: &mut Pending,
-) -> Result<bool, Break>
-    requires usable { IsUsable db.now }
-    requires fits { IsStreamOf db.now stream.old }
-    requires scratch { IsScratchOf db.now scratch.old }
-    requires room { offset_of stream.old + count ≤ greatest_offset }
-    ensures fits { IsStreamOf db.now stream.new }
-    ensures scratch { IsScratchOf db.now scratch.new }
-    ensures scanned { IsPayloadScanned db.now name.now count stream.old stream.new (I.left input.old) (I.left input.new) reader.old reader.new
-        (O.written out.old) (O.written out.new) pending.old pending.new result }
-    ensures counts { Counts (I.faults input.old) (I.faults input.new) (O.faults out.old) (O.faults out.new) result }
-{
-    let mut left = count;
-    while left > 0 {
-        match reader.fill(input) {
-            Ok(true) => {}
-            Ok(false) => return Ok(false),
-            Err(stop) => return Err(stop),
-        }
-        let bytes = first_of(reader.waiting(), left);
-        let taken = bytes.len();
-        let scanned = scan_piece(db, name, stream, scratch, bytes, out, pending);
-        reader.advance(taken);
-        left -= taken as u64;
-        match scanned {
-            Ok(()) => {}
-            Err(Failed) => return Err(Break::Write),
-        }
     }
     Ok(true)
 }

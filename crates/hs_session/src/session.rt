@@ -1,5 +1,5 @@
 //! A script, from its first byte to its end.
-ghost use Rattle.std.specs.Prelude.{◌≡◌, [], is_err, OnOk, OnErr};
+ghost use Rattle.std.specs.Prelude.{◌≡◌, false, [], is_err, OnOk, OnErr};
 ghost use Rattle.hs_outside.specs.Counts.{Rose};
 ghost use Rattle.hs_outside.specs.Sink.{Took, TookPrefix};
 ghost use Rattle.hs_scan.specs.Passing.{Passes, PassesPart};
@@ -10,7 +10,6 @@ ghost use Rattle.hs_session.specs.Commands.{StopCounts};
 ghost use Rattle.hs_session.specs.Sending.{Sends};
 ghost use Rattle.hs_session.specs.Serving.{ScriptEnds, EndCounts, Flushes, lost_of};
 
-use crate::commands::run_line;
 use crate::fault::{Break, ScriptStop};
 use crate::line::Line;
 use crate::reader::Reader;
@@ -20,6 +19,24 @@ use hs_outside::{Failed, Sink, Source};
 use hs_scan::Pending;
 use hs_stream::Scratch;
 use std::alloc::Global;
+
+/// What the commands of a script work with, beside the open streams.
+#[derive(Drop)]
+pub(crate) struct Session<'d, 's, 'i, 'o, I: Source, O: Sink> {
+    pub(crate) alloc: Global,
+    /// What the streams are scanned for.
+    pub(crate) db: &'d Database,
+    /// Room to scan in.
+    pub(crate) scratch: &'s mut Scratch,
+    /// The piece of the script that was read last.
+    pub(crate) reader: Reader,
+    /// Where the script comes from.
+    pub(crate) input: &'i mut I,
+    /// Where the answers go.
+    pub(crate) out: &'o mut O,
+    /// The lines that wait.
+    pub(crate) pending: Pending,
+}
 
 /// Runs the script that `input` holds over streams of the database. What it answers and reports goes to `out`.
 ///
@@ -42,57 +59,69 @@ pub fn serve<I: Source, O: Sink>(
         Ok(scratch) => scratch,
         Err(_) => return Err(ScriptStop::Memory),
     };
-    let mut pending = Pending::new();
-    let ended = run_script(alloc, db, &mut scratch, input, out, &mut pending);
-    flush(ended, out, &mut pending)
+    let mut session = Session {
+        alloc,
+        db,
+        scratch: &mut scratch,
+        reader: Reader::new(),
+        input,
+        out,
+        pending: Pending::new(),
+    };
+    session.run()
 }
 
-/// Runs the script to its end, or until it stops. Lines may wait then.
-fn run_script<I: Source, O: Sink>(
-    alloc: Global,
-    db: &Database,
-    scratch: &mut Scratch,
-    input: &mut I,
-    out: &mut O,
-    pending: &mut Pending,
-) -> Result<(), ScriptStop>
-    requires usable { IsUsable db.now }
-    requires scratch { IsScratchOf db.now scratch.old }
-    ensures ends { ScriptEnds db.now (I.left input.old) (I.left input.new)
-        (λ text. Passes (O.written out.old) (O.written out.new) pending.old pending.new text)
-        (λ text. PassesPart (O.written out.old) (O.written out.new) pending.old text) result }
-    ensures counts { StopCounts (I.faults input.old) (I.faults input.new) (O.faults out.old) (O.faults out.new) result }
-{
-    let mut streams = Streams::new(alloc);
-    let mut reader = Reader::new();
-    let mut line = Line::new();
-    let mut number: u64 = 1;
-    loop {
-        match reader.read_line(input, &mut line) {
-            Ok(true) => {}
-            Ok(false) => return Ok(()),
-            Err(stop) => return Err(ScriptStop::Broken(stop)),
+impl<I: Source, O: Sink> Session<'_, '_, '_, '_, I, O> {
+    /// Runs the script to its end, or until it stops, and writes the lines that wait then.
+    fn run(&mut self) -> Result<(), ScriptStop>
+        requires usable { IsUsable self.old.db.now }
+        requires scratch { IsScratchOf self.old.db.now self.old.scratch.now }
+        requires unread { self.old.reader ≡ record { bytes = []; at = 0; ended = false } }
+        requires unanswered { self.old.pending ≡ [] }
+        ensures same_input { self.new.input.ghost_name ≡ self.old.input.ghost_name }
+        ensures same_out { self.new.out.ghost_name ≡ self.old.out.ghost_name }
+        ensures ends { ScriptEnds self.old.db.now (I.left self.old.input.now) (I.left self.new.input.now)
+            (λ text. Took (O.written self.old.out.now) (O.written self.new.out.now) text)
+            (λ text. TookPrefix (O.written self.old.out.now) (O.written self.new.out.now) text) result }
+        ensures counts { EndCounts (I.faults self.old.input.now) (I.faults self.new.input.now)
+            (O.faults self.old.out.now) (O.faults self.new.out.now) result }
+    {
+        let ended = self.run_script();
+        flush(ended, self.out, &mut self.pending)
+    }
+
+    /// Runs the script to its end, or until it stops. Lines may wait then.
+    fn run_script(&mut self) -> Result<(), ScriptStop>
+        requires usable { IsUsable self.old.db.now }
+        requires scratch { IsScratchOf self.old.db.now self.old.scratch.now }
+        requires unread { self.old.reader ≡ record { bytes = []; at = 0; ended = false } }
+        ensures same_input { self.new.input.ghost_name ≡ self.old.input.ghost_name }
+        ensures same_out { self.new.out.ghost_name ≡ self.old.out.ghost_name }
+        ensures ends { ScriptEnds self.old.db.now (I.left self.old.input.now) (I.left self.new.input.now)
+            (λ text. Passes (O.written self.old.out.now) (O.written self.new.out.now) self.old.pending self.new.pending text)
+            (λ text. PassesPart (O.written self.old.out.now) (O.written self.new.out.now) self.old.pending text) result }
+        ensures counts { StopCounts (I.faults self.old.input.now) (I.faults self.new.input.now)
+            (O.faults self.old.out.now) (O.faults self.new.out.now) result }
+    {
+        let mut streams = Streams::new(self.alloc);
+        let mut line = Line::new();
+        let mut number: u64 = 1;
+        loop {
+            match self.reader.read_line(self.input, &mut line) {
+                Ok(true) => {}
+                Ok(false) => return Ok(()),
+                Err(stop) => return Err(ScriptStop::Broken(stop)),
+            }
+            match self.run_line(&mut streams, &line, number) {
+                Ok(()) => {}
+                Err(stop) => return Err(stop),
+            }
+            match answer_now(&self.reader, self.out, &mut self.pending) {
+                Ok(()) => {}
+                Err(Failed) => return Err(ScriptStop::Broken(Break::Write)),
+            }
+            number += 1;
         }
-        match run_line(
-            alloc,
-            db,
-            &line,
-            number,
-            &mut streams,
-            scratch,
-            &mut reader,
-            input,
-            out,
-            pending,
-        ) {
-            Ok(()) => {}
-            Err(stop) => return Err(stop),
-        }
-        match answer_now(&reader, out, pending) {
-            Ok(()) => {}
-            Err(Failed) => return Err(ScriptStop::Broken(Break::Write)),
-        }
-        number += 1;
     }
 }
 

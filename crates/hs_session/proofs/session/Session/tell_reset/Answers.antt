@@ -1,52 +1,57 @@
-use Rattle.std.proofs.Common.{rules, refl, subst, [], ◌∷◌, Some}
+use Rattle.std.proofs.Common.{rules, refl, sym, subst, [], ◌∷◌, Some}
 use Rattle.hs_script.specs.Actions.{Reset}
 use Rattle.hs_script.specs.Runs.{named_line}
 use Rattle.hs_scan.proofs.PassLemmas.{printed-all, printed-part}
 use Rattle.hs_session.specs.Streams.{Performs}
 use Rattle.hs_session.proofs.LineLemmas.{wrote}
-use Rattle.hs_session.proofs.answers.tell_reset.Goals as goal
+use Rattle.hs_session.proofs.session.Session.tell_reset.Goals as goal
+
+pub shape_of-self : goal.shape_of-self
+shape_of-self g c =
+    let taken = c.reset-reply.ensures.performs in
+    sym (wrote g.O.Sink.written g.O.Sink.faults _ taken.pairs c.reset-reply.new.events refl taken.through).same_pending
+
+pub shape_of-self-2 : goal.shape_of-self-2
+shape_of-self-2 g c =
+    let taken = c.reset-reply.ensures.performs in
+    sym (wrote g.O.Sink.written g.O.Sink.faults _ taken.pairs c.reset-reply.new.events refl taken.through).same_out
 
 pub returns-then-lines-clause-failed : goal.returns-then-lines-clause-failed
 returns-then-lines-clause-failed g c =
     let taken = c.reset-reply.ensures.performs in
     let lines = wrote g.O.Sink.written g.O.Sink.faults _ taken.pairs c.reset-reply.new.events refl taken.through in
-    let same = lines.same_out in
     let rose = (printed-part (named_line c.args.name.now) _ taken.pairs _ lines.printed c.if-lines.true).rose in
-    search (rules, same, rose)
+    search (rules, rose)
 
 pub returns-then-lines-clause-told : goal.returns-then-lines-clause-told
 returns-then-lines-clause-told g c =
     let taken = c.reset-reply.ensures.performs in
     let lines = wrote g.O.Sink.written g.O.Sink.faults _ taken.pairs c.reset-reply.new.events refl taken.through in
-    let same = lines.same_out in
     let part = (printed-part (named_line c.args.name.now) _ taken.pairs _ lines.printed c.if-lines.true).passes in
     record {
       pairs = taken.pairs;
       reply = c.reset-reply.result;
       is = tt;
-      performs = subst (λ n. Performs c.args.db.now c.args.streams.now c.reset-reply.new.self (Reset n ∷ []) (record { reports = taken.pairs; reply = Some c.reset-reply.result } ∷ [])) c.as_slice.ensures.bytes taken.holds;
-      sends = search (rules, same, part);
+      performs = subst (λ n. Performs c.args.self.now.db.now c.args.streams.now c.reset-reply.new.self (Reset n ∷ []) (record { reports = taken.pairs; reply = Some c.reset-reply.result } ∷ [])) c.as_slice.ensures.bytes taken.holds;
+      sends = search (rules, part);
     }
 
 pub returns-else-lines-clause-counted : goal.returns-else-lines-clause-counted
 returns-else-lines-clause-counted g c =
     let taken = c.reset-reply.ensures.performs in
     let lines = wrote g.O.Sink.written g.O.Sink.faults _ taken.pairs c.reset-reply.new.events refl taken.through in
-    let same = lines.same_out in
     let counted = (printed-all (named_line c.args.name.now) _ taken.pairs _ lines.printed c.if-lines.false).counted in
-    search (rules, same, counted)
+    search (rules, counted)
 
 pub returns-else-lines-clause-told : goal.returns-else-lines-clause-told
 returns-else-lines-clause-told g c =
     let taken = c.reset-reply.ensures.performs in
     let lines = wrote g.O.Sink.written g.O.Sink.faults _ taken.pairs c.reset-reply.new.events refl taken.through in
-    let same_out = lines.same_out in
-    let same_pending = lines.same_pending in
     let all = (printed-all (named_line c.args.name.now) _ taken.pairs _ lines.printed c.if-lines.false).passes in
     record {
       pairs = taken.pairs;
       reply = c.reset-reply.result;
       is = refl;
-      performs = subst (λ n. Performs c.args.db.now c.args.streams.now c.reset-reply.new.self (Reset n ∷ []) (record { reports = taken.pairs; reply = Some c.reset-reply.result } ∷ [])) c.as_slice.ensures.bytes taken.holds;
-      sends = search (rules, same_out, same_pending, all);
+      performs = subst (λ n. Performs c.args.self.now.db.now c.args.streams.now c.reset-reply.new.self (Reset n ∷ []) (record { reports = taken.pairs; reply = Some c.reset-reply.result } ∷ [])) c.as_slice.ensures.bytes taken.holds;
+      sends = search (rules, all);
     }

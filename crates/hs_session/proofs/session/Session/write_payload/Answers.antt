@@ -5,7 +5,7 @@ use Rattle.hs_text.specs.declared.reply_lines.Reply.TheVariants.{Done, No}
 use Rattle.hs_session.specs.Breaks.{is_lost}
 use Rattle.hs_session.specs.Payloads.{too_long, turned}
 use Rattle.hs_session.proofs.WriteLemmas.{sends-none}
-use Rattle.hs_session.proofs.payload.write_payload.Goals as goal
+use Rattle.hs_session.proofs.session.Session.write_payload.Goals as goal
 
 pub returns-then-not-has_room-clause-written : goal.returns-then-not-has_room-clause-written
 returns-then-not-has_room-clause-written g c =
@@ -17,7 +17,7 @@ returns-then-not-has_room-clause-written g c =
       comes = refuses.come.comes;
       turns = too_long (omega (arith, c.offset.ensures, c.if-not-has_room.ensures)) refl;
       due = refuses.due;
-      sends = sends-none (is_lost c.refuse_payload.result) (g.O.Sink.written c.args.out.now) c.args.pending.now refuses.kept;
+      sends = sends-none (is_lost c.refuse_payload.result) (g.O.Sink.written c.args.self.now.out.now) c.args.self.now.pending refuses.kept;
     }
 
 pub returns-in-Ok-clause-written : goal.returns-in-Ok-clause-written

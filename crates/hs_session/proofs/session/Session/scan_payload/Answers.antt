@@ -1,15 +1,18 @@
 use Rattle.std.proofs.Common.{◌≡◌, ◌∙◌, ◌++◌, [], length, take, true, false, refl, ap, arith}
 use Rattle.hs_session.proofs.ReadLemmas.{when_true}
 use Rattle.hs_session.proofs.PayloadLemmas.{comes-start, comes-piece, comes-lost, few_taken, scanned-nothing, scanned-join}
-use Rattle.hs_session.proofs.payload.scan_payload.Goals as goal
+use Rattle.hs_session.proofs.session.Session.scan_payload.Goals as goal
 
 pub loop-left-init : goal.loop-left-init
 loop-left-init g c = record {
   scanned = record {
     came = [];
-    come = comes-start (g.I.Source.left c.args.input.now) c.args.reader.now c.args.count;
-    scanned = scanned-nothing c.args.db.now c.args.name.now c.args.stream.now (g.O.Sink.written c.args.out.now) c.args.pending.now;
+    come = comes-start (g.I.Source.left c.args.self.now.input.now) c.args.self.now.reader c.args.count;
+    scanned = scanned-nothing c.args.self.now.db.now c.args.name.now c.args.stream.now (g.O.Sink.written c.args.self.now.out.now) c.args.self.now.pending;
   };
+  same_db = refl;
+  same_input = refl;
+  same_out = refl;
   fits = c.requires.fits;
   scratch = c.requires.scratch;
   room = c.requires.room;
@@ -28,6 +31,9 @@ loop-left-preserved g c =
         come = comes-piece bytes so_far.come c.fill.ensures.consumes waits.1 is c.advance.ensures.bytes c.advance.ensures.place c.advance.ensures.ended;
         scanned = scanned-join false so_far.scanned c.in-Ok.ensures.scanned;
       };
+      same_db = c.loop-left.invariant.same_db;
+      same_input = c.loop-left.invariant.same_input;
+      same_out = c.loop-left.invariant.same_out;
       fits = c.scan_piece-scanned.ensures.fits;
       scratch = c.scan_piece-scanned.ensures.scratch;
       room = omega (arith, c.loop-left.invariant.room, c.scan_piece-scanned.ensures.offset, ap length is, few_taken c.loop-left.left c.fill.new.self.bytes);
