@@ -1,6 +1,7 @@
 use Rattle.std.proofs.Common.{◌∙◌, refl}
 use Rattle.hs_outside.proofs.Sending.{Took-nothing}
 use Rattle.hs_outside.proofs.Counting.{Rose-after_same}
+use Rattle.hs_stream.proofs.DatabaseLemmas.{usable-runs}
 use Rattle.hs_tool.specs.Answers.{stopped}
 use Rattle.hs_tool.proofs.AnswerLemmas.{no_memory_early, scan_stops, scan_done, scan_unwritten}
 use Rattle.hs_tool.proofs.RunLemmas.{runs-of}
@@ -31,3 +32,12 @@ returns-clause-ends g c kind list entries P has is =
     scan_unwritten _ kind list c.args.file.now _ _ entries P c.in-Ok.scan c.scan_file.new.scan c.in-Ok-scan_file.total (g.O.Sink.written c.scan_file.new.out) c.new-pending.result c.scan_file.new.pending
     c.new-pending.ensures has stands scan.scanned c.in-Err-close_scan.ensures.closed
     (Rose-after_same _ _ _ scan.counted.1 c.in-Err-close_scan.ensures.failed)
+
+pub new-requires : goal.new-requires
+new-requires g c = usable-runs c.args.database.now c.program-program.result.now c.program-program.ensures c.requires
+
+pub scan_file-requires-clause-runnable : goal.scan_file-requires-clause-runnable
+scan_file-requires-clause-runnable g c = usable-runs c.args.database.now c.program-program.result.now c.program-program.ensures c.requires
+
+pub close_scan-requires-clause-runnable : goal.close_scan-requires-clause-runnable
+close_scan-requires-clause-runnable g c = usable-runs c.args.database.now c.program-program.result.now c.program-program.ensures c.requires

@@ -3,6 +3,7 @@ use Rattle.hs_glushkov.specs.declared.plain.Plain.{Plain}
 use Rattle.hs_rose.specs.declared.program.Program.{Program}
 use Rattle.hs_run.specs.States.{FitsState}
 use Rattle.hs_compile.specs.Engines.{MayKeep}
+use Rattle.hs_stream.proofs.DatabaseLemmas.{usable-runs}
 use Rattle.hs_stream.proofs.stream.Stream.fits.Goals as goal
 
 pub returns : goal.returns
@@ -13,3 +14,6 @@ returns c = (
   },
   λ fits. c.fits.ensures.1 (subst (λ (p : Program Plain). FitsState MayKeep p c.args.self.now.state) (sym c.program.ensures) fits.state),
 )
+
+pub fits-requires : goal.fits-requires
+fits-requires c = usable-runs c.args.db.now c.program.result.now c.program.ensures c.requires
