@@ -14,7 +14,7 @@ is_le a b h = le-leb a b h
 isnt_le : (a b : ℕ) → b < a → leb a b ≡ false
 isnt_le a b h = grind arith
 
-cell_far : (rows : ℕ → ℕ → ℕ) (p k : ℕ) → 8 ≤ k → cell rows p k ≡ 0
+pub cell_far : (rows : ℕ → ℕ → ℕ) (p k : ℕ) → 8 ≤ k → cell rows p k ≡ 0
 cell_far rows p k h = rw (isnt_le (suc k) 8 (omega arith)) refl
 
 cell_near : (rows : ℕ → ℕ → ℕ) (p k : ℕ) → k < 8 → cell rows p k ≡ rows p k

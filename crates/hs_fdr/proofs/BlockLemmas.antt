@@ -3,14 +3,15 @@ use Rattle.std.proofs.Common.{◌≡◌, ℕ, zero, suc, ◌+◌, ◌-◌, ◌<�
 use Rattle.std.specs.List.{range_with_len}
 use Rattle.std.specs.Int.Bits.{or_zero_r}
 use Rattle.std.proofs.lemmas.Bool.{le-leb, lt-ltb, le-ltb, cases_lt}
-use Rattle.std.proofs.lemmas.List.{get_or-append_right, get_or_default, get_or_past, get_or-drop, get_or-map, ext_get_or, length-map}
+use Rattle.std.proofs.lemmas.List.{get_or-append_right, get_or_append_left, get_or_default, get_or_past, get_or-drop, get_or-map, ext_get_or, length-map}
+use Rattle.std.proofs.lemmas.Nat.{or_comm}
 use Rattle.std.proofs.lemmas.List.FromFn.{length-range_with_len, get_or-range_with_len}
 use Rattle.hs_fdr.specs.declared.tables.Tables.{Tables}
 use Rattle.hs_fdr.specs.Masks.{mask_of, width_of, IsRow}
 use Rattle.hs_fdr.specs.Blocks.{super_character, super_at, mask_at, byte_or_zero, block_masks}
 use Rattle.hs_fdr.specs.Lanes.{HasLanes, IsStored}
 use Rattle.hs_fdr.specs.Adding.{cell, added, added_by, rows_of, text_rows}
-use Rattle.hs_fdr.proofs.AddingLemmas.{SayAlike, added_far, added_here, added_later, added_both, added_by-alike, added_is_mask}
+use Rattle.hs_fdr.proofs.AddingLemmas.{SayAlike, cell_far, added_far, added_here, added_later, added_both, added_by-alike, added_is_mask}
 
 -- a list of 64 that is known at each place
 pub at_each_place : (out : List ℕ) (f : ℕ → ℕ) → length out ≡ 64 → ((i : ℕ) → i < 64 → get_or out i 0 ≡ f i) → out ≡ map f (range_with_len 0 64)
@@ -121,3 +122,53 @@ module _ (tables : Tables) (before block : List ℕ) (next : ℕ) where
   block_masks-is given out e long is =
       subst (λ b. out ≡ map (λ i. cond (ltb i (length block)) (mask_at (mask_of tables) (width_of tables) text b (length before + i)) 255) (range_with_len 0 64)) e
       (at_each_place out (λ i. cond (ltb i (length block)) (mask_at (mask_of tables) (width_of tables) text next (length before + i)) 255) long is)
+
+  -- seven bytes before a block, as the last seven of eight places
+  pub ahead_of_seven : (bytes sum on : List ℕ) → length before ≡ 7 → ((k : ℕ) → k < 7 → get_or bytes (k + 1) 0 ≡ get_or before k 0) → get_or bytes 8 0 ≡ get_or text 7 next
+      → HasLanes sum (λ k. added_by (rows_of tables bytes) 0 8 k) → HasLanes on (λ k. get_or sum (8 + k) 0) → HasLanes on (λ k. added says (length before) (length before + k))
+  ahead_of_seven bytes sum on seven same last s o = record { long = o.long; each = at }
+    where
+      byte_at : (t : ℕ) → t < 7 → get_or bytes (1 + t) 0 ≡ get_or text t 0
+      byte_at t l =
+          let e : 1 + t ≡ t + 1 = omega arith in
+          ap (λ n. get_or bytes n 0) e ∙ same t l ∙ sym (get_or_append_left before block 0 t (omega arith))
+
+      behind_at : (t : ℕ) → t < 7 → get_or bytes (1 + t + 1) 0 ≡ get_or text (t + 1) next
+      behind_at t l =
+          elim (cases_lt (t + 1) 7) [
+            | inl less ↦
+                let e : 1 + t + 1 ≡ t + 1 + 1 = omega arith in
+                ap (λ n. get_or bytes n 0) e ∙ same (t + 1) less ∙ get_or_default before (t + 1) 0 next (omega arith) ∙ sym (get_or_append_left before block next (t + 1) (omega arith))
+            | inr more ↦
+                let e : 1 + t + 1 ≡ 8 = omega arith in
+                let f : 7 ≡ t + 1 = omega arith in
+                ap (λ n. get_or bytes n 0) e ∙ last ∙ ap (λ n. get_or text n next) f
+          ]
+
+      alike : (k : ℕ) → SayAlike (rows_of tables bytes) says 1 0 7 k
+      alike k = λ t l within a b p q j small.
+          let d : a ≡ 1 + t = p in
+          let e : b ≡ t = omega arith in
+          subst (λ n. rows_of tables bytes n j ≡ says b j) (sym d) (subst (λ n. rows_of tables bytes (1 + t) j ≡ says n j) (sym e) (rows_alike bytes (1 + t) t j (byte_at t l) (behind_at t l)))
+
+      first_eight : (k : ℕ) → added_by (rows_of tables bytes) 0 8 (8 + k) ≡ added says 7 (7 + k)
+      first_eight k =
+          let rows = rows_of tables bytes in
+          let rest = added_by says 0 7 (7 + k) in
+          let more : 8 + k ≡ suc (7 + k) = omega arith in
+          let here : 7 + k ≡ 0 + (7 + k) = omega arith in
+          ap (added_by rows 0 8) more
+          ∙ ap (λ x. bit_or x (added_by rows 1 7 (7 + k))) (cell_far rows 0 (suc (7 + k)) (omega arith))
+          ∙ or_comm 0 (added_by rows 1 7 (7 + k)) ∙ or_zero_r (added_by rows 1 7 (7 + k))
+          ∙ added_by-alike rows says 1 0 7 (7 + k) (alike (7 + k))
+          ∙ sym (ap (added says 7) here ∙ added_both says 0 7 (7 + k) ∙ or_comm 0 rest ∙ or_zero_r rest)
+
+      at_seven : (k : ℕ) → k < 16 → get_or on k 0 ≡ added says 7 (7 + k)
+      at_seven k h =
+          elim (cases_lt k 8) [
+            | inl less ↦ o.each k h ∙ s.each (8 + k) (omega arith) ∙ first_eight k
+            | inr more ↦ o.each k h ∙ get_or_past sum (8 + k) 0 (omega (arith, s.long)) ∙ sym (added_far says 7 (7 + k) (omega arith))
+          ]
+
+      at : (k : ℕ) → k < 16 → get_or on k 0 ≡ added says (length before) (length before + k)
+      at k h = subst (λ n. get_or on k 0 ≡ added says n (n + k)) (sym seven) (at_seven k h)

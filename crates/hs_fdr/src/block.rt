@@ -47,6 +47,19 @@ fn store(lanes: u8x16, count: usize, out: &mut [u8; BLOCK_LEN], at: usize)
     requires { (count ≤ 8) × (at + count ≤ 64) }
     ensures { IsStored lanes count at out.old out.new }
 {
+    if count == PLACES {
+        store_each(lanes, PLACES, out, at);
+    } else {
+        store_each(lanes, count, out, at);
+    }
+}
+
+/// The same, one by one. A count that is known when it is compiled becomes one write.
+#[inline(always)]
+fn store_each(lanes: u8x16, count: usize, out: &mut [u8; BLOCK_LEN], at: usize)
+    requires { (count ≤ 8) × (at + count ≤ 64) }
+    ensures { IsStored lanes count at out.old out.new }
+{
     let lanes = lanes.to_array();
     for k in 0..count {
         out[at + k] = lanes[k];
@@ -54,7 +67,34 @@ fn store(lanes: u8x16, count: usize, out: &mut [u8; BLOCK_LEN], at: usize)
 }
 
 /// What the bytes before a block add to its first places.
+#[inline(always)]
 fn ahead_of(tables: &Tables, before: &[u8], block: &[u8], next: u8) -> u8x16
+    requires { length before.now ≤ 7 }
+    ensures { HasLanes result (λ k. added (text_rows tables.now (before.now ++ block.now) next) (length before.now) (length before.now + k)) }
+{
+    if before.len() == PLACES - 1 {
+        let first = byte_at(before, block, next, PLACES - 1);
+        return eight_on(group(tables, &behind_one(before, first), 0));
+    }
+    ahead_of_few(tables, before, block, next)
+}
+
+/// A byte that says nothing of the places behind the others, seven bytes, and the one behind them.
+#[inline(always)]
+fn behind_one(before: &[u8], first: u8) -> [u8; 9]
+    requires { length before.now ≡ 7 }
+    ensures bytes { (k : ℕ) → k < 7 → slice_index result (k + 1) ≡ slice_index before.now k }
+    ensures behind { slice_index result 8 ≡ first }
+{
+    let mut bytes = [first; 9];
+    for k in 0..PLACES - 1 {
+        bytes[k + 1] = before[k];
+    }
+    bytes
+}
+
+/// The same one byte after the other, as at the beginning of a text.
+fn ahead_of_few(tables: &Tables, before: &[u8], block: &[u8], next: u8) -> u8x16
     requires { length before.now ≤ 7 }
     ensures { HasLanes result (λ k. added (text_rows tables.now (before.now ++ block.now) next) (length before.now) (length before.now + k)) }
 {
@@ -81,12 +121,27 @@ fn group(tables: &Tables, bytes: &[u8], at: usize) -> u8x16
 }
 
 /// Up to eight bytes with the next one behind them.
+#[inline(always)]
 fn with_next(rest: &[u8], next: u8) -> [u8; 9]
     requires { length rest.now ≤ 8 }
     ensures { (k : ℕ) → k ≤ length rest.now → slice_index result k ≡ slice_index_or rest.now k next }
 {
+    if rest.len() == PLACES {
+        each_with_next(rest, PLACES, next)
+    } else {
+        each_with_next(rest, rest.len(), next)
+    }
+}
+
+/// The same, one by one. A count that is known when it is compiled becomes one read.
+#[inline(always)]
+fn each_with_next(rest: &[u8], count: usize, next: u8) -> [u8; 9]
+    requires few { length rest.now ≤ 8 }
+    requires count { count ≡ length rest.now }
+    ensures { (k : ℕ) → k ≤ length rest.now → slice_index result k ≡ slice_index_or rest.now k next }
+{
     let mut bytes = [next; 9];
-    for k in 0..rest.len() {
+    for k in 0..count {
         bytes[k] = rest[k];
     }
     bytes
