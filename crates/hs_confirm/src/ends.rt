@@ -43,7 +43,8 @@ impl<'a> Ends<'a> {
     ) -> Ends<'a>
         requires bucket { bucket < 8 }
         requires within { at ≤ length bytes.now }
-        ensures { AreBucketEnds (literals_of confirm.now) (buckets_of confirm.now) bucket (history.now ++ bytes.now) (length history.now + at) (ends_left result) }
+        ensures left { ends_left result ≡ ends_from confirm.now.entries.items bucket (history.now ++ bytes.now) (length history.now + at) 0 }
+        ensures exact { AreBucketEnds (literals_of confirm.now) (buckets_of confirm.now) bucket (history.now ++ bytes.now) (length history.now + at) (ends_left result) }
     {
         let full = full_text_key(history, bytes, at);
         Ends::with_key(confirm, bucket, full, history, bytes, at)
