@@ -1,0 +1,4 @@
+pub mod Words
+pub mod WordTables
+pub mod Numbers
+pub mod Near

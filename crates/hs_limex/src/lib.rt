@@ -1,0 +1,8 @@
+//! The engine by words of bits: a step takes all positions of a word at once.
+#![tactic(auto)]
+
+mod contexts;
+mod far_filling;
+mod filling;
+mod word_rows;
+mod words;
