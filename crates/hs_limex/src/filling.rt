@@ -1,7 +1,6 @@
 //! The tables of an automaton, made once: rows of positions by bytes and by contexts.
 
 ghost use Rattle.std.specs.Prelude.{◌≡◌, ℕ, ◌*◌, ◌<◌, ◌≤◌, true, IfOk, ◌&&◌, ◌||◌, ◌==◌, length, slice_get};
-ghost use Rattle.hs_base.specs.ByteSets.{has};
 ghost use Rattle.hs_base.specs.Contexts.{Context, context_number};
 ghost use Rattle.hs_engine.specs.Automata.{in_mask, in_set};
 ghost use Rattle.hs_limex.specs.WordTables.{in_table};
@@ -28,22 +27,31 @@ pub(crate) fn reach_of(
 {
     let mut rows = WordRows::new(alloc, BYTE_COUNT, width)?;
     for position in 0..sets.len() {
-        fill_position(&sets[position], position, &mut rows);
+        fill_position(sets, position, &mut rows);
     }
     Ok(rows)
 }
 
 /// Sets the bit of the position in the rows of the bytes of its set.
-fn fill_position(set: &ByteSet, position: usize, rows: &mut WordRows)
+fn fill_position(sets: &[ByteSet], position: usize, rows: &mut WordRows)
+    requires sets { position < length sets.now }
     requires count { rows.old.count ≡ 256 }
     requires position { position < 64 * rows.old.width }
     ensures count { rows.new.count ≡ rows.old.count }
     ensures width { rows.new.width ≡ rows.old.width }
-    ensures bits { (b k : ℕ) → b < 256 → in_table rows.new b k ≡ (((k == position) && has set.now b) || in_table rows.old b k) }
+    ensures bits { (b k : ℕ) → b < 256 → in_table rows.new b k ≡ (((k == position) && in_set (slice_get sets.now position) b) || in_table rows.old b k) }
 {
     for byte in 0..BYTE_COUNT {
-        rows.insert_if(byte, position, set.contains(byte as u8));
+        rows.insert_if(byte, position, set_contains(sets, position, byte as u8));
     }
+}
+
+/// Whether the set of that number has the byte.
+fn set_contains(sets: &[ByteSet], number: usize, byte: u8) -> bool
+    requires { number < length sets.now }
+    ensures { result ≡ in_set (slice_get sets.now number) byte }
+{
+    sets[number].contains(byte)
 }
 
 /// For each context the positions whose mask has it.
