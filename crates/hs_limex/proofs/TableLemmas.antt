@@ -9,7 +9,7 @@ use Rattle.hs_engine.proofs.CellLemmas.{same_cell}
 use Rattle.hs_limex.specs.Words.{has_word_bit}
 use Rattle.hs_limex.proofs.WordLemmas.{and-none, words-zero}
 
-replicate-words : (n k : ℕ) → has_word_bit (replicate n 0) k ≡ false
+pub replicate-words : (n k : ℕ) → has_word_bit (replicate n 0) k ≡ false
 replicate-words n k =
     words-zero (replicate n 0) (λ i.
     elim (cases_lt i n) [

@@ -2,3 +2,6 @@ pub mod Words
 pub mod WordTables
 pub mod Numbers
 pub mod Near
+pub mod Leading
+pub mod Fitting
+pub mod LimexEngines

@@ -4,5 +4,10 @@
 mod contexts;
 mod far_filling;
 mod filling;
+mod leading;
+mod limex;
+mod tables;
 mod word_rows;
 mod words;
+
+pub use limex::Limex;
