@@ -1,0 +1,5 @@
+pub mod WordLemmas
+pub mod TableLemmas
+pub mod NumberLemmas
+pub mod LeadLemmas
+pub mod StepLemmas

@@ -1,0 +1,11 @@
+use Rattle.std.proofs.Common.{◌≡◌, ℕ, ◌+◌, ◌*◌, ◌<◌, Bool, true, false, ◌&&◌, ◌||◌, eqb, nat_lt, length, slice_get, refl, sym, ap, ◌∙◌, arith}
+use Rattle.hs_engine.specs.Rows.{in_row}
+use Rattle.hs_limex.specs.WordTables.{in_table}
+use Rattle.hs_limex.proofs.far_filling.fill_near.Given as goal
+
+abbrev pub invariant-loop-position : goal.invariant-loop-position
+invariant-loop-position l = record {
+  count : l.rows.count ≡ l.initial.rows.count;
+  width : l.rows.width ≡ l.initial.rows.width;
+  bits : (n k : ℕ) → in_table l.rows n k ≡ ((nat_lt k l.position && (eqb n l.number && in_row l.follows k (k + l.distance) (record { prev = l.prev; next = l.next }))) || in_table l.initial.rows n k);
+}

@@ -1,0 +1,13 @@
+use Rattle.std.proofs.Common.{◌≡◌, ℕ, ◌+◌, ◌*◌, ◌/◌, ◌%◌, ◌<◌, ◌≤◌, Bool, true, false, ◌&&◌, ◌||◌, eqb, nat_lt, length, slice_get, refl, sym, ap, subst, ◌∙◌, inl, inr, arith}
+use Rattle.std.proofs.lemmas.Bool.{cases_lt}
+use Rattle.hs_engine.specs.Bits.{has_bit}
+use Rattle.hs_engine.proofs.RowLemmas.{bits-past}
+use Rattle.hs_glushkov.proofs.PlainLemmas.{true-false}
+use Rattle.hs_limex.proofs.far_filling.is_near.Goals as goal
+
+pub returns : goal.returns
+returns c is k set =
+    elim (cases_lt k (8 * length c.args.row.now)) [
+      | inl below ↦ c.loop-bit.invariant k (omega arith) set
+      | inr past ↦ true-false (has_bit c.args.row.now k) set (bits-past c.args.row.now k past)
+    ]

@@ -1,0 +1,7 @@
+use Rattle.std.proofs.Common.{◌≡◌, ℕ, ◌+◌, ◌*◌, ◌<◌, Bool, true, false, ◌&&◌, ◌||◌, eqb, nat_lt, length, slice_get, refl, sym, ap, ◌∙◌, arith}
+use Rattle.hs_engine.specs.Bits.{has_bit}
+use Rattle.hs_limex.specs.Near.{IsNearFrom}
+use Rattle.hs_limex.proofs.far_filling.is_near.Given as goal
+
+abbrev pub invariant-loop-bit : goal.invariant-loop-bit
+invariant-loop-bit l = (k : ℕ) → k < l.bit → has_bit l.row k ≡ true → IsNearFrom l.position k

@@ -1,0 +1,10 @@
+use Rattle.std.proofs.Common.{◌≡◌, ℕ, ◌+◌, ◌-◌, ◌*◌, ◌/◌, ◌%◌, ◌<◌, ◌≤◌, Bool, true, false, ◌&&◌, ◌||◌, eqb, length, slice_get, refl, sym, ap, subst, ◌∙◌, inl, inr, arith}
+use Rattle.std.specs.Prelude.{nat_lt, nat_le}
+use Rattle.hs_limex.specs.WordTables.{in_table}
+use Rattle.hs_limex.proofs.leading.span_of.Given as goal
+
+abbrev pub invariant-loop-number : goal.invariant-loop-number
+invariant-loop-number l = record {
+  used : (n k : ℕ) → n < l.number → in_table l.near n k ≡ true → n % 8 < l.span;
+  few : l.span ≤ 8;
+}

@@ -1,0 +1,7 @@
+pub mod Words
+pub mod WordTables
+pub mod Numbers
+pub mod Near
+pub mod Leading
+pub mod Fitting
+pub mod LimexEngines

@@ -1,0 +1,126 @@
+//! Which positions those that are live lead to, by words.
+
+ghost use Rattle.std.specs.Prelude.{◌≡◌, ℕ, ◌+◌, ◌*◌, ◌%◌, ◌<◌, ◌≤◌, Bool, true, ◌&&◌, ◌||◌, length};
+ghost use Rattle.hs_glushkov.specs.AnyBelow.{any_below};
+ghost use Rattle.hs_limex.specs.Words.{has_word_bit};
+ghost use Rattle.hs_limex.specs.WordTables.{in_table};
+ghost use Rattle.hs_limex.specs.Leading.{far_leads, near_leads};
+
+use crate::far_filling::DISTANCE_COUNT;
+use crate::word_rows::WordRows;
+use crate::words::{WORD_BITS, are_apart, contains_word_bit, shift_in, unite_bytes};
+use hs_base::{Next, Prev};
+use hs_engine::FollowRows;
+
+/// How many rows there are of what follows near by.
+const ROW_COUNT: usize = 192;
+
+/// How many distances are used in the rows, from 0 on.
+pub(crate) fn span_of(near: &WordRows) -> usize
+    requires { near.now.count ≡ 192 }
+    ensures used { (n k : ℕ) → n < 192 → in_table near.now n k ≡ true → n % 8 < result }
+    ensures few { result ≤ 8 }
+{
+    let mut span = 0;
+    for number in 0..ROW_COUNT {
+        if number % DISTANCE_COUNT >= span && !has_no_bit(near.row(number)) {
+            span = number % DISTANCE_COUNT + 1;
+        }
+    }
+    span
+}
+
+/// Whether no bit is set.
+fn has_no_bit(row: &[u64]) -> bool
+    ensures { result ≡ true → (k : ℕ) → has_word_bit row.now k ≡ true → ⊥ }
+{
+    are_apart(row, row)
+}
+
+/// Sets the bits of the positions that follow near by those that are live, in the context of that number.
+pub(crate) fn lead_near(near: &WordRows, span: usize, number: usize, live: &[u64], led: &mut [u64])
+    requires near { near.now.count ≡ 192 }
+    requires span { span ≤ 8 }
+    requires number { number < 24 }
+    requires live { length live.now ≡ 8 }
+    requires led { length led.old ≡ 8 }
+    ensures len { length led.new ≡ length led.old }
+    ensures bits { (k : ℕ) → has_word_bit led.new k ≡ (any_below span (near_leads near.now live.now number k) || has_word_bit led.old k) }
+{
+    for distance in 0..span {
+        let row = near.row(DISTANCE_COUNT * number + distance);
+        shift_in(live, row, distance, led);
+    }
+}
+
+/// Sets the bits of the positions that follow those that are live, of those in the row.
+pub(crate) fn lead_far(
+    follows: &FollowRows,
+    live: &[u64],
+    far: &[u64],
+    prev: Prev,
+    next: Next,
+    led: &mut [u64],
+)
+    requires few { (x : ℕ) → has_word_bit far.now x ≡ true → x < follows.now.size }
+    requires live { length live.now ≡ 8 }
+    requires far { length far.now ≤ 8 }
+    requires led { length led.old ≡ 8 }
+    ensures len { length led.new ≡ length led.old }
+    ensures bits { (k : ℕ) → has_word_bit led.new k ≡ (any_below (64 * length far.now) (far_leads follows.now live.now far.now (record { prev = prev; next = next }) k) || has_word_bit led.old k) }
+{
+    for place in 0..far.len() {
+        lead_word(follows, live, far, place, prev, next, led);
+    }
+}
+
+/// Sets the bits of the positions that follow those that are live, of those in one word of the row.
+fn lead_word(
+    follows: &FollowRows,
+    live: &[u64],
+    far: &[u64],
+    place: usize,
+    prev: Prev,
+    next: Next,
+    led: &mut [u64],
+)
+    requires few { (x : ℕ) → has_word_bit far.now x ≡ true → x < follows.now.size }
+    requires live { length live.now ≡ 8 }
+    requires far { length far.now ≤ 8 }
+    requires place { place < length far.now }
+    requires led { length led.old ≡ 8 }
+    ensures len { length led.new ≡ length led.old }
+    ensures bits { (k : ℕ) (first : Bool) →
+        has_word_bit led.old k ≡ (any_below (64 * place) (far_leads follows.now live.now far.now (record { prev = prev; next = next }) k) || first) →
+        has_word_bit led.new k ≡ (any_below (64 * place + 64) (far_leads follows.now live.now far.now (record { prev = prev; next = next }) k) || first) }
+{
+    if live[place] & far[place] == 0 {
+        return;
+    }
+    for position in WORD_BITS * place..WORD_BITS * place + WORD_BITS {
+        lead_one(follows, live, far, position, prev, next, led);
+    }
+}
+
+/// Sets the bits of the positions that follow that one, if it is live and in the row.
+fn lead_one(
+    follows: &FollowRows,
+    live: &[u64],
+    far: &[u64],
+    position: usize,
+    prev: Prev,
+    next: Next,
+    led: &mut [u64],
+)
+    requires few { (x : ℕ) → has_word_bit far.now x ≡ true → x < follows.now.size }
+    requires live { length live.now ≡ 8 }
+    requires position { position < 64 * length far.now }
+    requires far { length far.now ≤ 8 }
+    requires led { length led.old ≡ 8 }
+    ensures len { length led.new ≡ length led.old }
+    ensures bits { (k : ℕ) → has_word_bit led.new k ≡ (far_leads follows.now live.now far.now (record { prev = prev; next = next }) k position || has_word_bit led.old k) }
+{
+    if contains_word_bit(live, position) && contains_word_bit(far, position) {
+        unite_bytes(led, follows.row(prev, next, position));
+    }
+}

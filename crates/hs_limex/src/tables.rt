@@ -1,0 +1,142 @@
+//! The tables by which a step goes, and the step by words.
+
+ghost use Rattle.std.specs.Prelude.{◌≡◌, ℕ, ◌+◌, ◌*◌, ◌/◌, ◌%◌, ◌<◌, ◌≤◌, Bool, true, false, IfOk, IsTrue, ◌&&◌, ◌||◌, length, vec_len};
+ghost use Rattle.hs_base.specs.Contexts.{Context, context_number};
+ghost use Rattle.hs_engine.specs.Rows.{in_row};
+ghost use Rattle.hs_limex.specs.WordTables.{in_table};
+ghost use Rattle.hs_limex.specs.Near.{IsFew, IsNearFrom};
+
+use crate::contexts::number_of;
+use crate::far_filling::{far_of, near_of};
+use crate::filling::{any_of, masks_of, reach_of};
+use crate::leading::{lead_far, lead_near, span_of};
+use crate::word_rows::WordRows;
+use crate::words::{WORD_BITS, are_apart, keep_words, store, unite_bytes, unite_words};
+use hs_base::{Next, Prev};
+use hs_engine::{Automaton, FollowRows, MAX_POSITIONS};
+use std::alloc::{AllocError, Global};
+
+/// The words that hold a bit for each of the most positions.
+const MAX_WIDTH: usize = MAX_POSITIONS / WORD_BITS;
+
+/// The tables of an automaton as rows of words, a bit for each position.
+#[derive(Debug, Drop)]
+pub(crate) struct Tables {
+    /// For each byte the positions whose set has it.
+    reach: WordRows,
+    /// For each context the positions that are entered in it.
+    enters: WordRows,
+    /// The positions that accept in a context.
+    accepting: WordRows,
+    /// For each context and distance the positions that may be followed by the one so many places on.
+    near: WordRows,
+    /// How many distances are used, from 0 on.
+    span: usize,
+    /// The positions that may be followed by one that isn't near.
+    far: WordRows,
+    /// What follows each position: a step looks up those that aren't followed near by alone.
+    follows: FollowRows,
+    ghost few: { reach.width ≤ 8 },
+    ghost wide: { follows.size ≤ 64 * reach.width },
+    ghost reach_count: { reach.count ≡ 256 },
+    ghost enters_count: { enters.count ≡ 24 },
+    ghost enters_width: { enters.width ≡ reach.width },
+    ghost accepting_count: { accepting.count ≡ 1 },
+    ghost accepting_width: { accepting.width ≡ reach.width },
+    ghost near_count: { near.count ≡ 192 },
+    ghost near_width: { near.width ≡ reach.width },
+    ghost near_bits: { (c : Context) (d k : ℕ) → d < 8 → in_table near (8 * context_number c + d) k ≡ in_row follows k (k + d) c },
+    ghost short: { span ≤ 8 },
+    ghost used: { (n k : ℕ) → n < 192 → in_table near n k ≡ true → n % 8 < span },
+    ghost far_count: { far.count ≡ 1 },
+    ghost far_width: { far.width ≡ reach.width },
+    ghost far_few: { IsFew far follows.size },
+    ghost rest: { (c : Context) (x y : ℕ) → in_row follows x y c ≡ true → in_table far 0 x ≡ false → IsNearFrom x y },
+}
+
+impl Tables {
+    ghost use Rattle.hs_engine.specs.Bits.{has_bit};
+    ghost use Rattle.hs_engine.specs.RowSizes.{row_len};
+    ghost use Rattle.hs_limex.specs.Words.{has_word_bit};
+    ghost use Rattle.hs_limex.specs.Fitting.{Fits, IsLed};
+
+    /// The tables of an automaton.
+    pub(crate) fn build(alloc: Global, automaton: &Automaton) -> Result<Tables, AllocError>
+        ensures { IfOk result (λ tables. Fits tables automaton.now) }
+    {
+        let size = automaton.sets.len();
+        let width = (size + (WORD_BITS - 1)) / WORD_BITS;
+        let follows = automaton.follows.copy(alloc)?;
+        let near = near_of(alloc, &follows, size, width)?;
+        let span = span_of(&near);
+        let far = far_of(alloc, &follows, size, width)?;
+        Ok(Tables {
+            reach: reach_of(alloc, &automaton.sets, width)?,
+            enters: masks_of(alloc, &automaton.enters, width)?,
+            accepting: any_of(alloc, &automaton.accepts, width)?,
+            near,
+            span,
+            far,
+            follows,
+        })
+    }
+
+    /// Moves the region over the byte, before which the expression is entered or not.
+    pub(crate) fn move_over(
+        &self,
+        region: &mut [u8],
+        prev: Prev,
+        next: Next,
+        entering: bool,
+        byte: u8,
+    )
+        requires { length region.old ≡ row_len self.now.follows.size }
+        ensures len { length region.new ≡ length region.old }
+        ensures sound { (k : ℕ) → has_bit region.new k ≡ true → (in_table self.now.reach byte k ≡ true) × IsLed self.now (has_bit region.old) (record { prev = prev; next = next }) entering k }
+        ensures whole { (k : ℕ) → k < 8 * length region.old → in_table self.now.reach byte k ≡ true → IsLed self.now (has_bit region.old) (record { prev = prev; next = next }) entering k → has_bit region.new k ≡ true }
+    {
+        let mut live = [0u64; MAX_WIDTH];
+        unite_bytes(&mut live, region);
+        let mut led = [0u64; MAX_WIDTH];
+        self.lead(&live, prev, next, entering, &mut led);
+        keep_words(&mut led, self.reach.row(byte as usize));
+        store(&led, region);
+    }
+
+    /// Sets the bits of the positions that may follow those that are live, and of those that are entered.
+    fn lead(&self, live: &[u64], prev: Prev, next: Next, entering: bool, led: &mut [u64])
+        requires live { length live.now ≡ 8 }
+        requires led { length led.old ≡ 8 }
+        requires zero { (k : ℕ) → has_word_bit led.old k ≡ false }
+        ensures len { length led.new ≡ length led.old }
+        ensures sound { (k : ℕ) → has_word_bit led.new k ≡ true → IsLed self.now (has_word_bit live.now) (record { prev = prev; next = next }) entering k }
+        ensures whole { (k : ℕ) → k < 64 * self.now.reach.width → IsLed self.now (has_word_bit live.now) (record { prev = prev; next = next }) entering k → has_word_bit led.new k ≡ true }
+    {
+        let number = number_of(prev, next);
+        lead_near(&self.near, self.span, number, live, led);
+        lead_far(&self.follows, live, self.far.row(0), prev, next, led);
+        self.enter(number, entering, led);
+    }
+
+    /// Sets the bits of the positions that are entered in the context of that number, if the expression is.
+    fn enter(&self, number: usize, entering: bool, led: &mut [u64])
+        requires number { number < 24 }
+        requires led { length led.old ≡ 8 }
+        ensures len { length led.new ≡ length led.old }
+        ensures bits { (k : ℕ) → has_word_bit led.new k ≡ ((entering && in_table self.now.enters number k) || has_word_bit led.old k) }
+    {
+        if entering {
+            unite_words(led, self.enters.row(number));
+        }
+    }
+
+    /// Whether no position is live that accepts in a context.
+    pub(crate) fn accepts_nowhere(&self, region: &[u8]) -> bool
+        requires { length region.now ≡ row_len self.now.follows.size }
+        ensures { IsTrue result → (k : ℕ) → (has_bit region.now k && in_table self.now.accepting 0 k) ≡ false }
+    {
+        let mut live = [0u64; MAX_WIDTH];
+        unite_bytes(&mut live, region);
+        are_apart(&live, self.accepting.row(0))
+    }
+}
