@@ -4,7 +4,7 @@ use Rattle.hs_base.specs.Entries.{ListedEntry}
 use Rattle.hs_base.specs.Lists.{Each}
 use Rattle.hs_base.specs.Patterns.{Pattern}
 use Rattle.hs_dbfile.specs.Files.{AreEncodable}
-use Rattle.hs_glushkov.specs.declared.plain.Plain.{Plain}
+use Rattle.hs_limex.specs.declared.limex.Limex.{Limex}
 use Rattle.hs_rose.specs.declared.program.Expression.{Expression}
 use Rattle.hs_compile.specs.Lists.{AreAcceptedFrom}
 use Rattle.hs_compile.specs.Answers.{AreCompiled}
@@ -17,7 +17,7 @@ short-texts before (entry ∷ entries) (x ∷ P) accepted =
     (let within = accepted.0.read.within in let short : length entry.text < 65536 = omega (arith, within) in short, short-texts (before ++ entry ∷ []) entries P accepted.1)
 
 -- a list that is compiled has an encoding
-pub encodable : (entries : List ListedEntry) (expressions : List (Expression Plain)) → AreCompiled entries expressions → AreEncodable entries
+pub encodable : (entries : List ListedEntry) (expressions : List (Expression Limex)) → AreCompiled entries expressions → AreEncodable entries
 encodable entries expressions compiled = record {
   few = let few = compiled.few in omega (arith, few);
   short = short-texts [] entries compiled.patterns compiled.accepted;

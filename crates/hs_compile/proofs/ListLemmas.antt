@@ -8,7 +8,7 @@ use Rattle.hs_base.specs.declared.ext.Entry.{Entry}
 use Rattle.hs_base.specs.declared.refusal.Refusal.TheVariants.{CountLimit, MixedSingle}
 use Rattle.hs_base.specs.Entries.{listed}
 use Rattle.hs_base.proofs.ListLemmas.{each-append}
-use Rattle.hs_glushkov.specs.declared.plain.Plain.{Plain}
+use Rattle.hs_limex.specs.declared.limex.Limex.{Limex}
 use Rattle.hs_rose.specs.declared.program.Expression.{Expression}
 use Rattle.hs_rose.specs.Roles.{IsExpressionOf}
 use Rattle.hs_rose.proofs.RoleLemmas.{all_zip-push}
@@ -101,7 +101,7 @@ within-count before entry free = elim (cases_lt greatest_count (suc (length befo
 pub compiled-none : AreCompiled [] []
 compiled-none = record { patterns = []; accepted = tt; run = tt; small = tt; few = omega arith }
 
-compiled-more : (entries : List ListedEntry) (expressions : List (Expression Plain)) (entry : ListedEntry) (expression : Expression Plain) → AreCompiled entries expressions → IsCompiledEntry entries entry expression → AreCompiled (entries ++ entry ∷ []) (expressions ++ expression ∷ [])
+compiled-more : (entries : List ListedEntry) (expressions : List (Expression Limex)) (entry : ListedEntry) (expression : Expression Limex) → AreCompiled entries expressions → IsCompiledEntry entries entry expression → AreCompiled (entries ++ entry ∷ []) (expressions ++ expression ∷ [])
 compiled-more entries expressions entry expression compiled is = record {
   patterns = compiled.patterns ++ is.pattern ∷ [];
   accepted = accepted-push [] entries compiled.patterns entry is.pattern compiled.accepted is.accepted;
@@ -110,7 +110,7 @@ compiled-more entries expressions entry expression compiled is = record {
   few = let few = within-count entries entry is.accepted.free in omega (arith, few, length-append entries (entry ∷ []));
 }
 
-compiled-push : (entries : List Entry) (expressions : List (Expression Plain)) (i : ℕ) (entry : Entry) (expression : Expression Plain) → slice_get entries i ≡ Some entry →
+compiled-push : (entries : List Entry) (expressions : List (Expression Limex)) (i : ℕ) (entry : Entry) (expression : Expression Limex) → slice_get entries i ≡ Some entry →
     AreCompiled (map listed (take i entries)) expressions → IsCompiledEntry (map listed (take i entries)) (listed entry) expression → AreCompiled (map listed (take (i + 1) entries)) (expressions ++ expression ∷ [])
 compiled-push entries expressions i entry expression is compiled one =
     subst (λ es. AreCompiled es (expressions ++ expression ∷ [])) (sym (listed_next entries i entry is))
@@ -122,7 +122,7 @@ pub next-number : (entries : List Entry) (i : ℕ) (entry : Entry) (seen : Seen)
 next-number entries i entry seen is kept = record { count = omega (arith, length_listed entries i entry is); kept = kept }
 
 -- what is known of the entries so far
-pub step : (entries : List Entry) (expressions expressions' : List (Expression Plain)) (i : ℕ) (entry : Entry) (expression : Expression Plain) (seen seen' : Seen) → slice_get entries i ≡ Some entry →
+pub step : (entries : List Entry) (expressions expressions' : List (Expression Limex)) (i : ℕ) (entry : Entry) (expression : Expression Limex) (seen seen' : Seen) → slice_get entries i ≡ Some entry →
     AreSoFar (map listed (take i entries)) expressions seen →
     ((before : List ListedEntry) → Precede before (i + 1) seen → IsCompiledEntry before (listed entry) expression) →
     ((before : List ListedEntry) → Remembers before seen → (IsMixed before (listed entry) → ⊥) → Remembers (before ++ listed entry ∷ []) seen') →
@@ -137,7 +137,7 @@ step entries expressions expressions' i entry expression seen seen' is so_far co
           (add before so_far.kept (λ differs. one.accepted.free (MixedSingle entry.id) (misplaced (mixed differs))));
     }
 
-pub refused-at : (entries : List Entry) (expressions : List (Expression Plain)) (i : ℕ) (entry : Entry) (refusal : Refusal) → slice_get entries i ≡ Some entry →
+pub refused-at : (entries : List Entry) (expressions : List (Expression Limex)) (i : ℕ) (entry : Entry) (refusal : Refusal) → slice_get entries i ≡ Some entry →
     AreCompiled (map listed (take i entries)) expressions → IsRefusalOf (map listed (take i entries)) (listed entry) refusal → IsFirstRefusal (map listed entries) (suc (length (map listed (take i entries)))) entry.id refusal
 refused-at entries expressions i entry refusal is compiled one =
     let whole : map listed (take i entries) ++ listed entry ∷ map listed (drop (i + 1) entries) ≡ map listed entries =
@@ -148,7 +148,7 @@ refused-at entries expressions i entry refusal is compiled one =
     (refused-behind [] (map listed (take i entries)) compiled.patterns (listed entry) (map listed (drop (i + 1) entries)) refusal compiled.accepted one)
 
 -- why a list isn't compiled, by its entry
-pub cause-at : (entries : List Entry) (expressions : List (Expression Plain)) (i : ℕ) (entry : Entry) (fault : CompileFault) → slice_get entries i ≡ Some entry →
+pub cause-at : (entries : List Entry) (expressions : List (Expression Limex)) (i : ℕ) (entry : Entry) (fault : CompileFault) → slice_get entries i ≡ Some entry →
     AreCompiled (map listed (take i entries)) expressions → IsEntryCause (map listed (take i entries)) (listed entry) fault → IsCauseOf (map listed entries) fault
 cause-at entries expressions i entry (Refused number id refusal) is compiled cause =
     subst (λ n. IsFirstRefusal (map listed entries) n id refusal) (sym cause.0)
@@ -171,7 +171,7 @@ zip-length R [] (y ∷ ys) zip = absurd zip
 zip-length R (x ∷ xs) [] zip = absurd zip
 zip-length R (x ∷ xs) (y ∷ ys) zip = let n = zip-length R xs ys zip.1 in omega (arith, n)
 
-pub few-expressions : (entries : List ListedEntry) (expressions : List (Expression Plain)) → AreCompiled entries expressions → length expressions ≤ greatest_count
+pub few-expressions : (entries : List ListedEntry) (expressions : List (Expression Limex)) → AreCompiled entries expressions → length expressions ≤ greatest_count
 few-expressions entries expressions compiled =
     let n = zip-length (IsExpressionOf IsEngineOf) expressions compiled.patterns compiled.run in
     let m = as-many [] entries compiled.patterns compiled.accepted in

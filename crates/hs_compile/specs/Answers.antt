@@ -4,8 +4,8 @@ use Rattle.hs_base.specs.declared.refusal.Refusal.{Refusal}
 use Rattle.hs_base.specs.Entries.{ListedEntry}
 use Rattle.hs_base.specs.Refusals.{number_of}
 use Rattle.hs_base.specs.Patterns.{Pattern}
-use Rattle.hs_glushkov.specs.declared.plain.Plain.{Plain}
-use Rattle.hs_glushkov.specs.PlainEngines.{width_of}
+use Rattle.hs_limex.specs.declared.limex.Limex.{Limex}
+use Rattle.hs_limex.specs.LimexEngines.{region_width}
 use Rattle.hs_rose.specs.declared.program.Expression.{Expression}
 use Rattle.hs_rose.specs.Roles.{IsExpressionOf, AreExpressionsOf}
 use Rattle.hs_base.specs.Lists.{Each}
@@ -27,16 +27,16 @@ IsCauseOf entries (Refused number id refusal) = IsFirstRefusal entries number id
 IsCauseOf entries Memory = Unit {0}
 
 -- the bytes that the engine keeps are few
-abbrev pub IsSmall : Expression Plain → Type 0
-IsSmall expression = width_of expression.engine ≤ 64
+abbrev pub IsSmall : Expression Limex → Type 0
+IsSmall expression = region_width expression.engine ≤ 64
 
 -- What runs an expression: its engine runs the pattern, and keeps few bytes.
-pub record IsRunBy (x : Pattern) (expression : Expression Plain) : Type 0 where
+pub record IsRunBy (x : Pattern) (expression : Expression Limex) : Type 0 where
   pub run : IsExpressionOf IsEngineOf expression x
   pub small : IsSmall expression
 
 -- The entries are accepted, and these are what runs their patterns.
-pub record AreCompiled (entries : List ListedEntry) (expressions : List (Expression Plain)) : Type 0 where
+pub record AreCompiled (entries : List ListedEntry) (expressions : List (Expression Limex)) : Type 0 where
   pub patterns : List Pattern
   pub accepted : AreAcceptedAs entries patterns
   pub run : AreExpressionsOf IsEngineOf expressions patterns
@@ -44,7 +44,7 @@ pub record AreCompiled (entries : List ListedEntry) (expressions : List (Express
   pub few : length entries ≤ greatest_count
 
 -- The entry behind these is accepted, and this is what runs its pattern.
-pub record IsCompiledEntry (before : List ListedEntry) (entry : ListedEntry) (expression : Expression Plain) : Type 0 where
+pub record IsCompiledEntry (before : List ListedEntry) (entry : ListedEntry) (expression : Expression Limex) : Type 0 where
   pub pattern : Pattern
   pub accepted : IsAcceptedAs before entry pattern
   pub run : IsRunBy pattern expression

@@ -12,7 +12,7 @@ use crate::fault::CompileFault;
 use crate::seen::Seen;
 use hs_base::Entry;
 use hs_dbfile::digest;
-use hs_glushkov::Plain;
+use hs_limex::Limex;
 use hs_rose::{Expression, Program};
 use std::alloc::Global;
 
@@ -37,7 +37,7 @@ pub fn compile(alloc: Global, entries: &[Entry]) -> Result<Database, CompileFaul
 }
 
 /// What runs each expression of the list, in order.
-fn compile_entries(alloc: Global, entries: &[Entry]) -> Result<Vec<Expression<Plain>>, CompileFault>
+fn compile_entries(alloc: Global, entries: &[Entry]) -> Result<Vec<Expression<Limex>>, CompileFault>
     ensures compiled { IfOk result (λ expressions. AreCompiled (map listed entries.now) expressions.items) }
     ensures refused { IfErr result (IsCauseOf (map listed entries.now)) }
 {

@@ -1,19 +1,19 @@
 ghost use Rattle.std.specs.Prelude.{◌≡◌};
 ghost use Rattle.hs_compile.specs.Databases.{program_of, digest_of};
 
-use hs_glushkov::Plain;
+use hs_limex::Limex;
 use hs_rose::Program;
 
 /// What scans the expressions of a list.
 #[derive(Debug, Drop)]
 pub struct Database {
-    program: Program<Plain>,
+    program: Program<Limex>,
     digest: [u8; 32],
 }
 
 impl Database {
     /// The database of a program, and of the digest of its list.
-    pub(crate) fn new(program: Program<Plain>, digest: [u8; 32]) -> Database
+    pub(crate) fn new(program: Program<Limex>, digest: [u8; 32]) -> Database
         ensures program { program_of result ≡ program }
         ensures digest { digest_of result ≡ digest }
     {
@@ -21,7 +21,7 @@ impl Database {
     }
 
     /// What a scan runs.
-    pub fn program(&self) -> &Program<Plain>
+    pub fn program(&self) -> &Program<Limex>
         ensures { result.now ≡ program_of self.now }
     {
         &self.program

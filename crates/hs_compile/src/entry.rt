@@ -17,7 +17,8 @@ use crate::fault::CompileFault;
 use crate::seen::{Seen, asks_single};
 use hs_base::{Entry, Refusal};
 use hs_expr::Expr;
-use hs_glushkov::{Plain, build};
+use hs_glushkov::build;
+use hs_limex::Limex;
 use hs_parse::{ParseFault, parse};
 use hs_rose::Expression;
 use hs_support::{check, flags_fault};
@@ -29,7 +30,7 @@ pub fn compile_entry(
     number: u32,
     seen: &Seen,
     entry: &Entry,
-) -> Result<Expression<Plain>, CompileFault>
+) -> Result<Expression<Limex>, CompileFault>
     ensures compiled { IfOk result (λ expression. (before : List ListedEntry) → Precede before number seen.now →
         IsCompiledEntry before (listed entry.now) expression) }
     ensures refused { IfErr result (λ fault. (before : List ListedEntry) → Precede before number seen.now →
@@ -117,7 +118,7 @@ fn lesser(refusal: Refusal, other: Option<Refusal>) -> Refusal
 }
 
 /// What runs an expression that is supported.
-fn expression_of(alloc: Global, entry: &Entry, expr: &Expr) -> Result<Expression<Plain>, AllocError>
+fn expression_of(alloc: Global, entry: &Entry, expr: &Expr) -> Result<Expression<Limex>, AllocError>
     requires plain { IsPlain (tree_of expr.now) }
     requires few { count (write_out (tree_of expr.now)) ≤ 512 }
     requires ends_last { has_embedded_end (tree_of expr.now) false ≡ false }
@@ -127,13 +128,16 @@ fn expression_of(alloc: Global, entry: &Entry, expr: &Expr) -> Result<Expression
         Ok(automaton) => automaton,
         Err(error) => return Err(error),
     };
-    let null = automaton.null;
+    let engine = match Limex::build(alloc, &automaton) {
+        Ok(engine) => engine,
+        Err(error) => return Err(error),
+    };
     Ok(Expression {
         id: entry.id,
         single: asks_single(entry),
         min_offset: entry.ext.min_offset,
         max_offset: entry.ext.max_offset,
-        engine: Plain::new(automaton),
-        null,
+        engine,
+        null: automaton.null,
     })
 }

@@ -1,7 +1,7 @@
 -- Databases that lists are compiled to.
 use Rattle.std.proofs.Common.{◌≡◌, sym, subst}
-use Rattle.hs_glushkov.specs.declared.plain.Plain.{Plain}
-use Rattle.hs_glushkov.specs.PlainEngines.{width_of}
+use Rattle.hs_limex.specs.declared.limex.Limex.{Limex}
+use Rattle.hs_limex.specs.LimexEngines.{region_width}
 use Rattle.hs_rose.specs.declared.program.Program.{Program}
 use Rattle.hs_rose.specs.Programs.{roles_of, identifiers_of}
 use Rattle.hs_rose.proofs.RoleLemmas.{named}
@@ -19,5 +19,5 @@ compiled-usable database P is = record {
 }
 
 -- the program of a usable database can be run
-pub usable-runs : (db : Database) (program : Program Plain) → program ≡ program_of db → IsUsable db → IsRunnable IsEngineOf Keeps MayKeep enters_always width_of program
-usable-runs db program same usable = subst (IsRunnable IsEngineOf Keeps MayKeep enters_always width_of) (sym same) usable
+pub usable-runs : (db : Database) (program : Program Limex) → program ≡ program_of db → IsUsable db → IsRunnable IsEngineOf Keeps MayKeep enters_always region_width program
+usable-runs db program same usable = subst (IsRunnable IsEngineOf Keeps MayKeep enters_always region_width) (sym same) usable

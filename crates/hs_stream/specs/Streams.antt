@@ -2,7 +2,7 @@
 use Rattle.std.specs.Prelude.{ℕ, List}
 use Rattle.hs_base.specs.Patterns.{Pattern}
 use Rattle.hs_base.specs.Told.{Pair}
-use Rattle.hs_glushkov.specs.PlainEngines.{width_of}
+use Rattle.hs_limex.specs.LimexEngines.{region_width}
 use Rattle.hs_compile.specs.declared.database.Database.{Database}
 use Rattle.hs_compile.specs.Databases.{program_of, digest_of as database_digest, IsEngineOf, IsDatabaseOf}
 use Rattle.hs_run.specs.States.{IsRunnable, offset_of as state_offset}
@@ -18,7 +18,7 @@ offset_of stream = state_offset (state_of stream)
 
 -- streams can be scanned with the database, as with each that a list is compiled to
 abbrev pub IsUsable : Database → Type 0
-IsUsable db = IsRunnable IsEngineOf Keeps MayKeep enters_always width_of (program_of db)
+IsUsable db = IsRunnable IsEngineOf Keeps MayKeep enters_always region_width (program_of db)
 
 -- The database of a list of patterns is usable.
 abbrev pub CompiledIsUsable : Type 0

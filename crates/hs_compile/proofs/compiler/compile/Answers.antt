@@ -1,5 +1,5 @@
 use Rattle.std.proofs.Common.{arith, subst, sym}
-use Rattle.hs_glushkov.specs.PlainEngines.{width_of}
+use Rattle.hs_limex.specs.LimexEngines.{region_width}
 use Rattle.hs_rose.specs.Programs.{roles_of, identifiers_of, starts_of}
 use Rattle.hs_rose.specs.Roles.{AreRolesOf, AreStartsOf}
 use Rattle.hs_rose.specs.Wakes.{TellsWakes}
@@ -20,7 +20,7 @@ returns-in-Ok-build-clause-compiled c =
       accepted = compiled.accepted;
       runs = record {
         roles = subst (λ program. AreRolesOf IsEngineOf (roles_of program) (identifiers_of program) compiled.patterns) (sym c.new.ensures.program) (c.in-Ok-build.ensures.roles compiled.patterns compiled.run);
-        starts = subst (λ program. AreStartsOf width_of (roles_of program) (starts_of program)) (sym c.new.ensures.program) c.in-Ok-build.ensures.starts;
+        starts = subst (λ program. AreStartsOf region_width (roles_of program) (starts_of program)) (sym c.new.ensures.program) c.in-Ok-build.ensures.starts;
         wakes = subst (TellsWakes IsEngineOf Keeps MayKeep enters_always) (sym c.new.ensures.program) c.in-Ok-build.ensures.wakes;
       };
     }

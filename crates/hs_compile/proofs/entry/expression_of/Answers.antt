@@ -11,8 +11,8 @@ returns c = record {
     single = c.asks_single.ensures;
     least = refl;
     greatest = refl;
-    engine = subst (λ a. Runs a (tree_of c.args.expr.now)) (sym c.new.ensures.of) c.in-Ok.ensures.runs;
+    engine = c.in-Ok-build.ensures.runs (tree_of c.args.expr.now) c.in-Ok.ensures.runs;
     null = null-exact c.in-Ok.automaton (tree_of c.args.expr.now) c.in-Ok.ensures.runs;
   };
-  small = c.new.ensures.width;
+  small = c.in-Ok-build.ensures.width;
 }

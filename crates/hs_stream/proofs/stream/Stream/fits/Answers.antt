@@ -1,5 +1,5 @@
 use Rattle.std.proofs.Common.{rules, sym, subst}
-use Rattle.hs_glushkov.specs.declared.plain.Plain.{Plain}
+use Rattle.hs_limex.specs.declared.limex.Limex.{Limex}
 use Rattle.hs_rose.specs.declared.program.Program.{Program}
 use Rattle.hs_run.specs.States.{FitsState}
 use Rattle.hs_compile.specs.Engines.{MayKeep}
@@ -10,9 +10,9 @@ pub returns : goal.returns
 returns c = (
   λ is. record {
     digest = search rules;
-    state = subst (λ (p : Program Plain). FitsState MayKeep p c.args.self.now.state) c.program.ensures (c.fits.ensures.0 is);
+    state = subst (λ (p : Program Limex). FitsState MayKeep p c.args.self.now.state) c.program.ensures (c.fits.ensures.0 is);
   },
-  λ fits. c.fits.ensures.1 (subst (λ (p : Program Plain). FitsState MayKeep p c.args.self.now.state) (sym c.program.ensures) fits.state),
+  λ fits. c.fits.ensures.1 (subst (λ (p : Program Limex). FitsState MayKeep p c.args.self.now.state) (sym c.program.ensures) fits.state),
 )
 
 pub fits-requires : goal.fits-requires

@@ -1,5 +1,5 @@
 use Rattle.std.proofs.Common.{subst}
-use Rattle.hs_glushkov.specs.declared.plain.Plain.{Plain}
+use Rattle.hs_limex.specs.declared.limex.Limex.{Limex}
 use Rattle.hs_rose.specs.declared.program.Program.{Program}
 use Rattle.hs_compile.specs.Databases.{IsEngineOf}
 use Rattle.hs_compile.specs.Engines.{Keeps}
@@ -8,7 +8,7 @@ use Rattle.hs_stream.proofs.DatabaseLemmas.{usable-runs}
 use Rattle.hs_stream.proofs.stream.Stream.open.Goals as goal
 
 pub returns-clause-fresh : goal.returns-clause-fresh
-returns-clause-fresh c = subst (λ (p : Program Plain). IsStart IsEngineOf Keeps p c.in_ok-new.field-0) c.program.ensures c.in_ok-new.ensures.start
+returns-clause-fresh c = subst (λ (p : Program Limex). IsStart IsEngineOf Keeps p c.in_ok-new.field-0) c.program.ensures c.in_ok-new.ensures.start
 
 pub new-requires : goal.new-requires
 new-requires c = usable-runs c.args.db.now c.program.result.now c.program.ensures c.requires
