@@ -346,9 +346,11 @@ shift-more live row led first p d v carry near within carried word known k =
     one-more (eqb (k / 64) p) (nat_lt k (64 * p)) (nat_lt k (64 * (p + 1))) (eqb (bit_at v (k % 64)) 1) (is_shifted live row d k) (has_word_bit led k) (has_word_bit (set led p (bit_or (get_or led p 0) v)) k) (has_word_bit first k)
     (λ here.
     let e : k / 64 ≡ p = eqb-true (k / 64) p here in
-    let same : 64 * p + k % 64 ≡ k = omega arith in
-    (le-ltb k (64 * p) (omega arith), lt-ltb k (64 * (p + 1)) (omega arith),
-      shifted-word live row p d v carry (k % 64) near (omega arith) (carried (k % 64)) (word (k % 64) (omega arith)) ∙ ap (is_shifted live row d) same))
+    let same : 64 * p + k % 64 ≡ k = omega arith in (
+      le-ltb k (64 * p) (omega arith),
+      lt-ltb k (64 * (p + 1)) (omega arith),
+      shifted-word live row p d v carry (k % 64) near (omega arith) (carried (k % 64)) (word (k % 64) (omega arith)) ∙ ap (is_shifted live row d) same,
+    ))
     (λ there.
     elim (cases_lt k (64 * p)) [
       | inl below ↦ rw (lt-ltb k (64 * p) below, lt-ltb k (64 * (p + 1)) (omega arith)) refl

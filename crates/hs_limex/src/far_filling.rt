@@ -33,7 +33,15 @@ pub(crate) fn near_of(
     let mut rows = WordRows::new(alloc, CONTEXT_COUNT * DISTANCE_COUNT, width)?;
     for number in 0..CONTEXT_COUNT * DISTANCE_COUNT {
         let (prev, next) = context_of(number / DISTANCE_COUNT);
-        fill_near(follows, size, prev, next, number, number % DISTANCE_COUNT, &mut rows);
+        fill_near(
+            follows,
+            size,
+            prev,
+            next,
+            number,
+            number % DISTANCE_COUNT,
+            &mut rows,
+        );
     }
     Ok(rows)
 }

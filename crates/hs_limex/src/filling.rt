@@ -55,11 +55,7 @@ fn set_contains(sets: &[ByteSet], number: usize, byte: u8) -> bool
 }
 
 /// For each context the positions whose mask has it.
-pub(crate) fn masks_of(
-    alloc: Global,
-    masks: &[Mask],
-    width: usize,
-) -> Result<WordRows, AllocError>
+pub(crate) fn masks_of(alloc: Global, masks: &[Mask], width: usize) -> Result<WordRows, AllocError>
     requires narrow { width ≤ 8 }
     requires room { length masks.now ≤ 64 * width }
     ensures count { IfOk result (λ rows. rows.count ≡ 24) }

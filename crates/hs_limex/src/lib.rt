@@ -11,3 +11,6 @@ mod word_rows;
 mod words;
 
 pub use limex::Limex;
+
+#[cfg(test)]
+mod tests;

@@ -15,7 +15,7 @@ returns-clause-sound c k set =
     let row = c.row.result.now in
     lead-sound t live row here c.args.entering c.row.ensures.bits k
     (sym (lead-chain t live row here c.args.entering k c.number_of-number.result c.number_of-number.ensures.number (has_word_bit c.args.led.now k) (has_word_bit c.lead_near.new.led k) (has_word_bit c.lead_far.new.led k) (has_word_bit c.enter.new.led k)
-      (c.requires.zero k) (c.lead_near.ensures.bits k) (c.lead_far.ensures.bits k) (c.enter.ensures.bits k)) ∙ set)
+    (c.requires.zero k) (c.lead_near.ensures.bits k) (c.lead_far.ensures.bits k) (c.enter.ensures.bits k)) ∙ set)
 
 pub returns-clause-whole : goal.returns-clause-whole
 returns-clause-whole c k inside led =

@@ -27,7 +27,7 @@ returns-clause-sound c k set =
     let both : (row && led) ≡ true = sym (c.keep_words.ensures.bits k inside) ∙ second_of_both (nat_lt k (8 * length old)) kept stored in (
       sym (c.row.ensures.bits k) ∙ first_of_both row led both,
       led-as t (has_word_bit live) (has_bit old) here c.args.entering k (λ x. read-bits (has_bit old x) (has_word_bit (replicate 8 0) x) (has_word_bit live x) (replicate-words 8 x) (c.unite_bytes.ensures.bits x))
-      (c.lead.ensures.sound k (second_of_both row led both)),
+          (c.lead.ensures.sound k (second_of_both row led both)),
     )
 
 pub returns-clause-whole : goal.returns-clause-whole
