@@ -1,7 +1,8 @@
-use Rattle.std.proofs.Common.{List, map, refl, subst, sym}
+use Rattle.std.proofs.Common.{◌⊎◌, List, map, refl, subst, sym}
 use Rattle.hs_base.specs.Entries.{listed}
 use Rattle.hs_base.specs.declared.ext.Entry.{Entry}
 use Rattle.hs_outside.proofs.Sending.{Took-nothing}
+use Rattle.hs_outside.specs.Store.{KeepsOthers, TellsNothing}
 use Rattle.hs_dbfile.specs.Files.{AreWritable}
 use Rattle.hs_tool.specs.Commands.{pattern_file}
 use Rattle.hs_tool.specs.Answers
@@ -27,3 +28,8 @@ returns-clause-ends g c =
     let list = subst (λ (entries : List Entry). HasList pattern_file (g.S.Store.told c.load.new.store c.args.patterns.now) (map listed entries) loaded.patterns) (sym c.as_slice.ensures.value) here in
     compile_since c.args.patterns.now c.args.database.now (g.S.Store.told c.args.store.now) (g.S.Store.told c.load.new.store) _ _ _ _ _ _ c.in-Ok.ensures.kept c.in-Ok.ensures.counted
     (c.put_list.ensures.ends c.args.patterns.now loaded.patterns list)
+
+pub returns-clause-kept : goal.returns-clause-kept
+returns-clause-kept g c =
+    let now = g.S.Store.told c.put_list.new.store in
+    subst (λ told. KeepsOthers told now c.args.database.now ⊎ TellsNothing now) c.in-Ok.ensures.kept c.put_list.ensures.kept
