@@ -27,7 +27,8 @@ impl Nibbles {
 
     /// Adds a byte.
     fn insert(&mut self, byte: u8)
-        ensures { (b : ℕ) → b < 256 → in_nibbles self.new.first self.new.second b ≡ ((b == byte) || in_nibbles self.old.first self.old.second b) }
+        ensures { (b : ℕ) → b < 256 →
+            in_nibbles self.new.first self.new.second b ≡ ((b == byte) || in_nibbles self.old.first self.old.second b) }
     {
         let low = (byte % 16) as usize;
         let bit = 1 << (byte / 16 % 8);

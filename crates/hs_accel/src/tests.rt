@@ -1,3 +1,4 @@
+//! The least place of a byte of a set, beside a plain search.
 use crate::next_in;
 use hs_base::ByteSet;
 

@@ -1,3 +1,4 @@
+pub mod BitLemmas
 pub mod ByteSetLemmas
 pub mod LiteralLemmas
 pub mod ListLemmas
@@ -14,4 +15,15 @@ pub mod ExactLemmas
 pub mod CutLemmas
 pub mod EndLemmas
 pub mod SettlingLemmas
+pub mod NewEndLemmas
 pub mod PairListLemmas
+pub mod ChainStreamLemmas
+pub mod EntryLemmas
+pub mod LiteralRowLemmas
+pub mod BitOnceLemmas
+pub mod KeptLemmas
+pub mod SumLemmas
+pub mod RegionLemmas
+pub mod RegionStartLemmas
+pub mod PlanLemmas
+pub mod RepeatRowLemmas

@@ -1,5 +1,5 @@
 -- Members of lists, and lists in strict order: unique by their members, cut at a bound, joined.
-use Rattle.std.proofs.Common.{◌≡◌, ℕ, ◌<◌, ◌≤◌, ◌⊎◌, List, [], ◌∷◌, ◌++◌, map, refl, sym, ap, subst, ◌∙◌, inl, inr, arith}
+use Rattle.std.proofs.Common.{◌≡◌, ℕ, zero, suc, ◌<◌, ◌≤◌, ◌⊎◌, List, [], ◌∷◌, ◌++◌, map, Some, slice_get, refl, sym, ap, subst, ◌∙◌, inl, inr, arith}
 use Rattle.std.proofs.lemmas.Bool.{cases_lt}
 use Rattle.hs_base.specs.Lists.{OneOf, Each, IsMember, IsRising}
 
@@ -63,6 +63,17 @@ pub map-member : {A B : Type 0} (f : A → B) (xs : List A) (y : B) → IsMember
 map-member f [] y member = absurd member
 map-member f (x ∷ xs) y (inl same) = (x, inl refl, same)
 map-member f (x ∷ xs) y (inr member) = let (z, below, same) = map-member f xs y member in (z, inr below, same)
+
+-- a member has a place, and what has a place is a member
+pub member-place : {A : Type 0} (xs : List A) (x : A) → IsMember x xs → (k : ℕ) × (slice_get xs k ≡ Some x)
+member-place [] x member = absurd member
+member-place (y ∷ xs) x (inl same) = (zero, ap (λ z. Some z) (sym same))
+member-place (y ∷ xs) x (inr member) = let (k, at) = member-place xs x member in (suc k, at)
+
+pub place-member : {A : Type 0} (xs : List A) (x : A) (k : ℕ) → slice_get xs k ≡ Some x → IsMember x xs
+place-member [] x k at = absurd (cc)
+place-member (y ∷ xs) x zero at = inl (cc)
+place-member (y ∷ xs) x (suc k) at = inr (place-member xs x k at)
 
 -- a strict order
 pub record IsOrder {A : Type 0} (R : A → A → Type 0) : Type 0 where

@@ -29,10 +29,10 @@ report-take : (P : List Pattern) (u : List ℕ) (n id to : ℕ) → IsReport P (
 report-take P u n id to report =
     subst (λ s. IsReport P s false id to) (take-append-drop n u) (reports-longer P (take n u) (drop n u) false id to report)
 
-length-push : (u : List ℕ) (b : ℕ) → length (u ++ b ∷ []) ≡ length u + 1
+pub length-push : (u : List ℕ) (b : ℕ) → length (u ++ b ∷ []) ≡ length u + 1
 length-push u b = length-append u (b ∷ [])
 
-take-push : (u : List ℕ) (b : ℕ) → take (length u + 1) (u ++ b ∷ []) ≡ u ++ b ∷ []
+pub take-push : (u : List ℕ) (b : ℕ) → take (length u + 1) (u ++ b ∷ []) ≡ u ++ b ∷ []
 take-push u b = ap (λ n. take n (u ++ b ∷ [])) (sym (length-push u b)) ∙ take-length (u ++ b ∷ [])
 
 decided-byte : (P : List Pattern) (u : List ℕ) (b : ℕ) (new : List Pair) → AreByteReports P u b new → (p : Pair) → IsMember p new → IsDecided P (u ++ b ∷ []) (mark_at (length u + 1) p)

@@ -1,5 +1,6 @@
 -- Pairs and reports of a stream and of one that begins with it.
-use Rattle.std.proofs.Common.{◌≡◌, ℕ, ◌<◌, ◌≤◌, ◌⊎◌, Bool, true, false, ◌&&◌, ◌||◌, ◌==◌, List, [], ◌∷◌, ◌++◌, length, IsTrue, refl, sym, ap, subst, ◌∙◌, inl, inr, arith, length-append}
+use Rattle.std.proofs.Common.{◌≡◌, ℕ, ◌<◌, ◌≤◌, ◌⊎◌, Bool, true, false, not, ◌&&◌, ◌||◌, ◌==◌, List, [], ◌∷◌, ◌++◌, length, IsTrue, refl, sym, ap, subst, ◌∙◌, inl, inr, arith, length-append}
+use Rattle.std.specs.List.{list_any, list_all}
 use Rattle.std.proofs.lemmas.Bool.{cases_lt}
 use Rattle.std.proofs.lemmas.List.{append-nil}
 use Rattle.hs_base.specs.Spans.{Spans}
@@ -100,15 +101,32 @@ no-reports_yet P id to report =
     let begun : 0 < 0 = pair-begun P [] id to (report-pair_before_end P [] id to report) in
     omega arith
 
-and-false : (b : Bool) → (b && false) ≡ false
-and-false true = refl
-and-false false = refl
+-- a pattern in front that isn't single makes no identifier single
+single-front : (is_its some all : Bool) → (some && all) ≡ false → ((is_its || some) && ((not is_its || false) && all)) ≡ false
+single-front true some all none = refl
+single-front false some all none = none
 
 pub single-none : (P : List Pattern) (id : ℕ) → AreNotSingle P → is_single P id ≡ false
 single-none [] id many = refl
 single-none (x ∷ P) id many =
-    let here : ((x.id == id) && x.single) ≡ false = ap (λ b. (x.id == id) && b) many.0 ∙ and-false (x.id == id) in
-    ap (λ b. b || is_single P id) here ∙ single-none P id many.1
+    ap
+    (λ b. ((x.id == id) || list_any (λ y. y.id == id) P) && ((not (x.id == id) || b) && list_all (λ y. not (y.id == id) || y.single) P))
+    many.0
+    ∙ single-front (x.id == id) (list_any (λ y. y.id == id) P) (list_all (λ y. not (y.id == id) || y.single) P)
+    (single-none P id many.1)
+
+-- Each pattern of the identifier is single where none of them isn't.
+none-many : (is_its single many : Bool) → ((not is_its || single) && not many) ≡ not ((is_its && not single) || many)
+none-many true true many = refl
+none-many true false many = refl
+none-many false single many = refl
+
+pub all-single : (P : List Pattern) (id : ℕ) →
+    list_all (λ x. not (x.id == id) || x.single) P ≡ not (list_any (λ x. (x.id == id) && not x.single) P)
+all-single [] id = refl
+all-single (x ∷ P) id =
+    ap (λ b. (not (x.id == id) || x.single) && b) (all-single P id)
+    ∙ none-many (x.id == id) x.single (list_any (λ y. (y.id == id) && not y.single) P)
 
 pub same-bool : (b : Bool) → (b ≡ true) ⊎ (b ≡ false)
 same-bool true = inl refl

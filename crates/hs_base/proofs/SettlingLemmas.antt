@@ -104,7 +104,7 @@ only-last-two P w id to report fresh =
 -- Of the empty stream nothing is kept.
 pub kept-start : (P : List Pattern) (id : ℕ) → IsKept P [] id nothing_kept
 kept-start P id = record {
-  told = (λ never. absurd (cc), λ (to, report). absurd (no-reports_yet P id to report));
+  told = λ single. (λ never. absurd (cc), λ (to, report). absurd (no-reports_yet P id to report));
   here = (λ never. absurd (cc), λ report. absurd (no-reports_yet P id 0 report));
   last = (λ never. absurd (cc), λ left. absurd (let end : suc left.to ≡ 0 = left.before in omega arith));
 }
@@ -120,8 +120,8 @@ module _ (P : List Pattern) (u : List ℕ) (b id : ℕ) (kept : Kept) (ends : En
   report-pair_behind : (ended : Bool) (to : ℕ) → IsReport P (u ++ b ∷ []) ended id to → IsPair P (u ++ b ∷ []) ended id to
   report-pair_behind ended to report = report-pair_now P (u ++ b ∷ []) ended id to report
 
-  none-told : kept.told ≡ false → (to : ℕ) → IsReport P u false id to → ⊥
-  none-told none to report = both_ways kept.told none (is.told.1 (to, report))
+  none-told : is_single P id ≡ true → kept.told ≡ false → (to : ℕ) → IsReport P u false id to → ⊥
+  none-told single none to report = both_ways kept.told none ((is.told single).1 (to, report))
 
   none-here : kept.here ≡ false → IsReport P u false id (length u) → ⊥
   none-here none report = both_ways kept.here none (is.here.1 report)
@@ -153,17 +153,17 @@ module _ (P : List Pattern) (u : List ℕ) (b id : ℕ) (kept : Kept) (ends : En
               (record {
                 holds = (pair-before_byte P u b id).1 (are.before.0 end);
                 least = λ m pair. elim (cases_lt m (length u)) [
-                  | inl below ↦ absurd (no-pairs P u id single (none-told none) m (pairs-shorter P u (b ∷ []) id m below pair))
+                  | inl below ↦ absurd (no-pairs P u id single (none-told single none) m (pairs-shorter P u (b ∷ []) id m below pair))
                   | inr above ↦ above
                 ];
               }),
-          none-told none (length u),
+          none-told single none (length u),
         ),
     λ (report, fresh).
         let end : ends.before ≡ true = are.before.1 ((pair-before_byte P u b id).0 (report-pair_behind false (length u) report)) in
         let none : kept.told ≡ false =
         false_from_ne_true kept.told (λ told.
-        let (to, earlier) = is.told.0 told in
+        let (to, earlier) = (is.told single).0 told in
         let same : to ≡ length u = report-once P (u ++ b ∷ []) id to (length u) single (report-stays to earlier) report in
         fresh (subst (IsReport P u false id) same earlier)) in
         and_from ends.before (not kept.told) end (not_from_false kept.told none),
@@ -188,7 +188,7 @@ module _ (P : List Pattern) (u : List ℕ) (b id : ℕ) (kept : Kept) (ends : En
         let end : ends.behind ≡ true = are.behind.1 ((pair-behind_byte P u b id).0 (report-pair_behind false (length u + 1) report)) in
         let none : kept.told ≡ false =
         false_from_ne_true kept.told (λ told.
-        let (to, earlier) = is.told.0 told in
+        let (to, earlier) = (is.told single).0 told in
         let same : to ≡ length u + 1 = report-once P (u ++ b ∷ []) id to (length u + 1) single (report-stays to earlier) report in
         let within : to ≤ length u = end-told to earlier in
         omega arith) in
@@ -203,7 +203,7 @@ module _ (P : List Pattern) (u : List ℕ) (b id : ℕ) (kept : Kept) (ends : En
     where
       above : is_single P id ≡ true → kept.told ≡ false → tells_before true kept ends ≡ false → (m : ℕ) → IsPair P (u ++ b ∷ []) false id m → length u + 1 ≤ m
       above single none none' m pair = elim (cases_lt m (length u)) [
-        | inl below ↦ absurd (no-pairs P u id single (none-told none) m (pairs-shorter P u (b ∷ []) id m below pair))
+        | inl below ↦ absurd (no-pairs P u id single (none-told single none) m (pairs-shorter P u (b ∷ []) id m below pair))
         | inr within ↦ elim (cases_eq m (length u)) [
           | inl same ↦
               let end : ends.before ≡ true = are.before.1 ((pair-before_byte P u b id).0 (subst (IsPair P (u ++ b ∷ []) false id) same pair)) in
@@ -212,30 +212,36 @@ module _ (P : List Pattern) (u : List ℕ) (b id : ℕ) (kept : Kept) (ends : En
         ]
       ]
 
-  told-settled : (single : Bool) → is_single P id ≡ single → (is_told single kept ends ≡ true) ↔ ((to : ℕ) × IsReport P (u ++ b ∷ []) false id to)
-  told-settled single same = (
-    λ told. elim (or_cases kept.told (tells_before single kept ends || tells_behind single kept ends) told) [
-      | inl earlier ↦ let (to, report) = is.told.0 earlier in (to, report-stays to report)
-      | inr new ↦ elim (or_cases (tells_before single kept ends) (tells_behind single kept ends) new) [
-        | inl before ↦ (length u, ((before-settled single same).0 before).0)
-        | inr behind ↦ (length u + 1, (behind-settled single same).0 behind)
+  told-single : is_single P id ≡ true → (is_told true kept ends ≡ true) ↔ ((to : ℕ) × IsReport P (u ++ b ∷ []) false id to)
+  told-single single = (
+    λ told. elim (or_cases kept.told (tells_before true kept ends || tells_behind true kept ends) told) [
+      | inl earlier ↦ let (to, report) = (is.told single).0 earlier in (to, report-stays to report)
+      | inr new ↦ elim (or_cases (tells_before true kept ends) (tells_behind true kept ends) new) [
+        | inl before ↦ (length u, ((before-settled true single).0 before).0)
+        | inr behind ↦ (length u + 1, (behind-settled true single).0 behind)
       ]
     ],
     λ (to, report). elim (cases_Bool kept.told) [
-      | inl told ↦ or_left kept.told (tells_before single kept ends || tells_behind single kept ends) told
+      | inl told ↦ or_left kept.told (tells_before true kept ends || tells_behind true kept ends) told
       | inr none ↦
-          or_right kept.told (tells_before single kept ends || tells_behind single kept ends)
-          (new single same none to report (only-two P u b id to report (none-told none to)))
+          or_right kept.told (tells_before true kept ends || tells_behind true kept ends)
+          (new none to report (only-two P u b id to report (none-told single none to)))
     ],
   )
     where
-      new : (single : Bool) → is_single P id ≡ single → kept.told ≡ false → (to : ℕ) → IsReport P (u ++ b ∷ []) false id to → (to ≡ length u) ⊎ (to ≡ length u + 1) → (tells_before single kept ends || tells_behind single kept ends) ≡ true
-      new single same none to report (inl here) =
-          or_left (tells_before single kept ends) (tells_behind single kept ends)
-          ((before-settled single same).1 (subst (IsReport P (u ++ b ∷ []) false id) here report, none-told none (length u)))
-      new single same none to report (inr here) =
-          or_right (tells_before single kept ends) (tells_behind single kept ends)
-          ((behind-settled single same).1 (subst (IsReport P (u ++ b ∷ []) false id) here report))
+      new : kept.told ≡ false → (to : ℕ) → IsReport P (u ++ b ∷ []) false id to → (to ≡ length u) ⊎ (to ≡ length u + 1) →
+          (tells_before true kept ends || tells_behind true kept ends) ≡ true
+      new none to report (inl here) =
+          or_left (tells_before true kept ends) (tells_behind true kept ends)
+          ((before-settled true single).1 (subst (IsReport P (u ++ b ∷ []) false id) here report, none-told single none (length u)))
+      new none to report (inr here) =
+          or_right (tells_before true kept ends) (tells_behind true kept ends)
+          ((behind-settled true single).1 (subst (IsReport P (u ++ b ∷ []) false id) here report))
+
+  told-settled : (single : Bool) → is_single P id ≡ single → is_single P id ≡ true →
+      (is_told single kept ends ≡ true) ↔ ((to : ℕ) × IsReport P (u ++ b ∷ []) false id to)
+  told-settled false many single = absurd (single-many P id single many)
+  told-settled true same single = told-single single
 
   here-settled : (single : Bool) → is_single P id ≡ single → (tells_behind single kept ends ≡ true) ↔ IsReport P (u ++ b ∷ []) false id (length (u ++ b ∷ []))
   here-settled single same = (
@@ -243,8 +249,8 @@ module _ (P : List Pattern) (u : List ℕ) (b id : ℕ) (kept : Kept) (ends : En
     λ report. (behind-settled single same).1 (subst (IsReport P (u ++ b ∷ []) false id) length-behind report),
   )
 
-  none-behind : (single : Bool) → is_single P id ≡ single → is_told single kept ends ≡ false → (to : ℕ) → IsReport P (u ++ b ∷ []) false id to → ⊥
-  none-behind single same none to report = both_ways (is_told single kept ends) none ((told-settled single same).1 (to, report))
+  none-behind : is_single P id ≡ true → is_told true kept ends ≡ false → (to : ℕ) → IsReport P (u ++ b ∷ []) false id to → ⊥
+  none-behind single none to report = both_ways (is_told true kept ends) none ((told-single single).1 (to, report))
 
   -- a line feed that ends the stream: a match before it that the end would decide
   final-pair : ends.before_last ≡ true → IsPair P (u ++ b ∷ []) true id (length u)
@@ -299,7 +305,7 @@ module _ (P : List Pattern) (u : List ℕ) (b id : ℕ) (kept : Kept) (ends : En
   last-settled true single = (
     λ tells.
         let (last, fresh) = and_parts ends.before_last (not (is_told true kept ends)) tells in
-        let none : (to : ℕ) → IsReport P (u ++ b ∷ []) false id to → ⊥ = none-behind true single (not-true (is_told true kept ends) fresh) in
+        let none : (to : ℕ) → IsReport P (u ++ b ∷ []) false id to → ⊥ = none-behind single (not-true (is_told true kept ends) fresh) in
         left-at
         (first_at_end single (no-pairs P (u ++ b ∷ []) id single none)
         (record {
@@ -314,7 +320,7 @@ module _ (P : List Pattern) (u : List ℕ) (b id : ℕ) (kept : Kept) (ends : En
         (pair-final (report-pair_behind true (length u) report) (nothing (length u)))
         (not_from_false (is_told true kept ends)
         (false_from_ne_true (is_told true kept ends) (λ told.
-        let (to, earlier) = (told-settled true single).0 told in nothing to (report-pair_behind false to earlier)))),
+        let (to, earlier) = (told-single single).0 told in nothing to (report-pair_behind false to earlier)))),
   )
     where
       within : is_single P id ≡ true → ((to : ℕ) → IsReport P (u ++ b ∷ []) false id to → ⊥) → (m : ℕ) → IsPair P (u ++ b ∷ []) true id m → length u ≤ m
@@ -360,7 +366,7 @@ module _ (P : List Pattern) (w : List ℕ) (id : ℕ) (kept : Kept) (at_end : Bo
     λ tells.
         let (end, fresh) = and_parts at_end (not (kept.told || kept.last)) tells in
         let (none, none-last) = or_parts kept.told kept.last (not-true (kept.told || kept.last) fresh) in
-        let never : (to : ℕ) → IsReport P w false id to → ⊥ = λ to report. both_ways kept.told none (is.told.1 (to, report)) in (
+        let never : (to : ℕ) → IsReport P w false id to → ⊥ = λ to report. both_ways kept.told none ((is.told single).1 (to, report)) in (
           first_at_end single (no-pairs P w id single never)
               (record {
                 holds = (pair-end P w id).1 (ends.0 end);
@@ -406,7 +412,7 @@ module _ (P : List Pattern) (w : List ℕ) (id : ℕ) (kept : Kept) (at_end : Bo
           (not_from_false (kept.told || kept.last)
           (or_from kept.told kept.last
           (false_from_ne_true kept.told (λ told.
-          let (to, report) = is.told.0 told in nothing to (report-pair_now P w false id to report)))
+          let (to, report) = (is.told single).0 told in nothing to (report-pair_now P w false id to report)))
           (false_from_ne_true kept.last (λ last.
           let left : IsLeftToEnd P w id = is.last.0 last in
           let above : length w ≤ left.to = least.least left.to (report-pair_now P w true id left.to left.at_end) in

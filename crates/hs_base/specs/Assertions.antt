@@ -1,9 +1,11 @@
 -- Where an assertion holds in a stream (PCRE pattern syntax, "Circumflex and dollar" and "Simple assertions"). A stream
 -- is a list of bytes that has ended or may go on. What has to see the next byte doesn't hold before that byte or the
 -- end of the stream is there.
-use Rattle.std.specs.Prelude.{◌≡◌, ◌≢◌, ℕ, zero, suc, ◌+◌, ◌<◌, ◌⊎◌, Bool, false, ◌||◌, ◌&&◌, ◌==◌, nat_le, List, length, Option, Some, None, slice_get, IsTrue}
+use Rattle.std.specs.Prelude.{◌≡◌, ◌≢◌, ℕ, zero, suc, ◌+◌, ◌<◌, ◌⊎◌, Bool, false, ◌||◌, ◌&&◌, ◌==◌, nat_le, List}
+use Rattle.std.specs.Prelude.{length, Option, Some, None, slice_get, IsTrue}
 use Rattle.hs_base.specs.declared.assertion.Assertion.{Assertion}
-use Rattle.hs_base.specs.declared.assertion.Assertion.TheVariants.{StreamStart, LineStart, LineEnd, EndOrFinalNewline, StreamEnd, WordBoundary, NotWordBoundary}
+use Rattle.hs_base.specs.declared.assertion.Assertion.TheVariants.{StreamStart, LineStart, LineEnd, EndOrFinalNewline}
+use Rattle.hs_base.specs.declared.assertion.Assertion.TheVariants.{StreamEnd, WordBoundary, NotWordBoundary}
 
 -- the byte 0A
 abbrev pub line_feed : ℕ

@@ -1,7 +1,8 @@
 -- End assertions, and where bytes may be consumed after one.
 use Rattle.std.specs.Prelude.{zero, suc, Bool, true, false, ◌||◌, ◌&&◌, Some, None}
 use Rattle.hs_base.specs.declared.assertion.Assertion.{Assertion}
-use Rattle.hs_base.specs.declared.assertion.Assertion.TheVariants.{StreamStart, LineStart, LineEnd, EndOrFinalNewline, StreamEnd, WordBoundary, NotWordBoundary}
+use Rattle.hs_base.specs.declared.assertion.Assertion.TheVariants.{StreamStart, LineStart, LineEnd, EndOrFinalNewline}
+use Rattle.hs_base.specs.declared.assertion.Assertion.TheVariants.{StreamEnd, WordBoundary, NotWordBoundary}
 use Rattle.hs_base.specs.Trees.{Tree, Trees, empty, class, points, assert, cat, alt, repeat, none, more}
 
 -- `$` without multiline, `\Z` and `\z`

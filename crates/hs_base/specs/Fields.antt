@@ -5,8 +5,8 @@ use Rattle.hs_base.specs.Contexts.{then_bytes, then_ended}
 use Rattle.hs_base.specs.Trees.{Tree}
 use Rattle.hs_base.specs.Spans.{Spans}
 
--- The expression is left at the end of the bytes u, where `next` comes next: it has a span of at least one byte that ends
--- there, from an offset where it was entered.
+-- The expression is left at the end of the bytes u, where `next` comes next: it has a span of at least one byte that
+-- ends there, from an offset where it was entered.
 pub record Leaves (tree : Tree) (u : List ℕ) (entered : List Bool) (next : Next) : Type 0 where
   pub from : ℕ
   pub is_entered : slice_get entered from ≡ Some true

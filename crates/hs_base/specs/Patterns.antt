@@ -1,6 +1,6 @@
 -- Patterns, and the pairs of an identifier and an end that they give.
-use Rattle.std.specs.Prelude.{◌≡◌, ℕ, ◌^◌, ◌<◌, ◌≤◌, ◌⊎◌, Bool, false, ◌&&◌, ◌==◌, List, length, IsTrue}
-use Rattle.std.specs.List.{list_any}
+use Rattle.std.specs.Prelude.{◌≡◌, ℕ, ◌^◌, ◌<◌, ◌≤◌, ◌⊎◌, Bool, false, not, ◌&&◌, ◌||◌, ◌==◌, List, length, IsTrue}
+use Rattle.std.specs.List.{list_any, list_all}
 use Rattle.hs_base.specs.Lists.{OneOf, Each}
 use Rattle.hs_base.specs.Trees.{Tree, IsProper}
 use Rattle.hs_base.specs.Spans.{Spans}
@@ -8,7 +8,7 @@ use Rattle.hs_base.specs.Spans.{Spans}
 -- an expression of a list, with what is asked of its matches
 pub record Pattern : Type 0 where
   pub id : ℕ
-  -- whether the identifier is reported at most once in a stream
+  -- whether the identifier is to be reported at most once in a stream
   pub single : Bool
   -- the least and the greatest end offset
   pub least : ℕ
@@ -22,11 +22,11 @@ pub record IsProperPattern (x : Pattern) : Type 0 where
   pub greatest : x.greatest < 2 ^ 64
   pub tree : IsProper x.tree
 
--- the identifier is reported at most once in a stream
+-- The identifier is one of the list, and each of its patterns is to be reported at most once in a stream.
 abbrev pub is_single : List Pattern → ℕ → Bool
-is_single P id = list_any (λ x. (x.id == id) && x.single) P
+is_single P id = list_any (λ x. x.id == id) P && list_all (λ x. not (x.id == id) || x.single) P
 
--- no identifier is reported at most once
+-- none of the patterns is to be reported at most once
 abbrev pub AreNotSingle : List Pattern → Type 0
 AreNotSingle P = Each (λ x. x.single ≡ false) P
 

@@ -1,7 +1,11 @@
 -- The numbers of refusals.
 use Rattle.std.specs.Prelude.{ℕ}
 use Rattle.hs_base.specs.declared.refusal.Refusal.{Refusal}
-use Rattle.hs_base.specs.declared.refusal.Refusal.TheVariants.{Syntax, UnknownEscape, Unsupported, UnsupportedFlag, UnsupportedParameter, MatchesEmpty, EmbeddedEnd, RepeatLimit, PositionLimit, LengthLimit, DepthLimit, CountLimit, StateLimit, MixedSingle, OffsetOrder, ListLine}
+use Rattle.hs_base.specs.declared.refusal.Refusal.TheVariants.{Syntax, UnknownEscape, Unsupported, UnsupportedFlag}
+use Rattle.hs_base.specs.declared.refusal.Refusal.TheVariants.{UnsupportedParameter, MatchesEmpty, EmbeddedEnd}
+use Rattle.hs_base.specs.declared.refusal.Refusal.TheVariants.{RepeatLimit, PositionLimit, LengthLimit, DepthLimit}
+use Rattle.hs_base.specs.declared.refusal.Refusal.TheVariants.{CountLimit, StateLimit, MixedSingle, OffsetOrder}
+use Rattle.hs_base.specs.declared.refusal.Refusal.TheVariants.{ListLine}
 
 -- Of several refusals of one expression the one of least number is answered.
 abbrev pub number_of : Refusal → ℕ

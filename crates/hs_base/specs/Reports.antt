@@ -12,4 +12,7 @@ pub record IsLeast (Q : ℕ → Type 0) (n : ℕ) : Type 0 where
 pub data IsReport (P : List Pattern) (w : List ℕ) (ended : Bool) (id to : ℕ) : Type 0 where
   each : is_single P id ≡ false → IsPair P w ended id to → IsReport P w ended id to
   first : is_single P id ≡ true → IsLeast (IsPair P w false id) to → IsReport P w ended id to
-  first_at_end : is_single P id ≡ true → ((m : ℕ) → IsPair P w false id m → ⊥) → IsLeast (IsPair P w ended id) to → IsReport P w ended id to
+  first_at_end : is_single P id ≡ true →
+      ((m : ℕ) → IsPair P w false id m → ⊥) →
+      IsLeast (IsPair P w ended id) to →
+      IsReport P w ended id to

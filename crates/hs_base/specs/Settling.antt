@@ -1,12 +1,13 @@
 -- What is kept of an identifier between the bytes of a stream, and what one more byte, or the end, then decides of it.
-use Rattle.std.specs.Prelude.{◌≡◌, ◌↔◌, ℕ, suc, ◌<◌, ◌≤◌, Bool, true, false, not, ◌||◌, ◌&&◌, if◌then◌else◌, List, [], ◌∷◌, ◌++◌, length}
+use Rattle.std.specs.Prelude.{◌≡◌, ◌↔◌, ℕ, suc, ◌<◌, ◌≤◌, Bool, true, false, not, ◌||◌, ◌&&◌, if◌then◌else◌, List, []}
+use Rattle.std.specs.Prelude.{◌∷◌, ◌++◌, length}
 use Rattle.hs_base.specs.declared.context.Next.{Next}
 use Rattle.hs_base.specs.declared.context.Next.TheVariants as after
 use Rattle.hs_base.specs.Assertions.{line_feed}
 use Rattle.hs_base.specs.Lists.{OneOf, Each, IsMember, IsRising}
 use Rattle.hs_base.specs.Contexts.{class_of, then_bytes, then_ended}
 use Rattle.hs_base.specs.Spans.{Spans}
-use Rattle.hs_base.specs.Patterns.{Pattern}
+use Rattle.hs_base.specs.Patterns.{Pattern, is_single}
 use Rattle.hs_base.specs.Reports.{IsReport}
 use Rattle.hs_base.specs.Told.{Pair}
 
@@ -24,7 +25,7 @@ HasEndHere P id u next = OneOf (EndsHere id u next) P
 
 -- what is kept of an identifier
 pub record Kept : Type 0 where
-  -- a pair of it is reported
+  -- a pair of it is reported; kept of single identifiers alone
   pub told : Bool
   -- its pair that ends behind the last byte is reported
   pub here : Bool
@@ -44,7 +45,7 @@ pub record IsLeftToEnd (P : List Pattern) (u : List ℕ) (id : ℕ) : Type 0 whe
 
 -- That is what is kept of the identifier behind the bytes u.
 pub record IsKept (P : List Pattern) (u : List ℕ) (id : ℕ) (kept : Kept) : Type 0 where
-  pub told : (kept.told ≡ true) ↔ ((to : ℕ) × IsReport P u false id to)
+  pub told : is_single P id ≡ true → (kept.told ≡ true) ↔ ((to : ℕ) × IsReport P u false id to)
   pub here : (kept.here ≡ true) ↔ IsReport P u false id (length u)
   pub last : (kept.last ≡ true) ↔ IsLeftToEnd P u id
 
@@ -57,7 +58,8 @@ pub record Ends : Type 0 where
   -- behind the byte, whatever comes next
   pub behind : Bool
 
--- Those are the ends of the identifier about the byte b behind u. Whether it is the last one matters to a line feed alone.
+-- Those are the ends of the identifier about the byte b behind u. Whether it is the last one matters to a line feed
+-- alone.
 pub record AreEnds (P : List Pattern) (u : List ℕ) (b : ℕ) (id : ℕ) (ends : Ends) : Type 0 where
   pub before : (ends.before ≡ true) ↔ HasEndHere P id u (class_of b)
   pub before_last : (ends.before_last ≡ true) ↔ ((b ≡ line_feed) × HasEndHere P id u after.FinalNewline)
@@ -80,7 +82,9 @@ abbrev pub settled : (single : Bool) → Kept → Ends → Kept
 settled single kept ends = record {
   told = is_told single kept ends;
   here = tells_behind single kept ends;
-  last = ends.before_last && not (if single then is_told single kept ends else (kept.here || tells_before single kept ends));
+  last =
+      ends.before_last
+      && not (if single then is_told single kept ends else (kept.here || tells_before single kept ends));
 }
 
 -- at the end of the stream, before which a match of the identifier ends: that pair is newly reported, if none that ends

@@ -1,5 +1,6 @@
 -- The spans of an expression: from which offset to which offset of a stream it matches.
-use Rattle.std.specs.Prelude.{◌≡◌, ℕ, zero, suc, ◌+◌, ◌<◌, ◌≤◌, ◌⊎◌, Bool, true, List, length, take, drop, Some, IfSome, slice_get, encode_utf8}
+use Rattle.std.specs.Prelude.{◌≡◌, ℕ, zero, suc, ◌+◌, ◌<◌, ◌≤◌, ◌⊎◌, Bool, true, List, length, take, drop, Some, IfSome}
+use Rattle.std.specs.Prelude.{slice_get, encode_utf8}
 use Rattle.hs_base.specs.Lists.{OneOf}
 use Rattle.hs_base.specs.Trees.{Tree, Trees, empty, class, points, assert, cat, alt, repeat, none, more}
 use Rattle.hs_base.specs.Assertions.{Holds}

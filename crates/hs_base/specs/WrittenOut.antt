@@ -1,6 +1,7 @@
 -- An expression with its repeats written out, its positions, and the expression in front of each: the position
 -- automaton (Glushkov, "The abstract theory of automata") is about these.
-use Rattle.std.specs.Prelude.{◌≡◌, ℕ, zero, suc, ◌+◌, ◌-◌, ◌≤◌, ◌⊎◌, Bool, true, false, nat_lt, if◌then◌else◌, List, [], length, Option, Some, None, IfSome, slice_get}
+use Rattle.std.specs.Prelude.{◌≡◌, ℕ, zero, suc, ◌+◌, ◌-◌, ◌≤◌, ◌⊎◌, Bool, true, false, nat_lt, if◌then◌else◌, List, []}
+use Rattle.std.specs.Prelude.{length, Option, Some, None, IfSome, slice_get}
 use Rattle.hs_base.specs.declared.assertion.Assertion.{Assertion}
 use Rattle.hs_base.specs.Trees as tree
 use Rattle.hs_base.specs.Trees.{Tree, Trees}

@@ -7,4 +7,6 @@ use Rattle.hs_base.specs.WrittenOut.{write_out, IsPlain, StreamSpans}
 -- Writing out the repeats of an expression keeps its spans, and adds none.
 abbrev pub WritingOutKeepsSpans : Type 0
 WritingOutKeepsSpans =
-    (w : List ℕ) (ended : Bool) (tree : Tree) (i j : ℕ) → IsPlain tree → Spans w ended tree i j ↔ StreamSpans w ended (write_out tree) i j
+    (w : List ℕ) (ended : Bool) (tree : Tree) (i j : ℕ) →
+    IsPlain tree →
+    Spans w ended tree i j ↔ StreamSpans w ended (write_out tree) i j

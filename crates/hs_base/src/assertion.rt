@@ -1,3 +1,5 @@
+//! Assertions: what holds between two bytes of a stream.
+
 /// A test of the place between two bytes, which takes no byte (PCRE pattern syntax, "Circumflex and dollar" and
 /// "Simple assertions"). `Holds` in `specs/Assertions.antt` says where each holds.
 #[derive(Clone, Copy, Debug, PartialEq, Eq)]

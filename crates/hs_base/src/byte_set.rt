@@ -1,3 +1,4 @@
+//! Sets of bytes, and the sets that the pattern syntax names.
 ghost use Rattle.std.specs.Prelude.{◌≡◌, ℕ, ◌<◌, ◌==◌, not};
 ghost use Rattle.std.specs.Int.{bit_at};
 

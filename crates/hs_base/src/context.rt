@@ -9,9 +9,7 @@ ghost use Rattle.hs_base.specs.Contexts.{Context, context_number, allows};
 use crate::assertion::Assertion;
 
 /// The line feed, which ends a line.
-const LINE_FEED: u8 = 10;
-/// How many values `Next` has: the bits that a mask keeps for each `Prev`.
-const NEXT_COUNT: u8 = 6;
+pub const LINE_FEED: u8 = 10;
 
 /// What stands before an offset of a stream.
 #[derive(Clone, Copy, Debug, PartialEq, Eq)]
@@ -76,6 +74,9 @@ pub enum Next {
 impl Next {
     ghost use Rattle.hs_base.specs.Contexts.{class_of, next_number};
 
+    /// How many there are: the bits that a mask keeps for each `Prev`.
+    pub const COUNT: u8 = 6;
+
     /// The class of a byte: what comes next before it where more bytes may follow.
     pub fn class_of(byte: u8) -> Next
         ensures { result ≡ class_of byte }
@@ -112,7 +113,7 @@ pub struct NextSet {
 }
 
 impl NextSet {
-    ghost use Rattle.std.specs.Prelude.{Bool, true, false, ◌||◌, ◌↔◌, IsTrue};
+    ghost use Rattle.std.specs.Prelude.{Bool, true, false, ◌||◌, ◌&&◌, ◌↔◌, IsTrue};
     ghost use Rattle.hs_base.specs.declared.context.Next.{Next};
     ghost use Rattle.hs_base.specs.ContextSets.{has_next};
     ghost use Rattle.hs_base.specs.Contexts.{next_number};
@@ -155,12 +156,21 @@ impl NextSet {
             bits: self.bits | other.bits,
         }
     }
+
+    /// The members of both sets.
+    pub fn intersection(self, other: NextSet) -> NextSet
+        ensures { (next : Next) → has_next result next ≡ (has_next self next && has_next other next) }
+    {
+        NextSet {
+            bits: self.bits & other.bits,
+        }
+    }
 }
 
 /// A set of contexts.
 #[derive(Clone, Copy, Debug, PartialEq, Eq)]
 pub struct Mask {
-    /// The context of `prev` and `next` is bit `NEXT_COUNT * prev.number() + next.number()`.
+    /// The context of `prev` and `next` is bit `Next::COUNT * prev.number() + next.number()`.
     bits: u32,
 }
 
@@ -197,7 +207,7 @@ impl Mask {
     pub fn contains(self, prev: Prev, next: Next) -> bool
         ensures { result ≡ has_context self (record { prev = prev; next = next }) }
     {
-        (self.bits >> (NEXT_COUNT * prev.number() + next.number())) & 1 == 1
+        (self.bits >> (Next::COUNT * prev.number() + next.number())) & 1 == 1
     }
 
     /// The contexts of either set.
@@ -223,7 +233,7 @@ impl Mask {
         ensures { (next : Next) → has_next result next ≡ has_context self (record { prev = prev; next = next }) }
     {
         NextSet {
-            bits: ((self.bits >> (NEXT_COUNT * prev.number())) & 0b11_1111) as u8,
+            bits: ((self.bits >> (Next::COUNT * prev.number())) & 0b11_1111) as u8,
         }
     }
 }
@@ -320,6 +330,10 @@ mod tests {
         assert_eq!(rt; Mask::all().row(Prev::Start), NextSet::all());
         assert_eq!(rt; Mask::empty().row(Prev::Word), NextSet::empty());
         assert!(rt; ends.contains(Next::End) && !ends.contains(Next::Word));
+        assert_eq!(rt;
+            ends.intersection(NextSet::of(Next::End)),
+            NextSet::of(Next::End)
+        );
         let boundary = Mask::of(Assertion::WordBoundary);
         let inside = Mask::of(Assertion::NotWordBoundary);
         assert_eq!(rt; boundary.intersection(inside), Mask::empty());

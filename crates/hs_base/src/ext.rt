@@ -1,3 +1,5 @@
+//! Extended parameters of an expression, and the entries of a list.
+
 use crate::entry::ExprId;
 use crate::flags::Flags;
 

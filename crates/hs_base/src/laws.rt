@@ -1,27 +1,7 @@
-//! Laws over the definitions of `specs/`: each is the contract of a function that does nothing.
+//! Laws of told, new and last reports: each is the contract of a function that does nothing.
 
-ghost use Rattle.hs_base.specs.Laws.{IsLastOnce, IsNewOnce, IsToldOnce, NewJoins, NewSplits, ReportsStay, ReportsStayAtEnd, SpansNeedNoLaterByte, SpansStay, ToldGrows, ToldIsExact, ToldRepeatsNothing};
-
-/// A span of a stream that may go on is one of each longer stream, ended or not.
-pub fn spans_stay()
-    ensures { SpansStay }
-{}
-
-/// A span that ends before the last byte that is known needs no later byte. At the last known byte's end this is
-/// false: `\b` there waits for the next byte.
-pub fn spans_need_no_later_byte()
-    ensures { SpansNeedNoLaterByte }
-{}
-
-/// A report of a stream that may go on is one of each longer stream, ended or not.
-pub fn reports_stay()
-    ensures { ReportsStay }
-{}
-
-/// A report before the end is one after it.
-pub fn reports_stay_at_end()
-    ensures { ReportsStayAtEnd }
-{}
+ghost use Rattle.hs_base.specs.Laws.{IsLastOnce, IsNewOnce, IsToldOnce, NewJoins, NewSplits, ToldGrows};
+ghost use Rattle.hs_base.specs.Laws.{LastEndAtLastByte, NewEndAboutByte, ToldIsExact, ToldRepeatsNothing};
 
 /// At most one list is told for a stream.
 pub fn told_once()
@@ -61,4 +41,14 @@ pub fn told_is_exact()
 /// A told list has no pair twice.
 pub fn told_repeats_nothing()
     ensures { ToldRepeatsNothing }
+{}
+
+/// The new reports of one byte end before it or behind it: at the length of what came earlier, or one further.
+pub fn new_ends_about_byte()
+    ensures { NewEndAboutByte }
+{}
+
+/// The last reports of a stream end at its length, or one before it, where its last byte may end the last line.
+pub fn last_ends_at_last_byte()
+    ensures { LastEndAtLastByte }
 {}

@@ -1,11 +1,14 @@
-//! A byte of a literal.
+//! A byte of a literal, and how many buckets the literals of a scanner are put into.
 ghost use Rattle.std.specs.Prelude.{◌≡◌, true, false};
 ghost use Rattle.hs_base.specs.Literals.{is_small_letter};
 
 use crate::byte_set::ByteSet;
 
 /// How far a capital letter stands below its small one (The Unicode Standard, "C0 Controls and Basic Latin").
-const CASE_DISTANCE: u8 = 32;
+pub const CASE_DISTANCE: u8 = 32;
+
+/// Into how many buckets the literals of a scanner are put: a mask has a bit for each.
+pub const BUCKETS: usize = 8;
 
 /// What stands at one place of a literal: one byte, or a letter in either case.
 #[derive(Clone, Copy, Debug, PartialEq, Eq)]

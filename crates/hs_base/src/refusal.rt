@@ -1,11 +1,16 @@
+//! Why lists of expressions are refused.
 ghost use Rattle.std.specs.Prelude.{◌≡◌};
 ghost use Rattle.hs_base.specs.Refusals.{number_of};
 
 use crate::construct::Construct;
 use crate::entry::ExprId;
+use std::fmt;
 
-/// Why a list of expressions is refused. Places are offsets in bytes in the text of an expression; entries and lines are
-/// counted from 1.
+/// The most positions that an expression may have; one with more is refused.
+pub const MAX_POSITIONS: u32 = 512;
+
+/// Why a list of expressions is refused. Places are offsets in bytes in the text of an expression; entries and lines
+/// are counted from 1.
 #[derive(Clone, Copy, Debug, PartialEq, Eq)]
 pub enum Refusal {
     /// At this place the text has no form.
@@ -65,5 +70,92 @@ impl Refusal {
             Refusal::OffsetOrder => 15,
             Refusal::ListLine(_) => 16,
         }
+    }
+}
+
+impl fmt::Display for Refusal {
+    /// The reason as a sentence, without its full stop.
+    fn fmt<W: fmt::Write>(&self, f: &mut fmt::Formatter<W>) -> fmt::Result {
+        match self {
+            Refusal::Syntax(at) => write!(f, "no form of the pattern syntax stands at byte {at}"),
+            Refusal::UnknownEscape(at) => write!(f, "the escape at byte {at} isn't known"),
+            Refusal::Unsupported(construct, at) => write!(
+                f,
+                "{construct} at byte {at} isn't supported"
+            ),
+            Refusal::UnsupportedFlag(bit) => write!(f, "the flag of bit {bit} isn't supported"),
+            Refusal::UnsupportedParameter(bit) => write!(
+                f,
+                "the parameter of bit {bit} isn't supported"
+            ),
+            Refusal::MatchesEmpty => write!(
+                f,
+                "the expression matches the empty text, which no flag allows"
+            ),
+            Refusal::EmbeddedEnd => write!(
+                f,
+                "bytes may be consumed behind an assertion of the stream's end"
+            ),
+            Refusal::RepeatLimit(bound) => write!(
+                f,
+                "the bound {bound} of a quantifier is too great"
+            ),
+            Refusal::PositionLimit(count) => write!(
+                f,
+                "the expression has too many positions, {count}"
+            ),
+            Refusal::LengthLimit => write!(f, "the expression is too long"),
+            Refusal::DepthLimit => write!(f, "too many groups are open at once"),
+            Refusal::CountLimit => write!(f, "the list has too many entries"),
+            Refusal::StateLimit(bytes) => write!(
+                f,
+                "the state of a stream would take too many bytes, {bytes}"
+            ),
+            Refusal::MixedSingle(id) => {
+                write!(
+                    f,
+                    "entries of identifier {} differ in whether it is reported at most once",
+                    id.0
+                )
+            }
+            Refusal::OffsetOrder => write!(f, "the least end offset is above the greatest"),
+            Refusal::ListLine(line) => write!(
+                f,
+                "line {line} of the pattern file has another form"
+            ),
+        }
+    }
+}
+
+#[cfg(test)]
+mod tests {
+    use super::Refusal;
+    use crate::construct::Construct;
+    use crate::entry::ExprId;
+    use std::alloc::AllocError;
+
+    const SENTENCES: [(Refusal, &str); 4] = [
+        (
+            Refusal::Syntax(7),
+            "no form of the pattern syntax stands at byte 7",
+        ),
+        (
+            Refusal::Unsupported(Construct::Property, 3),
+            "a Unicode property at byte 3 isn't supported",
+        ),
+        (
+            Refusal::MixedSingle(ExprId(12)),
+            "entries of identifier 12 differ in whether it is reported at most once",
+        ),
+        (Refusal::CountLimit, "the list has too many entries"),
+    ];
+
+    #[test]
+    fn refusals_are_told_as_sentences(rt: HostRuntime) -> Result<(), AllocError> {
+        for (refusal, sentence) in SENTENCES {
+            let told = format!(in rt.alloc(); "{refusal}")?;
+            assert_eq!(rt; told.as_str(), sentence);
+        }
+        Ok(())
     }
 }

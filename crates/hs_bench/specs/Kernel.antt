@@ -10,9 +10,12 @@ use Rattle.hs_fdr.specs.Blocks.{block_masks}
 abbrev pub masks_from : Tables → List ℕ → ℕ → List ℕ
 masks_from tables text from =
     let before = take from text in
-    let rest = drop from text in block_masks (mask_of tables) (width_of tables) (drop (length before - 7) before) (take 64 rest) (slice_get rest 64)
+    let rest = drop from text in
+    block_masks (mask_of tables) (width_of tables) (drop (length before - 7) before) (take 64 rest)
+    (slice_get rest 64)
 
 -- the bits that are 1 in the first mask of every block
 abbrev pub ones_of_first_masks : Tables → List ℕ → ℕ
 ones_of_first_masks tables text =
-    fold bit_and 255 (map (λ block. slice_index (masks_from tables text (block * 64)) 0) (range_with_len 0 (div_ceil (length text) 64)))
+    fold bit_and 255 (map (λ block. slice_index (masks_from tables text (block * 64)) 0)
+    (range_with_len 0 (div_ceil (length text) 64)))

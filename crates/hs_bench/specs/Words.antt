@@ -1,15 +1,11 @@
 -- The literals that stand in a file, one a line.
 use Rattle.std.specs.Prelude.{ℕ, Bool, false, ◌&&◌, ◌==◌, nat_le, List, length, map, filter}
 use Rattle.std.specs.List.{slice_split}
-use Rattle.std.specs.declared.vec.Vec.{Vec}
-use Rattle.std.specs.declared.alloc.Global.{Global}
-use Rattle.hs_base.specs.declared.literal.LitByte.{LitByte}
 use Rattle.hs_base.specs.Literals.{LiteralByte}
-use Rattle.hs_base.specs.LiteralView.{literal_byte}
 
 -- what stands before, between and behind the line feeds
-abbrev pub lines_of : List ℕ → List (List ℕ)
-lines_of bytes = slice_split (λ b. b == 10) bytes
+abbrev pub text_lines : List ℕ → List (List ℕ)
+text_lines bytes = slice_split (λ b. b == 10) bytes
 
 -- a line of 2 to 32 bytes
 abbrev pub is_looked_for : List ℕ → Bool
@@ -21,8 +17,4 @@ exact line = map (λ b. record { byte = b; both_cases = false }) line
 
 -- a literal for each line of 2 to 32 bytes, in order
 abbrev pub words_of : List ℕ → List (List LiteralByte)
-words_of bytes = map exact (filter is_looked_for (lines_of bytes))
-
--- a literal as plain data
-abbrev pub literal_of : Vec LitByte Global → List LiteralByte
-literal_of literal = map literal_byte literal.items
+words_of bytes = map exact (filter is_looked_for (text_lines bytes))

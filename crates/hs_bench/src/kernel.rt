@@ -19,8 +19,8 @@ fn make_masks(tables: &Tables, text: &[u8], from: usize, masks: &mut [u8; BLOCK_
     scan_block(tables, before, block, rest.get(BLOCK_LEN).copied(), masks);
 }
 
-/// Makes the masks of all blocks of a text, and gives the bits that are 1 in the first mask of every block: without a result
-/// that stands on each block, the compiler might leave blocks out.
+/// Makes the masks of all blocks of a text, and gives the bits that are 1 in the first mask of every block: without a
+/// result that stands on each block, the compiler might leave blocks out.
 pub(crate) fn run_kernel(tables: &Tables, text: &[u8]) -> u8
     ensures { result ≡ ones_of_first_masks tables.now text.now }
 {

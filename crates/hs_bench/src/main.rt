@@ -62,8 +62,9 @@ fn count_ends(scan: LitScan) -> usize
     ends
 }
 
-/// Measures how fast the masks of all blocks of a file are made, by tables for a few common words. Beside the masks it does no
-/// more than to take the first one of each block into account, and neither looks for open places nor confirms a literal.
+/// Measures how fast the masks of all blocks of a file are made, by tables for a few common words. Beside the masks it
+/// does no more than to take the first one of each block into account, and neither looks for open places nor confirms a
+/// literal.
 fn scan_blocks(rt: &HostRuntime, file: &str) -> io::Result<()> {
     let text = fs::read(rt, file)?;
     let literals = literals_of(rt.alloc(), b"the\nand\nwhich\nbetween\n")?;

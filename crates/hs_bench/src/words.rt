@@ -1,8 +1,8 @@
 //! Literals from the lines of a file.
 
 ghost use Rattle.std.specs.Prelude.{◌≡◌, IfOk, map};
-ghost use Rattle.hs_base.specs.LiteralView.{literal_byte};
-ghost use Rattle.hs_bench.specs.Words.{is_looked_for, exact, words_of, literal_of};
+ghost use Rattle.hs_base.specs.LiteralView.{literal_byte, literal_bytes};
+ghost use Rattle.hs_bench.specs.Words.{is_looked_for, exact, words_of};
 
 use hs_base::LitByte;
 use std::alloc::{AllocError, Global};
@@ -15,7 +15,7 @@ const MAX_LEN: usize = 32;
 
 /// The literal that takes just these bytes.
 fn exactly(alloc: Global, line: &[u8]) -> Result<Vec<LitByte>, AllocError>
-    ensures { IfOk result (λ literal. literal_of literal ≡ exact line.now) }
+    ensures { IfOk result (λ literal. literal_bytes literal ≡ exact line.now) }
 {
     let mut literal = Vec::new(alloc);
     for byte in line {
@@ -26,7 +26,7 @@ fn exactly(alloc: Global, line: &[u8]) -> Result<Vec<LitByte>, AllocError>
 
 /// A literal for each line of 2 to 32 bytes. The last line needs no line feed.
 pub(crate) fn literals_of(alloc: Global, bytes: &[u8]) -> Result<Vec<Vec<LitByte>>, AllocError>
-    ensures { IfOk result (λ literals. map literal_of literals.items ≡ words_of bytes.now) }
+    ensures { IfOk result (λ literals. map literal_bytes literals.items ≡ words_of bytes.now) }
 {
     let mut literals = Vec::new(alloc);
     for line in bytes.split(|byte| *byte == b'\n') {

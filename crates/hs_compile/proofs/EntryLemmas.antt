@@ -14,7 +14,7 @@ use Rattle.hs_parse.specs.Grammar.{Reads}
 use Rattle.hs_parse.specs.Faults.{Fault}
 use Rattle.hs_parse.proofs.GrammarLemmas.{one_tree}
 use Rattle.hs_parse.proofs.PathLemmas.{one_fault, never_both}
-use Rattle.hs_support.specs.Refused.{HasFlagsFault, HasRefusal as HasTreeRefusal, IsLeast, IsAccepted}
+use Rattle.hs_support.specs.Refused.{HasFlagsFault, HasRefusal as HasTreeRefusal, IsLeast, IsSupported}
 use Rattle.hs_support.specs.Refused as tree
 use Rattle.hs_support.proofs.AcceptedLemmas.{accepted-positions}
 use Rattle.hs_compile.specs.Lists.{greatest_count, asks_single, IsMixed, HasPlaceFault, beyond, mixed, HasRefusal, unread, unsupported, unfit, misplaced, IsRefusalOf}
@@ -65,7 +65,7 @@ module _ (before : List ListedEntry) (entry : ListedEntry) (t : Tree) (reads : R
       of_tree (subst (λ x. HasTreeRefusal (flags_of entry) entry.ext x refusal) (one_tree entry.text (flags_of entry) t' t reads' reads) p)
   reason refusal (misplaced p) = of_place p
 
-  none-refused : IsAccepted (flags_of entry) entry.ext t → ((r : Refusal) → HasPlaceFault before entry r → ⊥) → (refusal : Refusal) → HasRefusal before entry refusal → ⊥
+  none-refused : IsSupported (flags_of entry) entry.ext t → ((r : Refusal) → HasPlaceFault before entry r → ⊥) → (refusal : Refusal) → HasRefusal before entry refusal → ⊥
   none-refused accepted none refusal has = by_reason (reason refusal has)
     where
       by_reason : Reason refusal → ⊥
@@ -84,7 +84,7 @@ module _ (before : List ListedEntry) (entry : ListedEntry) (t : Tree) (reads : R
       below other has = by_reason other (reason other has)
 
   -- what the support check leaves and the place refuses
-  pub accepted-refusal : (place : Option Refusal) → IsAccepted (flags_of entry) entry.ext t →
+  pub accepted-refusal : (place : Option Refusal) → IsSupported (flags_of entry) entry.ext t →
       MatchOption place ((r : Refusal) → HasPlaceFault before entry r → ⊥) (IsLeast (HasPlaceFault before entry)) →
       MatchOption place ((refusal : Refusal) → HasRefusal before entry refusal → ⊥) (IsRefusalOf before entry)
   accepted-refusal None accepted none = none-refused accepted none
@@ -139,5 +139,5 @@ single-asked false flags tells = elim (cases_Bool (eqb (bit_and flags 8) 8)) [
 ]
 
 -- its positions, written out, are few
-pub few-positions : (flags : Flags) (ext : Ext) (t : Tree) → IsPlain t → IsAccepted flags ext t → count (write_out t) ≤ 512
+pub few-positions : (flags : Flags) (ext : Ext) (t : Tree) → IsPlain t → IsSupported flags ext t → count (write_out t) ≤ 512
 few-positions flags ext t plain accepted = let few = accepted-positions flags ext t accepted in omega (arith, few, count-written t plain)

@@ -5,7 +5,7 @@ use Rattle.hs_base.specs.Lists.{Each}
 use Rattle.hs_base.specs.Patterns.{Pattern}
 use Rattle.hs_dbfile.specs.Files.{AreEncodable}
 use Rattle.hs_limex.specs.declared.limex.Limex.{Limex}
-use Rattle.hs_rose.specs.declared.program.Expression.{Expression}
+use Rattle.hs_rose.specs.declared.program.Role.{Role}
 use Rattle.hs_compile.specs.Lists.{AreAcceptedFrom}
 use Rattle.hs_compile.specs.Answers.{AreCompiled}
 
@@ -17,8 +17,8 @@ short-texts before (entry ∷ entries) (x ∷ P) accepted =
     (let within = accepted.0.read.within in let short : length entry.text < 65536 = omega (arith, within) in short, short-texts (before ++ entry ∷ []) entries P accepted.1)
 
 -- a list that is compiled has an encoding
-pub encodable : (entries : List ListedEntry) (expressions : List (Expression Limex)) → AreCompiled entries expressions → AreEncodable entries
-encodable entries expressions compiled = record {
+pub encodable : (entries : List ListedEntry) (roles : List (Role Limex)) → AreCompiled entries roles → AreEncodable entries
+encodable entries roles compiled = record {
   few = let few = compiled.few in omega (arith, few);
   short = short-texts [] entries compiled.patterns compiled.accepted;
 }

@@ -9,12 +9,12 @@ use Rattle.hs_base.specs.declared.refusal.Refusal.TheVariants.{CountLimit, Mixed
 use Rattle.hs_base.specs.Entries.{listed}
 use Rattle.hs_base.proofs.ListLemmas.{each-append}
 use Rattle.hs_limex.specs.declared.limex.Limex.{Limex}
-use Rattle.hs_rose.specs.declared.program.Expression.{Expression}
-use Rattle.hs_rose.specs.Roles.{IsExpressionOf}
+use Rattle.hs_rose.specs.declared.program.Role.{Role}
+use Rattle.hs_rose.specs.Roles.{RunsPattern}
 use Rattle.hs_rose.proofs.RoleLemmas.{all_zip-push}
 use Rattle.hs_compile.specs.declared.fault.CompileFault.{CompileFault}
 use Rattle.hs_compile.specs.declared.fault.CompileFault.TheVariants.{Refused, Memory}
-use Rattle.hs_compile.specs.Databases.{IsEngineOf}
+use Rattle.hs_compile.specs.Engines.{meaning_of}
 use Rattle.hs_compile.specs.Answers.{IsSmall, AreCompiled, IsCompiledEntry, IsEntryCause, IsCauseOf}
 use Rattle.hs_compile.specs.declared.seen.Seen.{Seen}
 use Rattle.hs_compile.specs.Remembered.{Remembers, Precede, AreSoFar}
@@ -101,20 +101,20 @@ within-count before entry free = elim (cases_lt greatest_count (suc (length befo
 pub compiled-none : AreCompiled [] []
 compiled-none = record { patterns = []; accepted = tt; run = tt; small = tt; few = omega arith }
 
-compiled-more : (entries : List ListedEntry) (expressions : List (Expression Limex)) (entry : ListedEntry) (expression : Expression Limex) → AreCompiled entries expressions → IsCompiledEntry entries entry expression → AreCompiled (entries ++ entry ∷ []) (expressions ++ expression ∷ [])
-compiled-more entries expressions entry expression compiled is = record {
+compiled-more : (entries : List ListedEntry) (roles : List (Role Limex)) (entry : ListedEntry) (role : Role Limex) → AreCompiled entries roles → IsCompiledEntry entries entry role → AreCompiled (entries ++ entry ∷ []) (roles ++ role ∷ [])
+compiled-more entries roles entry role compiled is = record {
   patterns = compiled.patterns ++ is.pattern ∷ [];
   accepted = accepted-push [] entries compiled.patterns entry is.pattern compiled.accepted is.accepted;
-  run = all_zip-push (IsExpressionOf IsEngineOf) expressions compiled.patterns expression is.pattern compiled.run is.run.run;
-  small = each-append IsSmall expressions (expression ∷ []) compiled.small (is.run.small, tt);
+  run = all_zip-push (RunsPattern meaning_of) roles compiled.patterns role is.pattern compiled.run is.run.run;
+  small = each-append IsSmall roles (role ∷ []) compiled.small (is.run.small, tt);
   few = let few = within-count entries entry is.accepted.free in omega (arith, few, length-append entries (entry ∷ []));
 }
 
-compiled-push : (entries : List Entry) (expressions : List (Expression Limex)) (i : ℕ) (entry : Entry) (expression : Expression Limex) → slice_get entries i ≡ Some entry →
-    AreCompiled (map listed (take i entries)) expressions → IsCompiledEntry (map listed (take i entries)) (listed entry) expression → AreCompiled (map listed (take (i + 1) entries)) (expressions ++ expression ∷ [])
-compiled-push entries expressions i entry expression is compiled one =
-    subst (λ es. AreCompiled es (expressions ++ expression ∷ [])) (sym (listed_next entries i entry is))
-    (compiled-more (map listed (take i entries)) expressions (listed entry) expression compiled one)
+compiled-push : (entries : List Entry) (roles : List (Role Limex)) (i : ℕ) (entry : Entry) (role : Role Limex) → slice_get entries i ≡ Some entry →
+    AreCompiled (map listed (take i entries)) roles → IsCompiledEntry (map listed (take i entries)) (listed entry) role → AreCompiled (map listed (take (i + 1) entries)) (roles ++ role ∷ [])
+compiled-push entries roles i entry role is compiled one =
+    subst (λ es. AreCompiled es (roles ++ role ∷ [])) (sym (listed_next entries i entry is))
+    (compiled-more (map listed (take i entries)) roles (listed entry) role compiled one)
 
 -- the number of the next entry, and what is kept of those before it
 pub next-number : (entries : List Entry) (i : ℕ) (entry : Entry) (seen : Seen) → slice_get entries i ≡ Some entry → Remembers (map listed (take i entries)) seen →
@@ -122,24 +122,24 @@ pub next-number : (entries : List Entry) (i : ℕ) (entry : Entry) (seen : Seen)
 next-number entries i entry seen is kept = record { count = omega (arith, length_listed entries i entry is); kept = kept }
 
 -- what is known of the entries so far
-pub step : (entries : List Entry) (expressions expressions' : List (Expression Limex)) (i : ℕ) (entry : Entry) (expression : Expression Limex) (seen seen' : Seen) → slice_get entries i ≡ Some entry →
-    AreSoFar (map listed (take i entries)) expressions seen →
-    ((before : List ListedEntry) → Precede before (i + 1) seen → IsCompiledEntry before (listed entry) expression) →
+pub step : (entries : List Entry) (roles roles' : List (Role Limex)) (i : ℕ) (entry : Entry) (role : Role Limex) (seen seen' : Seen) → slice_get entries i ≡ Some entry →
+    AreSoFar (map listed (take i entries)) roles seen →
+    ((before : List ListedEntry) → Precede before (i + 1) seen → IsCompiledEntry before (listed entry) role) →
     ((before : List ListedEntry) → Remembers before seen → (IsMixed before (listed entry) → ⊥) → Remembers (before ++ listed entry ∷ []) seen') →
-    expressions' ≡ expressions ++ expression ∷ [] →
-    AreSoFar (map listed (take (i + 1) entries)) expressions' seen'
-step entries expressions expressions' i entry expression seen seen' is so_far compile add pushed =
+    roles' ≡ roles ++ role ∷ [] →
+    AreSoFar (map listed (take (i + 1) entries)) roles' seen'
+step entries roles roles' i entry role seen seen' is so_far compile add pushed =
     let before = map listed (take i entries) in
-    let one : IsCompiledEntry before (listed entry) expression = compile before (next-number entries i entry seen is so_far.kept) in
+    let one : IsCompiledEntry before (listed entry) role = compile before (next-number entries i entry seen is so_far.kept) in
     record {
-      compiled = subst (AreCompiled (map listed (take (i + 1) entries))) (sym pushed) (compiled-push entries expressions i entry expression is so_far.compiled one);
+      compiled = subst (AreCompiled (map listed (take (i + 1) entries))) (sym pushed) (compiled-push entries roles i entry role is so_far.compiled one);
       kept = subst (λ es. Remembers es seen') (sym (listed_next entries i entry is))
           (add before so_far.kept (λ differs. one.accepted.free (MixedSingle entry.id) (misplaced (mixed differs))));
     }
 
-pub refused-at : (entries : List Entry) (expressions : List (Expression Limex)) (i : ℕ) (entry : Entry) (refusal : Refusal) → slice_get entries i ≡ Some entry →
-    AreCompiled (map listed (take i entries)) expressions → IsRefusalOf (map listed (take i entries)) (listed entry) refusal → IsFirstRefusal (map listed entries) (suc (length (map listed (take i entries)))) entry.id refusal
-refused-at entries expressions i entry refusal is compiled one =
+pub refused-at : (entries : List Entry) (roles : List (Role Limex)) (i : ℕ) (entry : Entry) (refusal : Refusal) → slice_get entries i ≡ Some entry →
+    AreCompiled (map listed (take i entries)) roles → IsRefusalOf (map listed (take i entries)) (listed entry) refusal → IsFirstRefusal (map listed entries) (suc (length (map listed (take i entries)))) entry.id refusal
+refused-at entries roles i entry refusal is compiled one =
     let whole : map listed (take i entries) ++ listed entry ∷ map listed (drop (i + 1) entries) ≡ map listed entries =
     sym (append_assoc (map listed (take i entries)) (listed entry ∷ []) (map listed (drop (i + 1) entries)))
     ∙ (ap (λ es. es ++ map listed (drop (i + 1) entries)) (sym (listed_next entries i entry is))
@@ -148,15 +148,15 @@ refused-at entries expressions i entry refusal is compiled one =
     (refused-behind [] (map listed (take i entries)) compiled.patterns (listed entry) (map listed (drop (i + 1) entries)) refusal compiled.accepted one)
 
 -- why a list isn't compiled, by its entry
-pub cause-at : (entries : List Entry) (expressions : List (Expression Limex)) (i : ℕ) (entry : Entry) (fault : CompileFault) → slice_get entries i ≡ Some entry →
-    AreCompiled (map listed (take i entries)) expressions → IsEntryCause (map listed (take i entries)) (listed entry) fault → IsCauseOf (map listed entries) fault
-cause-at entries expressions i entry (Refused number id refusal) is compiled cause =
+pub cause-at : (entries : List Entry) (roles : List (Role Limex)) (i : ℕ) (entry : Entry) (fault : CompileFault) → slice_get entries i ≡ Some entry →
+    AreCompiled (map listed (take i entries)) roles → IsEntryCause (map listed (take i entries)) (listed entry) fault → IsCauseOf (map listed entries) fault
+cause-at entries roles i entry (Refused number id refusal) is compiled cause =
     subst (λ n. IsFirstRefusal (map listed entries) n id refusal) (sym cause.0)
-    (subst (λ (x : ExprId). IsFirstRefusal (map listed entries) (suc (length (map listed (take i entries)))) x refusal) (same_id entry.id id (sym cause.1)) (refused-at entries expressions i entry refusal is compiled cause.2))
+    (subst (λ (x : ExprId). IsFirstRefusal (map listed entries) (suc (length (map listed (take i entries)))) x refusal) (same_id entry.id id (sym cause.1)) (refused-at entries roles i entry refusal is compiled cause.2))
   where
     same_id : (a b : ExprId) → a.0 ≡ b.0 → a ≡ b
     same_id a b e = ap (λ n. record { 0 = n }) e
-cause-at entries expressions i entry Memory is compiled cause = tt
+cause-at entries roles i entry Memory is compiled cause = tt
 
 -- there are as many expressions as entries
 pub as-many : (before entries : List ListedEntry) (P : List Pattern) → AreAcceptedFrom before entries P → length P ≡ length entries
@@ -171,8 +171,8 @@ zip-length R [] (y ∷ ys) zip = absurd zip
 zip-length R (x ∷ xs) [] zip = absurd zip
 zip-length R (x ∷ xs) (y ∷ ys) zip = let n = zip-length R xs ys zip.1 in omega (arith, n)
 
-pub few-expressions : (entries : List ListedEntry) (expressions : List (Expression Limex)) → AreCompiled entries expressions → length expressions ≤ greatest_count
-few-expressions entries expressions compiled =
-    let n = zip-length (IsExpressionOf IsEngineOf) expressions compiled.patterns compiled.run in
+pub few-roles : (entries : List ListedEntry) (roles : List (Role Limex)) → AreCompiled entries roles → length roles ≤ greatest_count
+few-roles entries roles compiled =
+    let n = zip-length (RunsPattern meaning_of) roles compiled.patterns compiled.run in
     let m = as-many [] entries compiled.patterns compiled.accepted in
     omega (arith, n, m, compiled.few)

@@ -74,7 +74,8 @@ abbrev pub AreAcceptedFrom : (before : List ListedEntry) → List ListedEntry �
 AreAcceptedFrom before [] [] = Unit {0}
 AreAcceptedFrom before [] (x ∷ P) = ⊥
 AreAcceptedFrom before (entry ∷ entries) [] = ⊥
-AreAcceptedFrom before (entry ∷ entries) (x ∷ P) = IsAcceptedAs before entry x × AreAcceptedFrom (before ++ entry ∷ []) entries P
+AreAcceptedFrom before (entry ∷ entries) (x ∷ P) =
+    IsAcceptedAs before entry x × AreAcceptedFrom (before ++ entry ∷ []) entries P
 
 -- The list is accepted as these patterns.
 abbrev pub AreAcceptedAs : List ListedEntry → List Pattern → Type 0
@@ -82,11 +83,17 @@ AreAcceptedAs entries P = AreAcceptedFrom [] entries P
 
 -- Among the entries behind these, the first that is refused has that number, counted from 1 over all, and that
 -- identifier and refusal.
-pub data IsFirstRefusalFrom : (before : List ListedEntry) → List ListedEntry → (number : ℕ) → (id : ExprId) → Refusal → Type 0 where
+pub data IsFirstRefusalFrom :
+    (before : List ListedEntry) → List ListedEntry → (number : ℕ) → (id : ExprId) → Refusal → Type 0 where
   here : {before : List ListedEntry} {entry : ListedEntry} {entries : List ListedEntry} {refusal : Refusal} →
-      IsRefusalOf before entry refusal → IsFirstRefusalFrom before (entry ∷ entries) (suc (length before)) (record { 0 = entry.id }) refusal
-  behind : {before : List ListedEntry} {number : ℕ} {entry : ListedEntry} {entries : List ListedEntry} {id : ExprId} {refusal : Refusal} (x : Pattern) →
-      IsAcceptedAs before entry x → IsFirstRefusalFrom (before ++ entry ∷ []) entries number id refusal → IsFirstRefusalFrom before (entry ∷ entries) number id refusal
+      IsRefusalOf before entry refusal →
+      IsFirstRefusalFrom before (entry ∷ entries) (suc (length before)) (record { 0 = entry.id }) refusal
+  behind :
+      {before : List ListedEntry} {number : ℕ} {entry : ListedEntry} {entries : List ListedEntry} {id : ExprId}
+      {refusal : Refusal} (x : Pattern) →
+      IsAcceptedAs before entry x →
+      IsFirstRefusalFrom (before ++ entry ∷ []) entries number id refusal →
+      IsFirstRefusalFrom before (entry ∷ entries) number id refusal
 
 -- The list is refused by its entry of that number and identifier, with that refusal.
 abbrev pub IsFirstRefusal : List ListedEntry → (number : ℕ) → (id : ExprId) → Refusal → Type 0

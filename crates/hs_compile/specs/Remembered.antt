@@ -6,7 +6,7 @@ use Rattle.hs_base.specs.Entries.{ListedEntry}
 use Rattle.hs_base.specs.Lists.{OneOf, Each}
 use Rattle.hs_compile.specs.declared.seen.Seen.{Seen}
 use Rattle.hs_limex.specs.declared.limex.Limex.{Limex}
-use Rattle.hs_rose.specs.declared.program.Expression.{Expression}
+use Rattle.hs_rose.specs.declared.program.Role.{Role}
 use Rattle.hs_compile.specs.Lists.{asks_single}
 use Rattle.hs_compile.specs.Answers.{AreCompiled}
 
@@ -30,6 +30,6 @@ pub record Precede (before : List ListedEntry) (number : ℕ) (seen : Seen) : Ty
   pub kept : Remembers before seen
 
 -- What is known of the entries so far: they are accepted, these run their patterns, and that is kept of them.
-pub record AreSoFar (entries : List ListedEntry) (expressions : List (Expression Limex)) (seen : Seen) : Type 0 where
-  pub compiled : AreCompiled entries expressions
+pub record AreSoFar (entries : List ListedEntry) (roles : List (Role Limex)) (seen : Seen) : Type 0 where
+  pub compiled : AreCompiled entries roles
   pub kept : Remembers entries seen

@@ -13,7 +13,7 @@ use crate::seen::Seen;
 use hs_base::Entry;
 use hs_dbfile::digest;
 use hs_limex::Limex;
-use hs_rose::{Expression, Program};
+use hs_rose::{Program, Role};
 use std::alloc::Global;
 
 /// The most entries of a list.
@@ -26,31 +26,31 @@ pub fn compile(alloc: Global, entries: &[Entry]) -> Result<Database, CompileFaul
     ensures digest { IfOk result (λ database. digest_of database ≡ sha256 (list_bytes (map listed entries.now))) }
     ensures refused { IfErr result (IsCauseOf (map listed entries.now)) }
 {
-    let expressions = match compile_entries(alloc, entries) {
-        Ok(expressions) => expressions,
+    let roles = match compile_entries(alloc, entries) {
+        Ok(roles) => roles,
         Err(fault) => return Err(fault),
     };
-    match Program::build(alloc, expressions) {
+    match Program::build(alloc, roles) {
         Ok(program) => Ok(Database::new(program, digest(entries))),
         Err(_) => Err(CompileFault::Memory),
     }
 }
 
-/// What runs each expression of the list, in order.
-fn compile_entries(alloc: Global, entries: &[Entry]) -> Result<Vec<Expression<Limex>>, CompileFault>
-    ensures compiled { IfOk result (λ expressions. AreCompiled (map listed entries.now) expressions.items) }
+/// The role of each expression of the list, in order.
+fn compile_entries(alloc: Global, entries: &[Entry]) -> Result<Vec<Role<Limex>>, CompileFault>
+    ensures compiled { IfOk result (λ roles. AreCompiled (map listed entries.now) roles.items) }
     ensures refused { IfErr result (IsCauseOf (map listed entries.now)) }
 {
     let mut seen = Seen::new(alloc);
-    let mut expressions = Vec::new(alloc);
+    let mut roles = Vec::new(alloc);
     for i in 0..entries.len() {
         let entry = &entries[i];
-        let expression = match compile_entry(alloc, i as u32 + 1, &seen, entry) {
-            Ok(expression) => expression,
+        let role = match compile_entry(alloc, i as u32 + 1, &seen, entry) {
+            Ok(role) => role,
             Err(fault) => return Err(fault),
         };
         seen.add(entry)?;
-        expressions.push(expression)?;
+        roles.push(role)?;
     }
-    Ok(expressions)
+    Ok(roles)
 }

@@ -1,3 +1,4 @@
+//! What a list is compiled to.
 ghost use Rattle.std.specs.Prelude.{◌≡◌};
 ghost use Rattle.hs_compile.specs.Databases.{program_of, digest_of};
 

@@ -7,7 +7,7 @@ ghost use Rattle.hs_base.specs.WrittenOut.{IsPlain, write_out, count};
 ghost use Rattle.hs_expr.specs.Meaning.{tree_of};
 ghost use Rattle.hs_parse.specs.Faults.{Fault};
 ghost use Rattle.hs_parse.specs.Grammar.{Reads};
-ghost use Rattle.hs_support.specs.Refused.{IsAccepted, IsLeast};
+ghost use Rattle.hs_support.specs.Refused.{IsSupported, IsLeast};
 ghost use Rattle.hs_compile.specs.Lists.{HasPlaceFault, HasRefusal, IsRefusalOf, pattern_of};
 ghost use Rattle.hs_compile.specs.Remembered.{Precede};
 ghost use Rattle.hs_compile.specs.Answers.{IsCompiledEntry, IsEntryCause, IsLesser, IsRunBy};
@@ -20,19 +20,19 @@ use hs_expr::Expr;
 use hs_glushkov::build;
 use hs_limex::Limex;
 use hs_parse::{ParseFault, parse};
-use hs_rose::Expression;
+use hs_rose::Role;
 use hs_support::{check, flags_fault};
 use std::alloc::{AllocError, Global};
 
-/// What runs the expression of the entry of that number, counted from 1, behind those that were seen.
+/// The role of the expression of the entry of that number, counted from 1, behind those that were seen.
 pub fn compile_entry(
     alloc: Global,
     number: u32,
     seen: &Seen,
     entry: &Entry,
-) -> Result<Expression<Limex>, CompileFault>
-    ensures compiled { IfOk result (λ expression. (before : List ListedEntry) → Precede before number seen.now →
-        IsCompiledEntry before (listed entry.now) expression) }
+) -> Result<Role<Limex>, CompileFault>
+    ensures compiled { IfOk result (λ role. (before : List ListedEntry) → Precede before number seen.now →
+        IsCompiledEntry before (listed entry.now) role) }
     ensures refused { IfErr result (λ fault. (before : List ListedEntry) → Precede before number seen.now →
         IsEntryCause before (listed entry.now) fault) }
 {
@@ -47,8 +47,8 @@ pub fn compile_entry(
     if let Some(refusal) = tree_refusal(number, seen, entry, &expr) {
         return Err(refused(number, entry, refusal));
     }
-    match expression_of(alloc, entry, &expr) {
-        Ok(expression) => Ok(expression),
+    match role_of(alloc, entry, &expr) {
+        Ok(role) => Ok(role),
         Err(_) => Err(CompileFault::Memory),
     }
 }
@@ -75,10 +75,12 @@ fn unread_refusal(entry: &Entry, fault: Refusal) -> Refusal
 
 /// The refusal of the entry of that number whose expression is read as the tree, if it has one.
 fn tree_refusal(number: u32, seen: &Seen, entry: &Entry, expr: &Expr) -> Option<Refusal>
-    ensures supported { IfNone result (IsAccepted entry.now.flags entry.now.ext (tree_of expr.now)) }
+    ensures supported { IfNone result (IsSupported entry.now.flags entry.now.ext (tree_of expr.now)) }
     ensures least { (before : List ListedEntry) → Precede before number seen.now →
         Reads entry.now.text.items entry.now.flags (tree_of expr.now) →
-        MatchOption result ((refusal : Refusal) → HasRefusal before (listed entry.now) refusal → ⊥) (IsRefusalOf before (listed entry.now)) }
+        MatchOption result
+        ((refusal : Refusal) → HasRefusal before (listed entry.now) refusal → ⊥)
+        (IsRefusalOf before (listed entry.now)) }
 {
     match check(expr, entry.flags, entry.ext) {
         Ok(()) => place_refusal(number, seen, entry),
@@ -90,7 +92,9 @@ fn tree_refusal(number: u32, seen: &Seen, entry: &Entry, expr: &Expr) -> Option<
 /// its identifier differs in whether a single report is asked for.
 fn place_refusal(number: u32, seen: &Seen, entry: &Entry) -> Option<Refusal>
     ensures { (before : List ListedEntry) → Precede before number seen.now →
-        MatchOption result ((refusal : Refusal) → HasPlaceFault before (listed entry.now) refusal → ⊥) (IsLeast (HasPlaceFault before (listed entry.now))) }
+        MatchOption result
+        ((refusal : Refusal) → HasPlaceFault before (listed entry.now) refusal → ⊥)
+        (IsLeast (HasPlaceFault before (listed entry.now))) }
 {
     if number as usize > MAX_ENTRIES {
         return Some(Refusal::CountLimit);
@@ -117,24 +121,19 @@ fn lesser(refusal: Refusal, other: Option<Refusal>) -> Refusal
     }
 }
 
-/// What runs an expression that is supported.
-fn expression_of(alloc: Global, entry: &Entry, expr: &Expr) -> Result<Expression<Limex>, AllocError>
+/// The role of an expression that is supported.
+fn role_of(alloc: Global, entry: &Entry, expr: &Expr) -> Result<Role<Limex>, AllocError>
     requires plain { IsPlain (tree_of expr.now) }
     requires few { count (write_out (tree_of expr.now)) ≤ 512 }
     requires ends_last { has_embedded_end (tree_of expr.now) false ≡ false }
     ensures { IfOk result (IsRunBy (pattern_of (listed entry.now) (tree_of expr.now))) }
 {
-    let automaton = match build(alloc, expr) {
-        Ok(automaton) => automaton,
-        Err(error) => return Err(error),
-    };
-    let engine = match Limex::build(alloc, &automaton) {
-        Ok(engine) => engine,
-        Err(error) => return Err(error),
-    };
-    Ok(Expression {
+    let automaton = build(alloc, expr)?;
+    let engine = Limex::build(alloc, &automaton)?;
+    Ok(Role {
         id: entry.id,
         single: asks_single(entry),
+        identifier: 0,
         min_offset: entry.ext.min_offset,
         max_offset: entry.ext.max_offset,
         engine,

@@ -1,3 +1,4 @@
+//! Why a list is not compiled.
 ghost use Rattle.std.specs.Prelude.{◌≡◌};
 ghost use Rattle.hs_compile.specs.declared.fault.CompileFault.TheVariants.{Memory};
 
@@ -9,7 +10,7 @@ use thiserror::Error;
 #[derive(Debug, Drop, Error)]
 pub enum CompileFault {
     /// An entry is refused.
-    #[error("entry {entry} is refused: {refusal:?}")]
+    #[error("entry {entry} is refused: {refusal}")]
     Refused {
         /// The number of the entry, counted from 1.
         entry: u32,

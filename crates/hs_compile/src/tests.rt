@@ -1,3 +1,4 @@
+//! Lists that are compiled, and lists that are refused.
 use crate::compiler::{MAX_ENTRIES, compile};
 use crate::fault::CompileFault;
 use hs_base::{Entry, ExprId, Ext, Flags, Refusal};

@@ -15,7 +15,7 @@ use Rattle.hs_confirm.specs.BucketEnds.{IsBucketEnd}
 use Rattle.hs_confirm.specs.PlaceEnds.{IsPlaceEnd, ArePlaceEnds}
 use Rattle.hs_confirm.specs.Taking.{ends_there}
 use Rattle.hs_confirm.specs.Entries.{literal_in, AreKeyed, number_ends, ends_from}
-use Rattle.hs_confirm.specs.Heads.{IsFirstPassing, IsHead, IsFirstHead, HasNone, AreOpen, OutsideHave, AreHeads, entry_left, number_left, left_behind}
+use Rattle.hs_confirm.specs.Heads.{IsFirstPassing, IsHead, IsFirstHead, HasNone, AreOpenBuckets, OutsideHave, AreHeads, entry_left, number_left, left_behind}
 use Rattle.hs_confirm.proofs.TakingLemmas.{ends_from_there, there_from_ends}
 use Rattle.hs_confirm.proofs.EndLemmas.{IsEntryEnd, number_end, end_number, bucket_end, entry_end, mapped}
 use Rattle.hs_confirm.proofs.NumberLemmas.{passing, passing-in, passing-end, passing-skip, IsPassing, member-passing, passing-member, passing-rising}
@@ -271,7 +271,7 @@ some-exact entries mask text offset bucket number numbers inside head within are
     ]
 
 -- the buckets that a mask leaves open
-pub open-all : (mask : ℕ) → mask < 256 → AreOpen mask (255 - mask)
+pub open-all : (mask : ℕ) → mask < 256 → AreOpenBuckets mask (255 - mask)
 open-all mask fits bucket few is = omega (arith, bit_at_not w8 mask bucket fits few, is)
 
 pub outside-masked : (entries : List Entry) (mask : ℕ) (text : List ℕ) (offset : ℕ) → mask < 256 → OutsideHave (HasNone entries mask text offset) (255 - mask)
@@ -286,7 +286,7 @@ fewer-left left bucket few one =
       | inr apart ↦ omega (arith, and_le_l left (255 - 1 * 2 ^ bucket % 256), apart)
     ]
 
-pub open-step : (mask left less bucket : ℕ) → AreOpen mask left → bit_at less bucket ≡ 0 → ((other : ℕ) → other < 8 → other ≢ bucket → bit_at less other ≡ bit_at left other) → AreOpen mask less
+pub open-step : (mask left less bucket : ℕ) → AreOpenBuckets mask left → bit_at less bucket ≡ 0 → ((other : ℕ) → other < 8 → other ≢ bucket → bit_at less other ≡ bit_at left other) → AreOpenBuckets mask less
 open-step mask left less bucket are out others other few is =
     elim (cases_eq other bucket) [
       | inl same ↦ absurd (omega (arith, is, ap (bit_at less) same, out))
@@ -317,7 +317,7 @@ pub open-head : (entries : List Entry) (mask : ℕ) (text : List ℕ) (offset bu
 open-head entries mask text offset bucket number unmasked first = record { unmasked = λ _. first; masked = λ masked. absurd (masked unmasked) }
 
 -- the first bucket that was found, with those before it
-pub first-head : (entries : List Entry) (mask : ℕ) (text : List ℕ) (offset left less bucket number : ℕ) → bucket < 8 → bit_at left bucket ≡ 1 → AreOpen mask left → OutsideHave (HasNone entries mask text offset) left → bit_at less bucket ≡ 0
+pub first-head : (entries : List Entry) (mask : ℕ) (text : List ℕ) (offset left less bucket number : ℕ) → bucket < 8 → bit_at left bucket ≡ 1 → AreOpenBuckets mask left → OutsideHave (HasNone entries mask text offset) left → bit_at less bucket ≡ 0
     → ((other : ℕ) → other < 8 → other ≢ bucket → bit_at less other ≡ bit_at left other) → IsFirstPassing (number_ends entries bucket text offset) 0 (length entries) number → number < length entries → IsFirstHead entries mask text offset bucket number less
 first-head entries mask text offset left less bucket number few one are none out others first within = record {
   few = few;

@@ -1,5 +1,6 @@
 -- The literals that are kept, each with its bucket and its key.
-use Rattle.std.specs.Prelude.{◌≡◌, ℕ, ◌<◌, ◌≤◌, ◌-◌, Bool, false, ◌&&◌, ◌==◌, List, length, map, Option, Some, None, slice_get, slice_index}
+use Rattle.std.specs.Prelude.{◌≡◌, ℕ, ◌<◌, ◌≤◌, ◌-◌, Bool, false, ◌&&◌, ◌==◌, List, length, map, Option, Some, None}
+use Rattle.std.specs.Prelude.{slice_get, slice_index}
 use Rattle.std.specs.List.{range_with_len, filter}
 use Rattle.hs_base.specs.Literals.{LiteralByte}
 use Rattle.hs_base.specs.LiteralView.{literal_byte}
@@ -11,7 +12,8 @@ use Rattle.hs_confirm.specs.Keys.{literal_key, row_of}
 abbrev pub literal_in : Entry → List LiteralByte
 literal_in entry = map literal_byte entry.literal.items
 
--- the bucket is one of eight, the key is that of the literal at the bucket's width, and the literal is no shorter than that
+-- the bucket is one of eight, the key is that of the literal at the bucket's width, and the literal is no shorter than
+-- that
 pub record IsKeyed (widths : List ℕ) (entry : Entry) : Type 0 where
   pub few : entry.bucket < 8
   pub short : slice_index widths entry.bucket ≤ length (literal_in entry)
@@ -39,4 +41,5 @@ number_ends entries bucket text offset number = entry_ends_option bucket text of
 
 -- the numbers from one on of the entries of the bucket that end there, rising
 unfoldable pub ends_from : List Entry → (bucket : ℕ) → List ℕ → ℕ → ℕ → List ℕ
-ends_from entries bucket text offset from = filter (number_ends entries bucket text offset) (range_with_len from (length entries - from))
+ends_from entries bucket text offset from =
+    filter (number_ends entries bucket text offset) (range_with_len from (length entries - from))

@@ -1,6 +1,7 @@
 -- The key of a literal, and of a text up to an offset: so many of the last bytes, without the case of letters. Where a
 -- literal ends, both have one key.
-use Rattle.std.specs.Prelude.{◌≡◌, ℕ, ◌+◌, ◌*◌, ◌-◌, ◌/◌, ◌%◌, ◌^◌, ◌<◌, bit_and, bit_or, nat_lt, List, [], ◌∷◌, length, map, slice_index, if◌then◌else◌}
+use Rattle.std.specs.Prelude.{◌≡◌, ℕ, ◌+◌, ◌*◌, ◌-◌, ◌/◌, ◌%◌, ◌^◌, ◌<◌, bit_and, bit_or, nat_lt, List, [], ◌∷◌, length}
+use Rattle.std.specs.Prelude.{map, slice_index, if◌then◌else◌}
 use Rattle.std.specs.Int.{from_le_bytes, w64}
 use Rattle.hs_base.specs.Literals.{LiteralByte}
 
@@ -11,7 +12,8 @@ folded b = bit_or b 32
 -- the folded byte so many places before the last one of a literal, or 0 where there is none
 unfoldable pub literal_place : List LiteralByte → ℕ → ℕ
 literal_place literal back =
-    if nat_lt back (length literal) then folded (slice_index (map (λ x. x.byte) literal) (length literal - 1 - back)) else 0
+    if nat_lt back (length literal) then folded (slice_index (map (λ x. x.byte) literal) (length literal - 1 - back))
+    else 0
 
 -- the folded byte so many places before the last one in front of an offset of a text, or 0 where there is none
 unfoldable pub text_place : List ℕ → (offset back : ℕ) → ℕ

@@ -6,4 +6,5 @@ use Rattle.hs_confirm.specs.Entries.{ends_from}
 -- the numbers that are still to come
 abbrev pub ends_left : Ends → List ℕ
 ends_left ends =
-    ends_from ends.confirm.now.entries.items ends.bucket (ends.history.now ++ ends.bytes.now) (length ends.history.now + ends.at) ends.next
+    ends_from ends.confirm.now.entries.items ends.bucket (ends.history.now ++ ends.bytes.now)
+    (length ends.history.now + ends.at) ends.next

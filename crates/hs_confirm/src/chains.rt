@@ -3,10 +3,8 @@
 ghost use Rattle.std.specs.Prelude.{◌≡◌, ◌<◌, ◌≤◌, ◌*◌, ℕ, IfOk, length, slice_index, vec_len};
 ghost use Rattle.hs_confirm.specs.Rows.{AreChains, AreMarked};
 
+use hs_bits::WORD_BITS;
 use std::alloc::{AllocError, Global};
-
-/// How many rows one word has bits for.
-const WORD_BITS: usize = 64;
 
 /// The numbers of each row, rising: its first one, and behind each number the next one of its row.
 #[derive(Debug, Drop)]

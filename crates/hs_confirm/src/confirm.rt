@@ -1,6 +1,7 @@
 //! The table of all literals: by bucket and last bytes.
 
-ghost use Rattle.std.specs.Prelude.{◌≡◌, ◌<◌, ◌≤◌, ◌≢◌, ◌+◌, ℕ, [], ◌++◌, IfOk, MatchOption, length, map, slice_index, vec_len};
+ghost use Rattle.std.specs.Prelude.{◌≡◌, ◌<◌, ◌≤◌, ◌≢◌, ◌+◌, ℕ, [], ◌++◌, IfOk, MatchOption, length, map, slice_index};
+ghost use Rattle.std.specs.Prelude.{vec_len};
 ghost use Rattle.hs_base.specs.LiteralView.{literal_byte};
 ghost use Rattle.hs_confirm.specs.Rows.{AreChains};
 ghost use Rattle.hs_confirm.specs.Keys.{AreMasks, key_at};
@@ -11,8 +12,8 @@ use crate::ends::Ends;
 use crate::entry::Entry;
 use crate::filing::{entries_of, row_count, rows_of};
 use crate::place_ends::PlaceEnds;
-use crate::widths::{BUCKETS, masks_of, widths_of};
-use hs_base::LitByte;
+use crate::widths::{masks_of, widths_of};
+use hs_base::{BUCKETS, LitByte};
 use std::alloc::{AllocError, Global};
 
 /// Literals, each in one of eight buckets, ready to tell which of a bucket end at a place.
@@ -29,7 +30,8 @@ pub struct Confirm {
     ghost keyed: { AreKeyed widths entries.items },
     ghost masked: { AreMasks widths masks },
     ghost numbered: { vec_len chains.nexts ≡ vec_len entries },
-    ghost chained: { AreChains (rows_of_entries (vec_len chains.heads) entries.items) chains.heads.items chains.nexts.items },
+    ghost chained: { AreChains (rows_of_entries (vec_len chains.heads) entries.items) chains.heads.items
+        chains.nexts.items },
 }
 
 impl Confirm {
@@ -51,7 +53,8 @@ impl Confirm {
     ) -> Result<Confirm, AllocError>
         requires each { length buckets.now ≡ length literals.now }
         requires few { (k : ℕ) → k < length buckets.now → slice_index buckets.now k < 8 }
-        ensures literals { IfOk result (λ confirm. literals_of confirm ≡ map (λ literal. map literal_byte literal.items) literals.now) }
+        ensures literals { IfOk result
+            (λ confirm. literals_of confirm ≡ map (λ literal. map literal_byte literal.items) literals.now) }
         ensures buckets { IfOk result (λ confirm. buckets_of confirm ≡ buckets.now) }
     {
         let widths = widths_of(literals, buckets);
@@ -76,8 +79,8 @@ impl Confirm {
         full & self.masks[usize::from(bucket)]
     }
 
-    /// The numbers of the literals of a bucket that end at `at`, an offset in bytes in `bytes`, behind their last byte. A
-    /// literal may begin in `history`, which stands before `bytes`.
+    /// The numbers of the literals of a bucket that end at `at`, an offset in bytes in `bytes`, behind their last byte.
+    /// A literal may begin in `history`, which stands before `bytes`.
     pub fn ends_at<'a>(
         &'a self,
         bucket: u8,
@@ -87,7 +90,8 @@ impl Confirm {
     ) -> Ends<'a>
         requires bucket { bucket < 8 }
         requires within { at ≤ length bytes.now }
-        ensures { AreBucketEnds (literals_of self.now) (buckets_of self.now) bucket (history.now ++ bytes.now) (length history.now + at) (ends_left result) }
+        ensures { AreBucketEnds (literals_of self.now) (buckets_of self.now) bucket (history.now ++ bytes.now)
+            (length history.now + at) (ends_left result) }
     {
         Ends::new(self, bucket, history, bytes, at)
     }
@@ -101,7 +105,8 @@ impl Confirm {
         at: usize,
     ) -> PlaceEnds<'a>
         requires within { at ≤ length bytes.now }
-        ensures { ArePlaceEnds (literals_of self.now) (buckets_of self.now) mask (history.now ++ bytes.now) (length history.now + at) (place_left result) }
+        ensures { ArePlaceEnds (literals_of self.now) (buckets_of self.now) mask (history.now ++ bytes.now)
+            (length history.now + at) (place_left result) }
     {
         PlaceEnds::new(self, mask, history, bytes, at)
     }
@@ -116,7 +121,12 @@ impl Confirm {
         at: usize,
     ) -> Option<PlaceEnds<'a>>
         requires within { at ≤ length bytes.now }
-        ensures { MatchOption result (ArePlaceEnds (literals_of self.now) (buckets_of self.now) mask (history.now ++ bytes.now) (length history.now + at) []) (λ ends. (place_left ends ≢ []) × ArePlaceEnds (literals_of self.now) (buckets_of self.now) mask (history.now ++ bytes.now) (length history.now + at) (place_left ends)) }
+        ensures { MatchOption result
+            (ArePlaceEnds (literals_of self.now) (buckets_of self.now) mask (history.now ++ bytes.now)
+            (length history.now + at) [])
+            (λ ends. (place_left ends ≢ []) ×
+            ArePlaceEnds (literals_of self.now) (buckets_of self.now) mask (history.now ++ bytes.now)
+            (length history.now + at) (place_left ends)) }
     {
         PlaceEnds::some(self, mask, history, bytes, at)
     }

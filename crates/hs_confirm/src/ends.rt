@@ -24,8 +24,11 @@ pub struct Ends<'a> {
     next: usize,
     ghost eight: { bucket < 8 },
     ghost within: { at ≤ length bytes.now },
-    ghost keyed: { key ≡ text_key (slice_index confirm.now.widths bucket) (history.now ++ bytes.now) (length history.now + at) },
-    ghost stands: { next < vec_len confirm.now.entries → slice_index (rows_of_entries (vec_len confirm.now.chains.heads) confirm.now.entries.items) next ≡ row_of (vec_len confirm.now.chains.heads) bucket key },
+    ghost keyed: { key ≡ text_key (slice_index confirm.now.widths bucket) (history.now ++ bytes.now)
+        (length history.now + at) },
+    ghost stands: { next < vec_len confirm.now.entries →
+        slice_index (rows_of_entries (vec_len confirm.now.chains.heads) confirm.now.entries.items) next ≡ row_of
+        (vec_len confirm.now.chains.heads) bucket key },
 }
 
 impl<'a> Ends<'a> {
@@ -43,8 +46,10 @@ impl<'a> Ends<'a> {
     ) -> Ends<'a>
         requires bucket { bucket < 8 }
         requires within { at ≤ length bytes.now }
-        ensures left { ends_left result ≡ ends_from confirm.now.entries.items bucket (history.now ++ bytes.now) (length history.now + at) 0 }
-        ensures exact { AreBucketEnds (literals_of confirm.now) (buckets_of confirm.now) bucket (history.now ++ bytes.now) (length history.now + at) (ends_left result) }
+        ensures left { ends_left result ≡ ends_from confirm.now.entries.items bucket (history.now ++ bytes.now)
+            (length history.now + at) 0 }
+        ensures exact { AreBucketEnds (literals_of confirm.now) (buckets_of confirm.now) bucket
+            (history.now ++ bytes.now) (length history.now + at) (ends_left result) }
     {
         let full = full_text_key(history, bytes, at);
         Ends::with_key(confirm, bucket, full, history, bytes, at)
@@ -63,8 +68,10 @@ impl<'a> Ends<'a> {
         requires bucket { bucket < 8 }
         requires within { at ≤ length bytes.now }
         requires full { full ≡ full_text_key (history.now ++ bytes.now) (length history.now + at) }
-        ensures left { ends_left result ≡ ends_from confirm.now.entries.items bucket (history.now ++ bytes.now) (length history.now + at) 0 }
-        ensures exact { AreBucketEnds (literals_of confirm.now) (buckets_of confirm.now) bucket (history.now ++ bytes.now) (length history.now + at) (ends_left result) }
+        ensures left { ends_left result ≡ ends_from confirm.now.entries.items bucket (history.now ++ bytes.now)
+            (length history.now + at) 0 }
+        ensures exact { AreBucketEnds (literals_of confirm.now) (buckets_of confirm.now) bucket
+            (history.now ++ bytes.now) (length history.now + at) (ends_left result) }
     {
         let key = confirm.key_at(bucket, full);
         let row = row_of(confirm.chains.rows(), bucket, key);
@@ -91,8 +98,10 @@ impl<'a> Ends<'a> {
         requires bucket { bucket < 8 }
         requires within { at ≤ length bytes.now }
         requires number { number < vec_len confirm.now.entries }
-        requires ends { number_ends confirm.now.entries.items bucket (history.now ++ bytes.now) (length history.now + at) number ≡ true }
-        ensures { ends_left result ≡ ends_from confirm.now.entries.items bucket (history.now ++ bytes.now) (length history.now + at) (number + 1) }
+        requires ends { number_ends confirm.now.entries.items bucket (history.now ++ bytes.now)
+            (length history.now + at) number ≡ true }
+        ensures { ends_left result ≡ ends_from confirm.now.entries.items bucket (history.now ++ bytes.now)
+            (length history.now + at) (number + 1) }
     {
         Ends {
             confirm,
@@ -109,7 +118,8 @@ impl<'a> Ends<'a> {
     #[inline(always)]
     fn ends_there(&self, number: usize) -> bool
         requires { number < vec_len self.now.confirm.now.entries }
-        ensures { result ≡ number_ends self.now.confirm.now.entries.items self.now.bucket (self.now.history.now ++ self.now.bytes.now) (length self.now.history.now + self.now.at) number }
+        ensures { result ≡ number_ends self.now.confirm.now.entries.items self.now.bucket
+            (self.now.history.now ++ self.now.bytes.now) (length self.now.history.now + self.now.at) number }
     {
         let entry = &self.confirm.entries[number];
         entry.key == self.key

@@ -8,8 +8,7 @@ ghost use Rattle.hs_confirm.specs.Widths.{AreShort};
 
 use crate::entry::Entry;
 use crate::keys::{literal_key, row_of};
-use crate::widths::BUCKETS;
-use hs_base::LitByte;
+use hs_base::{BUCKETS, LitByte};
 use std::alloc::{AllocError, Global};
 
 /// How many rows a literal has at least, up to `MAX_ROWS`.
@@ -40,8 +39,10 @@ pub(crate) fn entries_of(
 ) -> Result<Vec<Entry>, AllocError>
     requires each { length buckets.now ≡ length literals.now }
     requires few { (k : ℕ) → k < length buckets.now → slice_index buckets.now k < 8 }
-    requires short { AreShort widths.now (map (λ literal. length literal.items) literals.now) buckets.now (length literals.now) }
-    ensures literals { IfOk result (λ entries. map literal_in entries.items ≡ map (λ literal. map literal_byte literal.items) literals.now) }
+    requires short { AreShort widths.now (map (λ literal. length literal.items) literals.now) buckets.now
+        (length literals.now) }
+    ensures literals { IfOk result
+        (λ entries. map literal_in entries.items ≡ map (λ literal. map literal_byte literal.items) literals.now) }
     ensures buckets { IfOk result (λ entries. map (λ entry. entry.bucket) entries.items ≡ buckets.now) }
     ensures keyed { IfOk result (λ entries. AreKeyed widths.now entries.items) }
 {

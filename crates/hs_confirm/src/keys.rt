@@ -2,7 +2,8 @@
 
 ghost use Rattle.std.specs.Prelude.{◌≡◌, ◌≤◌, ◌<◌, ◌+◌, ◌-◌, ◌^◌, ◌++◌, ℕ, length, map, slice_index};
 ghost use Rattle.hs_base.specs.LiteralView.{literal_byte};
-ghost use Rattle.hs_confirm.specs.Keys.{folded, literal_place, text_place, eight_places, full_literal_key, full_text_key, literal_key, IsMask, row_of};
+ghost use Rattle.hs_confirm.specs.Keys.{folded, literal_place, text_place, eight_places, full_literal_key};
+ghost use Rattle.hs_confirm.specs.Keys.{full_text_key, literal_key, IsMask, row_of};
 
 use hs_base::LitByte;
 use std::simd::prelude::*;

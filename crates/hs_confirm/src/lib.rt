@@ -1,5 +1,6 @@
-//! Which literals of a bucket end at a place: exact answers where a faster search says that some of them may. `confirm` has
-//! the table, `ends` the iteration over its answers, `plain` the slow twin. `specs/BucketEnds.antt` says what an end is.
+//! Which literals of a bucket end at a place: exact answers where a faster search says that some of them may. `confirm`
+//! has the table, `ends` the iteration over its answers, `plain` the slow twin. `specs/BucketEnds.antt` says what an
+//! end is.
 #![tactic(auto)]
 
 mod chains;

@@ -1,6 +1,7 @@
 //! The literals of all buckets that end at a place, rising.
 
-ghost use Rattle.std.specs.Prelude.{◌≡◌, ◌≢◌, ◌<◌, ◌≤◌, ◌+◌, ◌++◌, ℕ, [], true, MatchOption, length, slice_index, vec_len};
+ghost use Rattle.std.specs.Prelude.{◌≡◌, ◌≢◌, ◌<◌, ◌≤◌, ◌+◌, ◌++◌, ℕ, [], true, MatchOption, length, slice_index};
+ghost use Rattle.std.specs.Prelude.{vec_len};
 ghost use Rattle.std.specs.Int.{bit_at};
 ghost use Rattle.hs_confirm.specs.Entries.{number_ends};
 ghost use Rattle.hs_confirm.specs.Heads.{AreHeads, IsHead, IsFirstHead, IsFirstPassing, HasNone};
@@ -9,7 +10,7 @@ ghost use Rattle.hs_confirm.specs.Keys.{full_text_key};
 use crate::confirm::Confirm;
 use crate::ends::Ends;
 use crate::keys::full_text_key;
-use crate::widths::BUCKETS;
+use hs_base::BUCKETS;
 
 /// The numbers of the literals that end at a place, of all buckets that were left open, rising.
 #[derive(Debug, Drop)]
@@ -60,7 +61,8 @@ fn without(left: u8, bucket: u8) -> u8
     left & !(1 << bucket)
 }
 
-/// The first number of a bucket that ends at `at`, or the count of all literals, given the last eight bytes before `at`.
+/// The first number of a bucket that ends at `at`, or the count of all literals, given the last eight bytes before
+/// `at`.
 #[inline(always)]
 fn head_of(
     confirm: &Confirm,
@@ -73,7 +75,9 @@ fn head_of(
     requires bucket { bucket < 8 }
     requires within { at ≤ length bytes.now }
     requires full { full ≡ full_text_key (history.now ++ bytes.now) (length history.now + at) }
-    ensures { IsFirstPassing (number_ends confirm.now.entries.items bucket (history.now ++ bytes.now) (length history.now + at)) 0 (vec_len confirm.now.entries) result }
+    ensures { IsFirstPassing
+        (number_ends confirm.now.entries.items bucket (history.now ++ bytes.now) (length history.now + at)) 0
+        (vec_len confirm.now.entries) result }
 {
     Ends::with_key(confirm, bucket, full, history, bytes, at)
         .next()
@@ -94,7 +98,10 @@ fn first_head(
 ) -> Option<Head>
     requires within { at ≤ length bytes.now }
     requires full { full ≡ full_text_key (history.now ++ bytes.now) (length history.now + at) }
-    ensures { MatchOption result ((bucket : ℕ) → bucket < 8 → HasNone confirm.now.entries.items mask (history.now ++ bytes.now) (length history.now + at) bucket) (λ head. IsFirstHead confirm.now.entries.items mask (history.now ++ bytes.now) (length history.now + at) head.bucket head.number head.left) }
+    ensures { MatchOption result ((bucket : ℕ) → bucket < 8 →
+        HasNone confirm.now.entries.items mask (history.now ++ bytes.now) (length history.now + at) bucket)
+        (λ head. IsFirstHead confirm.now.entries.items mask (history.now ++ bytes.now) (length history.now + at)
+        head.bucket head.number head.left) }
 {
     let mut left = !mask;
     while left != 0 {
@@ -124,8 +131,11 @@ fn heads_of(
 ) -> [usize; BUCKETS]
     requires within { at ≤ length bytes.now }
     requires full { full ≡ full_text_key (history.now ++ bytes.now) (length history.now + at) }
-    requires first { IsFirstHead confirm.now.entries.items mask (history.now ++ bytes.now) (length history.now + at) first.bucket first.number first.left }
-    ensures { (bucket : ℕ) → bucket < 8 → IsHead confirm.now.entries.items mask (history.now ++ bytes.now) (length history.now + at) bucket (slice_index result bucket) }
+    requires first { IsFirstHead confirm.now.entries.items mask (history.now ++ bytes.now) (length history.now + at)
+        first.bucket first.number first.left }
+    ensures { (bucket : ℕ) → bucket < 8 →
+        IsHead confirm.now.entries.items mask (history.now ++ bytes.now) (length history.now + at) bucket
+        (slice_index result bucket) }
 {
     let mut heads = [confirm.entries.len(); BUCKETS];
     heads[usize::from(first.bucket)] = first.number;
@@ -150,8 +160,11 @@ fn head_behind(
     requires within { at ≤ length bytes.now }
     requires number { number < vec_len confirm.now.entries }
     requires bucket { bucket < 8 }
-    requires ends { number_ends confirm.now.entries.items bucket (history.now ++ bytes.now) (length history.now + at) number ≡ true }
-    ensures { IsFirstPassing (number_ends confirm.now.entries.items bucket (history.now ++ bytes.now) (length history.now + at)) (number + 1) (vec_len confirm.now.entries) result }
+    requires ends { number_ends confirm.now.entries.items bucket (history.now ++ bytes.now) (length history.now + at)
+        number ≡ true }
+    ensures { IsFirstPassing
+        (number_ends confirm.now.entries.items bucket (history.now ++ bytes.now) (length history.now + at)) (number + 1)
+        (vec_len confirm.now.entries) result }
 {
     Ends::behind(confirm, number, bucket, history, bytes, at)
         .next()
@@ -186,7 +199,8 @@ impl<'a> PlaceEnds<'a> {
         at: usize,
     ) -> PlaceEnds<'a>
         requires within { at ≤ length bytes.now }
-        ensures { ArePlaceEnds (literals_of confirm.now) (buckets_of confirm.now) mask (history.now ++ bytes.now) (length history.now + at) (place_left result) }
+        ensures { ArePlaceEnds (literals_of confirm.now) (buckets_of confirm.now) mask (history.now ++ bytes.now)
+            (length history.now + at) (place_left result) }
     {
         if let Some(ends) = PlaceEnds::some(confirm, mask, history, bytes, at) {
             return ends;
@@ -210,7 +224,12 @@ impl<'a> PlaceEnds<'a> {
         at: usize,
     ) -> Option<PlaceEnds<'a>>
         requires within { at ≤ length bytes.now }
-        ensures { MatchOption result (ArePlaceEnds (literals_of confirm.now) (buckets_of confirm.now) mask (history.now ++ bytes.now) (length history.now + at) []) (λ ends. (place_left ends ≢ []) × ArePlaceEnds (literals_of confirm.now) (buckets_of confirm.now) mask (history.now ++ bytes.now) (length history.now + at) (place_left ends)) }
+        ensures { MatchOption result
+            (ArePlaceEnds (literals_of confirm.now) (buckets_of confirm.now) mask (history.now ++ bytes.now)
+            (length history.now + at) [])
+            (λ ends. (place_left ends ≢ []) ×
+            ArePlaceEnds (literals_of confirm.now) (buckets_of confirm.now) mask (history.now ++ bytes.now)
+            (length history.now + at) (place_left ends)) }
     {
         let full = full_text_key(history, bytes, at);
         let first = match first_head(confirm, mask, full, history, bytes, at) {

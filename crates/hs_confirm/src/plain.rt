@@ -55,7 +55,8 @@ fn is_bucket_end(
     requires each { length buckets.now ≡ length literals.now }
     requires within { at ≤ length bytes.now }
     requires number { number < length literals.now }
-    ensures { result ≡ plain_ends_there (map (λ literal. map literal_byte literal.items) literals.now) buckets.now bucket (history.now ++ bytes.now) (length history.now + at) number }
+    ensures { result ≡ plain_ends_there (map (λ literal. map literal_byte literal.items) literals.now) buckets.now
+        bucket (history.now ++ bytes.now) (length history.now + at) number }
 {
     buckets[number] == bucket && ends_at_place(literals[number].as_slice(), history, bytes, at)
 }
@@ -76,7 +77,9 @@ pub fn plain_ends(
 ) -> Result<Vec<usize>, AllocError>
     requires each { length buckets.now ≡ length literals.now }
     requires within { at ≤ length bytes.now }
-    ensures { IfOk result (λ numbers. AreBucketEnds (map (λ literal. map literal_byte literal.items) literals.now) buckets.now bucket (history.now ++ bytes.now) (length history.now + at) numbers.items) }
+    ensures { IfOk result
+        (λ numbers. AreBucketEnds (map (λ literal. map literal_byte literal.items) literals.now) buckets.now bucket
+        (history.now ++ bytes.now) (length history.now + at) numbers.items) }
 {
     let mut numbers = Vec::new(alloc);
     for number in 0..literals.len() {

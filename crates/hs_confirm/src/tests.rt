@@ -1,3 +1,4 @@
+//! Which literals of a bucket end at a place, beside the plain program.
 use crate::{Confirm, plain_ends};
 use hs_base::LitByte;
 use std::alloc::{AllocError, Global};
@@ -98,18 +99,18 @@ fn tells_the_literals_that_end(rt: HostRuntime) -> Result<(), Fail> {
     Ok(())
 }
 
-const LINES: &[u8] =
-    b"aa\nab\nba\naaa\naba\n~a~a\n~ab\nbab\nabab\nbabab\nabbaabba\nabaabaabaabaabaabaabaabaabaabaab\nbaabaaba\nabaabaaba\naabaabaaba\n";
+const LINES: &[u8] = b"aa\nab\nba\naaa\naba\n~a~a\n~ab\nbab\nabab\nbabab\n\
+    abbaabba\nabaabaabaabaabaabaabaabaabaabaab\nbaabaaba\nabaabaaba\naabaabaaba\n";
 
-const BUCKETS: [u8; 15] = [3, 1, 4, 1, 5, 2, 2, 5, 3, 5, 0, 7, 6, 6, 6];
+const FILED: [u8; 15] = [3, 1, 4, 1, 5, 2, 2, 5, 3, 5, 0, 7, 6, 6, 6];
 
 const TEXT: &[u8] = b"abaabaabaabaabaabaabaabaabaabaababbaabbAABbaBABABaAb";
 
 #[test]
 fn agrees_with_the_plain_program_at_each_place(rt: HostRuntime) -> Result<(), Fail> {
     let literals = literals_of(rt.alloc(), LINES)?;
-    assert!(rt; literals.len() == BUCKETS.len());
-    let confirm = Confirm::build(rt.alloc(), literals.as_slice(), &BUCKETS)?;
+    assert!(rt; literals.len() == FILED.len());
+    let confirm = Confirm::build(rt.alloc(), literals.as_slice(), &FILED)?;
     for cut in [0, 1, 2, 33, TEXT.len()] {
         let (history, bytes) = TEXT.split_at(cut);
         for at in 0..bytes.len() + 1 {
@@ -120,7 +121,7 @@ fn agrees_with_the_plain_program_at_each_place(rt: HostRuntime) -> Result<(), Fa
                 let plain = plain_ends(
                     rt.alloc(),
                     literals.as_slice(),
-                    &BUCKETS,
+                    &FILED,
                     bucket,
                     history,
                     bytes,

@@ -5,10 +5,7 @@ ghost use Rattle.hs_confirm.specs.Keys.{AreMasks};
 ghost use Rattle.hs_confirm.specs.Widths.{AreShort};
 
 use crate::keys::{KEY_LEN, mask_of};
-use hs_base::LitByte;
-
-/// How many buckets there are.
-pub(crate) const BUCKETS: usize = 8;
+use hs_base::{BUCKETS, LitByte};
 
 /// The width, or the length of a literal where that is less.
 fn narrowed(width: u8, literal: &[LitByte]) -> u8

@@ -24,4 +24,8 @@ IsFaultOf bytes fault.Memory = Unit {0}
 -- the bytes of an entry before its text
 abbrev pub fields_bytes : ListedEntry → List ℕ
 fields_bytes entry =
-    to_le_bytes w32 entry.id ++ (to_le_bytes w16 entry.flags ++ (entry.ext.bits ∷ (to_le_bytes w64 entry.ext.min_offset ++ (to_le_bytes w64 entry.ext.max_offset ++ to_le_bytes w16 (length entry.text)))))
+    to_le_bytes w32 entry.id
+    ++ (to_le_bytes w16 entry.flags
+    ++ (entry.ext.bits ∷ (to_le_bytes w64 entry.ext.min_offset
+    ++ (to_le_bytes w64 entry.ext.max_offset
+    ++ to_le_bytes w16 (length entry.text)))))

@@ -8,10 +8,15 @@ use Rattle.hs_base.specs.Entries.{ListedEntry}
 abbrev pub text_bytes : List ℕ → List ℕ
 text_bytes text = to_le_bytes w16 (length text) ++ text
 
--- an entry: the identifier in 32 bits, the flags in 16, the bits of the parameters in 8, both bounds in 64, and the text
+-- an entry: the identifier in 32 bits, the flags in 16, the bits of the parameters in 8, both bounds in 64, and the
+-- text
 abbrev pub entry_bytes : ListedEntry → List ℕ
 entry_bytes entry =
-    to_le_bytes w32 entry.id ++ (to_le_bytes w16 entry.flags ++ (entry.ext.bits ∷ (to_le_bytes w64 entry.ext.min_offset ++ (to_le_bytes w64 entry.ext.max_offset ++ text_bytes entry.text))))
+    to_le_bytes w32 entry.id
+    ++ (to_le_bytes w16 entry.flags
+    ++ (entry.ext.bits ∷ (to_le_bytes w64 entry.ext.min_offset
+    ++ (to_le_bytes w64 entry.ext.max_offset
+    ++ text_bytes entry.text))))
 
 -- entries, one behind the other
 abbrev pub entries_bytes : List ListedEntry → List ℕ

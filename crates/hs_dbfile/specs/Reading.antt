@@ -5,7 +5,9 @@ use Rattle.hs_base.specs.Lists.{Each}
 use Rattle.hs_dbfile.specs.Files.{head_bytes}
 
 -- The bytes begin with the code of a value that is allowed, and the rest stands behind it.
-pub record IsRead {A : Type 0} (code : A → List ℕ) (Allowed : A → Type 0) (bytes : List ℕ) (value : A) (rest : List ℕ) : Type 0 where
+pub record IsRead
+    {A : Type 0} (code : A → List ℕ) (Allowed : A → Type 0) (bytes : List ℕ) (value : A)
+    (rest : List ℕ) : Type 0 where
   pub parts : bytes ≡ code value ++ rest
   pub allowed : Allowed value
 
@@ -14,8 +16,8 @@ pub data SameFirst : List ℕ → List ℕ → Type 0 where
   neither : SameFirst [] []
   same : {b : ℕ} {xs ys : List ℕ} → SameFirst (b ∷ xs) (b ∷ ys)
 
--- Up to the rest the bytes begin the code of an allowed value. No code of an allowed value stands where they are followed
--- by the first byte of the rest, or, where the rest is empty, by nothing.
+-- Up to the rest the bytes begin the code of an allowed value. No code of an allowed value stands where they are
+-- followed by the first byte of the rest, or, where the rest is empty, by nothing.
 pub record Stops {A : Type 0} (code : A → List ℕ) (Allowed : A → Type 0) (bytes rest : List ℕ) : Type 0 where
   pub front : List ℕ
   pub parts : bytes ≡ front ++ rest
@@ -23,7 +25,11 @@ pub record Stops {A : Type 0} (code : A → List ℕ) (Allowed : A → Type 0) (
   pub more : List ℕ
   pub allowed : Allowed value
   pub begins : code value ≡ front ++ more
-  pub refused : (others : List ℕ) (other : A) (behind : List ℕ) → SameFirst rest others → Allowed other → front ++ others ≡ code other ++ behind → ⊥
+  pub refused : (others : List ℕ) (other : A) (behind : List ℕ) →
+      SameFirst rest others →
+      Allowed other →
+      front ++ others ≡ code other ++ behind →
+      ⊥
 
 -- a number of one byte
 abbrev pub one_byte : ℕ → List ℕ

@@ -8,8 +8,8 @@ use thiserror::Error;
 /// Why a database file gave no list.
 #[derive(Debug, Drop, Error)]
 pub enum DecodeFault {
-    /// The bytes aren't a database file. The longest beginning of them that begins some database file has this length in
-    /// bytes.
+    /// The bytes aren't a database file. The longest beginning of them that begins some database file has this length
+    /// in bytes.
     #[error("the bytes are no database file from byte {0} on")]
     Form(u64),
     /// Memory ran out.

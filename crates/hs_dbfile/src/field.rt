@@ -56,8 +56,8 @@ pub fn u64_at(bytes: &[u8]) -> Result<(u64, &[u8]), Stop<'_>>
     }
 }
 
-/// A bound of a match's end, and what stands behind it. It is in the bytes whether or not its bit is given; where the bit
-/// is 0, it can only be the value that stands for a missing bound.
+/// A bound of a match's end, and what stands behind it. It is in the bytes whether or not its bit is given; where the
+/// bit is 0, it can only be the value that stands for a missing bound.
 pub fn bound_at(bytes: &[u8], given: u8, missing: u64) -> Result<(u64, &[u8]), Stop<'_>>
     ensures { MatchResult result
         (λ read. IsRead (to_le_bytes w64) (IsBound given missing) bytes.now read.0 read.1.now)

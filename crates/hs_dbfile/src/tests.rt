@@ -1,3 +1,4 @@
+//! Database files byte by byte: written, read, cut and changed.
 use crate::{DecodeFault, decode_file, digest, encode_file, encode_list};
 use hs_base::{Entry, ExprId, Ext, Flags};
 use sha2::{Digest, Sha256};
@@ -6,7 +7,8 @@ use std::test::Fail;
 
 /// The database file of the pattern file `16:/foo/`.
 const FOO: [u8; 38] =
-    *b"HSDB\x01\x00\x01\x00\x00\x00\x10\x00\x00\x00\x00\x00\x00\x00\x00\x00\x00\x00\x00\x00\x00\xff\xff\xff\xff\xff\xff\xff\xff\x03\x00foo";
+    *b"HSDB\x01\x00\x01\x00\x00\x00\x10\x00\x00\x00\x00\x00\x00\x00\x00\x00\x00\x00\x00\x00\x00\
+    \xff\xff\xff\xff\xff\xff\xff\xff\x03\x00foo";
 
 /// The SHA-256 digest of its list encoding, the bytes behind the head.
 const FOO_DIGEST: [u8; 32] = [

@@ -1,3 +1,8 @@
-pub mod BitLemmas
 pub mod CellLemmas
 pub mod RowLemmas
+pub mod PositionLemmas
+pub mod AlikeLemmas
+pub mod AgreementLemmas
+pub mod PastLemmas
+pub mod AutomatonLemmas
+pub mod MeaningLemmas

@@ -1,23 +1,16 @@
 -- Rows of bits.
-use Rattle.std.proofs.Common.{◌≡◌, ℕ, ◌+◌, ◌*◌, ◌/◌, ◌%◌, ◌<◌, ◌≤◌, Bool, true, false, ◌&&◌, ◌||◌, List, length, get_or, take, drop, replicate, nat_lt, eqb, bit_or, refl, sym, ap, ◌∙◌, inl, inr, arith}
+use Rattle.std.proofs.Common.{◌≡◌, ℕ, ◌+◌, ◌*◌, ◌/◌, ◌%◌, ◌<◌, ◌≤◌, Bool, true, false, ◌&&◌, ◌||◌, List, length, get_or, take, drop, replicate, nat_lt, eqb, refl, sym, ap, ◌∙◌, inl, inr, arith}
 use Rattle.std.specs.Int.{bit_at}
 use Rattle.std.proofs.lemmas.Bool.{cases_eq, cases_lt, eq-eqb, eqb-true, ne_eqb, lt-ltb, le-ltb}
 use Rattle.std.proofs.lemmas.List.{get_or-drop, get_or-take, get_or_past, get_or-replicate, length-replicate, length-drop, length-take-le}
 use Rattle.std.proofs.lemmas.Nat.Bits.{bit_at-zero}
-use Rattle.hs_base.proofs.ByteSetLemmas.{bit-or}
-use Rattle.hs_engine.specs.Bits.{has_bit}
+use Rattle.hs_base.specs.Bits.{has_bit}
 use Rattle.hs_engine.specs.RowSizes.{row_len}
 use Rattle.hs_engine.specs.Rows.{in_row, in_square, row_start, square_number}
 use Rattle.hs_engine.specs.declared.follow_rows.FollowRows.{FollowRows}
 use Rattle.hs_base.specs.Contexts.{Context}
-use Rattle.hs_engine.proofs.BitLemmas.{bits-zero}
+use Rattle.hs_base.proofs.BitLemmas.{bits-zero}
 use Rattle.hs_engine.proofs.CellLemmas.{same_cell}
-
-or-turned : (a b : Bool) → (a || b) ≡ (b || a)
-or-turned true true = refl
-or-turned true false = refl
-or-turned false true = refl
-or-turned false false = refl
 
 and-none : (a : Bool) → (a && false) ≡ false
 and-none true = refl
@@ -28,28 +21,6 @@ apart-cells true true true apart = absurd (apart refl refl refl)
 apart-cells true true false apart = refl
 apart-cells true false c apart = refl
 apart-cells false b c apart = refl
-
--- beyond the bytes no bit is set
-pub bits-past : (bytes : List ℕ) (k : ℕ) → 8 * length bytes ≤ k → has_bit bytes k ≡ false
-unfolding has_bit
-bits-past bytes k past =
-    let above : length bytes ≤ k / 8 = omega arith in
-    ap (λ n. eqb (bit_at n (k % 8)) 1) (get_or_past bytes (k / 8) 0 above) ∙ ap (λ n. eqb n 1) (bit_at-zero (k % 8))
-
--- bytes that a row was united with have the bits of both
-pub united-bits : (old row new : List ℕ) → ((i : ℕ) → i < length row → get_or new i 0 ≡ bit_or (get_or old i 0) (get_or row i 0)) → ((i : ℕ) → length row ≤ i → get_or new i 0 ≡ get_or old i 0) →
-    (k : ℕ) → has_bit new k ≡ (has_bit row k || has_bit old k)
-unfolding has_bit
-united-bits old row new united kept k =
-    elim (cases_lt (k / 8) (length row)) [
-      | inl below ↦
-          ap (λ n. eqb (bit_at n (k % 8)) 1) (united (k / 8) below)
-          ∙ (bit-or (get_or old (k / 8) 0) (get_or row (k / 8) 0) (k % 8)
-          ∙ or-turned (eqb (bit_at (get_or old (k / 8) 0) (k % 8)) 1) (eqb (bit_at (get_or row (k / 8) 0) (k % 8)) 1))
-      | inr above ↦
-          let none : eqb (bit_at (get_or row (k / 8) 0) (k % 8)) 1 ≡ false = ap (λ n. eqb (bit_at n (k % 8)) 1) (get_or_past row (k / 8) 0 above) ∙ ap (λ n. eqb n 1) (bit_at-zero (k % 8)) in
-          ap (λ n. eqb (bit_at n (k % 8)) 1) (kept (k / 8) above) ∙ sym (ap (λ b. b || eqb (bit_at (get_or old (k / 8) 0) (k % 8)) 1) none)
-    ]
 
 -- no bit is set in bytes that are all zero
 pub replicate-bits : (n k : ℕ) → has_bit (replicate n 0) k ≡ false

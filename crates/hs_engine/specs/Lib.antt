@@ -1,5 +1,8 @@
-pub mod Automata
-pub mod Bits
 pub mod Engines
 pub mod RowSizes
 pub mod Rows
+pub mod Automata
+pub mod AnyBelow
+pub mod Positions
+pub mod Agreement
+pub mod Tables

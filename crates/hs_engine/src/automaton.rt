@@ -1,10 +1,9 @@
+//! The position automaton as data.
+
 ghost use Rattle.std.specs.Prelude.{◌≡◌, ◌+◌, ◌*◌, ◌≤◌, vec_len};
 
 use crate::follow_rows::FollowRows;
 use hs_base::{ByteSet, Mask};
-
-/// The most positions that an automaton may have.
-pub const MAX_POSITIONS: usize = 512;
 
 /// The bytes that a set and two masks take, which each position has.
 const POSITION_LEN: usize = 40;

@@ -3,17 +3,16 @@
 ghost use Rattle.std.specs.Prelude.{◌≡◌, ℕ, ◌+◌, ◌*◌, ◌<◌, ◌≤◌, false, ◌&&◌, ◌||◌, ◌==◌, IfOk, length, vec_len};
 ghost use Rattle.hs_engine.specs.RowSizes.{class_number, row_len, square_count};
 
-use crate::bits::{BYTE_BITS, insert_bit};
 use hs_base::{Next, Prev};
 use std::alloc::{AllocError, Global};
 
 /// How many classes of bytes there are: word bytes, the line feed and the others.
-const CLASS_COUNT: usize = 3;
+pub const CLASS_COUNT: usize = 3;
 /// How many contexts there are in which a byte comes next: each class behind each of the four `Prev`.
 const CONTEXT_COUNT: usize = 12;
 
-/// For each position a row of bits, a bit for each position whose byte may come behind its own: a square of rows, one for
-/// each context in which a byte comes next, or one for all.
+/// For each position a row of bits, a bit for each position whose byte may come behind its own: a square of rows, one
+/// for each context in which a byte comes next, or one for all.
 #[derive(Debug, Drop)]
 pub struct FollowRows {
     /// The rows, one behind the other. That of the position x in a square is number `size * square + x`.
@@ -28,7 +27,7 @@ pub struct FollowRows {
 
 impl FollowRows {
     ghost use Rattle.hs_base.specs.Contexts.{Context};
-    ghost use Rattle.hs_engine.specs.Bits.{has_bit};
+    ghost use Rattle.hs_base.specs.Bits.{has_bit};
     ghost use Rattle.hs_engine.specs.Rows.{in_row, in_square, row_start, square_number};
 
     /// The rows of so many positions, of which none follows another: with a square for each context, or one for all.
@@ -59,6 +58,14 @@ impl FollowRows {
         })
     }
 
+    /// How many positions there are.
+    pub fn size(&self) -> usize
+        ensures size { result ≡ self.now.size }
+        ensures few { result ≤ 512 }
+    {
+        self.size
+    }
+
     /// How many squares of rows there are.
     pub fn square_count(&self) -> usize
         ensures { result ≡ square_count self.now.by_context }
@@ -81,18 +88,20 @@ impl FollowRows {
         requires to { to < self.old.size }
         ensures size { self.new.size ≡ self.old.size }
         ensures by_context { self.new.by_context ≡ self.old.by_context }
-        ensures follows { (k x y : ℕ) → in_square self.new k x y ≡ (((k == square) && ((x == from) && (y == to))) || in_square self.old k x y) }
+        ensures follows { (k x y : ℕ) →
+            in_square self.new k x y ≡ (((k == square) && ((x == from) && (y == to))) || in_square self.old k x y) }
     {
         let start = self.start(square, from);
-        insert_bit(&mut self.bits, BYTE_BITS * start + to);
+        self.bits[start + to / 8] |= 1 << (to % 8);
     }
 
-    /// The positions whose bytes may come behind that of the position, behind what stands before and before a byte of that
-    /// class: a bit for each.
+    /// The positions whose bytes may come behind that of the position, behind what stands before and before a byte of
+    /// that class: a bit for each.
     pub fn row(&self, prev: Prev, class: Next, position: usize) -> &[u8]
         requires { position < self.now.size }
         ensures len { length result.now ≡ row_len self.now.size }
-        ensures bits { (y : ℕ) → has_bit result.now y ≡ in_row self.now position y (record { prev = prev; next = class }) }
+        ensures bits { (y : ℕ) →
+            has_bit result.now y ≡ in_row self.now position y (record { prev = prev; next = class }) }
     {
         let start = self.start(self.square(prev, class), position);
         &self.bits[start..start + row_len_of(self.size)]
@@ -126,7 +135,7 @@ fn row_len_of(size: usize) -> usize
     requires { size ≤ 512 }
     ensures { result ≡ row_len size }
 {
-    (size + (BYTE_BITS - 1)) / BYTE_BITS
+    size.div_ceil(8)
 }
 
 /// How many squares there are: one for all contexts, or one for each.
@@ -151,7 +160,6 @@ fn class_number(class: Next) -> usize
 #[cfg(test)]
 mod tests {
     use super::FollowRows;
-    use crate::bits::contains_bit;
     use hs_base::{Next, Prev};
     use std::test::Fail;
 
@@ -167,8 +175,7 @@ mod tests {
         ];
         for (prev, class, position, wanted) in table {
             let row = rows.row(prev, class, position);
-            assert_eq!(rt; contains_bit(row, 11), wanted);
-            assert!(rt; !contains_bit(row, 10));
+            assert_eq!(rt; row, [0, if wanted { 8 } else { 0 }].as_slice());
         }
         Ok(())
     }

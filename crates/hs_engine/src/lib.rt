@@ -1,14 +1,13 @@
-//! The position automaton as data, and what every engine that runs one has to do.
+//! The position automaton as data with its laws, and what every engine does that runs an expression.
 #![tactic(auto)]
 
 mod automaton;
-mod bits;
 mod engine;
 mod follow_rows;
+pub mod laws;
 mod steps;
 
-pub use automaton::{Automaton, MAX_POSITIONS};
-pub use bits::{BYTE_BITS, clear_bits, contains_bit, insert_bit, is_zero, unite_bits};
+pub use automaton::Automaton;
 pub use engine::Engine;
-pub use follow_rows::FollowRows;
+pub use follow_rows::{CLASS_COUNT, FollowRows};
 pub use steps::Steps;

@@ -1,3 +1,5 @@
+//! How the steps of engines are counted.
+
 ghost use Rattle.std.specs.Prelude.{◌≡◌, ◌+◌, ◌<◌};
 
 use std::marker::Model;

@@ -5,8 +5,7 @@ use Rattle.std.proofs.lemmas.Bool.{false≢true}
 use Rattle.std.proofs.lemmas.List.Folds.{fold_stays}
 use Rattle.hs_expr.specs.declared.expr.Expr.{Expr}
 use Rattle.hs_expr.specs.Meaning.{tree_of, trees_of}
-use Rattle.hs_expr.specs.Counts.{capped, least_of, least_width, least_widths, add_bounds, greater_bound}
-use Rattle.hs_expr.specs.declared.counts.TheConstants.{GREATEST_COUNT}
+use Rattle.hs_expr.specs.Counts.{greatest_count, capped, least_of, least_width, least_widths, add_bounds, greater_bound}
 
 -- a fold respects what each of its steps respects
 fold-respects : {A B C : Type 0} (step : B → A → B) (view : B → C) →
@@ -25,12 +24,12 @@ capped-least = fold-respects min capped capped-min
 
 -- where there is an alternative, the least width may begin with the cap
 pub capped-least_of : (items : List Expr) → false ≡ (length items == 0) →
-    capped (fold min GREATEST_COUNT (least_widths (trees_of (map tree_of items))))
+    capped (fold min greatest_count (least_widths (trees_of (map tree_of items))))
     ≡ capped (least_of (least_widths (trees_of (map tree_of items))))
 capped-least_of [] some = absurd (false≢true some)
 capped-least_of (item ∷ items) some =
     let first = least_width (tree_of item) in
-    capped-least (min GREATEST_COUNT first) first (least_widths (trees_of (map tree_of items))) (omega arith)
+    capped-least (min greatest_count first) first (least_widths (trees_of (map tree_of items))) (omega arith)
 
 capped-add_bounds : (a b x : Option ℕ) → option_map capped a ≡ option_map capped b →
     option_map capped (add_bounds a x) ≡ option_map capped (add_bounds b x)
@@ -66,7 +65,7 @@ capped-greatest = fold-respects greater_bound (option_map capped) capped-greater
 
 -- one width more, from its capped value
 pub capped-one_added : (width part total : ℕ) (bound : Option ℕ) → Some part ≡ option_map capped bound →
-    total ≡ min (width + part) GREATEST_COUNT → option_map capped (Some total) ≡ option_map capped (add_bounds (Some width) bound)
+    total ≡ min (width + part) greatest_count → option_map capped (Some total) ≡ option_map capped (add_bounds (Some width) bound)
 capped-one_added width part total None same sum = cc
 capped-one_added width part total (Some n) same sum =
     let inner : part ≡ capped n = cc in

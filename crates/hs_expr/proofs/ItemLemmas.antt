@@ -2,7 +2,8 @@
 use Rattle.std.proofs.Common.{◌≡◌, ℕ, zero, suc, ◌≤◌, Bool, true, false, List, [], ◌∷◌, ◌++◌, Option, Some, None, refl, sym, ap, ◌∙◌, subst, if◌then◌else◌, arith}
 use Rattle.std.proofs.lemmas.Bool.Decides.{nat_tests}
 use Rattle.hs_base.specs.Lists.{Each}
-use Rattle.hs_base.specs.Trees.{Tree, Trees, empty, class, points, assert, cat, alt, repeat, none, more}
+use Rattle.hs_base.proofs.ListLemmas.{each-append}
+use Rattle.hs_base.specs.Trees.{Tree, Trees, empty, class, points, assert, cat, alt, repeat, none, more, IsProper, AreProper}
 use Rattle.hs_base.specs.Spans.{Spans, CatSpans, Copies}
 use Rattle.hs_expr.specs.Meaning.{trees_of}
 use Rattle.hs_expr.specs.Items.{items_of, items_of_all, is_once, IsItem, HaveSameSpans}
@@ -112,10 +113,6 @@ mutual
 pub items-have_spans : (t : Tree) → HaveSameSpans (cat (trees_of (items_of t))) t
 items-have_spans t = λ w ended i j. (items-spans w ended t i j, spans-items w ended t i j)
 
-Each-append : {A : Type 0} (P : A → Type 0) (xs ys : List A) → Each P xs → Each P ys → Each P (xs ++ ys)
-Each-append P [] ys before behind = behind
-Each-append P (x ∷ xs) ys before behind = (before.0, Each-append P xs ys before.1 behind)
-
 repeat-Each : (body : Tree) (least : ℕ) (greatest : Option ℕ) (once : Bool) → is_once least greatest ≡ once →
     Each IsItem (items_of body) → Each IsItem (if once then items_of body else repeat body least greatest ∷ [])
 repeat-Each body least greatest true is inside = inside
@@ -136,7 +133,7 @@ mutual
   all_items-Each : (items : Trees) → Each IsItem (items_of_all items)
   all_items-Each none = tt
   all_items-Each (more item items) =
-      Each-append IsItem (items_of item) (items_of_all items) (items-Each item) (all_items-Each items)
+      each-append IsItem (items_of item) (items_of_all items) (items-Each item) (all_items-Each items)
 
 -- an item is its own only item
 items_of-item : (t : Tree) → IsItem t → items_of t ≡ t ∷ []
@@ -158,3 +155,25 @@ items_of_all-items (item ∷ items) each =
 -- opening the items again changes nothing
 pub items_of-again : (t : Tree) → items_of (cat (trees_of (items_of t))) ≡ items_of t
 items_of-again t = items_of_all-items (items_of t) (items-Each t)
+
+-- the values of the items are within their types
+proper-once : (body : Tree) (least : ℕ) (greatest : Option ℕ) (once : Bool) → IsProper (repeat body least greatest) →
+    Each IsProper (items_of body) → Each IsProper (if once then items_of body else repeat body least greatest ∷ [])
+proper-once body least greatest true whole inside = inside
+proper-once body least greatest false whole inside = (whole, tt)
+
+mutual
+  pub items-proper : (t : Tree) → IsProper t → Each IsProper (items_of t)
+  items-proper empty proper = tt
+  items-proper (class set) proper = (proper, tt)
+  items-proper (points ranges) proper = (proper, tt)
+  items-proper (assert assertion) proper = (proper, tt)
+  items-proper (cat items) proper = all_items-proper items proper
+  items-proper (alt items) proper = (proper, tt)
+  items-proper (repeat body least greatest) proper =
+      proper-once body least greatest (is_once least greatest) proper (items-proper body proper.0)
+
+  all_items-proper : (items : Trees) → AreProper items → Each IsProper (items_of_all items)
+  all_items-proper none proper = tt
+  all_items-proper (more item items) proper =
+      each-append IsProper (items_of item) (items_of_all items) (items-proper item proper.0) (all_items-proper items proper.1)

@@ -1,5 +1,6 @@
 pub mod CountLemmas
 pub mod EmptySpans
+pub mod EndLemmas
 pub mod ItemLemmas
 pub mod TreeLemmas
 pub mod WidthLemmas

@@ -1,13 +1,21 @@
 -- Counts over an expression: the widths of what it matches, in bytes, and its positions. They have no limit; what is
 -- answered is capped. A code point counts as one place of 1 to 4 bytes, as its encoding in UTF-8.
-use Rattle.std.specs.Prelude.{ℕ, zero, suc, ◌+◌, ◌*◌, ◌≤◌, min, max, List, [], ◌∷◌, sum, fold, Bool, Option, Some, None, IfSome}
+use Rattle.std.specs.Prelude.{ℕ, zero, suc, ◌+◌, ◌*◌, ◌≤◌, min, max, List, [], ◌∷◌, sum, fold, Bool, Option, Some, None}
+use Rattle.std.specs.Prelude.{IfSome}
 use Rattle.hs_base.specs.Trees.{Tree, Trees, empty, class, points, assert, cat, alt, repeat, none, more}
 use Rattle.hs_base.specs.Spans.{Spans}
-use Rattle.hs_expr.specs.declared.counts.TheConstants.{GREATEST_COUNT, LONGEST_ENCODING}
+
+-- the greatest count that is answered
+abbrev pub greatest_count : ℕ
+greatest_count = 0xFFFFFFFF
 
 -- a count as it is answered
 abbrev pub capped : ℕ → ℕ
-capped n = min n GREATEST_COUNT
+capped n = min n greatest_count
+
+-- the bytes of the longest encoding of a code point
+abbrev pub longest_encoding : ℕ
+longest_encoding = 4
 
 -- the least of some numbers; of none it is 0
 abbrev pub least_of : List ℕ → ℕ
@@ -56,7 +64,7 @@ abbrev mutual
   pub greatest_width : Tree → Option ℕ
   greatest_width empty = Some 0
   greatest_width (class set) = Some 1
-  greatest_width (points ranges) = Some LONGEST_ENCODING
+  greatest_width (points ranges) = Some longest_encoding
   greatest_width (assert assertion) = Some 0
   greatest_width (cat items) = fold add_bounds (Some 0) (greatest_widths items)
   greatest_width (alt items) = fold greater_bound (Some 0) (greatest_widths items)
@@ -89,4 +97,5 @@ abbrev mutual
 -- every span of the expression is as long as its widths say
 pub record IsWithinWidths (t : Tree) : Type 0 where
   pub least : (w : List ℕ) (ended : Bool) (i j : ℕ) → Spans w ended t i j → i + least_width t ≤ j
-  pub greatest : (w : List ℕ) (ended : Bool) (i j : ℕ) → Spans w ended t i j → IfSome (greatest_width t) (λ n. j ≤ i + n)
+  pub greatest : (w : List ℕ) (ended : Bool) (i j : ℕ) → Spans w ended t i j →
+      IfSome (greatest_width t) (λ n. j ≤ i + n)

@@ -114,8 +114,8 @@ fn repeated_width(body: Option<u32>, copies: Option<u32>) -> Option<u32>
     }
 }
 
-/// The places for a byte, with every repeat written out: `{n,m}` as m copies of its body, and `{n,}` as n copies, but at
-/// least one. A code point counts as one.
+/// The places for a byte, with every repeat written out: `{n,m}` as m copies of its body, and `{n,}` as n copies, but
+/// at least one. A code point counts as one.
 #[cycle(positions)]
 pub fn positions(expr: &Expr) -> u32
     ensures { result ≡ capped (positions (tree_of expr.now)) }

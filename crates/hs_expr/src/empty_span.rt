@@ -1,10 +1,11 @@
 //! Whether an expression matches the empty text.
-ghost use Rattle.std.specs.Prelude.{◌≤◌, ◌↔◌, true, [], map, IfSome, IsTrue};
+ghost use Rattle.std.specs.Prelude.{◌↔◌, true, [], map, IsTrue};
 ghost use Rattle.hs_base.specs.Assertions.{Holds};
 ghost use Rattle.hs_base.specs.Spans.{Spans, CatSpans, AltSpans};
 ghost use Rattle.hs_expr.specs.Meaning.{tree_of, trees_of};
 
 use crate::expr::Expr;
+use crate::plain::allows_copies;
 use hs_base::Assertion;
 
 /// Whether the expression matches the empty text: has a span from 0 to 0 in the stream that has no byte and has ended.
@@ -63,15 +64,5 @@ fn holds_without_bytes(assertion: Assertion) -> bool
         Assertion::StreamEnd => true,
         Assertion::WordBoundary => false,
         Assertion::NotWordBoundary => true,
-    }
-}
-
-/// Whether some number of copies lies between the bounds: the least one then does.
-fn allows_copies(least: u32, greatest: Option<u32>) -> bool
-    ensures { IsTrue result ↔ IfSome greatest (λ bound. least ≤ bound) }
-{
-    match greatest {
-        None => true,
-        Some(bound) => least <= bound,
     }
 }

@@ -1,6 +1,7 @@
 //! The items of a concatenation.
 ghost use Rattle.std.specs.Prelude.{◌≡◌, ◌∷◌, ◌++◌, [], map, IfOk};
-ghost use Rattle.hs_base.specs.Trees.{cat};
+ghost use Rattle.hs_base.specs.Lists.{Each};
+ghost use Rattle.hs_base.specs.Trees.{cat, IsProper};
 ghost use Rattle.hs_expr.specs.Meaning.{tree_of, trees_of};
 ghost use Rattle.hs_expr.specs.Items.{items_of, items_of_all, is_once, HaveSameSpans};
 
@@ -13,6 +14,8 @@ pub fn flatten(alloc: Global, expr: &Expr) -> Result<Vec<Expr>, AllocError>
     ensures items { IfOk result (λ items. map tree_of items.items ≡ items_of (tree_of expr.now)) }
     ensures spans { IfOk result
         (λ items. HaveSameSpans (cat (trees_of (map tree_of items.items))) (tree_of expr.now)) }
+    ensures proper { IfOk result
+        (λ items. IsProper (tree_of expr.now) → Each IsProper (map tree_of items.items)) }
 {
     let mut items = Vec::new(alloc);
     push_items(alloc, expr, &mut items)?;

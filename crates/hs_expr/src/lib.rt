@@ -4,16 +4,20 @@
 
 mod counts;
 mod empty_span;
+mod ends;
 mod expr;
 mod items;
 mod laws;
+mod plain;
 
 pub use counts::{GREATEST_COUNT, LONGEST_ENCODING, greatest_width, least_width, positions};
 pub use empty_span::matches_empty;
+pub use ends::has_embedded_end;
 pub use expr::Expr;
 pub use hs_base::Assertion;
 pub use items::flatten;
 pub use laws::{items_stay_as_they_are, spans_are_within_widths};
+pub use plain::is_plain;
 
 #[cfg(test)]
 mod tests;

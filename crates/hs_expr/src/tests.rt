@@ -1,101 +1,194 @@
-use crate::{Assertion, Expr, flatten, greatest_width, least_width, matches_empty, positions};
+//! What is counted and asked of trees, and the items that they are flattened to: rows that one test reads.
+use crate::{
+    Assertion, Expr, flatten, greatest_width, has_embedded_end, is_plain, least_width,
+    matches_empty, positions,
+};
 use hs_base::ByteSet;
-use std::alloc::Global;
+use std::alloc::{AllocError, Global};
+use std::process::Abort;
 use std::test::Fail;
 
-/// What is counted of an expression.
-#[derive(Debug, PartialEq, Eq, Clone, Copy)]
-struct Counts {
-    least: u32,
-    greatest: Option<u32>,
-    positions: u32,
-    empty: bool,
-}
+/// A tree, its least width, its greatest one or `none`, its positions, and what holds of it: `e` that it matches the
+/// empty text, `x` that bytes may be consumed behind an assertion of the stream's end, `p` that it is plain.
+///
+/// In a tree `(..)` is a concatenation and `[..]` an alternation. Behind an item stand `*`, `+`, `?`, `=` for three to
+/// five copies, `!` for three to one, `~` for two and more, `#` for 32,767, or a digit for as many. `_` is the empty
+/// text, `.` every byte but the line feed, `@` some code points, `<`, `^`, `$`, `&`, `>`, `%` and `-` are assertions,
+/// and any other byte is itself.
+const FACTS: &[u8] = b"\
+_ 0 0 0 e p\n\
+a 1 1 1 p\n\
+@ 1 4 1\n\
+$ 0 0 0 e p\n\
+% 0 0 0 p\n\
+() 0 0 0 e p\n\
+(abc) 3 3 3 p\n\
+(a_) 1 1 1 p\n\
+($_) 0 0 0 e p\n\
+(foo.*bar) 6 none 7 p\n\
+[] 0 0 0 p\n\
+[(bcd)a] 1 3 4 p\n\
+[a_] 0 1 1 e p\n\
+[%a] 0 1 1 p\n\
+[a*b] 0 none 2 e p\n\
+a* 0 none 1 e p\n\
+a+ 1 none 1 p\n\
+a? 0 1 1 e p\n\
+a= 3 5 5 p\n\
+(ab)~ 4 none 4 p\n\
+a0 0 0 0 e p\n\
+a*0 0 0 0 e p\n\
+$*~ 0 0 0 e p\n\
+%2 0 0 0 p\n\
+_! 0 0 0\n\
+a! 3 1 1\n\
+a## 1073676289 1073676289 1073676289 p\n\
+a##4 4294705156 4294705156 4294705156 p\n\
+a##5 4294967295 4294967295 4294967295 p\n\
+a##50 0 0 0 e p\n\
+(a##4a##) 4294967295 4294967295 4294967295 p\n\
+[a##4a##] 1073676289 4294705156 4294967295 p\n\
+< 0 0 0 e p\n\
+^ 0 0 0 e p\n\
+& 0 0 0 e p\n\
+> 0 0 0 e p\n\
+- 0 0 0 e p\n\
+(&a) 1 1 1 x p\n\
+(a&) 1 1 1 p\n\
+($a) 1 1 1 p\n\
+[(>a)b] 1 1 2 x p\n\
+(>a)0 0 0 0 e p\n\
+(>a?) 0 1 1 e x p\n\
+(a&)? 0 1 1 e p\n\
+(a&)* 0 none 1 e x p\n\
+(a>)2 2 2 2 x p\n\
+";
 
-impl Counts {
-    fn of(expr: &Expr) -> Counts {
-        Counts {
-            least: least_width(expr),
-            greatest: greatest_width(expr),
-            positions: positions(expr),
-            empty: matches_empty(expr),
-        }
-    }
-}
+/// A tree, and a letter for the node of each of its items.
+const ITEMS: &[u8] = b"\
+(foo.*bar) cccrccc\n\
+_ \n\
+() \n\
+a c\n\
+@ p\n\
+% s\n\
+((ab)11(_c)) ccc\n\
+((ab)2a0) rr\n\
+a+ r\n\
+(a?[a_]1) ra\n\
+((((a)))) c\n\
+";
 
-/// The lists of items that are open while a tree is read, the innermost last.
+/// The trees that are read and in no list yet, and how many of them stood before each list that is open.
 #[derive(Drop)]
-struct Open {
-    outer: Vec<Vec<Expr>>,
-    items: Vec<Expr>,
+struct Reading {
+    trees: Vec<Expr>,
+    open: Vec<usize>,
 }
 
-impl Open {
-    fn begin(&mut self, alloc: Global) -> Result<(), Fail> {
-        let items = std::mem::replace(&mut self.items, Vec::new(alloc));
-        self.outer.push(items)?;
-        Ok(())
+impl Reading {
+    /// The trees of the innermost list, which ends.
+    fn close(&mut self, alloc: Global) -> Result<Vec<Expr>, AllocError> {
+        let mut items = Vec::new(alloc);
+        let before = self.open.pop().unwrap_or(0);
+        for _ in before..self.trees.len() {
+            if let Some(item) = self.trees.pop() {
+                items.insert(0, item)?;
+            }
+        }
+        Ok(items)
     }
 
-    fn end(&mut self) -> Result<Vec<Expr>, Fail> {
-        let outer = self.outer.pop().ok_or("nothing is open")?;
-        Ok(std::mem::replace(&mut self.items, outer))
-    }
-
-    fn repeat(&mut self, alloc: Global, least: u32, greatest: Option<u32>) -> Result<Expr, Fail> {
-        let body = self.items.pop().ok_or("nothing is repeated")?;
+    /// Copies of the tree that is read last.
+    fn repeat(
+        &mut self,
+        alloc: Global,
+        least: u32,
+        greatest: Option<u32>,
+    ) -> Result<Expr, AllocError> {
+        let body = self.trees.pop().unwrap_or(Expr::Empty);
         Ok(Expr::Repeat(Box::new(alloc, body)?, least, greatest))
     }
-}
 
-/// One node, which a byte ends.
-fn node(alloc: Global, open: &mut Open, byte: u8) -> Result<Expr, Fail> {
-    Ok(match byte {
-        b')' => Expr::Cat(open.end()?),
-        b']' => Expr::Alt(open.end()?),
-        b'*' => open.repeat(alloc, 0, None)?,
-        b'+' => open.repeat(alloc, 1, None)?,
-        b'?' => open.repeat(alloc, 0, Some(1))?,
-        b'0'..=b'9' => {
-            let copies = u32::from(byte - b'0');
-            open.repeat(alloc, copies, Some(copies))?
-        }
-        b'#' => open.repeat(alloc, 32_767, Some(32_767))?,
-        b'=' => open.repeat(alloc, 3, Some(5))?,
-        b'!' => open.repeat(alloc, 3, Some(1))?,
-        b'~' => open.repeat(alloc, 2, None)?,
-        b'_' => Expr::Empty,
-        b'.' => Expr::Class(ByteSet::NOT_NEWLINE),
-        b'$' => Expr::Assert(Assertion::LineEnd),
-        b'%' => Expr::Assert(Assertion::WordBoundary),
-        b'@' => Expr::Points(Vec::from_slice(alloc, &[(0x80, 0x7ff)])?),
-        _ => Expr::Class(ByteSet::of(byte)),
-    })
-}
-
-/// A tree from its text: `(..)` is a concatenation, `[..]` an alternative of items, a digit d is `{d,d}` of the item
-/// before it, `#` is `{32767,32767}`, `=` is `{3,5}`, `!` is `{3,1}`, `~` is `{2,}`, `_` the empty text, `%` is `\b`,
-/// `@` some code points, and a letter its byte.
-fn tree(alloc: Global, text: &str) -> Result<Expr, Fail> {
-    let mut open = Open {
-        outer: Vec::new(alloc),
-        items: Vec::new(alloc),
-    };
-    for byte in text.as_bytes() {
-        if *byte == b'(' || *byte == b'[' {
-            open.begin(alloc)?;
-        } else {
-            let item = node(alloc, &mut open, *byte)?;
-            open.items.push(item)?;
+    /// The node that a byte ends.
+    fn node(&mut self, alloc: Global, byte: u8) -> Result<Expr, AllocError> {
+        match byte {
+            b')' => Ok(Expr::Cat(self.close(alloc)?)),
+            b']' => Ok(Expr::Alt(self.close(alloc)?)),
+            b'*' => self.repeat(alloc, 0, None),
+            b'+' => self.repeat(alloc, 1, None),
+            b'?' => self.repeat(alloc, 0, Some(1)),
+            b'=' => self.repeat(alloc, 3, Some(5)),
+            b'!' => self.repeat(alloc, 3, Some(1)),
+            b'~' => self.repeat(alloc, 2, None),
+            b'#' => self.repeat(alloc, 32_767, Some(32_767)),
+            b'0'..=b'9' => {
+                let copies = u32::from(byte - b'0');
+                self.repeat(alloc, copies, Some(copies))
+            }
+            b'@' => Ok(Expr::Points(vec![in alloc; (0x80, 0x7FF)]?)),
+            _ => Ok(leaf(byte)),
         }
     }
-    Ok(open.items.pop().ok_or("no tree")?)
 }
 
-/// One letter for each item: the kind of its node.
-fn kinds(alloc: Global, items: &[Expr]) -> Result<String, Fail> {
+/// The tree of a byte that stands alone.
+fn leaf(byte: u8) -> Expr {
+    match byte {
+        b'_' => Expr::Empty,
+        b'.' => Expr::Class(ByteSet::NOT_NEWLINE),
+        b'<' => Expr::Assert(Assertion::StreamStart),
+        b'^' => Expr::Assert(Assertion::LineStart),
+        b'$' => Expr::Assert(Assertion::LineEnd),
+        b'&' => Expr::Assert(Assertion::EndOrFinalNewline),
+        b'>' => Expr::Assert(Assertion::StreamEnd),
+        b'%' => Expr::Assert(Assertion::WordBoundary),
+        b'-' => Expr::Assert(Assertion::NotWordBoundary),
+        _ => Expr::Class(ByteSet::of(byte)),
+    }
+}
+
+fn tree(alloc: Global, text: &[u8]) -> Result<Expr, AllocError> {
+    let mut reading = Reading {
+        trees: Vec::new(alloc),
+        open: Vec::new(alloc),
+    };
+    for byte in text {
+        if matches!(*byte, b'(' | b'[') {
+            let before = reading.trees.len();
+            reading.open.push(before)?;
+        } else {
+            let made = reading.node(alloc, *byte)?;
+            reading.trees.push(made)?;
+        }
+    }
+    Ok(reading.trees.pop().unwrap_or(Expr::Empty))
+}
+
+/// The counts of a tree and what holds of it, as they stand in a row.
+fn facts(alloc: Global, expr: &Expr) -> Result<String, AllocError> {
+    let least = least_width(expr);
+    let count = positions(expr);
+    let mut text = match greatest_width(expr) {
+        Some(greatest) => format!(in alloc; "{least} {greatest} {count}")?,
+        None => format!(in alloc; "{least} none {count}")?,
+    };
+    if matches_empty(expr) {
+        text.push_str(" e")?;
+    }
+    if has_embedded_end(expr, false) {
+        text.push_str(" x")?;
+    }
+    if is_plain(expr) {
+        text.push_str(" p")?;
+    }
+    Ok(text)
+}
+
+/// One letter for each item of a tree: the kind of its node.
+fn kinds(alloc: Global, expr: &Expr) -> Result<String, AllocError> {
     let mut text = String::new(alloc);
-    for item in items {
+    for item in &flatten(alloc, expr)? {
         text.push(match item {
             Expr::Empty => 'e',
             Expr::Class(_) => 'c',
@@ -109,107 +202,43 @@ fn kinds(alloc: Global, items: &[Expr]) -> Result<String, Fail> {
     Ok(text)
 }
 
-#[test]
-fn counts_by_the_rules(rt: HostRuntime) -> Result<(), Fail> {
-    let cap = Some(u32::MAX);
-    let table = [
-        ("_", 0, Some(0), 0, true),
-        ("a", 1, Some(1), 1, false),
-        ("@", 1, Some(4), 1, false),
-        ("$", 0, Some(0), 0, true),
-        ("%", 0, Some(0), 0, false),
-        ("()", 0, Some(0), 0, true),
-        ("(abc)", 3, Some(3), 3, false),
-        ("(a_)", 1, Some(1), 1, false),
-        ("($_)", 0, Some(0), 0, true),
-        ("(foo.*bar)", 6, None, 7, false),
-        ("[]", 0, Some(0), 0, false),
-        ("[(bcd)a]", 1, Some(3), 4, false),
-        ("[a_]", 0, Some(1), 1, true),
-        ("[%a]", 0, Some(1), 1, false),
-        ("[a*b]", 0, None, 2, true),
-        ("a*", 0, None, 1, true),
-        ("a+", 1, None, 1, false),
-        ("a?", 0, Some(1), 1, true),
-        ("a=", 3, Some(5), 5, false),
-        ("(ab)~", 4, None, 4, false),
-        ("a0", 0, Some(0), 0, true),
-        ("a*0", 0, Some(0), 0, true),
-        ("$*~", 0, Some(0), 0, true),
-        ("%2", 0, Some(0), 0, false),
-        ("_!", 0, Some(0), 0, false),
-        ("a!", 3, Some(1), 1, false),
-        (
-            "a##",
-            1_073_676_289,
-            Some(1_073_676_289),
-            1_073_676_289,
-            false,
-        ),
-        (
-            "a##4",
-            4_294_705_156,
-            Some(4_294_705_156),
-            4_294_705_156,
-            false,
-        ),
-        ("a##5", u32::MAX, cap, u32::MAX, false),
-        ("a##50", 0, Some(0), 0, true),
-        ("(a##4a##)", u32::MAX, cap, u32::MAX, false),
-        (
-            "[a##4a##]",
-            1_073_676_289,
-            Some(4_294_705_156),
-            u32::MAX,
-            false,
-        ),
-    ];
-    for (text, least, greatest, positions, empty) in table {
-        let wanted = Counts {
-            least,
-            greatest,
-            positions,
-            empty,
-        };
-        assert_eq!(rt; Counts::of(&tree(rt.alloc(), text)?), wanted, "{text}");
+/// The bytes before the first mark, and those behind it.
+fn cut(bytes: &[u8], mark: u8) -> (&[u8], &[u8]) {
+    match bytes.iter().position(|byte| *byte == mark) {
+        Some(at) => (&bytes[..at], &bytes[at + 1..]),
+        None => (bytes, &[]),
+    }
+}
+
+/// Checks a row of the facts or of the items.
+fn check(rt: &impl Abort, alloc: Global, counted: bool, row: &[u8]) -> Result<(), Fail> {
+    let (text, wanted) = cut(row, b' ');
+    let expr = tree(alloc, text)?;
+    let found = if counted {
+        facts(alloc, &expr)?
+    } else {
+        kinds(alloc, &expr)?
+    };
+    assert!(rt; found.as_bytes() == wanted, "{text:?} gives {found}");
+    Ok(())
+}
+
+/// Checks the rows of a table.
+fn check_all(rt: &impl Abort, alloc: Global, counted: bool, rows: &[u8]) -> Result<(), Fail> {
+    let mut rest = rows;
+    for _ in 0..rows.len() {
+        if rest.is_empty() {
+            break;
+        }
+        let (row, behind) = cut(rest, b'\n');
+        check(rt, alloc, counted, row)?;
+        rest = behind;
     }
     Ok(())
 }
 
 #[test]
-fn only_a_word_boundary_needs_a_byte(rt: HostRuntime) {
-    let table = [
-        (Assertion::StreamStart, true),
-        (Assertion::LineStart, true),
-        (Assertion::LineEnd, true),
-        (Assertion::EndOrFinalNewline, true),
-        (Assertion::StreamEnd, true),
-        (Assertion::WordBoundary, false),
-        (Assertion::NotWordBoundary, true),
-    ];
-    for (assertion, empty) in table {
-        assert_eq!(rt; matches_empty(&Expr::Assert(assertion)), empty);
-    }
-}
-
-#[test]
-fn flattens_to_items(rt: HostRuntime) -> Result<(), Fail> {
-    let table = [
-        ("(foo.*bar)", "cccrccc"),
-        ("_", ""),
-        ("()", ""),
-        ("a", "c"),
-        ("@", "p"),
-        ("%", "s"),
-        ("((ab)11(_c))", "ccc"),
-        ("((ab)2a0)", "rr"),
-        ("a+", "r"),
-        ("(a?[a_]1)", "ra"),
-        ("((((a))))", "c"),
-    ];
-    for (text, wanted) in table {
-        let items = flatten(rt.alloc(), &tree(rt.alloc(), text)?)?;
-        assert_eq!(rt; kinds(rt.alloc(), &items)?.as_str(), wanted, "{text}");
-    }
-    Ok(())
+fn counts_and_flattens_by_the_rules(rt: HostRuntime) -> Result<(), Fail> {
+    check_all(&rt, rt.alloc(), true, FACTS)?;
+    check_all(&rt, rt.alloc(), false, ITEMS)
 }

@@ -21,7 +21,8 @@ added_by rows place (suc count) (suc k) = bit_or (cell rows place (suc k)) (adde
 
 -- what the super-characters of some bytes say
 abbrev pub rows_of : Tables → List ℕ → ℕ → ℕ → ℕ
-rows_of tables bytes place j = mask_of tables j (super_character (width_of tables) (slice_index bytes place) (slice_index bytes (place + 1)))
+rows_of tables bytes place j =
+    mask_of tables j (super_character (width_of tables) (slice_index bytes place) (slice_index bytes (place + 1)))
 
 -- what those of a text say that stands before the byte `next`
 abbrev pub text_rows : Tables → List ℕ → (next : ℕ) → ℕ → ℕ → ℕ

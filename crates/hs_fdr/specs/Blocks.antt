@@ -1,6 +1,7 @@
 -- The masks of a block of a text. A mask has a bit for each bucket of literals; where it is 0 the bucket may have a
 -- literal that ends at the place.
-use Rattle.std.specs.Prelude.{ℕ, ◌+◌, ◌-◌, ◌*◌, ◌%◌, ◌^◌, List, [], ◌∷◌, ◌++◌, length, map, Option, Some, None, slice_index, nat_le, nat_lt, bit_or, if◌then◌else◌}
+use Rattle.std.specs.Prelude.{ℕ, ◌+◌, ◌-◌, ◌*◌, ◌%◌, ◌^◌, List, [], ◌∷◌, ◌++◌, length, map, Option, Some, None}
+use Rattle.std.specs.Prelude.{slice_index, nat_le, nat_lt, bit_or, if◌then◌else◌}
 use Rattle.std.specs.List.{slice_index_or, range_with_len}
 
 -- a byte, and above it the low bits of the byte behind it
@@ -32,4 +33,5 @@ byte_or_zero (Some b) = b
 -- the mask of each of 64 places of a block behind the bytes before it, FF from the block's end on
 unfoldable pub block_masks : (mask : ℕ → ℕ → ℕ) (width : ℕ) → (before block : List ℕ) → Option ℕ → List ℕ
 block_masks mask width before block next =
-    map (λ i. if nat_lt i (length block) then mask_at mask width (before ++ block) (byte_or_zero next) (length before + i) else 255) (range_with_len 0 64)
+    map (λ i. if nat_lt i (length block) then mask_at mask width (before ++ block) (byte_or_zero next)
+    (length before + i) else 255) (range_with_len 0 64)

@@ -9,4 +9,5 @@ pub record HasLanes (lanes : List ℕ) (f : ℕ → ℕ) : Type 0 where
 -- of 64 places, as many as `count` from one on were given the first lanes, and the others stayed
 abbrev pub IsStored : (lanes : List ℕ) (count at : ℕ) (old new : List ℕ) → Type 0
 IsStored lanes count at old new =
-    (i : ℕ) → i < 64 → slice_index new i ≡ (if nat_le at i && nat_lt i (at + count) then slice_index lanes (i - at) else slice_index old i)
+    (i : ℕ) → i < 64 → slice_index new
+    i ≡ (if nat_le at i && nat_lt i (at + count) then slice_index lanes (i - at) else slice_index old i)

@@ -12,9 +12,9 @@ use crate::plain::{byte_at, or_zero};
 use crate::tables::{BLOCK_LEN, PLACES, Tables};
 use std::simd::prelude::*;
 
-/// The masks of a block of at most 64 bytes, behind at most seven bytes that stand before it and before `next`. Place `i`
-/// has a 0 for each bucket that may have a literal whose last byte is byte `i` of the block, and FF stands at the places
-/// behind the block.
+/// The masks of a block of at most 64 bytes, behind at most seven bytes that stand before it and before `next`. Place
+/// `i` has a 0 for each bucket that may have a literal whose last byte is byte `i` of the block, and FF stands at the
+/// places behind the block.
 pub fn scan_block(
     tables: &Tables,
     before: &[u8],
@@ -70,7 +70,8 @@ fn store_each(lanes: u8x16, count: usize, out: &mut [u8; BLOCK_LEN], at: usize)
 #[inline(always)]
 fn ahead_of(tables: &Tables, before: &[u8], block: &[u8], next: u8) -> u8x16
     requires { length before.now ≤ 7 }
-    ensures { HasLanes result (λ k. added (text_rows tables.now (before.now ++ block.now) next) (length before.now) (length before.now + k)) }
+    ensures { HasLanes result
+        (λ k. added (text_rows tables.now (before.now ++ block.now) next) (length before.now) (length before.now + k)) }
 {
     if before.len() == PLACES - 1 {
         let first = byte_at(before, block, next, PLACES - 1);
@@ -96,7 +97,8 @@ fn behind_one(before: &[u8], first: u8) -> [u8; 9]
 /// The same one byte after the other, as at the beginning of a text.
 fn ahead_of_few(tables: &Tables, before: &[u8], block: &[u8], next: u8) -> u8x16
     requires { length before.now ≤ 7 }
-    ensures { HasLanes result (λ k. added (text_rows tables.now (before.now ++ block.now) next) (length before.now) (length before.now + k)) }
+    ensures { HasLanes result
+        (λ k. added (text_rows tables.now (before.now ++ block.now) next) (length before.now) (length before.now + k)) }
 {
     let mut ahead = u8x16::splat(0);
     for place in 0..before.len() {

@@ -61,7 +61,8 @@ fn mask_at_place(tables: &Tables, before: &[u8], block: &[u8], next: u8, place: 
 fn mask_or_ones(tables: &Tables, before: &[u8], block: &[u8], next: u8, place: usize) -> u8
     requires before { length before.now ≤ 7 }
     requires block { length block.now ≤ 64 }
-    ensures { result ≡ (if nat_lt place (length block.now) then mask_at (mask_of tables.now) (width_of tables.now) (before.now ++ block.now) next (length before.now + place) else 255) }
+    ensures { result ≡ (if nat_lt place (length block.now) then mask_at (mask_of tables.now) (width_of tables.now)
+        (before.now ++ block.now) next (length before.now + place) else 255) }
 {
     if place < block.len() {
         mask_at_place(tables, before, block, next, before.len() + place)

@@ -14,8 +14,8 @@ pub const PLACES: usize = 8;
 /// How many places a block has at most.
 pub const BLOCK_LEN: usize = 64;
 
-/// For each super-character and each of the eight places from it on, which buckets can't have a literal that ends there:
-/// a bit that is 0 says that its bucket may have one.
+/// For each super-character and each of the eight places from it on, which buckets can't have a literal that ends
+/// there: a bit that is 0 says that its bucket may have one.
 #[derive(Debug, Drop)]
 pub struct Tables {
     /// The width of a super-character, in bits.
@@ -33,8 +33,8 @@ impl Tables {
     ghost use Rattle.hs_fdr.specs.Masks.{mask_of, width_of, IsRow};
     ghost use Rattle.hs_fdr.specs.Blocks.{super_character};
 
-    /// The tables of masks that are given by place and then by super-character: that of place `j` and super-character `v`
-    /// is at `j * 2^width + v`.
+    /// The tables of masks that are given by place and then by super-character: that of place `j` and super-character
+    /// `v` is at `j * 2^width + v`.
     ///
     /// # Errors
     ///
@@ -43,7 +43,8 @@ impl Tables {
         requires width_fits { (9 ≤ width) × (width ≤ 15) }
         requires filled { length masks.now ≡ 8 * 2 ^ width }
         ensures width { IfOk result (λ tables. width_of tables ≡ width) }
-        ensures masks { IfOk result (λ tables. (j v : ℕ) → j < 8 → v < 2 ^ width → mask_of tables j v ≡ slice_index masks.now (j * 2 ^ width + v)) }
+        ensures masks { IfOk result (λ tables. (j v : ℕ) → j < 8 → v < 2 ^ width →
+            mask_of tables j v ≡ slice_index masks.now (j * 2 ^ width + v)) }
     {
         let count = 1usize << width;
         let mut rows = Vec::with_capacity(alloc, masks.len())?;
@@ -86,7 +87,8 @@ impl Tables {
     #[inline(always)]
     fn super_character_at(&self, bytes: &[u8], at: usize) -> usize
         requires { at + 2 ≤ length bytes.now }
-        ensures value { result ≡ super_character (width_of self.now) (slice_index bytes.now at) (slice_index bytes.now (at + 1)) }
+        ensures value { result ≡ super_character (width_of self.now) (slice_index bytes.now at)
+            (slice_index bytes.now (at + 1)) }
         ensures small { result < 2 ^ width_of self.now }
     {
         let pair = u16x1::from_le_bytes(u8x2::from_slice(&bytes[at..]));
@@ -119,7 +121,8 @@ impl Tables {
     #[inline(always)]
     pub(crate) fn row_at(&self, bytes: &[u8], at: usize) -> u8x16
         requires { at + 2 ≤ length bytes.now }
-        ensures { IsRow self.now (super_character (width_of self.now) (slice_index bytes.now at) (slice_index bytes.now (at + 1))) result }
+        ensures { IsRow self.now
+            (super_character (width_of self.now) (slice_index bytes.now at) (slice_index bytes.now (at + 1))) result }
     {
         self.masks_of(self.super_character_at(bytes, at))
     }

@@ -1,3 +1,4 @@
+//! The masks of blocks by lanes, beside the plain loop.
 ghost use Rattle.std.specs.Prelude.{◌≡◌, ◌≤◌, ◌*◌, ◌^◌, IfOk, length, vec_len};
 
 use crate::{PLACES, Tables, plain_block, scan_block};

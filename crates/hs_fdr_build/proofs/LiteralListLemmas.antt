@@ -7,16 +7,15 @@ use Rattle.std.specs.declared.alloc.Global.{Global}
 use Rattle.std.proofs.lemmas.Option.{slice_get-map, slice_get-get_or, slice_get_within}
 use Rattle.hs_base.specs.declared.literal.LitByte.{LitByte}
 use Rattle.hs_base.specs.Literals.{LiteralByte}
-use Rattle.hs_base.specs.LiteralView.{literal_byte}
-use Rattle.hs_fdr_build.specs.Asking.{literal_of}
+use Rattle.hs_base.specs.LiteralView.{literal_byte, literal_bytes}
 use Rattle.hs_fdr_build.specs.Clearing.{Clears}
 use Rattle.hs_fdr_build.specs.MaskPlaces.{IsAskedBy}
 use Rattle.hs_fdr_build.proofs.ClearLemmas.{FromBelow, from_below-more, clears-map}
 
 -- the literal of that number, as plain data
-pub literal-there : (xs : List (Vec LitByte Global)) (n : ℕ) (v d : Vec LitByte Global) (items : List LitByte) → n < length xs → v ≡ get_or xs n d → items ≡ v.items → slice_get (map literal_of xs) n ≡ Some (map literal_byte items)
+pub literal-there : (xs : List (Vec LitByte Global)) (n : ℕ) (v d : Vec LitByte Global) (items : List LitByte) → n < length xs → v ≡ get_or xs n d → items ≡ v.items → slice_get (map literal_bytes xs) n ≡ Some (map literal_byte items)
 literal-there xs n v d items below read same =
-    slice_get-map literal_of xs n ∙ ap (option_map literal_of) (slice_get-get_or xs n d below) ∙ ap (λ w. Some (literal_of w)) (sym read) ∙ ap (λ w. Some (map literal_byte w)) (sym same)
+    slice_get-map literal_bytes xs n ∙ ap (option_map literal_bytes) (slice_get-get_or xs n d below) ∙ ap (λ w. Some (literal_bytes w)) (sym read) ∙ ap (λ w. Some (map literal_byte w)) (sym same)
 
 module _ (Asks : List LiteralByte → ℕ → Type 0) (literals : List (List LiteralByte)) (buckets : List ℕ) where
   -- by the literal of that number

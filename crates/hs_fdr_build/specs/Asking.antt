@@ -1,17 +1,9 @@
 -- Which bits of masks a list of literals in buckets asks to be 0.
-use Rattle.std.specs.Prelude.{◌≡◌, ◌↔◌, ℕ, ◌-◌, ◌/◌, ◌%◌, ◌^◌, ◌<◌, ◌≤◌, List, length, map, Some, IsTrue, slice_get}
+use Rattle.std.specs.Prelude.{◌≡◌, ◌↔◌, ℕ, ◌-◌, ◌/◌, ◌%◌, ◌^◌, ◌<◌, ◌≤◌, List, length, Some, IsTrue, slice_get}
 use Rattle.std.specs.Int.{bit_at}
-use Rattle.std.specs.declared.vec.Vec.{Vec}
-use Rattle.std.specs.declared.alloc.Global.{Global}
-use Rattle.hs_base.specs.declared.literal.LitByte.{LitByte}
 use Rattle.hs_base.specs.Literals.{LiteralByte, takes}
-use Rattle.hs_base.specs.LiteralView.{literal_byte}
 use Rattle.hs_fdr.specs.declared.tables.Tables.{Tables}
 use Rattle.hs_fdr.specs.Masks.{mask_of, width_of}
-
--- a literal as plain data
-abbrev pub literal_of : Vec LitByte Global → List LiteralByte
-literal_of literal = map literal_byte literal.items
 
 -- the literal has a byte j places before its last one, and takes this one there
 pub record TakesBefore (literal : List LiteralByte) (j byte : ℕ) : Type 0 where
@@ -20,15 +12,17 @@ pub record TakesBefore (literal : List LiteralByte) (j byte : ℕ) : Type 0 wher
   pub within : j < length literal
   pub taken : IsTrue (takes place byte)
 
--- The super-character v may stand j places before the literal's last byte: any does where it doesn't reach as far. Else it
--- takes its byte there, and its further bits are those of a byte that it takes one place later.
+-- The super-character v may stand j places before the literal's last byte: any does where it doesn't reach as far. Else
+-- it takes its byte there, and its further bits are those of a byte that it takes one place later.
 pub data MayStand (width : ℕ) (literal : List LiteralByte) (j v : ℕ) : Type 0 where
   beyond : length literal ≤ j → MayStand width literal j v
   last : j ≡ 0 → TakesBefore literal j (v % 256) → MayStand width literal j v
-  inner : 0 < j → TakesBefore literal j (v % 256) → (after : ℕ) → TakesBefore literal (j - 1) after → v / 256 ≡ after % 2 ^ (width - 8) → MayStand width literal j v
+  inner : 0 < j → TakesBefore literal j (v % 256) → (after : ℕ) → TakesBefore literal (j - 1) after →
+      v / 256 ≡ after % 2 ^ (width - 8) → MayStand width literal j v
 
 -- the literal stands in the list, in that bucket
-pub record StandsIn (literals : List (List LiteralByte)) (buckets : List ℕ) (bucket : ℕ) (literal : List LiteralByte) : Type 0 where
+pub record StandsIn (literals : List (List LiteralByte)) (buckets : List ℕ) (bucket : ℕ)
+    (literal : List LiteralByte) : Type 0 where
   pub number : ℕ
   pub is : slice_get literals number ≡ Some literal
   pub goes : slice_get buckets number ≡ Some bucket
@@ -41,4 +35,5 @@ pub record IsAsked (width : ℕ) (literals : List (List LiteralByte)) (buckets :
 
 -- a bit of the tables' masks is 0 exactly where a literal of its bucket asks for it
 pub record AreTablesOf (literals : List (List LiteralByte)) (buckets : List ℕ) (tables : Tables) : Type 0 where
-  pub each : (bucket j v : ℕ) → bucket < 8 → j < 8 → v < 2 ^ width_of tables → (bit_at (mask_of tables j v) bucket ≡ 0) ↔ IsAsked (width_of tables) literals buckets bucket j v
+  pub each : (bucket j v : ℕ) → bucket < 8 → j < 8 → v < 2 ^ width_of tables →
+      (bit_at (mask_of tables j v) bucket ≡ 0) ↔ IsAsked (width_of tables) literals buckets bucket j v

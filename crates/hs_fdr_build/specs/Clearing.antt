@@ -9,4 +9,5 @@ IsClear masks at bucket = bit_at (slice_index masks at) bucket ≡ 0
 -- of the masks, exactly those bits more are 0
 pub record Clears (Q : ℕ → ℕ → Type 0) (old new : List ℕ) : Type 0 where
   pub alike : length new ≡ length old
-  pub each : (at bucket : ℕ) → at < length old → bucket < 8 → IsClear new at bucket ↔ (IsClear old at bucket ⊎ Q at bucket)
+  pub each : (at bucket : ℕ) → at < length old → bucket < 8 →
+      IsClear new at bucket ↔ (IsClear old at bucket ⊎ Q at bucket)

@@ -4,7 +4,8 @@ use Rattle.hs_base.specs.Literals.{LiteralByte}
 use Rattle.hs_fdr_build.specs.Asking.{MayStand, StandsIn, IsAsked}
 use Rattle.hs_fdr_build.specs.Clearing.{IsClear}
 
--- the literal reaches j places before its last byte, and a super-character that may stand there has its mask at that place
+-- the literal reaches j places before its last byte, and a super-character that may stand there has its mask at that
+-- place
 pub record IsPlaceOf (width : ℕ) (literal : List LiteralByte) (j place : ℕ) : Type 0 where
   pub v : ℕ
   pub small : v < 2 ^ width
@@ -14,7 +15,8 @@ pub record IsPlaceOf (width : ℕ) (literal : List LiteralByte) (j place : ℕ) 
 
 -- some literal of the bucket asks for the place, by a relation of literals to places
 abbrev pub IsAskedBy : (List LiteralByte → ℕ → Type 0) → List (List LiteralByte) → List ℕ → (place bucket : ℕ) → Type 0
-IsAskedBy Asks literals buckets place bucket = (literal : List LiteralByte) × StandsIn literals buckets bucket literal × Asks literal place
+IsAskedBy Asks literals buckets place bucket =
+    (literal : List LiteralByte) × StandsIn literals buckets bucket literal × Asks literal place
 
 -- the literal asks for that place of the masks, by one of the places that it reaches
 abbrev pub HasPlace : (width : ℕ) → List LiteralByte → ℕ → Type 0
@@ -26,4 +28,5 @@ IsPast literal j = length literal ≤ j
 
 -- a bit is 0 exactly where a literal of its bucket asks for it
 pub record AreMasksOf (width : ℕ) (literals : List (List LiteralByte)) (buckets masks : List ℕ) : Type 0 where
-  pub each : (bucket j v : ℕ) → bucket < 8 → j < 8 → v < 2 ^ width → IsClear masks (j * 2 ^ width + v) bucket ↔ IsAsked width literals buckets bucket j v
+  pub each : (bucket j v : ℕ) → bucket < 8 → j < 8 → v < 2 ^ width →
+      IsClear masks (j * 2 ^ width + v) bucket ↔ IsAsked width literals buckets bucket j v

@@ -5,10 +5,8 @@ ghost use Rattle.hs_base.specs.Literals.{takes};
 ghost use Rattle.hs_base.specs.LiteralView.{literal_byte};
 ghost use Rattle.hs_fdr_build.specs.Clearing.{Clears};
 
-use hs_base::LitByte;
+use hs_base::{CASE_DISTANCE, LitByte};
 
-/// How far a capital letter stands below its small one.
-const CASE_DISTANCE: u8 = 32;
 /// How many low bytes a super-character may have.
 const LOW_BYTES: usize = 256;
 
@@ -57,7 +55,8 @@ pub(crate) fn clear_last(masks: &mut [u8], width: u8, x: &LitByte, bucket: u8)
     requires width { (9 ≤ width) × (width ≤ 15) }
     requires within { 2 ^ width ≤ length masks.old }
     requires bucket { bucket < 8 }
-    ensures { Clears (λ place b. (b ≡ bucket) × (place < 2 ^ width) × IsTrue (takes (literal_byte x.now) (place % 256))) masks.old masks.new }
+    ensures { Clears (λ place b. (b ≡ bucket) × (place < 2 ^ width) × IsTrue (takes (literal_byte x.now) (place % 256)))
+        masks.old masks.new }
 {
     let (one, other) = bytes_of(x);
     let count = further_count(width);
@@ -70,14 +69,15 @@ fn clear_pair(masks: &mut [u8], width: u8, first: usize, byte: u8, after: u8, bu
     requires width { (9 ≤ width) × (width ≤ 15) }
     requires within { first + 2 ^ width ≤ length masks.old }
     requires bucket { bucket < 8 }
-    ensures { Clears (λ place b. (b ≡ bucket) × (place ≡ first + (byte + 256 * (after % 2 ^ (width - 8))))) masks.old masks.new }
+    ensures { Clears (λ place b. (b ≡ bucket) × (place ≡ first + (byte + 256 * (after % 2 ^ (width - 8))))) masks.old
+        masks.new }
 {
     let further = after as usize % further_count(width);
     clear(masks, first + (byte as usize + LOW_BYTES * further), bucket);
 }
 
-/// Makes it 0 in the masks from a place on, for each super-character of a byte that may stand at one place and one that may
-/// stand behind it.
+/// Makes it 0 in the masks from a place on, for each super-character of a byte that may stand at one place and one that
+/// may stand behind it.
 pub(crate) fn clear_inner(
     masks: &mut [u8],
     width: u8,
@@ -89,7 +89,9 @@ pub(crate) fn clear_inner(
     requires width { (9 ≤ width) × (width ≤ 15) }
     requires within { first + 2 ^ width ≤ length masks.old }
     requires bucket { bucket < 8 }
-    ensures { Clears (λ place b. (b ≡ bucket) × (byte after : ℕ) × (byte < 256) × IsTrue (takes (literal_byte x.now) byte) × IsTrue (takes (literal_byte behind.now) after) × (place ≡ first + (byte + 256 * (after % 2 ^ (width - 8))))) masks.old masks.new }
+    ensures { Clears (λ place b. (b ≡ bucket) × (byte after : ℕ) × (byte < 256) ×
+        IsTrue (takes (literal_byte x.now) byte) × IsTrue (takes (literal_byte behind.now) after) ×
+        (place ≡ first + (byte + 256 * (after % 2 ^ (width - 8))))) masks.old masks.new }
 {
     let (one, other) = bytes_of(x);
     let (next, second) = bytes_of(behind);

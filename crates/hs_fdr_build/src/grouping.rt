@@ -1,16 +1,13 @@
-//! Which bucket a literal goes into, and how wide a super-character is. The literals are put in order, by length and then
-//! by their last bytes, so that those of a bucket are of like length and end alike. Each weighs the double of one that has a
-//! byte more, up to eight, and every bucket gets an eighth of the weight: so short ones, which are found by chance most
-//! often, are few in a bucket and don't spoil one of long ones.
+//! Which bucket a literal goes into, and how wide a super-character is. The literals are put in order, by length and
+//! then by their last bytes, so that those of a bucket are of like length and end alike. Each weighs the double of one
+//! that has a byte more, up to eight, and every bucket gets an eighth of the weight: so short ones, which are found by
+//! chance most often, are few in a bucket and don't spoil one of long ones.
 
 ghost use Rattle.std.specs.Prelude.{◌≡◌, ◌≤◌, ◌<◌, ℕ, All, IfOk, length, vec_len};
 
-use hs_base::LitByte;
+use hs_base::{BUCKETS, LitByte};
 use hs_fdr::{MAX_WIDTH, MIN_WIDTH, PLACES};
 use std::alloc::{AllocError, Global};
-
-/// How many buckets there are.
-const BUCKETS: u64 = 8;
 
 /// Where a literal stands among the others: by length, as far as masks see it, and then by its last bytes.
 #[derive(Clone, Copy, Debug, PartialEq, Eq, PartialOrd, Ord)]
@@ -95,8 +92,8 @@ pub(crate) fn buckets_of(alloc: Global, literals: &[Vec<LitByte>]) -> Result<Vec
     let mut buckets = vec![in alloc; 0u8; literals.len()]?;
     let mut before = 0u64;
     for rank in ranks.iter() {
-        let bucket = before.saturating_mul(BUCKETS) / total;
-        buckets[rank.number] = bucket.min(BUCKETS - 1) as u8;
+        let bucket = before.saturating_mul(BUCKETS as u64) / total;
+        buckets[rank.number] = bucket.min(BUCKETS as u64 - 1) as u8;
         before = before.saturating_add(weight_of(rank.length));
     }
     Ok(buckets)

@@ -1,6 +1,6 @@
 //! The masks of a list of literals, for the block kernel of a literal scanner. `grouping` puts each literal into one of
-//! eight buckets and picks a width, `masks` makes the masks, `building` does both. `specs/Asking.antt` says which bits are
-//! 0, and `laws` that no literal end is masked out.
+//! eight buckets and picks a width, `masks` makes the masks, `building` does both. `specs/Asking.antt` says which bits
+//! are 0, and `laws` that no literal end is masked out.
 #![tactic(auto)]
 
 mod building;

@@ -1,9 +1,10 @@
 //! The masks of literals in buckets.
 
-ghost use Rattle.std.specs.Prelude.{◌≡◌, ◌≤◌, ◌<◌, ◌+◌, ◌*◌, ◌/◌, ◌%◌, ◌^◌, ◌-◌, ◌⊎◌, ℕ, IsTrue, All, IfOk, length, map, vec_len, replicate, slice_index};
-ghost use Rattle.hs_base.specs.LiteralView.{literal_byte};
+ghost use Rattle.std.specs.Prelude.{◌≡◌, ◌≤◌, ◌<◌, ◌+◌, ◌*◌, ◌/◌, ◌%◌, ◌^◌, ◌-◌, ◌⊎◌, ℕ, IsTrue, All, IfOk, length};
+ghost use Rattle.std.specs.Prelude.{map, vec_len, replicate, slice_index};
+ghost use Rattle.hs_base.specs.LiteralView.{literal_byte, literal_bytes};
 ghost use Rattle.hs_fdr_build.specs.Clearing.{Clears, IsClear};
-ghost use Rattle.hs_fdr_build.specs.Asking.{literal_of, MayStand, IsAsked};
+ghost use Rattle.hs_fdr_build.specs.Asking.{MayStand, IsAsked};
 ghost use Rattle.hs_fdr_build.specs.MaskPlaces.{IsPlaceOf, HasPlace, IsPast, IsAskedBy, AreMasksOf};
 
 use crate::clear::{clear, clear_inner, clear_last};
@@ -30,14 +31,15 @@ fn first_place(width: u8, j: usize) -> usize
     j << width
 }
 
-/// Makes the bit of a bucket 0 in the masks for the place `j` before the last byte of a literal, unless it doesn't reach
-/// that far.
+/// Makes the bit of a bucket 0 in the masks for the place `j` before the last byte of a literal, unless it doesn't
+/// reach that far.
 fn clear_place(masks: &mut [u8], width: u8, literal: &[LitByte], j: usize, bucket: u8)
     requires width { (9 ≤ width) × (width ≤ 15) }
     requires place { j < 8 }
     requires filled { length masks.old ≡ 8 * 2 ^ width }
     requires bucket { bucket < 8 }
-    ensures { Clears (λ place b. (b ≡ bucket) × IsPlaceOf width (map literal_byte literal.now) j place) masks.old masks.new }
+    ensures { Clears (λ place b. (b ≡ bucket) × IsPlaceOf width (map literal_byte literal.now) j place) masks.old
+        masks.new }
 {
     if j >= literal.len() {
         return;
@@ -63,7 +65,8 @@ fn clear_literal(masks: &mut [u8], width: u8, literal: &[LitByte], bucket: u8)
     requires width { (9 ≤ width) × (width ≤ 15) }
     requires filled { length masks.old ≡ 8 * 2 ^ width }
     requires bucket { bucket < 8 }
-    ensures { Clears (λ place b. (b ≡ bucket) × HasPlace width (map literal_byte literal.now) place) masks.old masks.new }
+    ensures { Clears (λ place b. (b ≡ bucket) ×
+        HasPlace width (map literal_byte literal.now) place) masks.old masks.new }
 {
     for j in 0..PLACES {
         clear_place(masks, width, literal, j, bucket);
@@ -86,7 +89,7 @@ fn clear_past(past: &mut [u8; PLACES], literal: &[LitByte], bucket: u8)
 fn past_of(literals: &[Vec<LitByte>], buckets: &[u8]) -> [u8; PLACES]
     requires one_each { length buckets.now ≡ length literals.now }
     requires below { All (λ b. b < 8) buckets.now }
-    ensures { Clears (IsAskedBy IsPast (map literal_of literals.now) buckets.now) (replicate 8 255) result }
+    ensures { Clears (IsAskedBy IsPast (map literal_bytes literals.now) buckets.now) (replicate 8 255) result }
 {
     let mut past = [0xFF; PLACES];
     for number in 0..literals.len() {
@@ -99,7 +102,8 @@ fn past_of(literals: &[Vec<LitByte>], buckets: &[u8]) -> [u8; PLACES]
 fn filled(alloc: Global, width: u8, past: &[u8; PLACES]) -> Result<Vec<u8>, AllocError>
     requires { (9 ≤ width) × (width ≤ 15) }
     ensures whole { IfOk result (λ masks. vec_len masks ≡ 8 * 2 ^ width) }
-    ensures each { IfOk result (λ masks. (at : ℕ) → at < 8 * 2 ^ width → slice_index masks.items at ≡ slice_index past.now (at / 2 ^ width)) }
+    ensures each { IfOk result (λ masks. (at : ℕ) → at < 8 * 2 ^ width →
+        slice_index masks.items at ≡ slice_index past.now (at / 2 ^ width)) }
 {
     let row = row_len(width);
     let count = PLACES * row;
@@ -116,7 +120,7 @@ fn clear_all(masks: &mut [u8], width: u8, literals: &[Vec<LitByte>], buckets: &[
     requires filled { length masks.old ≡ 8 * 2 ^ width }
     requires one_each { length buckets.now ≡ length literals.now }
     requires below { All (λ b. b < 8) buckets.now }
-    ensures { Clears (IsAskedBy (HasPlace width) (map literal_of literals.now) buckets.now) masks.old masks.new }
+    ensures { Clears (IsAskedBy (HasPlace width) (map literal_bytes literals.now) buckets.now) masks.old masks.new }
 {
     for number in 0..literals.len() {
         clear_literal(masks, width, literals[number].as_slice(), buckets[number]);
@@ -138,7 +142,7 @@ pub(crate) fn masks_of(
     requires one_each { length buckets.now ≡ length literals.now }
     requires below { All (λ b. b < 8) buckets.now }
     ensures whole { IfOk result (λ masks. vec_len masks ≡ 8 * 2 ^ width) }
-    ensures exact { IfOk result (λ masks. AreMasksOf width (map literal_of literals.now) buckets.now masks.items) }
+    ensures exact { IfOk result (λ masks. AreMasksOf width (map literal_bytes literals.now) buckets.now masks.items) }
 {
     let past = past_of(literals, buckets);
     let mut masks = filled(alloc, width, &past)?;

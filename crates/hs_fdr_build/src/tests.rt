@@ -1,3 +1,4 @@
+//! No end of a literal is masked out by the tables of a list.
 use crate::build;
 use hs_base::LitByte;
 use hs_fdr::{BLOCK_LEN, PLACES, Tables, scan_block};
@@ -85,8 +86,8 @@ fn ends_and_missed(
 
 #[test]
 fn misses_no_end(rt: HostRuntime) -> Result<(), Fail> {
-    let text =
-        b"to be or not to be, that is the question: Whether 'tis nobler in the mind to suffer the slings and arrows of outrageous fortune";
+    let text = b"to be or not to be, that is the question: Whether 'tis nobler in the mind to \
+        suffer the slings and arrows of outrageous fortune";
     for (lines, both_cases, ends) in [
         (b"".as_slice(), false, 0),
         (b"to".as_slice(), false, 3),

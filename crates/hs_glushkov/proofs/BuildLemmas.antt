@@ -1,8 +1,8 @@
 -- From the tables under construction to the automaton.
-use Rattle.std.proofs.Common.{◌≡◌, ℕ, zero, suc, ◌+◌, ◌-◌, ◌*◌, ◌<◌, ◌≤◌, Bool, true, false, ◌&&◌, Option, Some, None, IfSome, length, slice_get, vec_len, nat_lt, refl, sym, ap, ◌∙◌, inl, inr, arith}
+use Rattle.std.proofs.Common.{◌≡◌, ℕ, zero, suc, ◌+◌, ◌-◌, ◌*◌, ◌<◌, ◌≤◌, Bool, true, false, ◌&&◌, Option, Some, None, IfSome, length, slice_get, vec_len, refl, sym, ap, ◌∙◌, inl, inr, arith}
 use Rattle.std.proofs.lemmas.Bool.{cases_lt}
 use Rattle.std.proofs.lemmas.Option.{slice_get_past}
-use Rattle.std.proofs.Math.Nat.{mul-le-mul_left, le-mul_of_pos_right}
+use Rattle.std.proofs.Math.Nat.{le-mul_of_pos_right}
 use Rattle.hs_base.specs.Trees as tree
 use Rattle.hs_base.specs.Trees.{Tree, Trees}
 use Rattle.hs_base.specs.declared.context.Prev.{Prev}
@@ -13,10 +13,10 @@ use Rattle.hs_engine.specs.declared.automaton.Automaton.{Automaton}
 use Rattle.hs_engine.specs.Automata.{in_mask, in_set, takes, enters, accepts, follows}
 use Rattle.hs_expr.specs.Counts.{written_copies}
 use Rattle.hs_glushkov.specs.Parts.{Table, is_set, IsAdded, null_in_copies}
-use Rattle.hs_glushkov.specs.Positions.{null, enter, accept, follow}
-use Rattle.hs_glushkov.specs.Tables.{IsFor}
+use Rattle.hs_engine.specs.Positions.{null, enter, accept, follow}
+use Rattle.hs_engine.specs.Tables.{IsFor}
 use Rattle.hs_glushkov.proofs.CountLemmas.{count-repeat}
-use Rattle.hs_glushkov.proofs.PastLemmas.{set-past, enter-past, accept-past, follow-past}
+use Rattle.hs_engine.proofs.PastLemmas.{set-past, enter-past, accept-past, follow-past}
 use Rattle.hs_glushkov.proofs.RowLemmas.{null-option, null-up_to}
 
 -- a sequence has the positions of what it begins with, and so have alternatives

@@ -1,11 +1,7 @@
-pub mod PositionLemmas
-pub mod AlikeLemmas
-pub mod AgreementLemmas
 pub mod CountLemmas
-pub mod PlainLemmas
+pub mod FollowLemmas
+pub mod SquareLemmas
 pub mod NarrowLemmas
 pub mod PartLemmas
 pub mod RowLemmas
-pub mod PastLemmas
 pub mod BuildLemmas
-pub mod EngineLemmas

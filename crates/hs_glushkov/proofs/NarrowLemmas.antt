@@ -1,8 +1,8 @@
 -- Masks that are narrowed one after the other.
-use Rattle.std.proofs.Common.{◌≡◌, ℕ, ◌+◌, ◌<◌, ◌≤◌, Bool, true, false, ◌&&◌, ◌||◌, eqb, refl, sym, ap, ◌∙◌, inl, inr, arith}
+use Rattle.std.proofs.Common.{◌≡◌, ℕ, ◌+◌, ◌≤◌, Bool, true, false, ◌&&◌, ◌||◌, refl, sym, ap, ◌∙◌, inl, inr, arith}
 use Rattle.std.proofs.lemmas.Bool.{cases_eq, eq-eqb, ne_eqb}
-use Rattle.hs_follow.specs.Ranges.{is_within}
-use Rattle.hs_follow.proofs.FollowLemmas.{within-none, within-over, within-suc}
+use Rattle.hs_glushkov.specs.Ranges.{is_within}
+use Rattle.hs_glushkov.proofs.FollowLemmas.{within-none, within-over, within-suc}
 use Rattle.hs_glushkov.specs.Parts.{narrowed}
 
 pub narrowed-none : (low k : ℕ) (allowed b : Bool) → b ≡ narrowed (is_within low low k) allowed b

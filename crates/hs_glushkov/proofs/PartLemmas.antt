@@ -8,12 +8,12 @@ use Rattle.hs_base.specs.declared.byte_set.ByteSet.{ByteSet}
 use Rattle.hs_base.specs.declared.context.Mask.{Mask}
 use Rattle.hs_base.proofs.ByteSetLemmas.{members-at}
 use Rattle.hs_engine.specs.Automata.{in_mask, in_set}
-use Rattle.hs_glushkov.specs.Positions.{null, enter, accept, follow}
-use Rattle.hs_follow.specs.Ranges.{is_within}
+use Rattle.hs_engine.specs.Positions.{null, enter, accept, follow}
+use Rattle.hs_glushkov.specs.Ranges.{is_within}
 use Rattle.hs_glushkov.specs.Parts.{Table, is_set, IsPart, IsNull, Keeps, IsClear, IsSeparate, IsAdded, narrowed, IsJoined, IsLooped}
-use Rattle.hs_follow.proofs.FollowLemmas.{get-set_same, get-set_other, within-true, within-under, within-over}
+use Rattle.hs_glushkov.proofs.FollowLemmas.{get-set_same, get-set_other, within-true, within-under, within-over}
 use Rattle.hs_glushkov.proofs.NarrowLemmas.{and-turned}
-use Rattle.hs_glushkov.proofs.PositionLemmas.{Side, lower, upper, side, set-cat_lower, set-cat_upper, set-alt_lower, set-alt_upper, enter-cat_lower, enter-cat_upper, enter-alt_lower, enter-alt_upper, accept-cat_lower, accept-cat_upper, accept-alt_lower, accept-alt_upper, follow-cat_lower_lower, follow-cat_lower_upper, follow-cat_upper_lower, follow-cat_upper_upper, follow-alt_lower_lower, follow-alt_lower_upper, follow-alt_upper_lower, follow-alt_upper_upper}
+use Rattle.hs_engine.proofs.PositionLemmas.{Side, lower, upper, side, set-cat_lower, set-cat_upper, set-alt_lower, set-alt_upper, enter-cat_lower, enter-cat_upper, enter-alt_lower, enter-alt_upper, accept-cat_lower, accept-cat_upper, accept-alt_lower, accept-alt_upper, follow-cat_lower_lower, follow-cat_lower_upper, follow-cat_upper_lower, follow-cat_upper_upper, follow-alt_lower_lower, follow-alt_lower_upper, follow-alt_upper_lower, follow-alt_upper_upper}
 
 -- tables as lists and a test
 abbrev listed : List ByteSet → List Mask → List Mask → (ℕ → ℕ → Context → Bool) → Table

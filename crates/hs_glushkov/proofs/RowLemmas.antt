@@ -4,7 +4,7 @@ use Rattle.std.proofs.lemmas.Bool.{cases_lt}
 use Rattle.std.proofs.Math.Nat.{mul-le-mul_right}
 use Rattle.hs_base.specs.Contexts.{Context}
 use Rattle.hs_base.specs.WrittenOut.{Core, empty, cat, alt, plus, option, star, count, copies_then, up_to, at_least}
-use Rattle.hs_glushkov.specs.Positions.{null}
+use Rattle.hs_engine.specs.Positions.{null}
 use Rattle.hs_glushkov.specs.Parts.{Table, IsPart, IsNull, Keeps, IsClear, IsSeparate, IsAdded, IsRow, IsJoined, IsLooped}
 use Rattle.hs_glushkov.proofs.PartLemmas.{clear-later, part-kept, separate-kept, separate-new, keeps-less, keeps-join, part-cat, joined-keeps, joined-clear, part-alt, part-plus, looped-keeps, looped-clear}
 

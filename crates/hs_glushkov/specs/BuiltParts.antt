@@ -2,7 +2,7 @@
 use Rattle.std.specs.Prelude.{slice_get}
 use Rattle.hs_engine.specs.Automata.{in_mask, in_set}
 use Rattle.hs_glushkov.specs.Parts.{Table}
-use Rattle.hs_follow.specs.FollowTables.{is_followed}
+use Rattle.hs_glushkov.specs.FollowTables.{is_followed}
 use Rattle.hs_glushkov.specs.declared.parts.Parts.{Parts}
 
 -- they say of each position what stands in its place

@@ -1,8 +1,7 @@
-pub mod Positions
-pub mod Agreement
-pub mod Tables
-pub mod PlainEngines
+pub mod Counting
+pub mod Ranges
+pub mod FollowTables
+pub mod Squares
 pub mod Parts
 pub mod AssertionTests
 pub mod BuiltParts
-pub mod AnyBelow

@@ -1,9 +1,10 @@
 -- Tables under construction: parts of one table, each for an expression, and what joins them.
-use Rattle.std.specs.Prelude.{◌≡◌, ℕ, zero, suc, ◌+◌, ◌*◌, ◌<◌, ◌≤◌, ◌⊎◌, Bool, true, false, not, ◌&&◌, ◌||◌, Option, Some, None, slice_get}
+use Rattle.std.specs.Prelude.{◌≡◌, ℕ, zero, suc, ◌+◌, ◌*◌, ◌<◌, ◌≤◌, ◌⊎◌, Bool, true, false, not, ◌&&◌, ◌||◌, Option}
+use Rattle.std.specs.Prelude.{Some, None, slice_get}
 use Rattle.hs_base.specs.Contexts.{Context}
 use Rattle.hs_base.specs.WrittenOut.{Core, count, set_of}
-use Rattle.hs_follow.specs.Ranges.{is_within}
-use Rattle.hs_glushkov.specs.Positions.{null, enter, accept, follow}
+use Rattle.hs_glushkov.specs.Ranges.{is_within}
+use Rattle.hs_engine.specs.Positions.{null, enter, accept, follow}
 
 -- what the tables say of each position: the bytes that it takes, and where it is entered, accepts and is followed
 pub record Table : Type 0 where
@@ -62,7 +63,9 @@ pub record IsJoined (old new : Table) (start middle end : ℕ) (first last : Con
   pub enters : (x : ℕ) (c : Context) → new.enters x c ≡ narrowed (is_within middle end x) (first c) (old.enters x c)
   pub accepts : (x : ℕ) (c : Context) → new.accepts x c ≡ narrowed (is_within start middle x) (last c) (old.accepts x c)
   pub follows : (x y : ℕ) (c : Context) →
-      new.follows x y c ≡ ((is_within start middle x && (is_within middle end y && (old.accepts x c && old.enters y c))) || old.follows x y c)
+      new.follows x y c
+      ≡ ((is_within start middle x && (is_within middle end y && (old.accepts x c && old.enters y c)))
+      || old.follows x y c)
 
 -- Each position from `start` to `end` follows each of them, where that one accepts and it is entered.
 pub record IsLooped (old new : Table) (start end : ℕ) : Type 0 where
@@ -70,10 +73,12 @@ pub record IsLooped (old new : Table) (start end : ℕ) : Type 0 where
   pub enters : (x : ℕ) (c : Context) → new.enters x c ≡ old.enters x c
   pub accepts : (x : ℕ) (c : Context) → new.accepts x c ≡ old.accepts x c
   pub follows : (x y : ℕ) (c : Context) →
-      new.follows x y c ≡ ((is_within start end x && (is_within start end y && (old.accepts x c && old.enters y c))) || old.follows x y c)
+      new.follows x y c
+      ≡ ((is_within start end x && (is_within start end y && (old.accepts x c && old.enters y c)))
+      || old.follows x y c)
 
--- Behind the first n positions stand so many copies of the one expression in a row, not joined, and then the other, up to
--- position e.
+-- Behind the first n positions stand so many copies of the one expression in a row, not joined, and then the other, up
+-- to position e.
 pub record IsRow (old new : Table) (n : ℕ) (a : Core) (copies : ℕ) (r : Core) (e : ℕ) : Type 0 where
   pub parts : (i : ℕ) → i < copies → IsPart new a (n + i * count a)
   pub separate : (i : ℕ) → i ≤ copies → IsSeparate new (n + i * count a)

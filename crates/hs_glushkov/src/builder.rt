@@ -4,20 +4,21 @@ ghost use Rattle.std.specs.Prelude.{◌≡◌, ℕ, ◌+◌, ◌*◌, ◌≤◌,
 ghost use Rattle.hs_base.specs.Contexts.{Context};
 ghost use Rattle.hs_base.specs.ContextSets.{has_context};
 ghost use Rattle.hs_base.specs.EndAssertions.{has_embedded_end};
-ghost use Rattle.hs_base.specs.WrittenOut.{IsPlain, ArePlain, empty, fail, count, write_out, cat_from, alt_from, repeat_of};
+ghost use Rattle.hs_base.specs.WrittenOut.{IsPlain, ArePlain, empty, fail, count, write_out, cat_from, alt_from};
+ghost use Rattle.hs_base.specs.WrittenOut.{repeat_of};
 ghost use Rattle.hs_expr.specs.Meaning.{tree_of, trees_of};
 ghost use Rattle.hs_expr.specs.Counts.{written_copies};
 ghost use Rattle.hs_glushkov.specs.AssertionTests.{has_assertion};
 ghost use Rattle.hs_glushkov.specs.BuiltParts.{table_of};
 ghost use Rattle.hs_glushkov.specs.Parts.{Table, IsAdded, IsClear, IsRow, null_in_copies};
-ghost use Rattle.hs_glushkov.specs.Tables.{Runs};
+ghost use Rattle.hs_engine.specs.Tables.{Runs};
 
 use crate::assertion_test::has_assertion;
 use crate::parts::Parts;
+use crate::row_filling::rows_of;
 use hs_base::Mask;
 use hs_engine::Automaton;
 use hs_expr::{Expr, positions};
-use hs_follow::rows_of;
 use std::alloc::{AllocError, Global};
 
 /// The position automaton of an expression of at most `MAX_POSITIONS` positions, without code points, in which no end
@@ -51,7 +52,8 @@ fn add(expr: &Expr, parts: &mut Parts) -> Mask
     requires room { parts.old.filled + count (write_out (tree_of expr.now)) ≤ vec_len parts.old.sets }
     ensures size { vec_len parts.new.sets ≡ vec_len parts.old.sets }
     ensures filled { parts.new.filled ≡ parts.old.filled + count (write_out (tree_of expr.now)) }
-    ensures added { IsAdded (table_of parts.old) (table_of parts.new) parts.old.filled (write_out (tree_of expr.now)) (has_context result) }
+    ensures added { IsAdded (table_of parts.old) (table_of parts.new) parts.old.filled (write_out (tree_of expr.now))
+        (has_context result) }
 {
     match expr {
         Expr::Empty => Mask::all(),
@@ -72,7 +74,8 @@ fn add_cat(items: &[Expr], parts: &mut Parts) -> Mask
     requires room { parts.old.filled + count (cat_from empty (trees_of (map tree_of items.now))) ≤ vec_len parts.old.sets }
     ensures size { vec_len parts.new.sets ≡ vec_len parts.old.sets }
     ensures filled { parts.new.filled ≡ parts.old.filled + count (cat_from empty (trees_of (map tree_of items.now))) }
-    ensures added { IsAdded (table_of parts.old) (table_of parts.new) parts.old.filled (cat_from empty (trees_of (map tree_of items.now))) (has_context result) }
+    ensures added { IsAdded (table_of parts.old) (table_of parts.new) parts.old.filled
+        (cat_from empty (trees_of (map tree_of items.now))) (has_context result) }
 {
     let start = parts.filled;
     let mut null = Mask::all();
@@ -93,7 +96,8 @@ fn add_alt(items: &[Expr], parts: &mut Parts) -> Mask
     requires room { parts.old.filled + count (alt_from fail (trees_of (map tree_of items.now))) ≤ vec_len parts.old.sets }
     ensures size { vec_len parts.new.sets ≡ vec_len parts.old.sets }
     ensures filled { parts.new.filled ≡ parts.old.filled + count (alt_from fail (trees_of (map tree_of items.now))) }
-    ensures added { IsAdded (table_of parts.old) (table_of parts.new) parts.old.filled (alt_from fail (trees_of (map tree_of items.now))) (has_context result) }
+    ensures added { IsAdded (table_of parts.old) (table_of parts.new) parts.old.filled
+        (alt_from fail (trees_of (map tree_of items.now))) (has_context result) }
 {
     let mut null = Mask::empty();
     for item in items {
@@ -111,7 +115,8 @@ fn add_repeat(body: &Expr, least: u32, greatest: Option<u32>, parts: &mut Parts)
     requires room { parts.old.filled + count (repeat_of least greatest (write_out (tree_of body.now))) ≤ vec_len parts.old.sets }
     ensures size { vec_len parts.new.sets ≡ vec_len parts.old.sets }
     ensures filled { parts.new.filled ≡ parts.old.filled + count (repeat_of least greatest (write_out (tree_of body.now))) }
-    ensures added { IsAdded (table_of parts.old) (table_of parts.new) parts.old.filled (repeat_of least greatest (write_out (tree_of body.now))) (has_context result) }
+    ensures added { IsAdded (table_of parts.old) (table_of parts.new) parts.old.filled
+        (repeat_of least greatest (write_out (tree_of body.now))) (has_context result) }
 {
     let copies = written_copies(least, greatest);
     if copies == 0 {
@@ -135,7 +140,8 @@ fn add_copies(body: &Expr, copies: u32, parts: &mut Parts)
     requires room { parts.old.filled + copies * count (write_out (tree_of body.now)) ≤ vec_len parts.old.sets }
     ensures size { vec_len parts.new.sets ≡ vec_len parts.old.sets }
     ensures filled { parts.new.filled ≡ parts.old.filled + copies * count (write_out (tree_of body.now)) }
-    ensures row { (old : Table) (n k : ℕ) → IsRow old (table_of parts.old) n (write_out (tree_of body.now)) k empty parts.old.filled →
+    ensures row { (old : Table) (n k : ℕ) →
+        IsRow old (table_of parts.old) n (write_out (tree_of body.now)) k empty parts.old.filled →
         IsRow old (table_of parts.new) n (write_out (tree_of body.now)) (k + copies) empty parts.new.filled }
 {
     for _copy in 0..copies {
@@ -158,4 +164,21 @@ fn null_of_copies(least: u32, null: Mask) -> Mask
     ensures { (c : Context) → has_context result c ≡ null_in_copies least (has_context null c) }
 {
     if least == 0 { Mask::all() } else { null }
+}
+
+#[cfg(test)]
+mod tests {
+    use super::build;
+    use hs_base::{ByteSet, Mask};
+    use hs_expr::Expr;
+    use std::test::Fail;
+
+    #[test]
+    fn one_byte_is_one_position(rt: HostRuntime) -> Result<(), Fail> {
+        let automaton = build(rt.alloc(), &Expr::Class(ByteSet::of(b'a')))?;
+        assert_eq!(rt; automaton.sets.as_slice(), [ByteSet::of(b'a')].as_slice());
+        assert_eq!(rt; automaton.accepts.as_slice(), [Mask::all()].as_slice());
+        assert!(rt; automaton.null == Mask::empty() && !automaton.has_assertion);
+        Ok(())
+    }
 }

@@ -4,15 +4,10 @@
 
 mod assertion_test;
 mod builder;
-#[cfg(test)]
-mod conditions;
+mod follow_masks;
 pub mod laws;
 mod parts;
-mod plain;
+mod row_filling;
 
 pub use assertion_test::has_assertion;
 pub use builder::build;
-pub use plain::Plain;
-
-#[cfg(test)]
-mod tests;

@@ -1,15 +1,16 @@
 //! The tables of an automaton under construction: the positions so far, and what joins those of one part with those of
 //! the next.
 
-ghost use Rattle.std.specs.Prelude.{◌≡◌, ℕ, ◌+◌, ◌*◌, ◌-◌, ◌<◌, ◌≤◌, Bool, true, false, ◌&&◌, ◌==◌, max, IfOk, IfSome, Option, Some, None, slice_get, length, vec_len};
+ghost use Rattle.std.specs.Prelude.{◌≡◌, ℕ, ◌+◌, ◌*◌, ◌-◌, ◌<◌, ◌≤◌, Bool, true, false, ◌&&◌, ◌==◌, max, IfOk, IfSome};
+ghost use Rattle.std.specs.Prelude.{Option, Some, None, slice_get, length, vec_len};
 ghost use Rattle.hs_base.specs.Contexts.{Context};
 ghost use Rattle.hs_base.specs.ContextSets.{has_context};
 ghost use Rattle.hs_engine.specs.Automata.{in_mask};
-ghost use Rattle.hs_follow.specs.Ranges.{is_within};
+ghost use Rattle.hs_glushkov.specs.Ranges.{is_within};
 ghost use Rattle.hs_glushkov.specs.Parts.{narrowed};
 
+use crate::follow_masks::FollowMasks;
 use hs_base::{ByteSet, Mask};
-use hs_follow::FollowMasks;
 use std::alloc::{AllocError, Global};
 
 /// Tables with room for all positions, of which the first ones are in use.
@@ -60,7 +61,8 @@ impl Parts {
         requires clear { IsClear (table_of self.old) self.old.filled }
         ensures size { vec_len self.new.sets ≡ vec_len self.old.sets }
         ensures filled { self.new.filled ≡ self.old.filled + 1 }
-        ensures added { IsAdded (table_of self.old) (table_of self.new) self.old.filled (class (members set)) (has_context result) }
+        ensures added { IsAdded (table_of self.old) (table_of self.new) self.old.filled (class (members set))
+            (has_context result) }
     {
         self.sets[self.filled] = set;
         self.enters[self.filled] = Mask::all();
@@ -69,14 +71,16 @@ impl Parts {
         Mask::empty()
     }
 
-    /// Joins the positions from `start` on, in whose place the empty text matches in the contexts `first`, with those from
-    /// `middle` on, where it does in `last`: the ones come before the others.
+    /// Joins the positions from `start` on, in whose place the empty text matches in the contexts `first`, with those
+    /// from `middle` on, where it does in `last`: the ones come before the others.
     pub fn join(&mut self, start: usize, middle: usize, first: Mask, last: Mask)
         requires start { start ≤ middle }
         requires middle { middle ≤ self.old.filled }
         ensures size { vec_len self.new.sets ≡ vec_len self.old.sets }
         ensures filled { self.new.filled ≡ self.old.filled }
-        ensures joined { IsJoined (table_of self.old) (table_of self.new) start middle self.old.filled (has_context first) (has_context last) }
+        ensures joined { IsJoined (table_of self.old) (table_of self.new) start middle self.old.filled
+            (has_context first)
+            (has_context last) }
     {
         let end = self.filled;
         self.follows
@@ -97,8 +101,9 @@ impl Parts {
             .connect(&self.accepts, &self.enters, start, end, start, end);
     }
 
-    /// Makes of the copies of a body in a row its repeat: the positions from `start` on, `width` for each copy, in whose
-    /// place the empty text matches in the contexts of the mask. Gives those in which it matches in place of the repeat.
+    /// Makes of the copies of a body in a row its repeat: the positions from `start` on, `width` for each copy, in
+    /// whose place the empty text matches in the contexts of the mask. Gives those in which it matches in place of the
+    /// repeat.
     pub fn repeat(
         &mut self,
         start: usize,
@@ -111,7 +116,10 @@ impl Parts {
         requires room { start + written_copies least greatest * width ≡ self.old.filled }
         ensures size { vec_len self.new.sets ≡ vec_len self.old.sets }
         ensures filled { self.new.filled ≡ self.old.filled }
-        ensures added { (old : Table) (a : Core) → width ≡ count a → IsNull (has_context null) a → IsRow old (table_of self.old) start a (written_copies least greatest) empty self.old.filled →
+        ensures added { (old : Table) (a : Core) →
+            width ≡ count a →
+            IsNull (has_context null) a →
+            IsRow old (table_of self.old) start a (written_copies least greatest) empty self.old.filled →
             IsAdded old (table_of self.new) start (repeat_of least greatest a) (has_context result) }
     {
         match greatest {
@@ -129,7 +137,10 @@ impl Parts {
         requires room { start + max least 1 * width ≡ self.old.filled }
         ensures size { vec_len self.new.sets ≡ vec_len self.old.sets }
         ensures filled { self.new.filled ≡ self.old.filled }
-        ensures added { (old : Table) (a : Core) → width ≡ count a → IsNull (has_context null) a → IsRow old (table_of self.old) start a (max least 1) empty self.old.filled →
+        ensures added { (old : Table) (a : Core) →
+            width ≡ count a →
+            IsNull (has_context null) a →
+            IsRow old (table_of self.old) start a (max least 1) empty self.old.filled →
             IsAdded old (table_of self.new) start (at_least least a) (has_context result) }
     {
         self.go_round(self.filled - width);
@@ -145,7 +156,10 @@ impl Parts {
         requires room { start + most * width ≤ self.old.filled }
         ensures size { vec_len self.new.sets ≡ vec_len self.old.sets }
         ensures filled { self.new.filled ≡ self.old.filled }
-        ensures row { (old : Table) (a : Core) → width ≡ count a → IsNull (has_context null) a → IsRow old (table_of self.old) start a most empty self.old.filled →
+        ensures row { (old : Table) (a : Core) →
+            width ≡ count a →
+            IsNull (has_context null) a →
+            IsRow old (table_of self.old) start a most empty self.old.filled →
             IsRow old (table_of self.new) start a least (up_to (most - least) a) self.new.filled }
     {
         for done in 0..most - least {
@@ -166,7 +180,11 @@ impl Parts {
         requires room { start + copies * width ≤ self.old.filled }
         ensures size { vec_len self.new.sets ≡ vec_len self.old.sets }
         ensures filled { self.new.filled ≡ self.old.filled }
-        ensures added { (old : Table) (a r : Core) → width ≡ count a → IsNull (has_context null) a → IsNull (has_context rest) r → IsRow old (table_of self.old) start a copies r self.old.filled →
+        ensures added { (old : Table) (a r : Core) →
+            width ≡ count a →
+            IsNull (has_context null) a →
+            IsNull (has_context rest) r →
+            IsRow old (table_of self.old) start a copies r self.old.filled →
             IsAdded old (table_of self.new) start (copies_then copies a r) (has_context result) }
     {
         let mut all = rest;
@@ -182,7 +200,8 @@ impl Parts {
         requires room { start + number * width + width ≤ self.old.filled }
         ensures size { vec_len self.new.sets ≡ vec_len self.old.sets }
         ensures filled { self.new.filled ≡ self.old.filled }
-        ensures joined { IsJoined (table_of self.old) (table_of self.new) (start + number * width) (start + number * width + width) self.old.filled (has_context null) (has_context rest) }
+        ensures joined { IsJoined (table_of self.old) (table_of self.new) (start + number * width)
+            (start + number * width + width) self.old.filled (has_context null) (has_context rest) }
     {
         let first = start + number * width;
         self.join(first, first + width, null, rest);
@@ -194,7 +213,9 @@ fn narrow(masks: &mut [Mask], low: usize, high: usize, mask: Mask)
     requires order { low ≤ high }
     requires high { high ≤ length masks.old }
     ensures len { length masks.new ≡ length masks.old }
-    ensures each { (x : ℕ) (c : Context) → in_mask (slice_get masks.new x) c ≡ narrowed (is_within low high x) (has_context mask c) (in_mask (slice_get masks.old x) c) }
+    ensures each { (x : ℕ) (c : Context) →
+        in_mask (slice_get masks.new x) c ≡
+        narrowed (is_within low high x) (has_context mask c) (in_mask (slice_get masks.old x) c) }
 {
     for position in low..high {
         masks[position] = masks[position].intersection(mask);

@@ -1,14 +1,14 @@
 -- The positions that live ones lead to.
-use Rattle.std.proofs.Common.{◌≡◌, ℕ, ◌+◌, ◌-◌, ◌*◌, ◌/◌, ◌%◌, ◌<◌, ◌≤◌, Bool, true, false, ◌&&◌, ◌||◌, List, get_or, eqb, bit_and, refl, sym, ap, ◌∙◌, inl, inr, arith}
+use Rattle.std.proofs.Common.{◌≡◌, ℕ, ◌+◌, ◌*◌, ◌/◌, ◌%◌, ◌<◌, ◌≤◌, Bool, true, false, ◌&&◌, ◌||◌, List, get_or, eqb, bit_and, refl, sym, ap, ◌∙◌, arith}
 use Rattle.std.specs.Int.{bit_at}
 use Rattle.std.proofs.lemmas.Nat.Bits.{bit_at-zero}
 use Rattle.hs_base.specs.Contexts.{Context}
 use Rattle.hs_base.proofs.ContextSetLemmas.{bit-and}
 use Rattle.hs_engine.specs.declared.follow_rows.FollowRows.{FollowRows}
 use Rattle.hs_engine.specs.Rows.{in_row}
-use Rattle.hs_glushkov.specs.AnyBelow.{any_below}
-use Rattle.hs_glushkov.proofs.PlainLemmas.{any-skipped, true-false}
-use Rattle.hs_limex.specs.Words.{has_word_bit}
+use Rattle.hs_engine.specs.AnyBelow.{any_below}
+use Rattle.hs_limex.proofs.PlainLemmas.{any-skipped, true-false}
+use Rattle.hs_base.specs.Bits.{has_word_bit}
 use Rattle.hs_limex.specs.declared.word_rows.WordRows.{WordRows}
 use Rattle.hs_limex.specs.WordTables.{in_table}
 use Rattle.hs_limex.specs.Leading.{far_leads}

@@ -1,5 +1,6 @@
-pub mod WordLemmas
+pub mod PlainLemmas
 pub mod TableLemmas
 pub mod NumberLemmas
 pub mod LeadLemmas
 pub mod StepLemmas
+pub mod LimexLemmas

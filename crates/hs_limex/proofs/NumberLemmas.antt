@@ -1,5 +1,5 @@
 -- Contexts by their numbers, and what follows in rows of bits.
-use Rattle.std.proofs.Common.{◌≡◌, ℕ, ◌+◌, ◌*◌, ◌/◌, ◌%◌, ◌<◌, ◌≤◌, true, false, ◌&&◌, refl, sym, ap, ◌∙◌, inl, inr, arith}
+use Rattle.std.proofs.Common.{◌≡◌, ℕ, ◌+◌, ◌*◌, ◌/◌, ◌%◌, ◌<◌, ◌≤◌, true, false, ◌&&◌, refl, ap, ◌∙◌, inl, inr, arith}
 use Rattle.std.specs.Prelude.{nat_lt}
 use Rattle.std.proofs.lemmas.Bool.{cases_lt, le-ltb}
 use Rattle.hs_base.specs.declared.context.Prev.{Prev}
@@ -12,8 +12,8 @@ use Rattle.hs_base.proofs.StreamContexts.{same-context}
 use Rattle.hs_engine.specs.declared.follow_rows.FollowRows.{FollowRows}
 use Rattle.hs_engine.specs.Rows.{in_row, in_square, row_start, square_number}
 use Rattle.hs_engine.specs.RowSizes.{row_len}
-use Rattle.hs_engine.specs.Bits.{has_bit}
-use Rattle.hs_glushkov.proofs.PlainLemmas.{true-false}
+use Rattle.hs_base.specs.Bits.{has_bit}
+use Rattle.hs_limex.proofs.PlainLemmas.{true-false}
 use Rattle.hs_limex.specs.Numbers.{next_numbered, prev_numbered}
 
 prev-back : (prev : Prev) → prev_numbered (prev_number prev) ≡ prev

@@ -1,5 +1,5 @@
 -- The step by words: which positions it leads to, and what field it makes.
-use Rattle.std.proofs.Common.{◌≡◌, ℕ, zero, suc, ◌+◌, ◌-◌, ◌*◌, ◌/◌, ◌%◌, ◌<◌, ◌≤◌, Bool, true, false, ◌&&◌, ◌||◌, List, [], ◌∷◌, ◌++◌, length, Some, slice_get, refl, sym, ap, subst, ◌∙◌, ◌⊎◌, inl, inr, arith, vec_len}
+use Rattle.std.proofs.Common.{◌≡◌, ℕ, zero, suc, ◌+◌, ◌-◌, ◌*◌, ◌%◌, ◌<◌, ◌≤◌, Bool, true, false, ◌&&◌, ◌||◌, List, [], ◌∷◌, ◌++◌, length, refl, sym, ap, subst, ◌∙◌, ◌⊎◌, inl, inr, arith, vec_len}
 use Rattle.std.specs.Prelude.{nat_lt, nat_le}
 use Rattle.std.proofs.lemmas.Bool.{cases_lt, lt-ltb, le-leb, leb-true}
 use Rattle.std.proofs.lemmas.Option.{slice_get_past}
@@ -8,25 +8,24 @@ use Rattle.hs_base.specs.WrittenOut.{Core}
 use Rattle.hs_base.proofs.ContextLemmas.{first_of_both, second_of_both, of_both, of_either, left_of_either, right_of_either}
 use Rattle.hs_base.proofs.ContextSetLemmas.{context_number-lt}
 use Rattle.hs_engine.specs.declared.automaton.Automaton.{Automaton}
-use Rattle.hs_engine.specs.Automata.{in_mask, in_set, takes, enters, accepts, follows}
-use Rattle.hs_engine.specs.Bits.{has_bit}
+use Rattle.hs_engine.specs.Automata.{in_set, takes}
+use Rattle.hs_base.specs.Bits.{has_bit}
 use Rattle.hs_engine.specs.Rows.{in_row}
-use Rattle.hs_engine.proofs.RowLemmas.{same-rows}
-use Rattle.hs_glushkov.specs.AnyBelow.{any_below}
-use Rattle.hs_glushkov.specs.Agreement.{StepsTo, steps_in, steps_on}
-use Rattle.hs_glushkov.specs.Tables.{IsClearFrom, IsCopy, IsFor, IsField}
-use Rattle.hs_glushkov.proofs.AgreementLemmas.{reached-steps, steps-reached}
-use Rattle.hs_glushkov.proofs.PlainLemmas.{any-some, some-any, not-true, true-false}
+use Rattle.hs_engine.specs.AnyBelow.{any_below}
+use Rattle.hs_engine.specs.Agreement.{StepsTo, steps_in, steps_on}
+use Rattle.hs_engine.specs.Tables.{IsFor}
+use Rattle.hs_base.specs.PositionRows.{IsField}
+use Rattle.hs_engine.proofs.AgreementLemmas.{reached-steps, steps-reached}
+use Rattle.hs_limex.proofs.PlainLemmas.{any-some, some-any, true-false}
 use Rattle.hs_limex.specs.declared.tables.Tables.{Tables}
-use Rattle.hs_limex.specs.Words.{has_word_bit}
+use Rattle.hs_base.specs.Bits.{has_word_bit}
 use Rattle.hs_limex.specs.WordTables.{in_table}
 use Rattle.hs_limex.specs.Near.{IsNearFrom}
 use Rattle.hs_limex.specs.Leading.{far_leads, near_leads}
 use Rattle.hs_limex.specs.Fitting.{Fits, IsLed, led_in, led_on}
-use Rattle.hs_limex.proofs.WordLemmas.{or-none}
-use Rattle.hs_limex.proofs.NumberLemmas.{in_row-from}
+use Rattle.hs_bits.proofs.WordLemmas.{or-none}
 
-true-or-false : (b : Bool) → (b ≡ true) ⊎ (b ≡ false)
+pub true-or-false : (b : Bool) → (b ≡ true) ⊎ (b ≡ false)
 true-or-false true = inl refl
 true-or-false false = inr refl
 
@@ -129,17 +128,6 @@ pub led-as : (t : Tables) (live other : ℕ → Bool) (c : Context) (entering : 
 led-as t live other c entering k same (led_in enters_now is) = led_in enters_now is
 led-as t live other c entering k same (led_on x set is) = led_on x (sym (same x) ∙ set) is
 
--- tables that fit an automaton fit its copy
-pub fits-copy : (t : Tables) (copy original : Automaton) → IsCopy copy original → Fits t original → Fits t copy
-fits-copy t copy original same fits =
-    record {
-      size = omega (arith, copy.sets.ok.0, original.sets.ok.0, ap (λ items. length items) same.sets, fits.size);
-      reach = λ b k byte. fits.reach b k byte ∙ sym (ap (λ items. in_set (slice_get items k) b) same.sets);
-      enters = λ c k. fits.enters c k ∙ sym (ap (λ items. in_mask (slice_get items k) c) same.enters);
-      accepting = λ k c is. fits.accepting k c (sym (ap (λ items. in_mask (slice_get items k) c) same.accepts) ∙ is);
-      follows = λ x y c. fits.follows x y c ∙ sym (same-rows copy.follows original.follows same.follows same.size same.by_context x y c);
-    }
-
 -- beyond its positions an automaton takes no byte
 pub takes-below : (a : Automaton) (b k : ℕ) → takes a k b ≡ true → k < vec_len a.sets
 takes-below a b k is =
@@ -149,11 +137,6 @@ takes-below a b k is =
           let past : length a.sets.items ≤ k = omega (arith, a.sets.ok.0) in
           true-false (takes a k b) is (ap (λ o. in_set o b) (slice_get_past a.sets.items k past))
     ]
-
--- only positions of the automaton are set
-pub step-clear : (t : Tables) (a : Automaton) → Fits t a → (b : ℕ) → b < 256 → (new : List ℕ) → ((k : ℕ) → has_bit new k ≡ true → in_table t.reach b k ≡ true) → IsClearFrom new (vec_len a.sets)
-step-clear t a fits b byte new reach k above =
-    not-true (has_bit new k) (λ set. absurd (let below : k < vec_len a.sets = takes-below a b k (sym (fits.reach b k byte) ∙ reach k set) in omega arith))
 
 -- the field over one more byte
 

@@ -1,13 +1,13 @@
 -- Bits in a table of rows of words.
-use Rattle.std.proofs.Common.{◌≡◌, ℕ, ◌+◌, ◌*◌, ◌/◌, ◌%◌, ◌<◌, ◌≤◌, Bool, true, false, ◌&&◌, ◌||◌, List, length, get_or, take, drop, replicate, eqb, refl, sym, ap, ◌∙◌, inl, inr, arith}
+use Rattle.std.proofs.Common.{◌≡◌, ℕ, ◌+◌, ◌*◌, ◌/◌, ◌%◌, ◌<◌, ◌≤◌, Bool, false, ◌&&◌, ◌||◌, List, length, get_or, take, drop, replicate, eqb, refl, sym, ap, ◌∙◌, inl, inr, arith}
 use Rattle.std.specs.Prelude.{nat_lt}
 use Rattle.std.specs.Int.{bit_at}
 use Rattle.std.proofs.lemmas.Bool.{cases_eq, cases_lt, eq-eqb, ne_eqb, lt-ltb, le-ltb}
 use Rattle.std.proofs.lemmas.List.{get_or-drop, get_or-take, get_or_past, get_or-replicate, length-replicate, length-drop, length-take-le}
 use Rattle.std.proofs.lemmas.Nat.Bits.{bit_at-zero}
 use Rattle.hs_engine.proofs.CellLemmas.{same_cell}
-use Rattle.hs_limex.specs.Words.{has_word_bit}
-use Rattle.hs_limex.proofs.WordLemmas.{and-none, words-zero}
+use Rattle.hs_base.specs.Bits.{has_word_bit}
+use Rattle.hs_bits.proofs.WordLemmas.{and-none, words-zero}
 
 pub replicate-words : (n k : ℕ) → has_word_bit (replicate n 0) k ≡ false
 replicate-words n k =

@@ -1,4 +1,5 @@
-pub mod Words
+pub mod AutomatonMeanings
+pub mod PlainEngines
 pub mod WordTables
 pub mod Numbers
 pub mod Near

@@ -1,13 +1,7 @@
--- What the engine `Limex` runs.
-use Rattle.std.specs.Prelude.{ℕ}
-use Rattle.hs_engine.specs.declared.automaton.Automaton.{Automaton}
-use Rattle.hs_glushkov.specs.PlainEngines as plain_engines
+-- What the engine `Limex` means.
+use Rattle.hs_engine.specs.Engines.{Meaning}
+use Rattle.hs_limex.specs.Fitting.{tables_meaning}
 use Rattle.hs_limex.specs.declared.limex.Limex.{Limex}
 
--- the tables that it goes by
-abbrev pub automaton_run : Limex → Automaton
-automaton_run limex = plain_engines.automaton_of limex.plain
-
--- the length of its regions in bytes: a bit for each position
-abbrev pub region_width : Limex → ℕ
-region_width limex = plain_engines.width_of limex.plain
+abbrev pub meaning_of_limex : Limex → Meaning
+meaning_of_limex limex = tables_meaning limex.tables

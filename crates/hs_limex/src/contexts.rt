@@ -9,7 +9,7 @@ use hs_base::{Next, Prev};
 /// How many contexts there are.
 pub(crate) const CONTEXT_COUNT: usize = 24;
 /// How many values `Next` has.
-const NEXT_COUNT: usize = 6;
+pub(crate) const NEXT_COUNT: usize = Next::COUNT as usize;
 
 /// The number of a context.
 pub(crate) fn number_of(prev: Prev, next: Next) -> usize
@@ -39,7 +39,7 @@ fn prev_of(number: usize) -> Prev
 }
 
 /// What comes next, by its number.
-fn next_of(number: usize) -> Next
+pub(crate) fn next_of(number: usize) -> Next
     ensures { result ≡ next_numbered number }
 {
     match number {

@@ -1,8 +1,9 @@
 //! The tables of an automaton, made once: which positions follow each other.
 
-ghost use Rattle.std.specs.Prelude.{◌≡◌, ℕ, ◌+◌, ◌*◌, ◌/◌, ◌%◌, ◌<◌, ◌≤◌, true, false, IfOk, IsTrue, ◌&&◌, ◌||◌, ◌==◌, length};
+ghost use Rattle.std.specs.Prelude.{◌≡◌, ℕ, ◌+◌, ◌*◌, ◌/◌, ◌%◌, ◌<◌, ◌≤◌, true, false, IfOk, IsTrue, ◌&&◌, ◌||◌, ◌==◌};
+ghost use Rattle.std.specs.Prelude.{length};
 ghost use Rattle.hs_base.specs.Contexts.{Context, context_number};
-ghost use Rattle.hs_engine.specs.Bits.{has_bit};
+ghost use Rattle.hs_base.specs.Bits.{has_bit};
 ghost use Rattle.hs_engine.specs.Rows.{in_row};
 ghost use Rattle.hs_limex.specs.WordTables.{in_table};
 ghost use Rattle.hs_limex.specs.Near.{IsFew, IsNearFrom, LeavesFar};
@@ -10,7 +11,8 @@ ghost use Rattle.hs_limex.specs.Near.{IsFew, IsNearFrom, LeavesFar};
 use crate::contexts::{CONTEXT_COUNT, context_of};
 use crate::word_rows::WordRows;
 use hs_base::{Next, Prev};
-use hs_engine::{BYTE_BITS, FollowRows, contains_bit, is_zero};
+use hs_bits::{BYTE_BITS, contains_bit, is_zero};
+use hs_engine::FollowRows;
 use std::alloc::{AllocError, Global};
 
 /// How many distances have rows of their own: a position follows another at one of these, or it is far from it.
@@ -28,7 +30,10 @@ pub(crate) fn near_of(
     requires room { size ≤ 64 * width }
     ensures count { IfOk result (λ rows. rows.count ≡ 192) }
     ensures width { IfOk result (λ rows. rows.width ≡ width) }
-    ensures bits { IfOk result (λ rows. (c : Context) (d k : ℕ) → d < 8 → in_table rows (8 * context_number c + d) k ≡ in_row follows.now k (k + d) c) }
+    ensures bits { IfOk result (λ rows.
+        (c : Context) (d k : ℕ) →
+        d < 8 →
+        in_table rows (8 * context_number c + d) k ≡ in_row follows.now k (k + d) c) }
 {
     let mut rows = WordRows::new(alloc, CONTEXT_COUNT * DISTANCE_COUNT, width)?;
     for number in 0..CONTEXT_COUNT * DISTANCE_COUNT {
@@ -62,7 +67,10 @@ fn fill_near(
     requires room { size ≤ 64 * rows.old.width }
     ensures count { rows.new.count ≡ rows.old.count }
     ensures width { rows.new.width ≡ rows.old.width }
-    ensures bits { (n k : ℕ) → in_table rows.new n k ≡ (((n == number) && in_row follows.now k (k + distance) (record { prev = prev; next = next })) || in_table rows.old n k) }
+    ensures bits { (n k : ℕ) →
+        in_table rows.new n k ≡
+        (((n == number) && in_row follows.now k (k + distance) (record { prev = prev; next = next }))
+        || in_table rows.old n k) }
 {
     for position in 0..size {
         let wanted = may_follow(follows, prev, next, position, position + distance);

@@ -39,7 +39,9 @@ fn fill_position(sets: &[ByteSet], position: usize, rows: &mut WordRows)
     requires position { position < 64 * rows.old.width }
     ensures count { rows.new.count ≡ rows.old.count }
     ensures width { rows.new.width ≡ rows.old.width }
-    ensures bits { (b k : ℕ) → b < 256 → in_table rows.new b k ≡ (((k == position) && in_set (slice_get sets.now position) b) || in_table rows.old b k) }
+    ensures bits { (b k : ℕ) →
+        b < 256 →
+        in_table rows.new b k ≡ (((k == position) && in_set (slice_get sets.now position) b) || in_table rows.old b k) }
 {
     for byte in 0..BYTE_COUNT {
         rows.insert_if(byte, position, set_contains(sets, position, byte as u8));
@@ -60,7 +62,9 @@ pub(crate) fn masks_of(alloc: Global, masks: &[Mask], width: usize) -> Result<Wo
     requires room { length masks.now ≤ 64 * width }
     ensures count { IfOk result (λ rows. rows.count ≡ 24) }
     ensures width { IfOk result (λ rows. rows.width ≡ width) }
-    ensures bits { IfOk result (λ rows. (c : Context) (k : ℕ) → in_table rows (context_number c) k ≡ in_mask (slice_get masks.now k) c) }
+    ensures bits { IfOk result (λ rows.
+        (c : Context) (k : ℕ) →
+        in_table rows (context_number c) k ≡ in_mask (slice_get masks.now k) c) }
 {
     let mut rows = WordRows::new(alloc, CONTEXT_COUNT, width)?;
     for number in 0..CONTEXT_COUNT {
@@ -76,7 +80,10 @@ fn fill_context(masks: &[Mask], prev: Prev, next: Next, number: usize, rows: &mu
     requires room { length masks.now ≤ 64 * rows.old.width }
     ensures count { rows.new.count ≡ rows.old.count }
     ensures width { rows.new.width ≡ rows.old.width }
-    ensures bits { (n k : ℕ) → in_table rows.new n k ≡ (((n == number) && in_mask (slice_get masks.now k) (record { prev = prev; next = next })) || in_table rows.old n k) }
+    ensures bits { (n k : ℕ) →
+        in_table rows.new n k ≡
+        (((n == number) && in_mask (slice_get masks.now k) (record { prev = prev; next = next }))
+        || in_table rows.old n k) }
 {
     for position in 0..masks.len() {
         rows.insert_if(number, position, masks[position].contains(prev, next));
@@ -89,7 +96,10 @@ pub(crate) fn any_of(alloc: Global, masks: &[Mask], width: usize) -> Result<Word
     requires room { length masks.now ≤ 64 * width }
     ensures count { IfOk result (λ rows. rows.count ≡ 1) }
     ensures width { IfOk result (λ rows. rows.width ≡ width) }
-    ensures bits { IfOk result (λ rows. (k : ℕ) (c : Context) → in_mask (slice_get masks.now k) c ≡ true → in_table rows 0 k ≡ true) }
+    ensures bits { IfOk result (λ rows.
+        (k : ℕ) (c : Context) →
+        in_mask (slice_get masks.now k) c ≡ true →
+        in_table rows 0 k ≡ true) }
 {
     let mut rows = WordRows::new(alloc, 1, width)?;
     for position in 0..masks.len() {

@@ -1,15 +1,15 @@
 //! Which positions those that are live lead to, by words.
 
 ghost use Rattle.std.specs.Prelude.{◌≡◌, ℕ, ◌+◌, ◌*◌, ◌%◌, ◌<◌, ◌≤◌, Bool, true, ◌&&◌, ◌||◌, length};
-ghost use Rattle.hs_glushkov.specs.AnyBelow.{any_below};
-ghost use Rattle.hs_limex.specs.Words.{has_word_bit};
+ghost use Rattle.hs_engine.specs.AnyBelow.{any_below};
+ghost use Rattle.hs_base.specs.Bits.{has_word_bit};
 ghost use Rattle.hs_limex.specs.WordTables.{in_table};
 ghost use Rattle.hs_limex.specs.Leading.{far_leads, near_leads};
 
 use crate::far_filling::DISTANCE_COUNT;
 use crate::word_rows::WordRows;
-use crate::words::{WORD_BITS, are_apart, contains_word_bit, shift_in, unite_bytes};
 use hs_base::{Next, Prev};
+use hs_bits::{WORD_BITS, are_apart, contains_word_bit, shift_in, unite_bytes};
 use hs_engine::FollowRows;
 
 /// How many rows there are of what follows near by.
@@ -45,7 +45,8 @@ pub(crate) fn lead_near(near: &WordRows, span: usize, number: usize, live: &[u64
     requires live { length live.now ≡ 8 }
     requires led { length led.old ≡ 8 }
     ensures len { length led.new ≡ length led.old }
-    ensures bits { (k : ℕ) → has_word_bit led.new k ≡ (any_below span (near_leads near.now live.now number k) || has_word_bit led.old k) }
+    ensures bits { (k : ℕ) →
+        has_word_bit led.new k ≡ (any_below span (near_leads near.now live.now number k) || has_word_bit led.old k) }
 {
     for distance in 0..span {
         let row = near.row(DISTANCE_COUNT * number + distance);
@@ -67,7 +68,11 @@ pub(crate) fn lead_far(
     requires far { length far.now ≤ 8 }
     requires led { length led.old ≡ 8 }
     ensures len { length led.new ≡ length led.old }
-    ensures bits { (k : ℕ) → has_word_bit led.new k ≡ (any_below (64 * length far.now) (far_leads follows.now live.now far.now (record { prev = prev; next = next }) k) || has_word_bit led.old k) }
+    ensures bits { (k : ℕ) →
+        has_word_bit led.new k ≡
+        (any_below (64 * length far.now)
+        (far_leads follows.now live.now far.now (record { prev = prev; next = next }) k)
+        || has_word_bit led.old k) }
 {
     for place in 0..far.len() {
         lead_word(follows, live, far, place, prev, next, led);
@@ -91,8 +96,13 @@ fn lead_word(
     requires led { length led.old ≡ 8 }
     ensures len { length led.new ≡ length led.old }
     ensures bits { (k : ℕ) (first : Bool) →
-        has_word_bit led.old k ≡ (any_below (64 * place) (far_leads follows.now live.now far.now (record { prev = prev; next = next }) k) || first) →
-        has_word_bit led.new k ≡ (any_below (64 * place + 64) (far_leads follows.now live.now far.now (record { prev = prev; next = next }) k) || first) }
+        has_word_bit led.old k ≡
+        (any_below (64 * place) (far_leads follows.now live.now far.now (record { prev = prev; next = next }) k)
+        || first) →
+        has_word_bit led.new k ≡
+        (any_below (64 * place + 64)
+        (far_leads follows.now live.now far.now (record { prev = prev; next = next }) k)
+        || first) }
 {
     if live[place] & far[place] == 0 {
         return;
@@ -118,7 +128,10 @@ fn lead_one(
     requires far { length far.now ≤ 8 }
     requires led { length led.old ≡ 8 }
     ensures len { length led.new ≡ length led.old }
-    ensures bits { (k : ℕ) → has_word_bit led.new k ≡ (far_leads follows.now live.now far.now (record { prev = prev; next = next }) k position || has_word_bit led.old k) }
+    ensures bits { (k : ℕ) →
+        has_word_bit led.new k ≡
+        (far_leads follows.now live.now far.now (record { prev = prev; next = next }) k position
+        || has_word_bit led.old k) }
 {
     if contains_word_bit(live, position) && contains_word_bit(far, position) {
         unite_bytes(led, follows.row(prev, next, position));

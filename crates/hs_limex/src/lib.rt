@@ -1,16 +1,19 @@
-//! The engine by words of bits: a step takes all positions of a word at once.
+//! The engines of position automata: `Limex` moves by words of bits, and beside it stands `Plain`, its slow twin, which
+//! goes through the positions one by one. Both keep the same bits.
 #![tactic(auto)]
 
 mod contexts;
 mod far_filling;
 mod filling;
+mod first_bytes;
 mod leading;
 mod limex;
+mod plain;
 mod tables;
 mod word_rows;
-mod words;
 
 pub use limex::Limex;
+pub use plain::Plain;
 
 #[cfg(test)]
 mod tests;

@@ -1,83 +1,62 @@
 //! The engine that moves 64 positions at a time.
 
-ghost use Rattle.std.specs.Prelude.{◌≡◌, ◌↔◌, ℕ, ◌+◌, ◌*◌, ◌/◌, ◌<◌, ◌≤◌, true, false, ◌&&◌, vec_len, IsTrue, IfOk, length};
+ghost use Rattle.std.specs.Prelude.{◌≡◌, ◌↔◌, ℕ, ◌+◌, ◌/◌, ◌≤◌, true, false, ◌&&◌, IsTrue, IfOk, length};
 ghost use Rattle.hs_base.specs.ByteSets.{has};
-ghost use Rattle.hs_engine.specs.Bits.{AreZero, has_bit};
-ghost use Rattle.hs_glushkov.specs.PlainEngines.{automaton_of, width_of};
-ghost use Rattle.hs_glushkov.specs.Tables.{IsClearFrom};
-ghost use Rattle.hs_limex.specs.Fitting.{Fits};
+ghost use Rattle.hs_base.specs.Bits.{AreZero};
 
+use crate::plain::is_clear_from;
 use crate::tables::Tables;
-use hs_base::{Next, NextSet, Prev};
+use hs_base::{ByteSet, Next, NextSet, Prev};
+use hs_bits::{clear_bits, is_zero};
 use hs_engine::{Automaton, Engine, Steps};
-use hs_glushkov::Plain;
 use std::alloc::{AllocError, Global};
 use std::sync::ledger::Ledger;
 
-/// Runs a position automaton by words of bits. It keeps the same bits as `Plain`, which tells what they mean, and which
-/// goes through the positions where one of them accepts.
+/// Runs a position automaton by words of bits. It keeps a bit for each position: whether it is reached.
 #[derive(Debug, Drop)]
 pub struct Limex {
-    plain: Plain,
     tables: Tables,
-    ghost fits: { Fits tables (automaton_of plain) },
 }
 
 impl Limex {
     ghost use Rattle.hs_base.specs.Trees.{Tree};
-    ghost use Rattle.hs_glushkov.specs.Tables.{IsCopy, Runs};
-    ghost use Rattle.hs_limex.specs.LimexEngines.{automaton_run, region_width};
+    ghost use Rattle.hs_engine.specs.Tables.{Runs};
+    ghost use Rattle.hs_limex.specs.Fitting.{Fits};
+    ghost use Rattle.hs_limex.specs.LimexEngines.{meaning_of_limex};
 
-    /// The engine of an automaton, whose tables it copies.
+    /// The engine of an automaton, of whose tables it makes its own.
     pub fn build(alloc: Global, automaton: &Automaton) -> Result<Limex, AllocError>
-        ensures copied { IfOk result (λ limex. IsCopy (automaton_run limex) automaton.now) }
-        ensures runs { IfOk result (λ limex. (tree : Tree) → Runs automaton.now tree → Runs (automaton_run limex) tree) }
-        ensures width { IfOk result (λ limex. region_width limex ≤ 64) }
+        ensures fits { IfOk result (λ limex. Fits limex.tables automaton.now) }
+        ensures runs { IfOk result (λ limex. (tree : Tree) → Runs automaton.now tree →
+            (meaning_of_limex limex).is_for tree) }
+        ensures width { IfOk result (λ limex. (meaning_of_limex limex).width ≤ 64) }
     {
-        let plain = Plain::build(alloc, automaton)?;
-        let tables = Tables::build(alloc, automaton)?;
-        Ok(Limex { plain, tables })
+        Ok(Limex {
+            tables: Tables::build(alloc, automaton)?,
+        })
     }
 
     /// Whether the region is at rest and stays so over the byte.
     fn stays_at_rest(&self, region: &[u8], entering: bool, byte: u8) -> bool
-        requires { length region.now ≡ region_width self.now }
         ensures zero { IsTrue result → AreZero region.now }
-        ensures outside { IsTrue result → (entering && has self.now.plain.first byte) ≡ false }
+        ensures outside { IsTrue result → (entering && has self.now.tables.first byte) ≡ false }
         ensures unentered { AreZero region.now → entering ≡ false → IsTrue result }
     {
-        if entering {
-            self.plain.sleeps(region, byte)
-        } else {
-            self.plain.at_rest(region)
-        }
+        !(entering && self.tables.first.contains(byte)) && is_zero(region)
     }
 }
 
 impl Engine for Limex {
-    ghost use Rattle.hs_base.specs.WrittenOut.{write_out};
-    ghost use Rattle.hs_glushkov.specs.Tables.{IsField, Runs};
+    ghost use Rattle.hs_limex.specs.Fitting.{tables_meaning};
 
-    ghost width = { λ e. (vec_len e.plain.automaton.sets + 7) / 8 };
-
-    ghost is_for = { λ e tree. Runs e.plain.automaton tree };
-
-    ghost field = { λ e bytes tree u entered. IsField bytes (write_out tree) u entered };
-
-    ghost rests = { λ e bytes. AreZero bytes };
-
-    ghost sleeps = { λ e bytes b. AreZero bytes × (has e.plain.first b ≡ false) };
-
-    ghost well = { λ e bytes at. IsClearFrom bytes (vec_len e.plain.automaton.sets) };
-
-    ghost enters_always = { λ e. false };
+    ghost meaning = { λ e. tables_meaning e.tables };
 
     fn size(&self) -> usize {
-        self.plain.size()
+        self.tables.region_len()
     }
 
     fn clear(&self, region: &mut [u8]) {
-        self.plain.clear(region);
+        clear_bits(region);
     }
 
     fn step<L: Ledger>(
@@ -98,22 +77,19 @@ impl Engine for Limex {
         self.tables.move_over(region, prev, next, entering, byte);
     }
 
-    fn out(&self, region: &[u8], prev: Prev, at: u64) -> NextSet {
-        if self.tables.accepts_nowhere(region) {
-            return NextSet::empty();
-        }
-        self.plain.out(region, prev, at)
+    fn out(&self, region: &[u8], prev: Prev, _at: u64) -> NextSet {
+        self.tables.accepted(region, prev)
     }
 
     fn at_rest(&self, region: &[u8]) -> bool {
-        self.plain.at_rest(region)
+        is_zero(region)
     }
 
-    fn sleeps(&self, region: &[u8], byte: u8) -> bool {
-        self.plain.sleeps(region, byte)
+    fn wakers(&self) -> &ByteSet {
+        &self.tables.first
     }
 
-    fn well_formed(&self, region: &[u8], at: u64) -> bool {
-        self.plain.well_formed(region, at)
+    fn well_formed(&self, region: &[u8], _at: u64) -> bool {
+        is_clear_from(region, self.tables.size())
     }
 }

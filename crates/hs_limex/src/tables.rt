@@ -1,23 +1,27 @@
 //! The tables by which a step goes, and the step by words.
 
-ghost use Rattle.std.specs.Prelude.{◌≡◌, ℕ, ◌+◌, ◌*◌, ◌/◌, ◌%◌, ◌<◌, ◌≤◌, Bool, true, false, IfOk, IsTrue, ◌&&◌, ◌||◌, length, vec_len};
+ghost use Rattle.std.specs.Prelude.{◌≡◌, ℕ, ◌+◌, ◌*◌, ◌/◌, ◌%◌, ◌<◌, ◌≤◌, Bool, true, false, IfOk, IsTrue, ◌&&◌, ◌||◌};
+ghost use Rattle.std.specs.Prelude.{length, vec_len};
 ghost use Rattle.hs_base.specs.Contexts.{Context, context_number};
 ghost use Rattle.hs_engine.specs.Rows.{in_row};
 ghost use Rattle.hs_limex.specs.WordTables.{in_table};
 ghost use Rattle.hs_limex.specs.Near.{IsFew, IsNearFrom};
 
-use crate::contexts::number_of;
+use crate::contexts::{NEXT_COUNT, next_of, number_of};
 use crate::far_filling::{far_of, near_of};
 use crate::filling::{any_of, masks_of, reach_of};
+use crate::first_bytes::first_bytes;
 use crate::leading::{lead_far, lead_near, span_of};
 use crate::word_rows::WordRows;
-use crate::words::{WORD_BITS, are_apart, keep_words, store, unite_bytes, unite_words};
-use hs_base::{Next, Prev};
-use hs_engine::{Automaton, FollowRows, MAX_POSITIONS};
+use hs_base::{ByteSet, MAX_POSITIONS, Next, NextSet, Prev};
+use hs_bits::{
+    BYTE_BITS, WORD_BITS, are_apart, keep_words, store, unite_bytes, unite_words, word_count_for,
+};
+use hs_engine::{Automaton, FollowRows};
 use std::alloc::{AllocError, Global};
 
 /// The words that hold a bit for each of the most positions.
-const MAX_WIDTH: usize = MAX_POSITIONS / WORD_BITS;
+const MAX_WIDTH: usize = MAX_POSITIONS as usize / WORD_BITS;
 
 /// The tables of an automaton as rows of words, a bit for each position.
 #[derive(Debug, Drop)]
@@ -26,6 +30,10 @@ pub(crate) struct Tables {
     reach: WordRows,
     /// For each context the positions that are entered in it.
     enters: WordRows,
+    /// The bytes that positions take which may be entered: any other byte leads nowhere from a region at rest.
+    pub(crate) first: ByteSet,
+    /// For each context the positions that accept in it.
+    accepts: WordRows,
     /// The positions that accept in a context.
     accepting: WordRows,
     /// For each context and distance the positions that may be followed by the one so many places on.
@@ -35,17 +43,23 @@ pub(crate) struct Tables {
     /// The positions that may be followed by one that isn't near.
     far: WordRows,
     /// What follows each position: a step looks up those that aren't followed near by alone.
-    follows: FollowRows,
+    pub(crate) follows: FollowRows,
     ghost few: { reach.width ≤ 8 },
     ghost wide: { follows.size ≤ 64 * reach.width },
     ghost reach_count: { reach.count ≡ 256 },
+    ghost reach_few: { (b k : ℕ) → b < 256 → in_table reach b k ≡ true → k < follows.size },
     ghost enters_count: { enters.count ≡ 24 },
     ghost enters_width: { enters.width ≡ reach.width },
+    ghost accepts_count: { accepts.count ≡ 24 },
+    ghost accepts_width: { accepts.width ≡ reach.width },
     ghost accepting_count: { accepting.count ≡ 1 },
     ghost accepting_width: { accepting.width ≡ reach.width },
+    ghost accepting_all: { (c : Context) (k : ℕ) → in_table accepts (context_number c) k ≡ true →
+        in_table accepting 0 k ≡ true },
     ghost near_count: { near.count ≡ 192 },
     ghost near_width: { near.width ≡ reach.width },
-    ghost near_bits: { (c : Context) (d k : ℕ) → d < 8 → in_table near (8 * context_number c + d) k ≡ in_row follows k (k + d) c },
+    ghost near_bits: { (c : Context) (d k : ℕ) → d < 8 →
+        in_table near (8 * context_number c + d) k ≡ in_row follows k (k + d) c },
     ghost short: { span ≤ 8 },
     ghost used: { (n k : ℕ) → n < 192 → in_table near n k ≡ true → n % 8 < span },
     ghost far_count: { far.count ≡ 1 },
@@ -55,17 +69,19 @@ pub(crate) struct Tables {
 }
 
 impl Tables {
-    ghost use Rattle.hs_engine.specs.Bits.{has_bit};
+    ghost use Rattle.hs_base.specs.Bits.{has_bit};
     ghost use Rattle.hs_engine.specs.RowSizes.{row_len};
-    ghost use Rattle.hs_limex.specs.Words.{has_word_bit};
-    ghost use Rattle.hs_limex.specs.Fitting.{Fits, IsLed};
+    ghost use Rattle.hs_base.specs.Bits.{has_word_bit};
+    ghost use Rattle.hs_base.specs.ContextSets.{has_next};
+    ghost use Rattle.hs_base.specs.declared.context.Next.{Next};
+    ghost use Rattle.hs_limex.specs.Fitting.{AcceptsIn, Fits, IsLed};
 
     /// The tables of an automaton.
     pub(crate) fn build(alloc: Global, automaton: &Automaton) -> Result<Tables, AllocError>
         ensures { IfOk result (λ tables. Fits tables automaton.now) }
     {
         let size = automaton.sets.len();
-        let width = (size + (WORD_BITS - 1)) / WORD_BITS;
+        let width = word_count_for(size);
         let follows = automaton.follows.copy(alloc)?;
         let near = near_of(alloc, &follows, size, width)?;
         let span = span_of(&near);
@@ -73,12 +89,29 @@ impl Tables {
         Ok(Tables {
             reach: reach_of(alloc, &automaton.sets, width)?,
             enters: masks_of(alloc, &automaton.enters, width)?,
+            first: first_bytes(&automaton.sets, &automaton.enters),
+            accepts: masks_of(alloc, &automaton.accepts, width)?,
             accepting: any_of(alloc, &automaton.accepts, width)?,
             near,
             span,
             far,
             follows,
         })
+    }
+
+    /// How many positions there are.
+    pub(crate) fn size(&self) -> usize
+        ensures size { result ≡ self.now.follows.size }
+        ensures few { result ≤ 512 }
+    {
+        self.follows.size()
+    }
+
+    /// How many bytes hold a bit for each position.
+    pub(crate) fn region_len(&self) -> usize
+        ensures { result ≡ row_len self.now.follows.size }
+    {
+        (self.size() + (BYTE_BITS - 1)) / BYTE_BITS
     }
 
     /// Moves the region over the byte, before which the expression is entered or not.
@@ -92,8 +125,15 @@ impl Tables {
     )
         requires { length region.old ≡ row_len self.now.follows.size }
         ensures len { length region.new ≡ length region.old }
-        ensures sound { (k : ℕ) → has_bit region.new k ≡ true → (in_table self.now.reach byte k ≡ true) × IsLed self.now (has_bit region.old) (record { prev = prev; next = next }) entering k }
-        ensures whole { (k : ℕ) → k < 8 * length region.old → in_table self.now.reach byte k ≡ true → IsLed self.now (has_bit region.old) (record { prev = prev; next = next }) entering k → has_bit region.new k ≡ true }
+        ensures sound { (k : ℕ) →
+            has_bit region.new k ≡ true →
+            (in_table self.now.reach byte k ≡ true)
+            × IsLed self.now (has_bit region.old) (record { prev = prev; next = next }) entering k }
+        ensures whole { (k : ℕ) →
+            k < 8 * length region.old →
+            in_table self.now.reach byte k ≡ true →
+            IsLed self.now (has_bit region.old) (record { prev = prev; next = next }) entering k →
+            has_bit region.new k ≡ true }
     {
         let mut live = [0u64; MAX_WIDTH];
         unite_bytes(&mut live, region);
@@ -109,8 +149,13 @@ impl Tables {
         requires led { length led.old ≡ 8 }
         requires zero { (k : ℕ) → has_word_bit led.old k ≡ false }
         ensures len { length led.new ≡ length led.old }
-        ensures sound { (k : ℕ) → has_word_bit led.new k ≡ true → IsLed self.now (has_word_bit live.now) (record { prev = prev; next = next }) entering k }
-        ensures whole { (k : ℕ) → k < 64 * self.now.reach.width → IsLed self.now (has_word_bit live.now) (record { prev = prev; next = next }) entering k → has_word_bit led.new k ≡ true }
+        ensures sound { (k : ℕ) →
+            has_word_bit led.new k ≡ true →
+            IsLed self.now (has_word_bit live.now) (record { prev = prev; next = next }) entering k }
+        ensures whole { (k : ℕ) →
+            k < 64 * self.now.reach.width →
+            IsLed self.now (has_word_bit live.now) (record { prev = prev; next = next }) entering k →
+            has_word_bit led.new k ≡ true }
     {
         let number = number_of(prev, next);
         lead_near(&self.near, self.span, number, live, led);
@@ -123,20 +168,62 @@ impl Tables {
         requires number { number < 24 }
         requires led { length led.old ≡ 8 }
         ensures len { length led.new ≡ length led.old }
-        ensures bits { (k : ℕ) → has_word_bit led.new k ≡ ((entering && in_table self.now.enters number k) || has_word_bit led.old k) }
+        ensures bits { (k : ℕ) →
+            has_word_bit led.new k ≡ ((entering && in_table self.now.enters number k) || has_word_bit led.old k) }
     {
         if entering {
             unite_words(led, self.enters.row(number));
         }
     }
 
-    /// Whether no position is live that accepts in a context.
-    pub(crate) fn accepts_nowhere(&self, region: &[u8]) -> bool
+    /// What may come next where a position that is live accepts.
+    pub(crate) fn accepted(&self, region: &[u8], prev: Prev) -> NextSet
         requires { length region.now ≡ row_len self.now.follows.size }
-        ensures { IsTrue result → (k : ℕ) → (has_bit region.now k && in_table self.now.accepting 0 k) ≡ false }
+        ensures sound { (next : Next) →
+            has_next result next ≡ true →
+            AcceptsIn self.now (has_bit region.now) (record { prev = prev; next = next }) }
+        ensures whole { (next : Next) →
+            AcceptsIn self.now (has_bit region.now) (record { prev = prev; next = next }) →
+            has_next result next ≡ true }
     {
         let mut live = [0u64; MAX_WIDTH];
         unite_bytes(&mut live, region);
-        are_apart(&live, self.accepting.row(0))
+        if are_apart(&live, self.accepting.row(0)) {
+            return NextSet::empty();
+        }
+        self.accepted_among(&live, prev)
+    }
+
+    /// What may come next where one of those positions accepts.
+    fn accepted_among(&self, live: &[u64], prev: Prev) -> NextSet
+        requires { length live.now ≡ 8 }
+        ensures sound { (next : Next) →
+            has_next result next ≡ true →
+            AcceptsIn self.now (has_word_bit live.now) (record { prev = prev; next = next }) }
+        ensures whole { (next : Next) →
+            AcceptsIn self.now (has_word_bit live.now) (record { prev = prev; next = next }) →
+            has_next result next ≡ true }
+    {
+        let mut all = NextSet::empty();
+        for number in 0..NEXT_COUNT {
+            all = all.union(self.accepted_before(live, prev, next_of(number)));
+        }
+        all
+    }
+
+    /// That, if it may come next where one of those positions accepts.
+    fn accepted_before(&self, live: &[u64], prev: Prev, next: Next) -> NextSet
+        requires { length live.now ≡ 8 }
+        ensures sound { (other : Next) →
+            has_next result other ≡ true →
+            AcceptsIn self.now (has_word_bit live.now) (record { prev = prev; next = other }) }
+        ensures whole { AcceptsIn self.now (has_word_bit live.now) (record { prev = prev; next = next }) →
+            has_next result next ≡ true }
+    {
+        if are_apart(live, self.accepts.row(number_of(prev, next))) {
+            NextSet::empty()
+        } else {
+            NextSet::of(next)
+        }
     }
 }

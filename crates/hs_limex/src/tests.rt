@@ -1,209 +1,94 @@
-//! `Limex` beside `Plain`: the same bits behind each byte, and the same answers.
+//! Both engines of one automaton side by side.
 
-ghost use Rattle.std.specs.Prelude.{◌≡◌, ◌≤◌, ◌<◌, ◌^◌, length, IfOk, vec_len};
-ghost use Rattle.hs_engine.specs.RowSizes.{square_count};
+ghost use Rattle.std.specs.Prelude.{◌≡◌, ◌<◌, ◌^◌, length};
 
-use crate::Limex;
+use crate::{Limex, Plain};
 use hs_base::{Assertion, ByteSet, Mask, Next, NextSet, Prev};
 use hs_engine::{Automaton, Engine, FollowRows, Steps};
-use hs_glushkov::Plain;
 use std::alloc::{AllocError, Global};
 use std::marker::Brand;
-use std::process::Abort;
 use std::sync::ledger::{Blank, Ledger};
 use std::test::Fail;
 
-/// The mask of a number: of an assertion, of all contexts or of none.
-fn mask_of(number: usize) -> Mask {
-    match number % 10 {
-        0 => Mask::of(Assertion::StreamStart),
-        1 => Mask::of(Assertion::LineStart),
-        2 => Mask::of(Assertion::LineEnd),
-        3 => Mask::of(Assertion::EndOrFinalNewline),
-        4 => Mask::of(Assertion::StreamEnd),
-        5 => Mask::of(Assertion::WordBoundary),
-        6 => Mask::of(Assertion::NotWordBoundary),
-        7 => Mask::empty(),
-        _ => Mask::all(),
-    }
-}
-
-/// The set of a number.
-fn set_of(number: usize) -> ByteSet {
-    match number % 7 {
-        0 => ByteSet::of(b'a'),
-        1 => ByteSet::of(b'b'),
-        2 => ByteSet::of(b'\n'),
-        3 => ByteSet::WORD,
-        4 => ByteSet::SPACE,
-        5 => ByteSet::NOT_NEWLINE,
-        _ => ByteSet::ALL,
-    }
-}
-
-/// So many masks, from that number on.
-fn masks(alloc: Global, size: usize, first: usize) -> Result<Vec<Mask>, AllocError>
-    requires size { size ≤ 512 }
-    requires first { first ≤ 512 }
-    ensures { IfOk result (λ masks. vec_len masks ≡ size) }
-{
-    let mut masks = vec![in alloc; Mask::empty(); size]?;
-    for position in 0..size {
-        masks[position] = mask_of(first + 3 * position);
-    }
-    Ok(masks)
-}
-
-/// So many sets, from that number on.
-fn sets(alloc: Global, size: usize, first: usize) -> Result<Vec<ByteSet>, AllocError>
-    requires size { size ≤ 512 }
-    requires first { first ≤ 512 }
-    ensures { IfOk result (λ sets. vec_len sets ≡ size) }
-{
-    let mut sets = vec![in alloc; ByteSet::EMPTY; size]?;
-    for position in 0..size {
-        sets[position] = set_of(first + position);
-    }
-    Ok(sets)
-}
-
-/// Rows in which each position is followed by the next one and by the one so many places on, round the end.
-fn follows(
-    alloc: Global,
-    size: usize,
-    distance: usize,
-    by_context: bool,
-) -> Result<FollowRows, AllocError>
-    requires size { size ≤ 512 }
-    requires distance { distance ≤ 512 }
-    ensures { IfOk result (λ rows. rows.size ≡ size) }
-{
-    let mut rows = FollowRows::new(alloc, size, by_context)?;
-    for square in 0..rows.square_count() {
-        fill_square(&mut rows, square, size, distance);
-    }
-    Ok(rows)
-}
-
-/// Fills the square of that number, in which not every position is followed.
-fn fill_square(rows: &mut FollowRows, square: usize, size: usize, distance: usize)
-    requires size { rows.old.size ≡ size }
-    requires few { size ≤ 512 }
-    requires distance { distance ≤ 512 }
-    requires square { square < square_count rows.old.by_context }
-    ensures size { rows.new.size ≡ rows.old.size }
-    ensures by_context { rows.new.by_context ≡ rows.old.by_context }
-{
-    for position in 0..size {
-        if position % 3 != square % 3 {
-            rows.insert(square, position, (position + distance) % size);
-        }
-        rows.insert(square, position, (position + 1) % size);
-    }
-}
-
-/// An automaton of so many positions.
-fn automaton(
-    alloc: Global,
-    size: usize,
-    distance: usize,
-    by_context: bool,
-) -> Result<Automaton, AllocError>
-    requires size { size ≤ 512 }
-    requires distance { distance ≤ 512 }
-{
-    Ok(Automaton {
-        sets: sets(alloc, size, distance)?,
-        enters: masks(alloc, size, 1)?,
-        accepts: masks(alloc, size, distance)?,
-        follows: follows(alloc, size, distance, by_context)?,
-        null: Mask::empty(),
-        has_assertion: by_context,
-    })
-}
-
-/// What may come next behind the text, where the expression is entered before its word bytes.
+/// What may come next behind the text, where the expression is entered before each of its bytes.
 fn left_behind<E: Engine, L: Ledger>(
     engine: &E,
     region: &mut [u8],
     text: &[u8],
     blank: Blank,
 ) -> NextSet
-    requires region { length region.old ≡ E.width engine.now }
+    requires region { length region.old ≡ (E.meaning engine.now).width }
     requires text { length text.now < 2 ^ 63 }
     requires name { blank.name ≡ L.name }
     requires parts { blank.parts ≡ L.parts }
     requires some { 0 < L.parts }
+    ensures { length region.new ≡ (E.meaning engine.now).width }
 {
     let mut steps = Steps::<L>::open(blank);
     engine.clear(region);
     let mut prev = Prev::Start;
     let mut at = 0;
     for byte in text {
-        engine.step(region, prev, at, NextSet::of(Next::Word), *byte, &mut steps);
+        engine.step(region, prev, at, NextSet::all(), *byte, &mut steps);
         prev = Prev::behind(*byte);
         at += 1;
     }
     engine.out(region, prev, at)
 }
 
-/// Compares the regions and the answers behind the text.
-fn compare(
-    rt: &impl Abort,
-    alloc: Global,
-    plain: &Plain,
-    limex: &Limex,
-    text: &[u8],
-) -> Result<(), Fail>
-    requires { length text.now < 2 ^ 63 }
-{
-    let mut wanted = vec![in alloc; 0xffu8; plain.size()]?;
-    let mut found = vec![in alloc; 0xffu8; limex.size()]?;
-    let left = left_behind::<Plain, Brand>(plain, &mut wanted, text, Blank::new(1));
-    let told = left_behind::<Limex, Brand>(limex, &mut found, text, Blank::new(1));
-    assert_eq!(rt; found, wanted, "{text:?}");
-    assert_eq!(rt; told, left, "{text:?}");
-    assert_eq!(rt; limex.at_rest(&found), plain.at_rest(&wanted), "{text:?}");
+/// `\ba(?:b+\z)?`.
+fn words(alloc: Global) -> Result<Automaton, AllocError> {
+    let end = Mask::of(Assertion::StreamEnd);
+    let mut follows = FollowRows::new(alloc, 2, false)?;
+    follows.insert(0, 0, 1);
+    follows.insert(0, 1, 1);
+    Ok(Automaton {
+        sets: Vec::from_slice(alloc, &[ByteSet::of(b'a'), ByteSet::of(b'b')])?,
+        enters: Vec::from_slice(alloc, &[Mask::of(Assertion::WordBoundary), Mask::empty()])?,
+        accepts: Vec::from_slice(alloc, &[Mask::all(), end])?,
+        follows,
+        null: Mask::empty(),
+        has_assertion: true,
+    })
+}
+
+#[test]
+fn both_leave_where_the_expression_matches(rt: HostRuntime) -> Result<(), Fail> {
+    let alloc = rt.alloc();
+    let automaton = words(alloc)?;
+    let limex = Limex::build(alloc, &automaton)?;
+    let plain = Plain::new(automaton);
+    let mut region = vec![in alloc; 0xffu8; limex.size()]?;
+    let mut twin = vec![in alloc; 0xffu8; plain.size()]?;
+    let table = [
+        ("a", Next::End, true),
+        ("a", Next::Unknown, true),
+        ("xa", Next::End, false),
+        (" a", Next::Word, true),
+        ("ab", Next::End, true),
+        ("ab", Next::Unknown, false),
+        ("abb", Next::End, true),
+        ("abc", Next::End, false),
+        ("", Next::End, false),
+    ];
+    for (text, next, wanted) in table {
+        let text = text.as_bytes();
+        let found = left_behind::<Limex, Brand>(&limex, &mut region, text, Blank::new(1));
+        let beside = left_behind::<Plain, Brand>(&plain, &mut twin, text, Blank::new(1));
+        assert_eq!(rt; found.contains(next), wanted);
+        assert_eq!(rt; beside.contains(next), wanted);
+    }
     Ok(())
 }
 
 #[test]
-fn moves_as_plain_does(rt: HostRuntime) -> Result<(), Fail> {
+fn rests_until_it_is_entered(rt: HostRuntime) -> Result<(), Fail> {
     let alloc = rt.alloc();
-    let table = [
-        (0, 1, false),
-        (1, 1, true),
-        (7, 2, false),
-        (8, 7, true),
-        (9, 8, false),
-        (63, 1, true),
-        (64, 7, false),
-        (65, 6, true),
-        (65, 63, false),
-        (128, 8, true),
-        (300, 4, false),
-        (512, 7, true),
-        (512, 200, false),
-    ];
-    let texts = [
-        "",
-        "a",
-        "ab a\nb",
-        "a_b\n\nab b",
-        "aaaaaaaaaaaaaaaaaaaaaaaa",
-    ];
-    for (size, distance, by_context) in table {
-        assert!(rt; size <= 512);
-        assert!(rt; distance <= 512);
-        let automaton = automaton(alloc, size, distance, by_context)?;
-        let plain = Plain::build(alloc, &automaton)?;
-        let limex = Limex::build(alloc, &automaton)?;
-        for text in texts {
-            let text = text.as_bytes();
-            for cut in 0..=text.len() {
-                compare(&rt, alloc, &plain, &limex, &text[..cut])?;
-            }
-        }
-    }
+    let engine = Limex::build(alloc, &words(alloc)?)?;
+    let mut region = vec![in alloc; 0u8; engine.size()]?;
+    assert!(rt; engine.at_rest(&region) && engine.well_formed(&region, 0));
+    assert!(rt; engine.wakers().contains(b'a') && !engine.wakers().contains(b'b'));
+    let _set = left_behind::<Limex, Brand>(&engine, &mut region, b"a", Blank::new(1));
+    assert!(rt; !engine.at_rest(&region) && engine.well_formed(&region, 1));
     Ok(())
 }

@@ -2,7 +2,7 @@
 
 ghost use Rattle.std.specs.Prelude.{◌≡◌, ℕ, ◌+◌, ◌*◌, ◌<◌, ◌≤◌, false, ◌&&◌, ◌||◌, ◌==◌, IfOk, length, vec_len};
 
-use crate::words::{WORD_BITS, insert_word_bit};
+use hs_bits::{WORD_BITS, insert_word_bit};
 use std::alloc::{AllocError, Global};
 
 /// Rows of bits, each so many words wide.
@@ -20,7 +20,7 @@ pub(crate) struct WordRows {
 }
 
 impl WordRows {
-    ghost use Rattle.hs_limex.specs.Words.{has_word_bit};
+    ghost use Rattle.hs_base.specs.Bits.{has_word_bit};
     ghost use Rattle.hs_limex.specs.WordTables.{in_table};
 
     /// So many rows with no bit set.
@@ -56,7 +56,8 @@ impl WordRows {
         requires bit { bit < 64 * self.old.width }
         ensures count { self.new.count ≡ self.old.count }
         ensures width { self.new.width ≡ self.old.width }
-        ensures bits { (n k : ℕ) → in_table self.new n k ≡ (((n == number) && ((k == bit) && wanted)) || in_table self.old n k) }
+        ensures bits { (n k : ℕ) →
+            in_table self.new n k ≡ (((n == number) && ((k == bit) && wanted)) || in_table self.old n k) }
     {
         if wanted {
             self.insert(number, bit);

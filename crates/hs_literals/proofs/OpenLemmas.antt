@@ -10,7 +10,7 @@ use Rattle.std.proofs.lemmas.Nat.Bits.{bit_at_lowest, bit_at-suc, bit_at-zero, b
 use Rattle.hs_base.specs.Literals.{LiteralByte}
 use Rattle.hs_base.specs.LiteralEnds.{EndsAt}
 use Rattle.hs_literals.specs.Masking.{HidesNone, MasksHideNone, AreFew}
-use Rattle.hs_literals.specs.OpenPlaces.{AreOpen, ClosedBehind, IsLowest, AreBehind}
+use Rattle.hs_literals.specs.OpenPlaces.{AreOpenPlaces, ClosedBehind, IsLowest, AreBehind}
 use Rattle.hs_literals.specs.Places.{NoneBetween}
 use Rattle.hs_literals.proofs.MaskLemmas.{none_ends}
 
@@ -34,7 +34,7 @@ no_lane_bit : (masks : List ℕ) (i : ℕ) → length masks ≤ i → bit_at (ma
 no_lane_bit masks i past = bit_mask_l (map leaves_open masks) i ∙ ap (λ m. cond m 1 0) (get_or_past (map leaves_open masks) i false (omega (arith, length-map masks leaves_open)))
 
 -- the lanes that differ from a mask that leaves none open
-pub marks_are_open : (masks : List ℕ) → length masks ≡ 64 → AreOpen masks 0 (mask_l (map (top 7) (zip2 (λ a b. cond (not (eqb a b)) 255 0) masks (replicate 64 255))) % 2 ^ 64)
+pub marks_are_open : (masks : List ℕ) → length masks ≡ 64 → AreOpenPlaces masks 0 (mask_l (map (top 7) (zip2 (λ a b. cond (not (eqb a b)) 255 0) masks (replicate 64 255))) % 2 ^ 64)
 marks_are_open masks long i =
     let lanes = mask_l (map (top 7) (zip2 (λ (a : ℕ) (b : ℕ). cond (not (eqb a b)) 255 0) masks (replicate 64 255))) % 2 ^ 64 in
     let are : lanes ≡ mask_l (map leaves_open masks) = bitmask_splat w8 (λ x y. not (eqb x y)) masks 64 255 long (omega arith) in
@@ -92,7 +92,7 @@ behind_lowest marks place is i =
     )
 
 -- what is open behind the lowest place that is
-pub open_behind : (masks : List ℕ) (from marks place rest : ℕ) → AreOpen masks from marks → IsLowest marks place → AreBehind marks place rest → AreOpen masks (place + 1) rest
+pub open_behind : (masks : List ℕ) (from marks place rest : ℕ) → AreOpenPlaces masks from marks → IsLowest marks place → AreBehind marks place rest → AreOpenPlaces masks (place + 1) rest
 open_behind masks from marks place rest are is behind i =
     let here = (are place).0 is.marked in (
       λ set.
@@ -103,7 +103,7 @@ open_behind masks from marks place rest are is behind i =
     )
 
 -- a place that is not marked is closed
-pub unmarked_is_closed : (masks : List ℕ) (from marks i : ℕ) → AreOpen masks from marks → bit_at marks i ≡ 0 → from ≤ i → i < 64 → get_or masks i 0 ≡ 255
+pub unmarked_is_closed : (masks : List ℕ) (from marks i : ℕ) → AreOpenPlaces masks from marks → bit_at marks i ≡ 0 → from ≤ i → i < 64 → get_or masks i 0 ≡ 255
 unmarked_is_closed masks from marks i are unset low high =
     elim (cases_eq (get_or masks i 0) 255) [
       | inl closed ↦ closed
@@ -111,11 +111,11 @@ unmarked_is_closed masks from marks i are unset low high =
     ]
 
 -- where no mark is left, all places are closed
-pub unmarked_block_is_closed : (masks : List ℕ) (from marks i : ℕ) → AreOpen masks from marks → marks ≡ 0 → from ≤ i → i < 64 → get_or masks i 0 ≡ 255
+pub unmarked_block_is_closed : (masks : List ℕ) (from marks i : ℕ) → AreOpenPlaces masks from marks → marks ≡ 0 → from ≤ i → i < 64 → get_or masks i 0 ≡ 255
 unmarked_block_is_closed masks from marks i are none = unmarked_is_closed masks from marks i are (ap (λ n. bit_at n i) none ∙ bit_at-zero i)
 
 -- where no mark is left, a later beginning has none either
-pub none_open_later : (masks : List ℕ) (from later marks : ℕ) → from ≤ later → marks ≡ 0 → AreOpen masks from marks → AreOpen masks later marks
+pub none_open_later : (masks : List ℕ) (from later marks : ℕ) → from ≤ later → marks ≡ 0 → AreOpenPlaces masks from marks → AreOpenPlaces masks later marks
 none_open_later masks from later marks order none are i = (
   λ set. absurd (omega (arith, set, ap (λ n. bit_at n i) none, bit_at-zero i)),
   λ opened. (are i).1 (omega (arith, opened.0), opened.1, opened.2),

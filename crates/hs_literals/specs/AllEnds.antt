@@ -11,7 +11,8 @@ literal_ends text offset (Some literal) = ends_there literal text offset
 
 -- the numbers of all literals that end at an offset of a text, rising
 abbrev pub numbers_at : List (List LiteralByte) → List ℕ → ℕ → List ℕ
-numbers_at literals text offset = filter (λ number. literal_ends text offset (slice_get literals number)) (range_with_len 0 (length literals))
+numbers_at literals text offset =
+    filter (λ number. literal_ends text offset (slice_get literals number)) (range_with_len 0 (length literals))
 
 -- each number with the same end
 abbrev pub pairs_at : ℕ → List ℕ → List (ℕ × ℕ)
@@ -20,4 +21,5 @@ pairs_at end numbers = map (λ number. (end, number)) numbers
 -- all ends behind a place of the bytes
 unfoldable pub ends_behind : List (List LiteralByte) → (history bytes : List ℕ) → ℕ → List (ℕ × ℕ)
 ends_behind literals history bytes from =
-    flat_map (λ end. pairs_at end (numbers_at literals (history ++ bytes) (length history + end))) (range_with_len (from + 1) (length bytes - from))
+    flat_map (λ end. pairs_at end (numbers_at literals (history ++ bytes) (length history + end)))
+    (range_with_len (from + 1) (length bytes - from))

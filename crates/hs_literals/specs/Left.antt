@@ -8,4 +8,5 @@ use Rattle.hs_literals.specs.AllEnds.{pairs_at, ends_behind}
 -- the ends that are still to come
 abbrev pub scan_left : LitScan → List (ℕ × ℕ)
 scan_left scan =
-    pairs_at scan.places.at (place_left scan.ends) ++ ends_behind (held scan.places.literals.now) scan.places.history.now scan.places.bytes.now scan.places.at
+    pairs_at scan.places.at (place_left scan.ends) ++ ends_behind (held scan.places.literals.now)
+    scan.places.history.now scan.places.bytes.now scan.places.at

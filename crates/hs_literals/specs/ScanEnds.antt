@@ -1,5 +1,5 @@
--- Where the literals of a list end in bytes: pairs of an offset in the bytes, behind the last byte of the literal, and the
--- literal's number, counted from 0.
+-- Where the literals of a list end in bytes: pairs of an offset in the bytes, behind the last byte of the literal, and
+-- the literal's number, counted from 0.
 use Rattle.std.specs.Prelude.{◌≡◌, ℕ, ◌+◌, ◌<◌, ◌≤◌, ◌⊎◌, ◌↔◌, List, ◌++◌, Some, length, slice_get}
 use Rattle.hs_base.specs.Literals.{LiteralByte}
 use Rattle.hs_base.specs.Lists.{IsMember, IsRising}
@@ -18,6 +18,7 @@ abbrev pub IsBefore : ℕ × ℕ → ℕ × ℕ → Type 0
 IsBefore x y = (x.0 < y.0) ⊎ ((x.0 ≡ y.0) × (x.1 < y.1))
 
 -- exactly these ends, each once, by rising end and then number
-pub record AreScanEnds (literals : List (List LiteralByte)) (history bytes : List ℕ) (ends : List (ℕ × ℕ)) : Type 0 where
-  pub rising : IsRising IsBefore ends
-  pub exact : (x : ℕ × ℕ) → IsMember x ends ↔ IsScanEnd literals history bytes x.0 x.1
+pub record AreScanEnds (literals : List (List LiteralByte)) (history bytes : List ℕ) (ends : List (ℕ × ℕ)) : Type 0
+  where
+    pub rising : IsRising IsBefore ends
+    pub exact : (x : ℕ × ℕ) → IsMember x ends ↔ IsScanEnd literals history bytes x.0 x.1

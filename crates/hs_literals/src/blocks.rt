@@ -20,8 +20,8 @@ fn bytes_before<'a>(history: &'a [u8], bytes: &'a [u8], from: usize) -> &'a [u8]
     &history[history.len().saturating_sub(PLACES - 1)..]
 }
 
-/// Writes the masks of 64 places from one on, which is the first of all or has enough bytes before it. Behind the last byte
-/// they leave no bucket open.
+/// Writes the masks of 64 places from one on, which is the first of all or has enough bytes before it. Behind the last
+/// byte they leave no bucket open.
 pub(crate) fn write_masks(
     literals: &Literals,
     history: &[u8],
@@ -33,7 +33,8 @@ pub(crate) fn write_masks(
     requires whole { (from ≡ 0) ⊎ (8 ≤ from) }
     ensures sixty_four { length masks.new ≡ 64 }
     ensures closed { ClosedBehind masks.new bytes.now from }
-    ensures hide_none { MasksHideNone masks.new (literals_of literals.now.confirm) (buckets_of literals.now.confirm) history.now bytes.now from }
+    ensures hide_none { MasksHideNone masks.new (literals_of literals.now.confirm) (buckets_of literals.now.confirm)
+        history.now bytes.now from }
 {
     let before = bytes_before(history, bytes, from);
     let rest = &bytes[from..];

@@ -1,5 +1,5 @@
-//! Every place at which one of many literals ends, by lanes: `literals` has the tables, `blocks` the masks of 64 places,
-//! `marks` which of them may have an end, `places` goes to the next one that may, and `scan` tells the ends.
+//! Every place at which one of many literals ends, by lanes: `literals` has the tables, `blocks` the masks of 64
+//! places, `marks` which of them may have an end, `places` goes to the next one that may, and `scan` tells the ends.
 //! `specs/ScanEnds.antt` says what an end is.
 #![tactic(auto)]
 

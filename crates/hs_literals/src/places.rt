@@ -3,7 +3,7 @@
 ghost use Rattle.std.specs.Prelude.{◌≡◌, ◌≢◌, ◌≤◌, ◌<◌, ◌+◌, ◌-◌, ◌++◌, [], MatchBool, MatchOption, length};
 ghost use Rattle.hs_confirm.specs.Filed.{literals_of, buckets_of};
 ghost use Rattle.hs_literals.specs.Masking.{HidesNone, MasksHideNone};
-ghost use Rattle.hs_literals.specs.OpenPlaces.{AreOpen, ClosedBehind};
+ghost use Rattle.hs_literals.specs.OpenPlaces.{AreOpenPlaces, ClosedBehind};
 ghost use Rattle.hs_literals.specs.Places.{NoneBetween};
 
 use crate::blocks::write_masks;
@@ -31,9 +31,10 @@ pub(crate) struct Places<'a> {
     ghost behind: { block ≤ at },
     ghost near: { at ≤ block + 64 },
     ghost sixty_four: { length masks ≡ 64 },
-    ghost are_open: { AreOpen masks (at - block) marks },
+    ghost are_open: { AreOpenPlaces masks (at - block) marks },
     ghost closed_behind: { ClosedBehind masks bytes.now block },
-    ghost hide_none: { MasksHideNone masks (literals_of literals.now.confirm) (buckets_of literals.now.confirm) history.now bytes.now block },
+    ghost hide_none: { MasksHideNone masks (literals_of literals.now.confirm) (buckets_of literals.now.confirm)
+        history.now bytes.now block },
 }
 
 impl<'a> Places<'a> {
@@ -60,15 +61,16 @@ impl<'a> Places<'a> {
         }
     }
 
-    /// Passes the rest of the block, where no place has a bucket left open, and makes the masks of the next block. It is
-    /// false where the block was the last one.
+    /// Passes the rest of the block, where no place has a bucket left open, and makes the masks of the next block. It
+    /// is false where the block was the last one.
     fn enter_block(&mut self) -> bool
         requires { self.old.marks ≡ 0 }
         ensures literals { self.new.literals ≡ self.old.literals }
         ensures history { self.new.history ≡ self.old.history }
         ensures bytes { self.new.bytes ≡ self.old.bytes }
         ensures low { self.old.at ≤ self.new.at }
-        ensures none { NoneBetween (literals_of self.old.literals.now.confirm) self.old.history.now self.old.bytes.now self.old.at (self.new.at + 1) }
+        ensures none { NoneBetween (literals_of self.old.literals.now.confirm) self.old.history.now self.old.bytes.now
+            self.old.at (self.new.at + 1) }
         ensures more { MatchBool result (self.old.block < self.new.block) (self.new.at ≡ length self.old.bytes.now) }
     {
         self.at = self.block + (self.bytes.len() - self.block).min(BLOCK_LEN);
@@ -95,8 +97,11 @@ impl<'a> Places<'a> {
         ensures history { self.new.history ≡ self.old.history }
         ensures bytes { self.new.bytes ≡ self.old.bytes }
         ensures low { self.old.at < self.new.at }
-        ensures none_before { NoneBetween (literals_of self.old.literals.now.confirm) self.old.history.now self.old.bytes.now self.old.at self.new.at }
-        ensures hides { HidesNone result (literals_of self.old.literals.now.confirm) (buckets_of self.old.literals.now.confirm) (self.old.history.now ++ self.old.bytes.now) (length self.old.history.now + self.new.at) }
+        ensures none_before { NoneBetween (literals_of self.old.literals.now.confirm) self.old.history.now
+            self.old.bytes.now self.old.at self.new.at }
+        ensures hides { HidesNone result (literals_of self.old.literals.now.confirm)
+            (buckets_of self.old.literals.now.confirm) (self.old.history.now ++ self.old.bytes.now)
+            (length self.old.history.now + self.new.at) }
     {
         let place = lowest_place(self.marks);
         self.marks = without_lowest(self.marks);
@@ -110,8 +115,14 @@ impl<'a> Places<'a> {
         ensures literals { self.new.literals ≡ self.old.literals }
         ensures history { self.new.history ≡ self.old.history }
         ensures bytes { self.new.bytes ≡ self.old.bytes }
-        ensures none_before { NoneBetween (literals_of self.old.literals.now.confirm) self.old.history.now self.old.bytes.now self.old.at self.new.at }
-        ensures next { MatchOption result ((self.new.at ≡ length self.old.bytes.now) × NoneBetween (literals_of self.old.literals.now.confirm) self.old.history.now self.old.bytes.now self.old.at (self.new.at + 1)) (λ mask. (self.old.at < self.new.at) × HidesNone mask (literals_of self.old.literals.now.confirm) (buckets_of self.old.literals.now.confirm) (self.old.history.now ++ self.old.bytes.now) (length self.old.history.now + self.new.at)) }
+        ensures none_before { NoneBetween (literals_of self.old.literals.now.confirm) self.old.history.now
+            self.old.bytes.now self.old.at self.new.at }
+        ensures next { MatchOption result
+            ((self.new.at ≡ length self.old.bytes.now) ×
+            NoneBetween (literals_of self.old.literals.now.confirm) self.old.history.now self.old.bytes.now self.old.at
+            (self.new.at + 1)) (λ mask. (self.old.at < self.new.at) ×
+            HidesNone mask (literals_of self.old.literals.now.confirm) (buckets_of self.old.literals.now.confirm)
+            (self.old.history.now ++ self.old.bytes.now) (length self.old.history.now + self.new.at)) }
     {
         while self.marks == 0 {
             if !self.enter_block() {
@@ -123,8 +134,13 @@ impl<'a> Places<'a> {
 
     /// The literals that end at the place, given a mask that hides none of them, or None where there is none.
     pub(crate) fn ends(&self, mask: u8) -> Option<PlaceEnds<'a>>
-        requires { HidesNone mask (literals_of self.now.literals.now.confirm) (buckets_of self.now.literals.now.confirm) (self.now.history.now ++ self.now.bytes.now) (length self.now.history.now + self.now.at) }
-        ensures { MatchOption result (numbers_at (literals_of self.now.literals.now.confirm) (self.now.history.now ++ self.now.bytes.now) (length self.now.history.now + self.now.at) ≡ []) (λ ends. place_left ends ≡ numbers_at (literals_of self.now.literals.now.confirm) (self.now.history.now ++ self.now.bytes.now) (length self.now.history.now + self.now.at)) }
+        requires { HidesNone mask (literals_of self.now.literals.now.confirm) (buckets_of self.now.literals.now.confirm)
+            (self.now.history.now ++ self.now.bytes.now) (length self.now.history.now + self.now.at) }
+        ensures { MatchOption result
+            (numbers_at (literals_of self.now.literals.now.confirm) (self.now.history.now ++ self.now.bytes.now)
+            (length self.now.history.now + self.now.at) ≡ [])
+            (λ ends. place_left ends ≡ numbers_at (literals_of self.now.literals.now.confirm)
+            (self.now.history.now ++ self.now.bytes.now) (length self.now.history.now + self.now.at)) }
     {
         self.literals
             .confirm

@@ -6,8 +6,8 @@ use crate::literals::Literals;
 use crate::places::Places;
 use hs_confirm::PlaceEnds;
 
-/// The ends of literals in bytes, by rising end and then number: pairs of an offset in the bytes, behind the literal's last
-/// byte, and the number of the literal.
+/// The ends of literals in bytes, by rising end and then number: pairs of an offset in the bytes, behind the literal's
+/// last byte, and the number of the literal.
 #[derive(Debug, Drop)]
 pub struct LitScan<'a> {
     /// Where the scan is.
@@ -35,7 +35,15 @@ impl<'a> LitScan<'a> {
     /// Goes on to the next place that has ends, if there is one.
     fn enter_next(&mut self) -> bool
         ensures bytes { self.new.places.bytes ≡ self.old.places.bytes }
-        ensures next { MatchBool result ((self.old.places.at < self.new.places.at) × (ends_behind (held self.old.places.literals.now) self.old.places.history.now self.old.places.bytes.now self.old.places.at ≡ scan_left self.new)) ((self.new.ends ≡ self.old.ends) × (ends_behind (held self.old.places.literals.now) self.old.places.history.now self.old.places.bytes.now self.old.places.at ≡ []) × (ends_behind (held self.new.places.literals.now) self.new.places.history.now self.new.places.bytes.now self.new.places.at ≡ [])) }
+        ensures next { MatchBool result
+            ((self.old.places.at < self.new.places.at) ×
+            (ends_behind (held self.old.places.literals.now) self.old.places.history.now self.old.places.bytes.now
+            self.old.places.at ≡ scan_left self.new))
+            ((self.new.ends ≡ self.old.ends) ×
+            (ends_behind (held self.old.places.literals.now) self.old.places.history.now self.old.places.bytes.now
+            self.old.places.at ≡ []) ×
+            (ends_behind (held self.new.places.literals.now) self.new.places.history.now self.new.places.bytes.now
+            self.new.places.at ≡ [])) }
     {
         while let Some(mask) = self.places.next_open() {
             if let Some(ends) = self.places.ends(mask) {

@@ -1,3 +1,4 @@
+//! Every end of many literals, beside the plain program.
 use crate::{LitScan, Literals};
 use hs_base::LitByte;
 use hs_confirm::plain_ends;

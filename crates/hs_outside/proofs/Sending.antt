@@ -1,7 +1,8 @@
 -- Writing a text in pieces.
 use Rattle.std.proofs.Common.{◌≡◌, ℕ, List, [], ◌++◌, length, take, drop, Option, None, Some, sym, subst, ◌∙◌, ap, refl, append_assoc, append-nil, ◌≤◌, ◌+◌, arith, length-drop}
 use Rattle.std.proofs.lemmas.List.{take-append-drop, take_all}
-use Rattle.hs_outside.specs.Sink.{Took, TookPrefix}
+use Rattle.hs_outside.specs.Sink.{Took, TookPrefix, IsSent, IsCutShort}
+use Rattle.hs_outside.proofs.Counting.{Rose-after_same}
 
 -- nothing was written
 pub Took-nothing : (now : Option (List ℕ)) → Took now now []
@@ -91,3 +92,24 @@ pub sent_part_lent : (before now later : Option (List ℕ)) (text rest : List �
 sent_part_lent before now later text rest n room sent taken all =
     let whole : take room (drop n rest) ≡ drop n rest = take_all room (drop n rest) (omega (arith, length-drop n rest)) in
     subst (λ (r : List ℕ). Sent before later text r) (sym whole) (sent_part before now later text rest n sent taken)
+
+-- one text sent after another
+pub IsSent-then : {before between after : Option (List ℕ)} {faults later last : ℕ} {text more : List ℕ} → IsSent before between faults later text → IsSent between after later last more → IsSent before after faults last (text ++ more)
+IsSent-then first second = record {
+  taken = Took-append _ _ _ _ _ first.taken second.taken;
+  counted = second.counted ∙ first.counted;
+}
+
+-- a text sent, and the next one cut short
+pub IsCutShort-after : {before between after : Option (List ℕ)} {faults later last : ℕ} {text more : List ℕ} → IsSent before between faults later text → IsCutShort between after later last more → IsCutShort before after faults last (text ++ more)
+IsCutShort-after first second = record {
+  cut = TookPrefix-after _ _ _ _ _ first.taken second.cut;
+  failed = Rose-after_same _ _ _ first.counted second.failed;
+}
+
+-- a text cut short, of which more was to come
+pub IsCutShort-longer : {before after : Option (List ℕ)} {faults later : ℕ} {text : List ℕ} (more : List ℕ) → IsCutShort before after faults later text → IsCutShort before after faults later (text ++ more)
+IsCutShort-longer more cut = record {
+  cut = TookPrefix-longer _ _ _ more cut.cut;
+  failed = cut.failed;
+}

@@ -16,7 +16,8 @@ file_of slot = record { name = slot.name; content = slot.content }
 abbrev pub files_of : List Slot → List File
 files_of slots = map file_of slots
 
--- the slots in use and the spare ones: the bytes in use are counted and have room, each slot has room for all, and there is a place for each slot
+-- the slots in use and the spare ones: the bytes in use are counted and have room, each slot has room for all, and
+-- there is a place for each slot
 pub record IsStocked (files spare : List Slot) (places used room : ℕ) : Type 0 where
   pub counted : used ≡ total_len (files_of files)
   pub within : used ≤ room

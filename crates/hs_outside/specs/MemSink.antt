@@ -1,5 +1,6 @@
 -- A sink over memory: what it holds, and what a write takes and leaves.
-use Rattle.std.specs.Prelude.{ℕ, ◌-◌, Bool, ◌||◌, ◌&&◌, nat_le, nat_lt, List, [], ◌++◌, take, length, min, if◌then◌else◌}
+use Rattle.std.specs.Prelude.{ℕ, ◌-◌, Bool, ◌||◌, ◌&&◌, nat_le, nat_lt, List, [], ◌++◌, take, length, min}
+use Rattle.std.specs.Prelude.{if◌then◌else◌}
 use Rattle.hs_outside.specs.FaultPlan.{Plan, first_plan, is_listed, called, failed}
 
 -- the bytes that were written, the most that it holds, and the calls that fail

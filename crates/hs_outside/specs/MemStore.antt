@@ -1,5 +1,6 @@
 -- A store over memory: what it holds, and what its calls give and leave.
-use Rattle.std.specs.Prelude.{◌≡◌, ◌≢◌, ℕ, zero, suc, ◌+◌, ◌-◌, Bool, ◌||◌, ◌&&◌, not, nat_le, List, [], ◌∷◌, length, min, if◌then◌else◌, Option, None, Some, Result, Ok, Err}
+use Rattle.std.specs.Prelude.{◌≡◌, ◌≢◌, ℕ, zero, suc, ◌+◌, ◌-◌, Bool, ◌||◌, ◌&&◌, not, nat_le, List, [], ◌∷◌, length}
+use Rattle.std.specs.Prelude.{min, if◌then◌else◌, Option, None, Some, Result, Ok, Err}
 use Rattle.std.specs.Str.{bytes_eq}
 use Rattle.hs_outside.specs.FaultPlan.{Plan, first_plan, is_listed, called, failed}
 use Rattle.hs_outside.specs.Store.{Told, lacks, holds}

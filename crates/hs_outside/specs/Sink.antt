@@ -1,5 +1,6 @@
 -- What a sink has taken, and what a write says of it.
-use Rattle.std.specs.Prelude.{◌≡◌, ℕ, ◌<◌, ◌≤◌, List, ◌++◌, length, take, Option, None, Some}
+use Rattle.std.specs.Prelude.{◌≡◌, ℕ, ◌<◌, ◌≤◌, List, ◌++◌, length, take, Option, None, Some, Result, Ok, Err}
+use Rattle.hs_outside.specs.Counts.{Rose}
 
 -- the bytes were added; a sink may stop telling what it took, and then tells nothing later
 abbrev pub Took : Option (List ℕ) → Option (List ℕ) → List ℕ → Type 0
@@ -20,3 +21,18 @@ pub record TookPrefix (before now : Option (List ℕ)) (piece : List ℕ) : Type
   pub rest : List ℕ
   pub split : piece ≡ front ++ rest
   pub taken : Took before now front
+
+-- a whole text was sent: all of it was added, and no fault was counted
+pub record IsSent (before after : Option (List ℕ)) (faults later : ℕ) (text : List ℕ) : Type 0 where
+  pub taken : Took before after text
+  pub counted : later ≡ faults
+
+-- a text was cut short: a beginning of it was added, maybe none, maybe all, and a fault was counted
+pub record IsCutShort (before after : Option (List ℕ)) (faults later : ℕ) (text : List ℕ) : Type 0 where
+  pub cut : TookPrefix before after text
+  pub failed : Rose faults later
+
+-- what a call that sends a text does to a sink: the bytes that it took and its count of faults, before and after
+abbrev pub Sends : {T E : Type 0} → Result T E → Option (List ℕ) → Option (List ℕ) → ℕ → ℕ → List ℕ → Type 0
+Sends (Ok done) before after faults later text = IsSent before after faults later text
+Sends (Err fault) before after faults later text = IsCutShort before after faults later text

@@ -24,7 +24,8 @@ EndsBy untold offset = Unit {0}
 EndsBy lacks offset = ⊥
 EndsBy (holds file) offset = length file ≤ offset
 
--- n bytes came: they are the first of the buffer, whose rest is as it was. None come only at the file's end or without room.
+-- n bytes came: they are the first of the buffer, whose rest is as it was. None come only at the file's end or without
+-- room.
 pub record ReadsAt (told : Told) (offset : ℕ) (old new : List ℕ) (n : ℕ) : Type 0 where
   pub within : n ≤ length new
   pub given : HasAt told offset (take n new)
@@ -43,7 +44,8 @@ IsPresent untold = Unit {0}
 IsPresent lacks = ⊥
 IsPresent (holds file) = Unit {0}
 
--- why nothing was read: no such file, with the count as it was; or a fault, which is counted, and only of a file that isn't told missing
+-- why nothing was read: no such file, with the count as it was; or a fault, which is counted, and only of a file that
+-- isn't told missing
 abbrev pub Refuses : StoreFault → Told → ℕ → ℕ → Type 0
 Refuses Absent told before now = IsMissing told × (now ≡ before)
 Refuses Failed told before now = IsPresent told × Rose before now

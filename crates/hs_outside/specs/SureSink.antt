@@ -1,5 +1,6 @@
 -- A sink over memory that never fails: what it holds, and what a write leaves.
-use Rattle.std.specs.Prelude.{ℕ, ◌+◌, Bool, true, false, nat_le, List, [], ◌++◌, length, Option, None, Some, if◌then◌else◌}
+use Rattle.std.specs.Prelude.{ℕ, ◌+◌, Bool, true, false, nat_le, List, [], ◌++◌, length, Option, None, Some}
+use Rattle.std.specs.Prelude.{if◌then◌else◌}
 
 -- the bytes of the writes that had room, the most that it holds, and whether each write until now had room
 pub record Kept : Type 0 where

@@ -3,8 +3,8 @@ use Rattle.std.specs.Prelude.{ℕ, Bool, true, false, ◌&&◌, nat_le, List, []
 use Rattle.hs_outside.specs.MemStore.{File, content_of, told_of, put_in, total_len}
 use Rattle.hs_outside.specs.Store.{Told, untold}
 
--- the files whose puts had room, the most files and the most bytes of names and contents that it holds, and whether each
--- put until now had room
+-- the files whose puts had room, the most files and the most bytes of names and contents that it holds, and whether
+-- each put until now had room
 pub record Cabinet : Type 0 where
   pub files : List File
   pub most_files : ℕ

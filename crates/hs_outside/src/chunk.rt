@@ -2,6 +2,7 @@
 ghost use Rattle.std.specs.Prelude.{◌≡◌, ◌≤◌, IfOk, length, drop};
 
 use crate::Failed;
+use crate::fault::MOST_TRIES;
 use std::io::{ErrorKind, Read};
 
 /// The most bytes that one read takes.
@@ -37,11 +38,11 @@ impl Chunk {
     }
 }
 
-/// Reads once, again where a signal interrupts it.
+/// Reads once, again where a signal interrupts it, so often and no more.
 fn read_some<R: Read>(reader: &mut R, room: &mut [u8]) -> Result<usize, Failed>
     ensures { IfOk result (λ n. n ≤ length room.new) }
 {
-    for _ in 0..u64::MAX {
+    for _ in 0..MOST_TRIES {
         match reader.read(room) {
             Ok(n) => return Ok(n),
             Err(error) if error.kind() == ErrorKind::Interrupted => {}

@@ -4,6 +4,10 @@ ghost use Rattle.hs_outside.specs.Counts.{raised};
 
 use thiserror::Error;
 
+/// How often an adapter makes a call of the system that a signal interrupts. One that is interrupted as often has
+/// failed.
+pub(crate) const MOST_TRIES: u32 = 1000;
+
 /// A source, a sink or a store failed. Its count of faults rose.
 #[derive(Clone, Copy, Debug, PartialEq, Eq, Error)]
 #[error("the outside failed")]

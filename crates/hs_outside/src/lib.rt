@@ -2,6 +2,8 @@
 //! adapters over the real thing, and the loops that read to an end and write a whole text.
 #![tactic(auto)]
 
+#[cfg(test)]
+mod adapter_tests;
 mod chunk;
 mod fault;
 mod fault_plan;
@@ -35,4 +37,4 @@ pub use store::Store;
 pub use sure_sink::SureSink;
 pub use sure_source::SureSource;
 pub use sure_store::SureStore;
-pub use transfer::{read_file, read_to_end, write_all};
+pub use transfer::{PIECE_LEN, read_file, read_to_end, write_all};

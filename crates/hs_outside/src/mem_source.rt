@@ -34,7 +34,8 @@ impl Model for MemSource {
       plan = source.plan;
     } };
 
-    ghost invariant = { λ source. (source.taken ≤ length source.bytes.items) × (source.read ≤ length source.pieces.items) };
+    ghost invariant = { λ source. (source.taken ≤ length source.bytes.items) ×
+        (source.read ≤ length source.pieces.items) };
 }
 
 impl MemSource {

@@ -1,10 +1,12 @@
 //! A store in memory.
-ghost use Rattle.std.specs.Prelude.{◌≡◌, ◌≢◌, ◌<◌, ◌≤◌, ◌↔◌, Some, IfSome, IfOk, OnOk, IsErr, IsTrue, IfErr, OnErr, MatchOption, All, length, min, ◌-◌};
+ghost use Rattle.std.specs.Prelude.{◌≡◌, ◌≢◌, ◌<◌, ◌≤◌, ◌↔◌, Some, IfSome, IfOk, OnOk, IsErr, IsTrue, IfErr, OnErr};
+ghost use Rattle.std.specs.Prelude.{MatchOption, All, length, min, ◌-◌};
 ghost use Rattle.std.specs.Option.{option_copied};
 ghost use Rattle.hs_outside.specs.Counts.{Rose};
 ghost use Rattle.hs_outside.specs.FaultPlan.{is_listed};
 ghost use Rattle.hs_outside.specs.MemFile.{files_of};
-ghost use Rattle.hs_outside.specs.MemStore.{IsFirstNamed, first_store, content_of, told_in, read_answer, plan_read, put_in, has_room, refuses_put, after_put};
+ghost use Rattle.hs_outside.specs.MemStore.{IsFirstNamed, first_store, content_of, told_in, read_answer, plan_read};
+ghost use Rattle.hs_outside.specs.MemStore.{put_in, has_room, refuses_put, after_put};
 ghost use Rattle.hs_outside.specs.Store.{holds, ReadsAt, Refuses, Puts, PutsOrHides, Spoils};
 
 use crate::fault_plan::FaultPlan;
@@ -40,7 +42,8 @@ impl Model for MemStore {
       plan = store.plan;
     } };
 
-    ghost invariant = { λ store. IsStocked store.files.items store.spare.items (vec_capacity store.files) store.used store.room };
+    ghost invariant = { λ store. IsStocked store.files.items store.spare.items (vec_capacity store.files) store.used
+        store.room };
 }
 
 /// Where the first file of this name stands.

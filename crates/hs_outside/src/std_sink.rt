@@ -2,7 +2,7 @@
 ghost use Rattle.std.specs.Prelude.{◌≡◌, ◌<◌, ◌≤◌, None, IfOk, OnOk, OnErr, length};
 ghost use Rattle.hs_outside.specs.Counts.{Rose};
 
-use crate::fault::raise;
+use crate::fault::{MOST_TRIES, raise};
 use crate::{Failed, Sink};
 use std::io::{ErrorKind, Write};
 use std::marker::Model;
@@ -59,12 +59,12 @@ impl<W: Write> Sink for StdSink<W> {
     }
 }
 
-/// One write, tried again while a signal interrupts it. To take none of some bytes is a failure.
+/// One write, tried again where a signal interrupts it, so often and no more. To take none of some bytes is a failure.
 fn write_some<W: Write>(writer: &mut W, bytes: &[u8]) -> Result<usize, Failed>
     ensures within { IfOk result (λ n. n ≤ length bytes.now) }
     ensures some { 0 < length bytes.now → IfOk result (λ n. 0 < n) }
 {
-    for _ in 0..u64::MAX {
+    for _ in 0..MOST_TRIES {
         match writer.write(bytes) {
             Ok(0) if !bytes.is_empty() => return Err(Failed),
             Ok(n) => return Ok(n),

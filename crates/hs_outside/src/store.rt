@@ -18,7 +18,8 @@ pub trait Store {
     fn read_at(&mut self, name: &str, offset: u64, buf: &mut [u8]) -> Result<usize, StoreFault>
         ensures given { IfOk result (λ n. ReadsAt (told self.old name.now) offset buf.old buf.new n) }
         ensures counted { OnOk result (faults self.new ≡ faults self.old) }
-        ensures refused { IfErr result (λ fault. Refuses fault (told self.old name.now) (faults self.old) (faults self.new)) }
+        ensures refused { IfErr result
+            (λ fault. Refuses fault (told self.old name.now) (faults self.old) (faults self.new)) }
         ensures kept { told self.new ≡ told self.old };
 
     /// Makes `bytes` the whole of the file `name`, which needn't be there before. After a failure that one file may be

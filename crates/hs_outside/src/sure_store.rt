@@ -36,8 +36,8 @@ impl Model for SureStore {
 }
 
 impl SureStore {
-    /// A store without files, with room for `files` files whose names and contents have `bytes` bytes together. It takes
-    /// memory for `files` names and contents of `bytes` bytes each.
+    /// A store without files, with room for `files` files whose names and contents have `bytes` bytes together. It
+    /// takes memory for `files` names and contents of `bytes` bytes each.
     pub fn new(alloc: Global, files: usize, bytes: usize) -> Result<Self, AllocError>
         ensures { IfOk result (λ store. store ≡ first_cabinet files bytes) }
     {

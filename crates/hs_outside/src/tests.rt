@@ -1,11 +1,11 @@
-//! The versions over memory call by call, the loops over them, and the adapters over real files.
+//! The versions over memory call by call, and the loops over them.
+ghost use Rattle.hs_outside.specs.Store.{untold};
+
 use crate::{
-    Failed, FileFault, FolderStore, MemSink, MemSource, MemStore, Sink, Source, SourceFault,
-    StdSink, StdSource, Store, StoreFault, SureSink, SureSource, SureStore, read_file, read_to_end,
-    write_all,
+    Failed, FileFault, MemSink, MemSource, MemStore, Sink, Source, SourceFault, Store, StoreFault,
+    SureSink, SureSource, SureStore, read_file, read_to_end, write_all,
 };
 use std::test::Fail;
-use std::{fs, process};
 
 #[test]
 fn a_source_gives_pieces_and_fails_at_listed_reads(rt: HostRuntime) -> Result<(), Fail> {
@@ -183,48 +183,35 @@ fn a_sure_store_tells_until_it_is_full(rt: HostRuntime) -> Result<(), Fail> {
     Ok(())
 }
 
-#[test]
-fn adapters_move_the_bytes_of_a_file(rt: HostRuntime) -> Result<(), Fail> {
-    let file = format!(in rt.alloc(); "/tmp/hs_outside-{}-adapters", process::id(rt.process()))?;
-    let path = file.as_str();
-    let mut sink = StdSink::new(fs::create(&rt, path)?);
-    assert_eq!(rt; sink.write(b"Look, "), Ok(6));
-    assert_eq!(rt; sink.write(b"a bird"), Ok(6));
-    assert_eq!(rt; sink.flush(), Ok(()));
-    let mut source = StdSource::new(fs::open(&rt, path)?);
-    let mut buf = *b"________________";
-    assert_eq!(rt; source.read(&mut buf), Ok(12));
-    assert_eq!(rt; buf.as_slice(), b"Look, a bird____".as_slice());
-    assert_eq!(rt; source.read(&mut buf), Ok(0));
-    let mut folder = StdSource::new(fs::open(&rt, "/tmp")?);
-    assert_eq!(rt; folder.read(&mut buf), Err(Failed));
-    fs::remove_file(&rt, path)?;
-    Ok(())
+/// A store that tells nothing, with a file that is gone after the first read.
+#[derive(Drop)]
+struct Vanishing {
+    is_gone: bool,
+}
+
+impl Store for Vanishing {
+    ghost told = { λ _ _. untold };
+
+    ghost faults = { λ _. 0 };
+
+    fn read_at(&mut self, _name: &str, _offset: u64, buf: &mut [u8]) -> Result<usize, StoreFault> {
+        if self.is_gone || buf.is_empty() {
+            return Err(StoreFault::Absent);
+        }
+        self.is_gone = true;
+        buf[0] = b'x';
+        Ok(1)
+    }
+
+    fn put(&mut self, _name: &str, _bytes: &[u8]) -> Result<(), Failed> {
+        Ok(())
+    }
 }
 
 #[test]
-fn a_folder_store_reads_what_was_put(rt: HostRuntime) -> Result<(), Fail> {
-    let file = format!(in rt.alloc(); "/tmp/hs_outside-{}-store", process::id(rt.process()))?;
-    let path = file.as_str();
-    let mut store = FolderStore::new(&rt);
-    let mut buf = *b"________";
-    assert_eq!(rt; store.read_at(path, 0, &mut buf), Err(StoreFault::Absent));
-    assert_eq!(rt; store.put(path, b"Look, a bird"), Ok(()));
-    assert_eq!(rt; store.read_at(path, 6, &mut buf), Ok(6));
-    assert_eq!(rt; buf.as_slice(), b"a bird__".as_slice());
-    assert_eq!(rt; store.read_at(path, 12, &mut buf), Ok(0));
-    assert_eq!(rt;
-        store.read_at("/tmp/hs_outside-none", 12, &mut buf),
-        Err(StoreFault::Absent)
-    );
-    assert_eq!(rt; store.read_at(path, 0, &mut buf), Ok(8));
-    assert_eq!(rt; store.put(path, b"No birds, no planes"), Ok(()));
-    assert_eq!(rt; store.read_at(path, 8, &mut buf), Ok(8));
-    assert_eq!(rt; store.read_at(path, 16, &mut buf), Ok(3));
-    assert_eq!(rt; buf.as_slice(), b"neso pla".as_slice());
-    assert_eq!(rt; store.read_at(path, 1 << 40, &mut buf), Ok(0));
-    assert_eq!(rt; store.read_at("/tmp", 0, &mut buf), Err(StoreFault::Failed));
-    assert_eq!(rt; store.put("/tmp", b""), Err(Failed));
-    fs::remove_file(&rt, path)?;
+fn a_file_that_goes_while_it_is_read_is_absent(rt: HostRuntime) -> Result<(), Fail> {
+    let mut store = Vanishing { is_gone: false };
+    let read = read_file(rt.alloc(), &mut store, "a", 12);
+    assert_eq!(rt; read.err(), Some(FileFault::Absent));
     Ok(())
 }

@@ -1,22 +1,18 @@
 //! The loops over the outside: a whole text to a sink, a source to its end, a whole file of a store.
 ghost use Rattle.std.specs.Prelude.{◌≡◌, ◌≤◌, IfOk, OnOk, IfErr, OnErr, length};
-ghost use Rattle.hs_outside.specs.Counts.{Rose};
-ghost use Rattle.hs_outside.specs.Sink.{Took, TookPrefix};
+ghost use Rattle.hs_outside.specs.Sink.{Sends};
 ghost use Rattle.hs_outside.specs.Source.{GaveAll, Interrupts};
 ghost use Rattle.hs_outside.specs.Store.{IsFile, Prevents};
 
 use crate::{Failed, FileFault, Sink, Source, SourceFault, Store, StoreFault};
 use std::alloc::Global;
 
-/// How many bytes are asked for at once.
-const PIECE_LEN: usize = 65536;
+/// How many bytes of a file or a stream are asked for at once.
+pub const PIECE_LEN: usize = 65536;
 
 /// Writes all of `bytes`. A failed sink took a first part of them.
 pub fn write_all<O: Sink>(sink: &mut O, bytes: &[u8]) -> Result<(), Failed>
-    ensures taken { OnOk result (Took (O.written sink.old) (O.written sink.new) bytes.now) }
-    ensures counted { OnOk result (O.faults sink.new ≡ O.faults sink.old) }
-    ensures cut { OnErr result (TookPrefix (O.written sink.old) (O.written sink.new) bytes.now) }
-    ensures failed { OnErr result (Rose (O.faults sink.old) (O.faults sink.new)) }
+    ensures { Sends result (O.written sink.old) (O.written sink.new) (O.faults sink.old) (O.faults sink.new) bytes.now }
 {
     let mut rest = bytes;
     while !rest.is_empty() {

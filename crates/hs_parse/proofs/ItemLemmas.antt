@@ -12,12 +12,12 @@ use Rattle.hs_syntax.proofs.FitLemmas.{either, byte_within}
 use Rattle.hs_syntax.proofs.EscapeFits.{piece_fits}
 use Rattle.hs_parse.specs.declared.item.Item.{Item}
 use Rattle.hs_parse.specs.declared.item.Item.TheVariants as item
-use Rattle.hs_parse.specs.Classes.{hyphen, piece_of, range_of, item_of, item_at}
+use Rattle.hs_parse.specs.Classes.{hyphen, class_piece, range_of, item_of, item_at}
 
 -- a piece at a place takes some of the bytes that are left
-pub piece_left : (text : List ℕ) (caseless : Bool) (start at : ℕ) → PieceFits (length text - at) (piece_of text caseless start at)
+pub piece_left : (text : List ℕ) (caseless : Bool) (start at : ℕ) → PieceFits (length text - at) (class_piece text caseless start at)
 piece_left text caseless start at =
-    subst (λ n. PieceFits n (piece_of text caseless start at)) (length-drop at text) (piece_fits caseless (at == start) (drop at text))
+    subst (λ n. PieceFits n (class_piece text caseless start at)) (length-drop at text) (piece_fits caseless (at == start) (drop at text))
 
 -- how far an item at a place goes, in so many bytes
 abbrev pub ItemFits : (bytes at : ℕ) → Item → Type 0
@@ -40,14 +40,14 @@ range_fits bytes at code middle caseless (piece.Refused reason) h k fits = tt
 item_of_fits :
     (text : List ℕ) (caseless : Bool) (start at : ℕ) (p : Piece) → at ≤ length text → PieceFits (length text - at) p →
     ItemFits (length text) at
-    (item_of caseless at (λ place. is_byte hyphen (slice_get text place)) (λ place. piece_of text caseless start place) p)
+    (item_of caseless at (λ place. is_byte hyphen (slice_get text place)) (λ place. class_piece text caseless start place) p)
 item_of_fits text caseless start at piece.End h fits = omega (arith, fits)
 item_of_fits text caseless start at piece.Close h fits = omega (arith, fits.within)
 item_of_fits text caseless start at (piece.Character code n) h fits =
     either (ItemFits (length text) at) (is_byte hyphen (slice_get text (at + n))) _ _
     (λ e.
     let there = byte_within text (at + n) hyphen e in
-    range_fits (length text) at code (at + n) caseless (piece_of text caseless start (at + n + 1)) (omega (arith, fits.some)) there
+    range_fits (length text) at code (at + n) caseless (class_piece text caseless start (at + n + 1)) (omega (arith, fits.some)) there
     (piece_left text caseless start (at + n + 1)))
     (λ _. (omega (arith, fits.some), omega (arith, h, fits.within)))
 item_of_fits text caseless start at (piece.Class class negated n) h fits = (omega (arith, fits.some), omega (arith, h, fits.within))
@@ -56,7 +56,7 @@ item_of_fits text caseless start at (piece.Refused reason) h fits = tt
 pub item_fits : (text : List ℕ) (caseless : Bool) (start at : ℕ) → at ≤ length text → ItemFits (length text) at (item_at text caseless start at)
 unfolding item_at
 item_fits text caseless start at h =
-    item_of_fits text caseless start at (piece_of text caseless start at) h (piece_left text caseless start at)
+    item_of_fits text caseless start at (class_piece text caseless start at) h (piece_left text caseless start at)
 
 -- the bytes that an item takes
 pub item_end :

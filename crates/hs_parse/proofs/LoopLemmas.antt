@@ -234,12 +234,12 @@ group_read text depth s end f close tree below next opens read ended other =
 
 -- a group that the text ends in
 pub group_open :
-    (text : List ℕ) (flags : Flags) (depth : ℕ) (s end : Spot) (f close : Found) (tree : Tree) →
+    (text : List ℕ) (depth : ℕ) (s end : Spot) (f close : Found) (tree : Tree) →
     depth < greatest_depth → IsNext text s f → f.token ≡ seen.Opening →
     ReadsGroup text (depth + 1) f.behind tree end → IsNext text end close → close.token ≡ seen.End →
-    StopsFrom text flags depth s (fault.Refused (Syntax close.start.place))
-group_open text flags depth s end f close tree below next opens read ended is =
-    unclosed_stops text flags depth s f.start f.behind end close.start close.behind read.trees below (as_next next opens) read.whole
+    StopsFrom text depth s (fault.Refused (Syntax close.start.place))
+group_open text depth s end f close tree below next opens read ended is =
+    unclosed_stops text depth s f.start f.behind end close.start close.behind read.trees below (as_next next opens) read.whole
     (as_next ended is)
 
 -- the end of a sequence, as the parser sees it
@@ -344,30 +344,30 @@ quantifier_seen (seen.Refused refusal) e = absurd cc
 
 -- a quantifier behind it
 pub twice_read :
-    (text : List ℕ) (flags : Flags) (depth : ℕ) (s middle : Spot) (f again : Found) (n : ℕ) (m : Option ℕ)
+    (text : List ℕ) (depth : ℕ) (s middle : Spot) (f again : Found) (n : ℕ) (m : Option ℕ)
     (possessive : Bool) (tree : Tree) →
     ReadsAtom text depth s tree middle → IsNext text middle f → f.token ≡ seen.Quantifier n m possessive →
     quantifier_faults f.start.place n m possessive faults.atom ≡ [] →
     IsNext text f.behind again → sees_quantifier again.token ≡ true →
-    StopsFrom text flags depth s (fault.Refused (Syntax again.start.place))
-twice_read text flags depth s middle f again n m possessive tree read next e right behind is =
+    StopsFrom text depth s (fault.Refused (Syntax again.start.place))
+twice_read text depth s middle f again n m possessive tree read next e right behind is =
     let good = all_right f.start.place n m possessive right in
     let marks : Next text middle f.start (quantifier n m possessive) f.behind = as_next next e in
     let mark : Next text middle f.start (quantifier n m false) f.behind =
     subst (λ b. Next text middle f.start (quantifier n m b) f.behind) good.1 marks in
     let other = quantifier_seen again.token is in
-    twice_stops text flags depth s middle f.start f.behind again.start again.behind n other.least m other.greatest other.possessive
+    twice_stops text depth s middle f.start f.behind again.start again.behind n other.least m other.greatest other.possessive
     tree read.whole mark good.0 (as_next behind other.is)
 
 -- a quantifier with which something is wrong
 pub wrong_read :
-    (text : List ℕ) (flags : Flags) (depth : ℕ) (s middle : Spot) (f : Found) (n : ℕ) (m : Option ℕ)
+    (text : List ℕ) (depth : ℕ) (s middle : Spot) (f : Found) (n : ℕ) (m : Option ℕ)
     (possessive : Bool) (tree : Tree) (refusal : Refusal) →
     ReadsAtom text depth s tree middle → IsNext text middle f → f.token ≡ seen.Quantifier n m possessive →
     IsLeastOf refusal (quantifier_faults f.start.place n m possessive faults.atom) →
-    StopsFrom text flags depth s (fault.Refused refusal)
-wrong_read text flags depth s middle f n m possessive tree refusal read next e least =
-    wrong_stops text flags depth s middle f.start f.behind n m possessive tree refusal read.whole (as_next next e) least
+    StopsFrom text depth s (fault.Refused refusal)
+wrong_read text depth s middle f n m possessive tree refusal read next e least =
+    wrong_stops text depth s middle f.start f.behind n m possessive tree refusal read.whole (as_next next e) least
 
 -- a whole sequence
 pub sequence_read :

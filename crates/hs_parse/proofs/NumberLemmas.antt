@@ -22,7 +22,7 @@ use Rattle.hs_parse.specs.declared.item.Item.{Item}
 use Rattle.hs_parse.specs.declared.item.Item.TheVariants as item
 use Rattle.hs_parse.specs.declared.spot.Spot.{Spot}
 use Rattle.hs_parse.specs.Spots.{form_of, refusal_at}
-use Rattle.hs_parse.specs.Classes.{hyphen, piece_of, range_of, item_of, item_at}
+use Rattle.hs_parse.specs.Classes.{hyphen, class_piece, range_of, item_of, item_at}
 use Rattle.hs_parse.specs.Tokens.{Token, ending, single, assertion, opening, closing, bar, quantifier, setting, faulty, Made, token, skips, bracket, made_by, made_at, ClassToken, closed, unclosed, refused, TokenAt, formed, bracketed, Next, now, skipped}
 use Rattle.hs_parse.specs.Grammar.{greatest_depth}
 use Rattle.hs_parse.specs.Faults.{Before, beginning, atom, repeated, Move, goes, accepts, stops, order_faults, bounds_faults, mark_faults, quantifier_faults, end_move, close_move, quantifier_move, move, IsOneOf, HasFault, too_long, stopped, Fault, IsOfText, syntax_fault, unknown_escape, unsupported, repeat_limit, length_limit, depth_limit}
@@ -62,8 +62,8 @@ item_number_of caseless at hyphens pieces (piece.Refused reason) = form_number r
 item_number : (text : List ℕ) (caseless : Bool) (start at : ℕ) → ItemNumber (item_at text caseless start at)
 unfolding item_at
 item_number text caseless start at =
-    item_number_of caseless at (λ place. is_byte hyphen (slice_get text place)) (λ place. piece_of text caseless start place)
-    (piece_of text caseless start at)
+    item_number_of caseless at (λ place. is_byte hyphen (slice_get text place)) (λ place. class_piece text caseless start place)
+    (class_piece text caseless start at)
 
 -- of a token
 abbrev TokenNumber : Token → Type 0

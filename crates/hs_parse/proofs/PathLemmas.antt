@@ -13,7 +13,7 @@ use Rattle.hs_parse.specs.Tokens.{ending, opening, quantifier, Next}
 use Rattle.hs_parse.specs.Grammar.{greatest_length, greatest_depth, Atom, one_byte, asserted, group, Item, once, repeated, Sequence, nothing, item_first, setting_first, Alternation, last, alternative_first, Reads}
 use Rattle.hs_parse.specs.Faults.{Before, beginning, atom, repeated as behind_mark, state, goes, accepts, stops, move, Run, here, on, StopsAt, IsOneOf, HasFault, too_long, stopped, IsFirst, Fault}
 use Rattle.hs_parse.specs.Reading.{IsLeastOf}
-use Rattle.hs_parse.specs.Laws.{OneFault, NeverBoth}
+use Rattle.hs_parse.specs.Laws.{OneFault, NeverReadAndRefused}
 use Rattle.hs_parse.proofs.RunLemmas.{run_then, one_step, Halts, one_end, stops_halts}
 use Rattle.hs_parse.proofs.FaultLemmas.{AreApart, move_apart, quantifier_goes}
 
@@ -110,7 +110,7 @@ not_both reads (stopped h stop has) =
     accepts_no_stop (one_end whole.run (whole_halts reads.ended whole.after) stop.run (stops_halts stop))
 
 -- no text is both read and refused
-pub never_both : NeverBoth
+pub never_both : NeverReadAndRefused
 never_both text flags tree refusal reads fault = not_both reads fault.has
 
 -- the place and the reasons of two readings that stop are the same

@@ -1,6 +1,8 @@
 -- What the functions that read tokens find out, in the words of the grammar.
-use Rattle.std.proofs.Common.{◌≡◌, ℕ, ◌+◌, ◌<◌, ◌≤◌, Bool, not, List, length, Option, Some, None, Ok, sym, subst, arith}
+use Rattle.std.proofs.Common.{◌≡◌, ℕ, ◌+◌, ◌<◌, ◌≤◌, Bool, not, List, length, Option, Some, None, Result, Ok, Err, MatchResult, sym, subst, arith}
 use Rattle.std.specs.Prelude.{if◌then◌else◌}
+use Rattle.std.specs.Result.{IsErr, IsErrAnd}
+use Rattle.std.proofs.lemmas.Bool.{false≢true}
 use Rattle.hs_base.specs.declared.byte_set.ByteSet.{ByteSet}
 use Rattle.hs_base.specs.declared.refusal.Refusal.{Refusal}
 use Rattle.hs_base.specs.declared.refusal.Refusal.TheVariants.{Syntax}
@@ -113,3 +115,10 @@ pub token_next :
 token_next text s here mode n h e =
     let far = token_takes h (formed e) in
     record { there = now (formed e); reached = omega arith; rises = far.rises; forward = far.forward; within = far.within }
+
+-- a refusal that is handed on
+pub fault_on :
+    {A E : Type 0} (P : A → Type 0) (Q : E → Type 0) (result : Result A E) (e : E) →
+    IsErr result × IsErrAnd result (λ x. x ≡ e) → Q e → MatchResult result P Q
+fault_on P Q (Ok x) e (told, same) h = absurd (false≢true told)
+fault_on P Q (Err x) e (told, same) h = subst Q (sym same) h

@@ -11,7 +11,7 @@ use Rattle.hs_parse.specs.declared.spot.Spot.{Spot}
 use Rattle.hs_parse.specs.Spots.{start_of}
 use Rattle.hs_parse.specs.Tokens.{Token, ending, closing, bar, opening, quantifier, setting, faulty, Next}
 use Rattle.hs_parse.specs.Grammar.{greatest_length, greatest_depth, NoQuantifier, Atom, Item, Sequence, Alternation}
-use Rattle.hs_parse.specs.Faults.{Before, beginning, atom, repeated, state, start_state, Run, stops, place_of, move, here, quantifier_faults, quantifier_move, Fault, IsFaultOf}
+use Rattle.hs_parse.specs.Faults.{Before, beginning, atom, repeated, state, start_state, Run, stops, place_of, move, here, quantifier_faults, quantifier_move, Fault, IsParseFault}
 use Rattle.hs_parse.specs.Reading.{at_closing, at_ending, EndsSequence, with_group, at_bar, Passes, IsLeastOf, StopsFrom, StopsWith}
 use Rattle.hs_parse.proofs.FaultLemmas.{syntax_least, only_least, wrong_move}
 use Rattle.hs_parse.proofs.RunLemmas.{run_then, one_step}
@@ -41,50 +41,50 @@ stop_here text flags s start behind made outside before place refusals refusal t
 
 -- at a form that is refused
 pub faulty_stops :
-    (text : List ℕ) (flags : Flags) (depth : ℕ) (s start behind : Spot) (refusal : Refusal) →
-    Next text s start (faulty refusal) behind → StopsFrom text flags depth s (fault.Refused refusal)
-faulty_stops text flags depth s start behind refusal there outside before h ready run =
+    (text : List ℕ) (depth : ℕ) (s start behind : Spot) (refusal : Refusal) →
+    Next text s start (faulty refusal) behind → StopsFrom text depth s (fault.Refused refusal)
+faulty_stops text depth s start behind refusal there flags outside before h ready run =
     stop_here text flags s start behind (faulty refusal) outside before (place_of refusal) (refusal ∷ []) refusal there refl
     (only_least refusal) run
 
 -- at a quantifier that follows no atom
 pub quantifier_stops :
-    (text : List ℕ) (flags : Flags) (depth : ℕ) (s start behind : Spot) (n : ℕ) (m : Option ℕ) (possessive : Bool) →
-    Next text s start (quantifier n m possessive) behind → StopsFrom text flags depth s (fault.Refused (Syntax start.place))
-quantifier_stops text flags depth s start behind n m possessive there outside before h (inl e) run =
+    (text : List ℕ) (depth : ℕ) (s start behind : Spot) (n : ℕ) (m : Option ℕ) (possessive : Bool) →
+    Next text s start (quantifier n m possessive) behind → StopsFrom text depth s (fault.Refused (Syntax start.place))
+quantifier_stops text depth s start behind n m possessive there flags outside before h (inl e) run =
     stop_here text flags s start behind (quantifier n m possessive) outside before start.place
     (quantifier_faults start.place n m possessive beginning) (Syntax start.place) there
     (ap (λ b. quantifier_move start.place behind outside (quantifier_faults start.place n m possessive b)) e)
     (syntax_least start.place _) run
-quantifier_stops text flags depth s start behind n m possessive there outside before h (inr bare) run =
+quantifier_stops text depth s start behind n m possessive there flags outside before h (inr bare) run =
     absurd (bare n m possessive start behind there)
 
 -- at a group within too many
 pub depth_stops :
-    (text : List ℕ) (flags : Flags) (depth : ℕ) (s start behind : Spot) →
+    (text : List ℕ) (depth : ℕ) (s start behind : Spot) →
     greatest_depth ≤ depth → Next text s start opening behind →
-    StopsFrom text flags depth s (fault.Refused DepthLimit)
-depth_stops text flags depth s start behind deep there outside before h ready run =
+    StopsFrom text depth s (fault.Refused DepthLimit)
+depth_stops text depth s start behind deep there flags outside before h ready run =
     stop_here text flags s start behind opening outside before start.place (DepthLimit ∷ []) DepthLimit there
     (opens_no_group start behind outside before (omega (arith, deep, h))) (only_least DepthLimit) run
 
 -- what stops inside of a group
 pub group_stops :
-    (text : List ℕ) (flags : Flags) (depth : ℕ) (s start inner : Spot) (reason : ParseFault) →
+    (text : List ℕ) (depth : ℕ) (s start inner : Spot) (reason : ParseFault) →
     depth < greatest_depth → Next text s start opening inner →
-    StopsFrom text flags (depth + 1) inner reason → StopsFrom text flags depth s reason
-group_stops text flags depth s start inner (fault.Refused refusal) below there stop = λ outside before h ready run.
-    stop (start.mode ∷ outside) beginning (omega arith) (inl refl)
+    StopsFrom text (depth + 1) inner reason → StopsFrom text depth s reason
+group_stops text depth s start inner (fault.Refused refusal) below there stop = λ flags outside before h ready run.
+    stop flags (start.mode ∷ outside) beginning (omega arith) (inl refl)
     (run_then run (one_step there (opens_group start inner outside before (omega arith))))
-group_stops text flags depth s start inner fault.Memory below there stop = tt
+group_stops text depth s start inner fault.Memory below there stop = tt
 
 -- a group that isn't closed
 pub unclosed_stops :
-    (text : List ℕ) (flags : Flags) (depth : ℕ) (s start inner last end t : Spot) (trees : List Tree) →
+    (text : List ℕ) (depth : ℕ) (s start inner last end t : Spot) (trees : List Tree) →
     depth < greatest_depth → Next text s start opening inner →
     Alternation text (depth + 1) inner trees last → Next text last end ending t →
-    StopsFrom text flags depth s (fault.Refused (Syntax end.place))
-unclosed_stops text flags depth s start inner last end t trees below there whole ended outside before h ready run =
+    StopsFrom text depth s (fault.Refused (Syntax end.place))
+unclosed_stops text depth s start inner last end t trees below there whole ended flags outside before h ready run =
     let inside = alternation_runs whole (start.mode ∷ outside) beginning (omega arith) in
     let opened = one_step there (opens_group start inner outside before (omega arith)) in
     stop_here text flags last end t ending (start.mode ∷ outside) inside.after end.place (Syntax end.place ∷ [])
@@ -92,12 +92,12 @@ unclosed_stops text flags depth s start inner last end t trees below there whole
 
 -- a quantifier with which something is wrong
 pub wrong_stops :
-    (text : List ℕ) (flags : Flags) (depth : ℕ) (s middle start t : Spot) (n : ℕ) (m : Option ℕ) (possessive : Bool)
+    (text : List ℕ) (depth : ℕ) (s middle start t : Spot) (n : ℕ) (m : Option ℕ) (possessive : Bool)
     (tree : Tree) (refusal : Refusal) →
     Atom text depth s tree middle → Next text middle start (quantifier n m possessive) t →
     IsLeastOf refusal (quantifier_faults start.place n m possessive atom) →
-    StopsFrom text flags depth s (fault.Refused refusal)
-wrong_stops text flags depth s middle start t n m possessive tree refusal a q least outside before h ready run =
+    StopsFrom text depth s (fault.Refused refusal)
+wrong_stops text depth s middle start t n m possessive tree refusal a q least flags outside before h ready run =
     stop_here text flags middle start t (quantifier n m possessive) outside atom start.place
     (quantifier_faults start.place n m possessive atom) refusal q
     (wrong_move start.place t outside (quantifier_faults start.place n m possessive atom) refusal least.has) least
@@ -105,23 +105,23 @@ wrong_stops text flags depth s middle start t n m possessive tree refusal a q le
 
 -- a quantifier behind another one
 pub twice_stops :
-    (text : List ℕ) (flags : Flags) (depth : ℕ) (s middle start t again u : Spot) (n k : ℕ) (m l : Option ℕ) (possessive : Bool)
+    (text : List ℕ) (depth : ℕ) (s middle start t again u : Spot) (n k : ℕ) (m l : Option ℕ) (possessive : Bool)
     (tree : Tree) →
     Atom text depth s tree middle → Next text middle start (quantifier n m false) t → AreBounds n m →
     Next text t again (quantifier k l possessive) u →
-    StopsFrom text flags depth s (fault.Refused (Syntax again.place))
-twice_stops text flags depth s middle start t again u n k m l possessive tree a q bounds r outside before h ready run =
+    StopsFrom text depth s (fault.Refused (Syntax again.place))
+twice_stops text depth s middle start t again u n k m l possessive tree a q bounds r flags outside before h ready run =
     stop_here text flags t again u (quantifier k l possessive) outside repeated again.place
     (quantifier_faults again.place k l possessive repeated) (Syntax again.place) r refl (syntax_least again.place _)
     (run_then run (run_then (atom_runs a outside before h) (quantifier_runs q bounds outside)))
 
 -- a reading that comes to a spot and stops later
 pub passes_stops :
-    (text : List ℕ) (flags : Flags) (depth : ℕ) (s t : Spot) (reason : ParseFault) →
-    Passes text depth s t → StopsFrom text flags depth t reason → StopsFrom text flags depth s reason
-passes_stops text flags depth s t (fault.Refused refusal) passes stop = λ outside before h ready run.
-    let there = passes outside before h ready in stop outside there.0 h there.1 (run_then run there.2)
-passes_stops text flags depth s t fault.Memory passes stop = tt
+    (text : List ℕ) (depth : ℕ) (s t : Spot) (reason : ParseFault) →
+    Passes text depth s t → StopsFrom text depth t reason → StopsFrom text depth s reason
+passes_stops text depth s t (fault.Refused refusal) passes stop = λ flags outside before h ready run.
+    let there = passes outside before h ready in stop flags outside there.0 h there.1 (run_then run there.2)
+passes_stops text depth s t fault.Memory passes stop = tt
 
 pub passes_here : (text : List ℕ) (depth : ℕ) (s : Spot) → Passes text depth s s
 passes_here text depth s outside before h ready = (before, ready, here)
@@ -165,9 +165,9 @@ bar_passes text depth s start t mark outside before h ready = (beginning, inl re
 -- a reading that stops is the fault of a text that isn't too long
 pub stops_fault :
     (text : List ℕ) (flags : Flags) (reason : ParseFault) →
-    length text ≤ greatest_length → StopsFrom text flags 0 (start_of flags) reason → IsFaultOf text flags reason
+    length text ≤ greatest_length → StopsFrom text 0 (start_of flags) reason → IsParseFault text flags reason
 stops_fault text flags (fault.Refused refusal) short stop =
-    let there = stop [] beginning refl (inl refl) here in fault_of short there.stop there.is
+    let there = stop flags [] beginning refl (inl refl) here in fault_of short there.stop there.is
 stops_fault text flags fault.Memory short stop = tt
 
 -- a `)` without a group

@@ -50,9 +50,9 @@ whole_of row (no_more ended) = record { whole = last row; ended = ended }
 whole_of row (further mark more ended) = record { whole = alternative_first row mark more; ended = ended }
 
 -- a group is read from a spot on, or the reading stops
-data Way (text : List ℕ) (flags : Flags) (depth : ℕ) (s : Spot) : Type 0 where
-  found : RestRead text depth s → Way text flags depth s
-  halts : (refusal : Refusal) → StopsFrom text flags depth s (fault.Refused refusal) → Way text flags depth s
+data Way (text : List ℕ) (depth : ℕ) (s : Spot) : Type 0 where
+  found : RestRead text depth s → Way text depth s
+  halts : (refusal : Refusal) → StopsFrom text depth s (fault.Refused refusal) → Way text depth s
 
 -- a spot further on
 record IsFurther (text : List ℕ) (s t : Spot) : Type 0 where
@@ -60,16 +60,16 @@ record IsFurther (text : List ℕ) (s t : Spot) : Type 0 where
   pub within : t.place ≤ length text
 
 -- what is known from spots further on
-abbrev Later : List ℕ → Flags → Spot → Type 0
-Later text flags s = (depth : ℕ) (t : Spot) → depth ≤ greatest_depth → IsFurther text s t → Way text flags depth t
+abbrev Later : List ℕ → Spot → Type 0
+Later text s = (depth : ℕ) (t : Spot) → depth ≤ greatest_depth → IsFurther text s t → Way text depth t
 
 further_both : {text : List ℕ} {s t u : Spot} → IsFurther text s t → IsFurther text t u → IsFurther text s u
 further_both h k = record { rises = omega (arith, h.rises, k.rises); within = k.within }
 
 behind_item :
-    (text : List ℕ) (flags : Flags) (depth : ℕ) (s t : Spot) (tree : Tree) →
-    IsFurther text s t → Item text depth s tree t → NoQuantifier text t → Way text flags depth t → Way text flags depth s
-behind_item text flags depth s t tree far item bare (found rest) = found (record {
+    (text : List ℕ) (depth : ℕ) (s t : Spot) (tree : Tree) →
+    IsFurther text s t → Item text depth s tree t → NoQuantifier text t → Way text depth t → Way text depth s
+behind_item text depth s t tree far item bare (found rest) = found (record {
   trees = _;
   middle = rest.middle;
   row = item_first item rest.row;
@@ -79,8 +79,8 @@ behind_item text flags depth s t tree far item bare (found rest) = found (record
   rises = omega (arith, far.rises, rest.rises);
   within = rest.within;
 })
-behind_item text flags depth s t tree far item bare (halts refusal stop) =
-    halts refusal (passes_stops text flags depth s t (fault.Refused refusal) (item_passes text depth s t tree item bare) stop)
+behind_item text depth s t tree far item bare (halts refusal stop) =
+    halts refusal (passes_stops text depth s t (fault.Refused refusal) (item_passes text depth s t tree item bare) stop)
 
 -- an atom that goes on
 record AtomRead (text : List ℕ) (depth : ℕ) (s middle : Spot) (tree : Tree) : Type 0 where
@@ -115,10 +115,10 @@ as_quantifier :
 as_quantifier {text = text} {s = s} {start = start} {t = t} there q = subst (λ (x : Token). Next text s start x t) q.is there
 
 behind_quantifier :
-    (text : List ℕ) (flags : Flags) (depth : ℕ) (s middle start t : Spot) (tree : Tree) (n : ℕ) (m : Option ℕ) →
-    depth ≤ greatest_depth → Later text flags s → AtomRead text depth s middle tree →
-    Next text middle start (quantifier n m false) t → AreBounds n m → Way text flags depth s
-behind_quantifier text flags depth s middle start t tree n m deep later a q bounds =
+    (text : List ℕ) (depth : ℕ) (s middle start t : Spot) (tree : Tree) (n : ℕ) (m : Option ℕ) →
+    depth ≤ greatest_depth → Later text s → AtomRead text depth s middle tree →
+    Next text middle start (quantifier n m false) t → AreBounds n m → Way text depth s
+behind_quantifier text depth s middle start t tree n m deep later a q bounds =
     by_next (next_read text t takes.within)
   where
     takes : NextTakes text (quantifier n m false) middle.place start.place t.place
@@ -127,55 +127,55 @@ behind_quantifier text flags depth s middle start t tree n m deep later a q boun
     far : IsFurther text s t
     far = record { rises = omega (arith, a.far.rises, takes.reached, takes.forward); within = takes.within }
 
-    by_next : NextRead text t → Way text flags depth s
+    by_next : NextRead text t → Way text depth s
     by_next next =
         elim (cases_Bool (is_quantifier next.made)) [
           | inl again ↦
               let other = quantifier_is next.made again in
               halts (Syntax next.start.place)
-              (twice_stops text flags depth s middle start t next.start next.behind n other.least m other.greatest other.possessive
+              (twice_stops text depth s middle start t next.start next.behind n other.least m other.greatest other.possessive
               tree a.whole q bounds (as_quantifier next.there other))
           | inr other ↦
-              behind_item text flags depth s t _ far (repeated a.whole q bounds) (bare_of next other) (later depth t deep far)
+              behind_item text depth s t _ far (repeated a.whole q bounds) (bare_of next other) (later depth t deep far)
         ]
 
 -- a quantifier, by what is wrong with it
 marked :
-    (text : List ℕ) (flags : Flags) (depth : ℕ) (s middle start t : Spot) (tree : Tree) (n : ℕ) (m : Option ℕ) (possessive : Bool) →
-    depth ≤ greatest_depth → Later text flags s → AtomRead text depth s middle tree →
+    (text : List ℕ) (depth : ℕ) (s middle start t : Spot) (tree : Tree) (n : ℕ) (m : Option ℕ) (possessive : Bool) →
+    depth ≤ greatest_depth → Later text s → AtomRead text depth s middle tree →
     Next text middle start (quantifier n m possessive) t →
-    (faults : List Refusal) → quantifier_faults start.place n m possessive atom ≡ faults → Way text flags depth s
-marked text flags depth s middle start t tree n m possessive deep later a q [] e =
+    (faults : List Refusal) → quantifier_faults start.place n m possessive atom ≡ faults → Way text depth s
+marked text depth s middle start t tree n m possessive deep later a q [] e =
     let good = all_right start.place n m possessive e in
-    behind_quantifier text flags depth s middle start t tree n m deep later a
+    behind_quantifier text depth s middle start t tree n m deep later a
     (subst (λ b. Next text middle start (quantifier n m b) t) good.1 q) good.0
-marked text flags depth s middle start t tree n m possessive deep later a q (r ∷ rs) e =
+marked text depth s middle start t tree n m possessive deep later a q (r ∷ rs) e =
     let least = has_least r rs in
     halts least.refusal
-    (wrong_stops text flags depth s middle start t n m possessive tree least.refusal a.whole q
+    (wrong_stops text depth s middle start t n m possessive tree least.refusal a.whole q
     (subst (IsLeastOf least.refusal) (sym e) least.least))
 
 behind_atom :
-    (text : List ℕ) (flags : Flags) (depth : ℕ) (s middle : Spot) (tree : Tree) →
-    depth ≤ greatest_depth → Later text flags s → AtomRead text depth s middle tree → Way text flags depth s
-behind_atom text flags depth s middle tree deep later a = by_next (next_read text middle a.far.within)
+    (text : List ℕ) (depth : ℕ) (s middle : Spot) (tree : Tree) →
+    depth ≤ greatest_depth → Later text s → AtomRead text depth s middle tree → Way text depth s
+behind_atom text depth s middle tree deep later a = by_next (next_read text middle a.far.within)
   where
-    by_next : NextRead text middle → Way text flags depth s
+    by_next : NextRead text middle → Way text depth s
     by_next next =
         elim (cases_Bool (is_quantifier next.made)) [
           | inl q ↦
               let mark = quantifier_is next.made q in
-              marked text flags depth s middle next.start next.behind tree mark.least mark.greatest mark.possessive deep later a
+              marked text depth s middle next.start next.behind tree mark.least mark.greatest mark.possessive deep later a
               (as_quantifier next.there mark) _ refl
           | inr other ↦
-              behind_item text flags depth s middle tree a.far (once a.whole (bare_of next other)) (bare_of next other)
+              behind_item text depth s middle tree a.far (once a.whole (bare_of next other)) (bare_of next other)
               (later depth middle deep a.far)
         ]
 
 behind_bar :
-    (text : List ℕ) (flags : Flags) (depth : ℕ) (s start t : Spot) →
-    s.place ≤ t.place → Next text s start bar t → Way text flags depth t → Way text flags depth s
-behind_bar text flags depth s start t h mark (found rest) =
+    (text : List ℕ) (depth : ℕ) (s start t : Spot) →
+    s.place ≤ t.place → Next text s start bar t → Way text depth t → Way text depth s
+behind_bar text depth s start t h mark (found rest) =
     let all = whole_of rest.row rest.tail in
     found (record {
       trees = [];
@@ -187,13 +187,13 @@ behind_bar text flags depth s start t h mark (found rest) =
       rises = omega (arith, h, rest.rises);
       within = rest.within;
     })
-behind_bar text flags depth s start t h mark (halts refusal stop) =
-    halts refusal (passes_stops text flags depth s t (fault.Refused refusal) (bar_passes text depth s start t mark) stop)
+behind_bar text depth s start t h mark (halts refusal stop) =
+    halts refusal (passes_stops text depth s t (fault.Refused refusal) (bar_passes text depth s start t mark) stop)
 
 behind_setting :
-    (text : List ℕ) (flags : Flags) (depth : ℕ) (s start t : Spot) →
-    s.place ≤ t.place → Next text s start setting t → Way text flags depth t → Way text flags depth s
-behind_setting text flags depth s start t h p (found rest) = found (record {
+    (text : List ℕ) (depth : ℕ) (s start t : Spot) →
+    s.place ≤ t.place → Next text s start setting t → Way text depth t → Way text depth s
+behind_setting text depth s start t h p (found rest) = found (record {
   trees = _;
   middle = rest.middle;
   row = setting_first p rest.row;
@@ -203,89 +203,89 @@ behind_setting text flags depth s start t h p (found rest) = found (record {
   rises = omega (arith, h, rest.rises);
   within = rest.within;
 })
-behind_setting text flags depth s start t h p (halts refusal stop) =
-    halts refusal (passes_stops text flags depth s t (fault.Refused refusal) (setting_passes text depth s start t p) stop)
+behind_setting text depth s start t h p (halts refusal stop) =
+    halts refusal (passes_stops text depth s t (fault.Refused refusal) (setting_passes text depth s start t p) stop)
 
 closed_group :
-    (text : List ℕ) (flags : Flags) (depth : ℕ) (s start inner end : Spot) (trees : List Tree) →
-    depth < greatest_depth → Later text flags s → Next text s start opening inner → s.place < inner.place →
+    (text : List ℕ) (depth : ℕ) (s start inner end : Spot) (trees : List Tree) →
+    depth < greatest_depth → Later text s → Next text s start opening inner → s.place < inner.place →
     inner.place ≤ end.place → end.place ≤ length text → Alternation text (depth + 1) inner trees end → EndsGroup text end →
-    Way text flags depth s
-closed_group text flags depth s start inner end trees below later opens rises h k whole (at_closing {t = t} c) =
+    Way text depth s
+closed_group text depth s start inner end trees below later opens rises h k whole (at_closing {t = t} c) =
     let takes = next_takes k c in
-    behind_atom text flags depth s (spot t.place start.mode) _ (omega (arith, below)) later
+    behind_atom text depth s (spot t.place start.mode) _ (omega (arith, below)) later
     (record {
       whole = group below opens whole c;
       far = record { rises = omega (arith, rises, h, takes.reached, takes.forward); within = takes.within };
     })
-closed_group text flags depth s start inner end trees below later opens rises h k whole (at_ending {start = stop} {t = t} e) =
-    halts (Syntax stop.place) (unclosed_stops text flags depth s start inner end stop t trees below opens whole e)
+closed_group text depth s start inner end trees below later opens rises h k whole (at_ending {start = stop} {t = t} e) =
+    halts (Syntax stop.place) (unclosed_stops text depth s start inner end stop t trees below opens whole e)
 
 behind_opening :
-    (text : List ℕ) (flags : Flags) (depth : ℕ) (s start inner : Spot) →
-    depth < greatest_depth → Later text flags s → Next text s start opening inner → s.place < inner.place →
-    Way text flags (depth + 1) inner → Way text flags depth s
-behind_opening text flags depth s start inner below later opens rises (found rest) =
+    (text : List ℕ) (depth : ℕ) (s start inner : Spot) →
+    depth < greatest_depth → Later text s → Next text s start opening inner → s.place < inner.place →
+    Way text (depth + 1) inner → Way text depth s
+behind_opening text depth s start inner below later opens rises (found rest) =
     let all = whole_of rest.row rest.tail in
-    closed_group text flags depth s start inner rest.end _ below later opens rises rest.rises rest.within all.whole all.ended
-behind_opening text flags depth s start inner below later opens rises (halts refusal stop) =
-    halts refusal (group_stops text flags depth s start inner (fault.Refused refusal) below opens stop)
+    closed_group text depth s start inner rest.end _ below later opens rises rest.rises rest.within all.whole all.ended
+behind_opening text depth s start inner below later opens rises (halts refusal stop) =
+    halts refusal (group_stops text depth s start inner (fault.Refused refusal) below opens stop)
 
 -- from a spot on, if that is known from spots further on
 way_at :
-    (text : List ℕ) (flags : Flags) (depth : ℕ) (s start t : Spot) (made : Token) →
-    s.place ≤ length text → depth ≤ greatest_depth → Later text flags s → Next text s start made t → Way text flags depth s
-way_at text flags depth s start t ending h deep later there =
+    (text : List ℕ) (depth : ℕ) (s start t : Spot) (made : Token) →
+    s.place ≤ length text → depth ≤ greatest_depth → Later text s → Next text s start made t → Way text depth s
+way_at text depth s start t ending h deep later there =
     found (record { trees = []; middle = _; row = nothing; others = []; end = _; tail = no_more (at_ending there); rises = omega arith; within = h })
-way_at text flags depth s start t (single set) h deep later there =
+way_at text depth s start t (single set) h deep later there =
     let takes = next_takes h there in
     let rises : start.place < t.place = takes.rises in
-    behind_atom text flags depth s t _ deep later
+    behind_atom text depth s t _ deep later
     (record { whole = one_byte there; far = record { rises = omega (arith, rises, takes.reached); within = takes.within } })
-way_at text flags depth s start t (assertion here) h deep later there =
+way_at text depth s start t (assertion here) h deep later there =
     let takes = next_takes h there in
     let rises : start.place < t.place = takes.rises in
-    behind_atom text flags depth s t _ deep later
+    behind_atom text depth s t _ deep later
     (record { whole = asserted there; far = record { rises = omega (arith, rises, takes.reached); within = takes.within } })
-way_at text flags depth s start t opening h deep later there =
+way_at text depth s start t opening h deep later there =
     elim (cases_lt depth greatest_depth) [
       | inl below ↦
           let takes = next_takes h there in
           let rises : start.place < t.place = takes.rises in
           let up : s.place < t.place = omega (arith, rises, takes.reached) in
-          behind_opening text flags depth s start t below later there up
+          behind_opening text depth s start t below later there up
           (later (depth + 1) t (omega (arith, below)) (record { rises = up; within = takes.within }))
-      | inr full ↦ halts DepthLimit (depth_stops text flags depth s start t full there)
+      | inr full ↦ halts DepthLimit (depth_stops text depth s start t full there)
     ]
-way_at text flags depth s start t closing h deep later there =
+way_at text depth s start t closing h deep later there =
     found (record { trees = []; middle = _; row = nothing; others = []; end = _; tail = no_more (at_closing there); rises = omega arith; within = h })
-way_at text flags depth s start t bar h deep later there =
+way_at text depth s start t bar h deep later there =
     let takes = next_takes h there in
     let rises : start.place < t.place = takes.rises in
     let up : s.place < t.place = omega (arith, rises, takes.reached) in
-    behind_bar text flags depth s start t (omega (arith, up)) there (later depth t deep (record { rises = up; within = takes.within }))
-way_at text flags depth s start t (quantifier n m possessive) h deep later there =
-    halts (Syntax start.place) (quantifier_stops text flags depth s start t n m possessive there)
-way_at text flags depth s start t setting h deep later there =
+    behind_bar text depth s start t (omega (arith, up)) there (later depth t deep (record { rises = up; within = takes.within }))
+way_at text depth s start t (quantifier n m possessive) h deep later there =
+    halts (Syntax start.place) (quantifier_stops text depth s start t n m possessive there)
+way_at text depth s start t setting h deep later there =
     let takes = next_takes h there in
     let rises : start.place < t.place = takes.rises in
     let up : s.place < t.place = omega (arith, rises, takes.reached) in
-    behind_setting text flags depth s start t (omega (arith, up)) there (later depth t deep (record { rises = up; within = takes.within }))
-way_at text flags depth s start t (faulty refusal) h deep later there =
-    halts refusal (faulty_stops text flags depth s start t refusal there)
+    behind_setting text depth s start t (omega (arith, up)) there (later depth t deep (record { rises = up; within = takes.within }))
+way_at text depth s start t (faulty refusal) h deep later there =
+    halts refusal (faulty_stops text depth s start t refusal there)
 
 -- from every spot on
 way :
-    (fuel : ℕ) (text : List ℕ) (flags : Flags) (depth : ℕ) (s : Spot) →
-    s.place ≤ length text → depth ≤ greatest_depth → length text ≤ s.place + fuel → Way text flags depth s
-way zero text flags depth s h deep k =
+    (fuel : ℕ) (text : List ℕ) (depth : ℕ) (s : Spot) →
+    s.place ≤ length text → depth ≤ greatest_depth → length text ≤ s.place + fuel → Way text depth s
+way zero text depth s h deep k =
     let next = next_read text s h in
-    way_at text flags depth s next.start next.behind next.made h deep
+    way_at text depth s next.start next.behind next.made h deep
     (λ below t under far. absurd (omega (arith, k, far.rises, far.within))) next.there
-way (suc fuel) text flags depth s h deep k =
+way (suc fuel) text depth s h deep k =
     let next = next_read text s h in
-    way_at text flags depth s next.start next.behind next.made h deep
-    (λ below t under far. way fuel text flags below t far.within under (omega (arith, k, far.rises))) next.there
+    way_at text depth s next.start next.behind next.made h deep
+    (λ below t under far. way fuel text below t far.within under (omega (arith, k, far.rises))) next.there
 
 ended_outcome :
     (text : List ℕ) (flags : Flags) (end : Spot) (trees : List Tree) →
@@ -295,7 +295,7 @@ ended_outcome text flags end trees short whole (at_closing {start = close} {t = 
 ended_outcome text flags end trees short whole (at_ending {start = stop} {t = t} e) =
     read (record { within = short; trees = trees; last = end; whole = whole; start = stop; behind = t; ended = e; is = refl })
 
-outcome : (text : List ℕ) (flags : Flags) → length text ≤ greatest_length → Way text flags 0 (start_of flags) → Outcome text flags
+outcome : (text : List ℕ) (flags : Flags) → length text ≤ greatest_length → Way text 0 (start_of flags) → Outcome text flags
 outcome text flags short (found rest) =
     let all = whole_of rest.row rest.tail in ended_outcome text flags rest.end _ short all.whole all.ended
 outcome text flags short (halts refusal stop) = refused (stops_fault text flags (fault.Refused refusal) short stop)
@@ -305,5 +305,5 @@ pub always_one : AlwaysOne
 always_one text flags =
     elim (cases_lt greatest_length (length text)) [
       | inl long ↦ refused (long_fault long)
-      | inr short ↦ outcome text flags short (way (length text) text flags 0 (start_of flags) (omega arith) (omega arith) (omega arith))
+      | inr short ↦ outcome text flags short (way (length text) text 0 (start_of flags) (omega arith) (omega arith) (omega arith))
     ]

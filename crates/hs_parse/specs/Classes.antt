@@ -1,5 +1,6 @@
 -- Classes of characters (PCRE pattern syntax, "Square brackets and character classes").
-use Rattle.std.specs.Prelude.{◌≡◌, ℕ, ◌+◌, ◌-◌, Bool, not, ◌==◌, ◌&&◌, ◌||◌, nat_le, nat_lt, if◌then◌else◌, List, [], ◌∷◌, drop, slice_get}
+use Rattle.std.specs.Prelude.{◌≡◌, ℕ, ◌+◌, ◌-◌, Bool, not, ◌==◌, ◌&&◌, ◌||◌, nat_le, nat_lt, if◌then◌else◌, List, []}
+use Rattle.std.specs.Prelude.{◌∷◌, drop, slice_get}
 use Rattle.std.specs.Int.{is_in_range}
 use Rattle.std.specs.List.{list_any}
 use Rattle.hs_base.specs.ByteSets.{bytes_where}
@@ -46,11 +47,11 @@ passes (Range caseless first last) = is_within caseless first last
 passes (Class class negated) = is_of_class class negated
 
 -- what stands at a place in the class whose items begin at the start
-abbrev pub piece_of : List ℕ → (caseless : Bool) → (start : ℕ) → ℕ → Piece
-piece_of text caseless start at = piece_at caseless (at == start) (drop at text)
+abbrev pub class_piece : List ℕ → (caseless : Bool) → (start : ℕ) → ℕ → Piece
+class_piece text caseless start at = piece_at caseless (at == start) (drop at text)
 
--- A character, and behind it a hyphen and a piece: a range, if that is a character that isn't less, else the hyphen is no
--- part of the item.
+-- A character, and behind it a hyphen and a piece: a range, if that is a character that isn't less, else the hyphen is
+-- no part of the item.
 abbrev pub range_of : (caseless : Bool) → (at code middle : ℕ) → Piece → Item
 range_of caseless at code middle piece.End = item.Bytes (Range caseless code code) middle
 range_of caseless at code middle piece.Close = item.Bytes (Range caseless code code) middle
@@ -60,7 +61,8 @@ range_of caseless at code middle (piece.Class class negated length) = item.Bytes
 range_of caseless at code middle (piece.Refused reason) = item.Refused (refusal_at reason (middle + 1))
 
 -- An item, by the piece that stands at its place: a character, a range or a class.
-abbrev pub item_of : (caseless : Bool) → (at : ℕ) → (hyphen_behind : ℕ → Bool) → (piece_behind : ℕ → Piece) → Piece → Item
+abbrev pub item_of : (caseless : Bool) → (at : ℕ) → (hyphen_behind : ℕ → Bool) → (piece_behind : ℕ → Piece) → Piece →
+    Item
 item_of caseless at hyphen_behind piece_behind piece.End = item.End
 item_of caseless at hyphen_behind piece_behind piece.Close = item.Close
 item_of caseless at hyphen_behind piece_behind (piece.Character code length) =
@@ -74,8 +76,10 @@ item_of caseless at hyphen_behind piece_behind (piece.Refused reason) = item.Ref
 -- the item at a place in the class whose items begin at the start
 unfoldable pub item_at : List ℕ → (caseless : Bool) → (start : ℕ) → ℕ → Item
 item_at text caseless start at =
-    item_of caseless at (λ place. is_byte hyphen (slice_get text place)) (λ place. piece_of text caseless start place)
-    (piece_of text caseless start at)
+    item_of caseless at
+    (λ place. is_byte hyphen (slice_get text place))
+    (λ place. class_piece text caseless start place)
+    (class_piece text caseless start at)
 
 -- The items of a class, one behind the other, as tests of a byte.
 pub data Items (text : List ℕ) (caseless : Bool) (start : ℕ) : ℕ → List (ℕ → Bool) → ℕ → Type 0 where

@@ -1,8 +1,13 @@
 -- The refusal of a text that isn't read.
-use Rattle.std.specs.Prelude.{◌≡◌, ℕ, ◌<◌, ◌≤◌, ◌⊎◌, Bool, true, false, Option, Some, None, nat_lt, if◌then◌else◌, List, [], ◌∷◌, ◌++◌, length}
+use Rattle.std.specs.Prelude.{◌≡◌, ℕ, ◌<◌, ◌≤◌, ◌⊎◌, Bool, true, false, Option, Some, None, nat_lt, if◌then◌else◌, List}
+use Rattle.std.specs.Prelude.{[], ◌∷◌, ◌++◌, length}
 use Rattle.hs_base.specs.declared.flags.Flags.{Flags}
 use Rattle.hs_base.specs.declared.refusal.Refusal.{Refusal}
-use Rattle.hs_base.specs.declared.refusal.Refusal.TheVariants.{Syntax, UnknownEscape, Unsupported, UnsupportedFlag, UnsupportedParameter, MatchesEmpty, EmbeddedEnd, RepeatLimit, PositionLimit, LengthLimit, DepthLimit, CountLimit, StateLimit, MixedSingle, OffsetOrder, ListLine}
+use Rattle.hs_base.specs.declared.refusal.Refusal.TheVariants.{Syntax, UnknownEscape, Unsupported, UnsupportedFlag}
+use Rattle.hs_base.specs.declared.refusal.Refusal.TheVariants.{UnsupportedParameter, MatchesEmpty, EmbeddedEnd}
+use Rattle.hs_base.specs.declared.refusal.Refusal.TheVariants.{RepeatLimit, PositionLimit, LengthLimit, DepthLimit}
+use Rattle.hs_base.specs.declared.refusal.Refusal.TheVariants.{CountLimit, StateLimit, MixedSingle, OffsetOrder}
+use Rattle.hs_base.specs.declared.refusal.Refusal.TheVariants.{ListLine}
 use Rattle.hs_base.specs.declared.construct.Construct.TheVariants.{Possessive}
 use Rattle.hs_base.specs.Refusals.{number_of}
 use Rattle.hs_base.specs.Trees.{greatest_bound}
@@ -11,11 +16,12 @@ use Rattle.hs_parse.specs.declared.fault.ParseFault.{ParseFault}
 use Rattle.hs_parse.specs.declared.fault.ParseFault.TheVariants.{Refused, Memory}
 use Rattle.hs_parse.specs.declared.spot.Spot.{Spot}
 use Rattle.hs_parse.specs.Spots.{spot, start_of}
-use Rattle.hs_parse.specs.Tokens.{Token, ending, single, assertion, opening, closing, bar, quantifier, setting, faulty, Next}
+use Rattle.hs_parse.specs.Tokens.{Token, ending, single, assertion, opening, closing, bar, quantifier, setting, faulty}
+use Rattle.hs_parse.specs.Tokens.{Next}
 use Rattle.hs_parse.specs.Grammar.{greatest_length, greatest_depth}
 
--- What stands before a place: the start of a sequence or a change of options, an atom, which a quantifier may follow, or a
--- quantifier.
+-- What stands before a place: the start of a sequence or a change of options, an atom, which a quantifier may follow,
+-- or a quantifier.
 pub data Before : Type 0 where
   beginning : Before
   atom : Before
@@ -35,8 +41,8 @@ state here outside before = record { here = here; outside = outside; before = be
 abbrev pub start_state : Flags → State
 start_state flags = state (start_of flags) [] beginning
 
--- What a token does to the reading: it goes on, has come to the end of a text that is read, or stops at a place, for one
--- reason or several.
+-- What a token does to the reading: it goes on, has come to the end of a text that is read, or stops at a place, for
+-- one reason or several.
 pub data Move : Type 0 where
   goes : State → Move
   accepts : Move
@@ -164,9 +170,9 @@ pub record Fault (text : List ℕ) (flags : Flags) (refusal : Refusal) : Type 0 
       (place : ℕ) (other : Refusal) → HasFault text flags place other → IsFirst at refusal place other
 
 -- Why a text gave no tree: its fault, or no memory.
-abbrev pub IsFaultOf : List ℕ → Flags → ParseFault → Type 0
-IsFaultOf text flags (Refused refusal) = Fault text flags refusal
-IsFaultOf text flags Memory = Unit {0}
+abbrev pub IsParseFault : List ℕ → Flags → ParseFault → Type 0
+IsParseFault text flags (Refused refusal) = Fault text flags refusal
+IsParseFault text flags Memory = Unit {0}
 
 -- the numbers of refusals that a text may have
 pub data IsOfText : ℕ → Type 0 where

@@ -19,8 +19,8 @@ OneFault =
     Fault text flags refusal → Fault text flags other → refusal ≡ other
 
 -- no text is both read and refused
-abbrev pub NeverBoth : Type 0
-NeverBoth =
+abbrev pub NeverReadAndRefused : Type 0
+NeverReadAndRefused =
     (text : List ℕ) (flags : Flags) (tree : Tree) (refusal : Refusal) →
     Reads text flags tree → Fault text flags refusal → ⊥
 

@@ -1,5 +1,6 @@
 -- What the functions of the parser find out on their way.
-use Rattle.std.specs.Prelude.{◌≡◌, ℕ, ◌<◌, ◌≤◌, ◌⊎◌, Bool, true, false, Option, Some, None, List, [], ◌∷◌, length, Result, Ok, Err}
+use Rattle.std.specs.Prelude.{◌≡◌, ℕ, ◌<◌, ◌≤◌, ◌⊎◌, Bool, true, false, Option, Some, None, List, [], ◌∷◌, length}
+use Rattle.std.specs.Prelude.{Result, Ok, Err}
 use Rattle.std.specs.List.{list_any}
 use Rattle.hs_base.specs.declared.byte_set.ByteSet.{ByteSet}
 use Rattle.hs_base.specs.declared.flags.Flags.{Flags}
@@ -19,7 +20,8 @@ use Rattle.hs_parse.specs.declared.token.Made.TheVariants as seenmade
 use Rattle.hs_parse.specs.declared.token.Found.{Found}
 use Rattle.hs_parse.specs.declared.spot.Spot.{Spot}
 use Rattle.hs_parse.specs.Classes.{item_at, Items}
-use Rattle.hs_parse.specs.Tokens.{Token, ending, single, assertion, opening, closing, bar, quantifier, setting, faulty, Made, token, skips, bracket, Next}
+use Rattle.hs_parse.specs.Tokens.{Token, ending, single, assertion, opening, closing, bar, quantifier, setting, faulty}
+use Rattle.hs_parse.specs.Tokens.{Made, token, skips, bracket, Next}
 use Rattle.hs_parse.specs.Grammar.{NoQuantifier, Atom, Item, Sequence, sequence_tree, Alternation, alternation_tree}
 use Rattle.hs_parse.specs.Faults.{Before, beginning, state, start_state, Run, StopsAt, IsOneOf}
 
@@ -93,6 +95,15 @@ pub record IsNext (text : List ℕ) (s : Spot) (found : Found) : Type 0 where
   pub forward : found.start.place ≤ found.behind.place
   pub within : found.behind.place ≤ length text
 
+-- the token is the next one from some spot on
+pub record IsToken (text : List ℕ) (found : Found) : Type 0 where
+  pub from : Spot
+  pub next : IsNext text from found
+
+-- it is so of each spot from which the token is the next one
+abbrev pub FromEach : List ℕ → Found → (Spot → Type 0) → Type 0
+FromEach text found P = (at : Spot) → IsNext text at found → P at
+
 -- a group ends with the next token: with its `)`, or with the text
 pub data EndsGroup (text : List ℕ) (s : Spot) : Type 0 where
   at_closing : {start t : Spot} → Next text s start closing t → EndsGroup text s
@@ -131,12 +142,12 @@ pub record StopsWith (text : List ℕ) (flags : Flags) (refusal : Refusal) : Typ
   pub is : IsLeastOf refusal refusals
 
 -- Wherever the reading comes to the spot, within so many groups, it stops with the refusal later.
-abbrev pub StopsFrom : List ℕ → Flags → ℕ → Spot → ParseFault → Type 0
-StopsFrom text flags depth s (fault.Refused refusal) =
-    (outside : List Mode) (before : Before) → length outside ≡ depth → IsReady text s before →
+abbrev pub StopsFrom : List ℕ → ℕ → Spot → ParseFault → Type 0
+StopsFrom text depth s (fault.Refused refusal) =
+    (flags : Flags) (outside : List Mode) (before : Before) → length outside ≡ depth → IsReady text s before →
     Run text (start_state flags) (state s outside before) →
     StopsWith text flags refusal
-StopsFrom text flags depth s fault.Memory = Unit {0}
+StopsFrom text depth s fault.Memory = Unit {0}
 
 -- an atom is read
 pub record ReadsAtom (text : List ℕ) (depth : ℕ) (s : Spot) (tree : Tree) (t : Spot) : Type 0 where

@@ -46,11 +46,14 @@ made_by mode at (form.Opening inside length) = token opening inside length
 made_by mode at form.Closing = token closing mode 1
 made_by mode at form.Bar = token bar mode 1
 made_by mode at form.Any = token (single (any_byte mode.dotall)) mode 1
-made_by mode at (form.Character code length) = token (single (bytes_where (passes (Range mode.caseless code code)))) mode length
-made_by mode at (form.Class class negated length) = token (single (bytes_where (passes (Class class negated)))) mode length
+made_by mode at (form.Character code length) =
+    token (single (bytes_where (passes (Range mode.caseless code code)))) mode length
+made_by mode at (form.Class class negated length) =
+    token (single (bytes_where (passes (Class class negated)))) mode length
 made_by mode at form.Bracket = bracket
 made_by mode at (form.Assert here length) = token (assertion here) mode length
-made_by mode at (form.Quantifier least greatest possessive length) = token (quantifier least greatest possessive) mode length
+made_by mode at (form.Quantifier least greatest possessive length) =
+    token (quantifier least greatest possessive) mode length
 made_by mode at (form.Refused reason) = token (faulty (refusal_at reason at)) mode 0
 
 -- what begins at a place makes

@@ -18,11 +18,10 @@ pub(crate) fn class_at(text: &[u8], caseless: bool, at: usize) -> Result<(ByteSe
         (λ class. ClassToken text.now caseless at (single (members class.0)) class.1)
         (λ refusal. ClassToken text.now caseless at (faulty refusal) at) }
 {
-    match items_of(text, caseless, items_start(text, at)) {
-        Ok(Some((set, close))) => Ok((class_of(text, at, set), close + 1)),
-        Ok(None) => Err(Refusal::Syntax(at as u32)),
-        Err(refusal) => Err(refusal),
-    }
+    let Some((set, close)) = items_of(text, caseless, items_start(text, at))? else {
+        return Err(Refusal::Syntax(at as u32));
+    };
+    Ok((class_of(text, at, set), close + 1))
 }
 
 /// Where the items of the class that begins at a place begin.
@@ -53,8 +52,8 @@ fn is_negated(text: &[u8], at: usize) -> bool
     matches!(text.get(at + 1), Some(b'^'))
 }
 
-/// The bytes of the items of a class, from their start, and the place of the `]` behind them; `None` where they go on to
-/// the end of the text.
+/// The bytes of the items of a class, from their start, and the place of the `]` behind them; `None` where they go on
+/// to the end of the text.
 fn items_of(text: &[u8], caseless: bool, start: usize) -> Result<Option<(ByteSet, usize)>, Refusal>
     requires within { start ≤ length text.now }
     requires short { length text.now ≤ MAX_TEXT_LEN }

@@ -1,3 +1,4 @@
+//! Why a text gave no tree.
 ghost use Rattle.std.specs.Prelude.{◌≡◌};
 ghost use Rattle.hs_parse.specs.declared.fault.ParseFault.TheVariants.{Memory};
 
@@ -9,7 +10,7 @@ use thiserror::Error;
 #[derive(Debug, Drop, Error)]
 pub enum ParseFault {
     /// The text isn't read. The place in the refusal is an offset in bytes in the text.
-    #[error("the expression is refused: {0:?}")]
+    #[error("the expression is refused: {0}")]
     Refused(Refusal),
     /// Memory ran out.
     #[error("out of memory")]

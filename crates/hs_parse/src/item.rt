@@ -2,7 +2,7 @@
 ghost use Rattle.std.specs.Prelude.{◌≡◌, ◌+◌, ◌-◌, ◌≤◌, if◌then◌else◌, length, slice_get};
 ghost use Rattle.hs_syntax.specs.Bytes.{is_byte};
 ghost use Rattle.hs_syntax.specs.Lengths.{PieceFits};
-ghost use Rattle.hs_parse.specs.Classes.{hyphen, piece_of, range_of, item_at};
+ghost use Rattle.hs_parse.specs.Classes.{hyphen, class_piece, range_of, item_at};
 
 use crate::parser::MAX_TEXT_LEN;
 use crate::set::Test;
@@ -31,9 +31,9 @@ fn is_hyphen_at(text: &[u8], at: usize) -> bool
 }
 
 /// What stands at a place of the class whose items begin at the start.
-fn piece_of(text: &[u8], caseless: bool, start: usize, at: usize) -> Piece
+fn class_piece(text: &[u8], caseless: bool, start: usize, at: usize) -> Piece
     requires within { at ≤ length text.now }
-    ensures is { result ≡ piece_of text.now caseless start at }
+    ensures is { result ≡ class_piece text.now caseless start at }
     ensures fits { PieceFits (length text.now - at) result }
 {
     piece_at(caseless, at == start, &text[at..])
@@ -46,7 +46,7 @@ pub(crate) fn item_at(text: &[u8], caseless: bool, start: usize, at: usize) -> I
     requires short { length text.now ≤ MAX_TEXT_LEN }
     ensures { result ≡ item_at text.now caseless start at }
 {
-    match piece_of(text, caseless, start, at) {
+    match class_piece(text, caseless, start, at) {
         Piece::End => Item::End,
         Piece::Close => Item::Close,
         Piece::Character(code, length) => character_at(
@@ -77,13 +77,13 @@ fn character_at(
     requires within { middle ≤ length text.now }
     requires short { length text.now ≤ MAX_TEXT_LEN }
     ensures { result ≡ (if is_byte hyphen (slice_get text.now middle)
-        then range_of caseless at code middle (piece_of text.now caseless start (middle + 1))
+        then range_of caseless at code middle (class_piece text.now caseless start (middle + 1))
         else Item.Bytes (Test.Range caseless code code) middle) }
 {
     if !is_hyphen_at(text, middle) {
         return Item::Bytes(Test::Range(caseless, code, code), middle);
     }
-    match piece_of(text, caseless, start, middle + 1) {
+    match class_piece(text, caseless, start, middle + 1) {
         Piece::End | Piece::Close | Piece::Class(_, _, _) => {
             Item::Bytes(Test::Range(caseless, code, code), middle)
         }

@@ -1,6 +1,6 @@
 //! Laws of the grammar and of faults. Each is the contract of a function that does nothing.
 
-ghost use Rattle.hs_parse.specs.Laws.{OneTree, OneFault, NeverBoth, AlwaysOne};
+ghost use Rattle.hs_parse.specs.Laws.{OneTree, OneFault, NeverReadAndRefused, AlwaysOne};
 
 /// A text is read as one tree at most.
 pub fn one_tree()
@@ -14,7 +14,7 @@ pub fn one_fault()
 
 /// No text is both read and refused.
 pub fn never_both()
-    ensures { NeverBoth }
+    ensures { NeverReadAndRefused }
 {}
 
 /// Every text is read, or has a fault.

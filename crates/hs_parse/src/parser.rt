@@ -1,9 +1,11 @@
 //! Reads the text of an expression as its tree, from left to right: alternatives, sequences, items and groups.
 ghost use Rattle.std.specs.Prelude.{◌≡◌, ◌≢◌, ◌≤◌, map, length, IfOk, IfErr, MatchOption};
+ghost use Rattle.hs_base.specs.Trees.{IsProper};
 ghost use Rattle.hs_expr.specs.Meaning.{tree_of};
 ghost use Rattle.hs_parse.specs.Grammar.{sequence_tree, alternation_tree, Reads};
-ghost use Rattle.hs_parse.specs.Faults.{IsFaultOf};
-ghost use Rattle.hs_parse.specs.Reading.{IsNext, EndsSequence, StopsFrom, ReadsAtom, ReadsItem, ReadsSequence, ReadsGroup};
+ghost use Rattle.hs_parse.specs.Faults.{IsParseFault};
+ghost use Rattle.hs_parse.specs.Reading.{IsToken, FromEach, EndsSequence, StopsFrom};
+ghost use Rattle.hs_parse.specs.Reading.{ReadsAtom, ReadsItem, ReadsSequence, ReadsGroup};
 
 use crate::fault::ParseFault;
 use crate::quantifier::quantifier_fault;
@@ -27,12 +29,13 @@ pub const MAX_DEPTH: usize = 128;
 /// (`DepthLimit`). Of several at one place it is the one of least number.
 pub fn parse(alloc: Global, text: &[u8], flags: Flags) -> Result<Expr, ParseFault>
     ensures read { IfOk result (λ expr. Reads text.now flags (tree_of expr)) }
-    ensures refused { IfErr result (IsFaultOf text.now flags) }
+    ensures proper { IfOk result (λ expr. IsProper (tree_of expr)) }
+    ensures refused { IfErr result (IsParseFault text.now flags) }
 {
     if text.len() > MAX_TEXT_LEN {
         return Err(ParseFault::Refused(Refusal::LengthLimit));
     }
-    let (expr, end) = alternation_at(alloc, text, flags, 0, Spot::of(flags))?;
+    let (expr, end) = alternation_at(alloc, text, 0, Spot::of(flags))?;
     let found = next_token(text, end);
     if !found.token.is_end() {
         return Err(ParseFault::Refused(Refusal::Syntax(found.start.place as u32)));
@@ -45,7 +48,6 @@ pub fn parse(alloc: Global, text: &[u8], flags: Flags) -> Result<Expr, ParseFaul
 fn alternation_at(
     alloc: Global,
     text: &[u8],
-    flags: Flags,
     depth: usize,
     start: Spot,
 ) -> Result<(Expr, Spot), ParseFault>
@@ -53,12 +55,12 @@ fn alternation_at(
     requires within { start.place ≤ length text.now }
     requires short { length text.now ≤ MAX_TEXT_LEN }
     ensures read { IfOk result (λ found. ReadsGroup text.now depth start (tree_of found.0) found.1) }
-    ensures refused { IfErr result (StopsFrom text.now flags depth start) }
+    ensures refused { IfErr result (StopsFrom text.now depth start) }
 {
     let mut alternatives = Vec::new(alloc);
     let mut at = start;
     loop {
-        let (sequence, end) = sequence_at(alloc, text, flags, depth, at)?;
+        let (sequence, end) = sequence_at(alloc, text, depth, at)?;
         alternatives.push(sequence)?;
         let found = next_token(text, end);
         if !found.token.is_bar() {
@@ -73,7 +75,6 @@ fn alternation_at(
 fn sequence_at(
     alloc: Global,
     text: &[u8],
-    flags: Flags,
     depth: usize,
     start: Spot,
 ) -> Result<(Expr, Spot), ParseFault>
@@ -81,7 +82,7 @@ fn sequence_at(
     requires within { start.place ≤ length text.now }
     requires short { length text.now ≤ MAX_TEXT_LEN }
     ensures read { IfOk result (λ found. ReadsSequence text.now depth start (tree_of found.0) found.1) }
-    ensures refused { IfErr result (StopsFrom text.now flags depth start) }
+    ensures refused { IfErr result (StopsFrom text.now depth start) }
 {
     let mut items = Vec::new(alloc);
     let mut at = start;
@@ -91,7 +92,7 @@ fn sequence_at(
             at = found.behind;
             continue;
         }
-        let Some((item, end)) = item_at(alloc, text, flags, depth, at, found)? else {
+        let Some((item, end)) = item_at(alloc, text, depth, found)? else {
             return Ok((sequence_of(items), at));
         };
         items.push(item)?;
@@ -104,21 +105,19 @@ fn sequence_at(
 fn item_at(
     alloc: Global,
     text: &[u8],
-    flags: Flags,
     depth: usize,
-    at: Spot,
     found: Found,
 ) -> Result<Option<(Expr, Spot)>, ParseFault>
     requires deep { depth ≤ MAX_DEPTH }
-    requires next { IsNext text.now at found }
+    requires next { IsToken text.now found }
     requires item { found.token ≢ Token.Setting }
     requires short { length text.now ≤ MAX_TEXT_LEN }
-    ensures read { IfOk result (λ found. MatchOption found
+    ensures read { IfOk result (λ read. FromEach text.now found (λ at. MatchOption read
         (EndsSequence text.now at)
-        (λ item. ReadsItem text.now depth at (tree_of item.0) item.1)) }
-    ensures refused { IfErr result (StopsFrom text.now flags depth at) }
+        (λ item. ReadsItem text.now depth at (tree_of item.0) item.1))) }
+    ensures refused { IfErr result (λ fault. FromEach text.now found (λ at. StopsFrom text.now depth at fault)) }
 {
-    let Some((atom, middle)) = atom_at(alloc, text, flags, depth, at, found)? else {
+    let Some((atom, middle)) = atom_at(alloc, text, depth, found)? else {
         return Ok(None);
     };
     let next = next_token(text, middle);
@@ -141,25 +140,23 @@ fn item_at(
 fn atom_at(
     alloc: Global,
     text: &[u8],
-    flags: Flags,
     depth: usize,
-    at: Spot,
     found: Found,
 ) -> Result<Option<(Expr, Spot)>, ParseFault>
     requires deep { depth ≤ MAX_DEPTH }
-    requires next { IsNext text.now at found }
+    requires next { IsToken text.now found }
     requires item { found.token ≢ Token.Setting }
     requires short { length text.now ≤ MAX_TEXT_LEN }
-    ensures read { IfOk result (λ found. MatchOption found
+    ensures read { IfOk result (λ read. FromEach text.now found (λ at. MatchOption read
         (EndsSequence text.now at)
-        (λ atom. ReadsAtom text.now depth at (tree_of atom.0) atom.1)) }
-    ensures refused { IfErr result (StopsFrom text.now flags depth at) }
+        (λ atom. ReadsAtom text.now depth at (tree_of atom.0) atom.1))) }
+    ensures refused { IfErr result (λ fault. FromEach text.now found (λ at. StopsFrom text.now depth at fault)) }
 {
     match found.token {
         Token::End | Token::Closing | Token::Bar | Token::Setting => Ok(None),
         Token::Single(set) => Ok(Some((Expr::Class(set), found.behind))),
         Token::Assert(assertion) => Ok(Some((Expr::Assert(assertion), found.behind))),
-        Token::Opening => Ok(Some(group_at(alloc, text, flags, depth, at, found)?)),
+        Token::Opening => Ok(Some(group_at(alloc, text, depth, found)?)),
         Token::Quantifier(_, _, _) => {
             Err(ParseFault::Refused(Refusal::Syntax(found.start.place as u32)))
         }
@@ -172,22 +169,21 @@ fn atom_at(
 fn group_at(
     alloc: Global,
     text: &[u8],
-    flags: Flags,
     depth: usize,
-    at: Spot,
     found: Found,
 ) -> Result<(Expr, Spot), ParseFault>
     requires deep { depth ≤ MAX_DEPTH }
-    requires next { IsNext text.now at found }
+    requires next { IsToken text.now found }
     requires opens { found.token ≡ Token.Opening }
     requires short { length text.now ≤ MAX_TEXT_LEN }
-    ensures read { IfOk result (λ found. ReadsAtom text.now depth at (tree_of found.0) found.1) }
-    ensures refused { IfErr result (StopsFrom text.now flags depth at) }
+    ensures read { IfOk result
+        (λ group. FromEach text.now found (λ at. ReadsAtom text.now depth at (tree_of group.0) group.1)) }
+    ensures refused { IfErr result (λ fault. FromEach text.now found (λ at. StopsFrom text.now depth at fault)) }
 {
     if depth == MAX_DEPTH {
         return Err(ParseFault::Refused(Refusal::DepthLimit));
     }
-    let (body, last) = alternation_at(alloc, text, flags, depth + 1, found.behind)?;
+    let (body, last) = alternation_at(alloc, text, depth + 1, found.behind)?;
     let close = next_token(text, last);
     if close.token.is_end() {
         return Err(ParseFault::Refused(Refusal::Syntax(close.start.place as u32)));

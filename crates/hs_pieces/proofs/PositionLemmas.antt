@@ -10,7 +10,7 @@ use Rattle.hs_base.proofs.ListLemmas.{each-append}
 use Rattle.hs_expr.specs.Counts.{positions, position_counts}
 use Rattle.hs_pieces.specs.Laws.{HasPositions}
 use Rattle.hs_pieces.proofs.FlatLemmas.{items_in, items_within, parts_of, parts_of-same}
-use Rattle.hs_pieces.proofs.SpanLemmas.{items-proper}
+use Rattle.hs_expr.proofs.ItemLemmas.{items-proper}
 use Rattle.hs_pieces.proofs.EndLemmas.{once-greatest}
 
 -- the positions of items in a row

@@ -1,13 +1,13 @@
 -- Chains have the spans of what they are made of.
-use Rattle.std.proofs.Common.{◌≡◌, ℕ, ◌↔◌, Bool, true, false, List, [], ◌∷◌, ◌++◌, map, Option, refl, sym, subst, inl, inr, if◌then◌else◌}
+use Rattle.std.proofs.Common.{◌≡◌, ℕ, ◌↔◌, Bool, List, [], ◌∷◌, ◌++◌, map, refl, sym, subst, inl, inr}
 use Rattle.std.proofs.lemmas.List.{map-append}
-use Rattle.hs_base.specs.Lists.{Each, OneOf}
+use Rattle.hs_base.specs.Lists.{OneOf}
 use Rattle.hs_base.specs.Trees.{Tree, Trees, empty, class, points, assert, cat, alt, repeat, none, more, trees_of, IsProper, AreProper}
 use Rattle.hs_base.specs.Spans.{Spans, CatSpans, AltSpans}
-use Rattle.hs_base.specs.Items.{items_of, items_of_all, is_once}
+use Rattle.hs_base.specs.Items.{items_of}
 use Rattle.hs_base.specs.Chains.{Part, literal, ordinary, long, piece_of, piece_tree, pieces_of, chain_trees, ChainSpans, alternatives_of, alternatives_of_all, chains_of}
-use Rattle.hs_base.proofs.ListLemmas.{one_of-left, one_of-right, one_of-append, each-append}
-use Rattle.hs_expr.proofs.ItemLemmas.{items-have_spans}
+use Rattle.hs_base.proofs.ListLemmas.{one_of-left, one_of-right, one_of-append}
+use Rattle.hs_expr.proofs.ItemLemmas.{items-have_spans, items-proper}
 use Rattle.hs_pieces.proofs.FlatLemmas.{items_in, items_within, parts_of, parts_of-same}
 
 -- spans of some items and then of others
@@ -54,28 +54,6 @@ items-chain w ended (part ∷ parts) i j h =
     elim (spans-split w ended (items_in part) (items_within parts) i j h) [
       | joined m before behind ↦ (m, items-piece w ended part i m before, items-chain w ended parts m j behind)
     ]
-
--- the values of the items are within their types
-proper-once : (body : Tree) (least : ℕ) (greatest : Option ℕ) (once : Bool) → IsProper (repeat body least greatest) →
-    Each IsProper (items_of body) → Each IsProper (if once then items_of body else repeat body least greatest ∷ [])
-proper-once body least greatest true whole inside = inside
-proper-once body least greatest false whole inside = (whole, tt)
-
-mutual
-  pub items-proper : (t : Tree) → IsProper t → Each IsProper (items_of t)
-  items-proper empty proper = tt
-  items-proper (class set) proper = (proper, tt)
-  items-proper (points ranges) proper = (proper, tt)
-  items-proper (assert assertion) proper = (proper, tt)
-  items-proper (cat items) proper = all_items-proper items proper
-  items-proper (alt items) proper = (proper, tt)
-  items-proper (repeat body least greatest) proper =
-      proper-once body least greatest (is_once least greatest) proper (items-proper body proper.0)
-
-  all_items-proper : (items : Trees) → AreProper items → Each IsProper (items_of_all items)
-  all_items-proper none proper = tt
-  all_items-proper (more item items) proper =
-      each-append IsProper (items_of item) (items_of_all items) (items-proper item proper.0) (all_items-proper items proper.1)
 
 -- a chain has the spans of its alternative
 

@@ -2,4 +2,5 @@ pub mod Meaning
 pub mod Kinds
 pub mod Splitting
 pub mod LookBack
+pub mod Proper
 pub mod Laws

@@ -1,6 +1,7 @@
 -- Where a split stands: pieces that are complete, and what waits for the items to come.
 use Rattle.std.specs.Prelude.{List, [], ◌∷◌, ◌++◌, map}
-use Rattle.hs_base.specs.Chains.{Piece, nfa, Part, runs_joined, runs_cut, ordinary_joined, with_literal, with_ordinary, piece_of, alternatives_of_all, pieces_of}
+use Rattle.hs_base.specs.Chains.{Piece, nfa, Part, runs_joined, runs_cut, ordinary_joined, with_literal, with_ordinary}
+use Rattle.hs_base.specs.Chains.{piece_of, alternatives_of_all, pieces_of}
 use Rattle.hs_base.specs.Items.{items_of}
 use Rattle.hs_base.specs.LiteralView.{literal_byte}
 use Rattle.hs_base.specs.Literals.{LiteralByte}

@@ -51,7 +51,8 @@ fn class_kind(set: &ByteSet) -> Kind
 
 /// What a repeat becomes.
 fn repeat_kind(body: &Expr, least: u32, greatest: Option<u32>) -> Kind
-    ensures { kind_part result (repeat (tree_of body.now) least greatest) ≡ part_of (repeat (tree_of body.now) least greatest) }
+    ensures { kind_part result (repeat (tree_of body.now) least greatest) ≡ part_of
+        (repeat (tree_of body.now) least greatest) }
 {
     match body {
         Expr::Class(set) => set_repeat_kind(set, least, greatest),

@@ -113,7 +113,8 @@ impl Parts {
     fn end_run(&mut self, alloc: Global) -> Result<(), AllocError>
         ensures run { IfOk result (λ done. self.new.run.items ≡ []) }
         ensures same { IfOk result (λ done. (cut : List Part) →
-            whole_of_cut self.new cut ≡ whole_of_cut self.old (rest_of_run (map literal_byte self.old.run.items) ++ cut)) }
+            whole_of_cut self.new cut ≡ whole_of_cut self.old
+            (rest_of_run (map literal_byte self.old.run.items) ++ cut)) }
     {
         let run = std::mem::replace(&mut self.run, Vec::new(alloc));
         if run.len() > 1 {

@@ -2,8 +2,10 @@
 ghost use Rattle.std.specs.Prelude.{◌≡◌, ◌∷◌, ◌++◌, [], map, IfOk};
 ghost use Rattle.hs_base.specs.Chains.{chains_of, pieces_of};
 ghost use Rattle.hs_base.specs.Items.{items_of};
+ghost use Rattle.hs_base.specs.Trees.{IsProper};
 ghost use Rattle.hs_expr.specs.Meaning.{tree_of, trees_of};
 ghost use Rattle.hs_pieces.specs.Meaning.{plain_chain};
+ghost use Rattle.hs_pieces.specs.Proper.{AreProperChains};
 ghost use Rattle.hs_pieces.specs.Splitting.{chains_of_all};
 
 use crate::parts::Parts;
@@ -13,7 +15,9 @@ use std::alloc::{AllocError, Global};
 
 /// The chains of an expression, one for each of its alternatives, in order.
 pub fn split(alloc: Global, expr: &Expr) -> Result<Vec<Chain>, AllocError>
-    ensures { IfOk result (λ chains. map plain_chain chains.items ≡ chains_of (tree_of expr.now)) }
+    ensures chains { IfOk result (λ chains. map plain_chain chains.items ≡ chains_of (tree_of expr.now)) }
+    ensures proper { IfOk result
+        (λ chains. IsProper (tree_of expr.now) → AreProperChains (map plain_chain chains.items)) }
 {
     let mut chains = Vec::new(alloc);
     push_chains(alloc, expr, &mut chains)?;

@@ -3,7 +3,7 @@ use Rattle.std.proofs.Common.{◌≡◌, ℕ, ◌+◌, ◌<◌, ◌⊎◌, ◌||
 use Rattle.std.proofs.lemmas.Bool.{cases_lt}
 use Rattle.std.proofs.lemmas.List.{get_or_past}
 use Rattle.hs_plain.specs.declared.offsets.Offsets.{Offsets}
-use Rattle.hs_plain.specs.OffsetSets.{room, has, AreEnds, Adds}
+use Rattle.hs_plain.specs.OffsetSets.{room, has, AreEnds, AddsOffsets}
 
 pub either : (a b : Bool) → (a || b) ≡ true → (a ≡ true) ⊎ (b ≡ true)
 either true b or = inl refl
@@ -18,14 +18,14 @@ right_either true b is = refl
 right_either false b is = is
 
 -- nothing was added
-pub adds-none : (Q : ℕ → Type 0) (s : Offsets) → ((j : ℕ) → Q j → ⊥) → Adds Q s s
+pub adds-none : (Q : ℕ → Type 0) (s : Offsets) → ((j : ℕ) → Q j → ⊥) → AddsOffsets Q s s
 adds-none Q s never = record {
   alike = refl;
   each = λ j. (λ is. inl is, λ found. elim found [ inl is ↦ is | inr more ↦ absurd (never j more) ]);
 }
 
 -- the same, said in other words
-pub adds-map : (Q Q' : ℕ → Type 0) (s t : Offsets) → ((j : ℕ) → Q j → Q' j) → ((j : ℕ) → Q' j → Q j) → Adds Q s t → Adds Q' s t
+pub adds-map : (Q Q' : ℕ → Type 0) (s t : Offsets) → ((j : ℕ) → Q j → Q' j) → ((j : ℕ) → Q' j → Q j) → AddsOffsets Q s t → AddsOffsets Q' s t
 adds-map Q Q' s t to from adds = record {
   alike = adds.alike;
   each = λ j. (
@@ -35,7 +35,7 @@ adds-map Q Q' s t to from adds = record {
 }
 
 -- one after the other
-pub adds-then : (Q Q' : ℕ → Type 0) (s t u : Offsets) → Adds Q s t → Adds Q' t u → Adds (λ j. Q j ⊎ Q' j) s u
+pub adds-then : (Q Q' : ℕ → Type 0) (s t u : Offsets) → AddsOffsets Q s t → AddsOffsets Q' t u → AddsOffsets (λ j. Q j ⊎ Q' j) s u
 adds-then Q Q' s t u one two = record {
   alike = two.alike ∙ one.alike;
   each = λ j. (
@@ -64,10 +64,10 @@ member-below s i is = elim (cases_lt i (room s)) [
 abbrev pub FromBelow : (ℕ → ℕ → Type 0) → Offsets → ℕ → ℕ → Type 0
 FromBelow R starts n j = (i : ℕ) × (i < n) × (has starts i ≡ true) × R i j
 
-pub from_below-none : (R : ℕ → ℕ → Type 0) (starts s : Offsets) → Adds (FromBelow R starts 0) s s
+pub from_below-none : (R : ℕ → ℕ → Type 0) (starts s : Offsets) → AddsOffsets (FromBelow R starts 0) s s
 from_below-none R starts s = adds-none (FromBelow R starts 0) s (λ j (i, below, _, _). omega arith)
 
-pub from_below-member : (R : ℕ → ℕ → Type 0) (starts s t u : Offsets) (n : ℕ) → has starts n ≡ true → Adds (FromBelow R starts n) s t → Adds (R n) t u → Adds (FromBelow R starts (n + 1)) s u
+pub from_below-member : (R : ℕ → ℕ → Type 0) (starts s t u : Offsets) (n : ℕ) → has starts n ≡ true → AddsOffsets (FromBelow R starts n) s t → AddsOffsets (R n) t u → AddsOffsets (FromBelow R starts (n + 1)) s u
 from_below-member R starts s t u n is one two =
     adds-map (λ j. FromBelow R starts n j ⊎ R n j) (FromBelow R starts (n + 1)) s u
     (λ j found. widen j found)
@@ -84,7 +84,7 @@ from_below-member R starts s t u n is one two =
       | inr last ↦ let same : i ≡ n = omega arith in inr (subst (λ k. R k j) same leads)
     ]
 
-pub from_below-other : (R : ℕ → ℕ → Type 0) (starts s t : Offsets) (n : ℕ) → has starts n ≡ false → Adds (FromBelow R starts n) s t → Adds (FromBelow R starts (n + 1)) s t
+pub from_below-other : (R : ℕ → ℕ → Type 0) (starts s t : Offsets) (n : ℕ) → has starts n ≡ false → AddsOffsets (FromBelow R starts n) s t → AddsOffsets (FromBelow R starts (n + 1)) s t
 from_below-other R starts s t n not adds =
     adds-map (FromBelow R starts n) (FromBelow R starts (n + 1)) s t
     (λ j (i, below, start, leads). (i, omega arith, start, leads))
@@ -101,7 +101,7 @@ from_below-other R starts s t n not adds =
     ]
 
 -- where a loop over all starts has added to nothing, all ends are there
-pub from_below-all : (R : ℕ → ℕ → Type 0) (starts none ends : Offsets) (n : ℕ) → n ≡ room starts → room none ≡ room starts → ((j : ℕ) → has none j ≡ false) → Adds (FromBelow R starts n) none ends → AreEnds R starts ends
+pub from_below-all : (R : ℕ → ℕ → Type 0) (starts none ends : Offsets) (n : ℕ) → n ≡ room starts → room none ≡ room starts → ((j : ℕ) → has none j ≡ false) → AddsOffsets (FromBelow R starts n) none ends → AreEnds R starts ends
 from_below-all R starts none ends n whole size empty adds = record {
   alike = adds.alike ∙ size;
   each = λ j. (

@@ -5,7 +5,7 @@ use Rattle.hs_base.specs.Lists.{OneOf}
 use Rattle.hs_base.specs.Spans.{IsScalarValue, IsInRange, IsPointOf}
 use Rattle.hs_base.proofs.ListLemmas.{one_of-left, one_of-right, one_of-append}
 use Rattle.hs_plain.specs.declared.offsets.Offsets.{Offsets}
-use Rattle.hs_plain.specs.OffsetSets.{Adds}
+use Rattle.hs_plain.specs.OffsetSets.{AddsOffsets}
 use Rattle.hs_plain.specs.Points.{IsCodePointAt}
 use Rattle.hs_plain.proofs.OffsetLemmas.{adds-none, adds-map, adds-then}
 
@@ -13,10 +13,10 @@ use Rattle.hs_plain.proofs.OffsetLemmas.{adds-none, adds-map, adds-then}
 abbrev pub IsPointBelow : ℕ → ℕ → ℕ → List ℕ → ℕ → ℕ → Type 0
 IsPointBelow first last c w i j = (p : ℕ) × (first ≤ p) × (p ≤ last) × (p < c) × IsCodePointAt w p i j
 
-pub points_below-start : (first last : ℕ) (w : List ℕ) (i : ℕ) (s : Offsets) → Adds (IsPointBelow first last first w i) s s
+pub points_below-start : (first last : ℕ) (w : List ℕ) (i : ℕ) (s : Offsets) → AddsOffsets (IsPointBelow first last first w i) s s
 points_below-start first last w i s = adds-none (IsPointBelow first last first w i) s (λ j (p, low, high, below, _). omega arith)
 
-pub points_below-more : (first last c : ℕ) (w : List ℕ) (i : ℕ) (s t u : Offsets) → first ≤ c → c ≤ last → Adds (IsPointBelow first last c w i) s t → Adds (IsCodePointAt w c i) t u → Adds (IsPointBelow first last (c + 1) w i) s u
+pub points_below-more : (first last c : ℕ) (w : List ℕ) (i : ℕ) (s t u : Offsets) → first ≤ c → c ≤ last → AddsOffsets (IsPointBelow first last c w i) s t → AddsOffsets (IsCodePointAt w c i) t u → AddsOffsets (IsPointBelow first last (c + 1) w i) s u
 points_below-more first last c w i s t u low high one two =
     adds-map (λ j. IsPointBelow first last c w i j ⊎ IsCodePointAt w c i j) (IsPointBelow first last (c + 1) w i) s u
     (λ j found. widen j found) (λ j (p, above, within, below, point). narrow j p above within below point)
@@ -37,7 +37,7 @@ scalar-below c (inl low) = omega arith
 scalar-below c (inr high) = omega arith
 
 -- all code points of the range have been gone through
-pub points_below-all : (first last c : ℕ) (w : List ℕ) (i : ℕ) (s t : Offsets) → min last 0x10FFFF + 1 ≤ c → Adds (IsPointBelow first last c w i) s t → Adds (IsPointOf ((first, last) ∷ []) w i) s t
+pub points_below-all : (first last c : ℕ) (w : List ℕ) (i : ℕ) (s t : Offsets) → min last 0x10FFFF + 1 ≤ c → AddsOffsets (IsPointBelow first last c w i) s t → AddsOffsets (IsPointOf ((first, last) ∷ []) w i) s t
 points_below-all first last c w i s t whole adds =
     adds-map (IsPointBelow first last c w i) (IsPointOf ((first, last) ∷ []) w i) s t
     (λ j (p, above, within, below, point). record { code_point = p; scalar = point.scalar; member = inl (above, within); bytes = point.bytes; end = point.end })
@@ -57,11 +57,11 @@ points_below-all first last c w i s t whole adds =
       | inr none ↦ absurd none
     ]
 
-pub points_of-none : (w : List ℕ) (i : ℕ) (s : Offsets) → Adds (IsPointOf [] w i) s s
+pub points_of-none : (w : List ℕ) (i : ℕ) (s : Offsets) → AddsOffsets (IsPointOf [] w i) s s
 points_of-none w i s = adds-none (IsPointOf [] w i) s (λ j point. point.member)
 
 -- one range more
-pub points_of-more : (before : List (ℕ × ℕ)) (range : ℕ × ℕ) (w : List ℕ) (i : ℕ) (s t u : Offsets) → Adds (IsPointOf before w i) s t → Adds (IsPointOf (range ∷ []) w i) t u → Adds (IsPointOf (before ++ range ∷ []) w i) s u
+pub points_of-more : (before : List (ℕ × ℕ)) (range : ℕ × ℕ) (w : List ℕ) (i : ℕ) (s t u : Offsets) → AddsOffsets (IsPointOf before w i) s t → AddsOffsets (IsPointOf (range ∷ []) w i) t u → AddsOffsets (IsPointOf (before ++ range ∷ []) w i) s u
 points_of-more before range w i s t u one two =
     adds-map (λ j. IsPointOf before w i j ⊎ IsPointOf (range ∷ []) w i j) (IsPointOf (before ++ range ∷ []) w i) s u
     (λ j found. elim found [

@@ -1,6 +1,6 @@
 -- Which pairs are reports, and the told and last lists from those of each beginning.
-use Rattle.std.proofs.Common.{◌≡◌, ℕ, suc, ◌+◌, ◌<◌, ◌≤◌, ◌&&◌, ◌||◌, ◌==◌, Bool, true, false, List, [], ◌∷◌, ◌++◌, length, take, drop, get_or, refl, sym, ap, subst, ◌∙◌, inl, inr, arith, drop-cons}
-use Rattle.std.specs.List.{list_any}
+use Rattle.std.proofs.Common.{◌≡◌, ℕ, suc, ◌+◌, ◌<◌, ◌≤◌, ◌&&◌, ◌||◌, not, ◌==◌, Bool, true, false, List, [], ◌∷◌, ◌++◌, length, take, drop, get_or, refl, sym, ap, subst, ◌∙◌, inl, inr, arith, drop-cons}
+use Rattle.std.specs.List.{list_all, list_any}
 use Rattle.std.proofs.lemmas.List.{take_more, take-append-drop, map-append}
 use Rattle.std.proofs.lemmas.Option.{slice_get-get_or}
 use Rattle.hs_base.specs.Lists.{Each, IsMember, IsRising}
@@ -16,9 +16,23 @@ use Rattle.hs_plain.specs.declared.pattern.Pattern.{Pattern}
 use Rattle.hs_plain.specs.PlainPatterns.{patterns_of, pair_of, pairs_of, ArePairs, AreReports, KeepsPairs}
 use Rattle.hs_plain.proofs.PairLemmas.{member-at}
 
-pub single-patterns : (xs : List Pattern) (id : ℕ) → list_any (λ x. (x.id.0 == id) && x.single) xs ≡ is_single (patterns_of xs) id
-single-patterns [] id = refl
-single-patterns (x ∷ xs) id = ap (λ b. ((x.id.0 == id) && x.single) || b) (single-patterns xs id)
+named-patterns : (xs : List Pattern) (id : ℕ) →
+    list_any (λ x. x.id.0 == id) xs ≡ list_any (λ x. x.id == id) (patterns_of xs)
+named-patterns [] id = refl
+named-patterns (x ∷ xs) id = ap (λ b. (x.id.0 == id) || b) (named-patterns xs id)
+
+asking-patterns : (xs : List Pattern) (id : ℕ) →
+    list_all (λ x. not (x.id.0 == id) || x.single) xs ≡ list_all (λ x. not (x.id == id) || x.single) (patterns_of xs)
+asking-patterns [] id = refl
+asking-patterns (x ∷ xs) id = ap (λ b. (not (x.id.0 == id) || x.single) && b) (asking-patterns xs id)
+
+-- whether an identifier is single, by the patterns that the program has
+pub single-patterns : (xs : List Pattern) (id : ℕ) (named asking : Bool) →
+    named ≡ list_any (λ x. x.id.0 == id) xs → asking ≡ list_all (λ x. not (x.id.0 == id) || x.single) xs →
+    (named && asking) ≡ is_single (patterns_of xs) id
+single-patterns xs id named asking is is' =
+    ap (λ b. b && asking) (is ∙ named-patterns xs id)
+    ∙ ap (λ b. list_any (λ x. x.id == id) (patterns_of xs) && b) (is' ∙ asking-patterns xs id)
 
 pub least-map : (Q R : ℕ → Type 0) (n : ℕ) → ((m : ℕ) → Q m → R m) → ((m : ℕ) → R m → Q m) → IsLeast Q n → IsLeast R n
 least-map Q R n to from least = record { holds = to n least.holds; least = λ m is. least.least m (from m is) }

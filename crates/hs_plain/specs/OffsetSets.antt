@@ -16,6 +16,6 @@ pub record AreEnds (R : ℕ → ℕ → Type 0) (starts ends : Offsets) : Type 0
   pub each : (j : ℕ) → (has ends j ≡ true) ↔ ((i : ℕ) × (has starts i ≡ true) × R i j)
 
 -- The new set has the offsets with the property beside the members of the old one.
-pub record Adds (Q : ℕ → Type 0) (old new : Offsets) : Type 0 where
+pub record AddsOffsets (Q : ℕ → Type 0) (old new : Offsets) : Type 0 where
   pub alike : room new ≡ room old
   pub each : (j : ℕ) → (has new j ≡ true) ↔ ((has old j ≡ true) ⊎ Q j)

@@ -1,6 +1,7 @@
 -- The plain patterns and pairs that the program's values stand for.
 use Rattle.std.specs.Prelude.{ℕ, ◌⊎◌, ◌↔◌, Bool, List, map}
 use Rattle.hs_base.specs.Lists.{IsMember, IsRising}
+pub use Rattle.hs_base.specs.ReportView.{pair_of}
 use Rattle.hs_base.specs.Patterns as base
 use Rattle.hs_base.specs.Patterns.{IsPair}
 use Rattle.hs_base.specs.Reports.{IsReport}
@@ -17,13 +18,13 @@ pattern_of x = record { id = x.id.0; single = x.single; least = x.least; greates
 abbrev pub patterns_of : List Pattern → List base.Pattern
 patterns_of xs = map pattern_of xs
 
--- the pair of a report
-abbrev pub pair_of : Report → Pair
-pair_of r = record { id = r.id.0; to = r.to }
-
 -- the pairs of a list of reports
 abbrev pub pairs_of : List Report → List Pair
 pairs_of rs = map pair_of rs
+
+-- the identifier has a pair with that end among these
+abbrev pub HasPair : List Pair → (id to : ℕ) → Type 0
+HasPair pairs id to = IsMember (record { id = id; to = to }) pairs
 
 -- The pairs of the stream, each once, by end, then identifier.
 pub record ArePairs (P : List base.Pattern) (w : List ℕ) (ended : Bool) (pairs : List Pair) : Type 0 where

@@ -3,10 +3,7 @@
 ghost use Rattle.std.specs.Prelude.{◌≡◌, ◌+◌, ◌<◌, ◌≤◌, ◌≢◌, ◌⊎◌, ◌↔◌, length, IsTrue};
 ghost use Rattle.hs_base.specs.Assertions.{line_feed, is_word, byte_before, byte_after, IsEnd, IsKnown, Holds};
 
-use hs_base::Assertion;
-
-/// The byte 0A.
-const LINE_FEED: u8 = 10;
+use hs_base::{Assertion, LINE_FEED};
 
 /// Whether the assertion holds at an offset of the stream.
 pub fn holds(assertion: Assertion, stream: &[u8], ended: bool, at: usize) -> bool
@@ -82,7 +79,8 @@ fn is_end(stream: &[u8], ended: bool, at: usize) -> bool
 }
 
 fn is_final_newline(stream: &[u8], ended: bool, at: usize) -> bool
-    ensures { IsTrue result ↔ (IsTrue ended × (byte_after stream.now at ≡ Some line_feed) × (at + 1 ≡ length stream.now)) }
+    ensures { IsTrue result ↔
+        (IsTrue ended × (byte_after stream.now at ≡ Some line_feed) × (at + 1 ≡ length stream.now)) }
 {
     ended && at < stream.len() && is_before_line_feed(stream, at) && at + 1 == stream.len()
 }

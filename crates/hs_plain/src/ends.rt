@@ -1,11 +1,12 @@
 //! Where the spans of an expression end.
 
-ghost use Rattle.std.specs.Prelude.{◌≡◌, ℕ, ◌+◌, ◌<◌, ◌≤◌, ◌⊎◌, ◌↔◌, ◌==◌, true, Some, None, length, map, IfOk, IfSome, IsTrue};
+ghost use Rattle.std.specs.Prelude.{◌≡◌, ℕ, ◌+◌, ◌<◌, ◌≤◌, ◌⊎◌, ◌↔◌, ◌==◌, true, Some, None, length, map, IfOk, IfSome};
+ghost use Rattle.std.specs.Prelude.{IsTrue};
 ghost use Rattle.hs_base.specs.ByteSets.{members};
 ghost use Rattle.hs_base.specs.Assertions.{Holds};
 ghost use Rattle.hs_base.specs.Spans.{IsByteOf, Copies, Spans, CatSpans, AltSpans};
 ghost use Rattle.hs_expr.specs.Meaning.{trees_of, tree_of};
-ghost use Rattle.hs_plain.specs.OffsetSets.{room, has, AreEnds, Adds};
+ghost use Rattle.hs_plain.specs.OffsetSets.{room, has, AreEnds, AddsOffsets};
 ghost use Rattle.hs_plain.specs.Repeats.{UpTo, AnyNumber, RepeatSpans};
 
 use crate::assertions::holds;
@@ -25,7 +26,8 @@ pub fn ends_of(
 ) -> Result<Offsets, AllocError>
     requires { from ≤ length stream.now }
     ensures size { IfOk result (λ ends. room ends ≡ length stream.now + 1) }
-    ensures each { IfOk result (λ ends. (to : ℕ) → (has ends to ≡ true) ↔ Spans stream.now ended (tree_of expr.now) from to) }
+    ensures each { IfOk result (λ ends. (to : ℕ) →
+        (has ends to ≡ true) ↔ Spans stream.now ended (tree_of expr.now) from to) }
 {
     let start = one(alloc, stream.len() + 1, from)?;
     ends_from(alloc, expr, stream, ended, &start)
@@ -74,7 +76,8 @@ fn class_ends(
     starts: &Offsets,
 ) -> Result<Offsets, AllocError>
     requires { room starts.now ≡ length stream.now + 1 }
-    ensures { IfOk result (λ ends. AreEnds (λ i j. IsByteOf (members set.now) stream.now i × (j ≡ i + 1)) starts.now ends) }
+    ensures { IfOk result
+        (λ ends. AreEnds (λ i j. IsByteOf (members set.now) stream.now i × (j ≡ i + 1)) starts.now ends) }
 {
     let mut ends = Offsets::none(alloc, starts.room())?;
     for at in 0..starts.room() {
@@ -87,7 +90,7 @@ fn class_ends(
 
 fn add_byte(set: &ByteSet, stream: &[u8], at: usize, ends: &mut Offsets)
     requires { room ends.old ≡ length stream.now + 1 }
-    ensures { Adds (λ j. IsByteOf (members set.now) stream.now at × (j ≡ at + 1)) ends.old ends.new }
+    ensures { AddsOffsets (λ j. IsByteOf (members set.now) stream.now at × (j ≡ at + 1)) ends.old ends.new }
 {
     if is_byte_of(set, stream, at) {
         ends.insert(at + 1);
@@ -132,7 +135,8 @@ fn cat_ends(
     starts: &Offsets,
 ) -> Result<Offsets, AllocError>
     requires { room starts.now ≡ length stream.now + 1 }
-    ensures { IfOk result (λ ends. AreEnds (CatSpans stream.now ended (trees_of (map tree_of items.now))) starts.now ends) }
+    ensures { IfOk result
+        (λ ends. AreEnds (CatSpans stream.now ended (trees_of (map tree_of items.now))) starts.now ends) }
 {
     let mut ends = starts.copy(alloc)?;
     for i in 0..items.len() {
@@ -150,7 +154,8 @@ fn alt_ends(
     starts: &Offsets,
 ) -> Result<Offsets, AllocError>
     requires { room starts.now ≡ length stream.now + 1 }
-    ensures { IfOk result (λ ends. AreEnds (AltSpans stream.now ended (trees_of (map tree_of items.now))) starts.now ends) }
+    ensures { IfOk result
+        (λ ends. AreEnds (AltSpans stream.now ended (trees_of (map tree_of items.now))) starts.now ends) }
 {
     let mut all = Offsets::none(alloc, starts.room())?;
     for i in 0..items.len() {
@@ -171,7 +176,8 @@ fn repeat_ends(
     starts: &Offsets,
 ) -> Result<Offsets, AllocError>
     requires { room starts.now ≡ length stream.now + 1 }
-    ensures { IfOk result (λ ends. AreEnds (RepeatSpans (Spans stream.now ended (tree_of body.now)) least greatest) starts.now ends) }
+    ensures { IfOk result
+        (λ ends. AreEnds (RepeatSpans (Spans stream.now ended (tree_of body.now)) least greatest) starts.now ends) }
 {
     let first = copies_ends(alloc, body, least, stream, ended, starts)?;
     match greatest {

@@ -1,3 +1,4 @@
+//! Sets of offsets.
 ghost use Rattle.std.specs.Prelude.{◌≡◌, ℕ, ◌<◌, ◌≤◌, ◌↔◌, ◌||◌, ◌==◌, Bool, false, true, IfOk, IsTrue};
 ghost use Rattle.hs_plain.specs.OffsetSets.{room, has};
 
@@ -61,7 +62,7 @@ impl Offsets {
         }
     }
 
-    /// Adds an offset.
+    /// AddsOffsets an offset.
     pub fn insert(&mut self, at: usize)
         requires { at < room self.old }
         ensures size { room self.new ≡ room self.old }
@@ -70,7 +71,7 @@ impl Offsets {
         self.marks[at] = true;
     }
 
-    /// Adds the members of another set of the same room.
+    /// AddsOffsets the members of another set of the same room.
     pub fn add(&mut self, other: &Offsets)
         requires { room other.now ≡ room self.old }
         ensures size { room self.new ≡ room self.old }

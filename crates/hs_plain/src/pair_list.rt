@@ -1,6 +1,7 @@
 //! The pairs of a list of patterns, in order.
 
-ghost use Rattle.std.specs.Prelude.{◌≡◌, ℕ, ◌+◌, ◌<◌, ◌≤◌, ◌⊎◌, ◌↔◌, ◌==◌, true, Some, length, map, take, slice_get, IfOk, IfSome, IsTrue, MatchOption, OnOk};
+ghost use Rattle.std.specs.Prelude.{◌≡◌, ℕ, ◌+◌, ◌<◌, ◌≤◌, ◌⊎◌, ◌↔◌, ◌==◌, true, Some, length, map, take, slice_get};
+ghost use Rattle.std.specs.Prelude.{IfOk, IfSome, IsTrue, MatchOption, OnOk};
 ghost use Rattle.hs_base.specs.Lists.{Each, IsMember, IsRising};
 ghost use Rattle.hs_base.specs.Patterns.{HasEnd, is_single};
 ghost use Rattle.hs_base.specs.Reports.{IsLeast};
@@ -50,7 +51,9 @@ fn add_pattern(
     ended: bool,
     found: &mut Vec<Report>,
 ) -> Result<(), AllocError>
-    ensures { OnOk result (AddsPairs (λ p. (p.to ≤ length stream.now) × HasEnd stream.now ended p.id p.to (pattern_of pattern.now)) (pairs_of found.old.items) (pairs_of found.new.items)) }
+    ensures { OnOk result (AddsPairs
+        (λ p. (p.to ≤ length stream.now) × HasEnd stream.now ended p.id p.to (pattern_of pattern.now))
+        (pairs_of found.old.items) (pairs_of found.new.items)) }
 {
     let ends = all_ends(alloc, &pattern.expr, stream, ended)?;
     for to in 0..ends.room() {
@@ -62,20 +65,24 @@ fn add_pattern(
 /// The ends of spans from any offset.
 fn all_ends(alloc: Global, expr: &Expr, stream: &[u8], ended: bool) -> Result<Offsets, AllocError>
     ensures size { IfOk result (λ ends. room ends ≡ length stream.now + 1) }
-    ensures each { IfOk result (λ ends. (to : ℕ) → (has ends to ≡ true) ↔ ((to ≤ length stream.now) × ((from : ℕ) × Spans stream.now ended (tree_of expr.now) from to))) }
+    ensures each { IfOk result (λ ends. (to : ℕ) → (has ends to ≡ true)
+        ↔ ((to ≤ length stream.now) × ((from : ℕ) × Spans stream.now ended (tree_of expr.now) from to))) }
 {
     let starts = Offsets::all(alloc, stream.len() + 1)?;
     ends_from(alloc, expr, stream, ended, &starts)
 }
 
-/// Adds the pair of this end, where it is one within the pattern's bounds.
+/// AddsOffsets the pair of this end, where it is one within the pattern's bounds.
 fn add_end(
     pattern: &Pattern,
     ends: &Offsets,
     to: usize,
     found: &mut Vec<Report>,
 ) -> Result<(), AllocError>
-    ensures { OnOk result (AddsPairs (λ p. (p ≡ record { id = pattern.now.id.0; to = to }) × (has ends.now to ≡ true) × (pattern.now.least ≤ to) × (to ≤ pattern.now.greatest)) (pairs_of found.old.items) (pairs_of found.new.items)) }
+    ensures { OnOk result (AddsPairs
+        (λ p. (p ≡ record { id = pattern.now.id.0; to = to }) × (has ends.now to ≡ true)
+        × (pattern.now.least ≤ to) × (to ≤ pattern.now.greatest))
+        (pairs_of found.old.items) (pairs_of found.new.items)) }
 {
     let end = to as u64;
     if ends.contains(to) && pattern.least <= end && end <= pattern.greatest {
@@ -90,7 +97,7 @@ fn add_end(
     Ok(())
 }
 
-/// Adds a report in its place, unless it is there.
+/// AddsOffsets a report in its place, unless it is there.
 fn add_report(found: &mut Vec<Report>, report: Report) -> Result<(), AllocError>
     ensures { OnOk result (AddsPairs (λ p. p ≡ pair_of report) (pairs_of found.old.items) (pairs_of found.new.items)) }
 {

@@ -1,3 +1,4 @@
+//! A pattern: an expression of a list, with what is asked of its matches.
 use hs_base::ExprId;
 use hs_expr::Expr;
 

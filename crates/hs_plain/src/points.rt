@@ -2,7 +2,7 @@
 
 ghost use Rattle.std.specs.Prelude.{◌≡◌, ℕ, ◌+◌, ◌<◌, ◌≤◌, ◌⊎◌, ◌↔◌, [], ◌∷◌, length, IfOk, IsTrue, MatchOption};
 ghost use Rattle.hs_base.specs.Spans.{HasBytesAt, IsPointOf};
-ghost use Rattle.hs_plain.specs.OffsetSets.{room, has, AreEnds, Adds};
+ghost use Rattle.hs_plain.specs.OffsetSets.{room, has, AreEnds, AddsOffsets};
 ghost use Rattle.hs_plain.specs.Points.{IsCodePointAt};
 
 use crate::offsets::Offsets;
@@ -33,7 +33,7 @@ pub fn point_ends(
 fn add_points(ranges: &[(u32, u32)], stream: &[u8], at: usize, ends: &mut Offsets)
     requires within { at ≤ length stream.now }
     requires size { room ends.old ≡ length stream.now + 1 }
-    ensures { Adds (IsPointOf ranges.now stream.now at) ends.old ends.new }
+    ensures { AddsOffsets (IsPointOf ranges.now stream.now at) ends.old ends.new }
 {
     for i in 0..ranges.len() {
         let (first, last) = ranges[i];
@@ -44,7 +44,7 @@ fn add_points(ranges: &[(u32, u32)], stream: &[u8], at: usize, ends: &mut Offset
 fn add_range(first: u32, last: u32, stream: &[u8], at: usize, ends: &mut Offsets)
     requires within { at ≤ length stream.now }
     requires size { room ends.old ≡ length stream.now + 1 }
-    ensures { Adds (IsPointOf ((first, last) ∷ []) stream.now at) ends.old ends.new }
+    ensures { AddsOffsets (IsPointOf ((first, last) ∷ []) stream.now at) ends.old ends.new }
 {
     for code_point in first..last.min(LAST_CODE_POINT) + 1 {
         add_code_point(code_point, stream, at, ends);
@@ -54,7 +54,7 @@ fn add_range(first: u32, last: u32, stream: &[u8], at: usize, ends: &mut Offsets
 fn add_code_point(code_point: u32, stream: &[u8], at: usize, ends: &mut Offsets)
     requires within { at ≤ length stream.now }
     requires size { room ends.old ≡ length stream.now + 1 }
-    ensures { Adds (IsCodePointAt stream.now code_point at) ends.old ends.new }
+    ensures { AddsOffsets (IsCodePointAt stream.now code_point at) ends.old ends.new }
 {
     match encoded_end(code_point, stream, at) {
         Some(end) => ends.insert(end),
@@ -65,7 +65,9 @@ fn add_code_point(code_point: u32, stream: &[u8], at: usize, ends: &mut Offsets)
 /// Where the encoding of the code point ends that stands at the offset.
 fn encoded_end(code_point: u32, stream: &[u8], at: usize) -> Option<usize>
     requires { at ≤ length stream.now }
-    ensures { MatchOption result ((j : ℕ) → ¬ IsCodePointAt stream.now code_point at j) (λ end. IsCodePointAt stream.now code_point at end) }
+    ensures { MatchOption result
+        ((j : ℕ) → ¬ IsCodePointAt stream.now code_point at j)
+        (λ end. IsCodePointAt stream.now code_point at end) }
 {
     let character = char::from_u32(code_point)?;
     let mut buffer = [0; 4];

@@ -1,12 +1,14 @@
 //! What is reported of a stream.
 
-ghost use Rattle.std.specs.Prelude.{◌≡◌, ℕ, ◌↔◌, ◌&&◌, ◌==◌, Bool, false, true, List, length, map, IfOk, IsTrue, MatchOption};
-ghost use Rattle.std.specs.List.{list_any};
+ghost use Rattle.std.specs.Prelude.{◌≡◌, ℕ, ◌↔◌, ◌||◌, not, ◌==◌, Bool, false, true, List, length, map, IfOk};
+ghost use Rattle.std.specs.Prelude.{IsTrue, MatchOption};
+ghost use Rattle.std.specs.List.{list_all, list_any};
 ghost use Rattle.hs_base.specs.Lists.{IsMember, IsRising};
 ghost use Rattle.hs_base.specs.Patterns.{IsPair, is_single};
 ghost use Rattle.hs_base.specs.Reports.{IsLeast, IsReport};
 ghost use Rattle.hs_base.specs.Told.{IsBefore, IsTold, IsLast};
-ghost use Rattle.hs_plain.specs.PlainPatterns.{pattern_of, patterns_of, pair_of, pairs_of, ArePairs, AreReports, KeepsPairs};
+ghost use Rattle.hs_plain.specs.PlainPatterns.{pattern_of, patterns_of, pair_of, pairs_of, HasPair};
+ghost use Rattle.hs_plain.specs.PlainPatterns.{ArePairs, AreReports, KeepsPairs};
 
 use crate::pair_list::{is_same, pairs};
 use crate::pattern::Pattern;
@@ -75,7 +77,10 @@ fn reported(
     before: &[Report],
     all: &[Report],
 ) -> Result<Vec<Report>, AllocError>
-    ensures { IfOk result (λ found. (w : List ℕ) (ended : Bool) → ArePairs (patterns_of patterns.now) w false (pairs_of before.now) → ArePairs (patterns_of patterns.now) w ended (pairs_of all.now) → AreReports (patterns_of patterns.now) w ended (pairs_of found.items)) }
+    ensures { IfOk result (λ found. (w : List ℕ) (ended : Bool) →
+        ArePairs (patterns_of patterns.now) w false (pairs_of before.now) →
+        ArePairs (patterns_of patterns.now) w ended (pairs_of all.now) →
+        AreReports (patterns_of patterns.now) w ended (pairs_of found.items)) }
 {
     let mut found = Vec::new(alloc);
     for i in 0..all.len() {
@@ -88,7 +93,11 @@ fn reported(
 
 /// Whether one of all pairs is a report.
 fn is_reported(patterns: &[Pattern], before: &[Report], all: &[Report], report: Report) -> bool
-    ensures { (w : List ℕ) (ended : Bool) → ArePairs (patterns_of patterns.now) w false (pairs_of before.now) → ArePairs (patterns_of patterns.now) w ended (pairs_of all.now) → IsMember (pair_of report) (pairs_of all.now) → (IsTrue result ↔ IsReport (patterns_of patterns.now) w ended report.id.0 report.to) }
+    ensures { (w : List ℕ) (ended : Bool) →
+        ArePairs (patterns_of patterns.now) w false (pairs_of before.now) →
+        ArePairs (patterns_of patterns.now) w ended (pairs_of all.now) →
+        IsMember (pair_of report) (pairs_of all.now) →
+        (IsTrue result ↔ IsReport (patterns_of patterns.now) w ended report.id.0 report.to) }
 {
     if !is_single(patterns, report.id) {
         return true;
@@ -99,21 +108,31 @@ fn is_reported(patterns: &[Pattern], before: &[Report], all: &[Report], report: 
     }
 }
 
+/// Whether the identifier is reported at most once.
 fn is_single(patterns: &[Pattern], id: ExprId) -> bool
     ensures { result ≡ is_single (patterns_of patterns.now) id.0 }
 {
-    has_single(patterns, id)
+    is_named(patterns, id) && asks_single(patterns, id)
 }
 
-fn has_single(patterns: &[Pattern], id: ExprId) -> bool
-    ensures { result ≡ list_any (λ x. (x.id.0 == id.0) && x.single) patterns.now }
+/// Whether a pattern has the identifier.
+fn is_named(patterns: &[Pattern], id: ExprId) -> bool
+    ensures { result ≡ list_any (λ x. x.id.0 == id.0) patterns.now }
 {
-    patterns.iter().any(|x| x.id.0 == id.0 && x.single)
+    patterns.iter().any(|x| x.id.0 == id.0)
+}
+
+/// Whether each pattern that has the identifier asks for a single report.
+fn asks_single(patterns: &[Pattern], id: ExprId) -> bool
+    ensures { result ≡ list_all (λ x. not (x.id.0 == id.0) || x.single) patterns.now }
+{
+    patterns.iter().all(|x| x.id.0 != id.0 || x.single)
 }
 
 /// Whether the report is the first of its identifier.
 fn is_first(found: &[Report], report: Report) -> bool
-    ensures { IsRising IsBefore (pairs_of found.now) → (IsTrue result ↔ IsLeast (λ to. IsMember (record { id = report.id.0; to = to }) (pairs_of found.now)) report.to) }
+    ensures { IsRising IsBefore (pairs_of found.now) →
+        (IsTrue result ↔ IsLeast (HasPair (pairs_of found.now) report.id.0) report.to) }
 {
     match first_end(found, report.id) {
         Some(to) => to == report.to,
@@ -123,7 +142,9 @@ fn is_first(found: &[Report], report: Report) -> bool
 
 /// The end of the first report of an identifier.
 fn first_end(found: &[Report], id: ExprId) -> Option<u64>
-    ensures { IsRising IsBefore (pairs_of found.now) → MatchOption result ((to : ℕ) → IsMember (record { id = id.0; to = to }) (pairs_of found.now) → ⊥) (λ to. IsLeast (λ m. IsMember (record { id = id.0; to = m }) (pairs_of found.now)) to) }
+    ensures { IsRising IsBefore (pairs_of found.now) → MatchOption result
+        ((to : ℕ) → HasPair (pairs_of found.now) id.0 to → ⊥)
+        (IsLeast (HasPair (pairs_of found.now) id.0)) }
 {
     for i in 0..found.len() {
         if found[i].id.0 == id.0 {
@@ -135,7 +156,8 @@ fn first_end(found: &[Report], id: ExprId) -> Option<u64>
 
 /// The later reports that aren't among the earlier ones, in their order.
 fn new_of(alloc: Global, before: &[Report], after: &[Report]) -> Result<Vec<Report>, AllocError>
-    ensures { IfOk result (λ new. KeepsPairs (λ p. IsMember p (pairs_of before.now) → ⊥) (pairs_of after.now) (pairs_of new.items)) }
+    ensures { IfOk result (λ new.
+        KeepsPairs (λ p. IsMember p (pairs_of before.now) → ⊥) (pairs_of after.now) (pairs_of new.items)) }
 {
     let mut new = Vec::new(alloc);
     for i in 0..after.len() {

@@ -1,5 +1,5 @@
-//! The definitions judged by rows from outside: what PCRE's pattern syntax documents, and what the Hyperscan guide says
-//! of ends, bounds and single matches. Trees are written bottom up: a step takes its parts from those before it.
+//! The definitions judged by rows from outside: what PCRE's pattern syntax and the Hyperscan guide say
+//! of ends, bounds and single matches.
 
 use super::{Pattern, match_reports};
 use hs_base::{Assertion, ByteSet, ExprId, Report};
@@ -8,610 +8,254 @@ use std::alloc::{AllocError, Global};
 use std::process::Abort;
 use std::test::Fail;
 
-/// A step of a tree that is written bottom up.
-#[derive(Clone, Copy)]
-enum Step {
-    /// The empty text.
-    Nothing,
-    /// The bytes, one after the other.
-    Text(&'static [u8]),
-    /// `.`: one byte but the line feed.
-    Dot,
-    /// `.` over code points: one but the line feed.
-    Point,
-    /// An assertion.
-    At(Assertion),
-    /// So many parts, one after the other.
-    Row(usize),
-    /// One of so many parts.
-    Either(usize),
-    /// Copies of the part: at least, and at most.
-    Times(u32, Option<u32>),
+/// Why, the patterns, the stream, the pairs that its bytes decide, and those that only its end decides; a semicolon
+/// stands between these. An exclamation mark is a line feed. A pattern is a tree, with its identifier and a slash
+/// before it where that isn't 1, or something is asked of its matches: `s` that it is reported once, `b` that it ends
+/// at 10 to 15. A pair is its end, with the identifier and a colon before it where that isn't 1.
+///
+/// In a tree `(..)` is a concatenation and `[..]` an alternation. Behind an item stand `*`, `+`, `?`, `=` for two or
+/// three copies, `~` for two and more, `#` for 32,767, `'` for so many and more, or a digit for as many. `_` is the
+/// empty text, `.` every byte but the line feed, `@` every code point but that, `<` is `\A`, `>` is `\z`, `$` is `\Z`,
+/// `^` and `&` begin and end a line, `%` is `\b`, `-` is `\B`, and any other byte is itself.
+const ROWS: &[u8] = b"\
+each end of foo.*bar;(foo.*bar);fooxyzbarbar;9 12;\n\
+a* on nothing matches at its end;a*;;;0\n\
+a* matches the empty text at each place;a*;b;0 1;\n\
+ab+? lazy or not, every end counts;(ab+);abb;2 3;\n\
+each alternative that matches;[a(ab)];ab;1 2;\n\
+an alternation of nothing never matches;[];a;;\n\
+(a|b){2}: copies may differ;[ab]2;aba;2 3;\n\
+a{2,3}: at least two, at most three;(<a=);aaaa;2 3;\n\
+a{2,}: two and more;(<a~);aaaa;2 3 4;\n\
+a{0}: as if it weren't there;(<a0b);bab;1;\n\
+(a?){3}: copies may be empty;(<a?3);aaaa;0 1 2 3;\n\
+(a|)*b: a loop whose body takes nothing ends;([a_]*b);aab;3;\n\
+a great bound over a body that takes nothing;(<*#'a);aa;1 2;\n\
+a dot is no line feed;(a.b);a!b;;\n\
+a dot is any other byte;(a.b);a\rba\xFFb;3 6;\n\
+a match may begin within another;(aa);aaa;2 3;\n\
+$ stands before a final line feed;(a$);a!;;1\n\
+$ doesn't stand before the last but one;(a$);a!!;;\n\
+\\z stands at the very end alone;(a>);a!;;\n\
+\\z at the end;(a>);ba;;2\n\
+\\bfoo\\b at the end is decided by the end;(%foo%);foo;;3\n\
+no boundary within a word;(%foo%);food;;\n\
+a boundary before a hyphen;(%foo%);foo-;3;\n\
+an underscore is a word byte;(a%);a_;;\n\
+\\B between word bytes;(-b);ab;2;\n\
+no \\B at the start of a word;(-b);b;;\n\
+^ with m behind a line feed;(^b);a!b;3;\n\
+^ with m not behind a final line feed;(!^);a!;;\n\
+^ without m at the start alone;(<b);a!b;;\n\
+$ with m before a line feed and at the end;(a&);a!ba;1;4\n\
+^$ with m on an empty line;(^&);!;0;\n\
+\\A.\\z takes one byte;(<.>);ab;;\n\
+an assertion takes no byte;(<<a);a;1;\n\
+two bytes are one code point;(<@$);\xC3\xA9;;2\n\
+FF begins none;(<@$);\xFF;;\n\
+four bytes;(<@);\xF0\x9F\x98\x80;4;\n\
+no surrogate;(<@);\xED\xA0\x80;;\n\
+no overlong form;(<@);\xC0\x80;;\n\
+no code point without its last byte;(<@);\xE2\x82;;\n\
+no end below the least;1b/(foo.*bar);foobar;;\n\
+an end at the least;1b/(foo.*bar);foo0123bar;10;\n\
+an end between;1b/(foo.*bar);foo0123456bar;13;\n\
+an end at the greatest;1b/(foo.*bar);foo012345678bar;15;\n\
+no end above the greatest;1b/(foo.*bar);foo0123456789bar;;\n\
+one identifier at one end, once;1/(ab),1/b;ab;2;\n\
+once: the first that the bytes decide;1s/[(a$)!];a!;2;\n\
+once: the first end;1s/a;aaa;1;\n\
+once: at the end, if not before;1s/(a>);aa;;2\n\
+each time, where one of the two patterns asks for that;1s/a,1/b;aab;1 2 3;\n\
+what is decided first is told first;5/(a%),9/a;a ;9:1 5:1;\n\
+at one end by identifier;2/a,1/a;a;1 2:1;\n\
+";
+
+/// The trees that are read and in no list yet, and how many of them stood before each list that is open.
+#[derive(Drop)]
+struct Reading {
+    trees: Vec<Expr>,
+    open: Vec<usize>,
 }
 
-/// The last so many parts.
-fn parts(alloc: Global, stack: &mut Vec<Expr>, count: usize) -> Result<Vec<Expr>, AllocError> {
-    let mut items = Vec::new(alloc);
-    for _ in 0..count {
-        if let Some(item) = stack.pop() {
-            items.insert(0, item)?;
+impl Reading {
+    /// The trees of the innermost list, which ends.
+    fn close(&mut self, alloc: Global) -> Result<Vec<Expr>, AllocError> {
+        let mut items = Vec::new(alloc);
+        let before = self.open.pop().unwrap_or(0);
+        for _ in before..self.trees.len() {
+            if let Some(item) = self.trees.pop() {
+                items.insert(0, item)?;
+            }
+        }
+        Ok(items)
+    }
+
+    /// Copies of the tree that is read last.
+    fn repeat(
+        &mut self,
+        alloc: Global,
+        least: u32,
+        greatest: Option<u32>,
+    ) -> Result<Expr, AllocError> {
+        let body = self.trees.pop().unwrap_or(Expr::Empty);
+        Ok(Expr::Repeat(Box::new(alloc, body)?, least, greatest))
+    }
+
+    /// The node that a byte ends.
+    fn node(&mut self, alloc: Global, byte: u8) -> Result<Expr, AllocError> {
+        match byte {
+            b')' => Ok(Expr::Cat(self.close(alloc)?)),
+            b']' => Ok(Expr::Alt(self.close(alloc)?)),
+            b'*' => self.repeat(alloc, 0, None),
+            b'+' => self.repeat(alloc, 1, None),
+            b'?' => self.repeat(alloc, 0, Some(1)),
+            b'=' => self.repeat(alloc, 2, Some(3)),
+            b'~' => self.repeat(alloc, 2, None),
+            b'#' => self.repeat(alloc, 32_767, Some(32_767)),
+            b'\'' => self.repeat(alloc, 32_767, None),
+            b'0'..=b'9' => {
+                let copies = u32::from(byte - b'0');
+                self.repeat(alloc, copies, Some(copies))
+            }
+            b'@' => Ok(Expr::Points(vec![in alloc; (0, 9), (11, 0x10FFFF)]?)),
+            _ => Ok(leaf(byte)),
         }
     }
-    Ok(items)
 }
 
-fn text(alloc: Global, bytes: &[u8]) -> Result<Expr, AllocError> {
-    let mut items = Vec::new(alloc);
-    for byte in bytes {
-        items.push(Expr::Class(ByteSet::of(*byte)))?;
+/// The tree of a byte that stands alone.
+fn leaf(byte: u8) -> Expr {
+    match byte {
+        b'_' => Expr::Empty,
+        b'.' => Expr::Class(ByteSet::NOT_NEWLINE),
+        b'<' => Expr::Assert(Assertion::StreamStart),
+        b'>' => Expr::Assert(Assertion::StreamEnd),
+        b'$' => Expr::Assert(Assertion::EndOrFinalNewline),
+        b'^' => Expr::Assert(Assertion::LineStart),
+        b'&' => Expr::Assert(Assertion::LineEnd),
+        b'%' => Expr::Assert(Assertion::WordBoundary),
+        b'-' => Expr::Assert(Assertion::NotWordBoundary),
+        _ => Expr::Class(ByteSet::of(byte_of(byte))),
     }
-    Ok(Expr::Cat(items))
 }
 
-fn node(alloc: Global, stack: &mut Vec<Expr>, step: Step) -> Result<Expr, AllocError> {
-    match step {
-        Step::Nothing => Ok(Expr::Empty),
-        Step::Text(bytes) => text(alloc, bytes),
-        Step::Dot => Ok(Expr::Class(ByteSet::NOT_NEWLINE)),
-        Step::Point => Ok(Expr::Points(vec![in alloc; (0, 9), (11, 0x10FFFF)]?)),
-        Step::At(assertion) => Ok(Expr::Assert(assertion)),
-        Step::Row(count) => Ok(Expr::Cat(parts(alloc, stack, count)?)),
-        Step::Either(count) => Ok(Expr::Alt(parts(alloc, stack, count)?)),
-        Step::Times(least, greatest) => {
-            let body = stack.pop().unwrap_or(Expr::Empty);
-            Ok(Expr::Repeat(Box::new(alloc, body)?, least, greatest))
+/// The byte that a mark of a row stands for.
+fn byte_of(mark: u8) -> u8 {
+    if mark == b'!' { b'\n' } else { mark }
+}
+
+fn tree(alloc: Global, text: &[u8]) -> Result<Expr, AllocError> {
+    let mut reading = Reading {
+        trees: Vec::new(alloc),
+        open: Vec::new(alloc),
+    };
+    for byte in text {
+        if matches!(*byte, b'(' | b'[') {
+            let before = reading.trees.len();
+            reading.open.push(before)?;
+        } else {
+            let made = reading.node(alloc, *byte)?;
+            reading.trees.push(made)?;
         }
     }
+    Ok(reading.trees.pop().unwrap_or(Expr::Empty))
 }
 
-fn tree(alloc: Global, steps: &[Step]) -> Result<Expr, AllocError> {
-    let mut stack = Vec::new(alloc);
-    for step in steps {
-        let made = node(alloc, &mut stack, *step)?;
-        stack.push(made)?;
+/// The bytes before the first mark, and those behind it.
+fn cut(bytes: &[u8], mark: u8) -> (&[u8], &[u8]) {
+    match bytes.iter().position(|byte| *byte == mark) {
+        Some(at) => (&bytes[..at], &bytes[at + 1..]),
+        None => (bytes, &[]),
     }
-    Ok(stack.pop().unwrap_or(Expr::Empty))
 }
 
-fn are_ends(found: &[Report], ends: &[u64]) -> bool {
-    if found.len() != ends.len() {
-        return false;
-    }
-    for i in 0..found.len() {
-        if found[i].to != ends[i] {
-            return false;
+fn pattern(alloc: Global, text: &[u8]) -> Result<Pattern, AllocError> {
+    let (head, behind) = cut(text, b'/');
+    let body = if behind.is_empty() { text } else { behind };
+    let named: &[u8] = if behind.is_empty() { b"1" } else { head };
+    let bounded = named.get(1) == Some(&b'b');
+    Ok(Pattern {
+        id: ExprId(u32::from(named.first().copied().unwrap_or(b'1')) % 16),
+        single: named.get(1) == Some(&b's'),
+        least: if bounded { 10 } else { 0 },
+        greatest: if bounded { 15 } else { u64::MAX },
+        expr: tree(alloc, body)?,
+    })
+}
+
+fn patterns(alloc: Global, list: &[u8]) -> Result<Vec<Pattern>, AllocError> {
+    let mut all = Vec::new(alloc);
+    let mut rest = list;
+    for _ in 0..list.len() {
+        if rest.is_empty() {
+            break;
         }
+        let (text, behind) = cut(rest, b',');
+        all.push(pattern(alloc, text)?)?;
+        rest = behind;
     }
-    true
+    Ok(all)
 }
 
-fn are_pairs(found: &[Report], pairs: &[(u32, u64)]) -> bool {
-    if found.len() != pairs.len() {
-        return false;
+/// Appends a number below a hundred.
+fn write_number(out: &mut Vec<u8>, number: u64) -> Result<(), AllocError> {
+    if number > 9 {
+        out.push(b'0' + (number / 10 % 10) as u8)?;
     }
-    for i in 0..found.len() {
-        let (id, to) = pairs[i];
-        if found[i].to != to || found[i].id.0 != id {
-            return false;
+    out.push(b'0' + (number % 10) as u8)?;
+    Ok(())
+}
+
+/// Appends reports, as they stand in a row.
+fn write_reports(out: &mut Vec<u8>, reports: &[Report]) -> Result<(), AllocError> {
+    for (i, report) in reports.iter().enumerate() {
+        if i > 0 {
+            out.push(b' ')?;
         }
-    }
-    true
-}
-
-const STAR: Step = Step::Times(0, None);
-
-const LINE_START: Step = Step::At(Assertion::LineStart);
-
-const LINE_END: Step = Step::At(Assertion::LineEnd);
-
-const START: Step = Step::At(Assertion::StreamStart);
-
-const DOLLAR: Step = Step::At(Assertion::EndOrFinalNewline);
-
-const END: Step = Step::At(Assertion::StreamEnd);
-
-const BOUNDARY: Step = Step::At(Assertion::WordBoundary);
-
-const INSIDE: Step = Step::At(Assertion::NotWordBoundary);
-
-/// Why, the tree, the stream, the ends that its bytes decide, the ends that only its end decides.
-type Case = (
-    &'static str,
-    &'static [Step],
-    &'static [u8],
-    &'static [u64],
-    &'static [u64],
-);
-
-fn check_rows(rt: &impl Abort, alloc: Global, rows: &[Case]) -> Result<(), Fail> {
-    for (why, steps, stream, told, last) in rows {
-        let pattern = Pattern {
-            id: ExprId(1),
-            single: false,
-            least: 0,
-            greatest: u64::MAX,
-            expr: tree(alloc, steps)?,
-        };
-        let patterns = vec![in alloc; pattern]?;
-        let found = match_reports(alloc, &patterns, stream)?;
-        assert!(rt; are_ends(&found.told, told), "{why}: told {:?}", found.told);
-        assert!(rt; are_ends(&found.last, last), "{why}: last {:?}", found.last);
+        if report.id.0 != 1 {
+            write_number(out, u64::from(report.id.0))?;
+            out.push(b':')?;
+        }
+        write_number(out, report.to)?;
     }
     Ok(())
 }
 
-#[test]
-fn reports_every_end(rt: HostRuntime) -> Result<(), Fail> {
-    use Step::{Dot, Either, Nothing, Row, Text, Times};
-    let rows: [Case; 16] = [
-        (
-            "each end of foo.*bar",
-            &[Text(b"foo"), Dot, STAR, Text(b"bar"), Row(3)],
-            b"fooxyzbarbar",
-            &[9, 12],
-            &[],
-        ),
-        (
-            "a* on nothing matches at its end",
-            &[Text(b"a"), STAR],
-            b"",
-            &[],
-            &[0],
-        ),
-        (
-            "a* matches the empty text at each place",
-            &[Text(b"a"), STAR],
-            b"b",
-            &[0, 1],
-            &[],
-        ),
-        (
-            "ab+? lazy or not, every end counts",
-            &[Text(b"a"), Text(b"b"), Times(1, None), Row(2)],
-            b"abb",
-            &[2, 3],
-            &[],
-        ),
-        (
-            "each alternative that matches",
-            &[Text(b"a"), Text(b"ab"), Either(2)],
-            b"ab",
-            &[1, 2],
-            &[],
-        ),
-        (
-            "an alternation of nothing never matches",
-            &[Either(0)],
-            b"a",
-            &[],
-            &[],
-        ),
-        (
-            "(a|b){2}: copies may differ",
-            &[Text(b"a"), Text(b"b"), Either(2), Times(2, Some(2))],
-            b"aba",
-            &[2, 3],
-            &[],
-        ),
-        (
-            "a{2,3}: at least two, at most three",
-            &[START, Text(b"a"), Times(2, Some(3)), Row(2)],
-            b"aaaa",
-            &[2, 3],
-            &[],
-        ),
-        (
-            "a{2,}: two and more",
-            &[START, Text(b"a"), Times(2, None), Row(2)],
-            b"aaaa",
-            &[2, 3, 4],
-            &[],
-        ),
-        (
-            "a{0}: as if it weren't there",
-            &[START, Text(b"a"), Times(0, Some(0)), Text(b"b"), Row(3)],
-            b"bab",
-            &[1],
-            &[],
-        ),
-        (
-            "(a?){3}: copies may be empty",
-            &[
-                START,
-                Text(b"a"),
-                Times(0, Some(1)),
-                Times(3, Some(3)),
-                Row(2),
-            ],
-            b"aaaa",
-            &[0, 1, 2, 3],
-            &[],
-        ),
-        (
-            "(a|)*b: a loop whose body takes nothing ends",
-            &[Text(b"a"), Nothing, Either(2), STAR, Text(b"b"), Row(2)],
-            b"aab",
-            &[3],
-            &[],
-        ),
-        (
-            "a great bound over a body that takes nothing",
-            &[
-                START,
-                STAR,
-                Times(32767, Some(32767)),
-                Times(32767, None),
-                Text(b"a"),
-                Row(2),
-            ],
-            b"aa",
-            &[1, 2],
-            &[],
-        ),
-        (
-            "a dot is no line feed",
-            &[Text(b"a"), Dot, Text(b"b"), Row(3)],
-            b"a\nb",
-            &[],
-            &[],
-        ),
-        (
-            "a dot is any other byte",
-            &[Text(b"a"), Dot, Text(b"b"), Row(3)],
-            b"a\rba\xFFb",
-            &[3, 6],
-            &[],
-        ),
-        (
-            "a match may begin within another",
-            &[Text(b"aa")],
-            b"aaa",
-            &[2, 3],
-            &[],
-        ),
-    ];
-    check_rows(&rt, rt.alloc(), &rows)
+/// What is reported of a stream, as it stands in a row.
+fn written(alloc: Global, list: &[u8], text: &[u8]) -> Result<Vec<u8>, AllocError> {
+    let patterns = patterns(alloc, list)?;
+    let stream: Vec<u8> = text.iter().map(|mark| byte_of(*mark)).collect(alloc)?;
+    let found = match_reports(alloc, &patterns, &stream)?;
+    let mut out = Vec::new(alloc);
+    write_reports(&mut out, &found.told)?;
+    out.push(b';')?;
+    write_reports(&mut out, &found.last)?;
+    Ok(out)
+}
+
+fn check(rt: &impl Abort, alloc: Global, row: &[u8]) -> Result<(), Fail> {
+    let (why, behind) = cut(row, b';');
+    let (list, behind) = cut(behind, b';');
+    let (stream, wanted) = cut(behind, b';');
+    let out = written(alloc, list, stream)?;
+    assert!(rt;
+        out.as_slice() == wanted,
+        "{why:?}: {out:?} in place of {wanted:?}"
+    );
+    Ok(())
 }
 
 #[test]
-fn asserts_where_documented(rt: HostRuntime) -> Result<(), Fail> {
-    use Step::{Dot, Row, Text};
-    let rows: [Case; 17] = [
-        (
-            "$ stands before a final line feed",
-            &[Text(b"a"), DOLLAR, Row(2)],
-            b"a\n",
-            &[],
-            &[1],
-        ),
-        (
-            "$ doesn't stand before the last but one",
-            &[Text(b"a"), DOLLAR, Row(2)],
-            b"a\n\n",
-            &[],
-            &[],
-        ),
-        (
-            "\\z stands at the very end alone",
-            &[Text(b"a"), END, Row(2)],
-            b"a\n",
-            &[],
-            &[],
-        ),
-        (
-            "\\z at the end",
-            &[Text(b"a"), END, Row(2)],
-            b"ba",
-            &[],
-            &[2],
-        ),
-        (
-            "\\bfoo\\b at the end is decided by the end",
-            &[BOUNDARY, Text(b"foo"), BOUNDARY, Row(3)],
-            b"foo",
-            &[],
-            &[3],
-        ),
-        (
-            "no boundary within a word",
-            &[BOUNDARY, Text(b"foo"), BOUNDARY, Row(3)],
-            b"food",
-            &[],
-            &[],
-        ),
-        (
-            "a boundary before a hyphen",
-            &[BOUNDARY, Text(b"foo"), BOUNDARY, Row(3)],
-            b"foo-",
-            &[3],
-            &[],
-        ),
-        (
-            "an underscore is a word byte",
-            &[Text(b"a"), BOUNDARY, Row(2)],
-            b"a_",
-            &[],
-            &[],
-        ),
-        (
-            "\\B between word bytes",
-            &[INSIDE, Text(b"b"), Row(2)],
-            b"ab",
-            &[2],
-            &[],
-        ),
-        (
-            "no \\B at the start of a word",
-            &[INSIDE, Text(b"b"), Row(2)],
-            b"b",
-            &[],
-            &[],
-        ),
-        (
-            "^ with m behind a line feed",
-            &[LINE_START, Text(b"b"), Row(2)],
-            b"a\nb",
-            &[3],
-            &[],
-        ),
-        (
-            "^ with m not behind a final line feed",
-            &[Text(b"\n"), LINE_START, Row(2)],
-            b"a\n",
-            &[],
-            &[],
-        ),
-        (
-            "^ without m at the start alone",
-            &[START, Text(b"b"), Row(2)],
-            b"a\nb",
-            &[],
-            &[],
-        ),
-        (
-            "$ with m before a line feed and at the end",
-            &[Text(b"a"), LINE_END, Row(2)],
-            b"a\nba",
-            &[1],
-            &[4],
-        ),
-        (
-            "^$ with m on an empty line",
-            &[LINE_START, LINE_END, Row(2)],
-            b"\n",
-            &[0],
-            &[],
-        ),
-        (
-            "\\A.\\z takes one byte",
-            &[START, Dot, END, Row(3)],
-            b"ab",
-            &[],
-            &[],
-        ),
-        (
-            "an assertion takes no byte",
-            &[START, START, Text(b"a"), Row(3)],
-            b"a",
-            &[1],
-            &[],
-        ),
-    ];
-    check_rows(&rt, rt.alloc(), &rows)
-}
-
-#[test]
-fn reads_code_points(rt: HostRuntime) -> Result<(), Fail> {
-    use Step::{Point, Row};
-    let rows: [Case; 6] = [
-        (
-            "two bytes are one code point",
-            &[START, Point, DOLLAR, Row(3)],
-            b"\xC3\xA9",
-            &[],
-            &[2],
-        ),
-        (
-            "FF begins none",
-            &[START, Point, DOLLAR, Row(3)],
-            b"\xFF",
-            &[],
-            &[],
-        ),
-        (
-            "four bytes",
-            &[START, Point, Row(2)],
-            b"\xF0\x9F\x98\x80",
-            &[4],
-            &[],
-        ),
-        (
-            "no surrogate",
-            &[START, Point, Row(2)],
-            b"\xED\xA0\x80",
-            &[],
-            &[],
-        ),
-        (
-            "no overlong form",
-            &[START, Point, Row(2)],
-            b"\xC0\x80",
-            &[],
-            &[],
-        ),
-        (
-            "no code point without its last byte",
-            &[START, Point, Row(2)],
-            b"\xE2\x82",
-            &[],
-            &[],
-        ),
-    ];
-    check_rows(&rt, rt.alloc(), &rows)
-}
-
-/// An identifier, whether it is reported once, the least and the greatest end, the tree.
-type Given<'a> = (u32, bool, u64, u64, &'a [Step]);
-
-/// Why, the patterns, the stream, the pairs that its bytes decide, the pairs that only its end decides.
-type ListCase<'a> = (
-    &'a str,
-    &'a [Given<'a>],
-    &'a [u8],
-    &'a [(u32, u64)],
-    &'a [(u32, u64)],
-);
-
-#[test]
-fn reports_lists(rt: HostRuntime) -> Result<(), Fail> {
-    use Step::{Dot, Either, Row, Text};
-    let rows: [ListCase; 11] = [
-        (
-            "no end below the least",
-            &[(
-                1,
-                false,
-                10,
-                15,
-                &[Text(b"foo"), Dot, STAR, Text(b"bar"), Row(3)],
-            )],
-            b"foobar",
-            &[],
-            &[],
-        ),
-        (
-            "an end at the least",
-            &[(
-                1,
-                false,
-                10,
-                15,
-                &[Text(b"foo"), Dot, STAR, Text(b"bar"), Row(3)],
-            )],
-            b"foo0123bar",
-            &[(1, 10)],
-            &[],
-        ),
-        (
-            "an end between",
-            &[(
-                1,
-                false,
-                10,
-                15,
-                &[Text(b"foo"), Dot, STAR, Text(b"bar"), Row(3)],
-            )],
-            b"foo0123456bar",
-            &[(1, 13)],
-            &[],
-        ),
-        (
-            "an end at the greatest",
-            &[(
-                1,
-                false,
-                10,
-                15,
-                &[Text(b"foo"), Dot, STAR, Text(b"bar"), Row(3)],
-            )],
-            b"foo012345678bar",
-            &[(1, 15)],
-            &[],
-        ),
-        (
-            "no end above the greatest",
-            &[(
-                1,
-                false,
-                10,
-                15,
-                &[Text(b"foo"), Dot, STAR, Text(b"bar"), Row(3)],
-            )],
-            b"foo0123456789bar",
-            &[],
-            &[],
-        ),
-        (
-            "one identifier at one end, once",
-            &[
-                (1, false, 0, u64::MAX, &[Text(b"ab")]),
-                (1, false, 0, u64::MAX, &[Text(b"b")]),
-            ],
-            b"ab",
-            &[(1, 2)],
-            &[],
-        ),
-        (
-            "once: the first that the bytes decide",
-            &[(
-                1,
-                true,
-                0,
-                u64::MAX,
-                &[Text(b"a"), DOLLAR, Row(2), Text(b"\n"), Either(2)],
-            )],
-            b"a\n",
-            &[(1, 2)],
-            &[],
-        ),
-        (
-            "once: the first end",
-            &[(1, true, 0, u64::MAX, &[Text(b"a")])],
-            b"aaa",
-            &[(1, 1)],
-            &[],
-        ),
-        (
-            "once: at the end, if not before",
-            &[(1, true, 0, u64::MAX, &[Text(b"a"), END, Row(2)])],
-            b"aa",
-            &[],
-            &[(1, 2)],
-        ),
-        (
-            "what is decided first is told first",
-            &[
-                (5, false, 0, u64::MAX, &[Text(b"a"), BOUNDARY, Row(2)]),
-                (9, false, 0, u64::MAX, &[Text(b"a")]),
-            ],
-            b"a ",
-            &[(9, 1), (5, 1)],
-            &[],
-        ),
-        (
-            "at one end by identifier",
-            &[
-                (2, false, 0, u64::MAX, &[Text(b"a")]),
-                (1, false, 0, u64::MAX, &[Text(b"a")]),
-            ],
-            b"a",
-            &[(1, 1), (2, 1)],
-            &[],
-        ),
-    ];
-    for (why, given, stream, told, last) in &rows {
-        let alloc = rt.alloc();
-        let mut patterns = Vec::new(alloc);
-        for (id, single, least, greatest, steps) in *given {
-            patterns.push(Pattern {
-                id: ExprId(*id),
-                single: *single,
-                least: *least,
-                greatest: *greatest,
-                expr: tree(alloc, steps)?,
-            })?;
+fn reports_every_pair(rt: HostRuntime) -> Result<(), Fail> {
+    let mut rest = ROWS;
+    for _ in 0..ROWS.len() {
+        if rest.is_empty() {
+            break;
         }
-        let found = match_reports(alloc, &patterns, stream)?;
-        assert!(rt;
-            are_pairs(&found.told, told),
-            "{why}: told {:?}",
-            found.told
-        );
-        assert!(rt;
-            are_pairs(&found.last, last),
-            "{why}: last {:?}",
-            found.last
-        );
+        let (row, behind) = cut(rest, b'\n');
+        check(&rt, rt.alloc(), row)?;
+        rest = behind;
     }
     Ok(())
 }

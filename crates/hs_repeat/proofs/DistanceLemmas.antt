@@ -3,7 +3,7 @@ use Rattle.std.proofs.Common.{◌≡◌, ℕ, ◌+◌, ◌-◌, ◌<◌, Bool, t
 use Rattle.std.specs.Prelude.{◌⊎◌}
 use Rattle.hs_base.specs.declared.byte_set.ByteSet.{ByteSet}
 use Rattle.hs_base.specs.ByteSets.{has, members}
-use Rattle.hs_repeat.specs.Entries.{IsAway}
+use Rattle.hs_base.specs.RepeatRows.{IsAway}
 use Rattle.hs_repeat.proofs.EntryLemmas.{unbroken-kept, unbroken-new, unbroken-only, unbroken-none}
 
 -- The distances Later are those behind a byte of the set: each of Away is one more, and 1 is new if the repeat is entered.

@@ -14,7 +14,7 @@ use Rattle.hs_base.specs.Spans.{Copies, IsByteOf}
 use Rattle.hs_base.specs.Trees.{class, repeat}
 use Rattle.hs_base.proofs.ByteSetLemmas.{members-at}
 use Rattle.hs_base.proofs.StreamContexts.{byte_of-longer, byte_of-shorter, then-begins}
-use Rattle.hs_repeat.specs.Entries.{IsUnbroken, IsAway}
+use Rattle.hs_base.specs.RepeatRows.{IsUnbroken, IsAway}
 
 -- the last of a list, and what stands before it
 

@@ -5,11 +5,13 @@ use Rattle.hs_base.specs.declared.byte_set.ByteSet.{ByteSet}
 use Rattle.hs_base.specs.declared.context.Next.{Next}
 use Rattle.hs_base.specs.ByteSets.{has, members}
 use Rattle.hs_base.specs.Fields.{Leaves}
-use Rattle.hs_base.specs.Trees.{Tree, class, repeat}
-use Rattle.hs_repeat.specs.Entries.{IsAway}
-use Rattle.hs_engine.specs.Engines.{IsQuiet, IsAsleep}
-use Rattle.hs_repeat.specs.RepeatRows.{IsFirstDistance, IsFirstRow, distance_of}
-use Rattle.hs_repeat.specs.RepeatRows.IsFirstDistance.{none, some}
+use Rattle.hs_base.specs.Trees.{class, repeat}
+use Rattle.hs_base.specs.RepeatRows.{IsAway}
+use Rattle.hs_engine.specs.Engines.{IsAsleep, IsQuiet, IsStart, LeavesNothing}
+use Rattle.hs_repeat.specs.RepeatMeanings.{first_meaning}
+use Rattle.hs_base.proofs.RepeatRowLemmas.{first-within}
+use Rattle.hs_base.specs.RepeatRows.{IsFirstDistance, IsFirstRow, distance_of}
+use Rattle.hs_base.specs.RepeatRows.IsFirstDistance.{none, some}
 use Rattle.hs_repeat.proofs.EntryLemmas.{away-leaves, leaves-away}
 use Rattle.hs_repeat.proofs.DistanceLemmas.{Moves, away-moves, away-none}
 
@@ -76,32 +78,37 @@ module _ (set : ByteSet) (n : ℕ) (some_bytes : 0 < n) (u : List ℕ) (entered 
 
 -- a row at rest
 
-module _ (set : ByteSet) (n : ℕ) (some_bytes : 0 < n) (bytes : List ℕ) (zero_row : distance_of bytes ≡ 0) where
-  first-empty : (tree : Tree) (u : List ℕ) (entered : List Bool) → tree ≡ repeat (class (members set)) n None → IsFirstRow n (members set) bytes u entered → (next : Next) → Leaves tree u entered next → ⊥
-  first-empty tree u entered is first next leaves =
+module _ (set : ByteSet) (n : ℕ) (some_bytes : 0 < n) (bytes : List ℕ) where
+  first-empty : distance_of bytes ≡ 0 → LeavesNothing (first_meaning set n) bytes
+  first-empty zero_row tree u entered is len first next leaves =
       let full : distance_of bytes ≡ n = leaves-first set n some_bytes u entered (distance_of bytes) first next (subst (λ t. Leaves t u entered next) is leaves) in
       omega arith
 
-  first-outside : (u : List ℕ) (entered : List Bool) (len : length entered ≡ length u) (b : ℕ) (byte : b < 256) (entering : Bool) → has set b ≡ false →
+  first-outside : distance_of bytes ≡ 0 → (u : List ℕ) (entered : List Bool) (len : length entered ≡ length u) (b : ℕ) (byte : b < 256) (entering : Bool) → has set b ≡ false →
       IsFirstRow n (members set) bytes (u ++ b ∷ []) (entered ++ entering ∷ [])
-  first-outside u entered len b byte entering isnt = none zero_row (away-none set u entered len b byte entering isnt)
+  first-outside zero_row u entered len b byte entering isnt = none zero_row (away-none set u entered len b byte entering isnt)
 
-  first-stays : (u : List ℕ) (entered : List Bool) (len : length entered ≡ length u) (b : ℕ) (byte : b < 256) → IsFirstRow n (members set) bytes u entered → (inside : Bool) → has set b ≡ inside →
+  first-stays : distance_of bytes ≡ 0 → (u : List ℕ) (entered : List Bool) (len : length entered ≡ length u) (b : ℕ) (byte : b < 256) → IsFirstRow n (members set) bytes u entered → (inside : Bool) → has set b ≡ inside →
       IsFirstRow n (members set) bytes (u ++ b ∷ []) (entered ++ false ∷ [])
-  first-stays u entered len b byte first false isnt = first-outside u entered len b byte false isnt
-  first-stays u entered len b byte first true is =
+  first-stays zero_row u entered len b byte first false isnt = first-outside zero_row u entered len b byte false isnt
+  first-stays zero_row u entered len b byte first true is =
       subst (IsFirstDistance n (IsAway (members set) (u ++ b ∷ []) (entered ++ false ∷ []))) (sym zero_row)
       (first-rests n (IsAway (members set) u entered) (IsAway (members set) (u ++ b ∷ []) (entered ++ false ∷ [])) false (distance_of bytes) some_bytes (away-moves set u entered len b byte false is) first zero_row refl)
 
-  pub first-quiet : IsQuiet (λ tree. tree ≡ repeat (class (members set)) n None) (λ tree u entered. IsFirstRow n (members set) bytes u entered)
-  first-quiet = record {
-    stays = λ tree u entered is len first b byte. first-stays u entered len b byte first (has set b) refl;
-    leaves_nothing = λ tree u entered is len first. first-empty tree u entered is first;
+  pub first-quiet : distance_of bytes ≡ 0 → IsQuiet (first_meaning set n) bytes
+  first-quiet zero_row = record {
+    stays = λ never b byte tree u entered is len first. first-stays zero_row u entered len b byte first (has set b) refl;
+    leaves_nothing = first-empty zero_row;
   }
 
-  pub first-asleep : (b : ℕ) → b < 256 → has set b ≡ false → IsAsleep (λ tree. tree ≡ repeat (class (members set)) n None) (λ tree u entered. IsFirstRow n (members set) bytes u entered) false b
-  first-asleep b byte isnt = record {
-    stays = λ tree u entered enters is len first always. first-outside u entered len b byte enters isnt;
-    leaves_nothing = λ tree u entered is len first. first-empty tree u entered is first;
-    leaves_nothing_behind = λ tree u entered enters is len first always. first-empty tree (u ++ b ∷ []) (entered ++ enters ∷ []) is (first-outside u entered len b byte enters isnt);
+  start-zero : IsStart (first_meaning set n) bytes → distance_of bytes ≡ 0
+  start-zero start =
+      let early = first-within n (members set) [] [] (distance_of bytes) (start (repeat (class (members set)) n None) refl) in
+      let least : distance_of bytes ≤ 0 = early.within in
+      omega arith
+
+  pub first-asleep : (b : ℕ) → IsStart (first_meaning set n) bytes → b < 256 → has set b ≡ false → IsAsleep (first_meaning set n) bytes b
+  first-asleep b start byte isnt = record {
+    stays = λ enters tree u entered is len first. first-outside (start-zero start) u entered len b byte enters isnt;
+    leaves_nothing = first-empty (start-zero start);
   }

@@ -1,15 +1,18 @@
 -- The nearest distance, as it moves over a byte.
 use Rattle.std.proofs.Common.{◌≡◌, ℕ, ◌+◌, ◌<◌, ◌≤◌, Bool, true, false, refl, sym, subst, ◌∙◌, inl, inr, arith, List, [], ◌∷◌, ◌++◌, length}
-use Rattle.std.specs.Prelude.{Some, ◌⊎◌}
+use Rattle.std.specs.Prelude.{Some}
 use Rattle.hs_base.specs.declared.byte_set.ByteSet.{ByteSet}
 use Rattle.hs_base.specs.declared.context.Next.{Next}
 use Rattle.hs_base.specs.ByteSets.{has, members}
 use Rattle.hs_base.specs.Fields.{Leaves}
 use Rattle.hs_base.specs.Trees.{Tree, class, repeat}
-use Rattle.hs_repeat.specs.Entries.{IsAway}
-use Rattle.hs_repeat.specs.RepeatRows.{IsLastDistance, IsLastRow, distance_of}
-use Rattle.hs_repeat.specs.RepeatRows.IsLastDistance.{none, some}
-use Rattle.hs_engine.specs.Engines.{IsQuiet, IsAsleep}
+use Rattle.hs_base.specs.RepeatRows.{IsAway}
+use Rattle.hs_base.specs.RepeatRows.{IsLastDistance, IsLastRow, distance_of}
+use Rattle.hs_base.specs.RepeatRows.IsLastDistance.{none, some}
+use Rattle.hs_engine.specs.Engines.{IsAsleep, IsQuiet, IsStart}
+use Rattle.hs_repeat.specs.Repeats.{IsLastOf}
+use Rattle.hs_repeat.specs.RepeatMeanings.{last_meaning}
+use Rattle.hs_base.proofs.RepeatRowLemmas.{last-within}
 use Rattle.hs_repeat.proofs.EntryLemmas.{away-leaves, leaves-away}
 use Rattle.hs_repeat.proofs.DistanceLemmas.{Moves, away-moves, away-none, away-positive}
 
@@ -80,39 +83,40 @@ module _ (set : ByteSet) (n m : ℕ) (low : n ≤ 1) (u : List ℕ) (entered : L
 
 -- a row at rest
 
--- at least none, or one
-abbrev pub IsLastOf : ByteSet → ℕ → Tree → Type 0
-IsLastOf set m tree = (tree ≡ repeat (class (members set)) 0 (Some m)) ⊎ (tree ≡ repeat (class (members set)) 1 (Some m))
-
-module _ (set : ByteSet) (m : ℕ) (bytes : List ℕ) (zero_row : distance_of bytes ≡ 0) where
-  pub last-empty : (tree : Tree) (u : List ℕ) (entered : List Bool) → IsLastOf set m tree → IsLastRow m (members set) bytes u entered → (next : Next) → Leaves tree u entered next → ⊥
-  last-empty tree u entered (inl is) last next leaves =
+module _ (set : ByteSet) (m : ℕ) (bytes : List ℕ) where
+  pub last-empty : distance_of bytes ≡ 0 → (tree : Tree) (u : List ℕ) (entered : List Bool) → IsLastOf set m tree → IsLastRow m (members set) bytes u entered → (next : Next) → Leaves tree u entered next → ⊥
+  last-empty zero_row tree u entered (inl is) last next leaves =
       leaves-last set 0 m (omega arith) u entered (distance_of bytes) last next (subst (λ t. Leaves t u entered next) is leaves) zero_row
-  last-empty tree u entered (inr is) last next leaves =
+  last-empty zero_row tree u entered (inr is) last next leaves =
       leaves-last set 1 m (omega arith) u entered (distance_of bytes) last next (subst (λ t. Leaves t u entered next) is leaves) zero_row
 
-  last-outside : (u : List ℕ) (entered : List Bool) (len : length entered ≡ length u) (b : ℕ) (byte : b < 256) (entering : Bool) → has set b ≡ false →
+  last-outside : distance_of bytes ≡ 0 → (u : List ℕ) (entered : List Bool) (len : length entered ≡ length u) (b : ℕ) (byte : b < 256) (entering : Bool) → has set b ≡ false →
       IsLastRow m (members set) bytes (u ++ b ∷ []) (entered ++ entering ∷ [])
-  last-outside u entered len b byte entering isnt = none zero_row (λ d away within. away-none set u entered len b byte entering isnt d away)
+  last-outside zero_row u entered len b byte entering isnt = none zero_row (λ d away within. away-none set u entered len b byte entering isnt d away)
 
-  last-stays : (u : List ℕ) (entered : List Bool) (len : length entered ≡ length u) (b : ℕ) (byte : b < 256) → IsLastRow m (members set) bytes u entered → (inside : Bool) → has set b ≡ inside →
+  last-stays : distance_of bytes ≡ 0 → (u : List ℕ) (entered : List Bool) (len : length entered ≡ length u) (b : ℕ) (byte : b < 256) → IsLastRow m (members set) bytes u entered → (inside : Bool) → has set b ≡ inside →
       IsLastRow m (members set) bytes (u ++ b ∷ []) (entered ++ false ∷ [])
-  last-stays u entered len b byte last false isnt = last-outside u entered len b byte false isnt
-  last-stays u entered len b byte last true is =
+  last-stays zero_row u entered len b byte last false isnt = last-outside zero_row u entered len b byte false isnt
+  last-stays zero_row u entered len b byte last true is =
       subst (IsLastDistance m (IsAway (members set) (u ++ b ∷ []) (entered ++ false ∷ []))) (sym zero_row)
       (last-rests m (IsAway (members set) u entered) (IsAway (members set) (u ++ b ∷ []) (entered ++ false ∷ [])) false (distance_of bytes) (away-moves set u entered len b byte false is) last zero_row refl)
 
-  pub last-quiet : IsQuiet (IsLastOf set m) (λ tree u entered. IsLastRow m (members set) bytes u entered)
-  last-quiet = record {
-    stays = λ tree u entered is len last b byte. last-stays u entered len b byte last (has set b) refl;
-    leaves_nothing = λ tree u entered is len last. last-empty tree u entered is last;
+  pub last-quiet : distance_of bytes ≡ 0 → IsQuiet (last_meaning set m) bytes
+  last-quiet zero_row = record {
+    stays = λ never b byte tree u entered is len last. last-stays zero_row u entered len b byte last (has set b) refl;
+    leaves_nothing = λ tree u entered is len last. last-empty zero_row tree u entered is last;
   }
 
-  pub last-asleep : (b : ℕ) → b < 256 → has set b ≡ false → IsAsleep (IsLastOf set m) (λ tree u entered. IsLastRow m (members set) bytes u entered) false b
-  last-asleep b byte isnt = record {
-    stays = λ tree u entered enters is len last always. last-outside u entered len b byte enters isnt;
-    leaves_nothing = λ tree u entered is len last. last-empty tree u entered is last;
-    leaves_nothing_behind = λ tree u entered enters is len last always. last-empty tree (u ++ b ∷ []) (entered ++ enters ∷ []) is (last-outside u entered len b byte enters isnt);
+  start-zero : IsStart (last_meaning set m) bytes → distance_of bytes ≡ 0
+  start-zero start =
+      let early = last-within m (members set) [] [] (distance_of bytes) (start (repeat (class (members set)) 0 (Some m)) (inl refl)) in
+      let least : distance_of bytes ≤ 0 = early.within in
+      omega arith
+
+  pub last-asleep : (b : ℕ) → IsStart (last_meaning set m) bytes → b < 256 → has set b ≡ false → IsAsleep (last_meaning set m) bytes b
+  last-asleep b start byte isnt = record {
+    stays = λ enters tree u entered is len last. last-outside (start-zero start) u entered len b byte enters isnt;
+    leaves_nothing = λ tree u entered is len last. last-empty (start-zero start) tree u entered is last;
   }
 
 -- a row that isn't at rest

@@ -1,7 +1,6 @@
-pub mod BitRangeLemmas
 pub mod EntryLemmas
 pub mod DistanceLemmas
+pub mod PlaceLemmas
 pub mod FirstLemmas
 pub mod LastLemmas
-pub mod PlaceLemmas
 pub mod RingLemmas

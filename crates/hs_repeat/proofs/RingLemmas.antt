@@ -4,16 +4,18 @@ use Rattle.std.specs.Prelude.{min, Some, if◌then◌else◌}
 use Rattle.std.proofs.lemmas.Bool.{cases_eq, cases_lt, eq-eqb, ne_eqb}
 use Rattle.std.proofs.Math.Nat.{mod-le, mod-lt}
 use Rattle.hs_base.specs.declared.byte_set.ByteSet.{ByteSet}
-use Rattle.hs_base.specs.declared.context.Next.{Next}
 use Rattle.hs_base.specs.ByteSets.{has, members}
 use Rattle.hs_base.specs.Fields.{Leaves}
-use Rattle.hs_base.specs.Trees.{Tree, class, repeat}
-use Rattle.hs_engine.specs.Bits.{AreZero, has_bit}
-use Rattle.hs_engine.specs.Engines.{IsQuiet, IsAsleep}
-use Rattle.hs_repeat.specs.BitRanges.{HasBitIn, HasBitRound}
-use Rattle.hs_repeat.specs.Entries.{IsAway}
-use Rattle.hs_repeat.specs.RepeatRows.{IsHeld, IsRingAt, IsRingRow}
-use Rattle.hs_repeat.proofs.BitRangeLemmas.{bits-none, zero-bits}
+use Rattle.hs_base.specs.Trees.{class, repeat}
+use Rattle.hs_base.specs.Bits.{AreZero, has_bit}
+use Rattle.hs_engine.specs.Engines.{IsAsleep, IsQuiet, IsStart, LeavesNothing}
+use Rattle.hs_repeat.specs.RepeatMeanings.{ring_meaning}
+use Rattle.hs_base.proofs.RepeatRowLemmas.{ring-within}
+use Rattle.hs_bits.specs.BitRanges.{HasBitIn, HasBitRound}
+use Rattle.hs_base.specs.RepeatRows.{IsAway}
+use Rattle.hs_base.specs.RepeatRows.{IsHeld, IsRingAt, IsRingRow}
+use Rattle.hs_bits.proofs.BitRangeLemmas.{bits-none}
+use Rattle.hs_base.proofs.BitLemmas.{zero-bits}
 use Rattle.hs_repeat.proofs.EntryLemmas.{leaves-away, unbroken-kept, unbroken-new, unbroken-only, unbroken-none}
 use Rattle.hs_repeat.proofs.PlaceLemmas.{ahead-place, round-place, same-place}
 
@@ -90,10 +92,10 @@ module _ (set : ByteSet) (m : ℕ) (some : 0 < m) (u : List ℕ) (entered : List
 
 -- any byte, behind which no bit is set
 
-pub ring-out : (set : ByteSet) (m : ℕ) (u : List ℕ) (entered : List Bool) → length entered ≡ length u → (b : ℕ) → b < 256 → (entering : Bool) → has set b ≡ false → (new : List ℕ) → AreZero new →
+pub ring-out : (set : ByteSet) (m : ℕ) (u : List ℕ) (entered : List Bool) → length entered ≡ length u → (b : ℕ) → b < 256 → (entering : Bool) → has set b ≡ false → (new : List ℕ) → ((k : ℕ) → has_bit new k ≡ false) →
     IsRingRow m (members set) new (u ++ b ∷ []) (entered ++ entering ∷ [])
-ring-out set m u entered len b byte entering isnt new zeros k =
-    (λ set_bit. clash (has_bit new k) set_bit (zero-bits new zeros k), λ held. absurd (unbroken-none set u entered len b byte entering isnt held.from held.unbroken))
+ring-out set m u entered len b byte entering isnt new none k =
+    (λ set_bit. clash (has_bit new k) set_bit (none k), λ held. absurd (unbroken-none set u entered len b byte entering isnt held.from held.unbroken))
 
 pub ring-start : (set : List Bool) (m : ℕ) (new : List ℕ) → AreZero new → IsRingRow m set new [] []
 ring-start set m new zeros k =
@@ -162,40 +164,45 @@ module _ (set : List Bool) (m : ℕ) (some : 0 < m) (u : List ℕ) (entered : Li
         set = subst (λ p. has_bit bytes p ≡ true) (sym place) (away-bit d away (omega arith));
       }
 
-  pub zero-away : AreZero bytes → (d : ℕ) → IsAway set u entered d → d ≤ m → ⊥
-  zero-away zeros d away within = clash (has_bit bytes (away.from % m)) (away-bit d away within) (zero-bits bytes zeros (away.from % m))
+  pub none-away : ((k : ℕ) → has_bit bytes k ≡ false) → (d : ℕ) → IsAway set u entered d → d ≤ m → ⊥
+  none-away none d away within = clash (has_bit bytes (away.from % m)) (away-bit d away within) (none (away.from % m))
 
 pub zero-round : (bytes : List ℕ) (size first count : ℕ) → AreZero bytes → HasBitRound bytes size first count → ⊥
 zero-round bytes size first count zeros round = clash (has_bit bytes ((first + round.ahead) % size)) round.set (zero-bits bytes zeros ((first + round.ahead) % size))
 
 -- a row at rest
 
-module _ (set : ByteSet) (n m : ℕ) (some : 0 < m) (bytes : List ℕ) (zeros : AreZero bytes) where
-  ring-empty : (tree : Tree) (u : List ℕ) (entered : List Bool) → tree ≡ repeat (class (members set)) n (Some m) → IsRingRow m (members set) bytes u entered → (next : Next) → Leaves tree u entered next → ⊥
-  ring-empty tree u entered is row next leaves =
+module _ (set : ByteSet) (n m : ℕ) (some : 0 < m) (bytes : List ℕ) where
+  ring-empty : AreZero bytes → LeavesNothing (ring_meaning set n m) bytes
+  ring-empty zeros tree u entered is len row next leaves =
       let (d, away, low, high) = leaves-away (members set) n (Some m) u entered next (subst (λ t. Leaves t u entered next) is leaves) in
-      zero-away (members set) m some u entered bytes row zeros d away high
+      none-away (members set) m some u entered bytes row (zero-bits bytes zeros) d away high
 
-  ring-stays : (u : List ℕ) (entered : List Bool) (len : length entered ≡ length u) (b : ℕ) (byte : b < 256) → IsRingRow m (members set) bytes u entered → (inside : Bool) → has set b ≡ inside →
+  ring-stays : AreZero bytes → (u : List ℕ) (entered : List Bool) (len : length entered ≡ length u) (b : ℕ) (byte : b < 256) → IsRingRow m (members set) bytes u entered → (inside : Bool) → has set b ≡ inside →
       IsRingRow m (members set) bytes (u ++ b ∷ []) (entered ++ false ∷ [])
-  ring-stays u entered len b byte row false isnt = ring-out set m u entered len b byte false isnt bytes zeros
-  ring-stays u entered len b byte row true is =
+  ring-stays zeros u entered len b byte row false isnt = ring-out set m u entered len b byte false isnt bytes (zero-bits bytes zeros)
+  ring-stays zeros u entered len b byte row true is =
       ring-in set m some u entered len b byte false is bytes bytes row (λ k.
       elim (cases_eq k (length u % m)) [
         | inl same ↦ rw (eq-eqb k (length u % m) same) (zero-bits bytes zeros k)
         | inr apart ↦ rw (ne_eqb k (length u % m) apart) refl
       ])
 
-  pub ring-quiet : IsQuiet (λ tree. tree ≡ repeat (class (members set)) n (Some m)) (λ tree u entered. IsRingRow m (members set) bytes u entered)
-  ring-quiet = record {
-    stays = λ tree u entered is len row b byte. ring-stays u entered len b byte row (has set b) refl;
-    leaves_nothing = λ tree u entered is len row. ring-empty tree u entered is row;
+  pub ring-quiet : AreZero bytes → IsQuiet (ring_meaning set n m) bytes
+  ring-quiet zeros = record {
+    stays = λ never b byte tree u entered is len row. ring-stays zeros u entered len b byte row (has set b) refl;
+    leaves_nothing = ring-empty zeros;
   }
 
-  pub ring-asleep : (b : ℕ) → b < 256 → has set b ≡ false → IsAsleep (λ tree. tree ≡ repeat (class (members set)) n (Some m)) (λ tree u entered. IsRingRow m (members set) bytes u entered) false b
-  ring-asleep b byte isnt = record {
-    stays = λ tree u entered enters is len row always. ring-out set m u entered len b byte enters isnt bytes zeros;
-    leaves_nothing = λ tree u entered is len row. ring-empty tree u entered is row;
-    leaves_nothing_behind = λ tree u entered enters is len row always.
-        ring-empty tree (u ++ b ∷ []) (entered ++ enters ∷ []) is (ring-out set m u entered len b byte enters isnt bytes zeros);
+  start-none : IsStart (ring_meaning set n m) bytes → (k : ℕ) → has_bit bytes k ≡ false
+  start-none start k =
+      let early = ring-within m (members set) [] [] bytes (start (repeat (class (members set)) n (Some m)) refl) in
+      early.early k (omega arith)
+
+  pub ring-asleep : (b : ℕ) → IsStart (ring_meaning set n m) bytes → b < 256 → has set b ≡ false → IsAsleep (ring_meaning set n m) bytes b
+  ring-asleep b start byte isnt = record {
+    stays = λ enters tree u entered is len row. ring-out set m u entered len b byte enters isnt bytes (start-none start);
+    leaves_nothing = λ tree u entered is len row next leaves.
+        let (d, away, low, high) = leaves-away (members set) n (Some m) u entered next (subst (λ t. Leaves t u entered next) is leaves) in
+        none-away (members set) m some u entered bytes row (start-none start) d away high;
   }

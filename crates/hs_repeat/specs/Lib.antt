@@ -1,4 +1,3 @@
-pub mod BitRanges
-pub mod Entries
+pub mod Repeats
+pub mod RepeatMeanings
 pub mod RepeatEngines
-pub mod RepeatRows

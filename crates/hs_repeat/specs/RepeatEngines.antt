@@ -1,24 +1,15 @@
--- Which expressions the engines of repeats run.
-use Rattle.std.specs.Prelude.{◌≡◌, ◌⊎◌, ℕ, Option, Some, None}
-use Rattle.hs_base.specs.declared.byte_set.ByteSet.{ByteSet}
-use Rattle.hs_base.specs.ByteSets.{members}
-use Rattle.hs_base.specs.Trees.{Tree, class, repeat}
+-- What each engine of repeats means.
+use Rattle.hs_engine.specs.Engines.{Meaning}
 use Rattle.hs_repeat.specs.declared.first.First.{First}
 use Rattle.hs_repeat.specs.declared.last.Last.{Last}
 use Rattle.hs_repeat.specs.declared.ring.Ring.{Ring}
+use Rattle.hs_repeat.specs.RepeatMeanings.{first_meaning, last_meaning, ring_meaning}
 
--- bytes of a set, so many at least and, where there is a second number, at most
-abbrev pub repeat_of : ByteSet → ℕ → Option ℕ → Tree
-repeat_of set least greatest = repeat (class (members set)) least greatest
+abbrev pub meaning_of_first : First → Meaning
+meaning_of_first first = first_meaning first.set first.least
 
--- at least so many bytes of the set
-abbrev pub RunsFirst : First → Tree → Type 0
-RunsFirst first tree = tree ≡ repeat_of first.set first.least None
+abbrev pub meaning_of_last : Last → Meaning
+meaning_of_last last = last_meaning last.set last.greatest
 
--- at most so many bytes of the set, and none or one at least: left behind a byte, both are the same
-abbrev pub RunsLast : Last → Tree → Type 0
-RunsLast last tree = (tree ≡ repeat_of last.set 0 (Some last.greatest)) ⊎ (tree ≡ repeat_of last.set 1 (Some last.greatest))
-
--- bytes of the set, from the one bound to the other
-abbrev pub RunsRing : Ring → Tree → Type 0
-RunsRing ring tree = tree ≡ repeat_of ring.set ring.least (Some ring.greatest)
+abbrev pub meaning_of_ring : Ring → Meaning
+meaning_of_ring ring = ring_meaning ring.set ring.least ring.greatest

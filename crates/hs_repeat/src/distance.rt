@@ -1,7 +1,7 @@
 //! A distance in a row of two bytes, the low one first.
 
 ghost use Rattle.std.specs.Prelude.{◌≡◌, ◌<◌, ◌^◌, length};
-ghost use Rattle.hs_repeat.specs.RepeatRows.{distance_of};
+ghost use Rattle.hs_base.specs.RepeatRows.{distance_of};
 
 /// The bytes of such a row.
 pub const DISTANCE_LEN: usize = 2;

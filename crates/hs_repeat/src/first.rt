@@ -3,16 +3,16 @@
 ghost use Rattle.std.specs.Prelude.{◌≡◌, ℕ, ◌+◌, ◌<◌, ◌≤◌, Bool, true, false, List, [], ◌∷◌, ◌++◌, length, None};
 ghost use Rattle.hs_base.specs.ByteSets.{has, members};
 ghost use Rattle.hs_base.specs.Trees.{greatest_bound};
-ghost use Rattle.hs_repeat.specs.Entries.{IsAway};
-ghost use Rattle.hs_repeat.specs.RepeatRows.{IsDistanceAt, IsFirstDistance, IsFirstRow, distance_of};
+ghost use Rattle.hs_base.specs.RepeatRows.{IsAway};
+ghost use Rattle.hs_base.specs.RepeatRows.{IsDistanceAt, IsFirstDistance, IsFirstRow, distance_of};
 
 use crate::distance::{DISTANCE_LEN, read_distance, write_distance};
 use hs_base::{ByteSet, Next, NextSet, Prev};
 use hs_engine::{Engine, Steps};
 use std::sync::ledger::Ledger;
 
-/// Runs at least so many bytes of a set, as `a{100,}`. It keeps how far the farthest entry is away whose bytes are all in
-/// the set, up to the bound: nearer entries tell nothing more.
+/// Runs at least so many bytes of a set, as `a{100,}`. It keeps how far the farthest entry is away whose bytes are all
+/// in the set, up to the bound: nearer entries tell nothing more.
 #[derive(Debug, Drop)]
 pub struct First {
     set: ByteSet,
@@ -23,13 +23,14 @@ pub struct First {
 }
 
 impl First {
-    ghost use Rattle.hs_repeat.specs.RepeatEngines.{RunsFirst, repeat_of};
+    ghost use Rattle.hs_repeat.specs.RepeatEngines.{meaning_of_first};
+    ghost use Rattle.hs_repeat.specs.Repeats.{repeat_of};
 
     /// The engine of at least `least` bytes of the set.
     pub fn new(set: ByteSet, least: u32) -> First
         requires some { 0 < least }
         requires bounded { least ≤ greatest_bound }
-        ensures { RunsFirst result (repeat_of set least None) }
+        ensures { (meaning_of_first result).is_for (repeat_of set least None) }
     {
         First { set, least }
     }
@@ -41,7 +42,8 @@ impl First {
         ensures within { result ≤ distance + 1 }
         ensures moves { (u : List ℕ) (entered : List Bool) → length entered ≡ length u →
             IsFirstDistance self.now.least (IsAway (members self.now.set) u entered) distance →
-            IsFirstDistance self.now.least (IsAway (members self.now.set) (u ++ byte ∷ []) (entered ++ entering ∷ [])) result }
+            IsFirstDistance self.now.least
+            (IsAway (members self.now.set) (u ++ byte ∷ []) (entered ++ entering ∷ [])) result }
         ensures rests { distance ≡ 0 → entering ≡ false → result ≡ 0 }
     {
         if !self.set.contains(byte) {
@@ -57,21 +59,9 @@ impl First {
 }
 
 impl Engine for First {
-    ghost use Rattle.hs_repeat.specs.RepeatEngines.{RunsFirst};
+    ghost use Rattle.hs_repeat.specs.RepeatMeanings.{first_meaning};
 
-    ghost width = { λ e. 2 };
-
-    ghost is_for = { λ e tree. RunsFirst e tree };
-
-    ghost field = { λ e bytes tree u entered. IsFirstRow e.least (members e.set) bytes u entered };
-
-    ghost rests = { λ e bytes. distance_of bytes ≡ 0 };
-
-    ghost sleeps = { λ e bytes b. (distance_of bytes ≡ 0) × (has e.set b ≡ false) };
-
-    ghost well = { λ e bytes at. IsDistanceAt e.least (distance_of bytes) at };
-
-    ghost enters_always = { λ e. false };
+    ghost meaning = { λ e. first_meaning e.set e.least };
 
     fn size(&self) -> usize {
         DISTANCE_LEN
@@ -108,8 +98,8 @@ impl Engine for First {
         read_distance(region) == 0
     }
 
-    fn sleeps(&self, region: &[u8], byte: u8) -> bool {
-        read_distance(region) == 0 && !self.set.contains(byte)
+    fn wakers(&self) -> &ByteSet {
+        &self.set
     }
 
     fn well_formed(&self, region: &[u8], at: u64) -> bool {

@@ -3,16 +3,16 @@
 ghost use Rattle.std.specs.Prelude.{◌≡◌, ℕ, ◌+◌, ◌<◌, ◌≤◌, Bool, true, false, List, [], ◌∷◌, ◌++◌, length, Some};
 ghost use Rattle.hs_base.specs.ByteSets.{has, members};
 ghost use Rattle.hs_base.specs.Trees.{greatest_bound};
-ghost use Rattle.hs_repeat.specs.Entries.{IsAway};
-ghost use Rattle.hs_repeat.specs.RepeatRows.{IsDistanceAt, IsLastDistance, IsLastRow, distance_of};
+ghost use Rattle.hs_base.specs.RepeatRows.{IsAway};
+ghost use Rattle.hs_base.specs.RepeatRows.{IsDistanceAt, IsLastDistance, IsLastRow, distance_of};
 
 use crate::distance::{DISTANCE_LEN, read_distance, write_distance};
 use hs_base::{ByteSet, Next, NextSet, Prev};
 use hs_engine::{Engine, Steps};
 use std::sync::ledger::Ledger;
 
-/// Runs at most so many bytes of a set, and none or one at least, as `a{0,100}`. It keeps how far the nearest entry is away
-/// whose bytes are all in the set: it lives longest.
+/// Runs at most so many bytes of a set, and none or one at least, as `a{0,100}`. It keeps how far the nearest entry is
+/// away whose bytes are all in the set: it lives longest.
 #[derive(Debug, Drop)]
 pub struct Last {
     set: ByteSet,
@@ -23,14 +23,15 @@ pub struct Last {
 }
 
 impl Last {
-    ghost use Rattle.hs_repeat.specs.RepeatEngines.{RunsLast, repeat_of};
+    ghost use Rattle.hs_repeat.specs.RepeatEngines.{meaning_of_last};
+    ghost use Rattle.hs_repeat.specs.Repeats.{repeat_of};
 
     /// The engine of at most `greatest` bytes of the set.
     pub fn new(set: ByteSet, greatest: u32) -> Last
         requires some { 0 < greatest }
         requires bounded { greatest ≤ greatest_bound }
-        ensures from_none { RunsLast result (repeat_of set 0 (Some greatest)) }
-        ensures from_one { RunsLast result (repeat_of set 1 (Some greatest)) }
+        ensures from_none { (meaning_of_last result).is_for (repeat_of set 0 (Some greatest)) }
+        ensures from_one { (meaning_of_last result).is_for (repeat_of set 1 (Some greatest)) }
     {
         Last { set, greatest }
     }
@@ -42,7 +43,8 @@ impl Last {
         ensures within { result ≤ distance + 1 }
         ensures moves { (u : List ℕ) (entered : List Bool) → length entered ≡ length u →
             IsLastDistance self.now.greatest (IsAway (members self.now.set) u entered) distance →
-            IsLastDistance self.now.greatest (IsAway (members self.now.set) (u ++ byte ∷ []) (entered ++ entering ∷ [])) result }
+            IsLastDistance self.now.greatest
+            (IsAway (members self.now.set) (u ++ byte ∷ []) (entered ++ entering ∷ [])) result }
         ensures rests { distance ≡ 0 → entering ≡ false → result ≡ 0 }
     {
         if !self.set.contains(byte) {
@@ -60,21 +62,9 @@ impl Last {
 }
 
 impl Engine for Last {
-    ghost use Rattle.hs_repeat.specs.RepeatEngines.{RunsLast};
+    ghost use Rattle.hs_repeat.specs.RepeatMeanings.{last_meaning};
 
-    ghost width = { λ e. 2 };
-
-    ghost is_for = { λ e tree. RunsLast e tree };
-
-    ghost field = { λ e bytes tree u entered. IsLastRow e.greatest (members e.set) bytes u entered };
-
-    ghost rests = { λ e bytes. distance_of bytes ≡ 0 };
-
-    ghost sleeps = { λ e bytes b. (distance_of bytes ≡ 0) × (has e.set b ≡ false) };
-
-    ghost well = { λ e bytes at. IsDistanceAt e.greatest (distance_of bytes) at };
-
-    ghost enters_always = { λ e. false };
+    ghost meaning = { λ e. last_meaning e.set e.greatest };
 
     fn size(&self) -> usize {
         DISTANCE_LEN
@@ -111,8 +101,8 @@ impl Engine for Last {
         read_distance(region) == 0
     }
 
-    fn sleeps(&self, region: &[u8], byte: u8) -> bool {
-        read_distance(region) == 0 && !self.set.contains(byte)
+    fn wakers(&self) -> &ByteSet {
+        &self.set
     }
 
     fn well_formed(&self, region: &[u8], at: u64) -> bool {

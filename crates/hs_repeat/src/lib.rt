@@ -1,8 +1,7 @@
-//! Engines of long repeats of one set of bytes. Each keeps of its entries only what tells where the repeat may be left, and
-//! takes no memory of its own.
+//! Engines of long repeats of one set of bytes. Each keeps of its entries only what tells where the repeat may be left,
+//! and takes no memory of its own.
 #![tactic(auto)]
 
-mod bit_ranges;
 mod distance;
 mod first;
 mod last;

@@ -1,20 +1,21 @@
 //! The engine of bytes of a set from one number to another.
 
-ghost use Rattle.std.specs.Prelude.{◌≡◌, ◌↔◌, ℕ, ◌+◌, ◌*◌, ◌/◌, ◌<◌, ◌≤◌, Bool, true, false, List, [], ◌∷◌, ◌++◌, length, Some, IsTrue};
+ghost use Rattle.std.specs.Prelude.{◌≡◌, ◌↔◌, ℕ, ◌+◌, ◌*◌, ◌/◌, ◌<◌, ◌≤◌, Bool, true, false, List, [], ◌∷◌, ◌++◌};
+ghost use Rattle.std.specs.Prelude.{length, Some, IsTrue};
 ghost use Rattle.hs_base.specs.ByteSets.{has, members};
 ghost use Rattle.hs_base.specs.Trees.{greatest_bound};
-ghost use Rattle.hs_engine.specs.Bits.{AreZero};
-ghost use Rattle.hs_repeat.specs.Entries.{IsAway};
-ghost use Rattle.hs_repeat.specs.RepeatRows.{IsRingAt, IsRingRow};
+ghost use Rattle.hs_base.specs.Bits.{AreZero};
+ghost use Rattle.hs_base.specs.RepeatRows.{IsAway};
+ghost use Rattle.hs_base.specs.RepeatRows.{IsRingAt, IsRingRow};
 
-use crate::bit_ranges::{clear_live, has_bit_in, has_bit_round, write_bit};
 use hs_base::{ByteSet, Next, NextSet, Prev};
-use hs_engine::{BYTE_BITS, Engine, Steps, clear_bits, is_zero};
+use hs_bits::{BYTE_BITS, clear_bits, clear_live, has_bit_in, has_bit_round, is_zero, write_bit};
+use hs_engine::{Engine, Steps};
 use std::sync::ledger::Ledger;
 
-/// Runs bytes of a set, from one number to another, as `a{50,100}`. It keeps a bit for each of the last offsets, as many
-/// as the greater number: whether an entry stands there whose bytes are all in the set. A step touches one bit, or clears
-/// all.
+/// Runs bytes of a set, from one number to another, as `a{50,100}`. It keeps a bit for each of the last offsets, as
+/// many as the greater number: whether an entry stands there whose bytes are all in the set. A step touches one bit, or
+/// clears all.
 #[derive(Debug, Drop)]
 pub struct Ring {
     set: ByteSet,
@@ -28,14 +29,15 @@ pub struct Ring {
 }
 
 impl Ring {
-    ghost use Rattle.hs_repeat.specs.RepeatEngines.{RunsRing, repeat_of};
+    ghost use Rattle.hs_repeat.specs.RepeatEngines.{meaning_of_ring};
+    ghost use Rattle.hs_repeat.specs.Repeats.{repeat_of};
 
     /// The engine of bytes of the set, from `least` to `greatest`.
     pub fn new(set: ByteSet, least: u32, greatest: u32) -> Ring
         requires some { 0 < greatest }
         requires order { least ≤ greatest }
         requires bounded { greatest ≤ greatest_bound }
-        ensures { RunsRing result (repeat_of set least (Some greatest)) }
+        ensures { (meaning_of_ring result).is_for (repeat_of set least (Some greatest)) }
     {
         Ring {
             set,
@@ -47,8 +49,10 @@ impl Ring {
     /// Whether an entry stands from the least to the greatest distance from `at`.
     fn has_entry_away(&self, region: &[u8], at: u64) -> bool
         requires len { length region.now ≡ (self.now.greatest + 7) / 8 }
-        ensures away { (u : List ℕ) (entered : List Bool) → at ≡ length u → length entered ≡ length u → IsRingRow self.now.greatest (members self.now.set) region.now u entered →
-            IsTrue result ↔ ((d : ℕ) × IsAway (members self.now.set) u entered d × (self.now.least ≤ d) × (d ≤ self.now.greatest)) }
+        ensures away { (u : List ℕ) (entered : List Bool) → at ≡ length u → length entered ≡ length u →
+            IsRingRow self.now.greatest (members self.now.set) region.now u entered →
+            IsTrue result ↔ ((d : ℕ) × IsAway (members self.now.set) u entered d × (self.now.least ≤ d) ×
+            (d ≤ self.now.greatest)) }
         ensures rests { AreZero region.now → result ≡ false }
     {
         let farthest = u64::from(self.greatest).min(at);
@@ -68,21 +72,9 @@ impl Ring {
 }
 
 impl Engine for Ring {
-    ghost use Rattle.hs_repeat.specs.RepeatEngines.{RunsRing};
+    ghost use Rattle.hs_repeat.specs.RepeatMeanings.{ring_meaning};
 
-    ghost width = { λ e. (e.greatest + 7) / 8 };
-
-    ghost is_for = { λ e tree. RunsRing e tree };
-
-    ghost field = { λ e bytes tree u entered. IsRingRow e.greatest (members e.set) bytes u entered };
-
-    ghost rests = { λ e bytes. AreZero bytes };
-
-    ghost sleeps = { λ e bytes b. AreZero bytes × (has e.set b ≡ false) };
-
-    ghost well = { λ e bytes at. IsRingAt e.greatest bytes at };
-
-    ghost enters_always = { λ e. false };
+    ghost meaning = { λ e. ring_meaning e.set e.least e.greatest };
 
     fn size(&self) -> usize {
         (self.greatest as usize + (BYTE_BITS - 1)) / BYTE_BITS
@@ -122,8 +114,8 @@ impl Engine for Ring {
         is_zero(region)
     }
 
-    fn sleeps(&self, region: &[u8], byte: u8) -> bool {
-        !self.set.contains(byte) && is_zero(region)
+    fn wakers(&self) -> &ByteSet {
+        &self.set
     }
 
     fn well_formed(&self, region: &[u8], at: u64) -> bool {

@@ -2,7 +2,8 @@
 use Rattle.std.specs.Prelude.{◌≡◌, ℕ, true, false, List, [], ◌∷◌, codes, Option, Some, None, if◌then◌else◌, unwrap_or}
 use Rattle.std.specs.Str.{bytes_eq}
 use Rattle.clap.specs.Simple.{on_top}
-use Rattle.clap.specs.Words.{App, Kinds, Row, Rule, Text, app_of, first_of, fault_of, new_app, new_rule, subcommand_of, with_rule, with_subcommand}
+use Rattle.clap.specs.Words.{App, Kinds, Row, Rule, Text, app_of, first_of, fault_of, new_app, new_rule, subcommand_of}
+use Rattle.clap.specs.Words.{with_rule, with_subcommand}
 use Rattle.clap.specs.declared.builder.command.Command.{Command}
 use Rattle.clap.specs.declared.builder.command.Command.TheViews.{out-Command as fields_of}
 use Rattle.hs_request.specs.declared.request.Request.{Request as Asked}
@@ -24,7 +25,8 @@ two_operands name first second = with_rule (one_operand name first) (operand sec
 
 -- the program, of which a subcommand has to be given, and none of which is `help`
 abbrev pub program : App
-program = on_top (λ s. record s { subcommand_required = true; disable_help_subcommand = true }) (new_app (codes "hs_tool"))
+program = on_top (λ s. record s { subcommand_required = true; disable_help_subcommand = true })
+    (new_app (codes "hs_tool"))
 
 -- the command line as `clap` is given it: subcommands with positional operands, and no other rule
 abbrev pub command_line : App
@@ -65,12 +67,18 @@ operand_in rows name = unwrap_or (first_of name rows) []
 -- the request of a subcommand with the words given for its operands
 abbrev pub request_named : Text → List Row → Option Request
 request_named name rows =
-    if bytes_eq name (codes "match") then Some (match_file (operand_in rows (codes "PATTERNS")) (operand_in rows (codes "FILE")))
-    else (if bytes_eq name (codes "check") then Some (check_list (operand_in rows (codes "PATTERNS")))
-    else (if bytes_eq name (codes "compile") then Some (compile_list (operand_in rows (codes "PATTERNS")) (operand_in rows (codes "DB")))
-    else (if bytes_eq name (codes "info") then Some (tell_database (operand_in rows (codes "DB")))
-    else (if bytes_eq name (codes "scan") then Some (scan_file (operand_in rows (codes "DB")) (operand_in rows (codes "FILE")))
-    else (if bytes_eq name (codes "stream") then Some (run_script (operand_in rows (codes "DB")))
+    if bytes_eq name (codes "match")
+    then Some (match_file (operand_in rows (codes "PATTERNS")) (operand_in rows (codes "FILE")))
+    else (if bytes_eq name (codes "check")
+    then Some (check_list (operand_in rows (codes "PATTERNS")))
+    else (if bytes_eq name (codes "compile")
+    then Some (compile_list (operand_in rows (codes "PATTERNS")) (operand_in rows (codes "DB")))
+    else (if bytes_eq name (codes "info")
+    then Some (tell_database (operand_in rows (codes "DB")))
+    else (if bytes_eq name (codes "scan")
+    then Some (scan_file (operand_in rows (codes "DB")) (operand_in rows (codes "FILE")))
+    else (if bytes_eq name (codes "stream")
+    then Some (run_script (operand_in rows (codes "DB")))
     else None)))))
 
 -- the request of the subcommand that was met

@@ -3,7 +3,8 @@ ghost use Rattle.std.specs.Prelude.{◌≡◌, ◌≢◌, map, string_bytes, IfO
 ghost use Rattle.std.specs.Option.{option_map};
 ghost use Rattle.clap.specs.Words.{found_of, kind_of, rows_of, subcommand_rows_of};
 ghost use Rattle.clap.specs.declared.error.ErrorKind.TheVariants.{OutOfMemory};
-ghost use Rattle.hs_request.specs.Requests.{request_of as request_of_words, request_in, request_named, plain_request, operand_in};
+ghost use Rattle.hs_request.specs.Requests.{request_of as request_of_words, request_in, request_named, plain_request};
+ghost use Rattle.hs_request.specs.Requests.{operand_in};
 
 use crate::command_line::command_line;
 use clap::error::ErrorKind;
@@ -48,7 +49,8 @@ pub enum Request<'a> {
 ///
 /// Where reading them finds no memory.
 pub fn request_of<'a>(alloc: Global, words: &'a [String]) -> Result<Option<Request<'a>>, AllocError>
-    ensures { IfOk result (λ request. option_map plain_request request ≡ request_of_words (map string_bytes words.now)) }
+    ensures { IfOk result (λ request. option_map plain_request request ≡ request_of_words
+        (map string_bytes words.now)) }
 {
     let command = command_line(alloc)?;
     match command.try_get_matches_from(words) {

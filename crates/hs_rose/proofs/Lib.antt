@@ -2,5 +2,4 @@ pub mod IdLemmas
 pub mod RoleLemmas
 pub mod StartLemmas
 pub mod PartLemmas
-pub mod WordBitLemmas
 pub mod WakeLemmas

@@ -5,6 +5,7 @@ use Rattle.std.proofs.lemmas.Option.{slice_get-get_or, slice_get_within, get_or_
 use Rattle.std.proofs.lemmas.Slice.{between_is, take-put_mid_below, drop-put_mid, between-put_mid}
 use Rattle.std.proofs.lemmas.List.Edits.{length-between}
 use borrow.Rule.Slice.PartMut.{put_mid}
+use Rattle.hs_engine.specs.Engines.{Meaning}
 use Rattle.hs_rose.specs.declared.program.Role.{Role}
 use Rattle.hs_rose.specs.Roles.{AreStartsOf}
 use Rattle.hs_rose.specs.Regions.{IsLaid, part_of}
@@ -16,16 +17,16 @@ there (x ∷ xs) zero below = (x, refl)
 there (x ∷ xs) (suc k) below = there xs k (omega arith)
 
 -- Where the parts lie, from what the program says.
-module _ {E : Type 0} (width : E → ℕ) (roles : List (Role E)) (starts : List ℕ) (rows : AreStartsOf width roles starts) where
+module _ {E : Type 0} (meaning : E → Meaning) (roles : List (Role E)) (starts : List ℕ) (rows : AreStartsOf meaning roles starts) where
   start : (k : ℕ) → k ≤ length roles → slice_get starts k ≡ Some (get_or starts k 0)
   start k within = slice_get-get_or starts k 0 (omega (arith, rows.count))
 
-  start-next : (k : ℕ) (r : Role E) → slice_get roles k ≡ Some r → get_or starts (k + 1) 0 ≡ get_or starts k 0 + width r.engine
+  start-next : (k : ℕ) (r : Role E) → slice_get roles k ≡ Some r → get_or starts (k + 1) 0 ≡ get_or starts k 0 + (meaning r.engine).width
   start-next k r role =
       let below : k < length roles = slice_get_within roles k r role in
-      let next : slice_get starts (suc k) ≡ Some (get_or starts k 0 + width r.engine) = rows.next k (get_or starts k 0) r role (start k (omega arith)) in
+      let next : slice_get starts (suc k) ≡ Some (get_or starts k 0 + (meaning r.engine).width) = rows.next k (get_or starts k 0) r role (start k (omega arith)) in
       let same : k + 1 ≡ suc k = omega arith in
-      ap (λ n. get_or starts n 0) same ∙ get_or_from_slice_get starts (suc k) (get_or starts k 0 + width r.engine) 0 next
+      ap (λ n. get_or starts n 0) same ∙ get_or_from_slice_get starts (suc k) (get_or starts k 0 + (meaning r.engine).width) 0 next
 
   start-step : (k : ℕ) → k < length roles → get_or starts k 0 ≤ get_or starts (k + 1) 0
   start-step k below = let (r, role) = there roles k below in omega (arith, start-next k r role)
@@ -43,7 +44,7 @@ module _ {E : Type 0} (width : E → ℕ) (roles : List (Role E)) (starts : List
       omega (arith, starts-rise (k - j) j (omega arith), ap (λ m. get_or starts m 0) same)
 
   -- they lie in a region as long as the last one's end
-  pub laid-starts : (len : ℕ) → len ≡ get_or starts (length starts - 1) 0 → IsLaid width roles starts len
+  pub laid-starts : (len : ℕ) → len ≡ get_or starts (length starts - 1) 0 → IsLaid meaning roles starts len
   laid-starts len whole =
       let last : length starts - 1 ≡ length roles = omega (arith, rows.count) in
       let end : len ≡ get_or starts (length roles) 0 = whole ∙ ap (λ n. get_or starts n 0) last in
@@ -54,7 +55,7 @@ module _ {E : Type 0} (width : E → ℕ) (roles : List (Role E)) (starts : List
         next = start-next;
       }
 
-module _ {E : Type 0} (width : E → ℕ) (roles : List (Role E)) (starts : List ℕ) (len : ℕ) (laid : IsLaid width roles starts len) where
+module _ {E : Type 0} (meaning : E → Meaning) (roles : List (Role E)) (starts : List ℕ) (len : ℕ) (laid : IsLaid meaning roles starts len) where
   climbs : (n j : ℕ) → j + n ≤ length roles → get_or starts j 0 ≤ get_or starts (j + n) 0
   climbs zero j within = let same : j + zero ≡ j = omega arith in omega (arith, ap (λ m. get_or starts m 0) same)
   climbs (suc n) j within =
@@ -71,14 +72,14 @@ module _ {E : Type 0} (width : E → ℕ) (roles : List (Role E)) (starts : List
   inside k within = laid.within k (omega (arith, laid.count))
 
   -- a part has the length that its role wants
-  pub part-length : (region : List ℕ) → length region ≡ len → (k : ℕ) (r : Role E) → slice_get roles k ≡ Some r → length (part_of starts region k) ≡ width r.engine
+  pub part-length : (region : List ℕ) → length region ≡ len → (k : ℕ) (r : Role E) → slice_get roles k ≡ Some r → length (part_of starts region k) ≡ (meaning r.engine).width
   part-length region whole k r role =
       let below : k < length roles = slice_get_within roles k r role in
       length-between region (get_or starts k 0) (get_or starts (k + 1) 0) (omega (arith, inside (k + 1) (omega arith)))
       ∙ omega (arith, laid.next k r role)
 
   -- the region after a write of one part
-  module _ (old : List ℕ) (whole : length old ≡ len) (i : ℕ) (r : Role E) (role : slice_get roles i ≡ Some r) (w : List ℕ) (wide : length w ≡ width r.engine) where
+  module _ (old : List ℕ) (whole : length old ≡ len) (i : ℕ) (r : Role E) (role : slice_get roles i ≡ Some r) (w : List ℕ) (wide : length w ≡ (meaning r.engine).width) where
     abbrev pub written : List ℕ
     written = put_mid (get_or starts i 0) (get_or starts (i + 1) 0 - get_or starts i 0) old w
 

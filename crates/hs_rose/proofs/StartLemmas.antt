@@ -4,9 +4,9 @@ use Rattle.std.specs.List.{All, AllZip}
 use Rattle.std.specs.Option.{option_map}
 use Rattle.std.proofs.lemmas.Option.{slice_get-map, slice_get-get_or, slice_get_within, slice_get_cases, get_or_from_slice_get}
 use Rattle.std.proofs.lemmas.List.{length-map, map_more}
-use Rattle.hs_rose.specs.declared.program.Expression.{Expression}
+use Rattle.hs_engine.specs.Engines.{Meaning}
 use Rattle.hs_rose.specs.declared.program.Role.{Role}
-use Rattle.hs_rose.specs.Building.{sums_from, IsRoleFor}
+use Rattle.hs_rose.specs.Building.{sums_from, IsPlaced}
 use Rattle.hs_rose.specs.Roles.{AreStartsOf}
 use Rattle.hs_rose.proofs.RoleLemmas.{map-place}
 
@@ -38,27 +38,27 @@ next-sum at (x ∷ ns) zero b n part begin =
     first-sum (at + x) ns ∙ ap Some (cc)
 next-sum at (x ∷ ns) (suc k) b n part begin = next-sum (at + x) ns k b n part begin
 
-same-widths : {E : Type 0} (width : E → ℕ) (ids : List ℕ) (es : List (Expression E)) (roles : List (Role E)) → AllZip (IsRoleFor ids) es roles →
-    map (λ e. width e.engine) es ≡ map (λ r. width r.engine) roles
-same-widths width ids [] [] all = refl
-same-widths width ids [] (r ∷ roles) all = absurd all
-same-widths width ids (e ∷ es) [] all = absurd all
-same-widths width ids (e ∷ es) (r ∷ roles) all =
-    let first : width e.engine ≡ width r.engine = ap width (sym all.0.engine) in
-    let rest : map (λ e. width e.engine) es ≡ map (λ r. width r.engine) roles = same-widths width ids es roles all.1 in
+same-widths : {E : Type 0} (meaning : E → Meaning) (ids : List ℕ) (es : List (Role E)) (roles : List (Role E)) → AllZip (IsPlaced ids) es roles →
+    map (λ e. (meaning e.engine).width) es ≡ map (λ r. (meaning r.engine).width) roles
+same-widths meaning ids [] [] all = refl
+same-widths meaning ids [] (r ∷ roles) all = absurd all
+same-widths meaning ids (e ∷ es) [] all = absurd all
+same-widths meaning ids (e ∷ es) (r ∷ roles) all =
+    let first : (meaning e.engine).width ≡ (meaning r.engine).width = ap (λ e. (meaning e).width) (sym all.0.engine) in
+    let rest : map (λ e. (meaning e.engine).width) es ≡ map (λ r. (meaning r.engine).width) roles = same-widths meaning ids es roles all.1 in
     cc
 
-starts-of_widths : {E : Type 0} (width : E → ℕ) (roles : List (Role E)) → AreStartsOf width roles (sums_from 0 (map (λ r. width r.engine) roles))
-starts-of_widths width roles = record {
-  count = length-sums 0 (map (λ r. width r.engine) roles) ∙ ap suc (length-map roles (λ r. width r.engine));
-  first = first-sum 0 (map (λ r. width r.engine) roles);
-  next = λ k at r role begin. next-sum 0 (map (λ r. width r.engine) roles) k at (width r.engine) (slice_get-map (λ r. width r.engine) roles k ∙ ap (option_map (λ r. width r.engine)) role) begin;
+starts-of_widths : {E : Type 0} (meaning : E → Meaning) (roles : List (Role E)) → AreStartsOf meaning roles (sums_from 0 (map (λ r. (meaning r.engine).width) roles))
+starts-of_widths meaning roles = record {
+  count = length-sums 0 (map (λ r. (meaning r.engine).width) roles) ∙ ap suc (length-map roles (λ r. (meaning r.engine).width));
+  first = first-sum 0 (map (λ r. (meaning r.engine).width) roles);
+  next = λ k at r role begin. next-sum 0 (map (λ r. (meaning r.engine).width) roles) k at ((meaning r.engine).width) (slice_get-map (λ r. (meaning r.engine).width) roles k ∙ ap (option_map (λ r. (meaning r.engine).width)) role) begin;
 }
 
 -- the starts of the expressions are those of their roles
-pub starts-of : {E : Type 0} (width : E → ℕ) (ids : List ℕ) (es : List (Expression E)) (roles : List (Role E)) → AllZip (IsRoleFor ids) es roles →
-    AreStartsOf width roles (sums_from 0 (map (λ e. width e.engine) es))
-starts-of width ids es roles all = subst (λ ns. AreStartsOf width roles (sums_from 0 ns)) (sym (same-widths width ids es roles all)) (starts-of_widths width roles)
+pub starts-of : {E : Type 0} (meaning : E → Meaning) (ids : List ℕ) (es : List (Role E)) (roles : List (Role E)) → AllZip (IsPlaced ids) es roles →
+    AreStartsOf meaning roles (sums_from 0 (map (λ e. (meaning e.engine).width) es))
+starts-of meaning ids es roles all = subst (λ ns. AreStartsOf meaning roles (sums_from 0 ns)) (sym (same-widths meaning ids es roles all)) (starts-of_widths meaning roles)
 
 -- the last of them is the sum
 pub last-sum : (at : ℕ) (ns : List ℕ) → get_or (sums_from at ns) (length ns) 0 ≡ at + total ns
@@ -72,23 +72,23 @@ total-push (x ∷ ns) n =
     let e : x + total (ns ++ n ∷ []) ≡ x + total ns + n = omega arith in e
 
 -- the part of one expression more
-pub starts-more : {E : Type 0} (width : E → ℕ) (es : List (Expression E)) (i : ℕ) (e : Expression E) (starts starts' : List ℕ) (at size : ℕ) → i < length es → get_or es i e ≡ e →
-    starts ≡ sums_from 0 (map (λ x. width x.engine) (take i es)) → at ≡ total (map (λ x. width x.engine) (take i es)) → size ≡ width e.engine → starts' ≡ starts ++ (at + size) ∷ [] →
-    (starts' ≡ sums_from 0 (map (λ x. width x.engine) (take (i + 1) es))) × (at + size ≡ total (map (λ x. width x.engine) (take (i + 1) es)))
-starts-more width es i e starts starts' at size within here are is sized pushed =
-    let widths : List ℕ = map (λ x. width x.engine) (take i es) in
-    let more : map (λ x. width x.engine) (take (i + 1) es) ≡ map (λ x. width x.engine) (take i es) ++ width e.engine ∷ [] =
-    map_more (λ x. width x.engine) es i e within ∙ ap (λ x. map (λ x. width x.engine) (take i es) ++ width x.engine ∷ []) here in
-    let grown : sums_from 0 (map (λ x. width x.engine) (take (i + 1) es)) ≡ sums_from 0 (map (λ x. width x.engine) (take i es)) ++ (0 + total (map (λ x. width x.engine) (take i es)) + width e.engine) ∷ [] =
-    ap (sums_from 0) more ∙ sums-push 0 (map (λ x. width x.engine) (take i es)) (width e.engine) in
-    let sum : total (map (λ x. width x.engine) (take (i + 1) es)) ≡ total (map (λ x. width x.engine) (take i es)) + width e.engine =
-    ap total more ∙ total-push (map (λ x. width x.engine) (take i es)) (width e.engine) in
-    let same : at + size ≡ 0 + total (map (λ x. width x.engine) (take i es)) + width e.engine = omega arith in (
-      pushed ∙ ap (λ xs. xs ++ (at + size) ∷ []) are ∙ ap (λ n. sums_from 0 (map (λ x. width x.engine) (take i es)) ++ n ∷ []) same ∙ sym grown,
-      let e : at + size ≡ total (map (λ x. width x.engine) (take i es)) + width e.engine = omega arith in e ∙ sym sum,
+pub starts-more : {E : Type 0} (meaning : E → Meaning) (es : List (Role E)) (i : ℕ) (e : Role E) (starts starts' : List ℕ) (at size : ℕ) → i < length es → get_or es i e ≡ e →
+    starts ≡ sums_from 0 (map (λ x. (meaning x.engine).width) (take i es)) → at ≡ total (map (λ x. (meaning x.engine).width) (take i es)) → size ≡ (meaning e.engine).width → starts' ≡ starts ++ (at + size) ∷ [] →
+    (starts' ≡ sums_from 0 (map (λ x. (meaning x.engine).width) (take (i + 1) es))) × (at + size ≡ total (map (λ x. (meaning x.engine).width) (take (i + 1) es)))
+starts-more meaning es i e starts starts' at size within here are is sized pushed =
+    let widths : List ℕ = map (λ x. (meaning x.engine).width) (take i es) in
+    let more : map (λ x. (meaning x.engine).width) (take (i + 1) es) ≡ map (λ x. (meaning x.engine).width) (take i es) ++ (meaning e.engine).width ∷ [] =
+    map_more (λ x. (meaning x.engine).width) es i e within ∙ ap (λ x. map (λ x. (meaning x.engine).width) (take i es) ++ (meaning x.engine).width ∷ []) here in
+    let grown : sums_from 0 (map (λ x. (meaning x.engine).width) (take (i + 1) es)) ≡ sums_from 0 (map (λ x. (meaning x.engine).width) (take i es)) ++ (0 + total (map (λ x. (meaning x.engine).width) (take i es)) + (meaning e.engine).width) ∷ [] =
+    ap (sums_from 0) more ∙ sums-push 0 (map (λ x. (meaning x.engine).width) (take i es)) ((meaning e.engine).width) in
+    let sum : total (map (λ x. (meaning x.engine).width) (take (i + 1) es)) ≡ total (map (λ x. (meaning x.engine).width) (take i es)) + (meaning e.engine).width =
+    ap total more ∙ total-push (map (λ x. (meaning x.engine).width) (take i es)) ((meaning e.engine).width) in
+    let same : at + size ≡ 0 + total (map (λ x. (meaning x.engine).width) (take i es)) + (meaning e.engine).width = omega arith in (
+      pushed ∙ ap (λ xs. xs ++ (at + size) ∷ []) are ∙ ap (λ n. sums_from 0 (map (λ x. (meaning x.engine).width) (take i es)) ++ n ∷ []) same ∙ sym grown,
+      let e : at + size ≡ total (map (λ x. (meaning x.engine).width) (take i es)) + (meaning e.engine).width = omega arith in e ∙ sym sum,
     )
 
-module _ {E : Type 0} (width : E → ℕ) (roles : List (Role E)) (starts : List ℕ) (are : AreStartsOf width roles starts) where
+module _ {E : Type 0} (meaning : E → Meaning) (roles : List (Role E)) (starts : List ℕ) (are : AreStartsOf meaning roles starts) where
   -- there is one for each role, and one behind them
   pub start-of : (k : ℕ) → k ≤ length roles → slice_get starts k ≡ Some (get_or starts k 0)
   start-of k within = let below : k < length starts = omega (arith, are.count) in slice_get-get_or starts k 0 below
@@ -97,10 +97,10 @@ module _ {E : Type 0} (width : E → ℕ) (roles : List (Role E)) (starts : List
   pub starts-end : slice_get starts (length roles) ≡ Some (get_or starts (length starts - 1) 0)
   starts-end = let e : length starts - 1 ≡ length roles = omega (arith, are.count) in rw e (start-of (length roles) (let le : length roles ≤ length roles = omega arith in le))
 
-  start-next : (k : ℕ) (r : Role E) → slice_get roles k ≡ Some r → get_or starts (suc k) 0 ≡ get_or starts k 0 + width r.engine
+  start-next : (k : ℕ) (r : Role E) → slice_get roles k ≡ Some r → get_or starts (suc k) 0 ≡ get_or starts k 0 + (meaning r.engine).width
   start-next k r role =
       let within : k < length roles = slice_get_within roles k r role in
-      get_or_from_slice_get starts (suc k) (get_or starts k 0 + width r.engine) 0 (are.next k (get_or starts k 0) r role (start-of k (omega arith)))
+      get_or_from_slice_get starts (suc k) (get_or starts k 0 + (meaning r.engine).width) 0 (are.next k (get_or starts k 0) r role (start-of k (omega arith)))
 
   start-steps : (k : ℕ) → k < length roles → get_or starts k 0 ≤ get_or starts (suc k) 0
   start-steps k within = elim (slice_get_cases roles k).1 [
@@ -123,17 +123,17 @@ module _ {E : Type 0} (width : E → ℕ) (roles : List (Role E)) (starts : List
       subst (λ n. get_or starts j 0 ≤ get_or starts n 0) e (rise-by j (k - j) (omega arith))
 
   -- the bytes of a role end before those of a later one begin
-  pub parts-disjoint : (j k a b : ℕ) (r : Role E) → j < k → slice_get roles j ≡ Some r → slice_get starts j ≡ Some a → slice_get starts k ≡ Some b → a + width r.engine ≤ b
+  pub parts-disjoint : (j k a b : ℕ) (r : Role E) → j < k → slice_get roles j ≡ Some r → slice_get starts j ≡ Some a → slice_get starts k ≡ Some b → a + (meaning r.engine).width ≤ b
   parts-disjoint j k a b r order role from to =
       let here : get_or starts j 0 ≡ a = get_or_from_slice_get starts j a 0 from in
       let there : get_or starts k 0 ≡ b = get_or_from_slice_get starts k b 0 to in
       let within : k < length starts = slice_get_within starts k b to in
-      let next : get_or starts (suc j) 0 ≡ get_or starts j 0 + width r.engine = start-next j r role in
+      let next : get_or starts (suc j) 0 ≡ get_or starts j 0 + (meaning r.engine).width = start-next j r role in
       let rise : get_or starts (suc j) 0 ≤ get_or starts k 0 = starts-rise (suc j) k (omega arith) (omega (arith, are.count)) in
       omega arith
 
   -- they lie in the region
-  pub part-within : (k at : ℕ) (r : Role E) → slice_get roles k ≡ Some r → slice_get starts k ≡ Some at → at + width r.engine ≤ get_or starts (length starts - 1) 0
+  pub part-within : (k at : ℕ) (r : Role E) → slice_get roles k ≡ Some r → slice_get starts k ≡ Some at → at + (meaning r.engine).width ≤ get_or starts (length starts - 1) 0
   part-within k at r role begin =
       let within : k < length roles = slice_get_within roles k r role in
       parts-disjoint k (length roles) at (get_or starts (length starts - 1) 0) r within role begin starts-end
@@ -147,21 +147,21 @@ last-bounded bound (n ∷ ns) small =
     let e : bound * suc (length ns) ≡ bound * length ns + bound = omega arith in
     omega arith
 
-widths-small : {E : Type 0} (width : E → ℕ) (bound : ℕ) (es : List (Expression E)) → All (λ e. width e.engine ≤ bound) es → (k n : ℕ) → slice_get (map (λ e. width e.engine) es) k ≡ Some n → n ≤ bound
-widths-small width bound es small k n at =
-    let (e, expression, is) = map-place (λ e. width e.engine) es k n at in
-    let one : width (get_or es k e).engine ≤ bound = small k e (slice_get_within es k e expression) in
-    subst (λ m. m ≤ bound) (ap (λ x. width x.engine) (get_or_from_slice_get es k e e expression) ∙ is) one
+widths-small : {E : Type 0} (meaning : E → Meaning) (bound : ℕ) (es : List (Role E)) → All (λ e. (meaning e.engine).width ≤ bound) es → (k n : ℕ) → slice_get (map (λ e. (meaning e.engine).width) es) k ≡ Some n → n ≤ bound
+widths-small meaning bound es small k n at =
+    let (e, expression, is) = map-place (λ e. (meaning e.engine).width) es k n at in
+    let one : (meaning (get_or es k e).engine).width ≤ bound = small k e (slice_get_within es k e expression) in
+    subst (λ m. m ≤ bound) (ap (λ x. (meaning x.engine).width) (get_or_from_slice_get es k e e expression) ∙ is) one
 
 -- the region of expressions whose parts are small has few enough bytes
-pub region-bounded : {E : Type 0} (width : E → ℕ) (es : List (Expression E)) (starts : List ℕ) → starts ≡ sums_from 0 (map (λ e. width e.engine) es) → length es < 2 ^ 32 → All (λ e. width e.engine ≤ 2 ^ 24) es →
+pub region-bounded : {E : Type 0} (meaning : E → Meaning) (es : List (Role E)) (starts : List ℕ) → starts ≡ sums_from 0 (map (λ e. (meaning e.engine).width) es) → length es < 2 ^ 32 → All (λ e. (meaning e.engine).width ≤ 2 ^ 24) es →
     get_or starts (length starts - 1) 0 ≤ 2 ^ 56
-region-bounded width es starts made few small =
-    let widths : List ℕ = map (λ e. width e.engine) es in
-    let count : length (map (λ e. width e.engine) es) ≡ length es = length-map es (λ e. width e.engine) in
-    let bounded : total (map (λ e. width e.engine) es) ≤ 2 ^ 24 * length (map (λ e. width e.engine) es) = last-bounded (2 ^ 24) (map (λ e. width e.engine) es) (widths-small width (2 ^ 24) es small) in
-    let last : length (sums_from 0 (map (λ e. width e.engine) es)) - 1 ≡ length (map (λ e. width e.engine) es) = omega (arith, length-sums 0 (map (λ e. width e.engine) es)) in
-    let end : get_or (sums_from 0 (map (λ e. width e.engine) es)) (length (map (λ e. width e.engine) es)) 0 ≡ 0 + total (map (λ e. width e.engine) es) = last-sum 0 (map (λ e. width e.engine) es) in
-    let whole : get_or starts (length starts - 1) 0 ≡ 0 + total (map (λ e. width e.engine) es) =
-    ap (λ xs. get_or xs (length xs - 1) 0) made ∙ ap (λ k. get_or (sums_from 0 (map (λ e. width e.engine) es)) k 0) last ∙ end in
+region-bounded meaning es starts made few small =
+    let widths : List ℕ = map (λ e. (meaning e.engine).width) es in
+    let count : length (map (λ e. (meaning e.engine).width) es) ≡ length es = length-map es (λ e. (meaning e.engine).width) in
+    let bounded : total (map (λ e. (meaning e.engine).width) es) ≤ 2 ^ 24 * length (map (λ e. (meaning e.engine).width) es) = last-bounded (2 ^ 24) (map (λ e. (meaning e.engine).width) es) (widths-small meaning (2 ^ 24) es small) in
+    let last : length (sums_from 0 (map (λ e. (meaning e.engine).width) es)) - 1 ≡ length (map (λ e. (meaning e.engine).width) es) = omega (arith, length-sums 0 (map (λ e. (meaning e.engine).width) es)) in
+    let end : get_or (sums_from 0 (map (λ e. (meaning e.engine).width) es)) (length (map (λ e. (meaning e.engine).width) es)) 0 ≡ 0 + total (map (λ e. (meaning e.engine).width) es) = last-sum 0 (map (λ e. (meaning e.engine).width) es) in
+    let whole : get_or starts (length starts - 1) 0 ≡ 0 + total (map (λ e. (meaning e.engine).width) es) =
+    ap (λ xs. get_or xs (length xs - 1) 0) made ∙ ap (λ k. get_or (sums_from 0 (map (λ e. (meaning e.engine).width) es)) k 0) last ∙ end in
     omega arith

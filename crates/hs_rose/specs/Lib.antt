@@ -2,6 +2,6 @@ pub mod Programs
 pub mod Building
 pub mod Roles
 pub mod Regions
-pub mod WordBits
 pub mod Passing
 pub mod Wakes
+pub mod Runnable

@@ -7,9 +7,7 @@ mod regions;
 #[cfg(test)]
 mod tests;
 mod wakes;
-mod word_bits;
 
-pub use program::{Expression, Identifier, Program, Role};
+pub use program::{Identifier, Program, Role};
 pub use regions::clear_roles;
 pub use wakes::WakeRows;
-pub use word_bits::{WORD_BITS, is_unset, put_bit};

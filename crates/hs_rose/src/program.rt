@@ -1,33 +1,23 @@
 //! What a scan runs, as tables.
 ghost use Rattle.std.specs.Prelude.{◌≡◌};
-ghost use Rattle.hs_rose.specs.Programs.{roles_of, identifiers_of, starts_of, region_len_of};
-ghost use Rattle.hs_rose.specs.Wakes.{rest_of, wakes_of};
+ghost use Rattle.hs_rose.specs.Programs.{roles_of, identifiers_of, starts_of, rest_of, wakes_of, region_len_of};
+ghost use Rattle.hs_rose.specs.Programs.{tables_of};
+ghost use Rattle.hs_rose.specs.Runnable.{IsRunnable};
 
 use crate::regions::region_len_for;
 use crate::wakes::WakeRows;
 use hs_base::{ExprId, Mask};
+use hs_engine::Engine;
+use std::marker::Model;
 
-/// An expression of a list, ready to run from the first byte of a stream.
-#[derive(Debug, Drop)]
-pub struct Expression<E> {
-    /// The identifier that it is reported with.
-    pub id: ExprId,
-    /// Whether the identifier is reported at most once in a stream.
-    pub single: bool,
-    /// The least offset in bytes at which a match may end.
-    pub min_offset: u64,
-    /// The greatest offset in bytes at which a match may end.
-    pub max_offset: u64,
-    /// What finds its matches of at least one byte.
-    pub engine: E,
-    /// The contexts in which it matches no byte.
-    pub null: Mask,
-}
-
-/// What runs one expression.
+/// What runs one expression of a list from the first byte of a stream.
 #[derive(Debug, Drop)]
 pub struct Role<E> {
-    /// The place of its identifier among those of the program.
+    /// The identifier that the expression is reported with.
+    pub id: ExprId,
+    /// Whether this expression asks that the identifier be reported at most once in a stream.
+    pub single: bool,
+    /// The place of the identifier among those of the program, which `Program::build` writes.
     pub identifier: usize,
     /// The least offset in bytes at which a match may end.
     pub min_offset: u64,
@@ -50,23 +40,56 @@ pub struct Identifier {
 
 /// What a scan runs for a list of expressions.
 #[derive(Debug, Drop)]
-pub struct Program<E> {
+pub struct Program<E: Engine> {
     /// A role for each expression, in the order of the list.
-    pub(crate) roles: Vec<Role<E>>,
+    roles: Vec<Role<E>>,
     /// The identifiers of the expressions, each once, rising.
-    pub(crate) identifiers: Vec<Identifier>,
+    identifiers: Vec<Identifier>,
     /// Where the bytes of each role begin in the region of a stream, and where those of the last one end.
-    pub(crate) starts: Vec<usize>,
+    starts: Vec<usize>,
     /// The bytes of the roles in the region of the empty stream.
-    pub(crate) rest: Vec<u8>,
+    rest: Vec<u8>,
     /// Which roles a byte wakes from that.
-    pub(crate) wakes: WakeRows,
+    wakes: WakeRows,
 }
 
-impl<E> Program<E> {
+impl<E: Engine> Model for Program<E> {
+    ghost use Rattle.hs_rose.specs.Programs.{Tables, tables_of};
+    ghost use Rattle.hs_rose.specs.Runnable.{IsRunnable};
+
+    ghost Value = { Tables E };
+
+    ghost view = { λ p. tables_of p.roles.items p.identifiers.items p.starts.items p.rest.items p.wakes };
+
+    ghost invariant = { λ p. IsRunnable E.meaning
+        (tables_of p.roles.items p.identifiers.items p.starts.items p.rest.items p.wakes) };
+}
+
+impl<E: Engine> Program<E> {
+    /// The program of these tables.
+    pub(crate) fn new(
+        roles: Vec<Role<E>>,
+        identifiers: Vec<Identifier>,
+        starts: Vec<usize>,
+        rest: Vec<u8>,
+        wakes: WakeRows,
+    ) -> Program<E>
+        requires { IsRunnable E.meaning (tables_of roles.items identifiers.items starts.items rest.items wakes) }
+        ensures { result ≡ tables_of roles.items identifiers.items starts.items rest.items wakes }
+    {
+        Program {
+            roles,
+            identifiers,
+            starts,
+            rest,
+            wakes,
+        }
+    }
+
     /// A role for each expression, in the order of the list.
     pub fn roles(&self) -> &[Role<E>]
-        ensures { result.now ≡ roles_of self.now }
+        ensures roles { result.now ≡ roles_of self.now }
+        ensures runs { IsRunnable E.meaning self.now }
     {
         &self.roles
     }
@@ -101,7 +124,8 @@ impl<E> Program<E> {
 
     /// Which roles a byte wakes, where their bytes are those of the empty stream.
     pub fn wakes(&self) -> &WakeRows
-        ensures { result.now ≡ wakes_of self.now }
+        ensures wakes { result.now ≡ wakes_of self.now }
+        ensures runs { IsRunnable E.meaning self.now }
     {
         &self.wakes
     }

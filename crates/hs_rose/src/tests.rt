@@ -1,34 +1,33 @@
-ghost use Rattle.std.specs.Prelude.{ℕ, ◌%◌, true, Bool, List};
-ghost use Rattle.hs_base.specs.Trees.{Tree};
+//! Programs of engines that run nothing.
+ghost use Rattle.std.specs.Prelude.{◌%◌, true};
 
-use crate::{Expression, Program};
-use hs_base::{ExprId, Mask, NextSet, Prev};
+use crate::{Program, Role};
+use hs_base::{ByteSet, ExprId, Mask, NextSet, Prev};
 use hs_engine::{Engine, Steps};
 use std::alloc::Global;
 use std::sync::ledger::Ledger;
 use std::test::Fail;
 
-/// An engine that runs no expression, in so many bytes.
+/// An engine that runs no expression, in so many bytes, and that every byte wakes.
 #[derive(Drop)]
-struct Idle(usize);
+struct Idle {
+    width: usize,
+    wakers: ByteSet,
+}
 
 impl Engine for Idle {
-    ghost width = { λ e. e.0 % 256 };
-
-    ghost is_for = { λ e tree. ⊥ };
-
-    ghost field = { λ e bytes tree u entered. Unit {0} };
-
-    ghost rests = { λ e bytes. ⊥ };
-
-    ghost sleeps = { λ e bytes b. ⊥ };
-
-    ghost well = { λ e bytes at. Unit {0} };
-
-    ghost enters_always = { λ e. true };
+    ghost meaning = { λ e. record {
+      width = e.width % 256;
+      is_for = λ tree. ⊥;
+      field = λ bytes tree u entered. Unit {0};
+      well = λ bytes at. Unit {0};
+      always = true;
+      one_field = λ tree u entered region other runs. absurd runs;
+      well_formed = λ tree u entered region runs. absurd runs;
+    } };
 
     fn size(&self) -> usize {
-        self.0 % 256
+        self.width % 256
     }
 
     fn clear(&self, _region: &mut [u8]) {}
@@ -53,8 +52,8 @@ impl Engine for Idle {
         false
     }
 
-    fn sleeps(&self, _region: &[u8], _byte: u8) -> bool {
-        false
+    fn wakers(&self) -> &ByteSet {
+        &self.wakers
     }
 
     fn well_formed(&self, _region: &[u8], _at: u64) -> bool {
@@ -63,15 +62,19 @@ impl Engine for Idle {
 }
 
 /// Expressions of these identifiers, lengths of regions, and whether the identifier is single.
-fn expressions(alloc: Global, rows: &[(u32, usize, bool)]) -> Result<Vec<Expression<Idle>>, Fail> {
+fn expressions(alloc: Global, rows: &[(u32, usize, bool)]) -> Result<Vec<Role<Idle>>, Fail> {
     let mut all = Vec::new(alloc);
     for (id, width, single) in rows {
-        all.push(Expression {
+        all.push(Role {
             id: ExprId(*id),
             single: *single,
+            identifier: 0,
             min_offset: u64::from(*id),
             max_offset: u64::MAX,
-            engine: Idle(*width),
+            engine: Idle {
+                width: *width,
+                wakers: ByteSet::ALL,
+            },
             null: Mask::empty(),
         })?;
     }
@@ -116,7 +119,7 @@ fn gives_each_expression_its_role_and_each_identifier_its_place(
                 (0, 1, false),
                 (2, 9, false),
             ],
-            "2 5 0, 1 2 2, 2 5 2, 0 0 6, 1 2 7, 0 false, 2 false, 5 true, 16",
+            "2 5 0, 1 2 2, 2 5 2, 0 0 6, 1 2 7, 0 false, 2 false, 5 false, 16",
         ),
         (
             &[(4_294_967_295, 64, false), (4_294_967_295, 64, false)],
@@ -138,7 +141,7 @@ fn takes_a_list_of_65536_expressions(rt: HostRuntime) -> Result<(), Fail> {
     let alloc = rt.alloc();
     let mut rows = Vec::new(alloc);
     for place in 0..65_536u32 {
-        rows.push((65_536 - place / 2, 1, place == 9))?;
+        rows.push((65_536 - place / 2, 1, place / 2 == 4 || place == 9000))?;
     }
     let list = expressions(alloc, &rows)?;
     assert!(rt; list.len() == 65_536);

@@ -1,23 +1,23 @@
 //! Which roles a byte wakes, as rows of bits: all others may be passed over with it, while they are at rest.
 
-ghost use Rattle.std.specs.Prelude.{◌≡◌, ℕ, ◌*◌, ◌<◌, ◌^◌, false, IfOk, IsTrue, length, vec_len};
+ghost use Rattle.std.specs.Prelude.{◌≡◌, ℕ, ◌*◌, ◌<◌, ◌^◌, false, List, IfOk, IsTrue, length, vec_len};
 ghost use Rattle.hs_base.specs.ByteSets.{has};
-ghost use Rattle.hs_engine.specs.Bits.{AreZero};
+ghost use Rattle.hs_base.specs.Bits.{AreZero, word_count};
 ghost use Rattle.hs_rose.specs.Passing.{ArePassed, IsPassed};
-ghost use Rattle.hs_rose.specs.Regions.{IsLaid};
-ghost use Rattle.hs_rose.specs.WordBits.{word_count};
+ghost use Rattle.hs_engine.specs.Engines.{IsStart};
+ghost use Rattle.hs_rose.specs.Regions.{AreStarted, AreWell, IsLaid};
 
 use crate::program::Role;
-use crate::word_bits::{is_unset, put_bit, word_count_for};
 use hs_base::{ByteSet, Mask};
+use hs_bits::{is_unset, word_count_for, write_word_bit};
 use hs_engine::Engine;
 use std::alloc::{AllocError, Global};
 
-/// How many bytes there are.
-const BYTE_COUNT: usize = 256;
+/// How many rows there are: one for each byte.
+const ROW_COUNT: usize = 256;
 
-/// For each byte a row of bits, a bit for each role. Where it is not set, the role may be passed over with that byte while
-/// its part of the region is that of the empty stream.
+/// For each byte a row of bits, a bit for each role. Where it is not set, the role may be passed over with that byte
+/// while its part of the region is that of the empty stream.
 #[derive(Debug, Drop)]
 pub struct WakeRows {
     /// The rows, one behind the other.
@@ -40,14 +40,16 @@ impl WakeRows {
         rest: &[u8],
     ) -> Result<WakeRows, AllocError>
         requires few { length roles.now < 2 ^ 32 }
-        requires laid { IsLaid E.width roles.now starts.now (length rest.now) }
-        ensures { IfOk result (AreRowsOf E.is_for E.field E.well E.enters_always roles.now starts.now rest.now) }
+        requires laid { IsLaid E.meaning roles.now starts.now (length rest.now) }
+        requires well { (at : ℕ) → AreWell E.meaning roles.now starts.now rest.now at }
+        requires starts { AreStarted E.meaning roles.now starts.now rest.now }
+        ensures { IfOk result (AreRowsOf E.meaning roles.now starts.now rest.now) }
     {
         let row_len = word_count_for(roles.len());
         let mut row = vec![in alloc; 0u64; row_len]?;
-        let mut words = Vec::with_capacity(alloc, row_len * BYTE_COUNT)?;
+        let mut words = Vec::with_capacity(alloc, row_len * ROW_COUNT)?;
         let mut wakers = ByteSet::EMPTY;
-        for byte in 0..BYTE_COUNT {
+        for byte in 0..ROW_COUNT {
             fill_row(roles, starts, rest, byte as u8, &mut row);
             add_waker(&mut wakers, byte as u8, &row);
             words.extend_from_slice(&row)?;
@@ -85,14 +87,16 @@ impl WakeRows {
 
 /// Makes it the row of the byte: a bit for each role, set where the role may not be passed over with that byte.
 fn fill_row<E: Engine>(roles: &[Role<E>], starts: &[usize], rest: &[u8], byte: u8, row: &mut [u64])
-    requires laid { IsLaid E.width roles.now starts.now (length rest.now) }
+    requires laid { IsLaid E.meaning roles.now starts.now (length rest.now) }
+    requires well { (at : ℕ) → AreWell E.meaning roles.now starts.now rest.now at }
+    requires starts { AreStarted E.meaning roles.now starts.now rest.now }
     requires room { length row.old ≡ word_count (length roles.now) }
     ensures len { length row.new ≡ length row.old }
-    ensures passed { ArePassed E.is_for E.field E.well E.enters_always roles.now starts.now rest.now row.new byte }
+    ensures passed { ArePassed E.meaning roles.now starts.now rest.now row.new byte }
 {
     for k in 0..roles.len() {
-        let passed = passes(&roles[k], &rest[starts[k]..starts[k + 1]], byte);
-        put_bit(row, k, !passed);
+        let passed = passes(&roles[k], byte);
+        write_word_bit(row, k, !passed);
     }
 }
 
@@ -106,11 +110,13 @@ fn add_waker(wakers: &mut ByteSet, byte: u8, row: &[u64])
     }
 }
 
-/// Whether the byte may be passed over for the role: no match of it ends before the byte nor behind it, and its bytes stay
-/// as they are.
-fn passes<E: Engine>(role: &Role<E>, part: &[u8], byte: u8) -> bool
-    requires { length part.now ≡ E.width role.now.engine }
-    ensures { IsTrue result → IsPassed E.is_for E.field E.well E.enters_always role.now part.now byte }
+/// Whether the byte may be passed over for the role, where its part is that of the empty stream: no match of it ends
+/// before the byte nor behind it, and its bytes stay as they are.
+fn passes<E: Engine>(role: &Role<E>, byte: u8) -> bool
+    ensures { IsTrue result → (part : List ℕ) →
+        IsStart (E.meaning role.now.engine) part →
+        ((at : ℕ) → (E.meaning role.now.engine).well part at) →
+        IsPassed E.meaning role.now part byte }
 {
-    role.null == Mask::empty() && role.engine.sleeps(part, byte)
+    role.null == Mask::empty() && !role.engine.wakers().contains(byte)
 }

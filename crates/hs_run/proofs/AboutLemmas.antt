@@ -2,6 +2,7 @@
 use Rattle.std.proofs.Common.{◌≡◌, ◌↔◌, ◌⊎◌, ℕ, zero, suc, ◌+◌, ◌<◌, Bool, true, false, ◌||◌, List, [], ◌∷◌, ◌++◌, take, set, Some, slice_get, refl, sym, ap, subst, ◌∙◌, inl, inr, arith}
 use Rattle.std.proofs.lemmas.Bool.{cases_eq}
 use Rattle.std.proofs.lemmas.Option.{same_Some}
+use Rattle.hs_engine.specs.Engines.{Meaning}
 use Rattle.hs_base.specs.declared.context.Next.{Next}
 use Rattle.hs_base.specs.declared.context.Next.TheVariants as after
 use Rattle.hs_base.specs.Assertions.{line_feed}
@@ -137,12 +138,12 @@ about-none u b identifiers ends none i identifier e named at =
       behind = (λ never. absurd (cc), λ has. absurd has);
     })
 
-pub about-more : {E : Type 0} (IsFor : E → Tree → Type 0) (Field : Tree → List ℕ → List Bool → Type 0) (roles : List (Role E)) (identifiers : List Identifier) (P : List Pattern) → AreRolesOf IsFor roles identifiers P →
+pub about-more : {E : Type 0} (meaning : E → Meaning) (Field : Tree → List ℕ → List Bool → Type 0) (roles : List (Role E)) (identifiers : List Identifier) (P : List Pattern) → AreRolesOf meaning roles identifiers P →
     (u : List ℕ) (b k : ℕ) (r : Role E) (x : Pattern) → slice_get roles k ≡ Some r → slice_get P k ≡ Some x →
     (ends : List EndsAbout) (old new : EndsAbout) → slice_get ends r.identifier ≡ Some old → IsMoved Field x u b (ends_of old) (ends_of new) →
     AreEndsAbout (take k P) u b identifiers ends → AreEndsAbout (take (k + 1) P) u b identifiers (set ends r.identifier new)
-about-more IsFor Field roles identifiers P are u b k r x role pattern ends old new here moved about i identifier e named at =
-    let is : IsRoleOf IsFor identifiers r x = are.each k r x role pattern in
+about-more meaning Field roles identifiers P are u b k r x role pattern ends old new here moved about i identifier e named at =
+    let is : IsRoleOf meaning identifiers r x = are.each k r x role pattern in
     subst (λ xs. AreEnds xs u b identifier.id.0 (ends_of e)) (sym (take-more P k x pattern))
     (elim (cases_eq i r.identifier) [
       | inl same ↦
@@ -165,12 +166,12 @@ last-none u identifiers ends none i identifier e named at =
     let is : e ≡ no_ends = none i e at in
     (λ never. absurd (let f : false ≡ true = sym (ap (λ v. v.behind) is) ∙ never in cc), λ has. absurd has)
 
-pub last-ends : {E : Type 0} (IsFor : E → Tree → Type 0) (roles : List (Role E)) (identifiers : List Identifier) (P : List Pattern) → AreRolesOf IsFor roles identifiers P →
+pub last-ends : {E : Type 0} (meaning : E → Meaning) (roles : List (Role E)) (identifiers : List Identifier) (P : List Pattern) → AreRolesOf meaning roles identifiers P →
     (u : List ℕ) (k : ℕ) (r : Role E) (x : Pattern) → slice_get roles k ≡ Some r → slice_get P k ≡ Some x →
     (ends : List EndsAbout) (old new : EndsAbout) → slice_get ends r.identifier ≡ Some old → (new.behind ≡ true) ↔ ((old.behind ≡ true) ⊎ EndsHere x.id u after.End x) →
     AreLastEnds (take k P) u identifiers ends → AreLastEnds (take (k + 1) P) u identifiers (set ends r.identifier new)
-last-ends IsFor roles identifiers P are u k r x role pattern ends old new here joins about i identifier e named at =
-    let is : IsRoleOf IsFor identifiers r x = are.each k r x role pattern in
+last-ends meaning roles identifiers P are u k r x role pattern ends old new here joins about i identifier e named at =
+    let is : IsRoleOf meaning identifiers r x = are.each k r x role pattern in
     subst (λ xs. (e.behind ≡ true) ↔ HasEndHere xs identifier.id.0 u after.End) (sym (take-more P k x pattern))
     (elim (cases_eq i r.identifier) [
       | inl same ↦

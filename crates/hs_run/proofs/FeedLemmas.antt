@@ -1,15 +1,15 @@
 -- What one byte, many bytes and the end make of a state, over plain values.
-use Rattle.std.proofs.Common.{◌≡◌, ◌↔◌, ℕ, zero, suc, ◌+◌, ◌-◌, Bool, true, List, [], ◌∷◌, ◌++◌, length, eqb, Some, slice_get, sym, ap, subst, ◌∙◌, inl, inr, arith, append_assoc}
+use Rattle.std.proofs.Common.{◌≡◌, ◌↔◌, ℕ, ◌+◌, ◌-◌, Bool, true, List, [], ◌∷◌, ◌++◌, length, eqb, Some, slice_get, sym, subst, ◌∙◌, arith, append_assoc}
 use Rattle.std.proofs.lemmas.List.{append-nil}
-use Rattle.std.proofs.lemmas.Option.{same_Some, slice_get_within}
+use Rattle.std.proofs.lemmas.Option.{slice_get_within}
+use Rattle.hs_engine.specs.Engines.{Meaning}
 use Rattle.hs_base.specs.Assertions.{line_feed, is_word_byte}
 use Rattle.hs_base.specs.Contexts.{prev_by}
 use Rattle.hs_base.specs.Lists.{IsMember}
-use Rattle.hs_base.specs.Trees.{Tree}
 use Rattle.hs_base.specs.Patterns.{Pattern}
 use Rattle.hs_base.specs.Told.{Pair, IsNew, IsLast}
 use Rattle.hs_base.specs.Settling.{IsKept, IsLeftToEnd, AreIdentifiers, tells_end}
-use Rattle.hs_base.proofs.ListLemmas.{each-of_members}
+use Rattle.hs_base.proofs.ListLemmas.{each-of_members, member-place, place-member}
 use Rattle.hs_base.proofs.NewLemmas.{new_nothing, told_more}
 use Rattle.hs_base.proofs.ToldLemmas.{new-joins}
 use Rattle.hs_base.proofs.SettlingLemmas.{IsSettled, byte-settled, end-settled}
@@ -35,35 +35,25 @@ use Rattle.hs_run.proofs.ReportingLemmas.{id-at, tell-each}
 
 -- the identifiers of a program are those of its patterns
 
-member-place : {A : Type 0} (xs : List A) (x : A) → IsMember x xs → (k : ℕ) × (slice_get xs k ≡ Some x)
-member-place [] x member = absurd member
-member-place (y ∷ xs) x (inl same) = (zero, ap (λ z. Some z) (sym same))
-member-place (y ∷ xs) x (inr member) = let (k, at) = member-place xs x member in (suc k, at)
-
-place-member : {A : Type 0} (xs : List A) (x : A) (k : ℕ) → slice_get xs k ≡ Some x → IsMember x xs
-place-member [] x k at = absurd (cc)
-place-member (y ∷ xs) x zero at = inl (sym (same_Some y x at))
-place-member (y ∷ xs) x (suc k) at = inr (place-member xs x k at)
-
-pub runs-identifiers : {E : Type 0} (IsFor : E → Tree → Type 0) (roles : List (Role E)) (identifiers : List Identifier) (P : List Pattern) → AreRolesOf IsFor roles identifiers P → AreIdentifiers P (ids_of identifiers)
-runs-identifiers IsFor roles identifiers P are = record {
+pub runs-identifiers : {E : Type 0} (meaning : E → Meaning) (roles : List (Role E)) (identifiers : List Identifier) (P : List Pattern) → AreRolesOf meaning roles identifiers P → AreIdentifiers P (ids_of identifiers)
+runs-identifiers meaning roles identifiers P are = record {
   rising = are.rising;
   each = each-of_members (λ x. IsMember x.id (ids_of identifiers)) P (λ x member.
       let (k, at) = member-place P x member in
       let (r, role) = there roles k (omega (arith, are.count, slice_get_within P k x at)) in
-      let is : IsRoleOf IsFor identifiers r x = are.each k r x role at in
+      let is : IsRoleOf meaning identifiers r x = are.each k r x role at in
       subst (λ n. IsMember n (ids_of identifiers)) is.id
       (place-member (ids_of identifiers) is.identifier.id.0 r.identifier (id-at identifiers r.identifier is.identifier is.named)));
 }
 
-module _ {E : Type 0} (IsFor : E → Tree → Type 0) (Field : E → List ℕ → Tree → List ℕ → List Bool → Type 0) (program : Program E) where
+module _ {E : Type 0} (meaning : E → Meaning) (program : Program E) where
   -- One byte.
   pub byte-feeds : (old new : State) (b : ℕ) (ends : List EndsAbout) →
-      MovesRoles IsFor Field (roles_of program) (starts_of program) old.region.items new.region.items old.prev old.offset b ends →
+      MovesRoles meaning (roles_of program) (starts_of program) old.region.items new.region.items old.prev old.offset b ends →
       length old.kept.items ≡ length (identifiers_of program) → length ends ≡ length (identifiers_of program) → length new.kept.items ≡ length (identifiers_of program) →
       AreSettled (identifiers_of program) old.kept.items ends new.kept.items →
       new.offset ≡ old.offset + 1 → new.prev ≡ prev_by (eqb b line_feed) (is_word_byte b) →
-      Feeds IsFor Field program old new (b ∷ [])
+      Feeds meaning program old new (b ∷ [])
       (pairs_at BeforeByte (identifiers_of program) old.kept.items ends old.offset ++ pairs_at BehindByte (identifiers_of program) old.kept.items ends (old.offset + 1))
   byte-feeds old new b ends moves kept noted keeps settles offset prev P u told runs is told_is =
       let ids : List Identifier = identifiers_of program in
@@ -91,31 +81,31 @@ module _ {E : Type 0} (IsFor : E → Tree → Type 0) (Field : E → List ℕ �
         };
         new =
             subst (λ n. IsNew P u (b ∷ []) (pairs_at BeforeByte ids old.kept.items ends n ++ pairs_at BehindByte ids old.kept.items ends (n + 1))) (sym is.offset)
-            (byte-new P u b (ids_of ids) befores behinds (runs-identifiers IsFor (roles_of program) ids P runs) told_before told_behind told told_is);
+            (byte-new P u b (ids_of ids) befores behinds (runs-identifiers meaning (roles_of program) ids P runs) told_before told_behind told told_is);
       }
 
   -- No byte, and more bytes.
-  pub feeds-none : (state : State) → Feeds IsFor Field program state state [] []
+  pub feeds-none : (state : State) → Feeds meaning program state state [] []
   feeds-none state P u told runs is told_is = record {
-    state = subst (λ s. IsStateOf Field program P s state) (sym (append-nil u)) is;
+    state = subst (λ s. IsStateOf meaning program P s state) (sym (append-nil u)) is;
     new = new_nothing P u told told_is;
   }
 
-  pub feeds-more : (old between new : State) (xs ys : List ℕ) (ps qs : List Pair) → Feeds IsFor Field program old between xs ps → Feeds IsFor Field program between new ys qs → Feeds IsFor Field program old new (xs ++ ys) (ps ++ qs)
+  pub feeds-more : (old between new : State) (xs ys : List ℕ) (ps qs : List Pair) → Feeds meaning program old between xs ps → Feeds meaning program between new ys qs → Feeds meaning program old new (xs ++ ys) (ps ++ qs)
   feeds-more old between new xs ys ps qs first second P u told runs is told_is =
       let before = first P u told runs is told_is in
       let after = second P (u ++ xs) (told ++ ps) runs before.state (told_more P u xs told ps told_is before.new) in
       record {
-        state = subst (λ s. IsStateOf Field program P s new) (append_assoc u xs ys) after.state;
+        state = subst (λ s. IsStateOf meaning program P s new) (append_assoc u xs ys) after.state;
         new = new-joins P u xs ys ps qs before.new after.new;
       }
 
-  pub takes-none : {V : Type 0} (Tells : V → ℕ → ℕ → V → Type 0) (events : V) (state : State) → Takes Tells events events (Feeds IsFor Field program state state [])
+  pub takes-none : {V : Type 0} (Tells : V → ℕ → ℕ → V → Type 0) (events : V) (state : State) → Takes Tells events events (Feeds meaning program state state [])
   takes-none Tells events state = record { pairs = []; through = still; holds = feeds-none state }
 
   pub takes-more : {V : Type 0} (Tells : V → ℕ → ℕ → V → Type 0) (start middle end : V) (old between new : State) (xs ys : List ℕ) →
-      Takes Tells start middle (Feeds IsFor Field program old between xs) → Takes Tells middle end (Feeds IsFor Field program between new ys) →
-      Takes Tells start end (Feeds IsFor Field program old new (xs ++ ys))
+      Takes Tells start middle (Feeds meaning program old between xs) → Takes Tells middle end (Feeds meaning program between new ys) →
+      Takes Tells start end (Feeds meaning program old new (xs ++ ys))
   takes-more Tells start middle end old between new xs ys first second = record {
     pairs = first.pairs ++ second.pairs;
     through = through-join Tells first.through second.through;
@@ -124,9 +114,9 @@ module _ {E : Type 0} (IsFor : E → Tree → Type 0) (Field : E → List ℕ �
 
   -- The end.
   pub end-finishes : (state : State) (ends : List EndsAbout) →
-      EndsRoles IsFor Field (roles_of program) (starts_of program) state.region.items state.prev state.offset ends →
+      EndsRoles meaning (roles_of program) (starts_of program) state.region.items state.prev state.offset ends →
       length state.kept.items ≡ length (identifiers_of program) → length ends ≡ length (identifiers_of program) →
-      Finishes IsFor Field program state
+      Finishes meaning program state
       (pairs_at BeforeLastByte (identifiers_of program) state.kept.items ends (state.offset - 1) ++ pairs_at AtEnd (identifiers_of program) state.kept.items ends state.offset)
   end-finishes state ends closes kept noted P u runs is =
       let ids : List Identifier = identifiers_of program in
@@ -139,43 +129,43 @@ module _ {E : Type 0} (IsFor : E → Tree → Type 0) (Field : E → List ℕ �
       subst (λ single. (tells_end single (kept_of k) e.behind ≡ true) ↔ IsNewAtEnd P u x.id.0) (sym (runs.single i x at))
       (end-settled P u x.id.0 (kept_of k) e.behind (is.kept i x k at at') (about i x e at at''))) in
       subst (λ n. IsLast P u (pairs_at BeforeLastByte ids state.kept.items ends (n - 1) ++ pairs_at AtEnd ids state.kept.items ends n)) (sym is.offset)
-      (last-reports P u (ids_of ids) lasts lates (runs-identifiers IsFor (roles_of program) ids P runs) told_last told_end)
+      (last-reports P u (ids_of ids) lasts lates (runs-identifiers meaning (roles_of program) ids P runs) told_last told_end)
 
   -- From what the calls say.
   pub byte-takes : {V : Type 0} (Tells : V → ℕ → ℕ → V → Type 0) (start end : V) (old new : State) (b : ℕ) (roles : List (Role E)) (starts bytes moved : List ℕ) (ends : List EndsAbout) →
       roles ≡ roles_of program → starts ≡ starts_of program → bytes ≡ old.region.items → moved ≡ new.region.items →
-      MovesRoles IsFor Field roles starts bytes moved old.prev old.offset b ends →
+      MovesRoles meaning roles starts bytes moved old.prev old.offset b ends →
       length old.kept.items ≡ length (identifiers_of program) → length ends ≡ length (identifiers_of program) → length new.kept.items ≡ length (identifiers_of program) →
       AreSettled (identifiers_of program) old.kept.items ends new.kept.items →
       new.offset ≡ old.offset + 1 → new.prev ≡ prev_by (eqb b line_feed) (is_word_byte b) →
       Through Tells start (pairs_about (identifiers_of program) old.kept.items ends old.offset) end →
-      Takes Tells start end (Feeds IsFor Field program old new (b ∷ []))
+      Takes Tells start end (Feeds meaning program old new (b ∷ []))
   byte-takes Tells start end old new b roles starts bytes moved ends is_roles is_starts is_bytes is_moved moves kept noted keeps settles offset prev told = record {
     pairs = pairs_about (identifiers_of program) old.kept.items ends old.offset;
     through = told;
     holds =
         byte-feeds old new b ends
-        (subst (λ rs. MovesRoles IsFor Field rs (starts_of program) old.region.items new.region.items old.prev old.offset b ends) is_roles
-        (subst (λ ss. MovesRoles IsFor Field roles ss old.region.items new.region.items old.prev old.offset b ends) is_starts
-        (subst (λ bs. MovesRoles IsFor Field roles starts bs new.region.items old.prev old.offset b ends) is_bytes
-        (subst (λ bs. MovesRoles IsFor Field roles starts bytes bs old.prev old.offset b ends) is_moved moves))))
+        (subst (λ rs. MovesRoles meaning rs (starts_of program) old.region.items new.region.items old.prev old.offset b ends) is_roles
+        (subst (λ ss. MovesRoles meaning roles ss old.region.items new.region.items old.prev old.offset b ends) is_starts
+        (subst (λ bs. MovesRoles meaning roles starts bs new.region.items old.prev old.offset b ends) is_bytes
+        (subst (λ bs. MovesRoles meaning roles starts bytes bs old.prev old.offset b ends) is_moved moves))))
         kept noted keeps settles offset prev;
   }
 
   pub end-takes : {V : Type 0} (Tells : V → ℕ → ℕ → V → Type 0) (start middle end : V) (state : State) (roles : List (Role E)) (starts bytes : List ℕ) (ends : List EndsAbout) →
       roles ≡ roles_of program → starts ≡ starts_of program → bytes ≡ state.region.items →
-      EndsRoles IsFor Field roles starts bytes state.prev state.offset ends →
+      EndsRoles meaning roles starts bytes state.prev state.offset ends →
       length state.kept.items ≡ length (identifiers_of program) → length ends ≡ length (identifiers_of program) →
       Through Tells start (pairs_at BeforeLastByte (identifiers_of program) state.kept.items ends (state.offset - 1)) middle →
       Through Tells middle (pairs_at AtEnd (identifiers_of program) state.kept.items ends state.offset) end →
-      Takes Tells start end (Finishes IsFor Field program state)
+      Takes Tells start end (Finishes meaning program state)
   end-takes Tells start middle end state roles starts bytes ends is_roles is_starts is_bytes closes kept noted first second = record {
     pairs = pairs_at BeforeLastByte (identifiers_of program) state.kept.items ends (state.offset - 1) ++ pairs_at AtEnd (identifiers_of program) state.kept.items ends state.offset;
     through = through-join Tells first second;
     holds =
         end-finishes state ends
-        (subst (λ rs. EndsRoles IsFor Field rs (starts_of program) state.region.items state.prev state.offset ends) is_roles
-        (subst (λ ss. EndsRoles IsFor Field roles ss state.region.items state.prev state.offset ends) is_starts
-        (subst (λ bs. EndsRoles IsFor Field roles starts bs state.prev state.offset ends) is_bytes closes)))
+        (subst (λ rs. EndsRoles meaning rs (starts_of program) state.region.items state.prev state.offset ends) is_roles
+        (subst (λ ss. EndsRoles meaning roles ss state.region.items state.prev state.offset ends) is_starts
+        (subst (λ bs. EndsRoles meaning roles starts bs state.prev state.offset ends) is_bytes closes)))
         kept noted;
   }

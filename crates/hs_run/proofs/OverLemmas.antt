@@ -1,30 +1,28 @@
 -- Bytes that are passed over: no role is gone through, no match ends, and nothing is reported.
-use Rattle.std.proofs.Common.{◌≡◌, ℕ, zero, suc, ◌+◌, ◌-◌, ◌<◌, ◌≤◌, Bool, true, false, ◌||◌, List, [], ◌∷◌, ◌++◌, length, replicate, get_or, take, drop, eqb, length-drop, length-take-le, Some, slice_get, refl, sym, ap, subst, ◌∙◌, inl, inr, arith}
+use Rattle.std.proofs.Common.{◌≡◌, ℕ, suc, ◌+◌, ◌-◌, ◌<◌, ◌≤◌, Bool, true, false, ◌||◌, List, [], ◌∷◌, ◌++◌, length, replicate, get_or, take, drop, eqb, length-drop, length-take-le, Some, slice_get, refl, sym, ap, subst, ◌∙◌, arith}
 use Rattle.std.specs.List.{slice_range}
-use Rattle.std.specs.Slice.Scan.{HoldsNowhere}
 use Rattle.std.proofs.lemmas.List.{get_or-replicate, length-replicate, get_or-drop, get_or-take, take_more}
 use Rattle.std.proofs.Math.Seq.{take-add}
 use Rattle.std.proofs.lemmas.Option.{same_Some, slice_get-get_or, slice_get_within, get_or_from_slice_get}
-use Rattle.hs_base.specs.declared.context.Prev.{Prev}
+use Rattle.hs_engine.specs.Engines.{Meaning}
 use Rattle.hs_base.specs.Assertions.{line_feed, is_word_byte}
 use Rattle.hs_base.specs.Contexts.{prev_by}
 use Rattle.hs_base.specs.Settling.{Kept, settled}
-use Rattle.hs_base.specs.Trees.{Tree}
 use Rattle.hs_rose.specs.declared.program.Program.{Program}
 use Rattle.hs_rose.specs.declared.program.Identifier.{Identifier}
 use Rattle.hs_rose.specs.Passing.{ArePassed}
 use Rattle.hs_rose.specs.Programs.{roles_of, identifiers_of, starts_of}
-use Rattle.hs_rose.specs.Regions.{part_of, AreWell}
-use Rattle.hs_rose.specs.WordBits.{has_word_bit}
+use Rattle.hs_base.specs.Bits.{has_word_bit}
 use Rattle.hs_run.specs.declared.ends.Ends.{Ends as EndsAbout}
 use Rattle.hs_run.specs.declared.state.Kept.{Kept as KeptOf}
 use Rattle.hs_run.specs.declared.state.State.{State}
 use Rattle.hs_run.specs.Events.{Takes, still}
 use Rattle.hs_run.specs.Feeding.{Feeds}
-use Rattle.hs_run.specs.Reporting.{pairs_about, AreClosed, AreSettled}
-use Rattle.hs_run.specs.Running.{AreNamed, AreNoEnds, MovesRoles, ends_of, no_ends}
+use Rattle.hs_run.specs.Reporting.{AreClosed, AreSettled}
+use Rattle.hs_run.specs.Running.{AreNoEnds, ends_of, no_ends}
+use Rattle.hs_rose.specs.Runnable.{AreNamed}
 use Rattle.hs_run.specs.States.{FitsState, kept_of}
-use Rattle.hs_run.specs.Waking.{stirs, AreAtRest}
+use Rattle.hs_run.specs.Waking.{AreAtRest}
 use Rattle.hs_run.proofs.FeedLemmas.{byte-feeds, feeds-none, feeds-more, takes-more}
 use Rattle.hs_run.proofs.ReportingLemmas.{about-silent}
 use Rattle.hs_run.proofs.StepLemmas.{AreDone, done-none, done-over, done-moves, done-well}
@@ -72,58 +70,58 @@ stays-settled xs ks es closed none i x k k' e at at' at'' at''' =
     let (here, last) = closed i k at' in
     ap kept_of (sym same) ∙ (stays-kept x.single k here last ∙ ap (λ f. settled x.single (kept_of k) (ends_of f)) (sym (none i e at'')))
 
-module _ {E : Type 0} (IsFor : E → Tree → Type 0) (Field : E → List ℕ → Tree → List ℕ → List Bool → Type 0) (Well : E → List ℕ → ℕ → Type 0) (always : E → Bool) (width : E → ℕ) (program : Program E)
+module _ {E : Type 0} (meaning : E → Meaning) (program : Program E)
     (rest live : List ℕ) (named : AreNamed (roles_of program) (length (identifiers_of program))) (quiet : (k : ℕ) → has_word_bit live k ≡ false) where
   -- A byte may be passed over where all roles are at rest: by some row without a bit all may be.
   pub record IsOver (b : ℕ) : Type 0 where
     pub row : List ℕ
     pub none : (k : ℕ) → has_word_bit row k ≡ false
-    pub passed : ArePassed IsFor Field Well always (roles_of program) (starts_of program) rest row b
+    pub passed : ArePassed meaning (roles_of program) (starts_of program) rest row b
 
-  module _ (state : State) (fits : FitsState Well program state) (closed : AreClosed state.kept.items) (rests : AreAtRest (starts_of program) (length (roles_of program)) state.region.items rest live) where
-    over-done : (b : ℕ) (over : IsOver b) → AreDone IsFor Field Well always width (roles_of program) (starts_of program) rest over.row state.region.items state.prev state.offset b (length (identifiers_of program)) (length (roles_of program)) state.region.items live false (replicate (length (identifiers_of program)) no_ends)
+  module _ (state : State) (fits : FitsState meaning program state) (closed : AreClosed state.kept.items) (rests : AreAtRest (starts_of program) (length (roles_of program)) state.region.items rest live) where
+    over-done : (b : ℕ) (over : IsOver b) → AreDone meaning (roles_of program) (starts_of program) rest over.row state.region.items state.prev state.offset b (length (identifiers_of program)) (length (roles_of program)) state.region.items live false (replicate (length (identifiers_of program)) no_ends)
     over-done b over =
-        subst (λ n. AreDone IsFor Field Well always width (roles_of program) (starts_of program) rest over.row state.region.items state.prev state.offset b (length (identifiers_of program)) n state.region.items live false (replicate (length (identifiers_of program)) no_ends))
+        subst (λ n. AreDone meaning (roles_of program) (starts_of program) rest over.row state.region.items state.prev state.offset b (length (identifiers_of program)) n state.region.items live false (replicate (length (identifiers_of program)) no_ends))
         (let e : 0 + length (roles_of program) ≡ length (roles_of program) = omega arith in e)
-        (done-over IsFor Field Well always width (roles_of program) (starts_of program) rest over.row state.region.items state.prev state.offset b (length (identifiers_of program))
-        fits.well named over.passed (length (roles_of program)) 0 state.region.items live false (replicate (length (identifiers_of program)) no_ends)
-        (done-none IsFor Field Well always width (roles_of program) (starts_of program) rest over.row state.region.items state.prev state.offset b (length (identifiers_of program)) live (replicate (length (identifiers_of program)) no_ends)
+        (done-over meaning (roles_of program) (starts_of program) rest over.row state.region.items state.prev state.offset b (length (identifiers_of program))
+        named over.passed (length (roles_of program)) 0 state.region.items live false (replicate (length (identifiers_of program)) no_ends)
+        (done-none meaning (roles_of program) (starts_of program) rest over.row state.region.items state.prev state.offset b (length (identifiers_of program)) live (replicate (length (identifiers_of program)) no_ends)
         (length-replicate {A = EndsAbout} (length (identifiers_of program)) no_ends) (none-at (length (identifiers_of program))) rests)
         (omega arith)
         (λ k above below. ap (λ v. v || has_word_bit over.row k) (quiet k) ∙ over.none k))
 
-    pub over-one : (b : ℕ) → IsOver b → FitsState Well program (state_behind state b) × Feeds IsFor Field program state (state_behind state b) (b ∷ []) []
+    pub over-one : (b : ℕ) → IsOver b → FitsState meaning program (state_behind state b) × Feeds meaning program state (state_behind state b) (b ∷ []) []
     over-one b over =
         let done = over-done b over in (
           record {
             kept = fits.kept;
             region = fits.region;
-            well = done-well IsFor Field Well always width (roles_of program) (starts_of program) rest over.row state.region.items state.prev state.offset b (length (identifiers_of program)) state.region.items live false (replicate (length (identifiers_of program)) no_ends) done;
+            well = done-well meaning (roles_of program) (starts_of program) rest over.row state.region.items state.prev state.offset b (length (identifiers_of program)) state.region.items live false (replicate (length (identifiers_of program)) no_ends) done;
           },
-          subst (Feeds IsFor Field program state (state_behind state b) (b ∷ []))
+          subst (Feeds meaning program state (state_behind state b) (b ∷ []))
               (about-silent (identifiers_of program) state.kept.items (replicate (length (identifiers_of program)) no_ends) (none-at (length (identifiers_of program))) state.offset)
-              (byte-feeds IsFor Field program state (state_behind state b) b (replicate (length (identifiers_of program)) no_ends)
-              (done-moves IsFor Field Well always width (roles_of program) (starts_of program) rest over.row state.region.items state.prev state.offset b (length (identifiers_of program)) state.region.items live false (replicate (length (identifiers_of program)) no_ends) done)
+              (byte-feeds meaning program state (state_behind state b) b (replicate (length (identifiers_of program)) no_ends)
+              (done-moves meaning (roles_of program) (starts_of program) rest over.row state.region.items state.prev state.offset b (length (identifiers_of program)) state.region.items live false (replicate (length (identifiers_of program)) no_ends) done)
               fits.kept (length-replicate {A = EndsAbout} (length (identifiers_of program)) no_ends) fits.kept
               (stays-settled (identifiers_of program) state.kept.items (replicate (length (identifiers_of program)) no_ends) closed (none-at (length (identifiers_of program))))
               refl refl),
         )
 
   -- so it is with all of these
-  pub over-all : (bs : List ℕ) → ((i b : ℕ) → slice_get bs i ≡ Some b → IsOver b) → (state : State) → FitsState Well program state → AreClosed state.kept.items →
+  pub over-all : (bs : List ℕ) → ((i b : ℕ) → slice_get bs i ≡ Some b → IsOver b) → (state : State) → FitsState meaning program state → AreClosed state.kept.items →
       AreAtRest (starts_of program) (length (roles_of program)) state.region.items rest live →
-      FitsState Well program (state_after state bs) × Feeds IsFor Field program state (state_after state bs) bs []
-  over-all [] over state fits closed rests = (fits, feeds-none IsFor Field program state)
+      FitsState meaning program (state_after state bs) × Feeds meaning program state (state_after state bs) bs []
+  over-all [] over state fits closed rests = (fits, feeds-none meaning program state)
   over-all (b ∷ bs) over state fits closed rests =
       let (fits', first) = over-one state fits closed rests b (over 0 b refl) in
       let (fits'', then) = over-all bs (λ i x at. over (suc i) x at) (state_behind state b) fits' closed rests in
-      (fits'', feeds-more IsFor Field program state (state_behind state b) (state_after (state_behind state b) bs) (b ∷ []) bs [] [] first then)
+      (fits'', feeds-more meaning program state (state_behind state b) (state_after (state_behind state b) bs) (b ∷ []) bs [] [] first then)
 
   -- and of a text: from one place on and before another, the state behind them given
   pub over-text : (text : List ℕ) (from to : ℕ) (old new : State) → from < to → to ≤ length text → ((k : ℕ) → from ≤ k → k < to → IsOver (get_or text k 0)) →
-      FitsState Well program old → AreClosed old.kept.items → AreAtRest (starts_of program) (length (roles_of program)) old.region.items rest live →
+      FitsState meaning program old → AreClosed old.kept.items → AreAtRest (starts_of program) (length (roles_of program)) old.region.items rest live →
       new ≡ record { offset = old.offset + (to - from); prev = prev_by (eqb (get_or text (to - 1) 0) line_feed) (is_word_byte (get_or text (to - 1) 0)); kept = old.kept; region = old.region } →
-      FitsState Well program new × Feeds IsFor Field program old new (slice_range text from to) []
+      FitsState meaning program new × Feeds meaning program old new (slice_range text from to) []
   over-text text from to old new order within each fits closed rests is =
       let room : to - 1 - from < length (drop from text) = omega (arith, length-drop from text) in
       let count : length (take (to - 1 - from) (drop from text)) ≡ to - 1 - from = length-take-le (to - 1 - from) (drop from text) (omega (arith, length-drop from text)) in
@@ -138,7 +136,7 @@ module _ {E : Type 0} (IsFor : E → Tree → Type 0) (Field : E → List ℕ �
       ∙ (ap (λ k. record { offset = k; prev = prev_by (eqb (get_or text (to - 1) 0) line_feed) (is_word_byte (get_or text (to - 1) 0)); kept = old.kept; region = old.region })
       (let e : old.offset + length (take (to - 1 - from) (drop from text)) + 1 ≡ old.offset + (to - from) = omega arith in e)
       ∙ sym is)) in
-      (subst (FitsState Well program) same all.0, subst (λ s. Feeds IsFor Field program old s (slice_range text from to) []) same all.1)
+      (subst (FitsState meaning program) same all.0, subst (λ s. Feeds meaning program old s (slice_range text from to) []) same all.1)
     where
       each-byte : (i b : ℕ) → slice_get (slice_range text from to) i ≡ Some b → IsOver b
       each-byte i b at =
@@ -149,17 +147,17 @@ module _ {E : Type 0} (IsFor : E → Tree → Type 0) (Field : E → List ℕ �
           subst IsOver (sym read ∙ is_b) (each (from + i) (omega arith) (omega arith))
 
 -- no byte, at a place of a text
-pub feeds-here : {E : Type 0} (IsFor : E → Tree → Type 0) (Field : E → List ℕ → Tree → List ℕ → List Bool → Type 0) (program : Program E) (state : State) (text : List ℕ) (n : ℕ) → Feeds IsFor Field program state state (slice_range text n n) []
-feeds-here IsFor Field program state text n =
+pub feeds-here : {E : Type 0} (meaning : E → Meaning) (program : Program E) (state : State) (text : List ℕ) (n : ℕ) → Feeds meaning program state state (slice_range text n n) []
+feeds-here meaning program state text n =
     let empty : slice_range text n n ≡ [] = ap (λ k. take k (drop n text)) (let e : n - n ≡ 0 = omega arith in e) in
-    subst (λ bs. Feeds IsFor Field program state state bs []) (sym empty) (feeds-none IsFor Field program state)
+    subst (λ bs. Feeds meaning program state state bs []) (sym empty) (feeds-none meaning program state)
 
 -- nothing is reported over bytes that are passed over
-pub takes-over : {E V : Type 0} (IsFor : E → Tree → Type 0) (Field : E → List ℕ → Tree → List ℕ → List Bool → Type 0) (program : Program E) (Tells : V → ℕ → ℕ → V → Type 0) (start middle : V) (old between new : State) (text : List ℕ) (n to : ℕ) → n ≤ to →
-    Takes Tells start middle (Feeds IsFor Field program old between (take n text)) → Feeds IsFor Field program between new (slice_range text n to) [] →
-    Takes Tells start middle (Feeds IsFor Field program old new (take to text))
-takes-over IsFor Field program Tells start middle old between new text n to order first over =
+pub takes-over : {E V : Type 0} (meaning : E → Meaning) (program : Program E) (Tells : V → ℕ → ℕ → V → Type 0) (start middle : V) (old between new : State) (text : List ℕ) (n to : ℕ) → n ≤ to →
+    Takes Tells start middle (Feeds meaning program old between (take n text)) → Feeds meaning program between new (slice_range text n to) [] →
+    Takes Tells start middle (Feeds meaning program old new (take to text))
+takes-over meaning program Tells start middle old between new text n to order first over =
     let whole : take to text ≡ take n text ++ take (to - n) (drop n text) =
     ap (λ k. take k text) (let e : to ≡ n + (to - n) = omega arith in e) ∙ take-add n (to - n) text in
-    subst (λ bs. Takes Tells start middle (Feeds IsFor Field program old new bs)) (sym whole)
-    (takes-more IsFor Field program Tells start middle middle old between new (take n text) (slice_range text n to) first (record { pairs = []; through = still; holds = over }))
+    subst (λ bs. Takes Tells start middle (Feeds meaning program old new bs)) (sym whole)
+    (takes-more meaning program Tells start middle middle old between new (take n text) (slice_range text n to) first (record { pairs = []; through = still; holds = over }))

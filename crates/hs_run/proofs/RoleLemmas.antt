@@ -10,20 +10,19 @@ use Rattle.hs_base.specs.Contexts.{Context, class_of, context_of, then_bytes, th
 use Rattle.hs_base.specs.ContextSets.{has_next, has_context}
 use Rattle.hs_base.specs.Fields.{Leaves, entered_always}
 use Rattle.hs_base.specs.Patterns.{Pattern}
-use Rattle.hs_base.specs.Trees.{Tree}
 use Rattle.hs_base.specs.Spans.{Spans}
 use Rattle.hs_base.specs.Settling.{Ends, EndsHere}
 use Rattle.hs_base.proofs.EndLemmas.{behind-leaves, leaves-behind}
-use Rattle.hs_engine.specs.Engines.{IsAsleep}
+use Rattle.hs_engine.specs.Engines.{IsAsleep, Meaning}
 use Rattle.hs_rose.specs.declared.program.Role.{Role}
 use Rattle.hs_rose.specs.declared.program.Identifier.{Identifier}
 use Rattle.hs_rose.specs.Roles.{IsRoleOf}
 use Rattle.hs_run.specs.Running.{IsAt, IsEndSet, IsMoved}
-use Rattle.hs_run.proofs.StreamLemmas.{always-length, always-push}
+use Rattle.hs_run.proofs.StreamLemmas.{always-length, entered-more}
 use Rattle.hs_run.proofs.TruthLemmas.{or-true, true-or, and-true, true-and}
 
-module _ {E : Type 0} (IsFor : E → Tree → Type 0) (identifiers : List Identifier) (r : Role E) (x : Pattern) (u : List ℕ) (prev : Prev) (at : ℕ)
-    (is : IsRoleOf IsFor identifiers r x) (here : IsAt u prev at) where
+module _ {E : Type 0} (meaning : E → Meaning) (identifiers : List Identifier) (r : Role E) (x : Pattern) (u : List ℕ) (prev : Prev) (at : ℕ)
+    (is : IsRoleOf meaning identifiers r x) (here : IsAt u prev at) where
   pub null-row : (row : NextSet) → ((next : Next) → has_next row next ≡ has_context r.null (record { prev = prev; next = next })) → (next : Next) →
       (has_next row next ≡ true) ↔ Spans (then_bytes u next) (then_ended next) x.tree (length u) (length u)
   null-row row tells next =
@@ -97,9 +96,9 @@ noted_last has u b next x old new tells joins = (
 
 -- a role that is passed over
 
-no-end : {E : Type 0} (IsFor : E → Tree → Type 0) (identifiers : List Identifier) (r : Role E) (x : Pattern) (u : List ℕ) → IsRoleOf IsFor identifiers r x → ((c : Context) → has_context r.null c ≡ false) →
+no-end : {E : Type 0} (meaning : E → Meaning) (identifiers : List Identifier) (r : Role E) (x : Pattern) (u : List ℕ) → IsRoleOf meaning identifiers r x → ((c : Context) → has_context r.null c ≡ false) →
     ((next : Next) → Leaves x.tree u (entered_always u) next → ⊥) → (next : Next) → EndsHere x.id u next x → ⊥
-no-end IsFor identifiers r x u is null quiet next ends = elim (behind-leaves x.tree u next ends.from ends.spans) [
+no-end meaning identifiers r x u is null quiet next ends = elim (behind-leaves x.tree u next ends.from ends.spans) [
   | inl left ↦ quiet next left
   | inr empty ↦
       let never : has_context r.null (context_of u next) ≡ true = (is.null u next).1 empty in
@@ -111,18 +110,18 @@ no-end IsFor identifiers r x u is null quiet next ends = elim (behind-leaves x.t
 unmoved : (old : Bool) (Ends : Type 0) → (Ends → ⊥) → (old ≡ true) ↔ ((old ≡ true) ⊎ Ends)
 unmoved old Ends never = (λ is. inl is, λ either. elim either [ inl before ↦ before | inr ends ↦ absurd (never ends) ])
 
-pub asleep-moved : {E : Type 0} (IsFor : E → Tree → Type 0) (Field : E → List ℕ → Tree → List ℕ → List Bool → Type 0) (identifiers : List Identifier) (r : Role E) (x : Pattern) (u part : List ℕ) (b : ℕ) (always : Bool) →
-    IsAsleep (IsFor r.engine) (Field r.engine part) always b → ((c : Context) → has_context r.null c ≡ false) → IsRoleOf IsFor identifiers r x →
-    Field r.engine part x.tree u (entered_always u) → (ends : Ends) → IsMoved (Field r.engine part) x u b ends ends
-asleep-moved IsFor Field identifiers r x u part b always asleep null is field ends =
-    let entered : entered_always u ++ true ∷ [] ≡ entered_always (u ++ b ∷ []) = sym (always-push u b) in
+pub asleep-moved : {E : Type 0} (meaning : E → Meaning) (identifiers : List Identifier) (r : Role E) (x : Pattern) (u part : List ℕ) (b : ℕ) →
+    IsAsleep (meaning r.engine) part b → ((c : Context) → has_context r.null c ≡ false) → IsRoleOf meaning identifiers r x →
+    (meaning r.engine).field part x.tree u (entered_always u) → (ends : Ends) → IsMoved ((meaning r.engine).field part) x u b ends ends
+asleep-moved meaning identifiers r x u part b asleep null is field ends =
+    let moved : (meaning r.engine).field part x.tree (u ++ b ∷ []) (entered_always (u ++ b ∷ [])) =
+    subst ((meaning r.engine).field part x.tree (u ++ b ∷ [])) (entered-more u b (meaning r.engine).always true refl) (asleep.stays true x.tree u (entered_always u) is.engine (always-length u) field) in
     let before : (next : Next) → EndsHere x.id u next x → ⊥ =
-    no-end IsFor identifiers r x u is null (asleep.leaves_nothing x.tree u (entered_always u) is.engine (always-length u) field) in
+    no-end meaning identifiers r x u is null (asleep.leaves_nothing x.tree u (entered_always u) is.engine (always-length u) field) in
     let behind : (next : Next) → EndsHere x.id (u ++ b ∷ []) next x → ⊥ =
-    no-end IsFor identifiers r x (u ++ b ∷ []) is null (subst (λ es. (next : Next) → Leaves x.tree (u ++ b ∷ []) es next → ⊥) entered
-    (asleep.leaves_nothing_behind x.tree u (entered_always u) true is.engine (always-length u) field (λ yes. refl))) in
+    no-end meaning identifiers r x (u ++ b ∷ []) is null (asleep.leaves_nothing x.tree (u ++ b ∷ []) (entered_always (u ++ b ∷ [])) is.engine (always-length (u ++ b ∷ [])) moved) in
     record {
-      field = subst (Field r.engine part x.tree (u ++ b ∷ [])) entered (asleep.stays x.tree u (entered_always u) true is.engine (always-length u) field (λ yes. refl));
+      field = moved;
       before = unmoved ends.before (EndsHere x.id u (class_of b) x) (before (class_of b));
       before_last = unmoved ends.before_last ((b ≡ line_feed) × EndsHere x.id u after.FinalNewline x) (λ both. before after.FinalNewline both.1);
       behind = unmoved ends.behind (EndsHere x.id (u ++ b ∷ []) after.Unknown x) (behind after.Unknown);

@@ -1,41 +1,29 @@
 -- Where the parts of a program's region lie, and the state of the empty stream.
-use Rattle.std.proofs.Common.{◌≡◌, ◌∙◌, ℕ, ◌<◌, Bool, List, [], length, replicate, Some, slice_get, refl, sym, ap, subst, arith}
+use Rattle.std.proofs.Common.{◌≡◌, ◌∙◌, ℕ, ◌<◌, List, [], length, replicate, Some, slice_get, refl, sym, ap, subst, arith}
 use Rattle.std.proofs.lemmas.List.{get_or-replicate, length-replicate}
 use Rattle.std.proofs.lemmas.Option.{same_Some, slice_get-get_or, slice_get_within}
+use Rattle.hs_engine.specs.Engines.{Meaning}
 use Rattle.hs_base.specs.declared.context.Prev.TheVariants as before
 use Rattle.hs_base.specs.Contexts.{prev_at}
 use Rattle.hs_base.specs.Patterns.{Pattern}
 use Rattle.hs_base.specs.Settling.{IsKept}
 use Rattle.hs_base.proofs.SettlingLemmas.{kept-start}
-use Rattle.hs_base.specs.Trees.{Tree}
 use Rattle.hs_rose.specs.declared.program.Program.{Program}
 use Rattle.hs_rose.specs.declared.program.Role.{Role}
 use Rattle.hs_rose.specs.Programs.{roles_of, identifiers_of, starts_of, region_len_of}
-use Rattle.hs_rose.specs.Roles.{AreStartsOf}
-use Rattle.hs_rose.specs.Wakes.{TellsWakes}
-use Rattle.hs_rose.proofs.RoleLemmas.{named}
 use Rattle.hs_run.specs.declared.state.State.{State}
-use Rattle.hs_run.specs.States.{IsRunnable, Runs, IsStateOf, kept_of, unkept, AreUnkept}
-use Rattle.hs_run.specs.Running.{AreNamed}
+use Rattle.hs_run.specs.States.{IsStateOf, kept_of, unkept, AreUnkept}
+use Rattle.hs_rose.specs.Runnable.{IsProgramOf, AreNamed, IsRunnable}
 use Rattle.hs_rose.specs.Regions.{IsLaid, AreStarted}
 use Rattle.hs_rose.proofs.PartLemmas.{laid-starts}
 
--- A program that runs some patterns can be run.
-pub runnable : {E : Type 0} (IsFor : E → Tree → Type 0) (Field : E → List ℕ → Tree → List ℕ → List Bool → Type 0) (Well : E → List ℕ → ℕ → Type 0) (always : E → Bool) (width : E → ℕ) (program : Program E) (P : List Pattern) →
-    Runs IsFor program P → AreStartsOf width (roles_of program) (starts_of program) → TellsWakes IsFor Field Well always program → IsRunnable IsFor Field Well always width program
-runnable IsFor Field Well always width program P runs starts wakes = record {
-  starts = starts;
-  wakes = wakes;
-  named = named IsFor (roles_of program) (identifiers_of program) P runs;
-}
-
-module _ {E : Type 0} {IsFor : E → Tree → Type 0} {Field : E → List ℕ → Tree → List ℕ → List Bool → Type 0} {Well : E → List ℕ → ℕ → Type 0} {always : E → Bool} (width : E → ℕ) (program : Program E) (runs : IsRunnable IsFor Field Well always width program)
+module _ {E : Type 0} (meaning : E → Meaning) (program : Program E) (runs : IsRunnable meaning program)
     (roles : List (Role E)) (starts : List ℕ) (are_roles : roles ≡ roles_of program) (are_starts : starts ≡ starts_of program) where
-  pub program-laid : (len : ℕ) → len ≡ region_len_of program → IsLaid width roles starts len
+  pub program-laid : (len : ℕ) → len ≡ region_len_of program → IsLaid meaning roles starts len
   program-laid len whole =
-      subst (λ rs. IsLaid width rs starts len) (sym are_roles)
-      (subst (λ ss. IsLaid width (roles_of program) ss len) (sym are_starts)
-      (laid-starts width (roles_of program) (starts_of program) runs.starts len whole))
+      subst (λ rs. IsLaid meaning rs starts len) (sym are_roles)
+      (subst (λ ss. IsLaid meaning (roles_of program) ss len) (sym are_starts)
+      (laid-starts meaning (roles_of program) (starts_of program) runs.starts len whole))
 
   pub program-named : (count : ℕ) → count ≡ length (identifiers_of program) → AreNamed roles count
   program-named count whole =
@@ -52,19 +40,19 @@ start-prev : before.Start ≡ prev_at [] 0
 unfolding prev_at
 start-prev = refl
 
-pub cleared-state : {E : Type 0} (IsFor : E → Tree → Type 0) (Field : E → List ℕ → Tree → List ℕ → List Bool → Type 0) (program : Program E) (P : List Pattern) → Runs IsFor program P →
+pub cleared-state : {E : Type 0} (meaning : E → Meaning) (program : Program E) (P : List Pattern) → IsProgramOf meaning program P →
     (state : State) → state.offset ≡ 0 → state.prev ≡ before.Start → AreUnkept state.kept.items →
-    AreStarted IsFor Field (roles_of program) (starts_of program) state.region.items → IsStateOf Field program P [] state
-cleared-state IsFor Field program P runs state offset prev nothing started = record {
+    AreStarted meaning (roles_of program) (starts_of program) state.region.items → IsStateOf meaning program P [] state
+cleared-state meaning program P runs state offset prev nothing started = record {
   offset = offset;
   prev = prev ∙ start-prev;
   kept = λ i x k at at'. subst (λ v. IsKept P [] x.id.0 (kept_of v)) (sym (nothing i k at')) (kept-start P x.id.0);
-  fields = λ k r x role pattern. started k r x.tree role (runs.each k r x role pattern).engine;
+  fields = λ k r x role pattern. started k r role x.tree (runs.each k r x role pattern).engine;
 }
 
-pub start-state : {E : Type 0} (IsFor : E → Tree → Type 0) (Field : E → List ℕ → Tree → List ℕ → List Bool → Type 0) (program : Program E) (P : List Pattern) → Runs IsFor program P →
+pub start-state : {E : Type 0} (meaning : E → Meaning) (program : Program E) (P : List Pattern) → IsProgramOf meaning program P →
     (state : State) (n : ℕ) → state.offset ≡ 0 → state.prev ≡ before.Start → state.kept.items ≡ replicate n unkept →
-    AreStarted IsFor Field (roles_of program) (starts_of program) state.region.items → IsStateOf Field program P [] state
-start-state IsFor Field program P runs state n offset prev kept started =
-    cleared-state IsFor Field program P runs state offset prev
+    AreStarted meaning (roles_of program) (starts_of program) state.region.items → IsStateOf meaning program P [] state
+start-state meaning program P runs state n offset prev kept started =
+    cleared-state meaning program P runs state offset prev
     (λ i k at. sym (replicate-at n i unkept k (sym (ap (λ ks. slice_get ks i) kept) ∙ at))) started

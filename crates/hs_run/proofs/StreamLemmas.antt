@@ -1,5 +1,5 @@
 -- A stream and one more byte.
-use Rattle.std.proofs.Common.{◌≡◌, ℕ, suc, ◌+◌, true, List, [], ◌∷◌, ◌++◌, length, eqb, sym, ap, ◌∙◌, arith, length-append}
+use Rattle.std.proofs.Common.{◌≡◌, ℕ, suc, ◌+◌, Bool, true, false, ◌||◌, List, [], ◌∷◌, ◌++◌, length, eqb, sym, ap, ◌∙◌, arith, length-append}
 use Rattle.std.proofs.lemmas.List.{length-map, map-append}
 use Rattle.hs_base.specs.declared.context.Prev.{Prev}
 use Rattle.hs_base.specs.Assertions.{line_feed, is_word_byte}
@@ -32,3 +32,8 @@ at-push u b prev behind at here is = record {
   offset = omega (arith, length-push u b, here.offset);
   behind = is ∙ sym (prev-push u b);
 }
+
+-- an engine that counts as entered at every offset, or is entered before the byte, is entered as always
+pub entered-more : (u : List ℕ) (b : ℕ) (always enters : Bool) → enters ≡ true → entered_always u ++ (always || enters) ∷ [] ≡ entered_always (u ++ b ∷ [])
+entered-more u b true enters is = sym (always-push u b)
+entered-more u b false enters is = ap (λ v. entered_always u ++ v ∷ []) is ∙ sym (always-push u b)

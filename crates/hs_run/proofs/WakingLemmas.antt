@@ -1,5 +1,5 @@
 -- The bits of two rows, word by word.
-use Rattle.std.proofs.Common.{◌≡◌, ℕ, ◌+◌, ◌-◌, ◌*◌, ◌/◌, ◌%◌, ◌^◌, ◌<◌, ◌≤◌, Bool, true, false, ◌||◌, List, get_or, eqb, bit_or, Option, Some, None, refl, sym, ap, subst, ◌∙◌, inl, inr, arith, w64}
+use Rattle.std.proofs.Common.{◌≡◌, ℕ, ◌+◌, ◌-◌, ◌*◌, ◌/◌, ◌%◌, ◌^◌, ◌<◌, ◌≤◌, Bool, true, ◌||◌, List, get_or, eqb, bit_or, Option, Some, None, sym, ap, subst, ◌∙◌, inl, inr, arith, w64}
 use Rattle.std.specs.Prelude.{nat_lt, if◌then◌else◌}
 use Rattle.std.specs.Int.{bit_at, trailing_zeros}
 use Rattle.std.specs.Slice.Scan.{HoldsNowhere}
@@ -8,8 +8,8 @@ use Rattle.std.proofs.lemmas.Nat.Bits.{bit_at-zero, bit_at-trailing_zeros, bit_a
 use Rattle.std.proofs.Math.Nat.{div-div-eq-div-mul, div-le_self}
 use Rattle.std.proofs.lemmas.Nat.{pow-add, or_lt}
 use Rattle.hs_base.proofs.ByteSetLemmas.{bit-or}
-use Rattle.hs_rose.specs.WordBits.{has_word_bit}
-use Rattle.hs_run.specs.Waking.{stirs, IsNextRole, IsNextOf, AreAtRest}
+use Rattle.hs_base.specs.Bits.{has_word_bit}
+use Rattle.hs_run.specs.Waking.{stirs, IsNextOf, AreAtRest}
 
 -- the bits of a number without its lowest ones
 shr-bit : (n s i : ℕ) → bit_at (n / 2 ^ s) i ≡ bit_at n (s + i)

@@ -31,7 +31,8 @@ pairs_at moment identifiers kept ends to = pairs_told (ids_of identifiers) (valu
 
 -- those that end before the byte at that offset, and then those that end behind it
 abbrev pub pairs_about : List Identifier → List KeptOf → List EndsAbout → ℕ → List Pair
-pairs_about identifiers kept ends at = pairs_at BeforeByte identifiers kept ends at ++ pairs_at BehindByte identifiers kept ends (at + 1)
+pairs_about identifiers kept ends at =
+    pairs_at BeforeByte identifiers kept ends at ++ pairs_at BehindByte identifiers kept ends (at + 1)
 
 -- nothing is kept of any identifier but that a pair of it is told
 abbrev pub AreClosed : List KeptOf → Type 0
@@ -41,5 +42,8 @@ AreClosed kept = (i : ℕ) (k : KeptOf) → slice_get kept i ≡ Some k → (k.h
 abbrev pub AreSettled : List Identifier → List KeptOf → List EndsAbout → List KeptOf → Type 0
 AreSettled identifiers old ends new =
     (i : ℕ) (identifier : Identifier) (k k' : KeptOf) (e : EndsAbout) →
-    slice_get identifiers i ≡ Some identifier → slice_get old i ≡ Some k → slice_get ends i ≡ Some e → slice_get new i ≡ Some k' →
+    slice_get identifiers i ≡ Some identifier →
+    slice_get old i ≡ Some k →
+    slice_get ends i ≡ Some e →
+    slice_get new i ≡ Some k' →
     kept_of k' ≡ settled identifier.single (kept_of k) (ends_of e)

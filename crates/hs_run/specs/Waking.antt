@@ -2,7 +2,7 @@
 use Rattle.std.specs.Prelude.{◌≡◌, ℕ, ◌<◌, ◌≤◌, Bool, true, false, ◌||◌, List, Option, MatchOption}
 use Rattle.std.specs.Slice.Scan.{HoldsNowhere}
 use Rattle.hs_rose.specs.Regions.{part_of}
-use Rattle.hs_rose.specs.WordBits.{has_word_bit}
+use Rattle.hs_base.specs.Bits.{has_word_bit}
 
 -- the role is live, or the byte wakes it
 abbrev pub stirs : List ℕ → List ℕ → ℕ → Bool
@@ -17,7 +17,8 @@ pub record IsNextRole (live row : List ℕ) (from count k : ℕ) : Type 0 where
 
 -- the least role from one on and before another that is stirred, or None where none is
 abbrev pub IsNextOf : List ℕ → List ℕ → ℕ → ℕ → Option ℕ → Type 0
-IsNextOf live row from count next = MatchOption next (HoldsNowhere (stirs live row) from count) (IsNextRole live row from count)
+IsNextOf live row from count next =
+    MatchOption next (HoldsNowhere (stirs live row) from count) (IsNextRole live row from count)
 
 -- each of so many roles that is not live has the bytes of the empty stream
 abbrev pub AreAtRest : List ℕ → ℕ → List ℕ → List ℕ → List ℕ → Type 0

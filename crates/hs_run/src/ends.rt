@@ -7,10 +7,7 @@ ghost use Rattle.hs_base.specs.declared.context.Next.TheVariants as after;
 ghost use Rattle.hs_run.specs.declared.ends.Ends.{Ends as EndsAbout};
 ghost use Rattle.hs_run.specs.Running.{no_ends, AreNoEnds};
 
-use hs_base::{Next, NextSet};
-
-/// The line feed, which ends a line.
-const LINE_FEED: u8 = 10;
+use hs_base::{LINE_FEED, Next, NextSet};
 
 /// Where matches of an identifier end about one byte.
 #[derive(Clone, Copy, Debug, PartialEq, Eq)]
@@ -40,7 +37,8 @@ impl Ends {
     pub fn note(&mut self, byte: u8, before: NextSet, behind: NextSet) -> bool
         ensures noted { result ≡ false → self.new ≡ self.old }
         ensures before { self.new.before ≡ (self.old.before || has_next before (class_of byte)) }
-        ensures before_last { self.new.before_last ≡ (self.old.before_last || ((byte == line_feed) && has_next before after.FinalNewline)) }
+        ensures before_last { self.new.before_last ≡
+            (self.old.before_last || ((byte == line_feed) && has_next before after.FinalNewline)) }
         ensures behind { self.new.behind ≡ (self.old.behind || has_next behind after.Unknown) }
     {
         let ends_before = before.contains(Next::class_of(byte));

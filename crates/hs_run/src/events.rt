@@ -1,3 +1,4 @@
+//! What takes reports.
 ghost use Rattle.std.specs.Prelude.{ℕ};
 
 use hs_base::ExprId;

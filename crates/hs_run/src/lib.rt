@@ -1,8 +1,6 @@
 //! The runner of a program: bytes to reports, with one small state for a stream.
 #![tactic(auto)]
 
-#[cfg(test)]
-mod assertion_tests;
 mod collected;
 mod ends;
 mod events;

@@ -114,9 +114,9 @@ fn settle(identifiers: &[Identifier], kept: &mut [Kept], ends: &[Ends])
     }
 }
 
-/// Reports the pairs that a byte at the offset `at` decides, those that end before it and then those that end behind it,
-/// each by identifier, keeps what it settles, and forgets where matches ended. Where nothing is due that none was noted and
-/// no identifier is open, all this would change nothing, and none of it is done.
+/// Reports the pairs that a byte at the offset `at` decides, those that end before it and then those that end behind
+/// it, each by identifier, keeps what it settles, and forgets where matches ended. Where nothing is due that none was
+/// noted and no identifier is open, all this would change nothing, and none of it is done.
 pub fn settle_byte<V: Events>(
     is_due: bool,
     identifiers: &[Identifier],

@@ -1,28 +1,28 @@
-//! The runner: bytes to reports, byte by byte over the roles that are live or woken; bytes that change nothing are passed
-//! over at once.
+//! The runner: bytes to reports, byte by byte over the roles that are live or woken; bytes that change nothing are
+//! passed over at once.
 ghost use Rattle.std.specs.Prelude.{◌≡◌, ◌+◌, ◌*◌, ◌<◌, ◌≤◌, ◌^◌, false, [], ◌∷◌, length, slice_index, slice_range};
 ghost use Rattle.std.specs.Slice.Scan.{IsFirstPlace};
 ghost use Rattle.hs_base.specs.ByteSets.{has};
-ghost use Rattle.hs_rose.specs.Programs.{roles_of, starts_of};
-ghost use Rattle.hs_rose.specs.Wakes.{rest_of};
+ghost use Rattle.hs_rose.specs.Programs.{roles_of, starts_of, rest_of};
 ghost use Rattle.hs_run.specs.Events.{Takes};
 ghost use Rattle.hs_run.specs.Reporting.{AreClosed};
 ghost use Rattle.hs_run.specs.Running.{AreNoEnds};
-ghost use Rattle.hs_run.specs.States.{IsRunnable, FitsState};
+ghost use Rattle.hs_run.specs.States.{FitsState};
 ghost use Rattle.hs_run.specs.Feeding.{FitsScratch, Feeds, Finishes};
 ghost use Rattle.hs_run.specs.Waking.{AreAtRest};
 
 use crate::ends::forget;
 use crate::events::Events;
 use crate::reporting::{Moment, report, settle_byte};
-use crate::roles::{end_roles, step_roles};
+use crate::roles::{Arrival, end_roles, step_roles};
 use crate::scratch::Scratch;
 use crate::state::State;
 use crate::waking::wake;
 use hs_accel::next_in;
 use hs_base::{ByteSet, Prev};
+use hs_bits::is_unset;
 use hs_engine::{Engine, Steps};
-use hs_rose::{Program, is_unset};
+use hs_rose::Program;
 use std::sync::ledger::Ledger;
 
 /// Takes the next bytes of a stream, and reports what they decide, in the order in which they do. A step is counted for
@@ -35,15 +35,14 @@ pub fn feed<E: Engine, V: Events, L: Ledger>(
     events: &mut V,
     steps: &mut Steps<L>,
 )
-    requires runs { IsRunnable E.is_for E.field E.well E.enters_always E.width program.now }
-    requires state { FitsState E.well program.now state.old }
+    requires state { FitsState E.meaning program.now state.old }
     requires scratch { FitsScratch program.now scratch.old }
     requires room { state.old.offset + length bytes.now < 2 ^ 63 }
-    ensures state { FitsState E.well program.now state.new }
+    ensures state { FitsState E.meaning program.now state.new }
     ensures scratch { FitsScratch program.now scratch.new }
     ensures offset { state.new.offset ≡ state.old.offset + length bytes.now }
     ensures ticks { steps.new ≤ steps.old + length (roles_of program.now) * length bytes.now }
-    ensures taken { Takes V.tells events.old events.new (Feeds E.is_for E.field program.now state.old state.new bytes.now) }
+    ensures taken { Takes V.tells events.old events.new (Feeds E.meaning program.now state.old state.new bytes.now) }
 {
     forget(&mut scratch.ends);
     wake(
@@ -79,19 +78,19 @@ fn pass_over<E: Engine>(
     place: usize,
     is_open: bool,
 ) -> usize
-    requires runs { IsRunnable E.is_for E.field E.well E.enters_always E.width program.now }
-    requires state { FitsState E.well program.now state.old }
+    requires state { FitsState E.meaning program.now state.old }
     requires room { state.old.offset + length bytes.now < 2 ^ 63 + place }
     requires place { place ≤ length bytes.now }
     requires closed { is_open ≡ false → AreClosed state.old.kept.items }
-    requires rests { AreAtRest (starts_of program.now) (length (roles_of program.now)) state.old.region.items (rest_of program.now) live.now }
+    requires rests { AreAtRest (starts_of program.now) (length (roles_of program.now)) state.old.region.items
+        (rest_of program.now) live.now }
     ensures low { place ≤ result }
     ensures high { result ≤ length bytes.now }
-    ensures state { FitsState E.well program.now state.new }
+    ensures state { FitsState E.meaning program.now state.new }
     ensures offset { state.new.offset + place ≡ state.old.offset + result }
     ensures kept { state.new.kept ≡ state.old.kept }
     ensures region { state.new.region ≡ state.old.region }
-    ensures passed { Feeds E.is_for E.field program.now state.old state.new (slice_range bytes.now place result) [] }
+    ensures passed { Feeds E.meaning program.now state.old state.new (slice_range bytes.now place result) [] }
 {
     if is_open || !is_unset(live) {
         return place;
@@ -116,8 +115,9 @@ fn next_waker(wakers: &ByteSet, bytes: &[u8], place: usize) -> usize
     }
 }
 
-/// Takes a byte of a stream, and reports what it decides. No end is noted in the scratch before nor behind it. Something else may be kept of an identifier than that a pair of it is told only if `is_open`; answers whether behind the
-/// byte.
+/// Takes a byte of a stream, and reports what it decides. No end is noted in the scratch before nor behind it.
+/// Something else may be kept of an identifier than that a pair of it is told only if `is_open`; answers whether behind
+/// the byte.
 fn feed_byte<E: Engine, V: Events, L: Ledger>(
     program: &Program<E>,
     state: &mut State,
@@ -127,32 +127,36 @@ fn feed_byte<E: Engine, V: Events, L: Ledger>(
     events: &mut V,
     steps: &mut Steps<L>,
 ) -> bool
-    requires runs { IsRunnable E.is_for E.field E.well E.enters_always E.width program.now }
-    requires state { FitsState E.well program.now state.old }
+    requires state { FitsState E.meaning program.now state.old }
     requires scratch { FitsScratch program.now scratch.old }
     requires room { state.old.offset + 1 < 2 ^ 63 }
     requires none { AreNoEnds scratch.old.ends.items }
     requires closed { is_open ≡ false → AreClosed state.old.kept.items }
-    requires rests { AreAtRest (starts_of program.now) (length (roles_of program.now)) state.old.region.items (rest_of program.now) scratch.old.live.items }
-    ensures state { FitsState E.well program.now state.new }
+    requires rests { AreAtRest (starts_of program.now) (length (roles_of program.now)) state.old.region.items
+        (rest_of program.now) scratch.old.live.items }
+    ensures state { FitsState E.meaning program.now state.new }
     ensures scratch { FitsScratch program.now scratch.new }
     ensures offset { state.new.offset ≡ state.old.offset + 1 }
     ensures none { AreNoEnds scratch.new.ends.items }
     ensures closed { result ≡ false → AreClosed state.new.kept.items }
-    ensures rests { AreAtRest (starts_of program.now) (length (roles_of program.now)) state.new.region.items (rest_of program.now) scratch.new.live.items }
+    ensures rests { AreAtRest (starts_of program.now) (length (roles_of program.now)) state.new.region.items
+        (rest_of program.now) scratch.new.live.items }
     ensures ticks { steps.new ≤ steps.old + length (roles_of program.now) }
-    ensures taken { Takes V.tells events.old events.new (Feeds E.is_for E.field program.now state.old state.new (byte ∷ [])) }
+    ensures taken { Takes V.tells events.old events.new (Feeds E.meaning program.now state.old state.new (byte ∷ [])) }
 {
     let at = state.offset;
+    let arrival = Arrival {
+        prev: state.prev,
+        at,
+        byte,
+        row: program.wakes().row(byte),
+    };
     let noted = step_roles(
         program.roles(),
         program.starts(),
         program.rest(),
-        program.wakes().row(byte),
         &mut state.region,
-        state.prev,
-        at,
-        byte,
+        &arrival,
         &mut scratch.live,
         &mut scratch.ends,
         steps,
@@ -170,18 +174,20 @@ fn feed_byte<E: Engine, V: Events, L: Ledger>(
     noted
 }
 
-/// Reports what only the end of the stream decides, if it ends here. The state stays as it is.
-pub fn finish<E: Engine, V: Events>(
+/// Reports what only the end of the stream decides, if it ends here. The state stays as it is. No step is counted: no
+/// engine takes a byte.
+pub fn finish<E: Engine, V: Events, L: Ledger>(
     program: &Program<E>,
     state: &State,
     scratch: &mut Scratch,
     events: &mut V,
+    steps: &mut Steps<L>,
 )
-    requires runs { IsRunnable E.is_for E.field E.well E.enters_always E.width program.now }
-    requires state { FitsState E.well program.now state.now }
+    requires state { FitsState E.meaning program.now state.now }
     requires scratch { FitsScratch program.now scratch.old }
     ensures scratch { FitsScratch program.now scratch.new }
-    ensures taken { Takes V.tells events.old events.new (Finishes E.is_for E.field program.now state.now) }
+    ensures ticks { steps.new ≡ steps.old }
+    ensures taken { Takes V.tells events.old events.new (Finishes E.meaning program.now state.now) }
 {
     let at = state.offset;
     end_roles(

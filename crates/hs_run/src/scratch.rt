@@ -2,6 +2,7 @@
 ghost use Rattle.std.specs.Prelude.{◌↔◌, IsTrue, IfOk};
 
 use crate::ends::Ends;
+use hs_engine::Engine;
 use hs_rose::Program;
 use std::alloc::{AllocError, Global};
 
@@ -19,7 +20,7 @@ impl Scratch {
     ghost use Rattle.hs_run.specs.Feeding.{FitsScratch};
 
     /// A scratch for the program.
-    pub fn new<E>(alloc: Global, program: &Program<E>) -> Result<Scratch, AllocError>
+    pub fn new<E: Engine>(alloc: Global, program: &Program<E>) -> Result<Scratch, AllocError>
         ensures { IfOk result (λ scratch. FitsScratch program.now scratch) }
     {
         let ends = vec![in alloc; Ends::none(); program.identifiers().len()]?;
@@ -28,7 +29,7 @@ impl Scratch {
     }
 
     /// Whether the scratch serves the program.
-    pub fn fits<E>(&self, program: &Program<E>) -> bool
+    pub fn fits<E: Engine>(&self, program: &Program<E>) -> bool
         ensures { IsTrue result ↔ FitsScratch program.now self.now }
     {
         self.ends.len() == program.identifiers().len()

@@ -43,14 +43,15 @@ pub struct State {
 }
 
 impl State {
-    ghost use Rattle.hs_run.specs.States.{IsRunnable, FitsState, Runs, IsStateOf};
+    ghost use Rattle.hs_run.specs.States.{FitsState, IsStateOf};
+    ghost use Rattle.hs_rose.specs.Runnable.{IsProgramOf};
 
     /// The state of a stream of which no byte has come.
     pub fn new<E: Engine>(alloc: Global, program: &Program<E>) -> Result<State, AllocError>
-        requires { IsRunnable E.is_for E.field E.well E.enters_always E.width program.now }
         ensures offset { IfOk result (λ state. state.offset ≡ 0) }
-        ensures fits { IfOk result (λ state. FitsState E.well program.now state) }
-        ensures start { IfOk result (λ state. (P : List Pattern) → Runs E.is_for program.now P → IsStateOf E.field program.now P [] state) }
+        ensures fits { IfOk result (λ state. FitsState E.meaning program.now state) }
+        ensures start { IfOk result (λ state. (P : List Pattern) → IsProgramOf E.meaning program.now P →
+            IsStateOf E.meaning program.now P [] state) }
     {
         let mut region = vec![in alloc; 0u8; program.region_len()]?;
         clear_roles(program.roles(), program.starts(), &mut region);
@@ -72,8 +73,7 @@ impl State {
 
     /// Whether the state has the room that the program takes, and its bytes may be those of engines at its offset.
     pub fn fits<E: Engine>(&self, program: &Program<E>) -> bool
-        requires { IsRunnable E.is_for E.field E.well E.enters_always E.width program.now }
-        ensures { IsTrue result ↔ FitsState E.well program.now self.now }
+        ensures { IsTrue result ↔ FitsState E.meaning program.now self.now }
     {
         if self.kept.len() != program.identifiers().len() {
             return false;
@@ -86,11 +86,11 @@ impl State {
 
     /// Makes it the state of a stream of which no byte has come. It takes no memory.
     pub fn clear<E: Engine>(&mut self, program: &Program<E>)
-        requires runs { IsRunnable E.is_for E.field E.well E.enters_always E.width program.now }
-        requires fits { FitsState E.well program.now self.old }
+        requires fits { FitsState E.meaning program.now self.old }
         ensures offset { self.new.offset ≡ 0 }
-        ensures fits { FitsState E.well program.now self.new }
-        ensures start { (P : List Pattern) → Runs E.is_for program.now P → IsStateOf E.field program.now P [] self.new }
+        ensures fits { FitsState E.meaning program.now self.new }
+        ensures start { (P : List Pattern) → IsProgramOf E.meaning program.now P →
+            IsStateOf E.meaning program.now P [] self.new }
     {
         clear_roles(program.roles(), program.starts(), &mut self.region);
         keep_nothing(&mut self.kept);

@@ -1,14 +1,15 @@
 //! Which roles are gone through: those that are live, and those that a byte wakes.
 ghost use Rattle.std.specs.Prelude.{◌≡◌, ◌*◌, ◌<◌, ◌≤◌, ◌^◌, nat_lt, true, false, Some, None, if◌then◌else◌, length};
 ghost use Rattle.hs_rose.specs.Regions.{IsLaid};
-ghost use Rattle.hs_rose.specs.WordBits.{word_count};
+ghost use Rattle.hs_base.specs.Bits.{word_count};
 ghost use Rattle.hs_run.specs.Waking.{AreAtRest, IsNextOf};
 
+use hs_bits::{WORD_BITS, write_word_bit};
 use hs_engine::Engine;
-use hs_rose::{Role, WORD_BITS, put_bit};
+use hs_rose::Role;
 
-/// The least role from `from` on and before `count` that is live or that has its bit in the row; None exactly where there
-/// is none.
+/// The least role from `from` on and before `count` that is live or that has its bit in the row; None exactly where
+/// there is none.
 pub fn next_role(live: &[u64], row: &[u64], from: usize, count: usize) -> Option<usize>
     requires few { count < 2 ^ 32 }
     requires live { length live.now ≡ word_count count }
@@ -65,7 +66,7 @@ pub fn wake<E: Engine>(
     region: &[u8],
     live: &mut [u64],
 )
-    requires laid { IsLaid E.width roles.now starts.now (length region.now) }
+    requires laid { IsLaid E.meaning roles.now starts.now (length region.now) }
     requires rest { length rest.now ≡ length region.now }
     requires room { length live.old ≡ word_count (length roles.now) }
     ensures len { length live.new ≡ length live.old }
@@ -76,7 +77,7 @@ pub fn wake<E: Engine>(
             &region[starts[k]..starts[k + 1]],
             &rest[starts[k]..starts[k + 1]],
         );
-        put_bit(live, k, live_now);
+        write_word_bit(live, k, live_now);
     }
 }
 

@@ -6,12 +6,18 @@ use Rattle.hs_script.specs.Machine.{Answer, Machine, start, Steps}
 use Rattle.hs_script.specs.Runs.{IsRun, answer_text, run_text}
 
 -- a run with one more command, and its text
-pub record IsOneMore (P : List Pattern) (actions : List Action) (answers : List Answer) (action : Action) (answer : Answer) (after : Machine) : Type 0 where
+pub record IsOneMore
+    (P : List Pattern) (actions : List Action) (answers : List Answer) (action : Action) (answer : Answer)
+    (after : Machine) : Type 0 where
   pub run : IsRun P start (actions ++ action ∷ []) (answers ++ answer ∷ []) after
-  pub text : run_text (actions ++ action ∷ []) (answers ++ answer ∷ []) ≡ run_text actions answers ++ answer_text action answer
+  pub text :
+      run_text (actions ++ action ∷ []) (answers ++ answer ∷ []) ≡ run_text actions answers ++ answer_text action answer
 
 -- A run goes on by any step; its text grows at its end, by the lines of that step.
 abbrev pub RunsGoOn : Type 0
 RunsGoOn =
-    (P : List Pattern) (actions : List Action) (answers : List Answer) (action : Action) (answer : Answer) (m after : Machine) →
-    IsRun P start actions answers m → Steps P m action answer after → IsOneMore P actions answers action answer after
+    (P : List Pattern) (actions : List Action) (answers : List Answer) (action : Action) (answer : Answer)
+    (m after : Machine) →
+    IsRun P start actions answers m →
+    Steps P m action answer after →
+    IsOneMore P actions answers action answer after

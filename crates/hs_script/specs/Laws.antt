@@ -1,6 +1,8 @@
 -- What holds of scripts, and of all runs of the machine.
-use Rattle.std.specs.Prelude.{◌≡◌, ◌≢◌, ℕ, ◌+◌, ◌<◌, ◌≤◌, ◌↔◌, Bool, true, false, List, [], ◌∷◌, ◌++◌, length, map, bytes_eq, Option, None, Some, if◌then◌else◌}
+use Rattle.std.specs.Prelude.{◌≡◌, ◌≢◌, ℕ, ◌+◌, ◌<◌, ◌≤◌, ◌↔◌, Bool, true, false, List, [], ◌∷◌, ◌++◌, length, map}
+use Rattle.std.specs.Prelude.{bytes_eq, Option, None, Some, if◌then◌else◌}
 use Rattle.hs_base.specs.Lists.{Each, IsMember, IsRising}
+use Rattle.hs_base.specs.Offsets.{greatest_offset}
 use Rattle.hs_base.specs.Patterns.{Pattern}
 use Rattle.hs_text.specs.declared.commands.Verb.TheVariants as verb
 use Rattle.hs_text.specs.declared.reply_lines.Word.{Word}
@@ -12,7 +14,7 @@ use Rattle.hs_text.specs.declared.reply_lines.ScriptFault.TheVariants as fault
 use Rattle.hs_base.specs.Assertions.{line_feed}
 use Rattle.hs_script.specs.Actions.{Action, Write, Cut, Reset, Close, name_of}
 use Rattle.hs_script.specs.Scripts.{IsScript, Goes, Ends, written_by}
-use Rattle.hs_script.specs.Machine.{most_streams, most_bytes, Answer, Moves, Machine, start, Steps}
+use Rattle.hs_script.specs.Machine.{most_streams, Answer, Moves, Machine, start, Steps}
 use Rattle.hs_script.specs.Runs.{IsRun, run_text, IsRunText}
 
 -- the word of memory, and that of too many streams
@@ -54,7 +56,9 @@ pub record IsSameScript (actions actions' : List Action) (ending ending' : Optio
 abbrev pub IsScriptOnce : Type 0
 IsScriptOnce =
     (bytes : List ℕ) (xs ys : List Action) (e f : Option ScriptFault) →
-    IsScript 1 bytes xs e → IsScript 1 bytes ys f → IsSameScript xs ys e f
+    IsScript 1 bytes xs e →
+    IsScript 1 bytes ys f →
+    IsSameScript xs ys e f
 
 -- The bytes are a script, whose command lines are counted from this number on.
 pub record IsSomeScript (number : ℕ) (bytes : List ℕ) : Type 0 where
@@ -66,13 +70,16 @@ pub record IsSomeScript (number : ℕ) (bytes : List ℕ) : Type 0 where
 abbrev pub IsAlwaysScript : Type 0
 IsAlwaysScript = (bytes : List ℕ) → IsSomeScript 1 bytes
 
--- What a write takes of the bytes behind its line, in the words of the form: its payload and one line feed; the line feed
--- may be missing at the end of the bytes; any other byte is a fault of this line; and too few bytes cut the write short.
+-- What a write takes of the bytes behind its line, in the words of the form: its payload and one line feed; the line
+-- feed may be missing at the end of the bytes; any other byte is a fault of this line; and too few bytes cut the write
+-- short.
 pub record TakesPayload (number : ℕ) (name payload behind : List ℕ) : Type 0 where
-  pub with_feed : written_by number name (length payload) (payload ++ line_feed ∷ behind) ≡ Goes (Write name payload) behind
+  pub with_feed :
+      written_by number name (length payload) (payload ++ line_feed ∷ behind) ≡ Goes (Write name payload) behind
   pub at_end : written_by number name (length payload) payload ≡ Goes (Write name payload) []
   pub with_other : (b : ℕ) → b ≢ line_feed →
-      written_by number name (length payload) (payload ++ b ∷ behind) ≡ Ends (Write name payload ∷ []) (fault.Script number)
+      written_by number name (length payload) (payload ++ b ∷ behind)
+      ≡ Ends (Write name payload ∷ []) (fault.Script number)
   pub cut_short : (count : ℕ) → length payload < count →
       written_by number name count payload ≡ Ends (Cut name count payload ∷ []) (fault.Truncated number)
 
@@ -84,7 +91,10 @@ AlwaysTakesPayload = (number : ℕ) (name payload behind : List ℕ) → TakesPa
 abbrev pub IsTextOnce : Type 0
 IsTextOnce =
     (P : List Pattern) (bytes : List ℕ) (xs ys : List Answer) (text text' : List ℕ) →
-    IsRunText P bytes xs text → IsRunText P bytes ys text' → map lacks_memory xs ≡ map lacks_memory ys → text ≡ text'
+    IsRunText P bytes xs text →
+    IsRunText P bytes ys text' →
+    map lacks_memory xs ≡ map lacks_memory ys →
+    text ≡ text'
 
 -- the actions on the stream of a name, in order
 abbrev pub actions_on : List ℕ → List Action → List Action
@@ -113,17 +123,25 @@ pub record IsAlikeOn (name : List ℕ) (actions actions' : List Action) (xs ys :
 abbrev pub IsIsolated : Type 0
 IsIsolated =
     (P : List Pattern) (name : List ℕ) (actions actions' : List Action) (xs ys : List Answer) (m n : Machine) →
-    IsRun P start actions xs m → IsRun P start actions' ys n → actions_on name actions ≡ actions_on name actions' →
-    Each IsOwn (answers_on name actions xs) → Each IsOwn (answers_on name actions' ys) → IsAlikeOn name actions actions' xs ys
+    IsRun P start actions xs m →
+    IsRun P start actions' ys n →
+    actions_on name actions ≡ actions_on name actions' →
+    Each IsOwn (answers_on name actions xs) →
+    Each IsOwn (answers_on name actions' ys) →
+    IsAlikeOn name actions actions' xs ys
 
 -- What is always done to an open stream that took these bytes, with its reply.
 pub data IsSure (h : List ℕ) : Action → Reply → Type 0 where
-  sure_write : {name v : List ℕ} → length h + length v ≤ most_bytes → IsSure h (Write name v) (Done verb.Write (Some (length v)))
+  sure_write : {name v : List ℕ} →
+      length h + length v ≤ greatest_offset →
+      IsSure h (Write name v) (Done verb.Write (Some (length v)))
   sure_reset : {name : List ℕ} → IsSure h (Reset name) (Done verb.Reset None)
   sure_close : {name : List ℕ} → IsSure h (Close name) (Done verb.Close None)
 
 -- a run through an action: what the machine did before it, at it, and behind it
-pub record IsThrough (P : List Pattern) (from : Machine) (front : List Action) (action : Action) (back : List Action) (answers : List Answer) (after : Machine) : Type 0 where
+pub record IsThrough
+    (P : List Pattern) (from : Machine) (front : List Action) (action : Action) (back : List Action)
+    (answers : List Answer) (after : Machine) : Type 0 where
   pub first : List Answer
   pub answer : Answer
   pub others : List Answer
@@ -134,19 +152,24 @@ pub record IsThrough (P : List Pattern) (from : Machine) (front : List Action) (
   pub steps : Steps P before action answer behind
   pub follows : IsRun P behind back others after
   -- a write below the length limit, a reset and a close of an open stream are done
-  pub sure : (h : List ℕ) (reply : Reply) → before.stream (name_of action) ≡ Some h → IsSure h action reply → answer.reply ≡ Some reply
+  pub sure : (h : List ℕ) (reply : Reply) →
+      before.stream (name_of action) ≡ Some h →
+      IsSure h action reply →
+      answer.reply ≡ Some reply
 
 -- In every run a write below the length limit, a reset and a close of an open stream are done.
 abbrev pub IsComplete : Type 0
 IsComplete =
     (P : List Pattern) (front back : List Action) (action : Action) (answers : List Answer) (after : Machine) →
-    IsRun P start (front ++ action ∷ back) answers after → IsThrough P start front action back answers after
+    IsRun P start (front ++ action ∷ back) answers after →
+    IsThrough P start front action back answers after
 
 -- No more streams are open than may be.
 abbrev pub IsBounded : Type 0
 IsBounded =
     (P : List Pattern) (actions : List Action) (answers : List Answer) (after : Machine) →
-    IsRun P start actions answers after → after.count ≤ most_streams
+    IsRun P start actions answers after →
+    after.count ≤ most_streams
 
 -- two answers in place of one, and the streams behind them
 pub record IsInTwo (x y z : Answer) (j k : Option (List ℕ)) : Type 0 where
@@ -157,8 +180,10 @@ pub record IsInTwo (x y z : Answer) (j k : Option (List ℕ)) : Type 0 where
 abbrev pub IsCutAnywhere : Type 0
 IsCutAnywhere =
     (P : List Pattern) (c d e : ℕ) (name h v w : List ℕ) (x y z : Answer) (i j k : Option (List ℕ)) →
-    length h + length (v ++ w) ≤ most_bytes →
-    Moves P c (Some h) (Write name v) x i → Moves P d i (Write name w) y j → Moves P e (Some h) (Write name (v ++ w)) z k →
+    length h + length (v ++ w) ≤ greatest_offset →
+    Moves P c (Some h) (Write name v) x i →
+    Moves P d i (Write name w) y j →
+    Moves P e (Some h) (Write name (v ++ w)) z k →
     IsInTwo x y z j k
 
 -- the names of these streams are just those that are open, each once
@@ -176,4 +201,5 @@ pub record IsCounted (m : Machine) : Type 0 where
 abbrev pub CountsOpen : Type 0
 CountsOpen =
     (P : List Pattern) (actions : List Action) (answers : List Answer) (after : Machine) →
-    IsRun P start actions answers after → IsCounted after
+    IsRun P start actions answers after →
+    IsCounted after

@@ -14,8 +14,10 @@ use Rattle.hs_script.specs.Machine.{Answer, Machine, start, Steps}
 -- The machine goes through the actions with these answers.
 pub data IsRun (P : List Pattern) : Machine → List Action → List Answer → Machine → Type 0 where
   none : {m : Machine} → IsRun P m [] [] m
-  more : {before between after : Machine} {action : Action} {answer : Answer} {actions : List Action} {answers : List Answer} →
-      Steps P before action answer between → IsRun P between actions answers after →
+  more : {before between after : Machine} {action : Action} {answer : Answer}
+      {actions : List Action} {answers : List Answer} →
+      Steps P before action answer between →
+      IsRun P between actions answers after →
       IsRun P before (action ∷ actions) (answer ∷ answers) after
 
 -- the line of a report: `N ID TO`
@@ -29,7 +31,8 @@ reply_text name (Some reply) = reply_line name reply
 
 -- the lines of a command: its reports, then its reply
 abbrev pub answer_text : Action → Answer → List ℕ
-answer_text action answer = flat_map (named_line (name_of action)) answer.reports ++ reply_text (name_of action) answer.reply
+answer_text action answer =
+    flat_map (named_line (name_of action)) answer.reports ++ reply_text (name_of action) answer.reply
 
 -- the lines of commands in order
 abbrev pub run_text : List Action → List Answer → List ℕ

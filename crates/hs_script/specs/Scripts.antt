@@ -1,5 +1,6 @@
 -- Scripts: which actions a list of bytes is, and with which fault it ends, if with any.
-use Rattle.std.specs.Prelude.{◌≡◌, ◌≢◌, ℕ, suc, ◌==◌, nat_lt, List, [], ◌∷◌, ◌++◌, length, take, drop, Option, None, Some, if◌then◌else◌}
+use Rattle.std.specs.Prelude.{◌≡◌, ◌≢◌, ℕ, suc, ◌==◌, nat_lt, List, [], ◌∷◌, ◌++◌, length, take, drop, Option, None}
+use Rattle.std.specs.Prelude.{Some, if◌then◌else◌}
 use Rattle.hs_base.specs.Lists.{Each}
 use Rattle.hs_base.specs.Assertions.{line_feed}
 use Rattle.hs_text.specs.declared.reply_lines.ScriptFault.{ScriptFault}
@@ -8,13 +9,14 @@ use Rattle.hs_text.specs.Commands.{Order, IsCommand}
 use Rattle.hs_text.specs.Commands as order
 use Rattle.hs_script.specs.Actions.{Action, Write, Cut, IsAlone}
 
--- The bytes begin with this line, and the rest stands behind its line feed, which may be missing at the end of the bytes.
+-- The bytes begin with this line, and the rest stands behind its line feed, which may be missing at the end of the
+-- bytes.
 pub data BeginsLine (line rest bytes : List ℕ) : Type 0 where
   fed : Each (λ b. b ≢ line_feed) line → bytes ≡ line ++ line_feed ∷ rest → BeginsLine line rest bytes
   unfed : Each (λ b. b ≢ line_feed) bytes → bytes ≢ [] → line ≡ bytes → rest ≡ [] → BeginsLine line rest bytes
 
--- What the first command of bytes is: an action with the bytes that stand behind it, or the last actions of the script and
--- its fault.
+-- What the first command of bytes is: an action with the bytes that stand behind it, or the last actions of the script
+-- and its fault.
 pub data First : Type 0 where
   Goes : Action → List ℕ → First
   Ends : List Action → ScriptFault → First
@@ -45,8 +47,8 @@ pub data IsFirst (number : ℕ) (bytes : List ℕ) (first : First) : Type 0 wher
       BeginsLine line rest bytes → IsCommand line (order.Write name count) →
       first ≡ written_by number name count rest → IsFirst number bytes first
 
--- The bytes are these actions, and end with this fault, if with any. Command lines are counted from this number on; what
--- is written isn't counted.
+-- The bytes are these actions, and end with this fault, if with any. Command lines are counted from this number on;
+-- what is written isn't counted.
 pub data IsScript : ℕ → List ℕ → List Action → Option ScriptFault → Type 0 where
   nothing : {number : ℕ} → IsScript number [] [] None
   goes : {number : ℕ} {bytes behind : List ℕ} {action : Action} {actions : List Action} {ending : Option ScriptFault} →

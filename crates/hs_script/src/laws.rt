@@ -1,6 +1,7 @@
 //! Laws over the definitions of `specs/`: each is the contract of a function that does nothing.
 
-ghost use Rattle.hs_script.specs.Laws.{IsScriptOnce, IsAlwaysScript, AlwaysTakesPayload, IsTextOnce, IsIsolated, IsComplete, IsBounded, IsCutAnywhere, CountsOpen};
+ghost use Rattle.hs_script.specs.Laws.{IsScriptOnce, IsAlwaysScript, AlwaysTakesPayload, IsTextOnce, IsIsolated};
+ghost use Rattle.hs_script.specs.Laws.{IsComplete, IsBounded, IsCutAnywhere, CountsOpen};
 ghost use Rattle.hs_script.specs.Joins.{RunsGoOn};
 
 /// Bytes are a script in at most one way.
@@ -13,8 +14,8 @@ pub fn always_script()
     ensures { IsAlwaysScript }
 {}
 
-/// A write takes its payload and one line feed, which may be missing at the end; any other byte there is a fault, and too
-/// few bytes cut the write short.
+/// A write takes its payload and one line feed, which may be missing at the end; any other byte there is a fault, and
+/// too few bytes cut the write short.
 pub fn takes_payload()
     ensures { AlwaysTakesPayload }
 {}

@@ -1,3 +1,3 @@
 pub mod WriteLemmas
-pub mod DatabaseLemmas
+pub mod JoinLemmas
 pub mod StandLemmas

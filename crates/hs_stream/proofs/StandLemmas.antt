@@ -5,7 +5,7 @@ use Rattle.hs_base.proofs.NewLemmas.{told_start, told_more}
 use Rattle.hs_stream.specs.Standing.{FreshStands, WriteMoves, EndIsLast}
 
 pub fresh-stands : FreshStands
-fresh-stands db P stream is fresh = record { runs = is.roles; state = fresh P is.roles; told = []; is_told = told_start P }
+fresh-stands db P stream is fresh = record { runs = is; state = fresh P is; told = []; is_told = told_start P }
 
 pub write-moves : WriteMoves
 write-moves db P u v old new pairs stands writes =

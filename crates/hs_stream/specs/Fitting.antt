@@ -1,4 +1,5 @@
 -- A stream, seen as its state and a digest, over any database: a program and a digest.
+use Rattle.hs_engine.specs.Engines.{Meaning}
 use Rattle.std.specs.Prelude.{◌≡◌, ℕ, List}
 use Rattle.hs_rose.specs.declared.program.Program.{Program}
 use Rattle.hs_run.specs.declared.state.State.{State}
@@ -14,6 +15,7 @@ abbrev pub digest_of : Stream → List ℕ
 digest_of stream = stream.digest
 
 -- The stream has the digest, and its state fits the program.
-pub record Fits {E : Type 0} (Well : E → List ℕ → ℕ → Type 0) (program : Program E) (known : List ℕ) (stream : Stream) : Type 0 where
+pub record Fits {E : Type 0} (meaning : E → Meaning) (program : Program E) (known : List ℕ)
+    (stream : Stream) : Type 0 where
   pub digest : digest_of stream ≡ known
-  pub state : FitsState Well program (state_of stream)
+  pub state : FitsState meaning program (state_of stream)

@@ -1,4 +1,3 @@
-pub mod Limits
 pub mod Scratches
 pub mod Fitting
 pub mod Streams

@@ -1,5 +1,5 @@
-//! Streams over a database: each is opened, written in pieces, reset and closed, and tells what its bytes decide when they
-//! decide it. `specs/Streams.antt` says what a stream is seen as, `laws` what follows for any list of writes.
+//! Streams over a database: each is opened, written in pieces, reset and closed, and tells what its bytes decide when
+//! they decide it. `specs/Streams.antt` says what a stream is seen as, `laws` what follows for any list of writes.
 #![tactic(auto)]
 
 pub mod laws;
@@ -10,4 +10,4 @@ mod tests;
 
 pub use hs_run::{Collected, Events};
 pub use scratch::Scratch;
-pub use stream::{MAX_OFFSET, Stream, StreamFull};
+pub use stream::{Stream, StreamFull};

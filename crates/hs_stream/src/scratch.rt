@@ -4,8 +4,8 @@ ghost use Rattle.std.specs.Prelude.{◌↔◌, IsTrue, IfOk};
 use hs_compile::Database;
 use std::alloc::{AllocError, Global};
 
-/// Memory that a call on a stream uses. Nothing in it outlives the call, so one scratch serves all streams of the databases
-/// that it fits.
+/// Memory that a call on a stream uses. Nothing in it outlives the call, so one scratch serves all streams of the
+/// databases that it fits.
 #[derive(Debug, Drop)]
 pub struct Scratch {
     pub(crate) room: hs_run::Scratch,

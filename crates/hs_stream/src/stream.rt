@@ -3,19 +3,17 @@ ghost use Rattle.std.specs.Prelude.{◌≡◌, ◌↔◌, ◌+◌, ◌*◌, ◌<
 ghost use Rattle.hs_compile.specs.Databases.{program_of};
 ghost use Rattle.hs_rose.specs.Programs.{roles_of};
 ghost use Rattle.hs_run.specs.Events.{Takes};
-ghost use Rattle.hs_stream.specs.Limits.{greatest_offset};
+ghost use Rattle.hs_base.specs.Offsets.{greatest_offset};
 ghost use Rattle.hs_stream.specs.Scratches.{IsScratchOf};
 
 use crate::scratch::Scratch;
+use hs_base::MAX_OFFSET;
 use hs_compile::Database;
 use hs_engine::Steps;
 use hs_run::{Events, State, feed, finish};
 use std::alloc::{AllocError, Global};
 use std::sync::ledger::Ledger;
 use thiserror::Error;
-
-/// The greatest offset in a stream, in bytes.
-pub const MAX_OFFSET: u64 = 9_223_372_036_854_775_807;
 
 /// Bytes aren't taken, since with them the stream would be longer than [`MAX_OFFSET`].
 #[derive(Clone, Copy, Debug, PartialEq, Eq, Error)]
@@ -31,11 +29,10 @@ pub struct Stream {
 }
 
 impl Stream {
-    ghost use Rattle.hs_stream.specs.Streams.{offset_of, IsUsable, IsStreamOf, IsFresh, Writes, Ends};
+    ghost use Rattle.hs_stream.specs.Streams.{offset_of, IsStreamOf, IsFresh, Writes, Closes};
 
     /// A stream of which no byte has come. No other call on a stream takes memory. The error is want of it.
     pub fn open(alloc: Global, db: &Database) -> Result<Stream, AllocError>
-        requires { IsUsable db.now }
         ensures fits { IfOk result (IsStreamOf db.now) }
         ensures offset { IfOk result (λ stream. offset_of stream ≡ 0) }
         ensures fresh { IfOk result (IsFresh db.now) }
@@ -51,8 +48,8 @@ impl Stream {
     ///
     /// # Errors
     ///
-    /// `StreamFull` exactly where the stream with the bytes would be longer than [`MAX_OFFSET`]. It is then as it was, and
-    /// nothing was reported.
+    /// `StreamFull` exactly where the stream with the bytes would be longer than [`MAX_OFFSET`]. It is then as it was,
+    /// and nothing was reported.
     pub fn write<V: Events, L: Ledger>(
         &mut self,
         db: &Database,
@@ -61,7 +58,6 @@ impl Stream {
         events: &mut V,
         steps: &mut Steps<L>,
     ) -> Result<(), StreamFull>
-        requires usable { IsUsable db.now }
         requires fits { IsStreamOf db.now self.old }
         requires scratch { IsScratchOf db.now scratch.old }
         ensures fits { IsStreamOf db.now self.new }
@@ -88,36 +84,47 @@ impl Stream {
     }
 
     /// Ends the stream, and reports what only its end decides, by end, then identifier.
-    pub fn close<V: Events>(self, db: &Database, scratch: &mut Scratch, events: &mut V)
-        requires usable { IsUsable db.now }
+    pub fn close<V: Events, L: Ledger>(
+        self,
+        db: &Database,
+        scratch: &mut Scratch,
+        events: &mut V,
+        steps: &mut Steps<L>,
+    )
         requires fits { IsStreamOf db.now self }
         requires scratch { IsScratchOf db.now scratch.old }
         ensures scratch { IsScratchOf db.now scratch.new }
-        ensures told { Takes V.tells events.old events.new (Ends db.now self) }
+        ensures told { Takes V.tells events.old events.new (Closes db.now self) }
+        ensures ticks { steps.new ≡ steps.old }
     {
-        finish(db.program(), &self.state, &mut scratch.room, events);
+        finish(db.program(), &self.state, &mut scratch.room, events, steps);
     }
 
-    /// Ends the stream, and reports what only its end decides, by end, then identifier. It then goes on as a stream of which
-    /// no byte has come.
-    pub fn reset<V: Events>(&mut self, db: &Database, scratch: &mut Scratch, events: &mut V)
-        requires usable { IsUsable db.now }
+    /// Ends the stream, and reports what only its end decides, by end, then identifier. It then goes on as a stream of
+    /// which no byte has come.
+    pub fn reset<V: Events, L: Ledger>(
+        &mut self,
+        db: &Database,
+        scratch: &mut Scratch,
+        events: &mut V,
+        steps: &mut Steps<L>,
+    )
         requires fits { IsStreamOf db.now self.old }
         requires scratch { IsScratchOf db.now scratch.old }
         ensures fits { IsStreamOf db.now self.new }
         ensures scratch { IsScratchOf db.now scratch.new }
         ensures offset { offset_of self.new ≡ 0 }
         ensures fresh { IsFresh db.now self.new }
-        ensures told { Takes V.tells events.old events.new (Ends db.now self.old) }
+        ensures told { Takes V.tells events.old events.new (Closes db.now self.old) }
+        ensures ticks { steps.new ≡ steps.old }
     {
         let program = db.program();
-        finish(program, &self.state, &mut scratch.room, events);
+        finish(program, &self.state, &mut scratch.room, events, steps);
         self.state.clear(program);
     }
 
     /// Whether the stream is one of the database: it has its digest, and its state fits what the database runs.
     pub fn fits(&self, db: &Database) -> bool
-        requires { IsUsable db.now }
         ensures { IsTrue result ↔ IsStreamOf db.now self.now }
     {
         if self.digest != *db.digest() {

@@ -1,11 +1,11 @@
-//! Streams over lists of expressions, in rows of which the reports were worked out by hand.
-ghost use Rattle.std.specs.Prelude.{◌≡◌, ◌<◌, IfOk};
+//! Streams that take turns, empty writes, and what fits.
+ghost use Rattle.std.specs.Prelude.{◌≡◌, ◌<◌};
 ghost use Rattle.hs_stream.specs.Scratches.{IsScratchOf};
-ghost use Rattle.hs_stream.specs.Streams.{IsUsable, IsStreamOf};
+ghost use Rattle.hs_stream.specs.Streams.{IsStreamOf};
 
 use crate::stream::has_room;
-use crate::{Collected, MAX_OFFSET, Scratch, Stream};
-use hs_base::{Entry, ExprId, Ext, Flags, Report};
+use crate::{Collected, Scratch, Stream};
+use hs_base::{Entry, ExprId, Ext, Flags, MAX_OFFSET, Report};
 use hs_compile::{Database, compile};
 use hs_engine::Steps;
 use std::alloc::{AllocError, Global};
@@ -19,14 +19,6 @@ type Row = (u32, &'static str, Flags);
 
 /// A pair that is reported: an identifier and an end.
 type Told = (u32, u64);
-
-/// A list, a text, what the text reports, and what the end reports behind it.
-type Case = (
-    &'static [Row],
-    &'static [u8],
-    &'static [Told],
-    &'static [Told],
-);
 
 /// A list of entries without parameters.
 fn entries_of(alloc: Global, list: &[Row]) -> Result<Vec<Entry>, AllocError> {
@@ -43,9 +35,7 @@ fn entries_of(alloc: Global, list: &[Row]) -> Result<Vec<Entry>, AllocError> {
 }
 
 /// What a list is compiled to.
-fn database_of(alloc: Global, list: &[Row]) -> Result<Database, Fail>
-    ensures { IfOk result IsUsable }
-{
+fn database_of(alloc: Global, list: &[Row]) -> Result<Database, Fail> {
     let entries = entries_of(alloc, list)?;
     let database = compile(alloc, &entries)?;
     Ok(database)
@@ -73,7 +63,6 @@ fn write<L: Ledger>(
     bytes: &[u8],
     wanted: &[Told],
 ) -> Result<(), Fail>
-    requires usable { IsUsable db.now }
     requires stream { IsStreamOf db.now stream.old }
     requires scratch { IsScratchOf db.now scratch.old }
     ensures stream { IsStreamOf db.now stream.new }
@@ -87,260 +76,46 @@ fn write<L: Ledger>(
 }
 
 /// Resets the stream, which reports just these pairs.
-fn reset(
-    rt: &impl Abort,
-    alloc: Global,
-    db: &Database,
-    scratch: &mut Scratch,
-    stream: &mut Stream,
-    wanted: &[Told],
-) -> Result<(), Fail>
-    requires usable { IsUsable db.now }
-    requires stream { IsStreamOf db.now stream.old }
-    requires scratch { IsScratchOf db.now scratch.old }
-    ensures stream { IsStreamOf db.now stream.new }
-    ensures scratch { IsScratchOf db.now scratch.new }
-{
-    let wanted = reports_of(alloc, wanted)?;
-    let mut told = Collected::new(alloc, 100)?;
-    stream.reset(db, scratch, &mut told);
-    assert_eq!(rt; told.reports(), wanted.as_slice());
-    assert_eq!(rt; stream.offset(db), 0);
-    Ok(())
-}
-
-/// Closes the stream, which reports just these pairs.
-fn close(
-    rt: &impl Abort,
-    alloc: Global,
-    db: &Database,
-    scratch: &mut Scratch,
-    stream: Stream,
-    wanted: &[Told],
-) -> Result<(), Fail>
-    requires usable { IsUsable db.now }
-    requires stream { IsStreamOf db.now stream }
-    requires scratch { IsScratchOf db.now scratch.old }
-    ensures { IsScratchOf db.now scratch.new }
-{
-    let wanted = reports_of(alloc, wanted)?;
-    let mut told = Collected::new(alloc, 100)?;
-    stream.close(db, scratch, &mut told);
-    assert_eq!(rt; told.reports(), wanted.as_slice());
-    Ok(())
-}
-
-/// Lists and texts, each of at most 100 reports.
-const CASES: &[Case] = &[
-    (&[], b"ab", &[], &[]),
-    (
-        &[(16, "foo", Flags::NONE)],
-        b"xfoofoo",
-        &[(16, 4), (16, 7)],
-        &[],
-    ),
-    (
-        &[(1, "foo.*bar", Flags::NONE)],
-        b"fooxyzbarbar",
-        &[(1, 9), (1, 12)],
-        &[],
-    ),
-    (
-        &[(12, "ab", Flags::NONE), (12, "b", Flags::NONE)],
-        b"ab",
-        &[(12, 2)],
-        &[],
-    ),
-    (
-        &[(5, "ab", Flags::NONE), (9, "a", Flags::NONE)],
-        b"abab",
-        &[(9, 1), (5, 2), (9, 3), (5, 4)],
-        &[],
-    ),
-    (&[(18, "a", Flags::SINGLEMATCH)], b"baa", &[(18, 2)], &[]),
-    (&[(2, "a*", Flags::ALLOWEMPTY)], b"", &[], &[(2, 0)]),
-    (
-        &[(2, "a*", Flags::ALLOWEMPTY)],
-        b"ba",
-        &[(2, 0), (2, 1), (2, 2)],
-        &[],
-    ),
-    (
-        &[(7, "(ab)+", Flags::NONE)],
-        b"ababa",
-        &[(7, 2), (7, 4)],
-        &[],
-    ),
-];
-
-/// Writes a text in two parts, resets, writes it whole, and closes.
-fn scan_cut<L: Ledger>(
-    rt: &impl Abort,
-    alloc: Global,
-    case: &Case,
-    cut: usize,
-    blank: Blank,
-) -> Result<(), Fail>
-    requires name { blank.name ≡ L.name }
-    requires parts { blank.parts ≡ L.parts }
-    requires some { 0 < L.parts }
-{
-    let (list, text, told, last) = case;
-    let db = database_of(alloc, list)?;
-    let wanted = reports_of(alloc, told)?;
-    let mut steps = Steps::<L>::open(blank);
-    let mut scratch = Scratch::new(alloc, &db)?;
-    let mut stream = Stream::open(alloc, &db)?;
-    assert!(rt; cut <= text.len());
-    let mut events = Collected::new(alloc, 100)?;
-    stream.write(&db, &mut scratch, &text[..cut], &mut events, &mut steps)?;
-    stream.write(&db, &mut scratch, &text[cut..], &mut events, &mut steps)?;
-    assert_eq!(rt;
-        events.reports(),
-        wanted.as_slice(),
-        "{text:?} cut at {cut}"
-    );
-    assert_eq!(rt; stream.offset(&db), text.len() as u64);
-    reset(rt, alloc, &db, &mut scratch, &mut stream, last)?;
-    write(
-        rt,
-        alloc,
-        &db,
-        &mut scratch,
-        &mut stream,
-        &mut steps,
-        text,
-        told,
-    )?;
-    close(rt, alloc, &db, &mut scratch, stream, last)
-}
-
-#[test]
-fn reports_the_same_at_every_cut(rt: HostRuntime) -> Result<(), Fail> {
-    let alloc = rt.alloc();
-    for case in CASES {
-        for cut in 0..=case.1.len() {
-            scan_cut::<Brand>(&rt, alloc, case, cut, Blank::new(1))?;
-        }
-    }
-    Ok(())
-}
-
-/// Bytes that are written, and what they report.
-type Piece = (&'static [u8], &'static [Told]);
-
-/// Lists, pieces that are written one after another, and what the end reports behind them.
-const DECISIONS: &[(&[Row], &[Piece], &[Told])] = &[
-    (
-        &[(4, "a$", Flags::MULTILINE)],
-        &[(b"a", &[]), (b"\nb", &[(4, 1)])],
-        &[],
-    ),
-    (
-        &[(5, "\\bfoo\\b", Flags::NONE)],
-        &[(b"foo", &[])],
-        &[(5, 3)],
-    ),
-    (
-        &[(5, "\\bfoo\\b", Flags::NONE)],
-        &[(b"foo", &[]), (b"d", &[])],
-        &[],
-    ),
-    (&[(17, "a$", Flags::NONE)], &[(b"a", &[])], &[(17, 1)]),
-    (
-        &[(17, "a$", Flags::NONE)],
-        &[(b"a", &[]), (b"\n", &[])],
-        &[(17, 1)],
-    ),
-    (
-        &[(15, "[0-9]+foo[a-z]*bar", Flags::NONE)],
-        &[
-            (b"1f", &[]),
-            (b"oox", &[]),
-            (b"ba", &[]),
-            (b"r", &[(15, 8)]),
-        ],
-        &[],
-    ),
-    (
-        &[(5, "a\\b", Flags::NONE), (9, "a", Flags::NONE)],
-        &[(b"a", &[(9, 1)]), (b" ", &[(5, 1)])],
-        &[],
-    ),
-    (
-        &[(12, "a$|\\n", Flags::SINGLEMATCH)],
-        &[(b"a", &[]), (b"\n", &[(12, 2)])],
-        &[],
-    ),
-];
-
-/// Writes the pieces one after another.
-fn write_pieces<L: Ledger>(
+fn reset<L: Ledger>(
     rt: &impl Abort,
     alloc: Global,
     db: &Database,
     scratch: &mut Scratch,
     stream: &mut Stream,
     steps: &mut Steps<L>,
-    pieces: &[Piece],
+    wanted: &[Told],
 ) -> Result<(), Fail>
-    requires usable { IsUsable db.now }
     requires stream { IsStreamOf db.now stream.old }
     requires scratch { IsScratchOf db.now scratch.old }
     ensures stream { IsStreamOf db.now stream.new }
     ensures scratch { IsScratchOf db.now scratch.new }
 {
-    for (bytes, wanted) in pieces {
-        write(rt, alloc, db, scratch, stream, steps, bytes, wanted)?;
-    }
+    let wanted = reports_of(alloc, wanted)?;
+    let mut told = Collected::new(alloc, 100)?;
+    stream.reset(db, scratch, &mut told, steps);
+    assert_eq!(rt; told.reports(), wanted.as_slice());
+    assert_eq!(rt; stream.offset(db), 0);
     Ok(())
 }
 
-/// Writes the pieces, resets, writes them again, and closes.
-fn scan_pieces<L: Ledger>(
+/// Closes the stream, which reports just these pairs.
+fn close<L: Ledger>(
     rt: &impl Abort,
     alloc: Global,
-    list: &[Row],
-    pieces: &[Piece],
-    last: &[Told],
-    blank: Blank,
+    db: &Database,
+    scratch: &mut Scratch,
+    stream: Stream,
+    steps: &mut Steps<L>,
+    wanted: &[Told],
 ) -> Result<(), Fail>
-    requires name { blank.name ≡ L.name }
-    requires parts { blank.parts ≡ L.parts }
-    requires some { 0 < L.parts }
+    requires stream { IsStreamOf db.now stream }
+    requires scratch { IsScratchOf db.now scratch.old }
+    ensures { IsScratchOf db.now scratch.new }
 {
-    let db = database_of(alloc, list)?;
-    let mut steps = Steps::<L>::open(blank);
-    let mut scratch = Scratch::new(alloc, &db)?;
-    let mut stream = Stream::open(alloc, &db)?;
-    write_pieces(
-        rt,
-        alloc,
-        &db,
-        &mut scratch,
-        &mut stream,
-        &mut steps,
-        pieces,
-    )?;
-    reset(rt, alloc, &db, &mut scratch, &mut stream, last)?;
-    write_pieces(
-        rt,
-        alloc,
-        &db,
-        &mut scratch,
-        &mut stream,
-        &mut steps,
-        pieces,
-    )?;
-    close(rt, alloc, &db, &mut scratch, stream, last)
-}
-
-#[test]
-fn reports_when_it_is_decided(rt: HostRuntime) -> Result<(), Fail> {
-    let alloc = rt.alloc();
-    for (list, pieces, last) in DECISIONS {
-        scan_pieces::<Brand>(&rt, alloc, list, pieces, last, Blank::new(1))?;
-    }
+    let wanted = reports_of(alloc, wanted)?;
+    let mut told = Collected::new(alloc, 100)?;
+    stream.close(db, scratch, &mut told, steps);
+    assert_eq!(rt; told.reports(), wanted.as_slice());
     Ok(())
 }
 
@@ -405,7 +180,7 @@ fn scan_in_turns<L: Ledger>(rt: &impl Abort, alloc: Global, blank: Blank) -> Res
         b"fo",
         &[],
     )?;
-    reset(rt, alloc, &db, &mut scratch, &mut one, &[])?;
+    reset(rt, alloc, &db, &mut scratch, &mut one, &mut steps, &[])?;
     write(
         rt,
         alloc,
@@ -416,8 +191,8 @@ fn scan_in_turns<L: Ledger>(rt: &impl Abort, alloc: Global, blank: Blank) -> Res
         b"ofoo",
         &[(16, 4)],
     )?;
-    close(rt, alloc, &db, &mut scratch, one, &[])?;
-    close(rt, alloc, &db, &mut scratch, other, &[])
+    close(rt, alloc, &db, &mut scratch, one, &mut steps, &[])?;
+    close(rt, alloc, &db, &mut scratch, other, &mut steps, &[])
 }
 
 #[test]
@@ -445,7 +220,15 @@ fn write_nothing<L: Ledger>(rt: &impl Abort, alloc: Global, blank: Blank) -> Res
         b"",
         &[],
     )?;
-    reset(rt, alloc, &db, &mut scratch, &mut stream, &[(2, 0)])?;
+    reset(
+        rt,
+        alloc,
+        &db,
+        &mut scratch,
+        &mut stream,
+        &mut steps,
+        &[(2, 0)],
+    )?;
     write(
         rt,
         alloc,
@@ -456,7 +239,7 @@ fn write_nothing<L: Ledger>(rt: &impl Abort, alloc: Global, blank: Blank) -> Res
         b"b",
         &[(2, 0), (2, 1)],
     )?;
-    close(rt, alloc, &db, &mut scratch, stream, &[])
+    close(rt, alloc, &db, &mut scratch, stream, &mut steps, &[])
 }
 
 #[test]

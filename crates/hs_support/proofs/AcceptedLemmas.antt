@@ -8,9 +8,9 @@ use Rattle.hs_base.specs.EndAssertions.{has_embedded_end}
 use Rattle.hs_base.specs.Spans.{Spans}
 use Rattle.hs_base.specs.Trees.{Tree}
 use Rattle.hs_expr.specs.Counts.{capped, positions}
-use Rattle.hs_support.specs.Refused.{most_positions, AllowsEmpty, matches_empty, embedded_end, position_limit, offset_order, IsAccepted}
+use Rattle.hs_support.specs.Refused.{most_positions, AllowsEmpty, matches_empty, embedded_end, position_limit, offset_order, IsSupported}
 
-module _ (flags : Flags) (ext : Ext) (tree : Tree) (accepted : IsAccepted flags ext tree) where
+module _ (flags : Flags) (ext : Ext) (tree : Tree) (accepted : IsSupported flags ext tree) where
   -- it doesn't match the empty text, unless a flag allows that
   pub accepted-not_empty : (AllowsEmpty flags → ⊥) → Spans [] true tree 0 0 → ⊥
   accepted-not_empty not_allowed spans = accepted MatchesEmpty (matches_empty not_allowed spans)

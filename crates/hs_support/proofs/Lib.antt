@@ -1,5 +1,8 @@
 pub mod AcceptedLemmas
-pub mod EndLemmas
 pub mod OutsideLemmas
 pub mod RefusedLemmas
 pub mod UniqueLemmas
+pub mod RunLemmas
+pub mod WalkLemmas
+pub mod PieceLemmas
+pub mod ExcessLemmas

@@ -10,7 +10,7 @@ use Rattle.hs_base.specs.Spans.{Spans}
 use Rattle.hs_base.specs.Trees.{Tree}
 use Rattle.hs_expr.specs.Counts.{capped, positions}
 use Rattle.hs_support.specs.Support.{supported_flags, supported_parameters, IsOutside, IsLeastOutside}
-use Rattle.hs_support.specs.Refused.{most_positions, AllowsEmpty, HasFlagsFault, flag, parameter, HasRefusal, unsupported, matches_empty, embedded_end, position_limit, offset_order, IsLeast, IsAccepted}
+use Rattle.hs_support.specs.Refused.{most_positions, AllowsEmpty, HasFlagsFault, flag, parameter, HasRefusal, unsupported, matches_empty, embedded_end, position_limit, offset_order, IsLeast, IsSupported}
 
 module _ (flags : Flags) (ext : Ext) where
   flag-below : (other : Refusal) → HasFlagsFault flags ext other → 4 ≤ number_of other
@@ -99,7 +99,7 @@ module _ (flags : Flags) (ext : Ext) where
             pub order-least : ext.max_offset < ext.min_offset → IsLeast (HasRefusal flags ext tree) OffsetOrder
             order-least above = record { has = offset_order above; least = order-below }
 
-            pub none-left : ext.min_offset ≤ ext.max_offset → IsAccepted flags ext tree
+            pub none-left : ext.min_offset ≤ ext.max_offset → IsSupported flags ext tree
             none-left order other (unsupported r fault) = supported r fault
             none-left order other (matches_empty not_allowed spans) = not_empty not_allowed spans
             none-left order other (embedded_end has) = absurd (cc)

@@ -3,7 +3,8 @@ use Rattle.std.specs.Prelude.{◌≡◌, ℕ, ◌<◌, ◌≤◌, true, false, [
 use Rattle.hs_base.specs.declared.ext.Ext.{Ext}
 use Rattle.hs_base.specs.declared.flags.Flags.{Flags}
 use Rattle.hs_base.specs.declared.refusal.Refusal.{Refusal}
-use Rattle.hs_base.specs.declared.refusal.Refusal.TheVariants.{UnsupportedFlag, UnsupportedParameter, MatchesEmpty, EmbeddedEnd, PositionLimit, OffsetOrder}
+use Rattle.hs_base.specs.declared.refusal.Refusal.TheVariants.{UnsupportedFlag, UnsupportedParameter, MatchesEmpty}
+use Rattle.hs_base.specs.declared.refusal.Refusal.TheVariants.{EmbeddedEnd, PositionLimit, OffsetOrder}
 use Rattle.hs_base.specs.EndAssertions.{has_embedded_end}
 use Rattle.hs_base.specs.Refusals.{number_of}
 use Rattle.hs_base.specs.Spans.{Spans}
@@ -22,7 +23,9 @@ AllowsEmpty flags = bit_and flags.0 16 ≡ 16
 -- A flag or a parameter isn't supported; of several, the least one is told.
 pub data HasFlagsFault (flags : Flags) (ext : Ext) : Refusal → Type 0 where
   flag : (bit : ℕ) → IsLeastOutside supported_flags flags.0 bit → HasFlagsFault flags ext (UnsupportedFlag bit)
-  parameter : (bit : ℕ) → IsLeastOutside supported_parameters ext.bits bit → HasFlagsFault flags ext (UnsupportedParameter bit)
+  parameter : (bit : ℕ) →
+      IsLeastOutside supported_parameters ext.bits bit →
+      HasFlagsFault flags ext (UnsupportedParameter bit)
 
 -- The expression has the refusal.
 pub data HasRefusal (flags : Flags) (ext : Ext) (tree : Tree) : Refusal → Type 0 where
@@ -43,5 +46,5 @@ pub record IsLeast (Has : Refusal → Type 0) (refusal : Refusal) : Type 0 where
   pub least : (other : Refusal) → Has other → number_of refusal ≤ number_of other
 
 -- the expression has no refusal
-abbrev pub IsAccepted : Flags → Ext → Tree → Type 0
-IsAccepted flags ext tree = (refusal : Refusal) → HasRefusal flags ext tree refusal → ⊥
+abbrev pub IsSupported : Flags → Ext → Tree → Type 0
+IsSupported flags ext tree = (refusal : Refusal) → HasRefusal flags ext tree refusal → ⊥

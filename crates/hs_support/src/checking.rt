@@ -2,21 +2,17 @@
 ghost use Rattle.std.specs.Prelude.{true, [], MatchBool, MatchResult};
 ghost use Rattle.hs_base.specs.Spans.{Spans};
 ghost use Rattle.hs_expr.specs.Meaning.{tree_of};
-ghost use Rattle.hs_support.specs.Refused.{AllowsEmpty, HasRefusal, IsAccepted, IsLeast};
+ghost use Rattle.hs_support.specs.Refused.{AllowsEmpty, HasRefusal, IsSupported, IsLeast};
 
-use crate::ends::has_embedded_end;
 use crate::fault::flags_fault;
-use hs_base::{Ext, Flags, Refusal};
-use hs_expr::{Expr, matches_empty, positions};
-
-/// The most positions that an expression may have.
-pub const MAX_POSITIONS: u32 = 512;
+use hs_base::{Ext, Flags, MAX_POSITIONS, Refusal};
+use hs_expr::{Expr, has_embedded_end, matches_empty, positions};
 
 /// Looks for the refusals of an expression that go by its flags, its parameters and its tree: a flag or a parameter
 /// that isn't supported, a match of the empty text that no flag allows, bytes behind an assertion of the stream's end,
 /// too many positions, a least end offset above the greatest. The error is the one of least number.
 pub fn check(expr: &Expr, flags: Flags, ext: Ext) -> Result<(), Refusal>
-    ensures { MatchResult result (λ done. IsAccepted flags ext (tree_of expr.now))
+    ensures { MatchResult result (λ done. IsSupported flags ext (tree_of expr.now))
         (IsLeast (HasRefusal flags ext (tree_of expr.now))) }
 {
     if let Some(refusal) = flags_fault(flags, ext) {

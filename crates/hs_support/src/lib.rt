@@ -1,13 +1,19 @@
-//! Which expressions are supported: the refusals that go by an expression's flags, parameters and tree.
+//! Which expressions are supported: the refusals that go by an expression's flags, parameters and tree, and the count
+//! of its positions by pieces.
 #![tactic(auto)]
 
 mod checking;
-mod ends;
 mod fault;
+mod kind;
 pub mod laws;
 mod outside;
 #[cfg(test)]
+mod piece_tests;
+mod pieces;
+#[cfg(test)]
 mod tests;
+mod walk;
 
-pub use checking::{MAX_POSITIONS, check};
+pub use checking::check;
 pub use fault::{SUPPORTED_FLAGS, SUPPORTED_PARAMETERS, flags_fault};
+pub use pieces::excess_positions;

@@ -13,7 +13,7 @@ use Rattle.hs_syntax.specs.Bytes.{◌∈◌, is_one_of}
 use Rattle.hs_syntax.specs.Numbers.{number_at}
 use Rattle.hs_syntax.specs.Names.{named_letter, class_of_name, name_end}
 use Rattle.hs_syntax.specs.Escapes.{character_letter, control_of, coded, short_at, braced_at, hexadecimal_at, letter_of, escape_by, escape_of, escape_at}
-use Rattle.hs_syntax.specs.Pieces.{escaped_of, posix_of, posix_name, posix_at, collating_of, bracket_at, piece_of, piece_at, colon, full_stop, equals_sign}
+use Rattle.hs_syntax.specs.Pieces.{escaped_of, posix_of, posix_name, posix_at, collating_of, bracket_at, piece_by, piece_at, colon, full_stop, equals_sign}
 use Rattle.hs_syntax.specs.Lengths.{IsLength, PieceFits}
 use Rattle.hs_syntax.proofs.FitLemmas.{either, both_right, is_one_within, number_within, name_within}
 
@@ -127,7 +127,7 @@ pub no_first : (bytes : List ℕ) → slice_get bytes 0 ≡ None → length byte
 no_first [] e = refl
 no_first (b ∷ bytes) e = absurd cc
 
-piece_of_fits : (caseless first : Bool) (bytes : List ℕ) (o : Option ℕ) → slice_get bytes 0 ≡ o → PieceFits (length bytes) (piece_of caseless first bytes o)
+piece_of_fits : (caseless first : Bool) (bytes : List ℕ) (o : Option ℕ) → slice_get bytes 0 ≡ o → PieceFits (length bytes) (piece_by caseless first bytes o)
 piece_of_fits caseless first bytes None e = no_first bytes e
 piece_of_fits caseless first bytes (Some b) e =
     let there = slice_get_within bytes 0 b e in

@@ -1,5 +1,6 @@
 -- Bytes that are read from left to right, and tests of one of them.
-use Rattle.std.specs.Prelude.{ℕ, ◌+◌, Bool, false, ◌==◌, ◌||◌, ◌&&◌, nat_le, Option, Some, None, if◌then◌else◌, List, [], ◌∷◌, codes}
+use Rattle.std.specs.Prelude.{ℕ, ◌+◌, Bool, false, ◌==◌, ◌||◌, ◌&&◌, nat_le, Option, Some, None, if◌then◌else◌, List}
+use Rattle.std.specs.Prelude.{[], ◌∷◌, codes}
 use Rattle.std.specs.Char.{is_ascii_lowercase}
 use Rattle.hs_base.specs.Assertions.{is_word_byte}
 use Prim.Native.String.{String}

@@ -3,9 +3,11 @@ use Rattle.std.specs.Prelude.{ℕ, ◌+◌, ◌-◌, ◌&&◌, nat_le, nat_lt, O
 use Rattle.std.specs.Char.{is_ascii_alphabetic, is_ascii_uppercase, to_ascii_uppercase}
 use Rattle.std.specs.Int.{is_in_range}
 use Rattle.hs_base.specs.declared.construct.Construct.{Construct}
-use Rattle.hs_base.specs.declared.construct.Construct.TheVariants.{Backreference, Property, NewlineSequence, AnyByte, Keep, NotNewline, Grapheme, MatchStart}
+use Rattle.hs_base.specs.declared.construct.Construct.TheVariants.{Backreference, Property, NewlineSequence, AnyByte}
+use Rattle.hs_base.specs.declared.construct.Construct.TheVariants.{Keep, NotNewline, Grapheme, MatchStart}
 use Rattle.hs_base.specs.declared.assertion.Assertion.{Assertion}
-use Rattle.hs_base.specs.declared.assertion.Assertion.TheVariants.{StreamStart, EndOrFinalNewline, StreamEnd, WordBoundary, NotWordBoundary}
+use Rattle.hs_base.specs.declared.assertion.Assertion.TheVariants.{StreamStart, EndOrFinalNewline, StreamEnd}
+use Rattle.hs_base.specs.declared.assertion.Assertion.TheVariants.{WordBoundary, NotWordBoundary}
 use Rattle.hs_syntax.specs.declared.named.Named.{Named}
 use Rattle.hs_syntax.specs.declared.wrong.Wrong.TheVariants as wrong
 use Rattle.hs_syntax.specs.declared.escape.Escape.{Escape}

@@ -1,6 +1,7 @@
--- What the bytes of an expression begin outside of classes, under the options in force (PCRE pattern syntax, "Characters
--- and metacharacters").
-use Rattle.std.specs.Prelude.{ℕ, ◌+◌, true, false, ◌&&◌, Option, Some, None, is_some, if◌then◌else◌, List, length, drop, slice_get}
+-- What the bytes of an expression begin outside of classes, under the options in force (PCRE pattern syntax,
+-- "Characters and metacharacters").
+use Rattle.std.specs.Prelude.{ℕ, ◌+◌, true, false, ◌&&◌, Option, Some, None, is_some, if◌then◌else◌, List, length, drop}
+use Rattle.std.specs.Prelude.{slice_get}
 use Rattle.hs_base.specs.declared.assertion.Assertion.{Assertion}
 use Rattle.hs_base.specs.declared.assertion.Assertion.TheVariants.{StreamStart, LineStart, LineEnd, EndOrFinalNewline}
 use Rattle.hs_base.specs.declared.construct.Construct.{Construct}
@@ -11,7 +12,8 @@ use Rattle.hs_syntax.specs.declared.wrong.Wrong.TheVariants as wrong
 use Rattle.hs_syntax.specs.declared.escape.Escape.{Escape}
 use Rattle.hs_syntax.specs.declared.escape.Escape.TheVariants as escape
 use Rattle.hs_syntax.specs.declared.form.Form.{Form}
-use Rattle.hs_syntax.specs.declared.form.Form.TheVariants.{End, Skipped, Any, Character, Class, Assert, Bracket, Closing, Bar, Refused}
+use Rattle.hs_syntax.specs.declared.form.Form.TheVariants.{End, Skipped, Any, Character, Class, Assert, Bracket}
+use Rattle.hs_syntax.specs.declared.form.Form.TheVariants.{Closing, Bar, Refused}
 use Rattle.hs_syntax.specs.Bytes.{◌∈◌, is_one_of, place_on}
 use Rattle.hs_syntax.specs.Settings.{with_quote}
 use Rattle.hs_syntax.specs.Names.{name_end}

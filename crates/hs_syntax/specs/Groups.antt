@@ -53,7 +53,8 @@ changed bytes set =
 -- letters of options behind `(?`
 unfoldable pub settings_at : Mode → List ℕ → Form
 settings_at mode bytes =
-    let change = changed bytes (set_options true mode 2 (drop 2 bytes)) in settings_of change (slice_get bytes change.end)
+    let change = changed bytes (set_options true mode 2 (drop 2 bytes)) in
+    settings_of change (slice_get bytes change.end)
 
 -- behind `(?P`
 unfoldable pub letter_group : Mode → List ℕ → Form

@@ -1,13 +1,16 @@
--- The classes of bytes that have a name or a letter (PCRE pattern syntax, "Generic character types" and "POSIX character
--- classes").
-use Rattle.std.specs.Prelude.{ℕ, ◌+◌, Bool, true, false, not, ◌==◌, ◌&&◌, ◌||◌, nat_eq, nat_le, nat_lt, Option, Some, None, if◌then◌else◌, option_map, List, codes, drop, slice_get}
+-- The classes of bytes that have a name or a letter (PCRE pattern syntax, "Generic character types" and "POSIX
+-- character classes").
+use Rattle.std.specs.Prelude.{ℕ, ◌+◌, Bool, true, false, not, ◌==◌, ◌&&◌, ◌||◌, nat_eq, nat_le, nat_lt, Option, Some}
+use Rattle.std.specs.Prelude.{None, if◌then◌else◌, option_map, List, codes, drop, slice_get}
 use Rattle.std.specs.Char.{is_ascii_alphabetic, is_ascii_alphanumeric, is_ascii_lowercase, is_ascii_uppercase}
 use Rattle.std.specs.Int.{is_in_range}
 use Rattle.std.specs.Option.{option_or}
 use Rattle.hs_base.specs.Assertions.{is_word_byte}
 use Rattle.hs_base.specs.ByteSets.{is_digit, is_space}
 use Rattle.hs_syntax.specs.declared.named.Named.{Named}
-use Rattle.hs_syntax.specs.declared.named.Named.TheVariants.{Digit, Word, Space, HorizontalSpace, VerticalSpace, Letter, SmallLetter, LargeLetter, LetterOrDigit, HexadecimalDigit, Blank, Control, Ascii, Graphic, Printed, Punctuation}
+use Rattle.hs_syntax.specs.declared.named.Named.TheVariants.{Digit, Word, Space, HorizontalSpace, VerticalSpace, Letter}
+use Rattle.hs_syntax.specs.declared.named.Named.TheVariants.{SmallLetter, LargeLetter, LetterOrDigit, HexadecimalDigit}
+use Rattle.hs_syntax.specs.declared.named.Named.TheVariants.{Blank, Control, Ascii, Graphic, Printed, Punctuation}
 use Rattle.hs_syntax.specs.Bytes.{◌∈◌, is_byte, letters_on, word_bytes_on}
 use Rattle.hs_syntax.specs.Bytes as tests
 use lib.Pointwise.{pointwise}
@@ -101,6 +104,7 @@ name_end mark bytes at =
 unfoldable pub group_name_end : (mark : ℕ) → (bytes : List ℕ) → (at : ℕ) → Option ℕ
 group_name_end mark bytes at =
     let end = word_bytes_on at (drop at bytes) in
-    if nat_lt at end && (nat_le end (at + 32) && (not (tests.is_digit (slice_get bytes at)) && is_byte mark (slice_get bytes end)))
+    if nat_lt at end
+    && (nat_le end (at + 32) && (not (tests.is_digit (slice_get bytes at)) && is_byte mark (slice_get bytes end)))
     then Some (end + 1)
     else None

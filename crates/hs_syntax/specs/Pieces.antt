@@ -1,5 +1,6 @@
 -- What stands in a class (PCRE pattern syntax, "Square brackets and character classes"). Bytes begin with the piece.
-use Rattle.std.specs.Prelude.{ℕ, ◌+◌, ◌-◌, Bool, not, ◌&&◌, Option, Some, None, if◌then◌else◌, List, drop, take, slice_get}
+use Rattle.std.specs.Prelude.{ℕ, ◌+◌, ◌-◌, Bool, not, ◌&&◌, Option, Some, None, if◌then◌else◌, List, drop, take}
+use Rattle.std.specs.Prelude.{slice_get}
 use Rattle.hs_base.specs.declared.construct.Construct.TheVariants.{Collating}
 use Rattle.hs_syntax.specs.declared.named.Named.{Named}
 use Rattle.hs_syntax.specs.declared.wrong.Wrong.TheVariants as wrong
@@ -67,9 +68,9 @@ bracket_at caseless bytes =
     else Character opening_bracket 1
 
 -- a piece, by its first byte; a `]` that is the first of the class stands for itself
-abbrev pub piece_of : (caseless first : Bool) → List ℕ → Option ℕ → Piece
-piece_of caseless first bytes None = End
-piece_of caseless first bytes (Some b) =
+abbrev pub piece_by : (caseless first : Bool) → List ℕ → Option ℕ → Piece
+piece_by caseless first bytes None = End
+piece_by caseless first bytes (Some b) =
     if b ∈ "\\" then escaped_of (escape_at bytes)
     else if b ∈ "[" then bracket_at caseless bytes
     else if (b ∈ "]") && not first then Close
@@ -77,4 +78,4 @@ piece_of caseless first bytes (Some b) =
 
 -- what the bytes begin with
 unfoldable pub piece_at : (caseless first : Bool) → List ℕ → Piece
-piece_at caseless first bytes = piece_of caseless first bytes (slice_get bytes 0)
+piece_at caseless first bytes = piece_by caseless first bytes (slice_get bytes 0)

@@ -1,6 +1,8 @@
 //! What stands behind a backslash.
 ghost use Rattle.std.specs.Prelude.{◌≡◌, ◌<◌, ◌≤◌, length, slice_get};
-ghost use Rattle.hs_syntax.specs.Escapes.{character_letter, construct_letter, assertion_letter, turned_over, control_of, coded, braced_at, short_at, hexadecimal_at, letter_of, escape_by, escape_at};
+ghost use Rattle.hs_syntax.specs.Escapes.{character_letter, construct_letter, assertion_letter, turned_over};
+ghost use Rattle.hs_syntax.specs.Escapes.{control_of, coded, braced_at, short_at, hexadecimal_at, letter_of, escape_by};
+ghost use Rattle.hs_syntax.specs.Escapes.{escape_at};
 ghost use Rattle.hs_syntax.specs.Names.{named_letter};
 
 use crate::name::is_byte_at;

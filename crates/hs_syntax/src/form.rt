@@ -5,7 +5,8 @@ ghost use Rattle.hs_base.specs.ByteSets.{is_space};
 ghost use Rattle.hs_syntax.specs.Bytes.{place_on};
 ghost use Rattle.hs_syntax.specs.Lengths.{FormFits};
 ghost use Rattle.hs_syntax.specs.Escapes.{assertion_letter, construct_letter};
-ghost use Rattle.hs_syntax.specs.Forms.{letter_of, escaped_of, quoted_of, line_of, marked_by, plain_of, bracket_of, start_of, end_of, form_at};
+ghost use Rattle.hs_syntax.specs.Forms.{letter_of, escaped_of, quoted_of, line_of, marked_by, plain_of, bracket_of};
+ghost use Rattle.hs_syntax.specs.Forms.{start_of, end_of, form_at};
 
 use crate::escape::{Escape, assertion_letter, construct_letter, escape_at};
 use crate::group::group_at;

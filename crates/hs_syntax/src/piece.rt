@@ -30,12 +30,12 @@ pub fn piece_at(caseless: bool, first: bool, bytes: &[u8]) -> Piece
     ensures is { result ≡ piece_at caseless first bytes.now }
     ensures fits { PieceFits (length bytes.now) result }
 {
-    piece_of(caseless, first, bytes)
+    piece_by(caseless, first, bytes)
 }
 
 /// What the bytes begin with in a class, by the first one.
 #[tactic(auto, unfolding(crate::specs::Pieces::piece_at))]
-fn piece_of(caseless: bool, first: bool, bytes: &[u8]) -> Piece
+fn piece_by(caseless: bool, first: bool, bytes: &[u8]) -> Piece
     ensures { result ≡ piece_at caseless first bytes.now }
 {
     let Some(byte) = bytes.get(0) else {

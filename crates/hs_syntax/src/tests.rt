@@ -1,3 +1,4 @@
+//! Forms, pieces and classes, a row for each kind.
 use super::*;
 use hs_base::{Assertion, Construct, Flags};
 use std::test::Fail;

@@ -1,3 +1,4 @@
+//! Why a form is refused.
 use hs_base::Construct;
 
 /// Why some bytes are refused. The place is told by who knows it.

@@ -12,10 +12,6 @@ pub each-from_index : (P : ℕ → Type 0) (xs : List ℕ) → ((k : ℕ) → k 
 each-from_index P [] h = tt
 each-from_index P (x ∷ xs) h = (h 0 (omega arith), each-from_index P xs (λ k below. h (suc k) (omega arith)))
 
-pub each-append : (P : ℕ → Type 0) (xs ys : List ℕ) → Each P xs → Each P ys → Each P (xs ++ ys)
-each-append P [] ys p q = q
-each-append P (x ∷ xs) ys p q = (p.0, each-append P xs ys p.1 q)
-
 pub each-weaken : (P Q : ℕ → Type 0) (xs : List ℕ) → ((b : ℕ) → P b → Q b) → Each P xs → Each Q xs
 each-weaken P Q [] f p = tt
 each-weaken P Q (x ∷ xs) f p = (f x p.0, each-weaken P Q xs f p.1)

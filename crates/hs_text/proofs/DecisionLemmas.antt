@@ -1,16 +1,15 @@
 -- Whether a line is a command can be told.
-use Rattle.std.proofs.Common.{◌≡◌, ◌≢◌, ℕ, ◌+◌, ◌<◌, ◌≤◌, ◌^◌, ◌⊎◌, inl, inr, Bool, true, false, eqb, bytes_eq, List, [], ◌∷◌, ◌++◌, length, decimal, refl, sym, ap, ◌∙◌, subst, arith}
+use Rattle.std.proofs.Common.{◌≡◌, ◌≢◌, ℕ, ◌<◌, ◌≤◌, ◌^◌, ◌⊎◌, inl, inr, Bool, true, false, eqb, bytes_eq, List, [], ◌∷◌, ◌++◌, length, decimal, refl, sym, ap, ◌∙◌, subst, arith}
 use Rattle.std.proofs.lemmas.Bool.{cases_lt, eq-eqb, eqb-true, false≢true}
 use Rattle.std.proofs.lemmas.Slice.Eq.{bytes_eq-Decides}
 use Rattle.hs_base.specs.Lists.{Each}
 use Rattle.hs_text.specs.declared.commands.Verb.{Verb}
 use Rattle.hs_text.specs.declared.commands.Verb.TheVariants as verb
-use Rattle.hs_text.specs.declared.report_lines.TheConstants.{NAME_LEN}
 use Rattle.hs_text.specs.Numbers.{value_from}
 use Rattle.hs_text.specs.ReplyLines.{verb_text}
 use Rattle.hs_text.specs.Commands.{IsNameByte, IsName, Order, Open, Write, Reset, Close, verb_of, name_of, count_of, operands_of, IsCommand}
-use Rattle.hs_text.specs.CommandParts.{AreOperands, HasParts}
-use Rattle.hs_text.proofs.CommandLemmas.{decimal-number, verb_from, verb_of_word, name_apart, no_word, other_word, line_operands, operands_line, names_operands, write_operands, parts_once, no_parts}
+use Rattle.hs_text.specs.CommandParts.{AreOperands}
+use Rattle.hs_text.proofs.CommandLemmas.{decimal-number, verb_from, verb_of_word, no_word, other_word, line_operands, operands_line, names_operands, write_operands, parts_once, no_parts}
 
 -- it holds or not
 abbrev pub IsTold : Type 0 → Type 0
@@ -64,9 +63,9 @@ each_name_byte (x ∷ xs) = both (name_byte x) (each_name_byte xs)
 
 is_name : (xs : List ℕ) → IsTold (IsName xs)
 is_name [] = inr (λ h. h.some refl)
-is_name (x ∷ xs) = by_parts (each_name_byte (x ∷ xs)) (cases_lt NAME_LEN (length (x ∷ xs)))
+is_name (x ∷ xs) = by_parts (each_name_byte (x ∷ xs)) (cases_lt 32 (length (x ∷ xs)))
   where
-    by_parts : IsTold (Each IsNameByte (x ∷ xs)) → (NAME_LEN < length (x ∷ xs)) ⊎ (length (x ∷ xs) ≤ NAME_LEN) → IsTold (IsName (x ∷ xs))
+    by_parts : IsTold (Each IsNameByte (x ∷ xs)) → (32 < length (x ∷ xs)) ⊎ (length (x ∷ xs) ≤ 32) → IsTold (IsName (x ∷ xs))
     by_parts (inr p) long = inr (λ h. p h.each)
     by_parts (inl p) (inl long) = inr (λ h. let k = h.short in omega (arith, k, long))
     by_parts (inl p) (inr short) = inl (record { each = p; some = λ e. cc; short = short })

@@ -1,5 +1,5 @@
 -- Flags and parameters of a pattern file are among those that there are.
-use Rattle.std.proofs.Common.{◌≡◌, ℕ, ◌*◌, ◌<◌, ◌≤◌, ◌^◌, ◌==◌, Bool, true, false, List, [], ◌∷◌, codes, refl, sym, ◌∙◌, subst, arith, bit_and, bit_or, if◌then◌else◌}
+use Rattle.std.proofs.Common.{ℕ, ◌*◌, ◌<◌, ◌≤◌, ◌^◌, ◌==◌, Bool, true, false, List, [], ◌∷◌, codes, refl, sym, ◌∙◌, subst, arith, bit_or, if◌then◌else◌}
 use Rattle.std.proofs.lemmas.Nat.{or_lt, and_or_self, and_or_apart}
 use Rattle.hs_base.specs.Lists.{Each}
 use Rattle.hs_base.specs.Entries.{ListedEntry}

@@ -5,6 +5,7 @@ use Rattle.std.proofs.lemmas.List.{same_from_push}
 use Rattle.hs_base.specs.Lists.{Each}
 use Rattle.hs_base.specs.Assertions.{line_feed}
 use Rattle.hs_base.specs.declared.ext.Ext.{Ext}
+use Rattle.hs_base.proofs.ListLemmas.{each-append}
 use Rattle.hs_text.specs.Numbers.{IsDigit, value_from}
 use Rattle.hs_text.specs.FlagLetters.{AreFlags}
 use Rattle.hs_text.specs.Parameters.{no_parameters, AreSettings}
@@ -12,7 +13,7 @@ use Rattle.hs_text.specs.Lines.{IsLineOf, plain, returned, Begins, unended, ende
 use Rattle.hs_base.specs.Entries.{ListedEntry}
 use Rattle.hs_text.specs.EntryLines.{HasTail, bare, braced, IsEntryLine}
 use Rattle.hs_text.specs.PatternFile.{IsSkipped, empty, comment}
-use Rattle.hs_text.proofs.CutLemmas.{AreSame, each-append, no_separator, cut_once, cut_last_once}
+use Rattle.hs_text.proofs.CutLemmas.{AreSame, no_separator, cut_once, cut_last_once}
 use Rattle.hs_text.proofs.NumberLemmas.{number_apart, flags_once, letters_apart}
 use Rattle.hs_text.proofs.SettingLemmas.{settings_once, settings_apart}
 

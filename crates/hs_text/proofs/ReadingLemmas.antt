@@ -10,7 +10,7 @@ use Rattle.hs_text.specs.Lines.{Begins, unended, ended}
 use Rattle.hs_base.specs.Entries.{ListedEntry}
 use Rattle.hs_base.specs.Entries as base
 use Rattle.hs_text.specs.PatternFile.{IsList, nothing, skipped, listed, HasBadLine, behind_skipped, behind_entry}
-use Rattle.hs_text.specs.Reading.{listed_parts, IsReadAs, Adds}
+use Rattle.hs_text.specs.Reading.{listed_parts, IsReadAs, AddsEntry}
 
 not_shorter : (file : List ℕ) → (file ≡ [] → ⊥) → 0 < length file
 not_shorter [] some = absurd (some refl)
@@ -22,7 +22,7 @@ behind_shorter {file = file} (unended some p l none) = let long = not_shorter fi
 behind_shorter {rest = rest} (ended raw p l whole) = omega (arith, ap length whole ∙ length-append raw (line_feed ∷ rest))
 
 -- the list of the lines that are left goes on the entries before
-pub list_step : (bytes file text rest : List ℕ) (read : Line) (before after : List Entry) → Begins text rest file → IsReadAs text read → Adds read before after → ((xs : List ListedEntry) → IsList file xs → IsList bytes (map base.listed before ++ xs)) → (xs : List ListedEntry) → IsList rest xs → IsList bytes (map base.listed after ++ xs)
+pub list_step : (bytes file text rest : List ℕ) (read : Line) (before after : List Entry) → Begins text rest file → IsReadAs text read → AddsEntry read before after → ((xs : List ListedEntry) → IsList file xs → IsList bytes (map base.listed before ++ xs)) → (xs : List ListedEntry) → IsList rest xs → IsList bytes (map base.listed after ++ xs)
 list_step bytes file text rest line.Skipped before after begins s same kept xs list =
     subst (λ es. IsList bytes (es ++ xs)) (sym same) (kept xs (skipped begins s list))
 list_step bytes file text rest (line.Entry parts) before after begins h added kept xs list =

@@ -2,11 +2,12 @@
 use Rattle.std.proofs.Common.{◌≡◌, ◌≢◌, ℕ, ◌≤◌, eqb, cond, List, ◌∷◌, ◌++◌, get_or, refl, sym, ap, ◌∙◌, subst, arith, rules, Option, Some, None, MatchOption}
 use Rattle.hs_base.specs.Lists.{Each}
 use Rattle.hs_base.specs.declared.ext.Ext.{Ext}
+use Rattle.hs_base.proofs.ListLemmas.{each-append}
 use Rattle.hs_text.specs.declared.parameter.Parameter.{Parameter}
 use Rattle.hs_text.specs.declared.parameter.Parameter.TheVariants.{MinOffset, MaxOffset, MinLength, EditDistance, HammingDistance}
 use Rattle.hs_text.specs.Numbers.{IsDigit, value_from}
 use Rattle.hs_text.specs.Parameters.{name_of, with_value, no_parameters, Sets, AreSettings, one, more}
-use Rattle.hs_text.proofs.CutLemmas.{AreSame, each-append, each-weaken, no_separator, cut_once}
+use Rattle.hs_text.proofs.CutLemmas.{AreSame, each-weaken, no_separator, cut_once}
 use Rattle.hs_text.proofs.NumberLemmas.{number_apart}
 
 -- one of `_` to `z`

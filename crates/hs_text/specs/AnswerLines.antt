@@ -13,7 +13,8 @@ compiled_line count bytes = codes "compiled " ++ decimal count ++ codes " " ++ d
 -- `version 1`, `expressions N` and `identifiers K`, a line each
 abbrev pub info_lines : ℕ → ℕ → List ℕ
 info_lines expressions identifiers =
-    codes "version 1\nexpressions " ++ decimal expressions ++ codes "\nidentifiers " ++ decimal identifiers ++ codes "\n"
+    codes "version 1\nexpressions " ++ decimal expressions ++ codes "\nidentifiers " ++ decimal identifiers ++ codes
+    "\n"
 
 -- `fault database AT`
 abbrev pub form_line : ℕ → List ℕ

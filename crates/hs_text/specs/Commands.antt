@@ -5,7 +5,6 @@ use Rattle.hs_text.specs.declared.commands.Command.{Command}
 use Rattle.hs_text.specs.declared.commands.Command.TheVariants as kept
 use Rattle.hs_text.specs.declared.commands.Verb.{Verb}
 use Rattle.hs_text.specs.declared.commands.Verb.TheVariants as verb
-use Rattle.hs_text.specs.declared.report_lines.TheConstants.{NAME_LEN}
 use Rattle.hs_text.specs.ReplyLines.{verb_text}
 
 -- one of `[A-Za-z0-9_.-]`
@@ -13,11 +12,11 @@ abbrev pub IsNameByte : ℕ → Type 0
 IsNameByte b =
     ((65 ≤ b) × (b ≤ 90)) ⊎ ((97 ≤ b) × (b ≤ 122)) ⊎ ((48 ≤ b) × (b ≤ 57)) ⊎ (b ≡ 95) ⊎ (b ≡ 46) ⊎ (b ≡ 45)
 
--- the name of a stream
+-- the name of a stream: 1 to 32 such bytes
 pub record IsName (name : List ℕ) : Type 0 where
   pub each : Each IsNameByte name
   pub some : name ≢ []
-  pub short : length name ≤ NAME_LEN
+  pub short : length name ≤ 32
 
 -- what a line orders, with the name of the stream
 pub data Order : Type 0 where

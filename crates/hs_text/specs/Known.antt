@@ -1,5 +1,5 @@
 -- What an entry of a pattern file has, whatever its line says.
-use Rattle.std.specs.Prelude.{◌≡◌, ℕ, ◌<◌, ◌^◌, bit_and}
+use Rattle.std.specs.Prelude.{◌≡◌, ◌<◌, ◌^◌, bit_and}
 use Rattle.hs_base.specs.declared.ext.Ext.{Ext}
 use Rattle.hs_base.specs.Entries.{ListedEntry}
 

@@ -14,8 +14,12 @@ abbrev pub IsBadOnce : Type 0
 IsBadOnce = (file : List ℕ) (m n : ℕ) → HasBadLine file m → HasBadLine file n → m ≡ n
 
 -- No file is a list and has a bad line.
-abbrev pub NeverBoth : Type 0
-NeverBoth = (file : List ℕ) (entries : List ListedEntry) (number : ℕ) → IsList file entries → HasBadLine file number → ⊥
+abbrev pub NeverListAndBadLine : Type 0
+NeverListAndBadLine =
+    (file : List ℕ) (entries : List ListedEntry) (number : ℕ) →
+    IsList file entries →
+    HasBadLine file number →
+    ⊥
 
 -- Every file is one of them: none is no list and has no bad line.
 abbrev pub NeverNeither : Type 0

@@ -2,7 +2,8 @@
 use Rattle.std.specs.Prelude.{◌≡◌, ℕ, ◌^◌, List, ◌++◌, bit_and, bit_or, codes}
 use Rattle.hs_base.specs.declared.ext.Ext.{Ext}
 use Rattle.hs_text.specs.declared.parameter.Parameter.{Parameter}
-use Rattle.hs_text.specs.declared.parameter.Parameter.TheVariants.{MinOffset, MaxOffset, MinLength, EditDistance, HammingDistance}
+use Rattle.hs_text.specs.declared.parameter.Parameter.TheVariants.{MinOffset, MaxOffset, MinLength, EditDistance}
+use Rattle.hs_text.specs.declared.parameter.Parameter.TheVariants.{HammingDistance}
 use Rattle.hs_text.specs.Numbers.{IsNumber}
 
 -- the name in the text

@@ -21,15 +21,15 @@ IsReadAs text line.Skipped = IsSkipped text
 IsReadAs text (line.Entry parts) = IsEntryLine text (listed_parts parts)
 
 -- the entries with that of a line, if it has one
-abbrev pub Adds : Line → List Entry → List Entry → Type 0
-Adds line.Skipped before after = map listed after ≡ map listed before
-Adds (line.Entry parts) before after = map listed after ≡ map listed before ++ listed_parts parts ∷ []
+abbrev pub AddsEntry : Line → List Entry → List Entry → Type 0
+AddsEntry line.Skipped before after = map listed after ≡ map listed before
+AddsEntry (line.Entry parts) before after = map listed after ≡ map listed before ++ listed_parts parts ∷ []
 
 -- the entry that is kept is that of the parts
 abbrev pub IsEntryOf : Result Entry AllocError → EntryParts → Type 0
 IsEntryOf result parts = IfOk result (λ entry. listed entry ≡ listed_parts parts)
 
 -- Why a file gave no list: its first bad line, or no memory.
-abbrev pub IsFaultOf : List ℕ → ListFault → Type 0
-IsFaultOf file (fault.Line number) = HasBadLine file number
-IsFaultOf file fault.Memory = Unit {0}
+abbrev pub IsListFault : List ℕ → ListFault → Type 0
+IsListFault file (fault.Line number) = HasBadLine file number
+IsListFault file fault.Memory = Unit {0}

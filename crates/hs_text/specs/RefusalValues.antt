@@ -1,13 +1,16 @@
 -- The name of a refusal and its values, as they stand in its line.
 use Rattle.std.specs.Prelude.{ℕ, List, [], ◌∷◌, codes, decimal}
 use Rattle.hs_base.specs.declared.refusal.Refusal.{Refusal}
-use Rattle.hs_base.specs.declared.refusal.Refusal.TheVariants.{Syntax, UnknownEscape, Unsupported, UnsupportedFlag, UnsupportedParameter, MatchesEmpty, EmbeddedEnd, RepeatLimit, PositionLimit, LengthLimit, DepthLimit, CountLimit, StateLimit, MixedSingle, OffsetOrder, ListLine}
+use Rattle.hs_base.specs.declared.refusal.Refusal.TheVariants.{Syntax, UnknownEscape, Unsupported, UnsupportedFlag}
+use Rattle.hs_base.specs.declared.refusal.Refusal.TheVariants.{UnsupportedParameter, MatchesEmpty, EmbeddedEnd}
+use Rattle.hs_base.specs.declared.refusal.Refusal.TheVariants.{RepeatLimit, PositionLimit, LengthLimit, DepthLimit}
+use Rattle.hs_base.specs.declared.refusal.Refusal.TheVariants.{CountLimit, StateLimit, MixedSingle, OffsetOrder}
+use Rattle.hs_base.specs.declared.refusal.Refusal.TheVariants.{ListLine}
 use Rattle.hs_base.specs.declared.construct.Construct.{Construct}
 use Rattle.hs_base.specs.declared.construct.Construct.TheVariants as construct
 
 -- the word of a construct
 abbrev pub word_of : Construct → List ℕ
-word_of construct.Later = codes "later"
 word_of construct.Backreference = codes "backreference"
 word_of construct.Property = codes "property"
 word_of construct.NewlineSequence = codes "newline_sequence"

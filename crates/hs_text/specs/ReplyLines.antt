@@ -31,8 +31,10 @@ number_text (Some number) = codes " " ++ decimal number
 
 -- `ok COMMAND N`, with its number where it has one, and `no COMMAND N WORD`
 abbrev pub reply_line : List ℕ → Reply → List ℕ
-reply_line name (Done verb number) = codes "ok " ++ verb_text verb ++ codes " " ++ name ++ number_text number ++ codes "\n"
-reply_line name (No verb word) = codes "no " ++ verb_text verb ++ codes " " ++ name ++ codes " " ++ word_text word ++ codes "\n"
+reply_line name (Done verb number) =
+    codes "ok " ++ verb_text verb ++ codes " " ++ name ++ number_text number ++ codes "\n"
+reply_line name (No verb word) =
+    codes "no " ++ verb_text verb ++ codes " " ++ name ++ codes " " ++ word_text word ++ codes "\n"
 
 -- `fault script LINE` and `fault truncated LINE`
 abbrev pub fault_line : ScriptFault → List ℕ

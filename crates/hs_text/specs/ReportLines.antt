@@ -1,12 +1,8 @@
 -- The line of a report, of a stream with a name or of the one stream of a match.
 use Rattle.std.specs.Prelude.{ℕ, List, ◌++◌, codes, Option, None, Some}
-use Rattle.hs_base.specs.Told.{Pair}
 use Rattle.hs_base.specs.MatchText.{report_line as unnamed_line}
 use Rattle.hs_base.specs.declared.entry.Report.{Report}
-
--- the identifier and the end of a report
-abbrev pub pair_of : Report → Pair
-pair_of report = record { id = report.id.0; to = report.to }
+use Rattle.hs_base.specs.ReportView.{pair_of}
 
 -- `N ID TO`, and `ID TO` where the stream has no name
 abbrev pub report_line : Option (List ℕ) → Report → List ℕ

@@ -1,7 +1,8 @@
 //! What the commands answer of a list.
 ghost use Rattle.std.specs.Prelude.{◌≡◌, ◌≤◌, length, take, drop};
 ghost use Rattle.hs_text.specs.declared.line_buffer.TheConstants.{LINE_LEN};
-ghost use Rattle.hs_text.specs.AnswerLines.{accepted_line as line_of_accepted, compiled_line as line_of_compiled, info_lines as lines_of_info, form_line as line_of_form};
+ghost use Rattle.hs_text.specs.AnswerLines.{accepted_line as line_of_accepted, compiled_line as line_of_compiled};
+ghost use Rattle.hs_text.specs.AnswerLines.{info_lines as lines_of_info, form_line as line_of_form};
 
 use crate::line_buffer::{LINE_LEN, append, append_number};
 
@@ -18,8 +19,8 @@ pub fn accepted_line(count: u64, buf: &mut [u8; LINE_LEN]) -> usize
     append(buf, len, b"\n")
 }
 
-/// Makes the line `compiled COUNT BYTES` of a database file of so many entries and bytes. The answer is the line's length;
-/// the buffer behind it stays as it was.
+/// Makes the line `compiled COUNT BYTES` of a database file of so many entries and bytes. The answer is the line's
+/// length; the buffer behind it stays as it was.
 pub fn compiled_line(count: u64, bytes: u64, buf: &mut [u8; LINE_LEN]) -> usize
     requires { length buf.old ≡ LINE_LEN }
     ensures within { result ≤ LINE_LEN }
@@ -33,8 +34,8 @@ pub fn compiled_line(count: u64, bytes: u64, buf: &mut [u8; LINE_LEN]) -> usize
     append(buf, len, b"\n")
 }
 
-/// Makes the lines `version 1`, `expressions N` and `identifiers K` of a database. The answer is the length of all three;
-/// the buffer behind them stays as it was.
+/// Makes the lines `version 1`, `expressions N` and `identifiers K` of a database. The answer is the length of all
+/// three; the buffer behind them stays as it was.
 pub fn info_lines(expressions: u64, identifiers: u64, buf: &mut [u8; LINE_LEN]) -> usize
     requires { length buf.old ≡ LINE_LEN }
     ensures within { result ≤ LINE_LEN }

@@ -9,12 +9,10 @@ use crate::cut::cut_at_first;
 use crate::number::number_of;
 use crate::reply_lines::verb_bytes;
 use crate::report_lines::NAME_LEN;
+use hs_base::MAX_OFFSET;
 
 /// How many digits the number of bytes of a write has at most.
 const MAX_COUNT_DIGITS: usize = 20;
-
-/// The greatest number of bytes of a write.
-const MAX_COUNT: u64 = i64::MAX as u64;
 
 /// The command that a line is, which ends before its line feed. There is none exactly where the line isn't a command.
 pub fn command<'a>(line: &'a [u8]) -> Option<Command<'a>>
@@ -126,7 +124,11 @@ fn count_of(digits: &[u8]) -> Option<u64>
     let Some(count) = number_of(digits, MAX_COUNT_DIGITS) else {
         return None;
     };
-    if count > MAX_COUNT { None } else { Some(count) }
+    if count > MAX_OFFSET {
+        None
+    } else {
+        Some(count)
+    }
 }
 
 /// Whether a zero stands before other digits.

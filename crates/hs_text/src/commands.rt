@@ -3,9 +3,13 @@
 /// A command of a script, by its word.
 #[derive(Clone, Copy, Debug, PartialEq, Eq)]
 pub enum Verb {
+    /// `open`
     Open,
+    /// `write`
     Write,
+    /// `reset`
     Reset,
+    /// `close`
     Close,
 }
 

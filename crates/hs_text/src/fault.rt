@@ -1,3 +1,4 @@
+//! Why a pattern file gives no list.
 ghost use Rattle.std.specs.Prelude.{◌≡◌};
 ghost use Rattle.hs_text.specs.declared.fault.ListFault.TheVariants.{Memory};
 

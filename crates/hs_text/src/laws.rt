@@ -1,6 +1,6 @@
 //! Laws over the definitions of `specs/`: each is the contract of a function that does nothing.
 
-ghost use Rattle.hs_text.specs.Laws.{IsListOnce, IsBadOnce, NeverBoth, NeverNeither, HasKnownEntries};
+ghost use Rattle.hs_text.specs.Laws.{IsListOnce, IsBadOnce, NeverListAndBadLine, NeverNeither, HasKnownEntries};
 
 /// A file is a list in at most one way.
 pub fn list_once()
@@ -14,7 +14,7 @@ pub fn bad_line_once()
 
 /// No file is a list and has a bad line.
 pub fn never_both()
-    ensures { NeverBoth }
+    ensures { NeverListAndBadLine }
 {}
 
 /// No file is neither.

@@ -1,4 +1,4 @@
-//! The lines that are written, as their tables say them.
+//! The lines that are written, as their tables say them: each table is a list of values and the text of their lines.
 use crate::{
     LINE_LEN, NAME_LEN, accepted_line, compiled_line, end_line, form_line, info_lines,
     refusal_line, report_line,
@@ -6,172 +6,145 @@ use crate::{
 use hs_base::{Construct, ExprId, Refusal, Report};
 use std::test::Fail;
 
-/// The greatest number of 32 bits and of 64 bits.
+/// The greatest number of 32 bits.
 const MOST_32: u32 = u32::MAX;
-
+/// The greatest number of 64 bits.
 const MOST_64: u64 = u64::MAX;
+
+/// Each refusal, with small values.
+const REFUSALS: [Refusal; 16] = [
+    Refusal::Syntax(1),
+    Refusal::UnknownEscape(0),
+    Refusal::Unsupported(Construct::Backreference, 3),
+    Refusal::UnsupportedFlag(256),
+    Refusal::UnsupportedParameter(16),
+    Refusal::MatchesEmpty,
+    Refusal::EmbeddedEnd,
+    Refusal::RepeatLimit(32_768),
+    Refusal::PositionLimit(514),
+    Refusal::LengthLimit,
+    Refusal::DepthLimit,
+    Refusal::CountLimit,
+    Refusal::StateLimit(16_778_308),
+    Refusal::MixedSingle(ExprId(12)),
+    Refusal::OffsetOrder,
+    Refusal::ListLine(2),
+];
+
+const REFUSED: &[u8] = b"\
+refused 1 11 1 Syntax 1
+refused 1 11 2 UnknownEscape 0
+refused 1 11 3 Unsupported backreference 3
+refused 1 11 4 UnsupportedFlag 256
+refused 1 11 5 UnsupportedParameter 16
+refused 1 11 6 MatchesEmpty
+refused 1 11 7 EmbeddedEnd
+refused 1 11 8 RepeatLimit 32768
+refused 1 11 9 PositionLimit 514
+refused 1 11 10 LengthLimit
+refused 1 11 11 DepthLimit
+refused 1 11 12 CountLimit
+refused 1 11 13 StateLimit 16778308
+refused 1 11 14 MixedSingle 12
+refused 1 11 15 OffsetOrder
+refused 1 11 16 ListLine 2
+";
+
+/// Each construct.
+const CONSTRUCTS: [Construct; 17] = [
+    Construct::Backreference,
+    Construct::Property,
+    Construct::NewlineSequence,
+    Construct::AnyByte,
+    Construct::Keep,
+    Construct::NotNewline,
+    Construct::Grapheme,
+    Construct::MatchStart,
+    Construct::Possessive,
+    Construct::Collating,
+    Construct::Verb,
+    Construct::Lookaround,
+    Construct::Atomic,
+    Construct::Conditional,
+    Construct::Callout,
+    Construct::Recursion,
+    Construct::Option,
+];
+
+const UNSUPPORTED: &[u8] = b"\
+refused 2 10 3 Unsupported backreference 7
+refused 2 10 3 Unsupported property 7
+refused 2 10 3 Unsupported newline_sequence 7
+refused 2 10 3 Unsupported any_byte 7
+refused 2 10 3 Unsupported keep 7
+refused 2 10 3 Unsupported not_newline 7
+refused 2 10 3 Unsupported grapheme 7
+refused 2 10 3 Unsupported match_start 7
+refused 2 10 3 Unsupported possessive 7
+refused 2 10 3 Unsupported collating 7
+refused 2 10 3 Unsupported verb 7
+refused 2 10 3 Unsupported lookaround 7
+refused 2 10 3 Unsupported atomic 7
+refused 2 10 3 Unsupported conditional 7
+refused 2 10 3 Unsupported callout 7
+refused 2 10 3 Unsupported recursion 7
+refused 2 10 3 Unsupported option 7
+";
+
+/// Refusals of no entry and of the last one, with the greatest values.
+const WIDEST: [(Option<(u32, ExprId)>, Refusal); 6] = [
+    (None, Refusal::ListLine(2)),
+    (None, Refusal::ListLine(MOST_64)),
+    (
+        LAST,
+        Refusal::Unsupported(Construct::NewlineSequence, MOST_32),
+    ),
+    (LAST, Refusal::UnsupportedParameter(MOST_32)),
+    (LAST, Refusal::StateLimit(MOST_64)),
+    (LAST, Refusal::MixedSingle(ExprId(MOST_32))),
+];
+
+const LAST: Option<(u32, ExprId)> = Some((MOST_32, ExprId(MOST_32)));
+
+const WIDEST_REFUSED: &[u8] = b"\
+refused - - 16 ListLine 2
+refused - - 16 ListLine 18446744073709551615
+refused 4294967295 4294967295 3 Unsupported newline_sequence 4294967295
+refused 4294967295 4294967295 5 UnsupportedParameter 4294967295
+refused 4294967295 4294967295 13 StateLimit 18446744073709551615
+refused 4294967295 4294967295 14 MixedSingle 4294967295
+";
+
+/// Puts the line of a refusal behind the text.
+fn add_refusal(
+    text: &mut Vec<u8>,
+    entry: Option<(u32, ExprId)>,
+    refusal: &Refusal,
+) -> Result<(), Fail> {
+    let mut buf = [255; LINE_LEN];
+    let len = refusal_line(entry, refusal, &mut buf);
+    text.extend_from_slice(&buf[..len])?;
+    Ok(())
+}
 
 #[test]
 fn tells_each_refusal(rt: HostRuntime) -> Result<(), Fail> {
-    let table: [(Refusal, &[u8]); 16] = [
-        (Refusal::Syntax(1), b"refused 1 11 1 Syntax 1\n"),
-        (
-            Refusal::UnknownEscape(0),
-            b"refused 1 11 2 UnknownEscape 0\n",
-        ),
-        (
-            Refusal::Unsupported(Construct::Backreference, 3),
-            b"refused 1 11 3 Unsupported backreference 3\n",
-        ),
-        (
-            Refusal::UnsupportedFlag(256),
-            b"refused 1 11 4 UnsupportedFlag 256\n",
-        ),
-        (
-            Refusal::UnsupportedParameter(16),
-            b"refused 1 11 5 UnsupportedParameter 16\n",
-        ),
-        (Refusal::MatchesEmpty, b"refused 1 11 6 MatchesEmpty\n"),
-        (Refusal::EmbeddedEnd, b"refused 1 11 7 EmbeddedEnd\n"),
-        (
-            Refusal::RepeatLimit(32_768),
-            b"refused 1 11 8 RepeatLimit 32768\n",
-        ),
-        (
-            Refusal::PositionLimit(514),
-            b"refused 1 11 9 PositionLimit 514\n",
-        ),
-        (Refusal::LengthLimit, b"refused 1 11 10 LengthLimit\n"),
-        (Refusal::DepthLimit, b"refused 1 11 11 DepthLimit\n"),
-        (Refusal::CountLimit, b"refused 1 11 12 CountLimit\n"),
-        (
-            Refusal::StateLimit(16_778_308),
-            b"refused 1 11 13 StateLimit 16778308\n",
-        ),
-        (
-            Refusal::MixedSingle(ExprId(12)),
-            b"refused 1 11 14 MixedSingle 12\n",
-        ),
-        (Refusal::OffsetOrder, b"refused 1 11 15 OffsetOrder\n"),
-        (Refusal::ListLine(2), b"refused 1 11 16 ListLine 2\n"),
-    ];
-    for (refusal, line) in table {
-        let mut buf = [0; LINE_LEN];
-        let len = refusal_line(Some((1, ExprId(11))), &refusal, &mut buf);
-        assert_eq!(rt; buf.get(..len), Some(line));
+    let mut text = Vec::new(rt.alloc());
+    for refusal in REFUSALS {
+        add_refusal(&mut text, Some((1, ExprId(11))), &refusal)?;
     }
-    Ok(())
-}
-
-#[test]
-fn tells_each_construct(rt: HostRuntime) -> Result<(), Fail> {
-    let table: [(Construct, &[u8]); 18] = [
-        (Construct::Later, b"refused 2 10 3 Unsupported later 7\n"),
-        (
-            Construct::Backreference,
-            b"refused 2 10 3 Unsupported backreference 7\n",
-        ),
-        (
-            Construct::Property,
-            b"refused 2 10 3 Unsupported property 7\n",
-        ),
-        (
-            Construct::NewlineSequence,
-            b"refused 2 10 3 Unsupported newline_sequence 7\n",
-        ),
-        (
-            Construct::AnyByte,
-            b"refused 2 10 3 Unsupported any_byte 7\n",
-        ),
-        (Construct::Keep, b"refused 2 10 3 Unsupported keep 7\n"),
-        (
-            Construct::NotNewline,
-            b"refused 2 10 3 Unsupported not_newline 7\n",
-        ),
-        (
-            Construct::Grapheme,
-            b"refused 2 10 3 Unsupported grapheme 7\n",
-        ),
-        (
-            Construct::MatchStart,
-            b"refused 2 10 3 Unsupported match_start 7\n",
-        ),
-        (
-            Construct::Possessive,
-            b"refused 2 10 3 Unsupported possessive 7\n",
-        ),
-        (
-            Construct::Collating,
-            b"refused 2 10 3 Unsupported collating 7\n",
-        ),
-        (Construct::Verb, b"refused 2 10 3 Unsupported verb 7\n"),
-        (
-            Construct::Lookaround,
-            b"refused 2 10 3 Unsupported lookaround 7\n",
-        ),
-        (Construct::Atomic, b"refused 2 10 3 Unsupported atomic 7\n"),
-        (
-            Construct::Conditional,
-            b"refused 2 10 3 Unsupported conditional 7\n",
-        ),
-        (
-            Construct::Callout,
-            b"refused 2 10 3 Unsupported callout 7\n",
-        ),
-        (
-            Construct::Recursion,
-            b"refused 2 10 3 Unsupported recursion 7\n",
-        ),
-        (Construct::Option, b"refused 2 10 3 Unsupported option 7\n"),
-    ];
-    for (construct, line) in table {
-        let mut buf = [0; LINE_LEN];
-        let len = refusal_line(
-            Some((2, ExprId(10))),
-            &Refusal::Unsupported(construct, 7),
-            &mut buf,
-        );
-        assert_eq!(rt; buf.get(..len), Some(line));
+    assert_eq!(rt; text.as_slice(), REFUSED);
+    text.clear();
+    for construct in CONSTRUCTS {
+        let refusal = Refusal::Unsupported(construct, 7);
+        add_refusal(&mut text, Some((2, ExprId(10))), &refusal)?;
     }
-    Ok(())
-}
-
-#[test]
-fn tells_the_widest_refusals(rt: HostRuntime) -> Result<(), Fail> {
-    let last = Some((MOST_32, ExprId(MOST_32)));
-    let table: [(Option<(u32, ExprId)>, Refusal, &[u8]); 6] = [
-        (None, Refusal::ListLine(2), b"refused - - 16 ListLine 2\n"),
-        (
-            None,
-            Refusal::ListLine(MOST_64),
-            b"refused - - 16 ListLine 18446744073709551615\n",
-        ),
-        (
-            last,
-            Refusal::Unsupported(Construct::NewlineSequence, MOST_32),
-            b"refused 4294967295 4294967295 3 Unsupported newline_sequence 4294967295\n",
-        ),
-        (
-            last,
-            Refusal::UnsupportedParameter(MOST_32),
-            b"refused 4294967295 4294967295 5 UnsupportedParameter 4294967295\n",
-        ),
-        (
-            last,
-            Refusal::StateLimit(MOST_64),
-            b"refused 4294967295 4294967295 13 StateLimit 18446744073709551615\n",
-        ),
-        (
-            last,
-            Refusal::MixedSingle(ExprId(MOST_32)),
-            b"refused 4294967295 4294967295 14 MixedSingle 4294967295\n",
-        ),
-    ];
-    for (entry, refusal, line) in table {
-        let mut buf = [255; LINE_LEN];
-        let len = refusal_line(entry, &refusal, &mut buf);
-        assert_eq!(rt; buf.get(..len), Some(line));
+    assert_eq!(rt; text.as_slice(), UNSUPPORTED);
+    text.clear();
+    for (entry, refusal) in WIDEST {
+        add_refusal(&mut text, entry, &refusal)?;
     }
+    assert_eq!(rt; text.as_slice(), WIDEST_REFUSED);
     Ok(())
 }
 

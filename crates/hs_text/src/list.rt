@@ -3,7 +3,7 @@ ghost use Rattle.std.specs.Prelude.{◌≡◌, map, MatchResult};
 ghost use Rattle.hs_text.specs.declared.fault.ListFault.TheVariants.{Memory};
 ghost use Rattle.hs_text.specs.PatternFile.{IsList};
 ghost use Rattle.hs_base.specs.Entries.{listed};
-ghost use Rattle.hs_text.specs.Reading.{IsEntryOf, Adds, IsFaultOf};
+ghost use Rattle.hs_text.specs.Reading.{IsEntryOf, AddsEntry, IsListFault};
 
 use crate::fault::ListFault;
 use crate::line::{EntryParts, Line, first_line, read_line};
@@ -16,12 +16,12 @@ use std::alloc::{AllocError, Global};
 ///
 /// # Errors
 ///
-/// `Line` with the number of the first line of another form, counted from 1 over all lines; `Memory` where the list finds
-/// no memory.
+/// `Line` with the number of the first line of another form, counted from 1 over all lines; `Memory` where the list
+/// finds no memory.
 pub fn read_list(alloc: Global, bytes: &[u8]) -> Result<Vec<Entry>, ListFault>
     ensures { MatchResult result
         (λ entries. IsList bytes.now (map listed entries.items))
-        (λ fault. IsFaultOf bytes.now fault) }
+        (λ fault. IsListFault bytes.now fault) }
 {
     let mut entries = Vec::new(alloc);
     let mut rest = bytes;
@@ -41,7 +41,7 @@ pub fn read_list(alloc: Global, bytes: &[u8]) -> Result<Vec<Entry>, ListFault>
 /// Adds the entry of a line, if it has one.
 fn add(alloc: Global, line: Line<'_>, entries: &mut Vec<Entry>) -> Result<(), ListFault>
     ensures { MatchResult result
-        (λ _. Adds line.entry entries.old.items entries.new.items)
+        (λ _. AddsEntry line.entry entries.old.items entries.new.items)
         (λ fault. fault ≡ Memory) }
 {
     match line {

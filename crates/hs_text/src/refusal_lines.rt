@@ -1,7 +1,8 @@
 //! The line of a refused list.
 ghost use Rattle.std.specs.Prelude.{◌≡◌, ℕ, ◌+◌, ◌≤◌, ◌++◌, length, take, drop, codes, decimal};
 ghost use Rattle.hs_base.specs.Refusals.{number_of};
-ghost use Rattle.hs_text.specs.RefusalValues.{word_of as text_of_word, name_of as text_of_name, values_of as texts_of_values};
+ghost use Rattle.hs_text.specs.RefusalValues.{word_of as text_of_word, name_of as text_of_name};
+ghost use Rattle.hs_text.specs.RefusalValues.{values_of as texts_of_values};
 ghost use Rattle.hs_text.specs.RefusalLines.{entry_text, spaced, refusal_line as line_of_refusal};
 ghost use Rattle.hs_text.specs.declared.line_buffer.TheConstants.{LINE_LEN};
 
@@ -10,8 +11,8 @@ use crate::refusal_values::{Values, name_of, values_of, word_of};
 use hs_base::{Construct, ExprId, Refusal};
 
 /// Makes the line `refused ENTRY ID NUMBER NAME VALUES` of a refusal. The entry is given by its number, counted from 1,
-/// and its identifier; a refusal of a line of the list is one of no entry, and has `- -` there. The answer is the line's
-/// length; the buffer behind it stays as it was.
+/// and its identifier; a refusal of a line of the list is one of no entry, and has `- -` there. The answer is the
+/// line's length; the buffer behind it stays as it was.
 pub fn refusal_line(
     entry: Option<(u32, ExprId)>,
     refusal: &Refusal,

@@ -22,7 +22,6 @@ pub(crate) fn word_of(construct: Construct) -> &'static [u8]
     ensures short { length result.now ≤ 16 }
 {
     match construct {
-        Construct::Later => b"later",
         Construct::Backreference => b"backreference",
         Construct::Property => b"property",
         Construct::NewlineSequence => b"newline_sequence",

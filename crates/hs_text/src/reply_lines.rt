@@ -1,6 +1,7 @@
 //! The lines that answer the commands of a script, and the line of a fault of the script.
 ghost use Rattle.std.specs.Prelude.{◌≡◌, ℕ, ◌+◌, ◌≤◌, ◌++◌, length, take, drop, codes, decimal};
-ghost use Rattle.hs_text.specs.ReplyLines.{verb_text, word_text, number_text, reply_line as line_of_reply, fault_line as line_of_fault};
+ghost use Rattle.hs_text.specs.ReplyLines.{verb_text, word_text, number_text, reply_line as line_of_reply};
+ghost use Rattle.hs_text.specs.ReplyLines.{fault_line as line_of_fault};
 ghost use Rattle.hs_text.specs.declared.line_buffer.TheConstants.{LINE_LEN};
 ghost use Rattle.hs_text.specs.declared.report_lines.TheConstants.{NAME_LEN};
 

@@ -2,7 +2,8 @@
 ghost use Rattle.std.specs.Prelude.{◌≡◌, ℕ, ◌+◌, ◌≤◌, ◌++◌, Option, None, Some, IfSome, length, take, drop, codes};
 ghost use Rattle.std.specs.Option.{option_copied};
 ghost use Rattle.hs_base.specs.MatchText.{report_line as unnamed_line, end_line as line_of_end};
-ghost use Rattle.hs_text.specs.ReportLines.{pair_of, report_line as line_of_report};
+ghost use Rattle.hs_base.specs.ReportView.{pair_of};
+ghost use Rattle.hs_text.specs.ReportLines.{report_line as line_of_report};
 ghost use Rattle.hs_text.specs.declared.line_buffer.TheConstants.{LINE_LEN};
 ghost use Rattle.hs_text.specs.declared.report_lines.TheConstants.{NAME_LEN};
 
@@ -12,8 +13,8 @@ use hs_base::Report;
 /// The greatest length in bytes of the name of a stream.
 pub const NAME_LEN: usize = 32;
 
-/// Makes the line of a report: `N ID TO` for the stream of the name `N`, `ID TO` for one without a name. The answer is the
-/// line's length; the buffer behind it stays as it was.
+/// Makes the line of a report: `N ID TO` for the stream of the name `N`, `ID TO` for one without a name. The answer is
+/// the line's length; the buffer behind it stays as it was.
 pub fn report_line(stream: Option<&[u8]>, report: Report, buf: &mut [u8; LINE_LEN]) -> usize
     requires whole { length buf.old ≡ LINE_LEN }
     requires short { IfSome stream (λ name. length name.now ≤ NAME_LEN) }
@@ -46,8 +47,8 @@ fn append_pair(buf: &mut [u8; LINE_LEN], len: usize, report: Report) -> usize
     append(buf, len, b"\n")
 }
 
-/// Makes the line `end LENGTH` of a stream of so many bytes. The answer is the line's length; the buffer behind it stays
-/// as it was.
+/// Makes the line `end LENGTH` of a stream of so many bytes. The answer is the line's length; the buffer behind it
+/// stays as it was.
 pub fn end_line(total: u64, buf: &mut [u8; LINE_LEN]) -> usize
     requires { length buf.old ≡ LINE_LEN }
     ensures within { result ≤ LINE_LEN }

@@ -1,3 +1,4 @@
+//! Pattern files, whole and with a bad line, as their tables say them.
 use crate::{ListFault, read_list};
 use hs_base::{Entry, Ext};
 use std::alloc::Global;

@@ -9,16 +9,19 @@ use Rattle.hs_text.specs.declared.reply_lines.ScriptFault.{ScriptFault}
 use Rattle.hs_script.specs.Actions.{Action}
 use Rattle.hs_script.specs.Scripts.{IsScript}
 use Rattle.hs_script.proofs.ScriptLemmas.{script_once}
-use Rattle.hs_session.specs.Reading.{most_script}
+use Rattle.hs_reader.specs.Reading.{most_script}
 use Rattle.hs_request.specs.Requests.{Request, match_file, check_list, compile_list, tell_database, scan_file, run_script}
-use Rattle.hs_tool.specs.Commands.{ListKind, database_file, no_bytes, file_named, script_of_input, list_kind, list_name, scanned_by}
-use Rattle.hs_tool.specs.Accepting.{IsAccepted, IsRefused}
-use Rattle.hs_scan.specs.Scanning.{greatest_offset}
-use Rattle.hs_tool.specs.Causes.{Cause, absent, limit, script, memory}
+use Rattle.hs_lists.specs.ListKinds.{ListKind, database_file}
+use Rattle.hs_tool.specs.Commands.{no_bytes, file_named, script_of_input, list_kind, list_name, scanned_by}
+use Rattle.hs_lists.specs.Accepting.{IsAccepted, IsRefused}
+use Rattle.hs_base.specs.Offsets.{greatest_offset}
+use Rattle.hs_lists.specs.Causes.{Cause, absent, limit, script, memory}
 use Rattle.hs_tool.specs.Streaming.{IsTextOver}
 use Rattle.hs_tool.specs.Answers
-use Rattle.hs_tool.specs.Answers.{greatest_list, Outside, Input, HasList, HasRefusedList, HasWritten, StopsList, ScanEnds, TellEnds, CompileEnds, StreamEnds, UsageEnds, Ends, IsListDue, TellsList, IsDue, IsDueOutcome}
-use Rattle.hs_tool.proofs.OnceLemmas.{accepted-refused, refused_once}
+use Rattle.hs_lists.specs.Endings
+use Rattle.hs_lists.specs.Endings.{greatest_list, Outside, HasList, HasRefusedList, StopsList, TellEnds, CompileEnds}
+use Rattle.hs_tool.specs.Answers.{Input, HasWritten, ScanEnds, StreamEnds, UsageEnds, Ends, IsListDue, TellsList, IsDue, IsDueOutcome}
+use Rattle.hs_lists.proofs.OnceLemmas.{accepted-refused, refused_once}
 
 -- ---- what is told of a file that is missing, there or longer than its limit
 
@@ -54,27 +57,27 @@ list-due {kind = kind} {entries = entries} {P = P} has (Answers.list_refused byt
 
 -- a list that isn't loaded is so by the cause that is due, by a fault or for memory
 stopped-due : {kind : ListKind} {name : List ℕ} {told : Told} {before now : ℕ} {cause due : Cause} → StopsList kind name told before now cause → IsListDue kind name told due → (Rose before now → ⊥) → (Some cause ≡ Some due) ⊎ (Some cause ≡ Some memory)
-stopped-due (Answers.no_list missing none) (Answers.no_list gone) quiet = inl refl
-stopped-due (Answers.no_list missing none) (Answers.long_list bytes here longer) quiet = absurd (holds-missing here missing)
-stopped-due (Answers.no_list missing none) (Answers.list_refused bytes here within bad) quiet = absurd (holds-missing here missing)
-stopped-due (Answers.list_failed rose) due quiet = absurd (quiet rose)
-stopped-due (Answers.long_list more none) (Answers.no_list gone) quiet = absurd (lacks-longer _ gone more)
-stopped-due (Answers.long_list more none) (Answers.long_list bytes here longer) quiet = inl refl
-stopped-due (Answers.long_list more none) (Answers.list_refused bytes here within bad) quiet = absurd (short _ here within more)
-stopped-due (Answers.list_refused has none) (Answers.no_list gone) quiet = absurd (lacks-file _ gone has.file)
-stopped-due (Answers.list_refused has none) (Answers.long_list bytes here longer) quiet = absurd (too_long _ _ here has.file has.within longer)
-stopped-due {kind = kind} (Answers.list_refused has none) (Answers.list_refused {cause = due} bytes here within bad) quiet =
+stopped-due (Endings.no_list missing none) (Answers.no_list gone) quiet = inl refl
+stopped-due (Endings.no_list missing none) (Answers.long_list bytes here longer) quiet = absurd (holds-missing here missing)
+stopped-due (Endings.no_list missing none) (Answers.list_refused bytes here within bad) quiet = absurd (holds-missing here missing)
+stopped-due (Endings.list_failed rose) due quiet = absurd (quiet rose)
+stopped-due (Endings.long_list more none) (Answers.no_list gone) quiet = absurd (lacks-longer _ gone more)
+stopped-due (Endings.long_list more none) (Answers.long_list bytes here longer) quiet = inl refl
+stopped-due (Endings.long_list more none) (Answers.list_refused bytes here within bad) quiet = absurd (short _ here within more)
+stopped-due (Endings.list_refused has none) (Answers.no_list gone) quiet = absurd (lacks-file _ gone has.file)
+stopped-due (Endings.list_refused has none) (Answers.long_list bytes here longer) quiet = absurd (too_long _ _ here has.file has.within longer)
+stopped-due {kind = kind} (Endings.list_refused has none) (Answers.list_refused {cause = due} bytes here within bad) quiet =
     inl (ap Some (refused_once has.refused (subst (λ b. IsRefused kind b due) (holds-file _ here has.file) bad)))
-stopped-due (Answers.no_memory none) due quiet = inr refl
+stopped-due (Endings.no_memory none) due quiet = inr refl
 
 -- a list that is told and accepted isn't loaded only for memory
 stopped-told : {kind : ListKind} {name : List ℕ} {told : Told} {before now : ℕ} {cause : Cause} (due : Option Cause) → StopsList kind name told before now cause → TellsList kind told → (Rose before now → ⊥) → (Some cause ≡ due) ⊎ (Some cause ≡ Some memory)
-stopped-told due (Answers.no_list missing none) tells quiet = absurd (holds-missing tells.here missing)
-stopped-told due (Answers.list_failed rose) tells quiet = absurd (quiet rose)
-stopped-told due (Answers.long_list more none) tells quiet = absurd (short _ tells.here tells.within more)
-stopped-told {kind = kind} due (Answers.list_refused has none) tells quiet =
+stopped-told due (Endings.no_list missing none) tells quiet = absurd (holds-missing tells.here missing)
+stopped-told due (Endings.list_failed rose) tells quiet = absurd (quiet rose)
+stopped-told due (Endings.long_list more none) tells quiet = absurd (short _ tells.here tells.within more)
+stopped-told {kind = kind} due (Endings.list_refused has none) tells quiet =
     absurd (accepted-refused (subst (λ b. IsAccepted kind b tells.entries tells.patterns) (holds-file _ tells.here has.file) tells.accepted) has.refused)
-stopped-told due (Answers.no_memory none) tells quiet = inr refl
+stopped-told due (Endings.no_memory none) tells quiet = inr refl
 
 -- ---- the commands
 
@@ -138,7 +141,7 @@ due-long_file request file before now input inputs entries P scans has more due 
 due-scan : (request : Request) (file : List ℕ) (before now : Outside) (input inputs : Input) (outcome : Option Cause) → scanned_by request ≡ file_named file → ScanEnds (list_kind request) (list_name request) file before now outcome → IsDueOutcome (Some request) before now input inputs outcome
 due-scan request file before now input inputs _ scans (Answers.done entries P has written none) = due-scanned request file before now input inputs entries P scans has written
 due-scan request file before now input inputs _ scans (Answers.stopped cause early) = due-stopped request before now input inputs cause early.stops
-due-scan request file before now input inputs _ scans (Answers.no_file entries P has missing nothing none) = due-no_file request file before now input inputs entries P scans has missing
+due-scan request file before now input inputs _ scans (Answers.no_file entries P has missing begun none) = due-no_file request file before now input inputs entries P scans has missing
 due-scan request file before now input inputs _ scans (Answers.file_failed entries P has begun rose) = λ due is quiet still reads. absurd (quiet rose)
 due-scan request file before now input inputs _ scans (Answers.long_file entries P has longer begun none) = due-long_file request file before now input inputs entries P scans has longer
 due-scan request file before now input inputs _ scans (Answers.sink_failed entries P has begun rose) = λ due is quiet still reads. absurd (still rose)
@@ -154,15 +157,15 @@ due-loaded request before now input inputs entries P scans has due (Answers.faul
 due-loaded request before now input inputs entries P scans has due (Answers.loaded _ scans' tells) quiet still reads = inl refl
 
 due-tell : (IsText : List ListedEntry → List ℕ → Type 0) (request : Request) (before now : Outside) (input inputs : Input) (outcome : Option Cause) → scanned_by request ≡ no_bytes → TellEnds IsText (list_kind request) (list_name request) before now outcome → IsDueOutcome (Some request) before now input inputs outcome
-due-tell IsText request before now input inputs _ scans (Answers.done entries P text has is taken none) = due-loaded request before now input inputs entries P scans has
-due-tell IsText request before now input inputs _ scans (Answers.stopped cause early) = due-stopped request before now input inputs cause early.stops
-due-tell IsText request before now input inputs _ scans (Answers.sink_failed entries P text has is taken rose) = λ due is quiet still reads. absurd (still rose)
+due-tell IsText request before now input inputs _ scans (Endings.done entries P text has is taken none) = due-loaded request before now input inputs entries P scans has
+due-tell IsText request before now input inputs _ scans (Endings.stopped cause early) = due-stopped request before now input inputs cause early.stops
+due-tell IsText request before now input inputs _ scans (Endings.sink_failed entries P text has is taken rose) = λ due is quiet still reads. absurd (still rose)
 
 due-compile : (patterns database : List ℕ) (before now : Outside) (input inputs : Input) (outcome : Option Cause) → CompileEnds patterns database before now outcome → IsDueOutcome (Some (compile_list patterns database)) before now input inputs outcome
-due-compile patterns database before now input inputs _ (Answers.done entries P bytes has is put taken none) = due-loaded (compile_list patterns database) before now input inputs entries P refl has
-due-compile patterns database before now input inputs _ (Answers.stopped cause early kept) = due-stopped (compile_list patterns database) before now input inputs cause early.stops
-due-compile patterns database before now input inputs _ (Answers.put_failed entries P has spoils nothing rose) = λ due is quiet still reads. absurd (quiet rose)
-due-compile patterns database before now input inputs _ (Answers.sink_failed entries P bytes has is put taken rose) = λ due is quiet still reads. absurd (still rose)
+due-compile patterns database before now input inputs _ (Endings.done entries P bytes has is put taken none) = due-loaded (compile_list patterns database) before now input inputs entries P refl has
+due-compile patterns database before now input inputs _ (Endings.stopped cause early kept) = due-stopped (compile_list patterns database) before now input inputs cause early.stops
+due-compile patterns database before now input inputs _ (Endings.put_failed entries P has spoils nothing rose) = λ due is quiet still reads. absurd (quiet rose)
+due-compile patterns database before now input inputs _ (Endings.sink_failed entries P bytes has is put taken rose) = λ due is quiet still reads. absurd (still rose)
 
 -- ---- the script of the input
 

@@ -1,15 +1,19 @@
 -- What the status of an answer says by itself.
-use Rattle.std.proofs.Common.{◌≡◌, ℕ, ◌⊎◌, List, [], Option, Some, None, refl, sym, ap, ◌∙◌, subst, arith, inl, inr}
+use Rattle.std.proofs.Common.{◌≡◌, ◌≢◌, ℕ, ◌⊎◌, List, [], Option, Some, None, refl, sym, ap, ◌∙◌, subst, arith, inl, inr}
 use Rattle.hs_base.specs.Entries.{ListedEntry}
 use Rattle.hs_outside.specs.Counts.{Rose}
 use Rattle.hs_outside.specs.Sink.{Took}
-use Rattle.hs_outside.specs.Store.{Told}
+use Rattle.hs_outside.specs.Store.{Told, untold}
 use Rattle.hs_request.specs.Requests.{Request, match_file, check_list, compile_list, tell_database, scan_file, run_script}
-use Rattle.hs_tool.specs.Commands.{ListKind, IsStream}
-use Rattle.hs_tool.specs.Accepting.{IsRefused, bad_line, bad_bytes, bad_form, bad_entry}
-use Rattle.hs_tool.specs.Causes.{Cause, usage, refused, read, write, store, absent, limit, form, script, memory, status_of, status_of_cause}
+use Rattle.hs_lists.specs.ListKinds.{ListKind}
+use Rattle.hs_tool.specs.Commands.{IsStream}
+use Rattle.hs_lists.specs.Accepting.{IsRefused, bad_line, bad_bytes, bad_form, bad_entry}
+use Rattle.hs_lists.specs.Causes.{Cause, usage, refused, read, write, store, absent, limit, form, script, memory, status_of, status_of_cause}
+use Rattle.hs_tool.proofs.BegunLemmas.{begun-missing}
 use Rattle.hs_tool.specs.Answers
-use Rattle.hs_tool.specs.Answers.{Outside, Input, StopsList, ScanEnds, TellEnds, CompileEnds, StreamEnds, Ends, KeepsFiles, IsDue, IsAnswer, IsStatus, IsSilentStatus, HasRun}
+use Rattle.hs_lists.specs.Endings
+use Rattle.hs_lists.specs.Endings.{Outside, StopsList, TellEnds, CompileEnds}
+use Rattle.hs_tool.specs.Answers.{Input, ScanEnds, StreamEnds, Ends, KeepsFiles, IsDue, IsAnswer, TellsFile, IsStatus, IsSilentStatus, HasRun}
 
 is_status : (outcome : Option Cause) → IsStatus (status_of outcome)
 is_status None = inl refl
@@ -40,18 +44,18 @@ refused_as n bad e two four =
     ]
 
 stops_usage : {kind : ListKind} {name : List ℕ} {told : Told} {before now : ℕ} {cause : Cause} → StopsList kind name told before now cause → status_of_cause cause ≡ 1 → ⊥
-stops_usage (Answers.no_list missing none) e = omega (arith, e)
-stops_usage (Answers.list_failed rose) e = omega (arith, e)
-stops_usage (Answers.long_list longer none) e = omega (arith, e)
-stops_usage (Answers.list_refused has none) e = refused_as 1 has.refused e (λ x. omega (arith, x)) (λ x. omega (arith, x))
-stops_usage (Answers.no_memory none) e = omega (arith, e)
+stops_usage (Endings.no_list missing none) e = omega (arith, e)
+stops_usage (Endings.list_failed rose) e = omega (arith, e)
+stops_usage (Endings.long_list longer none) e = omega (arith, e)
+stops_usage (Endings.list_refused has none) e = refused_as 1 has.refused e (λ x. omega (arith, x)) (λ x. omega (arith, x))
+stops_usage (Endings.no_memory none) e = omega (arith, e)
 
 stops_rose : {kind : ListKind} {name : List ℕ} {told : Told} {before now : ℕ} {cause : Cause} → StopsList kind name told before now cause → status_of_cause cause ≡ 3 → Rose before now
-stops_rose (Answers.no_list missing none) e = absurd (omega (arith, e))
-stops_rose (Answers.list_failed rose) e = rose
-stops_rose (Answers.long_list longer none) e = absurd (omega (arith, e))
-stops_rose (Answers.list_refused has none) e = absurd (refused_as 3 has.refused e (λ x. omega (arith, x)) (λ x. omega (arith, x)))
-stops_rose (Answers.no_memory none) e = absurd (omega (arith, e))
+stops_rose (Endings.no_list missing none) e = absurd (omega (arith, e))
+stops_rose (Endings.list_failed rose) e = rose
+stops_rose (Endings.long_list longer none) e = absurd (omega (arith, e))
+stops_rose (Endings.list_refused has none) e = absurd (refused_as 3 has.refused e (λ x. omega (arith, x)) (λ x. omega (arith, x)))
+stops_rose (Endings.no_memory none) e = absurd (omega (arith, e))
 
 -- a number that is neither 0 nor 5 isn't another that is
 apart : (m n : ℕ) → m ≡ n → (n ≡ 0) ⊎ (n ≡ 5) → (m ≡ 0 → ⊥) → (m ≡ 5 → ⊥) → ⊥
@@ -60,36 +64,36 @@ apart m n e (inr is) none five = five (e ∙ is)
 
 -- a list that isn't loaded never ends the program with 0 or 5
 stops_unserved : {kind : ListKind} {name : List ℕ} {told : Told} {before now : ℕ} {cause : Cause} (n : ℕ) → StopsList kind name told before now cause → status_of_cause cause ≡ n → (n ≡ 0) ⊎ (n ≡ 5) → ⊥
-stops_unserved n (Answers.no_list missing none) e is = apart 7 n e is (λ x. omega (arith, x)) (λ x. omega (arith, x))
-stops_unserved n (Answers.list_failed rose) e is = apart 3 n e is (λ x. omega (arith, x)) (λ x. omega (arith, x))
-stops_unserved n (Answers.long_list longer none) e is = apart 8 n e is (λ x. omega (arith, x)) (λ x. omega (arith, x))
-stops_unserved n (Answers.list_refused has none) e is =
+stops_unserved n (Endings.no_list missing none) e is = apart 7 n e is (λ x. omega (arith, x)) (λ x. omega (arith, x))
+stops_unserved n (Endings.list_failed rose) e is = apart 3 n e is (λ x. omega (arith, x)) (λ x. omega (arith, x))
+stops_unserved n (Endings.long_list longer none) e is = apart 8 n e is (λ x. omega (arith, x)) (λ x. omega (arith, x))
+stops_unserved n (Endings.list_refused has none) e is =
     elim (refused_status has.refused) [
       | inl two ↦ apart 2 n (sym two ∙ e) is (λ x. omega (arith, x)) (λ x. omega (arith, x))
       | inr four ↦ apart 4 n (sym four ∙ e) is (λ x. omega (arith, x)) (λ x. omega (arith, x))
     ]
-stops_unserved n (Answers.no_memory none) e is = apart 6 n e is (λ x. omega (arith, x)) (λ x. omega (arith, x))
+stops_unserved n (Endings.no_memory none) e is = apart 6 n e is (λ x. omega (arith, x)) (λ x. omega (arith, x))
 
 -- ---- status 1: wrong words alone
 
 scan_usage : {kind : ListKind} {list file : List ℕ} {before now : Outside} {outcome : Option Cause} → ScanEnds kind list file before now outcome → status_of outcome ≡ 1 → ⊥
 scan_usage (Answers.done entries P has written none) e = omega (arith, e)
 scan_usage (Answers.stopped cause early) e = stops_usage early.stops e
-scan_usage (Answers.no_file entries P has missing nothing none) e = omega (arith, e)
+scan_usage (Answers.no_file entries P has missing begun none) e = omega (arith, e)
 scan_usage (Answers.file_failed entries P has begun rose) e = omega (arith, e)
 scan_usage (Answers.long_file entries P has longer begun none) e = omega (arith, e)
 scan_usage (Answers.sink_failed entries P has begun rose) e = omega (arith, e)
 
 tell_usage : {IsText : List ListedEntry → List ℕ → Type 0} {kind : ListKind} {list : List ℕ} {before now : Outside} {outcome : Option Cause} → TellEnds IsText kind list before now outcome → status_of outcome ≡ 1 → ⊥
-tell_usage (Answers.done entries P text has is taken none) e = omega (arith, e)
-tell_usage (Answers.stopped cause early) e = stops_usage early.stops e
-tell_usage (Answers.sink_failed entries P text has is taken rose) e = omega (arith, e)
+tell_usage (Endings.done entries P text has is taken none) e = omega (arith, e)
+tell_usage (Endings.stopped cause early) e = stops_usage early.stops e
+tell_usage (Endings.sink_failed entries P text has is taken rose) e = omega (arith, e)
 
 compile_usage : {patterns database : List ℕ} {before now : Outside} {outcome : Option Cause} → CompileEnds patterns database before now outcome → status_of outcome ≡ 1 → ⊥
-compile_usage (Answers.done entries P bytes has is put taken none) e = omega (arith, e)
-compile_usage (Answers.stopped cause early kept) e = stops_usage early.stops e
-compile_usage (Answers.put_failed entries P has spoils nothing rose) e = omega (arith, e)
-compile_usage (Answers.sink_failed entries P bytes has is put taken rose) e = omega (arith, e)
+compile_usage (Endings.done entries P bytes has is put taken none) e = omega (arith, e)
+compile_usage (Endings.stopped cause early kept) e = stops_usage early.stops e
+compile_usage (Endings.put_failed entries P has spoils nothing rose) e = omega (arith, e)
+compile_usage (Endings.sink_failed entries P bytes has is put taken rose) e = omega (arith, e)
 
 stream_usage : {database : List ℕ} {before now : Outside} {input inputs : Input} {outcome : Option Cause} → StreamEnds database before now input inputs outcome → status_of outcome ≡ 1 → ⊥
 stream_usage (Answers.done entries P has served end none still) e = omega (arith, e)
@@ -121,21 +125,21 @@ request_usage (Some request) before now input inputs outcome ends e = absurd (cc
 scan_rose : {kind : ListKind} {list file : List ℕ} {before now : Outside} {outcome : Option Cause} → ScanEnds kind list file before now outcome → status_of outcome ≡ 3 → Rose before.stored now.stored ⊎ Rose before.sunk now.sunk
 scan_rose (Answers.done entries P has written none) e = absurd (omega (arith, e))
 scan_rose (Answers.stopped cause early) e = inl (stops_rose early.stops e)
-scan_rose (Answers.no_file entries P has missing nothing none) e = absurd (omega (arith, e))
+scan_rose (Answers.no_file entries P has missing begun none) e = absurd (omega (arith, e))
 scan_rose (Answers.file_failed entries P has begun rose) e = inl rose
 scan_rose (Answers.long_file entries P has longer begun none) e = absurd (omega (arith, e))
 scan_rose (Answers.sink_failed entries P has begun rose) e = inr rose
 
 tell_rose : {IsText : List ListedEntry → List ℕ → Type 0} {kind : ListKind} {list : List ℕ} {before now : Outside} {outcome : Option Cause} → TellEnds IsText kind list before now outcome → status_of outcome ≡ 3 → Rose before.stored now.stored ⊎ Rose before.sunk now.sunk
-tell_rose (Answers.done entries P text has is taken none) e = absurd (omega (arith, e))
-tell_rose (Answers.stopped cause early) e = inl (stops_rose early.stops e)
-tell_rose (Answers.sink_failed entries P text has is taken rose) e = inr rose
+tell_rose (Endings.done entries P text has is taken none) e = absurd (omega (arith, e))
+tell_rose (Endings.stopped cause early) e = inl (stops_rose early.stops e)
+tell_rose (Endings.sink_failed entries P text has is taken rose) e = inr rose
 
 compile_rose : {patterns database : List ℕ} {before now : Outside} {outcome : Option Cause} → CompileEnds patterns database before now outcome → status_of outcome ≡ 3 → Rose before.stored now.stored ⊎ Rose before.sunk now.sunk
-compile_rose (Answers.done entries P bytes has is put taken none) e = absurd (omega (arith, e))
-compile_rose (Answers.stopped cause early kept) e = inl (stops_rose early.stops e)
-compile_rose (Answers.put_failed entries P has spoils nothing rose) e = inl rose
-compile_rose (Answers.sink_failed entries P bytes has is put taken rose) e = inr rose
+compile_rose (Endings.done entries P bytes has is put taken none) e = absurd (omega (arith, e))
+compile_rose (Endings.stopped cause early kept) e = inl (stops_rose early.stops e)
+compile_rose (Endings.put_failed entries P has spoils nothing rose) e = inl rose
+compile_rose (Endings.sink_failed entries P bytes has is put taken rose) e = inr rose
 
 -- a call failed on the store, on the sink, or on the source of `stream`
 abbrev pub Fails : Option Request → Outside → Outside → Input → Input → Type 0
@@ -171,21 +175,21 @@ ends_rose (Some (run_script database)) before now input inputs outcome ends e = 
 scan_unserved : {kind : ListKind} {list file : List ℕ} {before now : Outside} {outcome : Option Cause} → ScanEnds kind list file before now outcome → status_of outcome ≡ 5 → ⊥
 scan_unserved (Answers.done entries P has written none) e = omega (arith, e)
 scan_unserved (Answers.stopped cause early) e = stops_unserved 5 early.stops e (inr refl)
-scan_unserved (Answers.no_file entries P has missing nothing none) e = omega (arith, e)
+scan_unserved (Answers.no_file entries P has missing begun none) e = omega (arith, e)
 scan_unserved (Answers.file_failed entries P has begun rose) e = omega (arith, e)
 scan_unserved (Answers.long_file entries P has longer begun none) e = omega (arith, e)
 scan_unserved (Answers.sink_failed entries P has begun rose) e = omega (arith, e)
 
 tell_unserved : {IsText : List ListedEntry → List ℕ → Type 0} {kind : ListKind} {list : List ℕ} {before now : Outside} {outcome : Option Cause} → TellEnds IsText kind list before now outcome → status_of outcome ≡ 5 → ⊥
-tell_unserved (Answers.done entries P text has is taken none) e = omega (arith, e)
-tell_unserved (Answers.stopped cause early) e = stops_unserved 5 early.stops e (inr refl)
-tell_unserved (Answers.sink_failed entries P text has is taken rose) e = omega (arith, e)
+tell_unserved (Endings.done entries P text has is taken none) e = omega (arith, e)
+tell_unserved (Endings.stopped cause early) e = stops_unserved 5 early.stops e (inr refl)
+tell_unserved (Endings.sink_failed entries P text has is taken rose) e = omega (arith, e)
 
 compile_unserved : {patterns database : List ℕ} {before now : Outside} {outcome : Option Cause} → CompileEnds patterns database before now outcome → status_of outcome ≡ 5 → ⊥
-compile_unserved (Answers.done entries P bytes has is put taken none) e = omega (arith, e)
-compile_unserved (Answers.stopped cause early kept) e = stops_unserved 5 early.stops e (inr refl)
-compile_unserved (Answers.put_failed entries P has spoils nothing rose) e = omega (arith, e)
-compile_unserved (Answers.sink_failed entries P bytes has is put taken rose) e = omega (arith, e)
+compile_unserved (Endings.done entries P bytes has is put taken none) e = omega (arith, e)
+compile_unserved (Endings.stopped cause early kept) e = stops_unserved 5 early.stops e (inr refl)
+compile_unserved (Endings.put_failed entries P has spoils nothing rose) e = omega (arith, e)
+compile_unserved (Endings.sink_failed entries P bytes has is put taken rose) e = omega (arith, e)
 
 ends_script : (request : Option Request) (before now : Outside) (input inputs : Input) (outcome : Option Cause) → Ends request before now input inputs outcome → status_of outcome ≡ 5 → IsStream request
 ends_script None before now input inputs outcome ends e =
@@ -239,24 +243,25 @@ loud-faulty e = loud 5 (λ x. omega (arith, x), λ x. omega (arith, x), λ x. om
 loud-long : IsSilentStatus 8 → ⊥
 loud-long e = loud 8 (λ x. omega (arith, x), λ x. omega (arith, x), λ x. omega (arith, x), λ x. omega (arith, x), λ x. omega (arith, x)) e
 
-scan_silent : {kind : ListKind} {list file : List ℕ} {before now : Outside} {outcome : Option Cause} → ScanEnds kind list file before now outcome → IsSilentStatus (status_of outcome) → Took before.out now.out []
-scan_silent (Answers.done entries P has written none) e = absurd (loud-done e)
-scan_silent (Answers.stopped cause early) e = early.quiet
-scan_silent (Answers.no_file entries P has missing nothing none) e = nothing
-scan_silent (Answers.file_failed entries P has begun rose) e = absurd (loud-failed e)
-scan_silent (Answers.long_file entries P has longer begun none) e = absurd (loud-long e)
-scan_silent (Answers.sink_failed entries P has begun rose) e = absurd (loud-failed e)
+scan_silent : {kind : ListKind} {list file : List ℕ} {before now : Outside} {outcome : Option Cause} → ScanEnds kind list file before now outcome → IsSilentStatus (status_of outcome) → (status_of outcome ≡ 7 → before.told file ≢ untold) → Took before.out now.out []
+scan_silent (Answers.done entries P has written none) e tells = absurd (loud-done e)
+scan_silent (Answers.stopped cause early) e tells = early.quiet
+scan_silent {file = file} {before = before} {now = now} (Answers.no_file entries P has missing begun none) e tells =
+    begun-missing (before.told file) P before.out now.out (tells refl) missing begun
+scan_silent (Answers.file_failed entries P has begun rose) e tells = absurd (loud-failed e)
+scan_silent (Answers.long_file entries P has longer begun none) e tells = absurd (loud-long e)
+scan_silent (Answers.sink_failed entries P has begun rose) e tells = absurd (loud-failed e)
 
 tell_silent : {IsText : List ListedEntry → List ℕ → Type 0} {kind : ListKind} {list : List ℕ} {before now : Outside} {outcome : Option Cause} → TellEnds IsText kind list before now outcome → IsSilentStatus (status_of outcome) → Took before.out now.out []
-tell_silent (Answers.done entries P text has is taken none) e = absurd (loud-done e)
-tell_silent (Answers.stopped cause early) e = early.quiet
-tell_silent (Answers.sink_failed entries P text has is taken rose) e = absurd (loud-failed e)
+tell_silent (Endings.done entries P text has is taken none) e = absurd (loud-done e)
+tell_silent (Endings.stopped cause early) e = early.quiet
+tell_silent (Endings.sink_failed entries P text has is taken rose) e = absurd (loud-failed e)
 
 compile_silent : {patterns database : List ℕ} {before now : Outside} {outcome : Option Cause} → CompileEnds patterns database before now outcome → IsSilentStatus (status_of outcome) → Took before.out now.out []
-compile_silent (Answers.done entries P bytes has is put taken none) e = absurd (loud-done e)
-compile_silent (Answers.stopped cause early kept) e = early.quiet
-compile_silent (Answers.put_failed entries P has spoils nothing rose) e = nothing
-compile_silent (Answers.sink_failed entries P bytes has is put taken rose) e = absurd (loud-failed e)
+compile_silent (Endings.done entries P bytes has is put taken none) e = absurd (loud-done e)
+compile_silent (Endings.stopped cause early kept) e = early.quiet
+compile_silent (Endings.put_failed entries P has spoils nothing rose) e = nothing
+compile_silent (Endings.sink_failed entries P bytes has is put taken rose) e = absurd (loud-failed e)
 
 stream_silent : {database : List ℕ} {before now : Outside} {input inputs : Input} {outcome : Option Cause} → StreamEnds database before now input inputs outcome → IsSilentStatus (status_of outcome) → Took before.out now.out []
 stream_silent (Answers.done entries P has served end none still) e = absurd (loud-done e)
@@ -266,20 +271,20 @@ stream_silent (Answers.source_failed entries P bytes has answered none rose) e =
 stream_silent (Answers.long_script entries P bytes has answered long none still) e = absurd (loud-long e)
 stream_silent (Answers.sink_failed entries P has begun rose) e = absurd (loud-failed e)
 
-ends_silent : (request : Option Request) (before now : Outside) (input inputs : Input) (outcome : Option Cause) → Ends request before now input inputs outcome → IsSilentStatus (status_of outcome) → Took before.out now.out []
-ends_silent None before now input inputs outcome ends e = ends.quiet
-ends_silent (Some (match_file patterns file)) before now input inputs outcome ends e = scan_silent ends e
-ends_silent (Some (check_list patterns)) before now input inputs outcome ends e = tell_silent ends e
-ends_silent (Some (compile_list patterns database)) before now input inputs outcome ends e = compile_silent ends e
-ends_silent (Some (tell_database database)) before now input inputs outcome ends e = tell_silent ends e
-ends_silent (Some (scan_file database file)) before now input inputs outcome ends e = scan_silent ends e
-ends_silent (Some (run_script database)) before now input inputs outcome ends e = stream_silent ends e
+ends_silent : (request : Option Request) (before now : Outside) (input inputs : Input) (outcome : Option Cause) → Ends request before now input inputs outcome → IsSilentStatus (status_of outcome) → (status_of outcome ≡ 7 → TellsFile request before.told) → Took before.out now.out []
+ends_silent None before now input inputs outcome ends e tells = ends.quiet
+ends_silent (Some (match_file patterns file)) before now input inputs outcome ends e tells = scan_silent ends e tells
+ends_silent (Some (check_list patterns)) before now input inputs outcome ends e tells = tell_silent ends e
+ends_silent (Some (compile_list patterns database)) before now input inputs outcome ends e tells = compile_silent ends e
+ends_silent (Some (tell_database database)) before now input inputs outcome ends e tells = tell_silent ends e
+ends_silent (Some (scan_file database file)) before now input inputs outcome ends e tells = scan_silent ends e tells
+ends_silent (Some (run_script database)) before now input inputs outcome ends e tells = stream_silent ends e
 
 compile_unput : {patterns database : List ℕ} {before now : Outside} {outcome : Option Cause} → CompileEnds patterns database before now outcome → IsSilentStatus (status_of outcome) → now.told ≡ before.told
-compile_unput (Answers.done entries P bytes has is put taken none) e = absurd (loud-done e)
-compile_unput (Answers.stopped cause early kept) e = kept
-compile_unput (Answers.put_failed entries P has spoils nothing rose) e = absurd (loud-failed e)
-compile_unput (Answers.sink_failed entries P bytes has is put taken rose) e = absurd (loud-failed e)
+compile_unput (Endings.done entries P bytes has is put taken none) e = absurd (loud-done e)
+compile_unput (Endings.stopped cause early kept) e = kept
+compile_unput (Endings.put_failed entries P has spoils nothing rose) e = absurd (loud-failed e)
+compile_unput (Endings.sink_failed entries P bytes has is put taken rose) e = absurd (loud-failed e)
 
 ends_unput : (request : Option Request) (before now : Outside) (input inputs : Input) (outcome : Option Cause) → Ends request before now input inputs outcome → KeepsFiles request before.told now.told → IsSilentStatus (status_of outcome) → now.told ≡ before.told
 ends_unput None before now input inputs outcome ends kept e = kept
@@ -326,8 +331,9 @@ answer_no_command {request} {before} {now} {input} {inputs} answer e =
 pub answer_fault : {request : Option Request} {before now : Outside} {input inputs : Input} {err erred : Option (List ℕ)} {count counted status : ℕ} → IsAnswer request before now input inputs err erred count counted status → status ≡ 3 → Fails request before now input inputs
 answer_fault {request} {before} {now} {input} {inputs} answer e = ends_rose request before now input inputs answer.outcome answer.ends (sym answer.ended ∙ e)
 
-pub answer_silent : {request : Option Request} {before now : Outside} {input inputs : Input} {err erred : Option (List ℕ)} {count counted status : ℕ} → IsAnswer request before now input inputs err erred count counted status → IsSilentStatus status → Took before.out now.out []
-answer_silent {request} {before} {now} {input} {inputs} answer e = ends_silent request before now input inputs answer.outcome answer.ends (subst IsSilentStatus answer.ended e)
+pub answer_silent : {request : Option Request} {before now : Outside} {input inputs : Input} {err erred : Option (List ℕ)} {count counted status : ℕ} → IsAnswer request before now input inputs err erred count counted status → IsSilentStatus status → (status ≡ 7 → TellsFile request before.told) → Took before.out now.out []
+answer_silent {request} {before} {now} {input} {inputs} answer e tells =
+    ends_silent request before now input inputs answer.outcome answer.ends (subst IsSilentStatus answer.ended e) (λ gone. tells (answer.ended ∙ gone))
 
 pub answer_unput : {request : Option Request} {before now : Outside} {input inputs : Input} {err erred : Option (List ℕ)} {count counted status : ℕ} → IsAnswer request before now input inputs err erred count counted status → KeepsFiles request before.told now.told → IsSilentStatus status → now.told ≡ before.told
 answer_unput {request} {before} {now} {input} {inputs} answer kept e = ends_unput request before now input inputs answer.outcome answer.ends kept (subst IsSilentStatus answer.ended e)

@@ -7,18 +7,19 @@ use Rattle.hs_outside.specs.Sink.{Took, TookPrefix}
 use Rattle.hs_text.specs.declared.reply_lines.ScriptFault.{ScriptFault}
 use Rattle.hs_compile.specs.declared.database.Database.{Database}
 use Rattle.hs_compile.specs.Databases.{IsDatabaseOf}
-use Rattle.hs_session.specs.declared.fault.ScriptStop.{ScriptStop}
-use Rattle.hs_session.specs.Reading.{MayCome}
-use Rattle.hs_session.specs.Serving as serving
-use Rattle.hs_session.specs.Serving.{Finished, Begun, SoFar, ScriptEnds, EndCounts}
-use Rattle.hs_tool.specs.Commands.{database_file}
-use Rattle.hs_tool.specs.Causes.{Cause}
+use Rattle.hs_tool.specs.declared.session.fault.ScriptStop.{ScriptStop}
+use Rattle.hs_reader.specs.Reading.{MayCome}
+use Rattle.hs_tool.specs.Serving as serving
+use Rattle.hs_tool.specs.Serving.{Finished, Begun, SoFar, ScriptEnds, EndCounts}
+use Rattle.hs_lists.specs.ListKinds.{database_file}
+use Rattle.hs_lists.specs.Causes.{Cause}
 use Rattle.hs_tool.specs.Streaming
 use Rattle.hs_tool.specs.Streaming.{IsTextOver, HasServed, IsTextSoFar, HasAnswered, IsSomeText, HasBegunAnswers}
 use Rattle.hs_tool.specs.Stopping.{cause_of_stop}
 use Rattle.hs_tool.specs.Answers
-use Rattle.hs_tool.specs.Answers.{Outside, Input, NoFault, HasList, StreamEnds}
-use Rattle.hs_tool.proofs.AnswerLemmas.{no_memory_early}
+use Rattle.hs_lists.specs.Endings.{Outside, NoFault, HasList}
+use Rattle.hs_tool.specs.Answers.{Input, StreamEnds}
+use Rattle.hs_lists.proofs.EndingLemmas.{no_memory_early}
 
 -- what a source has left, and nothing where it doesn't tell
 abbrev rest_of : Option (List ℕ) → List ℕ

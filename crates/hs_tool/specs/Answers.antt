@@ -1,81 +1,39 @@
 -- The answers of the program: each with what it says of the store, the sink and the files.
-use Rattle.std.specs.Prelude.{◌≡◌, ◌↔◌, ℕ, ◌<◌, ◌≤◌, ◌⊎◌, List, [], ◌∷◌, ◌++◌, length, map, Option, Some, None}
+use Rattle.std.specs.Prelude.{◌≡◌, ◌≢◌, ◌↔◌, ℕ, ◌<◌, ◌≤◌, ◌⊎◌, List, [], ◌∷◌, ◌++◌, length, map, Option, Some, None}
 use Rattle.hs_base.specs.Lists.{OneOf, IsMember}
 use Rattle.hs_base.specs.Entries.{ListedEntry}
 use Rattle.hs_base.specs.Patterns.{Pattern}
 use Rattle.hs_base.specs.Settling.{AreRising}
-use Rattle.hs_base.specs.MatchText.{IsMatchText}
+use Rattle.hs_base.specs.Told.{Pair, IsNew}
+use Rattle.hs_base.specs.MatchText.{report_lines, IsMatchText}
 use Rattle.hs_outside.specs.Counts.{Rose}
 use Rattle.hs_outside.specs.Source.{IsAtEnd}
 use Rattle.hs_outside.specs.Sink.{Took, TookPrefix}
-use Rattle.hs_outside.specs.Store.{Told, lacks, holds, IsFile, IsLonger, IsMissing, PutsOrHides, Spoils, KeepsOthers, TellsNothing}
+use Rattle.hs_outside.specs.Store.{Told, untold, lacks, holds, Begins, IsFile, IsLonger, IsMissing, PutsOrHides, Spoils}
+use Rattle.hs_outside.specs.Store.{KeepsOthers, TellsNothing}
 use Rattle.hs_text.specs.declared.reply_lines.ScriptFault.{ScriptFault}
 use Rattle.hs_text.specs.AnswerLines.{accepted_line, compiled_line, info_lines}
 use Rattle.hs_dbfile.specs.Files.{IsDatabaseFile}
-use Rattle.hs_request.specs.Requests.{Request, match_file, check_list, compile_list, tell_database, scan_file, run_script}
+use Rattle.hs_request.specs.Requests.{Request, match_file, check_list, compile_list, tell_database, scan_file}
+use Rattle.hs_request.specs.Requests.{run_script}
 use Rattle.hs_script.specs.Actions.{Action}
 use Rattle.hs_script.specs.Scripts.{IsScript}
-use Rattle.hs_session.specs.Reading.{most_script}
-use Rattle.hs_tool.specs.Commands.{ListKind, pattern_file, database_file, list_kind, list_name, no_bytes, file_named, script_of_input, scanned_by, IsStream}
-use Rattle.hs_tool.specs.Accepting.{IsAccepted, IsRefused}
-use Rattle.hs_scan.specs.Scanning.{greatest_offset}
-use Rattle.hs_tool.specs.Causes.{Cause, usage, read, write, store, absent, limit, script, memory, status_of, line_of}
+use Rattle.hs_reader.specs.Reading.{most_script}
+use Rattle.hs_lists.specs.ListKinds.{ListKind, pattern_file, database_file}
+use Rattle.hs_tool.specs.Commands.{list_kind, list_name, Scanned, no_bytes}
+use Rattle.hs_tool.specs.Commands.{file_named, script_of_input, scanned_by, IsStream}
+use Rattle.hs_lists.specs.Endings.{greatest_list, Outside, NoFault, TookNothing, HasList, StopsEarly, TellEnds}
+use Rattle.hs_lists.specs.Endings.{CompileEnds, IsAcceptedText, IsInfoText}
+use Rattle.hs_lists.specs.Accepting.{IsAccepted, IsRefused}
+use Rattle.hs_base.specs.Offsets.{greatest_offset}
+use Rattle.hs_lists.specs.Causes.{Cause, usage, read, write, store, absent, limit, script, memory, status_of}
+use Rattle.hs_lists.specs.Causes.{fault_line}
 use Rattle.hs_tool.specs.Streaming.{IsTextOver, HasServed, HasAnswered, HasBegunAnswers}
-
--- the greatest length of a pattern file or a database file, 2^31 bytes
-abbrev pub greatest_list : ℕ
-greatest_list = 2147483648
-
--- the outside at one moment: what the store tells of each name, what the sink took, and their counts of faults
-pub record Outside : Type 0 where
-  pub told : List ℕ → Told
-  pub stored : ℕ
-  pub out : Option (List ℕ)
-  pub sunk : ℕ
 
 -- the input at one moment: the bytes that the source has left, where it tells them, and its count of faults
 pub record Input : Type 0 where
   pub left : Option (List ℕ)
   pub faults : ℕ
-
--- no call on the store or the sink failed
-pub record NoFault (before now : Outside) : Type 0 where
-  pub store : now.stored ≡ before.stored
-  pub sink : now.sunk ≡ before.sunk
-
--- the sink took nothing
-abbrev pub TookNothing : Outside → Outside → Type 0
-TookNothing before now = Took before.out now.out []
-
--- ---- the list of a command
-
--- The file of the list is there, not too long, and accepted as these patterns.
-pub record HasList (kind : ListKind) (told : Told) (entries : List ListedEntry) (P : List Pattern) : Type 0 where
-  pub bytes : List ℕ
-  pub file : IsFile told bytes
-  pub within : length bytes ≤ greatest_list
-  pub accepted : IsAccepted kind bytes entries P
-
--- The file of the list is there, not too long, and refused.
-pub record HasRefusedList (kind : ListKind) (told : Told) (cause : Cause) : Type 0 where
-  pub bytes : List ℕ
-  pub file : IsFile told bytes
-  pub within : length bytes ≤ greatest_list
-  pub refused : IsRefused kind bytes cause
-
--- Why a list isn't loaded from the file of this name, with the store's count of faults before and now.
-pub data StopsList (kind : ListKind) (name : List ℕ) (told : Told) (before now : ℕ) : Cause → Type 0 where
-  no_list : IsMissing told → now ≡ before → StopsList kind name told before now (absent name)
-  list_failed : Rose before now → StopsList kind name told before now store
-  long_list : IsLonger told greatest_list → now ≡ before → StopsList kind name told before now limit
-  list_refused : {cause : Cause} → HasRefusedList kind told cause → now ≡ before → StopsList kind name told before now cause
-  no_memory : now ≡ before → StopsList kind name told before now memory
-
--- The list isn't loaded, and nothing is written.
-pub record StopsEarly (kind : ListKind) (list : List ℕ) (before now : Outside) (cause : Cause) : Type 0 where
-  pub stops : StopsList kind list (before.told list) before.stored now.stored cause
-  pub quiet : TookNothing before now
-  pub still : now.sunk ≡ before.sunk
 
 -- ---- the endings of the commands
 
@@ -88,53 +46,90 @@ pub record HasWritten (told : Told) (P : List Pattern) (before now : Option (Lis
   pub match : IsMatchText P bytes text
   pub taken : Took before now text
 
--- The sink took a beginning of the text of the match of the file under the list, where the file is told.
-pub record HasBegun (told : Told) (P : List Pattern) (before now : Option (List ℕ)) : Type 0 where
-  pub front : List ℕ
-  pub taken : Took before now front
-  pub begins : (bytes text : List ℕ) → told ≡ holds bytes → IsMatchText P bytes text → (rest : List ℕ) × (text ≡ front ++ rest)
+-- The sink took a beginning of the lines of the reports that some first bytes of the file decide under the list, or of
+-- the text of the match of the whole file. Where the file isn't told, these are any bytes.
+pub data HasBegun (told : Told) (P : List Pattern) (before now : Option (List ℕ)) : Type 0 where
+  in_reports : (bytes : List ℕ) (reports : List Pair) →
+      Begins told bytes →
+      IsNew P [] bytes reports →
+      TookPrefix before now (report_lines reports) →
+      HasBegun told P before now
+  in_text : (bytes text : List ℕ) →
+      IsFile told bytes →
+      IsMatchText P bytes text →
+      TookPrefix before now text →
+      HasBegun told P before now
 
 -- How a command may end that scans the file with the list: done, or by a cause.
 pub data ScanEnds (kind : ListKind) (list file : List ℕ) (before now : Outside) : Option Cause → Type 0 where
-  done : (entries : List ListedEntry) (P : List Pattern) → HasList kind (before.told list) entries P → HasWritten (before.told file) P before.out now.out → NoFault before now → ScanEnds kind list file before now None
-  stopped : (cause : Cause) → StopsEarly kind list before now cause → ScanEnds kind list file before now (Some cause)
-  no_file : (entries : List ListedEntry) (P : List Pattern) → HasList kind (before.told list) entries P → IsMissing (before.told file) → TookNothing before now → NoFault before now → ScanEnds kind list file before now (Some (absent file))
-  file_failed : (entries : List ListedEntry) (P : List Pattern) → HasList kind (before.told list) entries P → HasBegun (before.told file) P before.out now.out → Rose before.stored now.stored → ScanEnds kind list file before now (Some store)
-  long_file : (entries : List ListedEntry) (P : List Pattern) → HasList kind (before.told list) entries P → IsLonger (before.told file) greatest_offset → HasBegun (before.told file) P before.out now.out → NoFault before now → ScanEnds kind list file before now (Some limit)
-  sink_failed : (entries : List ListedEntry) (P : List Pattern) → HasList kind (before.told list) entries P → HasBegun (before.told file) P before.out now.out → Rose before.sunk now.sunk → ScanEnds kind list file before now (Some write)
-
--- How a command may end that writes a text on the list.
-pub data TellEnds (IsText : List ListedEntry → List ℕ → Type 0) (kind : ListKind) (list : List ℕ) (before now : Outside) : Option Cause → Type 0 where
-  done : (entries : List ListedEntry) (P : List Pattern) (text : List ℕ) → HasList kind (before.told list) entries P → IsText entries text → Took before.out now.out text → NoFault before now → TellEnds IsText kind list before now None
-  stopped : (cause : Cause) → StopsEarly kind list before now cause → TellEnds IsText kind list before now (Some cause)
-  sink_failed : (entries : List ListedEntry) (P : List Pattern) (text : List ℕ) → HasList kind (before.told list) entries P → IsText entries text → TookPrefix before.out now.out text → Rose before.sunk now.sunk → TellEnds IsText kind list before now (Some write)
-
--- that the list is accepted, with how many entries it has
-abbrev pub IsAcceptedText : List ListedEntry → List ℕ → Type 0
-IsAcceptedText entries text = text ≡ accepted_line (length entries)
-
--- what a database holds: how many entries, and how many identifiers, each counted once
-pub record IsInfoText (entries : List ListedEntry) (text : List ℕ) : Type 0 where
-  pub identifiers : List ℕ
-  pub once : AreRising identifiers
-  pub same : (id : ℕ) → IsMember id identifiers ↔ IsMember id (map (λ entry. entry.id) entries)
-  pub whole : text ≡ info_lines (length entries) (length identifiers)
-
--- How `compile PATTERNS DB` may end.
-pub data CompileEnds (patterns database : List ℕ) (before now : Outside) : Option Cause → Type 0 where
-  done : (entries : List ListedEntry) (P : List Pattern) (bytes : List ℕ) → HasList pattern_file (before.told patterns) entries P → IsDatabaseFile bytes entries → PutsOrHides before.told now.told database bytes → Took before.out now.out (compiled_line (length entries) (length bytes)) → NoFault before now → CompileEnds patterns database before now None
-  stopped : (cause : Cause) → StopsEarly pattern_file patterns before now cause → now.told ≡ before.told → CompileEnds patterns database before now (Some cause)
-  put_failed : (entries : List ListedEntry) (P : List Pattern) → HasList pattern_file (before.told patterns) entries P → Spoils before.told now.told database → TookNothing before now → Rose before.stored now.stored → CompileEnds patterns database before now (Some store)
-  sink_failed : (entries : List ListedEntry) (P : List Pattern) (bytes : List ℕ) → HasList pattern_file (before.told patterns) entries P → IsDatabaseFile bytes entries → PutsOrHides before.told now.told database bytes → TookPrefix before.out now.out (compiled_line (length entries) (length bytes)) → Rose before.sunk now.sunk → CompileEnds patterns database before now (Some write)
+  done : (entries : List ListedEntry) (P : List Pattern) →
+      HasList kind (before.told list) entries P →
+      HasWritten (before.told file) P before.out now.out →
+      NoFault before now →
+      ScanEnds kind list file before now None
+  stopped : (cause : Cause) →
+      StopsEarly kind list before now cause →
+      ScanEnds kind list file before now (Some cause)
+  no_file : (entries : List ListedEntry) (P : List Pattern) →
+      HasList kind (before.told list) entries P →
+      IsMissing (before.told file) →
+      HasBegun (before.told file) P before.out now.out →
+      NoFault before now →
+      ScanEnds kind list file before now (Some (absent file))
+  file_failed : (entries : List ListedEntry) (P : List Pattern) →
+      HasList kind (before.told list) entries P →
+      HasBegun (before.told file) P before.out now.out →
+      Rose before.stored now.stored →
+      ScanEnds kind list file before now (Some store)
+  long_file : (entries : List ListedEntry) (P : List Pattern) →
+      HasList kind (before.told list) entries P →
+      IsLonger (before.told file) greatest_offset →
+      HasBegun (before.told file) P before.out now.out →
+      NoFault before now →
+      ScanEnds kind list file before now (Some limit)
+  sink_failed : (entries : List ListedEntry) (P : List Pattern) →
+      HasList kind (before.told list) entries P →
+      HasBegun (before.told file) P before.out now.out →
+      Rose before.sunk now.sunk →
+      ScanEnds kind list file before now (Some write)
 
 -- How `stream DB` may end. Where the script has a fault, its line is the last of the text.
 pub data StreamEnds (database : List ℕ) (before now : Outside) (input inputs : Input) : Option Cause → Type 0 where
-  done : (entries : List ListedEntry) (P : List Pattern) → HasList database_file (before.told database) entries P → HasServed P None input.left inputs.left before.out now.out → IsAtEnd inputs.left → NoFault before now → inputs.faults ≡ input.faults → StreamEnds database before now input inputs None
-  faulty : (entries : List ListedEntry) (P : List Pattern) (fault : ScriptFault) → HasList database_file (before.told database) entries P → HasServed P (Some fault) input.left inputs.left before.out now.out → NoFault before now → inputs.faults ≡ input.faults → StreamEnds database before now input inputs (Some (script fault))
-  stopped : (cause : Cause) → StopsEarly database_file database before now cause → inputs ≡ input → StreamEnds database before now input inputs (Some cause)
-  source_failed : (entries : List ListedEntry) (P : List Pattern) (bytes : List ℕ) → HasList database_file (before.told database) entries P → HasAnswered P bytes input.left inputs.left before.out now.out → NoFault before now → Rose input.faults inputs.faults → StreamEnds database before now input inputs (Some read)
-  long_script : (entries : List ListedEntry) (P : List Pattern) (bytes : List ℕ) → HasList database_file (before.told database) entries P → HasAnswered P bytes input.left inputs.left before.out now.out → most_script ≤ length bytes → NoFault before now → inputs.faults ≡ input.faults → StreamEnds database before now input inputs (Some limit)
-  sink_failed : (entries : List ListedEntry) (P : List Pattern) → HasList database_file (before.told database) entries P → HasBegunAnswers P input.left inputs.left before.out now.out → Rose before.sunk now.sunk → StreamEnds database before now input inputs (Some write)
+  done : (entries : List ListedEntry) (P : List Pattern) →
+      HasList database_file (before.told database) entries P →
+      HasServed P None input.left inputs.left before.out now.out →
+      IsAtEnd inputs.left →
+      NoFault before now →
+      inputs.faults ≡ input.faults →
+      StreamEnds database before now input inputs None
+  faulty : (entries : List ListedEntry) (P : List Pattern) (fault : ScriptFault) →
+      HasList database_file (before.told database) entries P →
+      HasServed P (Some fault) input.left inputs.left before.out now.out →
+      NoFault before now →
+      inputs.faults ≡ input.faults →
+      StreamEnds database before now input inputs (Some (script fault))
+  stopped : (cause : Cause) →
+      StopsEarly database_file database before now cause →
+      inputs ≡ input →
+      StreamEnds database before now input inputs (Some cause)
+  source_failed : (entries : List ListedEntry) (P : List Pattern) (bytes : List ℕ) →
+      HasList database_file (before.told database) entries P →
+      HasAnswered P bytes input.left inputs.left before.out now.out →
+      NoFault before now →
+      Rose input.faults inputs.faults →
+      StreamEnds database before now input inputs (Some read)
+  long_script : (entries : List ListedEntry) (P : List Pattern) (bytes : List ℕ) →
+      HasList database_file (before.told database) entries P →
+      HasAnswered P bytes input.left inputs.left before.out now.out →
+      most_script ≤ length bytes →
+      NoFault before now →
+      inputs.faults ≡ input.faults →
+      StreamEnds database before now input inputs (Some limit)
+  sink_failed : (entries : List ListedEntry) (P : List Pattern) →
+      HasList database_file (before.told database) entries P →
+      HasBegunAnswers P input.left inputs.left before.out now.out →
+      Rose before.sunk now.sunk →
+      StreamEnds database before now input inputs (Some write)
 
 -- How the program may end where the words are no command: it says so, or memory was wanted to read them.
 pub record UsageEnds (before now : Outside) (outcome : Option Cause) : Type 0 where
@@ -145,11 +140,16 @@ pub record UsageEnds (before now : Outside) (outcome : Option Cause) : Type 0 wh
 -- How the program may end on a command line: one case for each command.
 abbrev pub Ends : Option Request → Outside → Outside → Input → Input → Option Cause → Type 0
 Ends None before now input inputs outcome = UsageEnds before now outcome
-Ends (Some (match_file patterns file)) before now input inputs outcome = ScanEnds pattern_file patterns file before now outcome
-Ends (Some (check_list patterns)) before now input inputs outcome = TellEnds IsAcceptedText pattern_file patterns before now outcome
-Ends (Some (compile_list patterns database)) before now input inputs outcome = CompileEnds patterns database before now outcome
-Ends (Some (tell_database database)) before now input inputs outcome = TellEnds IsInfoText database_file database before now outcome
-Ends (Some (scan_file database file)) before now input inputs outcome = ScanEnds database_file database file before now outcome
+Ends (Some (match_file patterns file)) before now input inputs outcome =
+    ScanEnds pattern_file patterns file before now outcome
+Ends (Some (check_list patterns)) before now input inputs outcome =
+    TellEnds IsAcceptedText pattern_file patterns before now outcome
+Ends (Some (compile_list patterns database)) before now input inputs outcome =
+    CompileEnds patterns database before now outcome
+Ends (Some (tell_database database)) before now input inputs outcome =
+    TellEnds IsInfoText database_file database before now outcome
+Ends (Some (scan_file database file)) before now input inputs outcome =
+    ScanEnds database_file database file before now outcome
 Ends (Some (run_script database)) before now input inputs outcome = StreamEnds database before now input inputs outcome
 
 -- The files are as they were, but for the one that `compile` puts; with its put a store may stop telling of any.
@@ -162,8 +162,15 @@ KeepsFiles request before now = now ≡ before
 -- Where the store tells the file of the list, it isn't loaded by this cause.
 pub data IsListDue (kind : ListKind) (name : List ℕ) (told : Told) : Cause → Type 0 where
   no_list : told ≡ lacks → IsListDue kind name told (absent name)
-  long_list : (bytes : List ℕ) → told ≡ holds bytes → greatest_list < length bytes → IsListDue kind name told limit
-  list_refused : {cause : Cause} (bytes : List ℕ) → told ≡ holds bytes → length bytes ≤ greatest_list → IsRefused kind bytes cause → IsListDue kind name told cause
+  long_list : (bytes : List ℕ) →
+      told ≡ holds bytes →
+      greatest_list < length bytes →
+      IsListDue kind name told limit
+  list_refused : {cause : Cause} (bytes : List ℕ) →
+      told ≡ holds bytes →
+      length bytes ≤ greatest_list →
+      IsRefused kind bytes cause →
+      IsListDue kind name told cause
 
 -- The store tells the file of the list, and it is accepted.
 pub record TellsList (kind : ListKind) (told : Told) : Type 0 where
@@ -174,26 +181,70 @@ pub record TellsList (kind : ListKind) (told : Told) : Type 0 where
   pub within : length bytes ≤ greatest_list
   pub accepted : IsAccepted kind bytes entries patterns
 
--- Where the store tells the files that the words name, and the source the script where one is run, one answer is due, in
--- this order of causes.
+-- Where the store tells the files that the words name, and the source the script where one is run, one answer is due,
+-- in this order of causes.
 pub data IsDue (told : List ℕ → Told) (left : Option (List ℕ)) : Option Request → Option Cause → Type 0 where
   no_command : IsDue told left None (Some usage)
   -- the list
-  unloaded : (request : Request) (cause : Cause) → IsListDue (list_kind request) (list_name request) (told (list_name request)) cause → IsDue told left (Some request) (Some cause)
+  unloaded : (request : Request) (cause : Cause) →
+      IsListDue (list_kind request) (list_name request) (told (list_name request)) cause →
+      IsDue told left (Some request) (Some cause)
   -- the file that is scanned
-  no_file : (request : Request) (file : List ℕ) → scanned_by request ≡ file_named file → TellsList (list_kind request) (told (list_name request)) → told file ≡ lacks → IsDue told left (Some request) (Some (absent file))
-  long_file : (request : Request) (file contents : List ℕ) → scanned_by request ≡ file_named file → TellsList (list_kind request) (told (list_name request)) → told file ≡ holds contents → greatest_offset < length contents → IsDue told left (Some request) (Some limit)
-  whole : (request : Request) (file contents : List ℕ) → scanned_by request ≡ file_named file → TellsList (list_kind request) (told (list_name request)) → told file ≡ holds contents → length contents ≤ greatest_offset → IsDue told left (Some request) None
+  no_file : (request : Request) (file : List ℕ) →
+      scanned_by request ≡ file_named file →
+      TellsList (list_kind request) (told (list_name request)) →
+      told file ≡ lacks →
+      IsDue told left (Some request) (Some (absent file))
+  long_file : (request : Request) (file contents : List ℕ) →
+      scanned_by request ≡ file_named file →
+      TellsList (list_kind request) (told (list_name request)) →
+      told file ≡ holds contents →
+      greatest_offset < length contents →
+      IsDue told left (Some request) (Some limit)
+  whole : (request : Request) (file contents : List ℕ) →
+      scanned_by request ≡ file_named file →
+      TellsList (list_kind request) (told (list_name request)) →
+      told file ≡ holds contents →
+      length contents ≤ greatest_offset →
+      IsDue told left (Some request) None
   -- the script of the input: without a fault, or with one
-  whole_script : (request : Request) (bytes : List ℕ) (actions : List Action) → scanned_by request ≡ script_of_input → TellsList (list_kind request) (told (list_name request)) → left ≡ Some bytes → length bytes < most_script → IsScript 1 bytes actions None → IsDue told left (Some request) None
-  faulty_script : (request : Request) (bytes : List ℕ) (actions : List Action) (fault : ScriptFault) → scanned_by request ≡ script_of_input → TellsList (list_kind request) (told (list_name request)) → left ≡ Some bytes → length bytes < most_script → IsScript 1 bytes actions (Some fault) → IsDue told left (Some request) (Some (script fault))
+  whole_script : (request : Request) (bytes : List ℕ) (actions : List Action) →
+      scanned_by request ≡ script_of_input →
+      TellsList (list_kind request) (told (list_name request)) →
+      left ≡ Some bytes →
+      length bytes < most_script →
+      IsScript 1 bytes actions None →
+      IsDue told left (Some request) None
+  faulty_script : (request : Request) (bytes : List ℕ) (actions : List Action) (fault : ScriptFault) →
+      scanned_by request ≡ script_of_input →
+      TellsList (list_kind request) (told (list_name request)) →
+      left ≡ Some bytes →
+      length bytes < most_script →
+      IsScript 1 bytes actions (Some fault) →
+      IsDue told left (Some request) (Some (script fault))
   -- nothing is scanned
-  loaded : (request : Request) → scanned_by request ≡ no_bytes → TellsList (list_kind request) (told (list_name request)) → IsDue told left (Some request) None
+  loaded : (request : Request) →
+      scanned_by request ≡ no_bytes →
+      TellsList (list_kind request) (told (list_name request)) →
+      IsDue told left (Some request) None
+
+-- the file that is scanned, if one is, is told
+abbrev pub TellsScanned : Scanned → (List ℕ → Told) → Type 0
+TellsScanned no_bytes told = Unit {0}
+TellsScanned (file_named file) told = told file ≢ untold
+TellsScanned script_of_input told = Unit {0}
+
+-- the file that a command scans, if it scans one, is told
+abbrev pub TellsFile : Option Request → (List ℕ → Told) → Type 0
+TellsFile None told = Unit {0}
+TellsFile (Some request) told = TellsScanned (scanned_by request) told
 
 -- The outcome is the one that is due, where one is and no call on the outside failed, or memory was wanted.
 abbrev pub IsDueOutcome : Option Request → Outside → Outside → Input → Input → Option Cause → Type 0
 IsDueOutcome request before now input inputs outcome =
-    (due : Option Cause) → IsDue before.told input.left request due → (Rose before.stored now.stored → ⊥) → (Rose before.sunk now.sunk → ⊥) → (IsStream request → Rose input.faults inputs.faults → ⊥) → (outcome ≡ due) ⊎ (outcome ≡ Some memory)
+    (due : Option Cause) → IsDue before.told input.left request due → (Rose before.stored now.stored → ⊥) →
+    (Rose before.sunk now.sunk → ⊥) → (IsStream request → Rose input.faults inputs.faults → ⊥) →
+    (outcome ≡ due) ⊎ (outcome ≡ Some memory)
 
 -- ---- the program
 
@@ -203,18 +254,20 @@ pub data Tells (line : List ℕ) (before now : Option (List ℕ)) (count counted
   cut : TookPrefix before now line → Rose count counted → Tells line before now count counted
 
 -- The program's answer: its status, what it leaves, and the line that it writes are those of one outcome.
-pub record IsAnswer (request : Option Request) (before now : Outside) (input inputs : Input) (err erred : Option (List ℕ)) (count counted : ℕ) (status : ℕ) : Type 0 where
+pub record IsAnswer (request : Option Request) (before now : Outside) (input inputs : Input)
+    (err erred : Option (List ℕ)) (count counted : ℕ) (status : ℕ) : Type 0 where
   pub outcome : Option Cause
   pub ended : status ≡ status_of outcome
   pub ends : Ends request before now input inputs outcome
   pub due : IsDueOutcome request before now input inputs outcome
-  pub line : Tells (line_of outcome) err erred count counted
+  pub line : Tells (fault_line outcome) err erred count counted
 
 -- the statuses of the program
 abbrev pub IsStatus : ℕ → Type 0
 IsStatus status = OneOf (λ n. status ≡ n) (0 ∷ 1 ∷ 2 ∷ 3 ∷ 4 ∷ 5 ∷ 6 ∷ 7 ∷ 8 ∷ [])
 
--- the statuses with which nothing was written to the sink: wrong words, a refusal, another form, no memory, no file
+-- the statuses with which nothing was written to the sink: wrong words, a refusal, another form, no memory, and, where
+-- the file that is scanned is told, no file
 abbrev pub IsSilentStatus : ℕ → Type 0
 IsSilentStatus status = OneOf (λ n. status ≡ n) (1 ∷ 2 ∷ 4 ∷ 6 ∷ 7 ∷ [])
 

@@ -1,18 +1,8 @@
 -- What the commands are about: the files that they name, and the script of the input.
 use Rattle.std.specs.Prelude.{ℕ, List, Option, Some}
-use Rattle.hs_request.specs.Requests.{Request, match_file, check_list, compile_list, tell_database, scan_file, run_script}
-use Rattle.hs_tool.specs.declared.load.ListKind.{ListKind as LoadedKind}
-use Rattle.hs_tool.specs.declared.load.ListKind.TheVariants.{Patterns, Database}
-
--- what holds a list: a pattern file, or a database file
-pub data ListKind : Type 0 where
-  pattern_file : ListKind
-  database_file : ListKind
-
--- a kind of the program as a plain one
-abbrev pub kind_of : LoadedKind → ListKind
-kind_of Patterns = pattern_file
-kind_of Database = database_file
+use Rattle.hs_lists.specs.ListKinds.{ListKind, pattern_file, database_file}
+use Rattle.hs_request.specs.Requests.{Request, match_file, check_list, compile_list, tell_database, scan_file}
+use Rattle.hs_request.specs.Requests.{run_script}
 
 -- what holds the list of a command
 abbrev pub list_kind : Request → ListKind

@@ -1,7 +1,10 @@
-pub mod Accepting
 pub mod Commands
-pub mod Causes
+pub mod Scanning
+pub mod OpenStreams
+pub mod Payloads
+pub mod ScriptCommands
+pub mod Serving
 pub mod Streaming
 pub mod Answers
-pub mod Loading
+pub mod Main
 pub mod Stopping

@@ -8,21 +8,24 @@ use Rattle.hs_script.specs.Actions.{Action}
 use Rattle.hs_script.specs.Scripts.{IsScript}
 use Rattle.hs_script.specs.Machine.{Answer}
 use Rattle.hs_script.specs.Runs.{run_text}
-use Rattle.hs_session.specs.Serving.{HasEnding, IsPart, RunsThrough}
+use Rattle.hs_tool.specs.Serving.{HasEnding, IsPart, RunsThrough}
 
--- The text is that of a run of the machine over the whole script that the source has, which has this fault, if it has one.
-pub record IsTextOver (P : List Pattern) (left : Option (List ℕ)) (ending : Option ScriptFault) (text : List ℕ) : Type 0 where
-  pub bytes : List ℕ
-  pub whole : IsWhole left bytes
-  pub answers : List Answer
-  pub run : HasEnding P bytes answers text ending
+-- The text is that of a run of the machine over the whole script that the source has, which has this fault, if it has
+-- one.
+pub record IsTextOver (P : List Pattern) (left : Option (List ℕ)) (ending : Option ScriptFault) (text : List ℕ) : Type 0
+  where
+    pub bytes : List ℕ
+    pub whole : IsWhole left bytes
+    pub answers : List Answer
+    pub run : HasEnding P bytes answers text ending
 
 -- The script was run to its end or to its fault, and the sink took that text.
-pub record HasServed (P : List Pattern) (ending : Option ScriptFault) (left lefts out outs : Option (List ℕ)) : Type 0 where
-  pub text : List ℕ
-  pub over : IsTextOver P left ending text
-  pub taken : Took out outs text
-  pub given : GaveSome left lefts
+pub record HasServed (P : List Pattern) (ending : Option ScriptFault) (left lefts out outs : Option (List ℕ)) : Type 0
+  where
+    pub text : List ℕ
+    pub over : IsTextOver P left ending text
+    pub taken : Took out outs text
+    pub given : GaveSome left lefts
 
 -- The bytes are these commands, whole, whatever comes behind them.
 abbrev pub AreCommands : List ℕ → List Action → Type 0
@@ -52,8 +55,10 @@ pub record HasAnswered (P : List Pattern) (bytes : List ℕ) (left lefts out out
 
 -- The text of what was taken of the script, or of some first bytes of it; or of all of the script.
 pub data IsSomeText (P : List Pattern) (left lefts : Option (List ℕ)) (text : List ℕ) : Type 0 where
-  part : (bytes unread : List ℕ) → Gave left lefts (bytes ++ unread) → IsTextSoFar P bytes text → IsSomeText P left lefts text
-  all : (ending : Option ScriptFault) → GaveSome left lefts → IsTextOver P left ending text → IsSomeText P left lefts text
+  part : (bytes unread : List ℕ) → Gave left lefts (bytes ++ unread) → IsTextSoFar P bytes text →
+      IsSomeText P left lefts text
+  all : (ending : Option ScriptFault) → GaveSome left lefts → IsTextOver P left ending text →
+      IsSomeText P left lefts text
 
 -- The sink took a beginning of such a text.
 pub record HasBegunAnswers (P : List Pattern) (left lefts out outs : Option (List ℕ)) : Type 0 where

@@ -1,19 +1,15 @@
 //! The commands `match PATTERNS FILE` and `scan DB FILE`.
-ghost use Rattle.std.specs.Prelude.{◌≡◌, ℕ, List};
-ghost use Rattle.hs_base.specs.Entries.{ListedEntry};
-ghost use Rattle.hs_base.specs.Patterns.{Pattern};
-ghost use Rattle.hs_stream.specs.Streams.{IsUsable};
-ghost use Rattle.hs_compile.specs.Databases.{IsDatabaseOf};
-ghost use Rattle.hs_tool.specs.Causes.{cause_of, outcome_of};
-ghost use Rattle.hs_tool.specs.Commands.{ListKind as ListKindOf, kind_of};
-ghost use Rattle.hs_tool.specs.Answers.{HasList, ScanEnds};
-ghost use Rattle.hs_tool.specs.Loading.{StopsScan};
+ghost use Rattle.std.specs.Prelude.{◌≡◌};
+ghost use Rattle.hs_lists.specs.Causes.{cause_of, outcome_of};
+ghost use Rattle.hs_lists.specs.ListKinds.{kind_of};
+ghost use Rattle.hs_lists.specs.Endings.{outside_of};
+ghost use Rattle.hs_tool.specs.Answers.{ScanEnds};
+ghost use Rattle.hs_tool.specs.Stopping.{cause_of_scan};
 
-use crate::fault::Fault;
-use crate::load::{ListKind, load};
-use hs_compile::Database;
-use hs_outside::{Failed, Sink, Store};
-use hs_scan::{Pending, Scan, ScanFault, close_scan, scan_file};
+use crate::scan::ScanFault;
+use crate::whole_scan::scan_whole;
+use hs_lists::{Fault, ListKind, load};
+use hs_outside::{Sink, Store};
 use std::alloc::Global;
 
 /// Scans the file `file` for the expressions of the file `list`, and writes the text of the match.
@@ -26,8 +22,8 @@ pub fn match_file<'a, S: Store, O: Sink>(
     out: &mut O,
 ) -> Result<(), Fault<'a>>
     ensures ends { ScanEnds (kind_of kind) list.now file.now
-        (record { told = S.told store.old; stored = S.faults store.old; out = O.written out.old; sunk = O.faults out.old })
-        (record { told = S.told store.new; stored = S.faults store.new; out = O.written out.new; sunk = O.faults out.new })
+        (outside_of (S.told store.old) (S.faults store.old) (O.written out.old) (O.faults out.old))
+        (outside_of (S.told store.new) (S.faults store.new) (O.written out.new) (O.faults out.new))
         (outcome_of result) }
     ensures kept { S.told store.new ≡ S.told store.old }
 {
@@ -35,48 +31,21 @@ pub fn match_file<'a, S: Store, O: Sink>(
         Ok(loaded) => loaded,
         Err(fault) => return Err(fault),
     };
-    match_stream(alloc, &loaded.database, file, store, out)
-}
-
-/// Scans a file as one stream, and writes the text of the match.
-fn match_stream<'a, S: Store, O: Sink>(
-    alloc: Global,
-    database: &Database,
-    file: &'a str,
-    store: &mut S,
-    out: &mut O,
-) -> Result<(), Fault<'a>>
-    requires { IsUsable database.now }
-    ensures ends { (kind : ListKindOf) (list : List ℕ) (entries : List ListedEntry) (P : List Pattern) → HasList kind (S.told store.old list) entries P → IsDatabaseOf database.now P → ScanEnds kind list file.now
-        (record { told = S.told store.old; stored = S.faults store.old; out = O.written out.old; sunk = O.faults out.old })
-        (record { told = S.told store.new; stored = S.faults store.new; out = O.written out.new; sunk = O.faults out.new })
-        (outcome_of result) }
-    ensures kept { S.told store.new ≡ S.told store.old }
-{
-    let program = database.program();
-    let mut scan = match Scan::new(alloc, program) {
-        Ok(scan) => scan,
-        Err(_) => return Err(Fault::Memory),
-    };
-    let mut pending = Pending::new();
-    let total = match scan_file(program, &mut scan, file, store, out, &mut pending) {
-        Ok(total) => total,
-        Err(fault) => return Err(fault_of(fault, file)),
-    };
-    match close_scan(program, &mut scan, total, out, &mut pending) {
+    match scan_whole(alloc, &loaded.database, file, store, out) {
         Ok(()) => Ok(()),
-        Err(Failed) => Err(Fault::Write),
+        Err(fault) => Err(fault_of(fault, file)),
     }
 }
 
 /// The fault of a command whose scan of the file stopped.
 fn fault_of<'a>(fault: ScanFault, file: &'a str) -> Fault<'a>
-    ensures { StopsScan file.now fault (cause_of result) }
+    ensures { cause_of result ≡ cause_of_scan file.now fault }
 {
     match fault {
         ScanFault::Absent => Fault::Absent(file),
         ScanFault::Store => Fault::Store,
         ScanFault::Write => Fault::Write,
         ScanFault::Limit => Fault::Limit,
+        ScanFault::Memory => Fault::Memory,
     }
 }

@@ -1,13 +1,14 @@
 //! The command `stream DB`.
 ghost use Rattle.std.specs.Prelude.{◌≡◌};
-ghost use Rattle.hs_tool.specs.Causes.{cause_of, outcome_of};
+ghost use Rattle.hs_lists.specs.Causes.{cause_of, outcome_of};
+ghost use Rattle.hs_lists.specs.Endings.{outside_of};
 ghost use Rattle.hs_tool.specs.Answers.{StreamEnds};
 ghost use Rattle.hs_tool.specs.Stopping.{cause_of_stop};
 
-use crate::fault::Fault;
-use crate::load::{ListKind, load};
+use crate::session::{ScriptStop, serve};
+use hs_lists::{Fault, ListKind, load};
 use hs_outside::{Sink, Source, Store};
-use hs_session::{Break, ScriptStop, serve};
+use hs_reader::Break;
 use std::alloc::Global;
 
 /// Runs the script of the input over streams of the database file, and writes what the streams report and its commands
@@ -20,8 +21,8 @@ pub fn run_script<'a, S: Store, I: Source, O: Sink>(
     out: &mut O,
 ) -> Result<(), Fault<'a>>
     ensures ends { StreamEnds database.now
-        (record { told = S.told store.old; stored = S.faults store.old; out = O.written out.old; sunk = O.faults out.old })
-        (record { told = S.told store.new; stored = S.faults store.new; out = O.written out.new; sunk = O.faults out.new })
+        (outside_of (S.told store.old) (S.faults store.old) (O.written out.old) (O.faults out.old))
+        (outside_of (S.told store.new) (S.faults store.new) (O.written out.new) (O.faults out.new))
         (record { left = I.left input.old; faults = I.faults input.old })
         (record { left = I.left input.new; faults = I.faults input.new })
         (outcome_of result) }

@@ -4,16 +4,14 @@ ghost use Rattle.hs_outside.specs.Counts.{Rose};
 ghost use Rattle.hs_outside.specs.Sink.{Took};
 ghost use Rattle.hs_request.specs.Requests.{request_of as request_of_words, plain_request, run_script as run_script_of};
 ghost use Rattle.hs_tool.specs.Commands.{IsStream};
-ghost use Rattle.hs_tool.specs.Causes.{Cause, cause_of, outcome_of, status_of, status_of_cause, line_of_cause};
-ghost use Rattle.hs_tool.specs.Answers.{Ends, IsDue, KeepsFiles, Tells, IsAnswer, IsStatus, IsSilentStatus, HasRun};
+ghost use Rattle.hs_lists.specs.Causes.{Cause, cause_of, outcome_of, status_of, status_of_cause, line_of_cause};
+ghost use Rattle.hs_tool.specs.Answers.{Ends, IsDue, KeepsFiles, TellsFile, Tells, IsAnswer, IsStatus, IsSilentStatus};
+ghost use Rattle.hs_lists.specs.Endings.{outside_of};
+ghost use Rattle.hs_tool.specs.Answers.{HasRun};
 
-use crate::check_command::check_list;
-use crate::compile_command::compile_list;
-use crate::fault::Fault;
-use crate::info_command::tell_database;
-use crate::load::ListKind;
 use crate::match_command::match_file;
 use crate::stream_command::run_script;
+use hs_lists::{Fault, ListKind, check_list, compile_list, tell_database};
 use hs_outside::{Failed, Sink, Source, Store};
 use hs_request::{Request, request_of};
 use std::alloc::Global;
@@ -29,8 +27,8 @@ pub fn run<S: Store, I: Source, O: Sink, E: Sink>(
     err: &mut E,
 ) -> u8
     ensures answer { IsAnswer (request_of_words (map string_bytes words.now))
-        (record { told = S.told store.old; stored = S.faults store.old; out = O.written out.old; sunk = O.faults out.old })
-        (record { told = S.told store.new; stored = S.faults store.new; out = O.written out.new; sunk = O.faults out.new })
+        (outside_of (S.told store.old) (S.faults store.old) (O.written out.old) (O.faults out.old))
+        (outside_of (S.told store.new) (S.faults store.new) (O.written out.new) (O.faults out.new))
         (record { left = I.left input.old; faults = I.faults input.old })
         (record { left = I.left input.new; faults = I.faults input.new })
         (E.written err.old) (E.written err.new) (E.faults err.old) (E.faults err.new) result }
@@ -39,22 +37,28 @@ pub fn run<S: Store, I: Source, O: Sink, E: Sink>(
     ensures status { IsStatus result }
     ensures usage { result ≡ 1 → request_of_words (map string_bytes words.now) ≡ None }
     ensures no_command { request_of_words (map string_bytes words.now) ≡ None → (result ≡ 1) ⊎ (result ≡ 6) }
-    ensures fault { result ≡ 3 → Rose (S.faults store.old) (S.faults store.new) ⊎ (Rose (O.faults out.old) (O.faults out.new)
+    ensures fault { result ≡ 3 →
+        Rose (S.faults store.old) (S.faults store.new) ⊎ (Rose (O.faults out.old) (O.faults out.new)
         ⊎ (IsStream (request_of_words (map string_bytes words.now)) × Rose (I.faults input.old) (I.faults input.new))) }
     ensures script { result ≡ 5 → IsStream (request_of_words (map string_bytes words.now)) }
-    ensures silent { IsSilentStatus result → Took (O.written out.old) (O.written out.new) [] }
+    ensures silent { IsSilentStatus result
+        → (result ≡ 7 → TellsFile (request_of_words (map string_bytes words.now)) (S.told store.old))
+        → Took (O.written out.old) (O.written out.new) [] }
     ensures unput { IsSilentStatus result → S.told store.new ≡ S.told store.old }
     ensures unread { IsSilentStatus result → I.left input.new ≡ I.left input.old }
 
     // Where `stream` ends with 0 or 5, `out` took the text of a run of the machine over the whole script.
-    ensures stream { (database : List ℕ) → request_of_words (map string_bytes words.now) ≡ Some (run_script_of database) → (result ≡ 0) ⊎ (result ≡ 5)
+    ensures stream { (database : List ℕ) →
+        request_of_words (map string_bytes words.now) ≡ Some (run_script_of database) → (result ≡ 0) ⊎ (result ≡ 5)
         → HasRun (S.told store.old database) (I.left input.old) (O.written out.old) (O.written out.new) result }
 
     // Where the store tells the files, the source the script that is run, and no call on them or on `out` failed, the
     // status is the due one, or 6.
-    ensures complete { (due : Option Cause) → IsDue (S.told store.old) (I.left input.old) (request_of_words (map string_bytes words.now)) due
+    ensures complete { (due : Option Cause) →
+        IsDue (S.told store.old) (I.left input.old) (request_of_words (map string_bytes words.now)) due
         → (Rose (S.faults store.old) (S.faults store.new) → ⊥) → (Rose (O.faults out.old) (O.faults out.new) → ⊥)
-        → (IsStream (request_of_words (map string_bytes words.now)) → Rose (I.faults input.old) (I.faults input.new) → ⊥)
+        → (IsStream (request_of_words (map string_bytes words.now)) → Rose (I.faults input.old) (I.faults input.new) →
+        ⊥)
         → (result ≡ status_of due) ⊎ (result ≡ 6) }
 
     ensures kept { KeepsFiles (request_of_words (map string_bytes words.now)) (S.told store.old) (S.told store.new) }
@@ -69,7 +73,8 @@ pub fn run<S: Store, I: Source, O: Sink, E: Sink>(
 /// Writes the line of a fault, if it has one, and gives its status.
 pub fn refuse<E: Sink>(fault: &Fault<'_>, err: &mut E) -> u8
     ensures status { result ≡ status_of_cause (cause_of fault.now) }
-    ensures line { Tells (line_of_cause (cause_of fault.now)) (E.written err.old) (E.written err.new) (E.faults err.old) (E.faults err.new) }
+    ensures line { Tells (line_of_cause (cause_of fault.now)) (E.written err.old) (E.written err.new) (E.faults err.old)
+        (E.faults err.new) }
 {
     match fault.tell(err) {
         Ok(()) => fault.status(),
@@ -86,8 +91,8 @@ fn perform<'a, S: Store, I: Source, O: Sink>(
     out: &mut O,
 ) -> Result<(), Fault<'a>>
     ensures ends { Ends (request_of_words (map string_bytes words.now))
-        (record { told = S.told store.old; stored = S.faults store.old; out = O.written out.old; sunk = O.faults out.old })
-        (record { told = S.told store.new; stored = S.faults store.new; out = O.written out.new; sunk = O.faults out.new })
+        (outside_of (S.told store.old) (S.faults store.old) (O.written out.old) (O.faults out.old))
+        (outside_of (S.told store.new) (S.faults store.new) (O.written out.new) (O.faults out.new))
         (record { left = I.left input.old; faults = I.faults input.old })
         (record { left = I.left input.new; faults = I.faults input.new })
         (outcome_of result) }
@@ -111,8 +116,8 @@ fn execute<'a, S: Store, I: Source, O: Sink>(
     out: &mut O,
 ) -> Result<(), Fault<'a>>
     ensures ends { Ends (Some (plain_request request.entry))
-        (record { told = S.told store.old; stored = S.faults store.old; out = O.written out.old; sunk = O.faults out.old })
-        (record { told = S.told store.new; stored = S.faults store.new; out = O.written out.new; sunk = O.faults out.new })
+        (outside_of (S.told store.old) (S.faults store.old) (O.written out.old) (O.faults out.old))
+        (outside_of (S.told store.new) (S.faults store.new) (O.written out.new) (O.faults out.new))
         (record { left = I.left input.old; faults = I.faults input.old })
         (record { left = I.left input.new; faults = I.faults input.new })
         (outcome_of result) }

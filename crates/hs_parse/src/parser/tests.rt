@@ -1,5 +1,7 @@
+//! Texts with their trees or their faults: tables of lines, and what fills a text.
 use super::*;
 use hs_base::{Assertion, ByteSet, Construct};
+use std::alloc::AllocError;
 use std::process::Abort;
 use std::test::Fail;
 
@@ -7,7 +9,7 @@ mod faults;
 mod trees;
 
 /// Appends a byte, by `%` and two hexadecimal digits where it isn't printed.
-fn write_byte(out: &mut Vec<u8>, byte: u8) -> Result<(), Fail> {
+fn write_byte(out: &mut Vec<u8>, byte: u8) -> Result<(), AllocError> {
     if matches!(byte, 0x21..=0x7E) {
         out.push(byte)?;
         return Ok(());
@@ -23,9 +25,9 @@ fn write_byte(out: &mut Vec<u8>, byte: u8) -> Result<(), Fail> {
     Ok(())
 }
 
-/// Appends a set: `_` for every byte but the line feed, the byte itself where it is the only one, and else the ranges of
-/// the members between brackets.
-fn write_set(out: &mut Vec<u8>, set: &ByteSet) -> Result<(), Fail> {
+/// Appends a set: `_` for every byte but the line feed, the byte itself where it is the only one, and else the ranges
+/// of the members between brackets.
+fn write_set(out: &mut Vec<u8>, set: &ByteSet) -> Result<(), AllocError> {
     if *set == ByteSet::NOT_NEWLINE {
         out.push(b'_')?;
         return Ok(());
@@ -55,10 +57,10 @@ fn write_set(out: &mut Vec<u8>, set: &ByteSet) -> Result<(), Fail> {
     Ok(())
 }
 
-/// Appends a tree: `~` for the empty text, `(..)` for a concatenation, `<..>` for an alternation, `!` and a letter for an
-/// assertion, and a repeat by its quantifier behind its body.
+/// Appends a tree: `~` for the empty text, `(..)` for a concatenation, `<..>` for an alternation, `!` and a letter for
+/// an assertion, and a repeat by its quantifier behind its body.
 #[cycle(write)]
-fn write_tree(out: &mut Vec<u8>, expr: &Expr) -> Result<(), Fail> {
+fn write_tree(out: &mut Vec<u8>, expr: &Expr) -> Result<(), AllocError> {
     match expr {
         Expr::Empty => out.push(b'~')?,
         Expr::Class(set) => write_set(out, set)?,
@@ -86,7 +88,7 @@ fn write_tree(out: &mut Vec<u8>, expr: &Expr) -> Result<(), Fail> {
 }
 
 #[cycle(write)]
-fn write_trees(out: &mut Vec<u8>, items: &[Expr]) -> Result<(), Fail> {
+fn write_trees(out: &mut Vec<u8>, items: &[Expr]) -> Result<(), AllocError> {
     for item in items {
         write_tree(out, item)?;
     }
@@ -107,7 +109,11 @@ fn letter(assertion: Assertion) -> u8 {
 }
 
 /// Appends the quantifier of two bounds.
-fn write_quantifier(out: &mut Vec<u8>, least: u32, greatest: Option<u32>) -> Result<(), Fail> {
+fn write_quantifier(
+    out: &mut Vec<u8>,
+    least: u32,
+    greatest: Option<u32>,
+) -> Result<(), AllocError> {
     match (least, greatest) {
         (0, None) => out.push(b'*')?,
         (1, None) => out.push(b'+')?,
@@ -129,12 +135,47 @@ fn write_quantifier(out: &mut Vec<u8>, least: u32, greatest: Option<u32>) -> Res
 }
 
 /// Appends a number in decimal digits.
-fn write_number(out: &mut Vec<u8>, number: u32) -> Result<(), Fail> {
+fn write_number(out: &mut Vec<u8>, number: u32) -> Result<(), AllocError> {
     for place in [10_000, 1_000, 100, 10, 1] {
         if number >= place || place == 1 {
             out.push(b'0' + (number / place % 10) as u8)?;
         }
     }
+    Ok(())
+}
+
+/// Appends a refusal without blanks.
+fn write_refusal(alloc: Global, out: &mut Vec<u8>, refusal: Refusal) -> Result<(), AllocError> {
+    let shown = format!(in alloc; "{refusal:?}")?;
+    for byte in shown.as_bytes() {
+        if *byte != b' ' {
+            out.push(*byte)?;
+        }
+    }
+    Ok(())
+}
+
+/// The tree of a text, or its fault.
+fn outcome(alloc: Global, flags: Flags, text: &[u8]) -> Result<Vec<u8>, AllocError> {
+    let mut out = Vec::new(alloc);
+    match parse(alloc, text, flags) {
+        Ok(expr) => write_tree(&mut out, &expr)?,
+        Err(ParseFault::Refused(refusal)) => write_refusal(alloc, &mut out, refusal)?,
+        Err(ParseFault::Memory) => out.extend_from_slice(b"no memory")?,
+    }
+    Ok(out)
+}
+
+/// Checks a text against its tree or its fault.
+fn check(
+    rt: &impl Abort,
+    alloc: Global,
+    flags: Flags,
+    text: &[u8],
+    wanted: &[u8],
+) -> Result<(), Fail> {
+    let found = outcome(alloc, flags, text)?;
+    assert!(rt; found.as_slice() == wanted, "{text:?} gives {found:?}");
     Ok(())
 }
 
@@ -162,213 +203,111 @@ fn flags_of(digit: &[u8]) -> Flags {
     }
 }
 
-/// Checks a text against its tree.
-fn check_tree(
+/// The number of some decimal digits, at most five.
+fn number_of(digits: &[u8]) -> usize {
+    let mut number = 0;
+    for digit in digits {
+        number = number % 10_000 * 10 + usize::from(*digit % 16);
+    }
+    number
+}
+
+/// The mark between the fields of a table and the one behind its lines, whether its texts are refused, and the table. A
+/// line has flags, and then texts, each with its tree behind it; or flags, a fault, and then texts that have it.
+type Table<'a> = (u8, u8, bool, &'a [u8]);
+
+/// The table of a number below 13.
+fn table(number: usize) -> Table<'static> {
+    match number {
+        0 => (b' ', b'\n', false, trees::TREES),
+        1 => (b' ', b'\n', false, trees::RANGES),
+        2 => (b' ', b'\n', false, trees::CLASSES),
+        3 => (b' ', b'\n', false, trees::ESCAPES),
+        4 => (b' ', b'\n', false, trees::ASSERTIONS),
+        5 => (b' ', b'\n', false, trees::QUANTIFIERS),
+        6 => (b' ', b'\n', false, trees::GROUPS),
+        7 => (b' ', b'\n', false, trees::SKIPPED),
+        8 => (b';', b'\n', false, trees::SPACED),
+        9 => (b';', b'$', false, trees::BLANKS),
+        10 => (b' ', b'\n', true, faults::FAULTS),
+        11 => (b';', b'\n', true, faults::SPACED),
+        _ => (b';', b'$', true, faults::BLANKS),
+    }
+}
+
+/// Checks the texts of a line.
+fn check_line(
     rt: &impl Abort,
     alloc: Global,
-    flags: Flags,
-    text: &[u8],
-    tree: &[u8],
+    mark: u8,
+    refused: bool,
+    line: &[u8],
 ) -> Result<(), Fail> {
-    let expr = parse(alloc, text, flags)?;
-    let mut written = Vec::new(alloc);
-    write_tree(&mut written, &expr)?;
-    assert!(rt;
-        written.as_slice() == tree,
-        "{text:?} is read as {written:?}"
-    );
-    Ok(())
-}
-
-/// Checks the texts of a line against their trees.
-fn check_trees_of(rt: &impl Abort, alloc: Global, mark: u8, line: &[u8]) -> Result<(), Fail> {
-    let (digit, mut rest) = field(line, mark);
-    for _text in 0..line.len() {
-        let (text, behind) = field(rest, mark);
-        let (tree, behind) = field(behind, mark);
-        if text.is_empty() {
-            break;
-        }
-        check_tree(rt, alloc, flags_of(digit), text, tree)?;
-        rest = behind;
-    }
-    Ok(())
-}
-
-/// Checks the texts of a table against their trees, by the mark between its fields.
-fn check_trees(rt: &impl Abort, alloc: Global, mark: u8, table: &[u8]) -> Result<(), Fail> {
-    let mut rest = table;
-    for _line in 0..table.len() {
-        if rest.is_empty() {
-            break;
-        }
-        let (line, behind) = cut(rest, b'\n');
-        check_trees_of(rt, alloc, mark, line)?;
-        rest = behind;
-    }
-    Ok(())
-}
-
-#[test]
-fn reads_the_grammar(rt: HostRuntime) -> Result<(), Fail> {
-    check_trees(&rt, rt.alloc(), b' ', trees::TREES)
-}
-
-#[test]
-fn reads_ranges(rt: HostRuntime) -> Result<(), Fail> {
-    check_trees(&rt, rt.alloc(), b' ', trees::RANGES)
-}
-
-#[test]
-fn reads_classes(rt: HostRuntime) -> Result<(), Fail> {
-    check_trees(&rt, rt.alloc(), b' ', trees::CLASSES)
-}
-
-#[test]
-fn reads_escapes(rt: HostRuntime) -> Result<(), Fail> {
-    check_trees(&rt, rt.alloc(), b' ', trees::ESCAPES)
-}
-
-#[test]
-fn reads_assertions(rt: HostRuntime) -> Result<(), Fail> {
-    check_trees(&rt, rt.alloc(), b' ', trees::ASSERTIONS)
-}
-
-#[test]
-fn reads_quantifiers(rt: HostRuntime) -> Result<(), Fail> {
-    check_trees(&rt, rt.alloc(), b' ', trees::QUANTIFIERS)
-}
-
-#[test]
-fn reads_groups_and_options(rt: HostRuntime) -> Result<(), Fail> {
-    check_trees(&rt, rt.alloc(), b' ', trees::GROUPS)
-}
-
-#[test]
-fn skips_what_has_no_meaning(rt: HostRuntime) -> Result<(), Fail> {
-    check_trees(&rt, rt.alloc(), b' ', trees::SKIPPED)
-}
-
-#[test]
-fn reads_blanks(rt: HostRuntime) -> Result<(), Fail> {
-    check_trees(&rt, rt.alloc(), b';', trees::SPACED)?;
-    for (flags, text, tree) in trees::BLANKS {
-        check_tree(&rt, rt.alloc(), Flags(flags), text, tree)?;
-    }
-    Ok(())
-}
-
-/// The refusal, or `None` where there is none.
-fn refusal_of(outcome: Result<Expr, ParseFault>) -> Option<Refusal> {
-    match outcome {
-        Err(ParseFault::Refused(refusal)) => Some(refusal),
-        Err(ParseFault::Memory) | Ok(_) => None,
-    }
-}
-
-/// Checks a text against its fault, which is written without blanks.
-fn check_fault(
-    rt: &impl Abort,
-    alloc: Global,
-    flags: Flags,
-    text: &[u8],
-    fault: &[u8],
-) -> Result<(), Fail> {
-    let Some(refusal) = refusal_of(parse(alloc, text, flags)) else {
-        panic!(rt; "{text:?} isn't refused")
-    };
-    let shown = format!(in alloc; "{refusal:?}")?;
-    let mut written = Vec::new(alloc);
-    for byte in shown.as_bytes() {
-        if *byte != b' ' {
-            written.push(*byte)?;
-        }
-    }
-    assert!(rt; written.as_slice() == fault, "{text:?} has {shown}");
-    Ok(())
-}
-
-/// Checks that the texts of a line have its fault.
-fn check_faults_of(rt: &impl Abort, alloc: Global, mark: u8, line: &[u8]) -> Result<(), Fail> {
     let (digit, behind) = field(line, mark);
-    let (fault, mut rest) = field(behind, mark);
-    for _text in 0..line.len() {
+    let (fault, texts) = field(behind, mark);
+    let mut rest = if refused { texts } else { behind };
+    for _ in 0..line.len() {
         let (text, behind) = field(rest, mark);
+        let (tree, next) = field(behind, mark);
         if text.is_empty() {
             break;
         }
-        check_fault(rt, alloc, flags_of(digit), text, fault)?;
-        rest = behind;
+        let wanted = if refused { fault } else { tree };
+        check(rt, alloc, flags_of(digit), text, wanted)?;
+        rest = if refused { behind } else { next };
     }
     Ok(())
 }
 
-/// Checks the texts of a table against their faults, by the mark between its fields.
-fn check_faults(rt: &impl Abort, alloc: Global, mark: u8, table: &[u8]) -> Result<(), Fail> {
-    let mut rest = table;
-    for _line in 0..table.len() {
+/// Checks the texts of a table.
+fn check_table(rt: &impl Abort, alloc: Global, table: Table) -> Result<(), Fail> {
+    let (mark, end, refused, lines) = table;
+    let mut rest = lines;
+    for _ in 0..lines.len() {
         if rest.is_empty() {
             break;
         }
-        let (line, behind) = cut(rest, b'\n');
-        check_faults_of(rt, alloc, mark, line)?;
+        let (line, behind) = cut(rest, end);
+        check_line(rt, alloc, mark, refused, line)?;
         rest = behind;
     }
     Ok(())
 }
 
 #[test]
-fn refuses_the_first_fault(rt: HostRuntime) -> Result<(), Fail> {
-    check_faults(&rt, rt.alloc(), b' ', faults::FAULTS)?;
-    check_faults(&rt, rt.alloc(), b';', faults::SPACED)?;
-    for (flags, text, fault) in faults::BLANKS {
-        check_fault(&rt, rt.alloc(), Flags(flags), text, fault)?;
+fn reads_and_refuses_by_the_tables(rt: HostRuntime) -> Result<(), Fail> {
+    for number in 0..13 {
+        check_table(&rt, rt.alloc(), table(number))?;
     }
     Ok(())
 }
 
-/// Texts of so many bytes that are the same, and then these, with the fault if there is one.
-const LONG: [(usize, u8, &[u8], Option<Refusal>); 15] = [
-    (16_000, b'a', b"", None),
-    (16_001, b'a', b"", Some(Refusal::LengthLimit)),
-    (16_000, b'a', b"*", Some(Refusal::LengthLimit)),
-    (16_001, b'*', b"", Some(Refusal::LengthLimit)),
-    (15_999, b'a', b"[", Some(Refusal::Syntax(15_999))),
-    (15_999, b'a', b"(", Some(Refusal::Syntax(16_000))),
-    (16_000, b'|', b"", None),
-    (128, b'(', b"", Some(Refusal::Syntax(128))),
-    (129, b'(', b"", Some(Refusal::DepthLimit)),
-    (
-        128,
-        b'(',
-        b"(?=",
-        Some(Refusal::Unsupported(Construct::Lookaround, 128)),
-    ),
-    (128, b'(', b"(?:", Some(Refusal::DepthLimit)),
-    (
-        128,
-        b'(',
-        b"(*",
-        Some(Refusal::Unsupported(Construct::Verb, 128)),
-    ),
-    (
-        127,
-        b'(',
-        b"a)(b))((*",
-        Some(Refusal::Unsupported(Construct::Verb, 134)),
-    ),
-    (128, b'(', b"a)(b", Some(Refusal::Syntax(132))),
-    (16_000, b'(', b"", Some(Refusal::DepthLimit)),
-];
+/// Checks a text that is long, by its line.
+fn check_long(rt: &impl Abort, alloc: Global, line: &[u8]) -> Result<(), Fail> {
+    let (count, behind) = field(line, b' ');
+    let (byte, behind) = field(behind, b' ');
+    let (rest, fault) = field(behind, b' ');
+    let mut text = vec![in alloc; byte.first().copied().unwrap_or(0); number_of(count)]?;
+    if rest != b".".as_slice() {
+        text.extend_from_slice(rest)?;
+    }
+    if fault == b".".as_slice() {
+        assert!(rt; parse(alloc, &text, Flags::NONE).is_ok(), "{line:?}");
+        return Ok(());
+    }
+    check(rt, alloc, Flags::NONE, &text, fault)
+}
 
 #[test]
 fn bounds_length_and_depth(rt: HostRuntime) -> Result<(), Fail> {
-    for (count, byte, rest, fault) in LONG {
-        let mut text = vec![in rt.alloc(); byte; count]?;
-        text.extend_from_slice(rest)?;
-        let outcome = parse(rt.alloc(), &text, Flags::NONE);
-        assert_eq!(rt; outcome.is_ok(), fault.is_none(), "{count} times {byte}");
-        assert_eq!(rt; refusal_of(outcome), fault, "{count} times {byte}");
+    let mut rest = faults::LONG;
+    for _ in 0..faults::LONG.len() {
+        if rest.is_empty() {
+            break;
+        }
+        let (line, behind) = cut(rest, b'\n');
+        check_long(&rt, rt.alloc(), line)?;
+        rest = behind;
     }
     Ok(())
 }
@@ -380,14 +319,7 @@ fn closes_as_many_groups_as_open(rt: HostRuntime) -> Result<(), Fail> {
     for _ in 0..128 {
         text.push(b')')?;
     }
-    let expr = parse(rt.alloc(), &text, Flags::NONE)?;
-    let mut written = Vec::new(rt.alloc());
-    write_tree(&mut written, &expr)?;
-    assert!(rt;
-        written.as_slice() == b"a".as_slice(),
-        "read as {written:?}"
-    );
-    Ok(())
+    check(&rt, rt.alloc(), Flags::NONE, &text, b"a")
 }
 
 /// How many children a tree has.
@@ -427,15 +359,9 @@ fn reads_whole_texts_of_a_form(rt: HostRuntime) -> Result<(), Fail> {
 #[test]
 fn looks_at_three_flags(rt: HostRuntime) -> Result<(), Fail> {
     for flags in [0, 8, 16, 32, 64, u16::MAX - 7] {
-        let expr = parse(rt.alloc(), b"a.[b]^", Flags(flags))?;
-        let mut written = Vec::new(rt.alloc());
-        write_tree(&mut written, &expr)?;
-        assert!(rt;
-            written.as_slice() == b"(a_b!A)".as_slice(),
-            "under flags {flags}"
-        );
+        check(&rt, rt.alloc(), Flags(flags), b"a.[b]^", b"(a_b!A)")?;
     }
-    Ok(())
+    check(&rt, rt.alloc(), Flags::NONE, b"", b"~")
 }
 
 #[test]
@@ -444,7 +370,7 @@ fn tells_its_faults(rt: HostRuntime) -> Result<(), Fail> {
     let text = format!(in rt.alloc(); "{refused}")?;
     assert_eq!(rt;
         text.as_str(),
-        "the expression is refused: Unsupported(Keep, 7)"
+        "the expression is refused: a reset of the match's start at byte 7 isn't supported"
     );
     let memory = format!(in rt.alloc(); "{}", ParseFault::Memory)?;
     assert_eq!(rt; memory.as_str(), "out of memory");

@@ -12,11 +12,11 @@ entry_at entries i entry within is = slice_get_read entries (length entries) i e
 pub returns-in-Err-clause-refused : goal.returns-in-Err-clause-refused
 returns-in-Err-clause-refused c =
     let at = entry_at c.args.entries.now c.loop-i.i c.index-entries-i.result (omega arith) c.index-entries-i.is in
-    cause-at c.args.entries.now c.loop-i.expressions.items c.loop-i.i c.index-entries-i.result c.in-Err.fault at c.loop-i.invariant.compiled
+    cause-at c.args.entries.now c.loop-i.roles.items c.loop-i.i c.index-entries-i.result c.in-Err.fault at c.loop-i.invariant.compiled
     (c.in-Err.ensures.refused (map listed (take c.loop-i.i c.args.entries.now)) (next-number c.args.entries.now c.loop-i.i c.index-entries-i.result c.loop-i.seen at c.loop-i.invariant.kept))
 
 pub loop-i-preserved : goal.loop-i-preserved
 loop-i-preserved c =
-    step c.args.entries.now c.loop-i.expressions.items c.push.new.self.items c.loop-i.i c.index-entries-i.result c.in-Ok.expression c.loop-i.seen c.add.new.self
+    step c.args.entries.now c.loop-i.roles.items c.push.new.self.items c.loop-i.i c.index-entries-i.result c.in-Ok.role c.loop-i.seen c.add.new.self
     (entry_at c.args.entries.now c.loop-i.i c.index-entries-i.result (omega arith) c.index-entries-i.is)
     c.loop-i.invariant c.in-Ok.ensures.compiled c.in_ok-add.ensures c.in_ok-push.ensures.items

@@ -4,4 +4,4 @@ use Rattle.hs_compile.specs.Remembered.{AreSoFar}
 use Rattle.hs_compile.proofs.compiler.compile_entries.Given as goal
 
 abbrev pub invariant-loop-i : goal.invariant-loop-i
-invariant-loop-i l = AreSoFar (map listed (take l.i l.entries)) l.expressions.items l.seen
+invariant-loop-i l = AreSoFar (map listed (take l.i l.entries)) l.roles.items l.seen

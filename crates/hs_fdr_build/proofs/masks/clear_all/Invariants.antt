@@ -1,5 +1,5 @@
 use Rattle.std.proofs.Common.{map}
-use Rattle.hs_fdr_build.specs.Asking.{literal_of}
+use Rattle.hs_base.specs.LiteralView.{literal_bytes}
 use Rattle.hs_fdr_build.specs.Clearing.{Clears}
 use Rattle.hs_fdr_build.specs.MaskPlaces.{HasPlace}
 use Rattle.hs_fdr_build.proofs.ClearLemmas.{FromBelow}
@@ -7,4 +7,4 @@ use Rattle.hs_fdr_build.proofs.LiteralListLemmas.{ByNumber}
 use Rattle.hs_fdr_build.proofs.masks.clear_all.Given as goal
 
 abbrev pub invariant-loop-number : goal.invariant-loop-number
-invariant-loop-number l = Clears (FromBelow (ByNumber (HasPlace l.width) (map literal_of l.literals) l.buckets) l.number) l.initial.masks l.masks
+invariant-loop-number l = Clears (FromBelow (ByNumber (HasPlace l.width) (map literal_bytes l.literals) l.buckets) l.number) l.initial.masks l.masks

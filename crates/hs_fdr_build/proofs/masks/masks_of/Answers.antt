@@ -1,5 +1,5 @@
 use Rattle.std.proofs.Common.{rules, map, sym, subst}
-use Rattle.hs_fdr_build.specs.Asking.{literal_of}
+use Rattle.hs_base.specs.LiteralView.{literal_bytes}
 use Rattle.hs_fdr_build.specs.Clearing.{Clears}
 use Rattle.hs_fdr_build.specs.MaskPlaces.{HasPlace, IsAskedBy, AreMasksOf}
 use Rattle.hs_fdr_build.proofs.MaskLemmas.{masks-are, written-back}
@@ -8,7 +8,7 @@ use Rattle.hs_fdr_build.proofs.masks.masks_of.Goals as goal
 pub returns-clause-exact : goal.returns-clause-exact
 returns-clause-exact c =
     let width = c.args.width in
-    let literals = map literal_of c.args.literals.now in
+    let literals = map literal_bytes c.args.literals.now in
     let buckets = c.args.buckets.now in
     let filled = c.in_ok-masks.masks in
     let new = c.clear_all.new.masks in

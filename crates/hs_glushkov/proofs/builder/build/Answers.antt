@@ -4,7 +4,7 @@ use Rattle.hs_base.specs.WrittenOut.{Core, count, write_out}
 use Rattle.hs_expr.specs.Counts.{positions}
 use Rattle.hs_expr.specs.Meaning.{tree_of}
 use Rattle.hs_glushkov.specs.BuiltParts.{table_of}
-use Rattle.hs_follow.specs.FollowTables.{is_followed}
+use Rattle.hs_glushkov.specs.FollowTables.{is_followed}
 use Rattle.hs_glushkov.specs.Parts.{IsAdded}
 use Rattle.hs_glushkov.proofs.CountLemmas.{count-written}
 use Rattle.hs_glushkov.proofs.BuildLemmas.{tables-for}

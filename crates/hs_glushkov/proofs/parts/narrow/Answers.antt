@@ -2,7 +2,7 @@ use Rattle.std.proofs.Common.{◌&&◌, set, slice_get, refl, ap, sym, ◌∙◌
 use Rattle.std.proofs.lemmas.List.{length-set}
 use Rattle.hs_base.specs.ContextSets.{has_context}
 use Rattle.hs_engine.specs.Automata.{in_mask}
-use Rattle.hs_follow.proofs.FollowLemmas.{mask-read, get-set_same, get-set_other}
+use Rattle.hs_glushkov.proofs.FollowLemmas.{mask-read, get-set_same, get-set_other}
 use Rattle.hs_glushkov.proofs.NarrowLemmas.{narrowed-none, narrowed-more}
 use Rattle.hs_glushkov.proofs.parts.narrow.Goals as goal
 

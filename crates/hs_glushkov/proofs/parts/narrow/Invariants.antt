@@ -2,7 +2,7 @@ use Rattle.std.proofs.Common.{◌≡◌, ℕ, length, slice_get}
 use Rattle.hs_base.specs.Contexts.{Context}
 use Rattle.hs_base.specs.ContextSets.{has_context}
 use Rattle.hs_engine.specs.Automata.{in_mask}
-use Rattle.hs_follow.specs.Ranges.{is_within}
+use Rattle.hs_glushkov.specs.Ranges.{is_within}
 use Rattle.hs_glushkov.specs.Parts.{narrowed}
 use Rattle.hs_glushkov.proofs.parts.narrow.Given as goal
 

@@ -1,4 +1,4 @@
-use Rattle.std.proofs.Common.{◌≡◌, ℕ, ◌+◌, ◌*◌, ◌<◌, Bool, true, false, ◌&&◌, ◌||◌, eqb, nat_lt, length, slice_get, refl, sym, ap, ◌∙◌, arith}
+use Rattle.std.proofs.Common.{◌≡◌, ◌<◌}
 use Rattle.hs_base.specs.Contexts.{Context, context_number}
 use Rattle.hs_limex.specs.Near.{IsFew, LeavesFar}
 use Rattle.hs_limex.proofs.far_filling.far_of.Given as goal

@@ -1,4 +1,4 @@
-use Rattle.std.proofs.Common.{◌≡◌, ℕ, ◌+◌, ◌*◌, ◌/◌, ◌%◌, ◌<◌, ◌≤◌, Bool, true, false, ◌&&◌, ◌||◌, eqb, nat_lt, length, slice_get, refl, sym, ap, subst, ◌∙◌, inl, inr, arith}
+use Rattle.std.proofs.Common.{arith}
 use Rattle.hs_base.specs.Contexts.{Context}
 use Rattle.hs_limex.proofs.NumberLemmas.{in_row-from}
 use Rattle.hs_limex.proofs.far_filling.fill_far.Goals as goal

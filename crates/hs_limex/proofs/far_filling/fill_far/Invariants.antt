@@ -1,5 +1,4 @@
-use Rattle.std.proofs.Common.{◌≡◌, ℕ, ◌+◌, ◌*◌, ◌<◌, Bool, true, false, ◌&&◌, ◌||◌, eqb, nat_lt, length, slice_get, refl, sym, ap, ◌∙◌, arith}
-use Rattle.hs_base.specs.Contexts.{Context}
+use Rattle.std.proofs.Common.{◌≡◌, ℕ, ◌<◌, true}
 use Rattle.hs_engine.specs.Rows.{in_row}
 use Rattle.hs_limex.specs.WordTables.{in_table}
 use Rattle.hs_limex.specs.Near.{IsFew, Follows}

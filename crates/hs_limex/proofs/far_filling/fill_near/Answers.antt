@@ -1,9 +1,9 @@
-use Rattle.std.proofs.Common.{◌≡◌, ℕ, ◌+◌, ◌*◌, ◌/◌, ◌%◌, ◌<◌, ◌≤◌, Bool, true, false, ◌&&◌, ◌||◌, eqb, nat_lt, length, slice_get, refl, sym, ap, subst, ◌∙◌, inl, inr, arith}
+use Rattle.std.proofs.Common.{◌+◌, Bool, ◌&&◌, ◌||◌, eqb, ap, ◌∙◌, arith}
 use Rattle.hs_base.specs.Contexts.{Context}
 use Rattle.hs_engine.specs.Rows.{in_row}
 use Rattle.hs_limex.specs.WordTables.{in_table}
 use Rattle.hs_limex.proofs.NumberLemmas.{in_row-past}
-use Rattle.hs_limex.proofs.WordLemmas.{and-none, all-under}
+use Rattle.hs_bits.proofs.WordLemmas.{and-none, all-under}
 use Rattle.hs_limex.proofs.far_filling.fill_near.Goals as goal
 
 pub returns-clause-bits : goal.returns-clause-bits

@@ -1,8 +1,8 @@
-use Rattle.std.proofs.Common.{◌≡◌, ℕ, ◌+◌, ◌*◌, ◌/◌, ◌%◌, ◌<◌, ◌≤◌, Bool, true, false, ◌&&◌, ◌||◌, eqb, nat_lt, length, slice_get, refl, sym, ap, subst, ◌∙◌, inl, inr, arith}
+use Rattle.std.proofs.Common.{◌*◌, length, inl, inr, arith}
 use Rattle.std.proofs.lemmas.Bool.{cases_lt}
-use Rattle.hs_engine.specs.Bits.{has_bit}
-use Rattle.hs_engine.proofs.RowLemmas.{bits-past}
-use Rattle.hs_glushkov.proofs.PlainLemmas.{true-false}
+use Rattle.hs_base.specs.Bits.{has_bit}
+use Rattle.hs_base.proofs.BitLemmas.{bits-past}
+use Rattle.hs_limex.proofs.PlainLemmas.{true-false}
 use Rattle.hs_limex.proofs.far_filling.is_near.Goals as goal
 
 pub returns : goal.returns

@@ -1,5 +1,5 @@
-use Rattle.std.proofs.Common.{◌≡◌, ℕ, ◌+◌, ◌*◌, ◌<◌, Bool, true, false, ◌&&◌, ◌||◌, eqb, nat_lt, length, slice_get, refl, sym, ap, ◌∙◌, arith}
-use Rattle.hs_engine.specs.Bits.{has_bit}
+use Rattle.std.proofs.Common.{◌≡◌, ℕ, ◌<◌, true}
+use Rattle.hs_base.specs.Bits.{has_bit}
 use Rattle.hs_limex.specs.Near.{IsNearFrom}
 use Rattle.hs_limex.proofs.far_filling.is_near.Given as goal
 

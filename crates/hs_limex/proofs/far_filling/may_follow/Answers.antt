@@ -1,6 +1,6 @@
-use Rattle.std.proofs.Common.{◌≡◌, ℕ, ◌+◌, ◌*◌, ◌/◌, ◌%◌, ◌<◌, ◌≤◌, Bool, true, false, ◌&&◌, ◌||◌, eqb, nat_lt, length, slice_get, refl, sym, ap, subst, ◌∙◌, inl, inr, arith}
+use Rattle.std.proofs.Common.{◌*◌, length, sym, ◌∙◌, arith}
 use Rattle.std.proofs.lemmas.Bool.{le-ltb}
-use Rattle.hs_engine.proofs.RowLemmas.{bits-past}
+use Rattle.hs_base.proofs.BitLemmas.{bits-past}
 use Rattle.hs_limex.proofs.far_filling.may_follow.Goals as goal
 
 pub returns-else-to-row : goal.returns-else-to-row

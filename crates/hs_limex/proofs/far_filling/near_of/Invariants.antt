@@ -1,4 +1,4 @@
-use Rattle.std.proofs.Common.{◌≡◌, ℕ, ◌+◌, ◌*◌, ◌<◌, Bool, true, false, ◌&&◌, ◌||◌, eqb, nat_lt, length, slice_get, refl, sym, ap, ◌∙◌, arith}
+use Rattle.std.proofs.Common.{◌≡◌, ℕ, ◌+◌, ◌*◌, ◌<◌, ◌&&◌, nat_lt}
 use Rattle.hs_base.specs.Contexts.{Context, context_number}
 use Rattle.hs_engine.specs.Rows.{in_row}
 use Rattle.hs_limex.specs.WordTables.{in_table}

@@ -1,4 +1,4 @@
-use Rattle.std.proofs.Common.{◌≡◌, ℕ, ◌+◌, ◌*◌, ◌<◌, Bool, true, false, ◌&&◌, ◌||◌, eqb, nat_lt, length, slice_get, refl, sym, ap, ◌∙◌, arith}
+use Rattle.std.proofs.Common.{◌≡◌, ℕ, ◌&&◌, ◌||◌, eqb, nat_lt, slice_get}
 use Rattle.hs_engine.specs.Automata.{in_mask}
 use Rattle.hs_limex.specs.WordTables.{in_table}
 use Rattle.hs_limex.proofs.filling.fill_context.Given as goal

@@ -1,8 +1,8 @@
-use Rattle.std.proofs.Common.{◌≡◌, ℕ, ◌+◌, ◌*◌, ◌<◌, Bool, true, false, ◌&&◌, ◌||◌, eqb, nat_lt, length, slice_get, refl, sym, ap, ◌∙◌, arith}
+use Rattle.std.proofs.Common.{◌&&◌, ◌||◌, eqb, slice_get, refl, sym, ap, ◌∙◌, arith}
 use Rattle.std.proofs.lemmas.Bool.{lt-ltb}
 use Rattle.hs_engine.specs.Automata.{in_set}
 use Rattle.hs_limex.specs.WordTables.{in_table}
-use Rattle.hs_limex.proofs.WordLemmas.{none-under, number-more}
+use Rattle.hs_bits.proofs.WordLemmas.{none-under, number-more}
 use Rattle.hs_limex.proofs.filling.fill_position.Goals as goal
 
 pub loop-byte-init : goal.loop-byte-init

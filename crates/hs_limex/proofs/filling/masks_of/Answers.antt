@@ -1,9 +1,9 @@
-use Rattle.std.proofs.Common.{◌≡◌, ℕ, ◌+◌, ◌*◌, ◌/◌, ◌%◌, ◌<◌, ◌≤◌, Bool, true, false, ◌&&◌, ◌||◌, eqb, nat_lt, length, slice_get, refl, sym, ap, subst, ◌∙◌, inl, inr, arith}
+use Rattle.std.proofs.Common.{slice_get, ap, ◌∙◌}
 use Rattle.hs_base.specs.Contexts.{Context, context_number}
 use Rattle.hs_engine.specs.Automata.{in_mask}
 use Rattle.hs_limex.specs.WordTables.{in_table}
 use Rattle.hs_limex.proofs.NumberLemmas.{context-named}
-use Rattle.hs_limex.proofs.WordLemmas.{number-more_alone}
+use Rattle.hs_bits.proofs.WordLemmas.{number-more_alone}
 use Rattle.hs_limex.proofs.filling.masks_of.Goals as goal
 
 pub loop-number-preserved : goal.loop-number-preserved

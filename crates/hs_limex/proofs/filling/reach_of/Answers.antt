@@ -1,8 +1,8 @@
-use Rattle.std.proofs.Common.{◌≡◌, ℕ, ◌+◌, ◌*◌, ◌/◌, ◌%◌, ◌<◌, ◌≤◌, Bool, true, false, ◌&&◌, ◌||◌, eqb, nat_lt, length, slice_get, refl, sym, ap, subst, ◌∙◌, inl, inr, arith}
+use Rattle.std.proofs.Common.{slice_get, sym, ap, ◌∙◌, arith}
 use Rattle.std.proofs.lemmas.Option.{slice_get_past}
 use Rattle.hs_engine.specs.Automata.{in_set}
 use Rattle.hs_limex.specs.WordTables.{in_table}
-use Rattle.hs_limex.proofs.WordLemmas.{number-more_alone, all-under}
+use Rattle.hs_bits.proofs.WordLemmas.{number-more_alone, all-under}
 use Rattle.hs_limex.proofs.filling.reach_of.Goals as goal
 
 pub loop-position-preserved : goal.loop-position-preserved

@@ -1,8 +1,9 @@
-use Rattle.std.proofs.Common.{◌≡◌, ℕ, ◌+◌, ◌-◌, ◌*◌, ◌/◌, ◌%◌, ◌<◌, ◌≤◌, Bool, true, false, ◌&&◌, ◌||◌, eqb, length, slice_get, refl, sym, ap, subst, ◌∙◌, inl, inr, arith}
+use Rattle.std.proofs.Common.{◌-◌, ◌*◌, ◌&&◌, ◌||◌, ap, ◌∙◌}
 use Rattle.std.specs.Prelude.{nat_lt, nat_le}
-use Rattle.hs_limex.specs.Words.{has_word_bit, is_shifted}
+use Rattle.hs_base.specs.Bits.{has_word_bit}
+use Rattle.hs_bits.specs.Shifts.{is_shifted}
 use Rattle.hs_limex.specs.Leading.{near_leads}
-use Rattle.hs_glushkov.proofs.PlainLemmas.{any-more}
+use Rattle.hs_limex.proofs.PlainLemmas.{any-more}
 use Rattle.hs_limex.proofs.leading.lead_near.Goals as goal
 
 pub loop-distance-preserved : goal.loop-distance-preserved

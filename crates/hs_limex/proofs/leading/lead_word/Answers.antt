@@ -1,9 +1,8 @@
-use Rattle.std.proofs.Common.{◌≡◌, ℕ, ◌+◌, ◌-◌, ◌*◌, ◌/◌, ◌%◌, ◌<◌, ◌≤◌, Bool, true, false, ◌&&◌, ◌||◌, eqb, length, slice_get, refl, sym, ap, subst, ◌∙◌, inl, inr, arith}
-use Rattle.std.specs.Prelude.{nat_lt, nat_le}
+use Rattle.std.proofs.Common.{◌∙◌}
 use Rattle.hs_base.specs.Contexts.{Context}
-use Rattle.hs_limex.specs.Words.{has_word_bit}
+use Rattle.hs_base.specs.Bits.{has_word_bit}
 use Rattle.hs_limex.specs.Leading.{far_leads}
-use Rattle.hs_glushkov.proofs.PlainLemmas.{any-more}
+use Rattle.hs_limex.proofs.PlainLemmas.{any-more}
 use Rattle.hs_limex.proofs.LeadLemmas.{word-skipped}
 use Rattle.hs_limex.proofs.leading.lead_word.Goals as goal
 

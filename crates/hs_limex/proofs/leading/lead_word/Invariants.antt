@@ -1,7 +1,6 @@
-use Rattle.std.proofs.Common.{◌≡◌, ℕ, ◌+◌, ◌-◌, ◌*◌, ◌/◌, ◌%◌, ◌<◌, ◌≤◌, Bool, true, false, ◌&&◌, ◌||◌, eqb, length, slice_get, refl, sym, ap, subst, ◌∙◌, inl, inr, arith}
-use Rattle.std.specs.Prelude.{nat_lt, nat_le}
-use Rattle.hs_glushkov.specs.AnyBelow.{any_below}
-use Rattle.hs_limex.specs.Words.{has_word_bit}
+use Rattle.std.proofs.Common.{◌≡◌, ℕ, ◌*◌, Bool, ◌||◌, length}
+use Rattle.hs_engine.specs.AnyBelow.{any_below}
+use Rattle.hs_base.specs.Bits.{has_word_bit}
 use Rattle.hs_limex.specs.Leading.{far_leads}
 use Rattle.hs_limex.proofs.leading.lead_word.Given as goal
 

@@ -3,7 +3,7 @@ use Rattle.hs_limex.proofs.tests.left_behind.Given as goal
 
 abbrev pub invariant-loop-byte : goal.invariant-loop-byte
 invariant-loop-byte g l = record {
-  len : length l.region ≡ g.E.Engine.width l.engine;
-  well : g.E.Engine.well l.engine l.region l.at;
+  len : length l.region ≡ (g.E.Engine.meaning l.engine).width;
+  well : (g.E.Engine.meaning l.engine).well l.region l.at;
   counted : l.at ≡ l.byte-index;
 }

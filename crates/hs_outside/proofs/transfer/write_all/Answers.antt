@@ -1,4 +1,5 @@
 use Rattle.std.proofs.Common.{◌∙◌, arith}
+use Rattle.hs_outside.proofs.Counting.{Rose-after_same}
 use Rattle.hs_outside.proofs.Sending.{sent_part_lent, sent_failed}
 use Rattle.hs_outside.proofs.transfer.write_all.Goals as goal
 
@@ -8,5 +9,8 @@ loop-rest-preserved g c = record {
   counted = c.in-Ok.ensures.counted ∙ c.loop-rest.invariant.counted;
 }
 
-pub returns-in-Err-clause-cut : goal.returns-in-Err-clause-cut
-returns-in-Err-clause-cut g c = sent_failed _ _ _ _ _ c.loop-rest.invariant.sent c.in-Err.ensures.cut
+pub returns-in-Err : goal.returns-in-Err
+returns-in-Err g c = record {
+  cut = sent_failed _ _ _ _ _ c.loop-rest.invariant.sent c.in-Err.ensures.cut;
+  failed = Rose-after_same _ _ _ c.loop-rest.invariant.counted c.in-Err.ensures.failed;
+}

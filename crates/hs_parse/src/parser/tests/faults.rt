@@ -71,8 +71,27 @@ pub(crate) const SPACED: &[u8] = b"\
 0;Syntax(0);\\x{ 41};(?<n a>b)\n\
 ";
 
-/// Texts that are refused and have a line feed.
-pub(crate) const BLANKS: [(u16, &[u8], &[u8]); 2] = [
-    (0, b"\\c\n", b"Syntax(0)"),
-    (0, b"(?x)#\\y\n\\y", b"UnknownEscape(8)"),
-];
+/// Texts that are refused and have a line feed, with semicolons between the fields and dollars behind the lines.
+pub(crate) const BLANKS: &[u8] = b"\
+0;Syntax(0);\\c\n$\
+0;UnknownEscape(8);(?x)#\\y\n\\y$\
+";
+
+/// Texts of so many bytes that are the same, and then these or, with a full stop, none; and the fault, or a full stop.
+pub(crate) const LONG: &[u8] = b"\
+16000 a . .\n\
+16001 a . LengthLimit\n\
+16000 a * LengthLimit\n\
+16001 * . LengthLimit\n\
+15999 a [ Syntax(15999)\n\
+15999 a ( Syntax(16000)\n\
+16000 | . .\n\
+128 ( . Syntax(128)\n\
+129 ( . DepthLimit\n\
+128 ( (?= Unsupported(Lookaround,128)\n\
+128 ( (?: DepthLimit\n\
+128 ( (* Unsupported(Verb,128)\n\
+127 ( a)(b))((* Unsupported(Verb,134)\n\
+128 ( a)(b Syntax(132)\n\
+16000 ( . DepthLimit\n\
+";

@@ -1,5 +1,5 @@
-//! Texts with their trees, by the pattern syntax. A line has flags, and then texts, each with its tree behind it. In a tree
-//! a byte that isn't printed is `%` and two hexadecimal digits.
+//! Texts with their trees, by the pattern syntax. A line has flags, and then texts, each with its tree behind it. In a
+//! tree a byte that isn't printed is `%` and two hexadecimal digits.
 
 /// What stands for itself, quantifiers of one byte, groups and alternatives.
 pub(crate) const TREES: &[u8] = b"\
@@ -122,15 +122,8 @@ pub(crate) const SPACED: &[u8] = b"\
 0;;(?x)\\Q #\\E #;(%20#)\n\
 ";
 
-/// Texts that are empty, or have a tab or a line feed.
-pub(crate) const BLANKS: [(u16, &[u8], &[u8]); 9] = [
-    (0, b"", b"~"),
-    (0, b"\\\n", b"%0A"),
-    (0, b"a\n", b"(a%0A)"),
-    (0, b"[\n\\\\]", b"[%0A\\]"),
-    (0, b"(?x)a\tb\nc\x0bd\x0ce\rf", b"(abcdef)"),
-    (0, b"(?x)a # c\n*", b"a*"),
-    (0, b"(?x)#\na", b"a"),
-    (0, b"(?x)a#)\n", b"a"),
-    (0, b"(?x)a|#|\nb", b"<ab>"),
-];
+/// Texts that have a tab or a line feed, with semicolons between the fields and dollars behind the lines.
+pub(crate) const BLANKS: &[u8] = b"\
+0;\\\n;%0A;a\n;(a%0A);[\n\\\\];[%0A\\];(?x)a\tb\nc\x0bd\x0ce\rf;(abcdef);(?x)a # c\n*;a*$\
+0;(?x)#\na;a;(?x)a#)\n;a;(?x)a|#|\nb;<ab>$\
+";

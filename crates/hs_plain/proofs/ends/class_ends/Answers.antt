@@ -2,7 +2,7 @@ use Rattle.std.proofs.Common.{◌≡◌, ℕ, ◌+◌, sym, subst, ◌∙◌, ar
 use Rattle.hs_base.specs.ByteSets.{members}
 use Rattle.hs_base.specs.Spans.{IsByteOf}
 use Rattle.hs_plain.specs.declared.offsets.Offsets.{Offsets}
-use Rattle.hs_plain.specs.OffsetSets.{Adds}
+use Rattle.hs_plain.specs.OffsetSets.{AddsOffsets}
 use Rattle.hs_plain.proofs.OffsetLemmas.{FromBelow, from_below-member, from_below-other, from_below-all}
 use Rattle.hs_plain.proofs.ends.class_ends.Goals as goal
 use Rattle.hs_plain.proofs.ends.class_ends.Goals.{then-contains, else-contains}
@@ -11,7 +11,7 @@ pub loop-at-preserved : goal.loop-at-preserved
 loop-at-preserved c =
     let R : ℕ → ℕ → Type 0 = λ i j. IsByteOf (members c.args.set.now) c.args.stream.now i × (j ≡ i + 1) in
     let starts = c.args.starts.now in
-    let P : Offsets → Type 0 = λ ends. Adds (FromBelow R starts (c.loop-at.at + 1)) c.in_ok-ends.ends ends in
+    let P : Offsets → Type 0 = λ ends. AddsOffsets (FromBelow R starts (c.loop-at.at + 1)) c.in_ok-ends.ends ends in
     elim c.if-contains.branch [
       | then-contains w ↦
           subst P (sym w.ends-is)

@@ -5,7 +5,7 @@ use Rattle.hs_rose.proofs.builder.starts_for.Given as goal
 
 abbrev pub invariant-loop-e : goal.invariant-loop-e
 invariant-loop-e g l = record {
-  starts : l.starts.items ≡ sums_from 0 (map (λ e. g.E.Engine.width e.engine) (take l.e-index l.expressions));
-  at : l.at ≡ total (map (λ e. g.E.Engine.width e.engine) (take l.e-index l.expressions));
+  starts : l.starts.items ≡ sums_from 0 (map (λ e. (g.E.Engine.meaning e.engine).width) (take l.e-index l.roles));
+  at : l.at ≡ total (map (λ e. (g.E.Engine.meaning e.engine).width) (take l.e-index l.roles));
   bounded : l.at ≤ 2 ^ 24 * l.e-index;
 }

@@ -1,16 +1,10 @@
-use Rattle.std.proofs.Common.{◌≡◌, ℕ, ◌*◌, ◌<◌, Bool, true, false, not, length, Some, slice_get, refl, sym, ap, subst, ◌∙◌, inl, inr, arith}
+use Rattle.std.proofs.Common.{◌≡◌, ℕ, ◌<◌, Bool, true, false, not, length, Some, slice_get, refl, sym, ap, subst, ◌∙◌, inl, inr, arith}
 use Rattle.std.proofs.lemmas.Bool.{cases_eq}
 use Rattle.std.proofs.lemmas.Option.{slice_get_read, slice_get_within, same_Some}
 use Rattle.hs_rose.specs.Passing.{IsPassed}
 use Rattle.hs_rose.specs.Regions.{part_of}
-use Rattle.hs_rose.specs.WordBits.{has_word_bit}
-use Rattle.hs_rose.proofs.PartLemmas.{part-length}
+use Rattle.hs_base.specs.Bits.{has_word_bit}
 use Rattle.hs_rose.proofs.wakes.fill_row.Goals as goal
-
-pub passes-passed-requires : goal.passes-passed-requires
-passes-passed-requires g c =
-    let role = slice_get_read c.args.roles.now (length c.args.roles.now) c.loop-k.k c.index-roles-k.result refl c.loop-k-test.true c.index-roles-k.is in
-    part-length g.E.Engine.width c.args.roles.now c.args.starts.now (length c.args.rest.now) c.requires.laid c.args.rest.now refl c.loop-k.k c.index-roles-k.result role
 
 not_false : (b : Bool) → not b ≡ false → b ≡ true
 not_false true is = refl
@@ -24,16 +18,16 @@ loop-k-preserved g c =
     let role : slice_get roles k ≡ Some r = slice_get_read roles (length roles) k r refl c.loop-k-test.true c.index-roles-k.is in
     let inv = c.loop-k.invariant in
     record {
-      len = c.put_bit.ensures.len ∙ inv.len;
+      len = c.write_word_bit.ensures.len ∙ inv.len;
       passed = λ j r' below at unset.
           elim (cases_eq j k) [
             | inl same ↦
                 let one : r ≡ r' = same_Some r r' (sym role ∙ (ap (slice_get roles) (sym same) ∙ at)) in
-                let passed : c.passes-passed.result ≡ true = not_false c.passes-passed.result (sym c.put_bit.ensures.put ∙ (ap (has_word_bit c.put_bit.new.words) (sym same) ∙ unset)) in
-                subst (λ n. IsPassed g.E.Engine.is_for g.E.Engine.field g.E.Engine.well g.E.Engine.enters_always r' (part_of c.args.starts.now c.args.rest.now n) c.args.byte) (sym same)
-                (subst (λ q. IsPassed g.E.Engine.is_for g.E.Engine.field g.E.Engine.well g.E.Engine.enters_always q (part_of c.args.starts.now c.args.rest.now k) c.args.byte) one
-                (c.passes-passed.ensures passed))
-            | inr apart ↦ inv.passed j r' (omega arith) at (sym (c.put_bit.ensures.others j apart) ∙ unset)
+                let passed : c.passes-passed.result ≡ true = not_false c.passes-passed.result (sym c.write_word_bit.ensures.put ∙ (ap (has_word_bit c.write_word_bit.new.words) (sym same) ∙ unset)) in
+                subst (λ n. IsPassed g.E.Engine.meaning r' (part_of c.args.starts.now c.args.rest.now n) c.args.byte) (sym same)
+                (subst (λ q. IsPassed g.E.Engine.meaning q (part_of c.args.starts.now c.args.rest.now k) c.args.byte) one
+                (c.passes-passed.ensures passed (part_of c.args.starts.now c.args.rest.now k) (c.requires.starts k r role) (λ n. c.requires.well n k r role)))
+            | inr apart ↦ inv.passed j r' (omega arith) at (sym (c.write_word_bit.ensures.others j apart) ∙ unset)
           ];
     }
 

@@ -2,12 +2,12 @@ use Rattle.std.proofs.Common.{◌≡◌, ℕ, ◌<◌, false, length, Some, slic
 use Rattle.hs_rose.specs.declared.program.Role.{Role}
 use Rattle.hs_rose.specs.Passing.{IsPassed}
 use Rattle.hs_rose.specs.Regions.{part_of}
-use Rattle.hs_rose.specs.WordBits.{has_word_bit}
+use Rattle.hs_base.specs.Bits.{has_word_bit}
 use Rattle.hs_rose.proofs.wakes.fill_row.Given as goal
 
 abbrev pub invariant-loop-k : goal.invariant-loop-k
 invariant-loop-k g l = record {
   len : length l.row ≡ length l.initial.row;
   passed : (j : ℕ) (r : Role g.row.E.Denot) → j < l.k → slice_get l.roles j ≡ Some r → has_word_bit l.row j ≡ false →
-      IsPassed g.E.Engine.is_for g.E.Engine.field g.E.Engine.well g.E.Engine.enters_always r (part_of l.starts l.rest j) l.byte;
+      IsPassed g.E.Engine.meaning r (part_of l.starts l.rest j) l.byte;
 }

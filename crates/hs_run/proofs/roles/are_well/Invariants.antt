@@ -4,4 +4,4 @@ use Rattle.hs_rose.specs.Regions.{part_of}
 use Rattle.hs_run.proofs.roles.are_well.Given as goal
 
 abbrev pub invariant-loop-k : goal.invariant-loop-k
-invariant-loop-k g l = (j : ℕ) (r : Role g.row.E.Denot) → j < l.k → slice_get l.roles j ≡ Some r → g.E.Engine.well r.engine (part_of l.starts l.region j) l.at
+invariant-loop-k g l = (j : ℕ) (r : Role g.row.E.Denot) → j < l.k → slice_get l.roles j ≡ Some r → (g.E.Engine.meaning r.engine).well (part_of l.starts l.region j) l.at

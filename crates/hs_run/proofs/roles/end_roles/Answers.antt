@@ -21,7 +21,7 @@ offset_bounds-ends-role g c =
 pub end_role-requires-clause-len : goal.end_role-requires-clause-len
 end_role-requires-clause-len g c =
     let role = slice_get_read c.args.roles.now (length c.args.roles.now) c.loop-k.k c.index-roles-k.result refl c.loop-k-test.true c.index-roles-k.is in
-    part-length g.E.Engine.width c.args.roles.now c.args.starts.now (length c.args.region.now) c.requires.laid c.args.region.now refl c.loop-k.k c.index-roles-k.result role
+    part-length g.E.Engine.meaning c.args.roles.now c.args.starts.now (length c.args.region.now) c.requires.laid c.args.region.now refl c.loop-k.k c.index-roles-k.result role
 
 pub end_role-requires-clause-well : goal.end_role-requires-clause-well
 end_role-requires-clause-well g c =
@@ -47,7 +47,7 @@ loop-k-preserved g c =
       room = length-set c.loop-k.ends r.identifier c.end_role.new.ends ∙ inv.room;
       about = λ P identifiers u are here old.
           let (x, pattern) = there P k (omega (arith, are.count)) in
-          last-ends g.E.Engine.is_for roles identifiers P are u k r x role pattern c.loop-k.ends
+          last-ends g.E.Engine.meaning roles identifiers P are u k r x role pattern c.loop-k.ends
           (get_or c.loop-k.ends r.identifier no_ends) c.end_role.new.ends slot
           (c.end_role.ensures identifiers x u (are.each k r x role pattern) here (old k r x role pattern))
           (inv.about P identifiers u are here old);

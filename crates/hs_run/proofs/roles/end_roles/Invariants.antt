@@ -8,7 +8,7 @@ use Rattle.hs_run.proofs.roles.end_roles.Given as goal
 abbrev pub invariant-loop-k : goal.invariant-loop-k
 invariant-loop-k g l = record {
   room : length l.ends ≡ length l.fn.ends;
-  about : (P : List Pattern) (identifiers : List Identifier) (u : List ℕ) → AreRolesOf g.E.Engine.is_for l.roles identifiers P → IsAt u l.prev l.at →
-      AreFields g.E.Engine.field l.roles l.starts l.region P u →
+  about : (P : List Pattern) (identifiers : List Identifier) (u : List ℕ) → AreRolesOf g.E.Engine.meaning l.roles identifiers P → IsAt u l.prev l.at →
+      AreFields g.E.Engine.meaning l.roles l.starts l.region P u →
       AreLastEnds (take l.k P) u identifiers l.ends;
 }

@@ -3,9 +3,8 @@ use Rattle.std.specs.Vec.{with_items}
 use Rattle.std.proofs.lemmas.List.{take_more, with_items_is}
 use Rattle.std.proofs.Math.Seq.{take-length}
 use Rattle.std.proofs.Math.Nat.{mul-le-mul_left}
-use Rattle.hs_rose.specs.Programs.{roles_of, starts_of}
-use Rattle.hs_rose.specs.Wakes.{rest_of}
-use Rattle.hs_rose.specs.WordBits.{word_count}
+use Rattle.hs_rose.specs.Programs.{roles_of, starts_of, rest_of}
+use Rattle.hs_base.specs.Bits.{word_count}
 use Rattle.hs_run.specs.Events.{Takes}
 use Rattle.hs_run.specs.Reporting.{AreClosed}
 use Rattle.hs_run.specs.Running.{AreNoEnds}
@@ -19,16 +18,16 @@ use Rattle.hs_run.proofs.runner.feed.Goals as goal
 
 pub wake-requires-clause-laid : goal.wake-requires-clause-laid
 wake-requires-clause-laid g c =
-    program-laid g.E.Engine.width c.args.program.now c.requires.runs c.roles.result.now c.starts.result.now c.roles.ensures c.starts.ensures
+    program-laid g.E.Engine.meaning c.args.program.now c.roles.ensures.runs c.roles.result.now c.starts.result.now c.roles.ensures.roles c.starts.ensures
     (length c.deref.result.now) (ap length c.deref.ensures.value ∙ c.requires.state.region)
 
 pub wake-requires-clause-rest : goal.wake-requires-clause-rest
 wake-requires-clause-rest g c =
-    ap length c.rest.ensures ∙ (c.requires.runs.wakes.rest ∙ (sym c.requires.state.region ∙ sym (ap length c.deref.ensures.value)))
+    ap length c.rest.ensures ∙ (c.roles.ensures.runs.wakes.rest ∙ (sym c.requires.state.region ∙ sym (ap length c.deref.ensures.value)))
 
 pub wake-requires-clause-room : goal.wake-requires-clause-room
 wake-requires-clause-room g c =
-    ap length c.deref_mut-2.ensures.value ∙ (c.requires.scratch.live ∙ (c.requires.runs.wakes.rows.count ∙ ap word_count (sym (ap length c.roles.ensures))))
+    ap length c.deref_mut-2.ensures.value ∙ (c.requires.scratch.live ∙ (c.roles.ensures.runs.wakes.rows.count ∙ ap word_count (sym (ap length c.roles.ensures.roles))))
 
 pub loop-place-init : goal.loop-place-init
 loop-place-init g c =
@@ -42,14 +41,14 @@ loop-place-init g c =
         live = ap length woken ∙ (c.wake.ensures.len ∙ (ap length c.deref_mut-2.ensures.value ∙ c.requires.scratch.live));
       };
       rests =
-          subst (λ rs. AreAtRest (starts_of c.args.program.now) (length rs) c.args.state.now.region.items (rest_of c.args.program.now) (with_items c.args.scratch.now.live c.wake.new.live).items) c.roles.ensures
+          subst (λ rs. AreAtRest (starts_of c.args.program.now) (length rs) c.args.state.now.region.items (rest_of c.args.program.now) (with_items c.args.scratch.now.live c.wake.new.live).items) c.roles.ensures.roles
           (at-rest-same (length c.roles.result.now) c.starts.result.now (starts_of c.args.program.now) c.deref.result.now c.args.state.now.region.items c.rest.result.now (rest_of c.args.program.now) c.wake.new.live (with_items c.args.scratch.now.live c.wake.new.live).items
           c.starts.ensures c.deref.ensures.value c.rest.ensures (sym woken) c.wake.ensures.rest);
       offset = omega arith;
       ticks = omega arith;
       none = subst AreNoEnds (sym forgotten) c.forget.ensures.none;
       closed = λ shut. absurd (let e : true ≡ false = shut in cc);
-      taken = takes-none g.E.Engine.is_for g.E.Engine.field c.args.program.now g.V.Events.tells c.args.events.now c.args.state.now;
+      taken = takes-none g.E.Engine.meaning c.args.program.now g.V.Events.tells c.args.events.now c.args.state.now;
     }
 
 pub pass_over-place-requires-clause-rests : goal.pass_over-place-requires-clause-rests
@@ -79,10 +78,10 @@ loop-place-preserved g c =
       closed = λ shut. subst (λ k. AreClosed k.items) (sym over.kept) (byte.closed shut);
       ticks = omega (arith, byte.ticks, inv.ticks);
       taken =
-          takes-over g.E.Engine.is_for g.E.Engine.field program g.V.Events.tells c.args.events.now c.feed_byte-is_open.new.events c.args.state.now c.feed_byte-is_open.new.state c.pass_over-place.new.state bytes (i + 1) to low
-          (subst (λ bs. Takes g.V.Events.tells c.args.events.now c.feed_byte-is_open.new.events (Feeds g.E.Engine.is_for g.E.Engine.field program c.args.state.now c.feed_byte-is_open.new.state bs))
+          takes-over g.E.Engine.meaning program g.V.Events.tells c.args.events.now c.feed_byte-is_open.new.events c.args.state.now c.feed_byte-is_open.new.state c.pass_over-place.new.state bytes (i + 1) to low
+          (subst (λ bs. Takes g.V.Events.tells c.args.events.now c.feed_byte-is_open.new.events (Feeds g.E.Engine.meaning program c.args.state.now c.feed_byte-is_open.new.state bs))
           (sym (take_more bytes i 0 c.loop-place-test.true))
-          (takes-more g.E.Engine.is_for g.E.Engine.field program g.V.Events.tells c.args.events.now c.loop-place.events c.feed_byte-is_open.new.events
+          (takes-more g.E.Engine.meaning program g.V.Events.tells c.args.events.now c.loop-place.events c.feed_byte-is_open.new.events
           c.args.state.now c.loop-place.state c.feed_byte-is_open.new.state (take i bytes) (get_or bytes i 0 ∷ []) inv.taken byte.taken))
           over.passed;
     }
@@ -91,4 +90,4 @@ pub returns-clause-taken : goal.returns-clause-taken
 returns-clause-taken g c =
     let whole : take c.loop-place.place c.args.bytes.now ≡ c.args.bytes.now =
     ap (λ n. take n c.args.bytes.now) (let e : c.loop-place.place ≡ length c.args.bytes.now = omega arith in e) ∙ take-length c.args.bytes.now in
-    subst (λ bs. Takes g.V.Events.tells c.args.events.now c.loop-place.events (Feeds g.E.Engine.is_for g.E.Engine.field c.args.program.now c.args.state.now c.loop-place.state bs)) whole c.loop-place.invariant.taken
+    subst (λ bs. Takes g.V.Events.tells c.args.events.now c.loop-place.events (Feeds g.E.Engine.meaning c.args.program.now c.args.state.now c.loop-place.state bs)) whole c.loop-place.invariant.taken

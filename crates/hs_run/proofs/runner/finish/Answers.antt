@@ -16,16 +16,16 @@ use Rattle.hs_run.proofs.runner.finish.Goals as goal
 
 pub end_roles-requires-clause-laid : goal.end_roles-requires-clause-laid
 end_roles-requires-clause-laid g c =
-    program-laid g.E.Engine.width c.args.program.now c.requires.runs c.roles.result.now c.starts.result.now c.roles.ensures c.starts.ensures
+    program-laid g.E.Engine.meaning c.args.program.now c.roles.ensures.runs c.roles.result.now c.starts.result.now c.roles.ensures.roles c.starts.ensures
     (length c.deref.result.now) (ap length c.deref.ensures.value ∙ c.requires.state.region)
 
 pub end_roles-requires-clause-well : goal.end_roles-requires-clause-well
 end_roles-requires-clause-well g c =
-    let Well = g.E.Engine.well in
+    let meaning = g.E.Engine.meaning in
     let at : ℕ = c.args.state.now.offset in
-    subst (λ rs. AreWell Well rs c.starts.result.now c.deref.result.now at) (sym c.roles.ensures)
-    (subst (λ ss. AreWell Well (roles_of c.args.program.now) ss c.deref.result.now at) (sym c.starts.ensures)
-    (subst (λ bs. AreWell Well (roles_of c.args.program.now) (starts_of c.args.program.now) bs at) (sym c.deref.ensures.value) c.requires.state.well))
+    subst (λ rs. AreWell meaning rs c.starts.result.now c.deref.result.now at) (sym c.roles.ensures.roles)
+    (subst (λ ss. AreWell meaning (roles_of c.args.program.now) ss c.deref.result.now at) (sym c.starts.ensures)
+    (subst (λ bs. AreWell meaning (roles_of c.args.program.now) (starts_of c.args.program.now) bs at) (sym c.deref.ensures.value) c.requires.state.well))
 
 pub returns-clause-taken : goal.returns-clause-taken
 returns-clause-taken g c =
@@ -37,9 +37,9 @@ returns-clause-taken g c =
     let is_ends : (with_items c.args.scratch.now.ends ends).items ≡ ends = with_items_is c.args.scratch.now.ends ends (c.end_roles.ensures.len ∙ c.deref_mut.ensures.len) in
     let first : Through g.V.Events.tells c.args.events.now (pairs_at BeforeLastByte xs c.deref-2.result.now c.deref-3.result.now (state.offset - 1)) c.report.new.events =
     subst (λ n. Through g.V.Events.tells c.args.events.now (pairs_at BeforeLastByte xs c.deref-2.result.now c.deref-3.result.now n) c.report.new.events) c.saturating_sub.ensures c.report.ensures in
-    end-takes g.E.Engine.is_for g.E.Engine.field program g.V.Events.tells c.args.events.now c.report.new.events c.report-2.new.events
+    end-takes g.E.Engine.meaning program g.V.Events.tells c.args.events.now c.report.new.events c.report-2.new.events
     state c.roles.result.now c.starts.result.now c.deref.result.now ends
-    c.roles.ensures c.starts.ensures c.deref.ensures.value c.end_roles.ensures.about
+    c.roles.ensures.roles c.starts.ensures c.deref.ensures.value c.end_roles.ensures.about
     c.requires.state.kept
     (c.end_roles.ensures.len ∙ (ap length c.deref_mut.ensures.value ∙ c.requires.scratch.ends))
     (through-same g.V.Events.tells c.args.events.now c.report.new.events BeforeLastByte xs ids c.deref-2.result.now state.kept.items c.deref-3.result.now ends (state.offset - 1)

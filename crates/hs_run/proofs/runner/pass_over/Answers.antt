@@ -1,8 +1,9 @@
-use Rattle.std.proofs.Common.{◌≡◌, ℕ, ◌+◌, ◌-◌, ◌<◌, ◌≤◌, false, List, get_or, sym, ap, subst, ◌∙◌, arith}
+use Rattle.std.proofs.Common.{◌≡◌, ℕ, ◌+◌, ◌-◌, false, List, get_or, ap, subst, ◌∙◌, arith}
 use Rattle.hs_base.specs.declared.context.Prev.{Prev}
 use Rattle.hs_base.specs.ByteSets.{has}
-use Rattle.hs_rose.specs.Wakes.{rest_of, row_of, wakers_of, wakes_of}
-use Rattle.hs_rose.proofs.WordBitLemmas.{unset-bits}
+use Rattle.hs_rose.specs.Wakes.{row_of, wakers_of}
+use Rattle.hs_rose.specs.Programs.{rest_of, wakes_of}
+use Rattle.hs_bits.proofs.WordLemmas.{unset-bits}
 use Rattle.hs_run.specs.declared.state.State.{State}
 use Rattle.hs_run.proofs.OverLemmas.{over-text}
 use Rattle.hs_run.proofs.runner.pass_over.Goals as goal
@@ -15,15 +16,15 @@ returns-clause-state g c =
     let next : ℕ = c.next_waker-next.result in
     let bytes : List ℕ = c.args.bytes.now in
     let quiet = unset-bits c.args.live.now (c.is_unset.ensures.0 c.if-not-is_unset.false) in
-    let wakers : c.wakers.result.now ≡ wakers_of (wakes_of program) = c.wakers.ensures ∙ ap wakers_of c.wakes.ensures in
+    let wakers : c.wakers.result.now ≡ wakers_of (wakes_of program) = c.wakers.ensures ∙ ap wakers_of c.wakes.ensures.wakes in
     let behind : Prev → State = λ p. record { offset = old.offset + (next - place); prev = p; kept = old.kept; region = old.region } in
-    (over-text g.E.Engine.is_for g.E.Engine.field g.E.Engine.well g.E.Engine.enters_always g.E.Engine.width program (rest_of program) c.args.live.now c.requires.runs.named quiet bytes place next old
+    (over-text g.E.Engine.meaning program (rest_of program) c.args.live.now c.wakes.ensures.runs.named quiet bytes place next old
     (record { offset = old.offset + (next - place); prev = c.behind-state.result; kept = old.kept; region = old.region })
     (omega (arith, c.next_waker-next.ensures.low, c.if-next-place.false)) c.next_waker-next.ensures.high
     (λ k above below. record {
       row = row_of (wakes_of program) (get_or bytes k 0);
-      none = c.requires.runs.wakes.rows.unset (get_or bytes k 0) (c.type_inv.bytes k).fits (subst (λ ws. has ws (get_or bytes k 0) ≡ false) wakers (c.next_waker-next.ensures.before k above below));
-      passed = c.requires.runs.wakes.rows.passed (get_or bytes k 0) (c.type_inv.bytes k).fits;
+      none = c.wakes.ensures.runs.wakes.rows.unset (get_or bytes k 0) (c.type_inv.bytes k).fits (subst (λ ws. has ws (get_or bytes k 0) ≡ false) wakers (c.next_waker-next.ensures.before k above below));
+      passed = c.wakes.ensures.runs.wakes.rows.passed (get_or bytes k 0) (c.type_inv.bytes k).fits;
     })
     c.requires.state (c.requires.closed c.if-is_open.false) c.requires.rests
     (ap behind c.behind-state.ensures)).0
@@ -36,15 +37,15 @@ returns-clause-passed g c =
     let next : ℕ = c.next_waker-next.result in
     let bytes : List ℕ = c.args.bytes.now in
     let quiet = unset-bits c.args.live.now (c.is_unset.ensures.0 c.if-not-is_unset.false) in
-    let wakers : c.wakers.result.now ≡ wakers_of (wakes_of program) = c.wakers.ensures ∙ ap wakers_of c.wakes.ensures in
+    let wakers : c.wakers.result.now ≡ wakers_of (wakes_of program) = c.wakers.ensures ∙ ap wakers_of c.wakes.ensures.wakes in
     let behind : Prev → State = λ p. record { offset = old.offset + (next - place); prev = p; kept = old.kept; region = old.region } in
-    (over-text g.E.Engine.is_for g.E.Engine.field g.E.Engine.well g.E.Engine.enters_always g.E.Engine.width program (rest_of program) c.args.live.now c.requires.runs.named quiet bytes place next old
+    (over-text g.E.Engine.meaning program (rest_of program) c.args.live.now c.wakes.ensures.runs.named quiet bytes place next old
     (record { offset = old.offset + (next - place); prev = c.behind-state.result; kept = old.kept; region = old.region })
     (omega (arith, c.next_waker-next.ensures.low, c.if-next-place.false)) c.next_waker-next.ensures.high
     (λ k above below. record {
       row = row_of (wakes_of program) (get_or bytes k 0);
-      none = c.requires.runs.wakes.rows.unset (get_or bytes k 0) (c.type_inv.bytes k).fits (subst (λ ws. has ws (get_or bytes k 0) ≡ false) wakers (c.next_waker-next.ensures.before k above below));
-      passed = c.requires.runs.wakes.rows.passed (get_or bytes k 0) (c.type_inv.bytes k).fits;
+      none = c.wakes.ensures.runs.wakes.rows.unset (get_or bytes k 0) (c.type_inv.bytes k).fits (subst (λ ws. has ws (get_or bytes k 0) ≡ false) wakers (c.next_waker-next.ensures.before k above below));
+      passed = c.wakes.ensures.runs.wakes.rows.passed (get_or bytes k 0) (c.type_inv.bytes k).fits;
     })
     c.requires.state (c.requires.closed c.if-is_open.false) c.requires.rests
     (ap behind c.behind-state.ensures)).1

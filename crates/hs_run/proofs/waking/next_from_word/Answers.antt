@@ -1,5 +1,4 @@
-use Rattle.std.proofs.Common.{◌≡◌, ℕ, ◌+◌, ◌*◌, ◌/◌, ◌^◌, ◌<◌, ◌≤◌, List, get_or, bit_or, Some, None, sym, ap, subst, ◌∙◌, arith, w64}
-use Rattle.std.specs.Prelude.{nat_lt, if◌then◌else◌}
+use Rattle.std.proofs.Common.{◌≡◌, ℕ, ◌+◌, ◌*◌, ◌/◌, ◌^◌, get_or, bit_or, sym, subst, arith, w64}
 use Rattle.std.specs.Int.{trailing_zeros}
 use Rattle.std.specs.Slice.Scan.{HoldsNowhere}
 use Rattle.hs_run.specs.Waking.{stirs, IsNextOf}

@@ -1,6 +1,6 @@
 use Rattle.std.proofs.Common.{◌≡◌, ℕ, ◌<◌, false, length}
 use Rattle.hs_rose.specs.Regions.{part_of}
-use Rattle.hs_rose.specs.WordBits.{has_word_bit}
+use Rattle.hs_base.specs.Bits.{has_word_bit}
 use Rattle.hs_run.proofs.waking.wake.Given as goal
 
 abbrev pub invariant-loop-k : goal.invariant-loop-k

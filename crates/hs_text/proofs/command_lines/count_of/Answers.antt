@@ -12,11 +12,11 @@ pub returns-in_default : goal.returns-in_default
 returns-in_default c = λ count small same.
     c.in_default.ensures count (subst (λ t. IsNumber 20 18446744073709551616 t count) (sym same) (decimal-number count small))
 
-pub returns-then-count-gt-MAX_COUNT : goal.returns-then-count-gt-MAX_COUNT
-returns-then-count-gt-MAX_COUNT c = λ count small same.
+pub returns-then-count-gt-MAX_OFFSET : goal.returns-then-count-gt-MAX_OFFSET
+returns-then-count-gt-MAX_OFFSET c = λ count small same.
     let value = number_once c.in-Some.ensures (subst (λ t. IsNumber 20 18446744073709551616 t count) (sym same) (decimal-number count small)) in
-    omega (arith, value, c.if-count-gt-MAX_COUNT.true, small)
+    omega (arith, value, c.if-count-gt-MAX_OFFSET.true, small)
 
-pub returns-else-count-gt-MAX_COUNT : goal.returns-else-count-gt-MAX_COUNT
-returns-else-count-gt-MAX_COUNT c =
-    (omega (arith, c.if-count-gt-MAX_COUNT.false), number-decimal c.args.digits.now c.in-Some.count c.if-has_zero_before.ensures c.in-Some.ensures)
+pub returns-else-count-gt-MAX_OFFSET : goal.returns-else-count-gt-MAX_OFFSET
+returns-else-count-gt-MAX_OFFSET c =
+    (omega (arith, c.if-count-gt-MAX_OFFSET.false), number-decimal c.args.digits.now c.in-Some.count c.if-has_zero_before.ensures c.in-Some.ensures)

@@ -1,14 +1,10 @@
 use Rattle.std.proofs.Common.{Ok, refl}
 use Rattle.hs_outside.proofs.Sending.{Took-nothing}
 use Rattle.hs_tool.specs.Answers
-use Rattle.hs_tool.specs.Loading.{entries_of}
-use Rattle.hs_tool.proofs.AnswerLemmas.{has_list}
-use Rattle.hs_stream.proofs.DatabaseLemmas.{compiled-usable}
+use Rattle.hs_lists.specs.Loading.{entries_of}
+use Rattle.hs_lists.proofs.EndingLemmas.{has_list}
 use Rattle.hs_tool.proofs.StreamLemmas.{stream_ends, stream_stops}
 use Rattle.hs_tool.proofs.stream_command.run_script.Goals as goal
-
-pub serve-requires : goal.serve-requires
-serve-requires g c = compiled-usable c.in-Ok.loaded.database c.in-Ok.ensures.loaded.patterns c.in-Ok.ensures.loaded.runs
 
 pub returns-in-Err-clause-ends : goal.returns-in-Err-clause-ends
 returns-in-Err-clause-ends g c = Answers.stopped _ (record { stops = c.in-Err.ensures.fault; quiet = Took-nothing (g.O.Sink.written c.args.out.now); still = refl }) refl

@@ -1,7 +1,7 @@
 use Rattle.std.proofs.Common.{map, string_bytes, None, Some, refl, ap}
 use Rattle.hs_outside.proofs.Sending.{Took-nothing}
 use Rattle.hs_request.specs.Requests.{request_of}
-use Rattle.hs_tool.specs.Causes.{cause_of}
+use Rattle.hs_lists.specs.Causes.{cause_of}
 use Rattle.hs_tool.specs.Answers.{told}
 use Rattle.hs_tool.proofs.DueLemmas.{due_outcome}
 use Rattle.hs_tool.proofs.StatusLemmas.{answer_status, answer_usage, answer_no_command, answer_fault, answer_silent, answer_unput, answer_complete, answer_script, answer_unread, answer_run}

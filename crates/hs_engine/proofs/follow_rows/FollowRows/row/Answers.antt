@@ -1,6 +1,6 @@
 use Rattle.std.proofs.Common.{◌≡◌, ◌+◌, ◌-◌, take, drop, ap, ◌∙◌, arith}
 use Rattle.hs_base.specs.Contexts.{Context}
-use Rattle.hs_engine.specs.Bits.{has_bit}
+use Rattle.hs_base.specs.Bits.{has_bit}
 use Rattle.hs_engine.specs.Rows.{in_square, row_start, square_number}
 use Rattle.hs_engine.proofs.RowLemmas.{row-bits}
 use Rattle.hs_engine.proofs.follow_rows.FollowRows.row.Goals as goal

@@ -1,5 +1,5 @@
 use Rattle.std.proofs.Common.{arith}
-use Rattle.hs_follow.specs.FollowTables.{is_followed}
+use Rattle.hs_glushkov.specs.FollowTables.{is_followed}
 use Rattle.hs_glushkov.proofs.PartLemmas.{class-added}
 use Rattle.hs_glushkov.proofs.parts.Parts.add_class.Goals as goal
 

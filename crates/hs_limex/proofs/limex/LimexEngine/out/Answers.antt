@@ -1,19 +1,26 @@
-use Rattle.std.proofs.Common.{◌≡◌, length, sym, subst, refl, true, ◌&&◌}
+use Rattle.std.proofs.Common.{◌≡◌, length, subst, sym, refl}
+use Rattle.hs_base.specs.Bits.{has_bit}
 use Rattle.hs_base.specs.Contexts.{Context, context_of, prev_at}
 use Rattle.hs_base.specs.ContextSets.{has_next}
-use Rattle.hs_base.proofs.ContextLemmas.{of_both}
-use Rattle.hs_engine.specs.Bits.{has_bit}
-use Rattle.hs_glushkov.proofs.PlainLemmas.{leaves-bit, true-false}
-use Rattle.hs_limex.specs.WordTables.{in_table}
+use Rattle.hs_base.proofs.BitLemmas.{zero-bits}
+use Rattle.hs_base.proofs.StreamContexts.{same-context}
+use Rattle.hs_limex.specs.Fitting.{AcceptsIn}
+use Rattle.hs_limex.proofs.LimexLemmas.{accepts-leaves}
+use Rattle.hs_limex.proofs.PlainLemmas.{not-true, true-false}
 use Rattle.hs_limex.proofs.limex.LimexEngine.out.Goals as goal
 
-pub returns-then-accepts_nowhere-clause-leaves : goal.returns-then-accepts_nowhere-clause-leaves
-returns-then-accepts_nowhere-clause-leaves c tree u entered runs len at prev field next =
-    let limex = c.args.self.now in (
-      λ told. true-false (has_next c.empty.result next) told (c.empty.ensures next),
-      λ leaves.
-          let (x, set, is) = leaves-bit limex.plain.automaton tree runs u entered c.args.region.now field next leaves in
-          let live = has_bit c.args.region.now x in
-          let accepts = in_table limex.tables.accepting 0 x in
-          true-false (live && accepts) (of_both live accepts set (limex.fits.accepting x (context_of u next) is)) (c.accepts_nowhere.ensures c.if-accepts_nowhere.true x),
+pub returns-clause-leaves : goal.returns-clause-leaves
+returns-clause-leaves c tree u entered is len at prev field next =
+    let t = c.args.self.now.tables in
+    let region = c.args.region.now in
+    let same : ◌≡◌ {A = Context} (record { prev = c.args.prev; next = next }) (context_of u next) = same-context c.args.prev (prev_at u (length u)) next next prev refl in (
+      λ told. (accepts-leaves t tree is u entered region field next).0 (subst (AcceptsIn t (has_bit region)) same (c.accepted.ensures.sound next told)),
+      λ leaves. c.accepted.ensures.whole next (subst (AcceptsIn t (has_bit region)) (sym same) ((accepts-leaves t tree is u entered region field next).1 leaves)),
     )
+
+pub returns-clause-rests : goal.returns-clause-rests
+returns-clause-rests c never zeros next =
+    not-true (has_next c.accepted.result next)
+    (λ told.
+    let accepts = c.accepted.ensures.sound next told in
+    true-false (has_bit c.args.region.now accepts.position) accepts.is_live (zero-bits c.args.region.now zeros accepts.position))

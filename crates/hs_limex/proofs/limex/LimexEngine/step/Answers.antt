@@ -1,39 +1,40 @@
-use Rattle.std.proofs.Common.{◌≡◌, ℕ, ◌*◌, ◌<◌, ◌≤◌, false, List, [], ◌∷◌, ◌++◌, length, sym, ap, subst, ◌∙◌, arith, vec_len}
+use Rattle.std.proofs.Common.{◌≡◌, ℕ, ◌*◌, ◌<◌, ◌≤◌, [], ◌∷◌, ◌++◌, length, sym, ap, subst, ◌∙◌, arith, vec_len}
 use Rattle.hs_base.specs.Contexts.{Context, class_of, context_of, prev_at}
 use Rattle.hs_base.specs.ContextSets.{has_next}
 use Rattle.hs_base.specs.WrittenOut.{write_out}
+use Rattle.hs_base.specs.Bits.{has_bit}
+use Rattle.hs_base.specs.PositionRows.{IsField}
+use Rattle.hs_base.proofs.BitLemmas.{zero-bits}
 use Rattle.hs_base.proofs.StreamContexts.{same-context}
-use Rattle.hs_engine.specs.Bits.{has_bit}
-use Rattle.hs_glushkov.specs.Tables.{IsField}
-use Rattle.hs_glushkov.proofs.PlainLemmas.{field-rests}
-use Rattle.hs_limex.proofs.StepLemmas.{field-step_in, step-clear}
+use Rattle.hs_limex.proofs.PlainLemmas.{field-rests, not-true}
+use Rattle.hs_limex.proofs.StepLemmas.{field-step_in}
 use Rattle.hs_limex.proofs.limex.LimexEngine.step.Goals as goal
 
 pub returns-then-stays_at_rest-clause-takes : goal.returns-then-stays_at_rest-clause-takes
-returns-then-stays_at_rest-clause-takes g c tree u entered runs len at prev field =
-    let plain = c.args.self.now.plain in
+returns-then-stays_at_rest-clause-takes g c tree u entered is len at prev field =
+    let t = c.args.self.now.tables in
     let b : ℕ = c.args.byte in
     let byte : b < 256 = omega arith in
     let entering : c.contains-entering.result ≡ has_next c.args.enter (class_of b) = c.contains-entering.ensures ∙ ap (has_next c.args.enter) c.class_of-next.ensures in
     subst (λ i. IsField c.args.region.now (write_out tree) (u ++ b ∷ []) (entered ++ i ∷ [])) entering
-    (field-rests plain.automaton (write_out tree) plain.first runs.tables plain.begins u entered len c.args.region.now field (c.stays_at_rest.ensures.zero c.if-stays_at_rest.true) b byte c.contains-entering.result
+    (field-rests is.automaton (write_out tree) t.first is.runs.tables is.fits.first u entered len c.args.region.now field (zero-bits c.args.region.now (c.stays_at_rest.ensures.zero c.if-stays_at_rest.true)) b byte c.contains-entering.result
     (c.stays_at_rest.ensures.outside c.if-stays_at_rest.true))
 
 pub returns-clause-takes : goal.returns-clause-takes
-returns-clause-takes g c tree u entered runs len at prev field =
-    let limex = c.args.self.now in
-    let a = limex.plain.automaton in
+returns-clause-takes g c tree u entered is len at prev field =
+    let t = c.args.self.now.tables in
     let here : Context = record { prev = c.args.prev; next = c.class_of-next.result } in
     let b : ℕ = c.args.byte in
     let byte : b < 256 = omega arith in
     let same : context_of u (class_of b) ≡ here = same-context (prev_at u (length u)) c.args.prev (class_of b) c.class_of-next.result (sym prev) (sym c.class_of-next.ensures) in
     let entering : c.contains-entering.result ≡ has_next c.args.enter (class_of b) = c.contains-entering.ensures ∙ ap (has_next c.args.enter) c.class_of-next.ensures in
+    let room : vec_len is.automaton.sets ≤ 8 * length c.args.region.now = omega (arith, is.fits.size, c.requires.len) in
     subst (λ i. IsField c.move_over.new.region (write_out tree) (u ++ b ∷ []) (entered ++ i ∷ [])) entering
-    (field-step_in limex.tables a limex.fits (write_out tree) runs.tables u entered len c.args.region.now field b byte c.contains-entering.result here same c.move_over.new.region
-    (omega (arith, c.requires.len)) c.move_over.ensures.sound c.move_over.ensures.whole)
+    (field-step_in t is.automaton is.fits (write_out tree) is.runs.tables u entered len c.args.region.now field b byte c.contains-entering.result here same c.move_over.new.region
+    room c.move_over.ensures.sound c.move_over.ensures.whole)
 
 pub returns-clause-well : goal.returns-clause-well
-returns-clause-well g c =
-    let limex = c.args.self.now in
+returns-clause-well g c k above =
+    let t = c.args.self.now.tables in
     let byte : c.args.byte < 256 = omega arith in
-    step-clear limex.tables limex.plain.automaton limex.fits c.args.byte byte c.move_over.new.region (λ k set. (c.move_over.ensures.sound k set).0)
+    not-true (has_bit c.move_over.new.region k) (λ set. absurd (omega (arith, t.reach_few c.args.byte k byte (c.move_over.ensures.sound k set).0)))

@@ -1,9 +1,6 @@
-use Rattle.std.proofs.Common.{◌≡◌, ◌*◌, Bool, ◌&&◌, ◌||◌, length, ap, sym, ◌∙◌, arith}
-use Rattle.hs_base.specs.Contexts.{Context, context_number}
-use Rattle.hs_glushkov.specs.AnyBelow.{any_below}
-use Rattle.hs_limex.specs.Words.{has_word_bit}
-use Rattle.hs_limex.specs.WordTables.{in_table}
-use Rattle.hs_limex.specs.Leading.{far_leads, near_leads}
+use Rattle.std.proofs.Common.{sym, ◌∙◌}
+use Rattle.hs_base.specs.Contexts.{Context}
+use Rattle.hs_base.specs.Bits.{has_word_bit}
 use Rattle.hs_limex.proofs.StepLemmas.{lead-chain, lead-sound, lead-whole}
 use Rattle.hs_limex.proofs.tables.Tables.lead.Goals as goal
 

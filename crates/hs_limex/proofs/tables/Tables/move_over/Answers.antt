@@ -3,8 +3,8 @@ use Rattle.std.specs.Prelude.{nat_lt}
 use Rattle.std.proofs.lemmas.Bool.{lt-ltb, ltb-true}
 use Rattle.hs_base.specs.Contexts.{Context}
 use Rattle.hs_base.proofs.ContextLemmas.{first_of_both, second_of_both, of_both}
-use Rattle.hs_engine.specs.Bits.{has_bit}
-use Rattle.hs_limex.specs.Words.{has_word_bit}
+use Rattle.hs_base.specs.Bits.{has_bit}
+use Rattle.hs_base.specs.Bits.{has_word_bit}
 use Rattle.hs_limex.proofs.StepLemmas.{led-as, read-bits}
 use Rattle.hs_limex.proofs.TableLemmas.{replicate-words}
 use Rattle.hs_limex.proofs.tables.Tables.move_over.Goals as goal

@@ -1,7 +1,7 @@
 use Rattle.std.proofs.Common.{◌≡◌, ◌+◌, ◌*◌, ◌||◌, ◌∙◌, eqb, ap, refl}
 use Rattle.std.specs.Vec.{with_items}
 use Rattle.std.proofs.lemmas.List.{with_items_is}
-use Rattle.hs_limex.specs.Words.{has_word_bit}
+use Rattle.hs_base.specs.Bits.{has_word_bit}
 use Rattle.hs_limex.specs.WordTables.{in_table}
 use Rattle.hs_limex.proofs.TableLemmas.{inserted-bit}
 use Rattle.hs_limex.proofs.word_rows.WordRows.insert.Goals as goal

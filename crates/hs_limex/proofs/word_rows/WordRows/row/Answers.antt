@@ -1,6 +1,6 @@
 use Rattle.std.proofs.Common.{◌≡◌, ◌≤◌, ◌+◌, ◌*◌, ◌-◌, take, drop, ap, refl, ◌∙◌, arith}
 use Rattle.std.proofs.Math.Nat.{mul-le-mul_left}
-use Rattle.hs_limex.specs.Words.{has_word_bit}
+use Rattle.hs_base.specs.Bits.{has_word_bit}
 use Rattle.hs_limex.specs.WordTables.{in_table}
 use Rattle.hs_limex.proofs.TableLemmas.{row-bits}
 use Rattle.hs_limex.proofs.word_rows.WordRows.row.Goals as goal

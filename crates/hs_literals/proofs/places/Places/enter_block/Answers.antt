@@ -1,6 +1,6 @@
 use Rattle.std.proofs.Common.{◌≡◌, ◌+◌, ◌-◌, subst, arith}
 use Rattle.hs_confirm.specs.Filed.{literals_of, buckets_of}
-use Rattle.hs_literals.specs.OpenPlaces.{AreOpen}
+use Rattle.hs_literals.specs.OpenPlaces.{AreOpenPlaces}
 use Rattle.hs_literals.proofs.AllEndLemmas.{as_many}
 use Rattle.hs_literals.proofs.OpenLemmas.{none_between_closed, unmarked_block_is_closed}
 use Rattle.hs_literals.proofs.places.Places.enter_block.Goals as goal
@@ -23,4 +23,4 @@ pub invariant_of-self-2-clause-are_open : goal.invariant_of-self-2-clause-are_op
 invariant_of-self-2-clause-are_open c =
     let place = c.args.self.now.block + c.min.result in
     let first : 0 ≡ place - place = omega arith in
-    subst (λ from. AreOpen c.write_masks.new.masks from c.open_marks-self.result) first c.open_marks-self.ensures
+    subst (λ from. AreOpenPlaces c.write_masks.new.masks from c.open_marks-self.result) first c.open_marks-self.ensures

@@ -1,7 +1,7 @@
 use Rattle.std.proofs.Common.{◌≡◌, ℕ, ◌<◌, ◌+◌, true, false, [], ◌∷◌, ◌++◌, refl, arith}
 use Rattle.hs_base.specs.ByteSets.{has, members}
-use Rattle.hs_repeat.specs.Entries.{IsAway}
-use Rattle.hs_repeat.specs.RepeatRows.IsFirstDistance.{none}
+use Rattle.hs_base.specs.RepeatRows.{IsAway}
+use Rattle.hs_base.specs.RepeatRows.IsFirstDistance.{none}
 use Rattle.hs_repeat.proofs.DistanceLemmas.{away-moves, away-none}
 use Rattle.hs_repeat.proofs.FirstLemmas.{first-entered, first-farther, first-rests}
 use Rattle.hs_repeat.proofs.first.First.next_distance.Goals as goal

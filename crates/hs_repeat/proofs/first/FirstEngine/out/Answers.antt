@@ -1,6 +1,6 @@
 use Rattle.std.proofs.Common.{◌≡◌, ◌∙◌, ◌<◌, true, false, sym, subst, arith}
 use Rattle.hs_base.specs.Fields.{Leaves}
-use Rattle.hs_repeat.specs.RepeatRows.{distance_of}
+use Rattle.hs_base.specs.RepeatRows.{distance_of}
 use Rattle.hs_repeat.proofs.FirstLemmas.{first-leaves, leaves-first}
 use Rattle.hs_repeat.proofs.first.FirstEngine.out.Goals as goal
 

@@ -2,8 +2,8 @@ use Rattle.std.proofs.Common.{◌≡◌, ◌∙◌, ℕ, [], ◌∷◌, ◌++◌
 use Rattle.hs_base.specs.ByteSets.{members}
 use Rattle.hs_base.specs.Contexts.{class_of}
 use Rattle.hs_base.specs.ContextSets.{has_next}
-use Rattle.hs_repeat.specs.Entries.{IsAway}
-use Rattle.hs_repeat.specs.RepeatRows.{IsFirstDistance, IsFirstRow}
+use Rattle.hs_base.specs.RepeatRows.{IsAway}
+use Rattle.hs_base.specs.RepeatRows.{IsFirstDistance, IsFirstRow}
 use Rattle.hs_repeat.proofs.first.FirstEngine.step.Goals as goal
 
 pub returns-clause-takes : goal.returns-clause-takes

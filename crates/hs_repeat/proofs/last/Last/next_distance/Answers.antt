@@ -1,7 +1,7 @@
 use Rattle.std.proofs.Common.{◌≡◌, ℕ, ◌<◌, true, false, [], ◌∷◌, ◌++◌, refl, arith}
 use Rattle.hs_base.specs.ByteSets.{has, members}
-use Rattle.hs_repeat.specs.Entries.{IsAway}
-use Rattle.hs_repeat.specs.RepeatRows.IsLastDistance.{none}
+use Rattle.hs_base.specs.RepeatRows.{IsAway}
+use Rattle.hs_base.specs.RepeatRows.IsLastDistance.{none}
 use Rattle.hs_repeat.proofs.DistanceLemmas.{away-moves, away-none}
 use Rattle.hs_repeat.proofs.LastLemmas.{last-entered, last-farther, last-lost, last-rests}
 use Rattle.hs_repeat.proofs.last.Last.next_distance.Goals as goal

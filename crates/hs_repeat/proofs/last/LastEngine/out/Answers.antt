@@ -1,5 +1,5 @@
 use Rattle.std.proofs.Common.{◌≡◌, ◌∙◌, ◌<◌, true, false, sym, arith}
-use Rattle.hs_repeat.specs.RepeatRows.{distance_of}
+use Rattle.hs_base.specs.RepeatRows.{distance_of}
 use Rattle.hs_repeat.proofs.LastLemmas.{last-empty, left-last}
 use Rattle.hs_repeat.proofs.last.LastEngine.out.Goals as goal
 

@@ -1,7 +1,7 @@
 use Rattle.std.proofs.Common.{◌≡◌, ◌∙◌, ℕ, ◌+◌, ◌-◌, ◌%◌, ◌<◌, ◌≤◌, length, sym, ap, subst, arith}
 use Rattle.hs_base.specs.ByteSets.{members}
-use Rattle.hs_repeat.specs.BitRanges.{HasBitRound}
-use Rattle.hs_repeat.proofs.BitRangeLemmas.{denied}
+use Rattle.hs_bits.specs.BitRanges.{HasBitRound}
+use Rattle.hs_bits.proofs.BitRangeLemmas.{denied}
 use Rattle.hs_repeat.proofs.DistanceLemmas.{away-positive}
 use Rattle.hs_repeat.proofs.RingLemmas.{away-round, round-away, zero-round}
 use Rattle.hs_repeat.proofs.ring.Ring.has_entry_away.Goals as goal

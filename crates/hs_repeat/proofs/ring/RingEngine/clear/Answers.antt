@@ -6,4 +6,4 @@ pub returns-clause-starts : goal.returns-clause-starts
 returns-clause-starts c tree runs = ring-start (members c.args.self.now.set) c.args.self.now.greatest c.clear_bits.new.bytes c.clear_bits.ensures.zero
 
 pub returns-clause-well : goal.returns-clause-well
-returns-clause-well c = zero-ring c.args.self.now.greatest c.clear_bits.new.bytes 0 c.clear_bits.ensures.zero
+returns-clause-well c at = zero-ring c.args.self.now.greatest c.clear_bits.new.bytes at c.clear_bits.ensures.zero

@@ -1,7 +1,7 @@
 use Rattle.std.proofs.Common.{◌≡◌, ap, ◌∙◌}
 use Rattle.std.specs.Prelude.{min}
 use Rattle.std.proofs.lemmas.Bool.{not-true, not_from_false}
-use Rattle.hs_repeat.proofs.BitRangeLemmas.{denied}
+use Rattle.hs_bits.proofs.BitRangeLemmas.{denied}
 use Rattle.hs_repeat.proofs.RingLemmas.{clash, fits-ring, ring-fits}
 use Rattle.hs_repeat.proofs.ring.RingEngine.well_formed.Goals as goal
 

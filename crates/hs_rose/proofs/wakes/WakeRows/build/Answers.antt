@@ -3,10 +3,9 @@ use Rattle.std.specs.List.{slice_range}
 use Rattle.std.specs.Vec.{with_items}
 use Rattle.std.proofs.lemmas.List.{with_items_is}
 use Rattle.hs_base.specs.ByteSets.{has}
-use Rattle.hs_engine.specs.Bits.{AreZero}
+use Rattle.hs_base.specs.Bits.{AreZero, has_word_bit}
 use Rattle.hs_rose.specs.Passing.{ArePassed}
-use Rattle.hs_rose.specs.WordBits.{has_word_bit}
-use Rattle.hs_rose.proofs.WordBitLemmas.{unset-bits}
+use Rattle.hs_bits.proofs.WordLemmas.{unset-bits}
 use Rattle.hs_rose.proofs.WakeLemmas.{rows-more}
 use Rattle.hs_rose.proofs.wakes.WakeRows.build.Goals as goal
 
@@ -24,9 +23,9 @@ loop-byte-preserved g c =
       row = ap length is_row ∙ wide;
       count = ap length words ∙ (length-append c.loop-byte.words.items row ∙ omega (arith, inv.count));
       passed =
-          subst (λ xs. (b : ℕ) → b < n + 1 → ArePassed g.E.Engine.is_for g.E.Engine.field g.E.Engine.well g.E.Engine.enters_always c.args.roles.now c.args.starts.now c.args.rest.now (slice_range xs (len * b) (len * b + len)) b)
+          subst (λ xs. (b : ℕ) → b < n + 1 → ArePassed g.E.Engine.meaning c.args.roles.now c.args.starts.now c.args.rest.now (slice_range xs (len * b) (len * b + len)) b)
           (sym words)
-          (rows-more (ArePassed g.E.Engine.is_for g.E.Engine.field g.E.Engine.well g.E.Engine.enters_always c.args.roles.now c.args.starts.now c.args.rest.now) c.loop-byte.words.items row len n inv.count wide inv.passed c.fill_row.ensures.passed);
+          (rows-more (ArePassed g.E.Engine.meaning c.args.roles.now c.args.starts.now c.args.rest.now) c.loop-byte.words.items row len n inv.count wide inv.passed c.fill_row.ensures.passed);
       unset =
           subst (λ xs. (b : ℕ) → b < n + 1 → has c.add_waker.new.wakers b ≡ false → (k : ℕ) → has_word_bit (slice_range xs (len * b) (len * b + len)) k ≡ false)
           (sym words)

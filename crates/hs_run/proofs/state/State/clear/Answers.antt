@@ -11,7 +11,7 @@ use Rattle.hs_run.proofs.state.State.clear.Goals as goal
 
 pub clear_roles-requires : goal.clear_roles-requires
 clear_roles-requires g c =
-    program-laid g.E.Engine.width c.args.program.now c.requires.runs c.roles.result.now c.starts.result.now c.roles.ensures c.starts.ensures
+    program-laid g.E.Engine.meaning c.args.program.now c.roles.ensures.runs c.roles.result.now c.starts.result.now c.roles.ensures.roles c.starts.ensures
     (length c.deref_mut.result.now) (c.deref_mut.ensures.len ∙ (c.args.self.now.region.ok.0 ∙ c.requires.fits.region))
 
 pub returns-clause-fits : goal.returns-clause-fits
@@ -25,9 +25,9 @@ returns-clause-fits g c =
       kept = ap length (with_items_is old.kept c.keep_nothing.new.kept count) ∙ (count ∙ (old.kept.ok.0 ∙ c.requires.fits.kept));
       region = ap length region ∙ (len ∙ (old.region.ok.0 ∙ c.requires.fits.region));
       well =
-          subst (λ rs. AreWell g.E.Engine.well rs (starts_of c.args.program.now) bytes 0) c.roles.ensures
-          (subst (λ ss. AreWell g.E.Engine.well c.roles.result.now ss bytes 0) c.starts.ensures
-          (subst (λ bs. AreWell g.E.Engine.well c.roles.result.now c.starts.result.now bs 0) (sym region) c.clear_roles.ensures.well));
+          subst (λ rs. AreWell g.E.Engine.meaning rs (starts_of c.args.program.now) bytes 0) c.roles.ensures.roles
+          (subst (λ ss. AreWell g.E.Engine.meaning c.roles.result.now ss bytes 0) c.starts.ensures
+          (subst (λ bs. AreWell g.E.Engine.meaning c.roles.result.now c.starts.result.now bs 0) (sym region) (c.clear_roles.ensures.well 0)));
     }
 
 pub returns-clause-start : goal.returns-clause-start
@@ -38,8 +38,8 @@ returns-clause-start g c P runs =
     let region : bytes ≡ c.clear_roles.new.region = with_items_is old.region c.clear_roles.new.region len in
     let count : length c.keep_nothing.new.kept ≡ old.kept.len = c.keep_nothing.ensures.len ∙ c.deref_mut-2.ensures.len in
     let state : State = record { offset = 0; prev = before.Start; kept = with_items old.kept c.keep_nothing.new.kept; region = with_items old.region c.clear_roles.new.region } in
-    cleared-state g.E.Engine.is_for g.E.Engine.field c.args.program.now P runs state refl refl
+    cleared-state g.E.Engine.meaning c.args.program.now P runs state refl refl
     (subst AreUnkept (sym (with_items_is old.kept c.keep_nothing.new.kept count)) c.keep_nothing.ensures.unkept)
-    (subst (λ rs. AreStarted g.E.Engine.is_for g.E.Engine.field rs (starts_of c.args.program.now) bytes) c.roles.ensures
-    (subst (λ ss. AreStarted g.E.Engine.is_for g.E.Engine.field c.roles.result.now ss bytes) c.starts.ensures
-    (subst (λ bs. AreStarted g.E.Engine.is_for g.E.Engine.field c.roles.result.now c.starts.result.now bs) (sym region) c.clear_roles.ensures.starts)))
+    (subst (λ rs. AreStarted g.E.Engine.meaning rs (starts_of c.args.program.now) bytes) c.roles.ensures.roles
+    (subst (λ ss. AreStarted g.E.Engine.meaning c.roles.result.now ss bytes) c.starts.ensures
+    (subst (λ bs. AreStarted g.E.Engine.meaning c.roles.result.now c.starts.result.now bs) (sym region) c.clear_roles.ensures.starts)))

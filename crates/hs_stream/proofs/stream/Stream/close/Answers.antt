@@ -1,16 +1,11 @@
 use Rattle.std.proofs.Common.{subst}
 use Rattle.hs_limex.specs.declared.limex.Limex.{Limex}
 use Rattle.hs_rose.specs.declared.program.Program.{Program}
-use Rattle.hs_compile.specs.Databases.{IsEngineOf}
 use Rattle.hs_run.specs.Events.{Takes}
 use Rattle.hs_run.specs.Feeding.{Finishes}
-use Rattle.hs_compile.specs.Engines.{Keeps}
-use Rattle.hs_stream.proofs.DatabaseLemmas.{usable-runs}
+use Rattle.hs_compile.specs.Engines.{meaning_of}
 use Rattle.hs_stream.proofs.stream.Stream.close.Goals as goal
 
 pub returns-clause-told : goal.returns-clause-told
 returns-clause-told g c =
-    subst (λ (p : Program Limex). Takes g.V.Events.tells c.args.events.now c.finish.new.events (Finishes IsEngineOf Keeps p c.args.self.state)) c.program.ensures c.finish.ensures.taken
-
-pub finish-requires-clause-runs : goal.finish-requires-clause-runs
-finish-requires-clause-runs g c = usable-runs c.args.db.now c.program.result.now c.program.ensures c.requires.usable
+    subst (λ (p : Program Limex). Takes g.V.Events.tells c.args.events.now c.finish.new.events (Finishes meaning_of p c.args.self.state)) c.program.ensures c.finish.ensures.taken

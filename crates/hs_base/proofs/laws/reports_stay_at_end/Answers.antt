@@ -1,5 +1,0 @@
-use Rattle.hs_base.proofs.ReportLemmas.{reports-ended}
-use Rattle.hs_base.proofs.laws.reports_stay_at_end.Goals as goal
-
-pub returns : goal.returns
-returns c = reports-ended

@@ -1,0 +1,3 @@
+pub mod UnionLemmas
+pub mod BitRangeLemmas
+pub mod WordLemmas

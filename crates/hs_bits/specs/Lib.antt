@@ -1,0 +1,2 @@
+pub mod BitRanges
+pub mod Shifts

@@ -1,0 +1,206 @@
+//! Bits in a row of words: 64 of them at a time.
+
+ghost use Rattle.std.specs.Prelude.{◌≡◌, ◌↔◌, ℕ, ◌+◌, ◌-◌, ◌*◌, ◌/◌, ◌%◌, ◌<◌, ◌≤◌, ◌^◌, true, false, IsTrue, ◌&&◌};
+ghost use Rattle.std.specs.Prelude.{◌||◌, ◌==◌, nat_lt, nat_le, length};
+ghost use Rattle.std.specs.Int.{bit_at};
+ghost use Rattle.hs_base.specs.Bits.{AreZero, has_bit, has_word_bit, word_count};
+ghost use Rattle.hs_bits.specs.Shifts.{is_shifted};
+
+use crate::bytes::BYTE_BITS;
+
+/// How many bits a word has.
+pub const WORD_BITS: usize = 64;
+/// How many bytes a word has.
+const WORD_LEN: usize = WORD_BITS / BYTE_BITS;
+
+/// How many words hold a bit for each of so many.
+pub fn word_count_for(count: usize) -> usize
+    requires { count < 2 ^ 63 }
+    ensures { result ≡ word_count count }
+{
+    (count + (WORD_BITS - 1)) / WORD_BITS
+}
+
+/// Whether the bit of that number is set.
+#[tactic(auto, using(std::proofs::lemmas::Nat::Bits::shr_and_one), unfolding(hs_base::specs::Bits::has_word_bit))]
+pub fn contains_word_bit(words: &[u64], bit: usize) -> bool
+    requires { bit < 64 * length words.now }
+    ensures { result ≡ has_word_bit words.now bit }
+{
+    (words[bit / WORD_BITS] >> (bit % WORD_BITS)) & 1 == 1
+}
+
+/// Sets the bit of that number.
+pub fn insert_word_bit(words: &mut [u64], bit: usize)
+    requires { bit < 64 * length words.old }
+    ensures len { length words.new ≡ length words.old }
+    ensures bits { (k : ℕ) → has_word_bit words.new k ≡ ((k == bit) || has_word_bit words.old k) }
+{
+    words[bit / WORD_BITS] |= 1 << (bit % WORD_BITS);
+}
+
+/// Sets the bit of that number, or unsets it.
+pub fn write_word_bit(words: &mut [u64], bit: usize, value: bool)
+    requires { bit < 64 * length words.old }
+    ensures len { length words.new ≡ length words.old }
+    ensures put { has_word_bit words.new bit ≡ value }
+    ensures others { (k : ℕ) → (k ≡ bit → ⊥) → has_word_bit words.new k ≡ has_word_bit words.old k }
+{
+    let at = bit / WORD_BITS;
+    words[at] = with_bit(words[at], bit % WORD_BITS, value);
+}
+
+/// The word with the bit of that number set, or not set.
+fn with_bit(word: u64, bit: usize, value: bool) -> u64
+    requires { bit < 64 }
+    ensures put { (bit_at result bit == 1) ≡ value }
+    ensures others { (i : ℕ) → i < 64 → (i ≡ bit → ⊥) → bit_at result i ≡ bit_at word i }
+{
+    let mask = 1u64 << bit;
+    if value { word | mask } else { word & !mask }
+}
+
+/// Whether no bit is set.
+pub fn is_unset(words: &[u64]) -> bool
+    ensures { IsTrue result ↔ AreZero words.now }
+{
+    words.iter().all(|word| *word == 0)
+}
+
+/// Sets the bits that are set in the bytes.
+pub fn unite_bytes(words: &mut [u64], bytes: &[u8])
+    requires { length bytes.now ≤ 8 * length words.old }
+    ensures len { length words.new ≡ length words.old }
+    ensures bits { (k : ℕ) → has_word_bit words.new k ≡ (has_bit bytes.now k || has_word_bit words.old k) }
+{
+    for place in 0..bytes.len() {
+        unite_byte(words, bytes, place);
+    }
+}
+
+/// Sets the bits that are set in that byte.
+fn unite_byte(words: &mut [u64], bytes: &[u8], place: usize)
+    requires place { place < length bytes.now }
+    requires room { place < 8 * length words.old }
+    ensures len { length words.new ≡ length words.old }
+    ensures bits { (k : ℕ) →
+        has_word_bit words.new k ≡ (((k / 8 == place) && has_bit bytes.now k) || has_word_bit words.old k) }
+{
+    words[place / WORD_LEN] |= (bytes[place] as u64) << (BYTE_BITS * (place % WORD_LEN));
+}
+
+/// Makes the bits of the bytes those of the words.
+pub fn store(words: &[u64], bytes: &mut [u8])
+    requires { length bytes.old ≤ 8 * length words.now }
+    ensures len { length bytes.new ≡ length bytes.old }
+    ensures bits { (k : ℕ) → has_bit bytes.new k ≡ (nat_lt k (8 * length bytes.old) && has_word_bit words.now k) }
+{
+    for place in 0..bytes.len() {
+        bytes[place] = byte_of(words, place);
+    }
+}
+
+/// The byte of that number.
+fn byte_of(words: &[u64], place: usize) -> u8
+    requires { place < 8 * length words.now }
+    ensures { (i : ℕ) → i < 8 → (bit_at result i == 1) ≡ has_word_bit words.now (8 * place + i) }
+{
+    ((words[place / WORD_LEN] >> (BYTE_BITS * (place % WORD_LEN))) & 0xff) as u8
+}
+
+/// Sets the bits that are set in the row too.
+pub fn unite_words(words: &mut [u64], row: &[u64])
+    requires { length row.now ≤ length words.old }
+    ensures len { length words.new ≡ length words.old }
+    ensures bits { (k : ℕ) → has_word_bit words.new k ≡ (has_word_bit row.now k || has_word_bit words.old k) }
+{
+    for place in 0..row.len() {
+        words[place] |= row[place];
+    }
+}
+
+/// Unsets the bits that aren't set in the row.
+pub fn keep_words(words: &mut [u64], row: &[u64])
+    requires { length row.now ≤ length words.old }
+    ensures len { length words.new ≡ length words.old }
+    ensures bits { (k : ℕ) →
+        k < 64 * length row.now →
+        has_word_bit words.new k ≡ (has_word_bit row.now k && has_word_bit words.old k) }
+{
+    for place in 0..row.len() {
+        words[place] &= row[place];
+    }
+}
+
+/// Whether no bit is set in both rows.
+pub fn are_apart(words: &[u64], row: &[u64]) -> bool
+    requires { length row.now ≤ length words.now }
+    ensures { IsTrue result ↔ ((k : ℕ) → (has_word_bit words.now k && has_word_bit row.now k) ≡ false) }
+{
+    for place in 0..row.len() {
+        if words[place] & row[place] != 0 {
+            return false;
+        }
+    }
+    true
+}
+
+/// Sets the bits that lie so many places behind one that is set in both rows.
+pub fn shift_in(live: &[u64], row: &[u64], distance: usize, led: &mut [u64])
+    requires live { length row.now ≤ length live.now }
+    requires led { length row.now ≤ length led.old }
+    requires near { distance < 64 }
+    ensures len { length led.new ≡ length led.old }
+    ensures bits { (k : ℕ) →
+        has_word_bit led.new k ≡
+        ((nat_lt k (64 * length row.now) && is_shifted live.now row.now distance k) || has_word_bit led.old k) }
+{
+    let mut carry = 0;
+    for place in 0..row.len() {
+        let moved = live[place] & row[place];
+        led[place] |= shifted(moved, distance, carry);
+        carry = carried(moved, distance);
+    }
+}
+
+/// The bits of the word so many places on, with those that come from the word before.
+fn shifted(word: u64, distance: usize, carry: u64) -> u64
+    requires { distance < 64 }
+    ensures { (i : ℕ) →
+        i < 64 →
+        (bit_at result i == 1) ≡ ((nat_le distance i && (bit_at word (i - distance) == 1)) || (bit_at carry i == 1)) }
+{
+    (word << distance) | carry
+}
+
+/// The bits that leave the word when they move so many places on.
+fn carried(word: u64, distance: usize) -> u64
+    requires { distance < 64 }
+    ensures { (i : ℕ) → (bit_at result i == 1) ≡ (nat_lt i distance && (bit_at word (64 - distance + i) == 1)) }
+{
+    (word >> 1) >> (WORD_BITS - 1 - distance)
+}
+
+#[cfg(test)]
+mod tests {
+    use super::{is_unset, word_count_for, write_word_bit};
+
+    #[test]
+    fn the_lowest_bit_of_a_word_comes_first(rt: HostRuntime) {
+        let mut words = [0u64; 3];
+        for bit in [0, 63, 64, 130] {
+            write_word_bit(&mut words, bit, true);
+        }
+        write_word_bit(&mut words, 63, false);
+        write_word_bit(&mut words, 129, false);
+        assert_eq!(rt; words, [1, 1, 4]);
+        assert!(rt; !is_unset(&words) && is_unset(&[0, 0]));
+    }
+
+    #[test]
+    fn words_hold_a_bit_for_each(rt: HostRuntime) {
+        for (count, wanted) in [(0, 0), (1, 1), (64, 1), (65, 2), (65_536, 1024)] {
+            assert_eq!(rt; word_count_for(count), wanted);
+        }
+    }
+}

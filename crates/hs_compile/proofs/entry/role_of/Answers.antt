@@ -1,0 +1,17 @@
+use Rattle.std.proofs.Common.{refl}
+use Rattle.hs_expr.specs.Meaning.{tree_of}
+use Rattle.hs_engine.proofs.AutomatonLemmas.{null-exact}
+use Rattle.hs_compile.proofs.entry.role_of.Goals as goal
+
+pub returns : goal.returns
+returns c = record {
+  run = record {
+    id = refl;
+    single = c.asks_single.ensures;
+    least = refl;
+    greatest = refl;
+    engine = c.in_ok-engine.ensures.runs (tree_of c.args.expr.now) c.in_ok-automaton.ensures.runs;
+    null = null-exact c.in_ok-automaton.automaton (tree_of c.args.expr.now) c.in_ok-automaton.ensures.runs;
+  };
+  small = c.in_ok-engine.ensures.width;
+}

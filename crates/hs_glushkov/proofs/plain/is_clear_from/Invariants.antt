@@ -1,6 +1,0 @@
-use Rattle.std.proofs.Common.{◌≡◌, ℕ, ◌<◌, ◌≤◌, false}
-use Rattle.hs_engine.specs.Bits.{has_bit}
-use Rattle.hs_glushkov.proofs.plain.is_clear_from.Given as goal
-
-abbrev pub invariant-loop-bit : goal.invariant-loop-bit
-invariant-loop-bit l = (k : ℕ) → l.first ≤ k → k < l.bit → has_bit l.region k ≡ false

@@ -1,0 +1,29 @@
+//! One judge for all that scans: rows of lists and streams, each run through the definitions as `hs_plain` computes
+//! them, through every engine that takes the expressions, through the runner and the streams in many cuts, and split
+//! into chains. `rows` has the rows and says how they are written. The crate is tests alone.
+#![tactic(auto)]
+
+#[cfg(test)]
+mod answers;
+#[cfg(test)]
+mod automata;
+#[cfg(test)]
+mod chains;
+#[cfg(test)]
+mod cuts;
+#[cfg(test)]
+mod engines;
+#[cfg(test)]
+mod judging;
+#[cfg(test)]
+mod reading;
+#[cfg(test)]
+mod rows;
+#[cfg(test)]
+mod running;
+#[cfg(test)]
+mod spans;
+#[cfg(test)]
+mod streaming;
+#[cfg(test)]
+mod tests;

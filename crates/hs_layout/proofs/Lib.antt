@@ -1,0 +1,5 @@
+pub mod StartLemmas
+pub mod WrittenLemmas
+pub mod HistoryLemmas
+pub mod LendingLemmas
+pub mod FieldLemmas

@@ -1,6 +1,0 @@
-use Rattle.std.proofs.Common.{arith}
-use Rattle.hs_limex.proofs.WordLemmas.{carried-bit}
-use Rattle.hs_limex.proofs.words.carried.Goals as goal
-
-pub returns : goal.returns
-returns c i = carried-bit c.args.word c.args.distance i c.requires (omega (arith, c.ranges.word.fits))

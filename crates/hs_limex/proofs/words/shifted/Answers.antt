@@ -1,5 +1,0 @@
-use Rattle.hs_limex.proofs.WordLemmas.{shifted-bit}
-use Rattle.hs_limex.proofs.words.shifted.Goals as goal
-
-pub returns : goal.returns
-returns c i below = shifted-bit c.args.word c.args.distance c.args.carry i below

@@ -1,0 +1,4 @@
+pub mod EndingLemmas
+pub mod OnceLemmas
+pub mod InfoLemmas
+pub mod WritableLemmas

@@ -1,0 +1,5 @@
+pub mod Causes
+pub mod ListKinds
+pub mod Accepting
+pub mod Endings
+pub mod Loading

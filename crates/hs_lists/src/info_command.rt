@@ -1,0 +1,48 @@
+//! The command `info DB`.
+ghost use Rattle.std.specs.Prelude.{◌≡◌};
+ghost use Rattle.hs_outside.specs.Sink.{Sends};
+ghost use Rattle.hs_text.specs.AnswerLines.{info_lines as lines_of_info};
+ghost use Rattle.hs_lists.specs.ListKinds.{database_file};
+ghost use Rattle.hs_lists.specs.Causes.{outcome_of};
+ghost use Rattle.hs_lists.specs.Endings.{TellEnds, IsInfoText, outside_of};
+
+use crate::fault::Fault;
+use crate::loading::{ListKind, load};
+use hs_outside::{Failed, Sink, Store, write_all};
+use hs_text::{LINE_LEN, info_lines};
+use std::alloc::Global;
+
+/// Writes what the database file holds: its version, how many expressions, and how many identifiers they have.
+pub fn tell_database<'a, S: Store, O: Sink>(
+    alloc: Global,
+    database: &'a str,
+    store: &mut S,
+    out: &mut O,
+) -> Result<(), Fault<'a>>
+    ensures ends { TellEnds IsInfoText database_file database.now
+        (outside_of (S.told store.old) (S.faults store.old) (O.written out.old) (O.faults out.old))
+        (outside_of (S.told store.new) (S.faults store.new) (O.written out.new) (O.faults out.new))
+        (outcome_of result) }
+    ensures kept { S.told store.new ≡ S.told store.old }
+{
+    let loaded = match load(alloc, ListKind::Database, database, store) {
+        Ok(loaded) => loaded,
+        Err(fault) => return Err(fault),
+    };
+    let expressions = loaded.entries.len() as u64;
+    let identifiers = loaded.database.program().identifiers().len() as u64;
+    match write_info(expressions, identifiers, out) {
+        Ok(()) => Ok(()),
+        Err(Failed) => Err(Fault::Write),
+    }
+}
+
+/// Writes the lines `version 1`, `expressions N` and `identifiers K`.
+fn write_info<O: Sink>(expressions: u64, identifiers: u64, out: &mut O) -> Result<(), Failed>
+    ensures { Sends result (O.written out.old) (O.written out.new) (O.faults out.old) (O.faults out.new)
+        (lines_of_info expressions identifiers) }
+{
+    let mut lines = [0; LINE_LEN];
+    let len = info_lines(expressions, identifiers, &mut lines);
+    write_all(out, &lines[..len])
+}

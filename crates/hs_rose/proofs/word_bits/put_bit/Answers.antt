@@ -1,9 +1,0 @@
-use Rattle.std.proofs.Common.{◌∙◌}
-use Rattle.hs_rose.proofs.WordBitLemmas.{written-bit, kept-bit}
-use Rattle.hs_rose.proofs.word_bits.put_bit.Goals as goal
-
-pub returns-clause-put : goal.returns-clause-put
-returns-clause-put c = written-bit c.args.words.now c.args.bit c.with_bit.result c.requires ∙ c.with_bit.ensures.put
-
-pub returns-clause-others : goal.returns-clause-others
-returns-clause-others c = kept-bit c.args.words.now c.args.bit c.with_bit.result c.requires c.with_bit.ensures.others

@@ -1,4 +1,0 @@
-pub mod PassLemmas
-pub mod ScanLemmas
-pub mod FeedLemmas
-pub mod CloseLemmas

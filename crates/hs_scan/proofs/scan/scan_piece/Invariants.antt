@@ -1,5 +1,0 @@
-use Rattle.hs_scan.proofs.scan.scan_piece.Given as goal
-
--- the ledger is that of the blank which is handed over
-abbrev pub ghosts-scan_counted : goal.ghosts-scan_counted
-ghosts-scan_counted g a = record { name = a.blank.name; parts = a.blank.parts }

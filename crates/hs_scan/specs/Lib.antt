@@ -1,4 +1,0 @@
-pub mod Running
-pub mod Passing
-pub mod Printing
-pub mod Scanning

@@ -1,7 +1,0 @@
-use Rattle.hs_outside.proofs.Taking.{Gave-nothing}
-use Rattle.hs_outside.proofs.Sending.{Took-nothing}
-use Rattle.hs_session.specs.Serving.{no_memory}
-use Rattle.hs_session.proofs.session.serve.Goals as goal
-
-pub returns-in-Err-clause-ends : goal.returns-in-Err-clause-ends
-returns-in-Err-clause-ends g c = no_memory (Gave-nothing (g.I.Source.left c.args.input.now)) (Took-nothing (g.O.Sink.written c.args.out.now))

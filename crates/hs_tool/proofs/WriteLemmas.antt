@@ -1,0 +1,98 @@
+-- What a write makes of the machine.
+use Rattle.std.proofs.Common.{◌≡◌, ℕ, Bool, false, List, [], ◌∷◌, ◌++◌, length, Option, None, Some, Result, sym, subst, arith}
+use Rattle.hs_base.specs.Patterns.{Pattern}
+use Rattle.hs_base.specs.Told.{Pair}
+use Rattle.hs_text.specs.declared.commands.Verb.TheVariants as verb
+use Rattle.hs_text.specs.declared.reply_lines.Word.TheVariants as word
+use Rattle.hs_text.specs.declared.reply_lines.Reply.{Reply}
+use Rattle.hs_text.specs.declared.reply_lines.Reply.TheVariants.{No}
+use Rattle.hs_compile.specs.declared.database.Database.{Database}
+use Rattle.hs_compile.specs.Databases.{IsDatabaseOf}
+use Rattle.hs_stream.specs.declared.stream.Stream.{Stream}
+use Rattle.hs_stream.specs.Standing.{Stands}
+use Rattle.hs_stream.proofs.StandLemmas.{write-moves}
+use Rattle.hs_script.specs.Actions.{Write, Cut}
+use Rattle.hs_script.specs.Machine.{Answer, done, refused, unanswered, Moves}
+use Rattle.hs_script.specs.Machine as move
+use Rattle.hs_reader.specs.declared.fault.Break.{Break}
+use Rattle.hs_tool.specs.declared.session.payload.Payload.{Payload}
+use Rattle.hs_tool.specs.declared.session.streams.Streams.{Streams}
+use Rattle.hs_reader.specs.Reading.{Ahead}
+use Rattle.hs_reader.specs.Breaks.{is_lost}
+use Rattle.hs_lines.specs.Passing.{Passes}
+use Rattle.hs_tool.specs.OpenStreams.{stream_at, PutsStream, Performs}
+use Rattle.hs_tool.specs.Payloads.{Turns, too_long, turned, IsPayloadRefused, IsPayloadWritten, IsPayloadTaken}
+use Rattle.hs_lines.proofs.PassLemmas.{passed-nothing}
+use Rattle.hs_tool.proofs.OpenLemmas.{performs-unopened, performs-opened}
+
+-- all came
+pub performs-written : {db : Database} {old now : Streams} {stream stream' : Stream} {pairs : List Pair} {reply : Reply} (name : List ℕ) (count : ℕ) (came : List ℕ) → stream_at old name ≡ Some stream → PutsStream old now name (Some stream') → Turns db count stream stream' came pairs reply → length came ≡ count → Performs db old now (Write name came ∷ []) (record { reports = pairs; reply = Some reply } ∷ [])
+performs-written {db} {old} {now} {stream} {stream'} name count came known puts (too_long long same) all =
+    performs-opened (Write name came) (refused verb.Write word.Length) stream (Some stream') known puts
+    (λ P h is stands. record {
+      h = Some h;
+      moves = move.too_long (omega (arith, long, all, stands.state.offset));
+      follows = subst (λ s. Stands db P h s) (sym same) stands;
+    })
+performs-written {db} {old} {now} {stream} {stream'} name count came known puts (turned {pairs = pairs} room writes) all =
+    subst (λ n. Performs db old now (Write name came ∷ []) (done verb.Write pairs (Some n) ∷ [])) all
+    (performs-opened (Write name came) (done verb.Write pairs (Some (length came))) stream (Some stream') known puts
+    (λ P h is stands. record {
+      h = Some (h ++ came);
+      moves = move.written (omega (arith, room, all, stands.state.offset)) (write-moves db P h came stream stream' pairs stands writes).reports;
+      follows = (write-moves db P h came stream stream' pairs stands writes).stands;
+    }))
+
+-- not all, or it isn't known
+pub performs-cut : {db : Database} {old now : Streams} {stream stream' : Stream} {pairs : List Pair} {reply : Reply} (name : List ℕ) (count : ℕ) (came : List ℕ) → stream_at old name ≡ Some stream → PutsStream old now name (Some stream') → Turns db count stream stream' came pairs reply → Performs db old now (Cut name count came ∷ []) (unanswered pairs ∷ [])
+performs-cut {db} {old} {now} {stream} {stream'} name count came known puts (too_long long same) =
+    performs-opened (Cut name count came) (unanswered []) stream (Some stream') known puts
+    (λ P h is stands. record {
+      h = Some h;
+      moves = move.cut_too_long (omega (arith, long, stands.state.offset));
+      follows = subst (λ s. Stands db P h s) (sym same) stands;
+    })
+performs-cut {db} {old} {now} {stream} {stream'} name count came known puts (turned {pairs = pairs} room writes) =
+    performs-opened (Cut name count came) (unanswered pairs) stream (Some stream') known puts
+    (λ P h is stands. record {
+      h = Some (h ++ came);
+      moves = move.cut_written (omega (arith, room, stands.state.offset)) (write-moves db P h came stream stream' pairs stands writes).reports;
+      follows = (write-moves db P h came stream stream' pairs stands writes).stands;
+    })
+
+-- nothing is sent where the sink isn't asked
+pub sends-none : (lost : Bool) (taken : Option (List ℕ)) (waited : List ℕ) → lost ≡ false → Passes lost taken taken waited waited []
+sends-none lost taken waited kept = subst (λ b. Passes b taken taken waited waited []) (sym kept) (passed-nothing taken waited)
+
+-- the stream isn't open
+pub payload-unknown : {db : Database} {old now : Streams} {name : List ℕ} {count : ℕ} {before after : Option (List ℕ)} {ahead aheads : Ahead} {outcome : Result Payload Break} (key : List ℕ) (out : Option (List ℕ)) (waited : List ℕ) → key ≡ name → stream_at old key ≡ None → PutsStream old now key None → IsPayloadRefused word.Unknown count before after ahead aheads outcome → IsPayloadTaken db name count old now before after ahead aheads out out waited waited outcome
+payload-unknown {db} {old} {now} {name} {count} {outcome = outcome} key out waited same unknown puts refuses =
+    let came = refuses.come.came in
+    let none : stream_at old name ≡ None = subst (λ n. stream_at old n ≡ None) same unknown in
+    let kept : PutsStream old now name None = subst (λ n. PutsStream old now n None) same puts in
+    record {
+      came = came;
+      pairs = [];
+      reply = No verb.Write word.Unknown;
+      comes = refuses.come.comes;
+      all = λ e. performs-unopened (Write name came) (refused verb.Write word.Unknown) none kept (λ P. move.write_unknown);
+      part = performs-unopened (Cut name count came) (unanswered []) none kept (λ P. move.cut_unknown);
+      due = refuses.due;
+      sends = sends-none (is_lost outcome) out waited refuses.kept;
+    }
+
+-- the stream is open
+pub payload-known : {db : Database} {old now : Streams} {name : List ℕ} {count : ℕ} {stream stream' : Stream} {before after : Option (List ℕ)} {ahead aheads : Ahead} {out outs : Option (List ℕ)} {waited waits : List ℕ} {outcome : Result Payload Break} (key : List ℕ) → key ≡ name → stream_at old key ≡ Some stream → PutsStream old now key (Some stream') → IsPayloadWritten db name count stream stream' before after ahead aheads out outs waited waits outcome → IsPayloadTaken db name count old now before after ahead aheads out outs waited waits outcome
+payload-known {db} {old} {now} {name} {count} {stream} {stream'} key same known puts writes =
+    let here : stream_at old name ≡ Some stream = subst (λ n. stream_at old n ≡ Some stream) same known in
+    let put : PutsStream old now name (Some stream') = subst (λ n. PutsStream old now n (Some stream')) same puts in
+    record {
+      came = writes.came;
+      pairs = writes.pairs;
+      reply = writes.reply;
+      comes = writes.comes;
+      all = λ e. performs-written name count writes.came here put writes.turns e;
+      part = performs-cut name count writes.came here put writes.turns;
+      due = writes.due;
+      sends = writes.sends;
+    }

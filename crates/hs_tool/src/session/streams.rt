@@ -1,0 +1,122 @@
+//! The open streams, by name.
+ghost use Rattle.std.specs.Prelude.{◌≡◌, ◌≢◌, ℕ, List, Option, None, Some, [], ◌∷◌, OnOk, OnErr, IsTrue, ◌↔◌};
+ghost use Rattle.hs_run.specs.Events.{Takes};
+ghost use Rattle.hs_stream.specs.Scratches.{IsScratchOf};
+ghost use Rattle.hs_script.specs.Actions.{Open, Reset, Close};
+
+use hs_compile::Database;
+use hs_engine::Steps;
+use hs_stream::{Events, Scratch, Stream};
+use hs_text::{Reply, Verb, Word};
+use std::alloc::{AllocError, Global};
+use std::collections::BTreeMap;
+use std::sync::ledger::Ledger;
+
+/// How many streams are open at most.
+const MAX_STREAMS: usize = 4096;
+
+/// The open streams, by name.
+#[derive(Drop)]
+pub struct Streams {
+    pub(crate) map: BTreeMap<Vec<u8>, Stream>,
+}
+
+impl Streams {
+    ghost use Rattle.hs_tool.specs.OpenStreams.{stream_at, count_of, AreStreamsOf, PutsStream, Adds, Performs};
+
+    /// No stream is open.
+    pub(crate) fn new(alloc: Global) -> Streams
+        ensures none { (name : List ℕ) → stream_at result name ≡ None }
+        ensures count { count_of result ≡ 0 }
+    {
+        Streams {
+            map: BTreeMap::new(alloc),
+        }
+    }
+
+    /// Opens a stream of that name.
+    pub(crate) fn open(&mut self, alloc: Global, db: &Database, name: &[u8]) -> Reply
+        requires fits { AreStreamsOf db.now self.old }
+        ensures fits { AreStreamsOf db.now self.new }
+        ensures performs { Performs db.now self.old self.new (Open name.now ∷ []) (record {
+          reports = [];
+          reply =
+              Some result;
+        } ∷ []) }
+    {
+        if self.map.contains_key(name) {
+            return Reply::No(Verb::Open, Word::Exists);
+        }
+        if self.map.len() >= MAX_STREAMS {
+            return Reply::No(Verb::Open, Word::Full);
+        }
+        match self.add(alloc, db, name) {
+            Ok(()) => Reply::Done(Verb::Open, None),
+            Err(_) => Reply::No(Verb::Open, Word::Memory),
+        }
+    }
+
+    /// Adds an empty stream of a name that isn't open. The error is want of memory, and changes nothing.
+    fn add(&mut self, alloc: Global, db: &Database, name: &[u8]) -> Result<(), AllocError>
+        requires unknown { stream_at self.old name.now ≡ None }
+        ensures added { OnOk result (Adds db.now self.old self.new name.now) }
+        ensures unchanged { OnErr result (PutsStream self.old self.new name.now None) }
+    {
+        let key = Vec::from_slice(alloc, name)?;
+        let stream = Stream::open(alloc, db)?;
+        self.map.insert(key, stream)?;
+        Ok(())
+    }
+
+    /// Resets the stream of that name.
+    pub(crate) fn reset<V: Events, L: Ledger>(
+        &mut self,
+        db: &Database,
+        scratch: &mut Scratch,
+        name: &[u8],
+        events: &mut V,
+        steps: &mut Steps<L>,
+    ) -> Reply
+        requires fits { AreStreamsOf db.now self.old }
+        requires scratch { IsScratchOf db.now scratch.old }
+        ensures fits { AreStreamsOf db.now self.new }
+        ensures scratch { IsScratchOf db.now scratch.new }
+        ensures performs { Takes V.tells events.old events.new
+            (λ pairs. Performs db.now self.old self.new (Reset name.now ∷ [])
+            (record { reports = pairs; reply = Some result } ∷ [])) }
+    {
+        match self.map.get_mut(name) {
+            None => Reply::No(Verb::Reset, Word::Unknown),
+            Some(stream) => {
+                stream.reset(db, scratch, events, steps);
+                Reply::Done(Verb::Reset, None)
+            }
+        }
+    }
+
+    /// Closes the stream of that name.
+    pub(crate) fn close<V: Events, L: Ledger>(
+        &mut self,
+        db: &Database,
+        scratch: &mut Scratch,
+        name: &[u8],
+        events: &mut V,
+        steps: &mut Steps<L>,
+    ) -> Reply
+        requires fits { AreStreamsOf db.now self.old }
+        requires scratch { IsScratchOf db.now scratch.old }
+        ensures fits { AreStreamsOf db.now self.new }
+        ensures scratch { IsScratchOf db.now scratch.new }
+        ensures performs { Takes V.tells events.old events.new
+            (λ pairs. Performs db.now self.old self.new (Close name.now ∷ [])
+            (record { reports = pairs; reply = Some result } ∷ [])) }
+    {
+        match self.map.remove(name) {
+            None => Reply::No(Verb::Close, Word::Unknown),
+            Some(stream) => {
+                stream.close(db, scratch, events, steps);
+                Reply::Done(Verb::Close, None)
+            }
+        }
+    }
+}
