@@ -5,7 +5,7 @@ use Rattle.hs_base.specs.Lists.{Each}
 use Rattle.hs_base.specs.Patterns.{Pattern}
 use Rattle.hs_dbfile.specs.Files.{AreEncodable}
 use Rattle.hs_limex.specs.declared.limex.Limex.{Limex}
-use Rattle.hs_rose.specs.declared.program.Role.{Role}
+use Rattle.hs_whole.specs.declared.program.Role.{Role}
 use Rattle.hs_compile.specs.Lists.{AreAcceptedFrom}
 use Rattle.hs_compile.specs.Answers.{AreCompiled}
 

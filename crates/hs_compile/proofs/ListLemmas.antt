@@ -9,9 +9,9 @@ use Rattle.hs_base.specs.declared.refusal.Refusal.TheVariants.{CountLimit, Mixed
 use Rattle.hs_base.specs.Entries.{listed}
 use Rattle.hs_base.proofs.ListLemmas.{each-append}
 use Rattle.hs_limex.specs.declared.limex.Limex.{Limex}
-use Rattle.hs_rose.specs.declared.program.Role.{Role}
-use Rattle.hs_rose.specs.Roles.{RunsPattern}
-use Rattle.hs_rose.proofs.RoleLemmas.{all_zip-push}
+use Rattle.hs_whole.specs.declared.program.Role.{Role}
+use Rattle.hs_whole.specs.Roles.{RunsPattern}
+use Rattle.hs_whole.proofs.RoleLemmas.{all_zip-push}
 use Rattle.hs_compile.specs.declared.fault.CompileFault.{CompileFault}
 use Rattle.hs_compile.specs.declared.fault.CompileFault.TheVariants.{Refused, Memory}
 use Rattle.hs_compile.specs.Engines.{meaning_of}

@@ -5,8 +5,8 @@ use Rattle.hs_base.specs.Entries.{ListedEntry}
 use Rattle.hs_base.specs.Refusals.{number_of}
 use Rattle.hs_base.specs.Patterns.{Pattern}
 use Rattle.hs_limex.specs.declared.limex.Limex.{Limex}
-use Rattle.hs_rose.specs.declared.program.Role.{Role}
-use Rattle.hs_rose.specs.Roles.{RunsPattern, RunPatterns}
+use Rattle.hs_whole.specs.declared.program.Role.{Role}
+use Rattle.hs_whole.specs.Roles.{RunsPattern, RunPatterns}
 use Rattle.hs_base.specs.Lists.{Each}
 use Rattle.hs_compile.specs.declared.database.Database.{Database}
 use Rattle.hs_compile.specs.declared.fault.CompileFault.{CompileFault}

@@ -2,8 +2,8 @@
 use Rattle.std.specs.Prelude.{ℕ, List}
 use Rattle.hs_base.specs.Patterns.{Pattern}
 use Rattle.hs_limex.specs.declared.limex.Limex.{Limex}
-use Rattle.hs_rose.specs.Programs.{Tables}
-use Rattle.hs_rose.specs.Runnable.{IsProgramOf}
+use Rattle.hs_whole.specs.Programs.{Tables}
+use Rattle.hs_whole.specs.Runnable.{IsProgramOf}
 use Rattle.hs_compile.specs.Engines.{meaning_of}
 use Rattle.hs_compile.specs.declared.database.Database.{Database}
 

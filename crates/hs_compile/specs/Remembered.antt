@@ -6,7 +6,7 @@ use Rattle.hs_base.specs.Entries.{ListedEntry}
 use Rattle.hs_base.specs.Lists.{OneOf, Each}
 use Rattle.hs_compile.specs.declared.seen.Seen.{Seen}
 use Rattle.hs_limex.specs.declared.limex.Limex.{Limex}
-use Rattle.hs_rose.specs.declared.program.Role.{Role}
+use Rattle.hs_whole.specs.declared.program.Role.{Role}
 use Rattle.hs_compile.specs.Lists.{asks_single}
 use Rattle.hs_compile.specs.Answers.{AreCompiled}
 

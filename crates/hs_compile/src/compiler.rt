@@ -13,7 +13,7 @@ use crate::seen::Seen;
 use hs_base::Entry;
 use hs_dbfile::digest;
 use hs_limex::Limex;
-use hs_rose::{Program, Role};
+use hs_whole::{Program, Role};
 use std::alloc::Global;
 
 /// The most entries of a list.

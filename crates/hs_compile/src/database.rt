@@ -3,7 +3,7 @@ ghost use Rattle.std.specs.Prelude.{◌≡◌};
 ghost use Rattle.hs_compile.specs.Databases.{program_of, digest_of};
 
 use hs_limex::Limex;
-use hs_rose::Program;
+use hs_whole::Program;
 
 /// What scans the expressions of a list.
 #[derive(Debug, Drop)]

@@ -20,8 +20,8 @@ use hs_expr::Expr;
 use hs_glushkov::build;
 use hs_limex::Limex;
 use hs_parse::{ParseFault, parse};
-use hs_rose::Role;
 use hs_support::{check, flags_fault};
+use hs_whole::Role;
 use std::alloc::{AllocError, Global};
 
 /// The role of the expression of the entry of that number, counted from 1, behind those that were seen.

@@ -1,8 +1,8 @@
 //! Lists through the runner, each by one kind of engine. It is `#[cfg(test)]`.
 ghost use Rattle.std.specs.Prelude.{◌≡◌, ◌<◌, ◌≤◌, ◌^◌, IsTrue};
 ghost use Rattle.std.specs.List.{All};
-ghost use Rattle.hs_run.specs.Feeding.{FitsScratch};
-ghost use Rattle.hs_run.specs.States.{FitsState};
+ghost use Rattle.hs_whole_run.specs.Feeding.{FitsScratch};
+ghost use Rattle.hs_whole_run.specs.States.{FitsState};
 
 use crate::answers::Answer;
 use crate::cuts::{Cuts, cuts_of};
@@ -10,8 +10,8 @@ use crate::engines::Judged;
 use crate::reading::Stream;
 use hs_engine::{Engine, Steps};
 use hs_plain::Pattern;
-use hs_rose::{Program, Role};
-use hs_run::{Collected, Scratch, State, feed, finish};
+use hs_whole::{Program, Role};
+use hs_whole_run::{Collected, Scratch, State, feed, finish};
 use std::alloc::Global;
 use std::marker::Brand;
 use std::process::Abort;

@@ -6,9 +6,9 @@ use Rattle.hs_base.specs.Entries.{ListedEntry}
 use Rattle.hs_base.specs.Patterns.{Pattern}
 use Rattle.hs_base.proofs.ListLemmas.{member-map, map-member}
 use Rattle.hs_text.specs.AnswerLines.{info_lines}
-use Rattle.hs_rose.specs.declared.program.Identifier.{Identifier}
-use Rattle.hs_rose.specs.Programs.{identifiers_of}
-use Rattle.hs_rose.specs.Roles.{ids_of}
+use Rattle.hs_whole.specs.declared.program.Identifier.{Identifier}
+use Rattle.hs_whole.specs.Programs.{identifiers_of}
+use Rattle.hs_whole.specs.Roles.{ids_of}
 use Rattle.hs_compile.specs.declared.database.Database.{Database}
 use Rattle.hs_compile.specs.Databases.{IsDatabaseOf, program_of}
 use Rattle.hs_compile.specs.Lists.{AreAcceptedFrom, AreAcceptedAs}

@@ -4,7 +4,7 @@ use Rattle.hs_base.specs.Told.{Pair}
 use Rattle.hs_compile.specs.declared.database.Database.{Database}
 use Rattle.hs_compile.specs.Databases.{program_of}
 use Rattle.hs_compile.specs.Engines.{meaning_of}
-use Rattle.hs_run.proofs.FeedLemmas.{feeds-none, feeds-more}
+use Rattle.hs_whole_run.proofs.FeedLemmas.{feeds-none, feeds-more}
 use Rattle.hs_stream.specs.declared.stream.Stream.{Stream}
 use Rattle.hs_stream.specs.Fitting.{state_of}
 use Rattle.hs_stream.specs.Streams.{Writes}

@@ -5,8 +5,8 @@ use Rattle.hs_engine.specs.Engines.{Meaning}
 use Rattle.hs_base.specs.Patterns.{Pattern}
 use Rattle.hs_base.proofs.NewLemmas.{told_start}
 use Rattle.hs_base.proofs.ToldLemmas.{new-once, last-once}
-use Rattle.hs_run.specs.Feeding.{Feeds, IsFed}
-use Rattle.hs_run.proofs.FeedLemmas.{feeds-none, feeds-more}
+use Rattle.hs_whole_run.specs.Feeding.{Feeds, IsFed}
+use Rattle.hs_whole_run.proofs.FeedLemmas.{feeds-none, feeds-more}
 use Rattle.hs_stream.specs.Writing.{joined, none, more, WritesJoin, CutsTellNothing, StartsAreAlike}
 
 joined-more : (pieces : List (List ℕ)) (piece : List ℕ) → joined (pieces ++ piece ∷ []) ≡ joined pieces ++ piece

@@ -1,9 +1,9 @@
 -- A stream, seen as its state and a digest, over any database: a program and a digest.
 use Rattle.hs_engine.specs.Engines.{Meaning}
 use Rattle.std.specs.Prelude.{◌≡◌, ℕ, List}
-use Rattle.hs_rose.specs.declared.program.Program.{Program}
-use Rattle.hs_run.specs.declared.state.State.{State}
-use Rattle.hs_run.specs.States.{FitsState}
+use Rattle.hs_whole.specs.declared.program.Program.{Program}
+use Rattle.hs_whole_run.specs.declared.state.State.{State}
+use Rattle.hs_whole_run.specs.States.{FitsState}
 use Rattle.hs_stream.specs.declared.stream.Stream.{Stream}
 
 -- what is kept of its bytes

@@ -4,8 +4,8 @@ use Rattle.hs_base.specs.Patterns.{Pattern}
 use Rattle.hs_base.specs.Told.{Pair, IsTold, IsNew, IsLast}
 use Rattle.hs_compile.specs.declared.database.Database.{Database}
 use Rattle.hs_compile.specs.Databases.{program_of, IsDatabaseOf}
-use Rattle.hs_rose.specs.Runnable.{IsProgramOf}
-use Rattle.hs_run.specs.States.{IsStateOf}
+use Rattle.hs_whole.specs.Runnable.{IsProgramOf}
+use Rattle.hs_whole_run.specs.States.{IsStateOf}
 use Rattle.hs_stream.specs.declared.stream.Stream.{Stream}
 use Rattle.hs_compile.specs.Engines.{meaning_of}
 use Rattle.hs_stream.specs.Fitting.{state_of}

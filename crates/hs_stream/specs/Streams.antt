@@ -3,8 +3,8 @@ use Rattle.std.specs.Prelude.{ℕ, List}
 use Rattle.hs_base.specs.Told.{Pair}
 use Rattle.hs_compile.specs.declared.database.Database.{Database}
 use Rattle.hs_compile.specs.Databases.{program_of, digest_of as database_digest}
-use Rattle.hs_run.specs.States.{state_offset}
-use Rattle.hs_run.specs.Feeding.{Feeds, Finishes}
+use Rattle.hs_whole_run.specs.States.{state_offset}
+use Rattle.hs_whole_run.specs.Feeding.{Feeds, Finishes}
 use Rattle.hs_stream.specs.declared.stream.Stream.{Stream}
 use Rattle.hs_compile.specs.Engines.{meaning_of}
 use Rattle.hs_stream.specs.Fitting.{state_of, Fits}

@@ -3,11 +3,11 @@ use Rattle.std.specs.Prelude.{◌≡◌, ℕ, Bool, List, [], ◌∷◌, ◌++�
 use Rattle.hs_engine.specs.Engines.{Meaning}
 use Rattle.hs_base.specs.Patterns.{Pattern}
 use Rattle.hs_base.specs.Told.{Pair, IsTold}
-use Rattle.hs_rose.specs.declared.program.Program.{Program}
-use Rattle.hs_run.specs.declared.state.State.{State}
-use Rattle.hs_rose.specs.Runnable.{IsProgramOf}
-use Rattle.hs_run.specs.States.{IsStateOf}
-use Rattle.hs_run.specs.Feeding.{Feeds, Finishes}
+use Rattle.hs_whole.specs.declared.program.Program.{Program}
+use Rattle.hs_whole_run.specs.declared.state.State.{State}
+use Rattle.hs_whole.specs.Runnable.{IsProgramOf}
+use Rattle.hs_whole_run.specs.States.{IsStateOf}
+use Rattle.hs_whole_run.specs.Feeding.{Feeds, Finishes}
 
 -- the bytes of the pieces, one after another
 abbrev pub joined : List (List ℕ) → List ℕ

@@ -8,6 +8,6 @@ mod stream;
 #[cfg(test)]
 mod tests;
 
-pub use hs_run::{Collected, Events};
+pub use hs_whole_run::{Collected, Events};
 pub use scratch::Scratch;
 pub use stream::{Stream, StreamFull};

@@ -1,8 +1,8 @@
 //! One stream.
 ghost use Rattle.std.specs.Prelude.{◌≡◌, ◌↔◌, ◌+◌, ◌*◌, ◌<◌, ◌≤◌, length, IsTrue, IsErr, IfOk, OnOk, OnErr};
 ghost use Rattle.hs_compile.specs.Databases.{program_of};
-ghost use Rattle.hs_rose.specs.Programs.{roles_of};
-ghost use Rattle.hs_run.specs.Events.{Takes};
+ghost use Rattle.hs_whole.specs.Programs.{roles_of};
+ghost use Rattle.hs_whole_run.specs.Events.{Takes};
 ghost use Rattle.hs_base.specs.Offsets.{greatest_offset};
 ghost use Rattle.hs_stream.specs.Scratches.{IsScratchOf};
 
@@ -10,7 +10,7 @@ use crate::scratch::Scratch;
 use hs_base::MAX_OFFSET;
 use hs_compile::Database;
 use hs_engine::Steps;
-use hs_run::{Events, State, feed, finish};
+use hs_whole_run::{Events, State, feed, finish};
 use std::alloc::{AllocError, Global};
 use std::sync::ledger::Ledger;
 use thiserror::Error;

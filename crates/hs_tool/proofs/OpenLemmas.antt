@@ -9,7 +9,7 @@ use Rattle.std.specs.Ordering.{nat_cmp}
 use Rattle.std.specs.Cmp.Lexicographic.{slice_cmp}
 use Rattle.hs_base.specs.Patterns.{Pattern}
 use Rattle.hs_base.specs.Told.{Pair}
-use Rattle.hs_run.specs.Events.{Takes, still}
+use Rattle.hs_whole_run.specs.Events.{Takes, still}
 use Rattle.hs_text.specs.declared.commands.Verb.TheVariants as verb
 use Rattle.hs_text.specs.declared.reply_lines.Word.TheVariants as word
 use Rattle.hs_compile.specs.declared.database.Database.{Database}

@@ -1,5 +1,5 @@
 use Rattle.std.proofs.Common.{arith, subst, sym}
-use Rattle.hs_rose.specs.Runnable.{IsProgramOf}
+use Rattle.hs_whole.specs.Runnable.{IsProgramOf}
 use Rattle.hs_compile.specs.Engines.{meaning_of}
 use Rattle.hs_compile.proofs.ListLemmas.{few-roles}
 use Rattle.hs_compile.proofs.LengthLemmas.{encodable}

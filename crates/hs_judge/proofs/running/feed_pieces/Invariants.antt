@@ -1,5 +1,5 @@
-use Rattle.hs_run.specs.States.{FitsState}
-use Rattle.hs_run.specs.Feeding.{FitsScratch}
+use Rattle.hs_whole_run.specs.States.{FitsState}
+use Rattle.hs_whole_run.specs.Feeding.{FitsScratch}
 use Rattle.hs_judge.proofs.running.feed_pieces.Given as goal
 
 abbrev pub invariant-loop-at : goal.invariant-loop-at

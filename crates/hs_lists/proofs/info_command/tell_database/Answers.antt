@@ -4,7 +4,7 @@ use Rattle.hs_base.specs.Entries.{listed}
 use Rattle.hs_outside.specs.Sink.{Took, TookPrefix}
 use Rattle.hs_outside.proofs.Sending.{Took-nothing}
 use Rattle.hs_text.specs.AnswerLines.{info_lines}
-use Rattle.hs_rose.specs.Programs.{identifiers_of}
+use Rattle.hs_whole.specs.Programs.{identifiers_of}
 use Rattle.hs_compile.specs.Databases.{program_of}
 use Rattle.hs_lists.specs.Loading.{entries_of}
 use Rattle.hs_lists.specs.Endings

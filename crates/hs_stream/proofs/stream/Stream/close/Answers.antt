@@ -1,8 +1,8 @@
 use Rattle.std.proofs.Common.{subst}
 use Rattle.hs_limex.specs.declared.limex.Limex.{Limex}
-use Rattle.hs_rose.specs.declared.program.Program.{Program}
-use Rattle.hs_run.specs.Events.{Takes}
-use Rattle.hs_run.specs.Feeding.{Finishes}
+use Rattle.hs_whole.specs.declared.program.Program.{Program}
+use Rattle.hs_whole_run.specs.Events.{Takes}
+use Rattle.hs_whole_run.specs.Feeding.{Finishes}
 use Rattle.hs_compile.specs.Engines.{meaning_of}
 use Rattle.hs_stream.proofs.stream.Stream.close.Goals as goal
 

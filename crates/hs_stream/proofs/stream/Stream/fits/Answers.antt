@@ -1,7 +1,7 @@
 use Rattle.std.proofs.Common.{rules, sym, subst}
 use Rattle.hs_limex.specs.declared.limex.Limex.{Limex}
-use Rattle.hs_rose.specs.declared.program.Program.{Program}
-use Rattle.hs_run.specs.States.{FitsState}
+use Rattle.hs_whole.specs.declared.program.Program.{Program}
+use Rattle.hs_whole_run.specs.States.{FitsState}
 use Rattle.hs_compile.specs.Engines.{meaning_of}
 use Rattle.hs_stream.proofs.stream.Stream.fits.Goals as goal
 
