@@ -10,7 +10,7 @@ ghost use Rattle.hs_engine.specs.Automata.{in_mask, in_set};
 ghost use Rattle.hs_base.specs.Bits.{AreZero, has_bit};
 ghost use Rattle.hs_engine.specs.RowSizes.{row_len};
 ghost use Rattle.hs_engine.specs.AnyBelow.{any_below};
-ghost use Rattle.hs_engine.specs.Tables.{AreFirst, IsClearFrom, IsCopy, is_moved, leads_to};
+ghost use Rattle.hs_engine.specs.Tables.{AreFirst, IsClearFrom, is_moved, leads_to};
 
 use crate::first_bytes::first_bytes;
 use hs_base::{ByteSet, MAX_POSITIONS, Mask, Next, NextSet, Prev};
@@ -41,7 +41,7 @@ impl Plain {
         ensures of { automaton_of result ≡ automaton }
         ensures width { (meaning_of_plain result).width ≤ 64 }
     {
-        let first = first_bytes(&automaton.sets, &automaton.enters);
+        let first = first_bytes(automaton.sets(), automaton.enters());
         Plain { automaton, first }
     }
 
@@ -51,22 +51,8 @@ impl Plain {
         ensures runs { IfOk result (λ plain. (tree : Tree) → Runs automaton.now tree → Runs (automaton_of plain) tree) }
         ensures width { IfOk result (λ plain. (meaning_of_plain plain).width ≤ 64) }
     {
-        Ok(Plain::new(copy_of(alloc, automaton)?))
+        Ok(Plain::new(automaton.copy(alloc)?))
     }
-}
-
-/// A copy that shares no memory with the original.
-fn copy_of(alloc: Global, automaton: &Automaton) -> Result<Automaton, AllocError>
-    ensures { IfOk result (λ copy. IsCopy copy automaton.now) }
-{
-    Ok(Automaton {
-        sets: Vec::from_slice(alloc, &automaton.sets)?,
-        enters: Vec::from_slice(alloc, &automaton.enters)?,
-        accepts: Vec::from_slice(alloc, &automaton.accepts)?,
-        follows: automaton.follows.copy(alloc)?,
-        null: automaton.null,
-        has_assertion: automaton.has_assertion,
-    })
 }
 
 impl Engine for Plain {
@@ -75,7 +61,7 @@ impl Engine for Plain {
     ghost meaning = { λ e. automaton_meaning e.automaton };
 
     fn size(&self) -> usize {
-        (self.automaton.sets.len() + (BYTE_BITS - 1)) / BYTE_BITS
+        (self.automaton.size() + (BYTE_BITS - 1)) / BYTE_BITS
     }
 
     fn clear(&self, region: &mut [u8]) {
@@ -98,7 +84,7 @@ impl Engine for Plain {
             return;
         }
         let mut led = [0u8; MAX_REGION_LEN];
-        follow(&self.automaton.follows, region, prev, next, &mut led);
+        follow(self.automaton.follows(), region, prev, next, &mut led);
         clear_bits(region);
         settle(&self.automaton, &led, prev, next, entering, byte, region);
     }
@@ -107,7 +93,7 @@ impl Engine for Plain {
         if is_zero(region) {
             return NextSet::empty();
         }
-        accepted(&self.automaton.accepts, region, prev)
+        accepted(self.automaton.accepts(), region, prev)
     }
 
     fn at_rest(&self, region: &[u8]) -> bool {
@@ -119,7 +105,7 @@ impl Engine for Plain {
     }
 
     fn well_formed(&self, region: &[u8], _at: u64) -> bool {
-        is_clear_from(region, self.automaton.sets.len())
+        is_clear_from(region, self.automaton.size())
     }
 }
 
@@ -224,7 +210,7 @@ fn settle(
         is_moved automaton.now led.now (record { prev = prev; next = next }) entering byte k ≡ false) →
         region.new ≡ region.old }
 {
-    for position in 0..automaton.sets.len() {
+    for position in 0..automaton.size() {
         settle_one(automaton, led, position, prev, next, entering, byte, region);
     }
 }
@@ -271,8 +257,8 @@ fn leads(
     requires led { position < 8 * length led.now }
     ensures { result ≡ is_moved automaton.now led.now (record { prev = prev; next = next }) entering byte position }
 {
-    let entered = entering && mask_contains(&automaton.enters, position, prev, next);
-    (contains_bit(led, position) || entered) && set_contains(&automaton.sets, position, byte)
+    let entered = entering && mask_contains(automaton.enters(), position, prev, next);
+    (contains_bit(led, position) || entered) && set_contains(automaton.sets(), position, byte)
 }
 
 /// Whether the mask of that number has the context.

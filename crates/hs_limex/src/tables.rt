@@ -80,18 +80,18 @@ impl Tables {
     pub(crate) fn build(alloc: Global, automaton: &Automaton) -> Result<Tables, AllocError>
         ensures { IfOk result (λ tables. Fits tables automaton.now) }
     {
-        let size = automaton.sets.len();
+        let size = automaton.size();
         let width = word_count_for(size);
-        let follows = automaton.follows.copy(alloc)?;
+        let follows = automaton.follows().copy(alloc)?;
         let near = near_of(alloc, &follows, size, width)?;
         let span = span_of(&near);
         let far = far_of(alloc, &follows, size, width)?;
         Ok(Tables {
-            reach: reach_of(alloc, &automaton.sets, width)?,
-            enters: masks_of(alloc, &automaton.enters, width)?,
-            first: first_bytes(&automaton.sets, &automaton.enters),
-            accepts: masks_of(alloc, &automaton.accepts, width)?,
-            accepting: any_of(alloc, &automaton.accepts, width)?,
+            reach: reach_of(alloc, automaton.sets(), width)?,
+            enters: masks_of(alloc, automaton.enters(), width)?,
+            first: first_bytes(automaton.sets(), automaton.enters()),
+            accepts: masks_of(alloc, automaton.accepts(), width)?,
+            accepting: any_of(alloc, automaton.accepts(), width)?,
             near,
             span,
             far,
