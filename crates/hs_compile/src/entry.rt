@@ -137,6 +137,6 @@ fn role_of(alloc: Global, entry: &Entry, expr: &Expr) -> Result<Role<Limex>, All
         min_offset: entry.ext.min_offset,
         max_offset: entry.ext.max_offset,
         engine,
-        null: automaton.null,
+        null: automaton.null(),
     })
 }

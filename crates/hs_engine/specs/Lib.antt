@@ -1,5 +1,6 @@
 pub mod Engines
 pub mod RowSizes
+pub mod Between
 pub mod Rows
 pub mod Automata
 pub mod AnyBelow

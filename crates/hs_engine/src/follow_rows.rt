@@ -2,6 +2,7 @@
 
 ghost use Rattle.std.specs.Prelude.{◌≡◌, ℕ, ◌+◌, ◌*◌, ◌<◌, ◌≤◌, false, ◌&&◌, ◌||◌, ◌==◌, IfOk, length, vec_len};
 ghost use Rattle.hs_engine.specs.RowSizes.{class_number, row_len, square_count};
+ghost use Rattle.hs_engine.specs.Between.{between};
 
 use hs_base::{Next, Prev};
 use std::alloc::{AllocError, Global};
@@ -101,7 +102,7 @@ impl FollowRows {
         requires { position < self.now.size }
         ensures len { length result.now ≡ row_len self.now.size }
         ensures bits { (y : ℕ) →
-            has_bit result.now y ≡ in_row self.now position y (record { prev = prev; next = class }) }
+            has_bit result.now y ≡ in_row self.now position y (between prev class) }
     {
         let start = self.start(self.square(prev, class), position);
         &self.bits[start..start + row_len_of(self.size)]
@@ -109,7 +110,7 @@ impl FollowRows {
 
     /// The number of the square of a context.
     fn square(&self, prev: Prev, class: Next) -> usize
-        ensures number { result ≡ square_number self.now.by_context (record { prev = prev; next = class }) }
+        ensures number { result ≡ square_number self.now.by_context (between prev class) }
         ensures few { result < square_count self.now.by_context }
     {
         if self.by_context {

@@ -76,24 +76,21 @@ is-set (Some b) is = ap (λ z. Some z) is
 set-is : (o : Option Bool) → o ≡ Some true → is_set o ≡ true
 set-is o is = ap is_set is
 
--- the tables of an automaton, whose edges are given by a test
-abbrev pub with_edges : Automaton → (ℕ → ℕ → Context → Bool) → Table
-with_edges a edges = record {
-  takes = λ x b. in_set (slice_get a.sets.items x) b;
-  enters = λ x c. in_mask (slice_get a.enters.items x) c;
-  accepts = λ x c. in_mask (slice_get a.accepts.items x) c;
-  follows = edges;
-}
-
-module _ (a : Automaton) (old : Table) (edges : ℕ → ℕ → Context → Bool) (r : Core) (size : vec_len a.sets ≡ count r) (joined : (x y : ℕ) (prev : Prev) (b : ℕ) → follows a x y (record { prev = prev; next = class_of b }) ≡ edges x y (record { prev = prev; next = class_of b }))
-    (added : IsAdded old (with_edges a edges) 0 r (has_context a.null)) where
+-- the tables of an automaton, where they say what tables under construction do
+module _ (a : Automaton) (old new : Table) (none : Context → Bool) (r : Core) (size : vec_len a.sets ≡ count r)
+    (same_takes : (x b : ℕ) → takes a x b ≡ new.takes x b)
+    (same_enters : (x : ℕ) (c : Context) → enters a x c ≡ new.enters x c)
+    (same_accepts : (x : ℕ) (c : Context) → accepts a x c ≡ new.accepts x c)
+    (joined : (x y : ℕ) (prev : Prev) (b : ℕ) → follows a x y (record { prev = prev; next = class_of b }) ≡ new.follows x y (record { prev = prev; next = class_of b }))
+    (same_null : (c : Context) → has_context a.null c ≡ none c)
+    (added : IsAdded old new 0 r none) where
   from-none : (x : ℕ) → 0 + x ≡ x
   from-none x = omega arith
 
   all-takes : (x b : ℕ) → b < 256 → takes a x b ≡ is_set (slice_get (set_of r x) b)
   all-takes x b byte =
       elim (cases_lt x (count r)) [
-        | inl below ↦ ap (λ z. takes a z b) (sym (from-none x)) ∙ added.part.takes x b below byte
+        | inl below ↦ ap (λ z. takes a z b) (sym (from-none x)) ∙ (same_takes (0 + x) b ∙ added.part.takes x b below byte)
         | inr past ↦
             let over : length a.sets.items ≤ x = omega (arith, a.sets.ok.0) in
             ap (λ o. in_set o b) (slice_get_past a.sets.items x over) ∙ sym (ap (λ s. is_set (slice_get s b)) (set-past r x past))
@@ -102,7 +99,7 @@ module _ (a : Automaton) (old : Table) (edges : ℕ → ℕ → Context → Bool
   all-enters : (x : ℕ) (c : Context) → enters a x c ≡ enter r x c
   all-enters x c =
       elim (cases_lt x (count r)) [
-        | inl below ↦ ap (λ z. enters a z c) (sym (from-none x)) ∙ added.part.enters x c below
+        | inl below ↦ ap (λ z. enters a z c) (sym (from-none x)) ∙ (same_enters (0 + x) c ∙ added.part.enters x c below)
         | inr past ↦
             let over : length a.enters.items ≤ x = omega (arith, a.enters.ok.0, a.enters_whole) in
             ap (λ o. in_mask o c) (slice_get_past a.enters.items x over) ∙ sym (enter-past r x c past)
@@ -111,7 +108,7 @@ module _ (a : Automaton) (old : Table) (edges : ℕ → ℕ → Context → Bool
   all-accepts : (x : ℕ) (c : Context) → accepts a x c ≡ accept r x c
   all-accepts x c =
       elim (cases_lt x (count r)) [
-        | inl below ↦ ap (λ z. accepts a z c) (sym (from-none x)) ∙ added.part.accepts x c below
+        | inl below ↦ ap (λ z. accepts a z c) (sym (from-none x)) ∙ (same_accepts (0 + x) c ∙ added.part.accepts x c below)
         | inr past ↦
             let over : length a.accepts.items ≤ x = omega (arith, a.accepts.ok.0, a.accepts_whole) in
             ap (λ o. in_mask o c) (slice_get_past a.accepts.items x over) ∙ sym (accept-past r x c past)
@@ -122,7 +119,7 @@ module _ (a : Automaton) (old : Table) (edges : ℕ → ℕ → Context → Bool
       let c : Context = record { prev = prev; next = class_of b } in
       elim (cases_lt x (count r)) [
         | inl hx ↦ elim (cases_lt y (count r)) [
-          | inl hy ↦ joined x y prev b ∙ (ap (λ z. edges z y c) (sym (from-none x)) ∙ (ap (λ z. edges (0 + x) z c) (sym (from-none y)) ∙ added.part.follows x y c hx hy))
+          | inl hy ↦ joined x y prev b ∙ (ap (λ z. new.follows z y c) (sym (from-none x)) ∙ (ap (λ z. new.follows (0 + x) z c) (sym (from-none y)) ∙ added.part.follows x y c hx hy))
           | inr past ↦ joined x y prev b ∙ (added.clear x y c (inr (omega arith)) ∙ sym (follow-past r x y c (inr past)))
         ]
         | inr past ↦ joined x y prev b ∙ (added.clear x y c (inl (omega arith)) ∙ sym (follow-past r x y c (inl past)))
@@ -139,5 +136,5 @@ module _ (a : Automaton) (old : Table) (edges : ℕ → ℕ → Context → Bool
         enters = all-enters;
         accepts = all-accepts;
         follows = all-follows;
-        null = added.null;
+        null = λ c. same_null c ∙ added.null c;
       }

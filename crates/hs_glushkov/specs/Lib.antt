@@ -3,5 +3,6 @@ pub mod Ranges
 pub mod FollowTables
 pub mod Squares
 pub mod Parts
+pub mod Cores
 pub mod AssertionTests
 pub mod BuiltParts

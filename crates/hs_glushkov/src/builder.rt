@@ -4,12 +4,12 @@ ghost use Rattle.std.specs.Prelude.{◌≡◌, ℕ, ◌+◌, ◌*◌, ◌≤◌,
 ghost use Rattle.hs_base.specs.Contexts.{Context};
 ghost use Rattle.hs_base.specs.ContextSets.{has_context};
 ghost use Rattle.hs_base.specs.EndAssertions.{has_embedded_end};
-ghost use Rattle.hs_base.specs.WrittenOut.{IsPlain, ArePlain, empty, fail, count, write_out, cat_from, alt_from};
-ghost use Rattle.hs_base.specs.WrittenOut.{repeat_of};
+ghost use Rattle.hs_base.specs.WrittenOut.{IsPlain, ArePlain, empty, count, write_out, repeat_of};
 ghost use Rattle.hs_expr.specs.Meaning.{tree_of, trees_of};
 ghost use Rattle.hs_expr.specs.Counts.{written_copies};
 ghost use Rattle.hs_glushkov.specs.AssertionTests.{has_assertion};
 ghost use Rattle.hs_glushkov.specs.BuiltParts.{table_of};
+ghost use Rattle.hs_glushkov.specs.Cores.{alt_of, cat_of, core_of};
 ghost use Rattle.hs_glushkov.specs.Parts.{Table, IsAdded, IsClear, IsRow, null_in_copies};
 ghost use Rattle.hs_engine.specs.Tables.{Runs};
 
@@ -34,14 +34,14 @@ pub fn build(alloc: Global, expr: &Expr) -> Result<Automaton, AllocError>
     let mut parts = Parts::new(alloc, positions(expr) as usize)?;
     let null = add(expr, &mut parts);
     let follows = rows_of(alloc, &parts.follows)?;
-    Ok(Automaton {
-        sets: parts.sets,
-        enters: parts.enters,
-        accepts: parts.accepts,
+    Ok(Automaton::new(
+        parts.sets,
+        parts.enters,
+        parts.accepts,
         follows,
         null,
-        has_assertion: has_assertion(expr),
-    })
+        has_assertion(expr),
+    ))
 }
 
 /// Puts the positions of the expression behind the others. Gives the contexts in which the empty text matches.
@@ -49,10 +49,10 @@ pub fn build(alloc: Global, expr: &Expr) -> Result<Automaton, AllocError>
 fn add(expr: &Expr, parts: &mut Parts) -> Mask
     requires clear { IsClear (table_of parts.old) parts.old.filled }
     requires plain { IsPlain (tree_of expr.now) }
-    requires room { parts.old.filled + count (write_out (tree_of expr.now)) ≤ vec_len parts.old.sets }
+    requires room { parts.old.filled + count (core_of expr.now) ≤ vec_len parts.old.sets }
     ensures size { vec_len parts.new.sets ≡ vec_len parts.old.sets }
-    ensures filled { parts.new.filled ≡ parts.old.filled + count (write_out (tree_of expr.now)) }
-    ensures added { IsAdded (table_of parts.old) (table_of parts.new) parts.old.filled (write_out (tree_of expr.now))
+    ensures filled { parts.new.filled ≡ parts.old.filled + count (core_of expr.now) }
+    ensures added { IsAdded (table_of parts.old) (table_of parts.new) parts.old.filled (core_of expr.now)
         (has_context result) }
 {
     match expr {
@@ -71,11 +71,11 @@ fn add(expr: &Expr, parts: &mut Parts) -> Mask
 fn add_cat(items: &[Expr], parts: &mut Parts) -> Mask
     requires clear { IsClear (table_of parts.old) parts.old.filled }
     requires plain { ArePlain (trees_of (map tree_of items.now)) }
-    requires room { parts.old.filled + count (cat_from empty (trees_of (map tree_of items.now))) ≤ vec_len parts.old.sets }
+    requires room { parts.old.filled + count (cat_of items.now) ≤ vec_len parts.old.sets }
     ensures size { vec_len parts.new.sets ≡ vec_len parts.old.sets }
-    ensures filled { parts.new.filled ≡ parts.old.filled + count (cat_from empty (trees_of (map tree_of items.now))) }
+    ensures filled { parts.new.filled ≡ parts.old.filled + count (cat_of items.now) }
     ensures added { IsAdded (table_of parts.old) (table_of parts.new) parts.old.filled
-        (cat_from empty (trees_of (map tree_of items.now))) (has_context result) }
+        (cat_of items.now) (has_context result) }
 {
     let start = parts.filled;
     let mut null = Mask::all();
@@ -93,11 +93,11 @@ fn add_cat(items: &[Expr], parts: &mut Parts) -> Mask
 fn add_alt(items: &[Expr], parts: &mut Parts) -> Mask
     requires clear { IsClear (table_of parts.old) parts.old.filled }
     requires plain { ArePlain (trees_of (map tree_of items.now)) }
-    requires room { parts.old.filled + count (alt_from fail (trees_of (map tree_of items.now))) ≤ vec_len parts.old.sets }
+    requires room { parts.old.filled + count (alt_of items.now) ≤ vec_len parts.old.sets }
     ensures size { vec_len parts.new.sets ≡ vec_len parts.old.sets }
-    ensures filled { parts.new.filled ≡ parts.old.filled + count (alt_from fail (trees_of (map tree_of items.now))) }
+    ensures filled { parts.new.filled ≡ parts.old.filled + count (alt_of items.now) }
     ensures added { IsAdded (table_of parts.old) (table_of parts.new) parts.old.filled
-        (alt_from fail (trees_of (map tree_of items.now))) (has_context result) }
+        (alt_of items.now) (has_context result) }
 {
     let mut null = Mask::empty();
     for item in items {
@@ -112,11 +112,11 @@ fn add_repeat(body: &Expr, least: u32, greatest: Option<u32>, parts: &mut Parts)
     requires clear { IsClear (table_of parts.old) parts.old.filled }
     requires plain { IsPlain (tree_of body.now) }
     requires ordered { IfSome greatest (λ most. least ≤ most) }
-    requires room { parts.old.filled + count (repeat_of least greatest (write_out (tree_of body.now))) ≤ vec_len parts.old.sets }
+    requires room { parts.old.filled + count (repeat_of least greatest (core_of body.now)) ≤ vec_len parts.old.sets }
     ensures size { vec_len parts.new.sets ≡ vec_len parts.old.sets }
-    ensures filled { parts.new.filled ≡ parts.old.filled + count (repeat_of least greatest (write_out (tree_of body.now))) }
+    ensures filled { parts.new.filled ≡ parts.old.filled + count (repeat_of least greatest (core_of body.now)) }
     ensures added { IsAdded (table_of parts.old) (table_of parts.new) parts.old.filled
-        (repeat_of least greatest (write_out (tree_of body.now))) (has_context result) }
+        (repeat_of least greatest (core_of body.now)) (has_context result) }
 {
     let copies = written_copies(least, greatest);
     if copies == 0 {
@@ -137,12 +137,12 @@ fn add_repeat(body: &Expr, least: u32, greatest: Option<u32>, parts: &mut Parts)
 fn add_copies(body: &Expr, copies: u32, parts: &mut Parts)
     requires clear { IsClear (table_of parts.old) parts.old.filled }
     requires plain { IsPlain (tree_of body.now) }
-    requires room { parts.old.filled + copies * count (write_out (tree_of body.now)) ≤ vec_len parts.old.sets }
+    requires room { parts.old.filled + copies * count (core_of body.now) ≤ vec_len parts.old.sets }
     ensures size { vec_len parts.new.sets ≡ vec_len parts.old.sets }
-    ensures filled { parts.new.filled ≡ parts.old.filled + copies * count (write_out (tree_of body.now)) }
+    ensures filled { parts.new.filled ≡ parts.old.filled + copies * count (core_of body.now) }
     ensures row { (old : Table) (n k : ℕ) →
-        IsRow old (table_of parts.old) n (write_out (tree_of body.now)) k empty parts.old.filled →
-        IsRow old (table_of parts.new) n (write_out (tree_of body.now)) (k + copies) empty parts.new.filled }
+        IsRow old (table_of parts.old) n (core_of body.now) k empty parts.old.filled →
+        IsRow old (table_of parts.new) n (core_of body.now) (k + copies) empty parts.new.filled }
 {
     for _copy in 0..copies {
         add(body, parts);
@@ -176,9 +176,9 @@ mod tests {
     #[test]
     fn one_byte_is_one_position(rt: HostRuntime) -> Result<(), Fail> {
         let automaton = build(rt.alloc(), &Expr::Class(ByteSet::of(b'a')))?;
-        assert_eq!(rt; automaton.sets.as_slice(), [ByteSet::of(b'a')].as_slice());
-        assert_eq!(rt; automaton.accepts.as_slice(), [Mask::all()].as_slice());
-        assert!(rt; automaton.null == Mask::empty() && !automaton.has_assertion);
+        assert_eq!(rt; automaton.sets(), [ByteSet::of(b'a')].as_slice());
+        assert_eq!(rt; automaton.accepts(), [Mask::all()].as_slice());
+        assert!(rt; automaton.null() == Mask::empty() && !automaton.has_assertion());
         Ok(())
     }
 }

@@ -6,6 +6,7 @@ ghost use Rattle.hs_base.specs.Contexts.{Context, class_of};
 ghost use Rattle.hs_base.specs.ContextSets.{has_context};
 ghost use Rattle.hs_engine.specs.RowSizes.{square_count};
 ghost use Rattle.hs_engine.specs.Rows.{in_row, in_square};
+ghost use Rattle.hs_engine.specs.Between.{between};
 ghost use Rattle.hs_glushkov.specs.FollowTables.{is_followed};
 ghost use Rattle.hs_glushkov.specs.Squares.{class_numbered, prev_numbered};
 
@@ -20,8 +21,8 @@ pub fn rows_of(alloc: Global, follows: &FollowMasks) -> Result<FollowRows, Alloc
     ensures size { IfOk result (λ rows. rows.size ≡ follows.now.size) }
     ensures follows { IfOk result (λ rows.
         (x y : ℕ) (prev : Prev) (b : ℕ) →
-        in_row rows x y (record { prev = prev; next = class_of b }) ≡
-        is_followed follows.now x y (record { prev = prev; next = class_of b })) }
+        in_row rows x y (between prev (class_of b)) ≡
+        is_followed follows.now x y (between prev (class_of b))) }
 {
     let mut rows = FollowRows::new(alloc, follows.size, !is_alike(follows))?;
     for square in 0..rows.square_count() {
@@ -40,7 +41,7 @@ fn fill_square(follows: &FollowMasks, prev: Prev, class: Next, square: usize, ro
     ensures by_context { rows.new.by_context ≡ rows.old.by_context }
     ensures filled { (k x y : ℕ) →
         in_square rows.new k x y ≡
-        (((k == square) && is_followed follows.now x y (record { prev = prev; next = class }))
+        (((k == square) && is_followed follows.now x y (between prev class))
         || in_square rows.old k x y) }
 {
     for from in 0..follows.size {
@@ -64,7 +65,7 @@ fn fill_row(
     ensures by_context { rows.new.by_context ≡ rows.old.by_context }
     ensures filled { (k x y : ℕ) →
         in_square rows.new k x y ≡
-        (((x == from) && ((k == square) && is_followed follows.now x y (record { prev = prev; next = class })))
+        (((x == from) && ((k == square) && is_followed follows.now x y (between prev class)))
         || in_square rows.old k x y) }
 {
     for to in 0..follows.size {
@@ -91,7 +92,7 @@ fn fill_bit(
     ensures filled { (k x y : ℕ) →
         in_square rows.new k x y ≡
         (((y == to) && ((x == from)
-        && ((k == square) && is_followed follows.now x y (record { prev = prev; next = class }))))
+        && ((k == square) && is_followed follows.now x y (between prev class))))
         || in_square rows.old k x y) }
 {
     if follows.mask(from, to).contains(prev, class) {

@@ -112,14 +112,11 @@ fn automaton(
     requires size { size ≤ 512 }
     requires distance { distance ≤ 512 }
 {
-    Ok(Automaton {
-        sets: sets(alloc, size, distance)?,
-        enters: masks(alloc, size, 1)?,
-        accepts: masks(alloc, size, distance)?,
-        follows: follows(alloc, size, distance, by_context)?,
-        null: Mask::empty(),
-        has_assertion: by_context,
-    })
+    let sets = sets(alloc, size, distance)?;
+    let enters = masks(alloc, size, 1)?;
+    let accepts = masks(alloc, size, distance)?;
+    let follows = follows(alloc, size, distance, by_context)?;
+    Ok(Automaton::new(sets, enters, accepts, follows, Mask::empty(), by_context))
 }
 
 /// Compares the regions and the answers behind the text.

@@ -33,7 +33,7 @@ impl Judged for Plain {
         let Some(automaton) = automaton_of(alloc, expr)? else {
             return Ok(None);
         };
-        let null = automaton.null;
+        let null = automaton.null();
         Ok(Some((Plain::new(automaton), null)))
     }
 }
@@ -43,7 +43,7 @@ impl Judged for Limex {
         let Some(automaton) = automaton_of(alloc, expr)? else {
             return Ok(None);
         };
-        Ok(Some((Limex::build(alloc, &automaton)?, automaton.null)))
+        Ok(Some((Limex::build(alloc, &automaton)?, automaton.null())))
     }
 }
 

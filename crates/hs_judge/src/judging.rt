@@ -228,7 +228,7 @@ fn answer_to(alloc: Global, expr: &Expr, asked: Asked) -> Result<String, Fail> {
     }
     let automaton = automaton_of(alloc, expr)?.ok_or("no automaton")?;
     let number = match asked {
-        Asked::Positions => automaton.sets.len(),
+        Asked::Positions => automaton.size(),
         Asked::Chains | Asked::Tables => automaton.tables_len(),
     };
     Ok(format!(in alloc; " {number}")?)

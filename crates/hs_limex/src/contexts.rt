@@ -2,6 +2,7 @@
 
 ghost use Rattle.std.specs.Prelude.{◌≡◌, ◌<◌, ◌/◌, ◌%◌};
 ghost use Rattle.hs_base.specs.Contexts.{context_number};
+ghost use Rattle.hs_engine.specs.Between.{between};
 ghost use Rattle.hs_limex.specs.Numbers.{next_numbered, prev_numbered};
 
 use hs_base::{Next, Prev};
@@ -13,7 +14,7 @@ pub(crate) const NEXT_COUNT: usize = Next::COUNT as usize;
 
 /// The number of a context.
 pub(crate) fn number_of(prev: Prev, next: Next) -> usize
-    ensures number { result ≡ context_number (record { prev = prev; next = next }) }
+    ensures number { result ≡ context_number (between prev next) }
     ensures few { result < 24 }
 {
     NEXT_COUNT * prev.number() as usize + next.number() as usize

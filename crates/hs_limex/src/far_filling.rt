@@ -5,6 +5,7 @@ ghost use Rattle.std.specs.Prelude.{length};
 ghost use Rattle.hs_base.specs.Contexts.{Context, context_number};
 ghost use Rattle.hs_base.specs.Bits.{has_bit};
 ghost use Rattle.hs_engine.specs.Rows.{in_row};
+ghost use Rattle.hs_engine.specs.Between.{between};
 ghost use Rattle.hs_limex.specs.WordTables.{in_table};
 ghost use Rattle.hs_limex.specs.Near.{IsFew, IsNearFrom, LeavesFar};
 
@@ -69,7 +70,7 @@ fn fill_near(
     ensures width { rows.new.width ≡ rows.old.width }
     ensures bits { (n k : ℕ) →
         in_table rows.new n k ≡
-        (((n == number) && in_row follows.now k (k + distance) (record { prev = prev; next = next }))
+        (((n == number) && in_row follows.now k (k + distance) (between prev next))
         || in_table rows.old n k) }
 {
     for position in 0..size {
@@ -81,7 +82,7 @@ fn fill_near(
 /// Whether the one position may follow the other in the context.
 fn may_follow(follows: &FollowRows, prev: Prev, next: Next, from: usize, to: usize) -> bool
     requires { from < follows.now.size }
-    ensures { result ≡ in_row follows.now from to (record { prev = prev; next = next }) }
+    ensures { result ≡ in_row follows.now from to (between prev next) }
 {
     let row = follows.row(prev, next, from);
     to < BYTE_BITS * row.len() && contains_bit(row, to)
@@ -119,7 +120,7 @@ fn fill_far(follows: &FollowRows, size: usize, prev: Prev, next: Next, rows: &mu
     ensures width { rows.new.width ≡ rows.old.width }
     ensures few { IsFew rows.old size → IsFew rows.new size }
     ensures kept { (c : Context) → LeavesFar rows.old follows.now c → LeavesFar rows.new follows.now c }
-    ensures rest { LeavesFar rows.new follows.now (record { prev = prev; next = next }) }
+    ensures rest { LeavesFar rows.new follows.now (between prev next) }
 {
     for position in 0..size {
         let wanted = !is_near(follows.row(prev, next, position), position);

@@ -3,6 +3,7 @@
 ghost use Rattle.std.specs.Prelude.{◌≡◌, ℕ, ◌*◌, ◌<◌, ◌≤◌, true, IfOk, ◌&&◌, ◌||◌, ◌==◌, length, slice_get};
 ghost use Rattle.hs_base.specs.Contexts.{Context, context_number};
 ghost use Rattle.hs_engine.specs.Automata.{in_mask, in_set};
+ghost use Rattle.hs_engine.specs.Between.{between};
 ghost use Rattle.hs_limex.specs.WordTables.{in_table};
 
 use crate::contexts::{CONTEXT_COUNT, context_of};
@@ -82,7 +83,7 @@ fn fill_context(masks: &[Mask], prev: Prev, next: Next, number: usize, rows: &mu
     ensures width { rows.new.width ≡ rows.old.width }
     ensures bits { (n k : ℕ) →
         in_table rows.new n k ≡
-        (((n == number) && in_mask (slice_get masks.now k) (record { prev = prev; next = next }))
+        (((n == number) && in_mask (slice_get masks.now k) (between prev next))
         || in_table rows.old n k) }
 {
     for position in 0..masks.len() {

@@ -3,6 +3,7 @@
 ghost use Rattle.std.specs.Prelude.{◌≡◌, ℕ, ◌+◌, ◌*◌, ◌%◌, ◌<◌, ◌≤◌, Bool, true, ◌&&◌, ◌||◌, length};
 ghost use Rattle.hs_engine.specs.AnyBelow.{any_below};
 ghost use Rattle.hs_base.specs.Bits.{has_word_bit};
+ghost use Rattle.hs_engine.specs.Between.{between};
 ghost use Rattle.hs_limex.specs.WordTables.{in_table};
 ghost use Rattle.hs_limex.specs.Leading.{far_leads, near_leads};
 
@@ -71,7 +72,7 @@ pub(crate) fn lead_far(
     ensures bits { (k : ℕ) →
         has_word_bit led.new k ≡
         (any_below (64 * length far.now)
-        (far_leads follows.now live.now far.now (record { prev = prev; next = next }) k)
+        (far_leads follows.now live.now far.now (between prev next) k)
         || has_word_bit led.old k) }
 {
     for place in 0..far.len() {
@@ -97,11 +98,11 @@ fn lead_word(
     ensures len { length led.new ≡ length led.old }
     ensures bits { (k : ℕ) (first : Bool) →
         has_word_bit led.old k ≡
-        (any_below (64 * place) (far_leads follows.now live.now far.now (record { prev = prev; next = next }) k)
+        (any_below (64 * place) (far_leads follows.now live.now far.now (between prev next) k)
         || first) →
         has_word_bit led.new k ≡
         (any_below (64 * place + 64)
-        (far_leads follows.now live.now far.now (record { prev = prev; next = next }) k)
+        (far_leads follows.now live.now far.now (between prev next) k)
         || first) }
 {
     if live[place] & far[place] == 0 {
@@ -130,7 +131,7 @@ fn lead_one(
     ensures len { length led.new ≡ length led.old }
     ensures bits { (k : ℕ) →
         has_word_bit led.new k ≡
-        (far_leads follows.now live.now far.now (record { prev = prev; next = next }) k position
+        (far_leads follows.now live.now far.now (between prev next) k position
         || has_word_bit led.old k) }
 {
     if contains_word_bit(live, position) && contains_word_bit(far, position) {

@@ -10,7 +10,8 @@ ghost use Rattle.hs_engine.specs.Automata.{in_mask, in_set};
 ghost use Rattle.hs_base.specs.Bits.{AreZero, has_bit};
 ghost use Rattle.hs_engine.specs.RowSizes.{row_len};
 ghost use Rattle.hs_engine.specs.AnyBelow.{any_below};
-ghost use Rattle.hs_engine.specs.Tables.{AreFirst, IsClearFrom, IsCopy, is_moved, leads_to};
+ghost use Rattle.hs_engine.specs.Tables.{AreFirst, IsClearFrom, is_moved, leads_to};
+ghost use Rattle.hs_engine.specs.Between.{between};
 
 use crate::first_bytes::first_bytes;
 use hs_base::{ByteSet, MAX_POSITIONS, Mask, Next, NextSet, Prev};
@@ -41,7 +42,7 @@ impl Plain {
         ensures of { automaton_of result ≡ automaton }
         ensures width { (meaning_of_plain result).width ≤ 64 }
     {
-        let first = first_bytes(&automaton.sets, &automaton.enters);
+        let first = first_bytes(automaton.sets(), automaton.enters());
         Plain { automaton, first }
     }
 
@@ -51,22 +52,8 @@ impl Plain {
         ensures runs { IfOk result (λ plain. (tree : Tree) → Runs automaton.now tree → Runs (automaton_of plain) tree) }
         ensures width { IfOk result (λ plain. (meaning_of_plain plain).width ≤ 64) }
     {
-        Ok(Plain::new(copy_of(alloc, automaton)?))
+        Ok(Plain::new(automaton.copy(alloc)?))
     }
-}
-
-/// A copy that shares no memory with the original.
-fn copy_of(alloc: Global, automaton: &Automaton) -> Result<Automaton, AllocError>
-    ensures { IfOk result (λ copy. IsCopy copy automaton.now) }
-{
-    Ok(Automaton {
-        sets: Vec::from_slice(alloc, &automaton.sets)?,
-        enters: Vec::from_slice(alloc, &automaton.enters)?,
-        accepts: Vec::from_slice(alloc, &automaton.accepts)?,
-        follows: automaton.follows.copy(alloc)?,
-        null: automaton.null,
-        has_assertion: automaton.has_assertion,
-    })
 }
 
 impl Engine for Plain {
@@ -75,7 +62,7 @@ impl Engine for Plain {
     ghost meaning = { λ e. automaton_meaning e.automaton };
 
     fn size(&self) -> usize {
-        (self.automaton.sets.len() + (BYTE_BITS - 1)) / BYTE_BITS
+        (self.automaton.size() + (BYTE_BITS - 1)) / BYTE_BITS
     }
 
     fn clear(&self, region: &mut [u8]) {
@@ -98,7 +85,7 @@ impl Engine for Plain {
             return;
         }
         let mut led = [0u8; MAX_REGION_LEN];
-        follow(&self.automaton.follows, region, prev, next, &mut led);
+        follow(self.automaton.follows(), region, prev, next, &mut led);
         clear_bits(region);
         settle(&self.automaton, &led, prev, next, entering, byte, region);
     }
@@ -107,7 +94,7 @@ impl Engine for Plain {
         if is_zero(region) {
             return NextSet::empty();
         }
-        accepted(&self.automaton.accepts, region, prev)
+        accepted(self.automaton.accepts(), region, prev)
     }
 
     fn at_rest(&self, region: &[u8]) -> bool {
@@ -119,7 +106,7 @@ impl Engine for Plain {
     }
 
     fn well_formed(&self, region: &[u8], _at: u64) -> bool {
-        is_clear_from(region, self.automaton.sets.len())
+        is_clear_from(region, self.automaton.size())
     }
 }
 
@@ -143,7 +130,7 @@ fn follow(follows: &FollowRows, region: &[u8], prev: Prev, next: Next, led: &mut
     ensures len { length led.new ≡ length led.old }
     ensures bits { (k : ℕ) →
         has_bit led.new k ≡
-        (any_below (8 * length region.now) (leads_to follows.now region.now (record { prev = prev; next = next }) k)
+        (any_below (8 * length region.now) (leads_to follows.now region.now (between prev next) k)
         || has_bit led.old k) }
 {
     for place in 0..region.len() {
@@ -167,9 +154,9 @@ fn follow_byte(
     ensures len { length led.new ≡ length led.old }
     ensures bits { (k : ℕ) (first : Bool) →
         has_bit led.old k ≡
-        (any_below (8 * place) (leads_to follows.now region.now (record { prev = prev; next = next }) k) || first) →
+        (any_below (8 * place) (leads_to follows.now region.now (between prev next) k) || first) →
         has_bit led.new k ≡
-        (any_below (8 * place + 8) (leads_to follows.now region.now (record { prev = prev; next = next }) k)
+        (any_below (8 * place + 8) (leads_to follows.now region.now (between prev next) k)
         || first) }
 {
     if region[place] == 0 {
@@ -195,7 +182,7 @@ fn follow_one(
     ensures len { length led.new ≡ length led.old }
     ensures bits { (k : ℕ) →
         has_bit led.new k ≡
-        (leads_to follows.now region.now (record { prev = prev; next = next }) k position || has_bit led.old k) }
+        (leads_to follows.now region.now (between prev next) k position || has_bit led.old k) }
 {
     if contains_bit(region, position) {
         unite_bits(led, follows.row(prev, next, position));
@@ -219,12 +206,12 @@ fn settle(
     ensures bits { (k : ℕ) →
         has_bit region.new k ≡
         (nat_lt k (vec_len automaton.now.sets)
-        && is_moved automaton.now led.now (record { prev = prev; next = next }) entering byte k) }
+        && is_moved automaton.now led.now (between prev next) entering byte k) }
     ensures stays { ((k : ℕ) →
-        is_moved automaton.now led.now (record { prev = prev; next = next }) entering byte k ≡ false) →
+        is_moved automaton.now led.now (between prev next) entering byte k ≡ false) →
         region.new ≡ region.old }
 {
-    for position in 0..automaton.sets.len() {
+    for position in 0..automaton.size() {
         settle_one(automaton, led, position, prev, next, entering, byte, region);
     }
 }
@@ -247,9 +234,9 @@ fn settle_one(
     ensures bits { (k : ℕ) →
         has_bit region.new k ≡
         (((k == position) && is_moved automaton.now led.now
-        (record { prev = prev; next = next }) entering byte position)
+        (between prev next) entering byte position)
         || has_bit region.old k) }
-    ensures stays { is_moved automaton.now led.now (record { prev = prev; next = next }) entering byte position ≡ false →
+    ensures stays { is_moved automaton.now led.now (between prev next) entering byte position ≡ false →
         region.new ≡ region.old }
 {
     if leads(automaton, led, position, prev, next, entering, byte) {
@@ -269,16 +256,16 @@ fn leads(
 ) -> bool
     requires position { position < vec_len automaton.now.sets }
     requires led { position < 8 * length led.now }
-    ensures { result ≡ is_moved automaton.now led.now (record { prev = prev; next = next }) entering byte position }
+    ensures { result ≡ is_moved automaton.now led.now (between prev next) entering byte position }
 {
-    let entered = entering && mask_contains(&automaton.enters, position, prev, next);
-    (contains_bit(led, position) || entered) && set_contains(&automaton.sets, position, byte)
+    let entered = entering && mask_contains(automaton.enters(), position, prev, next);
+    (contains_bit(led, position) || entered) && set_contains(automaton.sets(), position, byte)
 }
 
 /// Whether the mask of that number has the context.
 fn mask_contains(masks: &[Mask], number: usize, prev: Prev, next: Next) -> bool
     requires { number < length masks.now }
-    ensures { result ≡ in_mask (slice_get masks.now number) (record { prev = prev; next = next }) }
+    ensures { result ≡ in_mask (slice_get masks.now number) (between prev next) }
 {
     masks[number].contains(prev, next)
 }
@@ -297,10 +284,10 @@ fn accepted(accepts: &[Mask], region: &[u8], prev: Prev) -> NextSet
     ensures sound { (next : Next) →
         has_next result next ≡ true →
         (x : ℕ) × (has_bit region.now x ≡ true)
-        × (in_mask (slice_get accepts.now x) (record { prev = prev; next = next }) ≡ true) }
+        × (in_mask (slice_get accepts.now x) (between prev next) ≡ true) }
     ensures whole { (next : Next) (x : ℕ) →
         has_bit region.now x ≡ true →
-        in_mask (slice_get accepts.now x) (record { prev = prev; next = next }) ≡ true →
+        in_mask (slice_get accepts.now x) (between prev next) ≡ true →
         has_next result next ≡ true }
 {
     let mut all = NextSet::empty();
@@ -317,7 +304,7 @@ fn accepted_at(accepts: &[Mask], position: usize, region: &[u8], prev: Prev) -> 
     ensures { (next : Next) →
         has_next result next ≡
         (has_bit region.now position
-        && in_mask (slice_get accepts.now position) (record { prev = prev; next = next })) }
+        && in_mask (slice_get accepts.now position) (between prev next)) }
 {
     if contains_bit(region, position) {
         accepts[position].row(prev)

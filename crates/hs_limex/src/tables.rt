@@ -4,6 +4,7 @@ ghost use Rattle.std.specs.Prelude.{◌≡◌, ℕ, ◌+◌, ◌*◌, ◌/◌, �
 ghost use Rattle.std.specs.Prelude.{length, vec_len};
 ghost use Rattle.hs_base.specs.Contexts.{Context, context_number};
 ghost use Rattle.hs_engine.specs.Rows.{in_row};
+ghost use Rattle.hs_engine.specs.Between.{between};
 ghost use Rattle.hs_limex.specs.WordTables.{in_table};
 ghost use Rattle.hs_limex.specs.Near.{IsFew, IsNearFrom};
 
@@ -80,18 +81,18 @@ impl Tables {
     pub(crate) fn build(alloc: Global, automaton: &Automaton) -> Result<Tables, AllocError>
         ensures { IfOk result (λ tables. Fits tables automaton.now) }
     {
-        let size = automaton.sets.len();
+        let size = automaton.size();
         let width = word_count_for(size);
-        let follows = automaton.follows.copy(alloc)?;
+        let follows = automaton.follows().copy(alloc)?;
         let near = near_of(alloc, &follows, size, width)?;
         let span = span_of(&near);
         let far = far_of(alloc, &follows, size, width)?;
         Ok(Tables {
-            reach: reach_of(alloc, &automaton.sets, width)?,
-            enters: masks_of(alloc, &automaton.enters, width)?,
-            first: first_bytes(&automaton.sets, &automaton.enters),
-            accepts: masks_of(alloc, &automaton.accepts, width)?,
-            accepting: any_of(alloc, &automaton.accepts, width)?,
+            reach: reach_of(alloc, automaton.sets(), width)?,
+            enters: masks_of(alloc, automaton.enters(), width)?,
+            first: first_bytes(automaton.sets(), automaton.enters()),
+            accepts: masks_of(alloc, automaton.accepts(), width)?,
+            accepting: any_of(alloc, automaton.accepts(), width)?,
             near,
             span,
             far,
@@ -128,11 +129,11 @@ impl Tables {
         ensures sound { (k : ℕ) →
             has_bit region.new k ≡ true →
             (in_table self.now.reach byte k ≡ true)
-            × IsLed self.now (has_bit region.old) (record { prev = prev; next = next }) entering k }
+            × IsLed self.now (has_bit region.old) (between prev next) entering k }
         ensures whole { (k : ℕ) →
             k < 8 * length region.old →
             in_table self.now.reach byte k ≡ true →
-            IsLed self.now (has_bit region.old) (record { prev = prev; next = next }) entering k →
+            IsLed self.now (has_bit region.old) (between prev next) entering k →
             has_bit region.new k ≡ true }
     {
         let mut live = [0u64; MAX_WIDTH];
@@ -151,10 +152,10 @@ impl Tables {
         ensures len { length led.new ≡ length led.old }
         ensures sound { (k : ℕ) →
             has_word_bit led.new k ≡ true →
-            IsLed self.now (has_word_bit live.now) (record { prev = prev; next = next }) entering k }
+            IsLed self.now (has_word_bit live.now) (between prev next) entering k }
         ensures whole { (k : ℕ) →
             k < 64 * self.now.reach.width →
-            IsLed self.now (has_word_bit live.now) (record { prev = prev; next = next }) entering k →
+            IsLed self.now (has_word_bit live.now) (between prev next) entering k →
             has_word_bit led.new k ≡ true }
     {
         let number = number_of(prev, next);
@@ -181,9 +182,9 @@ impl Tables {
         requires { length region.now ≡ row_len self.now.follows.size }
         ensures sound { (next : Next) →
             has_next result next ≡ true →
-            AcceptsIn self.now (has_bit region.now) (record { prev = prev; next = next }) }
+            AcceptsIn self.now (has_bit region.now) (between prev next) }
         ensures whole { (next : Next) →
-            AcceptsIn self.now (has_bit region.now) (record { prev = prev; next = next }) →
+            AcceptsIn self.now (has_bit region.now) (between prev next) →
             has_next result next ≡ true }
     {
         let mut live = [0u64; MAX_WIDTH];
@@ -199,9 +200,9 @@ impl Tables {
         requires { length live.now ≡ 8 }
         ensures sound { (next : Next) →
             has_next result next ≡ true →
-            AcceptsIn self.now (has_word_bit live.now) (record { prev = prev; next = next }) }
+            AcceptsIn self.now (has_word_bit live.now) (between prev next) }
         ensures whole { (next : Next) →
-            AcceptsIn self.now (has_word_bit live.now) (record { prev = prev; next = next }) →
+            AcceptsIn self.now (has_word_bit live.now) (between prev next) →
             has_next result next ≡ true }
     {
         let mut all = NextSet::empty();
@@ -216,8 +217,8 @@ impl Tables {
         requires { length live.now ≡ 8 }
         ensures sound { (other : Next) →
             has_next result other ≡ true →
-            AcceptsIn self.now (has_word_bit live.now) (record { prev = prev; next = other }) }
-        ensures whole { AcceptsIn self.now (has_word_bit live.now) (record { prev = prev; next = next }) →
+            AcceptsIn self.now (has_word_bit live.now) (between prev other) }
+        ensures whole { AcceptsIn self.now (has_word_bit live.now) (between prev next) →
             has_next result next ≡ true }
     {
         if are_apart(live, self.accepts.row(number_of(prev, next))) {

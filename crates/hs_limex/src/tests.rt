@@ -42,14 +42,10 @@ fn words(alloc: Global) -> Result<Automaton, AllocError> {
     let mut follows = FollowRows::new(alloc, 2, false)?;
     follows.insert(0, 0, 1);
     follows.insert(0, 1, 1);
-    Ok(Automaton {
-        sets: Vec::from_slice(alloc, &[ByteSet::of(b'a'), ByteSet::of(b'b')])?,
-        enters: Vec::from_slice(alloc, &[Mask::of(Assertion::WordBoundary), Mask::empty()])?,
-        accepts: Vec::from_slice(alloc, &[Mask::all(), end])?,
-        follows,
-        null: Mask::empty(),
-        has_assertion: true,
-    })
+    let sets = Vec::from_slice(alloc, &[ByteSet::of(b'a'), ByteSet::of(b'b')])?;
+    let enters = Vec::from_slice(alloc, &[Mask::of(Assertion::WordBoundary), Mask::empty()])?;
+    let accepts = Vec::from_slice(alloc, &[Mask::all(), end])?;
+    Ok(Automaton::new(sets, enters, accepts, follows, Mask::empty(), true))
 }
 
 #[test]

@@ -5,4 +5,4 @@ use Rattle.hs_limex.proofs.plain.Plain.build.Goals as goal
 
 pub returns-clause-runs : goal.returns-clause-runs
 returns-clause-runs c tree runs =
-    subst (λ a. Runs a tree) (sym c.new.ensures.of) (runs-copy c.in_ok-copy_of.field-0 c.args.automaton.now c.in_ok-copy_of.ensures tree runs)
+    subst (λ a. Runs a tree) (sym c.new.ensures.of) (runs-copy c.in_ok-copy.field-0 c.args.automaton.now c.in_ok-copy.ensures tree runs)

@@ -23,11 +23,11 @@ returns-clause-leaves c tree u entered runs len at prev field next =
     let same : ◌≡◌ {A = Context} (record { prev = c.args.prev; next = next }) (context_of u next) = same-context c.args.prev (prev_at u (length u)) next next prev refl in (
       λ told.
           let (x, set, is) = c.accepted.ensures.sound next told in
-          bit-leaves a tree runs u entered c.args.region.now field next x set (subst (λ h. accepts a x h ≡ true) same (subst (λ masks. in_mask (slice_get masks x) (record { prev = c.args.prev; next = next }) ≡ true) c.deref.ensures.value is)),
+          bit-leaves a tree runs u entered c.args.region.now field next x set (subst (λ h. accepts a x h ≡ true) same (subst (λ masks. in_mask (slice_get masks x) (record { prev = c.args.prev; next = next }) ≡ true) c.accepts.ensures is)),
       λ leaves.
           let (x, set, is) = leaves-bit a tree runs u entered c.args.region.now field next leaves in
           c.accepted.ensures.whole next x set
-          (subst (λ masks. in_mask (slice_get masks x) (record { prev = c.args.prev; next = next }) ≡ true) (sym c.deref.ensures.value) (subst (λ h. accepts a x h ≡ true) (sym same) is)),
+          (subst (λ masks. in_mask (slice_get masks x) (record { prev = c.args.prev; next = next }) ≡ true) (sym c.accepts.ensures) (subst (λ h. accepts a x h ≡ true) (sym same) is)),
     )
 
 pub returns-clause-rests : goal.returns-clause-rests

@@ -31,7 +31,9 @@ returns-clause-takes g c tree u entered runs len at prev field =
     let same : context_of u (class_of b) ≡ here = same-context (prev_at u (length u)) c.args.prev (class_of b) c.class_of-next.result (sym prev) (sym c.class_of-next.ensures) in
     let entering : c.contains-entering.result ≡ has_next c.args.enter (class_of b) = c.contains-entering.ensures ∙ ap (has_next c.args.enter) c.class_of-next.ensures in
     let all_led : (k : ℕ) → has_bit led k ≡ any_below (8 * length c.args.region.now) (leads_to a.follows c.args.region.now here k) =
-    λ k. led-from_zeros led 64 k (any_below (8 * length c.args.region.now) (leads_to a.follows c.args.region.now here k)) (c.follow.ensures.bits k) in
+    λ k.
+    led-from_zeros led 64 k (any_below (8 * length c.args.region.now) (leads_to c.follows.result.now c.args.region.now here k)) (c.follow.ensures.bits k)
+    ∙ ap (λ rows. any_below (8 * length c.args.region.now) (leads_to rows c.args.region.now here k)) c.follows.ensures in
     subst (λ i. IsField c.settle.new.region (write_out tree) (u ++ b ∷ []) (entered ++ i ∷ [])) entering
     (field-step_in a (write_out tree) runs.tables u entered len c.args.region.now field b byte c.contains-entering.result led here same all_led c.settle.new.region c.settle.ensures.bits)
 
@@ -43,6 +45,8 @@ returns-clause-stays g c never zeros outside =
     let led : List ℕ = c.follow.new.led in
     let entering : c.contains-entering.result ≡ false = c.contains-entering.ensures ∙ (ap (has_next c.args.enter) c.class_of-next.ensures ∙ outside) in
     let all_led : (k : ℕ) → has_bit led k ≡ any_below (8 * length c.args.region.now) (leads_to a.follows c.args.region.now here k) =
-    λ k. led-from_zeros led 64 k (any_below (8 * length c.args.region.now) (leads_to a.follows c.args.region.now here k)) (c.follow.ensures.bits k) in
+    λ k.
+    led-from_zeros led 64 k (any_below (8 * length c.args.region.now) (leads_to c.follows.result.now c.args.region.now here k)) (c.follow.ensures.bits k)
+    ∙ ap (λ rows. any_below (8 * length c.args.region.now) (leads_to rows c.args.region.now here k)) c.follows.ensures in
     c.settle.ensures.stays (λ k. subst (λ i. is_moved a led here i b k ≡ false) (sym entering) (none-moved a c.args.region.now zeros led here b all_led k))
     ∙ same-zero c.clear_bits.new.bytes c.args.region.now c.clear_bits.ensures.len c.clear_bits.ensures.zero zeros
