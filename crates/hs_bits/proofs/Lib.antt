@@ -1,3 +1,5 @@
-pub mod UnionLemmas
 pub mod BitRangeLemmas
+pub mod LowestLemmas
+pub mod NextLemmas
+pub mod UnionLemmas
 pub mod WordLemmas

@@ -1,9 +1,9 @@
 -- Bits in a row of words.
-use Rattle.std.proofs.Common.{◌≡◌, ◌≢◌, ℕ, ◌+◌, ◌-◌, ◌*◌, ◌/◌, ◌%◌, ◌^◌, ◌<◌, ◌≤◌, Bool, true, false, ◌&&◌, ◌||◌, List, length, get_or, set, eqb, bit_or, bit_and, refl, sym, ap, ◌∙◌, inl, inr, arith, w64}
+use Rattle.std.proofs.Common.{◌≡◌, ◌≢◌, ℕ, suc, ◌+◌, ◌-◌, ◌*◌, ◌/◌, ◌%◌, ◌^◌, ◌<◌, ◌≤◌, Bool, true, false, ◌&&◌, ◌||◌, List, length, get_or, set, eqb, bit_or, bit_and, refl, sym, ap, subst, ◌∙◌, inl, inr, arith, w64, [], ◌∷◌, take, drop, length-drop}
 use Rattle.std.specs.Prelude.{nat_lt, nat_le}
-use Rattle.std.specs.Int.{bit_at, trailing_zeros}
+use Rattle.std.specs.Int.{bit_at, trailing_zeros, from_le_bytes}
 use Rattle.std.proofs.lemmas.Bool.{cases_eq, cases_lt, eq-eqb, eqb-true, ne_eqb, lt-ltb, le-ltb, le-leb, lt-leb}
-use Rattle.std.proofs.lemmas.List.{get_or-set_same, get_or-set_other, get_or_past}
+use Rattle.std.proofs.lemmas.List.{get_or-set_same, get_or-set_other, get_or_past, get_or-take, get_or-drop, length-take}
 use Rattle.std.proofs.lemmas.Nat.{and_le_l, shr-shr, shr_split, one_shl, pow_pos}
 use Rattle.std.proofs.lemmas.Nat.Bits.{bit_at-trailing_zeros, bit_at-zero, bit_at_above, bit_at_cat_low, bit_at_cat_high}
 use Rattle.hs_base.proofs.ByteSetLemmas.{bit-or}
@@ -423,3 +423,86 @@ unset-bits words zeros k =
       | inr above ↦ get_or_past words (k / 64) 0 above
     ] in
     ap (λ n. eqb (bit_at n (k % 64)) 1) word ∙ ap (λ n. eqb n 1) (bit_at-zero (k % 64))
+
+-- eight bytes as one word
+
+-- bytes as one number, the low one first
+word_value : List ℕ → ℕ
+word_value [] = 0
+word_value (b ∷ bytes) = word_value bytes * 2 ^ 8 + b
+
+value-bits : (bytes : List ℕ) → ((i : ℕ) → get_or bytes i 0 < 2 ^ 8) → (i : ℕ) → eqb (bit_at (word_value bytes) i) 1 ≡ has_bit bytes i
+unfolding has_bit word_value
+value-bits [] fits i = ap (λ n. eqb n 1) (bit_at-zero i ∙ sym (bit_at-zero (i % 8)))
+value-bits (b ∷ bytes) fits i =
+    elim (cases_lt i 8) [
+      | inl low ↦
+          let byte : i / 8 ≡ 0 = omega arith in
+          let bit : i % 8 ≡ i = omega arith in
+          ap (λ n. eqb n 1) (bit_at_cat_low (word_value bytes) 8 b i low)
+          ∙ sym (ap (λ n. eqb (bit_at (get_or (b ∷ bytes) n 0) (i % 8)) 1) byte ∙ ap (λ n. eqb (bit_at b n) 1) bit)
+      | inr high ↦
+          let byte : i / 8 ≡ suc ((i - 8) / 8) = omega arith in
+          let bit : i % 8 ≡ (i - 8) % 8 = omega arith in
+          ap (λ n. eqb n 1) (bit_at_cat_high (word_value bytes) 8 b i (fits 0) high)
+          ∙ (value-bits bytes (λ j. fits (suc j)) (i - 8)
+          ∙ sym (ap (λ n. eqb (bit_at (get_or (b ∷ bytes) n 0) (i % 8)) 1) byte ∙ ap (λ n. eqb (bit_at (get_or bytes ((i - 8) / 8) 0) n) 1) bit))
+    ]
+
+eight-value : (a b c d e f g h : ℕ) → from_le_bytes w64 (a ∷ b ∷ c ∷ d ∷ e ∷ f ∷ g ∷ h ∷ []) ≡ word_value (a ∷ b ∷ c ∷ d ∷ e ∷ f ∷ g ∷ h ∷ [])
+unfolding word_value
+eight-value a b c d e f g h =
+    let sum : from_le_bytes w64 (a ∷ b ∷ c ∷ d ∷ e ∷ f ∷ g ∷ h ∷ []) ≡ a + b * 256 + c * 256 ^ 2 + d * 256 ^ 3 + e * 256 ^ 4 + f * 256 ^ 5 + g * 256 ^ 6 + h * 256 ^ 7 = refl in
+    omega (arith, sum)
+
+-- eight bytes of a row from a place on
+abbrev pub eight_at : List ℕ → ℕ → List ℕ
+eight_at bytes at =
+    get_or bytes at 0 ∷ get_or bytes (at + 1) 0 ∷ get_or bytes (at + 2) 0 ∷ get_or bytes (at + 3) 0 ∷ get_or bytes (at + 4) 0 ∷ get_or bytes (at + 5) 0 ∷ get_or bytes (at + 6) 0 ∷ get_or bytes (at + 7) 0 ∷ []
+
+eight-first : (xs : List ℕ) → 8 ≤ length xs → eight_at xs 0 ≡ take 8 xs
+eight-first (a ∷ b ∷ c ∷ d ∷ e ∷ f ∷ g ∷ h ∷ xs) room = refl
+eight-first xs room = absurd (omega arith)
+
+pub eight-taken : (bytes : List ℕ) (at : ℕ) → at + 8 ≤ length bytes → eight_at bytes at ≡ take 8 (drop at bytes)
+eight-taken bytes at room =
+    let read : (k : ℕ) → get_or bytes (at + k) 0 ≡ get_or (drop at bytes) k 0 = λ k. sym (get_or-drop at bytes k 0) in
+    let first : get_or bytes at 0 ≡ get_or (drop at bytes) 0 0 = (let e : at ≡ at + 0 = omega arith in ap (λ n. get_or bytes n 0) e ∙ read 0) in
+    rw (first, read 1, read 2, read 3, read 4, read 5, read 6, read 7) (eight-first (drop at bytes) (omega (arith, length-drop at bytes)))
+
+pub eight-bits : (bytes : List ℕ) (at i : ℕ) → at + 8 ≤ length bytes → ((k : ℕ) → get_or bytes k 0 < 2 ^ 8) → i < 64 → eqb (bit_at (from_le_bytes w64 (eight_at bytes at)) i) 1 ≡ has_bit bytes (8 * at + i)
+unfolding has_bit
+eight-bits bytes at i room fits below =
+    let eight : List ℕ = take 8 (drop at bytes) in
+    let there : (k : ℕ) → k < 8 → get_or eight k 0 ≡ get_or bytes (at + k) 0 = λ k low. get_or-take 8 (drop at bytes) k 0 low ∙ get_or-drop at bytes k 0 in
+    let small : (k : ℕ) → get_or eight k 0 < 2 ^ 8 = λ k. elim (cases_lt k 8) [
+      | inl low ↦ subst (λ b. b < 2 ^ 8) (sym (there k low)) (fits (at + k))
+      | inr high ↦ subst (λ b. b < 2 ^ 8) (sym (get_or_past eight k 0 (omega (arith, length-take 8 (drop at bytes), length-drop at bytes)))) (omega arith)
+    ] in
+    let byte : (8 * at + i) / 8 ≡ at + i / 8 = omega arith in
+    let bit : (8 * at + i) % 8 ≡ i % 8 = omega arith in
+    ap (λ n. eqb (bit_at n i) 1) (eight-value (get_or bytes at 0) (get_or bytes (at + 1) 0) (get_or bytes (at + 2) 0) (get_or bytes (at + 3) 0) (get_or bytes (at + 4) 0) (get_or bytes (at + 5) 0) (get_or bytes (at + 6) 0) (get_or bytes (at + 7) 0))
+    ∙ (ap (λ xs. eqb (bit_at (word_value xs) i) 1) (eight-taken bytes at room)
+    ∙ (value-bits eight small i
+    ∙ (ap (λ b. eqb (bit_at b (i % 8)) 1) (there (i / 8) (omega arith))
+    ∙ sym (ap (λ n. eqb (bit_at (get_or bytes n 0) ((8 * at + i) % 8)) 1) byte ∙ ap (λ n. eqb (bit_at (get_or bytes (at + i / 8) 0) n) 1) bit))))
+
+-- one word of the bytes more
+pub word-more : (words first bytes : List ℕ) (p v : ℕ) → p < length words → ((i : ℕ) → i < 64 → eqb (bit_at v i) 1 ≡ has_bit bytes (8 * (8 * p) + i)) →
+    ((k : ℕ) → has_word_bit words k ≡ ((nat_lt k (64 * p) && has_bit bytes k) || has_word_bit first k)) → (k : ℕ) →
+    has_word_bit (set words p (bit_or (get_or words p 0) v)) k ≡ ((nat_lt k (64 * (p + 1)) && has_bit bytes k) || has_word_bit first k)
+word-more words first bytes p v within bits known k =
+    one-more (eqb (k / 64) p) (nat_lt k (64 * p)) (nat_lt k (64 * (p + 1))) (eqb (bit_at v (k % 64)) 1) (has_bit bytes k) (has_word_bit words k) (has_word_bit (set words p (bit_or (get_or words p 0) v)) k) (has_word_bit first k)
+    (λ here.
+    let e : k / 64 ≡ p = eqb-true (k / 64) p here in
+    let same : 8 * (8 * p) + k % 64 ≡ k = omega arith in
+    (le-ltb k (64 * p) (omega arith), lt-ltb k (64 * (p + 1)) (omega arith), bits (k % 64) (omega arith) ∙ ap (has_bit bytes) same))
+    (λ there.
+    elim (cases_lt k (64 * p)) [
+      | inl below ↦ rw (lt-ltb k (64 * p) below, lt-ltb k (64 * (p + 1)) (omega arith)) refl
+      | inr above ↦
+          elim (cases_eq (k / 64) p) [
+            | inl e ↦ absurd (let f : true ≡ false = sym (eq-eqb (k / 64) p e) ∙ there in cc)
+            | inr apart ↦ rw (le-ltb k (64 * p) above, le-ltb k (64 * (p + 1)) (let d : k / 64 ≢ p = apart in omega arith)) refl
+          ]
+    ]) (known k) (bits-united_word words p v k within)

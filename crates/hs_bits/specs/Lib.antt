@@ -1,2 +1,4 @@
 pub mod BitRanges
+pub mod LowestBits
+pub mod NextBits
 pub mod Shifts

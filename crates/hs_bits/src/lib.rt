@@ -1,15 +1,19 @@
-//! Bits in rows of bytes and of words: single ones, ranges, and whole rows at once.
+//! Bits in rows of bytes and of words: single ones, ranges, the lowest and the next one, and whole rows at once.
 #![tactic(auto)]
 
 mod bytes;
+mod lowest;
+mod next;
 mod ranges;
 mod words;
 
 pub use bytes::{
     BYTE_BITS, clear_bits, clear_live, contains_bit, insert_bit, is_zero, unite_bits, write_bit,
 };
+pub use lowest::{lowest_bit, without_lowest_bit};
+pub use next::{next_bit_in, next_bit_in_either};
 pub use ranges::{has_bit_in, has_bit_round};
 pub use words::{
     WORD_BITS, are_apart, contains_word_bit, insert_word_bit, is_unset, keep_words, shift_in,
-    store, unite_bytes, unite_words, word_count_for, write_word_bit,
+    store, unite_bytes, unite_words, word_at, word_count_for, write_word_bit,
 };

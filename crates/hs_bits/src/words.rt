@@ -1,8 +1,8 @@
 //! Bits in a row of words: 64 of them at a time.
 
 ghost use Rattle.std.specs.Prelude.{◌≡◌, ◌↔◌, ℕ, ◌+◌, ◌-◌, ◌*◌, ◌/◌, ◌%◌, ◌<◌, ◌≤◌, ◌^◌, true, false, IsTrue, ◌&&◌};
-ghost use Rattle.std.specs.Prelude.{◌||◌, ◌==◌, nat_lt, nat_le, length};
-ghost use Rattle.std.specs.Int.{bit_at};
+ghost use Rattle.std.specs.Prelude.{◌||◌, ◌==◌, nat_lt, nat_le, length, take, drop};
+ghost use Rattle.std.specs.Int.{bit_at, from_le_bytes, w64};
 ghost use Rattle.hs_base.specs.Bits.{AreZero, has_bit, has_word_bit, word_count};
 ghost use Rattle.hs_bits.specs.Shifts.{is_shifted};
 
@@ -22,6 +22,7 @@ pub fn word_count_for(count: usize) -> usize
 }
 
 /// Whether the bit of that number is set.
+#[inline(always)]
 #[tactic(auto, using(std::proofs::lemmas::Nat::Bits::shr_and_one), unfolding(hs_base::specs::Bits::has_word_bit))]
 pub fn contains_word_bit(words: &[u64], bit: usize) -> bool
     requires { bit < 64 * length words.now }
@@ -67,14 +68,48 @@ pub fn is_unset(words: &[u64]) -> bool
     words.iter().all(|word| *word == 0)
 }
 
-/// Sets the bits that are set in the bytes.
+/// The eight bytes from a place on as one word, the low one first.
+#[inline(always)]
+pub fn word_at(bytes: &[u8], at: usize) -> u64
+    requires { at + 8 ≤ length bytes.now }
+    ensures number { result ≡ from_le_bytes w64 (take 8 (drop at bytes.now)) }
+    ensures bits { (i : ℕ) → i < 64 → (bit_at result i == 1) ≡ has_bit bytes.now (8 * at + i) }
+{
+    u64::from_le_bytes([
+        bytes[at],
+        bytes[at + 1],
+        bytes[at + 2],
+        bytes[at + 3],
+        bytes[at + 4],
+        bytes[at + 5],
+        bytes[at + 6],
+        bytes[at + 7],
+    ])
+}
+
+/// Sets the bits that are set in the bytes. It takes eight bytes at a time, and one by one those that are left.
 pub fn unite_bytes(words: &mut [u64], bytes: &[u8])
     requires { length bytes.now ≤ 8 * length words.old }
     ensures len { length words.new ≡ length words.old }
     ensures bits { (k : ℕ) → has_word_bit words.new k ≡ (has_bit bytes.now k || has_word_bit words.old k) }
 {
-    for place in 0..bytes.len() {
+    let whole = bytes.len() / WORD_LEN;
+    unite_whole_words(words, bytes, whole);
+    for place in WORD_LEN * whole..bytes.len() {
         unite_byte(words, bytes, place);
+    }
+}
+
+/// Sets the bits that are set in so many times eight bytes.
+fn unite_whole_words(words: &mut [u64], bytes: &[u8], count: usize)
+    requires bytes { 8 * count ≤ length bytes.now }
+    requires room { count ≤ length words.old }
+    ensures len { length words.new ≡ length words.old }
+    ensures bits { (k : ℕ) →
+        has_word_bit words.new k ≡ ((nat_lt k (64 * count) && has_bit bytes.now k) || has_word_bit words.old k) }
+{
+    for place in 0..count {
+        words[place] |= word_at(bytes, WORD_LEN * place);
     }
 }
 
@@ -183,7 +218,7 @@ fn carried(word: u64, distance: usize) -> u64
 
 #[cfg(test)]
 mod tests {
-    use super::{is_unset, word_count_for, write_word_bit};
+    use super::{is_unset, unite_bytes, word_at, word_count_for, write_word_bit};
 
     #[test]
     fn the_lowest_bit_of_a_word_comes_first(rt: HostRuntime) {
@@ -195,6 +230,16 @@ mod tests {
         write_word_bit(&mut words, 129, false);
         assert_eq!(rt; words, [1, 1, 4]);
         assert!(rt; !is_unset(&words) && is_unset(&[0, 0]));
+    }
+
+    #[test]
+    fn the_low_byte_of_a_word_comes_first(rt: HostRuntime) {
+        let bytes = [0x01u8, 0x02, 0, 0, 0, 0, 0, 0x80, 0x04, 0x08];
+        assert_eq!(rt; word_at(&bytes, 0), 0x8000_0000_0000_0201);
+        assert_eq!(rt; word_at(&bytes, 2), 0x0804_8000_0000_0000);
+        let mut words = [0x10u64, 0];
+        unite_bytes(&mut words, &bytes);
+        assert_eq!(rt; words, [0x8000_0000_0000_0211, 0x0804]);
     }
 
     #[test]

@@ -1,10 +1,9 @@
 -- Chains that are built from the last number to the first.
-use Rattle.std.proofs.Common.{◌≡◌, ◌≢◌, ℕ, ◌+◌, ◌*◌, ◌/◌, ◌%◌, ◌^◌, ◌<◌, List, length, get_or, set, replicate, bit_or, sym, ap, ◌∙◌, subst, arith, inl, inr, get_or-set_same, get_or-set_other}
+use Rattle.std.proofs.Common.{◌≡◌, ◌≢◌, ℕ, ◌+◌, ◌<◌, false, ◌||◌, List, length, get_or, set, replicate, eqb, sym, ap, ◌∙◌, subst, arith, inl, inr, get_or-set_same, get_or-set_other}
 use Rattle.std.proofs.lemmas.List.{get_or-replicate, length-replicate, length-set}
-use Rattle.std.specs.Int.{bit_at, w64}
-use Rattle.std.proofs.lemmas.Nat.Bits.{bit_at_set_same, bit_at_set_other}
-use Rattle.std.proofs.lemmas.Bool.{cases_eq}
-use Rattle.hs_confirm.specs.Rows.{IsLeastFrom, AreChainsFrom, AreChains, row_bit, AreMarked}
+use Rattle.std.proofs.lemmas.Bool.{cases_eq, eq-eqb, ne_eqb, false≢true}
+use Rattle.hs_confirm.specs.Rows.{IsLeastFrom, AreChainsFrom, AreChains, AreMarked}
+use Rattle.hs_base.specs.Bits.{has_word_bit}
 
 -- no number counts
 pub chains-none : (rows nexts : List ℕ) (from count : ℕ) → from ≡ length rows → AreChainsFrom rows from (replicate count from) nexts
@@ -73,34 +72,12 @@ next_least rows heads nexts number row found chains within same is =
 pub marked-none : (words : List ℕ) (rows count : ℕ) → AreMarked words (replicate rows count) count
 marked-none words rows count row within is = get_or-replicate rows row count 0 (omega (arith, length-replicate rows count))
 
--- the words with the bit of a row set
-abbrev pub with_mark : List ℕ → ℕ → List ℕ
-with_mark words row = set words (row / 64) (bit_or (get_or words (row / 64) 0) (1 * 2 ^ (row % 64) % 2 ^ 64))
-
-mark-here : (words : List ℕ) (row : ℕ) → row < 64 * length words → row_bit (with_mark words row) row ≡ 1
-mark-here words row within =
-    let n = get_or words (row / 64) 0 in
-    ap (λ w. bit_at w (row % 64)) (get_or-set_same words (row / 64) (bit_or n (1 * 2 ^ (row % 64) % 2 ^ 64)) 0 (omega arith))
-    ∙ bit_at_set_same w64 n (row % 64) (omega arith)
-
-mark-there : (words : List ℕ) (row other : ℕ) → row < 64 * length words → other ≢ row → row_bit (with_mark words row) other ≡ row_bit words other
-mark-there words row other within apart =
-    let n = get_or words (row / 64) 0 in
-    let m = bit_or n (1 * 2 ^ (row % 64) % 2 ^ 64) in
-    elim (cases_eq (other / 64) (row / 64)) [
-      | inl same ↦
-          let far : other % 64 ≢ row % 64 = λ e. apart (omega arith) in
-          ap (λ k. bit_at (get_or (set words (row / 64) m) k 0) (other % 64)) same
-          ∙ ap (λ w. bit_at w (other % 64)) (get_or-set_same words (row / 64) m 0 (omega arith))
-          ∙ bit_at_set_other w64 n (row % 64) (omega arith) (other % 64) far
-          ∙ ap (λ k. bit_at (get_or words k 0) (other % 64)) (sym same)
-      | inr far ↦ ap (λ w. bit_at w (other % 64)) (get_or-set_other words (row / 64) (other / 64) m 0 far)
-    ]
-
 -- a number is filed in a row, and the row's bit set
-pub marked-more : (words heads : List ℕ) (count row number : ℕ) → row < 64 * length words → AreMarked words heads count → AreMarked (with_mark words row) (set heads row number) count
-marked-more words heads count row number within marked other below is =
+pub marked-more : (words new heads : List ℕ) (count row number : ℕ) → ((k : ℕ) → has_word_bit new k ≡ (eqb k row || has_word_bit words k)) → AreMarked words heads count → AreMarked new (set heads row number) count
+marked-more words new heads count row number bits marked other below unset =
     elim (cases_eq other row) [
-      | inl same ↦ absurd (omega (arith, mark-here words row within, sym (ap (row_bit (with_mark words row)) same) ∙ is))
-      | inr apart ↦ get_or-set_other heads row other number 0 apart ∙ marked other (omega (arith, length-set heads row number)) (sym (mark-there words row other within apart) ∙ is)
+      | inl same ↦ absurd (false≢true (sym unset ∙ (bits other ∙ ap (λ b. b || has_word_bit words other) (eq-eqb other row same))))
+      | inr apart ↦
+          let old : has_word_bit words other ≡ false = sym (ap (λ b. b || has_word_bit words other) (ne_eqb other row apart)) ∙ (sym (bits other) ∙ unset) in
+          get_or-set_other heads row other number 0 apart ∙ marked other (omega (arith, length-set heads row number)) old
     ]

@@ -8,7 +8,7 @@ use Rattle.std.proofs.lemmas.Option.{slice_get-map, slice_get_within, same_Some,
 use Rattle.hs_confirm.specs.declared.entry.Entry.{Entry}
 use Rattle.hs_confirm.specs.BucketEnds.{IsBucketEnd, AreBucketEnds}
 use Rattle.hs_confirm.specs.Taking.{ends_there}
-use Rattle.hs_confirm.specs.Keys.{text_key, row_of}
+use Rattle.hs_confirm.specs.Keys.{text_key, key_row}
 use Rattle.hs_confirm.specs.Rows.{IsLeastFrom}
 use Rattle.hs_confirm.specs.Entries.{literal_in, IsKeyed, AreKeyed, rows_of_entries, entry_ends_option, number_ends, ends_from}
 use Rattle.hs_confirm.proofs.TakingLemmas.{ends_from_there, there_from_ends}
@@ -78,7 +78,7 @@ ends_from-exact entries bucket text offset within =
 
 -- one that ends there stands in the row of the bucket and the key
 pub end_row : (widths : List ℕ) (entries : List Entry) (rows bucket key : ℕ) (text : List ℕ) (offset number : ℕ) → AreKeyed widths entries → key ≡ text_key (get_or widths bucket 0) text offset → number_ends entries bucket text offset number ≡ true
-    → get_or (rows_of_entries rows entries) number 0 ≡ row_of rows bucket key
+    → get_or (rows_of_entries rows entries) number 0 ≡ key_row rows bucket key
 end_row widths entries rows bucket key text offset number keyed is says =
     let found : IsEntryEnd entries bucket text offset number = number_end entries bucket text offset number says in
     let entry = found.entry in
@@ -88,14 +88,14 @@ end_row widths entries rows bucket key text offset number keyed is says =
     ∙ keys-same (get_or widths entry.bucket 0) (literal_in entry) text offset (are_small entry.literal.items) known.short found.ends
     ∙ ap (λ b. text_key (get_or widths b 0) text offset) found.filed
     ∙ sym is in
-    get_or_from_slice_get (rows_of_entries rows entries) number (row_of rows entry.bucket entry.key) 0
-    (slice_get-map (λ e. row_of rows e.bucket e.key) entries number ∙ ap (option_map (λ e. row_of rows e.bucket e.key)) found.numbered)
-    ∙ ap (λ b. row_of rows b entry.key) found.filed
-    ∙ ap (row_of rows bucket) same_key
+    get_or_from_slice_get (rows_of_entries rows entries) number (key_row rows entry.bucket entry.key) 0
+    (slice_get-map (λ e. key_row rows e.bucket e.key) entries number ∙ ap (option_map (λ e. key_row rows e.bucket e.key)) found.numbered)
+    ∙ ap (λ b. key_row rows b entry.key) found.filed
+    ∙ ap (key_row rows bucket) same_key
 
 -- the numbers up to the next one of the row are passed over
 pub ends_from-skip : (widths : List ℕ) (entries : List Entry) (rows bucket key : ℕ) (text : List ℕ) (offset from to : ℕ) → AreKeyed widths entries → key ≡ text_key (get_or widths bucket 0) text offset
-    → IsLeastFrom (rows_of_entries rows entries) (row_of rows bucket key) from to → ends_from entries bucket text offset from ≡ ends_from entries bucket text offset to
+    → IsLeastFrom (rows_of_entries rows entries) (key_row rows bucket key) from to → ends_from entries bucket text offset from ≡ ends_from entries bucket text offset to
 unfolding ends_from
 ends_from-skip widths entries rows bucket key text offset from to keyed is least =
     let p = number_ends entries bucket text offset in
@@ -103,7 +103,7 @@ ends_from-skip widths entries rows bucket key text offset from to keyed is least
     false_from_ne_true (p k) (λ says.
     let found : IsEntryEnd entries bucket text offset k = number_end entries bucket text offset k says in
     let there : k < length entries = slice_get_within entries k found.entry found.numbered in
-    least.passed k low high (omega (arith, length-map entries (λ e. row_of rows e.bucket e.key)))
+    least.passed k low high (omega (arith, length-map entries (λ e. key_row rows e.bucket e.key)))
     (end_row widths entries rows bucket key text offset k keyed is says)))
 
 pub ends_from-in : (entries : List Entry) (bucket : ℕ) (text : List ℕ) (offset number : ℕ) → number < length entries → number_ends entries bucket text offset number ≡ true
@@ -122,14 +122,14 @@ ends_from-end entries bucket text offset number past = passing-end (number_ends 
 
 -- the step from one number of the row to the next
 pub ends_from-told : (widths : List ℕ) (entries : List Entry) (rows bucket key : ℕ) (text : List ℕ) (offset number next : ℕ) → AreKeyed widths entries → key ≡ text_key (get_or widths bucket 0) text offset
-    → IsLeastFrom (rows_of_entries rows entries) (row_of rows bucket key) (number + 1) next → number < length entries → number_ends entries bucket text offset number ≡ true
+    → IsLeastFrom (rows_of_entries rows entries) (key_row rows bucket key) (number + 1) next → number < length entries → number_ends entries bucket text offset number ≡ true
     → ends_from entries bucket text offset number ≡ number ∷ ends_from entries bucket text offset next
 ends_from-told widths entries rows bucket key text offset number next keyed is least within says =
     ends_from-in entries bucket text offset number within says
     ∙ ap (λ numbers. number ∷ numbers) (ends_from-skip widths entries rows bucket key text offset (number + 1) next keyed is least)
 
 pub ends_from-untold : (widths : List ℕ) (entries : List Entry) (rows bucket key : ℕ) (text : List ℕ) (offset number next : ℕ) → AreKeyed widths entries → key ≡ text_key (get_or widths bucket 0) text offset
-    → IsLeastFrom (rows_of_entries rows entries) (row_of rows bucket key) (number + 1) next → number_ends entries bucket text offset number ≡ false
+    → IsLeastFrom (rows_of_entries rows entries) (key_row rows bucket key) (number + 1) next → number_ends entries bucket text offset number ≡ false
     → ends_from entries bucket text offset number ≡ ends_from entries bucket text offset next
 ends_from-untold widths entries rows bucket key text offset number next keyed is least says =
     ends_from-out entries bucket text offset number says

@@ -5,7 +5,7 @@ use Rattle.std.proofs.lemmas.List.{map_more, take_more}
 use Rattle.std.proofs.lemmas.Bool.{cases_eq}
 use Rattle.std.proofs.lemmas.Option.{same_Some, none-some}
 use Rattle.hs_confirm.specs.declared.entry.Entry.{Entry}
-use Rattle.hs_confirm.specs.Keys.{IsMask, row_of}
+use Rattle.hs_confirm.specs.Keys.{IsMask, key_row}
 use Rattle.hs_confirm.specs.Entries.{IsKeyed, AreKeyed, rows_of_entries}
 use Rattle.hs_confirm.specs.Widths.{AreShort}
 
@@ -46,7 +46,7 @@ keyed-push widths [] entry keyed is (suc n) other found = absurd (none-some othe
 keyed-push widths (e ∷ entries) entry keyed is zero other found = keyed zero other found
 keyed-push widths (e ∷ entries) entry keyed is (suc n) other found = keyed-push widths entries entry (λ k x here. keyed (suc k) x here) is n other found
 
-row-within : (count bucket key : ℕ) → 0 < count → row_of count bucket key < count
+row-within : (count bucket key : ℕ) → 0 < count → key_row count bucket key < count
 row-within count bucket key some = omega (arith, and_le_r (key * 11400714819323198485 % 2 ^ 64 / 2 ^ 40 + bucket * 40503) (count - 1))
 
 -- each row is one of so many

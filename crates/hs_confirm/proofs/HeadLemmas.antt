@@ -6,10 +6,11 @@ use Rattle.std.specs.Option.{option_map, unwrap_or, MatchOption}
 use Rattle.std.specs.List.{range_with_len, filter}
 use Rattle.std.proofs.lemmas.Bool.{false≢true, and_parts, and_from, and_right, le-leb, leb-true, cases_lt, cases_eq, false_from_ne_true}
 use Rattle.std.proofs.lemmas.List.{get_or-replicate}
-use Rattle.std.proofs.lemmas.Nat.{and_le_l}
-use Rattle.std.proofs.lemmas.Nat.Bits.{bit_at-zero, bit_at_not, bit_at_clear_same}
+use Rattle.std.proofs.lemmas.Nat.Bits.{bit_at-zero, bit_at_above, bit_at_not}
 use Rattle.std.proofs.lemmas.Option.{slice_get-map, slice_get_within, same_Some}
 use Rattle.hs_base.specs.Lists.{IsMember}
+use Rattle.hs_bits.specs.LowestBits.{IsLowestBit, AreBitsBehind}
+use Rattle.hs_bits.proofs.LowestLemmas.{others-stay}
 use Rattle.hs_confirm.specs.declared.entry.Entry.{Entry}
 use Rattle.hs_confirm.specs.BucketEnds.{IsBucketEnd}
 use Rattle.hs_confirm.specs.PlaceEnds.{IsPlaceEnd, ArePlaceEnds}
@@ -272,32 +273,24 @@ some-exact entries mask text offset bucket number numbers inside head within are
 
 -- the buckets that a mask leaves open
 pub open-all : (mask : ℕ) → mask < 256 → AreOpenBuckets mask (255 - mask)
-open-all mask fits bucket few is = omega (arith, bit_at_not w8 mask bucket fits few, is)
+open-all mask fits bucket is =
+    elim (cases_lt bucket 8) [
+      | inl few ↦ (few, omega (arith, bit_at_not w8 mask bucket fits few, is))
+      | inr past ↦ absurd (omega (arith, bit_at_above (255 - mask) 8 bucket (omega arith) past, is))
+    ]
 
 pub outside-masked : (entries : List Entry) (mask : ℕ) (text : List ℕ) (offset : ℕ) → mask < 256 → OutsideHave (HasNone entries mask text offset) (255 - mask)
 outside-masked entries mask text offset fits bucket few out = λ unmasked. absurd (omega (arith, bit_at_not w8 mask bucket fits few, out, unmasked))
 
 -- one bucket less
-pub fewer-left : (left bucket : ℕ) → bucket < 8 → bit_at left bucket ≡ 1 → bit_and left (255 - 1 * 2 ^ bucket % 256) < left
-fewer-left left bucket few one =
-    let less = bit_and left (255 - 1 * 2 ^ bucket % 256) in
-    elim (cases_eq less left) [
-      | inl same ↦ absurd (omega (arith, bit_at_clear_same w8 left bucket few, ap (λ n. bit_at n bucket) same, one))
-      | inr apart ↦ omega (arith, and_le_l left (255 - 1 * 2 ^ bucket % 256), apart)
-    ]
+pub open-step : (mask left less bucket : ℕ) → AreOpenBuckets mask left → AreBitsBehind left bucket less → AreOpenBuckets mask less
+open-step mask left less bucket are behind other is = let (_, old) = (behind other).0 is in are other old
 
-pub open-step : (mask left less bucket : ℕ) → AreOpenBuckets mask left → bit_at less bucket ≡ 0 → ((other : ℕ) → other < 8 → other ≢ bucket → bit_at less other ≡ bit_at left other) → AreOpenBuckets mask less
-open-step mask left less bucket are out others other few is =
-    elim (cases_eq other bucket) [
-      | inl same ↦ absurd (omega (arith, is, ap (bit_at less) same, out))
-      | inr apart ↦ are other few (sym (others other few apart) ∙ is)
-    ]
-
-pub outside-step : (P : ℕ → Type 0) (left less bucket : ℕ) → OutsideHave P left → P bucket → ((other : ℕ) → other < 8 → other ≢ bucket → bit_at less other ≡ bit_at left other) → OutsideHave P less
-outside-step P left less bucket have is others other few out =
+pub outside-step : (P : ℕ → Type 0) (left less bucket : ℕ) → OutsideHave P left → P bucket → IsLowestBit left bucket → AreBitsBehind left bucket less → OutsideHave P less
+outside-step P left less bucket have is low behind other few out =
     elim (cases_eq other bucket) [
       | inl same ↦ subst P (sym same) is
-      | inr apart ↦ have other few (sym (others other few apart) ∙ out)
+      | inr apart ↦ have other few (sym (others-stay left bucket less low behind other apart) ∙ out)
     ]
 
 pub outside-all : (P : ℕ → Type 0) (left : ℕ) → left ≡ 0 → OutsideHave P left → (bucket : ℕ) → bucket < 8 → P bucket
@@ -317,15 +310,15 @@ pub open-head : (entries : List Entry) (mask : ℕ) (text : List ℕ) (offset bu
 open-head entries mask text offset bucket number unmasked first = record { unmasked = λ _. first; masked = λ masked. absurd (masked unmasked) }
 
 -- the first bucket that was found, with those before it
-pub first-head : (entries : List Entry) (mask : ℕ) (text : List ℕ) (offset left less bucket number : ℕ) → bucket < 8 → bit_at left bucket ≡ 1 → AreOpenBuckets mask left → OutsideHave (HasNone entries mask text offset) left → bit_at less bucket ≡ 0
-    → ((other : ℕ) → other < 8 → other ≢ bucket → bit_at less other ≡ bit_at left other) → IsFirstPassing (number_ends entries bucket text offset) 0 (length entries) number → number < length entries → IsFirstHead entries mask text offset bucket number less
-first-head entries mask text offset left less bucket number few one are none out others first within = record {
-  few = few;
-  unmasked = are bucket few one;
+pub first-head : (entries : List Entry) (mask : ℕ) (text : List ℕ) (offset left less bucket number : ℕ) → AreOpenBuckets mask left → OutsideHave (HasNone entries mask text offset) left → IsLowestBit left bucket
+    → AreBitsBehind left bucket less → IsFirstPassing (number_ends entries bucket text offset) 0 (length entries) number → number < length entries → IsFirstHead entries mask text offset bucket number less
+first-head entries mask text offset left less bucket number are none low behind first within = record {
+  few = (are bucket low.is).0;
+  unmasked = (are bucket low.is).1;
   first = first;
   within = within;
-  unmasked_left = open-step mask left less bucket are out others;
-  none = λ other below is apart. none other below (sym (others other below apart) ∙ is);
+  unmasked_left = open-step mask left less bucket are behind;
+  none = λ other below is apart. none other below (sym (others-stay left bucket less low behind other apart) ∙ is);
 }
 
 -- the heads where one bucket is known to have one
@@ -344,9 +337,9 @@ heads-first entries mask text offset bucket number left count e first other few 
 
 -- one head more
 pub heads-step : (entries : List Entry) (mask : ℕ) (heads text : List ℕ) (offset left less bucket number : ℕ) → length heads ≡ 8 → bucket < 8 → bit_at mask bucket ≡ 0 → IsFirstPassing (number_ends entries bucket text offset) 0 (length entries) number
-    → ((other : ℕ) → other < 8 → other ≢ bucket → bit_at less other ≡ bit_at left other) → OutsideHave (λ b. IsHead entries mask text offset b (get_or heads b 0)) left
+    → IsLowestBit left bucket → AreBitsBehind left bucket less → OutsideHave (λ b. IsHead entries mask text offset b (get_or heads b 0)) left
     → OutsideHave (λ b. IsHead entries mask text offset b (get_or (set heads bucket number) b 0)) less
-heads-step entries mask heads text offset left less bucket number eight few unmasked first others are other below out =
+heads-step entries mask heads text offset left less bucket number eight few unmasked first low behind are other below out =
     elim (cases_eq other bucket) [
       | inl same ↦
           let is : get_or (set heads bucket number) bucket 0 ≡ number = get_or-set_same heads bucket number 0 (omega arith) in
@@ -354,7 +347,7 @@ heads-step entries mask heads text offset left less bucket number eight few unma
           (subst (λ n. IsHead entries mask text offset bucket n) (sym is) (open-head entries mask text offset bucket number unmasked first))
       | inr apart ↦
           subst (λ n. IsHead entries mask text offset other n) (sym (get_or-set_other heads bucket other number 0 apart))
-          (are other below (sym (others other below apart) ∙ out))
+          (are other below (sym (others-stay left bucket less low behind other apart) ∙ out))
     ]
 
 -- heads that are all no number

@@ -6,7 +6,7 @@ use Rattle.hs_base.specs.Literals.{LiteralByte}
 use Rattle.hs_base.specs.LiteralView.{literal_byte}
 use Rattle.hs_confirm.specs.declared.entry.Entry.{Entry}
 use Rattle.hs_confirm.specs.Taking.{ends_there}
-use Rattle.hs_confirm.specs.Keys.{literal_key, row_of}
+use Rattle.hs_confirm.specs.Keys.{literal_key, key_row}
 
 -- the literal of an entry
 abbrev pub literal_in : Entry → List LiteralByte
@@ -25,7 +25,7 @@ AreKeyed widths entries = (number : ℕ) (entry : Entry) → slice_get entries n
 
 -- the row of each entry, of so many rows
 abbrev pub rows_of_entries : ℕ → List Entry → List ℕ
-rows_of_entries rows entries = map (λ entry. row_of rows entry.bucket entry.key) entries
+rows_of_entries rows entries = map (λ entry. key_row rows entry.bucket entry.key) entries
 
 -- whether the entry is in the bucket and ends there
 abbrev pub entry_ends : (bucket : ℕ) → List ℕ → ℕ → Entry → Bool

@@ -25,9 +25,9 @@ HasNone entries mask text offset bucket =
     bit_at mask bucket ≡ 0 → (number : ℕ) → number < length entries →
     number_ends entries bucket text offset number ≡ false
 
--- the buckets whose bit is 1 are ones that the mask leaves open
+-- the bits that are 1 are those of buckets that the mask leaves open
 abbrev pub AreOpenBuckets : (mask left : ℕ) → Type 0
-AreOpenBuckets mask left = (bucket : ℕ) → bucket < 8 → bit_at left bucket ≡ 1 → bit_at mask bucket ≡ 0
+AreOpenBuckets mask left = (bucket : ℕ) → bit_at left bucket ≡ 1 → (bucket < 8) × (bit_at mask bucket ≡ 0)
 
 -- that holds of each bucket whose bit is 0
 abbrev pub OutsideHave : (ℕ → Type 0) → (left : ℕ) → Type 0

@@ -53,5 +53,5 @@ abbrev pub AreMasks : (widths masks : List ℕ) → Type 0
 AreMasks widths masks = (bucket : ℕ) → bucket < 8 → IsMask (slice_index widths bucket) (slice_index masks bucket)
 
 -- in which of so many rows the literals of a bucket and a key stand
-abbrev pub row_of : (rows bucket key : ℕ) → ℕ
-row_of rows bucket key = bit_and (key * 11400714819323198485 % 2 ^ 64 / 2 ^ 40 + bucket * 40503) (rows - 1)
+abbrev pub key_row : (rows bucket key : ℕ) → ℕ
+key_row rows bucket key = bit_and (key * 11400714819323198485 % 2 ^ 64 / 2 ^ 40 + bucket * 40503) (rows - 1)

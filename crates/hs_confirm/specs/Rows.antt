@@ -1,6 +1,6 @@
 -- Numbers in rows: the first number of each row, and behind each number the next one of its row.
-use Rattle.std.specs.Prelude.{◌≡◌, ◌≢◌, ℕ, ◌+◌, ◌/◌, ◌%◌, ◌<◌, ◌≤◌, List, length, slice_index}
-use Rattle.std.specs.Int.{bit_at}
+use Rattle.std.specs.Prelude.{◌≡◌, ◌≢◌, ℕ, ◌+◌, ◌<◌, ◌≤◌, false, List, length, slice_index}
+use Rattle.hs_base.specs.Bits.{has_word_bit}
 
 -- the least number from one on that stands in the row, or at least the count of all numbers where there is none
 pub record IsLeastFrom (rows : List ℕ) (row from number : ℕ) : Type 0 where
@@ -16,10 +16,6 @@ pub record AreChainsFrom (rows : List ℕ) (from : ℕ) (heads nexts : List ℕ)
 abbrev pub AreChains : (rows heads nexts : List ℕ) → Type 0
 AreChains rows heads nexts = AreChainsFrom rows 0 heads nexts
 
--- the bit of a row, in words of 64
-abbrev pub row_bit : (words : List ℕ) → ℕ → ℕ
-row_bit words row = bit_at (slice_index words (row / 64)) (row % 64)
-
--- where the bit of a row is 0, its first number is the count of all: the row is empty
+-- where the bit of a row is not set, its first number is the count of all: the row is empty
 abbrev pub AreMarked : (words heads : List ℕ) → (count : ℕ) → Type 0
-AreMarked words heads count = (row : ℕ) → row < length heads → row_bit words row ≡ 0 → slice_index heads row ≡ count
+AreMarked words heads count = (row : ℕ) → row < length heads → has_word_bit words row ≡ false → slice_index heads row ≡ count

@@ -3,7 +3,7 @@
 ghost use Rattle.std.specs.Prelude.{◌≡◌, ◌<◌, ◌≤◌, ◌*◌, ℕ, IfOk, length, slice_index, vec_len};
 ghost use Rattle.hs_confirm.specs.Rows.{AreChains, AreMarked};
 
-use hs_bits::WORD_BITS;
+use hs_bits::{WORD_BITS, contains_word_bit, insert_word_bit};
 use std::alloc::{AllocError, Global};
 
 /// The numbers of each row, rising: its first one, and behind each number the next one of its row.
@@ -38,7 +38,7 @@ impl Chains {
             let row = rows[number];
             nexts[number] = heads[row];
             heads[row] = number;
-            marks[row / WORD_BITS] |= 1 << (row % WORD_BITS);
+            insert_word_bit(&mut marks, row);
         }
         Ok(Chains {
             heads,
@@ -61,7 +61,7 @@ impl Chains {
         requires { row < vec_len self.now.heads }
         ensures { result ≡ slice_index self.now.heads.items row }
     {
-        if (self.marks[row / WORD_BITS] >> (row % WORD_BITS)) & 1 == 0 {
+        if !contains_word_bit(&self.marks, row) {
             return self.nexts.len();
         }
         self.heads[row]

@@ -1,11 +1,11 @@
 //! The literals of a bucket that end at a place, rising.
 
 ghost use Rattle.std.specs.Prelude.{◌≡◌, ◌<◌, ◌≤◌, ◌+◌, ◌++◌, true, length, slice_index, vec_len};
-ghost use Rattle.hs_confirm.specs.Keys.{row_of, full_text_key, text_key};
+ghost use Rattle.hs_confirm.specs.Keys.{key_row, full_text_key, text_key};
 ghost use Rattle.hs_confirm.specs.Entries.{number_ends, ends_from, rows_of_entries};
 
 use crate::confirm::Confirm;
-use crate::keys::{full_text_key, row_of};
+use crate::keys::{full_text_key, key_row};
 use crate::taking::ends_there;
 
 /// The numbers of the literals of a bucket that end at a place, rising.
@@ -27,7 +27,7 @@ pub struct Ends<'a> {
     ghost keyed: { key ≡ text_key (slice_index confirm.now.widths bucket) (history.now ++ bytes.now)
         (length history.now + at) },
     ghost stands: { next < vec_len confirm.now.entries →
-        slice_index (rows_of_entries (vec_len confirm.now.chains.heads) confirm.now.entries.items) next ≡ row_of
+        slice_index (rows_of_entries (vec_len confirm.now.chains.heads) confirm.now.entries.items) next ≡ key_row
         (vec_len confirm.now.chains.heads) bucket key },
 }
 
@@ -74,7 +74,7 @@ impl<'a> Ends<'a> {
             (history.now ++ bytes.now) (length history.now + at) (ends_left result) }
     {
         let key = confirm.key_at(bucket, full);
-        let row = row_of(confirm.chains.rows(), bucket, key);
+        let row = key_row(confirm.chains.rows(), bucket, key);
         Ends {
             confirm,
             history,

@@ -7,7 +7,7 @@ ghost use Rattle.hs_confirm.specs.Keys.{literal_key};
 ghost use Rattle.hs_confirm.specs.Widths.{AreShort};
 
 use crate::entry::Entry;
-use crate::keys::{literal_key, row_of};
+use crate::keys::{key_row, literal_key};
 use hs_base::{BUCKETS, LitByte};
 use std::alloc::{AllocError, Global};
 
@@ -78,7 +78,7 @@ pub(crate) fn rows_of(
 {
     let mut rows = Vec::with_capacity(alloc, entries.len())?;
     for entry in entries {
-        rows.push(row_of(count, entry.bucket, entry.key))?;
+        rows.push(key_row(count, entry.bucket, entry.key))?;
     }
     Ok(rows)
 }

@@ -3,7 +3,7 @@
 ghost use Rattle.std.specs.Prelude.{◌≡◌, ◌≤◌, ◌<◌, ◌+◌, ◌-◌, ◌^◌, ◌++◌, ℕ, length, map, slice_index};
 ghost use Rattle.hs_base.specs.LiteralView.{literal_byte};
 ghost use Rattle.hs_confirm.specs.Keys.{folded, literal_place, text_place, eight_places, full_literal_key};
-ghost use Rattle.hs_confirm.specs.Keys.{full_text_key, literal_key, IsMask, row_of};
+ghost use Rattle.hs_confirm.specs.Keys.{full_text_key, literal_key, IsMask, key_row};
 
 use hs_base::LitByte;
 use std::simd::prelude::*;
@@ -133,9 +133,9 @@ pub(crate) fn literal_key(literal: &[LitByte], width: u8) -> u64
 
 /// In which of so many rows the literals of that bucket and key stand.
 #[inline(always)]
-pub(crate) fn row_of(rows: usize, bucket: u8, key: u64) -> usize
+pub(crate) fn key_row(rows: usize, bucket: u8, key: u64) -> usize
     requires { 0 < rows }
-    ensures row { result ≡ row_of rows bucket key }
+    ensures row { result ≡ key_row rows bucket key }
     ensures within { result < rows }
 {
     ((key.wrapping_mul(KEY_SPREAD) >> LOW_BITS) as usize + usize::from(bucket) * BUCKET_STRIDE)

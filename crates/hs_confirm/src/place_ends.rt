@@ -2,7 +2,6 @@
 
 ghost use Rattle.std.specs.Prelude.{◌≡◌, ◌≢◌, ◌<◌, ◌≤◌, ◌+◌, ◌++◌, ℕ, [], true, MatchOption, length, slice_index};
 ghost use Rattle.std.specs.Prelude.{vec_len};
-ghost use Rattle.std.specs.Int.{bit_at};
 ghost use Rattle.hs_confirm.specs.Entries.{number_ends};
 ghost use Rattle.hs_confirm.specs.Heads.{AreHeads, IsHead, IsFirstHead, IsFirstPassing, HasNone};
 ghost use Rattle.hs_confirm.specs.Keys.{full_text_key};
@@ -11,6 +10,7 @@ use crate::confirm::Confirm;
 use crate::ends::Ends;
 use crate::keys::full_text_key;
 use hs_base::BUCKETS;
+use hs_bits::{lowest_bit, without_lowest_bit};
 
 /// The numbers of the literals that end at a place, of all buckets that were left open, rising.
 #[derive(Debug, Drop)]
@@ -35,30 +35,7 @@ struct Head {
     /// The first number of the bucket that ends.
     number: usize,
     /// A bit for each open bucket that hasn't been looked at.
-    left: u8,
-}
-
-/// The least bucket whose bit is 1.
-#[inline(always)]
-fn least_of(left: u8) -> u8
-    requires { 0 < left }
-    ensures few { result < 8 }
-    ensures one { bit_at left result ≡ 1 }
-    ensures least { (bucket : ℕ) → bucket < result → bit_at left bucket ≡ 0 }
-{
-    left.trailing_zeros() as u8
-}
-
-/// The same buckets without one of them.
-#[inline(always)]
-fn without(left: u8, bucket: u8) -> u8
-    requires few { bucket < 8 }
-    requires one { bit_at left bucket ≡ 1 }
-    ensures fewer { result < left }
-    ensures out { bit_at result bucket ≡ 0 }
-    ensures others { (other : ℕ) → other < 8 → other ≢ bucket → bit_at result other ≡ bit_at left other }
-{
-    left & !(1 << bucket)
+    left: u64,
 }
 
 /// The first number of a bucket that ends at `at`, or the count of all literals, given the last eight bytes before
@@ -103,10 +80,10 @@ fn first_head(
         (λ head. IsFirstHead confirm.now.entries.items mask (history.now ++ bytes.now) (length history.now + at)
         head.bucket head.number head.left) }
 {
-    let mut left = !mask;
+    let mut left = u64::from(!mask);
     while left != 0 {
-        let bucket = least_of(left);
-        left = without(left, bucket);
+        let bucket = lowest_bit(left) as u8;
+        left = without_lowest_bit(left);
         let number = head_of(confirm, bucket, full, history, bytes, at);
         if number < confirm.entries.len() {
             return Some(Head {
@@ -141,8 +118,8 @@ fn heads_of(
     heads[usize::from(first.bucket)] = first.number;
     let mut left = first.left;
     while left != 0 {
-        let bucket = least_of(left);
-        left = without(left, bucket);
+        let bucket = lowest_bit(left) as u8;
+        left = without_lowest_bit(left);
         heads[usize::from(bucket)] = head_of(confirm, bucket, full, history, bytes, at);
     }
     heads

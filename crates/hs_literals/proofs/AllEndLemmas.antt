@@ -17,10 +17,10 @@ use Rattle.hs_confirm.specs.Entries.{literal_in}
 use Rattle.hs_confirm.specs.Filed.{literals_of, buckets_of}
 use Rattle.hs_confirm.proofs.TakingLemmas.{ends_from_there, there_from_ends}
 use Rattle.hs_confirm.proofs.NumberLemmas.{IsPassing, member-passing, passing-member, passing-rising}
-use Rattle.hs_literals.specs.ScanEnds.{IsBefore, AreScanEnds}
+use Rattle.hs_literals.specs.ScanEnds.{IsEndBefore, AreScanEnds}
 use Rattle.hs_literals.specs.Masking.{HidesNone}
 use Rattle.hs_literals.specs.Places.{NoneBetween}
-use Rattle.hs_literals.specs.AllEnds.{literal_ends, numbers_at, pairs_at, ends_behind}
+use Rattle.hs_literals.specs.AllEnds.{literal_ends, numbers_at, pairs_of_place, ends_behind}
 
 -- a literal that ends there, with its number
 pub record IsEnd (literals : List (List LiteralByte)) (text : List ℕ) (offset number : ℕ) : Type 0 where
@@ -85,14 +85,14 @@ pub ends_behind-end : (literals : List (List LiteralByte)) (history bytes : List
 unfolding ends_behind
 ends_behind-end literals history bytes from past =
     let e : length bytes - from ≡ 0 = omega arith in
-    ap (λ n. flat_map (λ end. pairs_at end (numbers_at literals (history ++ bytes) (length history + end))) (range_with_len (from + 1) n)) e
+    ap (λ n. flat_map (λ end. pairs_of_place end (numbers_at literals (history ++ bytes) (length history + end))) (range_with_len (from + 1) n)) e
 
 pub ends_behind-more : (literals : List (List LiteralByte)) (history bytes : List ℕ) (from : ℕ) → from < length bytes
-    → ends_behind literals history bytes from ≡ pairs_at (from + 1) (numbers_at literals (history ++ bytes) (length history + (from + 1))) ++ ends_behind literals history bytes (from + 1)
+    → ends_behind literals history bytes from ≡ pairs_of_place (from + 1) (numbers_at literals (history ++ bytes) (length history + (from + 1))) ++ ends_behind literals history bytes (from + 1)
 unfolding ends_behind
 ends_behind-more literals history bytes from below =
     let e : length bytes - from ≡ suc (length bytes - (from + 1)) = omega arith in
-    ap (λ n. flat_map (λ end. pairs_at end (numbers_at literals (history ++ bytes) (length history + end))) (range_with_len (from + 1) n)) e
+    ap (λ n. flat_map (λ end. pairs_of_place end (numbers_at literals (history ++ bytes) (length history + end))) (range_with_len (from + 1) n)) e
 
 -- places at which no literal ends are passed over
 pub ends_behind-skip : (d : ℕ) (literals : List (List LiteralByte)) (history bytes : List ℕ) (from to : ℕ) → from + d ≡ to → to ≤ length bytes → NoneBetween literals history bytes from (to + 1) → ends_behind literals history bytes from ≡ ends_behind literals history bytes to
@@ -101,31 +101,31 @@ ends_behind-skip (suc d) literals history bytes from to e inside none =
     let here : numbers_at literals (history ++ bytes) (length history + (from + 1)) ≡ [] =
     numbers_at-none literals (history ++ bytes) (length history + (from + 1)) (omega (arith, length-append history bytes)) (λ number is. none (from + 1) number is.literal (omega arith) (omega arith) is.numbered is.ends) in
     ends_behind-more literals history bytes from (omega arith)
-    ∙ ap (λ numbers. pairs_at (from + 1) numbers ++ ends_behind literals history bytes (from + 1)) here
+    ∙ ap (λ numbers. pairs_of_place (from + 1) numbers ++ ends_behind literals history bytes (from + 1)) here
     ∙ ends_behind-skip d literals history bytes (from + 1) to (omega arith) inside (λ end number literal low high. none end number literal (omega arith) high)
 
 -- the place behind those that are passed over
 pub ends_behind-enter : (literals : List (List LiteralByte)) (history bytes : List ℕ) (from to : ℕ) → from < to → to ≤ length bytes → NoneBetween literals history bytes from to
-    → ends_behind literals history bytes from ≡ pairs_at to (numbers_at literals (history ++ bytes) (length history + to)) ++ ends_behind literals history bytes to
+    → ends_behind literals history bytes from ≡ pairs_of_place to (numbers_at literals (history ++ bytes) (length history + to)) ++ ends_behind literals history bytes to
 ends_behind-enter literals history bytes from to order inside none =
     let last = to - 1 in
     let e : last + 1 ≡ to = omega arith in
     ends_behind-skip (last - from) literals history bytes from last (omega arith) (omega arith) (λ end number literal low high. none end number literal low (omega arith))
     ∙ ends_behind-more literals history bytes last (omega arith)
-    ∙ ap (λ n. pairs_at n (numbers_at literals (history ++ bytes) (length history + n)) ++ ends_behind literals history bytes n) e
+    ∙ ap (λ n. pairs_of_place n (numbers_at literals (history ++ bytes) (length history + n)) ++ ends_behind literals history bytes n) e
 
-pairs_rising : (end : ℕ) (numbers : List ℕ) → IsRising (λ m n. m < n) numbers → IsRising IsBefore (pairs_at end numbers)
-pairs_rising end numbers rising = rising-map (λ m n. m < n) IsBefore (λ number. (end, number)) numbers (λ m n below. inr (refl, below)) rising
+pairs_rising : (end : ℕ) (numbers : List ℕ) → IsRising (λ m n. m < n) numbers → IsRising IsEndBefore (pairs_of_place end numbers)
+pairs_rising end numbers rising = rising-map (λ m n. m < n) IsEndBefore (λ number. (end, number)) numbers (λ m n below. inr (refl, below)) rising
 
 -- the places from one on, in a list of their own
 abbrev behind : (literals : List (List LiteralByte)) (history bytes : List ℕ) (from n : ℕ) → List (ℕ × ℕ)
-behind literals history bytes from n = flat_map (λ end. pairs_at end (numbers_at literals (history ++ bytes) (length history + end))) (range_with_len from n)
+behind literals history bytes from n = flat_map (λ end. pairs_of_place end (numbers_at literals (history ++ bytes) (length history + end))) (range_with_len from n)
 
 behind-member : (n : ℕ) (literals : List (List LiteralByte)) (history bytes : List ℕ) (from : ℕ) (x : ℕ × ℕ) → from + n ≤ length bytes + 1 → IsMember x (behind literals history bytes from n)
     → (from ≤ x.0) × (x.0 < from + n) × IsEnd literals (history ++ bytes) (length history + x.0) x.1
 behind-member zero literals history bytes from x inside member = absurd member
 behind-member (suc n) literals history bytes from x inside member =
-    elim (member-append (pairs_at from (numbers_at literals (history ++ bytes) (length history + from))) (behind literals history bytes (from + 1) n) x member) [
+    elim (member-append (pairs_of_place from (numbers_at literals (history ++ bytes) (length history + from))) (behind literals history bytes (from + 1) n) x member) [
       | inl here ↦
           let (number, there, same) = map-member (λ number. (from, number)) (numbers_at literals (history ++ bytes) (length history + from)) x here in
           subst (λ y. (from ≤ y.0) × (y.0 < from + suc n) × IsEnd literals (history ++ bytes) (length history + y.0) y.1) (sym same)
@@ -138,24 +138,24 @@ behind-member (suc n) literals history bytes from x inside member =
 member-behind : (n : ℕ) (literals : List (List LiteralByte)) (history bytes : List ℕ) (from : ℕ) (x : ℕ × ℕ) → from ≤ x.0 → x.0 < from + n → IsEnd literals (history ++ bytes) (length history + x.0) x.1 → IsMember x (behind literals history bytes from n)
 member-behind zero literals history bytes from x low high is = absurd (omega arith)
 member-behind (suc n) literals history bytes from x low high is =
-    let first = pairs_at from (numbers_at literals (history ++ bytes) (length history + from)) in
+    let first = pairs_of_place from (numbers_at literals (history ++ bytes) (length history + from)) in
     elim (cases_lt from x.0) [
       | inl above ↦ member-right first (behind literals history bytes (from + 1) n) x (member-behind n literals history bytes (from + 1) x (omega arith) (omega arith) is)
       | inr below ↦
           let e : from ≡ x.0 = omega arith in
           member-left first (behind literals history bytes (from + 1) n) x
-          (subst (λ end. IsMember x (pairs_at end (numbers_at literals (history ++ bytes) (length history + end)))) (sym e)
+          (subst (λ end. IsMember x (pairs_of_place end (numbers_at literals (history ++ bytes) (length history + end)))) (sym e)
           (member-map (λ number. (x.0, number)) (numbers_at literals (history ++ bytes) (length history + x.0)) x.1 (member-numbers_at literals (history ++ bytes) (length history + x.0) x.1 is)))
     ]
 
-behind-rising : (n : ℕ) (literals : List (List LiteralByte)) (history bytes : List ℕ) (from : ℕ) → from + n ≤ length bytes + 1 → IsRising IsBefore (behind literals history bytes from n)
+behind-rising : (n : ℕ) (literals : List (List LiteralByte)) (history bytes : List ℕ) (from : ℕ) → from + n ≤ length bytes + 1 → IsRising IsEndBefore (behind literals history bytes from n)
 behind-rising zero literals history bytes from inside = tt
 behind-rising (suc n) literals history bytes from inside =
     let numbers = numbers_at literals (history ++ bytes) (length history + from) in
     let later = behind literals history bytes (from + 1) n in
-    rising-append IsBefore (pairs_at from numbers) later (pairs_rising from numbers (numbers_at-rising literals (history ++ bytes) (length history + from))) (behind-rising n literals history bytes (from + 1) (omega arith))
-    (each-of_members (λ x. Each (IsBefore x) later) (pairs_at from numbers) (λ x here.
-    each-of_members (IsBefore x) later (λ y there.
+    rising-append IsEndBefore (pairs_of_place from numbers) later (pairs_rising from numbers (numbers_at-rising literals (history ++ bytes) (length history + from))) (behind-rising n literals history bytes (from + 1) (omega arith))
+    (each-of_members (λ x. Each (IsEndBefore x) later) (pairs_of_place from numbers) (λ x here.
+    each-of_members (IsEndBefore x) later (λ y there.
     let (number, _, same) = map-member (λ number. (from, number)) numbers x here in
     let (low, _, _) = behind-member n literals history bytes (from + 1) y (omega arith) there in
     let e : x.0 ≡ from = ap (λ z. z.0) same in

@@ -1,16 +1,16 @@
 -- Places that are left open, as the bits of a word, and what closed places tell.
-use Rattle.std.proofs.Common.{◌≡◌, ◌≢◌, ℕ, zero, suc, ◌+◌, ◌-◌, ◌/◌, ◌%◌, ◌^◌, ◌<◌, ◌≤◌, Bool, true, false, not, cond, List, ◌++◌, length, get_or, map, replicate, eqb, bit_and, refl, sym, ap, ◌∙◌, subst, arith, inl, inr, eq-eqb, w8, w64}
+use Rattle.std.proofs.Common.{◌≡◌, ◌≢◌, ℕ, zero, suc, ◌+◌, ◌-◌, ◌/◌, ◌%◌, ◌^◌, ◌<◌, ◌≤◌, Bool, true, false, not, cond, List, ◌++◌, length, get_or, map, replicate, eqb, refl, sym, ap, ◌∙◌, subst, arith, inl, inr, eq-eqb, w8}
 use Rattle.std.specs.Int.{bit_at}
-use Rattle.std.specs.Int.Count.{count_trailing_zeros}
 use Rattle.std.specs.Simd.Lanes.{zip2, mask_l, top}
 use Rattle.std.proofs.lemmas.Bool.{cases_lt, cases_eq, ne_eqb, false≢true}
 use Rattle.std.proofs.lemmas.List.{get_or-map, get_or_past, length-map}
 use Rattle.std.proofs.lemmas.Simd.{bitmask_splat, bit_mask_l}
-use Rattle.std.proofs.lemmas.Nat.Bits.{bit_at_lowest, bit_at-suc, bit_at-zero, bit_at-lt, bit_at_and, bit_at-trailing_zeros}
+use Rattle.std.proofs.lemmas.Nat.Bits.{bit_at-zero}
 use Rattle.hs_base.specs.Literals.{LiteralByte}
 use Rattle.hs_base.specs.LiteralEnds.{EndsAt}
 use Rattle.hs_literals.specs.Masking.{HidesNone, MasksHideNone, AreFew}
-use Rattle.hs_literals.specs.OpenPlaces.{AreOpenPlaces, ClosedBehind, IsLowest, AreBehind}
+use Rattle.hs_literals.specs.OpenPlaces.{AreOpenPlaces, ClosedBehind}
+use Rattle.hs_bits.specs.LowestBits.{IsLowestBit, AreBitsBehind}
 use Rattle.hs_literals.specs.Places.{NoneBetween}
 use Rattle.hs_literals.proofs.MaskLemmas.{none_ends}
 
@@ -46,55 +46,10 @@ marks_are_open masks long i =
       λ opened. at ∙ lane_bit masks i (omega (arith, opened.1)) ∙ ap (λ m. cond m 1 0) (differing_is_open (get_or masks i 0) opened.2),
     )
 
--- the lowest bit that is 1
-pub lowest_is : (marks : ℕ) → marks ≢ 0 → marks < 2 ^ 64 → IsLowest marks (count_trailing_zeros 64 marks)
-lowest_is marks some fits =
-    let is = bit_at-trailing_zeros w64 marks (omega arith) fits in
-    record { marked = is.1; lowest = is.2 }
-
--- taking 1 off turns the lowest 1 to 0, and leaves the bits above it
-one_off : (place n : ℕ) → IsLowest n place → (bit_at (n - 1) place ≡ 0) × ((i : ℕ) → place < i → bit_at (n - 1) i ≡ bit_at n i)
-one_off zero n is =
-    let odd : n % 2 ≡ 1 = sym (bit_at_lowest n) ∙ is.marked in
-    let half : (n - 1) / 2 ≡ n / 2 = omega arith in
-    let even : (n - 1) % 2 ≡ 0 = omega arith in
-    (bit_at_lowest (n - 1) ∙ even, λ i above. above_odd n half i above)
-  where
-    above_odd : (n : ℕ) → (n - 1) / 2 ≡ n / 2 → (i : ℕ) → 0 < i → bit_at (n - 1) i ≡ bit_at n i
-    above_odd n half zero above = absurd (omega arith)
-    above_odd n half (suc i) above = bit_at-suc (n - 1) i ∙ ap (λ m. bit_at m i) half ∙ sym (bit_at-suc n i)
-one_off (suc place) n is =
-    let even : n % 2 ≡ 0 = sym (bit_at_lowest n) ∙ is.lowest 0 (omega arith) in
-    let set : bit_at (n / 2) place ≡ 1 = sym (bit_at-suc n place) ∙ is.marked in
-    let inner : IsLowest (n / 2) place = record { marked = set; lowest = λ i below. sym (bit_at-suc n i) ∙ is.lowest (suc i) (omega arith) } in
-    let some : n / 2 ≢ 0 = λ none. omega (arith, set, ap (λ m. bit_at m place) none, bit_at-zero place) in
-    let half : (n - 1) / 2 ≡ n / 2 - 1 = omega arith in
-    let rest = one_off place (n / 2) inner in
-    (bit_at-suc (n - 1) place ∙ ap (λ m. bit_at m place) half ∙ rest.0, λ i above. above_even n place half rest.1 i above)
-  where
-    above_even : (n place : ℕ) → (n - 1) / 2 ≡ n / 2 - 1 → ((i : ℕ) → place < i → bit_at (n / 2 - 1) i ≡ bit_at (n / 2) i) → (i : ℕ) → suc place < i → bit_at (n - 1) i ≡ bit_at n i
-    above_even n place half rest zero above = absurd (omega arith)
-    above_even n place half rest (suc i) above = bit_at-suc (n - 1) i ∙ ap (λ m. bit_at m i) half ∙ rest i (omega arith) ∙ sym (bit_at-suc n i)
-
--- a number and the one before it have in common what stands above the lowest 1
-pub behind_lowest : (marks place : ℕ) → IsLowest marks place → AreBehind marks place (bit_and marks (marks - 1))
-behind_lowest marks place is i =
-    let both = bit_at_and marks (marks - 1) i in
-    let off = one_off place marks is in (
-      λ set. elim (cases_lt place i) [
-        | inl above ↦ (above, omega (arith, set, both, bit_at-lt marks i))
-        | inr below ↦ elim (cases_eq i place) [
-          | inl same ↦ absurd (omega (arith, set, both, ap (λ k. bit_at (marks - 1) k) same, off.0))
-          | inr apart ↦ absurd (omega (arith, set, both, is.lowest i (omega arith)))
-        ]
-      ],
-      λ behind. omega (arith, both, behind.1, off.1 i behind.0),
-    )
-
 -- what is open behind the lowest place that is
-pub open_behind : (masks : List ℕ) (from marks place rest : ℕ) → AreOpenPlaces masks from marks → IsLowest marks place → AreBehind marks place rest → AreOpenPlaces masks (place + 1) rest
+pub open_behind : (masks : List ℕ) (from marks place rest : ℕ) → AreOpenPlaces masks from marks → IsLowestBit marks place → AreBitsBehind marks place rest → AreOpenPlaces masks (place + 1) rest
 open_behind masks from marks place rest are is behind i =
-    let here = (are place).0 is.marked in (
+    let here = (are place).0 is.is in (
       λ set.
           let (above, marked) = (behind i).0 set in
           let there = (are i).0 marked in

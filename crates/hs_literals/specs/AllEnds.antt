@@ -15,11 +15,11 @@ numbers_at literals text offset =
     filter (λ number. literal_ends text offset (slice_get literals number)) (range_with_len 0 (length literals))
 
 -- each number with the same end
-abbrev pub pairs_at : ℕ → List ℕ → List (ℕ × ℕ)
-pairs_at end numbers = map (λ number. (end, number)) numbers
+abbrev pub pairs_of_place : ℕ → List ℕ → List (ℕ × ℕ)
+pairs_of_place end numbers = map (λ number. (end, number)) numbers
 
 -- all ends behind a place of the bytes
 unfoldable pub ends_behind : List (List LiteralByte) → (history bytes : List ℕ) → ℕ → List (ℕ × ℕ)
 ends_behind literals history bytes from =
-    flat_map (λ end. pairs_at end (numbers_at literals (history ++ bytes) (length history + end)))
+    flat_map (λ end. pairs_of_place end (numbers_at literals (history ++ bytes) (length history + end)))
     (range_with_len (from + 1) (length bytes - from))

@@ -9,12 +9,3 @@ AreOpenPlaces masks from marks = (i : ℕ) → (bit_at marks i ≡ 1) ↔ ((from
 -- behind the last byte no place has a bucket left open, in a block from a place of the bytes on
 abbrev pub ClosedBehind : (masks bytes : List ℕ) → (from : ℕ) → Type 0
 ClosedBehind masks bytes from = (i : ℕ) → i < 64 → length bytes ≤ from + i → slice_index masks i ≡ 255
-
--- the lowest place that is marked
-pub record IsLowest (marks place : ℕ) : Type 0 where
-  pub marked : bit_at marks place ≡ 1
-  pub lowest : (i : ℕ) → i < place → bit_at marks i ≡ 0
-
--- the marks behind a place, and no other
-abbrev pub AreBehind : (marks place rest : ℕ) → Type 0
-AreBehind marks place rest = (i : ℕ) → (bit_at rest i ≡ 1) ↔ ((place < i) × (bit_at marks i ≡ 1))

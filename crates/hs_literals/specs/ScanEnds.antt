@@ -14,11 +14,11 @@ pub record IsScanEnd (literals : List (List LiteralByte)) (history bytes : List 
   pub ends : EndsAt literal (history ++ bytes) (length history + end)
 
 -- the one ends before the other, or with it and has the lower number
-abbrev pub IsBefore : ℕ × ℕ → ℕ × ℕ → Type 0
-IsBefore x y = (x.0 < y.0) ⊎ ((x.0 ≡ y.0) × (x.1 < y.1))
+abbrev pub IsEndBefore : ℕ × ℕ → ℕ × ℕ → Type 0
+IsEndBefore x y = (x.0 < y.0) ⊎ ((x.0 ≡ y.0) × (x.1 < y.1))
 
 -- exactly these ends, each once, by rising end and then number
 pub record AreScanEnds (literals : List (List LiteralByte)) (history bytes : List ℕ) (ends : List (ℕ × ℕ)) : Type 0
   where
-    pub rising : IsRising IsBefore ends
+    pub rising : IsRising IsEndBefore ends
     pub exact : (x : ℕ × ℕ) → IsMember x ends ↔ IsScanEnd literals history bytes x.0 x.1

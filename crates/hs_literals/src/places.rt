@@ -8,7 +8,8 @@ ghost use Rattle.hs_literals.specs.Places.{NoneBetween};
 
 use crate::blocks::write_masks;
 use crate::literals::Literals;
-use crate::marks::{NO_BUCKET, lowest_place, open_marks, without_lowest};
+use crate::marks::{NO_BUCKET, open_marks};
+use hs_bits::{lowest_bit, without_lowest_bit};
 use hs_confirm::PlaceEnds;
 use hs_fdr::BLOCK_LEN;
 
@@ -103,8 +104,8 @@ impl<'a> Places<'a> {
             (buckets_of self.old.literals.now.confirm) (self.old.history.now ++ self.old.bytes.now)
             (length self.old.history.now + self.new.at) }
     {
-        let place = lowest_place(self.marks);
-        self.marks = without_lowest(self.marks);
+        let place = lowest_bit(self.marks);
+        self.marks = without_lowest_bit(self.marks);
         self.at = self.block + place + 1;
         self.masks[place]
     }

@@ -1,5 +1,5 @@
 -- Distances of entries that live, as they move over a byte.
-use Rattle.std.proofs.Common.{◌≡◌, ℕ, ◌+◌, ◌-◌, ◌<◌, Bool, true, false, List, [], ◌∷◌, ◌++◌, length, inl, inr, arith, length-append}
+use Rattle.std.proofs.Common.{◌≡◌, ◌≢◌, ℕ, ◌+◌, ◌-◌, ◌<◌, Bool, true, false, List, [], ◌∷◌, ◌++◌, length, inl, inr, arith, length-append}
 use Rattle.std.specs.Prelude.{◌⊎◌}
 use Rattle.hs_base.specs.declared.byte_set.ByteSet.{ByteSet}
 use Rattle.hs_base.specs.ByteSets.{has, members}
@@ -48,3 +48,7 @@ away-moves set u entered len b byte entering is = record {
 pub away-none : (set : ByteSet) (u : List ℕ) (entered : List Bool) (len : length entered ≡ length u) (b : ℕ) (byte : b < 256) (entering : Bool) → has set b ≡ false →
     (d : ℕ) → IsAway (members set) (u ++ b ∷ []) (entered ++ entering ∷ []) d → ⊥
 away-none set u entered len b byte entering isnt d away = unbroken-none set u entered len b byte entering isnt away.from away.unbroken
+
+-- a distance that isn't 0
+pub positive : (n : ℕ) → n ≢ 0 → 0 < n
+positive n some = omega arith

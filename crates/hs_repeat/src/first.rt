@@ -6,7 +6,7 @@ ghost use Rattle.hs_base.specs.Trees.{greatest_bound};
 ghost use Rattle.hs_base.specs.RepeatRows.{IsAway};
 ghost use Rattle.hs_base.specs.RepeatRows.{IsDistanceAt, IsFirstDistance, IsFirstRow, distance_of};
 
-use crate::distance::{DISTANCE_LEN, read_distance, write_distance};
+use crate::distance::{DISTANCE_LEN, Distance};
 use hs_base::{ByteSet, Next, NextSet, Prev};
 use hs_engine::{Engine, Steps};
 use std::sync::ledger::Ledger;
@@ -15,11 +15,8 @@ use std::sync::ledger::Ledger;
 /// in the set, up to the bound: nearer entries tell nothing more.
 #[derive(Debug, Drop)]
 pub struct First {
-    set: ByteSet,
-    /// The least number of bytes.
-    least: u32,
-    ghost some: { 0 < least },
-    ghost bounded: { least ≤ greatest_bound },
+    /// The distance of the farthest entry, up to the least number of bytes.
+    farthest: Distance,
 }
 
 impl First {
@@ -32,25 +29,27 @@ impl First {
         requires bounded { least ≤ greatest_bound }
         ensures { (meaning_of_first result).is_for (repeat_of set least None) }
     {
-        First { set, least }
+        First {
+            farthest: Distance::new(set, least),
+        }
     }
 
     /// The distance behind the byte, before which the repeat is entered or not.
     fn next_distance(&self, distance: u32, entering: bool, byte: u8) -> u32
-        requires { distance ≤ self.now.least }
-        ensures bounded { result ≤ self.now.least }
+        requires { distance ≤ self.now.farthest.bound }
+        ensures bounded { result ≤ self.now.farthest.bound }
         ensures within { result ≤ distance + 1 }
         ensures moves { (u : List ℕ) (entered : List Bool) → length entered ≡ length u →
-            IsFirstDistance self.now.least (IsAway (members self.now.set) u entered) distance →
-            IsFirstDistance self.now.least
-            (IsAway (members self.now.set) (u ++ byte ∷ []) (entered ++ entering ∷ [])) result }
+            IsFirstDistance self.now.farthest.bound (IsAway (members self.now.farthest.set) u entered) distance →
+            IsFirstDistance self.now.farthest.bound
+            (IsAway (members self.now.farthest.set) (u ++ byte ∷ []) (entered ++ entering ∷ [])) result }
         ensures rests { distance ≡ 0 → entering ≡ false → result ≡ 0 }
     {
-        if !self.set.contains(byte) {
+        if !self.farthest.set.contains(byte) {
             0
         } else if distance == 0 {
             if entering { 1 } else { 0 }
-        } else if distance < self.least {
+        } else if distance < self.farthest.bound {
             distance + 1
         } else {
             distance
@@ -61,14 +60,14 @@ impl First {
 impl Engine for First {
     ghost use Rattle.hs_repeat.specs.RepeatMeanings.{first_meaning};
 
-    ghost meaning = { λ e. first_meaning e.set e.least };
+    ghost meaning = { λ e. first_meaning e.farthest.set e.farthest.bound };
 
     fn size(&self) -> usize {
         DISTANCE_LEN
     }
 
     fn clear(&self, region: &mut [u8]) {
-        write_distance(region, 0);
+        self.farthest.clear(region);
     }
 
     fn step<L: Ledger>(
@@ -82,12 +81,12 @@ impl Engine for First {
     ) {
         steps.tick();
         let entering = enter.contains(Next::class_of(byte));
-        let distance = self.next_distance(read_distance(region), entering, byte);
-        write_distance(region, distance);
+        let distance = self.next_distance(self.farthest.read(region), entering, byte);
+        self.farthest.write(region, distance);
     }
 
     fn out(&self, region: &[u8], _prev: Prev, _at: u64) -> NextSet {
-        if read_distance(region) == self.least {
+        if self.farthest.read(region) == self.farthest.bound {
             NextSet::all()
         } else {
             NextSet::empty()
@@ -95,15 +94,14 @@ impl Engine for First {
     }
 
     fn at_rest(&self, region: &[u8]) -> bool {
-        read_distance(region) == 0
+        self.farthest.is_at_rest(region)
     }
 
     fn wakers(&self) -> &ByteSet {
-        &self.set
+        &self.farthest.set
     }
 
     fn well_formed(&self, region: &[u8], at: u64) -> bool {
-        let distance = read_distance(region);
-        distance <= self.least && u64::from(distance) <= at
+        self.farthest.is_well_formed(region, at)
     }
 }

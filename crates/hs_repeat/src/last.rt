@@ -6,7 +6,7 @@ ghost use Rattle.hs_base.specs.Trees.{greatest_bound};
 ghost use Rattle.hs_base.specs.RepeatRows.{IsAway};
 ghost use Rattle.hs_base.specs.RepeatRows.{IsDistanceAt, IsLastDistance, IsLastRow, distance_of};
 
-use crate::distance::{DISTANCE_LEN, read_distance, write_distance};
+use crate::distance::{DISTANCE_LEN, Distance};
 use hs_base::{ByteSet, Next, NextSet, Prev};
 use hs_engine::{Engine, Steps};
 use std::sync::ledger::Ledger;
@@ -15,11 +15,8 @@ use std::sync::ledger::Ledger;
 /// away whose bytes are all in the set: it lives longest.
 #[derive(Debug, Drop)]
 pub struct Last {
-    set: ByteSet,
-    /// The greatest number of bytes.
-    greatest: u32,
-    ghost some: { 0 < greatest },
-    ghost bounded: { greatest ≤ greatest_bound },
+    /// The distance of the nearest entry, up to the greatest number of bytes.
+    nearest: Distance,
 }
 
 impl Last {
@@ -33,27 +30,29 @@ impl Last {
         ensures from_none { (meaning_of_last result).is_for (repeat_of set 0 (Some greatest)) }
         ensures from_one { (meaning_of_last result).is_for (repeat_of set 1 (Some greatest)) }
     {
-        Last { set, greatest }
+        Last {
+            nearest: Distance::new(set, greatest),
+        }
     }
 
     /// The distance behind the byte, before which the repeat is entered or not.
     fn next_distance(&self, distance: u32, entering: bool, byte: u8) -> u32
-        requires { distance ≤ self.now.greatest }
-        ensures bounded { result ≤ self.now.greatest }
+        requires { distance ≤ self.now.nearest.bound }
+        ensures bounded { result ≤ self.now.nearest.bound }
         ensures within { result ≤ distance + 1 }
         ensures moves { (u : List ℕ) (entered : List Bool) → length entered ≡ length u →
-            IsLastDistance self.now.greatest (IsAway (members self.now.set) u entered) distance →
-            IsLastDistance self.now.greatest
-            (IsAway (members self.now.set) (u ++ byte ∷ []) (entered ++ entering ∷ [])) result }
+            IsLastDistance self.now.nearest.bound (IsAway (members self.now.nearest.set) u entered) distance →
+            IsLastDistance self.now.nearest.bound
+            (IsAway (members self.now.nearest.set) (u ++ byte ∷ []) (entered ++ entering ∷ [])) result }
         ensures rests { distance ≡ 0 → entering ≡ false → result ≡ 0 }
     {
-        if !self.set.contains(byte) {
+        if !self.nearest.set.contains(byte) {
             0
         } else if entering {
             1
         } else if distance == 0 {
             0
-        } else if distance < self.greatest {
+        } else if distance < self.nearest.bound {
             distance + 1
         } else {
             0
@@ -64,14 +63,14 @@ impl Last {
 impl Engine for Last {
     ghost use Rattle.hs_repeat.specs.RepeatMeanings.{last_meaning};
 
-    ghost meaning = { λ e. last_meaning e.set e.greatest };
+    ghost meaning = { λ e. last_meaning e.nearest.set e.nearest.bound };
 
     fn size(&self) -> usize {
         DISTANCE_LEN
     }
 
     fn clear(&self, region: &mut [u8]) {
-        write_distance(region, 0);
+        self.nearest.clear(region);
     }
 
     fn step<L: Ledger>(
@@ -85,12 +84,12 @@ impl Engine for Last {
     ) {
         steps.tick();
         let entering = enter.contains(Next::class_of(byte));
-        let distance = self.next_distance(read_distance(region), entering, byte);
-        write_distance(region, distance);
+        let distance = self.next_distance(self.nearest.read(region), entering, byte);
+        self.nearest.write(region, distance);
     }
 
     fn out(&self, region: &[u8], _prev: Prev, _at: u64) -> NextSet {
-        if read_distance(region) == 0 {
+        if self.nearest.is_at_rest(region) {
             NextSet::empty()
         } else {
             NextSet::all()
@@ -98,15 +97,14 @@ impl Engine for Last {
     }
 
     fn at_rest(&self, region: &[u8]) -> bool {
-        read_distance(region) == 0
+        self.nearest.is_at_rest(region)
     }
 
     fn wakers(&self) -> &ByteSet {
-        &self.set
+        &self.nearest.set
     }
 
     fn well_formed(&self, region: &[u8], at: u64) -> bool {
-        let distance = read_distance(region);
-        distance <= self.greatest && u64::from(distance) <= at
+        self.nearest.is_well_formed(region, at)
     }
 }

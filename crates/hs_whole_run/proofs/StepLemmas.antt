@@ -20,7 +20,8 @@ use Rattle.hs_whole.proofs.PartLemmas.{there, part-written, part-other, written,
 use Rattle.hs_whole_run.specs.declared.ends.Ends.{Ends as EndsAbout}
 use Rattle.hs_whole_run.specs.Running.{IsAt, IsMoved, AreFields, AreEndsAbout, AreNoEnds, MovesRoles, ends_of}
 use Rattle.hs_whole.specs.Runnable.{AreNamed}
-use Rattle.hs_whole_run.specs.Waking.{stirs, AreAtRest}
+use Rattle.hs_bits.specs.NextBits.{is_in_either}
+use Rattle.hs_whole_run.specs.Waking.{AreAtRest}
 use Rattle.hs_whole_run.proofs.AboutLemmas.{about-none, about-more, no_ends-more}
 use Rattle.hs_whole_run.proofs.RoleLemmas.{asleep-moved}
 use Rattle.hs_whole_run.proofs.TruthLemmas.{neither_left, neither_right}
@@ -112,13 +113,13 @@ module _ {E : Type 0} (meaning : E → Meaning)
 
     -- all from one on and before another, none of which is stirred
     pub done-over : ArePassed meaning roles starts rest row b → (d n : ℕ) (region live : List ℕ) (noted : Bool) (ends : List EndsAbout) → AreDone n region live noted ends → n + d ≤ length roles →
-        HoldsNowhere (stirs live row) n (n + d) → AreDone (n + d) region live noted ends
+        HoldsNowhere (is_in_either live row) n (n + d) → AreDone (n + d) region live noted ends
     done-over passed zero n region live noted ends done within none =
         let same : n ≡ n + zero = omega arith in
         subst (λ m. AreDone m region live noted ends) same done
     done-over passed (suc d) n region live noted ends done within none =
         let (r, role) = there roles n (omega arith) in
-        let quiet : stirs live row n ≡ false = none n (omega arith) (omega arith) in
+        let quiet : is_in_either live row n ≡ false = none n (omega arith) (omega arith) in
         let resting : part_of starts region n ≡ part_of starts rest n =
         done.rests n (omega arith) (neither_left (has_word_bit live n) (has_word_bit row n) quiet) in
         let over : IsPassed meaning r (part_of starts region n) b =

@@ -15,9 +15,9 @@ ghost use Rattle.hs_whole_run.specs.Waking.{AreAtRest};
 ghost use Rattle.hs_whole.specs.Regions.{AreWell, IsLaid};
 
 use crate::ends::{Ends, forget};
-use crate::waking::{is_live, next_role};
+use crate::waking::is_live;
 use hs_base::{NextSet, Prev};
-use hs_bits::write_word_bit;
+use hs_bits::{next_bit_in_either, write_word_bit};
 use hs_engine::{Engine, Steps};
 use hs_whole::Role;
 use std::sync::ledger::Ledger;
@@ -148,7 +148,7 @@ pub fn step_roles<E: Engine, L: Ledger>(
 {
     let mut noted = false;
     let mut from = 0;
-    while let Some(k) = next_role(live, arrival.row, from, roles.len()) {
+    while let Some(k) = next_bit_in_either(live, arrival.row, from, roles.len()) {
         let role = &roles[k];
         noted |= step_role(
             role,

@@ -1,16 +1,16 @@
 use Rattle.std.proofs.Common.{◌≡◌, ◌<◌, ℕ, ◌∙◌, length, get_or, sym, ap, subst, arith}
 use Rattle.std.proofs.lemmas.List.{take_all}
 use Rattle.hs_confirm.specs.declared.entry.Entry.{Entry}
-use Rattle.hs_confirm.specs.Keys.{row_of}
+use Rattle.hs_confirm.specs.Keys.{key_row}
 use Rattle.hs_confirm.specs.Entries.{rows_of_entries}
 use Rattle.hs_confirm.proofs.FilingLemmas.{push-more, rows-within}
 use Rattle.hs_confirm.proofs.filing.rows_of.Goals as goal
 
 pub loop-entry-preserved : goal.loop-entry-preserved
 loop-entry-preserved c =
-    let f : Entry → ℕ = λ e. row_of c.args.count e.bucket e.key in
+    let f : Entry → ℕ = λ e. key_row c.args.count e.bucket e.key in
     c.in_ok-push.ensures.items
-    ∙ push-more f c.loop-entry.rows.items c.row_of.result c.args.entries.now c.loop-entry.entry-index c.entry-item.result (omega arith) c.entry-item.is c.loop-entry.invariant c.row_of.ensures.row
+    ∙ push-more f c.loop-entry.rows.items c.key_row.result c.args.entries.now c.loop-entry.entry-index c.entry-item.result (omega arith) c.entry-item.is c.loop-entry.invariant c.key_row.ensures.row
 
 pub returns-clause-within : goal.returns-clause-within
 returns-clause-within c =

@@ -24,14 +24,15 @@ loop-left-preserved c =
     let text = c.args.history.now ++ c.args.bytes.now in
     let offset = length c.args.history.now + c.args.at in
     let l = c.loop-left in
-    let bucket = c.least_of-bucket.result in
-    let few = c.least_of-bucket.ensures.few in
-    let one = c.least_of-bucket.ensures.one in
-    let less = c.without-left.result in
+    let bucket = c.lowest_bit-bucket.result in
+    let low = c.lowest_bit-bucket.ensures.lowest in
+    let (few, unmasked) = l.invariant.unmasked bucket low.is in
+    let less = c.without_lowest_bit-left.result in
+    let behind = c.without_lowest_bit-left.ensures.behind bucket low in
     let found = subst (λ count. IsFirstPassing (number_ends entries.items bucket text offset) 0 count c.head_of.result) entries.ok.0 c.head_of.ensures in
     record {
       eight = length-set l.heads c.from-in-loop-left.result c.head_of.result ∙ l.invariant.eight;
-      unmasked = open-step c.args.mask l.left less bucket l.invariant.unmasked c.without-left.ensures.out c.without-left.ensures.others;
+      unmasked = open-step c.args.mask l.left less bucket l.invariant.unmasked behind;
       heads = subst (λ b. OutsideHave (λ k. IsHead entries.items c.args.mask text offset k (get_or (set l.heads b c.head_of.result) k 0)) less) (sym c.from-in-loop-left.ensures)
-          (heads-step entries.items c.args.mask l.heads text offset l.left less bucket c.head_of.result l.invariant.eight few (l.invariant.unmasked bucket few one) found c.without-left.ensures.others l.invariant.heads);
+          (heads-step entries.items c.args.mask l.heads text offset l.left less bucket c.head_of.result l.invariant.eight few unmasked found low behind l.invariant.heads);
     }

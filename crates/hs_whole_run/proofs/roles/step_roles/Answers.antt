@@ -3,7 +3,7 @@ use Rattle.std.proofs.lemmas.Option.{slice_get_read, slice_get-get_or}
 use Rattle.std.specs.Slice.Scan.{HoldsNowhere}
 use Rattle.hs_whole.proofs.PartLemmas.{part-length}
 use Rattle.hs_whole_run.specs.Running.{no_ends}
-use Rattle.hs_whole_run.specs.Waking.{stirs}
+use Rattle.hs_bits.specs.NextBits.{is_in_either}
 use Rattle.hs_whole_run.proofs.StepLemmas.{AreDone, done-none, done-over, done-move, done-moves, done-well}
 use Rattle.hs_whole_run.proofs.roles.step_roles.Goals as goal
 
@@ -59,7 +59,7 @@ loop-k-preserved g c =
     n c.loop-k.region c.loop-k.live c.loop-k.noted c.loop-k.ends) same
     (done-over g.E.Engine.meaning roles starts c.args.rest.now c.args.arrival.now.row.now c.args.region.now c.args.arrival.now.prev c.args.arrival.now.at c.args.arrival.now.byte (length c.args.ends.now)
     c.requires.named c.requires.passed (k - from) from c.loop-k.region c.loop-k.live c.loop-k.noted c.loop-k.ends inv.done (omega arith)
-    (subst (HoldsNowhere (stirs c.loop-k.live c.args.arrival.now.row.now) from) (sym same) c.in-Some.ensures.least)) in
+    (subst (HoldsNowhere (is_in_either c.loop-k.live c.args.arrival.now.row.now) from) (sym same) c.in-Some.ensures.least)) in
     record {
       done =
           done-move g.E.Engine.meaning roles starts c.args.rest.now c.args.arrival.now.row.now c.args.region.now c.args.arrival.now.prev c.args.arrival.now.at c.args.arrival.now.byte (length c.args.ends.now)
@@ -80,7 +80,7 @@ returns-clause-well g c =
     (subst (λ n. AreDone g.E.Engine.meaning c.args.roles.now c.args.starts.now c.args.rest.now c.args.arrival.now.row.now c.args.region.now c.args.arrival.now.prev c.args.arrival.now.at c.args.arrival.now.byte (length c.args.ends.now) n c.loop-k.region c.loop-k.live c.loop-k.noted c.loop-k.ends) same
     (done-over g.E.Engine.meaning c.args.roles.now c.args.starts.now c.args.rest.now c.args.arrival.now.row.now c.args.region.now c.args.arrival.now.prev c.args.arrival.now.at c.args.arrival.now.byte (length c.args.ends.now)
     c.requires.named c.requires.passed (length c.args.roles.now - c.loop-k.from) c.loop-k.from c.loop-k.region c.loop-k.live c.loop-k.noted c.loop-k.ends c.loop-k.invariant.done (omega arith)
-    (subst (HoldsNowhere (stirs c.loop-k.live c.args.arrival.now.row.now) c.loop-k.from) (sym same) c.in_default.ensures)))
+    (subst (HoldsNowhere (is_in_either c.loop-k.live c.args.arrival.now.row.now) c.loop-k.from) (sym same) c.in_default.ensures)))
 
 pub returns-clause-moves : goal.returns-clause-moves
 returns-clause-moves g c =
@@ -91,4 +91,4 @@ returns-clause-moves g c =
     (subst (λ n. AreDone g.E.Engine.meaning c.args.roles.now c.args.starts.now c.args.rest.now c.args.arrival.now.row.now c.args.region.now c.args.arrival.now.prev c.args.arrival.now.at c.args.arrival.now.byte (length c.args.ends.now) n c.loop-k.region c.loop-k.live c.loop-k.noted c.loop-k.ends) same
     (done-over g.E.Engine.meaning c.args.roles.now c.args.starts.now c.args.rest.now c.args.arrival.now.row.now c.args.region.now c.args.arrival.now.prev c.args.arrival.now.at c.args.arrival.now.byte (length c.args.ends.now)
     c.requires.named c.requires.passed (length c.args.roles.now - c.loop-k.from) c.loop-k.from c.loop-k.region c.loop-k.live c.loop-k.noted c.loop-k.ends c.loop-k.invariant.done (omega arith)
-    (subst (HoldsNowhere (stirs c.loop-k.live c.args.arrival.now.row.now) c.loop-k.from) (sym same) c.in_default.ensures)))
+    (subst (HoldsNowhere (is_in_either c.loop-k.live c.args.arrival.now.row.now) c.loop-k.from) (sym same) c.in_default.ensures)))

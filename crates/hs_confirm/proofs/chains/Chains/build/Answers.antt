@@ -1,6 +1,8 @@
-use Rattle.std.proofs.Common.{◌≡◌, ◌+◌, ◌*◌, ◌-◌, ◌/◌, ◌%◌, ◌^◌, ◌<◌, ◌∙◌, length, get_or, set, bit_or, refl, sym, subst, arith}
-use Rattle.std.proofs.lemmas.List.{get_or_default}
-use Rattle.hs_confirm.specs.Rows.{AreChainsFrom, AreMarked}
+use Rattle.std.proofs.Common.{◌≡◌, ◌+◌, ◌*◌, ◌-◌, ◌<◌, ◌||◌, ◌∙◌, length, get_or, set, eqb, refl, sym, ap, subst, arith}
+use Rattle.std.specs.Vec.{with_items}
+use Rattle.std.proofs.lemmas.List.{get_or_default, with_items_is}
+use Rattle.hs_base.specs.Bits.{has_word_bit}
+use Rattle.hs_confirm.specs.Rows.{AreChainsFrom}
 use Rattle.hs_confirm.proofs.ChainLemmas.{chains-more, marked-more}
 use Rattle.hs_confirm.proofs.chains.Chains.build.Goals as goal
 
@@ -14,15 +16,16 @@ loop-number-preserved c =
     let below = c.requires.within number (omega (arith, c.loop-number-test.true, l.invariant.within)) in
     let counted : row < length l.heads.items = omega (arith, below, l.invariant.heads, l.heads.ok.0) in
     let marked : row < 64 * length l.marks.items = omega (arith, below, l.invariant.marks, l.marks.ok.0) in
-    let word : row / 64 < length l.marks.items = omega (arith, marked) in
-    let old : get_or l.marks.items (row / 64) 0 ≡ c.index_mut-in-loop-number-2.result.now = get_or_default l.marks.items (row / 64) 0 _ word ∙ sym c.index_mut-in-loop-number-2.ensures.value in
+    let words = c.insert_word_bit.new.words in
+    let now : (with_items l.marks words).items ≡ words = with_items_is l.marks words (c.insert_word_bit.ensures.len ∙ c.deref_mut.ensures.len) in
     let first : get_or l.heads.items row 0 ≡ c.index.result.now = get_or_default l.heads.items row 0 _ counted ∙ sym c.index.ensures in
     record {
       within = omega (arith, l.invariant.within);
       heads = l.invariant.heads;
       nexts = l.invariant.nexts;
       marks = l.invariant.marks;
-      marked = subst (λ w. AreMarked (set l.marks.items (row / 64) (bit_or w (1 * 2 ^ (row % 64) % 2 ^ 64))) (set l.heads.items row number) (length rows)) old (marked-more l.marks.items l.heads.items (length rows) row number marked l.invariant.marked);
+      marked = marked-more l.marks.items (with_items l.marks words).items l.heads.items (length rows) row number
+          (λ k. ap (λ ws. has_word_bit ws k) now ∙ (c.insert_word_bit.ensures.bits k ∙ ap (λ ws. eqb k row || has_word_bit ws k) c.deref_mut.ensures.value)) l.invariant.marked;
       chains = subst (λ n. AreChainsFrom rows number (set l.heads.items row number) (set l.nexts.items number n)) first
           (chains-more rows l.heads.items l.nexts.items number row (omega (arith, c.loop-number-test.true, l.invariant.within)) refl counted (omega (arith, l.invariant.nexts, l.nexts.ok.0)) (subst (λ n. AreChainsFrom rows n l.heads.items l.nexts.items) e l.invariant.chains));
     }

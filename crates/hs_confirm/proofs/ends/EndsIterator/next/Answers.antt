@@ -1,6 +1,6 @@
 use Rattle.std.proofs.Common.{◌<◌, ◌∙◌, sym, ap, length, vec_len, arith, rules}
 use Rattle.std.proofs.lemmas.List.{length-map}
-use Rattle.hs_confirm.specs.Keys.{row_of}
+use Rattle.hs_confirm.specs.Keys.{key_row}
 use Rattle.hs_confirm.specs.Entries.{rows_of_entries}
 use Rattle.hs_confirm.proofs.ChainLemmas.{next_least}
 use Rattle.hs_confirm.proofs.EndLemmas.{ends_from-told, ends_from-untold, ends_from-end}
@@ -12,8 +12,8 @@ returns-then-ends-clause-steps c =
     let confirm = ends.confirm.now in
     let rows = rows_of_entries (vec_len confirm.chains.heads) confirm.entries.items in
     let within : ends.next < length confirm.entries.items = omega (arith, c.loop-self-test.true, c.len.ensures, confirm.entries.ok.0) in
-    let standing : ends.next < length rows = omega (arith, within, length-map confirm.entries.items (λ e. row_of (vec_len confirm.chains.heads) e.bucket e.key)) in
-    let least = next_least rows confirm.chains.heads.items confirm.chains.nexts.items ends.next (row_of (vec_len confirm.chains.heads) ends.bucket ends.key) c.after-self.result confirm.chained standing (ends.stands (omega (arith, c.loop-self-test.true, c.len.ensures))) c.after-self.ensures in
+    let standing : ends.next < length rows = omega (arith, within, length-map confirm.entries.items (λ e. key_row (vec_len confirm.chains.heads) e.bucket e.key)) in
+    let least = next_least rows confirm.chains.heads.items confirm.chains.nexts.items ends.next (key_row (vec_len confirm.chains.heads) ends.bucket ends.key) c.after-self.result confirm.chained standing (ends.stands (omega (arith, c.loop-self-test.true, c.len.ensures))) c.after-self.ensures in
     sym c.loop-self.invariant
     ∙ ends_from-told confirm.widths confirm.entries.items (vec_len confirm.chains.heads) ends.bucket ends.key _ _ ends.next c.after-self.result confirm.keyed ends.keyed least within (sym c.ends_there-ends.ensures ∙ c.if-ends.true)
 
@@ -29,8 +29,8 @@ loop-self-preserved c =
     let confirm = ends.confirm.now in
     let rows = rows_of_entries (vec_len confirm.chains.heads) confirm.entries.items in
     let within : ends.next < length confirm.entries.items = omega (arith, c.loop-self-test.true, c.len.ensures, confirm.entries.ok.0) in
-    let standing : ends.next < length rows = omega (arith, within, length-map confirm.entries.items (λ e. row_of (vec_len confirm.chains.heads) e.bucket e.key)) in
-    let least = next_least rows confirm.chains.heads.items confirm.chains.nexts.items ends.next (row_of (vec_len confirm.chains.heads) ends.bucket ends.key) c.after-self.result confirm.chained standing (ends.stands (omega (arith, c.loop-self-test.true, c.len.ensures))) c.after-self.ensures in
+    let standing : ends.next < length rows = omega (arith, within, length-map confirm.entries.items (λ e. key_row (vec_len confirm.chains.heads) e.bucket e.key)) in
+    let least = next_least rows confirm.chains.heads.items confirm.chains.nexts.items ends.next (key_row (vec_len confirm.chains.heads) ends.bucket ends.key) c.after-self.result confirm.chained standing (ends.stands (omega (arith, c.loop-self-test.true, c.len.ensures))) c.after-self.ensures in
     sym (ends_from-untold confirm.widths confirm.entries.items (vec_len confirm.chains.heads) ends.bucket ends.key _ _ ends.next c.after-self.result confirm.keyed ends.keyed least (sym c.ends_there-ends.ensures ∙ c.if-ends.false))
     ∙ c.loop-self.invariant
 

@@ -1,7 +1,7 @@
 use Rattle.std.proofs.Common.{◌+◌, ◌-◌, ◌++◌, ◌∙◌, length, sym, ap, subst, arith}
 use Rattle.hs_confirm.specs.Filed.{literals_of, buckets_of}
 use Rattle.hs_literals.specs.Held.{held}
-use Rattle.hs_literals.specs.AllEnds.{numbers_at, pairs_at, ends_behind}
+use Rattle.hs_literals.specs.AllEnds.{numbers_at, pairs_of_place, ends_behind}
 use Rattle.hs_literals.specs.Masking.{HidesNone}
 use Rattle.hs_literals.proofs.AllEndLemmas.{ends_behind-skip, ends_behind-end, ends_behind-enter}
 use Rattle.hs_literals.proofs.scan.LitScan.enter_next.Goals as goal
@@ -24,10 +24,10 @@ returns-in-Some-ends-clause-next c =
       omega (arith, same.next.0, c.loop-mask.invariant.low),
       c.loop-mask.invariant.same
           ∙ ends_behind-enter (held old.literals.now) old.history.now old.bytes.now old.at new.at same.next.0 (omega (arith, new.within, ap (λ b. length b.now) same.bytes)) same.none_before
-          ∙ ap (λ l. pairs_at new.at (numbers_at (held l.now) (old.history.now ++ old.bytes.now) (length old.history.now + new.at)) ++ ends_behind (held l.now) old.history.now old.bytes.now new.at) (sym same.literals)
-          ∙ ap (λ h. pairs_at new.at (numbers_at (held new.literals.now) (h.now ++ old.bytes.now) (length h.now + new.at)) ++ ends_behind (held new.literals.now) h.now old.bytes.now new.at) (sym same.history)
-          ∙ ap (λ b. pairs_at new.at (numbers_at (held new.literals.now) (new.history.now ++ b.now) (length new.history.now + new.at)) ++ ends_behind (held new.literals.now) new.history.now b.now new.at) (sym same.bytes)
-          ∙ ap (λ numbers. pairs_at new.at numbers ++ ends_behind (held new.literals.now) new.history.now new.bytes.now new.at) (sym c.in-Some-ends.ensures),
+          ∙ ap (λ l. pairs_of_place new.at (numbers_at (held l.now) (old.history.now ++ old.bytes.now) (length old.history.now + new.at)) ++ ends_behind (held l.now) old.history.now old.bytes.now new.at) (sym same.literals)
+          ∙ ap (λ h. pairs_of_place new.at (numbers_at (held new.literals.now) (h.now ++ old.bytes.now) (length h.now + new.at)) ++ ends_behind (held new.literals.now) h.now old.bytes.now new.at) (sym same.history)
+          ∙ ap (λ b. pairs_of_place new.at (numbers_at (held new.literals.now) (new.history.now ++ b.now) (length new.history.now + new.at)) ++ ends_behind (held new.literals.now) new.history.now b.now new.at) (sym same.bytes)
+          ∙ ap (λ numbers. pairs_of_place new.at numbers ++ ends_behind (held new.literals.now) new.history.now new.bytes.now new.at) (sym c.in-Some-ends.ensures),
     )
 
 pub loop-mask-preserved : goal.loop-mask-preserved
@@ -41,10 +41,10 @@ loop-mask-preserved c =
       low = omega (arith, same.next.0, c.loop-mask.invariant.low);
       same = c.loop-mask.invariant.same
           ∙ ends_behind-enter (held old.literals.now) old.history.now old.bytes.now old.at new.at same.next.0 (omega (arith, new.within, ap (λ b. length b.now) same.bytes)) same.none_before
-          ∙ ap (λ l. pairs_at new.at (numbers_at (held l.now) (old.history.now ++ old.bytes.now) (length old.history.now + new.at)) ++ ends_behind (held l.now) old.history.now old.bytes.now new.at) (sym same.literals)
-          ∙ ap (λ h. pairs_at new.at (numbers_at (held new.literals.now) (h.now ++ old.bytes.now) (length h.now + new.at)) ++ ends_behind (held new.literals.now) h.now old.bytes.now new.at) (sym same.history)
-          ∙ ap (λ b. pairs_at new.at (numbers_at (held new.literals.now) (new.history.now ++ b.now) (length new.history.now + new.at)) ++ ends_behind (held new.literals.now) new.history.now b.now new.at) (sym same.bytes)
-          ∙ ap (λ numbers. pairs_at new.at numbers ++ ends_behind (held new.literals.now) new.history.now new.bytes.now new.at) c.in_default-ends.ensures;
+          ∙ ap (λ l. pairs_of_place new.at (numbers_at (held l.now) (old.history.now ++ old.bytes.now) (length old.history.now + new.at)) ++ ends_behind (held l.now) old.history.now old.bytes.now new.at) (sym same.literals)
+          ∙ ap (λ h. pairs_of_place new.at (numbers_at (held new.literals.now) (h.now ++ old.bytes.now) (length h.now + new.at)) ++ ends_behind (held new.literals.now) h.now old.bytes.now new.at) (sym same.history)
+          ∙ ap (λ b. pairs_of_place new.at (numbers_at (held new.literals.now) (new.history.now ++ b.now) (length new.history.now + new.at)) ++ ends_behind (held new.literals.now) new.history.now b.now new.at) (sym same.bytes)
+          ∙ ap (λ numbers. pairs_of_place new.at numbers ++ ends_behind (held new.literals.now) new.history.now new.bytes.now new.at) c.in_default-ends.ensures;
     }
 
 pub returns-clause-next : goal.returns-clause-next

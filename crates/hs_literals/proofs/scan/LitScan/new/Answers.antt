@@ -3,7 +3,7 @@ use Rattle.hs_confirm.specs.Filed.{literals_of, buckets_of}
 use Rattle.hs_confirm.specs.PlaceLeft.{place_left}
 use Rattle.hs_literals.specs.ScanEnds.{AreScanEnds}
 use Rattle.hs_literals.specs.Held.{held}
-use Rattle.hs_literals.specs.AllEnds.{pairs_at, ends_behind}
+use Rattle.hs_literals.specs.AllEnds.{pairs_of_place, ends_behind}
 use Rattle.hs_literals.proofs.AllEndLemmas.{ends_behind-exact}
 use Rattle.hs_literals.proofs.MaskLemmas.{none_open}
 use Rattle.hs_literals.proofs.scan.LitScan.new.Goals as goal
@@ -20,5 +20,5 @@ returns c =
     ∙ ap (λ h. ends_behind (held new.literals.now) h bytes 0) (sym c.new.ensures.history)
     ∙ ap (λ b. ends_behind (held new.literals.now) new.history.now b 0) (sym c.new.ensures.bytes)
     ∙ ap (λ n. ends_behind (held new.literals.now) new.history.now new.bytes.now n) (sym c.new.ensures.at)
-    ∙ ap (λ numbers. pairs_at new.at numbers ++ ends_behind (held new.literals.now) new.history.now new.bytes.now new.at) (sym none))
+    ∙ ap (λ numbers. pairs_of_place new.at numbers ++ ends_behind (held new.literals.now) new.history.now new.bytes.now new.at) (sym none))
     (ends_behind-exact (held literals) history bytes)

@@ -10,41 +10,41 @@ pub returns-then-not-contains-clause-moves : goal.returns-then-not-contains-clau
 returns-then-not-contains-clause-moves c u entered len first =
     let b : ℕ = c.args.byte in
     let byte : b < 256 = omega arith in
-    let outside : has c.args.self.now.set b ≡ false = cc (c.contains.ensures, c.if-not-contains.true) in
-    none refl (away-none c.args.self.now.set u entered len b byte c.args.entering outside)
+    let outside : has c.args.self.now.farthest.set b ≡ false = cc (c.contains.ensures, c.if-not-contains.true) in
+    none refl (away-none c.args.self.now.farthest.set u entered len b byte c.args.entering outside)
 
 pub returns-then-entering-clause-moves : goal.returns-then-entering-clause-moves
 returns-then-entering-clause-moves c u entered len first =
     let b : ℕ = c.args.byte in
     let byte : b < 256 = omega arith in
-    let set = c.args.self.now.set in
+    let set = c.args.self.now.farthest.set in
     let inside : has set b ≡ true = cc (c.contains.ensures, c.if-not-contains.false) in
-    first-entered c.args.self.now.least (IsAway (members set) u entered) (IsAway (members set) (u ++ b ∷ []) (entered ++ c.args.entering ∷ [])) c.args.entering c.args.distance (omega (arith, c.args.self.now.some))
+    first-entered c.args.self.now.farthest.bound (IsAway (members set) u entered) (IsAway (members set) (u ++ b ∷ []) (entered ++ c.args.entering ∷ [])) c.args.entering c.args.distance (omega (arith, c.args.self.now.farthest.some))
     (away-moves set u entered len b byte c.args.entering inside) first c.if-distance-eq0.true c.if-entering.true
 
 pub returns-else-entering-clause-moves : goal.returns-else-entering-clause-moves
 returns-else-entering-clause-moves c u entered len first =
     let b : ℕ = c.args.byte in
     let byte : b < 256 = omega arith in
-    let set = c.args.self.now.set in
+    let set = c.args.self.now.farthest.set in
     let inside : has set b ≡ true = cc (c.contains.ensures, c.if-not-contains.false) in
-    first-rests c.args.self.now.least (IsAway (members set) u entered) (IsAway (members set) (u ++ b ∷ []) (entered ++ c.args.entering ∷ [])) c.args.entering c.args.distance (omega (arith, c.args.self.now.some))
+    first-rests c.args.self.now.farthest.bound (IsAway (members set) u entered) (IsAway (members set) (u ++ b ∷ []) (entered ++ c.args.entering ∷ [])) c.args.entering c.args.distance (omega (arith, c.args.self.now.farthest.some))
     (away-moves set u entered len b byte c.args.entering inside) first c.if-distance-eq0.true c.if-entering.false
 
 pub returns-then-distance-self-clause-moves : goal.returns-then-distance-self-clause-moves
 returns-then-distance-self-clause-moves c u entered len first =
     let b : ℕ = c.args.byte in
     let byte : b < 256 = omega arith in
-    let set = c.args.self.now.set in
+    let set = c.args.self.now.farthest.set in
     let inside : has set b ≡ true = cc (c.contains.ensures, c.if-not-contains.false) in
-    first-farther c.args.self.now.least (IsAway (members set) u entered) (IsAway (members set) (u ++ b ∷ []) (entered ++ c.args.entering ∷ [])) c.args.entering c.args.distance (c.args.distance + 1) (omega (arith, c.args.self.now.some))
+    first-farther c.args.self.now.farthest.bound (IsAway (members set) u entered) (IsAway (members set) (u ++ b ∷ []) (entered ++ c.args.entering ∷ [])) c.args.entering c.args.distance (c.args.distance + 1) (omega (arith, c.args.self.now.farthest.some))
     (away-moves set u entered len b byte c.args.entering inside) first (omega arith) (omega arith)
 
 pub returns-else-distance-self-clause-moves : goal.returns-else-distance-self-clause-moves
 returns-else-distance-self-clause-moves c u entered len first =
     let b : ℕ = c.args.byte in
     let byte : b < 256 = omega arith in
-    let set = c.args.self.now.set in
+    let set = c.args.self.now.farthest.set in
     let inside : has set b ≡ true = cc (c.contains.ensures, c.if-not-contains.false) in
-    first-farther c.args.self.now.least (IsAway (members set) u entered) (IsAway (members set) (u ++ b ∷ []) (entered ++ c.args.entering ∷ [])) c.args.entering c.args.distance c.args.distance (omega (arith, c.args.self.now.some))
+    first-farther c.args.self.now.farthest.bound (IsAway (members set) u entered) (IsAway (members set) (u ++ b ∷ []) (entered ++ c.args.entering ∷ [])) c.args.entering c.args.distance c.args.distance (omega (arith, c.args.self.now.farthest.some))
     (away-moves set u entered len b byte c.args.entering inside) first (omega arith) (omega arith)

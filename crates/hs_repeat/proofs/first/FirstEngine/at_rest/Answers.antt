@@ -1,11 +1,8 @@
-use Rattle.std.proofs.Common.{◌≡◌, arith}
-use Rattle.hs_base.specs.RepeatRows.{distance_of}
+use Rattle.std.proofs.Common.{arith}
 use Rattle.hs_repeat.proofs.FirstLemmas.{first-quiet}
 use Rattle.hs_repeat.proofs.first.FirstEngine.at_rest.Goals as goal
-use Rattle.std.proofs.lemmas.Bool.{eqb-true}
-use Rattle.std.proofs.Common.{◌∙◌, sym}
 
 pub returns-clause-quiet : goal.returns-clause-quiet
 returns-clause-quiet c rests =
-    let zero_row : distance_of c.args.region.now ≡ 0 = sym c.read_distance.ensures ∙ eqb-true c.read_distance.result 0 rests in
-    first-quiet c.args.self.now.set c.args.self.now.least (omega (arith, c.args.self.now.some)) c.args.region.now zero_row
+    let kept = c.args.self.now.farthest in
+    first-quiet kept.set kept.bound (omega (arith, kept.some)) c.args.region.now (c.is_at_rest.ensures.none.0 rests)
