@@ -4,7 +4,6 @@
 
 mod checking;
 mod fault;
-mod kind;
 pub mod laws;
 mod outside;
 #[cfg(test)]
