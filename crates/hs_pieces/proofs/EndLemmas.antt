@@ -1,6 +1,5 @@
 -- End assertions in chains: a chain has an embedded one where its expression has.
-use Rattle.std.proofs.Common.{◌≡◌, ℕ, zero, suc, Bool, true, false, ◌||◌, ◌&&◌, List, [], ◌∷◌, ◌++◌, map, Option, Some, None, if◌then◌else◌, refl, sym, ap, ◌∙◌, subst, arith}
-use Rattle.std.proofs.lemmas.Bool.Decides.{nat_tests}
+use Rattle.std.proofs.Common.{◌≡◌, ℕ, zero, suc, Bool, true, false, ◌||◌, ◌&&◌, List, [], ◌∷◌, ◌++◌, map, Option, Some, None, if◌then◌else◌, refl, sym, ap, ◌∙◌, subst}
 use Rattle.hs_base.specs.Trees.{Tree, Trees, empty, class, points, assert, cat, alt, repeat, none, more, trees_of}
 use Rattle.hs_base.specs.EndAssertions.{is_end_assertion, may_consume, one_may_consume, has_embedded_end, sequence_has_embedded_end, one_has_embedded_end}
 use Rattle.hs_base.specs.WrittenOut.{IsPlain, ArePlain}

@@ -1,8 +1,8 @@
 -- No piece has more positions than the expression.
-use Rattle.std.proofs.Common.{◌≡◌, ℕ, ◌+◌, ◌*◌, ◌≤◌, Bool, true, false, List, [], ◌∷◌, ◌++◌, map, sum, Option, if◌then◌else◌, refl, sym, ap, ◌∙◌, subst, arith}
+use Rattle.std.proofs.Common.{◌≡◌, ℕ, ◌*◌, ◌≤◌, Bool, true, false, List, [], ◌∷◌, map, sum, Option, if◌then◌else◌, refl, sym, ap, ◌∙◌, subst, arith}
 use Rattle.std.proofs.lemmas.List.{map-append}
 use Rattle.hs_base.specs.Lists.{Each}
-use Rattle.hs_base.specs.Trees.{Tree, Trees, empty, class, points, assert, cat, alt, repeat, none, more, trees_of, IsProper, AreProper}
+use Rattle.hs_base.specs.Trees.{Tree, Trees, empty, class, points, assert, cat, alt, repeat, none, more, IsProper, AreProper}
 use Rattle.hs_base.specs.Items.{items_of, items_of_all, is_once}
 use Rattle.hs_base.specs.Chains.{Part, literal, ordinary, long, piece_of, pieces_of, alternatives_of, alternatives_of_all, chains_of}
 use Rattle.hs_base.proofs.ListLemmas.{each-append}
