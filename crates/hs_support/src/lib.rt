@@ -6,8 +6,6 @@ mod checking;
 mod fault;
 pub mod laws;
 mod outside;
-#[cfg(test)]
-mod piece_tests;
 mod pieces;
 #[cfg(test)]
 mod tests;
