@@ -26,14 +26,9 @@ pub fn compile(alloc: Global, entries: &[Entry]) -> Result<Database, CompileFaul
     ensures digest { IfOk result (λ database. digest_of database ≡ sha256 (list_bytes (map listed entries.now))) }
     ensures refused { IfErr result (IsCauseOf (map listed entries.now)) }
 {
-    let roles = match compile_entries(alloc, entries) {
-        Ok(roles) => roles,
-        Err(fault) => return Err(fault),
-    };
-    match Program::build(alloc, roles) {
-        Ok(program) => Ok(Database::new(program, digest(entries))),
-        Err(_) => Err(CompileFault::Memory),
-    }
+    let roles = compile_entries(alloc, entries)?;
+    let program = Program::build(alloc, roles)?;
+    Ok(Database::new(program, digest(entries)))
 }
 
 /// The role of each expression of the list, in order.
@@ -45,10 +40,7 @@ fn compile_entries(alloc: Global, entries: &[Entry]) -> Result<Vec<Role<Limex>>,
     let mut roles = Vec::new(alloc);
     for i in 0..entries.len() {
         let entry = &entries[i];
-        let role = match compile_entry(alloc, i as u32 + 1, &seen, entry) {
-            Ok(role) => role,
-            Err(fault) => return Err(fault),
-        };
+        let role = compile_entry(alloc, i as u32 + 1, &seen, entry)?;
         seen.add(entry)?;
         roles.push(role)?;
     }

@@ -47,10 +47,7 @@ pub fn compile_entry(
     if let Some(refusal) = tree_refusal(number, seen, entry, &expr) {
         return Err(refused(number, entry, refusal));
     }
-    match role_of(alloc, entry, &expr) {
-        Ok(role) => Ok(role),
-        Err(_) => Err(CompileFault::Memory),
-    }
+    Ok(role_of(alloc, entry, &expr)?)
 }
 
 /// The fault of a list that is refused by the entry of that number.

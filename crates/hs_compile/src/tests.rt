@@ -1,130 +1,94 @@
 //! Lists that are compiled, and lists that are refused.
 use crate::compiler::{MAX_ENTRIES, compile};
 use crate::fault::CompileFault;
-use hs_base::{Entry, ExprId, Ext, Flags, Refusal};
-use std::alloc::Global;
+use hs_base::{Entry, ExprId, Ext, Flags};
+use std::alloc::{AllocError, Global};
 use std::test::Fail;
 
-/// An entry of a list: its identifier, its expression, its flags, and its parameters.
-type Row = (u32, &'static str, Flags, Ext);
-
-/// A refusal of a list: the number of its entry, the identifier, the reason.
-type Found = (u32, u32, Refusal);
-
-/// An entry without parameters.
-fn entry_of(alloc: Global, id: u32, text: &str, flags: Flags) -> Result<Entry, Fail> {
-    Ok(Entry {
-        id: ExprId(id),
-        flags,
-        ext: Ext::NONE,
-        text: Vec::from_slice(alloc, text.as_bytes())?,
-    })
-}
-
-/// The refusal of a list, if it has one.
-fn first_refusal(alloc: Global, list: &[Row]) -> Result<Option<Found>, Fail> {
-    let mut entries = Vec::new(alloc);
-    for (id, text, flags, ext) in list {
-        let entry = entry_of(alloc, *id, text, *flags)?;
-        entries.push(Entry { ext: *ext, ..entry })?;
-    }
-    Ok(match compile(alloc, &entries) {
-        Err(CompileFault::Refused { entry, id, refusal }) => Some((entry, id.0, refusal)),
-        Ok(_) | Err(CompileFault::Memory) => None,
-    })
-}
-
-/// Ends from 10 to 15.
-const WITHIN: Ext = Ext {
-    bits: 3,
-    min_offset: 10,
-    max_offset: 15,
-};
-
-/// Ends from 2 to 1.
-const OUT_OF_ORDER: Ext = Ext {
-    bits: 3,
-    min_offset: 2,
-    max_offset: 1,
-};
-
-/// `H` and `V`.
-const SINGLE_OR_EMPTY: Flags = Flags(24);
-
-/// Lists, and where they are refused.
-const LISTS: &[(&[Row], Option<Found>)] = &[
-    (
-        &[(9, "a*", Flags::NONE, Ext::NONE)],
-        Some((1, 9, Refusal::MatchesEmpty)),
-    ),
-    (
-        &[
-            (1, "a", Flags::NONE, Ext::NONE),
-            (2, "a)", Flags::NONE, Ext::NONE),
-            (3, "*", Flags::NONE, Ext::NONE),
-        ],
-        Some((2, 2, Refusal::Syntax(1))),
-    ),
-    (
-        &[(25, "a", Flags::SOM_LEFTMOST, Ext::NONE)],
-        Some((1, 25, Refusal::UnsupportedFlag(256))),
-    ),
-    (
-        &[(25, "a*", Flags::SOM_LEFTMOST, OUT_OF_ORDER)],
-        Some((1, 25, Refusal::UnsupportedFlag(256))),
-    ),
-    (
-        &[(25, "a)", Flags::SOM_LEFTMOST, Ext::NONE)],
-        Some((1, 25, Refusal::Syntax(1))),
-    ),
-    (&[(2, "a*", Flags::ALLOWEMPTY, Ext::NONE)], None),
-    (
-        &[
-            (2, "a*", SINGLE_OR_EMPTY, Ext::NONE),
-            (2, "b", Flags::SINGLEMATCH, WITHIN),
-        ],
-        None,
-    ),
-    (
-        &[
-            (12, "ab", Flags::NONE, Ext::NONE),
-            (12, "b", Flags::NONE, Ext::NONE),
-        ],
-        None,
-    ),
-    (
-        &[
-            (12, "ab", Flags::NONE, Ext::NONE),
-            (12, "b", Flags::SINGLEMATCH, Ext::NONE),
-        ],
-        Some((2, 12, Refusal::MixedSingle(ExprId(12)))),
-    ),
-    (
-        &[
-            (12, "ab", Flags::SINGLEMATCH, Ext::NONE),
-            (7, "b", Flags::NONE, Ext::NONE),
-            (12, "b", Flags::NONE, OUT_OF_ORDER),
-        ],
-        Some((3, 12, Refusal::MixedSingle(ExprId(12)))),
-    ),
-    (
-        &[
-            (12, "ab", Flags::SINGLEMATCH, Ext::NONE),
-            (12, "b*", Flags::NONE, OUT_OF_ORDER),
-        ],
-        Some((2, 12, Refusal::MatchesEmpty)),
-    ),
-    (
-        &[(25, "a", Flags::NONE, OUT_OF_ORDER)],
-        Some((1, 25, Refusal::OffsetOrder)),
-    ),
+/// Lists, and where they are refused: the number of the entry, its identifier, the reason.
+///
+/// An entry is `ID:/TEXT/` with its flags behind it: `H` and `V`, `L` for the start of a match, `w` for ends from 10 to
+/// 15, `o` for ends from 2 to 1.
+const LISTS: &[(&str, &str)] = &[
+    ("9:/a*/", "1 9 MatchesEmpty"),
+    ("1:/a/ 2:/a)/ 3:/*/", "2 2 Syntax(1)"),
+    ("25:/a/L", "1 25 UnsupportedFlag(256)"),
+    ("25:/a*/Lo", "1 25 UnsupportedFlag(256)"),
+    ("25:/a)/L", "1 25 Syntax(1)"),
+    ("2:/a*/V", "none"),
+    ("2:/a*/HV 2:/b/Hw", "none"),
+    ("12:/ab/ 12:/b/", "none"),
+    ("12:/ab/ 12:/b/H", "2 12 MixedSingle(ExprId(12))"),
+    ("12:/ab/H 7:/b/ 12:/b/o", "3 12 MixedSingle(ExprId(12))"),
+    ("12:/ab/H 12:/b*/o", "2 12 MatchesEmpty"),
+    ("25:/a/o", "1 25 OffsetOrder"),
 ];
+
+/// The flags and the parameters of letters.
+fn settings(letters: &str) -> (Flags, Ext) {
+    let mut flags = Flags::NONE;
+    let mut ext = Ext::NONE;
+    for letter in letters.bytes() {
+        match letter {
+            b'H' => flags = flags.union(Flags::SINGLEMATCH),
+            b'V' => flags = flags.union(Flags::ALLOWEMPTY),
+            b'L' => flags = flags.union(Flags::SOM_LEFTMOST),
+            _ => {
+                let (min_offset, max_offset) = if letter == b'w' { (10, 15) } else { (2, 1) };
+                ext = Ext {
+                    bits: 3,
+                    min_offset,
+                    max_offset,
+                };
+            }
+        }
+    }
+    (flags, ext)
+}
+
+/// The entries of a list, in words.
+fn entries_of(alloc: Global, list: &str) -> Result<Vec<Entry>, Fail> {
+    let mut entries = Vec::new(alloc);
+    for word in list.split_whitespace() {
+        let (id, rest) = word.split_once(":/").unwrap_or((word, ""));
+        let (text, letters) = rest.split_once('/').unwrap_or((rest, ""));
+        let (flags, ext) = settings(letters);
+        entries.push(Entry {
+            id: ExprId(id.parse().unwrap_or(0)),
+            flags,
+            ext,
+            text: Vec::from_slice(alloc, text.as_bytes())?,
+        })?;
+    }
+    Ok(entries)
+}
+
+/// The entry `1:/a/`.
+fn entry(alloc: Global) -> Result<Entry, AllocError> {
+    Ok(Entry {
+        id: ExprId(1),
+        flags: Flags::NONE,
+        ext: Ext::NONE,
+        text: Vec::from_slice(alloc, b"a")?,
+    })
+}
+
+/// The refusal of a list, as it stands in a row.
+fn first_refusal(alloc: Global, entries: &[Entry]) -> Result<String, AllocError> {
+    match compile(alloc, entries) {
+        Err(CompileFault::Refused { entry, id, refusal }) => {
+            format!(in alloc; "{entry} {} {refusal:?}", id.0)
+        }
+        Err(CompileFault::Memory) => format!(in alloc; "memory"),
+        Ok(_) => format!(in alloc; "none"),
+    }
+}
 
 #[test]
 fn refuses_by_the_first_reason(rt: HostRuntime) -> Result<(), Fail> {
-    let alloc = rt.alloc();
-    for (row, (list, wanted)) in LISTS.iter().enumerate() {
-        assert_eq!(rt; first_refusal(alloc, list)?, *wanted, "row {row}");
+    for (list, wanted) in LISTS {
+        let found = first_refusal(rt.alloc(), &entries_of(rt.alloc(), list)?)?;
+        assert!(rt; found.as_str() == *wanted, "{list} gives {found}");
     }
     Ok(())
 }
@@ -132,11 +96,7 @@ fn refuses_by_the_first_reason(rt: HostRuntime) -> Result<(), Fail> {
 #[test]
 fn builds_a_role_for_each_expression(rt: HostRuntime) -> Result<(), Fail> {
     let alloc = rt.alloc();
-    let mut entries = Vec::new(alloc);
-    for (id, text) in [(7, "ab"), (3, "a|b"), (7, "[a-c]+d")] {
-        entries.push(entry_of(alloc, id, text, Flags::NONE)?)?;
-    }
-    let database = compile(alloc, &entries)?;
+    let database = compile(alloc, &entries_of(alloc, "7:/ab/ 3:/a|b/ 7:/[a-c]+d/")?)?;
     let program = database.program();
     assert_eq!(rt; program.roles().len(), 3);
     let named: Option<(u32, u32)> = match program.identifiers() {
@@ -152,17 +112,12 @@ fn refuses_the_entry_behind_the_last(rt: HostRuntime) -> Result<(), Fail> {
     let alloc = rt.alloc();
     let mut entries = Vec::new(alloc);
     for _ in 0..MAX_ENTRIES {
-        entries.push(entry_of(alloc, 1, "a", Flags::NONE)?)?;
+        entries.push(entry(alloc)?)?;
     }
     assert!(rt; compile(alloc, &entries).is_ok());
-    entries.push(entry_of(alloc, 1, "a", Flags::NONE)?)?;
-    let refused = match compile(alloc, &entries) {
-        Err(CompileFault::Refused { entry, id, refusal }) => {
-            entry == 65_537 && id == ExprId(1) && refusal == Refusal::CountLimit
-        }
-        Ok(_) | Err(CompileFault::Memory) => false,
-    };
-    assert!(rt; refused);
+    entries.push(entry(alloc)?)?;
+    let found = first_refusal(alloc, &entries)?;
+    assert!(rt; found.as_str() == "65537 1 CountLimit", "{found}");
     Ok(())
 }
 
@@ -174,10 +129,7 @@ const FOO_DIGEST: [u8; 32] = [
 
 #[test]
 fn has_the_digest_of_its_list(rt: HostRuntime) -> Result<(), Fail> {
-    let alloc = rt.alloc();
-    let mut entries = Vec::new(alloc);
-    entries.push(entry_of(alloc, 16, "foo", Flags::NONE)?)?;
-    let database = compile(alloc, &entries)?;
+    let database = compile(rt.alloc(), &entries_of(rt.alloc(), "16:/foo/")?)?;
     assert!(rt; *database.digest() == FOO_DIGEST);
     Ok(())
 }

@@ -9,16 +9,16 @@ use Rattle.hs_expr.specs.Meaning.{trees_of}
 use Rattle.hs_expr.specs.Items.{items_of, items_of_all, is_once, IsItem, HaveSameSpans}
 
 -- spans of one list of items and then of another
-data Joined (w : List ℕ) (ended : Bool) (xs ys : List Tree) (i j : ℕ) : Type 0 where
+pub data Joined (w : List ℕ) (ended : Bool) (xs ys : List Tree) (i j : ℕ) : Type 0 where
   joined : (m : ℕ) → CatSpans w ended (trees_of xs) i m → CatSpans w ended (trees_of ys) m j → Joined w ended xs ys i j
 
-cat_spans-split : (w : List ℕ) (ended : Bool) (xs ys : List Tree) (i j : ℕ) →
+pub cat_spans-split : (w : List ℕ) (ended : Bool) (xs ys : List Tree) (i j : ℕ) →
     CatSpans w ended (trees_of (xs ++ ys)) i j → Joined w ended xs ys i j
 cat_spans-split w ended [] ys i j h = joined i refl h
 cat_spans-split w ended (x ∷ xs) ys i j (m, first, others) =
     elim (cat_spans-split w ended xs ys m j others) [ joined k before behind ↦ joined k (m, first, before) behind ]
 
-cat_spans-join : (w : List ℕ) (ended : Bool) (xs ys : List Tree) (i m j : ℕ) →
+pub cat_spans-join : (w : List ℕ) (ended : Bool) (xs ys : List Tree) (i m j : ℕ) →
     CatSpans w ended (trees_of xs) i m → CatSpans w ended (trees_of ys) m j → CatSpans w ended (trees_of (xs ++ ys)) i j
 cat_spans-join w ended [] ys i m j same behind = subst (λ k. CatSpans w ended (trees_of ys) k j) (sym same) behind
 cat_spans-join w ended (x ∷ xs) ys i m j (k, first, others) behind =
@@ -29,7 +29,8 @@ one_item-open : (w : List ℕ) (ended : Bool) (t : Tree) (i j : ℕ) →
     CatSpans w ended (trees_of (t ∷ [])) i j → Spans w ended t i j
 one_item-open w ended t i j (m, here, same) = subst (λ k. Spans w ended t i k) same here
 
-once_from : (least : ℕ) (greatest : Option ℕ) → is_once least greatest ≡ true →
+-- so many copies are exactly one
+pub once_from : (least : ℕ) (greatest : Option ℕ) → is_once least greatest ≡ true →
     (least ≡ 1) × (greatest ≡ Some 1)
 once_from least None once = cc
 once_from least (Some greatest) once =

@@ -4,3 +4,5 @@ pub mod EndLemmas
 pub mod ItemLemmas
 pub mod TreeLemmas
 pub mod WidthLemmas
+pub mod RunLemmas
+pub mod RowLemmas

@@ -67,7 +67,7 @@ fn push_copy(alloc: Global, expr: &Expr, items: &mut Vec<Expr>) -> Result<(), Al
 }
 
 /// Whether the bounds allow exactly one copy.
-fn is_once(least: u32, greatest: Option<u32>) -> bool
+pub fn is_once(least: u32, greatest: Option<u32>) -> bool
     ensures { result ≡ is_once least greatest }
 {
     match greatest {

@@ -7,6 +7,7 @@ mod empty_span;
 mod ends;
 mod expr;
 mod items;
+mod kind;
 mod laws;
 mod plain;
 
@@ -15,7 +16,8 @@ pub use empty_span::matches_empty;
 pub use ends::has_embedded_end;
 pub use expr::Expr;
 pub use hs_base::Assertion;
-pub use items::flatten;
+pub use items::{flatten, is_once};
+pub use kind::{Kind, LEAST_LONG_REPEAT, MOST_LITERAL_BYTES, kind_of};
 pub use laws::{items_stay_as_they_are, spans_are_within_widths};
 pub use plain::is_plain;
 

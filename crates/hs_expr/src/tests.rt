@@ -5,130 +5,47 @@ use crate::{
 };
 use hs_base::ByteSet;
 use std::alloc::{AllocError, Global};
+use std::mem;
 use std::process::Abort;
 use std::test::Fail;
 
-/// A tree, its least width, its greatest one or `none`, its positions, and what holds of it: `e` that it matches the
-/// empty text, `x` that bytes may be consumed behind an assertion of the stream's end, `p` that it is plain.
+/// Trees, each with its least width, its greatest one or `none`, its positions, and what holds of it: `e` that it
+/// matches the empty text, `x` that bytes may be consumed behind an assertion of the stream's end, `p` that it is plain.
 ///
 /// In a tree `(..)` is a concatenation and `[..]` an alternation. Behind an item stand `*`, `+`, `?`, `=` for three to
 /// five copies, `!` for three to one, `~` for two and more, `#` for 32,767, or a digit for as many. `_` is the empty
 /// text, `.` every byte but the line feed, `@` some code points, `<`, `^`, `$`, `&`, `>`, `%` and `-` are assertions,
 /// and any other byte is itself.
 const FACTS: &[u8] = b"\
-_ 0 0 0 e p\n\
-a 1 1 1 p\n\
-@ 1 4 1\n\
-$ 0 0 0 e p\n\
-% 0 0 0 p\n\
-() 0 0 0 e p\n\
-(abc) 3 3 3 p\n\
-(a_) 1 1 1 p\n\
-($_) 0 0 0 e p\n\
-(foo.*bar) 6 none 7 p\n\
-[] 0 0 0 p\n\
-[(bcd)a] 1 3 4 p\n\
-[a_] 0 1 1 e p\n\
-[%a] 0 1 1 p\n\
-[a*b] 0 none 2 e p\n\
-a* 0 none 1 e p\n\
-a+ 1 none 1 p\n\
-a? 0 1 1 e p\n\
-a= 3 5 5 p\n\
-(ab)~ 4 none 4 p\n\
-a0 0 0 0 e p\n\
-a*0 0 0 0 e p\n\
-$*~ 0 0 0 e p\n\
-%2 0 0 0 p\n\
-_! 0 0 0\n\
-a! 3 1 1\n\
-a## 1073676289 1073676289 1073676289 p\n\
-a##4 4294705156 4294705156 4294705156 p\n\
-a##5 4294967295 4294967295 4294967295 p\n\
-a##50 0 0 0 e p\n\
-(a##4a##) 4294967295 4294967295 4294967295 p\n\
-[a##4a##] 1073676289 4294705156 4294967295 p\n\
-< 0 0 0 e p\n\
-^ 0 0 0 e p\n\
-& 0 0 0 e p\n\
-> 0 0 0 e p\n\
-- 0 0 0 e p\n\
-(&a) 1 1 1 x p\n\
-(a&) 1 1 1 p\n\
-($a) 1 1 1 p\n\
-[(>a)b] 1 1 2 x p\n\
-(>a)0 0 0 0 e p\n\
-(>a?) 0 1 1 e x p\n\
-(a&)? 0 1 1 e p\n\
-(a&)* 0 none 1 e x p\n\
-(a>)2 2 2 2 x p\n\
+_ 0 0 0 e p;a 1 1 1 p;@ 1 4 1;$ 0 0 0 e p;% 0 0 0 p;() 0 0 0 e p;(abc) 3 3 3 p;(a_) 1 1 1 p;\
+($_) 0 0 0 e p;(foo.*bar) 6 none 7 p;[] 0 0 0 p;[(bcd)a] 1 3 4 p;[a_] 0 1 1 e p;[%a] 0 1 1 p;\
+[a*b] 0 none 2 e p;a* 0 none 1 e p;a+ 1 none 1 p;a? 0 1 1 e p;a= 3 5 5 p;(ab)~ 4 none 4 p;\
+a0 0 0 0 e p;a*0 0 0 0 e p;$*~ 0 0 0 e p;%2 0 0 0 p;_! 0 0 0;a! 3 1 1;\
+a## 1073676289 1073676289 1073676289 p;a##4 4294705156 4294705156 4294705156 p;\
+a##5 4294967295 4294967295 4294967295 p;a##50 0 0 0 e p;\
+(a##4a##) 4294967295 4294967295 4294967295 p;[a##4a##] 1073676289 4294705156 4294967295 p;\
+< 0 0 0 e p;^ 0 0 0 e p;& 0 0 0 e p;> 0 0 0 e p;- 0 0 0 e p;(&a) 1 1 1 x p;(a&) 1 1 1 p;\
+($a) 1 1 1 p;[(>a)b] 1 1 2 x p;(>a)0 0 0 0 e p;(>a?) 0 1 1 e x p;(a&)? 0 1 1 e p;\
+(a&)* 0 none 1 e x p;(a>)2 2 2 2 x p;\
 ";
 
-/// A tree, and a letter for the node of each of its items.
+/// Trees, each with a letter for the node of each of its items.
 const ITEMS: &[u8] = b"\
-(foo.*bar) cccrccc\n\
-_ \n\
-() \n\
-a c\n\
-@ p\n\
-% s\n\
-((ab)11(_c)) ccc\n\
-((ab)2a0) rr\n\
-a+ r\n\
-(a?[a_]1) ra\n\
-((((a)))) c\n\
+(foo.*bar) cccrccc;_ ;() ;a c;@ p;% s;((ab)11(_c)) ccc;((ab)2a0) rr;a+ r;(a?[a_]1) ra;((((a)))) c;\
 ";
 
-/// The trees that are read and in no list yet, and how many of them stood before each list that is open.
-#[derive(Drop)]
-struct Reading {
-    trees: Vec<Expr>,
-    open: Vec<usize>,
-}
-
-impl Reading {
-    /// The trees of the innermost list, which ends.
-    fn close(&mut self, alloc: Global) -> Result<Vec<Expr>, AllocError> {
-        let mut items = Vec::new(alloc);
-        let before = self.open.pop().unwrap_or(0);
-        for _ in before..self.trees.len() {
-            if let Some(item) = self.trees.pop() {
-                items.insert(0, item)?;
-            }
-        }
-        Ok(items)
-    }
-
-    /// Copies of the tree that is read last.
-    fn repeat(
-        &mut self,
-        alloc: Global,
-        least: u32,
-        greatest: Option<u32>,
-    ) -> Result<Expr, AllocError> {
-        let body = self.trees.pop().unwrap_or(Expr::Empty);
-        Ok(Expr::Repeat(Box::new(alloc, body)?, least, greatest))
-    }
-
-    /// The node that a byte ends.
-    fn node(&mut self, alloc: Global, byte: u8) -> Result<Expr, AllocError> {
-        match byte {
-            b')' => Ok(Expr::Cat(self.close(alloc)?)),
-            b']' => Ok(Expr::Alt(self.close(alloc)?)),
-            b'*' => self.repeat(alloc, 0, None),
-            b'+' => self.repeat(alloc, 1, None),
-            b'?' => self.repeat(alloc, 0, Some(1)),
-            b'=' => self.repeat(alloc, 3, Some(5)),
-            b'!' => self.repeat(alloc, 3, Some(1)),
-            b'~' => self.repeat(alloc, 2, None),
-            b'#' => self.repeat(alloc, 32_767, Some(32_767)),
-            b'0'..=b'9' => {
-                let copies = u32::from(byte - b'0');
-                self.repeat(alloc, copies, Some(copies))
-            }
-            b'@' => Ok(Expr::Points(vec![in alloc; (0x80, 0x7FF)]?)),
-            _ => Ok(leaf(byte)),
-        }
+/// The bounds of the copies for which a mark stands.
+fn bounds(mark: u8) -> Option<(u32, Option<u32>)> {
+    match mark {
+        b'*' => Some((0, None)),
+        b'+' => Some((1, None)),
+        b'?' => Some((0, Some(1))),
+        b'=' => Some((3, Some(5))),
+        b'!' => Some((3, Some(1))),
+        b'~' => Some((2, None)),
+        b'#' => Some((32_767, Some(32_767))),
+        b'0'..=b'9' => Some((u32::from(mark - b'0'), Some(u32::from(mark - b'0')))),
+        _ => None,
     }
 }
 
@@ -148,21 +65,41 @@ fn leaf(byte: u8) -> Expr {
     }
 }
 
+/// The node that a byte ends, with the last of the items in it where it is a mark of copies.
+fn node(alloc: Global, items: &mut Vec<Expr>, byte: u8) -> Result<Expr, AllocError> {
+    if let Some((least, greatest)) = bounds(byte) {
+        let body = items.pop().unwrap_or(Expr::Empty);
+        return Ok(Expr::Repeat(Box::new(alloc, body)?, least, greatest));
+    }
+    if byte == b'@' {
+        return Ok(Expr::Points(vec![in alloc; (0x80, 0x7FF)]?));
+    }
+    Ok(leaf(byte))
+}
+
+/// The tree of a text.
 fn tree(alloc: Global, text: &[u8]) -> Result<Expr, AllocError> {
-    let mut reading = Reading {
-        trees: Vec::new(alloc),
-        open: Vec::new(alloc),
-    };
+    let mut outer = Vec::new(alloc);
+    let mut items = Vec::new(alloc);
     for byte in text {
         if matches!(*byte, b'(' | b'[') {
-            let before = reading.trees.len();
-            reading.open.push(before)?;
-        } else {
-            let made = reading.node(alloc, *byte)?;
-            reading.trees.push(made)?;
+            outer.push(mem::replace(&mut items, Vec::new(alloc)))?;
+            continue;
         }
+        let made = if matches!(*byte, b')' | b']') {
+            let before = outer.pop().unwrap_or(Vec::new(alloc));
+            let inside = mem::replace(&mut items, before);
+            if *byte == b')' {
+                Expr::Cat(inside)
+            } else {
+                Expr::Alt(inside)
+            }
+        } else {
+            node(alloc, &mut items, *byte)?
+        };
+        items.push(made)?;
     }
-    Ok(reading.trees.pop().unwrap_or(Expr::Empty))
+    Ok(items.pop().unwrap_or(Expr::Empty))
 }
 
 /// The counts of a tree and what holds of it, as they stand in a row.
@@ -173,14 +110,15 @@ fn facts(alloc: Global, expr: &Expr) -> Result<String, AllocError> {
         Some(greatest) => format!(in alloc; "{least} {greatest} {count}")?,
         None => format!(in alloc; "{least} none {count}")?,
     };
-    if matches_empty(expr) {
-        text.push_str(" e")?;
-    }
-    if has_embedded_end(expr, false) {
-        text.push_str(" x")?;
-    }
-    if is_plain(expr) {
-        text.push_str(" p")?;
+    let found = [
+        (matches_empty(expr), " e"),
+        (has_embedded_end(expr, false), " x"),
+        (is_plain(expr), " p"),
+    ];
+    for (holds, letter) in found {
+        if holds {
+            text.push_str(letter)?;
+        }
     }
     Ok(text)
 }
@@ -210,28 +148,22 @@ fn cut(bytes: &[u8], mark: u8) -> (&[u8], &[u8]) {
     }
 }
 
-/// Checks a row of the facts or of the items.
-fn check(rt: &impl Abort, alloc: Global, counted: bool, row: &[u8]) -> Result<(), Fail> {
-    let (text, wanted) = cut(row, b' ');
-    let expr = tree(alloc, text)?;
-    let found = if counted {
-        facts(alloc, &expr)?
-    } else {
-        kinds(alloc, &expr)?
-    };
-    assert!(rt; found.as_bytes() == wanted, "{text:?} gives {found}");
-    Ok(())
-}
-
-/// Checks the rows of a table.
-fn check_all(rt: &impl Abort, alloc: Global, counted: bool, rows: &[u8]) -> Result<(), Fail> {
+/// Checks the rows of the facts or of the items.
+fn check(rt: &impl Abort, alloc: Global, counted: bool, rows: &[u8]) -> Result<(), Fail> {
     let mut rest = rows;
     for _ in 0..rows.len() {
-        if rest.is_empty() {
+        let (row, behind) = cut(rest, b';');
+        let (text, wanted) = cut(row, b' ');
+        let expr = tree(alloc, text)?;
+        let found = if counted {
+            facts(alloc, &expr)?
+        } else {
+            kinds(alloc, &expr)?
+        };
+        assert!(rt; found.as_bytes() == wanted, "{text:?} gives {found}");
+        if behind.is_empty() {
             break;
         }
-        let (row, behind) = cut(rest, b'\n');
-        check(rt, alloc, counted, row)?;
         rest = behind;
     }
     Ok(())
@@ -239,6 +171,6 @@ fn check_all(rt: &impl Abort, alloc: Global, counted: bool, rows: &[u8]) -> Resu
 
 #[test]
 fn counts_and_flattens_by_the_rules(rt: HostRuntime) -> Result<(), Fail> {
-    check_all(&rt, rt.alloc(), true, FACTS)?;
-    check_all(&rt, rt.alloc(), false, ITEMS)
+    check(&rt, rt.alloc(), true, FACTS)?;
+    check(&rt, rt.alloc(), false, ITEMS)
 }

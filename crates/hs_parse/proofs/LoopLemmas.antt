@@ -24,7 +24,7 @@ use Rattle.hs_parse.specs.Tokens.{Token, ending, single, assertion, opening, clo
 use Rattle.hs_parse.specs.Grammar.{greatest_length, greatest_depth, NoQuantifier, Atom, one_byte, asserted, group, Item, once, repeated, Sequence, nothing, item_first, setting_first, sequence_tree, Alternation, last, alternative_first, alternation_tree, Reads}
 use Rattle.hs_parse.specs.Faults.{Fault, quantifier_faults}
 use Rattle.hs_parse.specs.Faults as faults
-use Rattle.hs_parse.specs.Reading.{EndsGroup, at_closing, at_ending, EndsSequence, with_group, at_bar, Passes, StopsFrom, plain_token, sees_quantifier, goes_on, IsNext, IsLeastOf, ReadsAtom, ReadsItem, ReadsSequence, ReadsGroup}
+use Rattle.hs_parse.specs.Reading.{EndsGroup, at_closing, at_ending, EndsSequence, with_group, at_bar, ReadsOn, StopsFrom, plain_token, sees_quantifier, goes_on, IsNext, IsLeastOf, ReadsAtom, ReadsItem, ReadsSequence, ReadsGroup}
 use Rattle.hs_parse.proofs.TokenLemmas.{one_next}
 use Rattle.hs_parse.proofs.FaultLemmas.{all_right}
 use Rattle.hs_parse.proofs.GrammarLemmas.{is_quantifier, no_quantifier}
@@ -99,7 +99,7 @@ pub record AlternativesRead (text : List ℕ) (depth : ℕ) (start : Spot) (tree
   pub more :
       (rest : List Tree) (end : Spot) →
       Alternation text depth at rest end → Alternation text depth start (trees ++ rest) end
-  pub passes : Passes text depth start at
+  pub passes : ReadsOn text depth start at
   pub rises : start.place ≤ at.place
   pub within : at.place ≤ length text
 
@@ -108,7 +108,7 @@ pub record SequenceRead (text : List ℕ) (depth : ℕ) (start : Spot) (trees : 
   pub more :
       (rest : List Tree) (end : Spot) →
       Sequence text depth at rest end → Sequence text depth start (trees ++ rest) end
-  pub passes : Passes text depth start at
+  pub passes : ReadsOn text depth start at
   pub rises : start.place ≤ at.place
   pub within : at.place ≤ length text
 

@@ -12,7 +12,7 @@ use Rattle.hs_parse.specs.Spots.{start_of}
 use Rattle.hs_parse.specs.Tokens.{Token, ending, closing, bar, opening, quantifier, setting, faulty, Next}
 use Rattle.hs_parse.specs.Grammar.{greatest_length, greatest_depth, NoQuantifier, Atom, Item, Sequence, Alternation}
 use Rattle.hs_parse.specs.Faults.{Before, beginning, atom, repeated, state, start_state, Run, stops, place_of, move, here, quantifier_faults, quantifier_move, Fault, IsParseFault}
-use Rattle.hs_parse.specs.Reading.{at_closing, at_ending, EndsSequence, with_group, at_bar, Passes, IsLeastOf, StopsFrom, StopsWith}
+use Rattle.hs_parse.specs.Reading.{at_closing, at_ending, EndsSequence, with_group, at_bar, ReadsOn, IsLeastOf, StopsFrom, StopsWith}
 use Rattle.hs_parse.proofs.FaultLemmas.{syntax_least, only_least, wrong_move}
 use Rattle.hs_parse.proofs.RunLemmas.{run_then, one_step}
 use Rattle.hs_parse.proofs.GrammarLemmas.{no_quantifier}
@@ -118,17 +118,17 @@ twice_stops text depth s middle start t again u n k m l possessive tree a q boun
 -- a reading that comes to a spot and stops later
 pub passes_stops :
     (text : List ℕ) (depth : ℕ) (s t : Spot) (reason : ParseFault) →
-    Passes text depth s t → StopsFrom text depth t reason → StopsFrom text depth s reason
+    ReadsOn text depth s t → StopsFrom text depth t reason → StopsFrom text depth s reason
 passes_stops text depth s t (fault.Refused refusal) passes stop = λ flags outside before h ready run.
     let there = passes outside before h ready in stop flags outside there.0 h there.1 (run_then run there.2)
 passes_stops text depth s t fault.Memory passes stop = tt
 
-pub passes_here : (text : List ℕ) (depth : ℕ) (s : Spot) → Passes text depth s s
+pub passes_here : (text : List ℕ) (depth : ℕ) (s : Spot) → ReadsOn text depth s s
 passes_here text depth s outside before h ready = (before, ready, here)
 
 pub passes_then :
     (text : List ℕ) (depth : ℕ) (s t u : Spot) →
-    Passes text depth s t → Passes text depth t u → Passes text depth s u
+    ReadsOn text depth s t → ReadsOn text depth t u → ReadsOn text depth s u
 passes_then text depth s t u first second outside before h ready =
     let one = first outside before h ready in
     let two = second outside one.0 h one.1 in
@@ -137,12 +137,12 @@ passes_then text depth s t u first second outside before h ready =
 -- an item that no quantifier follows
 pub item_passes :
     (text : List ℕ) (depth : ℕ) (s t : Spot) (tree : Tree) →
-    Item text depth s tree t → NoQuantifier text t → Passes text depth s t
+    Item text depth s tree t → NoQuantifier text t → ReadsOn text depth s t
 item_passes text depth s t tree item bare outside before h ready =
     let there = item_runs item outside before h in (there.after, inr bare, there.run)
 
 -- a change of options
-pub setting_passes : (text : List ℕ) (depth : ℕ) (s start t : Spot) → Next text s start setting t → Passes text depth s t
+pub setting_passes : (text : List ℕ) (depth : ℕ) (s start t : Spot) → Next text s start setting t → ReadsOn text depth s t
 setting_passes text depth s start t p outside before h ready = (beginning, inl refl, one_step p refl)
 
 -- no quantifier stands where a sequence ends
@@ -154,12 +154,12 @@ ended_bare (at_bar p) = no_quantifier (record { made = _; start = _; behind = _;
 -- a whole sequence
 pub sequence_passes :
     (text : List ℕ) (depth : ℕ) (s t : Spot) (trees : List Tree) →
-    Sequence text depth s trees t → EndsSequence text t → Passes text depth s t
+    Sequence text depth s trees t → EndsSequence text t → ReadsOn text depth s t
 sequence_passes text depth s t trees row ended outside before h ready =
     let there = sequence_runs row outside before h in (there.after, inr (ended_bare ended), there.run)
 
 -- a `|`
-pub bar_passes : (text : List ℕ) (depth : ℕ) (s start t : Spot) → Next text s start bar t → Passes text depth s t
+pub bar_passes : (text : List ℕ) (depth : ℕ) (s start t : Spot) → Next text s start bar t → ReadsOn text depth s t
 bar_passes text depth s start t mark outside before h ready = (beginning, inl refl, one_step mark refl)
 
 -- a reading that stops is the fault of a text that isn't too long

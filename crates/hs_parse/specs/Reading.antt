@@ -119,8 +119,8 @@ abbrev pub IsReady : List ℕ → Spot → Before → Type 0
 IsReady text s before = (before ≡ beginning) ⊎ NoQuantifier text s
 
 -- Wherever the reading comes to the first spot, within so many groups, it comes to the second.
-abbrev pub Passes : List ℕ → ℕ → Spot → Spot → Type 0
-Passes text depth s t =
+abbrev pub ReadsOn : List ℕ → ℕ → Spot → Spot → Type 0
+ReadsOn text depth s t =
     (outside : List Mode) (before : Before) → length outside ≡ depth → IsReady text s before →
     (after : Before) × IsReady text t after × Run text (state s outside before) (state t outside after)
 

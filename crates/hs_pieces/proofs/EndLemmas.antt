@@ -1,6 +1,5 @@
 -- End assertions in chains: a chain has an embedded one where its expression has.
-use Rattle.std.proofs.Common.{◌≡◌, ℕ, zero, suc, Bool, true, false, ◌||◌, ◌&&◌, List, [], ◌∷◌, ◌++◌, map, Option, Some, None, if◌then◌else◌, refl, sym, ap, ◌∙◌, subst, arith}
-use Rattle.std.proofs.lemmas.Bool.Decides.{nat_tests}
+use Rattle.std.proofs.Common.{◌≡◌, ℕ, zero, suc, Bool, true, false, ◌||◌, ◌&&◌, List, [], ◌∷◌, ◌++◌, map, Option, Some, None, if◌then◌else◌, refl, sym, ap, ◌∙◌, subst}
 use Rattle.hs_base.specs.Trees.{Tree, Trees, empty, class, points, assert, cat, alt, repeat, none, more, trees_of}
 use Rattle.hs_base.specs.EndAssertions.{is_end_assertion, may_consume, one_may_consume, has_embedded_end, sequence_has_embedded_end, one_has_embedded_end}
 use Rattle.hs_base.specs.WrittenOut.{IsPlain, ArePlain}
@@ -8,6 +7,7 @@ use Rattle.hs_base.specs.Items.{items_of, items_of_all, is_once}
 use Rattle.hs_base.specs.Chains.{Part, literal, ordinary, long, piece_of, piece_tree, chain_trees}
 use Rattle.hs_base.proofs.ByteSetLemmas.{or-false}
 use Rattle.hs_base.proofs.EndAssertionLemmas.{neither}
+use Rattle.hs_expr.proofs.ItemLemmas.{once_from}
 use Rattle.hs_pieces.proofs.FlatLemmas.{items_in, items_within}
 
 or-assoc : (a b c : Bool) → ((a || b) || c) ≡ (a || (b || c))
@@ -51,15 +51,11 @@ one-consumes t = or-false (may_consume t)
 one-has_end : (t : Tree) (after : Bool) → row_has_end (t ∷ []) after ≡ has_embedded_end t after
 one-has_end t after = or-false (has_embedded_end t (after || false)) ∙ ap (has_embedded_end t) (or-false after)
 
-pub once-greatest : (least : ℕ) (greatest : Option ℕ) → is_once least greatest ≡ true → greatest ≡ Some 1
-once-greatest least None once = absurd (cc)
-once-greatest least (Some greatest) once = let e : greatest ≡ 1 = grind (arith, nat_tests) in ap Some e
-
 repeat-consumes : (body : Tree) (least : ℕ) (greatest : Option ℕ) (once : Bool) → is_once least greatest ≡ once →
     row_consumes (items_of body) ≡ may_consume body →
     row_consumes (if once then items_of body else repeat body least greatest ∷ []) ≡ may_consume (repeat body least greatest)
 repeat-consumes body least greatest true is inside =
-    inside ∙ ap (λ most. may_consume (repeat body least most)) (sym (once-greatest least greatest is))
+    inside ∙ ap (λ most. may_consume (repeat body least most)) (sym (once_from least greatest is).1)
 repeat-consumes body least greatest false is inside = one-consumes (repeat body least greatest)
 
 mutual
@@ -84,7 +80,7 @@ repeat-has_end : (body : Tree) (least : ℕ) (greatest : Option ℕ) (once after
     row_has_end (items_of body) after ≡ has_embedded_end body after →
     row_has_end (if once then items_of body else repeat body least greatest ∷ []) after ≡ has_embedded_end (repeat body least greatest) after
 repeat-has_end body least greatest true after is inside =
-    inside ∙ ap (λ most. has_embedded_end (repeat body least most) after) (sym (once-greatest least greatest is))
+    inside ∙ ap (λ most. has_embedded_end (repeat body least most) after) (sym (once_from least greatest is).1)
 repeat-has_end body least greatest false after is inside = one-has_end (repeat body least greatest) after
 
 mutual

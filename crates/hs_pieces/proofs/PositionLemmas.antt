@@ -1,45 +1,24 @@
 -- No piece has more positions than the expression.
-use Rattle.std.proofs.Common.{◌≡◌, ℕ, ◌+◌, ◌*◌, ◌≤◌, Bool, true, false, List, [], ◌∷◌, ◌++◌, map, sum, Option, if◌then◌else◌, refl, sym, ap, ◌∙◌, subst, arith}
+use Rattle.std.proofs.Common.{◌≡◌, ℕ, ◌*◌, ◌≤◌, Bool, true, false, List, [], ◌∷◌, map, sum, Option, if◌then◌else◌, refl, sym, ap, ◌∙◌, subst, arith}
 use Rattle.std.proofs.lemmas.List.{map-append}
-use Rattle.std.proofs.lemmas.List.Sums.{sum_by-cons}
 use Rattle.hs_base.specs.Lists.{Each}
-use Rattle.hs_base.specs.Trees.{Tree, Trees, empty, class, points, assert, cat, alt, repeat, none, more, trees_of, IsProper, AreProper}
+use Rattle.hs_base.specs.Trees.{Tree, Trees, empty, class, points, assert, cat, alt, repeat, none, more, IsProper, AreProper}
 use Rattle.hs_base.specs.Items.{items_of, items_of_all, is_once}
 use Rattle.hs_base.specs.Chains.{Part, literal, ordinary, long, piece_of, pieces_of, alternatives_of, alternatives_of_all, chains_of}
 use Rattle.hs_base.proofs.ListLemmas.{each-append}
 use Rattle.hs_expr.specs.Counts.{positions, position_counts}
 use Rattle.hs_pieces.specs.Laws.{HasPositions}
 use Rattle.hs_pieces.proofs.FlatLemmas.{items_in, items_within, parts_of, parts_of-same}
-use Rattle.hs_expr.proofs.ItemLemmas.{items-proper}
-use Rattle.hs_pieces.proofs.EndLemmas.{once-greatest}
-
--- the positions of items in a row
-abbrev row : List Tree → ℕ
-row ts = sum (position_counts (trees_of ts))
-
-row-cons : (t : Tree) (ts : List Tree) → row (t ∷ ts) ≡ positions t + row ts
-row-cons t ts = sum_by-cons (λ x. x) (positions t) (position_counts (trees_of ts))
-
-row-append : (xs ys : List Tree) → row (xs ++ ys) ≡ row xs + row ys
-row-append [] ys = omega arith
-row-append (x ∷ xs) ys =
-    let all = row-cons x (xs ++ ys) in
-    let front = row-cons x xs in
-    let rest = row-append xs ys in
-    omega (arith, all, front, rest)
-
-one-row : (t : Tree) → row (t ∷ []) ≡ positions t
-one-row t = let all = row-cons t [] in omega (arith, all)
-
-more-positions : (item : Tree) (items : Trees) → sum (position_counts (more item items)) ≡ positions item + sum (position_counts items)
-more-positions item items = sum_by-cons (λ x. x) (positions item) (position_counts items)
+use Rattle.hs_expr.specs.Waiting.{row}
+use Rattle.hs_expr.proofs.ItemLemmas.{items-proper, once_from}
+use Rattle.hs_expr.proofs.RowLemmas.{row-append, one-row, more-positions}
 
 repeat-row : (body : Tree) (least : ℕ) (greatest : Option ℕ) (once : Bool) → is_once least greatest ≡ once →
     row (items_of body) ≡ positions body →
     row (if once then items_of body else repeat body least greatest ∷ []) ≡ positions (repeat body least greatest)
 repeat-row body least greatest true is inside =
     let single : positions body ≡ positions body * 1 = omega arith in
-    inside ∙ single ∙ ap (λ most. positions (repeat body least most)) (sym (once-greatest least greatest is))
+    inside ∙ single ∙ ap (λ most. positions (repeat body least most)) (sym (once_from least greatest is).1)
 repeat-row body least greatest false is inside = one-row (repeat body least greatest)
 
 mutual

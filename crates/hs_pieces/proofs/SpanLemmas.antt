@@ -7,23 +7,8 @@ use Rattle.hs_base.specs.Spans.{Spans, CatSpans, AltSpans}
 use Rattle.hs_base.specs.Items.{items_of}
 use Rattle.hs_base.specs.Chains.{Part, literal, ordinary, long, piece_of, piece_tree, pieces_of, chain_trees, ChainSpans, alternatives_of, alternatives_of_all, chains_of}
 use Rattle.hs_base.proofs.ListLemmas.{one_of-left, one_of-right, one_of-append}
-use Rattle.hs_expr.proofs.ItemLemmas.{items-have_spans, items-proper}
+use Rattle.hs_expr.proofs.ItemLemmas.{joined, cat_spans-split, cat_spans-join, items-have_spans, items-proper}
 use Rattle.hs_pieces.proofs.FlatLemmas.{items_in, items_within, parts_of, parts_of-same}
-
--- spans of some items and then of others
-data Joined (w : List ℕ) (ended : Bool) (xs ys : List Tree) (i j : ℕ) : Type 0 where
-  joined : (m : ℕ) → CatSpans w ended (trees_of xs) i m → CatSpans w ended (trees_of ys) m j → Joined w ended xs ys i j
-
-spans-split : (w : List ℕ) (ended : Bool) (xs ys : List Tree) (i j : ℕ) →
-    CatSpans w ended (trees_of (xs ++ ys)) i j → Joined w ended xs ys i j
-spans-split w ended [] ys i j h = joined i refl h
-spans-split w ended (x ∷ xs) ys i j (m, first, others) =
-    elim (spans-split w ended xs ys m j others) [ joined k before behind ↦ joined k (m, first, before) behind ]
-
-spans-join : (w : List ℕ) (ended : Bool) (xs ys : List Tree) (i m j : ℕ) →
-    CatSpans w ended (trees_of xs) i m → CatSpans w ended (trees_of ys) m j → CatSpans w ended (trees_of (xs ++ ys)) i j
-spans-join w ended [] ys i m j same behind = subst (λ k. CatSpans w ended (trees_of ys) k j) (sym same) behind
-spans-join w ended (x ∷ xs) ys i m j (k, first, others) behind = (k, first, spans-join w ended xs ys k m j others behind)
 
 -- a piece has the spans of its items
 piece-items : (w : List ℕ) (ended : Bool) (part : Part) (i j : ℕ) →
@@ -44,14 +29,14 @@ chain-items : (w : List ℕ) (ended : Bool) (parts : List Part) (i j : ℕ) →
     CatSpans w ended (chain_trees (map piece_of parts)) i j → CatSpans w ended (trees_of (items_within parts)) i j
 chain-items w ended [] i j h = h
 chain-items w ended (part ∷ parts) i j (m, first, others) =
-    spans-join w ended (items_in part) (items_within parts) i m j
+    cat_spans-join w ended (items_in part) (items_within parts) i m j
     (piece-items w ended part i m first) (chain-items w ended parts m j others)
 
 items-chain : (w : List ℕ) (ended : Bool) (parts : List Part) (i j : ℕ) →
     CatSpans w ended (trees_of (items_within parts)) i j → CatSpans w ended (chain_trees (map piece_of parts)) i j
 items-chain w ended [] i j h = h
 items-chain w ended (part ∷ parts) i j h =
-    elim (spans-split w ended (items_in part) (items_within parts) i j h) [
+    elim (cat_spans-split w ended (items_in part) (items_within parts) i j h) [
       | joined m before behind ↦ (m, items-piece w ended part i m before, items-chain w ended parts m j behind)
     ]
 

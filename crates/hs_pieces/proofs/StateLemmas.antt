@@ -11,12 +11,14 @@ use Rattle.hs_base.specs.declared.literal.LitByte.{LitByte}
 use Rattle.hs_expr.specs.Meaning.{tree_of}
 use Rattle.hs_expr.specs.declared.expr.Expr.{Expr}
 use Rattle.hs_expr.specs.declared.expr.Expr.TheVariants.{Class}
+use Rattle.hs_expr.specs.Waiting.{cut_from}
+use Rattle.hs_expr.proofs.RunLemmas.{cut_from-full, cut_from-ordinary, cut_from-long, cut_from-none}
 use Rattle.hs_expr.proofs.TreeLemmas.{tree_of-Class}
 use Rattle.hs_pieces.specs.Meaning.{plain_piece}
-use Rattle.hs_pieces.specs.Splitting.{closed, pieces_of_cut, cut_from}
+use Rattle.hs_pieces.specs.Splitting.{closed, pieces_of_cut}
 use Rattle.hs_pieces.specs.declared.piece.Piece.{Piece}
 use Rattle.hs_pieces.specs.declared.piece.Piece.TheVariants.{Lit, Rep}
-use Rattle.hs_pieces.proofs.PartLemmas.{cut_from-full, cut_from-ordinary, cut_from-long, cut_from-none, literal-complete, long-complete, ordinary-added, rest-literal}
+use Rattle.hs_pieces.proofs.PartLemmas.{literal-complete, long-complete, ordinary-added, rest-literal}
 
 -- what waits is nothing
 nothing : (left : List Expr) (run : List LitByte) (parts : List Part) → left ≡ [] → run ≡ [] →

@@ -1,5 +1,4 @@
 pub mod Meaning
-pub mod Kinds
 pub mod Splitting
 pub mod LookBack
 pub mod Proper

@@ -2,7 +2,6 @@
 //! `specs/Chains.antt` says what the chains of an expression are.
 #![tactic(auto)]
 
-mod kind;
 mod laws;
 mod parts;
 mod piece;

@@ -1,14 +1,10 @@
 //! Items on their way to pieces.
 ghost use Rattle.std.specs.Prelude.{◌<◌, vec_len};
 
-use crate::kind::{Kind, kind_of};
 use crate::piece::{Chain, Piece};
 use hs_base::{ByteSet, LitByte};
-use hs_expr::Expr;
+use hs_expr::{Expr, Kind, MOST_LITERAL_BYTES, kind_of};
 use std::alloc::{AllocError, Global};
-
-/// The most bytes of one literal.
-pub const MOST_LITERAL_BYTES: usize = 32;
 
 /// The pieces of some items, as far as the items to come can't change them.
 #[derive(Debug, Drop)]

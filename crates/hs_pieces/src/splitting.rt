@@ -6,7 +6,7 @@ ghost use Rattle.hs_base.specs.Trees.{IsProper};
 ghost use Rattle.hs_expr.specs.Meaning.{tree_of, trees_of};
 ghost use Rattle.hs_pieces.specs.Meaning.{plain_chain};
 ghost use Rattle.hs_pieces.specs.Proper.{AreProperChains};
-ghost use Rattle.hs_pieces.specs.Splitting.{chains_of_all};
+ghost use Rattle.hs_expr.specs.Waiting.{chains_of_all};
 
 use crate::parts::Parts;
 use crate::piece::Chain;

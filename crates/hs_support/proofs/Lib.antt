@@ -2,7 +2,6 @@ pub mod AcceptedLemmas
 pub mod OutsideLemmas
 pub mod RefusedLemmas
 pub mod UniqueLemmas
-pub mod RunLemmas
 pub mod WalkLemmas
 pub mod PieceLemmas
 pub mod ExcessLemmas

@@ -6,11 +6,12 @@ use Rattle.hs_base.specs.Chains.{Part, Piece, part_of, pieces_of, chains_of, alt
 use Rattle.hs_base.specs.Items.{items_of, is_once}
 use Rattle.hs_base.specs.Trees.{Tree, Trees, more, repeat}
 use Rattle.hs_expr.specs.Counts.{capped}
+use Rattle.hs_expr.specs.Waiting.{chains_of_all, cut_from}
 use Rattle.hs_support.specs.PieceCounts.{first_excess, first_excess_of}
-use Rattle.hs_support.specs.Waiting.{chains_of_all, cut_from, excess_behind}
-use Rattle.hs_support.specs.Walking.{Leads, Takes, Passes}
+use Rattle.hs_support.specs.Waiting.{excess_behind}
+use Rattle.hs_support.specs.Walking.{Leads, Takes, PassesItems}
 use Rattle.hs_support.specs.declared.walk.Walk.{Walk}
-use Rattle.hs_support.proofs.WalkLemmas.{or-assoc}
+use Rattle.hs_support.proofs.WalkLemmas.{or-assoc, or-none}
 
 -- a walk through all items stands there, with these still to come
 abbrev pub PassesUntil : Walk → List Tree → (now : Walk) → List Tree → Type 0
@@ -18,14 +19,14 @@ PassesUntil walk all now rest =
     (parts : List Part) (answer : Option ℕ) → Leads now (map part_of rest ++ parts) answer → Leads walk (map part_of all ++ parts) answer
 
 pub passes-more : (walk now next : Walk) (all first rest : List Tree) →
-    PassesUntil walk all now (first ++ rest) → Passes now first next → PassesUntil walk all next rest
+    PassesUntil walk all now (first ++ rest) → PassesItems now first next → PassesUntil walk all next rest
 passes-more walk now next all first rest until passes parts answer leads =
     let seam : map part_of (first ++ rest) ++ parts ≡ map part_of first ++ (map part_of rest ++ parts) =
     ap (λ front. front ++ parts) (map-append part_of first rest) ∙ append_assoc (map part_of first) (map part_of rest) parts in
     until parts answer (subst (λ ps. Leads now ps answer) (sym seam) (passes (map part_of rest ++ parts) answer leads))
 
 -- what is one item, as it stands, is a part
-pub item-passes : (walk next : Walk) (t : Tree) → items_of t ≡ t ∷ [] → Takes walk (part_of t) next → Passes walk (items_of t) next
+pub item-passes : (walk next : Walk) (t : Tree) → items_of t ≡ t ∷ [] → Takes walk (part_of t) next → PassesItems walk (items_of t) next
 item-passes walk next t same takes parts answer leads =
     subst (λ items. Leads walk (map part_of items ++ parts) answer) (sym same) (takes parts answer leads)
 
@@ -47,10 +48,6 @@ from-start first items answer found count run leads =
     ∙ ap (λ f. option_or f (excess_behind [] (cut_from [] (map part_of items ++ [])))) found
     ∙ ap (λ parts. excess_behind [] (cut_from [] parts)) (append-nil (map part_of items))
     ∙ ap (option_map capped) (sym (or-none (first_excess (pieces_of items))))
-  where
-    or-none : (a : Option ℕ) → option_or a None ≡ a
-    or-none None = refl
-    or-none (Some x) = refl
 
 -- the first excess of chains in a row
 

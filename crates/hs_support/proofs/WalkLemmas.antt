@@ -3,27 +3,23 @@ use Rattle.std.proofs.Common.{◌≡◌, ℕ, ◌+◌, ◌<◌, min, Bool, true,
 use Rattle.std.specs.Option.{option_map, option_or}
 use Rattle.std.proofs.lemmas.Bool.Decides.{nat_tests}
 use Rattle.std.proofs.lemmas.List.{length-append}
-use Rattle.std.proofs.lemmas.List.Sums.{sum_by-cons}
-use Rattle.hs_base.specs.Trees.{Tree, empty, class, points, assert, cat, alt, repeat, trees_of}
-use Rattle.hs_base.specs.Literals.{LiteralByte, literal_set, literal_of}
-use Rattle.hs_base.specs.Chains.{Part, literal, ordinary, long, part_of, class_part, repeat_part, is_long, piece_of, ordinary_joined, rest_of_run}
-use Rattle.hs_expr.specs.Counts.{greatest_count, capped, positions, position_counts}
+use Rattle.hs_base.specs.Trees.{Tree, class}
+use Rattle.hs_base.specs.Literals.{LiteralByte, literal_set}
+use Rattle.hs_base.specs.Chains.{Part, literal, ordinary, long, piece_of, ordinary_joined, rest_of_run}
+use Rattle.hs_expr.specs.Counts.{greatest_count, capped, positions}
+use Rattle.hs_expr.specs.Waiting.{cut_from, row}
+use Rattle.hs_expr.proofs.RowLemmas.{row-snoc}
+use Rattle.hs_expr.proofs.RunLemmas.{with_items-snoc, cut_from-ordinary, cut_from-long, cut_from-none, cut_from-byte, cut_from-full}
 use Rattle.hs_support.specs.PieceCounts.{too_many, first_excess}
-use Rattle.hs_support.specs.Waiting.{cut_from, row, excess_behind, LeadsCut, LeadsFrom, kind_of}
-use Rattle.hs_support.specs.declared.kind.Kind.TheVariants as kind
-use Rattle.hs_support.proofs.RunLemmas.{with_items-snoc, cut_from-ordinary, cut_from-long, cut_from-none, cut_from-byte, cut_from-full}
-
-row-snoc : (items : List Tree) (t : Tree) → row (items ++ t ∷ []) ≡ row items + positions t
-row-snoc [] t = let one = sum_by-cons (λ x. x) (positions t) [] in omega (arith, one)
-row-snoc (u ∷ us) t =
-    let whole = sum_by-cons (λ x. x) (positions u) (position_counts (trees_of (us ++ t ∷ []))) in
-    let front = sum_by-cons (λ x. x) (positions u) (position_counts (trees_of us)) in
-    let rest = row-snoc us t in
-    omega (arith, whole, front, rest)
+use Rattle.hs_support.specs.Waiting.{excess_behind, LeadsCut, LeadsFrom}
 
 pub or-assoc : (a b c : Option ℕ) → option_or (option_or a b) c ≡ option_or a (option_or b c)
 or-assoc None b c = refl
 or-assoc (Some x) b c = refl
+
+pub or-none : (a : Option ℕ) → option_or a None ≡ a
+or-none None = refl
+or-none (Some x) = refl
 
 -- whether a count is too great is seen of the capped one
 
@@ -85,10 +81,6 @@ none-leads found count items held =
     ∙ sym (or-assoc found (too_many (capped (row items))) None)
     ∙ or-none (option_or found (too_many (capped (row items))))
     ∙ ap (λ n. option_or found (too_many n)) held
-  where
-    or-none : (a : Option ℕ) → option_or a None ≡ a
-    or-none None = refl
-    or-none (Some x) = refl
 
 -- one more ordinary item
 ordinary-leads : (found : Option ℕ) (count part last : ℕ) (t : Tree) (cut : List Part) (answer : Option ℕ) →
@@ -166,60 +158,3 @@ full-leads found last count run x parts answer full is leads xs size =
     let longer : length (xs ++ x ∷ []) ≡ length xs + 1 = length-append xs (x ∷ []) in
     subst (λ cut. LeadsCut found count cut answer) (sym (cut_from-full xs x parts (longer ∙ ap (λ n. n + 1) size ∙ full)))
     (literal-leads found last count (xs ++ x ∷ []) (cut_from [] parts) answer is (leads [] refl))
-
--- an item is one literal byte, one long repeat or one ordinary item
-
-pub data Shape (t : Tree) (p : Part) : Type 0 where
-  is_literal : (x : LiteralByte) → p ≡ literal (x ∷ []) → Shape t p
-  is_long_repeat : (set : List Bool) (least : ℕ) (greatest : Option ℕ) → p ≡ long set least greatest → Shape t p
-  is_ordinary : p ≡ ordinary (t ∷ []) → Shape t p
-
-class-shape : (set : List Bool) (byte : Option LiteralByte) → Shape (class set) (class_part set byte)
-class-shape set None = is_ordinary refl
-class-shape set (Some x) = is_literal x refl
-
-repeat-shape : (set : List Bool) (least : ℕ) (greatest : Option ℕ) (many : Bool) →
-    Shape (repeat (class set) least greatest) (repeat_part set least greatest many)
-repeat-shape set least greatest true = is_long_repeat set least greatest refl
-repeat-shape set least greatest false = is_ordinary refl
-
-pub shape : (t : Tree) → Shape t (part_of t)
-shape empty = is_ordinary refl
-shape (class set) = class-shape set (literal_of set)
-shape (points ranges) = is_ordinary refl
-shape (assert assertion) = is_ordinary refl
-shape (cat items) = is_ordinary refl
-shape (alt items) = is_ordinary refl
-shape (repeat empty least greatest) = is_ordinary refl
-shape (repeat (class set) least greatest) = repeat-shape set least greatest (is_long least greatest)
-shape (repeat (points ranges) least greatest) = is_ordinary refl
-shape (repeat (assert assertion) least greatest) = is_ordinary refl
-shape (repeat (cat items) least greatest) = is_ordinary refl
-shape (repeat (alt items) least greatest) = is_ordinary refl
-shape (repeat (repeat body n m) least greatest) = is_ordinary refl
-
--- what each kind promises is what the item's part needs
-
-pub literal-kind : (t : Tree) (p : Part) (Q : Part → Type 0) → Shape t p → kind.Literal ≡ kind_of p →
-    ((x : LiteralByte) → Q (literal (x ∷ []))) → Q p
-literal-kind t p Q (is_literal x is) same holds = subst Q (sym is) (holds x)
-literal-kind t p Q (is_long_repeat set least greatest is) same holds =
-    let apart : kind.Literal ≡ kind.Long = same ∙ ap kind_of is in absurd cc
-literal-kind t p Q (is_ordinary is) same holds =
-    let apart : kind.Literal ≡ kind.Ordinary = same ∙ ap kind_of is in absurd cc
-
-pub long-kind : (t : Tree) (p : Part) (Q : Part → Type 0) → Shape t p → kind.Long ≡ kind_of p →
-    ((set : List Bool) (least : ℕ) (greatest : Option ℕ) → Q (long set least greatest)) → Q p
-long-kind t p Q (is_literal x is) same holds =
-    let apart : kind.Long ≡ kind.Literal = same ∙ ap kind_of is in absurd cc
-long-kind t p Q (is_long_repeat set least greatest is) same holds = subst Q (sym is) (holds set least greatest)
-long-kind t p Q (is_ordinary is) same holds =
-    let apart : kind.Long ≡ kind.Ordinary = same ∙ ap kind_of is in absurd cc
-
-pub ordinary-kind : (t : Tree) (p : Part) (Q : Part → Type 0) → Shape t p → kind.Ordinary ≡ kind_of p →
-    Q (ordinary (t ∷ [])) → Q p
-ordinary-kind t p Q (is_literal x is) same holds =
-    let apart : kind.Ordinary ≡ kind.Literal = same ∙ ap kind_of is in absurd cc
-ordinary-kind t p Q (is_long_repeat set least greatest is) same holds =
-    let apart : kind.Ordinary ≡ kind.Long = same ∙ ap kind_of is in absurd cc
-ordinary-kind t p Q (is_ordinary is) same holds = subst Q (sym is) holds

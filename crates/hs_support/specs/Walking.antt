@@ -16,8 +16,8 @@ Takes walk part next =
     (parts : List Part) (answer : Option ℕ) → Leads next parts answer → Leads walk (part ∷ parts) answer
 
 -- behind the items the walk stands there
-abbrev pub Passes : Walk → List Tree → (next : Walk) → Type 0
-Passes walk items next =
+abbrev pub PassesItems : Walk → List Tree → (next : Walk) → Type 0
+PassesItems walk items next =
     (parts : List Part) (answer : Option ℕ) → Leads next parts answer → Leads walk (map part_of items ++ parts) answer
 
 -- behind the run that waits the walk stands there

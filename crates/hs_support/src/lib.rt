@@ -4,11 +4,8 @@
 
 mod checking;
 mod fault;
-mod kind;
 pub mod laws;
 mod outside;
-#[cfg(test)]
-mod piece_tests;
 mod pieces;
 #[cfg(test)]
 mod tests;

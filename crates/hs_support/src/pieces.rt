@@ -2,15 +2,15 @@
 ghost use Rattle.std.specs.Prelude.{◌≡◌, ◌∷◌, [], map};
 ghost use Rattle.std.specs.Option.{option_map};
 ghost use Rattle.hs_base.specs.Chains.{chains_of, pieces_of};
-ghost use Rattle.hs_base.specs.Items.{items_of, items_of_all, is_once};
+ghost use Rattle.hs_base.specs.Items.{items_of, items_of_all};
 ghost use Rattle.hs_expr.specs.Counts.{capped};
 ghost use Rattle.hs_expr.specs.Meaning.{tree_of, trees_of};
+ghost use Rattle.hs_expr.specs.Waiting.{chains_of_all};
 ghost use Rattle.hs_support.specs.PieceCounts.{first_excess_of};
-ghost use Rattle.hs_support.specs.Waiting.{chains_of_all};
-ghost use Rattle.hs_support.specs.Walking.{Passes};
+ghost use Rattle.hs_support.specs.Walking.{PassesItems};
 
 use crate::walk::Walk;
-use hs_expr::Expr;
+use hs_expr::{Expr, is_once};
 
 /// The positions of the first piece, in the order of the chains, that is an expression and has more than
 /// `MAX_POSITIONS`; more than `GREATEST_COUNT` are told as that. It is found in one walk, and takes no memory.
@@ -52,7 +52,7 @@ fn excess_of_chain(expr: &Expr) -> Option<u32>
 /// The walk on through the items of an expression.
 #[cycle(walk_on)]
 fn walk_on(walk: Walk, expr: &Expr) -> Walk
-    ensures { Passes walk (items_of (tree_of expr.now)) result }
+    ensures { PassesItems walk (items_of (tree_of expr.now)) result }
 {
     match expr {
         Expr::Empty => walk,
@@ -74,21 +74,11 @@ fn walk_on(walk: Walk, expr: &Expr) -> Walk
 /// The walk on through the items of several expressions, one after the other.
 #[cycle(walk_on)]
 fn walk_on_through_all(walk: Walk, items: &[Expr]) -> Walk
-    ensures { Passes walk (items_of_all (trees_of (map tree_of items.now))) result }
+    ensures { PassesItems walk (items_of_all (trees_of (map tree_of items.now))) result }
 {
     let mut now = walk;
     for item in items {
         now = walk_on(now, item);
     }
     now
-}
-
-/// Whether the bounds allow exactly one copy.
-fn is_once(least: u32, greatest: Option<u32>) -> bool
-    ensures { result ≡ is_once least greatest }
-{
-    match greatest {
-        None => false,
-        Some(copies) => least == 1 && copies == 1,
-    }
 }

@@ -8,12 +8,8 @@ ghost use Rattle.hs_expr.specs.Counts.{capped, positions};
 ghost use Rattle.hs_expr.specs.Meaning.{tree_of};
 ghost use Rattle.hs_support.specs.PieceCounts.{too_many};
 
-use crate::kind::{Kind, kind_of};
 use hs_base::MAX_POSITIONS;
-use hs_expr::{Expr, positions};
-
-/// The bytes of a full literal.
-const FULL_LITERAL: u32 = 32;
+use hs_expr::{Expr, Kind, MOST_LITERAL_BYTES, kind_of, positions};
 
 /// What is found, and what waits for the items to come.
 #[derive(Clone, Copy, Debug)]
@@ -23,7 +19,7 @@ pub struct Walk {
     /// The positions of the ordinary items that wait.
     pub count: u32,
     /// The literal bytes that wait behind these, not yet a full literal.
-    pub run: u32,
+    pub run: usize,
     ghost short: { run < 32 },
 }
 
@@ -48,8 +44,8 @@ impl Walk {
         ensures { Takes self (part_of (tree_of item.now)) result }
     {
         match kind_of(item) {
-            Kind::Literal => self.with_byte(),
-            Kind::Long => self.with_long(),
+            Kind::Literal(_) => self.with_byte(),
+            Kind::Long(_, _, _) => self.with_long(),
             Kind::Ordinary => self.with_positions(positions(item)),
         }
     }
@@ -66,7 +62,7 @@ impl Walk {
     fn with_byte(self) -> Walk
         ensures { (x : LiteralByte) → Takes self (literal (x ∷ [])) result }
     {
-        if self.run + 1 < FULL_LITERAL {
+        if self.run + 1 < MOST_LITERAL_BYTES {
             return Walk {
                 found: self.found,
                 count: self.count,

@@ -25,12 +25,12 @@ role_of-requires-clause-few c = few-positions c.args.entry.now.flags c.args.entr
 pub role_of-requires-clause-ends_last : goal.role_of-requires-clause-ends_last
 role_of-requires-clause-ends_last c = accepted-ends c.args.entry.now.flags c.args.entry.now.ext (tree_of c.in-Ok.expr) (accepted c)
 
-pub returns-in-Ok-role_of-clause-compiled : goal.returns-in-Ok-role_of-clause-compiled
-returns-in-Ok-role_of-clause-compiled c = λ before precede.
+pub returns-clause-compiled : goal.returns-clause-compiled
+returns-clause-compiled c = λ before precede.
     let read : Reads c.args.entry.now.text.items c.args.entry.now.flags (tree_of c.in-Ok.expr) =
     subst (λ text. Reads text c.args.entry.now.flags (tree_of c.in-Ok.expr)) c.deref.ensures.value c.in-Ok.ensures.read in
     record {
       pattern = pattern_of (listed c.args.entry.now) (tree_of c.in-Ok.expr);
       accepted = record { read = read; is = refl; free = c.in_default.ensures.least before precede read };
-      run = c.in-Ok-role_of.ensures;
+      run = c.in_ok-role_of.ensures;
     }

@@ -1,7 +1,7 @@
 use Rattle.std.proofs.Common.{◌≡◌, ◌++◌, map, drop}
 use Rattle.hs_expr.specs.Meaning.{tree_of, trees_of}
 use Rattle.hs_pieces.specs.Meaning.{plain_chain}
-use Rattle.hs_pieces.specs.Splitting.{chains_of_all}
+use Rattle.hs_expr.specs.Waiting.{chains_of_all}
 use Rattle.hs_pieces.proofs.splitting.+push_chains.Given as goal
 
 -- the chains so far and those to come make up the whole

@@ -5,7 +5,7 @@ use Rattle.hs_expr.specs.Counts.{capped}
 use Rattle.hs_expr.specs.Meaning.{tree_of, trees_of}
 use Rattle.hs_expr.proofs.TreeLemmas.{trees_of-drop}
 use Rattle.hs_support.specs.PieceCounts.{first_excess_of}
-use Rattle.hs_support.specs.Waiting.{chains_of_all}
+use Rattle.hs_expr.specs.Waiting.{chains_of_all}
 use Rattle.hs_support.proofs.PieceLemmas.{more-excess, found-first, none-first}
 use Rattle.hs_support.proofs.pieces.+excess_positions.Goals as goal
 

@@ -3,7 +3,7 @@ use Rattle.std.specs.Option.{option_map}
 use Rattle.hs_expr.specs.Counts.{capped}
 use Rattle.hs_expr.specs.Meaning.{tree_of, trees_of}
 use Rattle.hs_support.specs.PieceCounts.{first_excess_of}
-use Rattle.hs_support.specs.Waiting.{chains_of_all}
+use Rattle.hs_expr.specs.Waiting.{chains_of_all}
 use Rattle.hs_support.proofs.pieces.+excess_positions.Given as goal
 
 -- the alternatives so far have none, so that the first of all is that of the others

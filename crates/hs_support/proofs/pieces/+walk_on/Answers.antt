@@ -2,7 +2,7 @@ use Rattle.std.proofs.Common.{◌≡◌, map, refl, sym, ◌∙◌, subst}
 use Rattle.hs_base.specs.Items.{items_of, items_of_all}
 use Rattle.hs_expr.specs.Meaning.{tree_of, trees_of}
 use Rattle.hs_expr.proofs.TreeLemmas.{tree_of-Cat, tree_of-Repeat, tree_of-Class, tree_of-Points, tree_of-Assert, tree_of-Alt, trees_of-drop, trees_of-drop_all}
-use Rattle.hs_support.specs.Walking.{Passes}
+use Rattle.hs_support.specs.Walking.{PassesItems}
 use Rattle.hs_support.proofs.PieceLemmas.{passes-more, item-passes, once-items, not_once-items}
 use Rattle.hs_support.proofs.pieces.+walk_on.Goals as goal
 
@@ -10,14 +10,14 @@ pub walk_on-returns-in-Cat : goal.walk_on-returns-in-Cat
 walk_on-returns-in-Cat t c =
     let same : items_of_all (trees_of (map tree_of c.deref.result.now)) ≡ items_of (tree_of c.args.expr.now) =
     rw (c.in-Cat.is, tree_of-Cat, c.deref.ensures.value) refl in
-    subst (λ items. Passes c.args.walk items c.walk_on_through_all.result) same c.walk_on_through_all.ensures
+    subst (λ items. PassesItems c.args.walk items c.walk_on_through_all.result) same c.walk_on_through_all.ensures
 
 pub walk_on-returns-then-is_once : goal.walk_on-returns-then-is_once
 walk_on-returns-then-is_once t c =
     let once = once-items (tree_of c.in-Repeat.body.value) c.in-Repeat.least c.in-Repeat.greatest (sym c.is_once.ensures ∙ c.if-is_once.true) in
     let same : items_of (tree_of c.deref-then-is_once.result.now) ≡ items_of (tree_of c.args.expr.now) =
     rw (c.in-Repeat.is, tree_of-Repeat, c.deref-then-is_once.ensures) once in
-    subst (λ items. Passes c.args.walk items c.walk_on.result) same c.walk_on.ensures
+    subst (λ items. PassesItems c.args.walk items c.walk_on.result) same c.walk_on.ensures
 
 pub walk_on-returns-else-is_once : goal.walk_on-returns-else-is_once
 walk_on-returns-else-is_once t c =

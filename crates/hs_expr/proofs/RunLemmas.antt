@@ -5,7 +5,7 @@ use Rattle.std.proofs.Math.Seq.{take-append_seam, drop-append_seam}
 use Rattle.hs_base.specs.Trees.{Tree}
 use Rattle.hs_base.specs.Literals.{LiteralByte}
 use Rattle.hs_base.specs.Chains.{Part, literal, ordinary, long, with_literal, with_ordinary, runs_joined, runs_cut, rest_of_run, cut_times, cut_run}
-use Rattle.hs_support.specs.Waiting.{with_run, with_items, cut_from}
+use Rattle.hs_expr.specs.Waiting.{with_run, with_items, cut_from}
 
 -- one more byte behind a run
 with_run-snoc : (run : List LiteralByte) (x : LiteralByte) (parts : List Part) →

@@ -4,29 +4,32 @@ ghost use Rattle.hs_base.specs.ByteSets.{members};
 ghost use Rattle.hs_base.specs.Chains.{part_of, class_part, repeat_part, is_long};
 ghost use Rattle.hs_base.specs.Literals.{literal_of};
 ghost use Rattle.hs_base.specs.Trees.{class, repeat};
+ghost use Rattle.hs_expr.specs.Kinds.{kind_part};
 ghost use Rattle.hs_expr.specs.Meaning.{tree_of};
-ghost use Rattle.hs_support.specs.Waiting.{kind_of};
 
+use crate::expr::Expr;
 use hs_base::{ByteSet, LitByte};
-use hs_expr::Expr;
+
+/// The most bytes of one literal.
+pub const MOST_LITERAL_BYTES: usize = 32;
 
 /// The least copies of a set that are a piece of their own.
-const LEAST_LONG_REPEAT: u32 = 65;
+pub const LEAST_LONG_REPEAT: u32 = 65;
 
 /// What an item becomes.
 #[derive(Clone, Copy, Debug)]
 pub enum Kind {
     /// A byte of a literal.
-    Literal,
-    /// A piece of its own.
-    Long,
+    Literal(LitByte),
+    /// A piece of its own: so many bytes of a set.
+    Long(ByteSet, u32, Option<u32>),
     /// A part of an expression.
     Ordinary,
 }
 
 /// What the item becomes.
 pub fn kind_of(item: &Expr) -> Kind
-    ensures { result ≡ kind_of (part_of (tree_of item.now)) }
+    ensures { kind_part result (tree_of item.now) ≡ part_of (tree_of item.now) }
 {
     match item {
         Expr::Class(set) => class_kind(set),
@@ -41,17 +44,18 @@ pub fn kind_of(item: &Expr) -> Kind
 
 /// What one byte of a set becomes.
 fn class_kind(set: &ByteSet) -> Kind
-    ensures { result ≡ kind_of (class_part (members set.now) (literal_of (members set.now))) }
+    ensures { kind_part result (class (members set.now)) ≡ class_part (members set.now) (literal_of (members set.now)) }
 {
     match LitByte::of_set(set) {
-        Some(_) => Kind::Literal,
+        Some(byte) => Kind::Literal(byte),
         None => Kind::Ordinary,
     }
 }
 
 /// What a repeat becomes.
 fn repeat_kind(body: &Expr, least: u32, greatest: Option<u32>) -> Kind
-    ensures { result ≡ kind_of (part_of (repeat (tree_of body.now) least greatest)) }
+    ensures { kind_part result (repeat (tree_of body.now) least greatest) ≡ part_of
+        (repeat (tree_of body.now) least greatest) }
 {
     match body {
         Expr::Class(set) => set_repeat_kind(set, least, greatest),
@@ -66,10 +70,11 @@ fn repeat_kind(body: &Expr, least: u32, greatest: Option<u32>) -> Kind
 
 /// What a repeat of a set becomes.
 fn set_repeat_kind(set: &ByteSet, least: u32, greatest: Option<u32>) -> Kind
-    ensures { result ≡ kind_of (repeat_part (members set.now) least greatest (is_long least greatest)) }
+    ensures { kind_part result (repeat (class (members set.now)) least greatest)
+        ≡ repeat_part (members set.now) least greatest (is_long least greatest) }
 {
     if is_long(least, greatest) {
-        Kind::Long
+        Kind::Long(*set, least, greatest)
     } else {
         Kind::Ordinary
     }

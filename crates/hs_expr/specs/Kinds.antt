@@ -1,11 +1,11 @@
--- What an item becomes.
+-- What an item becomes in a chain of pieces.
 use Rattle.std.specs.Prelude.{[], ◌∷◌}
 use Rattle.hs_base.specs.ByteSets.{members}
 use Rattle.hs_base.specs.Chains.{Part, literal, ordinary, long}
 use Rattle.hs_base.specs.LiteralView.{literal_byte}
 use Rattle.hs_base.specs.Trees.{Tree}
-use Rattle.hs_pieces.specs.declared.kind.Kind.{Kind}
-use Rattle.hs_pieces.specs.declared.kind.Kind.TheVariants.{Literal, Long, Ordinary}
+use Rattle.hs_expr.specs.declared.kind.Kind.{Kind}
+use Rattle.hs_expr.specs.declared.kind.Kind.TheVariants.{Literal, Long, Ordinary}
 
 -- the part that an item of that kind is
 abbrev pub kind_part : Kind → Tree → Part
