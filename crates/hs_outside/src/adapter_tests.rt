@@ -1,9 +1,7 @@
 //! The adapters over real files, and over readers and writers that the system could be.
-use crate::{
-    Failed, FileFault, FolderStore, Sink, Source, StdSink, StdSource, Store, StoreFault, read_file,
-    write_all,
-};
-use std::alloc::{AllocError, Allocator, Global};
+use crate::tests::{check_calls, check_reads, check_writes};
+use crate::{Failed, FolderStore, StdSink, StdSource, Store, write_all};
+use std::alloc::Allocator;
 use std::fs::{File, Metadata, OpenOptions, Permissions};
 use std::io::{Error, ErrorKind, Read, Write};
 use std::os::unix::fs::{PermissionsExt, symlink};
@@ -12,27 +10,16 @@ use std::rt::Files;
 use std::test::Fail;
 use std::{fs, io, process};
 
-/// A file that takes three bytes at a time.
+/// A file that takes three bytes at a time, or a device of which each call is interrupted.
 #[derive(Drop)]
-struct Slow(File);
+struct Slow(Option<File>);
 
 impl Write for Slow {
     fn write(&mut self, buf: &[u8]) -> io::Result<usize> {
-        self.0.write(&buf[..buf.len().min(3)])
-    }
-
-    fn flush(&mut self) -> io::Result<()> {
-        self.0.flush()
-    }
-}
-
-/// A device of which each call is interrupted.
-#[derive(Drop)]
-struct Restless;
-
-impl Write for Restless {
-    fn write(&mut self, _buf: &[u8]) -> io::Result<usize> {
-        Err(Error::from(ErrorKind::Interrupted))
+        match &mut self.0 {
+            Some(file) => file.write(&buf[..buf.len().min(3)]),
+            None => Err(Error::from(ErrorKind::Interrupted)),
+        }
     }
 
     fn flush(&mut self) -> io::Result<()> {
@@ -40,7 +27,7 @@ impl Write for Restless {
     }
 }
 
-impl Read for Restless {
+impl Read for Slow {
     fn read(&mut self, _buf: &mut [u8]) -> io::Result<usize> {
         Err(Error::from(ErrorKind::Interrupted))
     }
@@ -96,240 +83,122 @@ impl Files for Stuck<'_> {
     }
 }
 
-/// A path that no other process uses.
-fn own_path(alloc: Global, id: u32, name: &str) -> Result<String, AllocError> {
-    format!(in alloc; "/tmp/hs_outside-{id}-{name}")
+/// Names in the test's folder, with what is done with them, or seen there.
+const STEPS: &str = " folder
+/long put_long
+/file write old
+/file set_mode
+/.hs_put_000 write another's
+/link link_to file
+/file put_stuck Look, a bird
+/file holds old
+/.hs_put_001 is_absent
+/file put Look, a bird
+/file holds Look, a bird
+/file has_mode
+/.hs_put_000 holds another's
+/.hs_put_001 is_absent
+/link put No birds
+/link is_link
+/link holds No birds
+/file holds No birds";
+
+/// Puts five million bytes, and reads them.
+fn put_long(rt: &HostRuntime, path: &str) -> Result<bool, Fail> {
+    let long = vec![in rt.alloc(); b'x'; 5 * 1024 * 1024]?;
+    let answer = FolderStore::new(rt).put(path, &long);
+    Ok(answer.is_ok() && fs::read(rt, path)?.as_slice() == long.as_slice())
 }
 
-/// Asserts what a file holds.
-fn check_file(
-    rt: &(impl Abort + Files + AllocGlobal),
-    path: &str,
-    bytes: &[u8],
-) -> Result<(), Fail> {
-    assert_eq!(rt; fs::read(rt, path)?.as_slice(), bytes, "{path}");
-    Ok(())
-}
-
-/// Writes a text to the file by three bytes at a time.
-fn write_slowly(rt: &impl Abort, file: File) {
-    let mut sink = StdSink::new(Slow(file));
-    assert_eq!(rt; sink.write(b"Look, "), Ok(3));
-    assert_eq!(rt; write_all(&mut sink, b"k, a bird"), Ok(()));
-}
-
-#[test]
-fn a_short_write_is_counted_as_short(rt: HostRuntime) -> Result<(), Fail> {
-    let file = own_path(rt.alloc(), process::id(rt.process()), "slow")?;
-    let path = file.as_str();
-    write_slowly(&rt, fs::create(&rt, path)?);
-    check_file(&rt, path, b"Look, a bird")?;
-    fs::remove_file(&rt, path)?;
-    Ok(())
-}
-
-#[test]
-fn calls_that_are_always_interrupted_end(rt: HostRuntime) -> Result<(), Fail> {
-    let mut buf = *b"____";
-    assert_eq!(rt; StdSource::new(Restless).read(&mut buf), Err(Failed));
-    assert_eq!(rt; StdSink::new(Restless).write(b"Look"), Err(Failed));
-    Ok(())
-}
-
-/// Writes a text to the file.
-fn write_text(rt: &impl Abort, file: File) {
-    let mut sink = StdSink::new(file);
-    assert_eq!(rt; sink.write(b"Look, "), Ok(6));
-    assert_eq!(rt; sink.write(b"a bird"), Ok(6));
-    assert_eq!(rt; sink.flush(), Ok(()));
-}
-
-/// Reads that text to its end.
-fn read_text(rt: &impl Abort, file: File) {
-    let mut source = StdSource::new(file);
-    let mut buf = *b"________________";
-    assert_eq!(rt; source.read(&mut buf), Ok(12));
-    assert_eq!(rt; buf.as_slice(), b"Look, a bird____".as_slice());
-    assert_eq!(rt; source.read(&mut buf), Ok(0));
+/// Does what a step says, and tells whether all is as it is to be.
+fn is_so(rt: &HostRuntime, path: &str, step: &str) -> Result<bool, Fail> {
+    let (verb, text) = step.split_once(' ').unwrap_or((step, ""));
+    let bytes = text.as_bytes();
+    Ok(match verb {
+        "folder" => fs::create_dir(rt, path).is_ok(),
+        "write" => fs::write(rt, path, bytes).is_ok(),
+        "set_mode" => fs::set_permissions(rt, path, Permissions::from_mode(0o640)).is_ok(),
+        "link_to" => symlink(rt, text, path).is_ok(),
+        "put_long" => put_long(rt, path)?,
+        "put_stuck" => FolderStore::new(Stuck(rt)).put(path, bytes) == Err(Failed),
+        "put" => FolderStore::new(rt).put(path, bytes).is_ok(),
+        "holds" => fs::read(rt, path)?.as_slice() == bytes,
+        "has_mode" => fs::metadata(rt, path)?.permissions().mode() & 0o7777 == 0o640,
+        "is_link" => fs::symlink_metadata(rt, path)?.is_symlink(),
+        "is_absent" => !fs::exists(rt, path)?,
+        _ => false,
+    })
 }
 
 #[test]
-fn adapters_move_the_bytes_of_a_file(rt: HostRuntime) -> Result<(), Fail> {
-    let file = own_path(rt.alloc(), process::id(rt.process()), "adapters")?;
-    let path = file.as_str();
-    write_text(&rt, fs::create(&rt, path)?);
-    read_text(&rt, fs::open(&rt, path)?);
-    let mut buf = *b"____";
-    let answer = StdSource::new(fs::open(&rt, "/tmp")?).read(&mut buf);
-    assert_eq!(rt; answer, Err(Failed));
-    fs::remove_file(&rt, path)?;
-    Ok(())
-}
-
-/// A read of a file at an offset, its answer, and what the eight bytes then hold.
-type ReadRow<'n> = (&'n str, u64, Result<usize, StoreFault>, &'n [u8]);
-
-/// Asserts the answers of these reads, one after another.
-fn check_reads(rt: &impl Abort, store: &mut impl Store, rows: &[ReadRow<'_>]) {
-    let mut buf = *b"________";
-    for row in rows {
-        let (name, offset, answer, held) = *row;
-        assert_eq!(rt;
-            store.read_at(name, offset, &mut buf),
-            answer,
-            "{name}, {offset}"
-        );
-        assert_eq!(rt; buf.as_slice(), held, "{name}, {offset}");
+fn a_put_is_whole_and_keeps_what_it_does_not_replace(rt: HostRuntime) -> Result<(), Fail> {
+    let folder = format!(in rt.alloc(); "/tmp/hs_outside-{}", process::id(rt.process()))?;
+    for step in STEPS.split('\n') {
+        let (name, behind) = step.split_once(' ').unwrap_or((step, ""));
+        let path = format!(in rt.alloc(); "{folder}{name}")?;
+        assert!(rt; is_so(&rt, path.as_str(), behind)?, "{step}");
     }
+    fs::remove_dir_all(&rt, folder.as_str())?;
+    Ok(())
 }
 
-/// Puts twice, and reads behind each put.
-fn check_store(rt: &impl Abort, store: &mut impl Store, path: &str) {
-    let none: &[u8] = b"________";
-    check_reads(rt, store, &[(path, 0, Err(StoreFault::Absent), none)]);
-    assert_eq!(rt; store.put(path, b"Look, a bird"), Ok(()));
-    let rows: [ReadRow<'_>; 4] = [
-        (path, 6, Ok(6), b"a bird__"),
-        (path, 12, Ok(0), b"a bird__"),
-        (
-            "/tmp/hs_outside-none",
-            12,
-            Err(StoreFault::Absent),
-            b"a bird__",
-        ),
-        (path, 0, Ok(8), b"Look, a "),
-    ];
-    check_reads(rt, store, &rows);
-    assert_eq!(rt; store.put(path, b"No birds, no planes"), Ok(()));
-    let rows: [ReadRow<'_>; 4] = [
-        (path, 8, Ok(8), b", no pla"),
-        (path, 16, Ok(3), b"neso pla"),
-        (path, 1 << 40, Ok(0), b"neso pla"),
-        ("/tmp", 0, Err(StoreFault::Failed), b"neso pla"),
-    ];
-    check_reads(rt, store, &rows);
-    assert_eq!(rt; store.put("/tmp", b""), Err(Failed));
+/// Asserts what streams over files and over a device give and take.
+fn check_streams(rt: &(impl Abort + Files + AllocGlobal), path: &str) -> Result<(), Fail> {
+    let mut sink = StdSink::new(fs::create(rt, path)?);
+    check_writes(rt, &mut sink, "Look, =6|a bird=6");
+    assert!(rt; sink.flush().is_ok());
+    check_reads(
+        rt,
+        &mut StdSource::new(fs::open(rt, path)?),
+        16,
+        "Look, a bird|",
+    );
+    check_reads(rt, &mut StdSource::new(fs::open(rt, "/tmp")?), 4, "!");
+    check_reads(rt, &mut StdSource::new(Slow(None)), 4, "!");
+    check_writes(rt, &mut StdSink::new(Slow(None)), "Look=!");
+    Ok(())
+}
+
+/// Asserts that a short write is counted as short, and the rest is written behind it.
+fn check_short(rt: &impl Abort, file: File) {
+    let mut sink = StdSink::new(Slow(Some(file)));
+    check_writes(rt, &mut sink, "Look, =3");
+    assert!(rt; write_all(&mut sink, b"k, a bird").is_ok());
+}
+
+#[test]
+fn streams_move_the_bytes_of_a_file(rt: HostRuntime) -> Result<(), Fail> {
+    let id = process::id(rt.process());
+    let path = format!(in rt.alloc(); "/tmp/hs_outside-{id}-stream")?;
+    check_streams(&rt, path.as_str())?;
+    check_short(&rt, fs::create(&rt, path.as_str())?);
+    assert!(rt; fs::read(&rt, path.as_str())?.as_slice() == b"Look, a bird".as_slice());
+    fs::remove_file(&rt, path.as_str())?;
+    Ok(())
 }
 
 #[test]
 fn a_folder_store_reads_what_was_put(rt: HostRuntime) -> Result<(), Fail> {
-    let file = own_path(rt.alloc(), process::id(rt.process()), "store")?;
-    check_store(&rt, &mut FolderStore::new(&rt), file.as_str());
-    fs::remove_file(&rt, file.as_str())?;
+    let p = format!(in rt.alloc(); "/tmp/hs_outside-{}-store", process::id(rt.process()))?;
+    let rows = format!(in rt.alloc();
+        "{p}@0=?|{p}<Look, a bird=|{p}@6=a bird|{p}@12=|/tmp/hs_outside-none@12=?|\
+        {p}@0=Look, a |{p}<No birds, no planes=|{p}@8=, no pla|{p}@16=nes|{p}@1099511627776=|/tmp@0=!|/tmp<=!"
+    )?;
+    check_calls(&rt, &mut FolderStore::new(&rt), rows.as_str());
+    fs::remove_file(&rt, p.as_str())?;
     Ok(())
-}
-
-/// Puts five million bytes, and reads them.
-fn check_long(
-    rt: &(impl Abort + Files + AllocGlobal),
-    store: &mut impl Store,
-    path: &str,
-) -> Result<(), Fail> {
-    let long = vec![in rt.alloc(); b'x'; 5 * 1024 * 1024]?;
-    assert_eq!(rt; store.put(path, &long), Ok(()));
-    assert!(rt; fs::read(rt, path)?.as_slice() == long.as_slice());
-    Ok(())
-}
-
-/// The text, and behind it the part so many times.
-fn long_name(alloc: Global, text: &str, part: &str, times: usize) -> Result<String, AllocError> {
-    let mut name = String::from_str(alloc, text)?;
-    for _copy in 0..times {
-        name.push_str(part)?;
-    }
-    Ok(name)
 }
 
 #[test]
-fn a_put_is_whole_or_told_as_failed(rt: HostRuntime) -> Result<(), Fail> {
-    let file = own_path(rt.alloc(), process::id(rt.process()), "whole")?;
-    check_long(&rt, &mut FolderStore::new(&rt), file.as_str())?;
-    fs::remove_file(&rt, file.as_str())?;
+fn a_put_that_cannot_be_whole_fails(rt: HostRuntime) -> Result<(), Fail> {
     // A file's name may have 255 bytes, a path 4,095, and a full device takes none.
-    let names = [("/tmp/", "x", 256), ("", "./", 2_050), ("/dev/full", "", 1)];
-    for (before, part, times) in names {
-        let name = long_name(rt.alloc(), before, part, times)?;
+    for (before, part, times) in [("/tmp/", "x", 256), ("", "./", 2_050), ("/dev/full", "", 1)] {
+        let mut name = String::from_str(rt.alloc(), before)?;
+        for _copy in 0..times {
+            name.push_str(part)?;
+        }
         let answer = FolderStore::new(&rt).put(name.as_str(), b"Look");
-        assert_eq!(rt; answer, Err(Failed), "{before}");
+        assert!(rt; answer == Err(Failed), "{before}");
     }
-    Ok(())
-}
-
-/// A folder, with paths in it.
-#[derive(Drop)]
-struct Folder {
-    path: String,
-    file: String,
-    link: String,
-    first: String,
-    second: String,
-}
-
-impl Folder {
-    /// The paths of the folder that this process makes.
-    fn new(alloc: Global, id: u32) -> Result<Self, AllocError> {
-        let path = own_path(alloc, id, "put")?;
-        let file = own_path(alloc, id, "put/file")?;
-        let link = own_path(alloc, id, "put/link")?;
-        let first = own_path(alloc, id, "put/.hs_put_000")?;
-        let second = own_path(alloc, id, "put/.hs_put_001")?;
-        Ok(Folder {
-            path,
-            file,
-            link,
-            first,
-            second,
-        })
-    }
-
-    /// Makes it, with a file, a link to that, and a file that a put would make beside it.
-    fn make(&self, files: &impl Files) -> io::Result<()> {
-        let file = self.file.as_str();
-        fs::create_dir(files, self.path.as_str())?;
-        fs::write(files, file, b"old")?;
-        fs::set_permissions(files, file, Permissions::from_mode(0o640))?;
-        fs::write(files, self.first.as_str(), b"another's")?;
-        symlink(files, file, self.link.as_str())
-    }
-}
-
-/// A put that fails leaves the file, and nothing beside it.
-fn check_kept(rt: &(impl Abort + Files + AllocGlobal), folder: &Folder) -> Result<(), Fail> {
-    check_file(rt, folder.file.as_str(), b"old")?;
-    assert!(rt; !fs::exists(rt, folder.second.as_str())?);
-    Ok(())
-}
-
-/// One that is done leaves its permissions, and the file beside it that was there.
-fn check_replaced(rt: &(impl Abort + Files + AllocGlobal), folder: &Folder) -> Result<(), Fail> {
-    let file = folder.file.as_str();
-    check_file(rt, file, b"Look, a bird")?;
-    let mode = fs::metadata(rt, file)?.permissions().mode();
-    assert_eq!(rt; mode & 0o7777, 0o640);
-    check_file(rt, folder.first.as_str(), b"another's")?;
-    assert!(rt; !fs::exists(rt, folder.second.as_str())?);
-    Ok(())
-}
-
-/// A link is written through, and stays one.
-fn check_linked(rt: &(impl Abort + Files + AllocGlobal), folder: &Folder) -> Result<(), Fail> {
-    let is_link = fs::symlink_metadata(rt, folder.link.as_str())?.is_symlink();
-    assert!(rt; is_link);
-    check_file(rt, folder.file.as_str(), b"No birds")
-}
-
-#[test]
-fn a_put_keeps_what_it_does_not_replace(rt: HostRuntime) -> Result<(), Fail> {
-    let folder = Folder::new(rt.alloc(), process::id(rt.process()))?;
-    let (file, link) = (folder.file.as_str(), folder.link.as_str());
-    folder.make(&rt)?;
-    let answer = FolderStore::new(Stuck(&rt)).put(file, b"Look, a bird");
-    assert_eq!(rt; answer, Err(Failed));
-    check_kept(&rt, &folder)?;
-    assert_eq!(rt; FolderStore::new(&rt).put(file, b"Look, a bird"), Ok(()));
-    check_replaced(&rt, &folder)?;
-    assert_eq!(rt; FolderStore::new(&rt).put(link, b"No birds"), Ok(()));
-    check_linked(&rt, &folder)?;
-    fs::remove_dir_all(&rt, folder.path.as_str())?;
     Ok(())
 }

@@ -5,7 +5,6 @@ use super::{Pattern, match_reports};
 use hs_base::{Assertion, ByteSet, ExprId, Report};
 use hs_expr::Expr;
 use std::alloc::{AllocError, Global};
-use std::process::Abort;
 use std::test::Fail;
 
 /// Why, the patterns, the stream, the pairs that its bytes decide, and those that only its end decides; a semicolon
@@ -17,114 +16,80 @@ use std::test::Fail;
 /// three copies, `~` for two and more, `#` for 32,767, `'` for so many and more, or a digit for as many. `_` is the
 /// empty text, `.` every byte but the line feed, `@` every code point but that, `<` is `\A`, `>` is `\z`, `$` is `\Z`,
 /// `^` and `&` begin and end a line, `%` is `\b`, `-` is `\B`, and any other byte is itself.
-const ROWS: &[u8] = b"\
-each end of foo.*bar;(foo.*bar);fooxyzbarbar;9 12;\n\
-a* on nothing matches at its end;a*;;;0\n\
-a* matches the empty text at each place;a*;b;0 1;\n\
-ab+? lazy or not, every end counts;(ab+);abb;2 3;\n\
-each alternative that matches;[a(ab)];ab;1 2;\n\
-an alternation of nothing never matches;[];a;;\n\
-(a|b){2}: copies may differ;[ab]2;aba;2 3;\n\
-a{2,3}: at least two, at most three;(<a=);aaaa;2 3;\n\
-a{2,}: two and more;(<a~);aaaa;2 3 4;\n\
-a{0}: as if it weren't there;(<a0b);bab;1;\n\
-(a?){3}: copies may be empty;(<a?3);aaaa;0 1 2 3;\n\
-(a|)*b: a loop whose body takes nothing ends;([a_]*b);aab;3;\n\
-a great bound over a body that takes nothing;(<*#'a);aa;1 2;\n\
-a dot is no line feed;(a.b);a!b;;\n\
-a dot is any other byte;(a.b);a\rba\xFFb;3 6;\n\
-a match may begin within another;(aa);aaa;2 3;\n\
-$ stands before a final line feed;(a$);a!;;1\n\
-$ doesn't stand before the last but one;(a$);a!!;;\n\
-\\z stands at the very end alone;(a>);a!;;\n\
-\\z at the end;(a>);ba;;2\n\
-\\bfoo\\b at the end is decided by the end;(%foo%);foo;;3\n\
-no boundary within a word;(%foo%);food;;\n\
-a boundary before a hyphen;(%foo%);foo-;3;\n\
-an underscore is a word byte;(a%);a_;;\n\
-\\B between word bytes;(-b);ab;2;\n\
-no \\B at the start of a word;(-b);b;;\n\
-^ with m behind a line feed;(^b);a!b;3;\n\
-^ with m not behind a final line feed;(!^);a!;;\n\
-^ without m at the start alone;(<b);a!b;;\n\
-$ with m before a line feed and at the end;(a&);a!ba;1;4\n\
-^$ with m on an empty line;(^&);!;0;\n\
-\\A.\\z takes one byte;(<.>);ab;;\n\
-an assertion takes no byte;(<<a);a;1;\n\
-two bytes are one code point;(<@$);\xC3\xA9;;2\n\
-FF begins none;(<@$);\xFF;;\n\
-four bytes;(<@);\xF0\x9F\x98\x80;4;\n\
-no surrogate;(<@);\xED\xA0\x80;;\n\
-no overlong form;(<@);\xC0\x80;;\n\
-no code point without its last byte;(<@);\xE2\x82;;\n\
-no end below the least;1b/(foo.*bar);foobar;;\n\
-an end at the least;1b/(foo.*bar);foo0123bar;10;\n\
-an end between;1b/(foo.*bar);foo0123456bar;13;\n\
-an end at the greatest;1b/(foo.*bar);foo012345678bar;15;\n\
-no end above the greatest;1b/(foo.*bar);foo0123456789bar;;\n\
-one identifier at one end, once;1/(ab),1/b;ab;2;\n\
-once: the first that the bytes decide;1s/[(a$)!];a!;2;\n\
-once: the first end;1s/a;aaa;1;\n\
-once: at the end, if not before;1s/(a>);aa;;2\n\
-each time, where one of the two patterns asks for that;1s/a,1/b;aab;1 2 3;\n\
-what is decided first is told first;5/(a%),9/a;a ;9:1 5:1;\n\
-at one end by identifier;2/a,1/a;a;1 2:1;\n\
-";
+const ROWS: &[u8] = b"each end of foo.*bar;(foo.*bar);fooxyzbarbar;9 12;
+a* on nothing matches at its end;a*;;;0
+a* matches the empty text at each place;a*;b;0 1;
+ab+? lazy or not, every end counts;(ab+);abb;2 3;
+each alternative that matches;[a(ab)];ab;1 2;
+an alternation of nothing never matches;[];a;;
+(a|b){2}: copies may differ;[ab]2;aba;2 3;
+a{2,3}: at least two, at most three;(<a=);aaaa;2 3;
+a{2,}: two and more;(<a~);aaaa;2 3 4;
+a{0}: as if it weren't there;(<a0b);bab;1;
+(a?){3}: copies may be empty;(<a?3);aaaa;0 1 2 3;
+(a|)*b: a loop whose body takes nothing ends;([a_]*b);aab;3;
+a great bound over a body that takes nothing;(<*#'a);aa;1 2;
+a dot is no line feed;(a.b);a!b;;
+a dot is any other byte;(a.b);a\rba\xFFb;3 6;
+a match may begin within another;(aa);aaa;2 3;
+$ stands before a final line feed;(a$);a!;;1
+$ doesn't stand before the last but one;(a$);a!!;;
+\\z stands at the very end alone;(a>);a!;;
+\\z at the end;(a>);ba;;2
+\\bfoo\\b at the end is decided by the end;(%foo%);foo;;3
+no boundary within a word;(%foo%);food;;
+a boundary before a hyphen;(%foo%);foo-;3;
+an underscore is a word byte;(a%);a_;;
+\\B between word bytes;(-b);ab;2;
+no \\B at the start of a word;(-b);b;;
+^ with m behind a line feed;(^b);a!b;3;
+^ with m not behind a final line feed;(!^);a!;;
+^ without m at the start alone;(<b);a!b;;
+$ with m before a line feed and at the end;(a&);a!ba;1;4
+^$ with m on an empty line;(^&);!;0;
+\\A.\\z takes one byte;(<.>);ab;;
+an assertion takes no byte;(<<a);a;1;
+two bytes are one code point;(<@$);\xC3\xA9;;2
+FF begins none;(<@$);\xFF;;
+four bytes;(<@);\xF0\x9F\x98\x80;4;
+no surrogate;(<@);\xED\xA0\x80;;
+no overlong form;(<@);\xC0\x80;;
+no code point without its last byte;(<@);\xE2\x82;;
+no end below the least;1b/(foo.*bar);foobar;;
+an end at the least;1b/(foo.*bar);foo0123bar;10;
+an end between;1b/(foo.*bar);foo0123456bar;13;
+an end at the greatest;1b/(foo.*bar);foo012345678bar;15;
+no end above the greatest;1b/(foo.*bar);foo0123456789bar;;
+one identifier at one end, once;1/(ab),1/b;ab;2;
+once: the first that the bytes decide;1s/[(a$)!];a!;2;
+once: the first end;1s/a;aaa;1;
+once: at the end, if not before;1s/(a>);aa;;2
+each time, where one of the two patterns asks for that;1s/a,1/b;aab;1 2 3;
+what is decided first is told first;5/(a%),9/a;a ;9:1 5:1;
+at one end by identifier;2/a,1/a;a;1 2:1;";
 
-/// The trees that are read and in no list yet, and how many of them stood before each list that is open.
-#[derive(Drop)]
-struct Reading {
-    trees: Vec<Expr>,
-    open: Vec<usize>,
+/// Of the trees that are read, those of the innermost list, which ends.
+fn close(trees: &mut Vec<Expr>, open: &mut Vec<usize>) -> Result<Vec<Expr>, AllocError> {
+    let before = open.pop().unwrap_or(0);
+    trees.split_off(before.min(trees.len()))
 }
 
-impl Reading {
-    /// The trees of the innermost list, which ends.
-    fn close(&mut self, alloc: Global) -> Result<Vec<Expr>, AllocError> {
-        let mut items = Vec::new(alloc);
-        let before = self.open.pop().unwrap_or(0);
-        for _ in before..self.trees.len() {
-            if let Some(item) = self.trees.pop() {
-                items.insert(0, item)?;
-            }
-        }
-        Ok(items)
-    }
-
-    /// Copies of the tree that is read last.
-    fn repeat(
-        &mut self,
-        alloc: Global,
-        least: u32,
-        greatest: Option<u32>,
-    ) -> Result<Expr, AllocError> {
-        let body = self.trees.pop().unwrap_or(Expr::Empty);
-        Ok(Expr::Repeat(Box::new(alloc, body)?, least, greatest))
-    }
-
-    /// The node that a byte ends.
-    fn node(&mut self, alloc: Global, byte: u8) -> Result<Expr, AllocError> {
-        match byte {
-            b')' => Ok(Expr::Cat(self.close(alloc)?)),
-            b']' => Ok(Expr::Alt(self.close(alloc)?)),
-            b'*' => self.repeat(alloc, 0, None),
-            b'+' => self.repeat(alloc, 1, None),
-            b'?' => self.repeat(alloc, 0, Some(1)),
-            b'=' => self.repeat(alloc, 2, Some(3)),
-            b'~' => self.repeat(alloc, 2, None),
-            b'#' => self.repeat(alloc, 32_767, Some(32_767)),
-            b'\'' => self.repeat(alloc, 32_767, None),
-            b'0'..=b'9' => {
-                let copies = u32::from(byte - b'0');
-                self.repeat(alloc, copies, Some(copies))
-            }
-            b'@' => Ok(Expr::Points(vec![in alloc; (0, 9), (11, 0x10FFFF)]?)),
-            _ => Ok(leaf(byte)),
-        }
+/// The bounds of a quantifier.
+fn bounds(byte: u8) -> Option<(u32, Option<u32>)> {
+    match byte {
+        b'*' => Some((0, None)),
+        b'+' => Some((1, None)),
+        b'?' => Some((0, Some(1))),
+        b'=' => Some((2, Some(3))),
+        b'~' => Some((2, None)),
+        b'#' => Some((32_767, Some(32_767))),
+        b'\'' => Some((32_767, None)),
+        b'0'..=b'9' => Some((u32::from(byte - b'0'), Some(u32::from(byte - b'0')))),
+        _ => None,
     }
 }
 
-/// The tree of a byte that stands alone.
+/// The tree of a byte that stands alone, of which an exclamation mark is a line feed.
 fn leaf(byte: u8) -> Expr {
     match byte {
         b'_' => Expr::Empty,
@@ -136,44 +101,41 @@ fn leaf(byte: u8) -> Expr {
         b'&' => Expr::Assert(Assertion::LineEnd),
         b'%' => Expr::Assert(Assertion::WordBoundary),
         b'-' => Expr::Assert(Assertion::NotWordBoundary),
-        _ => Expr::Class(ByteSet::of(byte_of(byte))),
+        b'!' => Expr::Class(ByteSet::of(b'\n')),
+        _ => Expr::Class(ByteSet::of(byte)),
     }
 }
 
-/// The byte that a mark of a row stands for.
-fn byte_of(mark: u8) -> u8 {
-    if mark == b'!' { b'\n' } else { mark }
-}
-
+/// The tree of a text. Trees that are read wait for the list that they are items of, and `open` tells how many of them
+/// stand before each list that is open.
 fn tree(alloc: Global, text: &[u8]) -> Result<Expr, AllocError> {
-    let mut reading = Reading {
-        trees: Vec::new(alloc),
-        open: Vec::new(alloc),
-    };
+    let (mut trees, mut open) = (Vec::new(alloc), Vec::new(alloc));
     for byte in text {
-        if matches!(*byte, b'(' | b'[') {
-            let before = reading.trees.len();
-            reading.open.push(before)?;
-        } else {
-            let made = reading.node(alloc, *byte)?;
-            reading.trees.push(made)?;
-        }
+        let made = match *byte {
+            b'(' | b'[' => {
+                open.push(trees.len())?;
+                continue;
+            }
+            b')' => Expr::Cat(close(&mut trees, &mut open)?),
+            b']' => Expr::Alt(close(&mut trees, &mut open)?),
+            b'@' => Expr::Points(vec![in alloc; (0, 9), (11, 0x10FFFF)]?),
+            byte => match bounds(byte) {
+                Some((least, greatest)) => {
+                    let body = trees.pop().unwrap_or(Expr::Empty);
+                    Expr::Repeat(Box::new(alloc, body)?, least, greatest)
+                }
+                None => leaf(byte),
+            },
+        };
+        trees.push(made)?;
     }
-    Ok(reading.trees.pop().unwrap_or(Expr::Empty))
-}
-
-/// The bytes before the first mark, and those behind it.
-fn cut(bytes: &[u8], mark: u8) -> (&[u8], &[u8]) {
-    match bytes.iter().position(|byte| *byte == mark) {
-        Some(at) => (&bytes[..at], &bytes[at + 1..]),
-        None => (bytes, &[]),
-    }
+    Ok(trees.pop().unwrap_or(Expr::Empty))
 }
 
 fn pattern(alloc: Global, text: &[u8]) -> Result<Pattern, AllocError> {
-    let (head, behind) = cut(text, b'/');
-    let body = if behind.is_empty() { text } else { behind };
-    let named: &[u8] = if behind.is_empty() { b"1" } else { head };
+    let mut parts = text.rsplit(|byte| *byte == b'/');
+    let body = parts.next().unwrap_or(b"");
+    let named = parts.next().unwrap_or(b"1");
     let bounded = named.get(1) == Some(&b'b');
     Ok(Pattern {
         id: ExprId(u32::from(named.first().copied().unwrap_or(b'1')) % 16),
@@ -184,78 +146,49 @@ fn pattern(alloc: Global, text: &[u8]) -> Result<Pattern, AllocError> {
     })
 }
 
-fn patterns(alloc: Global, list: &[u8]) -> Result<Vec<Pattern>, AllocError> {
-    let mut all = Vec::new(alloc);
-    let mut rest = list;
-    for _ in 0..list.len() {
-        if rest.is_empty() {
-            break;
-        }
-        let (text, behind) = cut(rest, b',');
-        all.push(pattern(alloc, text)?)?;
-        rest = behind;
-    }
-    Ok(all)
-}
-
-/// Appends a number below a hundred.
-fn write_number(out: &mut Vec<u8>, number: u64) -> Result<(), AllocError> {
-    if number > 9 {
-        out.push(b'0' + (number / 10 % 10) as u8)?;
-    }
-    out.push(b'0' + (number % 10) as u8)?;
-    Ok(())
-}
-
-/// Appends reports, as they stand in a row.
-fn write_reports(out: &mut Vec<u8>, reports: &[Report]) -> Result<(), AllocError> {
+/// Appends reports, as they stand in a row, and a semicolon.
+fn write_reports(alloc: Global, out: &mut Vec<u8>, reports: &[Report]) -> Result<(), AllocError> {
     for (i, report) in reports.iter().enumerate() {
-        if i > 0 {
-            out.push(b' ')?;
-        }
-        if report.id.0 != 1 {
-            write_number(out, u64::from(report.id.0))?;
-            out.push(b':')?;
-        }
-        write_number(out, report.to)?;
+        let blank = if i > 0 { " " } else { "" };
+        let text = match report.id.0 {
+            1 => format!(in alloc; "{blank}{}", report.to)?,
+            id => format!(in alloc; "{blank}{id}:{}", report.to)?,
+        };
+        out.extend_from_slice(text.as_bytes())?;
     }
+    out.push(b';')?;
     Ok(())
 }
 
 /// What is reported of a stream, as it stands in a row.
 fn written(alloc: Global, list: &[u8], text: &[u8]) -> Result<Vec<u8>, AllocError> {
-    let patterns = patterns(alloc, list)?;
-    let stream: Vec<u8> = text.iter().map(|mark| byte_of(*mark)).collect(alloc)?;
+    let mut patterns = Vec::new(alloc);
+    for text in list.split(|byte| *byte == b',') {
+        patterns.push(pattern(alloc, text)?)?;
+    }
+    let stream: Vec<u8> = text
+        .iter()
+        .map(|mark| if *mark == b'!' { b'\n' } else { *mark })
+        .collect(alloc)?;
     let found = match_reports(alloc, &patterns, &stream)?;
     let mut out = Vec::new(alloc);
-    write_reports(&mut out, &found.told)?;
-    out.push(b';')?;
-    write_reports(&mut out, &found.last)?;
+    write_reports(alloc, &mut out, &found.told)?;
+    write_reports(alloc, &mut out, &found.last)?;
     Ok(out)
-}
-
-fn check(rt: &impl Abort, alloc: Global, row: &[u8]) -> Result<(), Fail> {
-    let (why, behind) = cut(row, b';');
-    let (list, behind) = cut(behind, b';');
-    let (stream, wanted) = cut(behind, b';');
-    let out = written(alloc, list, stream)?;
-    assert!(rt;
-        out.as_slice() == wanted,
-        "{why:?}: {out:?} in place of {wanted:?}"
-    );
-    Ok(())
 }
 
 #[test]
 fn reports_every_pair(rt: HostRuntime) -> Result<(), Fail> {
-    let mut rest = ROWS;
-    for _ in 0..ROWS.len() {
-        if rest.is_empty() {
-            break;
-        }
-        let (row, behind) = cut(rest, b'\n');
-        check(&rt, rt.alloc(), row)?;
-        rest = behind;
+    for row in ROWS.split(|byte| *byte == b'\n') {
+        let mut parts = row.splitn(4, |byte| *byte == b';');
+        let why = parts.next().unwrap_or(b"");
+        let list = parts.next().unwrap_or(b"");
+        let found = written(rt.alloc(), list, parts.next().unwrap_or(b""))?;
+        let wanted = parts.next().unwrap_or(b"");
+        assert!(rt;
+            found.strip_suffix(b";") == Some(wanted),
+            "{why:?}: {found:?}, not {wanted:?}"
+        );
     }
     Ok(())
 }

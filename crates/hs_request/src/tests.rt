@@ -1,116 +1,88 @@
 //! Words and what they ask for, by the rules of `clap`.
 use crate::{Request, request_of};
+use std::alloc::{AllocError, Global};
 use std::test::Fail;
 
-/// Words that are taken, without the program's name, and what they ask for.
-const TAKEN: &[(&[&str], Request<'static>)] = &[
-    (
-        &["match", "p", "f"],
-        Request::Match {
-            patterns: "p",
-            file: "f",
-        },
-    ),
-    (&["check", "p"], Request::Check { patterns: "p" }),
-    (
-        &["compile", "p", "d"],
-        Request::Compile {
-            patterns: "p",
-            database: "d",
-        },
-    ),
-    (&["info", "d"], Request::Info { database: "d" }),
-    (
-        &["scan", "d", "f"],
-        Request::Scan {
-            database: "d",
-            file: "f",
-        },
-    ),
-    (&["stream", "d"], Request::Stream { database: "d" }),
-    (
-        &["match", "p", "-"],
-        Request::Match {
-            patterns: "p",
-            file: "-",
-        },
-    ),
-    (
-        &["match", "--", "-a", "b"],
-        Request::Match {
-            patterns: "-a",
-            file: "b",
-        },
-    ),
-    (
-        &["match", "a", "b", "--"],
-        Request::Match {
-            patterns: "a",
-            file: "b",
-        },
-    ),
-    (&["check", ""], Request::Check { patterns: "" }),
-    (&["check", "check"], Request::Check { patterns: "check" }),
-];
+/// A command line, an equals sign, and the command with its two operands, or nothing where the words aren't taken.
+const ROWS: &str = "hs_tool match p f=match,p,f
+hs_tool check p=check,p,
+hs_tool compile p d=compile,p,d
+hs_tool info d=info,d,
+hs_tool scan d f=scan,d,f
+hs_tool stream d=stream,d,
+hs_tool match p -=match,p,-
+hs_tool match -- -a b=match,-a,b
+hs_tool match a b --=match,a,b
+hs_tool check =check,,
+hs_tool check check=check,check,
+hs_tool=
+hs_tool --help=
+hs_tool -h=
+hs_tool help=
+hs_tool -V=
+hs_tool --version=
+hs_tool match=
+hs_tool match p=
+hs_tool match p f f=
+hs_tool match --help=
+hs_tool match p -x=
+hs_tool match -1 f=
+hs_tool Match p f=
+hs_tool matches p f=
+hs_tool mat p f=
+hs_tool  p f=
+hs_tool -- match a b=
+hs_tool check=
+hs_tool check p f=
+hs_tool check -h=
+hs_tool compile p=
+hs_tool info=
+hs_tool scan d=
+hs_tool stream=
+hs_tool stream d f=
+hs_tool soak 1 2=
+hs_tool help match=";
 
-/// Words that aren't taken, without the program's name.
-const REFUSED: &[&[&str]] = &[
-    &[],
-    &["--help"],
-    &["-h"],
-    &["help"],
-    &["-V"],
-    &["--version"],
-    &["match"],
-    &["match", "p"],
-    &["match", "p", "f", "f"],
-    &["match", "--help"],
-    &["match", "p", "-x"],
-    &["match", "-1", "f"],
-    &["Match", "p", "f"],
-    &["matches", "p", "f"],
-    &["mat", "p", "f"],
-    &["", "p", "f"],
-    &["--", "match", "a", "b"],
-    &["check"],
-    &["check", "p", "f"],
-    &["check", "-h"],
-    &["compile", "p"],
-    &["info"],
-    &["scan", "d"],
-    &["stream"],
-    &["stream", "d", "f"],
-    &["soak", "1", "2"],
-    &["help", "match"],
-];
-
-#[test]
-fn takes_subcommands_with_operands(rt: HostRuntime) -> Result<(), Fail> {
-    let alloc = rt.alloc();
-    for (row, (taken, request)) in TAKEN.iter().enumerate() {
-        let mut words = vec![in alloc; String::from_str(alloc, "hs_tool")?]?;
-        for word in taken.iter() {
-            words.push(String::from_str(alloc, word)?)?;
-        }
-        assert_eq!(rt;
-            request_of(alloc, words.as_slice())?,
-            Some(*request),
-            "row {row}"
-        );
+/// The words of a command line, which stand between single blanks.
+fn words_of(alloc: Global, line: &str) -> Result<Vec<String>, AllocError> {
+    let mut words = Vec::new(alloc);
+    for word in line.split(' ') {
+        words.push(String::from_str(alloc, word)?)?;
     }
-    Ok(())
+    Ok(words)
+}
+
+/// The command of a request, and its two operands, of which the second may be missing.
+fn parts_of<'r>(request: &Request<'r>) -> (&'static str, &'r str, &'r str) {
+    match request {
+        Request::Match { patterns, file } => ("match", patterns, file),
+        Request::Check { patterns } => ("check", patterns, ""),
+        Request::Compile { patterns, database } => ("compile", patterns, database),
+        Request::Info { database } => ("info", database, ""),
+        Request::Scan { database, file } => ("scan", database, file),
+        Request::Stream { database } => ("stream", database, ""),
+    }
+}
+
+/// What words ask for, as it stands in a row.
+fn told(alloc: Global, words: &[String]) -> Result<String, AllocError> {
+    match request_of(alloc, words)? {
+        Some(request) => {
+            let (command, first, second) = parts_of(&request);
+            format!(in alloc; "{command},{first},{second}")
+        }
+        None => Ok(String::new(alloc)),
+    }
 }
 
 #[test]
-fn takes_no_other_words(rt: HostRuntime) -> Result<(), Fail> {
-    let alloc = rt.alloc();
-    for (row, refused) in REFUSED.iter().enumerate() {
-        let mut words = vec![in alloc; String::from_str(alloc, "hs_tool")?]?;
-        for word in refused.iter() {
-            words.push(String::from_str(alloc, word)?)?;
-        }
-        assert_eq!(rt; request_of(alloc, words.as_slice())?, None, "row {row}");
+fn takes_commands_with_their_operands_alone(rt: HostRuntime) -> Result<(), Fail> {
+    for row in ROWS.split('\n') {
+        let (line, wanted) = row.split_once('=').unwrap_or((row, "?"));
+        let words = words_of(rt.alloc(), line)?;
+        let found = told(rt.alloc(), words.as_slice())?;
+        assert!(rt; found.as_str() == wanted, "{row} gives {found}");
     }
-    assert_eq!(rt; request_of(alloc, &[])?, None);
+    assert!(rt; request_of(rt.alloc(), &[])?.is_none());
     Ok(())
 }

@@ -1,7 +1,5 @@
 //! Streams that take turns, empty writes, and what fits.
 ghost use Rattle.std.specs.Prelude.{◌≡◌, ◌<◌};
-ghost use Rattle.hs_stream.specs.Scratches.{IsScratchOf};
-ghost use Rattle.hs_stream.specs.Streams.{IsStreamOf};
 
 use crate::stream::has_room;
 use crate::{Collected, Scratch, Stream};
@@ -17,11 +15,8 @@ use std::test::Fail;
 /// An entry of a list: its identifier, its expression and its flags.
 type Row = (u32, &'static str, Flags);
 
-/// A pair that is reported: an identifier and an end.
-type Told = (u32, u64);
-
-/// A list of entries without parameters.
-fn entries_of(alloc: Global, list: &[Row]) -> Result<Vec<Entry>, AllocError> {
+/// What a list of entries without parameters is compiled to.
+fn database_of(alloc: Global, list: &[Row]) -> Result<Database, Fail> {
     let mut entries = Vec::new(alloc);
     for (id, text, flags) in list {
         entries.push(Entry {
@@ -31,220 +26,113 @@ fn entries_of(alloc: Global, list: &[Row]) -> Result<Vec<Entry>, AllocError> {
             text: Vec::from_slice(alloc, text.as_bytes())?,
         })?;
     }
-    Ok(entries)
-}
-
-/// What a list is compiled to.
-fn database_of(alloc: Global, list: &[Row]) -> Result<Database, Fail> {
-    let entries = entries_of(alloc, list)?;
     let database = compile(alloc, &entries)?;
     Ok(database)
 }
 
-fn reports_of(alloc: Global, pairs: &[Told]) -> Result<Vec<Report>, AllocError> {
-    let mut reports = Vec::new(alloc);
-    for (id, to) in pairs {
-        reports.push(Report {
-            id: ExprId(*id),
-            to: *to,
-        })?;
+/// Entries, a script over two streams of their database and one scratch, and what is reported when the streams are
+/// closed. A line of a script is the number of a stream, bytes that are written or `~` where it is reset, and the pairs
+/// that this reports.
+const SCRIPTS: [(Row, &str, &str); 2] = [
+    (
+        (16, "foo", Flags::NONE),
+        "0<fo=|1<xf=|0<o=16:3 |1<oo=16:4 |0<fo=|0<~=|0<ofoo=16:4 ",
+        "",
+    ),
+    // A write of no byte reports nothing, also where the empty text matches at the start.
+    (
+        (2, "a*", Flags::ALLOWEMPTY),
+        "0<=|0<~=2:0 |0<b=2:0 2:1 ",
+        "2:0 ",
+    ),
+];
+
+/// Appends reports, as they stand in a script.
+fn write_reports(alloc: Global, out: &mut String, reports: &[Report]) -> Result<(), AllocError> {
+    for report in reports {
+        let text = format!(in alloc; "{}:{} ", report.id.0, report.to)?;
+        out.push_str(text.as_str())?;
     }
-    Ok(reports)
+    Ok(())
 }
 
-/// Writes the bytes, which report just these pairs.
-fn write<L: Ledger>(
-    rt: &impl Abort,
+/// Writes the bytes or resets the stream, and gives what this reports.
+fn told<L: Ledger>(
     alloc: Global,
     db: &Database,
     scratch: &mut Scratch,
     stream: &mut Stream,
     steps: &mut Steps<L>,
-    bytes: &[u8],
-    wanted: &[Told],
-) -> Result<(), Fail>
-    requires stream { IsStreamOf db.now stream.old }
-    requires scratch { IsScratchOf db.now scratch.old }
-    ensures stream { IsStreamOf db.now stream.new }
-    ensures scratch { IsScratchOf db.now scratch.new }
-{
-    let wanted = reports_of(alloc, wanted)?;
-    let mut told = Collected::new(alloc, 100)?;
-    stream.write(db, scratch, bytes, &mut told, steps)?;
-    assert_eq!(rt; told.reports(), wanted.as_slice(), "{bytes:?}");
-    Ok(())
+    bytes: &str,
+) -> Result<String, Fail> {
+    let mut events = Collected::new(alloc, 100)?;
+    let mut out = String::new(alloc);
+    if stream.fits(db) && scratch.fits(db) {
+        if bytes == "~" {
+            stream.reset(db, scratch, &mut events, steps);
+        } else {
+            stream.write(db, scratch, bytes.as_bytes(), &mut events, steps)?;
+        }
+        write_reports(alloc, &mut out, events.reports())?;
+    }
+    Ok(out)
 }
 
-/// Resets the stream, which reports just these pairs.
-fn reset<L: Ledger>(
-    rt: &impl Abort,
+/// Closes the streams, and gives what this reports.
+fn told_last<L: Ledger>(
     alloc: Global,
     db: &Database,
     scratch: &mut Scratch,
-    stream: &mut Stream,
+    streams: [Stream; 2],
     steps: &mut Steps<L>,
-    wanted: &[Told],
-) -> Result<(), Fail>
-    requires stream { IsStreamOf db.now stream.old }
-    requires scratch { IsScratchOf db.now scratch.old }
-    ensures stream { IsStreamOf db.now stream.new }
-    ensures scratch { IsScratchOf db.now scratch.new }
-{
-    let wanted = reports_of(alloc, wanted)?;
-    let mut told = Collected::new(alloc, 100)?;
-    stream.reset(db, scratch, &mut told, steps);
-    assert_eq!(rt; told.reports(), wanted.as_slice());
-    assert_eq!(rt; stream.offset(db), 0);
-    Ok(())
+) -> Result<String, Fail> {
+    let mut out = String::new(alloc);
+    for stream in streams {
+        let mut events = Collected::new(alloc, 100)?;
+        if stream.fits(db) && scratch.fits(db) {
+            stream.close(db, scratch, &mut events, steps);
+            write_reports(alloc, &mut out, events.reports())?;
+        }
+    }
+    Ok(out)
 }
 
-/// Closes the stream, which reports just these pairs.
-fn close<L: Ledger>(
+/// Runs a script, and checks what is reported.
+fn run<L: Ledger>(
     rt: &impl Abort,
     alloc: Global,
+    blank: Blank,
     db: &Database,
-    scratch: &mut Scratch,
-    stream: Stream,
-    steps: &mut Steps<L>,
-    wanted: &[Told],
+    script: &str,
+    last: &str,
 ) -> Result<(), Fail>
-    requires stream { IsStreamOf db.now stream }
-    requires scratch { IsScratchOf db.now scratch.old }
-    ensures { IsScratchOf db.now scratch.new }
-{
-    let wanted = reports_of(alloc, wanted)?;
-    let mut told = Collected::new(alloc, 100)?;
-    stream.close(db, scratch, &mut told, steps);
-    assert_eq!(rt; told.reports(), wanted.as_slice());
-    Ok(())
-}
-
-/// Two streams take turns with one scratch, and one is reset in the midst of a match.
-fn scan_in_turns<L: Ledger>(rt: &impl Abort, alloc: Global, blank: Blank) -> Result<(), Fail>
     requires name { blank.name ≡ L.name }
     requires parts { blank.parts ≡ L.parts }
     requires some { 0 < L.parts }
 {
-    let db = database_of(alloc, &[(16, "foo", Flags::NONE)])?;
     let mut steps = Steps::<L>::open(blank);
-    let mut scratch = Scratch::new(alloc, &db)?;
-    let mut one = Stream::open(alloc, &db)?;
-    let mut other = Stream::open(alloc, &db)?;
-    write(
-        rt,
-        alloc,
-        &db,
-        &mut scratch,
-        &mut one,
-        &mut steps,
-        b"fo",
-        &[],
-    )?;
-    write(
-        rt,
-        alloc,
-        &db,
-        &mut scratch,
-        &mut other,
-        &mut steps,
-        b"xf",
-        &[],
-    )?;
-    write(
-        rt,
-        alloc,
-        &db,
-        &mut scratch,
-        &mut one,
-        &mut steps,
-        b"o",
-        &[(16, 3)],
-    )?;
-    write(
-        rt,
-        alloc,
-        &db,
-        &mut scratch,
-        &mut other,
-        &mut steps,
-        b"oo",
-        &[(16, 4)],
-    )?;
-    write(
-        rt,
-        alloc,
-        &db,
-        &mut scratch,
-        &mut one,
-        &mut steps,
-        b"fo",
-        &[],
-    )?;
-    reset(rt, alloc, &db, &mut scratch, &mut one, &mut steps, &[])?;
-    write(
-        rt,
-        alloc,
-        &db,
-        &mut scratch,
-        &mut one,
-        &mut steps,
-        b"ofoo",
-        &[(16, 4)],
-    )?;
-    close(rt, alloc, &db, &mut scratch, one, &mut steps, &[])?;
-    close(rt, alloc, &db, &mut scratch, other, &mut steps, &[])
+    let mut scratch = Scratch::new(alloc, db)?;
+    let mut streams = [Stream::open(alloc, db)?, Stream::open(alloc, db)?];
+    for row in script.split('|') {
+        let (call, wanted) = row.split_once('=').unwrap_or((row, "?"));
+        let (number, bytes) = call.split_once('<').unwrap_or(("", "?"));
+        let stream = &mut streams[usize::from(number == "1")];
+        let found = told(alloc, db, &mut scratch, stream, &mut steps, bytes)?;
+        assert!(rt; found.as_str() == wanted, "{row} reports {found}");
+        assert!(rt; bytes != "~" || stream.offset(db) == 0, "{row}");
+    }
+    let found = told_last(alloc, db, &mut scratch, streams, &mut steps)?;
+    assert!(rt; found.as_str() == last, "{script} reports {found} last");
+    Ok(())
 }
 
 #[test]
 fn streams_see_nothing_of_each_other(rt: HostRuntime) -> Result<(), Fail> {
-    scan_in_turns::<Brand>(&rt, rt.alloc(), Blank::new(1))
-}
-
-/// A write of no byte reports nothing, also where the empty text matches at the start.
-fn write_nothing<L: Ledger>(rt: &impl Abort, alloc: Global, blank: Blank) -> Result<(), Fail>
-    requires name { blank.name ≡ L.name }
-    requires parts { blank.parts ≡ L.parts }
-    requires some { 0 < L.parts }
-{
-    let db = database_of(alloc, &[(2, "a*", Flags::ALLOWEMPTY)])?;
-    let mut steps = Steps::<L>::open(blank);
-    let mut scratch = Scratch::new(alloc, &db)?;
-    let mut stream = Stream::open(alloc, &db)?;
-    write(
-        rt,
-        alloc,
-        &db,
-        &mut scratch,
-        &mut stream,
-        &mut steps,
-        b"",
-        &[],
-    )?;
-    reset(
-        rt,
-        alloc,
-        &db,
-        &mut scratch,
-        &mut stream,
-        &mut steps,
-        &[(2, 0)],
-    )?;
-    write(
-        rt,
-        alloc,
-        &db,
-        &mut scratch,
-        &mut stream,
-        &mut steps,
-        b"b",
-        &[(2, 0), (2, 1)],
-    )?;
-    close(rt, alloc, &db, &mut scratch, stream, &mut steps, &[])
-}
-
-#[test]
-fn an_empty_write_decides_nothing(rt: HostRuntime) -> Result<(), Fail> {
-    write_nothing::<Brand>(&rt, rt.alloc(), Blank::new(1))
+    for (row, script, last) in SCRIPTS {
+        let db = database_of(rt.alloc(), &[row])?;
+        run::<Brand>(&rt, rt.alloc(), Blank::new(1), &db, script, last)?;
+    }
+    Ok(())
 }
 
 #[test]
@@ -280,9 +168,8 @@ const ROOMS: &[(u64, usize, bool)] = &[
 #[test]
 fn is_full_above_the_greatest_offset(rt: HostRuntime) {
     for (offset, count, wanted) in ROOMS {
-        assert_eq!(rt;
-            has_room(*offset, *count),
-            *wanted,
+        assert!(rt;
+            has_room(*offset, *count) == *wanted,
             "{count} bytes at {offset}"
         );
     }

@@ -4,84 +4,67 @@ use crate::{
 };
 use std::test::Fail;
 
-#[test]
-fn reads_each_command(rt: HostRuntime) -> Result<(), Fail> {
-    let table: [(&[u8], Option<Command<'_>>); 22] = [
-        (b"open s", Some(Command::Open(b"s"))),
-        (b"write u.1 40", Some(Command::Write(b"u.1", 40))),
-        (b"write s 0", Some(Command::Write(b"s", 0))),
-        (
-            b"write s 9223372036854775807",
-            Some(Command::Write(b"s", 9_223_372_036_854_775_807)),
-        ),
-        (b"reset -_A9z", Some(Command::Reset(b"-_A9z"))),
-        (
-            b"close 12345678901234567890123456789012",
-            Some(Command::Close(b"12345678901234567890123456789012")),
-        ),
-        (b"write s 9223372036854775808", None),
-        (b"write s 100000000000000000000", None),
-        (b"write s 00", None),
-        (b"write s 01", None),
-        (b"write s -1", None),
-        (b"write s", None),
-        (b"write s ", None),
-        (b"write s 1 ", None),
-        (b"close 123456789012345678901234567890123", None),
-        (b"open ", None),
-        (b"open s 0", None),
-        (b"open s\r", None),
-        (b"opn s", None),
-        (b"Open s", None),
-        (b" open s", None),
-        (b"", None),
-    ];
-    for (line, said) in table {
-        assert_eq!(rt; command(line), said);
+/// Lines that are commands.
+const TAKEN: &str = "open s|write u.1 40|write s 0|write s 9223372036854775807|reset -_A9z|\
+close 12345678901234567890123456789012";
+
+/// Lines that are none.
+const REFUSED: &str =
+    "write s 9223372036854775808|write s 100000000000000000000|write s 00|write s 01|write s -1|\
+write s|write s |write s 1 |close 123456789012345678901234567890123|open |open s 0|open s\r|opn s|Open s| open s|";
+
+/// The command that words tell.
+fn told(line: &str) -> Command<'_> {
+    let (verb, behind) = line.split_once(' ').unwrap_or((line, ""));
+    let (name, count) = behind.split_once(' ').unwrap_or((behind, ""));
+    match verb {
+        "open" => Command::Open(name.as_bytes()),
+        "reset" => Command::Reset(name.as_bytes()),
+        "close" => Command::Close(name.as_bytes()),
+        _ => Command::Write(name.as_bytes(), count.parse::<u64>().unwrap_or(0)),
     }
-    Ok(())
 }
+
+#[test]
+fn reads_each_command(rt: HostRuntime) {
+    for line in TAKEN.split('|') {
+        assert!(rt; command(line.as_bytes()) == Some(told(line)), "{line}");
+    }
+    for line in REFUSED.split('|') {
+        assert!(rt; command(line.as_bytes()).is_none(), "{line}");
+    }
+}
+
+/// Replies to calls on the stream `u.1`.
+const REPLIES: [Reply; 9] = [
+    Reply::Done(Verb::Open, None),
+    Reply::Done(Verb::Write, Some(9_223_372_036_854_775_807)),
+    Reply::Done(Verb::Reset, None),
+    Reply::Done(Verb::Close, None),
+    Reply::No(Verb::Open, Word::Exists),
+    Reply::No(Verb::Open, Word::Full),
+    Reply::No(Verb::Open, Word::Memory),
+    Reply::No(Verb::Write, Word::Length),
+    Reply::No(Verb::Close, Word::Unknown),
+];
+
+/// Their lines.
+const REPLY_LINES: &[u8] =
+    b"ok open u.1\nok write u.1 9223372036854775807\nok reset u.1\nok close u.1\n\
+no open u.1 exists\nno open u.1 full\nno open u.1 memory\nno write u.1 length\nno close u.1 unknown\n";
 
 #[test]
 fn makes_each_reply(rt: HostRuntime) -> Result<(), Fail> {
-    let table: [(Reply, &[u8]); 9] = [
-        (Reply::Done(Verb::Open, None), b"ok open u.1\n"),
-        (
-            Reply::Done(Verb::Write, Some(9_223_372_036_854_775_807)),
-            b"ok write u.1 9223372036854775807\n",
-        ),
-        (Reply::Done(Verb::Reset, None), b"ok reset u.1\n"),
-        (Reply::Done(Verb::Close, None), b"ok close u.1\n"),
-        (Reply::No(Verb::Open, Word::Exists), b"no open u.1 exists\n"),
-        (Reply::No(Verb::Open, Word::Full), b"no open u.1 full\n"),
-        (Reply::No(Verb::Open, Word::Memory), b"no open u.1 memory\n"),
-        (
-            Reply::No(Verb::Write, Word::Length),
-            b"no write u.1 length\n",
-        ),
-        (
-            Reply::No(Verb::Close, Word::Unknown),
-            b"no close u.1 unknown\n",
-        ),
-    ];
-    for (reply, line) in table {
-        let mut buf = [0; LINE_LEN];
+    let mut buf = [0; LINE_LEN];
+    let mut text = Vec::new(rt.alloc());
+    for reply in REPLIES {
         let len = reply_line(b"u.1", reply, &mut buf);
-        assert_eq!(rt; buf.get(..len), Some(line));
+        text.extend_from_slice(&buf[..len])?;
     }
-    Ok(())
-}
-
-#[test]
-fn tells_where_a_script_ends(rt: HostRuntime) -> Result<(), Fail> {
-    let table: [(ScriptFault, &[u8]); 2] = [
-        (ScriptFault::Script(1), b"fault script 1\n"),
-        (ScriptFault::Truncated(2), b"fault truncated 2\n"),
-    ];
-    for (fault, line) in table {
-        let mut buf = [0; LINE_LEN];
-        let len = script_fault_line(fault, &mut buf);
-        assert_eq!(rt; buf.get(..len), Some(line));
-    }
+    assert!(rt; text.as_slice() == REPLY_LINES);
+    let len = script_fault_line(ScriptFault::Script(1), &mut buf);
+    assert!(rt; buf.get(..len) == Some(b"fault script 1\n".as_slice()));
+    let len = script_fault_line(ScriptFault::Truncated(2), &mut buf);
+    assert!(rt; buf.get(..len) == Some(b"fault truncated 2\n".as_slice()));
     Ok(())
 }

@@ -31,24 +31,11 @@ const REFUSALS: [Refusal; 16] = [
     Refusal::ListLine(2),
 ];
 
-const REFUSED: &[u8] = b"\
-refused 1 11 1 Syntax 1
-refused 1 11 2 UnknownEscape 0
-refused 1 11 3 Unsupported backreference 3
-refused 1 11 4 UnsupportedFlag 256
-refused 1 11 5 UnsupportedParameter 16
-refused 1 11 6 MatchesEmpty
-refused 1 11 7 EmbeddedEnd
-refused 1 11 8 RepeatLimit 32768
-refused 1 11 9 PositionLimit 514
-refused 1 11 10 LengthLimit
-refused 1 11 11 DepthLimit
-refused 1 11 12 CountLimit
-refused 1 11 13 StateLimit 16778308
-refused 1 11 14 MixedSingle 12
-refused 1 11 15 OffsetOrder
-refused 1 11 16 ListLine 2
-";
+/// What stands in their lines, behind `refused`, the entry and the identifier.
+const REFUSED: &str = "\
+1 Syntax 1|2 UnknownEscape 0|3 Unsupported backreference 3|4 UnsupportedFlag 256|5 UnsupportedParameter 16|\
+6 MatchesEmpty|7 EmbeddedEnd|8 RepeatLimit 32768|9 PositionLimit 514|10 LengthLimit|11 DepthLimit|12 CountLimit|\
+13 StateLimit 16778308|14 MixedSingle 12|15 OffsetOrder|16 ListLine 2";
 
 /// Each construct.
 const CONSTRUCTS: [Construct; 17] = [
@@ -71,25 +58,10 @@ const CONSTRUCTS: [Construct; 17] = [
     Construct::Option,
 ];
 
-const UNSUPPORTED: &[u8] = b"\
-refused 2 10 3 Unsupported backreference 7
-refused 2 10 3 Unsupported property 7
-refused 2 10 3 Unsupported newline_sequence 7
-refused 2 10 3 Unsupported any_byte 7
-refused 2 10 3 Unsupported keep 7
-refused 2 10 3 Unsupported not_newline 7
-refused 2 10 3 Unsupported grapheme 7
-refused 2 10 3 Unsupported match_start 7
-refused 2 10 3 Unsupported possessive 7
-refused 2 10 3 Unsupported collating 7
-refused 2 10 3 Unsupported verb 7
-refused 2 10 3 Unsupported lookaround 7
-refused 2 10 3 Unsupported atomic 7
-refused 2 10 3 Unsupported conditional 7
-refused 2 10 3 Unsupported callout 7
-refused 2 10 3 Unsupported recursion 7
-refused 2 10 3 Unsupported option 7
-";
+/// Their names.
+const NAMES: &str = "\
+backreference|property|newline_sequence|any_byte|keep|not_newline|grapheme|match_start|possessive|collating|verb|\
+lookaround|atomic|conditional|callout|recursion|option";
 
 /// Refusals of no entry and of the last one, with the greatest values.
 const WIDEST: [(Option<(u32, ExprId)>, Refusal); 6] = [
@@ -129,76 +101,83 @@ fn add_refusal(
 
 #[test]
 fn tells_each_refusal(rt: HostRuntime) -> Result<(), Fail> {
-    let mut text = Vec::new(rt.alloc());
-    for refusal in REFUSALS {
-        add_refusal(&mut text, Some((1, ExprId(11))), &refusal)?;
+    let (mut text, mut wanted) = (Vec::new(rt.alloc()), Vec::new(rt.alloc()));
+    for (refusal, row) in REFUSALS.iter().zip(REFUSED.split('|')) {
+        add_refusal(&mut text, Some((1, ExprId(11))), refusal)?;
+        let line = format!(in rt.alloc(); "refused 1 11 {row}\n")?;
+        wanted.extend_from_slice(line.as_bytes())?;
     }
-    assert_eq!(rt; text.as_slice(), REFUSED);
-    text.clear();
-    for construct in CONSTRUCTS {
-        let refusal = Refusal::Unsupported(construct, 7);
+    assert!(rt; text == wanted);
+    Ok(())
+}
+
+#[test]
+fn tells_each_construct(rt: HostRuntime) -> Result<(), Fail> {
+    let (mut text, mut wanted) = (Vec::new(rt.alloc()), Vec::new(rt.alloc()));
+    for (construct, name) in CONSTRUCTS.iter().zip(NAMES.split('|')) {
+        let refusal = Refusal::Unsupported(*construct, 7);
         add_refusal(&mut text, Some((2, ExprId(10))), &refusal)?;
+        let line = format!(in rt.alloc(); "refused 2 10 3 Unsupported {name} 7\n")?;
+        wanted.extend_from_slice(line.as_bytes())?;
     }
-    assert_eq!(rt; text.as_slice(), UNSUPPORTED);
-    text.clear();
+    assert!(rt; text == wanted);
+    Ok(())
+}
+
+#[test]
+fn tells_refusals_with_the_greatest_values(rt: HostRuntime) -> Result<(), Fail> {
+    let mut text = Vec::new(rt.alloc());
     for (entry, refusal) in WIDEST {
         add_refusal(&mut text, entry, &refusal)?;
     }
-    assert_eq!(rt; text.as_slice(), WIDEST_REFUSED);
+    assert!(rt; text.as_slice() == WIDEST_REFUSED);
     Ok(())
 }
 
-#[test]
-fn tells_reports_and_the_length(rt: HostRuntime) -> Result<(), Fail> {
-    let widest = b"abcdefghijklmnopqrstuvwxyz_.-012".as_slice();
-    assert_eq!(rt; widest.len(), NAME_LEN);
-    let table: [(Option<&[u8]>, u32, u64, &[u8]); 6] = [
-        (None, 1, 9, b"1 9\n"),
-        (None, 2, 0, b"2 0\n"),
-        (Some(b"s".as_slice()), 7, 1002, b"s 7 1002\n"),
-        (Some(b"t".as_slice()), 16, 3, b"t 16 3\n"),
-        (None, MOST_32, MOST_64, b"4294967295 18446744073709551615\n"),
-        (
-            Some(widest),
-            MOST_32,
-            MOST_64,
-            b"abcdefghijklmnopqrstuvwxyz_.-012 4294967295 18446744073709551615\n",
-        ),
-    ];
-    for (stream, id, to, line) in table {
-        let mut buf = [0; LINE_LEN];
-        let report = Report { id: ExprId(id), to };
-        let len = report_line(stream, report, &mut buf);
-        assert_eq!(rt; buf.get(..len), Some(line));
+/// Lines of reports and of other answers, which tell what they are made of.
+const LINES: &str = "1 9|2 0|s 7 1002|t 16 3|4294967295 18446744073709551615|\
+abcdefghijklmnopqrstuvwxyz_.-012 4294967295 18446744073709551615|end 0|end 12|end 18446744073709551615|\
+accepted 3|compiled 1 38|fault database 18446744073709551615";
+
+/// A number of a line.
+fn number_of(word: &str) -> u64 {
+    word.parse::<u64>().unwrap_or(0)
+}
+
+/// The report of two numbers.
+fn report_of(id: &str, to: &str) -> Report {
+    Report {
+        id: ExprId(id.parse::<u32>().unwrap_or(0)),
+        to: number_of(to),
     }
-    let table: [(u64, &[u8]); 3] = [
-        (0, b"end 0\n"),
-        (12, b"end 12\n"),
-        (MOST_64, b"end 18446744073709551615\n"),
-    ];
-    for (total, line) in table {
-        let mut buf = [0; LINE_LEN];
-        let len = end_line(total, &mut buf);
-        assert_eq!(rt; buf.get(..len), Some(line));
+}
+
+/// Makes the line of what a line tells.
+fn make_line(line: &str, buf: &mut [u8; LINE_LEN]) -> usize {
+    let (first, behind) = line.split_once(' ').unwrap_or((line, ""));
+    let (second, third) = behind.split_once(' ').unwrap_or((behind, ""));
+    match first {
+        "end" => end_line(number_of(second), buf),
+        "accepted" => accepted_line(3, buf),
+        "compiled" => compiled_line(1, 38, buf),
+        "fault" => form_line(number_of(third), buf),
+        _ if third.is_empty() => report_line(None, report_of(first, second), buf),
+        _ => report_line(Some(first.as_bytes()), report_of(second, third), buf),
     }
-    Ok(())
 }
 
 #[test]
-fn tells_what_a_command_answers(rt: HostRuntime) -> Result<(), Fail> {
-    let mut accepted = [0; LINE_LEN];
-    let len = accepted_line(3, &mut accepted);
-    assert_eq!(rt; &accepted[..len], b"accepted 3\n".as_slice());
-    let mut compiled = [0; LINE_LEN];
-    let len = compiled_line(1, 38, &mut compiled);
-    assert_eq!(rt; &compiled[..len], b"compiled 1 38\n".as_slice());
+fn makes_each_line_again(rt: HostRuntime) -> Result<(), Fail> {
+    assert!(rt; "abcdefghijklmnopqrstuvwxyz_.-012".len() == NAME_LEN);
+    for line in LINES.split('|') {
+        let mut buf = [0; LINE_LEN];
+        let len = make_line(line, &mut buf);
+        let wanted = format!(in rt.alloc(); "{line}\n")?;
+        assert!(rt; buf.get(..len) == Some(wanted.as_bytes()), "{line}");
+    }
     let mut info = [0; LINE_LEN];
     let len = info_lines(2, 1, &mut info);
     let lines = b"version 1\nexpressions 2\nidentifiers 1\n".as_slice();
-    assert_eq!(rt; &info[..len], lines);
-    let mut form = [0; LINE_LEN];
-    let len = form_line(MOST_64, &mut form);
-    let line = b"fault database 18446744073709551615\n".as_slice();
-    assert_eq!(rt; &form[..len], line);
+    assert!(rt; info.get(..len) == Some(lines));
     Ok(())
 }
