@@ -1,4 +1,7 @@
 //! A table to its rows, and a row to its words.
+ghost use Rattle.std.specs.Prelude.{All, IfOk};
+ghost use Rattle.hs_rows.specs.Texts.{HasBytes};
+
 use std::alloc::{AllocError, Global};
 
 /// A row: the words of what it is about, and what is wanted of that, as it is written.
@@ -10,8 +13,10 @@ pub struct Row {
     pub wanted: Option<Vec<u8>>,
 }
 
-/// The rows of a table.
-pub fn rows_of(alloc: Global, table: &[u8]) -> Result<Vec<Row>, AllocError> {
+/// The rows of a table, whose words are not empty.
+pub fn rows_of(alloc: Global, table: &[u8]) -> Result<Vec<Row>, AllocError>
+    ensures { IfOk result (λ rows. All (λ row. All (λ word. HasBytes word.items) row.words.items) rows.items) }
+{
     let mut rows = Vec::new(alloc);
     let mut rest = table;
     for _byte in 0..table.len() {
@@ -35,7 +40,9 @@ fn first_line(table: &[u8]) -> (&[u8], &[u8]) {
 }
 
 /// The row that is written so.
-fn row_of(alloc: Global, written: &[u8]) -> Result<Row, AllocError> {
+fn row_of(alloc: Global, written: &[u8]) -> Result<Row, AllocError>
+    ensures { IfOk result (λ row. All (λ word. HasBytes word.items) row.words.items) }
+{
     let (front, wanted) = halves(written);
     let wanted = match wanted {
         Some(wanted) => Some(Vec::from_slice(alloc, wanted)?),
@@ -57,8 +64,10 @@ fn halves(row: &[u8]) -> (&[u8], Option<&[u8]>) {
     (row, None)
 }
 
-/// The words of the text.
-pub fn words_of(alloc: Global, text: &[u8]) -> Result<Vec<Vec<u8>>, AllocError> {
+/// The words of the text, none of them empty.
+pub fn words_of(alloc: Global, text: &[u8]) -> Result<Vec<Vec<u8>>, AllocError>
+    ensures { IfOk result (λ words. All (λ word. HasBytes word.items) words.items) }
+{
     let mut words = Vec::new(alloc);
     let mut word = Vec::new(alloc);
     for byte in text {

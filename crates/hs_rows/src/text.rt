@@ -1,5 +1,6 @@
 //! What is written in a word: bytes and their cuts, and numbers.
-ghost use Rattle.std.specs.Prelude.{◌<◌};
+ghost use Rattle.std.specs.Prelude.{◌≡◌, ◌<◌, All, IfOk, IfSome};
+ghost use Rattle.hs_rows.specs.Texts.{IsItself, spelled};
 
 use std::alloc::{AllocError, Global};
 
@@ -15,8 +16,10 @@ pub struct Text {
     pub cuts: u64,
 }
 
-/// The text that is written so.
-pub fn text_of(alloc: Global, written: &[u8]) -> Result<Text, AllocError> {
+/// The text that is written so. Bytes of which none is a sign are not cut.
+pub fn text_of(alloc: Global, written: &[u8]) -> Result<Text, AllocError>
+    ensures { IfOk result (λ text. All IsItself written.now → text.cuts ≡ 0) }
+{
     let mut bytes = Vec::new(alloc);
     let mut cuts = 0;
     let mut rest = written;
@@ -47,7 +50,9 @@ fn cut_behind(len: usize) -> u64 {
 }
 
 /// What is written there, in the next line where the line ends.
-fn in_line(written: &[u8]) -> &[u8] {
+fn in_line(written: &[u8]) -> &[u8]
+    ensures { All IsItself written.now → All IsItself result.now }
+{
     match written {
         [b'\n', b' ', behind @ ..] => behind,
         _ => written,
@@ -55,7 +60,9 @@ fn in_line(written: &[u8]) -> &[u8] {
 }
 
 /// How many times the byte stands that comes next, and where that is written.
-fn first_count(written: &[u8]) -> (usize, &[u8]) {
+fn first_count(written: &[u8]) -> (usize, &[u8])
+    ensures { All IsItself written.now → All IsItself result.1.now }
+{
     if let [b'%', b'(', rest @ ..] = written {
         for at in 0..rest.len() {
             if rest[at] == b')' {
@@ -68,7 +75,9 @@ fn first_count(written: &[u8]) -> (usize, &[u8]) {
 }
 
 /// The byte that is written there, and what is behind it.
-fn first_byte(written: &[u8]) -> Option<(u8, &[u8])> {
+fn first_byte(written: &[u8]) -> Option<(u8, &[u8])>
+    ensures { All IsItself written.now → IfSome result (λ p. All IsItself p.1.now) }
+{
     match written {
         [b'%', high, low, behind @ ..] => Some((16 * digit(*high) + digit(*low), behind)),
         [b';', behind @ ..] => Some((b'\n', behind)),
@@ -89,7 +98,9 @@ fn digit(byte: u8) -> u8
 }
 
 /// The number of the decimal digits, where they are some.
-pub fn number_of(digits: &[u8]) -> Option<u32> {
+pub fn number_of(digits: &[u8]) -> Option<u32>
+    ensures { IfSome result (λ number. number ≡ spelled digits.now) }
+{
     let mut number: u32 = 0;
     for byte in digits {
         if !byte.is_ascii_digit() {

@@ -4,12 +4,8 @@
 
 #[cfg(test)]
 mod leaving;
-#[cfg(test)]
-mod list_rows;
 mod match_command;
 mod piece;
-#[cfg(test)]
-mod rows;
 #[cfg(test)]
 mod running;
 mod scan;

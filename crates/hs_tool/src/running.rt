@@ -54,7 +54,12 @@ impl Part {
 }
 
 /// The text, behind a line for each of 4,096 names, which begins so, if these are wanted.
-fn behind_names(alloc: Global, is_wanted: bool, start: &[u8], text: &[u8]) -> Result<Vec<u8>, Fail> {
+fn behind_names(
+    alloc: Global,
+    is_wanted: bool,
+    start: &[u8],
+    text: &[u8],
+) -> Result<Vec<u8>, Fail> {
     let mut lines = Vec::new(alloc);
     let count = if is_wanted { NAME_BYTES.len() } else { 0 };
     for number in 0..count * count {
@@ -132,7 +137,10 @@ fn judge_row(
         let answer = run_row(alloc, setting, *piece, &setting.faults)?.answer;
         assert_eq!(rt; answer.status, wanted.status, "{name} in pieces of {piece}");
         assert!(rt; out.starts_with(&answer.out), "{name} in pieces of {piece}");
-        assert!(rt; wanted.is_cut || answer.out == out, "{name} in pieces of {piece}");
+        assert!(rt;
+            wanted.is_cut || answer.out == out,
+            "{name} in pieces of {piece}"
+        );
         assert_eq!(rt; answer.err, wanted.err, "{name} in pieces of {piece}");
         if wanted.left.is_some() {
             assert_eq!(rt; answer.left, wanted.left, "{name} in pieces of {piece}");
@@ -157,8 +165,15 @@ fn judge_call(
         return Ok(false);
     }
     assert_eq!(rt; run.answer.status, 3, "{name} at call {call}");
-    assert!(rt; wanted.out.starts_with(&run.answer.out), "{name} at call {call}");
-    assert_eq!(rt; run.answer.err.as_slice(), part.line(), "{name} at call {call}");
+    assert!(rt;
+        wanted.out.starts_with(&run.answer.out),
+        "{name} at call {call}"
+    );
+    assert_eq!(rt;
+        run.answer.err.as_slice(),
+        part.line(),
+        "{name} at call {call}"
+    );
     Ok(true)
 }
 

@@ -1,7 +1,7 @@
 //! The whole program over memory, table by table.
 
 use crate::running::judge;
-use crate::{list_rows, rows};
+use hs_rows::{list_rows, rows};
 use std::test::Fail;
 
 #[test]

@@ -1,20 +1,19 @@
 //! Runs of the program. The answers were worked out by hand from the rules of the forms.
 //!
-//! `hs_rows` says how rows are written. A row has fields, a name and a value each, and behind `=` the status of its last
-//! command, what it writes to `out`, with a `~` where a beginning of that may be written, what it writes to `err`, and the
-//! file `d` that it leaves. A row without `=` gives the fields of the rows behind it that have them not.
+//! `hs_rows` says how rows are written. A row has fields, a name and a value each, and behind `=` the status of its
+//! last command, what it writes to `out`, with a `~` where a beginning of that may be written, what it writes to
+//! `err`, and the file `d` that it leaves. A row without `=` gives the fields of the rows behind it that have them
+//! not.
 //!
 //! - `run`: the commands, one a line; `p`, `f`, `d`: the files, which the store's first calls put; `-` is none
-//! - `in`: the script; `pieces`: the lengths of its pieces, for each run that is made; `opens all`: it opens 4,096 streams
-//!   first, each by two letters, and is answered
+//! - `in`: the script; `pieces`: the lengths of its pieces, for each run that is made; `opens all`: it opens 4,096
+//!   streams first, each by two letters, and is answered
 //! - `room`: how many bytes `out` has room for
-//! - `store`, `source`, `out`, `err`: the call on it that fails, counted from 1; `gone`: the read at which the store lacks
-//!   its files; `fails each`: each call on the store, the source and `out` fails in turn, too
-//!
-//! It is `#[cfg(test)]`.
+//! - `store`, `source`, `out`, `err`: the call on it that fails, counted from 1; `gone`: the read at which the store
+//!   lacks its files; `fails each`: each call on the store, the source and `out` fails in turn, too
 
 /// Commands over files.
-pub(crate) const COMMANDS: &[u8] = br"
+pub const COMMANDS: &[u8] = br"
 # Words that are no command.
 run <hs_tool match p f> p <1:/a/> f <a>
 run <> = 1 <> <fault usage;>
@@ -130,7 +129,7 @@ p <7:/%(128)(a/;> = 2 <> <refused 1 7 1 Syntax 129;>
 ";
 
 /// Scripts.
-pub(crate) const SCRIPTS: &[u8] = br"
+pub const SCRIPTS: &[u8] = br"
 # `stream` with a database.
 run <hs_tool stream d> d <HSDB%01%00%01%(3)%00%10%(14)%00%(8)%FF%03%00foo>
  in <open s;write s 2;fo;write t 3;foo;write s 1;o;close s;> pieces 10

@@ -1,8 +1,8 @@
-//! Lists, files and what `match` and `scan` answer, written as the rows of `rows`. The answers were worked out by hand from
-//! the rules of the forms, and those over many streams by going through all their parts. It is `#[cfg(test)]`.
+//! Lists, files and what `match` and `scan` answer, written as the rows of `rows`. The answers were worked out by
+//! hand from the rules of the forms, and those over many streams by going through all their parts.
 
 /// Pattern files and files, and what `match` writes.
-pub(crate) const MATCHED: &[u8] = br"
+pub const MATCHED: &[u8] = br"
 run <hs_tool match p f>
 # Lists.
 p <> f <abab> = 0 <end 4;>
@@ -137,7 +137,7 @@ p <9:/a.*b/;4:/(ab|a)(c|bcd)?/;9:/./;4:/ba/;> f <abcd> = 0 <4 1;9 1;4 2;9 2;4 3;
 ";
 
 /// Pattern files that are refused, and the lines that say so.
-pub(crate) const REFUSED: &[u8] = br"
+pub const REFUSED: &[u8] = br"
 run <hs_tool match p f> f <aa>
 # No form of an expression.
 p <1:/*a/> = 2 <> <refused 1 1 1 Syntax 0;>
@@ -209,7 +209,7 @@ p <1:/a*/;(> = 2 <> <refused - - 16 ListLine 2;>
 ";
 
 /// Files that are a database file up to a place: beginnings of one, one with a byte more, and two with another byte.
-pub(crate) const BROKEN_FILES: &[u8] = br"
+pub const BROKEN_FILES: &[u8] = br"
 run <hs_tool scan d f> f <xfoofoo>
 d <> = 4 <> <fault database 0;>
 d <H> = 4 <> <fault database 1;>
