@@ -18,4 +18,5 @@ AreChains rows heads nexts = AreChainsFrom rows 0 heads nexts
 
 -- where the bit of a row is not set, its first number is the count of all: the row is empty
 abbrev pub AreMarked : (words heads : List ℕ) → (count : ℕ) → Type 0
-AreMarked words heads count = (row : ℕ) → row < length heads → has_word_bit words row ≡ false → slice_index heads row ≡ count
+AreMarked words heads count =
+    (row : ℕ) → row < length heads → has_word_bit words row ≡ false → slice_index heads row ≡ count
