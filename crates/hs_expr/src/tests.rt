@@ -10,7 +10,8 @@ use std::process::Abort;
 use std::test::Fail;
 
 /// Trees, each with its least width, its greatest one or `none`, its positions, and what holds of it: `e` that it
-/// matches the empty text, `x` that bytes may be consumed behind an assertion of the stream's end, `p` that it is plain.
+/// matches the empty text, `x` that bytes may be consumed behind an assertion of the stream's end, `p` that it is
+/// plain.
 ///
 /// In a tree `(..)` is a concatenation and `[..]` an alternation. Behind an item stand `*`, `+`, `?`, `=` for three to
 /// five copies, `!` for three to one, `~` for two and more, `#` for 32,767, or a digit for as many. `_` is the empty
