@@ -147,21 +147,15 @@ fn flags_of(digit: Option<&[u8]>) -> Flags {
 /// line has flags, and then texts, each with its tree behind it; or flags, a fault, and then texts that have it.
 type Table<'a> = (u8, u8, bool, &'a [u8]);
 
-/// The table of a number below 13.
+/// The table of a number below 7.
 fn table(number: usize) -> Table<'static> {
     match number {
         0 => (b' ', b'\n', false, trees::TREES),
-        1 => (b' ', b'\n', false, trees::RANGES),
-        2 => (b' ', b'\n', false, trees::CLASSES),
-        3 => (b' ', b'\n', false, trees::ESCAPES),
-        4 => (b' ', b'\n', false, trees::ASSERTIONS),
-        5 => (b' ', b'\n', false, trees::QUANTIFIERS),
-        6 => (b' ', b'\n', false, trees::GROUPS),
-        7 => (b' ', b'\n', false, trees::SKIPPED),
-        8 => (b';', b'\n', false, trees::SPACED),
-        9 => (b';', b'$', false, trees::BLANKS),
-        10 => (b' ', b'\n', true, faults::FAULTS),
-        11 => (b';', b'\n', true, faults::SPACED),
+        1 => (b' ', b'\n', false, trees::CLASSES),
+        2 => (b';', b'\n', false, trees::SPACED),
+        3 => (b';', b'$', false, trees::BLANKS),
+        4 => (b' ', b'\n', true, faults::FAULTS),
+        5 => (b';', b'\n', true, faults::SPACED),
         _ => (b';', b'$', true, faults::BLANKS),
     }
 }
@@ -201,7 +195,7 @@ fn check_table(rt: &impl Abort, alloc: Global, table: Table) -> Result<(), Fail>
 
 #[test]
 fn reads_and_refuses_by_the_tables(rt: HostRuntime) -> Result<(), Fail> {
-    for number in 0..13 {
+    for number in 0..7 {
         check_table(&rt, rt.alloc(), table(number))?;
     }
     Ok(())
