@@ -19,19 +19,17 @@ fn literal(alloc: Global, text: &[u8], both_cases: bool) -> Result<Vec<LitByte>,
     Ok(places)
 }
 
-/// Literals, one a line.
-fn literals(
-    alloc: Global,
-    lines: &[u8],
-    both_cases: bool,
-) -> Result<Vec<Vec<LitByte>>, AllocError> {
+/// The count of a row, and its literals, which stand between commas; with an `i` behind the count in both cases.
+fn read_row(alloc: Global, row: &str) -> Result<(u32, Vec<Vec<LitByte>>), AllocError> {
+    let (head, texts) = row.split_once(' ').unwrap_or((row, ""));
     let mut list = Vec::new(alloc);
-    for line in lines.split(|byte| *byte == b'\n') {
-        if !line.is_empty() {
-            list.push(literal(alloc, line, both_cases)?)?;
+    for text in texts.split(',') {
+        if !text.is_empty() {
+            list.push(literal(alloc, text.as_bytes(), head.ends_with('i'))?)?;
         }
     }
-    Ok(list)
+    let count = head.trim_end_matches('i').parse::<u32>().unwrap_or(0);
+    Ok((count, list))
 }
 
 /// The masks of a text, block by block.
@@ -53,14 +51,11 @@ fn scanned(alloc: Global, tables: &Tables, text: &[u8]) -> Result<Vec<u8>, Alloc
 
 /// Whether the literal ends at that place of the text, behind its last byte.
 fn ends_at(literal: &[LitByte], text: &[u8], offset: usize) -> bool {
-    if offset < literal.len() || offset > text.len() {
-        return false;
-    }
-    let front = &text[offset - literal.len()..offset];
-    front
-        .iter()
-        .zip(literal.iter())
-        .all(|(byte, place)| place.contains(*byte))
+    let front = text
+        .get(offset.wrapping_sub(literal.len())..offset)
+        .unwrap_or(b"");
+    let mut pairs = front.iter().zip(literal.iter());
+    front.len() == literal.len() && pairs.all(|(byte, place)| place.contains(*byte))
 }
 
 /// How many ends the literals have in the text, and at how many of them the mask has a 1 for the literal's bucket.
@@ -84,47 +79,34 @@ fn ends_and_missed(
     Ok((ends, missed))
 }
 
+/// How many ends they have in a text, and literals.
+const ENDS: &str = "0 |3 to|9 to,to,to|13 he,the, the,in the|2i wh,qu|\
+2 slings and arrows of outrageous ,s of outrageous fortune|\
+12i whether,not,mind,suffer,slings,arrows,outrageous,fortune,be,or";
+
 #[test]
 fn misses_no_end(rt: HostRuntime) -> Result<(), Fail> {
     let text = b"to be or not to be, that is the question: Whether 'tis nobler in the mind to \
         suffer the slings and arrows of outrageous fortune";
-    for (lines, both_cases, ends) in [
-        (b"".as_slice(), false, 0),
-        (b"to".as_slice(), false, 3),
-        (b"to\nto\nto".as_slice(), false, 9),
-        (b"he\nthe\n the\nin the".as_slice(), false, 13),
-        (b"wh\nqu".as_slice(), true, 2),
-        (
-            b"slings and arrows of outrageous \ns of outrageous fortune".as_slice(),
-            false,
-            2,
-        ),
-        (
-            b"whether\nnot\nmind\nsuffer\nslings\narrows\noutrageous\nfortune\nbe\nor".as_slice(),
-            true,
-            12,
-        ),
-    ] {
-        let list = literals(rt.alloc(), lines, both_cases)?;
-        assert_eq!(rt;
-            ends_and_missed(rt.alloc(), list.as_slice(), text.as_slice())?,
-            (ends, 0)
-        );
+    for row in ENDS.split('|') {
+        let (ends, list) = read_row(rt.alloc(), row)?;
+        let found = ends_and_missed(rt.alloc(), list.as_slice(), text.as_slice())?;
+        assert!(rt; found == (ends, 0), "{row}");
     }
     Ok(())
 }
 
-/// Words of four to eleven letters that follow no pattern, one a line.
-fn words(alloc: Global, count: u32) -> Result<Vec<u8>, AllocError> {
-    let mut text = Vec::new(alloc);
+/// A row of words of four to eleven letters that follow no pattern.
+fn words(alloc: Global, count: u32) -> Result<String, AllocError> {
+    let mut text = String::from_str(alloc, "600 ")?;
     let mut state = 1u32;
     for _ in 0..count {
         let length = 4 + (state >> 16) % 8;
         for _ in 0..length {
             state = state.wrapping_mul(1_664_525).wrapping_add(1_013_904_223);
-            text.push(b'a' + ((state >> 24) % 26) as u8)?;
+            text.push(char::from(b'a' + ((state >> 24) % 26) as u8))?;
         }
-        text.push(b'\n')?;
+        text.push(',')?;
     }
     Ok(text)
 }
@@ -132,10 +114,9 @@ fn words(alloc: Global, count: u32) -> Result<Vec<u8>, AllocError> {
 #[test]
 fn misses_no_end_of_many(rt: HostRuntime) -> Result<(), Fail> {
     let text = words(rt.alloc(), 600)?;
-    let list = literals(rt.alloc(), text.as_slice(), false)?;
-    let (ends, missed) = ends_and_missed(rt.alloc(), list.as_slice(), text.as_slice())?;
-    assert!(rt; ends >= 600);
-    assert_eq!(rt; missed, 0);
+    let (least, list) = read_row(rt.alloc(), text.as_str())?;
+    let (ends, missed) = ends_and_missed(rt.alloc(), list.as_slice(), text.as_bytes())?;
+    assert!(rt; ends >= least && missed == 0);
     Ok(())
 }
 
@@ -152,28 +133,18 @@ fn zeros(tables: &Tables) -> u32 {
     count
 }
 
+/// How many bits are 0, and literals. At the last byte both further bits, at the one before it one of them, and at the
+/// six places of 512 masks before those of `ab` none counts.
+const ZEROS: &str = "0 |3075 ab|3078i ab|9 abcdefghi";
+
 #[test]
 fn makes_no_other_bit_zero(rt: HostRuntime) -> Result<(), Fail> {
-    // At the last byte both further bits, at the one before it one of them, and at six places none counts.
-    for (lines, both_cases, count) in [
-        (b"".as_slice(), false, 0),
-        (b"ab".as_slice(), false, 2 + 1 + 6 * 512),
-        (b"ab".as_slice(), true, 4 + 2 + 6 * 512),
-        (b"abcdefghi".as_slice(), false, 2 + 7),
-    ] {
-        let list = literals(rt.alloc(), lines, both_cases)?;
+    for row in ZEROS.split('|') {
+        let (count, list) = read_row(rt.alloc(), row)?;
         let (tables, _buckets) = build(rt.alloc(), list.as_slice())?;
-        assert_eq!(rt; zeros(&tables), count);
+        assert!(rt; zeros(&tables) == count, "{row}");
     }
     Ok(())
-}
-
-/// Where a pair of bytes stands in a list of all of them.
-fn number_of(pair: &[u8]) -> usize {
-    match pair {
-        [first, second] => *first as usize * 256 + *second as usize,
-        _ => 0,
-    }
 }
 
 #[test]
@@ -187,10 +158,11 @@ fn misses_no_pair_of_bytes(rt: HostRuntime) -> Result<(), Fail> {
     let (tables, buckets) = build(rt.alloc(), list.as_slice())?;
     let text = b"any two bytes are one of the literals";
     let masks = scanned(rt.alloc(), &tables, text.as_slice())?;
-    for (pair, mask) in text.windows(2).zip(masks.iter().skip(1)) {
-        let number = number_of(pair);
+    let pairs = text.iter().zip(text.iter().skip(1));
+    for ((first, second), mask) in pairs.zip(masks.iter().skip(1)) {
+        let number = usize::from(*first) * 256 + usize::from(*second);
         let bucket = buckets.get(number).copied().unwrap_or(0);
-        assert_eq!(rt; (*mask >> (bucket % 8)) & 1, 0);
+        assert!(rt; (*mask >> (bucket % 8)) & 1 == 0);
     }
     Ok(())
 }

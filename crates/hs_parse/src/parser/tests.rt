@@ -9,159 +9,115 @@ mod faults;
 mod trees;
 
 /// Appends a byte, by `%` and two hexadecimal digits where it isn't printed.
-fn write_byte(out: &mut Vec<u8>, byte: u8) -> Result<(), AllocError> {
+fn write_byte(alloc: Global, out: &mut String, byte: u8) -> Result<(), AllocError> {
     if matches!(byte, 0x21..=0x7E) {
-        out.push(byte)?;
-        return Ok(());
+        return out.push(char::from(byte));
     }
-    out.push(b'%')?;
-    for digit in [byte / 16, byte % 16] {
-        out.push(if digit < 10 {
-            b'0' + digit
-        } else {
-            b'A' + digit - 10
-        })?;
-    }
-    Ok(())
+    let text = format!(in alloc; "%{byte:02X}")?;
+    out.push_str(text.as_str())
 }
 
 /// Appends a set: `_` for every byte but the line feed, the byte itself where it is the only one, and else the ranges
 /// of the members between brackets.
-fn write_set(out: &mut Vec<u8>, set: &ByteSet) -> Result<(), AllocError> {
+fn write_set(alloc: Global, out: &mut String, set: &ByteSet) -> Result<(), AllocError> {
     if *set == ByteSet::NOT_NEWLINE {
-        out.push(b'_')?;
-        return Ok(());
+        return out.push('_');
     }
-    let alone = set
-        .iter()
-        .next()
-        .is_some_and(|first| *set == ByteSet::of(first));
-    if !alone {
-        out.push(b'[')?;
+    let first = set.iter().next().unwrap_or(0);
+    if *set == ByteSet::of(first) {
+        return write_byte(alloc, out, first);
     }
+    out.push('[')?;
     let mut before = false;
     for byte in 0..=255u8 {
         let here = set.contains(byte);
         let next = byte < 255 && set.contains(byte + 1);
         if here && (!before || !next) {
             if before {
-                out.push(b'-')?;
+                out.push('-')?;
             }
-            write_byte(out, byte)?;
+            write_byte(alloc, out, byte)?;
         }
         before = here;
     }
-    if !alone {
-        out.push(b']')?;
-    }
-    Ok(())
+    out.push(']')
 }
 
 /// Appends a tree: `~` for the empty text, `(..)` for a concatenation, `<..>` for an alternation, `!` and a letter for
 /// an assertion, and a repeat by its quantifier behind its body.
 #[cycle(write)]
-fn write_tree(out: &mut Vec<u8>, expr: &Expr) -> Result<(), AllocError> {
+fn write_tree(alloc: Global, out: &mut String, expr: &Expr) -> Result<(), AllocError> {
     match expr {
-        Expr::Empty => out.push(b'~')?,
-        Expr::Class(set) => write_set(out, set)?,
-        Expr::Points(_) => out.push(b'#')?,
-        Expr::Assert(assertion) => {
-            out.push(b'!')?;
-            out.push(letter(*assertion))?;
-        }
-        Expr::Cat(items) => {
-            out.push(b'(')?;
-            write_trees(out, items)?;
-            out.push(b')')?;
-        }
-        Expr::Alt(items) => {
-            out.push(b'<')?;
-            write_trees(out, items)?;
-            out.push(b'>')?;
-        }
+        Expr::Empty => out.push('~'),
+        Expr::Class(set) => write_set(alloc, out, set),
+        Expr::Points(_) => out.push('#'),
+        Expr::Assert(assertion) => out.push_str(mark(*assertion)),
+        Expr::Cat(items) => write_trees(alloc, out, '(', items, ')'),
+        Expr::Alt(items) => write_trees(alloc, out, '<', items, '>'),
         Expr::Repeat(body, least, greatest) => {
-            write_tree(out, body)?;
-            write_quantifier(out, *least, *greatest)?;
+            write_tree(alloc, out, body)?;
+            write_quantifier(alloc, out, *least, *greatest)
         }
     }
-    Ok(())
 }
 
 #[cycle(write)]
-fn write_trees(out: &mut Vec<u8>, items: &[Expr]) -> Result<(), AllocError> {
+fn write_trees(
+    alloc: Global,
+    out: &mut String,
+    open: char,
+    items: &[Expr],
+    close: char,
+) -> Result<(), AllocError> {
+    out.push(open)?;
     for item in items {
-        write_tree(out, item)?;
+        write_tree(alloc, out, item)?;
     }
-    Ok(())
+    out.push(close)
 }
 
-/// The letter of an assertion.
-fn letter(assertion: Assertion) -> u8 {
+/// What an assertion is written as.
+fn mark(assertion: Assertion) -> &'static str {
     match assertion {
-        Assertion::StreamStart => b'A',
-        Assertion::LineStart => b'^',
-        Assertion::LineEnd => b'$',
-        Assertion::EndOrFinalNewline => b'Z',
-        Assertion::StreamEnd => b'z',
-        Assertion::WordBoundary => b'b',
-        Assertion::NotWordBoundary => b'B',
+        Assertion::StreamStart => "!A",
+        Assertion::LineStart => "!^",
+        Assertion::LineEnd => "!$",
+        Assertion::EndOrFinalNewline => "!Z",
+        Assertion::StreamEnd => "!z",
+        Assertion::WordBoundary => "!b",
+        Assertion::NotWordBoundary => "!B",
     }
 }
 
 /// Appends the quantifier of two bounds.
 fn write_quantifier(
-    out: &mut Vec<u8>,
+    alloc: Global,
+    out: &mut String,
     least: u32,
     greatest: Option<u32>,
 ) -> Result<(), AllocError> {
-    match (least, greatest) {
-        (0, None) => out.push(b'*')?,
-        (1, None) => out.push(b'+')?,
-        (0, Some(1)) => out.push(b'?')?,
-        (_, None) => {
-            out.push(b'{')?;
-            write_number(out, least)?;
-            out.extend_from_slice(b",}")?;
-        }
-        (_, Some(bound)) => {
-            out.push(b'{')?;
-            write_number(out, least)?;
-            out.push(b',')?;
-            write_number(out, bound)?;
-            out.push(b'}')?;
-        }
-    }
-    Ok(())
+    let text = match (least, greatest) {
+        (0, None) => return out.push('*'),
+        (1, None) => return out.push('+'),
+        (0, Some(1)) => return out.push('?'),
+        (_, None) => format!(in alloc; "{{{least},}}")?,
+        (_, Some(bound)) => format!(in alloc; "{{{least},{bound}}}")?,
+    };
+    out.push_str(text.as_str())
 }
 
-/// Appends a number in decimal digits.
-fn write_number(out: &mut Vec<u8>, number: u32) -> Result<(), AllocError> {
-    for place in [10_000, 1_000, 100, 10, 1] {
-        if number >= place || place == 1 {
-            out.push(b'0' + (number / place % 10) as u8)?;
-        }
-    }
-    Ok(())
-}
-
-/// Appends a refusal without blanks.
-fn write_refusal(alloc: Global, out: &mut Vec<u8>, refusal: Refusal) -> Result<(), AllocError> {
-    let shown = format!(in alloc; "{refusal:?}")?;
-    for byte in shown.as_bytes() {
-        if *byte != b' ' {
-            out.push(*byte)?;
-        }
-    }
-    Ok(())
-}
-
-/// The tree of a text, or its fault.
-fn outcome(alloc: Global, flags: Flags, text: &[u8]) -> Result<Vec<u8>, AllocError> {
-    let mut out = Vec::new(alloc);
+/// The tree of a text, or its fault without blanks.
+fn outcome(alloc: Global, flags: Flags, text: &[u8]) -> Result<String, AllocError> {
+    let mut out = String::new(alloc);
     match parse(alloc, text, flags) {
-        Ok(expr) => write_tree(&mut out, &expr)?,
-        Err(ParseFault::Refused(refusal)) => write_refusal(alloc, &mut out, refusal)?,
-        Err(ParseFault::Memory) => out.extend_from_slice(b"no memory")?,
+        Ok(expr) => write_tree(alloc, &mut out, &expr)?,
+        Err(ParseFault::Refused(refusal)) => {
+            let shown = format!(in alloc; "{refusal:?}")?;
+            for part in shown.split(' ') {
+                out.push_str(part)?;
+            }
+        }
+        Err(ParseFault::Memory) => out.push_str("no memory")?,
     }
     Ok(out)
 }
@@ -175,62 +131,31 @@ fn check(
     wanted: &[u8],
 ) -> Result<(), Fail> {
     let found = outcome(alloc, flags, text)?;
-    assert!(rt; found.as_slice() == wanted, "{text:?} gives {found:?}");
+    assert!(rt; found.as_bytes() == wanted, "{text:?} gives {found}");
     Ok(())
 }
 
-/// The bytes before the first mark, and those behind it.
-fn cut(bytes: &[u8], mark: u8) -> (&[u8], &[u8]) {
-    match bytes.iter().position(|byte| *byte == mark) {
-        Some(at) => (&bytes[..at], &bytes[at + 1..]),
-        None => (bytes, &[]),
-    }
-}
-
-/// The next field, behind the marks before it, and what is behind it.
-fn field(bytes: &[u8], mark: u8) -> (&[u8], &[u8]) {
-    match bytes.iter().position(|byte| *byte != mark) {
-        Some(at) => cut(&bytes[at..], mark),
-        None => (&[], &[]),
-    }
-}
-
 /// The flags of a line, by their digit.
-fn flags_of(digit: &[u8]) -> Flags {
+fn flags_of(digit: Option<&[u8]>) -> Flags {
     match digit {
-        [digit, ..] => Flags(*digit as u16 % 8),
-        [] => Flags::NONE,
+        Some([digit]) => Flags(*digit as u16 % 8),
+        _ => Flags::NONE,
     }
-}
-
-/// The number of some decimal digits, at most five.
-fn number_of(digits: &[u8]) -> usize {
-    let mut number = 0;
-    for digit in digits {
-        number = number % 10_000 * 10 + usize::from(*digit % 16);
-    }
-    number
 }
 
 /// The mark between the fields of a table and the one behind its lines, whether its texts are refused, and the table. A
 /// line has flags, and then texts, each with its tree behind it; or flags, a fault, and then texts that have it.
 type Table<'a> = (u8, u8, bool, &'a [u8]);
 
-/// The table of a number below 13.
+/// The table of a number below 7.
 fn table(number: usize) -> Table<'static> {
     match number {
         0 => (b' ', b'\n', false, trees::TREES),
-        1 => (b' ', b'\n', false, trees::RANGES),
-        2 => (b' ', b'\n', false, trees::CLASSES),
-        3 => (b' ', b'\n', false, trees::ESCAPES),
-        4 => (b' ', b'\n', false, trees::ASSERTIONS),
-        5 => (b' ', b'\n', false, trees::QUANTIFIERS),
-        6 => (b' ', b'\n', false, trees::GROUPS),
-        7 => (b' ', b'\n', false, trees::SKIPPED),
-        8 => (b';', b'\n', false, trees::SPACED),
-        9 => (b';', b'$', false, trees::BLANKS),
-        10 => (b' ', b'\n', true, faults::FAULTS),
-        11 => (b';', b'\n', true, faults::SPACED),
+        1 => (b' ', b'\n', false, trees::CLASSES),
+        2 => (b';', b'\n', false, trees::SPACED),
+        3 => (b';', b'$', false, trees::BLANKS),
+        4 => (b' ', b'\n', true, faults::FAULTS),
+        5 => (b';', b'\n', true, faults::SPACED),
         _ => (b';', b'$', true, faults::BLANKS),
     }
 }
@@ -243,18 +168,18 @@ fn check_line(
     refused: bool,
     line: &[u8],
 ) -> Result<(), Fail> {
-    let (digit, behind) = field(line, mark);
-    let (fault, texts) = field(behind, mark);
-    let mut rest = if refused { texts } else { behind };
+    let mut fields = line
+        .split(|byte| *byte == mark)
+        .filter(|field| !field.is_empty());
+    let flags = flags_of(fields.next());
+    let fault = if refused { fields.next() } else { None };
     for _ in 0..line.len() {
-        let (text, behind) = field(rest, mark);
-        let (tree, next) = field(behind, mark);
-        if text.is_empty() {
-            break;
-        }
-        let wanted = if refused { fault } else { tree };
-        check(rt, alloc, flags_of(digit), text, wanted)?;
-        rest = if refused { behind } else { next };
+        let Some(text) = fields.next() else { break };
+        let wanted = match fault {
+            Some(fault) => fault,
+            None => fields.next().unwrap_or(b""),
+        };
+        check(rt, alloc, flags, text, wanted)?;
     }
     Ok(())
 }
@@ -262,52 +187,40 @@ fn check_line(
 /// Checks the texts of a table.
 fn check_table(rt: &impl Abort, alloc: Global, table: Table) -> Result<(), Fail> {
     let (mark, end, refused, lines) = table;
-    let mut rest = lines;
-    for _ in 0..lines.len() {
-        if rest.is_empty() {
-            break;
-        }
-        let (line, behind) = cut(rest, end);
+    for line in lines.split(|byte| *byte == end) {
         check_line(rt, alloc, mark, refused, line)?;
-        rest = behind;
     }
     Ok(())
 }
 
 #[test]
 fn reads_and_refuses_by_the_tables(rt: HostRuntime) -> Result<(), Fail> {
-    for number in 0..13 {
+    for number in 0..7 {
         check_table(&rt, rt.alloc(), table(number))?;
     }
     Ok(())
 }
 
-/// Checks a text that is long, by its line.
-fn check_long(rt: &impl Abort, alloc: Global, line: &[u8]) -> Result<(), Fail> {
-    let (count, behind) = field(line, b' ');
-    let (byte, behind) = field(behind, b' ');
-    let (rest, fault) = field(behind, b' ');
-    let mut text = vec![in alloc; byte.first().copied().unwrap_or(0); number_of(count)]?;
-    if rest != b".".as_slice() {
-        text.extend_from_slice(rest)?;
+/// Checks a text that is long, by its row.
+fn check_long(rt: &impl Abort, alloc: Global, row: &str) -> Result<(), Fail> {
+    let mut fields = row.split(' ');
+    let count = fields.next().unwrap_or("").parse::<usize>().unwrap_or(0);
+    let byte = fields.next().unwrap_or("").as_bytes().first().copied();
+    let mut text = vec![in alloc; byte.unwrap_or(0); count]?;
+    text.extend_from_slice(fields.next().unwrap_or("").as_bytes())?;
+    match fields.next() {
+        Some(fault) => check(rt, alloc, Flags::NONE, &text, fault.as_bytes()),
+        None => {
+            assert!(rt; parse(alloc, &text, Flags::NONE).is_ok(), "{row}");
+            Ok(())
+        }
     }
-    if fault == b".".as_slice() {
-        assert!(rt; parse(alloc, &text, Flags::NONE).is_ok(), "{line:?}");
-        return Ok(());
-    }
-    check(rt, alloc, Flags::NONE, &text, fault)
 }
 
 #[test]
 fn bounds_length_and_depth(rt: HostRuntime) -> Result<(), Fail> {
-    let mut rest = faults::LONG;
-    for _ in 0..faults::LONG.len() {
-        if rest.is_empty() {
-            break;
-        }
-        let (line, behind) = cut(rest, b'\n');
-        check_long(&rt, rt.alloc(), line)?;
-        rest = behind;
+    for row in faults::LONG.split(';') {
+        check_long(&rt, rt.alloc(), row)?;
     }
     Ok(())
 }

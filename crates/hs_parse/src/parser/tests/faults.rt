@@ -77,21 +77,9 @@ pub(crate) const BLANKS: &[u8] = b"\
 0;UnknownEscape(8);(?x)#\\y\n\\y$\
 ";
 
-/// Texts of so many bytes that are the same, and then these or, with a full stop, none; and the fault, or a full stop.
-pub(crate) const LONG: &[u8] = b"\
-16000 a . .\n\
-16001 a . LengthLimit\n\
-16000 a * LengthLimit\n\
-16001 * . LengthLimit\n\
-15999 a [ Syntax(15999)\n\
-15999 a ( Syntax(16000)\n\
-16000 | . .\n\
-128 ( . Syntax(128)\n\
-129 ( . DepthLimit\n\
-128 ( (?= Unsupported(Lookaround,128)\n\
-128 ( (?: DepthLimit\n\
-128 ( (* Unsupported(Verb,128)\n\
-127 ( a)(b))((* Unsupported(Verb,134)\n\
-128 ( a)(b Syntax(132)\n\
-16000 ( . DepthLimit\n\
-";
+/// Texts of so many bytes that are the same, with these behind them, and the fault, where there is one.
+pub(crate) const LONG: &str = "\
+16000 a;16001 a  LengthLimit;16000 a * LengthLimit;16001 *  LengthLimit;15999 a [ Syntax(15999);\
+15999 a ( Syntax(16000);16000 |;128 (  Syntax(128);129 (  DepthLimit;128 ( (?= Unsupported(Lookaround,128);\
+128 ( (?: DepthLimit;128 ( (* Unsupported(Verb,128);127 ( a)(b))((* Unsupported(Verb,134);128 ( a)(b Syntax(132);\
+16000 (  DepthLimit";
