@@ -97,40 +97,34 @@ fn told_last<L: Ledger>(
     Ok(out)
 }
 
-/// Runs a script, and checks what is reported.
-fn run<L: Ledger>(
-    rt: &impl Abort,
-    alloc: Global,
-    blank: Blank,
-    db: &Database,
-    script: &str,
-    last: &str,
-) -> Result<(), Fail>
+/// Runs the script of a number, and checks what is reported.
+fn run<L: Ledger>(rt: &impl Abort, alloc: Global, blank: Blank, number: usize) -> Result<(), Fail>
     requires name { blank.name ≡ L.name }
     requires parts { blank.parts ≡ L.parts }
     requires some { 0 < L.parts }
 {
+    let (row, script, last) = SCRIPTS[number % SCRIPTS.len()];
+    let db = database_of(alloc, &[row])?;
     let mut steps = Steps::<L>::open(blank);
-    let mut scratch = Scratch::new(alloc, db)?;
-    let mut streams = [Stream::open(alloc, db)?, Stream::open(alloc, db)?];
+    let mut scratch = Scratch::new(alloc, &db)?;
+    let mut streams = [Stream::open(alloc, &db)?, Stream::open(alloc, &db)?];
     for row in script.split('|') {
         let (call, wanted) = row.split_once('=').unwrap_or((row, "?"));
         let (number, bytes) = call.split_once('<').unwrap_or(("", "?"));
         let stream = &mut streams[usize::from(number == "1")];
-        let found = told(alloc, db, &mut scratch, stream, &mut steps, bytes)?;
+        let found = told(alloc, &db, &mut scratch, stream, &mut steps, bytes)?;
         assert!(rt; found.as_str() == wanted, "{row} reports {found}");
-        assert!(rt; bytes != "~" || stream.offset(db) == 0, "{row}");
+        assert!(rt; bytes != "~" || stream.offset(&db) == 0, "{row}");
     }
-    let found = told_last(alloc, db, &mut scratch, streams, &mut steps)?;
+    let found = told_last(alloc, &db, &mut scratch, streams, &mut steps)?;
     assert!(rt; found.as_str() == last, "{script} reports {found} last");
     Ok(())
 }
 
 #[test]
 fn streams_see_nothing_of_each_other(rt: HostRuntime) -> Result<(), Fail> {
-    for (row, script, last) in SCRIPTS {
-        let db = database_of(rt.alloc(), &[row])?;
-        run::<Brand>(&rt, rt.alloc(), Blank::new(1), &db, script, last)?;
+    for number in 0..SCRIPTS.len() {
+        run::<Brand>(&rt, rt.alloc(), Blank::new(1), number)?;
     }
     Ok(())
 }

@@ -55,16 +55,26 @@ no open u.1 exists\nno open u.1 full\nno open u.1 memory\nno write u.1 length\nn
 
 #[test]
 fn makes_each_reply(rt: HostRuntime) -> Result<(), Fail> {
-    let mut buf = [0; LINE_LEN];
     let mut text = Vec::new(rt.alloc());
     for reply in REPLIES {
+        let mut buf = [0; LINE_LEN];
         let len = reply_line(b"u.1", reply, &mut buf);
         text.extend_from_slice(&buf[..len])?;
     }
     assert!(rt; text.as_slice() == REPLY_LINES);
-    let len = script_fault_line(ScriptFault::Script(1), &mut buf);
-    assert!(rt; buf.get(..len) == Some(b"fault script 1\n".as_slice()));
-    let len = script_fault_line(ScriptFault::Truncated(2), &mut buf);
-    assert!(rt; buf.get(..len) == Some(b"fault truncated 2\n".as_slice()));
+    Ok(())
+}
+
+#[test]
+fn tells_where_a_script_ends(rt: HostRuntime) -> Result<(), Fail> {
+    let table: [(ScriptFault, &[u8]); 2] = [
+        (ScriptFault::Script(1), b"fault script 1\n"),
+        (ScriptFault::Truncated(2), b"fault truncated 2\n"),
+    ];
+    for (fault, line) in table {
+        let mut buf = [0; LINE_LEN];
+        let len = script_fault_line(fault, &mut buf);
+        assert!(rt; buf.get(..len) == Some(line));
+    }
     Ok(())
 }

@@ -156,13 +156,15 @@ fn report_of(id: &str, to: &str) -> Report {
 fn make_line(line: &str, buf: &mut [u8; LINE_LEN]) -> usize {
     let (first, behind) = line.split_once(' ').unwrap_or((line, ""));
     let (second, third) = behind.split_once(' ').unwrap_or((behind, ""));
+    let name = first.as_bytes();
     match first {
         "end" => end_line(number_of(second), buf),
         "accepted" => accepted_line(3, buf),
         "compiled" => compiled_line(1, 38, buf),
         "fault" => form_line(number_of(third), buf),
         _ if third.is_empty() => report_line(None, report_of(first, second), buf),
-        _ => report_line(Some(first.as_bytes()), report_of(second, third), buf),
+        _ if name.len() <= NAME_LEN => report_line(Some(name), report_of(second, third), buf),
+        _ => 0,
     }
 }
 
