@@ -5,7 +5,7 @@ use crate::setting::{Answer, Faults, ROOM, Setting, wanted_of};
 use crate::top::run;
 use hs_outside::{MemSink, MemSource, MemStore, Store};
 use hs_rows::{rows_of, words_of};
-use std::alloc::Global;
+use std::alloc::{AllocError, Global};
 use std::process::Abort;
 use std::test::Fail;
 
@@ -14,14 +14,6 @@ const NAME_BYTES: &[u8] = b"ABCDEFGHIJKLMNOPQRSTUVWXYZabcdefghijklmnopqrstuvwxyz
 
 /// The most calls of which each is to fail.
 const MOST_CALLS: u64 = 200;
-
-/// A run of a row.
-#[derive(Drop)]
-struct Run {
-    answer: Answer,
-    /// Whether a call failed.
-    is_broken: bool,
-}
 
 /// What fails in turn.
 #[derive(Clone, Copy)]
@@ -32,95 +24,92 @@ enum Part {
 }
 
 impl Part {
-    /// That call on this part fails.
-    fn fails(self, call: u64) -> Faults {
-        let mut faults = Faults::NONE;
+    /// That call of the commands on this part fails, and what is written to `err` then.
+    fn fails(self, setting: &Setting, call: u64) -> (Faults, &'static [u8]) {
+        let none = Faults::default();
+        let store = setting.puts().saturating_add(call);
         match self {
-            Part::Store => faults.store = call,
-            Part::Source => faults.source = call,
-            Part::Out => faults.out = call,
-        }
-        faults
-    }
-
-    /// What is written to `err` then.
-    fn line(self) -> &'static [u8] {
-        match self {
-            Part::Store => b"fault store\n",
-            Part::Source => b"fault read\n",
-            Part::Out => b"fault write\n",
+            Part::Store => (Faults { store, ..none }, b"fault store\n"),
+            Part::Source => (
+                Faults {
+                    source: call,
+                    ..none
+                },
+                b"fault read\n",
+            ),
+            Part::Out => (Faults { out: call, ..none }, b"fault write\n"),
         }
     }
 }
 
-/// The text, behind a line for each of 4,096 names, which begins so, if these are wanted.
-fn behind_names(
-    alloc: Global,
-    is_wanted: bool,
-    start: &[u8],
-    text: &[u8],
-) -> Result<Vec<u8>, Fail> {
-    let mut lines = Vec::new(alloc);
-    let count = if is_wanted { NAME_BYTES.len() } else { 0 };
-    for number in 0..count * count {
+/// Adds a line for each name of two letters that begins with that one.
+fn add_names(lines: &mut Vec<u8>, start: &[u8], first: u8) -> Result<(), AllocError> {
+    for second in NAME_BYTES {
         lines.extend_from_slice(start)?;
-        lines.push(NAME_BYTES[number / NAME_BYTES.len()])?;
-        lines.push(NAME_BYTES[number % NAME_BYTES.len()])?;
-        lines.push(b'\n')?;
+        lines.extend_from_slice(&[first, *second, b'\n'])?;
+    }
+    Ok(())
+}
+
+/// A line for each of 4,096 names, which begins so, and the text behind them.
+fn name_lines(alloc: Global, start: &[u8], text: &[u8]) -> Result<Vec<u8>, AllocError> {
+    let mut lines = Vec::new(alloc);
+    for first in NAME_BYTES {
+        add_names(&mut lines, start, *first)?;
     }
     lines.extend_from_slice(text)?;
     Ok(lines)
 }
 
+/// Puts the file, where it is there.
+fn put(store: &mut MemStore, name: &str, file: &Option<Vec<u8>>) -> Result<(), Fail> {
+    if let Some(bytes) = file {
+        store.put(name, bytes)?;
+    }
+    Ok(())
+}
+
 /// The store with the files of a row.
-fn store_of(alloc: Global, setting: &Setting, faults: &Faults) -> Result<Leaving, Fail> {
+fn store_of(alloc: Global, setting: &Setting, faults: Faults) -> Result<Leaving, Fail> {
     let mut store = MemStore::new(alloc, 3, ROOM, &[faults.store])?;
-    if let Some(patterns) = &setting.patterns {
-        store.put("p", patterns)?;
-    }
-    if let Some(file) = &setting.file {
-        store.put("f", file)?;
-    }
-    if let Some(database) = &setting.database {
-        store.put("d", database)?;
-    }
+    put(&mut store, "p", &setting.patterns)?;
+    put(&mut store, "f", &setting.file)?;
+    put(&mut store, "d", &setting.database)?;
     Ok(Leaving::new(store, faults.gone))
 }
 
-/// The words of a command.
-fn command_of(alloc: Global, command: &[u8]) -> Result<Vec<String>, Fail> {
+/// Runs a command, and gives its status.
+fn run_command(
+    alloc: Global,
+    command: &[u8],
+    store: &mut Leaving,
+    input: &mut MemSource,
+    out: &mut MemSink,
+    err: &mut MemSink,
+) -> Result<u8, Fail> {
     let mut words = Vec::new(alloc);
     for word in words_of(alloc, command)? {
         words.push(String::from_utf8(word)?)?;
     }
-    Ok(words)
+    Ok(run(alloc, &words, store, input, out, err))
 }
 
 /// Runs the commands of a row, with the script in pieces of that length.
-fn run_row(alloc: Global, setting: &Setting, piece: usize, faults: &Faults) -> Result<Run, Fail> {
+fn run_row(alloc: Global, setting: &Setting, piece: usize, faults: Faults) -> Result<Answer, Fail> {
     let mut store = store_of(alloc, setting, faults)?;
-    let script = behind_names(alloc, setting.opens_all, b"open ", &setting.script)?;
-    let mut input = MemSource::new(alloc, &script, &[piece], &[faults.source])?;
+    let mut input = MemSource::new(alloc, &setting.script, &[piece], &[faults.source])?;
     let mut out = MemSink::new(alloc, setting.room, &[faults.out])?;
     let mut err = MemSink::new(alloc, ROOM, &[faults.err])?;
     let mut status = 0;
     for command in setting.commands.split(|byte| *byte == b'\n') {
-        let words = command_of(alloc, command)?;
-        status = run(alloc, &words, &mut store, &mut input, &mut out, &mut err);
+        status = run_command(alloc, command, &mut store, &mut input, &mut out, &mut err)?;
     }
-    let left = match store.store.file("d") {
-        Some(left) => Some(left.to_vec(alloc)?),
-        None => None,
-    };
-    Ok(Run {
-        answer: Answer {
-            status: u32::from(status),
-            out: out.written().to_vec(alloc)?,
-            is_cut: false,
-            err: err.written().to_vec(alloc)?,
-            left,
-        },
-        is_broken: 0 < store.store.faults() || 0 < input.faults() || 0 < out.faults(),
+    Ok(Answer {
+        status: u32::from(status),
+        out: out.written().to_vec(alloc)?,
+        is_cut: 0 < store.store.faults() || 0 < input.faults() || 0 < out.faults(),
+        err: err.written().to_vec(alloc)?,
+        left: Some(store.store.file("d").unwrap_or(b"").to_vec(alloc)?),
     })
 }
 
@@ -132,52 +121,21 @@ fn judge_row(
     setting: &Setting,
     wanted: &Answer,
 ) -> Result<(), Fail> {
-    let out = behind_names(alloc, setting.opens_all, b"ok open ", &wanted.out)?;
     for piece in &setting.pieces {
-        let answer = run_row(alloc, setting, *piece, &setting.faults)?.answer;
-        assert_eq!(rt; answer.status, wanted.status, "{name} in pieces of {piece}");
-        assert!(rt; out.starts_with(&answer.out), "{name} in pieces of {piece}");
-        assert!(rt;
-            wanted.is_cut || answer.out == out,
-            "{name} in pieces of {piece}"
-        );
-        assert_eq!(rt; answer.err, wanted.err, "{name} in pieces of {piece}");
+        let found = run_row(alloc, setting, *piece, setting.faults)?;
+        assert_eq!(rt; found.status, wanted.status, "{name} {piece}");
+        assert!(rt; wanted.out.starts_with(&found.out), "{name} {piece}");
+        assert!(rt; wanted.is_cut || found.out == wanted.out, "{name} {piece}");
+        assert_eq!(rt; found.err, wanted.err, "{name} {piece}");
         if wanted.left.is_some() {
-            assert_eq!(rt; answer.left, wanted.left, "{name} in pieces of {piece}");
+            assert_eq!(rt; found.left, wanted.left, "{name} {piece}");
         }
     }
     Ok(())
 }
 
-/// Judges a row of one command with a call that fails: where it is made, a beginning of what is wanted was written and
-/// the fault is told. Gives whether it is made.
-fn judge_call(
-    rt: &impl Abort,
-    alloc: Global,
-    name: &str,
-    setting: &Setting,
-    wanted: &Answer,
-    part: Part,
-    call: u64,
-) -> Result<bool, Fail> {
-    let run = run_row(alloc, setting, 1, &part.fails(call))?;
-    if !run.is_broken {
-        return Ok(false);
-    }
-    assert_eq!(rt; run.answer.status, 3, "{name} at call {call}");
-    assert!(rt;
-        wanted.out.starts_with(&run.answer.out),
-        "{name} at call {call}"
-    );
-    assert_eq!(rt;
-        run.answer.err.as_slice(),
-        part.line(),
-        "{name} at call {call}"
-    );
-    Ok(true)
-}
-
-/// Judges a row of one command, with a script that comes byte by byte, where each call on that part fails in turn.
+/// Judges a row of one command where each call on that part fails in turn, and the script comes byte by byte: a beginning
+/// of what is wanted was written, and the fault is told.
 fn judge_calls(
     rt: &impl Abort,
     alloc: Global,
@@ -186,17 +144,17 @@ fn judge_calls(
     wanted: &Answer,
     part: Part,
 ) -> Result<(), Fail> {
-    let first = match part {
-        Part::Store => 1 + setting.files(),
-        Part::Source | Part::Out => 1,
-    };
-    for call in first..first + MOST_CALLS {
-        if !judge_call(rt, alloc, name, setting, wanted, part, call)? {
+    for call in 1..MOST_CALLS {
+        let (faults, line) = part.fails(setting, call);
+        let found = run_row(alloc, setting, 1, faults)?;
+        if !found.is_cut {
             return Ok(());
         }
+        assert_eq!(rt; found.status, 3, "{name} {call}");
+        assert!(rt; wanted.out.starts_with(&found.out), "{name} {call}");
+        assert_eq!(rt; found.err.as_slice(), line, "{name} {call}");
     }
-    assert!(rt; false, "{name} makes more than {MOST_CALLS} calls");
-    Ok(())
+    Err("a row of too many calls".into())
 }
 
 /// Judges the rows of a table.
@@ -212,7 +170,11 @@ pub(crate) fn judge(rt: &impl Abort, alloc: Global, table: &[u8]) -> Result<(), 
         setting.take(alloc, head)?;
         setting.take(alloc, &row.words)?;
         let name = format!(in alloc; "{:?} = {written:?}", row.words)?;
-        let wanted = wanted_of(alloc, written)?;
+        let mut wanted = wanted_of(alloc, written)?;
+        if setting.opens_all {
+            setting.script = name_lines(alloc, b"open ", &setting.script)?;
+            wanted.out = name_lines(alloc, b"ok open ", &wanted.out)?;
+        }
         judge_row(rt, alloc, &name, &setting, &wanted)?;
         if setting.fails_each {
             judge_calls(rt, alloc, &name, &setting, &wanted, Part::Store)?;

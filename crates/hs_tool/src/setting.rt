@@ -9,24 +9,13 @@ use std::test::Fail;
 pub(crate) const ROOM: usize = 262_144;
 
 /// The calls that fail, and the read at which the store lacks its files, counted from 1; 0 is none.
-#[derive(Clone, Copy)]
+#[derive(Clone, Copy, Default)]
 pub(crate) struct Faults {
     pub(crate) store: u64,
     pub(crate) source: u64,
     pub(crate) out: u64,
     pub(crate) err: u64,
     pub(crate) gone: u64,
-}
-
-impl Faults {
-    /// No call fails.
-    pub(crate) const NONE: Faults = Faults {
-        store: 0,
-        source: 0,
-        out: 0,
-        err: 0,
-        gone: 0,
-    };
 }
 
 /// What the program is run on.
@@ -59,28 +48,21 @@ pub(crate) struct Answer {
     pub(crate) status: u32,
     /// What was written to `out`.
     pub(crate) out: Vec<u8>,
-    /// A beginning of that may have been written.
+    /// A call failed, so that a beginning of that may have been written.
     pub(crate) is_cut: bool,
     /// What was written to `err`.
     pub(crate) err: Vec<u8>,
-    /// The file `d` that is left, where that is asked for.
+    /// The file `d` that is left, empty where there is none; none where that isn't asked for.
     pub(crate) left: Option<Vec<u8>>,
 }
 
-/// The bytes of a word `<text>`.
-fn bytes_of(alloc: Global, word: &[u8]) -> Result<Vec<u8>, Fail> {
+/// The bytes of a word `<text>`, or none of the word `-`.
+fn file_of(alloc: Global, word: &[u8]) -> Result<Option<Vec<u8>>, Fail> {
     match word {
-        [b'<', written @ .., b'>'] => Ok(text_of(alloc, written)?.bytes),
+        [b'<', written @ .., b'>'] => Ok(Some(text_of(alloc, written)?.bytes)),
+        [b'-'] => Ok(None),
         _ => Err("no text in a row".into()),
     }
-}
-
-/// The bytes of a file that is there.
-fn file_of(alloc: Global, word: &[u8]) -> Result<Option<Vec<u8>>, Fail> {
-    if word == b"-".as_slice() {
-        return Ok(None);
-    }
-    Ok(Some(bytes_of(alloc, word)?))
 }
 
 /// The number that a word is.
@@ -109,13 +91,13 @@ impl Setting {
             opens_all: false,
             pieces: vec![in alloc; ROOM; 1]?,
             room: ROOM,
-            faults: Faults::NONE,
+            faults: Faults::default(),
             fails_each: false,
         })
     }
 
-    /// How many files there are.
-    pub(crate) fn files(&self) -> u64
+    /// How many calls put the files.
+    pub(crate) fn puts(&self) -> u64
         ensures { result ≤ 3 }
     {
         u64::from(self.patterns.is_some())
@@ -137,31 +119,31 @@ impl Setting {
     /// Takes a field of a row.
     fn set(&mut self, alloc: Global, name: &[u8], value: &[u8]) -> Result<(), Fail> {
         match name {
-            b"run" => self.commands = bytes_of(alloc, value)?,
+            b"run" => self.commands = file_of(alloc, value)?.unwrap_or(Vec::new(alloc)),
             b"p" => self.patterns = file_of(alloc, value)?,
             b"f" => self.file = file_of(alloc, value)?,
             b"d" => self.database = file_of(alloc, value)?,
-            b"in" => self.script = bytes_of(alloc, value)?,
+            b"in" => self.script = file_of(alloc, value)?.unwrap_or(Vec::new(alloc)),
             b"opens" => self.opens_all = true,
             b"pieces" => self.pieces = numbers_in(alloc, value)?,
             b"room" => self.room = number_in(value)? as usize,
+            b"store" => self.faults.store = u64::from(number_in(value)?),
+            b"source" => self.faults.source = u64::from(number_in(value)?),
+            b"out" => self.faults.out = u64::from(number_in(value)?),
+            b"err" => self.faults.err = u64::from(number_in(value)?),
+            b"gone" => self.faults.gone = u64::from(number_in(value)?),
             b"fails" => self.fails_each = true,
-            _ => self.set_fault(name, u64::from(number_in(value)?))?,
-        }
-        Ok(())
-    }
-
-    /// Takes a field of a row that says which call fails.
-    fn set_fault(&mut self, name: &[u8], call: u64) -> Result<(), Fail> {
-        match name {
-            b"store" => self.faults.store = call,
-            b"source" => self.faults.source = call,
-            b"out" => self.faults.out = call,
-            b"err" => self.faults.err = call,
-            b"gone" => self.faults.gone = call,
             _ => return Err("no such field".into()),
         }
         Ok(())
+    }
+}
+
+/// The bytes of the word of that number.
+fn text_at(alloc: Global, words: &[Vec<u8>], number: usize) -> Result<Option<Vec<u8>>, Fail> {
+    match words.get(number) {
+        Some(word) => file_of(alloc, word),
+        None => Ok(None),
     }
 }
 
@@ -169,22 +151,11 @@ impl Setting {
 pub(crate) fn wanted_of(alloc: Global, written: &[u8]) -> Result<Answer, Fail> {
     let words = words_of(alloc, written)?;
     let status = words.first().ok_or("no status in a row")?;
-    let mut answer = Answer {
+    Ok(Answer {
         status: number_in(status)?,
-        out: Vec::new(alloc),
-        is_cut: false,
-        err: Vec::new(alloc),
-        left: None,
-    };
-    if let Some(out) = words.get(1) {
-        answer.is_cut = out.ends_with(b"~>");
-        answer.out = bytes_of(alloc, out)?;
-    }
-    if let Some(err) = words.get(2) {
-        answer.err = bytes_of(alloc, err)?;
-    }
-    if let Some(left) = words.get(3) {
-        answer.left = Some(bytes_of(alloc, left)?);
-    }
-    Ok(answer)
+        out: text_at(alloc, &words, 1)?.unwrap_or(Vec::new(alloc)),
+        is_cut: written.contains(&b'~'),
+        err: text_at(alloc, &words, 2)?.unwrap_or(Vec::new(alloc)),
+        left: text_at(alloc, &words, 3)?,
+    })
 }
