@@ -1,10 +1,18 @@
-//! Rows of runs of the program: what it is run on, and what it answers. Only tests read them.
+//! Rows of tests as text: a table of them is one constant, which is cut where it is read, and costs a proof nothing.
+//! Only tests read them.
+//!
+//! - A row is a line, with each further line that begins with a blank. Lines that begin with `#` aren't read.
+//! - What is wanted stands behind ` =`.
+//! - Words stand apart by blanks. A word that begins with `<` goes on to a `>` that ends it.
+//! - In a text `;` is a line feed, `%` and two digits of 16 are one byte, `%(100)` is a hundred times the byte behind, and
+//!   `~` is a cut into pieces.
 #![tactic(auto)]
 
-mod list_rows;
-mod row;
-mod rows;
+mod cutting;
+mod text;
 
-pub use list_rows::{BROKEN_FILES, MATCHED, REFUSED};
-pub use row::{Bytes, Row};
-pub use rows::{MATCH, ROWS, SCAN};
+pub use cutting::{Row, rows_of, words_of};
+pub use text::{Text, number_of, text_of};
+
+#[cfg(test)]
+mod tests;
