@@ -4,7 +4,7 @@ use std::alloc::{AllocError, Global};
 /// A row: the words of what it is about, and what is wanted of that, as it is written.
 #[derive(Drop)]
 pub struct Row {
-    /// What stands before ` =`.
+    /// What stands before the `=`.
     pub words: Vec<Vec<u8>>,
     /// What stands behind it.
     pub wanted: Option<Vec<u8>>,
@@ -47,11 +47,11 @@ fn row_of(alloc: Global, written: &[u8]) -> Result<Row, AllocError> {
     })
 }
 
-/// What stands before ` =`, and behind it.
+/// What stands before the word that begins with `=`, and behind that `=`.
 fn halves(row: &[u8]) -> (&[u8], Option<&[u8]>) {
     for at in 0..row.len() {
-        if row[at] == b' ' && row.get(at + 1) == Some(&b'=') {
-            return (&row[..at], row.get(at + 2..));
+        if row[at] == b'=' && (at == 0 || row[at - 1] == b' ') {
+            return (&row[..at], row.get(at + 1..));
         }
     }
     (row, None)

@@ -2,10 +2,10 @@
 //! Only tests read them.
 //!
 //! - A row is a line, with each further line that begins with a blank. Lines that begin with `#` aren't read.
-//! - What is wanted stands behind ` =`.
+//! - What is wanted stands behind an `=` with which a word begins.
 //! - Words stand apart by blanks. A word that begins with `<` goes on to a `>` that ends it.
 //! - In a text `;` is a line feed, `%` and two digits of 16 are one byte, `%(100)` is a hundred times the byte behind, and
-//!   `~` is a cut into pieces.
+//!   `~` is a cut into pieces. It may go on behind the blank of the next line.
 #![tactic(auto)]
 
 mod cutting;

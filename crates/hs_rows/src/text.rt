@@ -26,7 +26,7 @@ pub fn text_of(alloc: Global, written: &[u8]) -> Result<Text, AllocError> {
             rest = behind;
             continue;
         }
-        let (count, counted) = first_count(rest);
+        let (count, counted) = first_count(in_line(rest));
         let Some((byte, behind)) = first_byte(counted) else {
             break;
         };
@@ -43,6 +43,14 @@ fn cut_behind(len: usize) -> u64 {
         1u64 << (len - 1)
     } else {
         0
+    }
+}
+
+/// What is written there, in the next line where the line ends.
+fn in_line(written: &[u8]) -> &[u8] {
+    match written {
+        [b'\n', b' ', behind @ ..] => behind,
+        _ => written,
     }
 }
 

@@ -2,11 +2,23 @@
 //! files and streams.
 #![tactic(auto)]
 
+#[cfg(test)]
+mod leaving;
+#[cfg(test)]
+mod list_rows;
 mod match_command;
 mod piece;
+#[cfg(test)]
+mod rows;
+#[cfg(test)]
+mod running;
 mod scan;
 mod session;
+#[cfg(test)]
+mod setting;
 mod stream_command;
+#[cfg(test)]
+mod tests;
 mod top;
 mod whole_scan;
 

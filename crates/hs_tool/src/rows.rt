@@ -1,0 +1,210 @@
+//! Runs of the program. The answers were worked out by hand from the rules of the forms.
+//!
+//! `hs_rows` says how rows are written. A row has fields, a name and a value each, and behind `=` the status of its last
+//! command, what it writes to `out`, with a `~` where a beginning of that may be written, what it writes to `err`, and the
+//! file `d` that it leaves. A row without `=` gives the fields of the rows behind it that have them not.
+//!
+//! - `run`: the commands, one a line; `p`, `f`, `d`: the files, which the store's first calls put; `-` is none
+//! - `in`: the script; `pieces`: the lengths of its pieces, for each run that is made; `opens all`: it opens 4,096 streams
+//!   first, each by two letters, and is answered
+//! - `room`: how many bytes `out` has room for
+//! - `store`, `source`, `out`, `err`: the call on it that fails, counted from 1; `gone`: the read at which the store lacks
+//!   its files; `fails each`: each call on the store, the source and `out` fails in turn, too
+//!
+//! It is `#[cfg(test)]`.
+
+/// Commands over files.
+pub(crate) const COMMANDS: &[u8] = br"
+# Words that are no command.
+run <hs_tool match p f> p <1:/a/> f <a>
+run <> = 1 <> <fault usage;>
+run <hs_tool> = 1 <> <fault usage;>
+run <hs_tool --help> = 1 <> <fault usage;>
+run <hs_tool match p> = 1 <> <fault usage;>
+run <hs_tool match p f f> = 1 <> <fault usage;>
+run <hs_tool scan d> = 1 <> <fault usage;>
+run <hs_tool match -x f> = 1 <> <fault usage;>
+run <match p f> = 1 <> <fault usage;>
+
+# `match`: what is absent, refused or failed.
+run <hs_tool match p f> p <1:/foo.*bar/> f <fooxyzbarbar>
+p - = 7 <> <fault absent p;>
+p - f - = 7 <> <fault absent p;>
+f - = 7 <> <fault absent f;>
+p <9:/a*/> f - = 2 <> <refused 1 9 6 MatchesEmpty;>
+store 3 = 3 <> <fault store;>
+store 4 = 3 <> <fault store;>
+store 5 = 3 <> <fault store;>
+store 6 = 3 <1 9;1 12;end 12;~> <fault store;>
+store 7 = 0 <1 9;1 12;end 12;>
+out 1 = 3 <> <fault write;>
+out 1 err 1 = 3
+p <9:/a*/> err 1 = 2
+p <9:/a*/> out 1 = 2 <> <refused 1 9 6 MatchesEmpty;>
+p - f - err 1 = 7
+room 6 = 3 <1 9;1 12;end 12;~> <fault write;>
+fails each = 0 <1 9;1 12;end 12;>
+# A file that is absent in the midst of it.
+gone 1 = 7 <> <fault absent p;>
+gone 2 = 7 <> <fault absent p;>
+gone 3 = 7 <> <fault absent f;>
+gone 4 = 7 <1 9;1 12;end 12;~> <fault absent f;>
+gone 5 = 0 <1 9;1 12;end 12;>
+
+# `check`.
+run <hs_tool check p>
+p <> = 0 <accepted 0;>
+p <1:/a/> = 0 <accepted 1;>
+p <# two;1:/a/;;1:/b/;> = 0 <accepted 2;>
+p <1:/a/;9:/b[/> = 2 <> <refused 2 9 1 Syntax 1;>
+p <#;1:/a> = 2 <> <refused - - 16 ListLine 2;>
+= 7 <> <fault absent p;>
+p <1:/a/> store 2 = 3 <> <fault store;>
+p <1:/a/> out 1 = 3 <> <fault write;>
+p <1:/a/> fails each = 0 <accepted 1;>
+
+# `compile`: what is put or not.
+run <hs_tool compile p d> p <16:/foo/> d <old>
+= 0 <compiled 1 38;> <> <HSDB%01%00%01%(3)%00%10%(14)%00%(8)%FF%03%00foo>
+p <> = 0 <compiled 0 10;> <> <HSDB%01%(5)%00>
+p <9:/b[/> = 2 <> <refused 1 9 1 Syntax 1;> <old>
+p - = 7 <> <fault absent p;> <old>
+store 5 = 3 <> <fault store;> <old>
+out 1 = 3 <> <fault write;> <HSDB%01%00%01%(3)%00%10%(14)%00%(8)%FF%03%00foo>
+fails each = 0 <compiled 1 38;>
+# A database that was put, then told and scanned with.
+run <hs_tool compile p d;hs_tool info d;hs_tool scan d f> p <3:/b/;1:/ab/;3:/c/;> f <abcab>
+ = 0 <compiled 3 89;version 1;expressions 3;identifiers 2;1 2;3 2;3 3;1 5;3 5;end 5;>
+
+# `info`.
+run <hs_tool info d>
+d <HSDB%01%00%01%(3)%00%10%(14)%00%(8)%FF%03%00foo> = 0 <version 1;expressions 1;identifiers 1;>
+d <HSDB%01%00%01%(3)%00%10%(14)%00%(8)%FF%03%00foo> fails each = 0 <version 1;expressions 1;identifiers 1;>
+d <HSDB%01%(5)%00> = 0 <version 1;expressions 0;identifiers 0;>
+d <HSDB%01%00%01%(3)%00%10%(4)%00%01%(9)%00%(8)%FF%03%00foo> = 2 <> <refused 1 16 4 UnsupportedFlag 256;>
+d <HSDX> = 4 <> <fault database 3;>
+d <> = 4 <> <fault database 0;>
+= 7 <> <fault absent d;>
+
+# `scan`.
+run <hs_tool scan d f> f <xfoofoo>
+d <HSDB%01%00%01%(3)%00%10%(14)%00%(8)%FF%03%00foo> = 0 <16 4;16 7;end 7;>
+d <HSDB%01%(5)%00> = 0 <end 7;>
+d <HSDB%01%00%01%(3)%00%10%(4)%00%01%(9)%00%(8)%FF%03%00foo> = 2 <> <refused 1 16 4 UnsupportedFlag 256;>
+d <HSDX> = 4 <> <fault database 3;>
+d <> = 4 <> <fault database 0;>
+= 7 <> <fault absent d;>
+f - d <HSDB%01%00%01%(3)%00%10%(14)%00%(8)%FF%03%00foo>
+ = 7 <> <fault absent f;> <HSDB%01%00%01%(3)%00%10%(14)%00%(8)%FF%03%00foo>
+d <HSDB%01%00%01%(3)%00%10%(14)%00%(8)%FF%03%00foo> fails each = 0 <16 4;16 7;end 7;>
+# A file that is absent in the midst of it.
+d <HSDB%01%00%01%(3)%00%10%(14)%00%(8)%FF%03%00foo> gone 2 = 7 <> <fault absent d;>
+d <HSDB%01%00%01%(3)%00%10%(14)%00%(8)%FF%03%00foo> gone 3 = 7 <> <fault absent f;>
+d <HSDB%01%00%01%(3)%00%10%(14)%00%(8)%FF%03%00foo> gone 4 = 7 <16 4;16 7;end 7;~> <fault absent f;>
+d <HSDB%01%00%01%(3)%00%10%(14)%00%(8)%FF%03%00foo> gone 5 = 0 <16 4;16 7;end 7;>
+
+# Matches across pieces of 64 KiB.
+run <hs_tool match p f> p <1:/foo.*bar/;>
+f <%(65530)xfoobar> = 0 <1 65536;end 65536;>
+f <%(65531)xfoobar> = 0 <1 65537;end 65537;>
+f <%(65533)xfooxbar> = 0 <1 65540;end 65540;>
+f <%(65534)xfooxbarx> = 0 <1 65541;end 65542;>
+f <%(131066)xfoobarbar> = 0 <1 131072;1 131075;end 131075;>
+f <foobar%(131072)xbar;> = 0 <1 6;1 131081;end 131082;>
+f <foo;%(131072)xbar> = 0 <end 131079;>
+f <foobar%(131072)xbar;> fails each = 0 <1 6;1 131081;end 131082;>
+f <foobar%(131072)xbar;> gone 4 = 7 <1 6;1 131081;end 131082;~> <fault absent f;>
+
+# Limits.
+run <hs_tool match p f> f <%(513)a>
+p <7:/%(512)a/;> = 0 <7 512;7 513;end 513;>
+p <7:/%(511)ab*/;> = 0 <7 511;7 512;7 513;end 513;>
+p <7:/%(513)a/;> = 2 <> <refused 1 7 9 PositionLimit 513;>
+p <7:/%(16000)a/;> = 2 <> <refused 1 7 9 PositionLimit 16000;>
+p <7:/%(16001)a/;> = 2 <> <refused 1 7 10 LengthLimit;>
+p <7:/%(16001)*/;> = 2 <> <refused 1 7 10 LengthLimit;>
+p <7:/%(129)(/;> = 2 <> <refused 1 7 11 DepthLimit;>
+p <7:/%(129)(a/;> = 2 <> <refused 1 7 11 DepthLimit;>
+p <7:/%(129)(?a/;> = 2 <> <refused 1 7 3 Unsupported option 128;>
+p <7:/%(128)(a/;> = 2 <> <refused 1 7 1 Syntax 129;>
+";
+
+/// Scripts.
+pub(crate) const SCRIPTS: &[u8] = br"
+# `stream` with a database.
+run <hs_tool stream d> d <HSDB%01%00%01%(3)%00%10%(14)%00%(8)%FF%03%00foo>
+ in <open s;write s 2;fo;write t 3;foo;write s 1;o;close s;> pieces 10
+= 0 <ok open s;ok write s 2;no write t unknown;s 16 3;ok write s 1;ok close s;>
+in <> = 0
+fails each = 0 <ok open s;ok write s 2;no write t unknown;s 16 3;ok write s 1;ok close s;>
+in <open s;write s 10;foo!> fails each = 5 <ok open s;s 16 3;fault truncated 2;>
+in <open s;write s 3;foox> fails each = 5 <ok open s;s 16 3;ok write s 3;fault script 2;>
+in <opn s;> = 5 <fault script 1;>
+in <open s;write s 10;foo!> = 5 <ok open s;s 16 3;fault truncated 2;>
+source 1 = 3 <> <fault read;>
+# The first piece has the first line, and some of the second.
+source 2 = 3 <ok open s;> <fault read;>
+out 1 = 3 <> <fault write;>
+d - = 7 <> <fault absent d;>
+d <HSDX> = 4 <> <fault database 3;>
+# 4,096 streams are open at most.
+d <HSDB%01%(5)%00> opens all in <open z;open AA;open __;close -_;open z;open -_;> pieces 1000
+ = 0 <no open z full;no open AA exists;no open __ exists;ok close -_;ok open z;no open -_ full;>
+
+# Scripts over lists: what is written is told when its bytes decide it.
+run <hs_tool compile p d;hs_tool stream d> p <20:/foo/> pieces 1,2,3,7,1000
+p <> = 0 <compiled 0 10;>
+p <2:/a*/V;> in <open s;write s 0;;close s;> = 0 <compiled 1 37;ok open s;ok write s 0;s 2 0;ok close s;>
+p <4:/a$/m;> in <open s;write s 1;a;write s 2;;b;close s>
+ = 0 <compiled 1 37;ok open s;ok write s 1;s 4 1;ok write s 2;ok close s;>
+p <5:/\bfoo\b/;> in <open s;write s 3;foo;close s;open s;write s 3;foo;write s 1;d;close s;>
+ = 0 <compiled 1 42;ok open s;ok write s 3;s 5 3;ok close s;ok open s;ok write s 3;ok write s 1;ok close s;>
+p <17:/a$/;> in <open s;write s 1;a;reset s;write s 1;a;close s;>
+ = 0 <compiled 1 37;ok open s;ok write s 1;s 17 1;ok reset s;ok write s 1;s 17 1;ok close s;>
+in <open s;write s 10;foo!> = 5 <compiled 1 38;ok open s;s 20 3;fault truncated 2;>
+in <open s;open t;write s 2;fo;write t 1;f;write s 1;o;write t 2;oo;write u 3;foo;open s;reset u;close u;>
+ = 0 <compiled 1 38;ok open s;ok open t;ok write s 2;ok write t 1;s 20 3;ok write s 1;t 20 3;ok write t 2;
+ no write u unknown;no open s exists;no reset u unknown;no close u unknown;>
+p <> in <opn s;> = 5 <compiled 0 10;fault script 1;>
+p <> in <open s;write s 9223372036854775807 and a line that is longer than any command could be;>
+ = 5 <compiled 0 10;ok open s;fault script 2;>
+in <open s;write s 3;foox> = 5 <compiled 1 38;ok open s;s 20 3;ok write s 3;fault script 2;>
+in <open s;write s 3;foo;write s 9223372036854775807;foo>
+ = 5 <compiled 1 38;ok open s;s 20 3;ok write s 3;fault truncated 3;>
+p <> in <open s;;close s> = 5 <compiled 0 10;ok open s;fault script 2;>
+in <open s;write s 9223372036854775807;foo> = 5 <compiled 1 38;ok open s;s 20 3;fault truncated 2;>
+in <write s 3;foo;open s;write s 3;;;;;write t 3;foox>
+ = 5 <compiled 1 38;no write s unknown;ok open s;ok write s 3;no write t unknown;fault script 4;>
+in <write s 4;foo> = 5 <compiled 1 38;fault truncated 1;>
+p <> in <open s;write s 1> = 5 <compiled 0 10;ok open s;fault truncated 2;>
+p <> in <open s;write s 0> = 0 <compiled 0 10;ok open s;ok write s 0;>
+p <18:/a/H;>
+ in <open s;open t;write s 2;aa;write t 1;b;write s 1;a;write t 2;aa;reset s;write t 1;a;write s 1;a;close t;
+ close s;>
+ = 0 <compiled 1 36;ok open s;ok open t;s 18 1;ok write s 2;ok write t 1;ok write s 1;t 18 2;ok write t 2;
+ ok reset s;ok write t 1;s 18 1;ok write s 1;ok close t;ok close s;>
+p <1:/foo.*bar/;2:/o$/;>
+ in <open s;write s 1;f;open t;write s 1;o;write t 6;barfoo;write s 1;o;reset t;write s 1;b;write t 3;bar;
+ write s 2;ar;close t;open t;close s;>
+ = 0 <compiled 2 70;ok open s;ok write s 1;ok open t;ok write s 1;ok write t 6;ok write s 1;t 2 6;ok reset t;
+ ok write s 1;ok write t 3;s 1 6;ok write s 2;ok close t;ok open t;ok close s;>
+# A word in four writes.
+p <15:/[0-9]+foo[a-z]*bar/> in <open s;write s 2;1f;write s 3;oox;write s 2;ba;write s 1;r;>
+ = 0 <compiled 1 53;ok open s;ok write s 2;ok write s 3;ok write s 2;s 15 8;ok write s 1;>
+# A stream that was closed.
+p <17:/a$/> in <open s;write s 1;a;close s;close s;>
+ = 0 <compiled 1 37;ok open s;ok write s 1;s 17 1;ok close s;no close s unknown;>
+
+# Scripts that are broken off.
+run <hs_tool compile p d;hs_tool stream d> p <20:/foo/> in <open s;close s;>
+in <open s;> source 1 = 3 <compiled 1 38;> <fault read;>
+pieces 10 source 2 = 3 <compiled 1 38;ok open s;> <fault read;>
+in <open s;write s 9;foofoofoo;> pieces 20 source 2 = 3 <compiled 1 38;ok open s;s 20 3;> <fault read;>
+in <open s;write s 3;foo;> pieces 20 source 2 = 3 <compiled 1 38;ok open s;s 20 3;ok write s 3;> <fault read;>
+out 2 = 3 <compiled 1 38;> <fault write;>
+# The first answer is written before the second line is read.
+pieces 7 out 3 = 3 <compiled 1 38;ok open s;> <fault write;>
+in <opn s;> out 2 = 3 <compiled 1 38;> <fault write;>
+room 27 = 3 <compiled 1 38;ok open s;ok > <fault write;>
+pieces 7 source 2 out 2 = 3 <compiled 1 38;> <fault write;>
+";

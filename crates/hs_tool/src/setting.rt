@@ -1,0 +1,190 @@
+//! What a row says that the program is run on, and what it answers. It is `#[cfg(test)]`.
+ghost use Rattle.std.specs.Prelude.{◌≤◌};
+
+use hs_rows::{number_of, text_of, words_of};
+use std::alloc::Global;
+use std::test::Fail;
+
+/// How many bytes the store, and `out` where no row says less, have room for.
+pub(crate) const ROOM: usize = 262_144;
+
+/// The calls that fail, and the read at which the store lacks its files, counted from 1; 0 is none.
+#[derive(Clone, Copy)]
+pub(crate) struct Faults {
+    pub(crate) store: u64,
+    pub(crate) source: u64,
+    pub(crate) out: u64,
+    pub(crate) err: u64,
+    pub(crate) gone: u64,
+}
+
+impl Faults {
+    /// No call fails.
+    pub(crate) const NONE: Faults = Faults {
+        store: 0,
+        source: 0,
+        out: 0,
+        err: 0,
+        gone: 0,
+    };
+}
+
+/// What the program is run on.
+#[derive(Drop)]
+pub(crate) struct Setting {
+    /// The commands, one a line, over the same store and streams.
+    pub(crate) commands: Vec<u8>,
+    /// The files `p`, `f` and `d`, where they are there. The store's first calls put them.
+    pub(crate) patterns: Option<Vec<u8>>,
+    pub(crate) file: Option<Vec<u8>>,
+    pub(crate) database: Option<Vec<u8>>,
+    /// What standard input holds.
+    pub(crate) script: Vec<u8>,
+    /// The script opens each stream of a name of two letters first.
+    pub(crate) opens_all: bool,
+    /// For each run of the commands the length of the pieces in which the script comes.
+    pub(crate) pieces: Vec<usize>,
+    /// How many bytes `out` has room for.
+    pub(crate) room: usize,
+    /// The calls that fail.
+    pub(crate) faults: Faults,
+    /// Each call on the store, the source and `out` fails in turn, too.
+    pub(crate) fails_each: bool,
+}
+
+/// What the program answers.
+#[derive(Drop)]
+pub(crate) struct Answer {
+    /// The status of the last command.
+    pub(crate) status: u32,
+    /// What was written to `out`.
+    pub(crate) out: Vec<u8>,
+    /// A beginning of that may have been written.
+    pub(crate) is_cut: bool,
+    /// What was written to `err`.
+    pub(crate) err: Vec<u8>,
+    /// The file `d` that is left, where that is asked for.
+    pub(crate) left: Option<Vec<u8>>,
+}
+
+/// The bytes of a word `<text>`.
+fn bytes_of(alloc: Global, word: &[u8]) -> Result<Vec<u8>, Fail> {
+    match word {
+        [b'<', written @ .., b'>'] => Ok(text_of(alloc, written)?.bytes),
+        _ => Err("no text in a row".into()),
+    }
+}
+
+/// The bytes of a file that is there.
+fn file_of(alloc: Global, word: &[u8]) -> Result<Option<Vec<u8>>, Fail> {
+    if word == b"-".as_slice() {
+        return Ok(None);
+    }
+    Ok(Some(bytes_of(alloc, word)?))
+}
+
+/// The number that a word is.
+fn number_in(word: &[u8]) -> Result<u32, Fail> {
+    Ok(number_of(word).ok_or("no number in a row")?)
+}
+
+/// The numbers that a word has between commas.
+fn numbers_in(alloc: Global, word: &[u8]) -> Result<Vec<usize>, Fail> {
+    let mut numbers = Vec::new(alloc);
+    for digits in word.split(|byte| *byte == b',') {
+        numbers.push(number_in(digits)? as usize)?;
+    }
+    Ok(numbers)
+}
+
+impl Setting {
+    /// No command, over no files and an empty script.
+    pub(crate) fn new(alloc: Global) -> Result<Setting, Fail> {
+        Ok(Setting {
+            commands: Vec::new(alloc),
+            patterns: None,
+            file: None,
+            database: None,
+            script: Vec::new(alloc),
+            opens_all: false,
+            pieces: vec![in alloc; ROOM; 1]?,
+            room: ROOM,
+            faults: Faults::NONE,
+            fails_each: false,
+        })
+    }
+
+    /// How many files there are.
+    pub(crate) fn files(&self) -> u64
+        ensures { result ≤ 3 }
+    {
+        u64::from(self.patterns.is_some())
+            + u64::from(self.file.is_some())
+            + u64::from(self.database.is_some())
+    }
+
+    /// Takes the fields of a row.
+    pub(crate) fn take(&mut self, alloc: Global, words: &[Vec<u8>]) -> Result<(), Fail> {
+        for pair in words.chunks(2) {
+            match pair {
+                [name, value] => self.set(alloc, name, value)?,
+                _ => return Err("a field without a value".into()),
+            }
+        }
+        Ok(())
+    }
+
+    /// Takes a field of a row.
+    fn set(&mut self, alloc: Global, name: &[u8], value: &[u8]) -> Result<(), Fail> {
+        match name {
+            b"run" => self.commands = bytes_of(alloc, value)?,
+            b"p" => self.patterns = file_of(alloc, value)?,
+            b"f" => self.file = file_of(alloc, value)?,
+            b"d" => self.database = file_of(alloc, value)?,
+            b"in" => self.script = bytes_of(alloc, value)?,
+            b"opens" => self.opens_all = true,
+            b"pieces" => self.pieces = numbers_in(alloc, value)?,
+            b"room" => self.room = number_in(value)? as usize,
+            b"fails" => self.fails_each = true,
+            _ => self.set_fault(name, u64::from(number_in(value)?))?,
+        }
+        Ok(())
+    }
+
+    /// Takes a field of a row that says which call fails.
+    fn set_fault(&mut self, name: &[u8], call: u64) -> Result<(), Fail> {
+        match name {
+            b"store" => self.faults.store = call,
+            b"source" => self.faults.source = call,
+            b"out" => self.faults.out = call,
+            b"err" => self.faults.err = call,
+            b"gone" => self.faults.gone = call,
+            _ => return Err("no such field".into()),
+        }
+        Ok(())
+    }
+}
+
+/// What a row wants.
+pub(crate) fn wanted_of(alloc: Global, written: &[u8]) -> Result<Answer, Fail> {
+    let words = words_of(alloc, written)?;
+    let status = words.first().ok_or("no status in a row")?;
+    let mut answer = Answer {
+        status: number_in(status)?,
+        out: Vec::new(alloc),
+        is_cut: false,
+        err: Vec::new(alloc),
+        left: None,
+    };
+    if let Some(out) = words.get(1) {
+        answer.is_cut = out.ends_with(b"~>");
+        answer.out = bytes_of(alloc, out)?;
+    }
+    if let Some(err) = words.get(2) {
+        answer.err = bytes_of(alloc, err)?;
+    }
+    if let Some(left) = words.get(3) {
+        answer.left = Some(bytes_of(alloc, left)?);
+    }
+    Ok(answer)
+}
