@@ -1,16 +1,13 @@
 //! `Limex` beside its twin `Plain`, over automata that no expression has: the same bits behind each byte, and the same
 //! answers. It is `#[cfg(test)]`.
-ghost use Rattle.std.specs.Prelude.{◌≡◌, ◌≤◌, ◌<◌, ◌^◌, length, IfOk, vec_len};
-ghost use Rattle.hs_engine.specs.RowSizes.{square_count};
+ghost use Rattle.std.specs.Prelude.{◌≤◌, ◌<◌, ◌^◌, length};
 
+use crate::cases::{Verdict, ensure};
 use crate::spans::run;
 use hs_base::{Assertion, ByteSet, Mask, Next, NextSet};
 use hs_engine::{Automaton, Engine, FollowRows};
 use hs_limex::{Limex, Plain};
-use std::alloc::{AllocError, Global};
-use std::marker::Brand;
-use std::process::Abort;
-use std::sync::ledger::Blank;
+use std::alloc::Global;
 use std::test::Fail;
 
 /// The mask of a number: of an assertion, of all contexts or of none.
@@ -41,120 +38,70 @@ fn set_of(number: usize) -> ByteSet {
     }
 }
 
-/// So many masks, from that number on.
-fn masks(alloc: Global, size: usize, first: usize) -> Result<Vec<Mask>, AllocError>
-    requires size { size ≤ 512 }
-    requires first { first ≤ 512 }
-    ensures { IfOk result (λ masks. vec_len masks ≡ size) }
-{
-    let mut masks = vec![in alloc; Mask::empty(); size]?;
-    for position in 0..size {
-        masks[position] = mask_of(first + 3 * position);
+/// Lets the one position follow the other in the contexts of that square, where there are such.
+fn link(rows: &mut FollowRows, square: usize, from: usize, to: usize) {
+    if square < rows.square_count() && from < rows.size() && to < rows.size() {
+        rows.insert(square, from, to);
     }
-    Ok(masks)
 }
 
-/// So many sets, from that number on.
-fn sets(alloc: Global, size: usize, first: usize) -> Result<Vec<ByteSet>, AllocError>
-    requires size { size ≤ 512 }
-    requires first { first ≤ 512 }
-    ensures { IfOk result (λ sets. vec_len sets ≡ size) }
-{
-    let mut sets = vec![in alloc; ByteSet::EMPTY; size]?;
+/// Lets each position be followed by the next one, and most of them by the one that far on, round the end.
+fn fill_square(rows: &mut FollowRows, square: usize, step: usize) {
+    let size = rows.size();
     for position in 0..size {
-        sets[position] = set_of(first + position);
+        if position % 3 != square % 3 {
+            link(rows, square, position, position.wrapping_add(step) % size);
+        }
+        link(rows, square, position, (position + 1) % size);
     }
-    Ok(sets)
 }
 
-/// Rows in which each position is followed by the next one and by the one so many places on, round the end.
-fn follows(
-    alloc: Global,
-    size: usize,
-    distance: usize,
-    by_context: bool,
-) -> Result<FollowRows, AllocError>
-    requires size { size ≤ 512 }
-    requires distance { distance ≤ 512 }
-    ensures { IfOk result (λ rows. rows.size ≡ size) }
+/// What follows what, in the contexts of each square.
+fn follows(alloc: Global, size: usize, step: usize, by_context: bool) -> Result<FollowRows, Fail>
+    requires { size ≤ 512 }
 {
     let mut rows = FollowRows::new(alloc, size, by_context)?;
     for square in 0..rows.square_count() {
-        fill_square(&mut rows, square, size, distance);
+        fill_square(&mut rows, square, step);
     }
     Ok(rows)
 }
 
-/// Fills the square of that number, in which not every position is followed.
-fn fill_square(rows: &mut FollowRows, square: usize, size: usize, distance: usize)
-    requires size { rows.old.size ≡ size }
-    requires few { size ≤ 512 }
-    requires distance { distance ≤ 512 }
-    requires square { square < square_count rows.old.by_context }
-    ensures size { rows.new.size ≡ rows.old.size }
-    ensures by_context { rows.new.by_context ≡ rows.old.by_context }
+/// An automaton of so many positions, at most 512.
+fn automaton(alloc: Global, size: usize, step: usize, by_context: bool) -> Result<Automaton, Fail>
+    requires { size ≤ 512 }
 {
+    let mut sets = vec![in alloc; ByteSet::EMPTY; size]?;
+    let mut enters = vec![in alloc; Mask::empty(); size]?;
+    let mut accepts = vec![in alloc; Mask::empty(); size]?;
     for position in 0..size {
-        if position % 3 != square % 3 {
-            rows.insert(square, position, (position + distance) % size);
-        }
-        rows.insert(square, position, (position + 1) % size);
+        sets[position] = set_of(position.wrapping_add(step));
+        enters[position] = mask_of(1 + 3 * position);
+        accepts[position] = mask_of(step.wrapping_add(3 * position));
     }
+    let follows = follows(alloc, size, step, by_context)?;
+    if follows.size() != size {
+        return Err(Fail::new("rows of another size"));
+    }
+    let null = Mask::empty();
+    Ok(Automaton::new(sets, enters, accepts, follows, null, by_context))
 }
 
-/// An automaton of so many positions.
-fn automaton(
-    alloc: Global,
-    size: usize,
-    distance: usize,
-    by_context: bool,
-) -> Result<Automaton, AllocError>
-    requires size { size ≤ 512 }
-    requires distance { distance ≤ 512 }
-{
-    let sets = sets(alloc, size, distance)?;
-    let enters = masks(alloc, size, 1)?;
-    let accepts = masks(alloc, size, distance)?;
-    let follows = follows(alloc, size, distance, by_context)?;
-    Ok(Automaton::new(sets, enters, accepts, follows, Mask::empty(), by_context))
-}
-
-/// Compares the regions and the answers behind the text.
-fn compare(
-    rt: &impl Abort,
-    alloc: Global,
-    plain: &Plain,
-    limex: &Limex,
-    text: &[u8],
-) -> Result<(), Fail>
-    requires { length text.now < 2 ^ 63 }
-{
-    let mut wanted = vec![in alloc; 0xffu8; plain.size()]?;
-    let mut found = vec![in alloc; 0xffu8; limex.size()]?;
-    let word = NextSet::of(Next::Word);
-    let left = run::<Plain, Brand>(plain, &mut wanted, text, u64::MAX, word, Blank::new(1));
-    let told = run::<Limex, Brand>(limex, &mut found, text, u64::MAX, word, Blank::new(1));
-    assert_eq!(rt; found, wanted, "{text:?}");
-    assert_eq!(rt; told, left, "{text:?}");
-    assert_eq!(rt; limex.at_rest(&found), plain.at_rest(&wanted), "{text:?}");
-    Ok(())
-}
-
-/// How many positions, how far on a position is followed, and whether that goes by the context.
-const AUTOMATA: [(usize, usize, bool); 13] = [
-    (0, 1, false),
-    (1, 1, true),
-    (7, 2, false),
-    (8, 7, true),
-    (9, 8, false),
-    (63, 1, true),
-    (64, 7, false),
-    (65, 6, true),
-    (65, 63, false),
-    (128, 8, true),
-    (300, 4, false),
-    (512, 7, true),
-    (512, 200, false),
+/// How many positions, and how far on a position is followed.
+const AUTOMATA: [(usize, usize); 13] = [
+    (0, 1),
+    (1, 1),
+    (7, 2),
+    (8, 7),
+    (9, 8),
+    (63, 1),
+    (64, 7),
+    (65, 6),
+    (65, 63),
+    (128, 8),
+    (300, 4),
+    (512, 7),
+    (512, 200),
 ];
 
 const TEXTS: [&str; 5] = [
@@ -165,26 +112,41 @@ const TEXTS: [&str; 5] = [
     "aaaaaaaaaaaaaaaaaaaaaaaa",
 ];
 
-/// Compares the engines over each text.
-fn judge_automaton(rt: &impl Abort, alloc: Global, automaton: &Automaton) -> Result<(), Fail> {
+/// Compares the regions and the answers behind the text.
+fn compare(alloc: Global, plain: &Plain, limex: &Limex, text: &[u8]) -> Verdict
+    requires { length text.now < 2 ^ 63 }
+{
+    let word = NextSet::of(Next::Word);
+    let (wanted, region) = run(alloc, plain, text, u64::MAX, word)?;
+    let (found, behind) = run(alloc, limex, text, u64::MAX, word)?;
+    let rests = behind.len() == limex.size()
+        && region.len() == plain.size()
+        && limex.at_rest(&behind) == plain.at_rest(&region);
+    let what = format_args!("{behind:?} in place of {region:?} behind {text:?}");
+    ensure(rests && found == wanted && behind == region, what)
+}
+
+/// Compares the engines of an automaton over each text.
+fn judge_automaton(alloc: Global, automaton: &Automaton) -> Verdict {
     let plain = Plain::build(alloc, automaton)?;
     let limex = Limex::build(alloc, automaton)?;
     for text in TEXTS {
-        let text = text.as_bytes();
         for cut in 0..=text.len() {
-            compare(rt, alloc, &plain, &limex, &text[..cut])?;
+            compare(alloc, &plain, &limex, &text.as_bytes()[..cut])?;
         }
     }
     Ok(())
 }
 
-/// Compares the engines of each automaton.
-pub(crate) fn judge_automata(rt: &impl Abort, alloc: Global) -> Result<(), Fail> {
-    for (size, distance, by_context) in AUTOMATA {
-        assert!(rt; size <= 512);
-        assert!(rt; distance <= 512);
-        let automaton = automaton(alloc, size, distance, by_context)?;
-        judge_automaton(rt, alloc, &automaton)?;
+/// Compares the engines of each automaton, whose rows go by the context and don't.
+pub(crate) fn judge_automata(alloc: Global) -> Verdict {
+    for (size, step) in AUTOMATA {
+        if size > 512 {
+            return Err(Fail::new("too many positions"));
+        }
+        for by_context in [false, true] {
+            judge_automaton(alloc, &automaton(alloc, size, step, by_context)?)?;
+        }
     }
     Ok(())
 }

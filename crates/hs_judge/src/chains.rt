@@ -1,6 +1,7 @@
 //! The chains of an expression, as text and as an expression. It is `#[cfg(test)]`.
 
-use hs_base::LitByte;
+use crate::cases::{Verdict, patterns_of};
+use hs_base::{Entry, LitByte};
 use hs_expr::Expr;
 use hs_pieces::{Chain, Piece, split};
 use hs_plain::Pattern;
@@ -8,7 +9,7 @@ use std::alloc::Global;
 use std::test::Fail;
 
 /// Appends a literal, with a capital where both cases count.
-fn write_literal(text: &mut String, bytes: &[LitByte]) -> Result<(), Fail> {
+fn write_literal(text: &mut String, bytes: &[LitByte]) -> Verdict {
     text.push('"')?;
     for literal in bytes {
         let byte = if literal.both_cases {
@@ -22,7 +23,7 @@ fn write_literal(text: &mut String, bytes: &[LitByte]) -> Result<(), Fail> {
     Ok(())
 }
 
-fn write_pieces(text: &mut String, pieces: &[Piece]) -> Result<(), Fail> {
+fn write_pieces(text: &mut String, pieces: &[Piece]) -> Verdict {
     for piece in pieces {
         match piece {
             Piece::Lit(bytes) => write_literal(text, bytes)?,
@@ -76,10 +77,7 @@ fn meaning_of_chain(alloc: Global, chain: &Chain) -> Result<Expr, Fail> {
 
 /// Whether the chains of the expression are one of one piece.
 pub(crate) fn is_one_piece(alloc: Global, expr: &Expr) -> Result<bool, Fail> {
-    Ok(match split(alloc, expr)?.as_slice() {
-        [chain] => chain.0.len() == 1,
-        _ => false,
-    })
+    Ok(matches!(split(alloc, expr)?.as_slice(), [chain] if chain.0.len() == 1))
 }
 
 /// The expression that the chains of an expression stand for together.
@@ -91,17 +89,11 @@ pub(crate) fn together(alloc: Global, expr: &Expr) -> Result<Expr, Fail> {
     Ok(Expr::Alt(alternatives))
 }
 
-/// The patterns with the chains of their expressions in place of these.
-pub(crate) fn in_chains(alloc: Global, patterns: &[Pattern]) -> Result<Vec<Pattern>, Fail> {
-    let mut all = Vec::new(alloc);
-    for pattern in patterns {
-        all.push(Pattern {
-            id: pattern.id,
-            single: pattern.single,
-            least: pattern.least,
-            greatest: pattern.greatest,
-            expr: together(alloc, &pattern.expr)?,
-        })?;
+/// The patterns of a list with the chains of their expressions in place of these.
+pub(crate) fn in_chains(alloc: Global, entries: &[Entry]) -> Result<Vec<Pattern>, Fail> {
+    let mut patterns = patterns_of(alloc, entries)?;
+    for pattern in patterns.iter_mut() {
+        pattern.expr = together(alloc, &pattern.expr)?;
     }
-    Ok(all)
+    Ok(patterns)
 }

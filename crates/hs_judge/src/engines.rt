@@ -1,15 +1,19 @@
-//! The engines that are judged. A further one is an `impl` here and a line in `judging`. It is `#[cfg(test)]`.
+//! The engines that are judged. A further one is an `impl` here and a line in `ask_each`. It is `#[cfg(test)]`.
 ghost use Rattle.std.specs.Prelude.{◌≡◌, ◌≤◌, ◌<◌, false, IfOk};
 ghost use Rattle.hs_base.specs.EndAssertions.{has_embedded_end};
 ghost use Rattle.hs_base.specs.WrittenOut.{IsPlain, count, write_out};
 ghost use Rattle.hs_expr.specs.Meaning.{tree_of};
 
+use crate::cases::{List, Verdict};
+use crate::running::judge_reports;
+use crate::spans::{Spans, judge_leaving, judge_spans};
 use hs_base::{ByteSet, Mask};
 use hs_engine::{Automaton, Engine};
 use hs_expr::{Expr, has_embedded_end, is_plain, positions};
 use hs_glushkov::build;
 use hs_limex::{Limex, Plain};
 use hs_repeat::{First, Last, Ring};
+use hs_rows::Text;
 use std::alloc::Global;
 use std::test::Fail;
 
@@ -17,6 +21,35 @@ use std::test::Fail;
 pub(crate) trait Judged: Engine + Drop + Sized {
     /// The engine of the expression, and where that matches no byte, if it runs such expressions.
     fn of(alloc: Global, expr: &Expr) -> Result<Option<(Self, Mask)>, Fail>;
+}
+
+/// What each engine is asked.
+#[derive(Clone, Copy)]
+pub(crate) enum Question<'a, 'b> {
+    /// The reports of a list.
+    Reports(&'a List),
+    /// Where an expression ends.
+    Spans(&'a Spans),
+    /// Whether an expression ends behind one text.
+    Leaving(&'a Expr, &'b Text, bool),
+}
+
+/// Asks each engine.
+pub(crate) fn ask_each(alloc: Global, question: Question) -> Verdict {
+    ask::<Plain>(alloc, question)?;
+    ask::<Limex>(alloc, question)?;
+    ask::<First>(alloc, question)?;
+    ask::<Last>(alloc, question)?;
+    ask::<Ring>(alloc, question)
+}
+
+/// Asks an engine, which is to answer what is wanted.
+fn ask<E: Judged>(alloc: Global, question: Question) -> Verdict {
+    match question {
+        Question::Reports(list) => judge_reports::<E>(alloc, list),
+        Question::Spans(spans) => judge_spans::<E>(alloc, spans),
+        Question::Leaving(expr, text, wanted) => judge_leaving::<E>(alloc, expr, text, wanted),
+    }
 }
 
 /// The automaton of an expression that `build` takes.

@@ -1,320 +1,185 @@
 //! A row through all that is judged. It is `#[cfg(test)]`.
 
-use crate::answers::{Answer, answer_of, patterns_of, written};
+use crate::cases::{Answer, List, Verdict, ensure, written};
 use crate::chains;
-use crate::engines::automaton_of;
-use crate::reading::{Stream, first_row, halves, lines_of, numbered, streams_of, words_of};
-use crate::running::judge_reports;
-use crate::spans::{all_lefts, judge_leaving, judge_spans};
+use crate::engines::{Question, ask_each, automaton_of};
+use crate::reading::{lines_of, numbered, streams_of};
+use crate::spans::Spans;
 use crate::streaming::judge_streams;
-use hs_base::Entry;
 use hs_compile::{CompileFault, compile};
 use hs_expr::Expr;
-use hs_limex::{Limex, Plain};
-use hs_parse::parse;
-use hs_plain::Pattern;
-use hs_repeat::{First, Last, Ring};
+use hs_rows::{Row, Text, rows_of};
 use hs_text::{LINE_LEN, read_list, refusal_line};
 use std::alloc::Global;
-use std::process::Abort;
 use std::test::Fail;
 
-/// The reports of each stream.
-fn answers_of(
-    alloc: Global,
-    patterns: &[Pattern],
-    streams: &[Stream],
-) -> Result<Vec<Answer>, Fail> {
-    let mut answers = Vec::new(alloc);
-    for stream in streams {
-        answers.push(answer_of(alloc, patterns, &stream.bytes)?)?;
-    }
-    Ok(answers)
-}
-
-/// Compares what is wanted with the first stream's reports.
-fn judge_wanted(
-    rt: &impl Abort,
-    alloc: Global,
-    streams: &[Stream],
-    answers: &[Answer],
-    wanted: &[u8],
-) -> Result<(), Fail> {
-    for (stream, answer) in streams.iter().zip(answers) {
-        let found = written(alloc, stream, answer)?;
-        assert!(rt; found.as_bytes() == wanted, "told {found}");
-    }
-    Ok(())
-}
-
 /// Compares the reports of a list's chains with those of the list.
-fn judge_chains(
-    rt: &impl Abort,
-    alloc: Global,
-    patterns: &[Pattern],
-    streams: &[Stream],
-    answers: &[Answer],
-) -> Result<(), Fail> {
-    let split = chains::in_chains(alloc, patterns)?;
-    for (stream, wanted) in streams.iter().zip(answers) {
-        let found = answer_of(alloc, &split, &stream.bytes)?;
-        assert_eq!(rt; found.told, wanted.told, "{:?}", stream.bytes);
-        assert_eq!(rt; found.last, wanted.last, "{:?}", stream.bytes);
+fn judge_chains(alloc: Global, list: &List) -> Verdict {
+    let split = chains::in_chains(alloc, &list.entries)?;
+    for case in &list.cases {
+        let found = Answer::of(alloc, &split, &case.stream.bytes)?;
+        case.same("by chains", &found.told, &case.wanted.told)?;
+        case.same("by chains, with the end", &found.last, &case.wanted.last)?;
     }
     Ok(())
 }
 
-/// Compares each engine that takes the list.
-fn judge_engines(
-    rt: &impl Abort,
-    alloc: Global,
-    patterns: &[Pattern],
-    streams: &[Stream],
-    answers: &[Answer],
-) -> Result<(), Fail> {
-    judge_reports::<Plain>(rt, alloc, patterns, streams, answers)?;
-    judge_reports::<Limex>(rt, alloc, patterns, streams, answers)?;
-    judge_reports::<First>(rt, alloc, patterns, streams, answers)?;
-    judge_reports::<Last>(rt, alloc, patterns, streams, answers)?;
-    judge_reports::<Ring>(rt, alloc, patterns, streams, answers)
+/// Judges a list by everything that reports; one that is mixed isn't compiled.
+fn judge_list(alloc: Global, list: &List, is_mixed: bool) -> Verdict {
+    ask_each(alloc, Question::Reports(list))?;
+    judge_chains(alloc, list)?;
+    if is_mixed {
+        return Ok(());
+    }
+    judge_streams(alloc, list)
 }
 
-/// Compares each engine that takes the expression, entered anywhere.
-pub(crate) fn judge_expression(
-    rt: &impl Abort,
-    alloc: Global,
-    name: &str,
-    expr: &Expr,
-    text: &[u8],
-) -> Result<(), Fail> {
-    let lefts = all_lefts(alloc, expr, text)?;
-    judge_spans::<Plain>(rt, alloc, name, expr, text, &lefts)?;
-    judge_spans::<Limex>(rt, alloc, name, expr, text, &lefts)?;
-    judge_spans::<First>(rt, alloc, name, expr, text, &lefts)?;
-    judge_spans::<Last>(rt, alloc, name, expr, text, &lefts)?;
-    judge_spans::<Ring>(rt, alloc, name, expr, text, &lefts)?;
+/// Judges an expression that is entered anywhere.
+pub(crate) fn judge_expression(alloc: Global, name: &str, expr: &Expr, text: &[u8]) -> Verdict {
+    let spans = Spans::of(alloc, name, expr, text)?;
+    ask_each(alloc, Question::Spans(&spans))?;
     if chains::is_one_piece(alloc, expr)? {
         return Ok(());
     }
-    let split = all_lefts(alloc, &chains::together(alloc, expr)?, text)?;
-    assert!(rt; split == lefts, "{name}: the chains in {text:?}");
-    Ok(())
-}
-
-/// Judges a list of a pattern file over the streams: it has these reports, if some are wanted.
-fn judge_list(
-    rt: &impl Abort,
-    alloc: Global,
-    list: &[u8],
-    is_mixed: bool,
-    streams: &[Stream],
-    wanted: Option<&[u8]>,
-) -> Result<(), Fail> {
-    let entries = read_list(alloc, list)?;
-    let patterns = patterns_of(alloc, &entries)?;
-    let answers = answers_of(alloc, &patterns, streams)?;
-    if let Some(wanted) = wanted {
-        judge_wanted(rt, alloc, streams, &answers, wanted)?;
-    }
-    judge_engines(rt, alloc, &patterns, streams, &answers)?;
-    judge_chains(rt, alloc, &patterns, streams, &answers)?;
-    if !is_mixed {
-        judge_streams(rt, alloc, &entries, streams, &answers)?;
-    }
-    Ok(())
-}
-
-/// The expression of a word without an identifier.
-fn expression_of(alloc: Global, word: &[u8]) -> Result<Expr, Fail> {
-    let mut line = Vec::from_slice(alloc, b"1:")?;
-    line.extend_from_slice(word)?;
-    let entries = read_list(alloc, &line)?;
-    let entry = entries.first().ok_or("no expression")?;
-    Ok(parse(alloc, &entry.text, entry.flags)?)
+    let split = Spans::of(alloc, name, &chains::together(alloc, expr)?, text)?;
+    let what = format_args!("the chains in {text:?}, of {name}");
+    ensure(split.lefts == spans.lefts, what)
 }
 
 /// Judges an expression as a list of its own, and entered anywhere.
-fn judge_alone(
-    rt: &impl Abort,
-    alloc: Global,
-    word: &[u8],
-    streams: &[Stream],
-) -> Result<(), Fail> {
-    let mut line = Vec::from_slice(alloc, b"1:")?;
-    line.extend_from_slice(word)?;
-    line.push(b'V')?;
-    judge_list(rt, alloc, &line, false, streams, None)?;
-    let expr = expression_of(alloc, word)?;
-    let name = format!(in alloc; "{word:?}")?;
-    for stream in streams {
-        judge_expression(rt, alloc, &name, &expr, &stream.bytes)?;
+fn judge_alone(alloc: Global, word: &[Vec<u8>], streams: &[Text]) -> Verdict {
+    let list = List::of(alloc, &numbered(alloc, word, 0, b"V")?, streams)?;
+    judge_list(alloc, &list, false)?;
+    for pattern in &list.patterns {
+        for case in &list.cases {
+            judge_expression(alloc, &case.name, &pattern.expr, &case.stream.bytes)?;
+        }
     }
     Ok(())
 }
 
 /// Judges each expression of the row alone.
-fn judge_each(
-    rt: &impl Abort,
-    alloc: Global,
-    words: &[Vec<u8>],
-    streams: &[Stream],
-) -> Result<(), Fail> {
-    for word in words {
-        if word.first() == Some(&b'/') {
-            judge_alone(rt, alloc, word, streams)?;
+fn judge_each(alloc: Global, words: &[Vec<u8>], streams: &[Text]) -> Verdict {
+    for at in 0..words.len() {
+        if words[at].first() == Some(&b'/') {
+            judge_alone(alloc, &words[at..at + 1], streams)?;
         }
     }
     Ok(())
 }
 
 /// Judges the expressions of the row as one list, whose identifiers step by that number, with and without `H`.
-fn judge_steps(
-    rt: &impl Abort,
-    alloc: Global,
-    words: &[Vec<u8>],
-    step: u32,
-    streams: &[Stream],
-) -> Result<(), Fail> {
+fn judge_steps(alloc: Global, words: &[Vec<u8>], step: u32, streams: &[Text]) -> Verdict {
     for flag in [b"".as_slice(), b"H".as_slice()] {
-        let list = numbered(alloc, words, step, flag)?;
-        judge_list(rt, alloc, &list, false, streams, None)?;
+        let list = List::of(alloc, &numbered(alloc, words, step, flag)?, streams)?;
+        judge_list(alloc, &list, false)?;
+    }
+    Ok(())
+}
+
+/// The first expression without an identifier.
+fn expression_of(alloc: Global, words: &[Vec<u8>]) -> Result<Expr, Fail> {
+    let list = List::of(alloc, &numbered(alloc, words, 1, b"V")?, &[])?;
+    let pattern = list.patterns.first().ok_or("no expression")?;
+    Ok(pattern.expr.copy(alloc)?)
+}
+
+/// Judges whether each engine that takes the row's expression ends behind its streams, as it is wanted.
+fn judge_leaves(alloc: Global, words: &[Vec<u8>], streams: &[Text], wanted: bool) -> Verdict {
+    let expr = expression_of(alloc, words)?;
+    for stream in streams {
+        ask_each(alloc, Question::Leaving(&expr, stream, wanted))?;
     }
     Ok(())
 }
 
 /// The line of a list's refusal, behind a blank, or nothing where it isn't refused.
-fn refusal_of(alloc: Global, list: &[u8]) -> Result<Vec<u8>, Fail> {
-    let mut text = Vec::new(alloc);
-    let entries = read_list(alloc, list)?;
+fn refusal_of(alloc: Global, lines: &[u8]) -> Result<String, Fail> {
+    let mut text = String::new(alloc);
+    let entries = read_list(alloc, lines)?;
     if let Err(CompileFault::Refused { entry, id, refusal }) = compile(alloc, &entries) {
         let mut buf = [0; LINE_LEN];
         let len = refusal_line(Some((entry, id)), &refusal, &mut buf);
-        text.push(b' ')?;
-        text.extend_from_slice(&buf[..len - 1])?;
+        text.push(' ')?;
+        text.push_str(std::str::from_utf8(&buf[..len - 1])?)?;
     }
     Ok(text)
 }
 
-/// What is asked of an expression alone.
-#[derive(Clone, Copy)]
-enum Asked {
-    Chains,
-    Positions,
-    Tables,
-}
-
-/// Judges what is asked of the row's expression.
-fn judge_asked(
-    rt: &impl Abort,
-    alloc: Global,
-    words: &[Vec<u8>],
-    asked: Asked,
-    wanted: &[u8],
-) -> Result<(), Fail> {
-    for word in words {
-        if word.first() == Some(&b'/') {
-            let expr = expression_of(alloc, word)?;
-            let found = answer_to(alloc, &expr, asked)?;
-            assert!(rt; found.as_bytes() == wanted, "{word:?} gives {found}");
-        }
-    }
-    Ok(())
-}
-
-/// The answer to what is asked.
-fn answer_to(alloc: Global, expr: &Expr, asked: Asked) -> Result<String, Fail> {
-    if let Asked::Chains = asked {
-        return chains::written(alloc, expr);
-    }
-    let automaton = automaton_of(alloc, expr)?.ok_or("no automaton")?;
-    let number = match asked {
-        Asked::Positions => automaton.size(),
-        Asked::Chains | Asked::Tables => automaton.tables_len(),
-    };
-    Ok(format!(in alloc; " {number}")?)
-}
-
-/// Judges whether each engine that takes the row's expression ends behind its stream, entered where that is cut, or else
-/// before the first byte.
-fn judge_left(
-    rt: &impl Abort,
-    alloc: Global,
-    words: &[Vec<u8>],
-    streams: &[Stream],
-    wanted: &[u8],
-) -> Result<(), Fail> {
-    let word = words.get(1).ok_or("no expression")?;
-    let expr = expression_of(alloc, word)?;
-    let name = format!(in alloc; "{word:?}")?;
-    let is_wanted = wanted == b" yes".as_slice();
-    for stream in streams {
-        let text = stream.bytes.as_slice();
-        let entries = if stream.cuts == 0 {
-            1
-        } else {
-            stream.cuts.wrapping_mul(2)
-        };
-        judge_leaving::<Plain>(rt, alloc, &name, &expr, text, entries, is_wanted)?;
-        judge_leaving::<Limex>(rt, alloc, &name, &expr, text, entries, is_wanted)?;
-        judge_leaving::<First>(rt, alloc, &name, &expr, text, entries, is_wanted)?;
-        judge_leaving::<Last>(rt, alloc, &name, &expr, text, entries, is_wanted)?;
-        judge_leaving::<Ring>(rt, alloc, &name, &expr, text, entries, is_wanted)?;
-    }
-    Ok(())
-}
-
-/// Judges a row, over the streams of a row before it if it has none of its own.
-fn judge_row(
-    rt: &impl Abort,
-    alloc: Global,
-    words: &[Vec<u8>],
-    streams: &[Stream],
-    wanted: Option<&[u8]>,
-) -> Result<(), Fail> {
-    let head = words.first().ok_or("a row without words")?;
-    match (head.as_slice(), wanted) {
-        (b"each", _) => judge_each(rt, alloc, words, streams),
-        (b"same", _) => judge_steps(rt, alloc, words, 0, streams),
-        (b"vary", _) => {
-            judge_steps(rt, alloc, words, 1, streams)?;
-            judge_steps(rt, alloc, words, u32::MAX, streams)
-        }
-        (b"leaves", Some(wanted)) => judge_left(rt, alloc, words, streams, wanted),
-        (b"split", Some(wanted)) => judge_asked(rt, alloc, words, Asked::Chains, wanted),
-        (b"positions", Some(wanted)) => judge_asked(rt, alloc, words, Asked::Positions, wanted),
-        (b"tables", Some(wanted)) => judge_asked(rt, alloc, words, Asked::Tables, wanted),
-        (b"refused", Some(wanted)) => {
-            let found = refusal_of(alloc, &lines_of(alloc, words)?)?;
-            assert!(rt; found.as_slice() == wanted, "{words:?}");
-            Ok(())
-        }
+/// What is found of the row's list or expression, as a row has it.
+fn found(alloc: Global, head: &[u8], words: &[Vec<u8>]) -> Result<String, Fail> {
+    match head {
+        b"refused" => refusal_of(alloc, &lines_of(alloc, words)?),
+        b"split" => chains::written(alloc, &expression_of(alloc, words)?),
         _ => {
-            let list = lines_of(alloc, words)?;
-            let is_mixed = head.as_slice() == b"mixed".as_slice();
-            judge_list(rt, alloc, &list, is_mixed, streams, wanted)
+            let automaton = automaton_of(alloc, &expression_of(alloc, words)?)?;
+            let automaton = automaton.ok_or("no automaton")?;
+            let number = if head == b"positions".as_slice() {
+                automaton.size()
+            } else {
+                automaton.tables_len()
+            };
+            Ok(format!(in alloc; " {number}")?)
         }
     }
 }
 
-/// Judges the rows of a table.
-pub(crate) fn judge(rt: &impl Abort, alloc: Global, table: &[u8]) -> Result<(), Fail> {
-    let mut rest = table;
-    let mut shared = Vec::new(alloc);
-    for _row in 0..table.len() {
-        let (row, behind) = first_row(rest);
-        rest = behind;
-        if row.is_empty() || row[0] == b'#' {
-            continue;
+/// Fails where the text isn't the one that is wanted.
+fn same(found: &str, wanted: &[u8], words: &[Vec<u8>]) -> Verdict {
+    let what = format_args!("{found} isn't wanted of {words:?}");
+    ensure(found.as_bytes() == wanted, what)
+}
+
+/// Judges a list with identifiers: it has these reports, if some are wanted.
+fn judge_written(
+    alloc: Global,
+    words: &[Vec<u8>],
+    is_mixed: bool,
+    streams: &[Text],
+    wanted: Option<&[u8]>,
+) -> Verdict {
+    let list = List::of(alloc, &lines_of(alloc, words)?, streams)?;
+    for case in &list.cases {
+        if let Some(wanted) = wanted {
+            same(&written(alloc, case)?, wanted, words)?;
         }
-        let (front, wanted) = halves(row);
-        let words = words_of(alloc, front)?;
-        let streams = streams_of(alloc, &words)?;
-        if streams.len() == words.len() && wanted.is_none() {
+    }
+    judge_list(alloc, &list, is_mixed)
+}
+
+/// Judges a row over the streams.
+fn judge_row(alloc: Global, row: &Row, streams: &[Text]) -> Verdict {
+    let words = row.words.as_slice();
+    let head = words.first().ok_or("a row without words")?.as_slice();
+    let wanted = row.wanted.as_deref();
+    match (head, wanted) {
+        (b"each", _) => judge_each(alloc, words, streams),
+        (b"same", _) => judge_steps(alloc, words, 0, streams),
+        (b"vary", _) => {
+            judge_steps(alloc, words, 1, streams)?;
+            judge_steps(alloc, words, u32::MAX, streams)
+        }
+        (b"leaves", Some(wanted)) => {
+            judge_leaves(alloc, words, streams, wanted == b" yes".as_slice())
+        }
+        (b"refused" | b"split" | b"positions" | b"tables", Some(wanted)) => {
+            same(&found(alloc, head, words)?, wanted, words)
+        }
+        _ => judge_written(alloc, words, head == b"mixed".as_slice(), streams, wanted),
+    }
+}
+
+/// Judges the rows of a table, each over its own streams, or else those of the last row that is streams alone.
+pub(crate) fn judge(alloc: Global, table: &[u8]) -> Verdict {
+    let mut shared = Vec::new(alloc);
+    for row in &rows_of(alloc, table)? {
+        let streams = streams_of(alloc, &row.words)?;
+        if streams.len() == row.words.len() && row.wanted.is_none() {
             shared = streams;
         } else if streams.is_empty() {
-            judge_row(rt, alloc, &words, &shared, wanted)?;
+            judge_row(alloc, row, &shared)?;
         } else {
-            judge_row(rt, alloc, &words, &streams, wanted)?;
+            judge_row(alloc, row, &streams)?;
         }
     }
     Ok(())

@@ -4,13 +4,11 @@
 #![tactic(auto)]
 
 #[cfg(test)]
-mod answers;
-#[cfg(test)]
 mod automata;
 #[cfg(test)]
-mod chains;
+mod cases;
 #[cfg(test)]
-mod cuts;
+mod chains;
 #[cfg(test)]
 mod engines;
 #[cfg(test)]
@@ -21,6 +19,8 @@ mod reading;
 mod rows;
 #[cfg(test)]
 mod running;
+#[cfg(test)]
+mod scanning;
 #[cfg(test)]
 mod spans;
 #[cfg(test)]

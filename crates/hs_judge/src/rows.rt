@@ -1,9 +1,7 @@
-//! The rows. A row is a line, with each further line that begins with a blank; lines that begin with `#` aren't read.
-//! Its words stand apart by blanks:
+//! The rows, written as `hs_rows` reads them. Their words are:
 //!
 //! - `ID:/expression/flags{parameters}`, as in a pattern file; `FIRST-LAST` in place of `ID` stands for each identifier
-//! - `<bytes>` is a stream: `%` and two digits of 16 are one byte, `%*` and three digits of 10 that many of the byte
-//!   behind, `~` a cut into pieces. `<<bytes>>` is every stream of at most four of these bytes.
+//! - `<text>` is a stream, with its cuts into pieces. `<<text>>` is every stream of at most four of these bytes.
 //!
 //! A row with neither list nor `=` gives the streams for the rows behind it that have none. Behind `=` stand the pairs
 //! `ID@END` that the bytes decide, with `~` where a piece ends, and behind `|` those that the end decides; without
@@ -135,7 +133,7 @@ mixed 1:/b\z/H 1:/\n*\Z/V 2:/\n?\Z/HV
 0-62:/a/ 63:/y/ 64:/z/
 0-62:/a/ 63:/y/ 64:/x/ 65-128:/a/ 129:/z/
 # a long text that wakes nothing
-<x-x%0A%*150-> <x-x%0A%*150-x> <x-x%0A%*150-%0Ax%0A> <x-x%0A%*150-ax%0A> <x-x%0A%*150-x----->
+<x-x%0A%(150)-> <x-x%0A%(150)-x> <x-x%0A%(150)-%0Ax%0A> <x-x%0A%(150)-ax%0A> <x-x%0A%(150)-x----->
 1:/x/ 2:/x$/mH{min_offset=9} 3:/^x/m 4:/\bx\b/{max_offset=160} 5:/x\Z/
 ";
 
@@ -191,12 +189,12 @@ each /[^\x00-\xff]+/ /[^\x00-\xff]{2,}/ /[^\x00-\xff]{5,}/ /[^\x00-\xff]?/ /[^\x
 pub(crate) const LONG_REPEATS: &[u8] = br"
 leaves /a{3,512}/ <aa> = no
 leaves /a{3,512}/ <aaa> = yes
-leaves /a{3,512}/ <%*512a> = yes
-leaves /a{3,512}/ <%*513a> = no
-leaves /a{1000}/ <x~%*999a> = no
-leaves /a{1000}/ <x~%*999aa> = yes
-leaves /a{1000}/ <x~%*999aaa> = no
-leaves /a{1000}/ <x~%*999aay> = no
+leaves /a{3,512}/ <%(512)a> = yes
+leaves /a{3,512}/ <%(513)a> = no
+leaves /a{1000}/ <x~%(999)a> = no
+leaves /a{1000}/ <x~%(999)aa> = yes
+leaves /a{1000}/ <x~%(999)aaa> = no
+leaves /a{1000}/ <x~%(999)aay> = no
 ";
 
 /// Expressions whose chains have several pieces, and how they are split.

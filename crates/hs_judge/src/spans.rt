@@ -1,14 +1,15 @@
 //! Engines that are entered at some offsets alone, beside the spans of their expressions. It is `#[cfg(test)]`.
 ghost use Rattle.std.specs.Prelude.{◌≡◌, ◌≤◌, ◌<◌, ◌^◌, length};
 
+use crate::cases::{Verdict, ensure};
 use crate::engines::Judged;
 use hs_base::{Mask, Next, NextSet, Prev};
 use hs_engine::{Engine, Steps};
 use hs_expr::Expr;
 use hs_plain::ends_of;
+use hs_rows::Text;
 use std::alloc::Global;
 use std::marker::Brand;
-use std::process::Abort;
 use std::sync::ledger::{Blank, Ledger};
 use std::test::Fail;
 
@@ -22,35 +23,18 @@ const AFTER: [(Next, &str, bool); 6] = [
     (Next::Unknown, "", false),
 ];
 
-/// Where an expression is entered: bit `k` stands for the offset `k`.
-const ENTRIES: [u64; 22] = [
-    0,
-    0b1,
-    0b10,
-    0b100,
-    0b1000,
-    0b1_0000,
-    0b10_0000,
-    0b100_0000,
-    0b1000_0000,
-    0b1_0000_0000,
-    1 << 9,
-    1 << 10,
-    1 << 13,
-    1 << 16,
-    1 << 17,
-    1 << 18,
-    0b11,
-    0b1001,
-    0b1_0001_0010,
-    0x5555,
-    1 << 40,
-    u64::MAX,
-];
+/// Where an expression is entered, beside each offset alone: bit `k` stands for the offset `k`.
+const ENTRIES: [u64; 7] = [0, 3, 9, 0x112, 0x5555, 1 << 40, u64::MAX];
 
-/// Whether the expression is entered at the offset.
-fn is_entered(entries: u64, at: u64) -> bool {
-    at < 64 && (entries >> at) & 1 == 1
+/// An expression, and what may come next where it ends behind each beginning of a text, for each offset at which it is
+/// entered there.
+#[derive(Drop)]
+pub(crate) struct Spans {
+    /// What a failure is told by.
+    name: String,
+    expr: Expr,
+    text: Vec<u8>,
+    pub(crate) lefts: Vec<Vec<NextSet>>,
 }
 
 /// What may come next where the expression, entered at the offset, ends behind the text.
@@ -68,7 +52,7 @@ fn left_from(alloc: Global, expr: &Expr, text: &[u8], from: usize) -> Result<Nex
     Ok(left)
 }
 
-/// What may come next behind the text, for each offset where the expression is entered.
+/// What may come next behind the text, for each offset at which the expression is entered.
 fn all_left(alloc: Global, expr: &Expr, text: &[u8]) -> Result<Vec<NextSet>, Fail> {
     let mut all = Vec::new(alloc);
     for from in 0..=text.len() {
@@ -77,8 +61,29 @@ fn all_left(alloc: Global, expr: &Expr, text: &[u8]) -> Result<Vec<NextSet>, Fai
     Ok(all)
 }
 
-/// What may come next behind the text in the engine, entered where its entries are and the byte is one of these.
-pub(crate) fn run<E: Engine, L: Ledger>(
+impl Spans {
+    /// The spans of the expression in the text as the definitions have them.
+    pub(crate) fn of(alloc: Global, name: &str, expr: &Expr, text: &[u8]) -> Result<Spans, Fail> {
+        let mut lefts = Vec::new(alloc);
+        for len in 0..=text.len() {
+            lefts.push(all_left(alloc, expr, &text[..len])?)?;
+        }
+        Ok(Spans {
+            name: String::from_str(alloc, name)?,
+            expr: expr.copy(alloc)?,
+            text: Vec::from_slice(alloc, text)?,
+            lefts,
+        })
+    }
+}
+
+/// Whether the expression is entered at the offset.
+fn is_entered(entries: u64, at: u64) -> bool {
+    at < 64 && (entries >> at) & 1 == 1
+}
+
+/// What may come next behind the text in the engine, whose steps are counted.
+fn step_through<E: Engine, L: Ledger>(
     engine: &E,
     region: &mut [u8],
     text: &[u8],
@@ -91,7 +96,6 @@ pub(crate) fn run<E: Engine, L: Ledger>(
     requires name { blank.name ≡ L.name }
     requires parts { blank.parts ≡ L.parts }
     requires some { 0 < L.parts }
-    ensures { length region.new ≡ (E.meaning engine.now).width }
 {
     let mut steps = Steps::<L>::open(blank);
     engine.clear(region);
@@ -110,13 +114,21 @@ pub(crate) fn run<E: Engine, L: Ledger>(
     engine.out(region, prev, at)
 }
 
-/// What may come next behind the text in the engine, from a region with every bit set.
-fn left_by<E: Engine>(alloc: Global, engine: &E, text: &[u8], entries: u64) -> Result<NextSet, Fail>
+/// What may come next behind the text in the engine, entered where its entries are and the byte is one of these, and
+/// the region, which has every bit set before.
+pub(crate) fn run<E: Engine>(
+    alloc: Global,
+    engine: &E,
+    text: &[u8],
+    entries: u64,
+    before: NextSet,
+) -> Result<(NextSet, Vec<u8>), Fail>
     requires { length text.now < 2 ^ 63 }
 {
     let mut region = vec![in alloc; 0xffu8; engine.size()]?;
-    let all = NextSet::all();
-    Ok(run::<E, Brand>(engine, &mut region, text, entries, all, Blank::new(1)))
+    let blank = Blank::new(1);
+    let left = step_through::<E, Brand>(engine, &mut region, text, entries, before, blank);
+    Ok((left, region))
 }
 
 /// What may come next, where the expression is entered at some offsets before the text's end.
@@ -130,91 +142,72 @@ fn left_of(all: &[NextSet], len: usize, entries: u64) -> NextSet {
     left
 }
 
-/// What stands behind the text.
-fn prev_of(text: &[u8]) -> Prev {
-    match text.last() {
-        None => Prev::Start,
-        Some(byte) => Prev::behind(*byte),
+/// Fails where the answers differ.
+fn same(found: NextSet, wanted: NextSet, name: &str, text: &[u8]) -> Verdict {
+    let what = format_args!("{found:?} in place of {wanted:?} behind {text:?}, of {name}");
+    ensure(found == wanted, what)
+}
+
+/// Where the expression is entered: each offset before the length alone, and more.
+fn all_entries(alloc: Global, len: usize) -> Result<Vec<u64>, Fail> {
+    let mut all = Vec::from_slice(alloc, &ENTRIES)?;
+    for at in 0..len.min(64) {
+        all.push(1u64 << at)?;
     }
+    Ok(all)
 }
 
 /// Compares the engine behind the text with the spans.
 fn compare<E: Engine>(
-    rt: &impl Abort,
     alloc: Global,
     name: &str,
     engine: &E,
     null: Mask,
     text: &[u8],
     all: &[NextSet],
-) -> Result<(), Fail> {
-    for entries in ENTRIES {
-        let left = left_by(alloc, engine, text, entries)?;
-        let wanted = left_of(all, text.len(), entries);
-        assert_eq!(rt; left, wanted, "{name}: {text:?}, entered at {entries:b}");
+) -> Verdict {
+    for entries in &all_entries(alloc, text.len())? {
+        let (left, _region) = run(alloc, engine, text, *entries, NextSet::all())?;
+        same(left, left_of(all, text.len(), *entries), name, text)?;
     }
-    if let Some(wanted) = all.last() {
-        assert_eq!(rt;
-            null.row(prev_of(text)),
-            *wanted,
-            "{name}: nothing behind {text:?}"
-        );
-    }
-    Ok(())
-}
-
-/// What may come next behind each beginning of the text, for each offset where the expression is entered.
-pub(crate) fn all_lefts(
-    alloc: Global,
-    expr: &Expr,
-    text: &[u8],
-) -> Result<Vec<Vec<NextSet>>, Fail> {
-    let mut lefts = Vec::new(alloc);
-    for len in 0..=text.len() {
-        lefts.push(all_left(alloc, expr, &text[..len])?)?;
-    }
-    Ok(lefts)
+    let prev = match text.last() {
+        None => Prev::Start,
+        Some(byte) => Prev::behind(*byte),
+    };
+    same(null.row(prev), *all.last().ok_or("no offset")?, name, text)
 }
 
 /// Compares an engine of the expression with its spans, behind each beginning of the text.
-pub(crate) fn judge_spans<E: Judged>(
-    rt: &impl Abort,
-    alloc: Global,
-    name: &str,
-    expr: &Expr,
-    text: &[u8],
-    lefts: &[Vec<NextSet>],
-) -> Result<(), Fail> {
-    let Some((engine, null)) = E::of(alloc, expr)? else {
+pub(crate) fn judge_spans<E: Judged>(alloc: Global, spans: &Spans) -> Verdict {
+    let Some((engine, null)) = E::of(alloc, &spans.expr)? else {
         return Ok(());
     };
-    for (len, left) in lefts.iter().enumerate() {
-        if let Some(text) = text.get(..len) {
-            compare(rt, alloc, name, &engine, null, text, left)?;
-        }
+    for (len, all) in spans.lefts.iter().enumerate() {
+        let text = spans.text.get(..len).ok_or("no such text")?;
+        compare(alloc, &spans.name, &engine, null, text, all)?;
     }
     Ok(())
 }
 
-/// Whether an engine of the expression ends behind the text, entered where the entries are: as it is wanted.
+/// Whether an engine of the expression, entered behind the text's cuts or else at 0, ends behind the text: as it is
+/// wanted.
 pub(crate) fn judge_leaving<E: Judged>(
-    rt: &impl Abort,
     alloc: Global,
-    name: &str,
     expr: &Expr,
-    text: &[u8],
-    entries: u64,
+    text: &Text,
     wanted: bool,
-) -> Result<(), Fail>
-    requires { length text.now < 2 ^ 63 }
-{
-    if let Some((engine, _null)) = E::of(alloc, expr)? {
-        let left = left_by(alloc, &engine, text, entries)?;
-        assert_eq!(rt;
-            left.contains(Next::Unknown),
-            wanted,
-            "{name} behind {text:?}"
-        );
-    }
-    Ok(())
+) -> Verdict {
+    let Some((engine, _null)) = E::of(alloc, expr)? else {
+        return Ok(());
+    };
+    let entries = match text.cuts {
+        0 => 1,
+        cuts => cuts.wrapping_mul(2),
+    };
+    let (left, _region) = run(alloc, &engine, &text.bytes, entries, NextSet::all())?;
+    let is_left = left.contains(Next::Unknown);
+    ensure(
+        is_left == wanted,
+        format_args!("whether it ends behind {:?}", text.bytes),
+    )
 }

@@ -12,40 +12,41 @@ use std::test::Fail;
 
 #[test]
 fn reports_what_is_documented(rt: HostRuntime) -> Result<(), Fail> {
-    judge(&rt, rt.alloc(), rows::DOCUMENTED)
+    judge(rt.alloc(), rows::DOCUMENTED)
 }
 
 #[test]
 fn reports_of_lists_are_as_defined(rt: HostRuntime) -> Result<(), Fail> {
-    judge(&rt, rt.alloc(), rows::LISTS)
+    judge(rt.alloc(), rows::LISTS)
 }
 
 #[test]
 fn assertions_hold_as_defined(rt: HostRuntime) -> Result<(), Fail> {
-    judge(&rt, rt.alloc(), rows::ASSERTIONS)
+    judge(rt.alloc(), rows::ASSERTIONS)
 }
 
 #[test]
 fn expressions_span_as_defined(rt: HostRuntime) -> Result<(), Fail> {
-    judge(&rt, rt.alloc(), rows::EXPRESSIONS)
+    judge(rt.alloc(), rows::EXPRESSIONS)
 }
 
 #[test]
 fn repeats_are_as_defined(rt: HostRuntime) -> Result<(), Fail> {
-    judge(&rt, rt.alloc(), rows::REPEATS)?;
-    judge(&rt, rt.alloc(), rows::LONG_REPEATS)
+    judge(rt.alloc(), rows::REPEATS)?;
+    judge(rt.alloc(), rows::LONG_REPEATS)
 }
 
 #[test]
 fn chains_are_as_defined(rt: HostRuntime) -> Result<(), Fail> {
-    judge(&rt, rt.alloc(), rows::CHAINS)
+    judge(rt.alloc(), rows::CHAINS)
 }
 
 #[test]
 fn refuses_and_sizes_as_stated(rt: HostRuntime) -> Result<(), Fail> {
-    judge(&rt, rt.alloc(), rows::REFUSALS)?;
-    judge(&rt, rt.alloc(), rows::SUPPORT)?;
-    judge(&rt, rt.alloc(), rows::SIZES)
+    for table in [rows::REFUSALS, rows::SUPPORT, rows::SIZES] {
+        judge(rt.alloc(), table)?;
+    }
+    Ok(())
 }
 
 #[test]
@@ -54,16 +55,16 @@ fn nothing_matches_an_alternation_of_nothing(rt: HostRuntime) -> Result<(), Fail
     assert_eq!(rt; written(alloc, &Expr::Alt(Vec::new(alloc)))?.as_str(), " ");
     for text in ["", "ab", "a b", "\na\n", "ba\nab"] {
         let nothing = Expr::Alt(Vec::new(alloc));
-        judge_expression(&rt, alloc, "nothing", &nothing, text.as_bytes())?;
+        judge_expression(alloc, "nothing", &nothing, text.as_bytes())?;
         let rounds = Expr::Repeat(Box::new(alloc, nothing)?, 0, None);
-        judge_expression(&rt, alloc, "rounds of nothing", &rounds, text.as_bytes())?;
+        judge_expression(alloc, "rounds of nothing", &rounds, text.as_bytes())?;
     }
     Ok(())
 }
 
 #[test]
 fn twins_keep_the_same_bits(rt: HostRuntime) -> Result<(), Fail> {
-    judge_automata(&rt, rt.alloc())
+    judge_automata(rt.alloc())
 }
 
 #[test]

@@ -1,9 +1,4 @@
-use Rattle.std.proofs.Common.{◌≡◌, length}
 use Rattle.hs_judge.proofs.spans.run.Given as goal
 
-abbrev pub invariant-loop-byte : goal.invariant-loop-byte
-invariant-loop-byte g l = record {
-  len : length l.region ≡ (g.E.Engine.meaning l.engine).width;
-  well : (g.E.Engine.meaning l.engine).well l.region l.at;
-  counted : l.at ≡ l.byte-index;
-}
+abbrev pub ghosts-step_through : goal.ghosts-step_through
+ghosts-step_through g a = record { name = a.blank.name; parts = a.blank.parts }

@@ -1,0 +1,149 @@
+//! Streams in many cuts, each reset and scanned again. It is `#[cfg(test)]`.
+ghost use Rattle.std.specs.Prelude.{◌≡◌, ◌<◌};
+
+use crate::cases::{Case, Verdict, ensure};
+use hs_engine::Steps;
+use hs_rows::Text;
+use hs_whole_run::Collected;
+use std::alloc::{AllocError, Global};
+use std::marker::Brand;
+use std::sync::ledger::{Blank, Ledger};
+use std::test::Fail;
+
+/// The most reports of a stream that are kept.
+const ROOM: usize = 1_000;
+
+/// What is told of a stream, and how many steps it took.
+#[derive(Drop)]
+pub(crate) struct Log<L: Ledger> {
+    pub(crate) told: Collected,
+    pub(crate) steps: Steps<L>,
+}
+
+/// What a list is made to, so that streams are scanned for it.
+pub(crate) trait Scanner {
+    /// What is kept of a stream.
+    type Stream: Drop;
+
+    /// A stream of which no byte has come.
+    fn open(&self, alloc: Global) -> Result<Self::Stream, Fail>;
+
+    /// How many bytes of the stream have come.
+    fn offset(&self, stream: &Self::Stream) -> u64;
+
+    /// Takes the next bytes.
+    fn take<L: Ledger>(&self, stream: &mut Self::Stream, bytes: &[u8], log: &mut Log<L>) -> Verdict;
+
+    /// Ends the stream, and begins it anew.
+    fn reset<L: Ledger>(&self, stream: &mut Self::Stream, log: &mut Log<L>) -> Verdict;
+
+    /// Ends the stream.
+    fn close<L: Ledger>(&self, stream: Self::Stream, log: &mut Log<L>) -> Verdict;
+}
+
+/// Whether the bit of the byte before the offset is set, the first byte's bit being the lowest.
+pub(crate) fn is_cut(bits: u64, offset: usize) -> bool {
+    0 < offset && offset <= 64 && (bits >> (offset - 1)) & 1 == 1
+}
+
+/// Where pieces end: before the first byte, behind each byte whose bit is set, and behind the last one.
+fn ends_by(alloc: Global, bits: u64, len: usize) -> Result<Vec<usize>, AllocError> {
+    let mut ends = Vec::new(alloc);
+    for offset in 0..=len {
+        if offset == 0 || offset == len || is_cut(bits, offset) {
+            ends.push(offset)?;
+        }
+    }
+    Ok(ends)
+}
+
+/// Where pieces end in many cuts of the stream: all of a short one, and of a longer one that into a single piece, each
+/// into two, that of its row and that into bytes.
+fn cuts_of(alloc: Global, stream: &Text) -> Result<Vec<Vec<usize>>, AllocError> {
+    let len = stream.bytes.len();
+    let mut all = Vec::new(alloc);
+    all.push(Vec::from_slice(alloc, &[len])?)?;
+    all.push(ends_by(alloc, stream.cuts, len)?)?;
+    all.push(ends_by(alloc, u64::MAX, len)?)?;
+    if len <= 4 {
+        for bits in 0..16 {
+            all.push(ends_by(alloc, bits, len)?)?;
+        }
+    } else {
+        for cut in 0..len {
+            all.push(Vec::from_slice(alloc, &[cut, len])?)?;
+        }
+    }
+    Ok(all)
+}
+
+/// Takes the case's stream in pieces that end there.
+fn take_pieces<S: Scanner, L: Ledger>(
+    scanner: &S,
+    case: &Case,
+    ends: &[usize],
+    stream: &mut S::Stream,
+    log: &mut Log<L>,
+) -> Verdict {
+    let mut start = 0;
+    for end in ends {
+        let piece = case.stream.bytes.get(start..*end).ok_or("no such piece")?;
+        scanner.take(stream, piece, log)?;
+        let count = case.wanted.counts.get(*end).ok_or("no such offset")?;
+        let so_far = case.wanted.told.get(..*count).ok_or("no such reports")?;
+        case.same("with a piece", log.told.reports(), so_far)?;
+        ensure(scanner.offset(stream) == *end as u64, "another offset")?;
+        start = *end;
+    }
+    case.same("with all", log.told.reports(), &case.wanted.told)
+}
+
+/// Scans the case's stream in pieces that end there, resets it, scans it again, and closes it.
+fn judge_cut<S: Scanner, L: Ledger>(
+    alloc: Global,
+    scanner: &S,
+    case: &Case,
+    ends: &[usize],
+    log: &mut Log<L>,
+) -> Verdict {
+    let mut stream = scanner.open(alloc)?;
+    log.told = Collected::new(alloc, ROOM)?;
+    take_pieces(scanner, case, ends, &mut stream, log)?;
+    log.told = Collected::new(alloc, ROOM)?;
+    scanner.reset(&mut stream, log)?;
+    case.same("with a reset", log.told.reports(), &case.wanted.last)?;
+    log.told = Collected::new(alloc, ROOM)?;
+    take_pieces(scanner, case, ends, &mut stream, log)?;
+    log.told = Collected::new(alloc, ROOM)?;
+    scanner.close(stream, log)?;
+    case.same("with the end", log.told.reports(), &case.wanted.last)
+}
+
+/// Scans the case's stream in many cuts.
+fn judge_cuts<S: Scanner, L: Ledger>(
+    alloc: Global,
+    scanner: &S,
+    case: &Case,
+    blank: Blank,
+) -> Verdict
+    requires name { blank.name ≡ L.name }
+    requires parts { blank.parts ≡ L.parts }
+    requires some { 0 < L.parts }
+{
+    let mut log = Log {
+        told: Collected::new(alloc, ROOM)?,
+        steps: Steps::<L>::open(blank),
+    };
+    for ends in &cuts_of(alloc, &case.stream)? {
+        judge_cut(alloc, scanner, case, ends, &mut log)?;
+    }
+    Ok(())
+}
+
+/// Compares what is told of the streams with what is wanted.
+pub(crate) fn judge_cases<S: Scanner>(alloc: Global, scanner: &S, cases: &[Case]) -> Verdict {
+    for case in cases {
+        judge_cuts::<S, Brand>(alloc, scanner, case, Blank::new(1))?;
+    }
+    Ok(())
+}
