@@ -5,8 +5,8 @@ use std::alloc::{AllocError, Global};
 use std::process::Abort;
 use std::test::Fail;
 
-/// Files and their entries: a tilde behind a file, a bar behind its entries, and an ampersand behind each of them, which
-/// is identifier, flags, the bits and offsets of parameters where there are some, a colon and the expression.
+/// Files and their entries: a tilde behind a file, a bar behind its entries, and an ampersand behind each of them: its
+/// identifier, flags, the bits and offsets of parameters where there are some, a colon and the expression.
 const LISTS: &[u8] = b"\
 1:/foo.*bar/~1,0:foo.*bar&|1:/foo/\n~1,0:foo&|1:/foo/\r\n~1,0:foo&|1:/foo/\r~1,0:foo&|1://~1,0:&|0:/a/~0,0:a&|\
 4294967295:/a/~4294967295,0:a&|0001:/a/~1,0:a&|0000000000:/a/~0,0:a&|1:/a/b/~1,0:a/b&|1:///~1,0:/&|\
