@@ -27,17 +27,11 @@ impl Part {
     /// That call of the commands on this part fails, and what is written to `err` then.
     fn fails(self, setting: &Setting, call: u64) -> (Faults, &'static [u8]) {
         let none = Faults::default();
-        let store = setting.puts().saturating_add(call);
+        let (store, source, out) = (setting.puts().saturating_add(call), call, call);
         match self {
             Part::Store => (Faults { store, ..none }, b"fault store\n"),
-            Part::Source => (
-                Faults {
-                    source: call,
-                    ..none
-                },
-                b"fault read\n",
-            ),
-            Part::Out => (Faults { out: call, ..none }, b"fault write\n"),
+            Part::Source => (Faults { source, ..none }, b"fault read\n"),
+            Part::Out => (Faults { out, ..none }, b"fault write\n"),
         }
     }
 }
@@ -134,8 +128,8 @@ fn judge_row(
     Ok(())
 }
 
-/// Judges a row of one command where each call on that part fails in turn, and the script comes byte by byte: a beginning
-/// of what is wanted was written, and the fault is told.
+/// Judges a row of one command where each call on that part fails in turn, and the script comes byte by byte: a
+/// beginning of what is wanted was written, and the fault is told.
 fn judge_calls(
     rt: &impl Abort,
     alloc: Global,
