@@ -1,1 +1,9 @@
-
+pub mod ListLemmas
+pub mod NamingLemmas
+pub mod BuildLemmas
+pub mod RoleListLemmas
+pub mod FinishLemmas
+pub mod LawLemmas
+pub mod MakeLemmas
+pub mod ShapeLemmas
+pub mod SameLemmas

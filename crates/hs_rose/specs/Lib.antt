@@ -8,3 +8,4 @@ pub mod Programs
 pub mod Building
 pub mod Views
 pub mod Finishing
+pub mod RoleLaws

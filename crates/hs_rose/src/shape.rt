@@ -1,14 +1,13 @@
 //! What is kept of a piece.
 
-ghost use Rattle.std.specs.Prelude.{◌≡◌, ◌+◌, ◌/◌, ◌≤◌, Bool, Some, List, length};
-ghost use Rattle.hs_base.specs.Chains.{Piece, lit, nfa, rep};
-ghost use Rattle.hs_base.specs.KeptPieces.{form_of, literal_form, tree_form, repeat_form};
-ghost use Rattle.hs_base.specs.Literals.{LiteralByte};
+ghost use Rattle.std.specs.Prelude.{◌≡◌, ◌+◌, ◌/◌, ◌≤◌, Bool, Some, List};
+ghost use Rattle.hs_base.specs.Chains.{rep};
+ghost use Rattle.hs_base.specs.KeptPieces.{repeat_form};
 ghost use Rattle.hs_base.specs.Trees.{AreBounds};
 ghost use Rattle.hs_base.specs.WrittenOut.{IsPlain, write_out, count};
 ghost use Rattle.hs_expr.specs.Meaning.{tree_of};
 ghost use Rattle.hs_pieces.specs.Meaning.{plain_piece};
-ghost use Rattle.hs_rose.specs.Kinds.{IsShape};
+ghost use Rattle.hs_rose.specs.Kinds.{IsShape, IsShapeBehind, IsLiteralShape, IsTreeShape};
 ghost use Rattle.hs_rose.specs.Runnable.{IsRunnable};
 
 use crate::kind::Kind;
@@ -34,8 +33,7 @@ pub(crate) struct Shape {
 /// What is kept of the piece behind so many others, in a chain whose first one looks back or not.
 pub(crate) fn shape_of(looks_back: bool, before: usize, piece: &Piece) -> Shape
     requires { IsRunnable (plain_piece piece.now) }
-    ensures { (pieces : List Piece) → length pieces ≡ before →
-        IsShape (form_of looks_back pieces (plain_piece piece.now)) (plain_piece piece.now) result.kind result.size }
+    ensures { IsShapeBehind looks_back before (plain_piece piece.now) result.kind result.size }
 {
     match piece {
         Piece::Lit(_) => literal_shape(looks_back, before),
@@ -46,8 +44,7 @@ pub(crate) fn shape_of(looks_back: bool, before: usize, piece: &Piece) -> Shape
 
 /// Of a literal.
 fn literal_shape(looks_back: bool, before: usize) -> Shape
-    ensures { (pieces : List Piece) (xs : List LiteralByte) → length pieces ≡ before →
-        IsShape (literal_form looks_back pieces (length xs)) (lit xs) result.kind result.size }
+    ensures { IsLiteralShape looks_back before result.kind result.size }
 {
     if before == 0 || (before == 1 && looks_back) {
         Shape {
@@ -66,8 +63,7 @@ fn literal_shape(looks_back: bool, before: usize) -> Shape
 fn tree_shape(looks_back: bool, before: usize, expr: &Expr) -> Shape
     requires plain { IsPlain (tree_of expr.now) }
     requires few { count (write_out (tree_of expr.now)) ≤ 512 }
-    ensures { (pieces : List Piece) → length pieces ≡ before →
-        IsShape (tree_form looks_back pieces (tree_of expr.now)) (nfa (tree_of expr.now)) result.kind result.size }
+    ensures { IsTreeShape looks_back before (tree_of expr.now) result.kind result.size }
 {
     if before == 0 && looks_back {
         Shape {
