@@ -4,6 +4,7 @@ use Rattle.std.specs.List.{AllZip, flat_map}
 use Rattle.std.proofs.lemmas.List.{append-nil, length-append, length-map, length-take-le, map-append, take_all}
 use Rattle.std.proofs.lemmas.Grind.{flat_map-append}
 use Rattle.hs_base.specs.declared.context.Mask.{Mask}
+use Rattle.hs_base.specs.declared.ext.Entry.{Entry}
 use Rattle.hs_base.specs.Chains.{Piece, lit, nfa, rep}
 use Rattle.hs_base.specs.Lists.{Each}
 use Rattle.hs_base.specs.LiteralView.{literal_bytes}
@@ -15,14 +16,17 @@ use Rattle.hs_rose.specs.declared.builder.Builder.{Builder}
 use Rattle.hs_rose.specs.declared.builder.Named.{Named}
 use Rattle.hs_rose.specs.declared.builder.Owner.{Owner}
 use Rattle.hs_rose.specs.declared.info.ChainInfo.{ChainInfo}
+use Rattle.hs_rose.specs.declared.info.EntryInfo.{EntryInfo}
 use Rattle.hs_rose.specs.declared.role.Role.{Role}
 use Rattle.hs_rose.specs.declared.shape.Shape.{Shape}
 use Rattle.hs_rose.specs.Building.{AreKept, IsBuilt, IsGrown, IsNamed, IsOwner, IsPlaceOf, IsRoleFor, IsSound, literals_of, models_of}
-use Rattle.hs_rose.specs.Kinds.{IsShape, IsShapeBehind}
-use Rattle.hs_rose.specs.Listing.{Asked, ListedChain, ListedPiece, chains_from, listed_from, listed_piece, listed_pieces, pieces_of}
+use Rattle.hs_rose.specs.Kinds.{IsShape}
+use Rattle.hs_rose.specs.Shapes.{shape_for}
+use Rattle.hs_rose.proofs.ShapeLemmas.{shaped}
+use Rattle.hs_rose.specs.Listing.{Asked, ListedChain, ListedPiece, asked_of, chains_from, listed_from, listed_piece, listed_pieces, pieces_of}
 use Rattle.hs_rose.specs.Made.{IsMade, model_of}
 use Rattle.hs_rose.specs.Numbering.{AreApart}
-use Rattle.hs_rose.specs.Programs.{AreChainsOf, IsChainOf, IsRoleOf, Names, NamesPiece}
+use Rattle.hs_rose.specs.Programs.{AreChainsOf, IsChainOf, IsInfoOf, IsRoleOf, Names, NamesPiece}
 use Rattle.hs_rose.proofs.ListLemmas.{get-left, take-get, zip-each, zip-length, zip-push}
 
 names-kept : (ls ls' : List (List LiteralByte)) (ms ms' : List Piece) → AreKept ls ls' → AreKept ms ms' → (n : ℕ) (null : Mask) (piece : Piece) → Names ls ms n null piece → Names ls' ms' n null piece
@@ -47,10 +51,10 @@ role-kept ls ls' ms ms' literals models r x is = record {
 
 -- what is made for a piece is its role
 role-made : (ls : List (List LiteralByte)) (ms : List Piece) (owner : Owner) (before : ℕ) (piece : Piece) (shape : Shape) (named : Named) (r : Role) (x : ListedChain) (place : Place) →
-    IsOwner owner x → IsPlaceOf owner before piece place → IsShapeBehind owner.looks_back before piece shape.kind shape.size → Names ls ms named.number named.null piece → IsRoleFor owner before shape named r →
+    IsOwner owner x → IsPlaceOf owner before piece place → shape ≡ shape_for owner.looks_back before piece → Names ls ms named.number named.null piece → IsRoleFor owner before shape named r →
     IsRoleOf ls ms r (listed_piece x place)
-role-made ls ms owner before piece shape named r x place own at shaped names is =
-    let form = shaped place.pieces at.pieces in
+role-made ls ms owner before piece shape named r x place own at made_as names is =
+    let form : IsShape (form_of owner.looks_back place.pieces piece) piece shape.kind shape.size = subst (λ (s : Shape). IsShape (form_of owner.looks_back place.pieces piece) piece s.kind s.size) (ap (λ n. shape_for owner.looks_back n piece) at.pieces ∙ sym made_as) (shaped owner.looks_back place.pieces piece) in
     let same : form_of owner.looks_back place.pieces piece ≡ place_form place = ap (λ l. form_of l place.pieces piece) (sym at.looks_back) ∙ ap (λ p. form_of place.looks_back place.pieces p) (sym at.piece_is) in
     let here : IsShape (place_form place) place.piece shape.kind shape.size = subst (λ p. IsShape (place_form place) p shape.kind shape.size) (sym at.piece_is) (subst (λ f. IsShape f piece shape.kind shape.size) same form) in record {
       entry = is.entry ∙ own.entry;
@@ -67,10 +71,10 @@ role-made ls ms owner before piece shape named r x place own at shaped names is 
 
 -- one more piece
 pub piece-built : (old mid new : Builder) (owner : Owner) (before : ℕ) (piece : Piece) (shape : Shape) (named : Named) (r : Role) →
-    (IsSound old → IsNamed old mid piece named) → IsShapeBehind owner.looks_back before piece shape.kind shape.size → IsRoleFor owner before shape named r →
+    (IsSound old → IsNamed old mid piece named) → shape ≡ shape_for owner.looks_back before piece → IsRoleFor owner before shape named r →
     new.roles.items ≡ mid.roles.items ++ r ∷ [] → new.chains.items ≡ mid.chains.items → new.literals.items ≡ mid.literals.items → new.made.items ≡ mid.made.items →
     (chains : List ListedChain) (pieces : List ListedPiece) (x : ListedChain) (place : Place) → IsOwner owner x → IsPlaceOf owner before piece place → IsBuilt old chains pieces → IsBuilt new chains (pieces ++ listed_piece x place ∷ [])
-piece-built old mid new owner before piece shape named r naming shaped made roles chain_list literal_list made_list chains pieces x place own at built =
+piece-built old mid new owner before piece shape named r naming made_as made roles chain_list literal_list made_list chains pieces x place own at built =
     let is = naming built.sound in
     let ls = literals_of mid in
     let ms = models_of mid in
@@ -82,7 +86,7 @@ piece-built old mid new owner before piece shape named r naming shaped made role
     let mid_zip : AllZip (IsRoleOf ls ms) mid.roles.items (listed_pieces chains ++ pieces) = subst (λ rs. AllZip (IsRoleOf ls ms) rs (listed_pieces chains ++ pieces)) (sym is.grown.roles) before_zip in
     let more : AllZip (IsRoleOf ls ms) (mid.roles.items ++ r ∷ []) ((listed_pieces chains ++ pieces) ++ listed_piece x place ∷ []) =
         zip-push (IsRoleOf ls ms) mid.roles.items (listed_pieces chains ++ pieces) r (listed_piece x place) mid_zip
-        (role-made ls ms owner before piece shape named r x place own at shaped is.names made) in
+        (role-made ls ms owner before piece shape named r x place own at made_as is.names made) in
     let flat : AllZip (IsRoleOf ls ms) new.roles.items (listed_pieces chains ++ (pieces ++ listed_piece x place ∷ [])) =
         subst (λ rs. AllZip (IsRoleOf ls ms) rs (listed_pieces chains ++ (pieces ++ listed_piece x place ∷ []))) (sym roles)
         (subst (λ ps. AllZip (IsRoleOf ls ms) (mid.roles.items ++ r ∷ []) ps) (append_assoc (listed_pieces chains) pieces (listed_piece x place ∷ [])) more) in record {
@@ -97,14 +101,16 @@ piece-built old mid new owner before piece shape named r naming shaped made role
     }
 
 -- the places of the pieces of a chain
-pub places-at : (looks_back : Bool) (front rest : List Piece) (k : ℕ) (x : Piece) → slice_get rest k ≡ Some x → slice_get (places_behind looks_back front rest) k ≡ Some (record { looks_back = looks_back; pieces = front ++ take k rest; piece = x })
+abbrev pub place_at : (looks_back : Bool) (pieces : List Piece) (piece : Piece) → Place
+place_at looks_back pieces piece = record { looks_back = looks_back; pieces = pieces; piece = piece }
+
+pub places-at : (looks_back : Bool) (front rest : List Piece) (k : ℕ) (x : Piece) → slice_get rest k ≡ Some x → slice_get (places_behind looks_back front rest) k ≡ Some (place_at looks_back (front ++ take k rest) x)
 places-at looks_back front [] k x at = absurd (cc)
 places-at looks_back front (a ∷ rest) zero x at =
     let e : a ≡ x = cc in
-    let none : front ≡ front ++ [] = sym (append-nil front) in
-    ap Some (ap (λ (p : List Piece). record { looks_back = looks_back; pieces = p; piece = a }) none ∙ ap (λ (p : Piece). record { looks_back = looks_back; pieces = front ++ []; piece = p }) e)
+    ap (λ (p : List Piece). Some (place_at looks_back p a)) (sym (append-nil front)) ∙ ap (λ (p : Piece). Some (place_at looks_back (front ++ []) p)) e
 places-at looks_back front (a ∷ rest) (suc k) x at =
-    places-at looks_back (front ++ a ∷ []) rest k x at ∙ ap (λ (p : List Piece). Some (record { looks_back = looks_back; pieces = p; piece = x })) (append_assoc front (a ∷ []) (take k rest))
+    places-at looks_back (front ++ a ∷ []) rest k x at ∙ ap (λ (p : List Piece). Some (place_at looks_back p x)) (append_assoc front (a ∷ []) (take k rest))
 
 pub places-length : (looks_back : Bool) (front rest : List Piece) → length (places_behind looks_back front rest) ≡ length rest
 places-length looks_back front [] = refl
@@ -121,7 +127,7 @@ pub chain-step : (mid new : Builder) (owner : Owner) (x : ListedChain) (k : ℕ)
     ((pieces : List ListedPiece) (place : Place) → IsPlaceOf owner k piece place → IsBuilt mid chains pieces → IsBuilt new chains (pieces ++ listed_piece x place ∷ [])) →
     IsBuilt mid chains (map (listed_piece x) (take k (places_of_chain x))) → IsBuilt new chains (map (listed_piece x) (take (k + 1) (places_of_chain x)))
 chain-step mid new owner x k piece chains own below at adds built =
-    let place : Place = record { looks_back = begins_with_look_back x.pieces; pieces = take k x.pieces; piece = piece } in
+    let place : Place = place_at (begins_with_look_back x.pieces) (take k x.pieces) piece in
     let there : slice_get (places_of_chain x) k ≡ Some place = places-at (begins_with_look_back x.pieces) [] x.pieces k piece at in
     let now = adds (map (listed_piece x) (take k (places_of_chain x))) place (record {
       looks_back = sym own.looks_back;
@@ -158,7 +164,8 @@ chain-built old mid new chains x info begun almost entry first end chain_list ro
     let whole : IsBuilt mid chains (pieces_of x) = subst (λ ps. IsBuilt mid chains (map (listed_piece x) ps)) all almost in
     let begun_length = zip-length (IsRoleOf (literals_of old) (models_of old)) old.roles.items (listed_pieces chains ++ []) begun.roles in
     let length_now = zip-length (IsRoleOf ls ms) mid.roles.items (listed_pieces chains ++ pieces_of x) whole.roles in
-    let at_first : info.first ≡ 0 + length (listed_pieces chains) = omega (arith, first, begun_length, length-append (listed_pieces chains) ([] {ListedPiece})) in
+    let pieces_none : List ListedPiece = [] in
+    let at_first : info.first ≡ 0 + length (listed_pieces chains) = omega (arith, first, begun_length, length-append (listed_pieces chains) (pieces_none)) in
     let at_end : info.end ≡ 0 + length (listed_pieces chains) + length x.pieces = omega (arith, end, length_now, length-append (listed_pieces chains) (pieces_of x), pieces-length x) in
     record {
       sound = record {
@@ -175,25 +182,27 @@ chain-built old mid new chains x info begun almost entry first end chain_list ro
     }
 
 -- the chains of an entry
-pub chains-at : (entry number : ℕ) (asked : Asked) (cs : List (List Piece)) (k : ℕ) (c : List Piece) → slice_get cs k ≡ Some c →
-    slice_get (chains_from entry number asked cs) k ≡ Some (record { entry = entry; number = number + k; asked = asked; pieces = c })
+abbrev pub chain_at : (entry number : ℕ) → Asked → List Piece → ListedChain
+chain_at entry number asked pieces = record { entry = entry; number = number; asked = asked; pieces = pieces }
+
+pub chains-at : (entry number : ℕ) (asked : Asked) (cs : List (List Piece)) (k : ℕ) (c : List Piece) → slice_get cs k ≡ Some c → slice_get (chains_from entry number asked cs) k ≡ Some (chain_at entry (number + k) asked c)
 chains-at entry number asked [] k c at = absurd (cc)
 chains-at entry number asked (a ∷ cs) zero c at =
     let e : a ≡ c = cc in
-    let none : number ≡ number + 0 = omega arith in
-    ap Some (ap (λ (p : List Piece). record { entry = entry; number = number; asked = asked; pieces = p }) e ∙ ap (λ (n : ℕ). record { entry = entry; number = n; asked = asked; pieces = c }) none)
+    let same : number ≡ number + 0 = omega arith in
+    ap (λ (p : List Piece). Some (chain_at entry number asked p)) e ∙ ap (λ (n : ℕ). Some (chain_at entry n asked c)) same
 chains-at entry number asked (a ∷ cs) (suc k) c at =
     let e : suc number + k ≡ number + suc k = omega arith in
-    chains-at entry (suc number) asked cs k c at ∙ ap (λ (n : ℕ). Some (record { entry = entry; number = n; asked = asked; pieces = c })) e
+    chains-at entry (suc number) asked cs k c at ∙ ap (λ (n : ℕ). Some (chain_at entry n asked c)) e
 
 chains-length : (entry number : ℕ) (asked : Asked) (cs : List (List Piece)) → length (chains_from entry number asked cs) ≡ length cs
 chains-length entry number asked [] = refl
 chains-length entry number asked (a ∷ cs) = ap suc (chains-length entry (suc number) asked cs)
 
 pub entry-step : (new : Builder) (before : List ListedChain) (entry : ℕ) (asked : Asked) (cs : List (List Piece)) (k : ℕ) (c : List Piece) → slice_get cs k ≡ Some c →
-    IsBuilt new ((before ++ take k (chains_from entry 1 asked cs)) ++ record { entry = entry; number = 1 + k; asked = asked; pieces = c } ∷ []) [] → IsBuilt new (before ++ take (k + 1) (chains_from entry 1 asked cs)) []
+    IsBuilt new ((before ++ take k (chains_from entry 1 asked cs)) ++ chain_at entry (1 + k) asked c ∷ []) [] → IsBuilt new (before ++ take (k + 1) (chains_from entry 1 asked cs)) []
 entry-step new before entry asked cs k c at built =
-    let x : ListedChain = record { entry = entry; number = 1 + k; asked = asked; pieces = c } in
+    let x : ListedChain = chain_at entry (1 + k) asked c in
     let next : suc k ≡ k + 1 = omega arith in
     let more : (before ++ take k (chains_from entry 1 asked cs)) ++ x ∷ [] ≡ before ++ take (k + 1) (chains_from entry 1 asked cs) =
         append_assoc before (take k (chains_from entry 1 asked cs)) (x ∷ []) ∙ ap (λ xs. before ++ xs) (sym (take-get (chains_from entry 1 asked cs) k x (chains-at entry 1 asked cs k c at)))
@@ -232,3 +241,12 @@ list-step new es css k number e cs below same at at' is built =
 pub list-built : (new : Builder) (es : List Asked) (css : List (List (List Piece))) (n : ℕ) → n ≡ length es → length css ≡ length es → IsBuilt new (listed_from 1 (take n es) (take n css)) [] → IsBuilt new (listed_from 1 es css) []
 list-built new es css n end same built =
     subst (λ xs. IsBuilt new (listed_from 1 xs css) []) (take_all n es (omega (arith, end))) (subst (λ xs. IsBuilt new (listed_from 1 (take n es) xs) []) (take_all n css (omega (arith, end, same))) built)
+
+-- what is asked of one more entry
+pub info-more : (infos : List EntryInfo) (entries : List Entry) (k : ℕ) (info : EntryInfo) (e : Entry) → slice_get entries k ≡ Some e → IsInfoOf info (asked_of e) → AllZip IsInfoOf infos (map asked_of (take k entries)) →
+    AllZip IsInfoOf (infos ++ info ∷ []) (map asked_of (take (k + 1) entries))
+info-more infos entries k info e at is all =
+    let next : suc k ≡ k + 1 = omega arith in
+    let more : map asked_of (take k entries) ++ asked_of e ∷ [] ≡ map asked_of (take (k + 1) entries) =
+        sym (map-append asked_of (take k entries) (e ∷ [])) ∙ ap (λ es. map asked_of es) (sym (take-get entries k e at)) ∙ ap (λ n. map asked_of (take n entries)) next in
+    subst (λ es. AllZip IsInfoOf (infos ++ info ∷ []) es) more (zip-push IsInfoOf infos (map asked_of (take k entries)) info (asked_of e) all is)

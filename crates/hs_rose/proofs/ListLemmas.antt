@@ -1,8 +1,8 @@
 -- Members of lists by their numbers, and lists that agree place by place.
-use Rattle.std.proofs.Common.{◌≡◌, ◌⊎◌, ℕ, zero, suc, ◌+◌, ◌<◌, List, [], ◌∷◌, ◌++◌, length, map, take, slice_get, Some, refl, sym, ap, subst, ◌∙◌, inl, inr, arith}
+use Rattle.std.proofs.Common.{◌≡◌, ◌⊎◌, ℕ, zero, suc, ◌+◌, ◌<◌, ◌≤◌, List, [], ◌∷◌, ◌++◌, length, map, take, slice_get, get_or, below_more, Some, refl, sym, ap, subst, ◌∙◌, inl, inr, arith}
 use Rattle.std.specs.List.{AllZip}
 use Rattle.std.specs.Option.{option_map}
-use Rattle.std.proofs.lemmas.Option.{slice_get-map}
+use Rattle.std.proofs.lemmas.Option.{slice_get-map, slice_get_read, slice_get_within}
 use Rattle.hs_base.specs.Lists.{Each}
 use Rattle.hs_rose.specs.Numbering.{AreApart, IsNew}
 use Rattle.hs_rose.specs.Building.{AreKept}
@@ -111,3 +111,18 @@ zip-right R [] (b ∷ ys) all k y at = absurd all
 zip-right R (a ∷ xs) [] all k y at = absurd all
 zip-right R (a ∷ xs) (b ∷ ys) all zero y at = let e : b ≡ y = cc in (a, refl, subst (λ v. R a v) e all.0)
 zip-right R (a ∷ xs) (b ∷ ys) all (suc k) y at = zip-right R xs ys all.1 k y at
+
+-- none of the first so many, and not the next one
+pub none-more_at : {A B : Type 0} (f : A → B) (xs : List A) (n : ℕ) (x : A) (y : B) → slice_get xs n ≡ Some x → (f x ≡ y → ⊥) → ((k : ℕ) → k < n → slice_get (map f xs) k ≡ Some y → ⊥) → (k : ℕ) → k < n + 1 → slice_get (map f xs) k ≡ Some y → ⊥
+none-more_at f xs n x y at other before =
+    below_more (λ k. slice_get (map f xs) k ≡ Some y → ⊥) n before (λ is. let e : Some (f x) ≡ Some y = sym (get-map f xs n x at) ∙ is in other (cc))
+
+pub none-new : {A B : Type 0} (f : A → B) (xs : List A) (n : ℕ) (y : B) → length xs ≤ n → ((k : ℕ) → k < n → slice_get (map f xs) k ≡ Some y → ⊥) → IsNew (map f xs) y
+none-new f xs n y long before k is =
+    let own = map-get f xs k y is in
+    let below = slice_get_within xs k own.0 own.1 in
+    before k (omega arith) is
+
+-- the member that is read at a place
+pub read-get : {A : Type 0} (xs : List A) (k : ℕ) (x : A) → k < length xs → x ≡ get_or xs k x → slice_get xs k ≡ Some x
+read-get xs k x below is = slice_get_read xs (length xs) k x refl below is

@@ -1,6 +1,7 @@
 -- Pieces get their numbers among the literals or the engines.
 use Rattle.std.proofs.Common.{◌≡◌, ℕ, ◌<◌, List, [], ◌∷◌, ◌++◌, length, map, slice_get, Some, refl, sym, ap, subst, ◌∙◌}
 use Rattle.std.specs.Prelude.{vec_len}
+use Rattle.std.proofs.lemmas.List.{length-map, map-append}
 use Rattle.std.proofs.lemmas.Option.{slice_get_within}
 use Rattle.hs_base.specs.declared.context.Mask.{Mask}
 use Rattle.hs_base.specs.Chains.{Piece, lit, nfa, rep, piece_tree}
@@ -12,7 +13,7 @@ use Rattle.hs_rose.specs.declared.builder.Named.{Named}
 use Rattle.hs_rose.specs.declared.making.Made.{Made}
 use Rattle.hs_rose.specs.Building.{AreKept, IsGrown, IsNamed, IsSound, literals_of, models_of}
 use Rattle.hs_rose.specs.Made.{IsMade, IsNullMask, model_of}
-use Rattle.hs_rose.specs.Numbering.{AreApart, IsNumbered, found, added}
+use Rattle.hs_rose.specs.Numbering.{AreApart, IsNew, IsNumbered, found, added}
 use Rattle.hs_rose.specs.Programs.{IsEmptyMask, Names, NamesLiteral, NamesPiece}
 use Rattle.hs_rose.specs.Runnable.{IsRun}
 use Rattle.hs_rose.proofs.ListLemmas.{get-left, get-behind, apart-push, each-get, map-get}
@@ -34,6 +35,11 @@ pub numbered-below : {A B : Type 0} (f : A → B) (before : List B) (x : B) (now
 numbered-below f before x now n numbered =
     let own = map-get f now n x (numbered-named before x (map f now) n numbered) in
     slice_get_within now n own.0 own.1
+
+-- a new one is put behind the others
+pub pushed-numbered : {A B : Type 0} (f : A → B) (before now : List A) (a : A) (x : B) (n : ℕ) → IsNew (map f before) x → f a ≡ x → now ≡ before ++ a ∷ [] → n ≡ length before → IsNumbered (map f before) x (map f now) n
+pushed-numbered f before now a x n new is grown end =
+    added new (ap (λ zs. map f zs) grown ∙ map-append f before (a ∷ []) ∙ ap (λ y. map f before ++ y ∷ []) is) (end ∙ sym (length-map before f))
 
 kept-same : {A : Type 0} (xs ys : List A) → ys ≡ xs → AreKept xs ys
 kept-same xs ys same k x at = subst (λ zs. slice_get zs k ≡ Some x) (sym same) at

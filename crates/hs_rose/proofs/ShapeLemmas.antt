@@ -1,52 +1,45 @@
 -- What is kept of pieces.
-use Rattle.std.proofs.Common.{◌≡◌, ℕ, zero, suc, ◌+◌, ◌/◌, ◌<◌, ◌≤◌, Bool, true, false, List, [], ◌∷◌, length, Some, refl, min, arith}
+use Rattle.std.proofs.Common.{◌≡◌, ℕ, zero, suc, ◌<◌, Bool, true, false, eqb, leb, List, [], ◌∷◌, length, Option, Some, None, refl, sym, ap, subst, arith}
+use Rattle.std.proofs.lemmas.Bool.Decides.{nat_tests}
 use Rattle.hs_base.specs.Chains.{Piece, lit, nfa, rep}
-use Rattle.hs_base.specs.KeptPieces.{literal_form, tree_form, repeat_form}
+use Rattle.hs_base.specs.KeptPieces.{form_of, literal_form, tree_form, repeat_form}
 use Rattle.hs_base.specs.Literals.{LiteralByte}
 use Rattle.hs_base.specs.Trees.{Tree}
-use Rattle.hs_base.specs.WrittenOut.{IsPlain, count, write_out}
-use Rattle.hs_expr.specs.Counts.{capped, positions}
-use Rattle.hs_glushkov.proofs.CountLemmas.{count-written}
-use Rattle.hs_rose.specs.declared.kind.Kind.TheVariants.{LookBack, Positions, BareLiteral, Literal, First, Last, Ring}
+use Rattle.hs_base.specs.WrittenOut.{count, write_out}
+use Rattle.hs_rose.specs.declared.shape.Shape.{Shape}
 use Rattle.hs_rose.specs.Kinds.{IsShape}
+use Rattle.hs_rose.specs.Shapes.{literal_shape, tree_shape, repeat_shape, shape_for}
 
--- a first literal, and one behind a piece that looks back
-pub first-bare : (l : Bool) (pieces : List Piece) (xs : List LiteralByte) → length pieces ≡ 0 → IsShape (literal_form l pieces (length xs)) (lit xs) BareLiteral 0
-first-bare l [] xs e = record { kind_is = refl; size_is = refl }
-first-bare l (x ∷ pieces) xs e = absurd (cc)
+far : (n : ℕ) → (eqb (suc (suc n)) 0 ≡ false) × (eqb (suc (suc n)) 1 ≡ false)
+far n = (grind (arith, nat_tests), grind (arith, nat_tests))
 
-pub second-bare : (pieces : List Piece) (xs : List LiteralByte) → length pieces ≡ 1 → IsShape (literal_form true pieces (length xs)) (lit xs) BareLiteral 0
-second-bare [] xs e = record { kind_is = refl; size_is = refl }
-second-bare (x ∷ []) xs e = record { kind_is = refl; size_is = refl }
-second-bare (x ∷ y ∷ pieces) xs e = absurd (omega (arith, e))
+behind : (n : ℕ) → eqb (suc n) 0 ≡ false
+behind n = grind (arith, nat_tests)
 
--- any other
-pub literal-kept : (l : Bool) (pieces : List Piece) (xs : List LiteralByte) → (length pieces ≡ 0 → ⊥) → (length pieces ≡ 1 → l ≡ true → ⊥) → IsShape (literal_form l pieces (length xs)) (lit xs) Literal 4
-literal-kept l [] xs some later = absurd (some refl)
-literal-kept true (x ∷ []) xs some later = absurd (later refl refl)
-literal-kept false (x ∷ []) xs some later = record { kind_is = refl; size_is = refl }
-literal-kept true (x ∷ y ∷ pieces) xs some later = record { kind_is = refl; size_is = refl }
-literal-kept false (x ∷ y ∷ pieces) xs some later = record { kind_is = refl; size_is = refl }
+many : (n : ℕ) → leb (suc (suc n)) 1 ≡ false
+many n = grind (arith, nat_tests)
 
--- a first expression that looks back
-pub tree-bare : (pieces : List Piece) (tree : Tree) → length pieces ≡ 0 → IsShape (tree_form true pieces tree) (nfa tree) LookBack 0
-tree-bare [] tree e = record { kind_is = refl; size_is = refl }
-tree-bare (x ∷ pieces) tree e = absurd (cc)
+literal-shaped : (l : Bool) (pieces : List Piece) (xs : List LiteralByte) → IsShape (literal_form l pieces (length xs)) (lit xs) (literal_shape l (length pieces)).kind (literal_shape l (length pieces)).size
+literal-shaped l [] xs = record { kind_is = refl; size_is = refl }
+literal-shaped true (x ∷ []) xs = record { kind_is = refl; size_is = refl }
+literal-shaped false (x ∷ []) xs = record { kind_is = refl; size_is = refl }
+literal-shaped true (x ∷ y ∷ pieces) xs = rw ((far (length pieces)).0, (far (length pieces)).1) (record { kind_is = refl; size_is = refl })
+literal-shaped false (x ∷ y ∷ pieces) xs = rw ((far (length pieces)).0, (far (length pieces)).1) (record { kind_is = refl; size_is = refl })
 
--- any other
-pub tree-kept : (l : Bool) (pieces : List Piece) (tree : Tree) (size : ℕ) → (length pieces ≡ 0 → l ≡ true → ⊥) → size ≡ (count (write_out tree) + 7) / 8 → IsShape (tree_form l pieces tree) (nfa tree) Positions size
-tree-kept true [] tree size other is = absurd (other refl refl)
-tree-kept false [] tree size other is = record { kind_is = refl; size_is = is }
-tree-kept true (x ∷ pieces) tree size other is = record { kind_is = refl; size_is = is }
-tree-kept false (x ∷ pieces) tree size other is = record { kind_is = refl; size_is = is }
+tree-shaped : (l : Bool) (pieces : List Piece) (tree : Tree) → IsShape (tree_form l pieces tree) (nfa tree) (tree_shape l (length pieces) (count (write_out tree))).kind (tree_shape l (length pieces) (count (write_out tree))).size
+tree-shaped true [] tree = record { kind_is = refl; size_is = refl }
+tree-shaped false [] tree = record { kind_is = refl; size_is = refl }
+tree-shaped true (x ∷ pieces) tree = rw (behind (length pieces)) (record { kind_is = refl; size_is = refl })
+tree-shaped false (x ∷ pieces) tree = rw (behind (length pieces)) (record { kind_is = refl; size_is = refl })
 
--- repeats with an end
-pub last-kept : (set : List Bool) (n m : ℕ) → n ≤ 1 → IsShape (repeat_form set n (Some m)) (rep set n (Some m)) Last 2
-last-kept set zero m few = record { kind_is = refl; size_is = refl }
-last-kept set (suc zero) m few = record { kind_is = refl; size_is = refl }
-last-kept set (suc (suc n)) m few = absurd (omega arith)
+repeat-shaped : (set : List Bool) (least : ℕ) (greatest : Option ℕ) → IsShape (repeat_form set least greatest) (rep set least greatest) (repeat_shape least greatest).kind (repeat_shape least greatest).size
+repeat-shaped set least None = record { kind_is = refl; size_is = refl }
+repeat-shaped set zero (Some m) = record { kind_is = refl; size_is = refl }
+repeat-shaped set (suc zero) (Some m) = record { kind_is = refl; size_is = refl }
+repeat-shaped set (suc (suc least)) (Some m) = rw (many least) (record { kind_is = refl; size_is = refl })
 
-pub ring-kept : (set : List Bool) (n m size : ℕ) → 1 < n → size ≡ (m + 7) / 8 → IsShape (repeat_form set n (Some m)) (rep set n (Some m)) Ring size
-ring-kept set zero m size many is = absurd (omega arith)
-ring-kept set (suc zero) m size many is = absurd (omega arith)
-ring-kept set (suc (suc n)) m size many is = record { kind_is = refl; size_is = is }
+-- what is kept of the piece behind so many others is what its form says
+pub shaped : (l : Bool) (pieces : List Piece) (piece : Piece) → IsShape (form_of l pieces piece) piece (shape_for l (length pieces) piece).kind (shape_for l (length pieces) piece).size
+shaped l pieces (lit xs) = literal-shaped l pieces xs
+shaped l pieces (nfa tree) = tree-shaped l pieces tree
+shaped l pieces (rep set least greatest) = repeat-shaped set least greatest

@@ -1,10 +1,7 @@
 -- Of which kind the role of a piece is, and how long its field.
-use Rattle.std.specs.Prelude.{◌≡◌, ℕ, Bool, true, false, Option, Some, None, List, length}
+use Rattle.std.specs.Prelude.{◌≡◌, ℕ, Bool, true, false, Option, Some, None}
 use Rattle.hs_base.specs.Chains.{Piece, lit, nfa, rep}
-use Rattle.hs_base.specs.KeptPieces.{Form, nothing, positions, literal, first, last, ring, form_size, form_of}
-use Rattle.hs_base.specs.KeptPieces.{literal_form, tree_form}
-use Rattle.hs_base.specs.Literals.{LiteralByte}
-use Rattle.hs_base.specs.Trees.{Tree}
+use Rattle.hs_base.specs.KeptPieces.{Form, nothing, positions, literal, first, last, ring, form_size}
 use Rattle.hs_base.specs.Regions.{Place, place_form, place_size}
 use Rattle.hs_rose.specs.declared.kind.Kind.{Kind}
 use Rattle.hs_rose.specs.declared.kind.Kind.TheVariants.{LookBack, Positions, Dfa, BareLiteral, Literal, First, Last}
@@ -66,19 +63,3 @@ number_if_run Ring n = Some n
 pub record IsShape (form : Form) (piece : Piece) (kind : Kind) (size : ℕ) : Type 0 where
   pub kind_is : kind ≡ kind_for form piece
   pub size_is : size ≡ form_size form
-
--- The kind and the length of the field of a piece behind so many others, in a chain whose first one looks back or not.
-abbrev pub IsShapeBehind : (looks_back : Bool) (before : ℕ) → Piece → Kind → (size : ℕ) → Type 0
-IsShapeBehind looks_back before piece kind size =
-    (pieces : List Piece) → length pieces ≡ before → IsShape (form_of looks_back pieces piece) piece kind size
-
--- of a literal
-abbrev pub IsLiteralShape : (looks_back : Bool) (before : ℕ) → Kind → (size : ℕ) → Type 0
-IsLiteralShape looks_back before kind size =
-    (pieces : List Piece) (xs : List LiteralByte) → length pieces ≡ before →
-    IsShape (literal_form looks_back pieces (length xs)) (lit xs) kind size
-
--- of an expression
-abbrev pub IsTreeShape : (looks_back : Bool) (before : ℕ) → Tree → Kind → (size : ℕ) → Type 0
-IsTreeShape looks_back before tree kind size =
-    (pieces : List Piece) → length pieces ≡ before → IsShape (tree_form looks_back pieces tree) (nfa tree) kind size

@@ -1,5 +1,6 @@
 pub mod PieceEngines
 pub mod Kinds
+pub mod Shapes
 pub mod Listing
 pub mod Runnable
 pub mod Made

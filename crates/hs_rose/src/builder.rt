@@ -13,7 +13,7 @@ use crate::info::ChainInfo;
 use crate::literals::number_of_literal;
 use crate::making::{Made, number_of};
 use crate::role::Role;
-use crate::shape::{Shape, shape_of};
+use crate::shape::Shape;
 use hs_base::{Entry, ExprId, LitByte, Mask};
 use hs_pieces::{Chain, Piece};
 use std::alloc::{AllocError, Global};
@@ -124,7 +124,7 @@ impl Builder {
             IsBuilt self.old chains pieces → IsBuilt self.new chains (pieces ++ listed_piece x place ∷ [])) }
     {
         let named = self.name(alloc, piece)?;
-        let shape = shape_of(owner.looks_back, before, piece);
+        let shape = Shape::of(owner.looks_back, before, piece);
         self.roles.push(role_of(owner, before, shape, named))?;
         Ok(())
     }

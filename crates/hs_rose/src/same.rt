@@ -17,7 +17,7 @@ pub(crate) fn same_piece(a: &Piece, b: &Piece) -> bool
     match (a, b) {
         (Piece::Lit(xs), Piece::Lit(ys)) => same_literal(xs, ys),
         (Piece::Nfa(x), Piece::Nfa(y)) => same_tree(x, y),
-        (Piece::Rep(x, n, m), Piece::Rep(y, k, l)) => *n == *k && *m == *l && same_set(*x, *y),
+        (Piece::Rep(x, n, m), Piece::Rep(y, k, l)) => *n == *k && *m == *l && same_set(x, y),
         _ => false,
     }
 }
@@ -30,18 +30,31 @@ pub(crate) fn same_literal(xs: &[LitByte], ys: &[LitByte]) -> bool
         return false;
     }
     for (k, x) in xs.iter().enumerate() {
-        if *x != ys[k] {
+        if !same_byte(*x, ys[k]) {
             return false;
         }
     }
     true
 }
 
-/// Whether the two sets are equal.
-fn same_set(x: ByteSet, y: ByteSet) -> bool
-    ensures { IsTrue result ↔ (members x ≡ members y) }
+/// Whether the two bytes of literals are equal.
+fn same_byte(x: LitByte, y: LitByte) -> bool
+    ensures { IsTrue result ↔ (literal_byte x ≡ literal_byte y) }
 {
-    x == y
+    x.byte == y.byte && x.both_cases == y.both_cases
+}
+
+/// Whether the two sets are equal.
+fn same_set(x: &ByteSet, y: &ByteSet) -> bool
+    ensures { IsTrue result ↔ (members x.now ≡ members y.now) }
+{
+    for number in 0..256u16 {
+        let byte = number as u8;
+        if x.contains(byte) != y.contains(byte) {
+            return false;
+        }
+    }
+    true
 }
 
 /// Whether the two expressions are equal.
@@ -51,7 +64,7 @@ fn same_tree(a: &Expr, b: &Expr) -> bool
 {
     match (a, b) {
         (Expr::Empty, Expr::Empty) => true,
-        (Expr::Class(x), Expr::Class(y)) => same_set(*x, *y),
+        (Expr::Class(x), Expr::Class(y)) => same_set(x, y),
         (Expr::Points(xs), Expr::Points(ys)) => same_ranges(xs, ys),
         (Expr::Assert(x), Expr::Assert(y)) => *x == *y,
         (Expr::Cat(xs), Expr::Cat(ys)) => same_trees(xs, ys),
@@ -83,5 +96,20 @@ fn same_trees(xs: &[Expr], ys: &[Expr]) -> bool
 fn same_ranges(xs: &[(u32, u32)], ys: &[(u32, u32)]) -> bool
     ensures { IsTrue result ↔ (xs.now ≡ ys.now) }
 {
-    *xs == *ys
+    if xs.len() != ys.len() {
+        return false;
+    }
+    for (k, x) in xs.iter().enumerate() {
+        if !same_range(*x, ys[k]) {
+            return false;
+        }
+    }
+    true
+}
+
+/// Whether the two ranges are equal.
+fn same_range(x: (u32, u32), y: (u32, u32)) -> bool
+    ensures { IsTrue result ↔ (x ≡ y) }
+{
+    x.0 == y.0 && x.1 == y.1
 }

@@ -1,14 +1,9 @@
 //! What is kept of a piece.
 
-ghost use Rattle.std.specs.Prelude.{◌≡◌, ◌+◌, ◌/◌, ◌≤◌, Bool, Some, List};
-ghost use Rattle.hs_base.specs.Chains.{rep};
-ghost use Rattle.hs_base.specs.KeptPieces.{repeat_form};
+ghost use Rattle.std.specs.Prelude.{◌≡◌, ◌+◌, ◌/◌, ◌≤◌, Some};
 ghost use Rattle.hs_base.specs.Trees.{AreBounds};
-ghost use Rattle.hs_base.specs.WrittenOut.{IsPlain, write_out, count};
+ghost use Rattle.hs_base.specs.WrittenOut.{IsPlain, count, write_out};
 ghost use Rattle.hs_expr.specs.Meaning.{tree_of};
-ghost use Rattle.hs_pieces.specs.Meaning.{plain_piece};
-ghost use Rattle.hs_rose.specs.Kinds.{IsShape, IsShapeBehind, IsLiteralShape, IsTreeShape};
-ghost use Rattle.hs_rose.specs.Runnable.{IsRunnable};
 
 use crate::kind::Kind;
 use hs_bits::BYTE_BITS;
@@ -30,86 +25,85 @@ pub(crate) struct Shape {
     pub size: u16,
 }
 
-/// What is kept of the piece behind so many others, in a chain whose first one looks back or not.
-pub(crate) fn shape_of(looks_back: bool, before: usize, piece: &Piece) -> Shape
-    requires { IsRunnable (plain_piece piece.now) }
-    ensures { IsShapeBehind looks_back before (plain_piece piece.now) result.kind result.size }
-{
-    match piece {
-        Piece::Lit(_) => literal_shape(looks_back, before),
-        Piece::Nfa(expr) => tree_shape(looks_back, before, expr),
-        Piece::Rep(_, least, greatest) => repeat_shape(*least, *greatest),
+impl Shape {
+    ghost use Rattle.hs_rose.specs.Shapes.{shape, shape_for, literal_shape, tree_shape, repeat_shape};
+    ghost use Rattle.hs_rose.specs.Runnable.{IsRunnable};
+    ghost use Rattle.hs_pieces.specs.Meaning.{plain_piece};
+
+    /// What is kept of the piece behind so many others, in a chain whose first one looks back or not.
+    pub fn of(looks_back: bool, before: usize, piece: &Piece) -> Shape
+        requires { IsRunnable (plain_piece piece.now) }
+        ensures { result ≡ shape_for looks_back before (plain_piece piece.now) }
+    {
+        match piece {
+            Piece::Lit(_) => Shape::of_literal(looks_back, before),
+            Piece::Nfa(expr) => Shape::of_tree(looks_back, before, expr),
+            Piece::Rep(_, least, greatest) => Shape::of_repeat(*least, *greatest),
+        }
+    }
+
+    /// Of that kind, and so many bytes.
+    fn new(kind: Kind, size: u16) -> Shape
+        ensures { result ≡ shape kind size }
+    {
+        Shape { kind, size }
+    }
+
+    /// Of a literal.
+    fn of_literal(looks_back: bool, before: usize) -> Shape
+        ensures { result ≡ literal_shape looks_back before }
+    {
+        if before == 0 || (before == 1 && looks_back) {
+            Shape::new(Kind::BareLiteral, 0)
+        } else {
+            Shape::new(Kind::Literal, LITERAL_LEN)
+        }
+    }
+
+    /// Of an expression.
+    fn of_tree(looks_back: bool, before: usize, expr: &Expr) -> Shape
+        requires plain { IsPlain (tree_of expr.now) }
+        requires few { count (write_out (tree_of expr.now)) ≤ 512 }
+        ensures { result ≡ tree_shape looks_back before (count (write_out (tree_of expr.now))) }
+    {
+        if before == 0 && looks_back {
+            Shape::new(Kind::LookBack, 0)
+        } else {
+            Shape::new(Kind::Positions, bytes_for(position_count(expr)))
+        }
+    }
+
+    /// Of a long repeat of a set.
+    fn of_repeat(least: u32, greatest: Option<u32>) -> Shape
+        requires { AreBounds least greatest }
+        ensures { result ≡ repeat_shape least greatest }
+    {
+        match greatest {
+            None => Shape::new(Kind::First, DISTANCE_LEN),
+            Some(greatest) => Shape::of_bounded(least, greatest),
+        }
+    }
+
+    /// Of a repeat with an end.
+    fn of_bounded(least: u32, greatest: u32) -> Shape
+        requires { greatest ≤ 32767 }
+        ensures { result ≡ repeat_shape least (Some greatest) }
+    {
+        if least <= 1 {
+            Shape::new(Kind::Last, DISTANCE_LEN)
+        } else {
+            Shape::new(Kind::Ring, bytes_for(greatest))
+        }
     }
 }
 
-/// Of a literal.
-fn literal_shape(looks_back: bool, before: usize) -> Shape
-    ensures { IsLiteralShape looks_back before result.kind result.size }
-{
-    if before == 0 || (before == 1 && looks_back) {
-        Shape {
-            kind: Kind::BareLiteral,
-            size: 0,
-        }
-    } else {
-        Shape {
-            kind: Kind::Literal,
-            size: LITERAL_LEN,
-        }
-    }
-}
-
-/// Of an expression.
-fn tree_shape(looks_back: bool, before: usize, expr: &Expr) -> Shape
+/// How many positions the expression has.
+fn position_count(expr: &Expr) -> u32
     requires plain { IsPlain (tree_of expr.now) }
     requires few { count (write_out (tree_of expr.now)) ≤ 512 }
-    ensures { IsTreeShape looks_back before (tree_of expr.now) result.kind result.size }
+    ensures { result ≡ count (write_out (tree_of expr.now)) }
 {
-    if before == 0 && looks_back {
-        Shape {
-            kind: Kind::LookBack,
-            size: 0,
-        }
-    } else {
-        Shape {
-            kind: Kind::Positions,
-            size: bytes_for(positions(expr)),
-        }
-    }
-}
-
-/// Of a long repeat of a set.
-fn repeat_shape(least: u32, greatest: Option<u32>) -> Shape
-    requires { AreBounds least greatest }
-    ensures { (set : List Bool) →
-        IsShape (repeat_form set least greatest) (rep set least greatest) result.kind result.size }
-{
-    match greatest {
-        None => Shape {
-            kind: Kind::First,
-            size: DISTANCE_LEN,
-        },
-        Some(greatest) => bounded_shape(least, greatest),
-    }
-}
-
-/// Of a repeat with an end.
-fn bounded_shape(least: u32, greatest: u32) -> Shape
-    requires { greatest ≤ 32767 }
-    ensures { (set : List Bool) →
-        IsShape (repeat_form set least (Some greatest)) (rep set least (Some greatest)) result.kind result.size }
-{
-    if least <= 1 {
-        Shape {
-            kind: Kind::Last,
-            size: DISTANCE_LEN,
-        }
-    } else {
-        Shape {
-            kind: Kind::Ring,
-            size: bytes_for(greatest),
-        }
-    }
+    positions(expr)
 }
 
 /// How many bytes have so many bits.
