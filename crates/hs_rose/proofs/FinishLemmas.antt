@@ -1,6 +1,6 @@
 -- What is built is the program of the list.
-use Rattle.std.proofs.Common.{◌≡◌, ◌⊎◌, ℕ, zero, suc, ◌+◌, ◌<◌, Bool, true, false, List, [], ◌∷◌, ◌++◌, length, map, slice_get, Option, Some, None, refl, sym, ap, subst, ◌∙◌, arith}
-use Rattle.std.specs.Prelude.{vec_len}
+use Rattle.std.proofs.Common.{◌≡◌, ◌⊎◌, ℕ, zero, suc, ◌+◌, ◌<◌, Bool, true, false, List, [], ◌∷◌, ◌++◌, length, map, slice_get, Option, Some, None, Result, Ok, Err, refl, sym, ap, subst, ◌∙◌, arith}
+use Rattle.std.specs.Prelude.{vec_len, IfOk}
 use Rattle.std.specs.List.{AllZip}
 use Rattle.std.proofs.lemmas.List.{append-nil, length-map}
 use Rattle.std.proofs.lemmas.Option.{slice_get_within}
@@ -150,3 +150,8 @@ program-built b infos t entries chains built about is =
       literal_roles = subst (λ rs. AreRolesOfLiterals rs (length t.literals) t.literal_roles) (sym is.roles)
           (subst (λ ls. AreRolesOfLiterals b.roles.items (length ls) t.literal_roles) (sym is.literals) is.literal_roles);
     }
+
+-- what an answer says, said otherwise
+pub ok-each : {A E : Type 0} (P Q : A → Type 0) (r : Result A E) → ((x : A) → P x → Q x) → IfOk r P → IfOk r Q
+ok-each P Q (Ok x) to is = to x is
+ok-each P Q (Err e) to is = tt

@@ -45,14 +45,14 @@ none-added lists n = record { count = refl; each = λ k list at. (list, at, sym 
 
 role-each : (lists : List (Vec ℕ Global)) (k n : ℕ) (old new : Vec ℕ Global) → slice_get lists k ≡ Some old → new.items ≡ old.items ++ n ∷ [] → (j : ℕ) (list : List ℕ) (b : Bool) → (b ≡ true → k ≡ j) → (b ≡ false → k ≡ j → ⊥) →
     slice_get (map role_numbers (slice_set lists k new)) j ≡ Some list → (own : List ℕ) × (slice_get (map role_numbers lists) j ≡ Some own) × (list ≡ own ++ cond b (n ∷ []) [])
-role-each [] k n old new at grown j list b yes not is = absurd (cc)
-role-each (v ∷ lists) zero n old new at grown zero list true yes not is = let e : v ≡ old = cc in let e' : new.items ≡ list = cc in (v.items, refl, sym e' ∙ grown ∙ ap (λ (w : Vec ℕ Global). w.items ++ n ∷ []) (sym e))
-role-each (v ∷ lists) zero n old new at grown zero list false yes not is = absurd (not refl refl)
-role-each (v ∷ lists) zero n old new at grown (suc j) list true yes not is = absurd (omega (arith, yes refl))
-role-each (v ∷ lists) zero n old new at grown (suc j) list false yes not is = (list, is, sym (append-nil list))
-role-each (v ∷ lists) (suc k) n old new at grown zero list true yes not is = absurd (omega (arith, yes refl))
-role-each (v ∷ lists) (suc k) n old new at grown zero list false yes not is = (list, is, sym (append-nil list))
-role-each (v ∷ lists) (suc k) n old new at grown (suc j) list b yes not is = role-each lists k n old new at grown j list b (λ e. omega (arith, yes e)) (λ e same. not e (ap suc same)) is
+role-each [] k n old new at grown j list b one other is = absurd (cc)
+role-each (v ∷ lists) zero n old new at grown zero list true one other is = let e : v ≡ old = cc in let e' : new.items ≡ list = cc in (v.items, refl, sym e' ∙ grown ∙ ap (λ (w : Vec ℕ Global). w.items ++ n ∷ []) (sym e))
+role-each (v ∷ lists) zero n old new at grown zero list false one other is = absurd (other refl refl)
+role-each (v ∷ lists) zero n old new at grown (suc j) list true one other is = absurd (omega (arith, one refl))
+role-each (v ∷ lists) zero n old new at grown (suc j) list false one other is = (list, is, sym (append-nil list))
+role-each (v ∷ lists) (suc k) n old new at grown zero list true one other is = absurd (omega (arith, one refl))
+role-each (v ∷ lists) (suc k) n old new at grown zero list false one other is = (list, is, sym (append-nil list))
+role-each (v ∷ lists) (suc k) n old new at grown (suc j) list b one other is = role-each lists k n old new at grown j list b (λ e. omega (arith, one e)) (λ e same. other e (ap suc same)) is
 
 equal-numbers : (k j : ℕ) → eqb k j ≡ true → k ≡ j
 equal-numbers k j e = grind (arith, nat_tests)

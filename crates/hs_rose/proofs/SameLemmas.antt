@@ -1,10 +1,10 @@
 -- Lists and trees that are equal.
-use Rattle.std.proofs.Common.{◌≡◌, ◌⊎◌, ℕ, zero, suc, ◌+◌, ◌*◌, ◌/◌, ◌%◌, ◌^◌, ◌<◌, ◌≤◌, Bool, true, false, List, [], ◌∷◌, ◌++◌, length, map, take, get_or, slice_get, Some, eqb, refl, sym, ap, subst, ◌∙◌, arith}
+use Rattle.std.proofs.Common.{◌≡◌, ◌↔◌, ◌⊎◌, ℕ, zero, suc, ◌+◌, ◌*◌, ◌/◌, ◌%◌, ◌^◌, ◌<◌, ◌≤◌, Bool, true, false, IsTrue, List, [], ◌∷◌, ◌++◌, length, map, take, get_or, slice_get, Some, eqb, refl, sym, ap, subst, ◌∙◌, arith}
 use Rattle.std.proofs.lemmas.List.{take_all, length-map}
 use Rattle.std.proofs.lemmas.Option.{slice_get-map, slice_get-get_or}
 use Rattle.hs_base.specs.declared.byte_set.ByteSet.{ByteSet}
 use Rattle.hs_base.specs.ByteSets.{has, members}
-use Rattle.hs_base.specs.Trees.{Tree, trees_of}
+use Rattle.hs_base.specs.Trees.{Tree, cat, alt, trees_of}
 use Rattle.hs_base.proofs.ByteSetLemmas.{members-at}
 use Rattle.hs_base.proofs.LiteralLemmas.{members-where}
 use Rattle.hs_rose.proofs.ListLemmas.{get-map, take-get}
@@ -61,3 +61,13 @@ pub member-same : (s t : ByteSet) (b : ℕ) → b < 256 → members s ≡ member
 member-same s t b below same =
     let e : Some (has s b) ≡ Some (has t b) = sym (members-at s b below) ∙ ap (λ ms. slice_get ms b) same ∙ members-at t b below in
     cc
+
+-- lists of trees as one tree
+pub cat-agree : (r : Bool) (xs ys : List Tree) → (IsTrue r ↔ (xs ≡ ys)) → IsTrue r ↔ (cat (trees_of xs) ≡ cat (trees_of ys))
+cat-agree r xs ys both = (λ is. ap (λ zs. cat (trees_of zs)) (both.0 is), λ e. both.1 (trees-same xs ys (let t : trees_of xs ≡ trees_of ys = cc in t)))
+
+pub alt-agree : (r : Bool) (xs ys : List Tree) → (IsTrue r ↔ (xs ≡ ys)) → IsTrue r ↔ (alt (trees_of xs) ≡ alt (trees_of ys))
+alt-agree r xs ys both = (λ is. ap (λ zs. alt (trees_of zs)) (both.0 is), λ e. both.1 (trees-same xs ys (let t : trees_of xs ≡ trees_of ys = cc in t)))
+
+pub agree-along : (r : Bool) (s t s' t' : Tree) → s ≡ s' → t ≡ t' → (IsTrue r ↔ (s' ≡ t')) → IsTrue r ↔ (s ≡ t)
+agree-along r s t s' t' e e' both = (λ is. e ∙ both.0 is ∙ sym e', λ same. both.1 (sym e ∙ same ∙ e'))

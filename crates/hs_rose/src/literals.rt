@@ -55,9 +55,17 @@ pub(crate) fn roles_of_literals(
 {
     let mut lists = no_roles(alloc, count)?;
     for (number, role) in roles.iter().enumerate() {
-        add_role(&mut lists, role.literal(), number)?;
+        let literal = literal_number(role);
+        add_role(&mut lists, literal, number)?;
     }
     Ok(lists)
+}
+
+/// The number of the role's literal, if it has one.
+fn literal_number(role: &Role) -> Option<usize>
+    ensures { result ≡ literal_of role.now }
+{
+    role.literal()
 }
 
 /// Puts the number of a role behind those of its literal, if it has one.

@@ -1,7 +1,7 @@
 //! Whether two pieces are equal.
 
 ghost use Rattle.std.specs.Prelude.{◌≡◌, ◌↔◌, IsTrue, map};
-ghost use Rattle.hs_base.specs.ByteSets.{members};
+ghost use Rattle.hs_base.specs.ByteSets.{has, members};
 ghost use Rattle.hs_base.specs.LiteralView.{literal_byte};
 ghost use Rattle.hs_expr.specs.Meaning.{tree_of};
 ghost use Rattle.hs_pieces.specs.Meaning.{plain_piece};
@@ -50,11 +50,18 @@ fn same_set(x: &ByteSet, y: &ByteSet) -> bool
 {
     for number in 0..256u16 {
         let byte = number as u8;
-        if x.contains(byte) != y.contains(byte) {
+        if !agree(x, y, byte) {
             return false;
         }
     }
     true
+}
+
+/// Whether both sets have the byte, or neither.
+fn agree(x: &ByteSet, y: &ByteSet, byte: u8) -> bool
+    ensures { IsTrue result ↔ (has x.now byte ≡ has y.now byte) }
+{
+    x.contains(byte) == y.contains(byte)
 }
 
 /// Whether the two expressions are equal.
@@ -100,7 +107,7 @@ fn same_ranges(xs: &[(u32, u32)], ys: &[(u32, u32)]) -> bool
         return false;
     }
     for (k, x) in xs.iter().enumerate() {
-        if !same_range(*x, ys[k]) {
+        if !same_range(x, &ys[k]) {
             return false;
         }
     }
@@ -108,8 +115,8 @@ fn same_ranges(xs: &[(u32, u32)], ys: &[(u32, u32)]) -> bool
 }
 
 /// Whether the two ranges are equal.
-fn same_range(x: (u32, u32), y: (u32, u32)) -> bool
-    ensures { IsTrue result ↔ (x ≡ y) }
+fn same_range(x: &(u32, u32), y: &(u32, u32)) -> bool
+    ensures { IsTrue result ↔ (x.now ≡ y.now) }
 {
     x.0 == y.0 && x.1 == y.1
 }
