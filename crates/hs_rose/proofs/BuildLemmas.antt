@@ -81,15 +81,15 @@ piece-built old mid new owner before piece shape named r naming made_as made rol
     let same_ls : literals_of new ≡ ls = ap (λ zs. map literal_bytes zs) literal_list in
     let same_ms : models_of new ≡ ms = ap (λ zs. map model_of zs) made_list in
     let before_zip : AllZip (IsRoleOf ls ms) old.roles.items (listed_pieces chains ++ pieces) =
-        zip-each (IsRoleOf (literals_of old) (models_of old)) (IsRoleOf ls ms) old.roles.items (listed_pieces chains ++ pieces)
-        (role-kept (literals_of old) ls (models_of old) ms is.grown.literals is.grown.models) built.roles in
+    zip-each (IsRoleOf (literals_of old) (models_of old)) (IsRoleOf ls ms) old.roles.items (listed_pieces chains ++ pieces)
+    (role-kept (literals_of old) ls (models_of old) ms is.grown.literals is.grown.models) built.roles in
     let mid_zip : AllZip (IsRoleOf ls ms) mid.roles.items (listed_pieces chains ++ pieces) = subst (λ rs. AllZip (IsRoleOf ls ms) rs (listed_pieces chains ++ pieces)) (sym is.grown.roles) before_zip in
     let more : AllZip (IsRoleOf ls ms) (mid.roles.items ++ r ∷ []) ((listed_pieces chains ++ pieces) ++ listed_piece x place ∷ []) =
-        zip-push (IsRoleOf ls ms) mid.roles.items (listed_pieces chains ++ pieces) r (listed_piece x place) mid_zip
-        (role-made ls ms owner before piece shape named r x place own at made_as is.names made) in
+    zip-push (IsRoleOf ls ms) mid.roles.items (listed_pieces chains ++ pieces) r (listed_piece x place) mid_zip
+    (role-made ls ms owner before piece shape named r x place own at made_as is.names made) in
     let flat : AllZip (IsRoleOf ls ms) new.roles.items (listed_pieces chains ++ (pieces ++ listed_piece x place ∷ [])) =
-        subst (λ rs. AllZip (IsRoleOf ls ms) rs (listed_pieces chains ++ (pieces ++ listed_piece x place ∷ []))) (sym roles)
-        (subst (λ ps. AllZip (IsRoleOf ls ms) (mid.roles.items ++ r ∷ []) ps) (append_assoc (listed_pieces chains) pieces (listed_piece x place ∷ [])) more) in record {
+    subst (λ rs. AllZip (IsRoleOf ls ms) rs (listed_pieces chains ++ (pieces ++ listed_piece x place ∷ []))) (sym roles)
+    (subst (λ ps. AllZip (IsRoleOf ls ms) (mid.roles.items ++ r ∷ []) ps) (append_assoc (listed_pieces chains) pieces (listed_piece x place ∷ [])) more) in record {
       sound = record {
         literals = subst (λ zs. AreApart zs) (sym same_ls) is.sound.literals;
         models = subst (λ zs. AreApart zs) (sym same_ms) is.sound.models;
@@ -135,7 +135,7 @@ chain-step mid new owner x k piece chains own below at adds built =
       piece_is = refl;
     }) built in
     let more : map (listed_piece x) (take (suc k) (places_of_chain x)) ≡ map (listed_piece x) (take k (places_of_chain x)) ++ listed_piece x place ∷ [] =
-        ap (λ ps. map (listed_piece x) ps) (take-get (places_of_chain x) k place there) ∙ map-append (listed_piece x) (take k (places_of_chain x)) (place ∷ []) in
+    ap (λ ps. map (listed_piece x) ps) (take-get (places_of_chain x) k place there) ∙ map-append (listed_piece x) (take k (places_of_chain x)) (place ∷ []) in
     let next : suc k ≡ k + 1 = omega arith in
     subst (λ n. IsBuilt new chains (map (listed_piece x) (take n (places_of_chain x)))) next (subst (λ ps. IsBuilt new chains ps) (sym more) now)
 
@@ -205,8 +205,8 @@ entry-step new before entry asked cs k c at built =
     let x : ListedChain = chain_at entry (1 + k) asked c in
     let next : suc k ≡ k + 1 = omega arith in
     let more : (before ++ take k (chains_from entry 1 asked cs)) ++ x ∷ [] ≡ before ++ take (k + 1) (chains_from entry 1 asked cs) =
-        append_assoc before (take k (chains_from entry 1 asked cs)) (x ∷ []) ∙ ap (λ xs. before ++ xs) (sym (take-get (chains_from entry 1 asked cs) k x (chains-at entry 1 asked cs k c at)))
-        ∙ ap (λ n. before ++ take n (chains_from entry 1 asked cs)) next in
+    append_assoc before (take k (chains_from entry 1 asked cs)) (x ∷ []) ∙ ap (λ xs. before ++ xs) (sym (take-get (chains_from entry 1 asked cs) k x (chains-at entry 1 asked cs k c at)))
+    ∙ ap (λ n. before ++ take n (chains_from entry 1 asked cs)) next in
     subst (λ xs. IsBuilt new xs []) more built
 
 pub entry-built : (new : Builder) (before : List ListedChain) (entry : ℕ) (asked : Asked) (cs : List (List Piece)) (n : ℕ) → n ≡ length cs → IsBuilt new (before ++ take n (chains_from entry 1 asked cs)) [] → IsBuilt new (before ++ chains_from entry 1 asked cs) []
@@ -232,9 +232,9 @@ list-step new es css k number e cs below same at at' is built =
     let cut_css : length (take k css) ≡ k = length-take-le k css (omega arith) in
     let numbered : number ≡ 1 + length (take k es) = omega (arith, is, cut_es) in
     let more : listed_from 1 (take k es) (take k css) ++ chains_from number 1 e cs ≡ listed_from 1 (take (suc k) es) (take (suc k) css) =
-        ap (λ n. listed_from 1 (take k es) (take k css) ++ chains_from n 1 e cs) numbered
-        ∙ sym (listed-push 1 (take k es) (take k css) e cs (cut_es ∙ sym cut_css))
-        ∙ ap (λ xs. listed_from 1 xs (take k css ++ cs ∷ [])) (sym (take-get es k e at)) ∙ ap (λ xs. listed_from 1 (take (suc k) es) xs) (sym (take-get css k cs at')) in
+    ap (λ n. listed_from 1 (take k es) (take k css) ++ chains_from n 1 e cs) numbered
+    ∙ sym (listed-push 1 (take k es) (take k css) e cs (cut_es ∙ sym cut_css))
+    ∙ ap (λ xs. listed_from 1 xs (take k css ++ cs ∷ [])) (sym (take-get es k e at)) ∙ ap (λ xs. listed_from 1 (take (suc k) es) xs) (sym (take-get css k cs at')) in
     let next : suc k ≡ k + 1 = omega arith in
     subst (λ n. IsBuilt new (listed_from 1 (take n es) (take n css)) []) next (subst (λ xs. IsBuilt new xs []) more built)
 
@@ -248,5 +248,5 @@ pub info-more : (infos : List EntryInfo) (entries : List Entry) (k : ℕ) (info 
 info-more infos entries k info e at is all =
     let next : suc k ≡ k + 1 = omega arith in
     let more : map asked_of (take k entries) ++ asked_of e ∷ [] ≡ map asked_of (take (k + 1) entries) =
-        sym (map-append asked_of (take k entries) (e ∷ [])) ∙ ap (λ es. map asked_of es) (sym (take-get entries k e at)) ∙ ap (λ n. map asked_of (take n entries)) next in
+    sym (map-append asked_of (take k entries) (e ∷ [])) ∙ ap (λ es. map asked_of es) (sym (take-get entries k e at)) ∙ ap (λ n. map asked_of (take n entries)) next in
     subst (λ es. AllZip IsInfoOf (infos ++ info ∷ []) es) more (zip-push IsInfoOf infos (map asked_of (take k entries)) info (asked_of e) all is)

@@ -33,12 +33,15 @@ pub engine-runs : (t : Tables) (entries : List Asked) (chains : List (List (List
     (engine : PieceEngine) × (slice_get t.engines n ≡ Some engine) × IsMadeOf engine r.null piece
 engine-runs t entries chains k n r piece is has named =
     let own = zip-right IsEngineOf t.engines is.models is.engines n piece (engine-model t entries chains k n r piece is has named) in
-    let x = has.listed in
-    (own.0, own.1, record {
-      engine_is = own.2;
-      null_is = subst (λ p. IsNullMask r.null (piece_tree p)) has.piece_is
-          (engine-null t.literals is.models r x x.place.looks_back x.place.pieces x.place.piece refl (role-there t entries chains k r piece is has) n named);
-    })
+    let x = has.listed in (
+      own.0,
+      own.1,
+      record {
+        engine_is = own.2;
+        null_is = subst (λ p. IsNullMask r.null (piece_tree p)) has.piece_is
+            (engine-null t.literals is.models r x x.place.looks_back x.place.pieces x.place.piece refl (role-there t entries chains k r piece is has) n named);
+      },
+    )
 
 pub one-engine : (t : Tables) (entries : List Asked) (chains : List (List (List Piece))) (j k m n : ℕ) (r s : Role) (piece other : Piece) → IsProgramOf t entries chains → HasRole t (listed_pieces (listed_chains entries chains)) j r piece → HasRole t (listed_pieces (listed_chains entries chains)) k s other →
     engine_of r ≡ Some m → engine_of s ≡ Some n → (m ≡ n) ↔ (piece ≡ other)

@@ -23,7 +23,7 @@ pub same-more : {A B : Type 0} (f : A → B) (xs ys : List A) (k : ℕ) (x y : A
 same-more f xs ys k x y at at' same one =
     let next : suc k ≡ k + 1 = omega arith in
     let step : take (suc k) (map f xs) ≡ take (suc k) (map f ys) =
-        take-get (map f xs) k (f x) (get-map f xs k x at) ∙ ap (λ zs. zs ++ f x ∷ []) same ∙ ap (λ z. take k (map f ys) ++ z ∷ []) one ∙ sym (take-get (map f ys) k (f y) (get-map f ys k y at')) in
+    take-get (map f xs) k (f x) (get-map f xs k x at) ∙ ap (λ zs. zs ++ f x ∷ []) same ∙ ap (λ z. take k (map f ys) ++ z ∷ []) one ∙ sym (take-get (map f ys) k (f y) (get-map f ys k y at')) in
     subst (λ n. take n (map f xs) ≡ take n (map f ys)) next step
 
 -- as far as all

@@ -43,11 +43,7 @@ impl Program {
 }
 
 /// The program of what is built.
-fn finish(
-    alloc: Global,
-    infos: Vec<EntryInfo>,
-    builder: Builder,
-) -> Result<Program, AllocError>
+fn finish(alloc: Global, infos: Vec<EntryInfo>, builder: Builder) -> Result<Program, AllocError>
     requires { AreNumbered builder }
     ensures { IfOk result (λ program. IsFinished infos.items builder program) }
 {

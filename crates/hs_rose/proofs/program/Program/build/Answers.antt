@@ -44,6 +44,6 @@ returns c =
     let css = map plain_chains c.args.chains.now in
     ok-each (IsFinished c.in_ok-infos.infos.items c.loop-k.builder) (λ program. IsProgramOf program es css) c.finish.result
     (λ program is. program-built c.loop-k.builder c.in_ok-infos.infos.items program es css
-        (list-built c.loop-k.builder es css c.loop-k.k (omega (arith, length-map c.args.entries.now asked_of)) (omega (arith, length-map c.args.entries.now asked_of, length-map c.args.chains.now plain_chains, c.requires.whole)) c.loop-k.invariant)
-        c.in_ok-infos.ensures is)
+    (list-built c.loop-k.builder es css c.loop-k.k (omega (arith, length-map c.args.entries.now asked_of)) (omega (arith, length-map c.args.entries.now asked_of, length-map c.args.chains.now plain_chains, c.requires.whole)) c.loop-k.invariant)
+    c.in_ok-infos.ensures is)
     c.finish.ensures
