@@ -1,6 +1,6 @@
 -- A program is built piece by piece, chain by chain and entry by entry.
-use Rattle.std.proofs.Common.{◌≡◌, ℕ, zero, suc, ◌+◌, ◌<◌, ◌≤◌, ◌^◌, Bool, List, [], ◌∷◌, ◌++◌, length, map, take, slice_get, Some, refl, sym, ap, subst, ◌∙◌, append_assoc, arith}
-use Rattle.std.specs.List.{AllZip, flat_map}
+use Rattle.std.proofs.Common.{◌≡◌, ℕ, zero, suc, ◌+◌, ◌<◌, Bool, List, [], ◌∷◌, ◌++◌, length, map, take, slice_get, Some, refl, sym, ap, subst, ◌∙◌, append_assoc, arith}
+use Rattle.std.specs.List.{AllZip}
 use Rattle.std.proofs.lemmas.List.{append-nil, length-append, length-map, length-take-le, map-append, take_all}
 use Rattle.std.proofs.lemmas.Grind.{flat_map-append}
 use Rattle.hs_base.specs.declared.context.Mask.{Mask}
@@ -19,15 +19,15 @@ use Rattle.hs_rose.specs.declared.info.ChainInfo.{ChainInfo}
 use Rattle.hs_rose.specs.declared.info.EntryInfo.{EntryInfo}
 use Rattle.hs_rose.specs.declared.role.Role.{Role}
 use Rattle.hs_rose.specs.declared.shape.Shape.{Shape}
-use Rattle.hs_rose.specs.Building.{AreKept, IsBuilt, IsGrown, IsNamed, IsOwner, IsPlaceOf, IsRoleFor, IsSound, literals_of, models_of}
+use Rattle.hs_rose.specs.Building.{AreKept, IsBuilt, IsNamed, IsOwner, IsPlaceOf, IsRoleFor, IsSound, literals_of, models_of}
 use Rattle.hs_rose.specs.Kinds.{IsShape}
 use Rattle.hs_rose.specs.Shapes.{shape_for}
 use Rattle.hs_rose.proofs.ShapeLemmas.{shaped}
 use Rattle.hs_rose.specs.Listing.{Asked, ListedChain, ListedPiece, asked_of, chains_from, listed_from, listed_piece, listed_pieces, pieces_of}
 use Rattle.hs_rose.specs.Made.{IsMade, model_of}
 use Rattle.hs_rose.specs.Numbering.{AreApart}
-use Rattle.hs_rose.specs.Programs.{AreChainsOf, IsChainOf, IsInfoOf, IsRoleOf, Names, NamesPiece}
-use Rattle.hs_rose.proofs.ListLemmas.{get-left, take-get, zip-each, zip-length, zip-push}
+use Rattle.hs_rose.specs.Programs.{AreChainsOf, IsChainOf, IsInfoOf, IsRoleOf, Names}
+use Rattle.hs_rose.proofs.ListLemmas.{take-get, zip-each, zip-length, zip-push}
 
 names-kept : (ls ls' : List (List LiteralByte)) (ms ms' : List Piece) → AreKept ls ls' → AreKept ms ms' → (n : ℕ) (null : Mask) (piece : Piece) → Names ls ms n null piece → Names ls' ms' n null piece
 names-kept ls ls' ms ms' literals models n null (lit xs) names = record { named = literals n xs names.named; null_is = names.null_is }

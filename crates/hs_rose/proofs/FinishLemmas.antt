@@ -1,6 +1,6 @@
 -- What is built is the program of the list.
-use Rattle.std.proofs.Common.{◌≡◌, ◌⊎◌, ℕ, zero, suc, ◌+◌, ◌<◌, Bool, true, false, List, [], ◌∷◌, ◌++◌, length, map, slice_get, Option, Some, None, Result, Ok, Err, refl, sym, ap, subst, ◌∙◌, arith}
-use Rattle.std.specs.Prelude.{vec_len, IfOk}
+use Rattle.std.proofs.Common.{◌≡◌, ℕ, zero, suc, ◌<◌, Bool, true, false, List, [], ◌∷◌, ◌++◌, length, map, slice_get, Option, Some, None, Result, Ok, Err, refl, sym, ap, subst, ◌∙◌, arith}
+use Rattle.std.specs.Prelude.{IfOk}
 use Rattle.std.specs.List.{AllZip}
 use Rattle.std.proofs.lemmas.List.{append-nil, length-map}
 use Rattle.std.proofs.lemmas.Option.{slice_get_within}
@@ -18,13 +18,13 @@ use Rattle.hs_rose.specs.declared.making.Made.{Made}
 use Rattle.hs_rose.specs.declared.role.Role.{Role}
 use Rattle.hs_rose.specs.Building.{IsBuilt, literals_of, models_of}
 use Rattle.hs_rose.specs.Finishing.{AreNumbered, IsFinished, engine_made}
-use Rattle.hs_rose.specs.Kinds.{kind_for, number_if_literal, number_if_run, place_kind}
+use Rattle.hs_rose.specs.Kinds.{kind_for, number_if_literal, number_if_run}
 use Rattle.hs_rose.specs.Listing.{Asked, ListedChain, ListedPiece, listed_chains, listed_pieces}
 use Rattle.hs_rose.specs.Made.{IsMade, IsNullMask, model_of}
 use Rattle.hs_rose.specs.Numbering.{AreApart}
 use Rattle.hs_rose.specs.PieceEngines.{IsEngineOf}
-use Rattle.hs_rose.specs.Programs.{Tables, AreChainsOf, AreRolesOfLiterals, IsInfoOf, IsProgramOf, IsRoleOf, NamesPiece, engine_of, literal_of}
-use Rattle.hs_rose.proofs.ListLemmas.{map-get, zip-left, zip-map}
+use Rattle.hs_rose.specs.Programs.{Tables, AreChainsOf, AreRolesOfLiterals, IsInfoOf, IsProgramOf, IsRoleOf, engine_of, literal_of}
+use Rattle.hs_rose.proofs.ListLemmas.{zip-left, zip-map}
 
 -- the role of a literal names one, and that of another piece doesn't
 literal-number : (l : Bool) (pieces : List Piece) (xs : List LiteralByte) (n : ℕ) → number_if_literal (kind_for (literal_form l pieces (length xs)) (lit xs)) n ≡ Some n

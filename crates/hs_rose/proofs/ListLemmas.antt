@@ -5,7 +5,6 @@ use Rattle.std.specs.Option.{option_map}
 use Rattle.std.proofs.lemmas.Option.{slice_get-map, slice_get_read, slice_get_within}
 use Rattle.hs_base.specs.Lists.{Each}
 use Rattle.hs_rose.specs.Numbering.{AreApart, IsNew}
-use Rattle.hs_rose.specs.Building.{AreKept}
 
 -- a member keeps its number where more come behind
 pub get-left : {A : Type 0} (xs ys : List A) (k : ℕ) (x : A) → slice_get xs k ≡ Some x → slice_get (xs ++ ys) k ≡ Some x

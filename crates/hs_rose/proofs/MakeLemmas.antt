@@ -1,20 +1,15 @@
 -- The engines of pieces, and where pieces have the empty span.
-use Rattle.std.proofs.Common.{◌≡◌, ◌↔◌, ℕ, zero, suc, ◌+◌, ◌/◌, ◌<◌, ◌≤◌, Bool, true, false, List, [], ◌∷◌, length, Option, Some, None, IfSome, Box, Global, nat_le, refl, sym, ap, subst, ◌∙◌, inl, inr, arith}
+use Rattle.std.proofs.Common.{◌≡◌, ℕ, zero, suc, ◌+◌, ◌/◌, ◌<◌, ◌≤◌, Bool, true, false, List, length, Option, Some, None, Box, Global, refl, sym, ap, subst, ◌∙◌, inl, inr, arith}
 use Rattle.std.proofs.lemmas.Bool.{false≢true}
 use Rattle.std.proofs.lemmas.Bool.Decides.{nat_tests}
-use Rattle.hs_base.specs.declared.byte_set.ByteSet.{ByteSet}
 use Rattle.hs_base.specs.declared.context.Mask.{Mask}
-use Rattle.hs_base.specs.declared.context.Next.{Next}
 use Rattle.hs_base.specs.ByteSets.{members}
-use Rattle.hs_base.specs.Bits.{has_bit}
-use Rattle.hs_base.specs.Chains.{Piece, lit, nfa, rep, piece_tree, is_long}
+use Rattle.hs_base.specs.Chains.{nfa, rep, is_long}
 use Rattle.hs_base.specs.Contexts.{Context, context_of, then_bytes, then_ended}
 use Rattle.hs_base.specs.ContextSets.{has_context}
-use Rattle.hs_base.specs.KeptPieces.{Says, IsFieldAt, form_size}
-use Rattle.hs_base.specs.Leaving.{IsEmptyAt}
 use Rattle.hs_base.specs.RepeatRows.{IsFirstRow, IsLastRow, IsRingRow, IsDistanceAt, IsRingAt, distance_of}
-use Rattle.hs_base.specs.Spans.{Spans, Copies, IsByteOf}
-use Rattle.hs_base.specs.Trees.{Tree, class, repeat, AreBounds}
+use Rattle.hs_base.specs.Spans.{Spans, Copies}
+use Rattle.hs_base.specs.Trees.{Tree, class, repeat}
 use Rattle.hs_base.specs.WrittenOut.{count, write_out}
 use Rattle.hs_engine.specs.Tables.{IsClearFrom}
 use Rattle.hs_limex.specs.declared.limex.Limex.{Limex}
@@ -23,10 +18,9 @@ use Rattle.hs_repeat.specs.declared.first.First.{First}
 use Rattle.hs_repeat.specs.declared.last.Last.{Last}
 use Rattle.hs_repeat.specs.declared.ring.Ring.{Ring}
 use Rattle.hs_repeat.specs.RepeatEngines.{meaning_of_first, meaning_of_last, meaning_of_ring}
-use Rattle.hs_rose.specs.declared.engine.PieceEngine.{PieceEngine}
 use Rattle.hs_rose.specs.declared.engine.PieceEngine.TheVariants as engine
 use Rattle.hs_rose.specs.Made.{IsNullMask}
-use Rattle.hs_rose.specs.PieceEngines.{IsEngineOf, engine_form}
+use Rattle.hs_rose.specs.PieceEngines.{IsEngineOf}
 
 -- the engine of an expression
 pub positions-engine : (limex : Box Limex Global) (tree : Tree) → (meaning_of_limex limex.value).is_for tree → IsEngineOf (engine.Positions limex) (nfa tree)

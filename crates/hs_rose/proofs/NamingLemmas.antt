@@ -1,6 +1,5 @@
 -- Pieces get their numbers among the literals or the engines.
-use Rattle.std.proofs.Common.{◌≡◌, ℕ, ◌<◌, List, [], ◌∷◌, ◌++◌, length, map, slice_get, Some, refl, sym, ap, subst, ◌∙◌}
-use Rattle.std.specs.Prelude.{vec_len}
+use Rattle.std.proofs.Common.{◌≡◌, ℕ, ◌<◌, List, [], ◌∷◌, ◌++◌, length, map, slice_get, Some, sym, ap, subst, ◌∙◌}
 use Rattle.std.proofs.lemmas.List.{length-map, map-append}
 use Rattle.std.proofs.lemmas.Option.{slice_get_within}
 use Rattle.hs_base.specs.declared.context.Mask.{Mask}
@@ -11,10 +10,10 @@ use Rattle.hs_base.specs.Literals.{LiteralByte}
 use Rattle.hs_rose.specs.declared.builder.Builder.{Builder}
 use Rattle.hs_rose.specs.declared.builder.Named.{Named}
 use Rattle.hs_rose.specs.declared.making.Made.{Made}
-use Rattle.hs_rose.specs.Building.{AreKept, IsGrown, IsNamed, IsSound, literals_of, models_of}
+use Rattle.hs_rose.specs.Building.{AreKept, IsNamed, IsSound, literals_of, models_of}
 use Rattle.hs_rose.specs.Made.{IsMade, IsNullMask, model_of}
 use Rattle.hs_rose.specs.Numbering.{AreApart, IsNew, IsNumbered, found, added}
-use Rattle.hs_rose.specs.Programs.{IsEmptyMask, Names, NamesLiteral, NamesPiece}
+use Rattle.hs_rose.specs.Programs.{IsEmptyMask, Names, NamesPiece}
 use Rattle.hs_rose.specs.Runnable.{IsRun}
 use Rattle.hs_rose.proofs.ListLemmas.{get-left, get-behind, apart-push, each-get, map-get}
 

@@ -1,12 +1,11 @@
 -- What is kept of pieces.
-use Rattle.std.proofs.Common.{◌≡◌, ℕ, zero, suc, ◌<◌, Bool, true, false, eqb, leb, List, [], ◌∷◌, length, Option, Some, None, refl, sym, ap, subst, arith}
+use Rattle.std.proofs.Common.{◌≡◌, ℕ, zero, suc, Bool, true, false, eqb, leb, List, [], ◌∷◌, length, Option, Some, None, refl, arith}
 use Rattle.std.proofs.lemmas.Bool.Decides.{nat_tests}
 use Rattle.hs_base.specs.Chains.{Piece, lit, nfa, rep}
 use Rattle.hs_base.specs.KeptPieces.{form_of, literal_form, tree_form, repeat_form}
 use Rattle.hs_base.specs.Literals.{LiteralByte}
 use Rattle.hs_base.specs.Trees.{Tree}
 use Rattle.hs_base.specs.WrittenOut.{count, write_out}
-use Rattle.hs_rose.specs.declared.shape.Shape.{Shape}
 use Rattle.hs_rose.specs.Kinds.{IsShape}
 use Rattle.hs_rose.specs.Shapes.{literal_shape, tree_shape, repeat_shape, shape_for}
 

@@ -1,5 +1,5 @@
 -- What is built of a program, chain by chain and piece by piece.
-use Rattle.std.specs.Prelude.{◌≡◌, ℕ, suc, ◌++◌, Bool, List, length, map, Some, slice_get}
+use Rattle.std.specs.Prelude.{◌≡◌, ℕ, suc, ◌++◌, List, length, map, Some, slice_get}
 use Rattle.std.specs.List.{AllZip}
 use Rattle.hs_base.specs.Chains.{Piece}
 use Rattle.hs_base.specs.LiteralView.{literal_bytes}

@@ -2,7 +2,7 @@
 use Rattle.std.specs.Prelude.{◌≡◌, ℕ, Bool, true, false, Option, Some, None}
 use Rattle.hs_base.specs.Chains.{Piece, lit, nfa, rep}
 use Rattle.hs_base.specs.KeptPieces.{Form, nothing, positions, literal, first, last, ring, form_size}
-use Rattle.hs_base.specs.Regions.{Place, place_form, place_size}
+use Rattle.hs_base.specs.Regions.{Place, place_form}
 use Rattle.hs_rose.specs.declared.kind.Kind.{Kind}
 use Rattle.hs_rose.specs.declared.kind.Kind.TheVariants.{LookBack, Positions, Dfa, BareLiteral, Literal, First, Last}
 use Rattle.hs_rose.specs.declared.kind.Kind.TheVariants.{Ring}

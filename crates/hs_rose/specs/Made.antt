@@ -1,5 +1,5 @@
 -- What the engine of a piece is, and where the piece has the empty span.
-use Rattle.std.specs.Prelude.{◌≡◌, ◌↔◌, ℕ, true, false, List}
+use Rattle.std.specs.Prelude.{◌≡◌, ◌↔◌, ℕ, true, List}
 use Rattle.hs_base.specs.declared.context.Mask.{Mask}
 use Rattle.hs_base.specs.declared.context.Next.{Next}
 use Rattle.hs_base.specs.Contexts.{context_of}
@@ -10,11 +10,12 @@ use Rattle.hs_base.specs.Trees.{Tree}
 use Rattle.hs_pieces.specs.Meaning.{plain_piece}
 use Rattle.hs_rose.specs.declared.engine.PieceEngine.{PieceEngine}
 use Rattle.hs_rose.specs.declared.making.Made.{Made}
-use Rattle.hs_rose.specs.PieceEngines.{piece_meaning, IsEngineOf}
+use Rattle.hs_rose.specs.PieceEngines.{IsEngineOf}
 
 -- the mask has the contexts in which the expression has the empty span, in every stream
 abbrev pub IsNullMask : Mask → Tree → Type 0
-IsNullMask mask tree = (u : List ℕ) (next : Next) → (has_context mask (context_of u next) ≡ true) ↔ IsEmptyAt tree u next
+IsNullMask mask tree =
+    (u : List ℕ) (next : Next) → (has_context mask (context_of u next) ≡ true) ↔ IsEmptyAt tree u next
 
 -- What is made of a piece: an engine that runs it, and the mask of its empty spans.
 pub record IsMadeOf (engine : PieceEngine) (null : Mask) (piece : Piece) : Type 0 where

@@ -1,5 +1,5 @@
 -- Members of a list by their numbers, each of which stands there once.
-use Rattle.std.specs.Prelude.{◌≡◌, ℕ, ◌<◌, suc, List, [], ◌∷◌, ◌++◌, length, Option, Some, slice_get}
+use Rattle.std.specs.Prelude.{◌≡◌, ℕ, List, [], ◌∷◌, ◌++◌, length, Some, slice_get}
 
 -- no member stands twice
 abbrev pub AreApart : {A : Type 0} → List A → Type 0

@@ -1,15 +1,13 @@
 -- Which program is that of a list.
-use Rattle.std.specs.Prelude.{◌≡◌, ℕ, zero, suc, ◌+◌, ◌==◌, ◌<◌, Bool, true, false, List, [], ◌∷◌, length, map, Option, Some, None}
+use Rattle.std.specs.Prelude.{◌≡◌, ℕ, suc, ◌+◌, ◌==◌, ◌<◌, Bool, false, List, [], ◌∷◌, length, Option, Some, None}
 use Rattle.std.specs.Prelude.{slice_get, cond}
 use Rattle.std.specs.List.{AllZip}
 use Rattle.hs_base.specs.declared.context.Mask.{Mask}
-use Rattle.hs_base.specs.declared.flags.Flags.{Flags}
 use Rattle.hs_base.specs.Chains.{Piece, lit, nfa, rep}
 use Rattle.hs_base.specs.Contexts.{Context}
 use Rattle.hs_base.specs.ContextSets.{has_context}
-use Rattle.hs_base.specs.KeptPieces.{Form}
 use Rattle.hs_base.specs.Literals.{LiteralByte}
-use Rattle.hs_base.specs.Regions.{Place, place_form, place_size}
+use Rattle.hs_base.specs.Regions.{place_size}
 use Rattle.hs_base.specs.Chains.{piece_tree}
 use Rattle.hs_rose.specs.declared.engine.PieceEngine.{PieceEngine}
 use Rattle.hs_rose.specs.declared.role.Role.{Role}

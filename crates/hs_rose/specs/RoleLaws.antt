@@ -1,14 +1,13 @@
 -- What holds of the program of a list.
 use Rattle.std.specs.Prelude.{◌≡◌, ◌↔◌, ℕ, List, length, map, Some, slice_get}
 use Rattle.hs_base.specs.Chains.{Piece, chains_of}
-use Rattle.hs_base.specs.Patterns.{Pattern}
 use Rattle.hs_base.specs.Regions.{Plan, list_places, place_size}
 use Rattle.hs_pieces.specs.LookBack.{begins_with_look_back}
 use Rattle.hs_rose.specs.declared.engine.PieceEngine.{PieceEngine}
 use Rattle.hs_rose.specs.declared.role.Role.{Role}
 use Rattle.hs_rose.specs.Listing.{Asked, ListedPiece, listed_chains, listed_pieces}
 use Rattle.hs_rose.specs.Made.{IsMadeOf}
-use Rattle.hs_rose.specs.Programs.{Tables, IsProgramOf, engine_of, literal_of}
+use Rattle.hs_rose.specs.Programs.{Tables, IsProgramOf, engine_of}
 
 -- the role of that number is there, and so is its piece
 pub record HasRole (t : Tables) (pieces : List ListedPiece) (k : ℕ) (r : Role) (piece : Piece) : Type 0 where

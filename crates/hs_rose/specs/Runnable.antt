@@ -1,5 +1,5 @@
 -- Which pieces a program can be made of.
-use Rattle.std.specs.Prelude.{◌≡◌, ℕ, ◌≤◌, ◌<◌, ◌^◌, false, true, List, length}
+use Rattle.std.specs.Prelude.{◌≡◌, ◌≤◌, ◌<◌, ◌^◌, false, true, List, length}
 use Rattle.hs_base.specs.Chains.{Piece, lit, nfa, rep, is_long}
 use Rattle.hs_base.specs.EndAssertions.{has_embedded_end}
 use Rattle.hs_base.specs.Lists.{Each}

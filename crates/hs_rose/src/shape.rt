@@ -11,10 +11,10 @@ use hs_expr::{Expr, positions};
 use hs_pieces::Piece;
 
 /// The length in bytes of the entries of a literal.
-const LITERAL_LEN: u16 = 4;
+const LITERAL_SIZE: u16 = 4;
 
 /// The length in bytes of a distance.
-const DISTANCE_LEN: u16 = 2;
+const DISTANCE_SIZE: u16 = 2;
 
 /// What is kept of a piece: of which kind it is, and how many bytes it takes.
 #[derive(Clone, Copy, Debug)]
@@ -56,7 +56,7 @@ impl Shape {
         if before == 0 || (before == 1 && looks_back) {
             Shape::new(Kind::BareLiteral, 0)
         } else {
-            Shape::new(Kind::Literal, LITERAL_LEN)
+            Shape::new(Kind::Literal, LITERAL_SIZE)
         }
     }
 
@@ -79,7 +79,7 @@ impl Shape {
         ensures { result ≡ repeat_shape least greatest }
     {
         match greatest {
-            None => Shape::new(Kind::First, DISTANCE_LEN),
+            None => Shape::new(Kind::First, DISTANCE_SIZE),
             Some(greatest) => Shape::of_bounded(least, greatest),
         }
     }
@@ -90,7 +90,7 @@ impl Shape {
         ensures { result ≡ repeat_shape least (Some greatest) }
     {
         if least <= 1 {
-            Shape::new(Kind::Last, DISTANCE_LEN)
+            Shape::new(Kind::Last, DISTANCE_SIZE)
         } else {
             Shape::new(Kind::Ring, bytes_for(greatest))
         }

@@ -1,4 +1,4 @@
-use Rattle.std.proofs.Common.{◌<◌, ℕ, List, Option, map, slice_set, vec_len, sym, ap, ◌∙◌, subst, arith}
+use Rattle.std.proofs.Common.{◌<◌, ℕ, Option, map, slice_set, vec_len, sym, subst, arith}
 use Rattle.std.specs.Option.{IfSome}
 use Rattle.hs_rose.specs.Finishing.{IsRoleAdded}
 use Rattle.hs_rose.specs.Views.{role_numbers}

@@ -1,4 +1,4 @@
-use Rattle.std.proofs.Common.{◌≡◌, List, map, ap, sym, ◌∙◌, arith}
+use Rattle.std.proofs.Common.{List, map, ap, sym, ◌∙◌, arith}
 use Rattle.std.proofs.lemmas.Bool.{false≢true}
 use Rattle.hs_base.specs.Trees.{cat, alt, trees_of}
 use Rattle.hs_expr.specs.Meaning.{tree_of}

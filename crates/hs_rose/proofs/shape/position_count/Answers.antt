@@ -1,5 +1,4 @@
-use Rattle.std.proofs.Common.{◌≡◌, sym, ◌∙◌, arith}
-use Rattle.hs_expr.specs.Counts.{positions}
+use Rattle.std.proofs.Common.{arith}
 use Rattle.hs_expr.specs.Meaning.{tree_of}
 use Rattle.hs_glushkov.proofs.CountLemmas.{count-written}
 use Rattle.hs_rose.proofs.shape.position_count.Goals as goal

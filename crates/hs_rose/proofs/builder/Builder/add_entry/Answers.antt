@@ -1,4 +1,4 @@
-use Rattle.std.proofs.Common.{◌≡◌, ◌+◌, ◌++◌, Some, length, map, take, slice_get, refl, arith}
+use Rattle.std.proofs.Common.{◌≡◌, ◌+◌, ◌++◌, map, take, refl, arith}
 use Rattle.std.proofs.lemmas.List.{length-map}
 use Rattle.hs_pieces.specs.Meaning.{plain_chain}
 use Rattle.hs_rose.specs.Listing.{asked_of, chains_from}
