@@ -41,15 +41,15 @@ pub record IsSet (set own : List Bool) (n m : ℕ) : Type 0 where
 
 pub first-engine : (first : First) (set : List Bool) (n : ℕ) → (meaning_of_first first).is_for (repeat (class set) n None) → IsEngineOf (engine.First first) (rep set n None)
 first-engine first set n runs =
-    let set_is : set ≡ members first.set = cc in
-    let bound_is : n ≡ first.least = cc in record {
+    let set_is : set ≡ members first.farthest.set = cc in
+    let bound_is : n ≡ first.farthest.bound = cc in record {
       runs = runs;
       kind_is = refl;
       width = refl;
       always = refl;
       says = λ bytes u entered. (
-        λ is. subst (λ s. IsFirstRow n s bytes u entered) (sym set_is) (subst (λ k. IsFirstRow k (members first.set) bytes u entered) (sym bound_is) is),
-        λ is. subst (λ k. IsFirstRow k (members first.set) bytes u entered) bound_is (subst (λ s. IsFirstRow n s bytes u entered) set_is is),
+        λ is. subst (λ s. IsFirstRow n s bytes u entered) (sym set_is) (subst (λ k. IsFirstRow k (members first.farthest.set) bytes u entered) (sym bound_is) is),
+        λ is. subst (λ k. IsFirstRow k (members first.farthest.set) bytes u entered) bound_is (subst (λ s. IsFirstRow n s bytes u entered) set_is is),
       );
       well = λ bytes at. (
         λ is. subst (λ k. IsDistanceAt k (distance_of bytes) at) (sym bound_is) is,
@@ -57,15 +57,15 @@ first-engine first set n runs =
       );
     }
 
-last-made : (last : Last) (set : List Bool) (n m : ℕ) → n ≤ 1 → set ≡ members last.set → m ≡ last.greatest → (meaning_of_last last).is_for (repeat (class set) n (Some m)) → IsEngineOf (engine.Last last) (rep set n (Some m))
+last-made : (last : Last) (set : List Bool) (n m : ℕ) → n ≤ 1 → set ≡ members last.nearest.set → m ≡ last.nearest.bound → (meaning_of_last last).is_for (repeat (class set) n (Some m)) → IsEngineOf (engine.Last last) (rep set n (Some m))
 last-made last set zero m few set_is bound_is runs = record {
   runs = runs;
   kind_is = refl;
   width = refl;
   always = refl;
   says = λ bytes u entered. (
-    λ is. subst (λ s. IsLastRow m s bytes u entered) (sym set_is) (subst (λ k. IsLastRow k (members last.set) bytes u entered) (sym bound_is) is),
-    λ is. subst (λ k. IsLastRow k (members last.set) bytes u entered) bound_is (subst (λ s. IsLastRow m s bytes u entered) set_is is),
+    λ is. subst (λ s. IsLastRow m s bytes u entered) (sym set_is) (subst (λ k. IsLastRow k (members last.nearest.set) bytes u entered) (sym bound_is) is),
+    λ is. subst (λ k. IsLastRow k (members last.nearest.set) bytes u entered) bound_is (subst (λ s. IsLastRow m s bytes u entered) set_is is),
   );
   well = λ bytes at. (
     λ is. subst (λ k. IsDistanceAt k (distance_of bytes) at) (sym bound_is) is,
@@ -78,8 +78,8 @@ last-made last set (suc zero) m few set_is bound_is runs = record {
   width = refl;
   always = refl;
   says = λ bytes u entered. (
-    λ is. subst (λ s. IsLastRow m s bytes u entered) (sym set_is) (subst (λ k. IsLastRow k (members last.set) bytes u entered) (sym bound_is) is),
-    λ is. subst (λ k. IsLastRow k (members last.set) bytes u entered) bound_is (subst (λ s. IsLastRow m s bytes u entered) set_is is),
+    λ is. subst (λ s. IsLastRow m s bytes u entered) (sym set_is) (subst (λ k. IsLastRow k (members last.nearest.set) bytes u entered) (sym bound_is) is),
+    λ is. subst (λ k. IsLastRow k (members last.nearest.set) bytes u entered) bound_is (subst (λ s. IsLastRow m s bytes u entered) set_is is),
   );
   well = λ bytes at. (
     λ is. subst (λ k. IsDistanceAt k (distance_of bytes) at) (sym bound_is) is,
@@ -88,7 +88,7 @@ last-made last set (suc zero) m few set_is bound_is runs = record {
 }
 last-made last set (suc (suc n)) m few set_is bound_is runs = absurd (omega arith)
 
-last-set : (last : Last) (set : List Bool) (n m : ℕ) → (meaning_of_last last).is_for (repeat (class set) n (Some m)) → IsSet set (members last.set) m last.greatest
+last-set : (last : Last) (set : List Bool) (n m : ℕ) → (meaning_of_last last).is_for (repeat (class set) n (Some m)) → IsSet set (members last.nearest.set) m last.nearest.bound
 last-set last set n m (inl is) = record { set_is = cc; bound_is = cc }
 last-set last set n m (inr is) = record { set_is = cc; bound_is = cc }
 

@@ -98,7 +98,7 @@ fn make_positions(alloc: Global, expr: &Expr) -> Result<Made, AllocError>
     Ok(Made {
         model,
         engine: PieceEngine::Positions(Box::new(alloc, limex)?),
-        null: automaton.null,
+        null: automaton.null(),
     })
 }
 
