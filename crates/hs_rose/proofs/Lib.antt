@@ -1,0 +1,9 @@
+pub mod ListLemmas
+pub mod SameLemmas
+pub mod NamingLemmas
+pub mod MakeLemmas
+pub mod ShapeLemmas
+pub mod BuildLemmas
+pub mod RoleListLemmas
+pub mod FinishLemmas
+pub mod LawLemmas

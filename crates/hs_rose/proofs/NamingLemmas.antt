@@ -1,0 +1,98 @@
+-- Pieces get their numbers among the literals or the engines.
+use Rattle.std.proofs.Common.{◌≡◌, ℕ, ◌<◌, List, [], ◌∷◌, ◌++◌, length, map, slice_get, Some, sym, ap, subst, ◌∙◌}
+use Rattle.std.proofs.lemmas.List.{length-map, map-append}
+use Rattle.std.proofs.lemmas.Option.{slice_get_within}
+use Rattle.hs_base.specs.declared.context.Mask.{Mask}
+use Rattle.hs_base.specs.Chains.{Piece, lit, nfa, rep, piece_tree}
+use Rattle.hs_base.specs.Lists.{Each}
+use Rattle.hs_base.specs.LiteralView.{literal_bytes}
+use Rattle.hs_base.specs.Literals.{LiteralByte}
+use Rattle.hs_rose.specs.declared.builder.Builder.{Builder}
+use Rattle.hs_rose.specs.declared.builder.Named.{Named}
+use Rattle.hs_rose.specs.declared.making.Made.{Made}
+use Rattle.hs_rose.specs.Building.{AreKept, IsNamed, IsSound, literals_of, models_of}
+use Rattle.hs_rose.specs.Made.{IsMade, IsNullMask, model_of}
+use Rattle.hs_rose.specs.Numbering.{AreApart, IsNew, IsNumbered, found, added}
+use Rattle.hs_rose.specs.Programs.{IsEmptyMask, Names, NamesPiece}
+use Rattle.hs_rose.specs.Runnable.{IsRun}
+use Rattle.hs_rose.proofs.ListLemmas.{get-left, get-behind, apart-push, each-get, map-get}
+
+pub numbered-kept : {A : Type 0} (before : List A) (x : A) (now : List A) (n : ℕ) → IsNumbered before x now n → AreKept before now
+numbered-kept before x now n (found same at) k y is = subst (λ zs. slice_get zs k ≡ Some y) (sym same) is
+numbered-kept before x now n (added new same end) k y is = subst (λ zs. slice_get zs k ≡ Some y) (sym same) (get-left before (x ∷ []) k y is)
+
+pub numbered-named : {A : Type 0} (before : List A) (x : A) (now : List A) (n : ℕ) → IsNumbered before x now n → slice_get now n ≡ Some x
+numbered-named before x now n (found same at) = subst (λ zs. slice_get zs n ≡ Some x) (sym same) at
+numbered-named before x now n (added new same end) =
+    subst (λ zs. slice_get zs n ≡ Some x) (sym same) (subst (λ k. slice_get (before ++ x ∷ []) k ≡ Some x) (sym end) (get-behind before x))
+
+pub numbered-apart : {A : Type 0} (before : List A) (x : A) (now : List A) (n : ℕ) → AreApart before → IsNumbered before x now n → AreApart now
+numbered-apart before x now n apart (found same at) = subst (λ zs. AreApart zs) (sym same) apart
+numbered-apart before x now n apart (added new same end) = subst (λ zs. AreApart zs) (sym same) (apart-push before x apart new)
+
+pub numbered-below : {A B : Type 0} (f : A → B) (before : List B) (x : B) (now : List A) (n : ℕ) → IsNumbered before x (map f now) n → n < length now
+numbered-below f before x now n numbered =
+    let own = map-get f now n x (numbered-named before x (map f now) n numbered) in
+    slice_get_within now n own.0 own.1
+
+-- a new one is put behind the others
+pub pushed-numbered : {A B : Type 0} (f : A → B) (before now : List A) (a : A) (x : B) (n : ℕ) → IsNew (map f before) x → f a ≡ x → now ≡ before ++ a ∷ [] → n ≡ length before → IsNumbered (map f before) x (map f now) n
+pushed-numbered f before now a x n new is grown end =
+    added new (ap (λ zs. map f zs) grown ∙ map-append f before (a ∷ []) ∙ ap (λ y. map f before ++ y ∷ []) is) (end ∙ sym (length-map before f))
+
+kept-same : {A : Type 0} (xs ys : List A) → ys ≡ xs → AreKept xs ys
+kept-same xs ys same k x at = subst (λ zs. slice_get zs k ≡ Some x) (sym same) at
+
+-- a literal
+pub literal-named : (before now : Builder) (xs : List LiteralByte) (named : Named) → now.roles.items ≡ before.roles.items → now.chains.items ≡ before.chains.items → now.made.items ≡ before.made.items →
+    IsNumbered (literals_of before) xs (literals_of now) named.number → IsEmptyMask named.null → IsSound before → IsNamed before now (lit xs) named
+literal-named before now xs named roles chains made numbered null sound = record {
+  sound = record {
+    literals = numbered-apart (literals_of before) xs (literals_of now) named.number sound.literals numbered;
+    models = subst (λ zs. AreApart (map model_of zs)) (sym made) sound.models;
+    made = subst (λ zs. Each IsMade zs) (sym made) sound.made;
+  };
+  grown = record {
+    roles = roles;
+    chains = chains;
+    literals = numbered-kept (literals_of before) xs (literals_of now) named.number numbered;
+    models = kept-same (models_of before) (models_of now) (ap (λ zs. map model_of zs) made);
+  };
+  names = record { named = numbered-named (literals_of before) xs (literals_of now) named.number numbered; null_is = null };
+}
+
+piece-names : (literals : List (List LiteralByte)) (models : List Piece) (n : ℕ) (null : Mask) (piece : Piece) → IsRun piece → NamesPiece models n null piece → Names literals models n null piece
+piece-names literals models n null (lit xs) run names = absurd run
+piece-names literals models n null (nfa tree) run names = names
+piece-names literals models n null (rep set least greatest) run names = names
+
+-- the mask of what is made of the piece
+null-of : (made : List Made) (n : ℕ) (piece : Piece) (m : Made) → Each IsMade made → slice_get (map model_of made) n ≡ Some piece → slice_get made n ≡ Some m → IsNullMask m.null (piece_tree piece)
+null-of made n piece m each named at =
+    let own = map-get model_of made n piece named in
+    let same : own.0 ≡ m = cc (own.1, at) in
+    let is : model_of m ≡ piece = ap model_of (sym same) ∙ own.2 in
+    subst (λ p. IsNullMask m.null (piece_tree p)) is (each-get IsMade made each n m at).null_is
+
+-- a piece that isn't a literal
+pub run-named : (before now : Builder) (piece : Piece) (named : Named) (m : Made) → IsRun piece → now.roles.items ≡ before.roles.items → now.chains.items ≡ before.chains.items → now.literals.items ≡ before.literals.items →
+    IsNumbered (models_of before) piece (models_of now) named.number → (Each IsMade before.made.items → Each IsMade now.made.items) →
+    slice_get now.made.items named.number ≡ Some m → named.null ≡ m.null → IsSound before → IsNamed before now piece named
+run-named before now piece named m run roles chains literals numbered made at null sound =
+    let at_number = numbered-named (models_of before) piece (models_of now) named.number numbered in record {
+      sound = record {
+        literals = subst (λ zs. AreApart zs) (sym (ap (λ zs. map literal_bytes zs) literals)) sound.literals;
+        models = numbered-apart (models_of before) piece (models_of now) named.number sound.models numbered;
+        made = made sound.made;
+      };
+      grown = record {
+        roles = roles;
+        chains = chains;
+        literals = kept-same (literals_of before) (literals_of now) (ap (λ zs. map literal_bytes zs) literals);
+        models = numbered-kept (models_of before) piece (models_of now) named.number numbered;
+      };
+      names = piece-names (literals_of now) (models_of now) named.number named.null piece run (record {
+        named = at_number;
+        null_is = subst (λ (mask : Mask). IsNullMask mask (piece_tree piece)) (sym null) (null-of now.made.items named.number piece m (made sound.made) at_number at);
+      });
+    }

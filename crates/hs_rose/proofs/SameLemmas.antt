@@ -1,0 +1,72 @@
+-- Lists and trees that are equal.
+use Rattle.std.proofs.Common.{◌≡◌, ◌↔◌, ℕ, suc, ◌+◌, ◌<◌, ◌≤◌, Bool, IsTrue, List, [], ◌∷◌, ◌++◌, length, map, take, slice_get, Some, refl, sym, ap, subst, ◌∙◌, arith}
+use Rattle.std.proofs.lemmas.List.{take_all, length-map}
+use Rattle.hs_base.specs.declared.byte_set.ByteSet.{ByteSet}
+use Rattle.hs_base.specs.ByteSets.{has, members}
+use Rattle.hs_base.specs.Trees.{Tree, cat, alt, trees_of}
+use Rattle.hs_base.proofs.ByteSetLemmas.{members-at}
+use Rattle.hs_base.proofs.LiteralLemmas.{members-where}
+use Rattle.hs_rose.proofs.ListLemmas.{get-map, take-get}
+
+pub trees-same : (xs ys : List Tree) → trees_of xs ≡ trees_of ys → xs ≡ ys
+trees-same [] [] e = refl
+trees-same [] (y ∷ ys) e = absurd (cc)
+trees-same (x ∷ xs) [] e = absurd (cc)
+trees-same (x ∷ xs) (y ∷ ys) e =
+    let h : x ≡ y = cc in
+    let t : trees_of xs ≡ trees_of ys = cc in
+    ap (λ z. z ∷ xs) h ∙ ap (λ zs. y ∷ zs) (trees-same xs ys t)
+
+-- two mapped lists are equal as far as one more member
+pub same-more : {A B : Type 0} (f : A → B) (xs ys : List A) (k : ℕ) (x y : A) → slice_get xs k ≡ Some x → slice_get ys k ≡ Some y → take k (map f xs) ≡ take k (map f ys) → f x ≡ f y → take (k + 1) (map f xs) ≡ take (k + 1) (map f ys)
+same-more f xs ys k x y at at' same one =
+    let next : suc k ≡ k + 1 = omega arith in
+    let step : take (suc k) (map f xs) ≡ take (suc k) (map f ys) =
+    take-get (map f xs) k (f x) (get-map f xs k x at) ∙ ap (λ zs. zs ++ f x ∷ []) same ∙ ap (λ z. take k (map f ys) ++ z ∷ []) one ∙ sym (take-get (map f ys) k (f y) (get-map f ys k y at')) in
+    subst (λ n. take n (map f xs) ≡ take n (map f ys)) next step
+
+-- as far as all
+pub same-all : {A B : Type 0} (f : A → B) (xs ys : List A) (k : ℕ) → length xs ≤ k → length ys ≤ k → take k (map f xs) ≡ take k (map f ys) → map f xs ≡ map f ys
+same-all f xs ys k long long' same =
+    sym (take_all k (map f xs) (omega (arith, length-map xs f))) ∙ same ∙ take_all k (map f ys) (omega (arith, length-map ys f))
+
+-- equal mapped lists have equal members and one length
+pub same-at : {A B : Type 0} (f : A → B) (xs ys : List A) (k : ℕ) (x y : A) → slice_get xs k ≡ Some x → slice_get ys k ≡ Some y → map f xs ≡ map f ys → f x ≡ f y
+same-at f xs ys k x y at at' same =
+    let e : Some (f x) ≡ Some (f y) = sym (get-map f xs k x at) ∙ ap (λ zs. slice_get zs k) same ∙ get-map f ys k y at' in
+    cc
+
+pub same-length : {A B : Type 0} (f : A → B) (xs ys : List A) → map f xs ≡ map f ys → length xs ≡ length ys
+same-length f xs ys same = sym (length-map xs f) ∙ ap (λ zs. length zs) same ∙ length-map ys f
+
+-- two lists are equal as far as one more member
+pub same-next : {A : Type 0} (xs ys : List A) (k : ℕ) (x y : A) → slice_get xs k ≡ Some x → slice_get ys k ≡ Some y → take k xs ≡ take k ys → x ≡ y → take (k + 1) xs ≡ take (k + 1) ys
+same-next xs ys k x y at at' same one =
+    let next : suc k ≡ k + 1 = omega arith in
+    let step : take (suc k) xs ≡ take (suc k) ys = take-get xs k x at ∙ ap (λ zs. zs ++ x ∷ []) same ∙ ap (λ z. take k ys ++ z ∷ []) one ∙ sym (take-get ys k y at') in
+    subst (λ n. take n xs ≡ take n ys) next step
+
+pub same-whole : {A : Type 0} (xs ys : List A) (k : ℕ) → length xs ≤ k → length ys ≤ k → take k xs ≡ take k ys → xs ≡ ys
+same-whole xs ys k long long' same = sym (take_all k xs long) ∙ same ∙ take_all k ys long'
+
+pub same-there : {A : Type 0} (xs ys : List A) (k : ℕ) (x y : A) → slice_get xs k ≡ Some x → slice_get ys k ≡ Some y → xs ≡ ys → x ≡ y
+same-there xs ys k x y at at' same = let e : Some x ≡ Some y = sym at ∙ ap (λ zs. slice_get zs k) same ∙ at' in cc
+
+-- sets with the same members
+pub sets-same : (s t : ByteSet) → ((b : ℕ) → b < 256 → has s b ≡ has t b) → members s ≡ members t
+sets-same s t same = members-where s (has t) same ∙ sym (members-where t (has t) (λ b below. refl))
+
+pub member-same : (s t : ByteSet) (b : ℕ) → b < 256 → members s ≡ members t → has s b ≡ has t b
+member-same s t b below same =
+    let e : Some (has s b) ≡ Some (has t b) = sym (members-at s b below) ∙ ap (λ ms. slice_get ms b) same ∙ members-at t b below in
+    cc
+
+-- lists of trees as one tree
+pub cat-agree : (r : Bool) (xs ys : List Tree) → (IsTrue r ↔ (xs ≡ ys)) → IsTrue r ↔ (cat (trees_of xs) ≡ cat (trees_of ys))
+cat-agree r xs ys both = (λ is. ap (λ zs. cat (trees_of zs)) (both.0 is), λ e. both.1 (trees-same xs ys (let t : trees_of xs ≡ trees_of ys = cc in t)))
+
+pub alt-agree : (r : Bool) (xs ys : List Tree) → (IsTrue r ↔ (xs ≡ ys)) → IsTrue r ↔ (alt (trees_of xs) ≡ alt (trees_of ys))
+alt-agree r xs ys both = (λ is. ap (λ zs. alt (trees_of zs)) (both.0 is), λ e. both.1 (trees-same xs ys (let t : trees_of xs ≡ trees_of ys = cc in t)))
+
+pub agree-along : (r : Bool) (s t s' t' : Tree) → s ≡ s' → t ≡ t' → (IsTrue r ↔ (s' ≡ t')) → IsTrue r ↔ (s ≡ t)
+agree-along r s t s' t' e e' both = (λ is. e ∙ both.0 is ∙ sym e', λ same. both.1 (sym e ∙ same ∙ e'))

@@ -1,0 +1,35 @@
+-- What a builder leads to.
+use Rattle.std.specs.Prelude.{◌≡◌, ℕ, ◌<◌, List, [], ◌∷◌, ◌++◌, length, map, Option, Some, slice_get, vec_len, cond}
+use Rattle.hs_rose.specs.declared.builder.Builder.{Builder}
+use Rattle.hs_rose.specs.declared.engine.PieceEngine.{PieceEngine}
+use Rattle.hs_rose.specs.declared.info.EntryInfo.{EntryInfo}
+use Rattle.hs_rose.specs.declared.making.Made.{Made}
+use Rattle.hs_rose.specs.declared.role.Role.{Role}
+use Rattle.hs_rose.specs.Building.{literals_of}
+use Rattle.hs_rose.specs.Programs.{Tables, AreRolesOfLiterals, engine_of, literal_of, is_number}
+
+-- the engine of a piece
+abbrev pub engine_made : Made → PieceEngine
+engine_made made = made.engine
+
+-- each role names a literal or an engine that is there
+pub record AreNumbered (b : Builder) : Type 0 where
+  pub literals : (j k : ℕ) (r : Role) → slice_get b.roles.items j ≡ Some r → literal_of r ≡ Some k →
+      k < vec_len b.literals
+  pub engines : (j k : ℕ) (r : Role) → slice_get b.roles.items j ≡ Some r → engine_of r ≡ Some k → k < vec_len b.made
+
+-- The program has what is built.
+pub record IsFinished (infos : List EntryInfo) (b : Builder) (t : Tables) : Type 0 where
+  pub entries : t.entries ≡ infos
+  pub chains : t.chains ≡ b.chains.items
+  pub roles : t.roles ≡ b.roles.items
+  pub literals : t.literals ≡ literals_of b
+  pub engines : t.engines ≡ map engine_made b.made.items
+  pub literal_roles : AreRolesOfLiterals b.roles.items (length (literals_of b)) t.literal_roles
+
+-- The number is put behind those in the list of the literal, if there is one; the other lists stay.
+pub record IsRoleAdded (before : List (List ℕ)) (literal : Option ℕ) (number : ℕ) (now : List (List ℕ)) : Type 0 where
+  pub count : length now ≡ length before
+  pub each : (k : ℕ) (list : List ℕ) → slice_get now k ≡ Some list → (own : List ℕ)
+      × (slice_get before k ≡ Some own)
+      × (list ≡ own ++ cond (is_number k literal) (number ∷ []) [])

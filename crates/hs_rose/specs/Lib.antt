@@ -1,0 +1,12 @@
+pub mod PieceEngines
+pub mod Kinds
+pub mod Shapes
+pub mod Listing
+pub mod Runnable
+pub mod Made
+pub mod Numbering
+pub mod Programs
+pub mod Building
+pub mod Views
+pub mod Finishing
+pub mod RoleLaws

@@ -1,0 +1,128 @@
+-- Which program is that of a list.
+use Rattle.std.specs.Prelude.{◌≡◌, ℕ, suc, ◌+◌, ◌==◌, ◌<◌, Bool, false, List, [], ◌∷◌, length, Option, Some, None}
+use Rattle.std.specs.Prelude.{slice_get, cond}
+use Rattle.std.specs.List.{AllZip}
+use Rattle.hs_base.specs.declared.context.Mask.{Mask}
+use Rattle.hs_base.specs.Chains.{Piece, lit, nfa, rep}
+use Rattle.hs_base.specs.Contexts.{Context}
+use Rattle.hs_base.specs.ContextSets.{has_context}
+use Rattle.hs_base.specs.Literals.{LiteralByte}
+use Rattle.hs_base.specs.Regions.{place_size}
+use Rattle.hs_base.specs.Chains.{piece_tree}
+use Rattle.hs_rose.specs.declared.engine.PieceEngine.{PieceEngine}
+use Rattle.hs_rose.specs.declared.role.Role.{Role}
+use Rattle.hs_rose.specs.declared.info.ChainInfo.{ChainInfo}
+use Rattle.hs_rose.specs.declared.info.EntryInfo.{EntryInfo}
+use Rattle.hs_rose.specs.Kinds.{place_kind, number_if_literal, number_if_run}
+use Rattle.hs_rose.specs.Listing.{Asked, ListedChain, ListedPiece, listed_chains, listed_pieces, piece_number}
+use Rattle.hs_rose.specs.Made.{IsNullMask}
+use Rattle.hs_rose.specs.Numbering.{AreApart}
+use Rattle.hs_rose.specs.PieceEngines.{IsEngineOf}
+
+-- What a program has: what is asked of each entry, and its chains; a role for each piece; the literals and engines that
+-- roles name by number, each once; and for each literal its roles.
+pub record Tables : Type 0 where
+  pub entries : List EntryInfo
+  pub chains : List ChainInfo
+  pub roles : List Role
+  pub literals : List (List LiteralByte)
+  pub literal_roles : List (List ℕ)
+  pub engines : List PieceEngine
+
+-- the number of the role's literal
+abbrev pub literal_of : Role → Option ℕ
+literal_of r = number_if_literal r.kind r.number
+
+-- the number of the role's engine
+abbrev pub engine_of : Role → Option ℕ
+engine_of r = number_if_run r.kind r.number
+
+-- the mask has no context
+abbrev pub IsEmptyMask : Mask → Type 0
+IsEmptyMask mask = (c : Context) → has_context mask c ≡ false
+
+-- the number is that of a piece that is run, of these, and the mask tells where it has the empty span
+pub record NamesPiece (models : List Piece) (number : ℕ) (null : Mask) (piece : Piece) : Type 0 where
+  pub named : slice_get models number ≡ Some piece
+  pub null_is : IsNullMask null (piece_tree piece)
+
+-- the number is that of a literal of these, which has no empty span
+pub record NamesLiteral (literals : List (List LiteralByte)) (number : ℕ) (null : Mask) (xs : List LiteralByte) :
+    Type 0 where
+  pub named : slice_get literals number ≡ Some xs
+  pub null_is : IsEmptyMask null
+
+-- the number and the mask are those of the piece
+abbrev pub Names : (literals : List (List LiteralByte)) (models : List Piece) → ℕ → Mask → Piece → Type 0
+Names literals models number null (lit xs) = NamesLiteral literals number null xs
+Names literals models number null (nfa tree) = NamesPiece models number null (nfa tree)
+Names literals models number null (rep set n m) = NamesPiece models number null (rep set n m)
+
+-- The role is that of the piece: it tells where that stands, what is asked of its entry, what is kept of it, and names
+-- its literal or, by the piece that is run, its engine.
+pub record IsRoleOf (literals : List (List LiteralByte)) (models : List Piece) (r : Role) (x : ListedPiece) :
+    Type 0 where
+  pub entry : r.entry ≡ x.chain.entry
+  pub chain : r.chain ≡ x.chain.number
+  pub piece : r.piece ≡ piece_number x
+  pub id : r.id.0 ≡ x.chain.asked.id
+  pub least : r.min_offset ≡ x.chain.asked.least
+  pub greatest : r.max_offset ≡ x.chain.asked.greatest
+  pub kind_is : r.kind ≡ place_kind x.place
+  pub size_is : r.field_size ≡ place_size x.place
+  pub names : Names literals models r.number r.null x.place.piece
+
+-- what is asked of the entry
+pub record IsInfoOf (info : EntryInfo) (asked : Asked) : Type 0 where
+  pub id : info.id.0 ≡ asked.id
+  pub flags : info.flags.0 ≡ asked.flags
+  pub least : info.min_offset ≡ asked.least
+  pub greatest : info.max_offset ≡ asked.greatest
+
+-- The chain has the roles from that one on, as many as it has pieces.
+pub record IsChainOf (first_role : ℕ) (c : ChainInfo) (x : ListedChain) : Type 0 where
+  pub entry : c.entry ≡ x.entry
+  pub first : c.first ≡ first_role
+  pub end : c.end ≡ first_role + length x.pieces
+
+-- The chains are those, whose roles follow one another from that one on.
+abbrev pub AreChainsOf : (first_role : ℕ) → List ChainInfo → List ListedChain → Type 0
+AreChainsOf first_role [] [] = Unit {0}
+AreChainsOf first_role [] (x ∷ xs) = ⊥
+AreChainsOf first_role (c ∷ cs) [] = ⊥
+AreChainsOf first_role (c ∷ cs) (x ∷ xs) =
+    IsChainOf first_role c x × AreChainsOf (first_role + length x.pieces) cs xs
+
+-- whether the number is that one
+abbrev pub is_number : ℕ → Option ℕ → Bool
+is_number k None = false
+is_number k (Some n) = n == k
+
+-- the numbers, from `at` on, of the roles with the literal of that number
+abbrev pub roles_with : (literal at : ℕ) → List Role → List ℕ
+roles_with literal at [] = []
+roles_with literal at (r ∷ roles) =
+    cond (is_number literal (literal_of r)) (at ∷ roles_with literal (suc at) roles) (roles_with literal (suc at) roles)
+
+-- for each literal its roles
+pub record AreRolesOfLiterals (roles : List Role) (count : ℕ) (literal_roles : List (List ℕ)) : Type 0 where
+  pub count_is : length literal_roles ≡ count
+  pub each : (k : ℕ) (numbers : List ℕ) → slice_get literal_roles k ≡ Some numbers → numbers ≡ roles_with k 0 roles
+
+-- Each role names a literal or an engine that is there, and each chain has roles that are there.
+pub record IsWhole (t : Tables) : Type 0 where
+  pub literals : (j k : ℕ) (r : Role) → slice_get t.roles j ≡ Some r → literal_of r ≡ Some k → k < length t.literals
+  pub engines : (j k : ℕ) (r : Role) → slice_get t.roles j ≡ Some r → engine_of r ≡ Some k → k < length t.engines
+  pub literal_roles : length t.literal_roles ≡ length t.literals
+
+-- The program is that of the list: a role for each piece of each chain of each entry, in order. Equal literals are one,
+-- and equal pieces have one engine.
+pub record IsProgramOf (t : Tables) (entries : List Asked) (chains : List (List (List Piece))) : Type 0 where
+  pub models : List Piece
+  pub infos : AllZip IsInfoOf t.entries entries
+  pub chains_are : AreChainsOf 0 t.chains (listed_chains entries chains)
+  pub roles : AllZip (IsRoleOf t.literals models) t.roles (listed_pieces (listed_chains entries chains))
+  pub engines : AllZip IsEngineOf t.engines models
+  pub one_engine : AreApart models
+  pub one_literal : AreApart t.literals
+  pub literal_roles : AreRolesOfLiterals t.roles (length t.literals) t.literal_roles

@@ -1,0 +1,29 @@
+-- Which pieces a program can be made of.
+use Rattle.std.specs.Prelude.{◌≡◌, ◌≤◌, ◌<◌, ◌^◌, false, true, List, length}
+use Rattle.hs_base.specs.Chains.{Piece, lit, nfa, rep, is_long}
+use Rattle.hs_base.specs.EndAssertions.{has_embedded_end}
+use Rattle.hs_base.specs.Lists.{Each}
+use Rattle.hs_base.specs.Trees.{AreBounds}
+use Rattle.hs_base.specs.WrittenOut.{IsPlain, write_out, count}
+
+-- An expression has an automaton; a repeat has bounds that are in order, and is a long one.
+abbrev pub IsRunnable : Piece → Type 0
+IsRunnable (lit xs) = Unit {0}
+IsRunnable (nfa t) = IsPlain t × (count (write_out t) ≤ 512) × (has_embedded_end t false ≡ false)
+IsRunnable (rep set least greatest) = AreBounds least greatest × (is_long least greatest ≡ true)
+
+-- the piece has an engine
+abbrev pub IsRun : Piece → Type 0
+IsRun (lit xs) = ⊥
+IsRun (nfa t) = Unit {0}
+IsRun (rep set least greatest) = Unit {0}
+
+-- A chain of such pieces, whose numbers are small.
+pub record IsRunnableChain (chain : List Piece) : Type 0 where
+  pub few : length chain < 2 ^ 32
+  pub pieces : Each IsRunnable chain
+
+-- the chains of an entry
+pub record AreRunnable (chains : List (List Piece)) : Type 0 where
+  pub few : length chains < 2 ^ 32
+  pub each : Each IsRunnableChain chains

@@ -1,0 +1,27 @@
+-- Tables as the code keeps them.
+use Rattle.std.specs.Prelude.{ℕ, List, map}
+use Rattle.std.specs.declared.vec.Vec.{Vec}
+use Rattle.std.specs.declared.alloc.Global.{Global}
+use Rattle.hs_base.specs.declared.literal.LitByte.{LitByte}
+use Rattle.hs_base.specs.LiteralView.{literal_bytes}
+use Rattle.hs_rose.specs.declared.engine.PieceEngine.{PieceEngine}
+use Rattle.hs_rose.specs.declared.info.ChainInfo.{ChainInfo}
+use Rattle.hs_rose.specs.declared.info.EntryInfo.{EntryInfo}
+use Rattle.hs_rose.specs.declared.role.Role.{Role}
+use Rattle.hs_rose.specs.Programs.{Tables}
+
+-- a list of numbers that is kept
+abbrev pub role_numbers : Vec ℕ Global → List ℕ
+role_numbers list = list.items
+
+-- these tables
+abbrev pub tables_of : List EntryInfo → List ChainInfo → List Role → List (Vec LitByte Global) → List (Vec ℕ Global) →
+    List PieceEngine → Tables
+tables_of entries chains roles literals literal_roles engines = record {
+  entries = entries;
+  chains = chains;
+  roles = roles;
+  literals = map literal_bytes literals;
+  literal_roles = map role_numbers literal_roles;
+  engines = engines;
+}

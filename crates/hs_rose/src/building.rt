@@ -1,0 +1,84 @@
+//! The program of a list, from its entries and chains.
+
+ghost use Rattle.std.specs.Prelude.{◌≡◌, ◌^◌, ◌<◌, IfOk, length, map};
+ghost use Rattle.std.specs.List.{AllZip};
+ghost use Rattle.hs_base.specs.Lists.{Each};
+ghost use Rattle.hs_rose.specs.Finishing.{AreNumbered, IsFinished, engine_made};
+ghost use Rattle.hs_rose.specs.Listing.{asked_of, plain_chains};
+ghost use Rattle.hs_rose.specs.Programs.{IsInfoOf, IsProgramOf};
+ghost use Rattle.hs_rose.specs.Runnable.{AreRunnable};
+ghost use Rattle.hs_rose.specs.Views.{tables_of};
+
+use crate::builder::Builder;
+use crate::engine::PieceEngine;
+use crate::info::EntryInfo;
+use crate::literals::roles_of_literals;
+use crate::making::Made;
+use crate::program::Program;
+use hs_base::Entry;
+use hs_pieces::Chain;
+use std::alloc::{AllocError, Global};
+
+impl Program {
+    /// The program of a list: of its entries and, for each of them, the chains of its expression. The only error is
+    /// want of memory.
+    pub fn build(
+        alloc: Global,
+        entries: &[Entry],
+        chains: &[Vec<Chain>],
+    ) -> Result<Program, AllocError>
+        requires few { length entries.now < 2 ^ 32 }
+        requires whole { length chains.now ≡ length entries.now }
+        requires runnable { Each AreRunnable (map plain_chains chains.now) }
+        ensures { IfOk result (λ program.
+            IsProgramOf program (map asked_of entries.now) (map plain_chains chains.now)) }
+    {
+        let mut builder = Builder::new(alloc);
+        for (k, entry) in entries.iter().enumerate() {
+            builder.add_entry(alloc, (k + 1) as u32, entry, &chains[k])?;
+        }
+        let infos = infos_of(alloc, entries)?;
+        finish(alloc, infos, builder)
+    }
+}
+
+/// The program of what is built.
+fn finish(alloc: Global, infos: Vec<EntryInfo>, builder: Builder) -> Result<Program, AllocError>
+    requires { AreNumbered builder }
+    ensures { IfOk result (λ program. IsFinished infos.items builder program) }
+{
+    let count = builder.literals.len();
+    let literal_roles = roles_of_literals(alloc, &builder.roles, count)?;
+    let engines = engines_of(alloc, builder.made)?;
+    Ok(Program::new(
+        infos,
+        builder.chains,
+        builder.roles,
+        builder.literals,
+        literal_roles,
+        engines,
+    ))
+}
+
+/// What is asked of each entry.
+fn infos_of(alloc: Global, entries: &[Entry]) -> Result<Vec<EntryInfo>, AllocError>
+    ensures { IfOk result (λ infos. AllZip IsInfoOf infos.items (map asked_of entries.now)) }
+{
+    let mut infos = Vec::with_capacity(alloc, entries.len())?;
+    for entry in entries {
+        infos.push(EntryInfo {
+            min_offset: entry.ext.min_offset,
+            max_offset: entry.ext.max_offset,
+            id: entry.id,
+            flags: entry.flags,
+        })?;
+    }
+    Ok(infos)
+}
+
+/// The engines that are made.
+fn engines_of(alloc: Global, made: Vec<Made>) -> Result<Vec<PieceEngine>, AllocError>
+    ensures { IfOk result (λ engines. engines.items ≡ map engine_made made.items) }
+{
+    made.into_iter().map(|one| one.engine).collect(alloc)
+}

@@ -1,0 +1,99 @@
+//! The engines of pieces as one type.
+
+ghost use Rattle.std.specs.Prelude.{◌≡◌};
+
+use hs_base::{ByteSet, NextSet, Prev};
+use hs_engine::{Engine, Steps};
+use hs_limex::Limex;
+use hs_repeat::{First, Last, Ring};
+use std::sync::ledger::Ledger;
+
+/// Runs a piece that isn't a literal.
+#[derive(Debug, Drop)]
+pub enum PieceEngine {
+    /// An expression, by its positions.
+    Positions(Box<Limex>),
+    /// At least so many bytes of a set.
+    First(First),
+    /// At most so many bytes of a set, and none or one at least.
+    Last(Last),
+    /// Bytes of a set from one number to another.
+    Ring(Ring),
+}
+
+impl Engine for PieceEngine {
+    ghost use Rattle.hs_rose.specs.PieceEngines.{piece_meaning};
+
+    ghost meaning = { λ e. piece_meaning e };
+
+    fn size(&self) -> usize {
+        match self {
+            PieceEngine::Positions(limex) => limex.size(),
+            PieceEngine::First(first) => first.size(),
+            PieceEngine::Last(last) => last.size(),
+            PieceEngine::Ring(ring) => ring.size(),
+        }
+    }
+
+    fn clear(&self, region: &mut [u8]) {
+        match self {
+            PieceEngine::Positions(limex) => limex.clear(region),
+            PieceEngine::First(first) => first.clear(region),
+            PieceEngine::Last(last) => last.clear(region),
+            PieceEngine::Ring(ring) => ring.clear(region),
+        }
+    }
+
+    fn step<L: Ledger>(
+        &self,
+        region: &mut [u8],
+        prev: Prev,
+        at: u64,
+        enter: NextSet,
+        byte: u8,
+        steps: &mut Steps<L>,
+    ) {
+        match self {
+            PieceEngine::Positions(limex) => limex.step(region, prev, at, enter, byte, steps),
+            PieceEngine::First(first) => first.step(region, prev, at, enter, byte, steps),
+            PieceEngine::Last(last) => last.step(region, prev, at, enter, byte, steps),
+            PieceEngine::Ring(ring) => ring.step(region, prev, at, enter, byte, steps),
+        }
+    }
+
+    fn out(&self, region: &[u8], prev: Prev, at: u64) -> NextSet {
+        match self {
+            PieceEngine::Positions(limex) => limex.out(region, prev, at),
+            PieceEngine::First(first) => first.out(region, prev, at),
+            PieceEngine::Last(last) => last.out(region, prev, at),
+            PieceEngine::Ring(ring) => ring.out(region, prev, at),
+        }
+    }
+
+    fn at_rest(&self, region: &[u8]) -> bool {
+        match self {
+            PieceEngine::Positions(limex) => limex.at_rest(region),
+            PieceEngine::First(first) => first.at_rest(region),
+            PieceEngine::Last(last) => last.at_rest(region),
+            PieceEngine::Ring(ring) => ring.at_rest(region),
+        }
+    }
+
+    fn wakers(&self) -> &ByteSet {
+        match self {
+            PieceEngine::Positions(limex) => limex.wakers(),
+            PieceEngine::First(first) => first.wakers(),
+            PieceEngine::Last(last) => last.wakers(),
+            PieceEngine::Ring(ring) => ring.wakers(),
+        }
+    }
+
+    fn well_formed(&self, region: &[u8], at: u64) -> bool {
+        match self {
+            PieceEngine::Positions(limex) => limex.well_formed(region, at),
+            PieceEngine::First(first) => first.well_formed(region, at),
+            PieceEngine::Last(last) => last.well_formed(region, at),
+            PieceEngine::Ring(ring) => ring.well_formed(region, at),
+        }
+    }
+}

@@ -1,0 +1,22 @@
+//! The program of a list: a role for each piece of each chain, with the engine or the literal that it stands for.
+#![tactic(auto)]
+
+mod builder;
+mod building;
+mod engine;
+mod info;
+mod kind;
+mod laws;
+mod literals;
+mod making;
+mod program;
+mod role;
+mod same;
+mod shape;
+
+pub use engine::PieceEngine;
+pub use info::{ChainInfo, EntryInfo};
+pub use kind::Kind;
+pub use laws::{engines_run_pieces, equal_pieces_have_one_engine, fields_are_those_of_plan};
+pub use program::Program;
+pub use role::Role;
