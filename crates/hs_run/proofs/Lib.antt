@@ -1,0 +1,4 @@
+pub mod PieceLemmas
+pub mod LiteralLemmas
+pub mod SpotLemmas
+pub mod TakingLemmas
