@@ -1,4 +1,11 @@
-pub mod PieceLemmas
-pub mod LiteralLemmas
 pub mod SpotLemmas
 pub mod TakingLemmas
+pub mod LiteralLemmas
+pub mod PieceLemmas
+pub mod LayoutLemmas
+pub mod LookLemmas
+pub mod BeginLemmas
+pub mod ChainLemmas
+pub mod RowLemmas
+pub mod MovingLemmas
+pub mod DoneLemmas

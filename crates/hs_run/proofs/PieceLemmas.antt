@@ -33,9 +33,9 @@ use Rattle.hs_run.proofs.TakingLemmas.{ends-taken}
 use Rattle.hs_base.specs.declared.literal.LitByte.{LitByte}
 use Rattle.hs_base.specs.LiteralView.{literal_byte}
 use Rattle.hs_run.specs.Spots.{IsSpot}
-use Rattle.hs_run.specs.declared.role.Kind.TheVariants as kind
-use Rattle.hs_run.specs.declared.role.Literal.{Literal}
-use Rattle.hs_run.specs.declared.role.Role.{Role}
+use Rattle.hs_run.specs.declared.program.Kind.TheVariants as kind
+use Rattle.hs_run.specs.declared.program.Literal.{Literal}
+use Rattle.hs_run.specs.declared.program.Role.{Role}
 use Rattle.hs_run.specs.declared.spot.Spot.{Spot}
 
 -- what is kept of a piece of which something is kept
@@ -107,17 +107,30 @@ module _ (xs : List LiteralByte) (u : List ℕ) (some : 1 ≤ length xs) (each :
         entered = (leaving-begins (take k u) (class_of (get_or u k 0))).0 refl;
       }
 
-  -- a first literal is left where it ends
-  pub bare-leaves : (next : Next) → EndsAt xs u (length u) ↔ LeavesBehind [] (lit xs) u next
-  bare-leaves next = (
-    λ ends.
+  -- any literal is left where it ends and the pieces before it are left before its first byte
+  pub behind-leaves : (pieces : List Piece) (next : Next) → (EndsAt xs u (length u) × IsEnteredBefore pieces (length xs) u) ↔ LeavesBehind pieces (lit xs) u next
+  behind-leaves pieces next = (
+    λ (ends, before).
         let within : length xs ≤ length u = (ends-taken xs u ends).0 in
-        (literals-leave_behind [] xs u next some within).1 (first-before within, (span-ends within).1 ends),
+        (literals-leave_behind pieces xs u next some within).1 (before, (span-ends within).1 ends),
     λ behind.
         let wide : behind.from + length xs ≡ length u = lit-width (then_bytes u next) (then_ended next) xs behind.from (length u) behind.spans in
         let within : length xs ≤ length u = omega (arith, wide) in
-        (span-ends within).0 ((literals-leave_behind [] xs u next some within).0 behind).1,
+        let (before, span) = (literals-leave_behind pieces xs u next some within).0 behind in
+        ((span-ends within).0 span, before),
   )
+
+  -- a first literal is left where it ends
+  pub bare-leaves : (next : Next) → EndsAt xs u (length u) ↔ LeavesBehind [] (lit xs) u next
+  bare-leaves next = (
+    λ ends. (behind-leaves [] next).0 (ends, first-before (ends-taken xs u ends).0),
+    λ behind. ((behind-leaves [] next).1 behind).0,
+  )
+
+  pub literal-not_empty : (next : Next) → IsEmptyAt (piece_tree (lit xs)) u next → ⊥
+  literal-not_empty next span =
+      let wide : length u + length xs ≡ length u = lit-width (then_bytes u next) (then_ended next) xs (length u) (length u) span in
+      omega (arith, wide, some)
 
   -- and another one where it was entered too
   module _ (pieces : List Piece) (marks : List Bool) (m : ℕ) (bit : ℕ → Bool) (size : length xs ≡ suc m) (are : AreEntered pieces u marks) (tells : TellsEntries (length xs) bit u marks) where

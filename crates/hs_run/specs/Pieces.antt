@@ -18,10 +18,10 @@ use Rattle.hs_base.specs.RepeatRows.{IsRingAt}
 use Rattle.hs_base.specs.Trees.{Tree}
 use Rattle.hs_engine.specs.Engines.{Meaning}
 use Rattle.hs_run.specs.Spots.{IsSpot}
-use Rattle.hs_run.specs.declared.role.Kind.{Kind}
-use Rattle.hs_run.specs.declared.role.Kind.TheVariants as kind
-use Rattle.hs_run.specs.declared.role.Literal.{Literal}
-use Rattle.hs_run.specs.declared.role.Role.{Role}
+use Rattle.hs_run.specs.declared.program.Kind.{Kind}
+use Rattle.hs_run.specs.declared.program.Kind.TheVariants as kind
+use Rattle.hs_run.specs.declared.program.Literal.{Literal}
+use Rattle.hs_run.specs.declared.program.Role.{Role}
 use Rattle.hs_run.specs.declared.spot.Spot.{Spot}
 
 -- whether the bytes are ones that the literal takes

@@ -2,9 +2,14 @@
 //! one region.
 #![tactic(auto)]
 
+mod chains;
+mod ends;
+mod fields;
 mod literals;
-mod role;
+mod look_back;
+mod moving;
+mod program;
 mod roles;
 mod spot;
 
-pub use role::{Kind, Literal, Role};
+pub use program::{Chain, Identifier, Kind, Literal, Program, Role};

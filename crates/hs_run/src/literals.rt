@@ -16,7 +16,9 @@ use hs_layout::HISTORY_SIZE;
 /// Whether the literal ends where the stream stands.
 pub(crate) fn ends_here(literal: &[LitByte], spot: &Spot) -> bool
     requires { length literal.now ≤ 32 }
-    ensures { (u : List ℕ) → IsSpot u spot.now → (result ≡ true) ↔ EndsAt (map literal_byte literal.now) u (length u) }
+    ensures short { result ≡ true → length literal.now ≤ spot.now.at }
+    ensures ends { (u : List ℕ) → IsSpot u spot.now → (result ≡ true) ↔
+        EndsAt (map literal_byte literal.now) u (length u) }
 {
     literal.len() as u64 <= spot.at
         && takes_all(literal, &spot.history[HISTORY_SIZE - literal.len()..])

@@ -7,7 +7,7 @@ use Rattle.hs_base.specs.Leaving.{LeavesAt}
 use Rattle.hs_base.specs.LiteralView.{literal_byte}
 use Rattle.hs_base.specs.RepeatRows.{IsRingAt}
 use Rattle.hs_engine.specs.Engines.{TakesByte}
-use Rattle.hs_run.specs.declared.role.Kind.TheVariants as kind
+use Rattle.hs_run.specs.declared.program.Kind.TheVariants as kind
 use Rattle.hs_run.specs.Pieces.{bytes_of}
 use Rattle.hs_run.proofs.PieceLemmas.{bare-of, entered-of, engined-of, never-looks_back, engine-step, entered-step, moved-ring, each-by, IsMoved}
 use Rattle.hs_run.proofs.roles.move_part.Goals as goal
@@ -26,7 +26,7 @@ returns-in-Literal-clause-well g c = record {
 
 pub returns-in-Literal-clause-keeps : goal.returns-in-Literal-clause-keeps
 returns-in-Literal-clause-keeps g c p u runs is kept tells =
-    let has = entered-of g.E.Engine.meaning c.args.engines.now c.args.literals.now c.args.role.now p runs.alone c.in-Literal.is in
+    let has = entered-of g.E.Engine.meaning c.args.program.now.engines.items c.args.program.now.literals.items c.args.role.now p runs.alone c.in-Literal.is in
     let one : c.literal_of.result.now ≡ has.value = same_Some c.literal_of.result.now has.value (sym c.literal_of.ensures ∙ has.there) in
     let size : c.len.result ≡ length (bytes_of has.value) =
     omega (arith, c.len.ensures, c.literal_of.result.now.bytes.ok.0, length-map c.literal_of.result.now.bytes.items literal_byte, ap (λ v. length (bytes_of v)) one) in
@@ -38,7 +38,7 @@ returns-in-Literal-clause-keeps g c p u runs is kept tells =
 pub returns-in-Engine-clause-keeps : goal.returns-in-Engine-clause-keeps
 returns-in-Engine-clause-keeps g c p u runs is kept tells =
     let meaning = g.E.Engine.meaning in
-    let has = engined-of meaning c.args.engines.now c.args.literals.now c.args.role.now p runs.alone c.in-Engine.is in
+    let has = engined-of meaning c.args.program.now.engines.items c.args.program.now.literals.items c.args.role.now p runs.alone c.in-Engine.is in
     let one = same_Some has.value c.engine_of.result.now (sym has.there ∙ c.engine_of.ensures) in
     engine-step (meaning has.value) p c.args.part.now c.step.new.region u c.args.spot.now c.args.byte c.args.now has.runs is
     (subst (λ e. TakesByte (meaning e) c.args.part.now c.step.new.region c.args.spot.now.prev c.args.spot.now.at c.args.now c.args.byte) (sym one) c.step.ensures.takes)

@@ -1,0 +1,123 @@
+//! All chains of a program over one byte, and at the end of a stream: where matches of each identifier end.
+
+ghost use Rattle.std.specs.Prelude.{◌≡◌, ℕ, ◌+◌, ◌<◌, ◌≤◌, ◌^◌, List, [], ◌∷◌, ◌++◌, length, Some, slice_get};
+ghost use Rattle.hs_base.specs.Regions.{history_size};
+ghost use Rattle.hs_layout.specs.Layouts.{laid_size};
+ghost use Rattle.hs_run.specs.Chains.{AreParts, AreWritten};
+ghost use Rattle.hs_run.specs.Ends.{EndsChains, IsWithinBounds, MovesChain, MovesChains, ends_of};
+ghost use Rattle.hs_run.specs.Programs.{FitsLayout, IsChainSound, IsRunnable, window_room};
+ghost use Rattle.hs_run.specs.Spots.{IsSpot};
+
+use crate::chains::{leave_chain, step_chain};
+use crate::ends::{Ends, forget};
+use crate::program::{Chain, Program};
+use crate::spot::Spot;
+use hs_base::NextSet;
+use hs_engine::{Engine, Steps};
+use hs_layout::Layout;
+use std::sync::ledger::Ledger;
+
+/// What may come next where a chain is left, if a match may end at that offset.
+fn within_bounds(chain: &Chain, at: u64, left: NextSet) -> NextSet
+    ensures { IsWithinBounds chain.now at left result }
+{
+    if at < chain.min_offset || chain.max_offset < at {
+        return NextSet::empty();
+    }
+    left
+}
+
+/// Takes a byte for one chain, and adds where its matches end about it to the ends.
+fn move_chain<E: Engine, L: Ledger>(
+    program: &Program<E>,
+    layout: &Layout,
+    region: &mut [u8],
+    chain: &Chain,
+    spot: &Spot,
+    behind: &Spot,
+    byte: u8,
+    window: &mut [u8],
+    ends: &mut Ends,
+    steps: &mut Steps<L>,
+)
+    requires runs { IsRunnable E.meaning program.now }
+    requires sound { IsChainSound E.meaning program.now chain.now }
+    requires fits { FitsLayout program.now layout.now }
+    requires sized { length region.old ≡ laid_size layout.now }
+    requires parts { AreParts E.meaning program.now layout.now region.old chain.now.first chain.now.end spot.now.at }
+    requires room { behind.now.at < 2 ^ 63 }
+    requires next { behind.now.at ≡ spot.now.at + 1 }
+    requires stands { (u : List ℕ) → IsSpot u spot.now → IsSpot (u ++ byte ∷ []) behind.now }
+    requires window { length window.old ≡ window_room }
+    requires whole { length spot.now.history ≡ history_size }
+    requires whole_behind { length behind.now.history ≡ history_size }
+    ensures window { length window.new ≡ length window.old }
+    ensures written { AreWritten layout.now chain.now.first chain.now.end region.old region.new }
+    ensures parts { AreParts E.meaning program.now layout.now region.new chain.now.first chain.now.end (spot.now.at + 1) }
+    ensures moves { MovesChain E.meaning program.now layout.now chain.now region.old region.new spot.now byte
+        (ends_of ends.old) (ends_of ends.new) }
+{
+    let left = step_chain(program, layout, region, chain, spot, byte, window, steps);
+    let left_behind = leave_chain(program, layout, region, chain, behind, window, steps);
+    ends.note(
+        byte,
+        within_bounds(chain, spot.at, left),
+        within_bounds(chain, behind.at, left_behind),
+    );
+}
+
+/// The chain of that number.
+fn chain_at<E: Engine>(program: &Program<E>, j: usize) -> &Chain
+    requires there { j < length program.now.chains.items }
+    ensures { slice_get program.now.chains.items j ≡ Some result.now }
+{
+    &program.chains[j]
+}
+
+/// Takes a byte for every chain, and notes where matches of each identifier end about it.
+pub(crate) fn move_chains<E: Engine, L: Ledger>(
+    program: &Program<E>,
+    layout: &Layout,
+    region: &mut [u8],
+    spot: &Spot,
+    behind: &Spot,
+    byte: u8,
+    window: &mut [u8],
+    ends: &mut [Ends],
+    steps: &mut Steps<L>,
+)
+    requires runs { IsRunnable E.meaning program.now }
+    requires fits { FitsLayout program.now layout.now }
+    requires sized { length region.old ≡ laid_size layout.now }
+    requires parts { AreParts E.meaning program.now layout.now region.old 0 (length program.now.roles.items) spot.now.at }
+    requires room { behind.now.at < 2 ^ 63 }
+    requires next { behind.now.at ≡ spot.now.at + 1 }
+    requires stands { (u : List ℕ) → IsSpot u spot.now → IsSpot (u ++ byte ∷ []) behind.now }
+    requires window { length window.old ≡ window_room }
+    requires whole { length spot.now.history ≡ history_size }
+    requires whole_behind { length behind.now.history ≡ history_size }
+    requires ends { length ends.old ≡ length program.now.identifiers.items }
+    ensures window { length window.new ≡ length window.old }
+    ensures ends { length ends.new ≡ length ends.old }
+    ensures written { AreWritten layout.now 0 (length program.now.roles.items) region.old region.new }
+    ensures parts { AreParts E.meaning program.now layout.now region.new 0 (length program.now.roles.items)
+        (spot.now.at + 1) }
+    ensures moves { MovesChains E.meaning program.now layout.now region.old region.new spot.now byte ends.new }
+{
+    forget(ends);
+    for j in 0..program.chains.len() {
+        let chain = chain_at(program, j);
+        move_chain(
+            program,
+            layout,
+            region,
+            chain,
+            spot,
+            behind,
+            byte,
+            window,
+            &mut ends[chain.identifier],
+            steps,
+        );
+    }
+}
