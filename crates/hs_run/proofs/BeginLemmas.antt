@@ -13,11 +13,12 @@ use Rattle.hs_engine.specs.Engines.{Meaning}
 use Rattle.hs_run.specs.Chains.{BeginsRow}
 use Rattle.hs_run.specs.Looking.{LeavesLooked}
 use Rattle.hs_run.specs.Pieces.{bytes_of}
-use Rattle.hs_run.specs.Programs.{Row, RunsRow, LooksBack, FirstLooksBack, HasNoField, IsChainSound, IsLookSound, looked, row_place}
+use Rattle.hs_run.specs.Programs.{Row, RunsRow, LooksBack, FirstLooksBack, HasNoField, HasWindow, IsChainSound, IsLookSound, looked, row_place}
 use Rattle.hs_run.specs.Spots.{IsSpot}
 use Rattle.hs_run.specs.declared.chains.Begun.{Begun}
 use Rattle.hs_run.specs.declared.program.Chain.{Chain}
 use Rattle.hs_run.specs.declared.program.Kind.TheVariants as kind
+use Rattle.hs_run.specs.declared.program.Literal.{Literal}
 use Rattle.hs_run.specs.declared.program.Program.{Program}
 use Rattle.hs_run.specs.declared.program.Role.{Role}
 use Rattle.hs_run.specs.declared.spot.Spot.{Spot}
@@ -29,6 +30,26 @@ module _ {E : Type 0} (meaning : E → Meaning) (program : Program E) (c : Chain
   looks =
       let (r, role) = there program.roles.items c.first (omega (arith, first.0, sound.within)) in
       (r, role, sound.looks_back r role first.0 (first.1 r role))
+
+  -- what the two roles name
+  pub pair-window : (r : Role) → slice_get program.roles.items c.first ≡ Some r → HasWindow meaning program r
+  pair-window r role = (sound.looks_back r role first.0 (first.1 r role)).engine
+
+  next-role : suc c.first ≡ c.first + 1
+  next-role = omega arith
+
+  pub pair-named : (q : Role) → slice_get program.roles.items (c.first + 1) ≡ Some q → q.literal < length program.literals.items
+  pair-named q role =
+      let (s, there_is, look) = looks in
+      let one : look.behind ≡ q = same_Some look.behind q (sym look.behind_there ∙ (ap (slice_get program.roles.items) next-role ∙ role)) in
+      subst (λ z. z.literal < length program.literals.items) one (slice_get_within program.literals.items look.behind.literal look.literal look.literal_there)
+
+  pub pair-short : (q : Role) (v : Literal) → slice_get program.roles.items (c.first + 1) ≡ Some q → slice_get program.literals.items q.literal ≡ Some v → (1 ≤ length v.bytes.items) × (length v.bytes.items ≤ 32)
+  pair-short q v role value =
+      let (s, there_is, look) = looks in
+      let one : look.behind ≡ q = same_Some look.behind q (sym look.behind_there ∙ (ap (slice_get program.roles.items) next-role ∙ role)) in
+      let same : look.literal ≡ v = same_Some look.literal v (sym look.literal_there ∙ (ap (λ z. slice_get program.literals.items z.literal) one ∙ value)) in
+      subst (λ z. (1 ≤ length z.bytes.items) × (length z.bytes.items ≤ 32)) same (look.some, look.short)
 
   pub pair-bare : (k : ℕ) (r : Role) → c.first ≤ k → k < c.first + 2 → slice_get program.roles.items k ≡ Some r → HasNoField r
   pair-bare k r low high role = elim (cases_eq k c.first) [
@@ -73,3 +94,11 @@ module _ {E : Type 0} (meaning : E → Meaning) (program : Program E) (plan : Pl
   begins-plain u all every told not law =
       let both = plain-by u all every (λ first. absurd (let e : false ≡ true = sym not ∙ law.1 first in cc)) (plan.looks_back x.chain) refl in
       record { next = both.0; leaves = both.1 }
+
+-- the literal behind a piece that looks back is the one that the next role names
+pub looked-value : {E : Type 0} (meaning : E → Meaning) (program : Program E) (first : ℕ) (chain : List Piece) (looked : LooksBack meaning program first chain) (q : Role) (v : Literal) →
+    slice_get program.roles.items (first + 1) ≡ Some q → slice_get program.literals.items q.literal ≡ Some v → looked.value ≡ v
+looked-value meaning program first chain looked q v role value =
+    let e : suc first ≡ first + 1 = omega arith in
+    let one : looked.behind ≡ q = same_Some looked.behind q (sym looked.behind_there ∙ (ap (slice_get program.roles.items) e ∙ role)) in
+    same_Some looked.value v (sym looked.value_there ∙ (ap (λ z. slice_get program.literals.items z.literal) one ∙ value))

@@ -9,3 +9,4 @@ pub mod ChainLemmas
 pub mod RowLemmas
 pub mod MovingLemmas
 pub mod DoneLemmas
+pub mod EndedLemmas

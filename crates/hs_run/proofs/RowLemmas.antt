@@ -123,7 +123,7 @@ last-other P x u b next id old apart tells = (
 )
 
 pub ends-more : (P : List Row) (x : Row) (u : List ℕ) (b id : ℕ) (old new : Ends) → x.pattern.id ≡ id → AreRowEnds P u b id old → NotesRow x u b old new → AreRowEnds (P ++ x ∷ []) u b id new
-ends-more Field P x u b id old new same are moved = record {
+ends-more P x u b id old new same are moved = record {
   before = end-more P x u (class_of b) id (old.before ≡ true) (new.before ≡ true) same are.before moved.before;
   before_last = last-more P x u b after.FinalNewline id (old.before_last ≡ true) (new.before_last ≡ true) same are.before_last moved.before_last;
   behind = end-more P x (u ++ b ∷ []) after.Unknown id (old.behind ≡ true) (new.behind ≡ true) same are.behind moved.behind;

@@ -97,6 +97,13 @@ module _ {E : Type 0} (meaning : E → Meaning) (program : Program E) where
       AreKept plan l old 0 (length program.roles.items) u →
       AreMoved plan l (length program.roles.items) program.identifiers.items new u b ends
 
+  -- whether matches of the row end with the stream was added
+  abbrev pub EndsChain : Laid → Chain → (region : List ℕ) → Spot → (before later : Bool) → Type 0
+  EndsChain l c region spot before later =
+      (plan : Plan) (x : Row) (u : List ℕ) → RunsRow meaning program plan c x → IsSpot u spot →
+      AreKept plan l region c.first c.end u →
+      (later ≡ true) ↔ ((before ≡ true) ⊎ RowEnds x.pattern.id u after.End x)
+
   -- and where matches end with the stream
   abbrev pub EndsChains : Laid → (region : List ℕ) → Spot → List EndsAbout → Type 0
   EndsChains l region spot ends =

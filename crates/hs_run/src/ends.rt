@@ -1,5 +1,5 @@
 //! Where matches of an identifier end, as far as one byte, or the end of the stream, tells.
-ghost use Rattle.std.specs.Prelude.{◌≡◌, ◌||◌, ◌&&◌, ◌==◌, length};
+ghost use Rattle.std.specs.Prelude.{◌≡◌, ◌||◌, ◌&&◌, ◌==◌, false, length};
 ghost use Rattle.hs_base.specs.Assertions.{line_feed};
 ghost use Rattle.hs_base.specs.Contexts.{class_of};
 ghost use Rattle.hs_base.specs.ContextSets.{has_next};

@@ -4,7 +4,7 @@ ghost use Rattle.std.specs.Prelude.{◌≡◌, ℕ, ◌+◌, ◌<◌, ◌≤◌,
 ghost use Rattle.hs_base.specs.Regions.{history_size};
 ghost use Rattle.hs_layout.specs.Layouts.{laid_size};
 ghost use Rattle.hs_run.specs.Chains.{AreParts, AreWritten};
-ghost use Rattle.hs_run.specs.Ends.{EndsChains, IsWithinBounds, MovesChain, MovesChains, ends_of};
+ghost use Rattle.hs_run.specs.Ends.{EndsChain, EndsChains, IsWithinBounds, MovesChain, MovesChains, ends_of};
 ghost use Rattle.hs_run.specs.Programs.{FitsLayout, IsChainSound, IsRunnable, window_room};
 ghost use Rattle.hs_run.specs.Spots.{IsSpot};
 
@@ -115,6 +115,71 @@ pub(crate) fn move_chains<E: Engine, L: Ledger>(
             spot,
             behind,
             byte,
+            window,
+            &mut ends[chain.identifier],
+            steps,
+        );
+    }
+}
+
+/// Adds to the ends whether a match of a chain ends, if the stream ends here.
+fn end_chain<E: Engine, L: Ledger>(
+    program: &Program<E>,
+    layout: &Layout,
+    region: &[u8],
+    chain: &Chain,
+    spot: &Spot,
+    window: &mut [u8],
+    ends: &mut Ends,
+    steps: &mut Steps<L>,
+)
+    requires runs { IsRunnable E.meaning program.now }
+    requires sound { IsChainSound E.meaning program.now chain.now }
+    requires fits { FitsLayout program.now layout.now }
+    requires sized { length region.now ≡ laid_size layout.now }
+    requires parts { AreParts E.meaning program.now layout.now region.now chain.now.first chain.now.end spot.now.at }
+    requires room { spot.now.at < 2 ^ 63 }
+    requires window { length window.old ≡ window_room }
+    requires whole { length spot.now.history ≡ history_size }
+    ensures window { length window.new ≡ length window.old }
+    ensures ends { EndsChain E.meaning program.now layout.now chain.now region.now spot.now
+        ends.old.behind ends.new.behind }
+{
+    let left = leave_chain(program, layout, region, chain, spot, window, steps);
+    ends.note_end(within_bounds(chain, spot.at, left));
+}
+
+/// Notes of each identifier whether a match of it ends, if the stream ends here.
+pub(crate) fn end_chains<E: Engine, L: Ledger>(
+    program: &Program<E>,
+    layout: &Layout,
+    region: &[u8],
+    spot: &Spot,
+    window: &mut [u8],
+    ends: &mut [Ends],
+    steps: &mut Steps<L>,
+)
+    requires runs { IsRunnable E.meaning program.now }
+    requires fits { FitsLayout program.now layout.now }
+    requires sized { length region.now ≡ laid_size layout.now }
+    requires parts { AreParts E.meaning program.now layout.now region.now 0 (length program.now.roles.items) spot.now.at }
+    requires room { spot.now.at < 2 ^ 63 }
+    requires window { length window.old ≡ window_room }
+    requires whole { length spot.now.history ≡ history_size }
+    requires ends { length ends.old ≡ length program.now.identifiers.items }
+    ensures window { length window.new ≡ length window.old }
+    ensures ends { length ends.new ≡ length ends.old }
+    ensures about { EndsChains E.meaning program.now layout.now region.now spot.now ends.new }
+{
+    forget(ends);
+    for j in 0..program.chains.len() {
+        let chain = chain_at(program, j);
+        end_chain(
+            program,
+            layout,
+            region,
+            chain,
+            spot,
             window,
             &mut ends[chain.identifier],
             steps,

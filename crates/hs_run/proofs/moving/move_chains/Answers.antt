@@ -46,14 +46,14 @@ loop-j-preserved g c =
 pub returns-clause-written : goal.returns-clause-written
 returns-clause-written g c =
     done-written g.E.Engine.meaning c.args.program.now c.args.layout.now c.requires.fits c.requires.runs c.args.region.now c.args.spot.now c.args.byte c.loop-j.j c.loop-j.region c.loop-j.ends c.loop-j.invariant.done
-    (omega (arith, c.loop-j-test.false, c.loop-j.auto.at-end))
+    (omega (arith, c.loop-j-test.false, c.loop-j.auto.j-end, c.len-j-end.ensures, c.args.program.now.chains.ok.0))
 
 pub returns-clause-parts : goal.returns-clause-parts
 returns-clause-parts g c =
     done-parts g.E.Engine.meaning c.args.program.now c.args.layout.now c.requires.fits c.requires.runs c.args.region.now c.args.spot.now c.args.byte c.loop-j.j c.loop-j.region c.loop-j.ends c.loop-j.invariant.done
-    (omega (arith, c.loop-j-test.false, c.loop-j.auto.at-end))
+    (omega (arith, c.loop-j-test.false, c.loop-j.auto.j-end, c.len-j-end.ensures, c.args.program.now.chains.ok.0))
 
 pub returns-clause-moves : goal.returns-clause-moves
 returns-clause-moves g c =
     done-moves g.E.Engine.meaning c.args.program.now c.args.layout.now c.requires.fits c.requires.runs c.args.region.now c.args.spot.now c.args.byte c.loop-j.j c.loop-j.region c.loop-j.ends c.loop-j.invariant.done
-    (omega (arith, c.loop-j-test.false, c.loop-j.auto.at-end))
+    (omega (arith, c.loop-j-test.false, c.loop-j.auto.j-end, c.len-j-end.ensures, c.args.program.now.chains.ok.0))
