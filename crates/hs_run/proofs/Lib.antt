@@ -10,3 +10,5 @@ pub mod RowLemmas
 pub mod MovingLemmas
 pub mod DoneLemmas
 pub mod EndedLemmas
+pub mod EventLemmas
+pub mod ReportingLemmas

@@ -4,3 +4,7 @@ pub mod Programs
 pub mod Looking
 pub mod Chains
 pub mod Ends
+pub mod Events
+pub mod Collecting
+pub mod Keeping
+pub mod Reporting

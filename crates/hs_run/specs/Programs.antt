@@ -1,5 +1,5 @@
 -- Which program runs the patterns of a plan.
-use Rattle.std.specs.Prelude.{◌≡◌, ◌⊎◌, ℕ, suc, ◌+◌, ◌^◌, ◌<◌, ◌≤◌, Bool, true, false, List, [], ◌∷◌, length, map, flat_map, take, if◌then◌else◌}
+use Rattle.std.specs.Prelude.{◌≡◌, ◌⊎◌, ℕ, suc, ◌+◌, ◌^◌, ◌<◌, ◌≤◌, Bool, true, false, List, [], ◌∷◌, length, map, flat_map, take}
 use Rattle.std.specs.Prelude.{Some, slice_get}
 use Rattle.hs_base.specs.Chains.{Piece, lit, nfa, chains_of, IsFitChain}
 use Rattle.hs_base.specs.KeptPieces.{Form}
@@ -53,9 +53,13 @@ abbrev pub ids_of : List Identifier → List ℕ
 ids_of identifiers = map (λ identifier. identifier.id.0) identifiers
 
 -- the single ones among them
+abbrev pub with_single : Bool → Identifier → List Identifier → List Identifier
+with_single true x xs = x ∷ xs
+with_single false x xs = xs
+
 abbrev pub singles_of : List Identifier → List Identifier
 singles_of [] = []
-singles_of (x ∷ xs) = if x.single then x ∷ singles_of xs else singles_of xs
+singles_of (x ∷ xs) = with_single x.single x (singles_of xs)
 
 -- the sizes of the fields
 abbrev pub sizes_of : List Role → List ℕ
@@ -118,6 +122,7 @@ module _ {E : Type 0} (meaning : E → Meaning) (program : Program E) where
         slice_get (plan_rows plan) j ≡ Some x → RunsRow plan c x
     pub sizes : sizes_of program.roles.items ≡ map place_size (list_places plan)
     pub ids : ids_of program.identifiers.items ≡ plan.identifiers
+    pub singles : ids_of (singles_of program.identifiers.items) ≡ plan.singles
     pub single : (i : ℕ) (x : Identifier) → slice_get program.identifiers.items i ≡ Some x →
         x.single ≡ is_single plan.patterns x.id.0
 

@@ -3,13 +3,19 @@
 #![tactic(auto)]
 
 mod chains;
+mod collected;
 mod ends;
+mod events;
 mod fields;
+mod kept;
 mod literals;
 mod look_back;
 mod moving;
 mod program;
+mod reporting;
 mod roles;
 mod spot;
 
+pub use collected::Collected;
+pub use events::Events;
 pub use program::{Chain, Identifier, Kind, Literal, Program, Role};
