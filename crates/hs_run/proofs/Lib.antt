@@ -12,3 +12,4 @@ pub mod DoneLemmas
 pub mod EndedLemmas
 pub mod EventLemmas
 pub mod ReportingLemmas
+pub mod KeepingLemmas

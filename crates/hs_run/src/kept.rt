@@ -29,9 +29,9 @@ impl Kept {
 }
 
 /// How many single identifiers come up to that one, if so many come before it.
-fn singles_up_to(identifier: &Identifier, before: usize) -> usize
+fn singles_up_to(identifier: Identifier, before: usize) -> usize
     requires room { before < 2 ^ 32 }
-    ensures { result ≡ before + length (with_single identifier.now.single identifier.now []) }
+    ensures { result ≡ before + length (with_single identifier.single identifier []) }
 {
     if identifier.single {
         before + 1
@@ -41,17 +41,11 @@ fn singles_up_to(identifier: &Identifier, before: usize) -> usize
 }
 
 /// What the region keeps of the identifier of that number, which is that one among the single ones.
-fn read_one(
-    layout: &Layout,
-    region: &[u8],
-    identifier: &Identifier,
-    i: usize,
-    single: usize,
-) -> Kept
+fn read_one(layout: &Layout, region: &[u8], identifier: Identifier, i: usize, single: usize) -> Kept
     requires sized { length region.now ≡ laid_size layout.now }
     requires there { i < layout.now.identifiers }
-    requires single { identifier.now.single ≡ true → single < layout.now.singles }
-    ensures { IsRead layout.now region.now identifier.now i single result }
+    requires single { identifier.single ≡ true → single < layout.now.singles }
+    ensures { IsRead layout.now region.now identifier i single result }
 {
     let told = identifier.single && layout.told_single(region, single);
     Kept {
@@ -77,8 +71,9 @@ pub(crate) fn read_kept(
 {
     let mut single = 0;
     for i in 0..identifiers.len() {
-        kept[i] = read_one(layout, region, &identifiers[i], i, single);
-        single = singles_up_to(&identifiers[i], single);
+        let identifier = identifiers[i];
+        kept[i] = read_one(layout, region, identifier, i, single);
+        single = singles_up_to(identifier, single);
     }
 }
 
@@ -86,17 +81,17 @@ pub(crate) fn read_kept(
 fn write_one(
     layout: &Layout,
     region: &mut [u8],
-    identifier: &Identifier,
+    identifier: Identifier,
     i: usize,
     single: usize,
     kept: Kept,
 )
     requires sized { length region.old ≡ laid_size layout.now }
     requires there { i < layout.now.identifiers }
-    requires single { identifier.now.single ≡ true → single < layout.now.singles }
+    requires single { identifier.single ≡ true → single < layout.now.singles }
     ensures written { AreBitsWritten layout.now region.old region.new }
-    ensures read { IsRead layout.now region.new identifier.now i single kept }
-    ensures others { IsOneWritten layout.now identifier.now i single region.old region.new }
+    ensures read { IsRead layout.now region.new identifier i single kept }
+    ensures others { IsOneWritten layout.now identifier i single region.old region.new }
 {
     if identifier.single {
         layout.set_told_single(region, single, kept.told);
@@ -121,7 +116,8 @@ pub(crate) fn write_kept(
 {
     let mut single = 0;
     for i in 0..identifiers.len() {
-        write_one(layout, region, &identifiers[i], i, single, kept[i]);
-        single = singles_up_to(&identifiers[i], single);
+        let identifier = identifiers[i];
+        write_one(layout, region, identifier, i, single, kept[i]);
+        single = singles_up_to(identifier, single);
     }
 }
