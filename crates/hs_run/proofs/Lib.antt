@@ -13,3 +13,4 @@ pub mod EndedLemmas
 pub mod EventLemmas
 pub mod ReportingLemmas
 pub mod KeepingLemmas
+pub mod ByteLemmas

@@ -8,3 +8,4 @@ pub mod Events
 pub mod Collecting
 pub mod Keeping
 pub mod Reporting
+pub mod Feeding

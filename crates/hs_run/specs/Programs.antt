@@ -162,6 +162,7 @@ module _ {E : Type 0} (meaning : E → Meaning) (program : Program E) where
         slice_get program.chains.items (suc j) ≡ Some d → d.first ≡ c.end
     pub ends : (j : ℕ) (c : Chain) → slice_get program.chains.items j ≡ Some c → suc j ≡ length program.chains.items →
         c.end ≡ length program.roles.items
+    pub few : length program.identifiers.items < 2 ^ 32
     pub none : length program.chains.items ≡ 0 → length program.roles.items ≡ 0
 
 -- the layout of the regions of a program

@@ -14,6 +14,8 @@ mod moving;
 mod program;
 mod reporting;
 mod roles;
+mod runner;
+mod settling;
 mod spot;
 
 pub use collected::Collected;
