@@ -14,3 +14,7 @@ pub mod EventLemmas
 pub mod ReportingLemmas
 pub mod KeepingLemmas
 pub mod ByteLemmas
+pub mod PlanLayoutLemmas
+pub mod BitRegionLemmas
+pub mod FeedLemmas
+pub mod SettledLemmas

@@ -33,6 +33,12 @@ pub record IsFed (plan : Plan) (u bytes now : List ℕ) (pairs : List Pair) : Ty
   pub region : IsRegion plan (u ++ bytes) now
   pub new : IsNew plan.patterns u bytes pairs
 
+-- the same pairs have both properties
+pub record AreAlike (First Second : List Pair → Type 0) : Type 0 where
+  pub pairs : List Pair
+  pub first : First pairs
+  pub second : Second pairs
+
 module _ {E : Type 0} (meaning : E → Meaning) (program : Program E) where
   -- The bytes may be run as a region: they have its length, and each field may stand at their offset.
   pub record FitsRegion (l : Laid) (region : List ℕ) : Type 0 where
@@ -58,3 +64,27 @@ module _ {E : Type 0} (meaning : E → Meaning) (program : Program E) where
       Each (λ b. b < 256) u →
       IsRegion plan u region →
       IsLast plan.patterns u pairs
+
+  -- Two streams of which that is the region have the same new reports of the bytes.
+  abbrev pub GoesOnAlike : (region bytes : List ℕ) → Type 0
+  GoesOnAlike region bytes =
+      (plan : Plan) (u v : List ℕ) (told told' : List Pair) →
+      IsProgramOf meaning program plan →
+      Each (λ b. b < 256) u →
+      Each (λ b. b < 256) v →
+      IsRegion plan u region →
+      IsRegion plan v region →
+      IsTold plan.patterns u told →
+      IsTold plan.patterns v told' →
+      AreAlike (IsNew plan.patterns u bytes) (IsNew plan.patterns v bytes)
+
+  -- And the same last ones.
+  abbrev pub EndsAlike : (region : List ℕ) → Type 0
+  EndsAlike region =
+      (plan : Plan) (u v : List ℕ) →
+      IsProgramOf meaning program plan →
+      Each (λ b. b < 256) u →
+      Each (λ b. b < 256) v →
+      IsRegion plan u region →
+      IsRegion plan v region →
+      AreAlike (IsLast plan.patterns u) (IsLast plan.patterns v)

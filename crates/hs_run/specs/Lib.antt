@@ -9,3 +9,4 @@ pub mod Collecting
 pub mod Keeping
 pub mod Reporting
 pub mod Feeding
+pub mod Scratches

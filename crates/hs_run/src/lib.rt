@@ -15,9 +15,12 @@ mod program;
 mod reporting;
 mod roles;
 mod runner;
+mod scratch;
 mod settling;
 mod spot;
 
 pub use collected::Collected;
 pub use events::Events;
 pub use program::{Chain, Identifier, Kind, Literal, Program, Role};
+pub use runner::{feed, finish};
+pub use scratch::Scratch;

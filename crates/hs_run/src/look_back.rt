@@ -16,6 +16,9 @@ use hs_engine::{Engine, Steps};
 use hs_layout::HISTORY_SIZE;
 use std::sync::ledger::Ledger;
 
+/// The most bytes of the region of an engine that looks back.
+pub(crate) const WINDOW_ROOM: usize = 64;
+
 /// The most bytes of a piece that looks back.
 const WINDOW: usize = 16;
 
