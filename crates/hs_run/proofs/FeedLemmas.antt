@@ -38,7 +38,7 @@ use Rattle.hs_run.proofs.BitRegionLemmas.{are-identifiers, here-bits, kept-read,
 use Rattle.hs_run.proofs.ByteLemmas.{bit-same, part-behind, range-same, take-same}
 use Rattle.hs_run.proofs.EventLemmas.{through-join}
 use Rattle.hs_run.proofs.LayoutLemmas.{there, apart, field-order, field-within, starts-count}
-use Rattle.hs_run.proofs.PlanLayoutLemmas.{kept-region, plan_layout, plan-laid, region-kept, roles-count}
+use Rattle.hs_run.proofs.PlanLayoutLemmas.{kept-region, plan_layout, plan-laid, plan-size, region-kept, roles-count}
 use Rattle.hs_run.proofs.ReportingLemmas.{tell-each}
 
 -- The bytes of a region over one byte: the fields move, the bits are settled, then history and offset are written.
@@ -179,7 +179,7 @@ module _ {E : Type 0} (meaning : E → Meaning) (program : Program E) (l : Laid)
       record {
         region = record {
           within = omega (arith, length-append u (b ∷ []), here.offset, room);
-          len = size (plan_layout plan) count r0 r1 r2 r3 r4 history offset steps';
+          len = size (plan_layout plan) count r0 r1 r2 r3 r4 history offset steps' ∙ plan-size plan;
           bytes = bytes;
           offset = counts ∙ there'.offset;
           history = history-stays (plan_layout plan) count r0 r1 r2 r3 r4 history offset steps' ∙ (reads ∙ there'.past);

@@ -1,13 +1,13 @@
 -- The layout of a program is that of the plan that it runs.
-use Rattle.std.proofs.Common.{◌≡◌, ℕ, suc, ◌+◌, ◌<◌, ◌≤◌, List, length, map, Some, slice_get, refl, sym, ap, subst, ◌∙◌, arith}
+use Rattle.std.proofs.Common.{◌≡◌, ℕ, suc, ◌+◌, ◌-◌, ◌<◌, ◌≤◌, List, length, map, Some, slice_get, refl, sym, ap, subst, ◌∙◌, arith}
 use Rattle.std.specs.Prelude.{slice_index, slice_range}
 use Rattle.std.proofs.lemmas.List.{length-map}
 use Rattle.std.proofs.lemmas.Option.{slice_get-get_or, slice_get-map, slice_get_within, get_or_from_slice_get}
 use Rattle.hs_base.specs.KeptPieces.{IsKeptAs}
-use Rattle.hs_base.specs.Regions.{Place, Plan, IsPlaced, IsRegion, fields_at, list_places, place_form, place_size, plan_starts}
+use Rattle.hs_base.specs.Regions.{Place, Plan, IsPlaced, IsRegion, fields_at, list_places, place_form, place_size, plan_size, plan_starts}
 use Rattle.hs_base.proofs.SumLemmas.{sums-size}
 use Rattle.hs_engine.specs.Engines.{Meaning}
-use Rattle.hs_layout.specs.Layouts.{Laid, field_bytes, layout_of}
+use Rattle.hs_layout.specs.Layouts.{Laid, field_bytes, laid_size, layout_of}
 use Rattle.hs_run.specs.Chains.{AreKept}
 use Rattle.hs_run.specs.Keeping.{HasBits}
 use Rattle.hs_run.specs.Programs.{FitsLayout, IsProgramOf, ids_of, singles_of, sizes_of}
@@ -68,3 +68,9 @@ kept-region plan u region count all kept k low high p is =
     subst (λ n. IsKeptAs (place_form p) p.pieces (slice_range region n high) u) a
     (subst (λ n. IsKeptAs (place_form p) p.pieces (slice_range region (slice_index (plan_starts plan) k) n) u) b
     (kept k p (omega arith) (omega (arith, below, all)) is.piece))
+
+pub plan-size : (plan : Plan) → laid_size (plan_layout plan) ≡ plan_size plan
+plan-size plan =
+    let sizes = map place_size (list_places plan) in
+    let e : length (plan_starts plan) - 1 ≡ length sizes = omega (arith, sums-size (fields_at (length plan.singles) (length plan.identifiers)) sizes) in
+    ap (slice_index (plan_starts plan)) e

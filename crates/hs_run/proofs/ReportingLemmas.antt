@@ -67,3 +67,11 @@ tell-each moment xs ks es kept ends Q tells-it = record {
   where
     within : (ys : List Identifier) (i id : ℕ) → slice_get (ids_of ys) i ≡ Some id → i < length ys
     within ys i id named = omega (arith, slice_get_within (ids_of ys) i id named, length-map ys (λ y. y.id.0))
+
+-- what was reported of lists that are the same
+pub through-same : {V : Type 0} (Tells : V → ℕ → ℕ → V → Type 0) (start end : V) (moment : Moment) (xs xs' : List Identifier) (ks ks' : List KeptOf) (es es' : List EndsAbout) (to : ℕ) → xs ≡ xs' → ks ≡ ks' → es ≡ es' →
+    Through Tells start (pairs_at moment xs ks es to) end → Through Tells start (pairs_at moment xs' ks' es' to) end
+through-same Tells start end moment xs xs' ks ks' es es' to same same' same'' through =
+    subst (λ v. Through Tells start (pairs_at moment v ks' es' to) end) same
+    (subst (λ v. Through Tells start (pairs_at moment xs v es' to) end) same'
+    (subst (λ v. Through Tells start (pairs_at moment xs ks v to) end) same'' through))

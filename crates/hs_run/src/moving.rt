@@ -11,7 +11,7 @@ ghost use Rattle.hs_run.specs.Spots.{IsSpot};
 use crate::chains::{leave_chain, step_chain};
 use crate::ends::{Ends, forget};
 use crate::program::{Chain, Program};
-use crate::spot::Spot;
+use crate::spot::{Arrival, Spot};
 use hs_base::NextSet;
 use hs_engine::{Engine, Steps};
 use hs_layout::Layout;
@@ -33,9 +33,7 @@ fn move_chain<E: Engine, L: Ledger>(
     layout: &Layout,
     region: &mut [u8],
     chain: &Chain,
-    spot: &Spot,
-    behind: &Spot,
-    byte: u8,
+    arrival: &Arrival,
     window: &mut [u8],
     ends: &mut Ends,
     steps: &mut Steps<L>,
@@ -44,25 +42,42 @@ fn move_chain<E: Engine, L: Ledger>(
     requires sound { IsChainSound E.meaning program.now chain.now }
     requires fits { FitsLayout program.now layout.now }
     requires sized { length region.old ≡ laid_size layout.now }
-    requires parts { AreParts E.meaning program.now layout.now region.old chain.now.first chain.now.end spot.now.at }
-    requires room { behind.now.at < 2 ^ 63 }
-    requires next { behind.now.at ≡ spot.now.at + 1 }
-    requires stands { (u : List ℕ) → IsSpot u spot.now → IsSpot (u ++ byte ∷ []) behind.now }
+    requires parts { AreParts E.meaning program.now layout.now region.old chain.now.first chain.now.end arrival.now.spot.at }
+    requires room { arrival.now.behind.at < 2 ^ 63 }
+    requires next { arrival.now.behind.at ≡ arrival.now.spot.at + 1 }
+    requires stands { (u : List ℕ) → IsSpot u arrival.now.spot → IsSpot (u ++ arrival.now.byte ∷ []) arrival.now.behind }
     requires window { length window.old ≡ window_room }
-    requires whole { length spot.now.history ≡ history_size }
-    requires whole_behind { length behind.now.history ≡ history_size }
+    requires whole { length arrival.now.spot.history ≡ history_size }
+    requires whole_behind { length arrival.now.behind.history ≡ history_size }
     ensures window { length window.new ≡ length window.old }
     ensures written { AreWritten layout.now chain.now.first chain.now.end region.old region.new }
-    ensures parts { AreParts E.meaning program.now layout.now region.new chain.now.first chain.now.end (spot.now.at + 1) }
-    ensures moves { MovesChain E.meaning program.now layout.now chain.now region.old region.new spot.now byte
+    ensures parts { AreParts E.meaning program.now layout.now region.new chain.now.first chain.now.end (arrival.now.spot.at + 1) }
+    ensures moves { MovesChain E.meaning program.now layout.now chain.now region.old region.new arrival.now.spot arrival.now.byte
         (ends_of ends.old) (ends_of ends.new) }
 {
-    let left = step_chain(program, layout, region, chain, spot, byte, window, steps);
-    let left_behind = leave_chain(program, layout, region, chain, behind, window, steps);
+    let left = step_chain(
+        program,
+        layout,
+        region,
+        chain,
+        &arrival.spot,
+        arrival.byte,
+        window,
+        steps,
+    );
+    let left_behind = leave_chain(
+        program,
+        layout,
+        region,
+        chain,
+        &arrival.behind,
+        window,
+        steps,
+    );
     ends.note(
-        byte,
-        within_bounds(chain, spot.at, left),
-        within_bounds(chain, behind.at, left_behind),
+        arrival.byte,
+        within_bounds(chain, arrival.spot.at, left),
+        within_bounds(chain, arrival.behind.at, left_behind),
     );
 }
 
@@ -79,9 +94,7 @@ pub(crate) fn move_chains<E: Engine, L: Ledger>(
     program: &Program<E>,
     layout: &Layout,
     region: &mut [u8],
-    spot: &Spot,
-    behind: &Spot,
-    byte: u8,
+    arrival: &Arrival,
     window: &mut [u8],
     ends: &mut [Ends],
     steps: &mut Steps<L>,
@@ -89,20 +102,20 @@ pub(crate) fn move_chains<E: Engine, L: Ledger>(
     requires runs { IsRunnable E.meaning program.now }
     requires fits { FitsLayout program.now layout.now }
     requires sized { length region.old ≡ laid_size layout.now }
-    requires parts { AreParts E.meaning program.now layout.now region.old 0 (length program.now.roles.items) spot.now.at }
-    requires room { behind.now.at < 2 ^ 63 }
-    requires next { behind.now.at ≡ spot.now.at + 1 }
-    requires stands { (u : List ℕ) → IsSpot u spot.now → IsSpot (u ++ byte ∷ []) behind.now }
+    requires parts { AreParts E.meaning program.now layout.now region.old 0 (length program.now.roles.items) arrival.now.spot.at }
+    requires room { arrival.now.behind.at < 2 ^ 63 }
+    requires next { arrival.now.behind.at ≡ arrival.now.spot.at + 1 }
+    requires stands { (u : List ℕ) → IsSpot u arrival.now.spot → IsSpot (u ++ arrival.now.byte ∷ []) arrival.now.behind }
     requires window { length window.old ≡ window_room }
-    requires whole { length spot.now.history ≡ history_size }
-    requires whole_behind { length behind.now.history ≡ history_size }
+    requires whole { length arrival.now.spot.history ≡ history_size }
+    requires whole_behind { length arrival.now.behind.history ≡ history_size }
     requires ends { length ends.old ≡ length program.now.identifiers.items }
     ensures window { length window.new ≡ length window.old }
     ensures ends { length ends.new ≡ length ends.old }
     ensures written { AreWritten layout.now 0 (length program.now.roles.items) region.old region.new }
     ensures parts { AreParts E.meaning program.now layout.now region.new 0 (length program.now.roles.items)
-        (spot.now.at + 1) }
-    ensures moves { MovesChains E.meaning program.now layout.now region.old region.new spot.now byte ends.new }
+        (arrival.now.spot.at + 1) }
+    ensures moves { MovesChains E.meaning program.now layout.now region.old region.new arrival.now.spot arrival.now.byte ends.new }
 {
     forget(ends);
     for j in 0..program.chains.len() {
@@ -112,9 +125,7 @@ pub(crate) fn move_chains<E: Engine, L: Ledger>(
             layout,
             region,
             chain,
-            spot,
-            behind,
-            byte,
+            arrival,
             window,
             &mut ends[chain.identifier],
             steps,

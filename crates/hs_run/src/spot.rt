@@ -55,6 +55,17 @@ impl Spot {
     }
 }
 
+/// A byte as it comes.
+#[derive(Debug, Drop)]
+pub(crate) struct Arrival {
+    /// Where the stream stands before it.
+    pub spot: Spot,
+    /// Where it stands behind it.
+    pub behind: Spot,
+    /// The byte.
+    pub byte: u8,
+}
+
 /// What stands before the next byte, where so many bytes have come and that was the last one.
 pub(crate) fn prev_behind(at: u64, last: u8) -> Prev
     ensures { result ≡ prev_from at last }

@@ -9,7 +9,7 @@ pub loop-j-init : goal.loop-j-init
 loop-j-init g c = record {
   ends = c.forget.ensures.len ∙ c.requires.ends;
   window = c.requires.window;
-  done = done-none g.E.Engine.meaning c.args.program.now c.args.layout.now c.requires.fits c.requires.runs c.args.region.now c.args.spot.now c.args.byte c.forget.new.ends c.forget.ensures.none;
+  done = done-none g.E.Engine.meaning c.args.program.now c.args.layout.now c.requires.fits c.requires.runs c.args.region.now c.args.arrival.now.spot c.args.arrival.now.byte c.forget.new.ends c.forget.ensures.none;
 }
 
 pub bounds-ends-chain : goal.bounds-ends-chain
@@ -25,7 +25,7 @@ move_chain-requires-clause-sized g c = c.loop-j.invariant.done.written.len ∙ c
 
 pub move_chain-requires-clause-parts : goal.move_chain-requires-clause-parts
 move_chain-requires-clause-parts g c =
-    chain-parts g.E.Engine.meaning c.args.program.now c.args.layout.now c.requires.fits c.requires.runs c.args.region.now c.args.spot.now c.args.byte c.loop-j.j c.loop-j.region c.loop-j.region c.loop-j.ends c.chain_at-chain.result.now no_ends no_ends c.loop-j.invariant.done c.chain_at-chain.ensures
+    chain-parts g.E.Engine.meaning c.args.program.now c.args.layout.now c.requires.fits c.requires.runs c.args.region.now c.args.arrival.now.spot c.args.arrival.now.byte c.loop-j.j c.loop-j.region c.loop-j.region c.loop-j.ends c.chain_at-chain.result.now no_ends no_ends c.loop-j.invariant.done c.chain_at-chain.ensures
     c.requires.parts
 
 pub loop-j-preserved : goal.loop-j-preserved
@@ -39,21 +39,21 @@ loop-j-preserved g c =
       ends = length-set c.loop-j.ends chain.identifier c.move_chain.new.ends ∙ inv.ends;
       window = c.move_chain.ensures.window ∙ inv.window;
       done =
-          done-more g.E.Engine.meaning c.args.program.now c.args.layout.now c.requires.fits c.requires.runs c.args.region.now c.args.spot.now c.args.byte c.loop-j.j c.loop-j.region c.move_chain.new.region c.loop-j.ends chain
+          done-more g.E.Engine.meaning c.args.program.now c.args.layout.now c.requires.fits c.requires.runs c.args.region.now c.args.arrival.now.spot c.args.arrival.now.byte c.loop-j.j c.loop-j.region c.move_chain.new.region c.loop-j.ends chain
           (get_or c.loop-j.ends chain.identifier no_ends) c.move_chain.new.ends inv.done c.chain_at-chain.ensures c.move_chain.ensures.written c.move_chain.ensures.parts c.move_chain.ensures.moves slot;
     }
 
 pub returns-clause-written : goal.returns-clause-written
 returns-clause-written g c =
-    done-written g.E.Engine.meaning c.args.program.now c.args.layout.now c.requires.fits c.requires.runs c.args.region.now c.args.spot.now c.args.byte c.loop-j.j c.loop-j.region c.loop-j.ends c.loop-j.invariant.done
+    done-written g.E.Engine.meaning c.args.program.now c.args.layout.now c.requires.fits c.requires.runs c.args.region.now c.args.arrival.now.spot c.args.arrival.now.byte c.loop-j.j c.loop-j.region c.loop-j.ends c.loop-j.invariant.done
     (omega (arith, c.loop-j-test.false, c.loop-j.auto.j-end, c.len-j-end.ensures, c.args.program.now.chains.ok.0))
 
 pub returns-clause-parts : goal.returns-clause-parts
 returns-clause-parts g c =
-    done-parts g.E.Engine.meaning c.args.program.now c.args.layout.now c.requires.fits c.requires.runs c.args.region.now c.args.spot.now c.args.byte c.loop-j.j c.loop-j.region c.loop-j.ends c.loop-j.invariant.done
+    done-parts g.E.Engine.meaning c.args.program.now c.args.layout.now c.requires.fits c.requires.runs c.args.region.now c.args.arrival.now.spot c.args.arrival.now.byte c.loop-j.j c.loop-j.region c.loop-j.ends c.loop-j.invariant.done
     (omega (arith, c.loop-j-test.false, c.loop-j.auto.j-end, c.len-j-end.ensures, c.args.program.now.chains.ok.0))
 
 pub returns-clause-moves : goal.returns-clause-moves
 returns-clause-moves g c =
-    done-moves g.E.Engine.meaning c.args.program.now c.args.layout.now c.requires.fits c.requires.runs c.args.region.now c.args.spot.now c.args.byte c.loop-j.j c.loop-j.region c.loop-j.ends c.loop-j.invariant.done
+    done-moves g.E.Engine.meaning c.args.program.now c.args.layout.now c.requires.fits c.requires.runs c.args.region.now c.args.arrival.now.spot c.args.arrival.now.byte c.loop-j.j c.loop-j.region c.loop-j.ends c.loop-j.invariant.done
     (omega (arith, c.loop-j-test.false, c.loop-j.auto.j-end, c.len-j-end.ensures, c.args.program.now.chains.ok.0))

@@ -7,5 +7,5 @@ abbrev pub invariant-loop-j : goal.invariant-loop-j
 invariant-loop-j g l = record {
   ends : length l.ends ≡ length l.program.identifiers.items;
   window : length l.window ≡ window_room;
-  done : AreDone g.E.Engine.meaning l.program l.layout l.fn.region l.spot l.byte l.j l.region l.ends;
+  done : AreDone g.E.Engine.meaning l.program l.layout l.fn.region l.arrival.spot l.arrival.byte l.j l.region l.ends;
 }

@@ -1,5 +1,7 @@
 use Rattle.std.proofs.Common.{◌≡◌, ℕ, ◌+◌, ◌≤◌, ◌<◌, [], ◌∷◌, ◌++◌, List, length, drop, refl, sym, ap, subst, ◌∙◌, arith, length-append, length-drop}
 use Rattle.std.specs.Int.{to_le_bytes, w64}
+use Rattle.std.specs.Vec.{with_items}
+use Rattle.std.proofs.lemmas.List.{with_items_is}
 use Rattle.hs_base.specs.Regions.{fields_at, region_offset}
 use Rattle.hs_base.proofs.RegionLemmas.{range-size}
 use Rattle.hs_run.specs.Chains.{AreParts}
@@ -37,14 +39,17 @@ returns-clause-taken g c =
     let settled = c.settle_bits.ensures.settled in
     let steps = steps-of program l c.requires.layout c.args.region.now c.move_chains.new.region c.settle_bits.new.region c.set_history.new.region c.set_offset.new.region c.of-spot.result.history c.behind-behind.result.history (to_le_bytes w64 c.behind-behind.result.at) c.args.byte
     c.requires.region.sized c.of-spot.ensures.history c.behind-behind.ensures.history c.move_chains.ensures.written c.settle_bits.ensures.len settled.holds.written.bytes c.set_history.ensures.written c.set_history.ensures.len c.set_offset.ensures.written c.set_offset.ensures.len refl in
-    let settles : SettlesBits l program.identifiers.items c.move_chains.new.ends c.move_chains.new.region c.settle_bits.new.region c.of-spot.result.at settled.pairs =
-    subst (λ xs. SettlesBits l xs c.move_chains.new.ends c.move_chains.new.region c.settle_bits.new.region c.of-spot.result.at settled.pairs) c.deref.ensures.value settled.holds in
+    let ends = c.move_chains.new.ends in
+    let is_ends : c.deref-2.result.now ≡ ends = c.deref-2.ensures.value ∙ with_items_is c.args.scratch.now.ends ends (c.move_chains.ensures.ends ∙ c.deref_mut-2.ensures.len) in
+    let settles : SettlesBits l program.identifiers.items ends c.move_chains.new.region c.settle_bits.new.region c.of-spot.result.at settled.pairs =
+    subst (λ xs. SettlesBits l xs ends c.move_chains.new.region c.settle_bits.new.region c.of-spot.result.at settled.pairs) c.deref.ensures.value
+    (subst (λ es. SettlesBits l c.deref.result.now es c.move_chains.new.region c.settle_bits.new.region c.of-spot.result.at settled.pairs) is_ends settled.holds) in
     record {
       pairs = settled.pairs;
       through = settled.through;
       holds =
           byte-feeds g.E.Engine.meaning program l c.requires.layout c.of-spot.result c.behind-behind.result c.args.byte c.args.region.now c.move_chains.new.region c.settle_bits.new.region c.set_history.new.region c.set_offset.new.region
           c.behind-behind.result.history (to_le_bytes w64 c.behind-behind.result.at) c.move_chains.new.ends settled.pairs c.of-spot.ensures.stands c.behind-behind.ensures.stands c.move_chains.ensures.moves settles
-          (c.move_chains.ensures.ends ∙ c.requires.ends) steps c.set_history.ensures.reads c.set_offset.ensures.reads (each-by c.set_offset.new.region (λ i. (c.type_inv.region i).fits))
+          (c.move_chains.ensures.ends ∙ (ap length c.deref_mut-2.ensures.value ∙ c.requires.scratch.ends)) steps c.set_history.ensures.reads c.set_offset.ensures.reads (each-by c.set_offset.new.region (λ i. (c.type_inv.region i).fits))
           (omega (arith, c.of-spot.ensures.at, c.requires.room));
     }
