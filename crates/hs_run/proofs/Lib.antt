@@ -18,3 +18,4 @@ pub mod PlanLayoutLemmas
 pub mod BitRegionLemmas
 pub mod FeedLemmas
 pub mod SettledLemmas
+pub mod CheckingLemmas

@@ -1,5 +1,6 @@
 -- What a runner finds of a chain where a stream stands.
-use Rattle.std.specs.Prelude.{◌≡◌, ◌↔◌, ◌⊎◌, ℕ, ◌+◌, ◌-◌, ◌<◌, ◌≤◌, Bool, true, false, List, [], ◌∷◌, ◌++◌, length, take, drop, Some}
+use Rattle.std.specs.Prelude.{◌≡◌, ◌↔◌, ◌⊎◌, ℕ, ◌+◌, ◌-◌, ◌<◌, ◌≤◌, Bool}
+use Rattle.std.specs.Prelude.{true, false, List, [], ◌∷◌, ◌++◌, length, take, drop, Some}
 use Rattle.std.specs.Prelude.{slice_get}
 use Rattle.hs_base.specs.declared.context.NextSet.{NextSet}
 use Rattle.hs_base.specs.Chains.{Piece}
@@ -45,7 +46,8 @@ module _ {E : Type 0} (meaning : E → Meaning) (program : Program E) where
 
   abbrev pub BeginsChain : Chain → Spot → Begun → Type 0
   BeginsChain c spot begun =
-      (plan : Plan) (x : Row) (u : List ℕ) → RunsRow meaning program plan c x → IsSpot u spot → BeginsRow plan c x u begun
+      (plan : Plan) (x : Row) (u : List ℕ) → RunsRow meaning program plan c x → IsSpot u spot →
+      BeginsRow plan c x u begun
 
   -- And where the whole chain is left.
   abbrev pub LeavesChain : Laid → Chain → (region : List ℕ) → Spot → NextSet → Type 0

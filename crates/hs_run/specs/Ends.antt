@@ -55,7 +55,8 @@ HasRowEnd rows id u next = OneOf (RowEnds id u next) rows
 pub record NotesRow (x : Row) (u : List ℕ) (b : ℕ) (old new : Ends) : Type 0 where
   pub before : (new.before ≡ true) ↔ ((old.before ≡ true) ⊎ RowEnds x.pattern.id u (class_of b) x)
   pub before_last :
-      (new.before_last ≡ true) ↔ ((old.before_last ≡ true) ⊎ ((b ≡ line_feed) × RowEnds x.pattern.id u after.FinalNewline x))
+      (new.before_last ≡ true) ↔
+      ((old.before_last ≡ true) ⊎ ((b ≡ line_feed) × RowEnds x.pattern.id u after.FinalNewline x))
   pub behind : (new.behind ≡ true) ↔ ((old.behind ≡ true) ⊎ RowEnds x.pattern.id (u ++ b ∷ []) after.Unknown x)
 
 -- about each identifier, those are where its matches end about the byte behind u
@@ -73,7 +74,8 @@ AreLastEnds P u identifiers ends =
     (e.behind ≡ true) ↔ HasEndHere P identifier.id.0 u after.End
 
 -- The fields are those behind the byte, and the matches of the row are added to the ends.
-pub record IsMoved (plan : Plan) (l : Laid) (c : Chain) (x : Row) (new u : List ℕ) (b : ℕ) (before after : Ends) : Type 0 where
+pub record IsMoved (plan : Plan) (l : Laid) (c : Chain) (x : Row) (new u : List ℕ) (b : ℕ) (before after : Ends) :
+    Type 0 where
   pub kept : AreKept plan l new c.first c.end (u ++ b ∷ [])
   pub notes : NotesRow x u b before after
 

@@ -1,7 +1,7 @@
 -- What bytes, or the end of the stream, make of a region and report.
 use Rattle.std.specs.Prelude.{◌≡◌, ℕ, ◌<◌, List, [], ◌∷◌, ◌++◌, length}
 use Rattle.hs_base.specs.Lists.{Each}
-use Rattle.hs_base.specs.Regions.{Plan, IsRegion, region_offset}
+use Rattle.hs_base.specs.Regions.{Plan, IsHeader, IsRegion, region_offset}
 use Rattle.hs_base.specs.Told.{Pair, IsTold, IsNew, IsLast}
 use Rattle.hs_engine.specs.Engines.{Meaning}
 use Rattle.hs_layout.specs.Layouts.{Laid, laid_size}
@@ -44,6 +44,11 @@ module _ {E : Type 0} (meaning : E → Meaning) (program : Program E) where
   pub record FitsRegion (l : Laid) (region : List ℕ) : Type 0 where
     pub sized : length region ≡ laid_size l
     pub parts : AreParts meaning program l region 0 (length program.roles.items) (region_offset region)
+
+  -- And its header keeps to its rules.
+  pub record IsWellRegion (l : Laid) (region : List ℕ) : Type 0 where
+    pub fits : FitsRegion l region
+    pub header : IsHeader l.singles l.identifiers region
 
   -- That holds for every plan that the program runs, and every stream of bytes that leads to the old region.
   abbrev pub Feeds : (old new bytes : List ℕ) → List Pair → Type 0

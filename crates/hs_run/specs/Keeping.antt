@@ -48,7 +48,8 @@ pub record AreBitsWritten (l : Laid) (old new : List ℕ) : Type 0 where
 
 -- Only the bits of that identifier are other ones.
 pub record IsOneWritten (l : Laid) (x : Identifier) (i n : ℕ) (old new : List ℕ) : Type 0 where
-  pub told : (k : ℕ) → k < l.singles → (x.single ≡ true → k ≡ n → ⊥) → has_bit new (8 * told_at + k) ≡ has_bit old (8 * told_at + k)
+  pub told : (k : ℕ) → k < l.singles → (x.single ≡ true → k ≡ n → ⊥) →
+      has_bit new (8 * told_at + k) ≡ has_bit old (8 * told_at + k)
   pub here : (k : ℕ) → k < l.identifiers → (k ≡ i → ⊥) →
       has_bit new (8 * here_at l.singles + k) ≡ has_bit old (8 * here_at l.singles + k)
   pub last : (k : ℕ) → k < l.identifiers → (k ≡ i → ⊥) →

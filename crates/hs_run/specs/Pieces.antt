@@ -8,7 +8,8 @@ use Rattle.hs_base.specs.Bits.{has_bit}
 use Rattle.hs_base.specs.Chains.{Piece, lit, nfa, piece_tree, IsFitChain}
 use Rattle.hs_base.specs.Contexts.{context_of, class_of}
 use Rattle.hs_base.specs.ContextSets.{has_context, has_next}
-use Rattle.hs_base.specs.KeptPieces.{Form, nothing, positions, literal, first, last, ring, form_size, AreBytes, IsFieldAt}
+use Rattle.hs_base.specs.KeptPieces.{Form, nothing, positions, literal, first}
+use Rattle.hs_base.specs.KeptPieces.{last, ring, form_size, AreBytes, IsFieldAt}
 use Rattle.hs_base.specs.KeptPieces.{IsKeptAs, Says}
 use Rattle.hs_base.specs.Leaving.{IsAtMostWide, IsEmptyAt, LeavesBehind, TellsLeaving}
 use Rattle.hs_base.specs.LiteralView.{literal_bytes}

@@ -1,5 +1,6 @@
 -- Which program runs the patterns of a plan.
-use Rattle.std.specs.Prelude.{◌≡◌, ◌⊎◌, ℕ, suc, ◌+◌, ◌^◌, ◌<◌, ◌≤◌, Bool, true, false, List, [], ◌∷◌, length, map, flat_map, take}
+use Rattle.std.specs.Prelude.{◌≡◌, ◌⊎◌, ℕ, suc, ◌+◌, ◌^◌, ◌<◌, ◌≤◌, Bool}
+use Rattle.std.specs.Prelude.{true, false, List, [], ◌∷◌, length, map, flat_map, take}
 use Rattle.std.specs.Prelude.{Some, slice_get}
 use Rattle.hs_base.specs.Chains.{Piece, lit, nfa, chains_of, IsFitChain}
 use Rattle.hs_base.specs.KeptPieces.{Form}
@@ -104,7 +105,8 @@ module _ {E : Type 0} (meaning : E → Meaning) (program : Program E) where
     pub fit : IsFitChain x.chain
     pub places : (i : ℕ) (piece : Piece) → slice_get x.chain i ≡ Some piece →
         slice_get (list_places plan) (c.first + i) ≡ Some (row_place plan x.chain i piece)
-    pub alone : (i : ℕ) (piece : Piece) (r : Role) → looked (plan.looks_back x.chain) ≤ i → slice_get x.chain i ≡ Some piece →
+    pub alone : (i : ℕ) (piece : Piece) (r : Role) → looked (plan.looks_back x.chain) ≤ i →
+        slice_get x.chain i ≡ Some piece →
         slice_get program.roles.items (c.first + i) ≡ Some r → RunsPlace r (row_place plan x.chain i piece)
     pub looks_back : plan.looks_back x.chain ≡ true → LooksBack c.first x.chain
     pub least : c.min_offset ≡ x.pattern.least
@@ -149,7 +151,8 @@ module _ {E : Type 0} (meaning : E → Meaning) (program : Program E) where
     pub order : c.first ≤ c.end
     pub within : c.end ≤ length program.roles.items
     pub identifier : c.identifier < length program.identifiers.items
-    pub looks_back : (r : Role) → slice_get program.roles.items c.first ≡ Some r → c.first < c.end → r.kind ≡ kind.LookBack →
+    pub looks_back : (r : Role) → slice_get program.roles.items c.first ≡ Some r → c.first < c.end →
+        r.kind ≡ kind.LookBack →
         IsLookSound c r
 
   -- The program can be run: what is named is there, and the chains follow one another.

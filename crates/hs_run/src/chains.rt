@@ -117,7 +117,8 @@ pub(crate) fn step_chain<E: Engine, L: Ledger>(
     requires whole { length spot.now.history ≡ history_size }
     ensures window { length window.new ≡ length window.old }
     ensures written { AreWritten layout.now chain.now.first chain.now.end region.old region.new }
-    ensures parts { AreParts E.meaning program.now layout.now region.new chain.now.first chain.now.end (spot.now.at + 1) }
+    ensures parts { AreParts E.meaning program.now layout.now region.new chain.now.first chain.now.end
+        (spot.now.at + 1) }
     ensures leaves { LeavesChain E.meaning program.now layout.now chain.now region.old spot.now result }
     ensures steps { StepsChain E.meaning program.now layout.now chain.now region.old region.new spot.now byte }
 {

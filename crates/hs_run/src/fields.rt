@@ -39,7 +39,8 @@ pub(crate) fn leave_at<E: Engine>(
     requires part { (r : Role) → slice_get program.now.roles.items k ≡ Some r → IsPart E.meaning
         program.now.engines.items program.now.literals.items r (field_bytes layout.now region.now k) spot.now.at }
     ensures { (r : Role) → slice_get program.now.roles.items k ≡ Some r → GoesOn E.meaning
-        program.now.engines.items program.now.literals.items r (field_bytes layout.now region.now k) spot.now now result }
+        program.now.engines.items program.now.literals.items r (field_bytes layout.now region.now k) spot.now now
+        result }
 {
     leave_role(
         role_at(program, k),
@@ -72,7 +73,8 @@ pub(crate) fn step_at<E: Engine, L: Ledger>(
     ensures part { (r : Role) → slice_get program.now.roles.items k ≡ Some r → IsPart E.meaning
         program.now.engines.items program.now.literals.items r (field_bytes layout.now region.new k) (spot.now.at + 1) }
     ensures leaves { (r : Role) → slice_get program.now.roles.items k ≡ Some r → GoesOn E.meaning
-        program.now.engines.items program.now.literals.items r (field_bytes layout.now region.old k) spot.now now result }
+        program.now.engines.items program.now.literals.items r (field_bytes layout.now region.old k) spot.now now
+        result }
     ensures keeps { (r : Role) → slice_get program.now.roles.items k ≡ Some r → KeepsOn E.meaning
         program.now.engines.items program.now.literals.items r (field_bytes layout.now region.old k)
         (field_bytes layout.now region.new k) spot.now byte now }

@@ -3,6 +3,7 @@
 #![tactic(auto)]
 
 mod chains;
+mod checking;
 mod collected;
 mod ends;
 mod events;
@@ -19,6 +20,7 @@ mod scratch;
 mod settling;
 mod spot;
 
+pub use checking::well_formed;
 pub use collected::Collected;
 pub use events::Events;
 pub use program::{Chain, Identifier, Kind, Literal, Program, Role};

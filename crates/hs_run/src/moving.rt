@@ -42,17 +42,21 @@ fn move_chain<E: Engine, L: Ledger>(
     requires sound { IsChainSound E.meaning program.now chain.now }
     requires fits { FitsLayout program.now layout.now }
     requires sized { length region.old ≡ laid_size layout.now }
-    requires parts { AreParts E.meaning program.now layout.now region.old chain.now.first chain.now.end arrival.now.spot.at }
+    requires parts { AreParts E.meaning program.now layout.now region.old chain.now.first chain.now.end
+        arrival.now.spot.at }
     requires room { arrival.now.behind.at < 2 ^ 63 }
     requires next { arrival.now.behind.at ≡ arrival.now.spot.at + 1 }
-    requires stands { (u : List ℕ) → IsSpot u arrival.now.spot → IsSpot (u ++ arrival.now.byte ∷ []) arrival.now.behind }
+    requires stands { (u : List ℕ) → IsSpot u arrival.now.spot → IsSpot (u ++ arrival.now.byte ∷ [])
+        arrival.now.behind }
     requires window { length window.old ≡ window_room }
     requires whole { length arrival.now.spot.history ≡ history_size }
     requires whole_behind { length arrival.now.behind.history ≡ history_size }
     ensures window { length window.new ≡ length window.old }
     ensures written { AreWritten layout.now chain.now.first chain.now.end region.old region.new }
-    ensures parts { AreParts E.meaning program.now layout.now region.new chain.now.first chain.now.end (arrival.now.spot.at + 1) }
-    ensures moves { MovesChain E.meaning program.now layout.now chain.now region.old region.new arrival.now.spot arrival.now.byte
+    ensures parts { AreParts E.meaning program.now layout.now region.new chain.now.first chain.now.end
+        (arrival.now.spot.at + 1) }
+    ensures moves { MovesChain E.meaning program.now layout.now chain.now region.old region.new arrival.now.spot
+        arrival.now.byte
         (ends_of ends.old) (ends_of ends.new) }
 {
     let left = step_chain(
@@ -102,10 +106,12 @@ pub(crate) fn move_chains<E: Engine, L: Ledger>(
     requires runs { IsRunnable E.meaning program.now }
     requires fits { FitsLayout program.now layout.now }
     requires sized { length region.old ≡ laid_size layout.now }
-    requires parts { AreParts E.meaning program.now layout.now region.old 0 (length program.now.roles.items) arrival.now.spot.at }
+    requires parts { AreParts E.meaning program.now layout.now region.old 0 (length program.now.roles.items)
+        arrival.now.spot.at }
     requires room { arrival.now.behind.at < 2 ^ 63 }
     requires next { arrival.now.behind.at ≡ arrival.now.spot.at + 1 }
-    requires stands { (u : List ℕ) → IsSpot u arrival.now.spot → IsSpot (u ++ arrival.now.byte ∷ []) arrival.now.behind }
+    requires stands { (u : List ℕ) → IsSpot u arrival.now.spot → IsSpot (u ++ arrival.now.byte ∷ [])
+        arrival.now.behind }
     requires window { length window.old ≡ window_room }
     requires whole { length arrival.now.spot.history ≡ history_size }
     requires whole_behind { length arrival.now.behind.history ≡ history_size }
@@ -115,7 +121,8 @@ pub(crate) fn move_chains<E: Engine, L: Ledger>(
     ensures written { AreWritten layout.now 0 (length program.now.roles.items) region.old region.new }
     ensures parts { AreParts E.meaning program.now layout.now region.new 0 (length program.now.roles.items)
         (arrival.now.spot.at + 1) }
-    ensures moves { MovesChains E.meaning program.now layout.now region.old region.new arrival.now.spot arrival.now.byte ends.new }
+    ensures moves { MovesChains E.meaning program.now layout.now region.old region.new arrival.now.spot
+        arrival.now.byte ends.new }
 {
     forget(ends);
     for j in 0..program.chains.len() {
@@ -173,7 +180,8 @@ pub(crate) fn end_chains<E: Engine, L: Ledger>(
     requires runs { IsRunnable E.meaning program.now }
     requires fits { FitsLayout program.now layout.now }
     requires sized { length region.now ≡ laid_size layout.now }
-    requires parts { AreParts E.meaning program.now layout.now region.now 0 (length program.now.roles.items) spot.now.at }
+    requires parts { AreParts E.meaning program.now layout.now region.now 0 (length program.now.roles.items)
+        spot.now.at }
     requires room { spot.now.at < 2 ^ 63 }
     requires window { length window.old ≡ window_room }
     requires whole { length spot.now.history ≡ history_size }

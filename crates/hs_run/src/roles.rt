@@ -53,8 +53,10 @@ pub(crate) fn literal_of<'l, E: Engine>(role: &Role, program: &'l Program<E>) ->
 /// What may come next where the piece of a role is left after at least one byte.
 fn out_of<E: Engine>(role: &Role, program: &Program<E>, part: &[u8], spot: &Spot) -> NextSet
     requires sound { IsSound E.meaning program.now.engines.items program.now.literals.items role.now (length part.now) }
-    requires well { IsPart E.meaning program.now.engines.items program.now.literals.items role.now part.now spot.now.at }
-    ensures { TellsOut E.meaning program.now.engines.items program.now.literals.items role.now part.now spot.now result }
+    requires well { IsPart E.meaning program.now.engines.items program.now.literals.items role.now part.now
+        spot.now.at }
+    ensures { TellsOut E.meaning program.now.engines.items program.now.literals.items role.now part.now spot.now
+        result }
 {
     match role.kind {
         Kind::LookBack => NextSet::empty(),
@@ -73,8 +75,10 @@ pub(crate) fn leave_role<E: Engine>(
     now: NextSet,
 ) -> NextSet
     requires sound { IsSound E.meaning program.now.engines.items program.now.literals.items role.now (length part.now) }
-    requires well { IsPart E.meaning program.now.engines.items program.now.literals.items role.now part.now spot.now.at }
-    ensures { GoesOn E.meaning program.now.engines.items program.now.literals.items role.now part.now spot.now now result }
+    requires well { IsPart E.meaning program.now.engines.items program.now.literals.items role.now part.now
+        spot.now.at }
+    ensures { GoesOn E.meaning program.now.engines.items program.now.literals.items role.now part.now spot.now now
+        result }
 {
     let out = out_of(role, program, part, spot);
     go_on(out, role.null, spot.prev, now)
@@ -91,11 +95,14 @@ fn move_part<E: Engine, L: Ledger>(
     steps: &mut Steps<L>,
 )
     requires sound { IsSound E.meaning program.now.engines.items program.now.literals.items role.now (length part.old) }
-    requires well { IsPart E.meaning program.now.engines.items program.now.literals.items role.now part.old spot.now.at }
+    requires well { IsPart E.meaning program.now.engines.items program.now.literals.items role.now part.old
+        spot.now.at }
     requires room { spot.now.at < 2 ^ 63 }
     ensures len { length part.new ≡ length part.old }
-    ensures well { IsPart E.meaning program.now.engines.items program.now.literals.items role.now part.new (spot.now.at + 1) }
-    ensures keeps { KeepsOn E.meaning program.now.engines.items program.now.literals.items role.now part.old part.new spot.now byte now }
+    ensures well { IsPart E.meaning program.now.engines.items program.now.literals.items role.now part.new
+        (spot.now.at + 1) }
+    ensures keeps { KeepsOn E.meaning program.now.engines.items program.now.literals.items role.now part.old part.new
+        spot.now byte now }
 {
     match role.kind {
         Kind::LookBack | Kind::BareLiteral => {}
@@ -121,12 +128,16 @@ pub(crate) fn step_role<E: Engine, L: Ledger>(
     steps: &mut Steps<L>,
 ) -> NextSet
     requires sound { IsSound E.meaning program.now.engines.items program.now.literals.items role.now (length part.old) }
-    requires well { IsPart E.meaning program.now.engines.items program.now.literals.items role.now part.old spot.now.at }
+    requires well { IsPart E.meaning program.now.engines.items program.now.literals.items role.now part.old
+        spot.now.at }
     requires room { spot.now.at < 2 ^ 63 }
     ensures len { length part.new ≡ length part.old }
-    ensures well { IsPart E.meaning program.now.engines.items program.now.literals.items role.now part.new (spot.now.at + 1) }
-    ensures leaves { GoesOn E.meaning program.now.engines.items program.now.literals.items role.now part.old spot.now now result }
-    ensures keeps { KeepsOn E.meaning program.now.engines.items program.now.literals.items role.now part.old part.new spot.now byte now }
+    ensures well { IsPart E.meaning program.now.engines.items program.now.literals.items role.now part.new
+        (spot.now.at + 1) }
+    ensures leaves { GoesOn E.meaning program.now.engines.items program.now.literals.items role.now part.old spot.now
+        now result }
+    ensures keeps { KeepsOn E.meaning program.now.engines.items program.now.literals.items role.now part.old part.new
+        spot.now byte now }
 {
     let left = leave_role(role, program, part, spot, now);
     move_part(role, program, part, spot, byte, now, steps);
