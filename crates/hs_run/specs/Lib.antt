@@ -1,0 +1,12 @@
+pub mod Spots
+pub mod Pieces
+pub mod Programs
+pub mod Looking
+pub mod Chains
+pub mod Ends
+pub mod Events
+pub mod Collecting
+pub mod Keeping
+pub mod Reporting
+pub mod Feeding
+pub mod Scratches

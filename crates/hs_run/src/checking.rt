@@ -1,0 +1,78 @@
+//! Whether bytes may be run as a region.
+
+ghost use Rattle.std.specs.Prelude.{◌≡◌, ◌↔◌, ℕ, ◌<◌, ◌≤◌, IsTrue, Some, length, slice_get};
+ghost use Rattle.hs_base.specs.RepeatRows.{IsRingAt};
+ghost use Rattle.hs_layout.specs.Layouts.{laid_size};
+ghost use Rattle.hs_run.specs.Chains.{AreParts};
+ghost use Rattle.hs_run.specs.Feeding.{IsWellRegion};
+ghost use Rattle.hs_run.specs.Pieces.{IsPart, IsSound};
+ghost use Rattle.hs_run.specs.Programs.{FitsLayout, IsRunnable};
+
+use crate::fields::role_at;
+use crate::program::{Kind, Program, Role};
+use crate::roles::{engine_of, literal_of};
+use hs_bits::{BYTE_BITS, has_bit_in};
+use hs_engine::Engine;
+use hs_layout::Layout;
+
+/// Whether the row may be one of a literal of so many bytes at that offset: no bit is set that stands for nothing, or
+/// for an entry before the stream's first byte.
+fn is_row(row: &[u8], count: usize, at: u64) -> bool
+    requires row { length row.now ≡ 4 }
+    requires short { count ≤ 32 }
+    ensures { IsTrue result ↔ IsRingAt count row.now at }
+{
+    let first = at.min(count as u64) as usize;
+    !has_bit_in(row, first, BYTE_BITS * row.len())
+}
+
+/// Whether the bytes may be a region of the engine at that offset.
+fn is_field<E: Engine>(engine: &E, part: &[u8], at: u64) -> bool
+    requires { length part.now ≡ (E.meaning engine.now).width }
+    ensures { IsTrue result ↔ (E.meaning engine.now).well part.now at }
+{
+    engine.well_formed(part, at)
+}
+
+/// Whether the bytes may be the field of a role at that offset.
+fn is_part<E: Engine>(role: &Role, program: &Program<E>, part: &[u8], at: u64) -> bool
+    requires sound { IsSound E.meaning program.now.engines.items program.now.literals.items role.now (length part.now) }
+    ensures { IsTrue result ↔ IsPart E.meaning program.now.engines.items program.now.literals.items role.now part.now
+        at }
+{
+    match role.kind {
+        Kind::LookBack | Kind::BareLiteral => true,
+        Kind::Literal => is_row(part, literal_of(role, program).bytes.len(), at),
+        Kind::Engine => is_field(engine_of(role, program), part, at),
+    }
+}
+
+/// Whether each field may be that of its role at the offset.
+fn are_parts<E: Engine>(program: &Program<E>, layout: &Layout, region: &[u8], at: u64) -> bool
+    requires runs { IsRunnable E.meaning program.now }
+    requires layout { FitsLayout program.now layout.now }
+    requires sized { length region.now ≡ laid_size layout.now }
+    ensures { IsTrue result ↔ AreParts E.meaning program.now layout.now region.now 0 (length program.now.roles.items)
+        at }
+{
+    for k in 0..program.roles.len() {
+        if !is_part(role_at(program, k), program, layout.piece(region, k), at) {
+            return false;
+        }
+    }
+    true
+}
+
+/// Whether the bytes may be a region of the program: they have its length, and its header and each field keep to their
+/// rules.
+pub fn well_formed<E: Engine>(program: &Program<E>, layout: &Layout, region: &[u8]) -> bool
+    requires runs { IsRunnable E.meaning program.now }
+    requires layout { FitsLayout program.now layout.now }
+    ensures { IsTrue result ↔ IsWellRegion E.meaning program.now layout.now region.now }
+{
+    if region.len() != layout.size() {
+        return false;
+    }
+    layout.header_fault(region).is_none()
+        && are_parts(program, layout, region, layout.offset(region))
+}

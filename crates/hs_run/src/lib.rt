@@ -1,0 +1,28 @@
+//! The plain runner of a program: bytes to reports, byte by byte over all roles, with all that is kept of a stream in
+//! one region.
+#![tactic(auto)]
+
+mod chains;
+mod checking;
+mod collected;
+mod ends;
+mod events;
+mod fields;
+mod kept;
+mod literals;
+mod look_back;
+mod moving;
+mod program;
+mod reporting;
+mod roles;
+mod runner;
+mod scratch;
+mod settling;
+mod spot;
+
+pub use checking::well_formed;
+pub use collected::Collected;
+pub use events::Events;
+pub use program::{Chain, Identifier, Kind, Literal, Program, Role};
+pub use runner::{feed, finish};
+pub use scratch::Scratch;

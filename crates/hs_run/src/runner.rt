@@ -1,0 +1,151 @@
+//! The runner: bytes to reports, byte by byte over all roles of a program.
+
+ghost use Rattle.std.specs.Prelude.{◌≡◌, ℕ, ◌+◌, ◌<◌, ◌≤◌, ◌^◌, [], ◌∷◌, length};
+ghost use Rattle.hs_base.specs.Offsets.{greatest_offset};
+ghost use Rattle.hs_base.specs.Regions.{region_offset};
+ghost use Rattle.hs_run.specs.Events.{Takes};
+ghost use Rattle.hs_run.specs.Feeding.{EndsAlike, Feeds, Finishes, FitsRegion, GoesOnAlike};
+ghost use Rattle.hs_run.specs.Programs.{FitsLayout, IsRunnable};
+ghost use Rattle.hs_run.specs.Scratches.{FitsScratch};
+
+use crate::events::Events;
+use crate::kept::read_kept;
+use crate::moving::{end_chains, move_chains};
+use crate::program::{Identifier, Program};
+use crate::reporting::{Moment, report};
+use crate::scratch::Scratch;
+use crate::settling::settle_bits;
+use crate::spot::{Arrival, Spot};
+use hs_engine::{Engine, Steps};
+use hs_layout::Layout;
+use std::sync::ledger::Ledger;
+
+/// Takes a byte of the stream of a region, and reports what it decides.
+fn feed_byte<E: Engine, V: Events, L: Ledger>(
+    program: &Program<E>,
+    layout: &Layout,
+    region: &mut [u8],
+    scratch: &mut Scratch,
+    byte: u8,
+    events: &mut V,
+    steps: &mut Steps<L>,
+)
+    requires runs { IsRunnable E.meaning program.now }
+    requires layout { FitsLayout program.now layout.now }
+    requires region { FitsRegion E.meaning program.now layout.now region.old }
+    requires scratch { FitsScratch program.now scratch.old }
+    requires room { region_offset region.old + 1 ≤ greatest_offset }
+    ensures region { FitsRegion E.meaning program.now layout.now region.new }
+    ensures scratch { FitsScratch program.now scratch.new }
+    ensures offset { region_offset region.new ≡ region_offset region.old + 1 }
+    ensures taken { Takes V.tells events.old events.new
+        (Feeds E.meaning program.now region.old region.new (byte ∷ [])) }
+{
+    let spot = Spot::of(layout, region);
+    let behind = spot.behind(byte);
+    let arrival = Arrival { spot, behind, byte };
+    move_chains(
+        program,
+        layout,
+        region,
+        &arrival,
+        &mut scratch.window,
+        &mut scratch.ends,
+        steps,
+    );
+    settle_bits(
+        layout,
+        region,
+        &program.identifiers,
+        &scratch.ends,
+        &mut scratch.kept,
+        arrival.spot.at,
+        events,
+    );
+    layout.set_history(region, &arrival.behind.history);
+    layout.set_offset(region, arrival.behind.at);
+}
+
+/// Takes the next bytes of the stream of a region, and reports what they decide, in the order in which they do. The
+/// offset stays a number that a stream may have.
+pub fn feed<E: Engine, V: Events, L: Ledger>(
+    program: &Program<E>,
+    layout: &Layout,
+    region: &mut [u8],
+    scratch: &mut Scratch,
+    bytes: &[u8],
+    events: &mut V,
+    steps: &mut Steps<L>,
+)
+    requires runs { IsRunnable E.meaning program.now }
+    requires layout { FitsLayout program.now layout.now }
+    requires region { FitsRegion E.meaning program.now layout.now region.old }
+    requires scratch { FitsScratch program.now scratch.old }
+    requires room { region_offset region.old + length bytes.now ≤ greatest_offset }
+    ensures region { FitsRegion E.meaning program.now layout.now region.new }
+    ensures scratch { FitsScratch program.now scratch.new }
+    ensures offset { region_offset region.new ≡ region_offset region.old + length bytes.now }
+    ensures taken { Takes V.tells events.old events.new
+        (Feeds E.meaning program.now region.old region.new bytes.now) }
+    ensures alike { GoesOnAlike E.meaning program.now region.old bytes.now }
+{
+    for place in 0..bytes.len() {
+        feed_byte(
+            program,
+            layout,
+            region,
+            scratch,
+            bytes[place],
+            events,
+            steps,
+        );
+    }
+}
+
+/// Reports what only the end of the stream decides, if it ends here. The region stays as it is.
+pub fn finish<E: Engine, V: Events, L: Ledger>(
+    program: &Program<E>,
+    layout: &Layout,
+    region: &[u8],
+    scratch: &mut Scratch,
+    events: &mut V,
+    steps: &mut Steps<L>,
+)
+    requires runs { IsRunnable E.meaning program.now }
+    requires layout { FitsLayout program.now layout.now }
+    requires region { FitsRegion E.meaning program.now layout.now region.now }
+    requires scratch { FitsScratch program.now scratch.old }
+    requires room { region_offset region.now ≤ greatest_offset }
+    ensures scratch { FitsScratch program.now scratch.new }
+    ensures taken { Takes V.tells events.old events.new (Finishes E.meaning program.now region.now) }
+    ensures alike { EndsAlike E.meaning program.now region.now }
+{
+    let spot = Spot::of(layout, region);
+    end_chains(
+        program,
+        layout,
+        region,
+        &spot,
+        &mut scratch.window,
+        &mut scratch.ends,
+        steps,
+    );
+    let identifiers: &[Identifier] = &program.identifiers;
+    read_kept(layout, region, identifiers, &mut scratch.kept);
+    report(
+        Moment::BeforeLastByte,
+        identifiers,
+        &scratch.kept,
+        &scratch.ends,
+        spot.at.saturating_sub(1),
+        events,
+    );
+    report(
+        Moment::AtEnd,
+        identifiers,
+        &scratch.kept,
+        &scratch.ends,
+        spot.at,
+        events,
+    );
+}
