@@ -10,7 +10,7 @@ use Rattle.hs_base.specs.Reports.{IsReport}
 use Rattle.hs_base.specs.Settling.{AreIdentifiers, AreRising, IsKept, IsLeftToEnd}
 use Rattle.hs_base.proofs.ListLemmas.{each-of_members, one_of-map}
 use Rattle.hs_engine.specs.Engines.{Meaning}
-use Rattle.hs_run.specs.Keeping.{AreRead, IsRead, IsSpareBit, kept_of, singles_before}
+use Rattle.hs_run.specs.Keeping.{AreRead, IsRead, IsSpareBit, plain_kept, singles_before}
 use Rattle.hs_run.specs.Programs.{IsProgramOf, ids_of, singles_of}
 use Rattle.hs_run.specs.declared.kept.Kept.{Kept}
 use Rattle.hs_run.specs.declared.program.Identifier.{Identifier}
@@ -42,7 +42,7 @@ module _ {E : Type 0} (meaning : E → Meaning) (program : Program E) (plan : Pl
 
   -- what is read of a region is what is kept
   pub kept-read : (u r0 r1 : List ℕ) (ks : List Kept) → IsRegion plan u r0 → ((k : ℕ) → k < 8 * fields_at (length plan.singles) (length plan.identifiers) → has_bit r1 k ≡ has_bit r0 k) →
-      AreRead (plan_layout plan) r1 program.identifiers.items ks → (i : ℕ) (x : Identifier) (k : Kept) → slice_get program.identifiers.items i ≡ Some x → slice_get ks i ≡ Some k → IsKept plan.patterns u x.id.0 (kept_of k)
+      AreRead (plan_layout plan) r1 program.identifiers.items ks → (i : ℕ) (x : Identifier) (k : Kept) → slice_get program.identifiers.items i ≡ Some x → slice_get ks i ≡ Some k → IsKept plan.patterns u x.id.0 (plain_kept k)
   kept-read u r0 r1 ks is bits are i x k at at' =
       let read = are i x k at at' in
       let id : ℕ = x.id.0 in
@@ -65,7 +65,7 @@ module _ {E : Type 0} (meaning : E → Meaning) (program : Program E) (plan : Pl
 
   -- and what is kept is told by the bits of a region into which it was written
   module _ (v r2 r4 : List ℕ) (ks : List Kept) (count : length ks ≡ length program.identifiers.items) (are : AreRead (plan_layout plan) r2 program.identifiers.items ks)
-      (kept : (i : ℕ) (x : Identifier) (k : Kept) → slice_get program.identifiers.items i ≡ Some x → slice_get ks i ≡ Some k → IsKept plan.patterns v x.id.0 (kept_of k))
+      (kept : (i : ℕ) (x : Identifier) (k : Kept) → slice_get program.identifiers.items i ≡ Some x → slice_get ks i ≡ Some k → IsKept plan.patterns v x.id.0 (plain_kept k))
       (bits : (k : ℕ) → 8 * told_at ≤ k → has_bit r4 k ≡ has_bit r2 k) (spare : (k : ℕ) → IsSpareBit (plan_layout plan) k → has_bit r4 k ≡ false) where
     pub told-bits : AreBitsOf r4 told_at (here_at (length plan.singles)) plan.singles (λ id. (to : ℕ) × IsReport plan.patterns v false id to)
     told-bits = record {

@@ -22,10 +22,10 @@ use Rattle.hs_run.specs.Chains.{AreKept, AreParts, AreWritten}
 use Rattle.hs_run.specs.Ends.{AreEndsAbout, AreLastEnds, EndsChains, MovesChains, ends_of}
 use Rattle.hs_run.specs.Events.{Through, Takes, still}
 use Rattle.hs_run.specs.Feeding.{EndsAlike, Feeds, Finishes, GoesOnAlike, IsFed, SettlesBits}
-use Rattle.hs_run.specs.Keeping.{AreBitsWritten, AreRead, IsSpareBit, kept_of}
+use Rattle.hs_run.specs.Keeping.{AreBitsWritten, AreRead, IsSpareBit, plain_kept}
 use Rattle.hs_run.specs.Pieces.{IsPart}
 use Rattle.hs_run.specs.Programs.{FitsLayout, IsProgramOf, ids_of}
-use Rattle.hs_run.specs.Reporting.{AreSettled, pairs_about, pairs_at, values_of}
+use Rattle.hs_run.specs.Reporting.{AreSettled, pairs_about, pairs_at, told_values}
 use Rattle.hs_run.specs.Spots.{IsSpot}
 use Rattle.hs_run.specs.declared.ends.Ends.{Ends as EndsAbout}
 use Rattle.hs_run.specs.declared.kept.Kept.{Kept as KeptOf}
@@ -124,16 +124,16 @@ module _ {E : Type 0} (meaning : E → Meaning) (program : Program E) (l : Laid)
 
 module _ {E : Type 0} (meaning : E → Meaning) (program : Program E) (plan : Plan) (runs : IsProgramOf meaning program plan) (u : List ℕ) (b : ℕ) (ks : List KeptOf) (es : List EndsAbout)
     (kept_count : length ks ≡ length program.identifiers.items) (ends_count : length es ≡ length program.identifiers.items)
-    (kept : (i : ℕ) (x : Identifier) (k : KeptOf) → slice_get program.identifiers.items i ≡ Some x → slice_get ks i ≡ Some k → IsKept plan.patterns u x.id.0 (kept_of k))
+    (kept : (i : ℕ) (x : Identifier) (k : KeptOf) → slice_get program.identifiers.items i ≡ Some x → slice_get ks i ≡ Some k → IsKept plan.patterns u x.id.0 (plain_kept k))
     (about : AreEndsAbout plan.patterns u b program.identifiers.items es) where
   decided : (i : ℕ) (x : Identifier) (k : KeptOf) (e : EndsAbout) → slice_get program.identifiers.items i ≡ Some x → slice_get ks i ≡ Some k → slice_get es i ≡ Some e →
-      IsSettled plan.patterns u b x.id.0 x.single (kept_of k) (ends_of e)
+      IsSettled plan.patterns u b x.id.0 x.single (plain_kept k) (ends_of e)
   decided i x k e at at' at'' =
-      subst (λ single. IsSettled plan.patterns u b x.id.0 single (kept_of k) (ends_of e)) (sym (runs.single i x at))
-      (byte-settled plan.patterns u b x.id.0 (kept_of k) (ends_of e) (kept i x k at at') (about i x e at at''))
+      subst (λ single. IsSettled plan.patterns u b x.id.0 single (plain_kept k) (ends_of e)) (sym (runs.single i x at))
+      (byte-settled plan.patterns u b x.id.0 (plain_kept k) (ends_of e) (kept i x k at at') (about i x e at at''))
 
   pub kept-behind : (ns : List KeptOf) → AreSettled program.identifiers.items ks es ns → (i : ℕ) (x : Identifier) (k' : KeptOf) → slice_get program.identifiers.items i ≡ Some x → slice_get ns i ≡ Some k' →
-      IsKept plan.patterns (u ++ b ∷ []) x.id.0 (kept_of k')
+      IsKept plan.patterns (u ++ b ∷ []) x.id.0 (plain_kept k')
   kept-behind ns settles i x k' at at' =
       let below : i < length program.identifiers.items = slice_get_within program.identifiers.items i x at in
       let (k, at_k) = there ks i (omega (arith, below, kept_count)) in
@@ -143,8 +143,8 @@ module _ {E : Type 0} (meaning : E → Meaning) (program : Program E) (plan : Pl
   pub byte-reports : (told : List Pair) → IsTold plan.patterns u told → IsNew plan.patterns u (b ∷ []) (pairs_about program.identifiers.items ks es (length u))
   byte-reports told told_is =
       let xs : List Identifier = program.identifiers.items in
-      let befores : List Bool = values_of BeforeByte xs ks es in
-      let behinds : List Bool = values_of BehindByte xs ks es in
+      let befores : List Bool = told_values BeforeByte xs ks es in
+      let behinds : List Bool = told_values BehindByte xs ks es in
       let told_before = tell-each BeforeByte xs ks es kept_count ends_count (IsNewBefore plan.patterns u b) (λ i x k e at at' at''. (decided i x k e at at' at'').before) in
       let told_behind = tell-each BehindByte xs ks es kept_count ends_count (IsNewBehind plan.patterns u b) (λ i x k e at at' at''. (decided i x k e at at' at'').behind) in
       byte-new plan.patterns u b (ids_of xs) befores behinds (are-identifiers meaning program plan runs) told_before told_behind told told_is
@@ -236,12 +236,12 @@ end-finishes meaning program l fits spot region ks ends stands closes read kept_
     let here : IsSpot u spot = stands u each is.offset is.history in
     let about : AreLastEnds P u xs ends = closes plan u runs here (subst (λ m. AreKept plan m region 0 (length program.roles.items) u) (sym same) (region-kept plan u region 0 (length program.roles.items) is)) in
     let kept = kept-read meaning program plan runs u region region ks is (λ k below. refl) (subst (λ m. AreRead m region xs ks) same read) in
-    let lasts : List Bool = values_of BeforeLastByte xs ks ends in
-    let lates : List Bool = values_of AtEnd xs ks ends in
+    let lasts : List Bool = told_values BeforeLastByte xs ks ends in
+    let lates : List Bool = told_values AtEnd xs ks ends in
     let told_last = tell-each BeforeLastByte xs ks ends kept_count ends_count (IsLeftToEnd P u) (λ i x k e at at' at''. (kept i x k at at').last) in
     let told_end = tell-each AtEnd xs ks ends kept_count ends_count (IsNewAtEnd P u) (λ i x k e at at' at''.
-    subst (λ single. (tells_end single (kept_of k) e.behind ≡ true) ↔ IsNewAtEnd P u x.id.0) (sym (runs.single i x at))
-    (end-settled P u x.id.0 (kept_of k) e.behind (kept i x k at at') (about i x e at at''))) in
+    subst (λ single. (tells_end single (plain_kept k) e.behind ≡ true) ↔ IsNewAtEnd P u x.id.0) (sym (runs.single i x at))
+    (end-settled P u x.id.0 (plain_kept k) e.behind (kept i x k at at') (about i x e at at''))) in
     subst (λ n. IsLast P u (pairs_at BeforeLastByte xs ks ends (n - 1) ++ pairs_at AtEnd xs ks ends n)) (sym here.offset)
     (last-reports P u (ids_of xs) lasts lates (are-identifiers meaning program plan runs) told_last told_end)
 

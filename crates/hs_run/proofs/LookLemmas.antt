@@ -25,7 +25,7 @@ use Rattle.hs_base.proofs.EntryLemmas.{window-enough}
 use Rattle.hs_base.proofs.StreamContexts.{prev-append}
 use Rattle.hs_engine.specs.Engines.{Meaning, IsQuiet, IsStart, TakesByte, TellsLeaves}
 use Rattle.hs_run.specs.Looking.{IsRunBack}
-use Rattle.hs_run.specs.Pieces.{IsNullMask}
+use Rattle.hs_run.specs.Pieces.{IsRoleNull}
 use Rattle.hs_run.specs.Programs.{window_size}
 use Rattle.hs_run.proofs.PieceLemmas.{behind-leaves, literal-not_empty}
 use Rattle.hs_run.proofs.TakingLemmas.{ends-taken}
@@ -149,7 +149,7 @@ prev-take u k within =
 
 -- where a first piece that looks back is left behind v
 pub back-leaves : (m : Meaning) (tree : Tree) (rest : List Piece) (v part : List ℕ) (prev : Prev) (at : ℕ) (null : Mask) (all out result : NextSet) → m.is_for tree → IsAtMostWide window_size tree →
-    IsNullMask null tree → IsFitChain (nfa tree ∷ rest) → IsRunBack m tree v part → prev ≡ prev_at v (length v) → at ≡ length v → TellsLeaves m part prev at out → ((c : Next) → has_next all c ≡ true) →
+    IsRoleNull null tree → IsFitChain (nfa tree ∷ rest) → IsRunBack m tree v part → prev ≡ prev_at v (length v) → at ≡ length v → TellsLeaves m part prev at out → ((c : Next) → has_next all c ≡ true) →
     ((c : Next) → has_next result c ≡ (has_next out c || (has_context null (record { prev = prev; next = c }) && has_next all c))) → TellsLeaving (has_next result) (nfa tree ∷ []) v
 back-leaves m tree rest v part prev at null all out result runs narrow is_null fit back stands here tells every joins c =
     let leaves : (d : Next) → (has_next out d ≡ true) ↔ LeavesBehind [] (nfa tree) v d = λ d.

@@ -28,7 +28,7 @@ use Rattle.hs_base.proofs.ChainStreamLemmas.{leaving-goes_on, leaving-begins}
 use Rattle.hs_base.proofs.EntryLemmas.{entries-grow, leaves-listed}
 use Rattle.hs_base.proofs.LiteralRowLemmas.{literals-leave, literals-leave_behind, literals-step, literal-spans_end}
 use Rattle.hs_engine.specs.Engines.{Meaning, TakesByte, TellsLeaves}
-use Rattle.hs_run.specs.Pieces.{IsAlone, IsBare, IsEntered, IsEngined, IsNullMask, RunsForm, TellsBehind, bytes_of, keeps, bare, entered, engine}
+use Rattle.hs_run.specs.Pieces.{IsAlone, IsBare, IsEntered, IsEngined, IsRoleNull, RunsForm, TellsBehind, bytes_of, keeps, bare, entered, engine}
 use Rattle.hs_run.proofs.TakingLemmas.{ends-taken}
 use Rattle.hs_base.specs.declared.literal.LitByte.{LitByte}
 use Rattle.hs_base.specs.LiteralView.{literal_byte}
@@ -197,7 +197,7 @@ engine-out m p part u spot set runs is tells kept next =
 
 -- and where the pieces up to it are left
 
-pub goes-on : (p : Place) (rest : List Piece) (u : List ℕ) (spot : Spot) (null : Mask) (now out then : NextSet) → IsNullMask null (piece_tree p.piece) → IsFitChain (p.pieces ++ p.piece ∷ rest) → IsSpot u spot →
+pub goes-on : (p : Place) (rest : List Piece) (u : List ℕ) (spot : Spot) (null : Mask) (now out then : NextSet) → IsRoleNull null (piece_tree p.piece) → IsFitChain (p.pieces ++ p.piece ∷ rest) → IsSpot u spot →
     ((next : Next) → has_next then next ≡ (has_next out next || (has_context null (record { prev = spot.prev; next = next }) && has_next now next))) →
     TellsBehind out p.pieces p.piece u → TellsLeaving (has_next now) p.pieces u → TellsLeaving (has_next then) (p.pieces ++ p.piece ∷ []) u
 goes-on p rest u spot null now out then is_null fit is joins leaves tells next =

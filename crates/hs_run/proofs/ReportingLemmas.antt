@@ -12,9 +12,9 @@ use Rattle.hs_run.specs.declared.reporting.Moment.{Moment}
 use Rattle.hs_run.specs.declared.reporting.Moment.TheVariants.{BeforeByte, BehindByte}
 use Rattle.hs_run.specs.declared.kept.Kept.{Kept as KeptOf}
 use Rattle.hs_run.specs.Ends.{ends_of}
-use Rattle.hs_run.specs.Keeping.{kept_of}
+use Rattle.hs_run.specs.Keeping.{plain_kept}
 use Rattle.hs_run.specs.Events.{Through, still}
-use Rattle.hs_run.specs.Reporting.{tells, values_of, pairs_at}
+use Rattle.hs_run.specs.Reporting.{tells, told_values, pairs_at}
 use Rattle.hs_run.proofs.LayoutLemmas.{there}
 
 -- what stands beyond a list, in the goals of a loop over it
@@ -28,7 +28,7 @@ pub id-at : (identifiers : List Identifier) (i : ℕ) (x : Identifier) → slice
 id-at identifiers i x at = slice_get-map (λ y. y.id.0) identifiers i ∙ ap (option_map (λ y. y.id.0)) at
 
 pub value-at : (moment : Moment) (xs : List Identifier) (ks : List KeptOf) (es : List EndsAbout) (i : ℕ) (x : Identifier) (k : KeptOf) (e : EndsAbout) →
-    slice_get xs i ≡ Some x → slice_get ks i ≡ Some k → slice_get es i ≡ Some e → slice_get (values_of moment xs ks es) i ≡ Some (tells moment x.single (kept_of k) (ends_of e))
+    slice_get xs i ≡ Some x → slice_get ks i ≡ Some k → slice_get es i ≡ Some e → slice_get (told_values moment xs ks es) i ≡ Some (tells moment x.single (plain_kept k) (ends_of e))
 value-at moment [] ks es i x k e at at' at'' = absurd (cc)
 value-at moment (y ∷ xs) [] es i x k e at at' at'' = absurd (cc)
 value-at moment (y ∷ xs) (l ∷ ks) [] i x k e at at' at'' = absurd (cc)
@@ -36,20 +36,20 @@ value-at moment (y ∷ xs) (l ∷ ks) (f ∷ es) zero x k e at at' at'' =
     let p : y ≡ x = same_Some y x at in
     let q : l ≡ k = same_Some l k at' in
     let r : f ≡ e = same_Some f e at'' in
-    ap (λ z. Some (tells moment z.single (kept_of l) (ends_of f))) p
-    ∙ (ap (λ z. Some (tells moment x.single (kept_of z) (ends_of f))) q ∙ ap (λ z. Some (tells moment x.single (kept_of k) (ends_of z))) r)
+    ap (λ z. Some (tells moment z.single (plain_kept l) (ends_of f))) p
+    ∙ (ap (λ z. Some (tells moment x.single (plain_kept z) (ends_of f))) q ∙ ap (λ z. Some (tells moment x.single (plain_kept k) (ends_of z))) r)
 value-at moment (y ∷ xs) (l ∷ ks) (f ∷ es) (suc i) x k e at at' at'' = value-at moment xs ks es i x k e at at' at''
 
 pub pairs-more : (moment : Moment) (xs : List Identifier) (ks : List KeptOf) (es : List EndsAbout) (to i : ℕ) (x : Identifier) (k : KeptOf) (e : EndsAbout) →
     slice_get xs i ≡ Some x → slice_get ks i ≡ Some k → slice_get es i ≡ Some e →
-    pairs_told (take (i + 1) (ids_of xs)) (values_of moment xs ks es) to ≡ pairs_told (take i (ids_of xs)) (values_of moment xs ks es) to ++ one_told (tells moment x.single (kept_of k) (ends_of e)) x.id.0 to
+    pairs_told (take (i + 1) (ids_of xs)) (told_values moment xs ks es) to ≡ pairs_told (take i (ids_of xs)) (told_values moment xs ks es) to ++ one_told (tells moment x.single (plain_kept k) (ends_of e)) x.id.0 to
 pairs-more moment xs ks es to i x k e at at' at'' =
-    pairs-next (ids_of xs) (values_of moment xs ks es) to i x.id.0 (tells moment x.single (kept_of k) (ends_of e)) (id-at xs i x at) (value-at moment xs ks es i x k e at at' at'')
+    pairs-next (ids_of xs) (told_values moment xs ks es) to i x.id.0 (tells moment x.single (plain_kept k) (ends_of e)) (id-at xs i x at) (value-at moment xs ks es i x k e at at' at'')
 
 -- values that tell a property of each identifier, where each does
 pub tell-each : (moment : Moment) (xs : List Identifier) (ks : List KeptOf) (es : List EndsAbout) → length ks ≡ length xs → length es ≡ length xs → (Q : ℕ → Type 0) →
     ((i : ℕ) (x : Identifier) (k : KeptOf) (e : EndsAbout) → slice_get xs i ≡ Some x → slice_get ks i ≡ Some k → slice_get es i ≡ Some e →
-    (tells moment x.single (kept_of k) (ends_of e) ≡ true) ↔ Q x.id.0) → Tell (ids_of xs) (values_of moment xs ks es) Q
+    (tells moment x.single (plain_kept k) (ends_of e) ≡ true) ↔ Q x.id.0) → Tell (ids_of xs) (told_values moment xs ks es) Q
 tell-each moment xs ks es kept ends Q tells-it = record {
   each = λ i id named.
       let below : i < length xs = within xs i id named in
@@ -57,8 +57,8 @@ tell-each moment xs ks es kept ends Q tells-it = record {
       let (k, at') = there ks i (omega arith) in
       let (e, at'') = there es i (omega arith) in
       let same : x.id.0 ≡ id = same_Some x.id.0 id (sym (id-at xs i x at) ∙ named) in
-      let value : Bool = tells moment x.single (kept_of k) (ends_of e) in
-      let is : slice_get (values_of moment xs ks es) i ≡ Some value = value-at moment xs ks es i x k e at at' at'' in
+      let value : Bool = tells moment x.single (plain_kept k) (ends_of e) in
+      let is : slice_get (told_values moment xs ks es) i ≡ Some value = value-at moment xs ks es i x k e at at' at'' in
       let it : (value ≡ true) ↔ Q x.id.0 = tells-it i x k e at at' at'' in (
         λ told. subst Q same (it.0 (same_Some value true (sym is ∙ told))),
         λ holds. is ∙ ap (λ v. Some v) (it.1 (subst Q (sym same) holds)),

@@ -9,8 +9,8 @@ use Rattle.hs_run.specs.declared.kept.Kept.{Kept as KeptOf}
 use Rattle.hs_run.specs.declared.program.Identifier.{Identifier}
 
 -- what is kept of an identifier, as plain data
-abbrev pub kept_of : KeptOf → Kept
-kept_of kept = record { told = kept.told; here = kept.here; last = kept.last }
+abbrev pub plain_kept : KeptOf → Kept
+plain_kept kept = record { told = kept.told; here = kept.here; last = kept.last }
 
 -- how many single identifiers stand before that number
 abbrev pub singles_before : List Identifier → ℕ → ℕ

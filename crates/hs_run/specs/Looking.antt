@@ -9,7 +9,7 @@ use Rattle.hs_base.specs.Fields.{entered_always}
 use Rattle.hs_base.specs.Leaving.{IsAtMostWide, TellsLeaving, entered_never}
 use Rattle.hs_base.specs.Trees.{Tree}
 use Rattle.hs_engine.specs.Engines.{Meaning}
-use Rattle.hs_run.specs.Pieces.{IsNullMask}
+use Rattle.hs_run.specs.Pieces.{IsRoleNull}
 use Rattle.hs_run.specs.Programs.{LooksBack, window_size}
 use Rattle.hs_run.specs.Spots.{IsSpot}
 use Rattle.hs_run.specs.declared.program.Program.{Program}
@@ -38,7 +38,7 @@ module _ {E : Type 0} (meaning : E → Meaning) (program : Program E) where
       (e : E) (tree : Tree) (rest : List Piece) (u : List ℕ) →
       slice_get program.engines.items r.engine ≡ Some e →
       (meaning e).is_for tree → (meaning e).always ≡ false → IsAtMostWide window_size tree →
-      IsNullMask r.null tree → IsFitChain (nfa tree ∷ rest) → IsSpot u spot →
+      IsRoleNull r.null tree → IsFitChain (nfa tree ∷ rest) → IsSpot u spot →
       TellsLeaving (has_next set) (nfa tree ∷ []) (take (length u - back) u)
 
   -- where the first two pieces of a chain are left, the first of which looks back

@@ -46,8 +46,8 @@ keeps (last set m) = true
 keeps (ring set m) = true
 
 -- the mask has the contexts in which the expression has the empty span, in every stream
-abbrev pub IsNullMask : Mask → Tree → Type 0
-IsNullMask mask tree =
+abbrev pub IsRoleNull : Mask → Tree → Type 0
+IsRoleNull mask tree =
     (u : List ℕ) (next : Next) → (has_context mask (context_of u next) ≡ true) ↔ IsEmptyAt tree u next
 
 -- An engine of that meaning runs the expression of a piece whose fields have that form.
@@ -93,7 +93,7 @@ module _ {E : Type 0} (meaning : E → Meaning) (engines : List E) (literals : L
   -- The role runs the piece by itself, and tells where it is empty.
   pub record IsRoleOf (r : Role) (p : Place) : Type 0 where
     pub alone : IsAlone r p
-    pub null : IsNullMask r.null (piece_tree p.piece)
+    pub null : IsRoleNull r.null (piece_tree p.piece)
 
   -- the number is that of an engine whose regions have that size
   pub record IsEngineSound (k size : ℕ) : Type 0 where

@@ -12,7 +12,7 @@ use Rattle.hs_base.specs.Regions.{Place, Plan, IsPlan, list_places, place_size}
 use Rattle.hs_base.specs.Trees.{Tree}
 use Rattle.hs_engine.specs.Engines.{Meaning}
 use Rattle.hs_layout.specs.Layouts.{Laid, laid_size, layout_of}
-use Rattle.hs_run.specs.Pieces.{IsNullMask, IsPart, IsRoleOf, IsSound, bytes_of}
+use Rattle.hs_run.specs.Pieces.{IsRoleNull, IsPart, IsRoleOf, IsSound, bytes_of}
 use Rattle.hs_run.specs.declared.program.Chain.{Chain}
 use Rattle.hs_run.specs.declared.program.Identifier.{Identifier}
 use Rattle.hs_run.specs.declared.program.Kind.TheVariants as kind
@@ -94,7 +94,7 @@ module _ {E : Type 0} (meaning : E → Meaning) (program : Program E) where
     pub runs : (meaning engine).is_for tree
     pub listed : (meaning engine).always ≡ false
     pub narrow : IsAtMostWide window_size tree
-    pub null : IsNullMask before.null tree
+    pub null : IsRoleNull before.null tree
     pub behind : Role
     pub behind_there : slice_get program.roles.items (suc first) ≡ Some behind
     pub value_there : slice_get program.literals.items behind.literal ≡ Some value

@@ -9,7 +9,7 @@ use Rattle.hs_run.specs.declared.reporting.Moment.{Moment}
 use Rattle.hs_run.specs.declared.reporting.Moment.TheVariants.{BeforeByte, BehindByte, BeforeLastByte, AtEnd}
 use Rattle.hs_run.specs.declared.kept.Kept.{Kept as KeptOf}
 use Rattle.hs_run.specs.Ends.{ends_of}
-use Rattle.hs_run.specs.Keeping.{kept_of}
+use Rattle.hs_run.specs.Keeping.{plain_kept}
 
 -- what is kept of an identifier and its ends tell that its pair is reported
 abbrev pub tells : Moment → Bool → Kept → Ends → Bool
@@ -19,15 +19,16 @@ tells BeforeLastByte single kept ends = kept.last
 tells AtEnd single kept ends = tells_end single kept ends.behind
 
 -- whether it is, for each identifier
-abbrev pub values_of : Moment → List Identifier → List KeptOf → List EndsAbout → List Bool
-values_of moment [] kept ends = []
-values_of moment (x ∷ xs) [] ends = []
-values_of moment (x ∷ xs) (k ∷ ks) [] = []
-values_of moment (x ∷ xs) (k ∷ ks) (e ∷ es) = tells moment x.single (kept_of k) (ends_of e) ∷ values_of moment xs ks es
+abbrev pub told_values : Moment → List Identifier → List KeptOf → List EndsAbout → List Bool
+told_values moment [] kept ends = []
+told_values moment (x ∷ xs) [] ends = []
+told_values moment (x ∷ xs) (k ∷ ks) [] = []
+told_values moment (x ∷ xs) (k ∷ ks) (e ∷ es) =
+    tells moment x.single (plain_kept k) (ends_of e) ∷ told_values moment xs ks es
 
 -- the pairs with one end that are reported
 abbrev pub pairs_at : Moment → List Identifier → List KeptOf → List EndsAbout → ℕ → List Pair
-pairs_at moment identifiers kept ends to = pairs_told (ids_of identifiers) (values_of moment identifiers kept ends) to
+pairs_at moment identifiers kept ends to = pairs_told (ids_of identifiers) (told_values moment identifiers kept ends) to
 
 -- those that end before the byte at that offset, and then those that end behind it
 abbrev pub pairs_about : List Identifier → List KeptOf → List EndsAbout → ℕ → List Pair
@@ -42,4 +43,4 @@ AreSettled identifiers old ends new =
     slice_get old i ≡ Some k →
     slice_get ends i ≡ Some e →
     slice_get new i ≡ Some k' →
-    kept_of k' ≡ settled identifier.single (kept_of k) (ends_of e)
+    plain_kept k' ≡ settled identifier.single (plain_kept k) (ends_of e)

@@ -5,7 +5,7 @@ ghost use Rattle.hs_base.proofs.PairListLemmas.{one_told};
 ghost use Rattle.hs_run.specs.Events.{Through};
 ghost use Rattle.hs_run.specs.Reporting.{tells, pairs_at, AreSettled};
 ghost use Rattle.hs_run.specs.Ends.{ends_of};
-ghost use Rattle.hs_run.specs.Keeping.{kept_of};
+ghost use Rattle.hs_run.specs.Keeping.{plain_kept};
 
 use crate::ends::Ends;
 use crate::events::Events;
@@ -57,7 +57,7 @@ fn report_if<V: Events>(is_due: bool, id: ExprId, to: u64, events: &mut V)
 
 /// Whether the pair of an identifier is due.
 fn tells(moment: Moment, single: bool, kept: Kept, ends: Ends) -> bool
-    ensures { result ≡ tells moment single (kept_of kept) (ends_of ends) }
+    ensures { result ≡ tells moment single (plain_kept kept) (ends_of ends) }
 {
     match moment {
         Moment::BeforeByte => tells_before(single, kept, ends),
@@ -76,21 +76,21 @@ fn tells(moment: Moment, single: bool, kept: Kept, ends: Ends) -> bool
 
 /// Whether the pair that ends before the byte is newly reported.
 fn tells_before(single: bool, kept: Kept, ends: Ends) -> bool
-    ensures { result ≡ tells_before single (kept_of kept) (ends_of ends) }
+    ensures { result ≡ tells_before single (plain_kept kept) (ends_of ends) }
 {
     ends.before && !(if single { kept.told } else { kept.here })
 }
 
 /// Whether the pair that ends behind the byte is newly reported.
 fn tells_behind(single: bool, kept: Kept, ends: Ends) -> bool
-    ensures { result ≡ tells_behind single (kept_of kept) (ends_of ends) }
+    ensures { result ≡ tells_behind single (plain_kept kept) (ends_of ends) }
 {
     ends.behind && !(single && (kept.told || tells_before(single, kept, ends)))
 }
 
 /// What is kept of an identifier behind the byte.
 fn settled(single: bool, kept: Kept, ends: Ends) -> Kept
-    ensures { kept_of result ≡ settled single (kept_of kept) (ends_of ends) }
+    ensures { plain_kept result ≡ settled single (plain_kept kept) (ends_of ends) }
 {
     let before = tells_before(single, kept, ends);
     let behind = tells_behind(single, kept, ends);

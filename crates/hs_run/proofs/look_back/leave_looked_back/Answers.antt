@@ -10,7 +10,7 @@ use Rattle.hs_base.specs.LiteralEnds.{EndsAt}
 use Rattle.hs_base.specs.LiteralView.{literal_byte}
 use Rattle.hs_run.specs.Pieces.{bytes_of}
 use Rattle.hs_run.specs.Programs.{HasWindow}
-use Rattle.hs_run.specs.Pieces.{IsNullMask}
+use Rattle.hs_run.specs.Pieces.{IsRoleNull}
 use Rattle.hs_run.proofs.BeginLemmas.{looked-value, looks, pair-named, pair-short, pair-window}
 use Rattle.hs_run.proofs.TakingLemmas.{ends-taken}
 use Rattle.hs_run.proofs.LookLemmas.{looked-none, looked-tells, window-byte}
@@ -81,7 +81,7 @@ returns-clause-leaves g c chain u looked fit is =
     let within : length xs ≤ length u = (ends-taken xs u ends).0 in
     let first : c.role_at-2.result.now ≡ looked.before = same_Some c.role_at-2.result.now looked.before (sym c.role_at-2.ensures ∙ looked.there) in
     let named : slice_get c.args.program.now.engines.items c.role_at-2.result.now.engine ≡ Some looked.engine = ap (λ q. slice_get c.args.program.now.engines.items q.engine) first ∙ looked.engine_there in
-    let null : IsNullMask c.role_at-2.result.now.null looked.tree = subst (λ q. IsNullMask q.null looked.tree) (sym first) looked.null in
+    let null : IsRoleNull c.role_at-2.result.now.null looked.tree = subst (λ q. IsRoleNull q.null looked.tree) (sym first) looked.null in
     let tells : TellsLeaving (has_next c.leave_back-before.result) (nfa looked.tree ∷ []) (take (length u - length xs) u) =
     subst (λ n. TellsLeaving (has_next c.leave_back-before.result) (nfa looked.tree ∷ []) (take (length u - n) u)) is_back
     (c.leave_back-before.ensures.leaves looked.engine looked.tree (lit xs ∷ looked.rest) u named looked.runs looked.listed looked.narrow null fits is) in

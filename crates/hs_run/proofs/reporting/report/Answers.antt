@@ -7,9 +7,9 @@ use Rattle.hs_run.specs.Programs.{ids_of}
 use Rattle.hs_run.specs.declared.ends.Ends.{Ends as EndsAbout}
 use Rattle.hs_run.specs.declared.kept.Kept.{Kept as KeptOf}
 use Rattle.hs_run.specs.Events.{Through, still}
-use Rattle.hs_run.specs.Reporting.{tells, values_of}
+use Rattle.hs_run.specs.Reporting.{tells, told_values}
 use Rattle.hs_run.specs.Ends.{ends_of, no_ends}
-use Rattle.hs_run.specs.Keeping.{kept_of}
+use Rattle.hs_run.specs.Keeping.{plain_kept}
 use Rattle.hs_run.proofs.EventLemmas.{through-join}
 use Rattle.hs_run.proofs.ReportingLemmas.{no_identifier, nothing, pairs-more}
 use Rattle.hs_run.proofs.reporting.report.Goals as goal
@@ -26,7 +26,7 @@ loop-i-preserved g c =
     let x : Identifier = get_or xs i no_identifier in
     let k : KeptOf = get_or ks i nothing in
     let e : EndsAbout = get_or es i no_ends in
-    let told : Through g.V.Events.tells c.loop-i.events (one_told (tells c.args.moment x.single (kept_of k) (ends_of e)) x.id.0 c.args.to) c.report_if.new.events =
+    let told : Through g.V.Events.tells c.loop-i.events (one_told (tells c.args.moment x.single (plain_kept k) (ends_of e)) x.id.0 c.args.to) c.report_if.new.events =
     subst (λ v. Through g.V.Events.tells c.loop-i.events (one_told v x.id.0 c.args.to) c.report_if.new.events) c.tells-is_due.ensures c.report_if.ensures in
     subst (λ ps. Through g.V.Events.tells c.args.events.now ps c.report_if.new.events)
     (sym (pairs-more c.args.moment xs ks es c.args.to i x k e (slice_get-get_or xs i no_identifier c.loop-i-test.true) (slice_get-get_or ks i nothing (omega (arith, c.requires.kept, c.loop-i-test.true))) (slice_get-get_or es i no_ends (omega (arith, c.requires.ends, c.loop-i-test.true)))))
@@ -36,5 +36,5 @@ pub returns : goal.returns
 returns g c =
     let xs = c.args.identifiers.now in
     subst (λ ps. Through g.V.Events.tells c.args.events.now ps c.loop-i.events)
-    (pairs-all (ids_of xs) (values_of c.args.moment xs c.args.kept.now c.args.ends.now) c.args.to c.loop-i.i (omega (arith, length-map xs (λ y. y.id.0))))
+    (pairs-all (ids_of xs) (told_values c.args.moment xs c.args.kept.now c.args.ends.now) c.args.to c.loop-i.i (omega (arith, length-map xs (λ y. y.id.0))))
     c.loop-i.invariant

@@ -7,7 +7,7 @@ use Rattle.hs_run.specs.declared.program.Identifier.{Identifier}
 use Rattle.hs_run.specs.declared.ends.Ends.{Ends as EndsAbout}
 use Rattle.hs_run.specs.declared.kept.Kept.{Kept as KeptOf}
 use Rattle.hs_run.specs.Ends.{ends_of, no_ends}
-use Rattle.hs_run.specs.Keeping.{kept_of}
+use Rattle.hs_run.specs.Keeping.{plain_kept}
 use Rattle.hs_run.proofs.RowLemmas.{set-same, set-other}
 use Rattle.hs_run.proofs.ReportingLemmas.{no_identifier, nothing}
 use Rattle.hs_run.proofs.reporting.settle.Goals as goal
@@ -32,10 +32,10 @@ loop-i-preserved c =
                 let q : old ≡ k = same_Some old k (sym is_old ∙ (inv.later i (omega arith) ∙ (ap (slice_get c.args.kept.now) (sym same) ∙ at'))) in
                 let r : e ≡ f = same_Some e f (sym is_e ∙ (ap (slice_get c.args.ends.now) (sym same) ∙ at'')) in
                 let s : c.settled.result ≡ k' = same_Some c.settled.result k' (sym (set-same c.loop-i.kept i old c.settled.result is_old) ∙ (ap (slice_get (set c.loop-i.kept i c.settled.result)) (sym same) ∙ at''')) in
-                ap kept_of (sym s)
+                ap plain_kept (sym s)
                 ∙ (c.settled.ensures
-                ∙ (ap (λ y. settled y.single (kept_of old) (ends_of e)) p
-                ∙ (ap (λ y. settled identifier.single (kept_of y) (ends_of e)) q ∙ ap (λ y. settled identifier.single (kept_of k) (ends_of y)) r)))
+                ∙ (ap (λ y. settled y.single (plain_kept old) (ends_of e)) p
+                ∙ (ap (λ y. settled identifier.single (plain_kept y) (ends_of e)) q ∙ ap (λ y. settled identifier.single (plain_kept k) (ends_of y)) r)))
             | inr apart ↦ inv.settled j identifier k k' f (omega arith) at at' at'' (sym (set-other c.loop-i.kept j i c.settled.result apart) ∙ at''')
           ];
     }

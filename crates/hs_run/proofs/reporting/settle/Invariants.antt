@@ -4,7 +4,7 @@ use Rattle.hs_run.specs.declared.program.Identifier.{Identifier}
 use Rattle.hs_run.specs.declared.ends.Ends.{Ends as EndsAbout}
 use Rattle.hs_run.specs.declared.kept.Kept.{Kept as KeptOf}
 use Rattle.hs_run.specs.Ends.{ends_of}
-use Rattle.hs_run.specs.Keeping.{kept_of}
+use Rattle.hs_run.specs.Keeping.{plain_kept}
 use Rattle.hs_run.proofs.reporting.settle.Given as goal
 
 abbrev pub invariant-loop-i : goal.invariant-loop-i
@@ -13,5 +13,5 @@ invariant-loop-i l = record {
   later : (j : ℕ) → l.i ≤ j → slice_get l.kept j ≡ slice_get l.initial.kept j;
   settled : (j : ℕ) (identifier : Identifier) (k k' : KeptOf) (e : EndsAbout) → j < l.i →
       slice_get l.identifiers j ≡ Some identifier → slice_get l.initial.kept j ≡ Some k → slice_get l.ends j ≡ Some e → slice_get l.kept j ≡ Some k' →
-      kept_of k' ≡ settled identifier.single (kept_of k) (ends_of e);
+      plain_kept k' ≡ settled identifier.single (plain_kept k) (ends_of e);
 }
