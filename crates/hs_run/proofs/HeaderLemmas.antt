@@ -1,12 +1,12 @@
 -- The header of a region over one byte keeps to its rules.
-use Rattle.std.proofs.Common.{◌≡◌, ℕ, ◌+◌, ◌*◌, ◌<◌, ◌≤◌, Bool, false, List, [], ◌∷◌, ◌++◌, length, get_or, drop, refl, sym, ap, ◌∙◌, inl, inr, arith}
+use Rattle.std.proofs.Common.{◌≡◌, ℕ, ◌+◌, ◌*◌, ◌<◌, ◌≤◌, List, [], ◌∷◌, ◌++◌, length, get_or, drop, sym, ap, ◌∙◌, inl, inr, arith}
 use Rattle.std.specs.Prelude.{slice_range}
 use Rattle.std.proofs.lemmas.List.{get_or-drop, get_or_append_left}
 use Rattle.hs_base.specs.Bits.{has_bit}
 use Rattle.hs_base.specs.Offsets.{greatest_offset}
 use Rattle.hs_base.specs.Regions.{IsHeader, fields_at, region_offset}
 use Rattle.hs_base.proofs.RegionLemmas.{get-range, range-size}
-use Rattle.hs_layout.specs.Layouts.{Laid, laid_size}
+use Rattle.hs_layout.specs.Layouts.{Laid}
 use Rattle.hs_run.specs.Keeping.{AreBitsWritten, IsSpareBit}
 use Rattle.hs_run.proofs.FeedLemmas.{AreSteps, bits-before, bits-stay, history-stays}
 

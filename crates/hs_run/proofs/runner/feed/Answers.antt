@@ -1,8 +1,7 @@
-use Rattle.std.proofs.Common.{◌≡◌, ℕ, ◌+◌, ◌<◌, ◌≤◌, [], ◌∷◌, length, take, drop, get_or, sym, ap, subst, ◌∙◌, arith}
+use Rattle.std.proofs.Common.{◌≡◌, ℕ, ◌<◌, [], ◌∷◌, length, take, drop, get_or, sym, ap, subst, ◌∙◌, arith}
 use Rattle.std.proofs.lemmas.List.{take_more, take-append-drop}
 use Rattle.std.proofs.Math.Seq.{take-length}
 use Rattle.hs_base.specs.Lists.{Each}
-use Rattle.hs_base.specs.Regions.{region_offset}
 use Rattle.hs_base.proofs.ListLemmas.{each-left}
 use Rattle.hs_run.specs.Events.{Takes}
 use Rattle.hs_run.specs.Feeding.{Feeds}

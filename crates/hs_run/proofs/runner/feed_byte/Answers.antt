@@ -1,12 +1,10 @@
-use Rattle.std.proofs.Common.{◌≡◌, ℕ, ◌+◌, ◌≤◌, ◌<◌, [], ◌∷◌, ◌++◌, List, length, drop, refl, sym, ap, subst, ◌∙◌, arith, length-append, length-drop}
+use Rattle.std.proofs.Common.{◌≡◌, ◌+◌, length, refl, sym, ap, subst, ◌∙◌, arith}
 use Rattle.std.specs.Int.{to_le_bytes, w64}
-use Rattle.std.specs.Vec.{with_items}
 use Rattle.std.proofs.lemmas.List.{with_items_is}
-use Rattle.hs_base.specs.Regions.{fields_at, region_offset}
-use Rattle.hs_base.proofs.RegionLemmas.{range-size}
+use Rattle.hs_base.specs.Regions.{region_offset}
 use Rattle.hs_run.specs.Chains.{AreParts}
 use Rattle.hs_run.specs.Feeding.{SettlesBits}
-use Rattle.hs_run.proofs.FeedLemmas.{AreSteps, byte-feeds, parts-moved, size}
+use Rattle.hs_run.proofs.FeedLemmas.{byte-feeds, parts-moved, size}
 use Rattle.hs_run.proofs.HeaderLemmas.{header-moved}
 use Rattle.hs_run.proofs.LayoutLemmas.{apart}
 use Rattle.hs_run.proofs.PieceLemmas.{each-by}
