@@ -1,10 +1,10 @@
 -- Where a chain begins: with a piece that looks back and the literal behind it, or with none.
-use Rattle.std.proofs.Common.{◌≡◌, ◌↔◌, ◌⊎◌, ℕ, zero, suc, ◌+◌, ◌<◌, ◌≤◌, Bool, true, false, List, [], ◌∷◌, length, take, Some, slice_get, refl, sym, ap, subst, ◌∙◌, inl, inr, arith}
+use Rattle.std.proofs.Common.{◌≡◌, ◌↔◌, ℕ, suc, ◌+◌, ◌<◌, ◌≤◌, Bool, true, false, List, length, take, Some, slice_get, refl, sym, ap, subst, ◌∙◌, inl, inr, arith}
 use Rattle.std.proofs.lemmas.Bool.{cases_eq}
 use Rattle.std.proofs.lemmas.Option.{same_Some, slice_get_within}
 use Rattle.hs_base.specs.declared.context.Next.{Next}
 use Rattle.hs_base.specs.declared.context.NextSet.{NextSet}
-use Rattle.hs_base.specs.Chains.{Piece, lit, nfa}
+use Rattle.hs_base.specs.Chains.{Piece}
 use Rattle.hs_base.specs.ContextSets.{has_next}
 use Rattle.hs_base.specs.Leaving.{TellsLeaving}
 use Rattle.hs_base.specs.Regions.{Plan}
@@ -12,10 +12,8 @@ use Rattle.hs_base.proofs.ChainStreamLemmas.{leaving-begins}
 use Rattle.hs_engine.specs.Engines.{Meaning}
 use Rattle.hs_run.specs.Chains.{BeginsRow}
 use Rattle.hs_run.specs.Looking.{LeavesLooked}
-use Rattle.hs_run.specs.Pieces.{bytes_of}
 use Rattle.hs_run.specs.Programs.{Row, RunsRow, LooksBack, FirstLooksBack, HasNoField, HasWindow, IsChainSound, IsLookSound, looked, row_place}
 use Rattle.hs_run.specs.Spots.{IsSpot}
-use Rattle.hs_run.specs.declared.chains.Begun.{Begun}
 use Rattle.hs_run.specs.declared.program.Chain.{Chain}
 use Rattle.hs_run.specs.declared.program.Kind.TheVariants as kind
 use Rattle.hs_run.specs.declared.program.Literal.{Literal}

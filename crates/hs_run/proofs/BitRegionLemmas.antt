@@ -1,16 +1,15 @@
 -- What is kept of the identifiers of a stream, by the bits of its region.
-use Rattle.std.proofs.Common.{◌≡◌, ◌↔◌, ℕ, ◌+◌, ◌*◌, ◌<◌, ◌≤◌, Bool, true, false, List, [], ◌∷◌, ◌++◌, length, map, Some, slice_get, refl, sym, ap, subst, ◌∙◌, inl, inr, arith}
-use Rattle.std.proofs.lemmas.List.{length-map}
+use Rattle.std.proofs.Common.{◌≡◌, ◌↔◌, ℕ, ◌+◌, ◌*◌, ◌<◌, ◌≤◌, Bool, true, false, List, length, Some, slice_get, sym, ap, subst, ◌∙◌, inl, inr, arith}
 use Rattle.std.proofs.lemmas.Option.{same_Some, slice_get_within}
 use Rattle.hs_base.specs.Bits.{has_bit}
-use Rattle.hs_base.specs.Lists.{Each, IsMember}
-use Rattle.hs_base.specs.Patterns.{Pattern, is_single}
+use Rattle.hs_base.specs.Lists.{IsMember}
+use Rattle.hs_base.specs.Patterns.{is_single}
 use Rattle.hs_base.specs.Regions.{Plan, IsRegion, AreBitsOf, told_at, here_at, last_at, fields_at}
 use Rattle.hs_base.specs.Reports.{IsReport}
-use Rattle.hs_base.specs.Settling.{AreIdentifiers, AreRising, IsKept, IsLeftToEnd}
+use Rattle.hs_base.specs.Settling.{AreIdentifiers, IsKept, IsLeftToEnd}
 use Rattle.hs_base.proofs.ListLemmas.{each-of_members, one_of-map}
 use Rattle.hs_engine.specs.Engines.{Meaning}
-use Rattle.hs_run.specs.Keeping.{AreRead, IsRead, IsSpareBit, plain_kept, singles_before}
+use Rattle.hs_run.specs.Keeping.{AreRead, IsSpareBit, plain_kept, singles_before}
 use Rattle.hs_run.specs.Programs.{IsProgramOf, ids_of, singles_of}
 use Rattle.hs_run.specs.declared.kept.Kept.{Kept}
 use Rattle.hs_run.specs.declared.program.Identifier.{Identifier}

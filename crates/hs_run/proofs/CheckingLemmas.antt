@@ -1,7 +1,6 @@
 -- Whether a field may stand at an offset, as truth values.
-use Rattle.std.proofs.Common.{◌≡◌, ◌↔◌, ℕ, ◌+◌, ◌*◌, ◌<◌, ◌≤◌, Bool, true, false, not, IsTrue, List, length, min, Some, slice_get, refl, sym, ap, subst, ◌∙◌, inl, inr, arith}
+use Rattle.std.proofs.Common.{◌≡◌, ◌↔◌, ℕ, ◌≤◌, Bool, true, false, not, IsTrue, List, length, min, refl, sym, ap, ◌∙◌, inl, inr, arith}
 use Rattle.std.proofs.lemmas.Bool.{cases_lt}
-use Rattle.std.proofs.lemmas.Option.{same_Some}
 use Rattle.hs_base.specs.Bits.{has_bit}
 use Rattle.hs_base.specs.RepeatRows.{IsRingAt}
 use Rattle.hs_base.proofs.BitLemmas.{bits-past}

@@ -1,14 +1,13 @@
 -- The chains of a program over a byte, those before a number of them done: one more.
-use Rattle.std.proofs.Common.{◌≡◌, ◌↔◌, ◌⊎◌, ℕ, zero, suc, ◌+◌, ◌<◌, ◌≤◌, Bool, true, List, [], ◌∷◌, ◌++◌, length, set, take, Some, slice_get, refl, sym, ap, subst, ◌∙◌, inl, inr, arith}
+use Rattle.std.proofs.Common.{◌≡◌, ℕ, suc, ◌+◌, ◌≤◌, List, [], ◌∷◌, ◌++◌, length, set, take, Some, slice_get, sym, ap, subst, ◌∙◌, inl, inr, arith}
 use Rattle.std.proofs.lemmas.Option.{slice_get_within}
 use Rattle.std.proofs.Math.Seq.{take-length}
-use Rattle.hs_base.specs.declared.context.Next.TheVariants as after
 use Rattle.hs_base.specs.Regions.{Plan}
 use Rattle.hs_base.specs.Settling.{AreRising}
 use Rattle.hs_engine.specs.Engines.{Meaning}
 use Rattle.hs_layout.specs.Layouts.{Laid}
 use Rattle.hs_run.specs.Chains.{AreKept, AreParts, AreWritten}
-use Rattle.hs_run.specs.Ends.{AreEndsAbout, AreLastEnds, AreMoved, AreNoEnds, EndsChains, MovesChain, MovesChains, RowEnds, ends_of}
+use Rattle.hs_run.specs.Ends.{AreNoEnds, MovesChain, MovesChains, ends_of}
 use Rattle.hs_run.specs.Programs.{Row, RunsRow, FitsLayout, IsChainSound, IsProgramOf, IsRunnable, ids_of, plan_rows}
 use Rattle.hs_run.specs.Spots.{IsSpot}
 use Rattle.hs_run.specs.declared.ends.Ends.{Ends as EndsAbout}
@@ -17,7 +16,7 @@ use Rattle.hs_run.specs.declared.program.Program.{Program}
 use Rattle.hs_run.specs.declared.spot.Spot.{Spot}
 use Rattle.hs_run.proofs.LayoutLemmas.{there, starts-count, written-none, written-more}
 use Rattle.hs_run.proofs.MovingLemmas.{kept-join, kept-stay, parts-join, parts-stay}
-use Rattle.hs_run.proofs.RowLemmas.{AreRowsAbout, AreRowsLast, about-more, about-none, about-patterns, last-more_end, last-none, last-patterns}
+use Rattle.hs_run.proofs.RowLemmas.{AreRowsAbout, about-more, about-none, about-patterns}
 
 pub rising-ids : {E : Type 0} (meaning : E → Meaning) (program : Program E) (plan : Plan) → IsProgramOf meaning program plan → AreRising (ids_of program.identifiers.items)
 rising-ids meaning program plan runs = subst AreRising (sym runs.ids) runs.is_plan.identifiers

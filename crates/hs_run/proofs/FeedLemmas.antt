@@ -1,5 +1,5 @@
 -- What one byte, many bytes and the end make of a region, over plain values.
-use Rattle.std.proofs.Common.{◌≡◌, ◌↔◌, ℕ, ◌+◌, ◌-◌, ◌*◌, ◌/◌, ◌<◌, ◌≤◌, ◌⊎◌, Bool, true, false, List, [], ◌∷◌, ◌++◌, length, get_or, take, drop, Some, slice_get, refl, sym, ap, subst, ◌∙◌, inl, inr, arith, append_assoc, length-append}
+use Rattle.std.proofs.Common.{◌≡◌, ◌↔◌, ℕ, ◌+◌, ◌-◌, ◌*◌, ◌/◌, ◌<◌, ◌≤◌, ◌⊎◌, Bool, true, false, List, [], ◌∷◌, ◌++◌, length, get_or, Some, slice_get, refl, sym, ap, subst, ◌∙◌, inl, inr, arith, append_assoc, length-append}
 use Rattle.std.specs.Prelude.{slice_index, slice_range}
 use Rattle.std.proofs.lemmas.List.{append-nil}
 use Rattle.std.proofs.lemmas.Option.{slice_get_within}
@@ -20,8 +20,8 @@ use Rattle.hs_engine.specs.Engines.{Meaning}
 use Rattle.hs_layout.specs.Layouts.{Laid, field_bytes, laid_size, with_part}
 use Rattle.hs_run.specs.Chains.{AreKept, AreParts, AreWritten}
 use Rattle.hs_run.specs.Ends.{AreEndsAbout, AreLastEnds, EndsChains, MovesChains, ends_of}
-use Rattle.hs_run.specs.Events.{Through, Takes, still}
-use Rattle.hs_run.specs.Feeding.{EndsAlike, Feeds, Finishes, GoesOnAlike, IsFed, SettlesBits}
+use Rattle.hs_run.specs.Events.{Takes, still}
+use Rattle.hs_run.specs.Feeding.{EndsAlike, Feeds, Finishes, GoesOnAlike, SettlesBits}
 use Rattle.hs_run.specs.Keeping.{AreBitsWritten, AreRead, IsSpareBit, plain_kept}
 use Rattle.hs_run.specs.Pieces.{IsPart}
 use Rattle.hs_run.specs.Programs.{FitsLayout, IsProgramOf, ids_of}
@@ -31,7 +31,6 @@ use Rattle.hs_run.specs.declared.ends.Ends.{Ends as EndsAbout}
 use Rattle.hs_run.specs.declared.kept.Kept.{Kept as KeptOf}
 use Rattle.hs_run.specs.declared.program.Identifier.{Identifier}
 use Rattle.hs_run.specs.declared.program.Program.{Program}
-use Rattle.hs_run.specs.declared.program.Role.{Role}
 use Rattle.hs_run.specs.declared.reporting.Moment.TheVariants.{BeforeByte, BehindByte, BeforeLastByte, AtEnd}
 use Rattle.hs_run.specs.declared.spot.Spot.{Spot}
 use Rattle.hs_run.proofs.BitRegionLemmas.{are-identifiers, here-bits, kept-read, last-bits, told-bits}

@@ -1,12 +1,10 @@
 -- The bits of identifiers in a region.
-use Rattle.std.proofs.Common.{◌≡◌, ℕ, zero, suc, ◌+◌, ◌*◌, ◌<◌, ◌≤◌, ◌⊎◌, Bool, true, false, List, [], ◌∷◌, ◌++◌, length, set, take, Some, slice_get, refl, sym, ap, subst, ◌∙◌, inl, inr, arith, length-append}
+use Rattle.std.proofs.Common.{◌≡◌, ℕ, zero, suc, ◌+◌, ◌<◌, ◌≤◌, Bool, true, false, List, [], ◌∷◌, ◌++◌, length, set, take, Some, slice_get, refl, sym, ap, subst, ◌∙◌, inl, inr, arith, length-append}
 use Rattle.std.proofs.lemmas.Bool.{cases_eq}
-use Rattle.std.proofs.lemmas.List.{length-set, length-take-le}
+use Rattle.std.proofs.lemmas.List.{length-take-le}
 use Rattle.std.proofs.lemmas.Option.{same_Some, slice_get_within}
-use Rattle.hs_base.specs.Bits.{has_bit}
-use Rattle.hs_base.specs.Regions.{told_at}
 use Rattle.hs_layout.specs.Layouts.{Laid}
-use Rattle.hs_run.specs.Keeping.{AreBitsWritten, AreRead, HasBits, IsOneWritten, IsRead, singles_before}
+use Rattle.hs_run.specs.Keeping.{AreBitsWritten, HasBits, IsOneWritten, IsRead, singles_before}
 use Rattle.hs_run.specs.Programs.{singles_of, with_single}
 use Rattle.hs_run.specs.declared.kept.Kept.{Kept}
 use Rattle.hs_run.specs.declared.program.Identifier.{Identifier}

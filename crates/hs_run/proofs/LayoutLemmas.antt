@@ -1,8 +1,7 @@
 -- Where the fields of a program lie, and a region of which one is written.
-use Rattle.std.proofs.Common.{◌≡◌, ℕ, zero, suc, ◌+◌, ◌-◌, ◌<◌, ◌≤◌, ◌⊎◌, List, [], ◌∷◌, ◌++◌, length, map, get_or, take, drop, Some, slice_get, refl, sym, ap, subst, ◌∙◌, inl, inr, arith}
+use Rattle.std.proofs.Common.{◌≡◌, ℕ, zero, suc, ◌+◌, ◌-◌, ◌<◌, ◌≤◌, List, [], ◌∷◌, ◌++◌, length, take, drop, Some, slice_get, refl, sym, ap, subst, ◌∙◌, inl, inr, arith}
 use Rattle.std.specs.Prelude.{slice_index, slice_range}
 use Rattle.std.proofs.lemmas.List.{length-map}
-use Rattle.std.proofs.lemmas.Bool.{cases_eq}
 use Rattle.std.proofs.lemmas.Option.{slice_get-get_or, slice_get-map, slice_get_within, get_or_from_slice_get}
 use Rattle.hs_base.specs.Regions.{fields_at, sums_from}
 use Rattle.hs_base.proofs.RegionLemmas.{range-size}
@@ -12,7 +11,7 @@ use Rattle.hs_layout.specs.LayoutLaws.{IsFieldWritten}
 use Rattle.hs_layout.proofs.FieldLemmas.{fields-disjoint}
 use Rattle.hs_layout.proofs.WrittenLemmas.{part-mid}
 use Rattle.hs_run.specs.Chains.{AreWritten}
-use Rattle.hs_run.specs.Programs.{FitsLayout, program_layout, sizes_of}
+use Rattle.hs_run.specs.Programs.{FitsLayout, sizes_of}
 use Rattle.hs_run.specs.declared.program.Program.{Program}
 use Rattle.hs_run.specs.declared.program.Role.{Role}
 

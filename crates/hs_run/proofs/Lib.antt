@@ -19,3 +19,4 @@ pub mod BitRegionLemmas
 pub mod FeedLemmas
 pub mod SettledLemmas
 pub mod CheckingLemmas
+pub mod HeaderLemmas

@@ -1,18 +1,17 @@
 -- An engine over the last bytes, where it was at rest before.
-use Rattle.std.proofs.Common.{◌≡◌, ℕ, zero, suc, ◌+◌, ◌-◌, ◌<◌, ◌≤◌, ◌⊎◌, ◌↔◌, Bool, true, false, ◌||◌, ◌&&◌, List, [], ◌∷◌, ◌++◌, length, map, get_or, take, drop, eqb, Some, slice_get, refl, sym, ap, subst, ◌∙◌, inl, inr, arith, length-append, length-drop, append_assoc}
-use Rattle.std.proofs.lemmas.List.{length-map, map-append, append-nil, take_more, length-take-le, take-append-drop, get_or-drop}
-use Rattle.std.proofs.lemmas.Option.{same_Some, slice_get-get_or, slice_get_within, get_or_from_slice_get}
+use Rattle.std.proofs.Common.{◌≡◌, ℕ, zero, suc, ◌+◌, ◌-◌, ◌<◌, ◌≤◌, ◌⊎◌, ◌↔◌, Bool, true, false, ◌||◌, ◌&&◌, List, [], ◌∷◌, ◌++◌, length, get_or, take, drop, eqb, Some, slice_get, refl, sym, ap, subst, ◌∙◌, inl, inr, arith, length-append, length-drop, append_assoc}
+use Rattle.std.proofs.lemmas.List.{length-map, map-append, append-nil, take_more, length-take-le, take-append-drop}
+use Rattle.std.proofs.lemmas.Option.{same_Some, slice_get-get_or}
 use Rattle.std.proofs.Math.Seq.{take-add}
 use Rattle.hs_base.specs.declared.context.Mask.{Mask}
 use Rattle.hs_base.specs.declared.context.Next.{Next}
 use Rattle.hs_base.specs.declared.context.NextSet.{NextSet}
 use Rattle.hs_base.specs.declared.context.Prev.{Prev}
-use Rattle.hs_base.specs.declared.literal.LitByte.{LitByte}
 use Rattle.hs_base.specs.Assertions.{line_feed, is_word_byte}
-use Rattle.hs_base.specs.Chains.{Piece, lit, nfa, piece_tree, IsFitChain}
-use Rattle.hs_base.specs.Contexts.{Context, class_of, context_of, prev_at, prev_behind, prev_by}
+use Rattle.hs_base.specs.Chains.{Piece, lit, nfa, IsFitChain}
+use Rattle.hs_base.specs.Contexts.{class_of, prev_at, prev_behind, prev_by}
 use Rattle.hs_base.specs.ContextSets.{has_context, has_next}
-use Rattle.hs_base.specs.Fields.{entered_always, Leaves}
+use Rattle.hs_base.specs.Fields.{entered_always}
 use Rattle.hs_base.specs.Leaving.{IsAtMostWide, IsEmptyAt, LeavesAt, LeavesBehind, TellsLeaving, entered_never}
 use Rattle.hs_base.specs.Lists.{Each}
 use Rattle.hs_base.specs.Trees.{Tree}

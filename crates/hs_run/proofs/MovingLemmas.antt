@@ -1,12 +1,12 @@
 -- One chain about a byte: the ends that are noted.
-use Rattle.std.proofs.Common.{◌≡◌, ◌↔◌, ◌⊎◌, ℕ, ◌+◌, ◌≤◌, ◌<◌, Bool, true, false, ◌||◌, ◌&&◌, List, [], ◌∷◌, ◌++◌, length, eqb, refl, sym, ap, subst, ◌∙◌, inl, inr, arith, Some, slice_get}
+use Rattle.std.proofs.Common.{◌≡◌, ◌↔◌, ◌⊎◌, ℕ, ◌+◌, ◌≤◌, ◌<◌, Bool, true, false, ◌||◌, ◌&&◌, List, length, eqb, refl, sym, subst, ◌∙◌, inl, inr, arith}
 use Rattle.std.proofs.lemmas.Option.{slice_get_within}
 use Rattle.std.proofs.lemmas.Bool.{eqb-true, eq-eqb, cases_lt}
 use Rattle.hs_base.specs.declared.context.Next.{Next}
 use Rattle.hs_base.specs.declared.context.NextSet.{NextSet}
 use Rattle.hs_base.specs.Assertions.{line_feed}
 use Rattle.hs_base.specs.ContextSets.{has_next}
-use Rattle.hs_base.specs.Leaving.{LeavesAt, TellsLeaving}
+use Rattle.hs_base.specs.Leaving.{TellsLeaving}
 use Rattle.hs_base.specs.KeptPieces.{IsKeptAs}
 use Rattle.hs_base.specs.Regions.{Plan, place_form}
 use Rattle.hs_engine.specs.Engines.{Meaning}
@@ -17,7 +17,6 @@ use Rattle.hs_run.specs.Pieces.{IsPart}
 use Rattle.hs_run.specs.Programs.{Row, RunsRow}
 use Rattle.hs_run.specs.declared.program.Chain.{Chain}
 use Rattle.hs_run.specs.declared.program.Program.{Program}
-use Rattle.hs_run.specs.declared.program.Role.{Role}
 
 or-true : (a b : Bool) → (a || b) ≡ true → (a ≡ true) ⊎ (b ≡ true)
 or-true true b is = inl refl

@@ -1,5 +1,5 @@
 -- One piece over a byte: where it is left, and its field.
-use Rattle.std.proofs.Common.{◌≡◌, ℕ, zero, suc, ◌+◌, ◌-◌, ◌<◌, ◌≤◌, ◌↔◌, Bool, true, false, ◌||◌, ◌&&◌, nat_lt, ◌⊎◌, List, [], ◌∷◌, ◌++◌, length, map, get_or, take, Some, slice_get, refl, sym, ap, subst, ◌∙◌, inl, inr, arith}
+use Rattle.std.proofs.Common.{◌≡◌, ℕ, zero, suc, ◌+◌, ◌-◌, ◌<◌, ◌≤◌, ◌↔◌, Bool, true, false, ◌||◌, ◌&&◌, nat_lt, List, [], ◌∷◌, ◌++◌, length, map, get_or, take, refl, sym, ap, subst, ◌∙◌, inl, inr, arith}
 use Rattle.std.proofs.lemmas.Bool.{cases_lt}
 use Rattle.std.proofs.lemmas.Bool.Decides.{nat_tests}
 use Rattle.std.proofs.lemmas.List.{length-map}
@@ -10,10 +10,10 @@ use Rattle.hs_base.specs.declared.context.Next.{Next}
 use Rattle.hs_base.specs.declared.context.NextSet.{NextSet}
 use Rattle.hs_base.specs.Bits.{has_bit}
 use Rattle.hs_base.specs.Chains.{Piece, lit, piece_tree, IsFitChain}
-use Rattle.hs_base.specs.Contexts.{Context, class_of, context_of, prev_at, then_bytes, then_ended}
+use Rattle.hs_base.specs.Contexts.{class_of, then_bytes, then_ended}
 use Rattle.hs_base.specs.ContextSets.{has_context, has_next}
 use Rattle.hs_base.specs.Fields.{Leaves}
-use Rattle.hs_base.specs.KeptPieces.{Form, nothing, positions, literal, first, last, ring, form_size, AreBytes, IsKeptAs, IsKeptBy, Says}
+use Rattle.hs_base.specs.KeptPieces.{Form, nothing, positions, literal, first, last, ring, IsKeptAs, IsKeptBy}
 use Rattle.hs_base.specs.Leaving.{AreEntered, IsEmptyAt, LeavesAt, LeavesBehind, TellsLeaving}
 use Rattle.hs_base.specs.Lists.{Each}
 use Rattle.hs_base.specs.LiteralEnds.{EndsAt}

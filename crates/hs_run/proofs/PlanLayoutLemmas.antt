@@ -1,16 +1,16 @@
 -- The layout of a program is that of the plan that it runs.
-use Rattle.std.proofs.Common.{◌≡◌, ℕ, suc, ◌+◌, ◌-◌, ◌<◌, ◌≤◌, List, length, map, Some, slice_get, refl, sym, ap, subst, ◌∙◌, arith}
+use Rattle.std.proofs.Common.{◌≡◌, ℕ, suc, ◌+◌, ◌-◌, ◌<◌, List, length, map, Some, slice_get, sym, ap, subst, ◌∙◌, arith}
 use Rattle.std.specs.Prelude.{slice_index, slice_range}
 use Rattle.std.proofs.lemmas.List.{length-map}
-use Rattle.std.proofs.lemmas.Option.{slice_get-get_or, slice_get-map, slice_get_within, get_or_from_slice_get}
+use Rattle.std.proofs.lemmas.Option.{slice_get-get_or, slice_get_within, get_or_from_slice_get}
 use Rattle.hs_base.specs.KeptPieces.{IsKeptAs}
 use Rattle.hs_base.specs.Regions.{Place, Plan, IsPlaced, IsRegion, fields_at, list_places, place_form, place_size, plan_size, plan_starts}
 use Rattle.hs_base.proofs.SumLemmas.{sums-size}
 use Rattle.hs_engine.specs.Engines.{Meaning}
-use Rattle.hs_layout.specs.Layouts.{Laid, field_bytes, laid_size, layout_of}
+use Rattle.hs_layout.specs.Layouts.{Laid, laid_size, layout_of}
 use Rattle.hs_run.specs.Chains.{AreKept}
 use Rattle.hs_run.specs.Keeping.{HasBits}
-use Rattle.hs_run.specs.Programs.{FitsLayout, IsProgramOf, ids_of, singles_of, sizes_of}
+use Rattle.hs_run.specs.Programs.{FitsLayout, IsProgramOf, singles_of, sizes_of}
 use Rattle.hs_run.specs.declared.program.Program.{Program}
 
 -- the layout of the regions of a plan

@@ -1,19 +1,18 @@
 -- One go over the identifiers: the values that tell what is reported.
-use Rattle.std.proofs.Common.{◌≡◌, ◌↔◌, ℕ, zero, suc, ◌+◌, ◌<◌, Bool, true, false, List, [], ◌∷◌, ◌++◌, length, take, Some, slice_get, refl, sym, ap, subst, ◌∙◌, arith}
+use Rattle.std.proofs.Common.{◌≡◌, ◌↔◌, ℕ, zero, suc, ◌+◌, ◌<◌, Bool, true, false, List, [], ◌∷◌, ◌++◌, length, take, Some, slice_get, sym, ap, subst, ◌∙◌, arith}
 use Rattle.std.proofs.lemmas.List.{length-map}
 use Rattle.std.specs.Prelude.{option_map}
 use Rattle.std.proofs.lemmas.Option.{same_Some, slice_get-map, slice_get_within}
-use Rattle.hs_base.specs.Settling.{Kept, pairs_told, settled}
+use Rattle.hs_base.specs.Settling.{pairs_told}
 use Rattle.hs_base.proofs.PairListLemmas.{one_told, pairs-next, Tell}
 use Rattle.hs_run.specs.declared.program.Identifier.{Identifier}
 use Rattle.hs_run.specs.Programs.{ids_of}
 use Rattle.hs_run.specs.declared.ends.Ends.{Ends as EndsAbout}
 use Rattle.hs_run.specs.declared.reporting.Moment.{Moment}
-use Rattle.hs_run.specs.declared.reporting.Moment.TheVariants.{BeforeByte, BehindByte}
 use Rattle.hs_run.specs.declared.kept.Kept.{Kept as KeptOf}
 use Rattle.hs_run.specs.Ends.{ends_of}
 use Rattle.hs_run.specs.Keeping.{plain_kept}
-use Rattle.hs_run.specs.Events.{Through, still}
+use Rattle.hs_run.specs.Events.{Through}
 use Rattle.hs_run.specs.Reporting.{tells, told_values, pairs_at}
 use Rattle.hs_run.proofs.LayoutLemmas.{there}
 

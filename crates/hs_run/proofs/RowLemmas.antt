@@ -1,5 +1,5 @@
 -- Where matches of each identifier end, as the chains are gone through one by one.
-use Rattle.std.proofs.Common.{◌≡◌, ◌↔◌, ◌⊎◌, ℕ, zero, suc, ◌+◌, ◌<◌, ◌≤◌, Bool, true, false, ◌||◌, List, [], ◌∷◌, ◌++◌, length, map, take, set, Some, slice_get, refl, sym, ap, subst, ◌∙◌, inl, inr, arith}
+use Rattle.std.proofs.Common.{◌≡◌, ◌↔◌, ◌⊎◌, ℕ, zero, suc, ◌+◌, ◌<◌, ◌≤◌, true, false, List, [], ◌∷◌, ◌++◌, length, map, take, set, Some, slice_get, refl, sym, ap, subst, ◌∙◌, inl, inr, arith}
 use Rattle.std.specs.Prelude.{flat_map}
 use Rattle.std.proofs.lemmas.Bool.{cases_eq}
 use Rattle.std.proofs.lemmas.Option.{same_Some}
@@ -12,7 +12,7 @@ use Rattle.hs_base.specs.Leaving.{LeavesAt}
 use Rattle.hs_base.specs.LeavingLaws.{HasSpansOfChains}
 use Rattle.hs_base.specs.Lists.{OneOf, Each}
 use Rattle.hs_base.specs.Patterns.{Pattern}
-use Rattle.hs_base.specs.Settling.{Ends, AreEnds, EndsHere, HasEndHere, AreRising}
+use Rattle.hs_base.specs.Settling.{Ends, EndsHere, HasEndHere, AreRising}
 use Rattle.hs_base.proofs.EntryLemmas.{ends-leaving}
 use Rattle.hs_base.proofs.ListLemmas.{one_of-append, one_of-left, one_of-right}
 use Rattle.hs_run.specs.declared.ends.Ends.{Ends as EndsAbout}

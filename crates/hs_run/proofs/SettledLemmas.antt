@@ -1,7 +1,6 @@
 -- The bytes of a region over one byte, from what the calls say.
-use Rattle.std.proofs.Common.{◌≡◌, ℕ, ◌+◌, ◌<◌, ◌≤◌, ◌⊎◌, List, [], ◌∷◌, ◌++◌, length, get_or, drop, refl, sym, ap, ◌∙◌, arith, length-append, length-drop}
+use Rattle.std.proofs.Common.{◌≡◌, ℕ, ◌<◌, ◌≤◌, ◌⊎◌, List, [], ◌∷◌, ◌++◌, length, get_or, drop, ap, arith, length-append, length-drop}
 use Rattle.std.specs.Prelude.{slice_range}
-use Rattle.std.specs.Int.{to_le_bytes, w64}
 use Rattle.hs_base.specs.Regions.{fields_at}
 use Rattle.hs_base.proofs.RegionLemmas.{range-size}
 use Rattle.hs_layout.specs.Layouts.{Laid, laid_size, with_part}

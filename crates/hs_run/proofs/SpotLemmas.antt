@@ -1,9 +1,8 @@
 -- Where a stream stands, and what its last bytes are.
-use Rattle.std.proofs.Common.{◌≡◌, ℕ, zero, suc, ◌+◌, ◌-◌, ◌≤◌, ◌<◌, List, [], ◌∷◌, ◌++◌, length, replicate, get_or, take, drop, eqb, Some, slice_get, refl, sym, ap, ◌∙◌, arith, length-append, length-drop}
+use Rattle.std.proofs.Common.{◌≡◌, ℕ, zero, suc, ◌+◌, ◌-◌, ◌≤◌, List, [], ◌∷◌, ◌++◌, length, replicate, get_or, take, drop, eqb, refl, sym, ap, ◌∙◌, arith, length-append, length-drop}
 use Rattle.std.proofs.lemmas.List.{length-replicate, get_or-drop, get_or-append-add, drop-append-le, take_rest}
 use Rattle.std.proofs.lemmas.Option.{slice_get-get_or}
 use Rattle.std.proofs.Math.Seq.{drop-append-add}
-use Rattle.hs_base.specs.declared.context.Prev.{Prev}
 use Rattle.hs_base.specs.Assertions.{line_feed, is_word_byte}
 use Rattle.hs_base.specs.Contexts.{prev_at, prev_behind, prev_by}
 use Rattle.hs_base.specs.Regions.{last_bytes}

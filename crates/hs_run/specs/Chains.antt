@@ -1,9 +1,8 @@
 -- What a runner finds of a chain where a stream stands.
-use Rattle.std.specs.Prelude.{◌≡◌, ◌↔◌, ◌⊎◌, ℕ, ◌+◌, ◌-◌, ◌<◌, ◌≤◌, Bool}
-use Rattle.std.specs.Prelude.{true, false, List, [], ◌∷◌, ◌++◌, length, take, drop, Some}
+use Rattle.std.specs.Prelude.{◌≡◌, ◌⊎◌, ℕ, ◌+◌, ◌<◌, ◌≤◌}
+use Rattle.std.specs.Prelude.{List, [], ◌∷◌, ◌++◌, length, take, Some}
 use Rattle.std.specs.Prelude.{slice_get}
 use Rattle.hs_base.specs.declared.context.NextSet.{NextSet}
-use Rattle.hs_base.specs.Chains.{Piece}
 use Rattle.hs_base.specs.ContextSets.{has_next}
 use Rattle.hs_base.specs.KeptPieces.{IsKeptAs}
 use Rattle.hs_base.specs.Leaving.{TellsLeaving}

@@ -1,5 +1,5 @@
 -- What bytes, or the end of the stream, make of a region and report.
-use Rattle.std.specs.Prelude.{◌≡◌, ℕ, ◌<◌, List, [], ◌∷◌, ◌++◌, length}
+use Rattle.std.specs.Prelude.{◌≡◌, ℕ, ◌<◌, List, ◌++◌, length}
 use Rattle.hs_base.specs.Lists.{Each}
 use Rattle.hs_base.specs.Regions.{Plan, IsHeader, IsRegion, region_offset}
 use Rattle.hs_base.specs.Told.{Pair, IsTold, IsNew, IsLast}

@@ -1,17 +1,16 @@
 -- What runs a piece of a chain, and what it tells.
-use Rattle.std.specs.Prelude.{◌≡◌, ◌↔◌, ℕ, zero, suc, ◌+◌, ◌<◌, ◌≤◌, Bool, true, false, ◌||◌, ◌&&◌, nat_le, List, []}
+use Rattle.std.specs.Prelude.{◌≡◌, ◌↔◌, ℕ, ◌≤◌, Bool, true, false, ◌&&◌, List, []}
 use Rattle.std.specs.Prelude.{◌∷◌, ◌++◌, length, Some, slice_get}
 use Rattle.hs_base.specs.declared.context.Mask.{Mask}
 use Rattle.hs_base.specs.declared.context.Next.{Next}
 use Rattle.hs_base.specs.declared.context.NextSet.{NextSet}
-use Rattle.hs_base.specs.Bits.{has_bit}
-use Rattle.hs_base.specs.Chains.{Piece, lit, nfa, piece_tree, IsFitChain}
-use Rattle.hs_base.specs.Contexts.{context_of, class_of}
+use Rattle.hs_base.specs.Chains.{Piece, lit, piece_tree, IsFitChain}
+use Rattle.hs_base.specs.Contexts.{context_of}
 use Rattle.hs_base.specs.ContextSets.{has_context, has_next}
 use Rattle.hs_base.specs.KeptPieces.{Form, nothing, positions, literal, first}
-use Rattle.hs_base.specs.KeptPieces.{last, ring, form_size, AreBytes, IsFieldAt}
+use Rattle.hs_base.specs.KeptPieces.{last, ring, form_size, IsFieldAt}
 use Rattle.hs_base.specs.KeptPieces.{IsKeptAs, Says}
-use Rattle.hs_base.specs.Leaving.{IsAtMostWide, IsEmptyAt, LeavesBehind, TellsLeaving}
+use Rattle.hs_base.specs.Leaving.{IsEmptyAt, LeavesBehind, TellsLeaving}
 use Rattle.hs_base.specs.LiteralView.{literal_bytes}
 use Rattle.hs_base.specs.Literals.{LiteralByte, takes}
 use Rattle.hs_base.specs.Regions.{Place, place_form}
@@ -19,7 +18,6 @@ use Rattle.hs_base.specs.RepeatRows.{IsRingAt}
 use Rattle.hs_base.specs.Trees.{Tree}
 use Rattle.hs_engine.specs.Engines.{Meaning}
 use Rattle.hs_run.specs.Spots.{IsSpot}
-use Rattle.hs_run.specs.declared.program.Kind.{Kind}
 use Rattle.hs_run.specs.declared.program.Kind.TheVariants as kind
 use Rattle.hs_run.specs.declared.program.Literal.{Literal}
 use Rattle.hs_run.specs.declared.program.Role.{Role}

@@ -3,7 +3,6 @@ use Rattle.std.specs.Prelude.{◌≡◌, ◌⊎◌, ℕ, suc, ◌+◌, ◌^◌, 
 use Rattle.std.specs.Prelude.{true, false, List, [], ◌∷◌, length, map, flat_map, take}
 use Rattle.std.specs.Prelude.{Some, slice_get}
 use Rattle.hs_base.specs.Chains.{Piece, lit, nfa, chains_of, IsFitChain}
-use Rattle.hs_base.specs.KeptPieces.{Form}
 use Rattle.hs_base.specs.Leaving.{IsAtMostWide}
 use Rattle.hs_base.specs.LeavingLaws.{HasSpansOfChains}
 use Rattle.hs_base.specs.Lists.{Each}
@@ -12,7 +11,7 @@ use Rattle.hs_base.specs.Regions.{Place, Plan, IsPlan, list_places, place_size}
 use Rattle.hs_base.specs.Trees.{Tree}
 use Rattle.hs_engine.specs.Engines.{Meaning}
 use Rattle.hs_layout.specs.Layouts.{Laid, laid_size, layout_of}
-use Rattle.hs_run.specs.Pieces.{IsRoleNull, IsPart, IsRoleOf, IsSound, bytes_of}
+use Rattle.hs_run.specs.Pieces.{IsRoleNull, IsRoleOf, IsSound, bytes_of}
 use Rattle.hs_run.specs.declared.program.Chain.{Chain}
 use Rattle.hs_run.specs.declared.program.Identifier.{Identifier}
 use Rattle.hs_run.specs.declared.program.Kind.TheVariants as kind

@@ -1,5 +1,5 @@
 -- Which pairs are reported in one go over the identifiers.
-use Rattle.std.specs.Prelude.{◌≡◌, ℕ, ◌+◌, Bool, false, List, [], ◌∷◌, ◌++◌, Some, slice_get}
+use Rattle.std.specs.Prelude.{◌≡◌, ℕ, ◌+◌, Bool, List, [], ◌∷◌, ◌++◌, Some, slice_get}
 use Rattle.hs_base.specs.Told.{Pair}
 use Rattle.hs_base.specs.Settling.{Kept, Ends, tells_before, tells_behind, tells_end, settled, pairs_told}
 use Rattle.hs_run.specs.declared.program.Identifier.{Identifier}

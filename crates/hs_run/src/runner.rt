@@ -2,9 +2,9 @@
 
 ghost use Rattle.std.specs.Prelude.{◌≡◌, ℕ, ◌+◌, ◌<◌, ◌≤◌, ◌^◌, [], ◌∷◌, length};
 ghost use Rattle.hs_base.specs.Offsets.{greatest_offset};
-ghost use Rattle.hs_base.specs.Regions.{region_offset};
+ghost use Rattle.hs_base.specs.Regions.{IsHeader, region_offset};
 ghost use Rattle.hs_run.specs.Events.{Takes};
-ghost use Rattle.hs_run.specs.Feeding.{EndsAlike, Feeds, Finishes, FitsRegion, GoesOnAlike};
+ghost use Rattle.hs_run.specs.Feeding.{EndsAlike, Feeds, Finishes, FitsRegion, GoesOnAlike, IsWellRegion};
 ghost use Rattle.hs_run.specs.Programs.{FitsLayout, IsRunnable};
 ghost use Rattle.hs_run.specs.Scratches.{FitsScratch};
 
@@ -38,6 +38,8 @@ fn feed_byte<E: Engine, V: Events, L: Ledger>(
     ensures region { FitsRegion E.meaning program.now layout.now region.new }
     ensures scratch { FitsScratch program.now scratch.new }
     ensures offset { region_offset region.new ≡ region_offset region.old + 1 }
+    ensures header { IsHeader layout.now.singles layout.now.identifiers region.old →
+        IsHeader layout.now.singles layout.now.identifiers region.new }
     ensures taken { Takes V.tells events.old events.new
         (Feeds E.meaning program.now region.old region.new (byte ∷ [])) }
 {
@@ -84,6 +86,8 @@ pub fn feed<E: Engine, V: Events, L: Ledger>(
     requires room { region_offset region.old + length bytes.now ≤ greatest_offset }
     ensures region { FitsRegion E.meaning program.now layout.now region.new }
     ensures scratch { FitsScratch program.now scratch.new }
+    ensures well { IsWellRegion E.meaning program.now layout.now region.old →
+        IsWellRegion E.meaning program.now layout.now region.new }
     ensures offset { region_offset region.new ≡ region_offset region.old + length bytes.now }
     ensures taken { Takes V.tells events.old events.new
         (Feeds E.meaning program.now region.old region.new bytes.now) }

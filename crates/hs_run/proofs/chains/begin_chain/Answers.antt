@@ -1,4 +1,3 @@
-use Rattle.std.proofs.Common.{◌≡◌, ℕ, ◌+◌, ◌≤◌, ◌<◌, suc, length, Some, slice_get, sym, ap, subst, ◌∙◌, arith}
 use Rattle.hs_run.proofs.BeginLemmas.{begins-looked, begins-plain, looks, pair-bare}
 use Rattle.hs_run.proofs.chains.begin_chain.Goals as goal
 

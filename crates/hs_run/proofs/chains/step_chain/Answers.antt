@@ -1,11 +1,8 @@
-use Rattle.std.proofs.Common.{◌≡◌, ℕ, ◌+◌, ◌-◌, ◌≤◌, ◌<◌, ◌⊎◌, List, [], ◌∷◌, ◌++◌, length, take, Some, slice_get, refl, sym, ap, subst, ◌∙◌, inl, inr, arith}
-use Rattle.std.proofs.lemmas.Bool.{cases_lt}
-use Rattle.std.proofs.lemmas.Option.{same_Some, slice_get_within}
+use Rattle.std.proofs.Common.{◌≡◌, ℕ, ◌+◌, ◌-◌, ◌≤◌, ◌<◌, [], ◌∷◌, ◌++◌, length, take, sym, ap, subst, ◌∙◌, inr, arith}
+use Rattle.std.proofs.lemmas.Option.{slice_get_within}
 use Rattle.std.proofs.Math.Seq.{take-length}
 use Rattle.hs_base.specs.ContextSets.{has_next}
-use Rattle.hs_base.specs.KeptPieces.{IsKeptAs}
 use Rattle.hs_base.specs.Leaving.{TellsLeaving}
-use Rattle.hs_base.specs.Regions.{Place, place_form}
 use Rattle.hs_layout.specs.Layouts.{field_bytes}
 use Rattle.hs_run.specs.Chains.{AreKept, AreParts, AreWritten}
 use Rattle.hs_run.specs.Pieces.{GoesOn, IsPart, KeepsOn}

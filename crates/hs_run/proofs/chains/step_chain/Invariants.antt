@@ -1,4 +1,4 @@
-use Rattle.std.proofs.Common.{◌≡◌, ℕ, ◌+◌, ◌-◌, ◌≤◌, List, [], ◌∷◌, ◌++◌, length, take}
+use Rattle.std.proofs.Common.{ℕ, ◌+◌, ◌-◌, ◌≤◌, List, [], ◌∷◌, ◌++◌, take}
 use Rattle.hs_base.specs.ContextSets.{has_next}
 use Rattle.hs_base.specs.Leaving.{TellsLeaving}
 use Rattle.hs_base.specs.Regions.{Plan}

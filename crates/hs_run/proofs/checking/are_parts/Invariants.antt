@@ -1,4 +1,3 @@
-use Rattle.std.proofs.Common.{◌≡◌}
 use Rattle.hs_run.specs.Chains.{AreParts}
 use Rattle.hs_run.proofs.checking.are_parts.Given as goal
 

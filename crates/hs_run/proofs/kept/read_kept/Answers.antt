@@ -1,10 +1,9 @@
-use Rattle.std.proofs.Common.{◌≡◌, ℕ, ◌+◌, ◌<◌, ◌≤◌, length, get_or, set, Some, slice_get, sym, ap, subst, ◌∙◌, arith}
+use Rattle.std.proofs.Common.{◌≡◌, ℕ, get_or, Some, slice_get, ◌∙◌, arith}
 use Rattle.std.proofs.lemmas.List.{length-set}
 use Rattle.std.proofs.lemmas.Option.{slice_get-get_or, slice_get_within}
-use Rattle.hs_run.specs.Keeping.{singles_before}
 use Rattle.hs_run.specs.declared.kept.Kept.{Kept}
 use Rattle.hs_run.specs.declared.program.Identifier.{Identifier}
-use Rattle.hs_run.proofs.KeepingLemmas.{bits-join, bits-none, read-more, single-below, singles-few, singles-next, write-more}
+use Rattle.hs_run.proofs.KeepingLemmas.{read-more, single-below, singles-few, singles-next}
 use Rattle.hs_run.proofs.ReportingLemmas.{no_identifier, nothing}
 use Rattle.hs_run.proofs.kept.read_kept.Goals as goal
 

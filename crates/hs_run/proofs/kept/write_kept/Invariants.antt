@@ -1,4 +1,4 @@
-use Rattle.std.proofs.Common.{◌≡◌, ℕ, ◌<◌, length, Some, slice_get}
+use Rattle.std.proofs.Common.{◌≡◌, ℕ, ◌<◌, Some, slice_get}
 use Rattle.hs_run.specs.Keeping.{AreBitsWritten, IsRead, singles_before}
 use Rattle.hs_run.specs.declared.kept.Kept.{Kept}
 use Rattle.hs_run.specs.declared.program.Identifier.{Identifier}

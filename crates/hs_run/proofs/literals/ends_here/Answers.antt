@@ -1,9 +1,8 @@
-use Rattle.std.proofs.Common.{◌≡◌, ◌≤◌, ◌-◌, ◌∙◌, sym, ap, arith, length, map, drop, take, List, ℕ, true, false}
+use Rattle.std.proofs.Common.{◌≡◌, ◌≤◌, ◌-◌, ◌∙◌, sym, ap, arith, length, map, drop, List}
 use Rattle.std.proofs.lemmas.List.{length-map}
 use Rattle.std.proofs.lemmas.Bool.{false≢true, lt-leb}
 use Rattle.hs_base.specs.LiteralView.{literal_byte}
 use Rattle.hs_base.specs.Literals.{LiteralByte}
-use Rattle.hs_base.specs.Regions.{last_bytes}
 use Rattle.hs_run.specs.Pieces.{takes_all}
 use Rattle.hs_run.proofs.SpotLemmas.{history-tail}
 use Rattle.hs_run.proofs.TakingLemmas.{ends-taken, taken-ends}

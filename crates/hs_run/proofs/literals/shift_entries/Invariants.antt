@@ -1,4 +1,4 @@
-use Rattle.std.proofs.Common.{◌≡◌, ℕ, zero, suc, ◌<◌, ◌≤◌, Bool, List, length}
+use Rattle.std.proofs.Common.{◌≡◌, ℕ, ◌<◌, ◌≤◌, length}
 use Rattle.hs_base.specs.Bits.{has_bit}
 use Rattle.hs_base.specs.LiteralRows.{shifted}
 use Rattle.hs_run.proofs.LiteralLemmas.{IsCarried}

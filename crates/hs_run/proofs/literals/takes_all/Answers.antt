@@ -1,4 +1,4 @@
-use Rattle.std.proofs.Common.{◌≡◌, ◌∙◌, ◌+◌, ◌&&◌, sym, ap, arith, length, map, drop, refl}
+use Rattle.std.proofs.Common.{◌∙◌, ◌+◌, ◌&&◌, sym, ap, arith, map, drop}
 use Rattle.hs_base.specs.LiteralView.{literal_byte}
 use Rattle.hs_run.specs.Pieces.{takes_all}
 use Rattle.hs_run.proofs.TakingLemmas.{takes_all-more, takes_all-end}

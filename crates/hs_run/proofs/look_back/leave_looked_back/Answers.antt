@@ -1,15 +1,13 @@
-use Rattle.std.proofs.Common.{◌≡◌, ℕ, suc, ◌+◌, ◌-◌, ◌≤◌, ◌<◌, List, [], ◌∷◌, length, map, take, get_or, true, false, Some, slice_get, sym, ap, subst, ◌∙◌, arith}
+use Rattle.std.proofs.Common.{◌≡◌, ℕ, ◌-◌, ◌≤◌, [], ◌∷◌, length, map, take, get_or, true, Some, slice_get, sym, ap, subst, ◌∙◌, arith}
 use Rattle.std.proofs.lemmas.Bool.{false≢true}
 use Rattle.std.proofs.lemmas.List.{length-map}
-use Rattle.std.proofs.lemmas.Option.{same_Some, slice_get_within}
+use Rattle.std.proofs.lemmas.Option.{same_Some}
 use Rattle.hs_base.specs.Chains.{lit, nfa, IsFitChain}
-use Rattle.hs_base.specs.Contexts.{class_of}
 use Rattle.hs_base.specs.ContextSets.{has_next}
 use Rattle.hs_base.specs.Leaving.{TellsLeaving}
 use Rattle.hs_base.specs.LiteralEnds.{EndsAt}
 use Rattle.hs_base.specs.LiteralView.{literal_byte}
 use Rattle.hs_run.specs.Pieces.{bytes_of}
-use Rattle.hs_run.specs.Programs.{HasWindow}
 use Rattle.hs_run.specs.Pieces.{IsRoleNull}
 use Rattle.hs_run.proofs.BeginLemmas.{looked-value, looks, pair-named, pair-short, pair-window}
 use Rattle.hs_run.proofs.TakingLemmas.{ends-taken}

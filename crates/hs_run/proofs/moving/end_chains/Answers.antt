@@ -1,6 +1,6 @@
-use Rattle.std.proofs.Common.{◌≡◌, ℕ, ◌+◌, ◌≤◌, ◌<◌, length, get_or, Some, slice_get, ap, ◌∙◌, inr, arith}
+use Rattle.std.proofs.Common.{◌≡◌, get_or, Some, slice_get, ◌∙◌, arith}
 use Rattle.std.proofs.lemmas.List.{length-set}
-use Rattle.std.proofs.lemmas.Option.{slice_get-get_or, slice_get_within}
+use Rattle.std.proofs.lemmas.Option.{slice_get-get_or}
 use Rattle.hs_run.specs.Ends.{no_ends}
 use Rattle.hs_run.proofs.EndedLemmas.{ended-all, ended-more, ended-none}
 use Rattle.hs_run.proofs.moving.end_chains.Goals as goal

@@ -1,4 +1,4 @@
-use Rattle.std.proofs.Common.{◌≡◌, ◌≤◌, ◌<◌, true, false, sym, ◌∙◌, arith}
+use Rattle.std.proofs.Common.{arith}
 use Rattle.hs_run.proofs.moving.within_bounds.Goals as goal
 
 pub returns : goal.returns

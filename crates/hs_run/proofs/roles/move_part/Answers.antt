@@ -1,15 +1,13 @@
-use Rattle.std.proofs.Common.{◌≡◌, ◌≤◌, ◌<◌, ◌∙◌, ℕ, sym, ap, subst, length, get_or, arith}
+use Rattle.std.proofs.Common.{◌≡◌, ◌∙◌, sym, ap, subst, length, arith}
 use Rattle.std.proofs.lemmas.List.{length-map}
 use Rattle.std.proofs.lemmas.Option.{same_Some}
 use Rattle.hs_base.specs.Contexts.{class_of}
 use Rattle.hs_base.specs.ContextSets.{has_next}
-use Rattle.hs_base.specs.Leaving.{LeavesAt}
 use Rattle.hs_base.specs.LiteralView.{literal_byte}
-use Rattle.hs_base.specs.RepeatRows.{IsRingAt}
 use Rattle.hs_engine.specs.Engines.{TakesByte}
 use Rattle.hs_run.specs.declared.program.Kind.TheVariants as kind
 use Rattle.hs_run.specs.Pieces.{bytes_of}
-use Rattle.hs_run.proofs.PieceLemmas.{bare-of, entered-of, engined-of, never-looks_back, engine-step, entered-step, moved-ring, each-by, IsMoved}
+use Rattle.hs_run.proofs.PieceLemmas.{entered-of, engined-of, engine-step, entered-step, moved-ring, each-by, IsMoved}
 use Rattle.hs_run.proofs.roles.move_part.Goals as goal
 
 pub returns-in-Literal-clause-well : goal.returns-in-Literal-clause-well

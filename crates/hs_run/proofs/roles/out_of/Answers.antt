@@ -1,4 +1,4 @@
-use Rattle.std.proofs.Common.{◌≡◌, ◌≤◌, ◌∙◌, sym, ap, subst, length, arith}
+use Rattle.std.proofs.Common.{◌≡◌, ◌≤◌, ◌∙◌, sym, ap, subst, length}
 use Rattle.std.proofs.lemmas.Option.{same_Some}
 use Rattle.hs_engine.specs.Engines.{TellsLeaves}
 use Rattle.hs_run.proofs.PieceLemmas.{bare-of, entered-of, engined-of, never-looks_back, bare-out, entered-out, engine-out}

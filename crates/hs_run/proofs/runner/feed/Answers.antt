@@ -1,8 +1,7 @@
-use Rattle.std.proofs.Common.{◌≡◌, ℕ, ◌+◌, ◌<◌, ◌≤◌, [], ◌∷◌, length, take, drop, get_or, sym, ap, subst, ◌∙◌, arith}
+use Rattle.std.proofs.Common.{◌≡◌, ℕ, ◌<◌, [], ◌∷◌, length, take, drop, get_or, sym, ap, subst, ◌∙◌, arith}
 use Rattle.std.proofs.lemmas.List.{take_more, take-append-drop}
 use Rattle.std.proofs.Math.Seq.{take-length}
 use Rattle.hs_base.specs.Lists.{Each}
-use Rattle.hs_base.specs.Regions.{region_offset}
 use Rattle.hs_base.proofs.ListLemmas.{each-left}
 use Rattle.hs_run.specs.Events.{Takes}
 use Rattle.hs_run.specs.Feeding.{Feeds}
@@ -14,6 +13,7 @@ pub loop-place-init : goal.loop-place-init
 loop-place-init g c = record {
   scratch = c.requires.scratch;
   region = c.requires.region;
+  header = λ old. old;
   offset = omega arith;
   taken = takes-none g.E.Engine.meaning c.args.program.now g.V.Events.tells c.args.events.now c.args.region.now;
 }
@@ -32,6 +32,7 @@ loop-place-preserved g c =
     record {
       scratch = byte.scratch;
       region = byte.region;
+      header = λ old. byte.header (inv.header old);
       offset = omega (arith, byte.offset, inv.offset);
       taken =
           subst (λ bs. Takes g.V.Events.tells c.args.events.now c.feed_byte.new.events (Feeds g.E.Engine.meaning c.args.program.now c.args.region.now c.feed_byte.new.region bs)) (sym (take_more bytes i 0 c.loop-place-test.true))
@@ -51,3 +52,6 @@ returns-clause-taken g c =
 pub returns-clause-alike : goal.returns-clause-alike
 returns-clause-alike g c =
     let taken = returns-clause-taken g c in feeds-alike g.E.Engine.meaning c.args.program.now c.args.region.now c.loop-place.region c.args.bytes.now taken.pairs taken.holds
+
+pub returns-clause-well : goal.returns-clause-well
+returns-clause-well g c old = record { fits = c.loop-place.invariant.region; header = c.loop-place.invariant.header old.header }

@@ -1,5 +1,5 @@
 use Rattle.std.proofs.Common.{◌≡◌, ◌+◌, take}
-use Rattle.hs_base.specs.Regions.{region_offset}
+use Rattle.hs_base.specs.Regions.{IsHeader, region_offset}
 use Rattle.hs_run.specs.Events.{Takes}
 use Rattle.hs_run.specs.Feeding.{Feeds, FitsRegion}
 use Rattle.hs_run.specs.Scratches.{FitsScratch}
@@ -9,6 +9,7 @@ abbrev pub invariant-loop-place : goal.invariant-loop-place
 invariant-loop-place g l = record {
   scratch : FitsScratch l.program l.scratch;
   region : FitsRegion g.E.Engine.meaning l.program l.layout l.region;
+  header : IsHeader l.layout.singles l.layout.identifiers l.fn.region → IsHeader l.layout.singles l.layout.identifiers l.region;
   offset : region_offset l.region ≡ region_offset l.fn.region + l.place;
   taken : Takes g.V.Events.tells l.fn.events l.events (Feeds g.E.Engine.meaning l.program l.fn.region l.region (take l.place l.bytes));
 }

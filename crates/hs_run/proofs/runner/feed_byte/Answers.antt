@@ -1,12 +1,11 @@
-use Rattle.std.proofs.Common.{◌≡◌, ℕ, ◌+◌, ◌≤◌, ◌<◌, [], ◌∷◌, ◌++◌, List, length, drop, refl, sym, ap, subst, ◌∙◌, arith, length-append, length-drop}
+use Rattle.std.proofs.Common.{◌≡◌, ◌+◌, length, refl, sym, ap, subst, ◌∙◌, arith}
 use Rattle.std.specs.Int.{to_le_bytes, w64}
-use Rattle.std.specs.Vec.{with_items}
 use Rattle.std.proofs.lemmas.List.{with_items_is}
-use Rattle.hs_base.specs.Regions.{fields_at, region_offset}
-use Rattle.hs_base.proofs.RegionLemmas.{range-size}
+use Rattle.hs_base.specs.Regions.{region_offset}
 use Rattle.hs_run.specs.Chains.{AreParts}
 use Rattle.hs_run.specs.Feeding.{SettlesBits}
-use Rattle.hs_run.proofs.FeedLemmas.{AreSteps, byte-feeds, parts-moved, size}
+use Rattle.hs_run.proofs.FeedLemmas.{byte-feeds, parts-moved, size}
+use Rattle.hs_run.proofs.HeaderLemmas.{header-moved}
 use Rattle.hs_run.proofs.LayoutLemmas.{apart}
 use Rattle.hs_run.proofs.PieceLemmas.{each-by}
 use Rattle.hs_run.proofs.SettledLemmas.{steps-of}
@@ -53,3 +52,13 @@ returns-clause-taken g c =
           (c.move_chains.ensures.ends ∙ (ap length c.deref_mut-2.ensures.value ∙ c.requires.scratch.ends)) steps c.set_history.ensures.reads c.set_offset.ensures.reads (each-by c.set_offset.new.region (λ i. (c.type_inv.region i).fits))
           (omega (arith, c.of-spot.ensures.at, c.requires.room));
     }
+
+pub returns-clause-header : goal.returns-clause-header
+returns-clause-header g c old =
+    let program = c.args.program.now in
+    let l = c.args.layout.now in
+    let settled = c.settle_bits.ensures.settled in
+    let steps = steps-of program l c.requires.layout c.args.region.now c.move_chains.new.region c.settle_bits.new.region c.set_history.new.region c.set_offset.new.region c.of-spot.result.history c.behind-behind.result.history (to_le_bytes w64 c.behind-behind.result.at) c.args.byte
+    c.requires.region.sized c.of-spot.ensures.history c.behind-behind.ensures.history c.move_chains.ensures.written c.settle_bits.ensures.len settled.holds.written.bytes c.set_history.ensures.written c.set_history.ensures.len c.set_offset.ensures.written c.set_offset.ensures.len refl in
+    header-moved l (length program.roles.items) c.args.region.now c.move_chains.new.region c.settle_bits.new.region c.set_history.new.region c.set_offset.new.region c.of-spot.result.history c.behind-behind.result.history (to_le_bytes w64 c.behind-behind.result.at) c.args.byte steps
+    c.of-spot.ensures.history c.behind-behind.ensures.history c.set_history.ensures.reads (c.set_offset.ensures.reads ∙ (c.behind-behind.ensures.at ∙ ap (λ n. n + 1) c.of-spot.ensures.at)) c.requires.room settled.holds.written old

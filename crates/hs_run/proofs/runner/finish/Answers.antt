@@ -1,14 +1,13 @@
-use Rattle.std.proofs.Common.{◌≡◌, ◌-◌, ◌++◌, ◌≤◌, length, sym, ap, subst, ◌∙◌, arith}
+use Rattle.std.proofs.Common.{◌≡◌, ◌-◌, ◌++◌, length, ap, subst, ◌∙◌, arith}
 use Rattle.std.specs.Vec.{with_items}
 use Rattle.std.proofs.lemmas.List.{with_items_is}
 use Rattle.hs_run.specs.Events.{Through}
-use Rattle.hs_run.specs.Keeping.{AreRead, HasBits}
+use Rattle.hs_run.specs.Keeping.{AreRead}
 use Rattle.hs_run.specs.Reporting.{pairs_at}
 use Rattle.hs_run.specs.declared.reporting.Moment.TheVariants.{BeforeLastByte, AtEnd}
 use Rattle.hs_run.proofs.EventLemmas.{through-join}
 use Rattle.hs_run.proofs.FeedLemmas.{end-finishes, finishes-alike}
 use Rattle.hs_run.proofs.LayoutLemmas.{apart}
-use Rattle.hs_run.proofs.PlanLayoutLemmas.{has-bits}
 use Rattle.hs_run.proofs.ReportingLemmas.{through-same}
 use Rattle.hs_run.proofs.runner.finish.Goals as goal
 

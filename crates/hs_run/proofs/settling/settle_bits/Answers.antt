@@ -1,4 +1,4 @@
-use Rattle.std.proofs.Common.{◌≡◌, ◌+◌, ◌++◌, length, refl, ◌∙◌}
+use Rattle.std.proofs.Common.{refl, ◌∙◌}
 use Rattle.hs_run.specs.Reporting.{pairs_about}
 use Rattle.hs_run.proofs.EventLemmas.{through-join}
 use Rattle.hs_run.proofs.settling.settle_bits.Goals as goal

@@ -1,6 +1,6 @@
-use Rattle.std.proofs.Common.{◌≡◌, [], ◌∷◌, ◌++◌, ◌+◌, ◌<◌, length, drop, ◌∙◌, sym, ap, arith}
+use Rattle.std.proofs.Common.{◌≡◌, [], ◌∷◌, ◌++◌, ◌<◌, length, drop, ◌∙◌, sym, ap, arith}
 use Rattle.hs_base.proofs.ListLemmas.{each-append}
-use Rattle.hs_run.proofs.SpotLemmas.{drop-first, history-push, history-size, length-push, prev-push}
+use Rattle.hs_run.proofs.SpotLemmas.{drop-first, history-push, length-push, prev-push}
 use Rattle.hs_run.proofs.spot.Spot.behind.Goals as goal
 
 pub returns-clause-history : goal.returns-clause-history

@@ -1,4 +1,4 @@
-use Rattle.std.proofs.Common.{◌≡◌, ◌∙◌, sym, ap, arith, length, get_or, ◌≤◌}
+use Rattle.std.proofs.Common.{◌≡◌, ◌∙◌, sym, ap, arith, length, get_or}
 use Rattle.hs_base.specs.Regions.{last_bytes}
 use Rattle.hs_base.proofs.RegionLemmas.{range-size}
 use Rattle.hs_run.specs.Spots.{prev_from}
