@@ -11,6 +11,7 @@ ghost use Rattle.hs_rose.specs.Views.{tables_of};
 
 use crate::builder::Builder;
 use crate::engine::PieceEngine;
+use crate::identifiers::{Identifier, identifiers_of, ids_of, place_of};
 use crate::info::EntryInfo;
 use crate::literals::roles_of_literals;
 use crate::making::Made;
@@ -37,21 +38,29 @@ impl Program {
         for (k, entry) in entries.iter().enumerate() {
             builder.add_entry(alloc, (k + 1) as u32, entry, &chains[k])?;
         }
-        let infos = infos_of(alloc, entries)?;
-        finish(alloc, infos, builder)
+        let ids = ids_of(alloc, entries)?;
+        let infos = infos_of(alloc, entries, &ids)?;
+        let identifiers = identifiers_of(alloc, entries, &ids)?;
+        finish(alloc, infos, identifiers, builder)
     }
 }
 
 /// The program of what is built.
-fn finish(alloc: Global, infos: Vec<EntryInfo>, builder: Builder) -> Result<Program, AllocError>
+fn finish(
+    alloc: Global,
+    infos: Vec<EntryInfo>,
+    identifiers: Vec<Identifier>,
+    builder: Builder,
+) -> Result<Program, AllocError>
     requires { AreNumbered builder }
-    ensures { IfOk result (λ program. IsFinished infos.items builder program) }
+    ensures { IfOk result (λ program. IsFinished infos.items identifiers.items builder program) }
 {
     let count = builder.literals.len();
     let literal_roles = roles_of_literals(alloc, &builder.roles, count)?;
     let engines = engines_of(alloc, builder.made)?;
     Ok(Program::new(
         infos,
+        identifiers,
         builder.chains,
         builder.roles,
         builder.literals,
@@ -61,8 +70,8 @@ fn finish(alloc: Global, infos: Vec<EntryInfo>, builder: Builder) -> Result<Prog
 }
 
 /// What is asked of each entry.
-fn infos_of(alloc: Global, entries: &[Entry]) -> Result<Vec<EntryInfo>, AllocError>
-    ensures { IfOk result (λ infos. AllZip IsInfoOf infos.items (map asked_of entries.now)) }
+fn infos_of(alloc: Global, entries: &[Entry], ids: &[u32]) -> Result<Vec<EntryInfo>, AllocError>
+    ensures { IfOk result (λ infos. AllZip (IsInfoOf ids.now) infos.items (map asked_of entries.now)) }
 {
     let mut infos = Vec::with_capacity(alloc, entries.len())?;
     for entry in entries {
@@ -71,6 +80,7 @@ fn infos_of(alloc: Global, entries: &[Entry]) -> Result<Vec<EntryInfo>, AllocErr
             max_offset: entry.ext.max_offset,
             id: entry.id,
             flags: entry.flags,
+            identifier: place_of(ids, entry.id.0) as u32,
         })?;
     }
     Ok(infos)

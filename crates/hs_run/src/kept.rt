@@ -3,10 +3,10 @@
 ghost use Rattle.std.specs.Prelude.{◌≡◌, ℕ, ◌+◌, ◌<◌, ◌≤◌, ◌^◌, [], true, length};
 ghost use Rattle.hs_layout.specs.Layouts.{laid_size};
 ghost use Rattle.hs_run.specs.Keeping.{AreBitsWritten, AreRead, HasBits, IsOneWritten, IsRead};
-ghost use Rattle.hs_run.specs.Programs.{with_single};
+ghost use Rattle.hs_rose.specs.Identifiers.{with_single};
 
-use crate::program::Identifier;
 use hs_layout::Layout;
+use hs_rose::Identifier;
 
 /// What is kept of an identifier.
 #[derive(Clone, Copy, Debug, PartialEq, Eq)]
