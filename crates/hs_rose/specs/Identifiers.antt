@@ -1,6 +1,7 @@
 -- The identifiers of a list.
 use Rattle.std.specs.Prelude.{◌≡◌, ◌↔◌, ◌==◌, ◌||◌, ℕ, Bool, true, false, not, bit_and, List, [], ◌∷◌, map, Some, slice_get}
-use Rattle.std.specs.List.{list_all}
+use Rattle.std.specs.List.{list_all, list_any}
+use Rattle.hs_base.specs.declared.ext.Entry.{Entry}
 use Rattle.hs_base.specs.Lists.{IsMember, OneOf}
 use Rattle.hs_base.specs.Settling.{AreRising}
 use Rattle.hs_rose.specs.declared.identifiers.Identifier.{Identifier}
@@ -26,6 +27,23 @@ with_single false x xs = xs
 abbrev pub singles_of : List Identifier → List Identifier
 singles_of [] = []
 singles_of (x ∷ xs) = with_single x.single x (singles_of xs)
+
+-- the number is one of these
+abbrev pub has_id : List ℕ → ℕ → Bool
+has_id ids id = list_any (λ n. n == id) ids
+
+-- the number of an entry's identifier
+abbrev pub entry_id : Entry → ℕ
+entry_id e = e.id.0
+
+-- the identifier of a number, single where that is none of the others
+abbrev pub identifier_for : List ℕ → ℕ → Identifier
+identifier_for many id = record { id = record { 0 = id }; single = not (has_id many id) }
+
+-- Those are the identifiers of these numbers, single where each of the entries with the number asks for it.
+pub record AreIdentifiersFor (ids : List ℕ) (entries : List Asked) (identifiers : List Identifier) : Type 0 where
+  pub ids_are : ids_of identifiers ≡ ids
+  pub single : (k : ℕ) (x : Identifier) → slice_get identifiers k ≡ Some x → x.single ≡ is_single_of entries x.id.0
 
 -- The identifiers are those of the entries, each once, rising, and single where each of their entries asks for it.
 pub record AreIdentifiersOf (identifiers : List Identifier) (entries : List Asked) : Type 0 where

@@ -1,9 +1,11 @@
 //! The program of a list, from its entries and chains.
 
-ghost use Rattle.std.specs.Prelude.{◌≡◌, ◌^◌, ◌<◌, IfOk, length, map};
+ghost use Rattle.std.specs.Prelude.{◌≡◌, ℕ, ◌^◌, ◌<◌, IfOk, length, map};
+ghost use Rattle.std.specs.List.Sorted.{IsStrictlyIncreasing};
 ghost use Rattle.std.specs.List.{AllZip};
 ghost use Rattle.hs_base.specs.Lists.{Each};
 ghost use Rattle.hs_rose.specs.Finishing.{AreNumbered, IsFinished, engine_made};
+ghost use Rattle.hs_rose.specs.Identifiers.{entry_id, has_id};
 ghost use Rattle.hs_rose.specs.Listing.{asked_of, plain_chains};
 ghost use Rattle.hs_rose.specs.Programs.{IsInfoOf, IsProgramOf};
 ghost use Rattle.hs_rose.specs.Runnable.{AreRunnable};
@@ -71,6 +73,9 @@ fn finish(
 
 /// What is asked of each entry.
 fn infos_of(alloc: Global, entries: &[Entry], ids: &[u32]) -> Result<Vec<EntryInfo>, AllocError>
+    requires rises { IsStrictlyIncreasing ids.now }
+    requires known { (id : ℕ) → has_id ids.now id ≡ has_id (map entry_id entries.now) id }
+    requires few { length ids.now < 2 ^ 32 }
     ensures { IfOk result (λ infos. AllZip (IsInfoOf ids.now) infos.items (map asked_of entries.now)) }
 {
     let mut infos = Vec::with_capacity(alloc, entries.len())?;
