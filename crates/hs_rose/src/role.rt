@@ -81,6 +81,13 @@ impl Role {
         self.field_size as usize
     }
 
+    /// The number of the piece among the program's literals, or that of its engine among the engines.
+    pub fn number(&self) -> usize
+        ensures { result ≡ self.now.number }
+    {
+        self.number
+    }
+
     /// The number of the piece among the program's literals, if it is one.
     pub fn literal(&self) -> Option<usize>
         ensures { result ≡ literal_of self.now }
