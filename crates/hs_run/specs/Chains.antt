@@ -7,7 +7,6 @@ use Rattle.hs_base.specs.ContextSets.{has_next}
 use Rattle.hs_base.specs.KeptPieces.{IsKeptAs}
 use Rattle.hs_base.specs.Leaving.{TellsLeaving}
 use Rattle.hs_base.specs.Regions.{Place, Plan, fields_at, list_places, place_form}
-use Rattle.hs_engine.specs.Engines.{Meaning}
 use Rattle.hs_layout.specs.Layouts.{Laid, field_bytes}
 use Rattle.hs_run.specs.Pieces.{IsPart}
 use Rattle.hs_run.specs.Programs.{Row, RunsRow, looked}

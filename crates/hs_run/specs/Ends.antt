@@ -11,7 +11,6 @@ use Rattle.hs_base.specs.Lists.{OneOf}
 use Rattle.hs_base.specs.Patterns.{Pattern}
 use Rattle.hs_base.specs.Regions.{Plan}
 use Rattle.hs_base.specs.Settling.{Ends, AreEnds, HasEndHere}
-use Rattle.hs_engine.specs.Engines.{Meaning}
 use Rattle.hs_layout.specs.Layouts.{Laid}
 use Rattle.hs_run.specs.Chains.{AreKept}
 use Rattle.hs_run.specs.Programs.{Row, RunsRow, RunsPlan}

@@ -3,7 +3,6 @@ use Rattle.std.specs.Prelude.{◌≡◌, ℕ, ◌<◌, List, ◌++◌, length}
 use Rattle.hs_base.specs.Lists.{Each}
 use Rattle.hs_base.specs.Regions.{Plan, IsHeader, IsRegion, region_offset}
 use Rattle.hs_base.specs.Told.{Pair, IsTold, IsNew, IsLast}
-use Rattle.hs_engine.specs.Engines.{Meaning}
 use Rattle.hs_layout.specs.Layouts.{Laid, laid_size}
 use Rattle.hs_run.specs.Chains.{AreParts}
 use Rattle.hs_run.specs.Keeping.{AreBitsWritten, AreRead}

@@ -1,6 +1,6 @@
 -- Which program runs the patterns of a plan.
-use Rattle.std.specs.Prelude.{◌≡◌, ◌⊎◌, ℕ, suc, ◌+◌, ◌^◌, ◌<◌, ◌≤◌, Bool}
-use Rattle.std.specs.Prelude.{true, false, List, [], ◌∷◌, length, map, flat_map, take}
+use Rattle.std.specs.Prelude.{◌≡◌, ◌⊎◌, ℕ, suc, ◌+◌, ◌-◌, ◌^◌, ◌<◌, ◌≤◌, Bool}
+use Rattle.std.specs.Prelude.{true, false, List, ◌∷◌, length, map, flat_map, take}
 use Rattle.std.specs.Prelude.{Some, slice_get}
 use Rattle.hs_base.specs.Chains.{Piece, lit, nfa, chains_of, IsFitChain}
 use Rattle.hs_base.specs.Leaving.{IsAtMostWide}
@@ -9,7 +9,6 @@ use Rattle.hs_base.specs.Lists.{Each}
 use Rattle.hs_base.specs.Patterns.{Pattern, is_single}
 use Rattle.hs_base.specs.Regions.{Place, Plan, IsPlan, list_places, place_size}
 use Rattle.hs_base.specs.Trees.{Tree}
-use Rattle.hs_engine.specs.Engines.{Meaning}
 use Rattle.hs_layout.specs.Layouts.{Laid, laid_size, layout_of}
 use Rattle.hs_run.specs.Pieces.{IsRoleNull, IsRoleOf, IsSound}
 use Rattle.hs_rose.specs.declared.info.ChainInfo.{ChainInfo}
@@ -143,6 +142,7 @@ module _ (program : Tables) where
   pub record IsChainSound (c : ChainInfo) : Type 0 where
     pub order : c.first ≤ c.end
     pub within : c.end ≤ length program.roles
+    pub small : c.end < 2 ^ 64
     pub numbered : 1 ≤ c.entry
     pub entry : c.entry ≤ length program.entries
     pub identifier : (info : EntryInfo) → slice_get program.entries (c.entry - 1) ≡ Some info →

@@ -17,7 +17,8 @@ use std::sync::ledger::Ledger;
 /// The role of that number.
 pub(crate) fn role_at(program: &Program, k: usize) -> &Role
     requires there { k < length program.now.roles }
-    ensures { slice_get program.now.roles k ≡ Some result.now }
+    ensures is { slice_get program.now.roles k ≡ Some result.now }
+    ensures small { k + 1 < 2 ^ 64 }
 {
     &program.roles()[k]
 }

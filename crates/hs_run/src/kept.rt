@@ -29,7 +29,7 @@ impl Kept {
 }
 
 /// How many single identifiers come up to that one, if so many come before it.
-fn singles_up_to(identifier: Identifier, before: usize) -> usize
+pub(crate) fn singles_up_to(identifier: Identifier, before: usize) -> usize
     requires room { before < 2 ^ 32 }
     ensures { result ≡ before + length (with_single identifier.single identifier []) }
 {

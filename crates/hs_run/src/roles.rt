@@ -112,9 +112,7 @@ fn move_part<L: Ledger>(
             literal_of(role, program).len(),
             now.contains(Next::class_of(byte)),
         ),
-        Way::Engine => {
-            engine_of(role, program).step(part, spot.prev, spot.at, now, byte, steps)
-        }
+        Way::Engine => { engine_of(role, program).step(part, spot.prev, spot.at, now, byte, steps) }
     }
 }
 
