@@ -1,4 +1,5 @@
 pub mod Spots
+pub mod Ways
 pub mod Pieces
 pub mod Programs
 pub mod Looking

@@ -12,17 +12,16 @@ mod kept;
 mod literals;
 mod look_back;
 mod moving;
-mod program;
 mod reporting;
 mod roles;
 mod runner;
 mod scratch;
 mod settling;
 mod spot;
+mod way;
 
 pub use checking::well_formed;
 pub use collected::Collected;
 pub use events::Events;
-pub use program::{Chain, Identifier, Kind, Literal, Program, Role};
 pub use runner::{feed, finish};
 pub use scratch::Scratch;
