@@ -119,7 +119,7 @@ places-length looks_back front (a ∷ rest) = ap suc (places-length looks_back (
 abbrev pub places_of_chain : ListedChain → List Place
 places_of_chain x = places_behind (begins_with_look_back x.pieces) [] x.pieces
 
-pieces-length : (x : ListedChain) → length (pieces_of x) ≡ length x.pieces
+pub pieces-length : (x : ListedChain) → length (pieces_of x) ≡ length x.pieces
 pieces-length x = length-map (places_of_chain x) (listed_piece x) ∙ places-length (begins_with_look_back x.pieces) [] x.pieces
 
 -- one more piece of a chain of which so many are there

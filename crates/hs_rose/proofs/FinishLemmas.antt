@@ -1,5 +1,5 @@
 -- What is built is the program of the list.
-use Rattle.std.proofs.Common.{◌≡◌, ℕ, zero, suc, ◌<◌, Bool, true, false, List, [], ◌∷◌, ◌++◌, length, map, slice_get, Option, Some, None, Result, Ok, Err, refl, sym, ap, subst, ◌∙◌, arith}
+use Rattle.std.proofs.Common.{◌≡◌, ℕ, zero, suc, ◌<◌, ◌^◌, Bool, true, false, List, [], ◌∷◌, ◌++◌, length, map, slice_get, Option, Some, None, Result, Ok, Err, refl, sym, ap, subst, ◌∙◌, arith}
 use Rattle.std.specs.Prelude.{IfOk}
 use Rattle.std.specs.List.{AllZip}
 use Rattle.std.proofs.lemmas.List.{append-nil, length-map}
@@ -25,6 +25,7 @@ use Rattle.hs_rose.specs.Listing.{Asked, ListedChain, ListedPiece, listed_chains
 use Rattle.hs_rose.specs.Made.{IsMade, IsNullMask, model_of}
 use Rattle.hs_rose.specs.Numbering.{AreApart}
 use Rattle.hs_rose.specs.PieceEngines.{IsEngineOf}
+use Rattle.hs_rose.specs.Runnable.{AreRunnable}
 use Rattle.hs_rose.specs.Programs.{Tables, AreChainsOf, AreRolesOfLiterals, IsInfoOf, IsProgramOf, IsRoleOf, engine_of, literal_of}
 use Rattle.hs_rose.proofs.ListLemmas.{zip-left, zip-map}
 
@@ -135,13 +136,16 @@ made-runs (m ∷ made) each = (each.0.engine_is, made-runs made each.1)
 
 -- and it is the program of the list
 pub program-built : (b : Builder) (infos : List EntryInfo) (identifiers : List Identifier) (t : Tables) (entries : List Asked) (chains : List (List (List Piece))) → IsBuilt b (listed_chains entries chains) [] → AllZip (IsInfoOf (ids_of identifiers)) infos entries →
-    AreIdentifiersOf identifiers entries → IsFinished infos identifiers b t → IsProgramOf t entries chains
-program-built b infos identifiers t entries chains built about named is =
+    AreIdentifiersOf identifiers entries → length entries < 2 ^ 32 → Each AreRunnable chains → IsFinished infos identifiers b t → IsProgramOf t entries chains
+program-built b infos identifiers t entries chains built about named few runnable is =
     let all = listed_pieces (listed_chains entries chains) in
     let roles : AllZip (IsRoleOf (literals_of b) (models_of b)) b.roles.items all = subst (λ ps. AllZip (IsRoleOf (literals_of b) (models_of b)) b.roles.items ps) (append-nil all) built.roles in
     let engines : AllZip IsEngineOf (map engine_made b.made.items) (models_of b) = zip-map IsEngineOf engine_made model_of b.made.items (made-runs b.made.items built.sound.made) in
     record {
       models = models_of b;
+      few_entries = few;
+      few_roles = omega (arith, ap length is.roles, b.roles.ok.0);
+      runnable = runnable;
       infos = subst (λ xs. AllZip (IsInfoOf (ids_of xs)) t.entries entries) (sym is.identifiers_are)
           (subst (λ es. AllZip (IsInfoOf (ids_of identifiers)) es entries) (sym is.entries) about);
       identifiers = subst (λ xs. AreIdentifiersOf xs entries) (sym is.identifiers_are) named;

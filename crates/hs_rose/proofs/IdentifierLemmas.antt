@@ -1,7 +1,8 @@
 -- The identifiers of a list, by their numbers.
-use Rattle.std.proofs.Common.{◌≡◌, ℕ, zero, suc, Bool, true, false, not, ◌||◌, ◌&&◌, ◌==◌, cond, List, [], ◌∷◌, map, filter, slice_get, Some, refl, sym, ap, subst, ◌∙◌, inl, inr}
+use Rattle.std.proofs.Common.{◌≡◌, ℕ, zero, suc, ◌≤◌, Bool, true, false, not, ◌||◌, ◌&&◌, ◌==◌, cond, List, [], ◌∷◌, length, map, filter, slice_get, Some, refl, sym, ap, subst, ◌∙◌, inl, inr, arith}
 use Rattle.std.specs.List.Sorted.{IsStrictlyIncreasing}
 use Rattle.std.proofs.lemmas.Bool.{eqb-true, eq-eqb, or_cases, false≢true}
+use Rattle.std.proofs.lemmas.List.{length-map}
 use Rattle.hs_base.specs.declared.ext.Entry.{Entry}
 use Rattle.hs_base.specs.Lists.{IsMember, OneOf}
 use Rattle.hs_base.specs.Settling.{AreRising}
@@ -85,9 +86,10 @@ member-has_id (x ∷ ids) id (inl here) = or-first (x == id) (has_id ids id) (eq
 member-has_id (x ∷ ids) id (inr there) = or-second (x == id) (has_id ids id) (member-has_id ids id there)
 
 -- they are those of the list
-pub identifiers-of : (entries : List Entry) (ids : List ℕ) (identifiers : List Identifier) → IsStrictlyIncreasing ids → ((id : ℕ) → has_id ids id ≡ has_id (map entry_id entries) id) → AreIdentifiersFor ids (map asked_of entries) identifiers →
+pub identifiers-of : (entries : List Entry) (ids : List ℕ) (identifiers : List Identifier) → IsStrictlyIncreasing ids → ((id : ℕ) → has_id ids id ≡ has_id (map entry_id entries) id) → length ids ≤ length entries → AreIdentifiersFor ids (map asked_of entries) identifiers →
     AreIdentifiersOf identifiers (map asked_of entries)
-identifiers-of entries ids identifiers rises same is = record {
+identifiers-of entries ids identifiers rises same few is = record {
+  few = omega (arith, few, ap length is.ids_are, length-map identifiers (λ (x : Identifier). x.id.0), length-map entries asked_of);
   rising = subst (λ xs. AreRising xs) (sym is.ids_are) (rising-from_increasing ids rises);
   named = λ id. (
     λ (m : IsMember id (ids_of identifiers)). one-named entries id (sym (same id) ∙ member-has_id ids id (subst (λ xs. IsMember id xs) is.ids_are m)),

@@ -8,4 +8,5 @@ pub mod BuildLemmas
 pub mod RoleListLemmas
 pub mod IdentifierLemmas
 pub mod FinishLemmas
+pub mod ListedLemmas
 pub mod LawLemmas

@@ -1,5 +1,5 @@
 -- The identifiers of a list.
-use Rattle.std.specs.Prelude.{◌≡◌, ◌↔◌, ◌==◌, ◌||◌, ℕ, Bool, true, false, not, bit_and, List, [], ◌∷◌, map, Some, slice_get}
+use Rattle.std.specs.Prelude.{◌≡◌, ◌↔◌, ◌≤◌, ◌==◌, ◌||◌, ℕ, Bool, true, false, not, bit_and, List, [], ◌∷◌, length, map, Some, slice_get}
 use Rattle.std.specs.List.{list_all, list_any}
 use Rattle.hs_base.specs.declared.ext.Entry.{Entry}
 use Rattle.hs_base.specs.Lists.{IsMember, OneOf}
@@ -47,6 +47,7 @@ pub record AreIdentifiersFor (ids : List ℕ) (entries : List Asked) (identifier
 
 -- The identifiers are those of the entries, each once, rising, and single where each of their entries asks for it.
 pub record AreIdentifiersOf (identifiers : List Identifier) (entries : List Asked) : Type 0 where
+  pub few : length identifiers ≤ length entries
   pub rising : AreRising (ids_of identifiers)
   pub named : (id : ℕ) → IsMember id (ids_of identifiers) ↔ OneOf (λ asked. asked.id ≡ id) entries
   pub single : (k : ℕ) (x : Identifier) → slice_get identifiers k ≡ Some x → x.single ≡ is_single_of entries x.id.0

@@ -1,5 +1,5 @@
 -- Which program is that of a list.
-use Rattle.std.specs.Prelude.{◌≡◌, ℕ, suc, ◌+◌, ◌==◌, ◌<◌, Bool, false, List, [], ◌∷◌, length, Option, Some, None}
+use Rattle.std.specs.Prelude.{◌≡◌, ℕ, suc, ◌+◌, ◌==◌, ◌<◌, ◌^◌, Bool, false, List, [], ◌∷◌, length, Option, Some, None}
 use Rattle.std.specs.Prelude.{slice_get, cond}
 use Rattle.std.specs.List.{AllZip}
 use Rattle.hs_base.specs.declared.context.Mask.{Mask}
@@ -20,6 +20,8 @@ use Rattle.hs_rose.specs.Listing.{Asked, ListedChain, ListedPiece, listed_chains
 use Rattle.hs_rose.specs.Made.{IsNullMask}
 use Rattle.hs_rose.specs.Numbering.{AreApart}
 use Rattle.hs_rose.specs.PieceEngines.{IsEngineOf}
+use Rattle.hs_rose.specs.Runnable.{AreRunnable}
+use Rattle.hs_base.specs.Lists.{Each}
 
 -- What a program has: what is asked of each entry; the identifiers; the chains; a role for each piece; the literals and engines that
 -- roles name by number, each once; and for each literal its roles.
@@ -123,6 +125,9 @@ pub record IsWhole (t : Tables) : Type 0 where
 -- and equal pieces have one engine.
 pub record IsProgramOf (t : Tables) (entries : List Asked) (chains : List (List (List Piece))) : Type 0 where
   pub models : List Piece
+  pub few_entries : length entries < 2 ^ 32
+  pub few_roles : length t.roles < 2 ^ 64
+  pub runnable : Each AreRunnable chains
   pub infos : AllZip (IsInfoOf (ids_of t.identifiers)) t.entries entries
   pub identifiers : AreIdentifiersOf t.identifiers entries
   pub chains_are : AreChainsOf 0 t.chains (listed_chains entries chains)

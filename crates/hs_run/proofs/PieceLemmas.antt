@@ -85,7 +85,7 @@ module _ (program : Tables) (r : Role) (p : Place) where
 abbrev lit_trees : List LiteralByte → Trees
 lit_trees xs = trees_of (map (λ x. tree.class (literal_set x)) xs)
 
-lit-width : (w : List ℕ) (ended : Bool) (xs : List LiteralByte) (i j : ℕ) → CatSpans w ended (lit_trees xs) i j → i + length xs ≡ j
+pub lit-width : (w : List ℕ) (ended : Bool) (xs : List LiteralByte) (i j : ℕ) → CatSpans w ended (lit_trees xs) i j → i + length xs ≡ j
 lit-width w ended [] i j span = omega (arith, span)
 lit-width w ended (x ∷ xs) i j (m, one, rest) =
     let e : m ≡ i + 1 = one.1 in

@@ -11,3 +11,4 @@ pub mod Keeping
 pub mod Reporting
 pub mod Feeding
 pub mod Scratches
+pub mod JoinLaws

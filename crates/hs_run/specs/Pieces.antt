@@ -1,6 +1,6 @@
 -- What runs a piece of a chain, and what it tells.
 use Rattle.std.specs.Prelude.{◌≡◌, ◌↔◌, ℕ, ◌≤◌, Bool, true, false, ◌&&◌, List, []}
-use Rattle.std.specs.Prelude.{◌∷◌, ◌++◌, length, Some, slice_get}
+use Rattle.std.specs.Prelude.{◌∷◌, ◌++◌, length, replicate, Some, slice_get}
 use Rattle.hs_base.specs.declared.context.Mask.{Mask}
 use Rattle.hs_base.specs.declared.context.Next.{Next}
 use Rattle.hs_base.specs.declared.context.NextSet.{NextSet}
@@ -91,11 +91,12 @@ module _ (program : Tables) where
     pub alone : IsAlone r p
     pub null : IsRoleNull r.null (piece_tree p.piece)
 
-  -- the number is that of an engine whose regions have that size
+  -- the number is that of an engine whose regions have that size, and may begin with zeros
   pub record IsEngineSound (k size : ℕ) : Type 0 where
     pub value : PieceEngine
     pub there : slice_get program.engines k ≡ Some value
     pub wide : (piece_meaning value).width ≡ size
+    pub begins : (piece_meaning value).well (replicate size 0) 0
 
   -- the number is that of a literal
   pub record IsLiteralSound (k : ℕ) : Type 0 where

@@ -9,6 +9,7 @@ mod ends;
 mod events;
 mod fields;
 mod kept;
+pub mod laws;
 mod literals;
 mod look_back;
 mod moving;

@@ -60,5 +60,5 @@ returns c =
     (λ program is. program-built c.loop-k.builder c.in_ok-infos.infos.items c.in_ok-identifiers.identifiers.items program es css
     (list-built c.loop-k.builder es css c.loop-k.k (omega (arith, length-map c.args.entries.now asked_of)) (omega (arith, length-map c.args.entries.now asked_of, length-map c.args.chains.now plain_chains, c.requires.whole)) c.loop-k.invariant)
     (subst (λ ids. AllZip (IsInfoOf ids) c.in_ok-infos.infos.items es) (c.deref-2.ensures.value ∙ sym made.ids_are) c.in_ok-infos.ensures)
-    (identifiers-of c.args.entries.now c.in_ok-ids.ids.items c.in_ok-identifiers.identifiers.items c.in_ok-ids.ensures.rises c.in_ok-ids.ensures.same made) is)
+    (identifiers-of c.args.entries.now c.in_ok-ids.ids.items c.in_ok-identifiers.identifiers.items c.in_ok-ids.ensures.rises c.in_ok-ids.ensures.same c.in_ok-ids.ensures.few made) (omega (arith, c.requires.few, length-map c.args.entries.now asked_of)) c.requires.runnable is)
     c.finish.ensures
