@@ -23,3 +23,4 @@ pub mod HeaderLemmas
 pub mod RoleLemmas
 pub mod JoinLemmas
 pub mod PlanLemmas
+pub mod LayingLemmas
