@@ -1,25 +1,24 @@
 -- The size of a program's regions, and the region of the empty stream.
-use Rattle.std.proofs.Common.{◌≡◌, ℕ, zero, suc, ◌+◌, ◌-◌, ◌*◌, ◌<◌, ◌≤◌, Bool, true, false, List, [], ◌∷◌, length, map, take, drop, replicate, get_or, Some, slice_get, refl, sym, ap, subst, ◌∙◌, inl, inr, arith}
+use Rattle.std.proofs.Common.{◌≡◌, ℕ, ◌+◌, ◌-◌, ◌<◌, ◌≤◌, false, List, [], length, take, replicate, get_or, Some, slice_get, sym, ap, subst, ◌∙◌, inl, inr, arith}
 use Rattle.std.specs.Prelude.{slice_index, slice_range}
 use Rattle.std.proofs.lemmas.Bool.{cases_lt}
 use Rattle.std.proofs.lemmas.List.{get_or-replicate, get_or-take, get_or_past, length-map, length-replicate, length-take-le}
 use Rattle.std.proofs.lemmas.Grind.{same_number_lists}
 use Rattle.hs_base.specs.Bits.{AreZero, has_bit}
-use Rattle.hs_base.specs.Regions.{Plan, AreSpare, HasNoEarlyByte, IsHeader, IsRegion, fields_at, field_starts, history_at, plan_size, region_offset, sums_from}
+use Rattle.hs_base.specs.Regions.{IsHeader, IsRegion, fields_at, history_at, plan_size, region_offset, sums_from}
 use Rattle.hs_base.proofs.BitLemmas.{zero-all, zero-bits}
 use Rattle.hs_base.proofs.RegionLemmas.{get-range, range-size}
 use Rattle.hs_base.proofs.RegionStartLemmas.{regions-begin}
 use Rattle.hs_base.proofs.SumLemmas.{sums-above, sums-size}
-use Rattle.hs_layout.specs.Layouts.{Laid, field_bytes, laid_size}
+use Rattle.hs_layout.specs.Layouts.{field_bytes, laid_size}
 use Rattle.hs_rose.specs.declared.engine.PieceEngine.{PieceEngine}
 use Rattle.hs_rose.specs.declared.role.Role.{Role}
 use Rattle.hs_rose.specs.Identifiers.{singles_of}
 use Rattle.hs_rose.specs.PieceEngines.{piece_meaning}
 use Rattle.hs_rose.specs.Programs.{Tables}
 use Rattle.hs_run.specs.Clearing.{AreEmptyRegions, AreWellRegions}
-use Rattle.hs_run.specs.Feeding.{IsWellRegion}
 use Rattle.hs_run.specs.Pieces.{IsPart, IsSound}
-use Rattle.hs_run.specs.Programs.{FitsLayout, IsRunnable, RunsPlan, program_layout, sizes_of}
+use Rattle.hs_run.specs.Programs.{program_layout, sizes_of}
 use Rattle.hs_run.proofs.LayoutLemmas.{apart, field-next, starts-count}
 use Rattle.hs_run.proofs.PlanLayoutLemmas.{plan-laid, plan-size}
 use Rattle.std.proofs.lemmas.Option.{get_or_from_slice_get, same_Some, slice_get_within}

@@ -24,3 +24,4 @@ pub mod RoleLemmas
 pub mod JoinLemmas
 pub mod PlanLemmas
 pub mod LayingLemmas
+pub mod WellLemmas

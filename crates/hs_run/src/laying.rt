@@ -75,12 +75,7 @@ pub fn lay_out(alloc: Global, program: &Program) -> Result<Layout, AllocError>
 {
     let sizes = field_sizes(alloc, program.roles())?;
     let identifiers = program.identifiers();
-    Layout::new(
-        alloc,
-        count_singles(identifiers),
-        identifiers.len(),
-        &sizes,
-    )
+    Layout::new(alloc, count_singles(identifiers), identifiers.len(), &sizes)
 }
 
 /// Makes the region that of the empty stream.

@@ -1,9 +1,6 @@
-use Rattle.std.proofs.Common.{◌≡◌, ℕ, get_or, length, Some, slice_get, ap, arith}
-use Rattle.std.proofs.Math.Seq.{take-length}
+use Rattle.std.proofs.Common.{◌≡◌, get_or, Some, slice_get, arith}
 use Rattle.std.proofs.lemmas.Option.{slice_get-get_or}
 use Rattle.hs_rose.specs.declared.identifiers.Identifier.{Identifier}
-use Rattle.hs_rose.specs.Identifiers.{singles_of}
-use Rattle.hs_run.specs.Keeping.{singles_before}
 use Rattle.hs_run.proofs.KeepingLemmas.{singles-few, singles-next}
 use Rattle.hs_run.proofs.ReportingLemmas.{no_identifier}
 use Rattle.hs_run.proofs.laying.count_singles.Goals as goal
