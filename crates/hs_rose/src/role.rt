@@ -1,6 +1,6 @@
 //! The role of one piece.
 
-ghost use Rattle.std.specs.Prelude.{◌≡◌};
+ghost use Rattle.std.specs.Prelude.{◌≡◌, ◌^◌, ◌<◌};
 
 use crate::kind::Kind;
 use hs_base::{ExprId, Mask};
@@ -76,7 +76,8 @@ impl Role {
 
     /// The length in bytes of what is kept of the piece.
     pub fn field_size(&self) -> usize
-        ensures { result ≡ self.now.field_size }
+        ensures is { result ≡ self.now.field_size }
+        ensures small { result < 2 ^ 16 }
     {
         self.field_size as usize
     }

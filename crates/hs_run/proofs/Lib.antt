@@ -23,3 +23,5 @@ pub mod HeaderLemmas
 pub mod RoleLemmas
 pub mod JoinLemmas
 pub mod PlanLemmas
+pub mod LayingLemmas
+pub mod WellLemmas

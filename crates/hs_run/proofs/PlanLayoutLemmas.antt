@@ -44,7 +44,7 @@ starts-count : (plan : Plan) → length (plan_starts plan) ≡ suc (length (list
 starts-count plan =
     sums-size (fields_at (length plan.singles) (length plan.identifiers)) (map place_size (list_places plan)) ∙ ap suc (length-map (list_places plan) place_size)
 
-placed : (plan : Plan) (k : ℕ) (p : Place) → slice_get (list_places plan) k ≡ Some p → IsPlaced plan k p (slice_index (plan_starts plan) k) (slice_index (plan_starts plan) (k + 1))
+pub placed : (plan : Plan) (k : ℕ) (p : Place) → slice_get (list_places plan) k ≡ Some p → IsPlaced plan k p (slice_index (plan_starts plan) k) (slice_index (plan_starts plan) (k + 1))
 placed plan k p place =
     let below : k < length (list_places plan) = slice_get_within (list_places plan) k p place in
     let e : suc k ≡ k + 1 = omega arith in

@@ -9,7 +9,7 @@ use Rattle.hs_base.specs.Chains.{Piece, nfa, chains_of, IsFitChain}
 use Rattle.hs_base.specs.LeavingLaws.{HasSpansOfChains}
 use Rattle.hs_base.specs.Lists.{Each, IsMember, OneOf}
 use Rattle.hs_base.specs.Patterns.{Pattern, is_single}
-use Rattle.hs_base.specs.Regions.{Plan, IsPlan, list_places}
+use Rattle.hs_base.specs.Regions.{Plan, IsPlan, list_places, place_size}
 use Rattle.hs_base.specs.Settling.{AreRising}
 use Rattle.hs_pieces.specs.LookBack.{begins_with_look_back}
 use Rattle.hs_pieces.proofs.FitLemmas.{chains-fit}
@@ -25,7 +25,7 @@ use Rattle.hs_rose.proofs.ListLemmas.{each-get, get-map, map-get, zip-get, zip-l
 use Rattle.hs_rose.proofs.ListedLemmas.{chains-count, each-append, piece_of}
 use Rattle.hs_run.specs.JoinLaws.{AsksFor, IsFitPattern, plan_of}
 use Rattle.hs_run.specs.Pieces as run
-use Rattle.hs_run.specs.Programs.{Row, RunsRow, RunsPlan, LooksBack, looked, plan_rows, row_place, rows_of}
+use Rattle.hs_run.specs.Programs.{Row, RunsRow, RunsPlan, LooksBack, looked, plan_rows, row_place, rows_of, sizes_of}
 use Rattle.hs_run.proofs.JoinLemmas.{HasChain, all_pieces, first-role, first-way, has-chain, has-info, has-role, listed, narrow-tree, pair, second-role}
 use Rattle.hs_run.proofs.RoleLemmas.{named-engine, role-alone}
 
@@ -145,6 +145,14 @@ all-spans : (P : List Pattern) → Each IsFitPattern P → Each HasSpansOfChains
 all-spans [] each = tt
 all-spans (x ∷ P) each = (λ w ended i j. chains-spans x.tree w ended i j each.0.proper, all-spans P each.1)
 
+-- the places of the plan are those of the pieces, and have the sizes of the roles' fields
+pub plan-places : (t : Tables) (entries : List Asked) (P : List Pattern) (is : IsProgramOf t entries (map (λ x. chains_of x.tree) P)) → AllZip AsksFor entries P →
+    list_places (plan_of t P) ≡ map (λ (p : ListedPiece). p.place) (all_pieces t entries (map (λ x. chains_of x.tree) P) is)
+plan-places t entries P is asks = sym (list-places begins_with_look_back (λ chain. refl) 1 entries P (zip-length AsksFor entries P asks))
+
+pub plan-sized : (t : Tables) (entries : List Asked) (P : List Pattern) → IsProgramOf t entries (map (λ x. chains_of x.tree) P) → AllZip AsksFor entries P → sizes_of t.roles ≡ map place_size (list_places (plan_of t P))
+plan-sized t entries P is asks = plan-fields t entries (plan_of t P) (record { program = is; count = zip-length AsksFor entries P asks; looks_back = λ chain. refl })
+
 module _ (t : Tables) (entries : List Asked) (P : List Pattern) (is : IsProgramOf t entries (map (λ x. chains_of x.tree) P)) (asks : AllZip AsksFor entries P) (fit : Each IsFitPattern P) where
   abbrev chains : List (List (List Piece))
   chains = map (λ x. chains_of x.tree) P
@@ -171,9 +179,6 @@ module _ (t : Tables) (entries : List Asked) (P : List Pattern) (is : IsProgramO
     single = single-member (is_single P) t.identifiers all-single;
   }
 
-  places : list_places plan ≡ map (λ (p : ListedPiece). p.place) (all_pieces t entries chains is)
-  places = sym (list-places begins_with_look_back (λ chain. refl) 1 entries P (zip-length AsksFor entries P asks))
-
   module _ (j : ℕ) (c : ChainInfo) (chain : slice_get t.chains j ≡ Some c) where
     abbrev own : HasChain t entries chains is j c
     own = has-chain t entries chains is j c chain
@@ -184,7 +189,7 @@ module _ (t : Tables) (entries : List Asked) (P : List Pattern) (is : IsProgramO
     place-there : (i : ℕ) (piece : Piece) → slice_get pieces i ≡ Some piece → slice_get (list_places plan) (c.first + i) ≡ Some (row_place plan pieces i piece)
     place-there i piece at =
         let role = has-role t entries chains is j c own i piece at in
-        ap (λ ps. slice_get ps (c.first + i)) places ∙ get-map (λ (p : ListedPiece). p.place) (all_pieces t entries chains is) (c.first + i) (piece_of own.chain i piece) role.piece_there
+        ap (λ ps. slice_get ps (c.first + i)) (plan-places t entries P is asks) ∙ get-map (λ (p : ListedPiece). p.place) (all_pieces t entries chains is) (c.first + i) (piece_of own.chain i piece) role.piece_there
 
     runs-alone : (i : ℕ) (piece : Piece) (r : Role) → looked (begins_with_look_back pieces) ≤ i → slice_get pieces i ≡ Some piece → slice_get t.roles (c.first + i) ≡ Some r → run.IsRoleOf t r (row_place plan pieces i piece)
     runs-alone i piece r low at role =
@@ -249,7 +254,7 @@ module _ (t : Tables) (entries : List Asked) (P : List Pattern) (is : IsProgramO
     spans = all-spans P fit;
     count = chains-count 0 t.chains (listed t entries chains is) is.chains_are ∙ zip-length IsRowOf (listed t entries chains is) (plan_rows plan) (all-rows 1 entries P asks);
     rows = λ j c x chain row. runs-row j c chain x row;
-    sizes = plan-fields t entries plan (record { program = is; count = zip-length AsksFor entries P asks; looks_back = λ chain. refl });
+    sizes = plan-sized t entries P is asks;
     ids = refl;
     singles = refl;
     single = single-of;

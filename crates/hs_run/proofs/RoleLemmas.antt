@@ -52,28 +52,28 @@ zero-field (ring set m) n at = record { spare = λ k past. zero-bits n k; early 
 -- how roles are run, by the forms of their pieces
 
 pub data LiteralWay (l : Bool) (pieces : List Piece) (xs : List LiteralByte) : Type 0 where
-  first_one : way_for (kind_for (literal_form l pieces (length xs)) (lit xs)) ≡ way.BareLiteral → pieces ≡ [] → LiteralWay l pieces xs
-  looked_one : way_for (kind_for (literal_form l pieces (length xs)) (lit xs)) ≡ way.BareLiteral → l ≡ true → length pieces ≡ 1 → LiteralWay l pieces xs
+  first_one : way_for (kind_for (literal_form l pieces (length xs)) (lit xs)) ≡ way.BareLiteral → literal_form l pieces (length xs) ≡ nothing → pieces ≡ [] → LiteralWay l pieces xs
+  looked_one : way_for (kind_for (literal_form l pieces (length xs)) (lit xs)) ≡ way.BareLiteral → literal_form l pieces (length xs) ≡ nothing → l ≡ true → length pieces ≡ 1 → LiteralWay l pieces xs
   other : way_for (kind_for (literal_form l pieces (length xs)) (lit xs)) ≡ way.Literal → literal_form l pieces (length xs) ≡ literal (length xs) → LiteralWay l pieces xs
 
-literal-way : (l : Bool) (pieces : List Piece) (xs : List LiteralByte) → LiteralWay l pieces xs
-literal-way l [] xs = first_one refl refl
-literal-way true (x ∷ []) xs = looked_one refl refl refl
+pub literal-way : (l : Bool) (pieces : List Piece) (xs : List LiteralByte) → LiteralWay l pieces xs
+literal-way l [] xs = first_one refl refl refl
+literal-way true (x ∷ []) xs = looked_one refl refl refl refl
 literal-way false (x ∷ []) xs = other refl refl
 literal-way true (x ∷ y ∷ pieces) xs = other refl refl
 literal-way false (x ∷ y ∷ pieces) xs = other refl refl
 
 pub data TreeWay (l : Bool) (pieces : List Piece) (tree : Tree) : Type 0 where
-  looks : way_for (kind_for (tree_form l pieces tree) (nfa tree)) ≡ way.LookBack → l ≡ true → pieces ≡ [] → TreeWay l pieces tree
+  looks : way_for (kind_for (tree_form l pieces tree) (nfa tree)) ≡ way.LookBack → tree_form l pieces tree ≡ nothing → l ≡ true → pieces ≡ [] → TreeWay l pieces tree
   runs : way_for (kind_for (tree_form l pieces tree) (nfa tree)) ≡ way.Engine → tree_form l pieces tree ≡ positions tree → TreeWay l pieces tree
 
 pub tree-way : (l : Bool) (pieces : List Piece) (tree : Tree) → TreeWay l pieces tree
-tree-way true [] tree = looks refl refl refl
+tree-way true [] tree = looks refl refl refl refl
 tree-way false [] tree = runs refl refl
 tree-way true (x ∷ pieces) tree = runs refl refl
 tree-way false (x ∷ pieces) tree = runs refl refl
 
-repeat-way : (set : List Bool) (least : ℕ) (greatest : Option ℕ) → way_for (kind_for (repeat_form set least greatest) (rep set least greatest)) ≡ way.Engine
+pub repeat-way : (set : List Bool) (least : ℕ) (greatest : Option ℕ) → way_for (kind_for (repeat_form set least greatest) (rep set least greatest)) ≡ way.Engine
 repeat-way set least None = refl
 repeat-way set zero (Some m) = refl
 repeat-way set (suc zero) (Some m) = refl
@@ -85,34 +85,34 @@ repeat-keeps set zero (Some m) = refl
 repeat-keeps set (suc zero) (Some m) = refl
 repeat-keeps set (suc (suc least)) (Some m) = refl
 
-never : {A : Type 0} {x : Way} (y z : Way) → x ≡ y → (y ≡ z → ⊥) → x ≡ z → A
+pub never : {A : Type 0} {x : Way} (y z : Way) → x ≡ y → (y ≡ z → ⊥) → x ≡ z → A
 never y z is apart same = absurd (apart (sym is ∙ same))
 
-bare-literal : way.BareLiteral ≡ way.Literal → ⊥
+pub bare-literal : way.BareLiteral ≡ way.Literal → ⊥
 bare-literal e = cc
 
-bare-engine : way.BareLiteral ≡ way.Engine → ⊥
+pub bare-engine : way.BareLiteral ≡ way.Engine → ⊥
 bare-engine e = cc
 
-literal-bare : way.Literal ≡ way.BareLiteral → ⊥
+pub literal-bare : way.Literal ≡ way.BareLiteral → ⊥
 literal-bare e = cc
 
-literal-engine : way.Literal ≡ way.Engine → ⊥
+pub literal-engine : way.Literal ≡ way.Engine → ⊥
 literal-engine e = cc
 
-looks-bare : way.LookBack ≡ way.BareLiteral → ⊥
+pub looks-bare : way.LookBack ≡ way.BareLiteral → ⊥
 looks-bare e = cc
 
-looks-literal : way.LookBack ≡ way.Literal → ⊥
+pub looks-literal : way.LookBack ≡ way.Literal → ⊥
 looks-literal e = cc
 
-looks-engine : way.LookBack ≡ way.Engine → ⊥
+pub looks-engine : way.LookBack ≡ way.Engine → ⊥
 looks-engine e = cc
 
-engine-bare : way.Engine ≡ way.BareLiteral → ⊥
+pub engine-bare : way.Engine ≡ way.BareLiteral → ⊥
 engine-bare e = cc
 
-engine-literal : way.Engine ≡ way.Literal → ⊥
+pub engine-literal : way.Engine ≡ way.Literal → ⊥
 engine-literal e = cc
 
 abbrev pub place_of : Bool → List Piece → Piece → Place
@@ -138,12 +138,12 @@ module _ (t : Tables) (models : List Piece) (engines : AllZip IsEngineOf t.engin
       let kind : way_of r ≡ way_for (kind_for (literal_form l pieces (length xs)) (lit xs)) = ap way_for own.kind_is in
       let is_sound = literal-sound xs own.names.named runnable in
       elim (literal-way l pieces xs) [
-        | first_one is_bare none ↦ record {
+        | first_one is_bare form none ↦ record {
           engine = never way.BareLiteral way.Engine (kind ∙ is_bare) bare-engine;
           bare = λ same. is_sound;
           literal = never way.BareLiteral way.Literal (kind ∙ is_bare) bare-literal;
         }
-        | looked_one is_bare so one ↦ record {
+        | looked_one is_bare form so one ↦ record {
           engine = never way.BareLiteral way.Engine (kind ∙ is_bare) bare-engine;
           bare = λ same. is_sound;
           literal = never way.BareLiteral way.Literal (kind ∙ is_bare) bare-literal;
@@ -158,7 +158,7 @@ module _ (t : Tables) (models : List Piece) (engines : AllZip IsEngineOf t.engin
       let own : IsRoleOf t.literals models r (record { chain = x.chain; place = place_of l pieces (nfa tree) }) = subst (λ (p : Place). IsRoleOf t.literals models r (record { chain = x.chain; place = p })) at is in
       let kind : way_of r ≡ way_for (kind_for (tree_form l pieces tree) (nfa tree)) = ap way_for own.kind_is in
       elim (tree-way l pieces tree) [
-        | looks is_back so none ↦ record {
+        | looks is_back form so none ↦ record {
           engine = never way.LookBack way.Engine (kind ∙ is_back) looks-engine;
           bare = never way.LookBack way.BareLiteral (kind ∙ is_back) looks-bare;
           literal = never way.LookBack way.Literal (kind ∙ is_back) looks-literal;
@@ -212,8 +212,8 @@ module _ (t : Tables) (models : List Piece) (engines : AllZip IsEngineOf t.engin
       record {
         null = literal-null xs (omega (arith, runnable.0)) own.names.null_is;
         alone = elim (literal-way l pieces xs) [
-          | first_one is_bare none ↦ bare (record { kind = kind ∙ is_bare; value = xs; there = own.names.named; is_piece = refl; is_first = none })
-          | looked_one is_bare so one ↦ absurd (let two : 2 ≤ length pieces = subst (λ b. looked b ≤ length pieces) so low in omega (arith, two, one))
+          | first_one is_bare form none ↦ bare (record { kind = kind ∙ is_bare; value = xs; there = own.names.named; is_piece = refl; is_first = none })
+          | looked_one is_bare form so one ↦ absurd (let two : 2 ≤ length pieces = subst (λ b. looked b ≤ length pieces) so low in omega (arith, two, one))
           | other kept form ↦ entered (record { kind = kind ∙ kept; value = xs; there = own.names.named; is_piece = refl; form = form })
         ];
       }
@@ -223,7 +223,7 @@ module _ (t : Tables) (models : List Piece) (engines : AllZip IsEngineOf t.engin
       record {
         null = own.names.null_is;
         alone = elim (tree-way l pieces tree) [
-          | looks is_back so none ↦ absurd (let two : 2 ≤ length pieces = subst (λ b. looked b ≤ length pieces) so low in omega (arith, two, ap length none))
+          | looks is_back form so none ↦ absurd (let two : 2 ≤ length pieces = subst (λ b. looked b ≤ length pieces) so low in omega (arith, two, ap length none))
           | runs kept form ↦
               let (e, there, of) = named-engine (nfa tree) own.names.named in
               engine (record { kind = kind ∙ kept; value = e; there = there; runs = engine-runs (nfa tree) (tree_form l pieces tree) e form (ap keeps form) of })

@@ -1,18 +1,20 @@
 -- What holds of programs that are built.
-use Rattle.std.specs.Prelude.{◌≡◌, false, List, map}
+use Rattle.std.specs.Prelude.{◌≡◌, ◌↔◌, ◌<◌, ℕ, false, List, map}
 use Rattle.std.specs.List.{AllZip}
 use Rattle.hs_base.specs.Chains.{Piece, chains_of}
 use Rattle.hs_base.specs.EndAssertions.{has_embedded_end}
 use Rattle.hs_base.specs.Lists.{Each}
 use Rattle.hs_base.specs.Patterns.{Pattern}
-use Rattle.hs_base.specs.Regions.{Plan}
+use Rattle.hs_base.specs.Regions.{Plan, IsWellFormed}
 use Rattle.hs_base.specs.Trees.{IsProper}
 use Rattle.hs_base.specs.WrittenOut.{IsPlain}
 use Rattle.hs_pieces.specs.LookBack.{begins_with_look_back}
 use Rattle.hs_rose.specs.Identifiers.{asks_single, ids_of, singles_of}
 use Rattle.hs_rose.specs.Listing.{Asked}
 use Rattle.hs_rose.specs.Programs.{Tables, IsProgramOf}
-use Rattle.hs_run.specs.Programs.{IsRunnable, RunsPlan}
+use Rattle.hs_layout.specs.Layouts.{Laid}
+use Rattle.hs_run.specs.Feeding.{IsWellRegion}
+use Rattle.hs_run.specs.Programs.{FitsLayout, IsRunnable, RunsPlan}
 
 -- The program of a list can be run.
 abbrev pub BuiltProgramsCanRun : Type 0
@@ -50,3 +52,13 @@ BuiltProgramsRun =
     AllZip AsksFor entries P →
     Each IsFitPattern P →
     RunsPlan t (plan_of t P)
+
+-- The bytes may be run as a region of such a program just where they are well formed for the plan.
+abbrev pub WellRegionsAreWellFormed : Type 0
+WellRegionsAreWellFormed =
+    (t : Tables) (entries : List Asked) (P : List Pattern) (l : Laid) (region : List ℕ) →
+    IsProgramOf t entries (map (λ x. chains_of x.tree) P) →
+    AllZip AsksFor entries P →
+    FitsLayout t l →
+    Each (λ b. b < 256) region →
+    IsWellRegion t l region ↔ IsWellFormed (plan_of t P) region

@@ -12,3 +12,4 @@ pub mod Reporting
 pub mod Feeding
 pub mod Scratches
 pub mod JoinLaws
+pub mod Clearing
