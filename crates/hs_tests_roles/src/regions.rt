@@ -4,15 +4,20 @@ use crate::scanning::Stream;
 use crate::setup::Setup;
 use hs_engine::Steps;
 use hs_rose::Kind;
-use hs_run::region_size;
-use std::alloc::{AllocError, Global};
+use hs_text::read_list;
+use std::alloc::Global;
 use std::marker::Brand;
 use std::sync::ledger::Blank;
 use std::test::Fail;
 
+/// What runs the list that the lines of a pattern file are.
+fn setup_of(alloc: Global, lines: &str) -> Result<Setup, Fail> {
+    Setup::of(alloc, &read_list(alloc, lines.as_bytes())?)
+}
+
 /// The kinds of the roles of a list.
 fn kinds_of(alloc: Global, lines: &str) -> Result<Vec<Kind>, Fail> {
-    let setup = Setup::of_lines(alloc, lines)?;
+    let setup = setup_of(alloc, lines)?;
     let mut kinds = Vec::new(alloc);
     for role in setup.program.roles() {
         kinds.push(role.kind())?;
@@ -22,7 +27,7 @@ fn kinds_of(alloc: Global, lines: &str) -> Result<Vec<Kind>, Fail> {
 
 /// The region of a stream.
 fn region_of(alloc: Global, lines: &str, bytes: &[u8]) -> Result<Vec<u8>, Fail> {
-    let setup = Setup::of_lines(alloc, lines)?;
+    let setup = setup_of(alloc, lines)?;
     let mut stream = Stream::open(alloc, &setup, Steps::<Brand>::open(Blank::new(1)))?;
     stream.take(&setup, bytes)?;
     Ok(stream.region)
@@ -30,8 +35,8 @@ fn region_of(alloc: Global, lines: &str, bytes: &[u8]) -> Result<Vec<u8>, Fail> 
 
 /// The length of the regions of a list.
 fn size_of(alloc: Global, lines: &str) -> Result<usize, Fail> {
-    let setup = Setup::of_lines(alloc, lines)?;
-    Ok(region_size(&setup.program).ok_or("too large a region")?)
+    let setup = setup_of(alloc, lines)?;
+    Ok(setup.layout.size())
 }
 
 #[test]
