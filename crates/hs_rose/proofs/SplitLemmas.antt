@@ -1,14 +1,11 @@
 -- The chains of an expression can be run.
-use Rattle.std.proofs.Common.{◌≡◌, ℕ, suc, ◌+◌, ◌^◌, ◌<◌, ◌≤◌, None, false, List, [], ◌∷◌, ◌++◌, length, map, take, Some, slice_get, sym, ap, subst, ◌∙◌, arith}
-use Rattle.std.proofs.lemmas.List.{length-map, map-append}
+use Rattle.std.proofs.Common.{◌≡◌, ◌^◌, ◌<◌, None, false, List, [], ◌∷◌, length, sym, subst, arith}
 use Rattle.hs_base.specs.Chains.{Piece, lit, nfa, rep, chains_of, IsFitChain, IsFitPiece}
 use Rattle.hs_base.specs.EndAssertions.{has_embedded_end}
 use Rattle.hs_base.specs.Lists.{Each}
 use Rattle.hs_base.specs.Trees.{Tree, IsProper}
-use Rattle.hs_base.specs.WrittenOut.{IsPlain, count, write_out}
+use Rattle.hs_base.specs.WrittenOut.{IsPlain}
 use Rattle.hs_glushkov.proofs.CountLemmas.{count-written}
-use Rattle.hs_pieces.specs.declared.piece.Chain.{Chain}
-use Rattle.hs_pieces.specs.Meaning.{plain_chain, plain_piece}
 use Rattle.hs_pieces.proofs.FitLemmas.{chains-fit}
 use Rattle.hs_support.specs.PieceCounts.{HasFewPositions, first_excess_of}
 use Rattle.hs_support.proofs.ExcessLemmas.{chains-few}

@@ -15,7 +15,7 @@ use Rattle.hs_rose.specs.declared.info.ChainInfo.{ChainInfo}
 use Rattle.hs_rose.specs.declared.info.EntryInfo.{EntryInfo}
 use Rattle.hs_rose.specs.declared.identifiers.Identifier.{Identifier}
 use Rattle.hs_rose.specs.Identifiers.{AreIdentifiersOf, ids_of}
-use Rattle.hs_rose.specs.Kinds.{place_kind, number_if_literal, number_if_run}
+use Rattle.hs_rose.specs.Kinds.{place_kind}
 use Rattle.hs_rose.specs.Listing.{Asked, ListedChain, ListedPiece, listed_chains, listed_pieces, piece_number}
 use Rattle.hs_rose.specs.Made.{IsNullMask}
 use Rattle.hs_rose.specs.Naming.{engine_of, literal_of}

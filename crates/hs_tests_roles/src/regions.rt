@@ -1,5 +1,8 @@
 //! Roles and regions of known lists. It is `#[cfg(test)]`.
 
+ghost use Rattle.std.specs.Prelude.{IfOk};
+ghost use Rattle.hs_tests_roles.specs.Setups.{IsSetup};
+
 use crate::scanning::Stream;
 use crate::setup::Setup;
 use hs_engine::Steps;
@@ -11,7 +14,9 @@ use std::sync::ledger::Blank;
 use std::test::Fail;
 
 /// What runs the list that the lines of a pattern file are.
-fn setup_of(alloc: Global, lines: &str) -> Result<Setup, Fail> {
+fn setup_of(alloc: Global, lines: &str) -> Result<Setup, Fail>
+    ensures { IfOk result IsSetup }
+{
     Setup::of(alloc, &read_list(alloc, lines.as_bytes())?)
 }
 

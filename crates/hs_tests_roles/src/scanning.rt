@@ -1,5 +1,7 @@
 //! Streams in many cuts by the plain runner. It is `#[cfg(test)]`.
 
+ghost use Rattle.hs_tests_roles.specs.Setups.{IsSetup};
+
 use crate::cases::{Case, Verdict, ensure, patterns_of, written};
 use crate::reading::{lines_of, streams_of};
 use crate::setup::Setup;
@@ -38,7 +40,9 @@ impl<L: Ledger> Stream<L> {
     }
 
     /// Takes the next bytes.
-    pub fn take(&mut self, setup: &Setup, bytes: &[u8]) -> Verdict {
+    pub fn take(&mut self, setup: &Setup, bytes: &[u8]) -> Verdict
+        requires { IsSetup setup.now }
+    {
         let Setup { program, layout } = setup;
         if well_formed(program, layout, &self.region)
             && self.scratch.fits(program)
@@ -60,7 +64,9 @@ impl<L: Ledger> Stream<L> {
     }
 
     /// Ends the stream.
-    pub fn close(&mut self, setup: &Setup) -> Verdict {
+    pub fn close(&mut self, setup: &Setup) -> Verdict
+        requires { IsSetup setup.now }
+    {
         let Setup { program, layout } = setup;
         if well_formed(program, layout, &self.region) && self.scratch.fits(program) {
             finish(
@@ -84,7 +90,9 @@ fn judge_cut<L: Ledger>(
     case: &Case,
     ends: &[usize],
     steps: Steps<L>,
-) -> Result<Vec<u8>, Fail> {
+) -> Result<Vec<u8>, Fail>
+    requires { IsSetup setup.now }
+{
     let mut stream = Stream::open(alloc, setup, steps)?;
     let mut start = 0;
     for end in ends {
@@ -113,7 +121,9 @@ fn cuts_of(alloc: Global, len: usize) -> Result<Vec<Vec<usize>>, AllocError> {
 }
 
 /// Scans the case's stream in many cuts, which all leave one region.
-fn judge_case(alloc: Global, setup: &Setup, case: &Case) -> Verdict {
+fn judge_case(alloc: Global, setup: &Setup, case: &Case) -> Verdict
+    requires { IsSetup setup.now }
+{
     let mut first = None;
     for ends in &cuts_of(alloc, case.stream.len())? {
         let steps = Steps::<Brand>::open(Blank::new(1));

@@ -8,7 +8,7 @@ ghost use Rattle.hs_pieces.specs.Meaning.{plain_chain};
 ghost use Rattle.hs_rose.specs.Listing.{plain_chains};
 ghost use Rattle.hs_rose.specs.Runnable.{AreRunnable};
 ghost use Rattle.hs_support.specs.PieceCounts.{first_excess_of};
-ghost use Rattle.hs_run.specs.Programs.{FitsLayout, IsRunnable};
+ghost use Rattle.hs_run.specs.Programs.{IsRunnable};
 
 use hs_base::{Entry, Flags};
 use hs_expr::{Expr, has_embedded_end, is_plain};
@@ -27,8 +27,6 @@ use std::test::Fail;
 pub(crate) struct Setup {
     pub program: Program,
     pub layout: Layout,
-    ghost runs: { IsRunnable program },
-    ghost fits: { FitsLayout program layout },
 }
 
 /// Whether each piece of the expression has few enough positions.
@@ -75,8 +73,12 @@ fn program_of(alloc: Global, entries: &[Entry]) -> Result<Program, Fail>
 }
 
 impl Setup {
+    ghost use Rattle.hs_tests_roles.specs.Setups.{IsSetup};
+
     /// What runs the list.
-    pub fn of(alloc: Global, entries: &[Entry]) -> Result<Setup, Fail> {
+    pub fn of(alloc: Global, entries: &[Entry]) -> Result<Setup, Fail>
+        ensures { IfOk result IsSetup }
+    {
         let program = program_of(alloc, entries)?;
         match region_size(&program) {
             None => Err(Fail::new("too large a region")),
