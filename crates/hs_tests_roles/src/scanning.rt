@@ -1,5 +1,6 @@
 //! Streams in many cuts by the plain runner. It is `#[cfg(test)]`.
 
+ghost use Rattle.std.specs.Prelude.{◌≡◌, ◌<◌};
 ghost use Rattle.hs_tests_roles.specs.Setups.{IsSetup};
 
 use crate::cases::{Case, Verdict, ensure, patterns_of, written};
@@ -28,14 +29,18 @@ pub(crate) struct Stream<L: Ledger> {
 
 impl<L: Ledger> Stream<L> {
     /// A stream of which no byte has come.
-    pub fn open(alloc: Global, setup: &Setup, steps: Steps<L>) -> Result<Stream<L>, Fail> {
+    pub fn open(alloc: Global, setup: &Setup, blank: Blank) -> Result<Stream<L>, Fail>
+        requires name { blank.name ≡ L.name }
+        requires parts { blank.parts ≡ L.parts }
+        requires some { 0 < L.parts }
+    {
         let mut region = vec![in alloc; 0xffu8; setup.layout.size()]?;
         clear(&mut region);
         Ok(Stream {
             region,
             scratch: Scratch::new(alloc, &setup.program)?,
             told: Collected::new(alloc, ROOM)?,
-            steps,
+            steps: Steps::open(blank),
         })
     }
 
@@ -89,11 +94,14 @@ fn judge_cut<L: Ledger>(
     setup: &Setup,
     case: &Case,
     ends: &[usize],
-    steps: Steps<L>,
+    blank: Blank,
 ) -> Result<Vec<u8>, Fail>
-    requires { IsSetup setup.now }
+    requires setup { IsSetup setup.now }
+    requires name { blank.name ≡ L.name }
+    requires parts { blank.parts ≡ L.parts }
+    requires some { 0 < L.parts }
 {
-    let mut stream = Stream::open(alloc, setup, steps)?;
+    let mut stream = Stream::<L>::open(alloc, setup, blank)?;
     let mut start = 0;
     for end in ends {
         let piece = case.stream.get(start..*end).ok_or("no such piece")?;
@@ -126,8 +134,7 @@ fn judge_case(alloc: Global, setup: &Setup, case: &Case) -> Verdict
 {
     let mut first = None;
     for ends in &cuts_of(alloc, case.stream.len())? {
-        let steps = Steps::<Brand>::open(Blank::new(1));
-        let region = judge_cut(alloc, setup, case, ends, steps)?;
+        let region = judge_cut::<Brand>(alloc, setup, case, ends, Blank::new(1))?;
         match &first {
             None => first = Some(region),
             Some(other) => ensure(*other == region, "another region by other cuts")?,
