@@ -1,50 +1,28 @@
-//! Streams that take turns, empty writes, and what fits.
+//! Streams that take turns, empty writes, and what fits. It is `#[cfg(test)]`.
 ghost use Rattle.std.specs.Prelude.{◌≡◌, ◌<◌};
 
-use crate::stream::has_room;
-use crate::{Collected, Scratch, Stream};
-use hs_base::{Entry, ExprId, Ext, Flags, MAX_OFFSET, Report};
-use hs_compile::{Database, compile};
+use crate::lists::compiled;
+use hs_base::{MAX_OFFSET, Report};
+use hs_compile::Database;
 use hs_engine::Steps;
+use hs_stream::{Collected, Scratch, Stream, has_room};
 use std::alloc::{AllocError, Global};
 use std::marker::Brand;
 use std::process::Abort;
 use std::sync::ledger::{Blank, Ledger};
 use std::test::Fail;
 
-/// An entry of a list: its identifier, its expression and its flags.
-type Row = (u32, &'static str, Flags);
-
-/// What a list of entries without parameters is compiled to.
-fn database_of(alloc: Global, list: &[Row]) -> Result<Database, Fail> {
-    let mut entries = Vec::new(alloc);
-    for (id, text, flags) in list {
-        entries.push(Entry {
-            id: ExprId(*id),
-            flags: *flags,
-            ext: Ext::NONE,
-            text: Vec::from_slice(alloc, text.as_bytes())?,
-        })?;
-    }
-    let database = compile(alloc, &entries)?;
-    Ok(database)
-}
-
 /// Entries, a script over two streams of their database and one scratch, and what is reported when the streams are
 /// closed. A line of a script is the number of a stream, bytes that are written or `~` where it is reset, and the pairs
 /// that this reports.
-const SCRIPTS: [(Row, &str, &str); 2] = [
+const SCRIPTS: [(&str, &str, &str); 2] = [
     (
-        (16, "foo", Flags::NONE),
+        "16:/foo/",
         "0<fo=|1<xf=|0<o=16:3 |1<oo=16:4 |0<fo=|0<~=|0<ofoo=16:4 ",
         "",
     ),
     // A write of no byte reports nothing, also where the empty text matches at the start.
-    (
-        (2, "a*", Flags::ALLOWEMPTY),
-        "0<=|0<~=2:0 |0<b=2:0 2:1 ",
-        "2:0 ",
-    ),
+    ("2:/a*/V", "0<=|0<~=2:0 |0<b=2:0 2:1 ", "2:0 "),
 ];
 
 /// Appends reports, as they stand in a script.
@@ -103,8 +81,8 @@ fn run<L: Ledger>(rt: &impl Abort, alloc: Global, blank: Blank, number: usize) -
     requires parts { blank.parts ≡ L.parts }
     requires some { 0 < L.parts }
 {
-    let (row, script, last) = SCRIPTS[number % SCRIPTS.len()];
-    let db = database_of(alloc, &[row])?;
+    let (list, script, last) = SCRIPTS[number % SCRIPTS.len()];
+    let db = compiled(alloc, list)?;
     let mut steps = Steps::<L>::open(blank);
     let mut scratch = Scratch::new(alloc, &db)?;
     let mut streams = [Stream::open(alloc, &db)?, Stream::open(alloc, &db)?];
@@ -132,10 +110,10 @@ fn streams_see_nothing_of_each_other(rt: HostRuntime) -> Result<(), Fail> {
 #[test]
 fn fits_its_own_database_alone(rt: HostRuntime) -> Result<(), Fail> {
     let alloc = rt.alloc();
-    let own = database_of(alloc, &[(1, "ab", Flags::NONE)])?;
-    let again = database_of(alloc, &[(1, "ab", Flags::NONE)])?;
-    let other = database_of(alloc, &[(1, "ba", Flags::NONE)])?;
-    let longer = database_of(alloc, &[(1, "a", Flags::NONE), (2, "b", Flags::NONE)])?;
+    let own = compiled(alloc, "1:/ab/")?;
+    let again = compiled(alloc, "1:/ab/")?;
+    let other = compiled(alloc, "1:/ba/")?;
+    let longer = compiled(alloc, "1:/a/ 2:/b/")?;
     let stream = Stream::open(alloc, &own)?;
     assert!(rt; stream.fits(&own) && stream.fits(&again));
     assert!(rt; !stream.fits(&other) && !stream.fits(&longer));
@@ -145,26 +123,30 @@ fn fits_its_own_database_alone(rt: HostRuntime) -> Result<(), Fail> {
     Ok(())
 }
 
-/// Offsets, counts of bytes, and whether so many may come.
-const ROOMS: &[(u64, usize, bool)] = &[
-    (0, 0, true),
-    (0, 9_223_372_036_854_775_807, true),
-    (0, 9_223_372_036_854_775_808, false),
-    (1, 9_223_372_036_854_775_806, true),
-    (1, 9_223_372_036_854_775_807, false),
-    (9_223_372_036_854_775_806, 1, true),
-    (MAX_OFFSET, 0, true),
-    (MAX_OFFSET, 1, false),
-    (9_223_372_036_854_775_808, 0, false),
-    (u64::MAX, usize::MAX, false),
-];
+/// Offsets, and counts of bytes that may come there.
+const ROOM: &str = "0 0|0 9223372036854775807|1 9223372036854775806|9223372036854775806 1|\
+    9223372036854775807 0";
+
+/// Offsets, and counts of bytes that may not.
+const NO_ROOM: &str = "0 9223372036854775808|1 9223372036854775807|9223372036854775807 1|\
+    9223372036854775808 0|18446744073709551615 18446744073709551615";
+
+/// Whether there is room for what a row says, or none where it isn't read.
+fn room_of(row: &str) -> Option<bool> {
+    let (offset, count) = row.split_once(' ')?;
+    match (offset.parse::<u64>(), count.parse::<usize>()) {
+        (Ok(offset), Ok(count)) => Some(has_room(offset, count)),
+        _ => None,
+    }
+}
 
 #[test]
 fn is_full_above_the_greatest_offset(rt: HostRuntime) {
-    for (offset, count, wanted) in ROOMS {
-        assert!(rt;
-            has_room(*offset, *count) == *wanted,
-            "{count} bytes at {offset}"
-        );
+    assert!(rt; MAX_OFFSET == 9_223_372_036_854_775_807);
+    for row in ROOM.split('|') {
+        assert!(rt; room_of(row) == Some(true), "{row}");
+    }
+    for row in NO_ROOM.split('|') {
+        assert!(rt; room_of(row) == Some(false), "{row}");
     }
 }
