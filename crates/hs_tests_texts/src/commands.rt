@@ -1,4 +1,4 @@
-//! The lines of a script, and the lines that answer them, as their tables say them.
+//! The lines of a script, and the lines that answer them, as their tables say them. It is `#[cfg(test)]`.
 use hs_text::{
     Command, LINE_LEN, Reply, ScriptFault, Verb, Word, command, reply_line, script_fault_line,
 };

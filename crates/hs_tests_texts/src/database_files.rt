@@ -1,4 +1,5 @@
 //! Database files byte by byte: written, read, cut and changed. Files and digests are hexadecimal digits.
+//! It is `#[cfg(test)]`.
 use hs_base::{Entry, ExprId, Ext, Flags};
 use hs_dbfile::{DecodeFault, decode_file, digest, encode_file, encode_list};
 use sha2::{Digest, Sha256};
@@ -60,56 +61,66 @@ fn place(alloc: Global, bytes: &[u8]) -> Result<Option<u64>, DecodeFault> {
     }
 }
 
-#[test]
-fn writes_one_entry(rt: HostRuntime) -> Result<(), Fail> {
-    let text = b"foo".as_slice().to_vec(rt.alloc())?;
-    let mut entries = Vec::new(rt.alloc());
+/// The file of the pattern file `16:/foo/`.
+fn foo_file(alloc: Global) -> Result<Vec<u8>, AllocError> {
+    let text = Vec::from_slice(alloc, b"foo")?;
+    let mut entries = Vec::new(alloc);
     entries.push(Entry {
         id: ExprId(16),
         flags: Flags::NONE,
         ext: Ext::NONE,
         text,
     })?;
-    let file = encode_file(rt.alloc(), &entries)?;
+    encode_file(alloc, &entries)
+}
+
+#[test]
+fn writes_one_entry(rt: HostRuntime) -> Result<(), AllocError> {
+    let file = foo_file(rt.alloc())?;
     assert!(rt; file == bytes_of(rt.alloc(), FOO)?);
     Ok(())
 }
 
+/// An entry, as it stands in a row.
+fn shown(alloc: Global, entry: &Entry) -> Result<String, AllocError> {
+    let (id, flags, ext) = (entry.id.0, entry.flags.0, &entry.ext);
+    let (bits, min, max) = (ext.bits, ext.min_offset, ext.max_offset);
+    let text = entry.text.as_slice();
+    format!(in alloc; "{id} {flags} {bits} {min} {max} {text:?}")
+}
+
 #[test]
 fn reads_each_field(rt: HostRuntime) -> Result<(), Fail> {
-    let file = bytes_of(rt.alloc(), FOUR)?;
-    let entries = decode_file(rt.alloc(), &file)?;
+    let entries = decode_file(rt.alloc(), &bytes_of(rt.alloc(), FOUR)?)?;
     assert!(rt; entries.len() == 4);
     for (entry, row) in entries.iter().zip(ENTRIES.split('|')) {
-        let (id, flags, ext) = (entry.id.0, entry.flags.0, &entry.ext);
-        let (bits, min, max, text) = (
-            ext.bits,
-            ext.min_offset,
-            ext.max_offset,
-            entry.text.as_slice(),
-        );
-        let found = format!(in rt.alloc(); "{id} {flags} {bits} {min} {max} {text:?}")?;
+        let found = shown(rt.alloc(), entry)?;
         assert!(rt; found.as_str() == row, "{found}");
     }
     Ok(())
 }
 
+/// Asserts that the file is written as it was read, and has that digest.
+fn check_file(rt: &impl Abort, alloc: Global, file: &str, wanted: &str) -> Result<(), Fail> {
+    let bytes = bytes_of(alloc, file)?;
+    let entries = decode_file(alloc, &bytes)?;
+    assert!(rt; encode_file(alloc, &entries)? == bytes, "{file}");
+    let list = encode_list(alloc, &entries)?;
+    assert!(rt; Some(list.as_slice()) == bytes.get(6..), "{file}");
+    let found = digest(&entries);
+    assert!(rt;
+        bytes_of(alloc, wanted)?.as_slice() == found.as_slice(),
+        "{file}"
+    );
+    assert!(rt; found == Sha256::digest(list.as_slice()), "{file}");
+    Ok(())
+}
+
 #[test]
 fn writes_what_it_read(rt: HostRuntime) -> Result<(), Fail> {
-    for (file, expected) in [(NONE, NONE_DIGEST), (FOO, FOO_DIGEST), (FOUR, FOUR_DIGEST)] {
-        let bytes = bytes_of(rt.alloc(), file)?;
-        let entries = decode_file(rt.alloc(), &bytes)?;
-        assert!(rt; encode_file(rt.alloc(), &entries)? == bytes, "{file}");
-        let list = encode_list(rt.alloc(), &entries)?;
-        assert!(rt; Some(list.as_slice()) == bytes.get(6..), "{file}");
-        let found = digest(&entries);
-        assert!(rt;
-            bytes_of(rt.alloc(), expected)?.as_slice() == found.as_slice(),
-            "{file}"
-        );
-        assert!(rt; found == Sha256::digest(list.as_slice()), "{file}");
-    }
-    Ok(())
+    check_file(&rt, rt.alloc(), NONE, NONE_DIGEST)?;
+    check_file(&rt, rt.alloc(), FOO, FOO_DIGEST)?;
+    check_file(&rt, rt.alloc(), FOUR, FOUR_DIGEST)
 }
 
 #[test]

@@ -1,7 +1,6 @@
-//! Forms, pieces and classes, a row for each kind.
+//! Forms, pieces and classes, a row for each kind. It is `#[cfg(test)]`.
 use hs_base::{Assertion, Construct, Flags};
 use hs_syntax::{Form, Mode, Named, Piece, Wrong, form_at, piece_at};
-use std::test::Fail;
 
 /// The options without a flag.
 fn plain() -> Mode {
@@ -26,9 +25,9 @@ fn quoted() -> Mode {
 fn begins_as_the_flags_say(rt: HostRuntime) {
     for bits in 0..8u16 {
         let mode = Mode::of(Flags(bits + 8));
-        assert_eq!(rt; mode.caseless, bits & 1 == 1);
-        assert_eq!(rt; mode.dotall, bits & 2 == 2);
-        assert_eq!(rt; mode.multiline, bits & 4 == 4);
+        assert!(rt; mode.caseless == (bits & 1 == 1));
+        assert!(rt; mode.dotall == (bits & 2 == 2));
+        assert!(rt; mode.multiline == (bits & 4 == 4));
         assert!(rt; !mode.extended && !mode.quoted);
     }
 }
@@ -52,22 +51,19 @@ fn reads_forms(rt: HostRuntime) {
         (b"\\y", Form::Refused(Wrong::UnknownEscape)),
     ];
     for (text, form) in rows {
-        assert_eq!(rt; form_at(plain(), text), form, "{text:?}");
+        assert!(rt; form_at(plain(), text) == form, "{text:?}");
     }
 }
 
 #[test]
 fn reads_under_options(rt: HostRuntime) {
     let lines = Mode::of(Flags::MULTILINE);
-    assert_eq!(rt; form_at(lines, b"$"), Form::Assert(Assertion::LineEnd, 1));
-    assert_eq!(rt;
-        form_at(plain(), b"$"),
-        Form::Assert(Assertion::EndOrFinalNewline, 1)
-    );
-    assert_eq!(rt; form_at(extended(), b" a"), Form::Skipped(extended(), 1));
-    assert_eq!(rt; form_at(extended(), b"#a\nb"), Form::Skipped(extended(), 3));
-    assert_eq!(rt; form_at(quoted(), b"\\Ea"), Form::Skipped(plain(), 2));
-    assert_eq!(rt; form_at(quoted(), b"(a"), Form::Character(b'(', 1));
+    assert!(rt; form_at(lines, b"$") == Form::Assert(Assertion::LineEnd, 1));
+    assert!(rt; form_at(plain(), b"$") == Form::Assert(Assertion::EndOrFinalNewline, 1));
+    assert!(rt; form_at(extended(), b" a") == Form::Skipped(extended(), 1));
+    assert!(rt; form_at(extended(), b"#a\nb") == Form::Skipped(extended(), 3));
+    assert!(rt; form_at(quoted(), b"\\Ea") == Form::Skipped(plain(), 2));
+    assert!(rt; form_at(quoted(), b"(a") == Form::Character(b'(', 1));
 }
 
 #[test]
@@ -86,13 +82,18 @@ fn reads_pieces(rt: HostRuntime) {
         ),
     ];
     for (text, piece) in rows {
-        assert_eq!(rt; piece_at(true, false, text), piece, "{text:?}");
+        assert!(rt; piece_at(true, false, text) == piece, "{text:?}");
     }
-    assert_eq!(rt; piece_at(true, true, b"]"), Piece::Character(b']', 1));
+    assert!(rt; piece_at(true, true, b"]") == Piece::Character(b']', 1));
+}
+
+/// How many bytes a class has.
+fn size_of(class: Named) -> usize {
+    (0..=255u8).filter(|byte| class.contains(*byte)).count()
 }
 
 #[test]
-fn counts_the_bytes_of_classes(rt: HostRuntime) -> Result<(), Fail> {
+fn counts_the_bytes_of_classes(rt: HostRuntime) {
     let rows = [
         (Named::Digit, 10),
         (Named::Word, 63),
@@ -112,13 +113,6 @@ fn counts_the_bytes_of_classes(rt: HostRuntime) -> Result<(), Fail> {
         (Named::Punctuation, 32),
     ];
     for (class, count) in rows {
-        let mut found = Vec::new(rt.alloc());
-        for byte in 0..=255u8 {
-            if class.contains(byte) {
-                found.push(byte)?;
-            }
-        }
-        assert_eq!(rt; found.len(), count, "{class:?}");
+        assert!(rt; size_of(class) == count, "{class:?}");
     }
-    Ok(())
 }

@@ -25,3 +25,5 @@ mod refusals;
 mod rows;
 #[cfg(test)]
 mod support;
+#[cfg(test)]
+mod trees;

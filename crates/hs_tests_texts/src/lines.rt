@@ -1,4 +1,5 @@
 //! The lines that are written, as their tables say them: each table is a list of values and the text of their lines.
+//! It is `#[cfg(test)]`.
 use hs_base::{Construct, ExprId, Refusal, Report};
 use hs_text::{
     LINE_LEN, NAME_LEN, accepted_line, compiled_line, end_line, form_line, info_lines,

@@ -1,4 +1,4 @@
-//! Texts with their trees or their faults: tables of lines, and what fills a text.
+//! Texts with their trees or their faults: tables of lines, and what fills a text. It is `#[cfg(test)]`.
 use hs_base::{Assertion, ByteSet, Construct, Flags, Refusal};
 use hs_expr::Expr;
 use hs_parse::{MAX_TEXT_LEN, ParseFault, parse};
@@ -130,7 +130,7 @@ fn check(
     flags: Flags,
     text: &[u8],
     wanted: &[u8],
-) -> Result<(), Fail> {
+) -> Result<(), AllocError> {
     let found = outcome(alloc, flags, text)?;
     assert!(rt; found.as_bytes() == wanted, "{text:?} gives {found}");
     Ok(())
@@ -168,25 +168,29 @@ fn check_line(
     mark: u8,
     refused: bool,
     line: &[u8],
-) -> Result<(), Fail> {
-    let mut fields = line
-        .split(|byte| *byte == mark)
-        .filter(|field| !field.is_empty());
+) -> Result<(), AllocError> {
+    let mut fields = line.split(|byte| *byte == mark);
     let flags = flags_of(fields.next());
-    let fault = if refused { fields.next() } else { None };
-    for _ in 0..line.len() {
-        let Some(text) = fields.next() else { break };
-        let wanted = match fault {
-            Some(fault) => fault,
-            None => fields.next().unwrap_or(b""),
-        };
-        check(rt, alloc, flags, text, wanted)?;
+    // The fault of the line, or the text whose tree comes next.
+    let mut before: &[u8] = b"";
+    for field in fields {
+        if field.is_empty() {
+            continue;
+        }
+        if before.is_empty() {
+            before = field;
+        } else if refused {
+            check(rt, alloc, flags, field, before)?;
+        } else {
+            check(rt, alloc, flags, before, field)?;
+            before = b"";
+        }
     }
     Ok(())
 }
 
 /// Checks the texts of a table.
-fn check_table(rt: &impl Abort, alloc: Global, table: Table) -> Result<(), Fail> {
+fn check_table(rt: &impl Abort, alloc: Global, table: Table) -> Result<(), AllocError> {
     let (mark, end, refused, lines) = table;
     for line in lines.split(|byte| *byte == end) {
         check_line(rt, alloc, mark, refused, line)?;
@@ -195,20 +199,27 @@ fn check_table(rt: &impl Abort, alloc: Global, table: Table) -> Result<(), Fail>
 }
 
 #[test]
-fn reads_and_refuses_by_the_tables(rt: HostRuntime) -> Result<(), Fail> {
+fn reads_and_refuses_by_the_tables(rt: HostRuntime) -> Result<(), AllocError> {
     for number in 0..7 {
         check_table(&rt, rt.alloc(), table(number))?;
     }
     Ok(())
 }
 
+/// So many copies of a byte, and a text behind them.
+fn long_text(alloc: Global, count: &str, byte: &str, behind: &str) -> Result<Vec<u8>, AllocError> {
+    let byte = byte.as_bytes().first().copied().unwrap_or(0);
+    let mut text = vec![in alloc; byte; count.parse::<usize>().unwrap_or(0)]?;
+    text.extend_from_slice(behind.as_bytes())?;
+    Ok(text)
+}
+
 /// Checks a text that is long, by its row.
-fn check_long(rt: &impl Abort, alloc: Global, row: &str) -> Result<(), Fail> {
+fn check_long(rt: &impl Abort, alloc: Global, row: &str) -> Result<(), AllocError> {
     let mut fields = row.split(' ');
-    let count = fields.next().unwrap_or("").parse::<usize>().unwrap_or(0);
-    let byte = fields.next().unwrap_or("").as_bytes().first().copied();
-    let mut text = vec![in alloc; byte.unwrap_or(0); count]?;
-    text.extend_from_slice(fields.next().unwrap_or("").as_bytes())?;
+    let count = fields.next().unwrap_or("");
+    let byte = fields.next().unwrap_or("");
+    let text = long_text(alloc, count, byte, fields.next().unwrap_or(""))?;
     match fields.next() {
         Some(fault) => check(rt, alloc, Flags::NONE, &text, fault.as_bytes()),
         None => {
@@ -219,7 +230,7 @@ fn check_long(rt: &impl Abort, alloc: Global, row: &str) -> Result<(), Fail> {
 }
 
 #[test]
-fn bounds_length_and_depth(rt: HostRuntime) -> Result<(), Fail> {
+fn bounds_length_and_depth(rt: HostRuntime) -> Result<(), AllocError> {
     for row in faults::LONG.split(';') {
         check_long(&rt, rt.alloc(), row)?;
     }
@@ -227,7 +238,7 @@ fn bounds_length_and_depth(rt: HostRuntime) -> Result<(), Fail> {
 }
 
 #[test]
-fn closes_as_many_groups_as_open(rt: HostRuntime) -> Result<(), Fail> {
+fn closes_as_many_groups_as_open(rt: HostRuntime) -> Result<(), AllocError> {
     let mut text = vec![in rt.alloc(); b'('; 128]?;
     text.push(b'a')?;
     for _ in 0..128 {
@@ -271,7 +282,7 @@ fn reads_whole_texts_of_a_form(rt: HostRuntime) -> Result<(), Fail> {
 }
 
 #[test]
-fn looks_at_three_flags(rt: HostRuntime) -> Result<(), Fail> {
+fn looks_at_three_flags(rt: HostRuntime) -> Result<(), AllocError> {
     for flags in [0, 8, 16, 32, 64, u16::MAX - 7] {
         check(&rt, rt.alloc(), Flags(flags), b"a.[b]^", b"(a_b!A)")?;
     }
@@ -279,7 +290,7 @@ fn looks_at_three_flags(rt: HostRuntime) -> Result<(), Fail> {
 }
 
 #[test]
-fn tells_its_faults(rt: HostRuntime) -> Result<(), Fail> {
+fn tells_its_faults(rt: HostRuntime) -> Result<(), AllocError> {
     let refused = ParseFault::Refused(Refusal::Unsupported(Construct::Keep, 7));
     let text = format!(in rt.alloc(); "{refused}")?;
     assert_eq!(rt;

@@ -1,4 +1,4 @@
-//! Pattern files, whole and with a bad line, as their tables say them.
+//! Pattern files, whole and with a bad line, as their tables say them. It is `#[cfg(test)]`.
 use hs_base::{Entry, Ext};
 use hs_text::{ListFault, read_list};
 use std::alloc::{AllocError, Global};

@@ -1,4 +1,4 @@
-//! Refusals as sentences.
+//! Refusals as sentences. It is `#[cfg(test)]`.
 use hs_base::{Construct, ExprId, Refusal};
 use std::alloc::AllocError;
 

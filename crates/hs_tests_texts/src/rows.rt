@@ -1,4 +1,4 @@
-//! The notation, on one small table.
+//! The notation, on one small table. It is `#[cfg(test)]`.
 use hs_rows::{Row, number_of, rows_of, text_of, words_of};
 use std::test::Fail;
 
@@ -31,11 +31,10 @@ fn a_table_is_cut_into_rows_and_words(rt: HostRuntime) -> Result<(), Fail> {
 fn a_text_has_bytes_and_cuts(rt: HostRuntime) -> Result<(), Fail> {
     let alloc = rt.alloc();
     let text = text_of(alloc, b"a~%FF;%(3)b\n %(2)%00~%(0)c")?;
-    assert_eq!(rt; text.bytes.as_slice(), b"a\xFF\nbbb\x00\x00".as_slice());
-    assert_eq!(rt; text.cuts, 0b1000_0001);
-    assert_eq!(rt; number_of(b"4294967295"), Some(4_294_967_295));
-    assert_eq!(rt; number_of(b"4294967296"), None);
-    assert_eq!(rt; number_of(b""), None);
-    assert_eq!(rt; number_of(b"1x"), None);
+    assert!(rt; text.bytes.as_slice() == b"a\xFF\nbbb\x00\x00".as_slice());
+    assert!(rt; text.cuts == 0b1000_0001);
+    assert!(rt; number_of(b"4294967295") == Some(4_294_967_295));
+    assert!(rt; number_of(b"4294967296").is_none());
+    assert!(rt; number_of(b"").is_none() && number_of(b"1x").is_none());
     Ok(())
 }

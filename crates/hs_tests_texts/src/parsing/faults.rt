@@ -1,4 +1,5 @@
 //! Texts with their faults, by the pattern syntax. A line has flags and a fault, and then texts that have that fault.
+//! It is `#[cfg(test)]`.
 
 /// Texts that are refused.
 pub(crate) const FAULTS: &[u8] = b"\

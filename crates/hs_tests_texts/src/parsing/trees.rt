@@ -1,5 +1,5 @@
 //! Texts with their trees, by the pattern syntax. A line has flags, and then texts, each with its tree behind it. In a
-//! tree a byte that isn't printed is `%` and two hexadecimal digits.
+//! tree a byte that isn't printed is `%` and two hexadecimal digits. It is `#[cfg(test)]`.
 
 /// Texts without classes: quantifiers, alternatives, groups, comments, options, quotes, assertions and escapes.
 pub(crate) const TREES: &[u8] = b"\
