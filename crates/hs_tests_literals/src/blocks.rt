@@ -1,5 +1,5 @@
 //! The masks of blocks by lanes, beside the plain loop. It is `#[cfg(test)]`.
-ghost use Rattle.std.specs.Prelude.{◌≡◌, ◌≤◌, ◌*◌, ◌^◌, IfOk, length, vec_len};
+ghost use Rattle.std.specs.Prelude.{◌≡◌, ◌≤◌, ◌*◌, ◌^◌, IfOk, vec_len};
 
 use hs_fdr::{PLACES, Tables, plain_block, scan_block};
 use std::alloc::{AllocError, Global};
@@ -37,16 +37,28 @@ fn mixed_text() -> [u8; 71] {
     text
 }
 
-/// Whether the lanes and the plain program make the same of a block with as many bytes before it.
-fn agrees(tables: &Tables, before: &[u8], block: &[u8]) -> bool
-    requires { (length before.now ≤ 7) × (length block.now ≤ 64) }
-{
+/// The masks of a block by lanes, with at most seven bytes before it.
+fn by_lanes(tables: &Tables, before: &[u8], block: &[u8], next: Option<u8>) -> [u8; 64] {
+    let mut out = [0; 64];
+    if before.len() <= 7 && block.len() <= 64 {
+        scan_block(tables, before, block, next, &mut out);
+    }
+    out
+}
+
+/// The same by the plain program.
+fn by_loop(tables: &Tables, before: &[u8], block: &[u8], next: Option<u8>) -> [u8; 64] {
+    let mut out = [1; 64];
+    if before.len() <= 7 && block.len() <= 64 {
+        plain_block(tables, before, block, next, &mut out);
+    }
+    out
+}
+
+/// Whether the lanes and the plain program make the same of a block, whatever stands behind it.
+fn agrees(tables: &Tables, before: &[u8], block: &[u8]) -> bool {
     for next in [None, Some(0), Some(1), Some(255)] {
-        let mut lanes = [0; 64];
-        let mut plain = [1; 64];
-        scan_block(tables, before, block, next, &mut lanes);
-        plain_block(tables, before, block, next, &mut plain);
-        if lanes != plain {
+        if by_lanes(tables, before, block, next) != by_loop(tables, before, block, next) {
             return false;
         }
     }
@@ -94,15 +106,6 @@ fn tables_of_ab(alloc: Global) -> Result<Tables, AllocError> {
 const ROWS: &[u8] = b";;;|;xab;;\xFF\xFF\xFE|;b;;\xFE|x;b;;\xFF|a;b;;\xFE|xxxxxxa;bx;;\xFE\xFF|\
     a;b;\x01;\xFC|a;b;\x02;\xFE|;aba;\x01;\xFF\xFC\xFF";
 
-/// The masks of a block with as many bytes before it.
-fn scanned(tables: &Tables, before: &[u8], block: &[u8], next: Option<u8>) -> [u8; 64] {
-    let mut out = [0; 64];
-    if before.len() <= 7 && block.len() <= 64 {
-        scan_block(tables, before, block, next, &mut out);
-    }
-    out
-}
-
 /// Asserts the masks of a row.
 fn check_row(rt: &impl Abort, tables: &Tables, row: &[u8]) {
     let mut fields = row.split(|byte| *byte == b';');
@@ -110,7 +113,7 @@ fn check_row(rt: &impl Abort, tables: &Tables, row: &[u8]) {
     let block = fields.next().unwrap_or(b"");
     let next = fields.next().unwrap_or(b"").first().copied();
     let wanted = fields.next().unwrap_or(b"");
-    for (at, mask) in scanned(tables, before, block, next).iter().enumerate() {
+    for (at, mask) in by_lanes(tables, before, block, next).iter().enumerate() {
         let full = wanted.get(at).copied().unwrap_or(0xFF);
         assert_eq!(rt; *mask, full, "place {at} of {row:?}");
     }
