@@ -14,7 +14,7 @@ pub enum Verb {
 }
 
 /// A command of a script, with the name of its stream.
-#[derive(Clone, Copy)]
+#[derive(Clone, Copy, PartialEq, Eq)]
 pub enum Command<'a> {
     /// Opens a stream of that name, which is empty.
     Open(&'a [u8]),
