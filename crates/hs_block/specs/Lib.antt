@@ -1,3 +1,3 @@
 pub mod WordBits
 pub mod Scans
-pub mod Runs
+pub mod Blocks

@@ -1,14 +1,11 @@
 //! What an engine does that takes a block of bytes at once.
 
 ghost use Rattle.std.specs.Prelude.{◌≡◌, ◌+◌, ◌^◌, ◌≤◌, length};
-ghost use Rattle.hs_block.specs.Runs.{HasRun, IsEnteredThroughout};
+ghost use Rattle.hs_block.specs.Blocks.{TakesBlock, IsEnteredThroughout};
 
 use hs_base::Prev;
 use hs_engine::{Engine, Steps};
 use std::sync::ledger::Ledger;
-
-/// The greatest number of bytes of a block: a bit of a word for each.
-pub const BLOCK_LEN: usize = 64;
 
 /// Where an expression is left in a block of bytes: a bit for each byte, none from its end on.
 #[derive(Clone, Copy, Debug, PartialEq, Eq)]
@@ -39,6 +36,6 @@ pub trait BlockEngine: Engine {
         requires throughout { IsEnteredThroughout (Self.meaning self.now) enters (length bytes.now) }
         ensures len { length region.new ≡ (Self.meaning self.now).width }
         ensures well { (Self.meaning self.now).well region.new (at + length bytes.now) }
-        ensures runs { HasRun (Self.meaning self.now) region.old region.new prev at enters bytes.now result steps.old
-            steps.new };
+        ensures takes { TakesBlock (Self.meaning self.now) region.old region.new prev at enters bytes.now result
+            steps.old steps.new };
 }

@@ -3,4 +3,4 @@
 
 mod engine;
 
-pub use engine::{BLOCK_LEN, BlockEnds, BlockEngine};
+pub use engine::{BlockEnds, BlockEngine};

@@ -1,6 +1,6 @@
--- What an engine does with a block of bytes: its regions from byte to byte, its steps, and where its expression is left.
-use Rattle.std.specs.Prelude.{◌≡◌, ℕ, ◌+◌, ◌<◌, ◌≤◌, Bool, true, false, not, ◌&&◌, ◌||◌, ◌==◌, List, [], ◌∷◌}
-use Rattle.std.specs.Prelude.{◌++◌, length, take}
+-- What an engine does with a block of bytes: its regions byte by byte, its steps, and where its expression is left.
+use Rattle.std.specs.Prelude.{◌≡◌, ℕ, ◌+◌, ◌<◌, ◌≤◌, Bool, true, false, not, ◌&&◌, ◌||◌, ◌==◌, List, [], ◌∷◌, ◌++◌}
+use Rattle.std.specs.Prelude.{length, take}
 use Rattle.hs_base.specs.declared.context.Prev.{Prev}
 use Rattle.hs_base.specs.Contexts.{prev_at}
 use Rattle.hs_base.specs.Trees.{Tree}
@@ -18,7 +18,7 @@ abbrev pub is_blank : List ℕ → Bool
 is_blank [] = true
 is_blank (b ∷ bytes) = (b == 0) && is_blank bytes
 
--- before the byte i something is live, or the engine is entered
+-- before the byte i the engine is entered, or its region isn't all 0
 abbrev pub is_busy : (enters : ℕ) (parts : ℕ → List ℕ) → ℕ → Bool
 is_busy enters parts i = word_bit enters i || not (is_blank (parts i))
 
@@ -32,10 +32,10 @@ pub record IsFieldOf (m : Meaning) (region : List ℕ) (prev : Prev) (at : ℕ) 
   pub field : m.field region tree u entered
 
 -- The engine takes a block of bytes: its region goes from the old one to the new one, byte by byte. For each history of
--- the old one these are the fields, and the two words of the ends tell where the expression is left. It takes a step for
--- each byte before which it is busy; at the others nothing changes.
-pub record IsRun (m : Meaning) (old new : List ℕ) (prev : Prev) (at enters : ℕ) (bytes : List ℕ) (ends : BlockEnds)
-    (ticks : ℕ) : Type 0 where
+-- the old one these are the fields, and the words of the ends tell where the expression is left. It takes a step for
+-- each byte before which it is busy; over the others its region stays.
+pub record IsBlockRun (m : Meaning) (old new : List ℕ) (prev : Prev) (at enters : ℕ) (bytes : List ℕ)
+    (ends : BlockEnds) (ticks : ℕ) : Type 0 where
   -- the region before each byte of the block, and behind the last
   pub parts : ℕ → List ℕ
   pub first : parts 0 ≡ old
@@ -44,14 +44,18 @@ pub record IsRun (m : Meaning) (old new : List ℕ) (prev : Prev) (at enters : �
   pub well : (i : ℕ) → i ≤ length bytes → m.well (parts i) (at + i)
   pub ticks_are : ticks ≡ count_below (length bytes) (is_busy enters parts)
   pub idle : (i : ℕ) → i < length bytes → is_busy enters parts i ≡ false → parts (i + 1) ≡ parts i
-  pub fields : (tree : Tree) (u : List ℕ) (entered : List Bool) → IsFieldOf m old prev at tree u entered → (i : ℕ) →
-      i ≤ length bytes → m.field (parts i) tree (u ++ take i bytes) (entered ++ bits_of enters i)
-  pub scans : (tree : Tree) (u : List ℕ) (entered : List Bool) → IsFieldOf m old prev at tree u entered →
+  pub fields : (tree : Tree) (u : List ℕ) (entered : List Bool) →
+      IsFieldOf m old prev at tree u entered →
+      (i : ℕ) →
+      i ≤ length bytes →
+      m.field (parts i) tree (u ++ take i bytes) (entered ++ bits_of enters i)
+  pub scans : (tree : Tree) (u : List ℕ) (entered : List Bool) →
+      IsFieldOf m old prev at tree u entered →
       Scans (m.field new tree) tree u entered bytes enters ends.before ends.behind
 
--- The counter has grown by the steps of a run.
-pub record HasRun (m : Meaning) (old new : List ℕ) (prev : Prev) (at enters : ℕ) (bytes : List ℕ) (ends : BlockEnds)
-    (steps_old steps_new : ℕ) : Type 0 where
+-- It does so, and the counter grows by its steps.
+pub record TakesBlock (m : Meaning) (old new : List ℕ) (prev : Prev) (at enters : ℕ) (bytes : List ℕ)
+    (ends : BlockEnds) (steps_old steps_new : ℕ) : Type 0 where
   pub ticks : ℕ
   pub counted : steps_new ≡ steps_old + ticks
-  pub run : IsRun m old new prev at enters bytes ends ticks
+  pub run : IsBlockRun m old new prev at enters bytes ends ticks
