@@ -1,3 +1,5 @@
 pub mod WordBits
 pub mod Scans
 pub mod Blocks
+pub mod Rests
+pub mod Progress

@@ -3,6 +3,7 @@
 ghost use Rattle.std.specs.Prelude.{◌≡◌, ◌+◌, ◌^◌, ◌≤◌, length};
 ghost use Rattle.hs_block.specs.Blocks.{TakesBlock, IsEnteredThroughout};
 
+use crate::by_steps::run_by_steps;
 use hs_base::Prev;
 use hs_engine::{Engine, Steps};
 use std::sync::ledger::Ledger;
@@ -37,5 +38,8 @@ pub trait BlockEngine: Engine {
         ensures len { length region.new ≡ (Self.meaning self.now).width }
         ensures well { (Self.meaning self.now).well region.new (at + length bytes.now) }
         ensures takes { TakesBlock (Self.meaning self.now) region.old region.new prev at enters bytes.now result
-            steps.old steps.new };
+            steps.old steps.new }
+    {
+        run_by_steps(self, region, prev, at, enters, bytes, steps)
+    }
 }
