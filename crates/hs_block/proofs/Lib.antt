@@ -1,3 +1,4 @@
 pub mod PlaceLemmas
 pub mod BlockLemmas
 pub mod RunLemmas
+pub mod HandingLemmas

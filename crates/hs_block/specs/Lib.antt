@@ -3,3 +3,4 @@ pub mod Scans
 pub mod Blocks
 pub mod Rests
 pub mod Progress
+pub mod BlockLaws

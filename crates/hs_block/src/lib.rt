@@ -1,6 +1,7 @@
 //! Engines that take a block of up to 64 bytes at once: the places of a block are the bits of words.
 #![tactic(auto)]
 
+pub mod block_laws;
 mod by_steps;
 mod engine;
 mod places;
