@@ -1,12 +1,12 @@
 //! The contexts of the places of a block: a word for each class of bytes, and of these the words of masks.
 //!
-//! The classes of ten bytes, and the places at which an expression of `\b` alone, entered everywhere, is left:
+//! The classes of ten bytes, and the places whose context `\b` allows:
 //!
 //! ```text
 //! bytes              f o o   b a r . . .
 //! word bytes         1 1 1 . 1 1 1 . . .
 //! behind word bytes  . 1 1 1 . 1 1 1 . .    one place on
-//! \b                 1 . . 1 1 . . 1 . .    the one or the other
+//! \b                 1 . . 1 1 . . 1 . .    one of the two alone
 //! ```
 
 ghost use Rattle.std.specs.Prelude.{◌≡◌, ℕ, ◌<◌, ◌≤◌, ◌&&◌, ◌||◌, ◌==◌, List, length};
@@ -70,13 +70,14 @@ impl Classes {
             || ((word_bit self.now.newlines i && has_next set after.Newline)
             || (word_bit self.now.others i && has_next set after.Other))) }
     {
-        only_if(self.words, set.contains(Next::Word))
-            | (only_if(self.newlines, set.contains(Next::Newline))
-                | only_if(self.others, set.contains(Next::Other)))
+        let words = only_if(self.words, set.contains(Next::Word));
+        let newlines = only_if(self.newlines, set.contains(Next::Newline));
+        let others = only_if(self.others, set.contains(Next::Other));
+        words | (newlines | others)
     }
 }
 
-/// The contexts of the places of a block. They take four words, and a nanosecond or two for each byte to make.
+/// The contexts of the places of a block: four words, of which each mask's is made without a look at the bytes.
 #[derive(Clone, Copy, Debug, PartialEq, Eq)]
 pub struct Contexts {
     /// What stands before the block.
@@ -129,13 +130,15 @@ impl Contexts {
     pub fn behind(&self, mask: Mask) -> u64
         ensures { TellsBehind self.now mask result }
     {
-        only_if(self.classes.words, mask.contains(Prev::Word, Next::Unknown))
-            | (only_if(
-                self.classes.newlines,
-                mask.contains(Prev::Newline, Next::Unknown),
-            ) | only_if(
-                self.classes.others,
-                mask.contains(Prev::Other, Next::Unknown),
-            ))
+        let words = only_if(self.classes.words, mask.contains(Prev::Word, Next::Unknown));
+        let newlines = only_if(
+            self.classes.newlines,
+            mask.contains(Prev::Newline, Next::Unknown),
+        );
+        let others = only_if(
+            self.classes.others,
+            mask.contains(Prev::Other, Next::Unknown),
+        );
+        words | (newlines | others)
     }
 }

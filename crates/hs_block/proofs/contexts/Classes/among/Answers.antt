@@ -9,6 +9,6 @@ pub returns : goal.returns
 returns c i =
     let classes = c.args.self.now in
     let x = has_next c.args.set in
-    three-words c.only_if.result c.only_if-2.result c.only_if-3.result i (word_bit classes.words i && x after.Word) (word_bit classes.newlines i && x after.Newline) (word_bit classes.others i && x after.Other)
-    (c.only_if.ensures i ∙ ap (λ k. word_bit classes.words i && k) c.contains.ensures) (c.only_if-2.ensures i ∙ ap (λ k. word_bit classes.newlines i && k) c.contains-2.ensures)
-    (c.only_if-3.ensures i ∙ ap (λ k. word_bit classes.others i && k) c.contains-3.ensures)
+    three-words c.only_if-words.result c.only_if-newlines.result c.only_if-others.result i (word_bit classes.words i && x after.Word) (word_bit classes.newlines i && x after.Newline) (word_bit classes.others i && x after.Other)
+    (c.only_if-words.ensures i ∙ ap (λ k. word_bit classes.words i && k) c.contains.ensures) (c.only_if-newlines.ensures i ∙ ap (λ k. word_bit classes.newlines i && k) c.contains-2.ensures)
+    (c.only_if-others.ensures i ∙ ap (λ k. word_bit classes.others i && k) c.contains-3.ensures)
