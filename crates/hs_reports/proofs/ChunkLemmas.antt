@@ -63,7 +63,7 @@ quiet-byte single kept ends before behind =
     let early : tells_behind single kept ends ≡ false = and_left ends.behind (not (single && (kept.told || tells_before single kept ends))) behind in
     (ap (λ t. kept.told || (t || tells_behind single kept ends)) late ∙ (ap (λ t. kept.told || t) early ∙ or-false kept.told), early)
 
-quiet-behind : (single : Bool) (kept : Kept) (ends : ℕ → Ends) (n : ℕ) → ((i : ℕ) → i < n → ((ends i).before ≡ false) × ((ends i).behind ≡ false)) →
+pub quiet-behind : (single : Bool) (kept : Kept) (ends : ℕ → Ends) (n : ℕ) → ((i : ℕ) → i < n → ((ends i).before ≡ false) × ((ends i).behind ≡ false)) →
     ((kept_behind single kept ends n).told ≡ kept.told) × (0 < n → (kept_behind single kept ends n).here ≡ false)
 quiet-behind single kept ends zero quiet = (refl, λ below. absurd (omega arith))
 quiet-behind single kept ends (suc n) quiet =

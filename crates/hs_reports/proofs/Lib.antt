@@ -1,2 +1,7 @@
 pub mod HeardLemmas
 pub mod ChunkLemmas
+pub mod EventLemmas
+pub mod WordBitLemmas
+pub mod TellingLemmas
+pub mod BlockLemmas
+pub mod WalkLemmas

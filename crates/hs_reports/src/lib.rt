@@ -1,4 +1,12 @@
 //! What a block of bytes tells: the reports that it decides, by words, from where matches of each identifier end.
 #![tactic(auto)]
 
+mod block;
 pub mod chunk_laws;
+mod events;
+mod telling;
+pub mod word_laws;
+
+pub use block::tell_block;
+pub use events::Events;
+pub use telling::{Telling, told_words};
