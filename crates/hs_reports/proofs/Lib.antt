@@ -5,3 +5,4 @@ pub mod WordBitLemmas
 pub mod TellingLemmas
 pub mod BlockLemmas
 pub mod WalkLemmas
+pub mod TerminalLemmas

@@ -1,12 +1,13 @@
 -- Bits of words that are put together.
-use Rattle.std.proofs.Common.{◌≡◌, ℕ, zero, suc, ◌-◌, ◌*◌, ◌/◌, ◌%◌, ◌^◌, ◌<◌, Bool, true, false, not, ◌||◌, ◌&&◌, cond, eqb, leb, bit_and, bit_or, refl, sym, ap, ◌∙◌, arith}
+use Rattle.std.proofs.Common.{◌≡◌, ℕ, zero, suc, ◌+◌, ◌-◌, ◌*◌, ◌/◌, ◌%◌, ◌^◌, ◌<◌, ◌≤◌, Bool, true, false, not, ◌||◌, ◌&&◌, cond, eqb, leb, bit_and, bit_or, refl, sym, ap, ◌∙◌, inl, inr, arith}
 use Rattle.std.specs.Int.{bit_at}
-use Rattle.std.proofs.lemmas.Bool.{le-leb, ne_eqb}
+use Rattle.std.proofs.lemmas.Bool.{le-leb, lt-leb, ne_eqb, and_right, cases_lt}
 use Rattle.std.proofs.lemmas.Nat.{one_shl, or_lt}
-use Rattle.std.proofs.lemmas.Nat.Bits.{shr_and_one}
+use Rattle.std.proofs.lemmas.Nat.Bits.{shr_and_one, ones_shl, ones_shr, bit_at_mask_inside, bit_at_mask_below, bit_at_ones, bit_at_ones_above}
 use Rattle.hs_base.proofs.ByteSetLemmas.{bit-or as or-bits, bit-not as not-bits, or-false}
-use Rattle.hs_base.proofs.ContextSetLemmas.{bit-and as and-bits, bit-empty, bit-one as one-bits}
+use Rattle.hs_base.proofs.ContextSetLemmas.{bit-and as and-bits, bit-empty, bit-all, bit-one as one-bits}
 use Rattle.hs_bits.proofs.WordLemmas.{shl-bit, and-true, and-none}
+use Rattle.hs_reports.specs.Terminals.{is_within}
 use Rattle.hs_reports.specs.WordBits.{word_bit, bit_before}
 
 pub bit-is : (word i : ℕ) → word_bit word i ≡ eqb (bit_at word i) 1
@@ -81,3 +82,47 @@ pub bit-at_one_without : (word other p i : ℕ) → other < 2 ^ 64 → p < 64 �
 bit-at_one_without word other p i fits small below =
     bit-and (bit_and word (1 * 2 ^ p % 2 ^ 64)) (2 ^ 64 - 1 - other) i
     ∙ (ap (λ b. b && word_bit (2 ^ 64 - 1 - other) i) (bit-at_one word p i small) ∙ ap (λ b. (word_bit word i && eqb i p) && b) (bit-not other i fits below))
+
+-- places within bounds
+
+le-same : (a b c d : ℕ) → (a ≤ b → c ≤ d) → (c ≤ d → a ≤ b) → leb a b ≡ leb c d
+le-same a b c d up down = elim (cases_lt b a) [
+  | inl above ↦ lt-leb a b above ∙ sym (elim (cases_lt d c) [ inl over ↦ lt-leb c d over | inr within ↦ absurd (let it : a ≤ b = down within in omega arith) ])
+  | inr within ↦ le-leb a b within ∙ sym (le-leb c d (up within))
+]
+
+pub places-from : (k i : ℕ) → k < 64 → i < 64 → word_bit ((2 ^ 64 - 1) * 2 ^ k % 2 ^ 64) i ≡ leb k i
+unfolding word_bit
+places-from k i small below =
+    ap (λ n. eqb (bit_at n i) 1) (ones_shl 64 k (omega arith))
+    ∙ elim (cases_lt i k) [
+      | inl under ↦ ap (λ n. eqb n 1) (bit_at_mask_below k 64 i under) ∙ sym (lt-leb k i under)
+      | inr above ↦ ap (λ n. eqb n 1) (bit_at_mask_inside k 64 i above below) ∙ sym (le-leb k i above)
+    ]
+
+pub places-none : (k i : ℕ) → 64 ≤ k → i < 64 → word_bit 0 i ≡ leb k i
+places-none k i above below = bit-zero i ∙ sym (lt-leb k i (omega arith))
+
+pub places-to : (last i : ℕ) → last < 63 → word_bit ((2 ^ 64 - 1) / 2 ^ (63 - last)) i ≡ leb i last
+unfolding word_bit
+places-to last i small =
+    let width : 64 - (63 - last) ≡ last + 1 = omega arith in
+    ap (λ n. eqb (bit_at n i) 1) (ones_shr 64 (63 - last) (omega arith) ∙ ap (λ k. 2 ^ k - 1) width)
+    ∙ elim (cases_lt last i) [
+      | inl above ↦ ap (λ n. eqb n 1) (bit_at_ones_above (last + 1) i (omega arith)) ∙ sym (lt-leb i last above)
+      | inr within ↦ ap (λ n. eqb n 1) (bit_at_ones (last + 1) i (omega arith)) ∙ sym (le-leb i last within)
+    ]
+
+pub places-all : (last i : ℕ) → 63 ≤ last → i < 64 → word_bit (2 ^ 64 - 1) i ≡ leb i last
+unfolding word_bit
+places-all last i above below = bit-all 64 i below ∙ sym (le-leb i last (omega arith))
+
+pub bound-both : (from to least greatest at first i : ℕ) → at ≤ greatest → first ≡ least - at → word_bit from i ≡ leb first i → word_bit to i ≡ leb i (greatest - at) →
+    word_bit (bit_and from to) i ≡ is_within least greatest (at + i)
+bound-both from to least greatest at first i within is low high =
+    bit-and from to i
+    ∙ (ap (λ b. b && word_bit to i) (low ∙ le-same first i least (at + i) (λ h. omega arith) (λ h. omega arith))
+    ∙ ap (λ b. leb least (at + i) && b) (high ∙ le-same i (greatest - at) (at + i) greatest (λ h. omega arith) (λ h. omega arith)))
+
+pub bound-none : (least greatest at i : ℕ) → greatest < at → word_bit 0 i ≡ is_within least greatest (at + i)
+bound-none least greatest at i past = bit-zero i ∙ sym (and_right (leb least (at + i)) (leb (at + i) greatest) (lt-leb (at + i) greatest (omega arith)))

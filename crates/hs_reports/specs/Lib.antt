@@ -6,3 +6,5 @@ pub mod Telling
 pub mod WordLaws
 pub mod Events
 pub mod Walks
+pub mod Terminals
+pub mod TerminalLaws

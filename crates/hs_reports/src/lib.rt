@@ -5,8 +5,11 @@ mod block;
 pub mod chunk_laws;
 mod events;
 mod telling;
+mod terminal;
+pub mod terminal_laws;
 pub mod word_laws;
 
 pub use block::tell_block;
 pub use events::Events;
 pub use telling::{Telling, told_words};
+pub use terminal::{Terminal, bound_word};
