@@ -6,3 +6,5 @@ pub mod TellingLemmas
 pub mod BlockLemmas
 pub mod WalkLemmas
 pub mod TerminalLemmas
+pub mod EndTableLemmas
+pub mod GatheringLemmas

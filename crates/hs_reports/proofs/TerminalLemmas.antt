@@ -17,7 +17,7 @@ use Rattle.hs_base.proofs.EntryLemmas.{ends-leaving}
 use Rattle.hs_base.proofs.ListLemmas.{each-member, each-of_members, place-member, one_of-each, one_of-map}
 use Rattle.hs_reports.specs.declared.terminal.Terminal.{Terminal}
 use Rattle.hs_reports.specs.Chunks.{AreChunkEnds, AreConcerned}
-use Rattle.hs_reports.specs.Terminals.{IsTerminalOf, AreTerminals, AreLeftBy, is_within, is_end_at, AreEndsOf, ends_by_words}
+use Rattle.hs_reports.specs.Terminals.{IsTerminalOf, AreTerminals, AreLeftBy, is_within_bounds, is_end_at, AreEndsOf, ends_by_words}
 use Rattle.hs_reports.specs.TerminalLaws.{AreLeftTerminals}
 use Rattle.hs_reports.specs.WordBits.{word_bit}
 use Rattle.hs_reports.proofs.WordBitLemmas.{bit-zero}
@@ -80,8 +80,8 @@ module _ (pieces : ℕ → List Piece) (ids : List ℕ) (P : List Pattern) (term
   terminal-end : (p id : ℕ) → slice_get ids p ≡ Some id → (t : Terminal) → OneOf (λ x. OneOf (IsTerminalOf pieces ids x t) (chains_of x.tree)) P →
       ((word_bit (words t.node) i ≡ true) ↔ LeavesAt (pieces t.node) w next) → is_end_at words p at i t ≡ true → HasEndHere P id w next
   terminal-end p id named t origin tells set =
-      let (is, rest) = and_parts (eqb t.identifier p) (is_within t.least t.greatest at && word_bit (words t.node) i) set in
-      let (within, bit) = and_parts (is_within t.least t.greatest at) (word_bit (words t.node) i) rest in
+      let (is, rest) = and_parts (eqb t.identifier p) (is_within_bounds t.least t.greatest at && word_bit (words t.node) i) set in
+      let (within, bit) = and_parts (is_within_bounds t.least t.greatest at) (word_bit (words t.node) i) rest in
       let (above, below) = and_parts (leb t.least at) (leb at t.greatest) within in
       one_of-each HasSpansOfChains (λ x. OneOf (IsTerminalOf pieces ids x t) (chains_of x.tree)) (EndsHere id w next) P spans
       (λ x has stands. pattern-end x has stands (eqb-true t.identifier p is) (leb-true t.least at above) (leb-true at t.greatest below) (tells.0 bit))
@@ -124,8 +124,8 @@ module _ (pieces : ℕ → List Piece) (ids : List ℕ) (P : List Pattern) (term
         one-any (is_end_at words t.identifier at i) terminals
             (one_of-map (λ y. t ≡ y) (λ y. is_end_at words t.identifier at i y ≡ true) terminals
             (λ y same. subst (λ z. is_end_at words t.identifier at i z ≡ true) same
-            (and_from (eqb t.identifier t.identifier) (is_within t.least t.greatest at && word_bit (words t.node) i) (eq-eqb t.identifier t.identifier refl)
-            (and_from (is_within t.least t.greatest at) (word_bit (words t.node) i)
+            (and_from (eqb t.identifier t.identifier) (is_within_bounds t.least t.greatest at && word_bit (words t.node) i) (eq-eqb t.identifier t.identifier refl)
+            (and_from (is_within_bounds t.least t.greatest at) (word_bit (words t.node) i)
             (and_from (leb t.least at) (leb at t.greatest) (le-leb t.least at (omega (arith, is.least))) (le-leb at t.greatest (omega (arith, is.greatest))))
             (tells.1 (subst (λ c. LeavesAt c w next) (sym is.ends) leaves)))))
             member),
@@ -230,6 +230,6 @@ module _ (pieces : ℕ → List Piece) (ids : List ℕ) (P : List Pattern) (term
         (λ t is. unset t (behinds t.node) (length u + i + 1) (is.within i past below).1) all.left),
   )
     where
-      unset : (t : Terminal) (word at : ℕ) → word_bit word i ≡ false → ((eqb t.identifier p) && (is_within t.least t.greatest at && word_bit word i)) ≡ false
+      unset : (t : Terminal) (word at : ℕ) → word_bit word i ≡ false → ((eqb t.identifier p) && (is_within_bounds t.least t.greatest at && word_bit word i)) ≡ false
       unset t word at none =
-          and_right (eqb t.identifier p) (is_within t.least t.greatest at && word_bit word i) (and_right (is_within t.least t.greatest at) (word_bit word i) none)
+          and_right (eqb t.identifier p) (is_within_bounds t.least t.greatest at && word_bit word i) (and_right (is_within_bounds t.least t.greatest at) (word_bit word i) none)

@@ -7,7 +7,7 @@ use Rattle.std.proofs.lemmas.Nat.Bits.{shr_and_one, ones_shl, ones_shr, bit_at_m
 use Rattle.hs_base.proofs.ByteSetLemmas.{bit-or as or-bits, bit-not as not-bits, or-false}
 use Rattle.hs_base.proofs.ContextSetLemmas.{bit-and as and-bits, bit-empty, bit-all, bit-one as one-bits}
 use Rattle.hs_bits.proofs.WordLemmas.{shl-bit, and-true, and-none}
-use Rattle.hs_reports.specs.Terminals.{is_within}
+use Rattle.hs_reports.specs.Terminals.{is_within_bounds}
 use Rattle.hs_reports.specs.WordBits.{word_bit, bit_before}
 
 pub bit-is : (word i : ℕ) → word_bit word i ≡ eqb (bit_at word i) 1
@@ -118,11 +118,11 @@ unfolding word_bit
 places-all last i above below = bit-all 64 i below ∙ sym (le-leb i last (omega arith))
 
 pub bound-both : (from to least greatest at first i : ℕ) → at ≤ greatest → first ≡ least - at → word_bit from i ≡ leb first i → word_bit to i ≡ leb i (greatest - at) →
-    word_bit (bit_and from to) i ≡ is_within least greatest (at + i)
+    word_bit (bit_and from to) i ≡ is_within_bounds least greatest (at + i)
 bound-both from to least greatest at first i within is low high =
     bit-and from to i
     ∙ (ap (λ b. b && word_bit to i) (low ∙ le-same first i least (at + i) (λ h. omega arith) (λ h. omega arith))
     ∙ ap (λ b. leb least (at + i) && b) (high ∙ le-same i (greatest - at) (at + i) greatest (λ h. omega arith) (λ h. omega arith)))
 
-pub bound-none : (least greatest at i : ℕ) → greatest < at → word_bit 0 i ≡ is_within least greatest (at + i)
+pub bound-none : (least greatest at i : ℕ) → greatest < at → word_bit 0 i ≡ is_within_bounds least greatest (at + i)
 bound-none least greatest at i past = bit-zero i ∙ sym (and_right (leb least (at + i)) (leb (at + i) greatest) (lt-leb (at + i) greatest (omega arith)))

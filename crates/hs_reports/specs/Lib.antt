@@ -8,3 +8,5 @@ pub mod Events
 pub mod Walks
 pub mod Terminals
 pub mod TerminalLaws
+pub mod EndTables
+pub mod Gathering

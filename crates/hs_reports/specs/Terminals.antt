@@ -37,13 +37,13 @@ pub record AreLeftBy (pieces : List Piece) (u bytes : List ℕ) (before behind :
   pub within : (i : ℕ) → length bytes ≤ i → i < 64 → (word_bit before i ≡ false) × (word_bit behind i ≡ false)
 
 -- the offset is within the bounds
-abbrev pub is_within : (least greatest at : ℕ) → Bool
-is_within least greatest at = nat_le least at && nat_le at greatest
+abbrev pub is_within_bounds : (least greatest at : ℕ) → Bool
+is_within_bounds least greatest at = nat_le least at && nat_le at greatest
 
 -- a match of the identifier of that number ends at the offset, by bit i of the word of the terminal's node
 abbrev pub is_end_at : (words : ℕ → ℕ) → (identifier at i : ℕ) → Terminal → Bool
 is_end_at words identifier at i t =
-    (t.identifier == identifier) && (is_within t.least t.greatest at && word_bit (words t.node) i)
+    (t.identifier == identifier) && (is_within_bounds t.least t.greatest at && word_bit (words t.node) i)
 
 -- the words have the ends of the identifier of that number about each byte from the offset on, by the words of the
 -- terminals' nodes

@@ -2,7 +2,7 @@
 
 ghost use Rattle.std.specs.Prelude.{◌≡◌, ℕ, ◌+◌, ◌<◌, nat_le};
 ghost use Rattle.hs_reports.specs.WordBits.{word_bit};
-ghost use Rattle.hs_reports.specs.Terminals.{is_within};
+ghost use Rattle.hs_reports.specs.Terminals.{is_within_bounds};
 
 /// The last node of a chain of pieces: where it is left within the bounds, a match of the identifier ends.
 #[derive(Clone, Copy, Debug, PartialEq, Eq)]
@@ -19,7 +19,7 @@ pub struct Terminal {
 
 /// The places of a block at the offset `at` that are within bounds: bit i is set if the offset `at + i` is.
 pub fn bound_word(least: u64, greatest: u64, at: u64) -> u64
-    ensures { (i : ℕ) → i < 64 → word_bit result i ≡ is_within least greatest (at + i) }
+    ensures { (i : ℕ) → i < 64 → word_bit result i ≡ is_within_bounds least greatest (at + i) }
 {
     if greatest < at {
         return 0;
