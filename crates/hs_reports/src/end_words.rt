@@ -1,7 +1,7 @@
 //! Where matches of one identifier end in a block.
 
 /// Where matches of an identifier end about the bytes of a block.
-#[derive(Clone, Copy, Debug, PartialEq, Eq)]
+#[derive(Clone, Copy)]
 pub struct EndWords {
     /// Bit i: a match ends before the byte i.
     pub before: u64,

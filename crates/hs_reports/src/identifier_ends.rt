@@ -3,7 +3,8 @@
 ghost use Rattle.std.specs.Prelude.{◌≡◌, ℕ, ◌+◌, ◌*◌, ◌<◌, ◌≤◌, ◌^◌, IfOk, length, [], ◌∷◌};
 ghost use Rattle.hs_base.specs.Bits.{has_word_bit};
 ghost use Rattle.hs_bits.specs.NextBits.{IsNextBitIn};
-ghost use Rattle.hs_reports.specs.EndTables.{AddsEnds, IsBlank, IsQuiet, Notes, Unites, Unnotes, identifier_at, words_of};
+ghost use Rattle.hs_reports.specs.EndTables.{AddsEnds, IsBlank, IsQuiet, Notes, Unites, Unnotes};
+ghost use Rattle.hs_reports.specs.EndTables.{identifier_at, words_of};
 
 use crate::end_words::EndWords;
 use crate::terminal::{Terminal, bound_word};
@@ -13,7 +14,7 @@ use std::marker::Model;
 
 /// Where matches of each identifier of a list end in a block, by their numbers, 16 bytes and a bit for each. An
 /// identifier with an end is noted, so that the others are passed over.
-#[derive(Debug, Drop)]
+#[derive(Drop)]
 pub struct IdentifierEnds {
     words: Vec<EndWords>,
     noted: Vec<u64>,

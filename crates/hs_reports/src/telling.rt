@@ -7,7 +7,7 @@ ghost use Rattle.hs_reports.specs.WordBits.{bit_before, word_bit};
 use hs_bits::lowest_bit;
 
 /// Which pairs of an identifier the bytes of a block decide.
-#[derive(Clone, Copy, Debug, PartialEq, Eq)]
+#[derive(Clone, Copy)]
 pub struct Telling {
     /// Bit i: the byte i decides the pair that ends before it.
     pub late: u64,

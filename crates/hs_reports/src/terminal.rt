@@ -5,7 +5,7 @@ ghost use Rattle.hs_reports.specs.WordBits.{word_bit};
 ghost use Rattle.hs_reports.specs.Terminals.{is_within_bounds};
 
 /// The last node of a chain of pieces: where it is left within the bounds, a match of the identifier ends.
-#[derive(Clone, Copy, Debug, PartialEq, Eq)]
+#[derive(Clone, Copy)]
 pub struct Terminal {
     /// The number of the identifier among those of the list.
     pub identifier: u32,
