@@ -8,8 +8,6 @@ mod literals;
 mod marks;
 mod places;
 mod scan;
-#[cfg(test)]
-mod tests;
 
 pub use literals::Literals;
 pub use scan::LitScan;

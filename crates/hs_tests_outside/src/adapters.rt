@@ -1,7 +1,7 @@
-//! The adapters over real files, and over readers and writers that the system could be.
+//! The adapters over real files, and over readers and writers that the system could be. It is `#[cfg(test)]`.
 use crate::memory::{check_calls, check_reads, check_writes};
 use hs_outside::{Failed, FolderStore, StdSink, StdSource, Store, write_all};
-use std::alloc::Allocator;
+use std::alloc::{AllocError, Allocator};
 use std::fs::{File, Metadata, OpenOptions, Permissions};
 use std::io::{Error, ErrorKind, Read, Write};
 use std::os::unix::fs::{PermissionsExt, symlink};
@@ -103,60 +103,104 @@ const STEPS: &str = " folder
 /link holds No birds
 /file holds No birds";
 
-/// Puts five million bytes, and reads them.
-fn put_long(rt: &HostRuntime, path: &str) -> Result<bool, Fail> {
+/// Puts bytes, and tells whether that was done.
+fn is_put(rt: &HostRuntime, path: &str, bytes: &[u8]) -> bool {
+    FolderStore::new(rt).put(path, bytes).is_ok()
+}
+
+/// Puts bytes where no file can be renamed, and tells whether that was done.
+fn is_put_stuck(rt: &HostRuntime, path: &str, bytes: &[u8]) -> bool {
+    FolderStore::new(Stuck(rt)).put(path, bytes).is_ok()
+}
+
+/// Whether the file has these bytes.
+fn holds(rt: &HostRuntime, path: &str, bytes: &[u8]) -> bool {
+    match fs::read(rt, path) {
+        Ok(found) => found.as_slice() == bytes,
+        Err(_) => false,
+    }
+}
+
+/// Puts five million bytes, and tells whether the file has them.
+fn is_put_long(rt: &HostRuntime, path: &str) -> Result<bool, AllocError> {
     let long = vec![in rt.alloc(); b'x'; 5 * 1024 * 1024]?;
-    let answer = FolderStore::new(rt).put(path, &long);
-    Ok(answer.is_ok() && fs::read(rt, path)?.as_slice() == long.as_slice())
+    Ok(is_put(rt, path, &long) && holds(rt, path, &long))
+}
+
+/// Gives the file the mode 640.
+fn set_mode(rt: &HostRuntime, path: &str) -> bool {
+    fs::set_permissions(rt, path, Permissions::from_mode(0o640)).is_ok()
+}
+
+/// Whether the file has the mode 640.
+fn has_mode(rt: &HostRuntime, path: &str) -> bool {
+    match fs::metadata(rt, path) {
+        Ok(found) => found.permissions().mode() & 0o7777 == 0o640,
+        Err(_) => false,
+    }
+}
+
+/// Whether a symbolic link stands there.
+fn is_link(rt: &HostRuntime, path: &str) -> bool {
+    match fs::symlink_metadata(rt, path) {
+        Ok(found) => found.is_symlink(),
+        Err(_) => false,
+    }
 }
 
 /// Does what a step says, and tells whether all is as it is to be.
-fn is_so(rt: &HostRuntime, path: &str, step: &str) -> Result<bool, Fail> {
-    let (verb, text) = step.split_once(' ').unwrap_or((step, ""));
+fn is_so(rt: &HostRuntime, path: &str, verb: &str, text: &str) -> Result<bool, AllocError> {
     let bytes = text.as_bytes();
     Ok(match verb {
         "folder" => fs::create_dir(rt, path).is_ok(),
         "write" => fs::write(rt, path, bytes).is_ok(),
-        "set_mode" => fs::set_permissions(rt, path, Permissions::from_mode(0o640)).is_ok(),
+        "set_mode" => set_mode(rt, path),
         "link_to" => symlink(rt, text, path).is_ok(),
-        "put_long" => put_long(rt, path)?,
-        "put_stuck" => FolderStore::new(Stuck(rt)).put(path, bytes) == Err(Failed),
-        "put" => FolderStore::new(rt).put(path, bytes).is_ok(),
-        "holds" => fs::read(rt, path)?.as_slice() == bytes,
-        "has_mode" => fs::metadata(rt, path)?.permissions().mode() & 0o7777 == 0o640,
-        "is_link" => fs::symlink_metadata(rt, path)?.is_symlink(),
-        "is_absent" => !fs::exists(rt, path)?,
+        "put_long" => is_put_long(rt, path)?,
+        "put_stuck" => !is_put_stuck(rt, path, bytes),
+        "put" => is_put(rt, path, bytes),
+        "holds" => holds(rt, path, bytes),
+        "has_mode" => has_mode(rt, path),
+        "is_link" => is_link(rt, path),
+        "is_absent" => matches!(fs::exists(rt, path), Ok(false)),
         _ => false,
     })
+}
+
+/// Does a step, and tells whether all is as it is to be.
+fn is_step_so(rt: &HostRuntime, folder: &str, step: &str) -> Result<bool, AllocError> {
+    let (name, behind) = step.split_once(' ').unwrap_or((step, ""));
+    let (verb, text) = behind.split_once(' ').unwrap_or((behind, ""));
+    let path = format!(in rt.alloc(); "{folder}{name}")?;
+    is_so(rt, path.as_str(), verb, text)
 }
 
 #[test]
 fn a_put_is_whole_and_keeps_what_it_does_not_replace(rt: HostRuntime) -> Result<(), Fail> {
     let folder = format!(in rt.alloc(); "/tmp/hs_outside-{}", process::id(rt.process()))?;
     for step in STEPS.split('\n') {
-        let (name, behind) = step.split_once(' ').unwrap_or((step, ""));
-        let path = format!(in rt.alloc(); "{folder}{name}")?;
-        assert!(rt; is_so(&rt, path.as_str(), behind)?, "{step}");
+        assert!(rt; is_step_so(&rt, folder.as_str(), step)?, "{step}");
     }
     fs::remove_dir_all(&rt, folder.as_str())?;
     Ok(())
 }
 
-/// Asserts what streams over files and over a device give and take.
-fn check_streams(rt: &(impl Abort + Files + AllocGlobal), path: &str) -> Result<(), Fail> {
-    let mut sink = StdSink::new(fs::create(rt, path)?);
+/// Asserts what a stream into a file takes.
+fn check_sink(rt: &impl Abort, file: File) {
+    let mut sink = StdSink::new(file);
     check_writes(rt, &mut sink, "Look, =6|a bird=6");
     assert!(rt; sink.flush().is_ok());
-    check_reads(
-        rt,
-        &mut StdSource::new(fs::open(rt, path)?),
-        16,
-        "Look, a bird|",
-    );
-    check_reads(rt, &mut StdSource::new(fs::open(rt, "/tmp")?), 4, "!");
-    check_reads(rt, &mut StdSource::new(Slow(None)), 4, "!");
-    check_writes(rt, &mut StdSink::new(Slow(None)), "Look=!");
-    Ok(())
+}
+
+/// Asserts what a stream out of a file gives.
+fn check_source(rt: &impl Abort, file: File, room: usize, rows: &str) {
+    check_reads(rt, &mut StdSource::new(file), room, rows);
+}
+
+#[test]
+fn streams_over_a_device_that_is_interrupted_fail(rt: HostRuntime) {
+    check_reads(&rt, &mut StdSource::new(Slow(None)), 4, "!");
+    check_writes(&rt, &mut StdSink::new(Slow(None)), "Look=!");
 }
 
 /// Asserts that a short write is counted as short, and the rest is written behind it.
@@ -170,7 +214,9 @@ fn check_short(rt: &impl Abort, file: File) {
 fn streams_move_the_bytes_of_a_file(rt: HostRuntime) -> Result<(), Fail> {
     let id = process::id(rt.process());
     let path = format!(in rt.alloc(); "/tmp/hs_outside-{id}-stream")?;
-    check_streams(&rt, path.as_str())?;
+    check_sink(&rt, fs::create(&rt, path.as_str())?);
+    check_source(&rt, fs::open(&rt, path.as_str())?, 16, "Look, a bird|");
+    check_source(&rt, fs::open(&rt, "/tmp")?, 4, "!");
     check_short(&rt, fs::create(&rt, path.as_str())?);
     assert!(rt; fs::read(&rt, path.as_str())?.as_slice() == b"Look, a bird".as_slice());
     fs::remove_file(&rt, path.as_str())?;

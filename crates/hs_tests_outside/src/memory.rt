@@ -1,12 +1,12 @@
-//! The versions over memory call by call, and the loops over them.
+//! The versions over memory call by call, and the loops over them. It is `#[cfg(test)]`.
 ghost use Rattle.hs_outside.specs.Store.{untold};
 
 use hs_outside::{
     Failed, FileFault, MemSink, MemSource, MemStore, Sink, Source, SourceFault, Store, StoreFault,
     SureSink, SureSource, SureStore, read_file, read_to_end, write_all,
 };
+use std::alloc::{AllocError, Global};
 use std::process::Abort;
-use std::test::Fail;
 
 /// What most tests read and write.
 const TEXT: &[u8] = b"Look, a bird";
@@ -68,112 +68,178 @@ pub(crate) fn check_calls(rt: &impl Abort, store: &mut impl Store, rows: &str) {
     }
 }
 
+/// Asserts what a source of the text gives by pieces of these lengths, with a buffer of so many bytes.
+fn check_source(
+    rt: &impl Abort,
+    alloc: Global,
+    pieces: &[usize],
+    fails: &[u64],
+    room: usize,
+    rows: &str,
+) -> Result<(), AllocError> {
+    let mut source = MemSource::new(alloc, TEXT, pieces, fails)?;
+    check_reads(rt, &mut source, room, rows);
+    assert!(rt; source.faults() == fails.len() as u64);
+    Ok(())
+}
+
 #[test]
-fn sources_give_pieces_and_fail_at_listed_reads(rt: HostRuntime) -> Result<(), Fail> {
-    let mut source = MemSource::new(rt.alloc(), TEXT, &[2, 0, 3], &[2, 6])?;
-    check_reads(&rt, &mut source, 4, "Lo|!|o|k, |a b|!|ird||");
-    assert!(rt; source.faults() == 2);
-    let mut source = MemSource::new(rt.alloc(), TEXT, &[], &[])?;
-    check_reads(&rt, &mut source, 9, "Look, a b|ird");
+fn a_source_gives_pieces_and_fails_at_listed_reads(rt: HostRuntime) -> Result<(), AllocError> {
+    let rows = "Lo|!|o|k, |a b|!|ird||";
+    check_source(&rt, rt.alloc(), &[2, 0, 3], &[2, 6], 4, rows)?;
+    check_source(&rt, rt.alloc(), &[], &[], 9, "Look, a b|ird")
+}
+
+#[test]
+fn a_sure_source_gives_pieces(rt: HostRuntime) -> Result<(), AllocError> {
     let mut source = SureSource::new(rt.alloc(), TEXT, &[2, 1, 5])?;
     check_reads(&rt, &mut source, 4, "Lo|o|k, a| bir|d||");
     Ok(())
 }
 
 #[test]
-fn sinks_take_what_fits(rt: HostRuntime) -> Result<(), Fail> {
+fn a_sink_takes_what_fits(rt: HostRuntime) -> Result<(), AllocError> {
     let mut sink = MemSink::new(rt.alloc(), 8, &[2])?;
     check_writes(&rt, &mut sink, "Look=4|, a=!|, a bird=4|bird=!|=0");
     assert!(rt; sink.written() == b"Look, a ".as_slice() && sink.faults() == 2);
+    Ok(())
+}
+
+/// Asserts the answer of a write, and what the sink tells then.
+fn check_told(rt: &impl Abort, sink: &mut SureSink, row: &str, written: Option<&[u8]>) {
+    check_writes(rt, sink, row);
+    assert!(rt; sink.written() == written, "{row}");
+}
+
+/// Writes the whole text, and tells whether that was done.
+fn is_done(sink: &mut impl Sink, text: &[u8]) -> bool {
+    write_all(sink, text).is_ok()
+}
+
+#[test]
+fn a_sure_sink_tells_until_it_is_full(rt: HostRuntime) -> Result<(), AllocError> {
     let mut sink = SureSink::new(rt.alloc(), 12)?;
-    for part in [b"Look, ", b"a bird"] {
-        assert!(rt; write_all(&mut sink, part).is_ok());
-    }
-    for (row, written) in [("=0", Some(TEXT)), ("!=1", None), ("=0", None)] {
-        check_writes(&rt, &mut sink, row);
-        assert!(rt; sink.written() == written, "{row}");
-    }
+    assert!(rt; is_done(&mut sink, b"Look, ") && is_done(&mut sink, b"a bird"));
+    check_told(&rt, &mut sink, "=0", Some(TEXT));
+    check_told(&rt, &mut sink, "!=1", None);
+    check_told(&rt, &mut sink, "=0", None);
     Ok(())
 }
 
+/// Asserts what calls on a store give, how many of them fail, and what the file `a` is then.
+fn check_store(rt: &impl Abort, mut store: MemStore, rows: &str, faults: u64, left: Option<&[u8]>) {
+    check_calls(rt, &mut store, rows);
+    assert!(rt; store.faults() == faults, "{rows}");
+    assert!(rt; store.file("a") == left, "{rows}");
+}
+
 #[test]
-fn a_store_keeps_files_within_its_room(rt: HostRuntime) -> Result<(), Fail> {
-    let mut store = MemStore::new(rt.alloc(), 2, 12, &[3])?;
+fn a_store_keeps_files_within_its_room(rt: HostRuntime) -> Result<(), AllocError> {
     // The third call is listed, then comes a third file, 13 bytes, and 12.
-    check_calls(
-        &rt,
-        &mut store,
-        "a<Look=|b<bird=|a<!=!|c<=!|a<Look, a=!|a<Look, =",
-    );
-    assert!(rt; store.file("a") == Some(b"Look, ".as_slice()));
-    assert!(rt; store.file("b") == Some(b"bird".as_slice()));
-    assert!(rt; store.file("c").is_none() && store.faults() == 3);
-    let mut store = MemStore::new(rt.alloc(), 1, 99, &[3, 4])?;
+    let rows = "a<Look=|b<bird=|a<!=!|c<=!|a<Look, a=!|a<Look, =|b@0=bird|c@0=?";
+    let store = MemStore::new(rt.alloc(), 2, 12, &[3])?;
+    check_store(&rt, store, rows, 3, Some(b"Look, "));
     let rows = "a<Look, a bird=|a@8=bird|a@0=!|b@0=?|a@12=|a@18446744073709551615=";
-    check_calls(&rt, &mut store, rows);
-    assert!(rt; store.faults() == 1);
+    let store = MemStore::new(rt.alloc(), 1, 99, &[3, 4])?;
+    check_store(&rt, store, rows, 1, Some(TEXT));
     Ok(())
 }
 
+/// Asserts what a call gives, and whether the store tells its files then.
+fn check_call(rt: &impl Abort, store: &mut SureStore, row: &str, is_told: bool) {
+    check_calls(rt, store, row);
+    assert!(rt; store.is_told() == is_told, "{row}");
+}
+
 #[test]
-fn a_sure_store_tells_until_it_is_full(rt: HostRuntime) -> Result<(), Fail> {
+fn a_sure_store_tells_until_it_is_full(rt: HostRuntime) -> Result<(), AllocError> {
     let mut store = SureStore::new(rt.alloc(), 2, 12)?;
     // Twelve bytes are told, and thirteen aren't, nor what comes behind them.
-    check_calls(&rt, &mut store, "a<Look=|b<bird=|a<Look, =");
-    assert!(rt; store.is_told());
-    for row in ["a<Look, a=", "b<!="] {
-        check_calls(&rt, &mut store, row);
-        assert!(rt; !store.is_told(), "{row}");
-    }
-    assert!(rt; store.file("a") == Some(b"Look, ".as_slice()));
+    check_call(&rt, &mut store, "a<Look=|b<bird=|a<Look, =", true);
+    check_call(&rt, &mut store, "a<Look, a=", false);
+    check_call(&rt, &mut store, "b<!=", false);
+    assert!(rt; store.file("a") == Some(b"Look, "));
     check_calls(&rt, &mut store, "b@0=!|a@4=, |c@0=?");
-    let mut store = SureStore::new(rt.alloc(), 1, 12)?;
-    check_calls(&rt, &mut store, "a<=|b<=");
-    assert!(rt; !store.is_told());
     Ok(())
 }
 
 #[test]
-fn loops_go_to_the_end_or_the_fault(rt: HostRuntime) -> Result<(), Fail> {
-    let cases = [
-        (12, 0, None),
-        (11, 0, Some(SourceFault::Limit)),
-        (12, 3, Some(SourceFault::Failed)),
-    ];
-    for (limit, fails, fault) in cases {
-        let mut source = MemSource::new(rt.alloc(), TEXT, &[5], &[fails])?;
-        match read_to_end(rt.alloc(), &mut source, limit) {
-            Ok(bytes) => assert!(rt; fault.is_none() && bytes.as_slice() == TEXT),
-            Err(found) => assert!(rt; fault == Some(found), "limit {limit}"),
-        }
+fn a_sure_store_has_room_for_so_many_files(rt: HostRuntime) -> Result<(), AllocError> {
+    let mut store = SureStore::new(rt.alloc(), 1, 12)?;
+    check_call(&rt, &mut store, "a<=|b<=", false);
+    Ok(())
+}
+
+/// Asserts that a source is read to the end of the text, or to its fault.
+fn check_end(
+    rt: &impl Abort,
+    alloc: Global,
+    source: &mut impl Source,
+    limit: u64,
+    fault: Option<SourceFault>,
+) {
+    match read_to_end(alloc, source, limit) {
+        Ok(bytes) => assert!(rt; fault.is_none() && bytes.as_slice() == TEXT),
+        Err(found) => assert!(rt; fault == Some(found), "limit {limit}"),
     }
-    let read = read_to_end(rt.alloc(), &mut SureSource::new(rt.alloc(), TEXT, &[])?, 12);
-    assert!(rt; read.is_ok_and(|bytes| bytes.as_slice() == TEXT));
+}
+
+/// Asserts that a source that fails at that read is read to the end of the text, or to its fault.
+fn check_ends(
+    rt: &impl Abort,
+    alloc: Global,
+    limit: u64,
+    fails: u64,
+    fault: Option<SourceFault>,
+) -> Result<(), AllocError> {
+    let mut source = MemSource::new(alloc, TEXT, &[5], &[fails])?;
+    check_end(rt, alloc, &mut source, limit, fault);
+    Ok(())
+}
+
+#[test]
+fn reading_goes_to_the_end_or_the_fault(rt: HostRuntime) -> Result<(), AllocError> {
+    check_ends(&rt, rt.alloc(), 12, 0, None)?;
+    check_ends(&rt, rt.alloc(), 11, 0, Some(SourceFault::Limit))?;
+    check_ends(&rt, rt.alloc(), 12, 3, Some(SourceFault::Failed))?;
+    let mut sure = SureSource::new(rt.alloc(), TEXT, &[])?;
+    check_end(&rt, rt.alloc(), &mut sure, 12, None);
+    Ok(())
+}
+
+#[test]
+fn writing_goes_to_the_end_or_the_fault(rt: HostRuntime) -> Result<(), AllocError> {
     let mut sink = MemSink::new(rt.alloc(), 14, &[])?;
-    for answer in [Ok(()), Err(Failed)] {
-        assert!(rt; write_all(&mut sink, TEXT) == answer);
-    }
+    assert!(rt; is_done(&mut sink, TEXT) && !is_done(&mut sink, TEXT));
     assert!(rt; sink.written() == b"Look, a birdLo".as_slice());
     Ok(())
 }
 
-#[test]
-fn a_file_is_read_whole_within_the_limit(rt: HostRuntime) -> Result<(), Fail> {
-    let mut store = MemStore::new(rt.alloc(), 1, 99, &[9])?;
-    assert!(rt; store.put("a", TEXT).is_ok());
-    let cases = [
-        ("a", 12, None),
-        ("a", 11, Some(FileFault::Limit)),
-        ("b", 12, Some(FileFault::Absent)),
-        ("a", 12, None),
-        ("a", 12, Some(FileFault::Failed)),
-    ];
-    for (name, limit, fault) in cases {
-        match read_file(rt.alloc(), &mut store, name, limit) {
-            Ok(bytes) => assert!(rt; fault.is_none() && bytes.as_slice() == TEXT),
-            Err(found) => assert!(rt; fault == Some(found), "limit {limit}"),
-        }
+/// Asserts that a file of the store is the text, or which fault it has.
+fn check_file(
+    rt: &impl Abort,
+    alloc: Global,
+    store: &mut MemStore,
+    name: &str,
+    limit: u64,
+    fault: Option<FileFault>,
+) {
+    match read_file(alloc, store, name, limit) {
+        Ok(bytes) => assert!(rt; fault.is_none() && bytes.as_slice() == TEXT),
+        Err(found) => assert!(rt; fault == Some(found), "limit {limit}"),
     }
+}
+
+#[test]
+fn a_file_is_read_whole_within_the_limit(rt: HostRuntime) -> Result<(), AllocError> {
+    let alloc = rt.alloc();
+    let mut store = MemStore::new(alloc, 1, 99, &[9])?;
+    check_calls(&rt, &mut store, "a<Look, a bird=");
+    check_file(&rt, alloc, &mut store, "a", 12, None);
+    check_file(&rt, alloc, &mut store, "a", 11, Some(FileFault::Limit));
+    check_file(&rt, alloc, &mut store, "b", 12, Some(FileFault::Absent));
+    check_file(&rt, alloc, &mut store, "a", 12, None);
+    check_file(&rt, alloc, &mut store, "a", 12, Some(FileFault::Failed));
     Ok(())
 }
 

@@ -1,4 +1,4 @@
-//! Words and what they ask for, by the rules of `clap`.
+//! Words and what they ask for, by the rules of `clap`. It is `#[cfg(test)]`.
 use hs_request::{Request, request_of};
 use std::alloc::{AllocError, Global};
 use std::test::Fail;

@@ -1,9 +1,8 @@
-//! No end of a literal is masked out by the tables of a list.
-use crate::build;
+//! No end of a literal is masked out by the tables of a list. It is `#[cfg(test)]`.
 use hs_base::LitByte;
 use hs_fdr::{BLOCK_LEN, PLACES, Tables, scan_block};
+use hs_fdr_build::build;
 use std::alloc::{AllocError, Global};
-use std::test::Fail;
 
 /// A literal of a text's bytes, its small letters in both cases or not.
 fn literal(alloc: Global, text: &[u8], both_cases: bool) -> Result<Vec<LitByte>, AllocError> {
@@ -85,7 +84,7 @@ const ENDS: &str = "0 |3 to|9 to,to,to|13 he,the, the,in the|2i wh,qu|\
 12i whether,not,mind,suffer,slings,arrows,outrageous,fortune,be,or";
 
 #[test]
-fn misses_no_end(rt: HostRuntime) -> Result<(), Fail> {
+fn misses_no_end(rt: HostRuntime) -> Result<(), AllocError> {
     let text = b"to be or not to be, that is the question: Whether 'tis nobler in the mind to \
         suffer the slings and arrows of outrageous fortune";
     for row in ENDS.split('|') {
@@ -112,7 +111,7 @@ fn words(alloc: Global, count: u32) -> Result<String, AllocError> {
 }
 
 #[test]
-fn misses_no_end_of_many(rt: HostRuntime) -> Result<(), Fail> {
+fn misses_no_end_of_many(rt: HostRuntime) -> Result<(), AllocError> {
     let text = words(rt.alloc(), 600)?;
     let (least, list) = read_row(rt.alloc(), text.as_str())?;
     let (ends, missed) = ends_and_missed(rt.alloc(), list.as_slice(), text.as_bytes())?;
@@ -138,7 +137,7 @@ fn zeros(tables: &Tables) -> u32 {
 const ZEROS: &str = "0 |3075 ab|3078i ab|9 abcdefghi";
 
 #[test]
-fn makes_no_other_bit_zero(rt: HostRuntime) -> Result<(), Fail> {
+fn makes_no_other_bit_zero(rt: HostRuntime) -> Result<(), AllocError> {
     for row in ZEROS.split('|') {
         let (count, list) = read_row(rt.alloc(), row)?;
         let (tables, _buckets) = build(rt.alloc(), list.as_slice())?;
@@ -148,7 +147,7 @@ fn makes_no_other_bit_zero(rt: HostRuntime) -> Result<(), Fail> {
 }
 
 #[test]
-fn misses_no_pair_of_bytes(rt: HostRuntime) -> Result<(), Fail> {
+fn misses_no_pair_of_bytes(rt: HostRuntime) -> Result<(), AllocError> {
     let mut list = Vec::new(rt.alloc());
     for first in 0..=255u8 {
         for second in 0..=255 {

@@ -1,9 +1,9 @@
-//! The masks of blocks by lanes, beside the plain loop.
+//! The masks of blocks by lanes, beside the plain loop. It is `#[cfg(test)]`.
 ghost use Rattle.std.specs.Prelude.{◌≡◌, ◌≤◌, ◌*◌, ◌^◌, IfOk, length, vec_len};
 
-use crate::{PLACES, Tables, plain_block, scan_block};
+use hs_fdr::{PLACES, Tables, plain_block, scan_block};
 use std::alloc::{AllocError, Global};
-use std::test::Fail;
+use std::process::Abort;
 
 /// As many masks as tables of that width have, all the same.
 fn all_masks(alloc: Global, width: u8, mask: u8) -> Result<Vec<u8>, AllocError>
@@ -54,7 +54,7 @@ fn agrees(tables: &Tables, before: &[u8], block: &[u8]) -> bool
 }
 
 #[test]
-fn lanes_agree_with_the_plain_program(rt: HostRuntime) -> Result<(), Fail> {
+fn lanes_agree_with_the_plain_program(rt: HostRuntime) -> Result<(), AllocError> {
     let text = mixed_text();
     for width in [9, 12, 15] {
         let tables = mixed_tables(rt.alloc(), width)?;
@@ -90,39 +90,40 @@ fn tables_of_ab(alloc: Global) -> Result<Tables, AllocError> {
     Tables::from_masks(alloc, 9, masks.as_slice())
 }
 
+/// The bytes before a block, the block, the byte behind it or none, and the masks that aren't 255.
+const ROWS: &[u8] = b";;;|;xab;;\xFF\xFF\xFE|;b;;\xFE|x;b;;\xFF|a;b;;\xFE|xxxxxxa;bx;;\xFE\xFF|\
+    a;b;\x01;\xFC|a;b;\x02;\xFE|;aba;\x01;\xFF\xFC\xFF";
+
+/// The masks of a block with as many bytes before it.
+fn scanned(tables: &Tables, before: &[u8], block: &[u8], next: Option<u8>) -> [u8; 64] {
+    let mut out = [0; 64];
+    if before.len() <= 7 && block.len() <= 64 {
+        scan_block(tables, before, block, next, &mut out);
+    }
+    out
+}
+
+/// Asserts the masks of a row.
+fn check_row(rt: &impl Abort, tables: &Tables, row: &[u8]) {
+    let mut fields = row.split(|byte| *byte == b';');
+    let before = fields.next().unwrap_or(b"");
+    let block = fields.next().unwrap_or(b"");
+    let next = fields.next().unwrap_or(b"").first().copied();
+    let wanted = fields.next().unwrap_or(b"");
+    for (at, mask) in scanned(tables, before, block, next).iter().enumerate() {
+        let full = wanted.get(at).copied().unwrap_or(0xFF);
+        assert_eq!(rt; *mask, full, "place {at} of {row:?}");
+    }
+}
+
 #[test]
-fn marks_the_last_byte_of_a_literal(rt: HostRuntime) -> Result<(), Fail> {
+fn marks_the_last_byte_of_a_literal(rt: HostRuntime) -> Result<(), AllocError> {
     let tables = tables_of_ab(rt.alloc())?;
     assert_eq!(rt; tables.width(), 9);
-    assert_eq!(rt;
-        (
-            tables.mask(0, 98),
-            tables.mask(1, 97),
-            tables.mask(1, 98),
-            tables.mask(7, 0)
-        ),
-        (0xFE, 0xFC, 0xFD, 0xFC)
-    );
-    let table: [(&[u8], &[u8], Option<u8>, &[u8]); 9] = [
-        (b"", b"", None, b""),
-        (b"", b"xab", None, b"\xFF\xFF\xFE"),
-        (b"", b"b", None, b"\xFE"),
-        (b"x", b"b", None, b"\xFF"),
-        (b"a", b"b", None, b"\xFE"),
-        (b"xxxxxxa", b"bx", None, b"\xFE\xFF"),
-        (b"a", b"b", Some(1), b"\xFC"),
-        (b"a", b"b", Some(2), b"\xFE"),
-        (b"", b"aba", Some(1), b"\xFF\xFC\xFF"),
-    ];
-    for (before, block, next, want) in table {
-        let mut out = [0; 64];
-        if before.len() <= 7 && block.len() <= 64 {
-            scan_block(&tables, before, block, next, &mut out);
-        }
-        for (at, mask) in out.iter().enumerate() {
-            let wanted = want.get(at).copied().unwrap_or(0xFF);
-            assert_eq!(rt; *mask, wanted, "place {at} of {block:?} behind {before:?}");
-        }
+    assert!(rt; tables.mask(0, 98) == 0xFE && tables.mask(1, 97) == 0xFC);
+    assert!(rt; tables.mask(1, 98) == 0xFD && tables.mask(7, 0) == 0xFC);
+    for row in ROWS.split(|byte| *byte == b'|') {
+        check_row(&rt, &tables, row);
     }
     Ok(())
 }

@@ -1,5 +1,5 @@
-//! The least place of a byte of a set, beside a plain search.
-use crate::next_in;
+//! The least place of a byte of a set, beside a plain search. It is `#[cfg(test)]`.
+use hs_accel::next_in;
 use hs_base::ByteSet;
 
 /// A set of these bytes.
