@@ -15,6 +15,3 @@ mod text;
 
 pub use cutting::{Row, rows_of, words_of};
 pub use text::{Text, number_of, text_of};
-
-#[cfg(test)]
-mod tests;

@@ -1,9 +1,9 @@
 //! What is counted and asked of trees, and the items that they are flattened to: rows that one test reads.
-use crate::{
+use hs_base::ByteSet;
+use hs_expr::{
     Assertion, Expr, flatten, greatest_width, has_embedded_end, is_plain, least_width,
     matches_empty, positions,
 };
-use hs_base::ByteSet;
 use std::alloc::{AllocError, Global};
 use std::mem;
 use std::process::Abort;

@@ -1,5 +1,5 @@
 //! Words and what they ask for, by the rules of `clap`.
-use crate::{Request, request_of};
+use hs_request::{Request, request_of};
 use std::alloc::{AllocError, Global};
 use std::test::Fail;
 

@@ -1,6 +1,6 @@
 //! The adapters over real files, and over readers and writers that the system could be.
-use crate::tests::{check_calls, check_reads, check_writes};
-use crate::{Failed, FolderStore, StdSink, StdSource, Store, write_all};
+use crate::memory::{check_calls, check_reads, check_writes};
+use hs_outside::{Failed, FolderStore, StdSink, StdSource, Store, write_all};
 use std::alloc::Allocator;
 use std::fs::{File, Metadata, OpenOptions, Permissions};
 use std::io::{Error, ErrorKind, Read, Write};

@@ -1,6 +1,6 @@
 //! Forms, pieces and classes, a row for each kind.
-use super::*;
 use hs_base::{Assertion, Construct, Flags};
+use hs_syntax::{Form, Mode, Named, Piece, Wrong, form_at, piece_at};
 use std::test::Fail;
 
 /// The options without a flag.

@@ -1,9 +1,9 @@
 //! The lines that are written, as their tables say them: each table is a list of values and the text of their lines.
-use crate::{
+use hs_base::{Construct, ExprId, Refusal, Report};
+use hs_text::{
     LINE_LEN, NAME_LEN, accepted_line, compiled_line, end_line, form_line, info_lines,
     refusal_line, report_line,
 };
-use hs_base::{Construct, ExprId, Refusal, Report};
 use std::test::Fail;
 
 /// The greatest number of 32 bits.

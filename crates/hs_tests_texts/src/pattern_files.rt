@@ -1,6 +1,6 @@
 //! Pattern files, whole and with a bad line, as their tables say them.
-use crate::{ListFault, read_list};
 use hs_base::{Entry, Ext};
+use hs_text::{ListFault, read_list};
 use std::alloc::{AllocError, Global};
 use std::process::Abort;
 use std::test::Fail;

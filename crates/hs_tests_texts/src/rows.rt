@@ -1,5 +1,5 @@
 //! The notation, on one small table.
-use crate::{Row, number_of, rows_of, text_of, words_of};
+use hs_rows::{Row, number_of, rows_of, text_of, words_of};
 use std::test::Fail;
 
 /// Three rows, one of them of two lines.

@@ -1,7 +1,7 @@
 //! The versions over memory call by call, and the loops over them.
 ghost use Rattle.hs_outside.specs.Store.{untold};
 
-use crate::{
+use hs_outside::{
     Failed, FileFault, MemSink, MemSource, MemStore, Sink, Source, SourceFault, Store, StoreFault,
     SureSink, SureSource, SureStore, read_file, read_to_end, write_all,
 };

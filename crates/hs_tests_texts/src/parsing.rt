@@ -1,7 +1,8 @@
 //! Texts with their trees or their faults: tables of lines, and what fills a text.
-use super::*;
-use hs_base::{Assertion, ByteSet, Construct};
-use std::alloc::AllocError;
+use hs_base::{Assertion, ByteSet, Construct, Flags, Refusal};
+use hs_expr::Expr;
+use hs_parse::{MAX_TEXT_LEN, ParseFault, parse};
+use std::alloc::{AllocError, Global};
 use std::process::Abort;
 use std::test::Fail;
 

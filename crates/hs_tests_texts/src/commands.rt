@@ -1,5 +1,5 @@
 //! The lines of a script, and the lines that answer them, as their tables say them.
-use crate::{
+use hs_text::{
     Command, LINE_LEN, Reply, ScriptFault, Verb, Word, command, reply_line, script_fault_line,
 };
 use std::test::Fail;

@@ -1,9 +1,9 @@
 //! The definitions judged by rows from outside: what PCRE's pattern syntax and the Hyperscan guide say
 //! of ends, bounds and single matches.
 
-use super::{Pattern, match_reports};
 use hs_base::{Assertion, ByteSet, ExprId, Report};
 use hs_expr::Expr;
+use hs_plain::{Pattern, match_reports};
 use std::alloc::{AllocError, Global};
 use std::test::Fail;
 

@@ -1,8 +1,8 @@
 //! Positions counted by pieces, as rows that one test reads, and what no list can say: bits without a letter or a name,
 //! and a very long sequence.
-use crate::{check, excess_positions, flags_fault};
 use hs_base::{Assertion, ByteSet, Ext, Flags, Refusal};
 use hs_expr::Expr;
+use hs_support::{check, excess_positions, flags_fault};
 use std::alloc::{AllocError, Global};
 use std::mem;
 use std::test::Fail;

@@ -1,6 +1,6 @@
 //! Database files byte by byte: written, read, cut and changed. Files and digests are hexadecimal digits.
-use crate::{DecodeFault, decode_file, digest, encode_file, encode_list};
 use hs_base::{Entry, ExprId, Ext, Flags};
+use hs_dbfile::{DecodeFault, decode_file, digest, encode_file, encode_list};
 use sha2::{Digest, Sha256};
 use std::alloc::{AllocError, Global};
 use std::process::Abort;
