@@ -34,7 +34,7 @@ pub enum Reply {
 }
 
 /// Where a script ends that isn't of the form. Command lines are counted from 1.
-#[derive(Clone, Copy)]
+#[derive(Clone, Copy, Debug, PartialEq, Eq)]
 pub enum ScriptFault {
     /// The line isn't a command, or what it writes isn't followed by a line feed.
     Script(u64),
