@@ -119,23 +119,66 @@ impl Setting {
     /// Takes a field of a row.
     fn set(&mut self, alloc: Global, name: &[u8], value: &[u8]) -> Result<(), Fail> {
         match name {
-            b"run" => self.commands = file_of(alloc, value)?.unwrap_or(Vec::new(alloc)),
-            b"p" => self.patterns = file_of(alloc, value)?,
-            b"f" => self.file = file_of(alloc, value)?,
-            b"d" => self.database = file_of(alloc, value)?,
-            b"in" => self.script = file_of(alloc, value)?.unwrap_or(Vec::new(alloc)),
-            b"opens" => self.opens_all = true,
+            b"run" | b"in" => self.set_bytes(
+                name,
+                file_of(alloc, value)?.unwrap_or(Vec::new(alloc)),
+            ),
+            b"p" | b"f" | b"d" => self.set_file(name, file_of(alloc, value)?),
             b"pieces" => self.pieces = numbers_in(alloc, value)?,
-            b"room" => self.room = number_in(value)? as usize,
-            b"store" => self.faults.store = u64::from(number_in(value)?),
-            b"source" => self.faults.source = u64::from(number_in(value)?),
-            b"out" => self.faults.out = u64::from(number_in(value)?),
-            b"err" => self.faults.err = u64::from(number_in(value)?),
-            b"gone" => self.faults.gone = u64::from(number_in(value)?),
+            b"opens" => self.opens_all = true,
             b"fails" => self.fails_each = true,
+            b"room" => self.room = number_in(value)? as usize,
+            _ => return self.faults.set(name, u64::from(number_in(value)?)),
+        }
+        Ok(())
+    }
+
+    /// Takes the commands or the script.
+    fn set_bytes(&mut self, name: &[u8], bytes: Vec<u8>) {
+        match name {
+            b"run" => self.commands = bytes,
+            _ => self.script = bytes,
+        }
+    }
+
+    /// Takes a file.
+    fn set_file(&mut self, name: &[u8], file: Option<Vec<u8>>) {
+        match name {
+            b"p" => self.patterns = file,
+            b"f" => self.file = file,
+            _ => self.database = file,
+        }
+    }
+}
+
+impl Faults {
+    /// Takes the call that fails of that name.
+    fn set(&mut self, name: &[u8], call: u64) -> Result<(), Fail> {
+        match name {
+            b"store" => self.store = call,
+            b"source" => self.source = call,
+            b"out" => self.out = call,
+            b"err" => self.err = call,
+            b"gone" => self.gone = call,
             _ => return Err("no such field".into()),
         }
         Ok(())
+    }
+}
+
+impl Answer {
+    /// Whether this answer, which is wanted, is the one that was found.
+    pub(crate) fn is_met_by(&self, found: &Answer) -> bool {
+        found.status == self.status
+            && self.out.starts_with(&found.out)
+            && (self.is_cut || found.out == self.out)
+            && found.err == self.err
+            && (self.left.is_none() || found.left == self.left)
+    }
+
+    /// Whether the answer that was found is a beginning of this one, broken off by a fault of that line.
+    pub(crate) fn is_cut_short(&self, found: &Answer, line: &[u8]) -> bool {
+        found.status == 3 && self.out.starts_with(&found.out) && found.err.as_slice() == line
     }
 }
 
