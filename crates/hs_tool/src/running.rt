@@ -1,10 +1,10 @@
 //! The runs of a row, and what is judged of them. It is `#[cfg(test)]`.
 
 use crate::leaving::Leaving;
-use crate::setting::{Answer, Faults, ROOM, Setting, wanted_of};
+use crate::setting::{Answer, Faults, NO_FAULTS, ROOM, Setting, wanted_of};
 use crate::top::run;
 use hs_outside::{Failed, MemSink, MemSource, MemStore, Store};
-use hs_rows::{rows_of, words_of};
+use hs_rows::rows_of;
 use std::alloc::{AllocError, Global};
 use std::test::Fail;
 
@@ -25,12 +25,17 @@ enum Part {
 impl Part {
     /// That call of the commands on this part fails, and what is written to `err` then.
     fn fails(self, setting: &Setting, call: u64) -> (Faults, &'static [u8]) {
-        let none = Faults::default();
         let (store, source, out) = (setting.puts().saturating_add(call), call, call);
         match self {
-            Part::Store => (Faults { store, ..none }, b"fault store\n"),
-            Part::Source => (Faults { source, ..none }, b"fault read\n"),
-            Part::Out => (Faults { out, ..none }, b"fault write\n"),
+            Part::Store => (Faults { store, ..NO_FAULTS }, b"fault store\n"),
+            Part::Source => (
+                Faults {
+                    source,
+                    ..NO_FAULTS
+                },
+                b"fault read\n",
+            ),
+            Part::Out => (Faults { out, ..NO_FAULTS }, b"fault write\n"),
         }
     }
 }
@@ -80,15 +85,6 @@ fn store_of(alloc: Global, setting: &Setting, faults: Faults) -> Result<Leaving,
     Ok(Leaving::new(store, faults.gone))
 }
 
-/// The words of a command.
-fn command_words(alloc: Global, command: &[u8]) -> Result<Vec<String>, Fail> {
-    let mut words = Vec::new(alloc);
-    for word in words_of(alloc, command)? {
-        words.push(String::from_utf8(word)?)?;
-    }
-    Ok(words)
-}
-
 impl World {
     /// What the commands of a row run over, with the script in pieces of that length.
     fn of(alloc: Global, setting: &Setting, piece: usize, faults: Faults) -> Result<World, Fail> {
@@ -102,13 +98,14 @@ impl World {
 
     /// Runs a command, and gives its status.
     fn run(&mut self, alloc: Global, words: &[String]) -> u8 {
-        let World {
-            store,
-            input,
-            out,
-            err,
-        } = self;
-        run(alloc, words, store, input, out, err)
+        run(
+            alloc,
+            words,
+            &mut self.store,
+            &mut self.input,
+            &mut self.out,
+            &mut self.err,
+        )
     }
 
     /// Whether a call failed.
@@ -137,8 +134,8 @@ impl World {
 fn run_row(alloc: Global, setting: &Setting, piece: usize, faults: Faults) -> Result<Answer, Fail> {
     let mut world = World::of(alloc, setting, piece, faults)?;
     let mut status = 0;
-    for command in setting.commands.split(|byte| *byte == b'\n') {
-        status = world.run(alloc, &command_words(alloc, command)?);
+    for words in &setting.commands {
+        status = world.run(alloc, words);
     }
     Ok(world.answer(alloc, status)?)
 }
@@ -182,22 +179,6 @@ fn judge_calls(
     Err("a row of too many calls".into())
 }
 
-/// Judges a row that is read.
-fn judge_setting(
-    alloc: Global,
-    name: &str,
-    setting: &Setting,
-    wanted: &Answer,
-) -> Result<(), Fail> {
-    judge_row(alloc, name, setting, wanted)?;
-    if setting.fails_each {
-        for part in [Part::Store, Part::Source, Part::Out] {
-            judge_calls(alloc, name, setting, wanted, part)?;
-        }
-    }
-    Ok(())
-}
-
 /// Judges a row of these words, behind the row that gives what it doesn't say.
 fn judge_words(
     alloc: Global,
@@ -214,7 +195,13 @@ fn judge_words(
         wanted.out = name_lines(alloc, b"ok open ", &wanted.out)?;
     }
     let name = format!(in alloc; "{words:?} = {written:?}")?;
-    judge_setting(alloc, &name, &setting, &wanted)
+    judge_row(alloc, &name, &setting, &wanted)?;
+    if setting.fails_each {
+        for part in [Part::Store, Part::Source, Part::Out] {
+            judge_calls(alloc, &name, &setting, &wanted, part)?;
+        }
+    }
+    Ok(())
 }
 
 /// Judges the rows of a table.
