@@ -1,5 +1,5 @@
 use Rattle.std.proofs.Common.{◌≡◌, length}
-use Rattle.hs_repeat.proofs.tests.is_left.Given as goal
+use Rattle.hs_tests_engines.proofs.behind.step_through.Given as goal
 
 abbrev pub invariant-loop-byte : goal.invariant-loop-byte
 invariant-loop-byte g l = record {

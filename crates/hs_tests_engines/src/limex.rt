@@ -1,40 +1,11 @@
-//! Both engines of one automaton side by side.
+//! Both engines of one automaton side by side. It is `#[cfg(test)]`.
 
-ghost use Rattle.std.specs.Prelude.{◌≡◌, ◌<◌, ◌^◌, length};
-
-use crate::{Limex, Plain};
-use hs_base::{Assertion, ByteSet, Mask, Next, NextSet, Prev};
-use hs_engine::{Automaton, Engine, FollowRows, Steps};
+use crate::behind::left_behind;
+use hs_base::{Assertion, ByteSet, Mask, Next};
+use hs_engine::{Automaton, Engine, FollowRows};
+use hs_limex::{Limex, Plain};
 use std::alloc::{AllocError, Global};
-use std::marker::Brand;
-use std::sync::ledger::{Blank, Ledger};
 use std::test::Fail;
-
-/// What may come next behind the text, where the expression is entered before each of its bytes.
-fn left_behind<E: Engine, L: Ledger>(
-    engine: &E,
-    region: &mut [u8],
-    text: &[u8],
-    blank: Blank,
-) -> NextSet
-    requires region { length region.old ≡ (E.meaning engine.now).width }
-    requires text { length text.now < 2 ^ 63 }
-    requires name { blank.name ≡ L.name }
-    requires parts { blank.parts ≡ L.parts }
-    requires some { 0 < L.parts }
-    ensures { length region.new ≡ (E.meaning engine.now).width }
-{
-    let mut steps = Steps::<L>::open(blank);
-    engine.clear(region);
-    let mut prev = Prev::Start;
-    let mut at = 0;
-    for byte in text {
-        engine.step(region, prev, at, NextSet::all(), *byte, &mut steps);
-        prev = Prev::behind(*byte);
-        at += 1;
-    }
-    engine.out(region, prev, at)
-}
 
 /// `\ba(?:b+\z)?`.
 fn words(alloc: Global) -> Result<Automaton, AllocError> {
@@ -69,8 +40,8 @@ fn both_leave_where_the_expression_matches(rt: HostRuntime) -> Result<(), Fail> 
     ];
     for (text, next, wanted) in table {
         let text = text.as_bytes();
-        let found = left_behind::<Limex, Brand>(&limex, &mut region, text, Blank::new(1));
-        let beside = left_behind::<Plain, Brand>(&plain, &mut twin, text, Blank::new(1));
+        let found = left_behind(&limex, &mut region, text, true);
+        let beside = left_behind(&plain, &mut twin, text, true);
         assert_eq!(rt; found.contains(next), wanted);
         assert_eq!(rt; beside.contains(next), wanted);
     }
@@ -84,7 +55,7 @@ fn rests_until_it_is_entered(rt: HostRuntime) -> Result<(), Fail> {
     let mut region = vec![in alloc; 0u8; engine.size()]?;
     assert!(rt; engine.at_rest(&region) && engine.well_formed(&region, 0));
     assert!(rt; engine.wakers().contains(b'a') && !engine.wakers().contains(b'b'));
-    let _set = left_behind::<Limex, Brand>(&engine, &mut region, b"a", Blank::new(1));
+    let _set = left_behind(&engine, &mut region, b"a", true);
     assert!(rt; !engine.at_rest(&region) && engine.well_formed(&region, 1));
     Ok(())
 }

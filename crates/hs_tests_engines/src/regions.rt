@@ -1,6 +1,6 @@
-//! Regions of known lists: their sizes, and their bytes.
+//! Regions of known lists: their sizes, and their bytes. It is `#[cfg(test)]`.
 
-use crate::Layout;
+use hs_layout::Layout;
 use std::alloc::{AllocError, Global};
 use std::test::Fail;
 

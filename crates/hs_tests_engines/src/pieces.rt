@@ -1,7 +1,7 @@
-//! One split; the crate of tests compares many with the plain program.
-use crate::{Piece, split};
+//! One split; the crate of tests compares many with the plain program. It is `#[cfg(test)]`.
 use hs_base::{Assertion, ByteSet};
 use hs_expr::Expr;
+use hs_pieces::{Piece, split};
 use std::alloc::{AllocError, Global};
 use std::test::Fail;
 
