@@ -2,8 +2,9 @@
 ghost use Rattle.std.specs.Prelude.{◌≡◌, ◌≤◌, length, drop, slice_get};
 ghost use Rattle.hs_syntax.specs.Names.{group_name_end};
 ghost use Rattle.hs_syntax.specs.Bytes.{place_on};
-ghost use Rattle.hs_syntax.specs.Groups.{comment_of, named_of, changed, settings_of, settings_at, letter_group, angle_group};
-ghost use Rattle.hs_syntax.specs.Groups.{hyphen_group, question_by, question_of, group_at, closing_parenthesis};
+ghost use Rattle.hs_syntax.specs.Groups.{comment_of, named_of, changed, settings_of, settings_at, letter_group};
+ghost use Rattle.hs_syntax.specs.Groups.{angle_group, hyphen_group, question_by, question_of, group_at};
+ghost use Rattle.hs_syntax.specs.Groups.{closing_parenthesis};
 
 use crate::form::Form;
 use crate::mode::{Change, Mode, set_options};
