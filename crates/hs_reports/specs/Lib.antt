@@ -1,0 +1,12 @@
+pub mod Heard
+pub mod Chunks
+pub mod ChunkLaws
+pub mod WordBits
+pub mod Telling
+pub mod WordLaws
+pub mod Events
+pub mod Walks
+pub mod Terminals
+pub mod TerminalLaws
+pub mod EndTables
+pub mod Gathering

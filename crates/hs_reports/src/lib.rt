@@ -1,0 +1,20 @@
+//! What a block of bytes tells: the reports that it decides, by words, from where matches of each identifier end.
+#![tactic(auto)]
+
+mod block;
+pub mod chunk_laws;
+mod end_words;
+mod events;
+pub mod gathering_laws;
+mod identifier_ends;
+mod telling;
+mod terminal;
+pub mod terminal_laws;
+pub mod word_laws;
+
+pub use block::tell_block;
+pub use end_words::EndWords;
+pub use events::Events;
+pub use identifier_ends::IdentifierEnds;
+pub use telling::{Telling, told_words};
+pub use terminal::{Terminal, bound_word};
