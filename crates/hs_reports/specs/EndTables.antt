@@ -78,8 +78,8 @@ pub record Unites (old new : EndTable) (place before behind : ℕ) : Type 0 wher
       ≡ (if p == place then united (words_of old p) before behind else words_of old p)
   pub noted : (p : ℕ) → is_noted new p ≡ ((p == place) || is_noted old p)
 
--- One identifier has no end any more, and isn't noted.
-pub record Unnotes (old new : EndTable) (place : ℕ) : Type 0 where
+-- One identifier has no end any more, and is noted or not.
+pub record Resets (old new : EndTable) (place : ℕ) (stays : Bool) : Type 0 where
   pub count : length new.words ≡ length old.words
   pub words : (p : ℕ) → words_of new p ≡ (if p == place then no_words else words_of old p)
-  pub noted : (p : ℕ) → is_noted new p ≡ (if p == place then false else is_noted old p)
+  pub noted : (p : ℕ) → is_noted new p ≡ (if p == place then stays else is_noted old p)

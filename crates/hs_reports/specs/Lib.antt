@@ -10,3 +10,5 @@ pub mod Terminals
 pub mod TerminalLaws
 pub mod EndTables
 pub mod Gathering
+pub mod Tellings
+pub mod Settlement

@@ -70,7 +70,7 @@ fn tell_if<V: Events>(is_due: bool, id: ExprId, to: u64, events: &mut V)
 }
 
 /// Whether the bit of that place is set.
-fn has_bit(word: u64, place: usize) -> bool
+pub(crate) fn has_bit(word: u64, place: usize) -> bool
     requires { place < 64 }
     ensures { result ≡ word_bit word place }
 {

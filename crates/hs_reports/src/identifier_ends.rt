@@ -3,7 +3,7 @@
 ghost use Rattle.std.specs.Prelude.{◌≡◌, ℕ, ◌+◌, ◌*◌, ◌<◌, ◌≤◌, ◌^◌, IfOk, length, [], ◌∷◌};
 ghost use Rattle.hs_base.specs.Bits.{has_word_bit};
 ghost use Rattle.hs_bits.specs.NextBits.{IsNextBitIn};
-ghost use Rattle.hs_reports.specs.EndTables.{AddsEnds, IsBlank, IsQuiet, Notes, Unites, Unnotes};
+ghost use Rattle.hs_reports.specs.EndTables.{AddsEnds, IsBlank, IsQuiet, Notes, Resets, Unites};
 ghost use Rattle.hs_reports.specs.EndTables.{identifier_at, words_of};
 
 use crate::end_words::EndWords;
@@ -46,7 +46,6 @@ impl IdentifierEnds {
     pub fn count(&self) -> usize
         ensures count { result ≡ length self.now.words }
         ensures few { result < 2 ^ 32 }
-        ensures quiet { IsQuiet self.now }
     {
         self.words.len()
     }
@@ -99,20 +98,26 @@ impl IdentifierEnds {
 
     /// The first identifier that is noted from a number on, if there is one.
     pub fn next(&self, from: usize) -> Option<usize>
-        ensures { IsNextBitIn (has_word_bit self.now.noted) from (length self.now.words) result }
+        ensures next { IsNextBitIn (has_word_bit self.now.noted) from (length self.now.words) result }
+        ensures quiet { IsQuiet self.now }
     {
         next_bit_in(&self.noted, from, self.words.len())
     }
 
-    /// Where matches of the identifier of that number end; it has none from then on, and isn't noted.
-    pub fn take(&mut self, place: usize) -> EndWords
-        requires { place < length self.old.words }
-        ensures words { result ≡ words_of self.old place }
-        ensures unnoted { Unnotes self.old self.new place }
+    /// Where matches of the identifier of that number end.
+    pub fn words(&self, place: usize) -> EndWords
+        requires { place < length self.now.words }
+        ensures { result ≡ words_of self.now place }
     {
-        let words = self.words[place];
+        self.words[place]
+    }
+
+    /// The identifier of that number has no end any more, and stays noted or not.
+    pub fn reset(&mut self, place: usize, stays: bool)
+        requires { place < length self.old.words }
+        ensures { Resets self.old self.new place stays }
+    {
         self.words[place] = EndWords::NONE;
-        write_word_bit(&mut self.noted, place, false);
-        words
+        write_word_bit(&mut self.noted, place, stays);
     }
 }
