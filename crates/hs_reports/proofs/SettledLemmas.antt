@@ -18,11 +18,12 @@ use Rattle.hs_reports.specs.declared.identifier.Identifier.{Identifier}
 use Rattle.hs_reports.specs.Chunks.{kept_behind, AreChunkEnds, AreConcerned, AreChunkOf}
 use Rattle.hs_reports.specs.EndTables.{EndTable, words_of, is_noted, IsQuiet}
 use Rattle.hs_reports.specs.Heard.{IsHeard}
-use Rattle.hs_reports.specs.Settlement.{numbers_of, known_at, AreKnown, ArePending, AreBlockEnds, SettlesBlock, IsSettledAt, IsSettledTo}
+use Rattle.hs_reports.specs.Identifiers.{id_numbers, numbers_of}
+use Rattle.hs_reports.specs.Settlement.{known_at, AreKnown, ArePending, AreBlockEnds, SettlesBlock}
+use Rattle.hs_reports.proofs.SettlementLemmas.{IsSettledAt, IsSettledTo}
 use Rattle.hs_reports.specs.Telling.{AreTellingWords, IsToldBefore, AreBlockWords, is_telling}
 use Rattle.hs_reports.specs.Tellings.{TellingTable, pairs_of_tellings}
 use Rattle.hs_reports.specs.Terminals.{ends_by_words}
-use Rattle.hs_reports.specs.Walks.{id_numbers}
 use Rattle.hs_reports.specs.WordBits.{word_bit}
 use Rattle.hs_reports.proofs.BlockLemmas.{block-new}
 use Rattle.hs_reports.proofs.ChunkLemmas.{chunk-heard, chunk-stays}

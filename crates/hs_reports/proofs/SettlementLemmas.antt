@@ -1,19 +1,54 @@
 -- What a block settles of the noted identifiers, one by one.
-use Rattle.std.proofs.Common.{◌≡◌, ℕ, zero, suc, ◌+◌, ◌-◌, ◌^◌, ◌<◌, ◌≤◌, ◌⊎◌, Bool, true, false, ◌||◌, ◌&&◌, List, [], ◌∷◌, ◌++◌, length, get_or, Option, Some, None, slice_get, refl, sym, ap, subst, ◌∙◌, inl, inr, arith, length-append}
+use Rattle.std.proofs.Common.{◌≡◌, ℕ, zero, suc, ◌+◌, ◌-◌, ◌^◌, ◌<◌, ◌≤◌, ◌⊎◌, Bool, true, false, ◌||◌, ◌&&◌, List, [], ◌∷◌, ◌++◌, length, get_or, Option, Some, None, slice_get, slice_index, refl, sym, ap, subst, ◌∙◌, inl, inr, arith, length-append}
 use Rattle.std.specs.Slice.Scan.{HoldsNowhere}
 use Rattle.std.proofs.lemmas.Bool.{both_ways, cases_lt, cases_eq}
 use Rattle.std.proofs.lemmas.List.{get_or_append_left, get_or_push}
 use Rattle.std.proofs.lemmas.Option.{same_Some, slice_get_within}
 use Rattle.hs_base.specs.Bits.{has_word_bit}
 use Rattle.hs_base.specs.Lists.{Each, IsMember}
+use Rattle.hs_base.specs.Settling.{AreRising}
 use Rattle.hs_base.proofs.ListLemmas.{each-member, each-of_members, each-append, member-left, member-right, place-member, rising-append}
 use Rattle.hs_bits.specs.NextBits.{IsNextBitIn}
 use Rattle.hs_reports.specs.declared.identifier.Identifier.{Identifier}
 use Rattle.hs_reports.specs.EndTables.{EndTable, words_of, is_noted}
-use Rattle.hs_reports.specs.Settlement.{SettlesOne, IsSettledAt, IsSettledTo}
+use Rattle.hs_reports.specs.Settlement.{ArePending, SettlesOne}
 use Rattle.hs_reports.specs.Telling.{TellsWords, is_telling}
 use Rattle.hs_reports.specs.Tellings.{TellingTable, no_tellings, with_telling}
 use Rattle.hs_reports.specs.WordBits.{word_bit}
+
+-- The identifier of number p, which is that of number k of those that are told, is settled.
+pub record IsSettledAt (identifiers : List Identifier) (last : ℕ) (table : EndTable) (told here told' here' : List ℕ)
+    (tellings : TellingTable) (k p : ℕ) : Type 0 where
+  pub x : Identifier
+  pub there : slice_get identifiers p ≡ Some x
+  pub named : slice_get tellings.ids k ≡ Some x.id
+  pub late_fits : slice_index tellings.lates k < 2 ^ 64
+  pub early_fits : slice_index tellings.earlies k < 2 ^ 64
+  pub tells : TellsWords x.single (has_word_bit told p) (has_word_bit here p) (words_of table p).before
+      (words_of table p).behind (record { late = slice_index tellings.lates k; early = slice_index tellings.earlies k })
+  pub told_is : has_word_bit told' p ≡ (has_word_bit told p
+      || (x.single && is_telling (slice_index tellings.lates k) (slice_index tellings.earlies k)))
+  pub here_is : has_word_bit here' p ≡ word_bit (slice_index tellings.earlies k) last
+
+-- Of the noted identifiers those with a number before `from` are settled, and are told at these numbers.
+pub record IsSettledTo (identifiers : List Identifier) (last : ℕ) (table : EndTable) (told here : List ℕ)
+    (table' : EndTable) (told' here' : List ℕ) (tellings : TellingTable) (from : ℕ) : Type 0 where
+  pub places : List ℕ
+  pub rising : AreRising places
+  pub below : Each (λ p. p < from) places
+  pub noted : (p : ℕ) → p < from → is_noted table p ≡ true → IsMember p places
+  pub count : length tellings.ids ≡ length places
+  pub lates_count : length tellings.lates ≡ length places
+  pub earlies_count : length tellings.earlies ≡ length places
+  pub few : length places ≤ from
+  pub words_count : length table'.words ≡ length table.words
+  pub each : (k p : ℕ) → slice_get places k ≡ Some p →
+      IsSettledAt identifiers last table told here told' here' tellings k p
+  pub pending : ArePending here table → (p : ℕ) → p < from → has_word_bit here' p ≡ true → is_noted table' p ≡ true
+  pub others : (p : ℕ) → (from ≤ p) ⊎ (is_noted table p ≡ false) → (has_word_bit told' p ≡ has_word_bit told p)
+      × (has_word_bit here' p ≡ has_word_bit here p)
+      × (words_of table' p ≡ words_of table p)
+      × (is_noted table' p ≡ is_noted table p)
 
 -- what is left to be looked at, from the next noted identifier on
 abbrev pub left_over : ℕ → Option ℕ → ℕ

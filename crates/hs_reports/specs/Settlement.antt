@@ -1,24 +1,20 @@
 -- What a block settles of all identifiers: what is known of each, in rows of bits, and what the block tells.
-use Rattle.std.specs.Prelude.{◌≡◌, ◌⊎◌, ℕ, ◌^◌, ◌<◌, ◌≤◌, true, false, ◌||◌, ◌&&◌, List, ◌++◌, length}
-use Rattle.std.specs.Prelude.{map, Some, slice_get, slice_index}
+use Rattle.std.specs.Prelude.{◌≡◌, ℕ, ◌^◌, ◌<◌, ◌≤◌, true, false, ◌||◌, ◌&&◌, List, ◌++◌, length}
+use Rattle.std.specs.Prelude.{Some, slice_get}
 use Rattle.hs_base.specs.Bits.{has_word_bit}
-use Rattle.hs_base.specs.Lists.{Each, IsMember}
 use Rattle.hs_base.specs.Patterns.{Pattern, is_single}
 use Rattle.hs_base.specs.Told.{Pair, IsTold, IsNew}
-use Rattle.hs_base.specs.Settling.{Kept, AreIdentifiers, AreRising}
+use Rattle.hs_base.specs.Settling.{Kept, AreIdentifiers}
 use Rattle.hs_reports.specs.declared.identifier.Identifier.{Identifier}
 use Rattle.hs_reports.specs.declared.telling.Telling.{Telling}
 use Rattle.hs_reports.specs.Chunks.{AreChunkEnds}
 use Rattle.hs_reports.specs.EndTables.{EndTable, words_of, is_noted}
 use Rattle.hs_reports.specs.Heard.{IsHeard}
+use Rattle.hs_reports.specs.Identifiers.{numbers_of}
 use Rattle.hs_reports.specs.Telling.{TellsWords, is_telling}
 use Rattle.hs_reports.specs.Tellings.{TellingTable, with_telling, pairs_of_tellings}
 use Rattle.hs_reports.specs.Terminals.{ends_by_words}
 use Rattle.hs_reports.specs.WordBits.{word_bit}
-
--- the identifiers as numbers
-abbrev pub numbers_of : List Identifier → List ℕ
-numbers_of identifiers = map (λ x. x.id.0) identifiers
 
 -- what the bits tell of the identifier of that number
 abbrev pub known_at : (told here : List ℕ) → ℕ → Kept
@@ -75,37 +71,3 @@ pub record SettlesOne (x : Identifier) (p last : ℕ) (table table' : EndTable) 
       × (has_word_bit here' q ≡ has_word_bit here q)
       × (words_of table' q ≡ words_of table q)
       × (is_noted table' q ≡ is_noted table q)
-
--- The identifier of number p, which is that of number k of those that are told, is settled.
-pub record IsSettledAt (identifiers : List Identifier) (last : ℕ) (table : EndTable) (told here told' here' : List ℕ)
-    (tellings : TellingTable) (k p : ℕ) : Type 0 where
-  pub x : Identifier
-  pub there : slice_get identifiers p ≡ Some x
-  pub named : slice_get tellings.ids k ≡ Some x.id
-  pub late_fits : slice_index tellings.lates k < 2 ^ 64
-  pub early_fits : slice_index tellings.earlies k < 2 ^ 64
-  pub tells : TellsWords x.single (has_word_bit told p) (has_word_bit here p) (words_of table p).before
-      (words_of table p).behind (record { late = slice_index tellings.lates k; early = slice_index tellings.earlies k })
-  pub told_is : has_word_bit told' p ≡ (has_word_bit told p
-      || (x.single && is_telling (slice_index tellings.lates k) (slice_index tellings.earlies k)))
-  pub here_is : has_word_bit here' p ≡ word_bit (slice_index tellings.earlies k) last
-
--- Of the noted identifiers those with a number before `from` are settled, and are told at these numbers.
-pub record IsSettledTo (identifiers : List Identifier) (last : ℕ) (table : EndTable) (told here : List ℕ)
-    (table' : EndTable) (told' here' : List ℕ) (tellings : TellingTable) (from : ℕ) : Type 0 where
-  pub places : List ℕ
-  pub rising : AreRising places
-  pub below : Each (λ p. p < from) places
-  pub noted : (p : ℕ) → p < from → is_noted table p ≡ true → IsMember p places
-  pub count : length tellings.ids ≡ length places
-  pub lates_count : length tellings.lates ≡ length places
-  pub earlies_count : length tellings.earlies ≡ length places
-  pub few : length places ≤ from
-  pub words_count : length table'.words ≡ length table.words
-  pub each : (k p : ℕ) → slice_get places k ≡ Some p →
-      IsSettledAt identifiers last table told here told' here' tellings k p
-  pub pending : ArePending here table → (p : ℕ) → p < from → has_word_bit here' p ≡ true → is_noted table' p ≡ true
-  pub others : (p : ℕ) → (from ≤ p) ⊎ (is_noted table p ≡ false) → (has_word_bit told' p ≡ has_word_bit told p)
-      × (has_word_bit here' p ≡ has_word_bit here p)
-      × (words_of table' p ≡ words_of table p)
-      × (is_noted table' p ≡ is_noted table p)

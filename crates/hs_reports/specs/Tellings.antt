@@ -3,7 +3,7 @@ use Rattle.std.specs.Prelude.{ℕ, List, [], ◌∷◌, ◌++◌}
 use Rattle.hs_base.specs.declared.entry.ExprId.{ExprId}
 use Rattle.hs_base.specs.Told.{Pair}
 use Rattle.hs_reports.specs.Chunks.{chunk_pairs}
-use Rattle.hs_reports.specs.Walks.{id_numbers}
+use Rattle.hs_reports.specs.Identifiers.{id_numbers}
 use Rattle.hs_reports.specs.WordBits.{row_bit}
 
 -- the identifiers, rising, with the words of each, and for how many there is room

@@ -4,7 +4,7 @@ ghost use Rattle.std.specs.Prelude.{◌≡◌, ◌≢◌, ℕ, ◌+◌, ◌<◌,
 ghost use Rattle.hs_base.proofs.PairListLemmas.{one_told};
 ghost use Rattle.hs_reports.specs.Chunks.{chunk_pairs, pairs_where};
 ghost use Rattle.hs_reports.specs.Events.{Through};
-ghost use Rattle.hs_reports.specs.Walks.{id_numbers};
+ghost use Rattle.hs_reports.specs.Identifiers.{id_numbers};
 ghost use Rattle.hs_reports.specs.WordBits.{row_bit, word_bit};
 
 use crate::events::Events;

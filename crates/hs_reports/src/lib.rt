@@ -21,6 +21,6 @@ pub use events::Events;
 pub use identifier::Identifier;
 pub use identifier_ends::IdentifierEnds;
 pub use settling::settle_block;
-pub use telling::{Telling, told_words};
+pub use telling::{Telling, is_left_to_end, told_words};
 pub use tellings::Tellings;
 pub use terminal::{Terminal, bound_word};
