@@ -2,7 +2,7 @@
 use Rattle.std.proofs.Common.{◌≡◌, ℕ, zero, suc, ◌+◌, ◌-◌, ◌^◌, ◌<◌, ◌≤◌, ◌⊎◌, Bool, true, false, ◌||◌, ◌&&◌, List, [], ◌∷◌, ◌++◌, length, get_or, Option, Some, None, slice_get, slice_index, refl, sym, ap, subst, ◌∙◌, inl, inr, arith, length-append}
 use Rattle.std.specs.Slice.Scan.{HoldsNowhere}
 use Rattle.std.proofs.lemmas.Bool.{both_ways, cases_lt, cases_eq}
-use Rattle.std.proofs.lemmas.List.{get_or_append_left, get_or_push}
+use Rattle.std.proofs.lemmas.List.{get_or_append_left, get_or_push, get_or_past}
 use Rattle.std.proofs.lemmas.Option.{same_Some, slice_get_within}
 use Rattle.hs_base.specs.Bits.{has_word_bit}
 use Rattle.hs_base.specs.Lists.{Each, IsMember}
@@ -10,7 +10,7 @@ use Rattle.hs_base.specs.Settling.{AreRising}
 use Rattle.hs_base.proofs.ListLemmas.{each-member, each-of_members, each-append, member-left, member-right, place-member, rising-append}
 use Rattle.hs_bits.specs.NextBits.{IsNextBitIn}
 use Rattle.hs_reports.specs.declared.identifier.Identifier.{Identifier}
-use Rattle.hs_reports.specs.EndTables.{EndTable, words_of, is_noted}
+use Rattle.hs_reports.specs.EndTables.{EndTable, no_words, words_of, is_noted, IsQuiet, HasNoEnds}
 use Rattle.hs_reports.specs.Settlement.{ArePending, SettlesOne}
 use Rattle.hs_reports.specs.Telling.{TellsWords, is_telling}
 use Rattle.hs_reports.specs.Tellings.{TellingTable, no_tellings, with_telling}
@@ -45,6 +45,7 @@ pub record IsSettledTo (identifiers : List Identifier) (last : ℕ) (table : End
   pub each : (k p : ℕ) → slice_get places k ≡ Some p →
       IsSettledAt identifiers last table told here told' here' tellings k p
   pub pending : ArePending here table → (p : ℕ) → p < from → has_word_bit here' p ≡ true → is_noted table' p ≡ true
+  pub emptied : IsQuiet table → (p : ℕ) → p < from → words_of table' p ≡ no_words
   pub others : (p : ℕ) → (from ≤ p) ⊎ (is_noted table p ≡ false) → (has_word_bit told' p ≡ has_word_bit told p)
       × (has_word_bit here' p ≡ has_word_bit here p)
       × (words_of table' p ≡ words_of table p)
@@ -78,6 +79,7 @@ module _ (identifiers : List Identifier) (last : ℕ) (table : EndTable) (told h
     words_count = refl;
     each = λ k p at. absurd (cc);
     pending = λ all p below here. absurd (omega arith);
+    emptied = λ quiet p below. absurd (omega arith);
     others = λ p which. (refl, refl, refl, refl);
   }
 
@@ -103,6 +105,10 @@ module _ (identifiers : List Identifier) (last : ℕ) (table : EndTable) (told h
       | inr behind ↦
           let (_, same, _, noted) = is.others p (inl behind) in
           noted ∙ all p (sym same ∙ ends)
+    ];
+    emptied = λ quiet p below. elim (cases_lt p from) [
+      | inl before ↦ is.emptied quiet p before
+      | inr behind ↦ let (_, _, words, _) = is.others p (inl behind) in words ∙ quiet p (unnoted p behind below)
     ];
     others = λ p which. elim which [
       | inl above ↦ is.others p (inl (omega arith))
@@ -218,6 +224,10 @@ module _ (identifiers : List Identifier) (last : ℕ) (table : EndTable) (told h
             let (_, same_here, _, same_noted) = one.others q other in
             same_noted ∙ is.pending all q (omega arith) (sym same_here ∙ ends)
       ];
+      emptied = λ quiet q below. elim (cases_eq q p) [
+        | inl same ↦ ap (λ r. words_of table'' r) same ∙ one.words_is
+        | inr other ↦ let (_, _, same_words, _) = one.others q other in same_words ∙ is.emptied quiet q (omega arith)
+      ];
       others = λ q which.
           let (told_one, here_one, words_one, noted_one) = one.others q (other q which) in
           let (told_all, here_all, words_all, noted_all) = is.others q (earlier q which) in
@@ -266,6 +276,14 @@ module _ (identifiers : List Identifier) (last : ℕ) (table : EndTable) (told h
       IsSettledTo identifiers last table told here table' told' here' tellings (length identifiers)
   walked-all table' told' here' tellings walked =
       settled-passed identifiers last table told here table' told' here' tellings walked.from (length identifiers) walked.within walked.ahead walked.is
+
+-- where all are settled none has an end
+pub all-emptied : (identifiers : List Identifier) (last : ℕ) (table : EndTable) (told here : List ℕ) (table' : EndTable) (told' here' : List ℕ) (tellings : TellingTable) (n : ℕ) → length table.words ≤ n → IsQuiet table →
+    IsSettledTo identifiers last table told here table' told' here' tellings n → HasNoEnds table'
+all-emptied identifiers last table told here table' told' here' tellings n whole quiet is p = elim (cases_lt p n) [
+  | inl below ↦ is.emptied quiet p below
+  | inr past ↦ get_or_past table'.words p no_words (omega (arith, is.words_count))
+]
 
 -- the next one is farther on
 pub left-less : (test : ℕ → Bool) (count p : ℕ) (next : Option ℕ) → p < count → IsNextBitIn test (p + 1) count next → left_over count next < left_over count (Some p)

@@ -8,7 +8,7 @@ use Rattle.hs_base.specs.Settling.{Kept, AreIdentifiers}
 use Rattle.hs_reports.specs.declared.identifier.Identifier.{Identifier}
 use Rattle.hs_reports.specs.declared.telling.Telling.{Telling}
 use Rattle.hs_reports.specs.Chunks.{AreChunkEnds}
-use Rattle.hs_reports.specs.EndTables.{EndTable, words_of, is_noted}
+use Rattle.hs_reports.specs.EndTables.{EndTable, no_words, words_of, is_noted}
 use Rattle.hs_reports.specs.Heard.{IsHeard}
 use Rattle.hs_reports.specs.Identifiers.{numbers_of}
 use Rattle.hs_reports.specs.Telling.{TellsWords, is_telling}
@@ -66,6 +66,7 @@ pub record SettlesOne (x : Identifier) (p last : ℕ) (table table' : EndTable) 
       ≡ (has_word_bit told p || (x.single && is_telling telling.late telling.early))
   pub here_is : has_word_bit here' p ≡ word_bit telling.early last
   pub noted_is : is_noted table' p ≡ word_bit telling.early last
+  pub words_is : words_of table' p ≡ no_words
   pub words_count : length table'.words ≡ length table.words
   pub others : (q : ℕ) → (q ≡ p → ⊥) → (has_word_bit told' q ≡ has_word_bit told q)
       × (has_word_bit here' q ≡ has_word_bit here q)

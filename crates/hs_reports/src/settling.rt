@@ -2,7 +2,7 @@
 
 ghost use Rattle.std.specs.Prelude.{◌≡◌, ◌+◌, ◌<◌, ◌≤◌, ◌*◌, length};
 ghost use Rattle.hs_base.specs.Bits.{word_count};
-ghost use Rattle.hs_reports.specs.EndTables.{is_noted};
+ghost use Rattle.hs_reports.specs.EndTables.{HasNoEnds};
 ghost use Rattle.hs_reports.specs.Settlement.{ArePending, SettlesBlock, SettlesOne};
 
 use crate::block::has_bit;
@@ -30,6 +30,7 @@ pub fn settle_block(
     requires last { last < 64 }
     requires room { length identifiers.now ≤ tellings.old.room }
     ensures ends { length ends.new.words ≡ length ends.old.words }
+    ensures emptied { HasNoEnds ends.new }
     ensures room { tellings.new.room ≡ tellings.old.room }
     ensures pending { ArePending here.old ends.old → ArePending here.new ends.new }
     ensures settled { SettlesBlock identifiers.now (last + 1) ends.old told.old here.old told.new here.new
