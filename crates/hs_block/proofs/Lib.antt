@@ -1,0 +1,4 @@
+pub mod PlaceLemmas
+pub mod BlockLemmas
+pub mod RunLemmas
+pub mod HandingLemmas

@@ -1,0 +1,62 @@
+-- Bits of one word.
+use Rattle.std.proofs.Common.{◌≡◌, ℕ, ◌+◌, ◌-◌, ◌*◌, ◌/◌, ◌%◌, ◌^◌, ◌<◌, ◌≤◌, Bool, true, false, ◌&&◌, ◌||◌, eqb, refl, sym, ap, ◌∙◌, inl, inr, arith, bit_or, w64}
+use Rattle.std.specs.Int.{bit_at}
+use Rattle.std.proofs.lemmas.Bool.{cases_eq, eq-eqb, ne_eqb}
+use Rattle.std.proofs.lemmas.Nat.{shr-shr}
+use Rattle.std.proofs.lemmas.Nat.Bits.{bit_at-zero, bit_at_set_same, bit_at_set_other}
+use Rattle.std.proofs.Math.Nat.{zero-mul}
+use Rattle.hs_base.proofs.ByteSetLemmas.{bit-or}
+use Rattle.hs_bits.specs.LowestBits.{IsLowestBit}
+use Rattle.hs_block.specs.WordBits.{word_bit}
+use mir.Val.{bool_byte}
+
+pub bit-none : (i : ℕ) → word_bit 0 i ≡ false
+unfolding word_bit
+bit-none i = ap (λ n. eqb n 1) (bit_at-zero i)
+
+pub or-false : (a b : Bool) → ((a && false) || b) ≡ b
+or-false true b = refl
+or-false false b = refl
+
+or-none : (a : Bool) → (a || false) ≡ a
+or-none true = refl
+or-none false = refl
+
+pub bit-placed : (word place : ℕ) (value : Bool) → place < 64 → (i : ℕ) →
+    word_bit (bit_or word (bool_byte value * 2 ^ place % 18446744073709551616)) i ≡ ((eqb i place && value) || word_bit word i)
+unfolding word_bit
+bit-placed word place false below i =
+    ap (λ n. eqb (bit_at (bit_or word n) i) 1) (ap (λ n. n % 18446744073709551616) (zero-mul (2 ^ place))) ∙ bit-or word 0 i ∙ (ap (λ n. (eqb (bit_at word i) 1 || eqb n 1)) (bit_at-zero i) ∙ (or-none (eqb (bit_at word i) 1) ∙ sym (or-false (eqb i place) (eqb (bit_at word i) 1))))
+bit-placed word place true below i =
+    elim (cases_eq i place) [
+      | inl same ↦ rw (same, bit_at_set_same w64 word place below, eq-eqb place place refl) refl
+      | inr apart ↦ rw (bit_at_set_other w64 word place below i apart, ne_eqb i place apart) refl
+    ]
+
+pub bit-shifted : (word from i : ℕ) → word_bit (word / 2 ^ from) i ≡ word_bit word (from + i)
+unfolding word_bit
+bit-shifted word from i = ap (λ m. eqb (m % 2) 1) (shr-shr word from i)
+
+pub none-from : (word from : ℕ) → word / 2 ^ from ≡ 0 → (i : ℕ) → from ≤ i → word_bit word i ≡ false
+none-from word from none i low =
+    let e : from + (i - from) ≡ i = omega arith in
+    sym (ap (λ k. word_bit word k) e) ∙ (sym (bit-shifted word from (i - from)) ∙ (ap (λ w. word_bit w (i - from)) none ∙ bit-none (i - from)))
+
+pub none-before : (word from place : ℕ) → IsLowestBit (word / 2 ^ from) place → (i : ℕ) → from ≤ i → i < from + place → word_bit word i ≡ false
+unfolding word_bit
+none-before word from place lowest i low high =
+    let e : from + (i - from) ≡ i = omega arith in
+    let unset : bit_at (word / 2 ^ from) (i - from) ≡ 0 = lowest.lowest (i - from) (omega arith) in
+    sym (ap (λ k. eqb (bit_at word k) 1) e) ∙ (sym (ap (λ m. eqb (m % 2) 1) (shr-shr word from (i - from))) ∙ ap (λ n. eqb n 1) unset)
+
+-- the place of the lowest bit is further, where that of the beginning isn't set
+pub further : (word from place : ℕ) → IsLowestBit (word / 2 ^ from) place → word_bit word from ≡ false → 0 < place
+unfolding word_bit
+further word from place lowest unset =
+    elim (cases_eq place 0) [
+      | inl zero_is ↦
+          let set : bit_at (word / 2 ^ from) 0 ≡ 1 = ap (λ k. bit_at (word / 2 ^ from) k) (sym zero_is) ∙ lowest.is in
+          let there : bit_at word from ≡ 1 = sym (ap (λ m. m % 2) (shr-shr word from 0) ∙ ap (λ k. bit_at word k) (let e : from + 0 ≡ from = omega arith in e)) ∙ set in
+          absurd (let f : true ≡ false = sym (ap (λ n. eqb n 1) there) ∙ unset in cc)
+      | inr apart ↦ omega arith
+    ]
