@@ -1,0 +1,3 @@
+pub mod Blocks
+pub mod Left
+pub mod Pieces

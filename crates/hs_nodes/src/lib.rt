@@ -1,0 +1,9 @@
+//! The nodes of a forest of pieces, run over a chunk of up to eight blocks of 64 bytes.
+#![tactic(auto)]
+
+mod chunk;
+mod ends;
+mod engines;
+
+pub use chunk::{BLOCK_BYTES, Chunk, MAX_BLOCKS, MAX_CHUNK};
+pub use ends::ChunkEnds;
