@@ -16,12 +16,12 @@ use Rattle.hs_block.specs.Scans.{HandsOn, IsLeftBefore}
 use Rattle.hs_block.specs.Blocks.{IsFieldOf, IsBlockRun}
 use Rattle.hs_block.proofs.BlockLemmas.{length-bits}
 
-get-left : {A : Type 0} (xs ys : List A) (i : ℕ) → i < length xs → slice_get (xs ++ ys) i ≡ slice_get xs i
+pub get-left : {A : Type 0} (xs ys : List A) (i : ℕ) → i < length xs → slice_get (xs ++ ys) i ≡ slice_get xs i
 get-left [] ys i below = absurd (omega arith)
 get-left (x ∷ xs) ys zero below = refl
 get-left (x ∷ xs) ys (suc i) below = get-left xs ys i (omega arith)
 
-get-right : {A : Type 0} (xs ys : List A) (k : ℕ) → slice_get (xs ++ ys) (length xs + k) ≡ slice_get ys k
+pub get-right : {A : Type 0} (xs ys : List A) (k : ℕ) → slice_get (xs ++ ys) (length xs + k) ≡ slice_get ys k
 get-right [] ys k = ap (λ n. slice_get ys n) (let e : 0 + k ≡ k = omega arith in e)
 get-right (x ∷ xs) ys k = ap (λ n. slice_get (x ∷ (xs ++ ys)) n) (let e : suc (length xs) + k ≡ suc (length xs + k) = omega arith in e) ∙ get-right xs ys k
 

@@ -2,3 +2,5 @@ pub mod PlaceLemmas
 pub mod BlockLemmas
 pub mod RunLemmas
 pub mod HandingLemmas
+pub mod LiteralWordLemmas
+pub mod LiteralBlockLemmas

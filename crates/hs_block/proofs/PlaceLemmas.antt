@@ -1,9 +1,10 @@
 -- Bits of one word.
-use Rattle.std.proofs.Common.{◌≡◌, ℕ, ◌+◌, ◌-◌, ◌*◌, ◌/◌, ◌%◌, ◌^◌, ◌<◌, ◌≤◌, Bool, true, false, ◌&&◌, ◌||◌, eqb, refl, sym, ap, ◌∙◌, inl, inr, arith, bit_or, w64}
+use Rattle.std.proofs.Common.{◌≡◌, ℕ, ◌+◌, ◌-◌, ◌*◌, ◌/◌, ◌%◌, ◌^◌, ◌<◌, ◌≤◌, Bool, true, false, nat_lt, ◌&&◌, ◌||◌, eqb, refl, sym, ap, ◌∙◌, inl, inr, arith, bit_or, w64}
 use Rattle.std.specs.Int.{bit_at}
-use Rattle.std.proofs.lemmas.Bool.{cases_eq, eq-eqb, ne_eqb}
+use Rattle.std.proofs.lemmas.Bool.{cases_eq, cases_lt, eq-eqb, ne_eqb}
+use Rattle.std.proofs.lemmas.Bool.Decides.{nat_tests}
 use Rattle.std.proofs.lemmas.Nat.{shr-shr}
-use Rattle.std.proofs.lemmas.Nat.Bits.{bit_at-zero, bit_at_set_same, bit_at_set_other}
+use Rattle.std.proofs.lemmas.Nat.Bits.{bit_at-zero, bit_at_ones, bit_at_ones_above, ones_shr, bit_at_set_same, bit_at_set_other}
 use Rattle.std.proofs.Math.Nat.{zero-mul}
 use Rattle.hs_base.proofs.ByteSetLemmas.{bit-or}
 use Rattle.hs_bits.specs.LowestBits.{IsLowestBit}
@@ -59,4 +60,30 @@ further word from place lowest unset =
           let there : bit_at word from ≡ 1 = sym (ap (λ m. m % 2) (shr-shr word from 0) ∙ ap (λ k. bit_at word k) (let e : from + 0 ≡ from = omega arith in e)) ∙ set in
           absurd (let f : true ≡ false = sym (ap (λ n. eqb n 1) there) ∙ unset in cc)
       | inr apart ↦ omega arith
+    ]
+
+-- numbers below another, as they are tested
+pub less : (k n : ℕ) → nat_lt k n ≡ true → k < n
+less k n is = grind (arith, nat_tests)
+
+pub less-is : (k n : ℕ) → k < n → nat_lt k n ≡ true
+less-is k n below = grind (arith, nat_tests)
+
+pub not-less : (k n : ℕ) → n ≤ k → nat_lt k n ≡ false
+not-less k n above = grind (arith, nat_tests)
+
+-- the lowest bits
+
+pub low-none : (count i : ℕ) → count ≡ 0 → word_bit 0 i ≡ nat_lt i count
+low-none count i none = bit-none i ∙ sym (not-less i count (omega arith))
+
+pub low-some : (count i : ℕ) → count ≤ 64 → word_bit (18446744073709551615 / 2 ^ (64 - count)) i ≡ nat_lt i count
+unfolding word_bit
+low-some count i few =
+    let ones : (2 ^ 64 - 1) / 2 ^ (64 - count) ≡ 2 ^ (64 - (64 - count)) - 1 = ones_shr 64 (64 - count) (omega arith) in
+    let e : 64 - (64 - count) ≡ count = omega arith in
+    ap (λ w. eqb (bit_at w i) 1) (ones ∙ ap (λ k. 2 ^ k - 1) e)
+    ∙ elim (cases_lt i count) [
+      | inl below ↦ ap (λ b. eqb b 1) (bit_at_ones count i below) ∙ sym (less-is i count below)
+      | inr above ↦ ap (λ b. eqb b 1) (bit_at_ones_above count i above) ∙ sym (not-less i count above)
     ]

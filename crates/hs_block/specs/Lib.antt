@@ -4,3 +4,4 @@ pub mod Blocks
 pub mod Rests
 pub mod Progress
 pub mod BlockLaws
+pub mod LiteralBlocks

@@ -1,9 +1,9 @@
 //! The places of a block as the bits of a word.
 
-ghost use Rattle.std.specs.Prelude.{◌≡◌, ℕ, ◌<◌, ◌≤◌, ◌&&◌, ◌||◌, ◌==◌, false};
+ghost use Rattle.std.specs.Prelude.{◌≡◌, ℕ, ◌<◌, ◌≤◌, ◌&&◌, ◌||◌, ◌==◌, false, nat_lt};
 ghost use Rattle.hs_block.specs.WordBits.{word_bit};
 
-use hs_bits::lowest_bit;
+use hs_bits::{WORD_BITS, lowest_bit};
 
 /// Whether the bit of that place is set.
 #[inline(always)]
@@ -41,4 +41,16 @@ pub fn next_place(word: u64, from: usize, end: usize) -> usize
         return end;
     }
     (from + lowest_bit(rest)).min(end)
+}
+
+/// The word with the bits of so many places set, the lowest ones.
+pub fn low_places(count: usize) -> u64
+    requires { count ≤ 64 }
+    ensures { (i : ℕ) → word_bit result i ≡ nat_lt i count }
+{
+    if count == 0 {
+        0
+    } else {
+        u64::MAX >> (WORD_BITS - count)
+    }
 }
