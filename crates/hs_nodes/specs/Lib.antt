@@ -1,3 +1,4 @@
 pub mod Blocks
 pub mod Left
 pub mod Pieces
+pub mod Marks

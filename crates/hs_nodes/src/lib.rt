@@ -4,6 +4,8 @@
 mod chunk;
 mod ends;
 mod engines;
+mod marks;
 
 pub use chunk::{BLOCK_BYTES, Chunk, MAX_BLOCKS, MAX_CHUNK};
 pub use ends::ChunkEnds;
+pub use marks::MarkSet;
