@@ -3,6 +3,7 @@ use Rattle.std.proofs.Common.{◌≡◌, ◌↔◌, ℕ, zero, suc, ◌+◌, ◌
 use Rattle.std.proofs.lemmas.Bool.{cases_eq, eq-eqb, ne_eqb}
 use Rattle.std.proofs.lemmas.List.{take_more, length-take-le}
 use Rattle.std.specs.Prelude.{if◌then◌else◌}
+use Rattle.hs_base.specs.declared.context.Prev.{Prev}
 use Rattle.hs_base.specs.Assertions.{line_feed, is_word_byte}
 use Rattle.hs_base.specs.Contexts.{prev_at, prev_by, prev_behind}
 use Rattle.hs_base.proofs.NewLemmas.{length-push}
@@ -39,6 +40,11 @@ pub prev-push : (u : List ℕ) (b : ℕ) → prev_at (u ++ b ∷ []) (length (u 
 prev-push u b =
     let count : length (u ++ b ∷ []) ≡ suc (length u) = omega (arith, length-push u b) in
     ap (prev_at (u ++ b ∷ [])) count ∙ prev-suc u b
+
+pub prev-next : (bytes u : List ℕ) (n : ℕ) (behind : Prev) → n < length bytes → behind ≡ prev_by (eqb (get_or bytes n 0) line_feed) (is_word_byte (get_or bytes n 0)) →
+    behind ≡ prev_at (u ++ take (n + 1) bytes) (length (u ++ take (n + 1) bytes))
+prev-next bytes u n behind below is =
+    is ∙ (sym (prev-push (u ++ take n bytes) (get_or bytes n 0)) ∙ ap (λ w. prev_at w (length w)) (block-more u bytes n below))
 
 pub or-none : (b : Bool) → (b || false) ≡ b
 or-none true = refl

@@ -4,3 +4,4 @@ pub mod RunLemmas
 pub mod HandingLemmas
 pub mod LiteralWordLemmas
 pub mod LiteralBlockLemmas
+pub mod ContextLemmas

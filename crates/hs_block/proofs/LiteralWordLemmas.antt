@@ -1,54 +1,13 @@
 -- The words of literals.
-use Rattle.std.proofs.Common.{◌≡◌, ℕ, suc, ◌+◌, ◌-◌, ◌*◌, ◌/◌, ◌%◌, ◌^◌, ◌<◌, ◌≤◌, Bool, true, false, nat_lt, ◌&&◌, ◌||◌, List, eqb, refl, sym, ap, ◌∙◌, inl, inr, arith, bit_or, bit_and}
+use Rattle.std.proofs.Common.{◌≡◌, ℕ, suc, ◌+◌, ◌-◌, ◌*◌, ◌/◌, ◌%◌, ◌^◌, ◌<◌, ◌≤◌, Bool, true, false, nat_lt, ◌&&◌, ◌||◌, List, eqb, sym, ap, ◌∙◌, inl, inr, arith, bit_or, bit_and}
 use Rattle.std.specs.Prelude.{if◌then◌else◌, nat_le}
 use Rattle.std.proofs.lemmas.Bool.{cases_eq, cases_lt, eq-eqb, ne_eqb}
 use Rattle.std.proofs.lemmas.Bool.Decides.{nat_tests}
 use Rattle.hs_base.specs.LiteralRows.{TellsEntries}
-use Rattle.hs_base.proofs.ByteSetLemmas.{bit-or}
-use Rattle.hs_base.proofs.ContextSetLemmas.{bit-and, bit-one}
-use Rattle.hs_bits.proofs.WordLemmas.{and-true, and-none, or-none, shl-bit}
+use Rattle.hs_bits.proofs.WordLemmas.{and-true, and-none, or-none}
 use Rattle.hs_block.specs.WordBits.{word_bit}
 use Rattle.hs_block.specs.LiteralBlocks.{turned, was_entered}
-use Rattle.hs_block.proofs.PlaceLemmas.{bit-none, bit-shifted, less-is, not-less}
-use mir.Val.{bool_byte}
-
-pub bit-both : (x y i : ℕ) → word_bit (bit_and x y) i ≡ (word_bit x i && word_bit y i)
-unfolding word_bit
-bit-both x y i = bit-and x y i
-
-pub bit-either : (x y i : ℕ) → word_bit (bit_or x y) i ≡ (word_bit x i || word_bit y i)
-unfolding word_bit
-bit-either x y i = bit-or x y i
-
-pub bit-up : (x d i : ℕ) → i < 64 → word_bit (x * 2 ^ d % 18446744073709551616) i ≡ (nat_le d i && word_bit x (i - d))
-unfolding word_bit
-bit-up x d i below = shl-bit x d i below
-
--- the ends behind bytes, as ends at places
-
-start-byte : (start : Bool) → word_bit (bool_byte start) 0 ≡ start
-unfolding word_bit
-start-byte true = refl
-start-byte false = refl
-
-later-byte : (start : Bool) (i : ℕ) → word_bit (bool_byte start) (suc i) ≡ false
-unfolding word_bit
-later-byte true i = bit-one 0 (suc i) ∙ ne_eqb (suc i) 0 (λ e. absurd (omega arith))
-later-byte false i = bit-none (suc i)
-
-pub hit-start : (behind : ℕ) (start : Bool) → word_bit (bit_or (behind * 2 % 18446744073709551616) (bool_byte start)) 0 ≡ start
-hit-start behind start =
-    bit-either (behind * 2 % 18446744073709551616) (bool_byte start) 0
-    ∙ (ap (λ b. b || word_bit (bool_byte start) 0) (bit-up behind 1 0 (omega arith)) ∙ start-byte start)
-
-pub hit-later : (behind : ℕ) (start : Bool) (i : ℕ) → suc i < 64 → word_bit (bit_or (behind * 2 % 18446744073709551616) (bool_byte start)) (suc i) ≡ word_bit behind i
-hit-later behind start i below =
-    let place : suc i - 1 ≡ i = omega arith in
-    let low : nat_le 1 (suc i) ≡ true = grind (arith, nat_tests) in
-    let up : word_bit (behind * 2 % 18446744073709551616) (suc i) ≡ word_bit behind i =
-    bit-up behind 1 (suc i) below ∙ (ap (λ b. b && word_bit behind (suc i - 1)) low ∙ ap (word_bit behind) place) in
-    bit-either (behind * 2 % 18446744073709551616) (bool_byte start) (suc i)
-    ∙ (ap (λ b. b || word_bit (bool_byte start) (suc i)) up ∙ (ap (λ b. word_bit behind i || b) (later-byte start i) ∙ or-none (word_bit behind i)))
+use Rattle.hs_block.proofs.PlaceLemmas.{bit-both, bit-either, bit-up, bit-shifted, less-is, not-less}
 
 pub was-inside : (n enters carry place : ℕ) → place < n → was_entered n enters carry place ≡ word_bit carry place
 was-inside n enters carry place below = ap (λ b. if b then word_bit carry place else word_bit enters (place - n)) (less-is place n below)

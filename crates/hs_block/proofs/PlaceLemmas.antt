@@ -1,5 +1,6 @@
 -- Bits of one word.
-use Rattle.std.proofs.Common.{◌≡◌, ℕ, ◌+◌, ◌-◌, ◌*◌, ◌/◌, ◌%◌, ◌^◌, ◌<◌, ◌≤◌, Bool, true, false, nat_lt, ◌&&◌, ◌||◌, eqb, refl, sym, ap, ◌∙◌, inl, inr, arith, bit_or, w64}
+use Rattle.std.proofs.Common.{◌≡◌, ℕ, suc, ◌+◌, ◌-◌, ◌*◌, ◌/◌, ◌%◌, ◌^◌, ◌<◌, ◌≤◌, Bool, true, false, nat_lt, ◌&&◌, ◌||◌, eqb, refl, sym, ap, ◌∙◌, inl, inr, arith, bit_or, bit_and, w64}
+use Rattle.std.specs.Prelude.{nat_le}
 use Rattle.std.specs.Int.{bit_at}
 use Rattle.std.proofs.lemmas.Bool.{cases_eq, cases_lt, eq-eqb, ne_eqb}
 use Rattle.std.proofs.lemmas.Bool.Decides.{nat_tests}
@@ -7,6 +8,8 @@ use Rattle.std.proofs.lemmas.Nat.{shr-shr}
 use Rattle.std.proofs.lemmas.Nat.Bits.{bit_at-zero, bit_at_ones, bit_at_ones_above, ones_shr, bit_at_set_same, bit_at_set_other}
 use Rattle.std.proofs.Math.Nat.{zero-mul}
 use Rattle.hs_base.proofs.ByteSetLemmas.{bit-or}
+use Rattle.hs_base.proofs.ContextSetLemmas.{bit-and, bit-one}
+use Rattle.hs_bits.proofs.WordLemmas.{or-none, shl-bit}
 use Rattle.hs_bits.specs.LowestBits.{IsLowestBit}
 use Rattle.hs_block.specs.WordBits.{word_bit}
 use mir.Val.{bool_byte}
@@ -18,10 +21,6 @@ bit-none i = ap (λ n. eqb n 1) (bit_at-zero i)
 pub or-false : (a b : Bool) → ((a && false) || b) ≡ b
 or-false true b = refl
 or-false false b = refl
-
-or-none : (a : Bool) → (a || false) ≡ a
-or-none true = refl
-or-none false = refl
 
 pub bit-placed : (word place : ℕ) (value : Bool) → place < 64 → (i : ℕ) →
     word_bit (bit_or word (bool_byte value * 2 ^ place % 18446744073709551616)) i ≡ ((eqb i place && value) || word_bit word i)
@@ -87,3 +86,43 @@ low-some count i few =
       | inl below ↦ ap (λ b. eqb b 1) (bit_at_ones count i below) ∙ sym (less-is i count below)
       | inr above ↦ ap (λ b. eqb b 1) (bit_at_ones_above count i above) ∙ sym (not-less i count above)
     ]
+
+-- words by their bits
+
+pub bit-both : (x y i : ℕ) → word_bit (bit_and x y) i ≡ (word_bit x i && word_bit y i)
+unfolding word_bit
+bit-both x y i = bit-and x y i
+
+pub bit-either : (x y i : ℕ) → word_bit (bit_or x y) i ≡ (word_bit x i || word_bit y i)
+unfolding word_bit
+bit-either x y i = bit-or x y i
+
+pub bit-up : (x d i : ℕ) → i < 64 → word_bit (x * 2 ^ d % 18446744073709551616) i ≡ (nat_le d i && word_bit x (i - d))
+unfolding word_bit
+bit-up x d i below = shl-bit x d i below
+
+-- a word one place on
+
+start-byte : (start : Bool) → word_bit (bool_byte start) 0 ≡ start
+unfolding word_bit
+start-byte true = refl
+start-byte false = refl
+
+later-byte : (start : Bool) (i : ℕ) → word_bit (bool_byte start) (suc i) ≡ false
+unfolding word_bit
+later-byte true i = bit-one 0 (suc i) ∙ ne_eqb (suc i) 0 (λ e. absurd (omega arith))
+later-byte false i = bit-none (suc i)
+
+pub later-first : (behind : ℕ) (start : Bool) → word_bit (bit_or (behind * 2 % 18446744073709551616) (bool_byte start)) 0 ≡ start
+later-first behind start =
+    bit-either (behind * 2 % 18446744073709551616) (bool_byte start) 0
+    ∙ (ap (λ b. b || word_bit (bool_byte start) 0) (bit-up behind 1 0 (omega arith)) ∙ start-byte start)
+
+pub later-next : (behind : ℕ) (start : Bool) (i : ℕ) → suc i < 64 → word_bit (bit_or (behind * 2 % 18446744073709551616) (bool_byte start)) (suc i) ≡ word_bit behind i
+later-next behind start i below =
+    let place : suc i - 1 ≡ i = omega arith in
+    let low : nat_le 1 (suc i) ≡ true = grind (arith, nat_tests) in
+    let up : word_bit (behind * 2 % 18446744073709551616) (suc i) ≡ word_bit behind i =
+    bit-up behind 1 (suc i) below ∙ (ap (λ b. b && word_bit behind (suc i - 1)) low ∙ ap (word_bit behind) place) in
+    bit-either (behind * 2 % 18446744073709551616) (bool_byte start) (suc i)
+    ∙ (ap (λ b. b || word_bit (bool_byte start) (suc i)) up ∙ (ap (λ b. word_bit behind i || b) (later-byte start i) ∙ or-none (word_bit behind i)))

@@ -21,7 +21,7 @@ use Rattle.hs_block.specs.Rests.{is_busy_at, IsIdle}
 use Rattle.hs_block.specs.Progress.{IsRunTo}
 use Rattle.std.proofs.lemmas.List.{append-nil, take_all}
 use Rattle.hs_block.proofs.PlaceLemmas.{or-false, bit-none}
-use Rattle.hs_block.proofs.BlockLemmas.{block-more, entered-more, length-block, length-entered, prev-push, marks-more, count-same, count-more}
+use Rattle.hs_block.proofs.BlockLemmas.{block-more, entered-more, length-block, length-entered, prev-next, marks-more, count-same, count-more}
 
 -- regions up to a place, and another from there on
 extended : (ℕ → List ℕ) → ℕ → List ℕ → ℕ → List ℕ
@@ -71,11 +71,6 @@ field-next m first region new prev at enters bytes p ticks behind left before' b
     subst (λ w. m.field new tree w (entered ++ bits_of enters (p.place + 1))) (block-more u bytes p.place taken.within)
     (subst (λ v. m.field new tree ((u ++ take p.place bytes) ++ get_or bytes p.place 0 ∷ []) v) (entered-more entered enters p.place)
     (taken.takes tree (u ++ take p.place bytes) (entered ++ bits_of enters p.place) (history m first region prev at enters bytes p ticks run tree u entered is)))
-
-prev-next : (bytes u : List ℕ) (n : ℕ) (behind : Prev) → n < length bytes → behind ≡ prev_by (eqb (get_or bytes n 0) line_feed) (is_word_byte (get_or bytes n 0)) →
-    behind ≡ prev_at (u ++ take (n + 1) bytes) (length (u ++ take (n + 1) bytes))
-prev-next bytes u n behind below is =
-    is ∙ (sym (prev-push (u ++ take n bytes) (get_or bytes n 0)) ∙ ap (λ w. prev_at w (length w)) (block-more u bytes n below))
 
 -- one more byte
 pub run-more : (m : Meaning) (first region new : List ℕ) (prev : Prev) (at enters : ℕ) (bytes : List ℕ) (p : Progress) (ticks : ℕ) (behind : Prev) (left : NextSet) (before' behind' spent : ℕ) →

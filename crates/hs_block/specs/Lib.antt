@@ -5,3 +5,4 @@ pub mod Rests
 pub mod Progress
 pub mod BlockLaws
 pub mod LiteralBlocks
+pub mod BlockContexts

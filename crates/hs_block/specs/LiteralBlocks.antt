@@ -1,5 +1,5 @@
 -- Literals over a block of bytes, by words.
-use Rattle.std.specs.Prelude.{◌≡◌, ◌↔◌, ℕ, zero, suc, ◌+◌, ◌-◌, ◌<◌, Bool, true, ◌&&◌, nat_lt, List, ◌++◌, length}
+use Rattle.std.specs.Prelude.{◌≡◌, ◌↔◌, ℕ, suc, ◌+◌, ◌-◌, ◌<◌, Bool, true, ◌&&◌, nat_lt, List, ◌++◌, length}
 use Rattle.std.specs.Prelude.{if◌then◌else◌}
 use Rattle.hs_base.specs.Lists.{Each}
 use Rattle.hs_base.specs.Literals.{LiteralByte}
@@ -8,7 +8,7 @@ use Rattle.hs_base.specs.LiteralRows.{TellsEntries}
 use Rattle.hs_base.specs.Chains.{lit, piece_tree}
 use Rattle.hs_block.specs.declared.literal.Hits.{Hits}
 use Rattle.hs_block.specs.declared.literal.LiteralRun.{LiteralRun}
-use Rattle.hs_block.specs.WordBits.{word_bit}
+use Rattle.hs_block.specs.WordBits.{word_bit, one_later}
 use Rattle.hs_block.specs.Scans.{Scans}
 
 -- the bits of a literal of n bytes the other way round: the first one tells of the entry that is farthest back
@@ -25,16 +25,15 @@ was_entered n enters carry place = if nat_lt place n then word_bit carry place e
 
 -- the literal ends behind so many bytes of the block
 abbrev pub is_hit : Hits → ℕ → Bool
-is_hit hits zero = hits.at_start
-is_hit hits (suc i) = word_bit hits.behind i
+is_hit hits = one_later hits.at_start (word_bit hits.behind)
 
 -- The hits tell where the literal ends in a block.
 abbrev pub AreHits : Hits → List LiteralByte → (u bytes : List ℕ) → Type 0
 AreHits hits literal u bytes =
     (i : ℕ) → i < length bytes + 1 → (is_hit hits i ≡ true) ↔ EndsAt literal (u ++ bytes) (length u + i)
 
--- For each literal of so many bytes and each block of so many, where the one word tells of the entries before it and the
--- hits are its ends: the other one tells of the entries behind it, and the ends of where it is left.
+-- For each literal of so many bytes and each block of so many, where the one word tells of the entries before it and
+-- the hits are its ends: the other one tells of the entries behind it, and the ends of where it is left.
 abbrev pub RunsLiteral : (len : ℕ) → Hits → (enters carry count : ℕ) → LiteralRun → Type 0
 RunsLiteral len hits enters carry count run =
     (literal : List LiteralByte) (u bytes : List ℕ) (entered : List Bool) →

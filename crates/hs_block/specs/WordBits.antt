@@ -25,3 +25,8 @@ AreSet word count = (i : ℕ) → i < count → word_bit word i ≡ true
 abbrev pub count_below : ℕ → (ℕ → Bool) → ℕ
 count_below zero test = 0
 count_below (suc n) test = (if test n then 1 else 0) + count_below n test
+
+-- the bits one place on, behind a first one
+abbrev pub one_later : (first : Bool) (bit : ℕ → Bool) → ℕ → Bool
+one_later first bit zero = first
+one_later first bit (suc i) = bit i

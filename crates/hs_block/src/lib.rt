@@ -3,11 +3,13 @@
 
 pub mod block_laws;
 mod by_steps;
+mod contexts;
 mod engine;
 mod literal;
 mod places;
 
 pub use by_steps::run_by_steps;
+pub use contexts::Contexts;
 pub use engine::{BlockEnds, BlockEngine};
 pub use literal::{Hits, LiteralRun, carry_of, entries_from, keep_carry, run_literal};
 pub use places::{contains_place, low_places, next_place, with_place};

@@ -17,7 +17,7 @@ ghost use Rattle.hs_block.specs.LiteralBlocks.{RunsLiteral, TellsCarried, is_hit
 ghost use Rattle.hs_block.specs.WordBits.{word_bit};
 
 use crate::engine::BlockEnds;
-use crate::places::{contains_place, low_places, with_place};
+use crate::places::{contains_place, low_places, one_later, with_place};
 use hs_bits::{clear_bits, contains_bit, write_bit};
 
 /// Where a literal ends in a block.
@@ -34,7 +34,7 @@ impl Hits {
     fn before(self) -> u64
         ensures { (i : ℕ) → i < 64 → word_bit result i ≡ is_hit self i }
     {
-        (self.behind << 1) | (self.at_start as u64)
+        one_later(self.behind, self.at_start)
     }
 }
 

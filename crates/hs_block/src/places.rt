@@ -1,7 +1,7 @@
 //! The places of a block as the bits of a word.
 
 ghost use Rattle.std.specs.Prelude.{◌≡◌, ℕ, ◌<◌, ◌≤◌, ◌&&◌, ◌||◌, ◌==◌, false, nat_lt};
-ghost use Rattle.hs_block.specs.WordBits.{word_bit};
+ghost use Rattle.hs_block.specs.WordBits.{one_later, word_bit};
 
 use hs_bits::{WORD_BITS, lowest_bit};
 
@@ -53,4 +53,18 @@ pub fn low_places(count: usize) -> u64
     } else {
         u64::MAX >> (WORD_BITS - count)
     }
+}
+
+/// The word one place on, with that bit for the first place.
+pub(crate) fn one_later(word: u64, first: bool) -> u64
+    ensures { (i : ℕ) → i < 64 → word_bit result i ≡ one_later first (word_bit word) i }
+{
+    (word << 1) | (first as u64)
+}
+
+/// The word, or none of its bits.
+pub(crate) fn only_if(word: u64, kept: bool) -> u64
+    ensures { (i : ℕ) → word_bit result i ≡ (word_bit word i && kept) }
+{
+    if kept { word } else { 0 }
 }
