@@ -1,12 +1,10 @@
 -- A piece behind others over a block: from where those are left to where the piece is.
 use Rattle.std.proofs.Common.{◌≡◌, ◌↔◌, ◌⊎◌, ℕ, zero, suc, ◌+◌, ◌<◌, ◌≤◌, Bool, true, false, ◌&&◌, ◌||◌, List, [], ◌∷◌, ◌++◌, length, get_or, take, refl, sym, ap, subst, ◌∙◌, inl, inr, arith, append_assoc}
 use Rattle.std.proofs.lemmas.List.{append-nil, take_all}
-use Rattle.hs_base.specs.declared.context.Mask.{Mask}
 use Rattle.hs_base.specs.declared.context.Next.{Next}
 use Rattle.hs_base.specs.declared.context.Next.TheVariants as after
 use Rattle.hs_base.specs.Chains.{Piece, piece_tree, IsFitChain}
-use Rattle.hs_base.specs.Contexts.{class_of, context_of}
-use Rattle.hs_base.specs.ContextSets.{has_context}
+use Rattle.hs_base.specs.Contexts.{class_of}
 use Rattle.hs_base.specs.Leaving.{AreEntered, IsEmptyAt, LeavesAt, LeavesBehind}
 use Rattle.hs_base.specs.Fields.{Leaves}
 use Rattle.hs_base.specs.Trees.{Tree}
@@ -16,7 +14,7 @@ use Rattle.hs_block.specs.WordBits.{word_bit, bits_of, Marks}
 use Rattle.hs_block.specs.Scans.{Scans}
 use Rattle.hs_block.proofs.BlockLemmas.{block-more, entered-more}
 use Rattle.hs_nodes.specs.Left.{AreLeft}
-use Rattle.hs_nodes.specs.Pieces.{AreContexts, IsNullMask}
+use Rattle.hs_nodes.specs.Pieces.{AreEmpty}
 
 -- the entries of the piece go on with the word
 pub entries-on : (pieces : List Piece) (u bytes : List ℕ) (entered : List Bool) (enters enters' : ℕ) → AreEntered pieces u entered → AreLeft pieces u bytes enters enters' → (i : ℕ) → i ≤ length bytes →
@@ -79,28 +77,28 @@ back f = (f.1, f.0)
 same-true : (a b : Bool) → a ≡ b → (a ≡ true) ↔ (b ≡ true)
 same-true a b e = (λ is. sym e ∙ is, λ is. e ∙ is)
 
-module _ (Field : List ℕ → List Bool → Type 0) (pieces rest : List Piece) (piece : Piece) (mask : Mask) (u bytes : List ℕ) (entered : List Bool) (enters enters' null null' out out' before behind : ℕ)
-    (fit : IsFitChain (pieces ++ piece ∷ rest)) (null_mask : IsNullMask mask (piece_tree piece)) (left : AreLeft pieces u bytes enters enters') (are : AreEntered pieces u entered)
-    (contexts : AreContexts mask u bytes null null') (scans : Scans Field (piece_tree piece) u entered bytes enters out out') (through : IsThrough before out enters null) (through' : IsThrough behind out' enters' null') where
+module _ (Field : List ℕ → List Bool → Type 0) (pieces rest : List Piece) (piece : Piece) (u bytes : List ℕ) (entered : List Bool) (enters enters' null null' out out' before behind : ℕ)
+    (fit : IsFitChain (pieces ++ piece ∷ rest)) (left : AreLeft pieces u bytes enters enters') (are : AreEntered pieces u entered)
+    (empty : AreEmpty (piece_tree piece) u bytes null null') (scans : Scans Field (piece_tree piece) u entered bytes enters out out') (through : IsThrough before out enters null) (through' : IsThrough behind out' enters' null') where
   at : (i : ℕ) → i ≤ length bytes → (next : Next) → (o e n : Bool) → (o ≡ true) ↔ Leaves (piece_tree piece) (u ++ take i bytes) (entered ++ bits_of enters i) next → (e ≡ true) ↔ LeavesAt pieces (u ++ take i bytes) next →
-      n ≡ has_context mask (context_of (u ++ take i bytes) next) → ((o || (e && n)) ≡ true) ↔ LeavesAt (pieces ++ piece ∷ []) (u ++ take i bytes) next
+      (n ≡ true) ↔ IsEmptyAt (piece_tree piece) (u ++ take i bytes) next → ((o || (e && n)) ≡ true) ↔ LeavesAt (pieces ++ piece ∷ []) (u ++ take i bytes) next
   at i within next o e n o_is e_is n_is =
       left-through pieces rest piece (u ++ take i bytes) next fit o e n
       (both-ways o_is (back (leaves-listed pieces piece (u ++ take i bytes) (entered ++ bits_of enters i) next (entries-on pieces u bytes entered enters enters' are left i within))))
       e_is
-      (both-ways (same-true n (has_context mask (context_of (u ++ take i bytes) next)) n_is) (null_mask (u ++ take i bytes) next))
+      n_is
 
   -- where the pieces and one more are left in a block
   pub piece-left : AreLeft (pieces ++ piece ∷ []) u bytes before behind
   piece-left = record {
     before_is = record {
       below = λ i low. both-ways (same-true (word_bit before i) (word_bit out i || (word_bit enters i && word_bit null i)) (through i))
-          (at i (omega arith) (class_of (get_or bytes i 0)) (word_bit out i) (word_bit enters i) (word_bit null i) (scans.before_is.below i low) (left.before_is.below i low) (contexts.before_is i low));
+          (at i (omega arith) (class_of (get_or bytes i 0)) (word_bit out i) (word_bit enters i) (word_bit null i) (scans.before_is.below i low) (left.before_is.below i low) (empty.before_is i low));
       above = λ i high. through i ∙ through-none (word_bit out i) (word_bit enters i) (word_bit null i) (scans.before_is.above i high) (left.before_is.above i high);
     };
     behind_is = record {
       below = λ i low. both-ways (same-true (word_bit behind i) (word_bit out' i || (word_bit enters' i && word_bit null' i)) (through' i))
-          (at (i + 1) (omega arith) after.Unknown (word_bit out' i) (word_bit enters' i) (word_bit null' i) (scans.behind_is.below i low) (left.behind_is.below i low) (contexts.behind_is i low));
+          (at (i + 1) (omega arith) after.Unknown (word_bit out' i) (word_bit enters' i) (word_bit null' i) (scans.behind_is.below i low) (left.behind_is.below i low) (empty.behind_is i low));
       above = λ i high. through' i ∙ through-none (word_bit out' i) (word_bit enters' i) (word_bit null' i) (scans.behind_is.above i high) (left.behind_is.above i high);
     };
   }

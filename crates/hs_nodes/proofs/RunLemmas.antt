@@ -3,22 +3,18 @@ use Rattle.std.proofs.Common.{◌≡◌, ◌⊎◌, ℕ, zero, suc, ◌+◌, ◌
 use Rattle.std.proofs.Math.Seq.{take-add}
 use Rattle.std.proofs.lemmas.List.{get_or-set_same, get_or-set_other, length-take-le, take_all}
 use Rattle.std.specs.Int.{bit_at}
-use Rattle.hs_base.specs.declared.context.Mask.{Mask}
-use Rattle.hs_base.specs.declared.context.Prev.{Prev}
 use Rattle.hs_base.specs.Chains.{Piece, piece_tree, IsFitChain}
-use Rattle.hs_base.specs.Contexts.{prev_at}
 use Rattle.hs_base.specs.Lists.{Each}
+use Rattle.hs_base.specs.Trees.{Tree}
 use Rattle.hs_base.proofs.ByteSetLemmas.{bit-or}
 use Rattle.hs_base.proofs.ContextSetLemmas.{bit-and}
-use Rattle.hs_block.specs.declared.engine.BlockEnds.{BlockEnds}
-use Rattle.hs_block.specs.Blocks.{IsBlockRun, IsFieldOf, TakesBlock}
+use Rattle.hs_block.specs.Scans.{Scans}
 use Rattle.hs_block.specs.WordBits.{word_bit, bits_of}
 use Rattle.hs_block.proofs.PlaceLemmas.{bit-none}
-use Rattle.hs_engine.specs.Engines.{Meaning}
 use Rattle.hs_nodes.specs.declared.ends.ChunkEnds.{ChunkEnds}
-use Rattle.hs_nodes.specs.Blocks.{EndsBehind, block, front}
+use Rattle.hs_nodes.specs.Blocks.{block, front}
 use Rattle.hs_nodes.specs.Left.{AreLeft, AreLeftIn}
-use Rattle.hs_nodes.specs.Pieces.{AreContextsIn, IsHeld, IsNullMask, IsRunOver, TakesChunk}
+use Rattle.hs_nodes.specs.Pieces.{AreEmptyIn, IsHeldBy, IsRunOver}
 use Rattle.hs_nodes.proofs.ChunkLemmas.{block-past, front-all, front-more, front-none, length-front}
 use Rattle.hs_nodes.proofs.PieceLemmas.{IsThrough, piece-entered, piece-left}
 
@@ -33,25 +29,13 @@ pub record AreNowhereFrom (n : ℕ) (ends : ChunkEnds) : Type 0 where
   pub behind : (i : ℕ) → n ≤ i → slice_index ends.behind i ≡ 0
 
 -- the field behind the first so many blocks, and where the pieces are left in these
-pub record IsRunTo (m : Meaning) (pieces : List Piece) (piece : Piece) (region u bytes : List ℕ) (ends : ChunkEnds) (n : ℕ) : Type 0 where
-  pub held : IsHeld m pieces piece region (front u bytes n)
+pub record IsRunTo (Field : Tree → List ℕ → List Bool → Type 0) (pieces : List Piece) (piece : Piece) (u bytes : List ℕ) (ends : ChunkEnds) (n : ℕ) : Type 0 where
+  pub held : IsHeldBy Field pieces piece (front u bytes n)
   pub left : (i : ℕ) → i < n → AreLeft (pieces ++ piece ∷ []) (front u bytes i) (block bytes i) (slice_index ends.before i) (slice_index ends.behind i)
 
--- and so for any piece, behind any stream
-abbrev pub TakesBlocks : Meaning → Mask → (old new : List ℕ) (prev : Prev) (at : ℕ) (bytes : List ℕ) (enters ends : ChunkEnds) (n : ℕ) → Type 0
-TakesBlocks m mask old new prev at bytes enters ends n =
-    (pieces rest : List Piece) (piece : Piece) (u : List ℕ) →
-    IsFitChain (pieces ++ piece ∷ rest) →
-    m.is_for (piece_tree piece) →
-    IsNullMask mask (piece_tree piece) →
-    EndsBehind u prev at →
-    AreLeftIn pieces u bytes enters →
-    IsHeld m pieces piece old u →
-    IsRunTo m pieces piece new u bytes ends n
-
-pub blocks-none : (m : Meaning) (mask : Mask) (region : List ℕ) (prev : Prev) (at : ℕ) (bytes : List ℕ) (enters ends : ChunkEnds) → TakesBlocks m mask region region prev at bytes enters ends 0
-blocks-none m mask region prev at bytes enters ends pieces rest piece u fit runs null stands left held = record {
-  held = subst (λ v. IsHeld m pieces piece region v) (sym (front-none u bytes)) held;
+pub run-none : (Field : Tree → List ℕ → List Bool → Type 0) (pieces : List Piece) (piece : Piece) (u bytes : List ℕ) (ends : ChunkEnds) → IsHeldBy Field pieces piece u → IsRunTo Field pieces piece u bytes ends 0
+run-none Field pieces piece u bytes ends held = record {
+  held = subst (λ v. IsHeldBy Field pieces piece v) (sym (front-none u bytes)) held;
   left = λ i low. absurd (omega arith);
 }
 
@@ -77,64 +61,42 @@ nowhere-more old new j n before behind next more none = record {
   behind = λ i high. more.behind_other i (omega arith) ∙ none.behind i (omega arith);
 }
 
-module _ (m : Meaning) (mask : Mask) (old region new : List ℕ) (prev behind_prev : Prev) (at here : ℕ) (bytes own : List ℕ) (enters null ends ends' : ChunkEnds) (j n : ℕ) (left_here : BlockEnds) (spent spent' before behind : ℕ)
-    (below : 64 * j < length bytes) (next : n ≡ j + 1) (own_is : own ≡ block bytes j) (here_is : here ≡ at + 64 * j)
-    (prev_is : (u : List ℕ) → prev ≡ prev_at u (length u) → behind_prev ≡ prev_at (front u bytes j) (length (front u bytes j)))
-    (takes : TakesBlock m region new behind_prev here (slice_index enters.before j) own left_here spent spent')
-    (through : IsThrough before left_here.before (slice_index enters.before j) (slice_index null.before j)) (through' : IsThrough behind left_here.behind (slice_index enters.behind j) (slice_index null.behind j))
-    (more : AreMoreEnds ends ends' j before behind) (small : j < 8) where
-  module _ (contexts : (u : List ℕ) → EndsBehind u prev at → AreContextsIn mask u bytes null) (before_now : TakesBlocks m mask old region prev at bytes enters ends j)
-      (pieces rest : List Piece) (piece : Piece) (u : List ℕ) (fit : IsFitChain (pieces ++ piece ∷ rest)) (runs : m.is_for (piece_tree piece)) (null_mask : IsNullMask mask (piece_tree piece)) (stands : EndsBehind u prev at)
-      (left : AreLeftIn pieces u bytes enters) (held : IsHeld m pieces piece old u) where
-    so_far : IsRunTo m pieces piece region u bytes ends j
-    so_far = before_now pieces rest piece u fit runs null_mask stands left held
+module _ (Old New : Tree → List ℕ → List Bool → Type 0) (pieces rest : List Piece) (piece : Piece) (u bytes : List ℕ) (enters null ends ends' : ChunkEnds) (j n out out' before behind : ℕ) (fit : IsFitChain (pieces ++ piece ∷ rest)) (left : AreLeftIn pieces u bytes enters)
+    (empty : AreEmptyIn (piece_tree piece) u bytes null)
+    (scans : (entered : List Bool) → length entered ≡ length (front u bytes j) → Old (piece_tree piece) (front u bytes j) entered → Scans (New (piece_tree piece)) (piece_tree piece) (front u bytes j) entered (block bytes j) (slice_index enters.before j) out out')
+    (through : IsThrough before out (slice_index enters.before j) (slice_index null.before j)) (through' : IsThrough behind out' (slice_index enters.behind j) (slice_index null.behind j)) (more : AreMoreEnds ends ends' j before behind) (next : n ≡ j + 1) (small : j < 8)
+    (run : IsRunTo Old pieces piece u bytes ends j) where
+  own : Scans (New (piece_tree piece)) (piece_tree piece) (front u bytes j) run.held.entered (block bytes j) (slice_index enters.before j) out out'
+  own = scans run.held.entered run.held.are.count run.held.field
 
-    blocks : IsBlockRun m region new behind_prev here (slice_index enters.before j) (block bytes j) left_here takes.ticks
-    blocks = subst (λ bs. IsBlockRun m region new behind_prev here (slice_index enters.before j) bs left_here takes.ticks) own_is takes.run
+  here_left : AreLeft (pieces ++ piece ∷ []) (front u bytes j) (block bytes j) before behind
+  here_left =
+      piece-left (New (piece_tree piece)) pieces rest piece (front u bytes j) (block bytes j) run.held.entered (slice_index enters.before j) (slice_index enters.behind j) (slice_index null.before j) (slice_index null.behind j)
+      out out' before behind fit (left.each j small) run.held.are (empty.each j small) own through through'
 
-    is_field : IsFieldOf m region behind_prev here (piece_tree piece) (front u bytes j) so_far.held.entered
-    is_field = record {
-      runs = runs;
-      count = so_far.held.are.count;
-      offset = omega (arith, here_is, stands.offset, length-front u bytes j (omega arith));
-      behind = prev_is u stands.behind;
-      field = so_far.held.field;
-    }
+  left-upto : (i : ℕ) → (i < j) ⊎ (i ≡ j) → AreLeft (pieces ++ piece ∷ []) (front u bytes i) (block bytes i) (slice_index ends'.before i) (slice_index ends'.behind i)
+  left-upto i (inl low) =
+      subst (λ w. AreLeft (pieces ++ piece ∷ []) (front u bytes i) (block bytes i) w (slice_index ends'.behind i)) (sym (more.before_other i (omega arith)))
+      (subst (λ w. AreLeft (pieces ++ piece ∷ []) (front u bytes i) (block bytes i) (slice_index ends.before i) w) (sym (more.behind_other i (omega arith))) (run.left i low))
+  left-upto i (inr same) =
+      subst (λ k. AreLeft (pieces ++ piece ∷ []) (front u bytes k) (block bytes k) (slice_index ends'.before k) (slice_index ends'.behind k)) (sym same)
+      (subst (λ w. AreLeft (pieces ++ piece ∷ []) (front u bytes j) (block bytes j) w (slice_index ends'.behind j)) (sym more.before_here)
+      (subst (λ w. AreLeft (pieces ++ piece ∷ []) (front u bytes j) (block bytes j) before w) (sym more.behind_here) here_left))
 
-    here_left : AreLeft (pieces ++ piece ∷ []) (front u bytes j) (block bytes j) before behind
-    here_left =
-        piece-left (m.field new (piece_tree piece)) pieces rest piece mask (front u bytes j) (block bytes j) so_far.held.entered (slice_index enters.before j) (slice_index enters.behind j) (slice_index null.before j) (slice_index null.behind j)
-        left_here.before left_here.behind before behind fit null_mask (left.each j small) so_far.held.are ((contexts u stands).each j small)
-        (blocks.scans (piece_tree piece) (front u bytes j) so_far.held.entered is_field) through through'
-
-    left-upto : (i : ℕ) → (i < j) ⊎ (i ≡ j) → AreLeft (pieces ++ piece ∷ []) (front u bytes i) (block bytes i) (slice_index ends'.before i) (slice_index ends'.behind i)
-    left-upto i (inl low) =
-        subst (λ w. AreLeft (pieces ++ piece ∷ []) (front u bytes i) (block bytes i) w (slice_index ends'.behind i)) (sym (more.before_other i (omega arith)))
-        (subst (λ w. AreLeft (pieces ++ piece ∷ []) (front u bytes i) (block bytes i) (slice_index ends.before i) w) (sym (more.behind_other i (omega arith))) (so_far.left i low))
-    left-upto i (inr same) =
-        subst (λ k. AreLeft (pieces ++ piece ∷ []) (front u bytes k) (block bytes k) (slice_index ends'.before k) (slice_index ends'.behind k)) (sym same)
-        (subst (λ w. AreLeft (pieces ++ piece ∷ []) (front u bytes j) (block bytes j) w (slice_index ends'.behind j)) (sym more.before_here)
-        (subst (λ w. AreLeft (pieces ++ piece ∷ []) (front u bytes j) (block bytes j) before w) (sym more.behind_here) here_left))
-
-    cases : (i : ℕ) → i < n → (i < j) ⊎ (i ≡ j)
-    cases i low = grind (arith, next)
-
-    -- one more block, for this piece
-    pub block-more_for : IsRunTo m pieces piece new u bytes ends' n
-    block-more_for = record {
-      held = subst (λ v. IsHeld m pieces piece new v) (sym (front-more u bytes j n next)) (record {
-        entered = _;
-        are = piece-entered (m.field new (piece_tree piece)) pieces rest piece mask (front u bytes j) (block bytes j) so_far.held.entered (slice_index enters.before j) (slice_index enters.behind j) (slice_index null.before j) (slice_index null.behind j)
-          left_here.before left_here.behind before behind fit null_mask (left.each j small) so_far.held.are ((contexts u stands).each j small)
-          (blocks.scans (piece_tree piece) (front u bytes j) so_far.held.entered is_field) through through';
-        field = (blocks.scans (piece_tree piece) (front u bytes j) so_far.held.entered is_field).field;
-      });
-      left = λ i low. left-upto i (cases i low);
-    }
+  cases : (i : ℕ) → i < n → (i < j) ⊎ (i ≡ j)
+  cases i low = grind (arith, next)
 
   -- one more block
-  pub blocks-more : ((u : List ℕ) → EndsBehind u prev at → AreContextsIn mask u bytes null) → TakesBlocks m mask old region prev at bytes enters ends j → TakesBlocks m mask old new prev at bytes enters ends' n
-  blocks-more contexts before_now pieces rest piece u fit runs null_mask stands left held = block-more_for contexts before_now pieces rest piece u fit runs null_mask stands left held
+  pub run-more : IsRunTo New pieces piece u bytes ends' n
+  run-more = record {
+    held = subst (λ v. IsHeldBy New pieces piece v) (sym (front-more u bytes j n next)) (record {
+      entered = run.held.entered ++ bits_of (slice_index enters.before j) (length (block bytes j));
+      are = piece-entered (New (piece_tree piece)) pieces rest piece (front u bytes j) (block bytes j) run.held.entered (slice_index enters.before j) (slice_index enters.behind j) (slice_index null.before j) (slice_index null.behind j)
+          out out' before behind fit (left.each j small) run.held.are (empty.each j small) own through through';
+      field = own.field;
+    });
+    left = λ i low. left-upto i (cases i low);
+  }
 
 -- pieces are left nowhere in a block of no bytes
 pub left-past : (pieces : List Piece) (u bytes : List ℕ) (before behind : ℕ) → bytes ≡ [] → before ≡ 0 → behind ≡ 0 → AreLeft pieces u bytes before behind
@@ -148,15 +110,13 @@ split : (n i : ℕ) → (i < n) ⊎ (n ≤ i)
 split n i = grind arith
 
 -- all blocks
-pub blocks-all : (m : Meaning) (mask : Mask) (old new : List ℕ) (prev : Prev) (at : ℕ) (bytes : List ℕ) (enters ends : ChunkEnds) (n : ℕ) → length bytes ≤ 64 * n → AreNowhereFrom n ends → TakesBlocks m mask old new prev at bytes enters ends n →
-    TakesChunk m mask old new prev at bytes enters ends
-blocks-all m mask old new prev at bytes enters ends n all none takes pieces rest piece u fit runs null stands left held =
-    let own = takes pieces rest piece u fit runs null stands left held in record {
-      held = subst (λ v. IsHeld m pieces piece new v) (front-all u bytes n all) own.held;
-      left = record { each = λ j small. by_split j (split n j) };
-    } where
+pub run-all : (Field : Tree → List ℕ → List Bool → Type 0) (pieces : List Piece) (piece : Piece) (u bytes : List ℕ) (ends : ChunkEnds) (n : ℕ) → length bytes ≤ 64 * n → AreNowhereFrom n ends → IsRunTo Field pieces piece u bytes ends n → IsRunOver Field pieces piece u bytes ends
+run-all Field pieces piece u bytes ends n all none run = record {
+    held = subst (λ v. IsHeldBy Field pieces piece v) (front-all u bytes n all) run.held;
+    left = record { each = λ j small. by_split j (split n j) };
+  } where
   by_split : (j : ℕ) → (j < n) ⊎ (n ≤ j) → AreLeft (pieces ++ piece ∷ []) (front u bytes j) (block bytes j) (slice_index ends.before j) (slice_index ends.behind j)
-  by_split j (inl low) = (takes pieces rest piece u fit runs null stands left held).left j low
+  by_split j (inl low) = run.left j low
   by_split j (inr high) = left-past (pieces ++ piece ∷ []) (front u bytes j) (block bytes j) (slice_index ends.before j) (slice_index ends.behind j) (block-past bytes j (omega arith)) (none.before j high) (none.behind j high)
 
 -- where a region stands behind one more block

@@ -1,8 +1,7 @@
 //! An engine over a chunk.
 
-ghost use Rattle.std.specs.Prelude.{◌≡◌, ◌+◌, false, ℕ, List, length};
-ghost use Rattle.hs_nodes.specs.Blocks.{EndsBehind};
-ghost use Rattle.hs_nodes.specs.Pieces.{AreContextsIn, TakesChunk};
+ghost use Rattle.std.specs.Prelude.{◌≡◌, ◌+◌, false, length};
+ghost use Rattle.hs_nodes.specs.Pieces.{TakesChunk};
 
 use crate::chunk::{BLOCK_BYTES, Chunk};
 use crate::ends::ChunkEnds;
@@ -11,8 +10,8 @@ use hs_block::BlockEngine;
 use hs_engine::Steps;
 use std::sync::ledger::Ledger;
 
-/// Takes a chunk by an engine, block by block, where the pieces before are left as `enters` tell, and `null` tells
-/// which contexts the mask has. Answers where the pieces up to it are left.
+/// Takes a chunk by an engine, block by block, where the pieces before are left as `enters` tell, and the piece has the
+/// empty span where `null` tells it. Answers where the pieces up to it are left.
 pub(crate) fn run_engine<E: BlockEngine, L: Ledger>(
     engine: &E,
     region: &mut [u8],
@@ -26,10 +25,8 @@ pub(crate) fn run_engine<E: BlockEngine, L: Ledger>(
     requires listed { (E.meaning engine.now).always ≡ false }
     ensures len { length region.new ≡ (E.meaning engine.now).width }
     ensures well { (E.meaning engine.now).well region.new (chunk.now.at + length chunk.now.bytes.now) }
-    ensures takes { (mask : Mask) →
-        ((u : List ℕ) → EndsBehind u chunk.now.prev chunk.now.at → AreContextsIn mask u chunk.now.bytes.now null.now) →
-        TakesChunk (E.meaning engine.now) mask region.old region.new chunk.now.prev chunk.now.at chunk.now.bytes.now
-        enters.now result }
+    ensures takes { TakesChunk (E.meaning engine.now) region.old region.new chunk.now.prev chunk.now.at
+        chunk.now.bytes.now enters.now null.now result }
 {
     let mut ends = ChunkEnds::NOWHERE;
     for j in 0..chunk.blocks() {

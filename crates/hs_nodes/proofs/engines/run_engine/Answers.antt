@@ -1,5 +1,6 @@
 use Rattle.std.proofs.Common.{◌+◌, ◌*◌, length, take, refl, sym, subst, arith, length-set}
-use Rattle.hs_nodes.proofs.RunLemmas.{blocks-all, blocks-more, blocks-none, ends-more, nowhere-more, nowhere-none, reach-more, word-through}
+use Rattle.hs_nodes.proofs.EngineLemmas.{blocks-all, blocks-more, blocks-none}
+use Rattle.hs_nodes.proofs.RunLemmas.{ends-more, nowhere-more, nowhere-none, reach-more, word-through}
 use Rattle.hs_nodes.proofs.engines.run_engine.Goals as goal
 
 pub loop-j-init : goal.loop-j-init
@@ -9,7 +10,7 @@ loop-j-init g c = record {
   befores = refl;
   behinds = refl;
   nowhere = nowhere-none;
-  takes = λ mask contexts. blocks-none (g.E.Engine.meaning c.args.engine.now) mask c.args.region.now c.args.chunk.now.prev c.args.chunk.now.at c.args.chunk.now.bytes.now c.args.enters.now _;
+  takes = blocks-none (g.E.Engine.meaning c.args.engine.now) c.args.region.now c.args.chunk.now.prev c.args.chunk.now.at c.args.chunk.now.bytes.now c.args.enters.now c.args.null.now _;
 }
 
 pub loop-j-preserved : goal.loop-j-preserved
@@ -22,13 +23,13 @@ loop-j-preserved g c =
       befores = simp length-set inv.befores;
       behinds = simp length-set inv.behinds;
       nowhere = nowhere-more _ _ j (j + 1) _ _ refl more inv.nowhere;
-      takes = λ mask contexts.
-          blocks-more (g.E.Engine.meaning c.args.engine.now) mask c.args.region.now c.loop-j.region c.run-own.new.region c.args.chunk.now.prev c.prev_before.result c.args.chunk.now.at (c.args.chunk.now.at + 64 * j) c.args.chunk.now.bytes.now c.block-bytes.result.now
+      takes =
+          blocks-more (g.E.Engine.meaning c.args.engine.now) c.args.region.now c.loop-j.region c.run-own.new.region c.args.chunk.now.prev c.prev_before.result c.args.chunk.now.at (c.args.chunk.now.at + 64 * j) c.args.chunk.now.bytes.now c.block-bytes.result.now
             c.args.enters.now c.args.null.now c.loop-j.ends _ j (j + 1) c.run-own.result _ _ _ _ (omega arith) refl c.block-bytes.ensures.bytes refl c.prev_before.ensures c.run-own.ensures.takes (word-through _ _ _) (word-through _ _ _) more (omega (arith, c.blocks-j-end.ensures.few))
-            contexts (inv.takes mask contexts);
+            inv.takes;
     }
 
 pub returns-clause-takes : goal.returns-clause-takes
-returns-clause-takes g c = λ mask contexts.
-    blocks-all (g.E.Engine.meaning c.args.engine.now) mask c.args.region.now c.loop-j.region c.args.chunk.now.prev c.args.chunk.now.at c.args.chunk.now.bytes.now c.args.enters.now c.loop-j.ends c.loop-j.j (omega (arith, c.blocks-j-end.ensures.count)) c.loop-j.invariant.nowhere
-    (c.loop-j.invariant.takes mask contexts)
+returns-clause-takes g c =
+    blocks-all (g.E.Engine.meaning c.args.engine.now) c.args.region.now c.loop-j.region c.args.chunk.now.prev c.args.chunk.now.at c.args.chunk.now.bytes.now c.args.enters.now c.args.null.now c.loop-j.ends c.loop-j.j (omega (arith, c.blocks-j-end.ensures.count))
+    c.loop-j.invariant.nowhere c.loop-j.invariant.takes

@@ -1,8 +1,6 @@
-use Rattle.std.proofs.Common.{◌≡◌, ◌+◌, ◌*◌, ℕ, List, length, take}
-use Rattle.hs_base.specs.declared.context.Mask.{Mask}
-use Rattle.hs_nodes.specs.Blocks.{EndsBehind}
-use Rattle.hs_nodes.specs.Pieces.{AreContextsIn}
-use Rattle.hs_nodes.proofs.RunLemmas.{AreNowhereFrom, TakesBlocks}
+use Rattle.std.proofs.Common.{◌≡◌, ◌+◌, ◌*◌, length, take}
+use Rattle.hs_nodes.proofs.EngineLemmas.{TakesBlocks}
+use Rattle.hs_nodes.proofs.RunLemmas.{AreNowhereFrom}
 use Rattle.hs_nodes.proofs.engines.run_engine.Given as goal
 
 abbrev pub invariant-loop-j : goal.invariant-loop-j
@@ -12,8 +10,6 @@ invariant-loop-j g l = record {
   befores : length l.ends.before ≡ 8;
   behinds : length l.ends.behind ≡ 8;
   nowhere : AreNowhereFrom l.j l.ends;
-  takes : (mask : Mask) →
-      ((u : List ℕ) → EndsBehind u l.chunk.prev l.chunk.at → AreContextsIn mask u l.chunk.bytes.now l.null) →
-      TakesBlocks (g.E.Engine.meaning l.engine) mask l.fn.region l.region l.chunk.prev l.chunk.at l.chunk.bytes.now
-      l.enters l.ends l.j;
+  takes : TakesBlocks (g.E.Engine.meaning l.engine) l.fn.region l.region l.chunk.prev l.chunk.at l.chunk.bytes.now
+      l.enters l.null l.ends l.j;
 }
