@@ -5,3 +5,4 @@ pub mod EngineLemmas
 pub mod MarkLemmas
 pub mod FlatLemmas
 pub mod PassLemmas
+pub mod LiteralLemmas

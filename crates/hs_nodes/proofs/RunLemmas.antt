@@ -13,7 +13,7 @@ use Rattle.hs_block.specs.WordBits.{word_bit, bits_of}
 use Rattle.hs_block.proofs.PlaceLemmas.{bit-none}
 use Rattle.hs_nodes.specs.declared.ends.ChunkEnds.{ChunkEnds}
 use Rattle.hs_nodes.specs.Blocks.{block, front}
-use Rattle.hs_nodes.specs.Left.{AreLeft, AreLeftIn}
+use Rattle.hs_nodes.specs.Left.{AreLeft, AreLeftIn, nowhere}
 use Rattle.hs_nodes.specs.Pieces.{AreEmptyIn, IsHeldBy, IsRunOver}
 use Rattle.hs_nodes.proofs.ChunkLemmas.{block-past, front-all, front-more, front-none, length-front}
 use Rattle.hs_nodes.proofs.PieceLemmas.{IsThrough, piece-entered, piece-left}
@@ -140,5 +140,8 @@ zero-at i = all-zero (0 ∷ 0 ∷ 0 ∷ 0 ∷ 0 ∷ 0 ∷ 0 ∷ 0 ∷ []) (refl,
   all-zero (x ∷ xs) each zero = each.0
   all-zero (x ∷ xs) each (suc i) = all-zero xs each.1 i
 
-pub nowhere-none : AreNowhereFrom 0 (record { before = 0 ∷ 0 ∷ 0 ∷ 0 ∷ 0 ∷ 0 ∷ 0 ∷ 0 ∷ []; behind = 0 ∷ 0 ∷ 0 ∷ 0 ∷ 0 ∷ 0 ∷ 0 ∷ 0 ∷ [] })
+pub nowhere-none : AreNowhereFrom 0 nowhere
 nowhere-none = record { before = λ i high. zero-at i; behind = λ i high. zero-at i }
+
+pub reach-upto : (bytes : List ℕ) (j : ℕ) → 64 * j ≤ length bytes → length (take (64 * j) bytes) ≡ 64 * j
+reach-upto bytes j within = length-take-le (64 * j) bytes within

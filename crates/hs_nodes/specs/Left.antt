@@ -1,5 +1,6 @@
 -- Where pieces are left in the blocks of a chunk, by words.
-use Rattle.std.specs.Prelude.{◌≡◌, ℕ, ◌+◌, ◌<◌, List, ◌++◌, length, take, slice_index}
+use Rattle.std.specs.Prelude.{◌≡◌, ℕ, ◌+◌, ◌<◌, List, [], ◌∷◌, ◌++◌, length, take}
+use Rattle.std.specs.Prelude.{slice_index}
 use Rattle.hs_base.specs.declared.context.Next.TheVariants as after
 use Rattle.hs_base.specs.Chains.{Piece}
 use Rattle.hs_base.specs.Contexts.{class_of}
@@ -19,3 +20,10 @@ pub record AreLeft (pieces : List Piece) (u bytes : List ℕ) (before behind : �
 pub record AreLeftIn (pieces : List Piece) (u bytes : List ℕ) (ends : ChunkEnds) : Type 0 where
   pub each : (j : ℕ) → j < 8 →
       AreLeft pieces (front u bytes j) (block bytes j) (slice_index ends.before j) (slice_index ends.behind j)
+
+-- nowhere in eight blocks
+abbrev pub nowhere_words : List ℕ
+nowhere_words = 0 ∷ 0 ∷ 0 ∷ 0 ∷ 0 ∷ 0 ∷ 0 ∷ 0 ∷ []
+
+abbrev pub nowhere : ChunkEnds
+nowhere = record { before = nowhere_words; behind = nowhere_words }

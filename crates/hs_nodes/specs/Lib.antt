@@ -2,3 +2,4 @@ pub mod Blocks
 pub mod Left
 pub mod Pieces
 pub mod Marks
+pub mod Hits

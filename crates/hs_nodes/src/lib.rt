@@ -4,8 +4,11 @@
 mod chunk;
 mod ends;
 mod engines;
+mod hits;
+mod literals;
 mod marks;
 
 pub use chunk::{BLOCK_BYTES, Chunk, MAX_BLOCKS, MAX_CHUNK};
 pub use ends::ChunkEnds;
+pub use hits::ChunkHits;
 pub use marks::MarkSet;
