@@ -6,3 +6,4 @@ pub mod MarkLemmas
 pub mod FlatLemmas
 pub mod PassLemmas
 pub mod LiteralLemmas
+pub mod FirstLemmas

@@ -3,3 +3,5 @@ pub mod Left
 pub mod Pieces
 pub mod Marks
 pub mod Hits
+pub mod Contexts
+pub mod FirstLiterals

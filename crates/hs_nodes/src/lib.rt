@@ -4,11 +4,14 @@
 mod chunk;
 mod ends;
 mod engines;
+mod first;
 mod hits;
 mod literals;
 mod marks;
+mod nulls;
 
 pub use chunk::{BLOCK_BYTES, Chunk, MAX_BLOCKS, MAX_CHUNK};
 pub use ends::ChunkEnds;
 pub use hits::ChunkHits;
 pub use marks::MarkSet;
+pub use nulls::chunk_contexts;
