@@ -7,3 +7,4 @@ pub mod FlatLemmas
 pub mod PassLemmas
 pub mod LiteralLemmas
 pub mod FirstLemmas
+pub mod KindLemmas

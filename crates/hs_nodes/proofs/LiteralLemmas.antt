@@ -6,20 +6,22 @@ use Rattle.std.proofs.lemmas.List.{take-append-drop}
 use Rattle.hs_base.specs.Chains.{Piece, lit, piece_tree, IsFitChain}
 use Rattle.hs_base.specs.declared.context.Next.TheVariants as after
 use Rattle.hs_base.specs.Contexts.{class_of}
+use Rattle.hs_base.specs.Bits.{has_bit}
+use Rattle.hs_base.specs.LiteralRows.{TellsEntries}
 use Rattle.hs_base.specs.Lists.{Each}
 use Rattle.hs_base.specs.LiteralEnds.{EndsAt}
 use Rattle.hs_base.specs.Literals.{LiteralByte}
 use Rattle.hs_base.proofs.ListLemmas.{each-left}
 use Rattle.hs_block.specs.declared.literal.Hits.{Hits}
 use Rattle.hs_block.specs.declared.literal.LiteralRun.{LiteralRun}
-use Rattle.hs_block.specs.LiteralBlocks.{AreHits, RunsLiteral, is_hit, turned, was_entered}
+use Rattle.hs_block.specs.LiteralBlocks.{AreHits, RunsLiteral, TellsCarried, is_hit, turned, was_entered}
 use Rattle.hs_block.specs.WordBits.{word_bit}
 use Rattle.hs_block.proofs.LiteralBlockLemmas.{ends-stay, never-empty}
 use Rattle.hs_block.proofs.PlaceLemmas.{bit-none}
 use Rattle.hs_nodes.specs.declared.ends.ChunkEnds.{ChunkEnds}
 use Rattle.hs_nodes.specs.declared.hits.ChunkHits.{ChunkHits}
 use Rattle.hs_nodes.specs.Blocks.{block, front}
-use Rattle.hs_nodes.specs.Hits.{AreChunkHits, CarriesEntries, IsCarryAt, TakesLiteral, is_hit_at}
+use Rattle.hs_nodes.specs.Hits.{AreChunkHits, CarriesEntries, IsCarryAt, TakesLiteral, TakesLiteralPart, is_hit_at}
 use Rattle.hs_nodes.specs.Left.{AreLeftIn, nowhere}
 use Rattle.hs_nodes.specs.Pieces.{AreEmptyIn, IsHeldBy}
 use Rattle.hs_nodes.proofs.ChunkLemmas.{front-more, length-front}
@@ -141,3 +143,12 @@ hit-first hits n some =
 pub hits-of : (hits : ChunkHits) (own : Hits) (n : ℕ) → own.at_start ≡ is_hit_at hits (64 * n) → own.behind ≡ slice_index hits.behind n → (i : ℕ) → i ≤ 64 → is_hit own i ≡ is_hit_at hits (64 * n + i)
 hits-of hits own n start word zero low = let same : 64 * n ≡ 64 * n + 0 = omega arith in start ∙ ap (λ m. is_hit_at hits m) same
 hits-of hits own n start word (suc i) low = ap (λ w. word_bit w i) word ∙ hit-later hits n i (omega arith)
+
+-- bytes that tell of the entries
+pub literal-part : (len old new : ℕ) (part now bytes : List ℕ) (hits : ChunkHits) (enters ends : ChunkEnds) → ((u : List ℕ) (entered : List Bool) → TellsEntries len (has_bit part) u entered → TellsCarried len old u entered) →
+    ((u : List ℕ) (entered : List Bool) → TellsCarried len new u entered → TellsEntries len (has_bit now) u entered) → TakesLiteral len old new bytes hits enters ends → TakesLiteralPart len part now bytes hits enters ends
+literal-part len old new part now bytes hits enters ends to from takes pieces rest literal u fit count bytes_are are left held =
+    let run = takes pieces rest literal u fit count bytes_are are left (record { entered = held.entered; are = held.are; field = to u held.entered held.field }) in record {
+      held = record { entered = run.held.entered; are = run.held.are; field = from (u ++ bytes) run.held.entered run.held.field };
+      left = run.left;
+    }

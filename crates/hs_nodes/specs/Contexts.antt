@@ -10,6 +10,8 @@ use Rattle.hs_base.specs.Trees.{Tree}
 use Rattle.hs_block.specs.BlockContexts.{AreContexts}
 use Rattle.hs_block.specs.declared.contexts.Contexts.{Contexts}
 use Rattle.hs_nodes.specs.Blocks.{EndsBehind, block, front}
+use Rattle.hs_nodes.specs.declared.table.NodeKind.{NodeKind}
+use Rattle.hs_nodes.specs.declared.table.NodeKind.TheVariants.{Engine, Literal, FirstLiteral}
 
 -- where an expression has the empty span: nowhere, or in the contexts of a mask
 abbrev pub IsNull : Option Mask → Tree → Type 0
@@ -22,3 +24,10 @@ pub record AreChunkContexts (contexts : List Contexts) (prev : Prev) (at : ℕ) 
   pub each : (j : ℕ) → 64 * j < length bytes → (c : Contexts) × (slice_get contexts j ≡ Some c)
       × ((u : List ℕ) → EndsBehind u prev at →
       AreContexts c (prev_at (front u bytes j) (length (front u bytes j))) (block bytes j))
+
+-- a node of that kind asks for contexts
+abbrev pub NeedsContexts : NodeKind → Type 0
+NeedsContexts (Engine number None) = ⊥
+NeedsContexts (Engine number (Some mask)) = Unit {0}
+NeedsContexts (Literal number len) = ⊥
+NeedsContexts (FirstLiteral number len) = ⊥

@@ -6,6 +6,8 @@ use Rattle.hs_base.specs.Lists.{Each}
 use Rattle.hs_base.specs.LiteralEnds.{EndsAt}
 use Rattle.hs_base.specs.Literals.{LiteralByte}
 use Rattle.hs_base.specs.Trees.{Tree}
+use Rattle.hs_base.specs.Bits.{has_bit}
+use Rattle.hs_base.specs.LiteralRows.{TellsEntries}
 use Rattle.hs_block.specs.LiteralBlocks.{TellsCarried, turned}
 use Rattle.hs_block.specs.WordBits.{word_bit}
 use Rattle.hs_nodes.specs.Left.{AreLeftIn}
@@ -31,6 +33,10 @@ CarriesEntries len carry tree u entered = TellsCarried len carry u entered
 abbrev pub IsCarryAt : (len carry at : ℕ) → Type 0
 IsCarryAt len carry at = (k : ℕ) → at ≤ k → turned len (word_bit carry) k ≡ false
 
+-- the bytes tell of the entries of a literal of so many bytes
+abbrev pub KeepsEntries : (len : ℕ) (part : List ℕ) → Tree → (u : List ℕ) (entered : List Bool) → Type 0
+KeepsEntries len part tree u entered = TellsEntries len (has_bit part) u entered
+
 -- A literal of so many bytes takes a chunk, where `enters` tell where the pieces before it are left, and `hits` where it
 -- ends: the word of its entries goes from the old one to the new one, and the ends tell where the pieces up to it are
 -- left.
@@ -44,3 +50,15 @@ TakesLiteral len old new bytes hits enters ends =
     AreLeftIn pieces u bytes enters →
     IsHeldBy (CarriesEntries len old) pieces (lit literal) u →
     IsRunOver (CarriesEntries len new) pieces (lit literal) u bytes ends
+
+-- The same of bytes that tell of its entries.
+abbrev pub TakesLiteralPart : (len : ℕ) (old new bytes : List ℕ) (hits : ChunkHits) (enters ends : ChunkEnds) → Type 0
+TakesLiteralPart len old new bytes hits enters ends =
+    (pieces rest : List Piece) (literal : List LiteralByte) (u : List ℕ) →
+    IsFitChain (pieces ++ lit literal ∷ rest) →
+    length literal ≡ len →
+    Each (λ b. b < 256) (u ++ bytes) →
+    AreChunkHits hits literal u bytes →
+    AreLeftIn pieces u bytes enters →
+    IsHeldBy (KeepsEntries len old) pieces (lit literal) u →
+    IsRunOver (KeepsEntries len new) pieces (lit literal) u bytes ends

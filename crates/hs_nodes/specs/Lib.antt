@@ -5,3 +5,4 @@ pub mod Marks
 pub mod Hits
 pub mod Contexts
 pub mod FirstLiterals
+pub mod Nodes
