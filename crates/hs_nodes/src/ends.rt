@@ -1,0 +1,20 @@
+//! Where pieces are left in a chunk.
+
+use crate::chunk::MAX_BLOCKS;
+
+/// Where pieces are left in a chunk: for each of its blocks a word with a bit for each byte, none from its end on.
+#[derive(Clone, Copy, Debug, PartialEq, Eq)]
+pub struct ChunkEnds {
+    /// They are left before the byte, where that byte comes next.
+    pub before: [u64; MAX_BLOCKS],
+    /// They are left behind the byte, where nothing is known of what comes next.
+    pub behind: [u64; MAX_BLOCKS],
+}
+
+impl ChunkEnds {
+    /// Nowhere.
+    pub const NOWHERE: ChunkEnds = ChunkEnds {
+        before: [0; MAX_BLOCKS],
+        behind: [0; MAX_BLOCKS],
+    };
+}
