@@ -45,6 +45,7 @@ pub record IsSettledTo (identifiers : List Identifier) (last : ℕ) (table : End
   pub each : (k p : ℕ) → slice_get places k ≡ Some p →
       IsSettledAt identifiers last table told here told' here' tellings k p
   pub pending : ArePending here table → (p : ℕ) → p < from → has_word_bit here' p ≡ true → is_noted table' p ≡ true
+  pub only : (p : ℕ) → p < from → is_noted table' p ≡ true → has_word_bit here' p ≡ true
   pub emptied : IsQuiet table → (p : ℕ) → p < from → words_of table' p ≡ no_words
   pub others : (p : ℕ) → (from ≤ p) ⊎ (is_noted table p ≡ false) → (has_word_bit told' p ≡ has_word_bit told p)
       × (has_word_bit here' p ≡ has_word_bit here p)
@@ -79,6 +80,7 @@ module _ (identifiers : List Identifier) (last : ℕ) (table : EndTable) (told h
     words_count = refl;
     each = λ k p at. absurd (cc);
     pending = λ all p below here. absurd (omega arith);
+    only = λ p below noted. absurd (omega arith);
     emptied = λ quiet p below. absurd (omega arith);
     others = λ p which. (refl, refl, refl, refl);
   }
@@ -105,6 +107,10 @@ module _ (identifiers : List Identifier) (last : ℕ) (table : EndTable) (told h
       | inr behind ↦
           let (_, same, _, noted) = is.others p (inl behind) in
           noted ∙ all p (sym same ∙ ends)
+    ];
+    only = λ p below noted. elim (cases_lt p from) [
+      | inl before ↦ is.only p before noted
+      | inr behind ↦ absurd (both_ways (is_noted table' p) (nowhere p behind below) noted)
     ];
     emptied = λ quiet p below. elim (cases_lt p from) [
       | inl before ↦ is.emptied quiet p before
@@ -223,6 +229,12 @@ module _ (identifiers : List Identifier) (last : ℕ) (table : EndTable) (told h
         | inr other ↦
             let (_, same_here, _, same_noted) = one.others q other in
             same_noted ∙ is.pending all q (omega arith) (sym same_here ∙ ends)
+      ];
+      only = λ q below set. elim (cases_eq q p) [
+        | inl same ↦ ap (λ r. has_word_bit here'' r) same ∙ (one.here_is ∙ (sym one.noted_is ∙ (ap (λ r. is_noted table'' r) (sym same) ∙ set)))
+        | inr other ↦
+            let (_, same_here, _, same_noted) = one.others q other in
+            same_here ∙ is.only q (omega arith) (sym same_noted ∙ set)
       ];
       emptied = λ quiet q below. elim (cases_eq q p) [
         | inl same ↦ ap (λ r. words_of table'' r) same ∙ one.words_is

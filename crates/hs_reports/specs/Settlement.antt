@@ -30,6 +30,11 @@ pub record AreKnown (P : List Pattern) (u : List ℕ) (identifiers : List Identi
 abbrev pub ArePending : (here : List ℕ) → EndTable → Type 0
 ArePending here table = (p : ℕ) → has_word_bit here p ≡ true → is_noted table p ≡ true
 
+-- and no other is
+abbrev pub AreOnlyPending : (here : List ℕ) → EndTable → Type 0
+AreOnlyPending here table =
+    (p : ℕ) → p < length table.words → is_noted table p ≡ true → has_word_bit here p ≡ true
+
 -- The identifiers are those of the patterns, and the table has the ends of each about the bytes behind u.
 pub record AreBlockEnds (P : List Pattern) (u bytes : List ℕ) (identifiers : List Identifier) (table : EndTable) :
     Type 0 where

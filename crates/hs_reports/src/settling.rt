@@ -3,7 +3,7 @@
 ghost use Rattle.std.specs.Prelude.{◌≡◌, ◌+◌, ◌<◌, ◌≤◌, ◌*◌, length};
 ghost use Rattle.hs_base.specs.Bits.{word_count};
 ghost use Rattle.hs_reports.specs.EndTables.{HasNoEnds};
-ghost use Rattle.hs_reports.specs.Settlement.{ArePending, SettlesBlock, SettlesOne};
+ghost use Rattle.hs_reports.specs.Settlement.{AreOnlyPending, ArePending, SettlesBlock, SettlesOne};
 
 use crate::block::has_bit;
 use crate::identifier::Identifier;
@@ -33,6 +33,7 @@ pub fn settle_block(
     ensures emptied { HasNoEnds ends.new }
     ensures room { tellings.new.room ≡ tellings.old.room }
     ensures pending { ArePending here.old ends.old → ArePending here.new ends.new }
+    ensures no_other { AreOnlyPending here.new ends.new }
     ensures settled { SettlesBlock identifiers.now (last + 1) ends.old told.old here.old told.new here.new
         tellings.new }
 {
