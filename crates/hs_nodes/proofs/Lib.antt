@@ -8,3 +8,6 @@ pub mod PassLemmas
 pub mod LiteralLemmas
 pub mod FirstLemmas
 pub mod KindLemmas
+pub mod RangeLemmas
+pub mod NodeLemmas
+pub mod RestLemmas
