@@ -11,3 +11,4 @@ pub mod KindLemmas
 pub mod RangeLemmas
 pub mod NodeLemmas
 pub mod RestLemmas
+pub mod WalkLemmas
