@@ -20,7 +20,7 @@ use Rattle.hs_nodes.specs.Hits.{CarriesEntries, KeepsEntries, TakesLiteral, Take
 use Rattle.hs_nodes.specs.Nodes.{IsPieceRun, TakesPiece}
 use Rattle.hs_nodes.specs.Pieces.{AreEmptyIn, IsHeld, IsHeldBy, IsRunOver, TakesChunk}
 
-one-value : {A : Type 0} (x y : A) (o : Option A) → o ≡ Some x → o ≡ Some y → x ≡ y
+pub one-value : {A : Type 0} (x y : A) (o : Option A) → o ≡ Some x → o ≡ Some y → x ≡ y
 one-value x y o at at' = let both : Some x ≡ Some y = sym at ∙ at' in cc
 
 -- the contexts that a mask needs
