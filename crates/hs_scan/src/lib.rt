@@ -1,0 +1,6 @@
+//! The scan of a stream by nodes: chunks of bytes to reports, and from a region to that of the longer stream.
+#![tactic(auto)]
+
+mod program;
+
+pub use program::{FieldCopy, Program};
