@@ -15,7 +15,7 @@ use Rattle.hs_nodes.specs.Blocks.{EndsBehind}
 use Rattle.hs_nodes.specs.Contexts.{IsNull, NeedsContexts}
 use Rattle.hs_nodes.specs.FirstLiterals.{TellsEveryEntry}
 use Rattle.hs_nodes.specs.Hits.{CarriesEntries, KeepsEntries, TakesLiteral, TakesLiteralPart}
-use Rattle.hs_nodes.specs.Nodes.{IsPieceRun, TakesPiece}
+use Rattle.hs_nodes.specs.Nodes.{IsPieceRun, IsWellPart, TakesPiece}
 use Rattle.hs_nodes.specs.Pieces.{AreEmptyIn, IsHeld, IsHeldBy, TakesChunk}
 
 pub one-value : {A : Type 0} (x y : A) (o : Option A) → o ≡ Some x → o ≡ Some y → x ≡ y
@@ -36,6 +36,10 @@ module _ {E : Type 0} (meaning : E → Meaning) (engines : List E) where
         held = λ other there'. subst (λ v. IsHeld (meaning v) pieces piece new (u ++ bytes)) (one-value e other (slice_get engines number) there there') run.held;
         left = run.left;
       }
+
+  -- what the one engine keeps may stand there
+  pub engine-well : (number : ℕ) (null : Option Mask) (part : List ℕ) (at : ℕ) (e : E) → slice_get engines number ≡ Some e → (meaning e).well part at → IsWellPart meaning engines (Engine number null) part at
+  engine-well number null part at e there well other there' = subst (λ v. (meaning v).well part at) (one-value e other (slice_get engines number) there there') well
 
   pub literal-takes : (number len : ℕ) (old new : List ℕ) (prev : Prev) (at : ℕ) (bytes : List ℕ) (hits : List ChunkHits) (enters ends : ChunkEnds) (own : ChunkHits) → slice_get hits number ≡ Some own → TakesLiteralPart len old new bytes own enters ends →
       TakesPiece meaning engines (Literal number len) old new prev at bytes hits enters ends
