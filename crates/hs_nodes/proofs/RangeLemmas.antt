@@ -1,7 +1,6 @@
 -- A region of which a range is written.
-use Rattle.std.proofs.Common.{◌≡◌, ◌⊎◌, ℕ, ◌+◌, ◌-◌, ◌<◌, ◌≤◌, List, ◌++◌, length, get_or, take, drop, slice_index, slice_range, refl, sym, ap, ◌∙◌, inl, inr, arith, length-append, length-drop}
+use Rattle.std.proofs.Common.{◌≡◌, ◌⊎◌, ℕ, ◌+◌, ◌-◌, ◌<◌, ◌≤◌, List, ◌++◌, length, get_or, take, drop, slice_range, sym, ap, ◌∙◌, inl, inr, arith, length-append, length-drop}
 use Rattle.std.proofs.lemmas.List.{get_or-append_right, get_or_append_left, get_or-take, get_or-drop, length-take-le}
-use Rattle.std.proofs.lemmas.Bool.{cases_lt}
 use Rattle.hs_base.proofs.BitLemmas.{same-places}
 
 -- the range has its length
@@ -59,6 +58,6 @@ module _ (old part : List ℕ) (a b : ℕ) (order : a ≤ b) (within : b ≤ len
       let count' = range-length old c d up fits in
       same-places (slice_range (take a old ++ (part ++ drop (b - a) (drop a old))) c d) (slice_range old c d) (count ∙ sym count')
       (λ i low.
-        range-byte (take a old ++ (part ++ drop (b - a) (drop a old))) c d i (omega (arith, count))
-        ∙ written-outside (c + i) (elim beside [ inl left ↦ inl (omega (arith, count, left)) | inr right ↦ inr (omega (arith, right)) ])
-        ∙ sym (range-byte old c d i (omega (arith, count))))
+      range-byte (take a old ++ (part ++ drop (b - a) (drop a old))) c d i (omega (arith, count))
+      ∙ written-outside (c + i) (elim beside [ inl left ↦ inl (omega (arith, count, left)) | inr right ↦ inr (omega (arith, right)) ])
+      ∙ sym (range-byte old c d i (omega (arith, count))))

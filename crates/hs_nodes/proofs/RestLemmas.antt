@@ -10,9 +10,9 @@ use Rattle.hs_base.specs.Bits.{has_bit}
 use Rattle.hs_base.specs.Chains.{Piece, lit, piece_tree, IsFitChain}
 use Rattle.hs_base.specs.Contexts.{class_of}
 use Rattle.hs_base.specs.Fields.{entered_always}
-use Rattle.hs_base.specs.Leaving.{AreEntered, IsEmptyAt, LeavesAt, LeavesBehind}
+use Rattle.hs_base.specs.Leaving.{IsEmptyAt, LeavesAt, LeavesBehind}
 use Rattle.hs_base.specs.LiteralEnds.{EndsAt}
-use Rattle.hs_base.specs.LiteralRows.{IsEnteredBack, TellsEntries, shifted}
+use Rattle.hs_base.specs.LiteralRows.{TellsEntries, shifted}
 use Rattle.hs_base.specs.Literals.{LiteralByte}
 use Rattle.hs_base.specs.Lists.{Each}
 use Rattle.hs_base.specs.Spans.{Spans}
@@ -55,7 +55,7 @@ engine-passed m pieces rest piece part u bytes fit runs never rests small none h
     let enters = λ (i : ℕ). false in (
       passed-all m pieces rest piece part u bytes enters fit runs never (λ i low. no-truth (none.before i low)) (λ i low. rests.quiet.stays never (get_or bytes i 0) (byte-small bytes i small low)) rests.quiet.leaves_nothing held,
       passed-nowhere m pieces rest piece part u bytes enters fit runs never (λ i low. no-truth (none.before i low)) (λ i low. rests.quiet.stays never (get_or bytes i 0) (byte-small bytes i small low)) rests.quiet.leaves_nothing held
-        (λ i low leaves empty. none.before i low leaves) (λ i low leaves empty. none.behind i low leaves),
+          (λ i low leaves empty. none.before i low leaves) (λ i low leaves empty. none.behind i low leaves),
     )
 
 -- a first engine that no byte wakes
@@ -65,7 +65,7 @@ engine-asleep m rest piece part u bytes fit runs never rests null unwoken held =
     let enters = λ (i : ℕ). true in (
       passed-all m [] rest piece part u bytes enters fit runs never (λ i low. leaving-begins (u ++ take i bytes) (class_of (get_or bytes i 0))) (λ i low. (unwoken.asleep i low).stays true) rests.quiet.leaves_nothing held,
       passed-nowhere m [] rest piece part u bytes enters fit runs never (λ i low. leaving-begins (u ++ take i bytes) (class_of (get_or bytes i 0))) (λ i low. (unwoken.asleep i low).stays true) rests.quiet.leaves_nothing held
-        (λ i low leaves empty. null (u ++ take i bytes) (class_of (get_or bytes i 0)) empty) (λ i low leaves empty. null (u ++ take (i + 1) bytes) after.Unknown empty),
+          (λ i low leaves empty. null (u ++ take i bytes) (class_of (get_or bytes i 0)) empty) (λ i low leaves empty. null (u ++ take (i + 1) bytes) after.Unknown empty),
     )
 
 -- a literal without entries
@@ -75,15 +75,15 @@ module _ (pieces rest : List Piece) (literal : List LiteralByte) (m : ℕ) (part
   unset-on v entered b len tells k =
       let moved = literals-step (suc m) (has_bit part) v entered b false len tells k in
       (λ set. moved.0 (none-shifted k ∙ (let both : true ≡ false = sym set ∙ unset k in absurd (cc))), λ back. let set = moved.1 back in absurd (let both : true ≡ false = sym set ∙ none-shifted k in cc)) where
-    none-shifted : (k : ℕ) → shifted (suc m) false (has_bit part) k ≡ false
-    none-shifted zero = and-none (nat_lt 0 (suc m)) where
-      and-none : (a : Bool) → (a && false) ≡ false
-      and-none true = refl
-      and-none false = refl
-    none-shifted (suc k) = ap (λ b. nat_lt (suc k) (suc m) && b) (unset k) ∙ and-none (nat_lt (suc k) (suc m)) where
-      and-none : (a : Bool) → (a && false) ≡ false
-      and-none true = refl
-      and-none false = refl
+        none-shifted : (k : ℕ) → shifted (suc m) false (has_bit part) k ≡ false
+        none-shifted zero = and-none (nat_lt 0 (suc m)) where
+          and-none : (a : Bool) → (a && false) ≡ false
+          and-none true = refl
+          and-none false = refl
+        none-shifted (suc k) = ap (λ b. nat_lt (suc k) (suc m) && b) (unset k) ∙ and-none (nat_lt (suc k) (suc m)) where
+          and-none : (a : Bool) → (a && false) ≡ false
+          and-none true = refl
+          and-none false = refl
 
   kept-to : (i : ℕ) → i ≤ length bytes → IsHeldBy (KeepsEntries (suc m) part) pieces (lit literal) (u ++ take i bytes)
   kept-to zero within = subst (λ v. IsHeldBy (KeepsEntries (suc m) part) pieces (lit literal) v) (sym (append-nil u)) held
@@ -111,10 +111,13 @@ module _ (pieces rest : List Piece) (literal : List LiteralByte) (m : ℕ) (part
   refuted i within next (inr both) = never-empty literal (u ++ take i bytes) next (omega arith) both.1
 
   pub literal-passed : IsHeldBy (KeepsEntries (suc m) part) pieces (lit literal) (u ++ bytes) × AreLeftNowhere (pieces ++ lit literal ∷ []) u bytes
-  literal-passed = (kept-all, record {
-    before = λ i low leaves. refuted i (omega arith) (class_of (get_or bytes i 0)) (leaves-last pieces rest (lit literal) (u ++ take i bytes) (class_of (get_or bytes i 0)) fit leaves);
-    behind = λ i low leaves. refuted (i + 1) (omega arith) after.Unknown (leaves-last pieces rest (lit literal) (u ++ take (i + 1) bytes) after.Unknown fit leaves);
-  })
+  literal-passed = (
+    kept-all,
+    record {
+      before = λ i low leaves. refuted i (omega arith) (class_of (get_or bytes i 0)) (leaves-last pieces rest (lit literal) (u ++ take i bytes) (class_of (get_or bytes i 0)) fit leaves);
+      behind = λ i low leaves. refuted (i + 1) (omega arith) after.Unknown (leaves-last pieces rest (lit literal) (u ++ take (i + 1) bytes) after.Unknown fit leaves);
+    },
+  )
 
 -- a first literal that ends nowhere in the chunk
 module _ (rest : List Piece) (literal : List LiteralByte) (m : ℕ) (u bytes : List ℕ) (own : ChunkHits) (fit : IsFitChain (lit literal ∷ rest)) (count : length literal ≡ suc m) (short : suc m ≤ 32) (small : Each (λ b. b < 256) (u ++ bytes)) (are : AreChunkHits own literal u bytes)
@@ -166,7 +169,7 @@ module _ {E : Type 0} (meaning : E → Meaning) (engines : List E) where
       let own = may e there in
       let unwoken = own.1 no_parent in
       let done = engine-asleep (meaning e) rest piece part u bytes (subst (λ ps. IsFitChain (ps ++ piece ∷ rest)) no_pieces fit) runs never own.0 (subst (λ (n : Option Mask). IsNull n (piece_tree piece)) unwoken.never_empty null_is)
-        (record { never_empty = refl; asleep = unwoken.asleep }) (subst (λ ps. IsHeld (meaning e) ps piece part u) no_pieces held) in
+      (record { never_empty = refl; asleep = unwoken.asleep }) (subst (λ ps. IsHeld (meaning e) ps piece part u) no_pieces held) in
       (subst (λ ps. IsHeld (meaning e) ps piece part (u ++ bytes)) (sym no_pieces) done.0, subst (λ ps. AreLeftNowhere (ps ++ piece ∷ []) u bytes) (sym no_pieces) done.1)
   engine-rests number null parent hits pieces rest piece part u bytes e there runs null_is never fit small may (behind some none) held =
       engine-passed (meaning e) pieces rest piece part u bytes fit runs never (may e there).0 small none held
@@ -207,5 +210,5 @@ module _ {E : Type 0} (meaning : E → Meaning) (engines : List E) where
         held = tt;
         left = subst (λ ps. AreLeftNowhere (ps ++ piece ∷ []) u bytes) (sym of.0) (subst (λ p. AreLeftNowhere (p ∷ []) u bytes) (sym of.1.is) done);
       } where
-    no-hits : ChunkHits
-    no-hits = record { at_start = false; behind = [] }
+        no-hits : ChunkHits
+        no-hits = record { at_start = false; behind = [] }

@@ -1,13 +1,10 @@
 -- A walk over nodes, up to one of them.
-use Rattle.std.proofs.Common.{◌≡◌, ◌≢◌, ◌⊎◌, ◌↔◌, ℕ, zero, suc, ◌+◌, ◌-◌, ◌<◌, ◌≤◌, Bool, true, false, List, [], ◌∷◌, ◌++◌, length, get_or, slice_get, slice_index, Option, Some, None, refl, sym, ap, subst, ◌∙◌, inl, inr, arith}
-use Rattle.std.proofs.lemmas.Bool.{cases_eq, cases_lt}
+use Rattle.std.proofs.Common.{◌≡◌, ◌⊎◌, ℕ, zero, suc, ◌+◌, ◌-◌, ◌<◌, ◌≤◌, Bool, true, false, List, [], ◌∷◌, ◌++◌, length, get_or, slice_get, Option, Some, None, refl, sym, ap, subst, ◌∙◌, inl, inr, arith}
 use Rattle.std.proofs.lemmas.Option.{slice_get_within}
 use Rattle.hs_base.specs.declared.context.Prev.{Prev}
-use Rattle.hs_base.specs.Chains.{Piece, IsFitChain}
+use Rattle.hs_base.specs.Chains.{Piece}
 use Rattle.hs_base.specs.Lists.{Each}
 use Rattle.hs_base.specs.Literals.{LiteralByte}
-use Rattle.hs_base.specs.RepeatRows.{IsRingAt}
-use Rattle.hs_base.proofs.ListLemmas.{each-right}
 use Rattle.hs_engine.specs.Engines.{Meaning}
 use Rattle.hs_nodes.specs.declared.ends.ChunkEnds.{ChunkEnds}
 use Rattle.hs_nodes.specs.declared.hits.ChunkHits.{ChunkHits}
@@ -19,7 +16,7 @@ use Rattle.hs_nodes.specs.Blocks.{EndsBehind}
 use Rattle.hs_nodes.specs.Left.{AreLeftIn, nowhere}
 use Rattle.hs_nodes.specs.Marks.{is_marked}
 use Rattle.hs_nodes.specs.Nodes.{AreHitsOf, HoldsPiece, IsWellPart, MayRest}
-use Rattle.hs_nodes.specs.Walks.{AreMoreMarks, AreNodesHeld, AreNodesOf, AreNodesRun, AreNodesWell, ChangesMarked, IsAmongChildren, IsNodeHeld, IsNodeOf, IsNodeRun, IsOutside, IsTableSound, MayNodesRest, TakesNodes, ends_of, entering_ends, node_part, parent_pieces}
+use Rattle.hs_nodes.specs.Walks.{AreMoreMarks, AreNodesHeld, AreNodesOf, AreNodesWell, ChangesMarked, IsAmongChildren, IsNodeHeld, IsNodeRun, IsTableSound, MayNodesRest, TakesNodes, ends_of, entering_ends, node_part, parent_pieces}
 use Rattle.hs_nodes.proofs.FlatLemmas.{AreLeftNowhere, left-nowhere, nowhere-left}
 use Rattle.hs_nodes.proofs.KindLemmas.{one-value}
 use Rattle.hs_nodes.proofs.NodeLemmas.{marks-none}
@@ -158,12 +155,12 @@ module _ {E : Type 0} (meaning : E → Meaning) (table : NodeTable E) where
             let is = of n own.0 own.1 in
             let before = passed-before n own.0 pieces u own.1 none (λ p is_p. walk.parents n p own.0 (omega arith) own.1 none is_p (sound.earlier n p own.0 own.1 is_p)) done.left in
             let passed = node-rests meaning table.engines.items own.0.kind (length hits) (own.0.end - own.0.start) own.0.parent literals hits (parent_pieces pieces own.0.parent) is.rest is.piece (node_part first own.0) u bytes (sound.kinds n own.0 own.1) refl is.runs is.fit small hits_are may before
-              (held n own.0 own.1 is.piece is.own) in
+            (held n own.0 own.1 is.piece is.own) in
             let zero_left : AreLeftIn (pieces n) u bytes (ends_of ends n) = subst (λ (e : ChunkEnds). AreLeftIn (pieces n) u bytes e) (sym later_own.0) (subst (λ ps. AreLeftIn ps u bytes nowhere) (sym is.own) (nowhere-left (parent_pieces pieces own.0.parent ++ is.piece ∷ []) u bytes nowhere nowhere-none passed.left)) in
             let own_held : IsNodeHeld meaning table pieces region (u ++ bytes) n own.0 = λ piece ends_with.
-                let same : is.piece ≡ piece = snoc-last (parent_pieces pieces own.0.parent) (parent_pieces pieces own.0.parent) is.piece piece (sym is.own ∙ ends_with) in
-                subst (λ p. HoldsPiece meaning table.engines.items own.0.kind (parent_pieces pieces own.0.parent) p (node_part region own.0) (u ++ bytes)) same
-                (subst (λ ps. HoldsPiece meaning table.engines.items own.0.kind (parent_pieces pieces own.0.parent) is.piece ps (u ++ bytes)) (sym later_own.1) passed.held) in record {
+            let same : is.piece ≡ piece = snoc-last (parent_pieces pieces own.0.parent) (parent_pieces pieces own.0.parent) is.piece piece (sym is.own ∙ ends_with) in
+            subst (λ p. HoldsPiece meaning table.engines.items own.0.kind (parent_pieces pieces own.0.parent) p (node_part region own.0) (u ++ bytes)) same
+            (subst (λ ps. HoldsPiece meaning table.engines.items own.0.kind (parent_pieces pieces own.0.parent) is.piece ps (u ++ bytes)) (sym later_own.1) passed.held) in record {
               left = λ k low. elim (below-or n k low) [ inl under ↦ done.left k under | inr same ↦ subst (λ i. AreLeftIn (pieces i) u bytes (ends_of ends i)) (sym same) zero_left ];
               held = λ k other low at_k. elim (below-or n k low) [
                 | inl under ↦ done.held k other under at_k
@@ -220,7 +217,7 @@ module _ {E : Type 0} (meaning : E → Meaning) (table : NodeTable E) where
           let result = run.takes literals (parent_pieces pieces own.parent) is.rest is.piece u is.runs is.fit stands small hits_are (entering-left pieces u done.left own.parent refl) start in
           let own_left : AreLeftIn (pieces n) u bytes (ends_of ends' n) = subst (λ ps. AreLeftIn ps u bytes (ends_of ends' n)) (sym is.own) result.left in
           let own_held : IsNodeHeld meaning table pieces region' (u ++ bytes) n own = λ piece ends_with.
-              subst (λ p. HoldsPiece meaning table.engines.items own.kind (parent_pieces pieces own.parent) p (node_part region' own) (u ++ bytes)) (snoc-last (parent_pieces pieces own.parent) (parent_pieces pieces own.parent) is.piece piece (sym is.own ∙ ends_with)) result.held in record {
+          subst (λ p. HoldsPiece meaning table.engines.items own.kind (parent_pieces pieces own.parent) p (node_part region' own) (u ++ bytes)) (snoc-last (parent_pieces pieces own.parent) (parent_pieces pieces own.parent) is.piece piece (sym is.own ∙ ends_with)) result.held in record {
             left = λ k low. elim (below-next k low) [
               | inl under ↦ subst (λ (e : ChunkEnds). AreLeftIn (pieces k) u bytes e) (sym (run.ends_stay k (λ same. absurd (omega arith)))) (done.left k under)
               | inr same ↦ subst (λ i. AreLeftIn (pieces i) u bytes (ends_of ends' i)) (sym same) own_left

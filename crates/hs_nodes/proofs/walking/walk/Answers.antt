@@ -29,18 +29,18 @@ loop-k-preserved g c =
     let own = there table.nodes.items k below in
     let next : suc k ≡ k + 1 = omega arith in
     let here = walk-to m table c.args.region.now c.args.marks.now chunk.prev chunk.at chunk.bytes.now hits c.requires.sound chunk.few c.requires.rests c.loop-k.region c.loop-k.ends c.loop-k.marks c.loop-k.from (k - c.loop-k.from) k (omega (arith, c.in-Some.ensures.low)) (omega (arith, below))
-      c.in-Some.ensures.least inv.walk in record {
+    c.in-Some.ensures.least inv.walk in record {
       len = c.run_node.ensures.len ∙ inv.len;
       ends = c.run_node.ensures.ends ∙ inv.ends;
       walk = elim c.if-not-is_nowhere.branch [
         | then-not-is_nowhere w ↦
             subst (λ (ms : List ℕ). IsWalk m table c.args.region.now c.args.marks.now chunk.prev chunk.at chunk.bytes.now hits c.run_node.new.region c.run_node.new.ends ms (k + 1)) (sym w.marks-is)
             (walk-visit m table c.args.region.now c.args.marks.now chunk.prev chunk.at chunk.bytes.now hits c.requires.sound chunk.few c.everywhere-all.result c.everywhere-all.ensures c.loop-k.region c.run_node.new.region c.loop-k.ends c.run_node.new.ends c.loop-k.marks w.mark_children.new.marks
-              k (k + 1) refl own.0 own.1 c.in-Some.ensures.is (c.run_node.ensures.runs own.0 own.1) c.run_node.ensures.len w.mark_children.ensures.more (inr (λ j among. subst (λ n. is_marked w.mark_children.new.marks n ≡ true) among.is (w.mark_children.ensures.all among.place among.low (omega (arith, subst (λ n. among.place < slice_index table.child_starts.items n) next among.high))))) here)
+            k (k + 1) refl own.0 own.1 c.in-Some.ensures.is (c.run_node.ensures.runs own.0 own.1) c.run_node.ensures.len w.mark_children.ensures.more (inr (λ j among. subst (λ n. is_marked w.mark_children.new.marks n ≡ true) among.is (w.mark_children.ensures.all among.place among.low (omega (arith, subst (λ n. among.place < slice_index table.child_starts.items n) next among.high))))) here)
         | else-not-is_nowhere w ↦
             subst (λ (ms : List ℕ). IsWalk m table c.args.region.now c.args.marks.now chunk.prev chunk.at chunk.bytes.now hits c.run_node.new.region c.run_node.new.ends ms (k + 1)) (sym w.marks-is)
             (walk-visit m table c.args.region.now c.args.marks.now chunk.prev chunk.at chunk.bytes.now hits c.requires.sound chunk.few c.everywhere-all.result c.everywhere-all.ensures c.loop-k.region c.run_node.new.region c.loop-k.ends c.run_node.new.ends c.loop-k.marks c.loop-k.marks
-              k (k + 1) refl own.0 own.1 c.in-Some.ensures.is (c.run_node.ensures.runs own.0 own.1) c.run_node.ensures.len (marks-none (length table.nodes.items) c.loop-k.marks inv.walk.more.below) (inl (same-default c.run_node.new.ends k nowhere _ (omega (arith, below, c.run_node.ensures.ends, inv.ends)) ∙ c.is_nowhere.ensures.0 w.if-not-is_nowhere.false)) here)
+            k (k + 1) refl own.0 own.1 c.in-Some.ensures.is (c.run_node.ensures.runs own.0 own.1) c.run_node.ensures.len (marks-none (length table.nodes.items) c.loop-k.marks inv.walk.more.below) (inl (same-default c.run_node.new.ends k nowhere _ (omega (arith, below, c.run_node.ensures.ends, inv.ends)) ∙ c.is_nowhere.ensures.0 w.if-not-is_nowhere.false)) here)
       ];
     }
 
@@ -52,7 +52,7 @@ returns-clause-well g c =
     let room = inv.walk.more.room in
     walk-well g.E.Engine.meaning table c.args.region.now c.args.marks.now chunk.prev chunk.at chunk.bytes.now c.args.found.now.hits.now c.requires.sound chunk.few c.loop-k.region c.loop-k.ends c.loop-k.marks
     (walk-to g.E.Engine.meaning table c.args.region.now c.args.marks.now chunk.prev chunk.at chunk.bytes.now c.args.found.now.hits.now c.requires.sound chunk.few c.requires.rests c.loop-k.region c.loop-k.ends c.loop-k.marks c.loop-k.from (length table.nodes.items - c.loop-k.from) (length table.nodes.items)
-      (omega (arith, inv.walk.within)) (omega arith) (λ j low high. c.in_default.ensures j low (omega (arith, room, c.requires.room))) inv.walk)
+    (omega (arith, inv.walk.within)) (omega arith) (λ j low high. c.in_default.ensures j low (omega (arith, room, c.requires.room))) inv.walk)
 
 pub returns-clause-takes : goal.returns-clause-takes
 returns-clause-takes g c =
@@ -62,4 +62,4 @@ returns-clause-takes g c =
     let room = inv.walk.more.room in
     walk-takes g.E.Engine.meaning table c.args.region.now c.args.marks.now chunk.prev chunk.at chunk.bytes.now c.args.found.now.hits.now c.requires.sound chunk.few c.loop-k.region c.loop-k.ends c.loop-k.marks
     (walk-to g.E.Engine.meaning table c.args.region.now c.args.marks.now chunk.prev chunk.at chunk.bytes.now c.args.found.now.hits.now c.requires.sound chunk.few c.requires.rests c.loop-k.region c.loop-k.ends c.loop-k.marks c.loop-k.from (length table.nodes.items - c.loop-k.from) (length table.nodes.items)
-      (omega (arith, inv.walk.within)) (omega arith) (λ j low high. c.in_default.ensures j low (omega (arith, room, c.requires.room))) inv.walk)
+    (omega (arith, inv.walk.within)) (omega arith) (λ j low high. c.in_default.ensures j low (omega (arith, room, c.requires.room))) inv.walk)

@@ -1,4 +1,4 @@
-use Rattle.std.proofs.Common.{◌≡◌, ◌-◌, ℕ, List, length}
+use Rattle.std.proofs.Common.{◌≡◌, ◌-◌, length}
 use Rattle.hs_nodes.proofs.WalkLemmas.{IsWalk}
 use Rattle.hs_nodes.proofs.walking.walk.Given as goal
 
