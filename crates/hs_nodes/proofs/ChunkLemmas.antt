@@ -33,9 +33,9 @@ unfolding front block
 front-more u bytes j n next =
     let more : 64 * n ≡ 64 * j + 64 = omega arith in
     ap (λ k. u ++ take k bytes) more ∙ ap (λ v. u ++ v) (take-add (64 * j) 64 bytes) ∙ sym (append_back u (take (64 * j) bytes) (take 64 (drop (64 * j) bytes))) where
-  append_back : (xs ys zs : List ℕ) → (xs ++ ys) ++ zs ≡ xs ++ (ys ++ zs)
-  append_back [] ys zs = refl
-  append_back (x ∷ xs) ys zs = ap (λ v. x ∷ v) (append_back xs ys zs)
+      append_back : (xs ys zs : List ℕ) → (xs ++ ys) ++ zs ≡ xs ++ (ys ++ zs)
+      append_back [] ys zs = refl
+      append_back (x ∷ xs) ys zs = ap (λ v. x ∷ v) (append_back xs ys zs)
 
 pub front-all : (u bytes : List ℕ) (n : ℕ) → length bytes ≤ 64 * n → front u bytes n ≡ u ++ bytes
 unfolding front

@@ -1,5 +1,5 @@
 -- An engine over a chunk, for any piece that it runs.
-use Rattle.std.proofs.Common.{◌≡◌, ℕ, ◌+◌, ◌*◌, ◌<◌, ◌≤◌, Bool, List, [], ◌∷◌, ◌++◌, length, slice_index, sym, ap, subst, ◌∙◌, arith}
+use Rattle.std.proofs.Common.{◌≡◌, ℕ, ◌+◌, ◌*◌, ◌<◌, ◌≤◌, List, ◌∷◌, ◌++◌, length, slice_index, subst, arith}
 use Rattle.hs_base.specs.declared.context.Prev.{Prev}
 use Rattle.hs_base.specs.Chains.{Piece, piece_tree, IsFitChain}
 use Rattle.hs_base.specs.Contexts.{prev_at}

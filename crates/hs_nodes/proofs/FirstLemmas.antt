@@ -1,25 +1,22 @@
 -- Where pieces are entered everywhere, and where an expression has the empty span.
-use Rattle.std.proofs.Common.{◌≡◌, ◌⊎◌, ◌↔◌, ℕ, zero, suc, ◌+◌, ◌*◌, ◌-◌, ◌%◌, ◌^◌, ◌<◌, ◌≤◌, Bool, true, false, ◌&&◌, List, [], ◌∷◌, ◌++◌, length, get_or, take, map, slice_get, slice_index, min, eqb, Some, refl, sym, ap, subst, ◌∙◌, inl, inr, arith}
+use Rattle.std.proofs.Common.{◌≡◌, ◌⊎◌, ◌↔◌, ℕ, zero, suc, ◌+◌, ◌*◌, ◌-◌, ◌%◌, ◌^◌, ◌<◌, ◌≤◌, Bool, true, false, ◌&&◌, List, [], ◌∷◌, ◌++◌, length, take, slice_get, slice_index, min, eqb, Some, refl, sym, ap, subst, ◌∙◌, inl, inr, arith}
 use Rattle.std.specs.Prelude.{nat_lt, nat_le}
-use Rattle.std.specs.Int.{bit_at}
-use Rattle.std.proofs.lemmas.Bool.{cases_lt, lt-ltb, le-ltb}
+use Rattle.std.proofs.lemmas.Bool.{cases_lt, le-ltb}
 use Rattle.std.proofs.lemmas.Bool.Decides.{nat_tests}
 use Rattle.std.proofs.lemmas.Nat.Bits.{bit_at_ones}
 use Rattle.hs_base.specs.declared.context.Mask.{Mask}
 use Rattle.hs_base.specs.declared.context.Next.{Next}
 use Rattle.hs_base.specs.declared.context.Next.TheVariants as after
 use Rattle.hs_base.specs.declared.context.Prev.{Prev}
-use Rattle.hs_base.specs.Contexts.{class_of, context_of, prev_at}
-use Rattle.hs_base.specs.ContextSets.{has_context}
+use Rattle.hs_base.specs.Contexts.{class_of, prev_at}
 use Rattle.hs_base.specs.Fields.{entered_always}
-use Rattle.hs_base.specs.Leaving.{IsEmptyAt, LeavesAt}
-use Rattle.hs_base.specs.LiteralRows.{IsEnteredBack, TellsEntries}
+use Rattle.hs_base.specs.Leaving.{IsEmptyAt}
 use Rattle.hs_base.specs.Trees.{Tree}
 use Rattle.hs_base.proofs.ChainStreamLemmas.{leaving-begins}
 use Rattle.hs_base.proofs.ContextLemmas.{first_of_both, second_of_both, of_both}
 use Rattle.hs_block.specs.BlockContexts as of_block
 use Rattle.hs_block.specs.declared.contexts.Contexts.{Contexts}
-use Rattle.hs_block.specs.LiteralBlocks.{TellsCarried, turned}
+use Rattle.hs_block.specs.LiteralBlocks.{turned}
 use Rattle.hs_block.specs.WordBits.{word_bit, Marks}
 use Rattle.hs_block.proofs.PlaceLemmas.{bit-none, bit-up, less, less-is, not-less}
 use Rattle.hs_nodes.specs.declared.ends.ChunkEnds.{ChunkEnds}
@@ -27,8 +24,8 @@ use Rattle.hs_nodes.specs.Blocks.{EndsBehind, block, front}
 use Rattle.hs_nodes.specs.Contexts.{AreChunkContexts, IsNull}
 use Rattle.hs_nodes.specs.FirstLiterals.{TellsEveryEntry}
 use Rattle.hs_nodes.specs.Hits.{IsCarryAt}
-use Rattle.hs_nodes.specs.Left.{AreLeft, AreLeftIn}
-use Rattle.hs_nodes.specs.Pieces.{AreEmpty, AreEmptyIn}
+use Rattle.hs_nodes.specs.Left.{AreLeft}
+use Rattle.hs_nodes.specs.Pieces.{AreEmpty}
 use Rattle.hs_nodes.proofs.ChunkLemmas.{block-past}
 use Rattle.hs_nodes.proofs.RunLemmas.{AreMoreEnds, AreNowhereFrom}
 
@@ -124,18 +121,20 @@ contexts-more contexts now c prev at bytes j is count so_far here i low = by_spl
   by_split (inl below) = let own = so_far i below in (own.0, subst (λ zs. slice_get zs i ≡ Some own.0) (sym is) (get-left contexts (c ∷ []) i own.0 own.1), own.2)
   by_split (inr high) =
       let same : i ≡ j = omega arith in
-      let last : length contexts ≡ i = omega arith in
-      (c, subst (λ zs. slice_get zs i ≡ Some c) (sym is) (subst (λ k. slice_get (contexts ++ c ∷ []) k ≡ Some c) last (get-behind contexts c)),
-       λ u stands. subst (λ k. of_block.AreContexts c (prev_at (front u bytes k) (length (front u bytes k))) (block bytes k)) (sym same) (here u stands))
+      let last : length contexts ≡ i = omega arith in (
+        c,
+        subst (λ zs. slice_get zs i ≡ Some c) (sym is) (subst (λ k. slice_get (contexts ++ c ∷ []) k ≡ Some c) last (get-behind contexts c)),
+        λ u stands. subst (λ k. of_block.AreContexts c (prev_at (front u bytes k) (length (front u bytes k))) (block bytes k)) (sym same) (here u stands),
+      )
 
 -- all ones, some places on
 ones-from : (d i : ℕ) → i < 64 → word_bit (18446744073709551615 * 2 ^ d % 18446744073709551616) i ≡ nat_le d i
 unfolding word_bit
 ones-from d i low =
     bit-up 18446744073709551615 d i low ∙ one (nat_le d i) (ap (λ n. eqb n 1) (bit_at_ones 64 (i - d) (omega arith))) where
-  one : (a : Bool) {b : Bool} → b ≡ true → (a && b) ≡ a
-  one true e = e
-  one false e = refl
+      one : (a : Bool) {b : Bool} → b ≡ true → (a && b) ≡ a
+      one true e = e
+      one false e = refl
 
 least-test : (len at back k : ℕ) → back ≡ min len at → k < len → nat_le (len - back) (len - suc k) ≡ nat_lt k at
 least-test len at back k is low = grind (arith, nat_tests)
@@ -157,10 +156,10 @@ always-get (b ∷ u) (suc i) low = always-get u i (omega arith)
 pub every-tells : (len at back : ℕ) → back ≡ min len at → len ≤ 32 → TellsEveryEntry len (18446744073709551615 * 2 ^ (len - back) % 18446744073709551616) at
 every-tells len at back is short u count k = (
   (λ set.
-    let both : (nat_lt k len && nat_lt k at) ≡ true = sym (every-turned len at back k is short) ∙ set in
-    let low : k < len = less k len (first_of_both (nat_lt k len) (nat_lt k at) both) in
-    let early : k < at = less k at (second_of_both (nat_lt k len) (nat_lt k at) both) in
-    record { below = low; from = length u - suc k; ends = omega arith; is_entered = always-get u (length u - suc k) (omega arith) }),
+      let both : (nat_lt k len && nat_lt k at) ≡ true = sym (every-turned len at back k is short) ∙ set in
+      let low : k < len = less k len (first_of_both (nat_lt k len) (nat_lt k at) both) in
+      let early : k < at = less k at (second_of_both (nat_lt k len) (nat_lt k at) both) in
+      record { below = low; from = length u - suc k; ends = omega arith; is_entered = always-get u (length u - suc k) (omega arith) }),
   (λ entry. every-turned len at back k is short ∙ of_both (nat_lt k len) (nat_lt k at) (less-is k len entry.below) (less-is k at (omega (arith, entry.ends)))),
 )
 

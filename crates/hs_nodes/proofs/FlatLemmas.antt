@@ -1,5 +1,5 @@
 -- The places of a chunk, through its blocks.
-use Rattle.std.proofs.Common.{◌≡◌, ◌⊎◌, ◌↔◌, ℕ, zero, suc, ◌+◌, ◌*◌, ◌/◌, ◌%◌, ◌-◌, ◌<◌, ◌≤◌, Bool, true, false, List, [], ◌∷◌, ◌++◌, length, get_or, take, drop, slice_index, refl, sym, ap, subst, ◌∙◌, inl, inr, arith, append_assoc, length-drop}
+use Rattle.std.proofs.Common.{◌≡◌, ◌↔◌, ℕ, zero, suc, ◌+◌, ◌*◌, ◌/◌, ◌%◌, ◌<◌, ◌≤◌, Bool, true, false, List, [], ◌∷◌, ◌++◌, length, get_or, take, drop, slice_index, refl, sym, ap, subst, ◌∙◌, inl, inr, arith, append_assoc, length-drop}
 use Rattle.std.proofs.Math.Seq.{take-add}
 use Rattle.std.proofs.lemmas.List.{get_or-take, get_or-drop, length-take-le, take_all}
 use Rattle.std.proofs.lemmas.Bool.{cases_lt}
@@ -11,9 +11,8 @@ use Rattle.hs_block.specs.WordBits.{word_bit, Marks}
 use Rattle.hs_block.proofs.PlaceLemmas.{bit-none}
 use Rattle.hs_nodes.specs.declared.ends.ChunkEnds.{ChunkEnds}
 use Rattle.hs_nodes.specs.Blocks.{block, front}
-use Rattle.hs_nodes.specs.Left.{AreLeft, AreLeftIn}
-use Rattle.hs_nodes.proofs.ChunkLemmas.{block-past}
-use Rattle.hs_nodes.proofs.RunLemmas.{AreNowhereFrom, left-past}
+use Rattle.hs_nodes.specs.Left.{AreLeftIn}
+use Rattle.hs_nodes.proofs.RunLemmas.{AreNowhereFrom}
 
 take-less : {A : Type 0} (r n : ℕ) (xs : List A) → r ≤ n → take r (take n xs) ≡ take r xs
 take-less zero n xs low = refl

@@ -1,26 +1,24 @@
 -- A node over a chunk, by its kind.
-use Rattle.std.proofs.Common.{◌≡◌, ◌↔◌, ℕ, ◌<◌, ◌≤◌, Bool, true, false, List, [], ◌∷◌, ◌++◌, length, slice_get, Option, Some, None, refl, sym, ap, subst, ◌∙◌, arith}
+use Rattle.std.proofs.Common.{◌≡◌, ℕ, List, [], ◌∷◌, ◌++◌, slice_get, Option, Some, None, sym, subst, ◌∙◌}
 use Rattle.std.specs.Option.{ForSome}
 use Rattle.hs_base.specs.declared.context.Mask.{Mask}
 use Rattle.hs_base.specs.declared.context.Prev.{Prev}
-use Rattle.hs_base.specs.Chains.{Piece, lit, piece_tree, IsFitChain}
+use Rattle.hs_base.specs.Chains.{lit, piece_tree, IsFitChain}
 use Rattle.hs_base.specs.Fields.{entered_always}
-use Rattle.hs_base.specs.Literals.{LiteralByte}
 use Rattle.hs_base.specs.Trees.{Tree}
 use Rattle.hs_base.proofs.EntryLemmas.{first-entered}
 use Rattle.hs_engine.specs.Engines.{Meaning}
 use Rattle.hs_nodes.specs.declared.ends.ChunkEnds.{ChunkEnds}
 use Rattle.hs_nodes.specs.declared.hits.ChunkHits.{ChunkHits}
-use Rattle.hs_nodes.specs.declared.table.NodeKind.{NodeKind}
 use Rattle.hs_nodes.specs.declared.table.NodeKind.TheVariants.{Engine, Literal, FirstLiteral}
 use Rattle.hs_nodes.specs.Blocks.{EndsBehind}
-use Rattle.hs_nodes.specs.Contexts.{AreChunkContexts, IsNull, NeedsContexts}
+use Rattle.hs_nodes.specs.Contexts.{IsNull, NeedsContexts}
 use Rattle.hs_nodes.specs.FirstLiterals.{TellsEveryEntry}
 use Rattle.hs_nodes.specs.Hits.{CarriesEntries, KeepsEntries, TakesLiteral, TakesLiteralPart}
-use Rattle.hs_nodes.specs.Nodes.{IsPieceRun, TakesPiece}
-use Rattle.hs_nodes.specs.Pieces.{AreEmptyIn, IsHeld, IsHeldBy, IsRunOver, TakesChunk}
+use Rattle.hs_nodes.specs.Nodes.{IsPieceRun, IsWellPart, TakesPiece}
+use Rattle.hs_nodes.specs.Pieces.{AreEmptyIn, IsHeld, IsHeldBy, TakesChunk}
 
-one-value : {A : Type 0} (x y : A) (o : Option A) → o ≡ Some x → o ≡ Some y → x ≡ y
+pub one-value : {A : Type 0} (x y : A) (o : Option A) → o ≡ Some x → o ≡ Some y → x ≡ y
 one-value x y o at at' = let both : Some x ≡ Some y = sym at ∙ at' in cc
 
 -- the contexts that a mask needs
@@ -38,6 +36,10 @@ module _ {E : Type 0} (meaning : E → Meaning) (engines : List E) where
         held = λ other there'. subst (λ v. IsHeld (meaning v) pieces piece new (u ++ bytes)) (one-value e other (slice_get engines number) there there') run.held;
         left = run.left;
       }
+
+  -- what the one engine keeps may stand there
+  pub engine-well : (number : ℕ) (null : Option Mask) (part : List ℕ) (at : ℕ) (e : E) → slice_get engines number ≡ Some e → (meaning e).well part at → IsWellPart meaning engines (Engine number null) part at
+  engine-well number null part at e there well other there' = subst (λ v. (meaning v).well part at) (one-value e other (slice_get engines number) there there') well
 
   pub literal-takes : (number len : ℕ) (old new : List ℕ) (prev : Prev) (at : ℕ) (bytes : List ℕ) (hits : List ChunkHits) (enters ends : ChunkEnds) (own : ChunkHits) → slice_get hits number ≡ Some own → TakesLiteralPart len old new bytes own enters ends →
       TakesPiece meaning engines (Literal number len) old new prev at bytes hits enters ends

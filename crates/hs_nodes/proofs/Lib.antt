@@ -8,3 +8,7 @@ pub mod PassLemmas
 pub mod LiteralLemmas
 pub mod FirstLemmas
 pub mod KindLemmas
+pub mod RangeLemmas
+pub mod NodeLemmas
+pub mod RestLemmas
+pub mod WalkLemmas

@@ -1,5 +1,5 @@
 -- A literal over a chunk.
-use Rattle.std.proofs.Common.{◌≡◌, ◌⊎◌, ◌↔◌, ℕ, zero, suc, ◌+◌, ◌*◌, ◌/◌, ◌%◌, ◌-◌, ◌<◌, ◌≤◌, Bool, true, false, ◌&&◌, ◌||◌, List, [], ◌∷◌, ◌++◌, length, get_or, take, drop, slice_index, refl, sym, ap, subst, ◌∙◌, inl, inr, arith, append_assoc, length-append}
+use Rattle.std.proofs.Common.{◌≡◌, ◌↔◌, ℕ, zero, suc, ◌+◌, ◌*◌, ◌/◌, ◌%◌, ◌-◌, ◌<◌, ◌≤◌, Bool, true, false, ◌&&◌, ◌||◌, List, ◌∷◌, ◌++◌, length, take, drop, slice_index, refl, sym, ap, subst, ◌∙◌, inl, inr, arith, append_assoc, length-append}
 use Rattle.std.specs.Prelude.{nat_lt, if◌then◌else◌}
 use Rattle.std.proofs.lemmas.Bool.{cases_lt, lt-ltb, le-ltb}
 use Rattle.std.proofs.lemmas.List.{take-append-drop}
@@ -14,7 +14,7 @@ use Rattle.hs_base.specs.Literals.{LiteralByte}
 use Rattle.hs_base.proofs.ListLemmas.{each-left}
 use Rattle.hs_block.specs.declared.literal.Hits.{Hits}
 use Rattle.hs_block.specs.declared.literal.LiteralRun.{LiteralRun}
-use Rattle.hs_block.specs.LiteralBlocks.{AreHits, RunsLiteral, TellsCarried, is_hit, turned, was_entered}
+use Rattle.hs_block.specs.LiteralBlocks.{AreHits, RunsLiteral, TellsCarried, is_hit, was_entered}
 use Rattle.hs_block.specs.WordBits.{word_bit}
 use Rattle.hs_block.proofs.LiteralBlockLemmas.{ends-stay, never-empty}
 use Rattle.hs_block.proofs.PlaceLemmas.{bit-none}
@@ -25,7 +25,6 @@ use Rattle.hs_nodes.specs.Hits.{AreChunkHits, CarriesEntries, IsCarryAt, TakesLi
 use Rattle.hs_nodes.specs.Left.{AreLeftIn, nowhere}
 use Rattle.hs_nodes.specs.Pieces.{AreEmptyIn, IsHeldBy}
 use Rattle.hs_nodes.proofs.ChunkLemmas.{front-more, length-front}
-use Rattle.hs_nodes.proofs.FlatLemmas.{block-within}
 use Rattle.hs_nodes.proofs.PieceLemmas.{IsThrough}
 use Rattle.hs_nodes.proofs.RunLemmas.{AreMoreEnds, AreNowhereFrom, IsRunTo, nowhere-none, run-all, run-more, run-none}
 
@@ -98,8 +97,8 @@ module _ (len old carry : ℕ) (bytes own : List ℕ) (hits : ChunkHits) (own_hi
       run-more (CarriesEntries len carry) (CarriesEntries len run.carry) pieces rest (lit literal) u bytes enters nowhere ends ends' j n run.ends.before run.ends.behind run.ends.before run.ends.behind fit left
       (literal-empty literal u bytes (omega (arith, count)) nowhere nowhere-none)
       (λ entered len_entered field.
-        runs literal (front u bytes j) (block bytes j) entered count sized len_entered (each-left (λ b. b < 256) (front u bytes j ++ block bytes j) (drop (64 * suc j) bytes) (subst (λ v. Each (λ b. b < 256) v) upto bytes_are)) field
-        (block-hits hits own_hits literal u bytes j hits_are below (omega (arith, sized)) (omega (arith, sized)) are))
+      runs literal (front u bytes j) (block bytes j) entered count sized len_entered (each-left (λ b. b < 256) (front u bytes j ++ block bytes j) (drop (64 * suc j) bytes) (subst (λ v. Each (λ b. b < 256) v) upto bytes_are)) field
+      (block-hits hits own_hits literal u bytes j hits_are below (omega (arith, sized)) (omega (arith, sized)) are))
       (through-alone run.ends.before (slice_index enters.before j) (slice_index nowhere.before j) (nowhere-none.before j (omega arith))) (through-alone run.ends.behind (slice_index enters.behind j) (slice_index nowhere.behind j) (nowhere-none.behind j (omega arith))) more next small so_far
 
 -- all blocks
@@ -120,12 +119,12 @@ turned-out k len a low none = sym (ap (λ b. b && a) (lt-ltb k len low)) ∙ non
 pub carry-on : (len carry new enters at count end : ℕ) → IsCarryAt len carry at → end ≡ at + count → ((i : ℕ) → i < len → word_bit new i ≡ was_entered len enters carry (count + i)) → IsCarryAt len new end
 carry-on len carry new enters at count end well end_is bits k high =
     turn-cases k len (word_bit new (len - suc k)) (λ low.
-      let i = len - suc k in
-      let early : count + i < len = omega arith in
-      let back = k - count in
-      let there : len - suc back ≡ count + i = omega arith in
-      let old : word_bit carry (count + i) ≡ false = ap (λ n. word_bit carry n) (sym there) ∙ turned-out back len (word_bit carry (len - suc back)) (omega arith) (well back (omega arith)) in
-      bits i (omega arith) ∙ ap (λ (b : Bool). if b then word_bit carry (count + i) else word_bit enters (count + i - len)) (lt-ltb (count + i) len early) ∙ old)
+    let i = len - suc k in
+    let early : count + i < len = omega arith in
+    let back = k - count in
+    let there : len - suc back ≡ count + i = omega arith in
+    let old : word_bit carry (count + i) ≡ false = ap (λ n. word_bit carry n) (sym there) ∙ turned-out back len (word_bit carry (len - suc back)) (omega arith) (well back (omega arith)) in
+    bits i (omega arith) ∙ ap (λ (b : Bool). if b then word_bit carry (count + i) else word_bit enters (count + i - len)) (lt-ltb (count + i) len early) ∙ old)
 
 -- the hits of a block by those of the chunk
 pub hit-later : (hits : ChunkHits) (n i : ℕ) → i < 64 → word_bit (slice_index hits.behind n) i ≡ is_hit_at hits (64 * n + suc i)

@@ -1,6 +1,6 @@
 -- Marks by words and their summary.
-use Rattle.std.proofs.Common.{◌≡◌, ◌⊎◌, ℕ, zero, suc, ◌+◌, ◌*◌, ◌/◌, ◌%◌, ◌^◌, ◌<◌, ◌≤◌, Bool, true, false, not, ◌||◌, List, [], ◌++◌, length, take, drop, get_or, replicate, slice_set, eqb, bit_or, Option, Some, None, refl, sym, ap, subst, ◌∙◌, inl, inr, arith, length-set}
-use Rattle.std.specs.Prelude.{nat_lt, if◌then◌else◌}
+use Rattle.std.proofs.Common.{◌≡◌, ◌⊎◌, ℕ, zero, suc, ◌+◌, ◌*◌, ◌/◌, ◌%◌, ◌^◌, ◌<◌, ◌≤◌, Bool, true, false, not, ◌||◌, List, ◌++◌, length, take, drop, get_or, replicate, slice_set, eqb, bit_or, Some, None, refl, sym, ap, subst, ◌∙◌, inl, inr, arith, length-set}
+use Rattle.std.specs.Prelude.{if◌then◌else◌}
 use Rattle.std.specs.Int.{bit_at}
 use Rattle.std.specs.Int.Bits.{or_self}
 use Rattle.std.specs.Slice.Scan.{HoldsNowhere}
@@ -13,7 +13,7 @@ use Rattle.std.proofs.Math.Nat.{div-div-eq-div-mul}
 use Rattle.hs_base.specs.Bits.{has_word_bit}
 use Rattle.hs_bits.specs.LowestBits.{IsLowestBit}
 use Rattle.hs_bits.specs.NextBits.{IsNextBit, IsNextBitIn, is_in_either}
-use Rattle.hs_bits.proofs.NextLemmas.{next-in_word, next-same, none-left, nowhere-join, word-bit}
+use Rattle.hs_bits.proofs.NextLemmas.{next-in_word, next-same, none-left, nowhere-join}
 use Rattle.hs_bits.proofs.WordLemmas.{words-past, words-zero}
 use Rattle.hs_nodes.specs.Marks.{IsSummed}
 
@@ -125,9 +125,9 @@ summed-write words summary now w word summed there len put others =
       small_summary = omega (arith, summed.small_summary, len);
       is = λ v low. by_case v (omega (arith, count)) (cases_eq v w);
     } where
-  by_case : (v : ℕ) → v < length words → (v ≡ w) ⊎ (v ≡ w → ⊥) → has_word_bit now v ≡ not (eqb (get_or (slice_set words w word) v 0) 0)
-  by_case v low (inl same) = ap (λ n. has_word_bit now n) same ∙ put ∙ ap (λ n. not (eqb n 0)) (sym (get_or-set_same words w word 0 there)) ∙ ap (λ n. not (eqb (get_or (slice_set words w word) n 0) 0)) (sym same)
-  by_case v low (inr apart) = others v apart ∙ summed.is v low ∙ ap (λ n. not (eqb n 0)) (sym (get_or-set_other words w v word 0 apart))
+      by_case : (v : ℕ) → v < length words → (v ≡ w) ⊎ (v ≡ w → ⊥) → has_word_bit now v ≡ not (eqb (get_or (slice_set words w word) v 0) 0)
+      by_case v low (inl same) = ap (λ n. has_word_bit now n) same ∙ put ∙ ap (λ n. not (eqb n 0)) (sym (get_or-set_same words w word 0 there)) ∙ ap (λ n. not (eqb (get_or (slice_set words w word) n 0) 0)) (sym same)
+      by_case v low (inr apart) = others v apart ∙ summed.is v low ∙ ap (λ n. not (eqb n 0)) (sym (get_or-set_other words w v word 0 apart))
 
 pub summed-written : (words summary new now : List ℕ) (w : ℕ) (some : Bool) → IsSummed words summary → w < length words → new ≡ slice_set words w (get_or new w 0) → some ≡ not (eqb (get_or new w 0) 0) → length now ≡ length summary → has_word_bit now w ≡ some →
     ((k : ℕ) → (k ≡ w → ⊥) → has_word_bit now k ≡ has_word_bit summary k) → IsSummed new now

@@ -1,11 +1,11 @@
 -- An engine that is passed over: nothing is live, and nothing enters it or no byte wakes it.
-use Rattle.std.proofs.Common.{◌≡◌, ◌⊎◌, ◌↔◌, ℕ, zero, suc, ◌+◌, ◌<◌, ◌≤◌, Bool, true, false, ◌||◌, List, [], ◌∷◌, ◌++◌, length, get_or, take, refl, sym, ap, subst, ◌∙◌, inl, inr, arith}
+use Rattle.std.proofs.Common.{◌≡◌, ◌⊎◌, ◌↔◌, ℕ, zero, suc, ◌+◌, ◌<◌, ◌≤◌, Bool, true, false, ◌||◌, List, [], ◌∷◌, ◌++◌, length, get_or, take, sym, ap, subst, inl, inr, arith}
 use Rattle.std.proofs.lemmas.List.{append-nil, take_all}
 use Rattle.hs_base.specs.declared.context.Next.{Next}
 use Rattle.hs_base.specs.declared.context.Next.TheVariants as after
 use Rattle.hs_base.specs.Chains.{Piece, piece_tree, IsFitChain}
 use Rattle.hs_base.specs.Contexts.{class_of}
-use Rattle.hs_base.specs.Leaving.{AreEntered, IsEmptyAt, LeavesAt, LeavesBehind}
+use Rattle.hs_base.specs.Leaving.{IsEmptyAt, LeavesAt, LeavesBehind}
 use Rattle.hs_base.proofs.ChainStreamLemmas.{leaves-last}
 use Rattle.hs_base.proofs.EntryLemmas.{entries-grow, leaves-listed}
 use Rattle.hs_block.proofs.BlockLemmas.{block-more}

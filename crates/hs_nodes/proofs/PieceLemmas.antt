@@ -1,5 +1,5 @@
 -- A piece behind others over a block: from where those are left to where the piece is.
-use Rattle.std.proofs.Common.{◌≡◌, ◌↔◌, ◌⊎◌, ℕ, zero, suc, ◌+◌, ◌<◌, ◌≤◌, Bool, true, false, ◌&&◌, ◌||◌, List, [], ◌∷◌, ◌++◌, length, get_or, take, refl, sym, ap, subst, ◌∙◌, inl, inr, arith, append_assoc}
+use Rattle.std.proofs.Common.{◌≡◌, ◌↔◌, ◌⊎◌, ℕ, zero, suc, ◌+◌, ◌≤◌, Bool, true, false, ◌&&◌, ◌||◌, List, [], ◌∷◌, ◌++◌, length, get_or, take, refl, sym, subst, ◌∙◌, inl, inr, arith}
 use Rattle.std.proofs.lemmas.List.{append-nil, take_all}
 use Rattle.hs_base.specs.declared.context.Next.{Next}
 use Rattle.hs_base.specs.declared.context.Next.TheVariants as after
@@ -7,10 +7,9 @@ use Rattle.hs_base.specs.Chains.{Piece, piece_tree, IsFitChain}
 use Rattle.hs_base.specs.Contexts.{class_of}
 use Rattle.hs_base.specs.Leaving.{AreEntered, IsEmptyAt, LeavesAt, LeavesBehind}
 use Rattle.hs_base.specs.Fields.{Leaves}
-use Rattle.hs_base.specs.Trees.{Tree}
 use Rattle.hs_base.proofs.ChainStreamLemmas.{leaves-last, last-leaves}
 use Rattle.hs_base.proofs.EntryLemmas.{entries-grow, leaves-listed}
-use Rattle.hs_block.specs.WordBits.{word_bit, bits_of, Marks}
+use Rattle.hs_block.specs.WordBits.{word_bit, bits_of}
 use Rattle.hs_block.specs.Scans.{Scans}
 use Rattle.hs_block.proofs.BlockLemmas.{block-more, entered-more}
 use Rattle.hs_nodes.specs.Left.{AreLeft}
@@ -25,7 +24,7 @@ entries-on pieces u bytes entered enters enters' are left (suc i) within =
     let next : i + 1 ≡ suc i = omega arith in
     let own = entries-on pieces u bytes entered enters enters' are left i (omega arith) in
     let more : AreEntered pieces ((u ++ take i bytes) ++ get_or bytes i 0 ∷ []) ((entered ++ bits_of enters i) ++ word_bit enters i ∷ []) =
-      entries-grow pieces (u ++ take i bytes) (entered ++ bits_of enters i) (get_or bytes i 0) (word_bit enters i) own (left.before_is.below i (omega arith)) in
+    entries-grow pieces (u ++ take i bytes) (entered ++ bits_of enters i) (get_or bytes i 0) (word_bit enters i) own (left.before_is.below i (omega arith)) in
     subst (λ n. AreEntered pieces (u ++ take n bytes) (entered ++ bits_of enters n)) next
     (subst (λ v. AreEntered pieces v (entered ++ bits_of enters (i + 1))) (block-more u bytes i (omega arith)) (subst (λ es. AreEntered pieces ((u ++ take i bytes) ++ get_or bytes i 0 ∷ []) es) (entered-more entered enters i) more))
 

@@ -1,5 +1,5 @@
 -- An engine over a chunk, block by block.
-use Rattle.std.proofs.Common.{◌≡◌, ◌⊎◌, ℕ, zero, suc, ◌+◌, ◌*◌, ◌<◌, ◌≤◌, ◌&&◌, ◌||◌, Bool, List, [], ◌∷◌, ◌++◌, length, get_or, take, drop, slice_set, slice_index, bit_and, bit_or, eqb, refl, sym, ap, subst, ◌∙◌, inl, inr, arith, length-append}
+use Rattle.std.proofs.Common.{◌≡◌, ◌⊎◌, ℕ, zero, suc, ◌+◌, ◌*◌, ◌<◌, ◌≤◌, ◌||◌, Bool, List, [], ◌∷◌, ◌++◌, length, take, drop, slice_set, slice_index, bit_and, bit_or, eqb, refl, sym, ap, subst, ◌∙◌, inl, inr, arith, length-append}
 use Rattle.std.proofs.Math.Seq.{take-add}
 use Rattle.std.proofs.lemmas.List.{get_or-set_same, get_or-set_other, length-take-le, take_all}
 use Rattle.std.specs.Int.{bit_at}
@@ -15,7 +15,7 @@ use Rattle.hs_nodes.specs.declared.ends.ChunkEnds.{ChunkEnds}
 use Rattle.hs_nodes.specs.Blocks.{block, front}
 use Rattle.hs_nodes.specs.Left.{AreLeft, AreLeftIn, nowhere}
 use Rattle.hs_nodes.specs.Pieces.{AreEmptyIn, IsHeldBy, IsRunOver}
-use Rattle.hs_nodes.proofs.ChunkLemmas.{block-past, front-all, front-more, front-none, length-front}
+use Rattle.hs_nodes.proofs.ChunkLemmas.{block-past, front-all, front-more, front-none}
 use Rattle.hs_nodes.proofs.PieceLemmas.{IsThrough, piece-entered, piece-left}
 
 -- what one more word of the code says
@@ -112,9 +112,9 @@ split n i = grind arith
 -- all blocks
 pub run-all : (Field : Tree → List ℕ → List Bool → Type 0) (pieces : List Piece) (piece : Piece) (u bytes : List ℕ) (ends : ChunkEnds) (n : ℕ) → length bytes ≤ 64 * n → AreNowhereFrom n ends → IsRunTo Field pieces piece u bytes ends n → IsRunOver Field pieces piece u bytes ends
 run-all Field pieces piece u bytes ends n all none run = record {
-    held = subst (λ v. IsHeldBy Field pieces piece v) (front-all u bytes n all) run.held;
-    left = record { each = λ j small. by_split j (split n j) };
-  } where
+  held = subst (λ v. IsHeldBy Field pieces piece v) (front-all u bytes n all) run.held;
+  left = record { each = λ j small. by_split j (split n j) };
+} where
   by_split : (j : ℕ) → (j < n) ⊎ (n ≤ j) → AreLeft (pieces ++ piece ∷ []) (front u bytes j) (block bytes j) (slice_index ends.before j) (slice_index ends.behind j)
   by_split j (inl low) = run.left j low
   by_split j (inr high) = left-past (pieces ++ piece ∷ []) (front u bytes j) (block bytes j) (slice_index ends.before j) (slice_index ends.behind j) (block-past bytes j (omega arith)) (none.before j high) (none.behind j high)

@@ -1,5 +1,5 @@
 -- Where a literal ends in a chunk, and what is kept of it.
-use Rattle.std.specs.Prelude.{◌≡◌, ◌↔◌, ℕ, zero, suc, ◌+◌, ◌/◌, ◌%◌, ◌<◌, ◌≤◌, Bool, true, false, List, [], ◌∷◌, ◌++◌}
+use Rattle.std.specs.Prelude.{◌≡◌, ◌↔◌, ℕ, zero, suc, ◌+◌, ◌/◌, ◌%◌, ◌<◌, ◌≤◌, Bool, true, false, List, ◌∷◌, ◌++◌}
 use Rattle.std.specs.Prelude.{length, slice_index}
 use Rattle.hs_base.specs.Chains.{Piece, lit, IsFitChain}
 use Rattle.hs_base.specs.Lists.{Each}

@@ -6,3 +6,4 @@ pub mod Hits
 pub mod Contexts
 pub mod FirstLiterals
 pub mod Nodes
+pub mod Walks

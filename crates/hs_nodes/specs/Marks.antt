@@ -1,5 +1,5 @@
 -- Numbers that are marked, as rows of words.
-use Rattle.std.specs.Prelude.{◌≡◌, ◌+◌, ◌*◌, ◌^◌, ◌<◌, ◌≤◌, ℕ, Bool, not, ◌==◌, List, length, slice_index}
+use Rattle.std.specs.Prelude.{◌≡◌, ◌*◌, ◌^◌, ◌<◌, ◌≤◌, ℕ, Bool, not, ◌==◌, List, length, slice_index}
 use Rattle.hs_base.specs.Bits.{has_word_bit}
 
 -- the number is marked

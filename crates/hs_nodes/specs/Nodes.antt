@@ -1,6 +1,6 @@
 -- The nodes of a forest of pieces: what each runs, what is kept of it, and where it may be passed over.
-use Rattle.std.specs.Prelude.{◌≡◌, ◌↔◌, ℕ, suc, ◌+◌, ◌-◌, ◌<◌, ◌≤◌, Bool, false, List, [], ◌∷◌, ◌++◌, length, Option}
-use Rattle.std.specs.Prelude.{Some, None, slice_get, slice_index, slice_index_or, slice_range}
+use Rattle.std.specs.Prelude.{◌≡◌, ℕ, ◌<◌, ◌≤◌, false, List, [], ◌∷◌, ◌++◌, length, Option}
+use Rattle.std.specs.Prelude.{Some, None, slice_get, slice_index}
 use Rattle.hs_base.specs.declared.context.Mask.{Mask}
 use Rattle.hs_base.specs.declared.context.Prev.{Prev}
 use Rattle.hs_base.specs.Bits.{has_bit}
@@ -10,13 +10,12 @@ use Rattle.hs_base.specs.Literals.{LiteralByte}
 use Rattle.hs_base.specs.RepeatRows.{IsRingAt}
 use Rattle.hs_engine.specs.Engines.{Meaning, IsAsleep, IsQuiet}
 use Rattle.hs_nodes.specs.Blocks.{EndsBehind}
-use Rattle.hs_nodes.specs.Contexts.{AreChunkContexts, IsNull}
+use Rattle.hs_nodes.specs.Contexts.{IsNull}
 use Rattle.hs_nodes.specs.Hits.{AreChunkHits, KeepsEntries, is_hit_at}
-use Rattle.hs_nodes.specs.Left.{AreLeftIn, nowhere}
+use Rattle.hs_nodes.specs.Left.{AreLeftIn}
 use Rattle.hs_nodes.specs.Pieces.{IsHeld, IsHeldBy}
 use Rattle.hs_nodes.specs.declared.ends.ChunkEnds.{ChunkEnds}
 use Rattle.hs_nodes.specs.declared.hits.ChunkHits.{ChunkHits}
-use Rattle.hs_nodes.specs.declared.table.Node.{Node}
 use Rattle.hs_nodes.specs.declared.table.NodeKind.{NodeKind}
 use Rattle.hs_nodes.specs.declared.table.NodeKind.TheVariants.{Engine, Literal, FirstLiteral}
 

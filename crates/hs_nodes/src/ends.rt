@@ -1,5 +1,7 @@
 //! Where pieces are left in a chunk.
 
+ghost use Rattle.std.specs.Prelude.{◌≡◌, ◌↔◌, IsTrue};
+
 use crate::chunk::MAX_BLOCKS;
 
 /// Where pieces are left in a chunk: for each of its blocks a word with a bit for each byte, none from its end on.
@@ -12,9 +14,18 @@ pub struct ChunkEnds {
 }
 
 impl ChunkEnds {
+    ghost use Rattle.hs_nodes.specs.Left.{nowhere};
+
     /// Nowhere.
     pub const NOWHERE: ChunkEnds = ChunkEnds {
         before: [0; MAX_BLOCKS],
         behind: [0; MAX_BLOCKS],
     };
+
+    /// Whether it is nowhere.
+    pub fn is_nowhere(&self) -> bool
+        ensures { IsTrue result ↔ (self.now ≡ nowhere) }
+    {
+        *self == ChunkEnds::NOWHERE
+    }
 }

@@ -32,7 +32,14 @@ pub(crate) fn run_engine<E: BlockEngine, L: Ledger>(
     for j in 0..chunk.blocks() {
         let bytes = chunk.block(j);
         let at = chunk.at + (BLOCK_BYTES * j) as u64;
-        let own = engine.run(region, chunk.prev_before(j), at, enters.before[j], bytes, steps);
+        let own = engine.run(
+            region,
+            chunk.prev_before(j),
+            at,
+            enters.before[j],
+            bytes,
+            steps,
+        );
         ends.before[j] = own.before | (enters.before[j] & null.before[j]);
         ends.behind[j] = own.behind | (enters.behind[j] & null.behind[j]);
     }

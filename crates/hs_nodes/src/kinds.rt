@@ -51,11 +51,23 @@ pub(crate) fn run_kind<E: BlockEngine, L: Ledger>(
             run_engine(&engines[number as usize], part, chunk, enters, &null, steps)
         }
         NodeKind::Literal(number, len) => {
-            run_literal_part(len as usize, part, chunk, &found.hits[number as usize], enters)
+            run_literal_part(
+                len as usize,
+                part,
+                chunk,
+                &found.hits[number as usize],
+                enters,
+            )
         }
         NodeKind::FirstLiteral(number, len) => {
             let mut carry = every_entry(len as usize, chunk.at);
-            run_entries(len as usize, &mut carry, chunk, &found.hits[number as usize], enters)
+            run_entries(
+                len as usize,
+                &mut carry,
+                chunk,
+                &found.hits[number as usize],
+                enters,
+            )
         }
     }
 }

@@ -11,6 +11,7 @@ mod literals;
 mod marks;
 mod nulls;
 mod table;
+mod walking;
 
 pub use chunk::{BLOCK_BYTES, Chunk, MAX_BLOCKS, MAX_CHUNK};
 pub use ends::ChunkEnds;
@@ -19,3 +20,4 @@ pub use kinds::Found;
 pub use marks::MarkSet;
 pub use nulls::chunk_contexts;
 pub use table::{Node, NodeKind, NodeTable};
+pub use walking::walk;

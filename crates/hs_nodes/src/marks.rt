@@ -6,7 +6,9 @@ ghost use Rattle.hs_base.specs.Bits.{word_count};
 ghost use Rattle.hs_bits.specs.NextBits.{IsNextBitIn};
 ghost use Rattle.hs_nodes.specs.Marks.{IsSummed, is_marked, mark_room};
 
-use hs_bits::{WORD_BITS, contains_word_bit, lowest_bit, next_bit_in, word_count_for, write_word_bit};
+use hs_bits::{
+    WORD_BITS, contains_word_bit, lowest_bit, next_bit_in, word_count_for, write_word_bit,
+};
 use std::alloc::{AllocError, Global};
 use std::marker::Model;
 

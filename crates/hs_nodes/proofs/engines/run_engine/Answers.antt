@@ -1,4 +1,4 @@
-use Rattle.std.proofs.Common.{◌+◌, ◌*◌, length, take, refl, sym, subst, arith, length-set}
+use Rattle.std.proofs.Common.{◌+◌, ◌*◌, refl, subst, arith, length-set}
 use Rattle.hs_nodes.proofs.EngineLemmas.{blocks-all, blocks-more, blocks-none}
 use Rattle.hs_nodes.proofs.RunLemmas.{ends-more, nowhere-more, nowhere-none, reach-more, word-through}
 use Rattle.hs_nodes.proofs.engines.run_engine.Goals as goal
@@ -25,8 +25,8 @@ loop-j-preserved g c =
       nowhere = nowhere-more _ _ j (j + 1) _ _ refl more inv.nowhere;
       takes =
           blocks-more (g.E.Engine.meaning c.args.engine.now) c.args.region.now c.loop-j.region c.run-own.new.region c.args.chunk.now.prev c.prev_before.result c.args.chunk.now.at (c.args.chunk.now.at + 64 * j) c.args.chunk.now.bytes.now c.block-bytes.result.now
-            c.args.enters.now c.args.null.now c.loop-j.ends _ j (j + 1) c.run-own.result _ _ _ _ (omega arith) refl c.block-bytes.ensures.bytes refl c.prev_before.ensures c.run-own.ensures.takes (word-through _ _ _) (word-through _ _ _) more (omega (arith, c.blocks-j-end.ensures.few))
-            inv.takes;
+          c.args.enters.now c.args.null.now c.loop-j.ends _ j (j + 1) c.run-own.result _ _ _ _ (omega arith) refl c.block-bytes.ensures.bytes refl c.prev_before.ensures c.run-own.ensures.takes (word-through _ _ _) (word-through _ _ _) more (omega (arith, c.blocks-j-end.ensures.few))
+          inv.takes;
     }
 
 pub returns-clause-takes : goal.returns-clause-takes

@@ -1,6 +1,5 @@
-use Rattle.std.proofs.Common.{◌≡◌, ◌+◌, ℕ, [], length, refl, sym, ap, ◌∙◌, arith, length-set}
+use Rattle.std.proofs.Common.{◌+◌, [], length, refl, ap, ◌∙◌, arith, length-set}
 use Rattle.std.specs.Prelude.{nat_lt}
-use Rattle.hs_block.specs.WordBits.{word_bit}
 use Rattle.hs_nodes.specs.Blocks.{block, front}
 use Rattle.hs_nodes.specs.Left.{AreLeft}
 use Rattle.hs_nodes.proofs.FirstLemmas.{left-empty, left-everywhere, told-all, told-more}

@@ -1,4 +1,4 @@
-use Rattle.std.proofs.Common.{◌+◌, ◌*◌, length, take, refl, sym, subst, arith, length-set}
+use Rattle.std.proofs.Common.{◌+◌, ◌*◌, length, take, refl, subst, arith, length-set}
 use Rattle.hs_nodes.specs.Hits.{IsCarryAt}
 use Rattle.hs_nodes.proofs.LiteralLemmas.{carry-on, literal-all, literal-more, literal-none}
 use Rattle.hs_nodes.proofs.RunLemmas.{ends-more, nowhere-more, nowhere-none, reach-all, reach-more, reach-upto}
@@ -24,10 +24,10 @@ loop-j-preserved c =
       nowhere = nowhere-more _ _ j (j + 1) _ _ refl more inv.nowhere;
       takes =
           literal-more c.args.len c.args.carry.now c.loop-j.carry bytes c.block-bytes.result.now c.args.hits.now c.of_block.result c.args.enters.now c.loop-j.ends _ j (j + 1) c.run_literal-run.result c.requires.some (omega arith) (omega (arith, c.blocks-j-end.ensures.few)) refl
-            c.block-bytes.ensures.bytes c.block-bytes.ensures.few c.block-bytes.ensures.within c.of_block.ensures c.run_literal-run.ensures.runs more inv.takes;
+          c.block-bytes.ensures.bytes c.block-bytes.ensures.few c.block-bytes.ensures.within c.of_block.ensures c.run_literal-run.ensures.runs more inv.takes;
       well = λ well.
           carry-on c.args.len c.loop-j.carry c.run_literal-run.result.carry _ (c.args.chunk.now.at + length (take (64 * j) bytes)) (length c.block-bytes.result.now) (c.args.chunk.now.at + length (take (64 * (j + 1)) bytes)) (inv.well well)
-            (omega (arith, reach-more bytes c.block-bytes.result.now j (j + 1) c.args.chunk.now.at refl (omega arith) c.block-bytes.ensures.bytes, reach-upto bytes j (omega arith))) c.run_literal-run.ensures.carry;
+          (omega (arith, reach-more bytes c.block-bytes.result.now j (j + 1) c.args.chunk.now.at refl (omega arith) c.block-bytes.ensures.bytes, reach-upto bytes j (omega arith))) c.run_literal-run.ensures.carry;
     }
 
 pub returns-clause-takes : goal.returns-clause-takes

@@ -1,5 +1,4 @@
-use Rattle.std.proofs.Common.{◌/◌, slice_set, sym, ap, ◌∙◌, arith}
-use Rattle.std.proofs.lemmas.List.{get_or-set_same}
+use Rattle.std.proofs.Common.{◌∙◌}
 use Rattle.hs_bits.proofs.WordLemmas.{written-bit, kept-bit}
 use Rattle.hs_nodes.proofs.marks.write_mark.Goals as goal
 

@@ -1,8 +1,7 @@
-use Rattle.std.proofs.Common.{◌≡◌, ◌+◌, ◌∙◌, List, [], ◌∷◌, ℕ, refl, sym, ap, subst, length, arith, length-append}
-use Rattle.hs_base.specs.Contexts.{prev_at}
+use Rattle.std.proofs.Common.{◌+◌, ◌∙◌, [], ◌∷◌, ap, subst, length, length-append}
 use Rattle.hs_base.specs.declared.context.Prev.{Prev}
 use Rattle.hs_block.specs.BlockContexts.{AreContexts}
-use Rattle.hs_nodes.specs.Blocks.{block, front}
+use Rattle.hs_nodes.specs.Blocks.{block}
 use Rattle.hs_nodes.proofs.FirstLemmas.{contexts-more}
 use Rattle.hs_nodes.proofs.nulls.chunk_contexts.Goals as goal
 

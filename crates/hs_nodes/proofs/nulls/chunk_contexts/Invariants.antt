@@ -1,4 +1,4 @@
-use Rattle.std.proofs.Common.{◌≡◌, ◌<◌, ℕ, List, length, slice_get, Some, vec_len}
+use Rattle.std.proofs.Common.{◌≡◌, ◌<◌, ℕ, List, length, slice_get, Some}
 use Rattle.hs_base.specs.Contexts.{prev_at}
 use Rattle.hs_block.specs.BlockContexts.{AreContexts}
 use Rattle.hs_block.specs.declared.contexts.Contexts.{Contexts}

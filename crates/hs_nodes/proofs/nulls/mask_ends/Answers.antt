@@ -1,9 +1,9 @@
-use Rattle.std.proofs.Common.{◌≡◌, ◌+◌, ℕ, length, refl, arith, length-set}
+use Rattle.std.proofs.Common.{◌+◌, refl, arith, length-set}
 use Rattle.std.proofs.lemmas.Option.{slice_get-get_or, slice_get_within}
 use Rattle.hs_nodes.specs.Blocks.{block, front}
 use Rattle.hs_nodes.specs.Pieces.{AreEmpty}
 use Rattle.hs_nodes.proofs.FirstLemmas.{empty-past, mask-empty, told-all, told-more}
-use Rattle.hs_nodes.proofs.RunLemmas.{ends-more, nowhere-more, nowhere-none}
+use Rattle.hs_nodes.proofs.RunLemmas.{ends-more, nowhere-more}
 use Rattle.hs_nodes.proofs.nulls.mask_ends.Goals as goal
 
 pub bounds-contexts-j : goal.bounds-contexts-j

@@ -1,9 +1,7 @@
-use Rattle.std.proofs.Common.{ℕ, List, Option, subst, arith}
+use Rattle.std.proofs.Common.{Option, subst, arith}
 use Rattle.hs_base.specs.declared.context.Mask.{Mask}
-use Rattle.hs_base.specs.Trees.{Tree}
 use Rattle.hs_nodes.specs.Blocks.{block, front}
 use Rattle.hs_nodes.specs.Contexts.{IsNull}
-use Rattle.hs_nodes.specs.Left.{nowhere}
 use Rattle.hs_nodes.proofs.FirstLemmas.{empty-never}
 use Rattle.hs_nodes.proofs.RunLemmas.{nowhere-none}
 use Rattle.hs_nodes.proofs.nulls.null_ends.Goals as goal

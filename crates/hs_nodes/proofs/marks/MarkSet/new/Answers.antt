@@ -1,4 +1,4 @@
-use Rattle.std.proofs.Common.{refl, arith}
+use Rattle.std.proofs.Common.{arith}
 use Rattle.hs_nodes.proofs.MarkLemmas.{summed-none, zero-marks}
 use Rattle.hs_nodes.proofs.marks.MarkSet.new.Goals as goal
 
