@@ -1,5 +1,4 @@
 use Rattle.std.proofs.Common.{◌∙◌, refl, subst, arith, rules}
-use Rattle.std.proofs.lemmas.List.{length-take-le}
 use Rattle.hs_outside.specs.Counts.{Rose}
 use Rattle.hs_outside.proofs.Viewing.{IsPresent-read, ReadsAt-again}
 use Rattle.hs_tool.proofs.ScanLemmas.{seen-start, seen-more, seen-end, seen-part, seen-cut, seen-longer}
