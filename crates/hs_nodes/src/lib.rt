@@ -15,6 +15,7 @@ mod walking;
 
 pub use chunk::{BLOCK_BYTES, Chunk, MAX_BLOCKS, MAX_CHUNK};
 pub use ends::ChunkEnds;
+pub use first::everywhere;
 pub use hits::ChunkHits;
 pub use kinds::Found;
 pub use marks::MarkSet;

@@ -1,15 +1,15 @@
 -- Which program runs the patterns of a plan.
 use Rattle.std.specs.Prelude.{◌≡◌, ◌↔◌, ◌⊎◌, ℕ, suc, ◌+◌, ◌-◌, ◌^◌, ◌<◌, ◌≤◌, Bool, true, false, List, [], ◌∷◌, ◌++◌}
-use Rattle.std.specs.Prelude.{length, Some, slice_get, slice_index, slice_range}
+use Rattle.std.specs.Prelude.{length, map, Some, slice_get, slice_index, slice_range}
 use Rattle.hs_base.specs.Chains.{Piece, piece_tree}
 use Rattle.hs_base.specs.KeptPieces.{Form, nothing, positions, literal, first, last, ring, form_size, Says}
 use Rattle.hs_base.specs.LeavingLaws.{HasSpansOfChains}
 use Rattle.hs_base.specs.Lists.{Each}
 use Rattle.hs_base.specs.Patterns.{is_single}
-use Rattle.hs_base.specs.Regions.{Place, Plan, IsPlan, list_places, place_form, plan_starts, fields_at}
+use Rattle.hs_base.specs.Regions.{Place, Plan, IsPlan, list_places, place_form, place_size, plan_starts, fields_at}
 use Rattle.hs_base.specs.Trees.{Tree}
 use Rattle.hs_engine.specs.Engines.{Meaning}
-use Rattle.hs_layout.specs.Layouts.{Laid, laid_size}
+use Rattle.hs_layout.specs.Layouts.{Laid, laid_size, layout_of}
 use Rattle.hs_literals.specs.Held.{held}
 use Rattle.hs_nodes.specs.Walks.{AreNodesOf, IsTableSound}
 use Rattle.hs_nodes.specs.declared.table.Node.{Node}
@@ -40,6 +40,10 @@ with_single false x xs = xs
 abbrev pub singles_of : List Identifier → List Identifier
 singles_of [] = []
 singles_of (x ∷ xs) = with_single x.single x (singles_of xs)
+
+-- the layout of the regions of a plan
+abbrev pub plan_layout : Plan → Laid
+plan_layout plan = layout_of (length plan.singles) (length plan.identifiers) (map place_size (list_places plan))
 
 -- The regions of an engine are the fields of that form.
 pub record KeepsForm (m : Meaning) (form : Form) : Type 0 where
@@ -125,6 +129,21 @@ module _ {E : Type 0} (meaning : E → Meaning) (program : Program E) where
     pub apart : (k : ℕ) (other : Node) → slice_get program.table.nodes.items k ≡ Some other →
         (other.end ≤ slice_index l.starts copy.field) ⊎ (slice_index l.starts (copy.field + 1) ≤ other.start)
 
+  -- The terminals name identifiers and nodes that are there, and lie by node.
+  pub record AreTerminalsSound : Type 0 where
+    pub known : Each
+        (λ t. (t.identifier < length program.identifiers.items) × (t.node < length program.table.nodes.items + 1))
+        program.terminals.items
+    pub count : length program.terminal_starts.items ≡ length program.table.nodes.items + 2
+    pub order : (k : ℕ) → k < length program.table.nodes.items + 1 →
+        slice_index program.terminal_starts.items k ≤ slice_index program.terminal_starts.items (k + 1)
+    pub within : (k : ℕ) → k < length program.table.nodes.items + 1 →
+        slice_index program.terminal_starts.items (k + 1) ≤ length program.terminals.items
+    pub of_node : (k : ℕ) → k < length program.table.nodes.items + 1 →
+        AreOfNode program.terminals.items k
+        (slice_range program.terminals.items (slice_index program.terminal_starts.items k)
+        (slice_index program.terminal_starts.items (k + 1)))
+
   -- The program can be run over regions of that layout.
   pub record IsProgramSound (l : Laid) : Type 0 where
     pub table : IsTableSound meaning program.table (length (held program.literals)) (laid_size l)
@@ -135,17 +154,7 @@ module _ {E : Type 0} (meaning : E → Meaning) (program : Program E) where
     pub identifiers : length program.identifiers.items ≡ l.identifiers
     pub singles : length (singles_of program.identifiers.items) ≡ l.singles
     pub few_identifiers : l.identifiers < 2 ^ 32
-    pub known : Each (λ t. (t.identifier < l.identifiers) × (t.node < length program.table.nodes.items + 1))
-        program.terminals.items
-    pub starts_count : length program.terminal_starts.items ≡ length program.table.nodes.items + 2
-    pub starts_order : (k : ℕ) → k < length program.table.nodes.items + 1 →
-        slice_index program.terminal_starts.items k ≤ slice_index program.terminal_starts.items (k + 1)
-    pub starts_within : (k : ℕ) → k < length program.table.nodes.items + 1 →
-        slice_index program.terminal_starts.items (k + 1) ≤ length program.terminals.items
-    pub of_node : (k : ℕ) → k < length program.table.nodes.items + 1 →
-        AreOfNode program.terminals.items k
-        (slice_range program.terminals.items (slice_index program.terminal_starts.items k)
-        (slice_index program.terminal_starts.items (k + 1)))
+    pub terminals : AreTerminalsSound
     pub copies : (i : ℕ) (copy : FieldCopy) → slice_get program.copies.items i ≡ Some copy → IsCopySound l copy
     pub rising : (i j : ℕ) (a b : FieldCopy) → i < j → slice_get program.copies.items i ≡ Some a →
         slice_get program.copies.items j ≡ Some b → a.field < b.field

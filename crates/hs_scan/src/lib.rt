@@ -1,6 +1,11 @@
 //! The scan of a stream by nodes: chunks of bytes to reports, and from a region to that of the longer stream.
 #![tactic(auto)]
 
+mod chunk;
+mod contexts;
+mod gathering;
+mod known;
+mod past;
 mod program;
 
 pub use program::{FieldCopy, Program};
