@@ -7,3 +7,5 @@ pub mod EndingLemmas
 pub mod PastLemmas
 pub mod FillLemmas
 pub mod HitLemmas
+pub mod CopyLemmas
+pub mod WritingLemmas

@@ -36,6 +36,12 @@ plan-size plan =
     let e : length (plan_layout plan).starts - 1 ≡ length sizes = omega (arith, sums-size (fields_at (length plan.singles) (length plan.identifiers)) sizes) in
     ap (slice_index (plan_layout plan).starts) e
 
+-- no bit that stands for nothing is set in a region
+pub spares-unset : (plan : Plan) (u region : List ℕ) → IsRegion plan u region → AreSparesUnset (plan_layout plan) region
+spares-unset plan u region is k (inl (low, high)) = is.told.spare k low high
+spares-unset plan u region is k (inr (inl (low, high))) = is.here.spare k low high
+spares-unset plan u region is k (inr (inr (low, high))) = is.last.spare k low high
+
 -- an element is there
 pub there : {A : Type 0} (xs : List A) (k : ℕ) → k < length xs → (x : A) × (slice_get xs k ≡ Some x)
 there [] k below = absurd (omega arith)
@@ -87,7 +93,8 @@ module _ {E : Type 0} (meaning : E → Meaning) (program : Program E) (plan : Pl
 
   -- The bits of a region into which all was written.
 
-  module _ (v : List ℕ) (s : Stand) (last region : List ℕ) (is : IsReached meaning program plan runs v s) (written : IsWritten meaning program (plan_layout plan) s last region) (left : AreLeftToEnd meaning program plan.patterns v last) where
+  module _ (v : List ℕ) (s : Stand) (last region : List ℕ) (is : IsReached meaning program plan runs v s) (written : IsWritten meaning program (plan_layout plan) s last region) (left : AreLeftToEnd meaning program plan.patterns v last)
+      (spared : AreSparesUnset (plan_layout plan) region) where
     told-bits : AreBitsOf region told_at (here_at (length plan.singles)) plan.singles (λ id. (to : ℕ) × IsReport plan.patterns v false id to)
     told-bits = record {
       each = λ n id named.
@@ -99,7 +106,7 @@ module _ {E : Type 0} (meaning : E → Meaning) (program : Program E) (plan : Pl
           let bit : has_bit region (8 * told_at + n) ≡ has_word_bit s.told one.place = ap (λ m. has_bit region (8 * told_at + m)) (sym one.number) ∙ sym (read.told_is one.is) in
           subst (λ z. (has_bit region (8 * told_at + n) ≡ true) ↔ ((to : ℕ) × IsReport plan.patterns v false z to)) same
           (value-tells (has_bit region (8 * told_at + n)) (has_word_bit s.told one.place) ((to : ℕ) × IsReport plan.patterns v false x.id.0 to) bit ((is.known.heard one.place x one.there).told single));
-      spare = λ k low high. written.spare k (inl (low, high));
+      spare = λ k low high. spared k (inl (low, high));
     }
 
     record IsThere (p id : ℕ) : Type 0 where
@@ -119,7 +126,7 @@ module _ {E : Type 0} (meaning : E → Meaning) (program : Program E) (plan : Pl
           let place : ℕ = 8 * here_at (length plan.singles) + p in
           subst (λ z. (has_bit region place ≡ true) ↔ IsReport plan.patterns v false z (length v)) one.same
           (value-tells (has_bit region place) (has_word_bit s.here p) (IsReport plan.patterns v false one.x.id.0 (length v)) (sym (written.read p one.x one.at).here_is) (is.known.heard p one.x one.at).here);
-      spare = λ k low high. written.spare k (inr (inl (low, high)));
+      spare = λ k low high. spared k (inr (inl (low, high)));
     }
 
     last-bits : AreBitsOf region (last_at (length plan.singles) (length plan.identifiers)) (fields_at (length plan.singles) (length plan.identifiers)) plan.identifiers (λ id. IsLeftToEnd plan.patterns v id)
@@ -129,7 +136,7 @@ module _ {E : Type 0} (meaning : E → Meaning) (program : Program E) (plan : Pl
           let place : ℕ = 8 * last_at (length plan.singles) (length plan.identifiers) + p in
           subst (λ z. (has_bit region place ≡ true) ↔ IsLeftToEnd plan.patterns v z) one.same
           (value-tells (has_bit region place) (has_word_bit last p) (IsLeftToEnd plan.patterns v one.x.id.0) (sym (written.last_is p one.x one.at)) (left p one.x one.at));
-      spare = λ k low high. written.spare k (inr (inr (low, high)));
+      spare = λ k low high. spared k (inr (inr (low, high)));
     }
 
     held-there : AreNodesHeld meaning program.table runs.pieces region v

@@ -4,6 +4,7 @@ use Rattle.std.specs.Prelude.{slice_range}
 use Rattle.std.proofs.lemmas.List.{append-nil}
 use Rattle.std.proofs.lemmas.Option.{slice_get_within}
 use Rattle.hs_base.specs.declared.context.Prev.{Prev}
+use Rattle.hs_base.specs.Bits.{has_bit}
 use Rattle.hs_base.specs.Lists.{Each}
 use Rattle.hs_base.specs.Offsets.{greatest_offset}
 use Rattle.hs_base.specs.Patterns.{Pattern}
@@ -22,12 +23,12 @@ use Rattle.hs_nodes.specs.Marks.{is_marked}
 use Rattle.hs_nodes.specs.Walks.{MayNodesRest, TakesNodes}
 use Rattle.hs_nodes.specs.declared.ends.ChunkEnds.{ChunkEnds}
 use Rattle.hs_nodes.specs.declared.hits.ChunkHits.{ChunkHits}
-use Rattle.hs_scan.specs.Keeping.{AreRead}
+use Rattle.hs_scan.specs.Keeping.{AreRead, IsSpareBit}
 use Rattle.hs_scan.specs.Programs.{RunsPlan, plan_layout}
 use Rattle.hs_scan.specs.Scans.{AreHitsBehind, AreLeftToEnd, Feeds, IsReached, IsWritten, Scans, ScansChunk, Stand, stand}
 use Rattle.hs_scan.specs.Telling.{TellsChunk}
 use Rattle.hs_scan.specs.declared.program.Program.{Program}
-use Rattle.hs_scan.proofs.RegionLemmas.{reached-begin, region-end}
+use Rattle.hs_scan.proofs.RegionLemmas.{reached-begin, region-end, spares-unset}
 
 module _ {E : Type 0} (meaning : E → Meaning) (program : Program E) where
   pub scans-none : (s : Stand) → Scans meaning program s s [] []
@@ -84,10 +85,10 @@ module _ {E : Type 0} (meaning : E → Meaning) (program : Program E) where
 
   -- From the region of a stream to that of the longer one.
   pub scan-feeds : (l : Laid) (old new bytes : List ℕ) (s t : Stand) (last : List ℕ) (pairs : List Pair) → s.region ≡ old → s.at ≡ region_offset old → s.past ≡ slice_range old 8 72 → AreRead l old program.identifiers.items s.told s.here →
-      t.at ≤ greatest_offset → Scans meaning program s t bytes pairs → IsWritten meaning program l t last new →
+      t.at ≤ greatest_offset → Scans meaning program s t bytes pairs → IsWritten meaning program l t last new → ((k : ℕ) → IsSpareBit l k → has_bit t.region k ≡ has_bit old k) →
       ((plan : Plan) (runs : RunsPlan meaning program plan) (u : List ℕ) (list : List Pair) → IsReached meaning program plan runs u s → IsTold plan.patterns u list → AreLeftToEnd meaning program plan.patterns (u ++ bytes) last) →
       Feeds meaning program l old new bytes pairs
-  scan-feeds l old new bytes s t last pairs same at past read room scans written left plan u list runs laid each is told =
+  scan-feeds l old new bytes s t last pairs same at past read room scans written spare left plan u list runs laid each is told =
       let begun : IsReached meaning program plan runs u s =
       reached-begin meaning program plan runs u s each (subst (IsRegion plan u) (sym same) is) (at ∙ ap region_offset (sym same)) (past ∙ ap (λ r. slice_range r 8 72) (sym same))
       (subst (λ r. AreRead (plan_layout plan) r program.identifiers.items s.told s.here) (sym same) (subst (λ m. AreRead m old program.identifiers.items s.told s.here) laid read)) in
@@ -95,6 +96,9 @@ module _ {E : Type 0} (meaning : E → Meaning) (program : Program E) where
       record {
         region =
             region-end meaning program plan runs (u ++ bytes) t last new end.reached (subst (λ m. IsWritten meaning program m t last new) laid written) (left plan runs u list begun told)
+            (λ k is_spare.
+            let here : IsSpareBit l k = subst (λ m. IsSpareBit m k) (sym laid) is_spare in
+            written.spare k here ∙ (spare k here ∙ spares-unset plan u old is k is_spare))
             (omega (arith, room, end.reached.offset));
         new = end.new;
       }

@@ -7,3 +7,4 @@ pub mod Ending
 pub mod Past
 pub mod Scratches
 pub mod Hits
+pub mod Copying

@@ -9,7 +9,7 @@ use Rattle.hs_base.specs.Patterns.{is_single}
 use Rattle.hs_base.specs.Regions.{Place, Plan, IsPlan, list_places, place_form, place_size, plan_starts, fields_at}
 use Rattle.hs_base.specs.Trees.{Tree}
 use Rattle.hs_engine.specs.Engines.{Meaning}
-use Rattle.hs_layout.specs.Layouts.{Laid, laid_size, layout_of}
+use Rattle.hs_layout.specs.Layouts.{AreApart, Laid, laid_size, layout_of}
 use Rattle.hs_literals.specs.Held.{held}
 use Rattle.hs_nodes.specs.Walks.{AreNodesOf, IsTableSound}
 use Rattle.hs_nodes.specs.declared.table.Node.{Node}
@@ -146,6 +146,7 @@ module _ {E : Type 0} (meaning : E → Meaning) (program : Program E) where
 
   -- The program can be run over regions of that layout.
   pub record IsProgramSound (l : Laid) : Type 0 where
+    pub apart : AreApart l
     pub table : IsTableSound meaning program.table (length (held program.literals)) (laid_size l)
     pub few : length program.table.nodes.items < 2 ^ 32
     pub few_literals : length (held program.literals) < 2 ^ 32

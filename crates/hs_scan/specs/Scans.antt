@@ -1,7 +1,7 @@
 -- What bytes make of a stream that is scanned, between the beginning and the end of a write.
 use Rattle.std.specs.Prelude.{◌≡◌, ◌↔◌, ℕ, ◌<◌, ◌≤◌, Bool, true, List, [], ◌∷◌, ◌++◌, length, Some, slice_get, slice_range}
 use Rattle.hs_base.specs.declared.context.Prev.{Prev}
-use Rattle.hs_base.specs.Bits.{has_word_bit}
+use Rattle.hs_base.specs.Bits.{has_bit, has_word_bit}
 use Rattle.hs_base.specs.Lists.{Each}
 use Rattle.hs_base.specs.Offsets.{greatest_offset}
 use Rattle.hs_base.specs.Patterns.{Pattern}
@@ -18,7 +18,7 @@ use Rattle.hs_nodes.specs.declared.hits.ChunkHits.{ChunkHits}
 use Rattle.hs_nodes.specs.declared.table.Node.{Node}
 use Rattle.hs_reports.specs.Settlement.{AreKnown}
 use Rattle.hs_reports.specs.declared.identifier.Identifier.{Identifier}
-use Rattle.hs_scan.specs.Keeping.{AreLast, AreRead, AreSparesUnset}
+use Rattle.hs_scan.specs.Keeping.{AreLast, AreRead, IsSpareBit}
 use Rattle.hs_scan.specs.Programs.{RunsPlan, plan_layout}
 use Rattle.hs_scan.specs.declared.program.FieldCopy.{FieldCopy}
 use Rattle.hs_scan.specs.declared.program.Program.{Program}
@@ -105,7 +105,7 @@ module _ {E : Type 0} (meaning : E → Meaning) (program : Program E) where
     pub past : slice_range region history_at told_at ≡ s.past
     pub read : AreRead l region program.identifiers.items s.told s.here
     pub last_is : AreLast l region program.identifiers.items last
-    pub spare : AreSparesUnset l region
+    pub spare : (k : ℕ) → IsSpareBit l k → has_bit region k ≡ has_bit s.region k
     pub fields : (k : ℕ) (node : Node) → slice_get program.table.nodes.items k ≡ Some node →
         node_part region node ≡ node_part s.region node
     pub copied : AreCopied l region

@@ -3,7 +3,10 @@
 
 mod chunk;
 mod contexts;
+mod copying;
 mod gathering;
+mod hits;
+mod keeping;
 mod known;
 mod past;
 mod program;
