@@ -12,8 +12,8 @@ use Rattle.hs_reports.specs.WordBits.{word_bit}
 use Rattle.hs_reports.specs.declared.identifier.Identifier.{Identifier}
 use Rattle.hs_scan.specs.declared.program.Program.{Program}
 
--- Bit 0 of the word of each node tells whether its pieces are left behind u, where that comes next. Behind the last node
--- are no pieces.
+-- Bit 0 of the word of each node tells whether its pieces are left behind u, where that comes next. Behind the last
+-- node are no pieces.
 abbrev pub AreLeftAt : {E : Type 0} → Program E → (pieces : ℕ → List Piece) (u : List ℕ) (next : Next)
     (lefts : ℕ → ℕ) → Type 0
 AreLeftAt program pieces u next lefts =
@@ -23,8 +23,8 @@ AreLeftAt program pieces u next lefts =
 abbrev pub is_ended : {E : Type 0} → Program E → (lefts : ℕ → ℕ) (at p : ℕ) → Bool
 is_ended program lefts at p = list_any (is_end_at lefts p at 0) program.terminals.items
 
--- The row tells which identifiers a line feed leaves to the end: by what is known before it, by the ends about it, and by
--- the ends before it were it the last byte.
+-- The row tells which identifiers a line feed leaves to the end: by what is known before it, by the ends about it, and
+-- by the ends before it were it the last byte.
 abbrev pub AreLeftByLineFeed : {E : Type 0} → Program E → (at : ℕ) (told here : List ℕ) (table : EndTable)
     (lefts : ℕ → ℕ) (last : List ℕ) → Type 0
 AreLeftByLineFeed program at told here table lefts last =

@@ -1,5 +1,6 @@
 -- What is kept of the identifiers of a stream, in the bits of its region and in rows of words.
-use Rattle.std.specs.Prelude.{◌≡◌, ◌⊎◌, ℕ, ◌+◌, ◌*◌, ◌<◌, ◌≤◌, Bool, true, false, List, length, take, Some, slice_get, slice_index}
+use Rattle.std.specs.Prelude.{◌≡◌, ◌⊎◌, ℕ, ◌+◌, ◌*◌, ◌<◌, ◌≤◌, Bool, true, false, List, length, take, Some}
+use Rattle.std.specs.Prelude.{slice_get, slice_index}
 use Rattle.hs_base.specs.Bits.{has_bit, has_word_bit}
 use Rattle.hs_base.specs.Regions.{fields_at, here_at, last_at, told_at}
 use Rattle.hs_layout.specs.Layouts.{Laid}

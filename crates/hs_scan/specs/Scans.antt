@@ -1,11 +1,12 @@
 -- What bytes make of a stream that is scanned, between the beginning and the end of a write.
-use Rattle.std.specs.Prelude.{◌≡◌, ◌↔◌, ℕ, ◌<◌, ◌≤◌, Bool, true, List, [], ◌∷◌, ◌++◌, length, Some, slice_get, slice_range}
+use Rattle.std.specs.Prelude.{◌≡◌, ◌↔◌, ℕ, ◌<◌, ◌≤◌, Bool, true, List, [], ◌∷◌, ◌++◌, length, Some}
+use Rattle.std.specs.Prelude.{slice_get, slice_range}
 use Rattle.hs_base.specs.declared.context.Prev.{Prev}
 use Rattle.hs_base.specs.Bits.{has_bit, has_word_bit}
 use Rattle.hs_base.specs.Lists.{Each}
 use Rattle.hs_base.specs.Offsets.{greatest_offset}
 use Rattle.hs_base.specs.Patterns.{Pattern}
-use Rattle.hs_base.specs.Regions.{Plan, IsRegion, history_size, last_bytes, plan_size, region_offset, history_at, told_at}
+use Rattle.hs_base.specs.Regions.{Plan, IsRegion, history_at, history_size, last_bytes, region_offset, told_at}
 use Rattle.hs_base.specs.Settling.{IsLeftToEnd}
 use Rattle.hs_base.specs.Told.{Pair, IsTold, IsNew}
 use Rattle.hs_engine.specs.Engines.{Meaning}
@@ -23,8 +24,8 @@ use Rattle.hs_scan.specs.Programs.{RunsPlan, plan_layout}
 use Rattle.hs_scan.specs.declared.program.FieldCopy.{FieldCopy}
 use Rattle.hs_scan.specs.declared.program.Program.{Program}
 
--- Where a scan is: at an offset behind the last bytes, with what is kept of the nodes in a region, of which nothing else
--- counts, and with what is known of the identifiers in two rows of bits.
+-- Where a scan is: at an offset behind the last bytes, with what is kept of the nodes in a region, of which nothing
+-- else counts, and with what is known of the identifiers in two rows of bits.
 pub record Stand : Type 0 where
   pub at : ℕ
   pub past : List ℕ
@@ -75,8 +76,8 @@ module _ {E : Type 0} (meaning : E → Meaning) (program : Program E) where
     pub known : AreKnown plan.patterns (u ++ bytes) program.identifiers.items told here
     pub new_are : IsNew plan.patterns u bytes pairs
 
-  -- A chunk at that offset behind `prev`, in which the literals end as the hits tell: whatever plan the program runs, and
-  -- behind whatever stream that ends there.
+  -- A chunk at that offset behind `prev`, in which the literals end as the hits tell: whatever plan the program runs,
+  -- and behind whatever stream that ends there.
   abbrev pub ScansChunk : (old new : List ℕ) (prev : Prev) (at : ℕ) (bytes : List ℕ) (hits : List ChunkHits)
       (told here told' here' : List ℕ) → List Pair → Type 0
   ScansChunk old new prev at bytes hits told here told' here' pairs =

@@ -18,6 +18,15 @@ use hs_nodes::{Chunk, ChunkEnds, Found, MarkSet, everywhere, walk};
 use hs_reports::Events;
 use std::sync::ledger::Ledger;
 
+/// What goes from chunk to chunk beside the region.
+#[derive(Drop)]
+pub(crate) struct Course {
+    /// The nodes that are run.
+    pub marks: MarkSet,
+    /// What is known of the identifiers.
+    pub known: Known,
+}
+
 /// Makes all ends those of nodes that are left nowhere.
 fn forget_ends(ends: &mut [ChunkEnds])
     ensures len { length ends.new ≡ length ends.old }
@@ -36,8 +45,7 @@ pub(crate) fn take_chunk<E: BlockEngine, V: Events, L: Ledger>(
     found: &Found,
     region: &mut [u8],
     ends: &mut [ChunkEnds],
-    marks: &mut MarkSet,
-    known: &mut Known,
+    course: &mut Course,
     events: &mut V,
     steps: &mut Steps<L>,
 )
@@ -45,24 +53,40 @@ pub(crate) fn take_chunk<E: BlockEngine, V: Events, L: Ledger>(
     requires sound { AreTerminalsSound E.meaning program.now }
     requires few { length program.now.table.nodes.items < 2 ^ 32 }
     requires well { AreNodesWell E.meaning program.now.table region.old chunk.now.at }
-    requires room { FitsRoom program.now ends.old marks.old }
+    requires room { FitsRoom program.now ends.old course.old.marks }
     requires contexts { AreChunkContexts found.now.contexts.now chunk.now.prev chunk.now.at chunk.now.bytes.now }
-    requires fits { FitsKnown (length program.now.identifiers.items) known.old }
-    requires pending { IsPending known.old }
+    requires fits { FitsKnown (length program.now.identifiers.items) course.old.known }
+    requires pending { IsPending course.old.known }
     ensures len { length region.new ≡ length region.old }
     ensures well { AreNodesWell E.meaning program.now.table region.new
         (chunk.now.at + length chunk.now.bytes.now) }
     ensures outside { (i : ℕ) → IsOutside program.now.table.nodes.items i →
         slice_index region.new i ≡ slice_index region.old i }
-    ensures room { FitsRoom program.now ends.new marks.new }
-    ensures fits { FitsKnown (length program.now.identifiers.items) known.new }
-    ensures pending { IsPending known.new }
+    ensures room { FitsRoom program.now ends.new course.new.marks }
+    ensures fits { FitsKnown (length program.now.identifiers.items) course.new.known }
+    ensures pending { IsPending course.new.known }
     ensures scans { Takes V.tells events.old events.new (ScansChunk E.meaning program.now region.old region.new
-        chunk.now.prev chunk.now.at chunk.now.bytes.now found.now.hits.now known.old.told.items
-        known.old.here.items known.new.told.items known.new.here.items) }
+        chunk.now.prev chunk.now.at chunk.now.bytes.now found.now.hits.now course.old.known.told.items
+        course.old.known.here.items course.new.known.told.items course.new.known.here.items) }
 {
-    walk(&program.table, chunk, found, region, ends, marks, steps);
+    walk(
+        &program.table,
+        chunk,
+        found,
+        region,
+        ends,
+        &mut course.marks,
+        steps,
+    );
     let all = everywhere(chunk);
-    tell_chunk(program, chunk, marks, ends, &all, known, events);
+    tell_chunk(
+        program,
+        chunk,
+        &course.marks,
+        ends,
+        &all,
+        &mut course.known,
+        events,
+    );
     forget_ends(ends);
 }

@@ -49,7 +49,8 @@ fn read_one(
     requires here { p < 64 * length here.old }
     ensures told_len { length told.new ≡ length told.old }
     ensures here_len { length here.new ≡ length here.old }
-    ensures read { IsRead layout.now region.now identifier p single (has_word_bit told.new p) (has_word_bit here.new p) }
+    ensures read { IsRead layout.now region.now identifier p single (has_word_bit told.new p)
+        (has_word_bit here.new p) }
     ensures told { (k : ℕ) → (k ≡ p → ⊥) → has_word_bit told.new k ≡ has_word_bit told.old k }
     ensures here { (k : ℕ) → (k ≡ p → ⊥) → has_word_bit here.new k ≡ has_word_bit here.old k }
 {

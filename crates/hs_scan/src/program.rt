@@ -24,8 +24,8 @@ pub struct Program<E> {
     pub identifiers: Vec<Identifier>,
     /// Where the chains of the list end, by rising node. A chain of no pieces ends at the number of the nodes.
     pub terminals: Vec<Terminal>,
-    /// Where in the list of terminals those of each node begin, then where those of the chains of no pieces do, and where
-    /// these end.
+    /// Where in the list of terminals those of each node begin, then where those of the chains of no pieces do, and
+    /// where these end.
     pub terminal_starts: Vec<u32>,
     /// The fields that are the same as a node's, by rising field: a node keeps its bytes in one field alone.
     pub copies: Vec<FieldCopy>,

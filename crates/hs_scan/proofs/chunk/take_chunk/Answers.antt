@@ -8,7 +8,7 @@ use Rattle.hs_scan.proofs.ScanLemmas.{all-rest, chunk-takes}
 use Rattle.hs_scan.proofs.chunk.take_chunk.Goals as goal
 
 pub walk-requires-clause-rests : goal.walk-requires-clause-rests
-walk-requires-clause-rests g c = all-rest g.E.Engine.meaning c.args.program.now c.args.marks.now c.args.found.now.hits.now c.args.region.now c.args.chunk.now.bytes.now c.requires.room.all
+walk-requires-clause-rests g c = all-rest g.E.Engine.meaning c.args.program.now c.args.course.now.marks c.args.found.now.hits.now c.args.region.now c.args.chunk.now.bytes.now c.requires.room.all
 
 pub returns-clause-scans : goal.returns-clause-scans
 returns-clause-scans g c =
@@ -16,7 +16,7 @@ returns-clause-scans g c =
     let program = c.args.program.now in
     let chunk = c.args.chunk.now in
     let hits = c.args.found.now.hits.now in
-    let known = c.args.known.now in
+    let known = c.args.course.now.known in
     let then = c.tell_chunk.new.known in
     let ends = c.walk.new.ends in
     let all = c.everywhere-all.result in
