@@ -1,7 +1,9 @@
 -- Tables that are filled for a chunk: contexts, and hits.
-use Rattle.std.proofs.Common.{◌≡◌, ◌⊎◌, ℕ, zero, suc, ◌+◌, ◌*◌, ◌<◌, ◌≤◌, Bool, true, false, List, [], ◌∷◌, length, set, Some, slice_get, refl, sym, ap, subst, ◌∙◌, inl, inr, arith}
+use Rattle.std.proofs.Common.{◌≡◌, ◌⊎◌, ℕ, zero, suc, ◌+◌, ◌*◌, ◌<◌, ◌≤◌, Bool, true, false, List, [], ◌∷◌, ◌++◌, length, set, take, drop, Some, slice_get, refl, sym, ap, subst, ◌∙◌, inl, inr, arith}
 use Rattle.std.specs.Prelude.{slice_index_or}
+use Rattle.std.proofs.Math.ListN.{drop_of_length-le}
 use Rattle.std.proofs.lemmas.Bool.{cases_eq}
+use Rattle.std.proofs.lemmas.List.{append-nil, take_all}
 use Rattle.std.proofs.lemmas.Option.{slice_get_within}
 use Rattle.hs_base.specs.declared.context.Prev.{Prev}
 use Rattle.hs_base.specs.Contexts.{prev_at}
@@ -53,3 +55,9 @@ filled-more contexts prev at bytes j n c next below len own are = record {
 
 pub filled-all : (contexts : List Contexts) (prev : Prev) (at : ℕ) (bytes : List ℕ) (n : ℕ) → length bytes ≤ 64 * n → AreFilled contexts prev at bytes n → AreChunkContexts contexts prev at bytes
 filled-all contexts prev at bytes n enough are = record { each = λ j inside. are.each j (omega (arith, enough, inside)) }
+
+-- a table that was written as a whole
+pub whole : {A : Type 0} (new old : List A) (n : ℕ) → length new ≡ length old → n ≡ length old → take n (new ++ drop (length new) old) ≡ new
+whole new old n len count =
+    let none : drop (length new) old ≡ [] = drop_of_length-le old (omega (arith, len)) in
+    ap (λ zs. take n (new ++ zs)) none ∙ (ap (take n) (append-nil new) ∙ take_all n new (omega (arith, len, count)))

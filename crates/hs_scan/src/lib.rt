@@ -10,5 +10,7 @@ mod keeping;
 mod known;
 mod past;
 mod program;
+mod scratch;
 
 pub use program::{FieldCopy, Program};
+pub use scratch::Scratch;
