@@ -12,7 +12,7 @@ use Rattle.hs_nodes.specs.Walks.{ends_of}
 use Rattle.hs_nodes.specs.declared.ends.ChunkEnds.{ChunkEnds}
 use Rattle.hs_scan.specs.Hits.{HasNowhere}
 use Rattle.hs_scan.specs.Knowing.{FitsKnown}
-use Rattle.hs_scan.specs.Scans.{AreHitsBehind}
+use Rattle.hs_scan.specs.Scans.{AreHitsBehind, Stand, stand}
 use Rattle.hs_scan.specs.declared.program.Program.{Program}
 use Rattle.hs_scan.specs.declared.scratch.Scratch.{Scratch}
 
@@ -71,3 +71,15 @@ pub record FillsContexts (prev : Prev) (at : ℕ) (bytes : List ℕ) (old new : 
   pub course : new.course ≡ old.course
   pub past : new.past ≡ old.past
   pub at_is : new.at ≡ old.at
+
+-- Only what nodes leave and what goes from chunk to chunk are other ones.
+pub record KeepsTables (old new : Scratch) : Type 0 where
+  pub hits : new.hits ≡ old.hits
+  pub rows : new.rows ≡ old.rows
+  pub contexts : new.contexts ≡ old.contexts
+  pub past : new.past ≡ old.past
+  pub at_is : new.at ≡ old.at
+
+-- where a scan is that has this scratch and that region
+abbrev pub stand_of : Scratch → (region : List ℕ) → Stand
+stand_of s region = stand s.at s.past region s.course.known.told.items s.course.known.here.items

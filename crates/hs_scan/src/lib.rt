@@ -10,6 +10,7 @@ mod keeping;
 mod known;
 mod past;
 mod program;
+mod scanning;
 mod scratch;
 
 pub use program::{FieldCopy, Program};
