@@ -1,5 +1,5 @@
 -- Tables that are filled for a chunk: contexts, and hits.
-use Rattle.std.proofs.Common.{◌≡◌, ◌⊎◌, ℕ, zero, suc, ◌+◌, ◌*◌, ◌<◌, ◌≤◌, Bool, true, false, List, [], ◌∷◌, ◌++◌, length, set, take, drop, Some, slice_get, refl, sym, ap, subst, ◌∙◌, inl, inr, arith}
+use Rattle.std.proofs.Common.{◌≡◌, ◌⊎◌, ℕ, zero, suc, ◌+◌, ◌*◌, ◌<◌, ◌≤◌, Bool, true, false, List, [], ◌∷◌, ◌++◌, length, get_or, set, take, drop, Some, slice_get, refl, sym, ap, subst, ◌∙◌, inl, inr, arith}
 use Rattle.std.specs.Prelude.{slice_index_or}
 use Rattle.std.proofs.Math.ListN.{drop_of_length-le}
 use Rattle.std.proofs.lemmas.Bool.{cases_eq}
@@ -7,6 +7,7 @@ use Rattle.std.proofs.lemmas.List.{append-nil, take_all}
 use Rattle.std.proofs.lemmas.Option.{slice_get_within}
 use Rattle.hs_base.specs.declared.context.Prev.{Prev}
 use Rattle.hs_base.specs.Contexts.{prev_at}
+use Rattle.hs_base.specs.Lists.{Each}
 use Rattle.hs_block.specs.BlockContexts.{AreContexts}
 use Rattle.hs_block.specs.declared.contexts.Contexts.{Contexts}
 use Rattle.hs_nodes.specs.Blocks.{EndsBehind, block, front}
@@ -61,3 +62,7 @@ pub whole : {A : Type 0} (new old : List A) (n : ℕ) → length new ≡ length 
 whole new old n len count =
     let none : drop (length new) old ≡ [] = drop_of_length-le old (omega (arith, len)) in
     ap (λ zs. take n (new ++ zs)) none ∙ (ap (take n) (append-nil new) ∙ take_all n new (omega (arith, len, count)))
+
+pub each-by : (bytes : List ℕ) → ((i : ℕ) → get_or bytes i 0 < 256) → Each (λ b. b < 256) bytes
+each-by [] below = tt
+each-by (b ∷ bytes) below = (below 0, each-by bytes (λ i. below (suc i)))

@@ -17,7 +17,7 @@ use crate::scratch::{Scratch, fill, find_hits, forget};
 use hs_block::BlockEngine;
 use hs_engine::Steps;
 use hs_layout::Layout;
-use hs_nodes::{Chunk, Found};
+use hs_nodes::{Chunk, Found, MAX_CHUNK};
 use hs_reports::Events;
 use std::sync::ledger::Ledger;
 
@@ -107,4 +107,48 @@ pub(crate) fn scan_chunk<E: BlockEngine, V: Events, L: Ledger>(
     forget(program, scratch);
     push_past(&mut scratch.past, bytes);
     scratch.at += bytes.len() as u64;
+}
+
+/// Takes bytes, 512 at a time.
+pub(crate) fn scan_bytes<E: BlockEngine, V: Events, L: Ledger>(
+    program: &Program<E>,
+    layout: &Layout,
+    region: &mut [u8],
+    scratch: &mut Scratch,
+    bytes: &[u8],
+    events: &mut V,
+    steps: &mut Steps<L>,
+)
+    requires sound { IsProgramSound E.meaning program.now layout.now }
+    requires sized { length region.old ≡ laid_size layout.now }
+    requires well { AreNodesWell E.meaning program.now.table region.old scratch.old.at }
+    requires fits { FitsScratch program.now scratch.old }
+    requires pending { IsPending scratch.old.course.known }
+    requires none { HasNoHits scratch.old }
+    requires room { scratch.old.at + length bytes.now ≤ 2 ^ 63 }
+    ensures len { length region.new ≡ length region.old }
+    ensures well { AreNodesWell E.meaning program.now.table region.new scratch.new.at }
+    ensures outside { (i : ℕ) → IsOutside program.now.table.nodes.items i →
+        slice_index region.new i ≡ slice_index region.old i }
+    ensures fits { FitsScratch program.now scratch.new }
+    ensures pending { IsPending scratch.new.course.known }
+    ensures none { HasNoHits scratch.new }
+    ensures at { scratch.new.at ≡ scratch.old.at + length bytes.now }
+    ensures scans { Takes V.tells events.old events.new (Scans E.meaning program.now
+        (stand_of scratch.old region.old) (stand_of scratch.new region.new) bytes.now) }
+{
+    let mut from = 0;
+    while from < bytes.len() {
+        let end = (from + MAX_CHUNK).min(bytes.len());
+        scan_chunk(
+            program,
+            layout,
+            region,
+            scratch,
+            &bytes[from..end],
+            events,
+            steps,
+        );
+        from = end;
+    }
 }
