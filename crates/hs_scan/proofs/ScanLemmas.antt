@@ -1,6 +1,7 @@
 -- Scans join, and lead from the region of a stream to that of the longer one.
-use Rattle.std.proofs.Common.{◌≡◌, ◌↔◌, ℕ, ◌+◌, ◌<◌, ◌≤◌, Bool, true, false, List, [], ◌∷◌, ◌++◌, length, drop, Some, slice_get, refl, sym, ap, subst, ◌∙◌, arith, append_assoc, length-append}
+use Rattle.std.proofs.Common.{◌≡◌, ◌↔◌, ℕ, ◌+◌, ◌-◌, ◌<◌, ◌≤◌, Bool, true, false, List, [], ◌∷◌, ◌++◌, length, take, drop, Some, slice_get, refl, sym, ap, subst, ◌∙◌, arith, append_assoc, length-append}
 use Rattle.std.specs.Prelude.{slice_range}
+use Rattle.std.proofs.Math.Seq.{take-add}
 use Rattle.std.proofs.lemmas.List.{append-nil}
 use Rattle.std.proofs.lemmas.Option.{slice_get_within}
 use Rattle.hs_base.specs.declared.context.Prev.{Prev}
@@ -102,3 +103,9 @@ module _ {E : Type 0} (meaning : E → Meaning) (program : Program E) where
             (omega (arith, room, end.reached.offset));
         new = end.new;
       }
+
+  -- A piece of the bytes more.
+  pub scans-more : (a b c : Stand) (bytes : List ℕ) (from end : ℕ) (ps qs : List Pair) → from ≤ end → Scans meaning program a b (take from bytes) ps → Scans meaning program b c (take (end - from) (drop from bytes)) qs → Scans meaning program a c (take end bytes) (ps ++ qs)
+  scans-more a b c bytes from end ps qs order first second =
+      let e : end ≡ from + (end - from) = omega arith in
+      subst (λ xs. Scans meaning program a c xs (ps ++ qs)) (sym (ap (λ n. take n bytes) e ∙ take-add from (end - from) bytes)) (scans-join a b c (take from bytes) (take (end - from) (drop from bytes)) ps qs first second)

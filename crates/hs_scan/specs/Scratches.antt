@@ -25,7 +25,7 @@ pub record FitsRoom {E : Type 0} (program : Program E) (ends : List ChunkEnds) (
   pub all : (k : ℕ) → k < length program.table.nodes.items → is_marked marks k ≡ true
 
 -- There is room for the program, and its hits.
-pub record FitsScratch {E : Type 0} (program : Program E) (s : Scratch) : Type 0 where
+pub record ServesProgram {E : Type 0} (program : Program E) (s : Scratch) : Type 0 where
   pub room : FitsRoom program s.ends.items s.course.marks
   pub contexts : length s.contexts.items ≡ 8
   pub hits : length s.hits.items ≡ s.rows.count

@@ -8,7 +8,7 @@ ghost use Rattle.hs_reports.specs.Events.{Takes};
 ghost use Rattle.hs_scan.specs.Knowing.{IsPending};
 ghost use Rattle.hs_scan.specs.Programs.{IsProgramSound};
 ghost use Rattle.hs_scan.specs.Scans.{Scans, ScansChunk};
-ghost use Rattle.hs_scan.specs.Scratches.{FitsScratch, HasNoHits, KeepsTables, stand_of};
+ghost use Rattle.hs_scan.specs.Scratches.{ServesProgram, HasNoHits, KeepsTables, stand_of};
 
 use crate::chunk::take_chunk;
 use crate::past::{prev_of, push_past};
@@ -34,7 +34,7 @@ fn run_chunk<E: BlockEngine, V: Events, L: Ledger>(
     requires sound { IsProgramSound E.meaning program.now layout.now }
     requires sized { length region.old ≡ laid_size layout.now }
     requires well { AreNodesWell E.meaning program.now.table region.old chunk.now.at }
-    requires fits { FitsScratch program.now scratch.old }
+    requires fits { ServesProgram program.now scratch.old }
     requires pending { IsPending scratch.old.course.known }
     requires contexts { AreChunkContexts scratch.old.contexts.items chunk.now.prev chunk.now.at chunk.now.bytes.now }
     ensures len { length region.new ≡ length region.old }
@@ -42,7 +42,7 @@ fn run_chunk<E: BlockEngine, V: Events, L: Ledger>(
         (chunk.now.at + length chunk.now.bytes.now) }
     ensures outside { (i : ℕ) → IsOutside program.now.table.nodes.items i →
         slice_index region.new i ≡ slice_index region.old i }
-    ensures fits { FitsScratch program.now scratch.new }
+    ensures fits { ServesProgram program.now scratch.new }
     ensures pending { IsPending scratch.new.course.known }
     ensures keeps { KeepsTables scratch.old scratch.new }
     ensures scans { Takes V.tells events.old events.new (ScansChunk E.meaning program.now region.old region.new
@@ -80,7 +80,7 @@ pub(crate) fn scan_chunk<E: BlockEngine, V: Events, L: Ledger>(
     requires sound { IsProgramSound E.meaning program.now layout.now }
     requires sized { length region.old ≡ laid_size layout.now }
     requires well { AreNodesWell E.meaning program.now.table region.old scratch.old.at }
-    requires fits { FitsScratch program.now scratch.old }
+    requires fits { ServesProgram program.now scratch.old }
     requires pending { IsPending scratch.old.course.known }
     requires none { HasNoHits scratch.old }
     requires few { length bytes.now ≤ 512 }
@@ -89,7 +89,7 @@ pub(crate) fn scan_chunk<E: BlockEngine, V: Events, L: Ledger>(
     ensures well { AreNodesWell E.meaning program.now.table region.new scratch.new.at }
     ensures outside { (i : ℕ) → IsOutside program.now.table.nodes.items i →
         slice_index region.new i ≡ slice_index region.old i }
-    ensures fits { FitsScratch program.now scratch.new }
+    ensures fits { ServesProgram program.now scratch.new }
     ensures pending { IsPending scratch.new.course.known }
     ensures none { HasNoHits scratch.new }
     ensures at { scratch.new.at ≡ scratch.old.at + length bytes.now }
@@ -122,7 +122,7 @@ pub(crate) fn scan_bytes<E: BlockEngine, V: Events, L: Ledger>(
     requires sound { IsProgramSound E.meaning program.now layout.now }
     requires sized { length region.old ≡ laid_size layout.now }
     requires well { AreNodesWell E.meaning program.now.table region.old scratch.old.at }
-    requires fits { FitsScratch program.now scratch.old }
+    requires fits { ServesProgram program.now scratch.old }
     requires pending { IsPending scratch.old.course.known }
     requires none { HasNoHits scratch.old }
     requires room { scratch.old.at + length bytes.now ≤ 2 ^ 63 }
@@ -130,7 +130,7 @@ pub(crate) fn scan_bytes<E: BlockEngine, V: Events, L: Ledger>(
     ensures well { AreNodesWell E.meaning program.now.table region.new scratch.new.at }
     ensures outside { (i : ℕ) → IsOutside program.now.table.nodes.items i →
         slice_index region.new i ≡ slice_index region.old i }
-    ensures fits { FitsScratch program.now scratch.new }
+    ensures fits { ServesProgram program.now scratch.new }
     ensures pending { IsPending scratch.new.course.known }
     ensures none { HasNoHits scratch.new }
     ensures at { scratch.new.at ≡ scratch.old.at + length bytes.now }

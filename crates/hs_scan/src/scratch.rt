@@ -5,7 +5,7 @@ ghost use Rattle.hs_nodes.specs.Contexts.{AreChunkContexts};
 ghost use Rattle.hs_literals.specs.HitTables.{has_hit};
 ghost use Rattle.hs_scan.specs.Hits.{HasNowhere};
 ghost use Rattle.hs_scan.specs.Programs.{IsProgramSound};
-ghost use Rattle.hs_scan.specs.Scratches.{FillsContexts, FindsHits, FitsScratch, ForgetsHits, HasNoHits};
+ghost use Rattle.hs_scan.specs.Scratches.{FillsContexts, FindsHits, ServesProgram, ForgetsHits, HasNoHits};
 
 use crate::chunk::Course;
 use crate::contexts::fill_contexts;
@@ -37,9 +37,14 @@ pub struct Scratch {
 }
 
 /// Finds where the literals end in the next bytes.
-pub(crate) fn find_hits<E: BlockEngine>(program: &Program<E>, layout: &Layout, scratch: &mut Scratch, bytes: &[u8])
+pub(crate) fn find_hits<E: BlockEngine>(
+    program: &Program<E>,
+    layout: &Layout,
+    scratch: &mut Scratch,
+    bytes: &[u8],
+)
     requires sound { IsProgramSound E.meaning program.now layout.now }
-    requires fits { FitsScratch program.now scratch.old }
+    requires fits { ServesProgram program.now scratch.old }
     requires none { HasNoHits scratch.old }
     requires few { length bytes.now ≤ 512 }
     ensures { FindsHits E.meaning program.now bytes.now scratch.old scratch.new }
@@ -51,7 +56,7 @@ pub(crate) fn find_hits<E: BlockEngine>(program: &Program<E>, layout: &Layout, s
 
 /// Takes the hits back.
 pub(crate) fn forget<E: BlockEngine>(program: &Program<E>, scratch: &mut Scratch)
-    requires fits { FitsScratch program.now scratch.old }
+    requires fits { ServesProgram program.now scratch.old }
     requires others { (k : ℕ) → has_hit scratch.old.rows k ≡ false → HasNowhere scratch.old.hits.items k }
     ensures { ForgetsHits scratch.old scratch.new }
 {
@@ -61,7 +66,7 @@ pub(crate) fn forget<E: BlockEngine>(program: &Program<E>, scratch: &mut Scratch
 
 /// Writes the contexts of the blocks of a chunk.
 pub(crate) fn fill<E: BlockEngine>(program: &Program<E>, scratch: &mut Scratch, chunk: &Chunk)
-    requires { FitsScratch program.now scratch.old }
+    requires { ServesProgram program.now scratch.old }
     ensures { FillsContexts chunk.now.prev chunk.now.at chunk.now.bytes.now scratch.old scratch.new }
 {
     let _ = &program.identifiers;

@@ -4,7 +4,7 @@ use Rattle.hs_nodes.specs.Walks.{AreNodesWell, IsOutside}
 use Rattle.hs_reports.specs.Events.{Takes}
 use Rattle.hs_scan.specs.Knowing.{IsPending}
 use Rattle.hs_scan.specs.Scans.{Scans}
-use Rattle.hs_scan.specs.Scratches.{FitsScratch, HasNoHits, stand_of}
+use Rattle.hs_scan.specs.Scratches.{ServesProgram, HasNoHits, stand_of}
 use Rattle.hs_scan.proofs.scanning.scan_bytes.Given as goal
 
 abbrev pub invariant-loop-from : goal.invariant-loop-from
@@ -13,7 +13,7 @@ invariant-loop-from g l = record {
   len : length l.region ≡ length l.fn.region;
   well : AreNodesWell g.E.Engine.meaning l.program.table l.region l.scratch.at;
   outside : (i : ℕ) → IsOutside l.program.table.nodes.items i → slice_index l.region i ≡ slice_index l.fn.region i;
-  fits : FitsScratch l.program l.scratch;
+  fits : ServesProgram l.program l.scratch;
   pending : IsPending l.scratch.course.known;
   none : HasNoHits l.scratch;
   at_is : l.scratch.at ≡ l.fn.scratch.at + l.from;
