@@ -81,7 +81,7 @@ returns-in-Engine-clause-takes g c =
     let sound = subst (λ (k : NodeKind). IsKindSound m engines (length c.args.found.now.hits.now) k (length c.args.part.now)) c.in-Engine.is c.requires.sound in
     subst (λ (k : NodeKind). TakesPiece m engines k c.args.part.now c.run_engine.new.region c.args.chunk.now.prev c.args.chunk.now.at c.args.chunk.now.bytes.now c.args.found.now.hits.now c.args.enters.now c.run_engine.result) (sym c.in-Engine.is)
     (engine-takes m engines c.in-Engine.number c.in-Engine.null c.args.part.now c.run_engine.new.region c.args.chunk.now.prev c.args.chunk.now.at c.args.chunk.now.bytes.now c.args.found.now.hits.now c.args.enters.now c.null_ends-null.result c.run_engine.result
-      c.index-engines-number.result (slice_get_read engines (length engines) c.in-Engine.number c.index-engines-number.result refl sound.there c.index-engines-number.is) c.null_ends-null.ensures c.run_engine.ensures.takes)
+    c.index-engines-number.result (slice_get_read engines (length engines) c.in-Engine.number c.index-engines-number.result refl sound.there c.index-engines-number.is) c.null_ends-null.ensures c.run_engine.ensures.takes)
 
 pub returns-in-Literal-clause-len : goal.returns-in-Literal-clause-len
 returns-in-Literal-clause-len g c =
@@ -98,7 +98,7 @@ returns-in-Literal-clause-takes g c =
     let sound = subst (λ (k : NodeKind). IsKindSound m engines (length hits) k (length c.args.part.now)) c.in-Literal.is c.requires.sound in
     subst (λ (k : NodeKind). TakesPiece m engines k c.args.part.now c.run_literal_part.new.part c.args.chunk.now.prev c.args.chunk.now.at c.args.chunk.now.bytes.now hits c.args.enters.now c.run_literal_part.result) (sym c.in-Literal.is)
     (literal-takes m engines c.in-Literal.number c.in-Literal.len c.args.part.now c.run_literal_part.new.part c.args.chunk.now.prev c.args.chunk.now.at c.args.chunk.now.bytes.now hits c.args.enters.now c.run_literal_part.result
-      _ (slice_get-get_or hits c.in-Literal.number _ sound.0) c.run_literal_part.ensures.takes)
+    _ (slice_get-get_or hits c.in-Literal.number _ sound.0) c.run_literal_part.ensures.takes)
 
 pub returns-in-FirstLiteral-clause-well : goal.returns-in-FirstLiteral-clause-well
 returns-in-FirstLiteral-clause-well g c = subst (λ (k : NodeKind). IsWellPart g.E.Engine.meaning c.args.engines.now k c.args.part.now (c.args.chunk.now.at + length c.args.chunk.now.bytes.now)) (sym c.in-FirstLiteral.is) tt
@@ -111,4 +111,4 @@ returns-in-FirstLiteral-clause-takes g c =
     let sound = subst (λ (k : NodeKind). IsKindSound m engines (length hits) k (length c.args.part.now)) c.in-FirstLiteral.is c.requires.sound in
     subst (λ (k : NodeKind). TakesPiece m engines k c.args.part.now c.args.part.now c.args.chunk.now.prev c.args.chunk.now.at c.args.chunk.now.bytes.now hits c.args.enters.now c.run_entries.result) (sym c.in-FirstLiteral.is)
     (first-takes m engines c.in-FirstLiteral.number c.in-FirstLiteral.len c.every_entry-carry.result c.run_entries.new.carry c.args.part.now c.args.part.now c.args.chunk.now.prev c.args.chunk.now.at c.args.chunk.now.bytes.now hits c.args.enters.now c.run_entries.result
-      _ (slice_get-get_or hits c.in-FirstLiteral.number _ sound.0) c.every_entry-carry.ensures.tells c.run_entries.ensures.takes)
+    _ (slice_get-get_or hits c.in-FirstLiteral.number _ sound.0) c.every_entry-carry.ensures.tells c.run_entries.ensures.takes)
