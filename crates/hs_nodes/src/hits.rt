@@ -8,7 +8,7 @@ use crate::chunk::MAX_BLOCKS;
 use hs_block::{Hits, contains_place};
 
 /// Where a literal ends in a chunk.
-#[derive(Clone, Copy, Debug, PartialEq, Eq)]
+#[derive(Clone, Copy, Debug)]
 pub struct ChunkHits {
     /// It ends where the chunk begins.
     pub at_start: bool,

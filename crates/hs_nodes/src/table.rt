@@ -3,7 +3,7 @@
 use hs_base::Mask;
 
 /// What a node runs, by its number among the engines or the literals of its table.
-#[derive(Clone, Copy, Debug, PartialEq, Eq)]
+#[derive(Clone, Copy, Debug)]
 pub enum NodeKind {
     /// An engine, with its field; and the contexts in which its piece has the empty span, if there are any.
     Engine(u32, Option<Mask>),
@@ -14,7 +14,7 @@ pub enum NodeKind {
 }
 
 /// A node: a piece behind others. Equal pieces behind equal ones are one node.
-#[derive(Clone, Copy, Debug, PartialEq, Eq)]
+#[derive(Clone, Copy, Debug)]
 pub struct Node {
     /// The node of the pieces before it, if there are any.
     pub parent: Option<u32>,

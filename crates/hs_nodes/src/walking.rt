@@ -5,8 +5,8 @@ ghost use Rattle.hs_nodes.specs.Contexts.{AreChunkContexts, NeedsContexts};
 ghost use Rattle.hs_nodes.specs.Left.{nowhere};
 ghost use Rattle.hs_nodes.specs.Marks.{is_marked, mark_room};
 ghost use Rattle.hs_nodes.specs.Nodes.{IsWellPart};
-ghost use Rattle.hs_nodes.specs.Walks.{AreMoreMarks, AreNodesWell, ChangesMarked, IsNodeRun, IsTableSound, MayNodesRest};
-ghost use Rattle.hs_nodes.specs.Walks.{TakesNodes, ends_of, entering_ends, node_part};
+ghost use Rattle.hs_nodes.specs.Walks.{AreMoreMarks, AreNodesWell, ChangesMarked, IsNodeRun, IsTableSound};
+ghost use Rattle.hs_nodes.specs.Walks.{MayNodesRest, TakesNodes, entering_ends, node_ends, node_part};
 ghost use Rattle.hs_nodes.specs.declared.table.Node.{Node};
 
 use crate::chunk::Chunk;
@@ -133,7 +133,7 @@ pub fn walk<E: BlockEngine, L: Ledger>(
     requires sound { IsTableSound E.meaning table.now (length found.now.hits.now) (length region.old) }
     requires well { AreNodesWell E.meaning table.now region.old chunk.now.at }
     requires ends { length ends.old ≡ length table.now.nodes.items }
-    requires clear { (k : ℕ) → ends_of ends.old k ≡ nowhere }
+    requires clear { (k : ℕ) → node_ends ends.old k ≡ nowhere }
     requires room { length table.now.nodes.items ≤ mark_room marks.old }
     requires marked { (k : ℕ) → is_marked marks.old k ≡ true → k < length table.now.nodes.items }
     requires rests { MayNodesRest E.meaning table.now marks.old found.now.hits.now region.old chunk.now.bytes.now }
