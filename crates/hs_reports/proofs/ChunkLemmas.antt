@@ -1,7 +1,8 @@
 -- What bytes in a row tell, by an induction on their places.
-use Rattle.std.proofs.Common.{◌≡◌, ℕ, zero, suc, ◌+◌, ◌<◌, ◌≤◌, ◌↔◌, Bool, true, false, not, ◌||◌, ◌&&◌, List, [], ◌∷◌, ◌++◌, length, take, get_or, Some, slice_get, refl, sym, ap, subst, ◌∙◌, inl, inr, arith, append_assoc, length-append, cond}
+use Rattle.std.proofs.Common.{◌≡◌, ℕ, zero, suc, ◌+◌, ◌*◌, ◌<◌, ◌≤◌, ◌↔◌, Bool, true, false, not, ◌||◌, ◌&&◌, List, [], ◌∷◌, ◌++◌, length, take, drop, get_or, Some, slice_get, refl, sym, ap, subst, ◌∙◌, inl, inr, arith, append_assoc, length-append, cond}
 use Rattle.std.proofs.lemmas.Bool.{and_left}
 use Rattle.std.proofs.lemmas.List.{append-nil, take_all, take_more, length-take-le}
+use Rattle.std.proofs.Math.Seq.{take-add}
 use Rattle.hs_base.specs.declared.context.Next.TheVariants as after
 use Rattle.hs_base.specs.Lists.{IsMember}
 use Rattle.hs_base.specs.Contexts.{class_of}
@@ -18,7 +19,7 @@ use Rattle.hs_base.proofs.NewLemmas.{AreByteReports, new_by_reports, told_more, 
 use Rattle.hs_base.proofs.ToldLemmas.{new-joins}
 use Rattle.hs_base.proofs.PairListLemmas.{IsToldAt, pairs-member, pairs-rising_two, values_by, Tell, tell-by, IsNewBefore, IsNewBehind}
 use Rattle.hs_reports.specs.Heard.{IsHeard, IsToldBy}
-use Rattle.hs_reports.specs.Chunks.{kept_behind, late_at, early_at, pairs_where, chunk_pairs, pairs_of_chunk, AreChunkEnds, AreChunkOf, bytes_behind, pairs_of_blocks}
+use Rattle.hs_reports.specs.Chunks.{kept_behind, late_at, early_at, pairs_where, chunk_pairs, pairs_of_chunk, AreChunkEnds, AreChunkOf, pairs_of_blocks}
 use Rattle.hs_reports.proofs.HeardLemmas.{byte-tells}
 
 -- beginnings of the bytes
@@ -189,16 +190,13 @@ chunk-new P u bytes ids single old ends told chunk is =
     (chunk-begun P u bytes ids single old ends chunk told is (length bytes) (omega arith))
 
 -- blocks in a row
-
-bytes-behind : (u : List ℕ) (blocks : ℕ → List ℕ) (n : ℕ) → bytes_behind u blocks n ≡ u ++ bytes_behind [] blocks n
-bytes-behind u blocks zero = sym (append-nil u)
-bytes-behind u blocks (suc n) =
-    ap (λ w. w ++ blocks n) (bytes-behind u blocks n) ∙ append_assoc u (bytes_behind [] blocks n) (blocks n)
-
-pub blocks-new : (P : List Pattern) (u : List ℕ) (blocks : ℕ → List ℕ) (pairs : ℕ → List Pair) (told : List Pair) (n : ℕ) → IsTold P u told →
-    ((j : ℕ) → j < n → IsNew P (bytes_behind u blocks j) (blocks j) (pairs j)) → IsNew P u (bytes_behind [] blocks n) (pairs_of_blocks pairs n)
-blocks-new P u blocks pairs told zero is each = new_nothing P u told is
-blocks-new P u blocks pairs told (suc n) is each =
-    new-joins P u (bytes_behind [] blocks n) (blocks n) (pairs_of_blocks pairs n) (pairs n)
-    (blocks-new P u blocks pairs told n is (λ j below. each j (omega arith)))
-    (subst (λ w. IsNew P w (blocks n) (pairs n)) (bytes-behind u blocks n) (each n (omega arith)))
+pub blocks-new : (P : List Pattern) (u bytes : List ℕ) (size n : ℕ) (pairs : ℕ → List Pair) (told : List Pair) → IsTold P u told →
+    ((j : ℕ) → j < n → IsNew P (u ++ take (size * j) bytes) (take size (drop (size * j) bytes)) (pairs j)) → IsNew P u (take (size * n) bytes) (pairs_of_blocks pairs n)
+blocks-new P u bytes size zero pairs told is each =
+    let none : size * 0 ≡ 0 = omega arith in
+    subst (λ k. IsNew P u (take k bytes) []) (sym none) (new_nothing P u told is)
+blocks-new P u bytes size (suc n) pairs told is each =
+    let next : size * suc n ≡ size * n + size = omega arith in
+    subst (λ xs. IsNew P u xs (pairs_of_blocks pairs n ++ pairs n)) (sym (ap (λ k. take k bytes) next ∙ take-add (size * n) size bytes))
+    (new-joins P u (take (size * n) bytes) (take size (drop (size * n) bytes)) (pairs_of_blocks pairs n) (pairs n)
+    (blocks-new P u bytes size n pairs told is (λ j below. each j (omega arith))) (each n (omega arith)))

@@ -6,7 +6,7 @@ use Rattle.std.proofs.lemmas.List.Folds.{list_any_more}
 use Rattle.hs_base.specs.Lists.{Each}
 use Rattle.hs_base.proofs.ByteSetLemmas.{or-false}
 use Rattle.hs_reports.specs.declared.terminal.Terminal.{Terminal}
-use Rattle.hs_reports.specs.EndTables.{no_terminal, EndTable, words_of, IsBlank, AddsEnds}
+use Rattle.hs_reports.specs.EndTables.{no_terminal, EndTable, words_of, HasNoEnds, AddsEnds}
 use Rattle.hs_reports.specs.Gathering.{AreOfNode, AreEndsBelow}
 use Rattle.hs_reports.specs.Terminals.{is_within_bounds, is_end_at, AreEndsOf}
 use Rattle.hs_reports.specs.WordBits.{word_bit}
@@ -106,13 +106,13 @@ test-passed words p at i from to order none t = elim (cases_lt t.node from) [
       ])
 ]
 
-pub gathering-begins : (terminals : List Terminal) (befores behinds : ℕ → ℕ) (at count : ℕ) (table : EndTable) → IsBlank table count → AreEndsBelow terminals befores behinds at 0 table
-gathering-begins terminals befores behinds at count table blank = record {
+pub gathering-begins : (terminals : List Terminal) (befores behinds : ℕ → ℕ) (at : ℕ) (table : EndTable) → HasNoEnds table → AreEndsBelow terminals befores behinds at 0 table
+gathering-begins terminals befores behinds at table none = record {
   before_is = λ p i below.
-      ap (λ w. word_bit w.before i) (blank.words p) ∙ (bit-zero i
+      ap (λ w. word_bit w.before i) (none p) ∙ (bit-zero i
       ∙ sym (any-never (λ t. ltb t.node 0 && is_end_at befores p (at + i) i t) terminals (λ t. ap (λ b. b && is_end_at befores p (at + i) i t) (le-ltb t.node 0 (omega arith)))));
   behind_is = λ p i below.
-      ap (λ w. word_bit w.behind i) (blank.words p) ∙ (bit-zero i
+      ap (λ w. word_bit w.behind i) (none p) ∙ (bit-zero i
       ∙ sym (any-never (λ t. ltb t.node 0 && is_end_at behinds p (at + i + 1) i t) terminals (λ t. ap (λ b. b && is_end_at behinds p (at + i + 1) i t) (le-ltb t.node 0 (omega arith)))));
 }
 

@@ -8,3 +8,5 @@ pub mod WalkLemmas
 pub mod TerminalLemmas
 pub mod EndTableLemmas
 pub mod GatheringLemmas
+pub mod SettlementLemmas
+pub mod SettledLemmas

@@ -11,11 +11,18 @@ use Rattle.hs_bits.specs.LowestBits.{IsLowestBit, AreBitsBehind}
 use Rattle.hs_bits.proofs.LowestLemmas.{lowest-gone, others-stay}
 use Rattle.hs_reports.specs.Chunks.{pairs_where, chunk_pairs}
 use Rattle.hs_reports.specs.Events.{Through}
-use Rattle.hs_reports.specs.Walks.{id_numbers, IsWalked}
+use Rattle.hs_reports.specs.Identifiers.{id_numbers}
 use Rattle.hs_reports.specs.WordBits.{word_bit, row_bit}
 use Rattle.hs_reports.proofs.BlockLemmas.{chunk-passed, chunk-next}
 use Rattle.hs_reports.proofs.EventLemmas.{through-join}
 use Rattle.hs_reports.proofs.WordBitLemmas.{bit-is, bit-or, bit-zero}
+
+-- The places before m are gone from the word that is left, and where another is, no word has a bit.
+pub record IsWalked (lates earlies : List ℕ) (left m : ℕ) : Type 0 where
+  pub within : m ≤ 64
+  pub before : (i : ℕ) → i < m → word_bit left i ≡ false
+  pub from : (i : ℕ) → m ≤ i → i < 64 → word_bit left i ≡ false → (k : ℕ) →
+      (row_bit lates k i ≡ false) × (row_bit earlies k i ≡ false)
 
 -- at first all places that aren't in the word have nothing
 pub walked-none : (lates earlies : List ℕ) (late early : ℕ) →

@@ -1,11 +1,11 @@
 -- What holds of the reports of bytes in a row, for every list of patterns and every stream.
 use Rattle.std.specs.Prelude.{◌≡◌, ◌↔◌, ℕ, ◌<◌, Bool, true, false, List, [], ◌∷◌, ◌++◌, length}
+use Rattle.std.specs.Prelude.{◌*◌, take, drop}
 use Rattle.hs_base.specs.Patterns.{Pattern, is_single}
 use Rattle.hs_base.specs.Told.{Pair, IsTold, IsNew}
 use Rattle.hs_base.specs.Settling.{Kept, IsLeftToEnd, IsKept, Ends, settled}
 use Rattle.hs_reports.specs.Heard.{IsHeard, AreSureEnds, IsFinal, IsToldBy}
-use Rattle.hs_reports.specs.Chunks.{kept_behind, pairs_of_chunk, AreChunkEnds, AreChunkOf}
-use Rattle.hs_reports.specs.Chunks.{bytes_behind, pairs_of_blocks}
+use Rattle.hs_reports.specs.Chunks.{kept_behind, pairs_of_chunk, AreChunkEnds, AreChunkOf, pairs_of_blocks}
 
 -- What is kept of an identifier is what is known of it, and its pair that only the end would decide.
 abbrev pub KeptIsHeard : Type 0
@@ -59,10 +59,10 @@ ChunkStaysHeard =
     ((i : ℕ) → i < length bytes → ((ends i).before ≡ false) × ((ends i).behind ≡ false)) →
     IsHeard P (u ++ bytes) id (record kept { here = false })
 
--- The new reports of blocks in a row are those of each in turn.
+-- The new reports of blocks of one size in a row are those of each in turn.
 abbrev pub BlocksAreNew : Type 0
 BlocksAreNew =
-    (P : List Pattern) (u : List ℕ) (blocks : ℕ → List ℕ) (pairs : ℕ → List Pair) (told : List Pair) (n : ℕ) →
+    (P : List Pattern) (u bytes : List ℕ) (size n : ℕ) (pairs : ℕ → List Pair) (told : List Pair) →
     IsTold P u told →
-    ((j : ℕ) → j < n → IsNew P (bytes_behind u blocks j) (blocks j) (pairs j)) →
-    IsNew P u (bytes_behind [] blocks n) (pairs_of_blocks pairs n)
+    ((j : ℕ) → j < n → IsNew P (u ++ take (size * j) bytes) (take size (drop (size * j) bytes)) (pairs j)) →
+    IsNew P u (take (size * n) bytes) (pairs_of_blocks pairs n)

@@ -69,14 +69,7 @@ pub record AreChunkOf (P : List Pattern) (u bytes ids : List ℕ) (single : ℕ 
   pub heard : (k id : ℕ) → slice_get ids k ≡ Some id → IsHeard P u id (old k)
   pub ends_are : (k id : ℕ) → slice_get ids k ≡ Some id → AreChunkEnds P u bytes id (ends k)
 
--- Blocks of bytes in a row, by number.
-
--- the bytes u, and the first so many blocks behind them
-abbrev pub bytes_behind : List ℕ → (blocks : ℕ → List ℕ) → ℕ → List ℕ
-bytes_behind u blocks zero = u
-bytes_behind u blocks (suc j) = bytes_behind u blocks j ++ blocks j
-
--- the pairs of the first so many blocks
+-- the pairs of the first so many blocks, by number of a block
 abbrev pub pairs_of_blocks : (ℕ → List Pair) → ℕ → List Pair
 pairs_of_blocks pairs zero = []
 pairs_of_blocks pairs (suc j) = pairs_of_blocks pairs j ++ pairs j

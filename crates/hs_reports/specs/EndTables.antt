@@ -41,6 +41,10 @@ words_of table p = slice_index_or table.words p no_words
 abbrev pub is_noted : EndTable → ℕ → Bool
 is_noted table p = has_word_bit table.noted p
 
+-- no identifier has an end
+abbrev pub HasNoEnds : EndTable → Type 0
+HasNoEnds table = (p : ℕ) → words_of table p ≡ no_words
+
 -- an identifier that isn't noted has no end
 abbrev pub IsQuiet : EndTable → Type 0
 IsQuiet table = (p : ℕ) → is_noted table p ≡ false → words_of table p ≡ no_words
@@ -54,7 +58,7 @@ pub record IsEndTable (table : EndTable) : Type 0 where
 -- the table has so many identifiers, none of which is noted
 pub record IsBlank (table : EndTable) (count : ℕ) : Type 0 where
   pub count_is : length table.words ≡ count
-  pub words : (p : ℕ) → words_of table p ≡ no_words
+  pub words : HasNoEnds table
   pub noted : (p : ℕ) → is_noted table p ≡ false
 
 -- The ends that such terminals give by these words of their node are added, and no identifier is forgotten.
@@ -66,10 +70,10 @@ pub record AddsEnds (old new : EndTable) (terminals : List Terminal) (at before 
       ≡ (word_bit (words_of old p).behind i || list_any (is_end_at (λ node. behind) p (at + i + 1) i) terminals)
   pub noted : (p : ℕ) → is_noted old p ≡ true → is_noted new p ≡ true
 
--- One identifier more is noted.
-pub record Notes (old new : EndTable) (place : ℕ) : Type 0 where
+-- Those identifiers more are noted whose bit is set in a row.
+pub record NotesRow (old new : EndTable) (row : List ℕ) : Type 0 where
   pub words : new.words ≡ old.words
-  pub noted : (p : ℕ) → is_noted new p ≡ ((p == place) || is_noted old p)
+  pub noted : (p : ℕ) → is_noted new p ≡ (has_word_bit row p || is_noted old p)
 
 -- One identifier has these ends more, and is noted.
 pub record Unites (old new : EndTable) (place before behind : ℕ) : Type 0 where
@@ -78,8 +82,8 @@ pub record Unites (old new : EndTable) (place before behind : ℕ) : Type 0 wher
       ≡ (if p == place then united (words_of old p) before behind else words_of old p)
   pub noted : (p : ℕ) → is_noted new p ≡ ((p == place) || is_noted old p)
 
--- One identifier has no end any more, and isn't noted.
-pub record Unnotes (old new : EndTable) (place : ℕ) : Type 0 where
+-- One identifier has no end any more, and is noted or not.
+pub record Resets (old new : EndTable) (place : ℕ) (stays : Bool) : Type 0 where
   pub count : length new.words ≡ length old.words
   pub words : (p : ℕ) → words_of new p ≡ (if p == place then no_words else words_of old p)
-  pub noted : (p : ℕ) → is_noted new p ≡ (if p == place then false else is_noted old p)
+  pub noted : (p : ℕ) → is_noted new p ≡ (if p == place then stays else is_noted old p)

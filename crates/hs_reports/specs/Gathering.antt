@@ -3,7 +3,7 @@ use Rattle.std.specs.Prelude.{◌≡◌, ℕ, ◌+◌, ◌<◌, ◌≤◌, Bool,
 use Rattle.std.specs.List.{list_any}
 use Rattle.hs_base.specs.Lists.{Each}
 use Rattle.hs_reports.specs.declared.terminal.Terminal.{Terminal}
-use Rattle.hs_reports.specs.EndTables.{EndTable, words_of, IsBlank, AddsEnds}
+use Rattle.hs_reports.specs.EndTables.{EndTable, words_of, HasNoEnds, AddsEnds}
 use Rattle.hs_reports.specs.Terminals.{is_end_at, AreEndsOf}
 use Rattle.hs_reports.specs.WordBits.{word_bit}
 
@@ -20,11 +20,11 @@ pub record AreEndsBelow (terminals : List Terminal) (befores behinds : ℕ → �
   pub behind_is : (p i : ℕ) → i < 64 → word_bit (words_of table p).behind i
       ≡ list_any (λ t. nat_lt t.node node && is_end_at behinds p (at + i + 1) i t) terminals
 
--- A blank table has the ends of no node.
+-- A table without an end has the ends of no node.
 abbrev pub GatheringBegins : Type 0
 GatheringBegins =
-    (terminals : List Terminal) (befores behinds : ℕ → ℕ) (at count : ℕ) (table : EndTable) →
-    IsBlank table count →
+    (terminals : List Terminal) (befores behinds : ℕ → ℕ) (at : ℕ) (table : EndTable) →
+    HasNoEnds table →
     AreEndsBelow terminals befores behinds at 0 table
 
 -- Nodes that are left nowhere are passed over.

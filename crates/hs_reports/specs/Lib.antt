@@ -5,8 +5,10 @@ pub mod WordBits
 pub mod Telling
 pub mod WordLaws
 pub mod Events
-pub mod Walks
+pub mod Identifiers
 pub mod Terminals
 pub mod TerminalLaws
 pub mod EndTables
 pub mod Gathering
+pub mod Tellings
+pub mod Settlement

@@ -1,7 +1,7 @@
 -- What a block tells of an identifier, as words: a bit for each byte.
 use Rattle.std.specs.Prelude.{◌≡◌, ℕ, ◌<◌, ◌≤◌, Bool, false, not, ◌&&◌, ◌==◌, List, length}
 use Rattle.std.specs.Prelude.{slice_index}
-use Rattle.hs_base.specs.Settling.{Kept, Ends}
+use Rattle.hs_base.specs.Settling.{Kept, Ends, settled}
 use Rattle.hs_reports.specs.declared.telling.Telling.{Telling}
 use Rattle.hs_reports.specs.WordBits.{word_bit}
 use Rattle.hs_reports.specs.Chunks.{late_at, early_at}
@@ -32,6 +32,12 @@ IsToldBefore n late early = (i : ℕ) → n ≤ i → i < 64 → (word_bit late 
 -- one of the words has a bit
 abbrev pub is_telling : (late early : ℕ) → Bool
 is_telling late early = not ((late == 0) && (early == 0))
+
+-- a byte, of which the values are the ends about it, leaves the pair before it to the end
+abbrev pub leaves_to_end : (single told here before behind before_last : Bool) → Bool
+leaves_to_end single told here before behind before_last =
+    (settled single (record { told = told; here = here; last = false })
+    (record { before = before; before_last = before_last; behind = behind })).last
 
 -- The words of each identifier, by its number, tell which pairs the bytes of a block decide.
 pub record AreBlockWords (bytes ids : List ℕ) (single : ℕ → Bool) (old : ℕ → Kept) (ends : ℕ → ℕ → Ends)

@@ -4,7 +4,7 @@ ghost use Rattle.std.specs.Prelude.{◌≡◌, ◌≢◌, ℕ, ◌+◌, ◌<◌,
 ghost use Rattle.hs_base.proofs.PairListLemmas.{one_told};
 ghost use Rattle.hs_reports.specs.Chunks.{chunk_pairs, pairs_where};
 ghost use Rattle.hs_reports.specs.Events.{Through};
-ghost use Rattle.hs_reports.specs.Walks.{id_numbers};
+ghost use Rattle.hs_reports.specs.Identifiers.{id_numbers};
 ghost use Rattle.hs_reports.specs.WordBits.{row_bit, word_bit};
 
 use crate::events::Events;
@@ -70,7 +70,7 @@ fn tell_if<V: Events>(is_due: bool, id: ExprId, to: u64, events: &mut V)
 }
 
 /// Whether the bit of that place is set.
-fn has_bit(word: u64, place: usize) -> bool
+pub(crate) fn has_bit(word: u64, place: usize) -> bool
     requires { place < 64 }
     ensures { result ≡ word_bit word place }
 {

@@ -33,7 +33,7 @@ pub fn chunk_stays_heard()
     ensures { ChunkStaysHeard }
 {}
 
-/// The new reports of blocks in a row are those of each in turn.
+/// The new reports of blocks of one size in a row are those of each in turn.
 pub fn blocks_are_new()
     ensures { BlocksAreNew }
 {}

@@ -2,7 +2,7 @@
 
 ghost use Rattle.hs_reports.specs.Gathering.{GatheringBegins, GatheringEnds, GatheringGoesOn, GatheringPasses};
 
-/// A blank table has the ends of no node.
+/// A table without an end has the ends of no node.
 pub fn gathering_begins()
     ensures { GatheringBegins }
 {}

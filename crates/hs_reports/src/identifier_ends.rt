@@ -1,14 +1,14 @@
 //! Where matches of each identifier end in a block, and which identifiers have such an end.
 
 ghost use Rattle.std.specs.Prelude.{◌≡◌, ℕ, ◌+◌, ◌*◌, ◌<◌, ◌≤◌, ◌^◌, IfOk, length, [], ◌∷◌};
-ghost use Rattle.hs_base.specs.Bits.{has_word_bit};
+ghost use Rattle.hs_base.specs.Bits.{has_word_bit, word_count};
 ghost use Rattle.hs_bits.specs.NextBits.{IsNextBitIn};
-ghost use Rattle.hs_reports.specs.EndTables.{AddsEnds, IsBlank, IsQuiet, Notes, Unites, Unnotes};
+ghost use Rattle.hs_reports.specs.EndTables.{AddsEnds, IsBlank, IsQuiet, NotesRow, Resets, Unites};
 ghost use Rattle.hs_reports.specs.EndTables.{identifier_at, words_of};
 
 use crate::end_words::EndWords;
 use crate::terminal::{Terminal, bound_word};
-use hs_bits::{insert_word_bit, next_bit_in, word_count_for, write_word_bit};
+use hs_bits::{insert_word_bit, next_bit_in, unite_words, word_count_for, write_word_bit};
 use std::alloc::{AllocError, Global};
 use std::marker::Model;
 
@@ -46,7 +46,6 @@ impl IdentifierEnds {
     pub fn count(&self) -> usize
         ensures count { result ≡ length self.now.words }
         ensures few { result < 2 ^ 32 }
-        ensures quiet { IsQuiet self.now }
     {
         self.words.len()
     }
@@ -89,30 +88,36 @@ impl IdentifierEnds {
         insert_word_bit(&mut self.noted, place);
     }
 
-    /// Notes the identifier of that number.
-    pub fn note(&mut self, place: usize)
-        requires { place < length self.old.words }
-        ensures { Notes self.old self.new place }
+    /// Notes those identifiers whose bit is set in the row.
+    pub fn note_all(&mut self, row: &[u64])
+        requires { length row.now ≡ word_count (length self.old.words) }
+        ensures { NotesRow self.old self.new row.now }
     {
-        insert_word_bit(&mut self.noted, place);
+        unite_words(&mut self.noted, row);
     }
 
     /// The first identifier that is noted from a number on, if there is one.
     pub fn next(&self, from: usize) -> Option<usize>
-        ensures { IsNextBitIn (has_word_bit self.now.noted) from (length self.now.words) result }
+        ensures next { IsNextBitIn (has_word_bit self.now.noted) from (length self.now.words) result }
+        ensures quiet { IsQuiet self.now }
     {
         next_bit_in(&self.noted, from, self.words.len())
     }
 
-    /// Where matches of the identifier of that number end; it has none from then on, and isn't noted.
-    pub fn take(&mut self, place: usize) -> EndWords
-        requires { place < length self.old.words }
-        ensures words { result ≡ words_of self.old place }
-        ensures unnoted { Unnotes self.old self.new place }
+    /// Where matches of the identifier of that number end.
+    pub fn words(&self, place: usize) -> EndWords
+        requires { place < length self.now.words }
+        ensures { result ≡ words_of self.now place }
     {
-        let words = self.words[place];
+        self.words[place]
+    }
+
+    /// The identifier of that number has no end any more, and stays noted or not.
+    pub fn reset(&mut self, place: usize, stays: bool)
+        requires { place < length self.old.words }
+        ensures { Resets self.old self.new place stays }
+    {
         self.words[place] = EndWords::NONE;
-        write_word_bit(&mut self.noted, place, false);
-        words
+        write_word_bit(&mut self.noted, place, stays);
     }
 }

@@ -1,7 +1,7 @@
 //! Which pairs of an identifier a block tells, from where its matches end about each byte: words with a bit for each.
 
 ghost use Rattle.std.specs.Prelude.{◌≡◌, ℕ, ◌<◌, not, ◌&&◌, true, false, if◌then◌else◌, Bool};
-ghost use Rattle.hs_reports.specs.Telling.{is_telling, TellsWords};
+ghost use Rattle.hs_reports.specs.Telling.{is_telling, leaves_to_end, TellsWords};
 ghost use Rattle.hs_reports.specs.WordBits.{bit_before, word_bit};
 
 use hs_bits::lowest_bit;
@@ -73,4 +73,25 @@ fn first_words(before: u64, behind: u64) -> Telling
         late: before & first,
         early: behind & first & !before,
     }
+}
+
+/// Whether a line feed leaves the pair that ends before it to the end of the stream, which would report it. `told` and
+/// `here` say what is told before the line feed, as in `told_words`; the others, whether a match ends before it and
+/// behind it, and whether one ends before it where it is the last byte.
+pub fn is_left_to_end(
+    single: bool,
+    told: bool,
+    here: bool,
+    before: bool,
+    behind: bool,
+    before_last: bool,
+) -> bool
+    ensures { result ≡ leaves_to_end single told here before behind before_last }
+{
+    let is_told = if single {
+        told | before | behind
+    } else {
+        here | before
+    };
+    before_last & !is_told
 }

@@ -119,7 +119,7 @@ places-length looks_back front (a ∷ rest) = ap suc (places-length looks_back (
 abbrev pub places_of_chain : ListedChain → List Place
 places_of_chain x = places_behind (begins_with_look_back x.pieces) [] x.pieces
 
-pieces-length : (x : ListedChain) → length (pieces_of x) ≡ length x.pieces
+pub pieces-length : (x : ListedChain) → length (pieces_of x) ≡ length x.pieces
 pieces-length x = length-map (places_of_chain x) (listed_piece x) ∙ places-length (begins_with_look_back x.pieces) [] x.pieces
 
 -- one more piece of a chain of which so many are there
@@ -243,10 +243,10 @@ list-built new es css n end same built =
     subst (λ xs. IsBuilt new (listed_from 1 xs css) []) (take_all n es (omega (arith, end))) (subst (λ xs. IsBuilt new (listed_from 1 (take n es) xs) []) (take_all n css (omega (arith, end, same))) built)
 
 -- what is asked of one more entry
-pub info-more : (infos : List EntryInfo) (entries : List Entry) (k : ℕ) (info : EntryInfo) (e : Entry) → slice_get entries k ≡ Some e → IsInfoOf info (asked_of e) → AllZip IsInfoOf infos (map asked_of (take k entries)) →
-    AllZip IsInfoOf (infos ++ info ∷ []) (map asked_of (take (k + 1) entries))
-info-more infos entries k info e at is all =
+pub info-more : (ids : List ℕ) (infos : List EntryInfo) (entries : List Entry) (k : ℕ) (info : EntryInfo) (e : Entry) → slice_get entries k ≡ Some e → IsInfoOf ids info (asked_of e) → AllZip (IsInfoOf ids) infos (map asked_of (take k entries)) →
+    AllZip (IsInfoOf ids) (infos ++ info ∷ []) (map asked_of (take (k + 1) entries))
+info-more ids infos entries k info e at is all =
     let next : suc k ≡ k + 1 = omega arith in
     let more : map asked_of (take k entries) ++ asked_of e ∷ [] ≡ map asked_of (take (k + 1) entries) =
     sym (map-append asked_of (take k entries) (e ∷ [])) ∙ ap (λ es. map asked_of es) (sym (take-get entries k e at)) ∙ ap (λ n. map asked_of (take n entries)) next in
-    subst (λ es. AllZip IsInfoOf (infos ++ info ∷ []) es) more (zip-push IsInfoOf infos (map asked_of (take k entries)) info (asked_of e) all is)
+    subst (λ es. AllZip (IsInfoOf ids) (infos ++ info ∷ []) es) more (zip-push (IsInfoOf ids) infos (map asked_of (take k entries)) info (asked_of e) all is)

@@ -1,5 +1,5 @@
 -- What is built is the program of the list.
-use Rattle.std.proofs.Common.{◌≡◌, ℕ, zero, suc, ◌<◌, Bool, true, false, List, [], ◌∷◌, ◌++◌, length, map, slice_get, Option, Some, None, Result, Ok, Err, refl, sym, ap, subst, ◌∙◌, arith}
+use Rattle.std.proofs.Common.{◌≡◌, ℕ, zero, suc, ◌<◌, ◌^◌, Bool, true, false, List, [], ◌∷◌, ◌++◌, length, map, slice_get, Option, Some, None, Result, Ok, Err, refl, sym, ap, subst, ◌∙◌, arith}
 use Rattle.std.specs.Prelude.{IfOk}
 use Rattle.std.specs.List.{AllZip}
 use Rattle.std.proofs.lemmas.List.{append-nil, length-map}
@@ -12,7 +12,9 @@ use Rattle.hs_base.specs.Literals.{LiteralByte}
 use Rattle.hs_base.specs.Regions.{Place}
 use Rattle.hs_base.specs.Trees.{Tree}
 use Rattle.hs_rose.specs.declared.builder.Builder.{Builder}
+use Rattle.hs_rose.specs.declared.identifiers.Identifier.{Identifier}
 use Rattle.hs_rose.specs.declared.info.EntryInfo.{EntryInfo}
+use Rattle.hs_rose.specs.Identifiers.{AreIdentifiersOf, ids_of}
 use Rattle.hs_rose.specs.declared.kind.Kind.{Kind}
 use Rattle.hs_rose.specs.declared.making.Made.{Made}
 use Rattle.hs_rose.specs.declared.role.Role.{Role}
@@ -23,6 +25,7 @@ use Rattle.hs_rose.specs.Listing.{Asked, ListedChain, ListedPiece, listed_chains
 use Rattle.hs_rose.specs.Made.{IsMade, IsNullMask, model_of}
 use Rattle.hs_rose.specs.Numbering.{AreApart}
 use Rattle.hs_rose.specs.PieceEngines.{IsEngineOf}
+use Rattle.hs_rose.specs.Runnable.{AreRunnable}
 use Rattle.hs_rose.specs.Programs.{Tables, AreChainsOf, AreRolesOfLiterals, IsInfoOf, IsProgramOf, IsRoleOf, engine_of, literal_of}
 use Rattle.hs_rose.proofs.ListLemmas.{zip-left, zip-map}
 
@@ -132,15 +135,20 @@ made-runs [] each = tt
 made-runs (m ∷ made) each = (each.0.engine_is, made-runs made each.1)
 
 -- and it is the program of the list
-pub program-built : (b : Builder) (infos : List EntryInfo) (t : Tables) (entries : List Asked) (chains : List (List (List Piece))) → IsBuilt b (listed_chains entries chains) [] → AllZip IsInfoOf infos entries → IsFinished infos b t →
-    IsProgramOf t entries chains
-program-built b infos t entries chains built about is =
+pub program-built : (b : Builder) (infos : List EntryInfo) (identifiers : List Identifier) (t : Tables) (entries : List Asked) (chains : List (List (List Piece))) → IsBuilt b (listed_chains entries chains) [] → AllZip (IsInfoOf (ids_of identifiers)) infos entries →
+    AreIdentifiersOf identifiers entries → length entries < 2 ^ 32 → Each AreRunnable chains → IsFinished infos identifiers b t → IsProgramOf t entries chains
+program-built b infos identifiers t entries chains built about named few runnable is =
     let all = listed_pieces (listed_chains entries chains) in
     let roles : AllZip (IsRoleOf (literals_of b) (models_of b)) b.roles.items all = subst (λ ps. AllZip (IsRoleOf (literals_of b) (models_of b)) b.roles.items ps) (append-nil all) built.roles in
     let engines : AllZip IsEngineOf (map engine_made b.made.items) (models_of b) = zip-map IsEngineOf engine_made model_of b.made.items (made-runs b.made.items built.sound.made) in
     record {
       models = models_of b;
-      infos = subst (λ es. AllZip IsInfoOf es entries) (sym is.entries) about;
+      few_entries = few;
+      few_roles = omega (arith, ap length is.roles, b.roles.ok.0);
+      runnable = runnable;
+      infos = subst (λ xs. AllZip (IsInfoOf (ids_of xs)) t.entries entries) (sym is.identifiers_are)
+          (subst (λ es. AllZip (IsInfoOf (ids_of identifiers)) es entries) (sym is.entries) about);
+      identifiers = subst (λ xs. AreIdentifiersOf xs entries) (sym is.identifiers_are) named;
       chains_are = subst (λ cs. AreChainsOf 0 cs (listed_chains entries chains)) (sym is.chains) built.chains_are;
       roles = subst (λ rs. AllZip (IsRoleOf t.literals (models_of b)) rs all) (sym is.roles)
           (subst (λ ls. AllZip (IsRoleOf ls (models_of b)) b.roles.items all) (sym is.literals) roles);

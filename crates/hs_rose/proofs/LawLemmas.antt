@@ -71,7 +71,7 @@ same-places looks_back same [] = refl
 same-places looks_back same (c ∷ cs) =
     ap (λ l. places_behind l [] c ++ flat_map (λ chain. places_behind (begins_with_look_back chain) [] chain) cs) (sym (same c)) ∙ ap (λ ps. places_behind (looks_back c) [] c ++ ps) (same-places looks_back same cs)
 
-list-places : (looks_back : List Piece → Bool) → ((chain : List Piece) → looks_back chain ≡ begins_with_look_back chain) → (i : ℕ) (es : List Asked) (P : List Pattern) → length es ≡ length P →
+pub list-places : (looks_back : List Piece → Bool) → ((chain : List Piece) → looks_back chain ≡ begins_with_look_back chain) → (i : ℕ) (es : List Asked) (P : List Pattern) → length es ≡ length P →
     map (λ (p : ListedPiece). p.place) (listed_pieces (listed_from i es (map (λ x. chains_of x.tree) P))) ≡ flat_map (places_of looks_back) P
 list-places looks_back same i [] [] count = refl
 list-places looks_back same i [] (x ∷ P) count = absurd (cc)

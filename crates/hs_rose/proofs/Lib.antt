@@ -1,3 +1,4 @@
+pub mod IdLemmas
 pub mod ListLemmas
 pub mod SameLemmas
 pub mod NamingLemmas
@@ -5,5 +6,7 @@ pub mod MakeLemmas
 pub mod ShapeLemmas
 pub mod BuildLemmas
 pub mod RoleListLemmas
+pub mod IdentifierLemmas
 pub mod FinishLemmas
+pub mod ListedLemmas
 pub mod LawLemmas

@@ -2,6 +2,7 @@
 use Rattle.std.specs.Prelude.{◌≡◌, ℕ, ◌<◌, List, [], ◌∷◌, ◌++◌, length, map, Option, Some, slice_get, vec_len, cond}
 use Rattle.hs_rose.specs.declared.builder.Builder.{Builder}
 use Rattle.hs_rose.specs.declared.engine.PieceEngine.{PieceEngine}
+use Rattle.hs_rose.specs.declared.identifiers.Identifier.{Identifier}
 use Rattle.hs_rose.specs.declared.info.EntryInfo.{EntryInfo}
 use Rattle.hs_rose.specs.declared.making.Made.{Made}
 use Rattle.hs_rose.specs.declared.role.Role.{Role}
@@ -19,8 +20,9 @@ pub record AreNumbered (b : Builder) : Type 0 where
   pub engines : (j k : ℕ) (r : Role) → slice_get b.roles.items j ≡ Some r → engine_of r ≡ Some k → k < vec_len b.made
 
 -- The program has what is built.
-pub record IsFinished (infos : List EntryInfo) (b : Builder) (t : Tables) : Type 0 where
+pub record IsFinished (infos : List EntryInfo) (identifiers : List Identifier) (b : Builder) (t : Tables) : Type 0 where
   pub entries : t.entries ≡ infos
+  pub identifiers_are : t.identifiers ≡ identifiers
   pub chains : t.chains ≡ b.chains.items
   pub roles : t.roles ≡ b.roles.items
   pub literals : t.literals ≡ literals_of b

@@ -2,6 +2,7 @@ pub mod PieceEngines
 pub mod Kinds
 pub mod Shapes
 pub mod Listing
+pub mod Identifiers
 pub mod Runnable
 pub mod Made
 pub mod Numbering

@@ -1,5 +1,5 @@
 -- Which program is that of a list.
-use Rattle.std.specs.Prelude.{◌≡◌, ℕ, suc, ◌+◌, ◌==◌, ◌<◌, Bool, false, List, [], ◌∷◌, length, Option, Some, None}
+use Rattle.std.specs.Prelude.{◌≡◌, ℕ, suc, ◌+◌, ◌==◌, ◌<◌, ◌^◌, Bool, false, List, [], ◌∷◌, length, Option, Some, None}
 use Rattle.std.specs.Prelude.{slice_get, cond}
 use Rattle.std.specs.List.{AllZip}
 use Rattle.hs_base.specs.declared.context.Mask.{Mask}
@@ -13,16 +13,21 @@ use Rattle.hs_rose.specs.declared.engine.PieceEngine.{PieceEngine}
 use Rattle.hs_rose.specs.declared.role.Role.{Role}
 use Rattle.hs_rose.specs.declared.info.ChainInfo.{ChainInfo}
 use Rattle.hs_rose.specs.declared.info.EntryInfo.{EntryInfo}
+use Rattle.hs_rose.specs.declared.identifiers.Identifier.{Identifier}
+use Rattle.hs_rose.specs.Identifiers.{AreIdentifiersOf, ids_of}
 use Rattle.hs_rose.specs.Kinds.{place_kind, number_if_literal, number_if_run}
 use Rattle.hs_rose.specs.Listing.{Asked, ListedChain, ListedPiece, listed_chains, listed_pieces, piece_number}
 use Rattle.hs_rose.specs.Made.{IsNullMask}
 use Rattle.hs_rose.specs.Numbering.{AreApart}
 use Rattle.hs_rose.specs.PieceEngines.{IsEngineOf}
+use Rattle.hs_rose.specs.Runnable.{AreRunnable}
+use Rattle.hs_base.specs.Lists.{Each}
 
--- What a program has: what is asked of each entry, and its chains; a role for each piece; the literals and engines that
+-- What a program has: what is asked of each entry; the identifiers; the chains; a role for each piece; the literals and engines that
 -- roles name by number, each once; and for each literal its roles.
 pub record Tables : Type 0 where
   pub entries : List EntryInfo
+  pub identifiers : List Identifier
   pub chains : List ChainInfo
   pub roles : List Role
   pub literals : List (List LiteralByte)
@@ -72,9 +77,10 @@ pub record IsRoleOf (literals : List (List LiteralByte)) (models : List Piece) (
   pub size_is : r.field_size ≡ place_size x.place
   pub names : Names literals models r.number r.null x.place.piece
 
--- what is asked of the entry
-pub record IsInfoOf (info : EntryInfo) (asked : Asked) : Type 0 where
+-- what is asked of the entry, and the place of its identifier among those
+pub record IsInfoOf (ids : List ℕ) (info : EntryInfo) (asked : Asked) : Type 0 where
   pub id : info.id.0 ≡ asked.id
+  pub place : slice_get ids info.identifier ≡ Some asked.id
   pub flags : info.flags.0 ≡ asked.flags
   pub least : info.min_offset ≡ asked.least
   pub greatest : info.max_offset ≡ asked.greatest
@@ -119,7 +125,11 @@ pub record IsWhole (t : Tables) : Type 0 where
 -- and equal pieces have one engine.
 pub record IsProgramOf (t : Tables) (entries : List Asked) (chains : List (List (List Piece))) : Type 0 where
   pub models : List Piece
-  pub infos : AllZip IsInfoOf t.entries entries
+  pub few_entries : length entries < 2 ^ 32
+  pub few_roles : length t.roles < 2 ^ 64
+  pub runnable : Each AreRunnable chains
+  pub infos : AllZip (IsInfoOf (ids_of t.identifiers)) t.entries entries
+  pub identifiers : AreIdentifiersOf t.identifiers entries
   pub chains_are : AreChainsOf 0 t.chains (listed_chains entries chains)
   pub roles : AllZip (IsRoleOf t.literals models) t.roles (listed_pieces (listed_chains entries chains))
   pub engines : AllZip IsEngineOf t.engines models

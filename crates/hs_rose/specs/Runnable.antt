@@ -1,14 +1,14 @@
 -- Which pieces a program can be made of.
 use Rattle.std.specs.Prelude.{◌≡◌, ◌≤◌, ◌<◌, ◌^◌, false, true, List, length}
-use Rattle.hs_base.specs.Chains.{Piece, lit, nfa, rep, is_long}
+use Rattle.hs_base.specs.Chains.{Piece, lit, nfa, rep, is_long, most_literal_bytes}
 use Rattle.hs_base.specs.EndAssertions.{has_embedded_end}
 use Rattle.hs_base.specs.Lists.{Each}
 use Rattle.hs_base.specs.Trees.{AreBounds}
 use Rattle.hs_base.specs.WrittenOut.{IsPlain, write_out, count}
 
--- An expression has an automaton; a repeat has bounds that are in order, and is a long one.
+-- A literal has 2 to 32 bytes; an expression has an automaton; a repeat has bounds that are in order, and is a long one.
 abbrev pub IsRunnable : Piece → Type 0
-IsRunnable (lit xs) = Unit {0}
+IsRunnable (lit xs) = (2 ≤ length xs) × (length xs ≤ most_literal_bytes)
 IsRunnable (nfa t) = IsPlain t × (count (write_out t) ≤ 512) × (has_embedded_end t false ≡ false)
 IsRunnable (rep set least greatest) = AreBounds least greatest × (is_long least greatest ≡ true)
 

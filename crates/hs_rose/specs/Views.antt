@@ -5,6 +5,7 @@ use Rattle.std.specs.declared.alloc.Global.{Global}
 use Rattle.hs_base.specs.declared.literal.LitByte.{LitByte}
 use Rattle.hs_base.specs.LiteralView.{literal_bytes}
 use Rattle.hs_rose.specs.declared.engine.PieceEngine.{PieceEngine}
+use Rattle.hs_rose.specs.declared.identifiers.Identifier.{Identifier}
 use Rattle.hs_rose.specs.declared.info.ChainInfo.{ChainInfo}
 use Rattle.hs_rose.specs.declared.info.EntryInfo.{EntryInfo}
 use Rattle.hs_rose.specs.declared.role.Role.{Role}
@@ -15,10 +16,11 @@ abbrev pub role_numbers : Vec ℕ Global → List ℕ
 role_numbers list = list.items
 
 -- these tables
-abbrev pub tables_of : List EntryInfo → List ChainInfo → List Role → List (Vec LitByte Global) → List (Vec ℕ Global) →
+abbrev pub tables_of : List EntryInfo → List Identifier → List ChainInfo → List Role → List (Vec LitByte Global) → List (Vec ℕ Global) →
     List PieceEngine → Tables
-tables_of entries chains roles literals literal_roles engines = record {
+tables_of entries identifiers chains roles literals literal_roles engines = record {
   entries = entries;
+  identifiers = identifiers;
   chains = chains;
   roles = roles;
   literals = map literal_bytes literals;

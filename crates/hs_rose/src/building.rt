@@ -1,9 +1,11 @@
 //! The program of a list, from its entries and chains.
 
-ghost use Rattle.std.specs.Prelude.{◌≡◌, ◌^◌, ◌<◌, IfOk, length, map};
+ghost use Rattle.std.specs.Prelude.{◌≡◌, ℕ, ◌^◌, ◌<◌, IfOk, length, map};
+ghost use Rattle.std.specs.List.Sorted.{IsStrictlyIncreasing};
 ghost use Rattle.std.specs.List.{AllZip};
 ghost use Rattle.hs_base.specs.Lists.{Each};
 ghost use Rattle.hs_rose.specs.Finishing.{AreNumbered, IsFinished, engine_made};
+ghost use Rattle.hs_rose.specs.Identifiers.{entry_id, has_id};
 ghost use Rattle.hs_rose.specs.Listing.{asked_of, plain_chains};
 ghost use Rattle.hs_rose.specs.Programs.{IsInfoOf, IsProgramOf};
 ghost use Rattle.hs_rose.specs.Runnable.{AreRunnable};
@@ -11,6 +13,7 @@ ghost use Rattle.hs_rose.specs.Views.{tables_of};
 
 use crate::builder::Builder;
 use crate::engine::PieceEngine;
+use crate::identifiers::{Identifier, identifiers_of, ids_of, place_of};
 use crate::info::EntryInfo;
 use crate::literals::roles_of_literals;
 use crate::making::Made;
@@ -37,21 +40,29 @@ impl Program {
         for (k, entry) in entries.iter().enumerate() {
             builder.add_entry(alloc, (k + 1) as u32, entry, &chains[k])?;
         }
-        let infos = infos_of(alloc, entries)?;
-        finish(alloc, infos, builder)
+        let ids = ids_of(alloc, entries)?;
+        let infos = infos_of(alloc, entries, &ids)?;
+        let identifiers = identifiers_of(alloc, entries, &ids)?;
+        finish(alloc, infos, identifiers, builder)
     }
 }
 
 /// The program of what is built.
-fn finish(alloc: Global, infos: Vec<EntryInfo>, builder: Builder) -> Result<Program, AllocError>
+fn finish(
+    alloc: Global,
+    infos: Vec<EntryInfo>,
+    identifiers: Vec<Identifier>,
+    builder: Builder,
+) -> Result<Program, AllocError>
     requires { AreNumbered builder }
-    ensures { IfOk result (λ program. IsFinished infos.items builder program) }
+    ensures { IfOk result (λ program. IsFinished infos.items identifiers.items builder program) }
 {
     let count = builder.literals.len();
     let literal_roles = roles_of_literals(alloc, &builder.roles, count)?;
     let engines = engines_of(alloc, builder.made)?;
     Ok(Program::new(
         infos,
+        identifiers,
         builder.chains,
         builder.roles,
         builder.literals,
@@ -61,8 +72,11 @@ fn finish(alloc: Global, infos: Vec<EntryInfo>, builder: Builder) -> Result<Prog
 }
 
 /// What is asked of each entry.
-fn infos_of(alloc: Global, entries: &[Entry]) -> Result<Vec<EntryInfo>, AllocError>
-    ensures { IfOk result (λ infos. AllZip IsInfoOf infos.items (map asked_of entries.now)) }
+fn infos_of(alloc: Global, entries: &[Entry], ids: &[u32]) -> Result<Vec<EntryInfo>, AllocError>
+    requires rises { IsStrictlyIncreasing ids.now }
+    requires known { (id : ℕ) → has_id ids.now id ≡ has_id (map entry_id entries.now) id }
+    requires few { length ids.now < 2 ^ 32 }
+    ensures { IfOk result (λ infos. AllZip (IsInfoOf ids.now) infos.items (map asked_of entries.now)) }
 {
     let mut infos = Vec::with_capacity(alloc, entries.len())?;
     for entry in entries {
@@ -71,6 +85,7 @@ fn infos_of(alloc: Global, entries: &[Entry]) -> Result<Vec<EntryInfo>, AllocErr
             max_offset: entry.ext.max_offset,
             id: entry.id,
             flags: entry.flags,
+            identifier: place_of(ids, entry.id.0) as u32,
         })?;
     }
     Ok(infos)

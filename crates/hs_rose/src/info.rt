@@ -13,6 +13,8 @@ pub struct EntryInfo {
     pub id: ExprId,
     /// Its flags.
     pub flags: Flags,
+    /// The place of the identifier among those of the program.
+    pub identifier: u32,
 }
 
 /// A chain of an entry.

@@ -4,6 +4,7 @@
 mod builder;
 mod building;
 mod engine;
+mod identifiers;
 mod info;
 mod kind;
 mod laws;
@@ -15,6 +16,7 @@ mod same;
 mod shape;
 
 pub use engine::PieceEngine;
+pub use identifiers::Identifier;
 pub use info::{ChainInfo, EntryInfo};
 pub use kind::Kind;
 pub use laws::{engines_run_pieces, equal_pieces_have_one_engine, fields_are_those_of_plan};

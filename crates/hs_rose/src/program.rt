@@ -4,6 +4,7 @@ ghost use Rattle.std.specs.Prelude.{◌≡◌, map};
 ghost use Rattle.hs_base.specs.LiteralView.{literal_bytes};
 
 use crate::engine::PieceEngine;
+use crate::identifiers::Identifier;
 use crate::info::{ChainInfo, EntryInfo};
 use crate::role::Role;
 use hs_base::LitByte;
@@ -13,6 +14,7 @@ use std::marker::Model;
 #[derive(Debug, Drop)]
 pub struct Program {
     entries: Vec<EntryInfo>,
+    identifiers: Vec<Identifier>,
     chains: Vec<ChainInfo>,
     roles: Vec<Role>,
     literals: Vec<Vec<LitByte>>,
@@ -26,10 +28,10 @@ impl Model for Program {
 
     ghost Value = { Tables };
 
-    ghost view = { λ p. tables_of p.entries.items p.chains.items p.roles.items p.literals.items p.literal_roles.items
+    ghost view = { λ p. tables_of p.entries.items p.identifiers.items p.chains.items p.roles.items p.literals.items p.literal_roles.items
         p.engines.items };
 
-    ghost invariant = { λ p. IsWhole (tables_of p.entries.items p.chains.items p.roles.items p.literals.items
+    ghost invariant = { λ p. IsWhole (tables_of p.entries.items p.identifiers.items p.chains.items p.roles.items p.literals.items
         p.literal_roles.items p.engines.items) };
 }
 
@@ -40,19 +42,21 @@ impl Program {
     /// The program of these tables.
     pub(crate) fn new(
         entries: Vec<EntryInfo>,
+        identifiers: Vec<Identifier>,
         chains: Vec<ChainInfo>,
         roles: Vec<Role>,
         literals: Vec<Vec<LitByte>>,
         literal_roles: Vec<Vec<usize>>,
         engines: Vec<PieceEngine>,
     ) -> Program
-        requires { IsWhole (tables_of entries.items chains.items roles.items literals.items literal_roles.items
+        requires { IsWhole (tables_of entries.items identifiers.items chains.items roles.items literals.items literal_roles.items
             engines.items) }
-        ensures { result ≡ tables_of entries.items chains.items roles.items literals.items literal_roles.items
+        ensures { result ≡ tables_of entries.items identifiers.items chains.items roles.items literals.items literal_roles.items
             engines.items }
     {
         Program {
             entries,
+            identifiers,
             chains,
             roles,
             literals,
@@ -66,6 +70,13 @@ impl Program {
         ensures { result.now ≡ self.now.entries }
     {
         &self.entries
+    }
+
+    /// The identifiers of the entries, each once, rising.
+    pub fn identifiers(&self) -> &[Identifier]
+        ensures { result.now ≡ self.now.identifiers }
+    {
+        &self.identifiers
     }
 
     /// The chains of all entries, in order.

@@ -1,6 +1,6 @@
 //! The role of one piece.
 
-ghost use Rattle.std.specs.Prelude.{◌≡◌};
+ghost use Rattle.std.specs.Prelude.{◌≡◌, ◌^◌, ◌<◌};
 
 use crate::kind::Kind;
 use hs_base::{ExprId, Mask};
@@ -76,9 +76,17 @@ impl Role {
 
     /// The length in bytes of what is kept of the piece.
     pub fn field_size(&self) -> usize
-        ensures { result ≡ self.now.field_size }
+        ensures is { result ≡ self.now.field_size }
+        ensures small { result < 2 ^ 16 }
     {
         self.field_size as usize
+    }
+
+    /// The number of the piece among the program's literals, or that of its engine among the engines.
+    pub fn number(&self) -> usize
+        ensures { result ≡ self.now.number }
+    {
+        self.number
     }
 
     /// The number of the piece among the program's literals, if it is one.

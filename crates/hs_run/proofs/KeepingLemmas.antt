@@ -4,10 +4,11 @@ use Rattle.std.proofs.lemmas.Bool.{cases_eq}
 use Rattle.std.proofs.lemmas.List.{length-take-le}
 use Rattle.std.proofs.lemmas.Option.{same_Some, slice_get_within}
 use Rattle.hs_layout.specs.Layouts.{Laid}
+use Rattle.hs_rose.specs.Identifiers.{singles_of}
+use Rattle.hs_rose.specs.Identifiers.{with_single}
 use Rattle.hs_run.specs.Keeping.{AreBitsWritten, HasBits, IsOneWritten, IsRead, singles_before}
-use Rattle.hs_run.specs.Programs.{singles_of, with_single}
 use Rattle.hs_run.specs.declared.kept.Kept.{Kept}
-use Rattle.hs_run.specs.declared.program.Identifier.{Identifier}
+use Rattle.hs_rose.specs.declared.identifiers.Identifier.{Identifier}
 use Rattle.hs_run.proofs.RowLemmas.{set-other, set-same, take-more}
 
 -- single identifiers among all

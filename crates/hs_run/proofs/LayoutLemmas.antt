@@ -12,8 +12,8 @@ use Rattle.hs_layout.proofs.FieldLemmas.{fields-disjoint}
 use Rattle.hs_layout.proofs.WrittenLemmas.{part-mid}
 use Rattle.hs_run.specs.Chains.{AreWritten}
 use Rattle.hs_run.specs.Programs.{FitsLayout, sizes_of}
-use Rattle.hs_run.specs.declared.program.Program.{Program}
-use Rattle.hs_run.specs.declared.program.Role.{Role}
+use Rattle.hs_rose.specs.Programs.{Tables}
+use Rattle.hs_rose.specs.declared.role.Role.{Role}
 
 -- an element is there
 pub there : {A : Type 0} (xs : List A) (k : ℕ) → k < length xs → (x : A) × (slice_get xs k ≡ Some x)
@@ -21,12 +21,12 @@ there [] k below = absurd (omega arith)
 there (x ∷ xs) zero below = (x, refl)
 there (x ∷ xs) (suc k) below = there xs k (omega arith)
 
-module _ {E : Type 0} (program : Program E) (l : Laid) (fits : FitsLayout program l) where
+module _ (program : Tables) (l : Laid) (fits : FitsLayout program l) where
   abbrev pub sizes : List ℕ
-  sizes = sizes_of program.roles.items
+  sizes = sizes_of program.roles
 
-  sizes-count : length sizes ≡ length program.roles.items
-  sizes-count = length-map program.roles.items (λ r. r.size)
+  sizes-count : length sizes ≡ length program.roles
+  sizes-count = length-map program.roles (λ r. r.field_size)
 
   pub starts-are : l.starts ≡ sums_from (fields_at l.singles l.identifiers) sizes
   starts-are = subst (λ x. x.starts ≡ sums_from (fields_at x.singles x.identifiers) sizes) (sym fits.laid) refl
@@ -34,7 +34,7 @@ module _ {E : Type 0} (program : Program E) (l : Laid) (fits : FitsLayout progra
   abbrev pub first_at : ℕ
   first_at = fields_at l.singles l.identifiers
 
-  pub starts-count : length l.starts ≡ length program.roles.items + 1
+  pub starts-count : length l.starts ≡ length program.roles + 1
   starts-count = omega (arith, ap length starts-are, sums-size first_at sizes, sizes-count)
 
   end-is : laid_size l ≡ slice_index (sums_from first_at sizes) (length sizes)
@@ -53,33 +53,33 @@ module _ {E : Type 0} (program : Program E) (l : Laid) (fits : FitsLayout progra
     small = fits.small;
   }
 
-  pub field-next : (k : ℕ) (r : Role) → slice_get program.roles.items k ≡ Some r → slice_index l.starts (k + 1) ≡ slice_index l.starts k + r.size
+  pub field-next : (k : ℕ) (r : Role) → slice_get program.roles k ≡ Some r → slice_index l.starts (k + 1) ≡ slice_index l.starts k + r.field_size
   field-next k r role =
-      let below : k < length program.roles.items = slice_get_within program.roles.items k r role in
+      let below : k < length program.roles = slice_get_within program.roles k r role in
       let low : slice_get (sums_from first_at sizes) k ≡ Some (slice_index (sums_from first_at sizes) k) =
       slice_get-get_or (sums_from first_at sizes) k 0 (omega (arith, below, sums-size first_at sizes, sizes-count)) in
-      let size : slice_get sizes k ≡ Some r.size = slice_get-map (λ x. x.size) program.roles.items k ∙ ap (λ o. Rattle.std.specs.Prelude.option_map (λ x. x.size) o) role in
-      let next = get_or_from_slice_get (sums_from first_at sizes) (suc k) (slice_index (sums_from first_at sizes) k + r.size) 0 (sums-next first_at sizes k (slice_index (sums_from first_at sizes) k) r.size low size) in
+      let size : slice_get sizes k ≡ Some r.field_size = slice_get-map (λ x. x.field_size) program.roles k ∙ ap (λ o. Rattle.std.specs.Prelude.option_map (λ x. x.field_size) o) role in
+      let next = get_or_from_slice_get (sums_from first_at sizes) (suc k) (slice_index (sums_from first_at sizes) k + r.field_size) 0 (sums-next first_at sizes k (slice_index (sums_from first_at sizes) k) r.field_size low size) in
       let e : k + 1 ≡ suc k = omega arith in
-      subst (λ xs. slice_index xs (k + 1) ≡ slice_index xs k + r.size) (sym starts-are) (ap (slice_index (sums_from first_at sizes)) e ∙ next)
+      subst (λ xs. slice_index xs (k + 1) ≡ slice_index xs k + r.field_size) (sym starts-are) (ap (slice_index (sums_from first_at sizes)) e ∙ next)
 
-  pub field-order : (k : ℕ) → k < length program.roles.items → slice_index l.starts k ≤ slice_index l.starts (k + 1)
+  pub field-order : (k : ℕ) → k < length program.roles → slice_index l.starts k ≤ slice_index l.starts (k + 1)
   field-order k below = apart.rising k (k + 1) (omega arith) (omega (arith, below, starts-count))
 
-  pub field-within : (k : ℕ) → k < length program.roles.items → slice_index l.starts (k + 1) ≤ laid_size l
+  pub field-within : (k : ℕ) → k < length program.roles → slice_index l.starts (k + 1) ≤ laid_size l
   field-within k below = apart.rising (k + 1) (length l.starts - 1) (omega (arith, below, starts-count)) (omega (arith, starts-count))
 
-  pub field-wide : (region : List ℕ) (k : ℕ) (r : Role) → length region ≡ laid_size l → slice_get program.roles.items k ≡ Some r → length (field_bytes l region k) ≡ r.size
+  pub field-wide : (region : List ℕ) (k : ℕ) (r : Role) → length region ≡ laid_size l → slice_get program.roles k ≡ Some r → length (field_bytes l region k) ≡ r.field_size
   field-wide region k r sized role =
-      let below : k < length program.roles.items = slice_get_within program.roles.items k r role in
+      let below : k < length program.roles = slice_get_within program.roles k r role in
       range-size region (slice_index l.starts k) (slice_index l.starts (k + 1)) (field-order k below) (omega (arith, sized, field-within k below))
       ∙ omega (arith, field-next k r role)
 
   -- what one field's new contents leave as it was
-  pub field-written : (region part : List ℕ) (k : ℕ) → k < length program.roles.items → length region ≡ laid_size l → length part ≡ length (field_bytes l region k) → IsFieldWritten l k part region (with_field l region k part)
+  pub field-written : (region part : List ℕ) (k : ℕ) → k < length program.roles → length region ≡ laid_size l → length part ≡ length (field_bytes l region k) → IsFieldWritten l k part region (with_field l region k part)
   field-written region part k below sized same = fields-disjoint l k region part apart sized (omega (arith, below, starts-count)) same
 
-module _ {E : Type 0} (program : Program E) (l : Laid) (fits : FitsLayout program l) (region : List ℕ) (k low high : ℕ) (below : k < length program.roles.items) (sized : length region ≡ laid_size l)
+module _ (program : Tables) (l : Laid) (fits : FitsLayout program l) (region : List ℕ) (k low high : ℕ) (below : k < length program.roles) (sized : length region ≡ laid_size l)
     (is_low : low ≡ slice_index l.starts k) (is_high : high ≡ slice_index l.starts (k + 1)) where
   pub part-same : slice_range region low high ≡ field_bytes l region k
   part-same = ap (λ a. slice_range region a high) is_low ∙ ap (λ b. slice_range region (slice_index l.starts k) b) is_high

@@ -20,3 +20,8 @@ pub mod FeedLemmas
 pub mod SettledLemmas
 pub mod CheckingLemmas
 pub mod HeaderLemmas
+pub mod RoleLemmas
+pub mod JoinLemmas
+pub mod PlanLemmas
+pub mod LayingLemmas
+pub mod WellLemmas

@@ -28,14 +28,15 @@ use Rattle.hs_base.proofs.ChainStreamLemmas.{leaving-goes_on, leaving-begins}
 use Rattle.hs_base.proofs.EntryLemmas.{entries-grow, leaves-listed}
 use Rattle.hs_base.proofs.LiteralRowLemmas.{literals-leave, literals-leave_behind, literals-step, literal-spans_end}
 use Rattle.hs_engine.specs.Engines.{Meaning, TakesByte, TellsLeaves}
-use Rattle.hs_run.specs.Pieces.{IsAlone, IsBare, IsEntered, IsEngined, IsRoleNull, RunsForm, TellsBehind, bytes_of, keeps, bare, entered, engine}
+use Rattle.hs_run.specs.Ways.{way_of}
+use Rattle.hs_run.specs.Pieces.{IsAlone, IsBare, IsEntered, IsEngined, IsRoleNull, RunsForm, TellsBehind, keeps, bare, entered, engine}
 use Rattle.hs_run.proofs.TakingLemmas.{ends-taken}
 use Rattle.hs_base.specs.declared.literal.LitByte.{LitByte}
 use Rattle.hs_base.specs.LiteralView.{literal_byte}
 use Rattle.hs_run.specs.Spots.{IsSpot}
-use Rattle.hs_run.specs.declared.program.Kind.TheVariants as kind
-use Rattle.hs_run.specs.declared.program.Literal.{Literal}
-use Rattle.hs_run.specs.declared.program.Role.{Role}
+use Rattle.hs_run.specs.declared.way.Way.TheVariants as way
+use Rattle.hs_rose.specs.Programs.{Tables}
+use Rattle.hs_rose.specs.declared.role.Role.{Role}
 use Rattle.hs_run.specs.declared.spot.Spot.{Spot}
 
 -- what is kept of a piece of which something is kept
@@ -58,33 +59,33 @@ by-kept (ring set m) pieces bytes u keeps is = is
 
 -- how a role is run, by its kind
 
-module _ {E : Type 0} (meaning : E → Meaning) (engines : List E) (literals : List Literal) (r : Role) (p : Place) where
-  pub bare-of : IsAlone meaning engines literals r p → r.kind ≡ kind.BareLiteral → IsBare meaning engines literals r p
+module _ (program : Tables) (r : Role) (p : Place) where
+  pub bare-of : IsAlone program r p → way_of r ≡ way.BareLiteral → IsBare program r p
   bare-of (bare is) same = is
-  bare-of (entered is) same = absurd (let e : kind.Literal ≡ kind.BareLiteral = sym is.kind ∙ same in cc)
-  bare-of (engine is) same = absurd (let e : kind.Engine ≡ kind.BareLiteral = sym is.kind ∙ same in cc)
+  bare-of (entered is) same = absurd (let e : way.Literal ≡ way.BareLiteral = sym is.kind ∙ same in cc)
+  bare-of (engine is) same = absurd (let e : way.Engine ≡ way.BareLiteral = sym is.kind ∙ same in cc)
 
-  pub entered-of : IsAlone meaning engines literals r p → r.kind ≡ kind.Literal → IsEntered meaning engines literals r p
-  entered-of (bare is) same = absurd (let e : kind.BareLiteral ≡ kind.Literal = sym is.kind ∙ same in cc)
+  pub entered-of : IsAlone program r p → way_of r ≡ way.Literal → IsEntered program r p
+  entered-of (bare is) same = absurd (let e : way.BareLiteral ≡ way.Literal = sym is.kind ∙ same in cc)
   entered-of (entered is) same = is
-  entered-of (engine is) same = absurd (let e : kind.Engine ≡ kind.Literal = sym is.kind ∙ same in cc)
+  entered-of (engine is) same = absurd (let e : way.Engine ≡ way.Literal = sym is.kind ∙ same in cc)
 
-  pub engined-of : IsAlone meaning engines literals r p → r.kind ≡ kind.Engine → IsEngined meaning engines literals r p
-  engined-of (bare is) same = absurd (let e : kind.BareLiteral ≡ kind.Engine = sym is.kind ∙ same in cc)
-  engined-of (entered is) same = absurd (let e : kind.Literal ≡ kind.Engine = sym is.kind ∙ same in cc)
+  pub engined-of : IsAlone program r p → way_of r ≡ way.Engine → IsEngined program r p
+  engined-of (bare is) same = absurd (let e : way.BareLiteral ≡ way.Engine = sym is.kind ∙ same in cc)
+  engined-of (entered is) same = absurd (let e : way.Literal ≡ way.Engine = sym is.kind ∙ same in cc)
   engined-of (engine is) same = is
 
-  pub never-looks_back : IsAlone meaning engines literals r p → r.kind ≡ kind.LookBack → ⊥
-  never-looks_back (bare is) same = let e : kind.BareLiteral ≡ kind.LookBack = sym is.kind ∙ same in cc
-  never-looks_back (entered is) same = let e : kind.Literal ≡ kind.LookBack = sym is.kind ∙ same in cc
-  never-looks_back (engine is) same = let e : kind.Engine ≡ kind.LookBack = sym is.kind ∙ same in cc
+  pub never-looks_back : IsAlone program r p → way_of r ≡ way.LookBack → ⊥
+  never-looks_back (bare is) same = let e : way.BareLiteral ≡ way.LookBack = sym is.kind ∙ same in cc
+  never-looks_back (entered is) same = let e : way.Literal ≡ way.LookBack = sym is.kind ∙ same in cc
+  never-looks_back (engine is) same = let e : way.Engine ≡ way.LookBack = sym is.kind ∙ same in cc
 
 -- the spans of a literal
 
 abbrev lit_trees : List LiteralByte → Trees
 lit_trees xs = trees_of (map (λ x. tree.class (literal_set x)) xs)
 
-lit-width : (w : List ℕ) (ended : Bool) (xs : List LiteralByte) (i j : ℕ) → CatSpans w ended (lit_trees xs) i j → i + length xs ≡ j
+pub lit-width : (w : List ℕ) (ended : Bool) (xs : List LiteralByte) (i j : ℕ) → CatSpans w ended (lit_trees xs) i j → i + length xs ≡ j
 lit-width w ended [] i j span = omega (arith, span)
 lit-width w ended (x ∷ xs) i j (m, one, rest) =
     let e : m ≡ i + 1 = one.1 in
@@ -161,29 +162,29 @@ all-tells pieces piece u holds set Q all tells leaves next = (
   λ behind. all next ∙ tells.1 ((leaves next).1 behind),
 )
 
-pub bare-out : (p : Place) (u : List ℕ) (x : Literal) (ys : List LitByte) (holds : Bool) (set : NextSet) → p.piece ≡ lit (bytes_of x) → p.pieces ≡ [] → ys ≡ x.bytes.items → 1 ≤ length x.bytes.items →
+pub bare-out : (p : Place) (u : List ℕ) (x : List LiteralByte) (ys : List LitByte) (holds : Bool) (set : NextSet) → p.piece ≡ lit x → p.pieces ≡ [] → map literal_byte ys ≡ x → 1 ≤ length x →
     Each (λ b. b < 256) u → ((next : Next) → has_next set next ≡ holds) → ((holds ≡ true) ↔ EndsAt (map literal_byte ys) u (length u)) → TellsBehind set p.pieces p.piece u
 bare-out p u x ys holds set is_piece is_first same some each all tells =
-    let size : length (bytes_of x) ≡ length x.bytes.items = length-map x.bytes.items literal_byte in
     subst (λ piece. TellsBehind set p.pieces piece u) (sym is_piece)
-    (subst (λ pieces. TellsBehind set pieces (lit (bytes_of x)) u) (sym is_first)
-    (all-tells [] (lit (bytes_of x)) u holds set (EndsAt (bytes_of x) u (length u)) all
-    (subst (λ zs. (holds ≡ true) ↔ EndsAt (map literal_byte zs) u (length u)) same tells)
-    (bare-leaves (bytes_of x) u (omega (arith, size, some)) each)))
+    (subst (λ pieces. TellsBehind set pieces (lit x) u) (sym is_first)
+    (all-tells [] (lit x) u holds set (EndsAt x u (length u)) all
+    (subst (λ zs. (holds ≡ true) ↔ EndsAt zs u (length u)) same tells)
+    (bare-leaves x u some each)))
 
-pub entered-out : (p : Place) (part u : List ℕ) (x : Literal) (ys : List LitByte) (holds : Bool) (set : NextSet) → p.piece ≡ lit (bytes_of x) → place_form p ≡ literal (length (bytes_of x)) → ys ≡ x.bytes.items →
-    1 ≤ length x.bytes.items → Each (λ b. b < 256) u → ((next : Next) → has_next set next ≡ holds) →
+pub entered-out : (p : Place) (part u : List ℕ) (x : List LiteralByte) (ys : List LitByte) (holds : Bool) (set : NextSet) → p.piece ≡ lit x → place_form p ≡ literal (length x) → map literal_byte ys ≡ x →
+    1 ≤ length x → Each (λ b. b < 256) u → ((next : Next) → has_next set next ≡ holds) →
     ((holds ≡ true) ↔ ((has_bit part (length ys - 1) ≡ true) × EndsAt (map literal_byte ys) u (length u))) →
     IsKeptAs (place_form p) p.pieces part u → TellsBehind set p.pieces p.piece u
 entered-out p part u x ys holds set is_piece form same some each all tells kept =
-    let size : length (bytes_of x) ≡ length x.bytes.items = length-map x.bytes.items literal_byte in
-    let is : IsKeptBy (literal (length (bytes_of x))) p.pieces part u = subst (λ f. IsKeptAs f p.pieces part u) form kept in
-    let m : ℕ = length x.bytes.items - 1 in
-    let count : length (bytes_of x) ≡ suc m = omega (arith, size, some) in
+    let size : length ys ≡ length x = sym (length-map ys literal_byte) ∙ ap length same in
+    let is : IsKeptBy (literal (length x)) p.pieces part u = subst (λ f. IsKeptAs f p.pieces part u) form kept in
+    let m : ℕ = length x - 1 in
+    let count : length x ≡ suc m = omega (arith, some) in
     subst (λ piece. TellsBehind set p.pieces piece u) (sym is_piece)
-    (all-tells p.pieces (lit (bytes_of x)) u holds set ((has_bit part m ≡ true) × EndsAt (bytes_of x) u (length u)) all
-    (subst (λ zs. (holds ≡ true) ↔ ((has_bit part (length zs - 1) ≡ true) × EndsAt (map literal_byte zs) u (length u))) same tells)
-    (entered-leaves (bytes_of x) u (omega (arith, size, some)) each p.pieces is.entered m (has_bit part) count is.are is.says))
+    (all-tells p.pieces (lit x) u holds set ((has_bit part m ≡ true) × EndsAt x u (length u)) all
+    (subst (λ zs. (holds ≡ true) ↔ ((has_bit part m ≡ true) × EndsAt zs u (length u))) same
+    (subst (λ n. (holds ≡ true) ↔ ((has_bit part (n - 1) ≡ true) × EndsAt (map literal_byte ys) u (length u))) size tells))
+    (entered-leaves x u some each p.pieces is.entered m (has_bit part) count is.are is.says))
 
 pub engine-out : (m : Meaning) (p : Place) (part u : List ℕ) (spot : Spot) (set : NextSet) → RunsForm m (place_form p) (piece_tree p.piece) → IsSpot u spot →
     TellsLeaves m part spot.prev spot.at set → IsKeptAs (place_form p) p.pieces part u → TellsBehind set p.pieces p.piece u

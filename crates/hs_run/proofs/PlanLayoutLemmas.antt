@@ -6,36 +6,36 @@ use Rattle.std.proofs.lemmas.Option.{slice_get-get_or, slice_get_within, get_or_
 use Rattle.hs_base.specs.KeptPieces.{IsKeptAs}
 use Rattle.hs_base.specs.Regions.{Place, Plan, IsPlaced, IsRegion, fields_at, list_places, place_form, place_size, plan_size, plan_starts}
 use Rattle.hs_base.proofs.SumLemmas.{sums-size}
-use Rattle.hs_engine.specs.Engines.{Meaning}
 use Rattle.hs_layout.specs.Layouts.{Laid, laid_size, layout_of}
+use Rattle.hs_rose.specs.Identifiers.{singles_of}
 use Rattle.hs_run.specs.Chains.{AreKept}
 use Rattle.hs_run.specs.Keeping.{HasBits}
-use Rattle.hs_run.specs.Programs.{FitsLayout, IsProgramOf, singles_of, sizes_of}
-use Rattle.hs_run.specs.declared.program.Program.{Program}
+use Rattle.hs_run.specs.Programs.{FitsLayout, RunsPlan, sizes_of}
+use Rattle.hs_rose.specs.Programs.{Tables}
 
 -- the layout of the regions of a plan
 abbrev pub plan_layout : Plan → Laid
 plan_layout plan = layout_of (length plan.singles) (length plan.identifiers) (map place_size (list_places plan))
 
-module _ {E : Type 0} (meaning : E → Meaning) (program : Program E) (plan : Plan) (runs : IsProgramOf meaning program plan) where
-  pub singles-count : length (singles_of program.identifiers.items) ≡ length plan.singles
-  singles-count = sym (length-map (singles_of program.identifiers.items) (λ x. x.id.0)) ∙ ap length runs.singles
+module _ (program : Tables) (plan : Plan) (runs : RunsPlan program plan) where
+  pub singles-count : length (singles_of program.identifiers) ≡ length plan.singles
+  singles-count = sym (length-map (singles_of program.identifiers) (λ x. x.id.0)) ∙ ap length runs.singles
 
-  pub ids-count : length program.identifiers.items ≡ length plan.identifiers
-  ids-count = sym (length-map program.identifiers.items (λ x. x.id.0)) ∙ ap length runs.ids
+  pub ids-count : length program.identifiers ≡ length plan.identifiers
+  ids-count = sym (length-map program.identifiers (λ x. x.id.0)) ∙ ap length runs.ids
 
-  pub roles-count : length program.roles.items ≡ length (list_places plan)
+  pub roles-count : length program.roles ≡ length (list_places plan)
   roles-count =
-      sym (length-map program.roles.items (λ r. r.size)) ∙ (ap length runs.sizes ∙ length-map (list_places plan) place_size)
+      sym (length-map program.roles (λ r. r.field_size)) ∙ (ap length runs.sizes ∙ length-map (list_places plan) place_size)
 
   pub plan-laid : (l : Laid) → FitsLayout program l → l ≡ plan_layout plan
   plan-laid l fits =
       fits.laid
-      ∙ (ap (λ n. layout_of n (length program.identifiers.items) (sizes_of program.roles.items)) singles-count
-      ∙ (ap (λ n. layout_of (length plan.singles) n (sizes_of program.roles.items)) ids-count
+      ∙ (ap (λ n. layout_of n (length program.identifiers) (sizes_of program.roles)) singles-count
+      ∙ (ap (λ n. layout_of (length plan.singles) n (sizes_of program.roles)) ids-count
       ∙ ap (λ ns. layout_of (length plan.singles) (length plan.identifiers) ns) runs.sizes))
 
-pub has-bits : {E : Type 0} (program : Program E) (l : Laid) → FitsLayout program l → HasBits l program.identifiers.items
+pub has-bits : (program : Tables) (l : Laid) → FitsLayout program l → HasBits l program.identifiers
 has-bits program l fits = record { singles = ap (λ x. x.singles) fits.laid; all = ap (λ x. x.identifiers) fits.laid }
 
 -- the fields by number, and by where they begin
@@ -44,7 +44,7 @@ starts-count : (plan : Plan) → length (plan_starts plan) ≡ suc (length (list
 starts-count plan =
     sums-size (fields_at (length plan.singles) (length plan.identifiers)) (map place_size (list_places plan)) ∙ ap suc (length-map (list_places plan) place_size)
 
-placed : (plan : Plan) (k : ℕ) (p : Place) → slice_get (list_places plan) k ≡ Some p → IsPlaced plan k p (slice_index (plan_starts plan) k) (slice_index (plan_starts plan) (k + 1))
+pub placed : (plan : Plan) (k : ℕ) (p : Place) → slice_get (list_places plan) k ≡ Some p → IsPlaced plan k p (slice_index (plan_starts plan) k) (slice_index (plan_starts plan) (k + 1))
 placed plan k p place =
     let below : k < length (list_places plan) = slice_get_within (list_places plan) k p place in
     let e : suc k ≡ k + 1 = omega arith in

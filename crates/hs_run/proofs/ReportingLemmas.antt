@@ -5,8 +5,8 @@ use Rattle.std.specs.Prelude.{option_map}
 use Rattle.std.proofs.lemmas.Option.{same_Some, slice_get-map, slice_get_within}
 use Rattle.hs_base.specs.Settling.{pairs_told}
 use Rattle.hs_base.proofs.PairListLemmas.{one_told, pairs-next, Tell}
-use Rattle.hs_run.specs.declared.program.Identifier.{Identifier}
-use Rattle.hs_run.specs.Programs.{ids_of}
+use Rattle.hs_rose.specs.declared.identifiers.Identifier.{Identifier}
+use Rattle.hs_rose.specs.Identifiers.{ids_of}
 use Rattle.hs_run.specs.declared.ends.Ends.{Ends as EndsAbout}
 use Rattle.hs_run.specs.declared.reporting.Moment.{Moment}
 use Rattle.hs_run.specs.declared.kept.Kept.{Kept as KeptOf}

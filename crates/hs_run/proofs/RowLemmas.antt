@@ -15,10 +15,11 @@ use Rattle.hs_base.specs.Patterns.{Pattern}
 use Rattle.hs_base.specs.Settling.{Ends, EndsHere, HasEndHere, AreRising}
 use Rattle.hs_base.proofs.EntryLemmas.{ends-leaving}
 use Rattle.hs_base.proofs.ListLemmas.{one_of-append, one_of-left, one_of-right}
+use Rattle.hs_rose.specs.Identifiers.{ids_of}
 use Rattle.hs_run.specs.declared.ends.Ends.{Ends as EndsAbout}
-use Rattle.hs_run.specs.declared.program.Identifier.{Identifier}
+use Rattle.hs_rose.specs.declared.identifiers.Identifier.{Identifier}
 use Rattle.hs_run.specs.Ends.{AreEndsAbout, AreLastEnds, AreNoEnds, HasRowEnd, NotesRow, RowEnds, ends_of, no_ends}
-use Rattle.hs_run.specs.Programs.{Row, ids_of, rows_of}
+use Rattle.hs_run.specs.Programs.{Row, rows_of}
 
 -- lists
 

@@ -7,15 +7,14 @@ use Rattle.hs_base.specs.ContextSets.{has_next}
 use Rattle.hs_base.specs.KeptPieces.{IsKeptAs}
 use Rattle.hs_base.specs.Leaving.{TellsLeaving}
 use Rattle.hs_base.specs.Regions.{Place, Plan, fields_at, list_places, place_form}
-use Rattle.hs_engine.specs.Engines.{Meaning}
 use Rattle.hs_layout.specs.Layouts.{Laid, field_bytes}
 use Rattle.hs_run.specs.Pieces.{IsPart}
 use Rattle.hs_run.specs.Programs.{Row, RunsRow, looked}
 use Rattle.hs_run.specs.Spots.{IsSpot}
 use Rattle.hs_run.specs.declared.chains.Begun.{Begun}
-use Rattle.hs_run.specs.declared.program.Chain.{Chain}
-use Rattle.hs_run.specs.declared.program.Program.{Program}
-use Rattle.hs_run.specs.declared.program.Role.{Role}
+use Rattle.hs_rose.specs.declared.info.ChainInfo.{ChainInfo}
+use Rattle.hs_rose.specs.Programs.{Tables}
+use Rattle.hs_rose.specs.declared.role.Role.{Role}
 use Rattle.hs_run.specs.declared.spot.Spot.{Spot}
 
 -- The fields from one number on and before another may be written; all else is as before.
@@ -30,32 +29,32 @@ AreKept plan l region from to u =
     (k : ℕ) (p : Place) → from ≤ k → k < to → slice_get (list_places plan) k ≡ Some p →
     IsKeptAs (place_form p) p.pieces (field_bytes l region k) u
 
-module _ {E : Type 0} (meaning : E → Meaning) (program : Program E) where
+module _ (program : Tables) where
   -- each of those fields may be that of its role at the offset
   abbrev pub AreParts : Laid → (region : List ℕ) (from to at : ℕ) → Type 0
   AreParts l region from to at =
-      (k : ℕ) (r : Role) → from ≤ k → k < to → slice_get program.roles.items k ≡ Some r →
-      IsPart meaning program.engines.items program.literals.items r (field_bytes l region k) at
+      (k : ℕ) (r : Role) → from ≤ k → k < to → slice_get program.roles k ≡ Some r →
+      IsPart program r (field_bytes l region k) at
 
   -- Whatever row the chain runs, and behind whatever stream: where the pieces are left that are told together, and how
   -- many they are.
-  pub record BeginsRow (plan : Plan) (c : Chain) (x : Row) (u : List ℕ) (begun : Begun) : Type 0 where
+  pub record BeginsRow (plan : Plan) (c : ChainInfo) (x : Row) (u : List ℕ) (begun : Begun) : Type 0 where
     pub next : begun.next ≡ c.first + looked (plan.looks_back x.chain)
     pub leaves : TellsLeaving (has_next begun.now) (take (looked (plan.looks_back x.chain)) x.chain) u
 
-  abbrev pub BeginsChain : Chain → Spot → Begun → Type 0
+  abbrev pub BeginsChain : ChainInfo → Spot → Begun → Type 0
   BeginsChain c spot begun =
-      (plan : Plan) (x : Row) (u : List ℕ) → RunsRow meaning program plan c x → IsSpot u spot →
+      (plan : Plan) (x : Row) (u : List ℕ) → RunsRow program plan c x → IsSpot u spot →
       BeginsRow plan c x u begun
 
   -- And where the whole chain is left.
-  abbrev pub LeavesChain : Laid → Chain → (region : List ℕ) → Spot → NextSet → Type 0
+  abbrev pub LeavesChain : Laid → ChainInfo → (region : List ℕ) → Spot → NextSet → Type 0
   LeavesChain l c region spot set =
-      (plan : Plan) (x : Row) (u : List ℕ) → RunsRow meaning program plan c x → IsSpot u spot →
+      (plan : Plan) (x : Row) (u : List ℕ) → RunsRow program plan c x → IsSpot u spot →
       AreKept plan l region c.first c.end u → TellsLeaving (has_next set) x.chain u
 
   -- And its fields behind the byte.
-  abbrev pub StepsChain : Laid → Chain → (old new : List ℕ) → Spot → (byte : ℕ) → Type 0
+  abbrev pub StepsChain : Laid → ChainInfo → (old new : List ℕ) → Spot → (byte : ℕ) → Type 0
   StepsChain l c old new spot byte =
-      (plan : Plan) (x : Row) (u : List ℕ) → RunsRow meaning program plan c x → IsSpot u spot →
+      (plan : Plan) (x : Row) (u : List ℕ) → RunsRow program plan c x → IsSpot u spot →
       AreKept plan l old c.first c.end u → AreKept plan l new c.first c.end (u ++ byte ∷ [])

@@ -11,15 +11,15 @@ use Rattle.hs_base.specs.Lists.{OneOf}
 use Rattle.hs_base.specs.Patterns.{Pattern}
 use Rattle.hs_base.specs.Regions.{Plan}
 use Rattle.hs_base.specs.Settling.{Ends, AreEnds, HasEndHere}
-use Rattle.hs_engine.specs.Engines.{Meaning}
 use Rattle.hs_layout.specs.Layouts.{Laid}
 use Rattle.hs_run.specs.Chains.{AreKept}
-use Rattle.hs_run.specs.Programs.{Row, RunsRow, IsProgramOf}
+use Rattle.hs_run.specs.Programs.{Row, RunsRow, RunsPlan}
 use Rattle.hs_run.specs.Spots.{IsSpot}
 use Rattle.hs_run.specs.declared.ends.Ends.{Ends as EndsAbout}
-use Rattle.hs_run.specs.declared.program.Chain.{Chain}
-use Rattle.hs_run.specs.declared.program.Identifier.{Identifier}
-use Rattle.hs_run.specs.declared.program.Program.{Program}
+use Rattle.hs_rose.specs.declared.info.ChainInfo.{ChainInfo}
+use Rattle.hs_rose.specs.declared.info.EntryInfo.{EntryInfo}
+use Rattle.hs_rose.specs.declared.identifiers.Identifier.{Identifier}
+use Rattle.hs_rose.specs.Programs.{Tables}
 use Rattle.hs_run.specs.declared.spot.Spot.{Spot}
 
 -- where matches of an identifier end about a byte, as plain data
@@ -41,11 +41,11 @@ pub record RowEnds (id : ℕ) (u : List ℕ) (next : Next) (x : Row) : Type 0 wh
   pub below : length u ≤ x.pattern.greatest
   pub left : LeavesAt x.chain u next
 
--- left within the bounds of the chain's pattern
-abbrev pub IsWithinBounds : Chain → (at : ℕ) → NextSet → NextSet → Type 0
-IsWithinBounds c at left within =
+-- left within the bounds of the entry
+abbrev pub IsWithinBounds : EntryInfo → (at : ℕ) → NextSet → NextSet → Type 0
+IsWithinBounds info at left within =
     (next : Next) →
-    (has_next within next ≡ true) ↔ ((c.min_offset ≤ at) × (at ≤ c.max_offset) × (has_next left next ≡ true))
+    (has_next within next ≡ true) ↔ ((info.min_offset ≤ at) × (at ≤ info.max_offset) × (has_next left next ≡ true))
 
 -- some row does
 abbrev pub HasRowEnd : List Row → ℕ → List ℕ → Next → Type 0
@@ -74,7 +74,7 @@ AreLastEnds P u identifiers ends =
     (e.behind ≡ true) ↔ HasEndHere P identifier.id.0 u after.End
 
 -- The fields are those behind the byte, and the matches of the row are added to the ends.
-pub record IsMoved (plan : Plan) (l : Laid) (c : Chain) (x : Row) (new u : List ℕ) (b : ℕ) (before after : Ends) :
+pub record IsMoved (plan : Plan) (l : Laid) (c : ChainInfo) (x : Row) (new u : List ℕ) (b : ℕ) (before after : Ends) :
     Type 0 where
   pub kept : AreKept plan l new c.first c.end (u ++ b ∷ [])
   pub notes : NotesRow x u b before after
@@ -85,30 +85,30 @@ pub record AreMoved (plan : Plan) (l : Laid) (count : ℕ) (identifiers : List I
   pub kept : AreKept plan l new 0 count (u ++ b ∷ [])
   pub about : AreEndsAbout plan.patterns u b identifiers ends
 
-module _ {E : Type 0} (meaning : E → Meaning) (program : Program E) where
+module _ (program : Tables) where
   -- whatever row the chain runs, and behind whatever stream
-  abbrev pub MovesChain : Laid → Chain → (old new : List ℕ) → Spot → (b : ℕ) → (before after : Ends) → Type 0
+  abbrev pub MovesChain : Laid → ChainInfo → (old new : List ℕ) → Spot → (b : ℕ) → (before after : Ends) → Type 0
   MovesChain l c old new spot b before after =
-      (plan : Plan) (x : Row) (u : List ℕ) → RunsRow meaning program plan c x → IsSpot u spot →
+      (plan : Plan) (x : Row) (u : List ℕ) → RunsRow program plan c x → IsSpot u spot →
       AreKept plan l old c.first c.end u → IsMoved plan l c x new u b before after
 
   -- whatever plan the program runs
   abbrev pub MovesChains : Laid → (old new : List ℕ) → Spot → (b : ℕ) → List EndsAbout → Type 0
   MovesChains l old new spot b ends =
-      (plan : Plan) (u : List ℕ) → IsProgramOf meaning program plan → IsSpot u spot →
-      AreKept plan l old 0 (length program.roles.items) u →
-      AreMoved plan l (length program.roles.items) program.identifiers.items new u b ends
+      (plan : Plan) (u : List ℕ) → RunsPlan program plan → IsSpot u spot →
+      AreKept plan l old 0 (length program.roles) u →
+      AreMoved plan l (length program.roles) program.identifiers new u b ends
 
   -- whether matches of the row end with the stream was added
-  abbrev pub EndsChain : Laid → Chain → (region : List ℕ) → Spot → (before later : Bool) → Type 0
+  abbrev pub EndsChain : Laid → ChainInfo → (region : List ℕ) → Spot → (before later : Bool) → Type 0
   EndsChain l c region spot before later =
-      (plan : Plan) (x : Row) (u : List ℕ) → RunsRow meaning program plan c x → IsSpot u spot →
+      (plan : Plan) (x : Row) (u : List ℕ) → RunsRow program plan c x → IsSpot u spot →
       AreKept plan l region c.first c.end u →
       (later ≡ true) ↔ ((before ≡ true) ⊎ RowEnds x.pattern.id u after.End x)
 
   -- and where matches end with the stream
   abbrev pub EndsChains : Laid → (region : List ℕ) → Spot → List EndsAbout → Type 0
   EndsChains l region spot ends =
-      (plan : Plan) (u : List ℕ) → IsProgramOf meaning program plan → IsSpot u spot →
-      AreKept plan l region 0 (length program.roles.items) u →
-      AreLastEnds plan.patterns u program.identifiers.items ends
+      (plan : Plan) (u : List ℕ) → RunsPlan program plan → IsSpot u spot →
+      AreKept plan l region 0 (length program.roles) u →
+      AreLastEnds plan.patterns u program.identifiers ends

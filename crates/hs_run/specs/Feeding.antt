@@ -3,16 +3,15 @@ use Rattle.std.specs.Prelude.{◌≡◌, ℕ, ◌<◌, List, ◌++◌, length}
 use Rattle.hs_base.specs.Lists.{Each}
 use Rattle.hs_base.specs.Regions.{Plan, IsHeader, IsRegion, region_offset}
 use Rattle.hs_base.specs.Told.{Pair, IsTold, IsNew, IsLast}
-use Rattle.hs_engine.specs.Engines.{Meaning}
 use Rattle.hs_layout.specs.Layouts.{Laid, laid_size}
 use Rattle.hs_run.specs.Chains.{AreParts}
 use Rattle.hs_run.specs.Keeping.{AreBitsWritten, AreRead}
-use Rattle.hs_run.specs.Programs.{IsProgramOf}
+use Rattle.hs_run.specs.Programs.{RunsPlan}
 use Rattle.hs_run.specs.Reporting.{AreSettled, pairs_about}
 use Rattle.hs_run.specs.declared.ends.Ends.{Ends}
 use Rattle.hs_run.specs.declared.kept.Kept.{Kept}
-use Rattle.hs_run.specs.declared.program.Identifier.{Identifier}
-use Rattle.hs_run.specs.declared.program.Program.{Program}
+use Rattle.hs_rose.specs.declared.identifiers.Identifier.{Identifier}
+use Rattle.hs_rose.specs.Programs.{Tables}
 
 -- What one byte settles of the identifiers: the bits of the old region and those of the new one, and the pairs that are
 -- reported.
@@ -39,11 +38,11 @@ pub record AreAlike (First Second : List Pair → Type 0) : Type 0 where
   pub first : First pairs
   pub second : Second pairs
 
-module _ {E : Type 0} (meaning : E → Meaning) (program : Program E) where
+module _ (program : Tables) where
   -- The bytes may be run as a region: they have its length, and each field may stand at their offset.
   pub record FitsRegion (l : Laid) (region : List ℕ) : Type 0 where
     pub sized : length region ≡ laid_size l
-    pub parts : AreParts meaning program l region 0 (length program.roles.items) (region_offset region)
+    pub parts : AreParts program l region 0 (length program.roles) (region_offset region)
 
   -- And its header keeps to its rules.
   pub record IsWellRegion (l : Laid) (region : List ℕ) : Type 0 where
@@ -54,7 +53,7 @@ module _ {E : Type 0} (meaning : E → Meaning) (program : Program E) where
   abbrev pub Feeds : (old new bytes : List ℕ) → List Pair → Type 0
   Feeds old new bytes pairs =
       (plan : Plan) (u : List ℕ) (told : List Pair) →
-      IsProgramOf meaning program plan →
+      RunsPlan program plan →
       Each (λ b. b < 256) u →
       IsRegion plan u old →
       IsTold plan.patterns u told →
@@ -65,7 +64,7 @@ module _ {E : Type 0} (meaning : E → Meaning) (program : Program E) where
   abbrev pub Finishes : (region : List ℕ) → List Pair → Type 0
   Finishes region pairs =
       (plan : Plan) (u : List ℕ) →
-      IsProgramOf meaning program plan →
+      RunsPlan program plan →
       Each (λ b. b < 256) u →
       IsRegion plan u region →
       IsLast plan.patterns u pairs
@@ -74,7 +73,7 @@ module _ {E : Type 0} (meaning : E → Meaning) (program : Program E) where
   abbrev pub GoesOnAlike : (region bytes : List ℕ) → Type 0
   GoesOnAlike region bytes =
       (plan : Plan) (u v : List ℕ) (told told' : List Pair) →
-      IsProgramOf meaning program plan →
+      RunsPlan program plan →
       Each (λ b. b < 256) u →
       Each (λ b. b < 256) v →
       IsRegion plan u region →
@@ -87,7 +86,7 @@ module _ {E : Type 0} (meaning : E → Meaning) (program : Program E) where
   abbrev pub EndsAlike : (region : List ℕ) → Type 0
   EndsAlike region =
       (plan : Plan) (u v : List ℕ) →
-      IsProgramOf meaning program plan →
+      RunsPlan program plan →
       Each (λ b. b < 256) u →
       Each (λ b. b < 256) v →
       IsRegion plan u region →

@@ -4,9 +4,9 @@ use Rattle.hs_base.specs.Bits.{has_bit}
 use Rattle.hs_base.specs.Regions.{fields_at, here_at, last_at, told_at}
 use Rattle.hs_base.specs.Settling.{Kept}
 use Rattle.hs_layout.specs.Layouts.{Laid}
-use Rattle.hs_run.specs.Programs.{singles_of}
+use Rattle.hs_rose.specs.Identifiers.{singles_of}
 use Rattle.hs_run.specs.declared.kept.Kept.{Kept as KeptOf}
-use Rattle.hs_run.specs.declared.program.Identifier.{Identifier}
+use Rattle.hs_rose.specs.declared.identifiers.Identifier.{Identifier}
 
 -- what is kept of an identifier, as plain data
 abbrev pub plain_kept : KeptOf → Kept

@@ -1,4 +1,5 @@
 pub mod Spots
+pub mod Ways
 pub mod Pieces
 pub mod Programs
 pub mod Looking
@@ -10,3 +11,5 @@ pub mod Keeping
 pub mod Reporting
 pub mod Feeding
 pub mod Scratches
+pub mod JoinLaws
+pub mod Clearing

@@ -1,6 +1,6 @@
 -- Which program runs the patterns of a plan.
-use Rattle.std.specs.Prelude.{◌≡◌, ◌⊎◌, ℕ, suc, ◌+◌, ◌^◌, ◌<◌, ◌≤◌, Bool}
-use Rattle.std.specs.Prelude.{true, false, List, [], ◌∷◌, length, map, flat_map, take}
+use Rattle.std.specs.Prelude.{◌≡◌, ◌⊎◌, ℕ, suc, ◌+◌, ◌-◌, ◌^◌, ◌<◌, ◌≤◌, Bool}
+use Rattle.std.specs.Prelude.{true, false, List, ◌∷◌, length, map, flat_map, take}
 use Rattle.std.specs.Prelude.{Some, slice_get}
 use Rattle.hs_base.specs.Chains.{Piece, lit, nfa, chains_of, IsFitChain}
 use Rattle.hs_base.specs.Leaving.{IsAtMostWide}
@@ -9,15 +9,19 @@ use Rattle.hs_base.specs.Lists.{Each}
 use Rattle.hs_base.specs.Patterns.{Pattern, is_single}
 use Rattle.hs_base.specs.Regions.{Place, Plan, IsPlan, list_places, place_size}
 use Rattle.hs_base.specs.Trees.{Tree}
-use Rattle.hs_engine.specs.Engines.{Meaning}
 use Rattle.hs_layout.specs.Layouts.{Laid, laid_size, layout_of}
-use Rattle.hs_run.specs.Pieces.{IsRoleNull, IsRoleOf, IsSound, bytes_of}
-use Rattle.hs_run.specs.declared.program.Chain.{Chain}
-use Rattle.hs_run.specs.declared.program.Identifier.{Identifier}
-use Rattle.hs_run.specs.declared.program.Kind.TheVariants as kind
-use Rattle.hs_run.specs.declared.program.Literal.{Literal}
-use Rattle.hs_run.specs.declared.program.Program.{Program}
-use Rattle.hs_run.specs.declared.program.Role.{Role}
+use Rattle.hs_run.specs.Pieces.{IsRoleNull, IsRoleOf, IsSound}
+use Rattle.hs_rose.specs.declared.info.ChainInfo.{ChainInfo}
+use Rattle.hs_rose.specs.declared.identifiers.Identifier.{Identifier}
+use Rattle.hs_run.specs.declared.way.Way.TheVariants as way
+use Rattle.hs_rose.specs.declared.engine.PieceEngine.{PieceEngine}
+use Rattle.hs_rose.specs.declared.info.EntryInfo.{EntryInfo}
+use Rattle.hs_rose.specs.Identifiers.{ids_of, singles_of}
+use Rattle.hs_rose.specs.PieceEngines.{piece_meaning}
+use Rattle.hs_base.specs.Literals.{LiteralByte}
+use Rattle.hs_run.specs.Ways.{way_of}
+use Rattle.hs_rose.specs.Programs.{Tables}
+use Rattle.hs_rose.specs.declared.role.Role.{Role}
 
 -- a chain of a pattern
 pub record Row : Type 0 where
@@ -48,132 +52,125 @@ window_size = 16
 abbrev pub window_room : ℕ
 window_room = 64
 
--- the numbers of the identifiers
-abbrev pub ids_of : List Identifier → List ℕ
-ids_of identifiers = map (λ identifier. identifier.id.0) identifiers
-
--- the single ones among them
-abbrev pub with_single : Bool → Identifier → List Identifier → List Identifier
-with_single true x xs = x ∷ xs
-with_single false x xs = xs
-
-abbrev pub singles_of : List Identifier → List Identifier
-singles_of [] = []
-singles_of (x ∷ xs) = with_single x.single x (singles_of xs)
-
 -- the sizes of the fields
 abbrev pub sizes_of : List Role → List ℕ
-sizes_of roles = map (λ role. role.size) roles
+sizes_of roles = map (λ role. role.field_size) roles
 
 -- nothing is kept of the role's piece
 abbrev pub HasNoField : Role → Type 0
-HasNoField r = (r.kind ≡ kind.LookBack) ⊎ (r.kind ≡ kind.BareLiteral)
+HasNoField r = (way_of r ≡ way.LookBack) ⊎ (way_of r ≡ way.BareLiteral)
 
 -- the chain has a first role, and that looks back
-abbrev pub FirstLooksBack : {E : Type 0} → Program E → Chain → Type 0
+abbrev pub FirstLooksBack : Tables → ChainInfo → Type 0
 FirstLooksBack program c =
-    (c.first < c.end) × ((r : Role) → slice_get program.roles.items c.first ≡ Some r → r.kind ≡ kind.LookBack)
+    (c.first < c.end) × ((r : Role) → slice_get program.roles c.first ≡ Some r → way_of r ≡ way.LookBack)
 
-module _ {E : Type 0} (meaning : E → Meaning) (program : Program E) where
+module _ (program : Tables) where
   -- the role of that number runs the piece by itself
   abbrev pub RunsPlace : Role → Place → Type 0
-  RunsPlace r p = IsRoleOf meaning program.engines.items program.literals.items r p
+  RunsPlace r p = IsRoleOf program r p
 
   -- The role of that number runs an expression that looks back, and the next one the literal behind it.
   pub record LooksBack (first : ℕ) (chain : List Piece) : Type 0 where
     pub tree : Tree
-    pub value : Literal
+    pub value : List LiteralByte
     pub rest : List Piece
-    pub is_chain : chain ≡ nfa tree ∷ lit (bytes_of value) ∷ rest
+    pub is_chain : chain ≡ nfa tree ∷ lit (value) ∷ rest
     pub before : Role
-    pub there : slice_get program.roles.items first ≡ Some before
-    pub kind : before.kind ≡ kind.LookBack
-    pub engine : E
-    pub engine_there : slice_get program.engines.items before.engine ≡ Some engine
-    pub runs : (meaning engine).is_for tree
-    pub listed : (meaning engine).always ≡ false
+    pub there : slice_get program.roles first ≡ Some before
+    pub kind : way_of before ≡ way.LookBack
+    pub engine : PieceEngine
+    pub engine_there : slice_get program.engines before.number ≡ Some engine
+    pub runs : (piece_meaning engine).is_for tree
+    pub listed : (piece_meaning engine).always ≡ false
     pub narrow : IsAtMostWide window_size tree
     pub null : IsRoleNull before.null tree
     pub behind : Role
-    pub behind_there : slice_get program.roles.items (suc first) ≡ Some behind
-    pub value_there : slice_get program.literals.items behind.literal ≡ Some value
+    pub behind_there : slice_get program.roles (suc first) ≡ Some behind
+    pub value_there : slice_get program.literals behind.number ≡ Some value
 
   -- The chain has a role for each piece of the row.
-  pub record RunsRow (plan : Plan) (c : Chain) (x : Row) : Type 0 where
+  pub record RunsRow (plan : Plan) (c : ChainInfo) (x : Row) : Type 0 where
     pub end : c.end ≡ c.first + length x.chain
     pub fit : IsFitChain x.chain
     pub places : (i : ℕ) (piece : Piece) → slice_get x.chain i ≡ Some piece →
         slice_get (list_places plan) (c.first + i) ≡ Some (row_place plan x.chain i piece)
     pub alone : (i : ℕ) (piece : Piece) (r : Role) → looked (plan.looks_back x.chain) ≤ i →
         slice_get x.chain i ≡ Some piece →
-        slice_get program.roles.items (c.first + i) ≡ Some r → RunsPlace r (row_place plan x.chain i piece)
+        slice_get program.roles (c.first + i) ≡ Some r → RunsPlace r (row_place plan x.chain i piece)
     pub looks_back : plan.looks_back x.chain ≡ true → LooksBack c.first x.chain
-    pub least : c.min_offset ≡ x.pattern.least
-    pub greatest : c.max_offset ≡ x.pattern.greatest
+    pub entry : EntryInfo
+    pub entry_there : slice_get program.entries (c.entry - 1) ≡ Some entry
+    pub least : entry.min_offset ≡ x.pattern.least
+    pub greatest : entry.max_offset ≡ x.pattern.greatest
     pub identifier : Identifier
-    pub named : slice_get program.identifiers.items c.identifier ≡ Some identifier
+    pub named : slice_get program.identifiers entry.identifier ≡ Some identifier
     pub id : identifier.id.0 ≡ x.pattern.id
 
   -- The program has a chain for each of the plan, and its identifiers.
-  pub record IsProgramOf (plan : Plan) : Type 0 where
+  pub record RunsPlan (plan : Plan) : Type 0 where
     pub is_plan : IsPlan plan
     pub spans : Each HasSpansOfChains plan.patterns
-    pub count : length program.chains.items ≡ length (plan_rows plan)
-    pub rows : (j : ℕ) (c : Chain) (x : Row) → slice_get program.chains.items j ≡ Some c →
+    pub count : length program.chains ≡ length (plan_rows plan)
+    pub rows : (j : ℕ) (c : ChainInfo) (x : Row) → slice_get program.chains j ≡ Some c →
         slice_get (plan_rows plan) j ≡ Some x → RunsRow plan c x
-    pub sizes : sizes_of program.roles.items ≡ map place_size (list_places plan)
-    pub ids : ids_of program.identifiers.items ≡ plan.identifiers
-    pub singles : ids_of (singles_of program.identifiers.items) ≡ plan.singles
-    pub single : (i : ℕ) (x : Identifier) → slice_get program.identifiers.items i ≡ Some x →
+    pub sizes : sizes_of program.roles ≡ map place_size (list_places plan)
+    pub ids : ids_of program.identifiers ≡ plan.identifiers
+    pub singles : ids_of (singles_of program.identifiers) ≡ plan.singles
+    pub single : (i : ℕ) (x : Identifier) → slice_get program.identifiers i ≡ Some x →
         x.single ≡ is_single plan.patterns x.id.0
 
   -- The role names an engine whose regions have room.
   pub record HasWindow (r : Role) : Type 0 where
-    pub value : E
-    pub there : slice_get program.engines.items r.engine ≡ Some value
-    pub narrow : (meaning value).width ≤ window_room
+    pub value : PieceEngine
+    pub there : slice_get program.engines r.number ≡ Some value
+    pub narrow : (piece_meaning value).width ≤ window_room
 
   -- the first role of the chain looks back, and what it and the next one name is there
-  pub record IsLookSound (c : Chain) (r : Role) : Type 0 where
+  pub record IsLookSound (c : ChainInfo) (r : Role) : Type 0 where
     pub within : c.first + 2 ≤ c.end
     pub engine : HasWindow r
-    pub literal : Literal
+    pub literal : List LiteralByte
     pub behind : Role
-    pub behind_there : slice_get program.roles.items (suc c.first) ≡ Some behind
-    pub behind_kind : behind.kind ≡ kind.BareLiteral
-    pub literal_there : slice_get program.literals.items behind.literal ≡ Some literal
-    pub some : 1 ≤ length literal.bytes.items
-    pub short : length literal.bytes.items ≤ 32
+    pub behind_there : slice_get program.roles (suc c.first) ≡ Some behind
+    pub behind_kind : way_of behind ≡ way.BareLiteral
+    pub literal_there : slice_get program.literals behind.number ≡ Some literal
+    pub some : 1 ≤ length literal
+    pub short : length literal ≤ 32
 
-  -- The chain has roles that are there, and an identifier.
-  pub record IsChainSound (c : Chain) : Type 0 where
+  -- The chain has roles that are there, and an entry with an identifier.
+  pub record IsChainSound (c : ChainInfo) : Type 0 where
     pub order : c.first ≤ c.end
-    pub within : c.end ≤ length program.roles.items
-    pub identifier : c.identifier < length program.identifiers.items
-    pub looks_back : (r : Role) → slice_get program.roles.items c.first ≡ Some r → c.first < c.end →
-        r.kind ≡ kind.LookBack →
+    pub within : c.end ≤ length program.roles
+    pub small : c.end < 2 ^ 64
+    pub numbered : 1 ≤ c.entry
+    pub entry : c.entry ≤ length program.entries
+    pub identifier : (info : EntryInfo) → slice_get program.entries (c.entry - 1) ≡ Some info →
+        info.identifier < length program.identifiers
+    pub looks_back : (r : Role) → slice_get program.roles c.first ≡ Some r → c.first < c.end →
+        way_of r ≡ way.LookBack →
         IsLookSound c r
 
   -- The program can be run: what is named is there, and the chains follow one another.
   pub record IsRunnable : Type 0 where
-    pub roles : (k : ℕ) (r : Role) → slice_get program.roles.items k ≡ Some r →
-        IsSound meaning program.engines.items program.literals.items r r.size
-    pub chains : (j : ℕ) (c : Chain) → slice_get program.chains.items j ≡ Some c → IsChainSound c
-    pub begins : (c : Chain) → slice_get program.chains.items 0 ≡ Some c → c.first ≡ 0
-    pub follows : (j : ℕ) (c d : Chain) → slice_get program.chains.items j ≡ Some c →
-        slice_get program.chains.items (suc j) ≡ Some d → d.first ≡ c.end
-    pub ends : (j : ℕ) (c : Chain) → slice_get program.chains.items j ≡ Some c → suc j ≡ length program.chains.items →
-        c.end ≡ length program.roles.items
-    pub few : length program.identifiers.items < 2 ^ 32
-    pub none : length program.chains.items ≡ 0 → length program.roles.items ≡ 0
+    pub roles : (k : ℕ) (r : Role) → slice_get program.roles k ≡ Some r →
+        IsSound program r r.field_size
+    pub chains : (j : ℕ) (c : ChainInfo) → slice_get program.chains j ≡ Some c → IsChainSound c
+    pub begins : (c : ChainInfo) → slice_get program.chains 0 ≡ Some c → c.first ≡ 0
+    pub follows : (j : ℕ) (c d : ChainInfo) → slice_get program.chains j ≡ Some c →
+        slice_get program.chains (suc j) ≡ Some d → d.first ≡ c.end
+    pub ends : (j : ℕ) (c : ChainInfo) → slice_get program.chains j ≡ Some c → suc j ≡ length program.chains →
+        c.end ≡ length program.roles
+    pub few : length program.identifiers < 2 ^ 32
+    pub none : length program.chains ≡ 0 → length program.roles ≡ 0
 
 -- the layout of the regions of a program
-abbrev pub program_layout : {E : Type 0} → Program E → Laid
+abbrev pub program_layout : Tables → Laid
 program_layout program =
-    layout_of (length (singles_of program.identifiers.items)) (length program.identifiers.items)
-    (sizes_of program.roles.items)
+    layout_of (length (singles_of program.identifiers)) (length program.identifiers)
+    (sizes_of program.roles)
 
 -- The layout is that of the program, and its regions are small enough.
-pub record FitsLayout {E : Type 0} (program : Program E) (l : Laid) : Type 0 where
+pub record FitsLayout (program : Tables) (l : Laid) : Type 0 where
   pub laid : l ≡ program_layout program
   pub small : laid_size l ≤ 2 ^ 24

@@ -2,8 +2,8 @@
 use Rattle.std.specs.Prelude.{◌≡◌, ℕ, ◌+◌, Bool, List, [], ◌∷◌, ◌++◌, Some, slice_get}
 use Rattle.hs_base.specs.Told.{Pair}
 use Rattle.hs_base.specs.Settling.{Kept, Ends, tells_before, tells_behind, tells_end, settled, pairs_told}
-use Rattle.hs_run.specs.declared.program.Identifier.{Identifier}
-use Rattle.hs_run.specs.Programs.{ids_of}
+use Rattle.hs_rose.specs.declared.identifiers.Identifier.{Identifier}
+use Rattle.hs_rose.specs.Identifiers.{ids_of}
 use Rattle.hs_run.specs.declared.ends.Ends.{Ends as EndsAbout}
 use Rattle.hs_run.specs.declared.reporting.Moment.{Moment}
 use Rattle.hs_run.specs.declared.reporting.Moment.TheVariants.{BeforeByte, BehindByte, BeforeLastByte, AtEnd}

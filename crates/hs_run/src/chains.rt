@@ -8,11 +8,12 @@ ghost use Rattle.hs_run.specs.Programs.{FirstLooksBack, FitsLayout, HasNoField, 
 
 use crate::fields::{leave_at, role_at, step_at};
 use crate::look_back::leave_looked_back;
-use crate::program::{Chain, Program, Role};
 use crate::spot::Spot;
+use crate::way::looks_back;
 use hs_base::NextSet;
 use hs_engine::{Engine, Steps};
 use hs_layout::Layout;
+use hs_rose::{ChainInfo, Program, Role};
 use std::sync::ledger::Ledger;
 
 /// The pieces of a chain that are told together are gone through.
@@ -25,26 +26,26 @@ pub(crate) struct Begun {
 }
 
 /// Whether the first piece of a chain looks back.
-fn begins_back<E: Engine>(program: &Program<E>, chain: &Chain) -> bool
-    requires within { chain.now.end ≤ length program.now.roles.items }
+fn begins_back(program: &Program, chain: &ChainInfo) -> bool
+    requires within { chain.now.end ≤ length program.now.roles }
     ensures { (result ≡ true) ↔ FirstLooksBack program.now chain.now }
 {
     if chain.first >= chain.end {
         return false;
     }
-    role_at(program, chain.first).looks_back()
+    looks_back(role_at(program, chain.first))
 }
 
 /// Begins a chain: no piece is left everywhere, and a piece that looks back is told with the literal behind it.
-fn begin_chain<E: Engine, L: Ledger>(
-    program: &Program<E>,
-    chain: &Chain,
+fn begin_chain<L: Ledger>(
+    program: &Program,
+    chain: &ChainInfo,
     spot: &Spot,
     window: &mut [u8],
     steps: &mut Steps<L>,
 ) -> Begun
-    requires runs { IsRunnable E.meaning program.now }
-    requires sound { IsChainSound E.meaning program.now chain.now }
+    requires runs { IsRunnable program.now }
+    requires sound { IsChainSound program.now chain.now }
     requires window { length window.old ≡ window_room }
     requires room { spot.now.at < 2 ^ 63 }
     requires whole { length spot.now.history ≡ history_size }
@@ -52,8 +53,8 @@ fn begin_chain<E: Engine, L: Ledger>(
     ensures low { chain.now.first ≤ result.next }
     ensures high { result.next ≤ chain.now.end }
     ensures bare { (k : ℕ) (r : Role) → chain.now.first ≤ k → k < result.next →
-        slice_get program.now.roles.items k ≡ Some r → HasNoField r }
-    ensures begins { BeginsChain E.meaning program.now chain.now spot.now result }
+        slice_get program.now.roles k ≡ Some r → HasNoField r }
+    ensures begins { BeginsChain program.now chain.now spot.now result }
 {
     if begins_back(program, chain) {
         return Begun {
@@ -68,25 +69,25 @@ fn begin_chain<E: Engine, L: Ledger>(
 }
 
 /// What may come next where a chain is left.
-pub(crate) fn leave_chain<E: Engine, L: Ledger>(
-    program: &Program<E>,
+pub(crate) fn leave_chain<L: Ledger>(
+    program: &Program,
     layout: &Layout,
     region: &[u8],
-    chain: &Chain,
+    chain: &ChainInfo,
     spot: &Spot,
     window: &mut [u8],
     steps: &mut Steps<L>,
 ) -> NextSet
-    requires runs { IsRunnable E.meaning program.now }
-    requires sound { IsChainSound E.meaning program.now chain.now }
+    requires runs { IsRunnable program.now }
+    requires sound { IsChainSound program.now chain.now }
     requires fits { FitsLayout program.now layout.now }
     requires sized { length region.now ≡ laid_size layout.now }
-    requires parts { AreParts E.meaning program.now layout.now region.now chain.now.first chain.now.end spot.now.at }
+    requires parts { AreParts program.now layout.now region.now chain.now.first chain.now.end spot.now.at }
     requires room { spot.now.at < 2 ^ 63 }
     requires window { length window.old ≡ window_room }
     requires whole { length spot.now.history ≡ history_size }
     ensures window { length window.new ≡ length window.old }
-    ensures leaves { LeavesChain E.meaning program.now layout.now chain.now region.now spot.now result }
+    ensures leaves { LeavesChain program.now layout.now chain.now region.now spot.now result }
 {
     let begun = begin_chain(program, chain, spot, window, steps);
     let mut now = begun.now;
@@ -97,30 +98,30 @@ pub(crate) fn leave_chain<E: Engine, L: Ledger>(
 }
 
 /// Takes a byte for each role of a chain, and answers as `leave_chain`, of before the byte.
-pub(crate) fn step_chain<E: Engine, L: Ledger>(
-    program: &Program<E>,
+pub(crate) fn step_chain<L: Ledger>(
+    program: &Program,
     layout: &Layout,
     region: &mut [u8],
-    chain: &Chain,
+    chain: &ChainInfo,
     spot: &Spot,
     byte: u8,
     window: &mut [u8],
     steps: &mut Steps<L>,
 ) -> NextSet
-    requires runs { IsRunnable E.meaning program.now }
-    requires sound { IsChainSound E.meaning program.now chain.now }
+    requires runs { IsRunnable program.now }
+    requires sound { IsChainSound program.now chain.now }
     requires fits { FitsLayout program.now layout.now }
     requires sized { length region.old ≡ laid_size layout.now }
-    requires parts { AreParts E.meaning program.now layout.now region.old chain.now.first chain.now.end spot.now.at }
+    requires parts { AreParts program.now layout.now region.old chain.now.first chain.now.end spot.now.at }
     requires room { spot.now.at < 2 ^ 63 }
     requires window { length window.old ≡ window_room }
     requires whole { length spot.now.history ≡ history_size }
     ensures window { length window.new ≡ length window.old }
     ensures written { AreWritten layout.now chain.now.first chain.now.end region.old region.new }
-    ensures parts { AreParts E.meaning program.now layout.now region.new chain.now.first chain.now.end
+    ensures parts { AreParts program.now layout.now region.new chain.now.first chain.now.end
         (spot.now.at + 1) }
-    ensures leaves { LeavesChain E.meaning program.now layout.now chain.now region.old spot.now result }
-    ensures steps { StepsChain E.meaning program.now layout.now chain.now region.old region.new spot.now byte }
+    ensures leaves { LeavesChain program.now layout.now chain.now region.old spot.now result }
+    ensures steps { StepsChain program.now layout.now chain.now region.old region.new spot.now byte }
 {
     let begun = begin_chain(program, chain, spot, window, steps);
     let mut now = begun.now;

@@ -9,11 +9,12 @@ ghost use Rattle.hs_run.specs.Pieces.{IsPart, IsSound};
 ghost use Rattle.hs_run.specs.Programs.{FitsLayout, IsRunnable};
 
 use crate::fields::role_at;
-use crate::program::{Kind, Program, Role};
 use crate::roles::{engine_of, literal_of};
+use crate::way::Way;
 use hs_bits::{BYTE_BITS, has_bit_in};
 use hs_engine::Engine;
 use hs_layout::Layout;
+use hs_rose::{Program, Role};
 
 /// Whether the row may be one of a literal of so many bytes at that offset: no bit is set that stands for nothing, or
 /// for an entry before the stream's first byte.
@@ -35,27 +36,27 @@ fn is_field<E: Engine>(engine: &E, part: &[u8], at: u64) -> bool
 }
 
 /// Whether the bytes may be the field of a role at that offset.
-fn is_part<E: Engine>(role: &Role, program: &Program<E>, part: &[u8], at: u64) -> bool
-    requires sound { IsSound E.meaning program.now.engines.items program.now.literals.items role.now (length part.now) }
-    ensures { IsTrue result ↔ IsPart E.meaning program.now.engines.items program.now.literals.items role.now part.now
+fn is_part(role: &Role, program: &Program, part: &[u8], at: u64) -> bool
+    requires sound { IsSound program.now role.now (length part.now) }
+    ensures { IsTrue result ↔ IsPart program.now role.now part.now
         at }
 {
-    match role.kind {
-        Kind::LookBack | Kind::BareLiteral => true,
-        Kind::Literal => is_row(part, literal_of(role, program).bytes.len(), at),
-        Kind::Engine => is_field(engine_of(role, program), part, at),
+    match Way::of(role) {
+        Way::LookBack | Way::BareLiteral => true,
+        Way::Literal => is_row(part, literal_of(role, program).len(), at),
+        Way::Engine => is_field(engine_of(role, program), part, at),
     }
 }
 
 /// Whether each field may be that of its role at the offset.
-fn are_parts<E: Engine>(program: &Program<E>, layout: &Layout, region: &[u8], at: u64) -> bool
-    requires runs { IsRunnable E.meaning program.now }
+fn are_parts(program: &Program, layout: &Layout, region: &[u8], at: u64) -> bool
+    requires runs { IsRunnable program.now }
     requires layout { FitsLayout program.now layout.now }
     requires sized { length region.now ≡ laid_size layout.now }
-    ensures { IsTrue result ↔ AreParts E.meaning program.now layout.now region.now 0 (length program.now.roles.items)
+    ensures { IsTrue result ↔ AreParts program.now layout.now region.now 0 (length program.now.roles)
         at }
 {
-    for k in 0..program.roles.len() {
+    for k in 0..program.roles().len() {
         if !is_part(role_at(program, k), program, layout.piece(region, k), at) {
             return false;
         }
@@ -65,10 +66,10 @@ fn are_parts<E: Engine>(program: &Program<E>, layout: &Layout, region: &[u8], at
 
 /// Whether the bytes may be a region of the program: they have its length, and its header and each field keep to their
 /// rules.
-pub fn well_formed<E: Engine>(program: &Program<E>, layout: &Layout, region: &[u8]) -> bool
-    requires runs { IsRunnable E.meaning program.now }
+pub fn well_formed(program: &Program, layout: &Layout, region: &[u8]) -> bool
+    requires runs { IsRunnable program.now }
     requires layout { FitsLayout program.now layout.now }
-    ensures { IsTrue result ↔ IsWellRegion E.meaning program.now layout.now region.now }
+    ensures { IsTrue result ↔ IsWellRegion program.now layout.now region.now }
 {
     if region.len() != layout.size() {
         return false;

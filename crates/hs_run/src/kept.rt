@@ -3,10 +3,10 @@
 ghost use Rattle.std.specs.Prelude.{◌≡◌, ℕ, ◌+◌, ◌<◌, ◌≤◌, ◌^◌, [], true, length};
 ghost use Rattle.hs_layout.specs.Layouts.{laid_size};
 ghost use Rattle.hs_run.specs.Keeping.{AreBitsWritten, AreRead, HasBits, IsOneWritten, IsRead};
-ghost use Rattle.hs_run.specs.Programs.{with_single};
+ghost use Rattle.hs_rose.specs.Identifiers.{with_single};
 
-use crate::program::Identifier;
 use hs_layout::Layout;
+use hs_rose::Identifier;
 
 /// What is kept of an identifier.
 #[derive(Clone, Copy, Debug, PartialEq, Eq)]
@@ -29,7 +29,7 @@ impl Kept {
 }
 
 /// How many single identifiers come up to that one, if so many come before it.
-fn singles_up_to(identifier: Identifier, before: usize) -> usize
+pub(crate) fn singles_up_to(identifier: Identifier, before: usize) -> usize
     requires room { before < 2 ^ 32 }
     ensures { result ≡ before + length (with_single identifier.single identifier []) }
 {

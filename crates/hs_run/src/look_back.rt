@@ -4,16 +4,17 @@ ghost use Rattle.std.specs.Prelude.{◌≡◌, ℕ, ◌-◌, ◌<◌, ◌≤◌,
 ghost use Rattle.hs_base.specs.Regions.{history_size};
 ghost use Rattle.hs_run.specs.Looking.{LeavesBack, LeavesLooked, RunsBack};
 ghost use Rattle.hs_run.specs.Programs.{HasWindow, IsChainSound, window_room};
-ghost use Rattle.hs_run.specs.declared.program.Kind.TheVariants as kind;
+ghost use Rattle.hs_run.specs.declared.way.Way.TheVariants as way;
+ghost use Rattle.hs_run.specs.Ways.{way_of};
 
 use crate::fields::role_at;
 use crate::literals::ends_here;
-use crate::program::{Chain, Program, Role};
 use crate::roles::{all_if, engine_of, go_on, literal_of};
 use crate::spot::{Spot, prev_behind};
 use hs_base::{Next, NextSet, Prev};
 use hs_engine::{Engine, Steps};
 use hs_layout::HISTORY_SIZE;
+use hs_rose::{ChainInfo, Program, Role};
 use std::sync::ledger::Ledger;
 
 /// The most bytes of the region of an engine that looks back.
@@ -55,54 +56,54 @@ fn run_back<E: Engine, L: Ledger>(
 }
 
 /// What may come next where the piece of a role that looks back is left, more than `back` bytes ago.
-fn leave_back<E: Engine, L: Ledger>(
+fn leave_back<L: Ledger>(
     role: &Role,
-    program: &Program<E>,
+    program: &Program,
     spot: &Spot,
     back: usize,
     window: &mut [u8],
     steps: &mut Steps<L>,
 ) -> NextSet
-    requires sound { HasWindow E.meaning program.now role.now }
+    requires sound { HasWindow program.now role.now }
     requires window { length window.old ≡ window_room }
     requires back { back ≤ 32 }
     requires within { back ≤ spot.now.at }
     requires room { spot.now.at < 2 ^ 63 }
     requires whole { length spot.now.history ≡ history_size }
     ensures window { length window.new ≡ length window.old }
-    ensures leaves { LeavesBack E.meaning program.now role.now spot.now back result }
+    ensures leaves { LeavesBack program.now role.now spot.now back result }
 {
     let engine = engine_of(role, program);
     let part = &mut window[..engine.size()];
     let prev = run_back(engine, part, spot, back, steps);
     let out = engine.out(part, prev, spot.at - back as u64);
-    go_on(out, role.null, prev, NextSet::all())
+    go_on(out, role.null(), prev, NextSet::all())
 }
 
 /// What may come next where a first piece that looks back and the literal behind it are left: the literal ends here,
 /// and the piece is left before it.
-pub(crate) fn leave_looked_back<E: Engine, L: Ledger>(
-    program: &Program<E>,
-    chain: &Chain,
+pub(crate) fn leave_looked_back<L: Ledger>(
+    program: &Program,
+    chain: &ChainInfo,
     spot: &Spot,
     window: &mut [u8],
     steps: &mut Steps<L>,
 ) -> NextSet
-    requires sound { IsChainSound E.meaning program.now chain.now }
+    requires sound { IsChainSound program.now chain.now }
     requires some { chain.now.first < chain.now.end }
-    requires looks_back { (r : Role) → slice_get program.now.roles.items chain.now.first ≡ Some r →
-        r.kind ≡ kind.LookBack }
+    requires looks_back { (r : Role) → slice_get program.now.roles chain.now.first ≡ Some r →
+        way_of r ≡ way.LookBack }
     requires window { length window.old ≡ window_room }
     requires room { spot.now.at < 2 ^ 63 }
     requires whole { length spot.now.history ≡ history_size }
     ensures window { length window.new ≡ length window.old }
-    ensures leaves { LeavesLooked E.meaning program.now chain.now.first spot.now result }
+    ensures leaves { LeavesLooked program.now chain.now.first spot.now result }
 {
     let literal = literal_of(role_at(program, chain.first + 1), program);
-    if !ends_here(&literal.bytes, spot) {
+    if !ends_here(literal, spot) {
         return NextSet::empty();
     }
-    let back = literal.bytes.len();
+    let back = literal.len();
     let before = leave_back(
         role_at(program, chain.first),
         program,

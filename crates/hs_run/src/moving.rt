@@ -1,6 +1,6 @@
 //! All chains of a program over one byte, and at the end of a stream: where matches of each identifier end.
 
-ghost use Rattle.std.specs.Prelude.{◌≡◌, ℕ, ◌+◌, ◌<◌, ◌≤◌, ◌^◌, List, [], ◌∷◌, ◌++◌, length, Some, slice_get};
+ghost use Rattle.std.specs.Prelude.{◌≡◌, ℕ, ◌+◌, ◌-◌, ◌<◌, ◌≤◌, ◌^◌, List, [], ◌∷◌, ◌++◌, length, Some, slice_get};
 ghost use Rattle.hs_base.specs.Regions.{history_size};
 ghost use Rattle.hs_layout.specs.Layouts.{laid_size};
 ghost use Rattle.hs_run.specs.Chains.{AreParts, AreWritten};
@@ -10,39 +10,39 @@ ghost use Rattle.hs_run.specs.Spots.{IsSpot};
 
 use crate::chains::{leave_chain, step_chain};
 use crate::ends::{Ends, forget};
-use crate::program::{Chain, Program};
 use crate::spot::{Arrival, Spot};
 use hs_base::NextSet;
 use hs_engine::{Engine, Steps};
 use hs_layout::Layout;
+use hs_rose::{ChainInfo, EntryInfo, Program};
 use std::sync::ledger::Ledger;
 
 /// What may come next where a chain is left, if a match may end at that offset.
-fn within_bounds(chain: &Chain, at: u64, left: NextSet) -> NextSet
-    ensures { IsWithinBounds chain.now at left result }
+fn within_bounds(entry: &EntryInfo, at: u64, left: NextSet) -> NextSet
+    ensures { IsWithinBounds entry.now at left result }
 {
-    if at < chain.min_offset || chain.max_offset < at {
+    if at < entry.min_offset || entry.max_offset < at {
         return NextSet::empty();
     }
     left
 }
 
 /// Takes a byte for one chain, and adds where its matches end about it to the ends.
-fn move_chain<E: Engine, L: Ledger>(
-    program: &Program<E>,
+fn move_chain<L: Ledger>(
+    program: &Program,
     layout: &Layout,
     region: &mut [u8],
-    chain: &Chain,
+    chain: &ChainInfo,
     arrival: &Arrival,
     window: &mut [u8],
     ends: &mut Ends,
     steps: &mut Steps<L>,
 )
-    requires runs { IsRunnable E.meaning program.now }
-    requires sound { IsChainSound E.meaning program.now chain.now }
+    requires runs { IsRunnable program.now }
+    requires sound { IsChainSound program.now chain.now }
     requires fits { FitsLayout program.now layout.now }
     requires sized { length region.old ≡ laid_size layout.now }
-    requires parts { AreParts E.meaning program.now layout.now region.old chain.now.first chain.now.end
+    requires parts { AreParts program.now layout.now region.old chain.now.first chain.now.end
         arrival.now.spot.at }
     requires room { arrival.now.behind.at < 2 ^ 63 }
     requires next { arrival.now.behind.at ≡ arrival.now.spot.at + 1 }
@@ -53,9 +53,9 @@ fn move_chain<E: Engine, L: Ledger>(
     requires whole_behind { length arrival.now.behind.history ≡ history_size }
     ensures window { length window.new ≡ length window.old }
     ensures written { AreWritten layout.now chain.now.first chain.now.end region.old region.new }
-    ensures parts { AreParts E.meaning program.now layout.now region.new chain.now.first chain.now.end
+    ensures parts { AreParts program.now layout.now region.new chain.now.first chain.now.end
         (arrival.now.spot.at + 1) }
-    ensures moves { MovesChain E.meaning program.now layout.now chain.now region.old region.new arrival.now.spot
+    ensures moves { MovesChain program.now layout.now chain.now region.old region.new arrival.now.spot
         arrival.now.byte
         (ends_of ends.old) (ends_of ends.new) }
 {
@@ -78,24 +78,34 @@ fn move_chain<E: Engine, L: Ledger>(
         window,
         steps,
     );
+    let entry = entry_of(program, chain);
     ends.note(
         arrival.byte,
-        within_bounds(chain, arrival.spot.at, left),
-        within_bounds(chain, arrival.behind.at, left_behind),
+        within_bounds(entry, arrival.spot.at, left),
+        within_bounds(entry, arrival.behind.at, left_behind),
     );
 }
 
-/// The chain of that number.
-fn chain_at<E: Engine>(program: &Program<E>, j: usize) -> &Chain
-    requires there { j < length program.now.chains.items }
-    ensures { slice_get program.now.chains.items j ≡ Some result.now }
+/// The entry of a chain.
+fn entry_of<'p>(program: &'p Program, chain: &ChainInfo) -> &'p EntryInfo
+    requires some { 1 ≤ chain.now.entry }
+    requires there { chain.now.entry ≤ length program.now.entries }
+    ensures { slice_get program.now.entries (chain.now.entry - 1) ≡ Some result.now }
 {
-    &program.chains[j]
+    &program.entries()[chain.entry as usize - 1]
+}
+
+/// The chain of that number.
+fn chain_at(program: &Program, j: usize) -> &ChainInfo
+    requires there { j < length program.now.chains }
+    ensures { slice_get program.now.chains j ≡ Some result.now }
+{
+    &program.chains()[j]
 }
 
 /// Takes a byte for every chain, and notes where matches of each identifier end about it.
-pub(crate) fn move_chains<E: Engine, L: Ledger>(
-    program: &Program<E>,
+pub(crate) fn move_chains<L: Ledger>(
+    program: &Program,
     layout: &Layout,
     region: &mut [u8],
     arrival: &Arrival,
@@ -103,10 +113,10 @@ pub(crate) fn move_chains<E: Engine, L: Ledger>(
     ends: &mut [Ends],
     steps: &mut Steps<L>,
 )
-    requires runs { IsRunnable E.meaning program.now }
+    requires runs { IsRunnable program.now }
     requires fits { FitsLayout program.now layout.now }
     requires sized { length region.old ≡ laid_size layout.now }
-    requires parts { AreParts E.meaning program.now layout.now region.old 0 (length program.now.roles.items)
+    requires parts { AreParts program.now layout.now region.old 0 (length program.now.roles)
         arrival.now.spot.at }
     requires room { arrival.now.behind.at < 2 ^ 63 }
     requires next { arrival.now.behind.at ≡ arrival.now.spot.at + 1 }
@@ -115,17 +125,17 @@ pub(crate) fn move_chains<E: Engine, L: Ledger>(
     requires window { length window.old ≡ window_room }
     requires whole { length arrival.now.spot.history ≡ history_size }
     requires whole_behind { length arrival.now.behind.history ≡ history_size }
-    requires ends { length ends.old ≡ length program.now.identifiers.items }
+    requires ends { length ends.old ≡ length program.now.identifiers }
     ensures window { length window.new ≡ length window.old }
     ensures ends { length ends.new ≡ length ends.old }
-    ensures written { AreWritten layout.now 0 (length program.now.roles.items) region.old region.new }
-    ensures parts { AreParts E.meaning program.now layout.now region.new 0 (length program.now.roles.items)
+    ensures written { AreWritten layout.now 0 (length program.now.roles) region.old region.new }
+    ensures parts { AreParts program.now layout.now region.new 0 (length program.now.roles)
         (arrival.now.spot.at + 1) }
-    ensures moves { MovesChains E.meaning program.now layout.now region.old region.new arrival.now.spot
+    ensures moves { MovesChains program.now layout.now region.old region.new arrival.now.spot
         arrival.now.byte ends.new }
 {
     forget(ends);
-    for j in 0..program.chains.len() {
+    for j in 0..program.chains().len() {
         let chain = chain_at(program, j);
         move_chain(
             program,
@@ -134,42 +144,43 @@ pub(crate) fn move_chains<E: Engine, L: Ledger>(
             chain,
             arrival,
             window,
-            &mut ends[chain.identifier],
+            &mut ends[entry_of(program, chain).identifier as usize],
             steps,
         );
     }
 }
 
 /// Adds to the ends whether a match of a chain ends, if the stream ends here.
-fn end_chain<E: Engine, L: Ledger>(
-    program: &Program<E>,
+fn end_chain<L: Ledger>(
+    program: &Program,
     layout: &Layout,
     region: &[u8],
-    chain: &Chain,
+    chain: &ChainInfo,
     spot: &Spot,
     window: &mut [u8],
     ends: &mut Ends,
     steps: &mut Steps<L>,
 )
-    requires runs { IsRunnable E.meaning program.now }
-    requires sound { IsChainSound E.meaning program.now chain.now }
+    requires runs { IsRunnable program.now }
+    requires sound { IsChainSound program.now chain.now }
     requires fits { FitsLayout program.now layout.now }
     requires sized { length region.now ≡ laid_size layout.now }
-    requires parts { AreParts E.meaning program.now layout.now region.now chain.now.first chain.now.end spot.now.at }
+    requires parts { AreParts program.now layout.now region.now chain.now.first chain.now.end spot.now.at }
     requires room { spot.now.at < 2 ^ 63 }
     requires window { length window.old ≡ window_room }
     requires whole { length spot.now.history ≡ history_size }
     ensures window { length window.new ≡ length window.old }
-    ensures ends { EndsChain E.meaning program.now layout.now chain.now region.now spot.now
+    ensures ends { EndsChain program.now layout.now chain.now region.now spot.now
         ends.old.behind ends.new.behind }
 {
     let left = leave_chain(program, layout, region, chain, spot, window, steps);
-    ends.note_end(within_bounds(chain, spot.at, left));
+    let entry = entry_of(program, chain);
+    ends.note_end(within_bounds(entry, spot.at, left));
 }
 
 /// Notes of each identifier whether a match of it ends, if the stream ends here.
-pub(crate) fn end_chains<E: Engine, L: Ledger>(
-    program: &Program<E>,
+pub(crate) fn end_chains<L: Ledger>(
+    program: &Program,
     layout: &Layout,
     region: &[u8],
     spot: &Spot,
@@ -177,21 +188,21 @@ pub(crate) fn end_chains<E: Engine, L: Ledger>(
     ends: &mut [Ends],
     steps: &mut Steps<L>,
 )
-    requires runs { IsRunnable E.meaning program.now }
+    requires runs { IsRunnable program.now }
     requires fits { FitsLayout program.now layout.now }
     requires sized { length region.now ≡ laid_size layout.now }
-    requires parts { AreParts E.meaning program.now layout.now region.now 0 (length program.now.roles.items)
+    requires parts { AreParts program.now layout.now region.now 0 (length program.now.roles)
         spot.now.at }
     requires room { spot.now.at < 2 ^ 63 }
     requires window { length window.old ≡ window_room }
     requires whole { length spot.now.history ≡ history_size }
-    requires ends { length ends.old ≡ length program.now.identifiers.items }
+    requires ends { length ends.old ≡ length program.now.identifiers }
     ensures window { length window.new ≡ length window.old }
     ensures ends { length ends.new ≡ length ends.old }
-    ensures about { EndsChains E.meaning program.now layout.now region.now spot.now ends.new }
+    ensures about { EndsChains program.now layout.now region.now spot.now ends.new }
 {
     forget(ends);
-    for j in 0..program.chains.len() {
+    for j in 0..program.chains().len() {
         let chain = chain_at(program, j);
         end_chain(
             program,
@@ -200,7 +211,7 @@ pub(crate) fn end_chains<E: Engine, L: Ledger>(
             chain,
             spot,
             window,
-            &mut ends[chain.identifier],
+            &mut ends[entry_of(program, chain).identifier as usize],
             steps,
         );
     }

@@ -10,8 +10,8 @@ ghost use Rattle.hs_run.specs.Keeping.{plain_kept};
 use crate::ends::Ends;
 use crate::events::Events;
 use crate::kept::Kept;
-use crate::program::Identifier;
 use hs_base::ExprId;
+use hs_rose::Identifier;
 
 /// Which pairs of the identifiers are reported in one go.
 #[derive(Clone, Copy, Debug, PartialEq, Eq)]

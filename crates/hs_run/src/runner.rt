@@ -11,18 +11,18 @@ ghost use Rattle.hs_run.specs.Scratches.{FitsScratch};
 use crate::events::Events;
 use crate::kept::read_kept;
 use crate::moving::{end_chains, move_chains};
-use crate::program::{Identifier, Program};
 use crate::reporting::{Moment, report};
 use crate::scratch::Scratch;
 use crate::settling::settle_bits;
 use crate::spot::{Arrival, Spot};
 use hs_engine::{Engine, Steps};
 use hs_layout::Layout;
+use hs_rose::{Identifier, Program};
 use std::sync::ledger::Ledger;
 
 /// Takes a byte of the stream of a region, and reports what it decides.
-fn feed_byte<E: Engine, V: Events, L: Ledger>(
-    program: &Program<E>,
+fn feed_byte<V: Events, L: Ledger>(
+    program: &Program,
     layout: &Layout,
     region: &mut [u8],
     scratch: &mut Scratch,
@@ -30,18 +30,18 @@ fn feed_byte<E: Engine, V: Events, L: Ledger>(
     events: &mut V,
     steps: &mut Steps<L>,
 )
-    requires runs { IsRunnable E.meaning program.now }
+    requires runs { IsRunnable program.now }
     requires layout { FitsLayout program.now layout.now }
-    requires region { FitsRegion E.meaning program.now layout.now region.old }
+    requires region { FitsRegion program.now layout.now region.old }
     requires scratch { FitsScratch program.now scratch.old }
     requires room { region_offset region.old + 1 ≤ greatest_offset }
-    ensures region { FitsRegion E.meaning program.now layout.now region.new }
+    ensures region { FitsRegion program.now layout.now region.new }
     ensures scratch { FitsScratch program.now scratch.new }
     ensures offset { region_offset region.new ≡ region_offset region.old + 1 }
     ensures header { IsHeader layout.now.singles layout.now.identifiers region.old →
         IsHeader layout.now.singles layout.now.identifiers region.new }
     ensures taken { Takes V.tells events.old events.new
-        (Feeds E.meaning program.now region.old region.new (byte ∷ [])) }
+        (Feeds program.now region.old region.new (byte ∷ [])) }
 {
     let spot = Spot::of(layout, region);
     let behind = spot.behind(byte);
@@ -58,7 +58,7 @@ fn feed_byte<E: Engine, V: Events, L: Ledger>(
     settle_bits(
         layout,
         region,
-        &program.identifiers,
+        program.identifiers(),
         &scratch.ends,
         &mut scratch.kept,
         arrival.spot.at,
@@ -70,8 +70,8 @@ fn feed_byte<E: Engine, V: Events, L: Ledger>(
 
 /// Takes the next bytes of the stream of a region, and reports what they decide, in the order in which they do. The
 /// offset stays a number that a stream may have.
-pub fn feed<E: Engine, V: Events, L: Ledger>(
-    program: &Program<E>,
+pub fn feed<V: Events, L: Ledger>(
+    program: &Program,
     layout: &Layout,
     region: &mut [u8],
     scratch: &mut Scratch,
@@ -79,19 +79,19 @@ pub fn feed<E: Engine, V: Events, L: Ledger>(
     events: &mut V,
     steps: &mut Steps<L>,
 )
-    requires runs { IsRunnable E.meaning program.now }
+    requires runs { IsRunnable program.now }
     requires layout { FitsLayout program.now layout.now }
-    requires region { FitsRegion E.meaning program.now layout.now region.old }
+    requires region { FitsRegion program.now layout.now region.old }
     requires scratch { FitsScratch program.now scratch.old }
     requires room { region_offset region.old + length bytes.now ≤ greatest_offset }
-    ensures region { FitsRegion E.meaning program.now layout.now region.new }
+    ensures region { FitsRegion program.now layout.now region.new }
     ensures scratch { FitsScratch program.now scratch.new }
-    ensures well { IsWellRegion E.meaning program.now layout.now region.old →
-        IsWellRegion E.meaning program.now layout.now region.new }
+    ensures well { IsWellRegion program.now layout.now region.old →
+        IsWellRegion program.now layout.now region.new }
     ensures offset { region_offset region.new ≡ region_offset region.old + length bytes.now }
     ensures taken { Takes V.tells events.old events.new
-        (Feeds E.meaning program.now region.old region.new bytes.now) }
-    ensures alike { GoesOnAlike E.meaning program.now region.old bytes.now }
+        (Feeds program.now region.old region.new bytes.now) }
+    ensures alike { GoesOnAlike program.now region.old bytes.now }
 {
     for place in 0..bytes.len() {
         feed_byte(
@@ -107,22 +107,22 @@ pub fn feed<E: Engine, V: Events, L: Ledger>(
 }
 
 /// Reports what only the end of the stream decides, if it ends here. The region stays as it is.
-pub fn finish<E: Engine, V: Events, L: Ledger>(
-    program: &Program<E>,
+pub fn finish<V: Events, L: Ledger>(
+    program: &Program,
     layout: &Layout,
     region: &[u8],
     scratch: &mut Scratch,
     events: &mut V,
     steps: &mut Steps<L>,
 )
-    requires runs { IsRunnable E.meaning program.now }
+    requires runs { IsRunnable program.now }
     requires layout { FitsLayout program.now layout.now }
-    requires region { FitsRegion E.meaning program.now layout.now region.now }
+    requires region { FitsRegion program.now layout.now region.now }
     requires scratch { FitsScratch program.now scratch.old }
     requires room { region_offset region.now ≤ greatest_offset }
     ensures scratch { FitsScratch program.now scratch.new }
-    ensures taken { Takes V.tells events.old events.new (Finishes E.meaning program.now region.now) }
-    ensures alike { EndsAlike E.meaning program.now region.now }
+    ensures taken { Takes V.tells events.old events.new (Finishes program.now region.now) }
+    ensures alike { EndsAlike program.now region.now }
 {
     let spot = Spot::of(layout, region);
     end_chains(
@@ -134,7 +134,7 @@ pub fn finish<E: Engine, V: Events, L: Ledger>(
         &mut scratch.ends,
         steps,
     );
-    let identifiers: &[Identifier] = &program.identifiers;
+    let identifiers: &[Identifier] = program.identifiers();
     read_kept(layout, region, identifiers, &mut scratch.kept);
     report(
         Moment::BeforeLastByte,

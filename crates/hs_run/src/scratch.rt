@@ -5,8 +5,8 @@ ghost use Rattle.std.specs.Prelude.{◌↔◌, IfOk, IsTrue};
 use crate::ends::Ends;
 use crate::kept::Kept;
 use crate::look_back::WINDOW_ROOM;
-use crate::program::Program;
 use hs_engine::Engine;
+use hs_rose::Program;
 use std::alloc::{AllocError, Global};
 
 /// Memory that a runner uses within a call, for one program at a time. A scratch serves any stream of a program that it
@@ -25,10 +25,10 @@ impl Scratch {
     ghost use Rattle.hs_run.specs.Scratches.{FitsScratch};
 
     /// A scratch for the program.
-    pub fn new<E: Engine>(alloc: Global, program: &Program<E>) -> Result<Scratch, AllocError>
+    pub fn new(alloc: Global, program: &Program) -> Result<Scratch, AllocError>
         ensures { IfOk result (λ scratch. FitsScratch program.now scratch) }
     {
-        let count = program.identifiers.len();
+        let count = program.identifiers().len();
         Ok(Scratch {
             window: vec![in alloc; 0u8; WINDOW_ROOM]?,
             ends: vec![in alloc; Ends::none(); count]?,
@@ -37,10 +37,10 @@ impl Scratch {
     }
 
     /// Whether the scratch serves the program.
-    pub fn fits<E: Engine>(&self, program: &Program<E>) -> bool
+    pub fn fits(&self, program: &Program) -> bool
         ensures { IsTrue result ↔ FitsScratch program.now self.now }
     {
-        let count = program.identifiers.len();
+        let count = program.identifiers().len();
         self.window.len() == WINDOW_ROOM && self.ends.len() == count && self.kept.len() == count
     }
 }

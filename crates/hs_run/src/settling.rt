@@ -9,9 +9,9 @@ ghost use Rattle.hs_run.specs.Keeping.{HasBits};
 use crate::ends::Ends;
 use crate::events::Events;
 use crate::kept::{Kept, read_kept, write_kept};
-use crate::program::Identifier;
 use crate::reporting::{Moment, report, settle};
 use hs_layout::Layout;
+use hs_rose::Identifier;
 
 /// Reports the pairs that a byte at the offset `at` decides, those that end before it and then those that end behind
 /// it, each by identifier, and writes into the region what it settles. `kept` is room for what is kept of them.

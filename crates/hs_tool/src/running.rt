@@ -14,30 +14,19 @@ const NAME_BYTES: &[u8] = b"ABCDEFGHIJKLMNOPQRSTUVWXYZabcdefghijklmnopqrstuvwxyz
 /// The most calls of which each is to fail.
 const MOST_CALLS: u64 = 200;
 
-/// What fails in turn.
-#[derive(Clone, Copy)]
-enum Part {
-    Store,
-    Source,
-    Out,
-}
+/// What fails in turn, and what is written to `err` then.
+const PARTS: [(&str, &str); 3] = [
+    ("store", "fault store\n"),
+    ("source", "fault read\n"),
+    ("out", "fault write\n"),
+];
 
-impl Part {
-    /// That call of the commands on this part fails, and what is written to `err` then.
-    fn fails(self, setting: &Setting, call: u64) -> (Faults, &'static [u8]) {
-        let (store, source, out) = (setting.puts().saturating_add(call), call, call);
-        match self {
-            Part::Store => (Faults { store, ..NO_FAULTS }, b"fault store\n"),
-            Part::Source => (
-                Faults {
-                    source,
-                    ..NO_FAULTS
-                },
-                b"fault read\n",
-            ),
-            Part::Out => (Faults { out, ..NO_FAULTS }, b"fault write\n"),
-        }
-    }
+/// That call of the commands on this part fails.
+fn faults_at(setting: &Setting, part: &str, call: u64) -> Result<Faults, Fail> {
+    let mut faults = NO_FAULTS;
+    let before = if part == "store" { setting.puts() } else { 0 };
+    faults.set(part.as_bytes(), before.saturating_add(call))?;
+    Ok(faults)
 }
 
 /// Adds a line for each name of two letters that begins with that one.
@@ -108,24 +97,16 @@ impl World {
         )
     }
 
-    /// Whether a call failed.
-    fn has_failed(&self) -> bool {
-        0 < self.store.store.faults() || 0 < self.input.faults() || 0 < self.out.faults()
-    }
-
-    /// The file `d`, empty where there is none.
-    fn database(&self) -> &[u8] {
-        self.store.store.file("d").unwrap_or(b"")
-    }
-
     /// What was answered where the last status is this one.
     fn answer(&self, alloc: Global, status: u8) -> Result<Answer, AllocError> {
         Ok(Answer {
             status: u32::from(status),
             out: self.out.written().to_vec(alloc)?,
-            is_cut: self.has_failed(),
+            is_cut: 0 < self.store.store.faults()
+                || 0 < self.input.faults()
+                || 0 < self.out.faults(),
             err: self.err.written().to_vec(alloc)?,
-            left: Some(self.database().to_vec(alloc)?),
+            left: Some(self.store.store.file("d").unwrap_or(b"").to_vec(alloc)?),
         })
     }
 }
@@ -164,15 +145,15 @@ fn judge_calls(
     name: &str,
     setting: &Setting,
     wanted: &Answer,
-    part: Part,
+    part: &str,
+    line: &str,
 ) -> Result<(), Fail> {
     for call in 1..MOST_CALLS {
-        let (faults, line) = part.fails(setting, call);
-        let found = run_row(alloc, setting, 1, faults)?;
+        let found = run_row(alloc, setting, 1, faults_at(setting, part, call)?)?;
         if !found.is_cut {
             return Ok(());
         }
-        if !wanted.is_cut_short(&found, line) {
+        if !wanted.is_cut_short(&found, line.as_bytes()) {
             return Err(unwanted(name, call, &found));
         }
     }
@@ -197,8 +178,8 @@ fn judge_words(
     let name = format!(in alloc; "{words:?} = {written:?}")?;
     judge_row(alloc, &name, &setting, &wanted)?;
     if setting.fails_each {
-        for part in [Part::Store, Part::Source, Part::Out] {
-            judge_calls(alloc, &name, &setting, &wanted, part)?;
+        for (part, line) in PARTS {
+            judge_calls(alloc, &name, &setting, &wanted, part, line)?;
         }
     }
     Ok(())

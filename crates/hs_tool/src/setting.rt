@@ -176,7 +176,7 @@ impl Setting {
 
 impl Faults {
     /// Takes the call that fails of that name.
-    fn set(&mut self, name: &[u8], call: u64) -> Result<(), Fail> {
+    pub(crate) fn set(&mut self, name: &[u8], call: u64) -> Result<(), Fail> {
         match name {
             b"store" => self.store = call,
             b"source" => self.source = call,

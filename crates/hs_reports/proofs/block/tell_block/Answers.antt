@@ -1,6 +1,6 @@
 use Rattle.std.proofs.Common.{ℕ, ◌+◌, sym, subst}
 use Rattle.hs_reports.specs.Events.{Through, still}
-use Rattle.hs_reports.specs.Walks.{id_numbers}
+use Rattle.hs_reports.specs.Identifiers.{id_numbers}
 use Rattle.hs_reports.specs.WordBits.{row_bit}
 use Rattle.hs_reports.proofs.BlockLemmas.{chunk-none}
 use Rattle.hs_reports.proofs.WalkLemmas.{walked-none, walked-next, through-place, told-all}

@@ -1,7 +1,8 @@
 use Rattle.std.proofs.Common.{ℕ}
 use Rattle.hs_reports.specs.Chunks.{chunk_pairs}
 use Rattle.hs_reports.specs.Events.{Through}
-use Rattle.hs_reports.specs.Walks.{id_numbers, IsWalked}
+use Rattle.hs_reports.specs.Identifiers.{id_numbers}
+use Rattle.hs_reports.proofs.WalkLemmas.{IsWalked}
 use Rattle.hs_reports.specs.WordBits.{row_bit}
 use Rattle.hs_reports.proofs.block.tell_block.Given as goal
 

@@ -2,7 +2,7 @@ use Rattle.std.proofs.Common.{length, take}
 use Rattle.hs_base.specs.Settling.{pairs_told}
 use Rattle.hs_base.proofs.PairListLemmas.{values_by}
 use Rattle.hs_reports.specs.Events.{Through}
-use Rattle.hs_reports.specs.Walks.{id_numbers}
+use Rattle.hs_reports.specs.Identifiers.{id_numbers}
 use Rattle.hs_reports.specs.WordBits.{row_bit}
 use Rattle.hs_reports.proofs.block.tell_place.Given as goal
 

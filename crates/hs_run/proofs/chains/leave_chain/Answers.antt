@@ -25,12 +25,12 @@ pub loop-k-preserved : goal.loop-k-preserved
 loop-k-preserved g c =
     let k : ℕ = c.loop-k.k in
     let inv = c.loop-k.invariant in
-    let (r, role) = there c.args.program.now.roles.items k (omega (arith, c.loop-k-test.true, c.requires.sound.within)) in
+    let (r, role) = there c.args.program.now.roles k (omega (arith, c.loop-k-test.true, c.requires.sound.within)) in
     record {
       low = omega (arith, inv.low);
       next = λ plan x u runs is. let n = inv.next plan x u runs is in omega (arith, n);
       leaves = λ plan x u runs is kept.
-          leaves-next g.E.Engine.meaning c.args.program.now plan c.args.chain.now x runs c.args.layout.now u c.args.spot.now is k r (inv.next plan x u runs is) c.loop-k-test.true role c.loop-k.now (inv.leaves plan x u runs is kept)
+          leaves-next c.args.program.now plan c.args.chain.now x runs c.args.layout.now u c.args.spot.now is k r (inv.next plan x u runs is) c.loop-k-test.true role c.loop-k.now (inv.leaves plan x u runs is kept)
           (field_bytes c.args.layout.now c.args.region.now k) c.leave_at-now.result (λ p place. kept k p inv.low c.loop-k-test.true place) (c.leave_at-now.ensures r role);
     }
 

@@ -4,6 +4,7 @@ use Rattle.std.proofs.Math.Seq.{take-length}
 use Rattle.hs_base.specs.ContextSets.{has_next}
 use Rattle.hs_base.specs.Leaving.{TellsLeaving}
 use Rattle.hs_layout.specs.Layouts.{field_bytes}
+use Rattle.hs_rose.specs.PieceEngines.{piece_meaning}
 use Rattle.hs_run.specs.Chains.{AreKept, AreParts, AreWritten}
 use Rattle.hs_run.specs.Pieces.{GoesOn, IsPart, KeepsOn}
 use Rattle.hs_run.specs.Programs.{looked}
@@ -15,17 +16,17 @@ pub step_at-now-requires-clause-part : goal.step_at-now-requires-clause-part
 step_at-now-requires-clause-part g c r role =
     let k : ℕ = c.loop-k.k in
     let inv = c.loop-k.invariant in
-    let below : k < length c.args.program.now.roles.items = slice_get_within c.args.program.now.roles.items k r role in
+    let below : k < length c.args.program.now.roles = slice_get_within c.args.program.now.roles k r role in
     let same : field_bytes c.args.layout.now c.loop-k.region k ≡ field_bytes c.args.layout.now c.args.region.now k =
     inv.written.others k (inr (let le : k ≤ k = omega arith in le)) (omega (arith, below, starts-count c.args.program.now c.args.layout.now c.requires.fits)) in
-    subst (λ bytes. IsPart g.E.Engine.meaning c.args.program.now.engines.items c.args.program.now.literals.items r bytes c.args.spot.now.at) (sym same)
+    subst (λ bytes. IsPart c.args.program.now r bytes c.args.spot.now.at) (sym same)
     (c.requires.parts k r inv.low c.loop-k-test.true role)
 
 pub loop-k-init : goal.loop-k-init
 loop-k-init g c = record {
   low = c.begin_chain-begun.ensures.low;
   written = written-none c.args.layout.now c.args.chain.now.first c.begin_chain-begun.result.next c.args.region.now;
-  parts = no_field-parts g.E.Engine.meaning c.args.program.now c.args.layout.now c.args.region.now c.args.chain.now.first c.begin_chain-begun.result.next (c.args.spot.now.at + 1) c.begin_chain-begun.ensures.bare;
+  parts = no_field-parts c.args.program.now c.args.layout.now c.args.region.now c.args.chain.now.first c.begin_chain-begun.result.next (c.args.spot.now.at + 1) c.begin_chain-begun.ensures.bare;
   next = λ plan x u runs is. let begins = c.begin_chain-begun.ensures.begins plan x u runs is in omega (arith, begins.next);
   leaves = λ plan x u runs is kept.
       let begins = c.begin_chain-begun.ensures.begins plan x u runs is in
@@ -33,38 +34,38 @@ loop-k-init g c = record {
       subst (λ n. TellsLeaving (has_next c.begin_chain-begun.result.now) (take n x.chain) u) e begins.leaves;
   keeps = λ plan x u runs is kept.
       let begins = c.begin_chain-begun.ensures.begins plan x u runs is in
-      begin-kept g.E.Engine.meaning c.args.program.now plan c.args.chain.now x runs c.args.layout.now c.args.region.now u (u ++ c.args.byte ∷ []) c.begin_chain-begun.result.next begins.next c.begin_chain-begun.ensures.high kept;
+      begin-kept c.args.program.now plan c.args.chain.now x runs c.args.layout.now c.args.region.now u (u ++ c.args.byte ∷ []) c.begin_chain-begun.result.next begins.next c.begin_chain-begun.ensures.high kept;
 }
 
 pub loop-k-preserved : goal.loop-k-preserved
 loop-k-preserved g c =
-    let meaning = g.E.Engine.meaning in
+    let meaning = piece_meaning in
     let program = c.args.program.now in
     let l = c.args.layout.now in
     let k : ℕ = c.loop-k.k in
     let first : ℕ = c.args.chain.now.first in
     let inv = c.loop-k.invariant in
     let step = c.step_at-now.ensures in
-    let (r, role) = there program.roles.items k (omega (arith, c.loop-k-test.true, c.requires.sound.within)) in
-    let count : length l.starts ≡ length program.roles.items + 1 = starts-count program l c.requires.fits in
-    let inside : k + 1 < length l.starts = omega (arith, slice_get_within program.roles.items k r role, count) in
+    let (r, role) = there program.roles k (omega (arith, c.loop-k-test.true, c.requires.sound.within)) in
+    let count : length l.starts ≡ length program.roles + 1 = starts-count program l c.requires.fits in
+    let inside : k + 1 < length l.starts = omega (arith, slice_get_within program.roles k r role, count) in
     let same : field_bytes l c.loop-k.region k ≡ field_bytes l c.args.region.now k = inv.written.others k (inr (let le : k ≤ k = omega arith in le)) inside in
-    let goes : GoesOn meaning program.engines.items program.literals.items r (field_bytes l c.args.region.now k) c.args.spot.now c.loop-k.now c.step_at-now.result =
-    subst (λ bytes. GoesOn meaning program.engines.items program.literals.items r bytes c.args.spot.now c.loop-k.now c.step_at-now.result) same (step.leaves r role) in
-    let keeps : KeepsOn meaning program.engines.items program.literals.items r (field_bytes l c.args.region.now k) (field_bytes l c.step_at-now.new.region k) c.args.spot.now c.args.byte c.loop-k.now =
-    subst (λ bytes. KeepsOn meaning program.engines.items program.literals.items r bytes (field_bytes l c.step_at-now.new.region k) c.args.spot.now c.args.byte c.loop-k.now) same (step.keeps r role) in
+    let goes : GoesOn program r (field_bytes l c.args.region.now k) c.args.spot.now c.loop-k.now c.step_at-now.result =
+    subst (λ bytes. GoesOn program r bytes c.args.spot.now c.loop-k.now c.step_at-now.result) same (step.leaves r role) in
+    let keeps : KeepsOn program r (field_bytes l c.args.region.now k) (field_bytes l c.step_at-now.new.region k) c.args.spot.now c.args.byte c.loop-k.now =
+    subst (λ bytes. KeepsOn program r bytes (field_bytes l c.step_at-now.new.region k) c.args.spot.now c.args.byte c.loop-k.now) same (step.keeps r role) in
     record {
       low = omega (arith, inv.low);
       written = written-more l first k (k + 1) c.args.region.now c.loop-k.region c.step_at-now.new.region inv.low (omega arith) inv.written step.written;
-      parts = parts-more meaning program l first k (c.args.spot.now.at + 1) c.loop-k.region c.step_at-now.new.region inside step.written inv.parts step.part;
+      parts = parts-more program l first k (c.args.spot.now.at + 1) c.loop-k.region c.step_at-now.new.region inside step.written inv.parts step.part;
       next = λ plan x u runs is. let n = inv.next plan x u runs is in omega (arith, n);
       leaves = λ plan x u runs is kept.
-          leaves-next meaning program plan c.args.chain.now x runs l u c.args.spot.now is k r (inv.next plan x u runs is) c.loop-k-test.true role c.loop-k.now (inv.leaves plan x u runs is kept)
+          leaves-next program plan c.args.chain.now x runs l u c.args.spot.now is k r (inv.next plan x u runs is) c.loop-k-test.true role c.loop-k.now (inv.leaves plan x u runs is kept)
           (field_bytes l c.args.region.now k) c.step_at-now.result (λ p place. kept k p inv.low c.loop-k-test.true place) goes;
       keeps = λ plan x u runs is kept.
           kept-more plan l first k c.loop-k.region c.step_at-now.new.region (u ++ c.args.byte ∷ []) inside step.written (inv.keeps plan x u runs is kept)
           (λ p place.
-          keeps-next meaning program plan c.args.chain.now x runs l u c.args.spot.now is k r (inv.next plan x u runs is) c.loop-k-test.true role c.loop-k.now (inv.leaves plan x u runs is kept)
+          keeps-next program plan c.args.chain.now x runs l u c.args.spot.now is k r (inv.next plan x u runs is) c.loop-k-test.true role c.loop-k.now (inv.leaves plan x u runs is kept)
           (field_bytes l c.args.region.now k) (field_bytes l c.step_at-now.new.region k) c.args.byte keeps p place (kept k p inv.low c.loop-k-test.true place));
     }
 
@@ -76,7 +77,7 @@ returns-clause-written g c =
 pub returns-clause-parts : goal.returns-clause-parts
 returns-clause-parts g c =
     let e : c.loop-k.k ≡ c.args.chain.now.end = omega (arith, c.loop-k-test.false, c.loop-k.auto.k-end c.begin_chain-begun.ensures.high) in
-    subst (λ n. AreParts g.E.Engine.meaning c.args.program.now c.args.layout.now c.loop-k.region c.args.chain.now.first n (c.args.spot.now.at + 1)) e c.loop-k.invariant.parts
+    subst (λ n. AreParts c.args.program.now c.args.layout.now c.loop-k.region c.args.chain.now.first n (c.args.spot.now.at + 1)) e c.loop-k.invariant.parts
 
 pub returns-clause-leaves : goal.returns-clause-leaves
 returns-clause-leaves g c plan x u runs is kept =

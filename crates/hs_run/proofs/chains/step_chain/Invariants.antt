@@ -11,10 +11,10 @@ abbrev pub invariant-loop-k : goal.invariant-loop-k
 invariant-loop-k g l = record {
   low : l.chain.first ≤ l.k;
   written : AreWritten l.layout l.chain.first l.k l.fn.region l.region;
-  parts : AreParts g.E.Engine.meaning l.program l.layout l.region l.chain.first l.k (l.spot.at + 1);
-  next : (plan : Plan) (x : Row) (u : List ℕ) → RunsRow g.E.Engine.meaning l.program plan l.chain x → IsSpot u l.spot → l.chain.first + looked (plan.looks_back x.chain) ≤ l.k;
-  leaves : (plan : Plan) (x : Row) (u : List ℕ) → RunsRow g.E.Engine.meaning l.program plan l.chain x → IsSpot u l.spot → AreKept plan l.layout l.fn.region l.chain.first l.chain.end u →
+  parts : AreParts l.program l.layout l.region l.chain.first l.k (l.spot.at + 1);
+  next : (plan : Plan) (x : Row) (u : List ℕ) → RunsRow l.program plan l.chain x → IsSpot u l.spot → l.chain.first + looked (plan.looks_back x.chain) ≤ l.k;
+  leaves : (plan : Plan) (x : Row) (u : List ℕ) → RunsRow l.program plan l.chain x → IsSpot u l.spot → AreKept plan l.layout l.fn.region l.chain.first l.chain.end u →
       TellsLeaving (has_next l.now) (take (l.k - l.chain.first) x.chain) u;
-  keeps : (plan : Plan) (x : Row) (u : List ℕ) → RunsRow g.E.Engine.meaning l.program plan l.chain x → IsSpot u l.spot → AreKept plan l.layout l.fn.region l.chain.first l.chain.end u →
+  keeps : (plan : Plan) (x : Row) (u : List ℕ) → RunsRow l.program plan l.chain x → IsSpot u l.spot → AreKept plan l.layout l.fn.region l.chain.first l.chain.end u →
       AreKept plan l.layout l.region l.chain.first l.k (u ++ l.byte ∷ []);
 }

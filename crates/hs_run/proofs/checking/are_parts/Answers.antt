@@ -7,25 +7,25 @@ use Rattle.hs_run.proofs.LayoutLemmas.{field-wide, starts-count}
 use Rattle.hs_run.proofs.checking.are_parts.Goals as goal
 
 pub piece-requires-clause-there : goal.piece-requires-clause-there
-piece-requires-clause-there g c =
-    omega (arith, slice_get_within c.args.program.now.roles.items c.loop-k.k c.role_at.result.now c.role_at.ensures, starts-count c.args.program.now c.args.layout.now c.requires.layout)
+piece-requires-clause-there c =
+    omega (arith, slice_get_within c.args.program.now.roles c.loop-k.k c.role_at.result.now c.role_at.ensures.is, starts-count c.args.program.now c.args.layout.now c.requires.layout)
 
 pub is_part-requires : goal.is_part-requires
-is_part-requires g c =
-    let wide = ap length c.piece.ensures ∙ field-wide c.args.program.now c.args.layout.now c.requires.layout c.args.region.now c.loop-k.k c.role_at.result.now c.requires.sized c.role_at.ensures in
+is_part-requires c =
+    let wide = ap length c.piece.ensures ∙ field-wide c.args.program.now c.args.layout.now c.requires.layout c.args.region.now c.loop-k.k c.role_at.result.now c.requires.sized c.role_at.ensures.is in
     record {
-      sound = subst (IsSound g.E.Engine.meaning c.args.program.now.engines.items c.args.program.now.literals.items c.role_at.result.now) (sym wide) (c.requires.runs.roles c.loop-k.k c.role_at.result.now c.role_at.ensures);
+      sound = subst (IsSound c.args.program.now c.role_at.result.now) (sym wide) (c.requires.runs.roles c.loop-k.k c.role_at.result.now c.role_at.ensures.is);
     }
 
 pub loop-k-preserved : goal.loop-k-preserved
-loop-k-preserved g c j r low high role =
+loop-k-preserved c j r low high role =
     let program = c.args.program.now in
     let l = c.args.layout.now in
     elim (cases_eq j c.loop-k.k) [
       | inl same ↦
-          let one = same_Some c.role_at.result.now r (sym c.role_at.ensures ∙ (ap (slice_get program.roles.items) (sym same) ∙ role)) in
-          subst (λ n. IsPart g.E.Engine.meaning program.engines.items program.literals.items r (field_bytes l c.args.region.now n) c.args.at) (sym same)
-          (subst (λ bytes. IsPart g.E.Engine.meaning program.engines.items program.literals.items r bytes c.args.at) c.piece.ensures
-          (subst (λ q. IsPart g.E.Engine.meaning program.engines.items program.literals.items q c.piece.result.now c.args.at) one (c.is_part.ensures.0 c.if-not-is_part.false)))
+          let one = same_Some c.role_at.result.now r (sym c.role_at.ensures.is ∙ (ap (slice_get program.roles) (sym same) ∙ role)) in
+          subst (λ n. IsPart c.args.program.now r (field_bytes l c.args.region.now n) c.args.at) (sym same)
+          (subst (λ bytes. IsPart c.args.program.now r bytes c.args.at) c.piece.ensures
+          (subst (λ q. IsPart c.args.program.now q c.piece.result.now c.args.at) one (c.is_part.ensures.0 c.if-not-is_part.false)))
       | inr apart ↦ c.loop-k.invariant j r low (omega (arith, high, apart)) role
     ]

@@ -2,4 +2,4 @@ use Rattle.hs_run.specs.Chains.{AreParts}
 use Rattle.hs_run.proofs.checking.are_parts.Given as goal
 
 abbrev pub invariant-loop-k : goal.invariant-loop-k
-invariant-loop-k g l = AreParts g.E.Engine.meaning l.program l.layout l.region 0 l.k l.at
+invariant-loop-k l = AreParts l.program l.layout l.region 0 l.k l.at

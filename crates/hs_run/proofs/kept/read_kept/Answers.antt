@@ -2,7 +2,7 @@ use Rattle.std.proofs.Common.{◌≡◌, ℕ, get_or, Some, slice_get, ◌∙◌
 use Rattle.std.proofs.lemmas.List.{length-set}
 use Rattle.std.proofs.lemmas.Option.{slice_get-get_or, slice_get_within}
 use Rattle.hs_run.specs.declared.kept.Kept.{Kept}
-use Rattle.hs_run.specs.declared.program.Identifier.{Identifier}
+use Rattle.hs_rose.specs.declared.identifiers.Identifier.{Identifier}
 use Rattle.hs_run.proofs.KeepingLemmas.{read-more, single-below, singles-few, singles-next}
 use Rattle.hs_run.proofs.ReportingLemmas.{no_identifier, nothing}
 use Rattle.hs_run.proofs.kept.read_kept.Goals as goal

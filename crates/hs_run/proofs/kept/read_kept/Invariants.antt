@@ -1,7 +1,7 @@
 use Rattle.std.proofs.Common.{◌≡◌, ℕ, ◌<◌, length, Some, slice_get}
 use Rattle.hs_run.specs.Keeping.{IsRead, singles_before}
 use Rattle.hs_run.specs.declared.kept.Kept.{Kept}
-use Rattle.hs_run.specs.declared.program.Identifier.{Identifier}
+use Rattle.hs_rose.specs.declared.identifiers.Identifier.{Identifier}
 use Rattle.hs_run.proofs.kept.read_kept.Given as goal
 
 abbrev pub invariant-loop-i : goal.invariant-loop-i

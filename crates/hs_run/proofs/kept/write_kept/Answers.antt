@@ -1,7 +1,7 @@
 use Rattle.std.proofs.Common.{◌≡◌, ℕ, get_or, Some, slice_get, arith}
 use Rattle.std.proofs.lemmas.Option.{slice_get-get_or, slice_get_within}
 use Rattle.hs_run.specs.declared.kept.Kept.{Kept}
-use Rattle.hs_run.specs.declared.program.Identifier.{Identifier}
+use Rattle.hs_rose.specs.declared.identifiers.Identifier.{Identifier}
 use Rattle.hs_run.proofs.KeepingLemmas.{bits-join, single-below, singles-few, singles-next, write-more}
 use Rattle.hs_run.proofs.ReportingLemmas.{no_identifier, nothing}
 use Rattle.hs_run.proofs.kept.write_kept.Goals as goal

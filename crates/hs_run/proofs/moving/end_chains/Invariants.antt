@@ -5,7 +5,7 @@ use Rattle.hs_run.proofs.moving.end_chains.Given as goal
 
 abbrev pub invariant-loop-j : goal.invariant-loop-j
 invariant-loop-j g l = record {
-  ends : length l.ends ≡ length l.program.identifiers.items;
+  ends : length l.ends ≡ length l.program.identifiers;
   window : length l.window ≡ window_room;
-  done : AreEnded g.E.Engine.meaning l.program l.layout l.region l.spot l.j l.ends;
+  done : AreEnded l.program l.layout l.region l.spot l.j l.ends;
 }

@@ -1,4 +1,4 @@
-use Rattle.std.proofs.Common.{◌≡◌, get_or, Some, slice_get, ◌∙◌, arith}
+use Rattle.std.proofs.Common.{◌≡◌, ap, length, get_or, Some, slice_get, ◌∙◌, arith}
 use Rattle.std.proofs.lemmas.List.{length-set}
 use Rattle.std.proofs.lemmas.Option.{slice_get-get_or}
 use Rattle.hs_run.specs.Ends.{no_ends}
@@ -9,13 +9,14 @@ pub loop-j-init : goal.loop-j-init
 loop-j-init g c = record {
   ends = c.forget.ensures.len ∙ c.requires.ends;
   window = c.requires.window;
-  done = done-none g.E.Engine.meaning c.args.program.now c.args.layout.now c.requires.fits c.requires.runs c.args.region.now c.args.arrival.now.spot c.args.arrival.now.byte c.forget.new.ends c.forget.ensures.none;
+  done = done-none c.args.program.now c.args.layout.now c.requires.fits c.requires.runs c.args.region.now c.args.arrival.now.spot c.args.arrival.now.byte c.forget.new.ends c.forget.ensures.none;
 }
 
-pub bounds-ends-chain : goal.bounds-ends-chain
-bounds-ends-chain g c =
+pub bounds-ends-entry_of : goal.bounds-ends-entry_of
+bounds-ends-entry_of g c =
     let sound = c.requires.runs.chains c.loop-j.j c.chain_at-chain.result.now c.chain_at-chain.ensures in
-    omega (arith, sound.identifier, c.loop-j.invariant.ends)
+    let below = sound.identifier c.entry_of.result.now c.entry_of.ensures in
+    omega (arith, below, c.loop-j.invariant.ends)
 
 pub move_chain-requires-clause-sound : goal.move_chain-requires-clause-sound
 move_chain-requires-clause-sound g c = c.requires.runs.chains c.loop-j.j c.chain_at-chain.result.now c.chain_at-chain.ensures
@@ -25,35 +26,36 @@ move_chain-requires-clause-sized g c = c.loop-j.invariant.done.written.len ∙ c
 
 pub move_chain-requires-clause-parts : goal.move_chain-requires-clause-parts
 move_chain-requires-clause-parts g c =
-    chain-parts g.E.Engine.meaning c.args.program.now c.args.layout.now c.requires.fits c.requires.runs c.args.region.now c.args.arrival.now.spot c.args.arrival.now.byte c.loop-j.j c.loop-j.region c.loop-j.region c.loop-j.ends c.chain_at-chain.result.now no_ends no_ends c.loop-j.invariant.done c.chain_at-chain.ensures
+    chain-parts c.args.program.now c.args.layout.now c.requires.fits c.requires.runs c.args.region.now c.args.arrival.now.spot c.args.arrival.now.byte c.loop-j.j c.loop-j.region c.loop-j.region c.loop-j.ends c.chain_at-chain.result.now no_ends no_ends c.loop-j.invariant.done c.chain_at-chain.ensures
     c.requires.parts
 
 pub loop-j-preserved : goal.loop-j-preserved
 loop-j-preserved g c =
     let inv = c.loop-j.invariant in
     let chain = c.chain_at-chain.result.now in
+    let info = c.entry_of.result.now in
     let sound = c.requires.runs.chains c.loop-j.j chain c.chain_at-chain.ensures in
-    let slot : slice_get c.loop-j.ends chain.identifier ≡ Some (get_or c.loop-j.ends chain.identifier no_ends) =
-    slice_get-get_or c.loop-j.ends chain.identifier no_ends (omega (arith, sound.identifier, inv.ends)) in
+    let slot : slice_get c.loop-j.ends info.identifier ≡ Some (get_or c.loop-j.ends info.identifier no_ends) =
+    slice_get-get_or c.loop-j.ends info.identifier no_ends (omega (arith, sound.identifier info c.entry_of.ensures, inv.ends)) in
     record {
-      ends = length-set c.loop-j.ends chain.identifier c.move_chain.new.ends ∙ inv.ends;
+      ends = length-set c.loop-j.ends info.identifier c.move_chain.new.ends ∙ inv.ends;
       window = c.move_chain.ensures.window ∙ inv.window;
       done =
-          done-more g.E.Engine.meaning c.args.program.now c.args.layout.now c.requires.fits c.requires.runs c.args.region.now c.args.arrival.now.spot c.args.arrival.now.byte c.loop-j.j c.loop-j.region c.move_chain.new.region c.loop-j.ends chain
-          (get_or c.loop-j.ends chain.identifier no_ends) c.move_chain.new.ends inv.done c.chain_at-chain.ensures c.move_chain.ensures.written c.move_chain.ensures.parts c.move_chain.ensures.moves slot;
+          done-more c.args.program.now c.args.layout.now c.requires.fits c.requires.runs c.args.region.now c.args.arrival.now.spot c.args.arrival.now.byte c.loop-j.j c.loop-j.region c.move_chain.new.region c.loop-j.ends chain
+          (get_or c.loop-j.ends info.identifier no_ends) c.move_chain.new.ends inv.done c.chain_at-chain.ensures c.move_chain.ensures.written c.move_chain.ensures.parts c.move_chain.ensures.moves info c.entry_of.ensures slot;
     }
 
 pub returns-clause-written : goal.returns-clause-written
 returns-clause-written g c =
-    done-written g.E.Engine.meaning c.args.program.now c.args.layout.now c.requires.fits c.requires.runs c.args.region.now c.args.arrival.now.spot c.args.arrival.now.byte c.loop-j.j c.loop-j.region c.loop-j.ends c.loop-j.invariant.done
-    (omega (arith, c.loop-j-test.false, c.loop-j.auto.j-end, c.len-j-end.ensures, c.args.program.now.chains.ok.0))
+    done-written c.args.program.now c.args.layout.now c.requires.fits c.requires.runs c.args.region.now c.args.arrival.now.spot c.args.arrival.now.byte c.loop-j.j c.loop-j.region c.loop-j.ends c.loop-j.invariant.done
+    (omega (arith, c.loop-j-test.false, c.loop-j.auto.j-end, ap length c.chains-j-end.ensures))
 
 pub returns-clause-parts : goal.returns-clause-parts
 returns-clause-parts g c =
-    done-parts g.E.Engine.meaning c.args.program.now c.args.layout.now c.requires.fits c.requires.runs c.args.region.now c.args.arrival.now.spot c.args.arrival.now.byte c.loop-j.j c.loop-j.region c.loop-j.ends c.loop-j.invariant.done
-    (omega (arith, c.loop-j-test.false, c.loop-j.auto.j-end, c.len-j-end.ensures, c.args.program.now.chains.ok.0))
+    done-parts c.args.program.now c.args.layout.now c.requires.fits c.requires.runs c.args.region.now c.args.arrival.now.spot c.args.arrival.now.byte c.loop-j.j c.loop-j.region c.loop-j.ends c.loop-j.invariant.done
+    (omega (arith, c.loop-j-test.false, c.loop-j.auto.j-end, ap length c.chains-j-end.ensures))
 
 pub returns-clause-moves : goal.returns-clause-moves
 returns-clause-moves g c =
-    done-moves g.E.Engine.meaning c.args.program.now c.args.layout.now c.requires.fits c.requires.runs c.args.region.now c.args.arrival.now.spot c.args.arrival.now.byte c.loop-j.j c.loop-j.region c.loop-j.ends c.loop-j.invariant.done
-    (omega (arith, c.loop-j-test.false, c.loop-j.auto.j-end, c.len-j-end.ensures, c.args.program.now.chains.ok.0))
+    done-moves c.args.program.now c.args.layout.now c.requires.fits c.requires.runs c.args.region.now c.args.arrival.now.spot c.args.arrival.now.byte c.loop-j.j c.loop-j.region c.loop-j.ends c.loop-j.invariant.done
+    (omega (arith, c.loop-j-test.false, c.loop-j.auto.j-end, ap length c.chains-j-end.ensures))

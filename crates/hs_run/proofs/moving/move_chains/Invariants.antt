@@ -5,7 +5,7 @@ use Rattle.hs_run.proofs.moving.move_chains.Given as goal
 
 abbrev pub invariant-loop-j : goal.invariant-loop-j
 invariant-loop-j g l = record {
-  ends : length l.ends ≡ length l.program.identifiers.items;
+  ends : length l.ends ≡ length l.program.identifiers;
   window : length l.window ≡ window_room;
-  done : AreDone g.E.Engine.meaning l.program l.layout l.fn.region l.arrival.spot l.arrival.byte l.j l.region l.ends;
+  done : AreDone l.program l.layout l.fn.region l.arrival.spot l.arrival.byte l.j l.region l.ends;
 }

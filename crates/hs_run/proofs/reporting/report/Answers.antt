@@ -2,8 +2,8 @@ use Rattle.std.proofs.Common.{ℕ, get_or, sym, subst, arith}
 use Rattle.std.proofs.lemmas.Option.{slice_get-get_or}
 use Rattle.std.proofs.lemmas.List.{length-map}
 use Rattle.hs_base.proofs.PairListLemmas.{one_told, pairs-all}
-use Rattle.hs_run.specs.declared.program.Identifier.{Identifier}
-use Rattle.hs_run.specs.Programs.{ids_of}
+use Rattle.hs_rose.specs.declared.identifiers.Identifier.{Identifier}
+use Rattle.hs_rose.specs.Identifiers.{ids_of}
 use Rattle.hs_run.specs.declared.ends.Ends.{Ends as EndsAbout}
 use Rattle.hs_run.specs.declared.kept.Kept.{Kept as KeptOf}
 use Rattle.hs_run.specs.Events.{Through, still}

@@ -3,7 +3,7 @@ use Rattle.std.proofs.lemmas.Bool.{cases_eq}
 use Rattle.std.proofs.lemmas.Option.{same_Some, slice_get-get_or, slice_get_within}
 use Rattle.std.proofs.lemmas.List.{length-set}
 use Rattle.hs_base.specs.Settling.{settled}
-use Rattle.hs_run.specs.declared.program.Identifier.{Identifier}
+use Rattle.hs_rose.specs.declared.identifiers.Identifier.{Identifier}
 use Rattle.hs_run.specs.declared.ends.Ends.{Ends as EndsAbout}
 use Rattle.hs_run.specs.declared.kept.Kept.{Kept as KeptOf}
 use Rattle.hs_run.specs.Ends.{ends_of, no_ends}

@@ -15,7 +15,7 @@ loop-place-init g c = record {
   region = c.requires.region;
   header = λ old. old;
   offset = omega arith;
-  taken = takes-none g.E.Engine.meaning c.args.program.now g.V.Events.tells c.args.events.now c.args.region.now;
+  taken = takes-none c.args.program.now g.V.Events.tells c.args.events.now c.args.region.now;
 }
 
 pub feed_byte-requires-clause-room : goal.feed_byte-requires-clause-room
@@ -35,8 +35,8 @@ loop-place-preserved g c =
       header = λ old. byte.header (inv.header old);
       offset = omega (arith, byte.offset, inv.offset);
       taken =
-          subst (λ bs. Takes g.V.Events.tells c.args.events.now c.feed_byte.new.events (Feeds g.E.Engine.meaning c.args.program.now c.args.region.now c.feed_byte.new.region bs)) (sym (take_more bytes i 0 c.loop-place-test.true))
-          (takes-more g.E.Engine.meaning c.args.program.now g.V.Events.tells c.args.events.now c.loop-place.events c.feed_byte.new.events c.args.region.now c.loop-place.region c.feed_byte.new.region
+          subst (λ bs. Takes g.V.Events.tells c.args.events.now c.feed_byte.new.events (Feeds c.args.program.now c.args.region.now c.feed_byte.new.region bs)) (sym (take_more bytes i 0 c.loop-place-test.true))
+          (takes-more c.args.program.now g.V.Events.tells c.args.events.now c.loop-place.events c.feed_byte.new.events c.args.region.now c.loop-place.region c.feed_byte.new.region
           (take i bytes) (get_or bytes i 0 ∷ []) small inv.taken byte.taken);
     }
 
@@ -47,11 +47,11 @@ pub returns-clause-taken : goal.returns-clause-taken
 returns-clause-taken g c =
     let whole : take c.loop-place.place c.args.bytes.now ≡ c.args.bytes.now =
     ap (λ n. take n c.args.bytes.now) (let e : c.loop-place.place ≡ length c.args.bytes.now = omega (arith, c.loop-place-test.false, c.loop-place.auto.place-end) in e) ∙ take-length c.args.bytes.now in
-    subst (λ bs. Takes g.V.Events.tells c.args.events.now c.loop-place.events (Feeds g.E.Engine.meaning c.args.program.now c.args.region.now c.loop-place.region bs)) whole c.loop-place.invariant.taken
+    subst (λ bs. Takes g.V.Events.tells c.args.events.now c.loop-place.events (Feeds c.args.program.now c.args.region.now c.loop-place.region bs)) whole c.loop-place.invariant.taken
 
 pub returns-clause-alike : goal.returns-clause-alike
 returns-clause-alike g c =
-    let taken = returns-clause-taken g c in feeds-alike g.E.Engine.meaning c.args.program.now c.args.region.now c.loop-place.region c.args.bytes.now taken.pairs taken.holds
+    let taken = returns-clause-taken g c in feeds-alike c.args.program.now c.args.region.now c.loop-place.region c.args.bytes.now taken.pairs taken.holds
 
 pub returns-clause-well : goal.returns-clause-well
 returns-clause-well g c old = record { fits = c.loop-place.invariant.region; header = c.loop-place.invariant.header old.header }

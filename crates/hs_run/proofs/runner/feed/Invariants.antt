@@ -8,8 +8,8 @@ use Rattle.hs_run.proofs.runner.feed.Given as goal
 abbrev pub invariant-loop-place : goal.invariant-loop-place
 invariant-loop-place g l = record {
   scratch : FitsScratch l.program l.scratch;
-  region : FitsRegion g.E.Engine.meaning l.program l.layout l.region;
+  region : FitsRegion l.program l.layout l.region;
   header : IsHeader l.layout.singles l.layout.identifiers l.fn.region → IsHeader l.layout.singles l.layout.identifiers l.region;
   offset : region_offset l.region ≡ region_offset l.fn.region + l.place;
-  taken : Takes g.V.Events.tells l.fn.events l.events (Feeds g.E.Engine.meaning l.program l.fn.region l.region (take l.place l.bytes));
+  taken : Takes g.V.Events.tells l.fn.events l.events (Feeds l.program l.fn.region l.region (take l.place l.bytes));
 }

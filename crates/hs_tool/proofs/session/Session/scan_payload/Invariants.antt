@@ -1,4 +1,4 @@
-use Rattle.std.proofs.Common.{◌≡◌, ◌+◌, ◌≤◌}
+use Rattle.std.proofs.Common.{◌+◌, ◌≤◌}
 use Rattle.hs_base.specs.Offsets.{greatest_offset}
 use Rattle.hs_stream.specs.Streams.{offset_of, IsStreamOf}
 use Rattle.hs_reader.specs.Breaks.{NoFault}

@@ -1,4 +1,4 @@
-//! The rows, written as `hs_rows` reads them. Their words are:
+//! Lists over streams, with what is reported of them. Their words are:
 //!
 //! - `ID:/expression/flags{parameters}`, as in a pattern file; `FIRST-LAST` in place of `ID` stands for each identifier
 //! - `<text>` is a stream, with its cuts into pieces. `<<text>>` is every stream of at most four of these bytes.
@@ -12,13 +12,11 @@
 //! - `mixed`: the list isn't compiled, since an identifier has entries with and without `H`; `none`: it is empty
 //! - `refused`: behind `=` stands the line of the refusal, or nothing
 //! - `leaves`: each engine of the expression, entered where the stream is cut or else at 0, ends behind it, or doesn't
-//! - `split`: behind `=` stand the chains of the expression, as `chains` writes them; `positions`, `tables`: how many
+//! - `split`: behind `=` stand the chains of the expression, as `hs_judge` writes them; `positions`, `tables`: how many
 //!   positions its automaton has, and how many bytes the tables of that
-//!
-//! As all modules of this crate it is `#[cfg(test)]`.
 
 /// What the pattern syntax documents of ends, assertions and bounds.
-pub(crate) const DOCUMENTED: &[u8] = br"
+pub const DOCUMENTED: &[u8] = br"
 # each end, and the empty text
 1:/foo.*bar/ <fooxyzbarbar> = 1@9 1@12
 1:/a*/V <> = | 1@0
@@ -102,7 +100,7 @@ none <ab> =
 ";
 
 /// Lists of one byte and its assertions, over short texts.
-pub(crate) const LISTS: &[u8] = br"
+pub const LISTS: &[u8] = br"
 <> <a> <%0A> <b> <aa> <ab> <a%0A> <ba> <%0A%0A> <a%20b> <aab%0A> <%0Aa%0Ab> <a_a%20a> <b%0A%0Aa%0A>
 none
 7:/a/
@@ -138,7 +136,7 @@ mixed 1:/b\z/H 1:/\n*\Z/V 2:/\n?\Z/HV
 ";
 
 /// Each assertion alone, before a byte and behind one, at each place of short texts.
-pub(crate) const ASSERTIONS: &[u8] = br"
+pub const ASSERTIONS: &[u8] = br"
 <<a%0A%20>>
 same /\A/V /\Aa/ /\A\n/ /\A./ /a\A/ /\n\A/ /.\A/ /\Aa|a\A/ /\A|.\A/V
 same /^/mV /^a/m /^\n/m /^./m /a^/m /\n^/m /.^/m /^a|a^/m /^|.^/mV
@@ -157,7 +155,7 @@ vary /\A/V /\Aa/ /\A\n/ /\A./ /a\A/ /\n\A/ /.\A/ /\Aa|a\A/ /\A|.\A/V
 ";
 
 /// Expressions over short texts, entered anywhere.
-pub(crate) const EXPRESSIONS: &[u8] = br"
+pub const EXPRESSIONS: &[u8] = br"
 <> <a> <ab> <aab> <a%20b> <%0Aa%0A> <ba%0Aab> <aaa>
 each /(?:)/ // /a/ /\A/ /^/m /$/m /\Z/ /\z/ /\b/ /\B/ /(?:)+/ /\b?/ /(?:(?:\b{32767}){32767}){32767}/ /ab/ /a|b/
 each /a*/ /a+/ /a?/ /a{2,}/ /a{1,3}/ /a{0,2}/ /a{0}/ /a{3}/ /(?:ab){1,3}/ /(?:a|b){3}/ /a*b*/ /(?:a*)*/ /(?:a?b?)*/
@@ -174,7 +172,7 @@ each /(?:(?:a|\b)b?a?b?){128}/
 ";
 
 /// Repeats of one set, which the engines of repeats run too.
-pub(crate) const REPEATS: &[u8] = br"
+pub const REPEATS: &[u8] = br"
 <> <a> <b> <aa> <aab> <baa> <aaaa> <abaab> <bbaaaa> <aaaaaaaa> <aaaabaaaa> <aaaaaaaaaaaaa> <abbaaaaaaaaaaaaaaa>
  <aaaaaaaaabaaaaaaaaa>
 each /a+/ /a{2,}/ /a{5,}/ /a?/ /a{0,3}/ /a{1,3}/ /a{1,6}/ /a{2}/ /a{2,5}/ /a{8}/ /a{3,17}/
@@ -186,7 +184,7 @@ each /[^\x00-\xff]+/ /[^\x00-\xff]{2,}/ /[^\x00-\xff]{5,}/ /[^\x00-\xff]?/ /[^\x
 ";
 
 /// Long repeats, and whether they end behind a stream.
-pub(crate) const LONG_REPEATS: &[u8] = br"
+pub const LONG_REPEATS: &[u8] = br"
 leaves /a{3,512}/ <aa> = no
 leaves /a{3,512}/ <aaa> = yes
 leaves /a{3,512}/ <%(512)a> = yes
@@ -198,7 +196,7 @@ leaves /a{1000}/ <x~%(999)aay> = no
 ";
 
 /// Expressions whose chains have several pieces, and how they are split.
-pub(crate) const CHAINS: &[u8] = br#"
+pub const CHAINS: &[u8] = br#"
 each /\bfoo\b/ <a%20foo%20foobar%20foo>
 each /[0-9]+foo[a-z]*bar/ <1foo2fooxbar%20bar>
 each /(?i:f)(?i:o)o/ <Foo%20fOo%20foO%20FOo>
@@ -233,7 +231,7 @@ split /abcdefghijklmnopqrstuvwxyzabcdefgh/ = "abcdefghijklmnopqrstuvwxyzabcdef""
 "#;
 
 /// Lists that are refused, by the first reason of the first entry that has one, and those that aren't.
-pub(crate) const REFUSALS: &[u8] = br"
+pub const REFUSALS: &[u8] = br"
 refused 9:/a*/ = refused 1 9 6 MatchesEmpty
 refused 1:/a/ 2:/a)/ 3:/*/ = refused 2 2 1 Syntax 1
 refused 25:/a/L = refused 1 25 4 UnsupportedFlag 256
@@ -254,7 +252,7 @@ refused 19:/(ab){257}/ = refused 1 19 9 PositionLimit 514
 ";
 
 /// What is supported of trees, flags and parameters.
-pub(crate) const SUPPORT: &[u8] = br"
+pub const SUPPORT: &[u8] = br"
 refused 1:/a/ =
 refused 1:/foo.*bar/ =
 refused 1:/(?:)/ = refused 1 1 6 MatchesEmpty
@@ -315,7 +313,7 @@ refused 1:/$a/V{min_offset=9,max_offset=8} = refused 1 1 7 EmbeddedEnd
 ";
 
 /// How many positions expressions have, and how many bytes the tables of their automata.
-pub(crate) const SIZES: &[u8] = br"
+pub const SIZES: &[u8] = br"
 positions /(?:\b{32767}){32767}/ = 0
 positions /\b{0}/ = 0
 positions /a{0}/ = 0
