@@ -27,3 +27,8 @@ pub record IsRunnableChain (chain : List Piece) : Type 0 where
 pub record AreRunnable (chains : List (List Piece)) : Type 0 where
   pub few : length chains < 2 ^ 32
   pub each : Each IsRunnableChain chains
+
+-- Chains, and the pieces of each, are few enough to be numbered.
+pub record AreFew (chains : List (List Piece)) : Type 0 where
+  pub count : length chains < 2 ^ 32
+  pub each : Each (λ chain. length chain < 2 ^ 32) chains
