@@ -44,7 +44,7 @@ parent-cases : (parent : Option ℕ) → (parent ≡ None) ⊎ ((p : ℕ) × (pa
 parent-cases None = inl refl
 parent-cases (Some p) = inr (p, refl)
 
-unmarked-before : (old new : List ℕ) (k : ℕ) → ((j : ℕ) → is_marked old j ≡ true → is_marked new j ≡ true) → is_marked new k ≡ false → is_marked old k ≡ false
+pub unmarked-before : (old new : List ℕ) (k : ℕ) → ((j : ℕ) → is_marked old j ≡ true → is_marked new j ≡ true) → is_marked new k ≡ false → is_marked old k ≡ false
 unmarked-before old new k kept none = by (is_marked old k) refl where
   by : (b : Bool) → is_marked old k ≡ b → is_marked old k ≡ false
   by true e = absurd (let both : true ≡ false = sym (kept k e) ∙ none in cc)

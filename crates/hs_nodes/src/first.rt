@@ -10,7 +10,7 @@ use crate::ends::ChunkEnds;
 use hs_block::low_places;
 
 /// Everywhere in a chunk: where no pieces are left.
-pub(crate) fn everywhere(chunk: &Chunk) -> ChunkEnds
+pub fn everywhere(chunk: &Chunk) -> ChunkEnds
     ensures { (u : List ℕ) → AreLeftIn [] u chunk.now.bytes.now result }
 {
     let mut ends = ChunkEnds::NOWHERE;

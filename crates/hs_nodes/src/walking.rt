@@ -20,7 +20,7 @@ use hs_engine::Steps;
 use std::sync::ledger::Ledger;
 
 /// The node of that number.
-fn node_at<E>(table: &NodeTable<E>, k: usize) -> Node
+pub(crate) fn node_at<E>(table: &NodeTable<E>, k: usize) -> Node
     requires { k < length table.now.nodes.items }
     ensures { slice_get table.now.nodes.items k ≡ Some result }
 {
@@ -84,7 +84,7 @@ fn start_of(starts: &[u32], k: usize) -> usize
 }
 
 /// Marks the numbers of a range of a list.
-fn mark_all(numbers: &[u32], from: usize, end: usize, marks: &mut MarkSet)
+pub fn mark_all(numbers: &[u32], from: usize, end: usize, marks: &mut MarkSet)
     requires end { end ≤ length numbers.now }
     requires room { EachIndex numbers.now (λ i. slice_index numbers.now i < mark_room marks.old) }
     ensures room { length marks.new ≡ length marks.old }
