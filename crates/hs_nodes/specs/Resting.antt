@@ -42,8 +42,8 @@ module _ {E : Type 0} (meaning : E → Meaning) (engines : List E) where
   IsResting (Literal number len) part = AreZero part
   IsResting (FirstLiteral number len) part = Unit {0}
 
-  -- A chunk doesn't wake a node of that kind: if it has no parent, it has no empty span and no byte wakes it; and a first
-  -- literal ends nowhere.
+  -- A chunk doesn't wake a node of that kind: if it has no parent, it has no empty span and no byte wakes it; and a
+  -- first literal ends nowhere.
   abbrev pub IsUnwokenIn : NodeKind → (parent : Option ℕ) → (hits : List ChunkHits) (bytes : List ℕ) → Type 0
   IsUnwokenIn (Engine number null) parent hits bytes =
       parent ≡ None → (null ≡ None) × ((e : E) → slice_get engines number ≡ Some e → IsAsleepIn (meaning e) bytes)

@@ -63,8 +63,8 @@ fn node_rests<E: BlockEngine>(table: &NodeTable<E>, k: usize, region: &mut [u8])
     )
 }
 
-/// Behind a chunk takes the marks of the nodes away in which nothing is live, so that the next one goes over those alone
-/// that need it; and unsets where nodes are left. The region stays as it is.
+/// Behind a chunk takes the marks of the nodes away in which nothing is live, so that the next one goes over those
+/// alone that need it; and unsets where nodes are left. The region stays as it is.
 pub fn settle<E: BlockEngine>(
     table: &NodeTable<E>,
     region: &mut [u8],

@@ -1,6 +1,6 @@
 //! A walk over the nodes of a table, over a chunk.
 
-ghost use Rattle.std.specs.Prelude.{◌≡◌, ℕ, ◌+◌, ◌<◌, ◌≤◌, true, length, slice_get, slice_index, EachIndex, Some};
+ghost use Rattle.std.specs.Prelude.{◌≡◌, ℕ, ◌+◌, ◌*◌, ◌<◌, ◌≤◌, true, length, slice_get, slice_index, EachIndex, Some};
 ghost use Rattle.hs_nodes.specs.Contexts.{AreChunkContexts, NeedsContexts};
 ghost use Rattle.hs_nodes.specs.Left.{nowhere};
 ghost use Rattle.hs_nodes.specs.Marks.{is_marked, mark_room};
@@ -58,6 +58,7 @@ fn run_node<E: BlockEngine, L: Ledger>(
         AreChunkContexts found.now.contexts.now chunk.now.prev chunk.now.at chunk.now.bytes.now }
     ensures len { length region.new ≡ length region.old }
     ensures ends { length ends.new ≡ length ends.old }
+    ensures ticks { steps.new ≤ steps.old + length chunk.now.bytes.now }
     ensures runs { (node : Node) → slice_get table.now.nodes.items k ≡ Some node → IsNodeRun E.meaning table.now k node
         region.old region.new chunk.now.prev chunk.now.at chunk.now.bytes.now found.now.hits.now all.now ends.old
         ends.new }
@@ -144,6 +145,7 @@ pub fn walk<E: BlockEngine, L: Ledger>(
     ensures ends { length ends.new ≡ length ends.old }
     ensures marks { AreMoreMarks (length table.now.nodes.items) marks.old marks.new }
     ensures changes { ChangesMarked E.meaning table.now marks.new region.old region.new ends.new }
+    ensures ticks { steps.new ≤ steps.old + length table.now.nodes.items * length chunk.now.bytes.now }
     ensures takes { TakesNodes E.meaning table.now region.old region.new chunk.now.prev chunk.now.at
         chunk.now.bytes.now found.now.hits.now ends.new }
 {

@@ -1,6 +1,6 @@
 use Rattle.std.proofs.Common.{◌+◌, ◌*◌, refl, subst, arith, length-set}
 use Rattle.hs_nodes.proofs.EngineLemmas.{blocks-all, blocks-more, blocks-none}
-use Rattle.hs_nodes.proofs.RunLemmas.{ends-more, nowhere-more, nowhere-none, reach-more, word-through}
+use Rattle.hs_nodes.proofs.RunLemmas.{ends-more, nowhere-more, nowhere-none, reach-more, steps-more, word-through}
 use Rattle.hs_nodes.proofs.engines.run_engine.Goals as goal
 
 pub loop-j-init : goal.loop-j-init
@@ -10,6 +10,7 @@ loop-j-init g c = record {
   befores = refl;
   behinds = refl;
   nowhere = nowhere-none;
+  steps = omega arith;
   takes = blocks-none (g.E.Engine.meaning c.args.engine.now) c.args.region.now c.args.chunk.now.prev c.args.chunk.now.at c.args.chunk.now.bytes.now c.args.enters.now c.args.null.now _;
 }
 
@@ -23,6 +24,9 @@ loop-j-preserved g c =
       befores = simp length-set inv.befores;
       behinds = simp length-set inv.behinds;
       nowhere = nowhere-more _ _ j (j + 1) _ _ refl more inv.nowhere;
+      steps =
+          steps-more (g.E.Engine.meaning c.args.engine.now) _ _ _ _ _ c.args.chunk.now.bytes.now c.block-bytes.result.now c.run-own.result j (j + 1) c.args.steps.now c.loop-j.steps c.run-own.new.steps refl (omega arith) c.block-bytes.ensures.bytes
+          c.run-own.ensures.takes inv.steps;
       takes =
           blocks-more (g.E.Engine.meaning c.args.engine.now) c.args.region.now c.loop-j.region c.run-own.new.region c.args.chunk.now.prev c.prev_before.result c.args.chunk.now.at (c.args.chunk.now.at + 64 * j) c.args.chunk.now.bytes.now c.block-bytes.result.now
           c.args.enters.now c.args.null.now c.loop-j.ends _ j (j + 1) c.run-own.result _ _ _ _ (omega arith) refl c.block-bytes.ensures.bytes refl c.prev_before.ensures c.run-own.ensures.takes (word-through _ _ _) (word-through _ _ _) more (omega (arith, c.blocks-j-end.ensures.few))
