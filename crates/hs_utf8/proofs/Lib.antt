@@ -1,0 +1,3 @@
+pub mod ChoiceLemmas
+pub mod DigitLemmas
+pub mod LengthLemmas
