@@ -1,3 +1,9 @@
 pub mod ChoiceLemmas
 pub mod DigitLemmas
 pub mod LengthLemmas
+pub mod RunLemmas
+pub mod ByteLemmas
+pub mod RangeLemmas
+pub mod SetLemmas
+pub mod TreeLists
+pub mod FoldLemmas

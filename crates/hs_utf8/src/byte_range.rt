@@ -1,5 +1,6 @@
 //! The classes of a run: a range of bytes at each place.
-ghost use Rattle.std.specs.Prelude.{◌≡◌, ◌&&◌, nat_le, map, zip, encode_utf8, true, IfOk};
+ghost use Rattle.std.specs.Prelude.{◌≡◌, ◌&&◌, nat_le, encode_utf8, length, true, IfOk};
+ghost use Rattle.std.specs.List.{zip};
 ghost use Rattle.hs_base.specs.ByteSets.{members, bytes_where};
 ghost use Rattle.hs_expr.specs.Meaning.{tree_of};
 ghost use Rattle.hs_utf8.specs.Members.{has_encoding};
@@ -13,6 +14,7 @@ use std::alloc::{AllocError, Global};
 pub(crate) fn run_classes(alloc: Global, first: u32, last: u32) -> Result<Expr, AllocError>
     requires first { has_encoding first ≡ true }
     requires last { has_encoding last ≡ true }
+    requires length { length (encode_utf8 first) ≡ length (encode_utf8 last) }
     ensures { IfOk result (λ e. tree_of e ≡ cat_of (zip (encode_utf8 first) (encode_utf8 last))) }
 {
     let mut least = [0; 4];
@@ -20,8 +22,8 @@ pub(crate) fn run_classes(alloc: Global, first: u32, last: u32) -> Result<Expr, 
     let least = encoding(first, &mut least);
     let greatest = encoding(last, &mut greatest);
     let mut places = Vec::new(alloc);
-    for (first, last) in least.iter().zip(greatest) {
-        places.push(Expr::Class(byte_range(*first, *last)))?;
+    for (i, first) in least.iter().enumerate() {
+        places.push(Expr::Class(byte_range(*first, greatest[i])))?;
     }
     Ok(Expr::Cat(places))
 }

@@ -27,9 +27,13 @@ fn push_ascii(class: &Class, parts: &mut Vec<Expr>) -> Result<(), AllocError>
     ensures { OnOk result (AddsAscii class.now.ranges.items
         (map tree_of parts.old.items) (map tree_of parts.new.items)) }
 {
-    if let Some((least, _)) = class.bounds() && least < ASCII_END {
-        parts.push(Expr::Class(ascii_members(class)))?;
+    let Some((least, _)) = class.bounds() else {
+        return Ok(());
+    };
+    if least >= ASCII_END {
+        return Ok(());
     }
+    parts.push(Expr::Class(ascii_members(class)))?;
     Ok(())
 }
 
@@ -38,7 +42,7 @@ fn ascii_members(class: &Class) -> ByteSet
     ensures { members result ≡ bytes_where (is_ascii_member class.now.ranges.items) }
 {
     let mut set = ByteSet::EMPTY;
-    for byte in 0..ASCII_END as u8 {
+    for byte in 0..0x80 {
         if class.contains(u32::from(byte)) {
             set.insert(byte);
         }
