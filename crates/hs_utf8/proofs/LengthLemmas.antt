@@ -1,11 +1,18 @@
 -- How long encodings are.
-use Rattle.std.proofs.Common.{◌≡◌, ℕ, suc, ◌+◌, ◌/◌, ◌%◌, ◌<◌, ◌≤◌, true, false, List, [], ◌∷◌, ◌++◌, length, refl, sym, ap, ap₂, ◌∙◌, ltb, leb, arith}
+use Rattle.std.proofs.Common.{◌≡◌, ℕ, suc, ◌+◌, ◌/◌, ◌%◌, ◌<◌, ◌≤◌, true, false, List, [], ◌∷◌, ◌++◌, length, inl, inr, refl, ltb, arith}
 use Rattle.std.proofs.lemmas.Bool.Decides.{nat_tests}
+use Rattle.std.proofs.lemmas.Bool.{cases_lt}
 use lib.Utf8.{encode}
 use Rattle.hs_utf8.specs.Members.{has_encoding}
 use Rattle.hs_utf8.specs.Digits.{bytes_of, HasLength}
 
--- the encodings of two, three and four bytes
+-- the encodings of one, two, three and four bytes
+pub encode-one : (c : ℕ) → c < 0x80 → encode c ≡ c ∷ []
+unfolding encode
+encode-one c low =
+    let one : ltb c 0x80 ≡ true = grind (arith, nat_tests) in
+    rw one refl
+
 pub encode-two : (c : ℕ) → 0x80 ≤ c → c ≤ 0x7FF → encode c ≡ bytes_of 0xC0 1 c
 unfolding encode
 encode-two c low high =
@@ -75,3 +82,16 @@ length-four c low high = record {
   encodings = λ d above below. encode-four d (omega arith);
   ends = λ is same. cc;
 }
+
+-- an encoding has a byte
+pub some_byte : (c : ℕ) → 0 < length (encode c)
+some_byte c = elim (cases_lt c 0x80) [
+  | inl one ↦ rw (encode-one c one) (omega arith)
+  | inr low ↦ elim (cases_lt c 0x800) [
+    | inl two ↦ rw (encode-two c low (omega arith)) (omega arith)
+    | inr middle ↦ elim (cases_lt c 0x10000) [
+      | inl three ↦ rw (encode-three c middle (omega arith)) (omega arith)
+      | inr four ↦ rw (encode-four c four) (omega arith)
+    ]
+  ]
+]

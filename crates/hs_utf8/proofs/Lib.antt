@@ -7,3 +7,6 @@ pub mod RangeLemmas
 pub mod SetLemmas
 pub mod TreeLists
 pub mod FoldLemmas
+pub mod TextLemmas
+pub mod PartLemmas
+pub mod SpanLemmas

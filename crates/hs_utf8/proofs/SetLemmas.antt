@@ -53,8 +53,8 @@ ascii-none rs old none =
       ap (λ x. nat_lt b ascii_end && (has_encoding b && x)) (ap (λ ss. in_ranges ss b) none ∙ in_ranges-nil b)
       ∙ (ap (λ x. nat_lt b ascii_end && x) (and-false (has_encoding b)) ∙ and-false (nat_lt b ascii_end)))
 
-pub ascii-above : (rs : List Range) (old : List Tree) (least greatest : ℕ) → IsBounds rs (least, greatest) → ascii_end ≤ least → AddsAscii rs old old
-ascii-above rs old least greatest bounds above = no_ascii rs old one
+pub ascii-above : (rs : List Range) (old : List Tree) (b : Range) → IsBounds rs b → ascii_end ≤ b.0 → AddsAscii rs old old
+ascii-above rs old (least, greatest) bounds above = no_ascii rs old one
   where
     below : (b : ℕ) (here : Bool) → in_ranges rs b ≡ here → b < ascii_end → here ≡ false
     below b true is low = absurd (let least_one : least ≤ b = (bounds.between b is).0 in let no : ⊥ = omega arith in no)
@@ -70,9 +70,9 @@ ascii-above rs old least greatest bounds above = no_ascii rs old one
           ap (λ x. x && is_member rs b) no
     ]
 
-pub ascii-some : (rs : List Range) (old new : List Tree) (least greatest : ℕ) → IsBounds rs (least, greatest) → least < ascii_end →
+pub ascii-some : (rs : List Range) (old new : List Tree) (b : Range) → IsBounds rs b → b.0 < ascii_end →
     new ≡ old ++ class (bytes_where (is_ascii_member rs)) ∷ [] → AddsAscii rs old new
-ascii-some rs old new least greatest bounds low is = record {
+ascii-some rs old new (least, greatest) bounds low is = record {
   ascii = class (bytes_where (is_ascii_member rs)) ∷ [];
   is = is;
   are_ascii = something least (

@@ -1,7 +1,7 @@
 -- Lists of trees that grow.
-use Rattle.std.proofs.Common.{◌≡◌, ℕ, suc, ◌+◌, ◌<◌, ◌≤◌, List, [], ◌∷◌, ◌++◌, map, drop, length, get_or, refl, sym, ap, ap₂, ◌∙◌, append_assoc, append-nil, add-one, drop-cons, drop_of_length-le}
+use Rattle.std.proofs.Common.{◌≡◌, ℕ, suc, ◌+◌, ◌<◌, ◌≤◌, List, [], ◌∷◌, ◌++◌, map, take, drop, length, get_or, refl, sym, ap, ap₂, subst, ◌∙◌, append_assoc, append-nil, add-one, drop-cons, drop_of_length-le}
 use Rattle.std.specs.List.{zip}
-use Rattle.std.proofs.lemmas.List.{map-append}
+use Rattle.std.proofs.lemmas.List.{map-append, take_more}
 use Rattle.hs_base.specs.Trees.{Tree, Trees, none, more, trees_of}
 use Rattle.hs_expr.specs.Meaning.{tree_of}
 use Rattle.hs_expr.specs.declared.expr.Expr.{Expr}
@@ -38,3 +38,15 @@ lowered-push (x ∷ xs) (y ∷ ys) t u (first, others, one, rest, same) here =
     let head : first ≡ y = cc in
     let tail : others ≡ trees_of ys = cc in
     (first, trees_of (ys ++ u ∷ []), one, lowered-push xs ys t u (rw tail at rest) here, ap (λ h. more h (trees_of (ys ++ u ∷ []))) (sym head))
+
+pub lowered-more : (items : List Expr) (i : ℕ) (item : Expr) (old new : List Expr) (e : Expr) → i < length items →
+    item ≡ get_or items i item → new ≡ old ++ e ∷ [] →
+    AreLowered (trees_of (map tree_of (take i items))) (trees_of (map tree_of old)) → IsLowered (tree_of item) (tree_of e) →
+    AreLowered (trees_of (map tree_of (take (i + 1) items))) (trees_of (map tree_of new))
+lowered-more items i item old new e within is grown before here =
+    let more_items = map-push (take i items) (take (i + 1) items) item (tree_of item)
+    (take_more items i item within ∙ ap (λ x. take i items ++ x ∷ []) (sym is)) refl in
+    let more_new = map-push old new e (tree_of e) grown refl in
+    subst (λ ts. AreLowered (trees_of ts) (trees_of (map tree_of new))) (sym more_items)
+    (subst (λ ts. AreLowered (trees_of (map tree_of (take i items) ++ tree_of item ∷ [])) (trees_of ts)) (sym more_new)
+    (lowered-push (map tree_of (take i items)) (map tree_of old) (tree_of item) (tree_of e) before here))

@@ -27,14 +27,16 @@ fn push_ascii(class: &Class, parts: &mut Vec<Expr>) -> Result<(), AllocError>
     ensures { OnOk result (AddsAscii class.now.ranges.items
         (map tree_of parts.old.items) (map tree_of parts.new.items)) }
 {
-    let Some((least, _)) = class.bounds() else {
-        return Ok(());
-    };
-    if least >= ASCII_END {
-        return Ok(());
+    match class.bounds() {
+        None => Ok(()),
+        Some(bounds) => {
+            if bounds.0 >= ASCII_END {
+                return Ok(());
+            }
+            parts.push(Expr::Class(ascii_members(class)))?;
+            Ok(())
+        }
     }
-    parts.push(Expr::Class(ascii_members(class)))?;
-    Ok(())
 }
 
 /// The members of ASCII.
