@@ -1,5 +1,5 @@
 -- Choices of one byte from one range per place, taken apart and put together at the last place.
-use Rattle.std.proofs.Common.{◌≡◌, ℕ, suc, ◌+◌, ◌≤◌, List, [], ◌∷◌, ◌++◌, length, refl, sym, ap, ap₂, ◌∙◌, arith}
+use Rattle.std.proofs.Common.{◌≡◌, ℕ, suc, ◌≤◌, List, [], ◌∷◌, ◌++◌, length, refl, ap, ap₂, ◌∙◌, arith}
 use Rattle.std.specs.List.{zip}
 use Rattle.hs_base.specs.Spans.{IsInRange}
 use Rattle.hs_utf8.specs.Runs.{IsChoice, AreChoices}

@@ -1,23 +1,23 @@
 -- Numbers in a row whose digits are all choices of a digit from one range per place.
-use Rattle.std.proofs.Common.{◌≡◌, ℕ, zero, suc, ◌+◌, ◌-◌, ◌*◌, ◌/◌, ◌%◌, ◌<◌, ◌≤◌, ◌⊎◌, inl, inr, min, List, [], ◌∷◌, ◌++◌, length, refl, sym, ap, ap₂, subst, ◌∙◌, le_refl, arith, length-append}
+use Rattle.std.proofs.Common.{◌≡◌, ℕ, zero, suc, ◌+◌, ◌-◌, ◌*◌, ◌/◌, ◌%◌, ◌<◌, ◌≤◌, inl, inr, min, List, [], ◌∷◌, ◌++◌, length, refl, sym, ap, ap₂, subst, ◌∙◌, le_refl, arith, length-append}
 use Rattle.std.specs.List.{zip}
 use Rattle.std.proofs.lemmas.Bool.{cases_eq}
 use Rattle.hs_base.specs.Spans.{IsInRange}
 use Rattle.hs_utf8.specs.Runs.{IsChoice, AreChoices}
-use Rattle.hs_utf8.specs.Digits.{bytes_of, AreDigits, IsRunEnd}
+use Rattle.hs_utf8.specs.Digits.{digit_bytes, AreDigits, IsRunEnd}
 use Rattle.hs_utf8.proofs.ChoiceLemmas.{snoc-same, choice-snoc, choice-parts, choice-places, choice-last, zip-snoc}
 
-pub length-bytes_of : (lead tail c : ℕ) → length (bytes_of lead tail c) ≡ tail + 1
-length-bytes_of lead zero c = refl
-length-bytes_of lead (suc tail) c =
-    omega (arith, length-append (bytes_of lead tail (c / 64)) ((0x80 + c % 64) ∷ []), length-bytes_of lead tail (c / 64))
+pub length-digit_bytes : (lead tail c : ℕ) → length (digit_bytes lead tail c) ≡ tail + 1
+length-digit_bytes lead zero c = refl
+length-digit_bytes lead (suc tail) c =
+    omega (arith, length-append (digit_bytes lead tail (c / 64)) ((0x80 + c % 64) ∷ []), length-digit_bytes lead tail (c / 64))
 
 -- numbers with the same bytes are the same
-bytes_of-same : (lead tail c d : ℕ) → bytes_of lead tail c ≡ bytes_of lead tail d → c ≡ d
-bytes_of-same lead zero c d same = let e : lead + c ≡ lead + d = cc in omega arith
-bytes_of-same lead (suc tail) c d same =
-    let parts = snoc-same (bytes_of lead tail (c / 64)) (bytes_of lead tail (d / 64)) (0x80 + c % 64) (0x80 + d % 64) same in
-    let front = bytes_of-same lead tail (c / 64) (d / 64) parts.0 in
+digit_bytes-same : (lead tail c d : ℕ) → digit_bytes lead tail c ≡ digit_bytes lead tail d → c ≡ d
+digit_bytes-same lead zero c d same = let e : lead + c ≡ lead + d = cc in omega arith
+digit_bytes-same lead (suc tail) c d same =
+    let parts = snoc-same (digit_bytes lead tail (c / 64)) (digit_bytes lead tail (d / 64)) (0x80 + c % 64) (0x80 + d % 64) same in
+    let front = digit_bytes-same lead tail (c / 64) (d / 64) parts.0 in
     omega (arith, front, parts.1)
 
 digits-one : (tail c : ℕ) → AreDigits tail c c
@@ -48,22 +48,22 @@ digits-between tail first last q r (inr (same, order)) a b c d = (omega arith, o
 
 -- all choices of the bytes before the last, each with all last ones
 digits-step : (lead tail first last : ℕ) (places : List (ℕ × ℕ)) → AreDigits (suc tail) first last →
-    AreChoices (bytes_of lead tail) (first / 64) (last / 64) places →
-    AreChoices (bytes_of lead (suc tail)) first last (places ++ (0x80 + first % 64, 0x80 + last % 64) ∷ [])
+    AreChoices (digit_bytes lead tail) (first / 64) (last / 64) places →
+    AreChoices (digit_bytes lead (suc tail)) first last (places ++ (0x80 + first % 64, 0x80 + last % 64) ∷ [])
 digits-step lead tail first last places digits front = record { each = each_one; every = every_one }
   where
     range : ℕ × ℕ
     range = (0x80 + first % 64, 0x80 + last % 64)
 
     each_one : (c : ℕ) → first ≤ c → c ≤ last →
-        IsChoice (places ++ (0x80 + first % 64, 0x80 + last % 64) ∷ []) (bytes_of lead (suc tail) c)
+        IsChoice (places ++ (0x80 + first % 64, 0x80 + last % 64) ∷ []) (digit_bytes lead (suc tail) c)
     each_one c low high =
         let (above, below, least, greatest) = digits-inside tail first last c digits low high in
-        choice-snoc places (0x80 + first % 64, 0x80 + last % 64) (bytes_of lead tail (c / 64)) (0x80 + c % 64)
+        choice-snoc places (0x80 + first % 64, 0x80 + last % 64) (digit_bytes lead tail (c / 64)) (0x80 + c % 64)
         (front.each (c / 64) above below) (omega arith, omega arith)
 
     every_one : (text : List ℕ) → IsChoice (places ++ (0x80 + first % 64, 0x80 + last % 64) ∷ []) text →
-        (c : ℕ) × (first ≤ c) × (c ≤ last) × (text ≡ bytes_of lead (suc tail) c)
+        (c : ℕ) × (first ≤ c) × (c ≤ last) × (text ≡ digit_bytes lead (suc tail) c)
     every_one text is =
         let parts = choice-last places (0x80 + first % 64, 0x80 + last % 64) text is in
         let (q, low, high, same) = front.every parts.bytes parts.front in
@@ -77,17 +77,17 @@ digits-step lead tail first last places digits front = record { each = each_one;
           within.0,
           within.1,
           parts.is
-          ∙ ap₂ (λ bs b. bs ++ b ∷ []) (same ∙ ap (bytes_of lead tail) (sym before)) (sym behind),
+              ∙ ap₂ (λ bs b. bs ++ b ∷ []) (same ∙ ap (digit_bytes lead tail) (sym before)) (sym behind),
         )
 
-one_byte : (lead first last : ℕ) → AreChoices (bytes_of lead zero) first last ((lead + first, lead + last) ∷ [])
+one_byte : (lead first last : ℕ) → AreChoices (digit_bytes lead zero) first last ((lead + first, lead + last) ∷ [])
 one_byte lead first last = record {
   each = λ c low high. ((omega arith, omega arith), tt);
   every = one;
 }
   where
     one : (text : List ℕ) → IsChoice ((lead + first, lead + last) ∷ []) text →
-        (c : ℕ) × (first ≤ c) × (c ≤ last) × (text ≡ bytes_of lead zero c)
+        (c : ℕ) × (first ≤ c) × (c ≤ last) × (text ≡ digit_bytes lead zero c)
     one [] is = absurd is
     one (b ∷ []) is =
         let low : lead + first ≤ b = is.0.0 in
@@ -98,31 +98,31 @@ one_byte lead first last = record {
 
 -- the bytes of such numbers are all choices
 pub digits-choices : (lead tail first last : ℕ) → AreDigits tail first last →
-    AreChoices (bytes_of lead tail) first last (zip (bytes_of lead tail first) (bytes_of lead tail last))
+    AreChoices (digit_bytes lead tail) first last (zip (digit_bytes lead tail first) (digit_bytes lead tail last))
 digits-choices lead zero first last digits = one_byte lead first last
 digits-choices lead (suc tail) first last digits =
     let front = digits-choices lead tail (first / 64) (last / 64) (digits-front tail first last digits) in
-    let whole = digits-step lead tail first last (zip (bytes_of lead tail (first / 64)) (bytes_of lead tail (last / 64))) digits front in
-    subst (AreChoices (bytes_of lead (suc tail)) first last)
-    (sym (zip-snoc (bytes_of lead tail (first / 64)) (bytes_of lead tail (last / 64)) (0x80 + first % 64) (0x80 + last % 64)
-    (length-bytes_of lead tail (first / 64) ∙ sym (length-bytes_of lead tail (last / 64)))))
+    let whole = digits-step lead tail first last (zip (digit_bytes lead tail (first / 64)) (digit_bytes lead tail (last / 64))) digits front in
+    subst (AreChoices (digit_bytes lead (suc tail)) first last)
+    (sym (zip-snoc (digit_bytes lead tail (first / 64)) (digit_bytes lead tail (last / 64)) (0x80 + first % 64) (0x80 + last % 64)
+    (length-digit_bytes lead tail (first / 64) ∙ sym (length-digit_bytes lead tail (last / 64)))))
     whole
 
 -- numbers in a row whose bytes are all choices
 module _ (lead tail first last : ℕ) (ranges : List (ℕ × ℕ)) (range : ℕ × ℕ)
-    (choices : AreChoices (bytes_of lead (suc tail)) first last (ranges ++ range ∷ [])) where
-  parts_of : (c : ℕ) → first ≤ c → c ≤ last → IsChoice ranges (bytes_of lead tail (c / 64)) × IsInRange (0x80 + c % 64) range
+    (choices : AreChoices (digit_bytes lead (suc tail)) first last (ranges ++ range ∷ [])) where
+  parts_of : (c : ℕ) → first ≤ c → c ≤ last → IsChoice ranges (digit_bytes lead tail (c / 64)) × IsInRange (0x80 + c % 64) range
   parts_of c low high =
-      choice-parts ranges range (bytes_of lead tail (c / 64)) (0x80 + c % 64) (choices.each c low high)
+      choice-parts ranges range (digit_bytes lead tail (c / 64)) (0x80 + c % 64) (choices.each c low high)
 
   -- what stands before the last digit of one of them and the last digit of another are one of them too
-  mixed : (q y : ℕ) → IsChoice ranges (bytes_of lead tail q) → first ≤ y → y ≤ last →
+  mixed : (q y : ℕ) → IsChoice ranges (digit_bytes lead tail q) → first ≤ y → y ≤ last →
       (first ≤ 64 * q + y % 64) × (64 * q + y % 64 ≤ last)
   mixed q y front low high =
-      let whole = choice-snoc ranges range (bytes_of lead tail q) (0x80 + y % 64) front (parts_of y low high).1 in
-      let (c, above, below, same) = choices.every (bytes_of lead tail q ++ (0x80 + y % 64) ∷ []) whole in
-      let parts = snoc-same (bytes_of lead tail q) (bytes_of lead tail (c / 64)) (0x80 + y % 64) (0x80 + c % 64) same in
-      let before = bytes_of-same lead tail q (c / 64) parts.0 in
+      let whole = choice-snoc ranges range (digit_bytes lead tail q) (0x80 + y % 64) front (parts_of y low high).1 in
+      let (c, above, below, same) = choices.every (digit_bytes lead tail q ++ (0x80 + y % 64) ∷ []) whole in
+      let parts = snoc-same (digit_bytes lead tail q) (digit_bytes lead tail (c / 64)) (0x80 + y % 64) (0x80 + c % 64) same in
+      let before = digit_bytes-same lead tail q (c / 64) parts.0 in
       let behind : 0x80 + y % 64 ≡ 0x80 + c % 64 = parts.1 in
       (omega arith, omega arith)
 
@@ -141,37 +141,37 @@ module _ (lead tail first last : ℕ) (ranges : List (ℕ × ℕ)) (range : ℕ 
       omega arith
 
   -- what stands before the last digits is all choices too
-  front_choices : first / 64 < last / 64 → AreChoices (bytes_of lead tail) (first / 64) (last / 64) ranges
+  front_choices : first / 64 < last / 64 → AreChoices (digit_bytes lead tail) (first / 64) (last / 64) ranges
   front_choices apart = record {
     each = λ q low high.
         let zero_low = mixed_low apart in
         let own = parts_of (64 * q) (omega arith) (omega arith) in
         let same : (64 * q) / 64 ≡ q = omega arith in
-        subst (λ n. IsChoice ranges (bytes_of lead tail n)) same own.0;
+        subst (λ n. IsChoice ranges (digit_bytes lead tail n)) same own.0;
     every = λ text is.
         let last_one = parts_of first (le_refl first) (omega arith) in
         let whole = choice-snoc ranges range text (0x80 + first % 64) is last_one.1 in
         let (c, low, high, same) = choices.every (text ++ (0x80 + first % 64) ∷ []) whole in
-        let parts = snoc-same text (bytes_of lead tail (c / 64)) (0x80 + first % 64) (0x80 + c % 64) same in
+        let parts = snoc-same text (digit_bytes lead tail (c / 64)) (0x80 + first % 64) (0x80 + c % 64) same in
         (c / 64, omega arith, omega arith, parts.0);
   }
 
 -- numbers in a row whose bytes are all choices are such numbers
 pub choices-digits : (lead tail first last : ℕ) (places : List (ℕ × ℕ)) → first ≤ last →
-    AreChoices (bytes_of lead tail) first last places → AreDigits tail first last
+    AreChoices (digit_bytes lead tail) first last places → AreDigits tail first last
 choices-digits lead zero first last places order choices = order
 choices-digits lead (suc tail) first last places order choices = elim (cases_eq (first / 64) (last / 64)) [
   | inl same ↦ inr (same, order)
   | inr other ↦
       let apart : first / 64 < last / 64 = omega (arith, other) in
-      let (ranges, range, is) = choice-places places (bytes_of lead tail (first / 64)) (0x80 + first % 64)
+      let (ranges, range, is) = choice-places places (digit_bytes lead tail (first / 64)) (0x80 + first % 64)
       (choices.each first (le_refl first) order) in
-      let whole = subst (AreChoices (bytes_of lead (suc tail)) first last) is choices in
+      let whole = subst (AreChoices (digit_bytes lead (suc tail)) first last) is choices in
       inl (
         mixed_low lead tail first last ranges range whole apart,
         mixed_high lead tail first last ranges range whole apart,
         choices-digits lead tail (first / 64) (last / 64) ranges (omega arith)
-        (front_choices lead tail first last ranges range whole apart),
+            (front_choices lead tail first last ranges range whole apart),
       )
 ]
 

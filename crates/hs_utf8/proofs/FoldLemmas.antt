@@ -1,11 +1,11 @@
 -- The code points that share a simple folding with a member, from the pairs of the table.
-use Rattle.std.proofs.Common.{◌≡◌, ◌≢◌, ◌↔◌, ◌⊎◌, ℕ, zero, suc, ◌<◌, ◌≤◌, Bool, true, false, ◌&&◌, ◌||◌, ◌==◌, List, [], ◌∷◌, length, Contains, refl, sym, ap, ap₂, subst, ◌∙◌, inl, inr, true≢false, eqb-true, eq-eqb, le_of_suc-le-suc, suc-le-suc, zero-le, not-suc-le-zero, arith}
+use Rattle.std.proofs.Common.{◌≡◌, ◌↔◌, ℕ, zero, suc, ◌<◌, ◌≤◌, Bool, true, false, ◌&&◌, ◌||◌, ◌==◌, List, [], ◌∷◌, length, Contains, refl, sym, ap, ap₂, ◌∙◌, inl, inr, true≢false, eqb-true, eq-eqb, le_of_suc-le-suc, suc-le-suc, zero-le, not-suc-le-zero}
 use Rattle.std.proofs.lemmas.Bool.{and_parts, or_cases, cases_eq, cases_lt}
 use Rattle.unicode.specs.CaseFolding.{simple_fold, fold_pairs, IsFoldPairs}
 use Rattle.ucd_case.specs.FoldOtherRows.{fold_other_rows}
 use Rattle.regex_class.specs.Ranges.{Range, in_ranges, in_image, IsCanonical, HasExactly, KeysRise}
-use Rattle.regex_class.proofs.RangesLemmas.{in_ranges-above_max, keys_rise_from, KeysRise-from_test}
-use Rattle.hs_utf8.specs.Folds.{last_code_point, SharesFolding, AreFolds}
+use Rattle.regex_class.proofs.RangesLemmas.{same_members-same, in_ranges-above_max, keys_rise_from, KeysRise-from_test}
+use Rattle.hs_utf8.specs.Folds.{SharesFolding, AreFolds}
 
 -- the table is in order
 pub rising_pairs : KeysRise fold_pairs
@@ -86,3 +86,16 @@ are_folds rs ranges all folds pairs order canonical exact image whole meaning = 
 
     exactly : (c : ℕ) → c ≤ 0x10FFFF → (in_ranges folds c ≡ true) ↔ SharesFolding ranges c
     exactly c within = (to c within, from c within)
+
+same-truth : (a b : Bool) → (a ≡ true → b ≡ true) → (b ≡ true → a ≡ true) → a ≡ b
+same-truth true b to from = sym (to refl)
+same-truth false true to from = from refl
+same-truth false false to from = refl
+
+-- there is one list of them
+pub folds-once : (ranges xs ys : List (ℕ × ℕ)) → AreFolds ranges xs → AreFolds ranges ys → xs ≡ ys
+folds-once ranges xs ys one two =
+    same_members-same xs ys one.canonical two.canonical
+    (λ c within. same-truth (in_ranges xs c) (in_ranges ys c)
+    (λ is. (two.exactly c within).1 ((one.exactly c within).0 is))
+    (λ is. (one.exactly c within).1 ((two.exactly c within).0 is)))

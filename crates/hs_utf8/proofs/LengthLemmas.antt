@@ -1,10 +1,9 @@
 -- How long encodings are.
-use Rattle.std.proofs.Common.{◌≡◌, ℕ, suc, ◌+◌, ◌/◌, ◌%◌, ◌<◌, ◌≤◌, true, false, List, [], ◌∷◌, ◌++◌, length, inl, inr, refl, ltb, arith}
+use Rattle.std.proofs.Common.{◌≡◌, ℕ, ◌/◌, ◌<◌, ◌≤◌, true, false, [], ◌∷◌, length, inl, inr, refl, ltb, arith}
 use Rattle.std.proofs.lemmas.Bool.Decides.{nat_tests}
 use Rattle.std.proofs.lemmas.Bool.{cases_lt}
 use lib.Utf8.{encode}
-use Rattle.hs_utf8.specs.Members.{has_encoding}
-use Rattle.hs_utf8.specs.Digits.{bytes_of, HasLength}
+use Rattle.hs_utf8.specs.Digits.{digit_bytes, HasLength}
 
 -- the encodings of one, two, three and four bytes
 pub encode-one : (c : ℕ) → c < 0x80 → encode c ≡ c ∷ []
@@ -13,14 +12,14 @@ encode-one c low =
     let one : ltb c 0x80 ≡ true = grind (arith, nat_tests) in
     rw one refl
 
-pub encode-two : (c : ℕ) → 0x80 ≤ c → c ≤ 0x7FF → encode c ≡ bytes_of 0xC0 1 c
+pub encode-two : (c : ℕ) → 0x80 ≤ c → c ≤ 0x7FF → encode c ≡ digit_bytes 0xC0 1 c
 unfolding encode
 encode-two c low high =
     let one : ltb c 0x80 ≡ false = grind (arith, nat_tests) in
     let two : ltb c 0x800 ≡ true = grind (arith, nat_tests) in
     rw (one, two) refl
 
-pub encode-three : (c : ℕ) → 0x800 ≤ c → c ≤ 0xFFFF → encode c ≡ bytes_of 0xE0 2 c
+pub encode-three : (c : ℕ) → 0x800 ≤ c → c ≤ 0xFFFF → encode c ≡ digit_bytes 0xE0 2 c
 unfolding encode
 encode-three c low high =
     let one : ltb c 0x80 ≡ false = grind (arith, nat_tests) in
@@ -29,7 +28,7 @@ encode-three c low high =
     let first : c / 4096 ≡ c / 64 / 64 = omega arith in
     rw (one, two, three, first) refl
 
-pub encode-four : (c : ℕ) → 0x10000 ≤ c → encode c ≡ bytes_of 0xF0 3 c
+pub encode-four : (c : ℕ) → 0x10000 ≤ c → encode c ≡ digit_bytes 0xF0 3 c
 unfolding encode
 encode-four c low =
     let one : ltb c 0x80 ≡ false = grind (arith, nat_tests) in

@@ -10,3 +10,4 @@ pub mod FoldLemmas
 pub mod TextLemmas
 pub mod PartLemmas
 pub mod SpanLemmas
+pub mod UniqueLemmas

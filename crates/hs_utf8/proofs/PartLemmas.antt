@@ -1,5 +1,5 @@
 -- What holds of each part of a lowered tree: it has no set of code points, and its values are within their types.
-use Rattle.std.proofs.Common.{◌≡◌, ℕ, ◌+◌, ◌≤◌, Bool, false, ◌&&◌, List, [], ◌∷◌, ◌++◌, map, length, Option, Some, None, IfSome, sym, subst, ◌∙◌, arith}
+use Rattle.std.proofs.Common.{◌≡◌, ℕ, ◌+◌, ◌≤◌, Bool, false, ◌&&◌, List, [], ◌∷◌, ◌++◌, map, length, Option, Some, None, IfSome, sym, subst}
 use Rattle.std.specs.Prelude.{nat_le}
 use Rattle.std.proofs.lemmas.List.FromFn.{length-map-range_with_len}
 use Rattle.hs_base.specs.ByteSets.{bytes_where}
@@ -8,7 +8,7 @@ use Rattle.hs_base.specs.Trees.{Tree, Trees, empty, class, points, assert, cat, 
 use Rattle.hs_base.specs.WrittenOut.{IsPlain, ArePlain}
 use Rattle.hs_base.proofs.ListLemmas.{each-append}
 use Rattle.hs_utf8.specs.Members.{is_member}
-use Rattle.hs_utf8.specs.Runs.{AreRuns, class_of, cat_of}
+use Rattle.hs_utf8.specs.Runs.{AreRuns, place_tree}
 use Rattle.hs_utf8.specs.Lowered.{ascii_end, is_ascii_member, AreAscii, nothing, something, alternatives, IsLoweredSet, IsLowered, AreLowered, HasNoPoints, HaveNoPoints}
 
 where-length : (f : ℕ → Bool) → length (bytes_where f) ≡ 256
@@ -23,25 +23,25 @@ are_proper : (trees : List Tree) → Each IsProper trees → AreProper (trees_of
 are_proper [] each = tt
 are_proper (t ∷ trees) each = (each.0, are_proper trees each.1)
 
-classes-none : (places : List (ℕ × ℕ)) → Each HasNoPoints (map class_of places)
+classes-none : (places : List (ℕ × ℕ)) → Each HasNoPoints (map place_tree places)
 classes-none [] = tt
 classes-none (p ∷ places) = (tt, classes-none places)
 
-classes-proper : (places : List (ℕ × ℕ)) → Each IsProper (map class_of places)
+classes-proper : (places : List (ℕ × ℕ)) → Each IsProper (map place_tree places)
 classes-proper [] = tt
 classes-proper ((low, high) ∷ places) = (where-length (λ b. nat_le low b && nat_le b high), classes-proper places)
 
 runs-none : (member : ℕ → Bool) (from : ℕ) (trees : List Tree) → AreRuns member from trees → Each HasNoPoints trees
 runs-none member from [] runs = tt
 runs-none member from (t ∷ trees) (next, is, runs) = (
-  subst HasNoPoints (sym is) (have_none (map class_of next.places) (classes-none next.places)),
+  subst HasNoPoints (sym is) (have_none (map place_tree next.places) (classes-none next.places)),
   runs-none member (next.last + 1) trees runs,
 )
 
 runs-proper : (member : ℕ → Bool) (from : ℕ) (trees : List Tree) → AreRuns member from trees → Each IsProper trees
 runs-proper member from [] runs = tt
 runs-proper member from (t ∷ trees) (next, is, runs) = (
-  subst IsProper (sym is) (are_proper (map class_of next.places) (classes-proper next.places)),
+  subst IsProper (sym is) (are_proper (map place_tree next.places) (classes-proper next.places)),
   runs-proper member (next.last + 1) trees runs,
 )
 

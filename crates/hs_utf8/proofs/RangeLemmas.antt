@@ -1,9 +1,8 @@
 -- The runs of ranges that rise, one range after the other.
-use Rattle.std.proofs.Common.{◌≡◌, ℕ, zero, suc, ◌+◌, ◌<◌, ◌≤◌, Bool, true, false, ◌&&◌, ◌||◌, max, List, [], ◌∷◌, ◌++◌, drop, length, refl, sym, ap, ap₂, subst, ◌∙◌, inl, inr, append_assoc, append-nil, add-one, drop-cons, drop_of_length-le, not-suc-le-zero, le_of_suc-le-suc, arith}
-use Rattle.std.proofs.lemmas.Bool.{cases_lt, and_parts}
-use Rattle.std.proofs.lemmas.Bool.Decides.{nat_tests}
+use Rattle.std.proofs.Common.{◌≡◌, ℕ, zero, suc, ◌+◌, ◌<◌, ◌≤◌, Bool, true, false, ◌&&◌, ◌||◌, max, List, [], ◌∷◌, ◌++◌, drop, length, refl, sym, ap, ap₂, subst, ◌∙◌, inl, append_assoc, append-nil, add-one, drop-cons, drop_of_length-le, not-suc-le-zero, le_of_suc-le-suc, arith}
+use Rattle.std.proofs.lemmas.Bool.{and_parts}
 use Rattle.hs_base.specs.Trees.{Tree}
-use Rattle.regex_class.specs.Ranges.{Range, in_range, in_ranges, range_at, rises_from, IsCanonical, HasExactly}
+use Rattle.regex_class.specs.Ranges.{Range, in_range, in_ranges, range_at, rises_from, IsCanonical}
 use Rattle.regex_class.proofs.RangesLemmas.{in_range_tells, in_ranges-nil, in_ranges-cons, in_ranges-outside, rises_from-at}
 use Rattle.hs_utf8.specs.Members.{has_encoding, is_member}
 use Rattle.hs_utf8.specs.Runs.{AreRuns}

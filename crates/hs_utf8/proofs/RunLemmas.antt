@@ -1,16 +1,16 @@
 -- The next run of a set of code points, and runs in a row.
-use Rattle.std.proofs.Common.{◌≡◌, ℕ, ◌+◌, ◌<◌, ◌≤◌, Bool, true, false, ◌&&◌, min, max, List, [], ◌∷◌, ◌++◌, length, refl, sym, ap, ap₂, subst, ◌∙◌, le_refl, le_trans, inl, inr, true≢false, append_assoc, append-nil, arith}
+use Rattle.std.proofs.Common.{◌≡◌, ℕ, ◌+◌, ◌<◌, ◌≤◌, Bool, false, min, List, [], ◌∷◌, ◌++◌, length, refl, sym, ap, ap₂, subst, ◌∙◌, le_refl, le_trans, inl, inr, true≢false, append_assoc, append-nil, arith}
 use Rattle.std.specs.Prelude.{encode_utf8}
 use Rattle.std.specs.List.{zip}
 use Rattle.std.proofs.lemmas.Bool.{cases_lt}
 use Rattle.std.proofs.lemmas.Bool.Decides.{nat_tests}
 use Rattle.hs_base.specs.Trees.{Tree}
 use Rattle.hs_utf8.specs.Members.{has_encoding}
-use Rattle.hs_utf8.specs.Runs.{AreChoices, IsRun, NextRun, AreRuns, cat_of}
-use Rattle.hs_utf8.specs.Digits.{bytes_of, IsRunEnd, HasLength}
+use Rattle.hs_utf8.specs.Runs.{AreChoices, IsCodePointRun, NextRun, AreRuns, run_tree}
+use Rattle.hs_utf8.specs.Digits.{digit_bytes, IsRunEnd, HasLength}
 use Rattle.hs_utf8.specs.Steps.{IsStretch, AddsRuns}
 use Rattle.hs_utf8.proofs.ChoiceLemmas.{choice-length, choices-same}
-use Rattle.hs_utf8.proofs.DigitLemmas.{length-bytes_of, digits-order, digits-choices, choices-digits}
+use Rattle.hs_utf8.proofs.DigitLemmas.{length-digit_bytes, digits-order, digits-choices, choices-digits}
 
 -- the places of a run, by its first and its last code point
 abbrev pub places_of : ℕ → ℕ → List (ℕ × ℕ)
@@ -19,12 +19,12 @@ places_of first last = zip (encode_utf8 first) (encode_utf8 last)
 module _ (member : ℕ → Bool) (first last from bound limit tail end : ℕ) (stretch : IsStretch member first last)
     (above : first ≤ from) (below : from ≤ last) (same : HasLength from bound tail) (limit_is : limit ≡ min last bound)
     (whole : IsRunEnd tail from limit end) where
-  is_run : IsRun member from end (places_of from end)
+  is_run : IsCodePointRun member from end (places_of from end)
   is_run =
       let order = digits-order tail from end whole.digits in
       let inside : end ≤ limit = whole.within in
-      let encodings = choices-same (bytes_of same.lead tail) encode_utf8 from end
-      (zip (bytes_of same.lead tail from) (bytes_of same.lead tail end))
+      let encodings = choices-same (digit_bytes same.lead tail) encode_utf8 from end
+      (zip (digit_bytes same.lead tail from) (digit_bytes same.lead tail end))
       (λ c low high. sym (same.encodings c low (omega arith))) (digits-choices same.lead tail from end whole.digits) in
       let places = ap₂ zip (same.encodings from (le_refl from) same.some) (same.encodings end order (omega arith)) in
       record {
@@ -34,14 +34,14 @@ module _ (member : ℕ → Bool) (first last from bound limit tail end : ℕ) (s
       }
 
   -- no run goes on where the members end
-  within_last : (other : ℕ) (others : List (ℕ × ℕ)) → IsRun member from other others → other ≤ last
+  within_last : (other : ℕ) (others : List (ℕ × ℕ)) → IsCodePointRun member from other others → other ≤ last
   within_last other others run = elim (cases_lt last other) [
     | inl beyond ↦ absurd (true≢false (sym (run.members (last + 1) (omega arith) (omega arith)) ∙ stretch.behind))
     | inr within ↦ within
   ]
 
   -- or where the encodings get longer
-  within_bound : (other : ℕ) (others : List (ℕ × ℕ)) → IsRun member from other others → other ≤ bound
+  within_bound : (other : ℕ) (others : List (ℕ × ℕ)) → IsCodePointRun member from other others → other ≤ bound
   within_bound other others run = elim (cases_lt bound other) [
     | inl beyond ↦
         let most = within_last other others run in
@@ -49,16 +49,16 @@ module _ (member : ℕ → Bool) (first last from bound limit tail end : ℕ) (s
         let scalar = sym (stretch.inside (bound + 1) (omega arith) (omega arith)) ∙ run.members (bound + 1) low (omega arith) in
         let long = choice-length others (encode_utf8 (bound + 1)) (run.encodings.each (bound + 1) low (omega arith)) in
         let short = choice-length others (encode_utf8 from) (run.encodings.each from (le_refl from) run.some) in
-        let size = ap length (same.encodings from (le_refl from) same.some) ∙ length-bytes_of same.lead tail from in
+        let size = ap length (same.encodings from (le_refl from) same.some) ∙ length-digit_bytes same.lead tail from in
         absurd (same.ends scalar (long ∙ sym short ∙ size))
     | inr within ↦ within
   ]
 
-  is_longest : (other : ℕ) (others : List (ℕ × ℕ)) → IsRun member from other others → other ≤ end
+  is_longest : (other : ℕ) (others : List (ℕ × ℕ)) → IsCodePointRun member from other others → other ≤ end
   is_longest other others run =
       let bounded = within_bound other others run in
       let ended = within_last other others run in
-      let choices = choices-same encode_utf8 (bytes_of same.lead tail) from other others
+      let choices = choices-same encode_utf8 (digit_bytes same.lead tail) from other others
       (λ c low high. same.encodings c low (omega arith)) run.encodings in
       whole.longest other (choices-digits same.lead tail from other others run.some choices) (omega arith)
 
@@ -89,13 +89,13 @@ adds-then member a b c x y z one two = record {
 
 -- the next run
 adds-run : (member : ℕ → Bool) (from last : ℕ) (places : List (ℕ × ℕ)) (old : List Tree) (next : NextRun member from) →
-    next.last ≡ last → next.places ≡ places → AddsRuns member from (last + 1) old (old ++ cat_of places ∷ [])
+    next.last ≡ last → next.places ≡ places → AddsRuns member from (last + 1) old (old ++ run_tree places ∷ [])
 adds-run member from last places old next end same = record {
-  added = cat_of places ∷ [];
+  added = run_tree places ∷ [];
   is = refl;
   leads = λ rest runs. (
     next,
-    ap cat_of (sym same),
+    ap run_tree (sym same),
     subst (λ n. AreRuns member (n + 1) rest) (sym end) runs,
   );
 }
@@ -147,7 +147,7 @@ runs-raise member from to (tree ∷ trees) order none (next, is, runs) = (
 )
 
 run-same : (member other : ℕ → Bool) (from first last : ℕ) (places : List (ℕ × ℕ)) →
-    ((c : ℕ) → from ≤ c → member c ≡ other c) → from ≤ first → IsRun member first last places → IsRun other first last places
+    ((c : ℕ) → from ≤ c → member c ≡ other c) → from ≤ first → IsCodePointRun member first last places → IsCodePointRun other first last places
 run-same member other from first last places same above run = record {
   some = run.some;
   members = λ c low high. sym (same c (le_trans above low)) ∙ run.members c low high;
@@ -172,7 +172,7 @@ runs-same member other from (tree ∷ trees) same (next, is, runs) = (
   },
   is,
   runs-same member other (next.last + 1) trees
-  (λ c low. same c (omega (arith, next.above, next.run.some))) runs,
+      (λ c low. same c (omega (arith, next.above, next.run.some))) runs,
 )
 
 -- no member lies between
@@ -190,7 +190,7 @@ surrogate c low high = grind (arith, nat_tests)
 -- the runs of a stretch so far, and the next one
 pub stretch-run : (member : ℕ → Bool) (first last start from bound limit tail end : ℕ) (x y z : List Tree) (tree : Tree) →
     IsStretch member first last → first ≤ from → from ≤ last → HasLength from bound tail → limit ≡ min last bound →
-    IsRunEnd tail from limit end → tree ≡ cat_of (places_of from end) → z ≡ y ++ tree ∷ [] →
+    IsRunEnd tail from limit end → tree ≡ run_tree (places_of from end) → z ≡ y ++ tree ∷ [] →
     AddsRuns member start from x y → AddsRuns member start (end + 1) x z
 unfolding next_run
 stretch-run member first last start from bound limit tail end x y z tree stretch above below same limit_is whole is grown before =
@@ -212,5 +212,5 @@ stretch-gap member first last start from limit x y stretch above below low high 
 pub same-length : (from bound tail end : ℕ) → HasLength from bound tail → from ≤ end → end ≤ bound →
     length (encode_utf8 from) ≡ length (encode_utf8 end)
 same-length from bound tail end same order within =
-    ap length (same.encodings from (le_refl from) same.some) ∙ length-bytes_of same.lead tail from
-    ∙ sym (ap length (same.encodings end order within) ∙ length-bytes_of same.lead tail end)
+    ap length (same.encodings from (le_refl from) same.some) ∙ length-digit_bytes same.lead tail from
+    ∙ sym (ap length (same.encodings end order within) ∙ length-digit_bytes same.lead tail end)

@@ -1,5 +1,5 @@
 -- A set of code points in bytes, from its ranges in order.
-use Rattle.std.proofs.Common.{◌≡◌, ℕ, ◌+◌, ◌<◌, ◌≤◌, Bool, true, false, ◌&&◌, List, [], ◌∷◌, ◌++◌, refl, sym, ap, subst, ◌∙◌, inl, inr, true≢false, arith, append-nil}
+use Rattle.std.proofs.Common.{◌≡◌, ℕ, ◌<◌, ◌≤◌, Bool, true, false, ◌&&◌, List, [], ◌∷◌, ◌++◌, refl, sym, ap, subst, ◌∙◌, inl, inr, arith, append-nil}
 use Rattle.std.specs.Prelude.{nat_lt}
 use Rattle.std.proofs.lemmas.Bool.{cases_lt}
 use Rattle.std.proofs.lemmas.Bool.Decides.{nat_tests}
@@ -50,8 +50,8 @@ no_ascii rs old none = record { ascii = []; is = sym (append-nil old); are_ascii
 pub ascii-none : (rs : List Range) (old : List Tree) → rs ≡ [] → AddsAscii rs old old
 ascii-none rs old none =
     no_ascii rs old (λ b.
-      ap (λ x. nat_lt b ascii_end && (has_encoding b && x)) (ap (λ ss. in_ranges ss b) none ∙ in_ranges-nil b)
-      ∙ (ap (λ x. nat_lt b ascii_end && x) (and-false (has_encoding b)) ∙ and-false (nat_lt b ascii_end)))
+    ap (λ x. nat_lt b ascii_end && (has_encoding b && x)) (ap (λ ss. in_ranges ss b) none ∙ in_ranges-nil b)
+    ∙ (ap (λ x. nat_lt b ascii_end && x) (and-false (has_encoding b)) ∙ and-false (nat_lt b ascii_end)))
 
 pub ascii-above : (rs : List Range) (old : List Tree) (b : Range) → IsBounds rs b → ascii_end ≤ b.0 → AddsAscii rs old old
 ascii-above rs old (least, greatest) bounds above = no_ascii rs old one
@@ -76,11 +76,11 @@ ascii-some rs old new (least, greatest) bounds low is = record {
   ascii = class (bytes_where (is_ascii_member rs)) ∷ [];
   is = is;
   are_ascii = something least (
-    let first : nat_lt least ascii_end ≡ true = grind (arith, nat_tests) in
-    let scalar : has_encoding least ≡ true = grind (arith, nat_tests) in
-    ap (λ x. x && is_member rs least) first
-    ∙ (ap (λ x. x && in_ranges rs least) scalar ∙ bounds.first)
-  );
+      let first : nat_lt least ascii_end ≡ true = grind (arith, nat_tests) in
+      let scalar : has_encoding least ≡ true = grind (arith, nat_tests) in
+      ap (λ x. x && is_member rs least) first
+      ∙ (ap (λ x. x && in_ranges rs least) scalar ∙ bounds.first)
+      );
 }
 
 -- the test of ASCII, where the last byte was tested

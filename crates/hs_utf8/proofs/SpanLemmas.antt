@@ -1,5 +1,5 @@
 -- A lowered tree has the spans of the expression.
-use Rattle.std.proofs.Common.{◌≡◌, ◌↔◌, ◌⊎◌, ℕ, zero, suc, ◌+◌, ◌<◌, ◌≤◌, Bool, true, false, ◌&&◌, ◌||◌, List, [], ◌∷◌, ◌++◌, map, length, Some, slice_get, refl, sym, ap, subst, ◌∙◌, inl, inr, true≢false, le_refl, le_trans, arith}
+use Rattle.std.proofs.Common.{◌≡◌, ◌↔◌, ◌⊎◌, ℕ, zero, suc, ◌+◌, ◌<◌, ◌≤◌, Bool, true, false, ◌&&◌, ◌||◌, List, [], ◌∷◌, ◌++◌, map, length, Some, refl, sym, ap, subst, ◌∙◌, inl, inr, true≢false, le_refl, le_trans, arith}
 use Rattle.std.specs.Prelude.{encode_utf8, nat_le, nat_lt}
 use Rattle.std.proofs.lemmas.Bool.{cases_lt, and_parts, or_cases}
 use Rattle.std.proofs.lemmas.Bool.Decides.{nat_tests}
@@ -12,7 +12,7 @@ use Rattle.hs_expr.specs.Items.{HaveSameSpans}
 use Rattle.regex_class.specs.Ranges.{Range, in_range, in_ranges}
 use Rattle.regex_class.proofs.RangesLemmas.{in_ranges-nil, in_ranges-cons, in_range_tells}
 use Rattle.hs_utf8.specs.Members.{has_encoding, is_member}
-use Rattle.hs_utf8.specs.Runs.{IsChoice, IsRun, AreRuns, class_of, cat_of}
+use Rattle.hs_utf8.specs.Runs.{IsChoice, IsCodePointRun, AreRuns, place_tree, run_tree}
 use Rattle.hs_utf8.specs.Lowered.{ascii_end, is_ascii_member, AreAscii, nothing, something, alternatives, IsLoweredSet, IsLowered, AreLowered}
 use Rattle.hs_utf8.proofs.LengthLemmas.{encode-one, some_byte}
 use Rattle.hs_utf8.proofs.TextLemmas.{where-at, where-byte, Stand, stand-bytes, bytes-stand, encoding-bytes}
@@ -33,7 +33,7 @@ record HasChoice (places : List (ℕ × ℕ)) (w : List ℕ) (i j : ℕ) : Type 
   pub end : j ≡ i + length bytes
 
 choice-of : (w : List ℕ) (ended : Bool) (places : List (ℕ × ℕ)) (i j : ℕ) → i ≤ length w →
-    CatSpans w ended (trees_of (map class_of places)) i j → HasChoice places w i j
+    CatSpans w ended (trees_of (map place_tree places)) i j → HasChoice places w i j
 choice-of w ended [] i j inside span = record { bytes = []; choice = tt; stand = inside; end = omega (arith, span) }
 choice-of w ended ((low, high) ∷ places) i j inside (m, ((b, there, member), step), span) =
     let within : i < length w = slice_get_within w i b there in
@@ -49,13 +49,12 @@ choice-of w ended ((low, high) ∷ places) i j inside (m, ((b, there, member), s
     }
 
 of-choice : (w : List ℕ) (ended : Bool) (places : List (ℕ × ℕ)) (bytes : List ℕ) (i j : ℕ) → IsChoice places bytes →
-    Each (λ b. b < 256) bytes → Stand w i bytes → j ≡ i + length bytes → CatSpans w ended (trees_of (map class_of places)) i j
+    Each (λ b. b < 256) bytes → Stand w i bytes → j ≡ i + length bytes → CatSpans w ended (trees_of (map place_tree places)) i j
 of-choice w ended [] [] i j choice each stand end = omega (arith, end)
 of-choice w ended [] (b ∷ bytes) i j choice each stand end = absurd choice
 of-choice w ended (p ∷ places) [] i j choice each stand end = absurd choice
 of-choice w ended ((low, high) ∷ places) (b ∷ bytes) i j ((least, greatest), choice) (below, each) (there, stand) end =
-    let test : (nat_le low b && nat_le b high) ≡ true = grind (arith, nat_tests) in
-    (
+    let test : (nat_le low b && nat_le b high) ≡ true = grind (arith, nat_tests) in (
       i + 1,
       ((b, there, where-at (λ d. nat_le low d && nat_le d high) b below ∙ ap (λ x. Some x) test), refl),
       of-choice w ended places bytes (i + 1) j choice each stand (omega (arith, end)),
@@ -66,7 +65,7 @@ abbrev pub HaveEncodings : (ℕ → Bool) → Type 0
 HaveEncodings member = (c : ℕ) → member c ≡ true → c < 0x110000
 
 run-choice : (w : List ℕ) (ended : Bool) (places : List (ℕ × ℕ)) (first : List ℕ) (i j : ℕ) → IsChoice places first → 0 < length first →
-    CatSpans w ended (trees_of (map class_of places)) i j → HasChoice places w i j
+    CatSpans w ended (trees_of (map place_tree places)) i j → HasChoice places w i j
 run-choice w ended [] [] i j choice some span = absurd (omega arith)
 run-choice w ended [] (b ∷ bytes) i j choice some span = absurd choice
 run-choice w ended (p ∷ places) first i j choice some (m, ((b, there, member), step), span) =
@@ -75,8 +74,8 @@ run-choice w ended (p ∷ places) first i j choice some (m, ((b, there, member),
 
 module _ (w : List ℕ) (ended : Bool) (member : ℕ → Bool) (bounded : HaveEncodings member) where
   -- the spans of a run are the encodings of its code points
-  run-spans : (from first last : ℕ) (places : List (ℕ × ℕ)) (i j : ℕ) → from ≤ first → IsRun member first last places →
-      Spans w ended (cat_of places) i j → HasMember member from w i j
+  run-spans : (from first last : ℕ) (places : List (ℕ × ℕ)) (i j : ℕ) → from ≤ first → IsCodePointRun member first last places →
+      Spans w ended (run_tree places) i j → HasMember member from w i j
   run-spans from first last places i j above run span =
       let own = run.encodings.each first (le_refl first) run.some in
       let here = run-choice w ended places (encode_utf8 first) i j own (some_byte first) span in
@@ -89,8 +88,8 @@ module _ (w : List ℕ) (ended : Bool) (member : ℕ → Bool) (bounded : HaveEn
         end = here.end ∙ ap (λ bs. i + length bs) same;
       }
 
-  spans-run : (first last : ℕ) (places : List (ℕ × ℕ)) (i j c : ℕ) → IsRun member first last places → first ≤ c → c ≤ last →
-      HasBytesAt w i (encode_utf8 c) → j ≡ i + length (encode_utf8 c) → Spans w ended (cat_of places) i j
+  spans-run : (first last : ℕ) (places : List (ℕ × ℕ)) (i j c : ℕ) → IsCodePointRun member first last places → first ≤ c → c ≤ last →
+      HasBytesAt w i (encode_utf8 c) → j ≡ i + length (encode_utf8 c) → Spans w ended (run_tree places) i j
   spans-run first last places i j c run low high bytes end =
       of-choice w ended places (encode_utf8 c) i j (run.encodings.each c low high)
       (encoding-bytes c (bounded c (run.members c low high))) (bytes-stand w i (encode_utf8 c) bytes) end
@@ -158,8 +157,10 @@ spans-ascii w ended ranges _ i j ascii has low =
     elim ascii as (λ trees _. AltSpans w ended (trees_of trees) i j) [
       | nothing h ↦ absurd (true≢false (sym test ∙ h has.code_point))
       | something d h ↦
-          inl ((has.code_point, bytes.0, where-at (is_ascii_member ranges) has.code_point (omega arith) ∙ ap (λ x. Some x) test),
-          has.end ∙ ap (λ bs. i + length bs) is)
+          inl (
+            (has.code_point, bytes.0, where-at (is_ascii_member ranges) has.code_point (omega arith) ∙ ap (λ x. Some x) test),
+            has.end ∙ ap (λ bs. i + length bs) is,
+          )
     ]
 
 -- one of the parts

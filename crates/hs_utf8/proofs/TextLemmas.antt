@@ -1,17 +1,15 @@
 -- Bytes that stand at an offset, one after the other.
-use Rattle.std.proofs.Common.{◌≡◌, ℕ, zero, suc, ◌+◌, ◌/◌, ◌%◌, ◌<◌, ◌≤◌, Bool, true, false, List, [], ◌∷◌, map, length, take, drop, get_or, Some, None, slice_get, ltb, leb, refl, sym, ap, ap₂, subst, ◌∙◌, add-one, add-zero, drop-cons, zero-add, inl, inr, arith}
+use Rattle.std.proofs.Common.{◌≡◌, ℕ, suc, ◌+◌, ◌<◌, ◌≤◌, Bool, true, List, [], ◌∷◌, length, take, drop, get_or, Some, slice_get, refl, sym, ap, subst, ◌∙◌, add-one, drop-cons, zero-add, inl, inr, arith}
 use Rattle.std.specs.Prelude.{encode_utf8}
 use Rattle.std.specs.List.{range_with_len}
 use Rattle.std.specs.Option.{option_map}
 use Rattle.std.proofs.lemmas.Bool.{cases_lt}
-use Rattle.std.proofs.lemmas.Bool.Decides.{nat_tests}
 use Rattle.std.proofs.lemmas.Option.{slice_get_within, slice_get-get_or, slice_get-map, get_or_from_slice_get}
 use Rattle.std.proofs.lemmas.List.FromFn.{length-range_with_len, get_or-range_with_len, length-map-range_with_len}
 use lib.Utf8.{encode}
 use Rattle.hs_base.specs.ByteSets.{bytes_where}
 use Rattle.hs_base.specs.Lists.{Each}
 use Rattle.hs_base.specs.Spans.{HasBytesAt}
-use Rattle.hs_utf8.specs.Members.{has_encoding}
 use Rattle.hs_utf8.proofs.LengthLemmas.{encode-one, encode-two, encode-three, encode-four}
 
 -- what a set of bytes by a test says of a byte

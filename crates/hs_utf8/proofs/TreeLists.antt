@@ -1,11 +1,11 @@
 -- Lists of trees that grow.
-use Rattle.std.proofs.Common.{◌≡◌, ℕ, suc, ◌+◌, ◌<◌, ◌≤◌, List, [], ◌∷◌, ◌++◌, map, take, drop, length, get_or, refl, sym, ap, ap₂, subst, ◌∙◌, append_assoc, append-nil, add-one, drop-cons, drop_of_length-le}
+use Rattle.std.proofs.Common.{◌≡◌, ℕ, ◌+◌, ◌<◌, ◌≤◌, List, [], ◌∷◌, ◌++◌, map, take, drop, length, get_or, refl, sym, ap, ap₂, subst, ◌∙◌, append_assoc, append-nil, add-one, drop-cons, drop_of_length-le}
 use Rattle.std.specs.List.{zip}
 use Rattle.std.proofs.lemmas.List.{map-append, take_more}
-use Rattle.hs_base.specs.Trees.{Tree, Trees, none, more, trees_of}
+use Rattle.hs_base.specs.Trees.{Tree, none, more, trees_of}
 use Rattle.hs_expr.specs.Meaning.{tree_of}
 use Rattle.hs_expr.specs.declared.expr.Expr.{Expr}
-use Rattle.hs_utf8.specs.Runs.{class_of}
+use Rattle.hs_utf8.specs.Runs.{place_tree}
 use Rattle.hs_utf8.specs.Lowered.{IsLowered, AreLowered}
 
 -- one expression more is one tree more
@@ -16,17 +16,17 @@ map-push old new e t grown is =
 
 -- the classes of one place more
 pub classes-more : (xs : List Tree) (firsts lasts : List ℕ) (i : ℕ) → i < length firsts → i < length lasts →
-    (xs ++ class_of (get_or firsts i 0, get_or lasts i 0) ∷ []) ++ map class_of (zip (drop (i + 1) firsts) (drop (i + 1) lasts))
-    ≡ xs ++ map class_of (zip (drop i firsts) (drop i lasts))
+    (xs ++ place_tree (get_or firsts i 0, get_or lasts i 0) ∷ []) ++ map place_tree (zip (drop (i + 1) firsts) (drop (i + 1) lasts))
+    ≡ xs ++ map place_tree (zip (drop i firsts) (drop i lasts))
 classes-more xs firsts lasts i inside within =
-    append_assoc xs (class_of (get_or firsts i 0, get_or lasts i 0) ∷ []) (map class_of (zip (drop (i + 1) firsts) (drop (i + 1) lasts)))
-    ∙ ap (λ n. xs ++ class_of (get_or firsts i 0, get_or lasts i 0) ∷ map class_of (zip (drop n firsts) (drop n lasts))) (add-one i)
-    ∙ sym (ap₂ (λ a b. xs ++ map class_of (zip a b)) (drop-cons firsts i 0 inside) (drop-cons lasts i 0 within))
+    append_assoc xs (place_tree (get_or firsts i 0, get_or lasts i 0) ∷ []) (map place_tree (zip (drop (i + 1) firsts) (drop (i + 1) lasts)))
+    ∙ ap (λ n. xs ++ place_tree (get_or firsts i 0, get_or lasts i 0) ∷ map place_tree (zip (drop n firsts) (drop n lasts))) (add-one i)
+    ∙ sym (ap₂ (λ a b. xs ++ map place_tree (zip a b)) (drop-cons firsts i 0 inside) (drop-cons lasts i 0 within))
 
 pub classes-all : (xs : List Tree) (firsts lasts : List ℕ) (i : ℕ) → length firsts ≤ i →
-    xs ++ map class_of (zip (drop i firsts) (drop i lasts)) ≡ xs
+    xs ++ map place_tree (zip (drop i firsts) (drop i lasts)) ≡ xs
 classes-all xs firsts lasts i whole =
-    ap (λ a. xs ++ map class_of (zip a (drop i lasts))) (drop_of_length-le firsts whole) ∙ append-nil xs
+    ap (λ a. xs ++ map place_tree (zip a (drop i lasts))) (drop_of_length-le firsts whole) ∙ append-nil xs
 
 -- one tree more in bytes
 pub lowered-push : (xs ys : List Tree) (t u : Tree) → AreLowered (trees_of xs) (trees_of ys) → IsLowered t u →

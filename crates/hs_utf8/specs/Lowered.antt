@@ -1,6 +1,6 @@
 -- The tree in bytes of an expression: each set of code points becomes the alternatives of its encodings, and all else
 -- stays as it is.
-use Rattle.std.specs.Prelude.{◌≡◌, ℕ, ◌<◌, Bool, true, false, ◌&&◌, nat_lt, List, [], ◌∷◌, ◌++◌, Option}
+use Rattle.std.specs.Prelude.{◌≡◌, ℕ, Bool, true, false, ◌&&◌, nat_lt, List, [], ◌∷◌, ◌++◌}
 use Rattle.hs_base.specs.ByteSets.{bytes_where}
 use Rattle.hs_base.specs.Trees.{Tree, Trees, empty, class, points, assert, cat, alt, repeat, none, more, trees_of}
 use Rattle.hs_utf8.specs.Members.{is_member}
@@ -17,7 +17,8 @@ is_ascii_member ranges b = nat_lt b ascii_end && is_member ranges b
 -- the members of ASCII are one class, if there are any
 pub data AreAscii (ranges : List (ℕ × ℕ)) : List Tree → Type 0 where
   nothing : ((b : ℕ) → is_ascii_member ranges b ≡ false) → AreAscii ranges []
-  something : (b : ℕ) → is_ascii_member ranges b ≡ true → AreAscii ranges (class (bytes_where (is_ascii_member ranges)) ∷ [])
+  something : (b : ℕ) → is_ascii_member ranges b ≡ true →
+      AreAscii ranges (class (bytes_where (is_ascii_member ranges)) ∷ [])
 
 -- one part is itself, and of no part it is the class of nothing
 abbrev pub alternatives : List Tree → Tree

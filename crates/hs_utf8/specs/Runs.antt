@@ -1,4 +1,5 @@
--- The runs of a set of code points: members in a row whose encodings are all choices of a byte from one range per place.
+-- The runs of a set of code points: members in a row whose encodings are all choices of a byte from one range per
+-- place.
 use Rattle.std.specs.Prelude.{◌≡◌, ℕ, ◌+◌, ◌<◌, ◌≤◌, Bool, true, false, List, [], ◌∷◌, map, nat_le, ◌&&◌, encode_utf8}
 use Rattle.hs_base.specs.ByteSets.{bytes_where}
 use Rattle.hs_base.specs.Spans.{IsInRange}
@@ -17,7 +18,7 @@ pub record AreChoices (text_of : ℕ → List ℕ) (first last : ℕ) (places : 
   pub every : (text : List ℕ) → IsChoice places text → (c : ℕ) × (first ≤ c) × (c ≤ last) × (text ≡ text_of c)
 
 -- the code points from the first to the last are members, and their encodings are exactly all choices
-pub record IsRun (member : ℕ → Bool) (first last : ℕ) (places : List (ℕ × ℕ)) : Type 0 where
+pub record IsCodePointRun (member : ℕ → Bool) (first last : ℕ) (places : List (ℕ × ℕ)) : Type 0 where
   pub some : first ≤ last
   pub members : (c : ℕ) → first ≤ c → c ≤ last → member c ≡ true
   pub encodings : AreChoices encode_utf8 first last places
@@ -29,19 +30,19 @@ pub record NextRun (member : ℕ → Bool) (from : ℕ) : Type 0 where
   pub places : List (ℕ × ℕ)
   pub above : from ≤ first
   pub least : (c : ℕ) → from ≤ c → c < first → member c ≡ false
-  pub run : IsRun member first last places
-  pub longest : (other : ℕ) (others : List (ℕ × ℕ)) → IsRun member first other others → other ≤ last
+  pub run : IsCodePointRun member first last places
+  pub longest : (other : ℕ) (others : List (ℕ × ℕ)) → IsCodePointRun member first other others → other ≤ last
 
 -- one byte of a range
-abbrev pub class_of : ℕ × ℕ → Tree
-class_of (first, last) = class (bytes_where (λ b. nat_le first b && nat_le b last))
+abbrev pub place_tree : ℕ × ℕ → Tree
+place_tree (first, last) = class (bytes_where (λ b. nat_le first b && nat_le b last))
 
 -- a byte of each range, one after the other
-abbrev pub cat_of : List (ℕ × ℕ) → Tree
-cat_of places = cat (trees_of (map class_of places))
+abbrev pub run_tree : List (ℕ × ℕ) → Tree
+run_tree places = cat (trees_of (map place_tree places))
 
 -- the trees of the runs that cover the members from a code point on, rising
 abbrev pub AreRuns : (ℕ → Bool) → ℕ → List Tree → Type 0
 AreRuns member from [] = (c : ℕ) → from ≤ c → member c ≡ false
 AreRuns member from (tree ∷ trees) =
-    (next : NextRun member from) × (tree ≡ cat_of next.places) × AreRuns member (next.last + 1) trees
+    (next : NextRun member from) × (tree ≡ run_tree next.places) × AreRuns member (next.last + 1) trees

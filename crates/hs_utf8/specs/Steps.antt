@@ -10,7 +10,8 @@ pub record IsStretch (member : ℕ → Bool) (first last : ℕ) : Type 0 where
   pub inside : (c : ℕ) → first ≤ c → c ≤ last → member c ≡ has_encoding c
   pub behind : member (last + 1) ≡ false
 
--- the runs from one code point to another were added: with those from the other on behind them they are all from the one on
+-- the runs from one code point to another were added: with those from the other on behind them they are all from the
+-- one on
 pub record AddsRuns (member : ℕ → Bool) (from to : ℕ) (old new : List Tree) : Type 0 where
   pub added : List Tree
   pub is : new ≡ old ++ added

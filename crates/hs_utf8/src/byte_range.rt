@@ -4,7 +4,7 @@ ghost use Rattle.std.specs.List.{zip};
 ghost use Rattle.hs_base.specs.ByteSets.{members, bytes_where};
 ghost use Rattle.hs_expr.specs.Meaning.{tree_of};
 ghost use Rattle.hs_utf8.specs.Members.{has_encoding};
-ghost use Rattle.hs_utf8.specs.Runs.{cat_of};
+ghost use Rattle.hs_utf8.specs.Runs.{run_tree};
 
 use hs_base::ByteSet;
 use hs_expr::Expr;
@@ -15,7 +15,7 @@ pub(crate) fn run_classes(alloc: Global, first: u32, last: u32) -> Result<Expr, 
     requires first { has_encoding first ≡ true }
     requires last { has_encoding last ≡ true }
     requires length { length (encode_utf8 first) ≡ length (encode_utf8 last) }
-    ensures { IfOk result (λ e. tree_of e ≡ cat_of (zip (encode_utf8 first) (encode_utf8 last))) }
+    ensures { IfOk result (λ e. tree_of e ≡ run_tree (zip (encode_utf8 first) (encode_utf8 last))) }
 {
     let mut least = [0; 4];
     let mut greatest = [0; 4];

@@ -6,8 +6,8 @@ use regex_class::Class;
 use std::alloc::{AllocError, Global};
 use unicode::case::fold_pairs;
 
-/// The code points that have the same simple case folding as a member of the ranges: the members and their other cases, as
-/// ranges that rise and don't touch.
+/// The code points that have the same simple case folding as a member of the ranges: the members and their other cases,
+/// as ranges that rise and don't touch.
 pub fn folds(alloc: Global, ranges: &[(u32, u32)]) -> Result<Vec<(u32, u32)>, AllocError>
     ensures { IfOk result (λ folds. AreFolds ranges.now folds.items) }
 {

@@ -21,11 +21,23 @@ impl Length {
             (λ length. HasLength code_point length.last length.tail) }
     {
         match code_point {
-            0..=0x7FF => Some(Length { last: 0x7FF, tail: 1 }),
-            0x800..=0xD7FF => Some(Length { last: 0xD7FF, tail: 2 }),
+            0..=0x7FF => Some(Length {
+                last: 0x7FF,
+                tail: 1,
+            }),
+            0x800..=0xD7FF => Some(Length {
+                last: 0xD7FF,
+                tail: 2,
+            }),
             0xD800..=0xDFFF => None,
-            0xE000..=0xFFFF => Some(Length { last: 0xFFFF, tail: 2 }),
-            _ => Some(Length { last: 0x10_FFFF, tail: 3 }),
+            0xE000..=0xFFFF => Some(Length {
+                last: 0xFFFF,
+                tail: 2,
+            }),
+            _ => Some(Length {
+                last: 0x10_FFFF,
+                tail: 3,
+            }),
         }
     }
 }

@@ -10,7 +10,8 @@ use crate::set::lower_set;
 use hs_expr::Expr;
 use std::alloc::{AllocError, Global};
 
-/// The expression in bytes: each set of code points becomes the alternatives of their encodings, and all else is copied.
+/// The expression in bytes: each set of code points becomes the alternatives of their encodings, and all else is
+/// copied.
 pub fn lower(alloc: Global, expr: &Expr) -> Result<Expr, AllocError>
     ensures lowered { IfOk result (λ new. IsLowered (tree_of expr.now) (tree_of new)) }
     ensures spans { IfOk result (λ new. HaveSameSpans (tree_of new) (tree_of expr.now)) }

@@ -18,7 +18,11 @@ pub(crate) const ASCII_END: u32 = 0x80;
 const LAST_SURROGATE: u32 = 0xDFFF;
 
 /// Appends the runs of the members above ASCII.
-pub(crate) fn push_runs(alloc: Global, class: &Class, parts: &mut Vec<Expr>) -> Result<(), AllocError>
+pub(crate) fn push_runs(
+    alloc: Global,
+    class: &Class,
+    parts: &mut Vec<Expr>,
+) -> Result<(), AllocError>
     ensures { OnOk result (AddsAllRuns class.now.ranges.items
         (map tree_of parts.old.items) (map tree_of parts.new.items)) }
 {
@@ -35,7 +39,7 @@ fn push_range(alloc: Global, first: u32, last: u32, parts: &mut Vec<Expr>) -> Re
     requires bounded { last ≤ 0x10FFFF }
     ensures { OnOk result ((member : ℕ → Bool) → IsStretch member first last →
         AddsRuns member (max first ascii_end) (max (last + 1) ascii_end)
-            (map tree_of parts.old.items) (map tree_of parts.new.items)) }
+        (map tree_of parts.old.items) (map tree_of parts.new.items)) }
 {
     let mut from = first.max(ASCII_END);
     while from <= last {
@@ -51,8 +55,8 @@ fn push_range(alloc: Global, first: u32, last: u32, parts: &mut Vec<Expr>) -> Re
     Ok(())
 }
 
-/// The last code point of the longest run that begins at the first and goes no further than the end, where the encodings
-/// have so many bytes behind their first.
+/// The last code point of the longest run that begins at the first and goes no further than the end, where the
+/// encodings have so many bytes behind their first.
 fn run_end(first: u32, end: u32, tail: u32) -> u32
     requires order { first ≤ end }
     requires bounded { end ≤ 0x10FFFF }

@@ -1,4 +1,4 @@
-use Rattle.std.proofs.Common.{◌≡◌, ◌||◌, sym, ap, ap₂, subst, ◌∙◌}
+use Rattle.std.proofs.Common.{◌||◌, sym, ap, subst, ◌∙◌}
 use Rattle.regex_class.specs.Ranges.{in_ranges, in_image, KeysRise}
 use Rattle.hs_utf8.proofs.FoldLemmas.{rising_pairs, are_folds}
 use Rattle.hs_utf8.proofs.folding.folds.Goals as goal

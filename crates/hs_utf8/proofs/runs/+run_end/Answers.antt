@@ -1,4 +1,4 @@
-use Rattle.hs_utf8.proofs.DigitLemmas.{run_end-none, run_end-whole, run_end-part, choices-digits, digits-choices}
+use Rattle.hs_utf8.proofs.DigitLemmas.{run_end-whole}
 use Rattle.hs_utf8.proofs.runs.+run_end.Goals as goal
 
 pub returns-then-first-end : goal.returns-then-first-end

@@ -1,4 +1,4 @@
-use Rattle.std.proofs.Common.{◌≡◌, ◌+◌, ◌≤◌, max, map, refl, arith}
+use Rattle.std.proofs.Common.{◌≤◌, max, map, refl, arith}
 use Rattle.hs_expr.specs.Meaning.{tree_of}
 use Rattle.hs_utf8.specs.Lowered.{ascii_end}
 use Rattle.hs_utf8.proofs.DigitLemmas.{digits-order}

@@ -1,4 +1,4 @@
-use Rattle.std.proofs.Common.{◌≡◌, ℕ, ◌+◌, ◌-◌, ◌≤◌, Bool, max, map}
+use Rattle.std.proofs.Common.{ℕ, ◌+◌, ◌-◌, ◌≤◌, Bool, max, map}
 use Rattle.hs_expr.specs.Meaning.{tree_of}
 use Rattle.hs_utf8.specs.Lowered.{ascii_end}
 use Rattle.hs_utf8.specs.Steps.{IsStretch, AddsRuns}

@@ -1,4 +1,4 @@
-use Rattle.std.proofs.Common.{◌≡◌, ℕ, [], ◌∷◌, map, ap, sym, ◌∙◌, arith, rules}
+use Rattle.std.proofs.Common.{◌≡◌, [], ◌∷◌, map, ap, sym, ◌∙◌, rules}
 use Rattle.hs_base.specs.Trees.{class}
 use Rattle.hs_expr.specs.Meaning.{tree_of}
 use Rattle.hs_expr.proofs.TreeLemmas.{tree_of-Class}
