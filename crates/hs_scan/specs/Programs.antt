@@ -5,6 +5,7 @@ use Rattle.hs_base.specs.Chains.{Piece, piece_tree}
 use Rattle.hs_base.specs.KeptPieces.{Form, nothing, positions, literal, first, last, ring, form_size, Says}
 use Rattle.hs_base.specs.LeavingLaws.{HasSpansOfChains}
 use Rattle.hs_base.specs.Lists.{Each}
+use Rattle.hs_base.specs.Literals.{LiteralByte}
 use Rattle.hs_base.specs.Patterns.{is_single}
 use Rattle.hs_base.specs.Regions.{Place, Plan, IsPlan, list_places, place_form, place_size, plan_starts, fields_at}
 use Rattle.hs_base.specs.Trees.{Tree}
@@ -150,6 +151,8 @@ module _ {E : Type 0} (meaning : E → Meaning) (program : Program E) where
     pub table : IsTableSound meaning program.table (length (held program.literals)) (laid_size l)
     pub few : length program.table.nodes.items < 2 ^ 32
     pub few_literals : length (held program.literals) < 2 ^ 32
+    pub short : (number : ℕ) (literal : List LiteralByte) → slice_get (held program.literals) number ≡ Some literal →
+        length literal ≤ 32
     pub behind : (k : ℕ) (node : Node) → slice_get program.table.nodes.items k ≡ Some node →
         fields_at l.singles l.identifiers ≤ node.start
     pub identifiers : length program.identifiers.items ≡ l.identifiers
