@@ -48,7 +48,10 @@ fn size_of(alloc: Global, lines: &str) -> Result<usize, Fail> {
 fn pieces_are_of_these_kinds(rt: HostRuntime) -> Result<(), Fail> {
     let alloc = rt.alloc();
     let ring = kinds_of(alloc, "1:/x.{1000}y/\n")?;
-    assert_eq!(rt; ring.as_slice(), [Kind::Positions, Kind::Ring, Kind::Positions].as_slice());
+    assert_eq!(rt;
+        ring.as_slice(),
+        [Kind::Positions, Kind::Ring, Kind::Positions].as_slice()
+    );
     let looks_back = kinds_of(alloc, "1:/\\bfoo\\b/\n")?;
     let wanted = [Kind::LookBack, Kind::BareLiteral, Kind::Positions];
     assert_eq!(rt; looks_back.as_slice(), wanted.as_slice());

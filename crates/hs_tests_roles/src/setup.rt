@@ -16,9 +16,9 @@ use hs_layout::Layout;
 use hs_parse::parse;
 use hs_pieces::Chain;
 use hs_rose::{Program, runnable_chains};
-use hs_support::excess_positions;
 use hs_run::laws::built_programs_can_run;
 use hs_run::{lay_out, region_size};
+use hs_support::excess_positions;
 use std::alloc::Global;
 use std::test::Fail;
 
