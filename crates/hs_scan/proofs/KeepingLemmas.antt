@@ -8,7 +8,7 @@ use Rattle.hs_base.specs.Regions.{last_at}
 use Rattle.hs_reports.specs.Identifiers.{numbers_of}
 use Rattle.hs_reports.specs.declared.identifier.Identifier.{Identifier}
 use Rattle.hs_layout.specs.Layouts.{Laid}
-use Rattle.hs_scan.specs.Keeping.{AreBitsWritten, HasBits, IsOneWritten, IsRead, singles_before}
+use Rattle.hs_scan.specs.Keeping.{AreBitsWritten, HasBits, IsOneWritten, AreBitsRead, singles_before}
 use Rattle.hs_scan.specs.Programs.{singles_of, with_single}
 
 pub number-at : (xs : List Identifier) (p : ℕ) (x : Identifier) → slice_get xs p ≡ Some x → slice_get (numbers_of xs) p ≡ Some x.id.0
@@ -116,16 +116,16 @@ no_identifier = record { id = record { 0 = 0 }; single = false }
 
 abbrev pub AreReadTo : Laid → (region : List ℕ) → List Identifier → (told here : List ℕ) → ℕ → Type 0
 AreReadTo l region xs told here p =
-    (j : ℕ) (y : Identifier) → j < p → slice_get xs j ≡ Some y → IsRead l region y j (singles_before xs j) (has_word_bit told j) (has_word_bit here j)
+    (j : ℕ) (y : Identifier) → j < p → slice_get xs j ≡ Some y → AreBitsRead l region y j (singles_before xs j) (has_word_bit told j) (has_word_bit here j)
 
 pub read-more : (l : Laid) (region : List ℕ) (xs : List Identifier) (told here told' here' : List ℕ) (p n : ℕ) (x : Identifier) → slice_get xs p ≡ Some x → n ≡ singles_before xs p →
-    IsRead l region x p n (has_word_bit told' p) (has_word_bit here' p) → ((k : ℕ) → (k ≡ p → ⊥) → has_word_bit told' k ≡ has_word_bit told k) → ((k : ℕ) → (k ≡ p → ⊥) → has_word_bit here' k ≡ has_word_bit here k) →
+    AreBitsRead l region x p n (has_word_bit told' p) (has_word_bit here' p) → ((k : ℕ) → (k ≡ p → ⊥) → has_word_bit told' k ≡ has_word_bit told k) → ((k : ℕ) → (k ≡ p → ⊥) → has_word_bit here' k ≡ has_word_bit here k) →
     AreReadTo l region xs told here p → AreReadTo l region xs told' here' (p + 1)
 read-more l region xs told here told' here' p n x named number is told_stays here_stays before j y below at = elim (cases_eq j p) [
   | inl same ↦
       let one : x ≡ y = same_Some x y (sym named ∙ (ap (slice_get xs) (sym same) ∙ at)) in
-      subst (λ m. IsRead l region y m (singles_before xs m) (has_word_bit told' m) (has_word_bit here' m)) (sym same)
-      (subst (λ w. IsRead l region y p w (has_word_bit told' p) (has_word_bit here' p)) number (subst (λ z. IsRead l region z p n (has_word_bit told' p) (has_word_bit here' p)) one is))
+      subst (λ m. AreBitsRead l region y m (singles_before xs m) (has_word_bit told' m) (has_word_bit here' m)) (sym same)
+      (subst (λ w. AreBitsRead l region y p w (has_word_bit told' p) (has_word_bit here' p)) number (subst (λ z. AreBitsRead l region z p n (has_word_bit told' p) (has_word_bit here' p)) one is))
   | inr apart ↦
       let was = before j y (omega (arith, below, apart)) at in
       record { told_is = λ single. told_stays j apart ∙ was.told_is single; here_is = here_stays j apart ∙ was.here_is }
@@ -142,12 +142,12 @@ pub bits-none : (l : Laid) (region : List ℕ) → AreBitsWritten l region regio
 bits-none l region = record { len = refl; bytes = λ i outside. refl; spare = λ k is. refl }
 
 pub write-more : (l : Laid) (mid new : List ℕ) (xs : List Identifier) (told here : List ℕ) (p n : ℕ) (x : Identifier) → HasBits l xs → slice_get xs p ≡ Some x → n ≡ singles_before xs p →
-    IsRead l new x p n (has_word_bit told p) (has_word_bit here p) → IsOneWritten l x p n mid new → AreReadTo l mid xs told here p → AreReadTo l new xs told here (p + 1)
+    AreBitsRead l new x p n (has_word_bit told p) (has_word_bit here p) → IsOneWritten l x p n mid new → AreReadTo l mid xs told here p → AreReadTo l new xs told here (p + 1)
 write-more l mid new xs told here p n x has named number is written before j y below at = elim (cases_eq j p) [
   | inl same ↦
       let one : x ≡ y = same_Some x y (sym named ∙ (ap (slice_get xs) (sym same) ∙ at)) in
-      subst (λ m. IsRead l new y m (singles_before xs m) (has_word_bit told m) (has_word_bit here m)) (sym same)
-      (subst (λ w. IsRead l new y p w (has_word_bit told p) (has_word_bit here p)) number (subst (λ z. IsRead l new z p n (has_word_bit told p) (has_word_bit here p)) one is))
+      subst (λ m. AreBitsRead l new y m (singles_before xs m) (has_word_bit told m) (has_word_bit here m)) (sym same)
+      (subst (λ w. AreBitsRead l new y p w (has_word_bit told p) (has_word_bit here p)) number (subst (λ z. AreBitsRead l new z p n (has_word_bit told p) (has_word_bit here p)) one is))
   | inr apart ↦
       let less : j < p = omega (arith, below, apart) in
       let was = before j y less at in

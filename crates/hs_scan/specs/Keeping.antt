@@ -12,7 +12,7 @@ abbrev pub singles_before : List Identifier → ℕ → ℕ
 singles_before identifiers p = length (singles_of (take p identifiers))
 
 -- That is what the region's bits say of the identifier of that number, which is that one among the single ones.
-pub record IsRead (l : Laid) (region : List ℕ) (x : Identifier) (p n : ℕ) (told here : Bool) : Type 0 where
+pub record AreBitsRead (l : Laid) (region : List ℕ) (x : Identifier) (p n : ℕ) (told here : Bool) : Type 0 where
   pub told_is : x.single ≡ true → told ≡ has_bit region (8 * told_at + n)
   pub here_is : here ≡ has_bit region (8 * here_at l.singles + p)
 
@@ -20,7 +20,7 @@ pub record IsRead (l : Laid) (region : List ℕ) (x : Identifier) (p n : ℕ) (t
 abbrev pub AreRead : Laid → (region : List ℕ) → List Identifier → (told here : List ℕ) → Type 0
 AreRead l region identifiers told here =
     (p : ℕ) (x : Identifier) → slice_get identifiers p ≡ Some x →
-    IsRead l region x p (singles_before identifiers p) (has_word_bit told p) (has_word_bit here p)
+    AreBitsRead l region x p (singles_before identifiers p) (has_word_bit told p) (has_word_bit here p)
 
 -- and the row of those that only the end would report
 abbrev pub AreLast : Laid → (region : List ℕ) → List Identifier → (last : List ℕ) → Type 0

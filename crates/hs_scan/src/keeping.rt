@@ -4,7 +4,7 @@ ghost use Rattle.std.specs.Prelude.{◌≡◌, ℕ, ◌+◌, ◌*◌, ◌<◌, �
 ghost use Rattle.hs_base.specs.Bits.{has_bit, has_word_bit, word_count};
 ghost use Rattle.hs_base.specs.Regions.{last_at, told_at};
 ghost use Rattle.hs_layout.specs.Layouts.{laid_size};
-ghost use Rattle.hs_scan.specs.Keeping.{AreBitsWritten, AreLast, AreRead, HasBits, IsOneWritten, IsRead};
+ghost use Rattle.hs_scan.specs.Keeping.{AreBitsWritten, AreLast, AreRead, HasBits, IsOneWritten, AreBitsRead};
 ghost use Rattle.hs_scan.specs.Programs.{with_single};
 
 use hs_bits::{contains_word_bit, write_word_bit};
@@ -49,7 +49,7 @@ fn read_one(
     requires here { p < 64 * length here.old }
     ensures told_len { length told.new ≡ length told.old }
     ensures here_len { length here.new ≡ length here.old }
-    ensures read { IsRead layout.now region.now identifier p single (has_word_bit told.new p)
+    ensures read { AreBitsRead layout.now region.now identifier p single (has_word_bit told.new p)
         (has_word_bit here.new p) }
     ensures told { (k : ℕ) → (k ≡ p → ⊥) → has_word_bit told.new k ≡ has_word_bit told.old k }
     ensures here { (k : ℕ) → (k ≡ p → ⊥) → has_word_bit here.new k ≡ has_word_bit here.old k }
@@ -107,7 +107,7 @@ fn write_one(
     requires there { p < layout.now.identifiers }
     requires single { identifier.single ≡ true → single < layout.now.singles }
     ensures written { AreBitsWritten layout.now region.old region.new }
-    ensures read { IsRead layout.now region.new identifier p single bits.told bits.here }
+    ensures read { AreBitsRead layout.now region.new identifier p single bits.told bits.here }
     ensures last { bits.last ≡ has_bit region.new (8 * last_at layout.now.singles layout.now.identifiers + p) }
     ensures others { IsOneWritten layout.now identifier p single region.old region.new }
 {

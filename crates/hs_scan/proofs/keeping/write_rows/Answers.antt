@@ -2,7 +2,7 @@ use Rattle.std.proofs.Common.{◌≡◌, ℕ, ◌+◌, ◌*◌, get_or, Some, sl
 use Rattle.std.proofs.lemmas.Option.{slice_get-get_or, slice_get_within}
 use Rattle.hs_base.specs.Bits.{has_word_bit}
 use Rattle.hs_reports.specs.declared.identifier.Identifier.{Identifier}
-use Rattle.hs_scan.specs.Keeping.{IsRead}
+use Rattle.hs_scan.specs.Keeping.{AreBitsRead}
 use Rattle.hs_scan.proofs.KeepingLemmas.{bits-join, last-more, no_identifier, single-below, singles-few, singles-next, write-more}
 use Rattle.hs_scan.proofs.keeping.write_rows.Goals as goal
 
@@ -31,7 +31,7 @@ loop-p-preserved c =
       single = omega (arith, c.singles_up_to-single.ensures, inv.single, singles-next xs p x at);
       read =
           write-more l c.loop-p.region new xs told here p c.loop-p.single x c.requires.bits at inv.single
-          (subst (λ v. IsRead l new x p c.loop-p.single v (has_word_bit here p)) c.contains_word_bit.ensures (subst (λ v. IsRead l new x p c.loop-p.single c.contains_word_bit.result v) c.contains_word_bit-in-loop-p.ensures c.write_one.ensures.read)) c.write_one.ensures.others inv.read;
+          (subst (λ v. AreBitsRead l new x p c.loop-p.single v (has_word_bit here p)) c.contains_word_bit.ensures (subst (λ v. AreBitsRead l new x p c.loop-p.single c.contains_word_bit.result v) c.contains_word_bit-in-loop-p.ensures c.write_one.ensures.read)) c.write_one.ensures.others inv.read;
       last = last-more l c.loop-p.region new xs c.args.last.now p c.loop-p.single x c.requires.bits (sym c.contains_word_bit-in-loop-p-2.ensures ∙ c.write_one.ensures.last) c.write_one.ensures.others inv.last;
     }
 
