@@ -22,7 +22,7 @@ use Rattle.hs_block.specs.WordBits.{word_bit as block_bit}
 use Rattle.hs_engine.specs.Engines.{Meaning}
 use Rattle.hs_nodes.specs.Blocks.{block, front}
 use Rattle.hs_nodes.specs.Left.{AreLeft, AreLeftIn, nowhere}
-use Rattle.hs_nodes.specs.Walks.{ends_of}
+use Rattle.hs_nodes.specs.Walks.{node_ends}
 use Rattle.hs_nodes.specs.declared.ends.ChunkEnds.{ChunkEnds}
 use Rattle.hs_nodes.proofs.RunLemmas.{nowhere-none}
 use Rattle.hs_nodes.proofs.ChunkLemmas.{front-none, front-more, length-front}
@@ -215,12 +215,12 @@ module _ {E : Type 0} (program : Program E) (ends : List ChunkEnds) (all : Chunk
     gathered = gathering-begins program.terminals.items (left_before ends all block) (left_behind ends all block) at table none;
   }
 
-  resting : (k : ℕ) → k < length program.table.nodes.items → ends_of ends k ≡ nowhere → (left_before ends all block k ≡ 0) × (left_behind ends all block k ≡ 0)
+  resting : (k : ℕ) → k < length program.table.nodes.items → node_ends ends k ≡ nowhere → (left_before ends all block k ≡ 0) × (left_behind ends all block k ≡ 0)
   resting k below none =
       let is : node_ends ends all k ≡ nowhere = ends-at ends all nowhere k (omega (arith, count)) ∙ none in
       (ap (λ e. slice_index e.before block) is ∙ nowhere-none.before block (omega arith), ap (λ e. slice_index e.behind block) is ∙ nowhere-none.behind block (omega arith))
 
-  pub gathered-passed : (at from to : ℕ) (first table : EndTable) → from ≤ to → to ≤ length program.table.nodes.items → ((k : ℕ) → from ≤ k → k < to → ends_of ends k ≡ nowhere) → IsGatheredTo program ends all block at from first table → IsGatheredTo program ends all block at to first table
+  pub gathered-passed : (at from to : ℕ) (first table : EndTable) → from ≤ to → to ≤ length program.table.nodes.items → ((k : ℕ) → from ≤ k → k < to → node_ends ends k ≡ nowhere) → IsGatheredTo program ends all block at from first table → IsGatheredTo program ends all block at to first table
   gathered-passed at from to first table order inside none is = record {
     within = inside;
     counted = is.counted;

@@ -8,7 +8,7 @@ use Rattle.hs_base.specs.Told.{Pair, IsTold, IsNew}
 use Rattle.hs_engine.specs.Engines.{Meaning}
 use Rattle.hs_nodes.specs.Blocks.{block, front}
 use Rattle.hs_nodes.specs.Left.{AreLeftIn}
-use Rattle.hs_nodes.specs.Walks.{ends_of}
+use Rattle.hs_nodes.specs.Walks.{node_ends}
 use Rattle.hs_nodes.specs.declared.ends.ChunkEnds.{ChunkEnds}
 use Rattle.hs_reports.specs.Gathering.{AreEndsBelow}
 use Rattle.hs_reports.specs.EndTables.{EndTable}
@@ -60,7 +60,7 @@ module _ {E : Type 0} (meaning : E → Meaning) (program : Program E) where
   pub record AreChunkEnds (pieces : ℕ → List Piece) (u bytes : List ℕ) (ends : List ChunkEnds) (all : ChunkEnds) :
       Type 0 where
     pub count : length ends ≡ length program.table.nodes.items
-    pub left : (k : ℕ) → k < length program.table.nodes.items → AreLeftIn (pieces k) u bytes (ends_of ends k)
+    pub left : (k : ℕ) → k < length program.table.nodes.items → AreLeftIn (pieces k) u bytes (node_ends ends k)
     pub everywhere : AreLeftIn [] u bytes all
 
   -- Whatever plan the program runs, and behind whatever stream: where the rows of bits tell what is known of the
