@@ -1,7 +1,7 @@
 -- The last bytes of a stream.
 use Rattle.std.proofs.Common.{◌≡◌, ◌⊎◌, ℕ, zero, suc, ◌+◌, ◌-◌, ◌<◌, ◌≤◌, Bool, true, false, List, [], ◌∷◌, ◌++◌, length, replicate, get_or, take, drop, eqb, min, refl, sym, ap, subst, ◌∙◌, inl, inr, arith, length-append, length-drop}
 use Rattle.std.proofs.lemmas.Bool.{cases_lt}
-use Rattle.std.proofs.lemmas.List.{length-replicate, get_or-drop, get_or-append-add, drop-append-le, take-append-drop}
+use Rattle.std.proofs.lemmas.List.{length-replicate, length-take-le, get_or-drop, get_or-take, get_or-append-add, drop-append-le, append-nil, take-append-drop, take_rest}
 use Rattle.std.proofs.lemmas.Option.{slice_get-get_or}
 use Rattle.std.proofs.Math.ListN.{drop_of_length-le}
 use Rattle.std.proofs.Math.Seq.{drop-append-add}
@@ -9,6 +9,7 @@ use Rattle.hs_base.specs.declared.context.Prev.{Prev}
 use Rattle.hs_base.specs.Contexts.{prev_at, prev_behind}
 use Rattle.hs_base.specs.Literals.{LiteralByte}
 use Rattle.hs_base.specs.Regions.{last_bytes}
+use Rattle.hs_base.proofs.BitLemmas.{same-places}
 use Rattle.hs_base.proofs.RegionLemmas.{drop-drop}
 use Rattle.hs_literals.specs.HitLaws.{ReachesBack}
 use Rattle.hs_nodes.specs.Blocks.{EndsBehind}
@@ -77,3 +78,21 @@ pushed past bytes now n size count is = is ∙ elim (cases_lt 64 (length bytes))
       let none : length bytes - n ≡ 0 = omega arith in
       ap (λ m. drop m past ++ drop (length bytes - n) bytes) all ∙ (ap (λ m. drop (length bytes) past ++ drop m bytes) none ∙ sym (drop-append-le (length bytes) past bytes (omega (arith, few, size))))
 ]
+
+pub shifted : (old new : List ℕ) (count : ℕ) → count ≤ length old → length new ≡ length old → ((k : ℕ) → 0 ≤ k → k < 0 + (length old - count) → get_or new k 0 ≡ get_or old (count + (k - 0)) 0) → take (length old - count) new ≡ drop count old
+shifted old new count within len here =
+    let size : length (take (length old - count) new) ≡ length old - count = length-take-le (length old - count) new (omega (arith, len)) in
+    same-places (take (length old - count) new) (drop count old) (size ∙ sym (length-drop count old))
+    (λ k below.
+    let low : k < length old - count = omega (arith, below, size) in
+    let e : count + (k - 0) ≡ count + k = omega arith in
+    get_or-take (length old - count) new k 0 low ∙ (here k (omega arith) (omega (arith, low)) ∙ (ap (λ n. get_or old n 0) e ∙ sym (get_or-drop count old k 0))))
+
+pub joined : (past mid ys bytes : List ℕ) (n : ℕ) → length past ≡ 64 → length mid ≡ length past → n ≤ 64 → take (length past - n) mid ≡ drop n past → ys ≡ take (length bytes - (length bytes - n)) (drop (length bytes - n) bytes) →
+    take (64 - n) mid ++ (ys ++ drop (length mid - (64 - n)) (drop (64 - n) mid)) ≡ drop n past ++ drop (length bytes - n) bytes
+joined past mid ys bytes n size len small front is =
+    let none : drop (length mid - (64 - n)) (drop (64 - n) mid) ≡ [] = drop_of_length-le (drop (64 - n) mid) (omega (arith, length-drop (64 - n) mid)) in
+    let own : ys ≡ drop (length bytes - n) bytes = is ∙ take_rest bytes (length bytes - n) in
+    ap (λ zs. take (64 - n) mid ++ (ys ++ zs)) none
+    ∙ (ap (λ zs. take (64 - n) mid ++ zs) (append-nil ys ∙ own)
+    ∙ ap (λ zs. zs ++ drop (length bytes - n) bytes) (ap (λ m. take (m - n) mid) (sym size) ∙ front))

@@ -18,15 +18,15 @@ use Rattle.hs_scan.specs.Programs.{RunsPlan}
 use Rattle.hs_scan.specs.declared.program.Program.{Program}
 
 -- Where the pieces of the node of that number are left. Behind the last node are no pieces, which are left everywhere.
-abbrev pub node_ends : (ends : List ChunkEnds) (all : ChunkEnds) → ℕ → ChunkEnds
-node_ends ends all k = slice_index_or ends k all
+abbrev pub ends_or_all : (ends : List ChunkEnds) (all : ChunkEnds) → ℕ → ChunkEnds
+ends_or_all ends all k = slice_index_or ends k all
 
 -- in one block
 abbrev pub left_before : (ends : List ChunkEnds) (all : ChunkEnds) (block k : ℕ) → ℕ
-left_before ends all block k = slice_index (node_ends ends all k).before block
+left_before ends all block k = slice_index (ends_or_all ends all k).before block
 
 abbrev pub left_behind : (ends : List ChunkEnds) (all : ChunkEnds) (block k : ℕ) → ℕ
-left_behind ends all block k = slice_index (node_ends ends all k).behind block
+left_behind ends all block k = slice_index (ends_or_all ends all k).behind block
 
 -- the terminals of the node of that number
 abbrev pub terminals_of : {E : Type 0} → Program E → ℕ → List Terminal

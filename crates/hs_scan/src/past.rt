@@ -1,6 +1,6 @@
 //! Where a stream stands, by its offset and its last bytes.
 
-ghost use Rattle.std.specs.Prelude.{◌≡◌, ◌≤◌, ℕ, List, length};
+ghost use Rattle.std.specs.Prelude.{◌≡◌, ◌-◌, ◌≤◌, ℕ, List, ◌++◌, drop, length, take};
 ghost use Rattle.hs_base.specs.Literals.{LiteralByte};
 ghost use Rattle.hs_base.specs.Regions.{history_size, last_bytes};
 ghost use Rattle.hs_literals.specs.HitLaws.{ReachesBack};
@@ -37,4 +37,23 @@ pub(crate) fn seen_of(at: u64, past: &[u8]) -> &[u8]
 {
     let seen = at.min(HISTORY_SIZE as u64) as usize;
     &past[HISTORY_SIZE - seen..]
+}
+
+/// Moves the bytes so many places to the front, over the first ones.
+fn shift_past(past: &mut [u8], count: usize)
+    requires within { count ≤ length past.old }
+    ensures len { length past.new ≡ length past.old }
+    ensures front { take (length past.old - count) past.new ≡ drop count past.old }
+{
+    past.copy_within(count.., 0);
+}
+
+/// Puts bytes behind the last ones, of which the first ones go.
+pub(crate) fn push_past(past: &mut [u8], bytes: &[u8])
+    requires { length past.old ≡ history_size }
+    ensures { past.new ≡ drop (length bytes.now) (past.old ++ bytes.now) }
+{
+    let count = bytes.len().min(HISTORY_SIZE);
+    shift_past(past, count);
+    past[HISTORY_SIZE - count..].copy_from_slice(&bytes[bytes.len() - count..]);
 }
