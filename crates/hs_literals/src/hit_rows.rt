@@ -88,7 +88,8 @@ impl HitRows {
 
     /// Finds where the literals end in a chunk, before which stands `before`: just these ends are told afterwards.
     ///
-    /// They are those of a whole stream, if `before` has its last bytes, as many as the longest literal, or all of them.
+    /// They are those of a whole stream, if `before` has all of its bytes so far, or the last ones, as many as the
+    /// longest literal has.
     pub fn find(&mut self, literals: &Literals, before: &[u8], bytes: &[u8])
         requires known { length (held literals.now) ≤ self.old.count }
         requires few { length bytes.now ≤ 512 }

@@ -12,3 +12,4 @@ pub mod RangeLemmas
 pub mod NodeLemmas
 pub mod RestLemmas
 pub mod WalkLemmas
+pub mod SettleLemmas

@@ -12,7 +12,7 @@ use Rattle.hs_nodes.specs.declared.table.NodeTable.{NodeTable}
 use Rattle.hs_nodes.specs.Left.{nowhere}
 use Rattle.hs_nodes.specs.Marks.{is_marked}
 use Rattle.hs_nodes.specs.Nodes.{IsWellPart, TakesPiece}
-use Rattle.hs_nodes.specs.Walks.{AreMoreMarks, IsNodeRun, IsTableSound, ends_of, entering_ends, node_part}
+use Rattle.hs_nodes.specs.Walks.{AreMoreMarks, IsNodeRun, IsTableSound, node_ends, entering_ends, node_part}
 use Rattle.hs_nodes.proofs.KindLemmas.{one-value}
 use Rattle.hs_nodes.proofs.RangeLemmas.{range-length, written-beside, written-here, written-outside}
 
@@ -44,7 +44,7 @@ module _ {E : Type 0} (meaning : E → Meaning) (table : NodeTable E) (k literal
   own-run = record {
     well = subst (λ ps. IsWellPart meaning table.engines.items own.kind ps (at + length bytes)) (sym here) (subst (λ es. IsWellPart meaning es own.kind part (at + length bytes)) engines_are well);
     takes =
-        subst (λ ps. TakesPiece meaning table.engines.items own.kind (node_part region own) ps prev at bytes hits (entering_ends own.parent all ends) (ends_of (slice_set ends k result) k)) (sym here)
+        subst (λ ps. TakesPiece meaning table.engines.items own.kind (node_part region own) ps prev at bytes hits (entering_ends own.parent all ends) (node_ends (slice_set ends k result) k)) (sym here)
         (subst (λ (e : ChunkEnds). TakesPiece meaning table.engines.items own.kind (node_part region own) part prev at bytes hits (entering_ends own.parent all ends) e) (sym (get_or-set_same ends k result nowhere (omega (arith, counts, slice_get_within table.nodes.items k own there))))
         (subst (λ (e : ChunkEnds). TakesPiece meaning table.engines.items own.kind (node_part region own) part prev at bytes hits e result) enters_is (subst (λ es. TakesPiece meaning es own.kind (node_part region own) part prev at bytes hits enters result) engines_are takes)));
     ends_stay = λ j apart. get_or-set_other ends k j result nowhere apart;

@@ -1,5 +1,5 @@
 -- An engine over a chunk, block by block.
-use Rattle.std.proofs.Common.{◌≡◌, ◌⊎◌, ℕ, zero, suc, ◌+◌, ◌*◌, ◌<◌, ◌≤◌, ◌||◌, Bool, List, [], ◌∷◌, ◌++◌, length, take, drop, slice_set, slice_index, bit_and, bit_or, eqb, refl, sym, ap, subst, ◌∙◌, inl, inr, arith, length-append}
+use Rattle.std.proofs.Common.{◌≡◌, ◌⊎◌, ℕ, zero, suc, ◌+◌, ◌*◌, ◌<◌, ◌≤◌, ◌||◌, Bool, true, false, List, [], ◌∷◌, ◌++◌, length, take, drop, slice_set, slice_index, bit_and, bit_or, eqb, if◌then◌else◌, refl, sym, ap, subst, ◌∙◌, inl, inr, arith, length-append}
 use Rattle.std.proofs.Math.Seq.{take-add}
 use Rattle.std.proofs.lemmas.List.{get_or-set_same, get_or-set_other, length-take-le, take_all}
 use Rattle.std.specs.Int.{bit_at}
@@ -9,7 +9,11 @@ use Rattle.hs_base.specs.Trees.{Tree}
 use Rattle.hs_base.proofs.ByteSetLemmas.{bit-or}
 use Rattle.hs_base.proofs.ContextSetLemmas.{bit-and}
 use Rattle.hs_block.specs.Scans.{Scans}
-use Rattle.hs_block.specs.WordBits.{word_bit, bits_of}
+use Rattle.hs_base.specs.declared.context.Prev.{Prev}
+use Rattle.hs_engine.specs.Engines.{Meaning}
+use Rattle.hs_block.specs.declared.engine.BlockEnds.{BlockEnds}
+use Rattle.hs_block.specs.Blocks.{TakesBlock, is_busy}
+use Rattle.hs_block.specs.WordBits.{word_bit, bits_of, count_below}
 use Rattle.hs_block.proofs.PlaceLemmas.{bit-none}
 use Rattle.hs_nodes.specs.declared.ends.ChunkEnds.{ChunkEnds}
 use Rattle.hs_nodes.specs.Blocks.{block, front}
@@ -132,6 +136,24 @@ reach-more bytes own j n at next below own_is =
 -- and behind all
 pub reach-all : (bytes : List ℕ) (n : ℕ) → length bytes ≤ 64 * n → length (take (64 * n) bytes) ≡ length bytes
 reach-all bytes n enough = ap length (take_all (64 * n) bytes enough)
+
+count-few : (n : ℕ) (f : ℕ → Bool) → count_below n f ≤ n
+count-few zero f = omega arith
+count-few (suc n) f = by (f n) (count-few n f) where
+  by : (b : Bool) → count_below n f ≤ n → (if b then 1 else 0) + count_below n f ≤ suc n
+  by true few = omega (arith, few)
+  by false few = omega (arith, few)
+
+-- the steps up to a block and in it
+pub steps-more : (m : Meaning) (old new : List ℕ) (prev : Prev) (at enters : ℕ) (bytes own : List ℕ) (ends : BlockEnds) (j n first here now : ℕ) → n ≡ j + 1 → 64 * j < length bytes → own ≡ block bytes j → TakesBlock m old new prev at enters own ends here now →
+    here ≤ first + length (take (64 * j) bytes) → now ≤ first + length (take (64 * n) bytes)
+steps-more m old new prev at enters bytes own ends j n first here now next below own_is takes so_far =
+    let few = count-few (length own) (is_busy enters takes.run.parts) in
+    let ticks : takes.ticks ≤ length own = subst (λ k. k ≤ length own) (sym takes.run.ticks_are) few in
+    let reach = reach-more bytes own j n 0 next below own_is in
+    let short : length (take (64 * j) bytes) ≡ 64 * j = length-take-le (64 * j) bytes (omega arith) in
+    let counted : now ≡ here + takes.ticks = takes.counted in
+    omega (arith, ticks, reach, short, counted, so_far)
 
 zero-at : (i : ℕ) → slice_index (0 ∷ 0 ∷ 0 ∷ 0 ∷ 0 ∷ 0 ∷ 0 ∷ 0 ∷ []) i ≡ 0
 zero-at i = all-zero (0 ∷ 0 ∷ 0 ∷ 0 ∷ 0 ∷ 0 ∷ 0 ∷ 0 ∷ []) (refl, (refl, (refl, (refl, (refl, (refl, (refl, (refl, tt)))))))) i where

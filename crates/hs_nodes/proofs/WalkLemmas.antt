@@ -16,7 +16,7 @@ use Rattle.hs_nodes.specs.Blocks.{EndsBehind}
 use Rattle.hs_nodes.specs.Left.{AreLeftIn, nowhere}
 use Rattle.hs_nodes.specs.Marks.{is_marked}
 use Rattle.hs_nodes.specs.Nodes.{AreHitsOf, HoldsPiece, IsWellPart, MayRest}
-use Rattle.hs_nodes.specs.Walks.{AreMoreMarks, AreNodesHeld, AreNodesOf, AreNodesWell, ChangesMarked, IsAmongChildren, IsNodeHeld, IsNodeRun, IsTableSound, MayNodesRest, TakesNodes, ends_of, entering_ends, node_part, parent_pieces}
+use Rattle.hs_nodes.specs.Walks.{AreMoreMarks, AreNodesHeld, AreNodesOf, AreNodesWell, ChangesMarked, IsAmongChildren, IsNodeHeld, IsNodeRun, IsTableSound, MayNodesRest, TakesNodes, node_ends, entering_ends, node_part, parent_pieces}
 use Rattle.hs_nodes.proofs.FlatLemmas.{AreLeftNowhere, left-nowhere, nowhere-left}
 use Rattle.hs_nodes.proofs.KindLemmas.{one-value}
 use Rattle.hs_nodes.proofs.NodeLemmas.{marks-none}
@@ -44,7 +44,7 @@ parent-cases : (parent : Option ℕ) → (parent ≡ None) ⊎ ((p : ℕ) × (pa
 parent-cases None = inl refl
 parent-cases (Some p) = inr (p, refl)
 
-unmarked-before : (old new : List ℕ) (k : ℕ) → ((j : ℕ) → is_marked old j ≡ true → is_marked new j ≡ true) → is_marked new k ≡ false → is_marked old k ≡ false
+pub unmarked-before : (old new : List ℕ) (k : ℕ) → ((j : ℕ) → is_marked old j ≡ true → is_marked new j ≡ true) → is_marked new k ≡ false → is_marked old k ≡ false
 unmarked-before old new k kept none = by (is_marked old k) refl where
   by : (b : Bool) → is_marked old k ≡ b → is_marked old k ≡ false
   by true e = absurd (let both : true ≡ false = sym (kept k e) ∙ none in cc)
@@ -62,7 +62,7 @@ module _ {E : Type 0} (meaning : E → Meaning) (table : NodeTable E) where
 
   -- the nodes before one of them are done
   pub record AreDone (pieces : ℕ → List Piece) (region u bytes : List ℕ) (ends : List ChunkEnds) (n : ℕ) : Type 0 where
-    pub left : (k : ℕ) → k < n → AreLeftIn (pieces k) u bytes (ends_of ends k)
+    pub left : (k : ℕ) → k < n → AreLeftIn (pieces k) u bytes (node_ends ends k)
     pub held : (k : ℕ) (node : Node) → k < n → slice_get table.nodes.items k ≡ Some node → IsNodeHeld meaning table pieces region (u ++ bytes) k node
 
   -- and so for all pieces, behind any stream
@@ -81,14 +81,14 @@ module _ {E : Type 0} (meaning : E → Meaning) (table : NodeTable E) where
     pub within : n ≤ length table.nodes.items
     pub more : AreMoreMarks (length table.nodes.items) marks_first marks
     pub changes : ChangesMarked meaning table marks first region ends
-    pub later : (k : ℕ) (node : Node) → n ≤ k → slice_get table.nodes.items k ≡ Some node → (ends_of ends k ≡ nowhere) × (node_part region node ≡ node_part first node)
-    pub parents : (k p : ℕ) (node : Node) → n ≤ k → slice_get table.nodes.items k ≡ Some node → is_marked marks k ≡ false → node.parent ≡ Some p → p < n → ends_of ends p ≡ nowhere
+    pub later : (k : ℕ) (node : Node) → n ≤ k → slice_get table.nodes.items k ≡ Some node → (node_ends ends k ≡ nowhere) × (node_part region node ≡ node_part first node)
+    pub parents : (k p : ℕ) (node : Node) → n ≤ k → slice_get table.nodes.items k ≡ Some node → is_marked marks k ≡ false → node.parent ≡ Some p → p < n → node_ends ends p ≡ nowhere
     pub well : (k : ℕ) (node : Node) → k < n → slice_get table.nodes.items k ≡ Some node → IsWellPart meaning table.engines.items node.kind (node_part region node) (at + length bytes)
     pub takes : TakesTo first region prev at bytes hits ends n
 
   module _ (first : List ℕ) (marks_first : List ℕ) (prev : Prev) (at : ℕ) (bytes : List ℕ) (hits : List ChunkHits) (sound : IsTableSound meaning table (length hits) (length first)) (few : length bytes ≤ 512) where
     -- nothing is done yet
-    pub walk-none : (ends : List ChunkEnds) → ((k : ℕ) → ends_of ends k ≡ nowhere) → ((k : ℕ) → is_marked marks_first k ≡ true → k < length table.nodes.items) → IsWalk first marks_first prev at bytes hits first ends marks_first 0
+    pub walk-none : (ends : List ChunkEnds) → ((k : ℕ) → node_ends ends k ≡ nowhere) → ((k : ℕ) → is_marked marks_first k ≡ true → k < length table.nodes.items) → IsWalk first marks_first prev at bytes hits first ends marks_first 0
     walk-none ends clear below = record {
       within = omega arith;
       more = marks-none (length table.nodes.items) marks_first below;
@@ -101,7 +101,7 @@ module _ {E : Type 0} (meaning : E → Meaning) (table : NodeTable E) where
 
     module _ (rests : MayNodesRest meaning table marks_first hits first bytes) (region : List ℕ) (ends : List ChunkEnds) (marks : List ℕ) where
       -- the pieces before a node that is passed over
-      passed-before : (n : ℕ) (node : Node) (pieces : ℕ → List Piece) (u : List ℕ) → slice_get table.nodes.items n ≡ Some node → is_marked marks n ≡ false → ((p : ℕ) → node.parent ≡ Some p → ends_of ends p ≡ nowhere) → ((p : ℕ) → p < n → AreLeftIn (pieces p) u bytes (ends_of ends p)) →
+      passed-before : (n : ℕ) (node : Node) (pieces : ℕ → List Piece) (u : List ℕ) → slice_get table.nodes.items n ≡ Some node → is_marked marks n ≡ false → ((p : ℕ) → node.parent ≡ Some p → node_ends ends p ≡ nowhere) → ((p : ℕ) → p < n → AreLeftIn (pieces p) u bytes (node_ends ends p)) →
           ArePassed node.parent (parent_pieces pieces node.parent) u bytes
       passed-before n node pieces u at_n none zeros left = by (parent-cases node.parent) where
         by : (node.parent ≡ None) ⊎ ((p : ℕ) × (node.parent ≡ Some p)) → ArePassed node.parent (parent_pieces pieces node.parent) u bytes
@@ -132,12 +132,12 @@ module _ {E : Type 0} (meaning : E → Meaning) (table : NodeTable E) where
         may : MayRest meaning table.engines.items own.0.kind own.0.parent hits (node_part first own.0) bytes
         may = rests n own.0 own.1 (unmarked-before marks_first marks n walk.more.kept none)
 
-        later_own : (ends_of ends n ≡ nowhere) × (node_part region own.0 ≡ node_part first own.0)
+        later_own : (node_ends ends n ≡ nowhere) × (node_part region own.0 ≡ node_part first own.0)
         later_own = walk.later n own.0 (omega arith) own.1
 
-        parent-zero : (k p : ℕ) (other : Node) → n + 1 ≤ k → slice_get table.nodes.items k ≡ Some other → is_marked marks k ≡ false → other.parent ≡ Some p → (p < n) ⊎ (p ≡ n) → ends_of ends p ≡ nowhere
+        parent-zero : (k p : ℕ) (other : Node) → n + 1 ≤ k → slice_get table.nodes.items k ≡ Some other → is_marked marks k ≡ false → other.parent ≡ Some p → (p < n) ⊎ (p ≡ n) → node_ends ends p ≡ nowhere
         parent-zero k p other high at_k none' of (inl low) = walk.parents k p other (omega arith) at_k none' of low
-        parent-zero k p other high at_k none' of (inr same) = ap (λ i. ends_of ends i) same ∙ later_own.0
+        parent-zero k p other high at_k none' of (inr same) = ap (λ i. node_ends ends i) same ∙ later_own.0
 
         own-well : IsWellPart meaning table.engines.items own.0.kind (node_part region own.0) (at + length bytes)
         own-well = subst (λ ps. IsWellPart meaning table.engines.items own.0.kind ps (at + length bytes)) (sym later_own.1) (rest-well own.0.kind own.0.parent hits (node_part first own.0) bytes (at + length bytes) may)
@@ -156,12 +156,12 @@ module _ {E : Type 0} (meaning : E → Meaning) (table : NodeTable E) where
             let before = passed-before n own.0 pieces u own.1 none (λ p is_p. walk.parents n p own.0 (omega arith) own.1 none is_p (sound.earlier n p own.0 own.1 is_p)) done.left in
             let passed = node-rests meaning table.engines.items own.0.kind (length hits) (own.0.end - own.0.start) own.0.parent literals hits (parent_pieces pieces own.0.parent) is.rest is.piece (node_part first own.0) u bytes (sound.kinds n own.0 own.1) refl is.runs is.fit small hits_are may before
             (held n own.0 own.1 is.piece is.own) in
-            let zero_left : AreLeftIn (pieces n) u bytes (ends_of ends n) = subst (λ (e : ChunkEnds). AreLeftIn (pieces n) u bytes e) (sym later_own.0) (subst (λ ps. AreLeftIn ps u bytes nowhere) (sym is.own) (nowhere-left (parent_pieces pieces own.0.parent ++ is.piece ∷ []) u bytes nowhere nowhere-none passed.left)) in
+            let zero_left : AreLeftIn (pieces n) u bytes (node_ends ends n) = subst (λ (e : ChunkEnds). AreLeftIn (pieces n) u bytes e) (sym later_own.0) (subst (λ ps. AreLeftIn ps u bytes nowhere) (sym is.own) (nowhere-left (parent_pieces pieces own.0.parent ++ is.piece ∷ []) u bytes nowhere nowhere-none passed.left)) in
             let own_held : IsNodeHeld meaning table pieces region (u ++ bytes) n own.0 = λ piece ends_with.
             let same : is.piece ≡ piece = snoc-last (parent_pieces pieces own.0.parent) (parent_pieces pieces own.0.parent) is.piece piece (sym is.own ∙ ends_with) in
             subst (λ p. HoldsPiece meaning table.engines.items own.0.kind (parent_pieces pieces own.0.parent) p (node_part region own.0) (u ++ bytes)) same
             (subst (λ ps. HoldsPiece meaning table.engines.items own.0.kind (parent_pieces pieces own.0.parent) is.piece ps (u ++ bytes)) (sym later_own.1) passed.held) in record {
-              left = λ k low. elim (below-or n k low) [ inl under ↦ done.left k under | inr same ↦ subst (λ i. AreLeftIn (pieces i) u bytes (ends_of ends i)) (sym same) zero_left ];
+              left = λ k low. elim (below-or n k low) [ inl under ↦ done.left k under | inr same ↦ subst (λ i. AreLeftIn (pieces i) u bytes (node_ends ends i)) (sym same) zero_left ];
               held = λ k other low at_k. elim (below-or n k low) [
                 | inl under ↦ done.held k other under at_k
                 | inr same ↦
@@ -179,7 +179,7 @@ module _ {E : Type 0} (meaning : E → Meaning) (table : NodeTable E) where
 
     module _ (all : ChunkEnds) (everywhere : (u : List ℕ) → AreLeftIn [] u bytes all) (region region' : List ℕ) (ends ends' : List ChunkEnds) (marks marks' : List ℕ) (n m : ℕ) (next : m ≡ n + 1) (own : Node) (at_n : slice_get table.nodes.items n ≡ Some own) (marked : is_marked marks n ≡ true)
         (run : IsNodeRun meaning table n own region region' prev at bytes hits all ends ends') (sized : length region' ≡ length region) (grown : AreMoreMarks (length table.nodes.items) marks marks')
-        (children : (ends_of ends' n ≡ nowhere) ⊎ ((k : ℕ) → IsAmongChildren table.child_starts.items table.children.items n k → is_marked marks' k ≡ true)) (walk : IsWalk first marks_first prev at bytes hits region ends marks n) where
+        (children : (node_ends ends' n ≡ nowhere) ⊎ ((k : ℕ) → IsAmongChildren table.child_starts.items table.children.items n k → is_marked marks' k ≡ true)) (walk : IsWalk first marks_first prev at bytes hits region ends marks n) where
       below-next : (k : ℕ) → k < m → (k < n) ⊎ (k ≡ n)
       below-next k low = grind (arith, next)
 
@@ -192,9 +192,9 @@ module _ {E : Type 0} (meaning : E → Meaning) (table : NodeTable E) where
       all-marks : AreMoreMarks (length table.nodes.items) marks_first marks'
       all-marks = record { room = grown.room ∙ walk.more.room; kept = λ k set. grown.kept k (walk.more.kept k set); below = grown.below }
 
-      parent-by : (k p : ℕ) (node : Node) → slice_get table.nodes.items k ≡ Some node → n + 1 ≤ k → is_marked marks' k ≡ false → node.parent ≡ Some p → (p < n) ⊎ (p ≡ n) → (ends_of ends' n ≡ nowhere) ⊎ ((j : ℕ) → IsAmongChildren table.child_starts.items table.children.items n j → is_marked marks' j ≡ true) → ends_of ends' p ≡ nowhere
+      parent-by : (k p : ℕ) (node : Node) → slice_get table.nodes.items k ≡ Some node → n + 1 ≤ k → is_marked marks' k ≡ false → node.parent ≡ Some p → (p < n) ⊎ (p ≡ n) → (node_ends ends' n ≡ nowhere) ⊎ ((j : ℕ) → IsAmongChildren table.child_starts.items table.children.items n j → is_marked marks' j ≡ true) → node_ends ends' p ≡ nowhere
       parent-by k p node at_k high none of (inl low) told = run.ends_stay p (λ same. absurd (omega arith)) ∙ walk.parents k p node (omega arith) at_k (unmarked-before marks marks' k grown.kept none) of low
-      parent-by k p node at_k high none of (inr same) (inl zero_ends) = ap (λ i. ends_of ends' i) same ∙ zero_ends
+      parent-by k p node at_k high none of (inr same) (inl zero_ends) = ap (λ i. node_ends ends' i) same ∙ zero_ends
       parent-by k p node at_k high none of (inr same) (inr told) =
           let among : IsAmongChildren table.child_starts.items table.children.items n k = sound.among k n node at_k (of ∙ ap Some same) in
           let both : true ≡ false = sym (told k among) ∙ none in absurd (cc)
@@ -205,7 +205,7 @@ module _ {E : Type 0} (meaning : E → Meaning) (table : NodeTable E) where
           let is : own ≡ node = one-value own node (slice_get table.nodes.items n) at_n (ap (λ i. slice_get table.nodes.items i) (sym same) ∙ at_k) in
           subst (λ (nd : Node). IsWellPart meaning table.engines.items nd.kind (node_part region' nd) (at + length bytes)) is run.well
 
-      entering-left : (pieces : ℕ → List Piece) (u : List ℕ) → ((p : ℕ) → p < n → AreLeftIn (pieces p) u bytes (ends_of ends p)) → (parent : Option ℕ) → own.parent ≡ parent → AreLeftIn (parent_pieces pieces parent) u bytes (entering_ends parent all ends)
+      entering-left : (pieces : ℕ → List Piece) (u : List ℕ) → ((p : ℕ) → p < n → AreLeftIn (pieces p) u bytes (node_ends ends p)) → (parent : Option ℕ) → own.parent ≡ parent → AreLeftIn (parent_pieces pieces parent) u bytes (entering_ends parent all ends)
       entering-left pieces u left None is = everywhere u
       entering-left pieces u left (Some p) is = left p (sound.earlier n p own at_n is)
 
@@ -215,12 +215,12 @@ module _ {E : Type 0} (meaning : E → Meaning) (table : NodeTable E) where
           let is = of n own at_n in
           let start : HoldsPiece meaning table.engines.items own.kind (parent_pieces pieces own.parent) is.piece (node_part region own) u = subst (λ ps. HoldsPiece meaning table.engines.items own.kind (parent_pieces pieces own.parent) is.piece ps u) (sym (walk.later n own (omega arith) at_n).1) (held n own at_n is.piece is.own) in
           let result = run.takes literals (parent_pieces pieces own.parent) is.rest is.piece u is.runs is.fit stands small hits_are (entering-left pieces u done.left own.parent refl) start in
-          let own_left : AreLeftIn (pieces n) u bytes (ends_of ends' n) = subst (λ ps. AreLeftIn ps u bytes (ends_of ends' n)) (sym is.own) result.left in
+          let own_left : AreLeftIn (pieces n) u bytes (node_ends ends' n) = subst (λ ps. AreLeftIn ps u bytes (node_ends ends' n)) (sym is.own) result.left in
           let own_held : IsNodeHeld meaning table pieces region' (u ++ bytes) n own = λ piece ends_with.
           subst (λ p. HoldsPiece meaning table.engines.items own.kind (parent_pieces pieces own.parent) p (node_part region' own) (u ++ bytes)) (snoc-last (parent_pieces pieces own.parent) (parent_pieces pieces own.parent) is.piece piece (sym is.own ∙ ends_with)) result.held in record {
             left = λ k low. elim (below-next k low) [
               | inl under ↦ subst (λ (e : ChunkEnds). AreLeftIn (pieces k) u bytes e) (sym (run.ends_stay k (λ same. absurd (omega arith)))) (done.left k under)
-              | inr same ↦ subst (λ i. AreLeftIn (pieces i) u bytes (ends_of ends' i)) (sym same) own_left
+              | inr same ↦ subst (λ i. AreLeftIn (pieces i) u bytes (node_ends ends' i)) (sym same) own_left
             ];
             held = λ k node low at_k. elim (below-next k low) [
               | inl under ↦ λ piece ends_with. subst (λ ps. HoldsPiece meaning table.engines.items node.kind (parent_pieces pieces node.parent) piece ps (u ++ bytes)) (sym (run.parts_stay k node (λ same. absurd (omega arith)) at_k)) (done.held k node under at_k piece ends_with)

@@ -37,9 +37,9 @@ IsCarryAt len carry at = (k : ℕ) → at ≤ k → turned len (word_bit carry) 
 abbrev pub KeepsEntries : (len : ℕ) (part : List ℕ) → Tree → (u : List ℕ) (entered : List Bool) → Type 0
 KeepsEntries len part tree u entered = TellsEntries len (has_bit part) u entered
 
--- A literal of so many bytes takes a chunk, where `enters` tell where the pieces before it are left, and `hits` where it
--- ends: the word of its entries goes from the old one to the new one, and the ends tell where the pieces up to it are
--- left.
+-- A literal of so many bytes takes a chunk, where `enters` tell where the pieces before it are left, and `hits` where
+-- it ends: the word of its entries goes from the old one to the new one, and the ends tell where the pieces up to it
+-- are left.
 abbrev pub TakesLiteral : (len old new : ℕ) (bytes : List ℕ) (hits : ChunkHits) (enters ends : ChunkEnds) → Type 0
 TakesLiteral len old new bytes hits enters ends =
     (pieces rest : List Piece) (literal : List LiteralByte) (u : List ℕ) →

@@ -7,3 +7,4 @@ pub mod Contexts
 pub mod FirstLiterals
 pub mod Nodes
 pub mod Walks
+pub mod Resting

@@ -26,13 +26,13 @@ parent_pieces pieces None = []
 parent_pieces pieces (Some p) = pieces p
 
 -- where the pieces of the node of that number are left
-abbrev pub ends_of : List ChunkEnds → ℕ → ChunkEnds
-ends_of ends k = slice_index_or ends k nowhere
+abbrev pub node_ends : List ChunkEnds → ℕ → ChunkEnds
+node_ends ends k = slice_index_or ends k nowhere
 
 -- where the pieces before those of a node with that parent are left: `all` is everywhere
 abbrev pub entering_ends : (parent : Option ℕ) (all : ChunkEnds) (ends : List ChunkEnds) → ChunkEnds
 entering_ends None all ends = all
-entering_ends (Some p) all ends = ends_of ends p
+entering_ends (Some p) all ends = node_ends ends p
 
 -- no node keeps the byte of that number
 abbrev pub IsOutside : List Node → ℕ → Type 0
@@ -69,8 +69,8 @@ module _ {E : Type 0} (meaning : E → Meaning) (table : NodeTable E) where
       (hits : List ChunkHits) (all : ChunkEnds) (ends ends' : List ChunkEnds) : Type 0 where
     pub well : IsWellPart meaning table.engines.items node.kind (node_part new node) (at + length bytes)
     pub takes : TakesPiece meaning table.engines.items node.kind (node_part old node) (node_part new node) prev at bytes
-        hits (entering_ends node.parent all ends) (ends_of ends' k)
-    pub ends_stay : (j : ℕ) → (j ≡ k → ⊥) → ends_of ends' j ≡ ends_of ends j
+        hits (entering_ends node.parent all ends) (node_ends ends' k)
+    pub ends_stay : (j : ℕ) → (j ≡ k → ⊥) → node_ends ends' j ≡ node_ends ends j
     pub parts_stay : (j : ℕ) (other : Node) → (j ≡ k → ⊥) → slice_get table.nodes.items j ≡ Some other →
         node_part new other ≡ node_part old other
     pub outside : (i : ℕ) → (i < node.start) ⊎ (node.end ≤ i) → slice_index new i ≡ slice_index old i
@@ -93,7 +93,8 @@ module _ {E : Type 0} (meaning : E → Meaning) (table : NodeTable E) where
   IsNodeHeld pieces region u k node =
       (piece : Piece) →
       pieces k ≡ parent_pieces pieces node.parent ++ piece ∷ [] →
-      HoldsPiece meaning table.engines.items node.kind (parent_pieces pieces node.parent) piece (node_part region node) u
+      HoldsPiece meaning table.engines.items node.kind (parent_pieces pieces node.parent) piece
+      (node_part region node) u
 
   -- and so of each node
   abbrev pub AreNodesHeld : (pieces : ℕ → List Piece) (region u : List ℕ) → Type 0
@@ -118,7 +119,7 @@ module _ {E : Type 0} (meaning : E → Meaning) (table : NodeTable E) where
   -- A chunk leads to what is kept of each node behind it, and tells where the pieces of each node are left.
   pub record AreNodesRun (pieces : ℕ → List Piece) (region u bytes : List ℕ) (ends : List ChunkEnds) : Type 0 where
     pub held : AreNodesHeld pieces region (u ++ bytes)
-    pub left : (k : ℕ) → k < length table.nodes.items → AreLeftIn (pieces k) u bytes (ends_of ends k)
+    pub left : (k : ℕ) → k < length table.nodes.items → AreLeftIn (pieces k) u bytes (node_ends ends k)
 
   -- The nodes take a chunk, for all pieces that they run and behind any stream that ends there.
   abbrev pub TakesNodes : (old new : List ℕ) (prev : Prev) (at : ℕ) (bytes : List ℕ) (hits : List ChunkHits)
@@ -137,7 +138,7 @@ module _ {E : Type 0} (meaning : E → Meaning) (table : NodeTable E) where
   pub record ChangesMarked (marks : List ℕ) (old new : List ℕ) (ends : List ChunkEnds) : Type 0 where
     pub len : length new ≡ length old
     pub unmarked : (k : ℕ) (node : Node) → slice_get table.nodes.items k ≡ Some node → is_marked marks k ≡ false →
-        (ends_of ends k ≡ nowhere) × (node_part new node ≡ node_part old node)
+        (node_ends ends k ≡ nowhere) × (node_part new node ≡ node_part old node)
     pub outside : (i : ℕ) → IsOutside table.nodes.items i → slice_index new i ≡ slice_index old i
 
 -- More numbers are marked, all below a count.

@@ -1,6 +1,6 @@
 //! An engine over a chunk.
 
-ghost use Rattle.std.specs.Prelude.{◌≡◌, ◌+◌, false, length};
+ghost use Rattle.std.specs.Prelude.{◌≡◌, ◌+◌, ◌≤◌, false, length};
 ghost use Rattle.hs_nodes.specs.Pieces.{TakesChunk};
 
 use crate::chunk::{BLOCK_BYTES, Chunk};
@@ -25,6 +25,7 @@ pub(crate) fn run_engine<E: BlockEngine, L: Ledger>(
     requires listed { (E.meaning engine.now).always ≡ false }
     ensures len { length region.new ≡ (E.meaning engine.now).width }
     ensures well { (E.meaning engine.now).well region.new (chunk.now.at + length chunk.now.bytes.now) }
+    ensures ticks { steps.new ≤ steps.old + length chunk.now.bytes.now }
     ensures takes { TakesChunk (E.meaning engine.now) region.old region.new chunk.now.prev chunk.now.at
         chunk.now.bytes.now enters.now null.now result }
 {

@@ -1,6 +1,6 @@
 //! One node over a chunk.
 
-ghost use Rattle.std.specs.Prelude.{◌≡◌, ◌+◌, length};
+ghost use Rattle.std.specs.Prelude.{◌≡◌, ◌+◌, ◌≤◌, length};
 ghost use Rattle.hs_nodes.specs.Contexts.{AreChunkContexts, NeedsContexts};
 ghost use Rattle.hs_nodes.specs.Nodes.{IsKindSound, IsWellPart, TakesPiece};
 
@@ -42,6 +42,7 @@ pub(crate) fn run_kind<E: BlockEngine, L: Ledger>(
         AreChunkContexts found.now.contexts.now chunk.now.prev chunk.now.at chunk.now.bytes.now }
     ensures len { length part.new ≡ length part.old }
     ensures well { IsWellPart E.meaning engines.now kind part.new (chunk.now.at + length chunk.now.bytes.now) }
+    ensures ticks { steps.new ≤ steps.old + length chunk.now.bytes.now }
     ensures takes { TakesPiece E.meaning engines.now kind part.old part.new chunk.now.prev chunk.now.at
         chunk.now.bytes.now found.now.hits.now enters.now result }
 {

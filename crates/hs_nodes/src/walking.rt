@@ -1,12 +1,12 @@
 //! A walk over the nodes of a table, over a chunk.
 
-ghost use Rattle.std.specs.Prelude.{◌≡◌, ℕ, ◌+◌, ◌<◌, ◌≤◌, true, length, slice_get, slice_index, EachIndex, Some};
+ghost use Rattle.std.specs.Prelude.{◌≡◌, ℕ, ◌+◌, ◌*◌, ◌<◌, ◌≤◌, true, length, slice_get, slice_index, EachIndex, Some};
 ghost use Rattle.hs_nodes.specs.Contexts.{AreChunkContexts, NeedsContexts};
 ghost use Rattle.hs_nodes.specs.Left.{nowhere};
 ghost use Rattle.hs_nodes.specs.Marks.{is_marked, mark_room};
 ghost use Rattle.hs_nodes.specs.Nodes.{IsWellPart};
-ghost use Rattle.hs_nodes.specs.Walks.{AreMoreMarks, AreNodesWell, ChangesMarked, IsNodeRun, IsTableSound, MayNodesRest};
-ghost use Rattle.hs_nodes.specs.Walks.{TakesNodes, ends_of, entering_ends, node_part};
+ghost use Rattle.hs_nodes.specs.Walks.{AreMoreMarks, AreNodesWell, ChangesMarked, IsNodeRun, IsTableSound};
+ghost use Rattle.hs_nodes.specs.Walks.{MayNodesRest, TakesNodes, entering_ends, node_ends, node_part};
 ghost use Rattle.hs_nodes.specs.declared.table.Node.{Node};
 
 use crate::chunk::Chunk;
@@ -20,7 +20,7 @@ use hs_engine::Steps;
 use std::sync::ledger::Ledger;
 
 /// The node of that number.
-fn node_at<E>(table: &NodeTable<E>, k: usize) -> Node
+pub(crate) fn node_at<E>(table: &NodeTable<E>, k: usize) -> Node
     requires { k < length table.now.nodes.items }
     ensures { slice_get table.now.nodes.items k ≡ Some result }
 {
@@ -58,6 +58,7 @@ fn run_node<E: BlockEngine, L: Ledger>(
         AreChunkContexts found.now.contexts.now chunk.now.prev chunk.now.at chunk.now.bytes.now }
     ensures len { length region.new ≡ length region.old }
     ensures ends { length ends.new ≡ length ends.old }
+    ensures ticks { steps.new ≤ steps.old + length chunk.now.bytes.now }
     ensures runs { (node : Node) → slice_get table.now.nodes.items k ≡ Some node → IsNodeRun E.meaning table.now k node
         region.old region.new chunk.now.prev chunk.now.at chunk.now.bytes.now found.now.hits.now all.now ends.old
         ends.new }
@@ -84,7 +85,7 @@ fn start_of(starts: &[u32], k: usize) -> usize
 }
 
 /// Marks the numbers of a range of a list.
-fn mark_all(numbers: &[u32], from: usize, end: usize, marks: &mut MarkSet)
+pub fn mark_all(numbers: &[u32], from: usize, end: usize, marks: &mut MarkSet)
     requires end { end ≤ length numbers.now }
     requires room { EachIndex numbers.now (λ i. slice_index numbers.now i < mark_room marks.old) }
     ensures room { length marks.new ≡ length marks.old }
@@ -133,7 +134,7 @@ pub fn walk<E: BlockEngine, L: Ledger>(
     requires sound { IsTableSound E.meaning table.now (length found.now.hits.now) (length region.old) }
     requires well { AreNodesWell E.meaning table.now region.old chunk.now.at }
     requires ends { length ends.old ≡ length table.now.nodes.items }
-    requires clear { (k : ℕ) → ends_of ends.old k ≡ nowhere }
+    requires clear { (k : ℕ) → node_ends ends.old k ≡ nowhere }
     requires room { length table.now.nodes.items ≤ mark_room marks.old }
     requires marked { (k : ℕ) → is_marked marks.old k ≡ true → k < length table.now.nodes.items }
     requires rests { MayNodesRest E.meaning table.now marks.old found.now.hits.now region.old chunk.now.bytes.now }
@@ -144,6 +145,7 @@ pub fn walk<E: BlockEngine, L: Ledger>(
     ensures ends { length ends.new ≡ length ends.old }
     ensures marks { AreMoreMarks (length table.now.nodes.items) marks.old marks.new }
     ensures changes { ChangesMarked E.meaning table.now marks.new region.old region.new ends.new }
+    ensures ticks { steps.new ≤ steps.old + length table.now.nodes.items * length chunk.now.bytes.now }
     ensures takes { TakesNodes E.meaning table.now region.old region.new chunk.now.prev chunk.now.at
         chunk.now.bytes.now found.now.hits.now ends.new }
 {

@@ -19,7 +19,7 @@ use Rattle.hs_rose.specs.declared.info.ChainInfo.{ChainInfo}
 use Rattle.hs_rose.specs.declared.info.EntryInfo.{EntryInfo}
 use Rattle.hs_rose.specs.declared.role.Role.{Role}
 use Rattle.hs_rose.specs.declared.shape.Shape.{Shape}
-use Rattle.hs_rose.specs.Building.{AreKept, IsBuilt, IsNamed, IsOwner, IsPlaceOf, IsRoleFor, IsSound, literals_of, models_of}
+use Rattle.hs_rose.specs.Building.{AreKept, IsBuilt, IsNamed, IsNext, IsOwner, as_many, one_more, IsPlaceOf, IsRoleFor, IsSound, literals_of, models_of}
 use Rattle.hs_rose.specs.Kinds.{IsShape}
 use Rattle.hs_rose.specs.Shapes.{shape_for}
 use Rattle.hs_rose.proofs.ShapeLemmas.{shaped}
@@ -27,6 +27,9 @@ use Rattle.hs_rose.specs.Listing.{Asked, ListedChain, ListedPiece, asked_of, cha
 use Rattle.hs_rose.specs.Made.{IsMade, model_of}
 use Rattle.hs_rose.specs.Numbering.{AreApart}
 use Rattle.hs_rose.specs.Programs.{AreChainsOf, IsChainOf, IsInfoOf, IsRoleOf, Names}
+use Rattle.hs_rose.specs.Ordering.{AreInOrder}
+use Rattle.hs_rose.proofs.FinishLemmas.{literal-is, literal-there}
+use Rattle.hs_rose.proofs.OrderLemmas.{push-next, push-same}
 use Rattle.hs_rose.proofs.ListLemmas.{take-get, zip-each, zip-length, zip-push}
 
 names-kept : (ls ls' : List (List LiteralByte)) (ms ms' : List Piece) → AreKept ls ls' → AreKept ms ms' → (n : ℕ) (null : Mask) (piece : Piece) → Names ls ms n null piece → Names ls' ms' n null piece
@@ -34,6 +37,9 @@ names-kept ls ls' ms ms' literals models n null (lit xs) names = record { named 
 names-kept ls ls' ms ms' literals models n null (nfa tree) names = record { named = models n (nfa tree) names.named; null_is = names.null_is }
 names-kept ls ls' ms ms' literals models n null (rep set least greatest) names =
     record { named = models n (rep set least greatest) names.named; null_is = names.null_is }
+
+abbrev place_with : (looks_back : Bool) (pieces : List Piece) (piece : Piece) → Place
+place_with looks_back pieces piece = record { looks_back = looks_back; pieces = pieces; piece = piece }
 
 -- a role stays that of its piece where nothing gets another number
 role-kept : (ls ls' : List (List LiteralByte)) (ms ms' : List Piece) → AreKept ls ls' → AreKept ms ms' → (r : Role) (x : ListedPiece) → IsRoleOf ls ms r x → IsRoleOf ls' ms' r x
@@ -69,6 +75,19 @@ role-made ls ms owner before piece shape named r x place own at made_as names is
           (subst (λ (n : Mask). Names ls ms r.number n piece) (sym is.null) (subst (λ n. Names ls ms n named.null piece) (sym is.number) names));
     }
 
+-- one more role keeps the order of literals
+order-more : (old mid : Builder) (piece : Piece) (named : Named) (r : Role) (x : ListedChain) (place : Place) → IsNext old mid piece named.number → AreInOrder old.roles.items (length (literals_of old)) →
+    IsRoleOf (literals_of mid) (models_of mid) r (listed_piece x place) → r.number ≡ named.number → {owner : Owner} {before : ℕ} → IsPlaceOf owner before piece place → AreInOrder (old.roles.items ++ r ∷ []) (length (literals_of mid))
+order-more old mid piece named r x place (as_many count) order role number at =
+    subst (λ n. AreInOrder (old.roles.items ++ r ∷ []) n) (sym count)
+    (push-same old.roles.items (length (literals_of old)) order r
+    (λ k names. subst (λ n. k < n) count (literal-there (literals_of mid) (models_of mid) r (listed_piece x place) place.looks_back place.pieces place.piece refl role k names)))
+order-more old mid piece named r x place (one_more xs is_literal numbered count) order role number at =
+    let here : place ≡ place_with place.looks_back place.pieces (lit xs) = ap (λ p. place_with place.looks_back place.pieces p) (at.piece_is ∙ is_literal) in
+    subst (λ n. AreInOrder (old.roles.items ++ r ∷ []) n) (sym count)
+    (push-next old.roles.items (length (literals_of old)) order r
+    (literal-is (literals_of mid) (models_of mid) r (listed_piece x place) place.looks_back place.pieces xs here role ∙ ap (λ n. Some n) (number ∙ numbered)))
+
 -- one more piece
 pub piece-built : (old mid new : Builder) (owner : Owner) (before : ℕ) (piece : Piece) (shape : Shape) (named : Named) (r : Role) →
     (IsSound old → IsNamed old mid piece named) → shape ≡ shape_for owner.looks_back before piece → IsRoleFor owner before shape named r →
@@ -80,13 +99,14 @@ piece-built old mid new owner before piece shape named r naming made_as made rol
     let ms = models_of mid in
     let same_ls : literals_of new ≡ ls = ap (λ zs. map literal_bytes zs) literal_list in
     let same_ms : models_of new ≡ ms = ap (λ zs. map model_of zs) made_list in
+    let made_role : IsRoleOf ls ms r (listed_piece x place) = role-made ls ms owner before piece shape named r x place own at made_as is.names made in
     let before_zip : AllZip (IsRoleOf ls ms) old.roles.items (listed_pieces chains ++ pieces) =
     zip-each (IsRoleOf (literals_of old) (models_of old)) (IsRoleOf ls ms) old.roles.items (listed_pieces chains ++ pieces)
     (role-kept (literals_of old) ls (models_of old) ms is.grown.literals is.grown.models) built.roles in
     let mid_zip : AllZip (IsRoleOf ls ms) mid.roles.items (listed_pieces chains ++ pieces) = subst (λ rs. AllZip (IsRoleOf ls ms) rs (listed_pieces chains ++ pieces)) (sym is.grown.roles) before_zip in
     let more : AllZip (IsRoleOf ls ms) (mid.roles.items ++ r ∷ []) ((listed_pieces chains ++ pieces) ++ listed_piece x place ∷ []) =
     zip-push (IsRoleOf ls ms) mid.roles.items (listed_pieces chains ++ pieces) r (listed_piece x place) mid_zip
-    (role-made ls ms owner before piece shape named r x place own at made_as is.names made) in
+    made_role in
     let flat : AllZip (IsRoleOf ls ms) new.roles.items (listed_pieces chains ++ (pieces ++ listed_piece x place ∷ [])) =
     subst (λ rs. AllZip (IsRoleOf ls ms) rs (listed_pieces chains ++ (pieces ++ listed_piece x place ∷ []))) (sym roles)
     (subst (λ ps. AllZip (IsRoleOf ls ms) (mid.roles.items ++ r ∷ []) ps) (append_assoc (listed_pieces chains) pieces (listed_piece x place ∷ [])) more) in record {
@@ -98,6 +118,7 @@ piece-built old mid new owner before piece shape named r naming made_as made rol
       roles = subst (λ zs. AllZip (IsRoleOf zs (models_of new)) new.roles.items (listed_pieces chains ++ (pieces ++ listed_piece x place ∷ []))) (sym same_ls)
           (subst (λ zs. AllZip (IsRoleOf ls zs) new.roles.items (listed_pieces chains ++ (pieces ++ listed_piece x place ∷ []))) (sym same_ms) flat);
       chains_are = subst (λ cs. AreChainsOf 0 cs chains) (sym (chain_list ∙ is.grown.chains)) built.chains_are;
+      order = subst (λ n. AreInOrder new.roles.items n) (sym (ap length same_ls)) (subst (λ rs. AreInOrder rs (length ls)) (sym (roles ∙ ap (λ rs. rs ++ r ∷ []) is.grown.roles)) (order-more old mid piece named r x place is.next built.order made_role made.number at));
     }
 
 -- the places of the pieces of a chain
@@ -179,6 +200,7 @@ chain-built old mid new chains x info begun almost entry first end chain_list ro
           (subst (λ ps. AllZip (IsRoleOf ls ms) mid.roles.items ps) (sym (pieces-push chains x)) whole.roles)));
       chains_are = subst (λ cs. AreChainsOf 0 cs (chains ++ x ∷ [])) (sym chain_list)
           (chains-push 0 mid.chains.items chains info x whole.chains_are (record { entry = entry; first = at_first; end = at_end }));
+      order = subst (λ n. AreInOrder new.roles.items n) (sym (ap length same_ls)) (subst (λ rs. AreInOrder rs (length ls)) (sym role_list) whole.order);
     }
 
 -- the chains of an entry

@@ -24,9 +24,11 @@ use Rattle.hs_rose.specs.Kinds.{kind_for, number_if_literal, number_if_run}
 use Rattle.hs_rose.specs.Listing.{Asked, ListedChain, ListedPiece, listed_chains, listed_pieces}
 use Rattle.hs_rose.specs.Made.{IsMade, IsNullMask, model_of}
 use Rattle.hs_rose.specs.Numbering.{AreApart}
+use Rattle.hs_rose.specs.Ordering.{AreInOrder}
 use Rattle.hs_rose.specs.PieceEngines.{IsEngineOf}
 use Rattle.hs_rose.specs.Runnable.{AreRunnable}
-use Rattle.hs_rose.specs.Programs.{Tables, AreChainsOf, AreRolesOfLiterals, IsInfoOf, IsProgramOf, IsRoleOf, engine_of, literal_of}
+use Rattle.hs_rose.specs.Naming.{engine_of, literal_of}
+use Rattle.hs_rose.specs.Programs.{Tables, AreChainsOf, AreRolesOfLiterals, IsInfoOf, IsProgramOf, IsRoleOf}
 use Rattle.hs_rose.proofs.ListLemmas.{zip-left, zip-map}
 
 -- the role of a literal names one, and that of another piece doesn't
@@ -69,7 +71,7 @@ repeat-run set (suc zero) (Some m) n = refl
 repeat-run set (suc (suc least)) (Some m) n = refl
 
 -- the piece of a role, one way or the other
-literal-there : (ls : List (List LiteralByte)) (ms : List Piece) (r : Role) (x : ListedPiece) (l : Bool) (pieces : List Piece) (piece : Piece) → x.place ≡ record { looks_back = l; pieces = pieces; piece = piece } →
+pub literal-there : (ls : List (List LiteralByte)) (ms : List Piece) (r : Role) (x : ListedPiece) (l : Bool) (pieces : List Piece) (piece : Piece) → x.place ≡ record { looks_back = l; pieces = pieces; piece = piece } →
     IsRoleOf ls ms r x → (k : ℕ) → literal_of r ≡ Some k → k < length ls
 literal-there ls ms r x l pieces (lit xs) at is k named =
     let is' : IsRoleOf ls ms r (record { chain = x.chain; place = record { looks_back = l; pieces = pieces; piece = lit xs } }) = subst (λ (p : Place). IsRoleOf ls ms r (record { chain = x.chain; place = p })) at is in
@@ -84,6 +86,13 @@ literal-there ls ms r x l pieces (rep set least greatest) at is k named =
     let is' : IsRoleOf ls ms r (record { chain = x.chain; place = record { looks_back = l; pieces = pieces; piece = rep set least greatest } }) = subst (λ (p : Place). IsRoleOf ls ms r (record { chain = x.chain; place = p })) at is in
     let none : None ≡ Some k = sym (repeat-number set least greatest r.number) ∙ ap (λ (kind : Kind). number_if_literal kind r.number) (sym is'.kind_is) ∙ named in
     absurd (cc)
+
+-- of a literal it is the role's number
+pub literal-is : (ls : List (List LiteralByte)) (ms : List Piece) (r : Role) (x : ListedPiece) (l : Bool) (pieces : List Piece) (xs : List LiteralByte) → x.place ≡ record { looks_back = l; pieces = pieces; piece = lit xs } →
+    IsRoleOf ls ms r x → literal_of r ≡ Some r.number
+literal-is ls ms r x l pieces xs at is =
+    let is' : IsRoleOf ls ms r (record { chain = x.chain; place = record { looks_back = l; pieces = pieces; piece = lit xs } }) = subst (λ (p : Place). IsRoleOf ls ms r (record { chain = x.chain; place = p })) at is in
+    ap (λ (kind : Kind). number_if_literal kind r.number) is'.kind_is ∙ literal-number l pieces xs r.number
 
 pub engine-there : (ls : List (List LiteralByte)) (ms : List Piece) (r : Role) (x : ListedPiece) (l : Bool) (pieces : List Piece) (piece : Piece) → x.place ≡ record { looks_back = l; pieces = pieces; piece = piece } →
     IsRoleOf ls ms r x → (k : ℕ) → engine_of r ≡ Some k → slice_get ms k ≡ Some piece
@@ -154,6 +163,7 @@ program-built b infos identifiers t entries chains built about named few runnabl
           (subst (λ ls. AllZip (IsRoleOf ls (models_of b)) b.roles.items all) (sym is.literals) roles);
       engines = subst (λ es. AllZip IsEngineOf es (models_of b)) (sym is.engines) engines;
       one_engine = built.sound.models;
+      literal_order = subst (λ rs. AreInOrder rs (length t.literals)) (sym is.roles) (subst (λ ls. AreInOrder b.roles.items (length ls)) (sym is.literals) built.order);
       one_literal = subst (λ ls. AreApart ls) (sym is.literals) built.sound.literals;
       literal_roles = subst (λ rs. AreRolesOfLiterals rs (length t.literals) t.literal_roles) (sym is.roles)
           (subst (λ ls. AreRolesOfLiterals b.roles.items (length ls) t.literal_roles) (sym is.literals) is.literal_roles);

@@ -13,7 +13,8 @@ use Rattle.hs_rose.specs.declared.role.Role.{Role}
 use Rattle.hs_rose.specs.Listing.{Asked, ListedChain, ListedPiece, chains_from, listed_chains, listed_from, listed_piece, listed_pieces, pieces_of}
 use Rattle.hs_rose.specs.Made.{IsMadeOf, IsNullMask}
 use Rattle.hs_rose.specs.PieceEngines.{IsEngineOf}
-use Rattle.hs_rose.specs.Programs.{Tables, IsProgramOf, IsRoleOf, engine_of}
+use Rattle.hs_rose.specs.Naming.{engine_of}
+use Rattle.hs_rose.specs.Programs.{Tables, IsProgramOf, IsRoleOf}
 use Rattle.hs_rose.specs.RoleLaws.{HasRole, IsProgramOfPlan}
 use Rattle.hs_rose.proofs.FinishLemmas.{engine-there, engine-null}
 use Rattle.hs_rose.proofs.ListLemmas.{zip-get, zip-right}

@@ -4,9 +4,11 @@ pub mod SameLemmas
 pub mod NamingLemmas
 pub mod MakeLemmas
 pub mod ShapeLemmas
+pub mod OrderLemmas
 pub mod BuildLemmas
 pub mod RoleListLemmas
 pub mod IdentifierLemmas
 pub mod FinishLemmas
 pub mod ListedLemmas
+pub mod SplitLemmas
 pub mod LawLemmas

@@ -4,7 +4,8 @@ use Rattle.std.proofs.lemmas.Bool.Decides.{nat_tests}
 use Rattle.std.proofs.lemmas.List.{append-nil, length-map, length-set, length-take-le, map-append}
 use Rattle.hs_rose.specs.declared.role.Role.{Role}
 use Rattle.hs_rose.specs.Finishing.{IsRoleAdded}
-use Rattle.hs_rose.specs.Programs.{AreRolesOfLiterals, is_number, literal_of, roles_with}
+use Rattle.hs_rose.specs.Naming.{literal_of}
+use Rattle.hs_rose.specs.Programs.{AreRolesOfLiterals, is_number, roles_with}
 use Rattle.hs_rose.specs.Views.{role_numbers}
 use Rattle.hs_rose.proofs.ListLemmas.{get-push, take-get}
 

@@ -1,7 +1,7 @@
 -- What is built of a program, chain by chain and piece by piece.
 use Rattle.std.specs.Prelude.{◌≡◌, ℕ, suc, ◌++◌, List, length, map, Some, slice_get}
 use Rattle.std.specs.List.{AllZip}
-use Rattle.hs_base.specs.Chains.{Piece}
+use Rattle.hs_base.specs.Chains.{Piece, lit}
 use Rattle.hs_base.specs.LiteralView.{literal_bytes}
 use Rattle.hs_base.specs.Lists.{Each}
 use Rattle.hs_base.specs.Literals.{LiteralByte}
@@ -15,6 +15,7 @@ use Rattle.hs_rose.specs.declared.shape.Shape.{Shape}
 use Rattle.hs_rose.specs.Listing.{ListedChain, ListedPiece, listed_pieces}
 use Rattle.hs_rose.specs.Made.{IsMade, model_of}
 use Rattle.hs_rose.specs.Numbering.{AreApart}
+use Rattle.hs_rose.specs.Ordering.{AreInOrder}
 use Rattle.hs_rose.specs.Programs.{AreChainsOf, IsRoleOf, Names}
 
 -- the literals so far
@@ -42,17 +43,25 @@ pub record IsGrown (before now : Builder) : Type 0 where
   pub literals : AreKept (literals_of before) (literals_of now)
   pub models : AreKept (models_of before) (models_of now)
 
+-- The literals are as many as before, or the piece is one more of them and has the next number.
+pub data IsNext (before now : Builder) (piece : Piece) (number : ℕ) : Type 0 where
+  as_many : length (literals_of now) ≡ length (literals_of before) → IsNext before now piece number
+  one_more : (xs : List LiteralByte) → piece ≡ lit xs → number ≡ length (literals_of before) →
+      length (literals_of now) ≡ suc (length (literals_of before)) → IsNext before now piece number
+
 -- The piece has got a number.
 pub record IsNamed (before now : Builder) (piece : Piece) (named : Named) : Type 0 where
   pub sound : IsSound now
   pub grown : IsGrown before now
   pub names : Names (literals_of now) (models_of now) named.number named.null piece
+  pub next : IsNext before now piece named.number
 
 -- The chains are built, and of the next one these pieces.
 pub record IsBuilt (b : Builder) (chains : List ListedChain) (pieces : List ListedPiece) : Type 0 where
   pub sound : IsSound b
   pub roles : AllZip (IsRoleOf (literals_of b) (models_of b)) b.roles.items (listed_pieces chains ++ pieces)
   pub chains_are : AreChainsOf 0 b.chains.items chains
+  pub order : AreInOrder b.roles.items (length (literals_of b))
 
 -- what is said of the pieces of the chain
 pub record IsOwner (owner : Owner) (x : ListedChain) : Type 0 where

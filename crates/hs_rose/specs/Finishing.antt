@@ -7,7 +7,8 @@ use Rattle.hs_rose.specs.declared.info.EntryInfo.{EntryInfo}
 use Rattle.hs_rose.specs.declared.making.Made.{Made}
 use Rattle.hs_rose.specs.declared.role.Role.{Role}
 use Rattle.hs_rose.specs.Building.{literals_of}
-use Rattle.hs_rose.specs.Programs.{Tables, AreRolesOfLiterals, engine_of, literal_of, is_number}
+use Rattle.hs_rose.specs.Naming.{engine_of, literal_of}
+use Rattle.hs_rose.specs.Programs.{Tables, AreRolesOfLiterals, is_number}
 
 -- the engine of a piece
 abbrev pub engine_made : Made → PieceEngine

@@ -6,6 +6,8 @@ pub mod Identifiers
 pub mod Runnable
 pub mod Made
 pub mod Numbering
+pub mod Naming
+pub mod Ordering
 pub mod Programs
 pub mod Building
 pub mod Views

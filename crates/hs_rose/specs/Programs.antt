@@ -15,16 +15,18 @@ use Rattle.hs_rose.specs.declared.info.ChainInfo.{ChainInfo}
 use Rattle.hs_rose.specs.declared.info.EntryInfo.{EntryInfo}
 use Rattle.hs_rose.specs.declared.identifiers.Identifier.{Identifier}
 use Rattle.hs_rose.specs.Identifiers.{AreIdentifiersOf, ids_of}
-use Rattle.hs_rose.specs.Kinds.{place_kind, number_if_literal, number_if_run}
+use Rattle.hs_rose.specs.Kinds.{place_kind}
 use Rattle.hs_rose.specs.Listing.{Asked, ListedChain, ListedPiece, listed_chains, listed_pieces, piece_number}
 use Rattle.hs_rose.specs.Made.{IsNullMask}
+use Rattle.hs_rose.specs.Naming.{engine_of, literal_of}
+use Rattle.hs_rose.specs.Ordering.{AreInOrder}
 use Rattle.hs_rose.specs.Numbering.{AreApart}
 use Rattle.hs_rose.specs.PieceEngines.{IsEngineOf}
 use Rattle.hs_rose.specs.Runnable.{AreRunnable}
 use Rattle.hs_base.specs.Lists.{Each}
 
--- What a program has: what is asked of each entry; the identifiers; the chains; a role for each piece; the literals and engines that
--- roles name by number, each once; and for each literal its roles.
+-- What a program has: what is asked of each entry; the identifiers; the chains; a role for each piece; the literals and
+-- engines that roles name by number, each once; and for each literal its roles.
 pub record Tables : Type 0 where
   pub entries : List EntryInfo
   pub identifiers : List Identifier
@@ -33,14 +35,6 @@ pub record Tables : Type 0 where
   pub literals : List (List LiteralByte)
   pub literal_roles : List (List ℕ)
   pub engines : List PieceEngine
-
--- the number of the role's literal
-abbrev pub literal_of : Role → Option ℕ
-literal_of r = number_if_literal r.kind r.number
-
--- the number of the role's engine
-abbrev pub engine_of : Role → Option ℕ
-engine_of r = number_if_run r.kind r.number
 
 -- the mask has no context
 abbrev pub IsEmptyMask : Mask → Type 0
@@ -122,7 +116,7 @@ pub record IsWhole (t : Tables) : Type 0 where
   pub literal_roles : length t.literal_roles ≡ length t.literals
 
 -- The program is that of the list: a role for each piece of each chain of each entry, in order. Equal literals are one,
--- and equal pieces have one engine.
+-- in the order of their first roles, and equal pieces have one engine.
 pub record IsProgramOf (t : Tables) (entries : List Asked) (chains : List (List (List Piece))) : Type 0 where
   pub models : List Piece
   pub few_entries : length entries < 2 ^ 32
@@ -135,4 +129,5 @@ pub record IsProgramOf (t : Tables) (entries : List Asked) (chains : List (List 
   pub engines : AllZip IsEngineOf t.engines models
   pub one_engine : AreApart models
   pub one_literal : AreApart t.literals
+  pub literal_order : AreInOrder t.roles (length t.literals)
   pub literal_roles : AreRolesOfLiterals t.roles (length t.literals) t.literal_roles

@@ -7,7 +7,8 @@ use Rattle.hs_rose.specs.declared.engine.PieceEngine.{PieceEngine}
 use Rattle.hs_rose.specs.declared.role.Role.{Role}
 use Rattle.hs_rose.specs.Listing.{Asked, ListedPiece, listed_chains, listed_pieces}
 use Rattle.hs_rose.specs.Made.{IsMadeOf}
-use Rattle.hs_rose.specs.Programs.{Tables, IsProgramOf, engine_of}
+use Rattle.hs_rose.specs.Naming.{engine_of}
+use Rattle.hs_rose.specs.Programs.{Tables, IsProgramOf}
 
 -- the role of that number is there, and so is its piece
 pub record HasRole (t : Tables) (pieces : List ListedPiece) (k : ℕ) (r : Role) (piece : Piece) : Type 0 where

@@ -4,7 +4,8 @@ ghost use Rattle.std.specs.Prelude.{◌≡◌, ℕ, ◌<◌, Some, IfOk, IfSome,
 ghost use Rattle.hs_base.specs.LiteralView.{literal_byte, literal_bytes};
 ghost use Rattle.hs_rose.specs.Numbering.{IsNew, IsNumbered};
 ghost use Rattle.hs_rose.specs.Finishing.{IsRoleAdded};
-ghost use Rattle.hs_rose.specs.Programs.{AreRolesOfLiterals, literal_of};
+ghost use Rattle.hs_rose.specs.Naming.{literal_of};
+ghost use Rattle.hs_rose.specs.Programs.{AreRolesOfLiterals};
 ghost use Rattle.hs_rose.specs.Views.{role_numbers};
 ghost use Rattle.hs_rose.specs.declared.role.Role.{Role};
 

@@ -23,7 +23,7 @@ pub struct Role {
 }
 
 impl Role {
-    ghost use Rattle.hs_rose.specs.Programs.{literal_of, engine_of};
+    ghost use Rattle.hs_rose.specs.Naming.{literal_of, engine_of};
 
     /// The number of the entry in the list, from 1.
     pub fn entry(&self) -> u32

@@ -22,7 +22,7 @@ use Rattle.hs_block.specs.WordBits.{word_bit as block_bit}
 use Rattle.hs_engine.specs.Engines.{Meaning}
 use Rattle.hs_nodes.specs.Blocks.{block, front}
 use Rattle.hs_nodes.specs.Left.{AreLeft, AreLeftIn, nowhere}
-use Rattle.hs_nodes.specs.Walks.{ends_of}
+use Rattle.hs_nodes.specs.Walks.{node_ends}
 use Rattle.hs_nodes.specs.declared.ends.ChunkEnds.{ChunkEnds}
 use Rattle.hs_nodes.proofs.RunLemmas.{nowhere-none}
 use Rattle.hs_nodes.proofs.ChunkLemmas.{front-none, front-more, length-front}
@@ -41,7 +41,7 @@ use Rattle.hs_reports.proofs.EventLemmas.{through-join}
 use Rattle.hs_reports.proofs.GatheringLemmas.{gathering-begins, gathering-ends, gathering-goes_on, gathering-passes}
 use Rattle.hs_reports.proofs.TerminalLemmas.{terminals-end, ends-within}
 use Rattle.hs_scan.specs.Programs.{AreTerminalsSound, RunsPlan}
-use Rattle.hs_scan.specs.Telling.{AreChunkEnds, AreGathered, GathersNode, IsTelling, TellsBlock, TellsBlocks, TellsChunk, left_before, left_behind, node_ends, terminals_of}
+use Rattle.hs_scan.specs.Telling.{AreChunkEnds, AreGathered, GathersNode, IsTelling, TellsBlock, TellsBlocks, TellsChunk, left_before, left_behind, ends_or_all, terminals_of}
 use Rattle.hs_scan.specs.declared.program.Program.{Program}
 
 pub each-map : {A : Type 0} (P Q : A → Type 0) (xs : List A) → ((x : A) → P x → Q x) → Each P xs → Each Q xs
@@ -84,12 +84,12 @@ module _ {E : Type 0} (meaning : E → Meaning) (program : Program E) (sound : A
   abbrev nodes : ℕ
   nodes = length program.table.nodes.items
 
-  node-left : (k : ℕ) → k < nodes + 1 → AreLeftIn (runs.pieces k) u bytes (node_ends ends all k)
+  node-left : (k : ℕ) → k < nodes + 1 → AreLeftIn (runs.pieces k) u bytes (ends_or_all ends all k)
   node-left k below = elim (cases_lt k nodes) [
     | inl inner ↦ subst (AreLeftIn (runs.pieces k) u bytes) (ends-at ends nowhere all k (omega (arith, are.count))) (are.left k inner)
     | inr past ↦
         let last : k ≡ nodes = omega arith in
-        subst (λ xs. AreLeftIn xs u bytes (node_ends ends all k)) (sym (ap runs.pieces last ∙ runs.no_pieces))
+        subst (λ xs. AreLeftIn xs u bytes (ends_or_all ends all k)) (sym (ap runs.pieces last ∙ runs.no_pieces))
         (subst (AreLeftIn [] u bytes) (sym (ends-past ends all k (omega (arith, are.count)))) are.everywhere)
   ]
 
@@ -215,12 +215,12 @@ module _ {E : Type 0} (program : Program E) (ends : List ChunkEnds) (all : Chunk
     gathered = gathering-begins program.terminals.items (left_before ends all block) (left_behind ends all block) at table none;
   }
 
-  resting : (k : ℕ) → k < length program.table.nodes.items → ends_of ends k ≡ nowhere → (left_before ends all block k ≡ 0) × (left_behind ends all block k ≡ 0)
+  resting : (k : ℕ) → k < length program.table.nodes.items → node_ends ends k ≡ nowhere → (left_before ends all block k ≡ 0) × (left_behind ends all block k ≡ 0)
   resting k below none =
-      let is : node_ends ends all k ≡ nowhere = ends-at ends all nowhere k (omega (arith, count)) ∙ none in
+      let is : ends_or_all ends all k ≡ nowhere = ends-at ends all nowhere k (omega (arith, count)) ∙ none in
       (ap (λ e. slice_index e.before block) is ∙ nowhere-none.before block (omega arith), ap (λ e. slice_index e.behind block) is ∙ nowhere-none.behind block (omega arith))
 
-  pub gathered-passed : (at from to : ℕ) (first table : EndTable) → from ≤ to → to ≤ length program.table.nodes.items → ((k : ℕ) → from ≤ k → k < to → ends_of ends k ≡ nowhere) → IsGatheredTo program ends all block at from first table → IsGatheredTo program ends all block at to first table
+  pub gathered-passed : (at from to : ℕ) (first table : EndTable) → from ≤ to → to ≤ length program.table.nodes.items → ((k : ℕ) → from ≤ k → k < to → node_ends ends k ≡ nowhere) → IsGatheredTo program ends all block at from first table → IsGatheredTo program ends all block at to first table
   gathered-passed at from to first table order inside none is = record {
     within = inside;
     counted = is.counted;
@@ -233,7 +233,7 @@ module _ {E : Type 0} (program : Program E) (ends : List ChunkEnds) (all : Chunk
   pub gathered-more : (at k : ℕ) (own : ChunkEnds) (first table next : EndTable) → k < length program.table.nodes.items → slice_get ends k ≡ Some own → IsGatheredTo program ends all block at k first table → length next.words ≡ length table.words →
       ((p : ℕ) → is_noted table p ≡ true → is_noted next p ≡ true) → GathersNode program k at (slice_index own.before block) (slice_index own.behind block) table next → IsGatheredTo program ends all block at (k + 1) first next
   gathered-more at k own first table next inside there is len noted goes =
-      let same : node_ends ends all k ≡ own = at-get ends all k own there in
+      let same : ends_or_all ends all k ≡ own = at-get ends all k own there in
       record {
         within = omega arith;
         counted = len ∙ is.counted;
@@ -249,7 +249,7 @@ module _ {E : Type 0} (program : Program E) (ends : List ChunkEnds) (all : Chunk
   pub gathered-all : (at n : ℕ) (first table next : EndTable) → n ≡ length program.table.nodes.items → IsGatheredTo program ends all block at (length program.table.nodes.items) first table → GathersNode program n at (slice_index all.before block) (slice_index all.behind block) table next →
       AreEndsBelow program.terminals.items (left_before ends all block) (left_behind ends all block) at (length program.table.nodes.items + 1) next
   gathered-all at n first table next last is goes =
-      let same : node_ends ends all n ≡ all = ends-past ends all n (omega (arith, count)) in
+      let same : ends_or_all ends all n ≡ all = ends-past ends all n (omega (arith, count)) in
       subst (λ m. AreEndsBelow program.terminals.items (left_before ends all block) (left_behind ends all block) at (m + 1) next) last
       (goes (left_before ends all block) (left_behind ends all block) (ap (λ e. slice_index e.before block) same) (ap (λ e. slice_index e.behind block) same)
       (subst (λ m. AreEndsBelow program.terminals.items (left_before ends all block) (left_behind ends all block) at m table) (sym last) is.gathered))

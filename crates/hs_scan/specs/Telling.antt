@@ -8,7 +8,7 @@ use Rattle.hs_base.specs.Told.{Pair, IsTold, IsNew}
 use Rattle.hs_engine.specs.Engines.{Meaning}
 use Rattle.hs_nodes.specs.Blocks.{block, front}
 use Rattle.hs_nodes.specs.Left.{AreLeftIn}
-use Rattle.hs_nodes.specs.Walks.{ends_of}
+use Rattle.hs_nodes.specs.Walks.{node_ends}
 use Rattle.hs_nodes.specs.declared.ends.ChunkEnds.{ChunkEnds}
 use Rattle.hs_reports.specs.Gathering.{AreEndsBelow}
 use Rattle.hs_reports.specs.EndTables.{EndTable}
@@ -18,15 +18,15 @@ use Rattle.hs_scan.specs.Programs.{RunsPlan}
 use Rattle.hs_scan.specs.declared.program.Program.{Program}
 
 -- Where the pieces of the node of that number are left. Behind the last node are no pieces, which are left everywhere.
-abbrev pub node_ends : (ends : List ChunkEnds) (all : ChunkEnds) → ℕ → ChunkEnds
-node_ends ends all k = slice_index_or ends k all
+abbrev pub ends_or_all : (ends : List ChunkEnds) (all : ChunkEnds) → ℕ → ChunkEnds
+ends_or_all ends all k = slice_index_or ends k all
 
 -- in one block
 abbrev pub left_before : (ends : List ChunkEnds) (all : ChunkEnds) (block k : ℕ) → ℕ
-left_before ends all block k = slice_index (node_ends ends all k).before block
+left_before ends all block k = slice_index (ends_or_all ends all k).before block
 
 abbrev pub left_behind : (ends : List ChunkEnds) (all : ChunkEnds) (block k : ℕ) → ℕ
-left_behind ends all block k = slice_index (node_ends ends all k).behind block
+left_behind ends all block k = slice_index (ends_or_all ends all k).behind block
 
 -- the terminals of the node of that number
 abbrev pub terminals_of : {E : Type 0} → Program E → ℕ → List Terminal
@@ -60,7 +60,7 @@ module _ {E : Type 0} (meaning : E → Meaning) (program : Program E) where
   pub record AreChunkEnds (pieces : ℕ → List Piece) (u bytes : List ℕ) (ends : List ChunkEnds) (all : ChunkEnds) :
       Type 0 where
     pub count : length ends ≡ length program.table.nodes.items
-    pub left : (k : ℕ) → k < length program.table.nodes.items → AreLeftIn (pieces k) u bytes (ends_of ends k)
+    pub left : (k : ℕ) → k < length program.table.nodes.items → AreLeftIn (pieces k) u bytes (node_ends ends k)
     pub everywhere : AreLeftIn [] u bytes all
 
   -- Whatever plan the program runs, and behind whatever stream: where the rows of bits tell what is known of the

@@ -3,7 +3,7 @@
 ghost use Rattle.std.specs.Prelude.{◌≡◌, ◌+◌, ◌<◌, ◌≤◌, ◌^◌, ℕ, length, slice_index};
 ghost use Rattle.hs_nodes.specs.Contexts.{AreChunkContexts};
 ghost use Rattle.hs_nodes.specs.Left.{nowhere};
-ghost use Rattle.hs_nodes.specs.Walks.{AreNodesWell, IsOutside, IsTableSound, ends_of};
+ghost use Rattle.hs_nodes.specs.Walks.{AreNodesWell, IsOutside, IsTableSound, node_ends};
 ghost use Rattle.hs_reports.specs.Events.{Takes};
 ghost use Rattle.hs_scan.specs.Knowing.{FitsKnown, IsPending};
 ghost use Rattle.hs_scan.specs.Programs.{AreTerminalsSound};
@@ -30,7 +30,7 @@ pub(crate) struct Course {
 /// Makes all ends those of nodes that are left nowhere.
 fn forget_ends(ends: &mut [ChunkEnds])
     ensures len { length ends.new ≡ length ends.old }
-    ensures nowhere { (k : ℕ) → ends_of ends.new k ≡ nowhere }
+    ensures nowhere { (k : ℕ) → node_ends ends.new k ≡ nowhere }
 {
     for end in ends.iter_mut() {
         *end = ChunkEnds::NOWHERE;

@@ -3,7 +3,7 @@
 ghost use Rattle.std.specs.Prelude.{◌≡◌, ℕ, ◌+◌, ◌*◌, ◌<◌, ◌≤◌, ◌^◌, true, false, length, Some, slice_get};
 ghost use Rattle.hs_nodes.specs.Left.{nowhere};
 ghost use Rattle.hs_nodes.specs.Marks.{is_marked, mark_room};
-ghost use Rattle.hs_nodes.specs.Walks.{ends_of};
+ghost use Rattle.hs_nodes.specs.Walks.{node_ends};
 ghost use Rattle.hs_reports.specs.EndTables.{HasNoEnds, is_noted};
 ghost use Rattle.hs_reports.specs.Gathering.{AreEndsBelow};
 ghost use Rattle.hs_scan.specs.Programs.{AreTerminalsSound};
@@ -70,7 +70,7 @@ pub(crate) fn gather_block<E: BlockEngine>(
     requires marks { length program.now.table.nodes.items ≤ mark_room marks.now }
     requires few { length program.now.table.nodes.items < 2 ^ 32 }
     requires rest { (k : ℕ) → k < length program.now.table.nodes.items → is_marked marks.now k ≡ false →
-        ends_of ends.now k ≡ nowhere }
+        node_ends ends.now k ≡ nowhere }
     requires block { block < 8 }
     requires count { length table.old.words ≡ length program.now.identifiers.items }
     requires none { HasNoEnds table.old }

@@ -4,7 +4,7 @@ ghost use Rattle.std.specs.Prelude.{◌≡◌, ℕ, ◌+◌, ◌*◌, ◌<◌, �
 ghost use Rattle.hs_nodes.specs.Blocks.{block};
 ghost use Rattle.hs_nodes.specs.Left.{nowhere};
 ghost use Rattle.hs_nodes.specs.Marks.{is_marked, mark_room};
-ghost use Rattle.hs_nodes.specs.Walks.{ends_of};
+ghost use Rattle.hs_nodes.specs.Walks.{node_ends};
 ghost use Rattle.hs_reports.specs.Events.{Takes};
 ghost use Rattle.hs_scan.specs.Knowing.{FitsKnown, IsPending, SettlesKnown};
 ghost use Rattle.hs_scan.specs.Programs.{AreTerminalsSound};
@@ -82,7 +82,7 @@ fn tell_known<E: BlockEngine, V: Events>(
     requires marks { length program.now.table.nodes.items ≤ mark_room marks.now }
     requires below { (k : ℕ) → is_marked marks.now k ≡ true → k < length program.now.table.nodes.items }
     requires rest { (k : ℕ) → k < length program.now.table.nodes.items → is_marked marks.now k ≡ false →
-        ends_of ends.now k ≡ nowhere }
+        node_ends ends.now k ≡ nowhere }
     requires there { 64 * number < length chunk.now.bytes.now }
     requires fits { FitsKnown (length program.now.identifiers.items) known.old }
     requires pending { IsPending known.old }
@@ -117,7 +117,7 @@ pub(crate) fn tell_chunk<E: BlockEngine, V: Events>(
     requires marks { length program.now.table.nodes.items ≤ mark_room marks.now }
     requires below { (k : ℕ) → is_marked marks.now k ≡ true → k < length program.now.table.nodes.items }
     requires rest { (k : ℕ) → k < length program.now.table.nodes.items → is_marked marks.now k ≡ false →
-        ends_of ends.now k ≡ nowhere }
+        node_ends ends.now k ≡ nowhere }
     requires fits { FitsKnown (length program.now.identifiers.items) known.old }
     requires pending { IsPending known.old }
     ensures fits { FitsKnown (length program.now.identifiers.items) known.new }

@@ -75,26 +75,57 @@ fn told_last<L: Ledger>(
     Ok(out)
 }
 
-/// Runs the script of a number, and checks what is reported.
-fn run<L: Ledger>(rt: &impl Abort, alloc: Global, blank: Blank, number: usize) -> Result<(), Fail>
+/// Checks what a call of a script reports.
+fn check_call<L: Ledger>(
+    rt: &impl Abort,
+    alloc: Global,
+    db: &Database,
+    scratch: &mut Scratch,
+    streams: &mut [Stream],
+    steps: &mut Steps<L>,
+    row: &str,
+) -> Result<(), Fail> {
+    let (call, wanted) = row.split_once('=').unwrap_or((row, "?"));
+    let (number, bytes) = call.split_once('<').unwrap_or(("", "?"));
+    if let Some(stream) = streams.get_mut(usize::from(number == "1")) {
+        let found = told(alloc, db, scratch, stream, steps, bytes)?;
+        assert!(rt; found.as_str() == wanted, "{row} reports {found}");
+        assert!(rt; bytes != "~" || stream.offset(db) == 0, "{row}");
+    }
+    Ok(())
+}
+
+/// A new stream over the database.
+fn opened(alloc: Global, db: &Database) -> Result<Stream, AllocError> {
+    Stream::open(alloc, db)
+}
+
+/// Runs the script of a number, and gives what is reported when the streams are closed.
+fn run<L: Ledger>(
+    rt: &impl Abort,
+    alloc: Global,
+    db: &Database,
+    blank: Blank,
+    number: usize,
+) -> Result<String, Fail>
     requires name { blank.name ≡ L.name }
     requires parts { blank.parts ≡ L.parts }
     requires some { 0 < L.parts }
 {
+    let mut steps = Steps::<L>::open(blank);
+    let mut scratch = Scratch::new(alloc, db)?;
+    let mut streams = [opened(alloc, db)?, opened(alloc, db)?];
+    for row in SCRIPTS[number % SCRIPTS.len()].1.split('|') {
+        check_call(rt, alloc, db, &mut scratch, &mut streams, &mut steps, row)?;
+    }
+    told_last(alloc, db, &mut scratch, streams, &mut steps)
+}
+
+/// Runs the script of a number over its list, and checks what is reported.
+fn check_script(rt: &impl Abort, alloc: Global, number: usize) -> Result<(), Fail> {
     let (list, script, last) = SCRIPTS[number % SCRIPTS.len()];
     let db = compiled(alloc, list)?;
-    let mut steps = Steps::<L>::open(blank);
-    let mut scratch = Scratch::new(alloc, &db)?;
-    let mut streams = [Stream::open(alloc, &db)?, Stream::open(alloc, &db)?];
-    for row in script.split('|') {
-        let (call, wanted) = row.split_once('=').unwrap_or((row, "?"));
-        let (number, bytes) = call.split_once('<').unwrap_or(("", "?"));
-        let stream = &mut streams[usize::from(number == "1")];
-        let found = told(alloc, &db, &mut scratch, stream, &mut steps, bytes)?;
-        assert!(rt; found.as_str() == wanted, "{row} reports {found}");
-        assert!(rt; bytes != "~" || stream.offset(&db) == 0, "{row}");
-    }
-    let found = told_last(alloc, &db, &mut scratch, streams, &mut steps)?;
+    let found = run::<Brand>(rt, alloc, &db, Blank::new(1), number)?;
     assert!(rt; found.as_str() == last, "{script} reports {found} last");
     Ok(())
 }
@@ -102,24 +133,25 @@ fn run<L: Ledger>(rt: &impl Abort, alloc: Global, blank: Blank, number: usize) -
 #[test]
 fn streams_see_nothing_of_each_other(rt: HostRuntime) -> Result<(), Fail> {
     for number in 0..SCRIPTS.len() {
-        run::<Brand>(&rt, rt.alloc(), Blank::new(1), number)?;
+        check_script(&rt, rt.alloc(), number)?;
     }
     Ok(())
 }
 
+/// Whether a stream and a scratch of the one list fit the database of the other.
+fn fit(alloc: Global, own: &str, other: &str) -> Result<(bool, bool), Fail> {
+    let own = compiled(alloc, own)?;
+    let other = compiled(alloc, other)?;
+    let stream = opened(alloc, &own)?;
+    let scratch = Scratch::new(alloc, &own)?;
+    Ok((stream.fits(&other), scratch.fits(&other)))
+}
+
 #[test]
 fn fits_its_own_database_alone(rt: HostRuntime) -> Result<(), Fail> {
-    let alloc = rt.alloc();
-    let own = compiled(alloc, "1:/ab/")?;
-    let again = compiled(alloc, "1:/ab/")?;
-    let other = compiled(alloc, "1:/ba/")?;
-    let longer = compiled(alloc, "1:/a/ 2:/b/")?;
-    let stream = Stream::open(alloc, &own)?;
-    assert!(rt; stream.fits(&own) && stream.fits(&again));
-    assert!(rt; !stream.fits(&other) && !stream.fits(&longer));
-    let scratch = Scratch::new(alloc, &own)?;
-    assert!(rt; scratch.fits(&own) && scratch.fits(&other));
-    assert!(rt; !scratch.fits(&longer));
+    assert!(rt; fit(rt.alloc(), "1:/ab/", "1:/ab/")? == (true, true));
+    assert!(rt; fit(rt.alloc(), "1:/ab/", "1:/ba/")? == (false, true));
+    assert!(rt; fit(rt.alloc(), "1:/ab/", "1:/a/ 2:/b/")? == (false, false));
     Ok(())
 }
 

@@ -1,6 +1,7 @@
-use Rattle.std.proofs.Common.{◌+◌, ◌*◌, refl, subst, arith, length-set}
+use Rattle.std.proofs.Common.{◌≡◌, ◌+◌, ◌*◌, ◌<◌, length, true, false, refl, sym, subst, ◌∙◌, arith, length-set}
+use Rattle.std.proofs.lemmas.List.{length-take-le}
 use Rattle.hs_nodes.proofs.EngineLemmas.{blocks-all, blocks-more, blocks-none}
-use Rattle.hs_nodes.proofs.RunLemmas.{ends-more, nowhere-more, nowhere-none, reach-more, word-through}
+use Rattle.hs_nodes.proofs.RunLemmas.{ends-more, nowhere-more, nowhere-none, reach-all, reach-more, steps-more, word-through}
 use Rattle.hs_nodes.proofs.engines.run_engine.Goals as goal
 
 pub loop-j-init : goal.loop-j-init
@@ -10,8 +11,20 @@ loop-j-init g c = record {
   befores = refl;
   behinds = refl;
   nowhere = nowhere-none;
+  steps = omega arith;
   takes = blocks-none (g.E.Engine.meaning c.args.engine.now) c.args.region.now c.args.chunk.now.prev c.args.chunk.now.at c.args.chunk.now.bytes.now c.args.enters.now c.args.null.now _;
 }
+
+pub run-own-requires-clause-well : goal.run-own-requires-clause-well
+run-own-requires-clause-well g c =
+    let low : 64 * c.loop-j.j < length c.args.chunk.now.bytes.now = c.blocks-j-end.ensures.some c.loop-j.j c.loop-j-test.true in
+    subst (λ n. (g.E.Engine.meaning c.args.engine.now).well c.loop-j.region (c.args.chunk.now.at + n)) (length-take-le (64 * c.loop-j.j) c.args.chunk.now.bytes.now (omega (arith, low))) c.loop-j.invariant.well
+
+pub run-own-requires-clause-room : goal.run-own-requires-clause-room
+run-own-requires-clause-room g c = omega (arith, c.args.chunk.now.room, c.block-bytes.ensures.within)
+
+pub run-own-requires-clause-throughout : goal.run-own-requires-clause-throughout
+run-own-requires-clause-throughout g c always = absurd (let both : true ≡ false = sym always ∙ c.requires.listed in cc)
 
 pub loop-j-preserved : goal.loop-j-preserved
 loop-j-preserved g c =
@@ -23,6 +36,9 @@ loop-j-preserved g c =
       befores = simp length-set inv.befores;
       behinds = simp length-set inv.behinds;
       nowhere = nowhere-more _ _ j (j + 1) _ _ refl more inv.nowhere;
+      steps =
+          steps-more (g.E.Engine.meaning c.args.engine.now) _ _ _ _ _ c.args.chunk.now.bytes.now c.block-bytes.result.now c.run-own.result j (j + 1) c.args.steps.now c.loop-j.steps c.run-own.new.steps refl (omega arith) c.block-bytes.ensures.bytes
+          c.run-own.ensures.takes inv.steps;
       takes =
           blocks-more (g.E.Engine.meaning c.args.engine.now) c.args.region.now c.loop-j.region c.run-own.new.region c.args.chunk.now.prev c.prev_before.result c.args.chunk.now.at (c.args.chunk.now.at + 64 * j) c.args.chunk.now.bytes.now c.block-bytes.result.now
           c.args.enters.now c.args.null.now c.loop-j.ends _ j (j + 1) c.run-own.result _ _ _ _ (omega arith) refl c.block-bytes.ensures.bytes refl c.prev_before.ensures c.run-own.ensures.takes (word-through _ _ _) (word-through _ _ _) more (omega (arith, c.blocks-j-end.ensures.few))
@@ -33,3 +49,10 @@ pub returns-clause-takes : goal.returns-clause-takes
 returns-clause-takes g c =
     blocks-all (g.E.Engine.meaning c.args.engine.now) c.args.region.now c.loop-j.region c.args.chunk.now.prev c.args.chunk.now.at c.args.chunk.now.bytes.now c.args.enters.now c.args.null.now c.loop-j.ends c.loop-j.j (omega (arith, c.blocks-j-end.ensures.count))
     c.loop-j.invariant.nowhere c.loop-j.invariant.takes
+
+pub returns-clause-well : goal.returns-clause-well
+returns-clause-well g c =
+    subst (λ n. (g.E.Engine.meaning c.args.engine.now).well c.loop-j.region (c.args.chunk.now.at + n)) (reach-all c.args.chunk.now.bytes.now c.loop-j.j (omega (arith, c.loop-j-test.false, c.blocks-j-end.ensures.count))) c.loop-j.invariant.well
+
+pub returns-clause-ticks : goal.returns-clause-ticks
+returns-clause-ticks g c = omega (arith, reach-all c.args.chunk.now.bytes.now c.loop-j.j (omega (arith, c.loop-j-test.false, c.blocks-j-end.ensures.count)), c.loop-j.invariant.steps)

@@ -1,4 +1,5 @@
 use Rattle.std.proofs.Common.{◌≡◌, ◌≤◌, ◌<◌, ◌+◌, ◌-◌, ℕ, List, length, slice_index, true, refl, suc, inl, inr, sym, subst, ◌∙◌, arith}
+use Rattle.std.proofs.Math.Nat.{mul-le-mul_right}
 use Rattle.hs_nodes.specs.Left.{nowhere}
 use Rattle.hs_nodes.specs.Marks.{is_marked}
 use Rattle.hs_nodes.specs.Nodes.{IsWellPart}
@@ -32,6 +33,9 @@ loop-k-preserved g c =
     c.in-Some.ensures.least inv.walk in record {
       len = c.run_node.ensures.len ∙ inv.len;
       ends = c.run_node.ensures.ends ∙ inv.ends;
+      steps =
+          let up = mul-le-mul_right (length chunk.bytes.now) c.in-Some.ensures.low in
+          omega (arith, up, c.run_node.ensures.ticks, inv.steps);
       walk = elim c.if-not-is_nowhere.branch [
         | then-not-is_nowhere w ↦
             subst (λ (ms : List ℕ). IsWalk m table c.args.region.now c.args.marks.now chunk.prev chunk.at chunk.bytes.now hits c.run_node.new.region c.run_node.new.ends ms (k + 1)) (sym w.marks-is)
@@ -43,6 +47,12 @@ loop-k-preserved g c =
             k (k + 1) refl own.0 own.1 c.in-Some.ensures.is (c.run_node.ensures.runs own.0 own.1) c.run_node.ensures.len (marks-none (length table.nodes.items) c.loop-k.marks inv.walk.more.below) (inl (same-default c.run_node.new.ends k nowhere _ (omega (arith, below, c.run_node.ensures.ends, inv.ends)) ∙ c.is_nowhere.ensures.0 w.if-not-is_nowhere.false)) here)
       ];
     }
+
+pub returns-clause-ticks : goal.returns-clause-ticks
+returns-clause-ticks g c =
+    let inv = c.loop-k.invariant in
+    let up = mul-le-mul_right (length c.args.chunk.now.bytes.now) inv.walk.within in
+    omega (arith, up, inv.steps)
 
 pub returns-clause-well : goal.returns-clause-well
 returns-clause-well g c =
