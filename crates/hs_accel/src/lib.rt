@@ -6,7 +6,5 @@ mod few;
 mod lanes;
 mod nibbles;
 mod search;
-#[cfg(test)]
-mod tests;
 
 pub use search::next_in;

@@ -74,19 +74,3 @@ pub fn is_zero(bytes: &[u8]) -> bool
 {
     bytes.iter().all(|byte| *byte == 0)
 }
-
-#[cfg(test)]
-mod tests {
-    use super::{clear_bits, contains_bit, insert_bit, is_zero};
-
-    #[test]
-    fn the_lowest_bit_of_a_byte_comes_first(rt: HostRuntime) {
-        let mut bytes = [0u8; 3];
-        insert_bit(&mut bytes, 0);
-        insert_bit(&mut bytes, 11);
-        assert_eq!(rt; bytes, [0x01, 0x08, 0x00]);
-        assert!(rt; contains_bit(&bytes, 11) && !contains_bit(&bytes, 3) && !is_zero(&bytes));
-        clear_bits(&mut bytes);
-        assert!(rt; is_zero(&bytes));
-    }
-}

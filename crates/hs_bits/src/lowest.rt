@@ -22,23 +22,3 @@ pub fn without_lowest_bit(word: u64) -> u64
 {
     word & (word - 1)
 }
-
-#[cfg(test)]
-mod tests {
-    use super::{lowest_bit, without_lowest_bit};
-
-    /// A word, its lowest bit, and the word without it.
-    #[test]
-    fn takes_the_bits_of_a_word_in_turn(rt: HostRuntime) {
-        let table = [
-            (1u64, 0, 0u64),
-            (0b1010_0100, 2, 0b1010_0000),
-            (1 << 63 | 1 << 40, 40, 1 << 63),
-            (1 << 63, 63, 0),
-        ];
-        for (word, place, rest) in table {
-            assert_eq!(rt; lowest_bit(word), place);
-            assert_eq!(rt; without_lowest_bit(word), rest);
-        }
-    }
-}

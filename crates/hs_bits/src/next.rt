@@ -59,33 +59,3 @@ fn before(bit: usize, end: usize) -> Option<usize>
 {
     if bit < end { Some(bit) } else { None }
 }
-
-#[cfg(test)]
-mod tests {
-    use super::{next_bit_in, next_bit_in_either};
-
-    /// Each bit of either row, up to the last.
-    #[test]
-    fn finds_each_bit_at_the_edges_of_words(rt: HostRuntime) {
-        let words = [1u64 << 63, 0, 4];
-        let row = [1u64, 1 | 1 << 63, 3];
-        let table = [
-            (0, 0),
-            (1, 63),
-            (63, 63),
-            (64, 64),
-            (65, 127),
-            (127, 127),
-            (128, 128),
-            (129, 129),
-            (130, 130),
-        ];
-        for (from, wanted) in table {
-            assert_eq!(rt; next_bit_in_either(&words, &row, from, 131), Some(wanted));
-        }
-        assert_eq!(rt; next_bit_in_either(&words, &row, 130, 130), None);
-        assert_eq!(rt; next_bit_in_either(&words, &row, 131, 131), None);
-        assert_eq!(rt; next_bit_in(&words, 64, 131), Some(130));
-        assert_eq!(rt; next_bit_in(&row, 65, 127), None);
-    }
-}

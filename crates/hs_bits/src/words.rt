@@ -215,37 +215,3 @@ fn carried(word: u64, distance: usize) -> u64
 {
     (word >> 1) >> (WORD_BITS - 1 - distance)
 }
-
-#[cfg(test)]
-mod tests {
-    use super::{is_unset, unite_bytes, word_at, word_count_for, write_word_bit};
-
-    #[test]
-    fn the_lowest_bit_of_a_word_comes_first(rt: HostRuntime) {
-        let mut words = [0u64; 3];
-        for bit in [0, 63, 64, 130] {
-            write_word_bit(&mut words, bit, true);
-        }
-        write_word_bit(&mut words, 63, false);
-        write_word_bit(&mut words, 129, false);
-        assert_eq!(rt; words, [1, 1, 4]);
-        assert!(rt; !is_unset(&words) && is_unset(&[0, 0]));
-    }
-
-    #[test]
-    fn the_low_byte_of_a_word_comes_first(rt: HostRuntime) {
-        let bytes = [0x01u8, 0x02, 0, 0, 0, 0, 0, 0x80, 0x04, 0x08];
-        assert_eq!(rt; word_at(&bytes, 0), 0x8000_0000_0000_0201);
-        assert_eq!(rt; word_at(&bytes, 2), 0x0804_8000_0000_0000);
-        let mut words = [0x10u64, 0];
-        unite_bytes(&mut words, &bytes);
-        assert_eq!(rt; words, [0x8000_0000_0000_0211, 0x0804]);
-    }
-
-    #[test]
-    fn words_hold_a_bit_for_each(rt: HostRuntime) {
-        for (count, wanted) in [(0, 0), (1, 1), (64, 1), (65, 2), (65_536, 1024)] {
-            assert_eq!(rt; word_count_for(count), wanted);
-        }
-    }
-}

@@ -6,8 +6,6 @@ mod database;
 mod entry;
 mod fault;
 mod seen;
-#[cfg(test)]
-mod tests;
 
 pub use compiler::{MAX_ENTRIES, compile};
 pub use database::Database;

@@ -7,7 +7,7 @@ use hs_bits::{WORD_BITS, contains_word_bit, insert_word_bit};
 use std::alloc::{AllocError, Global};
 
 /// The numbers of each row, rising: its first one, and behind each number the next one of its row.
-#[derive(Debug, Drop)]
+#[derive(Drop)]
 pub(crate) struct Chains {
     /// The first number of each row, or the count of all numbers where the row is empty.
     pub(crate) heads: Vec<usize>,

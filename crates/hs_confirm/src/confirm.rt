@@ -17,7 +17,7 @@ use hs_base::{BUCKETS, LitByte};
 use std::alloc::{AllocError, Global};
 
 /// Literals, each in one of eight buckets, ready to tell which of a bucket end at a place.
-#[derive(Debug, Drop)]
+#[derive(Drop)]
 pub struct Confirm {
     /// The literals, by number.
     pub(crate) entries: Vec<Entry>,

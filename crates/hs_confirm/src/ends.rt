@@ -9,7 +9,7 @@ use crate::keys::{full_text_key, key_row};
 use crate::taking::ends_there;
 
 /// The numbers of the literals of a bucket that end at a place, rising.
-#[derive(Debug, Drop)]
+#[derive(Drop)]
 pub struct Ends<'a> {
     confirm: &'a Confirm,
     /// What stands before `bytes`.

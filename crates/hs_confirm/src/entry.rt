@@ -3,7 +3,7 @@
 use hs_base::LitByte;
 
 /// A literal with its bucket and its key.
-#[derive(Debug, Drop)]
+#[derive(Drop)]
 pub(crate) struct Entry {
     /// What stands at each place.
     pub(crate) literal: Vec<LitByte>,

@@ -12,8 +12,6 @@ mod keys;
 mod place_ends;
 mod plain;
 mod taking;
-#[cfg(test)]
-mod tests;
 mod widths;
 
 pub use confirm::Confirm;

@@ -13,7 +13,7 @@ use hs_base::BUCKETS;
 use hs_bits::{lowest_bit, without_lowest_bit};
 
 /// The numbers of the literals that end at a place, of all buckets that were left open, rising.
-#[derive(Debug, Drop)]
+#[derive(Drop)]
 pub struct PlaceEnds<'a> {
     confirm: &'a Confirm,
     /// What stands before `bytes`.
@@ -29,7 +29,7 @@ pub struct PlaceEnds<'a> {
 }
 
 /// A bucket in which a literal ends.
-#[derive(Clone, Copy, Debug)]
+#[derive(Clone, Copy)]
 struct Head {
     bucket: u8,
     /// The first number of the bucket that ends.

@@ -8,8 +8,6 @@ mod field;
 pub mod laws;
 mod parts;
 mod reading;
-#[cfg(test)]
-mod tests;
 mod writing;
 
 pub use digesting::digest;

@@ -157,35 +157,3 @@ fn class_number(class: Next) -> usize
         Next::Other | Next::End | Next::FinalNewline | Next::Unknown => 2,
     }
 }
-
-#[cfg(test)]
-mod tests {
-    use super::FollowRows;
-    use hs_base::{Next, Prev};
-    use std::test::Fail;
-
-    #[test]
-    fn each_context_has_its_rows(rt: HostRuntime) -> Result<(), Fail> {
-        let mut rows = FollowRows::new(rt.alloc(), 12, true)?;
-        rows.insert(4, 1, 11);
-        let table = [
-            (Prev::Word, Next::Newline, 1, true),
-            (Prev::Word, Next::Newline, 2, false),
-            (Prev::Word, Next::Word, 1, false),
-            (Prev::Newline, Next::Newline, 1, false),
-        ];
-        for (prev, class, position, wanted) in table {
-            let row = rows.row(prev, class, position);
-            assert_eq!(rt; row, [0, if wanted { 8 } else { 0 }].as_slice());
-        }
-        Ok(())
-    }
-
-    #[test]
-    fn rows_take_384_kib_at_most(rt: HostRuntime) -> Result<(), Fail> {
-        let alloc = rt.alloc();
-        assert_eq!(rt; FollowRows::new(alloc, 512, true)?.len(), 384 << 10);
-        assert_eq!(rt; FollowRows::new(alloc, 512, false)?.len(), 32 << 10);
-        Ok(())
-    }
-}

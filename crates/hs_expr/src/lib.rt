@@ -20,6 +20,3 @@ pub use items::{flatten, is_once};
 pub use kind::{Kind, LEAST_LONG_REPEAT, MOST_LITERAL_BYTES, kind_of};
 pub use laws::{items_stay_as_they_are, spans_are_within_widths};
 pub use plain::is_plain;
-
-#[cfg(test)]
-mod tests;

@@ -6,8 +6,6 @@ mod block;
 mod lanes;
 mod plain;
 mod tables;
-#[cfg(test)]
-mod tests;
 
 pub use block::scan_block;
 pub use plain::plain_block;

@@ -8,8 +8,6 @@ mod clear;
 mod grouping;
 mod laws;
 mod masks;
-#[cfg(test)]
-mod tests;
 
 pub use building::build;
 pub use laws::{no_end_is_masked, no_end_is_masked_in_blocks};

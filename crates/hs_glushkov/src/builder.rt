@@ -165,20 +165,3 @@ fn null_of_copies(least: u32, null: Mask) -> Mask
 {
     if least == 0 { Mask::all() } else { null }
 }
-
-#[cfg(test)]
-mod tests {
-    use super::build;
-    use hs_base::{ByteSet, Mask};
-    use hs_expr::Expr;
-    use std::test::Fail;
-
-    #[test]
-    fn one_byte_is_one_position(rt: HostRuntime) -> Result<(), Fail> {
-        let automaton = build(rt.alloc(), &Expr::Class(ByteSet::of(b'a')))?;
-        assert_eq!(rt; automaton.sets(), [ByteSet::of(b'a')].as_slice());
-        assert_eq!(rt; automaton.accepts(), [Mask::all()].as_slice());
-        assert!(rt; automaton.null() == Mask::empty() && !automaton.has_assertion());
-        Ok(())
-    }
-}

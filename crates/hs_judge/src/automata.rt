@@ -1,13 +1,11 @@
 //! `Limex` beside its twin `Plain`, over automata that no expression has: the same bits behind each byte, and the same
 //! answers. It is `#[cfg(test)]`.
-ghost use Rattle.std.specs.Prelude.{◌≤◌, ◌<◌, ◌^◌, length};
-
 use crate::cases::{Verdict, ensure};
-use crate::spans::run;
+use crate::spans::{is_at_rest, run};
 use hs_base::{Assertion, ByteSet, Mask, Next, NextSet};
 use hs_engine::{Automaton, Engine, FollowRows};
 use hs_limex::{Limex, Plain};
-use std::alloc::Global;
+use std::alloc::{AllocError, Global};
 use std::test::Fail;
 
 /// The mask of a number: of an assertion, of all contexts or of none.
@@ -56,10 +54,11 @@ fn fill_square(rows: &mut FollowRows, square: usize, step: usize) {
     }
 }
 
-/// What follows what, in the contexts of each square.
-fn follows(alloc: Global, size: usize, step: usize, by_context: bool) -> Result<FollowRows, Fail>
-    requires { size ≤ 512 }
-{
+/// What follows what, in the contexts of each square, of at most 512 positions.
+fn follows(alloc: Global, size: usize, step: usize, by_context: bool) -> Result<FollowRows, Fail> {
+    if size > 512 {
+        return Err("too many positions".into());
+    }
     let mut rows = FollowRows::new(alloc, size, by_context)?;
     for square in 0..rows.square_count() {
         fill_square(&mut rows, square, step);
@@ -67,24 +66,47 @@ fn follows(alloc: Global, size: usize, step: usize, by_context: bool) -> Result<
     Ok(rows)
 }
 
-/// An automaton of so many positions, at most 512.
-fn automaton(alloc: Global, size: usize, step: usize, by_context: bool) -> Result<Automaton, Fail>
-    requires { size ≤ 512 }
-{
-    let mut sets = vec![in alloc; ByteSet::EMPTY; size]?;
-    let mut enters = vec![in alloc; Mask::empty(); size]?;
-    let mut accepts = vec![in alloc; Mask::empty(); size]?;
+/// The set of each position.
+fn sets_of(alloc: Global, size: usize, step: usize) -> Result<Vec<ByteSet>, AllocError> {
+    let mut sets = Vec::new(alloc);
     for position in 0..size {
-        sets[position] = set_of(position.wrapping_add(step));
-        enters[position] = mask_of(1 + 3 * position);
-        accepts[position] = mask_of(step.wrapping_add(3 * position));
+        sets.push(set_of(position.wrapping_add(step)))?;
     }
+    Ok(sets)
+}
+
+/// A mask for each position, from that number on.
+fn masks_of(alloc: Global, size: usize, first: usize) -> Result<Vec<Mask>, AllocError> {
+    let mut masks = Vec::new(alloc);
+    for position in 0..size {
+        masks.push(mask_of(first.wrapping_add(position.wrapping_mul(3))))?;
+    }
+    Ok(masks)
+}
+
+/// The automaton of these parts, if they are of one size.
+fn automaton_of(
+    sets: Vec<ByteSet>,
+    enters: Vec<Mask>,
+    accepts: Vec<Mask>,
+    follows: FollowRows,
+    by_context: bool,
+) -> Option<Automaton> {
+    let size = sets.len();
+    if size <= 512 && enters.len() == size && accepts.len() == size && follows.size() == size {
+        Some(Automaton::new(sets, enters, accepts, follows, Mask::empty(), by_context))
+    } else {
+        None
+    }
+}
+
+/// An automaton of so many positions, at most 512.
+fn automaton(alloc: Global, size: usize, step: usize, by_context: bool) -> Result<Automaton, Fail> {
     let follows = follows(alloc, size, step, by_context)?;
-    if follows.size() != size {
-        return Err(Fail::new("rows of another size"));
-    }
-    let null = Mask::empty();
-    Ok(Automaton::new(sets, enters, accepts, follows, null, by_context))
+    let sets = sets_of(alloc, size, step)?;
+    let (enters, accepts) = (masks_of(alloc, size, 1)?, masks_of(alloc, size, step)?);
+    let automaton = automaton_of(sets, enters, accepts, follows, by_context);
+    Ok(automaton.ok_or("parts of other sizes")?)
 }
 
 /// How many positions, and how far on a position is followed.
@@ -112,18 +134,32 @@ const TEXTS: [&str; 5] = [
     "aaaaaaaaaaaaaaaaaaaaaaaa",
 ];
 
+/// What an engine that is entered at each offset says behind the text: what may come next, its region, and whether
+/// that is at rest.
+fn behind<E: Engine>(
+    alloc: Global,
+    engine: &E,
+    text: &[u8],
+) -> Result<(NextSet, Vec<u8>, Option<bool>), Fail> {
+    let (left, region) = run(alloc, engine, text, u64::MAX, NextSet::of(Next::Word))?;
+    let rests = is_at_rest(engine, &region);
+    Ok((left, region, rests))
+}
+
 /// Compares the regions and the answers behind the text.
-fn compare(alloc: Global, plain: &Plain, limex: &Limex, text: &[u8]) -> Verdict
-    requires { length text.now < 2 ^ 63 }
-{
-    let word = NextSet::of(Next::Word);
-    let (wanted, region) = run(alloc, plain, text, u64::MAX, word)?;
-    let (found, behind) = run(alloc, limex, text, u64::MAX, word)?;
-    let rests = behind.len() == limex.size()
-        && region.len() == plain.size()
-        && limex.at_rest(&behind) == plain.at_rest(&region);
-    let what = format_args!("{behind:?} in place of {region:?} behind {text:?}");
-    ensure(rests && found == wanted && behind == region, what)
+fn compare(alloc: Global, plain: &Plain, limex: &Limex, text: &[u8]) -> Verdict {
+    let wanted = behind(alloc, plain, text)?;
+    let found = behind(alloc, limex, text)?;
+    let what = format_args!("{found:?} in place of {wanted:?} behind {text:?}");
+    ensure(found == wanted, what)
+}
+
+/// Compares the engines of an automaton over each beginning of the text.
+fn compare_all(alloc: Global, plain: &Plain, limex: &Limex, text: &[u8]) -> Verdict {
+    for cut in 0..=text.len() {
+        compare(alloc, plain, limex, &text[..cut])?;
+    }
+    Ok(())
 }
 
 /// Compares the engines of an automaton over each text.
@@ -131,9 +167,7 @@ fn judge_automaton(alloc: Global, automaton: &Automaton) -> Verdict {
     let plain = Plain::build(alloc, automaton)?;
     let limex = Limex::build(alloc, automaton)?;
     for text in TEXTS {
-        for cut in 0..=text.len() {
-            compare(alloc, &plain, &limex, &text.as_bytes()[..cut])?;
-        }
+        compare_all(alloc, &plain, &limex, text.as_bytes())?;
     }
     Ok(())
 }
@@ -141,9 +175,6 @@ fn judge_automaton(alloc: Global, automaton: &Automaton) -> Verdict {
 /// Compares the engines of each automaton, whose rows go by the context and don't.
 pub(crate) fn judge_automata(alloc: Global) -> Verdict {
     for (size, step) in AUTOMATA {
-        if size > 512 {
-            return Err(Fail::new("too many positions"));
-        }
         for by_context in [false, true] {
             judge_automaton(alloc, &automaton(alloc, size, step, by_context)?)?;
         }

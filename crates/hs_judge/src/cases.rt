@@ -6,7 +6,7 @@ use hs_parse::parse;
 use hs_plain::{Pattern, match_reports, reports};
 use hs_rows::Text;
 use hs_text::read_list;
-use std::alloc::Global;
+use std::alloc::{AllocError, Global};
 use std::fmt::Display;
 use std::test::Fail;
 
@@ -31,16 +31,26 @@ impl Answer {
     /// The reports of the stream as the definitions have them.
     pub(crate) fn of(alloc: Global, patterns: &[Pattern], stream: &[u8]) -> Result<Answer, Fail> {
         let found = match_reports(alloc, patterns, stream)?;
-        let mut counts = Vec::new(alloc);
-        for len in 0..=stream.len() {
-            counts.push(reports(alloc, patterns, &stream[..len], false)?.len())?;
-        }
         Ok(Answer {
             told: found.told,
             last: found.last,
-            counts,
+            counts: counts_of(alloc, patterns, stream)?,
         })
     }
+}
+
+/// How many reports the bytes decide.
+fn count_of(alloc: Global, patterns: &[Pattern], bytes: &[u8]) -> Result<usize, AllocError> {
+    Ok(reports(alloc, patterns, bytes, false)?.len())
+}
+
+/// How many reports each beginning of the stream decides.
+fn counts_of(alloc: Global, patterns: &[Pattern], bytes: &[u8]) -> Result<Vec<usize>, AllocError> {
+    let mut counts = Vec::new(alloc);
+    for len in 0..=bytes.len() {
+        counts.push(count_of(alloc, patterns, &bytes[..len])?)?;
+    }
+    Ok(counts)
 }
 
 /// A list over one stream.
@@ -55,6 +65,17 @@ pub(crate) struct Case {
 }
 
 impl Case {
+    /// The bytes from the one offset to the other.
+    pub(crate) fn piece(&self, start: usize, end: usize) -> Result<&[u8], Fail> {
+        Ok(self.stream.bytes.get(start..end).ok_or("no such piece")?)
+    }
+
+    /// The reports that the first so many bytes decide.
+    pub(crate) fn told_behind(&self, len: usize) -> Result<&[Report], Fail> {
+        let count = self.wanted.counts.get(len).ok_or("no such offset")?;
+        Ok(self.wanted.told.get(..*count).ok_or("no such reports")?)
+    }
+
     /// Fails where the reports aren't those that are wanted.
     pub(crate) fn same(&self, what: &str, found: &[Report], wanted: &[Report]) -> Verdict {
         let (name, is_same) = (self.name.as_str(), found == wanted);
@@ -91,6 +112,21 @@ pub(crate) fn patterns_of(alloc: Global, entries: &[Entry]) -> Result<Vec<Patter
     Ok(patterns)
 }
 
+impl Case {
+    /// The list of these lines over the stream.
+    fn of(alloc: Global, lines: &str, patterns: &[Pattern], stream: &Text) -> Result<Case, Fail> {
+        let bytes = Vec::from_slice(alloc, &stream.bytes)?;
+        let name = format!(in alloc; "{bytes:?} by {lines}")?;
+        let wanted = Answer::of(alloc, patterns, &bytes)?;
+        let cuts = stream.cuts;
+        Ok(Case {
+            name,
+            stream: Text { bytes, cuts },
+            wanted,
+        })
+    }
+}
+
 impl List {
     /// The list that the lines of a pattern file are, over the streams.
     pub(crate) fn of(alloc: Global, lines: &[u8], streams: &[Text]) -> Result<List, Fail> {
@@ -99,15 +135,7 @@ impl List {
         let text = std::str::from_utf8(lines)?;
         let mut cases = Vec::new(alloc);
         for stream in streams {
-            let bytes = Vec::from_slice(alloc, &stream.bytes)?;
-            cases.push(Case {
-                name: format!(in alloc; "{bytes:?} by {text}")?,
-                wanted: Answer::of(alloc, &patterns, &bytes)?,
-                stream: Text {
-                    bytes,
-                    cuts: stream.cuts,
-                },
-            })?;
+            cases.push(Case::of(alloc, text, &patterns, stream)?)?;
         }
         Ok(List {
             entries,
@@ -126,18 +154,23 @@ fn write_reports(text: &mut String, reports: &[Report]) -> Verdict {
     Ok(())
 }
 
+/// Appends the reports that the byte before that offset decides, and its cut.
+fn write_told(text: &mut String, case: &Case, shown: usize, len: usize) -> Result<usize, Fail> {
+    let told = case.told_behind(len)?;
+    write_reports(text, told.get(shown..).ok_or("no such reports")?)?;
+    if is_cut(case.stream.cuts, len) {
+        text.push_str(" ~")?;
+    }
+    Ok(told.len())
+}
+
 /// The reports that are wanted, as a row has them.
 pub(crate) fn written(alloc: Global, case: &Case) -> Result<String, Fail> {
     let mut text = String::new(alloc);
     let wanted = &case.wanted;
     let mut shown = 0;
-    for (len, count) in wanted.counts.iter().enumerate() {
-        let told = wanted.told.get(shown..*count).ok_or("no such reports")?;
-        write_reports(&mut text, told)?;
-        shown = *count;
-        if is_cut(case.stream.cuts, len) {
-            text.push_str(" ~")?;
-        }
+    for len in 0..wanted.counts.len() {
+        shown = write_told(&mut text, case, shown, len)?;
     }
     if !wanted.last.is_empty() {
         text.push_str(" |")?;

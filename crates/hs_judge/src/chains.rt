@@ -5,7 +5,7 @@ use hs_base::{Entry, LitByte};
 use hs_expr::Expr;
 use hs_pieces::{Chain, Piece, split};
 use hs_plain::Pattern;
-use std::alloc::Global;
+use std::alloc::{AllocError, Global};
 use std::test::Fail;
 
 /// Appends a literal, with a capital where both cases count.
@@ -34,17 +34,27 @@ fn write_pieces(text: &mut String, pieces: &[Piece]) -> Verdict {
     Ok(())
 }
 
+/// The chains of the expression.
+fn chains_of(alloc: Global, expr: &Expr) -> Result<Vec<Chain>, AllocError> {
+    split(alloc, expr)
+}
+
+/// Appends a chain, ended by `;`.
+fn write_chain(text: &mut String, chain: &Chain) -> Verdict {
+    if chain.begins_with_look_back() {
+        text.push('~')?;
+    }
+    write_pieces(text, &chain.0)?;
+    Ok(text.push(';')?)
+}
+
 /// The chains of the expression, each ended by `;`, with `~` in front where its first piece is a look-back piece: a
 /// literal in quotes, `e` for an expression, and `r` for a repeat.
 pub(crate) fn written(alloc: Global, expr: &Expr) -> Result<String, Fail> {
     let mut text = String::new(alloc);
     text.push(' ')?;
-    for chain in &split(alloc, expr)? {
-        if chain.begins_with_look_back() {
-            text.push('~')?;
-        }
-        write_pieces(&mut text, &chain.0)?;
-        text.push(';')?;
+    for chain in &chains_of(alloc, expr)? {
+        write_chain(&mut text, chain)?;
     }
     Ok(text)
 }
@@ -77,13 +87,14 @@ fn meaning_of_chain(alloc: Global, chain: &Chain) -> Result<Expr, Fail> {
 
 /// Whether the chains of the expression are one of one piece.
 pub(crate) fn is_one_piece(alloc: Global, expr: &Expr) -> Result<bool, Fail> {
-    Ok(matches!(split(alloc, expr)?.as_slice(), [chain] if chain.0.len() == 1))
+    let chains = chains_of(alloc, expr)?;
+    Ok(chains.len() == 1 && chains[0].0.len() == 1)
 }
 
 /// The expression that the chains of an expression stand for together.
 pub(crate) fn together(alloc: Global, expr: &Expr) -> Result<Expr, Fail> {
     let mut alternatives = Vec::new(alloc);
-    for chain in &split(alloc, expr)? {
+    for chain in &chains_of(alloc, expr)? {
         alternatives.push(meaning_of_chain(alloc, chain)?)?;
     }
     Ok(Expr::Alt(alternatives))

@@ -1,11 +1,12 @@
 //! A row through all that is judged. It is `#[cfg(test)]`.
 
-use crate::cases::{Answer, List, Verdict, ensure, written};
+use crate::cases::{Answer, Case, List, Verdict, ensure, written};
 use crate::chains;
 use crate::engines::{Question, ask_each, automaton_of};
 use crate::reading::{lines_of, numbered, streams_of};
 use crate::spans::Spans;
 use crate::streaming::judge_streams;
+use hs_base::{Entry, ExprId, Refusal};
 use hs_compile::{CompileFault, compile};
 use hs_expr::Expr;
 use hs_rows::{Row, Text, rows_of};
@@ -34,6 +35,13 @@ fn judge_list(alloc: Global, list: &List, is_mixed: bool) -> Verdict {
     judge_streams(alloc, list)
 }
 
+/// Compares the spans of an expression's chains with those of the expression.
+fn judge_split(alloc: Global, name: &str, expr: &Expr, text: &[u8], spans: &Spans) -> Verdict {
+    let split = Spans::of(alloc, name, &chains::together(alloc, expr)?, text)?;
+    let what = format_args!("the chains in {text:?}, of {name}");
+    ensure(split.lefts == spans.lefts, what)
+}
+
 /// Judges an expression that is entered anywhere.
 pub(crate) fn judge_expression(alloc: Global, name: &str, expr: &Expr, text: &[u8]) -> Verdict {
     let spans = Spans::of(alloc, name, expr, text)?;
@@ -41,9 +49,15 @@ pub(crate) fn judge_expression(alloc: Global, name: &str, expr: &Expr, text: &[u
     if chains::is_one_piece(alloc, expr)? {
         return Ok(());
     }
-    let split = Spans::of(alloc, name, &chains::together(alloc, expr)?, text)?;
-    let what = format_args!("the chains in {text:?}, of {name}");
-    ensure(split.lefts == spans.lefts, what)
+    judge_split(alloc, name, expr, text, &spans)
+}
+
+/// Judges an expression that is entered anywhere, over each stream.
+fn judge_over(alloc: Global, expr: &Expr, cases: &[Case]) -> Verdict {
+    for case in cases {
+        judge_expression(alloc, &case.name, expr, &case.stream.bytes)?;
+    }
+    Ok(())
 }
 
 /// Judges an expression as a list of its own, and entered anywhere.
@@ -51,9 +65,7 @@ fn judge_alone(alloc: Global, word: &[Vec<u8>], streams: &[Text]) -> Verdict {
     let list = List::of(alloc, &numbered(alloc, word, 0, b"V")?, streams)?;
     judge_list(alloc, &list, false)?;
     for pattern in &list.patterns {
-        for case in &list.cases {
-            judge_expression(alloc, &case.name, &pattern.expr, &case.stream.bytes)?;
-        }
+        judge_over(alloc, &pattern.expr, &list.cases)?;
     }
     Ok(())
 }
@@ -93,41 +105,65 @@ fn judge_leaves(alloc: Global, words: &[Vec<u8>], streams: &[Text], wanted: bool
     Ok(())
 }
 
-/// The line of a list's refusal, behind a blank, or nothing where it isn't refused.
-fn refusal_of(alloc: Global, lines: &[u8]) -> Result<String, Fail> {
-    let mut text = String::new(alloc);
-    let entries = read_list(alloc, lines)?;
-    if let Err(CompileFault::Refused { entry, id, refusal }) = compile(alloc, &entries) {
-        let mut buf = [0; LINE_LEN];
-        let len = refusal_line(Some((entry, id)), &refusal, &mut buf);
-        text.push(' ')?;
-        text.push_str(std::str::from_utf8(&buf[..len - 1])?)?;
+/// The entry, the identifier and the reason of a list's refusal, if it is refused.
+fn refusal_of(alloc: Global, entries: &[Entry]) -> Option<(u32, ExprId, Refusal)> {
+    match compile(alloc, entries) {
+        Err(CompileFault::Refused { entry, id, refusal }) => Some((entry, id, refusal)),
+        _ => None,
     }
-    Ok(text)
+}
+
+/// The line of a refusal, behind a blank.
+fn line_of(alloc: Global, entry: u32, id: ExprId, refusal: &Refusal) -> Result<String, Fail> {
+    let mut buf = [0; LINE_LEN];
+    let len = refusal_line(Some((entry, id)), refusal, &mut buf);
+    let line = std::str::from_utf8(&buf[..len])?;
+    Ok(format!(in alloc; " {}", line.trim_end())?)
+}
+
+/// The line of a list's refusal, behind a blank, or nothing where it isn't refused.
+fn refusal_in(alloc: Global, lines: &[u8]) -> Result<String, Fail> {
+    match refusal_of(alloc, &read_list(alloc, lines)?) {
+        Some((entry, id, refusal)) => line_of(alloc, entry, id, &refusal),
+        None => Ok(String::new(alloc)),
+    }
+}
+
+/// How many positions the automaton of an expression has, or how many bytes its tables.
+fn count_of(alloc: Global, expr: &Expr, is_of_tables: bool) -> Result<usize, Fail> {
+    let automaton = automaton_of(alloc, expr)?.ok_or("no automaton")?;
+    if is_of_tables {
+        Ok(automaton.tables_len())
+    } else {
+        Ok(automaton.size())
+    }
 }
 
 /// What is found of the row's list or expression, as a row has it.
 fn found(alloc: Global, head: &[u8], words: &[Vec<u8>]) -> Result<String, Fail> {
-    match head {
-        b"refused" => refusal_of(alloc, &lines_of(alloc, words)?),
-        b"split" => chains::written(alloc, &expression_of(alloc, words)?),
-        _ => {
-            let automaton = automaton_of(alloc, &expression_of(alloc, words)?)?;
-            let automaton = automaton.ok_or("no automaton")?;
-            let number = if head == b"positions".as_slice() {
-                automaton.size()
-            } else {
-                automaton.tables_len()
-            };
-            Ok(format!(in alloc; " {number}")?)
-        }
+    if head == b"refused".as_slice() {
+        return refusal_in(alloc, &lines_of(alloc, words)?);
     }
+    let expr = expression_of(alloc, words)?;
+    if head == b"split".as_slice() {
+        return chains::written(alloc, &expr);
+    }
+    let count = count_of(alloc, &expr, head == b"tables".as_slice())?;
+    Ok(format!(in alloc; " {count}")?)
 }
 
 /// Fails where the text isn't the one that is wanted.
 fn same(found: &str, wanted: &[u8], words: &[Vec<u8>]) -> Verdict {
     let what = format_args!("{found} isn't wanted of {words:?}");
     ensure(found.as_bytes() == wanted, what)
+}
+
+/// Fails where the list has other reports than those that are wanted.
+fn same_reports(alloc: Global, list: &List, wanted: &[u8], words: &[Vec<u8>]) -> Verdict {
+    for case in &list.cases {
+        same(&written(alloc, case)?, wanted, words)?;
+    }
+    Ok(())
 }
 
 /// Judges a list with identifiers: it has these reports, if some are wanted.
@@ -139,12 +175,40 @@ fn judge_written(
     wanted: Option<&[u8]>,
 ) -> Verdict {
     let list = List::of(alloc, &lines_of(alloc, words)?, streams)?;
-    for case in &list.cases {
-        if let Some(wanted) = wanted {
-            same(&written(alloc, case)?, wanted, words)?;
-        }
+    if let Some(wanted) = wanted {
+        same_reports(alloc, &list, wanted, words)?;
     }
     judge_list(alloc, &list, is_mixed)
+}
+
+/// Judges the expressions of the row as one list, whose identifiers rise, and fall.
+fn judge_varied(alloc: Global, words: &[Vec<u8>], streams: &[Text]) -> Verdict {
+    judge_steps(alloc, words, 1, streams)?;
+    judge_steps(alloc, words, u32::MAX, streams)
+}
+
+/// What the word in front of a row asks.
+enum Kind {
+    Each,
+    Same,
+    Vary,
+    Leaves,
+    Found,
+    Written,
+}
+
+impl Kind {
+    /// What that word asks.
+    fn of(head: &[u8]) -> Kind {
+        match head {
+            b"each" => Kind::Each,
+            b"same" => Kind::Same,
+            b"vary" => Kind::Vary,
+            b"leaves" => Kind::Leaves,
+            b"refused" | b"split" | b"positions" | b"tables" => Kind::Found,
+            _ => Kind::Written,
+        }
+    }
 }
 
 /// Judges a row over the streams.
@@ -152,20 +216,13 @@ fn judge_row(alloc: Global, row: &Row, streams: &[Text]) -> Verdict {
     let words = row.words.as_slice();
     let head = words.first().ok_or("a row without words")?.as_slice();
     let wanted = row.wanted.as_deref();
-    match (head, wanted) {
-        (b"each", _) => judge_each(alloc, words, streams),
-        (b"same", _) => judge_steps(alloc, words, 0, streams),
-        (b"vary", _) => {
-            judge_steps(alloc, words, 1, streams)?;
-            judge_steps(alloc, words, u32::MAX, streams)
-        }
-        (b"leaves", Some(wanted)) => {
-            judge_leaves(alloc, words, streams, wanted == b" yes".as_slice())
-        }
-        (b"refused" | b"split" | b"positions" | b"tables", Some(wanted)) => {
-            same(&found(alloc, head, words)?, wanted, words)
-        }
-        _ => judge_written(alloc, words, head == b"mixed".as_slice(), streams, wanted),
+    match Kind::of(head) {
+        Kind::Each => judge_each(alloc, words, streams),
+        Kind::Same => judge_steps(alloc, words, 0, streams),
+        Kind::Vary => judge_varied(alloc, words, streams),
+        Kind::Leaves => judge_leaves(alloc, words, streams, wanted == Some(b" yes".as_slice())),
+        Kind::Found => same(&found(alloc, head, words)?, wanted.unwrap_or(b""), words),
+        Kind::Written => judge_written(alloc, words, head == b"mixed".as_slice(), streams, wanted),
     }
 }
 

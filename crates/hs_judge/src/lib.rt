@@ -1,6 +1,6 @@
 //! One judge for all that scans: rows of lists and streams, each run through the definitions as `hs_plain` computes
 //! them, through every engine that takes the expressions, through the runner and the streams in many cuts, and split
-//! into chains. `rows` has the rows and says how they are written. The crate is tests alone.
+//! into chains. `stream_rows` of `hs_rows` has the rows and says how they are written. The crate is tests alone.
 #![tactic(auto)]
 
 #[cfg(test)]
@@ -16,7 +16,7 @@ mod judging;
 #[cfg(test)]
 mod reading;
 #[cfg(test)]
-mod rows;
+mod regions;
 #[cfg(test)]
 mod running;
 #[cfg(test)]

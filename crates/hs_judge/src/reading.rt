@@ -2,14 +2,19 @@
 
 use crate::cases::Verdict;
 use hs_rows::{Text, number_of, text_of};
-use std::alloc::Global;
+use std::alloc::{AllocError, Global};
 use std::test::Fail;
 
 /// The length of the longest texts that `<<bytes>>` stands for.
 const LONGEST: usize = 4;
 
 /// Adds the stream continued by each of the bytes.
-fn add_longer(alloc: Global, alphabet: &[u8], stream: &[u8], streams: &mut Vec<Text>) -> Verdict {
+fn add_longer(
+    alloc: Global,
+    alphabet: &[u8],
+    stream: &[u8],
+    streams: &mut Vec<Text>,
+) -> Result<(), AllocError> {
     for byte in alphabet {
         let mut bytes = Vec::from_slice(alloc, stream)?;
         bytes.push(*byte)?;
@@ -18,14 +23,25 @@ fn add_longer(alloc: Global, alphabet: &[u8], stream: &[u8], streams: &mut Vec<T
     Ok(())
 }
 
+/// The bytes of the stream of that number, if it is there.
+fn stream_at(
+    alloc: Global,
+    streams: &[Text],
+    number: usize,
+) -> Result<Option<Vec<u8>>, AllocError> {
+    match streams.get(number) {
+        Some(stream) => Ok(Some(Vec::from_slice(alloc, &stream.bytes)?)),
+        None => Ok(None),
+    }
+}
+
 /// Adds each text of at most four of the bytes.
 fn add_all(alloc: Global, alphabet: &[u8], streams: &mut Vec<Text>) -> Verdict {
     let first = streams.len();
     streams.push(text_of(alloc, b"")?)?;
     for number in first..1_000 {
-        let stream = match streams.get(number) {
-            Some(stream) => Vec::from_slice(alloc, &stream.bytes)?,
-            None => break,
+        let Some(stream) = stream_at(alloc, streams, number)? else {
+            break;
         };
         if stream.len() < LONGEST {
             add_longer(alloc, alphabet, &stream, streams)?;
@@ -60,12 +76,17 @@ fn write_line(alloc: Global, lines: &mut Vec<u8>, id: u32, parts: [&[u8]; 3]) ->
     Ok(())
 }
 
+/// What stands before the first such mark of the word, and the rest from there on.
+fn halves(word: &[u8], mark: u8) -> Option<(&[u8], &[u8])> {
+    let at = word.iter().position(|byte| *byte == mark)?;
+    Some((&word[..at], &word[at..]))
+}
+
 /// The identifiers that stand before the mark of the word, the first and the last, and what begins with the mark.
 fn identifiers(word: &[u8]) -> Option<(u32, u32, &[u8])> {
-    let mark = word.iter().position(|byte| *byte == b':')?;
-    let (ids, rest) = (&word[..mark], &word[mark..]);
-    match ids.iter().position(|byte| *byte == b'-') {
-        Some(at) => Some((number_of(&ids[..at])?, number_of(&ids[at + 1..])?, rest)),
+    let (ids, rest) = halves(word, b':')?;
+    match halves(ids, b'-') {
+        Some((first, last)) => Some((number_of(first)?, number_of(last.get(1..)?)?, rest)),
         None => {
             let id = number_of(ids)?;
             Some((id, id, rest))

@@ -20,6 +20,14 @@ pub(crate) struct Log<L: Ledger> {
     pub(crate) steps: Steps<L>,
 }
 
+impl<L: Ledger> Log<L> {
+    /// Nothing is told from here on.
+    fn renew(&mut self, alloc: Global) -> Result<(), AllocError> {
+        self.told = Collected::new(alloc, ROOM)?;
+        Ok(())
+    }
+}
+
 /// What a list is made to, so that streams are scanned for it.
 pub(crate) trait Scanner {
     /// What is kept of a stream.
@@ -77,6 +85,20 @@ fn cuts_of(alloc: Global, stream: &Text) -> Result<Vec<Vec<usize>>, AllocError> 
     Ok(all)
 }
 
+/// Takes a piece of the case's stream, and compares what is told so far.
+fn take_piece<S: Scanner, L: Ledger>(
+    scanner: &S,
+    case: &Case,
+    start: usize,
+    end: usize,
+    stream: &mut S::Stream,
+    log: &mut Log<L>,
+) -> Verdict {
+    scanner.take(stream, case.piece(start, end)?, log)?;
+    case.same("with a piece", log.told.reports(), case.told_behind(end)?)?;
+    ensure(scanner.offset(stream) == end as u64, "another offset")
+}
+
 /// Takes the case's stream in pieces that end there.
 fn take_pieces<S: Scanner, L: Ledger>(
     scanner: &S,
@@ -87,12 +109,7 @@ fn take_pieces<S: Scanner, L: Ledger>(
 ) -> Verdict {
     let mut start = 0;
     for end in ends {
-        let piece = case.stream.bytes.get(start..*end).ok_or("no such piece")?;
-        scanner.take(stream, piece, log)?;
-        let count = case.wanted.counts.get(*end).ok_or("no such offset")?;
-        let so_far = case.wanted.told.get(..*count).ok_or("no such reports")?;
-        case.same("with a piece", log.told.reports(), so_far)?;
-        ensure(scanner.offset(stream) == *end as u64, "another offset")?;
+        take_piece(scanner, case, start, *end, stream, log)?;
         start = *end;
     }
     case.same("with all", log.told.reports(), &case.wanted.told)
@@ -107,20 +124,33 @@ fn judge_cut<S: Scanner, L: Ledger>(
     log: &mut Log<L>,
 ) -> Verdict {
     let mut stream = scanner.open(alloc)?;
-    log.told = Collected::new(alloc, ROOM)?;
+    log.renew(alloc)?;
     take_pieces(scanner, case, ends, &mut stream, log)?;
-    log.told = Collected::new(alloc, ROOM)?;
+    log.renew(alloc)?;
     scanner.reset(&mut stream, log)?;
     case.same("with a reset", log.told.reports(), &case.wanted.last)?;
-    log.told = Collected::new(alloc, ROOM)?;
+    log.renew(alloc)?;
     take_pieces(scanner, case, ends, &mut stream, log)?;
-    log.told = Collected::new(alloc, ROOM)?;
+    log.renew(alloc)?;
     scanner.close(stream, log)?;
     case.same("with the end", log.told.reports(), &case.wanted.last)
 }
 
 /// Scans the case's stream in many cuts.
 fn judge_cuts<S: Scanner, L: Ledger>(
+    alloc: Global,
+    scanner: &S,
+    case: &Case,
+    log: &mut Log<L>,
+) -> Verdict {
+    for ends in &cuts_of(alloc, &case.stream)? {
+        judge_cut(alloc, scanner, case, ends, log)?;
+    }
+    Ok(())
+}
+
+/// Scans the case's stream in many cuts, and counts the steps in a ledger of its own.
+fn judge_counted<S: Scanner, L: Ledger>(
     alloc: Global,
     scanner: &S,
     case: &Case,
@@ -134,16 +164,13 @@ fn judge_cuts<S: Scanner, L: Ledger>(
         told: Collected::new(alloc, ROOM)?,
         steps: Steps::<L>::open(blank),
     };
-    for ends in &cuts_of(alloc, &case.stream)? {
-        judge_cut(alloc, scanner, case, ends, &mut log)?;
-    }
-    Ok(())
+    judge_cuts(alloc, scanner, case, &mut log)
 }
 
 /// Compares what is told of the streams with what is wanted.
 pub(crate) fn judge_cases<S: Scanner>(alloc: Global, scanner: &S, cases: &[Case]) -> Verdict {
     for case in cases {
-        judge_cuts::<S, Brand>(alloc, scanner, case, Blank::new(1))?;
+        judge_counted::<S, Brand>(alloc, scanner, case, Blank::new(1))?;
     }
     Ok(())
 }

@@ -37,16 +37,30 @@ pub(crate) struct Spans {
     pub(crate) lefts: Vec<Vec<NextSet>>,
 }
 
+/// Whether the expression, entered at the offset, ends behind the text where these bytes follow.
+fn ends_behind(
+    alloc: Global,
+    expr: &Expr,
+    text: &[u8],
+    from: usize,
+    after: (Next, &str, bool),
+) -> Result<bool, Fail>
+    requires { from ≤ length text.now }
+{
+    let (_next, bytes, ended) = after;
+    let mut stream = text.to_vec(alloc)?;
+    stream.extend_from_slice(bytes.as_bytes())?;
+    Ok(ends_of(alloc, expr, &stream, ended, from)?.contains(text.len()))
+}
+
 /// What may come next where the expression, entered at the offset, ends behind the text.
 fn left_from(alloc: Global, expr: &Expr, text: &[u8], from: usize) -> Result<NextSet, Fail>
     requires { from ≤ length text.now }
 {
     let mut left = NextSet::empty();
-    for (next, bytes, ended) in AFTER {
-        let mut stream = text.to_vec(alloc)?;
-        stream.extend_from_slice(bytes.as_bytes())?;
-        if ends_of(alloc, expr, &stream, ended, from)?.contains(text.len()) {
-            left = left.union(NextSet::of(next));
+    for after in AFTER {
+        if ends_behind(alloc, expr, text, from, after)? {
+            left = left.union(NextSet::of(after.0));
         }
     }
     Ok(left)
@@ -131,6 +145,15 @@ pub(crate) fn run<E: Engine>(
     Ok((left, region))
 }
 
+/// Whether the region is at rest, if it is one of the engine's length.
+pub(crate) fn is_at_rest<E: Engine>(engine: &E, region: &[u8]) -> Option<bool> {
+    if region.len() == engine.size() {
+        Some(engine.at_rest(region))
+    } else {
+        None
+    }
+}
+
 /// What may come next, where the expression is entered at some offsets before the text's end.
 fn left_of(all: &[NextSet], len: usize, entries: u64) -> NextSet {
     let mut left = NextSet::empty();
@@ -157,24 +180,40 @@ fn all_entries(alloc: Global, len: usize) -> Result<Vec<u64>, Fail> {
     Ok(all)
 }
 
-/// Compares the engine behind the text with the spans.
-fn compare<E: Engine>(
+/// Compares the engine behind the text, entered at those offsets, with the spans.
+fn compare_entered<E: Engine>(
     alloc: Global,
     name: &str,
     engine: &E,
-    null: Mask,
+    entries: u64,
     text: &[u8],
     all: &[NextSet],
 ) -> Verdict {
-    for entries in &all_entries(alloc, text.len())? {
-        let (left, _region) = run(alloc, engine, text, *entries, NextSet::all())?;
-        same(left, left_of(all, text.len(), *entries), name, text)?;
-    }
+    let (left, _region) = run(alloc, engine, text, entries, NextSet::all())?;
+    same(left, left_of(all, text.len(), entries), name, text)
+}
+
+/// Compares where the expression matches no byte behind the text with the spans.
+fn compare_null(name: &str, null: Mask, text: &[u8], all: &[NextSet]) -> Verdict {
     let prev = match text.last() {
         None => Prev::Start,
         Some(byte) => Prev::behind(*byte),
     };
     same(null.row(prev), *all.last().ok_or("no offset")?, name, text)
+}
+
+/// Compares the engine behind the text with the spans.
+fn compare<E: Engine>(
+    alloc: Global,
+    name: &str,
+    engine: &E,
+    text: &[u8],
+    all: &[NextSet],
+) -> Verdict {
+    for entries in &all_entries(alloc, text.len())? {
+        compare_entered(alloc, name, engine, *entries, text, all)?;
+    }
+    Ok(())
 }
 
 /// Compares an engine of the expression with its spans, behind each beginning of the text.
@@ -184,7 +223,8 @@ pub(crate) fn judge_spans<E: Judged>(alloc: Global, spans: &Spans) -> Verdict {
     };
     for (len, all) in spans.lefts.iter().enumerate() {
         let text = spans.text.get(..len).ok_or("no such text")?;
-        compare(alloc, &spans.name, &engine, null, text, all)?;
+        compare(alloc, &spans.name, &engine, text, all)?;
+        compare_null(&spans.name, null, text, all)?;
     }
     Ok(())
 }

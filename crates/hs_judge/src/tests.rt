@@ -3,11 +3,10 @@
 use crate::automata::judge_automata;
 use crate::chains::written;
 use crate::judging::{judge, judge_expression};
-use crate::rows;
-use hs_base::ByteSet;
-use hs_engine::Engine;
+use crate::regions::judge_regions;
 use hs_expr::Expr;
-use hs_repeat::{First, Last, Ring};
+use hs_rows::stream_rows as rows;
+use std::alloc::Global;
 use std::test::Fail;
 
 #[test]
@@ -49,15 +48,20 @@ fn refuses_and_sizes_as_stated(rt: HostRuntime) -> Result<(), Fail> {
     Ok(())
 }
 
+/// Judges the alternation of nothing, and rounds of it, over the text.
+fn judge_nothing(alloc: Global, text: &str) -> Result<(), Fail> {
+    let nothing = Expr::Alt(Vec::new(alloc));
+    judge_expression(alloc, "nothing", &nothing, text.as_bytes())?;
+    let rounds = Expr::Repeat(Box::new(alloc, nothing)?, 0, None);
+    judge_expression(alloc, "rounds of nothing", &rounds, text.as_bytes())
+}
+
 #[test]
 fn nothing_matches_an_alternation_of_nothing(rt: HostRuntime) -> Result<(), Fail> {
     let alloc = rt.alloc();
     assert_eq!(rt; written(alloc, &Expr::Alt(Vec::new(alloc)))?.as_str(), " ");
     for text in ["", "ab", "a b", "\na\n", "ba\nab"] {
-        let nothing = Expr::Alt(Vec::new(alloc));
-        judge_expression(alloc, "nothing", &nothing, text.as_bytes())?;
-        let rounds = Expr::Repeat(Box::new(alloc, nothing)?, 0, None);
-        judge_expression(alloc, "rounds of nothing", &rounds, text.as_bytes())?;
+        judge_nothing(alloc, text)?;
     }
     Ok(())
 }
@@ -68,20 +72,6 @@ fn twins_keep_the_same_bits(rt: HostRuntime) -> Result<(), Fail> {
 }
 
 #[test]
-fn regions_of_repeats_are_well_formed(rt: HostRuntime) {
-    let set = ByteSet::of(b'a');
-    let first = First::new(set, 300);
-    assert_eq!(rt; first.size(), 2);
-    assert!(rt; first.at_rest(&[0, 0]) && !first.at_rest(&[0, 1]));
-    assert!(rt; !first.wakers().contains(b'b') && first.wakers().contains(b'a'));
-    assert!(rt; first.well_formed(&[44, 1], 300));
-    assert!(rt; !first.well_formed(&[44, 1], 299) && !first.well_formed(&[45, 1], 400));
-    let ring = Ring::new(set, 5, 12);
-    assert_eq!(rt; ring.size(), 2);
-    assert!(rt; !ring.wakers().contains(b'b') && ring.at_rest(&[0, 0]) && !ring.at_rest(&[0, 8]));
-    assert!(rt; ring.well_formed(&[0, 8], 12));
-    assert!(rt; !ring.well_formed(&[0, 8], 11) && !ring.well_formed(&[0, 16], 99));
-    let last = Last::new(set, 40);
-    assert!(rt; last.well_formed(&[40, 0], 40));
-    assert!(rt; !last.well_formed(&[41, 0], 50) && !last.well_formed(&[2, 0], 1));
+fn regions_of_repeats_are_well_formed() -> Result<(), Fail> {
+    judge_regions()
 }

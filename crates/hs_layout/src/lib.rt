@@ -10,7 +10,5 @@ pub mod laws;
 mod layout;
 mod rows;
 mod starts;
-#[cfg(test)]
-mod tests;
 
 pub use layout::{HISTORY_SIZE, Layout, MAX_SIZE};

@@ -14,6 +14,3 @@ mod word_rows;
 
 pub use limex::Limex;
 pub use plain::Plain;
-
-#[cfg(test)]
-mod tests;

@@ -1,3 +1,7 @@
 pub mod AllEndLemmas
 pub mod MaskLemmas
 pub mod OpenLemmas
+pub mod MarkSetLemmas
+pub mod HitTableLemmas
+pub mod HitLoopLemmas
+pub mod HitStreamLemmas

@@ -5,3 +5,6 @@ pub mod Places
 pub mod AllEnds
 pub mod Held
 pub mod Left
+pub mod MarkSets
+pub mod HitTables
+pub mod HitLaws

@@ -11,7 +11,7 @@ use hs_fdr::Tables;
 use std::alloc::{AllocError, Global};
 
 /// Literals, ready to be looked for in any bytes.
-#[derive(Debug, Drop)]
+#[derive(Drop)]
 pub struct Literals {
     /// Which buckets may have a literal that ends at a place.
     pub(crate) tables: Tables,

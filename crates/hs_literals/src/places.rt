@@ -14,7 +14,7 @@ use hs_confirm::PlaceEnds;
 use hs_fdr::BLOCK_LEN;
 
 /// A walk over the places of bytes.
-#[derive(Debug, Drop)]
+#[derive(Drop)]
 pub(crate) struct Places<'a> {
     pub(crate) literals: &'a Literals,
     /// What stands before `bytes`.

@@ -8,7 +8,7 @@ use hs_confirm::PlaceEnds;
 
 /// The ends of literals in bytes, by rising end and then number: pairs of an offset in the bytes, behind the literal's
 /// last byte, and the number of the literal.
-#[derive(Debug, Drop)]
+#[derive(Drop)]
 pub struct LitScan<'a> {
     /// Where the scan is.
     places: Places<'a>,

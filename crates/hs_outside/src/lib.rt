@@ -2,8 +2,6 @@
 //! adapters over the real thing, and the loops that read to an end and write a whole text.
 #![tactic(auto)]
 
-#[cfg(test)]
-mod adapter_tests;
 mod chunk;
 mod fault;
 mod fault_plan;
@@ -20,8 +18,6 @@ mod store;
 mod sure_sink;
 mod sure_source;
 mod sure_store;
-#[cfg(test)]
-mod tests;
 mod transfer;
 
 pub use fault::{Failed, FileFault, SourceFault, StoreFault};

@@ -1,5 +1,9 @@
 -- What is read is plain: its values are within their types.
-use Rattle.std.proofs.Common.{◌≡◌, ℕ, ◌≤◌, Bool, List, [], ◌∷◌, length, Option, Some, None, IfSome, refl, sym, subst}
+use Rattle.std.proofs.Common.{◌≡◌, ℕ, ◌≤◌, Bool, List, [], ◌∷◌, length, Option, Some, None, IfSome, not, ◌||◌, sym, subst}
+use Rattle.std.specs.Prelude.{◌==◌, if◌then◌else◌}
+use Rattle.std.specs.List.{list_any}
+use Rattle.std.proofs.lemmas.List.FromFn.{length-map-range_with_len}
+use Rattle.hs_base.specs.Assertions.{line_feed}
 use Rattle.hs_base.specs.declared.flags.Flags.{Flags}
 use Rattle.hs_base.specs.Trees.{Tree, Trees, AreBounds, IsProper, AreProper}
 use Rattle.hs_base.specs.WrittenOut.{IsPlain, ArePlain}
@@ -9,7 +13,10 @@ use Rattle.hs_syntax.specs.declared.form.Form.{Form}
 use Rattle.hs_syntax.specs.declared.form.Form.TheVariants as form
 use Rattle.hs_parse.specs.declared.spot.Spot.{Spot}
 use Rattle.hs_parse.specs.Spots.{form_of}
-use Rattle.hs_parse.specs.Tokens.{Token, ending, single, assertion, opening, closing, bar, quantifier, setting, faulty, Made, token, skips, bracket, made_by, made_at, ClassToken, closed, unclosed, refused, TokenAt, formed, bracketed, Next, now, skipped}
+use Rattle.hs_parse.specs.declared.set.Test.{Test}
+use Rattle.hs_parse.specs.declared.set.Test.TheVariants.{Range, Class}
+use Rattle.hs_parse.specs.Classes.{passes, bytes_of, class_of}
+use Rattle.hs_parse.specs.Tokens.{any_byte, Token, ending, single, assertion, opening, closing, bar, quantifier, setting, faulty, Made, token, skips, bracket, made_by, made_at, ClassToken, closed, unclosed, refused, TokenAt, formed, bracketed, Next, now, skipped}
 use Rattle.hs_parse.specs.Grammar.{Atom, one_byte, asserted, group, Item, once, repeated, Sequence, nothing, item_first, setting_first, sequence_tree, Alternation, last, alternative_first, alternation_tree, Reads}
 
 -- a set has a truth value for each byte
@@ -29,6 +36,20 @@ MakesWhole (token made mode n) = IsWhole made
 MakesWhole (skips mode n) = Unit {0}
 MakesWhole bracket = Unit {0}
 
+any_whole : (dotall : Bool) → length (any_byte dotall) ≡ 256
+unfolding any_byte
+any_whole dotall = length-map-range_with_len (λ b. dotall || not (b == line_feed)) 0 256
+
+bytes_whole : (test : Test) → length (bytes_of test) ≡ 256
+unfolding bytes_of
+bytes_whole test = length-map-range_with_len (passes test) 0 256
+
+class_of_whole : (negated : Bool) (tests : List (ℕ → Bool)) → length (class_of negated tests) ≡ 256
+unfolding class_of
+class_of_whole negated tests =
+    length-map-range_with_len
+    (λ b. if negated then not (list_any (λ (t : ℕ → Bool). t b) tests) else list_any (λ (t : ℕ → Bool). t b) tests) 0 256
+
 made_whole : (mode : Mode) (at : ℕ) (f : Form) → MakesWhole (made_by mode at f)
 made_whole mode at form.End = tt
 made_whole mode at (form.Skipped behind n) = tt
@@ -36,9 +57,9 @@ made_whole mode at (form.Setting behind n) = tt
 made_whole mode at (form.Opening inside n) = tt
 made_whole mode at form.Closing = tt
 made_whole mode at form.Bar = tt
-made_whole mode at form.Any = refl
-made_whole mode at (form.Character code n) = refl
-made_whole mode at (form.Class named negated n) = refl
+made_whole mode at form.Any = any_whole mode.dotall
+made_whole mode at (form.Character code n) = bytes_whole (Range mode.caseless code code)
+made_whole mode at (form.Class named negated n) = bytes_whole (Class named negated)
 made_whole mode at form.Bracket = tt
 made_whole mode at (form.Assert here n) = tt
 made_whole mode at (form.Quantifier least greatest possessive n) = tt
@@ -49,7 +70,7 @@ unfolding made_at
 made_at_whole text s = made_whole s.mode s.place (form_of text s)
 
 class_whole : {text : List ℕ} {caseless : Bool} {at end : ℕ} {made : Token} → ClassToken text caseless at made end → IsWhole made
-class_whole (closed items e) = refl
+class_whole (closed items e) = class_of_whole _ _
 class_whole (unclosed items e) = tt
 class_whole (refused items e) = tt
 

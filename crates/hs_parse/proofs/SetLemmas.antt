@@ -9,7 +9,7 @@ use Rattle.hs_base.specs.ByteSets.{has, members, bytes_where}
 use Rattle.hs_base.proofs.ByteSetLemmas.{word_at}
 use Rattle.hs_parse.specs.declared.item.Item.TheVariants as item
 use Rattle.hs_parse.specs.declared.set.Test.{Test}
-use Rattle.hs_parse.specs.Classes.{passes, item_at, nothing, class_of}
+use Rattle.hs_parse.specs.Classes.{passes, bytes_of, item_at, nothing, class_of}
 use Rattle.hs_parse.specs.Tokens.{any_byte}
 use Rattle.hs_parse.specs.Reading.{HasItems}
 use Rattle.hs_parse.proofs.ClassLemmas.{items_last, any_last}
@@ -32,13 +32,13 @@ members-where s test same = same_on_range (has s) test 256 0 same
 -- the set of every byte
 pub members-all :
     members (record { words = (2 ^ 64 - 1) ∷ (2 ^ 64 - 1) ∷ (2 ^ 64 - 1) ∷ (2 ^ 64 - 1) ∷ [] }) ≡ any_byte true
-unfolding has members
+unfolding has members any_byte
 members-all = refl
 
 -- the set of every byte but the line feed
 pub members-not_newline :
     members (record { words = (2 ^ 64 - 1 - 2 ^ 10) ∷ (2 ^ 64 - 1) ∷ (2 ^ 64 - 1) ∷ (2 ^ 64 - 1) ∷ [] }) ≡ any_byte false
-unfolding has members
+unfolding has members any_byte
 members-not_newline = refl
 
 -- the set of a class
@@ -47,7 +47,7 @@ pub members-class :
     ((b : ℕ) → b < 256 → has s b ≡ list_any (λ (t : ℕ → Bool). t b) tests) →
     ((b : ℕ) → b < 256 → has whole b ≡ (if negated then not (has s b) else has s b)) →
     members whole ≡ class_of negated tests
-unfolding members
+unfolding members class_of
 members-class s whole negated tests items all =
     same_on_range (has whole)
     (λ b. if negated then not (list_any (λ (t : ℕ → Bool). t b) tests) else list_any (λ (t : ℕ → Bool). t b) tests) 256 0
@@ -65,10 +65,11 @@ or_nothing false b e = e
 
 -- the bytes that pass a test, in a set that was empty
 pub members-inserted :
-    (s empty : ByteSet) (test : ℕ → Bool) → ((b : ℕ) → b < 256 → has empty b ≡ false) →
-    ((b : ℕ) → b < 256 → has s b ≡ (test b || has empty b)) → members s ≡ bytes_where test
+    (s empty : ByteSet) (test : Test) → ((b : ℕ) → b < 256 → has empty b ≡ false) →
+    ((b : ℕ) → b < 256 → has s b ≡ (passes test b || has empty b)) → members s ≡ bytes_of test
+unfolding bytes_of
 members-inserted s empty test none added =
-    members-where s test (λ b h. added b h ∙ or_nothing (test b) (has empty b) (none b h))
+    members-where s (passes test) (λ b h. added b h ∙ or_nothing (passes test b) (has empty b) (none b h))
 
 -- no item is read yet
 pub no_items :

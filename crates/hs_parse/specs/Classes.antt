@@ -46,6 +46,10 @@ abbrev pub passes : Test → ℕ → Bool
 passes (Range caseless first last) = is_within caseless first last
 passes (Class class negated) = is_of_class class negated
 
+-- the set of the bytes of an item
+unfoldable pub bytes_of : Test → List Bool
+bytes_of test = bytes_where (passes test)
+
 -- what stands at a place in the class whose items begin at the start
 abbrev pub class_piece : List ℕ → (caseless : Bool) → (start : ℕ) → ℕ → Piece
 class_piece text caseless start at = piece_at caseless (at == start) (drop at text)
@@ -98,6 +102,6 @@ abbrev pub items_start : List ℕ → ℕ → ℕ
 items_start text at = if is_negated text at then at + 2 else at + 1
 
 -- the bytes of a class
-abbrev pub class_of : (negated : Bool) → List (ℕ → Bool) → List Bool
+unfoldable pub class_of : (negated : Bool) → List (ℕ → Bool) → List Bool
 class_of negated tests =
     bytes_where (λ b. if negated then not (list_any (λ test. test b) tests) else list_any (λ test. test b) tests)

@@ -12,7 +12,7 @@ use Rattle.hs_parse.specs.declared.item.Item.TheVariants as item
 use Rattle.hs_parse.specs.declared.set.Test.TheVariants.{Range, Class}
 use Rattle.hs_parse.specs.declared.spot.Spot.{Spot}
 use Rattle.hs_parse.specs.Spots.{spot, form_of, refusal_at}
-use Rattle.hs_parse.specs.Classes.{item_at, Items, passes, is_negated, items_start, class_of}
+use Rattle.hs_parse.specs.Classes.{item_at, Items, bytes_of, is_negated, items_start, class_of}
 
 -- A token: one byte of a set, an assertion, a mark of the grammar, a quantifier with its bounds and whether it is
 -- possessive, a change of options, the end of the text, or a form that is refused.
@@ -28,7 +28,7 @@ pub data Token : Type 0 where
   faulty : Refusal → Token
 
 -- every byte, or under no s every byte but the line feed
-abbrev pub any_byte : (dotall : Bool) → List Bool
+unfoldable pub any_byte : (dotall : Bool) → List Bool
 any_byte dotall = bytes_where (λ b. dotall || not (b == line_feed))
 
 -- What a form makes: a token, with the options behind it and its length in bytes, bytes that are skipped, or a class.
@@ -47,9 +47,9 @@ made_by mode at form.Closing = token closing mode 1
 made_by mode at form.Bar = token bar mode 1
 made_by mode at form.Any = token (single (any_byte mode.dotall)) mode 1
 made_by mode at (form.Character code length) =
-    token (single (bytes_where (passes (Range mode.caseless code code)))) mode length
+    token (single (bytes_of (Range mode.caseless code code))) mode length
 made_by mode at (form.Class class negated length) =
-    token (single (bytes_where (passes (Class class negated)))) mode length
+    token (single (bytes_of (Class class negated))) mode length
 made_by mode at form.Bracket = bracket
 made_by mode at (form.Assert here length) = token (assertion here) mode length
 made_by mode at (form.Quantifier least greatest possessive length) =

@@ -11,7 +11,7 @@ use hs_base::Refusal;
 use hs_syntax::{Piece, piece_at};
 
 /// The item that stands at a place of a class.
-#[derive(Clone, Copy, Debug, PartialEq, Eq)]
+#[derive(Clone, Copy)]
 pub(crate) enum Item {
     /// Nothing: the text ends there.
     End,

@@ -215,6 +215,3 @@ fn alternation_of(mut alternatives: Vec<Expr>) -> Expr
         _ => Expr::Alt(alternatives),
     }
 }
-
-#[cfg(test)]
-mod tests;

@@ -1,14 +1,14 @@
 //! Sets of bytes, by a test of each byte.
 ghost use Rattle.std.specs.Prelude.{◌≡◌, ℕ, ◌<◌, ◌||◌};
-ghost use Rattle.hs_base.specs.ByteSets.{has, members, bytes_where};
-ghost use Rattle.hs_parse.specs.Classes.{other_case, is_between, passes};
+ghost use Rattle.hs_base.specs.ByteSets.{has, members};
+ghost use Rattle.hs_parse.specs.Classes.{other_case, is_between, passes, bytes_of};
 ghost use Rattle.hs_parse.specs.Tokens.{any_byte};
 
 use hs_base::ByteSet;
 use hs_syntax::Named;
 
 /// Which bytes a character, a range or a class has.
-#[derive(Clone, Copy, Debug, PartialEq, Eq)]
+#[derive(Clone, Copy)]
 pub(crate) enum Test {
     /// From the first to the last, which may be the same; where the truth value says so, in both cases.
     Range(bool, u8, u8),
@@ -63,7 +63,7 @@ pub(crate) fn insert_where(set: &mut ByteSet, test: Test)
 
 /// The bytes that pass the test.
 pub(crate) fn set_where(test: Test) -> ByteSet
-    ensures { members result ≡ bytes_where (passes test) }
+    ensures { members result ≡ bytes_of test }
 {
     let mut set = ByteSet::EMPTY;
     insert_where(&mut set, test);

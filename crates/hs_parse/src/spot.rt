@@ -7,7 +7,7 @@ use hs_base::{Flags, Refusal};
 use hs_syntax::{Mode, Wrong};
 
 /// A place of an expression, an offset in bytes, and the options in force there.
-#[derive(Clone, Copy, Debug, PartialEq, Eq)]
+#[derive(Clone, Copy)]
 pub(crate) struct Spot {
     /// The place.
     pub(crate) place: usize,

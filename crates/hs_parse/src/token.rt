@@ -11,7 +11,7 @@ use hs_base::{Assertion, ByteSet, Refusal};
 use hs_syntax::{Form, Mode, form_at};
 
 /// A token of an expression.
-#[derive(Clone, Copy, Debug, PartialEq, Eq)]
+#[derive(Clone, Copy)]
 pub(crate) enum Token {
     /// Nothing: the text ends there.
     End,
@@ -83,7 +83,7 @@ impl Token {
 }
 
 /// A token, where it begins, and what is behind it.
-#[derive(Clone, Copy, Debug, PartialEq, Eq)]
+#[derive(Clone, Copy)]
 pub(crate) struct Found {
     /// The token.
     pub(crate) token: Token,
@@ -94,7 +94,7 @@ pub(crate) struct Found {
 }
 
 /// What a form makes.
-#[derive(Clone, Copy, Debug, PartialEq, Eq)]
+#[derive(Clone, Copy)]
 pub(crate) enum Made {
     /// A token, the options behind it, and its length in bytes.
     Token(Token, Mode, usize),

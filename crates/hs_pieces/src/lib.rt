@@ -10,6 +10,3 @@ mod splitting;
 pub use laws::{chains_are_fit, chains_have_spans, pieces_have_no_more_positions};
 pub use piece::{Chain, LOOK_BACK_WINDOW, Piece};
 pub use splitting::split;
-
-#[cfg(test)]
-mod tests;

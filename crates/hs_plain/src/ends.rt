@@ -119,11 +119,20 @@ fn assertion_ends(
 {
     let mut ends = Offsets::none(alloc, starts.room())?;
     for at in 0..starts.room() {
-        if starts.contains(at) && holds(assertion, stream, ended, at) {
-            ends.insert(at);
+        if starts.contains(at) {
+            add_place(assertion, stream, ended, at, &mut ends);
         }
     }
     Ok(ends)
+}
+
+fn add_place(assertion: Assertion, stream: &[u8], ended: bool, at: usize, ends: &mut Offsets)
+    requires { at < room ends.old }
+    ensures { AddsOffsets (λ j. (at ≡ j) × Holds stream.now ended assertion at) ends.old ends.new }
+{
+    if holds(assertion, stream, ended, at) {
+        ends.insert(at);
+    }
 }
 
 #[cycle(ends)]

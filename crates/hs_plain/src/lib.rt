@@ -16,6 +16,3 @@ pub use offsets::Offsets;
 pub use pair_list::pairs;
 pub use pattern::Pattern;
 pub use report_list::{MatchReports, match_reports, reports, told};
-
-#[cfg(test)]
-mod tests;

@@ -5,7 +5,7 @@ ghost use Rattle.hs_plain.specs.OffsetSets.{room, has};
 use std::alloc::{AllocError, Global};
 
 /// A set of offsets below a bound, its room.
-#[derive(Debug, Drop)]
+#[derive(Drop)]
 pub struct Offsets {
     /// At each offset, whether it is a member.
     marks: Vec<bool>,

@@ -3,7 +3,7 @@ use hs_base::ExprId;
 use hs_expr::Expr;
 
 /// An expression of a list, with what is asked of its matches.
-#[derive(Debug, Drop)]
+#[derive(Drop)]
 pub struct Pattern {
     /// The identifier that its matches are reported with.
     pub id: ExprId,

@@ -17,7 +17,7 @@ use std::alloc::{AllocError, Global};
 
 /// The reports of a whole stream: those that its bytes decide, in the order in which they do, and those that only its
 /// end decides.
-#[derive(Debug, Drop)]
+#[derive(Drop)]
 pub struct MatchReports {
     /// The told list.
     pub told: Vec<Report>,

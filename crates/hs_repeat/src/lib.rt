@@ -10,6 +10,3 @@ mod ring;
 pub use first::First;
 pub use last::Last;
 pub use ring::Ring;
-
-#[cfg(test)]
-mod tests;

@@ -115,3 +115,7 @@ pub record IsCommand (app : App) (command : Command) : Type 0 where
 pub record IsMore (command : Command) (name : Text) (more : Command) : Type 0 where
   pub shape : app_of more ≡ with_rule (app_of command) (operand name)
   pub plain : (fields_of command).has_globals ≡ false → (fields_of more).has_globals ≡ false
+
+-- the command line with one subcommand more
+pub record IsLonger (line : Command) (sub : App) (longer : Command) : Type 0 where
+  pub more : {app : App} → IsCommand app line → IsCommand (with_subcommand app sub.top) longer

@@ -1,6 +1,7 @@
 //! The command line of the program, as `clap` is given it.
 ghost use Rattle.std.specs.Prelude.{codes, IfOk};
-ghost use Rattle.hs_request.specs.Requests.{IsCommand, IsMore, one_operand, two_operands, command_line as whole_line};
+ghost use Rattle.hs_request.specs.Requests.{IsCommand, IsMore, IsLonger, one_operand, two_operands};
+ghost use Rattle.hs_request.specs.Requests.{command_line as whole_line};
 
 use clap::{Arg, Command};
 use std::alloc::{AllocError, Global};
@@ -13,21 +14,42 @@ use std::alloc::{AllocError, Global};
 pub fn command_line<'a>(alloc: Global) -> Result<Command<'a>, AllocError>
     ensures { IfOk result (IsCommand whole_line) }
 {
-    let scanning = two(alloc, "match", "PATTERNS", "FILE")?;
-    let checking = one(alloc, "check", "PATTERNS")?;
-    let compiling = two(alloc, "compile", "PATTERNS", "DB")?;
-    let telling = one(alloc, "info", "DB")?;
-    let loading = two(alloc, "scan", "DB", "FILE")?;
-    let running = one(alloc, "stream", "DB")?;
-    Command::new(alloc, "hs_tool")
+    let line = Command::new(alloc, "hs_tool")
         .subcommand_required(true)
-        .disable_help_subcommand(true)
-        .subcommand(scanning)?
-        .subcommand(checking)?
-        .subcommand(compiling)?
-        .subcommand(telling)?
-        .subcommand(loading)?
-        .subcommand(running)
+        .disable_help_subcommand(true);
+    let line = with_two(alloc, line, "match", "PATTERNS", "FILE")?;
+    let line = with_one(alloc, line, "check", "PATTERNS")?;
+    let line = with_two(alloc, line, "compile", "PATTERNS", "DB")?;
+    let line = with_one(alloc, line, "info", "DB")?;
+    let line = with_two(alloc, line, "scan", "DB", "FILE")?;
+    with_one(alloc, line, "stream", "DB")
+}
+
+/// The command line with a subcommand more, which has one operand.
+fn with_one<'a>(
+    alloc: Global,
+    line: Command<'a>,
+    name: &'a str,
+    operand: &'a str,
+) -> Result<Command<'a>, AllocError>
+    ensures { IfOk result (IsLonger line.entry (one_operand name.now operand.now)) }
+{
+    let command = one(alloc, name, operand)?;
+    line.subcommand(command)
+}
+
+/// The command line with a subcommand more, which has two operands.
+fn with_two<'a>(
+    alloc: Global,
+    line: Command<'a>,
+    name: &'a str,
+    first: &'a str,
+    second: &'a str,
+) -> Result<Command<'a>, AllocError>
+    ensures { IfOk result (IsLonger line.entry (two_operands name.now first.now second.now)) }
+{
+    let command = two(alloc, name, first, second)?;
+    line.subcommand(command)
 }
 
 /// A subcommand with one operand.

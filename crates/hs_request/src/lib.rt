@@ -5,7 +5,5 @@
 mod command_line;
 pub mod laws;
 mod request;
-#[cfg(test)]
-mod tests;
 
 pub use request::{Request, request_of};

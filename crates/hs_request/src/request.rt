@@ -12,7 +12,7 @@ use clap::{ArgMatches, Error};
 use std::alloc::{AllocError, Global};
 
 /// What the words ask for.
-#[derive(Clone, Copy, Debug, PartialEq, Eq)]
+#[derive(Clone, Copy)]
 pub enum Request<'a> {
     /// `match PATTERNS FILE`: scan a file for the expressions of a pattern file.
     Match {

@@ -1,5 +1,6 @@
 -- The identifiers of a list.
-use Rattle.std.specs.Prelude.{◌≡◌, ◌↔◌, ◌≤◌, ◌==◌, ◌||◌, ℕ, Bool, true, false, not, bit_and, List, [], ◌∷◌, length, map, Some, slice_get}
+use Rattle.std.specs.Prelude.{◌≡◌, ◌↔◌, ◌≤◌, ◌==◌, ◌||◌, ℕ, Bool, true, false, not, bit_and, List, [], ◌∷◌, length}
+use Rattle.std.specs.Prelude.{map, Some, slice_get}
 use Rattle.std.specs.List.{list_all, list_any}
 use Rattle.hs_base.specs.declared.ext.Entry.{Entry}
 use Rattle.hs_base.specs.Lists.{IsMember, OneOf}

@@ -25,8 +25,8 @@ use Rattle.hs_rose.specs.PieceEngines.{IsEngineOf}
 use Rattle.hs_rose.specs.Runnable.{AreRunnable}
 use Rattle.hs_base.specs.Lists.{Each}
 
--- What a program has: what is asked of each entry; the identifiers; the chains; a role for each piece; the literals and engines that
--- roles name by number, each once; and for each literal its roles.
+-- What a program has: what is asked of each entry; the identifiers; the chains; a role for each piece; the literals and
+-- engines that roles name by number, each once; and for each literal its roles.
 pub record Tables : Type 0 where
   pub entries : List EntryInfo
   pub identifiers : List Identifier

@@ -6,7 +6,8 @@ use Rattle.hs_base.specs.Lists.{Each}
 use Rattle.hs_base.specs.Trees.{AreBounds}
 use Rattle.hs_base.specs.WrittenOut.{IsPlain, write_out, count}
 
--- A literal has 2 to 32 bytes; an expression has an automaton; a repeat has bounds that are in order, and is a long one.
+-- A literal has 2 to 32 bytes; an expression has an automaton; a repeat has bounds that are in order, and is a long
+-- one.
 abbrev pub IsRunnable : Piece → Type 0
 IsRunnable (lit xs) = (2 ≤ length xs) × (length xs ≤ most_literal_bytes)
 IsRunnable (nfa t) = IsPlain t × (count (write_out t) ≤ 512) × (has_embedded_end t false ≡ false)

@@ -16,8 +16,8 @@ abbrev pub role_numbers : Vec ℕ Global → List ℕ
 role_numbers list = list.items
 
 -- these tables
-abbrev pub tables_of : List EntryInfo → List Identifier → List ChainInfo → List Role → List (Vec LitByte Global) → List (Vec ℕ Global) →
-    List PieceEngine → Tables
+abbrev pub tables_of : List EntryInfo → List Identifier → List ChainInfo → List Role → List (Vec LitByte Global) →
+    List (Vec ℕ Global) → List PieceEngine → Tables
 tables_of entries identifiers chains roles literals literal_roles engines = record {
   entries = entries;
   identifiers = identifiers;

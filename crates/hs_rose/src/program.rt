@@ -28,11 +28,11 @@ impl Model for Program {
 
     ghost Value = { Tables };
 
-    ghost view = { λ p. tables_of p.entries.items p.identifiers.items p.chains.items p.roles.items p.literals.items p.literal_roles.items
-        p.engines.items };
+    ghost view = { λ p. tables_of p.entries.items p.identifiers.items p.chains.items p.roles.items p.literals.items
+        p.literal_roles.items p.engines.items };
 
-    ghost invariant = { λ p. IsWhole (tables_of p.entries.items p.identifiers.items p.chains.items p.roles.items p.literals.items
-        p.literal_roles.items p.engines.items) };
+    ghost invariant = { λ p. IsWhole (tables_of p.entries.items p.identifiers.items p.chains.items p.roles.items
+        p.literals.items p.literal_roles.items p.engines.items) };
 }
 
 impl Program {
@@ -49,10 +49,10 @@ impl Program {
         literal_roles: Vec<Vec<usize>>,
         engines: Vec<PieceEngine>,
     ) -> Program
-        requires { IsWhole (tables_of entries.items identifiers.items chains.items roles.items literals.items literal_roles.items
-            engines.items) }
-        ensures { result ≡ tables_of entries.items identifiers.items chains.items roles.items literals.items literal_roles.items
-            engines.items }
+        requires { IsWhole (tables_of entries.items identifiers.items chains.items roles.items literals.items
+            literal_roles.items engines.items) }
+        ensures { result ≡ tables_of entries.items identifiers.items chains.items roles.items literals.items
+            literal_roles.items engines.items }
     {
         Program {
             entries,

@@ -14,8 +14,8 @@ use hs_expr::Expr;
 use hs_pieces::{Chain, split};
 use std::alloc::{AllocError, Global};
 
-/// The chains of an expression, none of whose pieces has too many positions: a program can be made of them. The only error is want of memory: more chains than a
-/// role has numbers for are more than there is memory for.
+/// The chains of an expression, none of whose pieces has too many positions: a program can be made of them. The only
+/// error is want of memory: more chains than a role has numbers for are more than there is memory for.
 pub fn runnable_chains(alloc: Global, expr: &Expr) -> Result<Vec<Chain>, AllocError>
     requires proper { IsProper (tree_of expr.now) }
     requires plain { IsPlain (tree_of expr.now) }

@@ -1,5 +1,6 @@
 //! Rows of tests as text: a table of them is one constant, which is cut where it is read, and costs a proof nothing.
-//! Only tests read them. `rows` and `list_rows` are those of whole runs of the program.
+//! Only tests read them. `rows` and `list_rows` are those of whole runs of the program,
+//! `stream_rows` those of lists over streams.
 //!
 //! - A row is a line, with each further line that begins with a blank. Lines that begin with `#` aren't read.
 //! - What is wanted stands behind an `=` with which a word begins.
@@ -11,10 +12,8 @@
 mod cutting;
 pub mod list_rows;
 pub mod rows;
+pub mod stream_rows;
 mod text;
 
 pub use cutting::{Row, rows_of, words_of};
 pub use text::{Text, number_of, text_of};
-
-#[cfg(test)]
-mod tests;

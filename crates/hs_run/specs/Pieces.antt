@@ -113,7 +113,8 @@ module _ (program : Tables) where
 
   -- The bytes may be the role's field at that offset.
   pub record IsPart (r : Role) (bytes : List ℕ) (at : ℕ) : Type 0 where
-    pub engine : way_of r ≡ way.Engine → (e : PieceEngine) → slice_get program.engines r.number ≡ Some e → (piece_meaning e).well bytes at
+    pub engine : way_of r ≡ way.Engine → (e : PieceEngine) → slice_get program.engines r.number ≡ Some e →
+        (piece_meaning e).well bytes at
     pub literal : way_of r ≡ way.Literal → (x : List LiteralByte) → slice_get program.literals r.number ≡ Some x →
         IsRingAt (length (x)) bytes at
 

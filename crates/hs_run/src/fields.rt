@@ -37,9 +37,10 @@ pub(crate) fn leave_at(
     requires fits { FitsLayout program.now layout.now }
     requires sized { length region.now ≡ laid_size layout.now }
     requires there { k < length program.now.roles }
-    requires part { (r : Role) → slice_get program.now.roles k ≡ Some r → IsPart program.now r (field_bytes layout.now region.now k) spot.now.at }
-    ensures { (r : Role) → slice_get program.now.roles k ≡ Some r → GoesOn program.now r (field_bytes layout.now region.now k) spot.now now
-        result }
+    requires part { (r : Role) → slice_get program.now.roles k ≡ Some r →
+        IsPart program.now r (field_bytes layout.now region.now k) spot.now.at }
+    ensures { (r : Role) → slice_get program.now.roles k ≡ Some r →
+        GoesOn program.now r (field_bytes layout.now region.now k) spot.now now result }
 {
     leave_role(
         role_at(program, k),
@@ -65,14 +66,17 @@ pub(crate) fn step_at<L: Ledger>(
     requires fits { FitsLayout program.now layout.now }
     requires sized { length region.old ≡ laid_size layout.now }
     requires there { k < length program.now.roles }
-    requires part { (r : Role) → slice_get program.now.roles k ≡ Some r → IsPart program.now r (field_bytes layout.now region.old k) spot.now.at }
+    requires part { (r : Role) → slice_get program.now.roles k ≡ Some r →
+        IsPart program.now r (field_bytes layout.now region.old k) spot.now.at }
     requires room { spot.now.at < 2 ^ 63 }
     ensures written { AreWritten layout.now k (k + 1) region.old region.new }
-    ensures part { (r : Role) → slice_get program.now.roles k ≡ Some r → IsPart program.now r (field_bytes layout.now region.new k) (spot.now.at + 1) }
-    ensures leaves { (r : Role) → slice_get program.now.roles k ≡ Some r → GoesOn program.now r (field_bytes layout.now region.old k) spot.now now
-        result }
-    ensures keeps { (r : Role) → slice_get program.now.roles k ≡ Some r → KeepsOn program.now r (field_bytes layout.now region.old k)
-        (field_bytes layout.now region.new k) spot.now byte now }
+    ensures part { (r : Role) → slice_get program.now.roles k ≡ Some r →
+        IsPart program.now r (field_bytes layout.now region.new k) (spot.now.at + 1) }
+    ensures leaves { (r : Role) → slice_get program.now.roles k ≡ Some r →
+        GoesOn program.now r (field_bytes layout.now region.old k) spot.now now result }
+    ensures keeps { (r : Role) → slice_get program.now.roles k ≡ Some r →
+        KeepsOn program.now r (field_bytes layout.now region.old k) (field_bytes layout.now region.new k)
+        spot.now byte now }
 {
     step_role(
         role_at(program, k),

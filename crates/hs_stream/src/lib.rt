@@ -5,9 +5,7 @@
 pub mod laws;
 mod scratch;
 mod stream;
-#[cfg(test)]
-mod tests;
 
 pub use hs_whole_run::{Collected, Events};
 pub use scratch::Scratch;
-pub use stream::{Stream, StreamFull};
+pub use stream::{Stream, StreamFull, has_room};

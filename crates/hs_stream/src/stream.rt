@@ -142,7 +142,7 @@ impl Stream {
 }
 
 /// Whether so many bytes may come at the offset.
-pub(crate) fn has_room(offset: u64, count: usize) -> bool
+pub fn has_room(offset: u64, count: usize) -> bool
     ensures { IsTrue result ↔ (offset + count ≤ greatest_offset) }
 {
     offset <= MAX_OFFSET && count as u64 <= MAX_OFFSET - offset

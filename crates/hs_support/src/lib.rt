@@ -7,8 +7,6 @@ mod fault;
 pub mod laws;
 mod outside;
 mod pieces;
-#[cfg(test)]
-mod tests;
 mod walk;
 
 pub use checking::check;

@@ -12,7 +12,7 @@ use crate::wrong::Wrong;
 use hs_base::{Assertion, Construct};
 
 /// What stands behind a backslash, in classes and outside of them. It takes two bytes where nothing else is said.
-#[derive(Clone, Copy, Debug, PartialEq, Eq)]
+#[derive(Clone, Copy)]
 pub(crate) enum Escape {
     /// A character, and the length of the escape in bytes.
     Character(u8, usize),

@@ -2,8 +2,9 @@
 ghost use Rattle.std.specs.Prelude.{◌≡◌, ◌≤◌, length, drop, slice_get};
 ghost use Rattle.hs_syntax.specs.Names.{group_name_end};
 ghost use Rattle.hs_syntax.specs.Bytes.{place_on};
-ghost use Rattle.hs_syntax.specs.Groups.{comment_of, named_of, changed, settings_at, letter_group, angle_group};
-ghost use Rattle.hs_syntax.specs.Groups.{hyphen_group, question_by, question_of, group_at, closing_parenthesis};
+ghost use Rattle.hs_syntax.specs.Groups.{comment_of, named_of, changed, settings_of, settings_at, letter_group};
+ghost use Rattle.hs_syntax.specs.Groups.{angle_group, hyphen_group, question_by, question_of, group_at};
+ghost use Rattle.hs_syntax.specs.Groups.{closing_parenthesis};
 
 use crate::form::Form;
 use crate::mode::{Change, Mode, set_options};
@@ -124,7 +125,13 @@ fn settings_at(mode: Mode, bytes: &[u8]) -> Form
     requires { 2 ≤ length bytes.now }
     ensures { result ≡ settings_at mode bytes.now }
 {
-    let change = changed(bytes, set_options(true, mode, 2, bytes));
+    settings_of(changed(bytes, set_options(true, mode, 2, bytes)), bytes)
+}
+
+/// What letters of options begin, by the byte behind them.
+fn settings_of(change: Change, bytes: &[u8]) -> Form
+    ensures { result ≡ settings_of change (slice_get bytes.now change.end) }
+{
     let Some(byte) = bytes.get(change.end) else {
         return Form::Refused(Wrong::Syntax);
     };

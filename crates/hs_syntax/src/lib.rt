@@ -18,6 +18,3 @@ pub use mode::Mode;
 pub use named::Named;
 pub use piece::{Piece, piece_at};
 pub use wrong::Wrong;
-
-#[cfg(test)]
-mod tests;

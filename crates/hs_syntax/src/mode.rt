@@ -20,7 +20,7 @@ pub struct Mode {
 }
 
 /// Options that were changed, and the place behind the letters that did it.
-#[derive(Clone, Copy, Debug, PartialEq, Eq)]
+#[derive(Clone, Copy)]
 pub(crate) struct Change {
     /// The options.
     pub(crate) mode: Mode,

@@ -1,5 +1,6 @@
 //! Classes of bytes that have a name or a letter.
-ghost use Rattle.std.specs.Prelude.{◌≡◌};
+ghost use Rattle.std.specs.Prelude.{◌≡◌, nat_eq};
+ghost use Rattle.std.specs.Cmp.Lexicographic.{pointwise};
 ghost use Rattle.hs_syntax.specs.Names.{is_of, named_letter, letter_class, other_class, under_case, class_of_name};
 
 /// A class of bytes that has a name or a letter.
@@ -99,17 +100,22 @@ pub(crate) fn class_of_name(caseless: bool, name: &[u8]) -> Option<Named>
 fn letter_class(name: &[u8]) -> Option<Named>
     ensures { result ≡ letter_class name.now }
 {
-    if name == b"xdigit".as_slice() {
-        return Some(Named::HexadecimalDigit);
-    }
-    match name {
-        b"alpha" => Some(Named::Letter),
-        b"lower" => Some(Named::SmallLetter),
-        b"upper" => Some(Named::LargeLetter),
-        b"digit" => Some(Named::Digit),
-        b"alnum" => Some(Named::LetterOrDigit),
-        b"word" => Some(Named::Word),
-        _ => None,
+    if spells(b"xdigit", name) {
+        Some(Named::HexadecimalDigit)
+    } else if spells(b"alpha", name) {
+        Some(Named::Letter)
+    } else if spells(b"lower", name) {
+        Some(Named::SmallLetter)
+    } else if spells(b"upper", name) {
+        Some(Named::LargeLetter)
+    } else if spells(b"digit", name) {
+        Some(Named::Digit)
+    } else if spells(b"alnum", name) {
+        Some(Named::LetterOrDigit)
+    } else if spells(b"word", name) {
+        Some(Named::Word)
+    } else {
+        None
     }
 }
 
@@ -118,16 +124,30 @@ fn letter_class(name: &[u8]) -> Option<Named>
 fn other_class(name: &[u8]) -> Option<Named>
     ensures { result ≡ other_class name.now }
 {
-    match name {
-        b"space" => Some(Named::Space),
-        b"blank" => Some(Named::Blank),
-        b"cntrl" => Some(Named::Control),
-        b"ascii" => Some(Named::Ascii),
-        b"graph" => Some(Named::Graphic),
-        b"print" => Some(Named::Printed),
-        b"punct" => Some(Named::Punctuation),
-        _ => None,
+    if spells(b"space", name) {
+        Some(Named::Space)
+    } else if spells(b"blank", name) {
+        Some(Named::Blank)
+    } else if spells(b"cntrl", name) {
+        Some(Named::Control)
+    } else if spells(b"ascii", name) {
+        Some(Named::Ascii)
+    } else if spells(b"graph", name) {
+        Some(Named::Graphic)
+    } else if spells(b"print", name) {
+        Some(Named::Printed)
+    } else if spells(b"punct", name) {
+        Some(Named::Punctuation)
+    } else {
+        None
     }
+}
+
+/// Whether the bytes are this word.
+fn spells(word: &[u8], bytes: &[u8]) -> bool
+    ensures { result ≡ pointwise nat_eq bytes.now word.now }
+{
+    bytes == word
 }
 
 /// The class, all letters in place of those of one case where case has no meaning.

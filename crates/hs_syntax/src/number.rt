@@ -3,7 +3,7 @@ ghost use Rattle.std.specs.Prelude.{◌≡◌, ◌+◌, ◌*◌, ◌<◌, ◌≤
 ghost use Rattle.hs_syntax.specs.Numbers.{digit_of, capped, number_at, decimal_at};
 
 /// What digits spell, 4,294,967,295 where that is more, and how many they are.
-#[derive(Clone, Copy, Debug, PartialEq, Eq)]
+#[derive(Clone, Copy)]
 pub(crate) struct Number {
     /// The value.
     pub(crate) value: u32,

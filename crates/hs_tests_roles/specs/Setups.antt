@@ -1,8 +1,9 @@
 -- What the plain runner runs.
+use Rattle.hs_layout.specs.Layouts.{Laid}
+use Rattle.hs_rose.specs.Programs.{Tables}
 use Rattle.hs_run.specs.Programs.{FitsLayout, IsRunnable}
-use Rattle.hs_tests_roles.specs.declared.setup.Setup.{Setup}
 
 -- The program can be run, and the layout is its own.
-pub record IsSetup (s : Setup) : Type 0 where
-  pub runs : IsRunnable s.program
-  pub fits : FitsLayout s.program s.layout
+pub record IsSetup (program : Tables) (layout : Laid) : Type 0 where
+  pub runs : IsRunnable program
+  pub fits : FitsLayout program layout

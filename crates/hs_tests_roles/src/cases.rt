@@ -35,8 +35,8 @@ pub(crate) fn patterns_of(alloc: Global, entries: &[Entry]) -> Result<Vec<Patter
     Ok(patterns)
 }
 
-/// A list over one stream: its bytes, the reports that they decide, those that the end decides, and how many are decided
-/// by each number of the bytes.
+/// A list over one stream: its bytes, the reports that they decide, those that the end decides, and how many are
+/// decided by each number of the bytes.
 #[derive(Drop)]
 pub(crate) struct Case {
     pub name: String,

@@ -14,7 +14,7 @@ use std::test::Fail;
 
 /// What runs the list that the lines of a pattern file are.
 fn setup_of(alloc: Global, lines: &str) -> Result<Setup, Fail>
-    ensures { IfOk result IsSetup }
+    ensures { IfOk result (λ setup. IsSetup setup.program setup.layout) }
 {
     Setup::of(alloc, &read_list(alloc, lines.as_bytes())?)
 }
@@ -36,7 +36,7 @@ fn region_by<L: Ledger>(
     bytes: &[u8],
     blank: Blank,
 ) -> Result<Vec<u8>, Fail>
-    requires setup { IsSetup setup.now }
+    requires setup { IsSetup setup.now.program setup.now.layout }
     requires name { blank.name ≡ L.name }
     requires parts { blank.parts ≡ L.parts }
     requires some { 0 < L.parts }

@@ -1,7 +1,8 @@
 //! Lists over streams. It is `#[cfg(test)]`.
 //!
-//! `hs_rows` says how rows are written. A row has lines of a pattern file, and streams; or streams alone, which the rows
-//! behind it have that have none. Behind `=` stand the reports that the bytes decide, and behind `|` those of the end.
+//! `hs_rows` says how rows are written. A row has lines of a pattern file, and streams; or streams alone, which the
+//! rows behind it have that have none. Behind `=` stand the reports that the bytes decide, and behind `|` those of the
+//! end.
 
 use crate::scanning::judge;
 use std::test::Fail;

@@ -46,7 +46,7 @@ impl<L: Ledger> Stream<L> {
 
     /// Takes the next bytes.
     pub fn take(&mut self, setup: &Setup, bytes: &[u8]) -> Verdict
-        requires { IsSetup setup.now }
+        requires { IsSetup setup.now.program setup.now.layout }
     {
         let Setup { program, layout } = setup;
         if well_formed(program, layout, &self.region)
@@ -70,7 +70,7 @@ impl<L: Ledger> Stream<L> {
 
     /// Ends the stream.
     pub fn close(&mut self, setup: &Setup) -> Verdict
-        requires { IsSetup setup.now }
+        requires { IsSetup setup.now.program setup.now.layout }
     {
         let Setup { program, layout } = setup;
         if well_formed(program, layout, &self.region) && self.scratch.fits(program) {
@@ -96,7 +96,7 @@ fn judge_cut<L: Ledger>(
     ends: &[usize],
     blank: Blank,
 ) -> Result<Vec<u8>, Fail>
-    requires setup { IsSetup setup.now }
+    requires setup { IsSetup setup.now.program setup.now.layout }
     requires name { blank.name ≡ L.name }
     requires parts { blank.parts ≡ L.parts }
     requires some { 0 < L.parts }
@@ -130,7 +130,7 @@ fn cuts_of(alloc: Global, len: usize) -> Result<Vec<Vec<usize>>, AllocError> {
 
 /// Scans the case's stream in many cuts, which all leave one region.
 fn judge_case(alloc: Global, setup: &Setup, case: &Case) -> Verdict
-    requires { IsSetup setup.now }
+    requires { IsSetup setup.now.program setup.now.layout }
 {
     let mut first = None;
     for ends in &cuts_of(alloc, case.stream.len())? {

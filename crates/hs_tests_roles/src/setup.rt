@@ -77,7 +77,7 @@ impl Setup {
 
     /// What runs the list.
     pub fn of(alloc: Global, entries: &[Entry]) -> Result<Setup, Fail>
-        ensures { IfOk result IsSetup }
+        ensures { IfOk result (λ setup. IsSetup setup.program setup.layout) }
     {
         let program = program_of(alloc, entries)?;
         match region_size(&program) {

@@ -35,6 +35,7 @@ bit_among-below (first ∷ others) bit letter some =
     (bit_among-below others (2 * bit) letter (omega (arith, some)))
 
 flag_bit-below : (letter : ℕ) → flag_bit letter < 2 ^ 11
+unfolding flag_bit
 flag_bit-below letter = bit_among-below (codes "ismHV8WPLCQ") 1 letter (omega arith)
 
 flags_from-below : (letters : List ℕ) (flags : ℕ) → flags < 2 ^ 11 → flags_from flags letters < 2 ^ 11

@@ -14,7 +14,7 @@ use Rattle.hs_base.specs.Entries.{ListedEntry}
 use Rattle.hs_text.specs.EntryLines.{HasTail, bare, braced, IsEntryLine}
 use Rattle.hs_text.specs.PatternFile.{IsSkipped, empty, comment}
 use Rattle.hs_text.proofs.CutLemmas.{AreSame, no_separator, cut_once, cut_last_once}
-use Rattle.hs_text.proofs.NumberLemmas.{number_apart, flags_once, letters_apart}
+use Rattle.hs_text.proofs.NumberLemmas.{number_apart, flags_once, letters_apart, slash_unnamed, brace_unnamed}
 use Rattle.hs_text.proofs.SettingLemmas.{settings_once, settings_apart}
 
 -- what is left without a carriage return is one line
@@ -38,16 +38,16 @@ begins_once {l} {m} {r} {s} (ended raw p line whole) (ended raw' q line' whole')
 
 -- no flag and no parameter has a `/`
 pub tail_apart : {tail : List ℕ} {flags : ℕ} {ext : Ext} → HasTail tail flags ext → Each (λ b. b ≢ 47) tail
-tail_apart (bare letters e) = letters_apart 47 (λ named. absurd (omega arith)) letters
+tail_apart (bare letters e) = letters_apart 47 slash_unnamed letters
 tail_apart (braced letters settings whole named given) =
     subst
     (λ t. Each (λ b. b ≢ 47) t)
     (sym whole)
-    (each-append (λ b. b ≢ 47) letters (123 ∷ (settings ++ 125 ∷ [])) (letters_apart 47 (λ n. absurd (omega arith)) named) ((λ e. omega arith), each-append (λ b. b ≢ 47) settings (125 ∷ []) (settings_apart given) ((λ e. omega arith), tt)))
+    (each-append (λ b. b ≢ 47) letters (123 ∷ (settings ++ 125 ∷ [])) (letters_apart 47 slash_unnamed named) ((λ e. omega arith), each-append (λ b. b ≢ 47) settings (125 ∷ []) (settings_apart given) ((λ e. omega arith), tt)))
 
 -- letters of flags have no `{`
 pub no_brace : {letters : List ℕ} {flags : ℕ} → AreFlags letters flags → Each (λ b. b ≢ 123) letters
-no_brace p = letters_apart 123 (λ named. absurd (omega arith)) p
+no_brace p = letters_apart 123 brace_unnamed p
 
 -- what stands before and behind a first `{`, where there is one
 pub record HasBraces (letters behind : List ℕ) (flags : ℕ) (ext : Ext) : Type 0 where

@@ -32,3 +32,13 @@ flags_once p q = sym p.named ∙ q.named
 -- a byte that names no flag isn't among the letters of flags
 pub letters_apart : (c : ℕ) → (0 < flag_bit c → ⊥) → {letters : List ℕ} {flags : ℕ} → AreFlags letters flags → Each (λ b. b ≢ c) letters
 letters_apart c other {letters} p = each-weaken (λ b. 0 < flag_bit b) (λ b. b ≢ c) letters (λ b names e. other (subst (λ n. 0 < flag_bit n) e names)) p.each
+
+-- `/` names no flag
+pub slash_unnamed : 0 < flag_bit 47 → ⊥
+unfolding flag_bit
+slash_unnamed named = omega arith
+
+-- `{` names no flag
+pub brace_unnamed : 0 < flag_bit 123 → ⊥
+unfolding flag_bit
+brace_unnamed named = omega arith

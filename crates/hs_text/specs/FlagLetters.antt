@@ -9,7 +9,7 @@ bit_among [] bit letter = 0
 bit_among (first ∷ others) bit letter = if first == letter then bit else bit_among others (2 * bit) letter
 
 -- the bit of the flag that a letter names
-abbrev pub flag_bit : ℕ → ℕ
+unfoldable pub flag_bit : ℕ → ℕ
 flag_bit letter = bit_among (codes "ismHV8WPLCQ") 1 letter
 
 -- the flags given and those of the letters

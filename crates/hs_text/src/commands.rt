@@ -1,7 +1,7 @@
 //! The commands of a script.
 
 /// A command of a script, by its word.
-#[derive(Clone, Copy, Debug, PartialEq, Eq)]
+#[derive(Clone, Copy)]
 pub enum Verb {
     /// `open`
     Open,
@@ -14,7 +14,7 @@ pub enum Verb {
 }
 
 /// A command of a script, with the name of its stream.
-#[derive(Clone, Copy, Debug, PartialEq, Eq)]
+#[derive(Clone, Copy, PartialEq, Eq)]
 pub enum Command<'a> {
     /// Opens a stream of that name, which is empty.
     Open(&'a [u8]),

@@ -21,6 +21,7 @@ pub fn flags_of(letters: &[u8]) -> Option<Flags>
 }
 
 /// The flag that a letter names.
+#[tactic(auto, unfolding(crate::specs::FlagLetters::flag_bit))]
 fn flag_of(letter: u8) -> Option<Flags>
     ensures { SomeIff result (0 < flag_bit letter) (record { 0 = flag_bit letter }) }
 {

@@ -6,8 +6,6 @@
 mod answer_lines;
 pub mod command_laws;
 mod command_lines;
-#[cfg(test)]
-mod command_tests;
 mod commands;
 mod cut;
 mod fault;
@@ -15,8 +13,6 @@ mod flag;
 pub mod laws;
 mod line;
 mod line_buffer;
-#[cfg(test)]
-mod line_tests;
 mod list;
 mod number;
 mod parameter;
@@ -24,8 +20,6 @@ mod refusal_lines;
 mod refusal_values;
 mod reply_lines;
 mod report_lines;
-#[cfg(test)]
-mod tests;
 
 pub use answer_lines::{accepted_line, compiled_line, form_line, info_lines};
 pub use command_lines::command;

@@ -18,7 +18,7 @@ use hs_base::{ExprId, Ext, Flags};
 const MAX_ID_DIGITS: usize = 10;
 
 /// What a line of the form says.
-#[derive(Clone, Copy, Debug)]
+#[derive(Clone, Copy)]
 pub enum Line<'a> {
     /// Nothing: the line is empty or a comment.
     Skipped,
@@ -27,7 +27,7 @@ pub enum Line<'a> {
 }
 
 /// The parts of an entry's line.
-#[derive(Clone, Copy, Debug)]
+#[derive(Clone, Copy)]
 pub struct EntryParts<'a> {
     pub id: ExprId,
     pub flags: Flags,

@@ -12,7 +12,7 @@ use hs_base::Ext;
 const MAX_VALUE_DIGITS: usize = 20;
 
 /// An extended parameter (Hyperscan Developer's Reference Guide, `hs_expr_ext_t`).
-#[derive(Clone, Copy, Debug, PartialEq, Eq)]
+#[derive(Clone, Copy)]
 pub enum Parameter {
     /// The least offset in bytes at which a match may end.
     MinOffset,

@@ -6,7 +6,7 @@ ghost use Rattle.hs_text.specs.ValueTexts.{texts_of};
 use hs_base::{Construct, Refusal};
 
 /// The values of a refusal.
-#[derive(Clone, Copy, Debug)]
+#[derive(Clone, Copy)]
 pub(crate) enum Values {
     /// It has none.
     Nothing,

@@ -10,7 +10,7 @@ use crate::line_buffer::{LINE_LEN, append, append_number};
 use crate::report_lines::NAME_LEN;
 
 /// Why a command is refused, by its word.
-#[derive(Clone, Copy, Debug, PartialEq, Eq)]
+#[derive(Clone, Copy)]
 pub enum Word {
     /// The stream is open already.
     Exists,
@@ -25,7 +25,7 @@ pub enum Word {
 }
 
 /// The answer to a command.
-#[derive(Clone, Copy, Debug, PartialEq, Eq)]
+#[derive(Clone, Copy)]
 pub enum Reply {
     /// It was done; the number is the one that its line ends with, if any.
     Done(Verb, Option<u64>),

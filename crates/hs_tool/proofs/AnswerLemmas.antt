@@ -1,12 +1,11 @@
 -- From what the steps of a command leave to the command's answer.
-use Rattle.std.proofs.Common.{◌≡◌, ℕ, ◌≤◌, List, [], ◌∷◌, ◌++◌, length, Option, Some, None, Result, Ok, Err, refl, sym, ap, ◌∙◌, subst, arith, append_assoc, inr}
+use Rattle.std.proofs.Common.{◌≡◌, ℕ, List, [], ◌++◌, length, Option, Some, None, refl, sym, ap, ◌∙◌, subst, append_assoc, inr}
 use Rattle.hs_base.specs.Patterns.{Pattern}
 use Rattle.hs_base.specs.Told.{Pair}
 use Rattle.hs_base.specs.MatchText.{report_lines, end_line, IsMatchText}
-use Rattle.hs_outside.specs.Counts.{Rose}
-use Rattle.hs_outside.specs.Sink.{Took, TookPrefix, IsSent, IsCutShort, Sends}
-use Rattle.hs_outside.specs.Store.{Told, IsFile}
-use Rattle.hs_outside.proofs.Sending.{Took-nothing, Took-append, TookPrefix-after, IsSent-then, IsCutShort-after}
+use Rattle.hs_outside.specs.Sink.{Took, TookPrefix, IsSent, IsCutShort}
+use Rattle.hs_outside.specs.Store.{Told}
+use Rattle.hs_outside.proofs.Sending.{Took-nothing, Took-append, TookPrefix-after}
 use Rattle.hs_base.specs.Entries.{ListedEntry}
 use Rattle.hs_outside.proofs.Counting.{Rose-after_same}
 use Rattle.hs_compile.specs.declared.database.Database.{Database}
@@ -21,13 +20,10 @@ use Rattle.hs_request.specs.Requests.{Request, match_file, check_list, compile_l
 use Rattle.hs_lists.specs.ListKinds.{ListKind, pattern_file, database_file}
 use Rattle.hs_tool.specs.Answers
 use Rattle.hs_lists.specs.Endings
-use Rattle.hs_lists.specs.Accepting.{HoldsList, IsFormCause, formless, unread, IsEntryCause, first, uncompiled, bad_form, bad_entry}
 use Rattle.hs_lists.proofs.EndingLemmas.{no_memory_early}
 use Rattle.hs_lists.specs.Endings.{greatest_list, Outside, NoFault, TookNothing, HasList, StopsList, StopsEarly, CompileEnds, list_refused, no_memory}
 use Rattle.hs_tool.specs.Answers.{Input, HasWritten, HasBegun, ScanEnds, Ends}
-use Rattle.hs_lists.specs.Loading.{IsLoaded, entries_of}
 use Rattle.hs_tool.specs.Stopping.{cause_of_scan}
-use Rattle.hs_lists.specs.declared.loading.Loaded.{Loaded}
 use Rattle.hs_tool.specs.declared.scan.ScanFault.{ScanFault}
 use Rattle.hs_tool.specs.declared.scan.ScanFault.TheVariants.{Absent, Store, Write, Limit, Memory}
 

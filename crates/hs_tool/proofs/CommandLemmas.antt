@@ -1,5 +1,5 @@
 -- One command of a script, as it is read and answered.
-use Rattle.std.proofs.Common.{◌≡◌, ℕ, Bool, true, List, [], ◌∷◌, Option, Some, Ok, Err, subst}
+use Rattle.std.proofs.Common.{ℕ, Bool, true, List, Option, Some, Ok, Err, subst}
 use Rattle.std.specs.List.{flat_map}
 use Rattle.hs_outside.specs.declared.fault.Failed.{Failed}
 use Rattle.hs_text.specs.declared.reply_lines.Reply.{Reply}

@@ -1,11 +1,12 @@
 -- The bytes of a write, as they come.
-use Rattle.std.proofs.Common.{◌≡◌, ◌≢◌, ℕ, zero, suc, ◌+◌, ◌-◌, ◌<◌, ◌≤◌, Bool, true, false, List, [], ◌∷◌, ◌++◌, length, take, drop, Option, Some, Result, Ok, Err, refl, sym, ap, ◌∙◌, subst, arith, append-nil, length-append}
+use Rattle.std.proofs.Common.{◌≡◌, ◌≢◌, ℕ, zero, suc, ◌+◌, ◌-◌, ◌<◌, ◌≤◌, Bool, true, false, List, [], ◌∷◌, ◌++◌, length, take, drop, Option, Some, Ok, Err, refl, sym, ap, ◌∙◌, subst, arith, append-nil, length-append}
 use Rattle.hs_compile.specs.declared.database.Database.{Database}
 use Rattle.hs_stream.specs.declared.stream.Stream.{Stream}
 use Rattle.hs_reader.specs.declared.fault.Break.{Break}
 use Rattle.hs_reader.specs.declared.fault.Break.TheVariants as stop
 use Rattle.hs_reader.specs.Reading.{Ahead, Consumes}
-use Rattle.hs_reader.specs.Breaks.{StopsAt, ReadCounts, is_write}
+use Rattle.hs_outside.specs.Counts.{Rose}
+use Rattle.hs_reader.specs.Breaks.{NoFault, BreakCounts, StopsAt, ReadCounts, is_write}
 use Rattle.hs_lines.specs.Passing.{IsPassed, Passes}
 use Rattle.hs_tool.specs.Payloads.{PayloadEnds, Comes}
 use Rattle.hs_tool.specs.Scanning.{Scans}
@@ -105,3 +106,13 @@ pub unlost : {x y : Option (List ℕ)} {a b : List ℕ} (stop : Break) (read rea
 unlost stop.Read read reads counts text passes = passes
 unlost stop.Limit read reads counts text passes = passes
 unlost stop.Write read reads counts text passes = absurd counts
+
+-- reading was broken off, and nothing failed before
+pub counts-broken : {read reads sunk sinks : ℕ} (readers : ℕ) (stop : Break) → NoFault read reads sunk sinks → ReadCounts {A = Bool} reads readers (Err stop) → BreakCounts read readers sunk sinks stop
+counts-broken readers stop.Read none rose = (subst (λ n. Rose n readers) none.source rose, none.sink)
+counts-broken readers stop.Limit none same = record { source = same ∙ none.source; sink = none.sink }
+counts-broken readers stop.Write none never = absurd never
+
+-- the sink failed, and nothing failed before
+pub counts-lost : {read reads readers sunk sinks sinkers : ℕ} → NoFault read reads sunk sinks → readers ≡ reads → Rose sinks sinkers → BreakCounts read readers sunk sinkers stop.Write
+counts-lost {sinkers = sinkers} none same rose = (same ∙ none.source, subst (λ n. Rose n sinkers) none.sink rose)

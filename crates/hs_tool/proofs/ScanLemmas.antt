@@ -3,7 +3,7 @@ use Rattle.std.proofs.Common.{◌≡◌, ℕ, ◌+◌, ◌<◌, ◌≤◌, List,
 use Rattle.std.proofs.Common.{subst, arith, length-append}
 use Rattle.std.specs.Result.{IsErr, OnOk}
 use Rattle.std.proofs.lemmas.List.{length-take-le}
-use Rattle.hs_outside.specs.Sink.{TookPrefix, IsSent, IsCutShort, Sends}
+use Rattle.hs_outside.specs.Sink.{TookPrefix, IsCutShort, Sends}
 use Rattle.hs_outside.specs.Store.{Told, ReadsAt, Begins, IsLonger}
 use Rattle.hs_outside.proofs.Viewing.{Begins-nothing, Begins-read, IsFile-read, IsLonger-seen}
 use Rattle.hs_compile.specs.declared.database.Database.{Database}
@@ -11,7 +11,7 @@ use Rattle.hs_base.specs.Offsets.{greatest_offset}
 use Rattle.hs_stream.specs.declared.stream.Stream.{Stream}
 use Rattle.hs_stream.specs.Streams.{offset_of}
 use Rattle.hs_stream.proofs.JoinLemmas.{writes-none, writes-more}
-use Rattle.hs_lines.specs.Passing.{IsPassedOn, PassesOn}
+use Rattle.hs_lines.specs.Passing.{IsPassedOn}
 use Rattle.hs_lines.specs.Printing.{report_lines_of}
 use Rattle.hs_lines.proofs.PassLemmas.{passes-join, passed-part, passed-written, passed-unwritten, on-nothing, on-then, on-cut_longer}
 use Rattle.hs_lines.proofs.PassLemmas.{on-line_written, on-line_unwritten}

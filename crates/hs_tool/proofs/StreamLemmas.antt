@@ -17,7 +17,7 @@ use Rattle.hs_tool.specs.Streaming
 use Rattle.hs_tool.specs.Streaming.{IsTextOver, HasServed, IsTextSoFar, HasAnswered, IsSomeText, HasBegunAnswers}
 use Rattle.hs_tool.specs.Stopping.{cause_of_stop}
 use Rattle.hs_tool.specs.Answers
-use Rattle.hs_lists.specs.Endings.{Outside, NoFault, HasList}
+use Rattle.hs_lists.specs.Endings.{Outside, HasList}
 use Rattle.hs_tool.specs.Answers.{Input, StreamEnds}
 use Rattle.hs_lists.proofs.EndingLemmas.{no_memory_early}
 

@@ -1,13 +1,11 @@
 -- What a write makes of the machine.
 use Rattle.std.proofs.Common.{◌≡◌, ℕ, Bool, false, List, [], ◌∷◌, ◌++◌, length, Option, None, Some, Result, sym, subst, arith}
-use Rattle.hs_base.specs.Patterns.{Pattern}
 use Rattle.hs_base.specs.Told.{Pair}
 use Rattle.hs_text.specs.declared.commands.Verb.TheVariants as verb
 use Rattle.hs_text.specs.declared.reply_lines.Word.TheVariants as word
 use Rattle.hs_text.specs.declared.reply_lines.Reply.{Reply}
 use Rattle.hs_text.specs.declared.reply_lines.Reply.TheVariants.{No}
 use Rattle.hs_compile.specs.declared.database.Database.{Database}
-use Rattle.hs_compile.specs.Databases.{IsDatabaseOf}
 use Rattle.hs_stream.specs.declared.stream.Stream.{Stream}
 use Rattle.hs_stream.specs.Standing.{Stands}
 use Rattle.hs_stream.proofs.StandLemmas.{write-moves}

@@ -1,19 +1,16 @@
 -- The answers of the program: each with what it says of the store, the sink and the files.
-use Rattle.std.specs.Prelude.{◌≡◌, ◌≢◌, ◌↔◌, ℕ, ◌<◌, ◌≤◌, ◌⊎◌, List, [], ◌∷◌, ◌++◌, length, map, Option, Some, None}
-use Rattle.hs_base.specs.Lists.{OneOf, IsMember}
+use Rattle.std.specs.Prelude.{◌≡◌, ◌≢◌, ℕ, ◌<◌, ◌≤◌, ◌⊎◌, List, [], ◌∷◌, length, Option, Some, None}
+use Rattle.hs_base.specs.Lists.{OneOf}
 use Rattle.hs_base.specs.Entries.{ListedEntry}
 use Rattle.hs_base.specs.Patterns.{Pattern}
-use Rattle.hs_base.specs.Settling.{AreRising}
 use Rattle.hs_base.specs.Told.{Pair, IsNew}
 use Rattle.hs_base.specs.MatchText.{report_lines, IsMatchText}
 use Rattle.hs_outside.specs.Counts.{Rose}
 use Rattle.hs_outside.specs.Source.{IsAtEnd}
 use Rattle.hs_outside.specs.Sink.{Took, TookPrefix}
-use Rattle.hs_outside.specs.Store.{Told, untold, lacks, holds, Begins, IsFile, IsLonger, IsMissing, PutsOrHides, Spoils}
+use Rattle.hs_outside.specs.Store.{Told, untold, lacks, holds, Begins, IsFile, IsLonger, IsMissing}
 use Rattle.hs_outside.specs.Store.{KeepsOthers, TellsNothing}
 use Rattle.hs_text.specs.declared.reply_lines.ScriptFault.{ScriptFault}
-use Rattle.hs_text.specs.AnswerLines.{accepted_line, compiled_line, info_lines}
-use Rattle.hs_dbfile.specs.Files.{IsDatabaseFile}
 use Rattle.hs_request.specs.Requests.{Request, match_file, check_list, compile_list, tell_database, scan_file}
 use Rattle.hs_request.specs.Requests.{run_script}
 use Rattle.hs_script.specs.Actions.{Action}
@@ -161,7 +158,9 @@ KeepsFiles request before now = now ≡ before
 
 -- Where the store tells the file of the list, it isn't loaded by this cause.
 pub data IsListDue (kind : ListKind) (name : List ℕ) (told : Told) : Cause → Type 0 where
-  no_list : told ≡ lacks → IsListDue kind name told (absent name)
+  no_list :
+      told ≡ lacks →
+      IsListDue kind name told (absent name)
   long_list : (bytes : List ℕ) →
       told ≡ holds bytes →
       greatest_list < length bytes →
@@ -242,16 +241,25 @@ TellsFile (Some request) told = TellsScanned (scanned_by request) told
 -- The outcome is the one that is due, where one is and no call on the outside failed, or memory was wanted.
 abbrev pub IsDueOutcome : Option Request → Outside → Outside → Input → Input → Option Cause → Type 0
 IsDueOutcome request before now input inputs outcome =
-    (due : Option Cause) → IsDue before.told input.left request due → (Rose before.stored now.stored → ⊥) →
-    (Rose before.sunk now.sunk → ⊥) → (IsStream request → Rose input.faults inputs.faults → ⊥) →
+    (due : Option Cause) →
+    IsDue before.told input.left request due →
+    (Rose before.stored now.stored → ⊥) →
+    (Rose before.sunk now.sunk → ⊥) →
+    (IsStream request → Rose input.faults inputs.faults → ⊥) →
     (outcome ≡ due) ⊎ (outcome ≡ Some memory)
 
 -- ---- the program
 
 -- The line was written, or a beginning of it where the sink failed.
 pub data Tells (line : List ℕ) (before now : Option (List ℕ)) (count counted : ℕ) : Type 0 where
-  told : Took before now line → counted ≡ count → Tells line before now count counted
-  cut : TookPrefix before now line → Rose count counted → Tells line before now count counted
+  told :
+      Took before now line →
+      counted ≡ count →
+      Tells line before now count counted
+  cut :
+      TookPrefix before now line →
+      Rose count counted →
+      Tells line before now count counted
 
 -- The program's answer: its status, what it leaves, and the line that it writes are those of one outcome.
 pub record IsAnswer (request : Option Request) (before now : Outside) (input inputs : Input)

@@ -3,6 +3,7 @@ pub mod Scanning
 pub mod OpenStreams
 pub mod Payloads
 pub mod ScriptCommands
+pub mod Sessions
 pub mod Serving
 pub mod Streaming
 pub mod Answers

@@ -32,7 +32,9 @@ pub record HasEnding (P : List Pattern) (bytes : List ℕ) (answers : List Answe
 pub record Finished (db : Database) (taken : List ℕ) (ended : Bool) (ending : Option ScriptFault)
     (text : List ℕ) : Type 0 where
   pub answers : List Answer
-  pub runs : (P : List Pattern) (rest : List ℕ) → IsDatabaseOf db P → MayCome ended rest →
+  pub runs : (P : List Pattern) (rest : List ℕ) →
+      IsDatabaseOf db P →
+      MayCome ended rest →
       HasEnding P (taken ++ rest) answers text ending
 
 -- The beginning of a command, with the actions that it makes so far: some of its line, or its line and some of what it
@@ -40,10 +42,13 @@ pub record Finished (db : Database) (taken : List ℕ) (ended : Bool) (ending : 
 pub data IsPart (bytes : List ℕ) : List Action → Type 0 where
   in_line : Each (λ b. b ≢ line_feed) bytes → IsPart bytes []
   in_payload : (line : List ℕ) {name came : List ℕ} {count : ℕ} →
-      IsCommand line (order.Write name count) → length came < count → bytes ≡ line ++ line_feed ∷ came →
+      IsCommand line (order.Write name count) →
+      length came < count →
+      bytes ≡ line ++ line_feed ∷ came →
       IsPart bytes (Cut name count came ∷ [])
   behind_payload : (line : List ℕ) {name came : List ℕ} →
-      IsCommand line (order.Write name (length came)) → bytes ≡ line ++ line_feed ∷ came →
+      IsCommand line (order.Write name (length came)) →
+      bytes ≡ line ++ line_feed ∷ came →
       IsPart bytes (Write name came ∷ [])
 
 -- the machine goes through these actions from the start
@@ -68,7 +73,9 @@ pub record Begun (db : Database) (taken unread : List ℕ) (text : List ℕ) : T
 
 -- the text so far: of a script that was begun, or of all of it
 pub data SoFar (db : Database) (taken : List ℕ) (left : Option (List ℕ)) (text : List ℕ) : Type 0 where
-  begun : (unread : List ℕ) → Begun db taken unread text → SoFar db taken left text
+  begun : (unread : List ℕ) →
+      Begun db taken unread text →
+      SoFar db taken left text
   over : (ended : Bool) (ending : Option ScriptFault) →
       (ended ≡ true → IsAtEnd left) →
       Finished db taken ended ending text →
@@ -105,7 +112,10 @@ pub data ScriptEnds (db : Database) (before now : Option (List ℕ))
       SoFar db taken now text →
       IsCut text →
       ScriptEnds db before now IsWritten IsCut (Err (Broken stop.Write))
-  no_memory : Gave before now [] → IsWritten [] → ScriptEnds db before now IsWritten IsCut (Err Memory)
+  no_memory :
+      Gave before now [] →
+      IsWritten [] →
+      ScriptEnds db before now IsWritten IsCut (Err Memory)
 
 -- whether the sink failed
 abbrev pub lost_of : Result (Unit {0}) ScriptStop → Bool

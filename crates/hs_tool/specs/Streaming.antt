@@ -55,9 +55,13 @@ pub record HasAnswered (P : List Pattern) (bytes : List ℕ) (left lefts out out
 
 -- The text of what was taken of the script, or of some first bytes of it; or of all of the script.
 pub data IsSomeText (P : List Pattern) (left lefts : Option (List ℕ)) (text : List ℕ) : Type 0 where
-  part : (bytes unread : List ℕ) → Gave left lefts (bytes ++ unread) → IsTextSoFar P bytes text →
+  part : (bytes unread : List ℕ) →
+      Gave left lefts (bytes ++ unread) →
+      IsTextSoFar P bytes text →
       IsSomeText P left lefts text
-  all : (ending : Option ScriptFault) → GaveSome left lefts → IsTextOver P left ending text →
+  all : (ending : Option ScriptFault) →
+      GaveSome left lefts →
+      IsTextOver P left ending text →
       IsSomeText P left lefts text
 
 -- The sink took a beginning of such a text.

@@ -1,12 +1,11 @@
 //! The runs of a row, and what is judged of them. It is `#[cfg(test)]`.
 
 use crate::leaving::Leaving;
-use crate::setting::{Answer, Faults, ROOM, Setting, wanted_of};
+use crate::setting::{Answer, Faults, NO_FAULTS, ROOM, Setting, wanted_of};
 use crate::top::run;
-use hs_outside::{MemSink, MemSource, MemStore, Store};
-use hs_rows::{rows_of, words_of};
+use hs_outside::{Failed, MemSink, MemSource, MemStore, Store};
+use hs_rows::rows_of;
 use std::alloc::{AllocError, Global};
-use std::process::Abort;
 use std::test::Fail;
 
 /// The bytes of which the names of many streams are made, two a name.
@@ -15,25 +14,19 @@ const NAME_BYTES: &[u8] = b"ABCDEFGHIJKLMNOPQRSTUVWXYZabcdefghijklmnopqrstuvwxyz
 /// The most calls of which each is to fail.
 const MOST_CALLS: u64 = 200;
 
-/// What fails in turn.
-#[derive(Clone, Copy)]
-enum Part {
-    Store,
-    Source,
-    Out,
-}
+/// What fails in turn, and what is written to `err` then.
+const PARTS: [(&str, &str); 3] = [
+    ("store", "fault store\n"),
+    ("source", "fault read\n"),
+    ("out", "fault write\n"),
+];
 
-impl Part {
-    /// That call of the commands on this part fails, and what is written to `err` then.
-    fn fails(self, setting: &Setting, call: u64) -> (Faults, &'static [u8]) {
-        let none = Faults::default();
-        let (store, source, out) = (setting.puts().saturating_add(call), call, call);
-        match self {
-            Part::Store => (Faults { store, ..none }, b"fault store\n"),
-            Part::Source => (Faults { source, ..none }, b"fault read\n"),
-            Part::Out => (Faults { out, ..none }, b"fault write\n"),
-        }
-    }
+/// That call of the commands on this part fails.
+fn faults_at(setting: &Setting, part: &str, call: u64) -> Result<Faults, Fail> {
+    let mut faults = NO_FAULTS;
+    let before = if part == "store" { setting.puts() } else { 0 };
+    faults.set(part.as_bytes(), before.saturating_add(call))?;
+    Ok(faults)
 }
 
 /// Adds a line for each name of two letters that begins with that one.
@@ -55,12 +48,21 @@ fn name_lines(alloc: Global, start: &[u8], text: &[u8]) -> Result<Vec<u8>, Alloc
     Ok(lines)
 }
 
+/// What the commands of a row run over.
+#[derive(Drop)]
+struct World {
+    store: Leaving,
+    input: MemSource,
+    out: MemSink,
+    err: MemSink,
+}
+
 /// Puts the file, where it is there.
-fn put(store: &mut MemStore, name: &str, file: &Option<Vec<u8>>) -> Result<(), Fail> {
-    if let Some(bytes) = file {
-        store.put(name, bytes)?;
+fn put(store: &mut MemStore, name: &str, file: &Option<Vec<u8>>) -> Result<(), Failed> {
+    match file {
+        Some(bytes) => store.put(name, bytes),
+        None => Ok(()),
     }
-    Ok(())
 }
 
 /// The store with the files of a row.
@@ -72,57 +74,65 @@ fn store_of(alloc: Global, setting: &Setting, faults: Faults) -> Result<Leaving,
     Ok(Leaving::new(store, faults.gone))
 }
 
-/// Runs a command, and gives its status.
-fn run_command(
-    alloc: Global,
-    command: &[u8],
-    store: &mut Leaving,
-    input: &mut MemSource,
-    out: &mut MemSink,
-    err: &mut MemSink,
-) -> Result<u8, Fail> {
-    let mut words = Vec::new(alloc);
-    for word in words_of(alloc, command)? {
-        words.push(String::from_utf8(word)?)?;
+impl World {
+    /// What the commands of a row run over, with the script in pieces of that length.
+    fn of(alloc: Global, setting: &Setting, piece: usize, faults: Faults) -> Result<World, Fail> {
+        Ok(World {
+            store: store_of(alloc, setting, faults)?,
+            input: MemSource::new(alloc, &setting.script, &[piece], &[faults.source])?,
+            out: MemSink::new(alloc, setting.room, &[faults.out])?,
+            err: MemSink::new(alloc, ROOM, &[faults.err])?,
+        })
     }
-    Ok(run(alloc, &words, store, input, out, err))
+
+    /// Runs a command, and gives its status.
+    fn run(&mut self, alloc: Global, words: &[String]) -> u8 {
+        run(
+            alloc,
+            words,
+            &mut self.store,
+            &mut self.input,
+            &mut self.out,
+            &mut self.err,
+        )
+    }
+
+    /// What was answered where the last status is this one.
+    fn answer(&self, alloc: Global, status: u8) -> Result<Answer, AllocError> {
+        Ok(Answer {
+            status: u32::from(status),
+            out: self.out.written().to_vec(alloc)?,
+            is_cut: 0 < self.store.store.faults()
+                || 0 < self.input.faults()
+                || 0 < self.out.faults(),
+            err: self.err.written().to_vec(alloc)?,
+            left: Some(self.store.store.file("d").unwrap_or(b"").to_vec(alloc)?),
+        })
+    }
 }
 
 /// Runs the commands of a row, with the script in pieces of that length.
 fn run_row(alloc: Global, setting: &Setting, piece: usize, faults: Faults) -> Result<Answer, Fail> {
-    let mut store = store_of(alloc, setting, faults)?;
-    let mut input = MemSource::new(alloc, &setting.script, &[piece], &[faults.source])?;
-    let mut out = MemSink::new(alloc, setting.room, &[faults.out])?;
-    let mut err = MemSink::new(alloc, ROOM, &[faults.err])?;
+    let mut world = World::of(alloc, setting, piece, faults)?;
     let mut status = 0;
-    for command in setting.commands.split(|byte| *byte == b'\n') {
-        status = run_command(alloc, command, &mut store, &mut input, &mut out, &mut err)?;
+    for words in &setting.commands {
+        status = world.run(alloc, words);
     }
-    Ok(Answer {
-        status: u32::from(status),
-        out: out.written().to_vec(alloc)?,
-        is_cut: 0 < store.store.faults() || 0 < input.faults() || 0 < out.faults(),
-        err: err.written().to_vec(alloc)?,
-        left: Some(store.store.file("d").unwrap_or(b"").to_vec(alloc)?),
-    })
+    Ok(world.answer(alloc, status)?)
+}
+
+/// What is said of an answer that isn't wanted.
+fn unwanted(name: &str, at: u64, found: &Answer) -> Fail {
+    let (status, out, err, left) = (found.status, &found.out, &found.err, &found.left);
+    Fail::new(format_args!("{name} {at}: {status} {out:?} {err:?} {left:?}"))
 }
 
 /// Judges a row: each run of it answers what is wanted.
-fn judge_row(
-    rt: &impl Abort,
-    alloc: Global,
-    name: &str,
-    setting: &Setting,
-    wanted: &Answer,
-) -> Result<(), Fail> {
+fn judge_row(alloc: Global, name: &str, setting: &Setting, wanted: &Answer) -> Result<(), Fail> {
     for piece in &setting.pieces {
         let found = run_row(alloc, setting, *piece, setting.faults)?;
-        assert_eq!(rt; found.status, wanted.status, "{name} {piece}");
-        assert!(rt; wanted.out.starts_with(&found.out), "{name} {piece}");
-        assert!(rt; wanted.is_cut || found.out == wanted.out, "{name} {piece}");
-        assert_eq!(rt; found.err, wanted.err, "{name} {piece}");
-        if wanted.left.is_some() {
-            assert_eq!(rt; found.left, wanted.left, "{name} {piece}");
+        if !wanted.is_met_by(&found) {
+            return Err(unwanted(name, *piece as u64, &found));
         }
     }
     Ok(())
@@ -131,49 +141,58 @@ fn judge_row(
 /// Judges a row of one command where each call on that part fails in turn, and the script comes byte by byte: a
 /// beginning of what is wanted was written, and the fault is told.
 fn judge_calls(
-    rt: &impl Abort,
     alloc: Global,
     name: &str,
     setting: &Setting,
     wanted: &Answer,
-    part: Part,
+    part: &str,
+    line: &str,
 ) -> Result<(), Fail> {
     for call in 1..MOST_CALLS {
-        let (faults, line) = part.fails(setting, call);
-        let found = run_row(alloc, setting, 1, faults)?;
+        let found = run_row(alloc, setting, 1, faults_at(setting, part, call)?)?;
         if !found.is_cut {
             return Ok(());
         }
-        assert_eq!(rt; found.status, 3, "{name} {call}");
-        assert!(rt; wanted.out.starts_with(&found.out), "{name} {call}");
-        assert_eq!(rt; found.err.as_slice(), line, "{name} {call}");
+        if !wanted.is_cut_short(&found, line.as_bytes()) {
+            return Err(unwanted(name, call, &found));
+        }
     }
     Err("a row of too many calls".into())
 }
 
+/// Judges a row of these words, behind the row that gives what it doesn't say.
+fn judge_words(
+    alloc: Global,
+    head: &[Vec<u8>],
+    words: &[Vec<u8>],
+    written: &[u8],
+) -> Result<(), Fail> {
+    let mut setting = Setting::new(alloc)?;
+    setting.take(alloc, head)?;
+    setting.take(alloc, words)?;
+    let mut wanted = wanted_of(alloc, written)?;
+    if setting.opens_all {
+        setting.script = name_lines(alloc, b"open ", &setting.script)?;
+        wanted.out = name_lines(alloc, b"ok open ", &wanted.out)?;
+    }
+    let name = format!(in alloc; "{words:?} = {written:?}")?;
+    judge_row(alloc, &name, &setting, &wanted)?;
+    if setting.fails_each {
+        for (part, line) in PARTS {
+            judge_calls(alloc, &name, &setting, &wanted, part, line)?;
+        }
+    }
+    Ok(())
+}
+
 /// Judges the rows of a table.
-pub(crate) fn judge(rt: &impl Abort, alloc: Global, table: &[u8]) -> Result<(), Fail> {
+pub(crate) fn judge(alloc: Global, table: &[u8]) -> Result<(), Fail> {
     let rows = rows_of(alloc, table)?;
     let mut head: &[Vec<u8>] = &[];
     for row in &rows {
-        let Some(written) = &row.wanted else {
-            head = &row.words;
-            continue;
-        };
-        let mut setting = Setting::new(alloc)?;
-        setting.take(alloc, head)?;
-        setting.take(alloc, &row.words)?;
-        let name = format!(in alloc; "{:?} = {written:?}", row.words)?;
-        let mut wanted = wanted_of(alloc, written)?;
-        if setting.opens_all {
-            setting.script = name_lines(alloc, b"open ", &setting.script)?;
-            wanted.out = name_lines(alloc, b"ok open ", &wanted.out)?;
-        }
-        judge_row(rt, alloc, &name, &setting, &wanted)?;
-        if setting.fails_each {
-            judge_calls(rt, alloc, &name, &setting, &wanted, Part::Store)?;
-            judge_calls(rt, alloc, &name, &setting, &wanted, Part::Source)?;
-            judge_calls(rt, alloc, &name, &setting, &wanted, Part::Out)?;
+        match &row.wanted {
+            Some(written) => judge_words(alloc, head, &row.words, written)?,
+            None => head = &row.words,
         }
     }
     Ok(())

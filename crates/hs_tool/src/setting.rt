@@ -2,14 +2,14 @@
 ghost use Rattle.std.specs.Prelude.{◌≤◌};
 
 use hs_rows::{number_of, text_of, words_of};
-use std::alloc::Global;
+use std::alloc::{AllocError, Global};
 use std::test::Fail;
 
 /// How many bytes the store, and `out` where no row says less, have room for.
 pub(crate) const ROOM: usize = 262_144;
 
 /// The calls that fail, and the read at which the store lacks its files, counted from 1; 0 is none.
-#[derive(Clone, Copy, Default)]
+#[derive(Clone, Copy)]
 pub(crate) struct Faults {
     pub(crate) store: u64,
     pub(crate) source: u64,
@@ -18,11 +18,20 @@ pub(crate) struct Faults {
     pub(crate) gone: u64,
 }
 
+/// No call fails.
+pub(crate) const NO_FAULTS: Faults = Faults {
+    store: 0,
+    source: 0,
+    out: 0,
+    err: 0,
+    gone: 0,
+};
+
 /// What the program is run on.
 #[derive(Drop)]
 pub(crate) struct Setting {
-    /// The commands, one a line, over the same store and streams.
-    pub(crate) commands: Vec<u8>,
+    /// The words of the commands, over the same store and streams.
+    pub(crate) commands: Vec<Vec<String>>,
     /// The files `p`, `f` and `d`, where they are there. The store's first calls put them.
     pub(crate) patterns: Option<Vec<u8>>,
     pub(crate) file: Option<Vec<u8>>,
@@ -65,6 +74,30 @@ fn file_of(alloc: Global, word: &[u8]) -> Result<Option<Vec<u8>>, Fail> {
     }
 }
 
+/// The bytes of a word `<text>`, none where it is `-`.
+fn bytes_of(alloc: Global, word: &[u8]) -> Result<Vec<u8>, Fail> {
+    Ok(file_of(alloc, word)?.unwrap_or(Vec::new(alloc)))
+}
+
+/// The words of a command.
+fn command_of(alloc: Global, line: &str) -> Result<Vec<String>, Fail> {
+    let mut words = Vec::new(alloc);
+    for word in words_of(alloc, line.as_bytes())? {
+        words.push(String::from_utf8(word)?)?;
+    }
+    Ok(words)
+}
+
+/// The commands of a word `<text>`, one a line of it.
+fn commands_of(alloc: Global, word: &[u8]) -> Result<Vec<Vec<String>>, Fail> {
+    let text = bytes_of(alloc, word)?;
+    let mut commands = Vec::new(alloc);
+    for line in std::str::from_utf8(&text)?.split('\n') {
+        commands.push(command_of(alloc, line)?)?;
+    }
+    Ok(commands)
+}
+
 /// The number that a word is.
 fn number_in(word: &[u8]) -> Result<u32, Fail> {
     Ok(number_of(word).ok_or("no number in a row")?)
@@ -73,15 +106,15 @@ fn number_in(word: &[u8]) -> Result<u32, Fail> {
 /// The numbers that a word has between commas.
 fn numbers_in(alloc: Global, word: &[u8]) -> Result<Vec<usize>, Fail> {
     let mut numbers = Vec::new(alloc);
-    for digits in word.split(|byte| *byte == b',') {
-        numbers.push(number_in(digits)? as usize)?;
+    for digits in std::str::from_utf8(word)?.split(',') {
+        numbers.push(number_in(digits.as_bytes())? as usize)?;
     }
     Ok(numbers)
 }
 
 impl Setting {
     /// No command, over no files and an empty script.
-    pub(crate) fn new(alloc: Global) -> Result<Setting, Fail> {
+    pub(crate) fn new(alloc: Global) -> Result<Setting, AllocError> {
         Ok(Setting {
             commands: Vec::new(alloc),
             patterns: None,
@@ -89,9 +122,9 @@ impl Setting {
             database: None,
             script: Vec::new(alloc),
             opens_all: false,
-            pieces: vec![in alloc; ROOM; 1]?,
+            pieces: Vec::from_slice(alloc, &[ROOM])?,
             room: ROOM,
-            faults: Faults::default(),
+            faults: NO_FAULTS,
             fails_each: false,
         })
     }
@@ -119,23 +152,56 @@ impl Setting {
     /// Takes a field of a row.
     fn set(&mut self, alloc: Global, name: &[u8], value: &[u8]) -> Result<(), Fail> {
         match name {
-            b"run" => self.commands = file_of(alloc, value)?.unwrap_or(Vec::new(alloc)),
-            b"p" => self.patterns = file_of(alloc, value)?,
-            b"f" => self.file = file_of(alloc, value)?,
-            b"d" => self.database = file_of(alloc, value)?,
-            b"in" => self.script = file_of(alloc, value)?.unwrap_or(Vec::new(alloc)),
-            b"opens" => self.opens_all = true,
+            b"run" => self.commands = commands_of(alloc, value)?,
+            b"in" => self.script = bytes_of(alloc, value)?,
+            b"p" | b"f" | b"d" => self.set_file(name, file_of(alloc, value)?),
             b"pieces" => self.pieces = numbers_in(alloc, value)?,
-            b"room" => self.room = number_in(value)? as usize,
-            b"store" => self.faults.store = u64::from(number_in(value)?),
-            b"source" => self.faults.source = u64::from(number_in(value)?),
-            b"out" => self.faults.out = u64::from(number_in(value)?),
-            b"err" => self.faults.err = u64::from(number_in(value)?),
-            b"gone" => self.faults.gone = u64::from(number_in(value)?),
+            b"opens" => self.opens_all = true,
             b"fails" => self.fails_each = true,
+            b"room" => self.room = number_in(value)? as usize,
+            _ => return self.faults.set(name, u64::from(number_in(value)?)),
+        }
+        Ok(())
+    }
+
+    /// Takes a file.
+    fn set_file(&mut self, name: &[u8], file: Option<Vec<u8>>) {
+        match name {
+            b"p" => self.patterns = file,
+            b"f" => self.file = file,
+            _ => self.database = file,
+        }
+    }
+}
+
+impl Faults {
+    /// Takes the call that fails of that name.
+    pub(crate) fn set(&mut self, name: &[u8], call: u64) -> Result<(), Fail> {
+        match name {
+            b"store" => self.store = call,
+            b"source" => self.source = call,
+            b"out" => self.out = call,
+            b"err" => self.err = call,
+            b"gone" => self.gone = call,
             _ => return Err("no such field".into()),
         }
         Ok(())
+    }
+}
+
+impl Answer {
+    /// Whether this answer, which is wanted, is the one that was found.
+    pub(crate) fn is_met_by(&self, found: &Answer) -> bool {
+        found.status == self.status
+            && self.out.starts_with(&found.out)
+            && (self.is_cut || found.out == self.out)
+            && found.err == self.err
+            && (self.left.is_none() || found.left == self.left)
+    }
+
+    /// Whether the answer that was found is a beginning of this one, broken off by a fault of that line.
+    pub(crate) fn is_cut_short(&self, found: &Answer, line: &[u8]) -> bool {
+        found.status == 3 && self.out.starts_with(&found.out) && found.err.as_slice() == line
     }
 }
 

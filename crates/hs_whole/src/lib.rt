@@ -4,8 +4,6 @@
 mod builder;
 mod program;
 mod regions;
-#[cfg(test)]
-mod tests;
 mod wakes;
 
 pub use program::{Identifier, Program, Role};

@@ -9,8 +9,6 @@ mod roles;
 mod runner;
 mod scratch;
 mod state;
-#[cfg(test)]
-mod tests;
 mod waking;
 
 pub use collected::Collected;

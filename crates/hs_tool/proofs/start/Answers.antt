@@ -1,5 +1,4 @@
-use Rattle.std.proofs.Common.{rules, ◌≡◌, ℕ, sym, ◌∙◌, subst}
-use Rattle.std.specs.Process.{exit_status}
+use Rattle.std.proofs.Common.{sym, ◌∙◌, subst}
 use Rattle.hs_tool.specs.Main.{EndsWith}
 use Rattle.hs_tool.specs.Main as ends
 use Rattle.hs_tool.proofs.MainLemmas.{ran-from}

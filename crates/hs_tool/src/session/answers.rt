@@ -1,12 +1,11 @@
 //! The answers of single commands, on their way to a sink.
 ghost use Rattle.std.specs.Prelude.{◌≡◌, is_err, OnOk, OnErr};
 ghost use Rattle.hs_outside.specs.Counts.{Rose};
-ghost use Rattle.hs_stream.specs.Scratches.{IsScratchOf};
 ghost use Rattle.hs_text.specs.ReplyLines.{reply_line as line_of_reply};
 ghost use Rattle.hs_script.specs.Actions.{Reset, Close};
 ghost use Rattle.hs_tool.specs.ScriptCommands.{IsTold, SendsFault, FaultCounts};
 ghost use Rattle.hs_lines.specs.Passing.{Passes};
-ghost use Rattle.hs_tool.specs.OpenStreams.{AreStreamsOf};
+ghost use Rattle.hs_tool.specs.Sessions.{IsReady, Keeps};
 
 use super::fault::ScriptStop;
 use super::streams::Streams;
@@ -21,14 +20,10 @@ impl<I: Source, O: Sink, L: Ledger> Session<'_, '_, '_, '_, '_, I, O, L> {
     /// Resets the stream of that name, and gives the answer that is due. The lines of its last reports are written, or
     /// wait.
     pub(crate) fn tell_reset(&mut self, streams: &mut Streams, name: &Name) -> Result<Reply, Failed>
-        requires fits { AreStreamsOf self.old.db.now streams.old }
-        requires scratch { IsScratchOf self.old.db.now self.old.scratch.now }
-        ensures same_db { self.new.db.now ≡ self.old.db.now }
+        requires ready { IsReady self.old streams.old }
+        ensures keeps { Keeps self.old self.new streams.new }
         ensures same_reader { self.new.reader ≡ self.old.reader }
         ensures same_input { self.new.input ≡ self.old.input }
-        ensures same_out { self.new.out.ghost_name ≡ self.old.out.ghost_name }
-        ensures fits { AreStreamsOf self.old.db.now streams.new }
-        ensures scratch { IsScratchOf self.old.db.now self.new.scratch.now }
         ensures told { IsTold self.old.db.now (Reset name.now) result streams.old streams.new
             (O.written self.old.out.now) (O.written self.new.out.now) self.old.pending self.new.pending }
         ensures counted { OnOk result (O.faults self.new.out.now ≡ O.faults self.old.out.now) }
@@ -54,14 +49,10 @@ impl<I: Source, O: Sink, L: Ledger> Session<'_, '_, '_, '_, '_, I, O, L> {
     /// Closes the stream of that name, and gives the answer that is due. The lines of its last reports are written, or
     /// wait.
     pub(crate) fn tell_close(&mut self, streams: &mut Streams, name: &Name) -> Result<Reply, Failed>
-        requires fits { AreStreamsOf self.old.db.now streams.old }
-        requires scratch { IsScratchOf self.old.db.now self.old.scratch.now }
-        ensures same_db { self.new.db.now ≡ self.old.db.now }
+        requires ready { IsReady self.old streams.old }
+        ensures keeps { Keeps self.old self.new streams.new }
         ensures same_reader { self.new.reader ≡ self.old.reader }
         ensures same_input { self.new.input ≡ self.old.input }
-        ensures same_out { self.new.out.ghost_name ≡ self.old.out.ghost_name }
-        ensures fits { AreStreamsOf self.old.db.now streams.new }
-        ensures scratch { IsScratchOf self.old.db.now self.new.scratch.now }
         ensures told { IsTold self.old.db.now (Close name.now) result streams.old streams.new
             (O.written self.old.out.now) (O.written self.new.out.now) self.old.pending self.new.pending }
         ensures counted { OnOk result (O.faults self.new.out.now ≡ O.faults self.old.out.now) }

@@ -1,11 +1,10 @@
 //! The commands of a script.
 ghost use Rattle.std.specs.Prelude.{◌≡◌, List, ℕ};
-ghost use Rattle.hs_stream.specs.Scratches.{IsScratchOf};
 ghost use Rattle.hs_text.specs.Commands.{IsCommand};
 ghost use Rattle.hs_text.specs.Commands as order;
-ghost use Rattle.hs_tool.specs.ScriptCommands.{Runs, RunsBy, done_of, LeavesAt, StopCounts};
+ghost use Rattle.hs_tool.specs.ScriptCommands.{done_of, LeavesAt, StopCounts};
 ghost use Rattle.hs_reader.specs.Reading.{kept_of};
-ghost use Rattle.hs_tool.specs.OpenStreams.{AreStreamsOf};
+ghost use Rattle.hs_tool.specs.Sessions.{Answers, IsReady, Keeps};
 
 use super::answers::{write_fault, write_reply};
 use super::fault::ScriptStop;
@@ -25,17 +24,10 @@ impl<I: Source, O: Sink, L: Ledger> Session<'_, '_, '_, '_, '_, I, O, L> {
         line: &Line,
         number: u64,
     ) -> Result<(), ScriptStop>
-        requires fits { AreStreamsOf self.old.db.now streams.old }
-        requires scratch { IsScratchOf self.old.db.now self.old.scratch.now }
-        ensures same_db { self.new.db.now ≡ self.old.db.now }
-        ensures same_input { self.new.input.ghost_name ≡ self.old.input.ghost_name }
-        ensures same_out { self.new.out.ghost_name ≡ self.old.out.ghost_name }
-        ensures fits { AreStreamsOf self.old.db.now streams.new }
-        ensures scratch { IsScratchOf self.old.db.now self.new.scratch.now }
+        requires ready { IsReady self.old streams.old }
+        ensures keeps { Keeps self.old self.new streams.new }
         ensures runs { (whole : List ℕ) → line.now ≡ kept_of whole →
-            RunsBy (Runs self.old.db.now whole number streams.old streams.new
-            (I.left self.old.input.now) (I.left self.new.input.now) self.old.reader self.new.reader
-            (O.written self.old.out.now) (O.written self.new.out.now) self.old.pending self.new.pending) result }
+            Answers I.left O.written self.old self.new whole number streams.old streams.new result }
         ensures leaves { LeavesAt self.new.reader result }
         ensures counts { StopCounts (I.faults self.old.input.now) (I.faults self.new.input.now)
             (O.faults self.old.out.now) (O.faults self.new.out.now) result }
@@ -54,17 +46,10 @@ impl<I: Source, O: Sink, L: Ledger> Session<'_, '_, '_, '_, '_, I, O, L> {
 
     /// Opens the stream of that name, and answers.
     fn open(&mut self, streams: &mut Streams, name: &Name) -> Result<(), ScriptStop>
-        requires fits { AreStreamsOf self.old.db.now streams.old }
-        requires scratch { IsScratchOf self.old.db.now self.old.scratch.now }
-        ensures same_db { self.new.db.now ≡ self.old.db.now }
-        ensures same_input { self.new.input.ghost_name ≡ self.old.input.ghost_name }
-        ensures same_out { self.new.out.ghost_name ≡ self.old.out.ghost_name }
-        ensures fits { AreStreamsOf self.old.db.now streams.new }
-        ensures scratch { IsScratchOf self.old.db.now self.new.scratch.now }
+        requires ready { IsReady self.old streams.old }
+        ensures keeps { Keeps self.old self.new streams.new }
         ensures runs { (whole : List ℕ) (number : ℕ) → IsCommand whole (order.Open name.now) →
-            RunsBy (Runs self.old.db.now whole number streams.old streams.new
-            (I.left self.old.input.now) (I.left self.new.input.now) self.old.reader self.new.reader
-            (O.written self.old.out.now) (O.written self.new.out.now) self.old.pending self.new.pending) result }
+            Answers I.left O.written self.old self.new whole number streams.old streams.new result }
         ensures leaves { LeavesAt self.new.reader result }
         ensures counts { StopCounts (I.faults self.old.input.now) (I.faults self.new.input.now)
             (O.faults self.old.out.now) (O.faults self.new.out.now) result }
@@ -82,17 +67,10 @@ impl<I: Source, O: Sink, L: Ledger> Session<'_, '_, '_, '_, '_, I, O, L> {
         count: u64,
         number: u64,
     ) -> Result<(), ScriptStop>
-        requires fits { AreStreamsOf self.old.db.now streams.old }
-        requires scratch { IsScratchOf self.old.db.now self.old.scratch.now }
-        ensures same_db { self.new.db.now ≡ self.old.db.now }
-        ensures same_input { self.new.input.ghost_name ≡ self.old.input.ghost_name }
-        ensures same_out { self.new.out.ghost_name ≡ self.old.out.ghost_name }
-        ensures fits { AreStreamsOf self.old.db.now streams.new }
-        ensures scratch { IsScratchOf self.old.db.now self.new.scratch.now }
+        requires ready { IsReady self.old streams.old }
+        ensures keeps { Keeps self.old self.new streams.new }
         ensures runs { (whole : List ℕ) → IsCommand whole (order.Write name.now count) →
-            RunsBy (Runs self.old.db.now whole number streams.old streams.new
-            (I.left self.old.input.now) (I.left self.new.input.now) self.old.reader self.new.reader
-            (O.written self.old.out.now) (O.written self.new.out.now) self.old.pending self.new.pending) result }
+            Answers I.left O.written self.old self.new whole number streams.old streams.new result }
         ensures leaves { LeavesAt self.new.reader result }
         ensures counts { StopCounts (I.faults self.old.input.now) (I.faults self.new.input.now)
             (O.faults self.old.out.now) (O.faults self.new.out.now) result }
@@ -121,17 +99,10 @@ impl<I: Source, O: Sink, L: Ledger> Session<'_, '_, '_, '_, '_, I, O, L> {
 
     /// Resets the stream of that name, and answers behind the lines of its last reports.
     fn reset(&mut self, streams: &mut Streams, name: &Name) -> Result<(), ScriptStop>
-        requires fits { AreStreamsOf self.old.db.now streams.old }
-        requires scratch { IsScratchOf self.old.db.now self.old.scratch.now }
-        ensures same_db { self.new.db.now ≡ self.old.db.now }
-        ensures same_input { self.new.input.ghost_name ≡ self.old.input.ghost_name }
-        ensures same_out { self.new.out.ghost_name ≡ self.old.out.ghost_name }
-        ensures fits { AreStreamsOf self.old.db.now streams.new }
-        ensures scratch { IsScratchOf self.old.db.now self.new.scratch.now }
+        requires ready { IsReady self.old streams.old }
+        ensures keeps { Keeps self.old self.new streams.new }
         ensures runs { (whole : List ℕ) (number : ℕ) → IsCommand whole (order.Reset name.now) →
-            RunsBy (Runs self.old.db.now whole number streams.old streams.new
-            (I.left self.old.input.now) (I.left self.new.input.now) self.old.reader self.new.reader
-            (O.written self.old.out.now) (O.written self.new.out.now) self.old.pending self.new.pending) result }
+            Answers I.left O.written self.old self.new whole number streams.old streams.new result }
         ensures leaves { LeavesAt self.new.reader result }
         ensures counts { StopCounts (I.faults self.old.input.now) (I.faults self.new.input.now)
             (O.faults self.old.out.now) (O.faults self.new.out.now) result }
@@ -144,17 +115,10 @@ impl<I: Source, O: Sink, L: Ledger> Session<'_, '_, '_, '_, '_, I, O, L> {
 
     /// Closes the stream of that name, and answers behind the lines of its last reports.
     fn close(&mut self, streams: &mut Streams, name: &Name) -> Result<(), ScriptStop>
-        requires fits { AreStreamsOf self.old.db.now streams.old }
-        requires scratch { IsScratchOf self.old.db.now self.old.scratch.now }
-        ensures same_db { self.new.db.now ≡ self.old.db.now }
-        ensures same_input { self.new.input.ghost_name ≡ self.old.input.ghost_name }
-        ensures same_out { self.new.out.ghost_name ≡ self.old.out.ghost_name }
-        ensures fits { AreStreamsOf self.old.db.now streams.new }
-        ensures scratch { IsScratchOf self.old.db.now self.new.scratch.now }
+        requires ready { IsReady self.old streams.old }
+        ensures keeps { Keeps self.old self.new streams.new }
         ensures runs { (whole : List ℕ) (number : ℕ) → IsCommand whole (order.Close name.now) →
-            RunsBy (Runs self.old.db.now whole number streams.old streams.new
-            (I.left self.old.input.now) (I.left self.new.input.now) self.old.reader self.new.reader
-            (O.written self.old.out.now) (O.written self.new.out.now) self.old.pending self.new.pending) result }
+            Answers I.left O.written self.old self.new whole number streams.old streams.new result }
         ensures leaves { LeavesAt self.new.reader result }
         ensures counts { StopCounts (I.faults self.old.input.now) (I.faults self.new.input.now)
             (O.faults self.old.out.now) (O.faults self.new.out.now) result }

@@ -4,9 +4,8 @@ ghost use Rattle.hs_base.specs.Offsets.{greatest_offset};
 ghost use Rattle.hs_stream.specs.Scratches.{IsScratchOf};
 ghost use Rattle.hs_stream.specs.Streams.{offset_of, IsStreamOf};
 ghost use Rattle.hs_reader.specs.Breaks.{ReadCounts, Counts};
-ghost use Rattle.hs_tool.specs.Payloads.{SomeCome, IsPayloadScanned, IsPayloadRefused, IsPayloadWritten};
-ghost use Rattle.hs_tool.specs.Payloads.{IsPayloadTaken};
-ghost use Rattle.hs_tool.specs.OpenStreams.{AreStreamsOf};
+ghost use Rattle.hs_tool.specs.Payloads.{SomeCome, IsPayloadRefused};
+ghost use Rattle.hs_tool.specs.Sessions.{IsReady, Keeps, Stays, TakesPayload, WritesPayload, ScansPayload};
 
 use super::streams::Streams;
 use crate::piece::write_piece;
@@ -36,16 +35,9 @@ impl<I: Source, O: Sink, L: Ledger> Session<'_, '_, '_, '_, '_, I, O, L> {
         name: &Name,
         count: u64,
     ) -> Result<Payload, Break>
-        requires fits { AreStreamsOf self.old.db.now streams.old }
-        requires scratch { IsScratchOf self.old.db.now self.old.scratch.now }
-        ensures same_db { self.new.db.now ≡ self.old.db.now }
-        ensures same_input { self.new.input.ghost_name ≡ self.old.input.ghost_name }
-        ensures same_out { self.new.out.ghost_name ≡ self.old.out.ghost_name }
-        ensures fits { AreStreamsOf self.old.db.now streams.new }
-        ensures scratch { IsScratchOf self.old.db.now self.new.scratch.now }
-        ensures taken { IsPayloadTaken self.old.db.now name.now count streams.old streams.new
-            (I.left self.old.input.now) (I.left self.new.input.now) self.old.reader self.new.reader
-            (O.written self.old.out.now) (O.written self.new.out.now) self.old.pending self.new.pending result }
+        requires ready { IsReady self.old streams.old }
+        ensures keeps { Keeps self.old self.new streams.new }
+        ensures taken { TakesPayload I.left O.written self.old self.new name.now count streams.old streams.new result }
         ensures counts { Counts (I.faults self.old.input.now) (I.faults self.new.input.now)
             (O.faults self.old.out.now) (O.faults self.new.out.now) result }
     {
@@ -64,14 +56,9 @@ impl<I: Source, O: Sink, L: Ledger> Session<'_, '_, '_, '_, '_, I, O, L> {
     ) -> Result<Payload, Break>
         requires fits { IsStreamOf self.old.db.now stream.old }
         requires scratch { IsScratchOf self.old.db.now self.old.scratch.now }
-        ensures same_db { self.new.db.now ≡ self.old.db.now }
-        ensures same_input { self.new.input.ghost_name ≡ self.old.input.ghost_name }
-        ensures same_out { self.new.out.ghost_name ≡ self.old.out.ghost_name }
+        ensures stays { Stays self.old self.new }
         ensures fits { IsStreamOf self.old.db.now stream.new }
-        ensures scratch { IsScratchOf self.old.db.now self.new.scratch.now }
-        ensures written { IsPayloadWritten self.old.db.now name.now count stream.old stream.new
-            (I.left self.old.input.now) (I.left self.new.input.now) self.old.reader self.new.reader
-            (O.written self.old.out.now) (O.written self.new.out.now) self.old.pending self.new.pending result }
+        ensures written { WritesPayload I.left O.written self.old self.new name.now count stream.old stream.new result }
         ensures counts { Counts (I.faults self.old.input.now) (I.faults self.new.input.now)
             (O.faults self.old.out.now) (O.faults self.new.out.now) result }
     {
@@ -93,14 +80,9 @@ impl<I: Source, O: Sink, L: Ledger> Session<'_, '_, '_, '_, '_, I, O, L> {
         requires fits { IsStreamOf self.old.db.now stream.old }
         requires scratch { IsScratchOf self.old.db.now self.old.scratch.now }
         requires room { offset_of stream.old + count ≤ greatest_offset }
-        ensures same_db { self.new.db.now ≡ self.old.db.now }
-        ensures same_input { self.new.input.ghost_name ≡ self.old.input.ghost_name }
-        ensures same_out { self.new.out.ghost_name ≡ self.old.out.ghost_name }
+        ensures stays { Stays self.old self.new }
         ensures fits { IsStreamOf self.old.db.now stream.new }
-        ensures scratch { IsScratchOf self.old.db.now self.new.scratch.now }
-        ensures scanned { IsPayloadScanned self.old.db.now name.now count stream.old stream.new
-            (I.left self.old.input.now) (I.left self.new.input.now) self.old.reader self.new.reader
-            (O.written self.old.out.now) (O.written self.new.out.now) self.old.pending self.new.pending result }
+        ensures scanned { ScansPayload I.left O.written self.old self.new name.now count stream.old stream.new result }
         ensures counts { Counts (I.faults self.old.input.now) (I.faults self.new.input.now)
             (O.faults self.old.out.now) (O.faults self.new.out.now) result }
     {

@@ -1,4 +1,3 @@
-use Rattle.std.proofs.Common.{Ok, Err}
 use Rattle.hs_base.specs.MatchText.{end_line}
 use Rattle.hs_stream.specs.Streams.{offset_of}
 use Rattle.hs_tool.proofs.ScanLemmas.{close-sent, close-cut}

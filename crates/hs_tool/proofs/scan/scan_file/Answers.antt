@@ -1,6 +1,6 @@
-use Rattle.std.proofs.Common.{◌∙◌, refl, arith, rules}
-use Rattle.std.proofs.lemmas.List.{length-take-le}
-use Rattle.hs_outside.proofs.Viewing.{ReadsAt-again}
+use Rattle.std.proofs.Common.{◌∙◌, refl, subst, arith, rules}
+use Rattle.hs_outside.specs.Counts.{Rose}
+use Rattle.hs_outside.proofs.Viewing.{IsPresent-read, ReadsAt-again}
 use Rattle.hs_tool.proofs.ScanLemmas.{seen-start, seen-more, seen-end, seen-part, seen-cut, seen-longer}
 use Rattle.hs_tool.proofs.scan.scan_file.Goals as goal
 
@@ -49,3 +49,15 @@ returns-in-Err-Failed-clause-cut g c = seen-part c.pieces.invariant.seen
 
 pub returns-then-at-count-clause-cut : goal.returns-then-at-count-clause-cut
 returns-then-at-count-clause-cut g c = seen-part c.pieces.invariant.seen
+
+pub returns-then-at-count-clause-fault : goal.returns-then-at-count-clause-fault
+returns-then-at-count-clause-fault g c =
+    let kept = c.pieces.invariant in
+    let reads = ReadsAt-again _ _ c.args.name.now c.offset-at.result _ _ c.in-Ok.count kept.kept c.in-Ok.ensures.given in
+    (seen-longer c.offset-at.result c.in-Ok.count c.offset-at.ensures (omega arith) kept.seen reads, c.in-Ok.ensures.counted ∙ kept.stored, kept.sunk)
+
+pub returns-in-Err-clause-fault : goal.returns-in-Err-clause-fault
+returns-in-Err-clause-fault g c =
+    let kept = c.pieces.invariant in
+    let reads = ReadsAt-again _ _ c.args.name.now c.offset-at.result _ _ c.in-Ok.count kept.kept c.in-Ok.ensures.given in
+    (IsPresent-read (g.S.Store.told c.args.store.now c.args.name.now) c.offset-at.result _ reads.given, c.in-Ok.ensures.counted ∙ kept.stored, subst (λ n. Rose n (g.O.Sink.faults c.write_piece.new.out)) kept.sunk c.in-Err.ensures.scanned.passes.failed)

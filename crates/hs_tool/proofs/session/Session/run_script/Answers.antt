@@ -41,15 +41,16 @@ loop-streams-smaller g c =
 
 pub loop-streams-preserved : goal.loop-streams-preserved
 loop-streams-preserved g c =
+    let keeps = c.run_line.ensures.keeps in
     let line = line-one (g.I.Source.left c.loop-streams.self.input.now) (g.I.Source.left c.read_line.new.input) c.loop-streams.self.reader c.read_line.new.self c.read_line.new.line c.in-Ok-true.field-0-test c.in-Ok-true.ensures.read in
     let runs = c.in-Ok.ensures.runs line.line line.keeps in
     record {
-      so_far = so_far-same (sym c.run_line.ensures.same_db) (so_far-numbered (omega arith) (so_far-sent false (so_far-next false c.loop-streams.invariant.so_far line runs) c.in-Ok-answer_now.ensures.sends));
-      same_db = c.run_line.ensures.same_db ∙ c.loop-streams.invariant.same_db;
-      same_input = c.run_line.ensures.same_input ∙ c.loop-streams.invariant.same_input;
-      same_out = c.run_line.ensures.same_out ∙ c.loop-streams.invariant.same_out;
-      fits = subst (λ db. AreStreamsOf db c.run_line.new.streams) (sym c.run_line.ensures.same_db) c.run_line.ensures.fits;
-      scratch = subst (λ db. IsScratchOf db c.run_line.new.self.scratch.now) (sym c.run_line.ensures.same_db) c.run_line.ensures.scratch;
+      so_far = so_far-same (sym keeps.stays.same_db) (so_far-numbered (omega arith) (so_far-sent false (so_far-next false c.loop-streams.invariant.so_far line runs) c.in-Ok-answer_now.ensures.sends));
+      same_db = keeps.stays.same_db ∙ c.loop-streams.invariant.same_db;
+      same_input = keeps.stays.same_input ∙ c.loop-streams.invariant.same_input;
+      same_out = keeps.stays.same_out ∙ c.loop-streams.invariant.same_out;
+      fits = subst (λ db. AreStreamsOf db c.run_line.new.streams) (sym keeps.stays.same_db) keeps.fits;
+      scratch = subst (λ db. IsScratchOf db c.run_line.new.self.scratch.now) (sym keeps.stays.same_db) keeps.stays.scratch;
       counted = record {
         source = c.in-Ok.ensures.counts.source ∙ (c.in-Ok-true.ensures.counts ∙ c.loop-streams.invariant.counted.source);
         sink = c.in-Ok-answer_now.ensures.counted ∙ (c.in-Ok.ensures.counts.sink ∙ c.loop-streams.invariant.counted.sink);

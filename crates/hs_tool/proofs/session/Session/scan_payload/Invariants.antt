@@ -1,8 +1,8 @@
-use Rattle.std.proofs.Common.{◌≡◌, ◌+◌, ◌≤◌}
+use Rattle.std.proofs.Common.{◌+◌, ◌≤◌}
 use Rattle.hs_base.specs.Offsets.{greatest_offset}
-use Rattle.hs_stream.specs.Scratches.{IsScratchOf}
 use Rattle.hs_stream.specs.Streams.{offset_of, IsStreamOf}
 use Rattle.hs_reader.specs.Breaks.{NoFault}
+use Rattle.hs_tool.specs.Sessions.{Stays}
 use Rattle.hs_tool.proofs.PayloadLemmas.{IsScannedSoFar}
 use Rattle.hs_tool.proofs.session.Session.scan_payload.Given as goal
 
@@ -10,11 +10,8 @@ abbrev pub invariant-loop-left : goal.invariant-loop-left
 invariant-loop-left g l = record {
   scanned : IsScannedSoFar l.fn.self.db.now l.name l.count l.left l.fn.stream l.stream (g.I.Source.left l.fn.self.input.now) (g.I.Source.left l.self.input.now) l.fn.self.reader l.self.reader
       (g.O.Sink.written l.fn.self.out.now) (g.O.Sink.written l.self.out.now) l.fn.self.pending l.self.pending;
-  same_db : l.self.db.now ≡ l.fn.self.db.now;
-  same_input : l.self.input.ghost_name ≡ l.fn.self.input.ghost_name;
-  same_out : l.self.out.ghost_name ≡ l.fn.self.out.ghost_name;
+  stays : Stays l.fn.self l.self;
   fits : IsStreamOf l.fn.self.db.now l.stream;
-  scratch : IsScratchOf l.fn.self.db.now l.self.scratch.now;
   room : offset_of l.stream + l.left ≤ greatest_offset;
   counted : NoFault (g.I.Source.faults l.fn.self.input.now) (g.I.Source.faults l.self.input.now) (g.O.Sink.faults l.fn.self.out.now) (g.O.Sink.faults l.self.out.now);
 }

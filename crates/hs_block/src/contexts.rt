@@ -1,0 +1,144 @@
+//! The contexts of the places of a block: a word for each class of bytes, and of these the words of masks.
+//!
+//! The classes of ten bytes, and the places whose context `\b` allows:
+//!
+//! ```text
+//! bytes              f o o   b a r . . .
+//! word bytes         1 1 1 . 1 1 1 . . .
+//! behind word bytes  . 1 1 1 . 1 1 1 . .    one place on
+//! \b                 1 . . 1 1 . . 1 . .    one of the two alone
+//! ```
+
+ghost use Rattle.std.specs.Prelude.{◌≡◌, ℕ, ◌<◌, ◌≤◌, ◌&&◌, ◌||◌, ◌==◌, List, length};
+ghost use Rattle.hs_base.specs.Contexts.{prev_number};
+ghost use Rattle.hs_base.specs.ContextSets.{has_context, has_next};
+ghost use Rattle.hs_base.specs.declared.context.Next.TheVariants as after;
+ghost use Rattle.hs_base.specs.declared.context.Prev.{Prev};
+ghost use Rattle.hs_block.specs.BlockContexts.{AreClasses, AreContexts, TellsBefore, TellsBehind, class_word, is_part};
+ghost use Rattle.hs_block.specs.WordBits.{one_later, word_bit};
+
+use crate::places::{one_later, only_if, with_place};
+use hs_base::{Mask, Next, NextSet, Prev};
+
+/// A word for each class of bytes: at which places of a block one stands.
+#[derive(Clone, Copy, Debug, PartialEq, Eq)]
+struct Classes {
+    /// Bytes of `[A-Za-z0-9_]`.
+    words: u64,
+    /// Line feeds.
+    newlines: u64,
+    /// Any other bytes.
+    others: u64,
+}
+
+impl Classes {
+    /// The classes of the bytes of a block.
+    fn new(bytes: &[u8]) -> Classes
+        requires { length bytes.now ≤ 64 }
+        ensures { AreClasses result bytes.now (length bytes.now) }
+    {
+        let mut classes = Classes {
+            words: 0,
+            newlines: 0,
+            others: 0,
+        };
+        for place in 0..bytes.len() {
+            let class = Next::class_of(bytes[place]).number();
+            classes.words = with_place(classes.words, place, class == 0);
+            classes.newlines = with_place(classes.newlines, place, class == 1);
+            classes.others = with_place(classes.others, place, class == 2);
+        }
+        classes
+    }
+
+    /// The places of the bytes behind which that stands.
+    fn before(&self, prev: Prev) -> u64
+        ensures { result ≡ class_word self.now prev }
+    {
+        match prev {
+            Prev::Start => 0,
+            Prev::Word => self.words,
+            Prev::Newline => self.newlines,
+            Prev::Other => self.others,
+        }
+    }
+
+    /// The places of the bytes whose class is in the set.
+    fn among(&self, set: NextSet) -> u64
+        ensures { (i : ℕ) → word_bit result i ≡
+            ((word_bit self.now.words i && has_next set after.Word)
+            || ((word_bit self.now.newlines i && has_next set after.Newline)
+            || (word_bit self.now.others i && has_next set after.Other))) }
+    {
+        let words = only_if(self.words, set.contains(Next::Word));
+        let newlines = only_if(self.newlines, set.contains(Next::Newline));
+        let others = only_if(self.others, set.contains(Next::Other));
+        words | (newlines | others)
+    }
+}
+
+/// The contexts of the places of a block: four words, of which each mask's is made without a look at the bytes.
+#[derive(Clone, Copy, Debug, PartialEq, Eq)]
+pub struct Contexts {
+    /// What stands before the block.
+    prev: Prev,
+    /// The classes of its bytes.
+    classes: Classes,
+}
+
+impl Contexts {
+    /// The contexts of the places of a block behind `prev`.
+    pub fn new(prev: Prev, bytes: &[u8]) -> Contexts
+        requires { length bytes.now ≤ 64 }
+        ensures { AreContexts result prev bytes.now }
+    {
+        Contexts {
+            prev,
+            classes: Classes::new(bytes),
+        }
+    }
+
+    /// The places behind which that stands.
+    fn behind_prev(&self, prev: Prev) -> u64
+        ensures { (i : ℕ) → i < 64 → word_bit result i ≡
+            one_later (prev_number self.now.prev == prev_number prev) (word_bit (class_word self.now.classes prev)) i }
+    {
+        one_later(
+            self.classes.before(prev),
+            self.prev.number() == prev.number(),
+        )
+    }
+
+    /// The places behind which that stands, and where what comes next has with it a context of the mask.
+    fn part(&self, mask: Mask, prev: Prev) -> u64
+        ensures { (first : Prev) (bytes : List ℕ) → AreContexts self.now first bytes → (i : ℕ) →
+            word_bit result i ≡ is_part mask prev first bytes i }
+    {
+        self.behind_prev(prev) & self.classes.among(mask.row(prev))
+    }
+
+    /// The places whose context is in the mask, where the byte there comes next.
+    pub fn before(&self, mask: Mask) -> u64
+        ensures { TellsBefore self.now mask result }
+    {
+        self.part(mask, Prev::Start)
+            | (self.part(mask, Prev::Word)
+                | (self.part(mask, Prev::Newline) | self.part(mask, Prev::Other)))
+    }
+
+    /// The bytes behind which the context is in the mask, where nothing is known of what comes next.
+    pub fn behind(&self, mask: Mask) -> u64
+        ensures { TellsBehind self.now mask result }
+    {
+        let words = only_if(self.classes.words, mask.contains(Prev::Word, Next::Unknown));
+        let newlines = only_if(
+            self.classes.newlines,
+            mask.contains(Prev::Newline, Next::Unknown),
+        );
+        let others = only_if(
+            self.classes.others,
+            mask.contains(Prev::Other, Next::Unknown),
+        );
+        words | (newlines | others)
+    }
+}

@@ -1,0 +1,15 @@
+//! Engines that take a block of up to 64 bytes at once: the places of a block are the bits of words.
+#![tactic(auto)]
+
+pub mod block_laws;
+mod by_steps;
+mod contexts;
+mod engine;
+mod literal;
+mod places;
+
+pub use by_steps::run_by_steps;
+pub use contexts::Contexts;
+pub use engine::{BlockEnds, BlockEngine};
+pub use literal::{Hits, LiteralRun, carry_of, entries_from, keep_carry, run_literal};
+pub use places::{contains_place, low_places, next_place, with_place};

@@ -1,0 +1,5 @@
+pub mod Children
+pub mod Forests
+pub mod Growing
+pub mod Laws
+pub mod Views

@@ -1,0 +1,168 @@
+-- Ends that a loop adds, one by one, and all of a chunk.
+use Rattle.std.proofs.Common.{◌≡◌, ◌↔◌, ◌⊎◌, ℕ, zero, suc, ◌+◌, ◌<◌, ◌≤◌, Bool, true, false, ◌&&◌, ◌||◌, List, [], ◌∷◌, ◌++◌, length, eqb, refl, sym, ap, subst, ◌∙◌, inl, inr, arith}
+use Rattle.std.proofs.lemmas.Bool.{cases_eq, eq-eqb, eqb-true, false≢true}
+use Rattle.std.proofs.lemmas.Nat.Bits.{bit_at-zero}
+use Rattle.std.proofs.lemmas.Option.{slice_get_within, slice_get-get_or}
+use Rattle.hs_base.specs.Lists.{IsMember}
+use Rattle.hs_base.specs.Literals.{LiteralByte}
+use Rattle.hs_base.specs.LiteralEnds.{EndsAt}
+use Rattle.hs_base.proofs.ListLemmas.{member-map, map-member}
+use Rattle.hs_confirm.specs.PlaceEnds.{IsPlaceEnd, ArePlaceEnds}
+use Rattle.hs_literals.specs.ScanEnds.{IsScanEnd, AreScanEnds}
+use Rattle.hs_literals.specs.AllEnds.{pairs_of_place}
+use Rattle.hs_literals.specs.HitTables.{HitTable, IsHit, IsBlank, TellsHits, AddsHit, AddsHits, IsHitAtStart, IsHitInside, is_hit_at, has_hit}
+
+-- Of the new ends some are added, and those of a list are left.
+pub record StillAdds (IsNew : (number place : ℕ) → Type 0) (left : List (ℕ × ℕ)) (old now : HitTable) : Type 0 where
+  pub count : now.count ≡ old.count
+  pub each : (n p : ℕ) → IsMember (p, n) left → IsNew n p
+  pub places : (n p : ℕ) → (IsNew n p ⊎ (is_hit_at old n p ≡ true)) ↔ (IsMember (p, n) left ⊎ (is_hit_at now n p ≡ true))
+  pub numbers : (n : ℕ) → (((p : ℕ) × IsNew n p) ⊎ (has_hit old n ≡ true)) ↔ (((p : ℕ) × IsMember (p, n) left) ⊎ (has_hit now n ≡ true))
+
+module _ (IsNew : (number place : ℕ) → Type 0) (old : HitTable) where
+  pub adds-start : (left : List (ℕ × ℕ)) → ((n p : ℕ) → IsNew n p ↔ IsMember (p, n) left) → StillAdds IsNew left old old
+  adds-start left are = record {
+    count = refl;
+    each = λ n p. (are n p).1;
+    places = λ n p. ((λ was. elim was [ inl new ↦ inl ((are n p).0 new) | inr set ↦ inr set ]), (λ is. elim is [ inl member ↦ inl ((are n p).1 member) | inr set ↦ inr set ]));
+    numbers = λ n. (
+      (λ was. elim was [ inl new ↦ inl (new.0, (are n new.0).0 new.1) | inr set ↦ inr set ]),
+      (λ is. elim is [ inl member ↦ inl (member.0, (are n member.0).1 member.1) | inr set ↦ inr set ]),
+    );
+  }
+
+  pub adds-all : (left : List (ℕ × ℕ)) (now : HitTable) → StillAdds IsNew left old now → left ≡ [] → AddsHits old now IsNew
+  adds-all left now adds none = let done : StillAdds IsNew [] old now = subst (λ l. StillAdds IsNew l old now) none adds in record {
+    count = done.count;
+    places = λ n p. ((λ set. (done.places n p).1 (inr set)), (λ was. elim ((done.places n p).0 was) [ inl member ↦ absurd member | inr set ↦ set ]));
+    numbers = λ n. ((λ set. (done.numbers n).1 (inr set)), (λ was. elim ((done.numbers n).0 was) [ inl member ↦ absurd member.1 | inr set ↦ set ]));
+  }
+
+either-set : (a b : Bool) → (a || b) ≡ true → (a ≡ true) ⊎ (b ≡ true)
+either-set true b is = inl refl
+either-set false b is = inr is
+
+both-set : (a b : Bool) → (a && b) ≡ true → (a ≡ true) × (b ≡ true)
+both-set true b is = (refl, is)
+both-set false b is = absurd (false≢true is)
+
+first-set : (a b : Bool) → a ≡ true → (a || b) ≡ true
+first-set a b is = ap (λ c. c || b) is
+
+second-set : (a b : Bool) → b ≡ true → (a || b) ≡ true
+second-set true b is = refl
+second-set false b is = is
+
+both-of : (a b : Bool) → a ≡ true → b ≡ true → (a && b) ≡ true
+both-of a b is is' = ap (λ c. c && b) is ∙ is'
+
+module _ (IsNew : (number place : ℕ) → Type 0) (old now new : HitTable) (left rest : List (ℕ × ℕ)) (place number : ℕ) (adds : StillAdds IsNew left old now) (next : left ≡ (place, number) ∷ rest) (one : AddsHit now new number place) where
+  next-set : is_hit_at new number place ≡ true
+  next-set = one.places number place ∙ first-set (eqb number number && eqb place place) (is_hit_at now number place) (both-of (eqb number number) (eqb place place) (eq-eqb number number refl) (eq-eqb place place refl))
+
+  next-marked : has_hit new number ≡ true
+  next-marked = one.numbers number ∙ first-set (eqb number number) (has_hit now number) (eq-eqb number number refl)
+
+  own-place : (n p : ℕ) → ◌≡◌ {A = ℕ × ℕ} (p, n) (place, number) → is_hit_at new n p ≡ true
+  own-place n p same = subst (λ x. is_hit_at new x.1 x.0 ≡ true) (sym same) next-set
+
+  own-number : (n p : ℕ) → ◌≡◌ {A = ℕ × ℕ} (p, n) (place, number) → has_hit new n ≡ true
+  own-number n p same = subst (λ x. has_hit new x.1 ≡ true) (sym same) next-marked
+
+  here : StillAdds IsNew ((place, number) ∷ rest) old now
+  here = subst (λ l. StillAdds IsNew l old now) next adds
+
+  pub adds-next : StillAdds IsNew rest old new
+  adds-next = record {
+    count = one.count ∙ here.count;
+    each = λ n p member. here.each n p (inr member);
+    places = λ n p. (
+      (λ was. elim ((here.places n p).0 was) [
+        | inl member ↦ elim member [ inl own ↦ inr (own-place n p own) | inr later ↦ inl later ]
+        | inr set ↦ inr (one.places n p ∙ second-set (eqb n number && eqb p place) (is_hit_at now n p) set)
+      ]),
+      (λ is. elim is [
+        | inl later ↦ (here.places n p).1 (inl (inr later))
+        | inr set ↦ elim (either-set (eqb n number && eqb p place) (is_hit_at now n p) (sym (one.places n p) ∙ set)) [
+          | inl own ↦
+              let both = both-set (eqb n number) (eqb p place) own in
+              (here.places n p).1 (inl (inl (pair-same n p (eqb-true n number both.0) (eqb-true p place both.1))))
+          | inr was ↦ (here.places n p).1 (inr was)
+        ]
+      ]),
+    );
+    numbers = λ n. (
+      (λ was. elim ((here.numbers n).0 was) [
+        | inl member ↦ elim member.1 [ inl own ↦ inr (own-number n member.0 own) | inr later ↦ inl (member.0, later) ]
+        | inr set ↦ inr (one.numbers n ∙ second-set (eqb n number) (has_hit now n) set)
+      ]),
+      (λ is. elim is [
+        | inl later ↦ (here.numbers n).1 (inl (later.0, inr later.1))
+        | inr set ↦ elim (either-set (eqb n number) (has_hit now n) (sym (one.numbers n) ∙ set)) [
+          | inl own ↦ (here.numbers n).1 (inl (place, inl (pair-same n place (eqb-true n number own) refl)))
+          | inr was ↦ (here.numbers n).1 (inr was)
+        ]
+      ]),
+    );
+  } where
+    pair-same : (n p : ℕ) → n ≡ number → p ≡ place → ◌≡◌ {A = ℕ × ℕ} (p, n) (place, number)
+    pair-same n p own there = cc
+
+-- what is added next is new
+pub next-new : (IsNew : (number place : ℕ) → Type 0) (old now : HitTable) (left rest : List (ℕ × ℕ)) (place number : ℕ) → StillAdds IsNew left old now → left ≡ (place, number) ∷ rest → IsNew number place
+next-new IsNew old now left rest place number adds next = adds.each number place (subst (IsMember (place, number)) (sym next) (inl refl))
+
+-- The new ends of a chunk.
+
+pub inside-scan : (literals : List (List LiteralByte)) (before bytes : List ℕ) (ends : List (ℕ × ℕ)) → AreScanEnds literals before bytes ends → (n p : ℕ) → IsHitInside literals before bytes n p ↔ IsMember (p, n) ends
+inside-scan literals before bytes ends are n p = (
+  (λ hit. (are.exact (p, n)).1 (record { literal = hit.1.literal; numbered = hit.1.numbered; some = hit.0; within = hit.1.within; ends = hit.1.ends })),
+  (λ member. let is : IsScanEnd literals before bytes p n = (are.exact (p, n)).0 member in (is.some, record { literal = is.literal; numbered = is.numbered; within = is.within; ends = is.ends })),
+)
+
+pub start-ends : (literals : List (List LiteralByte)) (buckets before bytes : List ℕ) (numbers : List ℕ) → length buckets ≡ length literals → ArePlaceEnds literals buckets 0 (before ++ bytes) (length before + 0) numbers → (n p : ℕ) →
+    IsHitAtStart literals before bytes n p ↔ IsMember (p, n) (pairs_of_place 0 numbers)
+start-ends literals buckets before bytes numbers same are n p = (
+  (λ hit.
+      let is = hit.1 in
+      let filed = slice_get-get_or buckets n 0 (let within : n < length literals = slice_get_within literals n is.literal is.numbered in omega arith) in
+      let offset : length before + p ≡ length before + 0 = ap (λ k. length before + k) hit.0 in
+      let member : IsMember n numbers = (are.exact n).1 (record { literal = is.literal; bucket = _; numbered = is.numbered; filed = filed; unmasked = bit_at-zero _; ends = subst (EndsAt is.literal (before ++ bytes)) offset is.ends }) in
+      subst (λ q. IsMember (q, n) (pairs_of_place 0 numbers)) (sym hit.0) (member-map (λ m. (0, m)) numbers n member)),
+  (λ member.
+      let from = map-member (λ m. (0, m)) numbers (p, n) member in
+      let start : p ≡ 0 = ap (λ x. x.0) from.2 in
+      let own : n ≡ from.0 = ap (λ x. x.1) from.2 in
+      let is : IsPlaceEnd literals buckets 0 (before ++ bytes) (length before + 0) n = (are.exact n).0 (subst (λ m. IsMember m numbers) (sym own) from.1) in
+      let offset : length before + 0 ≡ length before + p = ap (λ k. length before + k) (sym start) in (
+        start,
+        record { literal = is.literal; numbered = is.numbered; within = omega (arith, start); ends = subst (EndsAt is.literal (before ++ bytes)) offset is.ends },
+      )),
+)
+
+positive : (p : ℕ) → (p ≡ 0 → ⊥) → 1 ≤ p
+positive zero not_zero = absurd (not_zero refl)
+positive (suc p) not_zero = omega arith
+
+-- All ends of a chunk.
+pub hits-told : (literals : List (List LiteralByte)) (before bytes : List ℕ) (old first new : HitTable) (count : ℕ) → IsBlank old count → AddsHits old first (IsHitAtStart literals before bytes) → AddsHits first new (IsHitInside literals before bytes) → TellsHits new literals before bytes
+hits-told literals before bytes old first new count blank starts insides = record {
+  places = λ n p. ((λ set. told n p ((insides.places n p).0 set)), (λ hit. (insides.places n p).1 (by_place n p hit)));
+  numbers = λ n. ((λ set. told-number n ((insides.numbers n).0 set)), (λ hit. (insides.numbers n).1 (by_number n hit.0 hit.1)));
+} where
+  at-start : (n p : ℕ) → is_hit_at first n p ≡ true → IsHit literals before bytes n p
+  at-start n p set = elim ((starts.places n p).0 set) [ inl hit ↦ hit.1 | inr was ↦ absurd (false≢true (sym (blank.nowhere n p) ∙ was)) ]
+
+  told : (n p : ℕ) → IsHitInside literals before bytes n p ⊎ (is_hit_at first n p ≡ true) → IsHit literals before bytes n p
+  told n p (inl hit) = hit.1
+  told n p (inr set) = at-start n p set
+
+  told-number : (n : ℕ) → ((p : ℕ) × IsHitInside literals before bytes n p) ⊎ (has_hit first n ≡ true) → (p : ℕ) × IsHit literals before bytes n p
+  told-number n (inl hit) = (hit.0, hit.1.1)
+  told-number n (inr set) = elim ((starts.numbers n).0 set) [ inl hit ↦ (hit.0, hit.1.1) | inr was ↦ absurd (false≢true (sym (blank.none n) ∙ was)) ]
+
+  by_place : (n p : ℕ) → IsHit literals before bytes n p → IsHitInside literals before bytes n p ⊎ (is_hit_at first n p ≡ true)
+  by_place n p hit = elim (cases_eq p 0) [ inl start ↦ inr ((starts.places n p).1 (inl (start, hit))) | inr later ↦ inl (positive p later, hit) ]
+
+  by_number : (n p : ℕ) → IsHit literals before bytes n p → ((q : ℕ) × IsHitInside literals before bytes n q) ⊎ (has_hit first n ≡ true)
+  by_number n p hit = elim (cases_eq p 0) [ inl start ↦ inr ((starts.numbers n).1 (inl (p, (start, hit)))) | inr later ↦ inl (p, (positive p later, hit)) ]

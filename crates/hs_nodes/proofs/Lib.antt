@@ -1,0 +1,15 @@
+pub mod ChunkLemmas
+pub mod PieceLemmas
+pub mod RunLemmas
+pub mod EngineLemmas
+pub mod MarkLemmas
+pub mod FlatLemmas
+pub mod PassLemmas
+pub mod LiteralLemmas
+pub mod FirstLemmas
+pub mod KindLemmas
+pub mod RangeLemmas
+pub mod NodeLemmas
+pub mod RestLemmas
+pub mod WalkLemmas
+pub mod SettleLemmas

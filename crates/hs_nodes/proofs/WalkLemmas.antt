@@ -1,0 +1,271 @@
+-- A walk over nodes, up to one of them.
+use Rattle.std.proofs.Common.{◌≡◌, ◌⊎◌, ℕ, zero, suc, ◌+◌, ◌-◌, ◌<◌, ◌≤◌, Bool, true, false, List, [], ◌∷◌, ◌++◌, length, get_or, slice_get, Option, Some, None, refl, sym, ap, subst, ◌∙◌, inl, inr, arith}
+use Rattle.std.proofs.lemmas.Option.{slice_get_within}
+use Rattle.hs_base.specs.declared.context.Prev.{Prev}
+use Rattle.hs_base.specs.Chains.{Piece}
+use Rattle.hs_base.specs.Lists.{Each}
+use Rattle.hs_base.specs.Literals.{LiteralByte}
+use Rattle.hs_engine.specs.Engines.{Meaning}
+use Rattle.hs_nodes.specs.declared.ends.ChunkEnds.{ChunkEnds}
+use Rattle.hs_nodes.specs.declared.hits.ChunkHits.{ChunkHits}
+use Rattle.hs_nodes.specs.declared.table.Node.{Node}
+use Rattle.hs_nodes.specs.declared.table.NodeKind.{NodeKind}
+use Rattle.hs_nodes.specs.declared.table.NodeKind.TheVariants.{Engine, Literal, FirstLiteral}
+use Rattle.hs_nodes.specs.declared.table.NodeTable.{NodeTable}
+use Rattle.hs_nodes.specs.Blocks.{EndsBehind}
+use Rattle.hs_nodes.specs.Left.{AreLeftIn, nowhere}
+use Rattle.hs_nodes.specs.Marks.{is_marked}
+use Rattle.hs_nodes.specs.Nodes.{AreHitsOf, HoldsPiece, IsWellPart, MayRest}
+use Rattle.hs_nodes.specs.Walks.{AreMoreMarks, AreNodesHeld, AreNodesOf, AreNodesWell, ChangesMarked, IsAmongChildren, IsNodeHeld, IsNodeRun, IsTableSound, MayNodesRest, TakesNodes, node_ends, entering_ends, node_part, parent_pieces}
+use Rattle.hs_nodes.proofs.FlatLemmas.{AreLeftNowhere, left-nowhere, nowhere-left}
+use Rattle.hs_nodes.proofs.KindLemmas.{one-value}
+use Rattle.hs_nodes.proofs.NodeLemmas.{marks-none}
+use Rattle.hs_nodes.proofs.RestLemmas.{ArePassed, root, behind, node-rests}
+use Rattle.hs_nodes.proofs.RunLemmas.{nowhere-none}
+
+-- the member of a number
+pub there : {A : Type 0} (xs : List A) (k : ℕ) → k < length xs → (x : A) × (slice_get xs k ≡ Some x)
+there [] k below = absurd (omega arith)
+there (x ∷ xs) zero below = (x, refl)
+there (x ∷ xs) (suc k) below = there xs k (omega arith)
+
+snoc-some : {A : Type 0} (xs : List A) (x : A) → xs ++ x ∷ [] ≡ [] → ⊥
+snoc-some [] x e = absurd (cc)
+snoc-some (a ∷ xs) x e = absurd (cc)
+
+-- of equal lists the last members are equal
+snoc-last : {A : Type 0} (xs ys : List A) (x y : A) → xs ++ x ∷ [] ≡ ys ++ y ∷ [] → x ≡ y
+snoc-last [] [] x y e = cc
+snoc-last [] (b ∷ ys) x y e = let none : ys ++ y ∷ [] ≡ [] = cc in absurd (snoc-some ys y none)
+snoc-last (a ∷ xs) [] x y e = let none : xs ++ x ∷ [] ≡ [] = cc in absurd (snoc-some xs x none)
+snoc-last (a ∷ xs) (b ∷ ys) x y e = let rest : xs ++ x ∷ [] ≡ ys ++ y ∷ [] = cc in snoc-last xs ys x y rest
+
+parent-cases : (parent : Option ℕ) → (parent ≡ None) ⊎ ((p : ℕ) × (parent ≡ Some p))
+parent-cases None = inl refl
+parent-cases (Some p) = inr (p, refl)
+
+pub unmarked-before : (old new : List ℕ) (k : ℕ) → ((j : ℕ) → is_marked old j ≡ true → is_marked new j ≡ true) → is_marked new k ≡ false → is_marked old k ≡ false
+unmarked-before old new k kept none = by (is_marked old k) refl where
+  by : (b : Bool) → is_marked old k ≡ b → is_marked old k ≡ false
+  by true e = absurd (let both : true ≡ false = sym (kept k e) ∙ none in cc)
+  by false e = e
+
+module _ {E : Type 0} (meaning : E → Meaning) (table : NodeTable E) where
+  abbrev pub nodes : List Node
+  nodes = table.nodes.items
+
+  -- what a node keeps that may rest may stand at any offset
+  pub rest-well : (kind : NodeKind) (parent : Option ℕ) (hits : List ChunkHits) (part bytes : List ℕ) (at : ℕ) → MayRest meaning table.engines.items kind parent hits part bytes → IsWellPart meaning table.engines.items kind part at
+  rest-well (Engine number null) parent hits part bytes at may = λ e there'. (may e there').0.well at
+  rest-well (Literal number len) parent hits part bytes at may = record { spare = λ k high. may.0 k; early = λ k high. may.0 k }
+  rest-well (FirstLiteral number len) parent hits part bytes at may = tt
+
+  -- the nodes before one of them are done
+  pub record AreDone (pieces : ℕ → List Piece) (region u bytes : List ℕ) (ends : List ChunkEnds) (n : ℕ) : Type 0 where
+    pub left : (k : ℕ) → k < n → AreLeftIn (pieces k) u bytes (node_ends ends k)
+    pub held : (k : ℕ) (node : Node) → k < n → slice_get table.nodes.items k ≡ Some node → IsNodeHeld meaning table pieces region (u ++ bytes) k node
+
+  -- and so for all pieces, behind any stream
+  abbrev pub TakesTo : (old new : List ℕ) (prev : Prev) (at : ℕ) (bytes : List ℕ) (hits : List ChunkHits) (ends : List ChunkEnds) (n : ℕ) → Type 0
+  TakesTo old new prev at bytes hits ends n =
+      (literals : List (List LiteralByte)) (pieces : ℕ → List Piece) (u : List ℕ) →
+      AreNodesOf meaning table literals pieces →
+      EndsBehind u prev at →
+      Each (λ b. b < 256) (u ++ bytes) →
+      AreHitsOf literals hits u bytes →
+      AreNodesHeld meaning table pieces old u →
+      AreDone pieces new u bytes ends n
+
+  -- how far a walk has come
+  pub record IsWalk (first : List ℕ) (marks_first : List ℕ) (prev : Prev) (at : ℕ) (bytes : List ℕ) (hits : List ChunkHits) (region : List ℕ) (ends : List ChunkEnds) (marks : List ℕ) (n : ℕ) : Type 0 where
+    pub within : n ≤ length table.nodes.items
+    pub more : AreMoreMarks (length table.nodes.items) marks_first marks
+    pub changes : ChangesMarked meaning table marks first region ends
+    pub later : (k : ℕ) (node : Node) → n ≤ k → slice_get table.nodes.items k ≡ Some node → (node_ends ends k ≡ nowhere) × (node_part region node ≡ node_part first node)
+    pub parents : (k p : ℕ) (node : Node) → n ≤ k → slice_get table.nodes.items k ≡ Some node → is_marked marks k ≡ false → node.parent ≡ Some p → p < n → node_ends ends p ≡ nowhere
+    pub well : (k : ℕ) (node : Node) → k < n → slice_get table.nodes.items k ≡ Some node → IsWellPart meaning table.engines.items node.kind (node_part region node) (at + length bytes)
+    pub takes : TakesTo first region prev at bytes hits ends n
+
+  module _ (first : List ℕ) (marks_first : List ℕ) (prev : Prev) (at : ℕ) (bytes : List ℕ) (hits : List ChunkHits) (sound : IsTableSound meaning table (length hits) (length first)) (few : length bytes ≤ 512) where
+    -- nothing is done yet
+    pub walk-none : (ends : List ChunkEnds) → ((k : ℕ) → node_ends ends k ≡ nowhere) → ((k : ℕ) → is_marked marks_first k ≡ true → k < length table.nodes.items) → IsWalk first marks_first prev at bytes hits first ends marks_first 0
+    walk-none ends clear below = record {
+      within = omega arith;
+      more = marks-none (length table.nodes.items) marks_first below;
+      changes = record { len = refl; unmarked = λ k node there' none. (clear k, refl); outside = λ i out. refl };
+      later = λ k node high there'. (clear k, refl);
+      parents = λ k p node high there' none of low. absurd (omega arith);
+      well = λ k node low there'. absurd (omega arith);
+      takes = λ literals pieces u of stands small hits_are held. record { left = λ k low. absurd (omega arith); held = λ k node low there'. absurd (omega arith) };
+    }
+
+    module _ (rests : MayNodesRest meaning table marks_first hits first bytes) (region : List ℕ) (ends : List ChunkEnds) (marks : List ℕ) where
+      -- the pieces before a node that is passed over
+      passed-before : (n : ℕ) (node : Node) (pieces : ℕ → List Piece) (u : List ℕ) → slice_get table.nodes.items n ≡ Some node → is_marked marks n ≡ false → ((p : ℕ) → node.parent ≡ Some p → node_ends ends p ≡ nowhere) → ((p : ℕ) → p < n → AreLeftIn (pieces p) u bytes (node_ends ends p)) →
+          ArePassed node.parent (parent_pieces pieces node.parent) u bytes
+      passed-before n node pieces u at_n none zeros left = by (parent-cases node.parent) where
+        by : (node.parent ≡ None) ⊎ ((p : ℕ) × (node.parent ≡ Some p)) → ArePassed node.parent (parent_pieces pieces node.parent) u bytes
+        by (inl no_parent) = root no_parent (ap (λ (q : Option ℕ). parent_pieces pieces q) no_parent)
+        by (inr (p, is)) =
+            let low : p < n = sound.earlier n p node at_n is in
+            let zero_left : AreLeftIn (pieces p) u bytes nowhere = subst (λ (e : ChunkEnds). AreLeftIn (pieces p) u bytes e) (zeros p is) (left p low) in
+            behind (λ no_parent. let both : None ≡ Some p = sym no_parent ∙ is in absurd (cc))
+            (subst (λ (q : Option ℕ). AreLeftNowhere (parent_pieces pieces q) u bytes) (sym is) (left-nowhere (pieces p) u bytes nowhere few nowhere-none zero_left))
+
+      below-or : (n k : ℕ) → k < n + 1 → (k < n) ⊎ (k ≡ n)
+      below-or n k low = grind arith
+
+      -- a node that isn't marked is passed over
+      pub walk-pass : (n m : ℕ) → m ≡ n + 1 → n < length table.nodes.items → is_marked marks n ≡ false → IsWalk first marks_first prev at bytes hits region ends marks n → IsWalk first marks_first prev at bytes hits region ends marks m
+      walk-pass n m next below none walk = subst (λ k. IsWalk first marks_first prev at bytes hits region ends marks k) (sym next) (record {
+        within = omega arith;
+        more = walk.more;
+        changes = walk.changes;
+        later = λ k other high at_k. walk.later k other (omega arith) at_k;
+        parents = λ k p other high at_k none' of low. parent-zero k p other high at_k none' of (below-or n p low);
+        well = λ k other low at_k. well-by k other at_k (below-or n k low);
+        takes = λ literals pieces u of stands small hits_are held. done-more literals pieces u of stands small hits_are held;
+      }) where
+        own : (x : Node) × (slice_get table.nodes.items n ≡ Some x)
+        own = there table.nodes.items n below
+
+        may : MayRest meaning table.engines.items own.0.kind own.0.parent hits (node_part first own.0) bytes
+        may = rests n own.0 own.1 (unmarked-before marks_first marks n walk.more.kept none)
+
+        later_own : (node_ends ends n ≡ nowhere) × (node_part region own.0 ≡ node_part first own.0)
+        later_own = walk.later n own.0 (omega arith) own.1
+
+        parent-zero : (k p : ℕ) (other : Node) → n + 1 ≤ k → slice_get table.nodes.items k ≡ Some other → is_marked marks k ≡ false → other.parent ≡ Some p → (p < n) ⊎ (p ≡ n) → node_ends ends p ≡ nowhere
+        parent-zero k p other high at_k none' of (inl low) = walk.parents k p other (omega arith) at_k none' of low
+        parent-zero k p other high at_k none' of (inr same) = ap (λ i. node_ends ends i) same ∙ later_own.0
+
+        own-well : IsWellPart meaning table.engines.items own.0.kind (node_part region own.0) (at + length bytes)
+        own-well = subst (λ ps. IsWellPart meaning table.engines.items own.0.kind ps (at + length bytes)) (sym later_own.1) (rest-well own.0.kind own.0.parent hits (node_part first own.0) bytes (at + length bytes) may)
+
+        well-by : (k : ℕ) (other : Node) → slice_get table.nodes.items k ≡ Some other → (k < n) ⊎ (k ≡ n) → IsWellPart meaning table.engines.items other.kind (node_part region other) (at + length bytes)
+        well-by k other at_k (inl low) = walk.well k other low at_k
+        well-by k other at_k (inr same) =
+            let is : own.0 ≡ other = one-value own.0 other (slice_get table.nodes.items n) own.1 (ap (λ i. slice_get table.nodes.items i) (sym same) ∙ at_k) in
+            subst (λ (nd : Node). IsWellPart meaning table.engines.items nd.kind (node_part region nd) (at + length bytes)) is own-well
+
+        done-more : (literals : List (List LiteralByte)) (pieces : ℕ → List Piece) (u : List ℕ) → AreNodesOf meaning table literals pieces → EndsBehind u prev at → Each (λ b. b < 256) (u ++ bytes) → AreHitsOf literals hits u bytes → AreNodesHeld meaning table pieces first u →
+            AreDone pieces region u bytes ends (n + 1)
+        done-more literals pieces u of stands small hits_are held =
+            let done = walk.takes literals pieces u of stands small hits_are held in
+            let is = of n own.0 own.1 in
+            let before = passed-before n own.0 pieces u own.1 none (λ p is_p. walk.parents n p own.0 (omega arith) own.1 none is_p (sound.earlier n p own.0 own.1 is_p)) done.left in
+            let passed = node-rests meaning table.engines.items own.0.kind (length hits) (own.0.end - own.0.start) own.0.parent literals hits (parent_pieces pieces own.0.parent) is.rest is.piece (node_part first own.0) u bytes (sound.kinds n own.0 own.1) refl is.runs is.fit small hits_are may before
+            (held n own.0 own.1 is.piece is.own) in
+            let zero_left : AreLeftIn (pieces n) u bytes (node_ends ends n) = subst (λ (e : ChunkEnds). AreLeftIn (pieces n) u bytes e) (sym later_own.0) (subst (λ ps. AreLeftIn ps u bytes nowhere) (sym is.own) (nowhere-left (parent_pieces pieces own.0.parent ++ is.piece ∷ []) u bytes nowhere nowhere-none passed.left)) in
+            let own_held : IsNodeHeld meaning table pieces region (u ++ bytes) n own.0 = λ piece ends_with.
+            let same : is.piece ≡ piece = snoc-last (parent_pieces pieces own.0.parent) (parent_pieces pieces own.0.parent) is.piece piece (sym is.own ∙ ends_with) in
+            subst (λ p. HoldsPiece meaning table.engines.items own.0.kind (parent_pieces pieces own.0.parent) p (node_part region own.0) (u ++ bytes)) same
+            (subst (λ ps. HoldsPiece meaning table.engines.items own.0.kind (parent_pieces pieces own.0.parent) is.piece ps (u ++ bytes)) (sym later_own.1) passed.held) in record {
+              left = λ k low. elim (below-or n k low) [ inl under ↦ done.left k under | inr same ↦ subst (λ i. AreLeftIn (pieces i) u bytes (node_ends ends i)) (sym same) zero_left ];
+              held = λ k other low at_k. elim (below-or n k low) [
+                | inl under ↦ done.held k other under at_k
+                | inr same ↦
+                    let same_node : own.0 ≡ other = one-value own.0 other (slice_get table.nodes.items n) own.1 (ap (λ i. slice_get table.nodes.items i) (sym same) ∙ at_k) in
+                    subst (λ i. IsNodeHeld meaning table pieces region (u ++ bytes) i other) (sym same) (subst (λ (nd : Node). IsNodeHeld meaning table pieces region (u ++ bytes) n nd) same_node own_held)
+              ];
+            }
+
+      -- and so are all up to one of them
+      pub walk-to : (n d m : ℕ) → m ≡ n + d → m ≤ length table.nodes.items → ((k : ℕ) → n ≤ k → k < m → is_marked marks k ≡ false) → IsWalk first marks_first prev at bytes hits region ends marks n → IsWalk first marks_first prev at bytes hits region ends marks m
+      walk-to n zero m same within none walk = let is : n ≡ m = omega arith in subst (λ k. IsWalk first marks_first prev at bytes hits region ends marks k) is walk
+      walk-to n (suc d) m same within none walk =
+          let before : IsWalk first marks_first prev at bytes hits region ends marks (n + d) = walk-to n d (n + d) refl (omega arith) (λ k low high. none k low (omega arith)) walk in
+          walk-pass (n + d) m (omega arith) (omega arith) (none (n + d) (omega arith) (omega arith)) before
+
+    module _ (all : ChunkEnds) (everywhere : (u : List ℕ) → AreLeftIn [] u bytes all) (region region' : List ℕ) (ends ends' : List ChunkEnds) (marks marks' : List ℕ) (n m : ℕ) (next : m ≡ n + 1) (own : Node) (at_n : slice_get table.nodes.items n ≡ Some own) (marked : is_marked marks n ≡ true)
+        (run : IsNodeRun meaning table n own region region' prev at bytes hits all ends ends') (sized : length region' ≡ length region) (grown : AreMoreMarks (length table.nodes.items) marks marks')
+        (children : (node_ends ends' n ≡ nowhere) ⊎ ((k : ℕ) → IsAmongChildren table.child_starts.items table.children.items n k → is_marked marks' k ≡ true)) (walk : IsWalk first marks_first prev at bytes hits region ends marks n) where
+      below-next : (k : ℕ) → k < m → (k < n) ⊎ (k ≡ n)
+      below-next k low = grind (arith, next)
+
+      marked' : is_marked marks' n ≡ true
+      marked' = grown.kept n marked
+
+      apart : (k : ℕ) → is_marked marks' k ≡ false → k ≡ n → ⊥
+      apart k none same = let both : true ≡ false = sym marked' ∙ (ap (λ i. is_marked marks' i) (sym same) ∙ none) in absurd (cc)
+
+      all-marks : AreMoreMarks (length table.nodes.items) marks_first marks'
+      all-marks = record { room = grown.room ∙ walk.more.room; kept = λ k set. grown.kept k (walk.more.kept k set); below = grown.below }
+
+      parent-by : (k p : ℕ) (node : Node) → slice_get table.nodes.items k ≡ Some node → n + 1 ≤ k → is_marked marks' k ≡ false → node.parent ≡ Some p → (p < n) ⊎ (p ≡ n) → (node_ends ends' n ≡ nowhere) ⊎ ((j : ℕ) → IsAmongChildren table.child_starts.items table.children.items n j → is_marked marks' j ≡ true) → node_ends ends' p ≡ nowhere
+      parent-by k p node at_k high none of (inl low) told = run.ends_stay p (λ same. absurd (omega arith)) ∙ walk.parents k p node (omega arith) at_k (unmarked-before marks marks' k grown.kept none) of low
+      parent-by k p node at_k high none of (inr same) (inl zero_ends) = ap (λ i. node_ends ends' i) same ∙ zero_ends
+      parent-by k p node at_k high none of (inr same) (inr told) =
+          let among : IsAmongChildren table.child_starts.items table.children.items n k = sound.among k n node at_k (of ∙ ap Some same) in
+          let both : true ≡ false = sym (told k among) ∙ none in absurd (cc)
+
+      well-by : (k : ℕ) (node : Node) → slice_get table.nodes.items k ≡ Some node → (k < n) ⊎ (k ≡ n) → IsWellPart meaning table.engines.items node.kind (node_part region' node) (at + length bytes)
+      well-by k node at_k (inl low) = subst (λ ps. IsWellPart meaning table.engines.items node.kind ps (at + length bytes)) (sym (run.parts_stay k node (λ same. absurd (omega arith)) at_k)) (walk.well k node low at_k)
+      well-by k node at_k (inr same) =
+          let is : own ≡ node = one-value own node (slice_get table.nodes.items n) at_n (ap (λ i. slice_get table.nodes.items i) (sym same) ∙ at_k) in
+          subst (λ (nd : Node). IsWellPart meaning table.engines.items nd.kind (node_part region' nd) (at + length bytes)) is run.well
+
+      entering-left : (pieces : ℕ → List Piece) (u : List ℕ) → ((p : ℕ) → p < n → AreLeftIn (pieces p) u bytes (node_ends ends p)) → (parent : Option ℕ) → own.parent ≡ parent → AreLeftIn (parent_pieces pieces parent) u bytes (entering_ends parent all ends)
+      entering-left pieces u left None is = everywhere u
+      entering-left pieces u left (Some p) is = left p (sound.earlier n p own at_n is)
+
+      done-next : TakesTo first region' prev at bytes hits ends' m
+      done-next literals pieces u of stands small hits_are held =
+          let done = walk.takes literals pieces u of stands small hits_are held in
+          let is = of n own at_n in
+          let start : HoldsPiece meaning table.engines.items own.kind (parent_pieces pieces own.parent) is.piece (node_part region own) u = subst (λ ps. HoldsPiece meaning table.engines.items own.kind (parent_pieces pieces own.parent) is.piece ps u) (sym (walk.later n own (omega arith) at_n).1) (held n own at_n is.piece is.own) in
+          let result = run.takes literals (parent_pieces pieces own.parent) is.rest is.piece u is.runs is.fit stands small hits_are (entering-left pieces u done.left own.parent refl) start in
+          let own_left : AreLeftIn (pieces n) u bytes (node_ends ends' n) = subst (λ ps. AreLeftIn ps u bytes (node_ends ends' n)) (sym is.own) result.left in
+          let own_held : IsNodeHeld meaning table pieces region' (u ++ bytes) n own = λ piece ends_with.
+          subst (λ p. HoldsPiece meaning table.engines.items own.kind (parent_pieces pieces own.parent) p (node_part region' own) (u ++ bytes)) (snoc-last (parent_pieces pieces own.parent) (parent_pieces pieces own.parent) is.piece piece (sym is.own ∙ ends_with)) result.held in record {
+            left = λ k low. elim (below-next k low) [
+              | inl under ↦ subst (λ (e : ChunkEnds). AreLeftIn (pieces k) u bytes e) (sym (run.ends_stay k (λ same. absurd (omega arith)))) (done.left k under)
+              | inr same ↦ subst (λ i. AreLeftIn (pieces i) u bytes (node_ends ends' i)) (sym same) own_left
+            ];
+            held = λ k node low at_k. elim (below-next k low) [
+              | inl under ↦ λ piece ends_with. subst (λ ps. HoldsPiece meaning table.engines.items node.kind (parent_pieces pieces node.parent) piece ps (u ++ bytes)) (sym (run.parts_stay k node (λ same. absurd (omega arith)) at_k)) (done.held k node under at_k piece ends_with)
+              | inr same ↦
+                  let same_node : own ≡ node = one-value own node (slice_get table.nodes.items n) at_n (ap (λ i. slice_get table.nodes.items i) (sym same) ∙ at_k) in
+                  subst (λ i. IsNodeHeld meaning table pieces region' (u ++ bytes) i node) (sym same) (subst (λ (nd : Node). IsNodeHeld meaning table pieces region' (u ++ bytes) n nd) same_node own_held)
+            ];
+          }
+
+      -- the node is run
+      pub walk-visit : IsWalk first marks_first prev at bytes hits region' ends' marks' m
+      walk-visit =
+          let low = slice_get_within table.nodes.items n own at_n in record {
+            within = omega arith;
+            more = all-marks;
+            changes = record {
+              len = sized ∙ walk.changes.len;
+              unmarked = λ k node at_k none.
+                  let ne = apart k none in
+                  let old = walk.changes.unmarked k node at_k (unmarked-before marks marks' k grown.kept none) in
+                  (run.ends_stay k ne ∙ old.0, run.parts_stay k node ne at_k ∙ old.1);
+              outside = λ i out. run.outside i (out n own at_n) ∙ walk.changes.outside i out;
+            };
+            later = λ k node high at_k.
+                let ne : k ≡ n → ⊥ = λ same. absurd (omega arith) in
+                let old = walk.later k node (omega arith) at_k in
+                (run.ends_stay k ne ∙ old.0, run.parts_stay k node ne at_k ∙ old.1);
+            parents = λ k p node high at_k none of under. parent-by k p node at_k (omega arith) none of (below-next p under) children;
+            well = λ k node under at_k. well-by k node at_k (below-next k under);
+            takes = done-next;
+          }
+
+    -- all nodes
+    pub walk-well : (region : List ℕ) (ends : List ChunkEnds) (marks : List ℕ) → IsWalk first marks_first prev at bytes hits region ends marks (length table.nodes.items) → AreNodesWell meaning table region (at + length bytes)
+    walk-well region ends marks walk k node at_k = walk.well k node (slice_get_within table.nodes.items k node at_k) at_k
+
+    pub walk-takes : (region : List ℕ) (ends : List ChunkEnds) (marks : List ℕ) → IsWalk first marks_first prev at bytes hits region ends marks (length table.nodes.items) → TakesNodes meaning table first region prev at bytes hits ends
+    walk-takes region ends marks walk literals pieces u of stands small hits_are held =
+        let done = walk.takes literals pieces u of stands small hits_are held in record {
+          held = λ k node at_k. done.held k node (slice_get_within table.nodes.items k node at_k) at_k;
+          left = done.left;
+        }
+
+-- what is read doesn't depend on what is read beyond the end
+pub same-default : {A : Type 0} (xs : List A) (i : ℕ) (d e : A) → i < length xs → get_or xs i d ≡ get_or xs i e
+same-default [] i d e low = absurd (omega arith)
+same-default (x ∷ xs) zero d e low = refl
+same-default (x ∷ xs) (suc i) d e low = same-default xs i d e (omega arith)

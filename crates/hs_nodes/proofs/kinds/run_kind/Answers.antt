@@ -1,0 +1,114 @@
+use Rattle.std.proofs.Common.{◌+◌, length, refl, sym, subst, ◌∙◌}
+use Rattle.std.proofs.lemmas.Option.{slice_get-get_or, slice_get_read}
+use Rattle.hs_nodes.specs.declared.table.NodeKind.{NodeKind}
+use Rattle.hs_nodes.specs.Contexts.{AreChunkContexts, NeedsContexts}
+use Rattle.hs_nodes.specs.Nodes.{IsKindSound, IsWellPart, TakesPiece}
+use Rattle.hs_nodes.proofs.KindLemmas.{engine-takes, engine-well, first-takes, literal-takes, needed-contexts}
+use Rattle.hs_nodes.proofs.kinds.run_kind.Goals as goal
+
+pub null_ends-null-requires : goal.null_ends-null-requires
+null_ends-null-requires g c =
+    needed-contexts c.in-Engine.number c.in-Engine.null (AreChunkContexts c.args.found.now.contexts.now c.args.chunk.now.prev c.args.chunk.now.at c.args.chunk.now.bytes.now)
+    (λ needs. c.requires.contexts (subst (λ (k : NodeKind). NeedsContexts k) (sym c.in-Engine.is) needs))
+
+pub bounds-engines-number : goal.bounds-engines-number
+bounds-engines-number g c = (subst (λ (k : NodeKind). IsKindSound g.E.Engine.meaning c.args.engines.now (length c.args.found.now.hits.now) k (length c.args.part.now)) c.in-Engine.is c.requires.sound).there
+
+pub run_engine-requires-clause-len : goal.run_engine-requires-clause-len
+run_engine-requires-clause-len g c =
+    let engines = c.args.engines.now in
+    let sound = subst (λ (k : NodeKind). IsKindSound g.E.Engine.meaning engines (length c.args.found.now.hits.now) k (length c.args.part.now)) c.in-Engine.is c.requires.sound in
+    sym (sound.each c.index-engines-number.result (slice_get_read engines (length engines) c.in-Engine.number c.index-engines-number.result refl sound.there c.index-engines-number.is)).0
+
+pub run_engine-requires-clause-well : goal.run_engine-requires-clause-well
+run_engine-requires-clause-well g c =
+    let engines = c.args.engines.now in
+    let sound = subst (λ (k : NodeKind). IsKindSound g.E.Engine.meaning engines (length c.args.found.now.hits.now) k (length c.args.part.now)) c.in-Engine.is c.requires.sound in
+    subst (λ (k : NodeKind). IsWellPart g.E.Engine.meaning engines k c.args.part.now c.args.chunk.now.at) c.in-Engine.is c.requires.well c.index-engines-number.result
+    (slice_get_read engines (length engines) c.in-Engine.number c.index-engines-number.result refl sound.there c.index-engines-number.is)
+
+pub run_engine-requires-clause-listed : goal.run_engine-requires-clause-listed
+run_engine-requires-clause-listed g c =
+    let engines = c.args.engines.now in
+    let sound = subst (λ (k : NodeKind). IsKindSound g.E.Engine.meaning engines (length c.args.found.now.hits.now) k (length c.args.part.now)) c.in-Engine.is c.requires.sound in
+    (sound.each c.index-engines-number.result (slice_get_read engines (length engines) c.in-Engine.number c.index-engines-number.result refl sound.there c.index-engines-number.is)).1
+
+pub bounds-found-number : goal.bounds-found-number
+bounds-found-number g c = (subst (λ (k : NodeKind). IsKindSound g.E.Engine.meaning c.args.engines.now (length c.args.found.now.hits.now) k (length c.args.part.now)) c.in-Literal.is c.requires.sound).0
+
+pub run_literal_part-requires-clause-some : goal.run_literal_part-requires-clause-some
+run_literal_part-requires-clause-some g c = (subst (λ (k : NodeKind). IsKindSound g.E.Engine.meaning c.args.engines.now (length c.args.found.now.hits.now) k (length c.args.part.now)) c.in-Literal.is c.requires.sound).1
+
+pub run_literal_part-requires-clause-short : goal.run_literal_part-requires-clause-short
+run_literal_part-requires-clause-short g c = (subst (λ (k : NodeKind). IsKindSound g.E.Engine.meaning c.args.engines.now (length c.args.found.now.hits.now) k (length c.args.part.now)) c.in-Literal.is c.requires.sound).2
+
+pub run_literal_part-requires-clause-size : goal.run_literal_part-requires-clause-size
+run_literal_part-requires-clause-size g c = (subst (λ (k : NodeKind). IsKindSound g.E.Engine.meaning c.args.engines.now (length c.args.found.now.hits.now) k (length c.args.part.now)) c.in-Literal.is c.requires.sound).3
+
+pub run_literal_part-requires-clause-well : goal.run_literal_part-requires-clause-well
+run_literal_part-requires-clause-well g c = subst (λ (k : NodeKind). IsWellPart g.E.Engine.meaning c.args.engines.now k c.args.part.now c.args.chunk.now.at) c.in-Literal.is c.requires.well
+
+pub every_entry-carry-requires : goal.every_entry-carry-requires
+every_entry-carry-requires g c = (subst (λ (k : NodeKind). IsKindSound g.E.Engine.meaning c.args.engines.now (length c.args.found.now.hits.now) k (length c.args.part.now)) c.in-FirstLiteral.is c.requires.sound).2
+
+pub bounds-found-number-in-FirstLiteral : goal.bounds-found-number-in-FirstLiteral
+bounds-found-number-in-FirstLiteral g c = (subst (λ (k : NodeKind). IsKindSound g.E.Engine.meaning c.args.engines.now (length c.args.found.now.hits.now) k (length c.args.part.now)) c.in-FirstLiteral.is c.requires.sound).0
+
+pub run_entries-requires-clause-some : goal.run_entries-requires-clause-some
+run_entries-requires-clause-some g c = (subst (λ (k : NodeKind). IsKindSound g.E.Engine.meaning c.args.engines.now (length c.args.found.now.hits.now) k (length c.args.part.now)) c.in-FirstLiteral.is c.requires.sound).1
+
+pub run_entries-requires-clause-short : goal.run_entries-requires-clause-short
+run_entries-requires-clause-short g c = (subst (λ (k : NodeKind). IsKindSound g.E.Engine.meaning c.args.engines.now (length c.args.found.now.hits.now) k (length c.args.part.now)) c.in-FirstLiteral.is c.requires.sound).2
+
+pub returns-in-Engine-clause-len : goal.returns-in-Engine-clause-len
+returns-in-Engine-clause-len g c =
+    let engines = c.args.engines.now in
+    let sound = subst (λ (k : NodeKind). IsKindSound g.E.Engine.meaning engines (length c.args.found.now.hits.now) k (length c.args.part.now)) c.in-Engine.is c.requires.sound in
+    c.run_engine.ensures.len ∙ (sound.each c.index-engines-number.result (slice_get_read engines (length engines) c.in-Engine.number c.index-engines-number.result refl sound.there c.index-engines-number.is)).0
+
+pub returns-in-Engine-clause-well : goal.returns-in-Engine-clause-well
+returns-in-Engine-clause-well g c =
+    let m = g.E.Engine.meaning in
+    let engines = c.args.engines.now in
+    let sound = subst (λ (k : NodeKind). IsKindSound m engines (length c.args.found.now.hits.now) k (length c.args.part.now)) c.in-Engine.is c.requires.sound in
+    subst (λ (k : NodeKind). IsWellPart m engines k c.run_engine.new.region (c.args.chunk.now.at + length c.args.chunk.now.bytes.now)) (sym c.in-Engine.is)
+    (engine-well m engines c.in-Engine.number c.in-Engine.null c.run_engine.new.region (c.args.chunk.now.at + length c.args.chunk.now.bytes.now) c.index-engines-number.result (slice_get_read engines (length engines) c.in-Engine.number c.index-engines-number.result refl sound.there c.index-engines-number.is) c.run_engine.ensures.well)
+
+pub returns-in-Engine-clause-takes : goal.returns-in-Engine-clause-takes
+returns-in-Engine-clause-takes g c =
+    let m = g.E.Engine.meaning in
+    let engines = c.args.engines.now in
+    let sound = subst (λ (k : NodeKind). IsKindSound m engines (length c.args.found.now.hits.now) k (length c.args.part.now)) c.in-Engine.is c.requires.sound in
+    subst (λ (k : NodeKind). TakesPiece m engines k c.args.part.now c.run_engine.new.region c.args.chunk.now.prev c.args.chunk.now.at c.args.chunk.now.bytes.now c.args.found.now.hits.now c.args.enters.now c.run_engine.result) (sym c.in-Engine.is)
+    (engine-takes m engines c.in-Engine.number c.in-Engine.null c.args.part.now c.run_engine.new.region c.args.chunk.now.prev c.args.chunk.now.at c.args.chunk.now.bytes.now c.args.found.now.hits.now c.args.enters.now c.null_ends-null.result c.run_engine.result
+    c.index-engines-number.result (slice_get_read engines (length engines) c.in-Engine.number c.index-engines-number.result refl sound.there c.index-engines-number.is) c.null_ends-null.ensures c.run_engine.ensures.takes)
+
+pub returns-in-Literal-clause-len : goal.returns-in-Literal-clause-len
+returns-in-Literal-clause-len g c =
+    c.run_literal_part.ensures.size ∙ sym (subst (λ (k : NodeKind). IsKindSound g.E.Engine.meaning c.args.engines.now (length c.args.found.now.hits.now) k (length c.args.part.now)) c.in-Literal.is c.requires.sound).3
+
+pub returns-in-Literal-clause-well : goal.returns-in-Literal-clause-well
+returns-in-Literal-clause-well g c = subst (λ (k : NodeKind). IsWellPart g.E.Engine.meaning c.args.engines.now k c.run_literal_part.new.part (c.args.chunk.now.at + length c.args.chunk.now.bytes.now)) (sym c.in-Literal.is) c.run_literal_part.ensures.well
+
+pub returns-in-Literal-clause-takes : goal.returns-in-Literal-clause-takes
+returns-in-Literal-clause-takes g c =
+    let m = g.E.Engine.meaning in
+    let engines = c.args.engines.now in
+    let hits = c.args.found.now.hits.now in
+    let sound = subst (λ (k : NodeKind). IsKindSound m engines (length hits) k (length c.args.part.now)) c.in-Literal.is c.requires.sound in
+    subst (λ (k : NodeKind). TakesPiece m engines k c.args.part.now c.run_literal_part.new.part c.args.chunk.now.prev c.args.chunk.now.at c.args.chunk.now.bytes.now hits c.args.enters.now c.run_literal_part.result) (sym c.in-Literal.is)
+    (literal-takes m engines c.in-Literal.number c.in-Literal.len c.args.part.now c.run_literal_part.new.part c.args.chunk.now.prev c.args.chunk.now.at c.args.chunk.now.bytes.now hits c.args.enters.now c.run_literal_part.result
+    _ (slice_get-get_or hits c.in-Literal.number _ sound.0) c.run_literal_part.ensures.takes)
+
+pub returns-in-FirstLiteral-clause-well : goal.returns-in-FirstLiteral-clause-well
+returns-in-FirstLiteral-clause-well g c = subst (λ (k : NodeKind). IsWellPart g.E.Engine.meaning c.args.engines.now k c.args.part.now (c.args.chunk.now.at + length c.args.chunk.now.bytes.now)) (sym c.in-FirstLiteral.is) tt
+
+pub returns-in-FirstLiteral-clause-takes : goal.returns-in-FirstLiteral-clause-takes
+returns-in-FirstLiteral-clause-takes g c =
+    let m = g.E.Engine.meaning in
+    let engines = c.args.engines.now in
+    let hits = c.args.found.now.hits.now in
+    let sound = subst (λ (k : NodeKind). IsKindSound m engines (length hits) k (length c.args.part.now)) c.in-FirstLiteral.is c.requires.sound in
+    subst (λ (k : NodeKind). TakesPiece m engines k c.args.part.now c.args.part.now c.args.chunk.now.prev c.args.chunk.now.at c.args.chunk.now.bytes.now hits c.args.enters.now c.run_entries.result) (sym c.in-FirstLiteral.is)
+    (first-takes m engines c.in-FirstLiteral.number c.in-FirstLiteral.len c.every_entry-carry.result c.run_entries.new.carry c.args.part.now c.args.part.now c.args.chunk.now.prev c.args.chunk.now.at c.args.chunk.now.bytes.now hits c.args.enters.now c.run_entries.result
+    _ (slice_get-get_or hits c.in-FirstLiteral.number _ sound.0) c.every_entry-carry.ensures.tells c.run_entries.ensures.takes)

@@ -1,0 +1,75 @@
+use Rattle.std.proofs.Common.{◌≡◌, ◌≤◌, ◌<◌, ◌+◌, ◌-◌, ℕ, List, length, slice_index, true, refl, suc, inl, inr, sym, subst, ◌∙◌, arith}
+use Rattle.std.proofs.Math.Nat.{mul-le-mul_right}
+use Rattle.hs_nodes.specs.Left.{nowhere}
+use Rattle.hs_nodes.specs.Marks.{is_marked}
+use Rattle.hs_nodes.specs.Nodes.{IsWellPart}
+use Rattle.hs_nodes.proofs.NodeLemmas.{marks-none}
+use Rattle.hs_nodes.proofs.WalkLemmas.{IsWalk, same-default, there, walk-takes, walk-to, walk-visit, walk-well}
+use Rattle.hs_nodes.proofs.walking.walk.Goals as goal
+use Rattle.hs_nodes.proofs.walking.walk.Goals.{then-not-is_nowhere, else-not-is_nowhere}
+
+pub run_node-requires-clause-well : goal.run_node-requires-clause-well
+run_node-requires-clause-well g c node at =
+    subst (λ ps. IsWellPart g.E.Engine.meaning c.args.table.now.engines.items node.kind ps c.args.chunk.now.at) (sym (c.loop-k.invariant.walk.later c.in-Some.k node c.in-Some.ensures.low at).1) (c.requires.well c.in-Some.k node at)
+
+pub mark_children-requires-clause-end : goal.mark_children-requires-clause-end
+mark_children-requires-clause-end g c =
+    let below : c.in-Some.k < length c.args.table.now.nodes.items = c.loop-k.invariant.walk.more.below c.in-Some.k c.in-Some.ensures.is in
+    let next : suc c.in-Some.k ≡ c.in-Some.k + 1 = omega arith in
+    subst (λ n. slice_index c.args.table.now.child_starts.items n ≤ length c.args.table.now.children.items) next (c.requires.sound.starts_end c.in-Some.k below)
+
+pub loop-k-preserved : goal.loop-k-preserved
+loop-k-preserved g c =
+    let m = g.E.Engine.meaning in
+    let table = c.args.table.now in
+    let chunk = c.args.chunk.now in
+    let hits = c.args.found.now.hits.now in
+    let k = c.in-Some.k in
+    let inv = c.loop-k.invariant in
+    let below : k < length table.nodes.items = inv.walk.more.below k c.in-Some.ensures.is in
+    let own = there table.nodes.items k below in
+    let next : suc k ≡ k + 1 = omega arith in
+    let here = walk-to m table c.args.region.now c.args.marks.now chunk.prev chunk.at chunk.bytes.now hits c.requires.sound chunk.few c.requires.rests c.loop-k.region c.loop-k.ends c.loop-k.marks c.loop-k.from (k - c.loop-k.from) k (omega (arith, c.in-Some.ensures.low)) (omega (arith, below))
+    c.in-Some.ensures.least inv.walk in record {
+      len = c.run_node.ensures.len ∙ inv.len;
+      ends = c.run_node.ensures.ends ∙ inv.ends;
+      steps =
+          let up = mul-le-mul_right (length chunk.bytes.now) c.in-Some.ensures.low in
+          omega (arith, up, c.run_node.ensures.ticks, inv.steps);
+      walk = elim c.if-not-is_nowhere.branch [
+        | then-not-is_nowhere w ↦
+            subst (λ (ms : List ℕ). IsWalk m table c.args.region.now c.args.marks.now chunk.prev chunk.at chunk.bytes.now hits c.run_node.new.region c.run_node.new.ends ms (k + 1)) (sym w.marks-is)
+            (walk-visit m table c.args.region.now c.args.marks.now chunk.prev chunk.at chunk.bytes.now hits c.requires.sound chunk.few c.everywhere-all.result c.everywhere-all.ensures c.loop-k.region c.run_node.new.region c.loop-k.ends c.run_node.new.ends c.loop-k.marks w.mark_children.new.marks
+            k (k + 1) refl own.0 own.1 c.in-Some.ensures.is (c.run_node.ensures.runs own.0 own.1) c.run_node.ensures.len w.mark_children.ensures.more (inr (λ j among. subst (λ n. is_marked w.mark_children.new.marks n ≡ true) among.is (w.mark_children.ensures.all among.place among.low (omega (arith, subst (λ n. among.place < slice_index table.child_starts.items n) next among.high))))) here)
+        | else-not-is_nowhere w ↦
+            subst (λ (ms : List ℕ). IsWalk m table c.args.region.now c.args.marks.now chunk.prev chunk.at chunk.bytes.now hits c.run_node.new.region c.run_node.new.ends ms (k + 1)) (sym w.marks-is)
+            (walk-visit m table c.args.region.now c.args.marks.now chunk.prev chunk.at chunk.bytes.now hits c.requires.sound chunk.few c.everywhere-all.result c.everywhere-all.ensures c.loop-k.region c.run_node.new.region c.loop-k.ends c.run_node.new.ends c.loop-k.marks c.loop-k.marks
+            k (k + 1) refl own.0 own.1 c.in-Some.ensures.is (c.run_node.ensures.runs own.0 own.1) c.run_node.ensures.len (marks-none (length table.nodes.items) c.loop-k.marks inv.walk.more.below) (inl (same-default c.run_node.new.ends k nowhere _ (omega (arith, below, c.run_node.ensures.ends, inv.ends)) ∙ c.is_nowhere.ensures.0 w.if-not-is_nowhere.false)) here)
+      ];
+    }
+
+pub returns-clause-ticks : goal.returns-clause-ticks
+returns-clause-ticks g c =
+    let inv = c.loop-k.invariant in
+    let up = mul-le-mul_right (length c.args.chunk.now.bytes.now) inv.walk.within in
+    omega (arith, up, inv.steps)
+
+pub returns-clause-well : goal.returns-clause-well
+returns-clause-well g c =
+    let table = c.args.table.now in
+    let chunk = c.args.chunk.now in
+    let inv = c.loop-k.invariant in
+    let room = inv.walk.more.room in
+    walk-well g.E.Engine.meaning table c.args.region.now c.args.marks.now chunk.prev chunk.at chunk.bytes.now c.args.found.now.hits.now c.requires.sound chunk.few c.loop-k.region c.loop-k.ends c.loop-k.marks
+    (walk-to g.E.Engine.meaning table c.args.region.now c.args.marks.now chunk.prev chunk.at chunk.bytes.now c.args.found.now.hits.now c.requires.sound chunk.few c.requires.rests c.loop-k.region c.loop-k.ends c.loop-k.marks c.loop-k.from (length table.nodes.items - c.loop-k.from) (length table.nodes.items)
+    (omega (arith, inv.walk.within)) (omega arith) (λ j low high. c.in_default.ensures j low (omega (arith, room, c.requires.room))) inv.walk)
+
+pub returns-clause-takes : goal.returns-clause-takes
+returns-clause-takes g c =
+    let table = c.args.table.now in
+    let chunk = c.args.chunk.now in
+    let inv = c.loop-k.invariant in
+    let room = inv.walk.more.room in
+    walk-takes g.E.Engine.meaning table c.args.region.now c.args.marks.now chunk.prev chunk.at chunk.bytes.now c.args.found.now.hits.now c.requires.sound chunk.few c.loop-k.region c.loop-k.ends c.loop-k.marks
+    (walk-to g.E.Engine.meaning table c.args.region.now c.args.marks.now chunk.prev chunk.at chunk.bytes.now c.args.found.now.hits.now c.requires.sound chunk.few c.requires.rests c.loop-k.region c.loop-k.ends c.loop-k.marks c.loop-k.from (length table.nodes.items - c.loop-k.from) (length table.nodes.items)
+    (omega (arith, inv.walk.within)) (omega arith) (λ j low high. c.in_default.ensures j low (omega (arith, room, c.requires.room))) inv.walk)

@@ -1,0 +1,10 @@
+pub mod Blocks
+pub mod Left
+pub mod Pieces
+pub mod Marks
+pub mod Hits
+pub mod Contexts
+pub mod FirstLiterals
+pub mod Nodes
+pub mod Walks
+pub mod Resting

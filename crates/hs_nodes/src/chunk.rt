@@ -1,0 +1,62 @@
+//! A chunk of the bytes of a stream, block by block.
+
+ghost use Rattle.std.specs.Prelude.{◌≡◌, ◌+◌, ◌*◌, ◌^◌, ◌<◌, ◌≤◌, ℕ, List, length};
+ghost use Rattle.hs_base.specs.Contexts.{prev_at};
+ghost use Rattle.hs_nodes.specs.Blocks.{block, block_count, front};
+
+use hs_base::Prev;
+
+/// How many bytes a block has, but for the last one of a chunk.
+pub const BLOCK_BYTES: usize = 64;
+/// How many blocks a chunk has at most.
+pub const MAX_BLOCKS: usize = 8;
+/// How many bytes a chunk has at most.
+pub const MAX_CHUNK: usize = BLOCK_BYTES * MAX_BLOCKS;
+
+/// Some bytes of a stream, and where they stand.
+#[derive(Clone, Copy, Debug)]
+pub struct Chunk<'a> {
+    /// The bytes.
+    pub bytes: &'a [u8],
+    /// What stands before the first one.
+    pub prev: Prev,
+    /// The offset of the first one.
+    pub at: u64,
+    ghost few: { length bytes.now ≤ 512 },
+    ghost room: { at + length bytes.now ≤ 2 ^ 63 },
+}
+
+impl Chunk<'_> {
+    /// How many blocks it has: each but the last one is whole.
+    pub fn blocks(&self) -> usize
+        ensures count { result ≡ block_count (length self.now.bytes.now) }
+        ensures few { result ≤ 8 }
+        ensures some { (j : ℕ) → j < result → 64 * j < length self.now.bytes.now }
+    {
+        (self.bytes.len() + (BLOCK_BYTES - 1)) / BLOCK_BYTES
+    }
+
+    /// The bytes of a block.
+    pub fn block(&self, number: usize) -> &[u8]
+        requires { 64 * number < length self.now.bytes.now }
+        ensures bytes { result.now ≡ block self.now.bytes.now number }
+        ensures few { length result.now ≤ 64 }
+        ensures within { 64 * number + length result.now ≤ length self.now.bytes.now }
+    {
+        let from = BLOCK_BYTES * number;
+        let end = (from + BLOCK_BYTES).min(self.bytes.len());
+        &self.bytes[from..end]
+    }
+
+    /// What stands before a block.
+    pub fn prev_before(&self, number: usize) -> Prev
+        requires { 64 * number < length self.now.bytes.now }
+        ensures { (u : List ℕ) → self.now.prev ≡ prev_at u (length u) →
+            result ≡ prev_at (front u self.now.bytes.now number) (length (front u self.now.bytes.now number)) }
+    {
+        if number == 0 {
+            return self.prev;
+        }
+        Prev::behind(self.bytes[BLOCK_BYTES * number - 1])
+    }
+}

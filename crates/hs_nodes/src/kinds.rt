@@ -1,0 +1,74 @@
+//! One node over a chunk.
+
+ghost use Rattle.std.specs.Prelude.{◌≡◌, ◌+◌, ◌≤◌, length};
+ghost use Rattle.hs_nodes.specs.Contexts.{AreChunkContexts, NeedsContexts};
+ghost use Rattle.hs_nodes.specs.Nodes.{IsKindSound, IsWellPart, TakesPiece};
+
+use crate::chunk::Chunk;
+use crate::ends::ChunkEnds;
+use crate::engines::run_engine;
+use crate::first::every_entry;
+use crate::hits::ChunkHits;
+use crate::literals::{run_entries, run_literal_part};
+use crate::nulls::null_ends;
+use crate::table::NodeKind;
+use hs_block::{BlockEngine, Contexts};
+use hs_engine::Steps;
+use std::sync::ledger::Ledger;
+
+/// What nodes ask in a chunk beside its bytes.
+#[derive(Clone, Copy, Debug)]
+pub struct Found<'c, 'h> {
+    /// The contexts of its blocks, if a node has a mask.
+    pub contexts: &'c [Contexts],
+    /// Where each literal ends in it.
+    pub hits: &'h [ChunkHits],
+}
+
+/// Takes a chunk by a node of that kind, where the pieces before are left as `enters` tell. Answers where the pieces up
+/// to it are left.
+pub(crate) fn run_kind<E: BlockEngine, L: Ledger>(
+    kind: NodeKind,
+    engines: &[E],
+    part: &mut [u8],
+    chunk: &Chunk,
+    found: &Found,
+    enters: &ChunkEnds,
+    steps: &mut Steps<L>,
+) -> ChunkEnds
+    requires sound { IsKindSound E.meaning engines.now (length found.now.hits.now) kind (length part.old) }
+    requires well { IsWellPart E.meaning engines.now kind part.old chunk.now.at }
+    requires contexts { NeedsContexts kind →
+        AreChunkContexts found.now.contexts.now chunk.now.prev chunk.now.at chunk.now.bytes.now }
+    ensures len { length part.new ≡ length part.old }
+    ensures well { IsWellPart E.meaning engines.now kind part.new (chunk.now.at + length chunk.now.bytes.now) }
+    ensures ticks { steps.new ≤ steps.old + length chunk.now.bytes.now }
+    ensures takes { TakesPiece E.meaning engines.now kind part.old part.new chunk.now.prev chunk.now.at
+        chunk.now.bytes.now found.now.hits.now enters.now result }
+{
+    match kind {
+        NodeKind::Engine(number, null) => {
+            let null = null_ends(null, chunk, found.contexts);
+            run_engine(&engines[number as usize], part, chunk, enters, &null, steps)
+        }
+        NodeKind::Literal(number, len) => {
+            run_literal_part(
+                len as usize,
+                part,
+                chunk,
+                &found.hits[number as usize],
+                enters,
+            )
+        }
+        NodeKind::FirstLiteral(number, len) => {
+            let mut carry = every_entry(len as usize, chunk.at);
+            run_entries(
+                len as usize,
+                &mut carry,
+                chunk,
+                &found.hits[number as usize],
+                enters,
+            )
+        }
+    }
+}

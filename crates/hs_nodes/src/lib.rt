@@ -1,0 +1,28 @@
+//! The nodes of a forest of pieces, run over a chunk of up to eight blocks of 64 bytes.
+#![tactic(auto)]
+
+mod chunk;
+mod ends;
+mod engines;
+mod first;
+mod hits;
+mod kinds;
+mod laws;
+mod literals;
+mod marks;
+mod nulls;
+mod settling;
+mod table;
+mod walking;
+
+pub use chunk::{BLOCK_BYTES, Chunk, MAX_BLOCKS, MAX_CHUNK};
+pub use ends::ChunkEnds;
+pub use first::everywhere;
+pub use hits::ChunkHits;
+pub use kinds::Found;
+pub use laws::resting_nodes;
+pub use marks::MarkSet;
+pub use nulls::chunk_contexts;
+pub use settling::settle;
+pub use table::{Node, NodeKind, NodeTable};
+pub use walking::{mark_all, walk};

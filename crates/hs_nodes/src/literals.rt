@@ -1,0 +1,58 @@
+//! A literal over a chunk.
+
+ghost use Rattle.std.specs.Prelude.{◌≡◌, ◌+◌, ◌≤◌, length};
+ghost use Rattle.hs_base.specs.RepeatRows.{IsRingAt};
+ghost use Rattle.hs_nodes.specs.Hits.{IsCarryAt, TakesLiteral, TakesLiteralPart};
+
+use crate::chunk::Chunk;
+use crate::ends::ChunkEnds;
+use crate::hits::ChunkHits;
+use hs_block::{carry_of, keep_carry, run_literal};
+
+/// Takes a chunk by a literal of so many bytes, block by block, where the pieces before are left as `enters` tell, and
+/// it ends where the hits tell it. The word of its entries is moved; answers where the pieces up to it are left.
+pub(crate) fn run_entries(
+    len: usize,
+    carry: &mut u64,
+    chunk: &Chunk,
+    hits: &ChunkHits,
+    enters: &ChunkEnds,
+) -> ChunkEnds
+    requires some { 1 ≤ len }
+    requires short { len ≤ 32 }
+    ensures takes { TakesLiteral len carry.old carry.new chunk.now.bytes.now hits.now enters.now result }
+    ensures well { IsCarryAt len carry.old chunk.now.at →
+        IsCarryAt len carry.new (chunk.now.at + length chunk.now.bytes.now) }
+{
+    let mut ends = ChunkEnds::NOWHERE;
+    for j in 0..chunk.blocks() {
+        let bytes = chunk.block(j);
+        let run = run_literal(len, hits.of_block(j), enters.before[j], *carry, bytes.len());
+        ends.before[j] = run.ends.before;
+        ends.behind[j] = run.ends.behind;
+        *carry = run.carry;
+    }
+    ends
+}
+
+/// The same, where the bytes tell of its entries.
+pub(crate) fn run_literal_part(
+    len: usize,
+    part: &mut [u8],
+    chunk: &Chunk,
+    hits: &ChunkHits,
+    enters: &ChunkEnds,
+) -> ChunkEnds
+    requires some { 1 ≤ len }
+    requires short { len ≤ 32 }
+    requires size { length part.old ≡ 4 }
+    requires well { IsRingAt len part.old chunk.now.at }
+    ensures size { length part.new ≡ 4 }
+    ensures well { IsRingAt len part.new (chunk.now.at + length chunk.now.bytes.now) }
+    ensures takes { TakesLiteralPart len part.old part.new chunk.now.bytes.now hits.now enters.now result }
+{
+    let mut carry = carry_of(part, len);
+    let ends = run_entries(len, &mut carry, chunk, hits, enters);
+    keep_carry(part, len, carry);
+    ends
+}

@@ -1,0 +1,161 @@
+//! A walk over the nodes of a table, over a chunk.
+
+ghost use Rattle.std.specs.Prelude.{◌≡◌, ℕ, ◌+◌, ◌*◌, ◌<◌, ◌≤◌, true, length, slice_get, slice_index, EachIndex, Some};
+ghost use Rattle.hs_nodes.specs.Contexts.{AreChunkContexts, NeedsContexts};
+ghost use Rattle.hs_nodes.specs.Left.{nowhere};
+ghost use Rattle.hs_nodes.specs.Marks.{is_marked, mark_room};
+ghost use Rattle.hs_nodes.specs.Nodes.{IsWellPart};
+ghost use Rattle.hs_nodes.specs.Walks.{AreMoreMarks, AreNodesWell, ChangesMarked, IsNodeRun, IsTableSound};
+ghost use Rattle.hs_nodes.specs.Walks.{MayNodesRest, TakesNodes, entering_ends, node_ends, node_part};
+ghost use Rattle.hs_nodes.specs.declared.table.Node.{Node};
+
+use crate::chunk::Chunk;
+use crate::ends::ChunkEnds;
+use crate::first::everywhere;
+use crate::kinds::{Found, run_kind};
+use crate::marks::MarkSet;
+use crate::table::{Node, NodeTable};
+use hs_block::BlockEngine;
+use hs_engine::Steps;
+use std::sync::ledger::Ledger;
+
+/// The node of that number.
+pub(crate) fn node_at<E>(table: &NodeTable<E>, k: usize) -> Node
+    requires { k < length table.now.nodes.items }
+    ensures { slice_get table.now.nodes.items k ≡ Some result }
+{
+    table.nodes[k]
+}
+
+/// Where the pieces before those of a node with that parent are left.
+fn entering(parent: Option<u32>, all: &ChunkEnds, ends: &[ChunkEnds]) -> ChunkEnds
+    requires { (p : ℕ) → parent ≡ Some p → p < length ends.now }
+    ensures { result ≡ entering_ends parent all.now ends.now }
+{
+    match parent {
+        None => *all,
+        Some(parent) => ends[parent as usize],
+    }
+}
+
+/// Takes a chunk by the node of that number; `all` is everywhere.
+fn run_node<E: BlockEngine, L: Ledger>(
+    table: &NodeTable<E>,
+    k: usize,
+    chunk: &Chunk,
+    found: &Found,
+    all: &ChunkEnds,
+    region: &mut [u8],
+    ends: &mut [ChunkEnds],
+    steps: &mut Steps<L>,
+)
+    requires sound { IsTableSound E.meaning table.now (length found.now.hits.now) (length region.old) }
+    requires there { k < length table.now.nodes.items }
+    requires ends { length ends.old ≡ length table.now.nodes.items }
+    requires well { (node : Node) → slice_get table.now.nodes.items k ≡ Some node →
+        IsWellPart E.meaning table.now.engines.items node.kind (node_part region.old node) chunk.now.at }
+    requires contexts { (node : Node) → slice_get table.now.nodes.items k ≡ Some node → NeedsContexts node.kind →
+        AreChunkContexts found.now.contexts.now chunk.now.prev chunk.now.at chunk.now.bytes.now }
+    ensures len { length region.new ≡ length region.old }
+    ensures ends { length ends.new ≡ length ends.old }
+    ensures ticks { steps.new ≤ steps.old + length chunk.now.bytes.now }
+    ensures runs { (node : Node) → slice_get table.now.nodes.items k ≡ Some node → IsNodeRun E.meaning table.now k node
+        region.old region.new chunk.now.prev chunk.now.at chunk.now.bytes.now found.now.hits.now all.now ends.old
+        ends.new }
+{
+    let node = node_at(table, k);
+    let enters = entering(node.parent, all, ends);
+    ends[k] = run_kind(
+        node.kind,
+        &table.engines,
+        &mut region[node.start as usize..node.end as usize],
+        chunk,
+        found,
+        &enters,
+        steps,
+    );
+}
+
+/// Where the children of the node of that number begin.
+fn start_of(starts: &[u32], k: usize) -> usize
+    requires { k < length starts.now }
+    ensures { result ≡ slice_index starts.now k }
+{
+    starts[k] as usize
+}
+
+/// Marks the numbers of a range of a list.
+pub fn mark_all(numbers: &[u32], from: usize, end: usize, marks: &mut MarkSet)
+    requires end { end ≤ length numbers.now }
+    requires room { EachIndex numbers.now (λ i. slice_index numbers.now i < mark_room marks.old) }
+    ensures room { length marks.new ≡ length marks.old }
+    ensures all { (i : ℕ) → from ≤ i → i < end → is_marked marks.new (slice_index numbers.now i) ≡ true }
+    ensures kept { (k : ℕ) → is_marked marks.old k ≡ true → is_marked marks.new k ≡ true }
+    ensures no_other { (count k : ℕ) → EachIndex numbers.now (λ i. slice_index numbers.now i < count) →
+        is_marked marks.new k ≡ true → count ≤ k → is_marked marks.old k ≡ true }
+{
+    for i in from..end {
+        marks.write(numbers[i] as usize, true);
+    }
+}
+
+/// Marks the children of the node of that number.
+fn mark_children<E>(table: &NodeTable<E>, k: usize, marks: &mut MarkSet)
+    requires there { k + 1 < length table.now.child_starts.items }
+    requires end { slice_index table.now.child_starts.items (k + 1) ≤ length table.now.children.items }
+    requires room { length table.now.nodes.items ≤ mark_room marks.old }
+    requires children { (i : ℕ) → i < length table.now.children.items →
+        slice_index table.now.children.items i < length table.now.nodes.items }
+    requires below { (k : ℕ) → is_marked marks.old k ≡ true → k < length table.now.nodes.items }
+    ensures more { AreMoreMarks (length table.now.nodes.items) marks.old marks.new }
+    ensures all { (i : ℕ) → slice_index table.now.child_starts.items k ≤ i →
+        i < slice_index table.now.child_starts.items (k + 1) →
+        is_marked marks.new (slice_index table.now.children.items i) ≡ true }
+{
+    mark_all(
+        &table.children,
+        start_of(&table.child_starts, k),
+        start_of(&table.child_starts, k + 1),
+        marks,
+    );
+}
+
+/// Takes a chunk by the nodes that are marked, in their order; where a node is left, its children are marked. So those
+/// that are marked then have been run, and no other one has been looked at.
+pub fn walk<E: BlockEngine, L: Ledger>(
+    table: &NodeTable<E>,
+    chunk: &Chunk,
+    found: &Found,
+    region: &mut [u8],
+    ends: &mut [ChunkEnds],
+    marks: &mut MarkSet,
+    steps: &mut Steps<L>,
+)
+    requires sound { IsTableSound E.meaning table.now (length found.now.hits.now) (length region.old) }
+    requires well { AreNodesWell E.meaning table.now region.old chunk.now.at }
+    requires ends { length ends.old ≡ length table.now.nodes.items }
+    requires clear { (k : ℕ) → node_ends ends.old k ≡ nowhere }
+    requires room { length table.now.nodes.items ≤ mark_room marks.old }
+    requires marked { (k : ℕ) → is_marked marks.old k ≡ true → k < length table.now.nodes.items }
+    requires rests { MayNodesRest E.meaning table.now marks.old found.now.hits.now region.old chunk.now.bytes.now }
+    requires contexts { (k : ℕ) (node : Node) → slice_get table.now.nodes.items k ≡ Some node →
+        NeedsContexts node.kind →
+        AreChunkContexts found.now.contexts.now chunk.now.prev chunk.now.at chunk.now.bytes.now }
+    ensures well { AreNodesWell E.meaning table.now region.new (chunk.now.at + length chunk.now.bytes.now) }
+    ensures ends { length ends.new ≡ length ends.old }
+    ensures marks { AreMoreMarks (length table.now.nodes.items) marks.old marks.new }
+    ensures changes { ChangesMarked E.meaning table.now marks.new region.old region.new ends.new }
+    ensures ticks { steps.new ≤ steps.old + length table.now.nodes.items * length chunk.now.bytes.now }
+    ensures takes { TakesNodes E.meaning table.now region.old region.new chunk.now.prev chunk.now.at
+        chunk.now.bytes.now found.now.hits.now ends.new }
+{
+    let all = everywhere(chunk);
+    let mut from = 0;
+    while let Some(k) = marks.next(from) {
+        run_node(table, k, chunk, found, &all, region, ends, steps);
+        if !ends[k].is_nowhere() {
+            mark_children(table, k, marks);
+        }
+        from = k + 1;
+    }
+}

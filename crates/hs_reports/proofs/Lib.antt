@@ -1,0 +1,12 @@
+pub mod HeardLemmas
+pub mod ChunkLemmas
+pub mod EventLemmas
+pub mod WordBitLemmas
+pub mod TellingLemmas
+pub mod BlockLemmas
+pub mod WalkLemmas
+pub mod TerminalLemmas
+pub mod EndTableLemmas
+pub mod GatheringLemmas
+pub mod SettlementLemmas
+pub mod SettledLemmas

@@ -1,0 +1,14 @@
+pub mod Heard
+pub mod Chunks
+pub mod ChunkLaws
+pub mod WordBits
+pub mod Telling
+pub mod WordLaws
+pub mod Events
+pub mod Identifiers
+pub mod Terminals
+pub mod TerminalLaws
+pub mod EndTables
+pub mod Gathering
+pub mod Tellings
+pub mod Settlement

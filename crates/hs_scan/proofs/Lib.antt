@@ -1,0 +1,11 @@
+pub mod FieldLemmas
+pub mod BlockLemmas
+pub mod KeepingLemmas
+pub mod RegionLemmas
+pub mod ScanLemmas
+pub mod EndingLemmas
+pub mod PastLemmas
+pub mod FillLemmas
+pub mod HitLemmas
+pub mod CopyLemmas
+pub mod WritingLemmas

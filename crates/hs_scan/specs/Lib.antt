@@ -1,0 +1,10 @@
+pub mod Programs
+pub mod Keeping
+pub mod Telling
+pub mod Knowing
+pub mod Scans
+pub mod Ending
+pub mod Past
+pub mod Scratches
+pub mod Hits
+pub mod Copying

@@ -1,0 +1,92 @@
+//! One chunk: the nodes, and then the reports.
+
+ghost use Rattle.std.specs.Prelude.{◌≡◌, ◌+◌, ◌<◌, ◌≤◌, ◌^◌, ℕ, length, slice_index};
+ghost use Rattle.hs_nodes.specs.Contexts.{AreChunkContexts};
+ghost use Rattle.hs_nodes.specs.Left.{nowhere};
+ghost use Rattle.hs_nodes.specs.Walks.{AreNodesWell, IsOutside, IsTableSound, node_ends};
+ghost use Rattle.hs_reports.specs.Events.{Takes};
+ghost use Rattle.hs_scan.specs.Knowing.{FitsKnown, IsPending};
+ghost use Rattle.hs_scan.specs.Programs.{AreTerminalsSound};
+ghost use Rattle.hs_scan.specs.Scans.{ScansChunk};
+ghost use Rattle.hs_scan.specs.Scratches.{FitsRoom};
+
+use crate::known::{Known, tell_chunk};
+use crate::program::Program;
+use hs_block::BlockEngine;
+use hs_engine::Steps;
+use hs_nodes::{Chunk, ChunkEnds, Found, MarkSet, everywhere, walk};
+use hs_reports::Events;
+use std::sync::ledger::Ledger;
+
+/// What goes from chunk to chunk beside the region.
+#[derive(Drop)]
+pub(crate) struct Course {
+    /// The nodes that are run.
+    pub marks: MarkSet,
+    /// What is known of the identifiers.
+    pub known: Known,
+}
+
+/// Makes all ends those of nodes that are left nowhere.
+fn forget_ends(ends: &mut [ChunkEnds])
+    ensures len { length ends.new ≡ length ends.old }
+    ensures nowhere { (k : ℕ) → node_ends ends.new k ≡ nowhere }
+{
+    for end in ends.iter_mut() {
+        *end = ChunkEnds::NOWHERE;
+    }
+}
+
+/// Takes a chunk: the region goes from what is kept of the nodes before it to what is kept behind it, what is known of
+/// the identifiers likewise, and the new reports of the chunk are told.
+pub(crate) fn take_chunk<E: BlockEngine, V: Events, L: Ledger>(
+    program: &Program<E>,
+    chunk: &Chunk,
+    found: &Found,
+    region: &mut [u8],
+    ends: &mut [ChunkEnds],
+    course: &mut Course,
+    events: &mut V,
+    steps: &mut Steps<L>,
+)
+    requires table { IsTableSound E.meaning program.now.table (length found.now.hits.now) (length region.old) }
+    requires sound { AreTerminalsSound E.meaning program.now }
+    requires few { length program.now.table.nodes.items < 2 ^ 32 }
+    requires well { AreNodesWell E.meaning program.now.table region.old chunk.now.at }
+    requires room { FitsRoom program.now ends.old course.old.marks }
+    requires contexts { AreChunkContexts found.now.contexts.now chunk.now.prev chunk.now.at chunk.now.bytes.now }
+    requires fits { FitsKnown (length program.now.identifiers.items) course.old.known }
+    requires pending { IsPending course.old.known }
+    ensures len { length region.new ≡ length region.old }
+    ensures well { AreNodesWell E.meaning program.now.table region.new
+        (chunk.now.at + length chunk.now.bytes.now) }
+    ensures outside { (i : ℕ) → IsOutside program.now.table.nodes.items i →
+        slice_index region.new i ≡ slice_index region.old i }
+    ensures room { FitsRoom program.now ends.new course.new.marks }
+    ensures fits { FitsKnown (length program.now.identifiers.items) course.new.known }
+    ensures pending { IsPending course.new.known }
+    ensures scans { Takes V.tells events.old events.new (ScansChunk E.meaning program.now region.old region.new
+        chunk.now.prev chunk.now.at chunk.now.bytes.now found.now.hits.now course.old.known.told.items
+        course.old.known.here.items course.new.known.told.items course.new.known.here.items) }
+{
+    walk(
+        &program.table,
+        chunk,
+        found,
+        region,
+        ends,
+        &mut course.marks,
+        steps,
+    );
+    let all = everywhere(chunk);
+    tell_chunk(
+        program,
+        chunk,
+        &course.marks,
+        ends,
+        &all,
+        &mut course.known,
+        events,
+    );
+    forget_ends(ends);
+}

@@ -1,0 +1,98 @@
+//! Where matches of identifiers end in a block, from where the nodes are left.
+
+ghost use Rattle.std.specs.Prelude.{◌≡◌, ℕ, ◌+◌, ◌*◌, ◌<◌, ◌≤◌, ◌^◌, true, false, length, Some, slice_get};
+ghost use Rattle.hs_nodes.specs.Left.{nowhere};
+ghost use Rattle.hs_nodes.specs.Marks.{is_marked, mark_room};
+ghost use Rattle.hs_nodes.specs.Walks.{node_ends};
+ghost use Rattle.hs_reports.specs.EndTables.{HasNoEnds, is_noted};
+ghost use Rattle.hs_reports.specs.Gathering.{AreEndsBelow};
+ghost use Rattle.hs_scan.specs.Programs.{AreTerminalsSound};
+ghost use Rattle.hs_scan.specs.Telling.{AreGathered, GathersNode, terminals_of};
+
+use crate::program::Program;
+use hs_block::BlockEngine;
+use hs_nodes::{BLOCK_BYTES, ChunkEnds, MarkSet};
+use hs_reports::{IdentifierEnds, Terminal};
+
+/// Where the node of that number is left.
+fn ends_at(ends: &[ChunkEnds], k: usize) -> &ChunkEnds
+    requires { k < length ends.now }
+    ensures { slice_get ends.now k ≡ Some result.now }
+{
+    &ends[k]
+}
+
+/// The terminals of the node of that number.
+fn terminals_of<E: BlockEngine>(program: &Program<E>, node: usize) -> &[Terminal]
+    requires sound { AreTerminalsSound E.meaning program.now }
+    requires there { node < length program.now.table.nodes.items + 1 }
+    ensures { result.now ≡ terminals_of program.now node }
+{
+    let from = program.terminal_starts[node] as usize;
+    let end = program.terminal_starts[node + 1] as usize;
+    &program.terminals[from..end]
+}
+
+/// Adds the ends of the terminals of one node, in the block at the offset `at`.
+fn gather_node<E: BlockEngine>(
+    program: &Program<E>,
+    node: usize,
+    at: u64,
+    before: u64,
+    behind: u64,
+    table: &mut IdentifierEnds,
+)
+    requires sound { AreTerminalsSound E.meaning program.now }
+    requires there { node < length program.now.table.nodes.items + 1 }
+    requires count { length table.old.words ≡ length program.now.identifiers.items }
+    requires room { at < 2 ^ 63 }
+    ensures count { length table.new.words ≡ length table.old.words }
+    ensures noted { (p : ℕ) → is_noted table.old p ≡ true → is_noted table.new p ≡ true }
+    ensures goes_on { GathersNode program.now node at before behind table.old table.new }
+{
+    table.add_all(terminals_of(program, node), at, before, behind);
+}
+
+/// Adds the ends that all nodes give in a block of the chunk at the offset `at`. Nodes that aren't marked are left
+/// nowhere; `all` is everywhere.
+pub(crate) fn gather_block<E: BlockEngine>(
+    program: &Program<E>,
+    marks: &MarkSet,
+    ends: &[ChunkEnds],
+    all: &ChunkEnds,
+    block: usize,
+    at: u64,
+    table: &mut IdentifierEnds,
+)
+    requires sound { AreTerminalsSound E.meaning program.now }
+    requires ends { length ends.now ≡ length program.now.table.nodes.items }
+    requires known { (k : ℕ) → is_marked marks.now k ≡ true → k < length program.now.table.nodes.items }
+    requires marks { length program.now.table.nodes.items ≤ mark_room marks.now }
+    requires few { length program.now.table.nodes.items < 2 ^ 32 }
+    requires rest { (k : ℕ) → k < length program.now.table.nodes.items → is_marked marks.now k ≡ false →
+        node_ends ends.now k ≡ nowhere }
+    requires block { block < 8 }
+    requires count { length table.old.words ≡ length program.now.identifiers.items }
+    requires none { HasNoEnds table.old }
+    requires room { at + 64 * block < 2 ^ 63 }
+    ensures count { length table.new.words ≡ length table.old.words }
+    ensures noted { (p : ℕ) → is_noted table.old p ≡ true → is_noted table.new p ≡ true }
+    ensures gathered { AreGathered E.meaning program.now ends.now all.now at block
+        (length program.now.table.nodes.items + 1) table.new }
+{
+    let at = at + (BLOCK_BYTES * block) as u64;
+    let mut from = 0;
+    while let Some(k) = marks.next(from) {
+        let own = ends_at(ends, k);
+        gather_node(program, k, at, own.before[block], own.behind[block], table);
+        from = k + 1;
+    }
+    gather_node(
+        program,
+        program.table.nodes.len(),
+        at,
+        all.before[block],
+        all.behind[block],
+        table,
+    );
+}
