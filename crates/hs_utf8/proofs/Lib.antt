@@ -1,0 +1,13 @@
+pub mod ChoiceLemmas
+pub mod DigitLemmas
+pub mod LengthLemmas
+pub mod RunLemmas
+pub mod ByteLemmas
+pub mod RangeLemmas
+pub mod SetLemmas
+pub mod TreeLists
+pub mod FoldLemmas
+pub mod TextLemmas
+pub mod PartLemmas
+pub mod SpanLemmas
+pub mod UniqueLemmas
