@@ -1,5 +1,5 @@
 -- The last bytes of a stream.
-use Rattle.std.proofs.Common.{◌≡◌, ◌⊎◌, ℕ, zero, suc, ◌+◌, ◌-◌, ◌<◌, ◌≤◌, Bool, true, false, List, [], ◌∷◌, ◌++◌, length, replicate, get_or, take, drop, eqb, min, refl, sym, ap, subst, ◌∙◌, inl, inr, arith, length-append, length-drop}
+use Rattle.std.proofs.Common.{◌≡◌, ℕ, zero, suc, ◌+◌, ◌-◌, ◌<◌, ◌≤◌, List, [], ◌∷◌, ◌++◌, length, replicate, get_or, take, drop, min, refl, sym, ap, ◌∙◌, inl, inr, arith, length-append, length-drop}
 use Rattle.std.proofs.lemmas.Bool.{cases_lt}
 use Rattle.std.proofs.lemmas.List.{length-replicate, length-take-le, get_or-drop, get_or-take, get_or-append-add, drop-append-le, append-nil, take-append-drop, take_rest}
 use Rattle.std.proofs.lemmas.Option.{slice_get-get_or}
