@@ -4,6 +4,7 @@ use crate::cases::{Answer, Case, List, Verdict, ensure, written};
 use crate::chains;
 use crate::engines::{Question, ask_each, automaton_of};
 use crate::reading::{lines_of, numbered, streams_of};
+use crate::running::judge_roles;
 use crate::spans::Spans;
 use crate::streaming::judge_streams;
 use hs_base::{Entry, ExprId, Refusal};
@@ -27,8 +28,8 @@ fn judge_chains(alloc: Global, list: &List) -> Verdict {
 
 /// Judges a list by everything that reports; one that is mixed isn't compiled.
 fn judge_list(alloc: Global, list: &List, is_mixed: bool) -> Verdict {
-    ask_each(alloc, Question::Reports(list))?;
     judge_chains(alloc, list)?;
+    judge_roles(alloc, list)?;
     if is_mixed {
         return Ok(());
     }

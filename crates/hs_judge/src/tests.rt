@@ -37,7 +37,14 @@ fn repeats_are_as_defined(rt: HostRuntime) -> Result<(), Fail> {
 
 #[test]
 fn chains_are_as_defined(rt: HostRuntime) -> Result<(), Fail> {
-    judge(rt.alloc(), rows::CHAINS)
+    judge(rt.alloc(), rows::CHAINS)?;
+    judge(rt.alloc(), rows::EDGES)?;
+    judge(rt.alloc(), rows::PIECES)
+}
+
+#[test]
+fn random_lists_are_as_defined(rt: HostRuntime) -> Result<(), Fail> {
+    judge(rt.alloc(), rows::RANDOM)
 }
 
 #[test]

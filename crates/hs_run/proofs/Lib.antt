@@ -10,6 +10,7 @@ pub mod RowLemmas
 pub mod MovingLemmas
 pub mod DoneLemmas
 pub mod EndedLemmas
+pub mod TickLemmas
 pub mod EventLemmas
 pub mod ReportingLemmas
 pub mod KeepingLemmas
@@ -25,3 +26,4 @@ pub mod JoinLemmas
 pub mod PlanLemmas
 pub mod LayingLemmas
 pub mod WellLemmas
+pub mod FaultLemmas

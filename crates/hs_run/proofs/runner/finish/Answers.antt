@@ -42,3 +42,6 @@ returns-clause-taken g c =
 pub returns-clause-alike : goal.returns-clause-alike
 returns-clause-alike g c =
     let taken = returns-clause-taken g c in finishes-alike c.args.program.now c.args.region.now taken.pairs taken.holds
+
+pub returns-clause-ticks : goal.returns-clause-ticks
+returns-clause-ticks g c = c.end_chains.ensures.ticks
