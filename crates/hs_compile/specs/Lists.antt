@@ -1,8 +1,9 @@
 -- Which lists of expressions are accepted, as which patterns, and how the others are refused.
-use Rattle.std.specs.Prelude.{◌≡◌, ◌==◌, ℕ, suc, ◌<◌, Bool, not, List, [], ◌∷◌, ◌++◌, length, bit_and}
+use Rattle.std.specs.Prelude.{◌≡◌, ◌==◌, ℕ, suc, ◌<◌, ◌≤◌, Bool, not, List, [], ◌∷◌, ◌++◌, length, bit_and}
+use Rattle.std.specs.List.{AllZip}
 use Rattle.hs_base.specs.declared.entry.ExprId.{ExprId}
 use Rattle.hs_base.specs.declared.refusal.Refusal.{Refusal}
-use Rattle.hs_base.specs.declared.refusal.Refusal.TheVariants.{CountLimit, MixedSingle}
+use Rattle.hs_base.specs.declared.refusal.Refusal.TheVariants.{CountLimit, StateLimit, MixedSingle}
 use Rattle.hs_base.specs.Entries.{ListedEntry, flags_of}
 use Rattle.hs_base.specs.Lists.{OneOf}
 use Rattle.hs_base.specs.Trees.{Tree}
@@ -10,6 +11,7 @@ use Rattle.hs_base.specs.Patterns.{Pattern}
 use Rattle.hs_parse.specs.Grammar.{Reads}
 use Rattle.hs_parse.specs.Faults.{Fault}
 use Rattle.hs_support.specs.Refused.{HasFlagsFault, HasRefusal as HasTreeRefusal, IsLeast}
+use Rattle.hs_compile.specs.Sizes.{greatest_size, IsSizeOf}
 
 -- the most entries of a list
 abbrev pub greatest_count : ℕ
@@ -45,6 +47,23 @@ pub data HasPlaceFault (before : List ListedEntry) (entry : ListedEntry) : Refus
   -- an entry before it differs in whether its identifier is to be reported at most once
   mixed : IsMixed before entry → HasPlaceFault before entry (MixedSingle (record { 0 = entry.id }))
 
+-- The expression of the entry is read, and the pattern is its own.
+pub record IsReadAs (entry : ListedEntry) (x : Pattern) : Type 0 where
+  pub read : Reads entry.text (flags_of entry) x.tree
+  pub is : x ≡ pattern_of entry x.tree
+
+-- With the entry, which is read, the region of the list has so many bytes, which are too many; without it they aren't.
+pub record PassesSize (before : List ListedEntry) (entry : ListedEntry) (bytes : ℕ) : Type 0 where
+  pub patterns : List Pattern
+  pub all_read : AllZip IsReadAs before patterns
+  pub pattern : Pattern
+  pub read : IsReadAs entry pattern
+  pub bytes_before : ℕ
+  pub size_before : IsSizeOf patterns bytes_before
+  pub within : bytes_before ≤ greatest_size
+  pub size : IsSizeOf (patterns ++ pattern ∷ []) bytes
+  pub beyond : greatest_size < bytes
+
 -- The entry behind these has the refusal.
 pub data HasRefusal (before : List ListedEntry) (entry : ListedEntry) : Refusal → Type 0 where
   -- its expression isn't read
@@ -56,6 +75,8 @@ pub data HasRefusal (before : List ListedEntry) (entry : ListedEntry) : Refusal 
       Reads entry.text (flags_of entry) tree →
       HasTreeRefusal (flags_of entry) entry.ext tree refusal →
       HasRefusal before entry refusal
+  -- the region of the list becomes too large by it
+  oversized : {bytes : ℕ} → PassesSize before entry bytes → HasRefusal before entry (StateLimit bytes)
   -- where it stands
   misplaced : {refusal : Refusal} → HasPlaceFault before entry refusal → HasRefusal before entry refusal
 

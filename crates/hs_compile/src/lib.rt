@@ -2,9 +2,11 @@
 #![tactic(auto)]
 
 mod compiler;
+mod counts;
 mod database;
 mod entry;
 mod fault;
+mod laying;
 mod seen;
 
 pub use compiler::{MAX_ENTRIES, compile};

@@ -27,7 +27,6 @@ fn judge_chains(alloc: Global, list: &List) -> Verdict {
 
 /// Judges a list by everything that reports; one that is mixed isn't compiled.
 fn judge_list(alloc: Global, list: &List, is_mixed: bool) -> Verdict {
-    ask_each(alloc, Question::Reports(list))?;
     judge_chains(alloc, list)?;
     if is_mixed {
         return Ok(());

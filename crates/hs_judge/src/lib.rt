@@ -1,5 +1,5 @@
 //! One judge for all that scans: rows of lists and streams, each run through the definitions as `hs_plain` computes
-//! them, through every engine that takes the expressions, through the runner and the streams in many cuts, and split
+//! them, through every engine that takes the expressions, through the streams of its database in many cuts, and split
 //! into chains. `stream_rows` of `hs_rows` has the rows and says how they are written. The crate is tests alone.
 #![tactic(auto)]
 
@@ -17,8 +17,6 @@ mod judging;
 mod reading;
 #[cfg(test)]
 mod regions;
-#[cfg(test)]
-mod running;
 #[cfg(test)]
 mod scanning;
 #[cfg(test)]

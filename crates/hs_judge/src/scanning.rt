@@ -4,7 +4,7 @@ ghost use Rattle.std.specs.Prelude.{◌≡◌, ◌<◌};
 use crate::cases::{Case, Verdict, ensure};
 use hs_engine::Steps;
 use hs_rows::Text;
-use hs_whole_run::Collected;
+use hs_stream::Collected;
 use std::alloc::{AllocError, Global};
 use std::marker::Brand;
 use std::sync::ledger::{Blank, Ledger};

@@ -26,7 +26,11 @@ impl Scanner for Database {
     }
 
     fn offset(&self, streaming: &Streaming) -> u64 {
-        streaming.stream.offset(self)
+        if streaming.stream.fits(self) {
+            streaming.stream.offset(self)
+        } else {
+            u64::MAX
+        }
     }
 
     fn take<L: Ledger>(

@@ -245,6 +245,7 @@ refused 12:/ab/H 7:/b/ 12:/b/{min_offset=2,max_offset=1} = refused 3 12 14 Mixed
 refused 12:/ab/H 12:/b*/{min_offset=2,max_offset=1} = refused 2 12 6 MatchesEmpty
 refused 25:/a/{min_offset=2,max_offset=1} = refused 1 25 15 OffsetOrder
 refused 8:/a{32768}/ = refused 1 8 8 RepeatLimit 32768
+refused 8:/a{32767}/ =
 refused 10:/(a)\1/ = refused 1 10 3 Unsupported backreference 3
 refused 10:/a$b/ = refused 1 10 7 EmbeddedEnd
 refused 11:/F[/i = refused 1 11 1 Syntax 1
@@ -288,8 +289,10 @@ refused 1:/c(?:a$){0,2}/ = refused 1 1 7 EmbeddedEnd
 refused 1:/c(?:\b$)*/ =
 refused 1:/(?:a$)?/ = refused 1 1 6 MatchesEmpty
 refused 1:/x{512}/ =
-refused 1:/x{513}/ = refused 1 1 9 PositionLimit 513
-refused 1:/x{512}a/ = refused 1 1 9 PositionLimit 513
+refused 1:/x{513}/ =
+refused 1:/(?:xy){256}/ =
+refused 1:/(?:xy){257}/ = refused 1 1 9 PositionLimit 514
+refused 1:/x{512}a/ =
 refused 1:/x{512}\b/ =
 refused 1:/(?:x{32767}){32767}/ = refused 1 1 9 PositionLimit 1073676289
 refused 1:/(?:(?:x{32767}){32767}){32767}/ = refused 1 1 9 PositionLimit 4294967295
@@ -308,7 +311,8 @@ refused 1:/a/{min_length=1} = refused 1 1 5 UnsupportedParameter 4
 refused 1:/$/{min_offset=0,max_offset=9,edit_distance=1,hamming_distance=1} = refused 1 1 5 UnsupportedParameter 8
 refused 1:/a/{min_offset=9,max_offset=9} =
 refused 1:/a/{min_offset=2,max_offset=1} = refused 1 1 15 OffsetOrder
-refused 1:/x{513}/{min_offset=9,max_offset=8} = refused 1 1 9 PositionLimit 513
+refused 1:/x{513}/{min_offset=9,max_offset=8} = refused 1 1 15 OffsetOrder
+refused 1:/(?:xy){257}/{min_offset=9,max_offset=8} = refused 1 1 9 PositionLimit 514
 refused 1:/$a/V{min_offset=9,max_offset=8} = refused 1 1 7 EmbeddedEnd
 ";
 

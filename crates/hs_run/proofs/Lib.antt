@@ -25,3 +25,4 @@ pub mod JoinLemmas
 pub mod PlanLemmas
 pub mod LayingLemmas
 pub mod WellLemmas
+pub mod FaultLemmas

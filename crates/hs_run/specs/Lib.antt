@@ -10,6 +10,8 @@ pub mod Collecting
 pub mod Keeping
 pub mod Reporting
 pub mod Feeding
+pub mod Faults
+pub mod PlanFaults
 pub mod Scratches
 pub mod JoinLaws
 pub mod Clearing

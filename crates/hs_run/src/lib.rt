@@ -22,7 +22,7 @@ mod settling;
 mod spot;
 mod way;
 
-pub use checking::well_formed;
+pub use checking::{first_fault, well_formed};
 pub use collected::Collected;
 pub use events::Events;
 pub use laying::{clear, lay_out, region_size};

@@ -54,9 +54,9 @@ fn shown(alloc: Global, database: &Database) -> Result<String, AllocError> {
 }
 
 #[test]
-fn builds_a_role_for_each_expression(rt: HostRuntime) -> Result<(), Fail> {
+fn builds_a_role_for_each_piece(rt: HostRuntime) -> Result<(), Fail> {
     let database = compiled(rt.alloc(), "7:/ab/ 3:/a|b/ 7:/[a-c]+d/")?;
-    assert!(rt; shown(rt.alloc(), &database)?.as_str() == "3: 3 7");
+    assert_eq!(rt; shown(rt.alloc(), &database)?.as_str(), "4: 3 7");
     Ok(())
 }
 
