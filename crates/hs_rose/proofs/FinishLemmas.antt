@@ -6,30 +6,31 @@ use Rattle.std.proofs.lemmas.List.{append-nil, length-map}
 use Rattle.std.proofs.lemmas.Option.{slice_get_within}
 use Rattle.hs_base.specs.Chains.{Piece, lit, nfa, rep, piece_tree}
 use Rattle.hs_base.specs.KeptPieces.{literal_form, tree_form, repeat_form}
-use Rattle.hs_base.specs.LiteralView.{literal_bytes}
 use Rattle.hs_base.specs.Lists.{Each}
 use Rattle.hs_base.specs.Literals.{LiteralByte}
 use Rattle.hs_base.specs.Regions.{Place}
 use Rattle.hs_base.specs.Trees.{Tree}
 use Rattle.hs_rose.specs.declared.builder.Builder.{Builder}
 use Rattle.hs_rose.specs.declared.identifiers.Identifier.{Identifier}
-use Rattle.hs_rose.specs.declared.info.EntryInfo.{EntryInfo}
 use Rattle.hs_rose.specs.Identifiers.{AreIdentifiersOf, ids_of}
 use Rattle.hs_rose.specs.declared.kind.Kind.{Kind}
 use Rattle.hs_rose.specs.declared.making.Made.{Made}
 use Rattle.hs_rose.specs.declared.role.Role.{Role}
-use Rattle.hs_rose.specs.Building.{IsBuilt, literals_of, models_of}
-use Rattle.hs_rose.specs.Finishing.{AreNumbered, IsFinished, engine_made}
+use Rattle.hs_rose.specs.Building.{IsBuilderOf, IsBuilt, asked_of_all, literals_of, models_of, roles_of}
+use Rattle.hs_rose.specs.Rows.{entry_infos, role_by}
+use Rattle.hs_rose.specs.declared.engine.PieceEngine.{PieceEngine}
+use Rattle.hs_rose.specs.Finishing.{AreNumbered, ArePlaced, IsFinished, engine_made}
+use Rattle.hs_rose.specs.Views.{AreWholeRows, role_lists}
+use Rattle.hs_rose.proofs.RoleListLemmas.{lists-are, lists-length}
 use Rattle.hs_rose.specs.Kinds.{kind_for, number_if_literal, number_if_run}
 use Rattle.hs_rose.specs.Listing.{Asked, ListedChain, ListedPiece, listed_chains, listed_pieces}
 use Rattle.hs_rose.specs.Made.{IsMade, IsNullMask, model_of}
 use Rattle.hs_rose.specs.Numbering.{AreApart}
 use Rattle.hs_rose.specs.Ordering.{AreInOrder}
 use Rattle.hs_rose.specs.PieceEngines.{IsEngineOf}
-use Rattle.hs_rose.specs.Runnable.{AreRunnable}
 use Rattle.hs_rose.specs.Naming.{engine_of, literal_of}
 use Rattle.hs_rose.specs.Programs.{Tables, AreChainsOf, AreRolesOfLiterals, IsInfoOf, IsProgramOf, IsRoleOf}
-use Rattle.hs_rose.proofs.ListLemmas.{zip-left, zip-map}
+use Rattle.hs_rose.proofs.ListLemmas.{get-map, map-get, zip-left, zip-map}
 
 -- the role of a literal names one, and that of another piece doesn't
 literal-number : (l : Bool) (pieces : List Piece) (xs : List LiteralByte) (n : ℕ) → number_if_literal (kind_for (literal_form l pieces (length xs)) (lit xs)) n ≡ Some n
@@ -126,15 +127,14 @@ engine-null ls ms r x l pieces (rep set least greatest) at is k named =
     is'.names.null_is
 
 -- what is built names nothing that isn't there
-pub built-numbered : (b : Builder) (chains : List ListedChain) → IsBuilt b chains [] → AreNumbered b
-built-numbered b chains built = record {
+pub built-numbered : (b : Builder) (asks : List Asked) (chains : List ListedChain) → IsBuilt b asks chains [] → AreNumbered b
+built-numbered b asks chains built = record {
   literals = λ j k r at named.
-      let own = zip-left (IsRoleOf (literals_of b) (models_of b)) b.roles.items (listed_pieces chains ++ []) built.roles j r at in
-      let below = literal-there (literals_of b) (models_of b) r own.0 own.0.place.looks_back own.0.place.pieces own.0.place.piece refl own.2 k named in
-      omega (arith, below, length-map b.literals.items literal_bytes, b.literals.ok.0);
+      let own = zip-left (IsRoleOf (literals_of b) (models_of b)) (roles_of asks b) (listed_pieces chains ++ []) built.roles j (role_by asks r) (get-map (role_by asks) b.roles.items j r at) in
+      literal-there (literals_of b) (models_of b) (role_by asks r) own.0 own.0.place.looks_back own.0.place.pieces own.0.place.piece refl own.2 k named;
   engines = λ j k r at named.
-      let own = zip-left (IsRoleOf (literals_of b) (models_of b)) b.roles.items (listed_pieces chains ++ []) built.roles j r at in
-      let there = engine-there (literals_of b) (models_of b) r own.0 own.0.place.looks_back own.0.place.pieces own.0.place.piece refl own.2 k named in
+      let own = zip-left (IsRoleOf (literals_of b) (models_of b)) (roles_of asks b) (listed_pieces chains ++ []) built.roles j (role_by asks r) (get-map (role_by asks) b.roles.items j r at) in
+      let there = engine-there (literals_of b) (models_of b) (role_by asks r) own.0 own.0.place.looks_back own.0.place.pieces own.0.place.piece refl own.2 k named in
       let below = slice_get_within (models_of b) k own.0.place.piece there in
       omega (arith, below, length-map b.made.items model_of, b.made.ok.0);
 }
@@ -144,29 +144,54 @@ made-runs [] each = tt
 made-runs (m ∷ made) each = (each.0.engine_is, made-runs made each.1)
 
 -- and it is the program of the list
-pub program-built : (b : Builder) (infos : List EntryInfo) (identifiers : List Identifier) (t : Tables) (entries : List Asked) (chains : List (List (List Piece))) → IsBuilt b (listed_chains entries chains) [] → AllZip (IsInfoOf (ids_of identifiers)) infos entries →
-    AreIdentifiersOf identifiers entries → length entries < 2 ^ 32 → Each AreRunnable chains → IsFinished infos identifiers b t → IsProgramOf t entries chains
-program-built b infos identifiers t entries chains built about named few runnable is =
+pub program-built : (b : Builder) (places : List ℕ) (identifiers : List Identifier) (t : Tables) (entries : List Asked) (chains : List (List (List Piece))) → IsBuilderOf b entries chains →
+    AllZip (IsInfoOf (ids_of identifiers)) (entry_infos (asked_of_all b) places) (asked_of_all b) → AreIdentifiersOf identifiers (asked_of_all b) → IsFinished places identifiers b t → IsProgramOf t entries chains
+program-built b places identifiers t entries chains of about named is =
+    let built = of.built in
     let all = listed_pieces (listed_chains entries chains) in
-    let roles : AllZip (IsRoleOf (literals_of b) (models_of b)) b.roles.items all = subst (λ ps. AllZip (IsRoleOf (literals_of b) (models_of b)) b.roles.items ps) (append-nil all) built.roles in
+    let asked : asked_of_all b ≡ entries = built.asked in
+    let same_roles : t.roles ≡ roles_of entries b = is.roles ∙ ap (λ es. roles_of es b) asked in
+    let roles : AllZip (IsRoleOf (literals_of b) (models_of b)) (roles_of entries b) all = subst (λ ps. AllZip (IsRoleOf (literals_of b) (models_of b)) (roles_of entries b) ps) (append-nil all) built.roles in
     let engines : AllZip IsEngineOf (map engine_made b.made.items) (models_of b) = zip-map IsEngineOf engine_made model_of b.made.items (made-runs b.made.items built.sound.made) in
+    let numbers : AreRolesOfLiterals (roles_of entries b) (length (literals_of b)) t.literal_roles = subst (λ ls. AreRolesOfLiterals (roles_of entries b) (length (literals_of b)) ls)
+    (sym (is.literal_roles ∙ ap (λ es. role_lists (length (literals_of b)) 0 (roles_of es b)) asked)) (lists-are (length (literals_of b)) (roles_of entries b)) in
     record {
       models = models_of b;
-      few_entries = few;
-      few_roles = omega (arith, ap length is.roles, b.roles.ok.0);
-      runnable = runnable;
+      few_entries = of.few;
+      few_roles = omega (arith, ap length is.roles, length-map b.roles.items (role_by (asked_of_all b)), b.roles.ok.0);
+      runnable = of.runnable;
       infos = subst (λ xs. AllZip (IsInfoOf (ids_of xs)) t.entries entries) (sym is.identifiers_are)
-          (subst (λ es. AllZip (IsInfoOf (ids_of identifiers)) es entries) (sym is.entries) about);
-      identifiers = subst (λ xs. AreIdentifiersOf xs entries) (sym is.identifiers_are) named;
+          (subst (λ es. AllZip (IsInfoOf (ids_of identifiers)) es entries) (sym is.entries) (subst (λ es. AllZip (IsInfoOf (ids_of identifiers)) (entry_infos (asked_of_all b) places) es) asked about));
+      identifiers = subst (λ xs. AreIdentifiersOf xs entries) (sym is.identifiers_are) (subst (λ es. AreIdentifiersOf identifiers es) asked named);
       chains_are = subst (λ cs. AreChainsOf 0 cs (listed_chains entries chains)) (sym is.chains) built.chains_are;
-      roles = subst (λ rs. AllZip (IsRoleOf t.literals (models_of b)) rs all) (sym is.roles)
-          (subst (λ ls. AllZip (IsRoleOf ls (models_of b)) b.roles.items all) (sym is.literals) roles);
+      roles = subst (λ rs. AllZip (IsRoleOf t.literals (models_of b)) rs all) (sym same_roles)
+          (subst (λ ls. AllZip (IsRoleOf ls (models_of b)) (roles_of entries b) all) (sym is.literals) roles);
       engines = subst (λ es. AllZip IsEngineOf es (models_of b)) (sym is.engines) engines;
       one_engine = built.sound.models;
-      literal_order = subst (λ rs. AreInOrder rs (length t.literals)) (sym is.roles) (subst (λ ls. AreInOrder b.roles.items (length ls)) (sym is.literals) built.order);
+      literal_order = subst (λ rs. AreInOrder rs (length t.literals)) (sym same_roles) (subst (λ ls. AreInOrder (roles_of entries b) (length ls)) (sym is.literals) built.order);
       one_literal = subst (λ ls. AreApart ls) (sym is.literals) built.sound.literals;
-      literal_roles = subst (λ rs. AreRolesOfLiterals rs (length t.literals) t.literal_roles) (sym is.roles)
-          (subst (λ ls. AreRolesOfLiterals b.roles.items (length ls) t.literal_roles) (sym is.literals) is.literal_roles);
+      literal_roles = subst (λ rs. AreRolesOfLiterals rs (length t.literals) t.literal_roles) (sym same_roles)
+          (subst (λ ls. AreRolesOfLiterals (roles_of entries b) (length ls) t.literal_roles) (sym is.literals) numbers);
+    }
+
+-- what is built is whole
+pub rows-whole : (b : Builder) (places : List ℕ) (identifiers : List Identifier) (engines : List PieceEngine) → AreNumbered b → ArePlaced b places →
+    engines ≡ map engine_made b.made.items → AreWholeRows b.entries.items b.bounds.items places identifiers b.chains.items b.roles.items b.literals engines
+rows-whole b places identifiers engines numbered placed made =
+    let asks = asked_of_all b in record {
+      tables = record {
+        literals = λ j k r at named.
+            let own = map-get (role_by asks) b.roles.items j r at in
+            numbered.literals j k own.0 own.1 (ap literal_of own.2 ∙ named);
+        engines = λ j k r at named.
+            let own = map-get (role_by asks) b.roles.items j r at in
+            let below = numbered.engines j k own.0 own.1 (ap engine_of own.2 ∙ named) in
+            omega (arith, below, ap length made, length-map b.made.items engine_made, b.made.ok.0);
+        literal_roles = lists-length (length b.literals) 0 (roles_of asks b);
+      };
+      bounds_are = placed.there.bounds;
+      places_are = placed.count;
+      entries_are = placed.there.entries;
     }
 
 -- what an answer says, said otherwise

@@ -5,6 +5,7 @@ pub mod NamingLemmas
 pub mod MakeLemmas
 pub mod ShapeLemmas
 pub mod OrderLemmas
+pub mod RowLemmas
 pub mod BuildLemmas
 pub mod RoleListLemmas
 pub mod IdentifierLemmas

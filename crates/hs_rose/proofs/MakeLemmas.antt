@@ -2,6 +2,7 @@
 use Rattle.std.proofs.Common.{◌≡◌, ℕ, zero, suc, ◌+◌, ◌/◌, ◌<◌, ◌≤◌, Bool, true, false, List, length, Option, Some, None, Box, Global, refl, sym, ap, subst, ◌∙◌, inl, inr, arith}
 use Rattle.std.proofs.lemmas.Bool.{false≢true}
 use Rattle.std.proofs.lemmas.Bool.Decides.{nat_tests}
+use Rattle.hs_base.specs.declared.byte_set.ByteSet.{ByteSet}
 use Rattle.hs_base.specs.declared.context.Mask.{Mask}
 use Rattle.hs_base.specs.ByteSets.{members}
 use Rattle.hs_base.specs.Chains.{nfa, rep, is_long}
@@ -17,6 +18,7 @@ use Rattle.hs_limex.specs.LimexEngines.{meaning_of_limex}
 use Rattle.hs_repeat.specs.declared.first.First.{First}
 use Rattle.hs_repeat.specs.declared.last.Last.{Last}
 use Rattle.hs_repeat.specs.declared.ring.Ring.{Ring}
+use Rattle.hs_repeat.specs.Repeats.{repeat_of}
 use Rattle.hs_repeat.specs.RepeatEngines.{meaning_of_first, meaning_of_last, meaning_of_ring}
 use Rattle.hs_rose.specs.declared.engine.PieceEngine.TheVariants as engine
 use Rattle.hs_rose.specs.Made.{IsNullMask}
@@ -39,17 +41,17 @@ pub record IsSet (set own : List Bool) (n m : ℕ) : Type 0 where
   pub set_is : set ≡ own
   pub bound_is : n ≡ m
 
-pub first-engine : (first : First) (set : List Bool) (n : ℕ) → (meaning_of_first first).is_for (repeat (class set) n None) → IsEngineOf (engine.First first) (rep set n None)
+pub first-engine : (first : Box First Global) (set : List Bool) (n : ℕ) → (meaning_of_first first.value).is_for (repeat (class set) n None) → IsEngineOf (engine.First first) (rep set n None)
 first-engine first set n runs =
-    let set_is : set ≡ members first.farthest.set = cc in
-    let bound_is : n ≡ first.farthest.bound = cc in record {
+    let set_is : set ≡ members first.value.farthest.set = cc in
+    let bound_is : n ≡ first.value.farthest.bound = cc in record {
       runs = runs;
       kind_is = refl;
       width = refl;
       always = refl;
       says = λ bytes u entered. (
-        λ is. subst (λ s. IsFirstRow n s bytes u entered) (sym set_is) (subst (λ k. IsFirstRow k (members first.farthest.set) bytes u entered) (sym bound_is) is),
-        λ is. subst (λ k. IsFirstRow k (members first.farthest.set) bytes u entered) bound_is (subst (λ s. IsFirstRow n s bytes u entered) set_is is),
+        λ is. subst (λ s. IsFirstRow n s bytes u entered) (sym set_is) (subst (λ k. IsFirstRow k (members first.value.farthest.set) bytes u entered) (sym bound_is) is),
+        λ is. subst (λ k. IsFirstRow k (members first.value.farthest.set) bytes u entered) bound_is (subst (λ s. IsFirstRow n s bytes u entered) set_is is),
       );
       well = λ bytes at. (
         λ is. subst (λ k. IsDistanceAt k (distance_of bytes) at) (sym bound_is) is,
@@ -57,15 +59,15 @@ first-engine first set n runs =
       );
     }
 
-last-made : (last : Last) (set : List Bool) (n m : ℕ) → n ≤ 1 → set ≡ members last.nearest.set → m ≡ last.nearest.bound → (meaning_of_last last).is_for (repeat (class set) n (Some m)) → IsEngineOf (engine.Last last) (rep set n (Some m))
+last-made : (last : Box Last Global) (set : List Bool) (n m : ℕ) → n ≤ 1 → set ≡ members last.value.nearest.set → m ≡ last.value.nearest.bound → (meaning_of_last last.value).is_for (repeat (class set) n (Some m)) → IsEngineOf (engine.Last last) (rep set n (Some m))
 last-made last set zero m few set_is bound_is runs = record {
   runs = runs;
   kind_is = refl;
   width = refl;
   always = refl;
   says = λ bytes u entered. (
-    λ is. subst (λ s. IsLastRow m s bytes u entered) (sym set_is) (subst (λ k. IsLastRow k (members last.nearest.set) bytes u entered) (sym bound_is) is),
-    λ is. subst (λ k. IsLastRow k (members last.nearest.set) bytes u entered) bound_is (subst (λ s. IsLastRow m s bytes u entered) set_is is),
+    λ is. subst (λ s. IsLastRow m s bytes u entered) (sym set_is) (subst (λ k. IsLastRow k (members last.value.nearest.set) bytes u entered) (sym bound_is) is),
+    λ is. subst (λ k. IsLastRow k (members last.value.nearest.set) bytes u entered) bound_is (subst (λ s. IsLastRow m s bytes u entered) set_is is),
   );
   well = λ bytes at. (
     λ is. subst (λ k. IsDistanceAt k (distance_of bytes) at) (sym bound_is) is,
@@ -78,8 +80,8 @@ last-made last set (suc zero) m few set_is bound_is runs = record {
   width = refl;
   always = refl;
   says = λ bytes u entered. (
-    λ is. subst (λ s. IsLastRow m s bytes u entered) (sym set_is) (subst (λ k. IsLastRow k (members last.nearest.set) bytes u entered) (sym bound_is) is),
-    λ is. subst (λ k. IsLastRow k (members last.nearest.set) bytes u entered) bound_is (subst (λ s. IsLastRow m s bytes u entered) set_is is),
+    λ is. subst (λ s. IsLastRow m s bytes u entered) (sym set_is) (subst (λ k. IsLastRow k (members last.value.nearest.set) bytes u entered) (sym bound_is) is),
+    λ is. subst (λ k. IsLastRow k (members last.value.nearest.set) bytes u entered) bound_is (subst (λ s. IsLastRow m s bytes u entered) set_is is),
   );
   well = λ bytes at. (
     λ is. subst (λ k. IsDistanceAt k (distance_of bytes) at) (sym bound_is) is,
@@ -88,28 +90,34 @@ last-made last set (suc zero) m few set_is bound_is runs = record {
 }
 last-made last set (suc (suc n)) m few set_is bound_is runs = absurd (omega arith)
 
-last-set : (last : Last) (set : List Bool) (n m : ℕ) → (meaning_of_last last).is_for (repeat (class set) n (Some m)) → IsSet set (members last.nearest.set) m last.nearest.bound
+last-set : (last : Box Last Global) (set : List Bool) (n m : ℕ) → (meaning_of_last last.value).is_for (repeat (class set) n (Some m)) → IsSet set (members last.value.nearest.set) m last.value.nearest.bound
 last-set last set n m (inl is) = record { set_is = cc; bound_is = cc }
 last-set last set n m (inr is) = record { set_is = cc; bound_is = cc }
 
-pub last-engine : (last : Last) (set : List Bool) (n m : ℕ) → n ≤ 1 → (meaning_of_last last).is_for (repeat (class set) n (Some m)) → IsEngineOf (engine.Last last) (rep set n (Some m))
+pub last-engine : (last : Box Last Global) (set : List Bool) (n m : ℕ) → n ≤ 1 → (meaning_of_last last.value).is_for (repeat (class set) n (Some m)) → IsEngineOf (engine.Last last) (rep set n (Some m))
 last-engine last set n m few runs =
     let is = last-set last set n m runs in
     last-made last set n m few is.set_is is.bound_is runs
 
-pub ring-engine : (ring : Ring) (set : List Bool) (n m : ℕ) → 1 < n → (meaning_of_ring ring).is_for (repeat (class set) n (Some m)) → IsEngineOf (engine.Ring ring) (rep set n (Some m))
+-- from none or one on
+pub last-few : (last : Last) (set : ByteSet) (n m : ℕ) → n ≤ 1 → (meaning_of_last last).is_for (repeat_of set 0 (Some m)) → (meaning_of_last last).is_for (repeat_of set 1 (Some m)) → (meaning_of_last last).is_for (repeat_of set n (Some m))
+last-few last set zero m few from_none from_one = from_none
+last-few last set (suc zero) m few from_none from_one = from_one
+last-few last set (suc (suc n)) m few from_none from_one = absurd (omega arith)
+
+pub ring-engine : (ring : Box Ring Global) (set : List Bool) (n m : ℕ) → 1 < n → (meaning_of_ring ring.value).is_for (repeat (class set) n (Some m)) → IsEngineOf (engine.Ring ring) (rep set n (Some m))
 ring-engine ring set zero m many runs = absurd (omega arith)
 ring-engine ring set (suc zero) m many runs = absurd (omega arith)
 ring-engine ring set (suc (suc n)) m many runs =
-    let set_is : set ≡ members ring.set = cc in
-    let bound_is : m ≡ ring.greatest = cc in record {
+    let set_is : set ≡ members ring.value.set = cc in
+    let bound_is : m ≡ ring.value.greatest = cc in record {
       runs = runs;
       kind_is = refl;
       width = ap (λ k. (k + 7) / 8) (sym bound_is);
       always = refl;
       says = λ bytes u entered. (
-        λ is. subst (λ s. IsRingRow m s bytes u entered) (sym set_is) (subst (λ k. IsRingRow k (members ring.set) bytes u entered) (sym bound_is) is),
-        λ is. subst (λ k. IsRingRow k (members ring.set) bytes u entered) bound_is (subst (λ s. IsRingRow m s bytes u entered) set_is is),
+        λ is. subst (λ s. IsRingRow m s bytes u entered) (sym set_is) (subst (λ k. IsRingRow k (members ring.value.set) bytes u entered) (sym bound_is) is),
+        λ is. subst (λ k. IsRingRow k (members ring.value.set) bytes u entered) bound_is (subst (λ s. IsRingRow m s bytes u entered) set_is is),
       );
       well = λ bytes at. (
         λ is. subst (λ k. IsRingAt k bytes at) (sym bound_is) is,

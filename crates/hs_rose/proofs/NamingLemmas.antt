@@ -5,7 +5,6 @@ use Rattle.std.proofs.lemmas.Option.{slice_get_within}
 use Rattle.hs_base.specs.declared.context.Mask.{Mask}
 use Rattle.hs_base.specs.Chains.{Piece, lit, nfa, rep, piece_tree}
 use Rattle.hs_base.specs.Lists.{Each}
-use Rattle.hs_base.specs.LiteralView.{literal_bytes}
 use Rattle.hs_base.specs.Literals.{LiteralByte}
 use Rattle.hs_rose.specs.declared.builder.Builder.{Builder}
 use Rattle.hs_rose.specs.declared.builder.Named.{Named}
@@ -50,15 +49,17 @@ numbered-next before now xs n (added new is end) =
     one_more xs refl end (ap length is ∙ (length-append (literals_of before) (xs ∷ []) ∙ (let e : length (literals_of before) + 1 ≡ suc (length (literals_of before)) = omega arith in e)))
 
 -- a literal
-pub literal-named : (before now : Builder) (xs : List LiteralByte) (named : Named) → now.roles.items ≡ before.roles.items → now.chains.items ≡ before.chains.items → now.made.items ≡ before.made.items →
+pub literal-named : (before now : Builder) (xs : List LiteralByte) (named : Named) → now.entries.items ≡ before.entries.items → now.bounds.items ≡ before.bounds.items → now.roles.items ≡ before.roles.items → now.chains.items ≡ before.chains.items → now.made.items ≡ before.made.items →
     IsNumbered (literals_of before) xs (literals_of now) named.number → IsEmptyMask named.null → IsSound before → IsNamed before now (lit xs) named
-literal-named before now xs named roles chains made numbered null sound = record {
+literal-named before now xs named entries bounds roles chains made numbered null sound = record {
   sound = record {
     literals = numbered-apart (literals_of before) xs (literals_of now) named.number sound.literals numbered;
     models = subst (λ zs. AreApart (map model_of zs)) (sym made) sound.models;
     made = subst (λ zs. Each IsMade zs) (sym made) sound.made;
   };
   grown = record {
+    entries = entries;
+    bounds = bounds;
     roles = roles;
     chains = chains;
     literals = numbered-kept (literals_of before) xs (literals_of now) named.number numbered;
@@ -82,25 +83,27 @@ null-of made n piece m each named at =
     subst (λ p. IsNullMask m.null (piece_tree p)) is (each-get IsMade made each n m at).null_is
 
 -- a piece that isn't a literal
-pub run-named : (before now : Builder) (piece : Piece) (named : Named) (m : Made) → IsRun piece → now.roles.items ≡ before.roles.items → now.chains.items ≡ before.chains.items → now.literals.items ≡ before.literals.items →
+pub run-named : (before now : Builder) (piece : Piece) (named : Named) (m : Made) → IsRun piece → now.entries.items ≡ before.entries.items → now.bounds.items ≡ before.bounds.items → now.roles.items ≡ before.roles.items → now.chains.items ≡ before.chains.items → now.literals ≡ before.literals →
     IsNumbered (models_of before) piece (models_of now) named.number → (Each IsMade before.made.items → Each IsMade now.made.items) →
     slice_get now.made.items named.number ≡ Some m → named.null ≡ m.null → IsSound before → IsNamed before now piece named
-run-named before now piece named m run roles chains literals numbered made at null sound =
+run-named before now piece named m run entries bounds roles chains literals numbered made at null sound =
     let at_number = numbered-named (models_of before) piece (models_of now) named.number numbered in record {
       sound = record {
-        literals = subst (λ zs. AreApart zs) (sym (ap (λ zs. map literal_bytes zs) literals)) sound.literals;
+        literals = subst (λ zs. AreApart zs) (sym literals) sound.literals;
         models = numbered-apart (models_of before) piece (models_of now) named.number sound.models numbered;
         made = made sound.made;
       };
       grown = record {
+        entries = entries;
+        bounds = bounds;
         roles = roles;
         chains = chains;
-        literals = kept-same (literals_of before) (literals_of now) (ap (λ zs. map literal_bytes zs) literals);
+        literals = kept-same (literals_of before) (literals_of now) literals;
         models = numbered-kept (models_of before) piece (models_of now) named.number numbered;
       };
       names = piece-names (literals_of now) (models_of now) named.number named.null piece run (record {
         named = at_number;
         null_is = subst (λ (mask : Mask). IsNullMask mask (piece_tree piece)) (sym null) (null-of now.made.items named.number piece m (made sound.made) at_number at);
       });
-      next = as_many (ap (λ zs. length (map literal_bytes zs)) literals);
+      next = as_many (ap length literals);
     }

@@ -1,12 +1,15 @@
 -- The numbers of the roles of each literal.
-use Rattle.std.proofs.Common.{◌≡◌, ◌⊎◌, ℕ, zero, suc, ◌+◌, ◌<◌, Bool, true, false, cond, List, [], ◌∷◌, ◌++◌, length, map, take, slice_set, slice_get, Some, None, Vec, Global, refl, sym, ap, subst, ◌∙◌, inl, inr, eqb, arith}
+use Rattle.std.proofs.Common.{◌≡◌, ◌⊎◌, ℕ, zero, suc, ◌+◌, ◌<◌, Bool, true, false, cond, List, [], ◌∷◌, ◌++◌, length, map, take, slice_set, slice_get, Option, Some, None, Vec, Global, refl, sym, ap, subst, ◌∙◌, inl, inr, eqb, arith}
 use Rattle.std.proofs.lemmas.Bool.Decides.{nat_tests}
 use Rattle.std.proofs.lemmas.List.{append-nil, length-map, length-set, length-take-le, map-append}
+use Rattle.std.specs.Option.{IfSome}
 use Rattle.hs_rose.specs.declared.role.Role.{Role}
+use Rattle.hs_rose.specs.declared.rows.RoleRow.{RoleRow}
+use Rattle.hs_rose.specs.Rows.{row_literal}
 use Rattle.hs_rose.specs.Finishing.{IsRoleAdded}
 use Rattle.hs_rose.specs.Naming.{literal_of}
 use Rattle.hs_rose.specs.Programs.{AreRolesOfLiterals, is_number, roles_with}
-use Rattle.hs_rose.specs.Views.{role_numbers}
+use Rattle.hs_rose.specs.Views.{role_lists, role_numbers}
 use Rattle.hs_rose.proofs.ListLemmas.{get-push, take-get}
 
 put : (b : Bool) (at : ℕ) (xs ys zs : List ℕ) → xs ≡ ys ++ zs → cond b (at ∷ xs) xs ≡ cond b (at ∷ ys) ys ++ zs
@@ -78,3 +81,45 @@ pub none-more : (before now : List (Vec ℕ Global)) (v : Vec ℕ Global) → no
 none-more before now v grown empty all k list at =
     let e : map role_numbers now ≡ map role_numbers before ++ v.items ∷ [] = ap (λ zs. map role_numbers zs) grown ∙ map-append role_numbers before (v ∷ []) in
     none-pushed (map role_numbers before) all v.items empty k list (get-push (map role_numbers before) v.items k list (subst (λ zs. slice_get zs k ≡ Some list) e at))
+
+-- the lists of all literals
+pub lists-length : (count from : ℕ) (roles : List Role) → length (role_lists count from roles) ≡ count
+lists-length zero from roles = refl
+lists-length (suc count) from roles = ap suc (lists-length count (suc from) roles)
+
+lists-get : (count from : ℕ) (roles : List Role) (k : ℕ) (numbers : List ℕ) → slice_get (role_lists count from roles) k ≡ Some numbers → numbers ≡ roles_with (from + k) 0 roles
+lists-get zero from roles k numbers at = absurd (cc)
+lists-get (suc count) from roles zero numbers at =
+    let e : roles_with from 0 roles ≡ numbers = cc in
+    let none : from ≡ from + 0 = omega arith in
+    sym e ∙ ap (λ n. roles_with n 0 roles) none
+lists-get (suc count) from roles (suc k) numbers at =
+    let next : suc from + k ≡ from + suc k = omega arith in
+    lists-get count (suc from) roles k numbers at ∙ ap (λ n. roles_with n 0 roles) next
+
+pub lists-are : (count : ℕ) (roles : List Role) → AreRolesOfLiterals roles count (role_lists count 0 roles)
+lists-are count roles = record {
+  count_is = lists-length count 0 roles;
+  each = λ k numbers at. let none : 0 + k ≡ k = omega arith in lists-get count 0 roles k numbers at ∙ ap (λ n. roles_with n 0 roles) none;
+}
+
+-- lists are the same where each is that of the same number
+lists-same : (xs ys : List (List ℕ)) → length xs ≡ length ys → ((k : ℕ) (x y : List ℕ) → slice_get xs k ≡ Some x → slice_get ys k ≡ Some y → x ≡ y) → xs ≡ ys
+lists-same [] [] count each = refl
+lists-same [] (y ∷ ys) count each = absurd (omega (arith, count))
+lists-same (x ∷ xs) [] count each = absurd (omega (arith, count))
+lists-same (x ∷ xs) (y ∷ ys) count each =
+    let first : x ≡ y = each 0 x y refl refl in
+    ap (λ z. z ∷ xs) first ∙ ap (λ zs. y ∷ zs) (lists-same xs ys (omega (arith, count)) (λ k a b. each (suc k) a b))
+
+-- what is found is what is told
+pub lists-told : (roles : List Role) (count : ℕ) (lists : List (List ℕ)) → AreRolesOfLiterals roles count lists → lists ≡ role_lists count 0 roles
+lists-told roles count lists are =
+    let all = lists-are count roles in
+    lists-same lists (role_lists count 0 roles) (are.count_is ∙ sym all.count_is) (λ k x y at at'. are.each k x at ∙ sym (all.each k y at'))
+
+-- the literal of a row is one of so many
+pub literal-below : (rows : List RoleRow) (count n : ℕ) (row : RoleRow) (literal : Option ℕ) (len : ℕ) → literal ≡ row_literal row → slice_get rows n ≡ Some row →
+    ((j k : ℕ) (r : RoleRow) → slice_get rows j ≡ Some r → row_literal r ≡ Some k → k < count) → len ≡ count → IfSome literal (λ k. k < len)
+literal-below rows count n row None len is at below same = tt
+literal-below rows count n row (Some k) len is at below same = subst (λ m. k < m) (sym same) (below n k row at (sym is))

@@ -2,7 +2,6 @@
 use Rattle.std.specs.Prelude.{◌≡◌, ◌↔◌, ◌≤◌, ◌==◌, ◌||◌, ℕ, Bool, true, false, not, bit_and, List, [], ◌∷◌, length}
 use Rattle.std.specs.Prelude.{map, Some, slice_get}
 use Rattle.std.specs.List.{list_all, list_any}
-use Rattle.hs_base.specs.declared.ext.Entry.{Entry}
 use Rattle.hs_base.specs.Lists.{IsMember, OneOf}
 use Rattle.hs_base.specs.Settling.{AreRising}
 use Rattle.hs_rose.specs.declared.identifiers.Identifier.{Identifier}
@@ -32,10 +31,6 @@ singles_of (x ∷ xs) = with_single x.single x (singles_of xs)
 -- the number is one of these
 abbrev pub has_id : List ℕ → ℕ → Bool
 has_id ids id = list_any (λ n. n == id) ids
-
--- the number of an entry's identifier
-abbrev pub entry_id : Entry → ℕ
-entry_id e = e.id.0
 
 -- the identifier of a number, single where that is none of the others
 abbrev pub identifier_for : List ℕ → ℕ → Identifier

@@ -2,6 +2,8 @@ pub mod PieceEngines
 pub mod Kinds
 pub mod Shapes
 pub mod Listing
+pub mod Bounds
+pub mod Rows
 pub mod Identifiers
 pub mod Runnable
 pub mod Made

@@ -19,6 +19,10 @@ pub record Asked : Type 0 where
 abbrev pub asked_of : Entry → Asked
 asked_of e = record { id = e.id.0; flags = e.flags.0; least = e.ext.min_offset; greatest = e.ext.max_offset }
 
+-- chains of one entry
+abbrev pub EntryChains : Type 0
+EntryChains = List (List Piece)
+
 -- the chains of an entry
 abbrev pub plain_chains : Vec Chain Global → List (List Piece)
 plain_chains chains = map plain_chain chains.items

@@ -15,9 +15,9 @@ use Rattle.hs_rose.specs.Kinds.{kind_for}
 -- what it runs, and what its regions say
 abbrev pub piece_meaning : PieceEngine → Meaning
 piece_meaning (Positions limex) = meaning_of_limex limex.value
-piece_meaning (First first) = meaning_of_first first
-piece_meaning (Last last) = meaning_of_last last
-piece_meaning (Ring ring) = meaning_of_ring ring
+piece_meaning (First first) = meaning_of_first first.value
+piece_meaning (Last last) = meaning_of_last last.value
+piece_meaning (Ring ring) = meaning_of_ring ring.value
 
 -- the kind of a role that keeps its regions
 abbrev pub engine_kind : PieceEngine → Kind

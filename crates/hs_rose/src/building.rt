@@ -1,21 +1,16 @@
 //! The program of a list, from its entries and chains.
 
-ghost use Rattle.std.specs.Prelude.{◌≡◌, ℕ, ◌^◌, ◌<◌, IfOk, length, map};
-ghost use Rattle.std.specs.List.Sorted.{IsStrictlyIncreasing};
-ghost use Rattle.std.specs.List.{AllZip};
+ghost use Rattle.std.specs.Prelude.{◌≡◌, ℕ, ◌^◌, ◌<◌, IfOk, List, length, map};
 ghost use Rattle.hs_base.specs.Lists.{Each};
-ghost use Rattle.hs_rose.specs.Finishing.{AreNumbered, IsFinished, engine_made};
-ghost use Rattle.hs_rose.specs.Identifiers.{entry_id, has_id};
-ghost use Rattle.hs_rose.specs.Listing.{asked_of, plain_chains};
-ghost use Rattle.hs_rose.specs.Programs.{IsInfoOf, IsProgramOf};
+ghost use Rattle.hs_rose.specs.Building.{IsBuilder, IsBuilderOf};
+ghost use Rattle.hs_rose.specs.Finishing.{AreNumbered, ArePlaced, IsFinished, engine_made};
+ghost use Rattle.hs_rose.specs.Listing.{Asked, EntryChains, asked_of, plain_chains};
+ghost use Rattle.hs_rose.specs.Programs.{IsProgramOf};
 ghost use Rattle.hs_rose.specs.Runnable.{AreRunnable};
-ghost use Rattle.hs_rose.specs.Views.{tables_of};
 
 use crate::builder::Builder;
 use crate::engine::PieceEngine;
-use crate::identifiers::{Identifier, identifiers_of, ids_of, place_of};
-use crate::info::EntryInfo;
-use crate::literals::roles_of_literals;
+use crate::identifiers::{Identifier, names_of};
 use crate::making::Made;
 use crate::program::Program;
 use hs_base::Entry;
@@ -24,7 +19,7 @@ use std::alloc::{AllocError, Global};
 
 impl Program {
     /// The program of a list: of its entries and, for each of them, the chains of its expression. The only error is
-    /// want of memory.
+    /// want of memory. A `Builder` takes the entries one by one, and needs the chains of one alone at a time.
     pub fn build(
         alloc: Global,
         entries: &[Entry],
@@ -38,57 +33,46 @@ impl Program {
     {
         let mut builder = Builder::new(alloc);
         for (k, entry) in entries.iter().enumerate() {
-            builder.add_entry(alloc, (k + 1) as u32, entry, &chains[k])?;
+            builder.add(alloc, entry, &chains[k])?;
         }
-        let ids = ids_of(alloc, entries)?;
-        let infos = infos_of(alloc, entries, &ids)?;
-        let identifiers = identifiers_of(alloc, entries, &ids)?;
-        finish(alloc, infos, identifiers, builder)
+        builder.finish(alloc)
+    }
+}
+
+impl Builder {
+    /// The program of the entries. The only error is want of memory.
+    pub fn finish(self, alloc: Global) -> Result<Program, AllocError>
+        requires { IsBuilder self }
+        ensures { IfOk result (λ program. (entries : List Asked) (chains : List EntryChains) →
+            IsBuilderOf self entries chains → IsProgramOf program entries chains) }
+    {
+        let names = names_of(alloc, &self.entries)?;
+        finish(alloc, names.places, names.identifiers, self)
     }
 }
 
 /// The program of what is built.
 fn finish(
     alloc: Global,
-    infos: Vec<EntryInfo>,
+    places: Vec<u32>,
     identifiers: Vec<Identifier>,
     builder: Builder,
 ) -> Result<Program, AllocError>
-    requires { AreNumbered builder }
-    ensures { IfOk result (λ program. IsFinished infos.items identifiers.items builder program) }
+    requires numbered { AreNumbered builder }
+    requires placed { ArePlaced builder places.items }
+    ensures { IfOk result (λ program. IsFinished places.items identifiers.items builder program) }
 {
-    let count = builder.literals.len();
-    let literal_roles = roles_of_literals(alloc, &builder.roles, count)?;
     let engines = engines_of(alloc, builder.made)?;
     Ok(Program::new(
-        infos,
+        builder.entries,
+        builder.bounds,
+        places,
         identifiers,
         builder.chains,
         builder.roles,
         builder.literals,
-        literal_roles,
         engines,
     ))
-}
-
-/// What is asked of each entry.
-fn infos_of(alloc: Global, entries: &[Entry], ids: &[u32]) -> Result<Vec<EntryInfo>, AllocError>
-    requires rises { IsStrictlyIncreasing ids.now }
-    requires known { (id : ℕ) → has_id ids.now id ≡ has_id (map entry_id entries.now) id }
-    requires few { length ids.now < 2 ^ 32 }
-    ensures { IfOk result (λ infos. AllZip (IsInfoOf ids.now) infos.items (map asked_of entries.now)) }
-{
-    let mut infos = Vec::with_capacity(alloc, entries.len())?;
-    for entry in entries {
-        infos.push(EntryInfo {
-            min_offset: entry.ext.min_offset,
-            max_offset: entry.ext.max_offset,
-            id: entry.id,
-            flags: entry.flags,
-            identifier: place_of(ids, entry.id.0) as u32,
-        })?;
-    }
-    Ok(infos)
 }
 
 /// The engines that are made.

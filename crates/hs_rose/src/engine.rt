@@ -14,11 +14,11 @@ pub enum PieceEngine {
     /// An expression, by its positions.
     Positions(Box<Limex>),
     /// At least so many bytes of a set.
-    First(First),
+    First(Box<First>),
     /// At most so many bytes of a set, and none or one at least.
-    Last(Last),
+    Last(Box<Last>),
     /// Bytes of a set from one number to another.
-    Ring(Ring),
+    Ring(Box<Ring>),
 }
 
 impl Engine for PieceEngine {

@@ -1,4 +1,4 @@
-//! What a program keeps of entries and chains.
+//! What a program tells of entries and chains.
 
 use hs_base::{ExprId, Flags};
 

@@ -12,10 +12,12 @@ mod literals;
 mod making;
 mod program;
 mod role;
+mod rows;
 mod same;
 mod shape;
 mod splitting;
 
+pub use builder::Builder;
 pub use engine::PieceEngine;
 pub use identifiers::Identifier;
 pub use info::{ChainInfo, EntryInfo};

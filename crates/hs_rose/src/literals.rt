@@ -1,44 +1,45 @@
 //! The literals of a program, and the roles that each stands for.
 
 ghost use Rattle.std.specs.Prelude.{◌≡◌, ℕ, ◌<◌, Some, IfOk, IfSome, MatchOption, List, [], map, slice_get, vec_len};
-ghost use Rattle.hs_base.specs.LiteralView.{literal_byte, literal_bytes};
+ghost use Rattle.hs_base.specs.LiteralView.{literal_byte};
 ghost use Rattle.hs_rose.specs.Numbering.{IsNew, IsNumbered};
 ghost use Rattle.hs_rose.specs.Finishing.{IsRoleAdded};
-ghost use Rattle.hs_rose.specs.Naming.{literal_of};
 ghost use Rattle.hs_rose.specs.Programs.{AreRolesOfLiterals};
+ghost use Rattle.hs_rose.specs.Rows.{role_by, row_literal};
+ghost use Rattle.hs_rose.specs.Listing.{Asked};
 ghost use Rattle.hs_rose.specs.Views.{role_numbers};
-ghost use Rattle.hs_rose.specs.declared.role.Role.{Role};
+ghost use Rattle.hs_rose.specs.declared.rows.RoleRow.{RoleRow};
 
-use crate::role::Role;
+use crate::rows::RoleRow;
 use crate::same::same_literal;
 use hs_base::LitByte;
+use hs_packed::LiteralList;
 use std::alloc::{AllocError, Global};
 
 /// The number of the literal: it is put behind these where none of them is equal.
 pub(crate) fn number_of_literal(
-    alloc: Global,
-    literals: &mut Vec<Vec<LitByte>>,
+    literals: &mut LiteralList,
     bytes: &[LitByte],
 ) -> Result<usize, AllocError>
-    ensures { IfOk result (λ number. IsNumbered (map literal_bytes literals.old.items) (map literal_byte bytes.now)
-        (map literal_bytes literals.new.items) number) }
+    ensures { IfOk result (λ number.
+        IsNumbered literals.old (map literal_byte bytes.now) literals.new number) }
 {
     if let Some(number) = find_literal(literals, bytes) {
         return Ok(number);
     }
     let number = literals.len();
-    literals.push(Vec::from_slice(alloc, bytes)?)?;
+    literals.push(bytes)?;
     Ok(number)
 }
 
 /// The number of an equal literal.
-fn find_literal(literals: &[Vec<LitByte>], bytes: &[LitByte]) -> Option<usize>
+fn find_literal(literals: &LiteralList, bytes: &[LitByte]) -> Option<usize>
     ensures { MatchOption result
-        (IsNew (map literal_bytes literals.now) (map literal_byte bytes.now))
-        (λ number. slice_get (map literal_bytes literals.now) number ≡ Some (map literal_byte bytes.now)) }
+        (IsNew literals.now (map literal_byte bytes.now))
+        (λ number. slice_get literals.now number ≡ Some (map literal_byte bytes.now)) }
 {
-    for (number, other) in literals.iter().enumerate() {
-        if same_literal(other, bytes) {
+    for number in 0..literals.len() {
+        if same_literal(literals.get(number), bytes) {
             return Some(number);
         }
     }
@@ -48,11 +49,12 @@ fn find_literal(literals: &[Vec<LitByte>], bytes: &[LitByte]) -> Option<usize>
 /// For each of so many literals the numbers of its roles.
 pub(crate) fn roles_of_literals(
     alloc: Global,
-    roles: &[Role],
+    roles: &[RoleRow],
     count: usize,
 ) -> Result<Vec<Vec<usize>>, AllocError>
-    requires { (j k : ℕ) (r : Role) → slice_get roles.now j ≡ Some r → literal_of r ≡ Some k → k < count }
-    ensures { IfOk result (λ lists. AreRolesOfLiterals roles.now count (map role_numbers lists.items)) }
+    requires { (j k : ℕ) (r : RoleRow) → slice_get roles.now j ≡ Some r → row_literal r ≡ Some k → k < count }
+    ensures { IfOk result (λ lists. (entries : List Asked) →
+        AreRolesOfLiterals (map (role_by entries) roles.now) count (map role_numbers lists.items)) }
 {
     let mut lists = no_roles(alloc, count)?;
     for (number, role) in roles.iter().enumerate() {
@@ -63,10 +65,14 @@ pub(crate) fn roles_of_literals(
 }
 
 /// The number of the role's literal, if it has one.
-fn literal_number(role: &Role) -> Option<usize>
-    ensures { result ≡ literal_of role.now }
+fn literal_number(role: &RoleRow) -> Option<usize>
+    ensures { result ≡ row_literal role.now }
 {
-    role.literal()
+    if role.kind.is_literal() {
+        Some(role.number as usize)
+    } else {
+        None
+    }
 }
 
 /// Puts the number of a role behind those of its literal, if it has one.

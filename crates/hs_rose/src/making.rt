@@ -80,7 +80,7 @@ fn make(alloc: Global, piece: &Piece) -> Result<Made, AllocError>
     match piece {
         Piece::Lit(_) => unreachable!(),
         Piece::Nfa(expr) => make_positions(alloc, expr),
-        Piece::Rep(set, least, greatest) => Ok(make_repeat(*set, *least, *greatest)),
+        Piece::Rep(set, least, greatest) => make_repeat(alloc, *set, *least, *greatest),
     }
 }
 
@@ -103,42 +103,100 @@ fn make_positions(alloc: Global, expr: &Expr) -> Result<Made, AllocError>
 }
 
 /// What is made of a long repeat of a set.
-fn make_repeat(set: ByteSet, least: u32, greatest: Option<u32>) -> Made
+fn make_repeat(
+    alloc: Global,
+    set: ByteSet,
+    least: u32,
+    greatest: Option<u32>,
+) -> Result<Made, AllocError>
     requires bounds { AreBounds least greatest }
     requires long { is_long least greatest ≡ true }
-    ensures model { model_of result ≡ rep (members set) least greatest }
-    ensures made { IsMadeOf result.engine result.null (rep (members set) least greatest) }
+    ensures model { IfOk result (λ made. model_of made ≡ rep (members set) least greatest) }
+    ensures made { IfOk result (λ made. IsMadeOf made.engine made.null (rep (members set) least greatest)) }
 {
-    Made {
+    let engine = repeat_engine(alloc, set, least, greatest)?;
+    Ok(Made {
         model: Piece::Rep(set, least, greatest),
-        engine: repeat_engine(set, least, greatest),
+        engine,
         null: repeat_null(least),
-    }
+    })
 }
 
 /// What runs a long repeat of a set.
-fn repeat_engine(set: ByteSet, least: u32, greatest: Option<u32>) -> PieceEngine
+fn repeat_engine(
+    alloc: Global,
+    set: ByteSet,
+    least: u32,
+    greatest: Option<u32>,
+) -> Result<PieceEngine, AllocError>
     requires bounds { AreBounds least greatest }
     requires long { is_long least greatest ≡ true }
-    ensures { IsEngineOf result (rep (members set) least greatest) }
+    ensures { IfOk result (λ engine. IsEngineOf engine (rep (members set) least greatest)) }
 {
     match greatest {
-        None => PieceEngine::First(First::new(set, least)),
-        Some(greatest) => bounded_engine(set, least, greatest),
+        None => first_engine(alloc, set, least),
+        Some(greatest) => bounded_engine(alloc, set, least, greatest),
     }
 }
 
+/// What runs a repeat without an end.
+fn first_engine(alloc: Global, set: ByteSet, least: u32) -> Result<PieceEngine, AllocError>
+    requires some { 0 < least }
+    requires bounded { least ≤ greatest_bound }
+    ensures { IfOk result (λ engine. IsEngineOf engine (rep (members set) least None)) }
+{
+    let first = First::new(set, least);
+    Ok(PieceEngine::First(Box::new(alloc, first)?))
+}
+
+/// What runs a repeat from none or one on.
+fn last_engine(
+    alloc: Global,
+    set: ByteSet,
+    least: u32,
+    greatest: u32,
+) -> Result<PieceEngine, AllocError>
+    requires few { least ≤ 1 }
+    requires some { 0 < greatest }
+    requires bounded { greatest ≤ greatest_bound }
+    ensures { IfOk result (λ engine. IsEngineOf engine (rep (members set) least (Some greatest))) }
+{
+    let last = Last::new(set, greatest);
+    Ok(PieceEngine::Last(Box::new(alloc, last)?))
+}
+
+/// What runs another repeat with an end.
+fn ring_engine(
+    alloc: Global,
+    set: ByteSet,
+    least: u32,
+    greatest: u32,
+) -> Result<PieceEngine, AllocError>
+    requires many { 1 < least }
+    requires order { least ≤ greatest }
+    requires bounded { greatest ≤ greatest_bound }
+    ensures { IfOk result (λ engine. IsEngineOf engine (rep (members set) least (Some greatest))) }
+{
+    let ring = Ring::new(set, least, greatest);
+    Ok(PieceEngine::Ring(Box::new(alloc, ring)?))
+}
+
 /// What runs a repeat with an end.
-fn bounded_engine(set: ByteSet, least: u32, greatest: u32) -> PieceEngine
+fn bounded_engine(
+    alloc: Global,
+    set: ByteSet,
+    least: u32,
+    greatest: u32,
+) -> Result<PieceEngine, AllocError>
     requires some { 0 < greatest }
     requires order { least ≤ greatest }
     requires bounded { greatest ≤ greatest_bound }
-    ensures { IsEngineOf result (rep (members set) least (Some greatest)) }
+    ensures { IfOk result (λ engine. IsEngineOf engine (rep (members set) least (Some greatest))) }
 {
-    match least {
-        0 => PieceEngine::Last(Last::new(set, greatest)),
-        1 => PieceEngine::Last(Last::new(set, greatest)),
-        _ => PieceEngine::Ring(Ring::new(set, least, greatest)),
+    if least <= 1 {
+        last_engine(alloc, set, least, greatest)
+    } else {
+        ring_engine(alloc, set, least, greatest)
     }
 }
 

@@ -33,7 +33,7 @@ fn begins_back(program: &Program, chain: &ChainInfo) -> bool
     if chain.first >= chain.end {
         return false;
     }
-    looks_back(role_at(program, chain.first))
+    looks_back(&role_at(program, chain.first))
 }
 
 /// Begins a chain: no piece is left everywhere, and a piece that looks back is told with the literal behind it.

@@ -56,8 +56,8 @@ fn are_parts(program: &Program, layout: &Layout, region: &[u8], at: u64) -> bool
     ensures { IsTrue result ↔ AreParts program.now layout.now region.now 0 (length program.now.roles)
         at }
 {
-    for k in 0..program.roles().len() {
-        if !is_part(role_at(program, k), program, layout.piece(region, k), at) {
+    for k in 0..program.role_count() {
+        if !is_part(&role_at(program, k), program, layout.piece(region, k), at) {
             return false;
         }
     }

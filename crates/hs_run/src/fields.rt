@@ -15,12 +15,12 @@ use hs_rose::{Program, Role};
 use std::sync::ledger::Ledger;
 
 /// The role of that number.
-pub(crate) fn role_at(program: &Program, k: usize) -> &Role
+pub(crate) fn role_at(program: &Program, k: usize) -> Role
     requires there { k < length program.now.roles }
-    ensures is { slice_get program.now.roles k ≡ Some result.now }
+    ensures is { slice_get program.now.roles k ≡ Some result }
     ensures small { k + 1 < 2 ^ 64 }
 {
-    &program.roles()[k]
+    program.role(k)
 }
 
 /// What may come next where the pieces up to that of the role of that number are left, if `now` may where those before
@@ -43,7 +43,7 @@ pub(crate) fn leave_at(
         GoesOn program.now r (field_bytes layout.now region.now k) spot.now now result }
 {
     leave_role(
-        role_at(program, k),
+        &role_at(program, k),
         program,
         layout.piece(region, k),
         spot,
@@ -79,7 +79,7 @@ pub(crate) fn step_at<L: Ledger>(
         spot.now byte now }
 {
     step_role(
-        role_at(program, k),
+        &role_at(program, k),
         program,
         &mut region[layout.place(k)..layout.place(k + 1)],
         spot,

@@ -1,16 +1,17 @@
 //! The layout of a program's regions, and the region of the empty stream.
 
-ghost use Rattle.std.specs.Prelude.{◌≡◌, ◌^◌, ◌<◌, ◌≤◌, IfOk, MatchOption, length};
+ghost use Rattle.std.specs.Prelude.{◌≡◌, ◌^◌, ◌<◌, ◌≤◌, IfOk, MatchOption, Some, length, slice_get};
 ghost use Rattle.hs_base.specs.Regions.{fields_at, row_size};
 ghost use Rattle.hs_layout.specs.Layouts.{laid_size};
 ghost use Rattle.hs_rose.specs.Identifiers.{singles_of};
 ghost use Rattle.hs_run.specs.Clearing.{AreEmptyRegions, AreWellRegions};
 ghost use Rattle.hs_run.specs.Programs.{FitsLayout, IsRunnable, program_layout, sizes_of};
 
+use crate::fields::role_at;
 use crate::kept::singles_up_to;
 use hs_bits::{BYTE_BITS, clear_bits};
 use hs_layout::{Layout, MAX_SIZE};
-use hs_rose::{Identifier, Program, Role};
+use hs_rose::{Identifier, Program};
 use std::alloc::{AllocError, Global};
 
 /// How many bytes a region of the program has, if it is small enough to be laid out.
@@ -21,11 +22,11 @@ pub fn region_size(program: &Program) -> Option<usize>
         (λ size. (size ≡ laid_size (program_layout program.now)) × (size ≤ 2 ^ 24)) }
 {
     let mut size = header_size(program.identifiers());
-    for role in program.roles() {
+    for k in 0..program.role_count() {
         if size > MAX_SIZE {
             return None;
         }
-        size += role.field_size();
+        size += field_size_at(program, k);
     }
     if size > MAX_SIZE { None } else { Some(size) }
 }
@@ -60,11 +61,25 @@ fn count_singles(identifiers: &[Identifier]) -> usize
     count
 }
 
-/// The length of each role's field.
-fn field_sizes(alloc: Global, roles: &[Role]) -> Result<Vec<usize>, AllocError>
-    ensures { IfOk result (λ sizes. sizes.items ≡ sizes_of roles.now) }
+/// The length of the field of the role of that number.
+fn field_size_at(program: &Program, k: usize) -> usize
+    requires there { k < length program.now.roles }
+    ensures is { slice_get (sizes_of program.now.roles) k ≡ Some result }
+    ensures small { result < 2 ^ 16 }
 {
-    roles.iter().map(|role| role.field_size()).collect(alloc)
+    role_at(program, k).field_size()
+}
+
+/// The length of each role's field.
+fn field_sizes(alloc: Global, program: &Program) -> Result<Vec<usize>, AllocError>
+    ensures { IfOk result (λ sizes. sizes.items ≡ sizes_of program.now.roles) }
+{
+    let count = program.role_count();
+    let mut sizes = Vec::with_capacity(alloc, count)?;
+    for k in 0..count {
+        sizes.push(field_size_at(program, k))?;
+    }
+    Ok(sizes)
 }
 
 /// The layout of the program's regions. The only error is want of memory.
@@ -73,7 +88,7 @@ pub fn lay_out(alloc: Global, program: &Program) -> Result<Layout, AllocError>
     requires small { laid_size (program_layout program.now) ≤ 2 ^ 24 }
     ensures { IfOk result (λ layout. FitsLayout program.now layout) }
 {
-    let sizes = field_sizes(alloc, program.roles())?;
+    let sizes = field_sizes(alloc, program)?;
     let identifiers = program.identifiers();
     Layout::new(alloc, count_singles(identifiers), identifiers.len(), &sizes)
 }

@@ -99,13 +99,13 @@ pub(crate) fn leave_looked_back<L: Ledger>(
     ensures window { length window.new ≡ length window.old }
     ensures leaves { LeavesLooked program.now chain.now.first spot.now result }
 {
-    let literal = literal_of(role_at(program, chain.first + 1), program);
+    let literal = literal_of(&role_at(program, chain.first + 1), program);
     if !ends_here(literal, spot) {
         return NextSet::empty();
     }
     let back = literal.len();
     let before = leave_back(
-        role_at(program, chain.first),
+        &role_at(program, chain.first),
         program,
         spot,
         back,

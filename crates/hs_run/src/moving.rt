@@ -81,26 +81,26 @@ fn move_chain<L: Ledger>(
     let entry = entry_of(program, chain);
     ends.note(
         arrival.byte,
-        within_bounds(entry, arrival.spot.at, left),
-        within_bounds(entry, arrival.behind.at, left_behind),
+        within_bounds(&entry, arrival.spot.at, left),
+        within_bounds(&entry, arrival.behind.at, left_behind),
     );
 }
 
 /// The entry of a chain.
-fn entry_of<'p>(program: &'p Program, chain: &ChainInfo) -> &'p EntryInfo
+fn entry_of(program: &Program, chain: &ChainInfo) -> EntryInfo
     requires some { 1 ≤ chain.now.entry }
     requires there { chain.now.entry ≤ length program.now.entries }
-    ensures { slice_get program.now.entries (chain.now.entry - 1) ≡ Some result.now }
+    ensures { slice_get program.now.entries (chain.now.entry - 1) ≡ Some result }
 {
-    &program.entries()[chain.entry as usize - 1]
+    program.entry(chain.entry as usize - 1)
 }
 
 /// The chain of that number.
-fn chain_at(program: &Program, j: usize) -> &ChainInfo
+fn chain_at(program: &Program, j: usize) -> ChainInfo
     requires there { j < length program.now.chains }
-    ensures { slice_get program.now.chains j ≡ Some result.now }
+    ensures { slice_get program.now.chains j ≡ Some result }
 {
-    &program.chains()[j]
+    program.chain(j)
 }
 
 /// Takes a byte for every chain, and notes where matches of each identifier end about it.
@@ -135,16 +135,16 @@ pub(crate) fn move_chains<L: Ledger>(
         arrival.now.byte ends.new }
 {
     forget(ends);
-    for j in 0..program.chains().len() {
+    for j in 0..program.chain_count() {
         let chain = chain_at(program, j);
         move_chain(
             program,
             layout,
             region,
-            chain,
+            &chain,
             arrival,
             window,
-            &mut ends[entry_of(program, chain).identifier as usize],
+            &mut ends[entry_of(program, &chain).identifier as usize],
             steps,
         );
     }
@@ -175,7 +175,7 @@ fn end_chain<L: Ledger>(
 {
     let left = leave_chain(program, layout, region, chain, spot, window, steps);
     let entry = entry_of(program, chain);
-    ends.note_end(within_bounds(entry, spot.at, left));
+    ends.note_end(within_bounds(&entry, spot.at, left));
 }
 
 /// Notes of each identifier whether a match of it ends, if the stream ends here.
@@ -202,16 +202,16 @@ pub(crate) fn end_chains<L: Ledger>(
     ensures about { EndsChains program.now layout.now region.now spot.now ends.new }
 {
     forget(ends);
-    for j in 0..program.chains().len() {
+    for j in 0..program.chain_count() {
         let chain = chain_at(program, j);
         end_chain(
             program,
             layout,
             region,
-            chain,
+            &chain,
             spot,
             window,
-            &mut ends[entry_of(program, chain).identifier as usize],
+            &mut ends[entry_of(program, &chain).identifier as usize],
             steps,
         );
     }

@@ -48,7 +48,7 @@ pub(crate) fn literal_of<'l>(role: &Role, program: &'l Program) -> &'l [LitByte]
     requires there { role.now.number < length program.now.literals }
     ensures { slice_get program.now.literals role.now.number ≡ Some (map literal_byte result.now) }
 {
-    &program.literals()[role.number()]
+    program.literals().get(role.number())
 }
 
 /// What may come next where the piece of a role is left after at least one byte.

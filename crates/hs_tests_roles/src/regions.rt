@@ -23,8 +23,8 @@ fn setup_of(alloc: Global, lines: &str) -> Result<Setup, Fail>
 fn kinds_of(alloc: Global, lines: &str) -> Result<Vec<Kind>, Fail> {
     let setup = setup_of(alloc, lines)?;
     let mut kinds = Vec::new(alloc);
-    for role in setup.program.roles() {
-        kinds.push(role.kind())?;
+    for k in 0..setup.program.role_count() {
+        kinds.push(setup.program.role(k).kind())?;
     }
     Ok(kinds)
 }

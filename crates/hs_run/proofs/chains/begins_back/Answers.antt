@@ -8,7 +8,7 @@ pub returns : goal.returns
 returns c = (
   λ is. (
     omega arith,
-    λ r role. subst (λ q. way_of q ≡ way.LookBack) (same_Some c.role_at.result.now r (sym c.role_at.ensures.is ∙ role)) (c.looks_back.ensures.0 is),
+    λ r role. subst (λ q. way_of q ≡ way.LookBack) (same_Some c.role_at.result r (sym c.role_at.ensures.is ∙ role)) (c.looks_back.ensures.0 is),
   ),
-  λ (some, each). c.looks_back.ensures.1 (each c.role_at.result.now c.role_at.ensures.is),
+  λ (some, each). c.looks_back.ensures.1 (each c.role_at.result c.role_at.ensures.is),
 )

@@ -12,7 +12,7 @@ new-requires c =
     let program = c.args.program.now in
     let singles : c.count_singles.result ≡ length (singles_of program.identifiers) = c.count_singles.ensures.is ∙ ap (λ xs. length (singles_of xs)) c.identifiers-identifiers.ensures in
     let ids : length c.identifiers-identifiers.result.now ≡ length program.identifiers = ap length c.identifiers-identifiers.ensures in
-    let sizes : c.deref.result.now ≡ sizes_of program.roles = c.deref.ensures.value ∙ (c.in_ok-sizes.ensures ∙ ap sizes_of c.roles.ensures.roles) in
+    let sizes : c.deref.result.now ≡ sizes_of program.roles = c.deref.ensures.value ∙ c.in_ok-sizes.ensures in
     let whole : region_size (length (singles_of program.identifiers)) (length program.identifiers) (sizes_of program.roles) ≤ 2 ^ 24 = subst (λ n. n ≤ 2 ^ 24) (laid-sums program) c.requires.small in
     record {
       small = subst (λ n. region_size n (length c.identifiers-identifiers.result.now) c.deref.result.now ≤ 2 ^ 24) (sym singles)
@@ -25,7 +25,7 @@ returns c =
     let program = c.args.program.now in
     let singles : c.count_singles.result ≡ length (singles_of program.identifiers) = c.count_singles.ensures.is ∙ ap (λ xs. length (singles_of xs)) c.identifiers-identifiers.ensures in
     let ids : length c.identifiers-identifiers.result.now ≡ length program.identifiers = ap length c.identifiers-identifiers.ensures in
-    let sizes : c.deref.result.now ≡ sizes_of program.roles = c.deref.ensures.value ∙ (c.in_ok-sizes.ensures ∙ ap sizes_of c.roles.ensures.roles) in
+    let sizes : c.deref.result.now ≡ sizes_of program.roles = c.deref.ensures.value ∙ c.in_ok-sizes.ensures in
     let same : layout_of c.count_singles.result (length c.identifiers-identifiers.result.now) c.deref.result.now ≡ program_layout program =
     ap (λ n. layout_of n (length c.identifiers-identifiers.result.now) c.deref.result.now) singles
     ∙ (ap (λ n. layout_of (length (singles_of program.identifiers)) n c.deref.result.now) ids ∙ ap (λ ns. layout_of (length (singles_of program.identifiers)) (length program.identifiers) ns) sizes) in

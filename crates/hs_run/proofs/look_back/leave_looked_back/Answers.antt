@@ -20,20 +20,20 @@ role_at-requires g c =
 
 pub literal_of-literal-requires : goal.literal_of-literal-requires
 literal_of-literal-requires g c =
-    record { there = pair-named c.args.program.now c.args.chain.now c.requires.sound (c.requires.some, c.requires.looks_back) c.role_at.result.now c.role_at.ensures.is }
+    record { there = pair-named c.args.program.now c.args.chain.now c.requires.sound (c.requires.some, c.requires.looks_back) c.role_at.result c.role_at.ensures.is }
 
 pub ends_here-requires : goal.ends_here-requires
 ends_here-requires g c =
-    let (some, short) = pair-short c.args.program.now c.args.chain.now c.requires.sound (c.requires.some, c.requires.looks_back) c.role_at.result.now (map literal_byte c.literal_of-literal.result.now) c.role_at.ensures.is c.literal_of-literal.ensures in
+    let (some, short) = pair-short c.args.program.now c.args.chain.now c.requires.sound (c.requires.some, c.requires.looks_back) c.role_at.result (map literal_byte c.literal_of-literal.result.now) c.role_at.ensures.is c.literal_of-literal.ensures in
     omega (arith, short, length-map c.literal_of-literal.result.now literal_byte)
 
 pub leave_back-before-requires-clause-sound : goal.leave_back-before-requires-clause-sound
 leave_back-before-requires-clause-sound g c =
-    pair-window c.args.program.now c.args.chain.now c.requires.sound (c.requires.some, c.requires.looks_back) c.role_at-2.result.now c.role_at-2.ensures.is
+    pair-window c.args.program.now c.args.chain.now c.requires.sound (c.requires.some, c.requires.looks_back) c.role_at-2.result c.role_at-2.ensures.is
 
 pub leave_back-before-requires-clause-back : goal.leave_back-before-requires-clause-back
 leave_back-before-requires-clause-back g c =
-    let (some, short) = pair-short c.args.program.now c.args.chain.now c.requires.sound (c.requires.some, c.requires.looks_back) c.role_at.result.now (map literal_byte c.literal_of-literal.result.now) c.role_at.ensures.is c.literal_of-literal.ensures in
+    let (some, short) = pair-short c.args.program.now c.args.chain.now c.requires.sound (c.requires.some, c.requires.looks_back) c.role_at.result (map literal_byte c.literal_of-literal.result.now) c.role_at.ensures.is c.literal_of-literal.ensures in
     omega (arith, short, length-map c.literal_of-literal.result.now literal_byte)
 
 pub leave_back-before-requires-clause-within : goal.leave_back-before-requires-clause-within
@@ -43,19 +43,19 @@ leave_back-before-requires-clause-within g c =
 
 pub overflow_sub-byte : goal.overflow_sub-byte
 overflow_sub-byte g c =
-    let (some, short) = pair-short c.args.program.now c.args.chain.now c.requires.sound (c.requires.some, c.requires.looks_back) c.role_at.result.now (map literal_byte c.literal_of-literal.result.now) c.role_at.ensures.is c.literal_of-literal.ensures in
+    let (some, short) = pair-short c.args.program.now c.args.chain.now c.requires.sound (c.requires.some, c.requires.looks_back) c.role_at.result (map literal_byte c.literal_of-literal.result.now) c.role_at.ensures.is c.literal_of-literal.ensures in
     omega (arith, short, length-map c.literal_of-literal.result.now literal_byte)
 
 pub bounds-spot-back : goal.bounds-spot-back
 bounds-spot-back g c =
-    let (some, short) = pair-short c.args.program.now c.args.chain.now c.requires.sound (c.requires.some, c.requires.looks_back) c.role_at.result.now (map literal_byte c.literal_of-literal.result.now) c.role_at.ensures.is c.literal_of-literal.ensures in
+    let (some, short) = pair-short c.args.program.now c.args.chain.now c.requires.sound (c.requires.some, c.requires.looks_back) c.role_at.result (map literal_byte c.literal_of-literal.result.now) c.role_at.ensures.is c.literal_of-literal.ensures in
     omega (arith, some, short, length-map c.literal_of-literal.result.now literal_byte)
 
 pub returns-then-not-ends_here-clause-leaves : goal.returns-then-not-ends_here-clause-leaves
 returns-then-not-ends_here-clause-leaves g c chain u looked fit is =
     let value = map literal_byte c.literal_of-literal.result.now in
-    let (some, short) = pair-short c.args.program.now c.args.chain.now c.requires.sound (c.requires.some, c.requires.looks_back) c.role_at.result.now value c.role_at.ensures.is c.literal_of-literal.ensures in
-    let same = looked-value c.args.program.now c.args.chain.now.first chain looked c.role_at.result.now value c.role_at.ensures.is c.literal_of-literal.ensures in
+    let (some, short) = pair-short c.args.program.now c.args.chain.now c.requires.sound (c.requires.some, c.requires.looks_back) c.role_at.result value c.role_at.ensures.is c.literal_of-literal.ensures in
+    let same = looked-value c.args.program.now c.args.chain.now.first chain looked c.role_at.result value c.role_at.ensures.is c.literal_of-literal.ensures in
     let whole = looked.is_chain ∙ ap (λ v. nfa looked.tree ∷ lit (v) ∷ looked.rest) same in
     subst (λ pieces. TellsLeaving (has_next c.empty.result) (take 2 pieces) u) (sym whole)
     (looked-none looked.tree (value) looked.rest u some is.bytes (subst IsFitChain whole fit) c.empty.result
@@ -67,17 +67,17 @@ returns-clause-leaves g c chain u looked fit is =
     let value = map literal_byte c.literal_of-literal.result.now in
     let xs = value in
     let back : ℕ = length c.literal_of-literal.result.now in
-    let (some, short) = pair-short c.args.program.now c.args.chain.now c.requires.sound (c.requires.some, c.requires.looks_back) c.role_at.result.now value c.role_at.ensures.is c.literal_of-literal.ensures in
-    let same = looked-value c.args.program.now c.args.chain.now.first chain looked c.role_at.result.now value c.role_at.ensures.is c.literal_of-literal.ensures in
+    let (some, short) = pair-short c.args.program.now c.args.chain.now c.requires.sound (c.requires.some, c.requires.looks_back) c.role_at.result value c.role_at.ensures.is c.literal_of-literal.ensures in
+    let same = looked-value c.args.program.now c.args.chain.now.first chain looked c.role_at.result value c.role_at.ensures.is c.literal_of-literal.ensures in
     let whole = looked.is_chain ∙ ap (λ v. nfa looked.tree ∷ lit (v) ∷ looked.rest) same in
     let fits : IsFitChain (nfa looked.tree ∷ lit xs ∷ looked.rest) = subst IsFitChain whole fit in
     let size : length xs ≡ length c.literal_of-literal.result.now = length-map c.literal_of-literal.result.now literal_byte in
     let is_back : back ≡ length xs = sym size in
     let ends : EndsAt xs u (length u) = (c.ends_here.ensures.ends u is).0 c.if-not-ends_here.false in
     let within : length xs ≤ length u = (ends-taken xs u ends).0 in
-    let first : c.role_at-2.result.now ≡ looked.before = same_Some c.role_at-2.result.now looked.before (sym c.role_at-2.ensures.is ∙ looked.there) in
-    let named : slice_get c.args.program.now.engines c.role_at-2.result.now.number ≡ Some looked.engine = ap (λ q. slice_get c.args.program.now.engines q.number) first ∙ looked.engine_there in
-    let null : IsRoleNull c.role_at-2.result.now.null looked.tree = subst (λ q. IsRoleNull q.null looked.tree) (sym first) looked.null in
+    let first : c.role_at-2.result ≡ looked.before = same_Some c.role_at-2.result looked.before (sym c.role_at-2.ensures.is ∙ looked.there) in
+    let named : slice_get c.args.program.now.engines c.role_at-2.result.number ≡ Some looked.engine = ap (λ q. slice_get c.args.program.now.engines q.number) first ∙ looked.engine_there in
+    let null : IsRoleNull c.role_at-2.result.null looked.tree = subst (λ q. IsRoleNull q.null looked.tree) (sym first) looked.null in
     let tells : TellsLeaving (has_next c.leave_back-before.result) (nfa looked.tree ∷ []) (take (length u - length xs) u) =
     subst (λ n. TellsLeaving (has_next c.leave_back-before.result) (nfa looked.tree ∷ []) (take (length u - n) u)) is_back
     (c.leave_back-before.ensures.leaves looked.engine looked.tree (lit xs ∷ looked.rest) u named looked.runs looked.listed looked.narrow null fits is) in

@@ -14,23 +14,23 @@ loop-j-init g c = record {
 
 pub bounds-ends-entry_of : goal.bounds-ends-entry_of
 bounds-ends-entry_of g c =
-    let sound = c.requires.runs.chains c.loop-j.j c.chain_at-chain.result.now c.chain_at-chain.ensures in
-    let below = sound.identifier c.entry_of.result.now c.entry_of.ensures in
+    let sound = c.requires.runs.chains c.loop-j.j c.chain_at-chain.result c.chain_at-chain.ensures in
+    let below = sound.identifier c.entry_of.result c.entry_of.ensures in
     omega (arith, below, c.loop-j.invariant.ends)
 
 pub end_chain-requires-clause-sound : goal.end_chain-requires-clause-sound
-end_chain-requires-clause-sound g c = c.requires.runs.chains c.loop-j.j c.chain_at-chain.result.now c.chain_at-chain.ensures
+end_chain-requires-clause-sound g c = c.requires.runs.chains c.loop-j.j c.chain_at-chain.result c.chain_at-chain.ensures
 
 pub end_chain-requires-clause-parts : goal.end_chain-requires-clause-parts
 end_chain-requires-clause-parts g c k r low high role =
-    let sound = c.requires.runs.chains c.loop-j.j c.chain_at-chain.result.now c.chain_at-chain.ensures in
+    let sound = c.requires.runs.chains c.loop-j.j c.chain_at-chain.result c.chain_at-chain.ensures in
     c.requires.parts k r (omega arith) (omega (arith, high, sound.within)) role
 
 pub loop-j-preserved : goal.loop-j-preserved
 loop-j-preserved g c =
     let inv = c.loop-j.invariant in
-    let chain = c.chain_at-chain.result.now in
-    let info = c.entry_of.result.now in
+    let chain = c.chain_at-chain.result in
+    let info = c.entry_of.result in
     let sound = c.requires.runs.chains c.loop-j.j chain c.chain_at-chain.ensures in
     let slot : slice_get c.loop-j.ends info.identifier ≡ Some (get_or c.loop-j.ends info.identifier no_ends) =
     slice_get-get_or c.loop-j.ends info.identifier no_ends (omega (arith, sound.identifier info c.entry_of.ensures, inv.ends)) in
@@ -44,4 +44,4 @@ loop-j-preserved g c =
 
 pub returns-clause-about : goal.returns-clause-about
 returns-clause-about g c =
-    ended-all c.args.program.now c.args.layout.now c.args.region.now c.args.spot.now c.loop-j.j c.loop-j.ends c.loop-j.invariant.done (omega (arith, c.loop-j-test.false, c.loop-j.auto.j-end, ap length c.chains-j-end.ensures))
+    ended-all c.args.program.now c.args.layout.now c.args.region.now c.args.spot.now c.loop-j.j c.loop-j.ends c.loop-j.invariant.done (omega (arith, c.loop-j-test.false, c.loop-j.auto.j-end, c.chain_count-j-end.ensures))

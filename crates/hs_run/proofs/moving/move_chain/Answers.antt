@@ -11,8 +11,8 @@ returns-clause-moves g c plan x u runs is kept =
     let b = c.args.arrival.now.byte in
     let there = c.requires.stands u is in
     let moved = c.step_chain-left.ensures.steps plan x u runs is kept in
-    let before = row-ends c.args.program.now plan c.args.chain.now x u c.args.arrival.now.spot.at c.step_chain-left.result c.within_bounds.result c.entry_of-entry.result.now runs c.entry_of-entry.ensures is.offset (c.step_chain-left.ensures.leaves plan x u runs is kept) c.within_bounds.ensures in
-    let behind = row-ends c.args.program.now plan c.args.chain.now x (u ++ b ∷ []) c.args.arrival.now.behind.at c.leave_chain-left_behind.result c.within_bounds-2.result c.entry_of-entry.result.now runs c.entry_of-entry.ensures there.offset (c.leave_chain-left_behind.ensures.leaves plan x (u ++ b ∷ []) runs there moved) c.within_bounds-2.ensures in
+    let before = row-ends c.args.program.now plan c.args.chain.now x u c.args.arrival.now.spot.at c.step_chain-left.result c.within_bounds.result c.entry_of-entry.result runs c.entry_of-entry.ensures is.offset (c.step_chain-left.ensures.leaves plan x u runs is kept) c.within_bounds.ensures in
+    let behind = row-ends c.args.program.now plan c.args.chain.now x (u ++ b ∷ []) c.args.arrival.now.behind.at c.leave_chain-left_behind.result c.within_bounds-2.result c.entry_of-entry.result runs c.entry_of-entry.ensures there.offset (c.leave_chain-left_behind.ensures.leaves plan x (u ++ b ∷ []) runs there moved) c.within_bounds-2.ensures in
     let old = c.args.ends.now in
     let new = c.note.new.self in
     record {

@@ -14,26 +14,26 @@ loop-j-init g c = record {
 
 pub bounds-ends-entry_of : goal.bounds-ends-entry_of
 bounds-ends-entry_of g c =
-    let sound = c.requires.runs.chains c.loop-j.j c.chain_at-chain.result.now c.chain_at-chain.ensures in
-    let below = sound.identifier c.entry_of.result.now c.entry_of.ensures in
+    let sound = c.requires.runs.chains c.loop-j.j c.chain_at-chain.result c.chain_at-chain.ensures in
+    let below = sound.identifier c.entry_of.result c.entry_of.ensures in
     omega (arith, below, c.loop-j.invariant.ends)
 
 pub move_chain-requires-clause-sound : goal.move_chain-requires-clause-sound
-move_chain-requires-clause-sound g c = c.requires.runs.chains c.loop-j.j c.chain_at-chain.result.now c.chain_at-chain.ensures
+move_chain-requires-clause-sound g c = c.requires.runs.chains c.loop-j.j c.chain_at-chain.result c.chain_at-chain.ensures
 
 pub move_chain-requires-clause-sized : goal.move_chain-requires-clause-sized
 move_chain-requires-clause-sized g c = c.loop-j.invariant.done.written.len ∙ c.requires.sized
 
 pub move_chain-requires-clause-parts : goal.move_chain-requires-clause-parts
 move_chain-requires-clause-parts g c =
-    chain-parts c.args.program.now c.args.layout.now c.requires.fits c.requires.runs c.args.region.now c.args.arrival.now.spot c.args.arrival.now.byte c.loop-j.j c.loop-j.region c.loop-j.region c.loop-j.ends c.chain_at-chain.result.now no_ends no_ends c.loop-j.invariant.done c.chain_at-chain.ensures
+    chain-parts c.args.program.now c.args.layout.now c.requires.fits c.requires.runs c.args.region.now c.args.arrival.now.spot c.args.arrival.now.byte c.loop-j.j c.loop-j.region c.loop-j.region c.loop-j.ends c.chain_at-chain.result no_ends no_ends c.loop-j.invariant.done c.chain_at-chain.ensures
     c.requires.parts
 
 pub loop-j-preserved : goal.loop-j-preserved
 loop-j-preserved g c =
     let inv = c.loop-j.invariant in
-    let chain = c.chain_at-chain.result.now in
-    let info = c.entry_of.result.now in
+    let chain = c.chain_at-chain.result in
+    let info = c.entry_of.result in
     let sound = c.requires.runs.chains c.loop-j.j chain c.chain_at-chain.ensures in
     let slot : slice_get c.loop-j.ends info.identifier ≡ Some (get_or c.loop-j.ends info.identifier no_ends) =
     slice_get-get_or c.loop-j.ends info.identifier no_ends (omega (arith, sound.identifier info c.entry_of.ensures, inv.ends)) in
@@ -48,14 +48,14 @@ loop-j-preserved g c =
 pub returns-clause-written : goal.returns-clause-written
 returns-clause-written g c =
     done-written c.args.program.now c.args.layout.now c.requires.fits c.requires.runs c.args.region.now c.args.arrival.now.spot c.args.arrival.now.byte c.loop-j.j c.loop-j.region c.loop-j.ends c.loop-j.invariant.done
-    (omega (arith, c.loop-j-test.false, c.loop-j.auto.j-end, ap length c.chains-j-end.ensures))
+    (omega (arith, c.loop-j-test.false, c.loop-j.auto.j-end, c.chain_count-j-end.ensures))
 
 pub returns-clause-parts : goal.returns-clause-parts
 returns-clause-parts g c =
     done-parts c.args.program.now c.args.layout.now c.requires.fits c.requires.runs c.args.region.now c.args.arrival.now.spot c.args.arrival.now.byte c.loop-j.j c.loop-j.region c.loop-j.ends c.loop-j.invariant.done
-    (omega (arith, c.loop-j-test.false, c.loop-j.auto.j-end, ap length c.chains-j-end.ensures))
+    (omega (arith, c.loop-j-test.false, c.loop-j.auto.j-end, c.chain_count-j-end.ensures))
 
 pub returns-clause-moves : goal.returns-clause-moves
 returns-clause-moves g c =
     done-moves c.args.program.now c.args.layout.now c.requires.fits c.requires.runs c.args.region.now c.args.arrival.now.spot c.args.arrival.now.byte c.loop-j.j c.loop-j.region c.loop-j.ends c.loop-j.invariant.done
-    (omega (arith, c.loop-j-test.false, c.loop-j.auto.j-end, ap length c.chains-j-end.ensures))
+    (omega (arith, c.loop-j-test.false, c.loop-j.auto.j-end, c.chain_count-j-end.ensures))

@@ -5,4 +5,4 @@ use Rattle.hs_rose.proofs.builder.Builder.add_piece.Goals as goal
 
 pub returns : goal.returns
 returns c =
-    piece-built c.args.self.now _ _ c.args.owner.now c.args.before (plain_piece c.args.piece.now) c.of-shape.result c.in_ok-named.named c.role_of.result c.in_ok-named.ensures c.of-shape.ensures c.role_of.ensures c.in_ok-push.ensures.items refl refl refl
+    piece-built c.args.self.now _ _ c.args.owner.now c.args.before (plain_piece c.args.piece.now) c.of-shape.result c.in_ok-named.named c.in_ok-row.row c.in_ok-named.ensures c.of-shape.ensures c.in_ok-row.ensures c.in_ok-push.ensures.items refl refl refl refl refl

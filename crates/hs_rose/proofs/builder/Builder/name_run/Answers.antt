@@ -10,4 +10,4 @@ returns c sound =
     let made = c.number_of.new.made.items in
     let piece = plain_piece c.args.piece.now in
     let below = numbered-below model_of (map model_of c.args.self.now.made.items) piece made c.in_ok-number.number c.in_ok-number.ensures.numbered in
-    run-named _ _ piece _ c.index.result.now c.requires.run refl refl refl c.in_ok-number.ensures.numbered c.in_ok-number.ensures.made (read-get made c.in_ok-number.number c.index.result.now below c.index.ensures) refl sound
+    run-named _ _ piece _ c.index.result.now c.requires.run refl refl refl refl refl c.in_ok-number.ensures.numbered c.in_ok-number.ensures.made (read-get made c.in_ok-number.number c.index.result.now below c.index.ensures) refl sound
