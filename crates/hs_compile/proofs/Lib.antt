@@ -1,5 +1,14 @@
+pub mod RisingLemmas
+pub mod PlanLemmas
+pub mod CountLemmas
+pub mod ReadLemmas
+pub mod SizeLemmas
 pub mod NumberLemmas
 pub mod EntryLemmas
 pub mod ListLemmas
 pub mod SeenLemmas
+pub mod KnownLemmas
 pub mod LengthLemmas
+pub mod DatabaseLemmas
+pub mod LayingLemmas
+pub mod DoneLemmas

@@ -1,5 +1,6 @@
+pub mod Sizes
 pub mod Lists
-pub mod Engines
 pub mod Databases
+pub mod Counting
 pub mod Answers
 pub mod Remembered

@@ -2,9 +2,12 @@
 #![tactic(auto)]
 
 mod compiler;
+mod counts;
 mod database;
 mod entry;
 mod fault;
+mod laying;
+mod reading;
 mod seen;
 
 pub use compiler::{MAX_ENTRIES, compile};

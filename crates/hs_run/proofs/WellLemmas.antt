@@ -23,7 +23,7 @@ use Rattle.hs_rose.specs.Programs.{Tables, IsProgramOf, IsRoleOf}
 use Rattle.hs_rose.proofs.ListLemmas.{get-map}
 use Rattle.hs_run.specs.declared.way.Way.TheVariants as way
 use Rattle.hs_run.specs.Feeding.{IsWellRegion}
-use Rattle.hs_run.specs.JoinLaws.{AsksFor, plan_of}
+use Rattle.hs_rose.specs.Plans.{AsksFor, plan_of}
 use Rattle.hs_run.specs.Pieces.{IsPart}
 use Rattle.hs_run.specs.Programs.{FitsLayout, sizes_of}
 use Rattle.hs_run.proofs.LayoutLemmas.{there}

@@ -1,4 +1,3 @@
-pub mod Programs
 pub mod Keeping
 pub mod Telling
 pub mod Knowing

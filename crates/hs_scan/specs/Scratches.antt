@@ -1,9 +1,8 @@
 -- Memory that a scan uses within a write.
 use Rattle.std.specs.Prelude.{◌≡◌, ℕ, ◌<◌, ◌≤◌, true, false, List, length}
 use Rattle.hs_base.specs.declared.context.Prev.{Prev}
+use Rattle.hs_base.specs.Literals.{LiteralByte}
 use Rattle.hs_base.specs.Regions.{history_size}
-use Rattle.hs_engine.specs.Engines.{Meaning}
-use Rattle.hs_literals.specs.Held.{held}
 use Rattle.hs_literals.specs.HitTables.{has_hit}
 use Rattle.hs_nodes.specs.Contexts.{AreChunkContexts}
 use Rattle.hs_nodes.specs.Left.{nowhere}
@@ -13,34 +12,37 @@ use Rattle.hs_nodes.specs.declared.ends.ChunkEnds.{ChunkEnds}
 use Rattle.hs_scan.specs.Hits.{HasNowhere}
 use Rattle.hs_scan.specs.Knowing.{FitsKnown}
 use Rattle.hs_scan.specs.Scans.{AreHitsBehind, Stand, stand}
-use Rattle.hs_scan.specs.declared.program.Program.{Program}
+use Rattle.hs_nodes.specs.declared.graph.Graph.{Graph}
 use Rattle.hs_scan.specs.declared.scratch.Scratch.{Scratch}
 
--- There is room for the nodes of the program, all of which are run, and none of which is left anywhere yet.
-pub record FitsRoom {E : Type 0} (program : Program E) (ends : List ChunkEnds) (marks : List ℕ) : Type 0 where
-  pub count : length ends ≡ length program.table.nodes.items
+-- There is room for the nodes of the graph, all of which are run, and none of which is left anywhere yet.
+pub record FitsRoom {E : Type 0} (graph : Graph E) (ends : List ChunkEnds) (marks : List ℕ) : Type 0 where
+  pub count : length ends ≡ length graph.table.nodes.items
   pub clear : (k : ℕ) → node_ends ends k ≡ nowhere
-  pub room : length program.table.nodes.items ≤ mark_room marks
-  pub below : (k : ℕ) → is_marked marks k ≡ true → k < length program.table.nodes.items
-  pub all : (k : ℕ) → k < length program.table.nodes.items → is_marked marks k ≡ true
+  pub room : length graph.table.nodes.items ≤ mark_room marks
+  pub below : (k : ℕ) → is_marked marks k ≡ true → k < length graph.table.nodes.items
+  pub all : (k : ℕ) → k < length graph.table.nodes.items → is_marked marks k ≡ true
 
--- There is room for the program, and its hits.
-pub record ServesProgram {E : Type 0} (program : Program E) (s : Scratch) : Type 0 where
-  pub room : FitsRoom program s.ends.items s.course.marks
+-- There is room for the graph, and for the hits that are looked for.
+pub record HasRoom {E : Type 0} (graph : Graph E) (s : Scratch) : Type 0 where
+  pub room : FitsRoom graph s.ends.items s.course.marks
   pub contexts : length s.contexts.items ≡ 8
   pub hits : length s.hits.items ≡ s.rows.count
-  pub rows : s.rows.count ≡ length (held program.literals)
-  pub known : FitsKnown (length program.identifiers.items) s.course.known
+  pub known : FitsKnown (length graph.identifiers.items) s.course.known
   pub past : length s.past ≡ history_size
+
+-- There is room for the graph, and for the hits of so many literals.
+pub record ServesGraph {E : Type 0} (graph : Graph E) (literals : ℕ) (s : Scratch) : Type 0 where
+  pub room : HasRoom graph s
+  pub rows : s.rows.count ≡ literals
 
 -- no literal ends anywhere
 abbrev pub HasNoHits : Scratch → Type 0
 HasNoHits s = (k : ℕ) → HasNowhere s.hits.items k
 
 -- The hits are those of the next bytes, of each literal that ends somewhere, and all else is as before.
-pub record FindsHits {E : Type 0} (meaning : E → Meaning) (program : Program E) (bytes : List ℕ) (old new : Scratch) :
-    Type 0 where
-  pub hits : AreHitsBehind meaning program old.at old.past new.hits.items bytes
+pub record FindsHits (literals : List (List LiteralByte)) (bytes : List ℕ) (old new : Scratch) : Type 0 where
+  pub hits : AreHitsBehind literals old.at old.past new.hits.items bytes
   pub others : (k : ℕ) → has_hit new.rows k ≡ false → HasNowhere new.hits.items k
   pub count : length new.hits.items ≡ length old.hits.items
   pub rows : new.rows.count ≡ old.rows.count

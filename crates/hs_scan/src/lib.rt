@@ -9,9 +9,7 @@ mod hits;
 mod keeping;
 mod known;
 mod past;
-mod program;
 mod scanning;
 mod scratch;
 
-pub use program::{FieldCopy, Program};
 pub use scratch::Scratch;

@@ -1,3 +1,5 @@
-pub mod WriteLemmas
+pub mod RunningLemmas
+pub mod EmptyLemmas
 pub mod JoinLemmas
+pub mod WriteLemmas
 pub mod StandLemmas

@@ -1,5 +1,5 @@
 pub mod Scratches
-pub mod Fitting
+pub mod Leading
 pub mod Streams
 pub mod Writing
 pub mod Standing

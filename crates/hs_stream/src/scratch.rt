@@ -8,7 +8,7 @@ use std::alloc::{AllocError, Global};
 /// databases that it fits.
 #[derive(Debug, Drop)]
 pub struct Scratch {
-    pub(crate) room: hs_whole_run::Scratch,
+    pub(crate) room: hs_run::Scratch,
 }
 
 impl Scratch {
@@ -19,7 +19,7 @@ impl Scratch {
         ensures { IfOk result (IsScratchOf db.now) }
     {
         Ok(Scratch {
-            room: hs_whole_run::Scratch::new(alloc, db.program())?,
+            room: hs_run::Scratch::new(alloc, db.program())?,
         })
     }
 
