@@ -9,7 +9,7 @@ use Rattle.hs_reports.specs.Identifiers.{numbers_of}
 use Rattle.hs_reports.specs.declared.identifier.Identifier.{Identifier}
 use Rattle.hs_layout.specs.Layouts.{Laid}
 use Rattle.hs_scan.specs.Keeping.{AreBitsWritten, HasBits, IsOneWritten, AreBitsRead, singles_before}
-use Rattle.hs_scan.specs.Programs.{singles_of, with_single}
+use Rattle.hs_nodes.specs.Graphs.{singles_of, with_single}
 
 pub number-at : (xs : List Identifier) (p : ℕ) (x : Identifier) → slice_get xs p ≡ Some x → slice_get (numbers_of xs) p ≡ Some x.id.0
 number-at [] p x at = absurd (cc)

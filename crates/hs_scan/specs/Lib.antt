@@ -1,10 +1,16 @@
-pub mod Programs
 pub mod Keeping
 pub mod Telling
 pub mod Knowing
 pub mod Scans
+pub mod Feeding
+pub mod Leaving
+pub mod Asking
 pub mod Ending
 pub mod Past
 pub mod Scratches
 pub mod Hits
 pub mod Copying
+pub mod Writing
+pub mod Clearing
+pub mod Finishing
+pub mod Checking

@@ -1,0 +1,15 @@
+pub mod ListLemmas
+pub mod ChildLemmas
+pub mod ByNodeLemmas
+pub mod NodeLemmas
+pub mod EndLemmas
+pub mod BuildLemmas
+pub mod JoinLemmas
+pub mod PlanLemmas
+pub mod KindLemmas
+pub mod IdentifierLemmas
+pub mod PlaceLemmas
+pub mod ReadLemmas
+pub mod GraphLemmas
+pub mod SoundLemmas
+pub mod RunLemmas
