@@ -1,3 +1,4 @@
 pub mod Words
 pub mod Rates
 pub mod Kernel
+pub mod Streaming

@@ -30,7 +30,7 @@ pub fn tell_database<'a, S: Store, O: Sink>(
         Err(fault) => return Err(fault),
     };
     let expressions = loaded.entries.len() as u64;
-    let identifiers = loaded.database.program().identifiers().len() as u64;
+    let identifiers = loaded.database.graph().identifiers.len() as u64;
     match write_info(expressions, identifiers, out) {
         Ok(()) => Ok(()),
         Err(Failed) => Err(Fault::Write),

@@ -10,6 +10,13 @@ pub mod FirstLemmas
 pub mod KindLemmas
 pub mod RangeLemmas
 pub mod NodeLemmas
+pub mod LookLemmas
+pub mod PairLemmas
 pub mod RestLemmas
 pub mod WalkLemmas
 pub mod SettleLemmas
+pub mod TickLemmas
+pub mod LeavingLemmas
+pub mod WakeLemmas
+pub mod FieldLemmas
+pub mod PlanLemmas

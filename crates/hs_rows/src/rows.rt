@@ -118,8 +118,8 @@ f <foobar%(131072)xbar;> gone 4 = 7 <1 6;1 131081;end 131082;~> <fault absent f;
 run <hs_tool match p f> f <%(513)a>
 p <7:/%(512)a/;> = 0 <7 512;7 513;end 513;>
 p <7:/%(511)ab*/;> = 0 <7 511;7 512;7 513;end 513;>
-p <7:/%(513)a/;> = 2 <> <refused 1 7 9 PositionLimit 513;>
-p <7:/%(16000)a/;> = 2 <> <refused 1 7 9 PositionLimit 16000;>
+p <7:/%(513)a/;> = 0 <7 513;end 513;>
+p <7:/%(16000)a/;> = 0 <end 513;>
 p <7:/%(16001)a/;> = 2 <> <refused 1 7 10 LengthLimit;>
 p <7:/%(16001)*/;> = 2 <> <refused 1 7 10 LengthLimit;>
 p <7:/%(129)(/;> = 2 <> <refused 1 7 11 DepthLimit;>

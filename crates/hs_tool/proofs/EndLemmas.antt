@@ -5,7 +5,7 @@ use Rattle.hs_outside.specs.Counts.{Rose}
 use Rattle.hs_outside.proofs.Counting.{Rose-after_same}
 use Rattle.hs_outside.specs.Sink.{Took, TookPrefix}
 use Rattle.hs_outside.proofs.Sending.{Took-append, TookPrefix-after}
-use Rattle.hs_compile.specs.declared.database.Database.{Database}
+use Rattle.hs_compile.specs.Databases.{Compiled}
 use Rattle.hs_script.specs.Machine.{start}
 use Rattle.hs_script.specs.Runs.{run_text, ending_text}
 use Rattle.hs_script.specs.Runs as run
@@ -25,18 +25,18 @@ use Rattle.hs_lines.proofs.PassLemmas.{passes-join}
 use Rattle.hs_tool.proofs.ServeLemmas.{SoFar, so_far-next, fresh, IsGiven, given, finished-end, begun-so_far, begun-line, begun-part, finished-fault}
 
 -- the endings of a script whose lines may wait
-abbrev pub EndsWaiting : Database → Option (List ℕ) → Option (List ℕ) → Option (List ℕ) → Option (List ℕ) → List ℕ → List ℕ → Result (Unit {0}) ScriptStop → Type 0
+abbrev pub EndsWaiting : Compiled → Option (List ℕ) → Option (List ℕ) → Option (List ℕ) → Option (List ℕ) → List ℕ → List ℕ → Result (Unit {0}) ScriptStop → Type 0
 EndsWaiting db left lefts taken takes waited waits result =
     ScriptEnds db left lefts (λ text. IsPassed taken takes waited waits text) (λ text. TookPrefix taken takes (waited ++ text)) result
 
 -- it is so for the same database
-pub ends-same : {db db' : Database} {before now : Option (List ℕ)} {IsWritten IsCut : List ℕ → Type 0} {result : Result (Unit {0}) ScriptStop} → db ≡ db' → ScriptEnds db before now IsWritten IsCut result → ScriptEnds db' before now IsWritten IsCut result
+pub ends-same : {db db' : Compiled} {before now : Option (List ℕ)} {IsWritten IsCut : List ℕ → Type 0} {result : Result (Unit {0}) ScriptStop} → db ≡ db' → ScriptEnds db before now IsWritten IsCut result → ScriptEnds db' before now IsWritten IsCut result
 ends-same {before = before} {now = now} {IsWritten = IsWritten} {IsCut = IsCut} {result = result} same ends =
     subst (λ d. ScriptEnds d before now IsWritten IsCut result) same ends
 
 -- ---- a line that didn't come
 
-pub ends-complete : {db : Database} {number : ℕ} {p q r : Option (List ℕ)} {a b : Ahead} {streams : Streams} {x y : Option (List ℕ)} {f g : List ℕ} → SoFar db number p q fresh a streams x y f g false → IsLineless q r a b → EndsWaiting db p r x y f g (Ok tt)
+pub ends-complete : {db : Compiled} {number : ℕ} {p q r : Option (List ℕ)} {a b : Ahead} {streams : Streams} {x y : Option (List ℕ)} {f g : List ℕ} → SoFar db number p q fresh a streams x y f g false → IsLineless q r a b → EndsWaiting db p r x y f g (Ok tt)
 ends-complete {db} {number} {p} {q} {r} {a} {b} {streams} {x} {y} {f} {g} so_far line =
     let consumes : Consumes p r fresh b so_far.seen = subst (λ l. Consumes p r fresh b l) (append-nil so_far.seen) (consumes-join so_far.consumes line.consumes) in
     let all : SoFar db number p r fresh b streams x y f g false = record {
@@ -54,7 +54,7 @@ ends-complete {db} {number} {p} {q} {r} {a} {b} {streams} {x} {y} {f} {g} so_far
     let is = given p r b so_far.seen consumes in
     complete is.taken (run_text so_far.actions so_far.answers) is.gave (is.at_end line.ended) (finished-end all is line.ended) so_far.sends
 
-pub ends-unread : {db : Database} {number : ℕ} {p q r : Option (List ℕ)} {a b : Ahead} {streams : Streams} {x y : Option (List ℕ)} {f g : List ℕ} (stop : Break) (read reads : ℕ) → SoFar db number p q fresh a streams x y f g false → IsLineBegun q r a b → StopsAt b stop → ReadCounts {A = Bool} read reads (Err stop) → EndsWaiting db p r x y f g (Err (Broken stop))
+pub ends-unread : {db : Compiled} {number : ℕ} {p q r : Option (List ℕ)} {a b : Ahead} {streams : Streams} {x y : Option (List ℕ)} {f g : List ℕ} (stop : Break) (read reads : ℕ) → SoFar db number p q fresh a streams x y f g false → IsLineBegun q r a b → StopsAt b stop → ReadCounts {A = Bool} read reads (Err stop) → EndsWaiting db p r x y f g (Err (Broken stop))
 ends-unread {db} {p = p} {r = r} {b = b} stop.Read read reads so_far line at counts =
     let is = given p r b (so_far.seen ++ line.part) (consumes-join so_far.consumes line.consumes) in
     unread is.taken (run_text so_far.actions so_far.answers) is.gave (subst (λ l. serving.Begun db is.taken l (run_text so_far.actions so_far.answers)) (is.dry at.dry) (begun-line so_far line is)) so_far.sends
@@ -68,7 +68,7 @@ ends-unread stop.Write read reads so_far line at counts = absurd counts
 
 -- ---- the sink failed behind a command
 
-pub ends-lost : {db : Database} {number : ℕ} {p s : Option (List ℕ)} {c : Ahead} {new : Streams} {x z : Option (List ℕ)} {f h : List ℕ} → SoFar db number p s fresh c new x z f h true → EndsWaiting db p s x z f h (Err (Broken stop.Write))
+pub ends-lost : {db : Compiled} {number : ℕ} {p s : Option (List ℕ)} {c : Ahead} {new : Streams} {x z : Option (List ℕ)} {f h : List ℕ} → SoFar db number p s fresh c new x z f h true → EndsWaiting db p s x z f h (Err (Broken stop.Write))
 ends-lost {db} {number} {p} {s} {c} {new} {x} {z} {f} {h} next = by_end c.ended refl
   where
     is : IsGiven p s c next.seen
@@ -80,7 +80,7 @@ ends-lost {db} {number} {p} {s} {c} {new} {x} {z} {f} {h} next = by_end c.ended 
 
 -- ---- a command that stopped the script
 
-module _ {db : Database} {number : ℕ} {p q r : Option (List ℕ)} {a b : Ahead} {kept : List ℕ} {old : Streams} {x y : Option (List ℕ)} {f g : List ℕ} (s : Option (List ℕ)) (c : Ahead) (new : Streams) (z : Option (List ℕ)) (h : List ℕ) (so_far : SoFar db number p q fresh a old x y f g false) (line : IsLineRead q r a b kept) where
+module _ {db : Compiled} {number : ℕ} {p q r : Option (List ℕ)} {a b : Ahead} {kept : List ℕ} {old : Streams} {x y : Option (List ℕ)} {f g : List ℕ} (s : Option (List ℕ)) (c : Ahead) (new : Streams) (z : Option (List ℕ)) (h : List ℕ) (so_far : SoFar db number p q fresh a old x y f g false) (line : IsLineRead q r a b kept) where
   -- the sink failed when all of a command was there
   lost-goes : Runs db line.line number old new r s b c y z g h true Goes → EndsWaiting db p s x z f h (Err (Broken stop.Write))
   lost-goes runs = ends-lost (so_far-next true so_far line runs)
@@ -141,7 +141,7 @@ line-one p q a b kept is reads = subst (λ t. ReadsLine p q a b kept t) is reads
 -- ---- what came of a script, when what waits is written
 
 -- nothing was begun
-begun-nothing : (db : Database) → serving.Begun db [] [] []
+begun-nothing : (db : Compiled) → serving.Begun db [] [] []
 begun-nothing db = record {
   front = [];
   rest = [];
@@ -155,7 +155,7 @@ begun-nothing db = record {
   is = refl;
 }
 
-so_far-of : {db : Database} {left lefts taken takes : Option (List ℕ)} {waits : List ℕ} {result : Result (Unit {0}) ScriptStop} (end : Option (List ℕ)) → lost_of result ≡ false → EndsWaiting db left lefts taken takes [] waits result → TookPrefix takes end waits → ScriptEnds db left lefts (λ text. Took taken end text) (λ text. TookPrefix taken end text) (Err (Broken stop.Write))
+so_far-of : {db : Compiled} {left lefts taken takes : Option (List ℕ)} {waits : List ℕ} {result : Result (Unit {0}) ScriptStop} (end : Option (List ℕ)) → lost_of result ≡ false → EndsWaiting db left lefts taken takes [] waits result → TookPrefix takes end waits → ScriptEnds db left lefts (λ text. Took taken end text) (λ text. TookPrefix taken end text) (Err (Broken stop.Write))
 so_far-of end kept (complete bytes text gave at_end finished passes) cut = unwritten bytes text gave (over true None (λ e. at_end) finished) (text_cut end passes cut)
 so_far-of end kept (faulty fault bytes text ended gave at_end finished passes) cut = unwritten bytes text gave (over ended (Some fault) at_end finished) (text_cut end passes cut)
 so_far-of end kept (unread bytes text gave some passes) cut = unwritten bytes text gave (begun [] some) (text_cut end passes cut)
@@ -163,7 +163,7 @@ so_far-of end kept (too_long bytes text gave long some passes) cut = unwritten b
 so_far-of end kept (unwritten bytes text gave some part) cut = absurd (false≢true (sym kept))
 so_far-of {db} end kept (no_memory gave passes) cut = unwritten [] [] gave (begun [] (begun-nothing db)) (text_cut end passes cut)
 
-whole_of : {db : Database} {left lefts taken takes : Option (List ℕ)} {waits : List ℕ} {result : Result (Unit {0}) ScriptStop} (end : Option (List ℕ)) → lost_of result ≡ false → EndsWaiting db left lefts taken takes [] waits result → Took takes end waits → ScriptEnds db left lefts (λ text. Took taken end text) (λ text. TookPrefix taken end text) result
+whole_of : {db : Compiled} {left lefts taken takes : Option (List ℕ)} {waits : List ℕ} {result : Result (Unit {0}) ScriptStop} (end : Option (List ℕ)) → lost_of result ≡ false → EndsWaiting db left lefts taken takes [] waits result → Took takes end waits → ScriptEnds db left lefts (λ text. Took taken end text) (λ text. TookPrefix taken end text) result
 whole_of end kept (complete bytes text gave at_end finished passes) took = complete bytes text gave at_end finished (text_written end passes took)
 whole_of end kept (faulty fault bytes text ended gave at_end finished passes) took = faulty fault bytes text ended gave at_end finished (text_written end passes took)
 whole_of end kept (unread bytes text gave some passes) took = unread bytes text gave some (text_written end passes took)
@@ -171,7 +171,7 @@ whole_of end kept (too_long bytes text gave long some passes) took = too_long by
 whole_of end kept (unwritten bytes text gave some part) took = absurd (false≢true (sym kept))
 whole_of end kept (no_memory gave passes) took = no_memory gave (text_written end passes took)
 
-lost_alone : {db : Database} {left lefts taken takes : Option (List ℕ)} {waits : List ℕ} {result : Result (Unit {0}) ScriptStop} (end : Option (List ℕ)) → lost_of result ≡ true → EndsWaiting db left lefts taken takes [] waits result → end ≡ takes → ScriptEnds db left lefts (λ text. Took taken end text) (λ text. TookPrefix taken end text) result
+lost_alone : {db : Compiled} {left lefts taken takes : Option (List ℕ)} {waits : List ℕ} {result : Result (Unit {0}) ScriptStop} (end : Option (List ℕ)) → lost_of result ≡ true → EndsWaiting db left lefts taken takes [] waits result → end ≡ takes → ScriptEnds db left lefts (λ text. Took taken end text) (λ text. TookPrefix taken end text) result
 lost_alone end lost (complete bytes text gave at_end finished passes) same = absurd (false≢true lost)
 lost_alone end lost (faulty fault bytes text ended gave at_end finished passes) same = absurd (false≢true lost)
 lost_alone end lost (unread bytes text gave some passes) same = absurd (false≢true lost)
@@ -179,7 +179,7 @@ lost_alone end lost (too_long bytes text gave long some passes) same = absurd (f
 lost_alone {taken = taken} end lost (unwritten bytes text gave some part) same = unwritten bytes text gave some (subst (λ t. TookPrefix taken t text) (sym same) part)
 lost_alone end lost (no_memory gave passes) same = absurd (false≢true lost)
 
-pub ends-flushed : {db : Database} {left lefts taken takes : Option (List ℕ)} {waits : List ℕ} {ended result : Result (Unit {0}) ScriptStop} {end : Option (List ℕ)} {sunk sinks : ℕ} → EndsWaiting db left lefts taken takes [] waits ended → Flushes ended result takes end waits sunk sinks → ScriptEnds db left lefts (λ text. Took taken end text) (λ text. TookPrefix taken end text) result
+pub ends-flushed : {db : Compiled} {left lefts taken takes : Option (List ℕ)} {waits : List ℕ} {ended result : Result (Unit {0}) ScriptStop} {end : Option (List ℕ)} {sunk sinks : ℕ} → EndsWaiting db left lefts taken takes [] waits ended → Flushes ended result takes end waits sunk sinks → ScriptEnds db left lefts (λ text. Took taken end text) (λ text. TookPrefix taken end text) result
 ends-flushed {db} {left} {lefts} {taken} {end = end} ends (was_lost lost is same counted) =
     subst (λ r. ScriptEnds db left lefts (λ text. Took taken end text) (λ text. TookPrefix taken end text) r) (sym is) (lost_alone end lost ends same)
 ends-flushed {db} {left} {lefts} {taken} {end = end} ends (flushed kept is took counted) =

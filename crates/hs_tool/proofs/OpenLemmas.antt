@@ -9,14 +9,13 @@ use Rattle.std.specs.Ordering.{nat_cmp}
 use Rattle.std.specs.Cmp.Lexicographic.{slice_cmp}
 use Rattle.hs_base.specs.Patterns.{Pattern}
 use Rattle.hs_base.specs.Told.{Pair}
-use Rattle.hs_whole_run.specs.Events.{Takes, still}
+use Rattle.hs_reports.specs.Events.{Takes, still}
 use Rattle.hs_text.specs.declared.commands.Verb.TheVariants as verb
 use Rattle.hs_text.specs.declared.reply_lines.Word.TheVariants as word
-use Rattle.hs_compile.specs.declared.database.Database.{Database}
-use Rattle.hs_compile.specs.Databases.{IsDatabaseOf}
+use Rattle.hs_compile.specs.Databases.{Compiled}
 use Rattle.hs_stream.specs.declared.stream.Stream.{Stream}
 use Rattle.hs_stream.specs.Streams.{IsStreamOf, IsFresh, Closes}
-use Rattle.hs_stream.specs.Standing.{Stands}
+use Rattle.hs_stream.specs.Standing.{RunsPatterns, Stands}
 use Rattle.hs_stream.proofs.StandLemmas.{fresh-stands, end-last}
 use Rattle.hs_script.specs.Actions.{Action, Open, Reset, Close, name_of}
 use Rattle.hs_script.specs.Machine.{most_streams, Answer, done, refused, Moves, Machine, opens}
@@ -89,7 +88,7 @@ pub same_stream : {x y : Stream} → Some x ≡ Some y → x ≡ y
 same_stream {x} e = ap (λ o. unwrap_or o x) e
 
 -- all are streams of the database still
-pub fits-put : {db : Database} {old new : Streams} {name : List ℕ} {w : Option Stream} → AreStreamsOf db old → PutsStream old new name w → ((stream : Stream) → w ≡ Some stream → IsStreamOf db stream) → AreStreamsOf db new
+pub fits-put : {db : Compiled} {old new : Streams} {name : List ℕ} {w : Option Stream} → AreStreamsOf db old → PutsStream old new name w → ((stream : Stream) → w ≡ Some stream → IsStreamOf db stream) → AreStreamsOf db new
 fits-put {db} {old} {new} {name} {w} fits puts this other stream at =
     elim (same_or_not other name) [
       | inl is ↦ this stream (sym puts.here ∙ (sym (ap (stream_at new) is) ∙ at))
@@ -99,35 +98,35 @@ fits-put {db} {old} {new} {name} {w} fits puts this other stream at =
 -- ---- the machine
 
 -- where no stream is, the machine has none
-pub follows-none : (db : Database) (P : List Pattern) (i : Option (List ℕ)) → Follows db P i None → i ≡ None
+pub follows-none : (db : Compiled) (P : List Pattern) (i : Option (List ℕ)) → Follows db P i None → i ≡ None
 follows-none db P None f = refl
 follows-none db P (Some h) f = absurd f
 
 -- a stream with what came of it
-pub record HasHistory (db : Database) (P : List Pattern) (i : Option (List ℕ)) (stream : Stream) : Type 0 where
+pub record HasHistory (db : Compiled) (P : List Pattern) (i : Option (List ℕ)) (stream : Stream) : Type 0 where
   pub h : List ℕ
   pub is : i ≡ Some h
   pub stands : Stands db P h stream
 
-pub follows-some : (db : Database) (P : List Pattern) (i : Option (List ℕ)) (stream : Stream) → Follows db P i (Some stream) → HasHistory db P i stream
+pub follows-some : (db : Compiled) (P : List Pattern) (i : Option (List ℕ)) (stream : Stream) → Follows db P i (Some stream) → HasHistory db P i stream
 follows-some db P None stream f = absurd f
 follows-some db P (Some h) stream f = record { h = h; is = refl; stands = f }
 
 -- as many are open there as here
-follows-count : (db : Database) (P : List Pattern) (i : Option (List ℕ)) (w : Option Stream) → Follows db P i w → opens i ≡ has_stream w
+follows-count : (db : Compiled) (P : List Pattern) (i : Option (List ℕ)) (w : Option Stream) → Follows db P i w → opens i ≡ has_stream w
 follows-count db P None None f = refl
 follows-count db P None (Some stream) f = absurd f
 follows-count db P (Some h) None f = absurd f
 follows-count db P (Some h) (Some stream) f = refl
 
 -- the machine's stream moves, and the stream here is then that of the machine
-pub record IsMoved (db : Database) (P : List Pattern) (count : ℕ) (i : Option (List ℕ)) (action : Action) (answer : Answer) (w : Option Stream) : Type 0 where
+pub record IsMoved (db : Compiled) (P : List Pattern) (count : ℕ) (i : Option (List ℕ)) (action : Action) (answer : Answer) (w : Option Stream) : Type 0 where
   pub h : Option (List ℕ)
   pub moves : Moves P count i action answer h
   pub follows : Follows db P h w
 
 -- one action on the stream of one name
-pub performs-move : {db : Database} {old now : Streams} (action : Action) (answer : Answer) (w : Option Stream) → PutsStream old now (name_of action) w → ((P : List Pattern) (i : Option (List ℕ)) → IsDatabaseOf db P → Follows db P i (stream_at old (name_of action)) → IsMoved db P (count_of old) i action answer w) → Performs db old now (action ∷ []) (answer ∷ [])
+pub performs-move : {db : Compiled} {old now : Streams} (action : Action) (answer : Answer) (w : Option Stream) → PutsStream old now (name_of action) w → ((P : List Pattern) (i : Option (List ℕ)) → RunsPatterns db P → Follows db P i (stream_at old (name_of action)) → IsMoved db P (count_of old) i action answer w) → Performs db old now (action ∷ []) (answer ∷ [])
 performs-move {db} {old} {now} action answer w puts moved P m is tracks =
     record {
       after = after;
@@ -161,7 +160,7 @@ performs-move {db} {old} {now} action answer w puts moved P m is tracks =
         ]
 
 -- an action on a name that isn't open, which leaves it so
-pub performs-unopened : {db : Database} {old now : Streams} (action : Action) (answer : Answer) → stream_at old (name_of action) ≡ None → PutsStream old now (name_of action) None → ((P : List Pattern) → Moves P (count_of old) None action answer None) → Performs db old now (action ∷ []) (answer ∷ [])
+pub performs-unopened : {db : Compiled} {old now : Streams} (action : Action) (answer : Answer) → stream_at old (name_of action) ≡ None → PutsStream old now (name_of action) None → ((P : List Pattern) → Moves P (count_of old) None action answer None) → Performs db old now (action ∷ []) (answer ∷ [])
 performs-unopened {db} {old} action answer unknown puts moves =
     performs-move action answer None puts
     (λ P i is f.
@@ -169,7 +168,7 @@ performs-unopened {db} {old} action answer unknown puts moves =
     record { h = None; moves = subst (λ j. Moves P (count_of old) j action answer None) (sym none) (moves P); follows = tt })
 
 -- an action on an open stream
-pub performs-opened : {db : Database} {old now : Streams} (action : Action) (answer : Answer) (stream : Stream) (w : Option Stream) → stream_at old (name_of action) ≡ Some stream → PutsStream old now (name_of action) w → ((P : List Pattern) (h : List ℕ) → IsDatabaseOf db P → Stands db P h stream → IsMoved db P (count_of old) (Some h) action answer w) → Performs db old now (action ∷ []) (answer ∷ [])
+pub performs-opened : {db : Compiled} {old now : Streams} (action : Action) (answer : Answer) (stream : Stream) (w : Option Stream) → stream_at old (name_of action) ≡ Some stream → PutsStream old now (name_of action) w → ((P : List Pattern) (h : List ℕ) → RunsPatterns db P → Stands db P h stream → IsMoved db P (count_of old) (Some h) action answer w) → Performs db old now (action ∷ []) (answer ∷ [])
 performs-opened {db} {old} action answer stream w known puts moved =
     performs-move action answer w puts
     (λ P i is f.
@@ -178,12 +177,12 @@ performs-opened {db} {old} action answer stream w known puts moved =
 
 -- ---- the commands
 
-pub performs-exists : {db : Database} {streams : Streams} (name : List ℕ) (stream : Stream) → stream_at streams name ≡ Some stream → Performs db streams streams (Open name ∷ []) (refused verb.Open word.Exists ∷ [])
+pub performs-exists : {db : Compiled} {streams : Streams} (name : List ℕ) (stream : Stream) → stream_at streams name ≡ Some stream → Performs db streams streams (Open name ∷ []) (refused verb.Open word.Exists ∷ [])
 performs-exists {db} {streams} name stream known =
     performs-opened (Open name) (refused verb.Open word.Exists) stream (Some stream) known (puts-same streams name (Some stream) known)
     (λ P h is stands. record { h = Some h; moves = move.exists; follows = stands })
 
-pub performs-open : {db : Database} {old now : Streams} (name : List ℕ) → stream_at old name ≡ None → count_of old < most_streams → Adds db old now name → Performs db old now (Open name ∷ []) (done verb.Open [] None ∷ [])
+pub performs-open : {db : Compiled} {old now : Streams} (name : List ℕ) → stream_at old name ≡ None → count_of old < most_streams → Adds db old now name → Performs db old now (Open name ∷ []) (done verb.Open [] None ∷ [])
 performs-open {db} {old} name unknown room adds =
     performs-move (Open name) (done verb.Open [] None) (Some adds.stream) adds.puts
     (λ P i is f.
@@ -194,7 +193,7 @@ performs-open {db} {old} name unknown room adds =
       follows = fresh-stands db P adds.stream is adds.fresh;
     })
 
-pub performs-reset : {db : Database} {old now : Streams} (name : List ℕ) (stream stream' : Stream) (pairs : List Pair) → stream_at old name ≡ Some stream → PutsStream old now name (Some stream') → IsFresh db stream' → Closes db stream pairs → Performs db old now (Reset name ∷ []) (done verb.Reset pairs None ∷ [])
+pub performs-reset : {db : Compiled} {old now : Streams} (name : List ℕ) (stream stream' : Stream) (pairs : List Pair) → stream_at old name ≡ Some stream → PutsStream old now name (Some stream') → IsFresh db stream' → Closes db stream pairs → Performs db old now (Reset name ∷ []) (done verb.Reset pairs None ∷ [])
 performs-reset {db} {old} name stream stream' pairs known puts fresh ends =
     performs-opened (Reset name) (done verb.Reset pairs None) stream (Some stream') known puts
     (λ P h is stands. record {
@@ -203,7 +202,7 @@ performs-reset {db} {old} name stream stream' pairs known puts fresh ends =
       follows = fresh-stands db P stream' is fresh;
     })
 
-pub performs-close : {db : Database} {old now : Streams} (name : List ℕ) (stream : Stream) (pairs : List Pair) → stream_at old name ≡ Some stream → PutsStream old now name None → Closes db stream pairs → Performs db old now (Close name ∷ []) (done verb.Close pairs None ∷ [])
+pub performs-close : {db : Compiled} {old now : Streams} (name : List ℕ) (stream : Stream) (pairs : List Pair) → stream_at old name ≡ Some stream → PutsStream old now name None → Closes db stream pairs → Performs db old now (Close name ∷ []) (done verb.Close pairs None ∷ [])
 performs-close {db} {old} name stream pairs known puts ends =
     performs-opened (Close name) (done verb.Close pairs None) stream None known puts
     (λ P h is stands. record { h = None; moves = move.closed (end-last db P h stream pairs stands ends); follows = tt })
@@ -212,21 +211,21 @@ performs-close {db} {old} name stream pairs known puts ends =
 pub takes-weaker : {V : Type 0} {Tells : V → ℕ → ℕ → V → Type 0} {start end : V} {Holds Weaker : List Pair → Type 0} → Takes Tells start end Holds → ((pairs : List Pair) → Holds pairs → Weaker pairs) → Takes Tells start end Weaker
 takes-weaker takes weaker = record { pairs = takes.pairs; through = takes.through; holds = weaker takes.pairs takes.holds }
 
-pub performs-full : {db : Database} {streams : Streams} (name : List ℕ) → stream_at streams name ≡ None → most_streams ≤ count_of streams → Performs db streams streams (Open name ∷ []) (refused verb.Open word.Full ∷ [])
+pub performs-full : {db : Compiled} {streams : Streams} (name : List ℕ) → stream_at streams name ≡ None → most_streams ≤ count_of streams → Performs db streams streams (Open name ∷ []) (refused verb.Open word.Full ∷ [])
 performs-full {db} {streams} name unknown full =
     performs-unopened (Open name) (refused verb.Open word.Full) unknown (puts-same streams name None unknown) (λ P. move.full full)
 
-pub performs-memory : {db : Database} {old now : Streams} (name : List ℕ) → stream_at old name ≡ None → PutsStream old now name None → Performs db old now (Open name ∷ []) (refused verb.Open word.Memory ∷ [])
+pub performs-memory : {db : Compiled} {old now : Streams} (name : List ℕ) → stream_at old name ≡ None → PutsStream old now name None → Performs db old now (Open name ∷ []) (refused verb.Open word.Memory ∷ [])
 performs-memory name unknown puts = performs-unopened (Open name) (refused verb.Open word.Memory) unknown puts (λ P. move.memory)
 
-pub fits-added : {db : Database} {old now : Streams} {name : List ℕ} → AreStreamsOf db old → Adds db old now name → AreStreamsOf db now
+pub fits-added : {db : Compiled} {old now : Streams} {name : List ℕ} → AreStreamsOf db old → Adds db old now name → AreStreamsOf db now
 fits-added {db} fits adds = fits-put fits adds.puts (λ stream is. subst (λ s. IsStreamOf db s) (same_stream is) adds.fits)
 
 -- where nothing was lent
-pub performs-reset_unknown : {db : Database} {old now : Streams} (name : List ℕ) → stream_at old name ≡ None → PutsStream old now name None → Performs db old now (Reset name ∷ []) (refused verb.Reset word.Unknown ∷ [])
+pub performs-reset_unknown : {db : Compiled} {old now : Streams} (name : List ℕ) → stream_at old name ≡ None → PutsStream old now name None → Performs db old now (Reset name ∷ []) (refused verb.Reset word.Unknown ∷ [])
 performs-reset_unknown name unknown puts = performs-unopened (Reset name) (refused verb.Reset word.Unknown) unknown puts (λ P. move.reset_unknown)
 
-pub performs-close_unknown : {db : Database} {old now : Streams} (name : List ℕ) → stream_at old name ≡ None → PutsStream old now name None → Performs db old now (Close name ∷ []) (refused verb.Close word.Unknown ∷ [])
+pub performs-close_unknown : {db : Compiled} {old now : Streams} (name : List ℕ) → stream_at old name ≡ None → PutsStream old now name None → Performs db old now (Close name ∷ []) (refused verb.Close word.Unknown ∷ [])
 performs-close_unknown name unknown puts = performs-unopened (Close name) (refused verb.Close word.Unknown) unknown puts (λ P. move.close_unknown)
 
 -- no report

@@ -9,7 +9,7 @@ use Rattle.hs_text.specs.declared.reply_lines.ScriptFault.TheVariants.{Script, T
 use Rattle.hs_text.specs.ReplyLines.{reply_line}
 use Rattle.hs_text.specs.Commands.{Order, IsCommand}
 use Rattle.hs_text.specs.Commands as order
-use Rattle.hs_compile.specs.declared.database.Database.{Database}
+use Rattle.hs_compile.specs.Databases.{Compiled}
 use Rattle.hs_script.specs.Actions.{Action, Write, IsAlone}
 use Rattle.hs_script.specs.Machine.{Answer}
 use Rattle.hs_script.specs.Runs.{named_line, answer_text, run_text, ending_text}
@@ -41,7 +41,7 @@ one_text_alone action answer = one_text action answer [] ∙ append-nil (answer_
 plainly : (x y : Option (List ℕ)) (f g text : List ℕ) (lost : Bool) → Passes lost x y f g text → Passes lost x y f g (text ++ [])
 plainly x y f g text lost sends = subst (λ t. Passes lost x y f g t) (sym (append-nil text)) sends
 
-module _ (db : Database) (line : List ℕ) (number : ℕ) (old new : Streams) where
+module _ (db : Compiled) (line : List ℕ) (number : ℕ) (old new : Streams) where
   -- one action ran
   one : {p q : Option (List ℕ)} {a b : Ahead} {x y : Option (List ℕ)} {f g : List ℕ} {seen : List ℕ} {action : Action} {answer : Answer} (lost : Bool) (how : How) → Consumes p q a b seen → IsBehind line number seen b.ended (action ∷ []) how → Performs db old new (action ∷ []) (answer ∷ []) → Passes lost x y f g (answer_text action answer ++ ending_text (fault_of how)) → Runs db line number old new p q a b x y f g lost how
   one {x = x} {y = y} {f = f} {g = g} {seen = seen} {action = action} {answer = answer} lost how consumes is performs sends =
@@ -85,7 +85,7 @@ was_false : (b : Bool) → not b ≡ true → b ≡ false
 was_false true e = absurd (false≢true e)
 was_false false e = refl
 
-module _ (db : Database) (number : ℕ) (old new : Streams) (line name : List ℕ) (count : ℕ) (command : IsCommand line (order.Write name count)) where
+module _ (db : Compiled) (number : ℕ) (old new : Streams) (line name : List ℕ) (count : ℕ) (command : IsCommand line (order.Write name count)) where
   -- the sink failed before all came, or when they had come
   write-sunk : {p q : Option (List ℕ)} {a b : Ahead} {x y : Option (List ℕ)} {f g : List ℕ} (taken : IsPayloadTaken db name count old new p q a b x y f g (Err stop.Write)) → (length taken.came < count) ⊎ (count ≤ length taken.came) → RunsSomehow (Runs db line number old new p q a b x y f g)
   write-sunk {g = g} taken (inl before) =
@@ -174,7 +174,7 @@ module _ (db : Database) (number : ℕ) (old new : Streams) (line name : List �
     write-unread stop.Write read reads takes at counts = absurd counts
 
 -- a line that is no command
-pub runs-none : (db : Database) (line : List ℕ) (number : ℕ) (streams : Streams) (p : Option (List ℕ)) (a : Ahead) (x y : Option (List ℕ)) (f g : List ℕ) (told : ScriptStop) → ((order : Order) → IsCommand line order → ⊥) → SendsFault (Script number) x y f g told → RunsBy (Runs db line number streams streams p p a a x y f g) (Err told)
+pub runs-none : (db : Compiled) (line : List ℕ) (number : ℕ) (streams : Streams) (p : Option (List ℕ)) (a : Ahead) (x y : Option (List ℕ)) (f g : List ℕ) (told : ScriptStop) → ((order : Order) → IsCommand line order → ⊥) → SendsFault (Script number) x y f g told → RunsBy (Runs db line number streams streams p p a a x y f g) (Err told)
 runs-none db line number streams p a x y f g told none sends =
     faulty (Runs db line number streams streams p p a a x y f g) x x y f f g [] (Script number) told
     (λ lost text. record {
@@ -190,12 +190,12 @@ runs-none db line number streams p a x y f g told none sends =
     (passed-nothing x f) sends
 
 -- a command that writes nothing, by what came of it
-pub runs-done : (db : Database) (line : List ℕ) (number : ℕ) (old new : Streams) (p : Option (List ℕ)) (a : Ahead) {x y : Option (List ℕ)} {f g : List ℕ} {order : Order} {action : Action} {result : Result (Unit {0}) ScriptStop} (written : Result (Unit {0}) Failed) → result ≡ done_of written → IsCommand line order → IsAlone order action → IsAnswered db action (is_err written) old new x y f g → RunsBy (Runs db line number old new p p a a x y f g) result
+pub runs-done : (db : Compiled) (line : List ℕ) (number : ℕ) (old new : Streams) (p : Option (List ℕ)) (a : Ahead) {x y : Option (List ℕ)} {f g : List ℕ} {order : Order} {action : Action} {result : Result (Unit {0}) ScriptStop} (written : Result (Unit {0}) Failed) → result ≡ done_of written → IsCommand line order → IsAlone order action → IsAnswered db action (is_err written) old new x y f g → RunsBy (Runs db line number old new p p a a x y f g) result
 runs-done db line number old new p a {x} {y} {f} {g} written is command no_write answered =
     subst (λ r. RunsBy (Runs db line number old new p p a a x y f g) r) (sym is) (runs-alone db line number old new p a written command no_write answered)
 
 -- it is so too where it is only known that what is ahead stayed the same
-pub runs-still : (db : Database) (line : List ℕ) (number : ℕ) (old new : Streams) (p q : Option (List ℕ)) (a b : Ahead) {x y : Option (List ℕ)} {f g : List ℕ} {order : Order} {action : Action} {result : Result (Unit {0}) ScriptStop} (written : Result (Unit {0}) Failed) → q ≡ p → b ≡ a → result ≡ done_of written → IsCommand line order → IsAlone order action → IsAnswered db action (is_err written) old new x y f g → RunsBy (Runs db line number old new p q a b x y f g) result
+pub runs-still : (db : Compiled) (line : List ℕ) (number : ℕ) (old new : Streams) (p q : Option (List ℕ)) (a b : Ahead) {x y : Option (List ℕ)} {f g : List ℕ} {order : Order} {action : Action} {result : Result (Unit {0}) ScriptStop} (written : Result (Unit {0}) Failed) → q ≡ p → b ≡ a → result ≡ done_of written → IsCommand line order → IsAlone order action → IsAnswered db action (is_err written) old new x y f g → RunsBy (Runs db line number old new p q a b x y f g) result
 runs-still db line number old new p q a b {x} {y} {f} {g} {result = result} written same_left same_ahead is command no_write answered =
     subst (λ l. RunsBy (Runs db line number old new p l a b x y f g) result) (sym same_left)
     (subst (λ r. RunsBy (Runs db line number old new p p a r x y f g) result) (sym same_ahead) (runs-done db line number old new p a written is command no_write answered))

@@ -5,8 +5,8 @@ use Rattle.hs_base.specs.Assertions.{line_feed}
 use Rattle.hs_base.specs.Patterns.{Pattern}
 use Rattle.hs_outside.specs.Source.{Gave, IsAtEnd}
 use Rattle.hs_text.specs.declared.reply_lines.ScriptFault.{ScriptFault}
-use Rattle.hs_compile.specs.declared.database.Database.{Database}
-use Rattle.hs_compile.specs.Databases.{IsDatabaseOf}
+use Rattle.hs_compile.specs.Databases.{Compiled}
+use Rattle.hs_stream.specs.Standing.{RunsPatterns}
 use Rattle.hs_script.specs.Actions.{Action, Write}
 use Rattle.hs_script.specs.Scripts.{BeginsLine, Goes as Going, Ends, written_by, IsFirst, IsScript}
 use Rattle.hs_script.specs.Scripts as script
@@ -93,7 +93,7 @@ first-faulty {line} {number} _ bytes rest (cut {name = name} {came = came} {coun
 -- ---- the script so far
 
 -- all commands up to here, with their lines
-pub record SoFar (db : Database) (number : ℕ) (before now : Option (List ℕ)) (ahead aheads : Ahead) (streams : Streams) (taken takes : Option (List ℕ)) (waited waits : List ℕ) (lost : Bool) : Type 0 where
+pub record SoFar (db : Compiled) (number : ℕ) (before now : Option (List ℕ)) (ahead aheads : Ahead) (streams : Streams) (taken takes : Option (List ℕ)) (waited waits : List ℕ) (lost : Bool) : Type 0 where
   pub seen : List ℕ
   pub actions : List Action
   pub answers : List Answer
@@ -102,10 +102,10 @@ pub record SoFar (db : Database) (number : ℕ) (before now : Option (List ℕ))
   pub few : length actions ≤ length seen
   pub script : (rest : List ℕ) (following : List Action) (ending : Option ScriptFault) → MayCome aheads.ended rest → IsScript number rest following ending → IsScript 1 (seen ++ rest) (actions ++ following) ending
   pub paired : length actions ≡ length answers
-  pub leads : (P : List Pattern) → IsDatabaseOf db P → Leads db P start streams actions answers
+  pub leads : (P : List Pattern) → RunsPatterns db P → Leads db P start streams actions answers
   pub sends : Passes lost taken takes waited waits (run_text actions answers)
 
-pub so_far-start : (db : Database) (left : Option (List ℕ)) (ahead : Ahead) (streams : Streams) (taken : Option (List ℕ)) (waited : List ℕ) → ((name : List ℕ) → stream_at streams name ≡ None) → count_of streams ≡ 0 → SoFar db 1 left left ahead ahead streams taken taken waited waited false
+pub so_far-start : (db : Compiled) (left : Option (List ℕ)) (ahead : Ahead) (streams : Streams) (taken : Option (List ℕ)) (waited : List ℕ) → ((name : List ℕ) → stream_at streams name ≡ None) → count_of streams ≡ 0 → SoFar db 1 left left ahead ahead streams taken taken waited waited false
 so_far-start db left ahead streams taken waited none empty = record {
   seen = [];
   actions = [];
@@ -135,14 +135,14 @@ pub line-long : {p q : Option (List ℕ)} {a b : Ahead} {kept : List ℕ} (line 
 line-long line = omega (arith, line.consumes.here, filled line.seen (line-some line))
 
 -- all that the machine did
-leads-join : {db : Database} {old new : Streams} {xs ys : List Action} {ss bs : List Answer} → ((P : List Pattern) → IsDatabaseOf db P → Leads db P start old xs ss) → Performs db old new ys bs → (P : List Pattern) → IsDatabaseOf db P → Leads db P start new (xs ++ ys) (ss ++ bs)
+leads-join : {db : Compiled} {old new : Streams} {xs ys : List Action} {ss bs : List Answer} → ((P : List Pattern) → RunsPatterns db P → Leads db P start old xs ss) → Performs db old new ys bs → (P : List Pattern) → RunsPatterns db P → Leads db P start new (xs ++ ys) (ss ++ bs)
 leads-join first then P is =
     let one = first P is in
     let two = then P one.after is one.tracks in
     record { after = two.after; run = run_join one.run two.run; tracks = two.tracks }
 
 -- the next command
-pub so_far-next : {db : Database} {number : ℕ} {p q r s : Option (List ℕ)} {a b c d : Ahead} {kept : List ℕ} {old new : Streams} {x y z : Option (List ℕ)} {f g h : List ℕ} (lost : Bool) → SoFar db number p q a b old x y f g false → (line : IsLineRead q r b c kept) → Runs db line.line number old new r s c d y z g h lost Goes → SoFar db (suc number) p s a d new x z f h lost
+pub so_far-next : {db : Compiled} {number : ℕ} {p q r s : Option (List ℕ)} {a b c d : Ahead} {kept : List ℕ} {old new : Streams} {x y z : Option (List ℕ)} {f g h : List ℕ} (lost : Bool) → SoFar db number p q a b old x y f g false → (line : IsLineRead q r b c kept) → Runs db line.line number old new r s c d y z g h lost Goes → SoFar db (suc number) p s a d new x z f h lost
 so_far-next {db} {number} {d = d} {x = x} {y = y} {z = z} {f = f} {g = g} {h = h} lost so_far line runs =
     record {
       seen = so_far.seen ++ (line.seen ++ runs.seen);
@@ -183,7 +183,7 @@ so_far-next {db} {number} {d = d} {x = x} {y = y} {z = z} {f = f} {g = g} {h = h
         (sym (append_assoc so_far.seen (line.seen ++ runs.seen) rest ∙ ap (λ l. so_far.seen ++ l) (append_assoc line.seen runs.seen rest))) all)
 
 -- what waits was written behind it, or some of that
-pub so_far-sent : {db : Database} {number : ℕ} {p q : Option (List ℕ)} {a b : Ahead} {streams : Streams} {x y z : Option (List ℕ)} {f g h : List ℕ} (lost : Bool) → SoFar db number p q a b streams x y f g false → Passes lost y z g h [] → SoFar db number p q a b streams x z f h lost
+pub so_far-sent : {db : Compiled} {number : ℕ} {p q : Option (List ℕ)} {a b : Ahead} {streams : Streams} {x y z : Option (List ℕ)} {f g h : List ℕ} (lost : Bool) → SoFar db number p q a b streams x y f g false → Passes lost y z g h [] → SoFar db number p q a b streams x z f h lost
 so_far-sent {x = x} {y = y} {z = z} {f = f} {g = g} {h = h} lost so_far sent = record {
   seen = so_far.seen;
   actions = so_far.actions;
@@ -200,12 +200,12 @@ so_far-sent {x = x} {y = y} {z = z} {f = f} {g = g} {h = h} lost so_far sent = r
 }
 
 -- counted as it is counted
-pub so_far-numbered : {db : Database} {n m : ℕ} {p q : Option (List ℕ)} {a b : Ahead} {streams : Streams} {x y : Option (List ℕ)} {f g : List ℕ} {lost : Bool} → m ≡ n → SoFar db n p q a b streams x y f g lost → SoFar db m p q a b streams x y f g lost
+pub so_far-numbered : {db : Compiled} {n m : ℕ} {p q : Option (List ℕ)} {a b : Ahead} {streams : Streams} {x y : Option (List ℕ)} {f g : List ℕ} {lost : Bool} → m ≡ n → SoFar db n p q a b streams x y f g lost → SoFar db m p q a b streams x y f g lost
 so_far-numbered {db} {p = p} {q = q} {a = a} {b = b} {streams = streams} {x = x} {y = y} {f = f} {g = g} {lost = lost} same so_far =
     subst (λ k. SoFar db k p q a b streams x y f g lost) (sym same) so_far
 
 -- for the same database
-pub so_far-same : {db db' : Database} {n : ℕ} {p q : Option (List ℕ)} {a b : Ahead} {streams : Streams} {x y : Option (List ℕ)} {f g : List ℕ} {lost : Bool} → db ≡ db' → SoFar db n p q a b streams x y f g lost → SoFar db' n p q a b streams x y f g lost
+pub so_far-same : {db db' : Compiled} {n : ℕ} {p q : Option (List ℕ)} {a b : Ahead} {streams : Streams} {x y : Option (List ℕ)} {f g : List ℕ} {lost : Bool} → db ≡ db' → SoFar db n p q a b streams x y f g lost → SoFar db' n p q a b streams x y f g lost
 so_far-same {n = n} {p = p} {q = q} {a = a} {b = b} {streams = streams} {x = x} {y = y} {f = f} {g = g} {lost = lost} same so_far =
     subst (λ d. SoFar d n p q a b streams x y f g lost) same so_far
 
@@ -256,14 +256,14 @@ abbrev pub fresh : Ahead
 fresh = record { bytes = []; at = 0; ended = false }
 
 -- where the end isn't told, any bytes may stand behind
-whole_of : {db : Database} {number : ℕ} {p q : Option (List ℕ)} {a b : Ahead} {streams : Streams} {x y : Option (List ℕ)} {f g : List ℕ} {lost : Bool} (so_far : SoFar db number p q a b streams x y f g lost) → b.ended ≡ false → (next : List ℕ) (following : List Action) (ending : Option ScriptFault) → IsScript (suc (length so_far.actions)) next following ending → IsScript 1 (so_far.seen ++ next) (so_far.actions ++ following) ending
+whole_of : {db : Compiled} {number : ℕ} {p q : Option (List ℕ)} {a b : Ahead} {streams : Streams} {x y : Option (List ℕ)} {f g : List ℕ} {lost : Bool} (so_far : SoFar db number p q a b streams x y f g lost) → b.ended ≡ false → (next : List ℕ) (following : List Action) (ending : Option ScriptFault) → IsScript (suc (length so_far.actions)) next following ending → IsScript 1 (so_far.seen ++ next) (so_far.actions ++ following) ending
 whole_of so_far goes_on next following ending s =
     so_far.script next following ending (λ e. absurd (false≢true (sym goes_on ∙ e))) (subst (λ n. IsScript n next following ending) (sym so_far.numbered) s)
 
 -- ---- how it ends
 
 -- all of it ran
-pub finished-end : {db : Database} {number : ℕ} {p q : Option (List ℕ)} {a : Ahead} {streams : Streams} {x y : Option (List ℕ)} {f g : List ℕ} {lost : Bool} (so_far : SoFar db number p q fresh a streams x y f g lost) (is : IsGiven p q a so_far.seen) → a.ended ≡ true → Finished db is.taken true None (run_text so_far.actions so_far.answers)
+pub finished-end : {db : Compiled} {number : ℕ} {p q : Option (List ℕ)} {a : Ahead} {streams : Streams} {x y : Option (List ℕ)} {f g : List ℕ} {lost : Bool} (so_far : SoFar db number p q fresh a streams x y f g lost) (is : IsGiven p q a so_far.seen) → a.ended ≡ true → Finished db is.taken true None (run_text so_far.actions so_far.answers)
 finished-end {db} {a = a} so_far is ended = record {
   answers = so_far.answers;
   runs = λ P rest of_P may.
@@ -285,7 +285,7 @@ finished-end {db} {a = a} so_far is ended = record {
 }
 
 -- the commands so far, and no more of the next one
-pub begun-so_far : {db : Database} {number : ℕ} {p q : Option (List ℕ)} {a : Ahead} {streams : Streams} {x y : Option (List ℕ)} {f g : List ℕ} {lost : Bool} (so_far : SoFar db number p q fresh a streams x y f g lost) (is : IsGiven p q a so_far.seen) → a.ended ≡ false → Begun db is.taken is.unread (run_text so_far.actions so_far.answers)
+pub begun-so_far : {db : Compiled} {number : ℕ} {p q : Option (List ℕ)} {a : Ahead} {streams : Streams} {x y : Option (List ℕ)} {f g : List ℕ} {lost : Bool} (so_far : SoFar db number p q fresh a streams x y f g lost) (is : IsGiven p q a so_far.seen) → a.ended ≡ false → Begun db is.taken is.unread (run_text so_far.actions so_far.answers)
 begun-so_far {db} {number} {a = a} so_far is goes_on = record {
   front = so_far.seen;
   rest = [];
@@ -302,7 +302,7 @@ begun-so_far {db} {number} {a = a} so_far is goes_on = record {
 }
 
 -- some of a line behind them
-pub begun-line : {db : Database} {number : ℕ} {p q r : Option (List ℕ)} {a b : Ahead} {streams : Streams} {x y : Option (List ℕ)} {f g : List ℕ} {lost : Bool} (so_far : SoFar db number p q fresh a streams x y f g lost) (line : IsLineBegun q r a b) (is : IsGiven p r b (so_far.seen ++ line.part)) → Begun db is.taken is.unread (run_text so_far.actions so_far.answers)
+pub begun-line : {db : Compiled} {number : ℕ} {p q r : Option (List ℕ)} {a b : Ahead} {streams : Streams} {x y : Option (List ℕ)} {f g : List ℕ} {lost : Bool} (so_far : SoFar db number p q fresh a streams x y f g lost) (line : IsLineBegun q r a b) (is : IsGiven p r b (so_far.seen ++ line.part)) → Begun db is.taken is.unread (run_text so_far.actions so_far.answers)
 begun-line {db} {number} {a = a} so_far line is = record {
   front = so_far.seen;
   rest = line.part;
@@ -322,7 +322,7 @@ begun-line {db} {number} {a = a} so_far line is = record {
 two_texts : (xs ys : List Action) (ss bs : List Answer) (end : List ℕ) → length xs ≡ length ss → run_text xs ss ++ (run_text ys bs ++ end) ≡ run_text (xs ++ ys) (ss ++ bs) ++ end
 two_texts xs ys ss bs end e = sym (append_assoc (run_text xs ss) (run_text ys bs) end) ∙ ap (λ t. t ++ end) (sym (text-join xs ys ss bs e))
 
-module _ {db : Database} {number : ℕ} {p q r s : Option (List ℕ)} {a b c : Ahead} {kept : List ℕ} {old new : Streams} {x y z : Option (List ℕ)} {f g h : List ℕ} (lost : Bool) (so_far : SoFar db number p q fresh a old x y f g false) (line : IsLineRead q r a b kept) where
+module _ {db : Compiled} {number : ℕ} {p q r s : Option (List ℕ)} {a b c : Ahead} {kept : List ℕ} {old new : Streams} {x y z : Option (List ℕ)} {f g h : List ℕ} (lost : Bool) (so_far : SoFar db number p q fresh a old x y f g false) (line : IsLineRead q r a b kept) where
   -- some of a command behind them
   pub begun-part : (runs : Runs db line.line number old new r s b c y z g h lost Part) (is : IsGiven p s c (so_far.seen ++ (line.seen ++ runs.seen))) → Begun db is.taken is.unread (run_text so_far.actions so_far.answers ++ (run_text runs.actions runs.answers ++ []))
   begun-part runs is = record {

@@ -5,8 +5,8 @@ use Rattle.hs_base.specs.Patterns.{Pattern}
 use Rattle.hs_outside.specs.Source.{Gave, IsAtEnd, IsWhole}
 use Rattle.hs_outside.specs.Sink.{Took, TookPrefix}
 use Rattle.hs_text.specs.declared.reply_lines.ScriptFault.{ScriptFault}
-use Rattle.hs_compile.specs.declared.database.Database.{Database}
-use Rattle.hs_compile.specs.Databases.{IsDatabaseOf}
+use Rattle.hs_compile.specs.Databases.{Compiled}
+use Rattle.hs_stream.specs.Standing.{RunsPatterns}
 use Rattle.hs_tool.specs.declared.session.fault.ScriptStop.{ScriptStop}
 use Rattle.hs_reader.specs.Reading.{MayCome}
 use Rattle.hs_tool.specs.Serving as serving
@@ -36,7 +36,7 @@ whole_of (Some all) None taken gave = absurd gave
 whole_of (Some all) (Some rest) taken gave = gave
 
 -- the text of a script that was run to its end or its fault
-pub text_over : {db : Database} {P : List Pattern} {left : Option (List ℕ)} (lefts : Option (List ℕ)) {taken : List ℕ} {ended : Bool} {ending : Option ScriptFault} {text : List ℕ} → IsDatabaseOf db P → Gave left lefts taken → (ended ≡ true → IsAtEnd lefts) → Finished db taken ended ending text → IsTextOver P left ending text
+pub text_over : {db : Compiled} {P : List Pattern} {left : Option (List ℕ)} (lefts : Option (List ℕ)) {taken : List ℕ} {ended : Bool} {ending : Option ScriptFault} {text : List ℕ} → RunsPatterns db P → Gave left lefts taken → (ended ≡ true → IsAtEnd lefts) → Finished db taken ended ending text → IsTextOver P left ending text
 text_over {P = P} {left = left} lefts {taken = taken} {ended = ended} of gave settled finished = record {
   bytes = taken ++ rest_of lefts;
   whole = whole_of left lefts taken gave;
@@ -45,7 +45,7 @@ text_over {P = P} {left = left} lefts {taken = taken} {ended = ended} of gave se
 }
 
 -- the text of a script of which the first bytes were looked at
-text_so_far : {db : Database} {P : List Pattern} {taken unread text : List ℕ} (bytes : List ℕ) → IsDatabaseOf db P → (begun : Begun db taken unread text) → bytes ≡ begun.front ++ begun.rest → IsTextSoFar P bytes text
+text_so_far : {db : Compiled} {P : List Pattern} {taken unread text : List ℕ} (bytes : List ℕ) → RunsPatterns db P → (begun : Begun db taken unread text) → bytes ≡ begun.front ++ begun.rest → IsTextSoFar P bytes text
 text_so_far {P = P} bytes of begun split = record {
   front = begun.front;
   rest = begun.rest;
@@ -60,7 +60,7 @@ text_so_far {P = P} bytes of begun split = record {
 }
 
 -- all bytes that were taken were looked at
-answered : {db : Database} {P : List Pattern} {left lefts out outs : Option (List ℕ)} {taken text : List ℕ} → IsDatabaseOf db P → Gave left lefts taken → Begun db taken [] text → Took out outs text → HasAnswered P taken left lefts out outs
+answered : {db : Compiled} {P : List Pattern} {left lefts out outs : Option (List ℕ)} {taken text : List ℕ} → RunsPatterns db P → Gave left lefts taken → Begun db taken [] text → Took out outs text → HasAnswered P taken left lefts out outs
 answered {taken = taken} {text = text} of gave begun took = record {
   given = gave;
   text = text;
@@ -68,7 +68,7 @@ answered {taken = taken} {text = text} of gave begun took = record {
   taken = took;
 }
 
-some_text : {db : Database} {P : List Pattern} {left lefts : Option (List ℕ)} {taken text : List ℕ} → IsDatabaseOf db P → Gave left lefts taken → SoFar db taken lefts text → IsSomeText P left lefts text
+some_text : {db : Compiled} {P : List Pattern} {left lefts : Option (List ℕ)} {taken text : List ℕ} → RunsPatterns db P → Gave left lefts taken → SoFar db taken lefts text → IsSomeText P left lefts text
 some_text {left = left} {lefts = lefts} of gave (serving.begun unread begun) =
     Streaming.part (begun.front ++ begun.rest) unread
     (subst (λ (xs : List ℕ). Gave left lefts xs) (begun.split ∙ sym (append_assoc begun.front begun.rest unread)) gave)
@@ -88,7 +88,7 @@ abbrev pub outcome_of_stop : Result (Unit {0}) ScriptStop → Option Cause
 outcome_of_stop (Ok done) = None
 outcome_of_stop (Err stop) = Some (cause_of_stop stop)
 
-pub stream_ends : (db : Database) (database : List ℕ) (before now : Outside) (input inputs : Input) (entries : List ListedEntry) (P : List Pattern) (result : Result (Unit {0}) ScriptStop) → HasList database_file (before.told database) entries P → IsDatabaseOf db P → now.stored ≡ before.stored →
+pub stream_ends : (db : Compiled) (database : List ℕ) (before now : Outside) (input inputs : Input) (entries : List ListedEntry) (P : List Pattern) (result : Result (Unit {0}) ScriptStop) → HasList database_file (before.told database) entries P → RunsPatterns db P → now.stored ≡ before.stored →
     ScriptEnds db input.left inputs.left (λ text. Took before.out now.out text) (λ text. TookPrefix before.out now.out text) result → EndCounts input.faults inputs.faults before.sunk now.sunk result →
     StreamEnds database before now input inputs (outcome_of_stop result)
 stream_ends db database before now input inputs entries P _ has of same (serving.complete taken text gave end finished took) counts =
@@ -110,7 +110,7 @@ stream_ends db database before now input inputs entries P _ has of same (serving
     (ap₂ (λ (l : Option (List ℕ)) (n : ℕ). record { left = l; faults = n }) (gave-none input.left inputs.left gave) counts.source)
 
 -- the script stopped by this cause
-pub stream_stops : (db : Database) (database : List ℕ) (before now : Outside) (input inputs : Input) (entries : List ListedEntry) (P : List Pattern) (stop : ScriptStop) (cause : Cause) → cause ≡ cause_of_stop stop → HasList database_file (before.told database) entries P → IsDatabaseOf db P → now.stored ≡ before.stored →
+pub stream_stops : (db : Compiled) (database : List ℕ) (before now : Outside) (input inputs : Input) (entries : List ListedEntry) (P : List Pattern) (stop : ScriptStop) (cause : Cause) → cause ≡ cause_of_stop stop → HasList database_file (before.told database) entries P → RunsPatterns db P → now.stored ≡ before.stored →
     ScriptEnds db input.left inputs.left (λ text. Took before.out now.out text) (λ text. TookPrefix before.out now.out text) (Err stop) → EndCounts input.faults inputs.faults before.sunk now.sunk (Err stop) →
     StreamEnds database before now input inputs (Some cause)
 stream_stops db database before now input inputs entries P stop cause is has of same ends counts =

@@ -5,7 +5,7 @@ use Rattle.hs_text.specs.declared.commands.Verb.TheVariants as verb
 use Rattle.hs_text.specs.declared.reply_lines.Word.TheVariants as word
 use Rattle.hs_text.specs.declared.reply_lines.Reply.{Reply}
 use Rattle.hs_text.specs.declared.reply_lines.Reply.TheVariants.{No}
-use Rattle.hs_compile.specs.declared.database.Database.{Database}
+use Rattle.hs_compile.specs.Databases.{Compiled}
 use Rattle.hs_stream.specs.declared.stream.Stream.{Stream}
 use Rattle.hs_stream.specs.Standing.{Stands}
 use Rattle.hs_stream.proofs.StandLemmas.{write-moves}
@@ -24,12 +24,12 @@ use Rattle.hs_lines.proofs.PassLemmas.{passed-nothing}
 use Rattle.hs_tool.proofs.OpenLemmas.{performs-unopened, performs-opened}
 
 -- all came
-pub performs-written : {db : Database} {old now : Streams} {stream stream' : Stream} {pairs : List Pair} {reply : Reply} (name : List ℕ) (count : ℕ) (came : List ℕ) → stream_at old name ≡ Some stream → PutsStream old now name (Some stream') → Turns db count stream stream' came pairs reply → length came ≡ count → Performs db old now (Write name came ∷ []) (record { reports = pairs; reply = Some reply } ∷ [])
+pub performs-written : {db : Compiled} {old now : Streams} {stream stream' : Stream} {pairs : List Pair} {reply : Reply} (name : List ℕ) (count : ℕ) (came : List ℕ) → stream_at old name ≡ Some stream → PutsStream old now name (Some stream') → Turns db count stream stream' came pairs reply → length came ≡ count → Performs db old now (Write name came ∷ []) (record { reports = pairs; reply = Some reply } ∷ [])
 performs-written {db} {old} {now} {stream} {stream'} name count came known puts (too_long long same) all =
     performs-opened (Write name came) (refused verb.Write word.Length) stream (Some stream') known puts
     (λ P h is stands. record {
       h = Some h;
-      moves = move.too_long (omega (arith, long, all, stands.state.offset));
+      moves = move.too_long (omega (arith, long, all, stands.behind.region.offset));
       follows = subst (λ s. Stands db P h s) (sym same) stands;
     })
 performs-written {db} {old} {now} {stream} {stream'} name count came known puts (turned {pairs = pairs} room writes) all =
@@ -37,24 +37,24 @@ performs-written {db} {old} {now} {stream} {stream'} name count came known puts 
     (performs-opened (Write name came) (done verb.Write pairs (Some (length came))) stream (Some stream') known puts
     (λ P h is stands. record {
       h = Some (h ++ came);
-      moves = move.written (omega (arith, room, all, stands.state.offset)) (write-moves db P h came stream stream' pairs stands writes).reports;
+      moves = move.written (omega (arith, room, all, stands.behind.region.offset)) (write-moves db P h came stream stream' pairs stands writes).reports;
       follows = (write-moves db P h came stream stream' pairs stands writes).stands;
     }))
 
 -- not all, or it isn't known
-pub performs-cut : {db : Database} {old now : Streams} {stream stream' : Stream} {pairs : List Pair} {reply : Reply} (name : List ℕ) (count : ℕ) (came : List ℕ) → stream_at old name ≡ Some stream → PutsStream old now name (Some stream') → Turns db count stream stream' came pairs reply → Performs db old now (Cut name count came ∷ []) (unanswered pairs ∷ [])
+pub performs-cut : {db : Compiled} {old now : Streams} {stream stream' : Stream} {pairs : List Pair} {reply : Reply} (name : List ℕ) (count : ℕ) (came : List ℕ) → stream_at old name ≡ Some stream → PutsStream old now name (Some stream') → Turns db count stream stream' came pairs reply → Performs db old now (Cut name count came ∷ []) (unanswered pairs ∷ [])
 performs-cut {db} {old} {now} {stream} {stream'} name count came known puts (too_long long same) =
     performs-opened (Cut name count came) (unanswered []) stream (Some stream') known puts
     (λ P h is stands. record {
       h = Some h;
-      moves = move.cut_too_long (omega (arith, long, stands.state.offset));
+      moves = move.cut_too_long (omega (arith, long, stands.behind.region.offset));
       follows = subst (λ s. Stands db P h s) (sym same) stands;
     })
 performs-cut {db} {old} {now} {stream} {stream'} name count came known puts (turned {pairs = pairs} room writes) =
     performs-opened (Cut name count came) (unanswered pairs) stream (Some stream') known puts
     (λ P h is stands. record {
       h = Some (h ++ came);
-      moves = move.cut_written (omega (arith, room, stands.state.offset)) (write-moves db P h came stream stream' pairs stands writes).reports;
+      moves = move.cut_written (omega (arith, room, stands.behind.region.offset)) (write-moves db P h came stream stream' pairs stands writes).reports;
       follows = (write-moves db P h came stream stream' pairs stands writes).stands;
     })
 
@@ -63,7 +63,7 @@ pub sends-none : (lost : Bool) (taken : Option (List ℕ)) (waited : List ℕ) �
 sends-none lost taken waited kept = subst (λ b. Passes b taken taken waited waited []) (sym kept) (passed-nothing taken waited)
 
 -- the stream isn't open
-pub payload-unknown : {db : Database} {old now : Streams} {name : List ℕ} {count : ℕ} {before after : Option (List ℕ)} {ahead aheads : Ahead} {outcome : Result Payload Break} (key : List ℕ) (out : Option (List ℕ)) (waited : List ℕ) → key ≡ name → stream_at old key ≡ None → PutsStream old now key None → IsPayloadRefused word.Unknown count before after ahead aheads outcome → IsPayloadTaken db name count old now before after ahead aheads out out waited waited outcome
+pub payload-unknown : {db : Compiled} {old now : Streams} {name : List ℕ} {count : ℕ} {before after : Option (List ℕ)} {ahead aheads : Ahead} {outcome : Result Payload Break} (key : List ℕ) (out : Option (List ℕ)) (waited : List ℕ) → key ≡ name → stream_at old key ≡ None → PutsStream old now key None → IsPayloadRefused word.Unknown count before after ahead aheads outcome → IsPayloadTaken db name count old now before after ahead aheads out out waited waited outcome
 payload-unknown {db} {old} {now} {name} {count} {outcome = outcome} key out waited same unknown puts refuses =
     let came = refuses.come.came in
     let none : stream_at old name ≡ None = subst (λ n. stream_at old n ≡ None) same unknown in
@@ -80,7 +80,7 @@ payload-unknown {db} {old} {now} {name} {count} {outcome = outcome} key out wait
     }
 
 -- the stream is open
-pub payload-known : {db : Database} {old now : Streams} {name : List ℕ} {count : ℕ} {stream stream' : Stream} {before after : Option (List ℕ)} {ahead aheads : Ahead} {out outs : Option (List ℕ)} {waited waits : List ℕ} {outcome : Result Payload Break} (key : List ℕ) → key ≡ name → stream_at old key ≡ Some stream → PutsStream old now key (Some stream') → IsPayloadWritten db name count stream stream' before after ahead aheads out outs waited waits outcome → IsPayloadTaken db name count old now before after ahead aheads out outs waited waits outcome
+pub payload-known : {db : Compiled} {old now : Streams} {name : List ℕ} {count : ℕ} {stream stream' : Stream} {before after : Option (List ℕ)} {ahead aheads : Ahead} {out outs : Option (List ℕ)} {waited waits : List ℕ} {outcome : Result Payload Break} (key : List ℕ) → key ≡ name → stream_at old key ≡ Some stream → PutsStream old now key (Some stream') → IsPayloadWritten db name count stream stream' before after ahead aheads out outs waited waits outcome → IsPayloadTaken db name count old now before after ahead aheads out outs waited waits outcome
 payload-known {db} {old} {now} {name} {count} {stream} {stream'} key same known puts writes =
     let here : stream_at old name ≡ Some stream = subst (λ n. stream_at old n ≡ Some stream) same known in
     let put : PutsStream old now name (Some stream') = subst (λ n. PutsStream old now n (Some stream')) same puts in

@@ -4,11 +4,10 @@ use Rattle.std.specs.BTreeMap.{get_by, btree_map_len}
 use Rattle.std.specs.Ordering.{nat_cmp}
 use Rattle.std.specs.Cmp.Lexicographic.{slice_cmp}
 use Rattle.hs_base.specs.Patterns.{Pattern}
-use Rattle.hs_compile.specs.declared.database.Database.{Database}
-use Rattle.hs_compile.specs.Databases.{IsDatabaseOf}
+use Rattle.hs_compile.specs.Databases.{Compiled}
 use Rattle.hs_stream.specs.declared.stream.Stream.{Stream}
 use Rattle.hs_stream.specs.Streams.{IsStreamOf, IsFresh}
-use Rattle.hs_stream.specs.Standing.{Stands}
+use Rattle.hs_stream.specs.Standing.{RunsPatterns, Stands}
 use Rattle.hs_script.specs.Actions.{Action}
 use Rattle.hs_script.specs.Machine.{Answer, Machine}
 use Rattle.hs_script.specs.Runs.{IsRun}
@@ -34,37 +33,37 @@ pub record PutsStream (old new : Streams) (name : List ℕ) (stream : Option Str
   pub counted : count_of new + has_stream (stream_at old name) ≡ count_of old + has_stream stream
 
 -- This name has a stream now of which no byte has come.
-pub record Adds (db : Database) (old new : Streams) (name : List ℕ) : Type 0 where
+pub record Adds (db : Compiled) (old new : Streams) (name : List ℕ) : Type 0 where
   pub stream : Stream
   pub fits : IsStreamOf db stream
   pub fresh : IsFresh db stream
   pub puts : PutsStream old new name (Some stream)
 
 -- each of them is a stream of the database
-abbrev pub AreStreamsOf : Database → Streams → Type 0
+abbrev pub AreStreamsOf : Compiled → Streams → Type 0
 AreStreamsOf db streams =
     (name : List ℕ) (stream : Stream) → stream_at streams name ≡ Some stream → IsStreamOf db stream
 
 -- a stream of the machine stands behind the bytes that it has there
-abbrev pub Follows : Database → List Pattern → Option (List ℕ) → Option Stream → Type 0
+abbrev pub Follows : Compiled → List Pattern → Option (List ℕ) → Option Stream → Type 0
 Follows db P None None = Unit {0}
 Follows db P None (Some stream) = ⊥
 Follows db P (Some h) None = ⊥
 Follows db P (Some h) (Some stream) = Stands db P h stream
 
 -- The streams are those of the machine.
-pub record Tracks (db : Database) (P : List Pattern) (m : Machine) (streams : Streams) : Type 0 where
+pub record Tracks (db : Compiled) (P : List Pattern) (m : Machine) (streams : Streams) : Type 0 where
   pub each : (name : List ℕ) → Follows db P (m.stream name) (stream_at streams name)
   pub counted : m.count ≡ count_of streams
 
 -- The machine goes through the actions, and the streams are then those of the machine.
-pub record Leads (db : Database) (P : List Pattern) (m : Machine) (now : Streams) (actions : List Action)
+pub record Leads (db : Compiled) (P : List Pattern) (m : Machine) (now : Streams) (actions : List Action)
     (answers : List Answer) : Type 0 where
   pub after : Machine
   pub run : IsRun P m actions answers after
   pub tracks : Tracks db P after now
 
 -- That holds for all patterns that the database is of, and each machine whose streams these were.
-abbrev pub Performs : Database → Streams → Streams → List Action → List Answer → Type 0
+abbrev pub Performs : Compiled → Streams → Streams → List Action → List Answer → Type 0
 Performs db old now actions answers =
-    (P : List Pattern) (m : Machine) → IsDatabaseOf db P → Tracks db P m old → Leads db P m now actions answers
+    (P : List Pattern) (m : Machine) → RunsPatterns db P → Tracks db P m old → Leads db P m now actions answers

@@ -9,7 +9,7 @@ use Rattle.hs_text.specs.declared.reply_lines.Word.{Word}
 use Rattle.hs_text.specs.declared.reply_lines.Word.TheVariants as word
 use Rattle.hs_text.specs.declared.commands.Verb.TheVariants as verb
 use Rattle.hs_base.specs.Offsets.{greatest_offset}
-use Rattle.hs_compile.specs.declared.database.Database.{Database}
+use Rattle.hs_compile.specs.Databases.{Compiled}
 use Rattle.hs_stream.specs.declared.stream.Stream.{Stream}
 use Rattle.hs_stream.specs.Streams.{offset_of, Writes}
 use Rattle.hs_script.specs.Actions.{Write, Cut}
@@ -57,7 +57,7 @@ IsDue (Ok payload) reply = payload.reply ≡ reply
 IsDue (Err stop) reply = Unit {0}
 
 -- So many bytes were scanned as they came, and the lines of what they report sent.
-pub record IsPayloadScanned (db : Database) (name : List ℕ) (count : ℕ) (old new : Stream)
+pub record IsPayloadScanned (db : Compiled) (name : List ℕ) (count : ℕ) (old new : Stream)
     (before now : Option (List ℕ)) (ahead aheads : Ahead) (taken takes : Option (List ℕ)) (waited waits : List ℕ)
     (outcome : Result Bool Break) : Type 0 where
   pub came : List ℕ
@@ -72,7 +72,7 @@ pub record IsPayloadRefused (word : Word) (count : ℕ) (before now : Option (Li
   pub kept : is_lost outcome ≡ false
 
 -- What a write of so many bytes, of which these came, makes of a stream: it is too long, or these were written.
-pub data Turns (db : Database) (count : ℕ) (old new : Stream) (came : List ℕ) : List Pair → Reply → Type 0 where
+pub data Turns (db : Compiled) (count : ℕ) (old new : Stream) (came : List ℕ) : List Pair → Reply → Type 0 where
   too_long :
       greatest_offset < offset_of old + count →
       new ≡ old →
@@ -83,7 +83,7 @@ pub data Turns (db : Database) (count : ℕ) (old new : Stream) (came : List ℕ
       Turns db count old new came pairs (Done verb.Write (Some count))
 
 -- So many bytes were written to the stream, or dropped.
-pub record IsPayloadWritten (db : Database) (name : List ℕ) (count : ℕ) (old new : Stream)
+pub record IsPayloadWritten (db : Compiled) (name : List ℕ) (count : ℕ) (old new : Stream)
     (before now : Option (List ℕ)) (ahead aheads : Ahead) (taken takes : Option (List ℕ)) (waited waits : List ℕ)
     (outcome : Result Payload Break) : Type 0 where
   pub came : List ℕ
@@ -95,7 +95,7 @@ pub record IsPayloadWritten (db : Database) (name : List ℕ) (count : ℕ) (old
   pub sends : Passes (is_lost outcome) taken takes waited waits (flat_map (named_line name) pairs)
 
 -- The machine took these bytes of so many, and answers so: as a write where all came, and as one that was cut short.
-pub record IsPayloadTaken (db : Database) (name : List ℕ) (count : ℕ) (old new : Streams) (before now : Option (List ℕ))
+pub record IsPayloadTaken (db : Compiled) (name : List ℕ) (count : ℕ) (old new : Streams) (before now : Option (List ℕ))
     (ahead aheads : Ahead) (taken takes : Option (List ℕ)) (waited waits : List ℕ)
     (outcome : Result Payload Break) : Type 0 where
   pub came : List ℕ

@@ -10,7 +10,7 @@ use Rattle.hs_text.specs.declared.reply_lines.ScriptFault.{ScriptFault}
 use Rattle.hs_text.specs.declared.reply_lines.ScriptFault.TheVariants.{Script, Truncated}
 use Rattle.hs_text.specs.Commands.{Order, IsCommand}
 use Rattle.hs_text.specs.Commands as order
-use Rattle.hs_compile.specs.declared.database.Database.{Database}
+use Rattle.hs_compile.specs.Databases.{Compiled}
 use Rattle.hs_script.specs.Actions.{Action, Write, Cut, name_of, IsAlone}
 use Rattle.hs_script.specs.Machine.{Answer}
 use Rattle.hs_script.specs.Runs.{named_line, answer_text, run_text, ending_text}
@@ -25,14 +25,14 @@ use Rattle.hs_lines.specs.Passing.{Passes}
 use Rattle.hs_tool.specs.OpenStreams.{Performs}
 
 -- An action was answered: the streams are those of the machine behind it, and its lines were sent.
-pub record IsAnswered (db : Database) (action : Action) (lost : Bool) (old new : Streams)
+pub record IsAnswered (db : Compiled) (action : Action) (lost : Bool) (old new : Streams)
     (taken takes : Option (List ℕ)) (waited waits : List ℕ) : Type 0 where
   pub answer : Answer
   pub performs : Performs db old new (action ∷ []) (answer ∷ [])
   pub sends : Passes lost taken takes waited waits (answer_text action answer)
 
 -- An action was made, with this answer where the lines of its reports could be sent.
-pub record IsTold (db : Database) (action : Action) (outcome : Result Reply Failed) (old new : Streams)
+pub record IsTold (db : Compiled) (action : Action) (outcome : Result Reply Failed) (old new : Streams)
     (taken takes : Option (List ℕ)) (waited waits : List ℕ) : Type 0 where
   pub pairs : List Pair
   pub reply : Reply
@@ -96,7 +96,7 @@ pub data IsBehind (line : List ℕ) (number : ℕ) (seen : List ℕ) (ended : Bo
       IsBehind line number seen ended (Write name came ∷ []) Part
 
 -- The command of a line ran so: what was taken behind the line, the streams, and the lines that were sent.
-pub record Runs (db : Database) (line : List ℕ) (number : ℕ) (old new : Streams) (before now : Option (List ℕ))
+pub record Runs (db : Compiled) (line : List ℕ) (number : ℕ) (old new : Streams) (before now : Option (List ℕ))
     (ahead aheads : Ahead) (taken takes : Option (List ℕ)) (waited waits : List ℕ)
     (lost : Bool) (how : How) : Type 0 where
   pub seen : List ℕ

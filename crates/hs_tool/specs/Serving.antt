@@ -10,8 +10,8 @@ use Rattle.hs_outside.specs.Sink.{Took, TookPrefix}
 use Rattle.hs_text.specs.declared.reply_lines.ScriptFault.{ScriptFault}
 use Rattle.hs_text.specs.Commands.{IsCommand}
 use Rattle.hs_text.specs.Commands as order
-use Rattle.hs_compile.specs.declared.database.Database.{Database}
-use Rattle.hs_compile.specs.Databases.{IsDatabaseOf}
+use Rattle.hs_compile.specs.Databases.{Compiled}
+use Rattle.hs_stream.specs.Standing.{RunsPatterns}
 use Rattle.hs_script.specs.Actions.{Action, Write, Cut}
 use Rattle.hs_script.specs.Scripts.{IsScript}
 use Rattle.hs_script.specs.Machine.{Answer, Machine, start}
@@ -29,11 +29,11 @@ pub record HasEnding (P : List Pattern) (bytes : List ℕ) (answers : List Answe
   pub is : run.ending ≡ ending
 
 -- These bytes were taken of the script, and the text is that of a run over it, whatever may stand behind them.
-pub record Finished (db : Database) (taken : List ℕ) (ended : Bool) (ending : Option ScriptFault)
+pub record Finished (db : Compiled) (taken : List ℕ) (ended : Bool) (ending : Option ScriptFault)
     (text : List ℕ) : Type 0 where
   pub answers : List Answer
   pub runs : (P : List Pattern) (rest : List ℕ) →
-      IsDatabaseOf db P →
+      RunsPatterns db P →
       MayCome ended rest →
       HasEnding P (taken ++ rest) answers text ending
 
@@ -58,7 +58,7 @@ pub record RunsThrough (P : List Pattern) (actions : List Action) (answers : Lis
 
 -- These bytes were taken of the script, of which some at the end weren't looked at. The text has all lines of each
 -- command that is whole before these, and the reports of what came of the next one.
-pub record Begun (db : Database) (taken unread : List ℕ) (text : List ℕ) : Type 0 where
+pub record Begun (db : Compiled) (taken unread : List ℕ) (text : List ℕ) : Type 0 where
   pub front : List ℕ
   pub rest : List ℕ
   pub split : taken ≡ front ++ (rest ++ unread)
@@ -68,11 +68,11 @@ pub record Begun (db : Database) (taken unread : List ℕ) (text : List ℕ) : T
   pub whole : (next : List ℕ) (following : List Action) (ending : Option ScriptFault) →
       IsScript (suc (length actions)) next following ending → IsScript 1 (front ++ next) (actions ++ following) ending
   pub part : IsPart rest more
-  pub runs : (P : List Pattern) → IsDatabaseOf db P → RunsThrough P (actions ++ more) answers
+  pub runs : (P : List Pattern) → RunsPatterns db P → RunsThrough P (actions ++ more) answers
   pub is : text ≡ run_text (actions ++ more) answers
 
 -- the text so far: of a script that was begun, or of all of it
-pub data SoFar (db : Database) (taken : List ℕ) (left : Option (List ℕ)) (text : List ℕ) : Type 0 where
+pub data SoFar (db : Compiled) (taken : List ℕ) (left : Option (List ℕ)) (text : List ℕ) : Type 0 where
   begun : (unread : List ℕ) →
       Begun db taken unread text →
       SoFar db taken left text
@@ -82,7 +82,7 @@ pub data SoFar (db : Database) (taken : List ℕ) (left : Option (List ℕ)) (te
       SoFar db taken left text
 
 -- How a script ends, with what was left of the source before and now; the text is written, or a beginning of it.
-pub data ScriptEnds (db : Database) (before now : Option (List ℕ))
+pub data ScriptEnds (db : Compiled) (before now : Option (List ℕ))
     (IsWritten IsCut : List ℕ → Type 0) : Result (Unit {0}) ScriptStop → Type 0 where
   complete : (taken text : List ℕ) →
       Gave before now taken →

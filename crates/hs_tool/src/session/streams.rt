@@ -1,6 +1,6 @@
 //! The open streams, by name.
 ghost use Rattle.std.specs.Prelude.{◌≡◌, ◌≢◌, ℕ, List, Option, None, Some, [], ◌∷◌, OnOk, OnErr, IsTrue, ◌↔◌};
-ghost use Rattle.hs_whole_run.specs.Events.{Takes};
+ghost use Rattle.hs_reports.specs.Events.{Takes};
 ghost use Rattle.hs_stream.specs.Scratches.{IsScratchOf};
 ghost use Rattle.hs_script.specs.Actions.{Open, Reset, Close};
 

@@ -1,27 +1,73 @@
-use Rattle.std.proofs.Common.{◌≡◌, ◌+◌, ◌<◌, ◌≤◌, ℕ, true, false, length, refl, sym, ap, subst, ◌∙◌, arith}
-use Rattle.std.proofs.lemmas.Option.{slice_get_within}
-use Rattle.hs_nodes.specs.Marks.{is_marked}
+use Rattle.std.proofs.Common.{◌≡◌, ◌+◌, length, sym, subst, ◌∙◌, arith}
+use Rattle.std.specs.Prelude.{slice_index}
+use Rattle.hs_reports.specs.Events.{Takes}
+use Rattle.hs_nodes.specs.Resting.{AreNodesResting}
+use Rattle.hs_nodes.specs.Walks.{AreNodesWell, IsTableSound}
+use Rattle.hs_nodes.proofs.SettleLemmas.{resting-may, resting-stay}
+use Rattle.hs_nodes.proofs.TickLemmas.{nodes-most}
 use Rattle.hs_scan.specs.Scans.{ScansChunk}
 use Rattle.hs_scan.specs.Telling.{TellsChunk}
 use Rattle.hs_scan.proofs.BlockLemmas.{takes-as}
-use Rattle.hs_scan.proofs.ScanLemmas.{all-rest, chunk-takes}
+use Rattle.hs_scan.proofs.ScanLemmas.{chunk-takes}
+use Rattle.hs_scan.proofs.WakingLemmas.{passed-nowhere, settled-room}
 use Rattle.hs_scan.proofs.chunk.take_chunk.Goals as goal
 
 pub walk-requires-clause-rests : goal.walk-requires-clause-rests
-walk-requires-clause-rests g c = all-rest g.E.Engine.meaning c.args.program.now c.args.course.now.marks c.args.found.now.hits.now c.args.region.now c.args.chunk.now.bytes.now c.requires.room.all
+walk-requires-clause-rests g c =
+    resting-may g.E.Engine.meaning c.args.graph.now.table c.args.course.now.marks c.args.found.now.hits.now c.args.region.now c.args.chunk.now.bytes.now c.requires.small c.requires.resting c.requires.unwoken
+
+pub tell_chunk-requires-clause-rest : goal.tell_chunk-requires-clause-rest
+tell_chunk-requires-clause-rest g c = passed-nowhere g.E.Engine.meaning c.args.graph.now c.walk.new.marks c.args.region.now c.walk.new.region c.walk.new.ends c.walk.ensures.changes
+
+pub settle-requires-clause-sound : goal.settle-requires-clause-sound
+settle-requires-clause-sound g c =
+    let hits = c.args.found.now.hits.now in
+    (length hits, subst (λ n. IsTableSound g.E.Engine.meaning c.args.graph.now.table (length hits) n) (sym c.walk.ensures.changes.len) c.requires.table)
+
+pub settle-requires-clause-nowhere : goal.settle-requires-clause-nowhere
+settle-requires-clause-nowhere g c = passed-nowhere g.E.Engine.meaning c.args.graph.now c.walk.new.marks c.args.region.now c.walk.new.region c.walk.new.ends c.walk.ensures.changes
+
+pub settle-requires-clause-resting : goal.settle-requires-clause-resting
+settle-requires-clause-resting g c =
+    resting-stay g.E.Engine.meaning c.args.graph.now.table c.args.course.now.marks c.walk.new.marks c.args.region.now c.walk.new.region c.walk.new.ends c.walk.ensures.marks c.walk.ensures.changes c.requires.resting
+
+pub returns-clause-len : goal.returns-clause-len
+returns-clause-len g c = subst (λ r. length r ≡ length c.args.region.now) (sym c.settle.ensures.region) c.walk.ensures.changes.len
+
+pub returns-clause-well : goal.returns-clause-well
+returns-clause-well g c =
+    subst (λ r. AreNodesWell g.E.Engine.meaning c.args.graph.now.table r (c.args.chunk.now.at + length c.args.chunk.now.bytes.now)) (sym c.settle.ensures.region) c.walk.ensures.well
+
+pub returns-clause-outside : goal.returns-clause-outside
+returns-clause-outside g c i out = subst (λ r. slice_index r i ≡ slice_index c.args.region.now i) (sym c.settle.ensures.region) (c.walk.ensures.changes.outside i out)
+
+pub returns-clause-room : goal.returns-clause-room
+returns-clause-room g c =
+    let room = c.requires.room in
+    settled-room g.E.Engine.meaning c.args.graph.now (length c.args.graph.now.table.nodes.items) c.walk.new.region c.args.course.now.marks c.walk.new.marks c.settle.new.marks c.walk.new.ends c.settle.new.ends c.settle.ensures.ends (c.walk.ensures.ends ∙ room.count) room.room c.walk.ensures.marks c.settle.ensures.settled
+
+pub returns-clause-resting : goal.returns-clause-resting
+returns-clause-resting g c =
+    subst (λ r. AreNodesResting g.E.Engine.meaning c.args.graph.now.table c.settle.new.marks r) (sym c.settle.ensures.region) c.settle.ensures.settled.resting
 
 pub returns-clause-scans : goal.returns-clause-scans
 returns-clause-scans g c =
     let m = g.E.Engine.meaning in
-    let program = c.args.program.now in
+    let graph = c.args.graph.now in
     let chunk = c.args.chunk.now in
     let hits = c.args.found.now.hits.now in
     let known = c.args.course.now.known in
     let then = c.tell_chunk.new.known in
     let ends = c.walk.new.ends in
     let all = c.everywhere-all.result in
-    takes-as g.V.Events.tells c.args.events.now c.tell_chunk.new.events
-    (TellsChunk m program chunk.bytes.now chunk.at ends all known.told.items known.here.items then.told.items then.here.items)
-    (ScansChunk m program c.args.region.now c.walk.new.region chunk.prev chunk.at chunk.bytes.now hits known.told.items known.here.items then.told.items then.here.items)
-    (λ ps tells. chunk-takes m program chunk.at c.args.region.now c.walk.new.region known.told.items known.here.items then.told.items then.here.items chunk.prev chunk.bytes.now hits ends all ps (c.walk.ensures.ends ∙ c.requires.room.count) c.everywhere-all.ensures
-    c.walk.ensures.takes tells) c.tell_chunk.ensures.told
+    subst (λ r. Takes g.V.Events.tells c.args.events.now c.tell_chunk.new.events (ScansChunk m graph c.args.region.now r chunk.prev chunk.at chunk.past.now chunk.bytes.now hits known.told.items known.here.items then.told.items then.here.items)) (sym c.settle.ensures.region)
+    (takes-as g.V.Events.tells c.args.events.now c.tell_chunk.new.events
+    (TellsChunk m graph chunk.bytes.now chunk.at ends all known.told.items known.here.items then.told.items then.here.items)
+    (ScansChunk m graph c.args.region.now c.walk.new.region chunk.prev chunk.at chunk.past.now chunk.bytes.now hits known.told.items known.here.items then.told.items then.here.items)
+    (λ ps tells. chunk-takes m graph chunk.at c.args.region.now c.walk.new.region known.told.items known.here.items then.told.items then.here.items chunk.prev chunk.past.now chunk.bytes.now hits ends all ps (c.walk.ensures.ends ∙ c.requires.room.count) c.everywhere-all.ensures
+    c.walk.ensures.takes tells) c.tell_chunk.ensures.told)
+
+pub returns-clause-ticks : goal.returns-clause-ticks
+returns-clause-ticks g c =
+    let most = nodes-most c.args.graph.now.table.nodes.items c.args.found.now.hits.now (length c.args.chunk.now.bytes.now) in
+    omega (arith, most, c.walk.ensures.ticks)

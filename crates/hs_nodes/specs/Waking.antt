@@ -1,0 +1,71 @@
+-- Which nodes a chunk may wake though nothing is live in them.
+use Rattle.std.specs.Prelude.{◌≡◌, ℕ, suc, ◌<◌, ◌≤◌, true, false, List, length, Option, Some, None, slice_get}
+use Rattle.std.specs.Prelude.{slice_index}
+use Rattle.hs_base.specs.declared.byte_set.ByteSet.{ByteSet}
+use Rattle.hs_base.specs.declared.context.Mask.{Mask}
+use Rattle.hs_base.specs.ByteSets.{has}
+use Rattle.hs_engine.specs.Engines.{Meaning, AreWakers}
+use Rattle.hs_nodes.specs.Marks.{is_marked}
+use Rattle.hs_nodes.specs.Resting.{IsAsleepIn}
+use Rattle.hs_nodes.specs.Walks.{IsAmongChildren}
+use Rattle.hs_nodes.specs.declared.table.Node.{Node}
+use Rattle.hs_nodes.specs.declared.table.NodeKind.{NodeKind}
+use Rattle.hs_nodes.specs.declared.table.NodeKind.TheVariants.{Engine, Literal, FirstLiteral, LookBack}
+use Rattle.hs_nodes.specs.declared.table.NodeTable.{NodeTable}
+use Rattle.hs_nodes.specs.declared.waking.WakeTable.{WakeTable}
+
+-- the literal that wakes a node of that kind where it ends, if there is one
+abbrev pub waking_literal : NodeKind → Option ℕ
+waking_literal (Engine number null) = None
+waking_literal (Literal number len) = None
+waking_literal (FirstLiteral number len) = Some number
+waking_literal (LookBack pair) = Some pair.literal
+
+-- the number is in the list
+pub record IsListed (numbers : List ℕ) (k : ℕ) : Type 0 where
+  pub place : ℕ
+  pub within : place < length numbers
+  pub is : slice_index numbers place ≡ k
+
+-- The table has, for so many literals, under each of them the nodes that it wakes, and all engines without a parent. It
+-- has nodes that are there alone. No literal but first ones lacks a parent.
+pub record AreWakesSound (nodes : List Node) (wakes : WakeTable) (literals : ℕ) : Type 0 where
+  pub starts_count : length wakes.literal_starts.items ≡ suc literals
+  pub rising : (number : ℕ) → number < literals →
+      slice_index wakes.literal_starts.items number ≤ slice_index wakes.literal_starts.items (suc number)
+  pub within : (number : ℕ) → number < literals →
+      slice_index wakes.literal_starts.items (suc number) ≤ length wakes.literal_nodes.items
+  pub by_literal : (i : ℕ) → i < length wakes.literal_nodes.items →
+      slice_index wakes.literal_nodes.items i < length nodes
+  pub engines : (i : ℕ) → i < length wakes.first_engines.items → slice_index wakes.first_engines.items i < length nodes
+  pub woken : (k number : ℕ) (node : Node) → slice_get nodes k ≡ Some node →
+      waking_literal node.kind ≡ Some number →
+      IsAmongChildren wakes.literal_starts.items wakes.literal_nodes.items number k
+  pub entered : (k number : ℕ) (null : Option Mask) (node : Node) → slice_get nodes k ≡ Some node →
+      node.kind ≡ Engine number null → node.parent ≡ None → IsListed wakes.first_engines.items k
+  pub behind : (k number len : ℕ) (node : Node) → slice_get nodes k ≡ Some node →
+      node.kind ≡ Literal number len → node.parent ≡ None → ⊥
+
+-- none of the bytes wakes an engine
+pub record IsAsleepBy (m : Meaning) (bytes : ByteSet) : Type 0 where
+  pub wakers : ByteSet
+  pub are : AreWakers m wakers
+  pub none : (b : ℕ) → b < 256 → has bytes b ≡ true → has wakers b ≡ false
+
+-- nor a node of that kind that is entered everywhere, which has no empty span either
+abbrev pub IsKindAsleep : {E : Type 0} → (E → Meaning) → (engines : List E) → NodeKind → (bytes : ByteSet) → Type 0
+IsKindAsleep meaning engines (Engine number null) bytes =
+    (null ≡ None) × ((e : _) → slice_get engines number ≡ Some e → IsAsleepBy (meaning e) bytes)
+IsKindAsleep meaning engines (Literal number len) bytes = ⊥
+IsKindAsleep meaning engines (FirstLiteral number len) bytes = ⊥
+IsKindAsleep meaning engines (LookBack pair) bytes = ⊥
+
+-- The engines without a parent that aren't marked have no empty span, and no byte wakes them.
+abbrev pub AreEnginesUnwoken : {E : Type 0} → (E → Meaning) → NodeTable E → (marks bytes : List ℕ) → Type 0
+AreEnginesUnwoken meaning table marks bytes =
+    (k number : ℕ) (null : Option Mask) (node : Node) →
+    slice_get table.nodes.items k ≡ Some node →
+    node.kind ≡ Engine number null →
+    node.parent ≡ None →
+    is_marked marks k ≡ false →
+    (null ≡ None) × ((e : _) → slice_get table.engines.items number ≡ Some e → IsAsleepIn (meaning e) bytes)
