@@ -1,5 +1,6 @@
-//! `hs_bench`: measures the literal scanner. `hs_bench literals WORDS FILE` looks for the lines of WORDS in FILE, and
-//! `hs_bench kernel FILE` makes only the masks of FILE. Without words it prints nothing.
+//! `hs_bench`: measures scans. `hs_bench scan DB FILE PIECE` writes FILE in pieces of PIECE bytes to one stream of the
+//! database file DB, `hs_bench literals WORDS FILE` looks for the lines of WORDS in FILE, and `hs_bench kernel FILE` makes
+//! only the masks of FILE. Without words it prints nothing.
 #![tactic(auto)]
 
 ghost use Rattle.std.specs.Prelude.{◌≡◌, ◌-◌, ◌^◌, length, min};
@@ -7,13 +8,16 @@ ghost use Rattle.hs_literals.specs.Left.{scan_left};
 
 mod kernel;
 mod rate;
+mod stream;
 mod words;
 
 use hs_literals::{LitScan, Literals};
 use kernel::run_kernel;
 use rate::Fastest;
+use std::io::ErrorKind;
 use std::time::Instant;
 use std::{env, fs, io};
+use stream::{database_of, stream_text};
 use words::literals_of;
 
 /// How often a file is scanned; the fastest time counts.
@@ -26,8 +30,28 @@ fn main(rt: HostRuntime) -> io::Result<()> {
             scan_literals(&rt, words.as_str(), file.as_str())
         }
         [_, command, file] if command.as_str() == "kernel" => scan_blocks(&rt, file.as_str()),
+        [_, command, database, file, piece] if command.as_str() == "scan" => {
+            scan_stream(&rt, database.as_str(), file.as_str(), piece.as_str())
+        }
         _ => Ok(()),
     }
+}
+
+/// Writes a file to one stream of a database, in pieces of that many bytes.
+fn scan_stream(rt: &HostRuntime, database: &str, file: &str, piece: &str) -> io::Result<()> {
+    let list = fs::read(rt, database)?;
+    let database = database_of(rt.alloc(), list.as_slice())?;
+    let text = fs::read(rt, file)?;
+    let Ok(piece) = piece.parse::<usize>() else {
+        return Err(ErrorKind::InvalidInput.into());
+    };
+    if piece == 0 {
+        return Err(ErrorKind::InvalidInput.into());
+    }
+    let told = stream_text(rt, &database, text.as_slice(), piece)?;
+    println!(rt; "bytes {}", text.len())?;
+    println!(rt; "reports {}", told.reports)?;
+    println!(rt; "seconds {}.{:09}", told.time.as_secs(), told.time.subsec_nanos())
 }
 
 /// Looks for the lines of one file in another.

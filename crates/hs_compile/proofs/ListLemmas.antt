@@ -2,27 +2,31 @@
 use Rattle.std.proofs.Common.{◌≡◌, ℕ, suc, ◌+◌, ◌≤◌, List, [], ◌∷◌, ◌++◌, length, map, take, drop, Some, slice_get, refl, sym, ap, ◌∙◌, subst, arith, inl, inr, append_assoc, length-append}
 use Rattle.std.specs.List.{AllZip}
 use Rattle.std.proofs.lemmas.Bool.{cases_lt}
-use Rattle.std.proofs.lemmas.List.{append-nil, map-append, length-map, take_more, take-append-drop, length-take-le}
+use Rattle.std.proofs.lemmas.List.{append-nil, map-append, length-map, take_all, take_more, take-append-drop, length-take-le}
 use Rattle.std.proofs.lemmas.Option.{slice_get_within, get_or_from_slice_get}
 use Rattle.hs_base.specs.declared.ext.Entry.{Entry}
 use Rattle.hs_base.specs.declared.refusal.Refusal.TheVariants.{CountLimit, MixedSingle}
 use Rattle.hs_base.specs.Entries.{listed}
 use Rattle.hs_base.proofs.ListLemmas.{each-append}
-use Rattle.hs_limex.specs.declared.limex.Limex.{Limex}
-use Rattle.hs_whole.specs.declared.program.Role.{Role}
-use Rattle.hs_whole.specs.Roles.{RunsPattern}
-use Rattle.hs_whole.proofs.RoleLemmas.{all_zip-push}
+use Rattle.std.specs.declared.alloc.Global.{Global}
+use Rattle.std.specs.declared.vec.Vec.{Vec}
+use Rattle.hs_base.specs.Chains.{Piece, chains_of}
+use Rattle.hs_pieces.specs.declared.piece.Chain.{Chain}
+use Rattle.hs_rose.specs.Listing.{plain_chains}
+use Rattle.hs_rose.specs.Plans.{IsFitPattern}
+use Rattle.hs_rose.specs.Runnable.{AreRunnable}
 use Rattle.hs_compile.specs.declared.fault.CompileFault.{CompileFault}
 use Rattle.hs_compile.specs.declared.fault.CompileFault.TheVariants.{Refused, Memory}
-use Rattle.hs_compile.specs.Engines.{meaning_of}
-use Rattle.hs_compile.specs.Answers.{IsSmall, AreCompiled, IsCompiledEntry, IsEntryCause, IsCauseOf}
+use Rattle.hs_compile.specs.Answers.{AreCompiled, IsCompiledEntry, IsEntryCause, IsCauseOf}
+use Rattle.hs_compile.specs.Counting.{AreCounts, IsSmall}
+use Rattle.hs_compile.specs.declared.counts.Counts.{Counts}
 use Rattle.hs_compile.specs.declared.seen.Seen.{Seen}
 use Rattle.hs_compile.specs.Remembered.{Remembers, Precede, AreSoFar}
 use Rattle.hs_base.specs.declared.entry.ExprId.{ExprId}
 use Rattle.hs_base.specs.declared.refusal.Refusal.{Refusal}
 use Rattle.hs_base.specs.Entries.{ListedEntry}
 use Rattle.hs_base.specs.Patterns.{Pattern}
-use Rattle.hs_compile.specs.Lists.{greatest_count, IsMixed, HasRefusal, misplaced, beyond, mixed, IsAcceptedAs, AreAcceptedFrom, IsRefusalOf, IsFirstRefusal, IsFirstRefusalFrom, here, behind}
+use Rattle.hs_compile.specs.Lists.{greatest_count, IsMixed, HasRefusal, misplaced, beyond, mixed, IsAcceptedAs, IsReadAs, AreAcceptedFrom, IsRefusalOf, IsFirstRefusal, IsFirstRefusalFrom, here, behind}
 use Rattle.hs_compile.proofs.NumberLemmas.{refusal_once}
 
 -- no list is both accepted and refused
@@ -98,65 +102,112 @@ within-count before entry free = elim (cases_lt greatest_count (suc (length befo
   | inr few ↦ few
 ]
 
-pub compiled-none : AreCompiled [] []
-compiled-none = record { patterns = []; accepted = tt; run = tt; small = tt; few = omega arith }
+zip-push : {A B : Type 0} (R : A → B → Type 0) (xs : List A) (ys : List B) (x : A) (y : B) → AllZip R xs ys → R x y → AllZip R (xs ++ x ∷ []) (ys ++ y ∷ [])
+zip-push R [] [] x y all own = (own, tt)
+zip-push R [] (b ∷ ys) x y all own = absurd all
+zip-push R (a ∷ xs) [] x y all own = absurd all
+zip-push R (a ∷ xs) (b ∷ ys) x y all own = (all.0, zip-push R xs ys x y all.1 own)
 
-compiled-more : (entries : List ListedEntry) (roles : List (Role Limex)) (entry : ListedEntry) (role : Role Limex) → AreCompiled entries roles → IsCompiledEntry entries entry role → AreCompiled (entries ++ entry ∷ []) (roles ++ role ∷ [])
-compiled-more entries roles entry role compiled is = record {
-  patterns = compiled.patterns ++ is.pattern ∷ [];
-  accepted = accepted-push [] entries compiled.patterns entry is.pattern compiled.accepted is.accepted;
-  run = all_zip-push (RunsPattern meaning_of) roles compiled.patterns role is.pattern compiled.run is.run.run;
-  small = each-append IsSmall roles (role ∷ []) compiled.small (is.run.small, tt);
-  few = let few = within-count entries entry is.accepted.free in omega (arith, few, length-append entries (entry ∷ []));
+pub zip-length : {A B : Type 0} (R : A → B → Type 0) (xs : List A) (ys : List B) → AllZip R xs ys → length xs ≡ length ys
+zip-length R [] [] zip = refl
+zip-length R [] (y ∷ ys) zip = absurd zip
+zip-length R (x ∷ xs) [] zip = absurd zip
+zip-length R (x ∷ xs) (y ∷ ys) zip = let n = zip-length R xs ys zip.1 in omega (arith, n)
+
+-- before the first entry
+pub so-far-none : (seen : Seen) (counts : Counts) → Remembers [] seen → AreCounts [] counts → IsSmall [] → AreSoFar [] [] seen counts
+so-far-none seen counts kept are small = record {
+  patterns = [];
+  split = record { accepted = tt; chains_are = refl; runnable = tt; fit = tt; few = omega arith; small = small };
+  kept = kept;
+  read = tt;
+  counts_are = are;
 }
 
-compiled-push : (entries : List Entry) (roles : List (Role Limex)) (i : ℕ) (entry : Entry) (role : Role Limex) → slice_get entries i ≡ Some entry →
-    AreCompiled (map listed (take i entries)) roles → IsCompiledEntry (map listed (take i entries)) (listed entry) role → AreCompiled (map listed (take (i + 1) entries)) (roles ++ role ∷ [])
-compiled-push entries roles i entry role is compiled one =
-    subst (λ es. AreCompiled es (roles ++ role ∷ [])) (sym (listed_next entries i entry is))
-    (compiled-more (map listed (take i entries)) roles (listed entry) role compiled one)
-
--- the number of the next entry, and what is kept of those before it
-pub next-number : (entries : List Entry) (i : ℕ) (entry : Entry) (seen : Seen) → slice_get entries i ≡ Some entry → Remembers (map listed (take i entries)) seen →
-    Precede (map listed (take i entries)) (i + 1) seen
-next-number entries i entry seen is kept = record { count = omega (arith, length_listed entries i entry is); kept = kept }
-
--- what is known of the entries so far
-pub step : (entries : List Entry) (roles roles' : List (Role Limex)) (i : ℕ) (entry : Entry) (role : Role Limex) (seen seen' : Seen) → slice_get entries i ≡ Some entry →
-    AreSoFar (map listed (take i entries)) roles seen →
-    ((before : List ListedEntry) → Precede before (i + 1) seen → IsCompiledEntry before (listed entry) role) →
-    ((before : List ListedEntry) → Remembers before seen → (IsMixed before (listed entry) → ⊥) → Remembers (before ++ listed entry ∷ []) seen') →
-    roles' ≡ roles ++ role ∷ [] →
-    AreSoFar (map listed (take (i + 1) entries)) roles' seen'
-step entries roles roles' i entry role seen seen' is so_far compile add pushed =
-    let before = map listed (take i entries) in
-    let one : IsCompiledEntry before (listed entry) role = compile before (next-number entries i entry seen is so_far.kept) in
+-- one entry more
+so-far-more : (entries : List ListedEntry) (chains : List (List (List Piece))) (own : Vec Chain Global) (entry : ListedEntry) (seen seen' : Seen) (counts counts' : Counts) →
+    (far : AreSoFar entries chains seen counts) → IsCompiledEntry entries far.patterns entry own counts' → Remembers (entries ++ entry ∷ []) seen' →
+    AreSoFar (entries ++ entry ∷ []) (chains ++ plain_chains own ∷ []) seen' counts'
+so-far-more entries chains own entry seen seen' counts counts' far is kept =
+    let x = is.pattern in
     record {
-      compiled = subst (AreCompiled (map listed (take (i + 1) entries))) (sym pushed) (compiled-push entries roles i entry role is so_far.compiled one);
-      kept = subst (λ es. Remembers es seen') (sym (listed_next entries i entry is))
-          (add before so_far.kept (λ differs. one.accepted.free (MixedSingle entry.id) (misplaced (mixed differs))));
+      patterns = far.patterns ++ x ∷ [];
+      split = record {
+        accepted = accepted-push [] entries far.patterns entry x far.split.accepted is.accepted;
+        chains_are =
+            ap (λ cs. cs ++ plain_chains own ∷ []) far.split.chains_are
+            ∙ (ap (λ c. map (λ (y : Pattern). chains_of y.tree) far.patterns ++ c ∷ []) is.chains_are ∙ sym (map-append (λ (y : Pattern). chains_of y.tree) far.patterns (x ∷ [])));
+        runnable = each-append AreRunnable chains (plain_chains own ∷ []) far.split.runnable (is.runnable, tt);
+        fit = each-append IsFitPattern far.patterns (x ∷ []) far.split.fit (is.fit, tt);
+        few = let few = within-count entries entry is.accepted.free in omega (arith, few, length-append entries (entry ∷ []));
+        small = is.small;
+      };
+      kept = kept;
+      read = zip-push IsReadAs entries far.patterns entry x far.read (record { read = is.accepted.read; is = is.accepted.is });
+      counts_are = is.counted;
     }
 
-pub refused-at : (entries : List Entry) (roles : List (Role Limex)) (i : ℕ) (entry : Entry) (refusal : Refusal) → slice_get entries i ≡ Some entry →
-    AreCompiled (map listed (take i entries)) roles → IsRefusalOf (map listed (take i entries)) (listed entry) refusal → IsFirstRefusal (map listed entries) (suc (length (map listed (take i entries)))) entry.id refusal
-refused-at entries roles i entry refusal is compiled one =
+-- what is known where the next entry is looked at
+pub next-number : (entries : List Entry) (chains : List (List (List Piece))) (i : ℕ) (entry : Entry) (seen : Seen) (counts : Counts) → slice_get entries i ≡ Some entry →
+    (far : AreSoFar (map listed (take i entries)) chains seen counts) → Precede (map listed (take i entries)) far.patterns (i + 1) seen counts
+next-number entries chains i entry seen counts is far = record {
+  count = omega (arith, length_listed entries i entry is);
+  kept = far.kept;
+  read = far.read;
+  counts_are = far.counts_are;
+  small = far.split.small;
+}
+
+-- what is known of the entries so far
+pub step : (entries : List Entry) (chains chains' : List (Vec Chain Global)) (i : ℕ) (entry : Entry) (own : Vec Chain Global) (seen seen' : Seen) (counts counts' : Counts) → slice_get entries i ≡ Some entry →
+    AreSoFar (map listed (take i entries)) (map plain_chains chains) seen counts →
+    ((before : List ListedEntry) (P : List Pattern) → Precede before P (i + 1) seen counts → IsCompiledEntry before P (listed entry) own counts') →
+    ((before : List ListedEntry) → Remembers before seen → (IsMixed before (listed entry) → ⊥) → Remembers (before ++ listed entry ∷ []) seen') →
+    chains' ≡ chains ++ own ∷ [] →
+    AreSoFar (map listed (take (i + 1) entries)) (map plain_chains chains') seen' counts'
+step entries chains chains' i entry own seen seen' counts counts' is far compile add pushed =
+    let before = map listed (take i entries) in
+    let one = compile before far.patterns (next-number entries (map plain_chains chains) i entry seen counts is far) in
+    let kept : Remembers (before ++ listed entry ∷ []) seen' = add before far.kept (λ differs. one.accepted.free (MixedSingle entry.id) (misplaced (mixed differs))) in
+    let more = so-far-more before (map plain_chains chains) own (listed entry) seen seen' counts counts' far one kept in
+    subst (λ cs. AreSoFar (map listed (take (i + 1) entries)) cs seen' counts') (sym (ap (map plain_chains) pushed ∙ map-append plain_chains chains (own ∷ [])))
+    (subst (λ es. AreSoFar es (map plain_chains chains ++ plain_chains own ∷ []) seen' counts') (sym (listed_next entries i entry is)) more)
+
+-- all entries
+pub all-compiled : (entries : List Entry) (chains : List (Vec Chain Global)) (i : ℕ) (seen : Seen) (counts : Counts) → i ≡ length entries →
+    AreSoFar (map listed (take i entries)) (map plain_chains chains) seen counts → AreCompiled (map listed entries) chains
+all-compiled entries chains i seen counts all far =
+    let whole : take i entries ≡ entries = take_all i entries (omega (arith, all)) in
+    let done : AreSoFar (map listed entries) (map plain_chains chains) seen counts = subst (λ es. AreSoFar (map listed es) (map plain_chains chains) seen counts) whole far in
+    record { patterns = done.patterns; split = done.split }
+
+pub refused-at : (entries : List Entry) (P : List Pattern) (i : ℕ) (entry : Entry) (refusal : Refusal) → slice_get entries i ≡ Some entry →
+    AreAcceptedFrom [] (map listed (take i entries)) P → IsRefusalOf (map listed (take i entries)) (listed entry) refusal → IsFirstRefusal (map listed entries) (suc (length (map listed (take i entries)))) entry.id refusal
+refused-at entries P i entry refusal is accepted one =
     let whole : map listed (take i entries) ++ listed entry ∷ map listed (drop (i + 1) entries) ≡ map listed entries =
     sym (append_assoc (map listed (take i entries)) (listed entry ∷ []) (map listed (drop (i + 1) entries)))
     ∙ (ap (λ es. es ++ map listed (drop (i + 1) entries)) (sym (listed_next entries i entry is))
     ∙ (sym (map-append listed (take (i + 1) entries) (drop (i + 1) entries)) ∙ ap (map listed) (take-append-drop (i + 1) entries))) in
     subst (λ es. IsFirstRefusal es (suc (length (map listed (take i entries)))) entry.id refusal) whole
-    (refused-behind [] (map listed (take i entries)) compiled.patterns (listed entry) (map listed (drop (i + 1) entries)) refusal compiled.accepted one)
+    (refused-behind [] (map listed (take i entries)) P (listed entry) (map listed (drop (i + 1) entries)) refusal accepted one)
 
 -- why a list isn't compiled, by its entry
-pub cause-at : (entries : List Entry) (roles : List (Role Limex)) (i : ℕ) (entry : Entry) (fault : CompileFault) → slice_get entries i ≡ Some entry →
-    AreCompiled (map listed (take i entries)) roles → IsEntryCause (map listed (take i entries)) (listed entry) fault → IsCauseOf (map listed entries) fault
-cause-at entries roles i entry (Refused number id refusal) is compiled cause =
+pub cause-at : (entries : List Entry) (P : List Pattern) (i : ℕ) (entry : Entry) (fault : CompileFault) → slice_get entries i ≡ Some entry →
+    AreAcceptedFrom [] (map listed (take i entries)) P → IsEntryCause (map listed (take i entries)) (listed entry) fault → IsCauseOf (map listed entries) fault
+cause-at entries P i entry (Refused number id refusal) is accepted cause =
     subst (λ n. IsFirstRefusal (map listed entries) n id refusal) (sym cause.0)
-    (subst (λ (x : ExprId). IsFirstRefusal (map listed entries) (suc (length (map listed (take i entries)))) x refusal) (same_id entry.id id (sym cause.1)) (refused-at entries roles i entry refusal is compiled cause.2))
+    (subst (λ (x : ExprId). IsFirstRefusal (map listed entries) (suc (length (map listed (take i entries)))) x refusal) (same_id entry.id id (sym cause.1)) (refused-at entries P i entry refusal is accepted cause.2))
   where
     same_id : (a b : ExprId) → a.0 ≡ b.0 → a ≡ b
     same_id a b e = ap (λ n. record { 0 = n }) e
-cause-at entries roles i entry Memory is compiled cause = tt
+cause-at entries P i entry Memory is accepted cause = tt
+
+-- the reason of the next entry
+pub next-cause : (entries : List Entry) (chains : List (List (List Piece))) (i : ℕ) (entry : Entry) (seen : Seen) (counts : Counts) (fault : CompileFault) → slice_get entries i ≡ Some entry →
+    AreSoFar (map listed (take i entries)) chains seen counts →
+    ((before : List ListedEntry) (P : List Pattern) → Precede before P (i + 1) seen counts → IsEntryCause before (listed entry) fault) → IsCauseOf (map listed entries) fault
+next-cause entries chains i entry seen counts fault is far cause =
+    cause-at entries far.patterns i entry fault is far.split.accepted (cause (map listed (take i entries)) far.patterns (next-number entries chains i entry seen counts is far))
 
 -- there are as many expressions as entries
 pub as-many : (before entries : List ListedEntry) (P : List Pattern) → AreAcceptedFrom before entries P → length P ≡ length entries
@@ -164,15 +215,3 @@ as-many before [] [] accepted = refl
 as-many before [] (x ∷ P) accepted = absurd accepted
 as-many before (entry ∷ entries) [] accepted = absurd accepted
 as-many before (entry ∷ entries) (x ∷ P) accepted = let n = as-many (before ++ entry ∷ []) entries P accepted.1 in omega (arith, n)
-
-zip-length : {A B : Type 0} (R : A → B → Type 0) (xs : List A) (ys : List B) → AllZip R xs ys → length xs ≡ length ys
-zip-length R [] [] zip = refl
-zip-length R [] (y ∷ ys) zip = absurd zip
-zip-length R (x ∷ xs) [] zip = absurd zip
-zip-length R (x ∷ xs) (y ∷ ys) zip = let n = zip-length R xs ys zip.1 in omega (arith, n)
-
-pub few-roles : (entries : List ListedEntry) (roles : List (Role Limex)) → AreCompiled entries roles → length roles ≤ greatest_count
-few-roles entries roles compiled =
-    let n = zip-length (RunsPattern meaning_of) roles compiled.patterns compiled.run in
-    let m = as-many [] entries compiled.patterns compiled.accepted in
-    omega (arith, n, m, compiled.few)

@@ -1,21 +1,21 @@
 -- The refusals of an entry: the one of least number is one alone.
-use Rattle.std.proofs.Common.{◌≡◌, ℕ, ◌^◌, ◌<◌, ◌≤◌, ◌⊎◌, List, refl, sym, ap, ◌∙◌, subst, arith, inl, inr}
-use Rattle.std.proofs.lemmas.Bool.{cases_lt}
+use Rattle.std.proofs.Common.{◌≡◌, ℕ, ◌≤◌, ◌⊎◌, List, refl, sym, ap, subst, arith, inl, inr}
 use Rattle.hs_base.specs.declared.refusal.Refusal.{Refusal}
-use Rattle.hs_base.specs.declared.refusal.Refusal.TheVariants.{UnsupportedFlag, UnsupportedParameter}
+use Rattle.hs_base.specs.declared.refusal.Refusal.TheVariants.{StateLimit}
 use Rattle.hs_base.specs.declared.flags.Flags.{Flags}
 use Rattle.hs_base.specs.declared.ext.Ext.{Ext}
 use Rattle.hs_base.specs.Entries.{ListedEntry, flags_of}
 use Rattle.hs_base.specs.Refusals.{number_of}
 use Rattle.hs_base.specs.Trees.{Tree}
 use Rattle.hs_parse.specs.Faults.{Fault, IsOfText, syntax_fault, unknown_escape, unsupported as unsupported_form, repeat_limit, length_limit, depth_limit}
-use Rattle.hs_parse.proofs.GrammarLemmas.{one_tree}
-use Rattle.hs_parse.proofs.PathLemmas.{one_fault, never_both}
+use Rattle.hs_parse.proofs.PathLemmas.{one_fault}
 use Rattle.hs_parse.proofs.NumberLemmas.{fault-number}
-use Rattle.hs_support.specs.Support.{IsLeastOutside}
 use Rattle.hs_support.specs.Refused.{HasFlagsFault, flag, parameter, HasRefusal as HasTreeRefusal, IsLeast}
 use Rattle.hs_support.specs.Refused as tree
-use Rattle.hs_compile.specs.Lists.{HasPlaceFault, beyond, mixed, HasRefusal, unread, unsupported, unfit, misplaced, IsRefusalOf}
+use Rattle.hs_support.proofs.UniqueLemmas.{fault-unique, refusal-unique}
+use Rattle.hs_compile.specs.Lists.{HasPlaceFault, beyond, mixed, HasRefusal, unread, unsupported, unfit, oversized, misplaced, IsRefusalOf}
+use Rattle.hs_compile.proofs.LoweredLemmas.{one_read, read_not_fault}
+use Rattle.hs_compile.proofs.SizeLemmas.{passes-once}
 
 -- ---- numbers
 
@@ -68,12 +68,20 @@ pub place-above : (before : List ListedEntry) (entry : ListedEntry) (refusal : R
 place-above before entry refusal fault = above (number_of refusal) (place-number before entry refusal fault)
 
 -- none of them is that of a tree
-tree-number : (flags : Flags) (ext : Ext) (t : Tree) (refusal : Refusal) → HasTreeRefusal flags ext t refusal → (number_of refusal ≤ 9) ⊎ (number_of refusal ≡ 15)
+pub tree-number : (flags : Flags) (ext : Ext) (t : Tree) (refusal : Refusal) → HasTreeRefusal flags ext t refusal → (number_of refusal ≤ 9) ⊎ (number_of refusal ≡ 15)
 tree-number flags ext t refusal (tree.unsupported _ fault) = inl (let n = flags-number flags ext refusal fault in omega (arith, n.greatest))
 tree-number flags ext t _ (tree.matches_empty none span) = inl (omega arith)
 tree-number flags ext t _ (tree.embedded_end is) = inl (omega arith)
 tree-number flags ext t _ (tree.position_limit more) = inl (omega arith)
 tree-number flags ext t _ (tree.offset_order order) = inr refl
+
+not-size : (n : ℕ) → n ≡ 13 → (n ≤ 9) ⊎ (n ≡ 15) → ⊥
+not-size n e (inl few) = omega (arith, e, few)
+not-size n e (inr same) = omega (arith, e, same)
+
+size-place : (n : ℕ) → 13 ≡ n → IsPlaceNumber n → ⊥
+size-place _ e count_limit = omega (arith, e)
+size-place _ e mixed_single = omega (arith, e)
 
 apart : (n : ℕ) → IsPlaceNumber n → (n ≤ 9) ⊎ (n ≡ 15) → ⊥
 apart _ count_limit (inl few) = omega (arith, few)
@@ -88,51 +96,9 @@ tree-place flags ext t before entry r s p q e =
 
 -- ---- one of each number
 
--- the least bit is one
-one-bit : (supported bits m n : ℕ) → IsLeastOutside supported bits m → IsLeastOutside supported bits n → m ≡ n
-one-bit supported bits m n p q = p.is ∙ (ap (λ k. 2 ^ k) (same (cases_lt p.place q.place)) ∙ sym q.is)
-  where
-    same : (p.place < q.place) ⊎ (q.place ≤ p.place) → p.place ≡ q.place
-    same (inl below) = absurd (q.least p.place below p.outside)
-    same (inr above) = by_other (cases_lt q.place p.place)
-      where
-        by_other : (q.place < p.place) ⊎ (p.place ≤ q.place) → p.place ≡ q.place
-        by_other (inl below) = absurd (p.least q.place below q.outside)
-        by_other (inr other) = omega arith
-
-one-flag : (flags : Flags) (ext : Ext) (r s : Refusal) → HasFlagsFault flags ext r → HasFlagsFault flags ext s → number_of r ≡ number_of s → r ≡ s
-one-flag flags ext _ _ (flag m p) (flag n q) e = ap UnsupportedFlag (one-bit _ flags.0 m n p q)
-one-flag flags ext _ _ (flag m p) (parameter n q) e = absurd (omega arith)
-one-flag flags ext _ _ (parameter m p) (flag n q) e = absurd (omega arith)
-one-flag flags ext _ _ (parameter m p) (parameter n q) e = ap UnsupportedParameter (one-bit _ ext.bits m n p q)
-
--- of the reasons of a tree that aren't of its flags, none has one of their numbers
+-- faults of flags are reasons of any tree
 flag-or : (flags : Flags) (ext : Ext) (t : Tree) (r s : Refusal) → HasFlagsFault flags ext r → HasTreeRefusal flags ext t s → number_of r ≡ number_of s → r ≡ s
-flag-or flags ext t r s p (tree.unsupported _ q) e = one-flag flags ext r s p q e
-flag-or flags ext t r _ p (tree.matches_empty none span) e = let n = flags-number flags ext r p in absurd (omega (arith, n.greatest))
-flag-or flags ext t r _ p (tree.embedded_end is) e = let n = flags-number flags ext r p in absurd (omega (arith, n.greatest))
-flag-or flags ext t r _ p (tree.position_limit more) e = let n = flags-number flags ext r p in absurd (omega (arith, n.greatest))
-flag-or flags ext t r _ p (tree.offset_order above) e = let n = flags-number flags ext r p in absurd (omega (arith, n.greatest))
-
-one-of_tree : (flags : Flags) (ext : Ext) (t : Tree) (r s : Refusal) → HasTreeRefusal flags ext t r → HasTreeRefusal flags ext t s → number_of r ≡ number_of s → r ≡ s
-one-of_tree flags ext t r s (tree.unsupported _ p) q e = flag-or flags ext t r s p q e
-one-of_tree flags ext t r s p (tree.unsupported _ q) e = sym (flag-or flags ext t s r q p (sym e))
-one-of_tree flags ext t _ _ (tree.matches_empty n s) (tree.matches_empty n' s') e = refl
-one-of_tree flags ext t _ _ (tree.matches_empty n s) (tree.embedded_end i) e = absurd (omega arith)
-one-of_tree flags ext t _ _ (tree.matches_empty n s) (tree.position_limit m) e = absurd (omega arith)
-one-of_tree flags ext t _ _ (tree.matches_empty n s) (tree.offset_order a) e = absurd (omega arith)
-one-of_tree flags ext t _ _ (tree.embedded_end i) (tree.matches_empty n s) e = absurd (omega arith)
-one-of_tree flags ext t _ _ (tree.embedded_end i) (tree.embedded_end i') e = refl
-one-of_tree flags ext t _ _ (tree.embedded_end i) (tree.position_limit m) e = absurd (omega arith)
-one-of_tree flags ext t _ _ (tree.embedded_end i) (tree.offset_order a) e = absurd (omega arith)
-one-of_tree flags ext t _ _ (tree.position_limit m) (tree.matches_empty n s) e = absurd (omega arith)
-one-of_tree flags ext t _ _ (tree.position_limit m) (tree.embedded_end i) e = absurd (omega arith)
-one-of_tree flags ext t _ _ (tree.position_limit m) (tree.position_limit m') e = refl
-one-of_tree flags ext t _ _ (tree.position_limit m) (tree.offset_order a) e = absurd (omega arith)
-one-of_tree flags ext t _ _ (tree.offset_order a) (tree.matches_empty n s) e = absurd (omega arith)
-one-of_tree flags ext t _ _ (tree.offset_order a) (tree.embedded_end i) e = absurd (omega arith)
-one-of_tree flags ext t _ _ (tree.offset_order a) (tree.position_limit m) e = absurd (omega arith)
-one-of_tree flags ext t _ _ (tree.offset_order a) (tree.offset_order a') e = refl
+flag-or flags ext t r s p q e = refusal-unique flags ext t r s (tree.unsupported r p) q e
 
 -- the reasons of a place
 one-place : (before : List ListedEntry) (entry : ListedEntry) (r s : Refusal) → HasPlaceFault before entry r → HasPlaceFault before entry s → number_of r ≡ number_of s → r ≡ s
@@ -148,21 +114,21 @@ one-number before entry r s (unread p) (unread q) e = one_fault entry.text (flag
 one-number before entry r s (unread p) (unsupported q) e =
     let n = flags-number (flags_of entry) entry.ext s q in
     absurd (not-flags (number_of r) (text-number entry.text (flags_of entry) r p) (omega (arith, n.least)) (omega (arith, n.greatest)))
-one-number before entry r s (unread p) (unfit t reads q) e = absurd (never_both entry.text (flags_of entry) t r reads p)
+one-number before entry r s (unread p) (unfit t reads q) e = absurd (read_not_fault entry.text (flags_of entry) t r reads p)
 one-number before entry r s (unread p) (misplaced q) e =
     let n = fault_low entry.text (flags_of entry) r p in let m = place-above before entry s q in absurd (omega arith)
 one-number before entry r s (unsupported p) (unread q) e =
     let n = flags-number (flags_of entry) entry.ext r p in
     absurd (not-flags (number_of s) (text-number entry.text (flags_of entry) s q) (omega (arith, n.least)) (omega (arith, n.greatest)))
-one-number before entry r s (unsupported p) (unsupported q) e = one-flag (flags_of entry) entry.ext r s p q e
+one-number before entry r s (unsupported p) (unsupported q) e = fault-unique (flags_of entry) entry.ext r s p q e
 one-number before entry r s (unsupported p) (unfit t reads q) e = flag-or (flags_of entry) entry.ext t r s p q e
 one-number before entry r s (unsupported p) (misplaced q) e =
     let n = flags-number (flags_of entry) entry.ext r p in let m = place-above before entry s q in absurd (omega (arith, n.greatest))
-one-number before entry r s (unfit t reads p) (unread q) e = absurd (never_both entry.text (flags_of entry) t s reads q)
+one-number before entry r s (unfit t reads p) (unread q) e = absurd (read_not_fault entry.text (flags_of entry) t s reads q)
 one-number before entry r s (unfit t reads p) (unsupported q) e = sym (flag-or (flags_of entry) entry.ext t s r q p (sym e))
 one-number before entry r s (unfit t reads p) (unfit t' reads' q) e =
-    one-of_tree (flags_of entry) entry.ext t r s p
-    (subst (λ x. HasTreeRefusal (flags_of entry) entry.ext x s) (one_tree entry.text (flags_of entry) t' t reads' reads) q) e
+    refusal-unique (flags_of entry) entry.ext t r s p
+    (subst (λ x. HasTreeRefusal (flags_of entry) entry.ext x s) (one_read entry.text (flags_of entry) t' t reads' reads) q) e
 one-number before entry r s (unfit t reads p) (misplaced q) e = absurd (tree-place (flags_of entry) entry.ext t before entry r s p q e)
 one-number before entry r s (misplaced p) (unread q) e =
     let n = fault_low entry.text (flags_of entry) s q in let m = place-above before entry r p in absurd (omega arith)
@@ -170,6 +136,15 @@ one-number before entry r s (misplaced p) (unsupported q) e =
     let n = flags-number (flags_of entry) entry.ext s q in let m = place-above before entry r p in absurd (omega (arith, n.greatest))
 one-number before entry r s (misplaced p) (unfit t reads q) e = absurd (tree-place (flags_of entry) entry.ext t before entry s r q p (sym e))
 one-number before entry r s (misplaced p) (misplaced q) e = one-place before entry r s p q e
+one-number before entry r _ (unread p) (oversized q) e = let n = fault_low entry.text (flags_of entry) r p in absurd (omega (arith, n, e))
+one-number before entry r _ (unsupported p) (oversized q) e = let n = flags-number (flags_of entry) entry.ext r p in absurd (omega (arith, n.greatest, e))
+one-number before entry r _ (unfit t reads p) (oversized q) e = absurd (not-size (number_of r) e (tree-number (flags_of entry) entry.ext t r p))
+one-number before entry _ s (oversized p) (unread q) e = let n = fault_low entry.text (flags_of entry) s q in absurd (omega (arith, n, e))
+one-number before entry _ s (oversized p) (unsupported q) e = let n = flags-number (flags_of entry) entry.ext s q in absurd (omega (arith, n.greatest, e))
+one-number before entry _ s (oversized p) (unfit t reads q) e = absurd (not-size (number_of s) (sym e) (tree-number (flags_of entry) entry.ext t s q))
+one-number before entry _ _ (oversized {bytes = m} p) (oversized {bytes = n} q) e = ap StateLimit (passes-once before entry m n p q)
+one-number before entry _ s (oversized p) (misplaced q) e = absurd (size-place (number_of s) e (place-number before entry s q))
+one-number before entry r _ (misplaced p) (oversized q) e = absurd (size-place (number_of r) (sym e) (place-number before entry r p))
 
 -- an entry is refused in one way
 pub refusal_once : (before : List ListedEntry) (entry : ListedEntry) (r s : Refusal) → IsRefusalOf before entry r → IsRefusalOf before entry s → r ≡ s

@@ -1,53 +1,72 @@
 -- What the answers of the compiler say.
-use Rattle.std.specs.Prelude.{◌≡◌, suc, ◌<◌, ◌≤◌, List, length, Option, Some, None}
+use Rattle.std.specs.Prelude.{◌≡◌, suc, ◌<◌, ◌≤◌, List, ◌∷◌, [], ◌++◌, length, map, Option, Some, None}
+use Rattle.std.specs.declared.alloc.Global.{Global}
+use Rattle.std.specs.declared.vec.Vec.{Vec}
+use Rattle.hs_base.specs.declared.ext.Ext.{Ext}
+use Rattle.hs_base.specs.declared.flags.Flags.{Flags}
 use Rattle.hs_base.specs.declared.refusal.Refusal.{Refusal}
+use Rattle.hs_base.specs.Chains.{Piece, chains_of}
 use Rattle.hs_base.specs.Entries.{ListedEntry}
-use Rattle.hs_base.specs.Refusals.{number_of}
-use Rattle.hs_base.specs.Patterns.{Pattern}
-use Rattle.hs_limex.specs.declared.limex.Limex.{Limex}
-use Rattle.hs_whole.specs.declared.program.Role.{Role}
-use Rattle.hs_whole.specs.Roles.{RunsPattern, RunPatterns}
 use Rattle.hs_base.specs.Lists.{Each}
-use Rattle.hs_compile.specs.declared.database.Database.{Database}
+use Rattle.hs_base.specs.Patterns.{Pattern}
+use Rattle.hs_base.specs.Refusals.{number_of}
+use Rattle.hs_base.specs.Regions.{Plan}
+use Rattle.hs_base.specs.Trees.{Tree}
+use Rattle.hs_pieces.specs.declared.piece.Chain.{Chain}
+use Rattle.hs_rose.specs.Listing.{plain_chains}
+use Rattle.hs_rose.specs.Plans.{IsFitPattern}
+use Rattle.hs_rose.specs.Runnable.{AreRunnable}
+use Rattle.hs_support.specs.Refused.{HasRefusal as HasTreeRefusal}
 use Rattle.hs_compile.specs.declared.fault.CompileFault.{CompileFault}
 use Rattle.hs_compile.specs.declared.fault.CompileFault.TheVariants.{Refused, Memory}
+use Rattle.hs_compile.specs.declared.counts.Counts.{Counts}
+use Rattle.hs_compile.specs.Counting.{AreCounts, IsSmall}
+use Rattle.hs_compile.specs.Databases.{Compiled, IsDatabaseOf}
 use Rattle.hs_compile.specs.Lists.{greatest_count, IsAcceptedAs, AreAcceptedAs, IsRefusalOf, IsFirstRefusal}
-use Rattle.hs_compile.specs.Databases.{IsDatabaseOf}
-use Rattle.hs_compile.specs.Engines.{meaning_of}
+use Rattle.hs_compile.specs.Sizes.{IsPlanOf}
 
--- The list is accepted, and the database is that of its patterns.
-pub record IsCompiled (entries : List ListedEntry) (database : Database) : Type 0 where
+-- The list is accepted, and the database is that of the plan of its patterns.
+pub record IsCompiled (entries : List ListedEntry) (database : Compiled) : Type 0 where
   pub patterns : List Pattern
   pub accepted : AreAcceptedAs entries patterns
-  pub runs : IsDatabaseOf database patterns
+  pub plan : Plan
+  pub is_plan : IsPlanOf patterns plan
+  pub runs : IsDatabaseOf database plan
 
 -- Why a list isn't compiled: its first refusal, or no memory.
 abbrev pub IsCauseOf : List ListedEntry → CompileFault → Type 0
 IsCauseOf entries (Refused number id refusal) = IsFirstRefusal entries number id refusal
 IsCauseOf entries Memory = Unit {0}
 
--- the bytes that the engine keeps are few
-abbrev pub IsSmall : Role Limex → Type 0
-IsSmall role = (meaning_of role.engine).width ≤ 64
+-- each of the refusals of a tree has a number above those that are asked before the list's size
+abbrev pub IsLate : Flags → Ext → Tree → Type 0
+IsLate flags ext tree = (refusal : Refusal) → HasTreeRefusal flags ext tree refusal → 12 ≤ number_of refusal
 
--- What runs an expression: its engine runs the pattern, and keeps few bytes.
-pub record IsRunBy (x : Pattern) (role : Role Limex) : Type 0 where
-  pub run : RunsPattern meaning_of role x
-  pub small : IsSmall role
-
--- The entries are accepted, and these are what runs their patterns.
-pub record AreCompiled (entries : List ListedEntry) (roles : List (Role Limex)) : Type 0 where
-  pub patterns : List Pattern
-  pub accepted : AreAcceptedAs entries patterns
-  pub run : RunPatterns meaning_of roles patterns
-  pub small : Each IsSmall roles
+-- The entries are accepted as these patterns, and those are the chains of their expressions, which can be run by
+-- pieces.
+pub record AreSplit (entries : List ListedEntry) (P : List Pattern) (chains : List (List (List Piece))) : Type 0 where
+  pub accepted : AreAcceptedAs entries P
+  pub chains_are : chains ≡ map (λ x. chains_of x.tree) P
+  pub runnable : Each AreRunnable chains
+  pub fit : Each IsFitPattern P
   pub few : length entries ≤ greatest_count
+  pub small : IsSmall P
 
--- The entry behind these is accepted, and this is what runs its pattern.
-pub record IsCompiledEntry (before : List ListedEntry) (entry : ListedEntry) (role : Role Limex) : Type 0 where
+-- So it is with some patterns.
+pub record AreCompiled (entries : List ListedEntry) (chains : List (Vec Chain Global)) : Type 0 where
+  pub patterns : List Pattern
+  pub split : AreSplit entries patterns (map plain_chains chains)
+
+-- The entry behind these, which are those patterns, is accepted, and that is the number of its bytes.
+pub record IsCompiledEntry (before : List ListedEntry) (P : List Pattern) (entry : ListedEntry)
+    (chains : Vec Chain Global) (counts : Counts) : Type 0 where
   pub pattern : Pattern
   pub accepted : IsAcceptedAs before entry pattern
-  pub run : IsRunBy pattern role
+  pub chains_are : plain_chains chains ≡ chains_of pattern.tree
+  pub runnable : AreRunnable (plain_chains chains)
+  pub fit : IsFitPattern pattern
+  pub counted : AreCounts (P ++ pattern ∷ []) counts
+  pub small : IsSmall (P ++ pattern ∷ [])
 
 -- Why the entry behind these isn't compiled: its refusal, or no memory.
 abbrev pub IsEntryCause : (before : List ListedEntry) → ListedEntry → CompileFault → Type 0

@@ -1,20 +1,58 @@
--- Which database is that of a list of patterns.
-use Rattle.std.specs.Prelude.{ℕ, List}
-use Rattle.hs_base.specs.Patterns.{Pattern}
-use Rattle.hs_limex.specs.declared.limex.Limex.{Limex}
-use Rattle.hs_whole.specs.Programs.{Tables}
-use Rattle.hs_whole.specs.Runnable.{IsProgramOf}
-use Rattle.hs_compile.specs.Engines.{meaning_of}
-use Rattle.hs_compile.specs.declared.database.Database.{Database}
+-- Which database is that of a plan.
+use Rattle.std.specs.Prelude.{◌≡◌, ℕ, ◌≤◌, List}
+use Rattle.hs_base.specs.Regions.{Plan, plan_size}
+use Rattle.hs_layout.specs.Layouts.{Laid, laid_size}
+use Rattle.hs_literals.specs.declared.literals.Literals.{Literals}
+use Rattle.hs_literals.specs.Held.{held}
+use Rattle.hs_nodes.specs.declared.graph.Graph.{Graph}
+use Rattle.hs_nodes.specs.declared.table.Node.{Node}
+use Rattle.hs_nodes.specs.Graphs.{IsGraphSound, RunsPlan, plan_layout}
+use Rattle.hs_rose.specs.declared.engine.PieceEngine.{PieceEngine}
+use Rattle.hs_rose.specs.PieceEngines.{piece_meaning}
+use Rattle.hs_compile.specs.Sizes.{greatest_size}
 
--- what a scan with it runs
-abbrev pub program_of : Database → Tables Limex
-program_of database = database.program
+-- What a database has: the graph of nodes and the literals that a scan runs, where the parts of a region lie, and the
+-- digest of the list.
+pub record Compiled : Type 0 where
+  pub graph : Graph PieceEngine
+  pub literals : Literals
+  pub layout : Laid
+  pub digest : List ℕ
+
+abbrev pub compiled : Graph PieceEngine → Literals → Laid → List ℕ → Compiled
+compiled graph literals layout digest =
+    record { graph = graph; literals = literals; layout = layout; digest = digest }
+
+-- the graph of nodes that a scan runs
+abbrev pub graph_of : Compiled → Graph PieceEngine
+graph_of database = database.graph
+
+-- the literals that its nodes name
+abbrev pub literals_of : Compiled → Literals
+literals_of database = database.literals
+
+-- where the parts of a region lie
+abbrev pub layout_of : Compiled → Laid
+layout_of database = database.layout
 
 -- the digest of its list
-abbrev pub digest_of : Database → List ℕ
+abbrev pub digest_of : Compiled → List ℕ
 digest_of database = database.digest
 
--- its program runs the patterns
-abbrev pub IsDatabaseOf : Database → List Pattern → Type 0
-IsDatabaseOf database P = IsProgramOf meaning_of (program_of database) P
+-- The database is that of the plan: its graph can be run with its literals over regions of its layout, it runs the
+-- plan, and the layout is that of the plan's regions, which are small enough.
+pub record IsDatabaseOf (database : Compiled) (plan : Plan) : Type 0 where
+  pub sound : IsGraphSound piece_meaning (graph_of database) (held (literals_of database)) (layout_of database)
+  pub runs : RunsPlan piece_meaning (graph_of database) (held (literals_of database)) plan
+  pub layout : layout_of database ≡ plan_layout plan
+  pub size : laid_size (layout_of database) ≡ plan_size plan
+  pub small : laid_size (layout_of database) ≤ greatest_size
+
+-- So each database is, of some plan.
+pub record IsWholeDatabase (database : Compiled) : Type 0 where
+  pub plan : Plan
+  pub is_of : IsDatabaseOf database plan
+
+-- the nodes of its graph
+abbrev pub nodes_of : Compiled → List Node
+nodes_of database = (graph_of database).table.nodes.items

@@ -1,5 +1,12 @@
+pub mod Sizes
 pub mod Lists
-pub mod Engines
 pub mod Databases
+pub mod Counting
 pub mod Answers
 pub mod Remembered
+pub mod GraphTables
+pub mod GraphLists
+pub mod GraphNodes
+pub mod GraphEnds
+pub mod GraphBuilding
+pub mod GraphLaws

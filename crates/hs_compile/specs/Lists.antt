@@ -1,15 +1,19 @@
 -- Which lists of expressions are accepted, as which patterns, and how the others are refused.
-use Rattle.std.specs.Prelude.{◌≡◌, ◌==◌, ℕ, suc, ◌<◌, Bool, not, List, [], ◌∷◌, ◌++◌, length, bit_and}
+use Rattle.std.specs.Prelude.{◌≡◌, ◌==◌, ℕ, suc, ◌<◌, ◌≤◌, Bool, not, List, [], ◌∷◌, ◌++◌, length, bit_and}
+use Rattle.std.specs.List.{AllZip}
 use Rattle.hs_base.specs.declared.entry.ExprId.{ExprId}
+use Rattle.hs_base.specs.declared.flags.Flags.{Flags}
 use Rattle.hs_base.specs.declared.refusal.Refusal.{Refusal}
-use Rattle.hs_base.specs.declared.refusal.Refusal.TheVariants.{CountLimit, MixedSingle}
+use Rattle.hs_base.specs.declared.refusal.Refusal.TheVariants.{CountLimit, StateLimit, MixedSingle}
 use Rattle.hs_base.specs.Entries.{ListedEntry, flags_of}
 use Rattle.hs_base.specs.Lists.{OneOf}
 use Rattle.hs_base.specs.Trees.{Tree}
 use Rattle.hs_base.specs.Patterns.{Pattern}
 use Rattle.hs_parse.specs.Grammar.{Reads}
 use Rattle.hs_parse.specs.Faults.{Fault}
+use Rattle.hs_utf8.specs.Lowered.{IsLowered}
 use Rattle.hs_support.specs.Refused.{HasFlagsFault, HasRefusal as HasTreeRefusal, IsLeast}
+use Rattle.hs_compile.specs.Sizes.{greatest_size, IsSizeOf}
 
 -- the most entries of a list
 abbrev pub greatest_count : ℕ
@@ -18,6 +22,12 @@ greatest_count = 65536
 -- whether the flag SINGLEMATCH is among the flags
 abbrev pub asks_single : ℕ → Bool
 asks_single flags = bit_and flags 8 == 8
+
+-- The text is read as an expression under the flags, and the tree is that expression in bytes.
+pub record IsReadTree (text : List ℕ) (flags : Flags) (tree : Tree) : Type 0 where
+  pub expression : Tree
+  pub read : Reads text flags expression
+  pub lowered : IsLowered expression tree
 
 -- the pattern of an entry whose expression is read as the tree
 abbrev pub pattern_of : ListedEntry → Tree → Pattern
@@ -45,17 +55,36 @@ pub data HasPlaceFault (before : List ListedEntry) (entry : ListedEntry) : Refus
   -- an entry before it differs in whether its identifier is to be reported at most once
   mixed : IsMixed before entry → HasPlaceFault before entry (MixedSingle (record { 0 = entry.id }))
 
+-- The expression of the entry is read, and the pattern is its own.
+pub record IsReadAs (entry : ListedEntry) (x : Pattern) : Type 0 where
+  pub read : IsReadTree entry.text (flags_of entry) x.tree
+  pub is : x ≡ pattern_of entry x.tree
+
+-- With the entry, which is read, the region of the list has so many bytes, which are too many; without it they aren't.
+pub record PassesSize (before : List ListedEntry) (entry : ListedEntry) (bytes : ℕ) : Type 0 where
+  pub patterns : List Pattern
+  pub all_read : AllZip IsReadAs before patterns
+  pub pattern : Pattern
+  pub read : IsReadAs entry pattern
+  pub bytes_before : ℕ
+  pub size_before : IsSizeOf patterns bytes_before
+  pub within : bytes_before ≤ greatest_size
+  pub size : IsSizeOf (patterns ++ pattern ∷ []) bytes
+  pub beyond : greatest_size < bytes
+
 -- The entry behind these has the refusal.
 pub data HasRefusal (before : List ListedEntry) (entry : ListedEntry) : Refusal → Type 0 where
   -- its expression isn't read
   unread : {refusal : Refusal} → Fault entry.text (flags_of entry) refusal → HasRefusal before entry refusal
   -- a flag or a parameter isn't supported
   unsupported : {refusal : Refusal} → HasFlagsFault (flags_of entry) entry.ext refusal → HasRefusal before entry refusal
-  -- its tree isn't supported, with these flags and parameters
+  -- its tree in bytes isn't supported, with these flags and parameters
   unfit : {refusal : Refusal} (tree : Tree) →
-      Reads entry.text (flags_of entry) tree →
+      IsReadTree entry.text (flags_of entry) tree →
       HasTreeRefusal (flags_of entry) entry.ext tree refusal →
       HasRefusal before entry refusal
+  -- the region of the list becomes too large by it
+  oversized : {bytes : ℕ} → PassesSize before entry bytes → HasRefusal before entry (StateLimit bytes)
   -- where it stands
   misplaced : {refusal : Refusal} → HasPlaceFault before entry refusal → HasRefusal before entry refusal
 
@@ -65,7 +94,7 @@ IsRefusalOf before entry refusal = IsLeast (HasRefusal before entry) refusal
 
 -- The entry has no refusal, its expression is read, and the pattern is its own.
 pub record IsAcceptedAs (before : List ListedEntry) (entry : ListedEntry) (x : Pattern) : Type 0 where
-  pub read : Reads entry.text (flags_of entry) x.tree
+  pub read : IsReadTree entry.text (flags_of entry) x.tree
   pub is : x ≡ pattern_of entry x.tree
   pub free : (refusal : Refusal) → HasRefusal before entry refusal → ⊥
 

@@ -1,14 +1,17 @@
 -- What is kept of the entries before one.
 use Rattle.std.specs.Prelude.{◌≡◌, ℕ, suc, Bool, List, length, Some}
+use Rattle.std.specs.List.{AllZip}
 use Rattle.std.specs.Ordering.{nat_cmp}
 use Rattle.std.specs.BTreeMap.{get}
+use Rattle.hs_base.specs.Chains.{Piece}
 use Rattle.hs_base.specs.Entries.{ListedEntry}
 use Rattle.hs_base.specs.Lists.{OneOf, Each}
+use Rattle.hs_base.specs.Patterns.{Pattern}
+use Rattle.hs_compile.specs.declared.counts.Counts.{Counts}
 use Rattle.hs_compile.specs.declared.seen.Seen.{Seen}
-use Rattle.hs_limex.specs.declared.limex.Limex.{Limex}
-use Rattle.hs_whole.specs.declared.program.Role.{Role}
-use Rattle.hs_compile.specs.Lists.{asks_single}
-use Rattle.hs_compile.specs.Answers.{AreCompiled}
+use Rattle.hs_compile.specs.Answers.{AreSplit}
+use Rattle.hs_compile.specs.Counting.{AreCounts, IsSmall}
+use Rattle.hs_compile.specs.Lists.{asks_single, IsReadAs}
 
 -- what is kept of an identifier
 abbrev pub IsKept : Seen → (id : ℕ) → (single : Bool) → Type 0
@@ -24,12 +27,21 @@ pub record Remembers (before : List ListedEntry) (seen : Seen) : Type 0 where
   pub all : Each (λ entry. IsKept seen entry.id (asks_single entry.flags)) before
   pub only : (id : ℕ) (single : Bool) → IsKept seen id single → OneOf (Asks id single) before
 
--- The entry of that number, counted from 1, comes behind these entries, and that is kept of them.
-pub record Precede (before : List ListedEntry) (number : ℕ) (seen : Seen) : Type 0 where
+-- The entry of that number, counted from 1, comes behind these entries, which are read as those patterns, and that is
+-- kept and counted of them.
+pub record Precede (before : List ListedEntry) (P : List Pattern) (number : ℕ) (seen : Seen) (counts : Counts) :
+    Type 0 where
   pub count : number ≡ suc (length before)
   pub kept : Remembers before seen
+  pub read : AllZip IsReadAs before P
+  pub counts_are : AreCounts P counts
+  pub small : IsSmall P
 
--- What is known of the entries so far: they are accepted, these run their patterns, and that is kept of them.
-pub record AreSoFar (entries : List ListedEntry) (roles : List (Role Limex)) (seen : Seen) : Type 0 where
-  pub compiled : AreCompiled entries roles
+-- What is known of the entries so far: they are accepted as some patterns, and that is kept and counted of them.
+pub record AreSoFar (entries : List ListedEntry) (chains : List (List (List Piece))) (seen : Seen) (counts : Counts) :
+    Type 0 where
+  pub patterns : List Pattern
+  pub split : AreSplit entries patterns chains
   pub kept : Remembers entries seen
+  pub read : AllZip IsReadAs entries patterns
+  pub counts_are : AreCounts patterns counts

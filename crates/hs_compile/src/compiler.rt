@@ -1,19 +1,21 @@
 //! The list, entry by entry.
+
 ghost use Rattle.std.specs.Prelude.{◌≡◌, IfOk, IfErr, map};
 ghost use Rattle.sha2.specs.Sha256.{sha256};
 ghost use Rattle.hs_base.specs.Entries.{listed};
 ghost use Rattle.hs_dbfile.specs.Files.{list_bytes};
+ghost use Rattle.hs_compile.specs.Answers.{AreCompiled, IsCauseOf, IsCompiled};
 ghost use Rattle.hs_compile.specs.Databases.{digest_of};
-ghost use Rattle.hs_compile.specs.Answers.{IsCompiled, IsCauseOf, AreCompiled};
 
+use crate::counts::Counts;
 use crate::database::Database;
 use crate::entry::compile_entry;
 use crate::fault::CompileFault;
 use crate::seen::Seen;
 use hs_base::Entry;
 use hs_dbfile::digest;
-use hs_limex::Limex;
-use hs_whole::{Program, Role};
+use hs_pieces::Chain;
+use hs_rose::Program;
 use std::alloc::Global;
 
 /// The most entries of a list.
@@ -26,23 +28,26 @@ pub fn compile(alloc: Global, entries: &[Entry]) -> Result<Database, CompileFaul
     ensures digest { IfOk result (λ database. digest_of database ≡ sha256 (list_bytes (map listed entries.now))) }
     ensures refused { IfErr result (IsCauseOf (map listed entries.now)) }
 {
-    let roles = compile_entries(alloc, entries)?;
-    let program = Program::build(alloc, roles)?;
-    Ok(Database::new(program, digest(entries)))
+    let chains = compile_entries(alloc, entries)?;
+    let program = Program::build(alloc, entries, &chains)?;
+    let database = Database::of_program(alloc, program, digest(entries))?;
+    Ok(database)
 }
 
-/// The role of each expression of the list, in order.
-fn compile_entries(alloc: Global, entries: &[Entry]) -> Result<Vec<Role<Limex>>, CompileFault>
-    ensures compiled { IfOk result (λ roles. AreCompiled (map listed entries.now) roles.items) }
+/// The chains of each expression of the list, in order.
+fn compile_entries(alloc: Global, entries: &[Entry]) -> Result<Vec<Vec<Chain>>, CompileFault>
+    ensures compiled { IfOk result (λ chains. AreCompiled (map listed entries.now) chains.items) }
     ensures refused { IfErr result (IsCauseOf (map listed entries.now)) }
 {
     let mut seen = Seen::new(alloc);
-    let mut roles = Vec::new(alloc);
+    let mut counts = Counts::none();
+    let mut chains = Vec::new(alloc);
     for i in 0..entries.len() {
         let entry = &entries[i];
-        let role = compile_entry(alloc, i as u32 + 1, &seen, entry)?;
+        let (own, next) = compile_entry(alloc, i as u32 + 1, &seen, counts, entry)?;
         seen.add(entry)?;
-        roles.push(role)?;
+        chains.push(own)?;
+        counts = next;
     }
-    Ok(roles)
+    Ok(chains)
 }

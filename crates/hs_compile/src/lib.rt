@@ -1,10 +1,19 @@
-//! From a list of expressions to what scans them: the first refusal of the list, or a database.
+//! From a list of expressions to what scans them: the first refusal of the list, or a database with its graph of nodes.
 #![tactic(auto)]
 
+mod building;
 mod compiler;
+mod counts;
 mod database;
 mod entry;
 mod fault;
+mod graph_builder;
+mod graph_kinds;
+mod graph_numbers;
+mod graph_tables;
+mod graph_terminals;
+mod laying;
+mod reading;
 mod seen;
 
 pub use compiler::{MAX_ENTRIES, compile};

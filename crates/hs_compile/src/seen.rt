@@ -1,7 +1,10 @@
 //! What the refusals of an entry need to know of the entries before it.
 ghost use Rattle.std.specs.Prelude.{◌≡◌, List, [], ◌∷◌, ◌++◌, IfOk, MatchBool};
+ghost use Rattle.std.specs.List.{AllZip};
 ghost use Rattle.hs_base.specs.Entries.{ListedEntry, listed};
-ghost use Rattle.hs_compile.specs.Lists.{asks_single, IsMixed};
+ghost use Rattle.hs_base.specs.Patterns.{Pattern};
+ghost use Rattle.hs_compile.specs.Counting.{IsKnownName};
+ghost use Rattle.hs_compile.specs.Lists.{asks_single, IsMixed, IsReadAs};
 ghost use Rattle.hs_compile.specs.Remembered.{Remembers};
 
 use hs_base::{Entry, Flags};
@@ -21,6 +24,17 @@ impl Seen {
     {
         Seen {
             singles: BTreeMap::new(alloc),
+        }
+    }
+
+    /// Whether the identifier of the entry is single so far, if an entry so far has it.
+    pub fn known(&self, entry: &Entry) -> Option<bool>
+        ensures { (before : List ListedEntry) (P : List Pattern) → Remembers before self.now →
+            AllZip IsReadAs before P → IsKnownName P entry.now.id.0 result }
+    {
+        match self.singles.get(&entry.id.0) {
+            None => None,
+            Some(single) => Some(*single),
         }
     }
 

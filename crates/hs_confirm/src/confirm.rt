@@ -41,6 +41,13 @@ impl Confirm {
     ghost use Rattle.hs_confirm.specs.PlaceEnds.{ArePlaceEnds};
     ghost use Rattle.hs_confirm.specs.PlaceLeft.{place_left};
 
+    /// How many literals there are.
+    pub fn count(&self) -> usize
+        ensures { result ≡ length (literals_of self.now) }
+    {
+        self.entries.len()
+    }
+
     /// The table of these literals; `buckets` has the bucket of each, 0 to 7.
     ///
     /// # Errors

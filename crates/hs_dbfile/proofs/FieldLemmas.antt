@@ -7,7 +7,7 @@ use Rattle.std.proofs.Math.Seq.{take-length}
 use Rattle.std.proofs.Math.Seq.{drop-cons}
 use Rattle.hs_base.specs.Lists.{Each}
 use Rattle.hs_dbfile.specs.Files.{text_bytes}
-use Rattle.hs_dbfile.specs.Reading.{IsRead, SameFirst, neither, same, Stops, always, Always, one_byte, IsBound, IsText}
+use Rattle.hs_dbfile.specs.Reading.{IsRead, SameFirst, neither, same, Stops, always, Always, one_byte, itself, IsBound, IsText}
 use Rattle.hs_dbfile.proofs.CodeLemmas.{Once, cut_same, pair_bytes, ArePair, pair_once, stops_first, stops_second, reads_pair, IsSameCode, stops_as, once_as, reads_as, once_weaken}
 use Rattle.hs_dbfile.proofs.NumberLemmas.{AreBytes, IsBelow, code_16, code_64, number_once, zeros, length_zeros, zeros_behind, padded_length, too_short, bytes_left, bytes_taken}
 
@@ -148,9 +148,6 @@ pub record HasLength (n : ℕ) (text : List ℕ) : Type 0 where
   pub sized : length text ≡ n
   pub bytes : Each (λ b. b < 256) text
 
-abbrev pub itself : List ℕ → List ℕ
-itself text = text
-
 pub each_byte : (xs : List ℕ) → AreBytes xs → Each (λ b. b < 256) xs
 each_byte [] fits = tt
 each_byte (x ∷ xs) fits = (fits 0, each_byte xs (λ i. fits (suc i)))
@@ -158,7 +155,7 @@ each_byte (x ∷ xs) fits = (fits 0, each_byte xs (λ i. fits (suc i)))
 no_bytes : AreBytes []
 no_bytes i = omega arith
 
-zeros_text : (n : ℕ) → HasLength n (zeros n)
+pub zeros_text : (n : ℕ) → HasLength n (zeros n)
 zeros_text n = record { sized = length_zeros n; bytes = each_byte (zeros n) (zeros_behind [] n no_bytes) }
 
 text_same : IsSameCode (pair_bytes (to_le_bytes w16) itself) (ArePair (IsBelow 65536) HasLength) text_bytes IsText
@@ -172,7 +169,7 @@ text_same = record {
   back = λ text h. refl;
 }
 
-length_once : (n : ℕ) → Once itself (HasLength n)
+pub length_once : (n : ℕ) → Once itself (HasLength n)
 length_once n a b x y p q e =
     let both = cut_same a b x y (p.sized ∙ sym q.sized) e in
     record { value = both.0; rest = both.1 }

@@ -1,16 +1,17 @@
 -- The entries of a file, and where a file stops.
-use Rattle.std.proofs.Common.{◌≡◌, ℕ, zero, suc, ◌+◌, ◌-◌, ◌<◌, ◌≤◌, List, [], ◌∷◌, ◌++◌, length, refl, sym, ap, ◌∙◌, subst, append_assoc, append-nil, arith, inl, inr, true, false, eqb}
+use Rattle.std.proofs.Common.{◌≡◌, ℕ, zero, suc, ◌+◌, ◌-◌, ◌<◌, ◌≤◌, List, [], ◌∷◌, ◌++◌, length, refl, sym, ap, ◌∙◌, subst, append_assoc, append-nil, arith, true, false, eqb}
 use Rattle.std.specs.Int.{w32, to_le_bytes, from_le_bytes}
 use Rattle.std.proofs.lemmas.List.{length-append}
-use Rattle.std.proofs.lemmas.Bool.{cases_lt, eqb-true, false≢true}
+use Rattle.std.proofs.lemmas.Bool.{eqb-true, false≢true}
 use Rattle.hs_base.specs.Lists.{Each}
 use Rattle.hs_base.specs.Entries.{ListedEntry}
 use Rattle.hs_dbfile.specs.Files.{entry_bytes, entries_bytes, head_bytes, file_bytes, IsWritable, IsWithinWidths, IsDatabaseFile, IsFormPlace}
 use Rattle.hs_dbfile.specs.Entries.{IsEntry}
 use Rattle.hs_dbfile.specs.Laws.{IsFileOnce, IsPlaceOnce}
-use Rattle.hs_dbfile.specs.Reading.{IsRead, SameFirst, same, Stops, always, Always, start_bytes}
-use Rattle.hs_dbfile.proofs.CodeLemmas.{Once, pair_bytes, ArePair, pair_once, stops_first, stops_second, reads_pair, IsSameCode, stops_as, once_as, reads_as, always_once, same_first}
+use Rattle.hs_dbfile.specs.Reading.{IsRead, IsPlace, Stops, always, Always, start_bytes}
+use Rattle.hs_dbfile.proofs.CodeLemmas.{Once, pair_bytes, ArePair, pair_once, stops_first, stops_second, reads_pair, IsSameCode, stops_as, once_as, reads_as, always_once}
 use Rattle.hs_dbfile.proofs.NumberLemmas.{IsBelow, code_32, number_once}
+use Rattle.hs_dbfile.proofs.PlaceLemmas.{place_stop, place_extra, not_empty}
 use Rattle.hs_dbfile.proofs.EntryLemmas.{entry_once, no_entry, no_entry_is}
 
 -- so many entries that can be written
@@ -180,79 +181,26 @@ is_file_once bytes xs ys p q =
 
 -- ---- the place where bytes stop being a file
 
--- what is longer than a beginning goes on with the first byte behind it
-pub record GoesOn (front rest longer behind : List ℕ) : Type 0 where
-  pub next : ℕ
-  pub more : List ℕ
-  pub longer_is : longer ≡ front ++ next ∷ more
-  pub rest_is : rest ≡ next ∷ (more ++ behind)
-
-goes_on : (front rest longer behind : List ℕ) → front ++ rest ≡ longer ++ behind → length front < length longer → GoesOn front rest longer behind
-goes_on [] rest [] behind e long = absurd (omega (arith, long))
-goes_on [] rest (c ∷ more) behind e long = record { next = c; more = more; longer_is = refl; rest_is = e }
-goes_on (b ∷ front) rest [] behind e long = absurd (omega (arith, long))
-goes_on (b ∷ front) rest (c ∷ longer) behind e long =
-    let tails : front ++ rest ≡ longer ++ behind = cc in
-    let heads : c ≡ b = cc in
-    let inner = goes_on front rest longer behind tails (omega (arith, long)) in
-    record {
-      next = inner.next;
-      more = inner.more;
-      longer_is = ap (λ x. x ∷ longer) heads ∙ ap (λ xs. b ∷ xs) inner.longer_is;
-      rest_is = inner.rest_is;
-    }
-
-not_longer : (front longer : List ℕ) (at : ℕ) → length front ≡ at → (length front < length longer → ⊥) → length longer ≤ at
-not_longer front longer at place short =
-    elim (cases_lt (length front) (length longer)) [
-      | inl long ↦ absurd (short long)
-      | inr le ↦ omega (arith, place, le)
-    ]
-
-place_is : (bytes front rest : List ℕ) → bytes ≡ front ++ rest → length front ≡ length bytes - length rest
-place_is bytes front rest parts = let l = ap length parts in let both = length-append front rest in omega (arith, l, both)
+as_form_place : (bytes : List ℕ) (at : ℕ) → IsPlace file_bytes AreFile bytes at → IsFormPlace bytes at
+as_form_place bytes at p = record {
+  no_file = λ entries file. p.no_code entries (of_file file) file.whole;
+  front = p.front;
+  rest = p.rest;
+  parts = p.parts;
+  place = p.place;
+  begins = record { entries = p.begins.value; rest = p.begins.rest; file = as_file (p.front ++ p.begins.rest) p.begins.value p.begins.allowed p.begins.whole };
+  longest = λ longer behind parts begun.
+      p.longest longer behind parts (record { value = begun.entries; rest = begun.rest; allowed = of_file begun.file; whole = begun.file.whole });
+}
 
 -- where reading stops
 pub form_stop : (bytes rest : List ℕ) → Stops file_bytes AreFile bytes rest → IsFormPlace bytes (length bytes - length rest)
-form_stop bytes rest s = record {
-  no_file = λ entries file. s.refused rest entries [] (same_first rest) (of_file file) (sym s.parts ∙ file.whole ∙ sym (append-nil (file_bytes entries)));
-  front = s.front;
-  rest = rest;
-  parts = s.parts;
-  place = place_is bytes s.front rest s.parts;
-  begins = record { entries = s.value; rest = s.more; file = as_file (s.front ++ s.more) s.value s.allowed (sym s.begins) };
-  longest = λ longer behind parts begun.
-      not_longer s.front longer (length bytes - length rest) (place_is bytes s.front rest s.parts) (λ long.
-      let on = goes_on s.front rest longer behind (sym s.parts ∙ parts) long in
-      let whole : s.front ++ (on.next ∷ (on.more ++ begun.rest)) ≡ file_bytes begun.entries ++ [] =
-      sym (append_assoc s.front (on.next ∷ on.more) begun.rest) ∙ ap (λ xs. xs ++ begun.rest) (sym on.longer_is) ∙ begun.file.whole ∙ sym (append-nil (file_bytes begun.entries))
-      in
-      s.refused (on.next ∷ (on.more ++ begun.rest)) begun.entries [] (subst (λ r. SameFirst r (on.next ∷ (on.more ++ begun.rest))) (sym on.rest_is) same) (of_file begun.file) whole);
-}
-
-not_empty : (c : ℕ) (xs : List ℕ) → c ∷ xs ≡ [] → ⊥
-not_empty c xs e = let l = ap length e in omega (arith, l)
+form_stop bytes rest s = as_form_place bytes (length bytes - length rest) (place_stop file_bytes AreFile bytes rest s)
 
 -- where bytes stand behind a file
 pub form_extra : (bytes rest : List ℕ) (entries : List ListedEntry) → IsRead file_bytes AreFile bytes entries rest → (rest ≡ [] → ⊥) → IsFormPlace bytes (length bytes - length rest)
-form_extra bytes rest entries read some = record {
-  no_file = λ others file.
-      let both = file_once others entries [] rest (of_file file) read.allowed (append-nil (file_bytes others) ∙ sym file.whole ∙ read.parts) in
-      some (sym both.rest);
-  front = file_bytes entries;
-  rest = rest;
-  parts = read.parts;
-  place = place_is bytes (file_bytes entries) rest read.parts;
-  begins = record { entries = entries; rest = []; file = as_file (file_bytes entries ++ []) entries read.allowed (append-nil (file_bytes entries)) };
-  longest = λ longer behind parts begun.
-      not_longer (file_bytes entries) longer (length bytes - length rest) (place_is bytes (file_bytes entries) rest read.parts) (λ long.
-      let on = goes_on (file_bytes entries) rest longer behind (sym read.parts ∙ parts) long in
-      let whole : file_bytes entries ++ (on.next ∷ (on.more ++ begun.rest)) ≡ file_bytes begun.entries ++ [] =
-      sym (append_assoc (file_bytes entries) (on.next ∷ on.more) begun.rest) ∙ ap (λ xs. xs ++ begun.rest) (sym on.longer_is) ∙ begun.file.whole ∙ sym (append-nil (file_bytes begun.entries))
-      in
-      let both = file_once entries begun.entries (on.next ∷ (on.more ++ begun.rest)) [] read.allowed (of_file begun.file) whole in
-      not_empty on.next (on.more ++ begun.rest) both.rest);
-}
+form_extra bytes rest entries read some =
+    as_form_place bytes (length bytes - length rest) (place_extra file_bytes AreFile bytes rest entries file_once read some)
 
 -- ---- the reader's loop
 

@@ -4,3 +4,5 @@ pub mod FieldLemmas
 pub mod EntryLemmas
 pub mod FileLemmas
 pub mod WritingLemmas
+pub mod PlaceLemmas
+pub mod StateLemmas

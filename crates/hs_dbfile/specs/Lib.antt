@@ -2,3 +2,4 @@ pub mod Files
 pub mod Reading
 pub mod Entries
 pub mod Laws
+pub mod States

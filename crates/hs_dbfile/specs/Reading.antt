@@ -1,5 +1,5 @@
 -- What it means to read a value from the front of bytes, for any code that gives each value its bytes.
-use Rattle.std.specs.Prelude.{◌≡◌, ℕ, ◌<◌, ◌^◌, List, [], ◌∷◌, ◌++◌, length}
+use Rattle.std.specs.Prelude.{◌≡◌, ℕ, ◌<◌, ◌≤◌, ◌^◌, List, [], ◌∷◌, ◌++◌, length}
 use Rattle.std.specs.Int.{w32, to_le_bytes}
 use Rattle.hs_base.specs.Lists.{Each}
 use Rattle.hs_dbfile.specs.Files.{head_bytes}
@@ -31,9 +31,31 @@ pub record Stops {A : Type 0} (code : A → List ℕ) (Allowed : A → Type 0) (
       front ++ others ≡ code other ++ behind →
       ⊥
 
+-- the code of some allowed value begins with these bytes
+pub record BeginsCode {A : Type 0} (code : A → List ℕ) (Allowed : A → Type 0) (bytes : List ℕ) : Type 0 where
+  pub value : A
+  pub rest : List ℕ
+  pub allowed : Allowed value
+  pub whole : bytes ++ rest ≡ code value
+
+-- The bytes are no code of an allowed value, and the longest beginning of them that begins one has this length.
+pub record IsPlace {A : Type 0} (code : A → List ℕ) (Allowed : A → Type 0) (bytes : List ℕ) (at : ℕ) : Type 0 where
+  pub no_code : (value : A) → Allowed value → bytes ≡ code value → ⊥
+  pub front : List ℕ
+  pub rest : List ℕ
+  pub parts : bytes ≡ front ++ rest
+  pub place : length front ≡ at
+  pub begins : BeginsCode code Allowed front
+  pub longest : (longer behind : List ℕ) →
+      bytes ≡ longer ++ behind → BeginsCode code Allowed longer → length longer ≤ at
+
 -- a number of one byte
 abbrev pub one_byte : ℕ → List ℕ
 one_byte n = n ∷ []
+
+-- bytes are their own code
+abbrev pub itself : List ℕ → List ℕ
+itself bytes = bytes
 
 -- the code of the one value that there is
 abbrev pub always : List ℕ → Unit {0} → List ℕ

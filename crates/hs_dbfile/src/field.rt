@@ -12,7 +12,7 @@ pub struct Stop<'a> {
 }
 
 /// The stop at the end of the bytes.
-fn cut(bytes: &[u8]) -> Stop<'_>
+pub fn cut(bytes: &[u8]) -> Stop<'_>
     ensures { result.rest.now ≡ [] }
 {
     Stop {

@@ -69,7 +69,7 @@ fn append_entry(bytes: &mut Vec<u8>, entry: &Entry) -> Result<(), AllocError>
 }
 
 /// Writes a text at the end.
-fn append_text(bytes: &mut Vec<u8>, text: &[u8]) -> Result<(), AllocError>
+pub fn append_text(bytes: &mut Vec<u8>, text: &[u8]) -> Result<(), AllocError>
     ensures written { OnOk result (bytes.new.items ≡ bytes.old.items ++ text.now) }
     ensures widths { Each (λ b. b < 2 ^ 8) text.now }
 {

@@ -92,7 +92,7 @@ pub(crate) struct List {
     pub(crate) cases: Vec<Case>,
 }
 
-/// The pattern of an entry.
+/// The pattern of an entry, over code points where its expression is: what scans is over bytes.
 fn pattern_of(alloc: Global, entry: &Entry) -> Result<Pattern, Fail> {
     Ok(Pattern {
         id: entry.id,

@@ -5,6 +5,7 @@ use hs_base::{Entry, LitByte};
 use hs_expr::Expr;
 use hs_pieces::{Chain, Piece, split};
 use hs_plain::Pattern;
+use hs_utf8::lower;
 use std::alloc::{AllocError, Global};
 use std::test::Fail;
 
@@ -100,11 +101,11 @@ pub(crate) fn together(alloc: Global, expr: &Expr) -> Result<Expr, Fail> {
     Ok(Expr::Alt(alternatives))
 }
 
-/// The patterns of a list with the chains of their expressions in place of these.
+/// The patterns of a list with the chains of their expressions in bytes in place of these.
 pub(crate) fn in_chains(alloc: Global, entries: &[Entry]) -> Result<Vec<Pattern>, Fail> {
     let mut patterns = patterns_of(alloc, entries)?;
     for pattern in patterns.iter_mut() {
-        pattern.expr = together(alloc, &pattern.expr)?;
+        pattern.expr = together(alloc, &lower(alloc, &pattern.expr)?)?;
     }
     Ok(patterns)
 }

@@ -4,8 +4,7 @@ ghost use Rattle.hs_base.specs.EndAssertions.{has_embedded_end};
 ghost use Rattle.hs_base.specs.WrittenOut.{IsPlain, count, write_out};
 ghost use Rattle.hs_expr.specs.Meaning.{tree_of};
 
-use crate::cases::{List, Verdict};
-use crate::running::judge_reports;
+use crate::cases::Verdict;
 use crate::spans::{Spans, judge_leaving, judge_spans};
 use hs_base::{ByteSet, Mask};
 use hs_engine::{Automaton, Engine};
@@ -26,8 +25,6 @@ pub(crate) trait Judged: Engine + Drop + Sized {
 /// What each engine is asked.
 #[derive(Clone, Copy)]
 pub(crate) enum Question<'a, 'b> {
-    /// The reports of a list.
-    Reports(&'a List),
     /// Where an expression ends.
     Spans(&'a Spans),
     /// Whether an expression ends behind one text.
@@ -46,7 +43,6 @@ pub(crate) fn ask_each(alloc: Global, question: Question) -> Verdict {
 /// Asks an engine, which is to answer what is wanted.
 fn ask<E: Judged>(alloc: Global, question: Question) -> Verdict {
     match question {
-        Question::Reports(list) => judge_reports::<E>(alloc, list),
         Question::Spans(spans) => judge_spans::<E>(alloc, spans),
         Question::Leaving(expr, text, wanted) => judge_leaving::<E>(alloc, expr, text, wanted),
     }

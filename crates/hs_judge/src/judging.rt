@@ -4,6 +4,7 @@ use crate::cases::{Answer, Case, List, Verdict, ensure, written};
 use crate::chains;
 use crate::engines::{Question, ask_each, automaton_of};
 use crate::reading::{lines_of, numbered, streams_of};
+use crate::running::judge_roles;
 use crate::spans::Spans;
 use crate::streaming::judge_streams;
 use hs_base::{Entry, ExprId, Refusal};
@@ -11,6 +12,7 @@ use hs_compile::{CompileFault, compile};
 use hs_expr::Expr;
 use hs_rows::{Row, Text, rows_of};
 use hs_text::{LINE_LEN, read_list, refusal_line};
+use hs_utf8::lower;
 use std::alloc::Global;
 use std::test::Fail;
 
@@ -27,8 +29,8 @@ fn judge_chains(alloc: Global, list: &List) -> Verdict {
 
 /// Judges a list by everything that reports; one that is mixed isn't compiled.
 fn judge_list(alloc: Global, list: &List, is_mixed: bool) -> Verdict {
-    ask_each(alloc, Question::Reports(list))?;
     judge_chains(alloc, list)?;
+    judge_roles(alloc, list)?;
     if is_mixed {
         return Ok(());
     }
@@ -65,7 +67,7 @@ fn judge_alone(alloc: Global, word: &[Vec<u8>], streams: &[Text]) -> Verdict {
     let list = List::of(alloc, &numbered(alloc, word, 0, b"V")?, streams)?;
     judge_list(alloc, &list, false)?;
     for pattern in &list.patterns {
-        judge_over(alloc, &pattern.expr, &list.cases)?;
+        judge_over(alloc, &lower(alloc, &pattern.expr)?, &list.cases)?;
     }
     Ok(())
 }
@@ -89,11 +91,11 @@ fn judge_steps(alloc: Global, words: &[Vec<u8>], step: u32, streams: &[Text]) ->
     Ok(())
 }
 
-/// The first expression without an identifier.
+/// The first expression without an identifier, in bytes.
 fn expression_of(alloc: Global, words: &[Vec<u8>]) -> Result<Expr, Fail> {
     let list = List::of(alloc, &numbered(alloc, words, 1, b"V")?, &[])?;
     let pattern = list.patterns.first().ok_or("no expression")?;
-    Ok(pattern.expr.copy(alloc)?)
+    Ok(lower(alloc, &pattern.expr)?)
 }
 
 /// Judges whether each engine that takes the row's expression ends behind its streams, as it is wanted.

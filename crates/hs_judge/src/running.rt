@@ -1,57 +1,83 @@
-//! Lists through the runner, each by one kind of engine. It is `#[cfg(test)]`.
-ghost use Rattle.std.specs.Prelude.{◌≤◌, ◌^◌, IsTrue};
-ghost use Rattle.std.specs.List.{All};
+//! Lists by pieces through the plain runner. It is `#[cfg(test)]`.
 
 use crate::cases::{List, Verdict};
-use crate::engines::Judged;
 use crate::scanning::{Log, Scanner, judge_cases};
-use hs_engine::Engine;
-use hs_plain::Pattern;
-use hs_whole::{Program, Role};
-use hs_whole_run::{Scratch, State, feed, finish};
+use crate::setup::Setup;
+use hs_run::{Scratch, clear, feed, finish, well_formed};
 use std::alloc::Global;
 use std::sync::ledger::Ledger;
 use std::test::Fail;
 
-/// The state of a stream, and memory for calls on it.
+/// A stream: its region, and memory for calls on it.
 #[derive(Drop)]
 pub(crate) struct Running {
-    state: State,
+    region: Vec<u8>,
     scratch: Scratch,
 }
 
-impl<E: Engine> Scanner for Program<E> {
+impl Scanner for Setup {
     type Stream = Running;
 
     fn open(&self, alloc: Global) -> Result<Running, Fail> {
+        let mut region = vec![in alloc; 0xffu8; self.layout.size()]?;
+        clear(&mut region);
         Ok(Running {
-            state: State::new(alloc, self)?,
-            scratch: Scratch::new(alloc, self)?,
+            region,
+            scratch: Scratch::new(alloc, &self.program)?,
         })
     }
 
     fn offset(&self, stream: &Running) -> u64 {
-        stream.state.offset()
+        if stream.region.len() == self.layout.size() {
+            self.layout.offset(&stream.region)
+        } else {
+            u64::MAX
+        }
+    }
+
+    fn kept(&self, alloc: Global, stream: &Running) -> Result<Vec<u8>, Fail> {
+        Ok(Vec::from_slice(alloc, &stream.region)?)
     }
 
     fn take<L: Ledger>(&self, stream: &mut Running, bytes: &[u8], log: &mut Log<L>) -> Verdict {
-        let Running { state, scratch } = stream;
-        if state.fits(self) && scratch.fits(self) && state.offset() < 1_000 && bytes.len() < 1_000 {
-            feed(self, state, scratch, bytes, &mut log.told, &mut log.steps);
+        let Setup { program, layout } = self;
+        let Running { region, scratch } = stream;
+        if well_formed(program, layout, region)
+            && scratch.fits(program)
+            && layout.offset(region) < 1_000_000
+            && bytes.len() < 1_000_000
+        {
+            feed(
+                program,
+                layout,
+                region,
+                scratch,
+                bytes,
+                &mut log.told,
+                &mut log.steps,
+            );
             Ok(())
         } else {
-            Err(Fail::new("a state that doesn't fit"))
+            Err(Fail::new("an ill-formed region"))
         }
     }
 
     fn reset<L: Ledger>(&self, stream: &mut Running, log: &mut Log<L>) -> Verdict {
-        let Running { state, scratch } = stream;
-        if state.fits(self) && scratch.fits(self) {
-            finish(self, state, scratch, &mut log.told, &mut log.steps);
-            state.clear(self);
+        let Setup { program, layout } = self;
+        let Running { region, scratch } = stream;
+        if well_formed(program, layout, region) && scratch.fits(program) {
+            finish(
+                program,
+                layout,
+                region,
+                scratch,
+                &mut log.told,
+                &mut log.steps,
+            );
+            clear(region);
             Ok(())
         } else {
-            Err(Fail::new("a state that doesn't fit"))
+            Err(Fail::new("an ill-formed region"))
         }
     }
 
@@ -60,41 +86,7 @@ impl<E: Engine> Scanner for Program<E> {
     }
 }
 
-/// The roles of the patterns, if the engine runs all of them.
-fn roles_of<E: Judged>(alloc: Global, patterns: &[Pattern]) -> Result<Option<Vec<Role<E>>>, Fail> {
-    let mut roles = Vec::new(alloc);
-    for pattern in patterns {
-        let Some((engine, null)) = E::of(alloc, &pattern.expr)? else {
-            return Ok(None);
-        };
-        roles.push(Role {
-            id: pattern.id,
-            single: pattern.single,
-            identifier: 0,
-            min_offset: pattern.least,
-            max_offset: pattern.greatest,
-            engine,
-            null,
-        })?;
-    }
-    Ok(Some(roles))
-}
-
-/// Whether the regions of all are small.
-fn are_small<E: Engine>(roles: &[Role<E>]) -> bool
-    ensures { IsTrue result → All (λ r. (E.meaning r.engine).width ≤ 2 ^ 24) roles.now }
-{
-    roles.iter().all(|role| role.engine.size() <= 16_777_216)
-}
-
-/// Compares the reports of the list by the engine with those that are wanted, where it runs all expressions.
-pub(crate) fn judge_reports<E: Judged>(alloc: Global, list: &List) -> Verdict {
-    let Some(roles) = roles_of::<E>(alloc, &list.patterns)? else {
-        return Ok(());
-    };
-    if roles.len() < 1_000 && are_small(&roles) {
-        judge_cases(alloc, &Program::build(alloc, roles)?, &list.cases)
-    } else {
-        Err(Fail::new("too large a list"))
-    }
+/// Compares the reports of the list by roles with those that are wanted.
+pub(crate) fn judge_roles(alloc: Global, list: &List) -> Verdict {
+    judge_cases(alloc, &Setup::of(alloc, &list.entries)?, &list.cases)
 }

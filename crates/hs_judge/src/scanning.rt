@@ -4,7 +4,7 @@ ghost use Rattle.std.specs.Prelude.{◌≡◌, ◌<◌};
 use crate::cases::{Case, Verdict, ensure};
 use hs_engine::Steps;
 use hs_rows::Text;
-use hs_whole_run::Collected;
+use hs_stream::Collected;
 use std::alloc::{AllocError, Global};
 use std::marker::Brand;
 use std::sync::ledger::{Blank, Ledger};
@@ -21,6 +21,18 @@ pub(crate) struct Log<L: Ledger> {
 }
 
 impl<L: Ledger> Log<L> {
+    /// A log in which nothing is told.
+    pub(crate) fn open(alloc: Global, blank: Blank) -> Result<Log<L>, AllocError>
+        requires name { blank.name ≡ L.name }
+        requires parts { blank.parts ≡ L.parts }
+        requires some { 0 < L.parts }
+    {
+        Ok(Log {
+            told: Collected::new(alloc, ROOM)?,
+            steps: Steps::open(blank),
+        })
+    }
+
     /// Nothing is told from here on.
     fn renew(&mut self, alloc: Global) -> Result<(), AllocError> {
         self.told = Collected::new(alloc, ROOM)?;
@@ -38,6 +50,9 @@ pub(crate) trait Scanner {
 
     /// How many bytes of the stream have come.
     fn offset(&self, stream: &Self::Stream) -> u64;
+
+    /// What is kept of the stream, as bytes.
+    fn kept(&self, alloc: Global, stream: &Self::Stream) -> Result<Vec<u8>, Fail>;
 
     /// Takes the next bytes.
     fn take<L: Ledger>(&self, stream: &mut Self::Stream, bytes: &[u8], log: &mut Log<L>) -> Verdict;
@@ -115,14 +130,15 @@ fn take_pieces<S: Scanner, L: Ledger>(
     case.same("with all", log.told.reports(), &case.wanted.told)
 }
 
-/// Scans the case's stream in pieces that end there, resets it, scans it again, and closes it.
+/// Scans the case's stream in pieces that end there, resets it, scans it again, and closes it. The answer is what was
+/// kept of it behind its last byte.
 fn judge_cut<S: Scanner, L: Ledger>(
     alloc: Global,
     scanner: &S,
     case: &Case,
     ends: &[usize],
     log: &mut Log<L>,
-) -> Verdict {
+) -> Result<Vec<u8>, Fail> {
     let mut stream = scanner.open(alloc)?;
     log.renew(alloc)?;
     take_pieces(scanner, case, ends, &mut stream, log)?;
@@ -131,20 +147,27 @@ fn judge_cut<S: Scanner, L: Ledger>(
     case.same("with a reset", log.told.reports(), &case.wanted.last)?;
     log.renew(alloc)?;
     take_pieces(scanner, case, ends, &mut stream, log)?;
+    let kept = scanner.kept(alloc, &stream)?;
     log.renew(alloc)?;
     scanner.close(stream, log)?;
-    case.same("with the end", log.told.reports(), &case.wanted.last)
+    case.same("with the end", log.told.reports(), &case.wanted.last)?;
+    Ok(kept)
 }
 
-/// Scans the case's stream in many cuts.
+/// Scans the case's stream in many cuts, behind all of which the same is kept.
 fn judge_cuts<S: Scanner, L: Ledger>(
     alloc: Global,
     scanner: &S,
     case: &Case,
     log: &mut Log<L>,
 ) -> Verdict {
+    let mut first = None;
     for ends in &cuts_of(alloc, &case.stream)? {
-        judge_cut(alloc, scanner, case, ends, log)?;
+        let kept = judge_cut(alloc, scanner, case, ends, log)?;
+        match &first {
+            None => first = Some(kept),
+            Some(other) => ensure(*other == kept, "another region by other cuts")?,
+        }
     }
     Ok(())
 }
@@ -160,10 +183,7 @@ fn judge_counted<S: Scanner, L: Ledger>(
     requires parts { blank.parts ≡ L.parts }
     requires some { 0 < L.parts }
 {
-    let mut log = Log {
-        told: Collected::new(alloc, ROOM)?,
-        steps: Steps::<L>::open(blank),
-    };
+    let mut log = Log::<L>::open(alloc, blank)?;
     judge_cuts(alloc, scanner, case, &mut log)
 }
 

@@ -26,7 +26,15 @@ impl Scanner for Database {
     }
 
     fn offset(&self, streaming: &Streaming) -> u64 {
-        streaming.stream.offset(self)
+        if streaming.stream.fits(self) {
+            streaming.stream.offset(self)
+        } else {
+            u64::MAX
+        }
+    }
+
+    fn kept(&self, alloc: Global, streaming: &Streaming) -> Result<Vec<u8>, Fail> {
+        Ok(Vec::from_slice(alloc, streaming.stream.region())?)
     }
 
     fn take<L: Ledger>(

@@ -11,7 +11,8 @@ use std::test::Fail;
 
 #[test]
 fn reports_what_is_documented(rt: HostRuntime) -> Result<(), Fail> {
-    judge(rt.alloc(), rows::DOCUMENTED)
+    judge(rt.alloc(), rows::DOCUMENTED)?;
+    judge(rt.alloc(), rows::CODE_POINTS)
 }
 
 #[test]
@@ -37,7 +38,14 @@ fn repeats_are_as_defined(rt: HostRuntime) -> Result<(), Fail> {
 
 #[test]
 fn chains_are_as_defined(rt: HostRuntime) -> Result<(), Fail> {
-    judge(rt.alloc(), rows::CHAINS)
+    judge(rt.alloc(), rows::CHAINS)?;
+    judge(rt.alloc(), rows::EDGES)?;
+    judge(rt.alloc(), rows::PIECES)
+}
+
+#[test]
+fn random_lists_are_as_defined(rt: HostRuntime) -> Result<(), Fail> {
+    judge(rt.alloc(), rows::RANDOM)
 }
 
 #[test]

@@ -5,7 +5,7 @@ use Rattle.std.specs.List.{flat_map}
 use Rattle.std.proofs.lemmas.List.Concat.{flat_map-append}
 use Rattle.hs_base.specs.Told.{Pair}
 use Rattle.hs_outside.specs.Sink.{IsCutShort}
-use Rattle.hs_whole_run.specs.Events.{Through, still, onward}
+use Rattle.hs_reports.specs.Events.{Through, still, onward}
 use Rattle.hs_lines.specs.Passing.{IsPassedOn}
 use Rattle.hs_lines.specs.declared.report_lines.ReportLines.{ReportLines}
 use Rattle.hs_lines.specs.Printing.{report_line_of, report_lines_of, Way, Prints, passed, cut, over, way_of, Writes}

@@ -6,8 +6,8 @@ use crate::name::Name;
 use crate::pending::Pending;
 use hs_base::{ExprId, Report};
 use hs_outside::{Failed, Sink};
+use hs_reports::Events;
 use hs_text::{LINE_LEN, NAME_LEN, report_line};
-use hs_whole_run::Events;
 
 /// Writes the line of each report that it takes, with the stream's name if it has one, until the sink fails.
 #[derive(Drop)]

@@ -1,7 +1,6 @@
 -- From what the steps of a command leave to how it ends.
 use Rattle.std.proofs.Common.{◌≡◌, ℕ, ◌≤◌, List, ◌++◌, length, Option, Result, Ok, Err, subst}
 use Rattle.hs_base.specs.Entries.{ListedEntry}
-use Rattle.hs_base.specs.Patterns.{Pattern}
 use Rattle.hs_outside.specs.Sink.{IsSent, Sends}
 use Rattle.hs_outside.specs.Store.{Told, IsFile}
 use Rattle.hs_outside.proofs.Sending.{IsSent-then, IsCutShort-after}

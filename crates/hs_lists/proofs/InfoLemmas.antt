@@ -1,38 +1,28 @@
--- The identifiers of a database are those of its entries, each once.
-use Rattle.std.proofs.Common.{◌≡◌, ℕ, zero, suc, List, [], ◌∷◌, ◌++◌, length, map, Some, slice_get, refl, sym, ap, ap₂, ◌∙◌, subst, inl, inr}
+-- What `info` tells: the identifiers of a database are those of its entries, each once, and its region is that of its plan.
+use Rattle.std.proofs.Common.{◌≡◌, ◌↔◌, ℕ, ◌+◌, List, [], ◌∷◌, ◌++◌, length, map, Option, Result, Ok, Err, refl, sym, ap, ap₂, ◌∙◌, subst, inl, inr}
 use Rattle.std.proofs.lemmas.List.{length-map}
-use Rattle.hs_base.specs.Lists.{IsMember}
+use Rattle.hs_base.specs.Lists.{IsMember, OneOf}
 use Rattle.hs_base.specs.Entries.{ListedEntry}
 use Rattle.hs_base.specs.Patterns.{Pattern}
-use Rattle.hs_base.proofs.ListLemmas.{member-map, map-member}
-use Rattle.hs_text.specs.AnswerLines.{info_lines}
-use Rattle.hs_whole.specs.declared.program.Identifier.{Identifier}
-use Rattle.hs_whole.specs.Programs.{identifiers_of}
-use Rattle.hs_whole.specs.Roles.{ids_of}
-use Rattle.hs_compile.specs.declared.database.Database.{Database}
-use Rattle.hs_compile.specs.Databases.{IsDatabaseOf, program_of}
+use Rattle.hs_base.specs.Regions.{IsPlan, Plan, plan_size}
+use Rattle.hs_outside.specs.declared.fault.Failed.{Failed}
+use Rattle.hs_outside.specs.Sink.{IsSent, Sends}
+use Rattle.hs_outside.proofs.Sending.{IsSent-then, IsCutShort-after}
+use Rattle.hs_text.specs.AnswerLines.{info_lines, size_lines}
+use Rattle.hs_nodes.specs.declared.graph.Graph.{Graph}
+use Rattle.hs_reports.specs.declared.identifier.Identifier.{Identifier}
+use Rattle.hs_rose.specs.declared.engine.PieceEngine.{PieceEngine}
+use Rattle.hs_compile.specs.Databases.{Compiled, IsDatabaseOf, graph_of}
 use Rattle.hs_compile.specs.Lists.{AreAcceptedFrom, AreAcceptedAs}
+use Rattle.hs_compile.specs.Sizes.{IsPlanOf}
 use Rattle.hs_lists.specs.Endings.{IsInfoText}
 
--- a member has a place
-member-place : {A : Type 0} (xs : List A) (x : A) → IsMember x xs → (k : ℕ) × (slice_get xs k ≡ Some x)
-member-place [] x none = absurd none
-member-place (y ∷ xs) x (inl e) = (0, ap Some (sym e))
-member-place (y ∷ xs) x (inr e) = let (k, at) = member-place xs x e in (suc k, at)
+-- the identifiers of its graph
+abbrev pub identifiers_of : Compiled → List Identifier
+identifiers_of database = database.graph.identifiers.items
 
--- what has a place is a member
-place-member : {A : Type 0} (xs : List A) (x : A) (k : ℕ) → slice_get xs k ≡ Some x → IsMember x xs
-place-member [] x k at = absurd (cc)
-place-member (y ∷ xs) x zero at = inl (cc)
-place-member (y ∷ xs) x (suc k) at = inr (place-member xs x k at)
-
--- a list of the same length has something at the place
-same-place : {A B : Type 0} (xs : List A) (ys : List B) (y : B) (k : ℕ) → length xs ≡ length ys → slice_get ys k ≡ Some y → (x : A) × (slice_get xs k ≡ Some x)
-same-place [] [] y k e at = absurd (cc)
-same-place [] (b ∷ ys) y k e at = absurd (cc)
-same-place (a ∷ xs) [] y k e at = absurd (cc)
-same-place (a ∷ xs) (b ∷ ys) y zero e at = (a, refl)
-same-place (a ∷ xs) (b ∷ ys) y (suc k) e at = same-place xs ys y k (cc) at
+pub identifiers-count : (database : Compiled) (graph : Graph PieceEngine) (n : ℕ) → graph ≡ graph_of database → n ≡ length graph.identifiers.items → n ≡ length (identifiers_of database)
+identifiers-count database graph n same is = is ∙ ap (λ (x : Graph PieceEngine). length x.identifiers.items) same
 
 -- patterns have the identifiers of their entries
 same-names : (before entries : List ListedEntry) (P : List Pattern) → AreAcceptedFrom before entries P → map (λ (x : Pattern). x.id) P ≡ map (λ (entry : ListedEntry). entry.id) entries
@@ -41,37 +31,44 @@ same-names before [] (x ∷ P) accepted = absurd accepted
 same-names before (entry ∷ entries) [] accepted = absurd accepted
 same-names before (entry ∷ entries) (x ∷ P) accepted = ap₂ (λ n ns. n ∷ ns) (ap (λ (y : Pattern). y.id) accepted.0.is) (same-names (before ++ entry ∷ []) entries P accepted.1)
 
--- an identifier of the program is that of an entry
-program-entry : (database : Database) (P : List Pattern) (names : List ℕ) → map (λ (x : Pattern). x.id) P ≡ names → IsDatabaseOf database P → (id : ℕ) → IsMember id (ids_of (identifiers_of (program_of database))) → IsMember id names
-program-entry database P names same is id member =
-    let identifiers : List Identifier = identifiers_of (program_of database) in
-    let (identifier, there, named) = map-member (λ (i : Identifier). i.id.0) identifiers id member in
-    let (k, at) = member-place identifiers identifier there in
-    let used : IsMember identifier.id.0 (map (λ (x : Pattern). x.id) P) = is.used k identifier at in
-    subst (λ (ns : List ℕ). IsMember id ns) same (subst (λ (n : ℕ). IsMember n (map (λ (x : Pattern). x.id) P)) (sym named) used)
+-- a pattern of an identifier
+one-member : (P : List Pattern) (id : ℕ) → OneOf (λ x. x.id ≡ id) P → IsMember id (map (λ (x : Pattern). x.id) P)
+one-member [] id one = absurd one
+one-member (x ∷ P) id (inl same) = inl (sym same)
+one-member (x ∷ P) id (inr one) = inr (one-member P id one)
 
--- the identifier of an entry is one of the program
-entry-program : (database : Database) (P : List Pattern) (names : List ℕ) → map (λ (x : Pattern). x.id) P ≡ names → IsDatabaseOf database P → (id : ℕ) → IsMember id names → IsMember id (ids_of (identifiers_of (program_of database)))
-entry-program database P names same is id member =
-    let identifiers : List Identifier = identifiers_of (program_of database) in
-    let (x, there, named) = map-member (λ (x : Pattern). x.id) P id (subst (λ (ns : List ℕ). IsMember id ns) (sym same) member) in
-    let (k, at) = member-place P x there in
-    let (r, role_at) = same-place _ P x k is.count at in
-    let role = is.each k r x role_at at in
-    let listed : IsMember role.identifier.id.0 (ids_of identifiers) = member-map (λ (i : Identifier). i.id.0) identifiers role.identifier (place-member identifiers role.identifier r.identifier role.named) in
-    subst (λ (n : ℕ). IsMember n (ids_of identifiers)) (role.id ∙ sym named) listed
+member-one : (P : List Pattern) (id : ℕ) → IsMember id (map (λ (x : Pattern). x.id) P) → OneOf (λ x. x.id ≡ id) P
+member-one [] id member = absurd member
+member-one (x ∷ P) id (inl same) = inl (sym same)
+member-one (x ∷ P) id (inr member) = inr (member-one P id member)
+
+-- the identifiers of the patterns of a plan are those of their entries
+plan-names : (entries : List ListedEntry) (plan : Plan) → AreAcceptedAs entries plan.patterns → IsPlan plan → (id : ℕ) → IsMember id plan.identifiers ↔ IsMember id (map (λ (entry : ListedEntry). entry.id) entries)
+plan-names entries plan accepted is id =
+    let names = same-names [] entries plan.patterns accepted in (
+      λ member. subst (λ (ns : List ℕ). IsMember id ns) names (one-member plan.patterns id ((is.named id).0 member)),
+      λ member. (is.named id).1 (member-one plan.patterns id (subst (λ (ns : List ℕ). IsMember id ns) (sym names) member)),
+    )
 
 -- what the lines of a database say
-pub info-text : (database : Database) (entries : List ListedEntry) (P : List Pattern) → AreAcceptedAs entries P → IsDatabaseOf database P →
-    IsInfoText entries (info_lines (length entries) (length (identifiers_of (program_of database))))
-info-text database entries P accepted is =
-    let names = same-names [] entries P accepted in
+pub info-text : (database : Compiled) (entries : List ListedEntry) (P : List Pattern) (plan : Plan) (count names size state : ℕ) → AreAcceptedAs entries P → IsPlanOf P plan → IsDatabaseOf database plan →
+    count ≡ length entries → names ≡ length (identifiers_of database) → size ≡ plan_size plan → state ≡ size + 42 → IsInfoText entries (info_lines count names ++ size_lines size state)
+info-text database entries P plan count names size state accepted planned is counted named sized stated =
     record {
-      identifiers = ids_of (identifiers_of (program_of database));
-      once = is.rising;
-      same = λ id. (
-        program-entry database P (map (λ (entry : ListedEntry). entry.id) entries) names is id,
-        entry-program database P (map (λ (entry : ListedEntry). entry.id) entries) names is id,
-      );
-      whole = ap (λ n. info_lines (length entries) n) (sym (length-map (identifiers_of (program_of database)) (λ (i : Identifier). i.id.0)));
+      identifiers = plan.identifiers;
+      once = planned.is_plan.identifiers;
+      same = plan-names entries plan (subst (AreAcceptedAs entries) (sym planned.patterns) accepted) planned.is_plan;
+      patterns = P;
+      accepted = accepted;
+      size = size;
+      is_size = record { plan = plan; is = planned; size = sized };
+      whole = ap₂ (λ (x y : List ℕ). x ++ y) (ap₂ info_lines counted all) (ap (size_lines size) stated);
     }
+  where
+    all : names ≡ length plan.identifiers
+    all = named ∙ (sym (length-map (identifiers_of database) (λ (i : Identifier). i.id.0)) ∙ ap length is.runs.ids)
+
+-- two texts, one behind the other
+pub sends-then : {before between : Option (List ℕ)} {faults later : ℕ} {text : List ℕ} (after : Option (List ℕ)) (last : ℕ) (more : List ℕ) (result : Result (Unit {0}) Failed) → IsSent before between faults later text → Sends result between after later last more → Sends result before after faults last (text ++ more)
+sends-then after last more (Ok done) first then = IsSent-then first then
+sends-then after last more (Err failed) first then = IsCutShort-after first then

@@ -12,7 +12,7 @@ use Rattle.hs_compile.specs.Lists.{IsAcceptedAs, AreAcceptedFrom, AreAcceptedAs,
 
 -- an entry that is accepted has a short text
 accepted-short : (before : List ListedEntry) (entry : ListedEntry) (x : Pattern) → IsAcceptedAs before entry x → length entry.text < 2 ^ 16
-accepted-short before entry x accepted = let within = accepted.read.within in omega (arith, within)
+accepted-short before entry x accepted = let within = accepted.read.read.within in omega (arith, within)
 
 -- a list that is accepted has few entries
 accepted-few : (before entries : List ListedEntry) (P : List Pattern) → AreAcceptedFrom before entries P → length before ≤ 65536 → length entries + length before ≤ 65536

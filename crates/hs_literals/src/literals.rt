@@ -1,6 +1,6 @@
 //! Literals, ready to be looked for.
 
-ghost use Rattle.std.specs.Prelude.{◌≡◌, IfOk, map};
+ghost use Rattle.std.specs.Prelude.{◌≡◌, IfOk, length, map};
 ghost use Rattle.hs_base.specs.LiteralView.{literal_byte};
 ghost use Rattle.hs_confirm.specs.Filed.{literals_of, buckets_of};
 ghost use Rattle.hs_literals.specs.Masking.{TablesHideNone, AreFew};
@@ -23,6 +23,13 @@ pub struct Literals {
 
 impl Literals {
     ghost use Rattle.hs_literals.specs.Held.{held};
+
+    /// How many literals there are.
+    pub fn count(&self) -> usize
+        ensures { result ≡ length (held self.now) }
+    {
+        self.confirm.count()
+    }
 
     /// The tables of these literals. They are fast where each literal has 2 to 32 bytes.
     ///

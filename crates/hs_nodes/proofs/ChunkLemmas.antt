@@ -1,8 +1,8 @@
 -- The blocks of a chunk.
-use Rattle.std.proofs.Common.{◌≡◌, ◌⊎◌, ℕ, ◌+◌, ◌*◌, ◌-◌, ◌<◌, ◌≤◌, List, [], ◌∷◌, ◌++◌, length, get_or, take, drop, min, refl, sym, ap, ◌∙◌, inl, inr, arith, eqb, length-drop}
+use Rattle.std.proofs.Common.{◌≡◌, ◌⊎◌, ℕ, zero, suc, ◌+◌, ◌*◌, ◌-◌, ◌<◌, ◌≤◌, List, [], ◌∷◌, ◌++◌, length, get_or, take, drop, min, refl, sym, ap, ◌∙◌, inl, inr, arith, eqb, length-drop}
 use Rattle.std.proofs.Math.Seq.{take-add}
 use Rattle.std.proofs.Math.ListN.{drop_of_length-le}
-use Rattle.std.proofs.lemmas.List.{append-nil, take_all}
+use Rattle.std.proofs.lemmas.List.{append-nil, get_or-append-add, take_all}
 use Rattle.hs_base.specs.Assertions.{line_feed, is_word_byte}
 use Rattle.hs_base.specs.Contexts.{prev_at, prev_by}
 use Rattle.hs_block.proofs.BlockLemmas.{block-more, length-block, prev-push}
@@ -63,3 +63,12 @@ prev-later u bytes j some within =
     let next : last + 1 ≡ 64 * j = omega arith in
     let more : (u ++ take last bytes) ++ get_or bytes last 0 ∷ [] ≡ u ++ take (64 * j) bytes = block-more u bytes last (omega arith) ∙ ap (λ n. u ++ take n bytes) next in
     sym (prev-push (u ++ take last bytes) (get_or bytes last 0)) ∙ ap (λ v. prev_at v (length v)) more
+
+-- the past bytes and those of the chunk
+pub byte-past : (past bytes : List ℕ) (place : ℕ) → place < length past → get_or past place 0 ≡ get_or (past ++ bytes) place 0
+byte-past [] bytes place low = absurd (omega arith)
+byte-past (b ∷ past) bytes zero low = refl
+byte-past (b ∷ past) bytes (suc place) low = byte-past past bytes place (omega arith)
+
+pub byte-own : (past bytes : List ℕ) (place rest : ℕ) → place ≡ length past + rest → get_or bytes rest 0 ≡ get_or (past ++ bytes) place 0
+byte-own past bytes place rest is = sym (ap (λ n. get_or (past ++ bytes) n 0) is ∙ get_or-append-add past bytes rest 0)

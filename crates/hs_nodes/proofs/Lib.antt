@@ -10,6 +10,8 @@ pub mod FirstLemmas
 pub mod KindLemmas
 pub mod RangeLemmas
 pub mod NodeLemmas
+pub mod LookLemmas
+pub mod PairLemmas
 pub mod RestLemmas
 pub mod WalkLemmas
 pub mod SettleLemmas

@@ -16,9 +16,9 @@ use Rattle.hs_nodes.specs.Walks.{AreMoreMarks, IsNodeRun, IsTableSound, node_end
 use Rattle.hs_nodes.proofs.KindLemmas.{one-value}
 use Rattle.hs_nodes.proofs.RangeLemmas.{range-length, written-beside, written-here, written-outside}
 
-module _ {E : Type 0} (meaning : E → Meaning) (table : NodeTable E) (k literals size : ℕ) (own : Node) (region part : List ℕ) (prev : Prev) (at : ℕ) (bytes : List ℕ) (hits : List ChunkHits) (all enters result : ChunkEnds) (ends : List ChunkEnds) (engines : List E)
+module _ {E : Type 0} (meaning : E → Meaning) (table : NodeTable E) (k literals size : ℕ) (own : Node) (region part : List ℕ) (prev : Prev) (at : ℕ) (past bytes : List ℕ) (hits : List ChunkHits) (all enters result : ChunkEnds) (ends : List ChunkEnds) (engines : List E)
     (sound : IsTableSound meaning table literals size) (sized : length region ≡ size) (there : slice_get table.nodes.items k ≡ Some own) (wide : length part ≡ length (node_part region own)) (counts : length ends ≡ length table.nodes.items)
-    (enters_is : enters ≡ entering_ends own.parent all ends) (engines_are : engines ≡ table.engines.items) (well : IsWellPart meaning engines own.kind part (at + length bytes)) (takes : TakesPiece meaning engines own.kind (node_part region own) part prev at bytes hits enters result) where
+    (enters_is : enters ≡ entering_ends own.parent all ends) (engines_are : engines ≡ table.engines.items) (well : IsWellPart meaning engines own.kind part (at + length bytes)) (takes : TakesPiece meaning engines own.kind (node_part region own) part prev at past bytes hits enters result) where
   order : own.start ≤ own.end
   order = sound.order k own there
 
@@ -40,20 +40,20 @@ module _ {E : Type 0} (meaning : E → Meaning) (table : NodeTable E) (k literal
     | inr high ↦ inr (sound.apart k j own other (let more : (j ≡ k → ⊥) → k < j = λ ne. elim (cases_eq j k) [ inl same ↦ absurd (ne same) | inr ne' ↦ omega arith ] in more apart) there at')
   ]
 
-  own-run : IsNodeRun meaning table k own region (take own.start region ++ (part ++ drop (own.end - own.start) (drop own.start region))) prev at bytes hits all ends (slice_set ends k result)
+  own-run : IsNodeRun meaning table k own region (take own.start region ++ (part ++ drop (own.end - own.start) (drop own.start region))) prev at past bytes hits all ends (slice_set ends k result)
   own-run = record {
     well = subst (λ ps. IsWellPart meaning table.engines.items own.kind ps (at + length bytes)) (sym here) (subst (λ es. IsWellPart meaning es own.kind part (at + length bytes)) engines_are well);
     takes =
-        subst (λ ps. TakesPiece meaning table.engines.items own.kind (node_part region own) ps prev at bytes hits (entering_ends own.parent all ends) (node_ends (slice_set ends k result) k)) (sym here)
-        (subst (λ (e : ChunkEnds). TakesPiece meaning table.engines.items own.kind (node_part region own) part prev at bytes hits (entering_ends own.parent all ends) e) (sym (get_or-set_same ends k result nowhere (omega (arith, counts, slice_get_within table.nodes.items k own there))))
-        (subst (λ (e : ChunkEnds). TakesPiece meaning table.engines.items own.kind (node_part region own) part prev at bytes hits e result) enters_is (subst (λ es. TakesPiece meaning es own.kind (node_part region own) part prev at bytes hits enters result) engines_are takes)));
+        subst (λ ps. TakesPiece meaning table.engines.items own.kind (node_part region own) ps prev at past bytes hits (entering_ends own.parent all ends) (node_ends (slice_set ends k result) k)) (sym here)
+        (subst (λ (e : ChunkEnds). TakesPiece meaning table.engines.items own.kind (node_part region own) part prev at past bytes hits (entering_ends own.parent all ends) e) (sym (get_or-set_same ends k result nowhere (omega (arith, counts, slice_get_within table.nodes.items k own there))))
+        (subst (λ (e : ChunkEnds). TakesPiece meaning table.engines.items own.kind (node_part region own) part prev at past bytes hits e result) enters_is (subst (λ es. TakesPiece meaning es own.kind (node_part region own) part prev at past bytes hits enters result) engines_are takes)));
     ends_stay = λ j apart. get_or-set_other ends k j result nowhere apart;
     parts_stay = λ j other apart at'. written-beside region part own.start own.end order within range other.start other.end (sound.order j other at') (omega (arith, sound.within j other at')) (beside j other apart at');
     outside = λ i out. written-outside region part own.start own.end order within range i out;
   }
 
-  pub node-run : (node : Node) → slice_get table.nodes.items k ≡ Some node → IsNodeRun meaning table k node region (take own.start region ++ (part ++ drop (own.end - own.start) (drop own.start region))) prev at bytes hits all ends (slice_set ends k result)
-  node-run node at' = subst (λ (n : Node). IsNodeRun meaning table k n region (take own.start region ++ (part ++ drop (own.end - own.start) (drop own.start region))) prev at bytes hits all ends (slice_set ends k result)) (one-value own node (slice_get table.nodes.items k) there at') own-run
+  pub node-run : (node : Node) → slice_get table.nodes.items k ≡ Some node → IsNodeRun meaning table k node region (take own.start region ++ (part ++ drop (own.end - own.start) (drop own.start region))) prev at past bytes hits all ends (slice_set ends k result)
+  node-run node at' = subst (λ (n : Node). IsNodeRun meaning table k n region (take own.start region ++ (part ++ drop (own.end - own.start) (drop own.start region))) prev at past bytes hits all ends (slice_set ends k result)) (one-value own node (slice_get table.nodes.items k) there at') own-run
 
 -- one more mark
 pub marks-more : (count : ℕ) (first old new : List ℕ) (n : ℕ) → AreMoreMarks count first old → length new ≡ length old → n < count → is_marked new n ≡ true → ((k : ℕ) → (k ≡ n → ⊥) → is_marked new k ≡ is_marked old k) → AreMoreMarks count first new

@@ -7,7 +7,7 @@ use Rattle.hs_base.specs.declared.context.Mask.{Mask}
 use Rattle.hs_base.specs.declared.context.Next.{Next}
 use Rattle.hs_base.specs.declared.context.Next.TheVariants as after
 use Rattle.hs_base.specs.Bits.{has_bit}
-use Rattle.hs_base.specs.Chains.{Piece, lit, piece_tree, IsFitChain}
+use Rattle.hs_base.specs.Chains.{Piece, lit, nfa, piece_tree, IsFitChain}
 use Rattle.hs_base.specs.Contexts.{class_of}
 use Rattle.hs_base.specs.Fields.{entered_always}
 use Rattle.hs_base.specs.Leaving.{IsEmptyAt, LeavesAt, LeavesBehind}
@@ -29,14 +29,16 @@ use Rattle.hs_block.proofs.PlaceLemmas.{less}
 use Rattle.hs_engine.specs.Engines.{Meaning}
 use Rattle.hs_nodes.specs.declared.hits.ChunkHits.{ChunkHits}
 use Rattle.hs_nodes.specs.declared.table.NodeKind.{NodeKind}
-use Rattle.hs_nodes.specs.declared.table.NodeKind.TheVariants.{Engine, Literal, FirstLiteral}
+use Rattle.hs_nodes.specs.declared.table.NodeKind.TheVariants.{Engine, Literal, FirstLiteral, LookBack}
 use Rattle.hs_nodes.specs.Contexts.{IsNull}
 use Rattle.hs_nodes.specs.Hits.{AreChunkHits, KeepsEntries, is_hit_at}
 use Rattle.hs_nodes.specs.Nodes.{AreHitsOf, HoldsPiece, IsAtRest, IsKindSound, IsLiteralOf, IsUnwoken, MayRest, RunsPiece}
 use Rattle.hs_nodes.specs.Pieces.{IsHeld, IsHeldBy}
+use Rattle.hs_nodes.specs.Walks.{StandsBehind}
 use Rattle.hs_nodes.proofs.FirstLemmas.{every-tells, every-turned}
 use Rattle.hs_nodes.proofs.FlatLemmas.{AreLeftNowhere}
 use Rattle.hs_nodes.proofs.KindLemmas.{one-value}
+use Rattle.hs_nodes.proofs.PairLemmas.{pair-passed}
 use Rattle.hs_nodes.proofs.PassLemmas.{passed-all, passed-nowhere}
 
 no-truth : {A : Type 0} → (A → ⊥) → (false ≡ true) ↔ A
@@ -162,6 +164,19 @@ pub data ArePassed (parent : Option ℕ) (pieces : List Piece) (u bytes : List �
   root : parent ≡ None → pieces ≡ [] → ArePassed parent pieces u bytes
   behind : (parent ≡ None → ⊥) → AreLeftNowhere pieces u bytes → ArePassed parent pieces u bytes
 
+-- the pieces before a node's own, as far as its kind asks
+abbrev pub IsPassedBy : NodeKind → (parent : Option ℕ) (pieces : List Piece) (u bytes : List ℕ) → Type 0
+IsPassedBy (Engine number null) parent pieces u bytes = ArePassed parent pieces u bytes
+IsPassedBy (Literal number len) parent pieces u bytes = ArePassed parent pieces u bytes
+IsPassedBy (FirstLiteral number len) parent pieces u bytes = ArePassed parent pieces u bytes
+IsPassedBy (LookBack pair) parent pieces u bytes = Unit {0}
+
+pub stands-passed : (kind : NodeKind) (parent : Option ℕ) (pieces before : List Piece) (u bytes : List ℕ) → StandsBehind kind parent pieces before → ArePassed parent pieces u bytes → IsPassedBy kind parent before u bytes
+stands-passed (Engine number null) parent pieces before u bytes same passed = subst (λ ps. ArePassed parent ps u bytes) (sym same) passed
+stands-passed (Literal number len) parent pieces before u bytes same passed = subst (λ ps. ArePassed parent ps u bytes) (sym same) passed
+stands-passed (FirstLiteral number len) parent pieces before u bytes same passed = subst (λ ps. ArePassed parent ps u bytes) (sym same) passed
+stands-passed (LookBack pair) parent pieces before u bytes alone passed = tt
+
 module _ {E : Type 0} (meaning : E → Meaning) (engines : List E) where
   engine-rests : (number : ℕ) (null : Option Mask) (parent : Option ℕ) (hits : List ChunkHits) (pieces rest : List Piece) (piece : Piece) (part u bytes : List ℕ) (e : E) → slice_get engines number ≡ Some e → (meaning e).is_for (piece_tree piece) → IsNull null (piece_tree piece) → (meaning e).always ≡ false →
       IsFitChain (pieces ++ piece ∷ rest) → Each (λ b. b < 256) bytes → MayRest meaning engines (Engine number null) parent hits part bytes → ArePassed parent pieces u bytes → IsHeld (meaning e) pieces piece part u → IsHeld (meaning e) pieces piece part (u ++ bytes) × AreLeftNowhere (pieces ++ piece ∷ []) u bytes
@@ -190,7 +205,7 @@ module _ {E : Type 0} (meaning : E → Meaning) (engines : List E) where
       }
 
   pub node-rests : (kind : NodeKind) (count size : ℕ) (parent : Option ℕ) (literals : List (List LiteralByte)) (hits : List ChunkHits) (pieces rest : List Piece) (piece : Piece) (part u bytes : List ℕ) → IsKindSound meaning engines count kind size → count ≡ length hits → RunsPiece meaning engines literals kind pieces piece →
-      IsFitChain (pieces ++ piece ∷ rest) → Each (λ b. b < 256) (u ++ bytes) → AreHitsOf literals hits u bytes → MayRest meaning engines kind parent hits part bytes → ArePassed parent pieces u bytes → HoldsPiece meaning engines kind pieces piece part u →
+      IsFitChain (pieces ++ piece ∷ rest) → Each (λ b. b < 256) (u ++ bytes) → AreHitsOf literals hits u bytes → MayRest meaning engines kind parent hits part bytes → IsPassedBy kind parent pieces u bytes → HoldsPiece meaning engines kind pieces piece part u →
       IsPassed kind pieces piece part u bytes
   node-rests (Engine number null) count size parent literals hits pieces rest piece part u bytes sound same of fit small hits_are may passed held =
       let done = engine-rests number null parent hits pieces rest piece part u bytes of.value of.there of.runs of.null_is (sound.each of.value of.there).1 fit (each-right (λ b. b < 256) u bytes small) may passed (held of.value of.there) in record {
@@ -209,6 +224,17 @@ module _ {E : Type 0} (meaning : E → Meaning) (engines : List E) where
       let done = first-passed rest value (len - 1) u bytes own fit' long (omega (arith, sound.1, sound.2)) small (hits_are number value own of.1.there there) (may own there) in record {
         held = tt;
         left = subst (λ ps. AreLeftNowhere (ps ++ piece ∷ []) u bytes) (sym of.0) (subst (λ p. AreLeftNowhere (p ∷ []) u bytes) (sym of.1.is) done);
+      } where
+        no-hits : ChunkHits
+        no-hits = record { at_start = false; behind = [] }
+  node-rests (LookBack pair) count size parent literals hits pieces rest piece part u bytes sound same of fit small hits_are may passed held =
+      let there = slice_get-get_or hits pair.literal no-hits (omega (arith, sound.1)) in
+      let own = get_or hits pair.literal no-hits in
+      let value = of.literal.value in
+      let fit' : IsFitChain (nfa of.tree ∷ lit value ∷ rest) = subst (λ p. IsFitChain (nfa of.tree ∷ p ∷ rest)) of.literal.is (subst (λ ps. IsFitChain (ps ++ piece ∷ rest)) of.before fit) in
+      let done = pair-passed of.tree value rest u bytes own (omega (arith, of.literal.count, sound.2)) fit' small (hits_are pair.literal value own of.literal.there there) (may own there) in record {
+        held = tt;
+        left = subst (λ ps. AreLeftNowhere (ps ++ piece ∷ []) u bytes) (sym of.before) (subst (λ p. AreLeftNowhere (nfa of.tree ∷ p ∷ []) u bytes) (sym of.literal.is) done);
       } where
         no-hits : ChunkHits
         no-hits = record { at_start = false; behind = [] }

@@ -15,7 +15,7 @@ use Rattle.hs_nodes.specs.declared.ends.ChunkEnds.{ChunkEnds}
 use Rattle.hs_nodes.specs.declared.hits.ChunkHits.{ChunkHits}
 use Rattle.hs_nodes.specs.declared.table.Node.{Node}
 use Rattle.hs_nodes.specs.declared.table.NodeKind.{NodeKind}
-use Rattle.hs_nodes.specs.declared.table.NodeKind.TheVariants.{Engine, Literal, FirstLiteral}
+use Rattle.hs_nodes.specs.declared.table.NodeKind.TheVariants.{Engine, Literal, FirstLiteral, LookBack}
 use Rattle.hs_nodes.specs.declared.table.NodeTable.{NodeTable}
 use Rattle.hs_nodes.proofs.KindLemmas.{one-value}
 use Rattle.hs_nodes.proofs.RestLemmas.{byte-small}
@@ -123,6 +123,7 @@ module _ {E : Type 0} (meaning : E → Meaning) (table : NodeTable E) where
   )
   rest-by (Literal number len) hits part bytes parent small rests unwoken = (zero-bits part rests, unwoken)
   rest-by (FirstLiteral number len) hits part bytes parent small rests unwoken = unwoken
+  rest-by (LookBack pair) hits part bytes parent small rests unwoken = unwoken
 
   pub resting-may : RestingNodesMayRest meaning table
   resting-may marks hits region bytes small rests unwoken k node there none = rest-by node.kind hits (node_part region node) bytes node.parent small (rests k node there none) (unwoken k node there none)

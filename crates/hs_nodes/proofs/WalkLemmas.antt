@@ -1,6 +1,6 @@
 -- A walk over nodes, up to one of them.
-use Rattle.std.proofs.Common.{◌≡◌, ◌⊎◌, ℕ, zero, suc, ◌+◌, ◌-◌, ◌<◌, ◌≤◌, Bool, true, false, List, [], ◌∷◌, ◌++◌, length, get_or, slice_get, Option, Some, None, refl, sym, ap, subst, ◌∙◌, inl, inr, arith}
-use Rattle.std.proofs.lemmas.Option.{slice_get_within}
+use Rattle.std.proofs.Common.{◌≡◌, ◌⊎◌, ℕ, zero, suc, ◌+◌, ◌-◌, ◌<◌, ◌≤◌, Bool, true, false, List, [], ◌∷◌, ◌++◌, length, take, slice_get, Option, Some, None, refl, sym, ap, subst, ◌∙◌, inl, inr, arith}
+use Rattle.std.proofs.lemmas.Option.{same_Some, slice_get_within}
 use Rattle.hs_base.specs.declared.context.Prev.{Prev}
 use Rattle.hs_base.specs.Chains.{Piece}
 use Rattle.hs_base.specs.Lists.{Each}
@@ -10,17 +10,17 @@ use Rattle.hs_nodes.specs.declared.ends.ChunkEnds.{ChunkEnds}
 use Rattle.hs_nodes.specs.declared.hits.ChunkHits.{ChunkHits}
 use Rattle.hs_nodes.specs.declared.table.Node.{Node}
 use Rattle.hs_nodes.specs.declared.table.NodeKind.{NodeKind}
-use Rattle.hs_nodes.specs.declared.table.NodeKind.TheVariants.{Engine, Literal, FirstLiteral}
+use Rattle.hs_nodes.specs.declared.table.NodeKind.TheVariants.{Engine, Literal, FirstLiteral, LookBack}
 use Rattle.hs_nodes.specs.declared.table.NodeTable.{NodeTable}
-use Rattle.hs_nodes.specs.Blocks.{EndsBehind}
+use Rattle.hs_nodes.specs.Blocks.{EndsBehind, IsPast}
 use Rattle.hs_nodes.specs.Left.{AreLeftIn, nowhere}
 use Rattle.hs_nodes.specs.Marks.{is_marked}
-use Rattle.hs_nodes.specs.Nodes.{AreHitsOf, HoldsPiece, IsWellPart, MayRest}
-use Rattle.hs_nodes.specs.Walks.{AreMoreMarks, AreNodesHeld, AreNodesOf, AreNodesWell, ChangesMarked, IsAmongChildren, IsNodeHeld, IsNodeRun, IsTableSound, MayNodesRest, TakesNodes, node_ends, entering_ends, node_part, parent_pieces}
+use Rattle.hs_nodes.specs.Nodes.{AreHitsOf, HoldsPiece, IsWellPart, MayRest, most_ticks}
+use Rattle.hs_nodes.specs.Walks.{AreMoreMarks, AreNodesHeld, AreNodesOf, AreNodesWell, ChangesMarked, IsAmongChildren, IsNodeHeld, IsNodeRun, IsTableSound, MayNodesRest, TakesNodes, node_ends, entering_ends, node_part, nodes_ticks, parent_pieces}
 use Rattle.hs_nodes.proofs.FlatLemmas.{AreLeftNowhere, left-nowhere, nowhere-left}
-use Rattle.hs_nodes.proofs.KindLemmas.{one-value}
+use Rattle.hs_nodes.proofs.KindLemmas.{held-stands, one-value, stands-entered, stands-held}
 use Rattle.hs_nodes.proofs.NodeLemmas.{marks-none}
-use Rattle.hs_nodes.proofs.RestLemmas.{ArePassed, root, behind, node-rests}
+use Rattle.hs_nodes.proofs.RestLemmas.{ArePassed, root, behind, node-rests, stands-passed}
 use Rattle.hs_nodes.proofs.RunLemmas.{nowhere-none}
 
 -- the member of a number
@@ -28,17 +28,6 @@ pub there : {A : Type 0} (xs : List A) (k : ℕ) → k < length xs → (x : A) �
 there [] k below = absurd (omega arith)
 there (x ∷ xs) zero below = (x, refl)
 there (x ∷ xs) (suc k) below = there xs k (omega arith)
-
-snoc-some : {A : Type 0} (xs : List A) (x : A) → xs ++ x ∷ [] ≡ [] → ⊥
-snoc-some [] x e = absurd (cc)
-snoc-some (a ∷ xs) x e = absurd (cc)
-
--- of equal lists the last members are equal
-snoc-last : {A : Type 0} (xs ys : List A) (x y : A) → xs ++ x ∷ [] ≡ ys ++ y ∷ [] → x ≡ y
-snoc-last [] [] x y e = cc
-snoc-last [] (b ∷ ys) x y e = let none : ys ++ y ∷ [] ≡ [] = cc in absurd (snoc-some ys y none)
-snoc-last (a ∷ xs) [] x y e = let none : xs ++ x ∷ [] ≡ [] = cc in absurd (snoc-some xs x none)
-snoc-last (a ∷ xs) (b ∷ ys) x y e = let rest : xs ++ x ∷ [] ≡ ys ++ y ∷ [] = cc in snoc-last xs ys x y rest
 
 parent-cases : (parent : Option ℕ) → (parent ≡ None) ⊎ ((p : ℕ) × (parent ≡ Some p))
 parent-cases None = inl refl
@@ -59,6 +48,7 @@ module _ {E : Type 0} (meaning : E → Meaning) (table : NodeTable E) where
   rest-well (Engine number null) parent hits part bytes at may = λ e there'. (may e there').0.well at
   rest-well (Literal number len) parent hits part bytes at may = record { spare = λ k high. may.0 k; early = λ k high. may.0 k }
   rest-well (FirstLiteral number len) parent hits part bytes at may = tt
+  rest-well (LookBack pair) parent hits part bytes at may = tt
 
   -- the nodes before one of them are done
   pub record AreDone (pieces : ℕ → List Piece) (region u bytes : List ℕ) (ends : List ChunkEnds) (n : ℕ) : Type 0 where
@@ -66,29 +56,30 @@ module _ {E : Type 0} (meaning : E → Meaning) (table : NodeTable E) where
     pub held : (k : ℕ) (node : Node) → k < n → slice_get table.nodes.items k ≡ Some node → IsNodeHeld meaning table pieces region (u ++ bytes) k node
 
   -- and so for all pieces, behind any stream
-  abbrev pub TakesTo : (old new : List ℕ) (prev : Prev) (at : ℕ) (bytes : List ℕ) (hits : List ChunkHits) (ends : List ChunkEnds) (n : ℕ) → Type 0
-  TakesTo old new prev at bytes hits ends n =
+  abbrev pub TakesTo : (old new : List ℕ) (prev : Prev) (at : ℕ) (past bytes : List ℕ) (hits : List ChunkHits) (ends : List ChunkEnds) (n : ℕ) → Type 0
+  TakesTo old new prev at past bytes hits ends n =
       (literals : List (List LiteralByte)) (pieces : ℕ → List Piece) (u : List ℕ) →
       AreNodesOf meaning table literals pieces →
       EndsBehind u prev at →
+      IsPast past u →
       Each (λ b. b < 256) (u ++ bytes) →
       AreHitsOf literals hits u bytes →
       AreNodesHeld meaning table pieces old u →
       AreDone pieces new u bytes ends n
 
   -- how far a walk has come
-  pub record IsWalk (first : List ℕ) (marks_first : List ℕ) (prev : Prev) (at : ℕ) (bytes : List ℕ) (hits : List ChunkHits) (region : List ℕ) (ends : List ChunkEnds) (marks : List ℕ) (n : ℕ) : Type 0 where
+  pub record IsWalk (first : List ℕ) (marks_first : List ℕ) (prev : Prev) (at : ℕ) (past bytes : List ℕ) (hits : List ChunkHits) (region : List ℕ) (ends : List ChunkEnds) (marks : List ℕ) (n : ℕ) : Type 0 where
     pub within : n ≤ length table.nodes.items
     pub more : AreMoreMarks (length table.nodes.items) marks_first marks
     pub changes : ChangesMarked meaning table marks first region ends
     pub later : (k : ℕ) (node : Node) → n ≤ k → slice_get table.nodes.items k ≡ Some node → (node_ends ends k ≡ nowhere) × (node_part region node ≡ node_part first node)
     pub parents : (k p : ℕ) (node : Node) → n ≤ k → slice_get table.nodes.items k ≡ Some node → is_marked marks k ≡ false → node.parent ≡ Some p → p < n → node_ends ends p ≡ nowhere
     pub well : (k : ℕ) (node : Node) → k < n → slice_get table.nodes.items k ≡ Some node → IsWellPart meaning table.engines.items node.kind (node_part region node) (at + length bytes)
-    pub takes : TakesTo first region prev at bytes hits ends n
+    pub takes : TakesTo first region prev at past bytes hits ends n
 
-  module _ (first : List ℕ) (marks_first : List ℕ) (prev : Prev) (at : ℕ) (bytes : List ℕ) (hits : List ChunkHits) (sound : IsTableSound meaning table (length hits) (length first)) (few : length bytes ≤ 512) where
+  module _ (first : List ℕ) (marks_first : List ℕ) (prev : Prev) (at : ℕ) (past bytes : List ℕ) (hits : List ChunkHits) (sound : IsTableSound meaning table (length hits) (length first)) (few : length bytes ≤ 512) where
     -- nothing is done yet
-    pub walk-none : (ends : List ChunkEnds) → ((k : ℕ) → node_ends ends k ≡ nowhere) → ((k : ℕ) → is_marked marks_first k ≡ true → k < length table.nodes.items) → IsWalk first marks_first prev at bytes hits first ends marks_first 0
+    pub walk-none : (ends : List ChunkEnds) → ((k : ℕ) → node_ends ends k ≡ nowhere) → ((k : ℕ) → is_marked marks_first k ≡ true → k < length table.nodes.items) → IsWalk first marks_first prev at past bytes hits first ends marks_first 0
     walk-none ends clear below = record {
       within = omega arith;
       more = marks-none (length table.nodes.items) marks_first below;
@@ -96,7 +87,7 @@ module _ {E : Type 0} (meaning : E → Meaning) (table : NodeTable E) where
       later = λ k node high there'. (clear k, refl);
       parents = λ k p node high there' none of low. absurd (omega arith);
       well = λ k node low there'. absurd (omega arith);
-      takes = λ literals pieces u of stands small hits_are held. record { left = λ k low. absurd (omega arith); held = λ k node low there'. absurd (omega arith) };
+      takes = λ literals pieces u of stands past_is small hits_are held. record { left = λ k low. absurd (omega arith); held = λ k node low there'. absurd (omega arith) };
     }
 
     module _ (rests : MayNodesRest meaning table marks_first hits first bytes) (region : List ℕ) (ends : List ChunkEnds) (marks : List ℕ) where
@@ -116,15 +107,15 @@ module _ {E : Type 0} (meaning : E → Meaning) (table : NodeTable E) where
       below-or n k low = grind arith
 
       -- a node that isn't marked is passed over
-      pub walk-pass : (n m : ℕ) → m ≡ n + 1 → n < length table.nodes.items → is_marked marks n ≡ false → IsWalk first marks_first prev at bytes hits region ends marks n → IsWalk first marks_first prev at bytes hits region ends marks m
-      walk-pass n m next below none walk = subst (λ k. IsWalk first marks_first prev at bytes hits region ends marks k) (sym next) (record {
+      pub walk-pass : (n m : ℕ) → m ≡ n + 1 → n < length table.nodes.items → is_marked marks n ≡ false → IsWalk first marks_first prev at past bytes hits region ends marks n → IsWalk first marks_first prev at past bytes hits region ends marks m
+      walk-pass n m next below none walk = subst (λ k. IsWalk first marks_first prev at past bytes hits region ends marks k) (sym next) (record {
         within = omega arith;
         more = walk.more;
         changes = walk.changes;
         later = λ k other high at_k. walk.later k other (omega arith) at_k;
         parents = λ k p other high at_k none' of low. parent-zero k p other high at_k none' of (below-or n p low);
         well = λ k other low at_k. well-by k other at_k (below-or n k low);
-        takes = λ literals pieces u of stands small hits_are held. done-more literals pieces u of stands small hits_are held;
+        takes = λ literals pieces u of stands past_is small hits_are held. done-more literals pieces u of stands past_is small hits_are held;
       }) where
         own : (x : Node) × (slice_get table.nodes.items n ≡ Some x)
         own = there table.nodes.items n below
@@ -148,19 +139,19 @@ module _ {E : Type 0} (meaning : E → Meaning) (table : NodeTable E) where
             let is : own.0 ≡ other = one-value own.0 other (slice_get table.nodes.items n) own.1 (ap (λ i. slice_get table.nodes.items i) (sym same) ∙ at_k) in
             subst (λ (nd : Node). IsWellPart meaning table.engines.items nd.kind (node_part region nd) (at + length bytes)) is own-well
 
-        done-more : (literals : List (List LiteralByte)) (pieces : ℕ → List Piece) (u : List ℕ) → AreNodesOf meaning table literals pieces → EndsBehind u prev at → Each (λ b. b < 256) (u ++ bytes) → AreHitsOf literals hits u bytes → AreNodesHeld meaning table pieces first u →
+        done-more : (literals : List (List LiteralByte)) (pieces : ℕ → List Piece) (u : List ℕ) → AreNodesOf meaning table literals pieces → EndsBehind u prev at → IsPast past u → Each (λ b. b < 256) (u ++ bytes) → AreHitsOf literals hits u bytes → AreNodesHeld meaning table pieces first u →
             AreDone pieces region u bytes ends (n + 1)
-        done-more literals pieces u of stands small hits_are held =
-            let done = walk.takes literals pieces u of stands small hits_are held in
+        done-more literals pieces u of stands past_is small hits_are held =
+            let done = walk.takes literals pieces u of stands past_is small hits_are held in
             let is = of n own.0 own.1 in
             let before = passed-before n own.0 pieces u own.1 none (λ p is_p. walk.parents n p own.0 (omega arith) own.1 none is_p (sound.earlier n p own.0 own.1 is_p)) done.left in
-            let passed = node-rests meaning table.engines.items own.0.kind (length hits) (own.0.end - own.0.start) own.0.parent literals hits (parent_pieces pieces own.0.parent) is.rest is.piece (node_part first own.0) u bytes (sound.kinds n own.0 own.1) refl is.runs is.fit small hits_are may before
-            (held n own.0 own.1 is.piece is.own) in
-            let zero_left : AreLeftIn (pieces n) u bytes (node_ends ends n) = subst (λ (e : ChunkEnds). AreLeftIn (pieces n) u bytes e) (sym later_own.0) (subst (λ ps. AreLeftIn ps u bytes nowhere) (sym is.own) (nowhere-left (parent_pieces pieces own.0.parent ++ is.piece ∷ []) u bytes nowhere nowhere-none passed.left)) in
-            let own_held : IsNodeHeld meaning table pieces region (u ++ bytes) n own.0 = λ piece ends_with.
-            let same : is.piece ≡ piece = snoc-last (parent_pieces pieces own.0.parent) (parent_pieces pieces own.0.parent) is.piece piece (sym is.own ∙ ends_with) in
-            subst (λ p. HoldsPiece meaning table.engines.items own.0.kind (parent_pieces pieces own.0.parent) p (node_part region own.0) (u ++ bytes)) same
-            (subst (λ ps. HoldsPiece meaning table.engines.items own.0.kind (parent_pieces pieces own.0.parent) is.piece ps (u ++ bytes)) (sym later_own.1) passed.held) in record {
+            let passed = node-rests meaning table.engines.items own.0.kind (length hits) (own.0.end - own.0.start) own.0.parent literals hits is.before is.rest is.piece (node_part first own.0) u bytes (sound.kinds n own.0 own.1) refl is.runs is.fit small hits_are may
+            (stands-passed own.0.kind own.0.parent (parent_pieces pieces own.0.parent) is.before u bytes is.behind before)
+            (stands-held meaning table.engines.items own.0.kind own.0.parent (pieces n) (parent_pieces pieces own.0.parent) is.before is.piece (node_part first own.0) u is.behind is.own (held n own.0 own.1)) in
+            let zero_left : AreLeftIn (pieces n) u bytes (node_ends ends n) = subst (λ (e : ChunkEnds). AreLeftIn (pieces n) u bytes e) (sym later_own.0) (subst (λ ps. AreLeftIn ps u bytes nowhere) (sym is.own) (nowhere-left (is.before ++ is.piece ∷ []) u bytes nowhere nowhere-none passed.left)) in
+            let own_held : IsNodeHeld meaning table pieces region (u ++ bytes) n own.0 =
+            held-stands meaning table.engines.items own.0.kind own.0.parent (pieces n) (parent_pieces pieces own.0.parent) is.before is.piece (node_part region own.0) (u ++ bytes) is.behind is.own
+            (subst (λ ps. HoldsPiece meaning table.engines.items own.0.kind is.before is.piece ps (u ++ bytes)) (sym later_own.1) passed.held) in record {
               left = λ k low. elim (below-or n k low) [ inl under ↦ done.left k under | inr same ↦ subst (λ i. AreLeftIn (pieces i) u bytes (node_ends ends i)) (sym same) zero_left ];
               held = λ k other low at_k. elim (below-or n k low) [
                 | inl under ↦ done.held k other under at_k
@@ -171,15 +162,15 @@ module _ {E : Type 0} (meaning : E → Meaning) (table : NodeTable E) where
             }
 
       -- and so are all up to one of them
-      pub walk-to : (n d m : ℕ) → m ≡ n + d → m ≤ length table.nodes.items → ((k : ℕ) → n ≤ k → k < m → is_marked marks k ≡ false) → IsWalk first marks_first prev at bytes hits region ends marks n → IsWalk first marks_first prev at bytes hits region ends marks m
-      walk-to n zero m same within none walk = let is : n ≡ m = omega arith in subst (λ k. IsWalk first marks_first prev at bytes hits region ends marks k) is walk
+      pub walk-to : (n d m : ℕ) → m ≡ n + d → m ≤ length table.nodes.items → ((k : ℕ) → n ≤ k → k < m → is_marked marks k ≡ false) → IsWalk first marks_first prev at past bytes hits region ends marks n → IsWalk first marks_first prev at past bytes hits region ends marks m
+      walk-to n zero m same within none walk = let is : n ≡ m = omega arith in subst (λ k. IsWalk first marks_first prev at past bytes hits region ends marks k) is walk
       walk-to n (suc d) m same within none walk =
-          let before : IsWalk first marks_first prev at bytes hits region ends marks (n + d) = walk-to n d (n + d) refl (omega arith) (λ k low high. none k low (omega arith)) walk in
+          let before : IsWalk first marks_first prev at past bytes hits region ends marks (n + d) = walk-to n d (n + d) refl (omega arith) (λ k low high. none k low (omega arith)) walk in
           walk-pass (n + d) m (omega arith) (omega arith) (none (n + d) (omega arith) (omega arith)) before
 
     module _ (all : ChunkEnds) (everywhere : (u : List ℕ) → AreLeftIn [] u bytes all) (region region' : List ℕ) (ends ends' : List ChunkEnds) (marks marks' : List ℕ) (n m : ℕ) (next : m ≡ n + 1) (own : Node) (at_n : slice_get table.nodes.items n ≡ Some own) (marked : is_marked marks n ≡ true)
-        (run : IsNodeRun meaning table n own region region' prev at bytes hits all ends ends') (sized : length region' ≡ length region) (grown : AreMoreMarks (length table.nodes.items) marks marks')
-        (children : (node_ends ends' n ≡ nowhere) ⊎ ((k : ℕ) → IsAmongChildren table.child_starts.items table.children.items n k → is_marked marks' k ≡ true)) (walk : IsWalk first marks_first prev at bytes hits region ends marks n) where
+        (run : IsNodeRun meaning table n own region region' prev at past bytes hits all ends ends') (sized : length region' ≡ length region) (grown : AreMoreMarks (length table.nodes.items) marks marks')
+        (children : (node_ends ends' n ≡ nowhere) ⊎ ((k : ℕ) → IsAmongChildren table.child_starts.items table.children.items n k → is_marked marks' k ≡ true)) (walk : IsWalk first marks_first prev at past bytes hits region ends marks n) where
       below-next : (k : ℕ) → k < m → (k < n) ⊎ (k ≡ n)
       below-next k low = grind (arith, next)
 
@@ -209,15 +200,19 @@ module _ {E : Type 0} (meaning : E → Meaning) (table : NodeTable E) where
       entering-left pieces u left None is = everywhere u
       entering-left pieces u left (Some p) is = left p (sound.earlier n p own at_n is)
 
-      done-next : TakesTo first region' prev at bytes hits ends' m
-      done-next literals pieces u of stands small hits_are held =
-          let done = walk.takes literals pieces u of stands small hits_are held in
+      done-next : TakesTo first region' prev at past bytes hits ends' m
+      done-next literals pieces u of stands past_is small hits_are held =
+          let done = walk.takes literals pieces u of stands past_is small hits_are held in
           let is = of n own at_n in
-          let start : HoldsPiece meaning table.engines.items own.kind (parent_pieces pieces own.parent) is.piece (node_part region own) u = subst (λ ps. HoldsPiece meaning table.engines.items own.kind (parent_pieces pieces own.parent) is.piece ps u) (sym (walk.later n own (omega arith) at_n).1) (held n own at_n is.piece is.own) in
-          let result = run.takes literals (parent_pieces pieces own.parent) is.rest is.piece u is.runs is.fit stands small hits_are (entering-left pieces u done.left own.parent refl) start in
+          let start : HoldsPiece meaning table.engines.items own.kind is.before is.piece (node_part region own) u =
+          subst (λ ps. HoldsPiece meaning table.engines.items own.kind is.before is.piece ps u) (sym (walk.later n own (omega arith) at_n).1)
+          (stands-held meaning table.engines.items own.kind own.parent (pieces n) (parent_pieces pieces own.parent) is.before is.piece (node_part first own) u is.behind is.own (held n own at_n)) in
+          let result =
+          run.takes literals is.before is.rest is.piece u is.runs is.fit stands past_is small hits_are
+          (stands-entered own.kind own.parent (parent_pieces pieces own.parent) is.before u bytes (entering_ends own.parent all ends) is.behind (entering-left pieces u done.left own.parent refl)) start in
           let own_left : AreLeftIn (pieces n) u bytes (node_ends ends' n) = subst (λ ps. AreLeftIn ps u bytes (node_ends ends' n)) (sym is.own) result.left in
-          let own_held : IsNodeHeld meaning table pieces region' (u ++ bytes) n own = λ piece ends_with.
-          subst (λ p. HoldsPiece meaning table.engines.items own.kind (parent_pieces pieces own.parent) p (node_part region' own) (u ++ bytes)) (snoc-last (parent_pieces pieces own.parent) (parent_pieces pieces own.parent) is.piece piece (sym is.own ∙ ends_with)) result.held in record {
+          let own_held : IsNodeHeld meaning table pieces region' (u ++ bytes) n own =
+          held-stands meaning table.engines.items own.kind own.parent (pieces n) (parent_pieces pieces own.parent) is.before is.piece (node_part region' own) (u ++ bytes) is.behind is.own result.held in record {
             left = λ k low. elim (below-next k low) [
               | inl under ↦ subst (λ (e : ChunkEnds). AreLeftIn (pieces k) u bytes e) (sym (run.ends_stay k (λ same. absurd (omega arith)))) (done.left k under)
               | inr same ↦ subst (λ i. AreLeftIn (pieces i) u bytes (node_ends ends' i)) (sym same) own_left
@@ -231,7 +226,7 @@ module _ {E : Type 0} (meaning : E → Meaning) (table : NodeTable E) where
           }
 
       -- the node is run
-      pub walk-visit : IsWalk first marks_first prev at bytes hits region' ends' marks' m
+      pub walk-visit : IsWalk first marks_first prev at past bytes hits region' ends' marks' m
       walk-visit =
           let low = slice_get_within table.nodes.items n own at_n in record {
             within = omega arith;
@@ -254,18 +249,33 @@ module _ {E : Type 0} (meaning : E → Meaning) (table : NodeTable E) where
           }
 
     -- all nodes
-    pub walk-well : (region : List ℕ) (ends : List ChunkEnds) (marks : List ℕ) → IsWalk first marks_first prev at bytes hits region ends marks (length table.nodes.items) → AreNodesWell meaning table region (at + length bytes)
+    pub walk-well : (region : List ℕ) (ends : List ChunkEnds) (marks : List ℕ) → IsWalk first marks_first prev at past bytes hits region ends marks (length table.nodes.items) → AreNodesWell meaning table region (at + length bytes)
     walk-well region ends marks walk k node at_k = walk.well k node (slice_get_within table.nodes.items k node at_k) at_k
 
-    pub walk-takes : (region : List ℕ) (ends : List ChunkEnds) (marks : List ℕ) → IsWalk first marks_first prev at bytes hits region ends marks (length table.nodes.items) → TakesNodes meaning table first region prev at bytes hits ends
-    walk-takes region ends marks walk literals pieces u of stands small hits_are held =
-        let done = walk.takes literals pieces u of stands small hits_are held in record {
+    pub walk-takes : (region : List ℕ) (ends : List ChunkEnds) (marks : List ℕ) → IsWalk first marks_first prev at past bytes hits region ends marks (length table.nodes.items) → TakesNodes meaning table first region prev at past bytes hits ends
+    walk-takes region ends marks walk literals pieces u of stands past_is small hits_are held =
+        let done = walk.takes literals pieces u of stands past_is small hits_are held in record {
           held = λ k node at_k. done.held k node (slice_get_within table.nodes.items k node at_k) at_k;
           left = done.left;
         }
 
--- what is read doesn't depend on what is read beyond the end
-pub same-default : {A : Type 0} (xs : List A) (i : ℕ) (d e : A) → i < length xs → get_or xs i d ≡ get_or xs i e
-same-default [] i d e low = absurd (omega arith)
-same-default (x ∷ xs) zero d e low = refl
-same-default (x ∷ xs) (suc i) d e low = same-default xs i d e (omega arith)
+-- the steps of the nodes up to one of them
+
+ticks-next : (xs : List Node) (k : ℕ) (hits : List ChunkHits) (count : ℕ) (node : Node) → slice_get xs k ≡ Some node → nodes_ticks (take (suc k) xs) hits count ≡ nodes_ticks (take k xs) hits count + most_ticks node.kind hits count
+ticks-next [] k hits count node at = absurd (cc)
+ticks-next (x ∷ xs) zero hits count node at = let same : x ≡ node = same_Some x node at in ap (λ (n : Node). most_ticks n.kind hits count + 0) same ∙ omega arith
+ticks-next (x ∷ xs) (suc k) hits count node at = let more = ticks-next xs k hits count node at in omega (arith, more)
+
+pub ticks-more : (xs : List Node) (k : ℕ) (hits : List ChunkHits) (count : ℕ) (node : Node) → slice_get xs k ≡ Some node → nodes_ticks (take (k + 1) xs) hits count ≡ nodes_ticks (take k xs) hits count + most_ticks node.kind hits count
+ticks-more xs k hits count node at = let next : k + 1 ≡ suc k = omega arith in ap (λ n. nodes_ticks (take n xs) hits count) next ∙ ticks-next xs k hits count node at
+
+pub ticks-grow : (xs : List Node) (k n : ℕ) (hits : List ChunkHits) (count : ℕ) → k ≤ n → nodes_ticks (take k xs) hits count ≤ nodes_ticks (take n xs) hits count
+ticks-grow xs zero n hits count low = omega arith
+ticks-grow [] (suc k) n hits count low = omega arith
+ticks-grow (x ∷ xs) (suc k) zero hits count low = absurd (omega arith)
+ticks-grow (x ∷ xs) (suc k) (suc n) hits count low = let more = ticks-grow xs k n hits count (omega arith) in omega (arith, more)
+
+pub ticks-all : (xs : List Node) (k : ℕ) (hits : List ChunkHits) (count : ℕ) → nodes_ticks (take k xs) hits count ≤ nodes_ticks xs hits count
+ticks-all xs zero hits count = omega arith
+ticks-all [] (suc k) hits count = omega arith
+ticks-all (x ∷ xs) (suc k) hits count = let more = ticks-all xs k hits count in omega (arith, more)

@@ -11,7 +11,7 @@ use Rattle.hs_block.specs.BlockContexts.{AreContexts}
 use Rattle.hs_block.specs.declared.contexts.Contexts.{Contexts}
 use Rattle.hs_nodes.specs.Blocks.{EndsBehind, block, front}
 use Rattle.hs_nodes.specs.declared.table.NodeKind.{NodeKind}
-use Rattle.hs_nodes.specs.declared.table.NodeKind.TheVariants.{Engine, Literal, FirstLiteral}
+use Rattle.hs_nodes.specs.declared.table.NodeKind.TheVariants.{Engine, Literal, FirstLiteral, LookBack}
 
 -- where an expression has the empty span: nowhere, or in the contexts of a mask
 abbrev pub IsNull : Option Mask → Tree → Type 0
@@ -31,3 +31,4 @@ NeedsContexts (Engine number None) = ⊥
 NeedsContexts (Engine number (Some mask)) = Unit {0}
 NeedsContexts (Literal number len) = ⊥
 NeedsContexts (FirstLiteral number len) = ⊥
+NeedsContexts (LookBack pair) = ⊥

@@ -1,5 +1,5 @@
 -- Where a literal ends in a chunk, and what is kept of it.
-use Rattle.std.specs.Prelude.{◌≡◌, ◌↔◌, ℕ, zero, suc, ◌+◌, ◌/◌, ◌%◌, ◌<◌, ◌≤◌, Bool, true, false, List, ◌∷◌, ◌++◌}
+use Rattle.std.specs.Prelude.{◌≡◌, ◌↔◌, ℕ, zero, suc, ◌+◌, ◌/◌, ◌%◌, ◌<◌, ◌≤◌, Bool, true, false, List, [], ◌∷◌, ◌++◌}
 use Rattle.std.specs.Prelude.{length, slice_index}
 use Rattle.hs_base.specs.Chains.{Piece, lit, IsFitChain}
 use Rattle.hs_base.specs.Lists.{Each}
@@ -9,7 +9,7 @@ use Rattle.hs_base.specs.Trees.{Tree}
 use Rattle.hs_base.specs.Bits.{has_bit}
 use Rattle.hs_base.specs.LiteralRows.{TellsEntries}
 use Rattle.hs_block.specs.LiteralBlocks.{TellsCarried, turned}
-use Rattle.hs_block.specs.WordBits.{word_bit}
+use Rattle.hs_block.specs.WordBits.{word_bit, count_below}
 use Rattle.hs_nodes.specs.Left.{AreLeftIn}
 use Rattle.hs_nodes.specs.Pieces.{IsHeldBy, IsRunOver}
 use Rattle.hs_nodes.specs.declared.ends.ChunkEnds.{ChunkEnds}
@@ -19,6 +19,14 @@ use Rattle.hs_nodes.specs.declared.hits.ChunkHits.{ChunkHits}
 abbrev pub is_hit_at : ChunkHits → ℕ → Bool
 is_hit_at hits zero = hits.at_start
 is_hit_at hits (suc i) = word_bit (slice_index hits.behind (i / 64)) (i % 64)
+
+-- how often the literal ends in a chunk of so many bytes: at its beginning, or behind a byte of it
+abbrev pub hit_count : ChunkHits → (count : ℕ) → ℕ
+hit_count hits count = count_below (suc count) (is_hit_at hits)
+
+-- it ends nowhere
+abbrev pub no_hits : ChunkHits
+no_hits = record { at_start = false; behind = [] }
 
 -- The hits tell where the literal ends in a chunk behind u.
 abbrev pub AreChunkHits : ChunkHits → List LiteralByte → (u bytes : List ℕ) → Type 0

@@ -6,5 +6,7 @@ pub mod Hits
 pub mod Contexts
 pub mod FirstLiterals
 pub mod Nodes
+pub mod LookBacks
 pub mod Walks
 pub mod Resting
+pub mod Graphs

@@ -14,7 +14,7 @@ use Rattle.hs_nodes.specs.declared.ends.ChunkEnds.{ChunkEnds}
 use Rattle.hs_nodes.specs.declared.hits.ChunkHits.{ChunkHits}
 use Rattle.hs_nodes.specs.declared.table.Node.{Node}
 use Rattle.hs_nodes.specs.declared.table.NodeKind.{NodeKind}
-use Rattle.hs_nodes.specs.declared.table.NodeKind.TheVariants.{Engine, Literal, FirstLiteral}
+use Rattle.hs_nodes.specs.declared.table.NodeKind.TheVariants.{Engine, Literal, FirstLiteral, LookBack}
 use Rattle.hs_nodes.specs.declared.table.NodeTable.{NodeTable}
 
 -- nothing is live in what is kept of a node of that kind
@@ -22,6 +22,7 @@ abbrev pub IsUnset : NodeKind → (part : List ℕ) → Type 0
 IsUnset (Engine number null) part = AreZero part
 IsUnset (Literal number len) part = AreZero part
 IsUnset (FirstLiteral number len) part = Unit {0}
+IsUnset (LookBack pair) part = Unit {0}
 
 -- Nothing is live in an engine's region, and it may stand at any offset, behind the empty stream too.
 pub record IsIdleEngine (m : Meaning) (part : List ℕ) : Type 0 where
@@ -41,15 +42,22 @@ module _ {E : Type 0} (meaning : E → Meaning) (engines : List E) where
       (e : E) → slice_get engines number ≡ Some e → IsIdleEngine (meaning e) part
   IsResting (Literal number len) part = AreZero part
   IsResting (FirstLiteral number len) part = Unit {0}
+  IsResting (LookBack pair) part = Unit {0}
 
   -- A chunk doesn't wake a node of that kind: if it has no parent, it has no empty span and no byte wakes it; and a
-  -- first literal ends nowhere.
+  -- first literal, or one behind an expression that looks back, ends nowhere.
   abbrev pub IsUnwokenIn : NodeKind → (parent : Option ℕ) → (hits : List ChunkHits) (bytes : List ℕ) → Type 0
   IsUnwokenIn (Engine number null) parent hits bytes =
       parent ≡ None → (null ≡ None) × ((e : E) → slice_get engines number ≡ Some e → IsAsleepIn (meaning e) bytes)
   IsUnwokenIn (Literal number len) parent hits bytes = parent ≡ None → ⊥
   IsUnwokenIn (FirstLiteral number len) parent hits bytes =
       (own : ChunkHits) → slice_get hits number ≡ Some own → (i : ℕ) → i ≤ length bytes → is_hit_at own i ≡ false
+  IsUnwokenIn (LookBack pair) parent hits bytes =
+      (own : ChunkHits) →
+      slice_get hits pair.literal ≡ Some own →
+      (i : ℕ) →
+      i ≤ length bytes →
+      is_hit_at own i ≡ false
 
 module _ {E : Type 0} (meaning : E → Meaning) (table : NodeTable E) where
   -- nothing is live in the nodes that aren't marked

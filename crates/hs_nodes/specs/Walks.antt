@@ -6,14 +6,16 @@ use Rattle.hs_base.specs.Chains.{Piece, IsFitChain}
 use Rattle.hs_base.specs.Lists.{Each}
 use Rattle.hs_base.specs.Literals.{LiteralByte}
 use Rattle.hs_engine.specs.Engines.{Meaning}
-use Rattle.hs_nodes.specs.Blocks.{EndsBehind}
+use Rattle.hs_nodes.specs.Blocks.{EndsBehind, IsPast}
 use Rattle.hs_nodes.specs.Left.{AreLeftIn, nowhere}
 use Rattle.hs_nodes.specs.Marks.{is_marked}
 use Rattle.hs_nodes.specs.Nodes.{AreHitsOf, HoldsPiece, IsKindSound, IsWellPart, MayRest, RunsPiece}
-use Rattle.hs_nodes.specs.Nodes.{TakesPiece}
+use Rattle.hs_nodes.specs.Nodes.{TakesPiece, most_ticks}
 use Rattle.hs_nodes.specs.declared.ends.ChunkEnds.{ChunkEnds}
 use Rattle.hs_nodes.specs.declared.hits.ChunkHits.{ChunkHits}
 use Rattle.hs_nodes.specs.declared.table.Node.{Node}
+use Rattle.hs_nodes.specs.declared.table.NodeKind.{NodeKind}
+use Rattle.hs_nodes.specs.declared.table.NodeKind.TheVariants.{Engine, Literal, FirstLiteral, LookBack}
 use Rattle.hs_nodes.specs.declared.table.NodeTable.{NodeTable}
 
 -- what is kept of the node, in the region
@@ -33,6 +35,19 @@ node_ends ends k = slice_index_or ends k nowhere
 abbrev pub entering_ends : (parent : Option ℕ) (all : ChunkEnds) (ends : List ChunkEnds) → ChunkEnds
 entering_ends None all ends = all
 entering_ends (Some p) all ends = node_ends ends p
+
+-- the most steps of the nodes over so many bytes
+abbrev pub nodes_ticks : List Node → (hits : List ChunkHits) (count : ℕ) → ℕ
+nodes_ticks [] hits count = 0
+nodes_ticks (node ∷ nodes) hits count = most_ticks node.kind hits count + nodes_ticks nodes hits count
+
+-- The pieces behind which a node of that kind stands, where it has that parent with those pieces: these pieces. An
+-- expression that looks back stands before its literal, and has no parent.
+abbrev pub StandsBehind : NodeKind → (parent : Option ℕ) (pieces before : List Piece) → Type 0
+StandsBehind (Engine number null) parent pieces before = before ≡ pieces
+StandsBehind (Literal number len) parent pieces before = before ≡ pieces
+StandsBehind (FirstLiteral number len) parent pieces before = before ≡ pieces
+StandsBehind (LookBack pair) parent pieces before = parent ≡ None
 
 -- no node keeps the byte of that number
 abbrev pub IsOutside : List Node → ℕ → Type 0
@@ -65,24 +80,27 @@ module _ {E : Type 0} (meaning : E → Meaning) (table : NodeTable E) where
         IsAmongChildren table.child_starts.items table.children.items p k
 
   -- The node of that number takes a chunk, and changes what is kept of it and its own ends alone.
-  pub record IsNodeRun (k : ℕ) (node : Node) (old new : List ℕ) (prev : Prev) (at : ℕ) (bytes : List ℕ)
+  pub record IsNodeRun (k : ℕ) (node : Node) (old new : List ℕ) (prev : Prev) (at : ℕ) (past bytes : List ℕ)
       (hits : List ChunkHits) (all : ChunkEnds) (ends ends' : List ChunkEnds) : Type 0 where
     pub well : IsWellPart meaning table.engines.items node.kind (node_part new node) (at + length bytes)
-    pub takes : TakesPiece meaning table.engines.items node.kind (node_part old node) (node_part new node) prev at bytes
-        hits (entering_ends node.parent all ends) (node_ends ends' k)
+    pub takes : TakesPiece meaning table.engines.items node.kind (node_part old node) (node_part new node) prev at past
+        bytes hits (entering_ends node.parent all ends) (node_ends ends' k)
     pub ends_stay : (j : ℕ) → (j ≡ k → ⊥) → node_ends ends' j ≡ node_ends ends j
     pub parts_stay : (j : ℕ) (other : Node) → (j ≡ k → ⊥) → slice_get table.nodes.items j ≡ Some other →
         node_part new other ≡ node_part old other
     pub outside : (i : ℕ) → (i < node.start) ⊎ (node.end ≤ i) → slice_index new i ≡ slice_index old i
 
-  -- The node runs a piece behind those of its parent; `pieces` are those of each node, its own one last.
+  -- The node runs a piece behind others, as a rule those of its parent; `pieces` are those of each node, its own one
+  -- last.
   pub record IsNodeOf (literals : List (List LiteralByte)) (pieces : ℕ → List Piece) (k : ℕ) (node : Node) :
       Type 0 where
+    pub before : List Piece
     pub piece : Piece
     pub rest : List Piece
-    pub own : pieces k ≡ parent_pieces pieces node.parent ++ piece ∷ []
-    pub runs : RunsPiece meaning table.engines.items literals node.kind (parent_pieces pieces node.parent) piece
-    pub fit : IsFitChain (parent_pieces pieces node.parent ++ piece ∷ rest)
+    pub behind : StandsBehind node.kind node.parent (parent_pieces pieces node.parent) before
+    pub own : pieces k ≡ before ++ piece ∷ []
+    pub runs : RunsPiece meaning table.engines.items literals node.kind before piece
+    pub fit : IsFitChain (before ++ piece ∷ rest)
 
   abbrev pub AreNodesOf : (literals : List (List LiteralByte)) (pieces : ℕ → List Piece) → Type 0
   AreNodesOf literals pieces =
@@ -122,12 +140,13 @@ module _ {E : Type 0} (meaning : E → Meaning) (table : NodeTable E) where
     pub left : (k : ℕ) → k < length table.nodes.items → AreLeftIn (pieces k) u bytes (node_ends ends k)
 
   -- The nodes take a chunk, for all pieces that they run and behind any stream that ends there.
-  abbrev pub TakesNodes : (old new : List ℕ) (prev : Prev) (at : ℕ) (bytes : List ℕ) (hits : List ChunkHits)
+  abbrev pub TakesNodes : (old new : List ℕ) (prev : Prev) (at : ℕ) (past bytes : List ℕ) (hits : List ChunkHits)
       (ends : List ChunkEnds) → Type 0
-  TakesNodes old new prev at bytes hits ends =
+  TakesNodes old new prev at past bytes hits ends =
       (literals : List (List LiteralByte)) (pieces : ℕ → List Piece) (u : List ℕ) →
       AreNodesOf literals pieces →
       EndsBehind u prev at →
+      IsPast past u →
       Each (λ b. b < 256) (u ++ bytes) →
       AreHitsOf literals hits u bytes →
       AreNodesHeld pieces old u →

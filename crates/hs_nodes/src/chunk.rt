@@ -1,6 +1,6 @@
 //! A chunk of the bytes of a stream, block by block.
 
-ghost use Rattle.std.specs.Prelude.{◌≡◌, ◌+◌, ◌*◌, ◌^◌, ◌<◌, ◌≤◌, ℕ, List, length};
+ghost use Rattle.std.specs.Prelude.{◌≡◌, ◌+◌, ◌*◌, ◌^◌, ◌<◌, ◌≤◌, ◌++◌, ℕ, List, length, slice_index};
 ghost use Rattle.hs_base.specs.Contexts.{prev_at};
 ghost use Rattle.hs_nodes.specs.Blocks.{block, block_count, front};
 
@@ -13,20 +13,26 @@ pub const MAX_BLOCKS: usize = 8;
 /// How many bytes a chunk has at most.
 pub const MAX_CHUNK: usize = BLOCK_BYTES * MAX_BLOCKS;
 
+/// How many bytes are known of those before a chunk.
+pub const PAST_BYTES: usize = 64;
+
 /// Some bytes of a stream, and where they stand.
 #[derive(Clone, Copy, Debug)]
-pub struct Chunk<'a> {
+pub struct Chunk<'b, 'p> {
     /// The bytes.
-    pub bytes: &'a [u8],
+    pub bytes: &'b [u8],
+    /// The last 64 bytes of the stream before them; zeros where it has fewer.
+    pub past: &'p [u8],
     /// What stands before the first one.
     pub prev: Prev,
     /// The offset of the first one.
     pub at: u64,
     ghost few: { length bytes.now ≤ 512 },
+    ghost whole: { length past.now ≡ 64 },
     ghost room: { at + length bytes.now ≤ 2 ^ 63 },
 }
 
-impl Chunk<'_> {
+impl Chunk<'_, '_> {
     /// How many blocks it has: each but the last one is whole.
     pub fn blocks(&self) -> usize
         ensures count { result ≡ block_count (length self.now.bytes.now) }
@@ -58,5 +64,17 @@ impl Chunk<'_> {
             return self.prev;
         }
         Prev::behind(self.bytes[BLOCK_BYTES * number - 1])
+    }
+
+    /// The byte of that number among the past ones and those of the chunk.
+    pub(crate) fn byte_at(&self, place: usize) -> u8
+        requires { place < 64 + length self.now.bytes.now }
+        ensures { result ≡ slice_index (self.now.past.now ++ self.now.bytes.now) place }
+    {
+        if place < PAST_BYTES {
+            self.past[place]
+        } else {
+            self.bytes[place - PAST_BYTES]
+        }
     }
 }

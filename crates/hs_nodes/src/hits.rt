@@ -2,6 +2,7 @@
 
 ghost use Rattle.std.specs.Prelude.{◌≡◌, ◌+◌, ◌*◌, ◌<◌, ◌≤◌, ℕ};
 ghost use Rattle.hs_block.specs.LiteralBlocks.{is_hit};
+ghost use Rattle.hs_block.specs.WordBits.{word_bit};
 ghost use Rattle.hs_nodes.specs.Hits.{is_hit_at};
 
 use crate::chunk::MAX_BLOCKS;
@@ -32,6 +33,14 @@ impl ChunkHits {
             at_start: self.at_block(number),
             behind: self.behind[number],
         }
+    }
+
+    /// A bit for each byte of a block: it ends before that.
+    pub(crate) fn before_block(&self, number: usize) -> u64
+        requires { number < 8 }
+        ensures { (i : ℕ) → i < 64 → word_bit result i ≡ is_hit_at self.now (64 * number + i) }
+    {
+        (self.behind[number] << 1) | (self.at_block(number) as u64)
     }
 
     /// Whether it ends where a block begins.

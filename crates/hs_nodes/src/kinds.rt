@@ -2,7 +2,7 @@
 
 ghost use Rattle.std.specs.Prelude.{◌≡◌, ◌+◌, ◌≤◌, length};
 ghost use Rattle.hs_nodes.specs.Contexts.{AreChunkContexts, NeedsContexts};
-ghost use Rattle.hs_nodes.specs.Nodes.{IsKindSound, IsWellPart, TakesPiece};
+ghost use Rattle.hs_nodes.specs.Nodes.{IsKindSound, IsWellPart, TakesPiece, most_ticks};
 
 use crate::chunk::Chunk;
 use crate::ends::ChunkEnds;
@@ -10,6 +10,7 @@ use crate::engines::run_engine;
 use crate::first::every_entry;
 use crate::hits::ChunkHits;
 use crate::literals::{run_entries, run_literal_part};
+use crate::look_back::run_pair;
 use crate::nulls::null_ends;
 use crate::table::NodeKind;
 use hs_block::{BlockEngine, Contexts};
@@ -42,9 +43,9 @@ pub(crate) fn run_kind<E: BlockEngine, L: Ledger>(
         AreChunkContexts found.now.contexts.now chunk.now.prev chunk.now.at chunk.now.bytes.now }
     ensures len { length part.new ≡ length part.old }
     ensures well { IsWellPart E.meaning engines.now kind part.new (chunk.now.at + length chunk.now.bytes.now) }
-    ensures ticks { steps.new ≤ steps.old + length chunk.now.bytes.now }
+    ensures ticks { steps.new ≤ steps.old + most_ticks kind found.now.hits.now (length chunk.now.bytes.now) }
     ensures takes { TakesPiece E.meaning engines.now kind part.old part.new chunk.now.prev chunk.now.at
-        chunk.now.bytes.now found.now.hits.now enters.now result }
+        chunk.now.past.now chunk.now.bytes.now found.now.hits.now enters.now result }
 {
     match kind {
         NodeKind::Engine(number, null) => {
@@ -70,5 +71,12 @@ pub(crate) fn run_kind<E: BlockEngine, L: Ledger>(
                 enters,
             )
         }
+        NodeKind::LookBack(pair) => run_pair(
+            &engines[pair.engine as usize],
+            &pair,
+            chunk,
+            &found.hits[pair.literal as usize],
+            steps,
+        ),
     }
 }

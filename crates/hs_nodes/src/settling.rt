@@ -42,6 +42,7 @@ fn kind_rests<E: BlockEngine>(kind: NodeKind, engines: &[E], part: &mut [u8]) ->
         NodeKind::Engine(number, _) => engine_rests(&engines[number as usize], part),
         NodeKind::Literal(_, _) => is_zero(part),
         NodeKind::FirstLiteral(_, _) => true,
+        NodeKind::LookBack(_) => true,
     }
 }
 

@@ -2,6 +2,25 @@
 
 use hs_base::Mask;
 
+/// The most bytes of an expression that looks back.
+pub const MAX_LOOK_BACK: usize = 16;
+/// The most bytes of the region of its engine.
+pub const MAX_LOOK_BACK_REGION: usize = 64;
+
+/// An expression that looks back, directly before a literal. Nothing is kept of either: where the literal ends, the
+/// expression is asked anew, from the bytes before the literal.
+#[derive(Clone, Copy, Debug)]
+pub struct LookBackPair {
+    /// The engine of the expression, by its number.
+    pub engine: u32,
+    /// The contexts in which the expression has the empty span, if there are any.
+    pub null: Option<Mask>,
+    /// The literal, by its number.
+    pub literal: u32,
+    /// How many bytes the literal has.
+    pub len: u8,
+}
+
 /// What a node runs, by its number among the engines or the literals of its table.
 #[derive(Clone, Copy, Debug)]
 pub enum NodeKind {
@@ -11,6 +30,8 @@ pub enum NodeKind {
     Literal(u32, u8),
     /// A literal of so many bytes that is a first piece: it is entered everywhere, and nothing is kept of it.
     FirstLiteral(u32, u8),
+    /// The first two pieces of a chain at once, of which the first one looks back. It has no parent.
+    LookBack(LookBackPair),
 }
 
 /// A node: a piece behind others. Equal pieces behind equal ones are one node.

@@ -4,9 +4,9 @@ ghost use Rattle.std.specs.Prelude.{◌≡◌, ℕ, ◌+◌, ◌*◌, ◌<◌, �
 ghost use Rattle.hs_nodes.specs.Contexts.{AreChunkContexts, NeedsContexts};
 ghost use Rattle.hs_nodes.specs.Left.{nowhere};
 ghost use Rattle.hs_nodes.specs.Marks.{is_marked, mark_room};
-ghost use Rattle.hs_nodes.specs.Nodes.{IsWellPart};
+ghost use Rattle.hs_nodes.specs.Nodes.{IsWellPart, most_ticks};
 ghost use Rattle.hs_nodes.specs.Walks.{AreMoreMarks, AreNodesWell, ChangesMarked, IsNodeRun, IsTableSound};
-ghost use Rattle.hs_nodes.specs.Walks.{MayNodesRest, TakesNodes, entering_ends, node_ends, node_part};
+ghost use Rattle.hs_nodes.specs.Walks.{MayNodesRest, TakesNodes, entering_ends, node_ends, node_part, nodes_ticks};
 ghost use Rattle.hs_nodes.specs.declared.table.Node.{Node};
 
 use crate::chunk::Chunk;
@@ -58,10 +58,11 @@ fn run_node<E: BlockEngine, L: Ledger>(
         AreChunkContexts found.now.contexts.now chunk.now.prev chunk.now.at chunk.now.bytes.now }
     ensures len { length region.new ≡ length region.old }
     ensures ends { length ends.new ≡ length ends.old }
-    ensures ticks { steps.new ≤ steps.old + length chunk.now.bytes.now }
+    ensures ticks { (node : Node) → slice_get table.now.nodes.items k ≡ Some node →
+        steps.new ≤ steps.old + most_ticks node.kind found.now.hits.now (length chunk.now.bytes.now) }
     ensures runs { (node : Node) → slice_get table.now.nodes.items k ≡ Some node → IsNodeRun E.meaning table.now k node
-        region.old region.new chunk.now.prev chunk.now.at chunk.now.bytes.now found.now.hits.now all.now ends.old
-        ends.new }
+        region.old region.new chunk.now.prev chunk.now.at chunk.now.past.now chunk.now.bytes.now found.now.hits.now
+        all.now ends.old ends.new }
 {
     let node = node_at(table, k);
     let enters = entering(node.parent, all, ends);
@@ -145,9 +146,10 @@ pub fn walk<E: BlockEngine, L: Ledger>(
     ensures ends { length ends.new ≡ length ends.old }
     ensures marks { AreMoreMarks (length table.now.nodes.items) marks.old marks.new }
     ensures changes { ChangesMarked E.meaning table.now marks.new region.old region.new ends.new }
-    ensures ticks { steps.new ≤ steps.old + length table.now.nodes.items * length chunk.now.bytes.now }
+    ensures ticks { steps.new ≤
+        steps.old + nodes_ticks table.now.nodes.items found.now.hits.now (length chunk.now.bytes.now) }
     ensures takes { TakesNodes E.meaning table.now region.old region.new chunk.now.prev chunk.now.at
-        chunk.now.bytes.now found.now.hits.now ends.new }
+        chunk.now.past.now chunk.now.bytes.now found.now.hits.now ends.new }
 {
     let all = everywhere(chunk);
     let mut from = 0;

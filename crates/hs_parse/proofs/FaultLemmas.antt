@@ -10,7 +10,7 @@ use Rattle.hs_base.specs.Trees.{greatest_bound, AreBounds}
 use Rattle.hs_syntax.specs.declared.mode.Mode.{Mode}
 use Rattle.hs_syntax.proofs.FitLemmas.{either, less}
 use Rattle.hs_parse.specs.declared.spot.Spot.{Spot}
-use Rattle.hs_parse.specs.Tokens.{Token, ending, single, assertion, opening, closing, bar, quantifier, setting, faulty}
+use Rattle.hs_parse.specs.Tokens.{Token, ending, single, code_point, assertion, opening, closing, bar, quantifier, setting, faulty}
 use Rattle.hs_parse.specs.Grammar.{greatest_depth}
 use Rattle.hs_parse.specs.Faults.{Before, beginning, atom, repeated, goes, stops, state, order_faults, bounds_faults, mark_faults, quantifier_faults, end_move, close_move, quantifier_move, move, IsOneOf}
 use Rattle.hs_parse.specs.Reading.{IsLeastOf}
@@ -186,6 +186,7 @@ pub move_apart :
     move made start behind outside before ≡ stops place refusals → AreApart refusals
 move_apart ending start behind outside before place refusals e = end_apart start.place place outside refusals e
 move_apart (single set) start behind outside before place refusals e = absurd cc
+move_apart code_point start behind outside before place refusals e = absurd cc
 move_apart (assertion here) start behind outside before place refusals e = absurd cc
 move_apart opening start behind outside before place refusals e =
     opening_apart start.place place start.mode behind outside refusals (nat_lt (length outside) greatest_depth) e

@@ -1,18 +1,20 @@
 -- The grammar reads in one way.
 use Rattle.std.proofs.Common.{◌≡◌, ℕ, Bool, true, false, List, [], ◌∷◌, refl, sym, ap, subst, ◌∙◌}
-use Rattle.hs_base.specs.Trees.{Tree}
+use Rattle.hs_base.specs.Trees.{Tree, points}
 use Rattle.hs_parse.specs.declared.spot.Spot.{Spot}
 use Rattle.hs_parse.specs.Spots.{spot}
-use Rattle.hs_parse.specs.Tokens.{Token, ending, single, assertion, opening, closing, bar, quantifier, setting, faulty, Next}
-use Rattle.hs_parse.specs.Grammar.{NoQuantifier, Atom, one_byte, asserted, group, Item, once, repeated, Sequence, nothing, item_first, setting_first, sequence_tree, Alternation, last, alternative_first, alternation_tree}
+use Rattle.hs_parse.specs.Tokens.{Token, ending, single, code_point, assertion, opening, closing, bar, quantifier, setting, faulty, Next}
+use Rattle.hs_parse.specs.Grammar.{NoQuantifier, Atom, one_byte, one_point, asserted, group, Item, once, repeated, Sequence, nothing, item_first, setting_first, sequence_tree, Alternation, last, alternative_first, alternation_tree}
 use Rattle.hs_parse.specs.Reading.{EndsGroup, at_closing, at_ending, EndsSequence, with_group, at_bar}
 use Rattle.hs_parse.specs.Laws.{OneTree}
 use Rattle.hs_parse.proofs.TokenLemmas.{one_next}
+use Rattle.hs_parse.proofs.PointLemmas.{moved_points}
 
 -- whether a token ends a sequence
 abbrev pub ends_sequence : Token → Bool
 ends_sequence ending = true
 ends_sequence (single set) = false
+ends_sequence code_point = false
 ends_sequence (assertion here) = false
 ends_sequence opening = false
 ends_sequence closing = true
@@ -25,6 +27,7 @@ ends_sequence (faulty refusal) = false
 abbrev pub begins_atom : Token → Bool
 begins_atom ending = false
 begins_atom (single set) = true
+begins_atom code_point = true
 begins_atom (assertion here) = true
 begins_atom opening = true
 begins_atom closing = false
@@ -37,6 +40,7 @@ begins_atom (faulty refusal) = false
 abbrev pub is_quantifier : Token → Bool
 is_quantifier ending = false
 is_quantifier (single set) = false
+is_quantifier code_point = false
 is_quantifier (assertion here) = false
 is_quantifier opening = false
 is_quantifier closing = false
@@ -84,6 +88,7 @@ group_no_bar (at_ending p) q = let same = (one_next p q).token in cc
 -- an atom begins with its token
 atom_token : {text : List ℕ} {depth : ℕ} {s t : Spot} {tree : Tree} → Atom text depth s tree t → IsThere text s begins_atom true
 atom_token (one_byte p) = record { made = _; start = _; behind = _; there = p; told = refl }
+atom_token (one_point p set) = record { made = _; start = _; behind = _; there = p; told = refl }
 atom_token (asserted p) = record { made = _; start = _; behind = _; there = p; told = refl }
 atom_token (group below p alternatives q) = record { made = _; start = _; behind = _; there = p; told = refl }
 
@@ -149,13 +154,22 @@ mutual
   one_atom (one_byte p) (one_byte q) =
       let same = one_next p q in
       record { tree = let e = same.token in cc; end = same.behind }
+  one_atom (one_byte p) (one_point q set) = absurd (let e = (one_next p q).token in cc)
   one_atom (one_byte p) (asserted q) = absurd (let e = (one_next p q).token in cc)
   one_atom (one_byte p) (group below q alternatives c) = absurd (let e = (one_next p q).token in cc)
+  one_atom (one_point p set) (one_byte q) = absurd (let e = (one_next p q).token in cc)
+  one_atom (one_point p set) (one_point q other) =
+      let same = one_next p q in
+      record { tree = ap points (moved_points same.start set other); end = same.behind }
+  one_atom (one_point p set) (asserted q) = absurd (let e = (one_next p q).token in cc)
+  one_atom (one_point p set) (group below q alternatives c) = absurd (let e = (one_next p q).token in cc)
+  one_atom (asserted p) (one_point q set) = absurd (let e = (one_next p q).token in cc)
   one_atom (asserted p) (one_byte q) = absurd (let e = (one_next p q).token in cc)
   one_atom (asserted p) (asserted q) =
       let same = one_next p q in
       record { tree = let e = same.token in cc; end = same.behind }
   one_atom (asserted p) (group below q alternatives c) = absurd (let e = (one_next p q).token in cc)
+  one_atom (group below p alternatives c) (one_point q set) = absurd (let e = (one_next p q).token in cc)
   one_atom (group below p alternatives c) (one_byte q) = absurd (let e = (one_next p q).token in cc)
   one_atom (group below p alternatives c) (asserted q) = absurd (let e = (one_next p q).token in cc)
   one_atom (group below p alternatives c) (group under q others d) =

@@ -2,6 +2,8 @@ pub mod ItemLemmas
 pub mod ClassLemmas
 pub mod SetLemmas
 pub mod TokenLemmas
+pub mod RangeLemmas
+pub mod PointLemmas
 pub mod ReadingLemmas
 pub mod RunLemmas
 pub mod GrammarLemmas

@@ -1,5 +1,5 @@
 -- What the parser's loops keep, and what its functions give.
-use Rattle.std.proofs.Common.{◌≡◌, ◌≢◌, ℕ, ◌+◌, ◌<◌, ◌≤◌, ◌⊎◌, inl, inr, Bool, true, false, List, [], ◌∷◌, ◌++◌, append_assoc, length, map, Option, Result, Ok, Err, IfErr, Box, Global, refl, sym, ap, subst, ◌∙◌, arith}
+use Rattle.std.proofs.Common.{◌≡◌, ◌≢◌, ℕ, ◌+◌, ◌<◌, ◌≤◌, ◌⊎◌, inl, inr, Bool, true, false, List, [], ◌∷◌, ◌++◌, append_assoc, length, map, Option, Result, Ok, Err, IfErr, Box, Vec, Global, refl, sym, ap, subst, ◌∙◌, arith}
 use Rattle.std.specs.Result.{IsErr, IsErrAnd}
 use Rattle.std.proofs.lemmas.List.{map_push, append-nil}
 use Rattle.hs_base.specs.declared.assertion.Assertion.{Assertion}
@@ -8,9 +8,9 @@ use Rattle.hs_base.specs.declared.flags.Flags.{Flags}
 use Rattle.hs_base.specs.declared.refusal.Refusal.{Refusal}
 use Rattle.hs_base.specs.declared.refusal.Refusal.TheVariants.{Syntax}
 use Rattle.hs_base.specs.ByteSets.{members}
-use Rattle.hs_base.specs.Trees.{Tree, class, assert, repeat}
+use Rattle.hs_base.specs.Trees.{Tree, class, points, assert, repeat}
 use Rattle.hs_expr.specs.declared.expr.Expr.{Expr}
-use Rattle.hs_expr.specs.declared.expr.Expr.TheVariants.{Class, Assert, Repeat, rolls-Class, rolls-Assert, rolls-Repeat}
+use Rattle.hs_expr.specs.declared.expr.Expr.TheVariants.{Class, Points, Assert, Repeat, rolls-Class, rolls-Points, rolls-Assert, rolls-Repeat}
 use Rattle.hs_expr.specs.declared.expr.Expr.TheOpen.{Expr-F}
 use Rattle.hs_expr.specs.declared.expr.Expr.TheFolds.{fold-roll-Expr}
 use Rattle.hs_expr.specs.Meaning.{node_tree, tree_of}
@@ -20,12 +20,15 @@ use Rattle.hs_parse.specs.declared.token.Found.{Found}
 use Rattle.hs_parse.specs.declared.fault.ParseFault.TheVariants as fault
 use Rattle.hs_parse.specs.declared.spot.Spot.{Spot}
 use Rattle.hs_parse.specs.Spots.{spot, start_of}
-use Rattle.hs_parse.specs.Tokens.{Token, ending, single, assertion, opening, closing, bar, quantifier, setting, Next}
-use Rattle.hs_parse.specs.Grammar.{greatest_length, greatest_depth, NoQuantifier, Atom, one_byte, asserted, group, Item, once, repeated, Sequence, nothing, item_first, setting_first, sequence_tree, Alternation, last, alternative_first, alternation_tree, Reads}
+use Rattle.hs_parse.specs.Tokens.{Token, ending, single, code_point, assertion, opening, closing, bar, quantifier, setting, Next}
+use Rattle.hs_parse.specs.Grammar.{greatest_length, greatest_depth, NoQuantifier, Atom, one_byte, one_point, asserted, group, Item, once, repeated, Sequence, nothing, item_first, setting_first, sequence_tree, Alternation, last, alternative_first, alternation_tree, Reads}
 use Rattle.hs_parse.specs.Faults.{Fault, quantifier_faults}
 use Rattle.hs_parse.specs.Faults as faults
-use Rattle.hs_parse.specs.Reading.{EndsGroup, at_closing, at_ending, EndsSequence, with_group, at_bar, ReadsOn, StopsFrom, plain_token, sees_quantifier, goes_on, IsNext, IsLeastOf, ReadsAtom, ReadsItem, ReadsSequence, ReadsGroup}
+use Rattle.hs_parse.specs.Reading.{EndsGroup, at_closing, at_ending, EndsSequence, with_group, at_bar, ReadsOn, StopsFrom, plain_token, sees_quantifier, goes_on, IsNext, IsToken, IsLeastOf, ReadsAtom, ReadsItem, ReadsSequence, ReadsGroup}
+use Rattle.hs_parse.specs.Points.{ArePoints}
+use Rattle.hs_parse.specs.PointReading.{IsPoint}
 use Rattle.hs_parse.proofs.TokenLemmas.{one_next}
+use Rattle.hs_parse.proofs.PointLemmas.{next_token}
 use Rattle.hs_parse.proofs.FaultLemmas.{all_right}
 use Rattle.hs_parse.proofs.GrammarLemmas.{is_quantifier, no_quantifier}
 use Rattle.hs_parse.proofs.StopLemmas.{unclosed_stops, wrong_stops, twice_stops, passes_here, passes_then, item_passes, setting_passes, sequence_passes, bar_passes, closing_fault}
@@ -40,6 +43,7 @@ as_next {text = text} {s = s} {f = f} next e =
 plain_quantifier : (t : Seen) → is_quantifier (plain_token t) ≡ sees_quantifier t
 plain_quantifier seen.End = refl
 plain_quantifier (seen.Single set) = refl
+plain_quantifier seen.Point = refl
 plain_quantifier (seen.Assert here) = refl
 plain_quantifier seen.Opening = refl
 plain_quantifier seen.Closing = refl
@@ -68,6 +72,7 @@ group_ends {f = f} (at_bar p) next other = absurd (other (is_bar f.token (one_ne
     is_bar : (t : Seen) → bar ≡ plain_token t → t ≡ seen.Bar
     is_bar seen.End e = absurd cc
     is_bar (seen.Single set) e = absurd cc
+    is_bar seen.Point e = absurd cc
     is_bar (seen.Assert here) e = absurd cc
     is_bar seen.Opening e = absurd cc
     is_bar seen.Closing e = absurd cc
@@ -86,6 +91,7 @@ group_closes {f = f} (at_ending p) next other = absurd (other (is_end f.token (o
     is_end : (t : Seen) → ending ≡ plain_token t → t ≡ seen.End
     is_end seen.End e = refl
     is_end (seen.Single set) e = absurd cc
+    is_end seen.Point e = absurd cc
     is_end (seen.Assert here) e = absurd cc
     is_end seen.Opening e = absurd cc
     is_end seen.Closing e = absurd cc
@@ -256,6 +262,10 @@ sequence_ends text s f next (inr (inr (inr e))) other = absurd (other e)
 tree-class : (set : ByteSet) → tree_of (Class set) ≡ class (members set)
 tree-class set = ap tree_of (sym (rolls-Class set)) ∙ fold-roll-Expr Tree node_tree (Expr-F.Class set)
 
+-- the tree of a set of code points
+tree-points : (ranges : Vec (ℕ × ℕ) Global) → tree_of (Points ranges) ≡ points ranges.items
+tree-points ranges = ap tree_of (sym (rolls-Points ranges)) ∙ fold-roll-Expr Tree node_tree (Expr-F.Points ranges)
+
 -- the tree of an assertion
 tree-assert : (here : Assertion) → tree_of (Assert here) ≡ assert here
 tree-assert here = ap tree_of (sym (rolls-Assert here)) ∙ fold-roll-Expr Tree node_tree (Expr-F.Assert here)
@@ -279,6 +289,27 @@ single_read text depth s f set next e =
       rises = omega (arith, next.reached, rises);
       within = next.within;
     }
+
+-- an atom of one code point
+pub point_read :
+    (text : List ℕ) (depth : ℕ) (s : Spot) (f : Found) (ranges : Vec (ℕ × ℕ) Global) →
+    ArePoints text f.start ranges.items → IsNext text s f → f.token ≡ seen.Point →
+    ReadsAtom text depth s (tree_of (Points ranges)) f.behind
+point_read text depth s f ranges set next e =
+    let there : Next text s f.start code_point f.behind = as_next next e in
+    let rises : f.start.place < f.behind.place = as_rises next e in
+    record {
+      whole = subst (λ t. Atom text depth s t f.behind) (sym (tree-points ranges)) (one_point there set);
+      rises = omega (arith, next.reached, rises);
+      within = next.within;
+    }
+
+-- where the set of one is asked for
+pub point_there : (text : List ℕ) (f : Found) → IsToken text f → f.token ≡ seen.Point → IsPoint text f.start
+point_there text f told e = (f.behind, next_token (as_next told.next e))
+
+pub point_within : (text : List ℕ) (f : Found) → IsToken text f → f.start.place ≤ length text
+point_within text f told = omega (arith, told.next.forward, told.next.within)
 
 -- an assertion
 pub assertion_read :
@@ -334,6 +365,7 @@ record QuantifierSeen (t : Seen) : Type 0 where
 quantifier_seen : (t : Seen) → sees_quantifier t ≡ true → QuantifierSeen t
 quantifier_seen seen.End e = absurd cc
 quantifier_seen (seen.Single set) e = absurd cc
+quantifier_seen seen.Point e = absurd cc
 quantifier_seen (seen.Assert here) e = absurd cc
 quantifier_seen seen.Opening e = absurd cc
 quantifier_seen seen.Closing e = absurd cc

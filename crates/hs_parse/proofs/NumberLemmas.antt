@@ -23,7 +23,7 @@ use Rattle.hs_parse.specs.declared.item.Item.TheVariants as item
 use Rattle.hs_parse.specs.declared.spot.Spot.{Spot}
 use Rattle.hs_parse.specs.Spots.{form_of, refusal_at}
 use Rattle.hs_parse.specs.Classes.{hyphen, class_piece, range_of, item_of, item_at}
-use Rattle.hs_parse.specs.Tokens.{Token, ending, single, assertion, opening, closing, bar, quantifier, setting, faulty, Made, token, skips, bracket, made_by, made_at, ClassToken, closed, unclosed, refused, TokenAt, formed, bracketed, Next, now, skipped}
+use Rattle.hs_parse.specs.Tokens.{Token, ending, single, code_point, assertion, opening, closing, bar, quantifier, setting, faulty, Made, token, skips, bracket, one_of, made_by, made_at, ClassToken, closed, unclosed, refused, TokenAt, formed, bracketed, Next, now, skipped}
 use Rattle.hs_parse.specs.Grammar.{greatest_depth}
 use Rattle.hs_parse.specs.Faults.{Before, beginning, atom, repeated, Move, goes, accepts, stops, order_faults, bounds_faults, mark_faults, quantifier_faults, end_move, close_move, quantifier_move, move, IsOneOf, HasFault, too_long, stopped, Fault, IsOfText, syntax_fault, unknown_escape, unsupported, repeat_limit, length_limit, depth_limit}
 use Rattle.hs_parse.proofs.FaultLemmas.{one_of_both}
@@ -32,6 +32,7 @@ use Rattle.hs_parse.proofs.FaultLemmas.{one_of_both}
 form_number : (reason : Wrong) (at : ℕ) → IsOfText (number_of (refusal_at reason at))
 form_number wrong.Syntax at = syntax_fault
 form_number wrong.UnknownEscape at = unknown_escape
+form_number (wrong.IllFormed place) at = syntax_fault
 form_number (wrong.Unsupported construct) at = unsupported
 
 -- of an item
@@ -59,16 +60,17 @@ item_number_of caseless at hyphens pieces (piece.Character code n) =
 item_number_of caseless at hyphens pieces (piece.Class named negated n) = tt
 item_number_of caseless at hyphens pieces (piece.Refused reason) = form_number reason at
 
-item_number : (text : List ℕ) (caseless : Bool) (start at : ℕ) → ItemNumber (item_at text caseless start at)
+item_number : (text : List ℕ) (mode : Mode) (start at : ℕ) → ItemNumber (item_at text mode start at)
 unfolding item_at
-item_number text caseless start at =
-    item_number_of caseless at (λ place. is_byte hyphen (slice_get text place)) (λ place. class_piece text caseless start place)
-    (class_piece text caseless start at)
+item_number text mode start at =
+    item_number_of mode.caseless at (λ place. is_byte hyphen (slice_get text place)) (λ place. class_piece text mode start place)
+    (class_piece text mode start at)
 
 -- of a token
 abbrev TokenNumber : Token → Type 0
 TokenNumber ending = Unit {0}
 TokenNumber (single set) = Unit {0}
+TokenNumber code_point = Unit {0}
 TokenNumber (assertion here) = Unit {0}
 TokenNumber opening = Unit {0}
 TokenNumber closing = Unit {0}
@@ -82,6 +84,9 @@ MadeNumber (token made mode n) = TokenNumber made
 MadeNumber (skips mode n) = Unit {0}
 MadeNumber bracket = Unit {0}
 
+one_of_number : (mode : Mode) (set : List Bool) → TokenNumber (one_of mode set)
+one_of_number mode set = either TokenNumber mode.utf8 code_point (single set) (λ _. tt) (λ _. tt)
+
 made_number : (mode : Mode) (at : ℕ) (f : Form) → MadeNumber (made_by mode at f)
 made_number mode at form.End = tt
 made_number mode at (form.Skipped behind n) = tt
@@ -89,9 +94,9 @@ made_number mode at (form.Setting behind n) = tt
 made_number mode at (form.Opening inside n) = tt
 made_number mode at form.Closing = tt
 made_number mode at form.Bar = tt
-made_number mode at form.Any = tt
-made_number mode at (form.Character code n) = tt
-made_number mode at (form.Class named negated n) = tt
+made_number mode at form.Any = one_of_number mode _
+made_number mode at (form.Character code n) = one_of_number mode _
+made_number mode at (form.Class named negated n) = one_of_number mode _
 made_number mode at form.Bracket = tt
 made_number mode at (form.Assert here n) = tt
 made_number mode at (form.Quantifier least greatest possessive n) = tt
@@ -101,10 +106,10 @@ made_at_number : (text : List ℕ) (s : Spot) → MadeNumber (made_at text s)
 unfolding made_at
 made_at_number text s = made_number s.mode s.place (form_of text s)
 
-class_number : {text : List ℕ} {caseless : Bool} {at end : ℕ} {made : Token} → ClassToken text caseless at made end → TokenNumber made
-class_number (closed items e) = tt
+class_number : {text : List ℕ} {mode : Mode} {at end : ℕ} {made : Token} → ClassToken text mode at made end → TokenNumber made
+class_number {mode = mode} (closed items e) = one_of_number mode _
 class_number (unclosed items e) = syntax_fault
-class_number {text = text} {caseless = caseless} (refused {here = here} items e) = subst ItemNumber e (item_number text caseless _ here)
+class_number {text = text} {mode = mode} (refused {here = here} items e) = subst ItemNumber e (item_number text mode _ here)
 
 token_number : {text : List ℕ} {s t : Spot} {made : Token} → TokenAt text s made t → TokenNumber made
 token_number {text = text} {s = s} (formed e) = subst MadeNumber e (made_at_number text s)
@@ -175,6 +180,7 @@ quantifier_numbers at behind outside (r ∷ rs) h = h
 move_numbers : (made : Token) (start behind : Spot) (outside : List Mode) (before : Before) → TokenNumber made → MoveNumbers (move made start behind outside before)
 move_numbers ending start behind outside before h = end_numbers start.place outside
 move_numbers (single set) start behind outside before h = tt
+move_numbers code_point start behind outside before h = tt
 move_numbers (assertion here) start behind outside before h = tt
 move_numbers opening start behind outside before h =
     either MoveNumbers (nat_lt (length outside) greatest_depth) _ _ (λ _. tt) (λ _. only_of_text DepthLimit depth_limit)

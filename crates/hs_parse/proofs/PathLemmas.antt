@@ -10,7 +10,7 @@ use Rattle.hs_base.specs.Trees.{Tree, AreBounds}
 use Rattle.hs_syntax.specs.declared.mode.Mode.{Mode}
 use Rattle.hs_parse.specs.declared.spot.Spot.{Spot}
 use Rattle.hs_parse.specs.Tokens.{ending, opening, quantifier, Next}
-use Rattle.hs_parse.specs.Grammar.{greatest_length, greatest_depth, Atom, one_byte, asserted, group, Item, once, repeated, Sequence, nothing, item_first, setting_first, Alternation, last, alternative_first, Reads}
+use Rattle.hs_parse.specs.Grammar.{greatest_length, greatest_depth, Atom, one_byte, one_point, asserted, group, Item, once, repeated, Sequence, nothing, item_first, setting_first, Alternation, last, alternative_first, Reads}
 use Rattle.hs_parse.specs.Faults.{Before, beginning, atom, repeated as behind_mark, state, goes, accepts, stops, move, Run, here, on, StopsAt, IsOneOf, HasFault, too_long, stopped, IsFirst, Fault}
 use Rattle.hs_parse.specs.Reading.{IsLeastOf}
 use Rattle.hs_parse.specs.Laws.{OneFault, NeverReadAndRefused}
@@ -53,6 +53,7 @@ mutual
       Atom text depth s tree t → (outside : List Mode) (before : Before) → length outside ≡ depth →
       Run text (state s outside before) (state t outside atom)
   atom_runs (one_byte p) outside before h = one_step p refl
+  atom_runs (one_point p set) outside before h = one_step p refl
   atom_runs (asserted p) outside before h = one_step p refl
   atom_runs (group {start = start} {inner = inner} below p alternatives q) outside before h =
       let inside = alternation_runs alternatives (start.mode ∷ outside) beginning (omega arith) in

@@ -1,5 +1,5 @@
 -- What the functions that read tokens find out, in the words of the grammar.
-use Rattle.std.proofs.Common.{◌≡◌, ℕ, ◌+◌, ◌<◌, ◌≤◌, Bool, not, List, length, Option, Some, None, Result, Ok, Err, MatchResult, sym, subst, arith}
+use Rattle.std.proofs.Common.{◌≡◌, ℕ, ◌+◌, ◌<◌, ◌≤◌, not, List, length, Option, Some, None, Result, Ok, Err, MatchResult, sym, subst, arith}
 use Rattle.std.specs.Prelude.{if◌then◌else◌}
 use Rattle.std.specs.Result.{IsErr, IsErrAnd}
 use Rattle.std.proofs.lemmas.Bool.{false≢true}
@@ -14,57 +14,57 @@ use Rattle.hs_parse.specs.declared.token.Found.{Found}
 use Rattle.hs_parse.specs.declared.token.Token.{Token as Seen}
 use Rattle.hs_parse.specs.Spots.{spot}
 use Rattle.hs_parse.specs.Classes.{item_at, is_negated, items_start}
-use Rattle.hs_parse.specs.Tokens.{Token, single, faulty, token, skips, bracket, made_at, ClassToken, closed, unclosed, refused, formed, bracketed, Next, now, skipped}
+use Rattle.hs_parse.specs.Tokens.{Token, one_of, faulty, token, skips, bracket, made_at, ClassToken, closed, unclosed, refused, formed, bracketed, Next, now, skipped}
 use Rattle.hs_parse.specs.Reading.{HasItems, EndsItems, AreItemsOf, plain_token, IsNext}
 use Rattle.hs_parse.proofs.SetLemmas.{members-class}
 use Rattle.hs_parse.proofs.TokenLemmas.{class_takes, token_takes, skip_takes}
 
 -- what the items of a class are, at the start that the parser has
 pub as_closed :
-    (text : List ℕ) (caseless : Bool) (at start close : ℕ) (set : ByteSet) (o : Option (ByteSet × ℕ)) →
-    start ≡ items_start text at → o ≡ Some (set, close) → AreItemsOf text caseless start (Ok o) →
-    HasItems text caseless (items_start text at) set close × (item_at text caseless (items_start text at) close ≡ item.Close)
-as_closed text caseless at start close set o same e there =
-    let here = subst (λ x. AreItemsOf text caseless start (Ok x)) e there in
-    subst (λ x. AreItemsOf text caseless x (Ok (Some (set, close)))) same here
+    (text : List ℕ) (mode : Mode) (at start close : ℕ) (set : ByteSet) (o : Option (ByteSet × ℕ)) →
+    start ≡ items_start text at → o ≡ Some (set, close) → AreItemsOf text mode start (Ok o) →
+    HasItems text mode (items_start text at) set close × (item_at text mode (items_start text at) close ≡ item.Close)
+as_closed text mode at start close set o same e there =
+    let here = subst (λ x. AreItemsOf text mode start (Ok x)) e there in
+    subst (λ x. AreItemsOf text mode x (Ok (Some (set, close)))) same here
 
 pub as_unclosed :
-    (text : List ℕ) (caseless : Bool) (at start : ℕ) (o : Option (ByteSet × ℕ)) →
-    start ≡ items_start text at → o ≡ None → AreItemsOf text caseless start (Ok o) →
-    EndsItems text caseless (items_start text at) item.End
-as_unclosed text caseless at start o same e there =
-    let here = subst (λ x. AreItemsOf text caseless start (Ok x)) e there in
-    subst (λ x. AreItemsOf text caseless x (Ok None)) same here
+    (text : List ℕ) (mode : Mode) (at start : ℕ) (o : Option (ByteSet × ℕ)) →
+    start ≡ items_start text at → o ≡ None → AreItemsOf text mode start (Ok o) →
+    EndsItems text mode (items_start text at) item.End
+as_unclosed text mode at start o same e there =
+    let here = subst (λ x. AreItemsOf text mode start (Ok x)) e there in
+    subst (λ x. AreItemsOf text mode x (Ok None)) same here
 
 pub as_refused :
-    (text : List ℕ) (caseless : Bool) (at start : ℕ) (refusal : Refusal) →
-    start ≡ items_start text at → EndsItems text caseless start (item.Refused refusal) →
-    EndsItems text caseless (items_start text at) (item.Refused refusal)
-as_refused text caseless at start refusal same there = subst (λ x. EndsItems text caseless x (item.Refused refusal)) same there
+    (text : List ℕ) (mode : Mode) (at start : ℕ) (refusal : Refusal) →
+    start ≡ items_start text at → EndsItems text mode start (item.Refused refusal) →
+    EndsItems text mode (items_start text at) (item.Refused refusal)
+as_refused text mode at start refusal same there = subst (λ x. EndsItems text mode x (item.Refused refusal)) same there
 
 -- a class that is closed
 pub closed_at :
-    (text : List ℕ) (caseless : Bool) (at close : ℕ) (set whole : ByteSet) →
-    HasItems text caseless (items_start text at) set close →
-    item_at text caseless (items_start text at) close ≡ item.Close →
+    (text : List ℕ) (mode : Mode) (at close : ℕ) (set whole : ByteSet) →
+    HasItems text mode (items_start text at) set close →
+    item_at text mode (items_start text at) close ≡ item.Close →
     ((b : ℕ) → b < 256 → has whole b ≡ (if is_negated text at then not (has set b) else has set b)) →
-    ClassToken text caseless at (single (members whole)) (close + 1)
-closed_at text caseless at close set whole items e same =
-    subst (λ bytes. ClassToken text caseless at (single bytes) (close + 1))
+    ClassToken text mode at (one_of mode (members whole)) (close + 1)
+closed_at text mode at close set whole items e same =
+    subst (λ bytes. ClassToken text mode at (one_of mode bytes) (close + 1))
     (sym (members-class set whole (is_negated text at) items.tests items.same same))
     (closed items.items e)
 
 -- one that isn't
 pub unclosed_at :
-    (text : List ℕ) (caseless : Bool) (at : ℕ) →
-    EndsItems text caseless (items_start text at) item.End → ClassToken text caseless at (faulty (Syntax at)) at
-unclosed_at text caseless at ends = unclosed ends.items ends.there
+    (text : List ℕ) (mode : Mode) (at : ℕ) →
+    EndsItems text mode (items_start text at) item.End → ClassToken text mode at (faulty (Syntax at)) at
+unclosed_at text mode at ends = unclosed ends.items ends.there
 
 -- one with an item that is refused
 pub refused_at :
-    (text : List ℕ) (caseless : Bool) (at : ℕ) (refusal : Refusal) →
-    EndsItems text caseless (items_start text at) (item.Refused refusal) → ClassToken text caseless at (faulty refusal) at
-refused_at text caseless at refusal ends = refused ends.items ends.there
+    (text : List ℕ) (mode : Mode) (at : ℕ) (refusal : Refusal) →
+    EndsItems text mode (items_start text at) (item.Refused refusal) → ClassToken text mode at (faulty refusal) at
+refused_at text mode at refusal ends = refused ends.items ends.there
 
 abbrev pub found : Seen → (start behind : Spot) → Found
 found here start behind = record { token = here; start = start; behind = behind }
@@ -72,7 +72,7 @@ found here start behind = record { token = here; start = start; behind = behind 
 -- a class that is next
 pub class_next :
     (text : List ℕ) (s : Spot) (end : ℕ) (here : Seen) →
-    made_at text s ≡ bracket → s.place < length text → ClassToken text s.mode.caseless s.place (plain_token here) end →
+    made_at text s ≡ bracket → s.place < length text → ClassToken text s.mode s.place (plain_token here) end →
     IsNext text s (found here s (spot end s.mode))
 class_next text s end here e h there =
     let far = class_takes h there in

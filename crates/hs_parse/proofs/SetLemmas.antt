@@ -7,6 +7,7 @@ use Rattle.std.proofs.lemmas.Nat.Bits.{bit_at-zero}
 use Rattle.hs_base.specs.declared.byte_set.ByteSet.{ByteSet}
 use Rattle.hs_base.specs.ByteSets.{has, members, bytes_where}
 use Rattle.hs_base.proofs.ByteSetLemmas.{word_at}
+use Rattle.hs_syntax.specs.declared.mode.Mode.{Mode}
 use Rattle.hs_parse.specs.declared.item.Item.TheVariants as item
 use Rattle.hs_parse.specs.declared.set.Test.{Test}
 use Rattle.hs_parse.specs.Classes.{passes, bytes_of, item_at, nothing, class_of}
@@ -43,14 +44,14 @@ members-not_newline = refl
 
 -- the set of a class
 pub members-class :
-    (s whole : ByteSet) (negated : Bool) (tests : List (ℕ → Bool)) →
-    ((b : ℕ) → b < 256 → has s b ≡ list_any (λ (t : ℕ → Bool). t b) tests) →
+    (s whole : ByteSet) (negated : Bool) (tests : List Test) →
+    ((b : ℕ) → b < 256 → has s b ≡ list_any (λ (t : Test). passes t b) tests) →
     ((b : ℕ) → b < 256 → has whole b ≡ (if negated then not (has s b) else has s b)) →
     members whole ≡ class_of negated tests
 unfolding members class_of
 members-class s whole negated tests items all =
     same_on_range (has whole)
-    (λ b. if negated then not (list_any (λ (t : ℕ → Bool). t b) tests) else list_any (λ (t : ℕ → Bool). t b) tests) 256 0
+    (λ b. if negated then not (list_any (λ (t : Test). passes t b) tests) else list_any (λ (t : Test). passes t b) tests) 256 0
     (λ b h. all b h ∙ ap (λ x. if negated then not x else x) (items b h))
 
 -- no byte is in the empty set
@@ -73,21 +74,21 @@ members-inserted s empty test none added =
 
 -- no item is read yet
 pub no_items :
-    (text : List ℕ) (caseless : Bool) (start : ℕ) →
-    HasItems text caseless start (record { words = 0 ∷ 0 ∷ 0 ∷ 0 ∷ [] }) start
-no_items text caseless start = record { tests = []; items = nothing; same = no_member }
+    (text : List ℕ) (mode : Mode) (start : ℕ) →
+    HasItems text mode start (record { words = 0 ∷ 0 ∷ 0 ∷ 0 ∷ [] }) start
+no_items text mode start = record { tests = []; items = nothing; same = no_member }
 
 -- one item more
 pub more_items :
-    (text : List ℕ) (caseless : Bool) (start here end : ℕ) (test : Test) (old new : ByteSet) →
-    HasItems text caseless start old here → item_at text caseless start here ≡ item.Bytes test end →
+    (text : List ℕ) (mode : Mode) (start here end : ℕ) (test : Test) (old new : ByteSet) →
+    HasItems text mode start old here → item_at text mode start here ≡ item.Bytes test end →
     ((b : ℕ) → b < 256 → has new b ≡ (passes test b || has old b)) →
-    HasItems text caseless start new end
-more_items text caseless start here end test old new before e added = record {
-  tests = before.tests ++ passes test ∷ [];
+    HasItems text mode start new end
+more_items text mode start here end test old new before e added = record {
+  tests = before.tests ++ test ∷ [];
   items = items_last before.items e;
   same = λ b h.
       added b h
       ∙ ap (λ x. passes test b || x) (before.same b h)
-      ∙ sym (any_last b before.tests (passes test));
+      ∙ sym (any_last (λ (t : Test). passes t b) before.tests test);
 }

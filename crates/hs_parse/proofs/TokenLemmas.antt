@@ -5,12 +5,15 @@ use Rattle.hs_syntax.specs.declared.mode.Mode.{Mode}
 use Rattle.hs_syntax.specs.declared.form.Form.{Form}
 use Rattle.hs_syntax.specs.declared.form.Form.TheVariants as form
 use Rattle.hs_syntax.specs.Lengths.{IsLength, FormFits}
+use Rattle.hs_syntax.proofs.FitLemmas.{either}
 use Rattle.hs_syntax.proofs.FormLengths.{form_fits}
 use Rattle.hs_parse.specs.declared.spot.Spot.{Spot}
+use Rattle.hs_parse.specs.declared.set.Test.TheVariants.{Range, Class}
 use Rattle.hs_parse.specs.Spots.{spot, form_of}
-use Rattle.hs_parse.specs.Tokens.{Token, ending, single, assertion, opening, closing, bar, quantifier, setting, faulty, Made, token, skips, bracket, made_by, made_at, ClassToken, closed, unclosed, refused, TokenAt, formed, bracketed, Next, now, skipped}
+use Rattle.hs_parse.specs.Classes.{bytes_of, is_negated, class_of}
+use Rattle.hs_parse.specs.Tokens.{Token, ending, single, code_point, assertion, opening, closing, bar, quantifier, setting, faulty, Made, token, skips, bracket, any_byte, one_of, made_by, made_at, ClassToken, closed, unclosed, refused, TokenAt, formed, bracketed, Next, now, skipped}
 use Rattle.hs_parse.specs.Reading.{goes_on}
-use Rattle.hs_parse.proofs.ClassLemmas.{one_class, class_read, class_within}
+use Rattle.hs_parse.proofs.ClassLemmas.{one_class, class_read, closed_within}
 
 -- the token and what is behind it are the same in two readings
 pub record AreSameTokens (a b : Token) (t u : Spot) : Type 0 where
@@ -82,6 +85,7 @@ one_next {s = s} (skipped e there) (skipped f other) = one_next there (moved_nex
 abbrev pub MadeFits : (bytes : ℕ) → Made → Type 0
 MadeFits bytes (token ending mode length) = (bytes ≡ 0) × (length ≡ 0)
 MadeFits bytes (token (single set) mode length) = IsLength bytes length
+MadeFits bytes (token code_point mode length) = IsLength bytes length
 MadeFits bytes (token (assertion here) mode length) = IsLength bytes length
 MadeFits bytes (token opening mode length) = IsLength bytes length
 MadeFits bytes (token closing mode length) = IsLength bytes length
@@ -92,6 +96,9 @@ MadeFits bytes (token (faulty refusal) mode length) = length ≡ 0
 MadeFits bytes (skips mode length) = IsLength bytes length
 MadeFits bytes bracket = IsLength bytes 1
 
+one_of_fits : (bytes : ℕ) (mode behind : Mode) (set : List Bool) (n : ℕ) → IsLength bytes n → MadeFits bytes (token (one_of mode set) behind n)
+one_of_fits bytes mode behind set n h = either (λ (made : Token). MadeFits bytes (token made behind n)) mode.utf8 _ _ (λ _. h) (λ _. h)
+
 made_by_fits : (bytes : ℕ) (mode : Mode) (at : ℕ) (f : Form) → FormFits bytes f → MadeFits bytes (made_by mode at f)
 made_by_fits bytes mode at form.End h = (h, refl)
 made_by_fits bytes mode at (form.Skipped behind length) h = h
@@ -99,9 +106,9 @@ made_by_fits bytes mode at (form.Setting behind length) h = h
 made_by_fits bytes mode at (form.Opening inside length) h = h
 made_by_fits bytes mode at form.Closing h = h
 made_by_fits bytes mode at form.Bar h = h
-made_by_fits bytes mode at form.Any h = h
-made_by_fits bytes mode at (form.Character code length) h = h
-made_by_fits bytes mode at (form.Class named negated length) h = h
+made_by_fits bytes mode at form.Any h = one_of_fits bytes mode mode (any_byte mode.dotall) 1 h
+made_by_fits bytes mode at (form.Character code length) h = one_of_fits bytes mode mode (bytes_of (Range mode.caseless code code)) length h
+made_by_fits bytes mode at (form.Class named negated length) h = one_of_fits bytes mode mode (bytes_of (Class named negated)) length h
 made_by_fits bytes mode at form.Bracket h = h
 made_by_fits bytes mode at (form.Assert here length) h = h
 made_by_fits bytes mode at (form.Quantifier least greatest possessive length) h = h
@@ -127,6 +134,7 @@ plain_takes :
     s.place ≤ length text → MadeFits (length text - s.place) (token made mode n) → Takes text made s.place (s.place + n)
 plain_takes text s ending mode n h fits = record { rises = tt; forward = omega arith; within = omega (arith, fits.1, h) }
 plain_takes text s (single set) mode n h fits = record { rises = omega (arith, fits.some); forward = omega arith; within = omega (arith, fits.within, h) }
+plain_takes text s code_point mode n h fits = record { rises = omega (arith, fits.some); forward = omega arith; within = omega (arith, fits.within, h) }
 plain_takes text s (assertion here) mode n h fits = record { rises = omega (arith, fits.some); forward = omega arith; within = omega (arith, fits.within, h) }
 plain_takes text s opening mode n h fits = record { rises = omega (arith, fits.some); forward = omega arith; within = omega (arith, fits.within, h) }
 plain_takes text s closing mode n h fits = record { rises = omega (arith, fits.some); forward = omega arith; within = omega (arith, fits.within, h) }
@@ -137,10 +145,16 @@ plain_takes text s setting mode n h fits = record { rises = omega (arith, fits.s
 plain_takes text s (faulty refusal) mode n h fits = record { rises = tt; forward = omega arith; within = omega (arith, fits, h) }
 
 pub class_takes :
-    {text : List ℕ} {caseless : Bool} {at end : ℕ} {made : Token} →
-    at < length text → ClassToken text caseless at made end → Takes text made at end
-class_takes h (closed items e) =
-    let far = class_within h (closed items e) in record { rises = far.0; forward = omega (arith, far.0); within = far.1 }
+    {text : List ℕ} {mode : Mode} {at end : ℕ} {made : Token} →
+    at < length text → ClassToken text mode at made end → Takes text made at end
+class_takes {text = text} {mode = mode} {at = at} h (closed {tests = tests} {close = close} items e) =
+    let far = closed_within h items e in
+    let set = class_of (is_negated text at) tests in
+    record {
+      rises = either (λ (made : Token). goes_on made at (close + 1)) mode.utf8 code_point (single set) (λ _. far.0) (λ _. far.0);
+      forward = omega (arith, far.0);
+      within = far.1;
+    }
 class_takes h (unclosed items e) = record { rises = tt; forward = omega arith; within = omega (arith, h) }
 class_takes h (refused items e) = record { rises = tt; forward = omega arith; within = omega (arith, h) }
 
@@ -178,6 +192,10 @@ next_takes {text = text} {s = s} h (skipped {mode = mode} {length = n} e there) 
     let far = next_takes skip.within there in
     record { reached = omega (arith, skip.rises, far.reached); rises = far.rises; forward = far.forward; within = far.within }
 
+-- one character is no end of the text
+no_ending : (mode : Mode) (set : List Bool) → one_of mode set ≡ ending → ⊥
+no_ending mode set = either (λ (made : Token). made ≡ ending → ⊥) mode.utf8 code_point (single set) (λ _ e. cc) (λ _ e. cc)
+
 -- the end of the text is behind all bytes
 ending_fits : (bytes n : ℕ) (mode : Mode) → MadeFits bytes (token ending mode n) → bytes ≡ 0
 ending_fits bytes n mode fits = fits.0
@@ -185,7 +203,7 @@ ending_fits bytes n mode fits = fits.0
 pub ending_place : {text : List ℕ} {s t : Spot} {made : Token} → made ≡ ending → s.place ≤ length text → TokenAt text s made t → s.place ≡ length text
 ending_place {text = text} {s = s} same h (formed {made = made} {mode = mode} {length = n} e) =
     let fits = made_fits text s (token ending mode n) (e ∙ ap (λ (x : Token). token x mode n) same) in omega (arith, fits.0, h)
-ending_place same h (bracketed e (closed items f)) = absurd cc
+ending_place {s = s} same h (bracketed e (closed items f)) = absurd (no_ending s.mode _ same)
 ending_place same h (bracketed e (unclosed items f)) = absurd cc
 ending_place same h (bracketed e (refused items f)) = absurd cc
 
@@ -208,7 +226,7 @@ next_made text s (token made mode n) e more = record { start = _; made = _; behi
 next_made text s (skips mode n) e more =
     let rest = more mode n e in record { start = _; made = _; behind = _; there = skipped e rest.there }
 next_made text s bracket e more =
-    let there = class_read text s.mode.caseless s.place (bracket_within text s e) in
+    let there = class_read text s.mode s.place (bracket_within text s e) in
     record { start = _; made = _; behind = _; there = now (bracketed e there.there) }
 
 next_fuel : (fuel : ℕ) (text : List ℕ) (s : Spot) → s.place ≤ length text → length text ≤ s.place + fuel → NextRead text s

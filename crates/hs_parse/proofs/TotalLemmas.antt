@@ -8,12 +8,13 @@ use Rattle.hs_base.specs.Trees.{Tree, AreBounds}
 use Rattle.hs_parse.specs.declared.fault.ParseFault.TheVariants as fault
 use Rattle.hs_parse.specs.declared.spot.Spot.{Spot}
 use Rattle.hs_parse.specs.Spots.{spot, start_of}
-use Rattle.hs_parse.specs.Tokens.{Token, ending, single, assertion, opening, closing, bar, quantifier, setting, faulty, Next}
-use Rattle.hs_parse.specs.Grammar.{greatest_length, greatest_depth, NoQuantifier, Atom, one_byte, asserted, group, Item, once, repeated, Sequence, nothing, item_first, setting_first, sequence_tree, Alternation, last, alternative_first}
+use Rattle.hs_parse.specs.Tokens.{Token, ending, single, code_point, assertion, opening, closing, bar, quantifier, setting, faulty, Next}
+use Rattle.hs_parse.specs.Grammar.{greatest_length, greatest_depth, NoQuantifier, Atom, one_byte, one_point, asserted, group, Item, once, repeated, Sequence, nothing, item_first, setting_first, sequence_tree, Alternation, last, alternative_first}
 use Rattle.hs_parse.specs.Faults.{quantifier_faults, atom}
 use Rattle.hs_parse.specs.Reading.{EndsGroup, at_closing, at_ending, IsLeastOf, StopsFrom}
 use Rattle.hs_parse.specs.Laws.{Outcome, read, refused, AlwaysOne}
 use Rattle.hs_parse.proofs.TokenLemmas.{NextTakes, next_takes, next_read, NextRead}
+use Rattle.hs_parse.proofs.PointLemmas.{next_token, points_read}
 use Rattle.hs_parse.proofs.FaultLemmas.{has_least, all_right}
 use Rattle.hs_parse.proofs.GrammarLemmas.{is_quantifier, no_quantifier}
 use Rattle.hs_parse.proofs.PathLemmas.{long_fault}
@@ -101,6 +102,7 @@ record QuantifierIs (made : Token) : Type 0 where
 quantifier_is : (made : Token) → is_quantifier made ≡ true → QuantifierIs made
 quantifier_is ending q = absurd cc
 quantifier_is (single set) q = absurd cc
+quantifier_is code_point q = absurd cc
 quantifier_is (assertion here) q = absurd cc
 quantifier_is opening q = absurd cc
 quantifier_is closing q = absurd cc
@@ -242,6 +244,12 @@ way_at text depth s start t (single set) h deep later there =
     let rises : start.place < t.place = takes.rises in
     behind_atom text depth s t _ deep later
     (record { whole = one_byte there; far = record { rises = omega (arith, rises, takes.reached); within = takes.within } })
+way_at text depth s start t code_point h deep later there =
+    let takes = next_takes h there in
+    let rises : start.place < t.place = takes.rises in
+    let set = points_read (next_token there) refl in
+    behind_atom text depth s t _ deep later
+    (record { whole = one_point there set.there; far = record { rises = omega (arith, rises, takes.reached); within = takes.within } })
 way_at text depth s start t (assertion here) h deep later there =
     let takes = next_takes h there in
     let rises : start.place < t.place = takes.rises in

@@ -3,8 +3,10 @@ use Rattle.std.specs.Prelude.{◌≡◌, ℕ, ◌+◌, ◌-◌, Bool, not, ◌==
 use Rattle.std.specs.Prelude.{◌∷◌, drop, slice_get}
 use Rattle.std.specs.Int.{is_in_range}
 use Rattle.std.specs.List.{list_any}
+use Rattle.hs_base.specs.Assertions.{line_feed}
 use Rattle.hs_base.specs.ByteSets.{bytes_where}
 use Rattle.hs_base.specs.declared.refusal.Refusal.TheVariants.{Syntax}
+use Rattle.hs_syntax.specs.declared.mode.Mode.{Mode}
 use Rattle.hs_syntax.specs.declared.named.Named.{Named}
 use Rattle.hs_syntax.specs.declared.piece.Piece.{Piece}
 use Rattle.hs_syntax.specs.declared.piece.Piece.TheVariants as piece
@@ -14,7 +16,7 @@ use Rattle.hs_syntax.specs.Pieces.{piece_at}
 use Rattle.hs_parse.specs.declared.item.Item.{Item}
 use Rattle.hs_parse.specs.declared.item.Item.TheVariants as item
 use Rattle.hs_parse.specs.declared.set.Test.{Test}
-use Rattle.hs_parse.specs.declared.set.Test.TheVariants.{Range, Class}
+use Rattle.hs_parse.specs.declared.set.Test.TheVariants.{Any, Range, Class}
 use Rattle.hs_parse.specs.Spots.{refusal_at}
 
 -- the byte `-`
@@ -41,8 +43,9 @@ is_within caseless first last b = is_between first last b || (caseless && is_bet
 abbrev pub is_of_class : Named → (negated : Bool) → ℕ → Bool
 is_of_class class negated b = if negated then not (is_of class b) else is_of class b
 
--- the bytes of an item; under i characters and ranges are closed by case, and classes aren't
+-- the bytes of a `.` or an item; under i characters and ranges are closed by case, and classes aren't
 abbrev pub passes : Test → ℕ → Bool
+passes (Any dotall) = (λ b. dotall || not (b == line_feed))
 passes (Range caseless first last) = is_within caseless first last
 passes (Class class negated) = is_of_class class negated
 
@@ -51,8 +54,8 @@ unfoldable pub bytes_of : Test → List Bool
 bytes_of test = bytes_where (passes test)
 
 -- what stands at a place in the class whose items begin at the start
-abbrev pub class_piece : List ℕ → (caseless : Bool) → (start : ℕ) → ℕ → Piece
-class_piece text caseless start at = piece_at caseless (at == start) (drop at text)
+abbrev pub class_piece : List ℕ → Mode → (start : ℕ) → ℕ → Piece
+class_piece text mode start at = piece_at mode (at == start) (drop at text)
 
 -- A character, and behind it a hyphen and a piece: a range, if that is a character that isn't less, else the hyphen is
 -- no part of the item.
@@ -78,20 +81,20 @@ item_of caseless at hyphen_behind piece_behind (piece.Class class negated length
 item_of caseless at hyphen_behind piece_behind (piece.Refused reason) = item.Refused (refusal_at reason at)
 
 -- the item at a place in the class whose items begin at the start
-unfoldable pub item_at : List ℕ → (caseless : Bool) → (start : ℕ) → ℕ → Item
-item_at text caseless start at =
-    item_of caseless at
+unfoldable pub item_at : List ℕ → Mode → (start : ℕ) → ℕ → Item
+item_at text mode start at =
+    item_of mode.caseless at
     (λ place. is_byte hyphen (slice_get text place))
-    (λ place. class_piece text caseless start place)
-    (class_piece text caseless start at)
+    (λ place. class_piece text mode start place)
+    (class_piece text mode start at)
 
--- The items of a class, one behind the other, as tests of a byte.
-pub data Items (text : List ℕ) (caseless : Bool) (start : ℕ) : ℕ → List (ℕ → Bool) → ℕ → Type 0 where
-  nothing : {at : ℕ} → Items text caseless start at [] at
-  item_first : {at middle end : ℕ} {test : Test} {tests : List (ℕ → Bool)} →
-      item_at text caseless start at ≡ item.Bytes test middle →
-      Items text caseless start middle tests end →
-      Items text caseless start at (passes test ∷ tests) end
+-- The items of a class, one behind the other, as tests of a character.
+pub data Items (text : List ℕ) (mode : Mode) (start : ℕ) : ℕ → List Test → ℕ → Type 0 where
+  nothing : {at : ℕ} → Items text mode start at [] at
+  item_first : {at middle end : ℕ} {test : Test} {tests : List Test} →
+      item_at text mode start at ≡ item.Bytes test middle →
+      Items text mode start middle tests end →
+      Items text mode start at (test ∷ tests) end
 
 -- the class that begins at the place is of the bytes that none of its items has
 abbrev pub is_negated : List ℕ → ℕ → Bool
@@ -102,6 +105,7 @@ abbrev pub items_start : List ℕ → ℕ → ℕ
 items_start text at = if is_negated text at then at + 2 else at + 1
 
 -- the bytes of a class
-unfoldable pub class_of : (negated : Bool) → List (ℕ → Bool) → List Bool
+unfoldable pub class_of : (negated : Bool) → List Test → List Bool
 class_of negated tests =
-    bytes_where (λ b. if negated then not (list_any (λ test. test b) tests) else list_any (λ test. test b) tests)
+    bytes_where
+    (λ b. if negated then not (list_any (λ test. passes test b) tests) else list_any (λ test. passes test b) tests)

@@ -16,7 +16,8 @@ use Rattle.hs_parse.specs.declared.fault.ParseFault.{ParseFault}
 use Rattle.hs_parse.specs.declared.fault.ParseFault.TheVariants.{Refused, Memory}
 use Rattle.hs_parse.specs.declared.spot.Spot.{Spot}
 use Rattle.hs_parse.specs.Spots.{spot, start_of}
-use Rattle.hs_parse.specs.Tokens.{Token, ending, single, assertion, opening, closing, bar, quantifier, setting, faulty}
+use Rattle.hs_parse.specs.Tokens.{Token, ending, single, code_point, assertion, opening, closing, bar, quantifier}
+use Rattle.hs_parse.specs.Tokens.{setting, faulty}
 use Rattle.hs_parse.specs.Tokens.{Next}
 use Rattle.hs_parse.specs.Grammar.{greatest_length, greatest_depth}
 
@@ -111,6 +112,7 @@ quantifier_move at behind outside (fault ∷ faults) = stops at (fault ∷ fault
 abbrev pub move : Token → (start behind : Spot) → List Mode → Before → Move
 move ending start behind outside before = end_move start.place outside
 move (single set) start behind outside before = goes (state behind outside atom)
+move code_point start behind outside before = goes (state behind outside atom)
 move (assertion here) start behind outside before = goes (state behind outside atom)
 move opening start behind outside before =
     if nat_lt (length outside) greatest_depth

@@ -4,11 +4,13 @@
 use Rattle.std.specs.Prelude.{◌≡◌, ℕ, ◌+◌, ◌<◌, ◌≤◌, Bool, false, List, [], ◌∷◌, length, Option}
 use Rattle.hs_base.specs.declared.assertion.Assertion.{Assertion}
 use Rattle.hs_base.specs.declared.flags.Flags.{Flags}
-use Rattle.hs_base.specs.Trees.{Tree, empty, class, assert, cat, alt, repeat, AreBounds}
+use Rattle.hs_base.specs.Trees.{Tree, empty, class, points, assert, cat, alt, repeat, AreBounds}
 use Rattle.hs_expr.specs.Meaning.{trees_of}
 use Rattle.hs_parse.specs.declared.spot.Spot.{Spot}
 use Rattle.hs_parse.specs.Spots.{spot, start_of}
-use Rattle.hs_parse.specs.Tokens.{single, assertion, opening, closing, bar, quantifier, setting, ending, Next}
+use Rattle.hs_parse.specs.Points.{ArePoints}
+use Rattle.hs_parse.specs.Tokens.{single, code_point, assertion, opening, closing, bar, quantifier, setting, ending}
+use Rattle.hs_parse.specs.Tokens.{Next}
 
 -- the greatest length of a text, in bytes
 abbrev pub greatest_length : ℕ
@@ -37,12 +39,16 @@ alternation_tree (tree ∷ []) = tree
 alternation_tree (tree ∷ other ∷ trees) = alt (trees_of (tree ∷ other ∷ trees))
 
 mutual
-  -- An atom: one byte of a set, an assertion, or a group, which leaves no node of its own, and behind which the options
-  -- are those before it.
+  -- An atom: one byte of a set, one code point, an assertion, or a group, which leaves no node of its own, and behind
+  -- which the options are those before it.
   pub data Atom (text : List ℕ) : ℕ → Spot → Tree → Spot → Type 0 where
     one_byte : {depth : ℕ} {s start t : Spot} {set : List Bool} →
         Next text s start (single set) t →
         Atom text depth s (class set) t
+    one_point : {depth : ℕ} {s start t : Spot} {ranges : List (ℕ × ℕ)} →
+        Next text s start code_point t →
+        ArePoints text start ranges →
+        Atom text depth s (points ranges) t
     asserted : {depth : ℕ} {s start t : Spot} {here : Assertion} →
         Next text s start (assertion here) t →
         Atom text depth s (assert here) t

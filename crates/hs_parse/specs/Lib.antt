@@ -1,7 +1,9 @@
 pub mod Spots
 pub mod Classes
 pub mod Tokens
+pub mod Points
 pub mod Grammar
 pub mod Faults
 pub mod Reading
+pub mod PointReading
 pub mod Laws

@@ -19,36 +19,39 @@ use Rattle.hs_parse.specs.declared.token.Made.{Made as SeenMade}
 use Rattle.hs_parse.specs.declared.token.Made.TheVariants as seenmade
 use Rattle.hs_parse.specs.declared.token.Found.{Found}
 use Rattle.hs_parse.specs.declared.spot.Spot.{Spot}
-use Rattle.hs_parse.specs.Classes.{item_at, Items}
-use Rattle.hs_parse.specs.Tokens.{Token, ending, single, assertion, opening, closing, bar, quantifier, setting, faulty}
+use Rattle.hs_parse.specs.declared.set.Test.{Test}
+use Rattle.hs_parse.specs.Classes.{passes, item_at, Items}
+use Rattle.hs_parse.specs.Tokens.{Token, ending, single, code_point, assertion, opening, closing, bar, quantifier}
+use Rattle.hs_parse.specs.Tokens.{setting, faulty}
 use Rattle.hs_parse.specs.Tokens.{Made, token, skips, bracket, Next}
 use Rattle.hs_parse.specs.Grammar.{NoQuantifier, Atom, Item, Sequence, sequence_tree, Alternation, alternation_tree}
 use Rattle.hs_parse.specs.Faults.{Before, beginning, state, start_state, Run, StopsAt, IsOneOf}
 
 -- the set has the bytes of the items of a class, read up to a place
-pub record HasItems (text : List ℕ) (caseless : Bool) (start : ℕ) (set : ByteSet) (here : ℕ) : Type 0 where
-  pub tests : List (ℕ → Bool)
-  pub items : Items text caseless start start tests here
-  pub same : (b : ℕ) → b < 256 → has set b ≡ list_any (λ test. test b) tests
+pub record HasItems (text : List ℕ) (mode : Mode) (start : ℕ) (set : ByteSet) (here : ℕ) : Type 0 where
+  pub tests : List Test
+  pub items : Items text mode start start tests here
+  pub same : (b : ℕ) → b < 256 → has set b ≡ list_any (λ test. passes test b) tests
 
 -- the items of a class are read up to a place, and there stands that
-pub record EndsItems (text : List ℕ) (caseless : Bool) (start : ℕ) (last : ClassItem) : Type 0 where
-  pub tests : List (ℕ → Bool)
+pub record EndsItems (text : List ℕ) (mode : Mode) (start : ℕ) (last : ClassItem) : Type 0 where
+  pub tests : List Test
   pub here : ℕ
-  pub items : Items text caseless start start tests here
-  pub there : item_at text caseless start here ≡ last
+  pub items : Items text mode start start tests here
+  pub there : item_at text mode start here ≡ last
 
 -- What the items of a class are, and where it is closed; none where it isn't, or a refusal.
-abbrev pub AreItemsOf : List ℕ → Bool → ℕ → Result (Option (ByteSet × ℕ)) Refusal → Type 0
-AreItemsOf text caseless start (Ok (Some (set, close))) =
-    HasItems text caseless start set close × (item_at text caseless start close ≡ item.Close)
-AreItemsOf text caseless start (Ok None) = EndsItems text caseless start item.End
-AreItemsOf text caseless start (Err refusal) = EndsItems text caseless start (item.Refused refusal)
+abbrev pub AreItemsOf : List ℕ → Mode → ℕ → Result (Option (ByteSet × ℕ)) Refusal → Type 0
+AreItemsOf text mode start (Ok (Some (set, close))) =
+    HasItems text mode start set close × (item_at text mode start close ≡ item.Close)
+AreItemsOf text mode start (Ok None) = EndsItems text mode start item.End
+AreItemsOf text mode start (Err refusal) = EndsItems text mode start (item.Refused refusal)
 
 -- the token that the parser sees
 abbrev pub plain_token : Seen → Token
 plain_token seen.End = ending
 plain_token (seen.Single set) = single (members set)
+plain_token seen.Point = code_point
 plain_token (seen.Assert here) = assertion here
 plain_token seen.Opening = opening
 plain_token seen.Closing = closing
@@ -61,6 +64,7 @@ plain_token (seen.Refused refusal) = faulty refusal
 abbrev pub sees_quantifier : Seen → Bool
 sees_quantifier seen.End = false
 sees_quantifier (seen.Single set) = false
+sees_quantifier seen.Point = false
 sees_quantifier (seen.Assert here) = false
 sees_quantifier seen.Opening = false
 sees_quantifier seen.Closing = false
@@ -79,6 +83,7 @@ plain_made seenmade.Bracket = bracket
 abbrev pub goes_on : Token → (start behind : ℕ) → Type 0
 goes_on ending start behind = Unit {0}
 goes_on (single set) start behind = start < behind
+goes_on code_point start behind = start < behind
 goes_on (assertion here) start behind = start < behind
 goes_on opening start behind = start < behind
 goes_on closing start behind = start < behind

@@ -1,5 +1,5 @@
 -- Where the reading of an expression is. A text is a list of bytes, and a place an offset in it.
-use Rattle.std.specs.Prelude.{ℕ, List, drop}
+use Rattle.std.specs.Prelude.{ℕ, ◌+◌, List, drop}
 use Rattle.hs_base.specs.declared.flags.Flags.{Flags}
 use Rattle.hs_base.specs.declared.refusal.Refusal.{Refusal}
 use Rattle.hs_base.specs.declared.refusal.Refusal.TheVariants as refusal
@@ -27,4 +27,5 @@ form_of text s = form_at s.mode (drop s.place text)
 abbrev pub refusal_at : Wrong → ℕ → Refusal
 refusal_at wrong.Syntax at = refusal.Syntax at
 refusal_at wrong.UnknownEscape at = refusal.UnknownEscape at
+refusal_at (wrong.IllFormed place) at = refusal.Syntax (at + place)
 refusal_at (wrong.Unsupported construct) at = refusal.Unsupported construct at

@@ -8,7 +8,7 @@ use crate::parser::MAX_TEXT_LEN;
 use crate::set::Test;
 use crate::spot::refusal_at;
 use hs_base::Refusal;
-use hs_syntax::{Piece, piece_at};
+use hs_syntax::{Mode, Piece, piece_at};
 
 /// The item that stands at a place of a class.
 #[derive(Clone, Copy)]
@@ -31,32 +31,25 @@ fn is_hyphen_at(text: &[u8], at: usize) -> bool
 }
 
 /// What stands at a place of the class whose items begin at the start.
-fn class_piece(text: &[u8], caseless: bool, start: usize, at: usize) -> Piece
+fn class_piece(text: &[u8], mode: Mode, start: usize, at: usize) -> Piece
     requires within { at ≤ length text.now }
-    ensures is { result ≡ class_piece text.now caseless start at }
+    ensures is { result ≡ class_piece text.now mode start at }
     ensures fits { PieceFits (length text.now - at) result }
 {
-    piece_at(caseless, at == start, &text[at..])
+    piece_at(mode, at == start, &text[at..])
 }
 
 /// The item at a place of the class whose items begin at the start.
 #[tactic(auto, unfolding(crate::specs::Classes::item_at))]
-pub(crate) fn item_at(text: &[u8], caseless: bool, start: usize, at: usize) -> Item
+pub(crate) fn item_at(text: &[u8], mode: Mode, start: usize, at: usize) -> Item
     requires within { at ≤ length text.now }
     requires short { length text.now ≤ MAX_TEXT_LEN }
-    ensures { result ≡ item_at text.now caseless start at }
+    ensures { result ≡ item_at text.now mode start at }
 {
-    match class_piece(text, caseless, start, at) {
+    match class_piece(text, mode, start, at) {
         Piece::End => Item::End,
         Piece::Close => Item::Close,
-        Piece::Character(code, length) => character_at(
-            text,
-            caseless,
-            start,
-            at,
-            code,
-            at + length,
-        ),
+        Piece::Character(code, length) => character_at(text, mode, start, at, code, at + length),
         Piece::Class(class, negated, length) => {
             Item::Bytes(Test::Class(class, negated), at + length)
         }
@@ -65,33 +58,26 @@ pub(crate) fn item_at(text: &[u8], caseless: bool, start: usize, at: usize) -> I
 }
 
 /// The item that begins at a place with a character, by the place behind that.
-fn character_at(
-    text: &[u8],
-    caseless: bool,
-    start: usize,
-    at: usize,
-    code: u8,
-    middle: usize,
-) -> Item
+fn character_at(text: &[u8], mode: Mode, start: usize, at: usize, code: u32, middle: usize) -> Item
     requires order { at ≤ middle }
     requires within { middle ≤ length text.now }
     requires short { length text.now ≤ MAX_TEXT_LEN }
     ensures { result ≡ (if is_byte hyphen (slice_get text.now middle)
-        then range_of caseless at code middle (class_piece text.now caseless start (middle + 1))
-        else Item.Bytes (Test.Range caseless code code) middle) }
+        then range_of mode.caseless at code middle (class_piece text.now mode start (middle + 1))
+        else Item.Bytes (Test.Range mode.caseless code code) middle) }
 {
     if !is_hyphen_at(text, middle) {
-        return Item::Bytes(Test::Range(caseless, code, code), middle);
+        return Item::Bytes(Test::Range(mode.caseless, code, code), middle);
     }
-    match class_piece(text, caseless, start, middle + 1) {
+    match class_piece(text, mode, start, middle + 1) {
         Piece::End | Piece::Close | Piece::Class(_, _, _) => {
-            Item::Bytes(Test::Range(caseless, code, code), middle)
+            Item::Bytes(Test::Range(mode.caseless, code, code), middle)
         }
         Piece::Character(last, length) => {
             if last < code {
                 return Item::Refused(Refusal::Syntax(at as u32));
             }
-            Item::Bytes(Test::Range(caseless, code, last), middle + 1 + length)
+            Item::Bytes(Test::Range(mode.caseless, code, last), middle + 1 + length)
         }
         Piece::Refused(reason) => Item::Refused(refusal_at(reason, middle + 1)),
     }

@@ -7,6 +7,8 @@ mod fault;
 mod item;
 pub mod laws;
 mod parser;
+mod point_set;
+mod points;
 mod quantifier;
 mod set;
 mod spot;

@@ -8,6 +8,7 @@ ghost use Rattle.hs_parse.specs.Reading.{IsToken, FromEach, EndsSequence, StopsF
 ghost use Rattle.hs_parse.specs.Reading.{ReadsAtom, ReadsItem, ReadsSequence, ReadsGroup};
 
 use crate::fault::ParseFault;
+use crate::points::points_at;
 use crate::quantifier::quantifier_fault;
 use crate::spot::Spot;
 use crate::token::{Found, Token, next_token};
@@ -21,7 +22,8 @@ pub const MAX_TEXT_LEN: usize = 16_000;
 /// The greatest number of groups that may be open at once.
 pub const MAX_DEPTH: usize = 128;
 
-/// Reads an expression in bytes (PCRE pattern syntax). Of the flags caseless, dotall and multiline have an effect.
+/// Reads an expression (PCRE pattern syntax). Of the flags caseless, dotall, multiline and UTF-8 have an effect: under
+/// the last one the text is to be UTF-8, and a character is a code point and no byte.
 ///
 /// Refused are a text of more than `MAX_TEXT_LEN` bytes, and else the first form that can't be read: one that has no
 /// meaning (`Syntax`), a letter behind a backslash that has none (`UnknownEscape`), a construct that isn't supported
@@ -155,6 +157,10 @@ fn atom_at(
     match found.token {
         Token::End | Token::Closing | Token::Bar | Token::Setting => Ok(None),
         Token::Single(set) => Ok(Some((Expr::Class(set), found.behind))),
+        Token::Point => {
+            let ranges = points_at(alloc, text, found.start)?;
+            Ok(Some((Expr::Points(ranges), found.behind)))
+        }
         Token::Assert(assertion) => Ok(Some((Expr::Assert(assertion), found.behind))),
         Token::Opening => Ok(Some(group_at(alloc, text, depth, found)?)),
         Token::Quantifier(_, _, _) => {

@@ -1,4 +1,4 @@
-//! Sets of bytes, by a test of each byte.
+//! Tests of a character, and sets of the bytes that pass one.
 ghost use Rattle.std.specs.Prelude.{◌≡◌, ℕ, ◌<◌, ◌||◌};
 ghost use Rattle.hs_base.specs.ByteSets.{has, members};
 ghost use Rattle.hs_parse.specs.Classes.{other_case, is_between, passes, bytes_of};
@@ -7,11 +7,13 @@ ghost use Rattle.hs_parse.specs.Tokens.{any_byte};
 use hs_base::ByteSet;
 use hs_syntax::Named;
 
-/// Which bytes a character, a range or a class has.
+/// Which bytes a `.`, a character, a range or a class has; in UTF-8, which code points.
 #[derive(Clone, Copy)]
 pub(crate) enum Test {
+    /// All, or where the truth value doesn't say so all but the line feed.
+    Any(bool),
     /// From the first to the last, which may be the same; where the truth value says so, in both cases.
-    Range(bool, u8, u8),
+    Range(bool, u32, u32),
     /// Those of the class, or those that it hasn't.
     Class(Named, bool),
 }
@@ -22,20 +24,21 @@ impl Test {
         ensures { result ≡ passes self byte }
     {
         match self {
+            Test::Any(dotall) => dotall || byte != b'\n',
             Test::Range(caseless, first, last) => {
-                is_between(first, last, byte)
-                    || caseless && is_between(first, last, other_case(byte))
+                is_between(first, last, byte as u32)
+                    || caseless && is_between(first, last, other_case(byte) as u32)
             }
             Test::Class(class, negated) => class.contains(byte) != negated,
         }
     }
 }
 
-/// Whether the byte is within a range, both ends included.
-fn is_between(first: u8, last: u8, byte: u8) -> bool
-    ensures { result ≡ is_between first last byte }
+/// Whether the code is within a range, both ends included.
+fn is_between(first: u32, last: u32, code: u32) -> bool
+    ensures { result ≡ is_between first last code }
 {
-    first <= byte && byte <= last
+    first <= code && code <= last
 }
 
 /// The same letter in the other case; another byte is itself.

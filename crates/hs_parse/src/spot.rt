@@ -1,5 +1,6 @@
 //! Where the reading of an expression is.
 ghost use Rattle.std.specs.Prelude.{◌≡◌, ◌≤◌, ◌+◌};
+ghost use Rattle.hs_syntax.specs.Lengths.{WrongFits};
 ghost use Rattle.hs_parse.specs.Spots.{start_of, refusal_at};
 
 use crate::parser::MAX_TEXT_LEN;
@@ -29,12 +30,14 @@ impl Spot {
 
 /// The refusal of a form that begins at a place.
 pub(crate) fn refusal_at(wrong: Wrong, at: usize) -> Refusal
-    requires { at ≤ MAX_TEXT_LEN + 3 }
+    requires near { at ≤ MAX_TEXT_LEN + 3 }
+    requires fits { WrongFits MAX_TEXT_LEN wrong }
     ensures { result ≡ refusal_at wrong at }
 {
     match wrong {
         Wrong::Syntax => Refusal::Syntax(at as u32),
         Wrong::UnknownEscape => Refusal::UnknownEscape(at as u32),
+        Wrong::IllFormed(place) => Refusal::Syntax((at + place) as u32),
         Wrong::Unsupported(construct) => Refusal::Unsupported(construct, at as u32),
     }
 }

@@ -1,7 +1,11 @@
 //! The tokens of an expression.
 ghost use Rattle.std.specs.Prelude.{◌≡◌, ◌<◌, ◌≤◌, false, length, MatchBool, MatchOption};
-ghost use Rattle.hs_parse.specs.Tokens.{made_by, made_at, bracket};
-ghost use Rattle.hs_parse.specs.Reading.{plain_made, sees_quantifier, IsNext};
+ghost use Rattle.hs_base.specs.ByteSets.{members};
+ghost use Rattle.hs_syntax.specs.declared.wrong.Wrong.{Wrong};
+ghost use Rattle.hs_syntax.specs.Lengths.{WrongFits};
+ghost use Rattle.hs_parse.specs.Classes.{bytes_of};
+ghost use Rattle.hs_parse.specs.Tokens.{one_of, any_byte, made_by, made_at, bracket};
+ghost use Rattle.hs_parse.specs.Reading.{plain_token, plain_made, sees_quantifier, IsNext};
 
 use crate::class::class_at;
 use crate::parser::MAX_TEXT_LEN;
@@ -17,6 +21,8 @@ pub(crate) enum Token {
     End,
     /// One byte of the set.
     Single(ByteSet),
+    /// One code point. Of which set is told by what stands where the token begins.
+    Point,
     /// An assertion.
     Assert(Assertion),
     /// The opening of a group.
@@ -72,6 +78,7 @@ impl Token {
             Token::Quantifier(least, greatest, possessive) => Some((least, greatest, possessive)),
             Token::End
             | Token::Single(_)
+            | Token::Point
             | Token::Assert(_)
             | Token::Opening
             | Token::Closing
@@ -146,6 +153,7 @@ fn made_at(text: &[u8], at: Spot) -> Made
 /// What a form that begins at a place makes.
 fn made_by(mode: Mode, at: usize, form: Form) -> Made
     requires short { at ≤ MAX_TEXT_LEN }
+    requires fits { (reason : Wrong) → form ≡ Form.Refused reason → WrongFits MAX_TEXT_LEN reason }
     ensures { plain_made result ≡ made_by mode at form }
 {
     match form {
@@ -155,14 +163,14 @@ fn made_by(mode: Mode, at: usize, form: Form) -> Made
         Form::Opening(inside, length) => Made::Token(Token::Opening, inside, length),
         Form::Closing => Made::Token(Token::Closing, mode, 1),
         Form::Bar => Made::Token(Token::Bar, mode, 1),
-        Form::Any => Made::Token(Token::Single(any_byte(mode.dotall)), mode, 1),
+        Form::Any => Made::Token(any_token(mode), mode, 1),
         Form::Character(code, length) => {
             let test = Test::Range(mode.caseless, code, code);
-            Made::Token(Token::Single(set_where(test)), mode, length)
+            Made::Token(test_token(mode, test), mode, length)
         }
         Form::Class(class, negated, length) => {
             let test = Test::Class(class, negated);
-            Made::Token(Token::Single(set_where(test)), mode, length)
+            Made::Token(test_token(mode, test), mode, length)
         }
         Form::Bracket => Made::Bracket,
         Form::Assert(assertion, length) => Made::Token(Token::Assert(assertion), mode, length),
@@ -173,6 +181,39 @@ fn made_by(mode: Mode, at: usize, form: Form) -> Made
     }
 }
 
+/// What `.` makes.
+fn any_token(mode: Mode) -> Token
+    ensures { plain_token result ≡ one_of mode (any_byte mode.dotall) }
+{
+    if mode.utf8 {
+        Token::Point
+    } else {
+        Token::Single(any_byte(mode.dotall))
+    }
+}
+
+/// What a character or the name of a class makes.
+fn test_token(mode: Mode, test: Test) -> Token
+    ensures { plain_token result ≡ one_of mode (bytes_of test) }
+{
+    if mode.utf8 {
+        Token::Point
+    } else {
+        Token::Single(set_where(test))
+    }
+}
+
+/// What a class makes that has the bytes.
+fn class_token(mode: Mode, set: ByteSet) -> Token
+    ensures { plain_token result ≡ one_of mode (members set) }
+{
+    if mode.utf8 {
+        Token::Point
+    } else {
+        Token::Single(set)
+    }
+}
+
 /// The class that begins at a place.
 fn bracket_at(text: &[u8], start: Spot) -> Found
     requires made { made_at text.now start ≡ bracket }
@@ -180,14 +221,14 @@ fn bracket_at(text: &[u8], start: Spot) -> Found
     requires short { length text.now ≤ MAX_TEXT_LEN }
     ensures { IsNext text.now start result }
 {
-    match class_at(text, start.mode.caseless, start.place) {
+    match class_at(text, start.mode, start.place) {
         Ok((set, end)) => {
             let behind = Spot {
                 place: end,
                 mode: start.mode,
             };
             Found {
-                token: Token::Single(set),
+                token: class_token(start.mode, set),
                 start,
                 behind,
             }

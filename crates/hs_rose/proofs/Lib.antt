@@ -12,3 +12,5 @@ pub mod FinishLemmas
 pub mod ListedLemmas
 pub mod SplitLemmas
 pub mod LawLemmas
+pub mod SizeLemmas
+pub mod PlanLemmas

@@ -13,3 +13,4 @@ pub mod Building
 pub mod Views
 pub mod Finishing
 pub mod RoleLaws
+pub mod Plans

@@ -3,6 +3,7 @@
 ghost use Rattle.std.specs.Prelude.{◌≡◌};
 
 use hs_base::{ByteSet, NextSet, Prev};
+use hs_block::BlockEngine;
 use hs_engine::{Engine, Steps};
 use hs_limex::Limex;
 use hs_repeat::{First, Last, Ring};
@@ -97,3 +98,5 @@ impl Engine for PieceEngine {
         }
     }
 }
+
+impl BlockEngine for PieceEngine {}

@@ -14,6 +14,7 @@ mod program;
 mod role;
 mod same;
 mod shape;
+mod sizing;
 mod splitting;
 
 pub use engine::PieceEngine;
@@ -23,4 +24,5 @@ pub use kind::Kind;
 pub use laws::{engines_run_pieces, equal_pieces_have_one_engine, fields_are_those_of_plan};
 pub use program::Program;
 pub use role::Role;
+pub use sizing::fields_size;
 pub use splitting::runnable_chains;

@@ -114,4 +114,11 @@ impl Program {
     {
         &self.engines
     }
+
+    /// The engines that roles name, one for all equal pieces.
+    pub fn into_engines(self) -> Vec<PieceEngine>
+        ensures { result.items ≡ self.engines }
+    {
+        self.engines
+    }
 }

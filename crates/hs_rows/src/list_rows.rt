@@ -42,6 +42,11 @@ p <2:/a*/V> f <> = 0 <2 0;end 0;>
 p <2:/a*/V> f <b> = 0 <2 0;2 1;end 1;>
 p <12:/a$|\n/H> f <a;> = 0 <12 2;end 2;>
 p <6:/foo.*bar/{min_offset=10,max_offset=12}> f <fooxyzbarbar> = 0 <6 12;end 12;>
+# Code points.
+p <13:/^.$/8> f <%C3%A9> = 0 <13 2;end 2;>
+p <13:/^.$/8> f <%FF> = 0 <end 1;>
+p <22:/%C3%A9/i8> f <%C3%89%C3%A9> = 0 <22 2;22 4;end 4;>
+p <22:/[%C3%A9-%C3%AB]/8> f <%C3%A9%C3%AA%C3%AC> = 0 <22 2;22 4;end 6;>
 # Assertions.
 p <3:/a$/> f <a;> = 0 <3 1;end 2;>
 p <14:/^b/m> f <a;b> = 0 <14 3;end 3;>
@@ -160,6 +165,9 @@ p <1:/ab\c/> = 2 <> <refused 1 1 1 Syntax 2;>
 p <1:/a{3,2}/> = 2 <> <refused 1 1 1 Syntax 1;>
 p <1:/{2}/> = 2 <> <refused 1 1 1 Syntax 0;>
 p <1:/[a[:b:]]/> = 2 <> <refused 1 1 1 Syntax 2;>
+# Bytes that aren't UTF-8.
+p <1:/a%FF/8> = 2 <> <refused 1 1 1 Syntax 1;>
+p <1:/%C3/8> = 2 <> <refused 1 1 1 Syntax 0;>
 # Escapes without a meaning, and forms that aren't read.
 p <1:/a\y/> = 2 <> <refused 1 1 2 UnknownEscape 1;>
 p <4:/(a)\1/> = 2 <> <refused 1 4 3 Unsupported backreference 3;>

@@ -230,6 +230,65 @@ split /abcdefghijklmnopqrstuvwxyzabcdefg/ = "abcdefghijklmnopqrstuvwxyzabcdef"e;
 split /abcdefghijklmnopqrstuvwxyzabcdefgh/ = "abcdefghijklmnopqrstuvwxyzabcdef""gh";
 "#;
 
+/// Expressions over code points, by the forms of UTF-8 (The Unicode Standard, "Unicode Encoding Forms") and the simple
+/// foldings of its table of cases.
+pub const CODE_POINTS: &[u8] = br#"
+# a dot is one code point in one to four bytes
+1:/\A.\z/8 <a> = | 1@1
+1:/\A.\z/8 <%C3%A9> = | 1@2
+1:/\A.\z/8 <%E2~%82~%AC> = ~ ~ | 1@3
+1:/\A.\z/8 <%F0%9F%98%80> = | 1@4
+13:/^.$/8 <%C3%A9> = | 13@2
+13:/^.$/8 <%C3~%A9%0A> = ~ | 13@2
+13:/^.$/8 <%FF> =
+13:/^.$/8 <%C3%A9a> =
+13:/^.$/ <%C3%A9> =
+1:/./8 <%0A> =
+1:/./s8 <%0A> = 1@1
+# no code point: a part of one, a form that is too long, a surrogate, a number that is too large
+1:/./8 <%A9> =
+1:/./8 <%E2%82> =
+1:/./8 <%C0%80> =
+1:/./8 <%E0%9F%BF> =
+1:/./8 <%ED%A0%80> =
+1:/./8 <%F4%90%80%80> =
+1:/./8 <%ED%9F%BF> = 1@3
+# a character, a class and its complement
+7:/\x{20AC}+/8 <%E2%82%AC%E2~%82%AC> = 7@3 ~ 7@6
+8:/\x{E9}/8 <%E9> =
+8:/\x{E9}/ <%C3%A9> =
+8:/\x{E9}/ <%E9> = 8@1
+8:/[\x{E9}\x{20AC}]b/8 <%E2%82%ACb%C3%A9b> = 8@4 8@7
+8:/[^a]b/8 <ab%C3%A9b> = 8@5
+8:/a[^\x{0}-\x{FFFF}]/8 <a%F0%9F~%98%80> = ~ 8@5
+8:/\W/8 <%C3%A9> = 8@2
+8:/\w/8 <%C3%A9> =
+# both cases, of one length and of two
+22:/\x{E9}/i8 <%C3%89> = 22@2
+22:/\x{E9}/i8 <%C3~%A9> = ~ 22@2
+22:/\x{E9}/8 <%C3%89> =
+23:/k/i8 <%E2%84%AA> = 23@3
+23:/k/i8 <K> = 23@1
+23:/[^k]/i8 <%E2%84%AA> =
+# a word ends where its bytes do
+24:/\bx/8 <%C3%A9x> = 24@3
+# beside a list in bytes
+1:/a\x{E9}b/8 2:/a..b/ 3:/\xA9/ <a%C3%A9b> = 3@3 1@4 2@4
+# each tree alone
+<%C3%A9%E2%82%AC>
+each /\x{E9}/ /\x{E9}/8 /\x{E9}?\x{20AC}/8 /[\x{E9}\x{20AC}]{2}/8 /(?:\x{E9}|\x{E9}\x{20AC})/8 /\A\x{E9}\b/8 /a/8
+# what is refused goes by the tree in bytes
+refused 1:/a/8 =
+refused 1:/a*/8 = refused 1 1 6 MatchesEmpty
+refused 1:/\x{E9}$\x{E9}/8 = refused 1 1 7 EmbeddedEnd
+refused 1:/.{18}/8 =
+refused 1:/.{19}/8 = refused 1 1 9 PositionLimit 513
+refused 1:/.{19}/ =
+refused 1:/a/8W = refused 1 1 4 UnsupportedFlag 64
+positions /\x{20AC}/8 = 3
+split /foobar/8 = "foobar";
+"#;
+
 /// Lists that are refused, by the first reason of the first entry that has one, and those that aren't.
 pub const REFUSALS: &[u8] = br"
 refused 9:/a*/ = refused 1 9 6 MatchesEmpty
@@ -245,6 +304,7 @@ refused 12:/ab/H 7:/b/ 12:/b/{min_offset=2,max_offset=1} = refused 3 12 14 Mixed
 refused 12:/ab/H 12:/b*/{min_offset=2,max_offset=1} = refused 2 12 6 MatchesEmpty
 refused 25:/a/{min_offset=2,max_offset=1} = refused 1 25 15 OffsetOrder
 refused 8:/a{32768}/ = refused 1 8 8 RepeatLimit 32768
+refused 8:/a{32767}/ =
 refused 10:/(a)\1/ = refused 1 10 3 Unsupported backreference 3
 refused 10:/a$b/ = refused 1 10 7 EmbeddedEnd
 refused 11:/F[/i = refused 1 11 1 Syntax 1
@@ -288,8 +348,10 @@ refused 1:/c(?:a$){0,2}/ = refused 1 1 7 EmbeddedEnd
 refused 1:/c(?:\b$)*/ =
 refused 1:/(?:a$)?/ = refused 1 1 6 MatchesEmpty
 refused 1:/x{512}/ =
-refused 1:/x{513}/ = refused 1 1 9 PositionLimit 513
-refused 1:/x{512}a/ = refused 1 1 9 PositionLimit 513
+refused 1:/x{513}/ =
+refused 1:/(?:xy){256}/ =
+refused 1:/(?:xy){257}/ = refused 1 1 9 PositionLimit 514
+refused 1:/x{512}a/ =
 refused 1:/x{512}\b/ =
 refused 1:/(?:x{32767}){32767}/ = refused 1 1 9 PositionLimit 1073676289
 refused 1:/(?:(?:x{32767}){32767}){32767}/ = refused 1 1 9 PositionLimit 4294967295
@@ -299,8 +361,7 @@ refused 1:/(?:$x)*/ = refused 1 1 6 MatchesEmpty
 refused 1:/a/ismHV{min_offset=0,max_offset=9} =
 refused 1:/$/V =
 refused 1:/\Z/ismH = refused 1 1 6 MatchesEmpty
-refused 1:/x{513}/H8{min_offset=9,max_offset=0,min_length=1} = refused 1 1 4 UnsupportedFlag 32
-refused 1:/a/8 = refused 1 1 4 UnsupportedFlag 32
+refused 1:/x{513}/HW{min_offset=9,max_offset=0,min_length=1} = refused 1 1 4 UnsupportedFlag 64
 refused 1:/a/W = refused 1 1 4 UnsupportedFlag 64
 refused 1:/a/P = refused 1 1 4 UnsupportedFlag 128
 refused 1:/a/CQ = refused 1 1 4 UnsupportedFlag 512
@@ -308,7 +369,8 @@ refused 1:/a/{min_length=1} = refused 1 1 5 UnsupportedParameter 4
 refused 1:/$/{min_offset=0,max_offset=9,edit_distance=1,hamming_distance=1} = refused 1 1 5 UnsupportedParameter 8
 refused 1:/a/{min_offset=9,max_offset=9} =
 refused 1:/a/{min_offset=2,max_offset=1} = refused 1 1 15 OffsetOrder
-refused 1:/x{513}/{min_offset=9,max_offset=8} = refused 1 1 9 PositionLimit 513
+refused 1:/x{513}/{min_offset=9,max_offset=8} = refused 1 1 15 OffsetOrder
+refused 1:/(?:xy){257}/{min_offset=9,max_offset=8} = refused 1 1 9 PositionLimit 514
 refused 1:/$a/V{min_offset=9,max_offset=8} = refused 1 1 7 EmbeddedEnd
 ";
 
@@ -325,4 +387,69 @@ positions /(?:(?:a|b|c|d){128})*/ = 512
 tables /foo.*bar/ = 287
 tables /(?:(?:a|b|c|d){128})*/ = 53248
 tables /(?:(?:(?:a|b|c|d)\b){128})*/ = 413696
+";
+
+/// What is at the edges of chains.
+pub const EDGES: &[u8] = br"
+# a chain of no pieces
+1:/()/V <ab> = 1@0 1@1 1@2
+1:/\b/ <a%20b> = 1@0 1@1 1@2 | 1@3
+# a later piece without positions
+1:/foo\b/ <foo> = | 1@3
+1:/foo\b/ <foo%20foo> = 1@3 | 1@7
+1:/foo\b/ <fool> =
+# a piece that looks back
+1:/\bfoo\b/ <foo%20xfoo%20foo> = 1@3 | 1@12
+1:/f\boo/ <foo> =
+";
+
+/// Chains of several pieces over longer streams.
+pub const PIECES: &[u8] = br"
+1:/[0-9]+foo[a-z]*bar/ <1foobar%2011fooxbar%20foobar>
+1:/x.{65}y/s 2:/x.{70,}y/s 3:/x.{0,66}y/s 4:/x.{2,67}y/s <x%(65)ay%(3)xyy%(70)ay>
+1:/ab.{65,}cd/s <ab%(65)xcdcd>
+1:/abcab/ 2:/[ab]abcab/ <abcabcab>
+";
+
+/// Lists of random expressions over random streams.
+pub const RANDOM: &[u8] = br"
+1:/aab_bba/Vsi <bbbaaaaaaabbbbbbba%0A%0A> <b%20%0A%20abab__bba>
+3:/b|bab/Vsm <__%20aa_%0A%20_a%20> <_%20>
+2:/\w{4}a_b/VHsm 1:/[ab]\bbbabababab/Vsmi <%20> <aaa%0A>
+3:/\bb\w{3,}/VHi <_%20> <_b%0Aaaabaaaaaaaabbbb%0A>
+3:/bab/V 2:/aab[ab]{4}a/Vi 3:/aab/Vs <aaaaaa> <ababbbbbbbbbbabbbbbbbba>
+1:/[^a]{2}\B_aa/V <a%0A%20> <ababbb>
+1:/aa{4}|[ab]/V <%20%0A%20bbbbbbbb_%20> <aaa%20b%0A_%0A>
+3:/[ab]{4}ba|b[ab]a/VHsm <> <_b>
+3:/aab(?:_^_[ab]{1,3})+_(?:a{1,3}\Aab\w{3,}){0,2}_/Vm <a%0A%0Aa%20_aaaaaaaaaba> <ababa%20_bbba_%0A%0A>
+1:/_bab.{3,}/Vsi <a%0A%20bbbbaaa%0A> <aaaaaaabbbba>
+3:/aab(?:b_[ab]a){0,2}/VHs <aaaa%0A%20a%20%20ba> <a%20a%0Aab>
+1:/\Bb\wb_|[ab]{3,}\A/Vs <ba%20_%20bbb_b%20> <abab>
+3:/aa/Vsm{min_offset=3} <%20%0Abbaaaaaa> <b%20aa>
+2:/_\w{4}_/Vmi{min_offset=1} <bbbb%20a> <aaaaaa%20ab_%0Aaaaaaa%20b>
+1:/aaba{3,}(?:.*[^a]{1,3}a{4})/VHm 2:/(?:b*.{1,3})+bbba/VH <abab> <%20aaaaaba%20bb%0Ab%0A>
+2:/a_|/VHm <%0Aabb%20_> <aaa>
+1:/aab(?:_)*/Vmi <a%0Aba> <bbbbbbbb>
+1:/b^\B\z/Vsm <bbbbbbbbbbbbbb%20%20b%20> <%20%20ba%0A%0A>
+3:/ba/Vsm <bbbbb> <abab>
+2:/(?:_b*[^a]{1,3}\Bb){2}b{1,3}(?:b$|[ab]+b)/Vmi <_ab__aaaaaaaaaabab> <bbbbbbb%20__%20aaaaa%0A>
+2:/(?:b)?aabb{2}/Vs <_ab%20%0A__abab> <abab_>
+2:/(?:a_|a){2}_[ab]a[^a]/VH 1:/\b\babab/Vi <bbaa_abab> <bbbbbbbbbbaaaaaaabbbbb>
+2:/bb\bba\n/VH 3:/a/Vs <aa> <_b%0Aabbbabbbbbb>
+1:/aab|[^a]{0,2}aab/VHm <ababa_%20aab%20_> <a%20b>
+3:/aba{3,}/Vm 2:/a{2}a?bbb/V <aaaaaa%0Aa_%0A%20aab> <%0Abb%0Ab>
+3:/\A\B/VH <aaaaaaaaa_> <abab_abab>
+2:/\n\b/Vs <bbbbbbb> <aaaaaaaaab>
+3:/_a(?:\B\nbabb|[ab]+bb\b)/Vm 1:/abb\b|/Vs <aabaaaaaaaab_abbbbb%0Ab_%20> <a___bbbbb%0A_>
+3:/(?:bb)+/Vsm{min_offset=5} <%0Aa%0Abbbbbbbaba%20> <ababaaaaaaaaaaaaaa_b>
+1:/(?:\sab^abab)/VH 2:/a{4}/Vsmi{min_offset=5} <%0Aba> <baab%20%20_a>
+1:/(?:\w{0,5}b){0,2}baa/VH <%20%20%20bbbbb%0A_%0Aabbbbbbb%20%0Ab%20> <aabb%0Aa%0A>
+2:/_abab_.{3,}\z/V <aaaaaaaaaa%0A_a> <_%0A_%20b>
+1:/b*[ab]?.{1,3}ab_|.a/VHm <b__%20%0A%0Ab%20> <%20a%0A>
+1:/aba.{4}b/V 3:/(?:aa[ab]{0,5}\B)*aabab|(?:ba)/VHsi <_b%20abbbbbbbbb> <abab>
+2:/b/Vsi <_b> <_b>
+2:/\na/VHsi <aaaa%20bba_%0Ab%20> <bb>
+1:/[ab]\A/Vs <bbbbbbbbb> <%0Abaa>
+3:/_[ab]*b|_(?:_bb.{0,2})+/Vsi <_> <aaaaabbbbbb%0Ababaaaaaaaaa>
+1:/b*bbb/V <b%0A%0A> <aaaaaaaaba%20>
 ";

@@ -20,7 +20,7 @@ use Rattle.hs_layout.specs.Layouts.{Laid, field_bytes, laid_size, with_part}
 use Rattle.hs_rose.specs.Identifiers.{ids_of}
 use Rattle.hs_run.specs.Chains.{AreKept, AreParts, AreWritten}
 use Rattle.hs_run.specs.Ends.{AreEndsAbout, AreLastEnds, EndsChains, MovesChains, ends_of}
-use Rattle.hs_run.specs.Events.{Takes, still}
+use Rattle.hs_reports.specs.Events.{Takes, still}
 use Rattle.hs_run.specs.Feeding.{EndsAlike, Feeds, Finishes, GoesOnAlike, SettlesBits}
 use Rattle.hs_run.specs.Keeping.{AreBitsWritten, AreRead, IsSpareBit, plain_kept}
 use Rattle.hs_run.specs.Pieces.{IsPart}
@@ -35,7 +35,7 @@ use Rattle.hs_run.specs.declared.reporting.Moment.TheVariants.{BeforeByte, Behin
 use Rattle.hs_run.specs.declared.spot.Spot.{Spot}
 use Rattle.hs_run.proofs.BitRegionLemmas.{are-identifiers, here-bits, kept-read, last-bits, told-bits}
 use Rattle.hs_run.proofs.ByteLemmas.{bit-same, part-behind, range-same, take-same}
-use Rattle.hs_run.proofs.EventLemmas.{through-join}
+use Rattle.hs_reports.proofs.EventLemmas.{through-join}
 use Rattle.hs_run.proofs.LayoutLemmas.{there, apart, field-order, field-within, starts-count}
 use Rattle.hs_run.proofs.PlanLayoutLemmas.{kept-region, plan_layout, plan-laid, plan-size, region-kept, roles-count}
 use Rattle.hs_run.proofs.ReportingLemmas.{tell-each}

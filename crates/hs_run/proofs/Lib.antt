@@ -10,7 +10,7 @@ pub mod RowLemmas
 pub mod MovingLemmas
 pub mod DoneLemmas
 pub mod EndedLemmas
-pub mod EventLemmas
+pub mod TickLemmas
 pub mod ReportingLemmas
 pub mod KeepingLemmas
 pub mod ByteLemmas

@@ -12,7 +12,7 @@ use Rattle.hs_run.specs.declared.reporting.Moment.{Moment}
 use Rattle.hs_run.specs.declared.kept.Kept.{Kept as KeptOf}
 use Rattle.hs_run.specs.Ends.{ends_of}
 use Rattle.hs_run.specs.Keeping.{plain_kept}
-use Rattle.hs_run.specs.Events.{Through}
+use Rattle.hs_reports.specs.Events.{Through}
 use Rattle.hs_run.specs.Reporting.{tells, told_values, pairs_at}
 use Rattle.hs_run.proofs.LayoutLemmas.{there}
 

@@ -23,7 +23,7 @@ use Rattle.hs_rose.specs.Programs.{Tables, IsProgramOf, IsRoleOf}
 use Rattle.hs_rose.proofs.ListLemmas.{get-map}
 use Rattle.hs_run.specs.declared.way.Way.TheVariants as way
 use Rattle.hs_run.specs.Feeding.{IsWellRegion}
-use Rattle.hs_run.specs.JoinLaws.{AsksFor, plan_of}
+use Rattle.hs_rose.specs.Plans.{AsksFor, plan_of}
 use Rattle.hs_run.specs.Pieces.{IsPart}
 use Rattle.hs_run.specs.Programs.{FitsLayout, sizes_of}
 use Rattle.hs_run.proofs.LayoutLemmas.{there}
@@ -97,7 +97,7 @@ module _ (t : Tables) (entries : List Asked) (P : List Pattern) (is : IsProgramO
   plan = plan_of t P
 
   -- the layout is that of the plan
-  same-layout : (l : Laid) → FitsLayout t l → l ≡ plan_layout plan
+  pub same-layout : (l : Laid) → FitsLayout t l → l ≡ plan_layout plan
   same-layout l fits =
       fits.laid
       ∙ (ap (λ n. layout_of n (length t.identifiers) (sizes_of t.roles)) (sym (length-map (singles_of t.identifiers) (λ x. x.id.0)))
@@ -117,13 +117,13 @@ module _ (t : Tables) (entries : List Asked) (P : List Pattern) (is : IsProgramO
       ap (λ ps. slice_get ps k) (plan-places t entries P is asks) ∙ get-map (λ (q : ListedPiece). q.place) (all_pieces t entries chains is) k own.listed_piece_is own.there_is in
       record { listed_is = own.listed_piece_is; place_is = same_Some own.listed_piece_is.place p (sym there_is ∙ place); role = own.role }
 
-  places-count : length t.roles ≡ length (list_places plan)
+  pub places-count : length t.roles ≡ length (list_places plan)
   places-count =
       roles-count t entries chains is
       ∙ (sym (length-map (all_pieces t entries chains is) (λ (q : ListedPiece). q.place)) ∙ ap length (sym (plan-places t entries P is asks)))
 
   module _ (l : Laid) (fits : FitsLayout t l) (region : List ℕ) (each : Each (λ b. b < 256) region) where
-    part-place : (k : ℕ) (r : Role) (p : Place) → slice_get t.roles k ≡ Some r → slice_get (list_places plan) k ≡ Some p →
+    pub part-place : (k : ℕ) (r : Role) (p : Place) → slice_get t.roles k ≡ Some r → slice_get (list_places plan) k ≡ Some p →
         IsPart t r (field_bytes l region k) (region_offset region) ↔ IsFieldAt (place_form p) (field_bytes l region k) (region_offset region)
     part-place k r p role place =
         let own = role-place k r p role place in
@@ -131,7 +131,7 @@ module _ (t : Tables) (entries : List Asked) (P : List Pattern) (is : IsProgramO
         (part-exact t is.models is.engines r (field_bytes l region k) (region_offset region) own.listed_is own.role)
 
     -- a field by where it begins is that of its number
-    field-is : (k low high : ℕ) (p : Place) → IsPlaced plan k p low high → slice_range region low high ≡ field_bytes l region k
+    pub field-is : (k low high : ℕ) (p : Place) → IsPlaced plan k p low high → slice_range region low high ≡ field_bytes l region k
     field-is k low high p at =
         let e : suc k ≡ k + 1 = omega arith in
         let a : slice_index (plan_starts plan) k ≡ low = get_or_from_slice_get (plan_starts plan) k low 0 at.begin in

@@ -5,11 +5,10 @@ pub mod Programs
 pub mod Looking
 pub mod Chains
 pub mod Ends
-pub mod Events
-pub mod Collecting
 pub mod Keeping
 pub mod Reporting
 pub mod Feeding
+pub mod Faults
 pub mod Scratches
 pub mod JoinLaws
 pub mod Clearing

@@ -1,6 +1,6 @@
 //! One chain over one byte: where it is left, and its fields behind the byte.
 
-ghost use Rattle.std.specs.Prelude.{◌≡◌, ◌↔◌, true, ℕ, ◌+◌, ◌<◌, ◌≤◌, ◌^◌, length, Some, slice_get};
+ghost use Rattle.std.specs.Prelude.{◌≡◌, ◌↔◌, true, ℕ, ◌+◌, ◌*◌, ◌-◌, ◌<◌, ◌≤◌, ◌^◌, length, Some, slice_get};
 ghost use Rattle.hs_base.specs.Regions.{history_size};
 ghost use Rattle.hs_layout.specs.Layouts.{laid_size};
 ghost use Rattle.hs_run.specs.Chains.{AreParts, AreWritten, BeginsChain, LeavesChain, StepsChain};
@@ -55,6 +55,7 @@ fn begin_chain<L: Ledger>(
     ensures bare { (k : ℕ) (r : Role) → chain.now.first ≤ k → k < result.next →
         slice_get program.now.roles k ≡ Some r → HasNoField r }
     ensures begins { BeginsChain program.now chain.now spot.now result }
+    ensures ticks { steps.new ≤ steps.old + 8 * (result.next - chain.now.first) }
 {
     if begins_back(program, chain) {
         return Begun {
@@ -88,6 +89,7 @@ pub(crate) fn leave_chain<L: Ledger>(
     requires whole { length spot.now.history ≡ history_size }
     ensures window { length window.new ≡ length window.old }
     ensures leaves { LeavesChain program.now layout.now chain.now region.now spot.now result }
+    ensures ticks { steps.new ≤ steps.old + 8 * (chain.now.end - chain.now.first) }
 {
     let begun = begin_chain(program, chain, spot, window, steps);
     let mut now = begun.now;
@@ -122,6 +124,7 @@ pub(crate) fn step_chain<L: Ledger>(
         (spot.now.at + 1) }
     ensures leaves { LeavesChain program.now layout.now chain.now region.old spot.now result }
     ensures steps { StepsChain program.now layout.now chain.now region.old region.new spot.now byte }
+    ensures ticks { steps.new ≤ steps.old + 8 * (chain.now.end - chain.now.first) }
 {
     let begun = begin_chain(program, chain, spot, window, steps);
     let mut now = begun.now;

@@ -1,9 +1,10 @@
 //! Whether bytes may be run as a region.
 
-ghost use Rattle.std.specs.Prelude.{◌≡◌, ◌↔◌, ℕ, ◌<◌, ◌≤◌, IsTrue, Some, length, slice_get};
+ghost use Rattle.std.specs.Prelude.{◌≡◌, ◌↔◌, ℕ, ◌<◌, ◌≤◌, IfSome, IsNone, IsTrue, Some, length, slice_get};
 ghost use Rattle.hs_base.specs.RepeatRows.{IsRingAt};
 ghost use Rattle.hs_layout.specs.Layouts.{laid_size};
 ghost use Rattle.hs_run.specs.Chains.{AreParts};
+ghost use Rattle.hs_run.specs.Faults.{IsFirstFault, IsPartFault};
 ghost use Rattle.hs_run.specs.Feeding.{IsWellRegion};
 ghost use Rattle.hs_run.specs.Pieces.{IsPart, IsSound};
 ghost use Rattle.hs_run.specs.Programs.{FitsLayout, IsRunnable};
@@ -48,20 +49,35 @@ fn is_part(role: &Role, program: &Program, part: &[u8], at: u64) -> bool
     }
 }
 
-/// Whether each field may be that of its role at the offset.
-fn are_parts(program: &Program, layout: &Layout, region: &[u8], at: u64) -> bool
+/// Where the first field begins that may not be that of its role at the offset. None: each may.
+fn part_fault(program: &Program, layout: &Layout, region: &[u8], at: u64) -> Option<usize>
     requires runs { IsRunnable program.now }
     requires layout { FitsLayout program.now layout.now }
     requires sized { length region.now ≡ laid_size layout.now }
-    ensures { IsTrue result ↔ AreParts program.now layout.now region.now 0 (length program.now.roles)
-        at }
+    ensures none { IsNone result ↔ AreParts program.now layout.now region.now 0 (length program.now.roles) at }
+    ensures first { IfSome result (IsPartFault program.now layout.now region.now at) }
 {
     for k in 0..program.roles().len() {
         if !is_part(role_at(program, k), program, layout.piece(region, k), at) {
-            return false;
+            return Some(layout.place(k));
         }
     }
-    true
+    None
+}
+
+/// Where the first field begins that breaks its rule: one of the header, or else that of a piece which may not stand at
+/// the offset. None: bytes of that length may be run as a region.
+pub fn first_fault(program: &Program, layout: &Layout, region: &[u8]) -> Option<usize>
+    requires runs { IsRunnable program.now }
+    requires layout { FitsLayout program.now layout.now }
+    requires sized { length region.now ≡ laid_size layout.now }
+    ensures none { IsNone result ↔ IsWellRegion program.now layout.now region.now }
+    ensures first { IfSome result (IsFirstFault program.now layout.now region.now) }
+{
+    match layout.header_fault(region) {
+        Some(at) => Some(at),
+        None => part_fault(program, layout, region, layout.offset(region)),
+    }
 }
 
 /// Whether the bytes may be a region of the program: they have its length, and its header and each field keep to their
@@ -74,6 +90,5 @@ pub fn well_formed(program: &Program, layout: &Layout, region: &[u8]) -> bool
     if region.len() != layout.size() {
         return false;
     }
-    layout.header_fault(region).is_none()
-        && are_parts(program, layout, region, layout.offset(region))
+    first_fault(program, layout, region).is_none()
 }

@@ -77,6 +77,7 @@ pub(crate) fn step_at<L: Ledger>(
     ensures keeps { (r : Role) → slice_get program.now.roles k ≡ Some r →
         KeepsOn program.now r (field_bytes layout.now region.old k) (field_bytes layout.now region.new k)
         spot.now byte now }
+    ensures ticks { steps.new ≤ steps.old + 1 }
 {
     step_role(
         role_at(program, k),

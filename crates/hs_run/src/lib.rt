@@ -4,9 +4,7 @@
 
 mod chains;
 mod checking;
-mod collected;
 mod ends;
-mod events;
 mod fields;
 mod kept;
 pub mod laws;
@@ -22,9 +20,7 @@ mod settling;
 mod spot;
 mod way;
 
-pub use checking::well_formed;
-pub use collected::Collected;
-pub use events::Events;
+pub use checking::{first_fault, well_formed};
 pub use laying::{clear, lay_out, region_size};
 pub use runner::{feed, finish};
 pub use scratch::Scratch;

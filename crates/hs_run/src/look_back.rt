@@ -1,6 +1,6 @@
 //! Pieces that look back: they are asked anew, from the last bytes, where the literal behind them ends.
 
-ghost use Rattle.std.specs.Prelude.{◌≡◌, ℕ, ◌-◌, ◌<◌, ◌≤◌, ◌^◌, length, Some, slice_get};
+ghost use Rattle.std.specs.Prelude.{◌≡◌, ℕ, ◌+◌, ◌-◌, ◌<◌, ◌≤◌, ◌^◌, length, Some, slice_get};
 ghost use Rattle.hs_base.specs.Regions.{history_size};
 ghost use Rattle.hs_run.specs.Looking.{LeavesBack, LeavesLooked, RunsBack};
 ghost use Rattle.hs_run.specs.Programs.{HasWindow, IsChainSound, window_room};
@@ -40,6 +40,7 @@ fn run_back<E: Engine, L: Ledger>(
     ensures len { length part.new ≡ length part.old }
     ensures well { (E.meaning engine.now).well part.new (spot.now.at - back) }
     ensures runs { RunsBack (E.meaning engine.now) spot.now back part.new result }
+    ensures ticks { steps.new ≤ steps.old + 16 }
 {
     let seen = WINDOW.min(spot.at as usize - back);
     let begin = HISTORY_SIZE - back - seen;
@@ -72,6 +73,7 @@ fn leave_back<L: Ledger>(
     requires whole { length spot.now.history ≡ history_size }
     ensures window { length window.new ≡ length window.old }
     ensures leaves { LeavesBack program.now role.now spot.now back result }
+    ensures ticks { steps.new ≤ steps.old + 16 }
 {
     let engine = engine_of(role, program);
     let part = &mut window[..engine.size()];
@@ -98,6 +100,7 @@ pub(crate) fn leave_looked_back<L: Ledger>(
     requires whole { length spot.now.history ≡ history_size }
     ensures window { length window.new ≡ length window.old }
     ensures leaves { LeavesLooked program.now chain.now.first spot.now result }
+    ensures ticks { steps.new ≤ steps.old + 16 }
 {
     let literal = literal_of(role_at(program, chain.first + 1), program);
     if !ends_here(literal, spot) {

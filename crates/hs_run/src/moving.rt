@@ -1,6 +1,6 @@
 //! All chains of a program over one byte, and at the end of a stream: where matches of each identifier end.
 
-ghost use Rattle.std.specs.Prelude.{◌≡◌, ℕ, ◌+◌, ◌-◌, ◌<◌, ◌≤◌, ◌^◌, List, [], ◌∷◌, ◌++◌, length, Some, slice_get};
+ghost use Rattle.std.specs.Prelude.{◌≡◌, ℕ, ◌+◌, ◌*◌, ◌-◌, ◌<◌, ◌≤◌, ◌^◌, List, [], ◌∷◌, ◌++◌, length, Some, slice_get};
 ghost use Rattle.hs_base.specs.Regions.{history_size};
 ghost use Rattle.hs_layout.specs.Layouts.{laid_size};
 ghost use Rattle.hs_run.specs.Chains.{AreParts, AreWritten};
@@ -58,6 +58,7 @@ fn move_chain<L: Ledger>(
     ensures moves { MovesChain program.now layout.now chain.now region.old region.new arrival.now.spot
         arrival.now.byte
         (ends_of ends.old) (ends_of ends.new) }
+    ensures ticks { steps.new ≤ steps.old + 16 * (chain.now.end - chain.now.first) }
 {
     let left = step_chain(
         program,
@@ -133,6 +134,7 @@ pub(crate) fn move_chains<L: Ledger>(
         (arrival.now.spot.at + 1) }
     ensures moves { MovesChains program.now layout.now region.old region.new arrival.now.spot
         arrival.now.byte ends.new }
+    ensures ticks { steps.new ≤ steps.old + 16 * length program.now.roles }
 {
     forget(ends);
     for j in 0..program.chains().len() {
@@ -172,6 +174,7 @@ fn end_chain<L: Ledger>(
     ensures window { length window.new ≡ length window.old }
     ensures ends { EndsChain program.now layout.now chain.now region.now spot.now
         ends.old.behind ends.new.behind }
+    ensures ticks { steps.new ≤ steps.old + 8 * (chain.now.end - chain.now.first) }
 {
     let left = leave_chain(program, layout, region, chain, spot, window, steps);
     let entry = entry_of(program, chain);
@@ -200,6 +203,7 @@ pub(crate) fn end_chains<L: Ledger>(
     ensures window { length window.new ≡ length window.old }
     ensures ends { length ends.new ≡ length ends.old }
     ensures about { EndsChains program.now layout.now region.now spot.now ends.new }
+    ensures ticks { steps.new ≤ steps.old + 8 * length program.now.roles }
 {
     forget(ends);
     for j in 0..program.chains().len() {

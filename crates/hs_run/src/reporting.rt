@@ -2,15 +2,15 @@
 ghost use Rattle.std.specs.Prelude.{◌≡◌, length};
 ghost use Rattle.hs_base.specs.Settling.{tells_before, tells_behind, settled};
 ghost use Rattle.hs_base.proofs.PairListLemmas.{one_told};
-ghost use Rattle.hs_run.specs.Events.{Through};
+ghost use Rattle.hs_reports.specs.Events.{Through};
 ghost use Rattle.hs_run.specs.Reporting.{tells, pairs_at, AreSettled};
 ghost use Rattle.hs_run.specs.Ends.{ends_of};
 ghost use Rattle.hs_run.specs.Keeping.{plain_kept};
 
 use crate::ends::Ends;
-use crate::events::Events;
 use crate::kept::Kept;
 use hs_base::ExprId;
+use hs_reports::Events;
 use hs_rose::Identifier;
 
 /// Which pairs of the identifiers are reported in one go.

@@ -104,6 +104,7 @@ fn move_part<L: Ledger>(
         (spot.now.at + 1) }
     ensures keeps { KeepsOn program.now role.now part.old part.new
         spot.now byte now }
+    ensures ticks { steps.new ≤ steps.old + 1 }
 {
     match Way::of(role) {
         Way::LookBack | Way::BareLiteral => {}
@@ -137,6 +138,7 @@ pub(crate) fn step_role<L: Ledger>(
         now result }
     ensures keeps { KeepsOn program.now role.now part.old part.new
         spot.now byte now }
+    ensures ticks { steps.new ≤ steps.old + 1 }
 {
     let left = leave_role(role, program, part, spot, now);
     move_part(role, program, part, spot, byte, now, steps);

@@ -1,14 +1,13 @@
 //! The runner: bytes to reports, byte by byte over all roles of a program.
 
-ghost use Rattle.std.specs.Prelude.{◌≡◌, ℕ, ◌+◌, ◌<◌, ◌≤◌, ◌^◌, [], ◌∷◌, length};
+ghost use Rattle.std.specs.Prelude.{◌≡◌, ℕ, ◌+◌, ◌*◌, ◌<◌, ◌≤◌, ◌^◌, [], ◌∷◌, length};
 ghost use Rattle.hs_base.specs.Offsets.{greatest_offset};
 ghost use Rattle.hs_base.specs.Regions.{IsHeader, region_offset};
-ghost use Rattle.hs_run.specs.Events.{Takes};
+ghost use Rattle.hs_reports.specs.Events.{Takes};
 ghost use Rattle.hs_run.specs.Feeding.{EndsAlike, Feeds, Finishes, FitsRegion, GoesOnAlike, IsWellRegion};
 ghost use Rattle.hs_run.specs.Programs.{FitsLayout, IsRunnable};
 ghost use Rattle.hs_run.specs.Scratches.{FitsScratch};
 
-use crate::events::Events;
 use crate::kept::read_kept;
 use crate::moving::{end_chains, move_chains};
 use crate::reporting::{Moment, report};
@@ -17,6 +16,7 @@ use crate::settling::settle_bits;
 use crate::spot::{Arrival, Spot};
 use hs_engine::{Engine, Steps};
 use hs_layout::Layout;
+use hs_reports::Events;
 use hs_rose::{Identifier, Program};
 use std::sync::ledger::Ledger;
 
@@ -42,6 +42,7 @@ fn feed_byte<V: Events, L: Ledger>(
         IsHeader layout.now.singles layout.now.identifiers region.new }
     ensures taken { Takes V.tells events.old events.new
         (Feeds program.now region.old region.new (byte ∷ [])) }
+    ensures ticks { steps.new ≤ steps.old + 16 * length program.now.roles }
 {
     let spot = Spot::of(layout, region);
     let behind = spot.behind(byte);
@@ -92,6 +93,7 @@ pub fn feed<V: Events, L: Ledger>(
     ensures taken { Takes V.tells events.old events.new
         (Feeds program.now region.old region.new bytes.now) }
     ensures alike { GoesOnAlike program.now region.old bytes.now }
+    ensures ticks { steps.new ≤ steps.old + 16 * (length program.now.roles * length bytes.now) }
 {
     for place in 0..bytes.len() {
         feed_byte(
@@ -123,6 +125,7 @@ pub fn finish<V: Events, L: Ledger>(
     ensures scratch { FitsScratch program.now scratch.new }
     ensures taken { Takes V.tells events.old events.new (Finishes program.now region.now) }
     ensures alike { EndsAlike program.now region.now }
+    ensures ticks { steps.new ≤ steps.old + 8 * length program.now.roles }
 {
     let spot = Spot::of(layout, region);
     end_chains(

@@ -2,15 +2,15 @@
 
 ghost use Rattle.std.specs.Prelude.{◌≡◌, ◌+◌, ◌<◌, ◌^◌, length};
 ghost use Rattle.hs_layout.specs.Layouts.{laid_size};
-ghost use Rattle.hs_run.specs.Events.{Takes};
+ghost use Rattle.hs_reports.specs.Events.{Takes};
 ghost use Rattle.hs_run.specs.Feeding.{SettlesBits};
 ghost use Rattle.hs_run.specs.Keeping.{HasBits};
 
 use crate::ends::Ends;
-use crate::events::Events;
 use crate::kept::{Kept, read_kept, write_kept};
 use crate::reporting::{Moment, report, settle};
 use hs_layout::Layout;
+use hs_reports::Events;
 use hs_rose::Identifier;
 
 /// Reports the pairs that a byte at the offset `at` decides, those that end before it and then those that end behind

@@ -1,5 +1,5 @@
 -- From where nodes are left to what the blocks of a chunk tell.
-use Rattle.std.proofs.Common.{◌≡◌, ◌↔◌, ℕ, zero, suc, ◌+◌, ◌*◌, ◌<◌, ◌≤◌, Bool, true, false, List, [], ◌∷◌, ◌++◌, length, take, drop, map, Some, slice_get, get_or, refl, sym, ap, subst, ◌∙◌, inl, inr, arith}
+use Rattle.std.proofs.Common.{◌≡◌, ◌↔◌, ℕ, zero, suc, ◌+◌, ◌*◌, ◌<◌, ◌≤◌, Bool, true, List, [], ◌∷◌, ◌++◌, length, take, Some, slice_get, refl, sym, ap, subst, ◌∙◌, inl, inr, arith}
 use Rattle.std.specs.Prelude.{slice_index, slice_index_or}
 use Rattle.std.proofs.Math.Seq.{take-add}
 use Rattle.std.proofs.lemmas.List.{append-nil, take_all}
@@ -9,15 +9,14 @@ use Rattle.hs_base.specs.declared.context.Next.TheVariants as after
 use Rattle.hs_base.specs.Chains.{Piece}
 use Rattle.hs_base.specs.Contexts.{class_of}
 use Rattle.hs_base.specs.Leaving.{LeavesAt}
-use Rattle.hs_base.specs.Lists.{Each, IsMember, OneOf}
-use Rattle.hs_base.specs.Patterns.{Pattern}
+use Rattle.hs_base.specs.Lists.{Each, IsMember}
+use Rattle.hs_base.specs.Literals.{LiteralByte}
 use Rattle.hs_base.specs.Regions.{Plan}
 use Rattle.hs_base.specs.Settling.{AreIdentifiers, AreRising}
-use Rattle.hs_base.specs.Told.{Pair, IsTold, IsNew}
+use Rattle.hs_base.specs.Told.{Pair, IsNew}
 use Rattle.hs_base.proofs.ListLemmas.{each-of_members, one_of-map}
 use Rattle.hs_base.proofs.NewLemmas.{new_nothing, told_more}
 use Rattle.hs_base.proofs.ToldLemmas.{new-joins}
-use Rattle.hs_block.specs.WordBits.{Marks}
 use Rattle.hs_block.specs.WordBits.{word_bit as block_bit}
 use Rattle.hs_engine.specs.Engines.{Meaning}
 use Rattle.hs_nodes.specs.Blocks.{block, front}
@@ -25,7 +24,7 @@ use Rattle.hs_nodes.specs.Left.{AreLeft, AreLeftIn, nowhere}
 use Rattle.hs_nodes.specs.Walks.{node_ends}
 use Rattle.hs_nodes.specs.declared.ends.ChunkEnds.{ChunkEnds}
 use Rattle.hs_nodes.proofs.RunLemmas.{nowhere-none}
-use Rattle.hs_nodes.proofs.ChunkLemmas.{front-none, front-more, length-front}
+use Rattle.hs_nodes.proofs.ChunkLemmas.{front-more, length-front}
 use Rattle.hs_reports.specs.EndTables.{AddsEnds, EndTable, HasNoEnds, is_noted, words_of}
 use Rattle.hs_reports.specs.Events.{Takes, still}
 use Rattle.hs_reports.specs.Gathering.{AreEndsBelow}
@@ -40,9 +39,9 @@ use Rattle.hs_reports.specs.declared.terminal.Terminal.{Terminal}
 use Rattle.hs_reports.proofs.EventLemmas.{through-join}
 use Rattle.hs_reports.proofs.GatheringLemmas.{gathering-begins, gathering-ends, gathering-goes_on, gathering-passes}
 use Rattle.hs_reports.proofs.TerminalLemmas.{terminals-end, ends-within}
-use Rattle.hs_scan.specs.Programs.{AreTerminalsSound, RunsPlan}
+use Rattle.hs_nodes.specs.Graphs.{AreTerminalsSound, RunsPlan}
 use Rattle.hs_scan.specs.Telling.{AreChunkEnds, AreGathered, GathersNode, IsTelling, TellsBlock, TellsBlocks, TellsChunk, left_before, left_behind, ends_or_all, terminals_of}
-use Rattle.hs_scan.specs.declared.program.Program.{Program}
+use Rattle.hs_nodes.specs.declared.graph.Graph.{Graph}
 
 pub each-map : {A : Type 0} (P Q : A → Type 0) (xs : List A) → ((x : A) → P x → Q x) → Each P xs → Each Q xs
 each-map P Q [] then each = tt
@@ -68,21 +67,21 @@ left-by pieces u bytes before behind are = record {
 
 -- the ends of a node by its number
 
-ends-at : (ends : List ChunkEnds) (all other : ChunkEnds) (k : ℕ) → k < length ends → slice_index_or ends k all ≡ slice_index_or ends k other
+pub ends-at : (ends : List ChunkEnds) (all other : ChunkEnds) (k : ℕ) → k < length ends → slice_index_or ends k all ≡ slice_index_or ends k other
 ends-at [] all other k below = absurd (omega arith)
 ends-at (x ∷ ends) all other zero below = refl
 ends-at (x ∷ ends) all other (suc k) below = ends-at ends all other k (omega arith)
 
-ends-past : (ends : List ChunkEnds) (all : ChunkEnds) (k : ℕ) → k ≡ length ends → slice_index_or ends k all ≡ all
+pub ends-past : (ends : List ChunkEnds) (all : ChunkEnds) (k : ℕ) → k ≡ length ends → slice_index_or ends k all ≡ all
 ends-past [] all zero same = refl
 ends-past [] all (suc k) same = absurd (omega arith)
 ends-past (x ∷ ends) all zero same = absurd (omega arith)
 ends-past (x ∷ ends) all (suc k) same = ends-past ends all k (omega arith)
 
-module _ {E : Type 0} (meaning : E → Meaning) (program : Program E) (sound : AreTerminalsSound meaning program) (plan : Plan) (runs : RunsPlan meaning program plan)
-    (u bytes : List ℕ) (ends : List ChunkEnds) (all : ChunkEnds) (are : AreChunkEnds meaning program runs.pieces u bytes ends all) where
+module _ {E : Type 0} (meaning : E → Meaning) (graph : Graph E) (sound : AreTerminalsSound graph) (literals : List (List LiteralByte)) (plan : Plan) (runs : RunsPlan meaning graph literals plan)
+    (u bytes : List ℕ) (ends : List ChunkEnds) (all : ChunkEnds) (are : AreChunkEnds meaning graph runs.pieces u bytes ends all) where
   abbrev nodes : ℕ
-  nodes = length program.table.nodes.items
+  nodes = length graph.table.nodes.items
 
   node-left : (k : ℕ) → k < nodes + 1 → AreLeftIn (runs.pieces k) u bytes (ends_or_all ends all k)
   node-left k below = elim (cases_lt k nodes) [
@@ -103,19 +102,19 @@ module _ {E : Type 0} (meaning : E → Meaning) (program : Program E) (sound : A
     abbrev behinds : ℕ → ℕ
     behinds = left_behind ends all j
 
-    terminals-left : AreLeftTerminals runs.pieces plan.identifiers plan.patterns program.terminals.items (front u bytes j) (block bytes j) befores behinds
+    terminals-left : AreLeftTerminals runs.pieces plan.identifiers plan.patterns graph.terminals.items (front u bytes j) (block bytes j) befores behinds
     terminals-left = record {
       rising = ids-rise;
       are = runs.terminals;
       spans = runs.spans;
       few = few;
       left =
-          each-map (λ t. (t.identifier < length program.identifiers.items) × (t.node < nodes + 1)) (λ t. AreLeftBy (runs.pieces t.node) (front u bytes j) (block bytes j) (befores t.node) (behinds t.node)) program.terminals.items
+          each-map (λ t. (t.identifier < length graph.identifiers.items) × (t.node < nodes + 1)) (λ t. AreLeftBy (runs.pieces t.node) (front u bytes j) (block bytes j) (befores t.node) (behinds t.node)) graph.terminals.items
           (λ t known. left-by (runs.pieces t.node) (front u bytes j) (block bytes j) (befores t.node) (behinds t.node) ((node-left t.node known.1).each j below)) sound.known;
     }
 
-    named : (p : ℕ) (x : Identifier) → slice_get program.identifiers.items p ≡ Some x → slice_get plan.identifiers p ≡ Some x.id.0
-    named p x at = subst (λ ys. slice_get ys p ≡ Some x.id.0) runs.ids (numbered program.identifiers.items p x at)
+    named : (p : ℕ) (x : Identifier) → slice_get graph.identifiers.items p ≡ Some x → slice_get plan.identifiers p ≡ Some x.id.0
+    named p x at = subst (λ ys. slice_get ys p ≡ Some x.id.0) runs.ids (numbered graph.identifiers.items p x at)
       where
         numbered : (xs : List Identifier) (p : ℕ) (x : Identifier) → slice_get xs p ≡ Some x → slice_get (numbers_of xs) p ≡ Some x.id.0
         numbered [] p x at = absurd (cc)
@@ -125,113 +124,113 @@ module _ {E : Type 0} (meaning : E → Meaning) (program : Program E) (sound : A
             same y x e = cc
         numbered (y ∷ xs) (suc p) x at = numbered xs p x at
 
-    are-identifiers : AreIdentifiers plan.patterns (numbers_of program.identifiers.items)
+    are-identifiers : AreIdentifiers plan.patterns (numbers_of graph.identifiers.items)
     are-identifiers = record {
       rising = subst AreRising (sym runs.ids) ids-rise;
-      each = each-of_members (λ x. IsMember x.id (numbers_of program.identifiers.items)) plan.patterns (λ x member.
+      each = each-of_members (λ x. IsMember x.id (numbers_of graph.identifiers.items)) plan.patterns (λ x member.
           subst (λ ys. IsMember x.id ys) (sym runs.ids)
           ((runs.is_plan.named x.id).1 (one_of-map (λ y. x ≡ y) (λ y. y.id ≡ x.id) plan.patterns (λ y same. sym (ap (λ z. z.id) same)) member)));
     }
 
     -- what is gathered are the ends of the block
-    block-ends : (at : ℕ) (table : EndTable) → at ≡ length u → 64 * j ≤ length bytes → AreGathered meaning program ends all at j (nodes + 1) table → AreBlockEnds plan.patterns (front u bytes j) (block bytes j) program.identifiers.items table
+    pub block-ends : (at : ℕ) (table : EndTable) → at ≡ length u → 64 * j ≤ length bytes → AreGathered meaning graph ends all at j (nodes + 1) table → AreBlockEnds plan.patterns (front u bytes j) (block bytes j) graph.identifiers.items table
     block-ends at table offset within gathered =
         let here : at + 64 * j ≡ length (front u bytes j) = omega (arith, length-front u bytes j within) in
-        let of : (p : ℕ) → AreEndsOf program.terminals.items befores behinds (length (front u bytes j)) p (words_of table p).before (words_of table p).behind =
-        λ p. subst (λ n. AreEndsOf program.terminals.items befores behinds n p (words_of table p).before (words_of table p).behind) here
-        (gathering-ends program.terminals.items befores behinds (at + 64 * j) (nodes + 1) table
-        (each-map (λ t. (t.identifier < length program.identifiers.items) × (t.node < nodes + 1)) (λ t. t.node < nodes + 1) program.terminals.items (λ t known. known.1) sound.known) gathered p) in
+        let of : (p : ℕ) → AreEndsOf graph.terminals.items befores behinds (length (front u bytes j)) p (words_of table p).before (words_of table p).behind =
+        λ p. subst (λ n. AreEndsOf graph.terminals.items befores behinds n p (words_of table p).before (words_of table p).behind) here
+        (gathering-ends graph.terminals.items befores behinds (at + 64 * j) (nodes + 1) table
+        (each-map (λ t. (t.identifier < length graph.identifiers.items) × (t.node < nodes + 1)) (λ t. t.node < nodes + 1) graph.terminals.items (λ t known. known.1) sound.known) gathered p) in
         record {
           identifiers_are = are-identifiers;
           ends = λ p x at.
-              terminals-end runs.pieces plan.identifiers plan.patterns program.terminals.items (front u bytes j) (block bytes j) befores behinds terminals-left p x.id.0 (words_of table p).before (words_of table p).behind (named p x at) (of p);
+              terminals-end runs.pieces plan.identifiers plan.patterns graph.terminals.items (front u bytes j) (block bytes j) befores behinds terminals-left p x.id.0 (words_of table p).before (words_of table p).behind (named p x at) (of p);
           within = λ p i past small.
-              ends-within runs.pieces plan.identifiers plan.patterns program.terminals.items (front u bytes j) (block bytes j) befores behinds terminals-left p (words_of table p).before (words_of table p).behind (of p) i past small;
+              ends-within runs.pieces plan.identifiers plan.patterns graph.terminals.items (front u bytes j) (block bytes j) befores behinds terminals-left p (words_of table p).before (words_of table p).behind (of p) i past small;
         }
 
 -- Blocks tell one after the other.
 
-module _ {E : Type 0} (meaning : E → Meaning) (program : Program E) (sound : AreTerminalsSound meaning program) (bytes : List ℕ) (at : ℕ) (ends : List ChunkEnds) (all : ChunkEnds) where
-  pub tells-none : (told here : List ℕ) → TellsBlocks meaning program bytes at ends all told here told here 0 []
-  tells-none told here plan runs u list offset are known is =
+module _ {E : Type 0} (meaning : E → Meaning) (graph : Graph E) (sound : AreTerminalsSound graph) (bytes : List ℕ) (at : ℕ) (ends : List ChunkEnds) (all : ChunkEnds) where
+  pub tells-none : (told here : List ℕ) → TellsBlocks meaning graph bytes at ends all told here told here 0 []
+  tells-none told here literals plan runs u list offset are known is =
       let none : 64 * 0 ≡ 0 = omega arith in
       record {
-        known = subst (λ v. AreKnown plan.patterns v program.identifiers.items told here) (sym (append-nil u)) known;
+        known = subst (λ v. AreKnown plan.patterns v graph.identifiers.items told here) (sym (append-nil u)) known;
         new = new_nothing plan.patterns u list is;
       }
 
   -- what one block tells
   pub block-tells : (told here told' here' : List ℕ) (j : ℕ) (table : EndTable) (tellings : TellingTable) (count : ℕ) → j < 8 → 64 * j < length bytes → length (block bytes j) ≡ count → length (block bytes j) ≤ 64 →
-      AreGathered meaning program ends all at j (length program.table.nodes.items + 1) table → SettlesBlock program.identifiers.items count table told here told' here' tellings → ArePending here table →
-      TellsBlock meaning program bytes at ends all j told here told' here' (pairs_of_tellings tellings (at + 64 * j))
-  block-tells told here told' here' j table tellings count below inside counted few gathered settles pending plan runs u list offset are known is =
+      AreGathered meaning graph ends all at j (length graph.table.nodes.items + 1) table → SettlesBlock graph.identifiers.items count table told here told' here' tellings → ArePending here table →
+      TellsBlock meaning graph bytes at ends all j told here told' here' (pairs_of_tellings tellings (at + 64 * j))
+  block-tells told here told' here' j table tellings count below inside counted few gathered settles pending literals plan runs u list offset are known is =
       let v : List ℕ = front u bytes j in
       let own : List ℕ = block bytes j in
-      let block_is = block-ends meaning program sound plan runs u bytes ends all are j below few at table offset (omega (arith, inside)) gathered in
+      let block_is = block-ends meaning graph sound literals plan runs u bytes ends all are j below few at table offset (omega (arith, inside)) gathered in
       let (known', new') = settles plan.patterns v own counted block_is known pending in
       let here_is : at + 64 * j ≡ length v = omega (arith, length-front u bytes j (omega (arith, inside))) in
       record { known = known'; new = subst (λ m. IsNew plan.patterns v own (pairs_of_tellings tellings m)) (sym here_is) (new' list is) }
 
   -- and then one more
-  pub tells-more : (told0 here0 told here told' here' : List ℕ) (j n : ℕ) (ps qs : List Pair) → n ≡ j + 1 → TellsBlocks meaning program bytes at ends all told0 here0 told here j ps → TellsBlock meaning program bytes at ends all j told here told' here' qs →
-      TellsBlocks meaning program bytes at ends all told0 here0 told' here' n (ps ++ qs)
+  pub tells-more : (told0 here0 told here told' here' : List ℕ) (j n : ℕ) (ps qs : List Pair) → n ≡ j + 1 → TellsBlocks meaning graph bytes at ends all told0 here0 told here j ps → TellsBlock meaning graph bytes at ends all j told here told' here' qs →
+      TellsBlocks meaning graph bytes at ends all told0 here0 told' here' n (ps ++ qs)
   unfolding front block
-  tells-more told0 here0 told here told' here' j n ps qs next tells then plan runs u list offset are known is =
-      let one = tells plan runs u list offset are known is in
-      let two = then plan runs u (list ++ ps) offset are one.known (told_more plan.patterns u (take (64 * j) bytes) list ps is one.new) in
+  tells-more told0 here0 told here told' here' j n ps qs next tells then literals plan runs u list offset are known is =
+      let one = tells literals plan runs u list offset are known is in
+      let two = then literals plan runs u (list ++ ps) offset are one.known (told_more plan.patterns u (take (64 * j) bytes) list ps is one.new) in
       let more : take (64 * n) bytes ≡ take (64 * j) bytes ++ block bytes j = (let e : 64 * n ≡ 64 * j + 64 = omega arith in ap (λ k. take k bytes) e) ∙ take-add (64 * j) 64 bytes in
       record {
-        known = subst (λ w. AreKnown plan.patterns w program.identifiers.items told' here') (sym (front-more u bytes j n next)) two.known;
+        known = subst (λ w. AreKnown plan.patterns w graph.identifiers.items told' here') (sym (front-more u bytes j n next)) two.known;
         new = subst (λ xs. IsNew plan.patterns u xs (ps ++ qs)) (sym more) (new-joins plan.patterns u (take (64 * j) bytes) (block bytes j) ps qs one.new two.new);
       }
 
-  pub tells-all : (told here told' here' : List ℕ) (n : ℕ) (pairs : List Pair) → length bytes ≤ 64 * n → TellsBlocks meaning program bytes at ends all told here told' here' n pairs → TellsChunk meaning program bytes at ends all told here told' here' pairs
-  tells-all told here told' here' n pairs enough tells plan runs u list offset are known is =
-      subst (λ xs. IsTelling plan.patterns u xs pairs (λ v. AreKnown plan.patterns v program.identifiers.items told' here')) (take_all (64 * n) bytes enough) (tells plan runs u list offset are known is)
+  pub tells-all : (told here told' here' : List ℕ) (n : ℕ) (pairs : List Pair) → length bytes ≤ 64 * n → TellsBlocks meaning graph bytes at ends all told here told' here' n pairs → TellsChunk meaning graph bytes at ends all told here told' here' pairs
+  tells-all told here told' here' n pairs enough tells literals plan runs u list offset are known is =
+      subst (λ xs. IsTelling plan.patterns u xs pairs (λ v. AreKnown plan.patterns v graph.identifiers.items told' here')) (take_all (64 * n) bytes enough) (tells literals plan runs u list offset are known is)
 
 -- Ends are gathered node by node.
 
 -- the ends of the nodes before one are gathered, and no noted identifier is forgotten
-pub record IsGatheredTo {E : Type 0} (program : Program E) (ends : List ChunkEnds) (all : ChunkEnds) (block at from : ℕ) (first table : EndTable) : Type 0 where
-  pub within : from ≤ length program.table.nodes.items
-  pub counted : length table.words ≡ length program.identifiers.items
+pub record IsGatheredTo {E : Type 0} (graph : Graph E) (ends : List ChunkEnds) (all : ChunkEnds) (block at from : ℕ) (first table : EndTable) : Type 0 where
+  pub within : from ≤ length graph.table.nodes.items
+  pub counted : length table.words ≡ length graph.identifiers.items
   pub noted : (p : ℕ) → is_noted first p ≡ true → is_noted table p ≡ true
-  pub gathered : AreEndsBelow program.terminals.items (left_before ends all block) (left_behind ends all block) at from table
+  pub gathered : AreEndsBelow graph.terminals.items (left_before ends all block) (left_behind ends all block) at from table
 
-module _ {E : Type 0} (meaning : E → Meaning) (program : Program E) (sound : AreTerminalsSound meaning program) where
-  pub node-gathers : (node at before behind : ℕ) (own : List Terminal) (old new : EndTable) → node < length program.table.nodes.items + 1 → own ≡ terminals_of program node → AddsEnds old new own at before behind →
-      GathersNode program node at before behind old new
+module _ {E : Type 0} (meaning : E → Meaning) (graph : Graph E) (sound : AreTerminalsSound graph) where
+  pub node-gathers : (node at before behind : ℕ) (own : List Terminal) (old new : EndTable) → node < length graph.table.nodes.items + 1 → own ≡ terminals_of graph node → AddsEnds old new own at before behind →
+      GathersNode graph node at before behind old new
   node-gathers node at before behind own old new there is adds befores behinds before_is behind_is below =
-      gathering-goes_on program.terminals.items (terminals_of program node) befores behinds at node old new below (sound.of_node node there)
-      (subst (λ w. AddsEnds old new (terminals_of program node) at (befores node) w) (sym behind_is)
-      (subst (λ w. AddsEnds old new (terminals_of program node) at w behind) (sym before_is) (subst (λ ts. AddsEnds old new ts at before behind) is adds)))
+      gathering-goes_on graph.terminals.items (terminals_of graph node) befores behinds at node old new below (sound.of_node node there)
+      (subst (λ w. AddsEnds old new (terminals_of graph node) at (befores node) w) (sym behind_is)
+      (subst (λ w. AddsEnds old new (terminals_of graph node) at w behind) (sym before_is) (subst (λ ts. AddsEnds old new ts at before behind) is adds)))
 
-module _ {E : Type 0} (program : Program E) (ends : List ChunkEnds) (all : ChunkEnds) (block : ℕ) (few : block < 8) (count : length ends ≡ length program.table.nodes.items) where
-  pub gathered-none : (at : ℕ) (table : EndTable) → length table.words ≡ length program.identifiers.items → HasNoEnds table → IsGatheredTo program ends all block at 0 table table
+module _ {E : Type 0} (graph : Graph E) (ends : List ChunkEnds) (all : ChunkEnds) (block : ℕ) (few : block < 8) (count : length ends ≡ length graph.table.nodes.items) where
+  pub gathered-none : (at : ℕ) (table : EndTable) → length table.words ≡ length graph.identifiers.items → HasNoEnds table → IsGatheredTo graph ends all block at 0 table table
   gathered-none at table counted none = record {
     within = omega arith;
     counted = counted;
     noted = λ p is. is;
-    gathered = gathering-begins program.terminals.items (left_before ends all block) (left_behind ends all block) at table none;
+    gathered = gathering-begins graph.terminals.items (left_before ends all block) (left_behind ends all block) at table none;
   }
 
-  resting : (k : ℕ) → k < length program.table.nodes.items → node_ends ends k ≡ nowhere → (left_before ends all block k ≡ 0) × (left_behind ends all block k ≡ 0)
+  resting : (k : ℕ) → k < length graph.table.nodes.items → node_ends ends k ≡ nowhere → (left_before ends all block k ≡ 0) × (left_behind ends all block k ≡ 0)
   resting k below none =
       let is : ends_or_all ends all k ≡ nowhere = ends-at ends all nowhere k (omega (arith, count)) ∙ none in
       (ap (λ e. slice_index e.before block) is ∙ nowhere-none.before block (omega arith), ap (λ e. slice_index e.behind block) is ∙ nowhere-none.behind block (omega arith))
 
-  pub gathered-passed : (at from to : ℕ) (first table : EndTable) → from ≤ to → to ≤ length program.table.nodes.items → ((k : ℕ) → from ≤ k → k < to → node_ends ends k ≡ nowhere) → IsGatheredTo program ends all block at from first table → IsGatheredTo program ends all block at to first table
+  pub gathered-passed : (at from to : ℕ) (first table : EndTable) → from ≤ to → to ≤ length graph.table.nodes.items → ((k : ℕ) → from ≤ k → k < to → node_ends ends k ≡ nowhere) → IsGatheredTo graph ends all block at from first table → IsGatheredTo graph ends all block at to first table
   gathered-passed at from to first table order inside none is = record {
     within = inside;
     counted = is.counted;
     noted = is.noted;
     gathered =
-        gathering-passes program.terminals.items (left_before ends all block) (left_behind ends all block) at from to table order
+        gathering-passes graph.terminals.items (left_before ends all block) (left_behind ends all block) at from to table order
         (λ k low high. resting k (omega (arith, high, inside)) (none k low high)) is.gathered;
   }
 
-  pub gathered-more : (at k : ℕ) (own : ChunkEnds) (first table next : EndTable) → k < length program.table.nodes.items → slice_get ends k ≡ Some own → IsGatheredTo program ends all block at k first table → length next.words ≡ length table.words →
-      ((p : ℕ) → is_noted table p ≡ true → is_noted next p ≡ true) → GathersNode program k at (slice_index own.before block) (slice_index own.behind block) table next → IsGatheredTo program ends all block at (k + 1) first next
+  pub gathered-more : (at k : ℕ) (own : ChunkEnds) (first table next : EndTable) → k < length graph.table.nodes.items → slice_get ends k ≡ Some own → IsGatheredTo graph ends all block at k first table → length next.words ≡ length table.words →
+      ((p : ℕ) → is_noted table p ≡ true → is_noted next p ≡ true) → GathersNode graph k at (slice_index own.before block) (slice_index own.behind block) table next → IsGatheredTo graph ends all block at (k + 1) first next
   gathered-more at k own first table next inside there is len noted goes =
       let same : ends_or_all ends all k ≡ own = at-get ends all k own there in
       record {
@@ -246,13 +245,13 @@ module _ {E : Type 0} (program : Program E) (ends : List ChunkEnds) (all : Chunk
       at-get (x ∷ ends) all zero own there = same_Some x own there
       at-get (x ∷ ends) all (suc k) own there = at-get ends all k own there
 
-  pub gathered-all : (at n : ℕ) (first table next : EndTable) → n ≡ length program.table.nodes.items → IsGatheredTo program ends all block at (length program.table.nodes.items) first table → GathersNode program n at (slice_index all.before block) (slice_index all.behind block) table next →
-      AreEndsBelow program.terminals.items (left_before ends all block) (left_behind ends all block) at (length program.table.nodes.items + 1) next
+  pub gathered-all : (at n : ℕ) (first table next : EndTable) → n ≡ length graph.table.nodes.items → IsGatheredTo graph ends all block at (length graph.table.nodes.items) first table → GathersNode graph n at (slice_index all.before block) (slice_index all.behind block) table next →
+      AreEndsBelow graph.terminals.items (left_before ends all block) (left_behind ends all block) at (length graph.table.nodes.items + 1) next
   gathered-all at n first table next last is goes =
       let same : ends_or_all ends all n ≡ all = ends-past ends all n (omega (arith, count)) in
-      subst (λ m. AreEndsBelow program.terminals.items (left_before ends all block) (left_behind ends all block) at (m + 1) next) last
+      subst (λ m. AreEndsBelow graph.terminals.items (left_before ends all block) (left_behind ends all block) at (m + 1) next) last
       (goes (left_before ends all block) (left_behind ends all block) (ap (λ e. slice_index e.before block) same) (ap (λ e. slice_index e.behind block) same)
-      (subst (λ m. AreEndsBelow program.terminals.items (left_before ends all block) (left_behind ends all block) at m table) (sym last) is.gathered))
+      (subst (λ m. AreEndsBelow graph.terminals.items (left_before ends all block) (left_behind ends all block) at m table) (sym last) is.gathered))
 
 -- Reports follow each other.
 module _ {V : Type 0} (Tells : V → ℕ → ℕ → V → Type 0) where

@@ -1,19 +1,18 @@
 -- Fields are copied one after the other.
-use Rattle.std.proofs.Common.{◌≡◌, ◌⊎◌, ℕ, zero, suc, ◌+◌, ◌-◌, ◌<◌, ◌≤◌, List, [], ◌∷◌, length, get_or, Some, slice_get, refl, sym, ap, subst, ◌∙◌, inl, inr, arith}
+use Rattle.std.proofs.Common.{◌≡◌, ℕ, ◌+◌, ◌-◌, ◌<◌, ◌≤◌, List, length, get_or, Some, slice_get, refl, sym, ap, subst, ◌∙◌, inl, inr, arith}
 use Rattle.std.specs.Prelude.{slice_index, slice_range}
-use Rattle.std.proofs.lemmas.Bool.{cases_eq, cases_lt}
-use Rattle.std.proofs.lemmas.Option.{same_Some, slice_get_within}
+use Rattle.std.proofs.lemmas.Bool.{cases_eq}
+use Rattle.std.proofs.lemmas.Option.{same_Some}
 use Rattle.hs_base.specs.Regions.{fields_at}
 use Rattle.hs_base.proofs.BitLemmas.{same-places}
 use Rattle.hs_base.proofs.RegionLemmas.{get-range, range-size}
-use Rattle.hs_engine.specs.Engines.{Meaning}
 use Rattle.hs_layout.specs.Layouts.{AreApart, Laid, field_bytes, laid_size}
 use Rattle.hs_nodes.specs.Walks.{node_part}
 use Rattle.hs_nodes.specs.declared.table.Node.{Node}
 use Rattle.hs_scan.specs.Copying.{AreFieldsCopied, IsFieldCopied}
-use Rattle.hs_scan.specs.Programs.{IsCopySound, IsProgramSound}
-use Rattle.hs_scan.specs.declared.program.FieldCopy.{FieldCopy}
-use Rattle.hs_scan.specs.declared.program.Program.{Program}
+use Rattle.hs_nodes.specs.Graphs.{FitsLayout, IsCopySound}
+use Rattle.hs_nodes.specs.declared.graph.FieldCopy.{FieldCopy}
+use Rattle.hs_nodes.specs.declared.graph.Graph.{Graph}
 
 -- a range is the same where its bytes are
 pub range-same : (xs ys : List ℕ) (low high : ℕ) → length xs ≡ length ys → low ≤ high → high ≤ length xs → ((i : ℕ) → low ≤ i → i < high → get_or xs i 0 ≡ get_or ys i 0) → slice_range xs low high ≡ slice_range ys low high
@@ -33,7 +32,10 @@ ranges-same xs ys a b low high order within order' within' size same =
     let inner : i < b - a = omega (arith, below, count) in
     get-range xs a b i inner ∙ (same i inner ∙ sym (get-range ys low high i (omega (arith, inner, size)))))
 
-module _ {E : Type 0} (meaning : E → Meaning) (program : Program E) (l : Laid) (laid : AreApart l) (sound : IsProgramSound meaning program l) where
+module _ {E : Type 0} (graph : Graph E) (l : Laid) (fits : FitsLayout graph l) where
+  abbrev laid : AreApart l
+  laid = fits.apart
+
   field-order : (k : ℕ) → k + 1 < length l.starts → slice_index l.starts k ≤ slice_index l.starts (k + 1)
   field-order k there = laid.rising k (k + 1) (omega arith) there
 
@@ -43,30 +45,30 @@ module _ {E : Type 0} (meaning : E → Meaning) (program : Program E) (l : Laid)
   field-behind : (k : ℕ) → k + 1 < length l.starts → fields_at l.singles l.identifiers ≤ slice_index l.starts k
   field-behind k there = let first : slice_index l.starts 0 ≤ slice_index l.starts k = laid.rising 0 k (omega arith) (omega (arith, there)) in omega (arith, first, laid.first)
 
-  pub copied-none : (region : List ℕ) → AreFieldsCopied program l 0 region region
+  pub copied-none : (region : List ℕ) → AreFieldsCopied graph l 0 region region
   copied-none region = record { len = refl; copied = λ i copy node below at there. absurd (omega arith); nodes = λ k node at. refl; header = λ i below. refl }
 
-  module _ (n : ℕ) (copy : FieldCopy) (old mid new : List ℕ) (at : slice_get program.copies.items n ≡ Some copy) (size : length old ≡ laid_size l) (is : IsFieldCopied program l copy mid new) (are : AreFieldsCopied program l n old mid) where
-    own : IsCopySound meaning program l copy
-    own = sound.copies n copy at
+  module _ (n : ℕ) (copy : FieldCopy) (old mid new : List ℕ) (at : slice_get graph.copies.items n ≡ Some copy) (size : length old ≡ laid_size l) (is : IsFieldCopied graph l copy mid new) (are : AreFieldsCopied graph l n old mid) where
+    own : IsCopySound graph l copy
+    own = fits.copies n copy at
 
-    node-stays : (k : ℕ) (node : Node) → slice_get program.table.nodes.items k ≡ Some node → node_part new node ≡ node_part mid node
+    node-stays : (k : ℕ) (node : Node) → slice_get graph.table.nodes.items k ≡ Some node → node_part new node ≡ node_part mid node
     node-stays k node there =
-        range-same new mid node.start node.end is.len (sound.table.order k node there) (let w : node.end ≤ laid_size l = sound.table.within k node there in omega (arith, w, is.len, are.len, size))
+        range-same new mid node.start node.end is.len (fits.order k node there) (let w : node.end ≤ laid_size l = fits.within k node there in omega (arith, w, is.len, are.len, size))
         (λ i low high. is.outside i (elim (own.apart k node there) [ inl before ↦ inl (omega (arith, before, high)) | inr behind ↦ inr (omega (arith, behind, low)) ]))
 
-    pub copied-more : AreFieldsCopied program l (n + 1) old new
+    pub copied-more : AreFieldsCopied graph l (n + 1) old new
     copied-more = record {
       len = is.len ∙ are.len;
       copied = λ i other node below at' there. elim (cases_eq i n) [
         | inl same ↦
-            let one : copy ≡ other = same_Some copy other (sym at ∙ (ap (slice_get program.copies.items) (sym same) ∙ at')) in
+            let one : copy ≡ other = same_Some copy other (sym at ∙ (ap (slice_get graph.copies.items) (sym same) ∙ at')) in
             subst (λ f. field_bytes l new f.field ≡ node_part new node) one
-            (is.same node (subst (λ f. slice_get program.table.nodes.items f.node ≡ Some node) (sym one) there) ∙ sym (node-stays other.node node there))
+            (is.same node (subst (λ f. slice_get graph.table.nodes.items f.node ≡ Some node) (sym one) there) ∙ sym (node-stays other.node node there))
         | inr apart ↦
             let less : i < n = omega (arith, below, apart) in
-            let early : other.field < copy.field = sound.rising i n other copy less at' at in
-            let there_own = (sound.copies i other at').within in
+            let early : other.field < copy.field = fits.rising i n other copy less at' at in
+            let there_own = (fits.copies i other at').within in
             let order : slice_index l.starts (other.field + 1) ≤ slice_index l.starts copy.field = laid.rising (other.field + 1) copy.field (omega (arith, early)) (omega (arith, own.within)) in
             let within : slice_index l.starts (other.field + 1) ≤ laid_size l = field-within other.field there_own in
             range-same new mid (slice_index l.starts other.field) (slice_index l.starts (other.field + 1)) is.len (field-order other.field there_own) (omega (arith, within, is.len, are.len, size))
@@ -78,20 +80,20 @@ module _ {E : Type 0} (meaning : E → Meaning) (program : Program E) (l : Laid)
     }
 
   -- one copy
-  pub field-copied : (copy : FieldCopy) (node : Node) (old new : List ℕ) (place : ℕ) → IsCopySound meaning program l copy → slice_get program.table.nodes.items copy.node ≡ Some node → length old ≡ laid_size l → length new ≡ length old → place ≡ slice_index l.starts copy.field →
+  pub field-copied : (copy : FieldCopy) (node : Node) (old new : List ℕ) (place : ℕ) → IsCopySound graph l copy → slice_get graph.table.nodes.items copy.node ≡ Some node → length old ≡ laid_size l → length new ≡ length old → place ≡ slice_index l.starts copy.field →
       ((i : ℕ) → i < node.end - node.start → get_or new (place + i) 0 ≡ get_or old (node.start + i) 0) → ((i : ℕ) → i < place → get_or new i 0 ≡ get_or old i 0) → ((i : ℕ) → place + (node.end - node.start) ≤ i → get_or new i 0 ≡ get_or old i 0) →
-      IsFieldCopied program l copy old new
+      IsFieldCopied graph l copy old new
   field-copied copy node old new place own at size len at_place here below from =
       let there : own.node ≡ node = same_Some own.node node (sym own.there ∙ at) in
       let same : node.end - node.start ≡ slice_index l.starts (copy.field + 1) - slice_index l.starts copy.field = subst (λ z. z.end - z.start ≡ slice_index l.starts (copy.field + 1) - slice_index l.starts copy.field) there own.same in
       let order = field-order copy.field own.within in
       let within = field-within copy.field own.within in
-      let inner : node.end ≤ laid_size l = sound.table.within copy.node node at in
+      let inner : node.end ≤ laid_size l = fits.within copy.node node at in
       record {
         len = len;
         same = λ other at'.
             subst (λ z. field_bytes l new copy.field ≡ node_part old z) (same_Some node other (sym at ∙ at'))
-            (ranges-same new old (slice_index l.starts copy.field) (slice_index l.starts (copy.field + 1)) node.start node.end order (omega (arith, within, len, size)) (sound.table.order copy.node node at) (omega (arith, inner, size)) (sym same)
+            (ranges-same new old (slice_index l.starts copy.field) (slice_index l.starts (copy.field + 1)) node.start node.end order (omega (arith, within, len, size)) (fits.order copy.node node at) (omega (arith, inner, size)) (sym same)
             (λ i low. let e : slice_index l.starts copy.field + i ≡ place + i = omega (arith, at_place) in ap (λ n. get_or new n 0) e ∙ here i (omega (arith, low, same))));
         outside = λ i out. elim out [ inl low ↦ below i (omega (arith, low, at_place)) | inr high ↦ from i (omega (arith, high, at_place, same, order)) ];
       }

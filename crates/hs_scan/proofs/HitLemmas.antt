@@ -1,17 +1,15 @@
 -- Hits of a table as hits of a chunk.
-use Rattle.std.proofs.Common.{◌≡◌, ◌↔◌, ◌++◌, ◌⊎◌, ℕ, zero, suc, ◌+◌, ◌*◌, ◌/◌, ◌%◌, ◌<◌, ◌≤◌, Bool, true, false, List, [], ◌∷◌, length, set, Some, slice_get, refl, sym, ap, subst, ◌∙◌, inl, inr, arith, length-set}
-use Rattle.std.specs.Prelude.{slice_index, slice_index_or}
+use Rattle.std.proofs.Common.{◌≡◌, ◌++◌, ℕ, zero, suc, ◌+◌, ◌*◌, ◌/◌, ◌%◌, ◌<◌, ◌≤◌, Bool, true, false, List, [], ◌∷◌, length, set, Some, slice_get, refl, sym, ap, subst, ◌∙◌, inl, inr, arith, length-set}
+use Rattle.std.specs.Prelude.{slice_index}
 use Rattle.std.proofs.lemmas.Bool.{cases_lt, cases_eq}
 use Rattle.std.proofs.lemmas.Option.{get_or_from_slice_get, slice_get-get_or, slice_get_within}
 use Rattle.hs_base.specs.LiteralEnds.{EndsAt}
 use Rattle.hs_base.specs.Literals.{LiteralByte}
 use Rattle.hs_base.specs.Regions.{last_bytes}
-use Rattle.hs_engine.specs.Engines.{Meaning}
 use Rattle.hs_block.specs.LiteralBlocks.{is_hit}
 use Rattle.hs_block.specs.WordBits.{word_bit}
 use Rattle.hs_block.specs.declared.literal.Hits.{Hits}
 use Rattle.hs_block.proofs.PlaceLemmas.{bit-none}
-use Rattle.hs_literals.specs.Held.{held}
 use Rattle.hs_literals.specs.HitLaws.{ReachesBack}
 use Rattle.hs_literals.specs.HitTables.{AreMarked, HitTable, TellsHits, has_hit}
 use Rattle.hs_literals.proofs.HitStreamLemmas.{hits-of_stream}
@@ -20,7 +18,6 @@ use Rattle.hs_nodes.specs.Hits.{is_hit_at}
 use Rattle.hs_nodes.specs.declared.hits.ChunkHits.{ChunkHits}
 use Rattle.hs_scan.specs.Hits.{AreShown, HasNowhere, IsShown, hits_of, no_hits}
 use Rattle.hs_scan.specs.Scans.{AreHitsBehind}
-use Rattle.hs_scan.specs.declared.program.Program.{Program}
 use Rattle.hs_scan.proofs.BlockLemmas.{value-tells}
 use Rattle.hs_scan.proofs.FillLemmas.{get-past, set-other, set-same}
 
@@ -186,11 +183,11 @@ pub forgot-all : (table : HitTable) (hits : List ChunkHits) → AreForgottenTo t
 forgot-all table hits are k = elim (cases_lt k table.count) [ inl below ↦ are.none k below | inr past ↦ get-past hits k no_hits (omega (arith, past, are.count)) ]
 
 -- The hits of a table are those of the literals behind any stream with those last bytes.
-pub hits-behind : {E : Type 0} (meaning : E → Meaning) (program : Program E) (table : HitTable) (hits : List ChunkHits) (at : ℕ) (past before bytes : List ℕ) → TellsHits table (held program.literals) before bytes →
-    ((k : ℕ) → k < table.count → AreShown table hits k) → length (held program.literals) ≤ table.count → length bytes ≤ 512 → ((number : ℕ) (literal : List LiteralByte) → slice_get (held program.literals) number ≡ Some literal → length literal ≤ 32) →
-    ((u : List ℕ) (literal : List LiteralByte) → at ≡ length u → past ≡ last_bytes 64 u → length literal ≤ 32 → ReachesBack literal u before) → AreHitsBehind meaning program at past hits bytes
-hits-behind meaning program table hits at past before bytes tells shown few small short reaches u offset past_is number literal own there own_there i within =
-    let below : number < length (held program.literals) = slice_get_within (held program.literals) number literal there in
-    let law = hits-of_stream table (held program.literals) u before bytes number literal tells there (reaches u literal offset past_is (short number literal there)) i within in
+pub hits-behind : (literals : List (List LiteralByte)) (table : HitTable) (hits : List ChunkHits) (at : ℕ) (past before bytes : List ℕ) → TellsHits table literals before bytes →
+    ((k : ℕ) → k < table.count → AreShown table hits k) → length literals ≤ table.count → length bytes ≤ 512 → ((number : ℕ) (literal : List LiteralByte) → slice_get literals number ≡ Some literal → length literal ≤ 32) →
+    ((u : List ℕ) (literal : List LiteralByte) → at ≡ length u → past ≡ last_bytes 64 u → length literal ≤ 32 → ReachesBack literal u before) → AreHitsBehind literals at past hits bytes
+hits-behind literals table hits at past before bytes tells shown few small short reaches u offset past_is number literal own there own_there i within =
+    let below : number < length literals = slice_get_within literals number literal there in
+    let law = hits-of_stream table literals u before bytes number literal tells there (reaches u literal offset past_is (short number literal there)) i within in
     let same : hits_of hits number ≡ own = get_or_from_slice_get hits number own no_hits own_there in
     value-tells (is_hit_at own i) (is_table_hit table number i) (EndsAt literal (u ++ bytes) (length u + i)) (ap (λ h. is_hit_at h i) (sym same) ∙ shown number (omega (arith, below, few)) i (omega (arith, within, small))) law

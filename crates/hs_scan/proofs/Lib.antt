@@ -9,3 +9,16 @@ pub mod FillLemmas
 pub mod HitLemmas
 pub mod CopyLemmas
 pub mod WritingLemmas
+pub mod LeavingLemmas
+pub mod LastLemmas
+pub mod ForgetLemmas
+pub mod AskLemmas
+pub mod LineFeedLemmas
+pub mod ScratchLemmas
+pub mod FeedLemmas
+pub mod FinishLemmas
+pub mod CheckingLemmas
+pub mod FaultLemmas
+pub mod ExactLemmas
+pub mod TickLemmas
+pub mod PlanFaultLemmas

@@ -1,7 +1,7 @@
 -- The last bytes of a stream.
-use Rattle.std.proofs.Common.{◌≡◌, ◌⊎◌, ℕ, zero, suc, ◌+◌, ◌-◌, ◌<◌, ◌≤◌, Bool, true, false, List, [], ◌∷◌, ◌++◌, length, replicate, get_or, take, drop, eqb, min, refl, sym, ap, subst, ◌∙◌, inl, inr, arith, length-append, length-drop}
+use Rattle.std.proofs.Common.{◌≡◌, ℕ, zero, suc, ◌+◌, ◌-◌, ◌<◌, ◌≤◌, List, [], ◌∷◌, ◌++◌, length, replicate, get_or, take, drop, min, refl, sym, ap, ◌∙◌, inl, inr, arith, length-append, length-drop}
 use Rattle.std.proofs.lemmas.Bool.{cases_lt}
-use Rattle.std.proofs.lemmas.List.{length-replicate, length-take-le, get_or-drop, get_or-take, get_or-append-add, drop-append-le, append-nil, take-append-drop, take_rest}
+use Rattle.std.proofs.lemmas.List.{length-replicate, length-take-le, get_or-drop, get_or-take, get_or-append-add, get_or_append_left, drop-append-le, append-nil, take-append-drop, take_rest}
 use Rattle.std.proofs.lemmas.Option.{slice_get-get_or}
 use Rattle.std.proofs.Math.ListN.{drop_of_length-le}
 use Rattle.std.proofs.Math.Seq.{drop-append-add}
@@ -13,7 +13,7 @@ use Rattle.hs_base.proofs.BitLemmas.{same-places}
 use Rattle.hs_base.proofs.RegionLemmas.{drop-drop}
 use Rattle.hs_literals.specs.HitLaws.{ReachesBack}
 use Rattle.hs_nodes.specs.Blocks.{EndsBehind}
-use Rattle.hs_scan.specs.Past.{prev_from}
+use Rattle.hs_scan.specs.Past.{KeepsEarly, prev_from}
 
 history-get : (n k : ℕ) (u : List ℕ) → n ≤ length u + k → get_or (last_bytes n u) k 0 ≡ get_or u (length u + k - n) 0
 history-get n k u low =
@@ -96,3 +96,10 @@ joined past mid ys bytes n size len small front is =
     ap (λ zs. take (64 - n) mid ++ (ys ++ zs)) none
     ∙ (ap (λ zs. take (64 - n) mid ++ zs) (append-nil ys ∙ own)
     ∙ ap (λ zs. zs ++ drop (length bytes - n) bytes) (ap (λ m. take (m - n) mid) (sym size) ∙ front))
+
+-- Bytes that are put behind the last ones leave no early one.
+pub early-pushed : (past past' bytes : List ℕ) (at at' : ℕ) → length past ≡ 64 → past' ≡ drop (length bytes) (past ++ bytes) → at' ≡ at + length bytes → KeepsEarly at at' past past'
+early-pushed past past' bytes at at' wide pushed at_is early i below =
+    let n : ℕ = length bytes in
+    let low : n + i < length past = omega (arith, below, at_is, wide) in
+    ap (λ xs. get_or xs i 0) pushed ∙ (get_or-drop n (past ++ bytes) i 0 ∙ (get_or_append_left past bytes 0 (n + i) low ∙ early (n + i) (omega (arith, below, at_is))))

@@ -6,26 +6,25 @@ use Rattle.std.proofs.lemmas.Option.{same_Some, slice_get_within}
 use Rattle.hs_base.specs.Assertions.{line_feed}
 use Rattle.hs_base.specs.Bits.{has_bit, has_word_bit}
 use Rattle.hs_base.specs.Lists.{Each}
+use Rattle.hs_base.specs.Literals.{LiteralByte}
 use Rattle.hs_base.specs.Offsets.{greatest_offset}
 use Rattle.hs_base.specs.Patterns.{Pattern, IsPair, is_single}
-use Rattle.hs_base.specs.Regions.{Place, Plan, IsPlaced, IsRegion, AreBitsOf, fields_at, here_at, last_at, list_places, plan_size, place_size, region_offset, told_at}
+use Rattle.hs_base.specs.Regions.{Plan, IsRegion, AreBitsOf, fields_at, here_at, last_at, list_places, plan_size, place_size, region_offset, told_at}
 use Rattle.hs_base.specs.Reports.{IsReport, each, first, first_at_end}
 use Rattle.hs_base.specs.Settling.{IsLeftToEnd}
 use Rattle.hs_base.proofs.EndLemmas.{pair-before_end}
 use Rattle.hs_base.proofs.ReportLemmas.{report-pair_now}
 use Rattle.hs_base.proofs.SumLemmas.{sums-size}
 use Rattle.hs_engine.specs.Engines.{Meaning}
-use Rattle.hs_layout.specs.Layouts.{Laid, laid_size, layout_of}
+use Rattle.hs_layout.specs.Layouts.{laid_size}
 use Rattle.hs_nodes.specs.Nodes.{HoldsPiece}
-use Rattle.hs_nodes.specs.Walks.{AreNodesHeld, node_part, parent_pieces}
-use Rattle.hs_reports.specs.Heard.{IsHeard}
-use Rattle.hs_reports.specs.Identifiers.{numbers_of}
-use Rattle.hs_reports.specs.Settlement.{AreKnown, known_at}
+use Rattle.hs_nodes.specs.Walks.{AreNodesHeld, parent_pieces}
+use Rattle.hs_reports.specs.Settlement.{AreKnown}
 use Rattle.hs_reports.specs.declared.identifier.Identifier.{Identifier}
-use Rattle.hs_scan.specs.Keeping.{AreLast, AreRead, AreSparesUnset, singles_before}
-use Rattle.hs_scan.specs.Programs.{RunsPlan, plan_layout, singles_of}
-use Rattle.hs_scan.specs.Scans.{AreCopied, AreLeftToEnd, IsReached, IsWritten, Stand}
-use Rattle.hs_scan.specs.declared.program.Program.{Program}
+use Rattle.hs_scan.specs.Keeping.{AreRead, AreSparesUnset, singles_before}
+use Rattle.hs_nodes.specs.Graphs.{RunsPlan, plan_layout, singles_of}
+use Rattle.hs_scan.specs.Scans.{AreLeftToEnd, IsReached, IsWritten, Stand}
+use Rattle.hs_nodes.specs.declared.graph.Graph.{Graph}
 use Rattle.hs_scan.proofs.BlockLemmas.{value-tells}
 use Rattle.hs_scan.proofs.FieldLemmas.{nodes-begin, nodes-end}
 use Rattle.hs_scan.proofs.KeepingLemmas.{IsSingleAt, number-at, single-at, single-of}
@@ -48,21 +47,21 @@ there [] k below = absurd (omega arith)
 there (x ∷ xs) zero below = (x, refl)
 there (x ∷ xs) (suc k) below = there xs k (omega arith)
 
-module _ {E : Type 0} (meaning : E → Meaning) (program : Program E) (plan : Plan) (runs : RunsPlan meaning program plan) where
-  id-named : (p : ℕ) (x : Identifier) → slice_get program.identifiers.items p ≡ Some x → slice_get plan.identifiers p ≡ Some x.id.0
-  id-named p x at = subst (λ ys. slice_get ys p ≡ Some x.id.0) runs.ids (number-at program.identifiers.items p x at)
+module _ {E : Type 0} (meaning : E → Meaning) (graph : Graph E) (literals : List (List LiteralByte)) (plan : Plan) (runs : RunsPlan meaning graph literals plan) where
+  id-named : (p : ℕ) (x : Identifier) → slice_get graph.identifiers.items p ≡ Some x → slice_get plan.identifiers p ≡ Some x.id.0
+  id-named p x at = subst (λ ys. slice_get ys p ≡ Some x.id.0) runs.ids (number-at graph.identifiers.items p x at)
 
-  single-named : (n : ℕ) (x : Identifier) → slice_get (singles_of program.identifiers.items) n ≡ Some x → slice_get plan.singles n ≡ Some x.id.0
-  single-named n x at = subst (λ ys. slice_get ys n ≡ Some x.id.0) runs.singles (number-at (singles_of program.identifiers.items) n x at)
+  single-named : (n : ℕ) (x : Identifier) → slice_get (singles_of graph.identifiers.items) n ≡ Some x → slice_get plan.singles n ≡ Some x.id.0
+  single-named n x at = subst (λ ys. slice_get ys n ≡ Some x.id.0) runs.singles (number-at (singles_of graph.identifiers.items) n x at)
 
-  pub ids-count : length program.identifiers.items ≡ length plan.identifiers
-  ids-count = sym (length-map program.identifiers.items (λ x. x.id.0)) ∙ ap length runs.ids
+  pub ids-count : length graph.identifiers.items ≡ length plan.identifiers
+  ids-count = sym (length-map graph.identifiers.items (λ x. x.id.0)) ∙ ap length runs.ids
 
-  pub singles-count : length (singles_of program.identifiers.items) ≡ length plan.singles
-  singles-count = sym (length-map (singles_of program.identifiers.items) (λ x. x.id.0)) ∙ ap length runs.singles
+  pub singles-count : length (singles_of graph.identifiers.items) ≡ length plan.singles
+  singles-count = sym (length-map (singles_of graph.identifiers.items) (λ x. x.id.0)) ∙ ap length runs.singles
 
   -- What is read of the region of a stream is what is known of its identifiers.
-  pub known-read : (u region told here : List ℕ) → IsRegion plan u region → AreRead (plan_layout plan) region program.identifiers.items told here → AreKnown plan.patterns u program.identifiers.items told here
+  pub known-read : (u region told here : List ℕ) → IsRegion plan u region → AreRead (plan_layout plan) region graph.identifiers.items told here → AreKnown plan.patterns u graph.identifiers.items told here
   known-read u region told here is are = record {
     single = λ p x at. runs.single p x at;
     heard = λ p x at.
@@ -71,8 +70,8 @@ module _ {E : Type 0} (meaning : E → Meaning) (program : Program E) (plan : Pl
         record {
           told = λ single.
               let is_single_x : x.single ≡ true = sym (runs.single p x at) ∙ single in
-              let n : ℕ = singles_before program.identifiers.items p in
-              let named : slice_get plan.singles n ≡ Some id = single-named n x (single-at program.identifiers.items p x at is_single_x) in
+              let n : ℕ = singles_before graph.identifiers.items p in
+              let named : slice_get plan.singles n ≡ Some id = single-named n x (single-at graph.identifiers.items p x at is_single_x) in
               value-tells (has_word_bit told p) (has_bit region (8 * told_at + n)) ((to : ℕ) × IsReport plan.patterns u false id to) (read.told_is is_single_x) (is.told.each n id named);
           here =
               value-tells (has_word_bit here p) (has_bit region (8 * here_at (length plan.singles) + p)) (IsReport plan.patterns u false id (length u)) read.here_is
@@ -82,25 +81,25 @@ module _ {E : Type 0} (meaning : E → Meaning) (program : Program E) (plan : Pl
 
   -- Where a scan begins in the region of a stream.
   pub reached-begin : (u : List ℕ) (s : Stand) → Each (λ b. b < 256) u → IsRegion plan u s.region → s.at ≡ region_offset s.region → s.past ≡ slice_range s.region 8 72 →
-      AreRead (plan_layout plan) s.region program.identifiers.items s.told s.here → IsReached meaning program plan runs u s
+      AreRead (plan_layout plan) s.region graph.identifiers.items s.told s.here → IsReached meaning graph literals plan runs u s
   reached-begin u s small is at past read = record {
     offset = at ∙ is.offset;
     past = past ∙ is.history;
     bytes = small;
-    held = nodes-begin meaning program plan runs u s.region is;
+    held = nodes-begin meaning graph literals plan runs u s.region is;
     known = known-read u s.region s.told s.here is read;
   }
 
   -- The bits of a region into which all was written.
 
-  module _ (v : List ℕ) (s : Stand) (last region : List ℕ) (is : IsReached meaning program plan runs v s) (written : IsWritten meaning program (plan_layout plan) s last region) (left : AreLeftToEnd meaning program plan.patterns v last)
+  module _ (v : List ℕ) (s : Stand) (last region : List ℕ) (is : IsReached meaning graph literals plan runs v s) (written : IsWritten graph (plan_layout plan) s last region) (left : AreLeftToEnd graph plan.patterns v last)
       (spared : AreSparesUnset (plan_layout plan) region) where
     told-bits : AreBitsOf region told_at (here_at (length plan.singles)) plan.singles (λ id. (to : ℕ) × IsReport plan.patterns v false id to)
     told-bits = record {
       each = λ n id named.
-          let (x, at) = there (singles_of program.identifiers.items) n (omega (arith, slice_get_within plan.singles n id named, singles-count)) in
+          let (x, at) = there (singles_of graph.identifiers.items) n (omega (arith, slice_get_within plan.singles n id named, singles-count)) in
           let same : x.id.0 ≡ id = same_Some x.id.0 id (sym (single-named n x at) ∙ named) in
-          let one : IsSingleAt program.identifiers.items n x = single-of program.identifiers.items n x at in
+          let one : IsSingleAt graph.identifiers.items n x = single-of graph.identifiers.items n x at in
           let read = written.read one.place x one.there in
           let single : is_single plan.patterns x.id.0 ≡ true = runs.single one.place x one.there ∙ one.is in
           let bit : has_bit region (8 * told_at + n) ≡ has_word_bit s.told one.place = ap (λ m. has_bit region (8 * told_at + m)) (sym one.number) ∙ sym (read.told_is one.is) in
@@ -111,12 +110,12 @@ module _ {E : Type 0} (meaning : E → Meaning) (program : Program E) (plan : Pl
 
     record IsThere (p id : ℕ) : Type 0 where
       x : Identifier
-      at : slice_get program.identifiers.items p ≡ Some x
+      at : slice_get graph.identifiers.items p ≡ Some x
       same : x.id.0 ≡ id
 
     is-there : (p id : ℕ) → slice_get plan.identifiers p ≡ Some id → IsThere p id
     is-there p id named =
-        let (x, at) = there program.identifiers.items p (omega (arith, slice_get_within plan.identifiers p id named, ids-count)) in
+        let (x, at) = there graph.identifiers.items p (omega (arith, slice_get_within plan.identifiers p id named, ids-count)) in
         record { x = x; at = at; same = same_Some x.id.0 id (sym (id-named p x at) ∙ named) }
 
     here-bits : AreBitsOf region (here_at (length plan.singles)) (last_at (length plan.singles) (length plan.identifiers)) plan.identifiers (λ id. IsReport plan.patterns v false id (length v))
@@ -139,9 +138,9 @@ module _ {E : Type 0} (meaning : E → Meaning) (program : Program E) (plan : Pl
       spare = λ k low high. spared k (inr (inr (low, high)));
     }
 
-    held-there : AreNodesHeld meaning program.table runs.pieces region v
+    held-there : AreNodesHeld meaning graph.table runs.pieces region v
     held-there k node at piece own =
-        subst (λ bytes. HoldsPiece meaning program.table.engines.items node.kind (parent_pieces runs.pieces node.parent) piece bytes v) (sym (written.fields k node at)) (is.held k node at piece own)
+        subst (λ bytes. HoldsPiece meaning graph.table.engines.items node.kind (parent_pieces runs.pieces node.parent) piece bytes v) (sym (written.fields k node at)) (is.held k node at piece own)
 
     -- What a scan has behind v, written into a region, is the region of v.
     pub region-end : length v ≤ greatest_offset → IsRegion plan v region
@@ -156,7 +155,7 @@ module _ {E : Type 0} (meaning : E → Meaning) (program : Program E) (plan : Pl
           told = told-bits;
           here = here-bits;
           last = last-bits;
-          fields = nodes-end meaning program plan runs v region len written.bytes held-there written.copied;
+          fields = nodes-end meaning graph literals plan runs v region len written.bytes held-there written.copied;
         }
 
 -- Nothing is left to the end behind a byte that isn't a line feed.

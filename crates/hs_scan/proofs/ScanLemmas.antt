@@ -1,5 +1,5 @@
 -- Scans join, and lead from the region of a stream to that of the longer one.
-use Rattle.std.proofs.Common.{◌≡◌, ◌↔◌, ℕ, ◌+◌, ◌-◌, ◌<◌, ◌≤◌, Bool, true, false, List, [], ◌∷◌, ◌++◌, length, take, drop, Some, slice_get, refl, sym, ap, subst, ◌∙◌, arith, append_assoc, length-append}
+use Rattle.std.proofs.Common.{◌≡◌, ℕ, ◌+◌, ◌-◌, ◌<◌, ◌≤◌, Bool, true, false, List, [], ◌++◌, length, take, drop, sym, ap, subst, ◌∙◌, arith, append_assoc, length-append}
 use Rattle.std.specs.Prelude.{slice_range}
 use Rattle.std.proofs.Math.Seq.{take-add}
 use Rattle.std.proofs.lemmas.List.{append-nil}
@@ -7,72 +7,73 @@ use Rattle.std.proofs.lemmas.Option.{slice_get_within}
 use Rattle.hs_base.specs.declared.context.Prev.{Prev}
 use Rattle.hs_base.specs.Bits.{has_bit}
 use Rattle.hs_base.specs.Lists.{Each}
+use Rattle.hs_base.specs.Literals.{LiteralByte}
 use Rattle.hs_base.specs.Offsets.{greatest_offset}
-use Rattle.hs_base.specs.Patterns.{Pattern}
 use Rattle.hs_base.specs.Regions.{Plan, IsRegion, last_bytes, region_offset}
-use Rattle.hs_base.specs.Told.{Pair, IsTold, IsNew}
+use Rattle.hs_base.specs.Told.{Pair, IsTold}
 use Rattle.hs_base.proofs.ListLemmas.{each-append}
 use Rattle.hs_base.proofs.NewLemmas.{new_nothing, told_more}
 use Rattle.hs_base.proofs.RegionLemmas.{last_bytes-follow}
 use Rattle.hs_base.proofs.ToldLemmas.{new-joins}
 use Rattle.hs_engine.specs.Engines.{Meaning}
 use Rattle.hs_layout.specs.Layouts.{Laid}
-use Rattle.hs_literals.specs.Held.{held}
 use Rattle.hs_nodes.specs.Blocks.{EndsBehind}
 use Rattle.hs_nodes.specs.Left.{AreLeftIn}
 use Rattle.hs_nodes.specs.Marks.{is_marked}
 use Rattle.hs_nodes.specs.Walks.{MayNodesRest, TakesNodes}
 use Rattle.hs_nodes.specs.declared.ends.ChunkEnds.{ChunkEnds}
 use Rattle.hs_nodes.specs.declared.hits.ChunkHits.{ChunkHits}
+use Rattle.hs_scan.specs.Feeding.{Feeds}
 use Rattle.hs_scan.specs.Keeping.{AreRead, IsSpareBit}
-use Rattle.hs_scan.specs.Programs.{RunsPlan, plan_layout}
-use Rattle.hs_scan.specs.Scans.{AreHitsBehind, AreLeftToEnd, Feeds, IsReached, IsWritten, Scans, ScansChunk, Stand, stand}
+use Rattle.hs_nodes.specs.Graphs.{RunsPlan, plan_layout}
+use Rattle.hs_scan.specs.Scans.{AreHitsBehind, AreLeftToEnd, IsReached, IsWritten, Scans, ScansChunk, Stand, stand}
 use Rattle.hs_scan.specs.Telling.{TellsChunk}
-use Rattle.hs_scan.specs.declared.program.Program.{Program}
+use Rattle.hs_nodes.specs.declared.graph.Graph.{Graph}
 use Rattle.hs_scan.proofs.RegionLemmas.{reached-begin, region-end, spares-unset}
 
-module _ {E : Type 0} (meaning : E → Meaning) (program : Program E) where
-  pub scans-none : (s : Stand) → Scans meaning program s s [] []
-  scans-none s plan runs u list is told = record {
-    reached = subst (λ v. IsReached meaning program plan runs v s) (sym (append-nil u)) is;
-    new = new_nothing plan.patterns u list told;
-  }
+-- What stands before the next byte is known of a stream by its offset and its last bytes.
+abbrev pub Stands : (at : ℕ) (past : List ℕ) (prev : Prev) → Type 0
+Stands at past prev = (u : List ℕ) → at ≡ length u → past ≡ last_bytes 64 u → EndsBehind u prev at
 
-  pub scans-join : (a b c : Stand) (xs ys : List ℕ) (ps qs : List Pair) → Scans meaning program a b xs ps → Scans meaning program b c ys qs → Scans meaning program a c (xs ++ ys) (ps ++ qs)
-  scans-join a b c xs ys ps qs first second plan runs u list is told =
-      let one = first plan runs u list is told in
-      let two = second plan runs (u ++ xs) (list ++ ps) one.reached (told_more plan.patterns u xs list ps told one.new) in
-      record {
-        reached = subst (λ v. IsReached meaning program plan runs v c) (append_assoc u xs ys) two.reached;
-        new = new-joins plan.patterns u xs ys ps qs one.new two.new;
-      }
-
-  -- What stands before the next byte is known of a stream by its offset and its last bytes.
-  abbrev pub Stands : (at : ℕ) (past : List ℕ) (prev : Prev) → Type 0
-  Stands at past prev = (u : List ℕ) → at ≡ length u → past ≡ last_bytes 64 u → EndsBehind u prev at
-
+module _ {E : Type 0} (meaning : E → Meaning) (graph : Graph E) where
   -- Where all nodes are run none has to rest.
-  pub all-rest : (marks : List ℕ) (hits : List ChunkHits) (region bytes : List ℕ) → ((k : ℕ) → k < length program.table.nodes.items → is_marked marks k ≡ true) → MayNodesRest meaning program.table marks hits region bytes
-  all-rest marks hits region bytes all k node at unmarked = absurd (both (is_marked marks k) (all k (slice_get_within program.table.nodes.items k node at)) unmarked)
+  pub all-rest : (marks : List ℕ) (hits : List ChunkHits) (region bytes : List ℕ) → ((k : ℕ) → k < length graph.table.nodes.items → is_marked marks k ≡ true) → MayNodesRest meaning graph.table marks hits region bytes
+  all-rest marks hits region bytes all k node at unmarked = absurd (both (is_marked marks k) (all k (slice_get_within graph.table.nodes.items k node at)) unmarked)
     where
       both : (b : Bool) → b ≡ true → b ≡ false → ⊥
       both b is unset = cc
 
   -- A chunk, by the nodes and then by what it tells.
-  pub chunk-takes : (at : ℕ) (old new told here told' here' : List ℕ) (prev : Prev) (bytes : List ℕ) (hits : List ChunkHits) (ends : List ChunkEnds) (all : ChunkEnds) (pairs : List Pair) →
-      length ends ≡ length program.table.nodes.items → ((u : List ℕ) → AreLeftIn [] u bytes all) → TakesNodes meaning program.table old new prev at bytes hits ends → TellsChunk meaning program bytes at ends all told here told' here' pairs →
-      ScansChunk meaning program old new prev at bytes hits told here told' here' pairs
-  chunk-takes at old new told here told' here' prev bytes hits ends all pairs count everywhere takes tells plan runs u list stands small are before known told_is =
-      let run = takes (held program.literals) runs.pieces u runs.nodes stands small are before in
-      let telling = tells plan runs u list stands.offset (record { count = count; left = run.left; everywhere = everywhere u }) known told_is in
+  pub chunk-takes : (at : ℕ) (old new told here told' here' : List ℕ) (prev : Prev) (past bytes : List ℕ) (hits : List ChunkHits) (ends : List ChunkEnds) (all : ChunkEnds) (pairs : List Pair) →
+      length ends ≡ length graph.table.nodes.items → ((u : List ℕ) → AreLeftIn [] u bytes all) → TakesNodes meaning graph.table old new prev at past bytes hits ends → TellsChunk meaning graph bytes at ends all told here told' here' pairs →
+      ScansChunk meaning graph old new prev at past bytes hits told here told' here' pairs
+  chunk-takes at old new told here told' here' prev past bytes hits ends all pairs count everywhere takes tells literals plan runs u list stands past_is small are before known told_is =
+      let run = takes literals runs.pieces u runs.nodes stands past_is small are before in
+      let telling = tells literals plan runs u list stands.offset (record { count = count; left = run.left; everywhere = everywhere u }) known told_is in
       record { held = run.held; known = telling.known; new_are = telling.new }
 
+module _ {E : Type 0} (meaning : E → Meaning) (graph : Graph E) (literals : List (List LiteralByte)) where
+  pub scans-none : (s : Stand) → Scans meaning graph literals s s [] []
+  scans-none s plan runs u list is told = record {
+    reached = subst (λ v. IsReached meaning graph literals plan runs v s) (sym (append-nil u)) is;
+    new = new_nothing plan.patterns u list told;
+  }
+
+  pub scans-join : (a b c : Stand) (xs ys : List ℕ) (ps qs : List Pair) → Scans meaning graph literals a b xs ps → Scans meaning graph literals b c ys qs → Scans meaning graph literals a c (xs ++ ys) (ps ++ qs)
+  scans-join a b c xs ys ps qs first second plan runs u list is told =
+      let one = first plan runs u list is told in
+      let two = second plan runs (u ++ xs) (list ++ ps) one.reached (told_more plan.patterns u xs list ps told one.new) in
+      record {
+        reached = subst (λ v. IsReached meaning graph literals plan runs v c) (append_assoc u xs ys) two.reached;
+        new = new-joins plan.patterns u xs ys ps qs one.new two.new;
+      }
+
   pub chunk-scans : (at : ℕ) (past past' old new told here told' here' : List ℕ) (prev : Prev) (bytes : List ℕ) (hits : List ChunkHits) (pairs : List Pair) → Each (λ b. b < 256) bytes →
-      Stands at past prev → AreHitsBehind meaning program at past hits bytes → past' ≡ drop (length bytes) (past ++ bytes) → ScansChunk meaning program old new prev at bytes hits told here told' here' pairs →
-      Scans meaning program (stand at past old told here) (stand (at + length bytes) past' new told' here') bytes pairs
+      Stands at past prev → AreHitsBehind literals at past hits bytes → past' ≡ drop (length bytes) (past ++ bytes) → ScansChunk meaning graph old new prev at past bytes hits told here told' here' pairs →
+      Scans meaning graph literals (stand at past old told here) (stand (at + length bytes) past' new told' here') bytes pairs
   chunk-scans at past past' old new told here told' here' prev bytes hits pairs small stands are past_is scans plan runs u list is told_is =
       let small_all : Each (λ b. b < 256) (u ++ bytes) = each-append (λ b. b < 256) u bytes is.bytes small in
-      let end = scans plan runs u list (stands u is.offset is.past) small_all (are u is.offset is.past) is.held is.known told_is in
+      let end = scans literals plan runs u list (stands u is.offset is.past) is.past small_all (are u is.offset is.past) is.held is.known told_is in
       record {
         reached = record {
           offset = omega (arith, is.offset, length-append u bytes);
@@ -85,18 +86,20 @@ module _ {E : Type 0} (meaning : E → Meaning) (program : Program E) where
       }
 
   -- From the region of a stream to that of the longer one.
-  pub scan-feeds : (l : Laid) (old new bytes : List ℕ) (s t : Stand) (last : List ℕ) (pairs : List Pair) → s.region ≡ old → s.at ≡ region_offset old → s.past ≡ slice_range old 8 72 → AreRead l old program.identifiers.items s.told s.here →
-      t.at ≤ greatest_offset → Scans meaning program s t bytes pairs → IsWritten meaning program l t last new → ((k : ℕ) → IsSpareBit l k → has_bit t.region k ≡ has_bit old k) →
-      ((plan : Plan) (runs : RunsPlan meaning program plan) (u : List ℕ) (list : List Pair) → IsReached meaning program plan runs u s → IsTold plan.patterns u list → AreLeftToEnd meaning program plan.patterns (u ++ bytes) last) →
-      Feeds meaning program l old new bytes pairs
-  scan-feeds l old new bytes s t last pairs same at past read room scans written spare left plan u list runs laid each is told =
-      let begun : IsReached meaning program plan runs u s =
-      reached-begin meaning program plan runs u s each (subst (IsRegion plan u) (sym same) is) (at ∙ ap region_offset (sym same)) (past ∙ ap (λ r. slice_range r 8 72) (sym same))
-      (subst (λ r. AreRead (plan_layout plan) r program.identifiers.items s.told s.here) (sym same) (subst (λ m. AreRead m old program.identifiers.items s.told s.here) laid read)) in
+  pub scan-feeds : (l : Laid) (old new bytes : List ℕ) (s t : Stand) (last : List ℕ) (pairs : List Pair) → s.region ≡ old → s.at ≡ region_offset old → s.past ≡ slice_range old 8 72 → AreRead l old graph.identifiers.items s.told s.here →
+      t.at ≤ greatest_offset → Scans meaning graph literals s t bytes pairs → IsWritten graph l t last new → ((k : ℕ) → IsSpareBit l k → has_bit t.region k ≡ has_bit old k) →
+      ((plan : Plan) (runs : RunsPlan meaning graph literals plan) (u : List ℕ) (list : List Pair) → IsReached meaning graph literals plan runs u s → IsTold plan.patterns u list → AreLeftToEnd graph plan.patterns (u ++ bytes) last) →
+      Feeds meaning graph literals l old new bytes pairs
+  scan-feeds l old new bytes s t last pairs same at past read room scans written spare left plan u list runs_laid each is told =
+      let runs = runs_laid.runs in
+      let laid = runs_laid.laid in
+      let begun : IsReached meaning graph literals plan runs u s =
+      reached-begin meaning graph literals plan runs u s each (subst (IsRegion plan u) (sym same) is) (at ∙ ap region_offset (sym same)) (past ∙ ap (λ r. slice_range r 8 72) (sym same))
+      (subst (λ r. AreRead (plan_layout plan) r graph.identifiers.items s.told s.here) (sym same) (subst (λ m. AreRead m old graph.identifiers.items s.told s.here) laid read)) in
       let end = scans plan runs u list begun told in
       record {
         region =
-            region-end meaning program plan runs (u ++ bytes) t last new end.reached (subst (λ m. IsWritten meaning program m t last new) laid written) (left plan runs u list begun told)
+            region-end meaning graph literals plan runs (u ++ bytes) t last new end.reached (subst (λ m. IsWritten graph m t last new) laid written) (left plan runs u list begun told)
             (λ k is_spare.
             let here : IsSpareBit l k = subst (λ m. IsSpareBit m k) (sym laid) is_spare in
             written.spare k here ∙ (spare k here ∙ spares-unset plan u old is k is_spare))
@@ -105,7 +108,7 @@ module _ {E : Type 0} (meaning : E → Meaning) (program : Program E) where
       }
 
   -- A piece of the bytes more.
-  pub scans-more : (a b c : Stand) (bytes : List ℕ) (from end : ℕ) (ps qs : List Pair) → from ≤ end → Scans meaning program a b (take from bytes) ps → Scans meaning program b c (take (end - from) (drop from bytes)) qs → Scans meaning program a c (take end bytes) (ps ++ qs)
+  pub scans-more : (a b c : Stand) (bytes : List ℕ) (from end : ℕ) (ps qs : List Pair) → from ≤ end → Scans meaning graph literals a b (take from bytes) ps → Scans meaning graph literals b c (take (end - from) (drop from bytes)) qs → Scans meaning graph literals a c (take end bytes) (ps ++ qs)
   scans-more a b c bytes from end ps qs order first second =
       let e : end ≡ from + (end - from) = omega arith in
-      subst (λ xs. Scans meaning program a c xs (ps ++ qs)) (sym (ap (λ n. take n bytes) e ∙ take-add from (end - from) bytes)) (scans-join a b c (take from bytes) (take (end - from) (drop from bytes)) ps qs first second)
+      subst (λ xs. Scans meaning graph literals a c xs (ps ++ qs)) (sym (ap (λ n. take n bytes) e ∙ take-add from (end - from) bytes)) (scans-join a b c (take from bytes) (take (end - from) (drop from bytes)) ps qs first second)

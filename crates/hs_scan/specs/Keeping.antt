@@ -5,7 +5,7 @@ use Rattle.hs_base.specs.Bits.{has_bit, has_word_bit}
 use Rattle.hs_base.specs.Regions.{fields_at, here_at, last_at, told_at}
 use Rattle.hs_layout.specs.Layouts.{Laid}
 use Rattle.hs_reports.specs.declared.identifier.Identifier.{Identifier}
-use Rattle.hs_scan.specs.Programs.{singles_of}
+use Rattle.hs_nodes.specs.Graphs.{singles_of}
 
 -- how many single identifiers stand before that number
 abbrev pub singles_before : List Identifier → ℕ → ℕ

@@ -1,18 +1,18 @@
 -- What bytes make of a stream that is scanned, between the beginning and the end of a write.
-use Rattle.std.specs.Prelude.{◌≡◌, ◌↔◌, ℕ, ◌<◌, ◌≤◌, Bool, true, List, [], ◌∷◌, ◌++◌, length, Some}
+use Rattle.std.specs.Prelude.{◌≡◌, ◌↔◌, ℕ, ◌<◌, true, List, ◌++◌, length, Some}
 use Rattle.std.specs.Prelude.{slice_get, slice_range}
 use Rattle.hs_base.specs.declared.context.Prev.{Prev}
+use Rattle.hs_base.specs.Chains.{Piece}
 use Rattle.hs_base.specs.Bits.{has_bit, has_word_bit}
 use Rattle.hs_base.specs.Lists.{Each}
-use Rattle.hs_base.specs.Offsets.{greatest_offset}
+use Rattle.hs_base.specs.Literals.{LiteralByte}
 use Rattle.hs_base.specs.Patterns.{Pattern}
-use Rattle.hs_base.specs.Regions.{Plan, IsRegion, history_at, history_size, last_bytes, region_offset, told_at}
+use Rattle.hs_base.specs.Regions.{Plan, history_at, history_size, last_bytes, region_offset, told_at}
 use Rattle.hs_base.specs.Settling.{IsLeftToEnd}
 use Rattle.hs_base.specs.Told.{Pair, IsTold, IsNew}
 use Rattle.hs_engine.specs.Engines.{Meaning}
 use Rattle.hs_layout.specs.Layouts.{Laid, field_bytes, laid_size}
-use Rattle.hs_literals.specs.Held.{held}
-use Rattle.hs_nodes.specs.Blocks.{EndsBehind}
+use Rattle.hs_nodes.specs.Blocks.{EndsBehind, IsPast}
 use Rattle.hs_nodes.specs.Nodes.{AreHitsOf}
 use Rattle.hs_nodes.specs.Walks.{AreNodesHeld, node_part}
 use Rattle.hs_nodes.specs.declared.hits.ChunkHits.{ChunkHits}
@@ -20,9 +20,9 @@ use Rattle.hs_nodes.specs.declared.table.Node.{Node}
 use Rattle.hs_reports.specs.Settlement.{AreKnown}
 use Rattle.hs_reports.specs.declared.identifier.Identifier.{Identifier}
 use Rattle.hs_scan.specs.Keeping.{AreLast, AreRead, IsSpareBit}
-use Rattle.hs_scan.specs.Programs.{RunsPlan, plan_layout}
-use Rattle.hs_scan.specs.declared.program.FieldCopy.{FieldCopy}
-use Rattle.hs_scan.specs.declared.program.Program.{Program}
+use Rattle.hs_nodes.specs.Graphs.{RunsPlan}
+use Rattle.hs_nodes.specs.declared.graph.FieldCopy.{FieldCopy}
+use Rattle.hs_nodes.specs.declared.graph.Graph.{Graph}
 
 -- Where a scan is: at an offset behind the last bytes, with what is kept of the nodes in a region, of which nothing
 -- else counts, and with what is known of the identifiers in two rows of bits.
@@ -36,66 +36,67 @@ pub record Stand : Type 0 where
 abbrev pub stand : (at : ℕ) (past region told here : List ℕ) → Stand
 stand at past region told here = record { at = at; past = past; region = region; told = told; here = here }
 
--- The region is that of the stream u with the bytes behind it, and the pairs are the new reports of the bytes.
-pub record IsFed (plan : Plan) (u bytes now : List ℕ) (pairs : List Pair) : Type 0 where
-  pub region : IsRegion plan (u ++ bytes) now
-  pub new : IsNew plan.patterns u bytes pairs
+-- The hits are those of the literals in the bytes, behind any stream with those last bytes.
+abbrev pub AreHitsBehind : (literals : List (List LiteralByte)) (at : ℕ) (past : List ℕ) (hits : List ChunkHits)
+    (bytes : List ℕ) → Type 0
+AreHitsBehind literals at past hits bytes =
+    (u : List ℕ) → at ≡ length u → past ≡ last_bytes history_size u → AreHitsOf literals hits u bytes
 
-module _ {E : Type 0} (meaning : E → Meaning) (program : Program E) where
+module _ {E : Type 0} (meaning : E → Meaning) (graph : Graph E) (literals : List (List LiteralByte)) where
   -- That is where a scan is behind u.
-  pub record IsReached (plan : Plan) (runs : RunsPlan meaning program plan) (u : List ℕ) (s : Stand) : Type 0 where
-    pub offset : s.at ≡ length u
-    pub past : s.past ≡ last_bytes history_size u
-    pub bytes : Each (λ b. b < 256) u
-    pub held : AreNodesHeld meaning program.table runs.pieces s.region u
-    pub known : AreKnown plan.patterns u program.identifiers.items s.told s.here
+  pub record IsReached (plan : Plan) (runs : RunsPlan meaning graph literals plan) (u : List ℕ) (s : Stand) : Type 0
+    where
+      pub offset : s.at ≡ length u
+      pub past : s.past ≡ last_bytes history_size u
+      pub bytes : Each (λ b. b < 256) u
+      pub held : AreNodesHeld meaning graph.table runs.pieces s.region u
+      pub known : AreKnown plan.patterns u graph.identifiers.items s.told s.here
 
   -- Behind the bytes the scan is there, and the pairs are their new reports.
-  pub record IsScanned (plan : Plan) (runs : RunsPlan meaning program plan) (u bytes : List ℕ) (s : Stand)
+  pub record IsScanned (plan : Plan) (runs : RunsPlan meaning graph literals plan) (u bytes : List ℕ) (s : Stand)
       (pairs : List Pair) : Type 0 where
     pub reached : IsReached plan runs (u ++ bytes) s
     pub new : IsNew plan.patterns u bytes pairs
 
-  -- That holds for every plan that the program runs, and every stream behind which the scan was where it began.
+  -- That holds for every plan that the graph runs, and every stream behind which the scan was where it began.
   abbrev pub Scans : (old new : Stand) (bytes : List ℕ) → List Pair → Type 0
   Scans old new bytes pairs =
-      (plan : Plan) (runs : RunsPlan meaning program plan) (u : List ℕ) (list : List Pair) →
+      (plan : Plan) (runs : RunsPlan meaning graph literals plan) (u : List ℕ) (list : List Pair) →
       IsReached plan runs u old →
       IsTold plan.patterns u list →
       IsScanned plan runs u bytes new pairs
 
-  -- The hits are those of the literals in the bytes, behind any stream with those last bytes.
-  abbrev pub AreHitsBehind : (at : ℕ) (past : List ℕ) (hits : List ChunkHits) (bytes : List ℕ) → Type 0
-  AreHitsBehind at past hits bytes =
-      (u : List ℕ) → at ≡ length u → past ≡ last_bytes history_size u → AreHitsOf (held program.literals) hits u bytes
-
+module _ {E : Type 0} (meaning : E → Meaning) (graph : Graph E) where
   -- What a chunk leads to behind u.
-  pub record IsChunkScanned (plan : Plan) (runs : RunsPlan meaning program plan) (u bytes new told here : List ℕ)
+  pub record IsChunkScanned (plan : Plan) (pieces : ℕ → List Piece) (u bytes new told here : List ℕ)
       (pairs : List Pair) : Type 0 where
-    pub held : AreNodesHeld meaning program.table runs.pieces new (u ++ bytes)
-    pub known : AreKnown plan.patterns (u ++ bytes) program.identifiers.items told here
+    pub held : AreNodesHeld meaning graph.table pieces new (u ++ bytes)
+    pub known : AreKnown plan.patterns (u ++ bytes) graph.identifiers.items told here
     pub new_are : IsNew plan.patterns u bytes pairs
 
-  -- A chunk at that offset behind `prev`, in which the literals end as the hits tell: whatever plan the program runs,
+  -- A chunk at that offset behind `prev`, in which the literals end as the hits tell: whatever plan the graph runs,
   -- and behind whatever stream that ends there.
-  abbrev pub ScansChunk : (old new : List ℕ) (prev : Prev) (at : ℕ) (bytes : List ℕ) (hits : List ChunkHits)
+  abbrev pub ScansChunk : (old new : List ℕ) (prev : Prev) (at : ℕ) (past bytes : List ℕ) (hits : List ChunkHits)
       (told here told' here' : List ℕ) → List Pair → Type 0
-  ScansChunk old new prev at bytes hits told here told' here' pairs =
-      (plan : Plan) (runs : RunsPlan meaning program plan) (u : List ℕ) (list : List Pair) →
+  ScansChunk old new prev at past bytes hits told here told' here' pairs =
+      (literals : List (List LiteralByte)) (plan : Plan) (runs : RunsPlan meaning graph literals plan) (u : List ℕ)
+      (list : List Pair) →
       EndsBehind u prev at →
+      IsPast past u →
       Each (λ b. b < 256) (u ++ bytes) →
-      AreHitsOf (held program.literals) hits u bytes →
-      AreNodesHeld meaning program.table runs.pieces old u →
-      AreKnown plan.patterns u program.identifiers.items told here →
+      AreHitsOf literals hits u bytes →
+      AreNodesHeld meaning graph.table runs.pieces old u →
+      AreKnown plan.patterns u graph.identifiers.items told here →
       IsTold plan.patterns u list →
-      IsChunkScanned plan runs u bytes new told' here' pairs
+      IsChunkScanned plan runs.pieces u bytes new told' here' pairs
 
+module _ {E : Type 0} (graph : Graph E) where
   -- the copied fields are those of their nodes
   abbrev pub AreCopied : Laid → (region : List ℕ) → Type 0
   AreCopied l region =
       (i : ℕ) (copy : FieldCopy) (node : Node) →
-      slice_get program.copies.items i ≡ Some copy →
-      slice_get program.table.nodes.items copy.node ≡ Some node →
+      slice_get graph.copies.items i ≡ Some copy →
+      slice_get graph.table.nodes.items copy.node ≡ Some node →
       field_bytes l region copy.field ≡ node_part region node
 
   -- The region has all that is known where a scan is: its header and its copied fields are written.
@@ -104,27 +105,15 @@ module _ {E : Type 0} (meaning : E → Meaning) (program : Program E) where
     pub bytes : Each (λ b. b < 256) region
     pub offset : region_offset region ≡ s.at
     pub past : slice_range region history_at told_at ≡ s.past
-    pub read : AreRead l region program.identifiers.items s.told s.here
-    pub last_is : AreLast l region program.identifiers.items last
+    pub read : AreRead l region graph.identifiers.items s.told s.here
+    pub last_is : AreLast l region graph.identifiers.items last
     pub spare : (k : ℕ) → IsSpareBit l k → has_bit region k ≡ has_bit s.region k
-    pub fields : (k : ℕ) (node : Node) → slice_get program.table.nodes.items k ≡ Some node →
+    pub fields : (k : ℕ) (node : Node) → slice_get graph.table.nodes.items k ≡ Some node →
         node_part region node ≡ node_part s.region node
     pub copied : AreCopied l region
 
   -- the row has those identifiers of which only the end would report the pair before the last byte
   abbrev pub AreLeftToEnd : List Pattern → (u last : List ℕ) → Type 0
   AreLeftToEnd P u last =
-      (p : ℕ) (x : Identifier) → slice_get program.identifiers.items p ≡ Some x →
+      (p : ℕ) (x : Identifier) → slice_get graph.identifiers.items p ≡ Some x →
       (has_word_bit last p ≡ true) ↔ IsLeftToEnd P u x.id.0
-
-  -- That holds for every plan that the program runs, with regions of that layout, and every stream of bytes that leads
-  -- to the old region.
-  abbrev pub Feeds : Laid → (old new bytes : List ℕ) → List Pair → Type 0
-  Feeds l old new bytes pairs =
-      (plan : Plan) (u : List ℕ) (list : List Pair) →
-      RunsPlan meaning program plan →
-      l ≡ plan_layout plan →
-      Each (λ b. b < 256) u →
-      IsRegion plan u old →
-      IsTold plan.patterns u list →
-      IsFed plan u bytes new pairs

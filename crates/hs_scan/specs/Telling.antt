@@ -1,7 +1,8 @@
 -- What a chunk tells, from where the nodes are left in it.
-use Rattle.std.specs.Prelude.{◌≡◌, ◌↔◌, ℕ, ◌+◌, ◌*◌, ◌<◌, ◌≤◌, List, [], ◌++◌, length, take}
+use Rattle.std.specs.Prelude.{◌≡◌, ℕ, ◌+◌, ◌*◌, ◌<◌, List, [], ◌++◌, length, take}
 use Rattle.std.specs.Prelude.{slice_index, slice_index_or, slice_range}
 use Rattle.hs_base.specs.Chains.{Piece}
+use Rattle.hs_base.specs.Literals.{LiteralByte}
 use Rattle.hs_base.specs.Patterns.{Pattern}
 use Rattle.hs_base.specs.Regions.{Plan}
 use Rattle.hs_base.specs.Told.{Pair, IsTold, IsNew}
@@ -14,8 +15,8 @@ use Rattle.hs_reports.specs.Gathering.{AreEndsBelow}
 use Rattle.hs_reports.specs.EndTables.{EndTable}
 use Rattle.hs_reports.specs.Settlement.{AreKnown}
 use Rattle.hs_reports.specs.declared.terminal.Terminal.{Terminal}
-use Rattle.hs_scan.specs.Programs.{RunsPlan}
-use Rattle.hs_scan.specs.declared.program.Program.{Program}
+use Rattle.hs_nodes.specs.Graphs.{RunsPlan}
+use Rattle.hs_nodes.specs.declared.graph.Graph.{Graph}
 
 -- Where the pieces of the node of that number are left. Behind the last node are no pieces, which are left everywhere.
 abbrev pub ends_or_all : (ends : List ChunkEnds) (all : ChunkEnds) → ℕ → ChunkEnds
@@ -29,19 +30,19 @@ abbrev pub left_behind : (ends : List ChunkEnds) (all : ChunkEnds) (block k : �
 left_behind ends all block k = slice_index (ends_or_all ends all k).behind block
 
 -- the terminals of the node of that number
-abbrev pub terminals_of : {E : Type 0} → Program E → ℕ → List Terminal
-terminals_of program node =
-    slice_range program.terminals.items (slice_index program.terminal_starts.items node)
-    (slice_index program.terminal_starts.items (node + 1))
+abbrev pub terminals_of : {E : Type 0} → Graph E → ℕ → List Terminal
+terminals_of graph node =
+    slice_range graph.terminals.items (slice_index graph.terminal_starts.items node)
+    (slice_index graph.terminal_starts.items (node + 1))
 
 -- What one node adds to the ends that those before it give in a block at that offset.
-abbrev pub GathersNode : {E : Type 0} → Program E → (node at before behind : ℕ) → EndTable → EndTable → Type 0
-GathersNode program node at before behind old new =
+abbrev pub GathersNode : {E : Type 0} → Graph E → (node at before behind : ℕ) → EndTable → EndTable → Type 0
+GathersNode graph node at before behind old new =
     (befores behinds : ℕ → ℕ) →
     befores node ≡ before →
     behinds node ≡ behind →
-    AreEndsBelow program.terminals.items befores behinds at node old →
-    AreEndsBelow program.terminals.items befores behinds at (node + 1) new
+    AreEndsBelow graph.terminals.items befores behinds at node old →
+    AreEndsBelow graph.terminals.items befores behinds at (node + 1) new
 
 -- What is known of the identifiers behind some bytes, and what was told of them.
 pub record IsTelling (P : List Pattern) (u bytes : List ℕ) (pairs : List Pair) (Known : (u : List ℕ) → Type 0) : Type 0
@@ -49,53 +50,56 @@ pub record IsTelling (P : List Pattern) (u bytes : List ℕ) (pairs : List Pair)
     pub known : Known (u ++ bytes)
     pub new : IsNew P u bytes pairs
 
-module _ {E : Type 0} (meaning : E → Meaning) (program : Program E) where
+module _ {E : Type 0} (meaning : E → Meaning) (graph : Graph E) where
   -- The table has the ends that the nodes before that number give in a block of a chunk at that offset.
   abbrev pub AreGathered : (ends : List ChunkEnds) (all : ChunkEnds) (at block node : ℕ) → EndTable → Type 0
   AreGathered ends all at block node table =
-      AreEndsBelow program.terminals.items (left_before ends all block) (left_behind ends all block) (at + 64 * block)
+      AreEndsBelow graph.terminals.items (left_before ends all block) (left_behind ends all block) (at + 64 * block)
       node table
 
   -- The ends tell where the nodes are left in a chunk behind u.
   pub record AreChunkEnds (pieces : ℕ → List Piece) (u bytes : List ℕ) (ends : List ChunkEnds) (all : ChunkEnds) :
       Type 0 where
-    pub count : length ends ≡ length program.table.nodes.items
-    pub left : (k : ℕ) → k < length program.table.nodes.items → AreLeftIn (pieces k) u bytes (node_ends ends k)
+    pub count : length ends ≡ length graph.table.nodes.items
+    pub left : (k : ℕ) → k < length graph.table.nodes.items → AreLeftIn (pieces k) u bytes (node_ends ends k)
     pub everywhere : AreLeftIn [] u bytes all
 
-  -- Whatever plan the program runs, and behind whatever stream: where the rows of bits tell what is known of the
+  -- Whatever plan the graph runs, and behind whatever stream: where the rows of bits tell what is known of the
   -- identifiers before a block of the chunk, the new ones tell it behind the block, and the pairs are its new reports.
   abbrev pub TellsBlock : (bytes : List ℕ) (at : ℕ) (ends : List ChunkEnds) (all : ChunkEnds) (number : ℕ)
       (told here told' here' : List ℕ) → List Pair → Type 0
   TellsBlock bytes at ends all number told here told' here' pairs =
-      (plan : Plan) (runs : RunsPlan meaning program plan) (u : List ℕ) (list : List Pair) →
+      (literals : List (List LiteralByte)) (plan : Plan)
+      (runs : RunsPlan meaning graph literals plan) (u : List ℕ) (list : List Pair) →
       at ≡ length u →
       AreChunkEnds runs.pieces u bytes ends all →
-      AreKnown plan.patterns (front u bytes number) program.identifiers.items told here →
+      AreKnown plan.patterns (front u bytes number) graph.identifiers.items told here →
       IsTold plan.patterns (front u bytes number) list →
       IsTelling plan.patterns (front u bytes number) (block bytes number) pairs
-      (λ v. AreKnown plan.patterns v program.identifiers.items told' here')
+      (λ v. AreKnown plan.patterns v graph.identifiers.items told' here')
 
-  -- Whatever plan the program runs, and behind whatever stream: the bits tell what is known of the identifiers behind
+  -- Whatever plan the graph runs, and behind whatever stream: the bits tell what is known of the identifiers behind
   -- the first blocks of the chunk, and the pairs are the new reports of these.
   abbrev pub TellsBlocks : (bytes : List ℕ) (at : ℕ) (ends : List ChunkEnds) (all : ChunkEnds)
       (told here told' here' : List ℕ) (blocks : ℕ) → List Pair → Type 0
   TellsBlocks bytes at ends all told here told' here' blocks pairs =
-      (plan : Plan) (runs : RunsPlan meaning program plan) (u : List ℕ) (list : List Pair) →
+      (literals : List (List LiteralByte)) (plan : Plan)
+      (runs : RunsPlan meaning graph literals plan) (u : List ℕ) (list : List Pair) →
       at ≡ length u →
       AreChunkEnds runs.pieces u bytes ends all →
-      AreKnown plan.patterns u program.identifiers.items told here →
+      AreKnown plan.patterns u graph.identifiers.items told here →
       IsTold plan.patterns u list →
       IsTelling plan.patterns u (take (64 * blocks) bytes) pairs
-      (λ v. AreKnown plan.patterns v program.identifiers.items told' here')
+      (λ v. AreKnown plan.patterns v graph.identifiers.items told' here')
 
   -- and so behind the whole chunk
   abbrev pub TellsChunk : (bytes : List ℕ) (at : ℕ) (ends : List ChunkEnds) (all : ChunkEnds)
       (told here told' here' : List ℕ) → List Pair → Type 0
   TellsChunk bytes at ends all told here told' here' pairs =
-      (plan : Plan) (runs : RunsPlan meaning program plan) (u : List ℕ) (list : List Pair) →
+      (literals : List (List LiteralByte)) (plan : Plan)
+      (runs : RunsPlan meaning graph literals plan) (u : List ℕ) (list : List Pair) →
       at ≡ length u →
       AreChunkEnds runs.pieces u bytes ends all →
-      AreKnown plan.patterns u program.identifiers.items told here →
+      AreKnown plan.patterns u graph.identifiers.items told here →
       IsTold plan.patterns u list →
-      IsTelling plan.patterns u bytes pairs (λ v. AreKnown plan.patterns v program.identifiers.items told' here')
+      IsTelling plan.patterns u bytes pairs (λ v. AreKnown plan.patterns v graph.identifiers.items told' here')

@@ -6,12 +6,11 @@ ghost use Rattle.hs_nodes.specs.Marks.{is_marked, mark_room};
 ghost use Rattle.hs_nodes.specs.Walks.{node_ends};
 ghost use Rattle.hs_reports.specs.EndTables.{HasNoEnds, is_noted};
 ghost use Rattle.hs_reports.specs.Gathering.{AreEndsBelow};
-ghost use Rattle.hs_scan.specs.Programs.{AreTerminalsSound};
+ghost use Rattle.hs_nodes.specs.Graphs.{AreTerminalsSound};
 ghost use Rattle.hs_scan.specs.Telling.{AreGathered, GathersNode, terminals_of};
 
-use crate::program::Program;
 use hs_block::BlockEngine;
-use hs_nodes::{BLOCK_BYTES, ChunkEnds, MarkSet};
+use hs_nodes::{BLOCK_BYTES, ChunkEnds, Graph, MarkSet};
 use hs_reports::{IdentifierEnds, Terminal};
 
 /// Where the node of that number is left.
@@ -23,40 +22,40 @@ fn ends_at(ends: &[ChunkEnds], k: usize) -> &ChunkEnds
 }
 
 /// The terminals of the node of that number.
-fn terminals_of<E: BlockEngine>(program: &Program<E>, node: usize) -> &[Terminal]
-    requires sound { AreTerminalsSound E.meaning program.now }
-    requires there { node < length program.now.table.nodes.items + 1 }
-    ensures { result.now ≡ terminals_of program.now node }
+fn terminals_of<E: BlockEngine>(graph: &Graph<E>, node: usize) -> &[Terminal]
+    requires sound { AreTerminalsSound graph.now }
+    requires there { node < length graph.now.table.nodes.items + 1 }
+    ensures { result.now ≡ terminals_of graph.now node }
 {
-    let from = program.terminal_starts[node] as usize;
-    let end = program.terminal_starts[node + 1] as usize;
-    &program.terminals[from..end]
+    let from = graph.terminal_starts[node] as usize;
+    let end = graph.terminal_starts[node + 1] as usize;
+    &graph.terminals[from..end]
 }
 
 /// Adds the ends of the terminals of one node, in the block at the offset `at`.
 fn gather_node<E: BlockEngine>(
-    program: &Program<E>,
+    graph: &Graph<E>,
     node: usize,
     at: u64,
     before: u64,
     behind: u64,
     table: &mut IdentifierEnds,
 )
-    requires sound { AreTerminalsSound E.meaning program.now }
-    requires there { node < length program.now.table.nodes.items + 1 }
-    requires count { length table.old.words ≡ length program.now.identifiers.items }
+    requires sound { AreTerminalsSound graph.now }
+    requires there { node < length graph.now.table.nodes.items + 1 }
+    requires count { length table.old.words ≡ length graph.now.identifiers.items }
     requires room { at < 2 ^ 63 }
     ensures count { length table.new.words ≡ length table.old.words }
     ensures noted { (p : ℕ) → is_noted table.old p ≡ true → is_noted table.new p ≡ true }
-    ensures goes_on { GathersNode program.now node at before behind table.old table.new }
+    ensures goes_on { GathersNode graph.now node at before behind table.old table.new }
 {
-    table.add_all(terminals_of(program, node), at, before, behind);
+    table.add_all(terminals_of(graph, node), at, before, behind);
 }
 
 /// Adds the ends that all nodes give in a block of the chunk at the offset `at`. Nodes that aren't marked are left
 /// nowhere; `all` is everywhere.
 pub(crate) fn gather_block<E: BlockEngine>(
-    program: &Program<E>,
+    graph: &Graph<E>,
     marks: &MarkSet,
     ends: &[ChunkEnds],
     all: &ChunkEnds,
@@ -64,32 +63,32 @@ pub(crate) fn gather_block<E: BlockEngine>(
     at: u64,
     table: &mut IdentifierEnds,
 )
-    requires sound { AreTerminalsSound E.meaning program.now }
-    requires ends { length ends.now ≡ length program.now.table.nodes.items }
-    requires known { (k : ℕ) → is_marked marks.now k ≡ true → k < length program.now.table.nodes.items }
-    requires marks { length program.now.table.nodes.items ≤ mark_room marks.now }
-    requires few { length program.now.table.nodes.items < 2 ^ 32 }
-    requires rest { (k : ℕ) → k < length program.now.table.nodes.items → is_marked marks.now k ≡ false →
+    requires sound { AreTerminalsSound graph.now }
+    requires ends { length ends.now ≡ length graph.now.table.nodes.items }
+    requires known { (k : ℕ) → is_marked marks.now k ≡ true → k < length graph.now.table.nodes.items }
+    requires marks { length graph.now.table.nodes.items ≤ mark_room marks.now }
+    requires few { length graph.now.table.nodes.items < 2 ^ 32 }
+    requires rest { (k : ℕ) → k < length graph.now.table.nodes.items → is_marked marks.now k ≡ false →
         node_ends ends.now k ≡ nowhere }
     requires block { block < 8 }
-    requires count { length table.old.words ≡ length program.now.identifiers.items }
+    requires count { length table.old.words ≡ length graph.now.identifiers.items }
     requires none { HasNoEnds table.old }
     requires room { at + 64 * block < 2 ^ 63 }
     ensures count { length table.new.words ≡ length table.old.words }
     ensures noted { (p : ℕ) → is_noted table.old p ≡ true → is_noted table.new p ≡ true }
-    ensures gathered { AreGathered E.meaning program.now ends.now all.now at block
-        (length program.now.table.nodes.items + 1) table.new }
+    ensures gathered { AreGathered E.meaning graph.now ends.now all.now at block
+        (length graph.now.table.nodes.items + 1) table.new }
 {
     let at = at + (BLOCK_BYTES * block) as u64;
     let mut from = 0;
     while let Some(k) = marks.next(from) {
         let own = ends_at(ends, k);
-        gather_node(program, k, at, own.before[block], own.behind[block], table);
+        gather_node(graph, k, at, own.before[block], own.behind[block], table);
         from = k + 1;
     }
     gather_node(
-        program,
-        program.table.nodes.len(),
+        graph,
+        graph.table.nodes.len(),
         at,
         all.before[block],
         all.behind[block],

@@ -5,7 +5,7 @@ ghost use Rattle.hs_base.specs.Bits.{has_bit, has_word_bit, word_count};
 ghost use Rattle.hs_base.specs.Regions.{last_at, told_at};
 ghost use Rattle.hs_layout.specs.Layouts.{laid_size};
 ghost use Rattle.hs_scan.specs.Keeping.{AreBitsWritten, AreLast, AreRead, HasBits, IsOneWritten, AreBitsRead};
-ghost use Rattle.hs_scan.specs.Programs.{with_single};
+ghost use Rattle.hs_nodes.specs.Graphs.{with_single};
 
 use hs_bits::{contains_word_bit, write_word_bit};
 use hs_layout::Layout;

@@ -5,16 +5,16 @@ ghost use Rattle.hs_nodes.specs.Blocks.{block};
 ghost use Rattle.hs_nodes.specs.Left.{nowhere};
 ghost use Rattle.hs_nodes.specs.Marks.{is_marked, mark_room};
 ghost use Rattle.hs_nodes.specs.Walks.{node_ends};
+ghost use Rattle.hs_reports.specs.EndTables.{HasNoEnds};
 ghost use Rattle.hs_reports.specs.Events.{Takes};
 ghost use Rattle.hs_scan.specs.Knowing.{FitsKnown, IsPending, SettlesKnown};
-ghost use Rattle.hs_scan.specs.Programs.{AreTerminalsSound};
+ghost use Rattle.hs_nodes.specs.Graphs.{AreTerminalsSound};
 ghost use Rattle.hs_scan.specs.Telling.{TellsBlock, TellsChunk};
 
 use crate::gathering::gather_block;
-use crate::program::Program;
 use hs_bits::word_count_for;
 use hs_block::BlockEngine;
-use hs_nodes::{BLOCK_BYTES, Chunk, ChunkEnds, MarkSet};
+use hs_nodes::{BLOCK_BYTES, Chunk, ChunkEnds, Graph, MarkSet};
 use hs_reports::{Events, Identifier, IdentifierEnds, Tellings, settle_block};
 use std::alloc::{AllocError, Global};
 
@@ -35,7 +35,8 @@ impl Known {
     /// Room for so many identifiers. The only error is want of memory.
     pub fn new(alloc: Global, count: usize) -> Result<Known, AllocError>
         requires { count < 2 ^ 32 }
-        ensures { IfOk result (λ known. FitsKnown count known) }
+        ensures fits { IfOk result (λ known. FitsKnown count known) }
+        ensures no_ends { IfOk result (λ known. HasNoEnds known.ends) }
     {
         let words = word_count_for(count);
         Ok(Known {
@@ -49,7 +50,7 @@ impl Known {
 
 /// Settles the identifiers that have an end in a block, or had one behind the last byte before it, of which `last` is
 /// the place of the last byte.
-fn settle_known(identifiers: &[Identifier], known: &mut Known, last: usize)
+pub(crate) fn settle_known(identifiers: &[Identifier], known: &mut Known, last: usize)
     requires ends { length known.old.ends.words ≡ length identifiers.now }
     requires fits { FitsKnown (length identifiers.now) known.old }
     requires last { last < 64 }
@@ -67,7 +68,7 @@ fn settle_known(identifiers: &[Identifier], known: &mut Known, last: usize)
 
 /// Reports what a block of a chunk decides, by the ends that the nodes give.
 fn tell_known<E: BlockEngine, V: Events>(
-    program: &Program<E>,
+    graph: &Graph<E>,
     chunk: &Chunk,
     marks: &MarkSet,
     ends: &[ChunkEnds],
@@ -76,25 +77,25 @@ fn tell_known<E: BlockEngine, V: Events>(
     known: &mut Known,
     events: &mut V,
 )
-    requires sound { AreTerminalsSound E.meaning program.now }
-    requires few { length program.now.table.nodes.items < 2 ^ 32 }
-    requires ends { length ends.now ≡ length program.now.table.nodes.items }
-    requires marks { length program.now.table.nodes.items ≤ mark_room marks.now }
-    requires below { (k : ℕ) → is_marked marks.now k ≡ true → k < length program.now.table.nodes.items }
-    requires rest { (k : ℕ) → k < length program.now.table.nodes.items → is_marked marks.now k ≡ false →
+    requires sound { AreTerminalsSound graph.now }
+    requires few { length graph.now.table.nodes.items < 2 ^ 32 }
+    requires ends { length ends.now ≡ length graph.now.table.nodes.items }
+    requires marks { length graph.now.table.nodes.items ≤ mark_room marks.now }
+    requires below { (k : ℕ) → is_marked marks.now k ≡ true → k < length graph.now.table.nodes.items }
+    requires rest { (k : ℕ) → k < length graph.now.table.nodes.items → is_marked marks.now k ≡ false →
         node_ends ends.now k ≡ nowhere }
     requires there { 64 * number < length chunk.now.bytes.now }
-    requires fits { FitsKnown (length program.now.identifiers.items) known.old }
+    requires fits { FitsKnown (length graph.now.identifiers.items) known.old }
     requires pending { IsPending known.old }
-    ensures fits { FitsKnown (length program.now.identifiers.items) known.new }
+    ensures fits { FitsKnown (length graph.now.identifiers.items) known.new }
     ensures pending { IsPending known.new }
-    ensures told { Takes V.tells events.old events.new (TellsBlock E.meaning program.now chunk.now.bytes.now
+    ensures told { Takes V.tells events.old events.new (TellsBlock E.meaning graph.now chunk.now.bytes.now
         chunk.now.at ends.now all.now number known.old.told.items known.old.here.items known.new.told.items
         known.new.here.items) }
 {
     let own = chunk.block(number);
-    gather_block(program, marks, ends, all, number, chunk.at, &mut known.ends);
-    settle_known(&program.identifiers, known, own.len() - 1);
+    gather_block(graph, marks, ends, all, number, chunk.at, &mut known.ends);
+    settle_known(&graph.identifiers, known, own.len() - 1);
     known
         .tellings
         .tell(chunk.at + (BLOCK_BYTES * number) as u64, events);
@@ -103,7 +104,7 @@ fn tell_known<E: BlockEngine, V: Events>(
 /// Reports what a chunk decides, by where the nodes are left in it. Nodes that aren't marked are left nowhere; `all` is
 /// everywhere.
 pub(crate) fn tell_chunk<E: BlockEngine, V: Events>(
-    program: &Program<E>,
+    graph: &Graph<E>,
     chunk: &Chunk,
     marks: &MarkSet,
     ends: &[ChunkEnds],
@@ -111,22 +112,22 @@ pub(crate) fn tell_chunk<E: BlockEngine, V: Events>(
     known: &mut Known,
     events: &mut V,
 )
-    requires sound { AreTerminalsSound E.meaning program.now }
-    requires few { length program.now.table.nodes.items < 2 ^ 32 }
-    requires ends { length ends.now ≡ length program.now.table.nodes.items }
-    requires marks { length program.now.table.nodes.items ≤ mark_room marks.now }
-    requires below { (k : ℕ) → is_marked marks.now k ≡ true → k < length program.now.table.nodes.items }
-    requires rest { (k : ℕ) → k < length program.now.table.nodes.items → is_marked marks.now k ≡ false →
+    requires sound { AreTerminalsSound graph.now }
+    requires few { length graph.now.table.nodes.items < 2 ^ 32 }
+    requires ends { length ends.now ≡ length graph.now.table.nodes.items }
+    requires marks { length graph.now.table.nodes.items ≤ mark_room marks.now }
+    requires below { (k : ℕ) → is_marked marks.now k ≡ true → k < length graph.now.table.nodes.items }
+    requires rest { (k : ℕ) → k < length graph.now.table.nodes.items → is_marked marks.now k ≡ false →
         node_ends ends.now k ≡ nowhere }
-    requires fits { FitsKnown (length program.now.identifiers.items) known.old }
+    requires fits { FitsKnown (length graph.now.identifiers.items) known.old }
     requires pending { IsPending known.old }
-    ensures fits { FitsKnown (length program.now.identifiers.items) known.new }
+    ensures fits { FitsKnown (length graph.now.identifiers.items) known.new }
     ensures pending { IsPending known.new }
-    ensures told { Takes V.tells events.old events.new (TellsChunk E.meaning program.now chunk.now.bytes.now
+    ensures told { Takes V.tells events.old events.new (TellsChunk E.meaning graph.now chunk.now.bytes.now
         chunk.now.at ends.now all.now known.old.told.items known.old.here.items known.new.told.items
         known.new.here.items) }
 {
     for j in 0..chunk.blocks() {
-        tell_known(program, chunk, marks, ends, all, j, known, events);
+        tell_known(graph, chunk, marks, ends, all, j, known, events);
     }
 }

@@ -1,62 +1,65 @@
 //! Chunks in a row.
 
-ghost use Rattle.std.specs.Prelude.{◌≡◌, ◌+◌, ◌<◌, ◌≤◌, ◌^◌, ℕ, length, slice_index};
+ghost use Rattle.std.specs.Prelude.{◌≡◌, ◌+◌, ◌*◌, ◌<◌, ◌≤◌, ◌^◌, ℕ, length, slice_index};
 ghost use Rattle.hs_layout.specs.Layouts.{laid_size};
+ghost use Rattle.hs_literals.specs.Held.{held};
 ghost use Rattle.hs_nodes.specs.Contexts.{AreChunkContexts};
-ghost use Rattle.hs_nodes.specs.Walks.{AreNodesWell, IsOutside};
+ghost use Rattle.hs_nodes.specs.Walks.{AreNodesWell, IsOutside, IsTableSound};
 ghost use Rattle.hs_reports.specs.Events.{Takes};
 ghost use Rattle.hs_scan.specs.Knowing.{IsPending};
-ghost use Rattle.hs_scan.specs.Programs.{IsProgramSound};
+ghost use Rattle.hs_nodes.specs.Graphs.{AreTerminalsSound, IsGraphSound};
+ghost use Rattle.hs_scan.specs.Past.{KeepsEarly};
 ghost use Rattle.hs_scan.specs.Scans.{Scans, ScansChunk};
-ghost use Rattle.hs_scan.specs.Scratches.{ServesProgram, HasNoHits, KeepsTables, stand_of};
+ghost use Rattle.hs_scan.specs.Scratches.{FitsGraph, HasNoHits, KeepsAll, KeepsTables, stand_of};
 
 use crate::chunk::take_chunk;
 use crate::past::{prev_of, push_past};
-use crate::program::Program;
 use crate::scratch::{Scratch, fill, find_hits, forget};
 use hs_block::BlockEngine;
 use hs_engine::Steps;
 use hs_layout::Layout;
-use hs_nodes::{Chunk, Found, MAX_CHUNK};
+use hs_literals::Literals;
+use hs_nodes::{Chunk, Found, Graph, MAX_CHUNK};
 use hs_reports::Events;
 use std::sync::ledger::Ledger;
 
 /// Takes a chunk, of which the scratch has the contexts, and where the literals end in it.
 fn run_chunk<E: BlockEngine, V: Events, L: Ledger>(
-    program: &Program<E>,
-    layout: &Layout,
+    graph: &Graph<E>,
     region: &mut [u8],
     scratch: &mut Scratch,
     chunk: &Chunk,
     events: &mut V,
     steps: &mut Steps<L>,
 )
-    requires sound { IsProgramSound E.meaning program.now layout.now }
-    requires sized { length region.old ≡ laid_size layout.now }
-    requires well { AreNodesWell E.meaning program.now.table region.old chunk.now.at }
-    requires fits { ServesProgram program.now scratch.old }
+    requires table { IsTableSound E.meaning graph.now.table scratch.old.rows.count (length region.old) }
+    requires sound { AreTerminalsSound graph.now }
+    requires few { length graph.now.table.nodes.items < 2 ^ 32 }
+    requires well { AreNodesWell E.meaning graph.now.table region.old chunk.now.at }
+    requires room { FitsGraph graph.now scratch.old }
     requires pending { IsPending scratch.old.course.known }
     requires contexts { AreChunkContexts scratch.old.contexts.items chunk.now.prev chunk.now.at chunk.now.bytes.now }
     ensures len { length region.new ≡ length region.old }
-    ensures well { AreNodesWell E.meaning program.now.table region.new
+    ensures well { AreNodesWell E.meaning graph.now.table region.new
         (chunk.now.at + length chunk.now.bytes.now) }
-    ensures outside { (i : ℕ) → IsOutside program.now.table.nodes.items i →
+    ensures outside { (i : ℕ) → IsOutside graph.now.table.nodes.items i →
         slice_index region.new i ≡ slice_index region.old i }
-    ensures fits { ServesProgram program.now scratch.new }
+    ensures room { FitsGraph graph.now scratch.new }
     ensures pending { IsPending scratch.new.course.known }
+    ensures ticks { steps.new ≤
+        steps.old + 16 * (length graph.now.table.nodes.items * (length chunk.now.bytes.now + 1)) }
     ensures keeps { KeepsTables scratch.old scratch.new }
-    ensures scans { Takes V.tells events.old events.new (ScansChunk E.meaning program.now region.old region.new
-        chunk.now.prev chunk.now.at chunk.now.bytes.now scratch.old.hits.items scratch.old.course.known.told.items
-        scratch.old.course.known.here.items scratch.new.course.known.told.items
+    ensures scans { Takes V.tells events.old events.new (ScansChunk E.meaning graph.now region.old region.new
+        chunk.now.prev chunk.now.at chunk.now.past.now chunk.now.bytes.now scratch.old.hits.items
+        scratch.old.course.known.told.items scratch.old.course.known.here.items scratch.new.course.known.told.items
         scratch.new.course.known.here.items) }
 {
-    let _ = layout.fields();
     let found = Found {
         contexts: &scratch.contexts,
         hits: &scratch.hits,
     };
     take_chunk(
-        program,
+        graph,
         chunk,
         &found,
         region,
@@ -69,7 +72,8 @@ fn run_chunk<E: BlockEngine, V: Events, L: Ledger>(
 
 /// Takes up to 512 bytes.
 pub(crate) fn scan_chunk<E: BlockEngine, V: Events, L: Ledger>(
-    program: &Program<E>,
+    graph: &Graph<E>,
+    literals: &Literals,
     layout: &Layout,
     region: &mut [u8],
     scratch: &mut Scratch,
@@ -77,41 +81,48 @@ pub(crate) fn scan_chunk<E: BlockEngine, V: Events, L: Ledger>(
     events: &mut V,
     steps: &mut Steps<L>,
 )
-    requires sound { IsProgramSound E.meaning program.now layout.now }
+    requires sound { IsGraphSound E.meaning graph.now (held literals.now) layout.now }
     requires sized { length region.old ≡ laid_size layout.now }
-    requires well { AreNodesWell E.meaning program.now.table region.old scratch.old.at }
-    requires fits { ServesProgram program.now scratch.old }
+    requires well { AreNodesWell E.meaning graph.now.table region.old scratch.old.at }
+    requires room { FitsGraph graph.now scratch.old }
+    requires rows { scratch.old.rows.count ≡ length (held literals.now) }
     requires pending { IsPending scratch.old.course.known }
     requires none { HasNoHits scratch.old }
     requires few { length bytes.now ≤ 512 }
-    requires room { scratch.old.at + length bytes.now ≤ 2 ^ 63 }
+    requires small { scratch.old.at + length bytes.now ≤ 2 ^ 63 }
     ensures len { length region.new ≡ length region.old }
-    ensures well { AreNodesWell E.meaning program.now.table region.new scratch.new.at }
-    ensures outside { (i : ℕ) → IsOutside program.now.table.nodes.items i →
+    ensures well { AreNodesWell E.meaning graph.now.table region.new scratch.new.at }
+    ensures outside { (i : ℕ) → IsOutside graph.now.table.nodes.items i →
         slice_index region.new i ≡ slice_index region.old i }
-    ensures fits { ServesProgram program.now scratch.new }
+    ensures room { FitsGraph graph.now scratch.new }
+    ensures keeps { KeepsAll scratch.old scratch.new }
     ensures pending { IsPending scratch.new.course.known }
     ensures none { HasNoHits scratch.new }
     ensures at { scratch.new.at ≡ scratch.old.at + length bytes.now }
-    ensures scans { Takes V.tells events.old events.new (Scans E.meaning program.now
-        (stand_of scratch.old region.old) (stand_of scratch.new region.new) bytes.now) }
+    ensures ticks { steps.new ≤ steps.old + 16 * (length graph.now.table.nodes.items * (length bytes.now + 1)) }
+    ensures early { KeepsEarly scratch.old.at scratch.new.at scratch.old.past scratch.new.past }
+    ensures scans { Takes V.tells events.old events.new (Scans E.meaning graph.now
+        (held literals.now) (stand_of scratch.old region.old) (stand_of scratch.new region.new) bytes.now) }
 {
-    find_hits(program, layout, scratch, bytes);
+    find_hits(literals, scratch, bytes);
+    let past = scratch.past;
     let chunk = Chunk {
         bytes,
-        prev: prev_of(scratch.at, &scratch.past),
+        past: &past,
+        prev: prev_of(scratch.at, &past),
         at: scratch.at,
     };
-    fill(program, scratch, &chunk);
-    run_chunk(program, layout, region, scratch, &chunk, events, steps);
-    forget(program, scratch);
+    fill(scratch, &chunk);
+    run_chunk(graph, region, scratch, &chunk, events, steps);
+    forget(scratch);
     push_past(&mut scratch.past, bytes);
     scratch.at += bytes.len() as u64;
 }
 
 /// Takes bytes, 512 at a time.
 pub(crate) fn scan_bytes<E: BlockEngine, V: Events, L: Ledger>(
-    program: &Program<E>,
+    graph: &Graph<E>,
+    literals: &Literals,
     layout: &Layout,
     region: &mut [u8],
     scratch: &mut Scratch,
@@ -119,29 +130,34 @@ pub(crate) fn scan_bytes<E: BlockEngine, V: Events, L: Ledger>(
     events: &mut V,
     steps: &mut Steps<L>,
 )
-    requires sound { IsProgramSound E.meaning program.now layout.now }
+    requires sound { IsGraphSound E.meaning graph.now (held literals.now) layout.now }
     requires sized { length region.old ≡ laid_size layout.now }
-    requires well { AreNodesWell E.meaning program.now.table region.old scratch.old.at }
-    requires fits { ServesProgram program.now scratch.old }
+    requires well { AreNodesWell E.meaning graph.now.table region.old scratch.old.at }
+    requires room { FitsGraph graph.now scratch.old }
+    requires rows { scratch.old.rows.count ≡ length (held literals.now) }
     requires pending { IsPending scratch.old.course.known }
     requires none { HasNoHits scratch.old }
-    requires room { scratch.old.at + length bytes.now ≤ 2 ^ 63 }
+    requires small { scratch.old.at + length bytes.now ≤ 2 ^ 63 }
     ensures len { length region.new ≡ length region.old }
-    ensures well { AreNodesWell E.meaning program.now.table region.new scratch.new.at }
-    ensures outside { (i : ℕ) → IsOutside program.now.table.nodes.items i →
+    ensures well { AreNodesWell E.meaning graph.now.table region.new scratch.new.at }
+    ensures outside { (i : ℕ) → IsOutside graph.now.table.nodes.items i →
         slice_index region.new i ≡ slice_index region.old i }
-    ensures fits { ServesProgram program.now scratch.new }
+    ensures room { FitsGraph graph.now scratch.new }
+    ensures keeps { KeepsAll scratch.old scratch.new }
     ensures pending { IsPending scratch.new.course.known }
     ensures none { HasNoHits scratch.new }
     ensures at { scratch.new.at ≡ scratch.old.at + length bytes.now }
-    ensures scans { Takes V.tells events.old events.new (Scans E.meaning program.now
-        (stand_of scratch.old region.old) (stand_of scratch.new region.new) bytes.now) }
+    ensures ticks { steps.new ≤ steps.old + 32 * (length graph.now.table.nodes.items * length bytes.now) }
+    ensures early { KeepsEarly scratch.old.at scratch.new.at scratch.old.past scratch.new.past }
+    ensures scans { Takes V.tells events.old events.new (Scans E.meaning graph.now
+        (held literals.now) (stand_of scratch.old region.old) (stand_of scratch.new region.new) bytes.now) }
 {
     let mut from = 0;
     while from < bytes.len() {
         let end = (from + MAX_CHUNK).min(bytes.len());
         scan_chunk(
-            program,
+            graph,
+            literals,
             layout,
             region,
             scratch,

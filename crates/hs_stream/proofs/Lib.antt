@@ -1,3 +1,6 @@
-pub mod WriteLemmas
+pub mod RunningLemmas
+pub mod EmptyLemmas
 pub mod JoinLemmas
+pub mod WriteLemmas
 pub mod StandLemmas
+pub mod SavingLemmas

@@ -1,5 +1,9 @@
+pub mod Collecting
 pub mod Scratches
-pub mod Fitting
+pub mod Leading
 pub mod Streams
 pub mod Writing
 pub mod Standing
+pub mod Foreign
+pub mod Saving
+pub mod SavingLaws

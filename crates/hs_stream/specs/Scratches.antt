@@ -1,9 +1,10 @@
 -- Which scratch serves the streams of a database.
-use Rattle.hs_compile.specs.declared.database.Database.{Database}
-use Rattle.hs_compile.specs.Databases.{program_of}
-use Rattle.hs_whole_run.specs.Feeding.{FitsScratch}
+use Rattle.std.specs.Prelude.{length}
+use Rattle.hs_compile.specs.Databases.{Compiled, graph_of, literals_of}
+use Rattle.hs_literals.specs.Held.{held}
+use Rattle.hs_scan.specs.Scratches.{ServesGraph}
 use Rattle.hs_stream.specs.declared.scratch.Scratch.{Scratch}
 
--- it has the room that the program of the database takes
-abbrev pub IsScratchOf : Database → Scratch → Type 0
-IsScratchOf db scratch = FitsScratch (program_of db) scratch.room
+-- it has the room that the graph of the database takes
+abbrev pub IsScratchOf : Compiled → Scratch → Type 0
+IsScratchOf db scratch = ServesGraph (graph_of db) (length (held (literals_of db))) scratch.room

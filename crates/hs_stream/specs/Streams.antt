@@ -1,32 +1,45 @@
 -- The streams of a database.
-use Rattle.std.specs.Prelude.{ℕ, List}
+use Rattle.std.specs.Prelude.{◌≡◌, ◌↔◌, ℕ, ◌<◌, List, []}
+use Rattle.hs_base.specs.Lists.{Each}
+use Rattle.hs_base.specs.Regions.{Plan, IsWellFormed, region_offset}
 use Rattle.hs_base.specs.Told.{Pair}
-use Rattle.hs_compile.specs.declared.database.Database.{Database}
-use Rattle.hs_compile.specs.Databases.{program_of, digest_of as database_digest}
-use Rattle.hs_whole_run.specs.States.{state_offset}
-use Rattle.hs_whole_run.specs.Feeding.{Feeds, Finishes}
+use Rattle.hs_compile.specs.Databases.{Compiled, IsDatabaseOf, digest_of as database_digest}
 use Rattle.hs_stream.specs.declared.stream.Stream.{Stream}
-use Rattle.hs_compile.specs.Engines.{meaning_of}
-use Rattle.hs_stream.specs.Fitting.{state_of, Fits}
-use Rattle.hs_stream.specs.Writing.{IsStart}
+use Rattle.hs_stream.specs.Leading.{IsBehind, IsRegionOf, LeadsTo, EndsWith}
+
+-- what is kept of its bytes
+abbrev pub region_of : Stream → List ℕ
+region_of stream = stream.region.items
+
+-- the digest of its database
+abbrev pub digest_of : Stream → List ℕ
+digest_of stream = stream.digest
 
 -- how many bytes have come
 abbrev pub offset_of : Stream → ℕ
-offset_of stream = state_offset (state_of stream)
+offset_of stream = region_offset (region_of stream)
 
--- the stream is one of the database: it has the digest, and its state fits the program
-abbrev pub IsStreamOf : Database → Stream → Type 0
-IsStreamOf db stream = Fits meaning_of (program_of db) (database_digest db) stream
+-- The stream is one of the database: it has the digest, and its region is well formed.
+pub record IsStreamOf (db : Compiled) (stream : Stream) : Type 0 where
+  pub digest : digest_of stream ≡ database_digest db
+  pub region : IsRegionOf db (region_of stream)
 
--- its state is that of the empty stream
-abbrev pub IsFresh : Database → Stream → Type 0
-IsFresh db stream = IsStart meaning_of (program_of db) (state_of stream)
+-- That is so just where its region is well formed for the plan of the database.
+abbrev pub StreamsAreWellFormed : Type 0
+StreamsAreWellFormed =
+    (db : Compiled) (plan : Plan) (stream : Stream) →
+    IsDatabaseOf db plan →
+    Each (λ b. b < 256) (region_of stream) →
+    IsStreamOf db stream ↔ ((digest_of stream ≡ database_digest db) × IsWellFormed plan (region_of stream))
 
--- The bytes lead from the one to the other, and report these pairs: behind each history that leads to the one, the
--- state of the other is that of the longer stream, and the pairs are the new reports.
-abbrev pub Writes : Database → Stream → Stream → List ℕ → List Pair → Type 0
-Writes db old new bytes pairs = Feeds meaning_of (program_of db) (state_of old) (state_of new) bytes pairs
+-- its region is that of the empty stream
+abbrev pub IsFresh : Compiled → Stream → Type 0
+IsFresh db stream = (plan : Plan) → IsDatabaseOf db plan → IsBehind plan [] (region_of stream)
 
--- the pairs are the last reports of each stream that leads to its state
-abbrev pub Closes : Database → Stream → List Pair → Type 0
-Closes db stream pairs = Finishes meaning_of (program_of db) (state_of stream) pairs
+-- the bytes lead from the one to the other, and report these pairs
+abbrev pub Writes : Compiled → Stream → Stream → List ℕ → List Pair → Type 0
+Writes db old new bytes pairs = LeadsTo db (region_of old) (region_of new) bytes pairs
+
+-- the pairs are the last reports of each stream that leads to its region
+abbrev pub Closes : Compiled → Stream → List Pair → Type 0
+Closes db stream pairs = EndsWith db (region_of stream) pairs

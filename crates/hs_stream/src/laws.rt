@@ -1,9 +1,12 @@
-//! Laws over the definitions of `specs/`: each is the contract of a function that does nothing. Those over lists of
-//! writes hold whatever engine runs the expressions.
-ghost use Rattle.hs_stream.specs.Standing.{FreshStands, WriteMoves, EndIsLast};
-ghost use Rattle.hs_stream.specs.Writing.{WritesJoin, CutsTellNothing, StartsAreAlike};
+//! Laws over the definitions of `specs/`: each is the contract of a function that does nothing.
+ghost use Rattle.hs_stream.specs.Standing.{EndIsLast, FreshStands, WriteMoves};
+ghost use Rattle.hs_stream.specs.Streams.{StreamsAreWellFormed};
+ghost use Rattle.hs_stream.specs.Writing.{CutsTellNothing, StartsAreAlike, WritesJoin};
 
-use hs_engine::Engine;
+/// A stream is one of a database just where it has its digest, and its region is well formed for the database's plan.
+pub fn streams_are_well_formed()
+    ensures { StreamsAreWellFormed }
+{}
 
 /// A stream that was opened, or reset, stands behind no byte.
 pub fn fresh_stands()
@@ -20,18 +23,18 @@ pub fn end_is_last()
     ensures { EndIsLast }
 {}
 
-/// Any list of writes reports in total what one write of their bytes reports, and leads to the same state.
-pub fn writes_join<E: Engine>()
-    ensures { WritesJoin E.meaning }
+/// Any list of writes reports in total what one write of their bytes reports, and leads to the same stream.
+pub fn writes_join()
+    ensures { WritesJoin }
 {}
 
-/// Two states of one stream, to which the same bytes are written in whatever pieces, report the same, and at an end the
-/// same.
-pub fn cuts_tell_nothing<E: Engine>()
-    ensures { CutsTellNothing E.meaning }
+/// Two streams behind the same bytes, to which the same bytes are written in whatever pieces, report the same, keep the
+/// same region, and report the same at an end.
+pub fn cuts_tell_nothing()
+    ensures { CutsTellNothing }
 {}
 
 /// A stream that was reset goes on as one that was opened.
-pub fn starts_are_alike<E: Engine>()
-    ensures { StartsAreAlike E.meaning }
+pub fn starts_are_alike()
+    ensures { StartsAreAlike }
 {}

@@ -1,14 +1,16 @@
 //! Memory that calls on streams use.
 ghost use Rattle.std.specs.Prelude.{◌↔◌, IsTrue, IfOk};
+ghost use Rattle.hs_scan.specs.Scratches.{IsIdle};
 
 use hs_compile::Database;
 use std::alloc::{AllocError, Global};
 
 /// Memory that a call on a stream uses. Nothing in it outlives the call, so one scratch serves all streams of the
 /// databases that it fits.
-#[derive(Debug, Drop)]
+#[derive(Drop)]
 pub struct Scratch {
-    pub(crate) room: hs_whole_run::Scratch,
+    pub(crate) room: hs_scan::Scratch,
+    ghost idle: { IsIdle room },
 }
 
 impl Scratch {
@@ -19,7 +21,7 @@ impl Scratch {
         ensures { IfOk result (IsScratchOf db.now) }
     {
         Ok(Scratch {
-            room: hs_whole_run::Scratch::new(alloc, db.program())?,
+            room: hs_scan::Scratch::new(alloc, db.graph(), db.literals())?,
         })
     }
 
@@ -27,6 +29,6 @@ impl Scratch {
     pub fn fits(&self, db: &Database) -> bool
         ensures { IsTrue result ↔ IsScratchOf db.now self.now }
     {
-        self.room.fits(db.program())
+        self.room.fits(db.graph(), db.literals())
     }
 }

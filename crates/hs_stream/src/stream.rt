@@ -1,16 +1,20 @@
 //! One stream.
-ghost use Rattle.std.specs.Prelude.{◌≡◌, ◌↔◌, ◌+◌, ◌*◌, ◌<◌, ◌≤◌, length, IsTrue, IsErr, IfOk, OnOk, OnErr};
-ghost use Rattle.hs_compile.specs.Databases.{program_of};
-ghost use Rattle.hs_whole.specs.Programs.{roles_of};
-ghost use Rattle.hs_whole_run.specs.Events.{Takes};
+ghost use Rattle.std.specs.Prelude.{◌≡◌, ◌↔◌, ◌+◌, ◌*◌, ◌<◌, ◌≤◌, length, replicate, IsTrue, IsErr, IfOk, OnOk, OnErr};
+ghost use Rattle.std.specs.Prelude.{MatchResult, []};
 ghost use Rattle.hs_base.specs.Offsets.{greatest_offset};
+ghost use Rattle.hs_compile.specs.Databases.{nodes_of};
+ghost use Rattle.hs_reports.specs.Events.{Takes};
 ghost use Rattle.hs_stream.specs.Scratches.{IsScratchOf};
 
+use crate::fault::ExpandFault;
+use crate::running::{is_region, run_bytes, run_end};
+use crate::saving::{file_of, region_in};
 use crate::scratch::Scratch;
 use hs_base::MAX_OFFSET;
+use hs_bits::clear_bits;
 use hs_compile::Database;
 use hs_engine::Steps;
-use hs_whole_run::{Events, State, feed, finish};
+use hs_reports::Events;
 use std::alloc::{AllocError, Global};
 use std::sync::ledger::Ledger;
 use thiserror::Error;
@@ -23,13 +27,16 @@ pub struct StreamFull;
 /// A stream that is scanned for the expressions of a database: what is kept of its bytes, and which database it is.
 #[derive(Debug, Drop)]
 pub struct Stream {
-    state: State,
+    /// All that is kept of its bytes.
+    region: Vec<u8>,
     /// The digest of the database.
     digest: [u8; 32],
 }
 
 impl Stream {
-    ghost use Rattle.hs_stream.specs.Streams.{offset_of, IsStreamOf, IsFresh, Writes, Closes};
+    ghost use Rattle.hs_stream.specs.Foreign.{MayClose, MayWrite};
+    ghost use Rattle.hs_stream.specs.Saving.{IsExpanded, IsExpandFaultOf, IsSaved};
+    ghost use Rattle.hs_stream.specs.Streams.{offset_of, region_of, IsStreamOf, IsFresh, Writes, Closes};
 
     /// A stream of which no byte has come. No other call on a stream takes memory. The error is want of it.
     pub fn open(alloc: Global, db: &Database) -> Result<Stream, AllocError>
@@ -37,14 +44,14 @@ impl Stream {
         ensures offset { IfOk result (λ stream. offset_of stream ≡ 0) }
         ensures fresh { IfOk result (IsFresh db.now) }
     {
+        let region = zeros(alloc, db.layout().size())?;
         Ok(Stream {
-            state: State::new(alloc, db.program())?,
+            region,
             digest: *db.digest(),
         })
     }
 
-    /// Takes the next bytes, and reports what they decide, in the order in which they do. A step is counted for each
-    /// expression and byte at most.
+    /// Takes the next bytes, and reports what they decide, in the order in which they do.
     ///
     /// # Errors
     ///
@@ -67,19 +74,14 @@ impl Stream {
         ensures untold { OnErr result (events.new ≡ events.old) }
         ensures offset { OnOk result (offset_of self.new ≡ offset_of self.old + length bytes.now) }
         ensures told { OnOk result (Takes V.tells events.old events.new (Writes db.now self.old self.new bytes.now)) }
-        ensures ticks { steps.new ≤ steps.old + length (roles_of (program_of db.now)) * length bytes.now }
+        ensures any { OnOk result (Takes V.tells events.old events.new (MayWrite db.now self.old self.new bytes.now)) }
+        ensures idle { bytes.now ≡ [] → (events.new ≡ events.old) × (self.new ≡ self.old) }
+        ensures ticks { steps.new ≤ steps.old + 48 * (length (nodes_of db.now) * length bytes.now) }
     {
-        if !has_room(self.state.offset(), bytes.len()) {
+        if !has_room(self.offset(db), bytes.len()) {
             return Err(StreamFull);
         }
-        feed(
-            db.program(),
-            &mut self.state,
-            &mut scratch.room,
-            bytes,
-            events,
-            steps,
-        );
+        run_bytes(db, &mut self.region, scratch, bytes, events, steps);
         Ok(())
     }
 
@@ -95,9 +97,11 @@ impl Stream {
         requires scratch { IsScratchOf db.now scratch.old }
         ensures scratch { IsScratchOf db.now scratch.new }
         ensures told { Takes V.tells events.old events.new (Closes db.now self) }
-        ensures ticks { steps.new ≡ steps.old }
+        ensures any { Takes V.tells events.old events.new (MayClose db.now self) }
+        ensures ticks { steps.new ≤ steps.old + 16 * length (nodes_of db.now) }
     {
-        finish(db.program(), &self.state, &mut scratch.room, events, steps);
+        let Stream { region, .. } = self;
+        run_end(db, &region, scratch, events, steps);
     }
 
     /// Ends the stream, and reports what only its end decides, by end, then identifier. It then goes on as a stream of
@@ -116,29 +120,78 @@ impl Stream {
         ensures offset { offset_of self.new ≡ 0 }
         ensures fresh { IsFresh db.now self.new }
         ensures told { Takes V.tells events.old events.new (Closes db.now self.old) }
-        ensures ticks { steps.new ≡ steps.old }
+        ensures any { Takes V.tells events.old events.new (MayClose db.now self.old) }
+        ensures ticks { steps.new ≤ steps.old + 16 * length (nodes_of db.now) }
     {
-        let program = db.program();
-        finish(program, &self.state, &mut scratch.room, events, steps);
-        self.state.clear(program);
+        run_end(db, &self.region, scratch, events, steps);
+        clear_bits(&mut self.region);
     }
 
-    /// Whether the stream is one of the database: it has its digest, and its state fits what the database runs.
+    /// The stream as bytes, from which [`Stream::expand`] makes it anew: a name and a version, the digest of the
+    /// database, and all that is kept of the stream. The error is want of memory.
+    pub fn save(&self, alloc: Global, db: &Database) -> Result<Vec<u8>, AllocError>
+        requires fits { IsStreamOf db.now self.now }
+        ensures { IfOk result (λ bytes. IsSaved db.now bytes.items (region_of self.now)) }
+    {
+        file_of(alloc, db, &self.region)
+    }
+
+    /// The stream that was saved as these bytes. It goes on as if it had never been saved.
+    ///
+    /// # Errors
+    ///
+    /// `Form` where the bytes haven't the form of a state file, with the length of their longest beginning that begins
+    /// one. `Version` where the form is there with another version. `OtherDatabase` where form and version are there
+    /// with the digest of another database. Behind these `Form` again: 38 where the length in the file isn't that of
+    /// the database's regions, else the place in the file of the first field of the region that breaks its rule.
+    /// `Memory` is want of memory.
+    pub fn expand(alloc: Global, db: &Database, bytes: &[u8]) -> Result<Stream, ExpandFault>
+        ensures { MatchResult result
+            (λ stream. IsExpanded db.now bytes.now stream)
+            (λ fault. IsExpandFaultOf db.now bytes.now fault) }
+    {
+        let kept = match region_in(db, bytes) {
+            Ok(kept) => kept,
+            Err(fault) => return Err(fault),
+        };
+        let Ok(region) = kept.to_vec(alloc) else {
+            return Err(ExpandFault::Memory);
+        };
+        let digest = *db.digest();
+        Ok(Stream { region, digest })
+    }
+
+    /// Whether the stream is one of the database: it has its digest, and its region is well formed for it.
     pub fn fits(&self, db: &Database) -> bool
         ensures { IsTrue result ↔ IsStreamOf db.now self.now }
     {
         if self.digest != *db.digest() {
             return false;
         }
-        self.state.fits(db.program())
+        is_region(db, &self.region)
     }
 
     /// How many bytes of the stream, which is one of the database, have come.
-    pub fn offset(&self, _db: &Database) -> u64
+    pub fn offset(&self, db: &Database) -> u64
+        requires fits { IsStreamOf db.now self.now }
         ensures { result ≡ offset_of self.now }
     {
-        self.state.offset()
+        db.layout().offset(&self.region)
     }
+
+    /// All that is kept of its bytes.
+    pub fn region(&self) -> &[u8]
+        ensures { result.now ≡ region_of self.now }
+    {
+        &self.region
+    }
+}
+
+/// So many bytes 0. The error is want of memory.
+fn zeros(alloc: Global, count: usize) -> Result<Vec<u8>, AllocError>
+    ensures { IfOk result (λ bytes. bytes.items ≡ replicate count 0) }
+{
+    vec![in alloc; 0u8; count]
 }
 
 /// Whether so many bytes may come at the offset.

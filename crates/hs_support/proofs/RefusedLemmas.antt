@@ -1,16 +1,28 @@
 -- Which refusal is the one of least number.
-use Rattle.std.proofs.Common.{◌≡◌, ℕ, ◌<◌, ◌≤◌, true, false, [], arith}
+use Rattle.std.proofs.Common.{◌≡◌, ℕ, ◌<◌, ◌≤◌, true, false, [], Option, Some, None, refl, sym, ◌∙◌, arith}
+use Rattle.std.specs.Option.{option_map}
 use Rattle.hs_base.specs.declared.ext.Ext.{Ext}
 use Rattle.hs_base.specs.declared.flags.Flags.{Flags}
 use Rattle.hs_base.specs.declared.refusal.Refusal.{Refusal}
 use Rattle.hs_base.specs.declared.refusal.Refusal.TheVariants.{MatchesEmpty, EmbeddedEnd, PositionLimit, OffsetOrder, UnsupportedFlag, UnsupportedParameter}
+use Rattle.hs_base.specs.Chains.{chains_of}
 use Rattle.hs_base.specs.EndAssertions.{has_embedded_end}
 use Rattle.hs_base.specs.Refusals.{number_of}
 use Rattle.hs_base.specs.Spans.{Spans}
 use Rattle.hs_base.specs.Trees.{Tree}
-use Rattle.hs_expr.specs.Counts.{capped, positions}
+use Rattle.hs_expr.specs.Counts.{capped}
+use Rattle.hs_support.specs.PieceCounts.{first_excess_of}
 use Rattle.hs_support.specs.Support.{supported_flags, supported_parameters, IsOutside, IsLeastOutside}
-use Rattle.hs_support.specs.Refused.{most_positions, AllowsEmpty, HasFlagsFault, flag, parameter, HasRefusal, unsupported, matches_empty, embedded_end, position_limit, offset_order, IsLeast, IsSupported}
+use Rattle.hs_support.specs.Refused.{AllowsEmpty, HasFlagsFault, flag, parameter, HasRefusal, unsupported, matches_empty, embedded_end, position_limit, offset_order, IsLeast, IsSupported}
+
+-- the first excess, by what is told of it
+pub no-excess : (x : Option ℕ) → None ≡ option_map capped x → x ≡ None
+no-excess None told = refl
+no-excess (Some n) told = absurd (let e : None ≡ Some (capped n) = told in cc)
+
+pub some-excess : (x : Option ℕ) (told : ℕ) → Some told ≡ option_map capped x → (count : ℕ) × (x ≡ Some count) × (told ≡ capped count)
+some-excess None told is = absurd (let e : Some told ≡ None = is in cc)
+some-excess (Some n) told is = (n, refl, (let e : Some told ≡ Some (capped n) = is in cc))
 
 module _ (flags : Flags) (ext : Ext) where
   flag-below : (other : Refusal) → HasFlagsFault flags ext other → 4 ≤ number_of other
@@ -85,15 +97,15 @@ module _ (flags : Flags) (ext : Ext) where
           limit-below other (position_limit above) = omega arith
           limit-below other (offset_order above) = omega arith
 
-          pub limit-least : most_positions < positions tree → IsLeast (HasRefusal flags ext tree) (PositionLimit (capped (positions tree)))
-          limit-least above = record { has = position_limit above; least = limit-below }
+          pub limit-least : (count : ℕ) → first_excess_of (chains_of tree) ≡ Some count → IsLeast (HasRefusal flags ext tree) (PositionLimit (capped count))
+          limit-least count above = record { has = position_limit above; least = limit-below }
 
-          module _ (few : positions tree ≤ most_positions) where
+          module _ (few : first_excess_of (chains_of tree) ≡ None) where
             order-below : (other : Refusal) → HasRefusal flags ext tree other → 15 ≤ number_of other
             order-below other (unsupported r fault) = absurd (supported r fault)
             order-below other (matches_empty not_allowed spans) = absurd (not_empty not_allowed spans)
             order-below other (embedded_end has) = absurd (cc)
-            order-below other (position_limit above) = absurd (omega arith)
+            order-below other (position_limit {count = count} above) = absurd (let e : None ≡ Some count = sym few ∙ above in cc)
             order-below other (offset_order above) = omega arith
 
             pub order-least : ext.max_offset < ext.min_offset → IsLeast (HasRefusal flags ext tree) OffsetOrder
@@ -103,5 +115,5 @@ module _ (flags : Flags) (ext : Ext) where
             none-left order other (unsupported r fault) = supported r fault
             none-left order other (matches_empty not_allowed spans) = not_empty not_allowed spans
             none-left order other (embedded_end has) = absurd (cc)
-            none-left order other (position_limit above) = absurd (omega arith)
+            none-left order other (position_limit {count = count} above) = absurd (let e : None ≡ Some count = sym few ∙ above in cc)
             none-left order other (offset_order above) = absurd (omega arith)

@@ -1,13 +1,15 @@
 -- An expression has one refusal of each number at most, so one least refusal.
-use Rattle.std.proofs.Common.{◌≡◌, ℕ, ◌^◌, ◌≤◌, ◌⊎◌, ◌==◌, if◌then◌else◌, refl, sym, ap, ◌∙◌, inl, inr, arith}
+use Rattle.std.proofs.Common.{◌≡◌, ℕ, ◌^◌, ◌≤◌, ◌⊎◌, ◌==◌, if◌then◌else◌, Option, Some, None, refl, sym, ap, ◌∙◌, inl, inr, arith}
 use Rattle.std.proofs.lemmas.Bool.{cases_order}
 use Rattle.hs_base.specs.declared.ext.Ext.{Ext}
 use Rattle.hs_base.specs.declared.flags.Flags.{Flags}
 use Rattle.hs_base.specs.declared.refusal.Refusal.{Refusal}
 use Rattle.hs_base.specs.declared.refusal.Refusal.TheVariants.{MatchesEmpty, EmbeddedEnd, PositionLimit, OffsetOrder, UnsupportedFlag, UnsupportedParameter}
+use Rattle.hs_base.specs.Chains.{chains_of}
 use Rattle.hs_base.specs.Refusals.{number_of}
 use Rattle.hs_base.specs.Trees.{Tree}
-use Rattle.hs_expr.specs.Counts.{capped, positions}
+use Rattle.hs_expr.specs.Counts.{capped}
+use Rattle.hs_support.specs.PieceCounts.{first_excess_of}
 use Rattle.hs_support.specs.Support.{IsLeastOutside}
 use Rattle.hs_support.proofs.RefusedLemmas.{fault-number}
 use Rattle.hs_support.specs.Refused.{HasFlagsFault, flag, parameter, HasRefusal, unsupported, matches_empty, embedded_end, position_limit, offset_order, IsLeast}
@@ -20,8 +22,13 @@ bit-unique supported bits a b one other = elim (cases_order one.place other.plac
   | inr (inr behind) ↦ absurd (one.least other.place behind other.outside)
 ]
 
+-- the number, where there is one
+abbrev count_in : Option ℕ → ℕ
+count_in None = 0
+count_in (Some n) = n
+
 module _ (flags : Flags) (ext : Ext) where
-  fault-unique : (first second : Refusal) → HasFlagsFault flags ext first → HasFlagsFault flags ext second → number_of first ≡ number_of second → first ≡ second
+  pub fault-unique : (first second : Refusal) → HasFlagsFault flags ext first → HasFlagsFault flags ext second → number_of first ≡ number_of second → first ≡ second
   fault-unique first second (flag a one) (flag b other) same = ap UnsupportedFlag (bit-unique _ _ a b one other)
   fault-unique first second (flag a one) (parameter b other) same = absurd (omega arith)
   fault-unique first second (parameter a one) (flag b other) same = absurd (omega arith)
@@ -31,14 +38,14 @@ module _ (flags : Flags) (ext : Ext) where
     -- the refusal of a number above those of flags and parameters
     abbrev later : ℕ → Refusal
     later number =
-        if number == 6 then MatchesEmpty else (if number == 7 then EmbeddedEnd else (if number == 9 then PositionLimit (capped (positions tree)) else OffsetOrder))
+        if number == 6 then MatchesEmpty else (if number == 7 then EmbeddedEnd else (if number == 9 then PositionLimit (capped (count_in (first_excess_of (chains_of tree)))) else OffsetOrder))
 
     -- a refusal is one of those, or that of a flag or a parameter
     kinds : (refusal : Refusal) → HasRefusal flags ext tree refusal → HasFlagsFault flags ext refusal ⊎ ((6 ≤ number_of refusal) × (refusal ≡ later (number_of refusal)))
     kinds refusal (unsupported r fault) = inl fault
     kinds refusal (matches_empty not_allowed spans) = inr ((let above_faults : 6 ≤ 6 = omega arith in above_faults), refl)
     kinds refusal (embedded_end has) = inr ((let above_faults : 6 ≤ 7 = omega arith in above_faults), refl)
-    kinds refusal (position_limit above) = inr ((let above_faults : 6 ≤ 9 = omega arith in above_faults), refl)
+    kinds refusal (position_limit above) = inr ((let above_faults : 6 ≤ 9 = omega arith in above_faults), ap (λ x. PositionLimit (capped (count_in x))) (sym above))
     kinds refusal (offset_order above) = inr ((let above_faults : 6 ≤ 15 = omega arith in above_faults), refl)
 
     -- of one number there is one

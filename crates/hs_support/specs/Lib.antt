@@ -1,5 +1,5 @@
 pub mod Support
-pub mod Refused
 pub mod PieceCounts
+pub mod Refused
 pub mod Waiting
 pub mod Walking

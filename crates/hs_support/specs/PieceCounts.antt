@@ -3,7 +3,10 @@ use Rattle.std.specs.Prelude.{ℕ, ◌≤◌, nat_lt, List, [], ◌∷◌, Optio
 use Rattle.std.specs.Option.{option_or}
 use Rattle.hs_base.specs.Chains.{Piece, lit, nfa, rep}
 use Rattle.hs_expr.specs.Counts.{positions}
-use Rattle.hs_support.specs.Refused.{most_positions}
+
+-- the most positions of a piece
+abbrev pub most_positions : ℕ
+most_positions = 512
 
 -- so many positions, where they are too many
 abbrev pub too_many : ℕ → Option ℕ

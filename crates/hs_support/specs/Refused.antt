@@ -1,20 +1,18 @@
 -- The refusals of an expression that go by its flags, its parameters and its tree.
-use Rattle.std.specs.Prelude.{◌≡◌, ℕ, ◌<◌, ◌≤◌, true, false, [], bit_and}
+use Rattle.std.specs.Prelude.{◌≡◌, ℕ, ◌<◌, ◌≤◌, true, false, [], Some, bit_and}
 use Rattle.hs_base.specs.declared.ext.Ext.{Ext}
 use Rattle.hs_base.specs.declared.flags.Flags.{Flags}
 use Rattle.hs_base.specs.declared.refusal.Refusal.{Refusal}
 use Rattle.hs_base.specs.declared.refusal.Refusal.TheVariants.{UnsupportedFlag, UnsupportedParameter, MatchesEmpty}
 use Rattle.hs_base.specs.declared.refusal.Refusal.TheVariants.{EmbeddedEnd, PositionLimit, OffsetOrder}
+use Rattle.hs_base.specs.Chains.{chains_of}
 use Rattle.hs_base.specs.EndAssertions.{has_embedded_end}
 use Rattle.hs_base.specs.Refusals.{number_of}
 use Rattle.hs_base.specs.Spans.{Spans}
 use Rattle.hs_base.specs.Trees.{Tree}
-use Rattle.hs_expr.specs.Counts.{capped, positions}
+use Rattle.hs_expr.specs.Counts.{capped}
+use Rattle.hs_support.specs.PieceCounts.{first_excess_of}
 use Rattle.hs_support.specs.Support.{supported_flags, supported_parameters, IsLeastOutside}
-
--- the most positions that an expression may have
-abbrev pub most_positions : ℕ
-most_positions = 512
 
 -- the flag ALLOWEMPTY is set (Hyperscan Developer's Reference Guide, `HS_FLAG_ALLOWEMPTY`)
 abbrev pub AllowsEmpty : Flags → Type 0
@@ -35,8 +33,10 @@ pub data HasRefusal (flags : Flags) (ext : Ext) (tree : Tree) : Refusal → Type
   matches_empty : (AllowsEmpty flags → ⊥) → Spans [] true tree 0 0 → HasRefusal flags ext tree MatchesEmpty
   -- bytes may be consumed behind an assertion of the stream's end
   embedded_end : has_embedded_end tree false ≡ true → HasRefusal flags ext tree EmbeddedEnd
-  -- it has too many positions
-  position_limit : most_positions < positions tree → HasRefusal flags ext tree (PositionLimit (capped (positions tree)))
+  -- a piece of its chains has too many positions; those of the first such piece are told
+  position_limit : {count : ℕ} →
+      first_excess_of (chains_of tree) ≡ Some count →
+      HasRefusal flags ext tree (PositionLimit (capped count))
   -- the least end offset is above the greatest
   offset_order : ext.max_offset < ext.min_offset → HasRefusal flags ext tree OffsetOrder
 

@@ -2,10 +2,10 @@
 use Rattle.std.specs.Prelude.{◌≡◌, ℕ, ◌+◌, ◌^◌, ◌<◌}
 use Rattle.std.specs.Int.{bit_at}
 
--- the flags that are supported, a bit each: CASELESS, DOTALL, MULTILINE, SINGLEMATCH and ALLOWEMPTY (Hyperscan
+-- the flags that are supported, a bit each: CASELESS, DOTALL, MULTILINE, SINGLEMATCH, ALLOWEMPTY and UTF8 (Hyperscan
 -- Developer's Reference Guide, "Compiling Patterns")
 abbrev pub supported_flags : ℕ
-supported_flags = 1 + 2 + 4 + 8 + 16
+supported_flags = 1 + 2 + 4 + 8 + 16 + 32
 
 -- the extended parameters that are supported, a bit each: the least and the greatest end offset (Hyperscan Developer's
 -- Reference Guide, `hs_expr_ext_t`)

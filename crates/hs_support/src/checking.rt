@@ -5,12 +5,13 @@ ghost use Rattle.hs_expr.specs.Meaning.{tree_of};
 ghost use Rattle.hs_support.specs.Refused.{AllowsEmpty, HasRefusal, IsSupported, IsLeast};
 
 use crate::fault::flags_fault;
-use hs_base::{Ext, Flags, MAX_POSITIONS, Refusal};
-use hs_expr::{Expr, has_embedded_end, matches_empty, positions};
+use crate::pieces::excess_positions;
+use hs_base::{Ext, Flags, Refusal};
+use hs_expr::{Expr, has_embedded_end, matches_empty};
 
 /// Looks for the refusals of an expression that go by its flags, its parameters and its tree: a flag or a parameter
 /// that isn't supported, a match of the empty text that no flag allows, bytes behind an assertion of the stream's end,
-/// too many positions, a least end offset above the greatest. The error is the one of least number.
+/// a piece with too many positions, a least end offset above the greatest. The error is the one of least number.
 pub fn check(expr: &Expr, flags: Flags, ext: Ext) -> Result<(), Refusal>
     ensures { MatchResult result (λ done. IsSupported flags ext (tree_of expr.now))
         (IsLeast (HasRefusal flags ext (tree_of expr.now))) }
@@ -24,8 +25,7 @@ pub fn check(expr: &Expr, flags: Flags, ext: Ext) -> Result<(), Refusal>
     if has_embedded_end(expr, false) {
         return Err(Refusal::EmbeddedEnd);
     }
-    let count = positions(expr);
-    if count > MAX_POSITIONS {
+    if let Some(count) = excess_positions(expr) {
         return Err(Refusal::PositionLimit(count));
     }
     if ext.min_offset > ext.max_offset {

@@ -11,7 +11,8 @@ pub const SUPPORTED_FLAGS: u16 = Flags::CASELESS.0
     | Flags::DOTALL.0
     | Flags::MULTILINE.0
     | Flags::SINGLEMATCH.0
-    | Flags::ALLOWEMPTY.0;
+    | Flags::ALLOWEMPTY.0
+    | Flags::UTF8.0;
 
 /// The extended parameters that are supported, a bit each (Hyperscan Developer's Reference Guide, `hs_expr_ext_t`).
 pub const SUPPORTED_PARAMETERS: u8 = Ext::MIN_OFFSET | Ext::MAX_OFFSET;

@@ -1,8 +1,11 @@
 -- The lengths of groups, quantifiers and forms.
-use Rattle.std.proofs.Common.{◌≡◌, ℕ, ◌+◌, ◌<◌, ◌≤◌, true, List, length, drop, Option, Some, None, IfSome, refl, arith}
-use Rattle.std.specs.Prelude.{◌&&◌, ◌==◌, is_some, if◌then◌else◌}
+use Rattle.std.proofs.Common.{◌≡◌, ℕ, ◌+◌, ◌<◌, ◌≤◌, Bool, true, List, length, take, drop, Option, Some, None, IfSome, refl, arith}
+use Rattle.std.specs.Prelude.{◌&&◌, ◌==◌, nat_lt, is_some, if◌then◌else◌}
 use Rattle.std.specs.List.{slice_get}
 use Rattle.std.specs.Char.{is_ascii_alphabetic}
+use Rattle.std.specs.Str.Lossy.{utf8_valid_len}
+use Rattle.std.proofs.lemmas.Bool.{ltb-true}
+use Rattle.std.proofs.lemmas.List.{length-take-le}
 use Rattle.std.proofs.lemmas.Option.{slice_get_within}
 use Rattle.hs_base.specs.Assertions.{line_feed}
 use Rattle.hs_base.specs.ByteSets.{is_space}
@@ -19,16 +22,31 @@ use Rattle.hs_syntax.specs.Numbers.{decimal_at}
 use Rattle.hs_syntax.specs.Names.{name_end, group_name_end}
 use Rattle.hs_syntax.specs.Pieces.{colon}
 use Rattle.hs_syntax.specs.Escapes.{escape_at, assertion_letter, construct_letter}
-use Rattle.hs_syntax.specs.Groups.{closing_parenthesis, greater_sign, apostrophe, comment_of, named_of, settings_of, changed, settings_at, letter_group, angle_group, hyphen_group, question_by, question_of, group_at}
+use Rattle.hs_syntax.specs.Groups.{closing_parenthesis, greater_sign, apostrophe, comment, comment_of, named_of, settings_of, changed, settings_at, letter_group, angle_group, hyphen_group, question_by, question_of, group_at}
 use Rattle.hs_syntax.specs.Quantifiers.{quantifier_at, second_of, first_of, brace_at}
-use Rattle.hs_syntax.specs.Forms.{letter_of, escaped_of, quoted_of, line_of, bracket_of, marked_by, plain_of, form_at}
-use Rattle.hs_syntax.specs.Lengths.{FormFits}
+use Rattle.hs_syntax.specs.Forms.{letter_of, escaped_of, character_form, quoted_of, line_of, bracket_of, marked_by, plain_of, form_at}
+use Rattle.hs_syntax.specs.Characters.{character_of, ill_formed_of}
+use Rattle.hs_syntax.specs.Lengths.{IsLength, FormFits}
 use Rattle.hs_syntax.proofs.FitLemmas.{either, both_right, is_one_within, behind_length, place_near, group_name_within}
-use Rattle.hs_syntax.proofs.EscapeFits.{EscapeFits, escape_fits, fits, no_first}
+use Rattle.hs_syntax.proofs.CharacterLemmas.{fits, character_fits}
+use Rattle.hs_syntax.proofs.EscapeFits.{EscapeFits, escape_fits, no_first}
 
-comment_fits : (n : ℕ) (mode : Mode) (o : Option ℕ) → IfSome o (λ place. place < n) → FormFits n (comment_of mode o)
-comment_fits n mode None h = tt
-comment_fits n mode (Some close) h = fits (omega arith) (omega (arith, h))
+-- a byte of a beginning that begins no character is one of the bytes
+ill_formed_within : (utf8 : Bool) (bytes : List ℕ) → IfSome (ill_formed_of utf8 bytes) (λ place. place < length bytes)
+ill_formed_within utf8 bytes =
+    either (λ o. IfSome o (λ place. place < length bytes)) (utf8 && nat_lt (utf8_valid_len bytes) (length bytes)) _ _
+    (λ e. ltb-true (utf8_valid_len bytes) (length bytes) (both_right utf8 _ e))
+    (λ _. tt)
+
+some_comment : (n m length : ℕ) (mode : Mode) (o : Option ℕ) → m ≤ n → IsLength n length → IfSome o (λ place. place < m) → FormFits n (comment mode length o)
+some_comment n m length mode None h l k = l
+some_comment n m length mode (Some place) h l k = omega (arith, h, k)
+
+comment_fits : (bytes : List ℕ) (mode : Mode) (o : Option ℕ) → IfSome o (λ place. place < length bytes) → FormFits (length bytes) (comment_of mode bytes o)
+comment_fits bytes mode None h = tt
+comment_fits bytes mode (Some close) h =
+    some_comment (length bytes) (length (take close bytes)) (close + 1) mode (ill_formed_of mode.utf8 (take close bytes))
+    (omega (arith, h, length-take-le close bytes (omega (arith, h)))) (fits (omega arith) (omega (arith, h))) (ill_formed_within mode.utf8 (take close bytes))
 
 named_fits : (n at : ℕ) (mode : Mode) (o : Option ℕ) → IfSome o (λ end. (at < end) × (end ≤ n)) → FormFits n (named_of mode o)
 named_fits n at mode None h = tt
@@ -79,7 +97,7 @@ question_by_fits mode bytes b h =
     (λ _. either (FormFits (length bytes)) (b ∈ "P") _ _ (λ _. letter_group_fits mode bytes)
     (λ _. either (FormFits (length bytes)) (b ∈ "<") _ _ (λ _. angle_group_fits mode bytes)
     (λ _. either (FormFits (length bytes)) (b ∈ "'") _ _ (λ _. named_fits (length bytes) 3 mode (group_name_end apostrophe bytes 3) (group_name_within apostrophe bytes 3))
-    (λ _. either (FormFits (length bytes)) (b ∈ "#") _ _ (λ _. comment_fits (length bytes) mode (place_on closing_parenthesis 3 (drop 3 bytes)) (place_within closing_parenthesis 3 bytes h))
+    (λ _. either (FormFits (length bytes)) (b ∈ "#") _ _ (λ _. comment_fits bytes mode (place_on closing_parenthesis 3 (drop 3 bytes)) (place_within closing_parenthesis 3 bytes h))
     (λ _. either (FormFits (length bytes)) (b ∈ "=!") _ _ (λ _. tt)
     (λ _. either (FormFits (length bytes)) (b ∈ ">") _ _ (λ _. tt)
     (λ _. either (FormFits (length bytes)) (b ∈ "(") _ _ (λ _. tt)
@@ -143,17 +161,21 @@ escaped_fits : (n : ℕ) (mode : Mode) (e : Escape) → EscapeFits n e → FormF
 escaped_fits n mode (escape.Character code length) h = h
 escaped_fits n mode (escape.Class class negated) h = fits (omega arith) h
 escaped_fits n mode (escape.Other b) h = letter_fits n mode b (assertion_letter b) (construct_letter b) h
-escaped_fits n mode (escape.Refused reason) h = tt
+escaped_fits n mode (escape.Refused reason) h = h
 
 bracket_fits : (bytes : List ℕ) → 1 ≤ length bytes → FormFits (length bytes) (bracket_of bytes)
 bracket_fits bytes h =
     either (FormFits (length bytes)) (is_one_of ":" (slice_get bytes 1) && is_some (name_end colon bytes 2)) _ _ (λ _. tt)
     (λ _. fits (omega arith) h)
 
+character_form_fits : (n : ℕ) (o : Option (ℕ × ℕ)) → 1 ≤ n → IfSome o (λ c. IsLength n c.1) → FormFits n (character_form o)
+character_form_fits n None h l = h
+character_form_fits n (Some (code, length)) h l = l
+
 marked_fits : (mode : Mode) (bytes : List ℕ) (b : ℕ) → 1 ≤ length bytes → FormFits (length bytes) (marked_by mode bytes b)
 unfolding marked_by
 marked_fits mode bytes b h =
-    either (FormFits (length bytes)) (b ∈ "\\") _ _ (λ _. escaped_fits (length bytes) mode (escape_at bytes) (escape_fits bytes))
+    either (FormFits (length bytes)) (b ∈ "\\") _ _ (λ _. escaped_fits (length bytes) mode (escape_at mode.utf8 bytes) (escape_fits mode.utf8 bytes))
     (λ _. either (FormFits (length bytes)) (b ∈ "[") _ _ (λ _. bracket_fits bytes h)
     (λ _. either (FormFits (length bytes)) (b ∈ "(") _ _ (λ _. group_fits mode bytes h)
     (λ _. either (FormFits (length bytes)) (b ∈ ")") _ _ (λ _. fits (omega arith) h)
@@ -165,11 +187,17 @@ marked_fits mode bytes b h =
     (λ _. either (FormFits (length bytes)) (b ∈ ".") _ _ (λ _. fits (omega arith) h)
     (λ _. either (FormFits (length bytes)) (b ∈ "^") _ _ (λ _. fits (omega arith) h)
     (λ _. either (FormFits (length bytes)) (b ∈ "$") _ _ (λ _. fits (omega arith) h)
-    (λ _. fits (omega arith) h))))))))))))
+    (λ _. character_form_fits (length bytes) (character_of mode.utf8 bytes b) h (character_fits mode.utf8 bytes b h)))))))))))))
 
-line_fits : (n : ℕ) (mode : Mode) (o : Option ℕ) → 1 ≤ n → IfSome o (λ place. place < n) → FormFits n (line_of mode n o)
-line_fits n mode None h k = fits h (omega arith)
-line_fits n mode (Some at) h k = fits (omega arith) (omega (arith, k))
+line_fits :
+    (bytes : List ℕ) (mode : Mode) (o : Option ℕ) → 1 ≤ length bytes → IfSome o (λ place. place < length bytes) →
+    FormFits (length bytes) (line_of mode bytes o)
+line_fits bytes mode None h k =
+    some_comment (length bytes) (length bytes) (length bytes) mode (ill_formed_of mode.utf8 bytes) (omega arith) (fits h (omega arith))
+    (ill_formed_within mode.utf8 bytes)
+line_fits bytes mode (Some at) h k =
+    some_comment (length bytes) (length (take at bytes)) (at + 1) mode (ill_formed_of mode.utf8 (take at bytes))
+    (omega (arith, k, length-take-le at bytes (omega (arith, k)))) (fits (omega arith) (omega (arith, k))) (ill_formed_within mode.utf8 (take at bytes))
 
 plain_fits : (mode : Mode) (bytes : List ℕ) (o : Option ℕ) → slice_get bytes 0 ≡ o → FormFits (length bytes) (plain_of mode bytes o)
 plain_fits mode bytes None e = no_first bytes e
@@ -178,10 +206,10 @@ plain_fits mode bytes (Some b) e =
     let some : 1 ≤ length bytes = omega (arith, there) in
     either (FormFits (length bytes)) (mode.extended && is_space b) _ _ (λ _. fits (omega arith) some)
     (λ _. either (FormFits (length bytes)) (mode.extended && b ∈ "#") _ _
-    (λ _. line_fits (length bytes) mode (place_on line_feed 1 (drop 1 bytes)) some (place_within line_feed 1 bytes some))
+    (λ _. line_fits bytes mode (place_on line_feed 1 (drop 1 bytes)) some (place_within line_feed 1 bytes some))
     (λ _. marked_fits mode bytes b some))
 
-quoted_fits : (mode : Mode) (bytes : List ℕ) (o : Option ℕ) → slice_get bytes 0 ≡ o → FormFits (length bytes) (quoted_of mode o (slice_get bytes 1))
+quoted_fits : (mode : Mode) (bytes : List ℕ) (o : Option ℕ) → slice_get bytes 0 ≡ o → FormFits (length bytes) (quoted_of mode bytes o (slice_get bytes 1))
 quoted_fits mode bytes None e = no_first bytes e
 quoted_fits mode bytes (Some b) e =
     let there = slice_get_within bytes 0 b e in
@@ -189,7 +217,7 @@ quoted_fits mode bytes (Some b) e =
     (λ h.
     let next = is_one_within "E" bytes 1 (both_right (b ∈ "\\") _ h) in
     fits (omega arith) (omega (arith, next)))
-    (λ _. fits (omega arith) (omega (arith, there)))
+    (λ _. character_form_fits (length bytes) (character_of mode.utf8 bytes b) (omega (arith, there)) (character_fits mode.utf8 bytes b (omega (arith, there))))
 
 -- a form takes some of the bytes
 pub form_fits : (mode : Mode) (bytes : List ℕ) → FormFits (length bytes) (form_at mode bytes)

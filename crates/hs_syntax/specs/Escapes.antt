@@ -1,5 +1,6 @@
 -- What stands behind a backslash (PCRE pattern syntax, "Backslash"). Bytes begin with the backslash.
-use Rattle.std.specs.Prelude.{ℕ, ◌+◌, ◌-◌, ◌&&◌, nat_le, nat_lt, Option, Some, None, if◌then◌else◌, List, slice_get}
+use Rattle.std.specs.Prelude.{ℕ, ◌+◌, ◌-◌, Bool, ◌&&◌, nat_lt, Option, Some, None, if◌then◌else◌, List, drop}
+use Rattle.std.specs.Prelude.{slice_get}
 use Rattle.std.specs.Char.{is_ascii_alphabetic, is_ascii_uppercase, to_ascii_uppercase}
 use Rattle.std.specs.Int.{is_in_range}
 use Rattle.hs_base.specs.declared.construct.Construct.{Construct}
@@ -15,6 +16,7 @@ use Rattle.hs_syntax.specs.declared.escape.Escape.TheVariants.{Character, Class,
 use Rattle.hs_syntax.specs.declared.number.Number.{Number}
 use Rattle.hs_syntax.specs.Bytes.{◌∈◌, is_one_of}
 use Rattle.hs_syntax.specs.Numbers.{number_at}
+use Rattle.hs_syntax.specs.Characters.{is_code, character_of}
 use Rattle.hs_syntax.specs.Names.{named_letter}
 
 -- a letter that stands for one character
@@ -38,54 +40,61 @@ control_of None = Refused wrong.Syntax
 control_of (Some b) =
     if is_in_range 0x20 0x7E b then Character (turned_over (to_ascii_uppercase b)) 3 else Refused wrong.Syntax
 
--- a character by its code, which is that of a byte
-abbrev pub coded : (code : ℕ) → (length : ℕ) → Escape
-coded code length = if nat_le code 0xFF then Character code length else Refused wrong.Syntax
+-- a character by its code
+abbrev pub coded : (utf8 : Bool) → (code : ℕ) → (length : ℕ) → Escape
+coded utf8 code length = if is_code utf8 code then Character code length else Refused wrong.Syntax
 
 -- up to two digits behind a letter or a `0`
-unfoldable pub short_at : (radix : ℕ) → List ℕ → Escape
-short_at radix bytes = let number = number_at radix 2 bytes 2 in coded number.value (number.count + 2)
+unfoldable pub short_at : (utf8 : Bool) → (radix : ℕ) → List ℕ → Escape
+short_at utf8 radix bytes = let number = number_at radix 2 bytes 2 in coded utf8 number.value (number.count + 2)
 
 -- 1 to 8 digits in braces, by the bytes before and behind them
-abbrev pub braced_of : (opening closing : Option ℕ) → Number → Escape
-braced_of opening closing number =
+abbrev pub braced_of : (utf8 : Bool) → (opening closing : Option ℕ) → Number → Escape
+braced_of utf8 opening closing number =
     if is_one_of "{" opening && (nat_lt 0 number.count && is_one_of "}" closing)
-    then coded number.value (number.count + 4)
+    then coded utf8 number.value (number.count + 4)
     else Refused wrong.Syntax
 
 -- `\x{..}` and `\o{..}`
-unfoldable pub braced_at : (radix : ℕ) → List ℕ → Escape
-braced_at radix bytes =
-    let number = number_at radix 8 bytes 3 in braced_of (slice_get bytes 2) (slice_get bytes (number.count + 3)) number
+unfoldable pub braced_at : (utf8 : Bool) → (radix : ℕ) → List ℕ → Escape
+braced_at utf8 radix bytes =
+    let number = number_at radix 8 bytes 3 in
+    braced_of utf8 (slice_get bytes 2) (slice_get bytes (number.count + 3)) number
 
 -- `\x`
-abbrev pub hexadecimal_at : List ℕ → Escape
-hexadecimal_at bytes = if is_one_of "{" (slice_get bytes 2) then braced_at 16 bytes else short_at 16 bytes
+abbrev pub hexadecimal_at : (utf8 : Bool) → List ℕ → Escape
+hexadecimal_at utf8 bytes =
+    if is_one_of "{" (slice_get bytes 2) then braced_at utf8 16 bytes else short_at utf8 16 bytes
 
--- a letter, or another byte, which stands for itself
-abbrev pub letter_of : ℕ → (character : Option ℕ) → (named : Option Named) → Escape
-letter_of b (Some code) named = Character code 2
-letter_of b None (Some class) = Class class (is_ascii_uppercase b)
-letter_of b None None = if is_ascii_alphabetic b then Other b else Character b 2
+-- a character that stands for itself
+abbrev pub itself_of : Option (ℕ × ℕ) → Escape
+itself_of None = Refused (wrong.IllFormed 1)
+itself_of (Some (code, length)) = Character code (length + 1)
+
+-- a letter, or another character, which stands for itself
+abbrev pub letter_of : ℕ → (itself : Option (ℕ × ℕ)) → (character : Option ℕ) → (named : Option Named) → Escape
+letter_of b itself (Some code) named = Character code 2
+letter_of b itself None (Some class) = Class class (is_ascii_uppercase b)
+letter_of b itself None None = if is_ascii_alphabetic b then Other b else itself_of itself
 
 -- what stands behind a backslash, by the byte there
-unfoldable pub escape_by : List ℕ → ℕ → Escape
-escape_by bytes b =
+unfoldable pub escape_by : (utf8 : Bool) → List ℕ → ℕ → Escape
+escape_by utf8 bytes b =
     if b ∈ "c" then control_of (slice_get bytes 2)
-    else if b ∈ "x" then hexadecimal_at bytes
-    else if b ∈ "o" then braced_at 8 bytes
-    else if b ∈ "0" then short_at 8 bytes
+    else if b ∈ "x" then hexadecimal_at utf8 bytes
+    else if b ∈ "o" then braced_at utf8 8 bytes
+    else if b ∈ "0" then short_at utf8 8 bytes
     else if b ∈ "123456789gk" then Refused (wrong.Unsupported Backreference)
     else if b ∈ "pP" then Refused (wrong.Unsupported Property)
-    else letter_of b (character_letter b) (named_letter b)
+    else letter_of b (character_of utf8 (drop 1 bytes) b) (character_letter b) (named_letter b)
 
-abbrev pub escape_of : List ℕ → Option ℕ → Escape
-escape_of bytes None = Refused wrong.Syntax
-escape_of bytes (Some b) = escape_by bytes b
+abbrev pub escape_of : (utf8 : Bool) → List ℕ → Option ℕ → Escape
+escape_of utf8 bytes None = Refused wrong.Syntax
+escape_of utf8 bytes (Some b) = escape_by utf8 bytes b
 
 -- what the bytes begin with, in classes and outside of them
-unfoldable pub escape_at : List ℕ → Escape
-escape_at bytes = escape_of bytes (slice_get bytes 1)
+unfoldable pub escape_at : (utf8 : Bool) → List ℕ → Escape
+escape_at utf8 bytes = escape_of utf8 bytes (slice_get bytes 1)
 
 -- a letter of a construct that isn't supported, outside of classes
 unfoldable pub construct_letter : ℕ → Option Construct

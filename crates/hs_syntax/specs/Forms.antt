@@ -1,7 +1,7 @@
 -- What the bytes of an expression begin outside of classes, under the options in force (PCRE pattern syntax,
 -- "Characters and metacharacters").
 use Rattle.std.specs.Prelude.{ℕ, ◌+◌, true, false, ◌&&◌, Option, Some, None, is_some, if◌then◌else◌, List, length, drop}
-use Rattle.std.specs.Prelude.{slice_get}
+use Rattle.std.specs.Prelude.{take, slice_get}
 use Rattle.hs_base.specs.declared.assertion.Assertion.{Assertion}
 use Rattle.hs_base.specs.declared.assertion.Assertion.TheVariants.{StreamStart, LineStart, LineEnd, EndOrFinalNewline}
 use Rattle.hs_base.specs.declared.construct.Construct.{Construct}
@@ -17,8 +17,9 @@ use Rattle.hs_syntax.specs.declared.form.Form.TheVariants.{Closing, Bar, Refused
 use Rattle.hs_syntax.specs.Bytes.{◌∈◌, is_one_of, place_on}
 use Rattle.hs_syntax.specs.Settings.{with_quote}
 use Rattle.hs_syntax.specs.Names.{name_end}
+use Rattle.hs_syntax.specs.Characters.{character_of, ill_formed_of}
 use Rattle.hs_syntax.specs.Escapes.{escape_at, construct_letter, assertion_letter}
-use Rattle.hs_syntax.specs.Groups.{group_at}
+use Rattle.hs_syntax.specs.Groups.{comment, group_at}
 use Rattle.hs_syntax.specs.Pieces.{colon}
 use Rattle.hs_syntax.specs.Quantifiers.{quantifier_at, brace_at}
 
@@ -37,16 +38,23 @@ escaped_of mode (escape.Class class negated) = Class class negated 2
 escaped_of mode (escape.Other b) = letter_of mode b (assertion_letter b) (construct_letter b)
 escaped_of mode (escape.Refused reason) = Refused reason
 
--- within a quote every byte stands for itself, up to the `\E`
-abbrev pub quoted_of : Mode → Option ℕ → Option ℕ → Form
-quoted_of mode None next = End
-quoted_of mode (Some b) next =
-    if (b ∈ "\\") && is_one_of "E" next then Skipped (with_quote false mode) 2 else Character b 1
+-- a character that stands for itself
+abbrev pub character_form : Option (ℕ × ℕ) → Form
+character_form None = Refused (wrong.IllFormed 0)
+character_form (Some (code, length)) = Character code length
+
+-- within a quote every character stands for itself, up to the `\E`
+abbrev pub quoted_of : Mode → List ℕ → Option ℕ → Option ℕ → Form
+quoted_of mode bytes None next = End
+quoted_of mode bytes (Some b) next =
+    if (b ∈ "\\") && is_one_of "E" next
+    then Skipped (with_quote false mode) 2
+    else character_form (character_of mode.utf8 bytes b)
 
 -- a comment to the end of its line, or of the text, by the place of the line feed
-abbrev pub line_of : Mode → (length : ℕ) → Option ℕ → Form
-line_of mode length None = Skipped mode length
-line_of mode length (Some at) = Skipped mode (at + 1)
+abbrev pub line_of : Mode → List ℕ → Option ℕ → Form
+line_of mode bytes None = comment mode (length bytes) (ill_formed_of mode.utf8 bytes)
+line_of mode bytes (Some at) = comment mode (at + 1) (ill_formed_of mode.utf8 (take at bytes))
 
 -- `^`
 abbrev pub start_of : Mode → Assertion
@@ -64,7 +72,7 @@ bracket_of bytes =
 -- what a byte begins
 unfoldable pub marked_by : Mode → List ℕ → ℕ → Form
 marked_by mode bytes b =
-    if b ∈ "\\" then escaped_of mode (escape_at bytes)
+    if b ∈ "\\" then escaped_of mode (escape_at mode.utf8 bytes)
     else if b ∈ "[" then bracket_of bytes
     else if b ∈ "(" then group_at mode bytes
     else if b ∈ ")" then Closing
@@ -76,19 +84,19 @@ marked_by mode bytes b =
     else if b ∈ "." then Any
     else if b ∈ "^" then Assert (start_of mode) 1
     else if b ∈ "$" then Assert (end_of mode) 1
-    else Character b 1
+    else character_form (character_of mode.utf8 bytes b)
 
 -- under x blanks are skipped, and comments from a `#` on
 abbrev pub plain_of : Mode → List ℕ → Option ℕ → Form
 plain_of mode bytes None = End
 plain_of mode bytes (Some b) =
     if mode.extended && is_space b then Skipped mode 1
-    else if mode.extended && b ∈ "#" then line_of mode (length bytes) (place_on line_feed 1 (drop 1 bytes))
+    else if mode.extended && b ∈ "#" then line_of mode bytes (place_on line_feed 1 (drop 1 bytes))
     else marked_by mode bytes b
 
 -- what the bytes begin with
 unfoldable pub form_at : Mode → List ℕ → Form
 form_at mode bytes =
     if mode.quoted
-    then quoted_of mode (slice_get bytes 0) (slice_get bytes 1)
+    then quoted_of mode bytes (slice_get bytes 0) (slice_get bytes 1)
     else plain_of mode bytes (slice_get bytes 0)

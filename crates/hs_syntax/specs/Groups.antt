@@ -1,16 +1,17 @@
 -- What a `(` begins (PCRE pattern syntax, "Groups", "Named capture groups", "Comments" and "Internal option setting").
 -- Bytes begin with the `(`.
-use Rattle.std.specs.Prelude.{ℕ, ◌+◌, true, false, Option, Some, None, if◌then◌else◌, List, drop, slice_get}
+use Rattle.std.specs.Prelude.{ℕ, ◌+◌, true, false, Option, Some, None, if◌then◌else◌, List, take, drop, slice_get}
 use Rattle.std.specs.Char.{is_ascii_alphabetic}
 use Rattle.hs_base.specs.declared.construct.Construct.TheVariants as construct
 use Rattle.hs_syntax.specs.declared.mode.Mode.{Mode}
 use Rattle.hs_syntax.specs.declared.mode.Change.{Change}
-use Rattle.hs_syntax.specs.declared.wrong.Wrong.TheVariants.{Syntax, Unsupported}
+use Rattle.hs_syntax.specs.declared.wrong.Wrong.TheVariants.{Syntax, IllFormed, Unsupported}
 use Rattle.hs_syntax.specs.declared.form.Form.{Form}
 use Rattle.hs_syntax.specs.declared.form.Form.TheVariants.{Skipped, Setting, Opening, Refused}
 use Rattle.hs_syntax.specs.Bytes.{◌∈◌, is_one_of, is_digit, place_on}
 use Rattle.hs_syntax.specs.Settings.{set_options}
 use Rattle.hs_syntax.specs.Names.{group_name_end}
+use Rattle.hs_syntax.specs.Characters.{ill_formed_of}
 
 -- the byte `)`
 abbrev pub closing_parenthesis : ℕ
@@ -24,10 +25,15 @@ greater_sign = 0x3E
 abbrev pub apostrophe : ℕ
 apostrophe = 0x27
 
+-- a comment of so many bytes, by the place of a byte in it that begins no character
+abbrev pub comment : Mode → (length : ℕ) → (ill_formed : Option ℕ) → Form
+comment mode length None = Skipped mode length
+comment mode length (Some place) = Refused (IllFormed place)
+
 -- `(?#` up to the first `)`
-abbrev pub comment_of : Mode → Option ℕ → Form
-comment_of mode None = Refused Syntax
-comment_of mode (Some close) = Skipped mode (close + 1)
+abbrev pub comment_of : Mode → List ℕ → Option ℕ → Form
+comment_of mode bytes None = Refused Syntax
+comment_of mode bytes (Some close) = comment mode (close + 1) (ill_formed_of mode.utf8 (take close bytes))
 
 -- a named group, by the place behind the mark that closes its name
 abbrev pub named_of : Mode → Option ℕ → Form
@@ -84,7 +90,7 @@ question_by mode bytes b =
     else if b ∈ "P" then letter_group mode bytes
     else if b ∈ "<" then angle_group mode bytes
     else if b ∈ "'" then named_of mode (group_name_end apostrophe bytes 3)
-    else if b ∈ "#" then comment_of mode (place_on closing_parenthesis 3 (drop 3 bytes))
+    else if b ∈ "#" then comment_of mode bytes (place_on closing_parenthesis 3 (drop 3 bytes))
     else if b ∈ "=!" then Refused (Unsupported construct.Lookaround)
     else if b ∈ ">" then Refused (Unsupported construct.Atomic)
     else if b ∈ "(" then Refused (Unsupported construct.Conditional)

@@ -2,9 +2,11 @@ pub mod Bytes
 pub mod Settings
 pub mod Numbers
 pub mod Names
+pub mod Characters
 pub mod Escapes
 pub mod Groups
 pub mod Quantifiers
 pub mod Pieces
 pub mod Forms
 pub mod Lengths
+pub mod CharacterLaws

@@ -1,7 +1,7 @@
 -- The classes of bytes that have a name or a letter (PCRE pattern syntax, "Generic character types" and "POSIX
 -- character classes").
 use Rattle.std.specs.Prelude.{ℕ, ◌+◌, Bool, true, false, not, ◌==◌, ◌&&◌, ◌||◌, nat_eq, nat_le, nat_lt, Option, Some}
-use Rattle.std.specs.Prelude.{None, if◌then◌else◌, option_map, List, codes, drop, slice_get}
+use Rattle.std.specs.Prelude.{None, if◌then◌else◌, option_map, List, [], ◌∷◌, codes, drop, slice_get}
 use Rattle.std.specs.Char.{is_ascii_alphabetic, is_ascii_alphanumeric, is_ascii_lowercase, is_ascii_uppercase}
 use Rattle.std.specs.Int.{is_in_range}
 use Rattle.std.specs.Option.{option_or}
@@ -34,6 +34,14 @@ is_of Ascii b = nat_le b 0x7F
 is_of Graphic b = is_in_range 0x21 0x7E b
 is_of Printed b = is_in_range 0x20 0x7E b
 is_of Punctuation b = is_in_range 0x21 0x7E b && not (is_ascii_alphanumeric b)
+
+-- the code points of each class that aren't ASCII, by the first and the last of some in a row
+unfoldable pub ranges_beyond : Named → List (ℕ × ℕ)
+ranges_beyond HorizontalSpace =
+    (0xA0, 0xA0) ∷ (0x1680, 0x1680) ∷ (0x180E, 0x180E) ∷ (0x2000, 0x200A) ∷ (0x202F, 0x202F) ∷ (0x205F, 0x205F)
+    ∷ (0x3000, 0x3000) ∷ []
+ranges_beyond VerticalSpace = (0x85, 0x85) ∷ (0x2028, 0x2029) ∷ []
+ranges_beyond other = []
 
 -- the class of a letter behind a backslash, small or large
 unfoldable pub named_letter : ℕ → Option Named

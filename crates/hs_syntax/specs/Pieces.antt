@@ -2,6 +2,7 @@
 use Rattle.std.specs.Prelude.{ℕ, ◌+◌, ◌-◌, Bool, not, ◌&&◌, Option, Some, None, if◌then◌else◌, List, drop, take}
 use Rattle.std.specs.Prelude.{slice_get}
 use Rattle.hs_base.specs.declared.construct.Construct.TheVariants.{Collating}
+use Rattle.hs_syntax.specs.declared.mode.Mode.{Mode}
 use Rattle.hs_syntax.specs.declared.named.Named.{Named}
 use Rattle.hs_syntax.specs.declared.wrong.Wrong.TheVariants as wrong
 use Rattle.hs_syntax.specs.declared.escape.Escape.{Escape}
@@ -10,6 +11,7 @@ use Rattle.hs_syntax.specs.declared.piece.Piece.{Piece}
 use Rattle.hs_syntax.specs.declared.piece.Piece.TheVariants.{End, Close, Character, Class, Refused}
 use Rattle.hs_syntax.specs.Bytes.{◌∈◌, is_one_of}
 use Rattle.hs_syntax.specs.Names.{class_of_name, name_end}
+use Rattle.hs_syntax.specs.Characters.{character_of}
 use Rattle.hs_syntax.specs.Escapes.{escape_at}
 
 -- the byte `[`
@@ -67,15 +69,20 @@ bracket_at caseless bytes =
     else if is_one_of "=" next then collating_of (name_end equals_sign bytes 2)
     else Character opening_bracket 1
 
+-- a character that stands for itself
+abbrev pub character_piece : Option (ℕ × ℕ) → Piece
+character_piece None = Refused (wrong.IllFormed 0)
+character_piece (Some (code, length)) = Character code length
+
 -- a piece, by its first byte; a `]` that is the first of the class stands for itself
-abbrev pub piece_by : (caseless first : Bool) → List ℕ → Option ℕ → Piece
-piece_by caseless first bytes None = End
-piece_by caseless first bytes (Some b) =
-    if b ∈ "\\" then escaped_of (escape_at bytes)
-    else if b ∈ "[" then bracket_at caseless bytes
+abbrev pub piece_by : Mode → (first : Bool) → List ℕ → Option ℕ → Piece
+piece_by mode first bytes None = End
+piece_by mode first bytes (Some b) =
+    if b ∈ "\\" then escaped_of (escape_at mode.utf8 bytes)
+    else if b ∈ "[" then bracket_at mode.caseless bytes
     else if (b ∈ "]") && not first then Close
-    else Character b 1
+    else character_piece (character_of mode.utf8 bytes b)
 
 -- what the bytes begin with
-unfoldable pub piece_at : (caseless first : Bool) → List ℕ → Piece
-piece_at caseless first bytes = piece_by caseless first bytes (slice_get bytes 0)
+unfoldable pub piece_at : Mode → (first : Bool) → List ℕ → Piece
+piece_at mode first bytes = piece_by mode first bytes (slice_get bytes 0)

@@ -8,7 +8,7 @@ use Rattle.hs_syntax.specs.Bytes.{◌∈◌}
 abbrev pub has_flag : ℕ → Flags → Bool
 has_flag flag flags = bit_and flags.0 flag == flag
 
--- how an expression begins: i, s and m are as its flags say, x is off
+-- how an expression begins: i, s, m and UTF-8 are as its flags say, x is off
 unfoldable pub mode_of : Flags → Mode
 mode_of flags = record {
   caseless = has_flag 1 flags;
@@ -16,6 +16,7 @@ mode_of flags = record {
   multiline = has_flag 4 flags;
   extended = false;
   quoted = false;
+  utf8 = has_flag 32 flags;
 }
 
 -- within a quote or outside of it

@@ -1,10 +1,11 @@
 //! What stands behind a backslash.
-ghost use Rattle.std.specs.Prelude.{◌≡◌, ◌<◌, ◌≤◌, length, slice_get};
+ghost use Rattle.std.specs.Prelude.{◌≡◌, ◌<◌, ◌≤◌, length, slice_get, IfSome};
 ghost use Rattle.hs_syntax.specs.Escapes.{character_letter, construct_letter, assertion_letter, turned_over};
-ghost use Rattle.hs_syntax.specs.Escapes.{control_of, coded, braced_at, short_at, hexadecimal_at, letter_of, escape_by};
-ghost use Rattle.hs_syntax.specs.Escapes.{escape_at};
+ghost use Rattle.hs_syntax.specs.Escapes.{control_of, coded, braced_at, short_at, hexadecimal_at, letter_of, itself_of};
+ghost use Rattle.hs_syntax.specs.Escapes.{escape_by, escape_at};
 ghost use Rattle.hs_syntax.specs.Names.{named_letter};
 
+use crate::character::{character_of, is_code};
 use crate::name::is_byte_at;
 use crate::named::{Named, named_letter};
 use crate::number::number_at;
@@ -15,7 +16,7 @@ use hs_base::{Assertion, Construct};
 #[derive(Clone, Copy)]
 pub(crate) enum Escape {
     /// A character, and the length of the escape in bytes.
-    Character(u8, usize),
+    Character(u32, usize),
     /// The bytes of a class, or those that it hasn't.
     Class(Named, bool),
     /// Another letter.
@@ -29,7 +30,7 @@ const MAX_DIGITS: usize = 8;
 
 /// The character that a letter stands for.
 #[tactic(auto, unfolding(crate::specs::Escapes::character_letter))]
-fn character_letter(byte: u8) -> Option<u8>
+fn character_letter(byte: u8) -> Option<u32>
     ensures { result ≡ character_letter byte }
 {
     match byte {
@@ -84,7 +85,7 @@ fn control_of(bytes: &[u8]) -> Escape
     if !matches!(*byte, 0x20..=0x7E) {
         return Escape::Refused(Wrong::Syntax);
     }
-    Escape::Character(turned_over(byte.to_ascii_uppercase()), 3)
+    Escape::Character(turned_over(byte.to_ascii_uppercase()) as u32, 3)
 }
 
 /// The byte with bit 40 turned over.
@@ -99,12 +100,12 @@ fn turned_over(byte: u8) -> u8
     }
 }
 
-/// The character of a code, which is that of a byte.
-fn coded(code: u32, length: usize) -> Escape
-    ensures { result ≡ coded code length }
+/// The character of a code.
+fn coded(utf8: bool, code: u32, length: usize) -> Escape
+    ensures { result ≡ coded utf8 code length }
 {
-    if code <= 0xFF {
-        Escape::Character(code as u8, length)
+    if is_code(utf8, code) {
+        Escape::Character(code, length)
     } else {
         Escape::Refused(Wrong::Syntax)
     }
@@ -112,17 +113,17 @@ fn coded(code: u32, length: usize) -> Escape
 
 /// The character of digits in braces.
 #[tactic(auto, unfolding(crate::specs::Escapes::braced_at))]
-fn braced_at(radix: u32, bytes: &[u8]) -> Escape
+fn braced_at(utf8: bool, radix: u32, bytes: &[u8]) -> Escape
     requires positive { 0 < radix }
     requires base { radix ≤ 16 }
-    ensures { result ≡ braced_at radix bytes.now }
+    ensures { result ≡ braced_at utf8 radix bytes.now }
 {
     if !is_byte_at(b'{', bytes, 2) {
         return Escape::Refused(Wrong::Syntax);
     }
     let number = number_at(radix, MAX_DIGITS, bytes, 3);
     if number.count > 0 && is_byte_at(b'}', bytes, number.count + 3) {
-        coded(number.value, number.count + 4)
+        coded(utf8, number.value, number.count + 4)
     } else {
         Escape::Refused(Wrong::Syntax)
     }
@@ -130,48 +131,49 @@ fn braced_at(radix: u32, bytes: &[u8]) -> Escape
 
 /// The character of up to two digits that stand behind a letter or a `0`.
 #[tactic(auto, unfolding(crate::specs::Escapes::short_at))]
-fn short_at(radix: u32, bytes: &[u8]) -> Escape
+fn short_at(utf8: bool, radix: u32, bytes: &[u8]) -> Escape
     requires positive { 0 < radix }
     requires base { radix ≤ 16 }
     requires there { 2 ≤ length bytes.now }
-    ensures { result ≡ short_at radix bytes.now }
+    ensures { result ≡ short_at utf8 radix bytes.now }
 {
     let number = number_at(radix, 2, bytes, 2);
-    coded(number.value, number.count + 2)
+    coded(utf8, number.value, number.count + 2)
 }
 
 /// What stands behind the backslash, by the byte there.
 #[tactic(auto, unfolding(crate::specs::Escapes::escape_by))]
-fn escape_by(bytes: &[u8], byte: u8) -> Escape
+fn escape_by(utf8: bool, bytes: &[u8], byte: u8) -> Escape
     requires there { 2 ≤ length bytes.now }
-    ensures { result ≡ escape_by bytes.now byte }
+    ensures { result ≡ escape_by utf8 bytes.now byte }
 {
     match byte {
         b'c' => control_of(bytes),
-        b'x' => hexadecimal_at(bytes),
-        b'o' => braced_at(8, bytes),
-        b'0' => short_at(8, bytes),
+        b'x' => hexadecimal_at(utf8, bytes),
+        b'o' => braced_at(utf8, 8, bytes),
+        b'0' => short_at(utf8, 8, bytes),
         b'1'..=b'9' | b'g' | b'k' => Escape::Refused(Wrong::Unsupported(Construct::Backreference)),
         b'p' | b'P' => Escape::Refused(Wrong::Unsupported(Construct::Property)),
-        _ => letter_of(byte),
+        _ => letter_of(byte, character_of(utf8, &bytes[1..], byte)),
     }
 }
 
 /// The character of a `\x` and its digits.
-fn hexadecimal_at(bytes: &[u8]) -> Escape
+fn hexadecimal_at(utf8: bool, bytes: &[u8]) -> Escape
     requires there { 2 ≤ length bytes.now }
-    ensures { result ≡ hexadecimal_at bytes.now }
+    ensures { result ≡ hexadecimal_at utf8 bytes.now }
 {
     if is_byte_at(b'{', bytes, 2) {
-        braced_at(16, bytes)
+        braced_at(utf8, 16, bytes)
     } else {
-        short_at(16, bytes)
+        short_at(utf8, 16, bytes)
     }
 }
 
-/// What another byte behind a backslash means.
-fn letter_of(byte: u8) -> Escape
-    ensures { result ≡ letter_of byte (character_letter byte) (named_letter byte) }
+/// What another byte behind a backslash means, by the character that begins there.
+fn letter_of(byte: u8, itself: Option<(u32, usize)>) -> Escape
+    requires { IfSome itself (λ character. character.1 ≤ 4) }
+    ensures { result ≡ letter_of byte itself (character_letter byte) (named_letter byte) }
 {
     if let Some(code) = character_letter(byte) {
         return Escape::Character(code, 2);
@@ -182,17 +184,28 @@ fn letter_of(byte: u8) -> Escape
     if byte.is_ascii_alphabetic() {
         return Escape::Other(byte);
     }
-    Escape::Character(byte, 2)
+    itself_of(itself)
+}
+
+/// A character that stands for itself behind a backslash.
+fn itself_of(character: Option<(u32, usize)>) -> Escape
+    requires { IfSome character (λ character. character.1 ≤ 4) }
+    ensures { result ≡ itself_of character }
+{
+    match character {
+        Some((code, length)) => Escape::Character(code, length + 1),
+        None => Escape::Refused(Wrong::IllFormed(1)),
+    }
 }
 
 /// What stands behind the backslash that the bytes begin with.
 #[tactic(auto, unfolding(crate::specs::Escapes::escape_at))]
-pub(crate) fn escape_at(bytes: &[u8]) -> Escape
+pub(crate) fn escape_at(utf8: bool, bytes: &[u8]) -> Escape
     requires { 0 < length bytes.now }
-    ensures { result ≡ escape_at bytes.now }
+    ensures { result ≡ escape_at utf8 bytes.now }
 {
     match bytes.get(1) {
         None => Escape::Refused(Wrong::Syntax),
-        Some(byte) => escape_by(bytes, *byte),
+        Some(byte) => escape_by(utf8, bytes, *byte),
     }
 }

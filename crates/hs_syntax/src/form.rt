@@ -6,10 +6,11 @@ ghost use Rattle.hs_syntax.specs.Bytes.{place_on};
 ghost use Rattle.hs_syntax.specs.Lengths.{FormFits};
 ghost use Rattle.hs_syntax.specs.Escapes.{assertion_letter, construct_letter};
 ghost use Rattle.hs_syntax.specs.Forms.{letter_of, escaped_of, quoted_of, line_of, marked_by, plain_of, bracket_of};
-ghost use Rattle.hs_syntax.specs.Forms.{start_of, end_of, form_at};
+ghost use Rattle.hs_syntax.specs.Forms.{start_of, end_of, character_form, form_at};
 
+use crate::character::{character_of, ill_formed_of};
 use crate::escape::{Escape, assertion_letter, construct_letter, escape_at};
-use crate::group::group_at;
+use crate::group::{comment, group_at};
 use crate::mode::Mode;
 use crate::name::{is_byte_at, name_end, place_of};
 use crate::named::Named;
@@ -35,7 +36,7 @@ pub enum Form {
     /// `.`
     Any,
     /// A character.
-    Character(u8, usize),
+    Character(u32, usize),
     /// The bytes of a class, or those that it hasn't.
     Class(Named, bool, usize),
     /// `[`, which begins a class.
@@ -73,12 +74,22 @@ fn form_of(mode: Mode, bytes: &[u8]) -> Form
 
 /// What a byte begins within a quote.
 fn quoted_of(mode: Mode, bytes: &[u8], byte: u8) -> Form
-    ensures { result ≡ quoted_of mode (Some byte) (slice_get bytes.now 1) }
+    ensures { result ≡ quoted_of mode bytes.now (Some byte) (slice_get bytes.now 1) }
 {
     if byte == b'\\' && is_byte_at(b'E', bytes, 1) {
         Form::Skipped(mode.with_quote(false), 2)
     } else {
-        Form::Character(byte, 1)
+        character_form(character_of(mode.utf8, bytes, byte))
+    }
+}
+
+/// A character that stands for itself.
+fn character_form(character: Option<(u32, usize)>) -> Form
+    ensures { result ≡ character_form character }
+{
+    match character {
+        Some((code, length)) => Form::Character(code, length),
+        None => Form::Refused(Wrong::IllFormed(0)),
     }
 }
 
@@ -106,11 +117,11 @@ fn is_space(byte: u8) -> bool
 /// A comment, to the end of its line or of the text.
 fn line_of(mode: Mode, bytes: &[u8]) -> Form
     requires { 1 ≤ length bytes.now }
-    ensures { result ≡ line_of mode (length bytes.now) (place_on line_feed 1 (drop 1 bytes.now)) }
+    ensures { result ≡ line_of mode bytes.now (place_on line_feed 1 (drop 1 bytes.now)) }
 {
     match place_of(b'\n', bytes, 1) {
-        Some(at) => Form::Skipped(mode, at + 1),
-        None => Form::Skipped(mode, bytes.len()),
+        Some(at) => comment(mode, at + 1, ill_formed_of(mode.utf8, &bytes[..at])),
+        None => comment(mode, bytes.len(), ill_formed_of(mode.utf8, bytes)),
     }
 }
 
@@ -121,7 +132,7 @@ fn marked_by(mode: Mode, bytes: &[u8], byte: u8) -> Form
     ensures { result ≡ marked_by mode bytes.now byte }
 {
     match byte {
-        b'\\' => escaped_of(mode, escape_at(bytes)),
+        b'\\' => escaped_of(mode, escape_at(mode.utf8, bytes)),
         b'[' => bracket_of(bytes),
         b'(' => group_at(mode, bytes),
         b')' => Form::Closing,
@@ -133,7 +144,7 @@ fn marked_by(mode: Mode, bytes: &[u8], byte: u8) -> Form
         b'.' => Form::Any,
         b'^' => Form::Assert(start_of(mode), 1),
         b'$' => Form::Assert(end_of(mode), 1),
-        _ => Form::Character(byte, 1),
+        _ => character_form(character_of(mode.utf8, bytes, byte)),
     }
 }
 

@@ -4,8 +4,9 @@ ghost use Rattle.hs_syntax.specs.Names.{group_name_end};
 ghost use Rattle.hs_syntax.specs.Bytes.{place_on};
 ghost use Rattle.hs_syntax.specs.Groups.{comment_of, named_of, changed, settings_of, settings_at, letter_group};
 ghost use Rattle.hs_syntax.specs.Groups.{angle_group, hyphen_group, question_by, question_of, group_at};
-ghost use Rattle.hs_syntax.specs.Groups.{closing_parenthesis};
+ghost use Rattle.hs_syntax.specs.Groups.{comment, closing_parenthesis};
 
+use crate::character::ill_formed_of;
 use crate::form::Form;
 use crate::mode::{Change, Mode, set_options};
 use crate::name::{group_name_end, is_byte_at, is_digit_at, place_of};
@@ -111,11 +112,21 @@ fn named_of(mode: Mode, mark: u8, bytes: &[u8], at: usize) -> Form
 /// A comment, up to the first `)`.
 fn comment_of(mode: Mode, bytes: &[u8]) -> Form
     requires { 3 ≤ length bytes.now }
-    ensures { result ≡ comment_of mode (place_on closing_parenthesis 3 (drop 3 bytes.now)) }
+    ensures { result ≡ comment_of mode bytes.now (place_on closing_parenthesis 3 (drop 3 bytes.now)) }
 {
     match place_of(b')', bytes, 3) {
-        Some(close) => Form::Skipped(mode, close + 1),
+        Some(close) => comment(mode, close + 1, ill_formed_of(mode.utf8, &bytes[..close])),
         None => Form::Refused(Wrong::Syntax),
+    }
+}
+
+/// A comment of so many bytes, by the place of a byte in it that begins no character.
+pub(crate) fn comment(mode: Mode, length: usize, ill_formed: Option<usize>) -> Form
+    ensures { result ≡ comment mode length ill_formed }
+{
+    match ill_formed {
+        None => Form::Skipped(mode, length),
+        Some(place) => Form::Refused(Wrong::IllFormed(place)),
     }
 }
 

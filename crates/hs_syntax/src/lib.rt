@@ -2,9 +2,11 @@
 //! make together is said by the crate above.
 #![tactic(auto)]
 
+mod character;
 mod escape;
 mod form;
 mod group;
+mod laws;
 mod mode;
 mod name;
 mod named;
@@ -14,6 +16,7 @@ mod quantifier;
 mod wrong;
 
 pub use form::{Form, form_at};
+pub use laws::characters_are_encodings;
 pub use mode::Mode;
 pub use named::Named;
 pub use piece::{Piece, piece_at};

@@ -17,6 +17,8 @@ pub struct Mode {
     pub extended: bool,
     /// Between `\Q` and `\E`.
     pub quoted: bool,
+    /// A character is a code point in UTF-8, and not a byte.
+    pub utf8: bool,
 }
 
 /// Options that were changed, and the place behind the letters that did it.
@@ -40,6 +42,7 @@ impl Mode {
             multiline: flags.contains(Flags::MULTILINE),
             extended: false,
             quoted: false,
+            utf8: flags.contains(Flags::UTF8),
         }
     }
 

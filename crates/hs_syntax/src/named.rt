@@ -1,7 +1,8 @@
 //! Classes of bytes that have a name or a letter.
 ghost use Rattle.std.specs.Prelude.{◌≡◌, nat_eq};
 ghost use Rattle.std.specs.Cmp.Lexicographic.{pointwise};
-ghost use Rattle.hs_syntax.specs.Names.{is_of, named_letter, letter_class, other_class, under_case, class_of_name};
+ghost use Rattle.hs_syntax.specs.Names.{is_of, ranges_beyond, named_letter, letter_class, other_class};
+ghost use Rattle.hs_syntax.specs.Names.{under_case, class_of_name};
 
 /// A class of bytes that has a name or a letter.
 #[derive(Clone, Copy, Debug, PartialEq, Eq)]
@@ -12,9 +13,9 @@ pub enum Named {
     Word,
     /// `\s`: the blanks from 09 to 0D, and the space.
     Space,
-    /// `\h`: the tab, the space and A0.
+    /// `\h`: the tab, the space and A0, in UTF-8 further blanks.
     HorizontalSpace,
-    /// `\v`: the bytes from 0A to 0D, and 85.
+    /// `\v`: the bytes from 0A to 0D, and 85, in UTF-8 further ends of lines.
     VerticalSpace,
     /// `[:alpha:]`
     Letter,
@@ -40,6 +41,20 @@ pub enum Named {
     Punctuation,
 }
 
+/// The horizontal blanks that aren't ASCII.
+const HORIZONTAL_SPACE: [(u32, u32); 7] = [
+    (0xA0, 0xA0),
+    (0x1680, 0x1680),
+    (0x180E, 0x180E),
+    (0x2000, 0x200A),
+    (0x202F, 0x202F),
+    (0x205F, 0x205F),
+    (0x3000, 0x3000),
+];
+
+/// The vertical blanks that aren't ASCII.
+const VERTICAL_SPACE: [(u32, u32); 2] = [(0x85, 0x85), (0x2028, 0x2029)];
+
 impl Named {
     /// Whether the class has the byte.
     #[tactic(auto, unfolding(crate::specs::Names::is_of))]
@@ -63,6 +78,18 @@ impl Named {
             Named::Graphic => matches!(byte, 0x21..=0x7E),
             Named::Printed => matches!(byte, 0x20..=0x7E),
             Named::Punctuation => matches!(byte, 0x21..=0x7E) && !byte.is_ascii_alphanumeric(),
+        }
+    }
+
+    /// The code points of the class that aren't ASCII, by the first and the last of some in a row.
+    #[tactic(auto, unfolding(crate::specs::Names::ranges_beyond))]
+    pub fn ranges_beyond(self) -> &'static [(u32, u32)]
+        ensures { result.now ≡ ranges_beyond self }
+    {
+        match self {
+            Named::HorizontalSpace => &HORIZONTAL_SPACE,
+            Named::VerticalSpace => &VERTICAL_SPACE,
+            _ => &[],
         }
     }
 }

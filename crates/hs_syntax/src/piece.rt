@@ -2,9 +2,11 @@
 ghost use Rattle.std.specs.Prelude.{◌≡◌, ◌≤◌, ◌<◌, ◌+◌, length, slice_get};
 ghost use Rattle.hs_syntax.specs.Lengths.{PieceFits};
 ghost use Rattle.hs_syntax.specs.Names.{name_end};
-ghost use Rattle.hs_syntax.specs.Pieces.{escaped_of, collating_of, posix_at, bracket_at, piece_at};
+ghost use Rattle.hs_syntax.specs.Pieces.{escaped_of, collating_of, posix_at, bracket_at, piece_at, character_piece};
 
+use crate::character::character_of;
 use crate::escape::{Escape, escape_at};
+use crate::mode::Mode;
 use crate::name::{is_byte_at, name_end};
 use crate::named::{Named, class_of_name};
 use crate::wrong::Wrong;
@@ -18,7 +20,7 @@ pub enum Piece {
     /// The `]` that closes the class.
     Close,
     /// A character, and the length in bytes.
-    Character(u8, usize),
+    Character(u32, usize),
     /// The bytes of a class, or those that it hasn't, and the length in bytes.
     Class(Named, bool, usize),
     /// A form that is refused.
@@ -26,26 +28,36 @@ pub enum Piece {
 }
 
 /// What the bytes begin with in a class, as its first piece or as a later one.
-pub fn piece_at(caseless: bool, first: bool, bytes: &[u8]) -> Piece
-    ensures is { result ≡ piece_at caseless first bytes.now }
+pub fn piece_at(mode: Mode, first: bool, bytes: &[u8]) -> Piece
+    ensures is { result ≡ piece_at mode first bytes.now }
     ensures fits { PieceFits (length bytes.now) result }
 {
-    piece_by(caseless, first, bytes)
+    piece_by(mode, first, bytes)
 }
 
 /// What the bytes begin with in a class, by the first one.
 #[tactic(auto, unfolding(crate::specs::Pieces::piece_at))]
-fn piece_by(caseless: bool, first: bool, bytes: &[u8]) -> Piece
-    ensures { result ≡ piece_at caseless first bytes.now }
+fn piece_by(mode: Mode, first: bool, bytes: &[u8]) -> Piece
+    ensures { result ≡ piece_at mode first bytes.now }
 {
     let Some(byte) = bytes.get(0) else {
         return Piece::End;
     };
     match *byte {
-        b'\\' => escaped_of(escape_at(bytes)),
-        b'[' => bracket_at(caseless, bytes),
+        b'\\' => escaped_of(escape_at(mode.utf8, bytes)),
+        b'[' => bracket_at(mode.caseless, bytes),
         b']' if !first => Piece::Close,
-        other => Piece::Character(other, 1),
+        other => character_piece(character_of(mode.utf8, bytes, other)),
+    }
+}
+
+/// A character that stands for itself.
+fn character_piece(character: Option<(u32, usize)>) -> Piece
+    ensures { result ≡ character_piece character }
+{
+    match character {
+        Some((code, length)) => Piece::Character(code, length),
+        None => Piece::Refused(Wrong::IllFormed(0)),
     }
 }
 
@@ -72,7 +84,7 @@ fn bracket_at(caseless: bool, bytes: &[u8]) -> Piece
         Some(b':') => posix_at(caseless, bytes),
         Some(b'.') => collating_at(b'.', bytes),
         Some(b'=') => collating_at(b'=', bytes),
-        _ => Piece::Character(b'[', 1),
+        _ => Piece::Character(b'[' as u32, 1),
     }
 }
 
@@ -83,7 +95,7 @@ fn collating_at(mark: u8, bytes: &[u8]) -> Piece
 {
     match name_end(mark, bytes, 2) {
         Some(_) => Piece::Refused(Wrong::Unsupported(Construct::Collating)),
-        None => Piece::Character(b'[', 1),
+        None => Piece::Character(b'[' as u32, 1),
     }
 }
 
@@ -96,7 +108,7 @@ fn posix_at(caseless: bool, bytes: &[u8]) -> Piece
     let negated = is_byte_at(b'^', bytes, 2);
     let at = if negated { 3 } else { 2 };
     let Some(end) = name_end(b':', bytes, at) else {
-        return Piece::Character(b'[', 1);
+        return Piece::Character(b'[' as u32, 1);
     };
     match class_of_name(caseless, &bytes[at..end]) {
         Some(class) => Piece::Class(class, negated, end + 2),

@@ -27,7 +27,7 @@ pub(crate) fn brace_at(bytes: &[u8]) -> Form
 {
     let first = decimal_at(bytes, 1);
     if first.count == 0 {
-        return Form::Character(b'{', 1);
+        return Form::Character(b'{' as u32, 1);
     }
     first_of(bytes, first, first.count + 1)
 }
@@ -43,7 +43,7 @@ fn first_of(bytes: &[u8], first: Number, at: usize) -> Form
             let second = decimal_at(bytes, at + 1);
             second_of(bytes, first, second, at + 1 + second.count)
         }
-        _ => Form::Character(b'{', 1),
+        _ => Form::Character(b'{' as u32, 1),
     }
 }
 
@@ -53,7 +53,7 @@ fn second_of(bytes: &[u8], first: Number, second: Number, at: usize) -> Form
     ensures { result ≡ second_of bytes.now first second at }
 {
     if !is_byte_at(b'}', bytes, at) {
-        return Form::Character(b'{', 1);
+        return Form::Character(b'{' as u32, 1);
     }
     let greatest = if second.count == 0 {
         None

@@ -8,6 +8,8 @@ pub enum Wrong {
     Syntax,
     /// An escape that isn't known.
     UnknownEscape,
+    /// A byte that begins no well-formed encoding, so many bytes behind the first.
+    IllFormed(usize),
     /// A construct that isn't supported.
     Unsupported(Construct),
 }

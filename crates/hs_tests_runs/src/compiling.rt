@@ -44,19 +44,19 @@ fn refuses_by_the_first_reason(rt: HostRuntime) -> Result<(), AllocError> {
     Ok(())
 }
 
-/// How many roles a database has, and its identifiers.
+/// How many nodes a database has, and its identifiers.
 fn shown(alloc: Global, database: &Database) -> Result<String, AllocError> {
-    let mut text = format!(in alloc; "{}:", database.program().roles().len())?;
-    for identifier in database.program().identifiers() {
+    let mut text = format!(in alloc; "{}:", database.graph().table.nodes.len())?;
+    for identifier in &database.graph().identifiers {
         write!(text, " {}", identifier.id.0)?;
     }
     Ok(text)
 }
 
 #[test]
-fn builds_a_role_for_each_expression(rt: HostRuntime) -> Result<(), Fail> {
+fn builds_a_node_for_each_piece(rt: HostRuntime) -> Result<(), Fail> {
     let database = compiled(rt.alloc(), "7:/ab/ 3:/a|b/ 7:/[a-c]+d/")?;
-    assert!(rt; shown(rt.alloc(), &database)?.as_str() == "3: 3 7");
+    assert_eq!(rt; shown(rt.alloc(), &database)?.as_str(), "4: 3 7");
     Ok(())
 }
 

@@ -15,11 +15,17 @@ use std::test::Fail;
 /// Entries, a script over two streams of their database and one scratch, and what is reported when the streams are
 /// closed. A line of a script is the number of a stream, bytes that are written or `~` where it is reset, and the pairs
 /// that this reports.
-const SCRIPTS: [(&str, &str, &str); 2] = [
+const SCRIPTS: [(&str, &str, &str); 3] = [
     (
         "16:/foo/",
         "0<fo=|1<xf=|0<o=16:3 |1<oo=16:4 |0<fo=|0<~=|0<ofoo=16:4 ",
         "",
+    ),
+    // Reports come as bytes decide them, and a single one once.
+    (
+        "9:/a/ 4:/b/H 6:/b\\z/",
+        "0<x=|0<ab=9:2 4:3 |1<b=4:1 |0<ab=9:4 ",
+        "6:5 6:1 ",
     ),
     // A write of no byte reports nothing, also where the empty text matches at the start.
     ("2:/a*/V", "0<=|0<~=2:0 |0<b=2:0 2:1 ", "2:0 "),
@@ -35,7 +41,7 @@ fn write_reports(alloc: Global, out: &mut String, reports: &[Report]) -> Result<
 }
 
 /// Writes the bytes or resets the stream, and gives what this reports.
-fn told<L: Ledger>(
+pub(crate) fn told<L: Ledger>(
     alloc: Global,
     db: &Database,
     scratch: &mut Scratch,
@@ -75,6 +81,11 @@ fn told_last<L: Ledger>(
     Ok(out)
 }
 
+/// Whether no byte of the stream has come.
+fn is_at_start(db: &Database, stream: &Stream) -> bool {
+    stream.fits(db) && stream.offset(db) == 0
+}
+
 /// Checks what a call of a script reports.
 fn check_call<L: Ledger>(
     rt: &impl Abort,
@@ -90,7 +101,7 @@ fn check_call<L: Ledger>(
     if let Some(stream) = streams.get_mut(usize::from(number == "1")) {
         let found = told(alloc, db, scratch, stream, steps, bytes)?;
         assert!(rt; found.as_str() == wanted, "{row} reports {found}");
-        assert!(rt; bytes != "~" || stream.offset(db) == 0, "{row}");
+        assert!(rt; bytes != "~" || is_at_start(db, stream), "{row}");
     }
     Ok(())
 }
@@ -135,6 +146,14 @@ fn streams_see_nothing_of_each_other(rt: HostRuntime) -> Result<(), Fail> {
     for number in 0..SCRIPTS.len() {
         check_script(&rt, rt.alloc(), number)?;
     }
+    Ok(())
+}
+
+#[test]
+fn opens_on_the_region_of_no_byte(rt: HostRuntime) -> Result<(), Fail> {
+    let db = compiled(rt.alloc(), "16:/foo/")?;
+    let stream = opened(rt.alloc(), &db)?;
+    assert_eq!(rt; stream.region(), [0u8; 74].as_slice());
     Ok(())
 }
 

@@ -7,6 +7,11 @@ fn plain() -> Mode {
     Mode::of(Flags::NONE)
 }
 
+/// The options with i.
+fn caseless() -> Mode {
+    Mode::of(Flags::CASELESS)
+}
+
 /// The options with x.
 fn extended() -> Mode {
     let mut mode = plain();
@@ -28,7 +33,7 @@ fn begins_as_the_flags_say(rt: HostRuntime) {
         assert!(rt; mode.caseless == (bits & 1 == 1));
         assert!(rt; mode.dotall == (bits & 2 == 2));
         assert!(rt; mode.multiline == (bits & 4 == 4));
-        assert!(rt; !mode.extended && !mode.quoted);
+        assert!(rt; !mode.extended && !mode.quoted && !mode.utf8);
     }
 }
 
@@ -63,7 +68,7 @@ fn reads_under_options(rt: HostRuntime) {
     assert!(rt; form_at(extended(), b" a") == Form::Skipped(extended(), 1));
     assert!(rt; form_at(extended(), b"#a\nb") == Form::Skipped(extended(), 3));
     assert!(rt; form_at(quoted(), b"\\Ea") == Form::Skipped(plain(), 2));
-    assert!(rt; form_at(quoted(), b"(a") == Form::Character(b'(', 1));
+    assert!(rt; form_at(quoted(), b"(a") == Form::Character(0x28, 1));
 }
 
 #[test]
@@ -82,9 +87,9 @@ fn reads_pieces(rt: HostRuntime) {
         ),
     ];
     for (text, piece) in rows {
-        assert!(rt; piece_at(true, false, text) == piece, "{text:?}");
+        assert!(rt; piece_at(caseless(), false, text) == piece, "{text:?}");
     }
-    assert!(rt; piece_at(true, true, b"]") == Piece::Character(b']', 1));
+    assert!(rt; piece_at(caseless(), true, b"]") == Piece::Character(0x5D, 1));
 }
 
 /// How many bytes a class has.

@@ -24,6 +24,8 @@ mod refusals;
 #[cfg(test)]
 mod rows;
 #[cfg(test)]
+mod state_files;
+#[cfg(test)]
 mod support;
 #[cfg(test)]
 mod trees;

@@ -1,6 +1,6 @@
 -- The bytes of a write, as they come.
 use Rattle.std.proofs.Common.{◌≡◌, ◌≢◌, ℕ, zero, suc, ◌+◌, ◌-◌, ◌<◌, ◌≤◌, Bool, true, false, List, [], ◌∷◌, ◌++◌, length, take, drop, Option, Some, Ok, Err, refl, sym, ap, ◌∙◌, subst, arith, append-nil, length-append}
-use Rattle.hs_compile.specs.declared.database.Database.{Database}
+use Rattle.hs_compile.specs.Databases.{Compiled}
 use Rattle.hs_stream.specs.declared.stream.Stream.{Stream}
 use Rattle.hs_reader.specs.declared.fault.Break.{Break}
 use Rattle.hs_reader.specs.declared.fault.Break.TheVariants as stop
@@ -91,7 +91,7 @@ pub record SomeHaveCome (before now : Option (List ℕ)) (old new : Ahead) (coun
 -- ---- bytes that are scanned
 
 -- so many bytes were scanned so far
-pub record IsScannedSoFar (db : Database) (name : List ℕ) (count left : ℕ) (old new : Stream) (before now : Option (List ℕ)) (ahead aheads : Ahead) (taken takes : Option (List ℕ)) (waited waits : List ℕ) : Type 0 where
+pub record IsScannedSoFar (db : Compiled) (name : List ℕ) (count left : ℕ) (old new : Stream) (before now : Option (List ℕ)) (ahead aheads : Ahead) (taken takes : Option (List ℕ)) (waited waits : List ℕ) : Type 0 where
   pub came : List ℕ
   pub come : HasCome before now ahead aheads count left came
   pub scanned : Scans db (Some name) old new came (λ text. IsPassed taken takes waited waits text)

@@ -2,7 +2,7 @@
 ghost use Rattle.std.specs.Prelude.{◌≡◌, ℕ, ◌<◌, List};
 ghost use Rattle.hs_base.specs.Entries.{ListedEntry};
 ghost use Rattle.hs_base.specs.Patterns.{Pattern};
-ghost use Rattle.hs_compile.specs.Databases.{IsDatabaseOf};
+ghost use Rattle.hs_stream.specs.Standing.{RunsPatterns};
 ghost use Rattle.hs_lists.specs.ListKinds.{ListKind};
 ghost use Rattle.hs_lists.specs.Endings.{HasList, outside_of};
 ghost use Rattle.hs_tool.specs.Answers.{ScanEnds};
@@ -33,7 +33,7 @@ pub(crate) fn scan_whole<S: Store, O: Sink>(
     out: &mut O,
 ) -> Result<(), ScanFault>
     ensures ends { (kind : ListKind) (list : List ℕ) (entries : List ListedEntry) (P : List Pattern) →
-        HasList kind (S.told store.old list) entries P → IsDatabaseOf database.now P → ScanEnds kind list file.now
+        HasList kind (S.told store.old list) entries P → RunsPatterns database.now P → ScanEnds kind list file.now
         (outside_of (S.told store.old) (S.faults store.old) (O.written out.old) (O.faults out.old))
         (outside_of (S.told store.new) (S.faults store.new) (O.written out.new) (O.faults out.new))
         (outcome_of_scan file.now result) }
@@ -56,7 +56,7 @@ fn scan_counted<S: Store, O: Sink, L: Ledger>(
     requires parts { blank.parts ≡ L.parts }
     requires some { 0 < L.parts }
     ensures ends { (kind : ListKind) (list : List ℕ) (entries : List ListedEntry) (P : List Pattern) →
-        HasList kind (S.told store.old list) entries P → IsDatabaseOf database.now P →
+        HasList kind (S.told store.old list) entries P → RunsPatterns database.now P →
         ScanEnds kind list file.now.name.now
         (outside_of (S.told store.old) (S.faults store.old) (O.written out.old) (O.faults out.old))
         (outside_of (S.told store.new) (S.faults store.new) (O.written out.new) (O.faults out.new))

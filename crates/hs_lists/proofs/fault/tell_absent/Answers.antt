@@ -1,5 +1,4 @@
-use Rattle.std.proofs.Common.{ℕ, List, ◌++◌, codes, subst}
-use Rattle.hs_outside.specs.Sink.{IsSent, IsCutShort}
+use Rattle.std.proofs.Common.{◌++◌, codes}
 use Rattle.hs_outside.proofs.Sending.{IsSent-then, IsCutShort-longer, IsCutShort-after}
 use Rattle.hs_lists.proofs.EndingLemmas.{sends-behind}
 use Rattle.hs_lists.proofs.fault.tell_absent.Goals as goal

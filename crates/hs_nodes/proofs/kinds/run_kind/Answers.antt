@@ -1,9 +1,11 @@
-use Rattle.std.proofs.Common.{◌+◌, length, refl, sym, subst, ◌∙◌}
+use Rattle.std.proofs.Common.{◌+◌, ◌*◌, ◌≤◌, length, refl, sym, subst, ◌∙◌}
 use Rattle.std.proofs.lemmas.Option.{slice_get-get_or, slice_get_read}
 use Rattle.hs_nodes.specs.declared.table.NodeKind.{NodeKind}
 use Rattle.hs_nodes.specs.Contexts.{AreChunkContexts, NeedsContexts}
-use Rattle.hs_nodes.specs.Nodes.{IsKindSound, IsWellPart, TakesPiece}
-use Rattle.hs_nodes.proofs.KindLemmas.{engine-takes, engine-well, first-takes, literal-takes, needed-contexts}
+use Rattle.hs_nodes.specs.Hits.{hit_count, no_hits}
+use Rattle.hs_nodes.specs.declared.hits.ChunkHits.{ChunkHits}
+use Rattle.hs_nodes.specs.Nodes.{IsKindSound, IsWellPart, TakesPiece, most_ticks}
+use Rattle.hs_nodes.proofs.KindLemmas.{engine-takes, engine-well, first-takes, literal-takes, needed-contexts, pair-takes, same-default}
 use Rattle.hs_nodes.proofs.kinds.run_kind.Goals as goal
 
 pub null_ends-null-requires : goal.null_ends-null-requires
@@ -79,8 +81,8 @@ returns-in-Engine-clause-takes g c =
     let m = g.E.Engine.meaning in
     let engines = c.args.engines.now in
     let sound = subst (λ (k : NodeKind). IsKindSound m engines (length c.args.found.now.hits.now) k (length c.args.part.now)) c.in-Engine.is c.requires.sound in
-    subst (λ (k : NodeKind). TakesPiece m engines k c.args.part.now c.run_engine.new.region c.args.chunk.now.prev c.args.chunk.now.at c.args.chunk.now.bytes.now c.args.found.now.hits.now c.args.enters.now c.run_engine.result) (sym c.in-Engine.is)
-    (engine-takes m engines c.in-Engine.number c.in-Engine.null c.args.part.now c.run_engine.new.region c.args.chunk.now.prev c.args.chunk.now.at c.args.chunk.now.bytes.now c.args.found.now.hits.now c.args.enters.now c.null_ends-null.result c.run_engine.result
+    subst (λ (k : NodeKind). TakesPiece m engines k c.args.part.now c.run_engine.new.region c.args.chunk.now.prev c.args.chunk.now.at c.args.chunk.now.past.now c.args.chunk.now.bytes.now c.args.found.now.hits.now c.args.enters.now c.run_engine.result) (sym c.in-Engine.is)
+    (engine-takes m engines c.in-Engine.number c.in-Engine.null c.args.part.now c.run_engine.new.region c.args.chunk.now.prev c.args.chunk.now.at c.args.chunk.now.past.now c.args.chunk.now.bytes.now c.args.found.now.hits.now c.args.enters.now c.null_ends-null.result c.run_engine.result
     c.index-engines-number.result (slice_get_read engines (length engines) c.in-Engine.number c.index-engines-number.result refl sound.there c.index-engines-number.is) c.null_ends-null.ensures c.run_engine.ensures.takes)
 
 pub returns-in-Literal-clause-len : goal.returns-in-Literal-clause-len
@@ -96,8 +98,8 @@ returns-in-Literal-clause-takes g c =
     let engines = c.args.engines.now in
     let hits = c.args.found.now.hits.now in
     let sound = subst (λ (k : NodeKind). IsKindSound m engines (length hits) k (length c.args.part.now)) c.in-Literal.is c.requires.sound in
-    subst (λ (k : NodeKind). TakesPiece m engines k c.args.part.now c.run_literal_part.new.part c.args.chunk.now.prev c.args.chunk.now.at c.args.chunk.now.bytes.now hits c.args.enters.now c.run_literal_part.result) (sym c.in-Literal.is)
-    (literal-takes m engines c.in-Literal.number c.in-Literal.len c.args.part.now c.run_literal_part.new.part c.args.chunk.now.prev c.args.chunk.now.at c.args.chunk.now.bytes.now hits c.args.enters.now c.run_literal_part.result
+    subst (λ (k : NodeKind). TakesPiece m engines k c.args.part.now c.run_literal_part.new.part c.args.chunk.now.prev c.args.chunk.now.at c.args.chunk.now.past.now c.args.chunk.now.bytes.now hits c.args.enters.now c.run_literal_part.result) (sym c.in-Literal.is)
+    (literal-takes m engines c.in-Literal.number c.in-Literal.len c.args.part.now c.run_literal_part.new.part c.args.chunk.now.prev c.args.chunk.now.at c.args.chunk.now.past.now c.args.chunk.now.bytes.now hits c.args.enters.now c.run_literal_part.result
     _ (slice_get-get_or hits c.in-Literal.number _ sound.0) c.run_literal_part.ensures.takes)
 
 pub returns-in-FirstLiteral-clause-well : goal.returns-in-FirstLiteral-clause-well
@@ -109,6 +111,54 @@ returns-in-FirstLiteral-clause-takes g c =
     let engines = c.args.engines.now in
     let hits = c.args.found.now.hits.now in
     let sound = subst (λ (k : NodeKind). IsKindSound m engines (length hits) k (length c.args.part.now)) c.in-FirstLiteral.is c.requires.sound in
-    subst (λ (k : NodeKind). TakesPiece m engines k c.args.part.now c.args.part.now c.args.chunk.now.prev c.args.chunk.now.at c.args.chunk.now.bytes.now hits c.args.enters.now c.run_entries.result) (sym c.in-FirstLiteral.is)
-    (first-takes m engines c.in-FirstLiteral.number c.in-FirstLiteral.len c.every_entry-carry.result c.run_entries.new.carry c.args.part.now c.args.part.now c.args.chunk.now.prev c.args.chunk.now.at c.args.chunk.now.bytes.now hits c.args.enters.now c.run_entries.result
+    subst (λ (k : NodeKind). TakesPiece m engines k c.args.part.now c.args.part.now c.args.chunk.now.prev c.args.chunk.now.at c.args.chunk.now.past.now c.args.chunk.now.bytes.now hits c.args.enters.now c.run_entries.result) (sym c.in-FirstLiteral.is)
+    (first-takes m engines c.in-FirstLiteral.number c.in-FirstLiteral.len c.every_entry-carry.result c.run_entries.new.carry c.args.part.now c.args.part.now c.args.chunk.now.prev c.args.chunk.now.at c.args.chunk.now.past.now c.args.chunk.now.bytes.now hits c.args.enters.now c.run_entries.result
     _ (slice_get-get_or hits c.in-FirstLiteral.number _ sound.0) c.every_entry-carry.ensures.tells c.run_entries.ensures.takes)
+
+pub returns-in-Engine-clause-ticks : goal.returns-in-Engine-clause-ticks
+returns-in-Engine-clause-ticks g c = subst (λ (k : NodeKind). c.run_engine.new.steps ≤ c.args.steps.now + most_ticks k c.args.found.now.hits.now (length c.args.chunk.now.bytes.now)) (sym c.in-Engine.is) c.run_engine.ensures.ticks
+
+pub bounds-engines-pair : goal.bounds-engines-pair
+bounds-engines-pair g c = (subst (λ (k : NodeKind). IsKindSound g.E.Engine.meaning c.args.engines.now (length c.args.found.now.hits.now) k (length c.args.part.now)) c.in-LookBack.is c.requires.sound).0.there
+
+pub bounds-found-pair : goal.bounds-found-pair
+bounds-found-pair g c = (subst (λ (k : NodeKind). IsKindSound g.E.Engine.meaning c.args.engines.now (length c.args.found.now.hits.now) k (length c.args.part.now)) c.in-LookBack.is c.requires.sound).1
+
+pub run_pair-requires-clause-room : goal.run_pair-requires-clause-room
+run_pair-requires-clause-room g c =
+    let engines = c.args.engines.now in
+    let sound = subst (λ (k : NodeKind). IsKindSound g.E.Engine.meaning engines (length c.args.found.now.hits.now) k (length c.args.part.now)) c.in-LookBack.is c.requires.sound in
+    (sound.0.each c.index-engines-pair.result (slice_get_read engines (length engines) c.in-LookBack.pair.engine c.index-engines-pair.result refl sound.0.there c.index-engines-pair.is)).0
+
+pub run_pair-requires-clause-listed : goal.run_pair-requires-clause-listed
+run_pair-requires-clause-listed g c =
+    let engines = c.args.engines.now in
+    let sound = subst (λ (k : NodeKind). IsKindSound g.E.Engine.meaning engines (length c.args.found.now.hits.now) k (length c.args.part.now)) c.in-LookBack.is c.requires.sound in
+    (sound.0.each c.index-engines-pair.result (slice_get_read engines (length engines) c.in-LookBack.pair.engine c.index-engines-pair.result refl sound.0.there c.index-engines-pair.is)).1
+
+pub run_pair-requires-clause-some : goal.run_pair-requires-clause-some
+run_pair-requires-clause-some g c = (subst (λ (k : NodeKind). IsKindSound g.E.Engine.meaning c.args.engines.now (length c.args.found.now.hits.now) k (length c.args.part.now)) c.in-LookBack.is c.requires.sound).2
+
+pub run_pair-requires-clause-short : goal.run_pair-requires-clause-short
+run_pair-requires-clause-short g c = (subst (λ (k : NodeKind). IsKindSound g.E.Engine.meaning c.args.engines.now (length c.args.found.now.hits.now) k (length c.args.part.now)) c.in-LookBack.is c.requires.sound).3
+
+pub returns-in-LookBack-clause-well : goal.returns-in-LookBack-clause-well
+returns-in-LookBack-clause-well g c = subst (λ (k : NodeKind). IsWellPart g.E.Engine.meaning c.args.engines.now k c.args.part.now (c.args.chunk.now.at + length c.args.chunk.now.bytes.now)) (sym c.in-LookBack.is) tt
+
+pub returns-in-LookBack-clause-ticks : goal.returns-in-LookBack-clause-ticks
+returns-in-LookBack-clause-ticks g c =
+    let hits = c.args.found.now.hits.now in
+    let count = length c.args.chunk.now.bytes.now in
+    let sound = subst (λ (k : NodeKind). IsKindSound g.E.Engine.meaning c.args.engines.now (length hits) k (length c.args.part.now)) c.in-LookBack.is c.requires.sound in
+    subst (λ (k : NodeKind). c.run_pair.new.steps ≤ c.args.steps.now + most_ticks k hits count) (sym c.in-LookBack.is)
+    (subst (λ (own : ChunkHits). c.run_pair.new.steps ≤ c.args.steps.now + 16 * hit_count own count) (same-default hits c.in-LookBack.pair.literal _ no_hits sound.1) c.run_pair.ensures.ticks)
+
+pub returns-in-LookBack-clause-takes : goal.returns-in-LookBack-clause-takes
+returns-in-LookBack-clause-takes g c =
+    let m = g.E.Engine.meaning in
+    let engines = c.args.engines.now in
+    let hits = c.args.found.now.hits.now in
+    let sound = subst (λ (k : NodeKind). IsKindSound m engines (length hits) k (length c.args.part.now)) c.in-LookBack.is c.requires.sound in
+    subst (λ (k : NodeKind). TakesPiece m engines k c.args.part.now c.args.part.now c.args.chunk.now.prev c.args.chunk.now.at c.args.chunk.now.past.now c.args.chunk.now.bytes.now hits c.args.enters.now c.run_pair.result) (sym c.in-LookBack.is)
+    (pair-takes m engines c.in-LookBack.pair c.args.part.now c.args.part.now c.args.chunk.now.prev c.args.chunk.now.at c.args.chunk.now.past.now c.args.chunk.now.bytes.now hits c.args.enters.now c.run_pair.result
+    c.index-engines-pair.result _ (slice_get_read engines (length engines) c.in-LookBack.pair.engine c.index-engines-pair.result refl sound.0.there c.index-engines-pair.is) (slice_get-get_or hits c.in-LookBack.pair.literal _ sound.1) c.run_pair.ensures.takes)

@@ -44,3 +44,9 @@ returns-in-FirstLiteral-clause-unset g c = (λ still. subst (λ (k : NodeKind). 
 
 pub returns-in-FirstLiteral-clause-rests : goal.returns-in-FirstLiteral-clause-rests
 returns-in-FirstLiteral-clause-rests g c still = subst (λ (k : NodeKind). IsResting g.E.Engine.meaning c.args.engines.now k c.args.part.now) (sym c.in-FirstLiteral.is) tt
+
+pub returns-in-LookBack-clause-unset : goal.returns-in-LookBack-clause-unset
+returns-in-LookBack-clause-unset g c = (λ still. subst (λ (k : NodeKind). IsUnset k c.args.part.now) (sym c.in-LookBack.is) tt, λ unset. refl)
+
+pub returns-in-LookBack-clause-rests : goal.returns-in-LookBack-clause-rests
+returns-in-LookBack-clause-rests g c still = subst (λ (k : NodeKind). IsResting g.E.Engine.meaning c.args.engines.now k c.args.part.now) (sym c.in-LookBack.is) tt

@@ -1,10 +1,10 @@
 use Rattle.std.proofs.Common.{◌≡◌, ◌≤◌, ◌<◌, ◌+◌, ◌-◌, ℕ, List, length, slice_index, true, refl, suc, inl, inr, sym, subst, ◌∙◌, arith}
-use Rattle.std.proofs.Math.Nat.{mul-le-mul_right}
 use Rattle.hs_nodes.specs.Left.{nowhere}
 use Rattle.hs_nodes.specs.Marks.{is_marked}
 use Rattle.hs_nodes.specs.Nodes.{IsWellPart}
+use Rattle.hs_nodes.proofs.KindLemmas.{same-default}
 use Rattle.hs_nodes.proofs.NodeLemmas.{marks-none}
-use Rattle.hs_nodes.proofs.WalkLemmas.{IsWalk, same-default, there, walk-takes, walk-to, walk-visit, walk-well}
+use Rattle.hs_nodes.proofs.WalkLemmas.{IsWalk, there, ticks-all, ticks-grow, ticks-more, walk-takes, walk-to, walk-visit, walk-well}
 use Rattle.hs_nodes.proofs.walking.walk.Goals as goal
 use Rattle.hs_nodes.proofs.walking.walk.Goals.{then-not-is_nowhere, else-not-is_nowhere}
 
@@ -29,30 +29,31 @@ loop-k-preserved g c =
     let below : k < length table.nodes.items = inv.walk.more.below k c.in-Some.ensures.is in
     let own = there table.nodes.items k below in
     let next : suc k ≡ k + 1 = omega arith in
-    let here = walk-to m table c.args.region.now c.args.marks.now chunk.prev chunk.at chunk.bytes.now hits c.requires.sound chunk.few c.requires.rests c.loop-k.region c.loop-k.ends c.loop-k.marks c.loop-k.from (k - c.loop-k.from) k (omega (arith, c.in-Some.ensures.low)) (omega (arith, below))
+    let here = walk-to m table c.args.region.now c.args.marks.now chunk.prev chunk.at chunk.past.now chunk.bytes.now hits c.requires.sound chunk.few c.requires.rests c.loop-k.region c.loop-k.ends c.loop-k.marks c.loop-k.from (k - c.loop-k.from) k (omega (arith, c.in-Some.ensures.low)) (omega (arith, below))
     c.in-Some.ensures.least inv.walk in record {
       len = c.run_node.ensures.len ∙ inv.len;
       ends = c.run_node.ensures.ends ∙ inv.ends;
       steps =
-          let up = mul-le-mul_right (length chunk.bytes.now) c.in-Some.ensures.low in
-          omega (arith, up, c.run_node.ensures.ticks, inv.steps);
+          let more = ticks-more table.nodes.items k hits (length chunk.bytes.now) own.0 own.1 in
+          let up = ticks-grow table.nodes.items c.loop-k.from k hits (length chunk.bytes.now) c.in-Some.ensures.low in
+          let here = c.run_node.ensures.ticks own.0 own.1 in
+          omega (arith, more, up, here, inv.steps);
       walk = elim c.if-not-is_nowhere.branch [
         | then-not-is_nowhere w ↦
-            subst (λ (ms : List ℕ). IsWalk m table c.args.region.now c.args.marks.now chunk.prev chunk.at chunk.bytes.now hits c.run_node.new.region c.run_node.new.ends ms (k + 1)) (sym w.marks-is)
-            (walk-visit m table c.args.region.now c.args.marks.now chunk.prev chunk.at chunk.bytes.now hits c.requires.sound chunk.few c.everywhere-all.result c.everywhere-all.ensures c.loop-k.region c.run_node.new.region c.loop-k.ends c.run_node.new.ends c.loop-k.marks w.mark_children.new.marks
+            subst (λ (ms : List ℕ). IsWalk m table c.args.region.now c.args.marks.now chunk.prev chunk.at chunk.past.now chunk.bytes.now hits c.run_node.new.region c.run_node.new.ends ms (k + 1)) (sym w.marks-is)
+            (walk-visit m table c.args.region.now c.args.marks.now chunk.prev chunk.at chunk.past.now chunk.bytes.now hits c.requires.sound chunk.few c.everywhere-all.result c.everywhere-all.ensures c.loop-k.region c.run_node.new.region c.loop-k.ends c.run_node.new.ends c.loop-k.marks w.mark_children.new.marks
             k (k + 1) refl own.0 own.1 c.in-Some.ensures.is (c.run_node.ensures.runs own.0 own.1) c.run_node.ensures.len w.mark_children.ensures.more (inr (λ j among. subst (λ n. is_marked w.mark_children.new.marks n ≡ true) among.is (w.mark_children.ensures.all among.place among.low (omega (arith, subst (λ n. among.place < slice_index table.child_starts.items n) next among.high))))) here)
         | else-not-is_nowhere w ↦
-            subst (λ (ms : List ℕ). IsWalk m table c.args.region.now c.args.marks.now chunk.prev chunk.at chunk.bytes.now hits c.run_node.new.region c.run_node.new.ends ms (k + 1)) (sym w.marks-is)
-            (walk-visit m table c.args.region.now c.args.marks.now chunk.prev chunk.at chunk.bytes.now hits c.requires.sound chunk.few c.everywhere-all.result c.everywhere-all.ensures c.loop-k.region c.run_node.new.region c.loop-k.ends c.run_node.new.ends c.loop-k.marks c.loop-k.marks
+            subst (λ (ms : List ℕ). IsWalk m table c.args.region.now c.args.marks.now chunk.prev chunk.at chunk.past.now chunk.bytes.now hits c.run_node.new.region c.run_node.new.ends ms (k + 1)) (sym w.marks-is)
+            (walk-visit m table c.args.region.now c.args.marks.now chunk.prev chunk.at chunk.past.now chunk.bytes.now hits c.requires.sound chunk.few c.everywhere-all.result c.everywhere-all.ensures c.loop-k.region c.run_node.new.region c.loop-k.ends c.run_node.new.ends c.loop-k.marks c.loop-k.marks
             k (k + 1) refl own.0 own.1 c.in-Some.ensures.is (c.run_node.ensures.runs own.0 own.1) c.run_node.ensures.len (marks-none (length table.nodes.items) c.loop-k.marks inv.walk.more.below) (inl (same-default c.run_node.new.ends k nowhere _ (omega (arith, below, c.run_node.ensures.ends, inv.ends)) ∙ c.is_nowhere.ensures.0 w.if-not-is_nowhere.false)) here)
       ];
     }
 
 pub returns-clause-ticks : goal.returns-clause-ticks
 returns-clause-ticks g c =
-    let inv = c.loop-k.invariant in
-    let up = mul-le-mul_right (length c.args.chunk.now.bytes.now) inv.walk.within in
-    omega (arith, up, inv.steps)
+    let up = ticks-all c.args.table.now.nodes.items c.loop-k.from c.args.found.now.hits.now (length c.args.chunk.now.bytes.now) in
+    omega (arith, up, c.loop-k.invariant.steps)
 
 pub returns-clause-well : goal.returns-clause-well
 returns-clause-well g c =
@@ -60,8 +61,8 @@ returns-clause-well g c =
     let chunk = c.args.chunk.now in
     let inv = c.loop-k.invariant in
     let room = inv.walk.more.room in
-    walk-well g.E.Engine.meaning table c.args.region.now c.args.marks.now chunk.prev chunk.at chunk.bytes.now c.args.found.now.hits.now c.requires.sound chunk.few c.loop-k.region c.loop-k.ends c.loop-k.marks
-    (walk-to g.E.Engine.meaning table c.args.region.now c.args.marks.now chunk.prev chunk.at chunk.bytes.now c.args.found.now.hits.now c.requires.sound chunk.few c.requires.rests c.loop-k.region c.loop-k.ends c.loop-k.marks c.loop-k.from (length table.nodes.items - c.loop-k.from) (length table.nodes.items)
+    walk-well g.E.Engine.meaning table c.args.region.now c.args.marks.now chunk.prev chunk.at chunk.past.now chunk.bytes.now c.args.found.now.hits.now c.requires.sound chunk.few c.loop-k.region c.loop-k.ends c.loop-k.marks
+    (walk-to g.E.Engine.meaning table c.args.region.now c.args.marks.now chunk.prev chunk.at chunk.past.now chunk.bytes.now c.args.found.now.hits.now c.requires.sound chunk.few c.requires.rests c.loop-k.region c.loop-k.ends c.loop-k.marks c.loop-k.from (length table.nodes.items - c.loop-k.from) (length table.nodes.items)
     (omega (arith, inv.walk.within)) (omega arith) (λ j low high. c.in_default.ensures j low (omega (arith, room, c.requires.room))) inv.walk)
 
 pub returns-clause-takes : goal.returns-clause-takes
@@ -70,6 +71,6 @@ returns-clause-takes g c =
     let chunk = c.args.chunk.now in
     let inv = c.loop-k.invariant in
     let room = inv.walk.more.room in
-    walk-takes g.E.Engine.meaning table c.args.region.now c.args.marks.now chunk.prev chunk.at chunk.bytes.now c.args.found.now.hits.now c.requires.sound chunk.few c.loop-k.region c.loop-k.ends c.loop-k.marks
-    (walk-to g.E.Engine.meaning table c.args.region.now c.args.marks.now chunk.prev chunk.at chunk.bytes.now c.args.found.now.hits.now c.requires.sound chunk.few c.requires.rests c.loop-k.region c.loop-k.ends c.loop-k.marks c.loop-k.from (length table.nodes.items - c.loop-k.from) (length table.nodes.items)
+    walk-takes g.E.Engine.meaning table c.args.region.now c.args.marks.now chunk.prev chunk.at chunk.past.now chunk.bytes.now c.args.found.now.hits.now c.requires.sound chunk.few c.loop-k.region c.loop-k.ends c.loop-k.marks
+    (walk-to g.E.Engine.meaning table c.args.region.now c.args.marks.now chunk.prev chunk.at chunk.past.now chunk.bytes.now c.args.found.now.hits.now c.requires.sound chunk.few c.requires.rests c.loop-k.region c.loop-k.ends c.loop-k.marks c.loop-k.from (length table.nodes.items - c.loop-k.from) (length table.nodes.items)
     (omega (arith, inv.walk.within)) (omega arith) (λ j low high. c.in_default.ensures j low (omega (arith, room, c.requires.room))) inv.walk)

@@ -10,9 +10,9 @@ items_of-requires-clause-within c =
 
 pub returns-in_err-set : goal.returns-in_err-set
 returns-in_err-set c =
-    let here : ClassToken c.args.text.now c.args.caseless c.args.at (faulty c.in_err-set.field-0.0) c.args.at =
+    let here : ClassToken c.args.text.now c.args.mode c.args.at (faulty c.in_err-set.field-0.0) c.args.at =
     refused_at _ _ _ _ (as_refused _ _ _ _ _ c.items_start.ensures c.in_err-set.ensures) in
-    fault_on _ (λ refusal. ClassToken c.args.text.now c.args.caseless c.args.at (faulty refusal) c.args.at)
+    fault_on _ (λ refusal. ClassToken c.args.text.now c.args.mode c.args.at (faulty refusal) c.args.at)
     c.from_residual.result _ c.from_residual.ensures here
 
 pub returns-in_default : goal.returns-in_default

@@ -1,7 +1,7 @@
 use Rattle.std.proofs.Common.{sym, ◌∙◌, arith}
 use Rattle.hs_parse.specs.Reading.{FromEach, StopsFrom}
 use Rattle.hs_parse.proofs.StopLemmas.{faulty_stops, depth_stops, group_stops, quantifier_stops, passes_stops}
-use Rattle.hs_parse.proofs.LoopLemmas.{as_next, bar_rises, no_alternatives, no_sequence, more_sequence, setting_sequence, more_alternatives, all_alternatives, group_read, group_open, sequence_ends, single_read, assertion_read, once_read, repeated_read, twice_read, wrong_read, sequence_read, handed_on}
+use Rattle.hs_parse.proofs.LoopLemmas.{as_next, bar_rises, no_alternatives, no_sequence, more_sequence, setting_sequence, more_alternatives, all_alternatives, group_read, group_open, sequence_ends, single_read, point_read, point_there, point_within, assertion_read, once_read, repeated_read, twice_read, wrong_read, sequence_read, handed_on}
 use Rattle.hs_parse.proofs.parser.+parser.Goals as goal
 
 pub alternation_at-loop-alternatives-init : goal.alternation_at-loop-alternatives-init
@@ -34,6 +34,15 @@ atom_at-returns-in-End-clause-read t c = λ at next. sequence_ends _ at c.args.f
 
 pub atom_at-returns-in-Single-clause-read : goal.atom_at-returns-in-Single-clause-read
 atom_at-returns-in-Single-clause-read t c = λ at next. single_read _ _ at c.args.found _ next c.in-Single.is
+
+pub atom_at-points_at-requires-clause-there : goal.atom_at-points_at-requires-clause-there
+atom_at-points_at-requires-clause-there t c = point_there _ c.args.found c.requires.next c.in-Point.is
+
+pub atom_at-points_at-requires-clause-within : goal.atom_at-points_at-requires-clause-within
+atom_at-points_at-requires-clause-within t c = point_within _ c.args.found c.requires.next
+
+pub atom_at-returns-in_ok-ranges-in-Point-clause-read : goal.atom_at-returns-in_ok-ranges-in-Point-clause-read
+atom_at-returns-in_ok-ranges-in-Point-clause-read t c = λ at next. point_read _ _ at c.args.found _ c.in_ok-ranges-in-Point.ensures next c.in-Point.is
 
 pub atom_at-returns-in-Assert-clause-read : goal.atom_at-returns-in-Assert-clause-read
 atom_at-returns-in-Assert-clause-read t c = λ at next. assertion_read _ _ at c.args.found _ next c.in-Assert.is

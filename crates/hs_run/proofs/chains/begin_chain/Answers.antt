@@ -27,3 +27,9 @@ pub overflow_add-result : goal.overflow_add-result
 overflow_add-result g c =
     let (r, role, sound) = looks c.args.program.now c.args.chain.now c.requires.sound (c.begins_back.ensures.0 c.if-begins_back.true) in
     omega (arith, sound.within, c.requires.sound.small)
+
+pub returns-then-begins_back-clause-ticks : goal.returns-then-begins_back-clause-ticks
+returns-then-begins_back-clause-ticks g c = omega (arith, c.leave_looked_back.ensures.ticks)
+
+pub returns-clause-ticks : goal.returns-clause-ticks
+returns-clause-ticks g c = omega arith

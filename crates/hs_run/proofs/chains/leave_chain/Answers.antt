@@ -38,3 +38,6 @@ pub returns-clause-leaves : goal.returns-clause-leaves
 returns-clause-leaves g c plan x u runs is kept =
     let e : c.loop-k.k - c.args.chain.now.first ≡ length x.chain = omega (arith, c.loop-k-test.false, c.loop-k.auto.k-end c.begin_chain-begun.ensures.high, runs.end) in
     subst (λ pieces. TellsLeaving (has_next c.loop-k.now) pieces u) (ap (λ n. take n x.chain) e ∙ take-length x.chain) (c.loop-k.invariant.leaves plan x u runs is kept)
+
+pub returns-clause-ticks : goal.returns-clause-ticks
+returns-clause-ticks g c = omega (arith, c.begin_chain-begun.ensures.ticks, c.begin_chain-begun.ensures.low, c.begin_chain-begun.ensures.high)

@@ -25,6 +25,7 @@ step_at-now-requires-clause-part g c r role =
 pub loop-k-init : goal.loop-k-init
 loop-k-init g c = record {
   low = c.begin_chain-begun.ensures.low;
+  ticks = c.begin_chain-begun.ensures.ticks;
   written = written-none c.args.layout.now c.args.chain.now.first c.begin_chain-begun.result.next c.args.region.now;
   parts = no_field-parts c.args.program.now c.args.layout.now c.args.region.now c.args.chain.now.first c.begin_chain-begun.result.next (c.args.spot.now.at + 1) c.begin_chain-begun.ensures.bare;
   next = λ plan x u runs is. let begins = c.begin_chain-begun.ensures.begins plan x u runs is in omega (arith, begins.next);
@@ -56,6 +57,7 @@ loop-k-preserved g c =
     subst (λ bytes. KeepsOn program r bytes (field_bytes l c.step_at-now.new.region k) c.args.spot.now c.args.byte c.loop-k.now) same (step.keeps r role) in
     record {
       low = omega (arith, inv.low);
+      ticks = omega (arith, inv.low, inv.ticks, step.ticks);
       written = written-more l first k (k + 1) c.args.region.now c.loop-k.region c.step_at-now.new.region inv.low (omega arith) inv.written step.written;
       parts = parts-more program l first k (c.args.spot.now.at + 1) c.loop-k.region c.step_at-now.new.region inside step.written inv.parts step.part;
       next = λ plan x u runs is. let n = inv.next plan x u runs is in omega (arith, n);
@@ -88,3 +90,8 @@ pub returns-clause-steps : goal.returns-clause-steps
 returns-clause-steps g c plan x u runs is kept =
     let e : c.loop-k.k ≡ c.args.chain.now.end = omega (arith, c.loop-k-test.false, c.loop-k.auto.k-end c.begin_chain-begun.ensures.high) in
     subst (λ n. AreKept plan c.args.layout.now c.loop-k.region c.args.chain.now.first n (u ++ c.args.byte ∷ [])) e (c.loop-k.invariant.keeps plan x u runs is kept)
+
+pub returns-clause-ticks : goal.returns-clause-ticks
+returns-clause-ticks g c =
+    let e : c.loop-k.k ≡ c.args.chain.now.end = omega (arith, c.loop-k-test.false, c.loop-k.auto.k-end c.begin_chain-begun.ensures.high) in
+    omega (arith, e, c.loop-k.invariant.ticks)

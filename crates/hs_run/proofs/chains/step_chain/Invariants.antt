@@ -1,4 +1,4 @@
-use Rattle.std.proofs.Common.{ℕ, ◌+◌, ◌-◌, ◌≤◌, List, [], ◌∷◌, ◌++◌, take}
+use Rattle.std.proofs.Common.{ℕ, ◌+◌, ◌*◌, ◌-◌, ◌≤◌, List, [], ◌∷◌, ◌++◌, take}
 use Rattle.hs_base.specs.ContextSets.{has_next}
 use Rattle.hs_base.specs.Leaving.{TellsLeaving}
 use Rattle.hs_base.specs.Regions.{Plan}
@@ -10,6 +10,7 @@ use Rattle.hs_run.proofs.chains.step_chain.Given as goal
 abbrev pub invariant-loop-k : goal.invariant-loop-k
 invariant-loop-k g l = record {
   low : l.chain.first ≤ l.k;
+  ticks : l.steps ≤ l.fn.steps + 8 * (l.k - l.chain.first);
   written : AreWritten l.layout l.chain.first l.k l.fn.region l.region;
   parts : AreParts l.program l.layout l.region l.chain.first l.k (l.spot.at + 1);
   next : (plan : Plan) (x : Row) (u : List ℕ) → RunsRow l.program plan l.chain x → IsSpot u l.spot → l.chain.first + looked (plan.looks_back x.chain) ≤ l.k;

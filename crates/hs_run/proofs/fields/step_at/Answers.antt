@@ -50,3 +50,6 @@ returns-clause-keeps g c r role =
     subst (λ bytes. KeepsOn c.args.program.now r (field_bytes c.args.layout.now c.args.region.now c.args.k) bytes c.args.spot.now c.args.byte c.args.now) (sym put.here)
     (subst (λ q. KeepsOn c.args.program.now q (field_bytes c.args.layout.now c.args.region.now c.args.k) c.step_role.new.part c.args.spot.now c.args.byte c.args.now) one
     (subst (λ bytes. KeepsOn c.args.program.now c.role_at.result.now bytes c.step_role.new.part c.args.spot.now c.args.byte c.args.now) same c.step_role.ensures.keeps))
+
+pub returns-clause-ticks : goal.returns-clause-ticks
+returns-clause-ticks g c = c.step_role.ensures.ticks

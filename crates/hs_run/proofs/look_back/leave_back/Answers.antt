@@ -16,3 +16,6 @@ returns-clause-leaves g c e tree rest u there runs listed narrow is_null fit is 
     let both = c.run_back-prev.ensures.runs tree u for_it (subst (λ q. (piece_meaning q).always ≡ false) one listed) is in
     back-leaves (piece_meaning engine) tree rest (take k u) c.run_back-prev.new.part c.run_back-prev.result (c.args.spot.now.at - c.args.back) c.null.result c.all.result c.out-out.result c.go_on.result for_it narrow (subst (λ mask. IsRoleNull mask tree) (sym c.null.ensures) is_null) fit both.0
     (both.1 ∙ prev-take u k (omega arith)) (omega (arith, is.offset, size)) c.out-out.ensures.leaves c.all.ensures c.go_on.ensures
+
+pub returns-clause-ticks : goal.returns-clause-ticks
+returns-clause-ticks g c = c.run_back-prev.ensures.ticks

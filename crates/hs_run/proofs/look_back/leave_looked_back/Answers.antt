@@ -85,3 +85,9 @@ returns-clause-leaves g c chain u looked fit is =
     (looked-tells looked.tree xs looked.rest u some is.bytes fits c.leave_back-before.result c.all_if.result c.contains.result (get_or c.args.spot.now.history (64 - back) 0) ends
     (window-byte u c.args.spot.now.history (length u - length xs) (64 - back) is.past (omega (arith, within, some, size)) (omega (arith, is_back, within, short, size)))
     tells (c.contains.ensures ∙ ap (has_next c.leave_back-before.result) c.class_of.ensures) c.all_if.ensures)
+
+pub returns-then-not-ends_here-clause-ticks : goal.returns-then-not-ends_here-clause-ticks
+returns-then-not-ends_here-clause-ticks g c = omega arith
+
+pub returns-clause-ticks : goal.returns-clause-ticks
+returns-clause-ticks g c = c.leave_back-before.ensures.ticks

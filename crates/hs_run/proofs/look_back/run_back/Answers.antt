@@ -7,6 +7,7 @@ pub loop-i-init : goal.loop-i-init
 loop-i-init g c = record {
   len = c.clear.ensures.len;
   well = c.clear.ensures.well (c.args.spot.now.at - (c.args.back + c.min-seen.result) + 0);
+  ticks = omega arith;
   runs = λ tree u runs listed is.
       let n : ℕ = c.args.spot.now.at - (c.args.back + c.min-seen.result) in
       let within : n ≤ length u = omega (arith, is.offset) in
@@ -27,6 +28,7 @@ loop-i-preserved g c =
     record {
       len = c.step.ensures.len;
       well = subst (m.well c.step.new.region) e c.step.ensures.well;
+      ticks = omega (arith, c.step.ensures.ticks, inv.ticks);
       runs = λ tree u runs listed is.
           let below : n + i < length u = omega (arith, is.offset, c.min-seen.ensures, c.requires.within, c.loop-i-test.true) in
           run-more m tree runs listed u n i (n + i) (get_or c.args.spot.now.history place 0) c.loop-i.part c.step.new.region c.loop-i.prev c.behind-prev.result c.all.result (inv.runs tree u runs listed is) below
@@ -45,3 +47,6 @@ returns-clause-runs g c tree u runs listed is =
     ] in
     run-end (g.E.Engine.meaning c.args.engine.now) tree runs listed u n c.min-seen.result c.args.back c.loop-i.part c.loop-i.prev end (omega (arith, is.offset, c.requires.within))
     (omega (arith, is.offset, c.min-seen.ensures, c.requires.within)) enough
+
+pub returns-clause-ticks : goal.returns-clause-ticks
+returns-clause-ticks g c = omega (arith, c.loop-i.invariant.ticks, c.loop-i-test.false, c.loop-i.auto.i-end, c.min-seen.ensures)

@@ -1,4 +1,4 @@
-use Rattle.std.proofs.Common.{[], ◌∷◌, ◌++◌}
+use Rattle.std.proofs.Common.{[], ◌∷◌, ◌++◌, arith}
 use Rattle.hs_base.specs.declared.context.Next.TheVariants as after
 use Rattle.hs_base.specs.Contexts.{class_of}
 use Rattle.hs_base.specs.ContextSets.{has_next}
@@ -23,3 +23,6 @@ returns-clause-moves g c plan x u runs is kept =
         behind = noted (has_next c.within_bounds-2.result after.Unknown) old.behind new.behind (RowEnds x.pattern.id (u ++ b ∷ []) after.Unknown x) (behind after.Unknown) c.note.ensures.behind;
       };
     }
+
+pub returns-clause-ticks : goal.returns-clause-ticks
+returns-clause-ticks g c = omega (arith, c.step_chain-left.ensures.ticks, c.leave_chain-left_behind.ensures.ticks)

@@ -1,14 +1,16 @@
-use Rattle.std.proofs.Common.{◌≡◌, ap, length, get_or, Some, slice_get, ◌∙◌, arith}
+use Rattle.std.proofs.Common.{◌≡◌, ◌+◌, ◌*◌, ◌≤◌, ap, length, get_or, Some, slice_get, ◌∙◌, arith}
 use Rattle.std.proofs.lemmas.List.{length-set}
 use Rattle.std.proofs.lemmas.Option.{slice_get-get_or}
 use Rattle.hs_run.specs.Ends.{no_ends}
 use Rattle.hs_run.proofs.DoneLemmas.{chain-parts, done-moves, done-more, done-none, done-parts, done-written}
+use Rattle.hs_run.proofs.TickLemmas.{bound-more, bound-none}
 use Rattle.hs_run.proofs.moving.move_chains.Goals as goal
 
 pub loop-j-init : goal.loop-j-init
 loop-j-init g c = record {
   ends = c.forget.ensures.len ∙ c.requires.ends;
   window = c.requires.window;
+  ticks = bound-none c.args.program.now c.requires.runs (λ n. c.args.steps.now ≤ c.args.steps.now + 16 * n) (omega arith);
   done = done-none c.args.program.now c.args.layout.now c.requires.fits c.requires.runs c.args.region.now c.args.arrival.now.spot c.args.arrival.now.byte c.forget.new.ends c.forget.ensures.none;
 }
 
@@ -40,6 +42,9 @@ loop-j-preserved g c =
     record {
       ends = length-set c.loop-j.ends info.identifier c.move_chain.new.ends ∙ inv.ends;
       window = c.move_chain.ensures.window ∙ inv.window;
+      ticks =
+          bound-more c.args.program.now c.requires.runs c.loop-j.j (λ n. c.loop-j.steps ≤ c.args.steps.now + 16 * n) (λ n. c.move_chain.new.steps ≤ c.args.steps.now + 16 * n) chain c.chain_at-chain.ensures inv.ticks
+          (λ so_far. omega (arith, so_far, c.move_chain.ensures.ticks, sound.order));
       done =
           done-more c.args.program.now c.args.layout.now c.requires.fits c.requires.runs c.args.region.now c.args.arrival.now.spot c.args.arrival.now.byte c.loop-j.j c.loop-j.region c.move_chain.new.region c.loop-j.ends chain
           (get_or c.loop-j.ends info.identifier no_ends) c.move_chain.new.ends inv.done c.chain_at-chain.ensures c.move_chain.ensures.written c.move_chain.ensures.parts c.move_chain.ensures.moves info c.entry_of.ensures slot;
@@ -59,3 +64,6 @@ pub returns-clause-moves : goal.returns-clause-moves
 returns-clause-moves g c =
     done-moves c.args.program.now c.args.layout.now c.requires.fits c.requires.runs c.args.region.now c.args.arrival.now.spot c.args.arrival.now.byte c.loop-j.j c.loop-j.region c.loop-j.ends c.loop-j.invariant.done
     (omega (arith, c.loop-j-test.false, c.loop-j.auto.j-end, ap length c.chains-j-end.ensures))
+
+pub returns-clause-ticks : goal.returns-clause-ticks
+returns-clause-ticks g c = c.loop-j.invariant.ticks.all (omega (arith, c.loop-j-test.false, c.loop-j.auto.j-end, ap length c.chains-j-end.ensures))

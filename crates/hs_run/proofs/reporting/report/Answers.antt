@@ -6,11 +6,11 @@ use Rattle.hs_rose.specs.declared.identifiers.Identifier.{Identifier}
 use Rattle.hs_rose.specs.Identifiers.{ids_of}
 use Rattle.hs_run.specs.declared.ends.Ends.{Ends as EndsAbout}
 use Rattle.hs_run.specs.declared.kept.Kept.{Kept as KeptOf}
-use Rattle.hs_run.specs.Events.{Through, still}
+use Rattle.hs_reports.specs.Events.{Through, still}
 use Rattle.hs_run.specs.Reporting.{tells, told_values}
 use Rattle.hs_run.specs.Ends.{ends_of, no_ends}
 use Rattle.hs_run.specs.Keeping.{plain_kept}
-use Rattle.hs_run.proofs.EventLemmas.{through-join}
+use Rattle.hs_reports.proofs.EventLemmas.{through-join}
 use Rattle.hs_run.proofs.ReportingLemmas.{no_identifier, nothing, pairs-more}
 use Rattle.hs_run.proofs.reporting.report.Goals as goal
 

@@ -1,7 +1,7 @@
 use Rattle.std.proofs.Common.{take}
 use Rattle.hs_base.specs.Settling.{pairs_told}
 use Rattle.hs_rose.specs.Identifiers.{ids_of}
-use Rattle.hs_run.specs.Events.{Through}
+use Rattle.hs_reports.specs.Events.{Through}
 use Rattle.hs_run.specs.Reporting.{told_values}
 use Rattle.hs_run.proofs.reporting.report.Given as goal
 

@@ -1,4 +1,4 @@
-use Rattle.hs_run.proofs.EventLemmas.{through-one, through-no}
+use Rattle.hs_reports.proofs.EventLemmas.{through-one, through-no}
 use Rattle.hs_run.proofs.reporting.report_if.Goals as goal
 
 pub returns-then-is_due : goal.returns-then-is_due

@@ -1,9 +1,9 @@
-use Rattle.std.proofs.Common.{◌≡◌, ℕ, ◌<◌, [], ◌∷◌, length, take, drop, get_or, sym, ap, subst, ◌∙◌, arith}
+use Rattle.std.proofs.Common.{◌≡◌, ℕ, ◌+◌, ◌*◌, ◌<◌, ◌≤◌, [], ◌∷◌, length, take, drop, get_or, sym, ap, subst, ◌∙◌, arith}
 use Rattle.std.proofs.lemmas.List.{take_more, take-append-drop}
 use Rattle.std.proofs.Math.Seq.{take-length}
 use Rattle.hs_base.specs.Lists.{Each}
 use Rattle.hs_base.proofs.ListLemmas.{each-left}
-use Rattle.hs_run.specs.Events.{Takes}
+use Rattle.hs_reports.specs.Events.{Takes}
 use Rattle.hs_run.specs.Feeding.{Feeds}
 use Rattle.hs_run.proofs.FeedLemmas.{feeds-alike, takes-more, takes-none}
 use Rattle.hs_run.proofs.PieceLemmas.{each-by}
@@ -15,6 +15,7 @@ loop-place-init g c = record {
   region = c.requires.region;
   header = λ old. old;
   offset = omega arith;
+  ticks = omega arith;
   taken = takes-none c.args.program.now g.V.Events.tells c.args.events.now c.args.region.now;
 }
 
@@ -34,6 +35,7 @@ loop-place-preserved g c =
       region = byte.region;
       header = λ old. byte.header (inv.header old);
       offset = omega (arith, byte.offset, inv.offset);
+      ticks = omega (arith, byte.ticks, inv.ticks);
       taken =
           subst (λ bs. Takes g.V.Events.tells c.args.events.now c.feed_byte.new.events (Feeds c.args.program.now c.args.region.now c.feed_byte.new.region bs)) (sym (take_more bytes i 0 c.loop-place-test.true))
           (takes-more c.args.program.now g.V.Events.tells c.args.events.now c.loop-place.events c.feed_byte.new.events c.args.region.now c.loop-place.region c.feed_byte.new.region
@@ -55,3 +57,8 @@ returns-clause-alike g c =
 
 pub returns-clause-well : goal.returns-clause-well
 returns-clause-well g c old = record { fits = c.loop-place.invariant.region; header = c.loop-place.invariant.header old.header }
+
+pub returns-clause-ticks : goal.returns-clause-ticks
+returns-clause-ticks g c =
+    let e : c.loop-place.place ≡ length c.args.bytes.now = omega (arith, c.loop-place-test.false, c.loop-place.auto.place-end) in
+    subst (λ n. c.loop-place.steps ≤ c.args.steps.now + 16 * (length c.args.program.now.roles * n)) e c.loop-place.invariant.ticks

@@ -62,3 +62,6 @@ returns-clause-header g c old =
     c.requires.region.sized c.of-spot.ensures.history c.behind-behind.ensures.history c.move_chains.ensures.written c.settle_bits.ensures.len settled.holds.written.bytes c.set_history.ensures.written c.set_history.ensures.len c.set_offset.ensures.written c.set_offset.ensures.len refl in
     header-moved l (length program.roles) c.args.region.now c.move_chains.new.region c.settle_bits.new.region c.set_history.new.region c.set_offset.new.region c.of-spot.result.history c.behind-behind.result.history (to_le_bytes w64 c.behind-behind.result.at) c.args.byte steps
     c.of-spot.ensures.history c.behind-behind.ensures.history c.set_history.ensures.reads (c.set_offset.ensures.reads ∙ (c.behind-behind.ensures.at ∙ ap (λ n. n + 1) c.of-spot.ensures.at)) c.requires.room settled.holds.written old
+
+pub returns-clause-ticks : goal.returns-clause-ticks
+returns-clause-ticks g c = c.move_chains.ensures.ticks

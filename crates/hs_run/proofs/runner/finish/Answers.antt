@@ -1,11 +1,11 @@
 use Rattle.std.proofs.Common.{◌≡◌, ◌-◌, ◌++◌, length, ap, subst, ◌∙◌, arith}
 use Rattle.std.specs.Vec.{with_items}
 use Rattle.std.proofs.lemmas.List.{with_items_is}
-use Rattle.hs_run.specs.Events.{Through}
+use Rattle.hs_reports.specs.Events.{Through}
 use Rattle.hs_run.specs.Keeping.{AreRead}
 use Rattle.hs_run.specs.Reporting.{pairs_at}
 use Rattle.hs_run.specs.declared.reporting.Moment.TheVariants.{BeforeLastByte, AtEnd}
-use Rattle.hs_run.proofs.EventLemmas.{through-join}
+use Rattle.hs_reports.proofs.EventLemmas.{through-join}
 use Rattle.hs_run.proofs.FeedLemmas.{end-finishes, finishes-alike}
 use Rattle.hs_run.proofs.LayoutLemmas.{apart}
 use Rattle.hs_run.proofs.ReportingLemmas.{through-same}
@@ -42,3 +42,6 @@ returns-clause-taken g c =
 pub returns-clause-alike : goal.returns-clause-alike
 returns-clause-alike g c =
     let taken = returns-clause-taken g c in finishes-alike c.args.program.now c.args.region.now taken.pairs taken.holds
+
+pub returns-clause-ticks : goal.returns-clause-ticks
+returns-clause-ticks g c = c.end_chains.ensures.ticks

@@ -1,6 +1,6 @@
 use Rattle.std.proofs.Common.{refl, ◌∙◌}
 use Rattle.hs_run.specs.Reporting.{pairs_about}
-use Rattle.hs_run.proofs.EventLemmas.{through-join}
+use Rattle.hs_reports.proofs.EventLemmas.{through-join}
 use Rattle.hs_run.proofs.settling.settle_bits.Goals as goal
 
 pub returns-clause-settled : goal.returns-clause-settled

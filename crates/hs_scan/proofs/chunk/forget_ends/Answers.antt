@@ -1,4 +1,4 @@
-use Rattle.std.proofs.Common.{◌≡◌, ◌<◌, ◌≤◌, ℕ, length, inl, inr, arith}
+use Rattle.std.proofs.Common.{length, inl, inr, arith}
 use Rattle.std.proofs.lemmas.Bool.{cases_lt}
 use Rattle.hs_nodes.specs.Left.{nowhere}
 use Rattle.hs_scan.proofs.FillLemmas.{get-past}

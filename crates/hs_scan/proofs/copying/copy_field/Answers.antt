@@ -1,5 +1,4 @@
-use Rattle.std.proofs.Common.{◌≡◌, ℕ, ◌+◌, ◌-◌, ◌<◌, ◌≤◌, length, get_or, ap, ◌∙◌, arith}
-use Rattle.std.specs.Prelude.{slice_index}
+use Rattle.std.proofs.Common.{◌≡◌, ℕ, ◌+◌, ◌-◌, get_or, ap, ◌∙◌, arith}
 use Rattle.hs_scan.proofs.CopyLemmas.{field-copied}
 use Rattle.hs_scan.proofs.copying.copy_field.Goals as goal
 
@@ -10,7 +9,7 @@ returns g c =
     let node = c.node_at-node.result in
     let place : ℕ = c.place.result in
     let by = c.copy_within.ensures.by_index in
-    field-copied g.E.Engine.meaning c.args.program.now c.args.layout.now c.requires.program.apart c.requires.program c.args.copy node old new place c.requires.sound c.node_at-node.ensures c.requires.sized c.copy_within.ensures.len c.place.ensures.at
+    field-copied c.args.graph.now c.args.layout.now c.requires.fits c.args.copy node old new place c.requires.sound c.node_at-node.ensures c.requires.sized c.copy_within.ensures.len c.place.ensures.at
     (λ i low.
     let e : node.start + (place + i - place) ≡ node.start + i = omega arith in
     by.0 (place + i) 0 (omega arith) (omega (arith, low)) ∙ ap (λ n. get_or old n 0) e)

@@ -1,4 +1,4 @@
-use Rattle.std.proofs.Common.{◌+◌, ◌<◌, ◌≤◌, refl, arith}
+use Rattle.std.proofs.Common.{◌+◌, refl, arith}
 use Rattle.hs_scan.proofs.HitLemmas.{shown-all, shown-more, shown-none}
 use Rattle.hs_scan.proofs.hits.chunk_hits.Goals as goal
 

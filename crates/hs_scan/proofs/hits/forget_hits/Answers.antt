@@ -1,4 +1,4 @@
-use Rattle.std.proofs.Common.{◌+◌, ◌<◌, ◌≤◌, refl, arith}
+use Rattle.std.proofs.Common.{◌+◌, refl, arith}
 use Rattle.hs_scan.proofs.HitLemmas.{forgot-all, forgot-more, forgot-none, forgot-passed}
 use Rattle.hs_scan.proofs.hits.forget_hits.Goals as goal
 

@@ -1,5 +1,5 @@
-use Rattle.std.proofs.Common.{◌+◌, ◌<◌, ◌≤◌, refl, arith}
-use Rattle.hs_scan.proofs.HitLemmas.{AreShownTo, all-more, all-none, all-passed}
+use Rattle.std.proofs.Common.{◌+◌, refl, arith}
+use Rattle.hs_scan.proofs.HitLemmas.{all-more, all-none, all-passed}
 use Rattle.hs_scan.proofs.hits.show_hits.Goals as goal
 
 pub loop-number-init : goal.loop-number-init

@@ -1,4 +1,4 @@
-use Rattle.std.proofs.Common.{◌≡◌, length}
+use Rattle.std.proofs.Common.{◌≡◌}
 use Rattle.hs_scan.specs.Keeping.{AreBitsWritten, singles_before}
 use Rattle.hs_scan.proofs.KeepingLemmas.{AreLastTo, AreReadTo}
 use Rattle.hs_scan.proofs.keeping.write_rows.Given as goal

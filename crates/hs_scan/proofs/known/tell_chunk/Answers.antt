@@ -1,4 +1,4 @@
-use Rattle.std.proofs.Common.{◌≡◌, ◌+◌, ◌-◌, ◌*◌, ◌<◌, ◌≤◌, ℕ, List, [], length, refl, sym, ap, subst, ◌∙◌, arith}
+use Rattle.std.proofs.Common.{◌+◌, ℕ, refl, arith}
 use Rattle.hs_scan.specs.Telling.{TellsBlock, TellsBlocks, TellsChunk}
 use Rattle.hs_scan.proofs.BlockLemmas.{takes-as, takes-none, takes-then, tells-all, tells-more, tells-none}
 use Rattle.hs_scan.proofs.known.tell_chunk.Goals as goal
@@ -8,14 +8,14 @@ loop-j-init g c =
     let chunk = c.args.chunk.now in
     let known = c.args.known.now in
     let m = g.E.Engine.meaning in
-    let program = c.args.program.now in
+    let graph = c.args.graph.now in
     record {
       fits = c.requires.fits;
       pending = c.requires.pending;
       told =
           takes-none g.V.Events.tells c.args.events.now
-          (TellsBlocks m program chunk.bytes.now chunk.at c.args.ends.now c.args.all.now known.told.items known.here.items known.told.items known.here.items 0)
-          (tells-none m program c.requires.sound chunk.bytes.now chunk.at c.args.ends.now c.args.all.now known.told.items known.here.items);
+          (TellsBlocks m graph chunk.bytes.now chunk.at c.args.ends.now c.args.all.now known.told.items known.here.items known.told.items known.here.items 0)
+          (tells-none m graph c.requires.sound chunk.bytes.now chunk.at c.args.ends.now c.args.all.now known.told.items known.here.items);
     }
 
 pub loop-j-preserved : goal.loop-j-preserved
@@ -25,17 +25,17 @@ loop-j-preserved g c =
     let here = c.loop-j.known in
     let then = c.tell_known.new.known in
     let m = g.E.Engine.meaning in
-    let program = c.args.program.now in
+    let graph = c.args.graph.now in
     let j : ℕ = c.loop-j.j in
     record {
       fits = c.tell_known.ensures.fits;
       pending = c.tell_known.ensures.pending;
       told =
           takes-then g.V.Events.tells c.args.events.now c.loop-j.events c.tell_known.new.events
-          (TellsBlocks m program chunk.bytes.now chunk.at c.args.ends.now c.args.all.now known.told.items known.here.items here.told.items here.here.items j)
-          (TellsBlock m program chunk.bytes.now chunk.at c.args.ends.now c.args.all.now j here.told.items here.here.items then.told.items then.here.items)
-          (TellsBlocks m program chunk.bytes.now chunk.at c.args.ends.now c.args.all.now known.told.items known.here.items then.told.items then.here.items (j + 1))
-          (λ ps qs. tells-more m program c.requires.sound chunk.bytes.now chunk.at c.args.ends.now c.args.all.now known.told.items known.here.items here.told.items here.here.items then.told.items then.here.items j (j + 1) ps qs refl)
+          (TellsBlocks m graph chunk.bytes.now chunk.at c.args.ends.now c.args.all.now known.told.items known.here.items here.told.items here.here.items j)
+          (TellsBlock m graph chunk.bytes.now chunk.at c.args.ends.now c.args.all.now j here.told.items here.here.items then.told.items then.here.items)
+          (TellsBlocks m graph chunk.bytes.now chunk.at c.args.ends.now c.args.all.now known.told.items known.here.items then.told.items then.here.items (j + 1))
+          (λ ps qs. tells-more m graph c.requires.sound chunk.bytes.now chunk.at c.args.ends.now c.args.all.now known.told.items known.here.items here.told.items here.here.items then.told.items then.here.items j (j + 1) ps qs refl)
           c.loop-j.invariant.told c.tell_known.ensures.told;
     }
 
@@ -45,11 +45,11 @@ returns-clause-told g c =
     let known = c.args.known.now in
     let here = c.loop-j.known in
     let m = g.E.Engine.meaning in
-    let program = c.args.program.now in
+    let graph = c.args.graph.now in
     let n : ℕ = c.loop-j.j in
     let told =
     takes-as g.V.Events.tells c.args.events.now c.loop-j.events
-    (TellsBlocks m program chunk.bytes.now chunk.at c.args.ends.now c.args.all.now known.told.items known.here.items here.told.items here.here.items n)
-    (TellsChunk m program chunk.bytes.now chunk.at c.args.ends.now c.args.all.now known.told.items known.here.items here.told.items here.here.items)
-    (λ ps. tells-all m program c.requires.sound chunk.bytes.now chunk.at c.args.ends.now c.args.all.now known.told.items known.here.items here.told.items here.here.items n ps (omega (arith, c.blocks-j-end.ensures.count))) in
+    (TellsBlocks m graph chunk.bytes.now chunk.at c.args.ends.now c.args.all.now known.told.items known.here.items here.told.items here.here.items n)
+    (TellsChunk m graph chunk.bytes.now chunk.at c.args.ends.now c.args.all.now known.told.items known.here.items here.told.items here.here.items)
+    (λ ps. tells-all m graph c.requires.sound chunk.bytes.now chunk.at c.args.ends.now c.args.all.now known.told.items known.here.items here.told.items here.here.items n ps (omega (arith, c.blocks-j-end.ensures.count))) in
     told c.loop-j.invariant.told

@@ -1,4 +1,4 @@
-use Rattle.std.proofs.Common.{◌≡◌, ◌+◌, ◌-◌, ◌*◌, ◌<◌, ◌≤◌, ℕ, List, length, sym, ap, subst, ◌∙◌, arith}
+use Rattle.std.proofs.Common.{◌≡◌, ◌+◌, ◌-◌, ◌*◌, ◌<◌, ℕ, length, sym, ap, subst, arith}
 use Rattle.hs_nodes.specs.Blocks.{block}
 use Rattle.hs_nodes.proofs.FlatLemmas.{length-block_of}
 use Rattle.hs_reports.specs.Settlement.{SettlesBlock}
@@ -19,7 +19,7 @@ returns-clause-told g c =
     let j : ℕ = c.args.number in
     let known = c.args.known.now in
     let then = c.settle_known.new.known in
-    let ids_is : c.deref.result.now ≡ c.args.program.now.identifiers.items = c.deref.ensures.value in
+    let ids_is : c.deref.result.now ≡ c.args.graph.now.identifiers.items = c.deref.ensures.value in
     let some : 0 < length (block bytes j) = length-block_of bytes j 0 (omega arith) (omega (arith, c.requires.there)) in
     let own = c.block-own.result.now in
     let size : length (block bytes j) ≡ length own = sym (ap length c.block-own.ensures.bytes) in
@@ -27,7 +27,7 @@ returns-clause-told g c =
       pairs = pairs_of_tellings then.tellings (chunk.at + 64 * j);
       through = c.tell.ensures;
       holds =
-          block-tells g.E.Engine.meaning c.args.program.now c.requires.sound bytes chunk.at c.args.ends.now c.args.all.now known.told.items known.here.items then.told.items then.here.items j c.gather_block.new.table then.tellings (length own - 1 + 1)
+          block-tells g.E.Engine.meaning c.args.graph.now c.requires.sound bytes chunk.at c.args.ends.now c.args.all.now known.told.items known.here.items then.told.items then.here.items j c.gather_block.new.table then.tellings (length own - 1 + 1)
           (omega (arith, c.requires.there, chunk.few)) c.requires.there (omega (arith, some, size)) (omega (arith, size, c.block-own.ensures.few)) c.gather_block.ensures.gathered (subst (λ xs. SettlesBlock xs (length own - 1 + 1) c.gather_block.new.table known.told.items known.here.items then.told.items then.here.items then.tellings) ids_is c.settle_known.ensures.settled.settles)
           (λ p set. c.gather_block.ensures.noted p (c.requires.pending.pending p set));
     }

@@ -1,4 +1,4 @@
-use Rattle.std.proofs.Common.{◌≡◌, ◌+◌, ◌-◌, ◌≤◌, ◌++◌, ℕ, length, take, drop, ap, ◌∙◌, arith}
+use Rattle.std.proofs.Common.{◌≤◌, arith}
 use Rattle.hs_scan.proofs.PastLemmas.{joined, pushed}
 use Rattle.hs_scan.proofs.past.push_past.Goals as goal
 

@@ -1,4 +1,4 @@
-use Rattle.std.proofs.Common.{◌-◌, length}
+use Rattle.std.proofs.Common.{◌-◌}
 use Rattle.std.proofs.lemmas.List.{take_rest}
 use Rattle.hs_scan.proofs.PastLemmas.{reaches}
 use Rattle.hs_scan.proofs.past.seen_of.Goals as goal

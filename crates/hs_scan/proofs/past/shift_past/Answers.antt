@@ -1,4 +1,3 @@
-use Rattle.std.proofs.Common.{◌≡◌, ◌-◌, ℕ, length, take, drop}
 use Rattle.hs_scan.proofs.past.shift_past.Goals as goal
 use Rattle.hs_scan.proofs.PastLemmas.{shifted}
 

@@ -1,16 +1,27 @@
-use Rattle.std.proofs.Common.{◌≡◌, ◌+◌, ◌<◌, ℕ, List, ◌++◌, length, get_or, drop, refl, sym, ap, subst, ◌∙◌}
+use Rattle.std.proofs.Common.{◌≡◌, ◌+◌, ℕ, List, ◌++◌, length, drop, sym, ap, subst, ◌∙◌}
+use Rattle.hs_literals.specs.Held.{held}
 use Rattle.hs_nodes.specs.Blocks.{EndsBehind}
 use Rattle.hs_scan.specs.Scans.{Scans, ScansChunk, stand}
 use Rattle.hs_scan.specs.Scratches.{stand_of}
 use Rattle.hs_scan.proofs.BlockLemmas.{takes-as}
 use Rattle.hs_scan.proofs.FillLemmas.{each-by}
+use Rattle.hs_scan.proofs.PastLemmas.{early-pushed}
 use Rattle.hs_scan.proofs.ScanLemmas.{chunk-scans}
 use Rattle.hs_scan.proofs.scanning.scan_chunk.Goals as goal
+
+pub returns-clause-early : goal.returns-clause-early
+returns-clause-early g c =
+    let s = c.args.scratch.now in
+    let past_is : c.forget.new.scratch.past ≡ s.past = c.forget.ensures.past ∙ (c.run_chunk.ensures.keeps.past ∙ (c.fill.ensures.past ∙ c.find_hits.ensures.past)) in
+    let at_is : c.forget.new.scratch.at ≡ s.at = c.forget.ensures.at_is ∙ (c.run_chunk.ensures.keeps.at_is ∙ (c.fill.ensures.at_is ∙ c.find_hits.ensures.at_is)) in
+    early-pushed s.past c.push_past.new.past c.args.bytes.now s.at (c.forget.new.scratch.at + length c.args.bytes.now) c.requires.room.past
+    (c.push_past.ensures ∙ ap (λ (xs : List ℕ). drop (length c.args.bytes.now) (xs ++ c.args.bytes.now)) past_is) (ap (λ n. n + length c.args.bytes.now) at_is)
 
 pub returns-clause-scans : goal.returns-clause-scans
 returns-clause-scans g c =
     let m = g.E.Engine.meaning in
-    let program = c.args.program.now in
+    let graph = c.args.graph.now in
+    let literals = held c.args.literals.now in
     let bytes = c.args.bytes.now in
     let r0 = c.args.region.now in
     let r1 = c.run_chunk.new.region in
@@ -28,18 +39,18 @@ returns-clause-scans g c =
     let past_is : s4.past ≡ s.past = c.forget.ensures.past ∙ (kept.past ∙ (filled.past ∙ found.past)) in
     let pushed : c.push_past.new.past ≡ drop (length bytes) (s.past ++ bytes) = c.push_past.ensures ∙ ap (λ (xs : List ℕ). drop (length bytes) (xs ++ bytes)) past_is in
     takes-as g.V.Events.tells c.args.events.now c.run_chunk.new.events
-    (ScansChunk m program r0 r1 prev s1.at bytes s2.hits.items s2.course.known.told.items s2.course.known.here.items s3.course.known.told.items s3.course.known.here.items)
-    (Scans m program (stand_of s r0) (stand (s4.at + length bytes) c.push_past.new.past r1 s4.course.known.told.items s4.course.known.here.items) bytes)
+    (ScansChunk m graph r0 r1 prev s1.at s1.past bytes s2.hits.items s2.course.known.told.items s2.course.known.here.items s3.course.known.told.items s3.course.known.here.items)
+    (Scans m graph literals (stand_of s r0) (stand (s4.at + length bytes) c.push_past.new.past r1 s4.course.known.told.items s4.course.known.here.items) bytes)
     (λ ps scans.
-    let one : ScansChunk m program r0 r1 prev s.at bytes s2.hits.items s2.course.known.told.items s2.course.known.here.items s3.course.known.told.items s3.course.known.here.items ps =
-    subst (λ n. ScansChunk m program r0 r1 prev n bytes s2.hits.items s2.course.known.told.items s2.course.known.here.items s3.course.known.told.items s3.course.known.here.items ps) found.at_is scans in
-    let two : ScansChunk m program r0 r1 prev s.at bytes s1.hits.items s2.course.known.told.items s2.course.known.here.items s3.course.known.told.items s3.course.known.here.items ps =
-    subst (λ v. ScansChunk m program r0 r1 prev s.at bytes v.items s2.course.known.told.items s2.course.known.here.items s3.course.known.told.items s3.course.known.here.items ps) filled.hits one in
-    let three : ScansChunk m program r0 r1 prev s.at bytes s1.hits.items s.course.known.told.items s.course.known.here.items s3.course.known.told.items s3.course.known.here.items ps =
-    subst (λ k. ScansChunk m program r0 r1 prev s.at bytes s1.hits.items k.known.told.items k.known.here.items s3.course.known.told.items s3.course.known.here.items ps) course_is two in
-    let four : ScansChunk m program r0 r1 prev s.at bytes s1.hits.items s.course.known.told.items s.course.known.here.items s4.course.known.told.items s4.course.known.here.items ps =
-    subst (λ k. ScansChunk m program r0 r1 prev s.at bytes s1.hits.items s.course.known.told.items s.course.known.here.items k.known.told.items k.known.here.items ps) (sym c.forget.ensures.course) three in
-    subst (λ n. Scans m program (stand_of s r0) (stand (n + length bytes) c.push_past.new.past r1 s4.course.known.told.items s4.course.known.here.items) bytes ps) (sym at_is)
-    (chunk-scans m program s.at s.past c.push_past.new.past r0 r1 s.course.known.told.items s.course.known.here.items s4.course.known.told.items s4.course.known.here.items prev bytes s1.hits.items ps (each-by bytes (λ i. (c.type_inv.bytes i).fits))
+    let one : ScansChunk m graph r0 r1 prev s.at s.past bytes s2.hits.items s2.course.known.told.items s2.course.known.here.items s3.course.known.told.items s3.course.known.here.items ps =
+    subst (λ n. ScansChunk m graph r0 r1 prev n s.past bytes s2.hits.items s2.course.known.told.items s2.course.known.here.items s3.course.known.told.items s3.course.known.here.items ps) found.at_is (subst (λ v. ScansChunk m graph r0 r1 prev s1.at v bytes s2.hits.items s2.course.known.told.items s2.course.known.here.items s3.course.known.told.items s3.course.known.here.items ps) found.past scans) in
+    let two : ScansChunk m graph r0 r1 prev s.at s.past bytes s1.hits.items s2.course.known.told.items s2.course.known.here.items s3.course.known.told.items s3.course.known.here.items ps =
+    subst (λ v. ScansChunk m graph r0 r1 prev s.at s.past bytes v.items s2.course.known.told.items s2.course.known.here.items s3.course.known.told.items s3.course.known.here.items ps) filled.hits one in
+    let three : ScansChunk m graph r0 r1 prev s.at s.past bytes s1.hits.items s.course.known.told.items s.course.known.here.items s3.course.known.told.items s3.course.known.here.items ps =
+    subst (λ k. ScansChunk m graph r0 r1 prev s.at s.past bytes s1.hits.items k.known.told.items k.known.here.items s3.course.known.told.items s3.course.known.here.items ps) course_is two in
+    let four : ScansChunk m graph r0 r1 prev s.at s.past bytes s1.hits.items s.course.known.told.items s.course.known.here.items s4.course.known.told.items s4.course.known.here.items ps =
+    subst (λ k. ScansChunk m graph r0 r1 prev s.at s.past bytes s1.hits.items s.course.known.told.items s.course.known.here.items k.known.told.items k.known.here.items ps) (sym c.forget.ensures.course) three in
+    subst (λ n. Scans m graph literals (stand_of s r0) (stand (n + length bytes) c.push_past.new.past r1 s4.course.known.told.items s4.course.known.here.items) bytes ps) (sym at_is)
+    (chunk-scans m graph literals s.at s.past c.push_past.new.past r0 r1 s.course.known.told.items s.course.known.here.items s4.course.known.told.items s4.course.known.here.items prev bytes s1.hits.items ps (each-by bytes (λ i. (c.type_inv.bytes i).fits))
     (λ u e e'. subst (λ n. EndsBehind u prev n) found.at_is (c.prev_of.ensures u (found.at_is ∙ e) (found.past ∙ e'))) found.hits pushed four))
     c.run_chunk.ensures.scans

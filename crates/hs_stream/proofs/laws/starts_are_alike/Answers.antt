@@ -2,4 +2,4 @@ use Rattle.hs_stream.proofs.WriteLemmas.{starts-alike}
 use Rattle.hs_stream.proofs.laws.starts_are_alike.Goals as goal
 
 pub returns : goal.returns
-returns g c = starts-alike g.E.Engine.meaning
+returns c = starts-alike

@@ -2,4 +2,4 @@ use Rattle.hs_stream.proofs.WriteLemmas.{writes-join}
 use Rattle.hs_stream.proofs.laws.writes_join.Goals as goal
 
 pub returns : goal.returns
-returns g c = writes-join g.E.Engine.meaning
+returns c = writes-join

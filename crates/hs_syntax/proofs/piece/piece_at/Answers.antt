@@ -5,4 +5,4 @@ use Rattle.hs_syntax.proofs.piece.piece_at.Goals as goal
 
 pub returns-clause-fits : goal.returns-clause-fits
 returns-clause-fits c =
-    subst (PieceFits (length c.args.bytes.now)) (sym c.piece_by.ensures) (piece_fits c.args.caseless c.args.first c.args.bytes.now)
+    subst (PieceFits (length c.args.bytes.now)) (sym c.piece_by.ensures) (piece_fits c.args.mode c.args.first c.args.bytes.now)

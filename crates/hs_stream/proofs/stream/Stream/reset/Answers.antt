@@ -1,15 +1,40 @@
-use Rattle.std.proofs.Common.{subst}
-use Rattle.hs_limex.specs.declared.limex.Limex.{Limex}
-use Rattle.hs_whole.specs.declared.program.Program.{Program}
-use Rattle.hs_whole_run.specs.Events.{Takes}
-use Rattle.hs_whole_run.specs.Feeding.{Finishes}
-use Rattle.hs_compile.specs.Engines.{meaning_of}
-use Rattle.hs_stream.specs.Writing.{IsStart}
+use Rattle.std.proofs.Common.{◌∙◌, [], length, sym, ap, subst}
+use Rattle.std.proofs.lemmas.List.{with_items_is}
+use Rattle.hs_base.specs.Regions.{region_offset}
+use Rattle.hs_reports.specs.Events.{Takes}
+use Rattle.hs_stream.specs.Leading.{EndsWith, IsBehind, IsRegionOf}
+use Rattle.hs_stream.proofs.EmptyLemmas.{empty-behind, empty-well, offset-zero}
 use Rattle.hs_stream.proofs.stream.Stream.reset.Goals as goal
 
+pub run_end-requires-clause-region : goal.run_end-requires-clause-region
+run_end-requires-clause-region g c = subst (IsRegionOf c.args.db.now) (sym c.deref.ensures.value) c.requires.fits.region
+
+pub returns-clause-fits : goal.returns-clause-fits
+returns-clause-fits g c =
+    let new = c.clear_bits.new.bytes in
+    let region = with_items_is c.args.self.now.region new (c.clear_bits.ensures.len ∙ c.deref_mut.ensures.len) in
+    let sized = c.clear_bits.ensures.len ∙ (ap length c.deref_mut.ensures.value ∙ c.requires.fits.region.fits.sized) in
+    record {
+      digest = c.requires.fits.digest;
+      region = subst (IsRegionOf c.args.db.now) (sym region) (empty-well c.args.db.now new c.clear_bits.ensures.zero sized c.run_end.ensures.whole);
+    }
+
+pub returns-clause-offset : goal.returns-clause-offset
+returns-clause-offset g c =
+    let new = c.clear_bits.new.bytes in
+    let region = with_items_is c.args.self.now.region new (c.clear_bits.ensures.len ∙ c.deref_mut.ensures.len) in
+    ap region_offset region ∙ offset-zero new c.clear_bits.ensures.zero
+
 pub returns-clause-fresh : goal.returns-clause-fresh
-returns-clause-fresh g c = subst (λ (p : Program Limex). IsStart meaning_of p c.clear.new.self) c.program-program.ensures c.clear.ensures.start
+returns-clause-fresh g c plan is =
+    let new = c.clear_bits.new.bytes in
+    let region = with_items_is c.args.self.now.region new (c.clear_bits.ensures.len ∙ c.deref_mut.ensures.len) in
+    let sized = c.clear_bits.ensures.len ∙ (ap length c.deref_mut.ensures.value ∙ c.requires.fits.region.fits.sized) in
+    subst (IsBehind plan []) (sym region) (empty-behind c.args.db.now new c.clear_bits.ensures.zero sized plan is)
 
 pub returns-clause-told : goal.returns-clause-told
 returns-clause-told g c =
-    subst (λ (p : Program Limex). Takes g.V.Events.tells c.args.events.now c.finish.new.events (Finishes meaning_of p c.args.self.now.state)) c.program-program.ensures c.finish.ensures.taken
+    subst (λ bs. Takes g.V.Events.tells c.args.events.now c.run_end.new.events (EndsWith c.args.db.now bs)) c.deref.ensures.value c.run_end.ensures.told
+
+pub returns-clause-ticks : goal.returns-clause-ticks
+returns-clause-ticks g c = c.run_end.ensures.ticks

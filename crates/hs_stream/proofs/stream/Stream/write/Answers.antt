@@ -1,11 +1,33 @@
-use Rattle.std.proofs.Common.{subst}
-use Rattle.hs_limex.specs.declared.limex.Limex.{Limex}
-use Rattle.hs_whole.specs.declared.program.Program.{Program}
-use Rattle.hs_whole_run.specs.Events.{Takes}
-use Rattle.hs_whole_run.specs.Feeding.{Feeds}
-use Rattle.hs_compile.specs.Engines.{meaning_of}
+use Rattle.std.proofs.Common.{◌+◌, ◌∙◌, length, sym, ap, subst, arith}
+use Rattle.std.proofs.lemmas.List.{with_items_is}
+use Rattle.hs_base.specs.Regions.{region_offset}
+use Rattle.hs_reports.specs.Events.{Takes}
+use Rattle.hs_stream.specs.Leading.{IsRegionOf, LeadsTo}
 use Rattle.hs_stream.proofs.stream.Stream.write.Goals as goal
+
+pub run_bytes-requires-clause-region : goal.run_bytes-requires-clause-region
+run_bytes-requires-clause-region g c = subst (IsRegionOf c.args.db.now) (sym c.deref_mut.ensures.value) c.requires.fits.region
+
+pub returns-clause-fits : goal.returns-clause-fits
+returns-clause-fits g c =
+    let region = with_items_is c.args.self.now.region c.run_bytes.new.region (c.run_bytes.ensures.len ∙ c.deref_mut.ensures.len) in
+    record { digest = c.requires.fits.digest; region = subst (IsRegionOf c.args.db.now) (sym region) c.run_bytes.ensures.region }
+
+pub returns-clause-offset : goal.returns-clause-offset
+returns-clause-offset g c =
+    let region = with_items_is c.args.self.now.region c.run_bytes.new.region (c.run_bytes.ensures.len ∙ c.deref_mut.ensures.len) in
+    ap region_offset region ∙ (c.run_bytes.ensures.offset ∙ ap (λ bs. region_offset bs + length c.args.bytes.now) c.deref_mut.ensures.value)
 
 pub returns-clause-told : goal.returns-clause-told
 returns-clause-told g c =
-    subst (λ (p : Program Limex). Takes g.V.Events.tells c.args.events.now c.feed.new.events (Feeds meaning_of p c.args.self.now.state c.feed.new.state c.args.bytes.now)) c.program.ensures c.feed.ensures.taken
+    let old = c.args.self.now.region in
+    let new = c.run_bytes.new in
+    let region = with_items_is old new.region (c.run_bytes.ensures.len ∙ c.deref_mut.ensures.len) in
+    subst (λ bs. Takes g.V.Events.tells c.args.events.now new.events (LeadsTo c.args.db.now old.items bs c.args.bytes.now)) (sym region)
+    (subst (λ bs. Takes g.V.Events.tells c.args.events.now new.events (LeadsTo c.args.db.now bs new.region c.args.bytes.now)) c.deref_mut.ensures.value c.run_bytes.ensures.told)
+
+pub returns-then-not-has_room-clause-ticks : goal.returns-then-not-has_room-clause-ticks
+returns-then-not-has_room-clause-ticks g c = omega arith
+
+pub returns-clause-ticks : goal.returns-clause-ticks
+returns-clause-ticks g c = c.run_bytes.ensures.ticks

@@ -1,0 +1,227 @@
+-- An engine over the last bytes, where it was at rest before.
+use Rattle.std.proofs.Common.{◌≡◌, ℕ, zero, suc, ◌+◌, ◌-◌, ◌<◌, ◌≤◌, ◌⊎◌, ◌↔◌, Bool, true, false, ◌||◌, List, [], ◌∷◌, ◌++◌, length, get_or, replicate, take, drop, slice_index, eqb, Some, None, refl, sym, ap, subst, ◌∙◌, inl, inr, arith, length-append, length-drop, append_assoc}
+use Rattle.std.proofs.lemmas.List.{length-map, map-append, append-nil, take_more, length-take-le, take-append-drop, length-replicate, get_or-drop, get_or-append-add}
+use Rattle.std.proofs.lemmas.Option.{slice_get-get_or}
+use Rattle.std.proofs.Math.Seq.{take-add}
+use Rattle.hs_base.specs.declared.context.Mask.{Mask}
+use Rattle.hs_base.specs.declared.context.Next.{Next}
+use Rattle.hs_base.specs.declared.context.NextSet.{NextSet}
+use Rattle.hs_base.specs.declared.context.Prev.{Prev}
+use Rattle.hs_base.specs.Assertions.{line_feed, is_word_byte}
+use Rattle.hs_base.specs.Chains.{Piece, nfa, IsFitChain}
+use Rattle.hs_base.specs.Contexts.{class_of, prev_at, prev_behind, prev_by}
+use Rattle.hs_base.specs.ContextSets.{has_context, has_next}
+use Rattle.hs_base.specs.Fields.{entered_always}
+use Rattle.hs_base.specs.Leaving.{IsAtMostWide, IsEmptyAt, LeavesAt, LeavesBehind, entered_never}
+use Rattle.hs_base.specs.Lists.{Each}
+use Rattle.hs_base.specs.Trees.{Tree}
+use Rattle.hs_base.proofs.BitOnceLemmas.{each-below}
+use Rattle.hs_base.proofs.ChainStreamLemmas.{last-leaves, leaves-last, leaving-begins}
+use Rattle.hs_base.proofs.EntryLemmas.{window-enough}
+use Rattle.hs_base.proofs.StreamContexts.{prev-append}
+use Rattle.hs_engine.specs.Engines.{Meaning, IsQuiet, IsStart, TakesByte, TellsLeaves}
+use Rattle.hs_nodes.specs.Blocks.{IsPast, prev_by_count}
+use Rattle.hs_nodes.specs.Contexts.{IsNull}
+use Rattle.hs_nodes.specs.LookBacks.{IsRunBack}
+use Rattle.hs_nodes.specs.Nodes.{window_size}
+
+never-push : (u : List ℕ) (b : ℕ) → entered_never (u ++ b ∷ []) ≡ entered_never u ++ false ∷ []
+never-push u b = map-append (λ b. false) u (b ∷ [])
+
+always-push : (u : List ℕ) (b : ℕ) → entered_always (u ++ b ∷ []) ≡ entered_always u ++ true ∷ []
+always-push u b = map-append (λ b. true) u (b ∷ [])
+
+never-size : (u : List ℕ) → length (entered_never u) ≡ length u
+never-size u = length-map u (λ b. false)
+
+always-size : (u : List ℕ) → length (entered_always u) ≡ length u
+always-size u = length-map u (λ b. true)
+
+take-next : (v : List ℕ) (k : ℕ) → k < length v → take (suc k) v ≡ take k v ++ get_or v k 0 ∷ []
+take-next v k below = let e : suc k ≡ k + 1 = omega arith in ap (λ n. take n v) e ∙ take_more v k 0 below
+
+module _ (m : Meaning) (tree : Tree) (runs : m.is_for tree) (listed : m.always ≡ false) where
+  -- what is at rest stays, not entered
+  module _ (part : List ℕ) (start : IsStart m part) (quiet : IsQuiet m part) where
+    quiet-take : (v : List ℕ) → Each (λ b. b < 256) v → (k : ℕ) → k ≤ length v → m.field part tree (take k v) (entered_never (take k v))
+    quiet-take v each zero within = start tree runs
+    quiet-take v each (suc k) within =
+        let b : ℕ = get_or v k 0 in
+        let w : List ℕ = take k v in
+        let moved : m.field part tree (w ++ b ∷ []) (entered_never w ++ (m.always || false) ∷ []) =
+        quiet.stays listed b (each-below v each k) tree w (entered_never w) runs (never-size w) (quiet-take v each k (omega (arith, within))) in
+        let same : entered_never w ++ (m.always || false) ∷ [] ≡ entered_never (w ++ b ∷ []) = ap (λ a. entered_never w ++ (a || false) ∷ []) listed ∙ sym (never-push w b) in
+        subst (λ z. m.field part tree z (entered_never z)) (sym (take-next v k (omega (arith, within))))
+        (subst (λ es. m.field part tree (w ++ b ∷ []) es) same moved)
+
+  -- Behind n + i bytes of u, of which it is entered at the last i.
+  pub record IsRunTo (u : List ℕ) (n i : ℕ) (part : List ℕ) (prev : Prev) : Type 0 where
+    pub field : m.field part tree (take (n + i) u) (entered_never (take n u) ++ entered_always (take i (drop n u)))
+    pub stands : prev ≡ prev_at u (n + i)
+
+  pub run-begin : (u : List ℕ) (n : ℕ) (part : List ℕ) (prev : Prev) → Each (λ b. b < 256) u → n ≤ length u → IsStart m part → IsQuiet m part → prev ≡ prev_at u n → IsRunTo u n 0 part prev
+  run-begin u n part prev each within start quiet is =
+      let e : n ≡ n + 0 = omega arith in
+      record {
+        field =
+            subst (λ k. m.field part tree (take k u) (entered_never (take n u) ++ [])) e
+            (subst (λ es. m.field part tree (take n u) es) (sym (append-nil (entered_never (take n u)))) (quiet-take part start quiet u each n within));
+        stands = is ∙ ap (prev_at u) e;
+      }
+
+  prev-next : (u : List ℕ) (k b : ℕ) → k < length u → get_or u k 0 ≡ b → prev_by (eqb b line_feed) (is_word_byte b) ≡ prev_at u (suc k)
+  unfolding prev_at
+  prev-next u k b below is = ap prev_behind (ap (λ x. Some x) (sym is) ∙ sym (slice_get-get_or u k 0 below))
+
+  pub run-more : (u : List ℕ) (n i at b : ℕ) (part new : List ℕ) (prev next : Prev) (all : NextSet) → IsRunTo u n i part prev → n + i < length u → get_or u (n + i) 0 ≡ b → at ≡ n + i →
+      ((c : Next) → has_next all c ≡ true) → TakesByte m part new prev at all b → next ≡ prev_by (eqb b line_feed) (is_word_byte b) → IsRunTo u n (i + 1) new next
+  run-more u n i at b part new prev next all is below byte here every takes then =
+      let w : List ℕ = take (n + i) u in
+      let size : length w ≡ n + i = length-take-le (n + i) u (omega (arith, below)) in
+      let front : List Bool = entered_never (take n u) in
+      let rest : List ℕ = drop n u in
+      let long : length rest ≡ length u - n = length-drop n u in
+      let count : length (front ++ entered_always (take i rest)) ≡ length w =
+      omega (
+        arith,
+        length-append front (entered_always (take i rest)),
+        never-size (take n u),
+        always-size (take i rest),
+        length-take-le n u (omega (arith, below)),
+        length-take-le i rest (omega (arith, below, long)),
+        size,
+      ) in
+      let whole : u ≡ w ++ drop (n + i) u = sym (take-append-drop (n + i) u) in
+      let same_prev : prev_at u (n + i) ≡ prev_at w (length w) =
+      ap (λ z. prev_at z (n + i)) whole ∙ (prev-append w (drop (n + i) u) (n + i) (omega (arith, size)) ∙ ap (prev_at w) (sym size)) in
+      let moved : m.field new tree (w ++ b ∷ []) ((front ++ entered_always (take i rest)) ++ (m.always || has_next all (class_of b)) ∷ []) =
+      takes tree w (front ++ entered_always (take i rest)) runs count (here ∙ sym size) (is.stands ∙ same_prev) is.field in
+      let entered : (front ++ entered_always (take i rest)) ++ (m.always || has_next all (class_of b)) ∷ [] ≡ front ++ entered_always (take (i + 1) rest) =
+      ap (λ a. (front ++ entered_always (take i rest)) ++ (a || has_next all (class_of b)) ∷ []) listed
+      ∙ (ap (λ a. (front ++ entered_always (take i rest)) ++ a ∷ []) (every (class_of b))
+      ∙ (append_assoc front (entered_always (take i rest)) (true ∷ [])
+      ∙ ap (λ es. front ++ es) (sym (ap entered_always (take_more rest i 0 (omega (arith, below, long))) ∙ always-push (take i rest) (get_or rest i 0))))) in
+      let e : n + (i + 1) ≡ suc (n + i) = omega arith in
+      let longer : take (n + (i + 1)) u ≡ w ++ b ∷ [] = ap (λ k. take k u) e ∙ (take-next u (n + i) below ∙ ap (λ x. w ++ x ∷ []) byte) in
+      record {
+        field =
+            subst (λ z. m.field new tree z (front ++ entered_always (take (i + 1) rest))) (sym longer)
+            (subst (λ es. m.field new tree (w ++ b ∷ []) es) entered moved);
+        stands = then ∙ (prev-next u (n + i) b below byte ∙ ap (prev_at u) (sym e));
+      }
+
+  pub run-end : (u : List ℕ) (n seen end : ℕ) (part : List ℕ) (prev : Prev) → IsRunTo u n seen part prev → end ≤ length u → n + seen ≡ end → (window_size ≤ seen) ⊎ (n ≡ 0) → IsRunBack m tree (take end u) part × (prev ≡ prev_at u end)
+  run-end u n seen end part prev is within place enough =
+      let cut : take (n + seen) u ≡ take n u ++ take seen (drop n u) = take-add n seen u in
+      let long : length (drop n u) ≡ length u - n = length-drop n u in
+      let size : length (take seen (drop n u)) ≡ seen = length-take-le seen (drop n u) (omega (arith, place, within, long)) in (
+        record {
+          front = take n u;
+          behind = take seen (drop n u);
+          whole = ap (λ k. take k u) (sym place) ∙ cut;
+          enough = elim enough [
+            | inl many ↦ inl (omega (arith, many, size))
+            | inr none ↦ inr (ap (λ k. take k u) none)
+          ];
+          field = subst (λ z. m.field part tree z (entered_never (take n u) ++ entered_always (take seen (drop n u)))) cut is.field;
+        },
+        is.stands ∙ ap (prev_at u) place,
+      )
+
+pub prev-take : (u : List ℕ) (k : ℕ) (prev : Prev) → k ≤ length u → prev ≡ prev_at u k → prev ≡ prev_at (take k u) (length (take k u))
+prev-take u k prev within is =
+    let size : length (take k u) ≡ k = length-take-le k u within in
+    is
+    ∙ ap (λ z. prev_at z k) (sym (take-append-drop k u))
+    ∙ (prev-append (take k u) (drop k u) k (omega (arith, size)) ∙ ap (prev_at (take k u)) (sym size))
+
+either : (a b : Bool) → (a || b) ≡ true → (a ≡ true) ⊎ (b ≡ true)
+either true b e = inl refl
+either false b e = inr e
+
+first-true : (a b : Bool) → a ≡ true → (a || b) ≡ true
+first-true true b e = refl
+first-true false b e = absurd (cc)
+
+second-true : (a b : Bool) → b ≡ true → (a || b) ≡ true
+second-true true b e = refl
+second-true false b e = e
+
+-- where the expression has the empty span
+pub never-between : (tree : Tree) (u : List ℕ) (next : Next) → IsNull None tree → (false ≡ true) ↔ IsEmptyAt tree u next
+never-between tree u next never = (λ set. absurd (cc), λ empty. absurd (never u next empty))
+
+pub mask-between : (tree : Tree) (mask : Mask) (u : List ℕ) (prev : Prev) (next : Next) (holds : Bool) → IsNull (Some mask) tree → prev ≡ prev_at u (length u) → holds ≡ has_context mask (record { prev = prev; next = next }) → (holds ≡ true) ↔ IsEmptyAt tree u next
+mask-between tree mask u prev next holds null stands is =
+    let law : (has_context mask (record { prev = prev; next = next }) ≡ true) ↔ IsEmptyAt tree u next =
+    subst (λ (q : Prev). (has_context mask (record { prev = q; next = next }) ≡ true) ↔ IsEmptyAt tree u next) (sym stands) (null u next) in (
+      λ set. law.0 (sym is ∙ set),
+      λ empty. is ∙ law.1 empty,
+    )
+
+-- where a first piece that looks back is left behind v
+pub back-leaves : (m : Meaning) (tree : Tree) (rest : List Piece) (v part : List ℕ) (prev : Prev) (at : ℕ) (out : NextSet) (next : Next) (empty result : Bool) → m.is_for tree → IsAtMostWide window_size tree → IsFitChain (nfa tree ∷ rest) → IsRunBack m tree v part →
+    prev ≡ prev_at v (length v) → at ≡ length v → TellsLeaves m part prev at out → (empty ≡ true) ↔ IsEmptyAt tree v next → result ≡ (has_next out next || empty) → (result ≡ true) ↔ LeavesAt (nfa tree ∷ []) v next
+back-leaves m tree rest v part prev at out next empty result runs narrow fit back stands here tells null is =
+    let leaves : (has_next out next ≡ true) ↔ LeavesBehind [] (nfa tree) v next =
+    subst (λ z. (has_next out next ≡ true) ↔ LeavesBehind [] (nfa tree) z next) (sym back.whole)
+    (
+    let law = tells tree (back.front ++ back.behind) (entered_never back.front ++ entered_always back.behind) runs
+    (omega (
+      arith,
+      length-append (entered_never back.front) (entered_always back.behind),
+      length-append back.front back.behind,
+      never-size back.front,
+      always-size back.behind,
+    ))
+    (here ∙ ap length back.whole) (stands ∙ ap (λ z. prev_at z (length z)) back.whole) back.field next in
+    let window = window-enough tree window_size back.front back.behind next narrow back.enough in
+    (λ has. window.0 (law.0 has), λ left. law.1 (window.1 left))
+    ) in (
+      λ set. last-leaves [] rest (nfa tree) v next fit (elim (either (has_next out next) empty (sym is ∙ set)) [
+        | inl has ↦ inl (leaves.0 has)
+        | inr none ↦ inr ((leaving-begins v next).0 refl, null.0 none)
+      ]),
+      λ left. is ∙ elim (leaves-last [] rest (nfa tree) v next fit left) [
+        | inl behind ↦ first-true (has_next out next) empty (leaves.1 behind)
+        | inr both ↦ second-true (has_next out next) empty (null.1 both.1)
+      ],
+    )
+
+-- the bytes before a chunk and its own
+
+drop-front : (n : ℕ) (xs ys : List ℕ) → n ≤ length xs → drop n (xs ++ ys) ≡ drop n xs ++ ys
+drop-front zero xs ys low = refl
+drop-front (suc n) [] ys low = absurd (omega arith)
+drop-front (suc n) (x ∷ xs) ys low = drop-front n xs ys (omega arith)
+
+pub window-byte : (u past bytes : List ℕ) (n place : ℕ) → IsPast past u → n + 64 ≡ length u + place → slice_index (past ++ bytes) place ≡ slice_index (u ++ bytes) n
+window-byte u past bytes n place is at =
+    let zeros : List ℕ = replicate 64 0 in
+    let size : length zeros ≡ 64 = length-replicate {A = ℕ} 64 0 in
+    let all : List ℕ = zeros ++ u in
+    let long : length all ≡ length zeros + length u = length-append zeros u in
+    let e : length u + place ≡ length zeros + n = omega (arith, size, at) in
+    ap (λ xs. get_or (xs ++ bytes) place 0) is
+    ∙ (ap (λ xs. get_or xs place 0) (sym (drop-front (length u) all bytes (omega (arith, long, size))))
+    ∙ (get_or-drop (length u) (all ++ bytes) place 0
+    ∙ (ap (λ xs. get_or xs (length u + place) 0) (append_assoc zeros u bytes)
+    ∙ (ap (λ k. get_or (zeros ++ (u ++ bytes)) k 0) e ∙ get_or-append-add zeros (u ++ bytes) n 0))))
+
+pub window-read : (u past bytes : List ℕ) (n place b : ℕ) → IsPast past u → n + 64 ≡ length u + place → b ≡ slice_index (past ++ bytes) place → slice_index (u ++ bytes) n ≡ b
+window-read u past bytes n place b is at same = sym (same ∙ window-byte u past bytes n place is at)
+
+pub window-class : (u past bytes : List ℕ) (n place b : ℕ) (next : Next) → IsPast past u → n + 64 ≡ length u + place → b ≡ slice_index (past ++ bytes) place → next ≡ class_of b → next ≡ class_of (slice_index (u ++ bytes) n)
+window-class u past bytes n place b next is at same of = of ∙ ap class_of (sym (window-read u past bytes n place b is at same))
+
+prev-some : (w : List ℕ) (n b : ℕ) → n < length w → get_or w n 0 ≡ b → prev_by_count (suc n) b ≡ prev_at w (suc n)
+unfolding prev_at
+prev-some w n b below is = ap prev_behind (ap (λ x. Some x) (sym is) ∙ sym (slice_get-get_or w n 0 below))
+
+prev-none : (w : List ℕ) (b : ℕ) → prev_by_count 0 b ≡ prev_at w 0
+unfolding prev_at
+prev-none w b = refl
+
+pub window-prev : (u past bytes : List ℕ) (n place last : ℕ) → IsPast past u → n ≤ length (u ++ bytes) → n + 63 ≡ length u + place → last ≡ slice_index (past ++ bytes) place → prev_by_count n last ≡ prev_at (u ++ bytes) n
+window-prev u past bytes zero place last is within at same = prev-none (u ++ bytes) last
+window-prev u past bytes (suc n) place last is within at same = prev-some (u ++ bytes) n last (omega (arith, within)) (sym (same ∙ window-byte u past bytes n place is (omega (arith, at))))

@@ -1,0 +1,229 @@
+//! Expressions that look back: they are asked anew, from the last bytes, where the literal behind them ends.
+
+ghost use Rattle.std.specs.Prelude.{◌≡◌, ◌*◌, ◌+◌, ◌-◌, ◌≤◌, ◌<◌, ℕ, List, false, length};
+ghost use Rattle.std.specs.Prelude.{◌↔◌, true};
+ghost use Rattle.hs_base.specs.Chains.{Piece};
+ghost use Rattle.hs_base.specs.Contexts.{prev_at};
+ghost use Rattle.hs_base.specs.Leaving.{IsEmptyAt};
+ghost use Rattle.hs_base.specs.Trees.{Tree};
+ghost use Rattle.hs_nodes.specs.Blocks.{prev_by_count};
+ghost use Rattle.hs_nodes.specs.Contexts.{IsNull};
+ghost use Rattle.hs_nodes.specs.Hits.{hit_count};
+ghost use Rattle.hs_nodes.specs.Left.{AreLeftIn};
+ghost use Rattle.hs_nodes.specs.LookBacks.{AreLeftAt, FindsPair, LeavesBack, LeavesPair, RunsBack, TakesPair};
+ghost use Rattle.hs_nodes.specs.LookBacks.{TellsPair};
+ghost use Rattle.hs_nodes.specs.Nodes.{window_room};
+ghost use Rattle.hs_nodes.specs.declared.hits.ChunkHits.{ChunkHits};
+
+use crate::chunk::{Chunk, MAX_BLOCKS, PAST_BYTES};
+use crate::ends::ChunkEnds;
+use crate::hits::ChunkHits;
+use crate::table::{LookBackPair, MAX_LOOK_BACK, MAX_LOOK_BACK_REGION};
+use hs_base::{Mask, Next, NextSet, Prev};
+use hs_bits::{next_bit_in, write_word_bit};
+use hs_block::low_places;
+use hs_engine::{Engine, Steps};
+use std::sync::ledger::Ledger;
+
+/// What stands where so many bytes have come, and that was the last one.
+fn prev_behind(count: u64, last: u8) -> Prev
+    ensures { result ≡ prev_by_count count last }
+{
+    if count == 0 {
+        Prev::Start
+    } else {
+        Prev::behind(last)
+    }
+}
+
+/// Runs the engine over the last bytes of those before the place, which is one among the past bytes and those of the
+/// chunk; it is entered before each of them. Answers what stands behind them.
+fn run_back<E: Engine, L: Ledger>(
+    engine: &E,
+    part: &mut [u8],
+    chunk: &Chunk,
+    place: usize,
+    steps: &mut Steps<L>,
+) -> Prev
+    requires len { length part.old ≡ (E.meaning engine.now).width }
+    requires listed { (E.meaning engine.now).always ≡ false }
+    requires low { 32 ≤ place }
+    requires high { place ≤ 64 + length chunk.now.bytes.now }
+    requires within { 64 ≤ chunk.now.at + place }
+    ensures len { length part.new ≡ length part.old }
+    ensures well { (E.meaning engine.now).well part.new (chunk.now.at + place - 64) }
+    ensures ticks { steps.new ≤ steps.old + 16 }
+    ensures runs { RunsBack (E.meaning engine.now) chunk.now.at chunk.now.past.now chunk.now.bytes.now place part.new
+        result }
+{
+    let offset = chunk.at + place as u64 - PAST_BYTES as u64;
+    let seen = MAX_LOOK_BACK.min(offset as usize);
+    let begin = place - seen;
+    let from = offset - seen as u64;
+    engine.clear(part);
+    let _is_at_rest = engine.at_rest(part);
+    let mut prev = prev_behind(from, chunk.byte_at(begin - 1));
+    for i in 0..seen {
+        let byte = chunk.byte_at(begin + i);
+        engine.step(part, prev, from + i as u64, NextSet::all(), byte, steps);
+        prev = Prev::behind(byte);
+    }
+    prev
+}
+
+/// Whether an expression has the empty span where that stands before and that comes next.
+fn is_empty_between(null: Option<Mask>, prev: Prev, next: Next) -> bool
+    ensures { (tree : Tree) (u : List ℕ) → IsNull null tree → prev ≡ prev_at u (length u) →
+        (result ≡ true) ↔ IsEmptyAt tree u next }
+{
+    match null {
+        None => false,
+        Some(mask) => mask.contains(prev, next),
+    }
+}
+
+/// Whether the expression is left before the byte of that number among the past ones and those of the chunk.
+fn leaves_back<E: Engine, L: Ledger>(
+    engine: &E,
+    null: Option<Mask>,
+    chunk: &Chunk,
+    place: usize,
+    window: &mut [u8],
+    steps: &mut Steps<L>,
+) -> bool
+    requires room { (E.meaning engine.now).width ≤ length window.old }
+    requires listed { (E.meaning engine.now).always ≡ false }
+    requires low { 32 ≤ place }
+    requires high { place < 64 + length chunk.now.bytes.now }
+    requires within { 64 ≤ chunk.now.at + place }
+    ensures window { length window.new ≡ length window.old }
+    ensures ticks { steps.new ≤ steps.old + 16 }
+    ensures leaves { LeavesBack (E.meaning engine.now) null chunk.now.at chunk.now.past.now chunk.now.bytes.now place
+        result }
+{
+    let part = &mut window[..engine.size()];
+    let prev = run_back(engine, part, chunk, place, steps);
+    let next = Next::class_of(chunk.byte_at(place));
+    let out = engine.out(part, prev, chunk.at + place as u64 - PAST_BYTES as u64);
+    out.contains(next) | is_empty_between(null, prev, next)
+}
+
+/// Whether both pieces of the pair are left behind so many bytes of a chunk, where its literal ends there.
+fn leaves_pair<E: Engine, L: Ledger>(
+    engine: &E,
+    pair: &LookBackPair,
+    chunk: &Chunk,
+    place: usize,
+    window: &mut [u8],
+    steps: &mut Steps<L>,
+) -> bool
+    requires room { (E.meaning engine.now).width ≤ length window.old }
+    requires listed { (E.meaning engine.now).always ≡ false }
+    requires some { 1 ≤ pair.now.len }
+    requires short { pair.now.len ≤ 32 }
+    requires within { place ≤ length chunk.now.bytes.now }
+    ensures window { length window.new ≡ length window.old }
+    ensures ticks { steps.new ≤ steps.old + 16 }
+    ensures leaves { (hits : ChunkHits) → LeavesPair (E.meaning engine.now) pair.now.null pair.now.len chunk.now.at
+        chunk.now.past.now chunk.now.bytes.now hits place result }
+{
+    let len = pair.len as usize;
+    if chunk.at + (place as u64) < len as u64 {
+        return false;
+    }
+    leaves_back(
+        engine,
+        pair.null,
+        chunk,
+        PAST_BYTES + place - len,
+        window,
+        steps,
+    )
+}
+
+/// Whether both pieces of a pair are left where the chunk begins, at which its literal ends or not, as the hits tell.
+/// The window is memory for the engine; what is in it doesn't count.
+pub fn leaves_at_start<E: Engine, L: Ledger>(
+    engine: &E,
+    pair: &LookBackPair,
+    chunk: &Chunk,
+    hits: &ChunkHits,
+    window: &mut [u8],
+    steps: &mut Steps<L>,
+) -> bool
+    requires room { (E.meaning engine.now).width ≤ length window.old }
+    requires listed { (E.meaning engine.now).always ≡ false }
+    requires some { 1 ≤ pair.now.len }
+    requires short { pair.now.len ≤ 32 }
+    ensures window { length window.new ≡ length window.old }
+    ensures ticks { steps.new ≤ steps.old + 16 * hit_count hits.now 0 }
+    ensures tells { TellsPair (E.meaning engine.now) pair.now.null pair.now.len chunk.now.at chunk.now.past.now
+        chunk.now.bytes.now hits.now 0 result }
+{
+    if !hits.at_start {
+        return false;
+    }
+    leaves_pair(engine, pair, chunk, 0, window, steps)
+}
+
+/// Where both pieces of the pair are left in a chunk, of the places where the literal ends.
+fn find_pair<E: Engine, L: Ledger>(
+    engine: &E,
+    pair: &LookBackPair,
+    chunk: &Chunk,
+    hits: &ChunkHits,
+    steps: &mut Steps<L>,
+) -> ChunkHits
+    requires room { (E.meaning engine.now).width ≤ window_room }
+    requires listed { (E.meaning engine.now).always ≡ false }
+    requires some { 1 ≤ pair.now.len }
+    requires short { pair.now.len ≤ 32 }
+    ensures ticks { steps.new ≤ steps.old + 16 * hit_count hits.now (length chunk.now.bytes.now) }
+    ensures finds { FindsPair (E.meaning engine.now) pair.now.null pair.now.len chunk.now.at chunk.now.past.now
+        chunk.now.bytes.now hits.now result }
+{
+    let mut window = [0u8; MAX_LOOK_BACK_REGION];
+    let at_start = leaves_at_start(engine, pair, chunk, hits, &mut window, steps);
+    let mut behind = [0u64; MAX_BLOCKS];
+    let mut from = 0;
+    while let Some(k) = next_bit_in(&hits.behind, from, chunk.bytes.len()) {
+        let leaves = leaves_pair(engine, pair, chunk, k + 1, &mut window, steps);
+        write_word_bit(&mut behind, k, leaves);
+        from = k + 1;
+    }
+    ChunkHits { at_start, behind }
+}
+
+/// Where pieces are left in a chunk, by the places where they are, whatever comes next.
+fn ends_of(chunk: &Chunk, left: &ChunkHits) -> ChunkEnds
+    ensures { (pieces : List Piece) (u : List ℕ) → AreLeftAt left.now pieces u chunk.now.bytes.now →
+        AreLeftIn pieces u chunk.now.bytes.now result }
+{
+    let mut ends = ChunkEnds::NOWHERE;
+    for j in 0..chunk.blocks() {
+        let all = low_places(chunk.block(j).len());
+        ends.before[j] = all & left.before_block(j);
+        ends.behind[j] = all & left.behind[j];
+    }
+    ends
+}
+
+/// Takes a chunk by a pair, whose literal ends where the hits tell it. Answers where both pieces are left.
+pub(crate) fn run_pair<E: Engine, L: Ledger>(
+    engine: &E,
+    pair: &LookBackPair,
+    chunk: &Chunk,
+    hits: &ChunkHits,
+    steps: &mut Steps<L>,
+) -> ChunkEnds
+    requires room { (E.meaning engine.now).width ≤ window_room }
+    requires listed { (E.meaning engine.now).always ≡ false }
+    requires some { 1 ≤ pair.now.len }
+    requires short { pair.now.len ≤ 32 }
+    ensures ticks { steps.new ≤ steps.old + 16 * hit_count hits.now (length chunk.now.bytes.now) }
+    ensures takes { TakesPair (E.meaning engine.now) pair.now.null pair.now.len chunk.now.at chunk.now.past.now
+        chunk.now.bytes.now hits.now result }
+{
+    let left = find_pair(engine, pair, chunk, hits, steps);
+    ends_of(chunk, &left)
+}

@@ -1,5 +1,0 @@
-use Rattle.hs_run.specs.Chains.{AreParts}
-use Rattle.hs_run.proofs.checking.are_parts.Given as goal
-
-abbrev pub invariant-loop-k : goal.invariant-loop-k
-invariant-loop-k l = AreParts l.program l.layout l.region 0 l.k l.at

@@ -1,0 +1,65 @@
+use Rattle.std.proofs.Common.{◌≡◌, ◌+◌, ◌*◌, ◌≤◌, ℕ, ◌++◌, length, take, drop, sym, ap, subst, ◌∙◌, arith}
+use Rattle.hs_nodes.specs.Walks.{MayNodesRest, TakesNodes, nodes_ticks}
+use Rattle.hs_scan.specs.Scans.{ScansChunk}
+use Rattle.hs_scan.specs.Telling.{TellsBlock}
+use Rattle.hs_scan.proofs.BlockLemmas.{takes-as}
+use Rattle.hs_scan.proofs.FillLemmas.{whole}
+use Rattle.hs_scan.proofs.LineFeedLemmas.{first-tells, line_feed-chunk}
+use Rattle.hs_scan.proofs.ScanLemmas.{all-rest, chunk-takes}
+use Rattle.hs_scan.proofs.TickLemmas.{nodes-most}
+use Rattle.hs_scan.proofs.line_feed.run_line_feed.Goals as goal
+
+pub walk-requires-clause-rests : goal.walk-requires-clause-rests
+walk-requires-clause-rests g c =
+    let m = g.E.Engine.meaning in
+    let s = c.args.scratch.now in
+    let graph = c.args.graph.now in
+    let bytes = c.args.chunk.now.bytes.now in
+    subst (λ hs. MayNodesRest m graph.table s.course.marks hs c.args.region.now bytes) (sym c.deref-2.ensures.value) (all-rest m graph s.course.marks s.hits.items c.args.region.now bytes c.requires.room.room.all)
+
+pub returns-clause-ticks : goal.returns-clause-ticks
+returns-clause-ticks g c =
+    let nodes = c.args.graph.now.table.nodes.items in
+    let hits = c.deref-2.result.now in
+    let count : ℕ = length c.args.chunk.now.bytes.now in
+    let most : nodes_ticks nodes hits count ≤ 16 * (length nodes * 2) = subst (λ k. nodes_ticks nodes hits count ≤ 16 * (length nodes * (k + 1))) (ap length c.requires.bytes) (nodes-most nodes hits count) in
+    omega (arith, most, c.walk.ensures.ticks)
+
+pub returns-clause-scans : goal.returns-clause-scans
+returns-clause-scans g c =
+    let m = g.E.Engine.meaning in
+    let graph = c.args.graph.now in
+    let chunk = c.args.chunk.now in
+    let bytes = chunk.bytes.now in
+    let s = c.args.scratch.now in
+    let known = s.course.known in
+    let then = c.tell_line_feed.new.scratch.course.known in
+    let left = c.walk.new.ends in
+    let all = c.everywhere-all.result in
+    let len : length left ≡ length s.ends.items = c.walk.ensures.ends ∙ ap length c.deref_mut.ensures.value in
+    let ends = take s.ends.len (left ++ drop (length left) s.ends.items) in
+    let now : ends ≡ left = whole left s.ends.items s.ends.len len (omega (arith, s.ends.ok)) in
+    let took = subst (λ es. TakesNodes m graph.table c.args.region.now c.walk.new.region chunk.prev chunk.at chunk.past.now bytes c.deref-2.result.now es) (sym now) c.walk.ensures.takes in
+    let takes = subst (λ hs. TakesNodes m graph.table c.args.region.now c.walk.new.region chunk.prev chunk.at chunk.past.now bytes hs ends) c.deref-2.ensures.value took in
+    takes-as g.V.Events.tells c.args.events.now c.tell_line_feed.new.events
+    (TellsBlock m graph bytes chunk.at ends all 0 known.told.items known.here.items then.told.items then.here.items)
+    (ScansChunk m graph c.args.region.now c.walk.new.region chunk.prev chunk.at chunk.past.now bytes s.hits.items known.told.items known.here.items then.told.items then.here.items)
+    (λ ps tells. chunk-takes m graph chunk.at c.args.region.now c.walk.new.region known.told.items known.here.items then.told.items then.here.items chunk.prev chunk.past.now bytes s.hits.items ends all ps (ap length now ∙ (len ∙ c.requires.room.room.count)) c.everywhere-all.ensures
+    takes (first-tells m graph bytes chunk.at ends all known.told.items known.here.items then.told.items then.here.items ps c.requires.bytes tells)) c.tell_line_feed.ensures.told
+
+pub returns-clause-left : goal.returns-clause-left
+returns-clause-left g c =
+    let m = g.E.Engine.meaning in
+    let graph = c.args.graph.now in
+    let chunk = c.args.chunk.now in
+    let bytes = chunk.bytes.now in
+    let s = c.args.scratch.now in
+    let known = s.course.known in
+    let left = c.walk.new.ends in
+    let len : length left ≡ length s.ends.items = c.walk.ensures.ends ∙ ap length c.deref_mut.ensures.value in
+    let ends = take s.ends.len (left ++ drop (length left) s.ends.items) in
+    let now : ends ≡ left = whole left s.ends.items s.ends.len len (omega (arith, s.ends.ok)) in
+    let took = subst (λ es. TakesNodes m graph.table c.args.region.now c.walk.new.region chunk.prev chunk.at chunk.past.now bytes c.deref-2.result.now es) (sym now) c.walk.ensures.takes in
+    let takes = subst (λ hs. TakesNodes m graph.table c.args.region.now c.walk.new.region chunk.prev chunk.at chunk.past.now bytes hs ends) c.deref-2.ensures.value took in
+    line_feed-chunk m graph chunk.at c.args.region.now c.walk.new.region known.told.items known.here.items chunk.prev chunk.past.now bytes s.hits.items ends c.everywhere-all.result s.finals c.tell_line_feed.new.scratch.last.items
+    (ap length now ∙ (len ∙ c.requires.room.room.count)) c.everywhere-all.ensures takes c.tell_line_feed.ensures.left

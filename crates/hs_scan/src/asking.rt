@@ -1,0 +1,92 @@
+//! Where matches end behind all bytes so far, if that comes next.
+
+ghost use Rattle.std.specs.Prelude.{◌≡◌, ◌+◌, ◌*◌, ◌<◌, ◌≤◌, ◌^◌, length};
+ghost use Rattle.hs_layout.specs.Layouts.{laid_size};
+ghost use Rattle.hs_literals.specs.Held.{held};
+ghost use Rattle.hs_nodes.specs.Graphs.{AreTerminalsSound, IsGraphSound};
+ghost use Rattle.hs_nodes.specs.Walks.{AreNodesWell, IsTableSound};
+ghost use Rattle.hs_reports.specs.EndTables.{HasNoEnds};
+ghost use Rattle.hs_scan.specs.Scratches.{AsksNodes, FitsGraph, HasNoHits, KeepsAsked};
+ghost use Rattle.hs_scan.specs.Asking.{AsksEnds};
+
+use crate::chunk::forget_ends;
+use crate::gathering::gather_block;
+use crate::leaving::{Stop, ends_if, leave_nodes};
+use crate::past::prev_of;
+use crate::scratch::{Scratch, find_hits, forget};
+use hs_base::Next;
+use hs_block::BlockEngine;
+use hs_engine::Steps;
+use hs_layout::Layout;
+use hs_literals::Literals;
+use hs_nodes::Graph;
+use std::sync::ledger::Ledger;
+
+/// Adds the ends behind all bytes so far, by where the literals end.
+fn ask_nodes<E: BlockEngine, L: Ledger>(
+    graph: &Graph<E>,
+    region: &[u8],
+    scratch: &mut Scratch,
+    next: Next,
+    steps: &mut Steps<L>,
+)
+    requires table { IsTableSound E.meaning graph.now.table scratch.old.rows.count (length region.now) }
+    requires sound { AreTerminalsSound graph.now }
+    requires few { length graph.now.table.nodes.items < 2 ^ 32 }
+    requires well { AreNodesWell E.meaning graph.now.table region.now scratch.old.at }
+    requires room { FitsGraph graph.now scratch.old }
+    requires none { HasNoEnds scratch.old.finals }
+    requires small { scratch.old.at < 2 ^ 63 }
+    ensures ticks { steps.new ≤ steps.old + 16 * length graph.now.table.nodes.items }
+    ensures asks { AsksNodes E.meaning graph.now region.now next scratch.old scratch.new }
+{
+    let stop = Stop {
+        past: &scratch.past,
+        prev: prev_of(scratch.at, &scratch.past),
+        at: scratch.at,
+        next,
+        hits: &scratch.hits,
+    };
+    leave_nodes(&graph.table, region, &stop, &mut scratch.ends, steps);
+    gather_block(
+        graph,
+        &scratch.course.marks,
+        &scratch.ends,
+        &ends_if(true),
+        0,
+        scratch.at,
+        &mut scratch.finals,
+    );
+    forget_ends(&mut scratch.ends);
+}
+
+/// Finds of which identifiers a match ends behind all bytes so far, if that comes next.
+pub(crate) fn ask_ends<E: BlockEngine, L: Ledger>(
+    graph: &Graph<E>,
+    literals: &Literals,
+    layout: &Layout,
+    region: &[u8],
+    scratch: &mut Scratch,
+    next: Next,
+    steps: &mut Steps<L>,
+)
+    requires sound { IsGraphSound E.meaning graph.now (held literals.now) layout.now }
+    requires sized { length region.now ≡ laid_size layout.now }
+    requires well { AreNodesWell E.meaning graph.now.table region.now scratch.old.at }
+    requires room { FitsGraph graph.now scratch.old }
+    requires rows { scratch.old.rows.count ≡ length (held literals.now) }
+    requires none { HasNoHits scratch.old }
+    requires no_finals { HasNoEnds scratch.old.finals }
+    requires small { scratch.old.at < 2 ^ 63 }
+    ensures room { FitsGraph graph.now scratch.new }
+    ensures none { HasNoHits scratch.new }
+    ensures ticks { steps.new ≤ steps.old + 16 * length graph.now.table.nodes.items }
+    ensures keeps { KeepsAsked scratch.old scratch.new }
+    ensures asks { AsksEnds E.meaning graph.now (held literals.now) scratch.old.at scratch.old.past region.now next
+        scratch.new.finals }
+{
+    let _ = layout.fields();
+    find_hits(literals, scratch, &[]);
+    ask_nodes(graph, region, scratch, next, steps);
+    forget(scratch);
+}

@@ -1,0 +1,61 @@
+//! A write: bytes to reports, and from the region of a stream to that of the longer one.
+
+ghost use Rattle.std.specs.Prelude.{◌≡◌, ◌+◌, ◌*◌, ◌≤◌, [], length};
+ghost use Rattle.hs_base.specs.Offsets.{greatest_offset};
+ghost use Rattle.hs_base.specs.Regions.{region_offset};
+ghost use Rattle.hs_literals.specs.Held.{held};
+ghost use Rattle.hs_nodes.specs.Graphs.{IsGraphSound};
+ghost use Rattle.hs_reports.specs.Events.{Takes};
+ghost use Rattle.hs_scan.specs.Feeding.{Feeds, FitsRegion, GoesOnAlike, IsWellRegion};
+ghost use Rattle.hs_scan.specs.Scratches.{IsIdle, ServesGraph};
+
+use crate::last_byte::scan_write;
+use crate::scratch::Scratch;
+use crate::writing::{begin_write, end_write};
+use hs_block::BlockEngine;
+use hs_engine::Steps;
+use hs_layout::Layout;
+use hs_literals::Literals;
+use hs_nodes::Graph;
+use hs_reports::Events;
+use std::sync::ledger::Ledger;
+
+/// Takes the next bytes of the stream of a region, and reports what they decide, in the order in which they do. The
+/// offset stays a number that a stream may have. No bytes leave the region as it is, and report nothing.
+pub fn scan<E: BlockEngine, V: Events, L: Ledger>(
+    graph: &Graph<E>,
+    literals: &Literals,
+    layout: &Layout,
+    region: &mut [u8],
+    scratch: &mut Scratch,
+    bytes: &[u8],
+    events: &mut V,
+    steps: &mut Steps<L>,
+)
+    requires sound { IsGraphSound E.meaning graph.now (held literals.now) layout.now }
+    requires region { FitsRegion E.meaning graph.now layout.now region.old }
+    requires idle { IsIdle scratch.old }
+    requires scratch { ServesGraph graph.now (length (held literals.now)) scratch.old }
+    requires room { region_offset region.old + length bytes.now ≤ greatest_offset }
+    ensures region { FitsRegion E.meaning graph.now layout.now region.new }
+    ensures idle { IsIdle scratch.new }
+    ensures scratch { ServesGraph graph.now (length (held literals.now)) scratch.new }
+    ensures well { IsWellRegion E.meaning graph.now layout.now region.old →
+        IsWellRegion E.meaning graph.now layout.now region.new }
+    ensures offset { region_offset region.new ≡ region_offset region.old + length bytes.now }
+    ensures stays { bytes.now ≡ [] → region.new ≡ region.old }
+    ensures silent { bytes.now ≡ [] → events.new ≡ events.old }
+    ensures taken { Takes V.tells events.old events.new (Feeds E.meaning graph.now (held literals.now) layout.now
+        region.old region.new bytes.now) }
+    ensures alike { GoesOnAlike E.meaning graph.now (held literals.now) layout.now region.old bytes.now }
+    ensures ticks { steps.new ≤ steps.old + 48 * (length graph.now.table.nodes.items * length bytes.now) }
+{
+    if bytes.is_empty() {
+        return;
+    }
+    begin_write(graph, layout, region, scratch);
+    scan_write(
+        graph, literals, layout, region, scratch, bytes, events, steps,
+    );
+    end_write(graph, layout, region, scratch);
+}

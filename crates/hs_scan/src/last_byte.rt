@@ -1,0 +1,293 @@
+//! The bytes of a write, and what its last one leaves to the end.
+
+ghost use Rattle.std.specs.Prelude.{◌≡◌, ◌+◌, ◌*◌, ◌<◌, ◌≤◌, ◌^◌, ℕ, [], ◌∷◌, false, length, slice_index};
+ghost use Rattle.hs_base.specs.declared.context.Next.TheVariants as after;
+ghost use Rattle.hs_base.specs.Assertions.{line_feed};
+ghost use Rattle.hs_base.specs.Bits.{has_word_bit};
+ghost use Rattle.hs_layout.specs.Layouts.{laid_size};
+ghost use Rattle.hs_literals.specs.Held.{held};
+ghost use Rattle.hs_nodes.specs.Graphs.{IsGraphSound};
+ghost use Rattle.hs_nodes.specs.Walks.{AreNodesWell, IsOutside};
+ghost use Rattle.hs_reports.specs.EndTables.{HasNoEnds};
+ghost use Rattle.hs_reports.specs.Events.{Takes};
+ghost use Rattle.hs_scan.specs.Asking.{AsksEnds};
+ghost use Rattle.hs_scan.specs.Knowing.{IsPending};
+ghost use Rattle.hs_scan.specs.Past.{KeepsEarly};
+ghost use Rattle.hs_scan.specs.Scans.{Scans};
+ghost use Rattle.hs_scan.specs.Scratches.{FitsGraph, HasNoHits, stand_of};
+ghost use Rattle.hs_scan.specs.Writing.{LeavesToEnd};
+
+use crate::asking::ask_ends;
+use crate::line_feed::{LINE_FEED, forget_finals, run_line_feed};
+use crate::past::{prev_of, push_past};
+use crate::scanning::scan_bytes;
+use crate::scratch::{Scratch, fill, find_hits, forget};
+use hs_base::Next;
+use hs_block::BlockEngine;
+use hs_engine::Steps;
+use hs_layout::Layout;
+use hs_literals::Literals;
+use hs_nodes::{Chunk, Graph};
+use hs_reports::Events;
+use std::sync::ledger::Ledger;
+
+/// Takes a line feed of which is asked what would end before it, and writes which identifiers it leaves to the end.
+fn scan_asked<E: BlockEngine, V: Events, L: Ledger>(
+    graph: &Graph<E>,
+    literals: &Literals,
+    layout: &Layout,
+    region: &mut [u8],
+    scratch: &mut Scratch,
+    events: &mut V,
+    steps: &mut Steps<L>,
+)
+    requires sound { IsGraphSound E.meaning graph.now (held literals.now) layout.now }
+    requires sized { length region.old ≡ laid_size layout.now }
+    requires well { AreNodesWell E.meaning graph.now.table region.old scratch.old.at }
+    requires room { FitsGraph graph.now scratch.old }
+    requires rows { scratch.old.rows.count ≡ length (held literals.now) }
+    requires pending { IsPending scratch.old.course.known }
+    requires none { HasNoHits scratch.old }
+    requires small { scratch.old.at < 2 ^ 63 }
+    requires asks { AsksEnds E.meaning graph.now (held literals.now) scratch.old.at scratch.old.past region.old
+        after.FinalNewline scratch.old.finals }
+    ensures len { length region.new ≡ length region.old }
+    ensures well { AreNodesWell E.meaning graph.now.table region.new scratch.new.at }
+    ensures outside { (i : ℕ) → IsOutside graph.now.table.nodes.items i →
+        slice_index region.new i ≡ slice_index region.old i }
+    ensures room { FitsGraph graph.now scratch.new }
+    ensures rows { scratch.new.rows.count ≡ scratch.old.rows.count }
+    ensures pending { IsPending scratch.new.course.known }
+    ensures none { HasNoHits scratch.new }
+    ensures at { scratch.new.at ≡ scratch.old.at + 1 }
+    ensures ticks { steps.new ≤ steps.old + 32 * length graph.now.table.nodes.items }
+    ensures early { KeepsEarly scratch.old.at scratch.new.at scratch.old.past scratch.new.past }
+    ensures scans { Takes V.tells events.old events.new (Scans E.meaning graph.now (held literals.now)
+        (stand_of scratch.old region.old) (stand_of scratch.new region.new) (line_feed ∷ [])) }
+    ensures left { LeavesToEnd E.meaning graph.now (held literals.now) (stand_of scratch.old region.old)
+        (line_feed ∷ []) scratch.new.last.items }
+{
+    let _ = layout.fields();
+    find_hits(literals, scratch, &LINE_FEED);
+    let past = scratch.past;
+    let chunk = Chunk {
+        bytes: &LINE_FEED,
+        past: &past,
+        prev: prev_of(scratch.at, &past),
+        at: scratch.at,
+    };
+    fill(scratch, &chunk);
+    run_line_feed(graph, region, scratch, &chunk, events, steps);
+    forget(scratch);
+    push_past(&mut scratch.past, &LINE_FEED);
+    scratch.at += 1;
+}
+
+/// Takes a line feed, and writes which identifiers it leaves to the end.
+fn scan_line_feed<E: BlockEngine, V: Events, L: Ledger>(
+    graph: &Graph<E>,
+    literals: &Literals,
+    layout: &Layout,
+    region: &mut [u8],
+    scratch: &mut Scratch,
+    events: &mut V,
+    steps: &mut Steps<L>,
+)
+    requires sound { IsGraphSound E.meaning graph.now (held literals.now) layout.now }
+    requires sized { length region.old ≡ laid_size layout.now }
+    requires well { AreNodesWell E.meaning graph.now.table region.old scratch.old.at }
+    requires room { FitsGraph graph.now scratch.old }
+    requires rows { scratch.old.rows.count ≡ length (held literals.now) }
+    requires pending { IsPending scratch.old.course.known }
+    requires none { HasNoHits scratch.old }
+    requires no_finals { HasNoEnds scratch.old.finals }
+    requires small { scratch.old.at < 2 ^ 63 }
+    ensures len { length region.new ≡ length region.old }
+    ensures well { AreNodesWell E.meaning graph.now.table region.new scratch.new.at }
+    ensures outside { (i : ℕ) → IsOutside graph.now.table.nodes.items i →
+        slice_index region.new i ≡ slice_index region.old i }
+    ensures room { FitsGraph graph.now scratch.new }
+    ensures rows { scratch.new.rows.count ≡ scratch.old.rows.count }
+    ensures pending { IsPending scratch.new.course.known }
+    ensures none { HasNoHits scratch.new }
+    ensures no_finals { HasNoEnds scratch.new.finals }
+    ensures at { scratch.new.at ≡ scratch.old.at + 1 }
+    ensures ticks { steps.new ≤ steps.old + 48 * length graph.now.table.nodes.items }
+    ensures early { KeepsEarly scratch.old.at scratch.new.at scratch.old.past scratch.new.past }
+    ensures scans { Takes V.tells events.old events.new (Scans E.meaning graph.now (held literals.now)
+        (stand_of scratch.old region.old) (stand_of scratch.new region.new) (line_feed ∷ [])) }
+    ensures left { LeavesToEnd E.meaning graph.now (held literals.now) (stand_of scratch.old region.old)
+        (line_feed ∷ []) scratch.new.last.items }
+{
+    ask_ends(
+        graph,
+        literals,
+        layout,
+        region,
+        scratch,
+        Next::FinalNewline,
+        steps,
+    );
+    scan_asked(graph, literals, layout, region, scratch, events, steps);
+    forget_finals(&mut scratch.finals);
+}
+
+/// No identifier is left to the end.
+fn leave_none(last: &mut [u64])
+    ensures len { length last.new ≡ length last.old }
+    ensures none { (p : ℕ) → has_word_bit last.new p ≡ false }
+{
+    for word in last.iter_mut() {
+        *word = 0;
+    }
+}
+
+/// Takes bytes up to a line feed, which is the last one, at that place.
+fn scan_to_line_feed<E: BlockEngine, V: Events, L: Ledger>(
+    graph: &Graph<E>,
+    literals: &Literals,
+    layout: &Layout,
+    region: &mut [u8],
+    scratch: &mut Scratch,
+    bytes: &[u8],
+    last: usize,
+    events: &mut V,
+    steps: &mut Steps<L>,
+)
+    requires sound { IsGraphSound E.meaning graph.now (held literals.now) layout.now }
+    requires sized { length region.old ≡ laid_size layout.now }
+    requires well { AreNodesWell E.meaning graph.now.table region.old scratch.old.at }
+    requires room { FitsGraph graph.now scratch.old }
+    requires rows { scratch.old.rows.count ≡ length (held literals.now) }
+    requires pending { IsPending scratch.old.course.known }
+    requires none { HasNoHits scratch.old }
+    requires no_finals { HasNoEnds scratch.old.finals }
+    requires place { length bytes.now ≡ last + 1 }
+    requires ends { slice_index bytes.now last ≡ line_feed }
+    requires small { scratch.old.at + length bytes.now ≤ 2 ^ 63 }
+    ensures len { length region.new ≡ length region.old }
+    ensures well { AreNodesWell E.meaning graph.now.table region.new scratch.new.at }
+    ensures outside { (i : ℕ) → IsOutside graph.now.table.nodes.items i →
+        slice_index region.new i ≡ slice_index region.old i }
+    ensures room { FitsGraph graph.now scratch.new }
+    ensures rows { scratch.new.rows.count ≡ scratch.old.rows.count }
+    ensures pending { IsPending scratch.new.course.known }
+    ensures none { HasNoHits scratch.new }
+    ensures no_finals { HasNoEnds scratch.new.finals }
+    ensures at { scratch.new.at ≡ scratch.old.at + length bytes.now }
+    ensures ticks { steps.new ≤ steps.old + 48 * (length graph.now.table.nodes.items * length bytes.now) }
+    ensures early { KeepsEarly scratch.old.at scratch.new.at scratch.old.past scratch.new.past }
+    ensures scans { Takes V.tells events.old events.new (Scans E.meaning graph.now (held literals.now)
+        (stand_of scratch.old region.old) (stand_of scratch.new region.new) bytes.now) }
+    ensures left { LeavesToEnd E.meaning graph.now (held literals.now) (stand_of scratch.old region.old)
+        bytes.now scratch.new.last.items }
+{
+    scan_bytes(
+        graph,
+        literals,
+        layout,
+        region,
+        scratch,
+        &bytes[..last],
+        events,
+        steps,
+    );
+    scan_line_feed(graph, literals, layout, region, scratch, events, steps);
+}
+
+/// Takes bytes of which the last one, at that place, is no line feed.
+fn scan_to_other<E: BlockEngine, V: Events, L: Ledger>(
+    graph: &Graph<E>,
+    literals: &Literals,
+    layout: &Layout,
+    region: &mut [u8],
+    scratch: &mut Scratch,
+    bytes: &[u8],
+    last: usize,
+    events: &mut V,
+    steps: &mut Steps<L>,
+)
+    requires sound { IsGraphSound E.meaning graph.now (held literals.now) layout.now }
+    requires sized { length region.old ≡ laid_size layout.now }
+    requires well { AreNodesWell E.meaning graph.now.table region.old scratch.old.at }
+    requires room { FitsGraph graph.now scratch.old }
+    requires rows { scratch.old.rows.count ≡ length (held literals.now) }
+    requires pending { IsPending scratch.old.course.known }
+    requires none { HasNoHits scratch.old }
+    requires no_finals { HasNoEnds scratch.old.finals }
+    requires place { length bytes.now ≡ last + 1 }
+    requires ends { slice_index bytes.now last ≡ line_feed → ⊥ }
+    requires small { scratch.old.at + length bytes.now ≤ 2 ^ 63 }
+    ensures len { length region.new ≡ length region.old }
+    ensures well { AreNodesWell E.meaning graph.now.table region.new scratch.new.at }
+    ensures outside { (i : ℕ) → IsOutside graph.now.table.nodes.items i →
+        slice_index region.new i ≡ slice_index region.old i }
+    ensures room { FitsGraph graph.now scratch.new }
+    ensures rows { scratch.new.rows.count ≡ scratch.old.rows.count }
+    ensures pending { IsPending scratch.new.course.known }
+    ensures none { HasNoHits scratch.new }
+    ensures no_finals { HasNoEnds scratch.new.finals }
+    ensures at { scratch.new.at ≡ scratch.old.at + length bytes.now }
+    ensures ticks { steps.new ≤ steps.old + 48 * (length graph.now.table.nodes.items * length bytes.now) }
+    ensures early { KeepsEarly scratch.old.at scratch.new.at scratch.old.past scratch.new.past }
+    ensures scans { Takes V.tells events.old events.new (Scans E.meaning graph.now (held literals.now)
+        (stand_of scratch.old region.old) (stand_of scratch.new region.new) bytes.now) }
+    ensures left { LeavesToEnd E.meaning graph.now (held literals.now) (stand_of scratch.old region.old)
+        bytes.now scratch.new.last.items }
+{
+    let _ = last;
+    scan_bytes(
+        graph, literals, layout, region, scratch, bytes, events, steps,
+    );
+    leave_none(&mut scratch.last);
+}
+
+/// Takes the bytes of a write, of which there are some, and writes which identifiers the last one leaves to the end.
+pub(crate) fn scan_write<E: BlockEngine, V: Events, L: Ledger>(
+    graph: &Graph<E>,
+    literals: &Literals,
+    layout: &Layout,
+    region: &mut [u8],
+    scratch: &mut Scratch,
+    bytes: &[u8],
+    events: &mut V,
+    steps: &mut Steps<L>,
+)
+    requires sound { IsGraphSound E.meaning graph.now (held literals.now) layout.now }
+    requires sized { length region.old ≡ laid_size layout.now }
+    requires well { AreNodesWell E.meaning graph.now.table region.old scratch.old.at }
+    requires room { FitsGraph graph.now scratch.old }
+    requires rows { scratch.old.rows.count ≡ length (held literals.now) }
+    requires pending { IsPending scratch.old.course.known }
+    requires none { HasNoHits scratch.old }
+    requires no_finals { HasNoEnds scratch.old.finals }
+    requires some { 0 < length bytes.now }
+    requires small { scratch.old.at + length bytes.now ≤ 2 ^ 63 }
+    ensures len { length region.new ≡ length region.old }
+    ensures well { AreNodesWell E.meaning graph.now.table region.new scratch.new.at }
+    ensures outside { (i : ℕ) → IsOutside graph.now.table.nodes.items i →
+        slice_index region.new i ≡ slice_index region.old i }
+    ensures room { FitsGraph graph.now scratch.new }
+    ensures rows { scratch.new.rows.count ≡ scratch.old.rows.count }
+    ensures pending { IsPending scratch.new.course.known }
+    ensures none { HasNoHits scratch.new }
+    ensures no_finals { HasNoEnds scratch.new.finals }
+    ensures at { scratch.new.at ≡ scratch.old.at + length bytes.now }
+    ensures ticks { steps.new ≤ steps.old + 48 * (length graph.now.table.nodes.items * length bytes.now) }
+    ensures early { KeepsEarly scratch.old.at scratch.new.at scratch.old.past scratch.new.past }
+    ensures scans { Takes V.tells events.old events.new (Scans E.meaning graph.now (held literals.now)
+        (stand_of scratch.old region.old) (stand_of scratch.new region.new) bytes.now) }
+    ensures left { LeavesToEnd E.meaning graph.now (held literals.now) (stand_of scratch.old region.old)
+        bytes.now scratch.new.last.items }
+{
+    let last = bytes.len() - 1;
+    if bytes[last] == b'\n' {
+        scan_to_line_feed(
+            graph, literals, layout, region, scratch, bytes, last, events, steps,
+        );
+    } else {
+        scan_to_other(
+            graph, literals, layout, region, scratch, bytes, last, events, steps,
+        );
+    }
+}

@@ -1,0 +1,91 @@
+-- What the runner's relations say of a database.
+use Rattle.std.proofs.Common.{◌≡◌, ◌↔◌, ℕ, ◌<◌, List, [], ◌∷◌, get_or, suc, sym, subst}
+use Rattle.hs_base.specs.Lists.{Each}
+use Rattle.hs_base.specs.Literals.{LiteralByte}
+use Rattle.hs_base.specs.Regions.{Plan, IsWellFormed}
+use Rattle.hs_base.specs.Told.{Pair}
+use Rattle.hs_base.proofs.ListLemmas.{each-append}
+use Rattle.hs_compile.specs.Databases.{Compiled, IsDatabaseOf, IsWholeDatabase, graph_of, layout_of, literals_of}
+use Rattle.hs_layout.specs.Layouts.{Laid}
+use Rattle.hs_literals.specs.Held.{held}
+use Rattle.hs_literals.specs.declared.literals.Literals.{Literals}
+use Rattle.hs_nodes.specs.declared.graph.Graph.{Graph}
+use Rattle.hs_reports.specs.Events.{Takes}
+use Rattle.hs_rose.specs.PieceEngines.{piece_meaning}
+use Rattle.hs_rose.specs.declared.engine.PieceEngine.{PieceEngine}
+use Rattle.hs_scan.specs.Faults.{IsSoundWithSome}
+use Rattle.hs_scan.specs.Feeding.{Feeds, Finishes, RunsLaid}
+use Rattle.hs_scan.proofs.ExactLemmas.{regions-exact}
+use Rattle.hs_stream.specs.Leading.{IsRegionOf, LeadsTo, EndsWith}
+
+pub each-by : (bytes : List ℕ) → ((i : ℕ) → get_or bytes i 0 < 256) → Each (λ b. b < 256) bytes
+each-by [] all = tt
+each-by (b ∷ bytes) all = (all 0, each-by bytes (λ i. all (suc i)))
+
+-- What a call on a database is lent.
+pub record AreLent (db : Compiled) (graph : Graph PieceEngine) (literals : Literals) (l : Laid) : Type 0 where
+  pub graph_is : graph ≡ graph_of db
+  pub literals_are : literals ≡ literals_of db
+  pub layout_is : l ≡ layout_of db
+
+pub lent : (db : Compiled) {graph : Graph PieceEngine} {literals : Literals} {l : Laid} → graph ≡ graph_of db → literals ≡ literals_of db → l ≡ layout_of db → AreLent db graph literals l
+lent db a b c = record { graph_is = a; literals_are = b; layout_is = c }
+
+-- The same of what is lent as of the database.
+pub as-lent : {db : Compiled} {graph : Graph PieceEngine} {literals : Literals} {l : Laid} → AreLent db graph literals l →
+    (P : Graph PieceEngine → List (List LiteralByte) → Laid → Type 0) → P (graph_of db) (held (literals_of db)) (layout_of db) → P graph (held literals) l
+as-lent {db} {graph} {literals} {l} own P holds =
+    subst (λ g. P g (held literals) l) (sym own.graph_is)
+    (subst (λ ls. P (graph_of db) (held ls) l) (sym own.literals_are)
+    (subst (λ m. P (graph_of db) (held (literals_of db)) m) (sym own.layout_is) holds))
+
+pub lent-as : {db : Compiled} {graph : Graph PieceEngine} {literals : Literals} {l : Laid} → AreLent db graph literals l →
+    (P : Graph PieceEngine → List (List LiteralByte) → Laid → Type 0) → P graph (held literals) l → P (graph_of db) (held (literals_of db)) (layout_of db)
+lent-as {db} {graph} {literals} {l} own P holds =
+    subst (λ g. P g (held (literals_of db)) (layout_of db)) own.graph_is
+    (subst (λ ls. P graph (held ls) (layout_of db)) own.literals_are
+    (subst (λ m. P graph (held literals) m) own.layout_is holds))
+
+-- and of the graph and the layout alone
+pub as-pair : (db : Compiled) {graph : Graph PieceEngine} {l : Laid} → graph ≡ graph_of db → l ≡ layout_of db → (P : Graph PieceEngine → Laid → Type 0) → P (graph_of db) (layout_of db) → P graph l
+as-pair db {graph} {l} same same_l P holds = subst (λ g. P g l) (sym same) (subst (λ m. P (graph_of db) m) (sym same_l) holds)
+
+pub pair-as : (db : Compiled) {graph : Graph PieceEngine} {l : Laid} → graph ≡ graph_of db → l ≡ layout_of db → (P : Graph PieceEngine → Laid → Type 0) → P graph l → P (graph_of db) (layout_of db)
+pair-as db {graph} {l} same same_l P holds = subst (λ g. P g (layout_of db)) same (subst (λ m. P graph m) same_l holds)
+
+pub whole-sound : (db : Compiled) → IsWholeDatabase db → IsSoundWithSome piece_meaning (graph_of db) (layout_of db)
+whole-sound db whole = record { literals = held (literals_of db); sound = whole.is_of.sound }
+
+module _ (db : Compiled) (plan : Plan) (is : IsDatabaseOf db plan) where
+  pub plan-runs : RunsLaid piece_meaning (graph_of db) (held (literals_of db)) (layout_of db) plan
+  plan-runs = record { runs = is.runs; laid = is.layout }
+
+  -- what may be run as a region is what is well formed for the plan
+  pub region-exact : (region : List ℕ) → Each (λ b. b < 256) region → IsRegionOf db region ↔ IsWellFormed plan region
+  region-exact region small =
+      regions-exact piece_meaning (graph_of db) (held (literals_of db)) (layout_of db) plan region is.sound plan-runs small
+
+feeds-lead : (db : Compiled) (old new bytes : List ℕ) (pairs : List Pair) → Each (λ b. b < 256) bytes → Feeds piece_meaning (graph_of db) (held (literals_of db)) (layout_of db) old new bytes pairs → LeadsTo db old new bytes pairs
+feeds-lead db old new bytes pairs small feeds plan u told is behind told_is =
+    let fed = feeds plan u told (plan-runs db plan is) behind.bytes behind.region told_is in
+    record {
+      behind = record { bytes = each-append (λ b. b < 256) u bytes behind.bytes small; region = fed.region };
+      reports = fed.new;
+    }
+
+module _ {V : Type 0} (Tells : V → ℕ → ℕ → V → Type 0) {start end : V} (db : Compiled) where
+  -- what the runner reported of bytes
+  pub takes-lead : {old new bytes : List ℕ} → Each (λ b. b < 256) bytes → Takes Tells start end (Feeds piece_meaning (graph_of db) (held (literals_of db)) (layout_of db) old new bytes) → Takes Tells start end (LeadsTo db old new bytes)
+  takes-lead {old} {new} {bytes} small took = record {
+    pairs = took.pairs;
+    through = took.through;
+    holds = feeds-lead db old new bytes took.pairs small took.holds;
+  }
+
+  -- and of the end
+  pub takes-end : {region : List ℕ} → Takes Tells start end (Finishes piece_meaning (graph_of db) (held (literals_of db)) (layout_of db) region) → Takes Tells start end (EndsWith db region)
+  takes-end {region} took = record {
+    pairs = took.pairs;
+    through = took.through;
+    holds = λ plan u is behind. took.holds plan u (plan-runs db plan is) behind.bytes behind.region;
+  }

@@ -1,4 +1,0 @@
-use Rattle.hs_tests_roles.proofs.regions.region_of.Given as goal
-
-abbrev pub ghosts-region_by : goal.ghosts-region_by
-ghosts-region_by a = record { name = a.blank.name; parts = a.blank.parts }

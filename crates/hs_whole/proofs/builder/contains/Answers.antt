@@ -1,6 +1,0 @@
-use Rattle.std.proofs.Common.{◌∙◌}
-use Rattle.hs_whole.proofs.IdLemmas.{found-has_id}
-use Rattle.hs_whole.proofs.builder.contains.Goals as goal
-
-pub returns : goal.returns
-returns c = c.is_ok.ensures.value ∙ found-has_id c.args.ids.now c.args.id c.binary_search.result c.requires c.binary_search.ensures.position

@@ -1,6 +1,0 @@
-use Rattle.std.proofs.Common.{◌≡◌, map, take}
-use Rattle.hs_whole.specs.Building.{identifier_for}
-use Rattle.hs_whole.proofs.builder.identifiers_for.Given as goal
-
-abbrev pub invariant-loop-id : goal.invariant-loop-id
-invariant-loop-id l = l.identifiers.items ≡ map (identifier_for l.many) (take l.id-index l.ids)
