@@ -68,6 +68,12 @@ module _ {E : Type 0} (meaning : E → Meaning) (table : NodeTable E) where
       let own = kind-engine node.kind number null set kind_is (asleep k node (sound.entered k number null node there kind_is no_parent) there none) in
       (own.0, λ e at_e. let one = own.1 e at_e in record { wakers = one.wakers; are = one.are; none = λ i low. one.none (slice_index bytes i) (small i low) (in_set i low) })
 
+  -- where no engine lacks a parent
+  pub no-engines-unwoken : (wakes : WakeTable) (literals : ℕ) (marks bytes : List ℕ) → AreWakesSound table.nodes.items wakes literals → length wakes.first_engines.items ≡ 0 → AreEnginesUnwoken meaning table marks bytes
+  no-engines-unwoken wakes literals marks bytes sound none k number null node there kind_is no_parent unmarked =
+      let listed = sound.entered k number null node there kind_is no_parent in
+      absurd (omega (arith, listed.within, none))
+
   module _ (wakes : WakeTable) (literals : ℕ) (sound : AreWakesSound table.nodes.items wakes literals) (hit : ℕ → Bool) (hits : List ChunkHits) (marks bytes : List ℕ)
       (woken : (number k : ℕ) → hit number ≡ true → IsAmongChildren wakes.literal_starts.items wakes.literal_nodes.items number k → is_marked marks k ≡ true)
       (nowhere : (number : ℕ) (own : ChunkHits) → hit number ≡ false → slice_get hits number ≡ Some own → (i : ℕ) → i ≤ length bytes → is_hit_at own i ≡ false) (engines : AreEnginesUnwoken meaning table marks bytes) where

@@ -121,5 +121,8 @@ pub fn wake_engines<E: Engine>(graph: &Graph<E>, bytes: &[u8], marks: &mut MarkS
     ensures more { AreMoreMarks (length graph.now.table.nodes.items) marks.old marks.new }
     ensures asleep { AreEnginesUnwoken E.meaning graph.now.table marks.new bytes.now }
 {
+    if graph.wakes.first_engines.is_empty() {
+        return;
+    }
     wake_by(graph, &set_of(bytes), marks);
 }

@@ -58,6 +58,23 @@ pub(crate) fn mark_first(marks: &mut MarkSet, count: usize)
     }
 }
 
+/// Takes the marks of those nodes away in which nothing is live. The region stays as it is.
+pub(crate) fn unmark_resting<E: BlockEngine>(
+    graph: &Graph<E>,
+    region: &mut [u8],
+    ends: &mut [ChunkEnds],
+    marks: &mut MarkSet,
+)
+    requires table { (literals : ℕ) × IsTableSound E.meaning graph.now.table literals (length region.old) }
+    requires room { FitsRoom (length graph.now.table.nodes.items) ends.old marks.old }
+    requires resting { AreNodesResting E.meaning graph.now.table marks.old region.old }
+    ensures region { region.new ≡ region.old }
+    ensures room { FitsRoom (length graph.now.table.nodes.items) ends.new marks.new }
+    ensures resting { AreNodesResting E.meaning graph.now.table marks.new region.new }
+{
+    settle(&graph.table, region, ends, marks);
+}
+
 /// Takes a chunk by the nodes that are marked: the region goes from what is kept of the nodes before it to what is
 /// kept behind it, what is known of the identifiers likewise, and the new reports of the chunk are told. Nothing is
 /// live then in the nodes that aren't marked.

@@ -11,7 +11,7 @@ ghost use Rattle.hs_scan.specs.Scratches.{IsIdle, ServesGraph};
 
 use crate::last_byte::scan_write;
 use crate::scratch::Scratch;
-use crate::writing::{begin_write, end_write};
+use crate::writing::{begin_write, end_write, rest_nodes};
 use hs_block::BlockEngine;
 use hs_engine::Steps;
 use hs_layout::Layout;
@@ -54,6 +54,7 @@ pub fn scan<E: BlockEngine, V: Events, L: Ledger>(
         return;
     }
     begin_write(graph, layout, region, scratch);
+    rest_nodes(graph, region, scratch);
     scan_write(
         graph, literals, layout, region, scratch, bytes, events, steps,
     );

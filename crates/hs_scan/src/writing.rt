@@ -1,16 +1,18 @@
 //! The beginning and the end of a write: what the region keeps goes into the scratch, and comes back.
 
-ghost use Rattle.std.specs.Prelude.{◌≡◌, ◌^◌, ◌<◌, length};
+ghost use Rattle.std.specs.Prelude.{◌≡◌, ◌^◌, ◌<◌, ℕ, length};
 ghost use Rattle.hs_layout.specs.Layouts.{laid_size};
 ghost use Rattle.hs_nodes.specs.Graphs.{FitsLayout};
+ghost use Rattle.hs_nodes.specs.Resting.{AreNodesResting};
+ghost use Rattle.hs_nodes.specs.Walks.{IsTableSound};
 ghost use Rattle.hs_reports.specs.EndTables.{HasNoEnds};
 ghost use Rattle.hs_scan.specs.Keeping.{HasBits};
 ghost use Rattle.hs_scan.specs.Knowing.{FitsKnown};
 ghost use Rattle.hs_scan.specs.Scans.{IsWritten};
-ghost use Rattle.hs_scan.specs.Scratches.{FitsGraph, stand_of};
+ghost use Rattle.hs_scan.specs.Scratches.{FitsGraph, KeepsTables, stand_of};
 ghost use Rattle.hs_scan.specs.Writing.{BeginsKnown, BeginsWrite};
 
-use crate::chunk::mark_first;
+use crate::chunk::{mark_first, unmark_resting};
 use crate::copying::copy_fields;
 use crate::keeping::{read_rows, write_rows};
 use crate::known::Known;
@@ -62,6 +64,21 @@ pub(crate) fn begin_write<E: BlockEngine>(
         &graph.identifiers,
         &mut scratch.course.known,
     );
+}
+
+/// Takes the marks of those nodes away in which nothing is live: the first chunk passes over them too, if it doesn't wake
+/// them. The region stays as it is.
+pub(crate) fn rest_nodes<E: BlockEngine>(graph: &Graph<E>, region: &mut [u8], scratch: &mut Scratch)
+    requires table { (literals : ℕ) × IsTableSound E.meaning graph.now.table literals (length region.old) }
+    requires room { FitsGraph graph.now scratch.old }
+    requires resting { AreNodesResting E.meaning graph.now.table scratch.old.course.marks region.old }
+    ensures region { region.new ≡ region.old }
+    ensures room { FitsGraph graph.now scratch.new }
+    ensures resting { AreNodesResting E.meaning graph.now.table scratch.new.course.marks region.new }
+    ensures known { scratch.new.course.known ≡ scratch.old.course.known }
+    ensures keeps { KeepsTables scratch.old scratch.new }
+{
+    unmark_resting(graph, region, &mut scratch.ends, &mut scratch.course.marks);
 }
 
 /// Writes into a region all that is known of its stream but what is kept of the nodes, which is there.
