@@ -14,6 +14,6 @@ pub use lowest::{lowest_bit, without_lowest_bit};
 pub use next::{next_bit_in, next_bit_in_either};
 pub use ranges::{has_bit_in, has_bit_round};
 pub use words::{
-    WORD_BITS, are_apart, contains_word_bit, insert_word_bit, is_unset, keep_words, shift_in,
-    store, unite_bytes, unite_words, word_at, word_count_for, write_word_bit,
+    WORD_BITS, are_apart, clear_words, contains_word_bit, insert_word_bit, is_unset, keep_words,
+    shift_in, store, unite_bytes, unite_words, word_at, word_count_for, write_word_bit,
 };

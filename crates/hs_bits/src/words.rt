@@ -61,6 +61,16 @@ fn with_bit(word: u64, bit: usize, value: bool) -> u64
     if value { word | mask } else { word & !mask }
 }
 
+/// Unsets all bits.
+pub fn clear_words(words: &mut [u64])
+    ensures len { length words.new ≡ length words.old }
+    ensures zero { AreZero words.new }
+{
+    for word in words.iter_mut() {
+        *word = 0;
+    }
+}
+
 /// Whether no bit is set.
 pub fn is_unset(words: &[u64]) -> bool
     ensures { IsTrue result ↔ AreZero words.now }

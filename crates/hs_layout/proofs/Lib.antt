@@ -3,3 +3,4 @@ pub mod WrittenLemmas
 pub mod HistoryLemmas
 pub mod LendingLemmas
 pub mod FieldLemmas
+pub mod RowLemmas

@@ -43,7 +43,7 @@ range-one region low within =
     let e : low + 1 - low ≡ 1 = omega arith in
     length-take-le (low + 1 - low) (drop low region) (omega (arith, length-drop low region)) ∙ e
 
-bit-of : (xs ys : List ℕ) (j k : ℕ) → get_or xs (j / 8) 0 ≡ get_or ys (k / 8) 0 → j % 8 ≡ k % 8 → has_bit xs j ≡ has_bit ys k
+pub bit-of : (xs ys : List ℕ) (j k : ℕ) → get_or xs (j / 8) 0 ≡ get_or ys (k / 8) 0 → j % 8 ≡ k % 8 → has_bit xs j ≡ has_bit ys k
 unfolding has_bit
 bit-of xs ys j k byte place = ap (λ n. eqb (bit_at n (j % 8)) 1) byte ∙ ap (λ n. eqb (bit_at (get_or ys (k / 8) 0) n) 1) place
 

@@ -1,3 +1,4 @@
 pub mod Layouts
 pub mod HeaderFaults
 pub mod LayoutLaws
+pub mod Rows

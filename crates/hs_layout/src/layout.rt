@@ -68,6 +68,13 @@ impl Layout {
         self.starts[self.starts.len() - 1]
     }
 
+    /// How many single identifiers there are.
+    pub fn singles(&self) -> usize
+        ensures { result ≡ self.now.singles }
+    {
+        self.singles
+    }
+
     /// How many fields there are.
     pub fn fields(&self) -> usize
         ensures { result + 1 ≡ length self.now.starts }

@@ -10,5 +10,6 @@ pub mod laws;
 mod layout;
 mod rows;
 mod starts;
+mod word_rows;
 
 pub use layout::{HISTORY_SIZE, Layout, MAX_SIZE};

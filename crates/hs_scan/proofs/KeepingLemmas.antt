@@ -1,14 +1,15 @@
 -- Single identifiers among all.
-use Rattle.std.proofs.Common.{◌≡◌, ℕ, zero, suc, ◌+◌, ◌*◌, ◌<◌, ◌≤◌, Bool, true, false, List, [], ◌∷◌, ◌++◌, length, take, Some, slice_get, refl, sym, ap, subst, ◌∙◌, inl, inr, arith, length-append}
+use Rattle.std.proofs.Common.{◌≡◌, ◌⊎◌, ℕ, zero, suc, ◌+◌, ◌*◌, ◌<◌, ◌≤◌, Bool, true, false, List, [], ◌∷◌, ◌++◌, length, take, Some, slice_get, refl, sym, ap, subst, ◌∙◌, inl, inr, arith, length-append}
 use Rattle.std.proofs.lemmas.Bool.{cases_eq}
 use Rattle.std.proofs.lemmas.List.{length-take-le}
 use Rattle.std.proofs.lemmas.Option.{same_Some, slice_get_within}
 use Rattle.hs_base.specs.Bits.{has_bit, has_word_bit}
-use Rattle.hs_base.specs.Regions.{last_at}
+use Rattle.hs_base.specs.Regions.{fields_at, here_at, last_at, row_size, told_at}
 use Rattle.hs_reports.specs.Identifiers.{numbers_of}
 use Rattle.hs_reports.specs.declared.identifier.Identifier.{Identifier}
 use Rattle.hs_layout.specs.Layouts.{Laid}
-use Rattle.hs_scan.specs.Keeping.{AreBitsWritten, HasBits, IsOneWritten, AreBitsRead, singles_before}
+use Rattle.hs_layout.specs.Rows.{IsRowRead, IsRowWritten}
+use Rattle.hs_scan.specs.Keeping.{AreBitsWritten, AreEndsWritten, AreLast, AreRead, HasBits, IsOneWritten, IsSpareBit, AreBitsRead, singles_before}
 use Rattle.hs_nodes.specs.Graphs.{singles_of, with_single}
 
 pub number-at : (xs : List Identifier) (p : ℕ) (x : Identifier) → slice_get xs p ≡ Some x → slice_get (numbers_of xs) p ≡ Some x.id.0
@@ -172,3 +173,104 @@ last-more l mid new xs last p n x has is written before j y below at = elim (cas
       let inside : j < l.identifiers = omega (arith, slice_get_within xs j y at, has.all) in
       before j y (omega (arith, below, apart)) at ∙ sym (written.last j inside apart)
 ]
+
+-- rows by words
+
+-- where all are single, each comes as that one among the single ones
+all-step : (y : Identifier) (xs : List Identifier) (p : ℕ) (s : Bool) → (length (singles_of xs) ≡ length xs → singles_before xs p ≡ p) → length (with_single s y (singles_of xs)) ≡ suc (length xs) →
+    length (with_single s y (singles_of (take p xs))) ≡ suc p
+all-step y xs p true rest e = ap suc (rest (omega (arith, e)))
+all-step y xs p false rest e = absurd (omega (arith, e, singles-count xs))
+
+all-before : (xs : List Identifier) (p : ℕ) → p ≤ length xs → length (singles_of xs) ≡ length xs → singles_before xs p ≡ p
+all-before xs zero within all = refl
+all-before [] (suc p) within all = absurd (omega (arith, within))
+all-before (y ∷ xs) (suc p) within all = all-step y xs p y.single (all-before xs p (omega (arith, within))) all
+
+below-count : (l : Laid) (xs : List Identifier) (p : ℕ) (x : Identifier) → HasBits l xs → slice_get xs p ≡ Some x → p < l.identifiers
+below-count l xs p x has at = omega (arith, slice_get_within xs p x at, has.all)
+
+all-singles : (l : Laid) (xs : List Identifier) (p : ℕ) (x : Identifier) → HasBits l xs → l.singles ≡ length xs → slice_get xs p ≡ Some x → singles_before xs p ≡ p
+all-singles l xs p x has all at = all-before xs p (omega (arith, slice_get_within xs p x at)) (sym has.singles ∙ all)
+
+no-single : (l : Laid) (xs : List Identifier) (p : ℕ) (x : Identifier) → HasBits l xs → l.singles ≡ 0 → slice_get xs p ≡ Some x → x.single ≡ true → ⊥
+no-single l xs p x has none at is = omega (arith, single-below xs p x at is, has.singles, none)
+
+pub read-all : (l : Laid) (region : List ℕ) (xs : List Identifier) (told' here' told here : List ℕ) → HasBits l xs → l.singles ≡ length xs → IsRowRead told_at l.singles region told' told → IsRowRead (here_at l.singles) l.identifiers region here' here → AreRead l region xs told here
+read-all l region xs told' here' told here has all tolds heres p x at = record {
+  told_is = λ is. tolds.row_is p (omega (arith, all, slice_get_within xs p x at)) ∙ ap (λ n. has_bit region (8 * told_at + n)) (sym (all-singles l xs p x has all at));
+  here_is = heres.row_is p (below-count l xs p x has at);
+}
+
+pub read-none : (l : Laid) (region : List ℕ) (xs : List Identifier) (here' told here : List ℕ) → HasBits l xs → l.singles ≡ 0 → IsRowRead (here_at l.singles) l.identifiers region here' here → AreRead l region xs told here
+read-none l region xs here' told here has none heres p x at = record {
+  told_is = λ is. absurd (no-single l xs p x has none at is);
+  here_is = heres.row_is p (below-count l xs p x has at);
+}
+
+-- a row that is written leaves the bits outside of it
+told-bits : (l : Laid) (row old new : List ℕ) → IsRowWritten told_at l.singles row old new → AreBitsWritten l old new
+told-bits l row old new is = record { len = is.len; bytes = λ i out. is.bytes i (by i out); spare = λ k spare. is.others k (spares k spare) }
+  where
+    by : (i : ℕ) → (i < told_at) ⊎ (fields_at l.singles l.identifiers ≤ i) → (i < told_at) ⊎ (told_at + row_size l.singles ≤ i)
+    by i (inl before) = inl before
+    by i (inr behind) = inr (omega (arith, behind))
+
+    spares : (k : ℕ) → IsSpareBit l k → (k < 8 * told_at) ⊎ (8 * told_at + l.singles ≤ k)
+    spares k (inl told) = inr told.0
+    spares k (inr (inl here)) = inr (omega (arith, here.0))
+    spares k (inr (inr last)) = inr (omega (arith, last.0))
+
+here-bits : (l : Laid) (row old new : List ℕ) → IsRowWritten (here_at l.singles) l.identifiers row old new → AreBitsWritten l old new
+here-bits l row old new is = record { len = is.len; bytes = λ i out. is.bytes i (by i out); spare = λ k spare. is.others k (spares k spare) }
+  where
+    by : (i : ℕ) → (i < told_at) ⊎ (fields_at l.singles l.identifiers ≤ i) → (i < here_at l.singles) ⊎ (here_at l.singles + row_size l.identifiers ≤ i)
+    by i (inl before) = inl (omega (arith, before))
+    by i (inr behind) = inr (omega (arith, behind))
+
+    spares : (k : ℕ) → IsSpareBit l k → (k < 8 * here_at l.singles) ⊎ (8 * here_at l.singles + l.identifiers ≤ k)
+    spares k (inl told) = inl told.1
+    spares k (inr (inl here)) = inr here.0
+    spares k (inr (inr last)) = inr (omega (arith, last.0))
+
+last-bits : (l : Laid) (row old new : List ℕ) → IsRowWritten (last_at l.singles l.identifiers) l.identifiers row old new → AreBitsWritten l old new
+last-bits l row old new is = record { len = is.len; bytes = λ i out. is.bytes i (by i out); spare = λ k spare. is.others k (spares k spare) }
+  where
+    by : (i : ℕ) → (i < told_at) ⊎ (fields_at l.singles l.identifiers ≤ i) → (i < last_at l.singles l.identifiers) ⊎ (last_at l.singles l.identifiers + row_size l.identifiers ≤ i)
+    by i (inl before) = inl (omega (arith, before))
+    by i (inr behind) = inr (omega (arith, behind))
+
+    spares : (k : ℕ) → IsSpareBit l k → (k < 8 * last_at l.singles l.identifiers) ⊎ (8 * last_at l.singles l.identifiers + l.identifiers ≤ k)
+    spares k (inl told) = inl (omega (arith, told.1))
+    spares k (inr (inl here)) = inl here.1
+    spares k (inr (inr last)) = inr last.0
+
+pub ends-written : (l : Laid) (here last old mid new : List ℕ) → IsRowWritten (here_at l.singles) l.identifiers here old mid → IsRowWritten (last_at l.singles l.identifiers) l.identifiers last mid new → AreEndsWritten l here last old new
+ends-written l here last old mid new heres lasts = record {
+  written = bits-join l old mid new (here-bits l here old mid heres) (last-bits l last mid new lasts);
+  here_is = λ p below. lasts.others (8 * here_at l.singles + p) (inl (omega (arith, below))) ∙ heres.row_is p below;
+  last_is = λ p below. lasts.row_is p below;
+  told = λ k below. lasts.others (8 * told_at + k) (inl (omega (arith, below))) ∙ heres.others (8 * told_at + k) (inl (omega (arith, below)));
+}
+
+-- all are written
+module _ (l : Laid) (xs : List Identifier) (told here last old mid new : List ℕ) (has : HasBits l xs) (ends : AreEndsWritten l here last mid new) where
+  pub all-last : AreLast l new xs last
+  all-last p x at = sym (ends.last_is p (below-count l xs p x has at))
+
+  pub all-written : IsRowWritten told_at l.singles told old mid → AreBitsWritten l old new
+  all-written is = bits-join l old mid new (told-bits l told old mid is) ends.written
+
+  pub all-read : l.singles ≡ length xs → IsRowWritten told_at l.singles told old mid → AreRead l new xs told here
+  all-read all is p x at = record {
+    told_is = λ single.
+        let low : p < l.singles = omega (arith, all, slice_get_within xs p x at) in
+        sym (ap (λ n. has_bit new (8 * told_at + n)) (all-singles l xs p x has all at) ∙ (ends.told p low ∙ is.row_is p low));
+    here_is = sym (ends.here_is p (below-count l xs p x has at));
+  }
+
+  pub none-read : l.singles ≡ 0 → AreRead l new xs told here
+  none-read none p x at = record {
+    told_is = λ single. absurd (no-single l xs p x has none at single);
+    here_is = sym (ends.here_is p (below-count l xs p x has at));
+  }

@@ -58,3 +58,12 @@ pub record IsOneWritten (l : Laid) (x : Identifier) (p n : ℕ) (old new : List 
       has_bit new (8 * here_at l.singles + k) ≡ has_bit old (8 * here_at l.singles + k)
   pub last : (k : ℕ) → k < l.identifiers → (k ≡ p → ⊥) →
       has_bit new (8 * last_at l.singles l.identifiers + k) ≡ has_bit old (8 * last_at l.singles l.identifiers + k)
+
+-- The bits of all identifiers are those of the rows: of their pairs at the offset, and of those that wait for the end.
+-- Only these are other ones.
+pub record AreEndsWritten (l : Laid) (here last old new : List ℕ) : Type 0 where
+  pub written : AreBitsWritten l old new
+  pub here_is : (p : ℕ) → p < l.identifiers → has_bit new (8 * here_at l.singles + p) ≡ has_word_bit here p
+  pub last_is : (p : ℕ) → p < l.identifiers →
+      has_bit new (8 * last_at l.singles l.identifiers + p) ≡ has_word_bit last p
+  pub told : (k : ℕ) → k < l.singles → has_bit new (8 * told_at + k) ≡ has_bit old (8 * told_at + k)

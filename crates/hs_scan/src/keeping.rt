@@ -4,7 +4,8 @@ ghost use Rattle.std.specs.Prelude.{◌≡◌, ℕ, ◌+◌, ◌*◌, ◌<◌, �
 ghost use Rattle.hs_base.specs.Bits.{has_bit, has_word_bit, word_count};
 ghost use Rattle.hs_base.specs.Regions.{last_at, told_at};
 ghost use Rattle.hs_layout.specs.Layouts.{laid_size};
-ghost use Rattle.hs_scan.specs.Keeping.{AreBitsWritten, AreLast, AreRead, HasBits, IsOneWritten, AreBitsRead};
+ghost use Rattle.hs_scan.specs.Keeping.{AreBitsRead, AreBitsWritten, AreEndsWritten, AreLast, AreRead, HasBits};
+ghost use Rattle.hs_scan.specs.Keeping.{IsOneWritten};
 ghost use Rattle.hs_nodes.specs.Graphs.{with_single};
 
 use hs_bits::{contains_word_bit, write_word_bit};
@@ -58,8 +59,8 @@ fn read_one(
     write_word_bit(here, p, layout.told_here(region, p));
 }
 
-/// Reads what the region keeps of each identifier into the rows.
-pub(crate) fn read_rows(
+/// Reads what the region keeps of each identifier into the rows, one by one.
+fn read_each(
     layout: &Layout,
     region: &[u8],
     identifiers: &[Identifier],
@@ -80,6 +81,34 @@ pub(crate) fn read_rows(
         let identifier = identifiers[p];
         read_one(layout, region, identifier, p, single, told, here);
         single = singles_up_to(identifier, single);
+    }
+}
+
+/// Reads what the region keeps of each identifier into the rows: by words, where all are single or none is.
+pub(crate) fn read_rows(
+    layout: &Layout,
+    region: &[u8],
+    identifiers: &[Identifier],
+    told: &mut [u64],
+    here: &mut [u64],
+)
+    requires sized { length region.now ≡ laid_size layout.now }
+    requires bits { HasBits layout.now identifiers.now }
+    requires few { length identifiers.now < 2 ^ 32 }
+    requires told { length told.old ≡ word_count (length identifiers.now) }
+    requires here { length here.old ≡ word_count (length identifiers.now) }
+    ensures told { length told.new ≡ length told.old }
+    ensures here { length here.new ≡ length here.old }
+    ensures read { AreRead layout.now region.now identifiers.now told.new here.new }
+{
+    let singles = layout.singles();
+    if singles == identifiers.len() {
+        layout.read_told_singles(region, told);
+        layout.read_told_here(region, here);
+    } else if singles == 0 {
+        layout.read_told_here(region, here);
+    } else {
+        read_each(layout, region, identifiers, told, here);
     }
 }
 
@@ -118,8 +147,8 @@ fn write_one(
     layout.set_final_bit(region, p, bits.last);
 }
 
-/// Writes what is known of each identifier; all else stays.
-pub(crate) fn write_rows(
+/// Writes what is known of each identifier, one by one; all else stays.
+fn write_each(
     layout: &Layout,
     region: &mut [u8],
     identifiers: &[Identifier],
@@ -147,5 +176,46 @@ pub(crate) fn write_rows(
         };
         write_one(layout, region, identifier, p, single, bits);
         single = singles_up_to(identifier, single);
+    }
+}
+
+/// Writes what is known of each identifier but whether it is told; all else stays.
+fn write_ends(layout: &Layout, region: &mut [u8], here: &[u64], last: &[u64])
+    requires sized { length region.old ≡ laid_size layout.now }
+    requires here { layout.now.identifiers ≤ 64 * length here.now }
+    requires last { layout.now.identifiers ≤ 64 * length last.now }
+    ensures { AreEndsWritten layout.now here.now last.now region.old region.new }
+{
+    layout.write_told_here(region, here);
+    layout.write_finals(region, last);
+}
+
+/// Writes what is known of each identifier; all else stays. It goes by words, where all are single or none is.
+pub(crate) fn write_rows(
+    layout: &Layout,
+    region: &mut [u8],
+    identifiers: &[Identifier],
+    told: &[u64],
+    here: &[u64],
+    last: &[u64],
+)
+    requires sized { length region.old ≡ laid_size layout.now }
+    requires bits { HasBits layout.now identifiers.now }
+    requires few { length identifiers.now < 2 ^ 32 }
+    requires told { length told.now ≡ word_count (length identifiers.now) }
+    requires here { length here.now ≡ word_count (length identifiers.now) }
+    requires last { length last.now ≡ word_count (length identifiers.now) }
+    ensures written { AreBitsWritten layout.now region.old region.new }
+    ensures read { AreRead layout.now region.new identifiers.now told.now here.now }
+    ensures last { AreLast layout.now region.new identifiers.now last.now }
+{
+    let singles = layout.singles();
+    if singles == identifiers.len() {
+        layout.write_told_singles(region, told);
+        write_ends(layout, region, here, last);
+    } else if singles == 0 {
+        write_ends(layout, region, here, last);
+    } else {
+        write_each(layout, region, identifiers, told, here, last);
     }
 }

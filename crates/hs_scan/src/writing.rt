@@ -66,8 +66,8 @@ pub(crate) fn begin_write<E: BlockEngine>(
     );
 }
 
-/// Takes the marks of those nodes away in which nothing is live: the first chunk passes over them too, if it doesn't wake
-/// them. The region stays as it is.
+/// Takes the marks of those nodes away in which nothing is live: the first chunk passes over them too, if it doesn't
+/// wake them. The region stays as it is.
 pub(crate) fn rest_nodes<E: BlockEngine>(graph: &Graph<E>, region: &mut [u8], scratch: &mut Scratch)
     requires table { (literals : ℕ) × IsTableSound E.meaning graph.now.table literals (length region.old) }
     requires room { FitsGraph graph.now scratch.old }

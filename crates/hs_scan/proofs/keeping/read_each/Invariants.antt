@@ -1,7 +1,7 @@
 use Rattle.std.proofs.Common.{◌≡◌, length}
 use Rattle.hs_scan.specs.Keeping.{singles_before}
 use Rattle.hs_scan.proofs.KeepingLemmas.{AreReadTo}
-use Rattle.hs_scan.proofs.keeping.read_rows.Given as goal
+use Rattle.hs_scan.proofs.keeping.read_each.Given as goal
 
 abbrev pub invariant-loop-p : goal.invariant-loop-p
 invariant-loop-p l = record {

@@ -1,7 +1,7 @@
 use Rattle.std.proofs.Common.{◌≡◌}
 use Rattle.hs_scan.specs.Keeping.{AreBitsWritten, singles_before}
 use Rattle.hs_scan.proofs.KeepingLemmas.{AreLastTo, AreReadTo}
-use Rattle.hs_scan.proofs.keeping.write_rows.Given as goal
+use Rattle.hs_scan.proofs.keeping.write_each.Given as goal
 
 abbrev pub invariant-loop-p : goal.invariant-loop-p
 invariant-loop-p l = record {
