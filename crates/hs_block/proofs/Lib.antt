@@ -5,3 +5,4 @@ pub mod HandingLemmas
 pub mod LiteralWordLemmas
 pub mod LiteralBlockLemmas
 pub mod ContextLemmas
+pub mod ClassLaneLemmas

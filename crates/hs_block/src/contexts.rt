@@ -9,7 +9,7 @@
 //! \b                 1 . . 1 1 . . 1 . .    one of the two alone
 //! ```
 
-ghost use Rattle.std.specs.Prelude.{◌≡◌, ℕ, ◌<◌, ◌≤◌, ◌&&◌, ◌||◌, ◌==◌, List, length};
+ghost use Rattle.std.specs.Prelude.{◌≡◌, ℕ, ◌+◌, ◌<◌, ◌≤◌, ◌&&◌, ◌||◌, ◌==◌, List, length};
 ghost use Rattle.hs_base.specs.Contexts.{prev_number};
 ghost use Rattle.hs_base.specs.ContextSets.{has_context, has_next};
 ghost use Rattle.hs_base.specs.declared.context.Next.TheVariants as after;
@@ -19,6 +19,7 @@ ghost use Rattle.hs_block.specs.WordBits.{one_later, word_bit};
 
 use crate::places::{one_later, only_if, with_place};
 use hs_base::{Mask, Next, NextSet, Prev};
+use std::simd::prelude::*;
 
 /// A word for each class of bytes: at which places of a block one stands.
 #[derive(Clone, Copy, Debug, PartialEq, Eq)]
@@ -32,7 +33,7 @@ struct Classes {
 }
 
 impl Classes {
-    /// The classes of the bytes of a block.
+    /// The classes of the bytes of a block: sixteen at a time, and the last ones one by one.
     fn new(bytes: &[u8]) -> Classes
         requires { length bytes.now ≤ 64 }
         ensures { AreClasses result bytes.now (length bytes.now) }
@@ -42,7 +43,55 @@ impl Classes {
             newlines: 0,
             others: 0,
         };
-        for place in 0..bytes.len() {
+        let mut place = 0;
+        while bytes.len() - place >= u8x16::LEN {
+            classes = classes.with_lanes(bytes, place);
+            place += u8x16::LEN;
+        }
+        classes.with_rest(bytes, place)
+    }
+
+    /// The classes of sixteen bytes.
+    #[inline(always)]
+    fn of_lanes(lanes: u8x16) -> Classes
+        ensures { AreClasses result lanes 16 }
+    {
+        let letters = ((lanes | u8x16::splat(0x20)) - u8x16::splat(b'a')).simd_lt(u8x16::splat(26));
+        let digits = (lanes - u8x16::splat(b'0')).simd_lt(u8x16::splat(10));
+        let words = letters | digits | lanes.simd_eq(u8x16::splat(b'_'));
+        let newlines = lanes.simd_eq(u8x16::splat(b'\n'));
+        Classes {
+            words: words.to_bitmask(),
+            newlines: newlines.to_bitmask(),
+            others: (!(words | newlines)).to_bitmask(),
+        }
+    }
+
+    /// The classes of the bytes before a place and of the sixteen from there on.
+    #[inline(always)]
+    fn with_lanes(self, bytes: &[u8], place: usize) -> Classes
+        requires few { length bytes.now ≤ 64 }
+        requires within { place + 16 ≤ length bytes.now }
+        requires before { AreClasses self bytes.now place }
+        ensures { AreClasses result bytes.now (place + 16) }
+    {
+        let more = Classes::of_lanes(u8x16::from_slice(&bytes[place..]));
+        Classes {
+            words: self.words | (more.words << place),
+            newlines: self.newlines | (more.newlines << place),
+            others: self.others | (more.others << place),
+        }
+    }
+
+    /// The classes of the bytes before a place and of all from there on.
+    fn with_rest(self, bytes: &[u8], from: usize) -> Classes
+        requires few { length bytes.now ≤ 64 }
+        requires within { from ≤ length bytes.now }
+        requires before { AreClasses self bytes.now from }
+        ensures { AreClasses result bytes.now (length bytes.now) }
+    {
+        let mut classes = self;
+        for place in from..bytes.len() {
             let class = Next::class_of(bytes[place]).number();
             classes.words = with_place(classes.words, place, class == 0);
             classes.newlines = with_place(classes.newlines, place, class == 1);

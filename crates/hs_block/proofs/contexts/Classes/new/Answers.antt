@@ -1,12 +1,6 @@
-use Rattle.std.proofs.Common.{ap, ◌∙◌}
-use Rattle.hs_base.specs.Contexts.{next_number}
-use Rattle.hs_block.proofs.ContextLemmas.{classes-none, classes-more}
+use Rattle.std.proofs.Common.{arith}
+use Rattle.hs_block.proofs.ContextLemmas.{classes-none}
 use Rattle.hs_block.proofs.contexts.Classes.new.Goals as goal
 
 pub loop-place-init : goal.loop-place-init
-loop-place-init c = classes-none c.args.bytes.now
-
-pub loop-place-preserved : goal.loop-place-preserved
-loop-place-preserved c =
-    classes-more c.args.bytes.now c.loop-place.classes c.loop-place.place c.with_place.result c.with_place-in-loop-place.result c.with_place-in-loop-place-2.result c.number-class.result c.loop-place.invariant
-    (c.number-class.ensures ∙ ap next_number c.class_of.ensures) c.with_place.ensures c.with_place-in-loop-place.ensures c.with_place-in-loop-place-2.ensures
+loop-place-init c = (omega arith, classes-none c.args.bytes.now)
