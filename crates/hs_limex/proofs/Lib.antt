@@ -4,3 +4,6 @@ pub mod NumberLemmas
 pub mod LeadLemmas
 pub mod StepLemmas
 pub mod LimexLemmas
+pub mod BodyLemmas
+pub mod SingleLemmas
+pub mod SmallLemmas

@@ -16,19 +16,19 @@ use Rattle.hs_bits.proofs.WordLemmas.{and-none, words-past}
 use Rattle.hs_engine.specs.AnyBelow.{any_below}
 use Rattle.hs_engine.specs.Engines.{AreWakers, IsQuiet}
 use Rattle.hs_engine.proofs.AutomatonLemmas.{start-clear}
-use Rattle.hs_limex.specs.declared.tables.Tables.{Tables}
+use Rattle.hs_limex.specs.PositionMoves.{PositionMoves}
 use Rattle.hs_limex.specs.Fitting.{AcceptsIn, AreTablesFor, tables_meaning}
 use Rattle.hs_limex.specs.Numbers.{next_numbered}
 use Rattle.hs_limex.proofs.StepLemmas.{true-or-false}
 use Rattle.hs_limex.proofs.PlainLemmas.{any-some, bit-leaves, both-false, field-rests, field-still, leaves-bit, leaves-none, not-true, some-any, true-false}
 
-pub tables-quiet : (t : Tables) (region : List ℕ) → AreZero region → IsQuiet (tables_meaning t) region
+pub tables-quiet : (t : PositionMoves) (region : List ℕ) → AreZero region → IsQuiet (tables_meaning t) region
 tables-quiet t region zeros = record {
   stays = λ never b byte tree u entered is len field. field-still (write_out tree) u entered region len field (zero-bits region zeros) b;
   leaves_nothing = λ tree u entered is len field. leaves-none is.automaton tree is.runs u entered region field (zero-bits region zeros);
 }
 
-pub tables-asleep : (t : Tables) → AreWakers (tables_meaning t) t.first
+pub tables-asleep : (t : PositionMoves) → AreWakers (tables_meaning t) t.first
 tables-asleep t region b start byte outside = record {
   stays = λ enters tree u entered is len field.
       field-rests is.automaton (write_out tree) t.first is.runs.tables is.fits.first u entered len region field (start-clear (write_out tree) region (start tree is)) b byte enters
@@ -37,7 +37,7 @@ tables-asleep t region b start byte outside = record {
 }
 
 -- the expression is left where a position accepts that is live
-pub accepts-leaves : (t : Tables) (tree : Tree) → AreTablesFor t tree → (u : List ℕ) (entered : List Bool) (region : List ℕ) → IsField region (write_out tree) u entered → (next : Next) →
+pub accepts-leaves : (t : PositionMoves) (tree : Tree) → AreTablesFor t tree → (u : List ℕ) (entered : List Bool) (region : List ℕ) → IsField region (write_out tree) u entered → (next : Next) →
     AcceptsIn t (has_bit region) (context_of u next) ↔ Leaves tree u entered next
 accepts-leaves t tree is u entered region field next = (
   λ accepts. bit-leaves is.automaton tree is.runs u entered region field next accepts.position accepts.is_live (sym (is.fits.accepts (context_of u next) accepts.position) ∙ accepts.accepts),
@@ -71,5 +71,5 @@ next-named after.FinalNewline = refl
 next-named after.Unknown = refl
 
 -- the same, where what is live has another name
-pub accepts-as : (t : Tables) (live other : ℕ → Bool) (c : Context) → ((x : ℕ) → live x ≡ other x) → AcceptsIn t live c → AcceptsIn t other c
+pub accepts-as : (t : PositionMoves) (live other : ℕ → Bool) (c : Context) → ((x : ℕ) → live x ≡ other x) → AcceptsIn t live c → AcceptsIn t other c
 accepts-as t live other c same accepts = record { position = accepts.position; is_live = sym (same accepts.position) ∙ accepts.is_live; accepts = accepts.accepts }

@@ -21,6 +21,8 @@ use Rattle.hs_limex.specs.declared.tables.Tables.{Tables}
 use Rattle.hs_base.specs.Bits.{has_word_bit}
 use Rattle.hs_limex.specs.WordTables.{in_table}
 use Rattle.hs_limex.specs.Near.{IsNearFrom}
+use Rattle.hs_limex.specs.PositionMoves.{PositionMoves}
+use Rattle.hs_limex.specs.TableMoves.{moves_of_tables}
 use Rattle.hs_limex.specs.Leading.{far_leads, near_leads}
 use Rattle.hs_limex.specs.Fitting.{Fits, IsLed, led_in, led_on}
 use Rattle.hs_bits.proofs.WordLemmas.{or-none}
@@ -45,7 +47,7 @@ module _ (t : Tables) (live row : List ℕ) (c : Context) (entering : Bool) (row
   abbrev Lead : Bool
   Lead = (entering && in_table t.enters (context_number c) k) || On
 
-  near-led : (d : ℕ) → d < 8 → near_leads t.near live (context_number c) k d ≡ true → IsLed t (has_word_bit live) c entering k
+  near-led : (d : ℕ) → d < 8 → near_leads t.near live (context_number c) k d ≡ true → IsLed (moves_of_tables t) (has_word_bit live) c entering k
   near-led d small is =
       let reaches : Bool = has_word_bit live (k - d) && in_table t.near (8 * context_number c + d) (k - d) in
       let inside : (nat_le d k && reaches) ≡ true = second_of_both (nat_lt k (64 * t.near.width)) (nat_le d k && reaches) is in
@@ -55,7 +57,7 @@ module _ (t : Tables) (live row : List ℕ) (c : Context) (entering : Bool) (row
       led_on (k - d) (first_of_both (has_word_bit live (k - d)) (in_table t.near (8 * context_number c + d) (k - d)) both)
       (ap (λ y. in_row t.follows (k - d) y c) (sym back) ∙ (sym (t.near_bits c d (k - d) small) ∙ second_of_both (has_word_bit live (k - d)) (in_table t.near (8 * context_number c + d) (k - d)) both))
 
-  pub lead-sound : Lead ≡ true → IsLed t (has_word_bit live) c entering k
+  pub lead-sound : Lead ≡ true → IsLed (moves_of_tables t) (has_word_bit live) c entering k
   lead-sound is =
       elim (of_either (entering && in_table t.enters (context_number c) k) On is) [
         | inl begin ↦ led_in (first_of_both entering (in_table t.enters (context_number c) k) begin) (second_of_both entering (in_table t.enters (context_number c) k) begin)
@@ -103,7 +105,7 @@ module _ (t : Tables) (live row : List ℕ) (c : Context) (entering : Bool) (row
             on-near x inside set is place.least place.most
       ]
 
-  pub lead-whole : length row ≡ t.reach.width → k < 64 * t.reach.width → IsLed t (has_word_bit live) c entering k → Lead ≡ true
+  pub lead-whole : length row ≡ t.reach.width → k < 64 * t.reach.width → IsLed (moves_of_tables t) (has_word_bit live) c entering k → Lead ≡ true
   lead-whole wide inside (led_in enters_now is) = left_of_either (entering && in_table t.enters (context_number c) k) On (of_both entering (in_table t.enters (context_number c) k) enters_now is)
   lead-whole wide inside (led_on x set is) = right_of_either (entering && in_table t.enters (context_number c) k) On (on-led x wide inside set is)
 
@@ -124,7 +126,7 @@ pub read-bits : (b zero_bit now : Bool) → zero_bit ≡ false → now ≡ (b ||
 read-bits b zero_bit now none is = is ∙ (ap (λ x. b || x) none ∙ or-none b)
 
 -- the same, where what is live has another name
-pub led-as : (t : Tables) (live other : ℕ → Bool) (c : Context) (entering : Bool) (k : ℕ) → ((x : ℕ) → live x ≡ other x) → IsLed t live c entering k → IsLed t other c entering k
+pub led-as : (t : PositionMoves) (live other : ℕ → Bool) (c : Context) (entering : Bool) (k : ℕ) → ((x : ℕ) → live x ≡ other x) → IsLed t live c entering k → IsLed t other c entering k
 led-as t live other c entering k same (led_in enters_now is) = led_in enters_now is
 led-as t live other c entering k same (led_on x set is) = led_on x (sym (same x) ∙ set) is
 
@@ -140,12 +142,12 @@ takes-below a b k is =
 
 -- the field over one more byte
 
-module _ (t : Tables) (a : Automaton) (fits : Fits t a) (r : Core) (tables : IsFor a r) (u : List ℕ) (entered : List Bool) (len : length entered ≡ length u) (old : List ℕ) (field : IsField old r u entered)
+module _ (t : PositionMoves) (a : Automaton) (fits : Fits t a) (r : Core) (tables : IsFor a r) (u : List ℕ) (entered : List Bool) (len : length entered ≡ length u) (old : List ℕ) (field : IsField old r u entered)
     (b : ℕ) (byte : b < 256) (entering : Bool) where
   abbrev Here : Context
   Here = context_of u (class_of b)
 
-  led-steps : (k : ℕ) → in_table t.reach b k ≡ true → IsLed t (has_bit old) Here entering k → StepsTo r u entered b entering k
+  led-steps : (k : ℕ) → t.reach b k ≡ true → IsLed t (has_bit old) Here entering k → StepsTo r u entered b entering k
   led-steps k reach (led_in enters_now is) =
       steps_in ((tables.sets k b byte).0 (sym (fits.reach b k byte) ∙ reach)) enters_now (sym (tables.enters k Here) ∙ (sym (fits.enters Here k) ∙ is))
   led-steps k reach (led_on x set is) =
@@ -159,8 +161,8 @@ module _ (t : Tables) (a : Automaton) (fits : Fits t a) (r : Core) (tables : IsF
   steps-takes k (steps_in member enters_now is) = (tables.sets k b byte).1 member
   steps-takes k (steps_on x member reached is) = (tables.sets k b byte).1 member
 
-  pub field-step : (new : List ℕ) → vec_len a.sets ≤ 8 * length old → ((k : ℕ) → has_bit new k ≡ true → (in_table t.reach b k ≡ true) × IsLed t (has_bit old) Here entering k) →
-      ((k : ℕ) → k < 8 * length old → in_table t.reach b k ≡ true → IsLed t (has_bit old) Here entering k → has_bit new k ≡ true) → IsField new r (u ++ b ∷ []) (entered ++ entering ∷ [])
+  pub field-step : (new : List ℕ) → vec_len a.sets ≤ 8 * length old → ((k : ℕ) → has_bit new k ≡ true → (t.reach b k ≡ true) × IsLed t (has_bit old) Here entering k) →
+      ((k : ℕ) → k < 8 * length old → t.reach b k ≡ true → IsLed t (has_bit old) Here entering k → has_bit new k ≡ true) → IsField new r (u ++ b ∷ []) (entered ++ entering ∷ [])
   field-step new room sound whole k = (
     λ set. let (reach, led) = sound k set in steps-reached r u entered b entering k len (led-steps k reach led),
     λ reached.
@@ -170,11 +172,11 @@ module _ (t : Tables) (a : Automaton) (fits : Fits t a) (r : Core) (tables : IsF
   )
 
 -- the same, where the context has another name
-pub field-step_in : (t : Tables) (a : Automaton) → Fits t a → (r : Core) → IsFor a r → (u : List ℕ) (entered : List Bool) → length entered ≡ length u → (old : List ℕ) → IsField old r u entered →
+pub field-step_in : (t : PositionMoves) (a : Automaton) → Fits t a → (r : Core) → IsFor a r → (u : List ℕ) (entered : List Bool) → length entered ≡ length u → (old : List ℕ) → IsField old r u entered →
     (b : ℕ) → b < 256 → (entering : Bool) (here : Context) → context_of u (class_of b) ≡ here → (new : List ℕ) → vec_len a.sets ≤ 8 * length old →
-    ((k : ℕ) → has_bit new k ≡ true → (in_table t.reach b k ≡ true) × IsLed t (has_bit old) here entering k) →
-    ((k : ℕ) → k < 8 * length old → in_table t.reach b k ≡ true → IsLed t (has_bit old) here entering k → has_bit new k ≡ true) → IsField new r (u ++ b ∷ []) (entered ++ entering ∷ [])
+    ((k : ℕ) → has_bit new k ≡ true → (t.reach b k ≡ true) × IsLed t (has_bit old) here entering k) →
+    ((k : ℕ) → k < 8 * length old → t.reach b k ≡ true → IsLed t (has_bit old) here entering k → has_bit new k ≡ true) → IsField new r (u ++ b ∷ []) (entered ++ entering ∷ [])
 field-step_in t a fits r tables u entered len old field b byte entering here same new room =
-    let P : Context → Type 0 = λ h. ((k : ℕ) → has_bit new k ≡ true → (in_table t.reach b k ≡ true) × IsLed t (has_bit old) h entering k) →
-    ((k : ℕ) → k < 8 * length old → in_table t.reach b k ≡ true → IsLed t (has_bit old) h entering k → has_bit new k ≡ true) → IsField new r (u ++ b ∷ []) (entered ++ entering ∷ []) in
+    let P : Context → Type 0 = λ h. ((k : ℕ) → has_bit new k ≡ true → (t.reach b k ≡ true) × IsLed t (has_bit old) h entering k) →
+    ((k : ℕ) → k < 8 * length old → t.reach b k ≡ true → IsLed t (has_bit old) h entering k → has_bit new k ≡ true) → IsField new r (u ++ b ∷ []) (entered ++ entering ∷ []) in
     subst P same (field-step t a fits r tables u entered len old field b byte entering new room)

@@ -4,5 +4,11 @@ pub mod WordTables
 pub mod Numbers
 pub mod Near
 pub mod Leading
+pub mod PositionMoves
 pub mod Fitting
+pub mod TableMoves
+pub mod SingleWords
+pub mod SmallWords
+pub mod SmallMoves
+pub mod BodyMoves
 pub mod LimexEngines

@@ -80,7 +80,13 @@ fn fill_near(
 }
 
 /// Whether the one position may follow the other in the context.
-fn may_follow(follows: &FollowRows, prev: Prev, next: Next, from: usize, to: usize) -> bool
+pub(crate) fn may_follow(
+    follows: &FollowRows,
+    prev: Prev,
+    next: Next,
+    from: usize,
+    to: usize,
+) -> bool
     requires { from < follows.now.size }
     ensures { result ≡ in_row follows.now from to (between prev next) }
 {
@@ -129,7 +135,7 @@ fn fill_far(follows: &FollowRows, size: usize, prev: Prev, next: Next, rows: &mu
 }
 
 /// Whether the bits of the row lie near the position, so many places on at most.
-fn is_near(row: &[u8], position: usize) -> bool
+pub(crate) fn is_near(row: &[u8], position: usize) -> bool
     requires { length row.now ≤ 64 }
     ensures { IsTrue result → (k : ℕ) → has_bit row.now k ≡ true → IsNearFrom position k }
 {

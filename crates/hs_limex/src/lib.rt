@@ -2,6 +2,7 @@
 //! goes through the positions one by one. Both keep the same bits.
 #![tactic(auto)]
 
+mod body;
 mod contexts;
 mod far_filling;
 mod filling;
@@ -9,6 +10,9 @@ mod first_bytes;
 mod leading;
 mod limex;
 mod plain;
+mod single;
+mod small;
+mod small_filling;
 mod tables;
 mod word_rows;
 

@@ -4,8 +4,8 @@ ghost use Rattle.std.specs.Prelude.{◌≡◌, ◌↔◌, ℕ, ◌+◌, ◌/◌,
 ghost use Rattle.hs_base.specs.ByteSets.{has};
 ghost use Rattle.hs_base.specs.Bits.{AreZero};
 
+use crate::body::Body;
 use crate::plain::is_clear_from;
-use crate::tables::Tables;
 use hs_base::{ByteSet, Next, NextSet, Prev};
 use hs_bits::{clear_bits, is_zero};
 use hs_engine::{Automaton, Engine, Steps};
@@ -13,46 +13,50 @@ use std::alloc::{AllocError, Global};
 use std::sync::ledger::Ledger;
 
 /// Runs a position automaton by words of bits. It keeps a bit for each position: whether it is reached.
+///
+/// Of at most 64 positions, where no context matters, a step is one word, and the tables take some hundred bytes and at
+/// most 80 bytes a position. Of more positions, or where a context matters, they take some 5 KB for each 64 positions
+/// and the rows of what follows.
 #[derive(Debug, Drop)]
 pub struct Limex {
-    tables: Tables,
+    body: Body,
 }
 
 impl Limex {
     ghost use Rattle.hs_base.specs.Trees.{Tree};
     ghost use Rattle.hs_engine.specs.Tables.{Runs};
     ghost use Rattle.hs_limex.specs.Fitting.{Fits};
-    ghost use Rattle.hs_limex.specs.LimexEngines.{meaning_of_limex};
+    ghost use Rattle.hs_limex.specs.LimexEngines.{meaning_of_limex, moves_of_limex};
 
     /// The engine of an automaton, of whose tables it makes its own.
     pub fn build(alloc: Global, automaton: &Automaton) -> Result<Limex, AllocError>
-        ensures fits { IfOk result (λ limex. Fits limex.tables automaton.now) }
+        ensures fits { IfOk result (λ limex. Fits (moves_of_limex limex) automaton.now) }
         ensures runs { IfOk result (λ limex. (tree : Tree) → Runs automaton.now tree →
             (meaning_of_limex limex).is_for tree) }
         ensures width { IfOk result (λ limex. (meaning_of_limex limex).width ≤ 64) }
     {
         Ok(Limex {
-            tables: Tables::build(alloc, automaton)?,
+            body: Body::build(alloc, automaton)?,
         })
     }
 
     /// Whether the region is at rest and stays so over the byte.
     fn stays_at_rest(&self, region: &[u8], entering: bool, byte: u8) -> bool
         ensures zero { IsTrue result → AreZero region.now }
-        ensures outside { IsTrue result → (entering && has self.now.tables.first byte) ≡ false }
+        ensures outside { IsTrue result → (entering && has (moves_of_limex self.now).first byte) ≡ false }
         ensures unentered { AreZero region.now → entering ≡ false → IsTrue result }
     {
-        !(entering && self.tables.first.contains(byte)) && is_zero(region)
+        !(entering && self.body.first().contains(byte)) && is_zero(region)
     }
 }
 
 impl Engine for Limex {
-    ghost use Rattle.hs_limex.specs.Fitting.{tables_meaning};
+    ghost use Rattle.hs_limex.specs.LimexEngines.{meaning_of_limex};
 
-    ghost meaning = { λ e. tables_meaning e.tables };
+    ghost meaning = { λ e. meaning_of_limex e };
 
     fn size(&self) -> usize {
-        self.tables.region_len()
+        self.body.region_len()
     }
 
     fn clear(&self, region: &mut [u8]) {
@@ -74,11 +78,11 @@ impl Engine for Limex {
         if self.stays_at_rest(region, entering, byte) {
             return;
         }
-        self.tables.move_over(region, prev, next, entering, byte);
+        self.body.move_over(region, prev, next, entering, byte);
     }
 
     fn out(&self, region: &[u8], prev: Prev, _at: u64) -> NextSet {
-        self.tables.accepted(region, prev)
+        self.body.accepted(region, prev)
     }
 
     fn at_rest(&self, region: &[u8]) -> bool {
@@ -86,10 +90,10 @@ impl Engine for Limex {
     }
 
     fn wakers(&self) -> &ByteSet {
-        &self.tables.first
+        self.body.first()
     }
 
     fn well_formed(&self, region: &[u8], _at: u64) -> bool {
-        is_clear_from(region, self.tables.size())
+        is_clear_from(region, self.body.size())
     }
 }

@@ -15,9 +15,7 @@ use crate::first_bytes::first_bytes;
 use crate::leading::{lead_far, lead_near, span_of};
 use crate::word_rows::WordRows;
 use hs_base::{ByteSet, MAX_POSITIONS, Next, NextSet, Prev};
-use hs_bits::{
-    BYTE_BITS, WORD_BITS, are_apart, keep_words, store, unite_bytes, unite_words, word_count_for,
-};
+use hs_bits::{WORD_BITS, are_apart, keep_words, store, unite_bytes, unite_words, word_count_for};
 use hs_engine::{Automaton, FollowRows};
 use std::alloc::{AllocError, Global};
 
@@ -32,7 +30,7 @@ pub(crate) struct Tables {
     /// For each context the positions that are entered in it.
     enters: WordRows,
     /// The bytes that positions take which may be entered: any other byte leads nowhere from a region at rest.
-    pub(crate) first: ByteSet,
+    first: ByteSet,
     /// For each context the positions that accept in it.
     accepts: WordRows,
     /// The positions that accept in a context.
@@ -76,10 +74,11 @@ impl Tables {
     ghost use Rattle.hs_base.specs.ContextSets.{has_next};
     ghost use Rattle.hs_base.specs.declared.context.Next.{Next};
     ghost use Rattle.hs_limex.specs.Fitting.{AcceptsIn, Fits, IsLed};
+    ghost use Rattle.hs_limex.specs.TableMoves.{moves_of_tables};
 
     /// The tables of an automaton.
     pub(crate) fn build(alloc: Global, automaton: &Automaton) -> Result<Tables, AllocError>
-        ensures { IfOk result (λ tables. Fits tables automaton.now) }
+        ensures { IfOk result (λ tables. Fits (moves_of_tables tables) automaton.now) }
     {
         let size = automaton.size();
         let width = word_count_for(size);
@@ -108,11 +107,11 @@ impl Tables {
         self.follows.size()
     }
 
-    /// How many bytes hold a bit for each position.
-    pub(crate) fn region_len(&self) -> usize
-        ensures { result ≡ row_len self.now.follows.size }
+    /// The bytes with which a match may begin.
+    pub(crate) fn first(&self) -> &ByteSet
+        ensures { result.now ≡ self.now.first }
     {
-        (self.size() + (BYTE_BITS - 1)) / BYTE_BITS
+        &self.first
     }
 
     /// Moves the region over the byte, before which the expression is entered or not.
@@ -129,11 +128,11 @@ impl Tables {
         ensures sound { (k : ℕ) →
             has_bit region.new k ≡ true →
             (in_table self.now.reach byte k ≡ true)
-            × IsLed self.now (has_bit region.old) (between prev next) entering k }
+            × IsLed (moves_of_tables self.now) (has_bit region.old) (between prev next) entering k }
         ensures whole { (k : ℕ) →
             k < 8 * length region.old →
             in_table self.now.reach byte k ≡ true →
-            IsLed self.now (has_bit region.old) (between prev next) entering k →
+            IsLed (moves_of_tables self.now) (has_bit region.old) (between prev next) entering k →
             has_bit region.new k ≡ true }
     {
         let mut live = [0u64; MAX_WIDTH];
@@ -152,10 +151,10 @@ impl Tables {
         ensures len { length led.new ≡ length led.old }
         ensures sound { (k : ℕ) →
             has_word_bit led.new k ≡ true →
-            IsLed self.now (has_word_bit live.now) (between prev next) entering k }
+            IsLed (moves_of_tables self.now) (has_word_bit live.now) (between prev next) entering k }
         ensures whole { (k : ℕ) →
             k < 64 * self.now.reach.width →
-            IsLed self.now (has_word_bit live.now) (between prev next) entering k →
+            IsLed (moves_of_tables self.now) (has_word_bit live.now) (between prev next) entering k →
             has_word_bit led.new k ≡ true }
     {
         let number = number_of(prev, next);
@@ -182,9 +181,9 @@ impl Tables {
         requires { length region.now ≡ row_len self.now.follows.size }
         ensures sound { (next : Next) →
             has_next result next ≡ true →
-            AcceptsIn self.now (has_bit region.now) (between prev next) }
+            AcceptsIn (moves_of_tables self.now) (has_bit region.now) (between prev next) }
         ensures whole { (next : Next) →
-            AcceptsIn self.now (has_bit region.now) (between prev next) →
+            AcceptsIn (moves_of_tables self.now) (has_bit region.now) (between prev next) →
             has_next result next ≡ true }
     {
         let mut live = [0u64; MAX_WIDTH];
@@ -200,9 +199,9 @@ impl Tables {
         requires { length live.now ≡ 8 }
         ensures sound { (next : Next) →
             has_next result next ≡ true →
-            AcceptsIn self.now (has_word_bit live.now) (between prev next) }
+            AcceptsIn (moves_of_tables self.now) (has_word_bit live.now) (between prev next) }
         ensures whole { (next : Next) →
-            AcceptsIn self.now (has_word_bit live.now) (between prev next) →
+            AcceptsIn (moves_of_tables self.now) (has_word_bit live.now) (between prev next) →
             has_next result next ≡ true }
     {
         let mut all = NextSet::empty();
@@ -217,8 +216,8 @@ impl Tables {
         requires { length live.now ≡ 8 }
         ensures sound { (other : Next) →
             has_next result other ≡ true →
-            AcceptsIn self.now (has_word_bit live.now) (between prev other) }
-        ensures whole { AcceptsIn self.now (has_word_bit live.now) (between prev next) →
+            AcceptsIn (moves_of_tables self.now) (has_word_bit live.now) (between prev other) }
+        ensures whole { AcceptsIn (moves_of_tables self.now) (has_word_bit live.now) (between prev next) →
             has_next result next ≡ true }
     {
         if are_apart(live, self.accepts.row(number_of(prev, next))) {

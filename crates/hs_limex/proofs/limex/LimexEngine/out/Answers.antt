@@ -5,13 +5,14 @@ use Rattle.hs_base.specs.ContextSets.{has_next}
 use Rattle.hs_base.proofs.BitLemmas.{zero-bits}
 use Rattle.hs_base.proofs.StreamContexts.{same-context}
 use Rattle.hs_limex.specs.Fitting.{AcceptsIn}
+use Rattle.hs_limex.specs.LimexEngines.{moves_of_limex}
 use Rattle.hs_limex.proofs.LimexLemmas.{accepts-leaves}
 use Rattle.hs_limex.proofs.PlainLemmas.{not-true, true-false}
 use Rattle.hs_limex.proofs.limex.LimexEngine.out.Goals as goal
 
 pub returns-clause-leaves : goal.returns-clause-leaves
 returns-clause-leaves c tree u entered is len at prev field next =
-    let t = c.args.self.now.tables in
+    let t = moves_of_limex c.args.self.now in
     let region = c.args.region.now in
     let same : ◌≡◌ {A = Context} (record { prev = c.args.prev; next = next }) (context_of u next) = same-context c.args.prev (prev_at u (length u)) next next prev refl in (
       λ told. (accepts-leaves t tree is u entered region field next).0 (subst (AcceptsIn t (has_bit region)) same (c.accepted.ensures.sound next told)),

@@ -6,13 +6,15 @@ use Rattle.hs_base.specs.Bits.{has_bit}
 use Rattle.hs_base.specs.PositionRows.{IsField}
 use Rattle.hs_base.proofs.BitLemmas.{zero-bits}
 use Rattle.hs_base.proofs.StreamContexts.{same-context}
+use Rattle.hs_limex.specs.LimexEngines.{moves_of_limex}
+use Rattle.hs_limex.proofs.BodyLemmas.{reach-few}
 use Rattle.hs_limex.proofs.PlainLemmas.{field-rests, not-true}
 use Rattle.hs_limex.proofs.StepLemmas.{field-step_in}
 use Rattle.hs_limex.proofs.limex.LimexEngine.step.Goals as goal
 
 pub returns-then-stays_at_rest-clause-takes : goal.returns-then-stays_at_rest-clause-takes
 returns-then-stays_at_rest-clause-takes g c tree u entered is len at prev field =
-    let t = c.args.self.now.tables in
+    let t = moves_of_limex c.args.self.now in
     let b : ℕ = c.args.byte in
     let byte : b < 256 = omega arith in
     let entering : c.contains-entering.result ≡ has_next c.args.enter (class_of b) = c.contains-entering.ensures ∙ ap (has_next c.args.enter) c.class_of-next.ensures in
@@ -22,7 +24,7 @@ returns-then-stays_at_rest-clause-takes g c tree u entered is len at prev field 
 
 pub returns-clause-takes : goal.returns-clause-takes
 returns-clause-takes g c tree u entered is len at prev field =
-    let t = c.args.self.now.tables in
+    let t = moves_of_limex c.args.self.now in
     let here : Context = record { prev = c.args.prev; next = c.class_of-next.result } in
     let b : ℕ = c.args.byte in
     let byte : b < 256 = omega arith in
@@ -35,6 +37,6 @@ returns-clause-takes g c tree u entered is len at prev field =
 
 pub returns-clause-well : goal.returns-clause-well
 returns-clause-well g c k above =
-    let t = c.args.self.now.tables in
+    let t = moves_of_limex c.args.self.now in
     let byte : c.args.byte < 256 = omega arith in
-    not-true (has_bit c.move_over.new.region k) (λ set. absurd (omega (arith, t.reach_few c.args.byte k byte (c.move_over.ensures.sound k set).0)))
+    not-true (has_bit c.move_over.new.region k) (λ set. absurd (omega (arith, reach-few c.args.self.now.body c.args.byte k byte (c.move_over.ensures.sound k set).0)))

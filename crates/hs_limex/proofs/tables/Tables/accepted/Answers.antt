@@ -4,6 +4,7 @@ use Rattle.hs_base.specs.Contexts.{Context}
 use Rattle.hs_base.specs.ContextSets.{has_next}
 use Rattle.hs_base.proofs.ContextLemmas.{of_both}
 use Rattle.hs_limex.proofs.LimexLemmas.{accepts-as}
+use Rattle.hs_limex.specs.TableMoves.{moves_of_tables}
 use Rattle.hs_limex.proofs.PlainLemmas.{true-false}
 use Rattle.hs_limex.proofs.StepLemmas.{read-bits}
 use Rattle.hs_limex.proofs.TableLemmas.{replicate-words}
@@ -29,7 +30,7 @@ pub returns-clause-sound : goal.returns-clause-sound
 returns-clause-sound c next told =
     let region = c.args.region.now in
     let live = c.unite_bytes.new.words in
-    accepts-as c.args.self.now (has_word_bit live) (has_bit region) (record { prev = c.args.prev; next = next })
+    accepts-as (moves_of_tables c.args.self.now) (has_word_bit live) (has_bit region) (record { prev = c.args.prev; next = next })
     (λ x. read-bits (has_bit region x) (has_word_bit (replicate 8 0) x) (has_word_bit live x) (replicate-words 8 x) (c.unite_bytes.ensures.bits x))
     (c.accepted_among.ensures.sound next told)
 
@@ -38,5 +39,5 @@ returns-clause-whole c next accepts =
     let region = c.args.region.now in
     let live = c.unite_bytes.new.words in
     c.accepted_among.ensures.whole next
-    (accepts-as c.args.self.now (has_bit region) (has_word_bit live) (record { prev = c.args.prev; next = next })
+    (accepts-as (moves_of_tables c.args.self.now) (has_bit region) (has_word_bit live) (record { prev = c.args.prev; next = next })
     (λ x. sym (read-bits (has_bit region x) (has_word_bit (replicate 8 0) x) (has_word_bit live x) (replicate-words 8 x) (c.unite_bytes.ensures.bits x))) accepts)

@@ -6,6 +6,7 @@ use Rattle.hs_base.specs.ContextSets.{has_next}
 use Rattle.hs_base.proofs.ContextLemmas.{of_either, left_of_either, right_of_either}
 use Rattle.hs_base.proofs.ContextSetLemmas.{next_number-lt}
 use Rattle.hs_limex.specs.Fitting.{AcceptsIn}
+use Rattle.hs_limex.specs.TableMoves.{moves_of_tables}
 use Rattle.hs_limex.specs.Numbers.{next_numbered}
 use Rattle.hs_limex.proofs.LimexLemmas.{next-named}
 use Rattle.hs_limex.proofs.PlainLemmas.{true-false}
@@ -36,7 +37,7 @@ loop-number-preserved c =
                 let same : c.next_of.result ≡ next = c.next_of.ensures ∙ (ap next_numbered number ∙ next-named next) in
                 right_of_either (has_next all next) (has_next more next)
                 (subst (λ n. has_next more n ≡ true) same
-                (c.accepted_before.ensures.whole (subst (λ n. AcceptsIn c.args.self.now (has_word_bit c.args.live.now) (record { prev = c.args.prev; next = n })) (sym same) accepts)))
+                (c.accepted_before.ensures.whole (subst (λ n. AcceptsIn (moves_of_tables c.args.self.now) (has_word_bit c.args.live.now) (record { prev = c.args.prev; next = n })) (sym same) accepts)))
           ];
     }
 

@@ -7,6 +7,7 @@ use Rattle.hs_base.specs.Bits.{has_bit}
 use Rattle.hs_base.specs.Bits.{has_word_bit}
 use Rattle.hs_limex.proofs.StepLemmas.{led-as, read-bits}
 use Rattle.hs_limex.proofs.TableLemmas.{replicate-words}
+use Rattle.hs_limex.specs.TableMoves.{moves_of_tables}
 use Rattle.hs_limex.proofs.tables.Tables.move_over.Goals as goal
 
 pub lead-requires-clause-zero : goal.lead-requires-clause-zero
@@ -26,7 +27,7 @@ returns-clause-sound c k set =
     let inside : k < 64 * length c.row.result.now = omega (arith, below, c.requires, c.row.ensures.len, t.wide) in
     let both : (row && led) ≡ true = sym (c.keep_words.ensures.bits k inside) ∙ second_of_both (nat_lt k (8 * length old)) kept stored in (
       sym (c.row.ensures.bits k) ∙ first_of_both row led both,
-      led-as t (has_word_bit live) (has_bit old) here c.args.entering k (λ x. read-bits (has_bit old x) (has_word_bit (replicate 8 0) x) (has_word_bit live x) (replicate-words 8 x) (c.unite_bytes.ensures.bits x))
+      led-as (moves_of_tables t) (has_word_bit live) (has_bit old) here c.args.entering k (λ x. read-bits (has_bit old x) (has_word_bit (replicate 8 0) x) (has_word_bit live x) (replicate-words 8 x) (c.unite_bytes.ensures.bits x))
           (c.lead.ensures.sound k (second_of_both row led both)),
     )
 
@@ -42,6 +43,6 @@ returns-clause-whole c k below reach leads =
     let inside : k < 64 * length c.row.result.now = omega (arith, below, c.requires, c.row.ensures.len, t.wide) in
     let is_led : led ≡ true =
     c.lead.ensures.whole k (omega (arith, inside, c.row.ensures.len))
-    (led-as t (has_bit old) (has_word_bit live) here c.args.entering k (λ x. sym (read-bits (has_bit old x) (has_word_bit (replicate 8 0) x) (has_word_bit live x) (replicate-words 8 x) (c.unite_bytes.ensures.bits x))) leads) in
+    (led-as (moves_of_tables t) (has_bit old) (has_word_bit live) here c.args.entering k (λ x. sym (read-bits (has_bit old x) (has_word_bit (replicate 8 0) x) (has_word_bit live x) (replicate-words 8 x) (c.unite_bytes.ensures.bits x))) leads) in
     let both : kept ≡ true = c.keep_words.ensures.bits k inside ∙ of_both row led (c.row.ensures.bits k ∙ reach) is_led in
     c.store.ensures.bits k ∙ of_both (nat_lt k (8 * length old)) kept (lt-ltb k (8 * length old) below) both

@@ -1,0 +1,205 @@
+-- Bits of one word.
+use Rattle.std.proofs.Common.{◌≡◌, ◌≢◌, ℕ, zero, suc, ◌+◌, ◌-◌, ◌*◌, ◌/◌, ◌%◌, ◌^◌, ◌<◌, ◌≤◌, Bool, true, false, ◌&&◌, ◌||◌, List, [], ◌∷◌, length, get_or, eqb, bit_and, bit_or, refl, sym, ap, subst, ◌∙◌, inl, inr, arith, w64}
+use Rattle.std.specs.Prelude.{nat_lt, nat_le}
+use Rattle.std.specs.Int.{bit_at}
+use Rattle.std.specs.Int.Count.{count_trailing_zeros}
+use Rattle.std.proofs.lemmas.Bool.{cases_lt, cases_eq, eq-eqb, ne_eqb, eqb-true, lt-ltb, ltb-true, le-ltb, le-leb, lt-leb, leb-true}
+use Rattle.std.proofs.lemmas.Nat.{shr-shr}
+use Rattle.std.proofs.lemmas.Nat.Bits.{bit_at-zero, bit_at_above, bit_at_set_same, bit_at_set_other}
+use Rattle.hs_base.specs.Bits.{has_bit, has_word_bit}
+use Rattle.hs_base.proofs.BitLemmas.{bits-past}
+use Rattle.hs_base.proofs.ByteSetLemmas.{bit-or}
+use Rattle.hs_base.proofs.ContextLemmas.{first_of_both, second_of_both, of_both, of_either, left_of_either, right_of_either}
+use Rattle.hs_base.proofs.ContextSetLemmas.{bit-and}
+use Rattle.hs_bits.specs.LowestBits.{IsLowestBit, AreBitsBehind}
+use Rattle.hs_bits.proofs.LowestLemmas.{lowest-is}
+use Rattle.hs_bits.proofs.WordLemmas.{and-none, byte-more, bytes-all, or-none, or-turned, shl-bit}
+use Rattle.hs_limex.proofs.PlainLemmas.{not-true, true-false}
+use Rattle.hs_limex.specs.SingleWords.{IsLedBut, IsNearLed, IsOn, is_moved_on, is_set}
+
+pub set-bit : (word bit k : ℕ) → bit < 64 → is_set (bit_or word (1 * 2 ^ bit % 2 ^ 64)) k ≡ ((eqb k bit && true) || is_set word k)
+set-bit word bit k small =
+    elim (cases_eq k bit) [
+      | inl same ↦
+          rw (eq-eqb k bit same) (ap (λ i. eqb (bit_at (bit_or word (1 * 2 ^ bit % 2 ^ 64)) i) 1) same ∙ ap (λ n. eqb n 1) (bit_at_set_same w64 word bit small))
+      | inr apart ↦
+          rw (ne_eqb k bit apart) (ap (λ n. eqb n 1) (bit_at_set_other w64 word bit small k apart))
+    ]
+
+pub kept-bit : (word bit k : ℕ) → is_set word k ≡ ((eqb k bit && false) || is_set word k)
+kept-bit word bit k = sym (ap (λ b. b || is_set word k) (and-none (eqb k bit)))
+
+pub moved-bit : (live row d k : ℕ) → k < 64 → is_set (bit_and live row * 2 ^ d % 2 ^ 64) k ≡ is_moved_on live row d k
+moved-bit live row d k small = shl-bit (bit_and live row) d k small ∙ ap (λ b. nat_le d k && b) (bit-and live row (k - d))
+
+-- beyond the end of a word no bit is set
+pub past-word : (word k : ℕ) → word < 2 ^ 64 → 64 ≤ k → is_set word k ≡ false
+past-word word k fits past = ap (λ n. eqb n 1) (bit_at_above word 64 k fits past)
+
+pub one-word : (words : List ℕ) (k : ℕ) → k < 64 → has_word_bit words k ≡ is_set (get_or words 0 0) k
+unfolding has_word_bit
+one-word words k small =
+    let word : k / 64 ≡ 0 = omega arith in
+    let bit : k % 64 ≡ k = omega arith in
+    ap (λ n. eqb (bit_at (get_or words n 0) (k % 64)) 1) word ∙ ap (λ n. eqb (bit_at (get_or words 0 0) n) 1) bit
+
+-- a word that isn't 0 has a bit
+pub some-bit : (word : ℕ) → word ≢ 0 → word < 2 ^ 64 → (k : ℕ) × (is_set word k ≡ true)
+some-bit word some fits =
+    let low : IsLowestBit word (count_trailing_zeros 64 word) = lowest-is word some fits in
+    (count_trailing_zeros 64 word, eq-eqb (bit_at word (count_trailing_zeros 64 word)) 1 low.is)
+
+pub no-bit : (k : ℕ) → is_set 0 k ≡ false
+no-bit k = ap (λ n. eqb n 1) (bit_at-zero k)
+
+-- one distance more
+module _ (f : ℕ → ℕ → Bool) (live row d led more : ℕ) (row_is : (k : ℕ) → is_set row k ≡ f k (k + d)) (more_is : (k : ℕ) → k < 64 → is_set more k ≡ is_moved_on live row d k) where
+  moved-from : (k : ℕ) → k < 64 → is_set more k ≡ true → IsOn f live k
+  moved-from k small is =
+      let both : Bool = is_set live (k - d) && is_set row (k - d) in
+      let moved : (nat_le d k && both) ≡ true = sym (more_is k small) ∙ is in
+      let above : d ≤ k = leb-true d k (first_of_both (nat_le d k) both moved) in
+      let back : k - d + d ≡ k = omega arith in
+      let set : both ≡ true = second_of_both (nat_le d k) both moved in record {
+        from = k - d;
+        is_live = first_of_both (is_set live (k - d)) (is_set row (k - d)) set;
+        is_followed = ap (f (k - d)) (sym back) ∙ (sym (row_is (k - d)) ∙ second_of_both (is_set live (k - d)) (is_set row (k - d)) set);
+      }
+
+  moved-to : (x k : ℕ) → k < 64 → is_set live x ≡ true → f x k ≡ true → x + d ≡ k → is_set more k ≡ true
+  moved-to x k small set is place =
+      let from : k - d ≡ x = omega arith in
+      let above : d ≤ k = omega arith in
+      let bit : is_set row (k - d) ≡ true = ap (is_set row) from ∙ (row_is x ∙ (ap (f x) place ∙ is)) in
+      more_is k small
+      ∙ of_both (nat_le d k) (is_set live (k - d) && is_set row (k - d)) (le-leb d k above)
+      (of_both (is_set live (k - d)) (is_set row (k - d)) (ap (is_set live) from ∙ set) bit)
+
+  pub near-more : IsNearLed f live d led → IsNearLed f live (d + 1) (bit_or led more)
+  near-more near = record {
+    sound = λ k small is.
+        elim (of_either (is_set led k) (is_set more k) (sym (bit-or led more k) ∙ is)) [
+          | inl old ↦ near.sound k small old
+          | inr new ↦ moved-from k small new
+        ];
+    whole = λ x k small set is least most.
+        bit-or led more k
+        ∙ elim (cases_lt k (x + d)) [
+          | inl before ↦ left_of_either (is_set led k) (is_set more k) (near.whole x k small set is least before)
+          | inr here ↦
+              let place : x + d ≡ k = omega arith in
+              right_of_either (is_set led k) (is_set more k) (moved-to x k small set is place)
+        ];
+  }
+
+pub near-none : (f : ℕ → ℕ → Bool) (live : ℕ) → IsNearLed f live 0 0
+near-none f live = record {
+  sound = λ k small is. true-false (is_set 0 k) is (no-bit k);
+  whole = λ x k small set is least most. absurd (omega arith);
+}
+
+-- where what isn't far is near, those that follow the far ones are left
+pub led-near : (f : ℕ → ℕ → Bool) (live far span led : ℕ) → ((x y : ℕ) → f x y ≡ true → is_set far x ≡ false → x ≤ y) → ((x y : ℕ) → f x y ≡ true → is_set far x ≡ false → y < x + span) →
+    IsNearLed f live span led → IsLedBut f live (bit_and live far) led
+led-near f live far span led least most near = record {
+  sound = near.sound;
+  whole = λ x k small set is gone.
+      let beside : is_set far x ≡ false = not-true (is_set far x) (λ apart. true-false (is_set (bit_and live far) x) (bit-and live far x ∙ of_both (is_set live x) (is_set far x) set apart) gone) in
+      near.whole x k small set is (least x k is beside) (most x k is beside);
+}
+
+-- one position less is left
+pub led-more : (f : ℕ → ℕ → Bool) (live left place word rest led : ℕ) → IsLowestBit left place → AreBitsBehind left place rest → is_set live place ≡ true → ((k : ℕ) → is_set word k ≡ f place k) →
+    IsLedBut f live left led → IsLedBut f live rest (bit_or led word)
+led-more f live left place word rest led low behind set word_is old = record {
+  sound = λ k small is.
+      elim (of_either (is_set led k) (is_set word k) (sym (bit-or led word k) ∙ is)) [
+        | inl before ↦ old.sound k small before
+        | inr now ↦ record { from = place; is_live = set; is_followed = sym (word_is k) ∙ now }
+      ];
+  whole = λ x k small live_x is gone.
+      bit-or led word k
+      ∙ elim (cases_eq x place) [
+        | inl same ↦ right_of_either (is_set led k) (is_set word k) (word_is k ∙ (ap (λ p. f p k) (sym same) ∙ is))
+        | inr apart ↦
+            left_of_either (is_set led k) (is_set word k)
+            (old.whole x k small live_x is (not-true (is_set left x) (λ here. true-false (is_set rest x) (stays x apart here) gone)))
+      ];
+}
+  where
+    stays : (x : ℕ) → x ≢ place → is_set left x ≡ true → is_set rest x ≡ true
+    stays x apart here =
+        let is : bit_at left x ≡ 1 = eqb-true (bit_at left x) 1 here in
+        elim (cases_lt place x) [
+          | inl above ↦ eq-eqb (bit_at rest x) 1 ((behind x).1 (above, is))
+          | inr under ↦ absurd (omega (arith, is, low.lowest x (omega arith)))
+        ]
+
+-- the bits that are left were left before
+pub left-before : (left place rest : ℕ) → AreBitsBehind left place rest → (x : ℕ) → is_set rest x ≡ true → is_set left x ≡ true
+left-before left place rest behind x is = eq-eqb (bit_at left x) 1 ((behind x).0 (eqb-true (bit_at rest x) 1 is)).1
+
+-- the bits of one byte, moved to its place
+pub byte-moved : (byte place k : ℕ) → byte < 2 ^ 8 → place < 8 → is_set (byte * 2 ^ (8 * place) % 2 ^ 64) k ≡ (eqb (k / 8) place && is_set byte (k % 8))
+byte-moved byte place k fits small =
+    elim (cases_lt k 64) [
+      | inl inside ↦
+          shl-bit byte (8 * place) k inside
+          ∙ elim (cases_lt k (8 * place)) [
+            | inl below ↦
+                let apart : k / 8 ≢ place = omega arith in
+                rw (lt-leb (8 * place) k below, ne_eqb (k / 8) place apart) refl
+            | inr above ↦ elim (cases_lt k (8 * place + 8)) [
+              | inl here ↦
+                  let same : k / 8 ≡ place = omega arith in
+                  let bit : k - 8 * place ≡ k % 8 = omega arith in
+                  rw (le-leb (8 * place) k above, eq-eqb (k / 8) place same) (ap (is_set byte) bit)
+              | inr past ↦
+                  let apart : k / 8 ≢ place = omega arith in
+                  let over : 8 ≤ k - 8 * place = omega arith in
+                  rw (le-leb (8 * place) k above, ne_eqb (k / 8) place apart) (ap (λ n. eqb n 1) (bit_at_above byte 8 (k - 8 * place) fits over))
+            ]
+          ]
+      | inr past ↦
+          let apart : k / 8 ≢ place = omega arith in
+          let below : byte * 2 ^ (8 * place) % 2 ^ 64 < 2 ^ 64 = omega arith in
+          past-word (byte * 2 ^ (8 * place) % 2 ^ 64) k below past ∙ sym (ap (λ b. b && is_set byte (k % 8)) (ne_eqb (k / 8) place apart))
+    ]
+
+-- a word with the bits of one byte
+pub with-byte : (bytes : List ℕ) (word place k : ℕ) → get_or bytes place 0 < 2 ^ 8 → place < 8 →
+    is_set (bit_or word (get_or bytes place 0 * 2 ^ (8 * place) % 2 ^ 64)) k ≡ ((eqb (k / 8) place && has_bit bytes k) || is_set word k)
+unfolding has_bit
+with-byte bytes word place k fits small =
+    let moved : ℕ = get_or bytes place 0 * 2 ^ (8 * place) % 2 ^ 64 in
+    bit-or word moved k
+    ∙ (or-turned (is_set word k) (is_set moved k)
+    ∙ ap (λ b. b || is_set word k) (byte-moved (get_or bytes place 0) place k fits small ∙ same-byte (k / 8) place (λ p. is_set (get_or bytes p 0) (k % 8))))
+  where
+    same-byte : (p place : ℕ) (test : ℕ → Bool) → (eqb p place && test place) ≡ (eqb p place && test p)
+    same-byte p place test =
+        elim (cases_eq p place) [
+          | inl same ↦ ap (λ b. eqb p place && b) (ap test (sym same))
+          | inr apart ↦ rw (ne_eqb p place apart) refl
+        ]
+
+-- the one byte
+pub one-byte : (bytes : List ℕ) (now k : ℕ) → length bytes ≡ 1 → is_set now k ≡ ((eqb (k / 8) 0 && has_bit bytes k) || is_set 0 k) → is_set now k ≡ has_bit bytes k
+one-byte bytes now k one is =
+    let none : is_set 0 k ≡ ((nat_lt k (8 * 0) && has_bit bytes k) || false) = no-bit k ∙ sym (ap (λ b. (b && has_bit bytes k) || false) (le-ltb k (8 * 0) (omega arith))) in
+    let whole : 8 * (0 + 1) ≡ 8 * length bytes = omega arith in
+    byte-more bytes 0 k (is_set 0 k) (is_set now k) false none is
+    ∙ (or-none (nat_lt k (8 * (0 + 1)) && has_bit bytes k) ∙ (ap (λ n. nat_lt k n && has_bit bytes k) whole ∙ bytes-all bytes k))
+
+-- the row of a word from a bit on
+pub row-bit : (word start all size k : ℕ) → is_set all k ≡ nat_lt k size → is_set (bit_and (word / 2 ^ start) all) k ≡ (nat_lt k size && is_set word (start + k))
+row-bit word start all size k all_is =
+    bit-and (word / 2 ^ start) all k
+    ∙ (ap (λ b. is_set (word / 2 ^ start) k && b) all_is
+    ∙ (ap (λ b. b && nat_lt k size) (ap (λ m. eqb (m % 2) 1) (shr-shr word start k)) ∙ and-turned (is_set word (start + k)) (nat_lt k size)))
+  where
+    and-turned : (a b : Bool) → (a && b) ≡ (b && a)
+    and-turned true true = refl
+    and-turned true false = refl
+    and-turned false true = refl
+    and-turned false false = refl

@@ -1,0 +1,20 @@
+use Rattle.std.proofs.Common.{◌≡◌, ◌&&◌, Some, slice_get, sym, ap, ◌∙◌, arith}
+use Rattle.std.proofs.lemmas.Option.{slice_get_past}
+use Rattle.hs_base.specs.Contexts.{Context}
+use Rattle.hs_engine.specs.Automata.{in_mask}
+use Rattle.hs_bits.proofs.WordLemmas.{all-under, number-more_alone}
+use Rattle.hs_limex.specs.SingleWords.{is_set}
+use Rattle.hs_limex.proofs.small_filling.common_word.Goals as goal
+
+pub loop-position-preserved : goal.loop-position-preserved
+loop-position-preserved c h k =
+    let p = c.loop-position.position in
+    let masks = c.args.masks.now in
+    number-more_alone (λ n. in_mask (slice_get masks n) h) k p c.in_ok-everywhere.everywhere (is_set c.loop-position.word k) (is_set c.with_bit_if-word.result k)
+    (λ same. sym (c.in_ok-everywhere.ensures h) ∙ ap (λ n. in_mask (slice_get masks n) h) (sym same)) (c.loop-position.invariant h k) (c.with_bit_if-word.ensures k)
+
+pub returns : goal.returns
+returns c h k =
+    let masks = c.args.masks.now in
+    c.loop-position.invariant h k
+    ∙ all-under k c.loop-position.position (in_mask (slice_get masks k) h) (λ past. ap (λ o. in_mask o h) (slice_get_past masks k (omega (arith, past))))
