@@ -1,22 +1,24 @@
 //! One chunk: the nodes, and then the reports.
 
-ghost use Rattle.std.specs.Prelude.{◌≡◌, ◌+◌, ◌*◌, ◌<◌, ◌≤◌, ◌^◌, ℕ, IfOk, length, slice_index, true};
+ghost use Rattle.std.specs.Prelude.{◌≡◌, ◌+◌, ◌*◌, ◌<◌, ◌≤◌, ◌^◌, ℕ, IfOk, Some, length, slice_get, slice_index, true};
 ghost use Rattle.hs_base.specs.Lists.{Each};
 ghost use Rattle.hs_nodes.specs.Contexts.{AreChunkContexts};
 ghost use Rattle.hs_nodes.specs.Left.{nowhere};
 ghost use Rattle.hs_nodes.specs.Marks.{is_marked, mark_room};
 ghost use Rattle.hs_nodes.specs.Resting.{AreNodesResting, AreNodesUnwoken};
 ghost use Rattle.hs_nodes.specs.Walks.{AreNodesWell, IsOutside, IsTableSound, node_ends};
+ghost use Rattle.hs_nodes.specs.declared.table.Node.{Node};
 ghost use Rattle.hs_reports.specs.Events.{Takes};
 ghost use Rattle.hs_scan.specs.Knowing.{FitsKnown, IsPending};
-ghost use Rattle.hs_nodes.specs.Graphs.{AreTerminalsSound};
+ghost use Rattle.hs_nodes.specs.Graphs.{AreTerminalsSound, keeps_field};
 ghost use Rattle.hs_scan.specs.Scans.{ScansChunk};
 ghost use Rattle.hs_scan.specs.Scratches.{FitsRoom};
+ghost use Rattle.hs_scan.specs.Writing.{AreKeepingMarked};
 
 use crate::known::{Known, tell_chunk};
 use hs_block::BlockEngine;
 use hs_engine::Steps;
-use hs_nodes::{Chunk, ChunkEnds, Found, Graph, MarkSet, everywhere, settle, walk};
+use hs_nodes::{Chunk, ChunkEnds, Found, Graph, MarkSet, Node, NodeKind, everywhere, settle, walk};
 use hs_reports::Events;
 use std::alloc::{AllocError, Global};
 use std::sync::ledger::Ledger;
@@ -46,15 +48,45 @@ impl Course {
     }
 }
 
-/// Marks the first so many numbers.
-pub(crate) fn mark_first(marks: &mut MarkSet, count: usize)
-    requires room { count ≤ mark_room marks.old }
-    ensures room { length marks.new ≡ length marks.old }
-    ensures first { (k : ℕ) → k < count → is_marked marks.new k ≡ true }
-    ensures others { (k : ℕ) → count ≤ k → is_marked marks.new k ≡ is_marked marks.old k }
+/// Whether a node of that kind keeps something between two chunks.
+fn keeps_field(kind: NodeKind) -> bool
+    ensures { result ≡ keeps_field kind }
 {
-    for k in 0..count {
-        marks.write(k, true);
+    match kind {
+        NodeKind::Engine(_, _) | NodeKind::Literal(_, _) => true,
+        NodeKind::FirstLiteral(_, _) | NodeKind::LookBack(_) => false,
+    }
+}
+
+/// Whether the node of that number keeps something between two chunks.
+fn keeps_at(nodes: &[Node], k: usize) -> bool
+    requires { k < length nodes.now }
+    ensures { (node : Node) → slice_get nodes.now k ≡ Some node → result ≡ keeps_field node.kind }
+{
+    keeps_field(nodes[k].kind)
+}
+
+/// Marks the number, if that is wanted.
+fn mark_if(marks: &mut MarkSet, number: usize, wanted: bool)
+    requires { number < mark_room marks.old }
+    ensures room { length marks.new ≡ length marks.old }
+    ensures put { wanted ≡ true → is_marked marks.new number ≡ true }
+    ensures others { (k : ℕ) → (k ≡ number → ⊥) → is_marked marks.new k ≡ is_marked marks.old k }
+{
+    if wanted {
+        marks.write(number, true);
+    }
+}
+
+/// Marks the nodes that keep something between two chunks.
+pub(crate) fn mark_keeping(nodes: &[Node], marks: &mut MarkSet)
+    requires room { length nodes.now ≤ mark_room marks.old }
+    ensures room { length marks.new ≡ length marks.old }
+    ensures keeping { AreKeepingMarked nodes.now marks.new }
+    ensures others { (k : ℕ) → length nodes.now ≤ k → is_marked marks.new k ≡ is_marked marks.old k }
+{
+    for k in 0..nodes.len() {
+        mark_if(marks, k, keeps_at(nodes, k));
     }
 }
 

@@ -12,7 +12,7 @@ ghost use Rattle.hs_scan.specs.Scans.{IsWritten};
 ghost use Rattle.hs_scan.specs.Scratches.{FitsGraph, KeepsTables, stand_of};
 ghost use Rattle.hs_scan.specs.Writing.{BeginsKnown, BeginsWrite};
 
-use crate::chunk::{mark_first, unmark_resting};
+use crate::chunk::{mark_keeping, unmark_resting};
 use crate::copying::copy_fields;
 use crate::keeping::{read_rows, write_rows};
 use crate::known::Known;
@@ -41,8 +41,8 @@ fn begin_known(layout: &Layout, region: &[u8], identifiers: &[Identifier], known
     known.ends.note_all(&known.here);
 }
 
-/// Reads where the stream of a region stands, and what is known of it. All nodes are marked, since something may be
-/// live in each.
+/// Reads where the stream of a region stands, and what is known of it. All nodes that keep something are marked, since
+/// it may be live in each.
 pub(crate) fn begin_write<E: BlockEngine>(
     graph: &Graph<E>,
     layout: &Layout,
@@ -57,7 +57,7 @@ pub(crate) fn begin_write<E: BlockEngine>(
 {
     scratch.at = layout.offset(region);
     scratch.past.copy_from_slice(layout.history(region));
-    mark_first(&mut scratch.course.marks, graph.table.nodes.len());
+    mark_keeping(&graph.table.nodes, &mut scratch.course.marks);
     begin_known(
         layout,
         region,

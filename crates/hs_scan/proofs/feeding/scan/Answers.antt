@@ -3,7 +3,6 @@ use Rattle.hs_base.specs.Offsets.{greatest_offset}
 use Rattle.hs_literals.specs.Held.{held}
 use Rattle.std.specs.Prelude.{slice_index}
 use Rattle.hs_nodes.specs.Walks.{AreNodesWell, IsTableSound}
-use Rattle.hs_nodes.proofs.WakeLemmas.{resting-all}
 use Rattle.std.proofs.lemmas.Option.{slice_get_within}
 use Rattle.hs_reports.specs.EndTables.{HasNoEnds}
 use Rattle.hs_scan.specs.Feeding.{Feeds}
@@ -17,6 +16,7 @@ use Rattle.hs_scan.proofs.BlockLemmas.{takes-as, takes-none}
 use Rattle.hs_scan.proofs.FeedLemmas.{feeds-alike, feeds-none, header-early, header-spare, no-bytes, some-bytes, spares-kept, written-fits, written-well}
 use Rattle.hs_scan.proofs.ScanLemmas.{scan-feeds}
 use Rattle.hs_scan.proofs.ScratchLemmas.{graph-room, hit-rows, idle-again, serves-again}
+use Rattle.hs_scan.proofs.WakingLemmas.{resting-kept}
 use Rattle.hs_scan.proofs.feeding.scan.Goals as goal
 
 pub begin_write-requires-clause-room : goal.begin_write-requires-clause-room
@@ -29,8 +29,7 @@ rest_nodes-requires-clause-table g c =
 
 pub rest_nodes-requires-clause-resting : goal.rest_nodes-requires-clause-resting
 rest_nodes-requires-clause-resting g c =
-    let table = c.args.graph.now.table in
-    resting-all g.E.Engine.meaning table c.begin_write.new.scratch.course.marks c.args.region.now c.begin_write.ensures.marked (λ k node at. slice_get_within table.nodes.items k node at)
+    resting-kept g.E.Engine.meaning c.args.graph.now c.begin_write.new.scratch.course.marks c.args.region.now c.begin_write.ensures.marked
 
 pub scan_write-requires-clause-sized : goal.scan_write-requires-clause-sized
 scan_write-requires-clause-sized g c = ap length c.rest_nodes.ensures.region ∙ c.requires.region.sized
