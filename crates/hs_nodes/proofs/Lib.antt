@@ -20,3 +20,4 @@ pub mod LeavingLemmas
 pub mod WakeLemmas
 pub mod FieldLemmas
 pub mod PlanLemmas
+pub mod GatherLemmas

@@ -7,7 +7,8 @@ use Rattle.hs_base.specs.Regions.{Plan, fields_at, list_places, plan_size, place
 use Rattle.hs_base.proofs.SumLemmas.{sums-size}
 use Rattle.hs_engine.specs.Engines.{Meaning}
 use Rattle.hs_layout.specs.Layouts.{laid_size}
-use Rattle.hs_nodes.specs.Graphs.{RunsPlan, plan_layout, singles_of}
+use Rattle.hs_nodes.specs.Graphs.{RunsPlan, plan_layout}
+use Rattle.hs_reports.specs.Identifiers.{singles_of}
 use Rattle.hs_nodes.specs.declared.graph.Graph.{Graph}
 
 pub plan-size : (plan : Plan) → laid_size (plan_layout plan) ≡ plan_size plan

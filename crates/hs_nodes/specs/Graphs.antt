@@ -17,7 +17,7 @@ use Rattle.hs_nodes.specs.declared.table.Node.{Node}
 use Rattle.hs_nodes.specs.declared.table.NodeKind.{NodeKind}
 use Rattle.hs_nodes.specs.declared.table.NodeKind.TheVariants.{Engine, Literal, FirstLiteral, LookBack}
 use Rattle.hs_reports.specs.Gathering.{AreOfNode}
-use Rattle.hs_reports.specs.Identifiers.{numbers_of}
+use Rattle.hs_reports.specs.Identifiers.{numbers_of, singles_of}
 use Rattle.hs_reports.specs.Terminals.{AreTerminals}
 use Rattle.hs_reports.specs.declared.identifier.Identifier.{Identifier}
 use Rattle.hs_nodes.specs.declared.graph.FieldCopy.{FieldCopy}
@@ -31,15 +31,6 @@ keeps (literal n) = true
 keeps (first set n) = true
 keeps (last set m) = true
 keeps (ring set m) = true
-
--- the single ones among identifiers
-abbrev pub with_single : Bool → Identifier → List Identifier → List Identifier
-with_single true x xs = x ∷ xs
-with_single false x xs = xs
-
-abbrev pub singles_of : List Identifier → List Identifier
-singles_of [] = []
-singles_of (x ∷ xs) = with_single x.single x (singles_of xs)
 
 -- the layout of the regions of a plan
 abbrev pub plan_layout : Plan → Laid

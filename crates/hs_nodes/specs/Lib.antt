@@ -12,3 +12,5 @@ pub mod Resting
 pub mod Waking
 pub mod Graphs
 pub mod Leaving
+pub mod Gathering
+pub mod WellRegions

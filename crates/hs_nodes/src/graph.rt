@@ -1,5 +1,7 @@
 //! The graph of nodes that runs a list.
 
+ghost use Rattle.std.specs.Prelude.{◌≡◌, ◌<◌, length, Some, slice_get};
+
 use crate::table::NodeTable;
 use crate::waking::WakeTable;
 use hs_reports::{Identifier, Terminal};
@@ -29,4 +31,12 @@ pub struct Graph<E> {
     pub copies: Vec<FieldCopy>,
     /// The nodes that a chunk may wake.
     pub wakes: WakeTable,
+}
+
+/// The copy of that number.
+pub fn copy_at<E>(graph: &Graph<E>, i: usize) -> FieldCopy
+    requires { i < length graph.now.copies.items }
+    ensures { slice_get graph.now.copies.items i ≡ Some result }
+{
+    graph.copies[i]
 }

@@ -20,7 +20,7 @@ use hs_engine::Steps;
 use std::sync::ledger::Ledger;
 
 /// The node of that number.
-pub(crate) fn node_at<E>(table: &NodeTable<E>, k: usize) -> Node
+pub fn node_at<E>(table: &NodeTable<E>, k: usize) -> Node
     requires { k < length table.now.nodes.items }
     ensures { slice_get table.now.nodes.items k ≡ Some result }
 {

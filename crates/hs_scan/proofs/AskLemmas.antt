@@ -23,8 +23,9 @@ use Rattle.hs_scan.specs.Asking.{AsksEnds, AsksTable}
 use Rattle.hs_scan.specs.Ending.{AreLeftAt, is_ended}
 use Rattle.hs_nodes.specs.Leaving.{LeavesNodes, TellsLeft, is_left}
 use Rattle.hs_scan.specs.Scans.{AreHitsBehind}
-use Rattle.hs_scan.specs.Telling.{AreGathered, ends_or_all, left_before}
-use Rattle.hs_scan.proofs.BlockLemmas.{each-map, ends-at, ends-past, value-tells}
+use Rattle.hs_nodes.specs.Gathering.{AreGathered, ends_or_all, left_before}
+use Rattle.hs_scan.proofs.BlockLemmas.{each-map, value-tells}
+use Rattle.hs_nodes.proofs.GatherLemmas.{ends-at, ends-past}
 use Rattle.hs_scan.proofs.EndingLemmas.{ended-tells}
 use Rattle.hs_scan.proofs.ScanLemmas.{Stands}
 

@@ -1,9 +1,8 @@
 -- From where nodes are left to what the blocks of a chunk tell.
 use Rattle.std.proofs.Common.{◌≡◌, ◌↔◌, ℕ, zero, suc, ◌+◌, ◌*◌, ◌<◌, ◌≤◌, Bool, true, List, [], ◌∷◌, ◌++◌, length, take, Some, slice_get, refl, sym, ap, subst, ◌∙◌, inl, inr, arith, length-append}
-use Rattle.std.specs.Prelude.{slice_index, slice_index_or}
+use Rattle.std.specs.Prelude.{slice_index}
 use Rattle.std.proofs.Math.Seq.{take-add}
 use Rattle.std.proofs.lemmas.List.{append-nil, length-take-le, take_all}
-use Rattle.std.proofs.lemmas.Option.{same_Some}
 use Rattle.std.proofs.lemmas.Bool.{cases_lt}
 use Rattle.hs_base.specs.declared.context.Next.TheVariants as after
 use Rattle.hs_base.specs.Chains.{Piece}
@@ -21,13 +20,11 @@ use Rattle.hs_block.specs.WordBits.{word_bit as block_bit}
 use Rattle.hs_engine.specs.Engines.{Meaning}
 use Rattle.hs_nodes.specs.Blocks.{block, front}
 use Rattle.hs_nodes.specs.Left.{AreLeft, AreLeftIn, nowhere}
-use Rattle.hs_nodes.specs.Walks.{node_ends}
 use Rattle.hs_nodes.specs.declared.ends.ChunkEnds.{ChunkEnds}
-use Rattle.hs_nodes.proofs.RunLemmas.{nowhere-none}
+use Rattle.hs_nodes.proofs.GatherLemmas.{ends-at, ends-past}
 use Rattle.hs_nodes.proofs.ChunkLemmas.{front-more, length-front}
-use Rattle.hs_reports.specs.EndTables.{AddsEnds, EndTable, HasNoEnds, is_noted, words_of}
+use Rattle.hs_reports.specs.EndTables.{EndTable, words_of}
 use Rattle.hs_reports.specs.Events.{Takes, still}
-use Rattle.hs_reports.specs.Gathering.{AreEndsBelow}
 use Rattle.hs_reports.specs.Identifiers.{id_numbers, numbers_of}
 use Rattle.hs_reports.specs.Pairs.{ArePairsOf}
 use Rattle.hs_reports.specs.Settlement.{AreBlockEnds, AreKnown, ArePending, SettlesBlock}
@@ -36,13 +33,13 @@ use Rattle.hs_reports.specs.TerminalLaws.{AreLeftTerminals}
 use Rattle.hs_reports.specs.Terminals.{AreLeftBy, AreEndsOf}
 use Rattle.hs_reports.specs.WordBits.{row_bit, word_bit}
 use Rattle.hs_reports.specs.declared.identifier.Identifier.{Identifier}
-use Rattle.hs_reports.specs.declared.terminal.Terminal.{Terminal}
 use Rattle.hs_reports.proofs.EventLemmas.{through-join}
 use Rattle.hs_reports.proofs.PairsLemmas.{pairs-chunk, pairs-join, pairs-none}
-use Rattle.hs_reports.proofs.GatheringLemmas.{gathering-begins, gathering-ends, gathering-goes_on, gathering-passes}
+use Rattle.hs_reports.proofs.GatheringLemmas.{gathering-ends}
 use Rattle.hs_reports.proofs.TerminalLemmas.{terminals-end, ends-within}
 use Rattle.hs_nodes.specs.Graphs.{AreTerminalsSound, RunsPlan}
-use Rattle.hs_scan.specs.Telling.{AreChunkEnds, AreGathered, GathersNode, IsTelling, TellsBlock, TellsBlocks, TellsChunk, left_before, left_behind, ends_or_all, terminals_of}
+use Rattle.hs_scan.specs.Telling.{AreChunkEnds, IsTelling, TellsBlock, TellsBlocks, TellsChunk}
+use Rattle.hs_nodes.specs.Gathering.{AreGathered, left_before, left_behind, ends_or_all}
 use Rattle.hs_nodes.specs.declared.graph.Graph.{Graph}
 
 pub each-map : {A : Type 0} (P Q : A → Type 0) (xs : List A) → ((x : A) → P x → Q x) → Each P xs → Each Q xs
@@ -66,19 +63,6 @@ left-by pieces u bytes before behind are = record {
       value-tells (word_bit behind i) (block_bit behind i) (LeavesAt pieces (u ++ take (i + 1) bytes) after.Unknown) (same-bit behind i) (are.behind_is.below i below);
   within = λ i past below. (same-bit before i ∙ are.before_is.above i past, same-bit behind i ∙ are.behind_is.above i past);
 }
-
--- the ends of a node by its number
-
-pub ends-at : (ends : List ChunkEnds) (all other : ChunkEnds) (k : ℕ) → k < length ends → slice_index_or ends k all ≡ slice_index_or ends k other
-ends-at [] all other k below = absurd (omega arith)
-ends-at (x ∷ ends) all other zero below = refl
-ends-at (x ∷ ends) all other (suc k) below = ends-at ends all other k (omega arith)
-
-pub ends-past : (ends : List ChunkEnds) (all : ChunkEnds) (k : ℕ) → k ≡ length ends → slice_index_or ends k all ≡ all
-ends-past [] all zero same = refl
-ends-past [] all (suc k) same = absurd (omega arith)
-ends-past (x ∷ ends) all zero same = absurd (omega arith)
-ends-past (x ∷ ends) all (suc k) same = ends-past ends all k (omega arith)
 
 module _ {E : Type 0} (meaning : E → Meaning) (graph : Graph E) (sound : AreTerminalsSound graph) (literals : List (List LiteralByte)) (plan : Plan) (runs : RunsPlan meaning graph literals plan)
     (u bytes : List ℕ) (ends : List ChunkEnds) (all : ChunkEnds) (are : AreChunkEnds meaning graph runs.pieces u bytes ends all) where
@@ -211,71 +195,6 @@ module _ {E : Type 0} (meaning : E → Meaning) (graph : Graph E) (sound : AreTe
     tells = λ literals plan runs u list offset are known is.
         subst (λ xs. IsTelling plan.patterns u xs pairs (λ v. AreKnown plan.patterns v graph.identifiers.items told' here')) (take_all (64 * n) bytes enough) (first.tells literals plan runs u list offset are known is);
   }
-
--- Ends are gathered node by node.
-
--- the ends of the nodes before one are gathered, and no noted identifier is forgotten
-pub record IsGatheredTo {E : Type 0} (graph : Graph E) (ends : List ChunkEnds) (all : ChunkEnds) (block at from : ℕ) (first table : EndTable) : Type 0 where
-  pub within : from ≤ length graph.table.nodes.items
-  pub counted : length table.words ≡ length graph.identifiers.items
-  pub noted : (p : ℕ) → is_noted first p ≡ true → is_noted table p ≡ true
-  pub gathered : AreEndsBelow graph.terminals.items (left_before ends all block) (left_behind ends all block) at from table
-
-module _ {E : Type 0} (meaning : E → Meaning) (graph : Graph E) (sound : AreTerminalsSound graph) where
-  pub node-gathers : (node at before behind : ℕ) (own : List Terminal) (old new : EndTable) → node < length graph.table.nodes.items + 1 → own ≡ terminals_of graph node → AddsEnds old new own at before behind →
-      GathersNode graph node at before behind old new
-  node-gathers node at before behind own old new there is adds befores behinds before_is behind_is below =
-      gathering-goes_on graph.terminals.items (terminals_of graph node) befores behinds at node old new below (sound.of_node node there)
-      (subst (λ w. AddsEnds old new (terminals_of graph node) at (befores node) w) (sym behind_is)
-      (subst (λ w. AddsEnds old new (terminals_of graph node) at w behind) (sym before_is) (subst (λ ts. AddsEnds old new ts at before behind) is adds)))
-
-module _ {E : Type 0} (graph : Graph E) (ends : List ChunkEnds) (all : ChunkEnds) (block : ℕ) (few : block < 8) (count : length ends ≡ length graph.table.nodes.items) where
-  pub gathered-none : (at : ℕ) (table : EndTable) → length table.words ≡ length graph.identifiers.items → HasNoEnds table → IsGatheredTo graph ends all block at 0 table table
-  gathered-none at table counted none = record {
-    within = omega arith;
-    counted = counted;
-    noted = λ p is. is;
-    gathered = gathering-begins graph.terminals.items (left_before ends all block) (left_behind ends all block) at table none;
-  }
-
-  resting : (k : ℕ) → k < length graph.table.nodes.items → node_ends ends k ≡ nowhere → (left_before ends all block k ≡ 0) × (left_behind ends all block k ≡ 0)
-  resting k below none =
-      let is : ends_or_all ends all k ≡ nowhere = ends-at ends all nowhere k (omega (arith, count)) ∙ none in
-      (ap (λ e. slice_index e.before block) is ∙ nowhere-none.before block (omega arith), ap (λ e. slice_index e.behind block) is ∙ nowhere-none.behind block (omega arith))
-
-  pub gathered-passed : (at from to : ℕ) (first table : EndTable) → from ≤ to → to ≤ length graph.table.nodes.items → ((k : ℕ) → from ≤ k → k < to → node_ends ends k ≡ nowhere) → IsGatheredTo graph ends all block at from first table → IsGatheredTo graph ends all block at to first table
-  gathered-passed at from to first table order inside none is = record {
-    within = inside;
-    counted = is.counted;
-    noted = is.noted;
-    gathered =
-        gathering-passes graph.terminals.items (left_before ends all block) (left_behind ends all block) at from to table order
-        (λ k low high. resting k (omega (arith, high, inside)) (none k low high)) is.gathered;
-  }
-
-  pub gathered-more : (at k : ℕ) (own : ChunkEnds) (first table next : EndTable) → k < length graph.table.nodes.items → slice_get ends k ≡ Some own → IsGatheredTo graph ends all block at k first table → length next.words ≡ length table.words →
-      ((p : ℕ) → is_noted table p ≡ true → is_noted next p ≡ true) → GathersNode graph k at (slice_index own.before block) (slice_index own.behind block) table next → IsGatheredTo graph ends all block at (k + 1) first next
-  gathered-more at k own first table next inside there is len noted goes =
-      let same : ends_or_all ends all k ≡ own = at-get ends all k own there in
-      record {
-        within = omega arith;
-        counted = len ∙ is.counted;
-        noted = λ p set. noted p (is.noted p set);
-        gathered = goes (left_before ends all block) (left_behind ends all block) (ap (λ e. slice_index e.before block) same) (ap (λ e. slice_index e.behind block) same) is.gathered;
-      }
-    where
-      at-get : (ends : List ChunkEnds) (all : ChunkEnds) (k : ℕ) (own : ChunkEnds) → slice_get ends k ≡ Some own → slice_index_or ends k all ≡ own
-      at-get [] all k own there = absurd (cc)
-      at-get (x ∷ ends) all zero own there = same_Some x own there
-      at-get (x ∷ ends) all (suc k) own there = at-get ends all k own there
-
-  pub gathered-all : (at n : ℕ) (first table next : EndTable) → n ≡ length graph.table.nodes.items → IsGatheredTo graph ends all block at (length graph.table.nodes.items) first table → GathersNode graph n at (slice_index all.before block) (slice_index all.behind block) table next →
-      AreEndsBelow graph.terminals.items (left_before ends all block) (left_behind ends all block) at (length graph.table.nodes.items + 1) next
-  gathered-all at n first table next last is goes =
-      let same : ends_or_all ends all n ≡ all = ends-past ends all n (omega (arith, count)) in
-      subst (λ m. AreEndsBelow graph.terminals.items (left_before ends all block) (left_behind ends all block) at (m + 1) next) last
-      (goes (left_before ends all block) (left_behind ends all block) (ap (λ e. slice_index e.before block) same) (ap (λ e. slice_index e.behind block) same)
-      (subst (λ m. AreEndsBelow graph.terminals.items (left_before ends all block) (left_behind ends all block) at m table) (sym last) is.gathered))
 
 -- Reports follow each other.
 module _ {V : Type 0} (Tells : V → ℕ → ℕ → V → Type 0) where

@@ -25,7 +25,7 @@ use Rattle.hs_scan.specs.Asking.{AreEndsBehind}
 use Rattle.hs_scan.specs.Writing.{AreLeftByLineFeed}
 use Rattle.hs_nodes.specs.declared.graph.Graph.{Graph}
 use Rattle.hs_scan.proofs.BlockLemmas.{each-map, value-tells}
-use Rattle.hs_scan.proofs.KeepingLemmas.{number-at}
+use Rattle.hs_keeping.proofs.KeepingLemmas.{number-at}
 use Rattle.hs_scan.proofs.RegionLemmas.{none-left}
 
 module _ {E : Type 0} (meaning : E → Meaning) (graph : Graph E) (sound : AreTerminalsSound graph) (literals : List (List LiteralByte)) (plan : Plan) (runs : RunsPlan meaning graph literals plan) where

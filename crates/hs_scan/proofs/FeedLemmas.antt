@@ -18,8 +18,9 @@ use Rattle.hs_nodes.specs.Walks.{AreNodesWell, IsOutside, node_part}
 use Rattle.hs_nodes.specs.declared.graph.Graph.{Graph}
 use Rattle.hs_reports.specs.Identifiers.{numbers_of}
 use Rattle.hs_reports.proofs.PairsLemmas.{pairs-none}
-use Rattle.hs_scan.specs.Feeding.{AreCopiesWell, Feeds, Finishes, EndsAlike, FitsRegion, GoesOnAlike, IsWellRegion}
-use Rattle.hs_scan.specs.Keeping.{IsSpareBit}
+use Rattle.hs_scan.specs.Feeding.{Feeds, Finishes, EndsAlike, GoesOnAlike}
+use Rattle.hs_nodes.specs.WellRegions.{AreCopiesWell, FitsRegion, IsWellRegion}
+use Rattle.hs_keeping.specs.Keeping.{IsSpareBit}
 use Rattle.hs_scan.specs.Past.{HasNoEarly}
 use Rattle.hs_scan.specs.Scans.{IsWritten, Stand}
 use Rattle.hs_scan.proofs.WritingLemmas.{bit-same}

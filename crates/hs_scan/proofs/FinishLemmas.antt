@@ -1,19 +1,17 @@
 -- What only the end of a stream decides, from what its region keeps.
-use Rattle.std.proofs.Common.{◌≡◌, ◌↔◌, ℕ, ◌+◌, ◌-◌, ◌*◌, ◌<◌, ◌≤◌, Bool, true, false, List, [], ◌∷◌, ◌++◌, length, take, replicate, Some, slice_get, refl, sym, ap, subst, ◌∙◌, inl, inr, arith}
+use Rattle.std.proofs.Common.{◌≡◌, ◌↔◌, ℕ, ◌+◌, ◌-◌, ◌*◌, ◌<◌, ◌≤◌, Bool, true, List, ◌++◌, length, take, Some, slice_get, sym, ap, subst, ◌∙◌, arith}
 use Rattle.std.specs.Prelude.{slice_index_or, slice_range}
 use Rattle.std.specs.Option.{option_map}
-use Rattle.std.proofs.lemmas.Grind.{same_number_lists}
-use Rattle.std.proofs.lemmas.List.{get_or-replicate, length-map, length-replicate}
+use Rattle.std.proofs.lemmas.List.{length-map}
 use Rattle.std.proofs.lemmas.Option.{get_or_from_slice_get, same_Some, slice_get-map, slice_get_within}
 use Rattle.hs_base.specs.declared.context.Next.TheVariants as after
-use Rattle.hs_base.specs.Bits.{AreZero, has_bit}
+use Rattle.hs_base.specs.Bits.{has_bit}
 use Rattle.hs_base.specs.Lists.{Each, IsMember}
 use Rattle.hs_base.specs.Literals.{LiteralByte}
 use Rattle.hs_base.specs.Regions.{IsRegion, Plan, last_at, region_offset}
 use Rattle.hs_base.specs.Settling.{AreIdentifiers, AreRising, IsKept, IsLeftToEnd, tells_end}
 use Rattle.hs_base.specs.Settling.{pairs_told}
-use Rattle.hs_base.specs.Told.{IsLast, Pair}
-use Rattle.hs_base.proofs.BitLemmas.{zero-all}
+use Rattle.hs_base.specs.Told.{IsLast}
 use Rattle.hs_base.proofs.ListLemmas.{each-of_members, one_of-map}
 use Rattle.hs_base.proofs.PairListLemmas.{IsNewAtEnd, last-reports, one_told, pairs-all, pairs-next_by, tell-by, values_by}
 use Rattle.hs_base.proofs.SettlingLemmas.{end-settled}
@@ -31,17 +29,13 @@ use Rattle.hs_reports.specs.declared.identifier.Identifier.{Identifier}
 use Rattle.hs_reports.proofs.EventLemmas.{through-join}
 use Rattle.hs_reports.proofs.PairsLemmas.{pairs-join, pairs-one, pairs-widen}
 use Rattle.hs_scan.specs.Asking.{AsksEnds}
-use Rattle.hs_scan.specs.Feeding.{Finishes, RunsLaid}
+use Rattle.hs_scan.specs.Feeding.{Finishes}
+use Rattle.hs_nodes.specs.WellRegions.{RunsLaid}
 use Rattle.hs_scan.specs.Finishing.{due_at_end, is_due, kept_at, no_identifier}
-use Rattle.hs_scan.specs.Keeping.{AreRead}
+use Rattle.hs_keeping.specs.Keeping.{AreRead}
 use Rattle.hs_scan.specs.Scans.{IsReached, stand}
 use Rattle.hs_nodes.proofs.WalkLemmas.{there}
 use Rattle.hs_scan.proofs.RegionLemmas.{reached-begin}
-
-pub zeros-are : (bytes : List ℕ) → AreZero bytes → bytes ≡ replicate (length bytes) 0
-zeros-are bytes zeros =
-    same_number_lists bytes (replicate (length bytes) 0) (sym (length-replicate {A = ℕ} (length bytes) 0))
-    (λ k below. zero-all bytes zeros k ∙ sym (get_or-replicate (length bytes) k 0 0 below))
 
 -- one identifier more
 pub through-identifier : {V : Type 0} (Tells : V → ℕ → ℕ → V → Type 0) {start before now : V} (xs : List Identifier) (f : ℕ → Bool) (to k : ℕ) (x : Identifier) (value : Bool) → slice_get xs k ≡ Some x → value ≡ f k →

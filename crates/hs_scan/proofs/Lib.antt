@@ -1,5 +1,4 @@
 pub mod BlockLemmas
-pub mod KeepingLemmas
 pub mod RegionLemmas
 pub mod ScanLemmas
 pub mod EndingLemmas
@@ -15,9 +14,5 @@ pub mod LineFeedLemmas
 pub mod ScratchLemmas
 pub mod FeedLemmas
 pub mod FinishLemmas
-pub mod CheckingLemmas
-pub mod FaultLemmas
-pub mod ExactLemmas
 pub mod TickLemmas
-pub mod PlanFaultLemmas
 pub mod WakingLemmas

@@ -25,7 +25,8 @@ use Rattle.hs_reports.specs.Telling.{leaves_to_end}
 use Rattle.hs_reports.specs.Settlement.{AreBlockEnds, AreKnown}
 use Rattle.hs_scan.specs.Asking.{AsksEnds}
 use Rattle.hs_scan.specs.Scans.{AreHitsBehind, AreLeftToEnd, Scans, Stand, stand}
-use Rattle.hs_scan.specs.Telling.{AreGathered, IsTelling, TellsBlock, TellsChunk}
+use Rattle.hs_scan.specs.Telling.{IsTelling, TellsBlock, TellsChunk}
+use Rattle.hs_nodes.specs.Gathering.{AreGathered}
 use Rattle.hs_scan.specs.Writing.{AreLeftByLineFeed, LeavesLineFeed, LeavesLineFeedChunk, LeavesToEnd}
 use Rattle.hs_scan.proofs.BlockLemmas.{block-ends}
 use Rattle.hs_scan.proofs.EndingLemmas.{line_feed-left, other-left}

@@ -18,15 +18,16 @@ use Rattle.hs_nodes.specs.Nodes.{HoldsPiece}
 use Rattle.hs_nodes.specs.Walks.{AreNodesHeld, parent_pieces}
 use Rattle.hs_reports.specs.Settlement.{AreKnown}
 use Rattle.hs_reports.specs.declared.identifier.Identifier.{Identifier}
-use Rattle.hs_scan.specs.Keeping.{AreRead, AreSparesUnset, singles_before}
-use Rattle.hs_nodes.specs.Graphs.{RunsPlan, plan_layout, singles_of}
+use Rattle.hs_keeping.specs.Keeping.{AreRead, AreSparesUnset, singles_before}
+use Rattle.hs_nodes.specs.Graphs.{RunsPlan, plan_layout}
+use Rattle.hs_reports.specs.Identifiers.{singles_of}
 use Rattle.hs_scan.specs.Scans.{AreLeftToEnd, IsReached, IsWritten, Stand}
 use Rattle.hs_nodes.specs.declared.graph.Graph.{Graph}
 use Rattle.hs_scan.proofs.BlockLemmas.{value-tells}
 use Rattle.hs_nodes.proofs.FieldLemmas.{nodes-begin, nodes-end}
 use Rattle.hs_nodes.proofs.PlanLemmas.{ids-count, plan-size, singles-count}
 use Rattle.hs_nodes.proofs.WalkLemmas.{there}
-use Rattle.hs_scan.proofs.KeepingLemmas.{IsSingleAt, number-at, single-at, single-of}
+use Rattle.hs_keeping.proofs.KeepingLemmas.{IsSingleAt, number-at, single-at, single-of}
 
 -- no bit that stands for nothing is set in a region
 pub spares-unset : (plan : Plan) (u region : List ℕ) → IsRegion plan u region → AreSparesUnset (plan_layout plan) region

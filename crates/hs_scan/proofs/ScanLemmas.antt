@@ -25,7 +25,7 @@ use Rattle.hs_reports.specs.Identifiers.{numbers_of}
 use Rattle.hs_reports.specs.Pairs.{ArePairsOf}
 use Rattle.hs_reports.proofs.PairsLemmas.{pairs-join, pairs-none}
 use Rattle.hs_scan.specs.Feeding.{Feeds}
-use Rattle.hs_scan.specs.Keeping.{AreRead, IsSpareBit}
+use Rattle.hs_keeping.specs.Keeping.{AreRead, IsSpareBit}
 use Rattle.hs_nodes.specs.Graphs.{RunsPlan, plan_layout}
 use Rattle.hs_scan.specs.Scans.{AreHitsBehind, AreLeftToEnd, IsReached, IsWritten, Scans, ScansChunk, Stand, stand}
 use Rattle.hs_scan.specs.Telling.{TellsChunk}

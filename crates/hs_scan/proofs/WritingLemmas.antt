@@ -11,12 +11,12 @@ use Rattle.hs_layout.specs.Layouts.{Laid, field_bytes, laid_size, with_part}
 use Rattle.hs_nodes.specs.Walks.{node_part}
 use Rattle.hs_nodes.specs.declared.table.Node.{Node}
 use Rattle.hs_scan.specs.Copying.{AreFieldsCopied}
-use Rattle.hs_scan.specs.Keeping.{AreBitsWritten, AreLast, AreRead, HasBits, IsSpareBit, singles_before}
+use Rattle.hs_keeping.specs.Keeping.{AreBitsWritten, AreLast, AreRead, HasBits, IsSpareBit, singles_before}
 use Rattle.hs_nodes.specs.Graphs.{FitsLayout}
 use Rattle.hs_scan.specs.Scans.{IsWritten, Stand}
 use Rattle.hs_nodes.specs.declared.graph.Graph.{Graph}
 use Rattle.hs_scan.proofs.CopyLemmas.{range-same}
-use Rattle.hs_scan.proofs.KeepingLemmas.{single-below}
+use Rattle.hs_keeping.proofs.KeepingLemmas.{single-below}
 
 -- what stands behind a part stays
 part-behind : (region bytes : List ℕ) (low high i : ℕ) → low + length bytes ≡ high → high ≤ length region → high ≤ i → get_or (with_part region low high bytes) i 0 ≡ get_or region i 0

@@ -1,4 +1,3 @@
-pub mod Keeping
 pub mod Telling
 pub mod Knowing
 pub mod Scans
@@ -10,9 +9,4 @@ pub mod Scratches
 pub mod Hits
 pub mod Copying
 pub mod Writing
-pub mod Clearing
 pub mod Finishing
-pub mod Checking
-pub mod Faults
-pub mod RegionLaws
-pub mod PlanFaults

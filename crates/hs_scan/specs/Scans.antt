@@ -21,7 +21,7 @@ use Rattle.hs_reports.specs.Identifiers.{numbers_of}
 use Rattle.hs_reports.specs.Pairs.{ArePairsOf}
 use Rattle.hs_reports.specs.Settlement.{AreKnown}
 use Rattle.hs_reports.specs.declared.identifier.Identifier.{Identifier}
-use Rattle.hs_scan.specs.Keeping.{AreLast, AreRead, IsSpareBit}
+use Rattle.hs_keeping.specs.Keeping.{AreLast, AreRead, IsSpareBit}
 use Rattle.hs_nodes.specs.Graphs.{RunsPlan}
 use Rattle.hs_nodes.specs.declared.graph.FieldCopy.{FieldCopy}
 use Rattle.hs_nodes.specs.declared.graph.Graph.{Graph}

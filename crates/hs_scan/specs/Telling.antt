@@ -1,6 +1,5 @@
 -- What a chunk tells, from where the nodes are left in it.
 use Rattle.std.specs.Prelude.{◌≡◌, ℕ, ◌+◌, ◌*◌, ◌<◌, List, [], ◌++◌, length, take}
-use Rattle.std.specs.Prelude.{slice_index, slice_index_or, slice_range}
 use Rattle.hs_base.specs.Chains.{Piece}
 use Rattle.hs_base.specs.Literals.{LiteralByte}
 use Rattle.hs_base.specs.Patterns.{Pattern}
@@ -11,40 +10,11 @@ use Rattle.hs_nodes.specs.Blocks.{block, front}
 use Rattle.hs_nodes.specs.Left.{AreLeftIn}
 use Rattle.hs_nodes.specs.Walks.{node_ends}
 use Rattle.hs_nodes.specs.declared.ends.ChunkEnds.{ChunkEnds}
-use Rattle.hs_reports.specs.Gathering.{AreEndsBelow}
-use Rattle.hs_reports.specs.EndTables.{EndTable}
 use Rattle.hs_reports.specs.Identifiers.{numbers_of}
 use Rattle.hs_reports.specs.Pairs.{ArePairsOf}
 use Rattle.hs_reports.specs.Settlement.{AreKnown}
-use Rattle.hs_reports.specs.declared.terminal.Terminal.{Terminal}
 use Rattle.hs_nodes.specs.Graphs.{RunsPlan}
 use Rattle.hs_nodes.specs.declared.graph.Graph.{Graph}
-
--- Where the pieces of the node of that number are left. Behind the last node are no pieces, which are left everywhere.
-abbrev pub ends_or_all : (ends : List ChunkEnds) (all : ChunkEnds) → ℕ → ChunkEnds
-ends_or_all ends all k = slice_index_or ends k all
-
--- in one block
-abbrev pub left_before : (ends : List ChunkEnds) (all : ChunkEnds) (block k : ℕ) → ℕ
-left_before ends all block k = slice_index (ends_or_all ends all k).before block
-
-abbrev pub left_behind : (ends : List ChunkEnds) (all : ChunkEnds) (block k : ℕ) → ℕ
-left_behind ends all block k = slice_index (ends_or_all ends all k).behind block
-
--- the terminals of the node of that number
-abbrev pub terminals_of : {E : Type 0} → Graph E → ℕ → List Terminal
-terminals_of graph node =
-    slice_range graph.terminals.items (slice_index graph.terminal_starts.items node)
-    (slice_index graph.terminal_starts.items (node + 1))
-
--- What one node adds to the ends that those before it give in a block at that offset.
-abbrev pub GathersNode : {E : Type 0} → Graph E → (node at before behind : ℕ) → EndTable → EndTable → Type 0
-GathersNode graph node at before behind old new =
-    (befores behinds : ℕ → ℕ) →
-    befores node ≡ before →
-    behinds node ≡ behind →
-    AreEndsBelow graph.terminals.items befores behinds at node old →
-    AreEndsBelow graph.terminals.items befores behinds at (node + 1) new
 
 -- What is known of the identifiers behind some bytes, and what was told of them.
 pub record IsTelling (P : List Pattern) (u bytes : List ℕ) (pairs : List Pair) (Known : (u : List ℕ) → Type 0) : Type 0
@@ -53,12 +23,6 @@ pub record IsTelling (P : List Pattern) (u bytes : List ℕ) (pairs : List Pair)
     pub new : IsNew P u bytes pairs
 
 module _ {E : Type 0} (meaning : E → Meaning) (graph : Graph E) where
-  -- The table has the ends that the nodes before that number give in a block of a chunk at that offset.
-  abbrev pub AreGathered : (ends : List ChunkEnds) (all : ChunkEnds) (at block node : ℕ) → EndTable → Type 0
-  AreGathered ends all at block node table =
-      AreEndsBelow graph.terminals.items (left_before ends all block) (left_behind ends all block) (at + 64 * block)
-      node table
-
   -- The ends tell where the nodes are left in a chunk behind u.
   pub record AreChunkEnds (pieces : ℕ → List Piece) (u bytes : List ℕ) (ends : List ChunkEnds) (all : ChunkEnds) :
       Type 0 where

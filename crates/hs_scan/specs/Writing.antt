@@ -24,7 +24,7 @@ use Rattle.hs_reports.specs.Telling.{leaves_to_end}
 use Rattle.hs_reports.specs.WordBits.{word_bit}
 use Rattle.hs_reports.specs.declared.identifier.Identifier.{Identifier}
 use Rattle.hs_scan.specs.Asking.{AreEndsBehind}
-use Rattle.hs_scan.specs.Keeping.{AreRead}
+use Rattle.hs_keeping.specs.Keeping.{AreRead}
 use Rattle.hs_scan.specs.Knowing.{FitsKnown, IsPending}
 use Rattle.hs_scan.specs.Scans.{AreLeftToEnd, IsReached, Stand}
 use Rattle.hs_scan.specs.Scratches.{FitsGraph}

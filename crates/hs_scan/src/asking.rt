@@ -10,7 +10,6 @@ ghost use Rattle.hs_reports.specs.EndTables.{HasNoEnds};
 ghost use Rattle.hs_scan.specs.Scratches.{AsksNodes, FitsGraph, HasNoHits, KeepsAsked};
 ghost use Rattle.hs_scan.specs.Asking.{AsksEnds};
 
-use crate::gathering::gather_all;
 use crate::past::prev_of;
 use crate::scratch::{Scratch, find_hits, forget};
 use hs_base::Next;
@@ -18,7 +17,7 @@ use hs_block::BlockEngine;
 use hs_engine::Steps;
 use hs_layout::Layout;
 use hs_literals::Literals;
-use hs_nodes::{ChunkEnds, Graph, Stop, ends_if, leave_nodes};
+use hs_nodes::{ChunkEnds, Graph, Stop, ends_if, gather_all, leave_nodes};
 use std::sync::ledger::Ledger;
 
 /// Makes all ends those of nodes that are left nowhere.

@@ -6,7 +6,8 @@ ghost use Rattle.hs_base.specs.Regions.{region_offset};
 ghost use Rattle.hs_literals.specs.Held.{held};
 ghost use Rattle.hs_nodes.specs.Graphs.{IsGraphSound};
 ghost use Rattle.hs_reports.specs.Events.{Takes};
-ghost use Rattle.hs_scan.specs.Feeding.{Feeds, FitsRegion, GoesOnAlike, IsWellRegion};
+ghost use Rattle.hs_scan.specs.Feeding.{Feeds, GoesOnAlike};
+ghost use Rattle.hs_nodes.specs.WellRegions.{FitsRegion, IsWellRegion};
 ghost use Rattle.hs_scan.specs.Scratches.{IsIdle, ServesGraph};
 
 use crate::last_byte::scan_write;

@@ -11,10 +11,9 @@ ghost use Rattle.hs_scan.specs.Knowing.{FitsKnown, IsPending, SettlesKnown};
 ghost use Rattle.hs_nodes.specs.Graphs.{AreTerminalsSound};
 ghost use Rattle.hs_scan.specs.Telling.{TellsBlock, TellsChunk};
 
-use crate::gathering::gather_block;
 use hs_bits::word_count_for;
 use hs_block::BlockEngine;
-use hs_nodes::{BLOCK_BYTES, Chunk, ChunkEnds, Graph, MarkSet};
+use hs_nodes::{BLOCK_BYTES, Chunk, ChunkEnds, Graph, MarkSet, gather_block};
 use hs_reports::{Events, Identifier, IdentifierEnds, Tellings, settle_block};
 use std::alloc::{AllocError, Global};
 

@@ -1,6 +1,6 @@
 //! The bytes of a write, and what its last one leaves to the end.
 
-ghost use Rattle.std.specs.Prelude.{◌≡◌, ◌+◌, ◌*◌, ◌<◌, ◌≤◌, ◌^◌, ℕ, [], ◌∷◌, false, length, slice_index};
+ghost use Rattle.std.specs.Prelude.{◌≡◌, ◌+◌, ◌-◌, ◌*◌, ◌<◌, ◌≤◌, ◌^◌, ℕ, [], ◌∷◌, false, length, slice_index};
 ghost use Rattle.hs_base.specs.declared.context.Next.TheVariants as after;
 ghost use Rattle.hs_base.specs.Assertions.{line_feed};
 ghost use Rattle.hs_base.specs.Bits.{has_word_bit};
@@ -147,7 +147,7 @@ fn leave_none(last: &mut [u64])
     }
 }
 
-/// Takes bytes up to a line feed, which is the last one, at that place.
+/// Takes bytes up to a line feed, which is the last one.
 fn scan_to_line_feed<E: BlockEngine, V: Events, L: Ledger>(
     graph: &Graph<E>,
     literals: &Literals,
@@ -155,7 +155,6 @@ fn scan_to_line_feed<E: BlockEngine, V: Events, L: Ledger>(
     region: &mut [u8],
     scratch: &mut Scratch,
     bytes: &[u8],
-    last: usize,
     events: &mut V,
     steps: &mut Steps<L>,
 )
@@ -168,8 +167,8 @@ fn scan_to_line_feed<E: BlockEngine, V: Events, L: Ledger>(
     requires resting { AreNodesResting E.meaning graph.now.table scratch.old.course.marks region.old }
     requires none { HasNoHits scratch.old }
     requires no_finals { HasNoEnds scratch.old.finals }
-    requires place { length bytes.now ≡ last + 1 }
-    requires ends { slice_index bytes.now last ≡ line_feed }
+    requires some { 0 < length bytes.now }
+    requires ends { slice_index bytes.now (length bytes.now - 1) ≡ line_feed }
     requires small { scratch.old.at + length bytes.now ≤ 2 ^ 63 }
     ensures len { length region.new ≡ length region.old }
     ensures well { AreNodesWell E.meaning graph.now.table region.new scratch.new.at }
@@ -189,6 +188,7 @@ fn scan_to_line_feed<E: BlockEngine, V: Events, L: Ledger>(
     ensures left { LeavesToEnd E.meaning graph.now (held literals.now) (stand_of scratch.old region.old)
         bytes.now scratch.new.last.items }
 {
+    let last = bytes.len() - 1;
     scan_bytes(
         graph,
         literals,
@@ -202,7 +202,7 @@ fn scan_to_line_feed<E: BlockEngine, V: Events, L: Ledger>(
     scan_line_feed(graph, literals, layout, region, scratch, events, steps);
 }
 
-/// Takes bytes of which the last one, at that place, is no line feed.
+/// Takes bytes of which the last one is no line feed.
 fn scan_to_other<E: BlockEngine, V: Events, L: Ledger>(
     graph: &Graph<E>,
     literals: &Literals,
@@ -210,7 +210,6 @@ fn scan_to_other<E: BlockEngine, V: Events, L: Ledger>(
     region: &mut [u8],
     scratch: &mut Scratch,
     bytes: &[u8],
-    last: usize,
     events: &mut V,
     steps: &mut Steps<L>,
 )
@@ -223,8 +222,8 @@ fn scan_to_other<E: BlockEngine, V: Events, L: Ledger>(
     requires resting { AreNodesResting E.meaning graph.now.table scratch.old.course.marks region.old }
     requires none { HasNoHits scratch.old }
     requires no_finals { HasNoEnds scratch.old.finals }
-    requires place { length bytes.now ≡ last + 1 }
-    requires ends { slice_index bytes.now last ≡ line_feed → ⊥ }
+    requires some { 0 < length bytes.now }
+    requires ends { slice_index bytes.now (length bytes.now - 1) ≡ line_feed → ⊥ }
     requires small { scratch.old.at + length bytes.now ≤ 2 ^ 63 }
     ensures len { length region.new ≡ length region.old }
     ensures well { AreNodesWell E.meaning graph.now.table region.new scratch.new.at }
@@ -244,7 +243,6 @@ fn scan_to_other<E: BlockEngine, V: Events, L: Ledger>(
     ensures left { LeavesToEnd E.meaning graph.now (held literals.now) (stand_of scratch.old region.old)
         bytes.now scratch.new.last.items }
 {
-    let _ = last;
     scan_bytes(
         graph, literals, layout, region, scratch, bytes, events, steps,
     );
@@ -294,11 +292,11 @@ pub(crate) fn scan_write<E: BlockEngine, V: Events, L: Ledger>(
     let last = bytes.len() - 1;
     if bytes[last] == b'\n' {
         scan_to_line_feed(
-            graph, literals, layout, region, scratch, bytes, last, events, steps,
+            graph, literals, layout, region, scratch, bytes, events, steps,
         );
     } else {
         scan_to_other(
-            graph, literals, layout, region, scratch, bytes, last, events, steps,
+            graph, literals, layout, region, scratch, bytes, events, steps,
         );
     }
 }

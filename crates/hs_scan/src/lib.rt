@@ -2,19 +2,14 @@
 #![tactic(auto)]
 
 mod asking;
-mod checking;
 mod chunk;
-mod clearing;
 mod contexts;
 mod copying;
 mod feeding;
 mod finishing;
-mod gathering;
 mod hits;
-mod keeping;
 mod known;
 mod last_byte;
-pub mod laws;
 mod line_feed;
 mod past;
 mod scanning;
@@ -22,8 +17,6 @@ mod scratch;
 mod waking;
 mod writing;
 
-pub use checking::{first_fault, well_formed};
-pub use clearing::clear;
 pub use feeding::scan;
 pub use finishing::finish;
 pub use scratch::Scratch;

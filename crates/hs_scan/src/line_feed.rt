@@ -22,14 +22,13 @@ ghost use Rattle.hs_scan.specs.Scratches.{FitsGraph, KeepsLast, KeepsNodes};
 ghost use Rattle.hs_scan.specs.Telling.{TellsBlock};
 ghost use Rattle.hs_scan.specs.Writing.{AreLeftByLineFeed, LeavesLineFeed, LeavesLineFeedChunk};
 
-use crate::gathering::gather_block;
 use crate::known::{Known, settle_known};
 use crate::scratch::Scratch;
 use crate::waking::wake;
 use hs_bits::{contains_word_bit, write_word_bit};
 use hs_block::BlockEngine;
 use hs_engine::Steps;
-use hs_nodes::{Chunk, ChunkEnds, Found, Graph, MarkSet, everywhere, settle, walk};
+use hs_nodes::{Chunk, ChunkEnds, Found, Graph, MarkSet, everywhere, gather_block, settle, walk};
 use hs_reports::{Events, Identifier, IdentifierEnds, is_left_to_end};
 use std::sync::ledger::Ledger;
 

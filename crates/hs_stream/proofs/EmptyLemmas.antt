@@ -9,7 +9,7 @@ use Rattle.hs_base.proofs.RegionLemmas.{regions-well}
 use Rattle.hs_base.proofs.RegionStartLemmas.{regions-begin}
 use Rattle.hs_layout.specs.Layouts.{laid_size}
 use Rattle.hs_compile.specs.Databases.{Compiled, IsDatabaseOf, IsWholeDatabase, layout_of}
-use Rattle.hs_scan.proofs.FinishLemmas.{zeros-are}
+use Rattle.hs_regions.proofs.ZeroLemmas.{zeros-are}
 use Rattle.hs_stream.specs.Leading.{IsBehind, IsRegionOf}
 use Rattle.hs_stream.specs.Streams.{region_of, StreamsAreWellFormed}
 use Rattle.hs_stream.proofs.RunningLemmas.{region-exact}

@@ -15,9 +15,10 @@ use Rattle.hs_reports.specs.Identifiers.{numbers_of}
 use Rattle.hs_reports.specs.Pairs.{ArePairsOf}
 use Rattle.hs_rose.specs.PieceEngines.{piece_meaning}
 use Rattle.hs_rose.specs.declared.engine.PieceEngine.{PieceEngine}
-use Rattle.hs_scan.specs.Faults.{IsSoundWithSome}
-use Rattle.hs_scan.specs.Feeding.{Feeds, Finishes, RunsLaid}
-use Rattle.hs_scan.proofs.ExactLemmas.{regions-exact}
+use Rattle.hs_regions.specs.Faults.{IsSoundWithSome}
+use Rattle.hs_scan.specs.Feeding.{Feeds, Finishes}
+use Rattle.hs_nodes.specs.WellRegions.{RunsLaid}
+use Rattle.hs_regions.proofs.ExactLemmas.{regions-exact}
 use Rattle.hs_stream.specs.Foreign.{MayEnd, MayLead, MayTell}
 use Rattle.hs_stream.specs.Leading.{IsRegionOf, LeadsTo}
 

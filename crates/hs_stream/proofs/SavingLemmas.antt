@@ -8,7 +8,7 @@ use Rattle.hs_dbfile.specs.declared.state.StateFault.TheVariants as state
 use Rattle.hs_dbfile.proofs.StateLemmas.{states_read_once}
 use Rattle.hs_literals.specs.Held.{held}
 use Rattle.hs_rose.specs.PieceEngines.{piece_meaning}
-use Rattle.hs_scan.proofs.PlanFaultLemmas.{fault-never, faults-planned as graph-faults}
+use Rattle.hs_regions.proofs.PlanFaultLemmas.{fault-never, faults-planned as graph-faults}
 use Rattle.hs_stream.specs.declared.fault.ExpandFault.{ExpandFault}
 use Rattle.hs_stream.specs.declared.fault.ExpandFault.TheVariants as fault
 use Rattle.hs_stream.specs.declared.stream.Stream.{Stream}

@@ -5,8 +5,8 @@ use Rattle.hs_base.specs.Regions.{Plan, IsRegion}
 use Rattle.hs_base.specs.Told.{Pair, IsTold, IsNew, IsLast}
 use Rattle.hs_compile.specs.Databases.{Compiled, IsDatabaseOf, graph_of, layout_of}
 use Rattle.hs_rose.specs.PieceEngines.{piece_meaning}
-use Rattle.hs_scan.specs.Faults.{IsFirstFault}
-use Rattle.hs_scan.specs.Feeding.{IsWellRegion}
+use Rattle.hs_regions.specs.Faults.{IsFirstFault}
+use Rattle.hs_nodes.specs.WellRegions.{IsWellRegion}
 
 -- The region is that of the bytes u of a stream.
 pub record IsBehind (plan : Plan) (u now : List ℕ) : Type 0 where

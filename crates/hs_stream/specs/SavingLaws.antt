@@ -4,7 +4,7 @@ use Rattle.hs_base.specs.Patterns.{Pattern}
 use Rattle.hs_base.specs.Regions.{Plan}
 use Rattle.hs_base.specs.Told.{Pair, IsTold}
 use Rattle.hs_compile.specs.Databases.{Compiled, IsDatabaseOf}
-use Rattle.hs_scan.specs.PlanFaults.{IsPlanFault}
+use Rattle.hs_regions.specs.PlanFaults.{IsPlanFault}
 use Rattle.hs_stream.specs.declared.fault.ExpandFault.{ExpandFault}
 use Rattle.hs_stream.specs.declared.fault.ExpandFault.TheVariants as fault
 use Rattle.hs_stream.specs.declared.stream.Stream.{Stream}

@@ -13,8 +13,9 @@ ghost use Rattle.hs_stream.specs.Leading.{IsFaultOf, IsRegionOf};
 use crate::scratch::Scratch;
 use hs_compile::Database;
 use hs_engine::Steps;
+use hs_regions::{first_fault, well_formed};
 use hs_reports::Events;
-use hs_scan::{finish, first_fault, scan, well_formed};
+use hs_scan::{finish, scan};
 use std::sync::ledger::Ledger;
 
 /// Takes the next bytes of the stream of a region, and reports what they decide, in the order in which they do.

@@ -2,7 +2,7 @@ use Rattle.std.proofs.Common.{◌≡◌, ◌+◌, ℕ, ◌++◌, length, take, d
 use Rattle.hs_nodes.specs.Left.{nowhere}
 use Rattle.hs_nodes.specs.Walks.{node_ends}
 use Rattle.hs_nodes.specs.Leaving.{LeavesNodes}
-use Rattle.hs_scan.specs.Telling.{AreGathered}
+use Rattle.hs_nodes.specs.Gathering.{AreGathered}
 use Rattle.hs_scan.proofs.AskLemmas.{asks-table}
 use Rattle.hs_scan.proofs.FillLemmas.{whole}
 use Rattle.hs_scan.proofs.asking.ask_nodes.Goals as goal

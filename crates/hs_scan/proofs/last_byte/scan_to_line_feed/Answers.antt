@@ -1,4 +1,4 @@
-use Rattle.std.proofs.Common.{◌≡◌, ◌+◌, ◌*◌, ◌≤◌, ℕ, [], ◌∷◌, length, take, subst, ◌∙◌, arith}
+use Rattle.std.proofs.Common.{◌≡◌, ◌+◌, ◌-◌, ◌*◌, ◌≤◌, ℕ, [], ◌∷◌, length, take, subst, ◌∙◌, arith}
 use Rattle.std.proofs.lemmas.List.{length-take-le}
 use Rattle.hs_base.specs.Assertions.{line_feed}
 use Rattle.hs_literals.specs.Held.{held}
@@ -15,18 +15,18 @@ returns-clause-scans g c =
     let graph = c.args.graph.now in
     let literals = held c.args.literals.now in
     let bytes = c.args.bytes.now in
-    let n : ℕ = c.args.last in
+    let n : ℕ = length bytes - 1 in
     let first = stand_of c.args.scratch.now c.args.region.now in
     let mid = stand_of c.scan_bytes.new.scratch c.scan_bytes.new.region in
     let then = stand_of c.scan_line_feed.new.scratch c.scan_line_feed.new.region in
     takes-then g.V.Events.tells c.args.events.now c.scan_bytes.new.events c.scan_line_feed.new.events (Scans m graph literals first mid (take n bytes)) (Scans m graph literals mid then (line_feed ∷ [])) (Scans m graph literals first then bytes)
-    (λ ps qs. line_feed-scans m graph literals first mid then bytes n ps qs (omega (arith, c.scan_bytes.ensures.at)) (omega (arith, c.scan_line_feed.ensures.at)) c.requires.place c.requires.ends) c.scan_bytes.ensures.scans c.scan_line_feed.ensures.scans
+    (λ ps qs. line_feed-scans m graph literals first mid then bytes n ps qs (omega (arith, c.scan_bytes.ensures.at)) (omega (arith, c.scan_line_feed.ensures.at)) (omega (arith, c.requires.some)) c.requires.ends) c.scan_bytes.ensures.scans c.scan_line_feed.ensures.scans
 
 pub returns-clause-left : goal.returns-clause-left
 returns-clause-left g c =
     let taken = c.scan_bytes.ensures.scans in
-    line_feed-left_behind g.E.Engine.meaning c.args.graph.now (held c.args.literals.now) (stand_of c.args.scratch.now c.args.region.now) (stand_of c.scan_bytes.new.scratch c.scan_bytes.new.region) c.args.bytes.now c.args.last taken.pairs c.scan_line_feed.new.scratch.last.items
-    c.requires.place c.requires.ends taken.holds c.scan_line_feed.ensures.left
+    line_feed-left_behind g.E.Engine.meaning c.args.graph.now (held c.args.literals.now) (stand_of c.args.scratch.now c.args.region.now) (stand_of c.scan_bytes.new.scratch c.scan_bytes.new.region) c.args.bytes.now (length c.args.bytes.now - 1) taken.pairs c.scan_line_feed.new.scratch.last.items
+    (omega (arith, c.requires.some)) c.requires.ends taken.holds c.scan_line_feed.ensures.left
 
 pub returns-clause-early : goal.returns-clause-early
 returns-clause-early g c = λ early. c.scan_line_feed.ensures.early (c.scan_bytes.ensures.early early)
@@ -38,5 +38,6 @@ pub returns-clause-ticks : goal.returns-clause-ticks
 returns-clause-ticks g c =
     let nodes : ℕ = length c.args.graph.now.table.nodes.items in
     let bytes = c.args.bytes.now in
-    let size : length (take c.args.last bytes) ≡ c.args.last = length-take-le c.args.last bytes (omega (arith, c.requires.place)) in
-    last-steps nodes c.args.last (length bytes) c.args.steps.now c.scan_bytes.new.steps c.scan_line_feed.new.steps c.requires.place (subst (λ n. c.scan_bytes.new.steps ≤ c.args.steps.now + 32 * (nodes * n)) size c.scan_bytes.ensures.ticks) c.scan_line_feed.ensures.ticks
+    let n : ℕ = length bytes - 1 in
+    let size : length (take n bytes) ≡ n = length-take-le n bytes (omega arith) in
+    last-steps nodes n (length bytes) c.args.steps.now c.scan_bytes.new.steps c.scan_line_feed.new.steps (omega (arith, c.requires.some)) (subst (λ k. c.scan_bytes.new.steps ≤ c.args.steps.now + 32 * (nodes * k)) size c.scan_bytes.ensures.ticks) c.scan_line_feed.ensures.ticks

@@ -1,4 +1,4 @@
-use Rattle.std.proofs.Common.{◌≡◌, ◌++◌, length, take, drop, sym, ap, subst, ◌∙◌, arith}
+use Rattle.std.proofs.Common.{◌≡◌, ◌-◌, ◌++◌, length, take, drop, sym, ap, subst, ◌∙◌, arith}
 use Rattle.hs_literals.specs.Held.{held}
 use Rattle.hs_scan.specs.Scratches.{stand_of}
 use Rattle.hs_scan.specs.Writing.{LeavesToEnd}
@@ -17,4 +17,4 @@ returns-clause-left g c =
     let len : length last ≡ length s.last.items = c.leave_none.ensures.len ∙ ap length c.deref_mut.ensures.value in
     let now : take s.last.len (last ++ drop (length last) s.last.items) ≡ last = whole last s.last.items s.last.len len (omega (arith, s.last.ok)) in
     subst (λ xs. LeavesToEnd m graph literals first c.args.bytes.now xs) (sym now)
-    (none-left_behind m graph literals c.requires.sound.terminals first c.args.bytes.now last c.args.last c.requires.place c.requires.ends c.leave_none.ensures.none)
+    (none-left_behind m graph literals c.requires.sound.terminals first c.args.bytes.now last (length c.args.bytes.now - 1) (omega (arith, c.requires.some)) c.requires.ends c.leave_none.ensures.none)

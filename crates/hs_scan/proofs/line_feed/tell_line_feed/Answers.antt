@@ -4,7 +4,8 @@ use Rattle.hs_nodes.specs.Blocks.{block}
 use Rattle.hs_reports.specs.Identifiers.{id_numbers, numbers_of}
 use Rattle.hs_reports.specs.Settlement.{SettlesBlock}
 use Rattle.hs_reports.specs.Tellings.{pairs_of_tellings}
-use Rattle.hs_scan.specs.Telling.{AreGathered, TellsBlock}
+use Rattle.hs_scan.specs.Telling.{TellsBlock}
+use Rattle.hs_nodes.specs.Gathering.{AreGathered}
 use Rattle.hs_scan.specs.Writing.{AreLeftByLineFeed, LeavesLineFeed}
 use Rattle.hs_scan.proofs.BlockLemmas.{block-tells}
 use Rattle.hs_scan.proofs.FillLemmas.{whole}

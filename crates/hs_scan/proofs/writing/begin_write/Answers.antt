@@ -2,7 +2,7 @@ use Rattle.std.proofs.Common.{◌≡◌, ◌≤◌, ◌-◌, length, refl, sym, 
 use Rattle.std.proofs.lemmas.Bool.{cases_lt}
 use Rattle.std.specs.Prelude.{slice_range}
 use Rattle.hs_base.proofs.RegionLemmas.{range-size}
-use Rattle.hs_scan.specs.Keeping.{AreRead}
+use Rattle.hs_keeping.specs.Keeping.{AreRead}
 use Rattle.hs_scan.specs.Knowing.{FitsKnown}
 use Rattle.hs_scan.specs.Writing.{AreKeepingMarked}
 use Rattle.hs_scan.proofs.writing.begin_write.Goals as goal

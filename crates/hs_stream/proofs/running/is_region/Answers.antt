@@ -1,6 +1,6 @@
 use Rattle.hs_rose.specs.PieceEngines.{piece_meaning}
-use Rattle.hs_scan.specs.Faults.{IsSoundWithSome}
-use Rattle.hs_scan.specs.Feeding.{IsWellRegion}
+use Rattle.hs_regions.specs.Faults.{IsSoundWithSome}
+use Rattle.hs_nodes.specs.WellRegions.{IsWellRegion}
 use Rattle.hs_stream.proofs.RunningLemmas.{as-pair, pair-as, whole-sound}
 use Rattle.hs_stream.proofs.running.is_region.Goals as goal
 

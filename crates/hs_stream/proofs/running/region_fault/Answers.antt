@@ -1,7 +1,7 @@
 use Rattle.std.proofs.lemmas.Option.{IfSome_then}
 use Rattle.hs_rose.specs.PieceEngines.{piece_meaning}
-use Rattle.hs_scan.specs.Faults.{IsFirstFault, IsSoundWithSome}
-use Rattle.hs_scan.specs.Feeding.{IsWellRegion}
+use Rattle.hs_regions.specs.Faults.{IsFirstFault, IsSoundWithSome}
+use Rattle.hs_nodes.specs.WellRegions.{IsWellRegion}
 use Rattle.hs_stream.proofs.RunningLemmas.{as-pair, pair-as, whole-sound}
 use Rattle.hs_stream.proofs.running.region_fault.Goals as goal
 

@@ -3,7 +3,8 @@ use Rattle.hs_layout.specs.Layouts.{laid_size}
 use Rattle.hs_nodes.specs.Graphs.{IsGraphSound}
 use Rattle.hs_rose.specs.PieceEngines.{piece_meaning}
 use Rattle.hs_reports.specs.Events.{Takes}
-use Rattle.hs_scan.specs.Feeding.{Feeds, FitsRegion, IsWellRegion}
+use Rattle.hs_scan.specs.Feeding.{Feeds}
+use Rattle.hs_nodes.specs.WellRegions.{FitsRegion, IsWellRegion}
 use Rattle.hs_scan.specs.Scratches.{ServesGraph}
 use Rattle.hs_stream.proofs.RunningLemmas.{as-lent, each-by, lent, lent-as, takes-lead}
 use Rattle.hs_stream.proofs.running.run_bytes.Goals as goal

@@ -2,7 +2,8 @@ use Rattle.std.proofs.Common.{◌+◌, ◌*◌, ◌≤◌, length}
 use Rattle.hs_nodes.specs.Graphs.{IsGraphSound}
 use Rattle.hs_rose.specs.PieceEngines.{piece_meaning}
 use Rattle.hs_reports.specs.Events.{Takes}
-use Rattle.hs_scan.specs.Feeding.{Finishes, FitsRegion}
+use Rattle.hs_scan.specs.Feeding.{Finishes}
+use Rattle.hs_nodes.specs.WellRegions.{FitsRegion}
 use Rattle.hs_scan.specs.Scratches.{ServesGraph}
 use Rattle.hs_stream.proofs.RunningLemmas.{as-lent, lent, lent-as, takes-end}
 use Rattle.hs_stream.proofs.running.run_end.Goals as goal

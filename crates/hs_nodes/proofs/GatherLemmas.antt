@@ -1,0 +1,92 @@
+-- Ends are gathered node by node.
+use Rattle.std.proofs.Common.{◌≡◌, ℕ, zero, suc, ◌+◌, ◌<◌, ◌≤◌, true, List, [], ◌∷◌, length, Some, slice_get, refl, sym, ap, subst, ◌∙◌, arith}
+use Rattle.std.specs.Prelude.{slice_index, slice_index_or}
+use Rattle.std.proofs.lemmas.Option.{same_Some}
+use Rattle.hs_engine.specs.Engines.{Meaning}
+use Rattle.hs_nodes.specs.Left.{nowhere}
+use Rattle.hs_nodes.specs.Walks.{node_ends}
+use Rattle.hs_nodes.specs.declared.ends.ChunkEnds.{ChunkEnds}
+use Rattle.hs_nodes.proofs.RunLemmas.{nowhere-none}
+use Rattle.hs_reports.specs.EndTables.{AddsEnds, EndTable, HasNoEnds, is_noted}
+use Rattle.hs_reports.specs.Gathering.{AreEndsBelow}
+use Rattle.hs_reports.specs.declared.terminal.Terminal.{Terminal}
+use Rattle.hs_reports.proofs.GatheringLemmas.{gathering-begins, gathering-goes_on, gathering-passes}
+use Rattle.hs_nodes.specs.Graphs.{AreTerminalsSound}
+use Rattle.hs_nodes.specs.Gathering.{GathersNode, left_before, left_behind, ends_or_all, terminals_of}
+use Rattle.hs_nodes.specs.declared.graph.Graph.{Graph}
+
+-- the ends of a node by its number
+
+pub ends-at : (ends : List ChunkEnds) (all other : ChunkEnds) (k : ℕ) → k < length ends → slice_index_or ends k all ≡ slice_index_or ends k other
+ends-at [] all other k below = absurd (omega arith)
+ends-at (x ∷ ends) all other zero below = refl
+ends-at (x ∷ ends) all other (suc k) below = ends-at ends all other k (omega arith)
+
+pub ends-past : (ends : List ChunkEnds) (all : ChunkEnds) (k : ℕ) → k ≡ length ends → slice_index_or ends k all ≡ all
+ends-past [] all zero same = refl
+ends-past [] all (suc k) same = absurd (omega arith)
+ends-past (x ∷ ends) all zero same = absurd (omega arith)
+ends-past (x ∷ ends) all (suc k) same = ends-past ends all k (omega arith)
+
+-- the ends of the nodes before one are gathered, and no noted identifier is forgotten
+pub record IsGatheredTo {E : Type 0} (graph : Graph E) (ends : List ChunkEnds) (all : ChunkEnds) (block at from : ℕ) (first table : EndTable) : Type 0 where
+  pub within : from ≤ length graph.table.nodes.items
+  pub counted : length table.words ≡ length graph.identifiers.items
+  pub noted : (p : ℕ) → is_noted first p ≡ true → is_noted table p ≡ true
+  pub gathered : AreEndsBelow graph.terminals.items (left_before ends all block) (left_behind ends all block) at from table
+
+module _ {E : Type 0} (meaning : E → Meaning) (graph : Graph E) (sound : AreTerminalsSound graph) where
+  pub node-gathers : (node at before behind : ℕ) (own : List Terminal) (old new : EndTable) → node < length graph.table.nodes.items + 1 → own ≡ terminals_of graph node → AddsEnds old new own at before behind →
+      GathersNode graph node at before behind old new
+  node-gathers node at before behind own old new there is adds befores behinds before_is behind_is below =
+      gathering-goes_on graph.terminals.items (terminals_of graph node) befores behinds at node old new below (sound.of_node node there)
+      (subst (λ w. AddsEnds old new (terminals_of graph node) at (befores node) w) (sym behind_is)
+      (subst (λ w. AddsEnds old new (terminals_of graph node) at w behind) (sym before_is) (subst (λ ts. AddsEnds old new ts at before behind) is adds)))
+
+module _ {E : Type 0} (graph : Graph E) (ends : List ChunkEnds) (all : ChunkEnds) (block : ℕ) (few : block < 8) (count : length ends ≡ length graph.table.nodes.items) where
+  pub gathered-none : (at : ℕ) (table : EndTable) → length table.words ≡ length graph.identifiers.items → HasNoEnds table → IsGatheredTo graph ends all block at 0 table table
+  gathered-none at table counted none = record {
+    within = omega arith;
+    counted = counted;
+    noted = λ p is. is;
+    gathered = gathering-begins graph.terminals.items (left_before ends all block) (left_behind ends all block) at table none;
+  }
+
+  resting : (k : ℕ) → k < length graph.table.nodes.items → node_ends ends k ≡ nowhere → (left_before ends all block k ≡ 0) × (left_behind ends all block k ≡ 0)
+  resting k below none =
+      let is : ends_or_all ends all k ≡ nowhere = ends-at ends all nowhere k (omega (arith, count)) ∙ none in
+      (ap (λ e. slice_index e.before block) is ∙ nowhere-none.before block (omega arith), ap (λ e. slice_index e.behind block) is ∙ nowhere-none.behind block (omega arith))
+
+  pub gathered-passed : (at from to : ℕ) (first table : EndTable) → from ≤ to → to ≤ length graph.table.nodes.items → ((k : ℕ) → from ≤ k → k < to → node_ends ends k ≡ nowhere) → IsGatheredTo graph ends all block at from first table → IsGatheredTo graph ends all block at to first table
+  gathered-passed at from to first table order inside none is = record {
+    within = inside;
+    counted = is.counted;
+    noted = is.noted;
+    gathered =
+        gathering-passes graph.terminals.items (left_before ends all block) (left_behind ends all block) at from to table order
+        (λ k low high. resting k (omega (arith, high, inside)) (none k low high)) is.gathered;
+  }
+
+  pub gathered-more : (at k : ℕ) (own : ChunkEnds) (first table next : EndTable) → k < length graph.table.nodes.items → slice_get ends k ≡ Some own → IsGatheredTo graph ends all block at k first table → length next.words ≡ length table.words →
+      ((p : ℕ) → is_noted table p ≡ true → is_noted next p ≡ true) → GathersNode graph k at (slice_index own.before block) (slice_index own.behind block) table next → IsGatheredTo graph ends all block at (k + 1) first next
+  gathered-more at k own first table next inside there is len noted goes =
+      let same : ends_or_all ends all k ≡ own = at-get ends all k own there in
+      record {
+        within = omega arith;
+        counted = len ∙ is.counted;
+        noted = λ p set. noted p (is.noted p set);
+        gathered = goes (left_before ends all block) (left_behind ends all block) (ap (λ e. slice_index e.before block) same) (ap (λ e. slice_index e.behind block) same) is.gathered;
+      }
+    where
+      at-get : (ends : List ChunkEnds) (all : ChunkEnds) (k : ℕ) (own : ChunkEnds) → slice_get ends k ≡ Some own → slice_index_or ends k all ≡ own
+      at-get [] all k own there = absurd (cc)
+      at-get (x ∷ ends) all zero own there = same_Some x own there
+      at-get (x ∷ ends) all (suc k) own there = at-get ends all k own there
+
+  pub gathered-all : (at n : ℕ) (first table next : EndTable) → n ≡ length graph.table.nodes.items → IsGatheredTo graph ends all block at (length graph.table.nodes.items) first table → GathersNode graph n at (slice_index all.before block) (slice_index all.behind block) table next →
+      AreEndsBelow graph.terminals.items (left_before ends all block) (left_behind ends all block) at (length graph.table.nodes.items + 1) next
+  gathered-all at n first table next last is goes =
+      let same : ends_or_all ends all n ≡ all = ends-past ends all n (omega (arith, count)) in
+      subst (λ m. AreEndsBelow graph.terminals.items (left_before ends all block) (left_behind ends all block) at (m + 1) next) last
+      (goes (left_before ends all block) (left_behind ends all block) (ap (λ e. slice_index e.before block) same) (ap (λ e. slice_index e.behind block) same)
+      (subst (λ m. AreEndsBelow graph.terminals.items (left_before ends all block) (left_behind ends all block) at m table) (sym last) is.gathered))

@@ -1,5 +1,0 @@
-use Rattle.hs_scan.proofs.gathering.gather_all.Given as goal
-use Rattle.hs_scan.proofs.BlockLemmas.{IsGatheredTo}
-
-abbrev pub invariant-loop-k : goal.invariant-loop-k
-invariant-loop-k g l = IsGatheredTo l.graph l.ends l.all 0 l.at l.k l.fn.table l.table

@@ -1,9 +1,0 @@
-use Rattle.std.proofs.Common.{◌-◌, length}
-use Rattle.hs_scan.proofs.gathering.gather_block.Given as goal
-use Rattle.hs_scan.proofs.BlockLemmas.{IsGatheredTo}
-
-abbrev pub invariant-loop-k : goal.invariant-loop-k
-invariant-loop-k g l = IsGatheredTo l.graph l.ends l.all l.block l.at l.from l.fn.table l.table
-
-abbrev pub decreases-loop-k : goal.decreases-loop-k
-decreases-loop-k g l = length l.graph.table.nodes.items - l.from

@@ -1,5 +1,0 @@
-use Rattle.hs_scan.proofs.ExactLemmas.{regions-exact}
-use Rattle.hs_scan.proofs.laws.graph_regions_are_well_formed.Goals as goal
-
-pub returns : goal.returns
-returns g c = regions-exact g.E.Engine.meaning
