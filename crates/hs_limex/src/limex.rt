@@ -12,9 +12,9 @@ use std::sync::ledger::Ledger;
 
 /// Runs a position automaton by words of bits. It keeps a bit for each position: whether it is reached.
 ///
-/// Of at most 64 positions, where no context matters, a step is one word, and the engine takes 104 bytes and less than 80
-/// bytes a position. Of more positions, or where a context matters, it takes some 4 KB for each 64 positions and the rows
-/// of what follows.
+/// Of at most 64 positions, where no context matters, a step is one word, and the engine takes 104 bytes and less than
+/// 80 bytes a position. Of more positions, or where a context matters, it takes some 4 KB for each 64 positions and the
+/// rows of what follows.
 #[derive(Debug, Drop)]
 pub struct Limex {
     body: Body,

@@ -1,13 +1,10 @@
 //! One word of bits: made bit by bit, moved on, read from a region and written to one.
 
-ghost use Rattle.std.specs.Prelude.{◌≡◌, ◌↔◌, ℕ, ◌*◌, ◌/◌, ◌<◌, ◌≤◌, true, false, ◌==◌, ◌&&◌, ◌||◌, nat_lt, length, IsTrue};
+ghost use Rattle.std.specs.Prelude.{◌≡◌, ◌↔◌, ℕ, ◌*◌, ◌/◌, ◌<◌, ◌≤◌, ◌==◌, ◌&&◌, ◌||◌, nat_lt, length, IsTrue};
 ghost use Rattle.hs_base.specs.Bits.{AreZero, has_bit};
 ghost use Rattle.hs_limex.specs.SingleWords.{is_moved_on, is_set};
 
 use hs_bits::{BYTE_BITS, store, word_at};
-
-/// The bits of the first byte of a word.
-const LOW_BYTE: u64 = 0xff;
 
 /// The word with that bit set too, if it is wanted.
 pub(crate) fn with_bit_if(word: u64, bit: usize, wanted: bool) -> u64
@@ -90,7 +87,7 @@ pub(crate) fn store_word(word: u64, bytes: &mut [u8])
     ensures bits { (k : ℕ) → has_bit bytes.new k ≡ (nat_lt k (8 * length bytes.old) && is_set word k) }
 {
     match bytes.len() {
-        1 => bytes[0] = (word & LOW_BYTE) as u8,
+        1 => bytes[0] = (word & 0xff) as u8,
         8 => bytes.copy_from_slice(&word.to_le_bytes()),
         _ => store(&[word], bytes),
     }

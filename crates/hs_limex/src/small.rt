@@ -1,7 +1,7 @@
 //! The tables of at most 64 positions that say the same in every context, and the step by one word.
 
-ghost use Rattle.std.specs.Prelude.{◌≡◌, ℕ, ◌+◌, ◌*◌, ◌<◌, ◌≤◌, true, false, ◌&&◌, IfOk, IfSome, IsTrue, nat_lt, length, vec_len};
-ghost use Rattle.std.specs.Prelude.{slice_get, slice_index};
+ghost use Rattle.std.specs.Prelude.{◌≡◌, ℕ, ◌+◌, ◌*◌, ◌<◌, ◌≤◌, true, false, ◌&&◌, IfOk, IfSome, IsTrue, nat_lt};
+ghost use Rattle.std.specs.Prelude.{length, slice_get, slice_index, vec_len};
 ghost use Rattle.hs_limex.specs.SingleWords.{follow_bit, is_set};
 
 use crate::first_bytes::first_bytes;
