@@ -75,16 +75,12 @@ fn sets_of(alloc: Global, size: usize, step: usize) -> Result<Vec<ByteSet>, Allo
     Ok(sets)
 }
 
-/// A mask for each position, from that number on; at even steps each has all contexts or none.
-fn masks_of(alloc: Global, size: usize, first: usize, step: usize) -> Result<Vec<Mask>, Fail> {
+/// A mask for each position, from that number on; plain ones have all contexts or none.
+fn masks_of(alloc: Global, size: usize, first: usize, plain: bool) -> Result<Vec<Mask>, Fail> {
     let mut masks = Vec::new(alloc);
     for position in 0..size {
-        let number = first.wrapping_add(position.wrapping_mul(3));
-        masks.push(mask_of(if step % 2 == 0 {
-            7 + number / 3 % 3
-        } else {
-            number
-        }))?;
+        let number = first.wrapping_add(position.wrapping_mul(7));
+        masks.push(mask_of(if plain { 7 + number % 3 } else { number }))?;
     }
     Ok(masks)
 }
@@ -109,19 +105,17 @@ fn automaton_of(
 fn automaton(alloc: Global, size: usize, step: usize, by_context: bool) -> Result<Automaton, Fail> {
     let follows = follows(alloc, size, step, by_context)?;
     let sets = sets_of(alloc, size, step)?;
-    let (enters, accepts) = (
-        masks_of(alloc, size, 1, step)?,
-        masks_of(alloc, size, step, step)?,
-    );
+    let plain = step % 2 == 0;
+    let enters = masks_of(alloc, size, 1, plain)?;
+    let accepts = masks_of(alloc, size, step, plain)?;
     let automaton = automaton_of(sets, enters, accepts, follows, by_context);
     Ok(automaton.ok_or("parts of other sizes")?)
 }
 
 /// How many positions, and how far on a position is followed, which is even where masks have all contexts or none.
-const AUTOMATA: [(usize, usize); 14] = [
+const AUTOMATA: [(usize, usize); 12] = [
     (0, 1),
     (1, 2),
-    (7, 2),
     (8, 6),
     (9, 8),
     (63, 2),
@@ -130,7 +124,6 @@ const AUTOMATA: [(usize, usize); 14] = [
     (65, 6),
     (65, 63),
     (128, 8),
-    (300, 4),
     (512, 7),
     (512, 200),
 ];
