@@ -76,16 +76,11 @@ fn sets_of(alloc: Global, size: usize, step: usize) -> Result<Vec<ByteSet>, Allo
 }
 
 /// A mask for each position, from that number on; plain ones have all contexts or none.
-fn masks_of(
-    alloc: Global,
-    size: usize,
-    first: usize,
-    plain: bool,
-) -> Result<Vec<Mask>, AllocError> {
+fn masks_of(alloc: Global, size: usize, first: usize, plain: bool) -> Result<Vec<Mask>, Fail> {
     let mut masks = Vec::new(alloc);
     for position in 0..size {
-        let number = first.wrapping_add(position.wrapping_mul(3));
-        masks.push(mask_of(if plain { 7 + number / 3 % 3 } else { number }))?;
+        let number = first.wrapping_add(position.wrapping_mul(7));
+        masks.push(mask_of(if plain { 7 + number % 3 } else { number }))?;
     }
     Ok(masks)
 }
@@ -107,36 +102,28 @@ fn automaton_of(
 }
 
 /// An automaton of so many positions, at most 512.
-fn automaton(
-    alloc: Global,
-    size: usize,
-    step: usize,
-    by_context: bool,
-    plain: bool,
-) -> Result<Automaton, Fail> {
+fn automaton(alloc: Global, size: usize, step: usize, by_context: bool) -> Result<Automaton, Fail> {
     let follows = follows(alloc, size, step, by_context)?;
     let sets = sets_of(alloc, size, step)?;
+    let plain = step % 2 == 0;
     let enters = masks_of(alloc, size, 1, plain)?;
     let accepts = masks_of(alloc, size, step, plain)?;
     let automaton = automaton_of(sets, enters, accepts, follows, by_context);
     Ok(automaton.ok_or("parts of other sizes")?)
 }
 
-/// How many positions, and how far on a position is followed.
-const AUTOMATA: [(usize, usize); 15] = [
+/// How many positions, and how far on a position is followed, which is even where masks have all contexts or none.
+const AUTOMATA: [(usize, usize); 12] = [
     (0, 1),
-    (1, 1),
-    (7, 2),
-    (8, 7),
+    (1, 2),
+    (8, 6),
     (9, 8),
-    (63, 1),
-    (33, 20),
+    (63, 2),
     (64, 7),
     (64, 40),
     (65, 6),
     (65, 63),
     (128, 8),
-    (300, 4),
     (512, 7),
     (512, 200),
 ];
@@ -187,18 +174,12 @@ fn judge_automaton(alloc: Global, automaton: &Automaton) -> Verdict {
     Ok(())
 }
 
-/// Compares the engines of an automaton in which no context matters, and where masks and rows go by it.
-fn judge_size(alloc: Global, size: usize, step: usize) -> Verdict {
-    for (by_context, plain) in [(false, true), (false, false), (true, false)] {
-        judge_automaton(alloc, &automaton(alloc, size, step, by_context, plain)?)?;
-    }
-    Ok(())
-}
-
-/// Compares the engines of each automaton.
+/// Compares the engines of each automaton, whose rows go by the context and don't.
 pub(crate) fn judge_automata(alloc: Global) -> Verdict {
     for (size, step) in AUTOMATA {
-        judge_size(alloc, size, step)?;
+        for by_context in [false, true] {
+            judge_automaton(alloc, &automaton(alloc, size, step, by_context)?)?;
+        }
     }
     Ok(())
 }

@@ -1,19 +1,20 @@
 -- Bits of one word.
-use Rattle.std.proofs.Common.{◌≡◌, ◌≢◌, ℕ, zero, suc, ◌+◌, ◌-◌, ◌*◌, ◌/◌, ◌%◌, ◌^◌, ◌<◌, ◌≤◌, Bool, true, false, ◌&&◌, ◌||◌, List, [], ◌∷◌, length, get_or, eqb, bit_and, bit_or, refl, sym, ap, subst, ◌∙◌, inl, inr, arith, w64}
+use Rattle.std.proofs.Common.{◌≡◌, ◌≢◌, ℕ, ◌+◌, ◌-◌, ◌*◌, ◌/◌, ◌%◌, ◌^◌, ◌<◌, ◌≤◌, Bool, true, false, ◌&&◌, ◌||◌, List, length, get_or, set, eqb, bit_and, bit_or, refl, sym, ap, ◌∙◌, inl, inr, arith, w64}
 use Rattle.std.specs.Prelude.{nat_lt, nat_le}
-use Rattle.std.specs.Int.{bit_at}
+use Rattle.std.specs.Int.{bit_at, from_le_bytes, to_le_bytes}
 use Rattle.std.specs.Int.Count.{count_trailing_zeros}
-use Rattle.std.proofs.lemmas.Bool.{cases_lt, cases_eq, eq-eqb, ne_eqb, eqb-true, lt-ltb, ltb-true, le-ltb, le-leb, lt-leb, leb-true}
-use Rattle.std.proofs.lemmas.Nat.{shr-shr}
-use Rattle.std.proofs.lemmas.Nat.Bits.{bit_at-zero, bit_at_above, bit_at_set_same, bit_at_set_other}
-use Rattle.hs_base.specs.Bits.{has_bit, has_word_bit}
-use Rattle.hs_base.proofs.BitLemmas.{bits-past}
+use Rattle.std.proofs.lemmas.Bool.{cases_lt, cases_eq, eq-eqb, ne_eqb, eqb-true, eqb-false, lt-ltb, le-ltb, le-leb, lt-leb, leb-true}
+use Rattle.std.proofs.lemmas.Nat.{from_le_bytes-to_le_bytes_8, shr-shr}
+use Rattle.std.proofs.lemmas.List.{get_or-set_same, length-set, take_all}
+use Rattle.std.proofs.lemmas.Nat.Bits.{bit_at-lt, bit_at-zero, bit_at_above, bit_at_set_same, bit_at_set_other, same_from_bits, same_from_bits_below}
+use Rattle.hs_base.specs.Bits.{AreZero, has_bit, has_word_bit}
+use Rattle.hs_base.proofs.BitLemmas.{bits-past, zero-bits}
 use Rattle.hs_base.proofs.ByteSetLemmas.{bit-or}
 use Rattle.hs_base.proofs.ContextLemmas.{first_of_both, second_of_both, of_both, of_either, left_of_either, right_of_either}
-use Rattle.hs_base.proofs.ContextSetLemmas.{bit-and}
+use Rattle.hs_base.proofs.ContextSetLemmas.{bit-all, bit-and}
 use Rattle.hs_bits.specs.LowestBits.{IsLowestBit, AreBitsBehind}
 use Rattle.hs_bits.proofs.LowestLemmas.{lowest-is}
-use Rattle.hs_bits.proofs.WordLemmas.{and-none, byte-more, bytes-all, or-none, or-turned, shl-bit}
+use Rattle.hs_bits.proofs.WordLemmas.{and-none, and-true, eight-bits, eight-taken, eight_at, byte-more, bytes-all, or-none, or-turned, shl-bit}
 use Rattle.hs_limex.proofs.PlainLemmas.{not-true, true-false}
 use Rattle.hs_limex.specs.SingleWords.{IsLedBut, IsNearLed, IsOn, is_moved_on, is_set}
 
@@ -203,3 +204,55 @@ row-bit word start all size k all_is =
     and-turned true false = refl
     and-turned false true = refl
     and-turned false false = refl
+
+-- bytes are zero exactly where their word is
+pub clear-word : (bytes : List ℕ) (word : ℕ) → word < 2 ^ 64 → ((i : ℕ) → get_or bytes i 0 < 2 ^ 8) → ((k : ℕ) → is_set word k ≡ has_bit bytes k) → AreZero bytes → word ≡ 0
+clear-word bytes word fits each bits zeros =
+    same_from_bits word 0 (λ k.
+    let none : is_set word k ≡ false = bits k ∙ zero-bits bytes zeros k in
+    omega (arith, bit_at-lt word k, bit_at-zero k, eqb-false (bit_at word k) 1 none))
+
+pub word-clear : (bytes : List ℕ) (word : ℕ) → ((i : ℕ) → get_or bytes i 0 < 2 ^ 8) → ((k : ℕ) → is_set word k ≡ has_bit bytes k) → word ≡ 0 → AreZero bytes
+unfolding has_bit
+word-clear bytes word each bits none i below =
+    same_from_bits_below 8 (get_or bytes i 0) 0 (each i) (omega arith) (λ b small.
+    let byte : (8 * i + b) / 8 ≡ i = omega arith in
+    let bit : (8 * i + b) % 8 ≡ b = omega arith in
+    let unset : eqb (bit_at (get_or bytes i 0) b) 1 ≡ false =
+    sym (ap (λ n. eqb (bit_at (get_or bytes n 0) ((8 * i + b) % 8)) 1) byte ∙ ap (λ n. eqb (bit_at (get_or bytes i 0) n) 1) bit)
+    ∙ (sym (bits (8 * i + b)) ∙ (ap (λ w. is_set w (8 * i + b)) none ∙ no-bit (8 * i + b))) in
+    omega (arith, bit_at-lt (get_or bytes i 0) b, bit_at-zero b, eqb-false (bit_at (get_or bytes i 0) b) 1 unset))
+
+-- eight bytes that are those of the word have its bits
+pub eight-stored : (bytes : List ℕ) (word count k : ℕ) → word < 2 ^ 64 → bytes ≡ to_le_bytes w64 word → count ≡ 8 → length bytes ≡ 8 → ((i : ℕ) → get_or bytes i 0 < 2 ^ 8) →
+    has_bit bytes k ≡ (nat_lt k (8 * count) && is_set word k)
+eight-stored bytes word count k fits are counted len each =
+    elim (cases_lt k 64) [
+      | inl below ↦
+          let room : 0 + 8 ≤ length bytes = omega arith in
+          let inside : k < 8 * count = omega arith in
+          let place : 8 * 0 + k ≡ k = omega arith in
+          let whole : eight_at bytes 0 ≡ bytes = eight-taken bytes 0 room ∙ take_all 8 bytes (omega arith) in
+          let value : from_le_bytes w64 (eight_at bytes 0) ≡ word = ap (from_le_bytes w64) whole ∙ (ap (from_le_bytes w64) are ∙ from_le_bytes-to_le_bytes_8 word fits) in
+          sym (eight-bits bytes 0 k room each below ∙ ap (has_bit bytes) place) ∙ (ap (λ w. is_set w k) value ∙ sym (ap (λ b. b && is_set word k) (lt-ltb k (8 * count) inside)))
+      | inr past ↦ bits-past bytes k (omega arith) ∙ sym (ap (λ b. b && is_set word k) (le-ltb k (8 * count) (omega arith)))
+    ]
+
+-- the one byte that is the low one of the word has its bits
+pub one-stored : (bytes : List ℕ) (word k : ℕ) → length bytes ≡ 1 → has_bit (set bytes 0 (bit_and word 255)) k ≡ (nat_lt k (8 * length bytes) && is_set word k)
+unfolding has_bit
+one-stored bytes word k len =
+    let within : 0 < length bytes = omega arith in
+    elim (cases_lt k 8) [
+      | inl below ↦
+          let inside : k < 8 * length bytes = omega arith in
+          let byte : k / 8 ≡ 0 = omega arith in
+          let bit : k % 8 ≡ k = omega arith in
+          ap (λ n. eqb (bit_at (get_or (set bytes 0 (bit_and word 255)) n 0) (k % 8)) 1) byte
+          ∙ (ap (λ n. eqb (bit_at n (k % 8)) 1) (get_or-set_same bytes 0 (bit_and word 255) 0 within)
+          ∙ (ap (is_set (bit_and word 255)) bit
+          ∙ (bit-and word 255 k ∙ (ap (λ b. is_set word k && b) (bit-all 8 k below) ∙ (and-true (is_set word k) ∙ sym (ap (λ b. b && is_set word k) (lt-ltb k (8 * length bytes) inside)))))))
+      | inr past ↦
+          bits-past (set bytes 0 (bit_and word 255)) k (omega (arith, length-set bytes 0 (bit_and word 255)))
+          ∙ sym (ap (λ b. b && is_set word k) (le-ltb k (8 * length bytes) (omega arith)))
+    ]

@@ -1,25 +1,19 @@
 -- The tables of single words, read and made.
-use Rattle.std.proofs.Common.{◌≡◌, ◌≢◌, ℕ, ◌+◌, ◌-◌, ◌*◌, ◌/◌, ◌%◌, ◌^◌, ◌<◌, ◌≤◌, Bool, true, false, ◌&&◌, List, length, get_or, slice_get, bit_or, refl, sym, ap, subst, ◌∙◌, inl, inr, arith, vec_len}
-use Rattle.std.specs.Prelude.{nat_lt}
-use Rattle.std.specs.Int.{bit_at}
+use Rattle.std.proofs.Common.{◌≡◌, ℕ, ◌+◌, ◌-◌, ◌*◌, ◌/◌, ◌%◌, ◌<◌, ◌≤◌, Bool, true, false, ◌&&◌, List, length, get_or, bit_or, refl, sym, ap, ◌∙◌, inl, inr, arith, vec_len}
 use Rattle.std.proofs.Math.Nat.{mul-le-mul_left}
-use Rattle.std.proofs.lemmas.Bool.{cases_lt, lt-ltb, le-ltb, ltb-true}
+use Rattle.std.proofs.lemmas.Bool.{cases_lt, lt-ltb, le-ltb}
 use Rattle.std.proofs.lemmas.Nat.{div-mul-add, mod-mul-add}
-use Rattle.std.proofs.lemmas.Option.{slice_get_past}
-use Rattle.hs_base.specs.Bits.{has_bit}
 use Rattle.hs_base.specs.Contexts.{Context}
-use Rattle.hs_base.proofs.BitLemmas.{bits-past}
 use Rattle.hs_base.proofs.ByteSetLemmas.{bit-or}
 use Rattle.hs_base.proofs.ContextLemmas.{of_either, left_of_either, right_of_either}
 use Rattle.hs_engine.specs.declared.automaton.Automaton.{Automaton}
-use Rattle.hs_engine.specs.declared.follow_rows.FollowRows.{FollowRows}
-use Rattle.hs_engine.specs.Automata.{in_set, takes, follows}
-use Rattle.hs_engine.specs.RowSizes.{row_len, square_count}
-use Rattle.hs_engine.specs.Rows.{in_row, in_square, square_number}
+use Rattle.hs_engine.specs.Automata.{takes, follows}
+use Rattle.hs_engine.specs.RowSizes.{square_count}
+use Rattle.hs_engine.specs.Rows.{in_square, square_number}
 use Rattle.hs_limex.specs.SingleWords.{IsLedBut, IsOn, follow_bit, is_set, reach_bit}
-use Rattle.hs_limex.specs.SmallWords.{AreWordsOf, IsWordOf, one_context}
+use Rattle.hs_limex.specs.SmallWords.{AreWordsOf, one_context}
 use Rattle.hs_limex.proofs.NumberLemmas.{in_row-past}
-use Rattle.hs_limex.proofs.PlainLemmas.{not-true, true-false}
+use Rattle.hs_limex.proofs.PlainLemmas.{not-true}
 use Rattle.hs_limex.proofs.StepLemmas.{takes-below}
 use Rattle.hs_limex.proofs.SingleLemmas.{no-bit}
 use Rattle.hs_limex.specs.Fitting.{IsLed, led_in, led_on}

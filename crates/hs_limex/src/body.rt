@@ -1,7 +1,8 @@
 //! The two bodies of the engine `Limex`.
 
-ghost use Rattle.std.specs.Prelude.{◌≡◌, ℕ, ◌+◌, ◌*◌, ◌/◌, ◌<◌, ◌≤◌, true, IfOk, length};
-ghost use Rattle.hs_base.specs.Bits.{has_bit};
+ghost use Rattle.std.specs.Prelude.{◌≡◌, ℕ, ◌+◌, ◌*◌, ◌/◌, ◌<◌, ◌≤◌, true, false, ◌&&◌, IfOk, IsTrue, length};
+ghost use Rattle.hs_base.specs.Bits.{AreZero, has_bit};
+ghost use Rattle.hs_base.specs.ByteSets.{has};
 
 use crate::small::Small;
 use crate::tables::Tables;
@@ -70,6 +71,20 @@ impl Body {
         match self {
             Body::Small(small) => small.first(),
             Body::Wide(tables) => tables.first(),
+        }
+    }
+
+    /// Whether the region is at rest and stays so over the byte.
+    #[inline]
+    pub(crate) fn stays_at_rest(&self, region: &[u8], entering: bool, byte: u8) -> bool
+        requires { length region.now ≡ row_len (moves_of_body self.now).size }
+        ensures zero { IsTrue result → AreZero region.now }
+        ensures outside { IsTrue result → (entering && has (moves_of_body self.now).first byte) ≡ false }
+        ensures unentered { AreZero region.now → entering ≡ false → IsTrue result }
+    {
+        match self {
+            Body::Small(small) => small.stays_at_rest(region, entering, byte),
+            Body::Wide(tables) => tables.stays_at_rest(region, entering, byte),
         }
     }
 

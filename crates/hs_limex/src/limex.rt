@@ -1,8 +1,6 @@
 //! The engine that moves 64 positions at a time.
 
-ghost use Rattle.std.specs.Prelude.{◌≡◌, ◌↔◌, ℕ, ◌+◌, ◌/◌, ◌≤◌, true, false, ◌&&◌, IsTrue, IfOk, length};
-ghost use Rattle.hs_base.specs.ByteSets.{has};
-ghost use Rattle.hs_base.specs.Bits.{AreZero};
+ghost use Rattle.std.specs.Prelude.{◌≤◌, IfOk};
 
 use crate::body::Body;
 use crate::plain::is_clear_from;
@@ -14,9 +12,9 @@ use std::sync::ledger::Ledger;
 
 /// Runs a position automaton by words of bits. It keeps a bit for each position: whether it is reached.
 ///
-/// Of at most 64 positions, where no context matters, a step is one word, and the tables take some hundred bytes and at
-/// most 80 bytes a position. Of more positions, or where a context matters, they take some 5 KB for each 64 positions
-/// and the rows of what follows.
+/// Of at most 64 positions, where no context matters, a step is one word, and the engine takes 104 bytes and less than
+/// 80 bytes a position. Of more positions, or where a context matters, it takes some 4 KB for each 64 positions and the
+/// rows of what follows.
 #[derive(Debug, Drop)]
 pub struct Limex {
     body: Body,
@@ -38,15 +36,6 @@ impl Limex {
         Ok(Limex {
             body: Body::build(alloc, automaton)?,
         })
-    }
-
-    /// Whether the region is at rest and stays so over the byte.
-    fn stays_at_rest(&self, region: &[u8], entering: bool, byte: u8) -> bool
-        ensures zero { IsTrue result → AreZero region.now }
-        ensures outside { IsTrue result → (entering && has (moves_of_limex self.now).first byte) ≡ false }
-        ensures unentered { AreZero region.now → entering ≡ false → IsTrue result }
-    {
-        !(entering && self.body.first().contains(byte)) && is_zero(region)
     }
 }
 
@@ -75,7 +64,7 @@ impl Engine for Limex {
         steps.tick();
         let next = Next::class_of(byte);
         let entering = enter.contains(next);
-        if self.stays_at_rest(region, entering, byte) {
+        if self.body.stays_at_rest(region, entering, byte) {
             return;
         }
         self.body.move_over(region, prev, next, entering, byte);

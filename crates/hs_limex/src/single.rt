@@ -1,7 +1,7 @@
 //! One word of bits: made bit by bit, moved on, read from a region and written to one.
 
-ghost use Rattle.std.specs.Prelude.{◌≡◌, ℕ, ◌*◌, ◌/◌, ◌<◌, ◌≤◌, true, false, ◌==◌, ◌&&◌, ◌||◌, nat_lt, length};
-ghost use Rattle.hs_base.specs.Bits.{has_bit};
+ghost use Rattle.std.specs.Prelude.{◌≡◌, ◌↔◌, ℕ, ◌*◌, ◌/◌, ◌<◌, ◌≤◌, ◌==◌, ◌&&◌, ◌||◌, nat_lt, length, IsTrue};
+ghost use Rattle.hs_base.specs.Bits.{AreZero, has_bit};
 ghost use Rattle.hs_limex.specs.SingleWords.{is_moved_on, is_set};
 
 use hs_bits::{BYTE_BITS, store, word_at};
@@ -48,6 +48,15 @@ pub(crate) fn load(bytes: &[u8]) -> u64
     }
 }
 
+/// Whether no bit of at most eight bytes is set.
+#[inline(always)]
+pub(crate) fn is_clear(bytes: &[u8]) -> bool
+    requires { length bytes.now ≤ 8 }
+    ensures { IsTrue result ↔ AreZero bytes.now }
+{
+    load(bytes) == 0
+}
+
 /// The bits of at most eight bytes, one by one.
 fn load_bytes(bytes: &[u8]) -> u64
     requires { length bytes.now ≤ 8 }
@@ -77,5 +86,9 @@ pub(crate) fn store_word(word: u64, bytes: &mut [u8])
     ensures len { length bytes.new ≡ length bytes.old }
     ensures bits { (k : ℕ) → has_bit bytes.new k ≡ (nat_lt k (8 * length bytes.old) && is_set word k) }
 {
-    store(&[word], bytes);
+    match bytes.len() {
+        1 => bytes[0] = (word & 0xff) as u8,
+        8 => bytes.copy_from_slice(&word.to_le_bytes()),
+        _ => store(&[word], bytes),
+    }
 }

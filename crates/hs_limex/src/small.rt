@@ -1,11 +1,11 @@
 //! The tables of at most 64 positions that say the same in every context, and the step by one word.
 
-ghost use Rattle.std.specs.Prelude.{◌≡◌, ℕ, ◌+◌, ◌*◌, ◌<◌, ◌≤◌, true, false, IfOk, IfSome, nat_lt, length, vec_len};
-ghost use Rattle.std.specs.Prelude.{slice_get, slice_index};
+ghost use Rattle.std.specs.Prelude.{◌≡◌, ℕ, ◌+◌, ◌*◌, ◌<◌, ◌≤◌, true, false, ◌&&◌, IfOk, IfSome, IsTrue, nat_lt};
+ghost use Rattle.std.specs.Prelude.{length, slice_get, slice_index, vec_len};
 ghost use Rattle.hs_limex.specs.SingleWords.{follow_bit, is_set};
 
 use crate::first_bytes::first_bytes;
-use crate::single::{first_bits, load, moved_on, store_word};
+use crate::single::{first_bits, is_clear, load, moved_on, store_word};
 use crate::small_filling::{REACH_WORDS, common_word, far_word, pitch_for, span_for, words_of};
 use hs_base::{ByteSet, NextSet};
 use hs_bits::{BYTE_BITS, WORD_BITS, lowest_bit, without_lowest_bit};
@@ -13,8 +13,8 @@ use hs_engine::Automaton;
 use std::alloc::{AllocError, Global};
 
 /// The tables of an automaton of at most 64 positions in which no context matters, as words with a bit for each
-/// position. Behind some hundred bytes of its own it takes up to 64 bytes a position for the rows by bytes, and 8 bytes
-/// for each distance that is used and for each position.
+/// position. To 96 bytes of its own come less than 64 bytes a position for the rows by bytes, 8 bytes for each distance
+/// that is used, and 8 bytes a position for what follows it.
 #[derive(Debug, Drop)]
 pub(crate) struct Small {
     /// First for each byte a row of `pitch` bits: the positions whose set has it. Then for each distance the positions
@@ -52,7 +52,8 @@ pub(crate) struct Small {
 }
 
 impl Small {
-    ghost use Rattle.hs_base.specs.Bits.{has_bit};
+    ghost use Rattle.hs_base.specs.Bits.{AreZero, has_bit};
+    ghost use Rattle.hs_base.specs.ByteSets.{has};
     ghost use Rattle.hs_base.specs.Contexts.{Context};
     ghost use Rattle.hs_base.specs.ContextSets.{has_next};
     ghost use Rattle.hs_base.specs.declared.context.Next.{Next};
@@ -123,6 +124,17 @@ impl Small {
         ensures { result.now ≡ self.now.first }
     {
         &self.first
+    }
+
+    /// Whether the region is at rest and stays so over the byte.
+    #[inline(always)]
+    pub(crate) fn stays_at_rest(&self, region: &[u8], entering: bool, byte: u8) -> bool
+        requires { length region.now ≡ row_len self.now.size }
+        ensures zero { IsTrue result → AreZero region.now }
+        ensures outside { IsTrue result → (entering && has self.now.first byte) ≡ false }
+        ensures unentered { AreZero region.now → entering ≡ false → IsTrue result }
+    {
+        is_clear(region) && !(entering && self.first.contains(byte))
     }
 
     /// Moves the region over the byte, before which the expression is entered or not.

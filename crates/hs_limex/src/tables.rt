@@ -15,7 +15,9 @@ use crate::first_bytes::first_bytes;
 use crate::leading::{lead_far, lead_near, span_of};
 use crate::word_rows::WordRows;
 use hs_base::{ByteSet, MAX_POSITIONS, Next, NextSet, Prev};
-use hs_bits::{WORD_BITS, are_apart, keep_words, store, unite_bytes, unite_words, word_count_for};
+use hs_bits::{
+    WORD_BITS, are_apart, is_zero, keep_words, store, unite_bytes, unite_words, word_count_for,
+};
 use hs_engine::{Automaton, FollowRows};
 use std::alloc::{AllocError, Global};
 
@@ -68,7 +70,8 @@ pub(crate) struct Tables {
 }
 
 impl Tables {
-    ghost use Rattle.hs_base.specs.Bits.{has_bit};
+    ghost use Rattle.hs_base.specs.Bits.{AreZero, has_bit};
+    ghost use Rattle.hs_base.specs.ByteSets.{has};
     ghost use Rattle.hs_engine.specs.RowSizes.{row_len};
     ghost use Rattle.hs_base.specs.Bits.{has_word_bit};
     ghost use Rattle.hs_base.specs.ContextSets.{has_next};
@@ -112,6 +115,15 @@ impl Tables {
         ensures { result.now ≡ self.now.first }
     {
         &self.first
+    }
+
+    /// Whether the region is at rest and stays so over the byte.
+    pub(crate) fn stays_at_rest(&self, region: &[u8], entering: bool, byte: u8) -> bool
+        ensures zero { IsTrue result → AreZero region.now }
+        ensures outside { IsTrue result → (entering && has self.now.first byte) ≡ false }
+        ensures unentered { AreZero region.now → entering ≡ false → IsTrue result }
+    {
+        !(entering && self.first.contains(byte)) && is_zero(region)
     }
 
     /// Moves the region over the byte, before which the expression is entered or not.

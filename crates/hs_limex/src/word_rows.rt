@@ -73,12 +73,4 @@ impl WordRows {
         let start = self.width * number;
         &self.words[start..start + self.width]
     }
-
-    /// How many words a row has.
-    pub(crate) fn width(&self) -> usize
-        ensures width { result ≡ self.now.width }
-        ensures narrow { result ≤ 8 }
-    {
-        self.width
-    }
 }

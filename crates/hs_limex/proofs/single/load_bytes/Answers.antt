@@ -1,4 +1,4 @@
-use Rattle.std.proofs.Common.{◌≡◌, ◌*◌, ◌+◌, ◌&&◌, ◌||◌, nat_lt, false, length, sym, ap, ◌∙◌, arith}
+use Rattle.std.proofs.Common.{◌≡◌, ◌*◌, ◌+◌, ◌&&◌, nat_lt, false, length, sym, ap, ◌∙◌, arith}
 use Rattle.hs_base.specs.Bits.{has_bit}
 use Rattle.hs_bits.proofs.WordLemmas.{byte-more, bytes-all, or-none}
 use Rattle.hs_limex.specs.SingleWords.{is_set}

@@ -1,6 +1,5 @@
-use Rattle.std.proofs.Common.{◌≡◌, ◌&&◌, Some, slice_get, sym, ap, ◌∙◌, arith}
+use Rattle.std.proofs.Common.{slice_get, sym, ap, ◌∙◌, arith}
 use Rattle.std.proofs.lemmas.Option.{slice_get_past}
-use Rattle.hs_base.specs.Contexts.{Context}
 use Rattle.hs_engine.specs.Automata.{in_mask}
 use Rattle.hs_bits.proofs.WordLemmas.{all-under, number-more_alone}
 use Rattle.hs_limex.specs.SingleWords.{is_set}

@@ -1,4 +1,4 @@
-use Rattle.std.proofs.Common.{◌+◌, ap, ◌∙◌, arith}
+use Rattle.std.proofs.Common.{◌+◌, ◌∙◌, arith}
 use Rattle.hs_engine.specs.Rows.{in_row}
 use Rattle.hs_bits.proofs.WordLemmas.{all-under}
 use Rattle.hs_limex.proofs.NumberLemmas.{in_row-past}

@@ -1,9 +1,8 @@
-use Rattle.std.proofs.Common.{◌≡◌, ℕ, ◌*◌, ◌<◌, true, length, List, sym, subst}
+use Rattle.std.proofs.Common.{◌≡◌, ℕ, ◌*◌, ◌<◌, true, length, sym, subst}
 use Rattle.hs_base.specs.Bits.{has_bit}
 use Rattle.hs_engine.specs.Between.{between}
 use Rattle.hs_limex.specs.BodyMoves.{moves_of_body}
 use Rattle.hs_limex.specs.Fitting.{IsLed}
-use Rattle.hs_limex.specs.PositionMoves.{PositionMoves}
 use Rattle.hs_limex.specs.TableMoves.{moves_of_tables}
 use Rattle.hs_limex.specs.declared.body.Body.{Body}
 use Rattle.hs_limex.specs.declared.tables.Tables.{Tables}

@@ -1,6 +1,5 @@
 use Rattle.std.proofs.Common.{◌≡◌, ℕ, ◌<◌, ◌^◌, ◌&&◌, true, bit_and, sym, ap, ◌∙◌, arith}
 use Rattle.std.proofs.lemmas.Nat.{and_le_l}
-use Rattle.hs_base.specs.Bits.{has_bit}
 use Rattle.hs_base.proofs.ContextLemmas.{first_of_both, second_of_both, of_both}
 use Rattle.hs_base.proofs.ContextSetLemmas.{bit-and}
 use Rattle.hs_limex.specs.SingleWords.{is_set}

@@ -1,8 +1,6 @@
-use Rattle.std.proofs.Common.{◌≡◌, ℕ, ◌+◌, ◌<◌, ◌≤◌, true, false, slice_get, vec_len, ap, sym, ◌∙◌, arith}
-use Rattle.hs_engine.specs.Automata.{in_mask, in_set, follows}
+use Rattle.std.proofs.Common.{◌+◌, slice_get, ap, sym, ◌∙◌}
+use Rattle.hs_engine.specs.Automata.{in_mask, in_set}
 use Rattle.hs_engine.specs.Rows.{in_row}
-use Rattle.hs_limex.specs.Near.{IsNearFrom}
-use Rattle.hs_limex.specs.SingleWords.{follow_bit, is_set}
 use Rattle.hs_limex.specs.SmallWords.{one_context}
 use Rattle.hs_limex.proofs.SmallLemmas.{follow-is, near-is, reach-is, rest-is, same-follows}
 use Rattle.hs_limex.proofs.small.Small.make.Goals as goal
