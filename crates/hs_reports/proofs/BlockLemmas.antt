@@ -77,14 +77,11 @@ chunk-passed ids late early at m (suc n) within none = elim (cases_lt n m) [
 
 -- what the words of a block tell are its new reports
 pub block-new : (P : List Pattern) (u bytes ids : List ℕ) (single : ℕ → Bool) (old : ℕ → Kept) (ends : ℕ → ℕ → Ends) (lates earlies : List ℕ) (told : List Pair) → length bytes ≤ 64 →
-    AreChunkOf P u bytes ids single old ends → AreBlockWords bytes ids single old ends lates earlies → IsTold P u told → IsNew P u bytes (chunk_pairs ids (row_bit lates) (row_bit earlies) (length u) 64)
+    AreChunkOf P u bytes ids single old ends → AreBlockWords ids single old ends lates earlies → IsTold P u told → IsNew P u bytes (chunk_pairs ids (row_bit lates) (row_bit earlies) (length u) (length bytes))
 block-new P u bytes ids single old ends lates earlies told few chunk are is =
-    subst (IsNew P u bytes) (sym (short ∙ same)) (chunk-new P u bytes ids single old ends told chunk is)
+    subst (IsNew P u bytes) (sym same) (chunk-new P u bytes ids single old ends told chunk is)
   where
-    short : chunk_pairs ids (row_bit lates) (row_bit earlies) (length u) 64 ≡ chunk_pairs ids (row_bit lates) (row_bit earlies) (length u) (length bytes)
-    short = chunk-passed ids (row_bit lates) (row_bit earlies) (length u) (length bytes) 64 few (λ i k above below inside. are.within k inside i above below)
-
     same : chunk_pairs ids (row_bit lates) (row_bit earlies) (length u) (length bytes) ≡ pairs_of_chunk ids single old ends (length u) (length bytes)
     same =
         chunk-same ids (row_bit lates) (row_bit earlies) (λ k. late_at (single k) (old k) (ends k)) (λ k. early_at (single k) (old k) (ends k)) (length u) (length bytes)
-        (λ k i inside below. ((are.words k inside).late_is i (omega arith), (are.words k inside).early_is i (omega arith)))
+        (λ k i inside below. ((are k inside).late_is i (omega arith), (are k inside).early_is i (omega arith)))

@@ -1,6 +1,7 @@
 pub mod HeardLemmas
 pub mod ChunkLemmas
 pub mod EventLemmas
+pub mod PairsLemmas
 pub mod WordBitLemmas
 pub mod TellingLemmas
 pub mod BlockLemmas

@@ -13,7 +13,7 @@ use Rattle.hs_base.specs.Patterns.{Pattern, is_single}
 use Rattle.hs_base.specs.Reports.{IsReport}
 use Rattle.hs_base.specs.Told.{Pair, IsTold, IsNew}
 use Rattle.hs_base.specs.Settling.{HasEndHere, Kept, Ends, AreRising}
-use Rattle.hs_base.proofs.ListLemmas.{each-member, place-member, member-place}
+use Rattle.hs_base.proofs.ListLemmas.{each-member, each-of_members, place-member, member-place}
 use Rattle.hs_reports.specs.declared.identifier.Identifier.{Identifier}
 use Rattle.hs_reports.specs.Chunks.{kept_behind, AreChunkEnds, AreConcerned, AreChunkOf}
 use Rattle.hs_reports.specs.EndTables.{EndTable, words_of, is_noted, IsQuiet}
@@ -45,6 +45,19 @@ at-number identifiers p id at =
       there,
       same_Some (get_or identifiers p no_identifier).id.0 id (sym (number-at identifiers p (get_or identifiers p no_identifier) there) ∙ at),
     )
+
+-- what is told is of the identifiers, whatever the ends are
+pub settled-named : (identifiers : List Identifier) (last : ℕ) (table table' : EndTable) (told here told' here' : List ℕ) (tellings : TellingTable) (n : ℕ) → IsSettledTo identifiers last table told here table' told' here' tellings n →
+    Each (λ id. IsMember id (numbers_of identifiers)) (id_numbers tellings.ids)
+settled-named identifiers last table table' told here told' here' tellings n is =
+    each-of_members (λ id. IsMember id (numbers_of identifiers)) (id_numbers tellings.ids)
+    (λ id member.
+    let (k, at) = member-place (id_numbers tellings.ids) id member in
+    let below : k < length is.places = omega (arith, slice_get_within (id_numbers tellings.ids) k id at, length-map tellings.ids (λ y. y.0), is.count) in
+    let p : ℕ = get_or is.places k 0 in
+    let s : IsSettledAt identifiers last table told here told' here' tellings k p = is.each k p (slice_get-get_or is.places k 0 below) in
+    let same : s.x.id.0 ≡ id = same_Some s.x.id.0 id (sym (slice_get-map (λ y. y.0) tellings.ids k ∙ ap (option_map (λ y. y.0)) s.named) ∙ at) in
+    subst (λ j. IsMember j (numbers_of identifiers)) same (place-member (numbers_of identifiers) s.x.id.0 p (number-at identifiers p s.x s.there)))
 
 -- what ends has one of the identifiers
 ending-named : (P : List Pattern) (ids : List ℕ) (id : ℕ) (w : List ℕ) (next : Next) → Each (λ x. IsMember x.id ids) P → HasEndHere P id w next → IsMember id ids
@@ -237,19 +250,16 @@ module _ (identifiers : List Identifier) (last : ℕ) (table table' : EndTable) 
   words-at : (k : ℕ) → k < length (id_numbers tellings.ids) → k < length is.places
   words-at k below = omega (arith, length-map tellings.ids (λ y. y.0), is.count)
 
-  words : AreBlockWords bytes (id_numbers tellings.ids) single-at kept-at ends-at tellings.lates tellings.earlies
-  words = record {
-    words = λ k below.
-        let s = is.each k (get_or is.places k 0) (place-at k (words-at k below)) in
-        subst (λ y. AreTellingWords y.single (kept-at k) (ends-at k) (get_or tellings.lates k 0) (get_or tellings.earlies k 0)) (sym (own-identifier k s))
-        (settled-words k (get_or is.places k 0) s);
-    within = λ k below.
-        let s = is.each k (get_or is.places k 0) (place-at k (words-at k below)) in
-        settled-within k (get_or is.places k 0) s;
-  }
+  words : AreBlockWords (id_numbers tellings.ids) single-at kept-at ends-at tellings.lates tellings.earlies
+  words k below =
+      let s = is.each k (get_or is.places k 0) (place-at k (words-at k below)) in
+      subst (λ y. AreTellingWords y.single (kept-at k) (ends-at k) (get_or tellings.lates k 0) (get_or tellings.earlies k 0)) (sym (own-identifier k s))
+      (settled-words k (get_or is.places k 0) s)
 
-  told-behind : (list : List Pair) → IsTold P u list → IsNew P u bytes (pairs_of_tellings tellings (length u))
-  told-behind list told-list = block-new P u bytes (id_numbers tellings.ids) single-at kept-at ends-at tellings.lates tellings.earlies list (omega arith) chunk words told-list
+  told-behind : (list : List Pair) → IsTold P u list → IsNew P u bytes (pairs_of_tellings tellings (length u) (last + 1))
+  told-behind list told-list =
+      subst (λ n. IsNew P u bytes (pairs_of_tellings tellings (length u) n)) count
+      (block-new P u bytes (id_numbers tellings.ids) single-at kept-at ends-at tellings.lates tellings.earlies list (omega arith) chunk words told-list)
 
 pub settles-block : (identifiers : List Identifier) (last : ℕ) (table table' : EndTable) (told here told' here' : List ℕ) (tellings : TellingTable) (n : ℕ) → last < 64 → IsQuiet table → length identifiers ≤ n →
     IsSettledTo identifiers last table told here table' told' here' tellings n → SettlesBlock identifiers (last + 1) table told here told' here' tellings

@@ -6,6 +6,7 @@ pub mod Telling
 pub mod WordLaws
 pub mod Events
 pub mod Identifiers
+pub mod Pairs
 pub mod Terminals
 pub mod TerminalLaws
 pub mod EndTables

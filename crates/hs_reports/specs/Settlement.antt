@@ -55,7 +55,7 @@ SettlesBlock identifiers count table told here told' here' tellings =
     AreKnown P u identifiers told here →
     ArePending here table →
     AreKnown P (u ++ bytes) identifiers told' here'
-    × ((list : List Pair) → IsTold P u list → IsNew P u bytes (pairs_of_tellings tellings (length u)))
+    × ((list : List Pair) → IsTold P u list → IsNew P u bytes (pairs_of_tellings tellings (length u) count))
 
 -- The identifier of that number is settled by a block with that last byte: what it tells is put behind the others, its
 -- bits are new, and it is noted no more unless a pair of it ends behind the block.

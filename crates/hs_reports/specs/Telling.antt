@@ -40,9 +40,8 @@ leaves_to_end single told here before behind before_last =
     (record { before = before; before_last = before_last; behind = behind })).last
 
 -- The words of each identifier, by its number, tell which pairs the bytes of a block decide.
-pub record AreBlockWords (bytes ids : List ℕ) (single : ℕ → Bool) (old : ℕ → Kept) (ends : ℕ → ℕ → Ends)
-    (lates earlies : List ℕ) : Type 0 where
-  pub words : (k : ℕ) → k < length ids →
-      AreTellingWords (single k) (old k) (ends k) (slice_index lates k) (slice_index earlies k)
-  pub within : (k : ℕ) → k < length ids →
-      IsToldBefore (length bytes) (slice_index lates k) (slice_index earlies k)
+abbrev pub AreBlockWords : (ids : List ℕ) → (single : ℕ → Bool) → (old : ℕ → Kept) → (ends : ℕ → ℕ → Ends) →
+    (lates earlies : List ℕ) → Type 0
+AreBlockWords ids single old ends lates earlies =
+    (k : ℕ) → k < length ids →
+    AreTellingWords (single k) (old k) (ends k) (slice_index lates k) (slice_index earlies k)

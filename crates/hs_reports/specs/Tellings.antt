@@ -25,6 +25,7 @@ abbrev pub with_telling : TellingTable → ExprId → (late early : ℕ) → Tel
 with_telling table id late early =
     telling_table (table.ids ++ id ∷ []) (table.lates ++ late ∷ []) (table.earlies ++ early ∷ []) table.room
 
--- the pairs that they tell of a block at an offset
-abbrev pub pairs_of_tellings : TellingTable → (at : ℕ) → List Pair
-pairs_of_tellings table at = chunk_pairs (id_numbers table.ids) (row_bit table.lates) (row_bit table.earlies) at 64
+-- the pairs that they tell of so many bytes of a block at an offset
+abbrev pub pairs_of_tellings : TellingTable → (at count : ℕ) → List Pair
+pairs_of_tellings table at count =
+    chunk_pairs (id_numbers table.ids) (row_bit table.lates) (row_bit table.earlies) at count

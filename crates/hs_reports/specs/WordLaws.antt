@@ -14,9 +14,9 @@ BlockIsNew =
     (lates earlies : List ℕ) (told : List Pair) →
     length bytes ≤ 64 →
     AreChunkOf P u bytes ids single old ends →
-    AreBlockWords bytes ids single old ends lates earlies →
+    AreBlockWords ids single old ends lates earlies →
     IsTold P u told →
-    IsNew P u bytes (chunk_pairs ids (row_bit lates) (row_bit earlies) (length u) 64)
+    IsNew P u bytes (chunk_pairs ids (row_bit lates) (row_bit earlies) (length u) (length bytes))
 
 -- Behind the block a pair of the identifier is told if one was before, or its words tell one; and its pair that ends
 -- behind the last byte is, if its bit is set.

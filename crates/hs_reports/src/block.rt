@@ -8,26 +8,29 @@ ghost use Rattle.hs_reports.specs.Identifiers.{id_numbers};
 ghost use Rattle.hs_reports.specs.WordBits.{row_bit, word_bit};
 
 use crate::events::Events;
+use crate::terminal::places_to;
 use hs_base::ExprId;
 use hs_bits::{lowest_bit, without_lowest_bit};
 
-/// Reports what a block at the offset `at` decides, byte by byte: the pairs that end before the byte, and then those
-/// that end behind it, each by identifier. `lates` and `earlies` have the words of each of these identifiers, which
-/// rise.
+/// Reports what a block at the offset `at` decides, of which `last` is the place of the last byte, byte by byte: the
+/// pairs that end before the byte, and then those that end behind it, each by identifier. `lates` and `earlies` have
+/// the words of each of these identifiers, which rise; what they have behind the last byte isn't told.
 pub fn tell_block<V: Events>(
     ids: &[ExprId],
     lates: &[u64],
     earlies: &[u64],
     at: u64,
+    last: usize,
     events: &mut V,
 )
     requires lates { length lates.now ≡ length ids.now }
     requires earlies { length earlies.now ≡ length ids.now }
     requires room { at < 2 ^ 63 }
+    requires last { last < 64 }
     ensures { Through V.tells events.old
-        (chunk_pairs (id_numbers ids.now) (row_bit lates.now) (row_bit earlies.now) at 64) events.new }
+        (chunk_pairs (id_numbers ids.now) (row_bit lates.now) (row_bit earlies.now) at (last + 1)) events.new }
 {
-    let mut left = united(lates) | united(earlies);
+    let mut left = (united(lates) | united(earlies)) & places_to(last as u64);
     while left != 0 {
         let place = lowest_bit(left);
         let here = at + place as u64;

@@ -2,7 +2,9 @@
 
 ghost use Rattle.std.specs.Prelude.{◌≡◌, ◌+◌, ◌<◌, ◌≤◌, ◌*◌, length};
 ghost use Rattle.hs_base.specs.Bits.{word_count};
+ghost use Rattle.hs_base.specs.Lists.{Each, IsMember};
 ghost use Rattle.hs_reports.specs.EndTables.{HasNoEnds};
+ghost use Rattle.hs_reports.specs.Identifiers.{id_numbers, numbers_of};
 ghost use Rattle.hs_reports.specs.Settlement.{AreOnlyPending, ArePending, SettlesBlock, SettlesOne};
 
 use crate::block::has_bit;
@@ -15,7 +17,8 @@ use hs_bits::{contains_word_bit, write_word_bit};
 /// Settles each noted identifier by its ends about a block, of which `last` is the place of the last byte. The bits
 /// `told` and `here` say of each identifier whether a pair of it is told, if it is single, and whether one is that ends
 /// before the block. Behind the call they say it of the bytes up to the block's last, and what is told of the block
-/// waits in `tellings`. Identifiers of which a pair ends behind the block stay noted, and no other.
+/// waits in `tellings`, with identifiers of the list alone. Identifiers of which a pair ends behind the block stay
+/// noted, and no other.
 pub fn settle_block(
     identifiers: &[Identifier],
     ends: &mut IdentifierEnds,
@@ -34,6 +37,7 @@ pub fn settle_block(
     ensures room { tellings.new.room ≡ tellings.old.room }
     ensures pending { ArePending here.old ends.old → ArePending here.new ends.new }
     ensures no_other { AreOnlyPending here.new ends.new }
+    ensures named { Each (λ id. IsMember id (numbers_of identifiers.now)) (id_numbers tellings.new.ids) }
     ensures settled { SettlesBlock identifiers.now (last + 1) ends.old told.old here.old told.new here.new
         tellings.new }
 {

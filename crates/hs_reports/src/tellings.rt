@@ -1,6 +1,6 @@
 //! What a block tells of the identifiers that it concerns.
 
-ghost use Rattle.std.specs.Prelude.{◌≡◌, ◌<◌, ◌^◌, IfOk, length};
+ghost use Rattle.std.specs.Prelude.{◌≡◌, ◌+◌, ◌<◌, ◌^◌, IfOk, length};
 ghost use Rattle.hs_reports.specs.Events.{Through};
 ghost use Rattle.hs_reports.specs.Tellings.{no_tellings, pairs_of_tellings, with_telling};
 
@@ -68,11 +68,12 @@ impl Tellings {
         self.earlies.push(telling.early).unwrap();
     }
 
-    /// Reports all of it, of a block at the offset `at`.
-    pub fn tell<V: Events>(&self, at: u64, events: &mut V)
-        requires { at < 2 ^ 63 }
-        ensures { Through V.tells events.old (pairs_of_tellings self.now at) events.new }
+    /// Reports all of it, of a block at the offset `at`, of which `last` is the place of the last byte.
+    pub fn tell<V: Events>(&self, at: u64, last: usize, events: &mut V)
+        requires room { at < 2 ^ 63 }
+        requires last { last < 64 }
+        ensures { Through V.tells events.old (pairs_of_tellings self.now at (last + 1)) events.new }
     {
-        tell_block(&self.ids, &self.lates, &self.earlies, at, events);
+        tell_block(&self.ids, &self.lates, &self.earlies, at, last, events);
     }
 }

@@ -35,7 +35,7 @@ fn places_from(first: u64) -> u64
 }
 
 /// The places up to one.
-fn places_to(last: u64) -> u64
+pub(crate) fn places_to(last: u64) -> u64
     ensures { (i : ℕ) → i < 64 → word_bit result i ≡ nat_le i last }
 {
     if last < 63 {

@@ -1,8 +1,8 @@
 -- From where nodes are left to what the blocks of a chunk tell.
-use Rattle.std.proofs.Common.{◌≡◌, ◌↔◌, ℕ, zero, suc, ◌+◌, ◌*◌, ◌<◌, ◌≤◌, Bool, true, List, [], ◌∷◌, ◌++◌, length, take, Some, slice_get, refl, sym, ap, subst, ◌∙◌, inl, inr, arith}
+use Rattle.std.proofs.Common.{◌≡◌, ◌↔◌, ℕ, zero, suc, ◌+◌, ◌*◌, ◌<◌, ◌≤◌, Bool, true, List, [], ◌∷◌, ◌++◌, length, take, Some, slice_get, refl, sym, ap, subst, ◌∙◌, inl, inr, arith, length-append}
 use Rattle.std.specs.Prelude.{slice_index, slice_index_or}
 use Rattle.std.proofs.Math.Seq.{take-add}
-use Rattle.std.proofs.lemmas.List.{append-nil, take_all}
+use Rattle.std.proofs.lemmas.List.{append-nil, length-take-le, take_all}
 use Rattle.std.proofs.lemmas.Option.{same_Some}
 use Rattle.std.proofs.lemmas.Bool.{cases_lt}
 use Rattle.hs_base.specs.declared.context.Next.TheVariants as after
@@ -28,15 +28,17 @@ use Rattle.hs_nodes.proofs.ChunkLemmas.{front-more, length-front}
 use Rattle.hs_reports.specs.EndTables.{AddsEnds, EndTable, HasNoEnds, is_noted, words_of}
 use Rattle.hs_reports.specs.Events.{Takes, still}
 use Rattle.hs_reports.specs.Gathering.{AreEndsBelow}
-use Rattle.hs_reports.specs.Identifiers.{numbers_of}
+use Rattle.hs_reports.specs.Identifiers.{id_numbers, numbers_of}
+use Rattle.hs_reports.specs.Pairs.{ArePairsOf}
 use Rattle.hs_reports.specs.Settlement.{AreBlockEnds, AreKnown, ArePending, SettlesBlock}
 use Rattle.hs_reports.specs.Tellings.{TellingTable, pairs_of_tellings}
 use Rattle.hs_reports.specs.TerminalLaws.{AreLeftTerminals}
 use Rattle.hs_reports.specs.Terminals.{AreLeftBy, AreEndsOf}
-use Rattle.hs_reports.specs.WordBits.{word_bit}
+use Rattle.hs_reports.specs.WordBits.{row_bit, word_bit}
 use Rattle.hs_reports.specs.declared.identifier.Identifier.{Identifier}
 use Rattle.hs_reports.specs.declared.terminal.Terminal.{Terminal}
 use Rattle.hs_reports.proofs.EventLemmas.{through-join}
+use Rattle.hs_reports.proofs.PairsLemmas.{pairs-chunk, pairs-join, pairs-none}
 use Rattle.hs_reports.proofs.GatheringLemmas.{gathering-begins, gathering-ends, gathering-goes_on, gathering-passes}
 use Rattle.hs_reports.proofs.TerminalLemmas.{terminals-end, ends-within}
 use Rattle.hs_nodes.specs.Graphs.{AreTerminalsSound, RunsPlan}
@@ -152,41 +154,63 @@ module _ {E : Type 0} (meaning : E → Meaning) (graph : Graph E) (sound : AreTe
 
 module _ {E : Type 0} (meaning : E → Meaning) (graph : Graph E) (sound : AreTerminalsSound graph) (bytes : List ℕ) (at : ℕ) (ends : List ChunkEnds) (all : ChunkEnds) where
   pub tells-none : (told here : List ℕ) → TellsBlocks meaning graph bytes at ends all told here told here 0 []
-  tells-none told here literals plan runs u list offset are known is =
-      let none : 64 * 0 ≡ 0 = omega arith in
-      record {
-        known = subst (λ v. AreKnown plan.patterns v graph.identifiers.items told here) (sym (append-nil u)) known;
-        new = new_nothing plan.patterns u list is;
-      }
+  tells-none told here = record {
+    pairs_are = pairs-none (numbers_of graph.identifiers.items) at (at + length (take (64 * 0) bytes));
+    tells = λ literals plan runs u list offset are known is.
+        record {
+          known = subst (λ v. AreKnown plan.patterns v graph.identifiers.items told here) (sym (append-nil u)) known;
+          new = new_nothing plan.patterns u list is;
+        };
+  }
 
   -- what one block tells
   pub block-tells : (told here told' here' : List ℕ) (j : ℕ) (table : EndTable) (tellings : TellingTable) (count : ℕ) → j < 8 → 64 * j < length bytes → length (block bytes j) ≡ count → length (block bytes j) ≤ 64 →
-      AreGathered meaning graph ends all at j (length graph.table.nodes.items + 1) table → SettlesBlock graph.identifiers.items count table told here told' here' tellings → ArePending here table →
-      TellsBlock meaning graph bytes at ends all j told here told' here' (pairs_of_tellings tellings (at + 64 * j))
-  block-tells told here told' here' j table tellings count below inside counted few gathered settles pending literals plan runs u list offset are known is =
-      let v : List ℕ = front u bytes j in
-      let own : List ℕ = block bytes j in
-      let block_is = block-ends meaning graph sound literals plan runs u bytes ends all are j below few at table offset (omega (arith, inside)) gathered in
-      let (known', new') = settles plan.patterns v own counted block_is known pending in
-      let here_is : at + 64 * j ≡ length v = omega (arith, length-front u bytes j (omega (arith, inside))) in
-      record { known = known'; new = subst (λ m. IsNew plan.patterns v own (pairs_of_tellings tellings m)) (sym here_is) (new' list is) }
+      AreGathered meaning graph ends all at j (length graph.table.nodes.items + 1) table → SettlesBlock graph.identifiers.items count table told here told' here' tellings →
+      Each (λ id. IsMember id (numbers_of graph.identifiers.items)) (id_numbers tellings.ids) → ArePending here table →
+      TellsBlock meaning graph bytes at ends all j told here told' here' (pairs_of_tellings tellings (at + 64 * j) count)
+  block-tells told here told' here' j table tellings count below inside counted few gathered settles named pending = record {
+    pairs_are =
+        let whole = numbers_of graph.identifiers.items in
+        subst (λ n. ArePairsOf whole (at + 64 * j) (at + 64 * j + n) (pairs_of_tellings tellings (at + 64 * j) count)) (sym counted)
+        (pairs-chunk (id_numbers tellings.ids) whole (row_bit tellings.lates) (row_bit tellings.earlies) (at + 64 * j) count named);
+    tells = λ literals plan runs u list offset are known is.
+        let v : List ℕ = front u bytes j in
+        let own : List ℕ = block bytes j in
+        let block_is = block-ends meaning graph sound literals plan runs u bytes ends all are j below few at table offset (omega (arith, inside)) gathered in
+        let (known', new') = settles plan.patterns v own counted block_is known pending in
+        let here_is : at + 64 * j ≡ length v = omega (arith, length-front u bytes j (omega (arith, inside))) in
+        record { known = known'; new = subst (λ m. IsNew plan.patterns v own (pairs_of_tellings tellings m count)) (sym here_is) (new' list is) };
+  }
 
   -- and then one more
-  pub tells-more : (told0 here0 told here told' here' : List ℕ) (j n : ℕ) (ps qs : List Pair) → n ≡ j + 1 → TellsBlocks meaning graph bytes at ends all told0 here0 told here j ps → TellsBlock meaning graph bytes at ends all j told here told' here' qs →
+  pub tells-more : (told0 here0 told here told' here' : List ℕ) (j n : ℕ) (ps qs : List Pair) → n ≡ j + 1 → 64 * j ≤ length bytes → TellsBlocks meaning graph bytes at ends all told0 here0 told here j ps → TellsBlock meaning graph bytes at ends all j told here told' here' qs →
       TellsBlocks meaning graph bytes at ends all told0 here0 told' here' n (ps ++ qs)
   unfolding front block
-  tells-more told0 here0 told here told' here' j n ps qs next tells then literals plan runs u list offset are known is =
-      let one = tells literals plan runs u list offset are known is in
-      let two = then literals plan runs u (list ++ ps) offset are one.known (told_more plan.patterns u (take (64 * j) bytes) list ps is one.new) in
+  tells-more told0 here0 told here told' here' j n ps qs next within first then =
+      let ids = numbers_of graph.identifiers.items in
       let more : take (64 * n) bytes ≡ take (64 * j) bytes ++ block bytes j = (let e : 64 * n ≡ 64 * j + 64 = omega arith in ap (λ k. take k bytes) e) ∙ take-add (64 * j) 64 bytes in
+      let size : length (take (64 * j) bytes) ≡ 64 * j = length-take-le (64 * j) bytes within in
+      let both : at + 64 * j + length (block bytes j) ≡ at + length (take (64 * n) bytes) = omega (arith, size, ap length more, length-append (take (64 * j) bytes) (block bytes j)) in
+      let early : ArePairsOf ids at (at + 64 * j) ps = subst (λ k. ArePairsOf ids at (at + k) ps) size first.pairs_are in
       record {
-        known = subst (λ w. AreKnown plan.patterns w graph.identifiers.items told' here') (sym (front-more u bytes j n next)) two.known;
-        new = subst (λ xs. IsNew plan.patterns u xs (ps ++ qs)) (sym more) (new-joins plan.patterns u (take (64 * j) bytes) (block bytes j) ps qs one.new two.new);
+        pairs_are =
+            subst (λ k. ArePairsOf ids at k (ps ++ qs)) both
+            (pairs-join ids at (at + 64 * j) (at + 64 * j + length (block bytes j)) ps qs (omega arith) (omega arith) early then.pairs_are);
+        tells = λ literals plan runs u list offset are known is.
+            let one = first.tells literals plan runs u list offset are known is in
+            let two = then.tells literals plan runs u (list ++ ps) offset are one.known (told_more plan.patterns u (take (64 * j) bytes) list ps is one.new) in
+            record {
+              known = subst (λ w. AreKnown plan.patterns w graph.identifiers.items told' here') (sym (front-more u bytes j n next)) two.known;
+              new = subst (λ xs. IsNew plan.patterns u xs (ps ++ qs)) (sym more) (new-joins plan.patterns u (take (64 * j) bytes) (block bytes j) ps qs one.new two.new);
+            };
       }
 
   pub tells-all : (told here told' here' : List ℕ) (n : ℕ) (pairs : List Pair) → length bytes ≤ 64 * n → TellsBlocks meaning graph bytes at ends all told here told' here' n pairs → TellsChunk meaning graph bytes at ends all told here told' here' pairs
-  tells-all told here told' here' n pairs enough tells literals plan runs u list offset are known is =
-      subst (λ xs. IsTelling plan.patterns u xs pairs (λ v. AreKnown plan.patterns v graph.identifiers.items told' here')) (take_all (64 * n) bytes enough) (tells literals plan runs u list offset are known is)
+  tells-all told here told' here' n pairs enough first = record {
+    pairs_are = subst (λ xs. ArePairsOf (numbers_of graph.identifiers.items) at (at + length xs) pairs) (take_all (64 * n) bytes enough) first.pairs_are;
+    tells = λ literals plan runs u list offset are known is.
+        subst (λ xs. IsTelling plan.patterns u xs pairs (λ v. AreKnown plan.patterns v graph.identifiers.items told' here')) (take_all (64 * n) bytes enough) (first.tells literals plan runs u list offset are known is);
+  }
 
 -- Ends are gathered node by node.
 

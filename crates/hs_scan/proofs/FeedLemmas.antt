@@ -16,6 +16,8 @@ use Rattle.hs_nodes.specs.Graphs.{FitsLayout}
 use Rattle.hs_nodes.specs.Nodes.{IsWellPart}
 use Rattle.hs_nodes.specs.Walks.{AreNodesWell, IsOutside, node_part}
 use Rattle.hs_nodes.specs.declared.graph.Graph.{Graph}
+use Rattle.hs_reports.specs.Identifiers.{numbers_of}
+use Rattle.hs_reports.proofs.PairsLemmas.{pairs-none}
 use Rattle.hs_scan.specs.Feeding.{AreCopiesWell, Feeds, Finishes, EndsAlike, FitsRegion, GoesOnAlike, IsWellRegion}
 use Rattle.hs_scan.specs.Keeping.{IsSpareBit}
 use Rattle.hs_scan.specs.Past.{HasNoEarly}
@@ -31,20 +33,24 @@ some-bytes bytes e none = eqb-false (length bytes) 0 e (ap length none)
 
 module _ {E : Type 0} (meaning : E → Meaning) (graph : Graph E) (literals : List (List LiteralByte)) (l : Laid) where
   pub feeds-none : (region bytes : List ℕ) → bytes ≡ [] → Feeds meaning graph literals l region region bytes []
-  feeds-none region bytes none plan u list runs each is told = record {
-    region = subst (λ v. IsRegion plan v region) (sym (ap (λ bs. u ++ bs) none ∙ append-nil u)) is;
-    new = subst (λ bs. IsNew plan.patterns u bs []) (sym none) (new_nothing plan.patterns u list told);
+  feeds-none region bytes none = record {
+    pairs_are = pairs-none (numbers_of graph.identifiers.items) (region_offset region) (region_offset region);
+    feeds = λ plan u list runs each is told.
+        record {
+          region = subst (λ v. IsRegion plan v region) (sym (ap (λ bs. u ++ bs) none ∙ append-nil u)) is;
+          new = subst (λ bs. IsNew plan.patterns u bs []) (sym none) (new_nothing plan.patterns u list told);
+        };
   }
 
   pub feeds-alike : (old new bytes : List ℕ) (pairs : List Pair) → Feeds meaning graph literals l old new bytes pairs → GoesOnAlike meaning graph literals l old bytes
   feeds-alike old new bytes pairs feeds plan u v list list' runs each each' is is' told told' = record {
     pairs = pairs;
-    first = (feeds plan u list runs each is told).new;
-    second = (feeds plan v list' runs each' is' told').new;
+    first = (feeds.feeds plan u list runs each is told).new;
+    second = (feeds.feeds plan v list' runs each' is' told').new;
   }
 
   pub finishes-alike : (region : List ℕ) (pairs : List Pair) → Finishes meaning graph literals l region pairs → EndsAlike meaning graph literals l region
-  finishes-alike region pairs finishes plan u v runs each each' is is' = record { pairs = pairs; first = finishes plan u runs each is; second = finishes plan v runs each' is' }
+  finishes-alike region pairs finishes plan u v runs each each' is is' = record { pairs = pairs; first = finishes.finishes plan u runs each is; second = finishes.finishes plan v runs each' is' }
 
 module _ {E : Type 0} (meaning : E → Meaning) (graph : Graph E) (l : Laid) (fits : FitsLayout graph l) where
   -- bits of the header that nothing stands for stay over a scan

@@ -1,5 +1,5 @@
 -- What only the end of a stream decides, from what its region keeps.
-use Rattle.std.proofs.Common.{◌≡◌, ◌↔◌, ℕ, ◌+◌, ◌-◌, ◌*◌, ◌≤◌, Bool, true, false, List, [], ◌∷◌, ◌++◌, length, take, replicate, Some, slice_get, refl, sym, ap, subst, ◌∙◌, inl, inr, arith}
+use Rattle.std.proofs.Common.{◌≡◌, ◌↔◌, ℕ, ◌+◌, ◌-◌, ◌*◌, ◌<◌, ◌≤◌, Bool, true, false, List, [], ◌∷◌, ◌++◌, length, take, replicate, Some, slice_get, refl, sym, ap, subst, ◌∙◌, inl, inr, arith}
 use Rattle.std.specs.Prelude.{slice_index_or, slice_range}
 use Rattle.std.specs.Option.{option_map}
 use Rattle.std.proofs.lemmas.Grind.{same_number_lists}
@@ -7,14 +7,14 @@ use Rattle.std.proofs.lemmas.List.{get_or-replicate, length-map, length-replicat
 use Rattle.std.proofs.lemmas.Option.{get_or_from_slice_get, same_Some, slice_get-map, slice_get_within}
 use Rattle.hs_base.specs.declared.context.Next.TheVariants as after
 use Rattle.hs_base.specs.Bits.{AreZero, has_bit}
-use Rattle.hs_base.specs.Lists.{Each, IsMember, IsRising}
+use Rattle.hs_base.specs.Lists.{Each, IsMember}
 use Rattle.hs_base.specs.Literals.{LiteralByte}
-use Rattle.hs_base.specs.Regions.{Plan, last_at, region_offset}
+use Rattle.hs_base.specs.Regions.{IsRegion, Plan, last_at, region_offset}
 use Rattle.hs_base.specs.Settling.{AreIdentifiers, AreRising, IsKept, IsLeftToEnd, tells_end}
 use Rattle.hs_base.specs.Settling.{pairs_told}
 use Rattle.hs_base.specs.Told.{IsLast, Pair}
 use Rattle.hs_base.proofs.BitLemmas.{zero-all}
-use Rattle.hs_base.proofs.ListLemmas.{each-append, each-of_members, one_of-map, rising-append}
+use Rattle.hs_base.proofs.ListLemmas.{each-of_members, one_of-map}
 use Rattle.hs_base.proofs.PairListLemmas.{IsNewAtEnd, last-reports, one_told, pairs-all, pairs-next_by, tell-by, values_by}
 use Rattle.hs_base.proofs.SettlingLemmas.{end-settled}
 use Rattle.hs_engine.specs.Engines.{Meaning}
@@ -25,11 +25,13 @@ use Rattle.hs_reports.specs.Chunks.{pairs_where}
 use Rattle.hs_reports.specs.EndTables.{EndTable, words_of}
 use Rattle.hs_reports.specs.Events.{Through}
 use Rattle.hs_reports.specs.Identifiers.{numbers_of}
+use Rattle.hs_reports.specs.Pairs.{ArePairsOf}
 use Rattle.hs_reports.specs.WordBits.{word_bit}
 use Rattle.hs_reports.specs.declared.identifier.Identifier.{Identifier}
 use Rattle.hs_reports.proofs.EventLemmas.{through-join}
+use Rattle.hs_reports.proofs.PairsLemmas.{pairs-join, pairs-one, pairs-widen}
 use Rattle.hs_scan.specs.Asking.{AsksEnds}
-use Rattle.hs_scan.specs.Feeding.{ArePairsOf, Finishes}
+use Rattle.hs_scan.specs.Feeding.{Finishes, RunsLaid}
 use Rattle.hs_scan.specs.Finishing.{due_at_end, is_due, kept_at, no_identifier}
 use Rattle.hs_scan.specs.Keeping.{AreRead}
 use Rattle.hs_scan.specs.Scans.{IsReached, stand}
@@ -54,38 +56,15 @@ pub through-identifiers : {V : Type 0} (Tells : V → ℕ → ℕ → V → Type
 through-identifiers Tells {start} {now} xs f to k whole told =
     subst (λ ps. Through Tells start ps now) (pairs-all (numbers_of xs) (values_by f (length (numbers_of xs))) to k (omega (arith, whole, length-map xs (λ (x : Identifier). x.id.0)))) told
 
--- the pairs that are told of identifiers, with one end
-told-named : (ids : List ℕ) (values : List Bool) (to : ℕ) (whole : List ℕ) → ((id : ℕ) → IsMember id ids → IsMember id whole) → Each (λ p. IsMember p.id whole) (pairs_told ids values to)
-told-named [] values to whole inside = tt
-told-named (id ∷ ids) [] to whole inside = tt
-told-named (id ∷ ids) (true ∷ values) to whole inside = (inside id (inl refl), told-named ids values to whole (λ x member. inside x (inr member)))
-told-named (id ∷ ids) (false ∷ values) to whole inside = told-named ids values to whole (λ x member. inside x (inr member))
-
-told-ends : (ids : List ℕ) (values : List Bool) (to : ℕ) (P : ℕ → Type 0) → P to → Each (λ p. P p.to) (pairs_told ids values to)
-told-ends [] values to P holds = tt
-told-ends (id ∷ ids) [] to P holds = tt
-told-ends (id ∷ ids) (true ∷ values) to P holds = (holds, told-ends ids values to P holds)
-told-ends (id ∷ ids) (false ∷ values) to P holds = told-ends ids values to P holds
-
-told-rising : (ids : List ℕ) (values : List Bool) (to : ℕ) → IsRising (λ (p q : Pair). p.to ≤ q.to) (pairs_told ids values to)
-told-rising [] values to = tt
-told-rising (id ∷ ids) [] to = tt
-told-rising (id ∷ ids) (true ∷ values) to = (told-ends ids values to (λ n. to ≤ n) (omega arith), told-rising ids values to)
-told-rising (id ∷ ids) (false ∷ values) to = told-rising ids values to
-
--- with two ends
-pub told-two : (ids : List ℕ) (values values' : List Bool) (at offset : ℕ) → at ≡ offset → ArePairsOf ids (offset - 1) offset (pairs_told ids values (at - 1) ++ pairs_told ids values' at)
+-- with two ends, whatever is told of the identifiers
+told-two : (ids : List ℕ) (values values' : List Bool) (at offset : ℕ) → at ≡ offset → ArePairsOf ids (offset - 1) offset (pairs_told ids values (at - 1) ++ pairs_told ids values' at)
 told-two ids values values' at offset is =
     let xs = pairs_told ids values (at - 1) in
     let ys = pairs_told ids values' at in
-    record {
-      named = each-append (λ (p : Pair). IsMember p.id ids) xs ys (told-named ids values (at - 1) ids (λ id member. member)) (told-named ids values' at ids (λ id member. member));
-      ends = each-append (λ (p : Pair). (offset - 1 ≤ p.to) × (p.to ≤ offset)) xs ys
-          (told-ends ids values (at - 1) (λ n. (offset - 1 ≤ n) × (n ≤ offset)) (omega (arith, is), omega (arith, is)))
-          (told-ends ids values' at (λ n. (offset - 1 ≤ n) × (n ≤ offset)) (omega (arith, is), omega (arith, is)));
-      rising = rising-append (λ (p q : Pair). p.to ≤ q.to) xs ys (told-rising ids values (at - 1)) (told-rising ids values' at)
-          (told-ends ids values (at - 1) (λ n. Each (λ (q : Pair). n ≤ q.to) ys) (told-ends ids values' at (λ n. at - 1 ≤ n) (omega arith)));
-    }
+    let all : Each (λ id. IsMember id ids) ids = each-of_members (λ id. IsMember id ids) ids (λ id member. member) in
+    subst (λ n. ArePairsOf ids (n - 1) n (xs ++ ys)) is
+    (pairs-join ids (at - 1) (at - 1) at xs ys (omega arith) (omega arith) (pairs-one ids ids values (at - 1) all)
+    (pairs-widen ids at at (at - 1) at ys (omega arith) (omega arith) (pairs-one ids ids values' at all)))
 
 module _ {E : Type 0} (meaning : E → Meaning) (graph : Graph E) (literals : List (List LiteralByte)) where
   are-identifiers : (plan : Plan) → RunsPlan meaning graph literals plan → AreIdentifiers plan.patterns (numbers_of graph.identifiers.items)
@@ -106,9 +85,11 @@ module _ {E : Type 0} (meaning : E → Meaning) (graph : Graph E) (literals : Li
       let (x, here) = there graph.identifiers.items p (omega (arith, slice_get_within (numbers_of graph.identifiers.items) p id at, length-map graph.identifiers.items (λ (y : Identifier). y.id.0))) in
       record { x = x; at = here; same = same_Some x.id.0 id (sym (slice_get-map (λ (y : Identifier). y.id.0) graph.identifiers.items p ∙ ap (option_map (λ (y : Identifier). y.id.0)) here) ∙ at) }
 
-  pub ends-finish : (l : Laid) (region told here : List ℕ) (finals : EndTable) (at : ℕ) (past : List ℕ) → at ≡ region_offset region → past ≡ slice_range region 8 72 → AreRead l region graph.identifiers.items told here → AsksEnds meaning graph literals at past region after.End finals →
-      Finishes meaning graph literals l region (pairs_where (numbers_of graph.identifiers.items) (λ p. has_bit region (8 * last_at l.singles l.identifiers + p)) (at - 1) ++ pairs_where (numbers_of graph.identifiers.items) (due_at_end l region told here finals graph.identifiers.items) at)
-  ends-finish l region told here finals at past at_is past_is read asks plan u runs_laid each is =
+  -- for each stream
+  ends-last : (l : Laid) (region told here : List ℕ) (finals : EndTable) (at : ℕ) (past : List ℕ) → at ≡ region_offset region → past ≡ slice_range region 8 72 → AreRead l region graph.identifiers.items told here → AsksEnds meaning graph literals at past region after.End finals →
+      (plan : Plan) (u : List ℕ) → RunsLaid meaning graph literals l plan → Each (λ b. b < 256) u → IsRegion plan u region →
+      IsLast plan.patterns u (pairs_where (numbers_of graph.identifiers.items) (λ p. has_bit region (8 * last_at l.singles l.identifiers + p)) (at - 1) ++ pairs_where (numbers_of graph.identifiers.items) (due_at_end l region told here finals graph.identifiers.items) at)
+  ends-last l region told here finals at past at_is past_is read asks plan u runs_laid each is =
       let runs = runs_laid.runs in
       let laid : l ≡ plan_layout plan = runs_laid.laid in
       let ids = numbers_of graph.identifiers.items in
@@ -130,3 +111,13 @@ module _ {E : Type 0} (meaning : E → Meaning) (graph : Graph E) (literals : Li
       subst (λ n. IsLast P u (pairs_where ids (λ p. has_bit region (8 * last_at l.singles l.identifiers + p)) (n - 1) ++ pairs_where ids (due_at_end l region told here finals graph.identifiers.items) n)) (sym begun.offset)
       (last-reports P u ids (values_by (λ p. has_bit region (8 * last_at l.singles l.identifiers + p)) (length ids)) (values_by (due_at_end l region told here finals graph.identifiers.items) (length ids)) (are-identifiers plan runs)
       (tell-by ids (λ p. has_bit region (8 * last_at l.singles l.identifiers + p)) (IsLeftToEnd P u) lasts) (tell-by ids (due_at_end l region told here finals graph.identifiers.items) (IsNewAtEnd P u) ends))
+
+  -- and of any region
+  pub ends-finish : (l : Laid) (region told here : List ℕ) (finals : EndTable) (at : ℕ) (past : List ℕ) → at ≡ region_offset region → past ≡ slice_range region 8 72 → AreRead l region graph.identifiers.items told here → AsksEnds meaning graph literals at past region after.End finals →
+      Finishes meaning graph literals l region (pairs_where (numbers_of graph.identifiers.items) (λ p. has_bit region (8 * last_at l.singles l.identifiers + p)) (at - 1) ++ pairs_where (numbers_of graph.identifiers.items) (due_at_end l region told here finals graph.identifiers.items) at)
+  ends-finish l region told here finals at past at_is past_is read asks = record {
+    pairs_are =
+        let ids = numbers_of graph.identifiers.items in
+        told-two ids (values_by (λ p. has_bit region (8 * last_at l.singles l.identifiers + p)) (length ids)) (values_by (due_at_end l region told here finals graph.identifiers.items) (length ids)) at (region_offset region) at_is;
+    finishes = λ plan u runs_laid each is. ends-last l region told here finals at past at_is past_is read asks plan u runs_laid each is;
+  }

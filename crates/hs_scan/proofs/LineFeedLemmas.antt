@@ -1,5 +1,5 @@
 -- A chunk of one line feed, and what it leaves to the end.
-use Rattle.std.proofs.Common.{◌≡◌, ℕ, ◌+◌, ◌<◌, ◌≤◌, Bool, false, get_or, List, [], ◌∷◌, ◌++◌, length, take, sym, ap, subst, ◌∙◌, arith, append_assoc}
+use Rattle.std.proofs.Common.{◌≡◌, ℕ, ◌+◌, ◌*◌, ◌<◌, ◌≤◌, Bool, false, get_or, List, [], ◌∷◌, ◌++◌, length, take, sym, ap, subst, ◌∙◌, arith, append_assoc}
 use Rattle.std.proofs.lemmas.List.{take_all, take_more}
 use Rattle.hs_base.specs.declared.context.Next.TheVariants as after
 use Rattle.hs_base.specs.declared.context.Prev.{Prev}
@@ -19,6 +19,8 @@ use Rattle.hs_nodes.specs.declared.graph.Graph.{Graph}
 use Rattle.hs_nodes.specs.declared.hits.ChunkHits.{ChunkHits}
 use Rattle.hs_nodes.proofs.ChunkLemmas.{front-none}
 use Rattle.hs_reports.specs.EndTables.{EndTable}
+use Rattle.hs_reports.specs.Identifiers.{numbers_of}
+use Rattle.hs_reports.specs.Pairs.{ArePairsOf}
 use Rattle.hs_reports.specs.Telling.{leaves_to_end}
 use Rattle.hs_reports.specs.Settlement.{AreBlockEnds, AreKnown}
 use Rattle.hs_scan.specs.Asking.{AsksEnds}
@@ -68,18 +70,26 @@ module _ {E : Type 0} (meaning : E → Meaning) (graph : Graph E) (literals : Li
   -- behind more bytes
   pub left-behind : (a b : Stand) (xs ys : List ℕ) (ps : List Pair) (last : List ℕ) → Scans meaning graph literals a b xs ps → LeavesToEnd meaning graph literals b ys last → LeavesToEnd meaning graph literals a (xs ++ ys) last
   left-behind a b xs ys ps last scans leaves plan runs u list is told_is =
-      let one = scans plan runs u list is told_is in
+      let one = scans.scans plan runs u list is told_is in
       subst (λ v. AreLeftToEnd graph plan.patterns v last) (append_assoc u xs ys) (leaves plan runs (u ++ xs) (list ++ ps) one.reached (told_more plan.patterns u xs list ps told_is one.new))
 
 -- the one block is the whole chunk
 pub first-tells : {E : Type 0} (meaning : E → Meaning) (graph : Graph E) (bytes : List ℕ) (at : ℕ) (ends : List ChunkEnds) (all : ChunkEnds) (told here told' here' : List ℕ) (pairs : List Pair) → bytes ≡ line_feed ∷ [] → TellsBlock meaning graph bytes at ends all 0 told here told' here' pairs →
     TellsChunk meaning graph bytes at ends all told here told' here' pairs
-first-tells meaning graph bytes at ends all told here told' here' pairs is tells literals plan runs u list offset are known told_is =
+first-tells meaning graph bytes at ends all told here told' here' pairs is first =
     let few : length bytes ≤ 64 = omega (arith, ap length is) in
-    let front_is : front u bytes 0 ≡ u = front-none u bytes in
-    let one = tells literals plan runs u list offset are (subst (λ v. AreKnown plan.patterns v graph.identifiers.items told here) (sym front_is) known) (subst (λ v. IsTold plan.patterns v list) (sym front_is) told_is) in
-    subst (λ bs. IsTelling plan.patterns u bs pairs (λ v. AreKnown plan.patterns v graph.identifiers.items told' here')) (block-first bytes few)
-    (subst (λ v. IsTelling plan.patterns v (block bytes 0) pairs (λ w. AreKnown plan.patterns w graph.identifiers.items told' here')) front_is one)
+    let ids = numbers_of graph.identifiers.items in
+    let at_is : at + 64 * 0 ≡ at = omega arith in
+    record {
+      pairs_are =
+          subst (λ bs. ArePairsOf ids at (at + length bs) pairs) (block-first bytes few)
+          (subst (λ n. ArePairsOf ids n (n + length (block bytes 0)) pairs) at_is first.pairs_are);
+      tells = λ literals plan runs u list offset are known told_is.
+          let front_is : front u bytes 0 ≡ u = front-none u bytes in
+          let one = first.tells literals plan runs u list offset are (subst (λ v. AreKnown plan.patterns v graph.identifiers.items told here) (sym front_is) known) (subst (λ v. IsTold plan.patterns v list) (sym front_is) told_is) in
+          subst (λ bs. IsTelling plan.patterns u bs pairs (λ v. AreKnown plan.patterns v graph.identifiers.items told' here')) (block-first bytes few)
+          (subst (λ v. IsTelling plan.patterns v (block bytes 0) pairs (λ w. AreKnown plan.patterns w graph.identifiers.items told' here')) front_is one);
+    }
 
 -- the last byte apart
 pub last-apart : (bytes : List ℕ) (n : ℕ) → length bytes ≡ n + 1 → take n bytes ++ get_or bytes n 0 ∷ [] ≡ bytes
@@ -87,9 +97,9 @@ last-apart bytes n count = sym (take_more bytes n 0 (omega (arith, count))) ∙ 
 
 module _ {E : Type 0} (meaning : E → Meaning) (graph : Graph E) (literals : List (List LiteralByte)) where
   -- bytes and a line feed are scanned
-  pub line_feed-scans : (a b c : Stand) (bytes : List ℕ) (n : ℕ) (ps qs : List Pair) → length bytes ≡ n + 1 → get_or bytes n 0 ≡ line_feed → Scans meaning graph literals a b (take n bytes) ps → Scans meaning graph literals b c (line_feed ∷ []) qs → Scans meaning graph literals a c bytes (ps ++ qs)
-  line_feed-scans a b c bytes n ps qs count is first second =
-      subst (λ bs. Scans meaning graph literals a c bs (ps ++ qs)) (ap (λ x. take n bytes ++ x ∷ []) (sym is) ∙ last-apart bytes n count) (scans-join meaning graph literals a b c (take n bytes) (line_feed ∷ []) ps qs first second)
+  pub line_feed-scans : (a b c : Stand) (bytes : List ℕ) (n : ℕ) (ps qs : List Pair) → a.at ≤ b.at → b.at ≤ c.at → length bytes ≡ n + 1 → get_or bytes n 0 ≡ line_feed → Scans meaning graph literals a b (take n bytes) ps → Scans meaning graph literals b c (line_feed ∷ []) qs → Scans meaning graph literals a c bytes (ps ++ qs)
+  line_feed-scans a b c bytes n ps qs up on count is first second =
+      subst (λ bs. Scans meaning graph literals a c bs (ps ++ qs)) (ap (λ x. take n bytes ++ x ∷ []) (sym is) ∙ last-apart bytes n count) (scans-join meaning graph literals a b c (take n bytes) (line_feed ∷ []) ps qs up on first second)
 
   -- and what they leave to the end
   pub line_feed-left_behind : (a b : Stand) (bytes : List ℕ) (n : ℕ) (ps : List Pair) (last : List ℕ) → length bytes ≡ n + 1 → get_or bytes n 0 ≡ line_feed → Scans meaning graph literals a b (take n bytes) ps → LeavesToEnd meaning graph literals b (line_feed ∷ []) last → LeavesToEnd meaning graph literals a bytes last

@@ -1,6 +1,6 @@
 -- What bytes, or the end of the stream, make of a region and report.
-use Rattle.std.specs.Prelude.{◌≡◌, ℕ, ◌<◌, ◌≤◌, List, ◌++◌, length, Some, slice_get}
-use Rattle.hs_base.specs.Lists.{Each, IsMember, IsRising}
+use Rattle.std.specs.Prelude.{◌≡◌, ℕ, ◌-◌, ◌<◌, List, ◌++◌, length, Some, slice_get}
+use Rattle.hs_base.specs.Lists.{Each}
 use Rattle.hs_base.specs.Literals.{LiteralByte}
 use Rattle.hs_base.specs.Regions.{Plan, IsHeader, IsRegion, region_offset}
 use Rattle.hs_base.specs.Told.{Pair, IsTold, IsNew, IsLast}
@@ -12,17 +12,13 @@ use Rattle.hs_nodes.specs.Walks.{AreNodesWell}
 use Rattle.hs_nodes.specs.declared.graph.FieldCopy.{FieldCopy}
 use Rattle.hs_nodes.specs.declared.graph.Graph.{Graph}
 use Rattle.hs_nodes.specs.declared.table.Node.{Node}
+use Rattle.hs_reports.specs.Identifiers.{numbers_of}
+use Rattle.hs_reports.specs.Pairs.{ArePairsOf}
 
 -- The region is that of the stream u with the bytes behind it, and the pairs are the new reports of the bytes.
 pub record IsFed (plan : Plan) (u bytes now : List ℕ) (pairs : List Pair) : Type 0 where
   pub region : IsRegion plan (u ++ bytes) now
   pub new : IsNew plan.patterns u bytes pairs
-
--- The pairs have identifiers among these, and ends from the one offset to the other, which don't fall.
-pub record ArePairsOf (ids : List ℕ) (low high : ℕ) (pairs : List Pair) : Type 0 where
-  pub named : Each (λ p. IsMember p.id ids) pairs
-  pub ends : Each (λ p. (low ≤ p.to) × (p.to ≤ high)) pairs
-  pub rising : IsRising (λ p q. p.to ≤ q.to) pairs
 
 -- the same pairs have both properties
 pub record HaveAlike (First Second : List Pair → Type 0) : Type 0 where
@@ -56,25 +52,28 @@ module _ {E : Type 0} (meaning : E → Meaning) (graph : Graph E) (literals : Li
     pub runs : RunsPlan meaning graph literals plan
     pub laid : l ≡ plan_layout plan
 
-  -- That holds for every plan that the graph runs, and every stream of bytes that leads to the old region.
-  abbrev pub Feeds : (old new bytes : List ℕ) → List Pair → Type 0
-  Feeds old new bytes pairs =
-      (plan : Plan) (u : List ℕ) (list : List Pair) →
-      RunsLaid plan →
-      Each (λ b. b < 256) u →
-      IsRegion plan u old →
-      IsTold plan.patterns u list →
-      IsFed plan u bytes new pairs
+  -- That holds for every plan that the graph runs, and every stream of bytes that leads to the old region. Where there
+  -- is none, the pairs are of the graph's identifiers all the same, with ends from the offset before to that behind.
+  pub record Feeds (old new bytes : List ℕ) (pairs : List Pair) : Type 0 where
+    pub pairs_are : ArePairsOf (numbers_of graph.identifiers.items) (region_offset old) (region_offset new) pairs
+    pub feeds : (plan : Plan) (u : List ℕ) (list : List Pair) →
+        RunsLaid plan →
+        Each (λ b. b < 256) u →
+        IsRegion plan u old →
+        IsTold plan.patterns u list →
+        IsFed plan u bytes new pairs
 
   -- For every plan that the graph runs, and every stream of bytes that leads to the region, the pairs are the last
-  -- reports.
-  abbrev pub Finishes : (region : List ℕ) → List Pair → Type 0
-  Finishes region pairs =
-      (plan : Plan) (u : List ℕ) →
-      RunsLaid plan →
-      Each (λ b. b < 256) u →
-      IsRegion plan u region →
-      IsLast plan.patterns u pairs
+  -- reports. Where there is none, they are of the graph's identifiers all the same, and end with the stream or a byte
+  -- before.
+  pub record Finishes (region : List ℕ) (pairs : List Pair) : Type 0 where
+    pub pairs_are : ArePairsOf (numbers_of graph.identifiers.items) (region_offset region - 1) (region_offset region)
+        pairs
+    pub finishes : (plan : Plan) (u : List ℕ) →
+        RunsLaid plan →
+        Each (λ b. b < 256) u →
+        IsRegion plan u region →
+        IsLast plan.patterns u pairs
 
   -- Two streams of which that is the region have the same new reports of the bytes.
   abbrev pub GoesOnAlike : (region bytes : List ℕ) → Type 0

@@ -1,5 +1,5 @@
 -- What bytes make of a stream that is scanned, between the beginning and the end of a write.
-use Rattle.std.specs.Prelude.{◌≡◌, ◌↔◌, ℕ, ◌<◌, true, List, ◌++◌, length, Some}
+use Rattle.std.specs.Prelude.{◌≡◌, ◌↔◌, ℕ, ◌+◌, ◌<◌, true, List, ◌++◌, length, Some}
 use Rattle.std.specs.Prelude.{slice_get, slice_range}
 use Rattle.hs_base.specs.declared.context.Prev.{Prev}
 use Rattle.hs_base.specs.Chains.{Piece}
@@ -17,6 +17,8 @@ use Rattle.hs_nodes.specs.Nodes.{AreHitsOf}
 use Rattle.hs_nodes.specs.Walks.{AreNodesHeld, node_part}
 use Rattle.hs_nodes.specs.declared.hits.ChunkHits.{ChunkHits}
 use Rattle.hs_nodes.specs.declared.table.Node.{Node}
+use Rattle.hs_reports.specs.Identifiers.{numbers_of}
+use Rattle.hs_reports.specs.Pairs.{ArePairsOf}
 use Rattle.hs_reports.specs.Settlement.{AreKnown}
 use Rattle.hs_reports.specs.declared.identifier.Identifier.{Identifier}
 use Rattle.hs_scan.specs.Keeping.{AreLast, AreRead, IsSpareBit}
@@ -58,13 +60,14 @@ module _ {E : Type 0} (meaning : E → Meaning) (graph : Graph E) (literals : Li
     pub reached : IsReached plan runs (u ++ bytes) s
     pub new : IsNew plan.patterns u bytes pairs
 
-  -- That holds for every plan that the graph runs, and every stream behind which the scan was where it began.
-  abbrev pub Scans : (old new : Stand) (bytes : List ℕ) → List Pair → Type 0
-  Scans old new bytes pairs =
-      (plan : Plan) (runs : RunsPlan meaning graph literals plan) (u : List ℕ) (list : List Pair) →
-      IsReached plan runs u old →
-      IsTold plan.patterns u list →
-      IsScanned plan runs u bytes new pairs
+  -- That holds for every plan that the graph runs, and every stream behind which the scan was where it began. Where
+  -- there is none, the pairs are of the graph's identifiers all the same, with ends from the one offset to the other.
+  pub record Scans (old new : Stand) (bytes : List ℕ) (pairs : List Pair) : Type 0 where
+    pub pairs_are : ArePairsOf (numbers_of graph.identifiers.items) old.at new.at pairs
+    pub scans : (plan : Plan) (runs : RunsPlan meaning graph literals plan) (u : List ℕ) (list : List Pair) →
+        IsReached plan runs u old →
+        IsTold plan.patterns u list →
+        IsScanned plan runs u bytes new pairs
 
 module _ {E : Type 0} (meaning : E → Meaning) (graph : Graph E) where
   -- What a chunk leads to behind u.
@@ -75,20 +78,20 @@ module _ {E : Type 0} (meaning : E → Meaning) (graph : Graph E) where
     pub new_are : IsNew plan.patterns u bytes pairs
 
   -- A chunk at that offset behind `prev`, in which the literals end as the hits tell: whatever plan the graph runs,
-  -- and behind whatever stream that ends there.
-  abbrev pub ScansChunk : (old new : List ℕ) (prev : Prev) (at : ℕ) (past bytes : List ℕ) (hits : List ChunkHits)
-      (told here told' here' : List ℕ) → List Pair → Type 0
-  ScansChunk old new prev at past bytes hits told here told' here' pairs =
-      (literals : List (List LiteralByte)) (plan : Plan) (runs : RunsPlan meaning graph literals plan) (u : List ℕ)
-      (list : List Pair) →
-      EndsBehind u prev at →
-      IsPast past u →
-      Each (λ b. b < 256) (u ++ bytes) →
-      AreHitsOf literals hits u bytes →
-      AreNodesHeld meaning graph.table runs.pieces old u →
-      AreKnown plan.patterns u graph.identifiers.items told here →
-      IsTold plan.patterns u list →
-      IsChunkScanned plan runs.pieces u bytes new told' here' pairs
+  -- and behind whatever stream that ends there. The pairs are of the graph's identifiers, with ends in the chunk.
+  pub record ScansChunk (old new : List ℕ) (prev : Prev) (at : ℕ) (past bytes : List ℕ) (hits : List ChunkHits)
+      (told here told' here' : List ℕ) (pairs : List Pair) : Type 0 where
+    pub pairs_are : ArePairsOf (numbers_of graph.identifiers.items) at (at + length bytes) pairs
+    pub scans : (literals : List (List LiteralByte)) (plan : Plan) (runs : RunsPlan meaning graph literals plan)
+        (u : List ℕ) (list : List Pair) →
+        EndsBehind u prev at →
+        IsPast past u →
+        Each (λ b. b < 256) (u ++ bytes) →
+        AreHitsOf literals hits u bytes →
+        AreNodesHeld meaning graph.table runs.pieces old u →
+        AreKnown plan.patterns u graph.identifiers.items told here →
+        IsTold plan.patterns u list →
+        IsChunkScanned plan runs.pieces u bytes new told' here' pairs
 
 module _ {E : Type 0} (graph : Graph E) where
   -- the copied fields are those of their nodes

@@ -13,6 +13,8 @@ use Rattle.hs_nodes.specs.Walks.{node_ends}
 use Rattle.hs_nodes.specs.declared.ends.ChunkEnds.{ChunkEnds}
 use Rattle.hs_reports.specs.Gathering.{AreEndsBelow}
 use Rattle.hs_reports.specs.EndTables.{EndTable}
+use Rattle.hs_reports.specs.Identifiers.{numbers_of}
+use Rattle.hs_reports.specs.Pairs.{ArePairsOf}
 use Rattle.hs_reports.specs.Settlement.{AreKnown}
 use Rattle.hs_reports.specs.declared.terminal.Terminal.{Terminal}
 use Rattle.hs_nodes.specs.Graphs.{RunsPlan}
@@ -64,42 +66,45 @@ module _ {E : Type 0} (meaning : E → Meaning) (graph : Graph E) where
     pub left : (k : ℕ) → k < length graph.table.nodes.items → AreLeftIn (pieces k) u bytes (node_ends ends k)
     pub everywhere : AreLeftIn [] u bytes all
 
-  -- Whatever plan the graph runs, and behind whatever stream: where the rows of bits tell what is known of the
-  -- identifiers before a block of the chunk, the new ones tell it behind the block, and the pairs are its new reports.
-  abbrev pub TellsBlock : (bytes : List ℕ) (at : ℕ) (ends : List ChunkEnds) (all : ChunkEnds) (number : ℕ)
-      (told here told' here' : List ℕ) → List Pair → Type 0
-  TellsBlock bytes at ends all number told here told' here' pairs =
-      (literals : List (List LiteralByte)) (plan : Plan)
-      (runs : RunsPlan meaning graph literals plan) (u : List ℕ) (list : List Pair) →
-      at ≡ length u →
-      AreChunkEnds runs.pieces u bytes ends all →
-      AreKnown plan.patterns (front u bytes number) graph.identifiers.items told here →
-      IsTold plan.patterns (front u bytes number) list →
-      IsTelling plan.patterns (front u bytes number) (block bytes number) pairs
-      (λ v. AreKnown plan.patterns v graph.identifiers.items told' here')
+  -- The pairs are of the graph's identifiers, with ends in a block of the chunk. Whatever plan the graph runs, and
+  -- behind whatever stream: where the rows of bits tell what is known of the identifiers before the block, the new ones
+  -- tell it behind the block, and the pairs are its new reports.
+  pub record TellsBlock (bytes : List ℕ) (at : ℕ) (ends : List ChunkEnds) (all : ChunkEnds) (number : ℕ)
+      (told here told' here' : List ℕ) (pairs : List Pair) : Type 0 where
+    pub pairs_are : ArePairsOf (numbers_of graph.identifiers.items) (at + 64 * number)
+        (at + 64 * number + length (block bytes number)) pairs
+    pub tells : (literals : List (List LiteralByte)) (plan : Plan)
+        (runs : RunsPlan meaning graph literals plan) (u : List ℕ) (list : List Pair) →
+        at ≡ length u →
+        AreChunkEnds runs.pieces u bytes ends all →
+        AreKnown plan.patterns (front u bytes number) graph.identifiers.items told here →
+        IsTold plan.patterns (front u bytes number) list →
+        IsTelling plan.patterns (front u bytes number) (block bytes number) pairs
+        (λ v. AreKnown plan.patterns v graph.identifiers.items told' here')
 
-  -- Whatever plan the graph runs, and behind whatever stream: the bits tell what is known of the identifiers behind
-  -- the first blocks of the chunk, and the pairs are the new reports of these.
-  abbrev pub TellsBlocks : (bytes : List ℕ) (at : ℕ) (ends : List ChunkEnds) (all : ChunkEnds)
-      (told here told' here' : List ℕ) (blocks : ℕ) → List Pair → Type 0
-  TellsBlocks bytes at ends all told here told' here' blocks pairs =
-      (literals : List (List LiteralByte)) (plan : Plan)
-      (runs : RunsPlan meaning graph literals plan) (u : List ℕ) (list : List Pair) →
-      at ≡ length u →
-      AreChunkEnds runs.pieces u bytes ends all →
-      AreKnown plan.patterns u graph.identifiers.items told here →
-      IsTold plan.patterns u list →
-      IsTelling plan.patterns u (take (64 * blocks) bytes) pairs
-      (λ v. AreKnown plan.patterns v graph.identifiers.items told' here')
+  -- The pairs are of the graph's identifiers, with ends in the first blocks of the chunk. Whatever plan the graph runs,
+  -- and behind whatever stream: the bits tell what is known of the identifiers behind these blocks, and the pairs are
+  -- their new reports.
+  pub record TellsBlocks (bytes : List ℕ) (at : ℕ) (ends : List ChunkEnds) (all : ChunkEnds)
+      (told here told' here' : List ℕ) (blocks : ℕ) (pairs : List Pair) : Type 0 where
+    pub pairs_are : ArePairsOf (numbers_of graph.identifiers.items) at (at + length (take (64 * blocks) bytes)) pairs
+    pub tells : (literals : List (List LiteralByte)) (plan : Plan)
+        (runs : RunsPlan meaning graph literals plan) (u : List ℕ) (list : List Pair) →
+        at ≡ length u →
+        AreChunkEnds runs.pieces u bytes ends all →
+        AreKnown plan.patterns u graph.identifiers.items told here →
+        IsTold plan.patterns u list →
+        IsTelling plan.patterns u (take (64 * blocks) bytes) pairs
+        (λ v. AreKnown plan.patterns v graph.identifiers.items told' here')
 
   -- and so behind the whole chunk
-  abbrev pub TellsChunk : (bytes : List ℕ) (at : ℕ) (ends : List ChunkEnds) (all : ChunkEnds)
-      (told here told' here' : List ℕ) → List Pair → Type 0
-  TellsChunk bytes at ends all told here told' here' pairs =
-      (literals : List (List LiteralByte)) (plan : Plan)
-      (runs : RunsPlan meaning graph literals plan) (u : List ℕ) (list : List Pair) →
-      at ≡ length u →
-      AreChunkEnds runs.pieces u bytes ends all →
-      AreKnown plan.patterns u graph.identifiers.items told here →
-      IsTold plan.patterns u list →
-      IsTelling plan.patterns u bytes pairs (λ v. AreKnown plan.patterns v graph.identifiers.items told' here')
+  pub record TellsChunk (bytes : List ℕ) (at : ℕ) (ends : List ChunkEnds) (all : ChunkEnds)
+      (told here told' here' : List ℕ) (pairs : List Pair) : Type 0 where
+    pub pairs_are : ArePairsOf (numbers_of graph.identifiers.items) at (at + length bytes) pairs
+    pub tells : (literals : List (List LiteralByte)) (plan : Plan)
+        (runs : RunsPlan meaning graph literals plan) (u : List ℕ) (list : List Pair) →
+        at ≡ length u →
+        AreChunkEnds runs.pieces u bytes ends all →
+        AreKnown plan.patterns u graph.identifiers.items told here →
+        IsTold plan.patterns u list →
+        IsTelling plan.patterns u bytes pairs (λ v. AreKnown plan.patterns v graph.identifiers.items told' here')

@@ -1,6 +1,6 @@
 //! The end of a stream: what only it decides.
 
-ghost use Rattle.std.specs.Prelude.{◌≡◌, ◌+◌, ◌-◌, ◌*◌, ◌≤◌, ◌<◌, length};
+ghost use Rattle.std.specs.Prelude.{◌≡◌, ◌+◌, ◌*◌, ◌≤◌, ◌<◌, length};
 ghost use Rattle.hs_base.specs.Bits.{has_bit};
 ghost use Rattle.hs_base.specs.Offsets.{greatest_offset};
 ghost use Rattle.hs_base.specs.Regions.{last_at, region_offset};
@@ -11,7 +11,7 @@ ghost use Rattle.hs_nodes.specs.Graphs.{IsGraphSound};
 ghost use Rattle.hs_reports.specs.Chunks.{pairs_where};
 ghost use Rattle.hs_reports.specs.Events.{Takes, Through};
 ghost use Rattle.hs_reports.specs.Identifiers.{numbers_of};
-ghost use Rattle.hs_scan.specs.Feeding.{ArePairsOf, EndsAlike, Finishes, FitsRegion};
+ghost use Rattle.hs_scan.specs.Feeding.{EndsAlike, Finishes, FitsRegion};
 ghost use Rattle.hs_scan.specs.Finishing.{due_at_end, is_due};
 ghost use Rattle.hs_scan.specs.Knowing.{FitsKnown};
 ghost use Rattle.hs_scan.specs.Scratches.{IsIdle, ServesGraph};
@@ -130,8 +130,6 @@ pub fn finish<E: BlockEngine, V: Events, L: Ledger>(
     ensures scratch { ServesGraph graph.now (length (held literals.now)) scratch.new }
     ensures taken { Takes V.tells events.old events.new (Finishes E.meaning graph.now (held literals.now) layout.now
         region.now) }
-    ensures pairs { Takes V.tells events.old events.new (ArePairsOf (numbers_of graph.now.identifiers.items)
-        (region_offset region.now - 1) (region_offset region.now)) }
     ensures alike { EndsAlike E.meaning graph.now (held literals.now) layout.now region.now }
     ensures ticks { steps.new ≤ steps.old + 16 * length graph.now.table.nodes.items }
 {

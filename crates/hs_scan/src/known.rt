@@ -95,10 +95,10 @@ fn tell_known<E: BlockEngine, V: Events>(
 {
     let own = chunk.block(number);
     gather_block(graph, marks, ends, all, number, chunk.at, &mut known.ends);
-    settle_known(&graph.identifiers, known, own.len() - 1);
-    known
-        .tellings
-        .tell(chunk.at + (BLOCK_BYTES * number) as u64, events);
+    let last = own.len() - 1;
+    settle_known(&graph.identifiers, known, last);
+    let at = chunk.at + (BLOCK_BYTES * number) as u64;
+    known.tellings.tell(at, last, events);
 }
 
 /// Reports what a chunk decides, by where the nodes are left in it. Nodes that aren't marked are left nowhere; `all` is

@@ -129,7 +129,7 @@ fn tell_line_feed<E: BlockEngine, V: Events>(
         &mut scratch.last,
     );
     settle_known(&graph.identifiers, &mut scratch.course.known, 0);
-    scratch.course.known.tellings.tell(chunk.at, events);
+    scratch.course.known.tellings.tell(chunk.at, 0, events);
 }
 
 /// Takes a chunk of one line feed, of which the scratch has the contexts, where the literals end in it, and which

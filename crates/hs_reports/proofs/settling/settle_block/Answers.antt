@@ -3,7 +3,7 @@ use Rattle.std.proofs.lemmas.Option.{slice_get-get_or}
 use Rattle.hs_base.specs.Bits.{has_word_bit}
 use Rattle.hs_bits.specs.NextBits.{IsNextBitIn}
 use Rattle.hs_reports.proofs.SettlementLemmas.{IsSettledTo, IsWalkedTo, walked-next, walked-all, all-emptied}
-use Rattle.hs_reports.proofs.SettledLemmas.{no_identifier, settles-block}
+use Rattle.hs_reports.proofs.SettledLemmas.{no_identifier, settled-named, settles-block}
 use Rattle.hs_reports.proofs.settling.settle_block.Goals as goal
 
 pub loop-noted-preserved : goal.loop-noted-preserved
@@ -40,6 +40,10 @@ returns-clause-emptied c =
 
 pub returns-clause-no_other : goal.returns-clause-no_other
 returns-clause-no_other c p below = (all-settled c).only p (omega (arith, c.loop-noted.invariant.words))
+
+pub returns-clause-named : goal.returns-clause-named
+returns-clause-named c =
+    settled-named c.args.identifiers.now c.args.last c.args.ends.now c.loop-noted.ends c.args.told.now c.args.here.now c.loop-noted.told c.loop-noted.here c.loop-noted.tellings (length c.args.identifiers.now) (all-settled c)
 
 pub returns-clause-settled : goal.returns-clause-settled
 returns-clause-settled c =

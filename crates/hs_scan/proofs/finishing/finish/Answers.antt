@@ -1,8 +1,7 @@
 use Rattle.std.proofs.Common.{◌+◌, ◌-◌, ◌*◌, ◌++◌, length, sym, ap, subst, ◌∙◌, arith}
 use Rattle.hs_base.specs.declared.context.Next.TheVariants as after
 use Rattle.hs_base.specs.Bits.{has_bit}
-use Rattle.hs_base.specs.Regions.{last_at, region_offset}
-use Rattle.hs_base.proofs.PairListLemmas.{values_by}
+use Rattle.hs_base.specs.Regions.{last_at}
 use Rattle.hs_literals.specs.Held.{held}
 use Rattle.hs_nodes.specs.Walks.{AreNodesWell}
 use Rattle.hs_reports.specs.Chunks.{pairs_where}
@@ -15,7 +14,7 @@ use Rattle.hs_scan.specs.Finishing.{due_at_end}
 use Rattle.hs_scan.specs.Hits.{HasNowhere}
 use Rattle.hs_scan.specs.Keeping.{AreRead}
 use Rattle.hs_scan.proofs.FeedLemmas.{finishes-alike}
-use Rattle.hs_scan.proofs.FinishLemmas.{ends-finish, told-two}
+use Rattle.hs_scan.proofs.FinishLemmas.{ends-finish}
 use Rattle.hs_scan.proofs.ScratchLemmas.{graph-room, hit-rows}
 use Rattle.hs_scan.proofs.finishing.finish.Goals as goal
 
@@ -64,21 +63,6 @@ returns-clause-taken g c =
       pairs = pairs_where (numbers_of ids) (λ p. has_bit region (8 * last_at l.singles l.identifiers + p)) (s2.at - 1) ++ pairs_where (numbers_of ids) (due_at_end l region known.told.items known.here.items s2.finals ids) s2.at;
       through = through-join tells lasts ends;
       holds = ends-finish m graph literals l region known.told.items known.here.items s2.finals s2.at s2.past (kept.at_is ∙ begun.at_is) (kept.past ∙ begun.past) read asks;
-    }
-
-pub returns-clause-pairs : goal.returns-clause-pairs
-unfolding returns-clause-taken
-returns-clause-pairs g c =
-    let l = c.args.layout.now in
-    let region = c.args.region.now in
-    let ids = c.args.graph.now.identifiers.items in
-    let s2 = c.ask_ends.new.scratch in
-    let known = s2.course.known in
-    let taken = returns-clause-taken g c in
-    record {
-      pairs = taken.pairs;
-      through = taken.through;
-      holds = told-two (numbers_of ids) (values_by (λ p. has_bit region (8 * last_at l.singles l.identifiers + p)) (length (numbers_of ids))) (values_by (due_at_end l region known.told.items known.here.items s2.finals ids) (length (numbers_of ids))) s2.at (region_offset region) (c.ask_ends.ensures.keeps.at_is ∙ c.begin_write.ensures.at_is);
     }
 
 pub returns-clause-alike : goal.returns-clause-alike

@@ -26,6 +26,7 @@ returns c =
           none = s.ensures.emptied;
           pending = subst (λ xs. ArePending xs s.new.ends) (sym here_now) (s.ensures.pending (subst (λ xs. ArePending xs known.ends) (sym here_is) before));
         };
+        named = s.ensures.named;
         settles =
             subst (λ xs. SettlesBlock ids (c.args.last + 1) known.ends known.told.items known.here.items xs (take known.here.len (s.new.here ++ drop (length s.new.here) known.here.items)) s.new.tellings) (sym told_now)
             (subst (λ xs. SettlesBlock ids (c.args.last + 1) known.ends known.told.items known.here.items s.new.told xs s.new.tellings) (sym here_now)

@@ -35,7 +35,7 @@ loop-j-preserved g c =
           (TellsBlocks m graph chunk.bytes.now chunk.at c.args.ends.now c.args.all.now known.told.items known.here.items here.told.items here.here.items j)
           (TellsBlock m graph chunk.bytes.now chunk.at c.args.ends.now c.args.all.now j here.told.items here.here.items then.told.items then.here.items)
           (TellsBlocks m graph chunk.bytes.now chunk.at c.args.ends.now c.args.all.now known.told.items known.here.items then.told.items then.here.items (j + 1))
-          (λ ps qs. tells-more m graph c.requires.sound chunk.bytes.now chunk.at c.args.ends.now c.args.all.now known.told.items known.here.items here.told.items here.here.items then.told.items then.here.items j (j + 1) ps qs refl)
+          (λ ps qs. tells-more m graph c.requires.sound chunk.bytes.now chunk.at c.args.ends.now c.args.all.now known.told.items known.here.items here.told.items here.here.items then.told.items then.here.items j (j + 1) ps qs refl (omega (arith, c.blocks-j-end.ensures.count, c.loop-j-test.true)))
           c.loop-j.invariant.told c.tell_known.ensures.told;
     }
 

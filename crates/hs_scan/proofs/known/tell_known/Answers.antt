@@ -1,13 +1,15 @@
 use Rattle.std.proofs.Common.{◌≡◌, ◌+◌, ◌-◌, ◌*◌, ◌<◌, ℕ, length, sym, ap, subst, arith}
+use Rattle.hs_base.specs.Lists.{Each, IsMember}
 use Rattle.hs_nodes.specs.Blocks.{block}
 use Rattle.hs_nodes.proofs.FlatLemmas.{length-block_of}
+use Rattle.hs_reports.specs.Identifiers.{id_numbers, numbers_of}
 use Rattle.hs_reports.specs.Settlement.{SettlesBlock}
 use Rattle.hs_reports.specs.Tellings.{pairs_of_tellings}
 use Rattle.hs_scan.proofs.BlockLemmas.{block-tells}
 use Rattle.hs_scan.proofs.known.tell_known.Goals as goal
 
-pub overflow_sub-own : goal.overflow_sub-own
-overflow_sub-own g c =
+pub overflow_sub-last : goal.overflow_sub-last
+overflow_sub-last g c =
     let bytes = c.args.chunk.now.bytes.now in
     let some : 0 < length (block bytes c.args.number) = length-block_of bytes c.args.number 0 (omega arith) (omega (arith, c.requires.there)) in
     omega (arith, some, ap length c.block-own.ensures.bytes)
@@ -24,10 +26,11 @@ returns-clause-told g c =
     let own = c.block-own.result.now in
     let size : length (block bytes j) ≡ length own = sym (ap length c.block-own.ensures.bytes) in
     record {
-      pairs = pairs_of_tellings then.tellings (chunk.at + 64 * j);
+      pairs = pairs_of_tellings then.tellings (chunk.at + 64 * j) (length own - 1 + 1);
       through = c.tell.ensures;
       holds =
           block-tells g.E.Engine.meaning c.args.graph.now c.requires.sound bytes chunk.at c.args.ends.now c.args.all.now known.told.items known.here.items then.told.items then.here.items j c.gather_block.new.table then.tellings (length own - 1 + 1)
           (omega (arith, c.requires.there, chunk.few)) c.requires.there (omega (arith, some, size)) (omega (arith, size, c.block-own.ensures.few)) c.gather_block.ensures.gathered (subst (λ xs. SettlesBlock xs (length own - 1 + 1) c.gather_block.new.table known.told.items known.here.items then.told.items then.here.items then.tellings) ids_is c.settle_known.ensures.settled.settles)
+          (subst (λ xs. Each (λ id. IsMember id (numbers_of xs)) (id_numbers then.tellings.ids)) ids_is c.settle_known.ensures.settled.named)
           (λ p set. c.gather_block.ensures.noted p (c.requires.pending.pending p set));
     }

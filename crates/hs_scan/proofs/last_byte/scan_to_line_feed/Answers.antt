@@ -20,7 +20,7 @@ returns-clause-scans g c =
     let mid = stand_of c.scan_bytes.new.scratch c.scan_bytes.new.region in
     let then = stand_of c.scan_line_feed.new.scratch c.scan_line_feed.new.region in
     takes-then g.V.Events.tells c.args.events.now c.scan_bytes.new.events c.scan_line_feed.new.events (Scans m graph literals first mid (take n bytes)) (Scans m graph literals mid then (line_feed ∷ [])) (Scans m graph literals first then bytes)
-    (λ ps qs. line_feed-scans m graph literals first mid then bytes n ps qs c.requires.place c.requires.ends) c.scan_bytes.ensures.scans c.scan_line_feed.ensures.scans
+    (λ ps qs. line_feed-scans m graph literals first mid then bytes n ps qs (omega (arith, c.scan_bytes.ensures.at)) (omega (arith, c.scan_line_feed.ensures.at)) c.requires.place c.requires.ends) c.scan_bytes.ensures.scans c.scan_line_feed.ensures.scans
 
 pub returns-clause-left : goal.returns-clause-left
 returns-clause-left g c =

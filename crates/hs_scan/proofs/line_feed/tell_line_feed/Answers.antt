@@ -1,5 +1,7 @@
 use Rattle.std.proofs.Common.{◌≡◌, ◌+◌, ◌*◌, ◌++◌, length, take, drop, sym, ap, subst, ◌∙◌, arith}
+use Rattle.hs_base.specs.Lists.{Each, IsMember}
 use Rattle.hs_nodes.specs.Blocks.{block}
+use Rattle.hs_reports.specs.Identifiers.{id_numbers, numbers_of}
 use Rattle.hs_reports.specs.Settlement.{SettlesBlock}
 use Rattle.hs_reports.specs.Tellings.{pairs_of_tellings}
 use Rattle.hs_scan.specs.Telling.{AreGathered, TellsBlock}
@@ -26,12 +28,13 @@ returns-clause-told g c =
     let at_is : chunk.at ≡ chunk.at + 64 * 0 = omega arith in
     let gathered = subst (λ es. AreGathered m graph es all chunk.at 0 (length graph.table.nodes.items + 1) table) c.deref.ensures.value c.gather_block.ensures.gathered in
     record {
-      pairs = pairs_of_tellings then.tellings chunk.at;
+      pairs = pairs_of_tellings then.tellings chunk.at 1;
       through = c.tell.ensures;
       holds =
-          subst (λ n. TellsBlock m graph bytes chunk.at s.ends.items all 0 known.told.items known.here.items then.told.items then.here.items (pairs_of_tellings then.tellings n)) (sym at_is)
+          subst (λ n. TellsBlock m graph bytes chunk.at s.ends.items all 0 known.told.items known.here.items then.told.items then.here.items (pairs_of_tellings then.tellings n 1)) (sym at_is)
           (block-tells m graph c.requires.sound bytes chunk.at s.ends.items all known.told.items known.here.items then.told.items then.here.items 0 table then.tellings 1
           (omega arith) (omega (arith, one)) size (omega (arith, size)) gathered (subst (λ xs. SettlesBlock xs 1 table known.told.items known.here.items then.told.items then.here.items then.tellings) ids_is c.settle_known.ensures.settled.settles)
+          (subst (λ xs. Each (λ id. IsMember id (numbers_of xs)) (id_numbers then.tellings.ids)) ids_is c.settle_known.ensures.settled.named)
           (λ p set. c.gather_block.ensures.noted p (c.requires.pending.pending p set)));
     }
 

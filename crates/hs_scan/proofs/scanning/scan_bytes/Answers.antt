@@ -59,5 +59,5 @@ loop-from-preserved g c =
       at_is = omega (arith, c.scan_chunk.ensures.at, inv.at_is, size, order);
       scans =
           takes-then g.V.Events.tells c.args.events.now c.loop-from.events c.scan_chunk.new.events (Scans m graph literals first here (take from bytes)) (Scans m graph literals here then (take (end - from) (drop from bytes))) (Scans m graph literals first then (take end bytes))
-          (λ ps qs. scans-more m graph literals first here then bytes from end ps qs order) inv.scans c.scan_chunk.ensures.scans;
+          (λ ps qs. scans-more m graph literals first here then bytes from end ps qs order (omega (arith, inv.at_is)) (omega (arith, c.scan_chunk.ensures.at))) inv.scans c.scan_chunk.ensures.scans;
     }
