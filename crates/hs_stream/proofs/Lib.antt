@@ -4,3 +4,4 @@ pub mod JoinLemmas
 pub mod WriteLemmas
 pub mod StandLemmas
 pub mod SavingLemmas
+pub mod VecLemmas

@@ -1,8 +1,8 @@
 -- What the runner's relations say of a database.
-use Rattle.std.proofs.Common.{◌≡◌, ◌↔◌, ℕ, ◌<◌, List, [], ◌∷◌, get_or, suc, sym, subst}
-use Rattle.hs_base.specs.Lists.{Each}
+use Rattle.std.proofs.Common.{◌≡◌, ◌↔◌, ℕ, ◌-◌, ◌<◌, List, [], ◌∷◌, get_or, suc, sym, subst}
+use Rattle.hs_base.specs.Lists.{Each, IsMember}
 use Rattle.hs_base.specs.Literals.{LiteralByte}
-use Rattle.hs_base.specs.Regions.{Plan, IsWellFormed}
+use Rattle.hs_base.specs.Regions.{Plan, IsWellFormed, region_offset}
 use Rattle.hs_base.specs.Told.{Pair}
 use Rattle.hs_base.proofs.ListLemmas.{each-append}
 use Rattle.hs_compile.specs.Databases.{Compiled, IsDatabaseOf, IsWholeDatabase, graph_of, layout_of, literals_in}
@@ -11,12 +11,15 @@ use Rattle.hs_literals.specs.Held.{held}
 use Rattle.hs_literals.specs.declared.literals.Literals.{Literals}
 use Rattle.hs_nodes.specs.declared.graph.Graph.{Graph}
 use Rattle.hs_reports.specs.Events.{Takes}
+use Rattle.hs_reports.specs.Identifiers.{numbers_of}
+use Rattle.hs_reports.specs.Pairs.{ArePairsOf}
 use Rattle.hs_rose.specs.PieceEngines.{piece_meaning}
 use Rattle.hs_rose.specs.declared.engine.PieceEngine.{PieceEngine}
 use Rattle.hs_scan.specs.Faults.{IsSoundWithSome}
 use Rattle.hs_scan.specs.Feeding.{Feeds, Finishes, RunsLaid}
 use Rattle.hs_scan.proofs.ExactLemmas.{regions-exact}
-use Rattle.hs_stream.specs.Leading.{IsRegionOf, LeadsTo, EndsWith}
+use Rattle.hs_stream.specs.Foreign.{MayEnd, MayLead, MayTell}
+use Rattle.hs_stream.specs.Leading.{IsRegionOf, LeadsTo}
 
 pub each-by : (bytes : List ℕ) → ((i : ℕ) → get_or bytes i 0 < 256) → Each (λ b. b < 256) bytes
 each-by [] all = tt
@@ -65,9 +68,17 @@ module _ (db : Compiled) (plan : Plan) (is : IsDatabaseOf db plan) where
   region-exact region small =
       regions-exact piece_meaning (graph_of db) (held (literals_in db)) (layout_of db) plan region is.sound plan-runs small
 
+-- pairs of the identifiers of the graph are of those of each plan
+pairs-told : (db : Compiled) (low high : ℕ) (pairs : List Pair) → ArePairsOf (numbers_of (graph_of db).identifiers.items) low high pairs → MayTell db low high pairs
+pairs-told db low high pairs are = record {
+  named = λ plan is. subst (λ ids. Each (λ (p : Pair). IsMember p.id ids) pairs) is.runs.ids are.named;
+  bounded = are.ends;
+  rising = are.rising;
+}
+
 feeds-lead : (db : Compiled) (old new bytes : List ℕ) (pairs : List Pair) → Each (λ b. b < 256) bytes → Feeds piece_meaning (graph_of db) (held (literals_in db)) (layout_of db) old new bytes pairs → LeadsTo db old new bytes pairs
 feeds-lead db old new bytes pairs small feeds plan u told is behind told_is =
-    let fed = feeds plan u told (plan-runs db plan is) behind.bytes behind.region told_is in
+    let fed = feeds.feeds plan u told (plan-runs db plan is) behind.bytes behind.region told_is in
     record {
       behind = record { bytes = each-append (λ b. b < 256) u bytes behind.bytes small; region = fed.region };
       reports = fed.new;
@@ -75,17 +86,23 @@ feeds-lead db old new bytes pairs small feeds plan u told is behind told_is =
 
 module _ {V : Type 0} (Tells : V → ℕ → ℕ → V → Type 0) {start end : V} (db : Compiled) where
   -- what the runner reported of bytes
-  pub takes-lead : {old new bytes : List ℕ} → Each (λ b. b < 256) bytes → Takes Tells start end (Feeds piece_meaning (graph_of db) (held (literals_in db)) (layout_of db) old new bytes) → Takes Tells start end (LeadsTo db old new bytes)
+  pub takes-lead : {old new bytes : List ℕ} → Each (λ b. b < 256) bytes → Takes Tells start end (Feeds piece_meaning (graph_of db) (held (literals_in db)) (layout_of db) old new bytes) → Takes Tells start end (MayLead db old new bytes)
   takes-lead {old} {new} {bytes} small took = record {
     pairs = took.pairs;
     through = took.through;
-    holds = feeds-lead db old new bytes took.pairs small took.holds;
+    holds = record {
+      leads = feeds-lead db old new bytes took.pairs small took.holds;
+      tells = pairs-told db (region_offset old) (region_offset new) took.pairs took.holds.pairs_are;
+    };
   }
 
   -- and of the end
-  pub takes-end : {region : List ℕ} → Takes Tells start end (Finishes piece_meaning (graph_of db) (held (literals_in db)) (layout_of db) region) → Takes Tells start end (EndsWith db region)
+  pub takes-end : {region : List ℕ} → Takes Tells start end (Finishes piece_meaning (graph_of db) (held (literals_in db)) (layout_of db) region) → Takes Tells start end (MayEnd db region)
   takes-end {region} took = record {
     pairs = took.pairs;
     through = took.through;
-    holds = λ plan u is behind. took.holds plan u (plan-runs db plan is) behind.bytes behind.region;
+    holds = record {
+      ends = λ plan u is behind. took.holds.finishes plan u (plan-runs db plan is) behind.bytes behind.region;
+      tells = pairs-told db (region_offset region - 1) (region_offset region) took.pairs took.holds.pairs_are;
+    };
   }

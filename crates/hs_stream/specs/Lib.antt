@@ -4,5 +4,6 @@ pub mod Leading
 pub mod Streams
 pub mod Writing
 pub mod Standing
+pub mod Foreign
 pub mod Saving
 pub mod SavingLaws

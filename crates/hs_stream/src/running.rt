@@ -1,12 +1,14 @@
 //! The runner of a database, over regions of its streams. All calls of it stand here, but for those of `scratch`.
-ghost use Rattle.std.specs.Prelude.{◌≡◌, ◌↔◌, ◌+◌, ◌*◌, ◌≤◌, ◌^◌, IfSome, IsNone, IsTrue, length};
+ghost use Rattle.std.specs.Prelude.{◌≡◌, ◌↔◌, ◌+◌, ◌*◌, ◌<◌, ◌≤◌, ◌^◌, IfSome, IsNone, IsTrue, [], length};
+ghost use Rattle.hs_base.specs.Lists.{Each};
 ghost use Rattle.hs_base.specs.Offsets.{greatest_offset};
 ghost use Rattle.hs_base.specs.Regions.{region_offset};
 ghost use Rattle.hs_compile.specs.Databases.{IsWholeDatabase, layout_of, nodes_of};
 ghost use Rattle.hs_layout.specs.Layouts.{laid_size};
 ghost use Rattle.hs_reports.specs.Events.{Takes};
 ghost use Rattle.hs_stream.specs.Scratches.{IsScratchOf};
-ghost use Rattle.hs_stream.specs.Leading.{IsFaultOf, IsRegionOf, LeadsTo, EndsWith};
+ghost use Rattle.hs_stream.specs.Foreign.{MayEnd, MayLead};
+ghost use Rattle.hs_stream.specs.Leading.{IsFaultOf, IsRegionOf};
 
 use crate::scratch::Scratch;
 use hs_compile::Database;
@@ -31,7 +33,9 @@ pub(crate) fn run_bytes<V: Events, L: Ledger>(
     ensures len { length region.new ≡ length region.old }
     ensures scratch { IsScratchOf db.now scratch.new }
     ensures offset { region_offset region.new ≡ region_offset region.old + length bytes.now }
-    ensures told { Takes V.tells events.old events.new (LeadsTo db.now region.old region.new bytes.now) }
+    ensures small { Each (λ b. b < 256) region.new }
+    ensures idle { bytes.now ≡ [] → (events.new ≡ events.old) × (region.new ≡ region.old) }
+    ensures told { Takes V.tells events.old events.new (MayLead db.now region.old region.new bytes.now) }
     ensures ticks { steps.new ≤ steps.old + 48 * (length (nodes_of db.now) * length bytes.now) }
 {
     scan(
@@ -57,7 +61,7 @@ pub(crate) fn run_end<V: Events, L: Ledger>(
     requires region { IsRegionOf db.now region.now }
     requires scratch { IsScratchOf db.now scratch.old }
     ensures scratch { IsScratchOf db.now scratch.new }
-    ensures told { Takes V.tells events.old events.new (EndsWith db.now region.now) }
+    ensures told { Takes V.tells events.old events.new (MayEnd db.now region.now) }
     ensures ticks { steps.new ≤ steps.old + 16 * length (nodes_of db.now) }
     ensures whole { IsWholeDatabase db.now }
 {

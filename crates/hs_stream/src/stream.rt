@@ -1,6 +1,6 @@
 //! One stream.
 ghost use Rattle.std.specs.Prelude.{◌≡◌, ◌↔◌, ◌+◌, ◌*◌, ◌<◌, ◌≤◌, length, replicate, IsTrue, IsErr, IfOk, OnOk, OnErr};
-ghost use Rattle.std.specs.Prelude.{MatchResult};
+ghost use Rattle.std.specs.Prelude.{MatchResult, []};
 ghost use Rattle.hs_base.specs.Offsets.{greatest_offset};
 ghost use Rattle.hs_compile.specs.Databases.{nodes_of};
 ghost use Rattle.hs_reports.specs.Events.{Takes};
@@ -34,6 +34,7 @@ pub struct Stream {
 }
 
 impl Stream {
+    ghost use Rattle.hs_stream.specs.Foreign.{MayClose, MayWrite};
     ghost use Rattle.hs_stream.specs.Saving.{IsExpanded, IsExpandFaultOf, IsSaved};
     ghost use Rattle.hs_stream.specs.Streams.{offset_of, region_of, IsStreamOf, IsFresh, Writes, Closes};
 
@@ -73,6 +74,8 @@ impl Stream {
         ensures untold { OnErr result (events.new ≡ events.old) }
         ensures offset { OnOk result (offset_of self.new ≡ offset_of self.old + length bytes.now) }
         ensures told { OnOk result (Takes V.tells events.old events.new (Writes db.now self.old self.new bytes.now)) }
+        ensures any { OnOk result (Takes V.tells events.old events.new (MayWrite db.now self.old self.new bytes.now)) }
+        ensures idle { bytes.now ≡ [] → (events.new ≡ events.old) × (self.new ≡ self.old) }
         ensures ticks { steps.new ≤ steps.old + 48 * (length (nodes_of db.now) * length bytes.now) }
     {
         if !has_room(self.offset(db), bytes.len()) {
@@ -94,6 +97,7 @@ impl Stream {
         requires scratch { IsScratchOf db.now scratch.old }
         ensures scratch { IsScratchOf db.now scratch.new }
         ensures told { Takes V.tells events.old events.new (Closes db.now self) }
+        ensures any { Takes V.tells events.old events.new (MayClose db.now self) }
         ensures ticks { steps.new ≤ steps.old + 16 * length (nodes_of db.now) }
     {
         let Stream { region, .. } = self;
@@ -116,6 +120,7 @@ impl Stream {
         ensures offset { offset_of self.new ≡ 0 }
         ensures fresh { IsFresh db.now self.new }
         ensures told { Takes V.tells events.old events.new (Closes db.now self.old) }
+        ensures any { Takes V.tells events.old events.new (MayClose db.now self.old) }
         ensures ticks { steps.new ≤ steps.old + 16 * length (nodes_of db.now) }
     {
         run_end(db, &self.region, scratch, events, steps);

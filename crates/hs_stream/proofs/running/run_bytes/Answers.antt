@@ -32,6 +32,12 @@ pub returns-clause-scratch : goal.returns-clause-scratch
 returns-clause-scratch g c =
     lent-as (lent c.args.db.now c.graph.ensures.graph c.literals.ensures.literals c.layout.ensures.layout) (λ x ls l. ServesGraph x (length ls) c.scan.new.scratch) (c.scan.ensures.scratch)
 
+pub returns-clause-small : goal.returns-clause-small
+returns-clause-small g c = each-by c.scan.new.region (λ k. (c.type_inv.region k).fits)
+
+pub returns-clause-idle : goal.returns-clause-idle
+returns-clause-idle g c none = (c.scan.ensures.silent none, c.scan.ensures.stays none)
+
 pub returns-clause-told : goal.returns-clause-told
 returns-clause-told g c =
     takes-lead g.V.Events.tells c.args.db.now (each-by c.args.bytes.now (λ k. (c.type_inv.bytes k).fits))

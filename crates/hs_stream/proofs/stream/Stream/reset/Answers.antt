@@ -2,7 +2,8 @@ use Rattle.std.proofs.Common.{◌∙◌, [], length, sym, ap, subst}
 use Rattle.std.proofs.lemmas.List.{with_items_is}
 use Rattle.hs_base.specs.Regions.{region_offset}
 use Rattle.hs_reports.specs.Events.{Takes}
-use Rattle.hs_stream.specs.Leading.{EndsWith, IsBehind, IsRegionOf}
+use Rattle.hs_stream.specs.Foreign.{MayEnd}
+use Rattle.hs_stream.specs.Leading.{IsBehind, IsRegionOf}
 use Rattle.hs_stream.proofs.EmptyLemmas.{empty-behind, empty-well, offset-zero}
 use Rattle.hs_stream.proofs.stream.Stream.reset.Goals as goal
 
@@ -32,9 +33,15 @@ returns-clause-fresh g c plan is =
     let sized = c.clear_bits.ensures.len ∙ (ap length c.deref_mut.ensures.value ∙ c.requires.fits.region.fits.sized) in
     subst (IsBehind plan []) (sym region) (empty-behind c.args.db.now new c.clear_bits.ensures.zero sized plan is)
 
+pub returns-clause-any : goal.returns-clause-any
+returns-clause-any g c =
+    let took = subst (λ bs. Takes g.V.Events.tells c.args.events.now c.run_end.new.events (MayEnd c.args.db.now bs)) c.deref.ensures.value c.run_end.ensures.told in
+    record { pairs = took.pairs; through = took.through; holds = record { closes = took.holds.ends; tells = took.holds.tells } }
+
 pub returns-clause-told : goal.returns-clause-told
 returns-clause-told g c =
-    subst (λ bs. Takes g.V.Events.tells c.args.events.now c.run_end.new.events (EndsWith c.args.db.now bs)) c.deref.ensures.value c.run_end.ensures.told
+    let took = returns-clause-any g c in
+    record { pairs = took.pairs; through = took.through; holds = took.holds.closes }
 
 pub returns-clause-ticks : goal.returns-clause-ticks
 returns-clause-ticks g c = c.run_end.ensures.ticks

@@ -1,8 +1,11 @@
-use Rattle.std.proofs.Common.{◌+◌, ◌∙◌, length, sym, ap, subst, arith}
+use Rattle.std.proofs.Common.{◌+◌, ◌<◌, ◌∙◌, length, sym, ap, subst, arith}
 use Rattle.std.proofs.lemmas.List.{with_items_is}
+use Rattle.hs_base.specs.Lists.{Each}
 use Rattle.hs_base.specs.Regions.{region_offset}
 use Rattle.hs_reports.specs.Events.{Takes}
-use Rattle.hs_stream.specs.Leading.{IsRegionOf, LeadsTo}
+use Rattle.hs_stream.specs.Foreign.{MayLead}
+use Rattle.hs_stream.specs.Leading.{IsRegionOf}
+use Rattle.hs_stream.proofs.VecLemmas.{with-items_same}
 use Rattle.hs_stream.proofs.stream.Stream.write.Goals as goal
 
 pub run_bytes-requires-clause-region : goal.run_bytes-requires-clause-region
@@ -18,13 +21,35 @@ returns-clause-offset g c =
     let region = with_items_is c.args.self.now.region c.run_bytes.new.region (c.run_bytes.ensures.len ∙ c.deref_mut.ensures.len) in
     ap region_offset region ∙ (c.run_bytes.ensures.offset ∙ ap (λ bs. region_offset bs + length c.args.bytes.now) c.deref_mut.ensures.value)
 
-pub returns-clause-told : goal.returns-clause-told
-returns-clause-told g c =
+pub returns-clause-any : goal.returns-clause-any
+returns-clause-any g c =
     let old = c.args.self.now.region in
     let new = c.run_bytes.new in
     let region = with_items_is old new.region (c.run_bytes.ensures.len ∙ c.deref_mut.ensures.len) in
-    subst (λ bs. Takes g.V.Events.tells c.args.events.now new.events (LeadsTo c.args.db.now old.items bs c.args.bytes.now)) (sym region)
-    (subst (λ bs. Takes g.V.Events.tells c.args.events.now new.events (LeadsTo c.args.db.now bs new.region c.args.bytes.now)) c.deref_mut.ensures.value c.run_bytes.ensures.told)
+    let took =
+    subst (λ bs. Takes g.V.Events.tells c.args.events.now new.events (MayLead c.args.db.now old.items bs c.args.bytes.now)) (sym region)
+    (subst (λ bs. Takes g.V.Events.tells c.args.events.now new.events (MayLead c.args.db.now bs new.region c.args.bytes.now)) c.deref_mut.ensures.value c.run_bytes.ensures.told) in
+    record {
+      pairs = took.pairs;
+      through = took.through;
+      holds = record {
+        writes = took.holds.leads;
+        tells = took.holds.tells;
+        small = subst (Each (λ b. b < 256)) (sym region) c.run_bytes.ensures.small;
+        offset = returns-clause-offset g c;
+      };
+    }
+
+pub returns-clause-told : goal.returns-clause-told
+returns-clause-told g c =
+    let took = returns-clause-any g c in
+    record { pairs = took.pairs; through = took.through; holds = took.holds.writes }
+
+pub returns-clause-idle : goal.returns-clause-idle
+returns-clause-idle g c none =
+    let self = c.args.self.now in
+    let (silent, stays) = c.run_bytes.ensures.idle none in
+    (silent, ap (λ v. record self { region = v }) (with-items_same self.region c.run_bytes.new.region (stays ∙ c.deref_mut.ensures.value)))
 
 pub returns-then-not-has_room-clause-ticks : goal.returns-then-not-has_room-clause-ticks
 returns-then-not-has_room-clause-ticks g c = omega arith
