@@ -1,5 +1,6 @@
 //! What a row says that the program is run on, and what it answers.
-ghost use Rattle.std.specs.Prelude.{◌≡◌, ◌==◌, ◌≤◌, [], false, list_any, IfOk, OnErr, IsTrue};
+ghost use Rattle.std.specs.Prelude.{◌≡◌, ◌==◌, ◌≤◌, [], false, IfOk, OnErr, IsTrue};
+ghost use Rattle.std.specs.List.{list_any};
 
 use hs_rows::{number_of, text_of, words_of};
 use std::alloc::{AllocError, Global};

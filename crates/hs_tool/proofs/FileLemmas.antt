@@ -358,8 +358,8 @@ module _ {db : Compiled} {basis : Basis} (is : RunsBasis db basis) (bytes : List
 
 -- an expansion puts no file
 expand-put : (i : Option Known) (name file : List ℕ) (reply : Option Reply) → put_by i (Expand name file) reply ≡ None
-expand-put None name file reply = refl
-expand-put (Some s) name file reply = refl
+expand-put None name _ reply = refl
+expand-put (Some s) name _ reply = refl
 
 -- of a name that isn't open
 performs-unexpanded : {db : Compiled} {old now : Streams} {told : List ℕ → Told} (name file : List ℕ) (w : Word) → stream_at old name ≡ None → PutsStream old now name None → ((basis : Basis) (m : Machine) → RunsBasis db basis → Tracks basis m (kept old told) → (shown : File) × (Shows (m.file file) shown × Moves basis m.count shown None (Expand name file) (refused verb.Expand w) None)) → Performs db (kept old told) (kept now told) (Expand name file ∷ []) (refused verb.Expand w ∷ [])
@@ -404,7 +404,7 @@ performs-expand_memory name file unknown puts =
 
 -- refused by what is shown
 by_shown : {basis : Basis} {old : Streams} {told : List ℕ → Told} {m : Machine} (name file : List ℕ) (w : Word) → count_of old < most_streams → Tracks basis m (kept old told) → IsRefusedAs basis (m.file file) w → (shown : File) × (Shows (m.file file) shown × Moves basis m.count shown None (Expand name file) (refused verb.Expand w) None)
-by_shown name file w room tracks why =
+by_shown name _ w room tracks why =
     (why.shown, (why.shows, move.expand_refused (subst (λ n. n < most_streams) (sym tracks.counted) room) why.refuses))
 
 pub performs-absent : {db : Compiled} {streams : Streams} {told : List ℕ → Told} (name file : List ℕ) → stream_at streams name ≡ None → count_of streams < most_streams → IsMissing (told file) → Performs db (kept streams told) (kept streams told) (Expand name file ∷ []) (refused verb.Expand word.Absent ∷ [])
