@@ -3,7 +3,7 @@
 use crate::top::run;
 use hs_outside::{Failed, MemSink, MemSource, MemStore, Store};
 use hs_rows::rows_of;
-use hs_settings::{Answer, Faults, Leaving, NO_FAULTS, PARTS, ROOM, Setting, name_lines, wanted_of};
+use hs_settings::{Answer, Faults, Leaving, NO_FAULTS, PARTS, ROOM, Setting, wanted_of};
 use std::alloc::{AllocError, Global};
 use std::test::Fail;
 
@@ -142,8 +142,8 @@ fn judge_words(
     setting.take(alloc, words)?;
     let mut wanted = wanted_of(alloc, written)?;
     if setting.opens_all {
-        setting.script = name_lines(alloc, b"open ", &setting.script)?;
-        wanted.out = name_lines(alloc, b"ok open ", &wanted.out)?;
+        setting.script = hs_settings::name_lines(alloc, b"open ", &setting.script)?;
+        wanted.out = hs_settings::name_lines(alloc, b"ok open ", &wanted.out)?;
     }
     let name = format!(in alloc; "{words:?} = {written:?}")?;
     judge_row(alloc, &name, &setting, &wanted)?;
