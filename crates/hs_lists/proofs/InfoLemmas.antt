@@ -1,11 +1,14 @@
--- The identifiers of a database are those of its entries, each once.
-use Rattle.std.proofs.Common.{◌≡◌, ◌↔◌, ℕ, List, [], ◌∷◌, ◌++◌, length, map, refl, sym, ap, ap₂, ◌∙◌, subst, inl, inr}
+-- What `info` tells: the identifiers of a database are those of its entries, each once, and its region is that of its plan.
+use Rattle.std.proofs.Common.{◌≡◌, ◌↔◌, ℕ, ◌+◌, List, [], ◌∷◌, ◌++◌, length, map, Option, Result, Ok, Err, refl, sym, ap, ap₂, ◌∙◌, subst, inl, inr}
 use Rattle.std.proofs.lemmas.List.{length-map}
 use Rattle.hs_base.specs.Lists.{IsMember, OneOf}
 use Rattle.hs_base.specs.Entries.{ListedEntry}
 use Rattle.hs_base.specs.Patterns.{Pattern}
-use Rattle.hs_base.specs.Regions.{IsPlan, Plan}
-use Rattle.hs_text.specs.AnswerLines.{info_lines}
+use Rattle.hs_base.specs.Regions.{IsPlan, Plan, plan_size}
+use Rattle.hs_outside.specs.declared.fault.Failed.{Failed}
+use Rattle.hs_outside.specs.Sink.{IsSent, Sends}
+use Rattle.hs_outside.proofs.Sending.{IsSent-then, IsCutShort-after}
+use Rattle.hs_text.specs.AnswerLines.{info_lines, size_lines}
 use Rattle.hs_nodes.specs.declared.graph.Graph.{Graph}
 use Rattle.hs_reports.specs.declared.identifier.Identifier.{Identifier}
 use Rattle.hs_rose.specs.declared.engine.PieceEngine.{PieceEngine}
@@ -48,12 +51,24 @@ plan-names entries plan accepted is id =
     )
 
 -- what the lines of a database say
-pub info-text : (database : Compiled) (entries : List ListedEntry) (P : List Pattern) (plan : Plan) → AreAcceptedAs entries P → IsPlanOf P plan → IsDatabaseOf database plan →
-    IsInfoText entries (info_lines (length entries) (length (identifiers_of database)))
-info-text database entries P plan accepted planned is =
+pub info-text : (database : Compiled) (entries : List ListedEntry) (P : List Pattern) (plan : Plan) (count names size state : ℕ) → AreAcceptedAs entries P → IsPlanOf P plan → IsDatabaseOf database plan →
+    count ≡ length entries → names ≡ length (identifiers_of database) → size ≡ plan_size plan → state ≡ size + 42 → IsInfoText entries (info_lines count names ++ size_lines size state)
+info-text database entries P plan count names size state accepted planned is counted named sized stated =
     record {
       identifiers = plan.identifiers;
       once = planned.is_plan.identifiers;
       same = plan-names entries plan (subst (AreAcceptedAs entries) (sym planned.patterns) accepted) planned.is_plan;
-      whole = ap (λ n. info_lines (length entries) n) (sym (length-map (identifiers_of database) (λ (i : Identifier). i.id.0)) ∙ ap length is.runs.ids);
+      patterns = P;
+      accepted = accepted;
+      size = size;
+      is_size = record { plan = plan; is = planned; size = sized };
+      whole = ap₂ (λ (x y : List ℕ). x ++ y) (ap₂ info_lines counted all) (ap (size_lines size) stated);
     }
+  where
+    all : names ≡ length plan.identifiers
+    all = named ∙ (sym (length-map (identifiers_of database) (λ (i : Identifier). i.id.0)) ∙ ap length is.runs.ids)
+
+-- two texts, one behind the other
+pub sends-then : {before between : Option (List ℕ)} {faults later : ℕ} {text : List ℕ} (after : Option (List ℕ)) (last : ℕ) (more : List ℕ) (result : Result (Unit {0}) Failed) → IsSent before between faults later text → Sends result between after later last more → Sends result before after faults last (text ++ more)
+sends-then after last more (Ok done) first then = IsSent-then first then
+sends-then after last more (Err failed) first then = IsCutShort-after first then

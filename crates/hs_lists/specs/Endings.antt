@@ -1,5 +1,5 @@
 -- How the commands end that are about a list alone.
-use Rattle.std.specs.Prelude.{◌≡◌, ◌↔◌, ℕ, ◌≤◌, List, [], length, map, Option, Some, None}
+use Rattle.std.specs.Prelude.{◌≡◌, ◌↔◌, ℕ, ◌+◌, ◌≤◌, List, [], ◌++◌, length, map, Option, Some, None}
 use Rattle.hs_base.specs.Lists.{IsMember}
 use Rattle.hs_base.specs.Entries.{ListedEntry}
 use Rattle.hs_base.specs.Patterns.{Pattern}
@@ -7,8 +7,10 @@ use Rattle.hs_base.specs.Settling.{AreRising}
 use Rattle.hs_outside.specs.Counts.{Rose}
 use Rattle.hs_outside.specs.Sink.{Took, TookPrefix}
 use Rattle.hs_outside.specs.Store.{Told, IsFile, IsLonger, IsMissing, PutsOrHides, Spoils}
-use Rattle.hs_text.specs.AnswerLines.{accepted_line, compiled_line, info_lines}
+use Rattle.hs_text.specs.AnswerLines.{accepted_line, compiled_line, info_lines, size_lines}
 use Rattle.hs_dbfile.specs.Files.{IsDatabaseFile}
+use Rattle.hs_compile.specs.Lists.{AreAcceptedAs}
+use Rattle.hs_compile.specs.Sizes.{IsSizeOf}
 use Rattle.hs_lists.specs.ListKinds.{ListKind, pattern_file}
 use Rattle.hs_lists.specs.Accepting.{IsAccepted, IsRefused}
 use Rattle.hs_lists.specs.Causes.{Cause, write, store, absent, limit, memory}
@@ -93,12 +95,17 @@ pub data TellEnds (IsText : List ListedEntry → List ℕ → Type 0) (kind : Li
 abbrev pub IsAcceptedText : List ListedEntry → List ℕ → Type 0
 IsAcceptedText entries text = text ≡ accepted_line (length entries)
 
--- what a database holds: how many entries, and how many identifiers, each counted once
+-- what a database holds: how many entries, how many identifiers, each counted once, and how many bytes the region of a
+-- stream has, and its state file
 pub record IsInfoText (entries : List ListedEntry) (text : List ℕ) : Type 0 where
   pub identifiers : List ℕ
   pub once : AreRising identifiers
   pub same : (id : ℕ) → IsMember id identifiers ↔ IsMember id (map (λ entry. entry.id) entries)
-  pub whole : text ≡ info_lines (length entries) (length identifiers)
+  pub patterns : List Pattern
+  pub accepted : AreAcceptedAs entries patterns
+  pub size : ℕ
+  pub is_size : IsSizeOf patterns size
+  pub whole : text ≡ info_lines (length entries) (length identifiers) ++ size_lines size (size + 42)
 
 -- How `compile PATTERNS DB` may end.
 pub data CompileEnds (patterns database : List ℕ) (before now : Outside) : Option Cause → Type 0 where

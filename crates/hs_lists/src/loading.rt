@@ -2,11 +2,12 @@
 ghost use Rattle.std.specs.Prelude.{◌≡◌, map, IfOk, IfErr, OnOk, MatchResult};
 ghost use Rattle.hs_base.specs.Entries.{listed};
 ghost use Rattle.hs_compile.specs.Answers.{IsCompiled};
+ghost use Rattle.hs_compile.specs.Databases.{digest_of};
 ghost use Rattle.hs_lists.specs.Causes.{cause_of};
 ghost use Rattle.hs_lists.specs.ListKinds.{kind_of, pattern_file, database_file};
 ghost use Rattle.hs_lists.specs.Accepting.{HoldsList, IsFormCause, IsEntryCause};
 ghost use Rattle.hs_lists.specs.Endings.{StopsList};
-ghost use Rattle.hs_lists.specs.Loading.{IsLoaded};
+ghost use Rattle.hs_lists.specs.Loading.{IsLoaded, list_digest};
 
 use crate::fault::Fault;
 use hs_base::{Entry, Refusal};
@@ -109,6 +110,7 @@ fn read_database<'a>(alloc: Global, bytes: &[u8]) -> Result<Vec<Entry>, Fault<'a
 /// What scans the entries of a list.
 fn compile_entries<'a>(alloc: Global, entries: &[Entry]) -> Result<Database, Fault<'a>>
     ensures compiled { IfOk result (IsCompiled (map listed entries.now)) }
+    ensures digest { IfOk result (λ database. digest_of database ≡ list_digest (map listed entries.now)) }
     ensures fault { IfErr result (λ fault. IsEntryCause (map listed entries.now) (cause_of fault)) }
 {
     match compile(alloc, entries) {

@@ -4,25 +4,31 @@ use Rattle.std.proofs.lemmas.Fmt.{length-decimal-le}
 use Rattle.hs_text.specs.declared.commands.Verb.{Verb}
 use Rattle.hs_text.specs.declared.commands.Verb.TheVariants as verb
 use Rattle.hs_text.specs.ReplyLines.{verb_text}
-use Rattle.hs_text.specs.Commands.{IsName, Order, Open, Write, Reset, Close, verb_of, name_of, count_of, operands_of, IsCommand}
+use Rattle.hs_text.specs.Commands.{IsName, Order, Open, Write, Reset, Close, Save, Expand, verb_of, name_of, count_of, operands_of, NamesFile, IsCommand}
 use Rattle.hs_reader.specs.Reading.{kept_len, kept_of}
 
-short_verb : (v : Verb) → length (verb_text v) ≤ 5
+short_verb : (v : Verb) → length (verb_text v) ≤ 6
 short_verb verb.Open = omega arith
 short_verb verb.Write = omega arith
 short_verb verb.Reset = omega arith
 short_verb verb.Close = omega arith
+short_verb verb.Save = omega arith
+short_verb verb.Expand = omega arith
 
-short_operands : (order : Order) → IsName (name_of order) → count_of order < 2 ^ 63 → length (operands_of order) ≤ 53
-short_operands (Open name) is small = omega (arith, is.short)
-short_operands (Write name count) is small =
+short_operands : (order : Order) → IsName (name_of order) → count_of order < 2 ^ 63 → NamesFile order → length (operands_of order) ≤ 97
+short_operands (Open name) is small named = omega (arith, is.short)
+short_operands (Write name count) is small named =
     omega (arith, is.short, length-append name (codes " " ++ decimal count), length-append (codes " ") (decimal count), length-decimal-le 20 count (omega arith) (omega arith) (omega arith))
-short_operands (Reset name) is small = omega (arith, is.short)
-short_operands (Close name) is small = omega (arith, is.short)
+short_operands (Reset name) is small named = omega (arith, is.short)
+short_operands (Close name) is small named = omega (arith, is.short)
+short_operands (Save name file) is small named =
+    omega (arith, is.short, named.short, length-append name (codes " " ++ file), length-append (codes " ") file)
+short_operands (Expand name file) is small named =
+    omega (arith, is.short, named.short, length-append name (codes " " ++ file), length-append (codes " ") file)
 
 command_short : {line : List ℕ} {order : Order} → IsCommand line order → length line < kept_len
 command_short {line} {order} is =
-    omega (arith, ap length is.whole, length-append (verb_text (verb_of order)) (codes " " ++ operands_of order), length-append (codes " ") (operands_of order), short_verb (verb_of order), short_operands order is.name is.count)
+    omega (arith, ap length is.whole, length-append (verb_text (verb_of order)) (codes " " ++ operands_of order), length-append (codes " ") (operands_of order), short_verb (verb_of order), short_operands order is.name is.count is.file)
 
 -- what is shorter than it may be is whole
 whole_taken : (n : ℕ) (xs : List ℕ) → length (take n xs) < n → take n xs ≡ xs

@@ -47,7 +47,7 @@ most_taken = 9223372036854841343
 
 -- how many bytes of a line are kept: more than any command has
 abbrev pub kept_len : ℕ
-kept_len = 60
+kept_len = 112
 
 -- what is kept of a line
 abbrev pub kept_of : List ℕ → List ℕ

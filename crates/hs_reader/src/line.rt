@@ -5,7 +5,7 @@ ghost use Rattle.hs_reader.specs.Reading.{kept_of};
 use std::marker::Model;
 
 /// How many bytes of a line are kept. No command is that long.
-const KEPT_LEN: usize = 60;
+const KEPT_LEN: usize = 112;
 
 /// The first bytes of a line.
 #[derive(Drop)]
@@ -22,7 +22,7 @@ impl Model for Line {
 
     ghost view = { λ line. take line.len line.bytes };
 
-    ghost invariant = { λ line. line.len ≤ 60 };
+    ghost invariant = { λ line. line.len ≤ 112 };
 }
 
 impl Line {

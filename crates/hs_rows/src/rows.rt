@@ -73,17 +73,22 @@ out 1 = 3 <> <fault write;> <HSDB%01%00%01%(3)%00%10%(14)%00%(8)%FF%03%00foo>
 fails each = 0 <compiled 1 38;>
 # A database that was put, then told and scanned with.
 run <hs_tool compile p d;hs_tool info d;hs_tool scan d f> p <3:/b/;1:/ab/;3:/c/;> f <abcab>
- = 0 <compiled 3 89;version 1;expressions 3;identifiers 2;1 2;3 2;3 3;1 5;3 5;end 5;>
+ = 0 <compiled 3 89;version 1;expressions 3;identifiers 2;region 76;state 118;1 2;3 2;3 3;1 5;3 5;end 5;>
 
 # `info`.
 run <hs_tool info d>
-d <HSDB%01%00%01%(3)%00%10%(14)%00%(8)%FF%03%00foo> = 0 <version 1;expressions 1;identifiers 1;>
-d <HSDB%01%00%01%(3)%00%10%(14)%00%(8)%FF%03%00foo> fails each = 0 <version 1;expressions 1;identifiers 1;>
-d <HSDB%01%(5)%00> = 0 <version 1;expressions 0;identifiers 0;>
+d <HSDB%01%00%01%(3)%00%10%(14)%00%(8)%FF%03%00foo> = 0 <version 1;expressions 1;identifiers 1;region 74;state 116;>
+d <HSDB%01%00%01%(3)%00%10%(14)%00%(8)%FF%03%00foo> fails each
+ = 0 <version 1;expressions 1;identifiers 1;region 74;state 116;>
+d <HSDB%01%(5)%00> = 0 <version 1;expressions 0;identifiers 0;region 72;state 114;>
 d <HSDB%01%00%01%(3)%00%10%(4)%00%01%(9)%00%(8)%FF%03%00foo> = 2 <> <refused 1 16 4 UnsupportedFlag 256;>
 d <HSDX> = 4 <> <fault database 3;>
 d <> = 4 <> <fault database 0;>
 = 7 <> <fault absent d;>
+
+run <hs_tool compile p d;hs_tool info d>
+p <7:/x.{1000}y/s> = 0 <compiled 1 44;version 1;expressions 1;identifiers 1;region 201;state 243;>
+p <15:/[0-9]+foo[a-z]*bar/> = 0 <compiled 1 53;version 1;expressions 1;identifiers 1;region 84;state 126;>
 
 # `scan`.
 run <hs_tool scan d f> f <xfoofoo>
@@ -190,9 +195,76 @@ p <1:/foo.*bar/;2:/o$/;>
 # A word in four writes.
 p <15:/[0-9]+foo[a-z]*bar/> in <open s;write s 2;1f;write s 3;oox;write s 2;ba;write s 1;r;>
  = 0 <compiled 1 53;ok open s;ok write s 2;ok write s 3;ok write s 2;s 15 8;ok write s 1;>
-# A stream that was closed.
-p <17:/a$/> in <open s;write s 1;a;close s;close s;>
- = 0 <compiled 1 37;ok open s;ok write s 1;s 17 1;ok close s;no close s unknown;>
+# A stretch of 1,000 bytes in three writes, and one of 999.
+p <7:/x.{1000}y/s> pieces 7,1000
+in <open s;write s 500;x%(499)a;write s 501;%(501)a;write s 1;y;close s;>
+ = 0 <compiled 1 44;ok open s;ok write s 500;ok write s 501;s 7 1002;ok write s 1;ok close s;>
+in <open s;write s 500;x%(499)a;save s f;expand t f;write t 501;%(501)a;save t f;expand u f;write u 1;y;close s;>
+ = 0 <compiled 1 44;ok open s;ok write s 500;ok save s 243;ok expand t;ok write t 501;ok save t 243;ok expand u;
+ u 7 1002;ok write u 1;ok close s;>
+in <open s;write s 500;x%(499)a;write s 500;%(500)a;write s 1;y;close s;>
+ = 0 <compiled 1 44;ok open s;ok write s 500;ok write s 500;ok write s 1;ok close s;>
+run <hs_tool compile p d;hs_tool stream d> p <16:/foo/> pieces 1,2,3,7,1000
+# A stream that was reset, and closed.
+p <17:/a$/> in <open s;write s 1;a;reset s;write s 1;a;close s;close s;>
+ = 0 <compiled 1 37;ok open s;ok write s 1;s 17 1;ok reset s;ok write s 1;s 17 1;ok close s;no close s unknown;>
+
+# Streams that are saved and expanded.
+run <hs_tool compile p d;hs_tool stream d> p <16:/foo/> pieces 1,2,3,7,1000
+in <open s;write s 2;fo;save s f;expand t f;write t 1;o;write s 1;x;>
+ = 0 <compiled 1 38;ok open s;ok write s 2;ok save s 116;ok expand t;t 16 3;ok write t 1;ok write s 1;>
+in <open s;write s 1;f;write s 0;;write s 1;o;save s d;close s;>
+ = 0 <compiled 1 38;ok open s;ok write s 1;ok write s 0;ok write s 1;ok save s 116;ok close s;> <>
+ <HSST%01%00%B6Ds%CA%A5%BD%19cFw%AB%A9%1B%8Dd%D5%C1%8Ba%C3%89W%E4%E1r%EDV%DD%2E1SbJ%00%00%00%02%(69)%00fo%00%00>
+in <save t f;expand t f;open s;expand s f;save s a.1_-;expand u a.1_-;save s .a;>
+ = 5 <compiled 1 38;no save t unknown;no expand t absent;ok open s;no expand s exists;ok save s 116;ok expand u;
+ fault script 7;>
+in <expand t f;reset t;write t 1;o;close t;> f <HSST%01%00%B6Ds%CA%A5%BD%19cFw%AB%A9%1B%8Dd%D5%C1%8Ba%C3%89W%E4%E1r%ED
+ V%DD%2E1SbJ%00%00%00%02%(69)%00fo%00%00>
+ = 0 <compiled 1 38;ok expand t;ok reset t;ok write t 1;ok close t;>
+in <expand t f;write t 1;o;save t d;expand u d;close u> f <HSST%01%00%B6Ds%CA%A5%BD%19cFw%AB%A9%1B%8Dd%D5%C1%8Ba%C3%89
+ W%E4%E1r%EDV%DD%2E1SbJ%00%00%00%02%(69)%00fo%00%00>
+ = 0 <compiled 1 38;ok expand t;t 16 3;ok write t 1;ok save t 116;ok expand u;ok close u;> <>
+ <HSST%01%00%B6Ds%CA%A5%BD%19cFw%AB%A9%1B%8Dd%D5%C1%8Ba%C3%89W%E4%E1r%EDV%DD%2E1SbJ%00%00%00%03%(68)%00foo%01%00>
+p <18:/a/H> in <open s;write s 2;aa;save s f;expand t f;write t 1;a;>
+ = 0 <compiled 1 36;ok open s;s 18 1;ok write s 2;ok save s 118;ok expand t;ok write t 1;>
+p <17:/a$/> in <open s;write s 1;a;save s f;expand t f;close t;close s;>
+ = 0 <compiled 1 37;ok open s;ok write s 1;ok save s 117;ok expand t;t 17 1;ok close t;s 17 1;ok close s;>
+p <15:/[0-9]+foo[a-z]*bar/>
+ in <open s;write s 2;1f;save s f;expand t f;write t 3;oox;save t f;expand u f;write u 2;ba;save u f;expand v f;
+ write v 1;r;>
+ = 0 <compiled 1 53;ok open s;ok write s 2;ok save s 126;ok expand t;ok write t 3;ok save t 126;ok expand u;
+ ok write u 2;ok save u 126;ok expand v;v 15 8;ok write v 1;>
+# A file is refused by its form, then by its version, its list, and its region.
+run <hs_tool compile p d;hs_tool stream d> p <16:/foo/> in <expand t f;write t 1;o;> pieces 1,2,3,7,1000
+f <HSST%01%00%B6Ds%CA%A5%BD%19cFw%AB%A9%1B%8Dd%D5%C1%8Ba%C3%89W%E4%E1r%EDV%DD%2E1SbJ%00%00%00%02%(69)%00fo%00%00%00>
+ = 0 <compiled 1 38;no expand t form;no write t unknown;>
+f <HSST%01%00%B6Ds%CA%A5%BD%19cFw%AB%A9%1B%8Dd%D5%C1%8Ba%C3%89W%E4%E1r%EDV%DD%2E1SbJ%00%00%00%02%(69)%00fo%00>
+ = 0 <compiled 1 38;no expand t form;no write t unknown;>
+f <> = 0 <compiled 1 38;no expand t form;no write t unknown;>
+f <HSST%02%00%(32)%00%(4)%00> = 0 <compiled 1 38;no expand t version;no write t unknown;>
+f <HSST%01%00%(32)%00%(4)%00> = 0 <compiled 1 38;no expand t database;no write t unknown;>
+p <15:/[0-9]+foo[a-z]*bar/> f <HSST%01%00%B6Ds%CA%A5%BD%19cFw%AB%A9%1B%8Dd%D5%C1%8Ba%C3%89W%E4%E1r%EDV%DD%2E1SbJ%00%00
+ %00%02%(69)%00fo%00%00> = 0 <compiled 1 53;no expand t database;no write t unknown;>
+f <HSST%01%00%B6Ds%CA%A5%BD%19cFw%AB%A9%1B%8Dd%D5%C1%8Ba%C3%89W%E4%E1r%EDV%DD%2E1Sb%(4)%00>
+ = 0 <compiled 1 38;no expand t form;no write t unknown;>
+f <HSST%01%00%B6Ds%CA%A5%BD%19cFw%AB%A9%1B%8Dd%D5%C1%8Ba%C3%89W%E4%E1r%EDV%DD%2E1SbJ%00%00%00%02%(69)%00fo%02%00>
+ = 0 <compiled 1 38;no expand t form;no write t unknown;>
+# A region that no stream has whose bytes are known.
+in <expand s f;write s 1;x;write s 0;;save s d;reset s;write s 3;foo;> f <HSST%01%00%B6Ds%CA%A5%BD%19cFw%AB%A9%1B%8Dd
+ %D5%C1%8Ba%C3%89W%E4%E1r%EDV%DD%2E1SbJ%00%00%00%(7)%FF%7F%(66)%00>
+ = 0 <compiled 1 38;ok expand s;no write s length;ok write s 0;ok save s 116;ok reset s;s 16 3;ok write s 3;> <>
+ <HSST%01%00%B6Ds%CA%A5%BD%19cFw%AB%A9%1B%8Dd%D5%C1%8Ba%C3%89W%E4%E1r%EDV%DD%2E1SbJ%00%00%00%(7)%FF%7F%(66)%00>
+
+# A store that fails at a save or an expansion.
+run <hs_tool stream d> d <HSDB%01%00%01%(3)%00%10%(14)%00%(8)%FF%03%00foo>
+ in <open s;write s 2;fo;save s f;expand t f;write t 1;o;close s;>
+fails each = 0 <ok open s;ok write s 2;ok save s 116;ok expand t;t 16 3;ok write t 1;ok close s;>
+store 4 = 3 <ok open s;ok write s 2;> <fault store;>
+store 5 = 3 <ok open s;ok write s 2;ok save s 116;> <fault store;>
+# More streams than may be open.
+d <HSDB%01%(5)%00> opens all in <save AA f;expand z f;expand AB f;close -_;expand z f;> pieces 1000
+ = 0 <ok save AA 114;no expand z full;no expand AB exists;ok close -_;ok expand z;>
 
 # Scripts that are broken off.
 run <hs_tool compile p d;hs_tool stream d> p <20:/foo/> in <open s;close s;>

@@ -1,9 +1,9 @@
 -- The count of a machine is the number of its open streams; and a write may be cut anywhere.
 use Rattle.std.proofs.Common.{◌≡◌, ◌≢◌, ℕ, suc, inl, inr, List, [], ◌∷◌, length, Option, None, Some, refl, sym, ◌∙◌, subst, arith}
 use Rattle.hs_base.specs.Lists.{IsMember, IsRising}
-use Rattle.hs_base.specs.Patterns.{Pattern}
 use Rattle.hs_base.proofs.ListLemmas.{each-member, each-of_members}
 use Rattle.hs_script.specs.Actions.{Action, name_of}
+use Rattle.hs_script.specs.Bases.{Basis, Stream, File}
 use Rattle.hs_script.specs.Machine.{Answer, Machine, start, opens, Steps}
 use Rattle.hs_script.specs.Runs.{IsRun, none, more}
 use Rattle.hs_script.specs.Laws.{AreOpen, IsCounted}
@@ -41,16 +41,16 @@ without name (x ∷ xs) once (inr member) =
     }
 
 -- one stream is open, or closed
-data IsOpenOrNot (h : Option (List ℕ)) : Type 0 where
+data IsOpenOrNot (h : Option Stream) : Type 0 where
   is_open : h ≢ None → opens h ≡ 1 → IsOpenOrNot h
   is_closed : h ≡ None → opens h ≡ 0 → IsOpenOrNot h
 
-open_or_not : (h : Option (List ℕ)) → IsOpenOrNot h
+open_or_not : (h : Option Stream) → IsOpenOrNot h
 open_or_not None = is_closed refl refl
 open_or_not (Some h) = is_open (λ e. cc) refl
 
-step_counted : {P : List Pattern} {m n : Machine} {action : Action} {answer : Answer} → Steps P m action answer n → IsCounted m → IsCounted n
-step_counted {P} {m} {n} {action} s counted = by_streams (open_or_not (m.stream here)) (open_or_not (n.stream here))
+step_counted : {basis : Basis} {m n : Machine} {action : Action} {answer : Answer} → Steps basis m action answer n → IsCounted m → IsCounted n
+step_counted {basis} {m} {n} {action} s counted = by_streams (open_or_not (m.stream here)) (open_or_not (n.stream here))
   where
     here : List ℕ
     here = name_of action
@@ -144,10 +144,10 @@ step_counted {P} {m} {n} {action} s counted = by_streams (open_or_not (m.stream 
       };
     }
 
-run_counted : {P : List Pattern} {m n : Machine} {actions : List Action} {answers : List Answer} → IsRun P m actions answers n → IsCounted m → IsCounted n
+run_counted : {basis : Basis} {m n : Machine} {actions : List Action} {answers : List Answer} → IsRun basis m actions answers n → IsCounted m → IsCounted n
 run_counted none counted = counted
 run_counted (more s r) counted = run_counted r (step_counted s counted)
 
 -- the count of a machine that ran from the start is the number of its open streams
-pub counts_open : {P : List Pattern} {n : Machine} {actions : List Action} {answers : List Answer} → IsRun P start actions answers n → IsCounted n
+pub counts_open : {basis : Basis} {files : List ℕ → File} {n : Machine} {actions : List Action} {answers : List Answer} → IsRun basis (start files) actions answers n → IsCounted n
 counts_open r = run_counted r (record { names = []; are_open = record { each = λ name. (λ member. absurd member, λ is. absurd (is refl)); once = tt; counted = refl } })

@@ -1,3 +1,4 @@
+pub mod BasisLemmas
 pub mod MachineLemmas
 pub mod RunLemmas
 pub mod IsolationLemmas

@@ -1,5 +1,6 @@
 -- Bytes are a script in exactly one way.
 use Rattle.std.proofs.Common.{◌≡◌, ℕ, zero, suc, ◌≤◌, Bool, true, false, nat_lt, ◌==◌, List, [], ◌∷◌, length, take, drop, Option, None, Some, refl, sym, ap, ◌∙◌, subst, arith, if◌then◌else◌}
+use Rattle.std.specs.Option.{unwrap_or}
 use Rattle.std.proofs.lemmas.List.{length-drop}
 use Rattle.hs_base.specs.Assertions.{line_feed}
 use Rattle.hs_text.specs.declared.reply_lines.ScriptFault.{ScriptFault}
@@ -8,7 +9,7 @@ use Rattle.hs_text.specs.Commands.{Order, IsCommand}
 use Rattle.hs_text.specs.Commands as order
 use Rattle.hs_text.proofs.CommandLemmas.{command_once}
 use Rattle.hs_text.proofs.DecisionLemmas.{IsToldCommand, some_command, none_command, command_told}
-use Rattle.hs_script.specs.Actions.{Action, Open, Write, Cut, Reset, Close, IsAlone, open_alone, reset_alone, close_alone}
+use Rattle.hs_script.specs.Actions.{Action, Open, Write, Cut, Reset, Close, Save, Expand, IsAlone, open_alone, reset_alone, close_alone, save_alone, expand_alone}
 use Rattle.hs_script.specs.Scripts.{BeginsLine, First, Goes, Ends, behind_payload, written_by, IsFirst, no_command, alone, write, IsScript, nothing, goes, ends}
 use Rattle.hs_script.specs.Laws.{IsSameScript, IsSomeScript}
 use Rattle.hs_script.proofs.LineLemmas.{line_once, no_line, has_line}
@@ -17,21 +18,31 @@ same_command : {l m r s bytes : List ℕ} {x y : Order} → BeginsLine l r bytes
 same_command {l} {m} {x = x} {y = y} p q c d = command_once l x y c (subst (λ t. IsCommand t y) (sym (line_once p q).left) d)
 
 -- a command that writes nothing is one action, and no write
+action_of : Order → Option Action
+action_of (order.Open name) = Some (Open name)
+action_of (order.Write name count) = None
+action_of (order.Reset name) = Some (Reset name)
+action_of (order.Close name) = Some (Close name)
+action_of (order.Save name file) = Some (Save name file)
+action_of (order.Expand name file) = Some (Expand name file)
+
+alone_is : {x : Order} {a : Action} → IsAlone x a → action_of x ≡ Some a
+unfolding action_of
+alone_is open_alone = refl
+alone_is reset_alone = refl
+alone_is close_alone = refl
+alone_is save_alone = refl
+alone_is expand_alone = refl
+
 alone_once : {x y : Order} {a b : Action} → IsAlone x a → IsAlone y b → x ≡ y → a ≡ b
-alone_once (open_alone {name = n}) (open_alone {name = m}) e = let same : n ≡ m = cc in ap Open same
-alone_once open_alone reset_alone e = cc
-alone_once open_alone close_alone e = cc
-alone_once reset_alone open_alone e = cc
-alone_once (reset_alone {name = n}) (reset_alone {name = m}) e = let same : n ≡ m = cc in ap Reset same
-alone_once reset_alone close_alone e = cc
-alone_once close_alone open_alone e = cc
-alone_once close_alone reset_alone e = cc
-alone_once (close_alone {name = n}) (close_alone {name = m}) e = let same : n ≡ m = cc in ap Close same
+alone_once {a = a} p q e = ap (λ o. unwrap_or o a) (sym (alone_is p) ∙ (ap action_of e ∙ alone_is q))
 
 alone_no_write : {x : Order} {a : Action} {name : List ℕ} {count : ℕ} → IsAlone x a → x ≡ order.Write name count → ⊥
 alone_no_write open_alone e = cc
 alone_no_write reset_alone e = cc
 alone_no_write close_alone e = cc
+alone_no_write save_alone e = cc
+alone_no_write expand_alone e = cc
 
 same_goes : (a b : Action) (r s : List ℕ) → a ≡ b → r ≡ s → Goes a r ≡ Goes b s
 same_goes a b r s e f = ap (λ x. Goes x r) e ∙ ap (Goes b) f
@@ -123,6 +134,10 @@ from_order most number bytes line rest others begins short (order.Reset name) is
     from_first most number bytes others (Goes (Reset name) rest) (alone begins is reset_alone refl) (goes_shorter most rest (Reset name) short)
 from_order most number bytes line rest others begins short (order.Close name) is =
     from_first most number bytes others (Goes (Close name) rest) (alone begins is close_alone refl) (goes_shorter most rest (Close name) short)
+from_order most number bytes line rest others begins short (order.Save name file) is =
+    from_first most number bytes others (Goes (Save name file) rest) (alone begins is save_alone refl) (goes_shorter most rest (Save name file) short)
+from_order most number bytes line rest others begins short (order.Expand name file) is =
+    from_first most number bytes others (Goes (Expand name file) rest) (alone begins is expand_alone refl) (goes_shorter most rest (Expand name file) short)
 
 from_line : (most number : ℕ) (bytes line rest : List ℕ) → AreScripts most → BeginsLine line rest bytes → length rest ≤ most → IsToldCommand line → IsSomeScript number bytes
 from_line most number bytes line rest others begins short (some_command x is) = from_order most number bytes line rest others begins short x is

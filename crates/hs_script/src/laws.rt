@@ -20,7 +20,7 @@ pub fn takes_payload()
     ensures { AlwaysTakesPayload }
 {}
 
-/// Runs over the same bytes that lack memory at the same commands have one text.
+/// Runs over the same bytes and files that make no foreign stream and lack memory at the same commands have one text.
 pub fn text_once()
     ensures { IsTextOnce }
 {}
@@ -31,7 +31,8 @@ pub fn isolated()
     ensures { IsIsolated }
 {}
 
-/// In every run a write below the length limit, a reset and a close of an open stream are done.
+/// In every run a write below the length limit, a reset and a close of an open stream are done; and, but for want of
+/// memory, a save of an open stream, and an expansion of a file of which a stream can be made.
 pub fn complete()
     ensures { IsComplete }
 {}

@@ -3,7 +3,7 @@
 use hs_base::{Construct, ExprId, Refusal, Report};
 use hs_text::{
     LINE_LEN, NAME_LEN, accepted_line, compiled_line, end_line, form_line, info_lines,
-    refusal_line, report_line,
+    refusal_line, report_line, size_lines,
 };
 use std::test::Fail;
 
@@ -182,5 +182,7 @@ fn makes_each_line_again(rt: HostRuntime) -> Result<(), Fail> {
     let len = info_lines(2, 1, &mut info);
     let lines = b"version 1\nexpressions 2\nidentifiers 1\n".as_slice();
     assert!(rt; info.get(..len) == Some(lines));
+    let len = size_lines(74, 116, &mut info);
+    assert!(rt; info.get(..len) == Some(b"region 74\nstate 116\n".as_slice()));
     Ok(())
 }

@@ -1,5 +1,5 @@
 -- Whether a line is a command can be told.
-use Rattle.std.proofs.Common.{◌≡◌, ◌≢◌, ℕ, ◌<◌, ◌≤◌, ◌^◌, ◌⊎◌, inl, inr, Bool, true, false, eqb, bytes_eq, List, [], ◌∷◌, ◌++◌, length, decimal, refl, sym, ap, ◌∙◌, subst, arith}
+use Rattle.std.proofs.Common.{◌≡◌, ◌≢◌, ℕ, ◌<◌, ◌≤◌, ◌^◌, ◌⊎◌, inl, inr, Bool, true, false, eqb, bytes_eq, List, [], ◌∷◌, ◌++◌, length, get_or, decimal, refl, sym, ap, ◌∙◌, subst, arith}
 use Rattle.std.proofs.lemmas.Bool.{cases_lt, eq-eqb, eqb-true, false≢true}
 use Rattle.std.proofs.lemmas.Slice.Eq.{bytes_eq-Decides}
 use Rattle.hs_base.specs.Lists.{Each}
@@ -7,9 +7,9 @@ use Rattle.hs_text.specs.declared.commands.Verb.{Verb}
 use Rattle.hs_text.specs.declared.commands.Verb.TheVariants as verb
 use Rattle.hs_text.specs.Numbers.{value_from}
 use Rattle.hs_text.specs.ReplyLines.{verb_text}
-use Rattle.hs_text.specs.Commands.{IsNameByte, IsName, Order, Open, Write, Reset, Close, verb_of, name_of, count_of, operands_of, IsCommand}
+use Rattle.hs_text.specs.Commands.{IsNameByte, IsFirstByte, IsName, IsFileName, Order, Open, Write, Reset, Close, Save, Expand, verb_of, name_of, count_of, operands_of, NamesFile, IsCommand}
 use Rattle.hs_text.specs.CommandParts.{AreOperands}
-use Rattle.hs_text.proofs.CommandLemmas.{decimal-number, verb_from, verb_of_word, no_word, other_word, line_operands, operands_line, names_operands, write_operands, parts_once, no_parts}
+use Rattle.hs_text.proofs.CommandLemmas.{decimal-number, verb_from, verb_of_word, no_word, other_word, line_operands, operands_line, Kind, alone, numbered, filed, kind_of, file_of, names_operands, write_operands, file_operands, parts_once, no_parts, file_parts_once, no_file_parts}
 
 -- it holds or not
 abbrev pub IsTold : Type 0 → Type 0
@@ -70,6 +70,18 @@ is_name (x ∷ xs) = by_parts (each_name_byte (x ∷ xs)) (cases_lt 32 (length (
     by_parts (inl p) (inl long) = inr (λ h. let k = h.short in omega (arith, k, long))
     by_parts (inl p) (inr short) = inl (record { each = p; some = λ e. cc; short = short })
 
+first_byte : (b : ℕ) → IsTold (IsFirstByte b)
+first_byte b = either (in_range 65 90 b) (either (in_range 97 122 b) (either (in_range 48 57 b) (equal b 95)))
+
+is_file_name : (xs : List ℕ) → IsTold (IsFileName xs)
+is_file_name xs = by_parts (each_name_byte xs) (first_byte (get_or xs 0 0)) (cases_lt 64 (length xs))
+  where
+    by_parts : IsTold (Each IsNameByte xs) → IsTold (IsFirstByte (get_or xs 0 0)) → (64 < length xs) ⊎ (length xs ≤ 64) → IsTold (IsFileName xs)
+    by_parts (inr p) q long = inr (λ h. p h.each)
+    by_parts (inl p) (inr q) long = inr (λ h. q h.first)
+    by_parts (inl p) (inl q) (inl long) = inr (λ h. let k = h.short in omega (arith, k, long))
+    by_parts (inl p) (inl q) (inr short) = inl (record { each = p; first = q; short = short })
+
 -- the first separator, with what stands before and behind it, or none
 data IsCutAt (c : ℕ) (xs : List ℕ) : Type 0 where
   parted : (front back : List ℕ) → Each (λ b. b ≢ c) front → xs ≡ front ++ c ∷ back → IsCutAt c xs
@@ -93,10 +105,10 @@ data AreToldOperands (v : Verb) (operands : List ℕ) : Type 0 where
   some_operands : (order : Order) → AreOperands v operands order → AreToldOperands v operands
   none_operands : ((order : Order) → AreOperands v operands order → ⊥) → AreToldOperands v operands
 
-named_operands : (v : Verb) (operands : List ℕ) → (v ≢ verb.Write) → (order : Order) → v ≡ verb_of order → operands ≡ operands_of order → operands ≡ name_of order → count_of order ≡ 0 → IsTold (IsName operands) → AreToldOperands v operands
-named_operands v operands other order e whole name none (inl is) =
-    some_operands order (record { verb_is = e; whole = whole; name = subst IsName name is; count = omega (arith, none) })
-named_operands v operands other order e whole name none (inr not) = none_operands (λ o h. not (names_operands v operands other o h))
+named_operands : (v : Verb) (operands : List ℕ) → kind_of v ≡ alone → (order : Order) → v ≡ verb_of order → operands ≡ operands_of order → operands ≡ name_of order → count_of order ≡ 0 → NamesFile order → IsTold (IsName operands) → AreToldOperands v operands
+named_operands v operands other order e whole name none file (inl is) =
+    some_operands order (record { verb_is = e; whole = whole; name = subst IsName name is; count = omega (arith, none); file = file })
+named_operands v operands other order e whole name none file (inr not) = none_operands (λ o h. not (names_operands v operands other o h))
 
 counted_operands : (operands name digits : List ℕ) → operands ≡ name ++ 32 ∷ digits → Each (λ b. b ≢ 32) name → IsTold (IsName name) → IsTold (digits ≡ decimal (value_from 0 digits)) → (value_from 0 digits < 2 ^ 63) ⊎ (2 ^ 63 ≤ value_from 0 digits) → AreToldOperands verb.Write operands
 counted_operands operands name digits whole clear (inr not) is small =
@@ -104,7 +116,7 @@ counted_operands operands name digits whole clear (inr not) is small =
 counted_operands operands name digits whole clear (inl named) (inl is) (inl small) =
     some_operands
     (Write name (value_from 0 digits))
-    (record { verb_is = refl; whole = whole ∙ ap (λ d. name ++ 32 ∷ d) is; name = named; count = small })
+    (record { verb_is = refl; whole = whole ∙ ap (λ d. name ++ 32 ∷ d) is; name = named; count = small; file = tt })
 counted_operands operands name digits whole clear (inl named) (inr not) small =
     none_operands (λ o h.
     let p = write_operands operands o h in
@@ -124,11 +136,37 @@ write_told operands (unparted clear) =
 write_told operands (parted name digits clear whole) =
     counted_operands operands name digits whole clear (is_name name) (same_bytes digits (decimal (value_from 0 digits))) (cases_lt (value_from 0 digits) (2 ^ 63))
 
+-- the command of a word, a name and a file
+record IsOfWord (v : Verb) (name file : List ℕ) : Type 0 where
+  order : Order
+  verb_is : v ≡ verb_of order
+  operands_are : operands_of order ≡ name ++ 32 ∷ file
+  name_is : name_of order ≡ name
+  none : count_of order ≡ 0
+  file_is : IsFileName file → NamesFile order
+
+filed_operands : (v : Verb) → kind_of v ≡ filed → ((name file : List ℕ) → IsOfWord v name file) → (operands name file : List ℕ) → operands ≡ name ++ 32 ∷ file → Each (λ b. b ≢ 32) name → IsTold (IsName name) → IsTold (IsFileName file) → AreToldOperands v operands
+filed_operands v kind make operands name file whole clear (inl named) (inl is) =
+    let made = make name file in
+    let zero = made.none in
+    some_operands made.order (record { verb_is = made.verb_is; whole = whole ∙ sym made.operands_are; name = subst IsName (sym made.name_is) named; count = omega (arith, zero); file = made.file_is is })
+filed_operands v kind make operands name file whole clear (inr not) is =
+    none_operands (λ o h. let p = file_operands v operands kind o h in not (subst IsName (sym (file_parts_once operands name file (name_of o) (file_of o) whole clear p).left) p.is_name))
+filed_operands v kind make operands name file whole clear (inl named) (inr not) =
+    none_operands (λ o h. let p = file_operands v operands kind o h in not (subst IsFileName (sym (file_parts_once operands name file (name_of o) (file_of o) whole clear p).right) p.is_file))
+
+file_told : (v : Verb) → kind_of v ≡ filed → ((name file : List ℕ) → IsOfWord v name file) → (operands : List ℕ) → IsCutAt 32 operands → AreToldOperands v operands
+file_told v kind make operands (unparted clear) =
+    none_operands (λ o h. no_file_parts operands clear (name_of o) (file_of o) (file_operands v operands kind o h))
+file_told v kind make operands (parted name file clear whole) = filed_operands v kind make operands name file whole clear (is_name name) (is_file_name file)
+
 operands_told : (v : Verb) (operands : List ℕ) → AreToldOperands v operands
-operands_told verb.Open operands = named_operands verb.Open operands (λ e. cc) (Open operands) refl refl refl refl (is_name operands)
+operands_told verb.Open operands = named_operands verb.Open operands refl (Open operands) refl refl refl refl tt (is_name operands)
 operands_told verb.Write operands = write_told operands (cut_at 32 operands)
-operands_told verb.Reset operands = named_operands verb.Reset operands (λ e. cc) (Reset operands) refl refl refl refl (is_name operands)
-operands_told verb.Close operands = named_operands verb.Close operands (λ e. cc) (Close operands) refl refl refl refl (is_name operands)
+operands_told verb.Reset operands = named_operands verb.Reset operands refl (Reset operands) refl refl refl refl tt (is_name operands)
+operands_told verb.Close operands = named_operands verb.Close operands refl (Close operands) refl refl refl refl tt (is_name operands)
+operands_told verb.Save operands = file_told verb.Save refl (λ name file. record { order = Save name file; verb_is = refl; operands_are = refl; name_is = refl; none = refl; file_is = λ n. n }) operands (cut_at 32 operands)
+operands_told verb.Expand operands = file_told verb.Expand refl (λ name file. record { order = Expand name file; verb_is = refl; operands_are = refl; name_is = refl; none = refl; file_is = λ n. n }) operands (cut_at 32 operands)
 
 by_operands : (line word operands : List ℕ) (v : Verb) → line ≡ word ++ 32 ∷ operands → Each (λ b. b ≢ 32) word → word ≡ verb_text v → AreToldOperands v operands → IsToldCommand line
 by_operands line word operands v whole clear named (some_operands order is) = some_command order (operands_line line word operands v whole named order is)

@@ -16,6 +16,10 @@ info_lines expressions identifiers =
     codes "version 1\nexpressions " ++ decimal expressions ++ codes "\nidentifiers " ++ decimal identifiers ++ codes
     "\n"
 
+-- `region R` and `state S`, a line each
+abbrev pub size_lines : ℕ → ℕ → List ℕ
+size_lines region state = codes "region " ++ decimal region ++ codes "\nstate " ++ decimal state ++ codes "\n"
+
 -- `fault database AT`
 abbrev pub form_line : ℕ → List ℕ
 form_line at = codes "fault database " ++ decimal at ++ codes "\n"

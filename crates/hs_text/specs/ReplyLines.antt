@@ -15,6 +15,8 @@ verb_text verb.Open = codes "open"
 verb_text verb.Write = codes "write"
 verb_text verb.Reset = codes "reset"
 verb_text verb.Close = codes "close"
+verb_text verb.Save = codes "save"
+verb_text verb.Expand = codes "expand"
 
 -- the word of a refusal
 abbrev pub word_text : Word → List ℕ
@@ -22,6 +24,10 @@ word_text word.Exists = codes "exists"
 word_text word.Unknown = codes "unknown"
 word_text word.Full = codes "full"
 word_text word.Length = codes "length"
+word_text word.Absent = codes "absent"
+word_text word.Form = codes "form"
+word_text word.Version = codes "version"
+word_text word.Database = codes "database"
 word_text word.Memory = codes "memory"
 
 -- a number with a space before it, if there is one

@@ -2,7 +2,8 @@
 ghost use Rattle.std.specs.Prelude.{◌≡◌, ◌≤◌, length, take, drop};
 ghost use Rattle.hs_text.specs.declared.line_buffer.TheConstants.{LINE_LEN};
 ghost use Rattle.hs_text.specs.AnswerLines.{accepted_line as line_of_accepted, compiled_line as line_of_compiled};
-ghost use Rattle.hs_text.specs.AnswerLines.{info_lines as lines_of_info, form_line as line_of_form};
+ghost use Rattle.hs_text.specs.AnswerLines.{info_lines as lines_of_info, size_lines as lines_of_sizes};
+ghost use Rattle.hs_text.specs.AnswerLines.{form_line as line_of_form};
 
 use crate::line_buffer::{LINE_LEN, append, append_number};
 
@@ -46,6 +47,21 @@ pub fn info_lines(expressions: u64, identifiers: u64, buf: &mut [u8; LINE_LEN]) 
     let len = append_number(buf, len, expressions);
     let len = append(buf, len, b"\nidentifiers ");
     let len = append_number(buf, len, identifiers);
+    append(buf, len, b"\n")
+}
+
+/// Makes the lines `region R` and `state S`: the lengths in bytes of the region of a stream over a database, and of its
+/// state file. The answer is the length of both; the buffer behind them stays as it was.
+pub fn size_lines(region: u64, state: u64, buf: &mut [u8; LINE_LEN]) -> usize
+    requires { length buf.old ≡ LINE_LEN }
+    ensures within { result ≤ LINE_LEN }
+    ensures text { take result buf.new ≡ lines_of_sizes region state }
+    ensures rest { drop result buf.new ≡ drop result buf.old }
+{
+    let len = append(buf, 0, b"region ");
+    let len = append_number(buf, len, region);
+    let len = append(buf, len, b"\nstate ");
+    let len = append_number(buf, len, state);
     append(buf, len, b"\n")
 }
 

@@ -1,8 +1,9 @@
 //! The lines of a script, each of which is one command.
 ghost use Rattle.std.specs.Prelude.{◌≡◌, ◌≢◌, ℕ, ◌^◌, ◌<◌, List, ◌≤◌, length, get_or, MatchOption, MatchBool, decimal};
 ghost use Rattle.hs_text.specs.ReplyLines.{verb_text};
-ghost use Rattle.hs_text.specs.Commands.{IsNameByte, IsName, Order, IsCommand, ordered};
-ghost use Rattle.hs_text.specs.CommandParts.{AreOperands, HasParts};
+ghost use Rattle.hs_base.specs.Lists.{Each};
+ghost use Rattle.hs_text.specs.Commands.{IsNameByte, IsFirstByte, IsName, IsFileName, Order, IsCommand, ordered};
+ghost use Rattle.hs_text.specs.CommandParts.{AreOperands, HasFileParts, HasParts};
 
 use crate::commands::{Command, Verb};
 use crate::cut::cut_at_first;
@@ -13,6 +14,9 @@ use hs_base::MAX_OFFSET;
 
 /// How many digits the number of bytes of a write has at most.
 const MAX_COUNT_DIGITS: usize = 20;
+
+/// The greatest length in bytes of the name of a file.
+const FILE_LEN: usize = 64;
 
 /// The command that a line is, which ends before its line feed. There is none exactly where the line isn't a command.
 pub fn command<'a>(line: &'a [u8]) -> Option<Command<'a>>
@@ -43,6 +47,10 @@ fn verb_of(word: &[u8]) -> Option<Verb>
         Some(Verb::Reset)
     } else if word == verb_bytes(Verb::Close) {
         Some(Verb::Close)
+    } else if word == verb_bytes(Verb::Save) {
+        Some(Verb::Save)
+    } else if word == verb_bytes(Verb::Expand) {
+        Some(Verb::Expand)
     } else {
         None
     }
@@ -62,6 +70,14 @@ fn with_operands<'a>(verb: Verb, operands: &'a [u8]) -> Option<Command<'a>>
         }
         Verb::Reset => Some(Command::Reset(name_of(operands)?)),
         Verb::Close => Some(Command::Close(name_of(operands)?)),
+        Verb::Save => {
+            let (name, file) = name_and_file(operands)?;
+            Some(Command::Save(name, file))
+        }
+        Verb::Expand => {
+            let (name, file) = name_and_file(operands)?;
+            Some(Command::Expand(name, file))
+        }
     }
 }
 
@@ -90,13 +106,52 @@ fn name_and_count(operands: &[u8]) -> Option<(&[u8], u64)>
     }
 }
 
+/// The name of the stream and that of the file behind the word of a save or of an expansion.
+fn name_and_file(operands: &[u8]) -> Option<(&[u8], &[u8])>
+    ensures { MatchOption result
+        ((name : List ℕ) (file : List ℕ) → HasFileParts operands.now name file → ⊥)
+        (λ parts. HasFileParts operands.now parts.0.now parts.1.now) }
+{
+    let Some((name, file)) = cut_at_first(operands, b' ') else {
+        return None;
+    };
+    if !is_name(name) {
+        return None;
+    }
+    if !is_file_name(file) {
+        return None;
+    }
+    Some((name, file))
+}
+
+/// Whether the bytes are the name of a file.
+fn is_file_name(bytes: &[u8]) -> bool
+    ensures { MatchBool result (IsFileName bytes.now) (IsFileName bytes.now → ⊥) }
+{
+    if bytes.is_empty() || bytes.len() > FILE_LEN {
+        return false;
+    }
+    is_first_byte(bytes[0]) && are_name_bytes(bytes)
+}
+
+/// Whether the name of a file may begin with the byte.
+fn is_first_byte(byte: u8) -> bool
+    ensures { MatchBool result (IsFirstByte byte) (IsFirstByte byte → ⊥) }
+{
+    matches!(byte, b'A'..=b'Z' | b'a'..=b'z' | b'0'..=b'9' | b'_')
+}
+
 /// Whether the bytes are the name of a stream.
 fn is_name(bytes: &[u8]) -> bool
     ensures { MatchBool result (IsName bytes.now) (IsName bytes.now → ⊥) }
 {
-    if bytes.is_empty() || bytes.len() > NAME_LEN {
-        return false;
-    }
+    !bytes.is_empty() && bytes.len() <= NAME_LEN && are_name_bytes(bytes)
+}
+
+/// Whether each byte may stand in a name.
+fn are_name_bytes(bytes: &[u8]) -> bool
+    ensures { MatchBool result (Each IsNameByte bytes.now) (Each IsNameByte bytes.now → ⊥) }
+{
     for byte in bytes {
         if !is_name_byte(*byte) {
             return false;
@@ -105,7 +160,7 @@ fn is_name(bytes: &[u8]) -> bool
     true
 }
 
-/// Whether the byte may stand in the name of a stream.
+/// Whether the byte may stand in a name.
 fn is_name_byte(byte: u8) -> bool
     ensures { MatchBool result (IsNameByte byte) (IsNameByte byte → ⊥) }
 {

@@ -11,6 +11,10 @@ pub enum Verb {
     Reset,
     /// `close`
     Close,
+    /// `save`
+    Save,
+    /// `expand`
+    Expand,
 }
 
 /// A command of a script, with the name of its stream.
@@ -24,4 +28,8 @@ pub enum Command<'a> {
     Reset(&'a [u8]),
     /// Closes the stream.
     Close(&'a [u8]),
+    /// Puts the state of the stream into the file of the second name.
+    Save(&'a [u8], &'a [u8]),
+    /// Opens a stream of the first name with the state in the file of the second one.
+    Expand(&'a [u8], &'a [u8]),
 }

@@ -21,7 +21,7 @@ mod refusal_values;
 mod reply_lines;
 mod report_lines;
 
-pub use answer_lines::{accepted_line, compiled_line, form_line, info_lines};
+pub use answer_lines::{accepted_line, compiled_line, form_line, info_lines, size_lines};
 pub use command_lines::command;
 pub use commands::{Command, Verb};
 pub use fault::ListFault;

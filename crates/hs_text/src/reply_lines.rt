@@ -20,6 +20,14 @@ pub enum Word {
     Full,
     /// The stream would become longer than a stream may be.
     Length,
+    /// The store has no file of that name.
+    Absent,
+    /// The file isn't a state file, or its region isn't well formed.
+    Form,
+    /// The state file has another version.
+    Version,
+    /// The state file is of another database.
+    Database,
     /// Memory ran out.
     Memory,
 }
@@ -94,10 +102,10 @@ pub fn script_fault_line(fault: ScriptFault, buf: &mut [u8; LINE_LEN]) -> usize
 fn append_command(buf: &mut [u8; LINE_LEN], len: usize, verb: Verb, name: &[u8]) -> usize
     requires whole { length buf.old ≡ LINE_LEN }
     requires short { length name.now ≤ NAME_LEN }
-    requires room { len + 38 ≤ LINE_LEN }
+    requires room { len + 39 ≤ LINE_LEN }
     ensures whole { length buf.new ≡ LINE_LEN }
     ensures grows { len ≤ result }
-    ensures within { result ≤ len + 38 }
+    ensures within { result ≤ len + 39 }
     ensures text { take result buf.new ≡ take len buf.old ++ (verb_text verb ++ codes " " ++ name.now) }
     ensures rest { (k : ℕ) → result ≤ k → drop k buf.new ≡ drop k buf.old }
 {
@@ -128,26 +136,32 @@ fn append_count(buf: &mut [u8; LINE_LEN], len: usize, number: Option<u64>) -> us
 /// The word of a command.
 pub(crate) fn verb_bytes(verb: Verb) -> &'static [u8]
     ensures text { result.now ≡ verb_text verb }
-    ensures short { length result.now ≤ 5 }
+    ensures short { length result.now ≤ 6 }
 {
     match verb {
         Verb::Open => b"open",
         Verb::Write => b"write",
         Verb::Reset => b"reset",
         Verb::Close => b"close",
+        Verb::Save => b"save",
+        Verb::Expand => b"expand",
     }
 }
 
 /// The word of a refusal.
 fn word_bytes(word: Word) -> &'static [u8]
     ensures text { result.now ≡ word_text word }
-    ensures short { length result.now ≤ 7 }
+    ensures short { length result.now ≤ 8 }
 {
     match word {
         Word::Exists => b"exists",
         Word::Unknown => b"unknown",
         Word::Full => b"full",
         Word::Length => b"length",
+        Word::Absent => b"absent",
+        Word::Form => b"form",
+        Word::Version => b"version",
+        Word::Database => b"database",
         Word::Memory => b"memory",
     }
 }

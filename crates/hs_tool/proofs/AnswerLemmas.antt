@@ -1,5 +1,5 @@
 -- From what the steps of a command leave to the command's answer.
-use Rattle.std.proofs.Common.{◌≡◌, ℕ, List, [], ◌++◌, length, Option, Some, None, refl, sym, ap, ◌∙◌, subst, append_assoc, inr}
+use Rattle.std.proofs.Common.{◌≡◌, ℕ, List, [], ◌++◌, length, Option, Some, None, refl, sym, ap, ◌∙◌, subst, append_assoc, inl, inr}
 use Rattle.hs_base.specs.Patterns.{Pattern}
 use Rattle.hs_base.specs.Told.{Pair}
 use Rattle.hs_base.specs.MatchText.{report_lines, end_line, IsMatchText}
@@ -24,7 +24,8 @@ use Rattle.hs_lists.specs.Loading.{IsLoaded}
 use Rattle.hs_lists.specs.declared.loading.Loaded.{Loaded}
 use Rattle.hs_lists.proofs.EndingLemmas.{no_memory_early}
 use Rattle.hs_lists.specs.Endings.{greatest_list, Outside, NoFault, TookNothing, HasList, StopsList, StopsEarly, CompileEnds, list_refused, no_memory}
-use Rattle.hs_tool.specs.Answers.{Input, HasWritten, HasBegun, ScanEnds, Ends}
+use Rattle.hs_tool.specs.Answers.{Input, HasWritten, HasBegun, ScanEnds, Ends, KeepsFiles}
+use Rattle.hs_tool.proofs.SaveLemmas.{keeps-same}
 use Rattle.hs_tool.specs.Stopping.{cause_of_scan}
 use Rattle.hs_tool.specs.declared.scan.ScanFault.{ScanFault}
 use Rattle.hs_tool.specs.declared.scan.ScanFault.TheVariants.{Absent, Store, Write, Limit, Memory}
@@ -44,7 +45,7 @@ behind written waits lines more whole = sym (append_assoc written waits more) �
 begun-part : (db : Compiled) (told : Told) (P : List Pattern) (a : Stream) (p q : Option (List ℕ)) →
     Stands db P [] a → IsFilePartlyScanned db told a (λ text. TookPrefix p q text) → HasBegun told P p q
 begun-part db told P a p q stands scan =
-    let moves = write-moves db P [] scan.bytes a scan.new scan.scanned.pairs stands scan.scanned.writes in
+    let moves = write-moves db P [] scan.bytes a scan.new scan.scanned.pairs stands scan.scanned.writes.writes in
     Answers.in_reports scan.bytes scan.scanned.pairs scan.begins moves.reports scan.scanned.passes
 
 -- the text of the match of the file, from the reports
@@ -70,7 +71,7 @@ has_written db told P a b p q r f g h waits stands scan closed =
       file = scan.file;
       within = scan.within;
       text = lines ++ last ++ end_line (length scan.bytes);
-      match = whole-text db P a b scan.bytes scan.scanned.pairs closed.pairs stands scan.scanned.writes closed.ends;
+      match = whole-text db P a b scan.bytes scan.scanned.pairs closed.pairs stands scan.scanned.writes.writes closed.ends;
       taken =
           subst (λ t. Took p r t)
           (behind passed.written waits lines (last ++ end_line (offset_of b)) passed.whole ∙ rest-text lines last (offset_of b) (length scan.bytes) scan.length)
@@ -85,7 +86,7 @@ begun-whole db told P a b p q r f g h waits stands scan closed =
     let lines = report_lines scan.scanned.pairs in
     let last = report_lines closed.pairs in
     Answers.in_text scan.bytes (lines ++ last ++ end_line (length scan.bytes)) scan.file
-    (whole-text db P a b scan.bytes scan.scanned.pairs closed.pairs stands scan.scanned.writes closed.ends)
+    (whole-text db P a b scan.bytes scan.scanned.pairs closed.pairs stands scan.scanned.writes.writes closed.ends)
     (subst (λ t. TookPrefix p r t)
     (behind passed.written waits lines (last ++ end_line (offset_of b)) passed.whole ∙ rest-text lines last (offset_of b) (length scan.bytes) scan.length)
     (TookPrefix-after p q r passed.written (waits ++ (last ++ end_line (offset_of b))) passed.taken closed.passes.cut))
@@ -160,4 +161,14 @@ unread-words (Some (check_list patterns)) before input = Endings.stopped memory 
 unread-words (Some (compile_list patterns database)) before input = Endings.stopped memory (no_memory_early pattern_file patterns before before (Took-nothing before.out) (record { store = refl; sink = refl })) refl
 unread-words (Some (tell_database database)) before input = Endings.stopped memory (no_memory_early database_file database before before (Took-nothing before.out) (record { store = refl; sink = refl }))
 unread-words (Some (scan_file database file)) before input = Answers.stopped memory (no_memory_early database_file database before before (Took-nothing before.out) (record { store = refl; sink = refl }))
-unread-words (Some (run_script database)) before input = Answers.stopped memory (no_memory_early database_file database before before (Took-nothing before.out) (record { store = refl; sink = refl })) refl
+unread-words (Some (run_script database)) before input = Answers.stopped memory (no_memory_early database_file database before before (Took-nothing before.out) (record { store = refl; sink = refl })) refl refl
+
+-- and no file was put
+pub unput-words : (request : Option Request) (left : Option (List ℕ)) (told : List ℕ → Told) → KeepsFiles request left told told
+unput-words None left told = refl
+unput-words (Some (match_file patterns file)) left told = refl
+unput-words (Some (check_list patterns)) left told = refl
+unput-words (Some (compile_list patterns database)) left told = inl (λ other apart. refl)
+unput-words (Some (tell_database database)) left told = refl
+unput-words (Some (scan_file database file)) left told = refl
+unput-words (Some (run_script database)) left told = keeps-same refl

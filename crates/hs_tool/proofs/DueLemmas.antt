@@ -7,6 +7,7 @@ use Rattle.hs_outside.specs.Source.{Gave, IsWhole}
 use Rattle.hs_outside.specs.Store.{Told, lacks, holds, IsFile, IsMissing, IsLonger}
 use Rattle.hs_text.specs.declared.reply_lines.ScriptFault.{ScriptFault}
 use Rattle.hs_script.specs.Actions.{Action}
+use Rattle.hs_script.specs.Bases.{Basis}
 use Rattle.hs_script.specs.Scripts.{IsScript}
 use Rattle.hs_script.proofs.ScriptLemmas.{script_once}
 use Rattle.hs_reader.specs.Reading.{most_script}
@@ -22,6 +23,7 @@ use Rattle.hs_lists.specs.Endings
 use Rattle.hs_lists.specs.Endings.{greatest_list, Outside, HasList, HasRefusedList, StopsList, TellEnds, CompileEnds}
 use Rattle.hs_tool.specs.Answers.{Input, HasWritten, ScanEnds, StreamEnds, UsageEnds, Ends, IsListDue, TellsList, IsDue, IsDueOutcome}
 use Rattle.hs_lists.proofs.OnceLemmas.{accepted-refused, refused_once}
+use Rattle.hs_tool.proofs.StreamLemmas.{some_basis}
 
 -- ---- what is told of a file that is missing, there or longer than its limit
 
@@ -184,7 +186,7 @@ too_many : (left lefts : Option (List ℕ)) (bytes taken : List ℕ) → left �
 too_many left lefts bytes taken gives gave long within = let count = given-within left lefts bytes taken gives gave in omega arith
 
 -- it ends in one way
-same-ending : {P : List Pattern} {left : Option (List ℕ)} {ending other : Option ScriptFault} {text bytes : List ℕ} {actions : List Action} → IsTextOver P left ending text → left ≡ Some bytes → IsScript 1 bytes actions other → ending ≡ other
+same-ending : {basis : Basis} {told tells : List ℕ → Told} {left : Option (List ℕ)} {ending other : Option ScriptFault} {text bytes : List ℕ} {actions : List Action} → IsTextOver basis told tells left ending text → left ≡ Some bytes → IsScript 1 bytes actions other → ending ≡ other
 same-ending {other = other} {actions = actions} over gives is =
     sym over.run.is ∙ (script_once over.run.run.script (subst (λ b. IsScript 1 b actions other) (whole-told over.bytes gives over.whole) is)).same_ending
 
@@ -197,7 +199,7 @@ script-file : {file : List ℕ} → script_of_input ≡ file_named file → ⊥
 script-file e = cc
 
 -- a script that was run to its end or its fault
-due-served : (database : List ℕ) (before now : Outside) (input inputs : Input) (entries : List ListedEntry) (P : List Pattern) (ending : Option ScriptFault) (text : List ℕ) → HasList database_file (before.told database) entries P → IsTextOver P input.left ending text → IsDueOutcome (Some (run_script database)) before now input inputs (outcome_of_ending ending)
+due-served : {basis : Basis} {told tells : List ℕ → Told} (database : List ℕ) (before now : Outside) (input inputs : Input) (entries : List ListedEntry) (P : List Pattern) (ending : Option ScriptFault) (text : List ℕ) → HasList database_file (before.told database) entries P → IsTextOver basis told tells input.left ending text → IsDueOutcome (Some (run_script database)) before now input inputs (outcome_of_ending ending)
 due-served database before now input inputs entries P ending text has over due (Answers.unloaded _ other is) quiet still reads = absurd (list-due has is)
 due-served database before now input inputs entries P ending text has over due (Answers.no_file _ file scans tells gone) quiet still reads = absurd (script-file scans)
 due-served database before now input inputs entries P ending text has over due (Answers.long_file _ file contents scans tells there longer) quiet still reads = absurd (script-file scans)
@@ -219,11 +221,16 @@ due-long_script database before now input inputs entries P taken has gave long d
 due-long_script database before now input inputs entries P taken has gave long due (Answers.loaded _ scans tells) quiet still reads = absurd (script-none scans)
 
 due-stream : (database : List ℕ) (before now : Outside) (input inputs : Input) (outcome : Option Cause) → StreamEnds database before now input inputs outcome → IsDueOutcome (Some (run_script database)) before now input inputs outcome
-due-stream database before now input inputs _ (Answers.done entries P has served end none still') = due-served database before now input inputs entries P None served.text has served.over
-due-stream database before now input inputs _ (Answers.faulty entries P fault has served none still') = due-served database before now input inputs entries P (Some fault) served.text has served.over
-due-stream database before now input inputs _ (Answers.stopped cause early same) = due-stopped (run_script database) before now input inputs cause early.stops
+due-stream database before now input inputs _ (Answers.done entries P has served end none still') =
+    let some = some_basis has in
+    due-served database before now input inputs entries P None served.text has.list (served.over some.0 some.1)
+due-stream database before now input inputs _ (Answers.faulty entries P fault has served none still') =
+    let some = some_basis has in
+    due-served database before now input inputs entries P (Some fault) served.text has.list (served.over some.0 some.1)
+due-stream database before now input inputs _ (Answers.stopped cause early same kept) = due-stopped (run_script database) before now input inputs cause early.stops
 due-stream database before now input inputs _ (Answers.source_failed entries P bytes has answered none rose) = λ due is quiet still reads. absurd (reads tt rose)
-due-stream database before now input inputs _ (Answers.long_script entries P bytes has answered long none still') = due-long_script database before now input inputs entries P bytes has answered.given long
+due-stream database before now input inputs _ (Answers.long_script entries P bytes has answered long none still') = due-long_script database before now input inputs entries P bytes has.list answered.given long
+due-stream database before now input inputs _ (Answers.store_failed entries P has stopped rose sunk still') = λ due is quiet still reads. absurd (quiet rose)
 due-stream database before now input inputs _ (Answers.sink_failed entries P has begun rose) = λ due is quiet still reads. absurd (still rose)
 
 due-usage : (before now : Outside) (input inputs : Input) (outcome : Option Cause) → UsageEnds before now outcome → IsDueOutcome None before now input inputs outcome

@@ -1,11 +1,14 @@
+pub mod WrittenLemmas
 pub mod ScanLemmas
 pub mod MapLemmas
 pub mod OpenLemmas
+pub mod FileLemmas
 pub mod PayloadLemmas
 pub mod WriteLemmas
 pub mod CommandLemmas
 pub mod RunLemmas
 pub mod ServeLemmas
+pub mod SaveLemmas
 pub mod EndLemmas
 pub mod BegunLemmas
 pub mod AnswerLemmas

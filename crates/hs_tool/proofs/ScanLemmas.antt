@@ -10,7 +10,7 @@ use Rattle.hs_compile.specs.Databases.{Compiled}
 use Rattle.hs_base.specs.Offsets.{greatest_offset}
 use Rattle.hs_stream.specs.declared.stream.Stream.{Stream}
 use Rattle.hs_stream.specs.Streams.{offset_of}
-use Rattle.hs_stream.proofs.JoinLemmas.{writes-none, writes-more}
+use Rattle.hs_tool.proofs.WrittenLemmas.{written-none, written-more}
 use Rattle.hs_lines.specs.Passing.{IsPassedOn}
 use Rattle.hs_lines.specs.Printing.{report_lines_of}
 use Rattle.hs_lines.proofs.PassLemmas.{passes-join, passed-part, passed-written, passed-unwritten, on-nothing, on-then, on-cut_longer}
@@ -26,13 +26,13 @@ when_ok (Err e) fine p = absurd (fine refl)
 -- ---- scans
 
 pub scans-none : (db : Compiled) (name : Option (List ℕ)) (stream : Stream) {A : List ℕ → Type 0} → A [] → Scans db name stream stream [] A
-scans-none db name stream nothing = record { pairs = []; writes = writes-none db stream; passes = nothing }
+scans-none db name stream nothing = record { pairs = []; writes = written-none db stream; passes = nothing }
 
 pub scans-join : {db : Compiled} {name : Option (List ℕ)} {a b c : Stream} {x y : List ℕ} {A B C : List ℕ → Type 0} →
     ((s t : List ℕ) → A s → B t → C (s ++ t)) → Scans db name a b x A → Scans db name b c y B → Scans db name a c (x ++ y) C
 scans-join {db} {name} {a} {b} {c} {x} {y} {C = C} join first then = record {
   pairs = first.pairs ++ then.pairs;
-  writes = writes-more db a b c x y first.pairs then.pairs first.writes then.writes;
+  writes = written-more db a b c x y first.pairs then.pairs first.writes then.writes;
   passes =
       subst C (sym (lines-join name first.pairs then.pairs))
       (join (report_lines_of name first.pairs) (report_lines_of name then.pairs) first.passes then.passes);

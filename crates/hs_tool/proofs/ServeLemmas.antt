@@ -2,14 +2,14 @@
 use Rattle.std.proofs.Common.{◌≡◌, ◌≢◌, ℕ, suc, ◌<◌, ◌≤◌, Bool, true, false, List, [], ◌∷◌, ◌++◌, length, Option, None, Some, refl, sym, ap, ◌∙◌, subst, arith, append_assoc, append-nil, length-append}
 use Rattle.std.proofs.lemmas.Bool.{false≢true}
 use Rattle.hs_base.specs.Assertions.{line_feed}
-use Rattle.hs_base.specs.Patterns.{Pattern}
 use Rattle.hs_outside.specs.Source.{Gave, IsAtEnd}
+use Rattle.hs_outside.specs.Store.{Told, untold, lacks, holds}
 use Rattle.hs_text.specs.declared.reply_lines.ScriptFault.{ScriptFault}
 use Rattle.hs_compile.specs.Databases.{Compiled}
-use Rattle.hs_stream.specs.Standing.{RunsPatterns}
 use Rattle.hs_script.specs.Actions.{Action, Write}
 use Rattle.hs_script.specs.Scripts.{BeginsLine, Goes as Going, Ends, written_by, IsFirst, IsScript}
 use Rattle.hs_script.specs.Scripts as script
+use Rattle.hs_script.specs.Bases.{Basis}
 use Rattle.hs_script.specs.Machine.{Answer, start}
 use Rattle.hs_script.specs.Runs.{IsRun, run_text, ending_text}
 use Rattle.hs_script.specs.Runs as run
@@ -19,7 +19,7 @@ use Rattle.hs_script.proofs.PayloadLemmas.{takes_payload}
 use Rattle.hs_tool.specs.declared.session.streams.Streams.{Streams}
 use Rattle.hs_reader.specs.Reading.{Ahead, MayCome, Consumes, IsLineRead, IsLineBegun}
 use Rattle.hs_lines.specs.Passing.{Passes}
-use Rattle.hs_tool.specs.OpenStreams.{Leads, Performs, Follows, stream_at, count_of}
+use Rattle.hs_tool.specs.OpenStreams.{Leads, Performs, Follows, FollowsFile, is_untold, is_missing, has_bytes, RunsBasis, Holdings, kept, files_of, file_of, stream_at, count_of}
 use Rattle.hs_tool.specs.ScriptCommands.{Goes, Faulty, Part, IsBehind, no_command, alone, fed, unfed, other, cut, part, behind, Runs}
 use Rattle.hs_tool.specs.Serving.{Finished, IsPart, in_line, in_payload, behind_payload, Begun}
 use Rattle.hs_reader.proofs.ReadLemmas.{consumes-nothing, consumes-join}
@@ -93,7 +93,7 @@ first-faulty {line} {number} _ bytes rest (cut {name = name} {came = came} {coun
 -- ---- the script so far
 
 -- all commands up to here, with their lines
-pub record SoFar (db : Compiled) (number : ℕ) (before now : Option (List ℕ)) (ahead aheads : Ahead) (streams : Streams) (taken takes : Option (List ℕ)) (waited waits : List ℕ) (lost : Bool) : Type 0 where
+pub record SoFar (db : Compiled) (number : ℕ) (before now : Option (List ℕ)) (ahead aheads : Ahead) (first : List ℕ → Told) (k : Holdings) (taken takes : Option (List ℕ)) (waited waits : List ℕ) (lost : Bool) : Type 0 where
   pub seen : List ℕ
   pub actions : List Action
   pub answers : List Answer
@@ -102,11 +102,17 @@ pub record SoFar (db : Compiled) (number : ℕ) (before now : Option (List ℕ))
   pub few : length actions ≤ length seen
   pub script : (rest : List ℕ) (following : List Action) (ending : Option ScriptFault) → MayCome aheads.ended rest → IsScript number rest following ending → IsScript 1 (seen ++ rest) (actions ++ following) ending
   pub paired : length actions ≡ length answers
-  pub leads : (P : List Pattern) → RunsPatterns db P → Leads db P start streams actions answers
+  pub leads : (basis : Basis) → RunsBasis db basis → Leads basis (start (files_of first)) k actions answers
   pub sends : Passes lost taken takes waited waits (run_text actions answers)
 
-pub so_far-start : (db : Compiled) (left : Option (List ℕ)) (ahead : Ahead) (streams : Streams) (taken : Option (List ℕ)) (waited : List ℕ) → ((name : List ℕ) → stream_at streams name ≡ None) → count_of streams ≡ 0 → SoFar db 1 left left ahead ahead streams taken taken waited waited false
-so_far-start db left ahead streams taken waited none empty = record {
+-- at the start the machine is told what the store tells
+follows-start : (basis : Basis) (t : Told) → FollowsFile basis (file_of t) t
+follows-start basis untold = is_untold
+follows-start basis lacks = is_missing
+follows-start basis (holds bytes) = has_bytes
+
+pub so_far-start : (db : Compiled) (left : Option (List ℕ)) (ahead : Ahead) (first : List ℕ → Told) (streams : Streams) (taken : Option (List ℕ)) (waited : List ℕ) → ((name : List ℕ) → stream_at streams name ≡ None) → count_of streams ≡ 0 → SoFar db 1 left left ahead ahead first (kept streams first) taken taken waited waited false
+so_far-start db left ahead first streams taken waited none empty = record {
   seen = [];
   actions = [];
   answers = [];
@@ -115,10 +121,14 @@ so_far-start db left ahead streams taken waited none empty = record {
   few = omega arith;
   script = λ rest following ending may s. s;
   paired = refl;
-  leads = λ P is. record {
-    after = start;
+  leads = λ basis is. record {
+    after = start (files_of first);
     run = run.none;
-    tracks = record { each = λ name. subst (λ s. Follows db P None s) (sym (none name)) tt; counted = sym empty };
+    tracks = record {
+      each = λ name. subst (λ s. Follows basis None s) (sym (none name)) tt;
+      files = λ name. follows-start basis (first name);
+      counted = sym empty;
+    };
   };
   sends = passed-nothing taken waited;
 }
@@ -135,14 +145,14 @@ pub line-long : {p q : Option (List ℕ)} {a b : Ahead} {kept : List ℕ} (line 
 line-long line = omega (arith, line.consumes.here, filled line.seen (line-some line))
 
 -- all that the machine did
-leads-join : {db : Compiled} {old new : Streams} {xs ys : List Action} {ss bs : List Answer} → ((P : List Pattern) → RunsPatterns db P → Leads db P start old xs ss) → Performs db old new ys bs → (P : List Pattern) → RunsPatterns db P → Leads db P start new (xs ++ ys) (ss ++ bs)
-leads-join first then P is =
-    let one = first P is in
-    let two = then P one.after is one.tracks in
+leads-join : {db : Compiled} (first : List ℕ → Told) {old new : Holdings} {xs ys : List Action} {ss bs : List Answer} → ((basis : Basis) → RunsBasis db basis → Leads basis (start (files_of first)) old xs ss) → Performs db old new ys bs → (basis : Basis) → RunsBasis db basis → Leads basis (start (files_of first)) new (xs ++ ys) (ss ++ bs)
+leads-join first front then basis is =
+    let one = front basis is in
+    let two = then basis one.after is one.tracks in
     record { after = two.after; run = run_join one.run two.run; tracks = two.tracks }
 
 -- the next command
-pub so_far-next : {db : Compiled} {number : ℕ} {p q r s : Option (List ℕ)} {a b c d : Ahead} {kept : List ℕ} {old new : Streams} {x y z : Option (List ℕ)} {f g h : List ℕ} (lost : Bool) → SoFar db number p q a b old x y f g false → (line : IsLineRead q r b c kept) → Runs db line.line number old new r s c d y z g h lost Goes → SoFar db (suc number) p s a d new x z f h lost
+pub so_far-next : {db : Compiled} {number : ℕ} {p q r s : Option (List ℕ)} {a b c d : Ahead} {kept : List ℕ} {first : List ℕ → Told} {old new : Holdings} {x y z : Option (List ℕ)} {f g h : List ℕ} (lost : Bool) → SoFar db number p q a b first old x y f g false → (line : IsLineRead q r b c kept) → Runs db line.line number old new r s c d y z g h lost Goes → SoFar db (suc number) p s a d first new x z f h lost
 so_far-next {db} {number} {d = d} {x = x} {y = y} {z = z} {f = f} {g = g} {h = h} lost so_far line runs =
     record {
       seen = so_far.seen ++ (line.seen ++ runs.seen);
@@ -153,7 +163,7 @@ so_far-next {db} {number} {d = d} {x = x} {y = y} {z = z} {f = f} {g = g} {h = h
       few = omega (arith, more, so_far.few, filled line.seen (line-some line), length-append so_far.seen (line.seen ++ runs.seen), length-append line.seen runs.seen);
       script = script_of;
       paired = omega (arith, length-append so_far.actions runs.actions, length-append so_far.answers runs.answers, so_far.paired, runs.paired);
-      leads = leads-join so_far.leads runs.performs;
+      leads = leads-join _ so_far.leads runs.performs;
       sends =
           subst (λ t. Passes lost x z f h t) (sym (text-join so_far.actions runs.actions so_far.answers runs.answers so_far.paired))
           (passes-join lost x y z f g h (run_text so_far.actions so_far.answers) (run_text runs.actions runs.answers) so_far.sends
@@ -183,7 +193,7 @@ so_far-next {db} {number} {d = d} {x = x} {y = y} {z = z} {f = f} {g = g} {h = h
         (sym (append_assoc so_far.seen (line.seen ++ runs.seen) rest ∙ ap (λ l. so_far.seen ++ l) (append_assoc line.seen runs.seen rest))) all)
 
 -- what waits was written behind it, or some of that
-pub so_far-sent : {db : Compiled} {number : ℕ} {p q : Option (List ℕ)} {a b : Ahead} {streams : Streams} {x y z : Option (List ℕ)} {f g h : List ℕ} (lost : Bool) → SoFar db number p q a b streams x y f g false → Passes lost y z g h [] → SoFar db number p q a b streams x z f h lost
+pub so_far-sent : {db : Compiled} {number : ℕ} {p q : Option (List ℕ)} {a b : Ahead} {first : List ℕ → Told} {k : Holdings} {x y z : Option (List ℕ)} {f g h : List ℕ} (lost : Bool) → SoFar db number p q a b first k x y f g false → Passes lost y z g h [] → SoFar db number p q a b first k x z f h lost
 so_far-sent {x = x} {y = y} {z = z} {f = f} {g = g} {h = h} lost so_far sent = record {
   seen = so_far.seen;
   actions = so_far.actions;
@@ -200,14 +210,14 @@ so_far-sent {x = x} {y = y} {z = z} {f = f} {g = g} {h = h} lost so_far sent = r
 }
 
 -- counted as it is counted
-pub so_far-numbered : {db : Compiled} {n m : ℕ} {p q : Option (List ℕ)} {a b : Ahead} {streams : Streams} {x y : Option (List ℕ)} {f g : List ℕ} {lost : Bool} → m ≡ n → SoFar db n p q a b streams x y f g lost → SoFar db m p q a b streams x y f g lost
-so_far-numbered {db} {p = p} {q = q} {a = a} {b = b} {streams = streams} {x = x} {y = y} {f = f} {g = g} {lost = lost} same so_far =
-    subst (λ k. SoFar db k p q a b streams x y f g lost) (sym same) so_far
+pub so_far-numbered : {db : Compiled} {n m : ℕ} {p q : Option (List ℕ)} {a b : Ahead} {first : List ℕ → Told} {k : Holdings} {x y : Option (List ℕ)} {f g : List ℕ} {lost : Bool} → m ≡ n → SoFar db n p q a b first k x y f g lost → SoFar db m p q a b first k x y f g lost
+so_far-numbered {db} {p = p} {q = q} {a = a} {b = b} {first = first} {k = k} {x = x} {y = y} {f = f} {g = g} {lost = lost} same so_far =
+    subst (λ i. SoFar db i p q a b first k x y f g lost) (sym same) so_far
 
 -- for the same database
-pub so_far-same : {db db' : Compiled} {n : ℕ} {p q : Option (List ℕ)} {a b : Ahead} {streams : Streams} {x y : Option (List ℕ)} {f g : List ℕ} {lost : Bool} → db ≡ db' → SoFar db n p q a b streams x y f g lost → SoFar db' n p q a b streams x y f g lost
-so_far-same {n = n} {p = p} {q = q} {a = a} {b = b} {streams = streams} {x = x} {y = y} {f = f} {g = g} {lost = lost} same so_far =
-    subst (λ d. SoFar d n p q a b streams x y f g lost) same so_far
+pub so_far-same : {db db' : Compiled} {n : ℕ} {p q : Option (List ℕ)} {a b : Ahead} {first : List ℕ → Told} {k : Holdings} {x y : Option (List ℕ)} {f g : List ℕ} {lost : Bool} → db ≡ db' → SoFar db n p q a b first k x y f g lost → SoFar db' n p q a b first k x y f g lost
+so_far-same {n = n} {p = p} {q = q} {a = a} {b = b} {first = first} {k = k} {x = x} {y = y} {f = f} {g = g} {lost = lost} same so_far =
+    subst (λ d. SoFar d n p q a b first k x y f g lost) same so_far
 
 -- ---- what was taken of the source
 
@@ -256,18 +266,26 @@ abbrev pub fresh : Ahead
 fresh = record { bytes = []; at = 0; ended = false }
 
 -- where the end isn't told, any bytes may stand behind
-whole_of : {db : Compiled} {number : ℕ} {p q : Option (List ℕ)} {a b : Ahead} {streams : Streams} {x y : Option (List ℕ)} {f g : List ℕ} {lost : Bool} (so_far : SoFar db number p q a b streams x y f g lost) → b.ended ≡ false → (next : List ℕ) (following : List Action) (ending : Option ScriptFault) → IsScript (suc (length so_far.actions)) next following ending → IsScript 1 (so_far.seen ++ next) (so_far.actions ++ following) ending
-whole_of so_far goes_on next following ending s =
+pub whole_before : {db : Compiled} {number : ℕ} {p q : Option (List ℕ)} {a b : Ahead} {first : List ℕ → Told} {k : Holdings} {x y : Option (List ℕ)} {f g : List ℕ} {lost : Bool} (so_far : SoFar db number p q a b first k x y f g lost) → b.ended ≡ false → (next : List ℕ) (following : List Action) (ending : Option ScriptFault) → IsScript (suc (length so_far.actions)) next following ending → IsScript 1 (so_far.seen ++ next) (so_far.actions ++ following) ending
+whole_before so_far goes_on next following ending s =
     so_far.script next following ending (λ e. absurd (false≢true (sym goes_on ∙ e))) (subst (λ n. IsScript n next following ending) (sym so_far.numbered) s)
+
+-- the end isn't told where a line came
+pub line-open : {p q : Option (List ℕ)} {a b : Ahead} {kept : List ℕ} → IsLineRead p q a b kept → a.ended ≡ false
+line-open {a = a} line = by_test a.ended refl
+  where
+    by_test : (t : Bool) → a.ended ≡ t → a.ended ≡ false
+    by_test true e = absurd (line-some line (line.consumes.over e).nothing)
+    by_test false e = e
 
 -- ---- how it ends
 
 -- all of it ran
-pub finished-end : {db : Compiled} {number : ℕ} {p q : Option (List ℕ)} {a : Ahead} {streams : Streams} {x y : Option (List ℕ)} {f g : List ℕ} {lost : Bool} (so_far : SoFar db number p q fresh a streams x y f g lost) (is : IsGiven p q a so_far.seen) → a.ended ≡ true → Finished db is.taken true None (run_text so_far.actions so_far.answers)
+pub finished-end : {db : Compiled} {number : ℕ} {p q : Option (List ℕ)} {a : Ahead} {first : List ℕ → Told} {k : Holdings} {x y : Option (List ℕ)} {f g : List ℕ} {lost : Bool} (so_far : SoFar db number p q fresh a first k x y f g lost) (is : IsGiven p q a so_far.seen) → a.ended ≡ true → Finished db first k.told is.taken true None (run_text so_far.actions so_far.answers)
 finished-end {db} {a = a} so_far is ended = record {
   answers = so_far.answers;
-  runs = λ P rest of_P may.
-      let leads = so_far.leads P of_P in
+  runs = λ basis rest of may.
+      let leads = so_far.leads basis of in
       record {
         run = record {
           actions = so_far.actions;
@@ -281,40 +299,41 @@ finished-end {db} {a = a} so_far is ended = record {
           whole = sym (append-nil (run_text so_far.actions so_far.answers));
         };
         is = refl;
+        files = leads.tracks.files;
       };
 }
 
 -- the commands so far, and no more of the next one
-pub begun-so_far : {db : Compiled} {number : ℕ} {p q : Option (List ℕ)} {a : Ahead} {streams : Streams} {x y : Option (List ℕ)} {f g : List ℕ} {lost : Bool} (so_far : SoFar db number p q fresh a streams x y f g lost) (is : IsGiven p q a so_far.seen) → a.ended ≡ false → Begun db is.taken is.unread (run_text so_far.actions so_far.answers)
-begun-so_far {db} {number} {a = a} so_far is goes_on = record {
+pub begun-so_far : {db : Compiled} {number : ℕ} {p q : Option (List ℕ)} {a : Ahead} {first : List ℕ → Told} {k : Holdings} {x y : Option (List ℕ)} {f g : List ℕ} {lost : Bool} (so_far : SoFar db number p q fresh a first k x y f g lost) (is : IsGiven p q a so_far.seen) → a.ended ≡ false → Begun db first is.taken is.unread (run_text so_far.actions so_far.answers)
+begun-so_far {db} {number} {a = a} {first = first} so_far is goes_on = record {
   front = so_far.seen;
   rest = [];
   split = is.split;
   actions = so_far.actions;
   more = [];
   answers = so_far.answers;
-  whole = whole_of so_far goes_on;
+  whole = whole_before so_far goes_on;
   part = in_line tt;
-  runs = λ P of_P.
-      let leads = so_far.leads P of_P in
-      record { after = leads.after; run = subst (λ l. IsRun P start l so_far.answers leads.after) (sym (append-nil so_far.actions)) leads.run };
+  runs = λ basis of.
+      let leads = so_far.leads basis of in
+      record { after = leads.after; run = subst (λ l. IsRun basis (start (files_of first)) l so_far.answers leads.after) (sym (append-nil so_far.actions)) leads.run };
   is = ap (λ l. run_text l so_far.answers) (sym (append-nil so_far.actions));
 }
 
 -- some of a line behind them
-pub begun-line : {db : Compiled} {number : ℕ} {p q r : Option (List ℕ)} {a b : Ahead} {streams : Streams} {x y : Option (List ℕ)} {f g : List ℕ} {lost : Bool} (so_far : SoFar db number p q fresh a streams x y f g lost) (line : IsLineBegun q r a b) (is : IsGiven p r b (so_far.seen ++ line.part)) → Begun db is.taken is.unread (run_text so_far.actions so_far.answers)
-begun-line {db} {number} {a = a} so_far line is = record {
+pub begun-line : {db : Compiled} {number : ℕ} {p q r : Option (List ℕ)} {a b : Ahead} {first : List ℕ → Told} {k : Holdings} {x y : Option (List ℕ)} {f g : List ℕ} {lost : Bool} (so_far : SoFar db number p q fresh a first k x y f g lost) (line : IsLineBegun q r a b) (is : IsGiven p r b (so_far.seen ++ line.part)) → Begun db first is.taken is.unread (run_text so_far.actions so_far.answers)
+begun-line {db} {number} {a = a} {first = first} so_far line is = record {
   front = so_far.seen;
   rest = line.part;
   split = is.split ∙ append_assoc so_far.seen line.part is.unread;
   actions = so_far.actions;
   more = [];
   answers = so_far.answers;
-  whole = whole_of so_far (still-open line.consumes line.still_open);
+  whole = whole_before so_far (still-open line.consumes line.still_open);
   part = in_line line.plain;
-  runs = λ P of_P.
-      let leads = so_far.leads P of_P in
-      record { after = leads.after; run = subst (λ l. IsRun P start l so_far.answers leads.after) (sym (append-nil so_far.actions)) leads.run };
+  runs = λ basis of.
+      let leads = so_far.leads basis of in
+      record { after = leads.after; run = subst (λ l. IsRun basis (start (files_of first)) l so_far.answers leads.after) (sym (append-nil so_far.actions)) leads.run };
   is = ap (λ l. run_text l so_far.answers) (sym (append-nil so_far.actions));
 }
 
@@ -322,9 +341,9 @@ begun-line {db} {number} {a = a} so_far line is = record {
 two_texts : (xs ys : List Action) (ss bs : List Answer) (end : List ℕ) → length xs ≡ length ss → run_text xs ss ++ (run_text ys bs ++ end) ≡ run_text (xs ++ ys) (ss ++ bs) ++ end
 two_texts xs ys ss bs end e = sym (append_assoc (run_text xs ss) (run_text ys bs) end) ∙ ap (λ t. t ++ end) (sym (text-join xs ys ss bs e))
 
-module _ {db : Compiled} {number : ℕ} {p q r s : Option (List ℕ)} {a b c : Ahead} {kept : List ℕ} {old new : Streams} {x y z : Option (List ℕ)} {f g h : List ℕ} (lost : Bool) (so_far : SoFar db number p q fresh a old x y f g false) (line : IsLineRead q r a b kept) where
+module _ {db : Compiled} {number : ℕ} {p q r s : Option (List ℕ)} {a b c : Ahead} {kept : List ℕ} {first : List ℕ → Told} {old new : Holdings} {x y z : Option (List ℕ)} {f g h : List ℕ} (lost : Bool) (so_far : SoFar db number p q fresh a first old x y f g false) (line : IsLineRead q r a b kept) where
   -- some of a command behind them
-  pub begun-part : (runs : Runs db line.line number old new r s b c y z g h lost Part) (is : IsGiven p s c (so_far.seen ++ (line.seen ++ runs.seen))) → Begun db is.taken is.unread (run_text so_far.actions so_far.answers ++ (run_text runs.actions runs.answers ++ []))
+  pub begun-part : (runs : Runs db line.line number old new r s b c y z g h lost Part) (is : IsGiven p s c (so_far.seen ++ (line.seen ++ runs.seen))) → Begun db first is.taken is.unread (run_text so_far.actions so_far.answers ++ (run_text runs.actions runs.answers ++ []))
   begun-part runs is = record {
     front = so_far.seen;
     rest = line.seen ++ runs.seen;
@@ -332,9 +351,9 @@ module _ {db : Compiled} {number : ℕ} {p q r s : Option (List ℕ)} {a b c : A
     actions = so_far.actions;
     more = runs.actions;
     answers = so_far.answers ++ runs.answers;
-    whole = whole_of so_far (still-open line.consumes (still-open runs.consumes (goes_on runs.is)));
+    whole = whole_before so_far (still-open line.consumes (still-open runs.consumes (goes_on runs.is)));
     part = part_of runs.is;
-    runs = λ P of_P. let leads = leads-join so_far.leads runs.performs P of_P in record { after = leads.after; run = leads.run };
+    runs = λ basis of. let leads = leads-join _ so_far.leads runs.performs basis of in record { after = leads.after; run = leads.run };
     is = two_texts so_far.actions runs.actions so_far.answers runs.answers [] so_far.paired ∙ append-nil (run_text (so_far.actions ++ runs.actions) (so_far.answers ++ runs.answers));
   }
     where
@@ -352,11 +371,11 @@ module _ {db : Compiled} {number : ℕ} {p q r s : Option (List ℕ)} {a b c : A
       part_of (behind command is still) = behind_payload line.line command (line_is is still)
 
   -- a fault of the script behind them
-  pub finished-fault : (fault : ScriptFault) (runs : Runs db line.line number old new r s b c y z g h lost (Faulty fault)) (is : IsGiven p s c (so_far.seen ++ (line.seen ++ runs.seen))) → Finished db is.taken c.ended (Some fault) (run_text so_far.actions so_far.answers ++ (run_text runs.actions runs.answers ++ ending_text (Some fault)))
+  pub finished-fault : (fault : ScriptFault) (runs : Runs db line.line number old new r s b c y z g h lost (Faulty fault)) (is : IsGiven p s c (so_far.seen ++ (line.seen ++ runs.seen))) → Finished db first new.told is.taken c.ended (Some fault) (run_text so_far.actions so_far.answers ++ (run_text runs.actions runs.answers ++ ending_text (Some fault)))
   finished-fault fault runs is = record {
     answers = so_far.answers ++ runs.answers;
-    runs = λ P rest of_P may.
-        let leads = leads-join so_far.leads runs.performs P of_P in
+    runs = λ basis rest of may.
+        let leads = leads-join _ so_far.leads runs.performs basis of in
         let come : List ℕ = is.unread ++ rest in
         let may_come : MayCome c.ended come = λ e. ap (λ l. l ++ rest) (is.none e) ∙ may e in
         let first = first-faulty fault (line.seen ++ (runs.seen ++ come)) come runs.is may_come (line.begins (runs.seen ++ come) (may-behind come runs.consumes may_come)) in
@@ -376,5 +395,6 @@ module _ {db : Compiled} {number : ℕ} {p q r s : Option (List ℕ)} {a b c : A
             whole = two_texts so_far.actions runs.actions so_far.answers runs.answers (ending_text (Some fault)) so_far.paired;
           };
           is = refl;
+          files = leads.tracks.files;
         };
   }

@@ -98,9 +98,10 @@ compile_usage (Endings.sink_failed entries P bytes has is put taken rose) e = om
 stream_usage : {database : List ℕ} {before now : Outside} {input inputs : Input} {outcome : Option Cause} → StreamEnds database before now input inputs outcome → status_of outcome ≡ 1 → ⊥
 stream_usage (Answers.done entries P has served end none still) e = omega (arith, e)
 stream_usage (Answers.faulty entries P fault has served none still) e = omega (arith, e)
-stream_usage (Answers.stopped cause early same) e = stops_usage early.stops e
+stream_usage (Answers.stopped cause early same kept) e = stops_usage early.stops e
 stream_usage (Answers.source_failed entries P bytes has answered none rose) e = omega (arith, e)
 stream_usage (Answers.long_script entries P bytes has answered long none still) e = omega (arith, e)
+stream_usage (Answers.store_failed entries P has stopped rose sunk still) e = omega (arith, e)
 stream_usage (Answers.sink_failed entries P has begun rose) e = omega (arith, e)
 
 usage_request : (request : Option Request) (before now : Outside) (input inputs : Input) (outcome : Option Cause) → Ends request before now input inputs outcome → status_of outcome ≡ 1 → request ≡ None
@@ -152,9 +153,10 @@ failed_elsewhere (inr b) = inr (inl b)
 stream_rose : {database : List ℕ} {before now : Outside} {input inputs : Input} {outcome : Option Cause} → StreamEnds database before now input inputs outcome → status_of outcome ≡ 3 → Fails (Some (run_script database)) before now input inputs
 stream_rose (Answers.done entries P has served end none still) e = absurd (omega (arith, e))
 stream_rose (Answers.faulty entries P fault has served none still) e = absurd (omega (arith, e))
-stream_rose (Answers.stopped cause early same) e = inl (stops_rose early.stops e)
+stream_rose (Answers.stopped cause early same kept) e = inl (stops_rose early.stops e)
 stream_rose (Answers.source_failed entries P bytes has answered none rose) e = inr (inr (tt, rose))
 stream_rose (Answers.long_script entries P bytes has answered long none still) e = absurd (omega (arith, e))
+stream_rose (Answers.store_failed entries P has stopped rose sunk still) e = inl rose
 stream_rose (Answers.sink_failed entries P has begun rose) e = inr (inl rose)
 
 ends_rose : (request : Option Request) (before now : Outside) (input inputs : Input) (outcome : Option Cause) → Ends request before now input inputs outcome → status_of outcome ≡ 3 → Fails request before now input inputs
@@ -205,17 +207,18 @@ ends_script (Some (scan_file database file)) before now input inputs outcome end
 ends_script (Some (run_script database)) before now input inputs outcome ends e = tt
 
 -- a script that was run to its end or its fault
-stream_run : {database : List ℕ} {before now : Outside} {input inputs : Input} {outcome : Option Cause} (n : ℕ) → StreamEnds database before now input inputs outcome → status_of outcome ≡ n → (n ≡ 0) ⊎ (n ≡ 5) → HasRun (before.told database) input.left before.out now.out n
+stream_run : {database : List ℕ} {before now : Outside} {input inputs : Input} {outcome : Option Cause} (n : ℕ) → StreamEnds database before now input inputs outcome → status_of outcome ≡ n → (n ≡ 0) ⊎ (n ≡ 5) → HasRun database before.told now.told input.left before.out now.out n
 stream_run n (Answers.done entries P has served end none still) e is =
     record { entries = entries; patterns = P; list = has; ending = None; ended = sym e; text = served.text; over = served.over; taken = served.taken }
 stream_run n (Answers.faulty entries P fault has served none still) e is =
     record { entries = entries; patterns = P; list = has; ending = Some fault; ended = sym e; text = served.text; over = served.over; taken = served.taken }
-stream_run n (Answers.stopped cause early same) e is = absurd (stops_unserved n early.stops e is)
+stream_run n (Answers.stopped cause early same kept) e is = absurd (stops_unserved n early.stops e is)
 stream_run n (Answers.source_failed entries P bytes has answered none rose) e is = absurd (apart 3 n e is (λ x. omega (arith, x)) (λ x. omega (arith, x)))
 stream_run n (Answers.long_script entries P bytes has answered long none still) e is = absurd (apart 8 n e is (λ x. omega (arith, x)) (λ x. omega (arith, x)))
+stream_run n (Answers.store_failed entries P has stopped rose sunk still) e is = absurd (apart 3 n e is (λ x. omega (arith, x)) (λ x. omega (arith, x)))
 stream_run n (Answers.sink_failed entries P has begun rose) e is = absurd (apart 3 n e is (λ x. omega (arith, x)) (λ x. omega (arith, x)))
 
-ends_run : (request : Option Request) (before now : Outside) (input inputs : Input) (outcome : Option Cause) (database : List ℕ) (n : ℕ) → Ends request before now input inputs outcome → request ≡ Some (run_script database) → status_of outcome ≡ n → (n ≡ 0) ⊎ (n ≡ 5) → HasRun (before.told database) input.left before.out now.out n
+ends_run : (request : Option Request) (before now : Outside) (input inputs : Input) (outcome : Option Cause) (database : List ℕ) (n : ℕ) → Ends request before now input inputs outcome → request ≡ Some (run_script database) → status_of outcome ≡ n → (n ≡ 0) ⊎ (n ≡ 5) → HasRun database before.told now.told input.left before.out now.out n
 ends_run request before now input inputs outcome database n ends same e is =
     stream_run n (subst (λ r. Ends r before now input inputs outcome) same ends) e is
 
@@ -266,9 +269,10 @@ compile_silent (Endings.sink_failed entries P bytes has is put taken rose) e = a
 stream_silent : {database : List ℕ} {before now : Outside} {input inputs : Input} {outcome : Option Cause} → StreamEnds database before now input inputs outcome → IsSilentStatus (status_of outcome) → Took before.out now.out []
 stream_silent (Answers.done entries P has served end none still) e = absurd (loud-done e)
 stream_silent (Answers.faulty entries P fault has served none still) e = absurd (loud-faulty e)
-stream_silent (Answers.stopped cause early same) e = early.quiet
+stream_silent (Answers.stopped cause early same kept) e = early.quiet
 stream_silent (Answers.source_failed entries P bytes has answered none rose) e = absurd (loud-failed e)
 stream_silent (Answers.long_script entries P bytes has answered long none still) e = absurd (loud-long e)
+stream_silent (Answers.store_failed entries P has stopped rose sunk still) e = absurd (loud-failed e)
 stream_silent (Answers.sink_failed entries P has begun rose) e = absurd (loud-failed e)
 
 ends_silent : (request : Option Request) (before now : Outside) (input inputs : Input) (outcome : Option Cause) → Ends request before now input inputs outcome → IsSilentStatus (status_of outcome) → (status_of outcome ≡ 7 → TellsFile request before.told) → Took before.out now.out []
@@ -286,21 +290,31 @@ compile_unput (Endings.stopped cause early kept) e = kept
 compile_unput (Endings.put_failed entries P has spoils nothing rose) e = absurd (loud-failed e)
 compile_unput (Endings.sink_failed entries P bytes has is put taken rose) e = absurd (loud-failed e)
 
-ends_unput : (request : Option Request) (before now : Outside) (input inputs : Input) (outcome : Option Cause) → Ends request before now input inputs outcome → KeepsFiles request before.told now.told → IsSilentStatus (status_of outcome) → now.told ≡ before.told
+stream_unput : {database : List ℕ} {before now : Outside} {input inputs : Input} {outcome : Option Cause} → StreamEnds database before now input inputs outcome → IsSilentStatus (status_of outcome) → now.told ≡ before.told
+stream_unput (Answers.done entries P has served end none still) e = absurd (loud-done e)
+stream_unput (Answers.faulty entries P fault has served none still) e = absurd (loud-faulty e)
+stream_unput (Answers.stopped cause early same kept) e = kept
+stream_unput (Answers.source_failed entries P bytes has answered none rose) e = absurd (loud-failed e)
+stream_unput (Answers.long_script entries P bytes has answered long none still) e = absurd (loud-long e)
+stream_unput (Answers.store_failed entries P has stopped rose sunk still) e = absurd (loud-failed e)
+stream_unput (Answers.sink_failed entries P has begun rose) e = absurd (loud-failed e)
+
+ends_unput : (request : Option Request) (before now : Outside) (input inputs : Input) (outcome : Option Cause) → Ends request before now input inputs outcome → KeepsFiles request input.left before.told now.told → IsSilentStatus (status_of outcome) → now.told ≡ before.told
 ends_unput None before now input inputs outcome ends kept e = kept
 ends_unput (Some (match_file patterns file)) before now input inputs outcome ends kept e = kept
 ends_unput (Some (check_list patterns)) before now input inputs outcome ends kept e = kept
 ends_unput (Some (compile_list patterns database)) before now input inputs outcome ends kept e = compile_unput ends e
 ends_unput (Some (tell_database database)) before now input inputs outcome ends kept e = kept
 ends_unput (Some (scan_file database file)) before now input inputs outcome ends kept e = kept
-ends_unput (Some (run_script database)) before now input inputs outcome ends kept e = kept
+ends_unput (Some (run_script database)) before now input inputs outcome ends kept e = stream_unput ends e
 
 stream_unread : {database : List ℕ} {before now : Outside} {input inputs : Input} {outcome : Option Cause} → StreamEnds database before now input inputs outcome → IsSilentStatus (status_of outcome) → inputs.left ≡ input.left
 stream_unread (Answers.done entries P has served end none still) e = absurd (loud-done e)
 stream_unread (Answers.faulty entries P fault has served none still) e = absurd (loud-faulty e)
-stream_unread (Answers.stopped cause early same) e = ap (λ (i : Input). i.left) same
+stream_unread (Answers.stopped cause early same kept) e = ap (λ (i : Input). i.left) same
 stream_unread (Answers.source_failed entries P bytes has answered none rose) e = absurd (loud-failed e)
 stream_unread (Answers.long_script entries P bytes has answered long none still) e = absurd (loud-long e)
+stream_unread (Answers.store_failed entries P has stopped rose sunk still) e = absurd (loud-failed e)
 stream_unread (Answers.sink_failed entries P has begun rose) e = absurd (loud-failed e)
 
 -- what the other commands leave as it was is left so
@@ -335,7 +349,7 @@ pub answer_silent : {request : Option Request} {before now : Outside} {input inp
 answer_silent {request} {before} {now} {input} {inputs} answer e tells =
     ends_silent request before now input inputs answer.outcome answer.ends (subst IsSilentStatus answer.ended e) (λ gone. tells (answer.ended ∙ gone))
 
-pub answer_unput : {request : Option Request} {before now : Outside} {input inputs : Input} {err erred : Option (List ℕ)} {count counted status : ℕ} → IsAnswer request before now input inputs err erred count counted status → KeepsFiles request before.told now.told → IsSilentStatus status → now.told ≡ before.told
+pub answer_unput : {request : Option Request} {before now : Outside} {input inputs : Input} {err erred : Option (List ℕ)} {count counted status : ℕ} → IsAnswer request before now input inputs err erred count counted status → KeepsFiles request input.left before.told now.told → IsSilentStatus status → now.told ≡ before.told
 answer_unput {request} {before} {now} {input} {inputs} answer kept e = ends_unput request before now input inputs answer.outcome answer.ends kept (subst IsSilentStatus answer.ended e)
 
 pub answer_complete : {request : Option Request} {before now : Outside} {input inputs : Input} {err erred : Option (List ℕ)} {count counted status : ℕ} → IsAnswer request before now input inputs err erred count counted status → (due : Option Cause) → IsDue before.told input.left request due → (Rose before.stored now.stored → ⊥) → (Rose before.sunk now.sunk → ⊥) → (IsStream request → Rose input.faults inputs.faults → ⊥) → (status ≡ status_of due) ⊎ (status ≡ 6)
@@ -351,6 +365,6 @@ answer_script {request} {before} {now} {input} {inputs} answer e = ends_script r
 pub answer_unread : {request : Option Request} {before now : Outside} {input inputs : Input} {err erred : Option (List ℕ)} {count counted status : ℕ} → IsAnswer request before now input inputs err erred count counted status → ((IsStream request → ⊥) → inputs.left ≡ input.left) → IsSilentStatus status → inputs.left ≡ input.left
 answer_unread {request} {before} {now} {input} {inputs} answer kept e = ends_unread request before now input inputs answer.outcome answer.ends kept (subst IsSilentStatus answer.ended e)
 
-pub answer_run : {request : Option Request} {before now : Outside} {input inputs : Input} {err erred : Option (List ℕ)} {count counted status : ℕ} → IsAnswer request before now input inputs err erred count counted status → (database : List ℕ) → request ≡ Some (run_script database) → (status ≡ 0) ⊎ (status ≡ 5) → HasRun (before.told database) input.left before.out now.out status
+pub answer_run : {request : Option Request} {before now : Outside} {input inputs : Input} {err erred : Option (List ℕ)} {count counted status : ℕ} → IsAnswer request before now input inputs err erred count counted status → (database : List ℕ) → request ≡ Some (run_script database) → (status ≡ 0) ⊎ (status ≡ 5) → HasRun database before.told now.told input.left before.out now.out status
 answer_run {request} {before} {now} {input} {inputs} {status = status} answer database same is =
     ends_run request before now input inputs answer.outcome database status answer.ends same (sym answer.ended) is

@@ -25,7 +25,10 @@ use Rattle.hs_lists.specs.Accepting.{IsAccepted, IsRefused}
 use Rattle.hs_base.specs.Offsets.{greatest_offset}
 use Rattle.hs_lists.specs.Causes.{Cause, usage, read, write, store, absent, limit, script, memory, status_of}
 use Rattle.hs_lists.specs.Causes.{fault_line}
-use Rattle.hs_tool.specs.Streaming.{IsTextOver, HasServed, HasAnswered, HasBegunAnswers}
+use Rattle.hs_base.specs.Regions.{Plan}
+use Rattle.hs_compile.specs.Sizes.{IsPlanOf}
+use Rattle.hs_tool.specs.SavedFiles.{KeepsBut, MaySave}
+use Rattle.hs_tool.specs.Streaming.{Setting, ByEach, IsTextOver, HasServed, HasAnswered, HasStopped, HasBegunAnswers}
 
 -- the input at one moment: the bytes that the source has left, where it tells them, and its count of faults
 pub record Input : Type 0 where
@@ -90,41 +93,67 @@ pub data ScanEnds (kind : ListKind) (list file : List ℕ) (before now : Outside
       Rose before.sunk now.sunk →
       ScanEnds kind list file before now (Some write)
 
+-- The list of the database file is accepted, and it has a plan.
+pub record HasDatabase (told : Told) (entries : List ListedEntry) (P : List Pattern) : Type 0 where
+  pub list : HasList database_file told entries P
+  pub plan : Plan
+  pub is_plan : IsPlanOf P plan
+
+-- what is said of the script of a command
+abbrev pub setting : List ListedEntry → List Pattern → Outside → Outside → Input → Input → Setting
+setting entries P before now input inputs = record {
+  entries = entries;
+  patterns = P;
+  told = before.told;
+  tells = now.told;
+  left = input.left;
+  lefts = inputs.left;
+}
+
 -- How `stream DB` may end. Where the script has a fault, its line is the last of the text.
 pub data StreamEnds (database : List ℕ) (before now : Outside) (input inputs : Input) : Option Cause → Type 0 where
   done : (entries : List ListedEntry) (P : List Pattern) →
-      HasList database_file (before.told database) entries P →
-      HasServed P None input.left inputs.left before.out now.out →
+      HasDatabase (before.told database) entries P →
+      HasServed (setting entries P before now input inputs) None before.out now.out →
       IsAtEnd inputs.left →
       NoFault before now →
       inputs.faults ≡ input.faults →
       StreamEnds database before now input inputs None
   faulty : (entries : List ListedEntry) (P : List Pattern) (fault : ScriptFault) →
-      HasList database_file (before.told database) entries P →
-      HasServed P (Some fault) input.left inputs.left before.out now.out →
+      HasDatabase (before.told database) entries P →
+      HasServed (setting entries P before now input inputs) (Some fault) before.out now.out →
       NoFault before now →
       inputs.faults ≡ input.faults →
       StreamEnds database before now input inputs (Some (script fault))
   stopped : (cause : Cause) →
       StopsEarly database_file database before now cause →
       inputs ≡ input →
+      now.told ≡ before.told →
       StreamEnds database before now input inputs (Some cause)
   source_failed : (entries : List ListedEntry) (P : List Pattern) (bytes : List ℕ) →
-      HasList database_file (before.told database) entries P →
-      HasAnswered P bytes input.left inputs.left before.out now.out →
+      HasDatabase (before.told database) entries P →
+      HasAnswered (setting entries P before now input inputs) bytes before.out now.out →
       NoFault before now →
       Rose input.faults inputs.faults →
       StreamEnds database before now input inputs (Some read)
   long_script : (entries : List ListedEntry) (P : List Pattern) (bytes : List ℕ) →
-      HasList database_file (before.told database) entries P →
-      HasAnswered P bytes input.left inputs.left before.out now.out →
+      HasDatabase (before.told database) entries P →
+      HasAnswered (setting entries P before now input inputs) bytes before.out now.out →
       most_script ≤ length bytes →
       NoFault before now →
       inputs.faults ≡ input.faults →
       StreamEnds database before now input inputs (Some limit)
+  -- at a save or an expansion
+  store_failed : (entries : List ListedEntry) (P : List Pattern) →
+      HasDatabase (before.told database) entries P →
+      HasStopped (setting entries P before now input inputs) before.out now.out →
+      Rose before.stored now.stored →
+      now.sunk ≡ before.sunk →
+      inputs.faults ≡ input.faults →
+      StreamEnds database before now input inputs (Some store)
   sink_failed : (entries : List ListedEntry) (P : List Pattern) →
-      HasList database_file (before.told database) entries P →
-      HasBegunAnswers P input.left inputs.left before.out now.out →
+      HasDatabase (before.told database) entries P →
+      HasBegunAnswers (setting entries P before now input inputs) before.out now.out →
       Rose before.sunk now.sunk →
       StreamEnds database before now input inputs (Some write)
 
@@ -149,10 +178,13 @@ Ends (Some (scan_file database file)) before now input inputs outcome =
     ScanEnds database_file database file before now outcome
 Ends (Some (run_script database)) before now input inputs outcome = StreamEnds database before now input inputs outcome
 
--- The files are as they were, but for the one that `compile` puts; with its put a store may stop telling of any.
-abbrev pub KeepsFiles : Option Request → (List ℕ → Told) → (List ℕ → Told) → Type 0
-KeepsFiles (Some (compile_list patterns database)) before now = KeepsOthers before now database ⊎ TellsNothing now
-KeepsFiles request before now = now ≡ before
+-- The files are as they were, but for the one that `compile` puts, and those that a script saves into; with a put a
+-- store may stop telling of any.
+abbrev pub KeepsFiles : Option Request → (left : Option (List ℕ)) → (before now : List ℕ → Told) → Type 0
+KeepsFiles (Some (compile_list patterns database)) left before now =
+    KeepsOthers before now database ⊎ TellsNothing now
+KeepsFiles (Some (run_script database)) left before now = KeepsBut (MaySave left) before now
+KeepsFiles request left before now = now ≡ before
 
 -- ---- the answer that is due
 
@@ -285,13 +317,15 @@ status_of_ending None = 0
 status_of_ending (Some fault) = 5
 
 -- The database is accepted, the script that the source has ends so that the status is this one, and the sink took the
--- text of a run of the machine over it.
-pub record HasRun (told : Told) (left out outs : Option (List ℕ)) (status : ℕ) : Type 0 where
+-- text of a run of the machine over it. That is so by whichever streams' state files those of the store are taken for,
+-- and the files are then those of the machine.
+pub record HasRun (database : List ℕ) (told tells : List ℕ → Told) (left out outs : Option (List ℕ))
+    (status : ℕ) : Type 0 where
   pub entries : List ListedEntry
   pub patterns : List Pattern
-  pub list : HasList database_file told entries patterns
+  pub list : HasDatabase (told database) entries patterns
   pub ending : Option ScriptFault
   pub ended : status ≡ status_of_ending ending
   pub text : List ℕ
-  pub over : IsTextOver patterns left ending text
+  pub over : ByEach entries patterns (λ basis. IsTextOver basis told tells left ending text)
   pub taken : Took out outs text

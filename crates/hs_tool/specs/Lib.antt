@@ -1,6 +1,9 @@
 pub mod Commands
 pub mod Scanning
 pub mod OpenStreams
+pub mod ExpandWords
+pub mod Expanding
+pub mod SavedFiles
 pub mod Payloads
 pub mod ScriptCommands
 pub mod Sessions

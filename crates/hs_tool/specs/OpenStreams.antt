@@ -1,17 +1,23 @@
--- The streams by name, and the machine that they stand for.
+-- The streams by name with what the store tells of files, and the machine that they stand for.
 use Rattle.std.specs.Prelude.{◌≡◌, ◌≢◌, ℕ, ◌+◌, List, Option, None, Some}
 use Rattle.std.specs.BTreeMap.{get_by, btree_map_len}
 use Rattle.std.specs.Ordering.{nat_cmp}
 use Rattle.std.specs.Cmp.Lexicographic.{slice_cmp}
-use Rattle.hs_base.specs.Patterns.{Pattern}
-use Rattle.hs_compile.specs.Databases.{Compiled}
+use Rattle.hs_base.specs.Regions.{IsWellFormed}
+use Rattle.hs_base.specs.Told.{Pair, IsTold}
+use Rattle.hs_outside.specs.Store.{Told, untold, lacks, holds}
+use Rattle.hs_compile.specs.Databases.{Compiled, IsDatabaseOf, digest_of}
 use Rattle.hs_stream.specs.declared.stream.Stream.{Stream}
-use Rattle.hs_stream.specs.Streams.{IsStreamOf, IsFresh}
-use Rattle.hs_stream.specs.Standing.{RunsPatterns, Stands}
+use Rattle.hs_stream.specs.Leading.{IsBehind}
+use Rattle.hs_stream.specs.Streams.{IsStreamOf, region_of}
 use Rattle.hs_script.specs.Actions.{Action}
+use Rattle.hs_script.specs.Bases.{Basis, IsBasis, IsSavedBy, patterns_of, Stream as Known, Of, Foreign}
+use Rattle.hs_script.specs.Bases.{File, Untold, Missing, Saved, Bytes}
 use Rattle.hs_script.specs.Machine.{Answer, Machine}
 use Rattle.hs_script.specs.Runs.{IsRun}
 use Rattle.hs_tool.specs.declared.session.streams.Streams.{Streams}
+
+-- ---- the streams by name
 
 -- the stream of a name
 abbrev pub stream_at : Streams → List ℕ → Option Stream
@@ -32,38 +38,78 @@ pub record PutsStream (old new : Streams) (name : List ℕ) (stream : Option Str
   pub others : (other : List ℕ) → other ≢ name → stream_at new other ≡ stream_at old other
   pub counted : count_of new + has_stream (stream_at old name) ≡ count_of old + has_stream stream
 
--- This name has a stream now of which no byte has come.
-pub record Adds (db : Compiled) (old new : Streams) (name : List ℕ) : Type 0 where
-  pub stream : Stream
-  pub fits : IsStreamOf db stream
-  pub fresh : IsFresh db stream
-  pub puts : PutsStream old new name (Some stream)
-
 -- each of them is a stream of the database
 abbrev pub AreStreamsOf : Compiled → Streams → Type 0
 AreStreamsOf db streams =
     (name : List ℕ) (stream : Stream) → stream_at streams name ≡ Some stream → IsStreamOf db stream
 
--- a stream of the machine stands behind the bytes that it has there
-abbrev pub Follows : Compiled → List Pattern → Option (List ℕ) → Option Stream → Type 0
-Follows db P None None = Unit {0}
-Follows db P None (Some stream) = ⊥
-Follows db P (Some h) None = ⊥
-Follows db P (Some h) (Some stream) = Stands db P h stream
+-- ---- the machine
 
--- The streams are those of the machine.
-pub record Tracks (db : Compiled) (P : List Pattern) (m : Machine) (streams : Streams) : Type 0 where
-  pub each : (name : List ℕ) → Follows db P (m.stream name) (stream_at streams name)
-  pub counted : m.count ≡ count_of streams
+-- What the machine goes by is the plan and the digest of the database.
+pub record RunsBasis (db : Compiled) (basis : Basis) : Type 0 where
+  pub is_basis : IsBasis basis
+  pub is_database : IsDatabaseOf db basis.plan
+  pub digest : basis.digest ≡ digest_of db
 
--- The machine goes through the actions, and the streams are then those of the machine.
-pub record Leads (db : Compiled) (P : List Pattern) (m : Machine) (now : Streams) (actions : List Action)
-    (answers : List Answer) : Type 0 where
-  pub after : Machine
-  pub run : IsRun P m actions answers after
-  pub tracks : Tracks db P after now
+-- The stream has the region of these bytes, which told these pairs.
+pub record IsAt (basis : Basis) (h : List ℕ) (stream : Stream) : Type 0 where
+  pub behind : IsBehind basis.plan h (region_of stream)
+  pub told : List Pair
+  pub is_told : IsTold (patterns_of basis) h told
 
--- That holds for all patterns that the database is of, and each machine whose streams these were.
-abbrev pub Performs : Compiled → Streams → Streams → List Action → List Answer → Type 0
+-- A stream of the machine is the one here: that of its bytes, or the one of its region.
+abbrev pub Follows : Basis → Option Known → Option Stream → Type 0
+Follows basis None None = Unit {0}
+Follows basis None (Some stream) = ⊥
+Follows basis (Some s) None = ⊥
+Follows basis (Some (Of h)) (Some stream) = IsAt basis h stream
+Follows basis (Some (Foreign region)) (Some stream) = (region_of stream ≡ region) × IsWellFormed basis.plan region
+
+-- What the machine is told of a name is what the store tells of it.
+pub data FollowsFile (basis : Basis) : File → Told → Type 0 where
+  is_untold : FollowsFile basis Untold untold
+  is_missing : FollowsFile basis Missing lacks
+  is_saved : {h bytes : List ℕ} → IsSavedBy basis bytes h → FollowsFile basis (Saved h) (holds bytes)
+  has_bytes : {bytes : List ℕ} → FollowsFile basis (Bytes bytes) (holds bytes)
+
+-- what the machine is told of a name at the start
+abbrev pub file_of : Told → File
+file_of untold = Untold
+file_of lacks = Missing
+file_of (holds bytes) = Bytes bytes
+
+-- and of each name
+abbrev pub files_of : (List ℕ → Told) → List ℕ → File
+files_of told name = file_of (told name)
+
+-- the open streams, and what the store tells of each name
+pub record Holdings : Type 0 where
+  pub streams : Streams
+  pub told : List ℕ → Told
+
+abbrev pub kept : Streams → (List ℕ → Told) → Holdings
+kept streams told = record { streams = streams; told = told }
+
+-- These are the streams and the files of the machine.
+pub record Tracks (basis : Basis) (m : Machine) (now : Holdings) : Type 0 where
+  pub each : (name : List ℕ) → Follows basis (m.stream name) (stream_at now.streams name)
+  pub files : (name : List ℕ) → FollowsFile basis (m.file name) (now.told name)
+  pub counted : m.count ≡ count_of now.streams
+
+-- The machine goes through the actions, and these are then its streams and files.
+pub record Leads (basis : Basis) (m : Machine) (now : Holdings) (actions : List Action) (answers : List Answer) : Type 0
+  where
+    pub after : Machine
+    pub run : IsRun basis m actions answers after
+    pub tracks : Tracks basis after now
+
+-- That holds by whatever the machine may go by for the database, and for each machine whose streams and files these
+-- were.
+abbrev pub Performs : Compiled → Holdings → Holdings → List Action → List Answer → Type 0
 Performs db old now actions answers =
-    (P : List Pattern) (m : Machine) → RunsPatterns db P → Tracks db P m old → Leads db P m now actions answers
+    (basis : Basis) (m : Machine) → RunsBasis db basis → Tracks basis m old → Leads basis m now actions answers
+
+-- It does over any files, which stay as they are.
+abbrev pub PerformsStill : Compiled → Streams → Streams → List Action → List Answer → Type 0
+PerformsStill db old now actions answers =
+    (told : List ℕ → Told) → Performs db (kept old told) (kept now told) actions answers

@@ -11,7 +11,7 @@ use Rattle.hs_text.specs.declared.commands.Verb.TheVariants as verb
 use Rattle.hs_base.specs.Offsets.{greatest_offset}
 use Rattle.hs_compile.specs.Databases.{Compiled}
 use Rattle.hs_stream.specs.declared.stream.Stream.{Stream}
-use Rattle.hs_stream.specs.Streams.{offset_of, Writes}
+use Rattle.hs_stream.specs.Streams.{offset_of}
 use Rattle.hs_script.specs.Actions.{Write, Cut}
 use Rattle.hs_script.specs.Machine.{unanswered}
 use Rattle.hs_script.specs.Runs.{named_line}
@@ -22,8 +22,8 @@ use Rattle.hs_tool.specs.declared.session.streams.Streams.{Streams}
 use Rattle.hs_reader.specs.Reading.{Ahead, Consumes}
 use Rattle.hs_reader.specs.Breaks.{IsDry, IsTooLong, is_lost}
 use Rattle.hs_lines.specs.Passing.{Passes}
-use Rattle.hs_tool.specs.OpenStreams.{Performs}
-use Rattle.hs_tool.specs.Scanning.{Scans}
+use Rattle.hs_tool.specs.OpenStreams.{PerformsStill}
+use Rattle.hs_tool.specs.Scanning.{IsWritten, Scans}
 
 -- how the bytes of a write end: all came, or the input ended before or was broken off before, or the sink failed
 abbrev pub PayloadEnds : ℕ → ℕ → Ahead → Result Bool Break → Type 0
@@ -79,7 +79,7 @@ pub data Turns (db : Compiled) (count : ℕ) (old new : Stream) (came : List ℕ
       Turns db count old new came [] (No verb.Write word.Length)
   turned : {pairs : List Pair} →
       offset_of old + count ≤ greatest_offset →
-      Writes db old new came pairs →
+      IsWritten db old new came pairs →
       Turns db count old new came pairs (Done verb.Write (Some count))
 
 -- So many bytes were written to the stream, or dropped.
@@ -103,7 +103,7 @@ pub record IsPayloadTaken (db : Compiled) (name : List ℕ) (count : ℕ) (old n
   pub reply : Reply
   pub comes : Comes before now ahead aheads count came (whole_of outcome)
   pub all : length came ≡ count →
-      Performs db old new (Write name came ∷ []) (record { reports = pairs; reply = Some reply } ∷ [])
-  pub part : Performs db old new (Cut name count came ∷ []) (unanswered pairs ∷ [])
+      PerformsStill db old new (Write name came ∷ []) (record { reports = pairs; reply = Some reply } ∷ [])
+  pub part : PerformsStill db old new (Cut name count came ∷ []) (unanswered pairs ∷ [])
   pub due : IsDue outcome reply
   pub sends : Passes (is_lost outcome) taken takes waited waits (flat_map (named_line name) pairs)

@@ -1,12 +1,14 @@
 -- What the scan of a stream leaves: the stream, and the lines of its reports on their way to a sink.
-use Rattle.std.specs.Prelude.{◌≡◌, ℕ, ◌≤◌, List, length, Option, None}
+use Rattle.std.specs.Prelude.{◌≡◌, ℕ, ◌+◌, ◌≤◌, List, [], length, Option, None}
 use Rattle.hs_base.specs.Told.{Pair}
 use Rattle.hs_outside.specs.Counts.{Rose}
 use Rattle.hs_outside.specs.Store.{Told, IsMissing, IsPresent, IsLonger, IsFile, Begins}
-use Rattle.hs_compile.specs.Databases.{Compiled}
+use Rattle.hs_base.specs.Regions.{Plan, IsWellFormed}
+use Rattle.hs_compile.specs.Databases.{Compiled, IsDatabaseOf}
 use Rattle.hs_base.specs.Offsets.{greatest_offset}
 use Rattle.hs_stream.specs.declared.stream.Stream.{Stream}
-use Rattle.hs_stream.specs.Streams.{offset_of, Writes, Closes}
+use Rattle.hs_stream.specs.Foreign.{MayTell}
+use Rattle.hs_stream.specs.Streams.{offset_of, region_of, Closes, Writes}
 use Rattle.hs_lines.specs.Printing.{report_lines_of}
 use Rattle.hs_tool.specs.declared.scan.ScanFault.{ScanFault}
 use Rattle.hs_tool.specs.declared.scan.ScanFault.TheVariants.{Absent, Store, Write, Limit, Memory}
@@ -19,11 +21,23 @@ Interrupts Write told store stored sink sunk = IsPresent told × (stored ≡ sto
 Interrupts Limit told store stored sink sunk = IsLonger told greatest_offset × (stored ≡ store) × (sunk ≡ sink)
 Interrupts Memory told store stored sink sunk = ⊥
 
+-- The bytes were written to the stream, and these pairs reported, whatever stream that was: it stays well formed. No
+-- bytes leave it as it is, and report nothing.
+pub record IsWritten (db : Compiled) (old new : Stream) (bytes : List ℕ) (pairs : List Pair) : Type 0 where
+  pub writes : Writes db old new bytes pairs
+  pub tells : MayTell db (offset_of old) (offset_of new) pairs
+  pub offset : offset_of new ≡ offset_of old + length bytes
+  pub well : (plan : Plan) →
+      IsDatabaseOf db plan →
+      IsWellFormed plan (region_of old) →
+      IsWellFormed plan (region_of new)
+  pub idle : bytes ≡ [] → (region_of new ≡ region_of old) × (pairs ≡ [])
+
 -- The bytes were written to the stream, which has this name, if it has one, and that holds of the lines of its reports.
 pub record Scans (db : Compiled) (name : Option (List ℕ)) (old new : Stream) (bytes : List ℕ)
     (IsPassed : List ℕ → Type 0) : Type 0 where
   pub pairs : List Pair
-  pub writes : Writes db old new bytes pairs
+  pub writes : IsWritten db old new bytes pairs
   pub passes : IsPassed (report_lines_of name pairs)
 
 -- The stream was closed, and that holds of the lines of its last reports.

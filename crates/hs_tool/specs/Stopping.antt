@@ -1,6 +1,6 @@
 -- The causes by which a script or the scan of a file is broken off.
 use Rattle.hs_tool.specs.declared.session.fault.ScriptStop.{ScriptStop}
-use Rattle.hs_tool.specs.declared.session.fault.ScriptStop.TheVariants.{Fault, Broken, Memory}
+use Rattle.hs_tool.specs.declared.session.fault.ScriptStop.TheVariants.{Fault, Broken, Store, Memory}
 use Rattle.hs_reader.specs.declared.fault.Break.TheVariants.{Read, Limit, Write}
 use Rattle.hs_lists.specs.Causes.{Cause, read, write, store, absent, limit, script, memory}
 use Rattle.std.specs.Prelude.{ℕ, List, Option, Some, None, Result, Ok, Err}
@@ -13,6 +13,7 @@ cause_of_stop (Fault fault) = script fault
 cause_of_stop (Broken Read) = read
 cause_of_stop (Broken Limit) = limit
 cause_of_stop (Broken Write) = write
+cause_of_stop Store = store
 cause_of_stop Memory = memory
 
 -- the cause that a fault of the scan of this file is

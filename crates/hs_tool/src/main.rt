@@ -2,16 +2,12 @@
 //! files and streams.
 #![tactic(auto)]
 
-#[cfg(test)]
-mod leaving;
 mod match_command;
 mod piece;
 #[cfg(test)]
 mod running;
 mod scan;
 mod session;
-#[cfg(test)]
-mod setting;
 mod stream_command;
 #[cfg(test)]
 mod tests;

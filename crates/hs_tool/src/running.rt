@@ -1,25 +1,14 @@
 //! The runs of a row, and what is judged of them. It is `#[cfg(test)]`.
 
-use crate::leaving::Leaving;
-use crate::setting::{Answer, Faults, NO_FAULTS, ROOM, Setting, wanted_of};
 use crate::top::run;
 use hs_outside::{Failed, MemSink, MemSource, MemStore, Store};
 use hs_rows::rows_of;
+use hs_settings::{Answer, Faults, Leaving, NO_FAULTS, PARTS, ROOM, Setting, wanted_of};
 use std::alloc::{AllocError, Global};
 use std::test::Fail;
 
-/// The bytes of which the names of many streams are made, two a name.
-const NAME_BYTES: &[u8] = b"ABCDEFGHIJKLMNOPQRSTUVWXYZabcdefghijklmnopqrstuvwxyz0123456789-_";
-
 /// The most calls of which each is to fail.
 const MOST_CALLS: u64 = 200;
-
-/// What fails in turn, and what is written to `err` then.
-const PARTS: [(&str, &str); 3] = [
-    ("store", "fault store\n"),
-    ("source", "fault read\n"),
-    ("out", "fault write\n"),
-];
 
 /// That call of the commands on this part fails.
 fn faults_at(setting: &Setting, part: &str, call: u64) -> Result<Faults, Fail> {
@@ -27,25 +16,6 @@ fn faults_at(setting: &Setting, part: &str, call: u64) -> Result<Faults, Fail> {
     let before = if part == "store" { setting.puts() } else { 0 };
     faults.set(part.as_bytes(), before.saturating_add(call))?;
     Ok(faults)
-}
-
-/// Adds a line for each name of two letters that begins with that one.
-fn add_names(lines: &mut Vec<u8>, start: &[u8], first: u8) -> Result<(), AllocError> {
-    for second in NAME_BYTES {
-        lines.extend_from_slice(start)?;
-        lines.extend_from_slice(&[first, *second, b'\n'])?;
-    }
-    Ok(())
-}
-
-/// A line for each of 4,096 names, which begins so, and the text behind them.
-fn name_lines(alloc: Global, start: &[u8], text: &[u8]) -> Result<Vec<u8>, AllocError> {
-    let mut lines = Vec::new(alloc);
-    for first in NAME_BYTES {
-        add_names(&mut lines, start, *first)?;
-    }
-    lines.extend_from_slice(text)?;
-    Ok(lines)
 }
 
 /// What the commands of a row run over.
@@ -172,8 +142,8 @@ fn judge_words(
     setting.take(alloc, words)?;
     let mut wanted = wanted_of(alloc, written)?;
     if setting.opens_all {
-        setting.script = name_lines(alloc, b"open ", &setting.script)?;
-        wanted.out = name_lines(alloc, b"ok open ", &wanted.out)?;
+        setting.script = hs_settings::name_lines(alloc, b"open ", &setting.script)?;
+        wanted.out = hs_settings::name_lines(alloc, b"ok open ", &wanted.out)?;
     }
     let name = format!(in alloc; "{words:?} = {written:?}")?;
     judge_row(alloc, &name, &setting, &wanted)?;

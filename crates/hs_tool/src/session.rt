@@ -6,12 +6,14 @@ ghost use Rattle.hs_outside.specs.Sink.{Took, TookPrefix};
 ghost use Rattle.hs_lines.specs.Passing.{IsPassed, Passes};
 ghost use Rattle.hs_stream.specs.Scratches.{IsScratchOf};
 ghost use Rattle.hs_reader.specs.Breaks.{is_write as is_sink};
-ghost use Rattle.hs_tool.specs.ScriptCommands.{StopCounts};
-ghost use Rattle.hs_tool.specs.Serving.{ScriptEnds, EndCounts, Flushes, lost_of};
+ghost use Rattle.hs_tool.specs.SavedFiles.{KeepsBut, MaySave};
+ghost use Rattle.hs_tool.specs.ScriptCommands.{StopCounts, StoreCounts};
+ghost use Rattle.hs_tool.specs.Serving.{ScriptEnds, EndCounts, EndStored, Flushes, lost_of};
 
 mod answers;
 mod commands;
 mod fault;
+mod files;
 mod payload;
 mod streams;
 
@@ -19,7 +21,7 @@ pub(crate) use fault::ScriptStop;
 use hs_compile::Database;
 use hs_engine::Steps;
 use hs_lines::Pending;
-use hs_outside::{Failed, Sink, Source};
+use hs_outside::{Failed, Sink, Source, Store};
 use hs_reader::{Break, Line, Reader};
 use hs_stream::Scratch;
 use std::alloc::Global;
@@ -29,12 +31,14 @@ use streams::Streams;
 
 /// What the commands of a script work with, beside the open streams.
 #[derive(Drop)]
-pub(crate) struct Session<'d, 's, 'i, 'o, 't, I: Source, O: Sink, L: Ledger> {
+pub(crate) struct Session<'d, 's, 'f, 'i, 'o, 't, S: Store, I: Source, O: Sink, L: Ledger> {
     pub(crate) alloc: Global,
     /// What the streams are scanned for.
     pub(crate) db: &'d Database,
     /// Room to scan in.
     pub(crate) scratch: &'s mut Scratch,
+    /// Where streams are saved.
+    pub(crate) store: &'f mut S,
     /// The piece of the script that was read last.
     pub(crate) reader: Reader,
     /// Where the script comes from.
@@ -47,30 +51,36 @@ pub(crate) struct Session<'d, 's, 'i, 'o, 't, I: Source, O: Sink, L: Ledger> {
     pub(crate) steps: &'t mut Steps<L>,
 }
 
-/// Runs the script that `input` holds over streams of the database. What it answers and reports goes to `out`.
+/// Runs the script that `input` holds over streams of the database, which are saved in `store`. What it answers and
+/// reports goes to `out`.
 ///
 /// # Errors
 ///
 /// `Fault` where the script has a fault, whose line was written; `Broken` where the source or the sink failed or the
-/// script is too long; `Memory` before a byte is read or written. Later want of memory is an answer of the script.
-pub(crate) fn serve<I: Source, O: Sink>(
+/// script is too long; `Store` where a save or an expansion failed at the store; `Memory` before a byte is read or
+/// written. Later want of memory is an answer of the script.
+pub(crate) fn serve<S: Store, I: Source, O: Sink>(
     alloc: Global,
     db: &Database,
+    store: &mut S,
     input: &mut I,
     out: &mut O,
 ) -> Result<(), ScriptStop>
-    ensures ends { ScriptEnds db.now (I.left input.old) (I.left input.new)
+    ensures ends { ScriptEnds db.now (S.told store.old) (S.told store.new) (I.left input.old) (I.left input.new)
         (λ text. Took (O.written out.old) (O.written out.new) text)
         (λ text. TookPrefix (O.written out.old) (O.written out.new) text) result }
+    ensures kept { KeepsBut (MaySave (I.left input.old)) (S.told store.old) (S.told store.new) }
     ensures counts { EndCounts (I.faults input.old) (I.faults input.new) (O.faults out.old) (O.faults out.new) result }
+    ensures stored { EndStored (S.faults store.old) (S.faults store.new) result }
 {
-    serve_counted::<I, O, Brand>(alloc, db, input, out, Blank::new(1))
+    serve_counted::<S, I, O, Brand>(alloc, db, store, input, out, Blank::new(1))
 }
 
 /// Runs the script, and counts the steps of engines in a ledger of its own.
-fn serve_counted<I: Source, O: Sink, L: Ledger>(
+fn serve_counted<S: Store, I: Source, O: Sink, L: Ledger>(
     alloc: Global,
     db: &Database,
+    store: &mut S,
     input: &mut I,
     out: &mut O,
     blank: Blank,
@@ -78,10 +88,12 @@ fn serve_counted<I: Source, O: Sink, L: Ledger>(
     requires name { blank.name ≡ L.name }
     requires parts { blank.parts ≡ L.parts }
     requires some { 0 < L.parts }
-    ensures ends { ScriptEnds db.now (I.left input.old) (I.left input.new)
+    ensures ends { ScriptEnds db.now (S.told store.old) (S.told store.new) (I.left input.old) (I.left input.new)
         (λ text. Took (O.written out.old) (O.written out.new) text)
         (λ text. TookPrefix (O.written out.old) (O.written out.new) text) result }
+    ensures kept { KeepsBut (MaySave (I.left input.old)) (S.told store.old) (S.told store.new) }
     ensures counts { EndCounts (I.faults input.old) (I.faults input.new) (O.faults out.old) (O.faults out.new) result }
+    ensures stored { EndStored (S.faults store.old) (S.faults store.new) result }
 {
     let mut scratch = match Scratch::new(alloc, db) {
         Ok(scratch) => scratch,
@@ -92,6 +104,7 @@ fn serve_counted<I: Source, O: Sink, L: Ledger>(
         alloc,
         db,
         scratch: &mut scratch,
+        store,
         reader: Reader::new(),
         input,
         out,
@@ -101,19 +114,24 @@ fn serve_counted<I: Source, O: Sink, L: Ledger>(
     session.run()
 }
 
-impl<I: Source, O: Sink, L: Ledger> Session<'_, '_, '_, '_, '_, I, O, L> {
+impl<S: Store, I: Source, O: Sink, L: Ledger> Session<'_, '_, '_, '_, '_, '_, S, I, O, L> {
     /// Runs the script to its end, or until it stops, and writes the lines that wait then.
     fn run(&mut self) -> Result<(), ScriptStop>
         requires scratch { IsScratchOf self.old.db.now self.old.scratch.now }
         requires unread { self.old.reader ≡ record { bytes = []; at = 0; ended = false } }
         requires unanswered { self.old.pending ≡ [] }
+        ensures same_store { self.new.store.ghost_name ≡ self.old.store.ghost_name }
         ensures same_input { self.new.input.ghost_name ≡ self.old.input.ghost_name }
         ensures same_out { self.new.out.ghost_name ≡ self.old.out.ghost_name }
-        ensures ends { ScriptEnds self.old.db.now (I.left self.old.input.now) (I.left self.new.input.now)
+        ensures ends { ScriptEnds self.old.db.now (S.told self.old.store.now) (S.told self.new.store.now)
+            (I.left self.old.input.now) (I.left self.new.input.now)
             (λ text. Took (O.written self.old.out.now) (O.written self.new.out.now) text)
             (λ text. TookPrefix (O.written self.old.out.now) (O.written self.new.out.now) text) result }
+        ensures kept { KeepsBut (MaySave (I.left self.old.input.now)) (S.told self.old.store.now)
+            (S.told self.new.store.now) }
         ensures counts { EndCounts (I.faults self.old.input.now) (I.faults self.new.input.now)
             (O.faults self.old.out.now) (O.faults self.new.out.now) result }
+        ensures stored { EndStored (S.faults self.old.store.now) (S.faults self.new.store.now) result }
     {
         let ended = self.run_script();
         flush(ended, self.out, &mut self.pending)
@@ -123,15 +141,20 @@ impl<I: Source, O: Sink, L: Ledger> Session<'_, '_, '_, '_, '_, I, O, L> {
     fn run_script(&mut self) -> Result<(), ScriptStop>
         requires scratch { IsScratchOf self.old.db.now self.old.scratch.now }
         requires unread { self.old.reader ≡ record { bytes = []; at = 0; ended = false } }
+        ensures same_store { self.new.store.ghost_name ≡ self.old.store.ghost_name }
         ensures same_input { self.new.input.ghost_name ≡ self.old.input.ghost_name }
         ensures same_out { self.new.out.ghost_name ≡ self.old.out.ghost_name }
-        ensures ends { ScriptEnds self.old.db.now (I.left self.old.input.now) (I.left self.new.input.now)
+        ensures ends { ScriptEnds self.old.db.now (S.told self.old.store.now) (S.told self.new.store.now)
+            (I.left self.old.input.now) (I.left self.new.input.now)
             (λ text. IsPassed (O.written self.old.out.now) (O.written self.new.out.now) self.old.pending
             self.new.pending text)
             (λ text. TookPrefix (O.written self.old.out.now) (O.written self.new.out.now) (self.old.pending ++ text))
             result }
+        ensures kept { KeepsBut (MaySave (I.left self.old.input.now)) (S.told self.old.store.now)
+            (S.told self.new.store.now) }
         ensures counts { StopCounts (I.faults self.old.input.now) (I.faults self.new.input.now)
             (O.faults self.old.out.now) (O.faults self.new.out.now) result }
+        ensures stored { StoreCounts (S.faults self.old.store.now) (S.faults self.new.store.now) result }
     {
         let mut streams = Streams::new(self.alloc);
         let mut line = Line::new();
@@ -193,7 +216,7 @@ fn is_lost(ended: &Result<(), ScriptStop>) -> bool
 {
     match ended {
         Ok(()) => false,
-        Err(ScriptStop::Fault(_)) | Err(ScriptStop::Memory) => false,
+        Err(ScriptStop::Fault(_)) | Err(ScriptStop::Store) | Err(ScriptStop::Memory) => false,
         Err(ScriptStop::Broken(stop)) => is_write(*stop),
     }
 }

@@ -3,6 +3,7 @@ ghost use Rattle.std.specs.Prelude.{◌≡◌};
 ghost use Rattle.hs_lists.specs.Causes.{cause_of, outcome_of};
 ghost use Rattle.hs_lists.specs.Endings.{outside_of};
 ghost use Rattle.hs_tool.specs.Answers.{StreamEnds};
+ghost use Rattle.hs_tool.specs.SavedFiles.{KeepsBut, MaySave};
 ghost use Rattle.hs_tool.specs.Stopping.{cause_of_stop};
 
 use crate::session::{ScriptStop, serve};
@@ -26,13 +27,13 @@ pub fn run_script<'a, S: Store, I: Source, O: Sink>(
         (record { left = I.left input.old; faults = I.faults input.old })
         (record { left = I.left input.new; faults = I.faults input.new })
         (outcome_of result) }
-    ensures kept { S.told store.new ≡ S.told store.old }
+    ensures kept { KeepsBut (MaySave (I.left input.old)) (S.told store.old) (S.told store.new) }
 {
     let loaded = match load(alloc, ListKind::Database, database, store) {
         Ok(loaded) => loaded,
         Err(fault) => return Err(fault),
     };
-    match serve(alloc, &loaded.database, input, out) {
+    match serve(alloc, &loaded.database, store, input, out) {
         Ok(()) => Ok(()),
         Err(stop) => Err(fault_of(stop)),
     }
@@ -47,6 +48,7 @@ fn fault_of<'a>(stop: ScriptStop) -> Fault<'a>
         ScriptStop::Broken(Break::Read) => Fault::Read,
         ScriptStop::Broken(Break::Limit) => Fault::Limit,
         ScriptStop::Broken(Break::Write) => Fault::Write,
+        ScriptStop::Store => Fault::Store,
         ScriptStop::Memory => Fault::Memory,
     }
 }

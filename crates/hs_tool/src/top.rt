@@ -47,10 +47,12 @@ pub fn run<S: Store, I: Source, O: Sink, E: Sink>(
     ensures unput { IsSilentStatus result → S.told store.new ≡ S.told store.old }
     ensures unread { IsSilentStatus result → I.left input.new ≡ I.left input.old }
 
-    // Where `stream` ends with 0 or 5, `out` took the text of a run of the machine over the whole script.
+    // Where `stream` ends with 0 or 5, `out` took the text of a run of the machine over the whole script, and the
+    // files are those of the machine.
     ensures stream { (database : List ℕ) →
         request_of_words (map string_bytes words.now) ≡ Some (run_script_of database) → (result ≡ 0) ⊎ (result ≡ 5)
-        → HasRun (S.told store.old database) (I.left input.old) (O.written out.old) (O.written out.new) result }
+        → HasRun database (S.told store.old) (S.told store.new) (I.left input.old) (O.written out.old)
+        (O.written out.new) result }
 
     // Where the store tells the files, the source the script that is run, and no call on them or on `out` failed, the
     // status is the due one, or 6.
@@ -61,7 +63,8 @@ pub fn run<S: Store, I: Source, O: Sink, E: Sink>(
         ⊥)
         → (result ≡ status_of due) ⊎ (result ≡ 6) }
 
-    ensures kept { KeepsFiles (request_of_words (map string_bytes words.now)) (S.told store.old) (S.told store.new) }
+    ensures kept { KeepsFiles (request_of_words (map string_bytes words.now)) (I.left input.old) (S.told store.old)
+        (S.told store.new) }
     ensures input { (IsStream (request_of_words (map string_bytes words.now)) → ⊥) → input.new ≡ input.old }
 {
     match perform(alloc, words, store, input, out) {
@@ -96,7 +99,8 @@ fn perform<'a, S: Store, I: Source, O: Sink>(
         (record { left = I.left input.old; faults = I.faults input.old })
         (record { left = I.left input.new; faults = I.faults input.new })
         (outcome_of result) }
-    ensures kept { KeepsFiles (request_of_words (map string_bytes words.now)) (S.told store.old) (S.told store.new) }
+    ensures kept { KeepsFiles (request_of_words (map string_bytes words.now)) (I.left input.old) (S.told store.old)
+        (S.told store.new) }
     ensures input { (IsStream (request_of_words (map string_bytes words.now)) → ⊥) → input.new ≡ input.old }
 {
     let request = match request_of(alloc, words) {
@@ -121,7 +125,8 @@ fn execute<'a, S: Store, I: Source, O: Sink>(
         (record { left = I.left input.old; faults = I.faults input.old })
         (record { left = I.left input.new; faults = I.faults input.new })
         (outcome_of result) }
-    ensures kept { KeepsFiles (Some (plain_request request.entry)) (S.told store.old) (S.told store.new) }
+    ensures kept { KeepsFiles (Some (plain_request request.entry)) (I.left input.old) (S.told store.old)
+        (S.told store.new) }
     ensures input { (IsStream (Some (plain_request request.entry)) → ⊥) → input.new ≡ input.old }
 {
     match request {

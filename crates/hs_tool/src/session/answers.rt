@@ -11,18 +11,19 @@ use super::fault::ScriptStop;
 use super::streams::Streams;
 use crate::session::Session;
 use hs_lines::{Name, Pending, ReportLines};
-use hs_outside::{Failed, Sink, Source};
+use hs_outside::{Failed, Sink, Source, Store};
 use hs_reader::Break;
 use hs_text::{LINE_LEN, Reply, ScriptFault, reply_line, script_fault_line};
 use std::sync::ledger::Ledger;
 
-impl<I: Source, O: Sink, L: Ledger> Session<'_, '_, '_, '_, '_, I, O, L> {
+impl<S: Store, I: Source, O: Sink, L: Ledger> Session<'_, '_, '_, '_, '_, '_, S, I, O, L> {
     /// Resets the stream of that name, and gives the answer that is due. The lines of its last reports are written, or
     /// wait.
     pub(crate) fn tell_reset(&mut self, streams: &mut Streams, name: &Name) -> Result<Reply, Failed>
         requires ready { IsReady self.old streams.old }
         ensures keeps { Keeps self.old self.new streams.new }
         ensures same_reader { self.new.reader ≡ self.old.reader }
+        ensures same_files { self.new.store ≡ self.old.store }
         ensures same_input { self.new.input ≡ self.old.input }
         ensures told { IsTold self.old.db.now (Reset name.now) result streams.old streams.new
             (O.written self.old.out.now) (O.written self.new.out.now) self.old.pending self.new.pending }
@@ -52,6 +53,7 @@ impl<I: Source, O: Sink, L: Ledger> Session<'_, '_, '_, '_, '_, I, O, L> {
         requires ready { IsReady self.old streams.old }
         ensures keeps { Keeps self.old self.new streams.new }
         ensures same_reader { self.new.reader ≡ self.old.reader }
+        ensures same_files { self.new.store ≡ self.old.store }
         ensures same_input { self.new.input ≡ self.old.input }
         ensures told { IsTold self.old.db.now (Close name.now) result streams.old streams.new
             (O.written self.old.out.now) (O.written self.new.out.now) self.old.pending self.new.pending }

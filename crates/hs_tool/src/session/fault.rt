@@ -9,6 +9,8 @@ pub enum ScriptStop {
     Fault(ScriptFault),
     /// It was broken off.
     Broken(Break),
+    /// The store failed at a save or an expansion.
+    Store,
     /// Memory ran out before a byte was taken or written.
     Memory,
 }

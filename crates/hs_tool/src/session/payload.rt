@@ -12,7 +12,7 @@ use crate::piece::write_piece;
 use crate::session::Session;
 use hs_base::MAX_OFFSET;
 use hs_lines::Name;
-use hs_outside::{Failed, Sink, Source};
+use hs_outside::{Failed, Sink, Source, Store};
 use hs_reader::{Break, Reader};
 use hs_stream::Stream;
 use hs_text::{Reply, Verb, Word};
@@ -27,7 +27,7 @@ pub(crate) struct Payload {
     pub(crate) whole: bool,
 }
 
-impl<I: Source, O: Sink, L: Ledger> Session<'_, '_, '_, '_, '_, I, O, L> {
+impl<S: Store, I: Source, O: Sink, L: Ledger> Session<'_, '_, '_, '_, '_, '_, S, I, O, L> {
     /// Takes so many bytes for the stream of that name, or drops them where it isn't open or would become too long.
     pub(crate) fn take_payload(
         &mut self,
@@ -37,6 +37,7 @@ impl<I: Source, O: Sink, L: Ledger> Session<'_, '_, '_, '_, '_, I, O, L> {
     ) -> Result<Payload, Break>
         requires ready { IsReady self.old streams.old }
         ensures keeps { Keeps self.old self.new streams.new }
+        ensures same_files { self.new.store ≡ self.old.store }
         ensures taken { TakesPayload I.left O.written self.old self.new name.now count streams.old streams.new result }
         ensures counts { Counts (I.faults self.old.input.now) (I.faults self.new.input.now)
             (O.faults self.old.out.now) (O.faults self.new.out.now) result }
@@ -57,6 +58,7 @@ impl<I: Source, O: Sink, L: Ledger> Session<'_, '_, '_, '_, '_, I, O, L> {
         requires fits { IsStreamOf self.old.db.now stream.old }
         requires scratch { IsScratchOf self.old.db.now self.old.scratch.now }
         ensures stays { Stays self.old self.new }
+        ensures same_files { self.new.store ≡ self.old.store }
         ensures fits { IsStreamOf self.old.db.now stream.new }
         ensures written { WritesPayload I.left O.written self.old self.new name.now count stream.old stream.new result }
         ensures counts { Counts (I.faults self.old.input.now) (I.faults self.new.input.now)
@@ -81,6 +83,7 @@ impl<I: Source, O: Sink, L: Ledger> Session<'_, '_, '_, '_, '_, I, O, L> {
         requires scratch { IsScratchOf self.old.db.now self.old.scratch.now }
         requires room { offset_of stream.old + count ≤ greatest_offset }
         ensures stays { Stays self.old self.new }
+        ensures same_files { self.new.store ≡ self.old.store }
         ensures fits { IsStreamOf self.old.db.now stream.new }
         ensures scanned { ScansPayload I.left O.written self.old self.new name.now count stream.old stream.new result }
         ensures counts { Counts (I.faults self.old.input.now) (I.faults self.new.input.now)

@@ -1,12 +1,14 @@
 //! The open streams, by name.
-ghost use Rattle.std.specs.Prelude.{◌≡◌, ◌≢◌, ℕ, List, Option, None, Some, [], ◌∷◌, OnOk, OnErr, IsTrue, ◌↔◌};
+ghost use Rattle.std.specs.Prelude.{◌≡◌, ◌≢◌, ℕ, List, Option, None, Some, [], ◌∷◌, OnOk, OnErr, IfErr, IsTrue, ◌↔◌};
+ghost use Rattle.std.specs.Prelude.{MatchOption};
 ghost use Rattle.hs_reports.specs.Events.{Takes};
 ghost use Rattle.hs_stream.specs.Scratches.{IsScratchOf};
 ghost use Rattle.hs_script.specs.Actions.{Open, Reset, Close};
+ghost use Rattle.hs_tool.specs.ExpandWords.{word_of_fault};
 
 use hs_compile::Database;
 use hs_engine::Steps;
-use hs_stream::{Events, Scratch, Stream};
+use hs_stream::{Events, ExpandFault, Scratch, Stream};
 use hs_text::{Reply, Verb, Word};
 use std::alloc::{AllocError, Global};
 use std::collections::BTreeMap;
@@ -22,7 +24,10 @@ pub struct Streams {
 }
 
 impl Streams {
-    ghost use Rattle.hs_tool.specs.OpenStreams.{stream_at, count_of, AreStreamsOf, PutsStream, Adds, Performs};
+    ghost use Rattle.hs_tool.specs.OpenStreams.{stream_at, count_of, AreStreamsOf, PutsStream};
+    ghost use Rattle.hs_tool.specs.OpenStreams.{PerformsStill};
+    ghost use Rattle.hs_tool.specs.Expanding.{Adds, AddsExpanded, Expands, Hinders, IsFree};
+    ghost use Rattle.hs_stream.specs.Saving.{IsExpandFaultOf};
 
     /// No stream is open.
     pub(crate) fn new(alloc: Global) -> Streams
@@ -38,7 +43,7 @@ impl Streams {
     pub(crate) fn open(&mut self, alloc: Global, db: &Database, name: &[u8]) -> Reply
         requires fits { AreStreamsOf db.now self.old }
         ensures fits { AreStreamsOf db.now self.new }
-        ensures performs { Performs db.now self.old self.new (Open name.now ∷ []) (record {
+        ensures performs { PerformsStill db.now self.old self.new (Open name.now ∷ []) (record {
           reports = [];
           reply =
               Some result;
@@ -68,6 +73,64 @@ impl Streams {
         Ok(())
     }
 
+    /// Why no stream of that name can be opened, want of memory aside.
+    pub(crate) fn hindrance(&self, name: &[u8]) -> Option<Word>
+        ensures { MatchOption result (IsFree self.now name.now) (Hinders self.now name.now) }
+    {
+        if self.map.contains_key(name) {
+            return Some(Word::Exists);
+        }
+        if self.map.len() >= MAX_STREAMS {
+            return Some(Word::Full);
+        }
+        None
+    }
+
+    /// Opens a stream of that name, which isn't open, that goes on as the one that was saved as these bytes.
+    pub(crate) fn expand(
+        &mut self,
+        alloc: Global,
+        db: &Database,
+        name: &[u8],
+        bytes: &[u8],
+    ) -> Reply
+        requires fits { AreStreamsOf db.now self.old }
+        requires unknown { stream_at self.old name.now ≡ None }
+        ensures fits { AreStreamsOf db.now self.new }
+        ensures expands { Expands db.now self.old self.new name.now bytes.now result }
+    {
+        match self.add_expanded(alloc, db, name, bytes) {
+            Ok(()) => Reply::Done(Verb::Expand, None),
+            Err(fault) => Reply::No(Verb::Expand, word_of(fault)),
+        }
+    }
+
+    /// Adds the stream that was saved as these bytes, under a name that isn't open. An error changes nothing.
+    fn add_expanded(
+        &mut self,
+        alloc: Global,
+        db: &Database,
+        name: &[u8],
+        bytes: &[u8],
+    ) -> Result<(), ExpandFault>
+        requires unknown { stream_at self.old name.now ≡ None }
+        ensures added { OnOk result (AddsExpanded db.now self.old self.new name.now bytes.now) }
+        ensures unchanged { OnErr result (PutsStream self.old self.new name.now None) }
+        ensures fault { IfErr result (IsExpandFaultOf db.now bytes.now) }
+    {
+        let stream = match Stream::expand(alloc, db, bytes) {
+            Ok(stream) => stream,
+            Err(fault) => return Err(fault),
+        };
+        let Ok(key) = Vec::from_slice(alloc, name) else {
+            return Err(ExpandFault::Memory);
+        };
+        match self.map.insert(key, stream) {
+            Ok(_) => Ok(()),
+            Err(_) => Err(ExpandFault::Memory),
+        }
+    }
+
     /// Resets the stream of that name.
     pub(crate) fn reset<V: Events, L: Ledger>(
         &mut self,
@@ -82,7 +145,7 @@ impl Streams {
         ensures fits { AreStreamsOf db.now self.new }
         ensures scratch { IsScratchOf db.now scratch.new }
         ensures performs { Takes V.tells events.old events.new
-            (λ pairs. Performs db.now self.old self.new (Reset name.now ∷ [])
+            (λ pairs. PerformsStill db.now self.old self.new (Reset name.now ∷ [])
             (record { reports = pairs; reply = Some result } ∷ [])) }
     {
         match self.map.get_mut(name) {
@@ -108,7 +171,7 @@ impl Streams {
         ensures fits { AreStreamsOf db.now self.new }
         ensures scratch { IsScratchOf db.now scratch.new }
         ensures performs { Takes V.tells events.old events.new
-            (λ pairs. Performs db.now self.old self.new (Close name.now ∷ [])
+            (λ pairs. PerformsStill db.now self.old self.new (Close name.now ∷ [])
             (record { reports = pairs; reply = Some result } ∷ [])) }
     {
         match self.map.remove(name) {
@@ -118,5 +181,17 @@ impl Streams {
                 Reply::Done(Verb::Close, None)
             }
         }
+    }
+}
+
+/// The word of a fault of saved streams.
+fn word_of(fault: ExpandFault) -> Word
+    ensures { result ≡ word_of_fault fault }
+{
+    match fault {
+        ExpandFault::Form(_) => Word::Form,
+        ExpandFault::Version(_) => Word::Version,
+        ExpandFault::OtherDatabase => Word::Database,
+        ExpandFault::Memory => Word::Memory,
     }
 }

@@ -3,4 +3,4 @@ use Rattle.hs_script.proofs.RunLemmas as runs
 use Rattle.hs_script.proofs.laws.bounded.Goals as goal
 
 pub returns : goal.returns
-returns c P actions answers after r = runs.bounded r (omega arith)
+returns c basis files actions answers after r = runs.bounded r (omega arith)

@@ -1,11 +1,12 @@
 use Rattle.std.proofs.Common.{rules, refl, arith}
 use Rattle.hs_lines.proofs.PrintLemmas.{wrote, printed-all, printed-part}
 use Rattle.hs_tool.proofs.ScanLemmas.{when_ok}
+use Rattle.hs_tool.proofs.WrittenLemmas.{takes-written}
 use Rattle.hs_tool.proofs.piece.write_piece.Goals as goal
 
 pub returns-then-lines-clause-scanned : goal.returns-then-lines-clause-scanned
 returns-then-lines-clause-scanned g c =
-    let taken = when_ok c.write.result (λ err. omega (arith, c.write.ensures.full.0 err, c.requires.room)) c.write.ensures.told in
+    let taken = takes-written c.args.bytes.now c.write.ensures.fits c.write.ensures.idle (when_ok c.write.result (λ err. omega (arith, c.write.ensures.full.0 err, c.requires.room)) c.write.ensures.any) in
     let lines = wrote g.O.Sink.written g.O.Sink.faults _ taken.pairs c.write.new.events refl taken.through in
     let same = lines.same_out in
     let part = printed-part lines.printed c.if-lines.true in
@@ -13,7 +14,7 @@ returns-then-lines-clause-scanned g c =
 
 pub returns-else-lines-clause-scanned : goal.returns-else-lines-clause-scanned
 returns-else-lines-clause-scanned g c =
-    let taken = when_ok c.write.result (λ err. omega (arith, c.write.ensures.full.0 err, c.requires.room)) c.write.ensures.told in
+    let taken = takes-written c.args.bytes.now c.write.ensures.fits c.write.ensures.idle (when_ok c.write.result (λ err. omega (arith, c.write.ensures.full.0 err, c.requires.room)) c.write.ensures.any) in
     let lines = wrote g.O.Sink.written g.O.Sink.faults _ taken.pairs c.write.new.events refl taken.through in
     let same_out = lines.same_out in
     let same_pending = lines.same_pending in

@@ -1,6 +1,6 @@
 use Rattle.std.proofs.Common.{rules, refl, sym, subst, [], ◌∷◌, Some}
 use Rattle.hs_script.specs.Actions.{Reset}
-use Rattle.hs_tool.specs.OpenStreams.{Performs}
+use Rattle.hs_tool.specs.OpenStreams.{PerformsStill}
 use Rattle.hs_lines.proofs.PrintLemmas.{wrote, printed-all, printed-part}
 use Rattle.hs_tool.proofs.session.Session.tell_reset.Goals as goal
 
@@ -30,7 +30,7 @@ returns-then-lines-clause-told g c =
       pairs = taken.pairs;
       reply = c.reset-reply.result;
       is = tt;
-      performs = subst (λ n. Performs c.args.self.now.db.now c.args.streams.now c.reset-reply.new.self (Reset n ∷ []) (record { reports = taken.pairs; reply = Some c.reset-reply.result } ∷ [])) c.as_slice.ensures.bytes taken.holds;
+      performs = subst (λ n. PerformsStill c.args.self.now.db.now c.args.streams.now c.reset-reply.new.self (Reset n ∷ []) (record { reports = taken.pairs; reply = Some c.reset-reply.result } ∷ [])) c.as_slice.ensures.bytes taken.holds;
       sends = search (rules, part);
     }
 
@@ -50,6 +50,6 @@ returns-else-lines-clause-told g c =
       pairs = taken.pairs;
       reply = c.reset-reply.result;
       is = refl;
-      performs = subst (λ n. Performs c.args.self.now.db.now c.args.streams.now c.reset-reply.new.self (Reset n ∷ []) (record { reports = taken.pairs; reply = Some c.reset-reply.result } ∷ [])) c.as_slice.ensures.bytes taken.holds;
+      performs = subst (λ n. PerformsStill c.args.self.now.db.now c.args.streams.now c.reset-reply.new.self (Reset n ∷ []) (record { reports = taken.pairs; reply = Some c.reset-reply.result } ∷ [])) c.as_slice.ensures.bytes taken.holds;
       sends = search (rules, all);
     }

@@ -17,6 +17,6 @@ returns-in-Some-clause-fits g c =
 
 pub returns-in-Some-clause-performs : goal.returns-in-Some-clause-performs
 returns-in-Some-clause-performs g c =
-    takes-weaker c.reset.ensures.told
+    takes-weaker c.reset.ensures.any
     (λ pairs ends. performs-reset c.args.name.now c.in-Some.stream.now c.reset.new.self pairs (sym c.in-Some.ensures.value)
     (puts-lent (sym c.in-Some.ensures.value) (c.get_mut.follows.holds c.reset.new.self)) c.reset.ensures.fresh ends)

@@ -1,4 +1,4 @@
-//! A store in memory that lacks its files at one read. It is `#[cfg(test)]`.
+//! A store in memory that lacks its files at one read.
 ghost use Rattle.std.specs.Prelude.{◌≡◌, IfOk, OnOk, IfErr, OnErr};
 ghost use Rattle.hs_outside.specs.Counts.{Rose};
 ghost use Rattle.hs_outside.specs.Store.{untold, ReadsAt, Refuses, PutsOrHides, Spoils};
@@ -7,8 +7,9 @@ use hs_outside::{Failed, MemStore, Store, StoreFault};
 
 /// A store in memory that lacks its files at one read. As it doesn't say at which, it tells nothing.
 #[derive(Drop)]
-pub(crate) struct Leaving {
-    pub(crate) store: MemStore,
+pub struct Leaving {
+    /// The store.
+    pub store: MemStore,
     // How many reads there were.
     reads: u64,
     // The read at which its files are absent, from 1 on.
@@ -17,7 +18,9 @@ pub(crate) struct Leaving {
 
 impl Leaving {
     /// This store, which lacks its files at that read.
-    pub(crate) fn new(store: MemStore, gone: u64) -> Self {
+    pub fn new(store: MemStore, gone: u64) -> Self
+        ensures { result.store ≡ store }
+    {
         Leaving {
             store,
             reads: 0,

@@ -1,25 +1,31 @@
-//! What a row says that the program is run on, and what it answers. It is `#[cfg(test)]`.
-ghost use Rattle.std.specs.Prelude.{◌≤◌};
+//! What a row says that the program is run on, and what it answers.
+ghost use Rattle.std.specs.Prelude.{◌≡◌, ◌==◌, ◌≤◌, [], false, IfOk, OnErr, IsTrue};
+ghost use Rattle.std.specs.List.{list_any};
 
 use hs_rows::{number_of, text_of, words_of};
 use std::alloc::{AllocError, Global};
 use std::test::Fail;
 
 /// How many bytes the store, and `out` where no row says less, have room for.
-pub(crate) const ROOM: usize = 262_144;
+pub const ROOM: usize = 262_144;
 
 /// The calls that fail, and the read at which the store lacks its files, counted from 1; 0 is none.
 #[derive(Clone, Copy)]
-pub(crate) struct Faults {
-    pub(crate) store: u64,
-    pub(crate) source: u64,
-    pub(crate) out: u64,
-    pub(crate) err: u64,
-    pub(crate) gone: u64,
+pub struct Faults {
+    /// The call on the store.
+    pub store: u64,
+    /// The call on the source.
+    pub source: u64,
+    /// The call on `out`.
+    pub out: u64,
+    /// The call on `err`.
+    pub err: u64,
+    /// The read at which the store lacks its files.
+    pub gone: u64,
 }
 
 /// No call fails.
-pub(crate) const NO_FAULTS: Faults = Faults {
+pub const NO_FAULTS: Faults = Faults {
     store: 0,
     source: 0,
     out: 0,
@@ -27,42 +33,51 @@ pub(crate) const NO_FAULTS: Faults = Faults {
     gone: 0,
 };
 
+/// What fails in turn, and what is written to `err` then.
+pub const PARTS: [(&str, &str); 3] = [
+    ("store", "fault store\n"),
+    ("source", "fault read\n"),
+    ("out", "fault write\n"),
+];
+
 /// What the program is run on.
 #[derive(Drop)]
-pub(crate) struct Setting {
+pub struct Setting {
     /// The words of the commands, over the same store and streams.
-    pub(crate) commands: Vec<Vec<String>>,
-    /// The files `p`, `f` and `d`, where they are there. The store's first calls put them.
-    pub(crate) patterns: Option<Vec<u8>>,
-    pub(crate) file: Option<Vec<u8>>,
-    pub(crate) database: Option<Vec<u8>>,
+    pub commands: Vec<Vec<String>>,
+    /// The file `p`, where it is there. The store's first calls put the files.
+    pub patterns: Option<Vec<u8>>,
+    /// The file `f`, where it is there.
+    pub file: Option<Vec<u8>>,
+    /// The file `d`, where it is there.
+    pub database: Option<Vec<u8>>,
     /// What standard input holds.
-    pub(crate) script: Vec<u8>,
+    pub script: Vec<u8>,
     /// The script opens each stream of a name of two letters first.
-    pub(crate) opens_all: bool,
+    pub opens_all: bool,
     /// For each run of the commands the length of the pieces in which the script comes.
-    pub(crate) pieces: Vec<usize>,
+    pub pieces: Vec<usize>,
     /// How many bytes `out` has room for.
-    pub(crate) room: usize,
+    pub room: usize,
     /// The calls that fail.
-    pub(crate) faults: Faults,
+    pub faults: Faults,
     /// Each call on the store, the source and `out` fails in turn, too.
-    pub(crate) fails_each: bool,
+    pub fails_each: bool,
 }
 
 /// What the program answers.
 #[derive(Drop)]
-pub(crate) struct Answer {
+pub struct Answer {
     /// The status of the last command.
-    pub(crate) status: u32,
+    pub status: u32,
     /// What was written to `out`.
-    pub(crate) out: Vec<u8>,
+    pub out: Vec<u8>,
     /// A call failed, so that a beginning of that may have been written.
-    pub(crate) is_cut: bool,
+    pub is_cut: bool,
     /// What was written to `err`.
-    pub(crate) err: Vec<u8>,
+    pub err: Vec<u8>,
     /// The file `d` that is left, empty where there is none; none where that isn't asked for.
-    pub(crate) left: Option<Vec<u8>>,
+    pub left: Option<Vec<u8>>,
 }
 
 /// The bytes of a word `<text>`, or none of the word `-`.
@@ -114,7 +129,9 @@ fn numbers_in(alloc: Global, word: &[u8]) -> Result<Vec<usize>, Fail> {
 
 impl Setting {
     /// No command, over no files and an empty script.
-    pub(crate) fn new(alloc: Global) -> Result<Setting, AllocError> {
+    pub fn new(alloc: Global) -> Result<Setting, AllocError>
+        ensures { IfOk result (λ setting. setting.fails_each ≡ false) }
+    {
         Ok(Setting {
             commands: Vec::new(alloc),
             patterns: None,
@@ -130,7 +147,7 @@ impl Setting {
     }
 
     /// How many calls put the files.
-    pub(crate) fn puts(&self) -> u64
+    pub fn puts(&self) -> u64
         ensures { result ≤ 3 }
     {
         u64::from(self.patterns.is_some())
@@ -138,8 +155,18 @@ impl Setting {
             + u64::from(self.database.is_some())
     }
 
+    /// Takes the fields of a row, if it has some.
+    pub fn take(&mut self, alloc: Global, words: &[Vec<u8>]) -> Result<(), Fail>
+        ensures { words.now ≡ [] → self.new ≡ self.old }
+    {
+        if words.is_empty() {
+            return Ok(());
+        }
+        self.take_all(alloc, words)
+    }
+
     /// Takes the fields of a row.
-    pub(crate) fn take(&mut self, alloc: Global, words: &[Vec<u8>]) -> Result<(), Fail> {
+    fn take_all(&mut self, alloc: Global, words: &[Vec<u8>]) -> Result<(), Fail> {
         for pair in words.chunks(2) {
             match pair {
                 [name, value] => self.set(alloc, name, value)?,
@@ -176,7 +203,9 @@ impl Setting {
 
 impl Faults {
     /// Takes the call that fails of that name.
-    pub(crate) fn set(&mut self, name: &[u8], call: u64) -> Result<(), Fail> {
+    pub fn set(&mut self, name: &[u8], call: u64) -> Result<(), Fail>
+        ensures { OnErr result (self.new ≡ self.old) }
+    {
         match name {
             b"store" => self.store = call,
             b"source" => self.source = call,
@@ -191,17 +220,26 @@ impl Faults {
 
 impl Answer {
     /// Whether this answer, which is wanted, is the one that was found.
-    pub(crate) fn is_met_by(&self, found: &Answer) -> bool {
-        found.status == self.status
-            && self.out.starts_with(&found.out)
+    pub fn is_met_by(&self, found: &Answer) -> bool
+        ensures { IsTrue result → found.now.status ≡ self.now.status }
+    {
+        if found.status != self.status {
+            return false;
+        }
+        self.out.starts_with(&found.out)
             && (self.is_cut || found.out == self.out)
             && found.err == self.err
             && (self.left.is_none() || found.left == self.left)
     }
 
     /// Whether the answer that was found is a beginning of this one, broken off by a fault of that line.
-    pub(crate) fn is_cut_short(&self, found: &Answer, line: &[u8]) -> bool {
-        found.status == 3 && self.out.starts_with(&found.out) && found.err.as_slice() == line
+    pub fn is_cut_short(&self, found: &Answer, line: &[u8]) -> bool
+        ensures { IsTrue result → found.now.status ≡ 3 }
+    {
+        if found.status != 3 {
+            return false;
+        }
+        self.out.starts_with(&found.out) && found.err.as_slice() == line
     }
 }
 
@@ -214,13 +252,16 @@ fn text_at(alloc: Global, words: &[Vec<u8>], number: usize) -> Result<Option<Vec
 }
 
 /// What a row wants.
-pub(crate) fn wanted_of(alloc: Global, written: &[u8]) -> Result<Answer, Fail> {
+pub fn wanted_of(alloc: Global, written: &[u8]) -> Result<Answer, Fail>
+    ensures { IfOk result (λ answer. answer.is_cut ≡ list_any (λ byte. byte == 126) written.now) }
+{
+    let is_cut = written.contains(&b'~');
     let words = words_of(alloc, written)?;
     let status = words.first().ok_or("no status in a row")?;
     Ok(Answer {
         status: number_in(status)?,
         out: text_at(alloc, &words, 1)?.unwrap_or(Vec::new(alloc)),
-        is_cut: written.contains(&b'~'),
+        is_cut,
         err: text_at(alloc, &words, 2)?.unwrap_or(Vec::new(alloc)),
         left: text_at(alloc, &words, 3)?,
     })
