@@ -1,7 +1,7 @@
 use Rattle.std.proofs.Common.{length, arith}
 use Rattle.std.proofs.lemmas.Option.{slice_get_read}
 use Rattle.hs_forest.proofs.JoinLemmas.{join-step}
-use Rattle.hs_forest.proofs.children.joined.Goals as goal
+use Rattle.hs_forest.proofs.groups.joined.Goals as goal
 
 pub loop-more-preserved : goal.loop-more-preserved
 loop-more-preserved c =

@@ -1,8 +1,8 @@
--- The children of nodes.
+-- Numbers by their owners.
 use Rattle.std.proofs.Common.{◌≡◌, ◌⊎◌, ℕ, zero, suc, ◌+◌, ◌<◌, Bool, true, false, cond, List, [], ◌∷◌, ◌++◌, length, map, take, slice_set, slice_get, Option, Some, None, Vec, Global, refl, sym, ap, subst, ◌∙◌, inl, inr, eqb, arith}
 use Rattle.std.proofs.lemmas.Bool.Decides.{nat_tests}
 use Rattle.std.proofs.lemmas.List.{append-nil, length-map, length-set, length-take-le, map-append}
-use Rattle.hs_forest.specs.Children.{AreChildLists, IsChildAdded, is_number, numbers_with}
+use Rattle.hs_forest.specs.Groups.{AreLists, IsNumberAdded, is_number, numbers_with}
 use Rattle.hs_forest.specs.Views.{numbers}
 use Rattle.hs_forest.proofs.ListLemmas.{get-push, take-get}
 
@@ -23,8 +23,8 @@ numbers-push k at (a ∷ parents) p =
     (numbers-push k (suc at) parents p ∙ ap (λ n. numbers_with k (suc at) parents ++ cond (is_number k p) (n ∷ []) []) next)
 
 -- the lists of the first so many nodes and one more
-pub lists-step : (parents : List (Option ℕ)) (count n : ℕ) (p : Option ℕ) (before now : List (List ℕ)) → n < length parents → slice_get parents n ≡ Some p → AreChildLists (take n parents) count before → IsChildAdded before p n now →
-    AreChildLists (take (n + 1) parents) count now
+pub lists-step : (parents : List (Option ℕ)) (count n : ℕ) (p : Option ℕ) (before now : List (List ℕ)) → n < length parents → slice_get parents n ≡ Some p → AreLists (take n parents) count before → IsNumberAdded before p n now →
+    AreLists (take (n + 1) parents) count now
 lists-step parents count n p before now below at are added =
     let next : suc n ≡ n + 1 = omega arith in
     let len : 0 + length (take n parents) ≡ n = omega (arith, length-take-le n parents (omega arith)) in
@@ -38,19 +38,19 @@ lists-step parents count n p before now below at are added =
     }
 
 -- nothing is added where there is no parent
-pub none-added : (lists : List (List ℕ)) (n : ℕ) → IsChildAdded lists None n lists
+pub none-added : (lists : List (List ℕ)) (n : ℕ) → IsNumberAdded lists None n lists
 none-added lists n = record { count = refl; each = λ k list at. (list, at, sym (append-nil list)) }
 
-child-each : (lists : List (Vec ℕ Global)) (k n : ℕ) (old new : Vec ℕ Global) → slice_get lists k ≡ Some old → new.items ≡ old.items ++ n ∷ [] → (j : ℕ) (list : List ℕ) (b : Bool) → (b ≡ true → k ≡ j) → (b ≡ false → k ≡ j → ⊥) →
+number-each : (lists : List (Vec ℕ Global)) (k n : ℕ) (old new : Vec ℕ Global) → slice_get lists k ≡ Some old → new.items ≡ old.items ++ n ∷ [] → (j : ℕ) (list : List ℕ) (b : Bool) → (b ≡ true → k ≡ j) → (b ≡ false → k ≡ j → ⊥) →
     slice_get (map numbers (slice_set lists k new)) j ≡ Some list → (own : List ℕ) × (slice_get (map numbers lists) j ≡ Some own) × (list ≡ own ++ cond b (n ∷ []) [])
-child-each [] k n old new at grown j list b one other is = absurd (cc)
-child-each (v ∷ lists) zero n old new at grown zero list true one other is = let e : v ≡ old = cc in let e' : new.items ≡ list = cc in (v.items, refl, sym e' ∙ grown ∙ ap (λ (w : Vec ℕ Global). w.items ++ n ∷ []) (sym e))
-child-each (v ∷ lists) zero n old new at grown zero list false one other is = absurd (other refl refl)
-child-each (v ∷ lists) zero n old new at grown (suc j) list true one other is = absurd (omega (arith, one refl))
-child-each (v ∷ lists) zero n old new at grown (suc j) list false one other is = (list, is, sym (append-nil list))
-child-each (v ∷ lists) (suc k) n old new at grown zero list true one other is = absurd (omega (arith, one refl))
-child-each (v ∷ lists) (suc k) n old new at grown zero list false one other is = (list, is, sym (append-nil list))
-child-each (v ∷ lists) (suc k) n old new at grown (suc j) list b one other is = child-each lists k n old new at grown j list b (λ e. omega (arith, one e)) (λ e same. other e (ap suc same)) is
+number-each [] k n old new at grown j list b one other is = absurd (cc)
+number-each (v ∷ lists) zero n old new at grown zero list true one other is = let e : v ≡ old = cc in let e' : new.items ≡ list = cc in (v.items, refl, sym e' ∙ grown ∙ ap (λ (w : Vec ℕ Global). w.items ++ n ∷ []) (sym e))
+number-each (v ∷ lists) zero n old new at grown zero list false one other is = absurd (other refl refl)
+number-each (v ∷ lists) zero n old new at grown (suc j) list true one other is = absurd (omega (arith, one refl))
+number-each (v ∷ lists) zero n old new at grown (suc j) list false one other is = (list, is, sym (append-nil list))
+number-each (v ∷ lists) (suc k) n old new at grown zero list true one other is = absurd (omega (arith, one refl))
+number-each (v ∷ lists) (suc k) n old new at grown zero list false one other is = (list, is, sym (append-nil list))
+number-each (v ∷ lists) (suc k) n old new at grown (suc j) list b one other is = number-each lists k n old new at grown j list b (λ e. omega (arith, one e)) (λ e same. other e (ap suc same)) is
 
 equal-numbers : (k j : ℕ) → eqb k j ≡ true → k ≡ j
 equal-numbers k j e = grind (arith, nat_tests)
@@ -58,11 +58,11 @@ equal-numbers k j e = grind (arith, nat_tests)
 other-numbers : (k j : ℕ) → eqb k j ≡ false → k ≡ j → ⊥
 other-numbers k j e same = grind (arith, nat_tests)
 
--- one node is put behind the children of its parent
-pub child-added : (lists : List (Vec ℕ Global)) (k n : ℕ) (old new : Vec ℕ Global) → slice_get lists k ≡ Some old → new.items ≡ old.items ++ n ∷ [] → IsChildAdded (map numbers lists) (Some k) n (map numbers (slice_set lists k new))
-child-added lists k n old new at grown = record {
+-- a number is put behind those of its owner
+pub number-added : (lists : List (Vec ℕ Global)) (k n : ℕ) (old new : Vec ℕ Global) → slice_get lists k ≡ Some old → new.items ≡ old.items ++ n ∷ [] → IsNumberAdded (map numbers lists) (Some k) n (map numbers (slice_set lists k new))
+number-added lists k n old new at grown = record {
   count = length-map (slice_set lists k new) numbers ∙ length-set lists k new ∙ sym (length-map lists numbers);
-  each = λ j list is. child-each lists k n old new at grown j list (eqb k j) (equal-numbers k j) (other-numbers k j) is;
+  each = λ j list is. number-each lists k n old new at grown j list (eqb k j) (equal-numbers k j) (other-numbers k j) is;
 }
 
 none-pushed : (lists : List (List ℕ)) → ((k : ℕ) (list : List ℕ) → slice_get lists k ≡ Some list → list ≡ []) → (v : List ℕ) → v ≡ [] → (k : ℕ) (list : List ℕ) → (slice_get lists k ≡ Some list) ⊎ ((k ≡ length lists) × (v ≡ list)) → list ≡ []
@@ -77,5 +77,5 @@ none-more before now v grown empty all k list at =
     none-pushed (map numbers before) all v.items empty k list (get-push (map numbers before) v.items k list (subst (λ zs. slice_get zs k ≡ Some list) e at))
 
 -- the first lists
-pub no-lists : (parents : List (Option ℕ)) (count : ℕ) (lists : List (List ℕ)) → length lists ≡ count → ((k : ℕ) (list : List ℕ) → slice_get lists k ≡ Some list → list ≡ []) → AreChildLists (take 0 parents) count lists
-no-lists parents count lists many none = record { count_is = many; each = none }
+pub no-lists-yet : (parents : List (Option ℕ)) (count : ℕ) (lists : List (List ℕ)) → length lists ≡ count → ((k : ℕ) (list : List ℕ) → slice_get lists k ≡ Some list → list ≡ []) → AreLists (take 0 parents) count lists
+no-lists-yet parents count lists many none = record { count_is = many; each = none }
