@@ -12,7 +12,8 @@ use std::alloc::{AllocError, Global};
 use std::marker::Model;
 
 /// The beginnings of chains of keys, each once: of each node the parent, the key and the children, and for each key of
-/// each chain its node. Nodes are numbered in the order of their first keys. A node takes 24 bytes, and its key is found in time by the logarithm of the count of nodes.
+/// each chain its node. Nodes are numbered in the order of their first keys. A node takes 24 bytes, and its key is
+/// found in time by the logarithm of the count of nodes.
 #[derive(Debug, Drop)]
 pub struct Forest {
     parents: Vec<Option<u32>>,

@@ -1,5 +1,5 @@
-//! Equal beginnings of chains as one: a forest with a node for each beginning of a chain of keys; and numbers grouped by
-//! their owners.
+//! Equal beginnings of chains as one: a forest with a node for each beginning of a chain of keys; and numbers grouped
+//! by their owners.
 #![tactic(auto)]
 
 mod builder;
