@@ -1,65 +1,12 @@
--- Terminals by node, with one start or one terminal more.
+-- The terminals of a node.
 use Rattle.std.proofs.Common.{◌≡◌, ◌⊎◌, ℕ, zero, suc, ◌+◌, ◌-◌, ◌<◌, ◌≤◌, Bool, false, ◌==◌, ◌&&◌, ◌||◌, List, [], ◌∷◌, ◌++◌, length, take, drop, Some, slice_get, refl, sym, ap, ◌∙◌, subst, inl, inr, arith}
 use Rattle.std.specs.Prelude.{slice_index, slice_range}
 use Rattle.std.specs.List.{list_any}
 use Rattle.std.proofs.lemmas.Bool.{cases_lt, eq-eqb}
 use Rattle.std.proofs.lemmas.Bool.Decides.{nat_tests}
-use Rattle.std.proofs.lemmas.Option.{slice_get_within}
 use Rattle.hs_reports.specs.declared.terminal.Terminal.{Terminal}
 use Rattle.hs_reports.specs.Gathering.{AreOfNode}
-use Rattle.hs_rose.proofs.ListLemmas.{each-push, get-push}
 use Rattle.hs_compile.specs.GraphLists.{LieByNode}
-use Rattle.hs_compile.proofs.GraphListLemmas.{each-index, each-to, index-behind, index-left, length-push}
-
-pub no-terminals : LieByNode [] []
-no-terminals = record {
-  within = tt;
-  rising = λ j k order below. absurd (omega (arith, below));
-  known = λ i x at. absurd (cc);
-  low = λ i x at. absurd (cc);
-  high = λ i x at below. absurd (cc);
-}
-
--- the start of one node more
-pub start-added : (starts : List ℕ) (terminals : List Terminal) → LieByNode starts terminals → LieByNode (starts ++ length terminals ∷ []) terminals
-start-added starts terminals lie = record {
-  within = each-push (λ n. n ≤ length terminals) starts (length terminals) lie.within (omega arith);
-  rising = λ j k order below. elim (cases_lt k (length starts)) [
-    | inl inside ↦
-        subst (λ n. n ≤ slice_index (starts ++ length terminals ∷ []) k) (sym (index-left starts (length terminals) j (omega (arith, order, inside))))
-        (subst (λ n. slice_index starts j ≤ n) (sym (index-left starts (length terminals) k inside)) (lie.rising j k order inside))
-    | inr past ↦
-        subst (λ n. slice_index (starts ++ length terminals ∷ []) j ≤ n) (sym (index-behind starts (length terminals) k (omega (arith, past, below, length-push starts (length terminals)))))
-        (each-index (length terminals) (starts ++ length terminals ∷ []) (each-push (λ n. n ≤ length terminals) starts (length terminals) lie.within (omega arith)) j)
-  ];
-  known = λ i x at. omega (arith, lie.known i x at, length-push starts (length terminals));
-  low = λ i x at. subst (λ n. n ≤ i) (sym (index-left starts (length terminals) x.node (lie.known i x at))) (lie.low i x at);
-  high = λ i x at below. elim (cases_lt (suc x.node) (length starts)) [
-    | inl inside ↦ subst (λ n. i < n) (sym (index-left starts (length terminals) (suc x.node) inside)) (lie.high i x at inside)
-    | inr past ↦
-        subst (λ n. i < n) (sym (index-behind starts (length terminals) (suc x.node) (omega (arith, past, below, length-push starts (length terminals)))))
-        (slice_get_within terminals i x at)
-  ];
-}
-
--- one terminal more, of the last node that has a start
-pub terminal-added : (starts : List ℕ) (terminals : List Terminal) (x : Terminal) → LieByNode starts terminals → suc x.node ≡ length starts → LieByNode starts (terminals ++ x ∷ [])
-terminal-added starts terminals x lie last = record {
-  within = each-to (λ n. n ≤ length terminals) (λ n. n ≤ length (terminals ++ x ∷ [])) (λ n low. omega (arith, low, length-push terminals x)) starts lie.within;
-  rising = lie.rising;
-  known = λ i y at. elim (get-push terminals x i y at) [
-    | inl old ↦ lie.known i y old
-    | inr new ↦ omega (arith, last, ap (λ (z : Terminal). z.node) new.1)
-  ];
-  low = λ i y at. elim (get-push terminals x i y at) [
-    | inl old ↦ lie.low i y old
-    | inr new ↦ subst (λ n. slice_index starts y.node ≤ n) (sym new.0) (each-index (length terminals) starts lie.within y.node)
-  ];
-  high = λ i y at below. elim (get-push terminals x i y at) [
-    | inl old ↦ lie.high i y old below
-    | inr new ↦ absurd (omega (arith, last, below, ap (λ (z : Terminal). z.node) new.1))
-  ];
-}
 
 -- the terminals of a node are those between two starts
 

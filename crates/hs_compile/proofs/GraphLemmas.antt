@@ -4,6 +4,7 @@ use Rattle.std.proofs.lemmas.List.{length-take-le}
 use Rattle.std.proofs.lemmas.Option.{same_Some, slice_get_within}
 use Rattle.hs_base.specs.Chains.{Piece, lit, nfa, IsFitChain}
 use Rattle.hs_base.specs.KeptPieces.{form_of, nothing}
+use Rattle.hs_base.specs.Regions.{Place}
 use Rattle.hs_layout.specs.Layouts.{Laid}
 use Rattle.hs_nodes.specs.Walks.{IsNodeOf, StandsBehind, parent_pieces}
 use Rattle.hs_nodes.specs.declared.graph.Graph.{Graph}
@@ -20,46 +21,50 @@ use Rattle.hs_rose.specs.PieceEngines.{piece_meaning}
 use Rattle.hs_rose.specs.Programs.{Names, Tables, IsProgramOf}
 use Rattle.hs_rose.proofs.ListLemmas.{take-get}
 use Rattle.hs_rose.proofs.ListedLemmas.{piece_of}
-use Rattle.hs_compile.specs.declared.graph_builder.GraphBuilder.{GraphBuilder}
-use Rattle.hs_compile.specs.GraphBuilding.{IsGraphOf, IsWholeBuilt, same_identifier}
+use Rattle.hs_compile.specs.declared.building.GraphParts.{GraphParts}
+use Rattle.hs_compile.specs.GraphBuilding.{AreParts, IsGraphOf, same_identifier}
 use Rattle.hs_compile.specs.GraphEnds.{AreChainEnds}
 use Rattle.hs_compile.specs.GraphLists.{AreChildren, LieByNode}
-use Rattle.hs_compile.specs.GraphNodes.{AreNodesTo, IsKindOf, IsLinked, IsOwnNode, IsPairOf, begins, behind, goes_on}
+use Rattle.hs_compile.specs.GraphKinds.{IsKindOf, IsPairOf}
+use Rattle.hs_compile.specs.GraphNodes.{AreNodes, IsLinked, IsNodeOfRole, IsOwnNode, begins, behind, goes_on}
 use Rattle.hs_compile.specs.GraphTables.{LooksBack}
 use Rattle.hs_compile.proofs.JoinLemmas.{HasChain, HasPieceAt, a_literal, LiteralAt, all_pieces, first-role, has-chain, literal-at, looks-first, narrow-tree, pair, piece-of-role, place_of, second-role}
 use Rattle.hs_compile.proofs.KindLemmas.{Serves, bare-places, pair-behind, serves, serves-pair, stands-behind}
-use Rattle.hs_compile.proofs.NodeLemmas.{get-read}
+use Rattle.hs_compile.proofs.GraphListLemmas.{get-read}
+use Rattle.hs_compile.proofs.KeyLemmas.{same-place}
 
 -- a graph with the nodes and terminals of a program
 pub record GraphIs (t : Tables) (l : Laid) (graph : Graph PieceEngine) : Type 0 where
+  pub paths : List (List ℕ)
   pub owned : List ℕ
   pub few : length graph.table.nodes.items < 2 ^ 32
-  pub nodes : AreNodesTo t l (length t.roles) owned graph.table.nodes.items
-  pub child_count : length graph.table.child_starts.items ≡ suc (length graph.table.nodes.items)
+  pub path_count : length graph.table.nodes.items ≡ length paths
+  pub nodes : AreNodes t l paths owned graph.table.nodes.items graph.copies.items
   pub children : AreChildren graph.table.nodes.items graph.table.child_starts.items graph.table.children.items
   pub start_count : length graph.terminal_starts.items ≡ suc (suc (length graph.table.nodes.items))
   pub by_node : LieByNode graph.terminal_starts.items graph.terminals.items
-  pub ends : AreChainEnds t owned (length graph.table.nodes.items) (length t.chains) (length t.chains) graph.terminals.items
+  pub ends : AreChainEnds t paths (length graph.table.nodes.items) graph.terminals.items
   pub engines : graph.table.engines.items ≡ t.engines
   pub identifiers : graph.identifiers.items ≡ map same_identifier t.identifiers
-  pub copies : graph.copies.items ≡ []
 
-pub graph-is : (t : Tables) (l : Laid) (b : GraphBuilder) (graph : Graph PieceEngine) → IsWholeBuilt t l b → IsGraphOf t b graph → GraphIs t l graph
-graph-is t l b graph whole is =
-    let count : length b.nodes.items ≡ length graph.table.nodes.items = ap length (sym is.nodes) in record {
-      owned = whole.owned;
-      few = subst (λ n. n < 2 ^ 32) count whole.few;
-      nodes = subst (λ ns. AreNodesTo t l (length t.roles) whole.owned ns) (sym is.nodes) whole.nodes;
-      child_count = ap length is.child_starts ∙ (whole.child_count ∙ ap suc count);
+pub graph-is : (t : Tables) (l : Laid) (parts : GraphParts) (graph : Graph PieceEngine) → AreParts t l parts → IsGraphOf t parts graph → GraphIs t l graph
+graph-is t l parts graph are is =
+    let nodes = parts.nodes.nodes.items in
+    let count : length nodes ≡ length graph.table.nodes.items = ap length (sym is.nodes) in record {
+      paths = are.paths;
+      owned = are.nodes.owned;
+      few = subst (λ n. n < 2 ^ 32) count are.few;
+      path_count = sym count ∙ are.nodes.count;
+      nodes = subst (λ ns. AreNodes t l are.paths are.nodes.owned ns graph.copies.items) (sym is.nodes)
+          (subst (λ cs. AreNodes t l are.paths are.nodes.owned nodes cs) (sym is.copies) are.nodes.are);
       children = subst (λ ns. AreChildren ns graph.table.child_starts.items graph.table.children.items) (sym is.nodes)
-          (subst (λ ss. AreChildren b.nodes.items ss graph.table.children.items) (sym is.child_starts) (subst (λ cs. AreChildren b.nodes.items b.child_starts.items cs) (sym is.children) whole.children));
-      start_count = ap length is.terminal_starts ∙ (whole.start_count ∙ ap (λ n. suc (suc n)) count);
-      by_node = subst (λ ss. LieByNode ss graph.terminals.items) (sym is.terminal_starts) (subst (λ xs. LieByNode b.terminal_starts.items xs) (sym is.terminals) whole.by_node);
-      ends = subst (λ n. AreChainEnds t whole.owned n (length t.chains) (length t.chains) graph.terminals.items) count
-          (subst (λ xs. AreChainEnds t whole.owned (length b.nodes.items) (length t.chains) (length t.chains) xs) (sym is.terminals) whole.ends);
+          (subst (λ ss. AreChildren nodes ss graph.table.children.items) (sym is.child_starts) (subst (λ cs. AreChildren nodes parts.child_starts.items cs) (sym is.children) are.children));
+      start_count = ap length is.terminal_starts ∙ (are.ends.start_count ∙ ap (λ n. suc (suc n)) count);
+      by_node = subst (λ ss. LieByNode ss graph.terminals.items) (sym is.terminal_starts) (subst (λ xs. LieByNode parts.ends.starts.items xs) (sym is.terminals) are.ends.by_node);
+      ends = subst (λ n. AreChainEnds t are.paths n graph.terminals.items) count
+          (subst (λ xs. AreChainEnds t are.paths (length nodes) xs) (sym is.terminals) are.ends.are);
       engines = is.engines;
       identifiers = is.identifiers;
-      copies = is.copies;
     }
 
 -- the pieces up to one, and those of the role of a node
@@ -82,23 +87,29 @@ module _ (t : Tables) (entries : List Asked) (chains : List (List (List Piece)))
   pub record HasPlace (k : ℕ) (node : Node) : Type 0 where
     pub i : ℕ
     pub owns : slice_get g.owned k ≡ Some i
-    pub own : IsOwnNode t l g.owned k i node
-    pub chain : HasChain t entries chains is own.number own.chain
-    pub at : HasPieceAt t entries chains is own.chain chain.chain i own.role
+    pub own : IsOwnNode t l g.paths k i node
+    pub chain : HasChain t entries chains is own.is.number own.is.chain
+    pub at : HasPieceAt t entries chains is own.is.chain chain.chain i own.is.role
 
   pub has-place : (k : ℕ) (node : Node) → slice_get graph.table.nodes.items k ≡ Some node → HasPlace k node
   has-place k node there =
       let (i, owns) = get-read g.owned k (omega (arith, g.nodes.count, slice_get_within graph.table.nodes.items k node there)) in
       let own = g.nodes.each k i node there owns in
-      let chain = has-chain t entries chains is own.number own.chain own.chain_there in
-      record { i = i; owns = owns; own = own; chain = chain; at = piece-of-role t entries chains is own.number own.chain chain i own.role own.low own.high own.role_there }
+      let chain = has-chain t entries chains is own.is.number own.is.chain own.is.chain_there in
+      record { i = i; owns = owns; own = own; chain = chain; at = piece-of-role t entries chains is own.is.number own.is.chain chain i own.is.role own.is.low own.is.high own.is.role_there }
 
-  -- what has a node of its own doesn't look back
-  alone-at : (p j : ℕ) (q : Role) → slice_get g.owned p ≡ Some j → slice_get t.roles j ≡ Some q → LooksBack q → ⊥
-  alone-at p j q owns at back =
-      let (node, there) = get-read graph.table.nodes.items p (omega (arith, g.nodes.count, slice_get_within g.owned p j owns)) in
-      let own = g.nodes.each p j node there owns in
-      own.alone (subst LooksBack (same_Some q own.role (sym at ∙ own.role_there)) back)
+  -- the pieces of a node are those of each role that has it
+  pub shared-pieces : (k j : ℕ) (x : ListedPiece) → k < length g.owned → IsNodeOfRole t g.paths k j → slice_get (all_pieces t entries chains is) j ≡ Some x → node_pieces k ≡ x.place.pieces ++ x.place.piece ∷ []
+  shared-pieces k j x known is_node at =
+      let (node, there) = get-read graph.table.nodes.items k (omega (arith, known, g.nodes.count)) in
+      let own = has-place k node there in
+      let y = piece_of own.chain.chain own.at.m own.at.piece in
+      own-pieces k own.i y own.owns own.at.there
+      ∙ ap (λ (p : Place). p.pieces ++ p.piece ∷ []) (same-place t entries chains is g.paths k own.i j y x own.own.is is_node own.at.there at)
+
+  -- a role that has a node doesn't look back
+  alone-at : (p j : ℕ) (q : Role) → IsNodeOfRole t g.paths p j → slice_get t.roles j ≡ Some q → LooksBack q → ⊥
+  alone-at p j q is_node at back = is_node.alone (subst LooksBack (same_Some q is_node.role (sym at ∙ is_node.role_there)) back)
 
   module _ (number : ℕ) (c : ChainInfo) (own : HasChain t entries chains is number c) (k i : ℕ) (r : Role) (low : c.first ≤ i) (high : i < c.end) (there : slice_get t.roles i ≡ Some r) (alone : LooksBack r → ⊥)
       (at : HasPieceAt t entries chains is c own.chain i r) where
@@ -124,16 +135,16 @@ module _ (t : Tables) (entries : List Asked) (chains : List (List (List Piece)))
         )
 
     -- the pieces of the node before
-    pieces-before : (j p : ℕ) → c.first < i → suc j ≡ i → slice_get g.owned p ≡ Some j → before ≡ node_pieces p
-    pieces-before j p later next owns =
+    pieces-before : (j p : ℕ) → c.first < i → suc j ≡ i → p < length g.owned → IsNodeOfRole t g.paths p j → before ≡ node_pieces p
+    pieces-before j p later next known is_node =
         let (q, q_there) = get-read t.roles j (omega (arith, next, slice_get_within t.roles i r there)) in
         let last = piece-of-role t entries chains is number c own j q (omega (arith, later, next)) (omega (arith, next, high)) q_there in
         let more : at.m ≡ suc last.m = omega (arith, at.number_is, last.number_is, next) in
-        ap (λ n. take n own.chain.pieces) more ∙ (take-get own.chain.pieces last.m last.piece last.at ∙ sym (own-pieces p j (piece_of own.chain last.m last.piece) owns last.there))
+        ap (λ n. take n own.chain.pieces) more ∙ (take-get own.chain.pieces last.m last.piece last.at ∙ sym (shared-pieces p j (piece_of own.chain last.m last.piece) known is_node last.there))
 
     -- a literal of which nothing is kept isn't behind a piece that has a node of its own
-    never-bare : (j p : ℕ) → c.first < i → suc j ≡ i → slice_get g.owned p ≡ Some j → r.kind ≡ kinds.BareLiteral → before ≡ []
-    never-bare j p later next owns bare =
+    never-bare : (j p : ℕ) → c.first < i → suc j ≡ i → IsNodeOfRole t g.paths p j → r.kind ≡ kinds.BareLiteral → before ≡ []
+    never-bare j p later next is_node bare =
         by-piece at.piece at.role.kind_is (literal-at looks before at.piece r.number r.number (ap (λ n. number_if_literal n r.number) (sym at.role.kind_is ∙ bare)))
       where
         not-looked : looks ≡ true → length before ≡ 1 → ⊥
@@ -141,7 +152,7 @@ module _ (t : Tables) (entries : List Asked) (chains : List (List (List Piece)))
             let size : length before ≡ at.m = length-take-le at.m own.chain.pieces m-within in
             let first = first-role t entries chains is number c own back in
             let first_kind : first.r.kind ≡ kinds.LookBack = first.role.kind_is ∙ ap (λ b. place_kind (place_of b [] (nfa (pair t entries chains is number c own back).tree))) back in
-            alone-at p j first.r owns (ap (slice_get t.roles) (omega (arith, size, one, at.number_is, next)) ∙ first.role_there) first_kind
+            alone-at p j first.r is_node (ap (slice_get t.roles) (omega (arith, size, one, at.number_is, next)) ∙ first.role_there) first_kind
 
         by-piece : (piece : Piece) → r.kind ≡ place_kind (place_of looks before piece) → LiteralAt piece → before ≡ []
         by-piece piece is_kind (a_literal xs same) = elim (bare-places looks before xs (sym (is_kind ∙ ap (λ p. place_kind (place_of looks before p)) same) ∙ bare)) [
@@ -149,10 +160,10 @@ module _ (t : Tables) (entries : List Asked) (chains : List (List (List Piece)))
           | inr looked ↦ absurd (not-looked looked.0 looked.1)
         ]
 
-    runs-later : (parent : Option ℕ) (kind : NodeKind) (j p : ℕ) → c.first < i → suc j ≡ i → parent ≡ Some p → slice_get g.owned p ≡ Some j → IsKindOf t r kind → Runs parent kind
-    runs-later parent kind j p later next some owns is_kind = (
-      serves t is.models is.engines graph g.engines r looks before alone (λ bare. never-bare j p later next owns bare) at.piece kind at.role.kind_is at.role.names at.runnable is_kind,
-      subst (λ q. StandsBehind kind q (parent_pieces node_pieces q) before) (sym some) (stands-behind t r kind (Some p) (node_pieces p) before is_kind (pieces-before j p later next owns)),
+    runs-later : (parent : Option ℕ) (kind : NodeKind) (j p : ℕ) → c.first < i → suc j ≡ i → parent ≡ Some p → p < length g.owned → IsNodeOfRole t g.paths p j → IsKindOf t r kind → Runs parent kind
+    runs-later parent kind j p later next some known is_node is_kind = (
+      serves t is.models is.engines graph g.engines r looks before alone (λ bare. never-bare j p later next is_node bare) at.piece kind at.role.kind_is at.role.names at.runnable is_kind,
+      subst (λ q. StandsBehind kind q (parent_pieces node_pieces q) before) (sym some) (stands-behind t r kind (Some p) (node_pieces p) before is_kind (pieces-before j p later next known is_node)),
     )
 
     runs-pair : (parent : Option ℕ) (kind : NodeKind) (j : ℕ) (q : Role) → c.first < i → suc j ≡ i → slice_get t.roles j ≡ Some q → parent ≡ None → IsPairOf t q r kind → Runs parent kind
@@ -175,10 +186,10 @@ module _ (t : Tables) (entries : List Asked) (chains : List (List (List Piece)))
           pair-behind t q r kind parent (parent_pieces node_pieces parent) before is_pair none,
         )
 
-    pub runs-by : (parent : Option ℕ) (kind : NodeKind) → IsLinked t g.owned c.first k i r parent kind → Runs parent kind
-    runs-by parent kind (begins first none is_kind) = runs-first parent kind first none is_kind
-    runs-by parent kind (behind j q later next q_there none is_pair) = runs-pair parent kind j q later next q_there none is_pair
-    runs-by parent kind (goes_on j p later next some last owns is_kind) = runs-later parent kind j p later next some owns is_kind
+    pub runs-by : (parent : Option ℕ) (kind : NodeKind) → k < length g.owned → IsLinked t g.paths c.first k i r parent kind → Runs parent kind
+    runs-by parent kind known (begins first none is_kind) = runs-first parent kind first none is_kind
+    runs-by parent kind known (behind j q later next q_there none is_pair) = runs-pair parent kind j q later next q_there none is_pair
+    runs-by parent kind known (goes_on j p later next some below is_node is_kind) = runs-later parent kind j p later next some (omega (arith, below, known)) is_node is_kind
 
   -- A node runs its piece behind those before it, and keeps the fields of their form.
   pub record RunsPlace (k : ℕ) (node : Node) (place : HasPlace k node) : Type 0 where
@@ -189,7 +200,7 @@ module _ (t : Tables) (entries : List Asked) (chains : List (List (List Piece)))
   pub runs-place : (k : ℕ) (node : Node) (place : HasPlace k node) → RunsPlace k node place
   runs-place k node place =
       let own = place.own in
-      let (one, two) = runs-by own.number own.chain place.chain k place.i own.role own.low own.high own.role_there own.alone place.at node.parent node.kind own.linked in
+      let (one, two) = runs-by own.is.number own.is.chain place.chain k place.i own.is.role own.is.low own.is.high own.is.role_there own.is.alone place.at node.parent node.kind (slice_get_within g.owned k place.i place.owns) own.linked in
       record { serves = one; stands = two }
 
   pub node-pieces : (k : ℕ) (node : Node) (place : HasPlace k node) → node_pieces k ≡ take place.at.m place.chain.chain.pieces ++ place.at.piece ∷ []

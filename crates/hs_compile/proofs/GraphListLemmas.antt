@@ -5,6 +5,12 @@ use Rattle.std.proofs.lemmas.List.{get_or_append_left, length-append}
 use Rattle.std.proofs.Math.Seq.{get_or-append_seam}
 use Rattle.hs_base.specs.Lists.{Each}
 
+-- a member of a list is the one that is there
+pub get-read : {A : Type 0} (xs : List A) (k : ℕ) → k < length xs → (x : A) × (slice_get xs k ≡ Some x)
+get-read [] k below = absurd (omega (arith, below))
+get-read (x ∷ xs) zero below = (x, refl)
+get-read (x ∷ xs) (suc k) below = get-read xs k (omega (arith, below))
+
 pub length-push : {A : Type 0} (xs : List A) (x : A) → length (xs ++ x ∷ []) ≡ suc (length xs)
 length-push xs x = omega (arith, length-append xs (x ∷ []))
 

@@ -26,7 +26,7 @@ use Rattle.hs_rose.specs.Programs.{Tables, IsInfoOf, IsProgramOf, IsRoleOf}
 use Rattle.hs_rose.proofs.ListLemmas.{each-get, zip-left, zip-length, zip-right}
 use Rattle.hs_rose.proofs.ListedLemmas.{HasRunnable, IsListed, all-listed, all-runnable, before-next, before-within, chain-info, chains-count, piece-at, piece_of, pieces_before}
 use Rattle.hs_compile.specs.GraphTables.{IsReady, LooksBack}
-use Rattle.hs_compile.proofs.NodeLemmas.{get-read}
+use Rattle.hs_compile.proofs.GraphListLemmas.{get-read}
 
 -- a chain that begins with a piece that looks back: that piece, and the literal behind it
 pub record BeginsBack (chain : List Piece) : Type 0 where
@@ -270,6 +270,7 @@ module _ (t : Tables) (entries : List Asked) (chains : List (List (List Piece)))
 
   pub ready : IsReady t
   ready = record {
+    looks_first = λ j i c r at low high there back. (looks-first j c (has-chain j c at) i r low high there back).0;
     order = λ j c at. let own = has-chain j c at in omega (arith, own.first, own.end);
     within = λ j c at. chain-within j c (has-chain j c at);
     numbered = λ j c at. (has-chain j c at).low;

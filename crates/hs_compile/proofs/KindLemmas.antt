@@ -28,7 +28,7 @@ use Rattle.hs_rose.specs.PieceEngines.{IsEngineOf, engine_form, piece_meaning}
 use Rattle.hs_rose.specs.Programs.{Names, Tables}
 use Rattle.hs_rose.specs.Runnable.{IsRunnable}
 use Rattle.hs_rose.proofs.ListLemmas.{zip-right}
-use Rattle.hs_compile.specs.GraphNodes.{HasLength, IsKeptMask, IsKindOf, IsPairOf, bare, engine, entered}
+use Rattle.hs_compile.specs.GraphKinds.{HasLength, IsKeptMask, IsKindOf, IsPairOf, bare, engine, entered}
 use Rattle.hs_compile.specs.GraphTables.{LooksBack}
 use Rattle.hs_compile.proofs.JoinLemmas.{LiteralAt, a_literal, literal-at, place_of}
 

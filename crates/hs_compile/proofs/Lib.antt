@@ -18,7 +18,8 @@ pub mod WakeLemmas
 pub mod ChildLemmas
 pub mod ByNodeLemmas
 pub mod EndLemmas
-pub mod BuildLemmas
+pub mod StepLemmas
+pub mod KeyLemmas
 pub mod JoinLemmas
 pub mod RowLemmas
 pub mod KindLemmas

@@ -19,7 +19,7 @@ use Rattle.hs_rose.specs.declared.role.Role.{Role}
 use Rattle.hs_rose.specs.Kinds.{number_if_run}
 use Rattle.hs_rose.specs.Programs.{Tables}
 use Rattle.hs_rose.proofs.ListLemmas.{get-map, read-get}
-use Rattle.hs_compile.specs.GraphNodes.{HasLength, IsKeptMask, IsKindAt, IsKindOf, IsPairOf, bare, by_itself, engine, entered, paired}
+use Rattle.hs_compile.specs.GraphKinds.{HasLength, IsKeptMask, IsKindAt, IsKindOf, IsPairOf, bare, by_itself, engine, entered, paired}
 use Rattle.hs_compile.specs.GraphTables.{IsLaidFor, IsOneOf, IsReady, LooksBack}
 use Rattle.hs_compile.proofs.PlaceLemmas.{starts-count}
 

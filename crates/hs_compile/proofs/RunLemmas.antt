@@ -6,15 +6,17 @@ use Rattle.std.proofs.Math.Seq.{take-length}
 use Rattle.std.proofs.lemmas.Bool.{false≢true}
 use Rattle.std.proofs.lemmas.Option.{same_Some, slice_get_past, slice_get_within}
 use Rattle.hs_base.specs.Chains.{Piece, lit, nfa, rep, chains_of}
-use Rattle.hs_base.specs.KeptPieces.{form_of}
+use Rattle.hs_base.specs.KeptPieces.{Form, form_of}
 use Rattle.hs_base.specs.Lists.{Each, OneOf}
 use Rattle.hs_base.specs.Patterns.{Pattern, is_single}
 use Rattle.hs_base.specs.Regions.{Place, Plan, list_places, place_form, plan_starts}
 use Rattle.hs_layout.specs.Layouts.{Laid}
-use Rattle.hs_nodes.specs.Graphs.{HasField, HasNode, IsNodeFor, IsOwnField, RunsPlan, keeps, keeps_field}
+use Rattle.hs_nodes.specs.Graphs.{HasField, HasNode, IsNodeFor, IsOwnField, KeepsFields, RunsPlan, keeps, keeps_field}
 use Rattle.hs_nodes.specs.Graphs as nodes
 use Rattle.hs_nodes.specs.declared.graph.Graph.{Graph}
 use Rattle.hs_nodes.specs.declared.table.Node.{Node}
+use Rattle.hs_nodes.specs.declared.table.NodeKind.{NodeKind}
+use Rattle.hs_nodes.specs.declared.table.NodeKind.TheVariants.{Engine, Literal, FirstLiteral, LookBack}
 use Rattle.hs_reports.specs.Identifiers.{numbers_of}
 use Rattle.hs_reports.specs.Terminals.{AreTerminals, IsTerminalOf}
 use Rattle.hs_reports.specs.declared.identifier.Identifier as reports
@@ -31,15 +33,16 @@ use Rattle.hs_rose.specs.Programs.{Tables, IsProgramOf, IsRoleOf}
 use Rattle.hs_rose.proofs.ListLemmas.{get-map, map-get, take-get, zip-right}
 use Rattle.hs_rose.proofs.ListedLemmas.{chains-count, piece_of}
 use Rattle.hs_compile.specs.GraphBuilding.{same_identifier}
-use Rattle.hs_compile.specs.GraphEnds.{HasChain, HasEnd, IsEndOf, IsLastNode, by_none, by_role, with_roles, without}
+use Rattle.hs_compile.specs.GraphEnds.{HasChain, HasEnd, IsEndOf, IsLastNode, by_none, by_role}
+use Rattle.hs_compile.specs.GraphNodes.{HasNodeOf, IsAmongCopies, IsNodeOfRole, owns, shares}
 use Rattle.hs_rose.specs.Plans.{AsksFor, IsFitPattern, plan_of}
 use Rattle.hs_compile.specs.GraphTables.{IsLaidFor, LooksBack}
-use Rattle.hs_compile.proofs.GraphLemmas.{GraphIs, HasPlace, has-place, is-node-of, node-pieces, node_pieces, own-pieces, runs-place}
+use Rattle.hs_compile.proofs.GraphLemmas.{GraphIs, HasPlace, has-place, is-node-of, node-pieces, node_pieces, runs-place, shared-pieces}
 use Rattle.hs_compile.proofs.IdentifierLemmas.{same-numbers, same-singles}
 use Rattle.hs_compile.proofs.JoinLemmas as join
 use Rattle.hs_compile.proofs.JoinLemmas.{all_pieces, has-chain, has-info, listed, looks-at, piece-of-role}
-use Rattle.hs_compile.proofs.GraphListLemmas.{each-of_get}
-use Rattle.hs_compile.proofs.NodeLemmas.{get-read}
+use Rattle.hs_compile.proofs.GraphListLemmas.{each-of_get, get-read}
+use Rattle.hs_compile.proofs.KeyLemmas.{same-place}
 use Rattle.hs_rose.proofs.PlanLemmas.{is-plan, single-of}
 use Rattle.hs_compile.proofs.RowLemmas.{HasRow, Row, all-spans, has-row, plan-laid, plan-places, row-listed, rows_of}
 
@@ -107,16 +110,18 @@ module _ (t : Tables) (entries : List Asked) (P : List Pattern) (is : IsProgramO
 
   -- terminals
 
-  module _ (x : Terminal) (j : ℕ) (c : ChainInfo) (there : slice_get t.chains j ≡ Some c) (end : IsEndOf t g.owned (length graph.table.nodes.items) c x) where
+  module _ (x : Terminal) (j : ℕ) (c : ChainInfo) (there : slice_get t.chains j ≡ Some c) (end : IsEndOf t g.paths (length graph.table.nodes.items) c x) where
     abbrev own : join.HasChain t entries chains is j c
     own = has-chain t entries chains is j c there
 
-    last-pieces : IsLastNode g.owned (length graph.table.nodes.items) c x.node → pieces x.node ≡ own.chain.pieces
-    last-pieces (by_role i some last owns) =
-        let (r, r_there) = get-read t.roles i (g.nodes.below x.node i owns) in
+    last-pieces : IsLastNode t g.paths (length graph.table.nodes.items) c x.node → pieces x.node ≡ own.chain.pieces
+    last-pieces (by_role i some last is_node) =
+        let r = is_node.role in
+        let r_there = is_node.role_there in
+        let known : x.node < length g.owned = omega (arith, slice_get_within g.paths x.node is_node.path is_node.path_there, g.path_count, g.nodes.count) in
         let at = piece-of-role t entries chains is j c own i r (omega (arith, some, last)) (omega (arith, last)) r_there in
         let whole : suc at.m ≡ length own.chain.pieces = omega (arith, at.number_is, last, own.first, own.end) in
-        own-pieces t entries chains is l graph g x.node i (piece_of own.chain at.m at.piece) owns at.there
+        shared-pieces t entries chains is l graph g x.node i (piece_of own.chain at.m at.piece) known is_node at.there
         ∙ (sym (take-get own.chain.pieces at.m at.piece at.at) ∙ (ap (λ n. take n own.chain.pieces) whole ∙ take-length own.chain.pieces))
     last-pieces (by_none none same) = ap pieces same ∙ (no-pieces ∙ sym (empty-list own.chain.pieces (omega (arith, none, own.first, own.end))))
       where
@@ -156,14 +161,9 @@ module _ (t : Tables) (entries : List Asked) (P : List Pattern) (is : IsProgramO
           let (c, c_there) = get-read t.chains j (omega (arith, count, slice_get_within (listed t entries chains is) j x x_there)) in
           let own = has-chain t entries chains is j c c_there in
           let one : x ≡ own.chain = same_Some x own.chain (sym x_there ∙ own.chain_there) in
-          let within : j < length t.chains = slice_get_within t.chains j c c_there in
-          let has = g.ends.all j c c_there (among (own.chain.pieces) j c within (omega (arith, own.first, own.end))) in
+          let has = g.ends.all j c c_there in
           one-of_get (λ y. IsTerminalOf pieces plan.identifiers row.pattern y row.chain) graph.terminals.items has.number has.terminal has.there
           (terminal-of has.terminal j c c_there has.is row (subst (λ (z : ListedChain). Rattle.hs_compile.proofs.RowLemmas.IsRowOf z row) one is_row))
-        where
-          among : (ps : List Piece) (i : ℕ) (c : ChainInfo) → i < length t.chains → c.end ≡ c.first + length ps → Rattle.hs_compile.specs.GraphEnds.IsAmong (length t.chains) (length t.chains) i c
-          among [] i c below end = without below (omega (arith, end))
-          among (p ∷ ps) i c below end = with_roles below (omega (arith, end))
 
   -- fields
 
@@ -196,19 +196,15 @@ module _ (t : Tables) (entries : List Asked) (P : List Pattern) (is : IsProgramO
 
     node-of : Rattle.hs_nodes.specs.Walks.IsNodeOf piece_meaning graph.table t.literals pieces k node
     node-of =
-        let row = has-row t entries P is asks fit place.own.number place.chain.chain place.chain.chain_there in
+        let row = has-row t entries P is asks fit place.own.is.number place.chain.chain place.chain.chain_there in
         is-node-of t entries chains is l graph g k node place row.fits
 
-  has-node : (i : ℕ) (p : Place) → slice_get (list_places plan) i ≡ Some p → keeps (place_form p) ≡ true → HasNode piece_meaning graph plan pieces i p
-  has-node i p at some =
-      let at' : slice_get (map (λ (x : ListedPiece). x.place) (all_pieces t entries chains is)) i ≡ Some p = ap (λ ps. slice_get ps i) (sym (plan-places t entries P is asks)) ∙ at in
-      let (x, x_there, x_is) = map-get (λ (y : ListedPiece). y.place) (all_pieces t entries chains is) i p at' in
-      let (r, r_there, role) = zip-right (IsRoleOf t.literals is.models) t.roles (all_pieces t entries chains is) is.roles i x x_there in
-      let alone : LooksBack r → ⊥ = λ back. looks-unkept p (ap place_kind (sym x_is) ∙ (sym role.kind_is ∙ back)) some in
-      let (k, owns) = g.nodes.all i r (slice_get_within t.roles i r r_there) r_there alone in
-      let (node, there) = get-read graph.table.nodes.items k (omega (arith, g.nodes.count, slice_get_within g.owned k i owns)) in
+  -- a role that has a node of its own
+  has-own : (k i : ℕ) (p : Place) → slice_get (list_places plan) i ≡ Some p → slice_get g.owned k ≡ Some i → HasNode piece_meaning graph plan pieces i p
+  has-own k i p at own_is =
+      let (node, there) = get-read graph.table.nodes.items k (omega (arith, g.nodes.count, slice_get_within g.owned k i own_is)) in
       let own = place k node there in
-      let same : own.i ≡ i = same_Some own.i i (sym own.owns ∙ owns) in
+      let same : own.i ≡ i = same_Some own.i i (sym own.owns ∙ own_is) in
       let p_is : (listed_piece_is k node there).place ≡ p = same_Some (listed_piece_is k node there).place p (sym (node-for k node there).place ∙ (ap (slice_get (list_places plan)) same ∙ at)) in
       record {
         k = k;
@@ -216,6 +212,46 @@ module _ (t : Tables) (entries : List Asked) (P : List Pattern) (is : IsProgramO
         runs = subst (λ q. IsNodeFor piece_meaning graph plan pieces k node i q) p_is (subst (λ n. IsNodeFor piece_meaning graph plan pieces k node n (listed_piece_is k node there).place) same (node-for k node there));
         kept = inl (subst (λ n. IsOwnField piece_meaning graph plan node n) same (own-field k node there));
       }
+
+  -- something is kept of what a node that keeps nothing runs nowhere
+  keeps-by : (kind : NodeKind) (form : Form) (piece : Piece) → KeepsFields piece_meaning graph kind form piece → keeps form ≡ true → keeps_field kind ≡ true
+  keeps-by (Engine n null) form piece fields some = refl
+  keeps-by (Literal n len) form piece fields some = refl
+  keeps-by (FirstLiteral n len) form piece fields some = absurd (false≢true (sym (ap keeps fields) ∙ some))
+  keeps-by (LookBack pair) form piece fields some = absurd (false≢true (sym (ap keeps fields) ∙ some))
+
+  -- a role that has the node of an earlier one
+  has-shared : (k i : ℕ) (p : Place) (node : Node) → slice_get (list_places plan) i ≡ Some p → keeps (place_form p) ≡ true → slice_get graph.table.nodes.items k ≡ Some node → IsNodeOfRole t g.paths k i →
+      (keeps_field node.kind ≡ true → IsAmongCopies graph.copies.items k i) → HasNode piece_meaning graph plan pieces i p
+  has-shared k i p node at some there is_node among =
+      let own = place k node there in
+      let first = listed_piece_is k node there in
+      let at' : slice_get (map (λ (y : ListedPiece). y.place) (all_pieces t entries chains is)) i ≡ Some p = ap (λ ps. slice_get ps i) (sym (plan-places t entries P is asks)) ∙ at in
+      let (x, x_there, x_is) = map-get (λ (y : ListedPiece). y.place) (all_pieces t entries chains is) i p at' in
+      let same : first.place ≡ p = same-place t entries chains is g.paths k own.i i first x own.own.is is_node own.at.there x_there ∙ x_is in
+      let fields : KeepsFields piece_meaning graph node.kind (place_form p) p.piece = subst (λ (q : Place). KeepsFields piece_meaning graph node.kind (place_form q) q.piece) same (node-for k node there).fields in
+      let has = among (keeps-by node.kind (place_form p) p.piece fields some) in record {
+        k = k;
+        node = node;
+        runs = record {
+          there = there;
+          place = at;
+          behind = (node-for k node there).behind ∙ ap (λ (q : Place). q.pieces ++ q.piece ∷ []) same;
+          fields = fields;
+        };
+        kept = inr (record { number = has.number; copy = has.copy; there = has.there; node = has.node; field = has.field });
+      }
+
+  has-node : (i : ℕ) (p : Place) → slice_get (list_places plan) i ≡ Some p → keeps (place_form p) ≡ true → HasNode piece_meaning graph plan pieces i p
+  has-node i p at some =
+      let at' : slice_get (map (λ (x : ListedPiece). x.place) (all_pieces t entries chains is)) i ≡ Some p = ap (λ ps. slice_get ps i) (sym (plan-places t entries P is asks)) ∙ at in
+      let (x, x_there, x_is) = map-get (λ (y : ListedPiece). y.place) (all_pieces t entries chains is) i p at' in
+      let (r, r_there, role) = zip-right (IsRoleOf t.literals is.models) t.roles (all_pieces t entries chains is) is.roles i x x_there in
+      by-node (g.nodes.all i r r_there (λ back. looks-unkept p (ap place_kind (sym x_is) ∙ (sym role.kind_is ∙ back)) some))
+    where
+      by-node : HasNodeOf t g.paths g.owned graph.table.nodes.items graph.copies.items i → HasNode piece_meaning graph plan pieces i p
+      by-node (owns k own) = has-own k i p at own
+      by-node (shares k node there is_node among) = has-shared k i p node at some there is_node among
 
   single-is : (i : ℕ) (x : reports.Identifier) → slice_get graph.identifiers.items i ≡ Some x → is_single P x.id.0 ≡ x.single
   single-is i x at =

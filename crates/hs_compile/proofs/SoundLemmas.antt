@@ -1,17 +1,20 @@
 -- A graph of a program can be run.
-use Rattle.std.proofs.Common.{◌≡◌, ℕ, suc, ◌+◌, ◌-◌, ◌<◌, ◌≤◌, ◌^◌, List, [], length, Some, slice_get, sym, ap, subst, ◌∙◌, arith}
+use Rattle.std.proofs.Common.{◌≡◌, ◌⊎◌, ℕ, suc, ◌+◌, ◌-◌, ◌<◌, ◌≤◌, ◌^◌, List, length, Option, Some, None, slice_get, sym, ap, subst, ◌∙◌, inl, inr, arith}
 use Rattle.std.specs.Prelude.{slice_index}
+use Rattle.std.proofs.lemmas.Bool.{cases_lt}
 use Rattle.std.proofs.lemmas.List.{length-map}
 use Rattle.std.proofs.lemmas.Option.{same_Some, slice_get_within}
 use Rattle.hs_base.specs.Chains.{Piece}
+use Rattle.hs_base.specs.Regions.{place_size}
 use Rattle.hs_layout.specs.Layouts.{AreApart, Laid, laid_size}
-use Rattle.hs_nodes.specs.Graphs.{AreTerminalsSound, FitsLayout, IsGraphSound}
+use Rattle.hs_nodes.specs.Graphs.{AreTerminalsSound, FitsLayout, IsCopySound, IsGraphSound}
 use Rattle.hs_nodes.specs.Graphs as nodes
 use Rattle.hs_nodes.specs.Waking.{AreWakesSound}
 use Rattle.hs_nodes.specs.Walks.{IsTableSound}
 use Rattle.hs_nodes.specs.declared.graph.FieldCopy.{FieldCopy}
 use Rattle.hs_nodes.specs.declared.graph.Graph.{Graph}
 use Rattle.hs_nodes.specs.declared.table.Node.{Node}
+use Rattle.hs_nodes.specs.declared.table.NodeKind.{NodeKind}
 use Rattle.hs_reports.specs.declared.terminal.Terminal.{Terminal}
 use Rattle.hs_rose.specs.declared.engine.PieceEngine.{PieceEngine}
 use Rattle.hs_rose.specs.declared.info.ChainInfo.{ChainInfo}
@@ -20,16 +23,27 @@ use Rattle.hs_rose.specs.Identifiers.{ids_of, singles_of}
 use Rattle.hs_rose.specs.Listing.{Asked}
 use Rattle.hs_rose.specs.PieceEngines.{piece_meaning}
 use Rattle.hs_rose.specs.Programs.{Tables, IsProgramOf}
+use Rattle.hs_rose.specs.declared.role.Role.{Role}
+use Rattle.hs_rose.proofs.ListedLemmas.{piece_of}
 use Rattle.hs_compile.specs.GraphBuilding.{same_identifier}
 use Rattle.hs_compile.specs.GraphEnds as ends
+use Rattle.hs_compile.specs.GraphNodes as links
+use Rattle.hs_compile.specs.GraphNodes.{IsCopyOf, IsLinked, IsNodeOfRole}
 use Rattle.hs_compile.specs.GraphTables.{IsLaidFor}
 use Rattle.hs_compile.proofs.ByNodeLemmas.{of-node}
 use Rattle.hs_compile.proofs.GraphLemmas.{GraphIs, HasPlace, has-place, runs-place}
 use Rattle.hs_compile.proofs.IdentifierLemmas.{same-singles}
-use Rattle.hs_compile.proofs.JoinLemmas.{has-chain, has-info, ready}
-use Rattle.hs_compile.proofs.GraphListLemmas.{each-index, each-of_get}
+use Rattle.hs_compile.proofs.JoinLemmas.{has-chain, has-info, piece-of-role, ready}
+use Rattle.hs_compile.proofs.KeyLemmas.{same-place}
+use Rattle.hs_compile.proofs.GraphListLemmas.{each-index, each-of_get, get-read}
 use Rattle.hs_compile.proofs.WakeLemmas.{each-below}
 use Rattle.hs_compile.proofs.PlaceLemmas.{layout-apart, role-field, starts-count}
+
+-- a parent comes first
+linked-earlier : (t : Tables) (paths : List (List ℕ)) (first k i : ℕ) (r : Role) (parent : Option ℕ) (kind : NodeKind) (p : ℕ) → IsLinked t paths first k i r parent kind → parent ≡ Some p → p < k
+linked-earlier t paths first k i r parent kind p (links.begins at none own) some = absurd (let e : None ≡ Some p = sym none ∙ some in cc)
+linked-earlier t paths first k i r parent kind p (links.behind j before later next there none own) some = absurd (let e : None ≡ Some p = sym none ∙ some in cc)
+linked-earlier t paths first k i r parent kind p (links.goes_on j q later next is low is_node own) some = omega (arith, same_Some q p (sym is ∙ some), low)
 
 module _ (t : Tables) (entries : List Asked) (chains : List (List (List Piece))) (is : IsProgramOf t entries chains) (l : Laid) (laid : IsLaidFor t l) (graph : Graph PieceEngine) (g : GraphIs t l graph) where
   abbrev nodes_are : List Node
@@ -46,10 +60,10 @@ module _ (t : Tables) (entries : List Asked) (chains : List (List (List Piece)))
     place = has-place t entries chains is l graph g k node there
 
     i-within : place.i < length t.roles
-    i-within = slice_get_within t.roles place.i place.own.role place.own.role_there
+    i-within = slice_get_within t.roles place.i place.own.is.role place.own.is.role_there
 
-    sized : node.end ≡ node.start + place.own.role.field_size
-    sized = place.own.end ∙ (role-field t l laid place.i place.own.role place.own.role_there ∙ ap (λ n. n + place.own.role.field_size) (sym place.own.start))
+    sized : node.end ≡ node.start + place.own.is.role.field_size
+    sized = place.own.end ∙ (role-field t l laid place.i place.own.is.role place.own.is.role_there ∙ ap (λ n. n + place.own.is.role.field_size) (sym place.own.start))
 
     in-order : node.start ≤ node.end
     in-order = omega (arith, sized)
@@ -73,14 +87,16 @@ module _ (t : Tables) (entries : List Asked) (chains : List (List (List Piece)))
 
   table-sound : IsTableSound piece_meaning graph.table (length t.literals) (laid_size l)
   table-sound = record {
-    earlier = λ k p node at parent. omega (arith, g.children.behind k p node at parent);
+    earlier = λ k p node at parent.
+        let own = place k node at in
+        linked-earlier t g.paths own.own.is.chain.first k own.i own.own.is.role node.parent node.kind p own.own.linked parent;
     kinds = λ k node at.
         let own = place k node at in
         (runs-place t entries chains is l graph g k node own).serves.sound (node.end - node.start) (omega (arith, sized k node at) ∙ own.at.role.size_is);
     order = in-order;
     within = in-region;
     apart = in-turn;
-    starts_count = g.child_count;
+    starts_count = g.children.count;
     starts_end = λ k below. each-index (length graph.table.children.items) graph.table.child_starts.items g.children.within (suc k);
     children = each-below (length nodes_are) graph.table.children.items g.children.known;
     among = g.children.among;
@@ -92,8 +108,50 @@ module _ (t : Tables) (entries : List Asked) (chains : List (List (List Piece)))
   singles-count : length (nodes.singles_of graph.identifiers.items) ≡ length (singles_of t.identifiers)
   singles-count = ap (λ xs. length (nodes.singles_of xs)) g.identifiers ∙ (ap length (same-singles t.identifiers) ∙ length-map (singles_of t.identifiers) same_identifier)
 
-  no-copy : (i : ℕ) (copy : FieldCopy) → slice_get graph.copies.items i ≡ Some copy → ⊥
-  no-copy i copy at = let e : slice_get [] i ≡ Some copy = ap (λ xs. slice_get xs i) (sym g.copies) ∙ at in cc
+  -- the field of a role that isn't the first one of its node is as long as that of the node, and apart from all fields
+  -- of nodes
+  module _ (c : ℕ) (copy : FieldCopy) (copy_there : slice_get graph.copies.items c ≡ Some copy) where
+    of-copy : IsCopyOf t g.paths g.owned copy
+    of-copy = g.nodes.copies_are c copy copy_there
+
+    abbrev shared : IsNodeOfRole t g.paths copy.node copy.field
+    shared = (g.nodes.copies_are c copy copy_there).is
+
+    field-within : copy.field < length t.roles
+    field-within = slice_get_within t.roles copy.field shared.role shared.role_there
+
+    copied-field : slice_index l.starts (copy.field + 1) ≡ slice_index l.starts copy.field + shared.role.field_size
+    copied-field = role-field t l laid copy.field shared.role shared.role_there
+
+    copied-apart : (k : ℕ) (other : Node) → slice_get nodes_are k ≡ Some other → (other.end ≤ slice_index l.starts copy.field) ⊎ (slice_index l.starts (copy.field + 1) ≤ other.start)
+    copied-apart k other there =
+        let own = place k other there in
+        elim (cases_lt own.i copy.field) [
+          | inl less ↦
+              inl (subst (λ n. n ≤ slice_index l.starts copy.field) (sym own.own.end) (apart.rising (own.i + 1) copy.field (omega (arith, less)) (omega (arith, field-within, starts-count t l laid))))
+          | inr past ↦ elim (cases_lt copy.field own.i) [
+            | inl more ↦
+                inr (subst (λ n. slice_index l.starts (copy.field + 1) ≤ n) (sym own.own.start) (apart.rising (copy.field + 1) own.i (omega (arith, more)) (omega (arith, i-within k other there, starts-count t l laid))))
+            | inr low ↦ absurd (of-copy.apart k (own.owns ∙ ap Some (omega (arith, past, low))))
+          ]
+        ]
+
+    copy-sound : IsCopySound graph l copy
+    copy-sound =
+        let (node, there) = get-read nodes_are copy.node (omega (arith, of-copy.known, g.nodes.count)) in
+        let own = place copy.node node there in
+        let chain = has-chain t entries chains is shared.number shared.chain shared.chain_there in
+        let at = piece-of-role t entries chains is shared.number shared.chain chain copy.field shared.role shared.low shared.high shared.role_there in
+        let first = piece_of own.chain.chain own.at.m own.at.piece in
+        let second = piece_of chain.chain at.m at.piece in
+        let places : first.place ≡ second.place = same-place t entries chains is g.paths copy.node own.i copy.field first second own.own.is shared own.at.there at.there in
+        let sizes : own.own.is.role.field_size ≡ shared.role.field_size = own.at.role.size_is ∙ (ap place_size places ∙ sym at.role.size_is) in record {
+          node = node;
+          there = there;
+          within = omega (arith, field-within, starts-count t l laid);
+          same = omega (arith, sized copy.node node there, copied-field, sizes);
+          apart = copied-apart;
+        }
 
   fits-layout : FitsLayout graph l
   fits-layout = record {
@@ -104,8 +162,8 @@ module _ (t : Tables) (entries : List Asked) (chains : List (List (List Piece)))
     identifiers = ids-count ∙ sym (ap (λ (x : Laid). x.identifiers) laid.laid);
     singles = singles-count ∙ sym (ap (λ (x : Laid). x.singles) laid.laid);
     few_identifiers = omega (arith, ap (λ (x : Laid). x.identifiers) laid.laid, is.identifiers.few, is.few_entries);
-    copies = λ i copy at. absurd (no-copy i copy at);
-    rising = λ i j a b order at at'. absurd (no-copy i a at);
+    copies = copy-sound;
+    rising = g.nodes.copies_rising;
   }
 
   known-terminal : (i : ℕ) (x : Terminal) → slice_get graph.terminals.items i ≡ Some x → (x.identifier < length graph.identifiers.items) × (x.node < length nodes_are + 1)
@@ -119,8 +177,8 @@ module _ (t : Tables) (entries : List Asked) (chains : List (List (List Piece)))
       let same : x.identifier ≡ entry.info.identifier = asks.identifier ∙ ap (λ (e : EntryInfo). e.identifier) (sym one) in
       (omega (arith, same, below, length-map t.identifiers (λ y. y.id.0), ids-count), last-node has.chain has.is.node)
     where
-      last-node : (c : ChainInfo) → ends.IsLastNode g.owned (length nodes_are) c x.node → x.node < length nodes_are + 1
-      last-node c (ends.by_role j some last owns) = omega (arith, slice_get_within g.owned x.node j owns, g.nodes.count)
+      last-node : (c : ChainInfo) → ends.IsLastNode t g.paths (length nodes_are) c x.node → x.node < length nodes_are + 1
+      last-node c (ends.by_role j some last is_node) = omega (arith, slice_get_within g.paths x.node is_node.path is_node.path_there, g.path_count)
       last-node c (ends.by_none none same) = omega (arith, same)
 
   terminals-sound : AreTerminalsSound graph

@@ -8,6 +8,7 @@ use Rattle.hs_base.specs.Lists.{Each}
 use Rattle.hs_base.proofs.ListLemmas.{each-append}
 use Rattle.hs_nodes.specs.Waking.{AreWakesSound, IsListed, waking_literal}
 use Rattle.hs_nodes.specs.Walks.{IsAmongChildren}
+use Rattle.hs_nodes.specs.declared.graph.FieldCopy.{FieldCopy}
 use Rattle.hs_nodes.specs.declared.table.Node.{Node}
 use Rattle.hs_nodes.specs.declared.table.NodeKind.{NodeKind}
 use Rattle.hs_nodes.specs.declared.table.NodeKind.TheVariants.{Engine, Literal, FirstLiteral, LookBack}
@@ -18,11 +19,11 @@ use Rattle.hs_rose.specs.declared.role.Role.{Role}
 use Rattle.hs_rose.specs.Programs.{Tables, is_number}
 use Rattle.hs_rose.proofs.ListLemmas.{each-push, get-behind, get-left, get-push, take-get}
 use Rattle.hs_rose.proofs.RoleListLemmas.{role-added}
-use Rattle.hs_compile.specs.GraphNodes.{AreNodesTo, IsKindOf, IsLinked, IsPairOf, bare, begins, behind, engine, entered, goes_on}
+use Rattle.hs_compile.specs.GraphKinds.{IsKindOf, IsPairOf, bare, engine, entered}
+use Rattle.hs_compile.specs.GraphNodes.{AreNodes, IsLinked, begins, behind, goes_on}
 use Rattle.hs_compile.specs.GraphTables.{IsReady}
 use Rattle.hs_compile.specs.GraphWakes.{AreFirstEngines, AreJoined, AreNodesOfLiterals, AreWakeable, IsNumberAdded, is_first_engine, numbers}
-use Rattle.hs_compile.proofs.GraphListLemmas.{each-index, each-to, index-behind, index-left, length-push}
-use Rattle.hs_compile.proofs.NodeLemmas.{get-read}
+use Rattle.hs_compile.proofs.GraphListLemmas.{each-index, each-to, get-read, index-behind, index-left, length-push}
 
 -- a bound of each
 pub each-below : (bound : ℕ) (xs : List ℕ) → Each (λ x. x < bound) xs → (k : ℕ) → k < length xs → slice_index xs k < bound
@@ -228,30 +229,30 @@ pair-known t before r kind number is wakes =
     let e : Some is.pair.literal ≡ Some number = sym (ap waking_literal is.is) ∙ wakes in
     subst (λ n. n < length t.literals) (sym is.literal ∙ same_Some is.pair.literal number e) (slice_get_within t.literals r.number is.len.literal is.len.there)
 
-linked-known : (t : Tables) (owned : List ℕ) (first k i : ℕ) (r : Role) (parent : Option ℕ) (kind : NodeKind) (number : ℕ) → IsLinked t owned first k i r parent kind → waking_literal kind ≡ Some number → number < length t.literals
-linked-known t owned first k i r parent kind number (begins at none is) wakes = kind-known t r kind number is wakes
-linked-known t owned first k i r parent kind number (behind j before later next there none is) wakes = pair-known t before r kind number is wakes
-linked-known t owned first k i r parent kind number (goes_on j p later next some last owns is) wakes = kind-known t r kind number is wakes
+linked-known : (t : Tables) (paths : List (List ℕ)) (first k i : ℕ) (r : Role) (parent : Option ℕ) (kind : NodeKind) (number : ℕ) → IsLinked t paths first k i r parent kind → waking_literal kind ≡ Some number → number < length t.literals
+linked-known t paths first k i r parent kind number (begins at none is) wakes = kind-known t r kind number is wakes
+linked-known t paths first k i r parent kind number (behind j before later next there none is) wakes = pair-known t before r kind number is wakes
+linked-known t paths first k i r parent kind number (goes_on j p later next some last owns is) wakes = kind-known t r kind number is wakes
 
 kind-entered : (t : Tables) (r : Role) (kind : NodeKind) (number len : ℕ) → IsKindOf t r kind → kind ≡ Literal number len → r.kind ≡ kinds.Literal
 kind-entered t r kind number len (bare own is has same) literal = absurd (let e : FirstLiteral r.number own ≡ Literal number len = sym same ∙ literal in cc)
 kind-entered t r kind number len (entered own is has same) literal = is
 kind-entered t r kind number len (engine null is kept same) literal = absurd (let e : Engine r.number null ≡ Literal number len = sym same ∙ literal in cc)
 
-linked-behind : (t : Tables) (owned : List ℕ) (first k i : ℕ) (r : Role) (parent : Option ℕ) (kind : NodeKind) (number len : ℕ) → IsLinked t owned first k i r parent kind → kind ≡ Literal number len → parent ≡ None → (i ≡ first) × (r.kind ≡ kinds.Literal)
-linked-behind t owned first k i r parent kind number len (begins at none is) literal no_parent = (at, kind-entered t r kind number len is literal)
-linked-behind t owned first k i r parent kind number len (behind j before later next there none is) literal no_parent = absurd (let e : LookBack is.pair ≡ Literal number len = sym is.is ∙ literal in cc)
-linked-behind t owned first k i r parent kind number len (goes_on j p later next some last owns is) literal no_parent = absurd (let e : Some p ≡ None = sym some ∙ no_parent in cc)
+linked-behind : (t : Tables) (paths : List (List ℕ)) (first k i : ℕ) (r : Role) (parent : Option ℕ) (kind : NodeKind) (number len : ℕ) → IsLinked t paths first k i r parent kind → kind ≡ Literal number len → parent ≡ None → (i ≡ first) × (r.kind ≡ kinds.Literal)
+linked-behind t paths first k i r parent kind number len (begins at none is) literal no_parent = (at, kind-entered t r kind number len is literal)
+linked-behind t paths first k i r parent kind number len (behind j before later next there none is) literal no_parent = absurd (let e : LookBack is.pair ≡ Literal number len = sym is.is ∙ literal in cc)
+linked-behind t paths first k i r parent kind number len (goes_on j p later next some last owns is) literal no_parent = absurd (let e : Some p ≡ None = sym some ∙ no_parent in cc)
 
-pub wakeable : (t : Tables) (l : Laid) (roles : ℕ) (owned : List ℕ) (nodes : List Node) → IsReady t → AreNodesTo t l roles owned nodes → AreWakeable nodes (length t.literals)
-wakeable t l roles owned nodes ready are = record {
+pub wakeable : (t : Tables) (l : Laid) (paths : List (List ℕ)) (owned : List ℕ) (nodes : List Node) (copies : List FieldCopy) → IsReady t → AreNodes t l paths owned nodes copies → AreWakeable nodes (length t.literals)
+wakeable t l paths owned nodes copies ready are = record {
   known = λ k number node there wakes.
       let (i, owns) = get-read owned k (omega (arith, are.count, slice_get_within nodes k node there)) in
       let own = are.each k i node there owns in
-      linked-known t owned own.chain.first k i own.role node.parent node.kind number own.linked wakes;
+      linked-known t paths own.is.chain.first k i own.is.role node.parent node.kind number own.linked wakes;
   behind = λ k number len node there literal no_parent.
       let (i, owns) = get-read owned k (omega (arith, are.count, slice_get_within nodes k node there)) in
       let own = are.each k i node there owns in
-      let (at, kind) = linked-behind t owned own.chain.first k i own.role node.parent node.kind number len own.linked literal no_parent in
-      ready.first own.number own.chain own.role own.chain_there (omega (arith, at, own.high)) (subst (λ n. slice_get t.roles n ≡ Some own.role) at own.role_there) kind;
+      let (at, kind) = linked-behind t paths own.is.chain.first k i own.is.role node.parent node.kind number len own.linked literal no_parent in
+      ready.first own.is.number own.is.chain own.is.role own.is.chain_there (omega (arith, at, own.is.high)) (subst (λ n. slice_get t.roles n ≡ Some own.is.role) at own.is.role_there) kind;
 }

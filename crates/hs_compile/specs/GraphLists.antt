@@ -1,20 +1,15 @@
 -- Children and terminals as lists, with a table of where those of each node begin.
-use Rattle.std.specs.Prelude.{◌≡◌, ◌<◌, ◌≤◌, ℕ, suc, List, [], ◌∷◌, length, Option, Some, None, slice_get, slice_index}
+use Rattle.std.specs.Prelude.{◌≡◌, ◌<◌, ◌≤◌, ℕ, suc, List, length, Some, slice_get, slice_index}
 use Rattle.hs_base.specs.Lists.{Each}
 use Rattle.hs_nodes.specs.Walks.{IsAmongChildren}
 use Rattle.hs_nodes.specs.declared.table.Node.{Node}
 use Rattle.hs_reports.specs.declared.terminal.Terminal.{Terminal}
 
--- the child that a node of that parent is
-abbrev pub own_child : (parent : Option ℕ) (number : ℕ) → List ℕ
-own_child None number = []
-own_child (Some p) number = number ∷ []
-
--- The parent of a node is the one before it, and a node with a parent is among the children of that.
+-- A node with a parent is among the children of that, and all children are nodes that are there.
 pub record AreChildren (nodes : List Node) (starts children : List ℕ) : Type 0 where
+  pub count : length starts ≡ suc (length nodes)
   pub within : Each (λ start. start ≤ length children) starts
   pub known : Each (λ child. child < length nodes) children
-  pub behind : (k p : ℕ) (node : Node) → slice_get nodes k ≡ Some node → node.parent ≡ Some p → suc p ≡ k
   pub among : (k p : ℕ) (node : Node) → slice_get nodes k ≡ Some node → node.parent ≡ Some p →
       IsAmongChildren starts children p k
 

@@ -38,8 +38,9 @@ LooksBack r = r.kind ≡ kinds.LookBack
 abbrev pub IsOneOf : Tables → ChainInfo → Type 0
 IsOneOf t c = (j : ℕ) × (slice_get t.chains j ≡ Some c)
 
--- Each chain has roles and an entry that are there, the chains follow one another, and none ends with a piece that
--- looks back: behind such a one stands a literal. None begins with a literal that is entered. Each literal is short.
+-- Each chain has roles and an entry that are there, and the chains follow one another. Only its first piece looks back,
+-- and behind that stands a literal: none ends with such a piece. None begins with a literal that is entered. Each
+-- literal is short.
 pub record IsReady (t : Tables) : Type 0 where
   pub order : (j : ℕ) (c : ChainInfo) → slice_get t.chains j ≡ Some c → c.first ≤ c.end
   pub within : (j : ℕ) (c : ChainInfo) → slice_get t.chains j ≡ Some c → c.end ≤ length t.roles
@@ -51,6 +52,8 @@ pub record IsReady (t : Tables) : Type 0 where
   pub ends : (j : ℕ) (c : ChainInfo) → slice_get t.chains j ≡ Some c → suc j ≡ length t.chains →
       c.end ≡ length t.roles
   pub none : length t.chains ≡ 0 → length t.roles ≡ 0
+  pub looks_first : (j i : ℕ) (c : ChainInfo) (r : Role) → slice_get t.chains j ≡ Some c → c.first ≤ i → i < c.end →
+      slice_get t.roles i ≡ Some r → LooksBack r → i ≡ c.first
   pub pairs : (c : ChainInfo) (i : ℕ) (before r : Role) → IsOneOf t c → c.first ≤ i → suc i < c.end →
       slice_get t.roles i ≡ Some before → LooksBack before → slice_get t.roles (suc i) ≡ Some r →
       r.kind ≡ kinds.BareLiteral

@@ -6,6 +6,8 @@ pub mod Answers
 pub mod Remembered
 pub mod GraphTables
 pub mod GraphLists
+pub mod GraphKinds
+pub mod GraphSteps
 pub mod GraphNodes
 pub mod GraphEnds
 pub mod GraphWakes

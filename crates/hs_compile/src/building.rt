@@ -1,15 +1,20 @@
 //! The graph of a program.
 
 ghost use Rattle.std.specs.Prelude.{◌≡◌, ◌<◌, ◌^◌, IfOk, length, map};
-ghost use Rattle.hs_compile.specs.GraphBuilding.{IsGraphOf, IsWholeBuilt, same_identifier};
+ghost use Rattle.hs_compile.specs.GraphBuilding.{AreParts, IsGraphOf, same_identifier};
 ghost use Rattle.hs_compile.specs.GraphLaws.{RunsPlans};
+ghost use Rattle.hs_compile.specs.GraphSteps.{IsForestFor};
 ghost use Rattle.hs_compile.specs.GraphTables.{IsLaidFor, IsProgram, IsReady};
 ghost use Rattle.hs_nodes.specs.Graphs.{IsGraphSound};
 ghost use Rattle.hs_rose.specs.PieceEngines.{piece_meaning};
 
-use crate::graph_builder::GraphBuilder;
 use crate::graph_numbers::graph_number;
+use crate::graph_terminals::ChainEnds;
 use crate::graph_wakes::wake_table;
+use crate::node_lists::NodeLists;
+use crate::step::Step;
+use crate::steps::Steps;
+use hs_forest::Forest;
 use hs_layout::Layout;
 use hs_nodes::{Graph, NodeTable, WakeTable};
 use hs_reports::Identifier;
@@ -32,47 +37,92 @@ fn report_identifiers(
         .collect(alloc)
 }
 
-/// The nodes and terminals of a program, for regions of that layout.
-fn built(alloc: Global, program: &Program, layout: &Layout) -> Result<GraphBuilder, AllocError>
-    requires ready { IsReady program.now }
-    requires fits { IsLaidFor program.now layout.now }
-    ensures { IfOk result (λ b. IsWholeBuilt program.now layout.now b) }
-{
-    let mut builder = GraphBuilder::new(alloc);
-    builder.add_chains(program, layout)?;
-    builder.end_chains(program)?;
-    Ok(builder)
+/// The nodes of a program, their children, and the terminals of its chains.
+#[derive(Drop)]
+pub(crate) struct GraphParts {
+    /// The nodes and the copies of their fields.
+    pub nodes: NodeLists,
+    /// Where in the list of children those of each node begin; behind these, where the last one's end.
+    pub child_starts: Vec<u32>,
+    /// The children of all nodes.
+    pub children: Vec<u32>,
+    /// The terminals.
+    pub ends: ChainEnds,
 }
 
-/// The graph of what is built.
-fn graph_of(
+/// The parts of the graph of a program of which those are the steps, and that the forest of their keys.
+fn parts_of(
     alloc: Global,
-    builder: GraphBuilder,
+    program: &Program,
+    layout: &Layout,
+    steps: &[Step],
+    forest: &Forest,
+) -> Result<GraphParts, AllocError>
+    requires ready { IsReady program.now }
+    requires fits { IsLaidFor program.now layout.now }
+    requires are { IsForestFor program.now steps.now forest.now }
+    ensures { IfOk result (λ parts. AreParts program.now layout.now parts) }
+{
+    let nodes = NodeLists::of_steps(alloc, steps, forest, layout)?;
+    let ends = ChainEnds::of_program(alloc, program, forest)?;
+    let child_starts = Vec::from_slice(alloc, forest.child_starts())?;
+    let children = Vec::from_slice(alloc, forest.children())?;
+    Ok(GraphParts {
+        nodes,
+        child_starts,
+        children,
+        ends,
+    })
+}
+
+/// The nodes, children and terminals of a program, for regions of that layout.
+fn built(alloc: Global, program: &Program, layout: &Layout) -> Result<GraphParts, AllocError>
+    requires ready { IsReady program.now }
+    requires fits { IsLaidFor program.now layout.now }
+    ensures { IfOk result (λ parts. AreParts program.now layout.now parts) }
+{
+    let steps = Steps::of_program(alloc, program)?;
+    let forest = Forest::build(alloc, &steps.keys)?;
+    parts_of(alloc, program, layout, &steps.list, &forest)
+}
+
+/// The graph of these parts.
+fn graph_of(
+    parts: GraphParts,
     program: Program,
     identifiers: Vec<Identifier>,
     wakes: WakeTable,
 ) -> Graph<PieceEngine>
     requires { identifiers.items ≡ map same_identifier program.identifiers }
-    ensures is { IsGraphOf program builder result }
+    ensures is { IsGraphOf program parts result }
     ensures wakes { result.wakes ≡ wakes }
 {
+    let GraphParts {
+        nodes: lists,
+        child_starts,
+        children,
+        ends,
+    } = parts;
+    let NodeLists { nodes, copies } = lists;
+    let ChainEnds { terminals, starts } = ends;
     Graph {
         table: NodeTable {
-            nodes: builder.nodes,
-            child_starts: builder.child_starts,
-            children: builder.children,
+            nodes,
+            child_starts,
+            children,
             engines: program.into_engines(),
         },
         identifiers,
-        terminals: builder.terminals,
-        terminal_starts: builder.terminal_starts,
-        copies: Vec::new(alloc),
+        terminals,
+        terminal_starts: starts,
+        copies,
         wakes,
     }
 }
 
-/// The graph of the program of a list, for regions of that layout: a node for each role, but one for a piece that looks
-/// back and the literal behind it. The program's literals are those of the graph. The only error is want of memory; as
+/// The graph of the program of a list, for regions of that layout: a node for each beginning of a chain, once for all
+/// roles whose chains are equal up to them, but none for one that ends with a piece that looks back. The program's
+/// literals are those of the graph. The only error is want of memory; as
 /// such counts also that there are more nodes, terminals or literals than 32 bits can number.
 pub(crate) fn build_graph(
     alloc: Global,
@@ -85,8 +135,8 @@ pub(crate) fn build_graph(
     ensures sound { IfOk result (λ graph. IsGraphSound piece_meaning graph program.literals layout.now) }
 {
     let literals = graph_number(program.literals().len())?;
-    let builder = built(alloc, &program, layout)?;
-    let wakes = wake_table(alloc, &builder.nodes, literals as usize)?;
+    let parts = built(alloc, &program, layout)?;
+    let wakes = wake_table(alloc, &parts.nodes.nodes, literals as usize)?;
     let identifiers = report_identifiers(alloc, program.identifiers())?;
-    Ok(graph_of(alloc, builder, program, identifiers, wakes))
+    Ok(graph_of(parts, program, identifiers, wakes))
 }

@@ -4,7 +4,7 @@ ghost use Rattle.std.specs.Prelude.{◌≡◌, ◌<◌, ◌≤◌, ℕ, length, 
 ghost use Rattle.hs_rose.specs.declared.kind.Kind.TheVariants as kinds;
 ghost use Rattle.hs_rose.specs.Naming.{literal_of};
 ghost use Rattle.hs_nodes.specs.declared.table.NodeKind.TheVariants as nodes;
-ghost use Rattle.hs_compile.specs.GraphNodes.{HasLength, IsKeptMask, IsKindAt, IsKindOf, IsPairOf};
+ghost use Rattle.hs_compile.specs.GraphKinds.{HasLength, IsKeptMask, IsKindAt, IsKindOf, IsPairOf};
 ghost use Rattle.hs_compile.specs.GraphTables.{IsOneOf, IsReady, LooksBack};
 
 use crate::graph_numbers::graph_number;

@@ -2,7 +2,7 @@
 
 ghost use Rattle.std.specs.Prelude.{◌≡◌, ◌↔◌, ◌+◌, ◌-◌, ◌^◌, ◌<◌, ◌≤◌, ℕ, true, length, Some, slice_get};
 ghost use Rattle.hs_rose.specs.Naming.{literal_of};
-ghost use Rattle.hs_compile.specs.GraphNodes.{HasLength};
+ghost use Rattle.hs_compile.specs.GraphKinds.{HasLength};
 ghost use Rattle.hs_compile.specs.GraphTables.{IsReady, LooksBack};
 
 use hs_rose::{ChainInfo, EntryInfo, Kind, Program, Role};

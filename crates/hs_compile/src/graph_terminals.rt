@@ -1,100 +1,114 @@
-//! The terminals of a graph while it is built.
+//! The terminals of a graph, by node.
 
-ghost use Rattle.std.specs.Prelude.{◌≡◌, ◌+◌, ◌<◌, ℕ, length, IfOk};
-ghost use Rattle.hs_compile.specs.GraphBuilding.{AreNodesEnded, AreTerminalsEnded, IsAllBuilt, IsBuiltTo};
-ghost use Rattle.hs_compile.specs.GraphBuilding.{IsTerminalAdded, IsWholeBuilt};
-ghost use Rattle.hs_compile.specs.GraphTables.{IsOneOf, IsReady};
-ghost use Rattle.hs_layout.specs.Layouts.{Laid};
+ghost use Rattle.std.specs.Prelude.{◌≡◌, ◌+◌, ◌<◌, ◌^◌, ℕ, length, IfOk, Some, slice_get};
+ghost use Rattle.hs_base.specs.Lists.{Each};
+ghost use Rattle.hs_compile.specs.GraphBuilding.{AreAllEnds};
+ghost use Rattle.hs_compile.specs.GraphEnds.{AreTerminalsOf, AsksFor, IsTerminalOf, end_node, end_nodes};
+ghost use Rattle.hs_compile.specs.GraphSteps.{IsForestFor};
+ghost use Rattle.hs_compile.specs.GraphTables.{IsReady};
+ghost use Rattle.hs_compile.specs.declared.step.Step.{Step};
+ghost use Rattle.std.specs.Prelude.{List};
 
-use crate::graph_builder::GraphBuilder;
 use crate::graph_numbers::graph_number;
 use crate::graph_tables::{chain_at, info_of};
+use hs_forest::{Forest, group};
 use hs_reports::Terminal;
-use hs_rose::{ChainInfo, Program};
-use std::alloc::AllocError;
+use hs_rose::Program;
+use std::alloc::{AllocError, Global};
 
-impl GraphBuilder {
-    /// Puts a terminal of the chain at that node behind the others.
-    pub fn add_terminal(
-        &mut self,
+/// Where the chains of a program end.
+#[derive(Drop)]
+pub(crate) struct ChainEnds {
+    /// A terminal for each chain, by rising node.
+    pub terminals: Vec<Terminal>,
+    /// Where in the list of terminals those of each node begin, then where those of the chains of no pieces do, and
+    /// where these end.
+    pub starts: Vec<u32>,
+}
+
+/// The node at which a chain ends that has that last one; there are so many nodes.
+fn node_or_count(last: Option<u32>, count: u32) -> u32
+    ensures { result ≡ end_node count last }
+{
+    match last {
+        Some(node) => node,
+        None => count,
+    }
+}
+
+/// The nodes at which the chains end; there are so many nodes.
+fn nodes_of_chains(
+    alloc: Global,
+    lasts: &[Option<u32>],
+    count: u32,
+) -> Result<Vec<Option<u32>>, AllocError>
+    ensures { IfOk result (λ nodes. nodes.items ≡ end_nodes count lasts.now) }
+{
+    lasts
+        .iter()
+        .map(|last| Some(node_or_count(*last, count)))
+        .collect(alloc)
+}
+
+/// The terminal of the chain of that number.
+fn terminal_of(program: &Program, lasts: &[Option<u32>], count: u32, number: usize) -> Terminal
+    requires ready { IsReady program.now }
+    requires there { number < length program.now.chains }
+    requires same { length lasts.now ≡ length program.now.chains }
+    ensures { IsTerminalOf program.now lasts.now count number result }
+{
+    let chain = chain_at(program, number);
+    let info = info_of(program, &chain);
+    Terminal {
+        identifier: info.identifier,
+        node: node_or_count(lasts[number], count),
+        least: info.min_offset,
+        greatest: info.max_offset,
+    }
+}
+
+/// The terminals of the chains of those numbers.
+fn terminals_of(
+    alloc: Global,
+    program: &Program,
+    lasts: &[Option<u32>],
+    count: u32,
+    numbers: &[u32],
+) -> Result<Vec<Terminal>, AllocError>
+    requires ready { IsReady program.now }
+    requires there { Each (λ number. number < length program.now.chains) numbers.now }
+    requires same { length lasts.now ≡ length program.now.chains }
+    ensures { IfOk result (λ terminals. AreTerminalsOf program.now lasts.now count numbers.now terminals.items) }
+{
+    let mut terminals = Vec::new(alloc);
+    for k in 0..numbers.len() {
+        let number = numbers[k] as usize;
+        terminals.push(terminal_of(program, lasts, count, number))?;
+    }
+    Ok(terminals)
+}
+
+impl ChainEnds {
+    /// The terminals of all chains, by rising node.
+    pub fn of_program(
+        alloc: Global,
         program: &Program,
-        chain: &ChainInfo,
-        node: u32,
-    ) -> Result<(), AllocError>
+        forest: &Forest,
+    ) -> Result<ChainEnds, AllocError>
         requires ready { IsReady program.now }
-        requires chain { IsOneOf program.now chain.now }
-        ensures { IfOk result (λ done. IsTerminalAdded program.now self.old self.new chain.now node) }
+        requires same { length forest.now.last_nodes ≡ length program.now.chains }
+        ensures few { IfOk result (λ ends. length forest.now.parents < 2 ^ 32) }
+        ensures are { IfOk result (λ ends. (steps : List Step) (f : IsForestFor program.now steps forest.now) →
+            AreAllEnds program.now f.forest_is.paths (length forest.now.parents) ends) }
     {
-        let info = info_of(program, chain);
-        self.terminals.push(Terminal {
-            identifier: info.identifier,
-            node,
-            least: info.min_offset,
-            greatest: info.max_offset,
-        })?;
-        Ok(())
-    }
-
-    /// Ends the list of nodes, and gives their count.
-    fn end_nodes(&mut self) -> Result<u32, AllocError>
-        ensures { IfOk result (λ count. AreNodesEnded self.old self.new count) }
-    {
-        self.child_starts.push(graph_number(self.children.len())?)?;
-        self.terminal_starts
-            .push(graph_number(self.terminals.len())?)?;
-        graph_number(self.nodes.len())
-    }
-
-    /// Puts a terminal of the chain of that number behind the others, if it has no roles; there are so many nodes.
-    fn add_empty_chain(
-        &mut self,
-        program: &Program,
-        number: usize,
-        count: u32,
-    ) -> Result<(), AllocError>
-        requires ready { IsReady program.now }
-        requires there { number < length program.now.chains }
-        ensures { IfOk result (λ done. (l : Laid) → IsAllBuilt program.now l count number self.old →
-            IsAllBuilt program.now l count (number + 1) self.new) }
-    {
-        let chain = chain_at(program, number);
-        if chain.first < chain.end {
-            return Ok(());
-        }
-        self.add_terminal(program, &chain, count)?;
-        Ok(())
-    }
-
-    /// Puts the terminals of all chains without roles behind the others; there are so many nodes.
-    fn add_empty_chains(&mut self, program: &Program, count: u32) -> Result<(), AllocError>
-        requires ready { IsReady program.now }
-        ensures { IfOk result (λ done. (l : Laid) → IsAllBuilt program.now l count 0 self.old →
-            IsAllBuilt program.now l count (length program.now.chains) self.new) }
-    {
-        for number in 0..program.chains().len() {
-            self.add_empty_chain(program, number, count)?;
-        }
-        Ok(())
-    }
-
-    /// Ends the list of terminals.
-    fn end_terminals(&mut self) -> Result<(), AllocError>
-        ensures { IfOk result (λ done. AreTerminalsEnded self.old self.new) }
-    {
-        self.terminal_starts
-            .push(graph_number(self.terminals.len())?)?;
-        Ok(())
-    }
-
-    /// Ends the nodes, and puts the terminals of all chains without roles behind the others.
-    pub fn end_chains(&mut self, program: &Program) -> Result<(), AllocError>
-        requires ready { IsReady program.now }
-        ensures { IfOk result (λ done. (l : Laid) →
-            ((none : ℕ) → IsBuiltTo program.now l none (length program.now.chains) self.old) →
-            IsWholeBuilt program.now l self.new) }
-    {
-        let count = self.end_nodes()?;
-        self.add_empty_chains(program, count)?;
-        self.end_terminals()
+        let count = graph_number(forest.parents().len())?;
+        let lasts = forest.last_nodes();
+        let nodes = nodes_of_chains(alloc, lasts, count)?;
+        let groups = group(alloc, &nodes, count as usize + 1)?;
+        let terminals = terminals_of(alloc, program, lasts, count, &groups.list)?;
+        Ok(ChainEnds {
+            terminals,
+            starts: groups.starts,
+        })
     }
 }

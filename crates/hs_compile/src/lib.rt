@@ -7,15 +7,17 @@ mod counts;
 mod database;
 mod entry;
 mod fault;
-mod graph_builder;
 mod graph_kinds;
 mod graph_numbers;
 mod graph_tables;
 mod graph_terminals;
 mod graph_wakes;
 mod laying;
+mod node_lists;
 mod reading;
 mod seen;
+mod step;
+mod steps;
 
 pub use compiler::{MAX_ENTRIES, compile};
 pub use database::Database;

@@ -3,7 +3,7 @@ use Rattle.std.proofs.Common.{◌≡◌, ◌⊎◌, ℕ, suc, ◌+◌, ◌-◌, 
 use Rattle.std.proofs.Math.Seq.{drop-append_seam, get_or-append_seam, take-length}
 use Rattle.std.proofs.lemmas.List.{drop-append-le, get_or_append_left, take-append-le}
 use Rattle.std.proofs.lemmas.Option.{slice_get_within, slice_get-get_or}
-use Rattle.hs_forest.specs.Children.{AreChildLists, AreChildren, AreJoined}
+use Rattle.hs_forest.specs.Groups.{AreGroups, AreJoined, AreLists}
 use Rattle.hs_forest.specs.Views.{numbers}
 use Rattle.hs_forest.proofs.ListLemmas.{get-push, taken-more}
 
@@ -11,6 +11,7 @@ use Rattle.hs_forest.proofs.ListLemmas.{get-push, taken-more}
 pub joined-none : AreJoined [] (0 ∷ []) []
 joined-none = record {
   count = refl;
+  first = refl;
   last = refl;
   rising = λ j k up within.
       let at_j : j ≡ 0 = omega arith in
@@ -69,15 +70,17 @@ module _ (lists : List (List ℕ)) (starts joined list : List ℕ) (end : ℕ) (
   joined-more =
       let more : length (lists ++ list ∷ []) ≡ suc (length lists) = simp length-append (omega arith) in record {
         count = simp length-append (omega (arith, are.count));
+        first = old 0 (omega arith) ∙ are.first;
         last = new (length (lists ++ list ∷ [])) more ∙ end_is ∙ sym (length-append joined list);
         rising = λ j k up within. rising-by j k up (split k (omega (arith, more))) (split j (omega (arith, more)));
         each = λ k x at. each-by k x (get-push lists list k x at);
       }
 
--- the lists of the children of each node are joined
-pub children-joined : (parents : List (Option ℕ)) (lists : List (List ℕ)) (starts joined : List ℕ) → AreChildLists parents (length parents) lists → AreJoined lists starts joined → AreChildren parents starts joined
-children-joined parents lists starts joined of are = record {
-  count = are.count ∙ ap suc of.count_is;
+-- the lists of each owner are joined
+pub groups-joined : (owners : List (Option ℕ)) (count : ℕ) (lists : List (List ℕ)) (starts joined : List ℕ) → AreLists owners count lists → AreJoined lists starts joined → AreGroups owners count starts joined
+groups-joined owners count lists starts joined of are = record {
+  count_is = are.count ∙ ap suc of.count_is;
+  first = are.first;
   last = ap (λ n. slice_index starts n) (sym of.count_is) ∙ are.last;
   rising = λ j k up within. are.rising j k up (omega (arith, of.count_is));
   each = λ k below.

@@ -3,6 +3,7 @@ pub mod PathLemmas
 pub mod IndexLemmas
 pub mod GrowingLemmas
 pub mod BuilderLemmas
-pub mod ChildLemmas
+pub mod GroupLemmas
 pub mod JoinLemmas
 pub mod LawLemmas
+pub mod MemberLemmas

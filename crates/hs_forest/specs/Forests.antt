@@ -3,7 +3,7 @@
 -- A node stands for a beginning of a chain, its path. Its parent is the node of the path without the last key.
 use Rattle.std.specs.Prelude.{◌≡◌, ℕ, ◌<◌, List, [], ◌∷◌, ◌++◌, length, map, flat_map, Option, Some, None, slice_get}
 use Rattle.hs_base.specs.Lists.{OneOf}
-use Rattle.hs_forest.specs.Children.{AreChildren}
+use Rattle.hs_forest.specs.Groups.{AreGroups}
 
 -- What a forest has: of each node the parent, the key and the children; for each key of each chain, in order, its node;
 -- and for each chain its last node, if it has a key.
@@ -28,6 +28,10 @@ forest_tables parents keys child_starts children nodes last_nodes = record {
 -- each parent comes before its children
 abbrev pub AreEarlier : List (Option ℕ) → Type 0
 AreEarlier parents = (k p : ℕ) → slice_get parents k ≡ Some (Some p) → p < k
+
+-- The children of each node stand in one list, each node's from where it says to where the next one says.
+abbrev pub AreChildren : (parents : List (Option ℕ)) → (starts children : List ℕ) → Type 0
+AreChildren parents starts children = AreGroups parents (length parents) starts children
 
 -- The tables fit one another.
 pub record IsForestWhole (t : ForestTables) : Type 0 where
@@ -73,13 +77,25 @@ beginnings_behind front (key ∷ keys) = (front ++ key ∷ []) ∷ beginnings_be
 abbrev pub beginnings : List ℕ → List (List ℕ)
 beginnings chain = beginnings_behind [] chain
 
+-- The node of that number stands in the list, and before it those with lesser numbers alone.
+pub record HasFirst (nodes : List ℕ) (k : ℕ) : Type 0 where
+  pub place : ℕ
+  pub there : slice_get nodes place ≡ Some k
+  pub before : (j n : ℕ) → j < place → slice_get nodes j ≡ Some n → n < k
+
+-- so many nodes are numbered in the order in which the list first has them
+abbrev pub AreInOrder : (nodes : List ℕ) → (count : ℕ) → Type 0
+AreInOrder nodes count = (k : ℕ) → k < count → HasFirst nodes k
+
 -- The forest is that of the chains: no two nodes have one path, each path begins a chain, the node of each key of each
--- chain has for its path the beginning up to that key, and the last node of each chain the chain.
+-- chain has for its path the beginning up to that key, and the last node of each chain the chain. Nodes are numbered in
+-- the order of their first keys.
 pub record IsForestOf (t : ForestTables) (chains : List (List ℕ)) : Type 0 where
   pub paths : List (List ℕ)
   pub are_paths : ArePaths t.parents t.keys paths
   pub apart : AreDistinct paths
   pub needed : (k : ℕ) (path : List ℕ) → slice_get paths k ≡ Some path → OneOf (BeginsWith path) chains
   pub nodes : map (λ k. slice_get paths k) t.nodes ≡ map Some (flat_map beginnings chains)
+  pub order : AreInOrder t.nodes (length t.parents)
   pub last_nodes : map (path_to paths) t.last_nodes ≡ map Some chains
   pub children : AreChildren t.parents t.child_starts t.children

@@ -6,8 +6,9 @@ use Rattle.std.specs.BTreeMap.{BTreeMap, get}
 use Rattle.std.specs.Option.{option_cmp}
 use Rattle.std.specs.Ordering.{nat_cmp, ordering_then}
 use Rattle.hs_base.specs.Lists.{OneOf}
-use Rattle.hs_forest.specs.Children.{AreChildren}
-use Rattle.hs_forest.specs.Forests.{ForestTables, AreEarlier, ArePaths, AreDistinct, BeginsWith, beginnings, path_to}
+use Rattle.hs_forest.specs.Forests.{ForestTables, AreChildren, AreDistinct, AreEarlier, AreInOrder, ArePaths}
+use Rattle.hs_forest.specs.Forests.{BeginsWith, beginnings, path_to}
+use Rattle.hs_forest.specs.Groups.{AreOwners}
 use Rattle.hs_forest.specs.declared.growing.Growing.{Growing}
 use Rattle.hs_forest.specs.declared.builder.Builder.{Builder}
 
@@ -55,6 +56,7 @@ pub record IsBuiltTo (b : Builder) (chains : List (List ℕ)) (chain : List ℕ)
   pub needed : (k : ℕ) (path : List ℕ) → slice_get paths k ≡ Some path → OneOf (BeginsWith path) (chains ++ chain ∷ [])
   pub nodes : map (λ k. slice_get paths k) b.nodes.items
       ≡ map Some (flat_map beginnings chains ++ beginnings (take n chain))
+  pub order : AreInOrder b.nodes.items (length paths)
   pub last_nodes : map (path_to paths) b.last_nodes.items ≡ map Some chains
   pub last_is : path_to paths last ≡ Some (take n chain)
 
@@ -64,12 +66,14 @@ pub record IsBuilt (b : Builder) (chains : List (List ℕ)) : Type 0 where
   pub sound : IsSound b.growing paths
   pub needed : (k : ℕ) (path : List ℕ) → slice_get paths k ≡ Some path → OneOf (BeginsWith path) chains
   pub nodes : map (λ k. slice_get paths k) b.nodes.items ≡ map Some (flat_map beginnings chains)
+  pub order : AreInOrder b.nodes.items (length paths)
   pub last_nodes : map (path_to paths) b.last_nodes.items ≡ map Some chains
 
 -- Each node that is named is there.
 pub record AreFinished (b : Builder) : Type 0 where
   pub keys : length b.growing.keys.items ≡ length b.growing.parents.items
   pub earlier : AreEarlier b.growing.parents.items
+  pub owners : AreOwners b.growing.parents.items (length b.growing.parents.items)
   pub nodes : (i k : ℕ) → slice_get b.nodes.items i ≡ Some k → k < length b.growing.parents.items
   pub last_nodes : (c k : ℕ) → slice_get b.last_nodes.items c ≡ Some (Some k) → k < length b.growing.parents.items
 

@@ -1,4 +1,4 @@
-pub mod Children
+pub mod Groups
 pub mod Forests
 pub mod Growing
 pub mod Laws

@@ -6,13 +6,14 @@ ghost use Rattle.hs_forest.specs.Growing.{AreFinished, IsFinished};
 ghost use Rattle.hs_forest.specs.Views.{numbers};
 
 use crate::builder::Builder;
-use crate::children::{Children, children_of};
+use crate::groups::{Groups, group};
 use crate::growing::Growing;
 use std::alloc::{AllocError, Global};
 use std::marker::Model;
 
 /// The beginnings of chains of keys, each once: of each node the parent, the key and the children, and for each key of
-/// each chain its node. A node takes 24 bytes, and its key is found in time by the logarithm of the count of nodes.
+/// each chain its node. Nodes are numbered in the order of their first keys. A node takes 24 bytes, and its key is
+/// found in time by the logarithm of the count of nodes.
 #[derive(Debug, Drop)]
 pub struct Forest {
     parents: Vec<Option<u32>>,
@@ -106,7 +107,7 @@ fn finish(alloc: Global, builder: Builder) -> Result<Forest, AllocError>
         keys,
         index: _index,
     } = growing;
-    let Children { starts, list } = children_of(alloc, &parents)?;
+    let Groups { starts, list } = group(alloc, &parents, parents.len())?;
     Ok(Forest {
         parents,
         keys,

@@ -15,16 +15,18 @@ built-requires-clause-ready c = ready c.args.program c.requires.built.entries c.
 pub returns-clause-runs : goal.returns-clause-runs
 returns-clause-runs c P is =
     runs-plan c.args.program is.entries P is.program is.asks is.fit c.args.layout.now c.requires.fits c.graph_of.result
-    (graph-is c.args.program c.args.layout.now c.in_ok-builder.builder c.graph_of.result c.in_ok-builder.ensures c.graph_of.ensures.is)
+    (graph-is c.args.program c.args.layout.now c.in_ok-parts.parts c.graph_of.result c.in_ok-parts.ensures c.graph_of.ensures.is)
 
 pub wake_table-requires : goal.wake_table-requires
 wake_table-requires c =
     let built = c.requires.built in
-    let whole = c.in_ok-builder.ensures in
+    let whole = c.in_ok-parts.ensures in
     let t = c.args.program in
+    let nodes = c.in_ok-parts.parts.nodes.nodes.items in
+    let copies = c.in_ok-parts.parts.nodes.copies.items in
     let count : length t.literals ≡ c.in_ok-literals.literals = omega (arith, c.in_ok-literals.ensures.is, ap length c.literals.ensures, length-map c.literals.result.now literal_bytes) in
     subst (λ n. AreWakeable c.deref.result.now n) count
-    (subst (λ ns. AreWakeable ns (length t.literals)) (sym c.deref.ensures.value) (wakeable t c.args.layout.now (length t.roles) whole.owned c.in_ok-builder.builder.nodes.items (ready t built.entries built.chains built.is) whole.nodes))
+    (subst (λ ns. AreWakeable ns (length t.literals)) (sym c.deref.ensures.value) (wakeable t c.args.layout.now whole.paths whole.nodes.owned nodes copies (ready t built.entries built.chains built.is) whole.nodes.are))
 
 pub returns-clause-sound : goal.returns-clause-sound
 returns-clause-sound c =
@@ -33,5 +35,5 @@ returns-clause-sound c =
     let graph = c.graph_of.result in
     let is = c.graph_of.ensures in
     let count : c.in_ok-literals.literals ≡ length t.literals = omega (arith, c.in_ok-literals.ensures.is, ap length c.literals.ensures, length-map c.literals.result.now literal_bytes) in
-    graph-sound t built.entries built.chains built.is c.args.layout.now c.requires.fits graph (graph-is t c.args.layout.now c.in_ok-builder.builder graph c.in_ok-builder.ensures is.is) (omega (arith, count, c.in_ok-literals.ensures.few))
+    graph-sound t built.entries built.chains built.is c.args.layout.now c.requires.fits graph (graph-is t c.args.layout.now c.in_ok-parts.parts graph c.in_ok-parts.ensures is.is) (omega (arith, count, c.in_ok-literals.ensures.few))
     (wakes-same c.deref.result.now graph.table.nodes.items c.in_ok-literals.literals (length t.literals) c.in_ok-wakes.wakes graph.wakes (c.deref.ensures.value ∙ sym is.is.nodes) (sym is.wakes) count c.in_ok-wakes.ensures)

@@ -1,6 +1,6 @@
 use Rattle.std.proofs.Common.{ap}
 use Rattle.hs_rose.specs.Kinds.{number_if_literal}
-use Rattle.hs_compile.specs.GraphNodes.{IsKindAt, IsKindOf, IsPairOf}
+use Rattle.hs_compile.specs.GraphKinds.{IsKindAt, IsKindOf, IsPairOf}
 use Rattle.hs_compile.proofs.ReadLemmas.{at-first, at-later, at-pair, ok-to, pair-bare}
 use Rattle.hs_compile.proofs.graph_kinds.kind_at.Goals as goal
 

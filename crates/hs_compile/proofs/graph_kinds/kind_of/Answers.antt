@@ -2,7 +2,7 @@ use Rattle.std.proofs.Common.{◌≡◌, ◌<◌, ℕ, Option, length, sym, ap, 
 use Rattle.hs_base.specs.declared.context.Mask.{Mask}
 use Rattle.hs_nodes.specs.declared.table.NodeKind.TheVariants as nodes
 use Rattle.hs_rose.specs.Kinds.{number_if_literal}
-use Rattle.hs_compile.specs.GraphNodes.{HasLength, IsKeptMask, IsKindOf}
+use Rattle.hs_compile.specs.GraphKinds.{HasLength, IsKeptMask, IsKindOf}
 use Rattle.hs_compile.proofs.ReadLemmas.{bare-is, engine-is, entered-is, ok-to}
 use Rattle.hs_compile.proofs.graph_kinds.kind_of.Goals as goal
 
