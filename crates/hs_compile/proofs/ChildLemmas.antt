@@ -1,10 +1,9 @@
 -- The children of nodes, from those of a forest.
-use Rattle.std.proofs.Common.{◌≡◌, ℕ, suc, ◌<◌, ◌≤◌, List, length, Option, Some, slice_get, sym, ap, ◌∙◌, subst, arith}
+use Rattle.std.proofs.Common.{◌≡◌, ℕ, suc, ◌<◌, ◌≤◌, List, length, Option, Some, slice_get, sym, ap, ◌∙◌, arith}
 use Rattle.std.specs.Prelude.{slice_index}
 use Rattle.std.proofs.lemmas.Option.{get_or_from_slice_get, slice_get_within}
 use Rattle.hs_base.specs.Lists.{Each}
 use Rattle.hs_forest.proofs.MemberLemmas.{grouped, listed}
-use Rattle.hs_forest.specs.Forests.{ArePaths}
 use Rattle.hs_forest.specs.Groups.{AreGroups}
 use Rattle.hs_nodes.specs.declared.table.Node.{Node}
 use Rattle.hs_compile.specs.GraphLists.{AreChildren}

@@ -1,7 +1,6 @@
 -- The terminals of chains, by the last nodes of the chains.
-use Rattle.std.proofs.Common.{◌≡◌, ℕ, suc, ◌+◌, ◌-◌, ◌<◌, ◌≤◌, List, [], ◌∷◌, ◌++◌, length, map, take, Option, Some, None, slice_get, refl, sym, ap, ◌∙◌, subst, inl, inr, arith}
+use Rattle.std.proofs.Common.{◌≡◌, ℕ, suc, ◌+◌, ◌-◌, ◌<◌, ◌≤◌, List, [], ◌∷◌, ◌++◌, length, take, Option, Some, None, slice_get, refl, sym, ap, ◌∙◌, subst, inl, inr, arith}
 use Rattle.std.specs.Prelude.{slice_index}
-use Rattle.std.specs.List.{AllZip}
 use Rattle.std.proofs.lemmas.Bool.{cases_lt}
 use Rattle.std.proofs.lemmas.List.{length-map}
 use Rattle.std.proofs.lemmas.Option.{get_or_from_slice_get, same_Some, slice_get-get_or, slice_get_within}
@@ -13,17 +12,15 @@ use Rattle.hs_forest.specs.Forests.{ForestTables, path_to}
 use Rattle.hs_forest.specs.Groups.{AreGroups}
 use Rattle.hs_reports.specs.declared.terminal.Terminal.{Terminal}
 use Rattle.hs_rose.specs.declared.info.ChainInfo.{ChainInfo}
-use Rattle.hs_rose.specs.declared.role.Role.{Role}
 use Rattle.hs_rose.specs.Programs.{Tables}
 use Rattle.hs_rose.proofs.ListLemmas.{get-map, map-get, take-get, zip-left, zip-length, zip-push, zip-right}
 use Rattle.hs_compile.specs.declared.graph_terminals.ChainEnds.{ChainEnds}
 use Rattle.hs_compile.specs.declared.step.Step.{Step}
 use Rattle.hs_compile.specs.GraphBuilding.{AreAllEnds}
-use Rattle.hs_compile.specs.GraphEnds.{AreChainEnds, AreTerminalsOf, HasChain, HasEnd, IsEndOf, IsLastNode, IsTerminalOf, by_none, by_role, end_node, end_nodes}
+use Rattle.hs_compile.specs.GraphEnds.{AreChainEnds, AreTerminalsOf, HasEnd, IsEndOf, IsLastNode, IsTerminalOf, by_none, by_role, end_node, end_nodes}
 use Rattle.hs_compile.specs.GraphLists.{LieByNode}
-use Rattle.hs_compile.specs.GraphSteps as steps_are
 use Rattle.hs_compile.specs.GraphSteps.{AreKeysTo, IsForestFor}
-use Rattle.hs_compile.specs.GraphTables.{IsReady, LooksBack}
+use Rattle.hs_compile.specs.GraphTables.{IsReady}
 use Rattle.hs_compile.proofs.ChildLemmas.{starts-within}
 use Rattle.hs_compile.proofs.GraphListLemmas.{each-of_get, get-read}
 use Rattle.hs_compile.proofs.KeyLemmas.{no-keys, stands-by}

@@ -1,6 +1,5 @@
 -- The nodes of roles, with one step more.
-use Rattle.std.proofs.Common.{◌≡◌, ◌⊎◌, ℕ, zero, suc, ◌+◌, ◌<◌, ◌≤◌, true, false, List, [], ◌∷◌, ◌++◌, length, map, flat_map, Option, Some, None, slice_get, refl, sym, ap, ◌∙◌, subst, inl, inr, arith}
-use Rattle.std.specs.Prelude.{slice_index}
+use Rattle.std.proofs.Common.{◌≡◌, ◌⊎◌, ℕ, zero, suc, ◌+◌, ◌<◌, ◌≤◌, true, false, List, [], ◌∷◌, ◌++◌, length, flat_map, Option, Some, None, slice_get, refl, sym, ap, ◌∙◌, subst, inl, inr, arith}
 use Rattle.std.proofs.lemmas.Bool.{cases_eq, cases_lt, false≢true}
 use Rattle.std.proofs.lemmas.List.{append-nil, length-map}
 use Rattle.std.proofs.lemmas.Option.{same_Some, slice_get_within}
@@ -12,7 +11,6 @@ use Rattle.hs_nodes.specs.Graphs.{keeps_field}
 use Rattle.hs_nodes.specs.declared.graph.FieldCopy.{FieldCopy}
 use Rattle.hs_nodes.specs.declared.table.Node.{Node}
 use Rattle.hs_nodes.specs.declared.table.NodeKind.{NodeKind}
-use Rattle.hs_rose.specs.declared.info.ChainInfo.{ChainInfo}
 use Rattle.hs_rose.specs.declared.role.Role.{Role}
 use Rattle.hs_rose.specs.Programs.{Tables}
 use Rattle.hs_rose.proofs.ListLemmas.{get-behind, get-left, get-push, zip-left, zip-length}

@@ -33,10 +33,10 @@ use Rattle.hs_rose.specs.Programs.{Tables, IsProgramOf, IsRoleOf}
 use Rattle.hs_rose.proofs.ListLemmas.{get-map, map-get, take-get, zip-right}
 use Rattle.hs_rose.proofs.ListedLemmas.{chains-count, piece_of}
 use Rattle.hs_compile.specs.GraphBuilding.{same_identifier}
-use Rattle.hs_compile.specs.GraphEnds.{HasChain, HasEnd, IsEndOf, IsLastNode, by_none, by_role}
+use Rattle.hs_compile.specs.GraphEnds.{IsEndOf, IsLastNode, by_none, by_role}
 use Rattle.hs_compile.specs.GraphNodes.{HasNodeOf, IsAmongCopies, IsNodeOfRole, owns, shares}
 use Rattle.hs_rose.specs.Plans.{AsksFor, IsFitPattern, plan_of}
-use Rattle.hs_compile.specs.GraphTables.{IsLaidFor, LooksBack}
+use Rattle.hs_compile.specs.GraphTables.{IsLaidFor}
 use Rattle.hs_compile.proofs.GraphLemmas.{GraphIs, HasPlace, has-place, is-node-of, node-pieces, node_pieces, runs-place, shared-pieces}
 use Rattle.hs_compile.proofs.IdentifierLemmas.{same-numbers, same-singles}
 use Rattle.hs_compile.proofs.JoinLemmas as join

@@ -1,5 +1,5 @@
 -- The roles that have nodes, with one role or one chain more.
-use Rattle.std.proofs.Common.{◌≡◌, ◌⊎◌, ℕ, suc, ◌+◌, ◌<◌, ◌≤◌, List, [], ◌∷◌, ◌++◌, length, Some, slice_get, flat_map, refl, sym, ap, subst, ◌∙◌, inl, inr, arith, append_assoc}
+use Rattle.std.proofs.Common.{◌≡◌, ◌⊎◌, ℕ, ◌+◌, ◌<◌, ◌≤◌, List, [], ◌∷◌, ◌++◌, length, Some, slice_get, flat_map, refl, sym, ap, subst, ◌∙◌, inl, inr, arith, append_assoc}
 use Rattle.std.specs.List.{AllZip}
 use Rattle.std.proofs.lemmas.Bool.{cases_lt}
 use Rattle.std.proofs.lemmas.List.{append-nil}
@@ -12,7 +12,7 @@ use Rattle.hs_rose.specs.Programs.{Tables}
 use Rattle.hs_rose.proofs.ListLemmas.{get-behind, get-left, get-push, zip-push}
 use Rattle.hs_compile.specs.declared.step.Step.{Step}
 use Rattle.hs_compile.specs.GraphKinds.{IsKindAt}
-use Rattle.hs_compile.specs.GraphSteps.{AreChainKeys, AreKeysTo, AreRisingSteps, AreSteps, AreStepsOfChains, AreStepsTo, AreStepsWithin, HasKind, HasStep, IsKeyOf, IsStepOf, begins, goes_on, passes}
+use Rattle.hs_compile.specs.GraphSteps.{AreChainKeys, AreKeysTo, AreRisingSteps, AreSteps, AreStepsOfChains, AreStepsTo, AreStepsWithin, HasKind, IsKeyOf, IsStepOf, begins, goes_on, passes}
 use Rattle.hs_compile.specs.GraphTables.{IsReady, LooksBack}
 use Rattle.hs_compile.proofs.GraphListLemmas.{length-push}
 

@@ -4,7 +4,7 @@ use Rattle.std.proofs.lemmas.Bool.{cases_lt, eq-eqb}
 use Rattle.std.proofs.lemmas.Bool.Decides.{nat_tests}
 use Rattle.std.proofs.lemmas.Option.{get_or_from_slice_get, slice_get-get_or, slice_get_within}
 use Rattle.hs_base.proofs.RegionLemmas.{get-range, range-size}
-use Rattle.hs_forest.specs.Groups.{AreGroups, AreOwners, group_of, is_number, numbers_with}
+use Rattle.hs_forest.specs.Groups.{AreGroups, is_number, numbers_with}
 
 -- the owner of a number at a place
 pub record HasOwner (owners : List (Option ℕ)) (k at j : ℕ) : Type 0 where

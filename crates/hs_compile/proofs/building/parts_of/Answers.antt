@@ -1,4 +1,4 @@
-use Rattle.std.proofs.Common.{◌≡◌, length, sym, ap, subst, ◌∙◌, arith}
+use Rattle.std.proofs.Common.{◌≡◌, length, sym, subst, ◌∙◌, arith}
 use Rattle.hs_compile.specs.GraphBuilding.{AreAllEnds}
 use Rattle.hs_compile.specs.GraphLists.{AreChildren}
 use Rattle.hs_compile.proofs.ChildLemmas.{forest-children}

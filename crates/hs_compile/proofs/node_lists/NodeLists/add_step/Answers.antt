@@ -1,4 +1,4 @@
-use Rattle.std.proofs.Common.{◌≡◌, length, refl, arith}
+use Rattle.std.proofs.Common.{refl, arith}
 use Rattle.hs_compile.specs.GraphNodes.{added, copied}
 use Rattle.hs_compile.proofs.node_lists.NodeLists.add_step.Goals as goal
 
