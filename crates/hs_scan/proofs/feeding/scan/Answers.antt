@@ -7,7 +7,7 @@ use Rattle.std.proofs.lemmas.Option.{slice_get_within}
 use Rattle.hs_reports.specs.EndTables.{HasNoEnds}
 use Rattle.hs_scan.specs.Feeding.{Feeds}
 use Rattle.hs_scan.specs.Hits.{HasNowhere}
-use Rattle.hs_scan.specs.Keeping.{AreRead}
+use Rattle.hs_keeping.specs.Keeping.{AreRead}
 use Rattle.hs_scan.specs.Knowing.{IsPending}
 use Rattle.hs_scan.specs.declared.known.Known.{Known}
 use Rattle.hs_scan.specs.Scans.{Scans}
