@@ -1,7 +1,7 @@
--- Lists with one member more.
+-- Members of lists by their numbers.
 use Rattle.std.proofs.Common.{◌≡◌, ℕ, zero, suc, ◌<◌, ◌≤◌, List, [], ◌∷◌, ◌++◌, length, Some, slice_get, refl, ap, ◌∙◌, arith}
 use Rattle.std.specs.Prelude.{slice_index}
-use Rattle.std.proofs.lemmas.List.{get_or_append_left, length-append}
+use Rattle.std.proofs.lemmas.List.{length-append}
 use Rattle.std.proofs.Math.Seq.{get_or-append_seam}
 use Rattle.hs_base.specs.Lists.{Each}
 
@@ -14,10 +14,7 @@ get-read (x ∷ xs) (suc k) below = get-read xs k (omega (arith, below))
 pub length-push : {A : Type 0} (xs : List A) (x : A) → length (xs ++ x ∷ []) ≡ suc (length xs)
 length-push xs x = omega (arith, length-append xs (x ∷ []))
 
--- a number keeps its place where one more comes behind
-pub index-left : (xs : List ℕ) (x k : ℕ) → k < length xs → slice_index (xs ++ x ∷ []) k ≡ slice_index xs k
-index-left xs x k below = get_or_append_left xs (x ∷ []) 0 k below
-
+-- the number behind a list
 pub index-behind : (xs : List ℕ) (x k : ℕ) → k ≡ length xs → slice_index (xs ++ x ∷ []) k ≡ x
 index-behind xs x k at = ap (slice_index (xs ++ x ∷ [])) at ∙ get_or-append_seam xs x [] 0
 
@@ -26,11 +23,6 @@ pub each-index : (bound : ℕ) (xs : List ℕ) → Each (λ x. x ≤ bound) xs �
 each-index bound [] each k = omega arith
 each-index bound (x ∷ xs) each zero = each.0
 each-index bound (x ∷ xs) each (suc k) = each-index bound xs each.1 k
-
--- what follows of each
-pub each-to : {A : Type 0} (P Q : A → Type 0) → ((x : A) → P x → Q x) → (xs : List A) → Each P xs → Each Q xs
-each-to P Q to [] each = tt
-each-to P Q to (x ∷ xs) each = (to x each.0, each-to P Q to xs each.1)
 
 -- of each by its number
 pub each-of_get : {A : Type 0} (P : A → Type 0) (xs : List A) → ((k : ℕ) (x : A) → slice_get xs k ≡ Some x → P x) → Each P xs

@@ -1,13 +1,14 @@
 -- The nodes that a chunk may wake.
-use Rattle.std.proofs.Common.{◌≡◌, ◌⊎◌, ℕ, zero, suc, ◌+◌, ◌<◌, ◌≤◌, Bool, true, false, cond, List, [], ◌∷◌, ◌++◌, length, map, take, slice_set, slice_get, Option, Some, None, Vec, Global, refl, sym, ap, subst, ◌∙◌, inl, inr, arith}
+use Rattle.std.proofs.Common.{◌≡◌, ℕ, zero, suc, ◌+◌, ◌<◌, false, List, [], ◌∷◌, ◌++◌, length, slice_get, Option, Some, None, refl, sym, ap, subst, ◌∙◌, inl, inr, arith}
 use Rattle.std.specs.Prelude.{slice_index}
-use Rattle.std.proofs.lemmas.Bool.{cases_eq, eq-eqb, false≢true}
-use Rattle.std.proofs.lemmas.List.{get_or-append-add, get_or_append_left, length-append, map-append}
+use Rattle.std.proofs.lemmas.Bool.{cases_eq, false≢true}
+use Rattle.std.proofs.lemmas.List.{get_or_append_left, length-append, length-map}
 use Rattle.std.proofs.lemmas.Option.{same_Some, slice_get_within}
 use Rattle.hs_base.specs.Lists.{Each}
 use Rattle.hs_base.proofs.ListLemmas.{each-append}
+use Rattle.hs_forest.proofs.MemberLemmas.{grouped, listed}
+use Rattle.hs_forest.specs.Groups.{AreGroups, AreOwners}
 use Rattle.hs_nodes.specs.Waking.{AreWakesSound, IsListed, waking_literal}
-use Rattle.hs_nodes.specs.Walks.{IsAmongChildren}
 use Rattle.hs_nodes.specs.declared.graph.FieldCopy.{FieldCopy}
 use Rattle.hs_nodes.specs.declared.table.Node.{Node}
 use Rattle.hs_nodes.specs.declared.table.NodeKind.{NodeKind}
@@ -16,14 +17,13 @@ use Rattle.hs_nodes.specs.declared.waking.WakeTable.{WakeTable}
 use Rattle.hs_layout.specs.Layouts.{Laid}
 use Rattle.hs_rose.specs.declared.kind.Kind.TheVariants as kinds
 use Rattle.hs_rose.specs.declared.role.Role.{Role}
-use Rattle.hs_rose.specs.Programs.{Tables, is_number}
-use Rattle.hs_rose.proofs.ListLemmas.{each-push, get-behind, get-left, get-push, take-get}
-use Rattle.hs_rose.proofs.RoleListLemmas.{role-added}
+use Rattle.hs_rose.specs.Programs.{Tables}
+use Rattle.hs_rose.proofs.ListLemmas.{get-map, map-get}
 use Rattle.hs_compile.specs.GraphKinds.{IsKindOf, IsPairOf, bare, engine, entered}
 use Rattle.hs_compile.specs.GraphNodes.{AreNodes, IsLinked, begins, behind, goes_on}
 use Rattle.hs_compile.specs.GraphTables.{IsReady}
-use Rattle.hs_compile.specs.GraphWakes.{AreFirstEngines, AreJoined, AreNodesOfLiterals, AreWakeable, IsNumberAdded, is_first_engine, numbers}
-use Rattle.hs_compile.proofs.GraphListLemmas.{each-index, each-to, get-read, index-behind, index-left, length-push}
+use Rattle.hs_compile.specs.GraphWakes.{AreFirstEngines, AreWakeable, is_first_engine, waking_literals}
+use Rattle.hs_compile.proofs.GraphListLemmas.{get-read, index-behind, length-push}
 
 -- a bound of each
 pub each-below : (bound : ℕ) (xs : List ℕ) → Each (λ x. x < bound) xs → (k : ℕ) → k < length xs → slice_index xs k < bound
@@ -44,53 +44,6 @@ listed-last xs n k same = record {
   within = omega (arith, length-push xs n);
   is = index-behind xs n (length xs) refl ∙ sym same;
 }
-
--- a number is put behind those of a literal
-pub number-added : (lists : List (Vec ℕ Global)) (k n : ℕ) (old new : Vec ℕ Global) → slice_get lists k ≡ Some old → new.items ≡ old.items ++ n ∷ [] → IsNumberAdded (map numbers lists) (Some k) n (map numbers (slice_set lists k new))
-number-added lists k n old new at grown = let added = role-added lists k n old new at grown in record { count = added.count; each = added.each }
-
--- the lists at first
-pub no-nodes : (nodes : List Node) (literals : ℕ) (lists : List (List ℕ)) → length lists ≡ literals → ((k : ℕ) (list : List ℕ) → slice_get lists k ≡ Some list → list ≡ []) → AreNodesOfLiterals nodes literals 0 lists
-no-nodes nodes literals lists count none = record {
-  count_is = count;
-  known = λ number list is. subst (λ xs. Each (λ k. k < length nodes) xs) (sym (none number list is)) tt;
-  woken = λ k number node list low there wakes is. absurd (omega (arith, low));
-}
-
-each-cond : (b : Bool) (bound n : ℕ) → n < bound → Each (λ k. k < bound) (cond b (n ∷ []) [])
-each-cond true bound n low = (low, tt)
-each-cond false bound n low = tt
-
--- one node more
-module _ (nodes : List Node) (literals n : ℕ) (node : Node) (before now : List (List ℕ)) (at : slice_get nodes n ≡ Some node) (are : AreNodesOfLiterals nodes literals n before) (added : IsNumberAdded before (waking_literal node.kind) n now) where
-  own-listed : (k number : ℕ) (other : Node) (list own : List ℕ) → k ≡ n → slice_get nodes k ≡ Some other → waking_literal other.kind ≡ Some number → list ≡ own ++ cond (is_number number (waking_literal node.kind)) (n ∷ []) [] → IsListed list k
-  own-listed k number other list own same there wakes is =
-      let one : node ≡ other = same_Some node other (sym at ∙ (ap (slice_get nodes) (sym same) ∙ there)) in
-      let holds : is_number number (waking_literal node.kind) ≡ true = ap (is_number number) (ap (λ (x : Node). waking_literal x.kind) one ∙ wakes) ∙ eq-eqb number number refl in
-      subst (λ xs. IsListed xs k) (sym (is ∙ ap (λ b. own ++ cond b (n ∷ []) []) holds)) (listed-last own n k same)
-
-  pub nodes-step : AreNodesOfLiterals nodes literals (n + 1) now
-  nodes-step = record {
-    count_is = added.count ∙ are.count_is;
-    known = λ number list is.
-        let own = added.each number list is in
-        let more = is_number number (waking_literal node.kind) in
-        subst (λ xs. Each (λ k. k < length nodes) xs) (sym own.2)
-        (each-append (λ k. k < length nodes) own.0 (cond more (n ∷ []) []) (are.known number own.0 own.1) (each-cond more (length nodes) n (slice_get_within nodes n node at)));
-    woken = λ k number other list low there wakes is.
-        let own = added.each number list is in
-        elim (cases_eq k n) [
-          | inl same ↦ own-listed k number other list own.0 same there wakes own.2
-          | inr apart ↦
-              subst (λ xs. IsListed xs k) (sym own.2)
-              (listed-left own.0 (cond (is_number number (waking_literal node.kind)) (n ∷ []) []) k (are.woken k number other own.0 (omega (arith, low, apart)) there wakes own.1))
-        ];
-  }
-
-pub nodes-next : (nodes : List Node) (literals n m : ℕ) (node : Node) (literal : Option ℕ) (before now : List (List ℕ)) → slice_get nodes n ≡ Some node → literal ≡ waking_literal node.kind → m ≡ n → AreNodesOfLiterals nodes literals n before → IsNumberAdded before literal m now →
-    AreNodesOfLiterals nodes literals (n + 1) now
-nodes-next nodes literals n m node literal before now at is same are added =
-    nodes-step nodes literals n node before now at are (subst (λ i. IsNumberAdded before (waking_literal node.kind) i now) same (subst (λ l. IsNumberAdded before l m now) is added))
 
 -- the nodes of engines without a parent
 pub no-engines : (nodes : List Node) → AreFirstEngines nodes 0 []
@@ -117,99 +70,33 @@ module _ (nodes : List Node) (n : ℕ) (list : List ℕ) (are : AreFirstEngines 
     ];
   }
 
--- no list
-pub joined-none : AreJoined [] (0 ∷ []) []
-joined-none = record {
-  count = refl;
-  last = refl;
-  rising = λ j low. absurd (omega (arith, low));
-  within = (omega arith, tt);
-  among = λ j k list at listed. absurd (cc);
-  only = λ bound all. tt;
-}
-
--- one list more
-module _ (lists : List (List ℕ)) (starts joined list : List ℕ) (end : ℕ) (are : AreJoined lists starts joined) (end_is : end ≡ length joined + length list) where
-  abbrev more : List ℕ
-  more = starts ++ end ∷ []
-
-  old : (k : ℕ) → k ≤ length lists → slice_index more k ≡ slice_index starts k
-  old k low = index-left starts end k (omega (arith, low, are.count))
-
-  new : (k : ℕ) → k ≡ suc (length lists) → slice_index more k ≡ end
-  new k at = index-behind starts end k (omega (arith, at, are.count))
-
-  below : (k : ℕ) → slice_index starts k ≤ length joined
-  below k = each-index (length joined) starts are.within k
-
-  within-more : Each (λ n. n ≤ length (joined ++ list)) more
-  within-more =
-      each-push (λ n. n ≤ length (joined ++ list)) starts end
-      (each-to (λ n. n ≤ length joined) (λ n. n ≤ length (joined ++ list)) (λ n low. omega (arith, low, length-append joined list)) starts are.within) (omega (arith, end_is, length-append joined list))
-
-  rising-more : (j : ℕ) → j < suc (length lists) → slice_index more j ≤ slice_index more (suc j)
-  rising-more j low = elim (cases_eq j (length lists)) [
-    | inl same ↦ omega (arith, old j (omega (arith, low)), new (suc j) (omega (arith, same)), below j, end_is)
-    | inr apart ↦ omega (arith, old j (omega (arith, low)), old (suc j) (omega (arith, low, apart)), are.rising j (omega (arith, low, apart)))
-  ]
-
-  among-more : (j k : ℕ) (own : List ℕ) → (slice_get lists j ≡ Some own) ⊎ ((j ≡ length lists) × (list ≡ own)) → IsListed own k → IsAmongChildren more (joined ++ list) j k
-  among-more j k own (inl at) listed =
-      let inside : j < length lists = slice_get_within lists j own at in
-      let is = are.among j k own at listed in record {
-        place = is.place;
-        low = omega (arith, is.low, old j (omega (arith, inside)));
-        high = omega (arith, is.high, old (suc j) (omega (arith, inside)));
-        is = get_or_append_left joined list 0 is.place (omega (arith, is.high, below (suc j))) ∙ is.is;
-      }
-  among-more j k own (inr (last, same)) listed =
-      let from : slice_index more j ≡ length joined = old j (omega (arith, last)) ∙ (ap (slice_index starts) last ∙ are.last) in record {
-        place = length joined + listed.place;
-        low = omega (arith, from);
-        high = omega (arith, new (suc j) (omega (arith, last)), end_is, listed.within, ap length same);
-        is = get_or-append-add joined list listed.place 0 ∙ (ap (λ xs. slice_index xs listed.place) same ∙ listed.is);
-      }
-
-  pub joined-more : AreJoined (lists ++ list ∷ []) more (joined ++ list)
-  joined-more = record {
-    count = omega (arith, are.count, length-push lists list, length-push starts end);
-    last = new (length (lists ++ list ∷ [])) (length-push lists list) ∙ (end_is ∙ sym (length-append joined list));
-    rising = λ j low. rising-more j (omega (arith, low, length-push lists list));
-    within = within-more;
-    among = λ j k own at listed. among-more j k own (get-push lists list j own at) listed;
-    only = λ bound all.
-        each-append (λ k. k < bound) joined list (are.only bound (λ j own at. all j own (get-left lists (list ∷ []) j own at))) (all (length lists) list (get-behind lists list));
-  }
-
--- one more of the lists of a table
-pub join-step : (lists : List (Vec ℕ Global)) (i : ℕ) (v : Vec ℕ Global) (starts joined starts' joined' : List ℕ) (end : ℕ) (items : List ℕ) → slice_get lists i ≡ Some v → items ≡ v.items → joined' ≡ joined ++ items → starts' ≡ starts ++ end ∷ [] →
-    end ≡ length joined' → AreJoined (map numbers (take i lists)) starts joined → AreJoined (map numbers (take (i + 1) lists)) starts' joined'
-join-step lists i v starts joined starts' joined' end items at own more_joined more_starts end_is are =
-    let next : suc i ≡ i + 1 = omega arith in
-    let all : joined' ≡ joined ++ v.items = more_joined ∙ ap (λ xs. joined ++ xs) own in
-    let count : end ≡ length joined + length v.items = end_is ∙ (ap length all ∙ length-append joined v.items) in
-    let taken : map numbers (take (i + 1) lists) ≡ map numbers (take i lists) ++ v.items ∷ [] =
-    ap (λ n. map numbers (take n lists)) (sym next) ∙ (ap (map numbers) (take-get lists i v at) ∙ map-append numbers (take i lists) (v ∷ [])) in
-    subst (λ ls. AreJoined ls starts' joined') (sym taken)
-    (subst (λ ss. AreJoined (map numbers (take i lists) ++ v.items ∷ []) ss joined') (sym more_starts)
-    (subst (λ js. AreJoined (map numbers (take i lists) ++ v.items ∷ []) (starts ++ end ∷ []) js) (sym all) (joined-more (map numbers (take i lists)) starts joined v.items end are count)))
+-- the literals that wake nodes are there
+pub waking-owners : (nodes : List Node) (literals : ℕ) → AreWakeable nodes literals → AreOwners (waking_literals nodes) literals
+waking-owners nodes literals wakeable k number at =
+    let (node, there, wakes) = map-get (λ (x : Node). waking_literal x.kind) nodes k (Some number) at in
+    wakeable.known k number node there wakes
 
 -- the whole table
-pub wakes-sound : (nodes : List Node) (literals : ℕ) (wakes : WakeTable) (lists : List (List ℕ)) → AreWakeable nodes literals → AreNodesOfLiterals nodes literals (length nodes) lists → AreJoined lists wakes.literal_starts.items wakes.literal_nodes.items →
+pub wakes-sound : (nodes : List Node) (literals : ℕ) (wakes : WakeTable) → AreWakeable nodes literals → AreGroups (waking_literals nodes) literals wakes.literal_starts.items wakes.literal_nodes.items →
     AreFirstEngines nodes (length nodes) wakes.first_engines.items → AreWakesSound nodes wakes literals
-wakes-sound nodes literals wakes lists wakeable of are engines = record {
-  starts_count = are.count ∙ ap suc of.count_is;
-  rising = λ number low. are.rising number (omega (arith, low, of.count_is));
-  within = λ number low. each-index (length wakes.literal_nodes.items) wakes.literal_starts.items are.within (suc number);
-  by_literal = each-below (length nodes) wakes.literal_nodes.items (are.only (length nodes) of.known);
-  engines = each-below (length nodes) wakes.first_engines.items engines.known;
-  woken = λ k number node there woken.
-      let (list, at) = get-read lists number (omega (arith, wakeable.known k number node there woken, of.count_is)) in
-      are.among number k list at (of.woken k number node list (slice_get_within nodes k node there) there woken at);
-  entered = λ k number null node there kind_is no_parent.
-      engines.all k node (slice_get_within nodes k node there) there (ap (is_first_engine node.kind) no_parent ∙ ap (λ kind. is_first_engine kind None) kind_is);
-  behind = wakeable.behind;
-}
+wakes-sound nodes literals wakes wakeable groups engines =
+    let owners = waking_literals nodes in
+    let starts = wakes.literal_starts.items in
+    let list = wakes.literal_nodes.items in record {
+      starts_count = groups.count_is;
+      rising = λ number low. groups.rising number (suc number) (omega arith) (omega (arith, low));
+      within = λ number low. omega (arith, groups.rising (suc number) literals (omega (arith, low)) (omega arith), groups.last);
+      by_literal = λ i low.
+          let own = grouped owners literals starts list groups i low in
+          omega (arith, slice_get_within owners (slice_index list i) (Some own.k) own.owner, length-map nodes (λ (x : Node). waking_literal x.kind));
+      engines = each-below (length nodes) wakes.first_engines.items engines.known;
+      woken = λ k number node there woken.
+          let own = listed owners literals starts list groups k number (wakeable.known k number node there woken) (get-map (λ (x : Node). waking_literal x.kind) nodes k node there ∙ ap Some woken) in
+          record { place = own.place; low = own.low; high = own.high; is = own.is };
+      entered = λ k number null node there kind_is no_parent.
+          engines.all k node (slice_get_within nodes k node there) there (ap (is_first_engine node.kind) no_parent ∙ ap (λ kind. is_first_engine kind None) kind_is);
+      behind = wakeable.behind;
+    }
 
 pub wakes-same : (nodes nodes' : List Node) (literals literals' : ℕ) (wakes wakes' : WakeTable) → nodes ≡ nodes' → wakes ≡ wakes' → literals ≡ literals' → AreWakesSound nodes wakes literals → AreWakesSound nodes' wakes' literals'
 wakes-same nodes nodes' literals literals' wakes wakes' one two three sound =

@@ -1,10 +1,17 @@
-use Rattle.std.proofs.Common.{ℕ, List, Vec, Global, map, subst}
-use Rattle.hs_compile.specs.GraphWakes.{AreJoined, numbers}
-use Rattle.hs_compile.proofs.WakeLemmas.{wakes-sound}
+use Rattle.std.proofs.Common.{◌≡◌, sym, subst, ◌∙◌}
+use Rattle.hs_compile.specs.GraphWakes.{waking_literals}
+use Rattle.hs_forest.specs.Groups.{AreGroups, AreOwners}
+use Rattle.hs_compile.proofs.WakeLemmas.{waking-owners, wakes-sound}
 use Rattle.hs_compile.proofs.graph_wakes.wake_table.Goals as goal
+
+pub group-requires : goal.group-requires
+group-requires c =
+    let are : c.deref.result.now ≡ waking_literals c.args.nodes.now = c.deref.ensures.value ∙ c.in_ok-wakers.ensures in
+    subst (λ os. AreOwners os c.args.literals) (sym are) (waking-owners c.args.nodes.now c.args.literals c.requires)
 
 pub returns : goal.returns
 returns c =
-    wakes-sound c.args.nodes.now c.args.literals _ (map numbers c.in_ok-lists.lists.items) c.requires c.in_ok-lists.ensures
-    (subst (λ (ls : List (Vec ℕ Global)). AreJoined (map numbers ls) c.in_ok-literal_starts.literal_starts.items c.in_ok-literal_starts.literal_nodes.items) c.deref.ensures.value c.in_ok-literal_starts.ensures)
+    let are : c.deref.result.now ≡ waking_literals c.args.nodes.now = c.deref.ensures.value ∙ c.in_ok-wakers.ensures in
+    wakes-sound c.args.nodes.now c.args.literals _ c.requires
+    (subst (λ os. AreGroups os c.args.literals c.in_ok-groups.groups.starts.items c.in_ok-groups.groups.list.items) are c.in_ok-groups.ensures)
     c.in_ok-first_engines.ensures
