@@ -17,7 +17,8 @@ use Rattle.hs_nodes.specs.declared.table.Node.{Node}
 use Rattle.hs_nodes.specs.declared.table.NodeKind.{NodeKind}
 use Rattle.hs_nodes.specs.declared.table.NodeKind.TheVariants.{Engine, Literal, FirstLiteral, LookBack}
 use Rattle.hs_reports.specs.Gathering.{AreOfNode}
-use Rattle.hs_reports.specs.Identifiers.{numbers_of, singles_of}
+use Rattle.hs_reports.specs.Identifiers.{numbers_of}
+pub use Rattle.hs_reports.specs.Identifiers.{singles_of, with_single}
 use Rattle.hs_reports.specs.Terminals.{AreTerminals}
 use Rattle.hs_reports.specs.declared.identifier.Identifier.{Identifier}
 use Rattle.hs_nodes.specs.declared.graph.FieldCopy.{FieldCopy}
