@@ -196,7 +196,7 @@ p <1:/foo.*bar/;2:/o$/;>
 p <15:/[0-9]+foo[a-z]*bar/> in <open s;write s 2;1f;write s 3;oox;write s 2;ba;write s 1;r;>
  = 0 <compiled 1 53;ok open s;ok write s 2;ok write s 3;ok write s 2;s 15 8;ok write s 1;>
 # A stretch of 1,000 bytes in three writes, and one of 999.
-p <7:/x.{1000}y/s> pieces 7,1000
+run <hs_tool compile p d;hs_tool stream d> p <7:/x.{1000}y/s> pieces 7,1000
 in <open s;write s 500;x%(499)a;write s 501;%(501)a;write s 1;y;close s;>
  = 0 <compiled 1 44;ok open s;ok write s 500;ok write s 501;s 7 1002;ok write s 1;ok close s;>
 in <open s;write s 500;x%(499)a;save s f;expand t f;write t 501;%(501)a;save t f;expand u f;write u 1;y;close s;>
