@@ -14,6 +14,7 @@ pub struct ByteSet {
 impl ByteSet {
     ghost use Rattle.std.specs.Prelude.{◌≡◌, ℕ, ◌<◌, ◌==◌, ◌||◌, not, true, false};
     ghost use Rattle.hs_base.specs.ByteSets.{has, members, members_from, bytes_where, is_digit, is_space};
+    ghost use Rattle.hs_base.specs.Bits.{has_word_bit};
     ghost use Rattle.hs_base.specs.Assertions.{line_feed, is_word_byte};
     ghost use Rattle.hs_base.specs.Members.{members_left};
 
@@ -61,11 +62,21 @@ impl ByteSet {
     }
 
     /// Whether the byte is a member.
+    #[inline(always)]
     #[tactic(auto, using(std::proofs::lemmas::Nat::Bits::shr_and_one), unfolding(crate::specs::ByteSets::has))]
     pub fn contains(&self, byte: u8) -> bool
         ensures { result ≡ has self.now byte }
     {
         (self.words[byte as usize / 64] >> (byte % 64)) & 1 == 1
+    }
+
+    /// The members as bits: byte `b` is bit `b % 64` of word `b / 64`.
+    #[inline]
+    #[tactic(auto, unfolding(crate::specs::ByteSets::has, crate::specs::Bits::has_word_bit))]
+    pub fn words(&self) -> [u64; 4]
+        ensures { (b : ℕ) → has_word_bit result b ≡ has self.now b }
+    {
+        self.words
     }
 
     /// Adds a byte.

@@ -1,5 +1,6 @@
 pub mod BitRangeLemmas
 pub mod LowestLemmas
+pub mod MemberLemmas
 pub mod NextLemmas
 pub mod UnionLemmas
 pub mod WordLemmas

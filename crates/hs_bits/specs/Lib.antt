@@ -1,4 +1,5 @@
 pub mod BitRanges
 pub mod LowestBits
+pub mod MemberPlaces
 pub mod NextBits
 pub mod Shifts

@@ -3,6 +3,7 @@
 
 mod bytes;
 mod lowest;
+mod members;
 mod next;
 mod ranges;
 mod words;
@@ -11,6 +12,7 @@ pub use bytes::{
     BYTE_BITS, clear_bits, clear_live, contains_bit, insert_bit, is_zero, unite_bits, write_bit,
 };
 pub use lowest::{lowest_bit, without_lowest_bit};
+pub use members::member_places;
 pub use next::{next_bit_in, next_bit_in_either};
 pub use ranges::{has_bit_in, has_bit_round};
 pub use words::{

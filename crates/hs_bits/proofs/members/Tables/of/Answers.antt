@@ -1,0 +1,7 @@
+use Rattle.std.proofs.Common.{◌∙◌}
+use Rattle.hs_bits.proofs.MemberLemmas.{tables-tell}
+use Rattle.hs_bits.proofs.members.Tables.of.Goals as goal
+
+pub returns : goal.returns
+returns c b small =
+    tables-tell c.words-words.result c.table_of.result c.table_of-2.result b small c.table_of.ensures c.table_of-2.ensures ∙ c.words-words.ensures b
