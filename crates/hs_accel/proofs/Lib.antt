@@ -1,4 +1,2 @@
 pub mod FewLemmas
-pub mod NibbleLemmas
-pub mod LaneLemmas
 pub mod PlaceLemmas

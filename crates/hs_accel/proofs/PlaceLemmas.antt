@@ -1,12 +1,11 @@
--- Least places: moved behind a beginning, and found by the bits of a chunk.
-use Rattle.std.proofs.Common.{◌≡◌, ℕ, ◌+◌, ◌-◌, ◌^◌, ◌<◌, ◌≤◌, Bool, true, false, List, length, get_or, map, take, drop, Option, Some, None, refl, sym, ap, ◌∙◌, subst, arith, inl, inr, length-drop, Fits, w8, w64}
+-- Least places: moved behind a beginning, and found by the bits of a block.
+use Rattle.std.proofs.Common.{◌≡◌, ℕ, ◌+◌, ◌-◌, ◌^◌, ◌<◌, ◌≤◌, Bool, true, false, nat_lt, ◌&&◌, List, length, get_or, take, drop, Option, Some, None, refl, sym, ap, ◌∙◌, subst, arith, inl, inr, length-drop, eqb, Fits, w8}
 use Rattle.std.specs.Option.{option_map}
-use Rattle.std.specs.Int.Count.{count_trailing_zeros}
-use Rattle.std.specs.Simd.Lanes.{chunk, mask_l}
-use Rattle.std.proofs.lemmas.Simd.{trailing_mask_l, run_in_chunk_fails, run_in_chunk_stops, none_from_empty_mask, length-chunk, mask_l-lt}
-use Rattle.std.proofs.lemmas.Nat.Bits.{bit_at-trailing_zeros, bit_at_above}
-use Rattle.std.proofs.lemmas.Bool.{cases_lt}
-use Rattle.std.proofs.lemmas.List.{get_or-drop, length-map, take_rest}
+use Rattle.std.proofs.lemmas.Nat.Bits.{bit_at-zero}
+use Rattle.std.proofs.lemmas.Bool.{cases_lt, lt-ltb, le-ltb}
+use Rattle.std.proofs.lemmas.List.{get_or-drop, get_or-take, take_rest}
+use Rattle.hs_bits.specs.LowestBits.{IsLowestBit}
+use Rattle.hs_bits.specs.MemberPlaces.{ArePlacesOf}
 use Rattle.memchr.specs.Find.{IsFirstByte}
 use Rattle.hs_accel.specs.Places.{NonePasses, IsFirstAt, IsLeastPlace}
 use Rattle.hs_accel.specs.Sets.{AreAlike}
@@ -38,38 +37,50 @@ first_behind p q bytes from (Some at) within fit alike first =
           alike x (fit k).fits ∙ else_false (q x) (λ t. first.0.before (k - from) (omega arith) (omega arith) (ap q (at_rest bytes from k low) ∙ t));
     }
 
--- a chunk with no bit set
-pub none_in_chunk : (p q : ℕ → Bool) (bytes : List ℕ) (from at m : ℕ) → at + 16 ≤ length bytes → AreBytes bytes → AreAlike p q → NonePasses q bytes from at → m ≡ mask_l (map p (chunk at 16 bytes)) → m ≡ 0
-    → NonePasses q bytes from (at + 16)
-none_in_chunk p q bytes from at m room fit alike none is empty k low high =
+-- the places of up to 64 bytes from one on
+
+byte-there : (bytes : List ℕ) (at end k : ℕ) → at ≤ k → k < end → get_or (take (end - at) (drop at bytes)) (k - at) 0 ≡ get_or bytes k 0
+byte-there bytes at end k low high = get_or-take (end - at) (drop at bytes) (k - at) 0 (omega arith) ∙ at_rest bytes at k low
+
+-- none of them is a place of the set
+pub none-in_block : (test : ℕ → Bool) (bytes : List ℕ) (from at end count : ℕ) → count ≡ end - at → NonePasses test bytes from at →
+    ArePlacesOf test (take (end - at) (drop at bytes)) count 0 → NonePasses test bytes from end
+none-in_block test bytes from at end count is none places k low high =
     elim (cases_lt k at) [
       | inl before ↦ none k low before
-      | inr behind ↦ sym (alike (get_or bytes k 0) (fit k).fits) ∙ none_from_empty_mask p bytes at 16 0 room (sym is ∙ empty) k (omega arith) high
+      | inr behind ↦
+          let x : Bool = test (get_or (take (end - at) (drop at bytes)) (k - at) 0) in
+          let unset : (nat_lt (k - at) count && x) ≡ false = sym (places (k - at)) ∙ ap (λ n. eqb n 1) (bit_at-zero (k - at)) in
+          sym (ap test (byte-there bytes at end k behind high)) ∙ (sym (ap (λ t. t && x) (lt-ltb (k - at) count (omega (arith, is)))) ∙ unset)
     ]
 
--- the lowest bit that is set
-pub first_in_chunk : (p q : ℕ → Bool) (bytes : List ℕ) (from at m : ℕ) → from ≤ at → at + 16 ≤ length bytes → AreBytes bytes → AreAlike p q → NonePasses q bytes from at → m ≡ mask_l (map p (chunk at 16 bytes)) → 0 < m
-    → IsFirstAt q bytes from (length bytes) (at + count_trailing_zeros 64 m)
-first_in_chunk p q bytes from at m low room fit alike none is some =
-    let long : length (chunk at 16 bytes) ≡ 16 = length-chunk at 16 bytes room in
-    let small : m < 2 ^ 16 = subst (λ n. n < 2 ^ 16) (sym is) (subst (λ n. mask_l (map p (chunk at 16 bytes)) < 2 ^ n) (length-map (chunk at 16 bytes) p ∙ long) (mask_l-lt (map p (chunk at 16 bytes)))) in
-    let r = count_trailing_zeros 64 m in
-    let wide : m < 2 ^ 64 = omega arith in
-    let lowest = bit_at-trailing_zeros w64 m some wide in
-    let within : r < 16 =
-    elim (cases_lt r 16) [
-      | inl l ↦ l
-      | inr g ↦ absurd (omega (arith, bit_at_above m 16 r small g, lowest.1))
-    ] in
-    let counted = ap (count_trailing_zeros 64) is ∙ trailing_mask_l p 64 (chunk at 16 bytes) (omega arith) (subst (λ n. 0 < n) is some) in
+within-count : (i count : ℕ) (x : Bool) → (nat_lt i count && x) ≡ true → i < count
+within-count i count x is =
+    elim (cases_lt i count) [
+      | inl below ↦ below
+      | inr above ↦ absurd (let f : false ≡ true = sym (ap (λ t. t && x) (le-ltb i count above)) ∙ is in cc)
+    ]
+
+-- the lowest of them is the first
+pub first-in_block : (test : ℕ → Bool) (bytes : List ℕ) (from at end count places place : ℕ) → from ≤ at → end ≤ length bytes → count ≡ end - at → NonePasses test bytes from at →
+    ArePlacesOf test (take (end - at) (drop at bytes)) count places → IsLowestBit places place → IsFirstAt test bytes from (length bytes) (at + place)
+first-in_block test bytes from at end count places place low room is none are lowest =
+    let slice : List ℕ = take (end - at) (drop at bytes) in
+    let set : (nat_lt place count && test (get_or slice place 0)) ≡ true = sym (are place) ∙ ap (λ n. eqb n 1) lowest.is in
+    let within : place < count = within-count place count (test (get_or slice place 0)) set in
+    let e : at + place - at ≡ place = omega arith in
+    let here : test (get_or slice place 0) ≡ true = sym (ap (λ t. t && test (get_or slice place 0)) (lt-ltb place count within)) ∙ set in
     record {
       low = omega arith;
-      high = omega arith;
-      passes = sym (alike (get_or bytes (at + r) 0) (fit (at + r)).fits) ∙ run_in_chunk_stops p bytes at 16 r 0 room counted within;
+      high = omega (arith, is);
+      passes = ap test (sym (byte-there bytes at end (at + place) (omega arith) (omega (arith, is))) ∙ ap (λ n. get_or slice n 0) e) ∙ here;
       least = λ k low' high.
           elim (cases_lt k at) [
             | inl before ↦ none k low' before
-            | inr behind ↦ sym (alike (get_or bytes k 0) (fit k).fits) ∙ run_in_chunk_fails p bytes at 16 r 0 room counted k (omega arith) high
+            | inr behind ↦
+                let x : Bool = test (get_or slice (k - at) 0) in
+                let unset : (nat_lt (k - at) count && x) ≡ false = sym (are (k - at)) ∙ ap (λ n. eqb n 1) (lowest.lowest (k - at) (omega arith)) in
+                sym (ap test (byte-there bytes at end k behind (omega (arith, is)))) ∙ (sym (ap (λ t. t && x) (lt-ltb (k - at) count (omega arith))) ∙ unset)
           ];
     }
 

@@ -1,6 +1,5 @@
--- The two other forms of a set of bytes: its members by name, and two tables by the low half of a byte.
-use Rattle.std.specs.Prelude.{◌≡◌, ℕ, ◌/◌, ◌%◌, ◌<◌, Bool, false, ◌==◌, nat_lt, List, slice_index, if◌then◌else◌}
-use Rattle.std.specs.Int.{bit_at}
+-- A set of bytes by the names of its members.
+use Rattle.std.specs.Prelude.{◌≡◌, ℕ, ◌<◌, Bool, false}
 use Rattle.memchr.specs.Find.{is_byte, is_byte2, is_byte3}
 use Rattle.hs_accel.specs.declared.few.Few.{Few}
 use Rattle.hs_accel.specs.declared.few.Few.TheVariants as few
@@ -16,7 +15,3 @@ IsFewOf test (few.One a) = AreAlike test (is_byte a)
 IsFewOf test (few.Two a b) = AreAlike test (is_byte2 a b)
 IsFewOf test (few.Three a b c) = AreAlike test (is_byte3 a b c)
 IsFewOf test few.Many = Unit {0}
-
--- the bit of a byte in the first table, or in the second one from 128 on
-abbrev pub in_nibbles : (first second : List ℕ) → ℕ → Bool
-in_nibbles first second b = bit_at (slice_index (if nat_lt b 128 then first else second) (b % 16)) (b / 16 % 8) == 1

@@ -4,12 +4,10 @@ ghost use Rattle.std.specs.Prelude.{◌≡◌, ◌≤◌, ◌<◌, ◌+◌, ◌^
 ghost use Rattle.std.specs.Option.{option_map};
 ghost use Rattle.hs_base.specs.ByteSets.{has};
 ghost use Rattle.hs_accel.specs.Places.{IsLeastPlace, IsFirstOf};
-ghost use Rattle.hs_accel.specs.Sets.{in_nibbles};
 
 use crate::few::{Few, few_of};
-use crate::lanes::{LANES, marks};
-use crate::nibbles::Nibbles;
 use hs_base::ByteSet;
+use hs_bits::{WORD_BITS, lowest_bit, member_places};
 use memchr::{memchr, memchr2, memchr3};
 
 /// How many bytes are looked at one by one before the set is looked through: a hit is often near.
@@ -42,7 +40,7 @@ fn far(set: &ByteSet, bytes: &[u8], from: usize) -> Option<usize>
         Few::Three(first, second, third) => {
             behind(memchr3(first, second, third, rest), rest, from)
         }
-        Few::Many => first_by_lanes(set, &Nibbles::of(set), bytes, from),
+        Few::Many => first_by_blocks(set, bytes, from),
     }
 }
 
@@ -55,21 +53,21 @@ fn behind(place: Option<usize>, rest: &[u8], start: usize) -> Option<usize>
     place.map(|at| start + at)
 }
 
-/// The least place at or after `from`, by lanes, and byte by byte where fewer bytes are left than there are lanes.
-fn first_by_lanes(set: &ByteSet, nibbles: &Nibbles, bytes: &[u8], from: usize) -> Option<usize>
-    requires within { from ≤ length bytes.now }
-    requires alike { (b : ℕ) → b < 256 → in_nibbles nibbles.now.first nibbles.now.second b ≡ has set.now b }
+/// The least place at or after `from`, by up to 64 bytes at a time.
+fn first_by_blocks(set: &ByteSet, bytes: &[u8], from: usize) -> Option<usize>
+    requires { from ≤ length bytes.now }
     ensures { IsLeastPlace (has set.now) bytes.now from result }
 {
     let mut at = from;
-    while bytes.len() - at >= LANES {
-        let marked = marks(nibbles, bytes, at);
-        if marked != 0 {
-            return Some(at + marked.trailing_zeros() as usize);
+    while at < bytes.len() {
+        let end = at + (bytes.len() - at).min(WORD_BITS);
+        let places = member_places(set, &bytes[at..end]);
+        if places != 0 {
+            return Some(at + lowest_bit(places));
         }
-        at += LANES;
+        at = end;
     }
-    first_plain(set, bytes, at, bytes.len())
+    None
 }
 
 /// The first place from one on and before another, byte by byte.

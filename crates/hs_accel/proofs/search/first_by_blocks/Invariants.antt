@@ -1,7 +1,7 @@
 use Rattle.std.proofs.Common.{◌≤◌, ◌-◌, length}
 use Rattle.hs_base.specs.ByteSets.{has}
 use Rattle.hs_accel.specs.Places.{NonePasses}
-use Rattle.hs_accel.proofs.search.first_by_lanes.Given as goal
+use Rattle.hs_accel.proofs.search.first_by_blocks.Given as goal
 
 abbrev pub invariant-loop-at : goal.invariant-loop-at
 invariant-loop-at l = (l.from ≤ l.at) × (l.at ≤ length l.bytes) × NonePasses (has l.set) l.bytes l.from l.at

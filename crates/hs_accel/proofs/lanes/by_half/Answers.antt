@@ -1,5 +1,0 @@
-use Rattle.hs_accel.proofs.LaneLemmas.{half_lanes}
-use Rattle.hs_accel.proofs.lanes.by_half.Goals as goal
-
-pub returns : goal.returns
-returns c = half_lanes c.args.lanes c.args.first c.args.second 16 c.fits-lanes.0
