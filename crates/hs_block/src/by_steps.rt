@@ -5,6 +5,7 @@ ghost use Rattle.hs_base.specs.declared.context.Next.{Next};
 ghost use Rattle.hs_base.specs.declared.context.Prev.{Prev};
 ghost use Rattle.hs_base.specs.Bits.{AreZero};
 ghost use Rattle.hs_base.specs.ByteSets.{has};
+ghost use Rattle.hs_base.specs.Contexts.{class_of};
 ghost use Rattle.hs_base.specs.ContextSets.{has_next};
 ghost use Rattle.hs_engine.specs.Engines.{IsQuiet, IsStart, TellsLeaves};
 ghost use Rattle.hs_block.specs.WordBits.{count_set, word_bit};
@@ -64,7 +65,7 @@ impl Progress {
     {
         let byte = bytes[self.place];
         let here = at + self.place as u64;
-        let ending = self.left.contains(Next::class_of(byte));
+        let ending = is_left_before(self.left, byte);
         self.ends.before = with_place(self.ends.before, self.place, ending);
         let enter = entering(contains_place(enters, self.place));
         engine.step(region, self.behind, here, enter, byte, steps);
@@ -113,6 +114,20 @@ impl Progress {
         steps.tick_by(count_places(enters, self.place, to));
         self.behind = Prev::behind(bytes[to - 1]);
         self.place = to;
+    }
+}
+
+/// Whether that byte may come next. Nothing and everything are told without its class.
+#[inline(always)]
+fn is_left_before(left: NextSet, byte: u8) -> bool
+    ensures { result ≡ has_next left (class_of byte) }
+{
+    if left == NextSet::empty() {
+        false
+    } else if left == NextSet::all() {
+        true
+    } else {
+        left.contains(Next::class_of(byte))
     }
 }
 

@@ -33,7 +33,7 @@ returns-clause-runs g c first prev ticks run =
       quiet = c.at_rest-self.ensures.quiet;
       silent = c.left_behind-self.ensures.silent;
       before_bits =
-          bits-as c.with_place-self.result p.ends.before p.place c.contains-ending.result p.left c.class_of.result (class_of b) c.with_place-self.ensures c.contains-ending.ensures c.class_of.ensures;
+          bits-as c.with_place-self.result p.ends.before p.place c.is_left_before-ending.result p.left (class_of b) (class_of b) c.with_place-self.ensures c.is_left_before-ending.ensures refl;
       behind_bits =
           bits-as c.with_place-self-2.result p.ends.behind p.place c.contains-ended.result c.left_behind-self.result after.Unknown after.Unknown c.with_place-self-2.ensures c.contains-ended.ensures refl;
     })
