@@ -257,8 +257,8 @@ fn assertion_bits(assertion: Assertion) -> u32
 fn is_word(byte: u8) -> bool
     ensures { result ≡ is_word_byte byte }
 {
-    match byte {
-        b'A'..=b'Z' | b'a'..=b'z' | b'0'..=b'9' | b'_' => true,
-        _ => false,
-    }
+    let digit = (b'0' <= byte) & (byte <= b'9');
+    let upper = (b'A' <= byte) & (byte <= b'Z');
+    let lower = (b'a' <= byte) & (byte <= b'z');
+    digit | upper | lower | (byte == b'_')
 }

@@ -1,5 +1,6 @@
 pub mod PlaceLemmas
 pub mod BlockLemmas
+pub mod CountLemmas
 pub mod RunLemmas
 pub mod HandingLemmas
 pub mod LiteralWordLemmas

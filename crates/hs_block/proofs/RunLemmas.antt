@@ -11,17 +11,18 @@ use Rattle.hs_base.specs.Bits.{AreZero}
 use Rattle.hs_base.specs.Contexts.{class_of, prev_at, prev_by}
 use Rattle.hs_base.specs.ContextSets.{has_next}
 use Rattle.hs_base.specs.Trees.{Tree}
-use Rattle.hs_base.proofs.BitLemmas.{same-zero}
-use Rattle.hs_engine.specs.Engines.{Meaning, TellsLeaves, IsQuiet}
+use Rattle.hs_base.specs.declared.byte_set.ByteSet.{ByteSet}
+use Rattle.hs_base.specs.ByteSets.{has}
+use Rattle.hs_engine.specs.Engines.{Meaning, AreWakers, IsQuiet, IsStart, LeavesNothing, Stays, TellsLeaves}
 use Rattle.hs_block.specs.declared.by_steps.Progress.{Progress}
-use Rattle.hs_block.specs.WordBits.{word_bit, bits_of, Marks, count_below}
+use Rattle.hs_block.specs.WordBits.{word_bit, bits_of, Marks, count_below, count_set}
 use Rattle.hs_block.specs.Scans.{IsLeftBefore, IsLeftBehind}
-use Rattle.hs_block.specs.Blocks.{IsFieldOf, IsBlockRun, is_blank, is_busy}
-use Rattle.hs_block.specs.Rests.{is_busy_at, IsIdle}
+use Rattle.hs_block.specs.Blocks.{IsEnteredThroughout, IsFieldOf, IsBlockRun, is_blank, is_busy}
+use Rattle.hs_block.specs.Rests.{is_busy_at, IsAsleepOver}
 use Rattle.hs_block.specs.Progress.{IsRunTo}
 use Rattle.std.proofs.lemmas.List.{append-nil, take_all}
 use Rattle.hs_block.proofs.PlaceLemmas.{or-false, bit-none}
-use Rattle.hs_block.proofs.BlockLemmas.{block-more, entered-more, length-block, length-entered, prev-next, marks-more, count-same, count-more}
+use Rattle.hs_block.proofs.BlockLemmas.{block-more, entered-more, length-block, length-entered, prev-next, marks-more, count-same, count-more, or-none}
 
 -- regions up to a place, and another from there on
 extended : (ℕ → List ℕ) → ℕ → List ℕ → ℕ → List ℕ
@@ -36,7 +37,7 @@ unfolding extended
 extended-above parts n new i above = elim (cases_lt n i) as (λ s. elim s [ inl above ↦ new | inr low ↦ parts i ] ≡ new) [ inl above ↦ refl | inr low ↦ absurd (omega arith) ]
 
 -- What taking one byte of a block shows.
-pub record IsByteTaken (m : Meaning) (region new : List ℕ) (at enters : ℕ) (bytes : List ℕ) (p : Progress) (behind : Prev) (left : NextSet) (before' behind' spent : ℕ) : Type 0 where
+pub record IsByteTaken (m : Meaning) (region new : List ℕ) (at enters : ℕ) (bytes : List ℕ) (p : Progress) (behind : Prev) (rests : Bool) (left : NextSet) (before' behind' spent : ℕ) : Type 0 where
   pub within : p.place < length bytes
   pub len : length new ≡ m.width
   pub well : m.well new (at + (p.place + 1))
@@ -46,7 +47,9 @@ pub record IsByteTaken (m : Meaning) (region new : List ℕ) (at enters : ℕ) (
       m.field new tree (u ++ get_or bytes p.place 0 ∷ []) (entered ++ word_bit enters p.place ∷ [])
   pub behind_is : behind ≡ prev_by (eqb (get_or bytes p.place 0) line_feed) (is_word_byte (get_or bytes p.place 0))
   pub left_is : TellsLeaves m new behind (at + (p.place + 1)) left
-  pub rests : m.always ≡ false → AreZero new → (next : Next) → has_next left next ≡ false
+  pub rests_are : m.always ≡ false → IsTrue rests ↔ AreZero new
+  pub quiet : IsTrue rests → IsQuiet m new
+  pub silent : IsTrue rests → (next : Next) → has_next left next ≡ false
   pub before_bits : (j : ℕ) → word_bit before' j ≡ ((eqb j p.place && has_next p.left (class_of (get_or bytes p.place 0))) || word_bit p.ends.before j)
   pub behind_bits : (j : ℕ) → word_bit behind' j ≡ ((eqb j p.place && has_next left after.Unknown) || word_bit p.ends.behind j)
 
@@ -63,20 +66,20 @@ history m first region prev at enters bytes p ticks run tree u entered is = reco
 }
 
 -- the field behind one more byte
-field-next : (m : Meaning) (first region new : List ℕ) (prev : Prev) (at enters : ℕ) (bytes : List ℕ) (p : Progress) (ticks : ℕ) (behind : Prev) (left : NextSet) (before' behind' spent : ℕ) →
-    IsRunTo m first region prev at enters bytes p ticks → IsByteTaken m region new at enters bytes p behind left before' behind' spent →
+field-next : (m : Meaning) (first region new : List ℕ) (prev : Prev) (at enters : ℕ) (bytes : List ℕ) (p : Progress) (ticks : ℕ) (behind : Prev) (rests : Bool) (left : NextSet) (before' behind' spent : ℕ) →
+    IsRunTo m first region prev at enters bytes p ticks → IsByteTaken m region new at enters bytes p behind rests left before' behind' spent →
     (tree : Tree) (u : List ℕ) (entered : List Bool) → IsFieldOf m first prev at tree u entered →
     m.field new tree (u ++ take (p.place + 1) bytes) (entered ++ bits_of enters (p.place + 1))
-field-next m first region new prev at enters bytes p ticks behind left before' behind' spent run taken tree u entered is =
+field-next m first region new prev at enters bytes p ticks behind rests left before' behind' spent run taken tree u entered is =
     subst (λ w. m.field new tree w (entered ++ bits_of enters (p.place + 1))) (block-more u bytes p.place taken.within)
     (subst (λ v. m.field new tree ((u ++ take p.place bytes) ++ get_or bytes p.place 0 ∷ []) v) (entered-more entered enters p.place)
     (taken.takes tree (u ++ take p.place bytes) (entered ++ bits_of enters p.place) (history m first region prev at enters bytes p ticks run tree u entered is)))
 
 -- one more byte
-pub run-more : (m : Meaning) (first region new : List ℕ) (prev : Prev) (at enters : ℕ) (bytes : List ℕ) (p : Progress) (ticks : ℕ) (behind : Prev) (left : NextSet) (before' behind' spent : ℕ) →
-    IsRunTo m first region prev at enters bytes p ticks → IsByteTaken m region new at enters bytes p behind left before' behind' spent →
-    IsRunTo m first new prev at enters bytes (record { place = p.place + 1; behind = behind; left = left; ends = record { before = before'; behind = behind' } }) (ticks + spent)
-run-more m first region new prev at enters bytes p ticks behind left before' behind' spent run taken =
+pub run-more : (m : Meaning) (first region new : List ℕ) (prev : Prev) (at enters : ℕ) (bytes : List ℕ) (p : Progress) (ticks : ℕ) (behind : Prev) (rests : Bool) (left : NextSet) (before' behind' spent : ℕ) →
+    IsRunTo m first region prev at enters bytes p ticks → IsByteTaken m region new at enters bytes p behind rests left before' behind' spent →
+    IsRunTo m first new prev at enters bytes (record { place = p.place + 1; behind = behind; rests = rests; left = left; ends = record { before = before'; behind = behind' } }) (ticks + spent)
+run-more m first region new prev at enters bytes p ticks behind rests left before' behind' spent run taken =
     let n : ℕ = p.place in
     let parts : ℕ → List ℕ = extended run.parts n new in
     let low : (i : ℕ) → i ≤ n → parts i ≡ run.parts i = extended-low run.parts n new in
@@ -105,13 +108,13 @@ run-more m first region new prev at enters bytes p ticks behind left before' beh
           let one : count_below n (is_busy enters run.parts) ≡ count_below n (is_busy enters parts) = count-same n (is_busy enters run.parts) (is_busy enters parts) (λ i h. busy i (omega arith)) in
           let here : spent ≡ (if is_busy enters parts n then 1 else 0) = taken.spent_is ∙ ap (λ b. if b then 1 else 0) (sym busy_here) in
           omega (arith, run.ticks_are, one, here, count-more n (is_busy enters parts));
-      idle = λ i h rests.
+      idle = λ i h unmoved.
           elim (cases_lt i n) [
-            | inl below ↦ low (i + 1) (omega arith) ∙ (run.idle i below (busy i (omega arith) ∙ rests) ∙ sym (low i (omega arith)))
+            | inl below ↦ low (i + 1) (omega arith) ∙ (run.idle i below (busy i (omega arith) ∙ unmoved) ∙ sym (low i (omega arith)))
             | inr above ↦
                 let e : n ≡ i = omega arith in
                 subst (λ k. parts (k + 1) ≡ parts k) e
-                (last (n + 1) (omega arith) ∙ (taken.idle (sym busy_here ∙ subst (λ k. is_busy enters parts k ≡ false) (sym e) rests) ∙ sym there))
+                (last (n + 1) (omega arith) ∙ (taken.idle (sym busy_here ∙ subst (λ k. is_busy enters parts k ≡ false) (sym e) unmoved) ∙ sym there))
           ];
       fields = λ tree u entered is i h.
           elim (cases_lt n i) [
@@ -119,7 +122,7 @@ run-more m first region new prev at enters bytes p ticks behind left before' beh
                 let e : n + 1 ≡ i = omega arith in
                 subst (λ part. m.field part tree (u ++ take i bytes) (entered ++ bits_of enters i)) (sym (last i above))
                 (subst (λ k. m.field new tree (u ++ take k bytes) (entered ++ bits_of enters k)) e
-                (field-next m first region new prev at enters bytes p ticks behind left before' behind' spent run taken tree u entered is))
+                (field-next m first region new prev at enters bytes p ticks behind rests left before' behind' spent run taken tree u entered is))
             | inr below ↦ subst (λ part. m.field part tree (u ++ take i bytes) (entered ++ bits_of enters i)) (sym (low i below)) (run.fields tree u entered is i below)
           ];
       before_is = λ tree u entered is.
@@ -130,10 +133,12 @@ run-more m first region new prev at enters bytes p ticks behind left before' beh
           let e : length (u ++ take (n + 1) bytes) ≡ length u + (n + 1) = length-block u bytes (n + 1) (omega (arith, taken.within)) in
           marks-more n p.ends.behind behind' (IsLeftBehind tree u entered bytes enters) (has_next left after.Unknown) (run.behind_is tree u entered is) taken.behind_bits
           (taken.left_is tree (u ++ take (n + 1) bytes) (entered ++ bits_of enters (n + 1)) is.runs (omega (arith, is.count, e, length-entered entered enters (n + 1))) (omega (arith, is.offset, e))
-          (prev-next bytes u n behind taken.within taken.behind_is) (field-next m first region new prev at enters bytes p ticks behind left before' behind' spent run taken tree u entered is) after.Unknown);
+          (prev-next bytes u n behind taken.within taken.behind_is) (field-next m first region new prev at enters bytes p ticks behind rests left before' behind' spent run taken tree u entered is) after.Unknown);
       prev_is = λ u is. prev-next bytes u n behind taken.within taken.behind_is;
       left_is = taken.left_is;
-      rests = taken.rests;
+      rests = taken.rests_are;
+      quiet = taken.quiet;
+      silent = taken.silent;
     }
 
 -- an engine that counts as entered at every offset is entered here
@@ -178,34 +183,69 @@ live-busy false rests region is tells live = refl
 live-busy true rests region is tells live = absurd (let e : false ≡ true = sym live ∙ tells.1 (blank-zero region is) in cc)
 
 -- where it isn't at rest, it is busy
-pub awake-busy : (always bit rests : Bool) (region : List ℕ) → (always ≡ true → bit ≡ true) → bit ≡ false → (always ≡ false → IsTrue rests ↔ AreZero region) → rests ≡ false →
-    (bit || not (is_blank region)) ≡ true
-awake-busy always bit rests region set unset tells live =
-    ap (λ b. b || not (is_blank region)) unset ∙ live-busy (is_blank region) rests region refl (tells (never-always always bit set unset)) live
+pub awake-busy : (always bit rests : Bool) (region : List ℕ) → (always ≡ true → bit ≡ true) → (always ≡ false → IsTrue rests ↔ AreZero region) → rests ≡ false → (bit || not (is_blank region)) ≡ true
+awake-busy always true rests region set tells live = refl
+awake-busy always false rests region set tells live = live-busy (is_blank region) rests region refl (tells (never-always always false set refl)) live
+
+-- where it is at rest, but not over the byte, it is entered
+pub unstarted-busy : (always bit rests started : Bool) (region : List ℕ) → (always ≡ true → bit ≡ true) → (always ≡ false → IsTrue rests ↔ AreZero region) → rests ≡ true →
+    (always ≡ false → AreZero region → IsTrue started) → started ≡ false → (bit || not (is_blank region)) ≡ true
+unstarted-busy always true rests started region set tells at_rest whole none = refl
+unstarted-busy always false rests started region set tells at_rest whole none =
+    let never : always ≡ false = never-always always false set refl in
+    absurd (let e : false ≡ true = sym none ∙ whole never ((tells never).0 at_rest) in cc)
+
+pub entered-busy : (bit blank : Bool) → bit ≡ true → (bit || not blank) ≡ true
+entered-busy bit blank set = ap (λ b. b || not blank) set
 
 -- bytes over which nothing happens
+
+-- the region stays over a byte that wakes nothing, and over any before which the engine isn't entered
+stays-over : (m : Meaning) (set : ByteSet) (region : List ℕ) (byte : ℕ) (bit : Bool) → (m.always ≡ true → bit ≡ true) → AreWakers m set → IsStart m region → IsQuiet m region → byte < 256 →
+    (bit ≡ true → has set byte ≡ false) → Stays m region byte bit
+stays-over m set region byte true always wakers start quiet small none = (wakers region byte start small (none refl)).stays true
+stays-over m set region byte false always wakers start quiet small none = quiet.stays (never-always m.always false always refl) byte small
+
+pub asleep-over : (m : Meaning) (set : ByteSet) (region : List ℕ) (enters : ℕ) (bytes : List ℕ) (from end : ℕ) → AreWakers m set → IsStart m region → AreZero region → ((at : ℕ) → m.well region at) → IsQuiet m region →
+    IsEnteredThroughout m enters (length bytes) → end ≤ length bytes → ((i : ℕ) → get_or bytes i 0 < 256) →
+    ((i : ℕ) → from ≤ i → i < end → word_bit enters i ≡ true → has set (get_or bytes i 0) ≡ false) → IsAsleepOver m region enters bytes from end
+asleep-over m set region enters bytes from end wakers start zeros well quiet throughout within small none = record {
+  zero = zeros;
+  well = well;
+  leaves_nothing = quiet.leaves_nothing;
+  stays = λ i low high. stays-over m set region (get_or bytes i 0) (word_bit enters i) (λ always. throughout always i (omega arith)) wakers start quiet (small i) (none i low high);
+}
 
 unset-same : (a left word : Bool) → left ≡ false → word ≡ ((a && left) || word)
 unset-same a left word none = sym (ap (λ l. (a && l) || word) none ∙ or-false a word)
 
-idle-byte : (m : Meaning) (first region : List ℕ) (prev : Prev) (at enters : ℕ) (bytes : List ℕ) (p : Progress) (ticks : ℕ) → IsRunTo m first region prev at enters bytes p ticks →
-    m.always ≡ false → AreZero region → IsQuiet m region → word_bit enters p.place ≡ false → p.place < length bytes → get_or bytes p.place 0 < 256 → length region ≡ m.width → ((n : ℕ) → m.well region n) →
-    IsByteTaken m region region at enters bytes p (prev_by (eqb (get_or bytes p.place 0) line_feed) (is_word_byte (get_or bytes p.place 0))) p.left p.ends.before p.ends.behind 0
-idle-byte m first region prev at enters bytes p ticks run never zeros quiet unset below small len well =
+-- one that is entered or not
+one-if : Bool → ℕ
+one-if bit = if bit then 1 else 0
+
+asleep-byte : (m : Meaning) (first region : List ℕ) (prev : Prev) (at enters : ℕ) (bytes : List ℕ) (p : Progress) (ticks : ℕ) → IsRunTo m first region prev at enters bytes p ticks →
+    IsTrue p.rests → AreZero region → LeavesNothing m region → Stays m region (get_or bytes p.place 0) (word_bit enters p.place) → (m.always ≡ true → word_bit enters p.place ≡ true) → p.place < length bytes →
+    length region ≡ m.width → ((n : ℕ) → m.well region n) →
+    IsByteTaken m region region at enters bytes p (prev_by (eqb (get_or bytes p.place 0) line_feed) (is_word_byte (get_or bytes p.place 0))) p.rests p.left p.ends.before p.ends.behind (one-if (word_bit enters p.place))
+unfolding one-if
+asleep-byte m first region prev at enters bytes p ticks run rests zeros leaves_nothing stays always below len well =
     let b : ℕ = get_or bytes p.place 0 in
-    let none : (next : Next) → has_next p.left next ≡ false = run.rests never zeros in
+    let bit : Bool = word_bit enters p.place in
+    let none : (next : Next) → has_next p.left next ≡ false = run.silent rests in
     record {
       within = below;
       len = len;
       well = well (at + (p.place + 1));
-      spent_is = ap (λ t. if t then 1 else 0) (sym (ap (λ t. t || not (is_blank region)) unset ∙ ap not (zero-blank region zeros)));
-      idle = λ rests. refl;
+      spent_is = ap (λ t. if t then 1 else 0) (sym (ap (λ t. bit || not t) (zero-blank region zeros) ∙ or-none bit));
+      idle = λ unmoved. refl;
       takes = λ tree u entered is.
-          subst (λ t. m.field region tree (u ++ b ∷ []) (entered ++ t ∷ [])) (ap (λ a. a || false) never ∙ sym unset) (quiet.stays never b small tree u entered is.runs is.count is.field);
+          subst (λ t. m.field region tree (u ++ b ∷ []) (entered ++ t ∷ [])) (counts-bit m.always bit always) (stays tree u entered is.runs is.count is.field);
       behind_is = refl;
       left_is = λ tree u entered runs count offset behind field next.
-          ((λ is. absurd (let e : false ≡ true = sym (none next) ∙ is in cc)), (λ leaves. absurd (quiet.leaves_nothing tree u entered runs count field next leaves)));
-      rests = run.rests;
+          ((λ is. absurd (let e : false ≡ true = sym (none next) ∙ is in cc)), (λ leaves. absurd (leaves_nothing tree u entered runs count field next leaves)));
+      rests_are = run.rests;
+      quiet = run.quiet;
+      silent = run.silent;
       before_bits = λ j. unset-same (eqb j p.place) (has_next p.left (class_of b)) (word_bit p.ends.before j) (none (class_of b));
       behind_bits = λ j. unset-same (eqb j p.place) (has_next p.left after.Unknown) (word_bit p.ends.behind j) (none after.Unknown);
     }
@@ -215,60 +255,85 @@ on : Progress → (bytes : List ℕ) → ℕ → Progress
 on p bytes place = record {
   place = place + 1;
   behind = prev_by (eqb (get_or bytes place 0) line_feed) (is_word_byte (get_or bytes place 0));
+  rests = p.rests;
   left = p.left;
   ends = p.ends;
 }
 
 run-on : (m : Meaning) (first region : List ℕ) (prev : Prev) (at enters : ℕ) (bytes : List ℕ) (p : Progress) (ticks : ℕ) → IsRunTo m first region prev at enters bytes p ticks →
-    m.always ≡ false → AreZero region → IsQuiet m region → word_bit enters p.place ≡ false → p.place < length bytes → get_or bytes p.place 0 < 256 → length region ≡ m.width → ((n : ℕ) → m.well region n) →
-    IsRunTo m first region prev at enters bytes (on p bytes p.place) ticks
+    IsTrue p.rests → AreZero region → LeavesNothing m region → Stays m region (get_or bytes p.place 0) (word_bit enters p.place) → (m.always ≡ true → word_bit enters p.place ≡ true) → p.place < length bytes →
+    length region ≡ m.width → ((n : ℕ) → m.well region n) →
+    IsRunTo m first region prev at enters bytes (on p bytes p.place) (ticks + one-if (word_bit enters p.place))
 unfolding on
-run-on m first region prev at enters bytes p ticks run never zeros quiet unset below small len well =
-    subst (IsRunTo m first region prev at enters bytes (on p bytes p.place)) (let e : ticks + 0 ≡ ticks = omega arith in e)
-    (run-more m first region region prev at enters bytes p ticks (prev_by (eqb (get_or bytes p.place 0) line_feed) (is_word_byte (get_or bytes p.place 0))) p.left p.ends.before p.ends.behind 0 run
-    (idle-byte m first region prev at enters bytes p ticks run never zeros quiet unset below small len well))
+run-on m first region prev at enters bytes p ticks run rests zeros leaves_nothing stays always below len well =
+    run-more m first region region prev at enters bytes p ticks (prev_by (eqb (get_or bytes p.place 0) line_feed) (is_word_byte (get_or bytes p.place 0))) p.rests p.left p.ends.before p.ends.behind
+    (one-if (word_bit enters p.place)) run (asleep-byte m first region prev at enters bytes p ticks run rests zeros leaves_nothing stays always below len well)
+
+count-one : (enters place k : ℕ) (ticks here : ℕ) → here ≡ place + k →
+    ticks + count_below k (λ i. word_bit enters (place + i)) + one-if (word_bit enters here) ≡ ticks + count_below (suc k) (λ i. word_bit enters (place + i))
+unfolding one-if
+count-one enters place k ticks here is = let e : ◌≡◌ {A = ℕ} (if word_bit enters here then 1 else 0) (if word_bit enters (place + k) then 1 else 0) = ap (λ n. if word_bit enters n then 1 else 0) is in omega (arith, e)
+
+-- what is asleep over some bytes is so over fewer
+asleep-less : (m : Meaning) (region : List ℕ) (enters : ℕ) (bytes : List ℕ) (from end less : ℕ) → IsAsleepOver m region enters bytes from end → less ≤ end → IsAsleepOver m region enters bytes from less
+asleep-less m region enters bytes from end less asleep below = record {
+  zero = asleep.zero;
+  well = asleep.well;
+  leaves_nothing = asleep.leaves_nothing;
+  stays = λ i low high. asleep.stays i low (omega arith);
+}
 
 run-far : (k : ℕ) (m : Meaning) (first region : List ℕ) (prev : Prev) (at enters : ℕ) (bytes : List ℕ) (p : Progress) (ticks : ℕ) → IsRunTo m first region prev at enters bytes p ticks →
-    p.place + k < length bytes → IsIdle m region enters p.place (p.place + k + 1) → ((i : ℕ) → get_or bytes i 0 < 256) → length region ≡ m.width → ((n : ℕ) → m.well region n) →
-    IsRunTo m first region prev at enters bytes (on p bytes (p.place + k)) ticks
+    IsTrue p.rests → p.place + k < length bytes → IsAsleepOver m region enters bytes p.place (p.place + k + 1) → IsEnteredThroughout m enters (length bytes) → length region ≡ m.width →
+    IsRunTo m first region prev at enters bytes (on p bytes (p.place + k)) (ticks + count_below (suc k) (λ i. word_bit enters (p.place + i)))
 unfolding on
-run-far zero m first region prev at enters bytes p ticks run room idle small len well =
-    subst (λ n. IsRunTo m first region prev at enters bytes (on p bytes n) ticks) (let e : p.place ≡ p.place + 0 = omega arith in e)
-    (run-on m first region prev at enters bytes p ticks run idle.never idle.zero idle.quiet (idle.unentered p.place (omega arith) (omega arith)) (omega arith) (small p.place) len well)
-run-far (suc k) m first region prev at enters bytes p ticks run room idle small len well =
+run-far zero m first region prev at enters bytes p ticks run rests room asleep throughout len =
+    let e : p.place ≡ p.place + 0 = omega arith in
+    let none : ticks + 0 ≡ ticks = omega arith in
+    let count : ticks + one-if (word_bit enters p.place) ≡ ticks + count_below (suc zero) (λ i. word_bit enters (p.place + i)) =
+    ap (λ n. n + one-if (word_bit enters p.place)) (sym none) ∙ count-one enters p.place 0 ticks p.place e in
+    subst (λ n. IsRunTo m first region prev at enters bytes (on p bytes n) (ticks + count_below (suc zero) (λ i. word_bit enters (p.place + i)))) e
+    (subst (IsRunTo m first region prev at enters bytes (on p bytes p.place)) count
+    (run-on m first region prev at enters bytes p ticks run rests asleep.zero asleep.leaves_nothing (asleep.stays p.place (omega arith) (omega arith)) (λ always. throughout always p.place (omega arith)) (omega arith) len asleep.well))
+run-far (suc k) m first region prev at enters bytes p ticks run rests room asleep throughout len =
     let q : Progress = on p bytes (p.place + k) in
-    let shorter : IsIdle m region enters p.place (p.place + k + 1) = record {
-      never = idle.never;
-      zero = idle.zero;
-      quiet = idle.quiet;
-      unentered = λ i low high. idle.unentered i low (omega arith);
-    } in
-    let before : IsRunTo m first region prev at enters bytes q ticks = run-far k m first region prev at enters bytes p ticks run (omega arith) shorter small len well in
-    subst (λ n. IsRunTo m first region prev at enters bytes (on p bytes n) ticks) (let e : p.place + k + 1 ≡ p.place + suc k = omega arith in e)
-    (run-on m first region prev at enters bytes q ticks before idle.never idle.zero idle.quiet (idle.unentered (p.place + k + 1) (omega arith) (omega arith)) (omega arith) (small (p.place + k + 1)) len well)
+    let spent : ℕ = ticks + count_below (suc k) (λ i. word_bit enters (p.place + i)) in
+    let before : IsRunTo m first region prev at enters bytes q spent =
+    run-far k m first region prev at enters bytes p ticks run rests (omega arith) (asleep-less m region enters bytes p.place (p.place + suc k + 1) (p.place + k + 1) asleep (omega arith)) throughout len in
+    let e : p.place + k + 1 ≡ p.place + suc k = omega arith in
+    subst (λ n. IsRunTo m first region prev at enters bytes (on p bytes n) (ticks + count_below (suc (suc k)) (λ i. word_bit enters (p.place + i)))) e
+    (subst (IsRunTo m first region prev at enters bytes (on p bytes (p.place + k + 1))) (count-one enters p.place (suc k) ticks (p.place + k + 1) e)
+    (run-on m first region prev at enters bytes q spent before rests asleep.zero asleep.leaves_nothing (asleep.stays (p.place + k + 1) (omega arith) (omega arith)) (λ always. throughout always (p.place + k + 1) (omega arith))
+    (omega arith) len asleep.well))
 
-pub run-over : (m : Meaning) (first region new : List ℕ) (prev : Prev) (at enters : ℕ) (bytes : List ℕ) (p : Progress) (ticks to : ℕ) (behind : Prev) →
-    p.place < to → to ≤ length bytes → IsIdle m region enters p.place to → ((i : ℕ) → get_or bytes i 0 < 256) → length region ≡ m.width → length new ≡ m.width → AreZero new → ((n : ℕ) → m.well new n) →
+pub run-over : (m : Meaning) (first region : List ℕ) (prev : Prev) (at enters : ℕ) (bytes : List ℕ) (p : Progress) (ticks to : ℕ) (behind : Prev) →
+    p.place < to → to ≤ length bytes → IsTrue p.rests → IsAsleepOver m region enters bytes p.place to → IsEnteredThroughout m enters (length bytes) → length region ≡ m.width →
     behind ≡ prev_by (eqb (get_or bytes (to - 1) 0) line_feed) (is_word_byte (get_or bytes (to - 1) 0)) → IsRunTo m first region prev at enters bytes p ticks →
-    IsRunTo m first new prev at enters bytes (record { place = to; behind = behind; left = p.left; ends = p.ends }) ticks
+    IsRunTo m first region prev at enters bytes (record { place = to; behind = behind; rests = p.rests; left = p.left; ends = p.ends }) (ticks + count_set enters p.place to)
 unfolding on
-run-over m first region new prev at enters bytes p ticks to behind from room idle small len len' zeros well is run =
-    let same : region ≡ new = same-zero region new (len ∙ sym len') idle.zero zeros in
+run-over m first region prev at enters bytes p ticks to behind from room rests asleep throughout len is run =
     let k : ℕ = to - 1 - p.place in
     let last : p.place + k ≡ to - 1 = omega arith in
     let end : p.place + k + 1 ≡ to = omega arith in
-    let far : IsRunTo m first region prev at enters bytes (on p bytes (p.place + k)) ticks =
-    run-far k m first region prev at enters bytes p ticks run (omega arith) (subst (λ n. IsIdle m region enters p.place n) (sym end) idle) small len (λ n. subst (λ part. m.well part n) (sym same) (well n)) in
-    subst (λ part. IsRunTo m first part prev at enters bytes (record { place = to; behind = behind; left = p.left; ends = p.ends }) ticks) same
-    (subst (λ e. IsRunTo m first region prev at enters bytes (record { place = to; behind = e; left = p.left; ends = p.ends }) ticks) (ap (λ n. prev_by (eqb (get_or bytes n 0) line_feed) (is_word_byte (get_or bytes n 0))) last ∙ sym is)
+    let count : suc k ≡ to - p.place = omega arith in
+    let far : IsRunTo m first region prev at enters bytes (on p bytes (p.place + k)) (ticks + count_below (suc k) (λ i. word_bit enters (p.place + i))) =
+    run-far k m first region prev at enters bytes p ticks run rests (omega arith) (asleep-less m region enters bytes p.place to (p.place + k + 1) asleep (omega arith)) throughout len in
+    subst (λ n. IsRunTo m first region prev at enters bytes (record { place = to; behind = behind; rests = p.rests; left = p.left; ends = p.ends }) (ticks + count_below n (λ i. word_bit enters (p.place + i)))) count
+    (subst (λ e. IsRunTo m first region prev at enters bytes (record { place = to; behind = e; rests = p.rests; left = p.left; ends = p.ends }) (ticks + count_below (suc k) (λ i. word_bit enters (p.place + i))))
+    (ap (λ n. prev_by (eqb (get_or bytes n 0) line_feed) (is_word_byte (get_or bytes n 0))) last ∙ sym is)
     (subst (λ n. IsRunTo m first region prev at enters bytes
-    (record { place = n; behind = prev_by (eqb (get_or bytes (p.place + k) 0) line_feed) (is_word_byte (get_or bytes (p.place + k) 0)); left = p.left; ends = p.ends }) ticks) end far))
+    (record { place = n; behind = prev_by (eqb (get_or bytes (p.place + k) 0) line_feed) (is_word_byte (get_or bytes (p.place + k) 0)); rests = p.rests; left = p.left; ends = p.ends })
+    (ticks + count_below (suc k) (λ i. word_bit enters (p.place + i)))) end far))
+
+-- no byte is passed over
+pub count-nothing : (enters from to : ℕ) → to ≤ from → count_set enters from to ≡ 0
+count-nothing enters from to none = let e : to - from ≡ 0 = omega arith in ap (λ n. count_below n (λ i. word_bit enters (from + i))) e
 
 -- no byte so far
-pub run-none : (m : Meaning) (region : List ℕ) (prev : Prev) (at enters : ℕ) (bytes : List ℕ) (left : NextSet) → length region ≡ m.width → m.well region at →
-    TellsLeaves m region prev at left → (m.always ≡ false → AreZero region → (next : Next) → has_next left next ≡ false) →
-    IsRunTo m region region prev at enters bytes (record { place = 0; behind = prev; left = left; ends = record { before = 0; behind = 0 } }) 0
-run-none m region prev at enters bytes left len well leaves rests =
+pub run-none : (m : Meaning) (region : List ℕ) (prev : Prev) (at enters : ℕ) (bytes : List ℕ) (rests : Bool) (left : NextSet) → length region ≡ m.width → m.well region at →
+    TellsLeaves m region prev at left → (m.always ≡ false → IsTrue rests ↔ AreZero region) → (IsTrue rests → IsQuiet m region) → (IsTrue rests → (next : Next) → has_next left next ≡ false) →
+    IsRunTo m region region prev at enters bytes (record { place = 0; behind = prev; rests = rests; left = left; ends = record { before = 0; behind = 0 } }) 0
+run-none m region prev at enters bytes rests left len well leaves rests_are quiet silent =
     let here : at ≡ at + 0 = omega arith in
     record {
       parts = λ i. region;
@@ -287,7 +352,9 @@ run-none m region prev at enters bytes left len well leaves rests =
       behind_is = λ tree u entered is. record { below = λ i h. absurd (omega arith); above = λ i h. bit-none i };
       prev_is = λ u is. is ∙ ap (λ w. prev_at w (length w)) (sym (append-nil u));
       left_is = subst (λ n. TellsLeaves m region prev n left) here leaves;
-      rests = rests;
+      rests = rests_are;
+      quiet = quiet;
+      silent = silent;
     }
 
 -- the whole block
@@ -302,7 +369,7 @@ run-all m old new prev at enters bytes p ticks run all =
       sized = λ i h. run.sized i (omega arith);
       well = λ i h. run.well i (omega arith);
       ticks_are = subst (λ n. ticks ≡ count_below n (is_busy enters run.parts)) e run.ticks_are;
-      idle = λ i h rests. run.idle i (omega arith) rests;
+      idle = λ i h unmoved. run.idle i (omega arith) unmoved;
       fields = λ tree u entered is i h. run.fields tree u entered is i (omega arith);
       scans = λ tree u entered is. record {
         field = subst (λ w. m.field new tree (u ++ w) (entered ++ bits_of enters (length bytes))) (take_all (length bytes) bytes (omega arith))

@@ -1,12 +1,12 @@
 -- How far an engine has taken a block of bytes.
-use Rattle.std.specs.Prelude.{◌≡◌, ℕ, ◌+◌, ◌<◌, ◌≤◌, Bool, false, List, ◌++◌, length, take}
+use Rattle.std.specs.Prelude.{◌≡◌, ◌↔◌, ℕ, ◌+◌, ◌<◌, ◌≤◌, Bool, false, IsTrue, List, ◌++◌, length, take}
 use Rattle.hs_base.specs.declared.context.Next.{Next}
 use Rattle.hs_base.specs.declared.context.Prev.{Prev}
 use Rattle.hs_base.specs.Bits.{AreZero}
 use Rattle.hs_base.specs.Contexts.{prev_at}
 use Rattle.hs_base.specs.ContextSets.{has_next}
 use Rattle.hs_base.specs.Trees.{Tree}
-use Rattle.hs_engine.specs.Engines.{Meaning, TellsLeaves}
+use Rattle.hs_engine.specs.Engines.{Meaning, IsQuiet, TellsLeaves}
 use Rattle.hs_block.specs.declared.by_steps.Progress.{Progress}
 use Rattle.hs_block.specs.WordBits.{bits_of, Marks, count_below}
 use Rattle.hs_block.specs.Scans.{IsLeftBefore, IsLeftBehind}
@@ -39,4 +39,6 @@ pub record IsRunTo (m : Meaning) (first region : List ℕ) (prev : Prev) (at ent
       prev ≡ prev_at u (length u) →
       p.behind ≡ prev_at (u ++ take p.place bytes) (length (u ++ take p.place bytes))
   pub left_is : TellsLeaves m region p.behind (at + p.place) p.left
-  pub rests : m.always ≡ false → AreZero region → (next : Next) → has_next p.left next ≡ false
+  pub rests : m.always ≡ false → IsTrue p.rests ↔ AreZero region
+  pub quiet : IsTrue p.rests → IsQuiet m region
+  pub silent : IsTrue p.rests → (next : Next) → has_next p.left next ≡ false

@@ -1,7 +1,7 @@
 -- Where nothing happens for some bytes of a block.
-use Rattle.std.specs.Prelude.{◌≡◌, ℕ, ◌<◌, ◌≤◌, Bool, false, not, ◌||◌, List}
+use Rattle.std.specs.Prelude.{ℕ, ◌<◌, ◌≤◌, Bool, not, ◌||◌, List, slice_index}
 use Rattle.hs_base.specs.Bits.{AreZero}
-use Rattle.hs_engine.specs.Engines.{Meaning, IsQuiet}
+use Rattle.hs_engine.specs.Engines.{Meaning, LeavesNothing, Stays}
 use Rattle.hs_block.specs.WordBits.{word_bit}
 use Rattle.hs_block.specs.Blocks.{is_blank}
 
@@ -9,10 +9,10 @@ use Rattle.hs_block.specs.Blocks.{is_blank}
 abbrev pub is_busy_at : (region : List ℕ) (enters place : ℕ) → Bool
 is_busy_at region enters place = word_bit enters place || not (is_blank region)
 
--- The region is all 0 and nothing is live, and the engine is entered before none of the bytes from one on and before
--- another.
-pub record IsIdle (m : Meaning) (region : List ℕ) (enters from end : ℕ) : Type 0 where
-  pub never : m.always ≡ false
+-- The region is all 0, may stand at any offset and isn't left; it stays over each of the bytes from one on and before
+-- another, before which the engine is entered or not.
+pub record IsAsleepOver (m : Meaning) (region : List ℕ) (enters : ℕ) (bytes : List ℕ) (from end : ℕ) : Type 0 where
   pub zero : AreZero region
-  pub quiet : IsQuiet m region
-  pub unentered : (i : ℕ) → from ≤ i → i < end → word_bit enters i ≡ false
+  pub well : (at : ℕ) → m.well region at
+  pub leaves_nothing : LeavesNothing m region
+  pub stays : (i : ℕ) → from ≤ i → i < end → Stays m region (slice_index bytes i) (word_bit enters i)

@@ -1,5 +1,5 @@
 -- Words of 64 bits as lists of truth values and as sets of numbers.
-use Rattle.std.specs.Prelude.{◌≡◌, ◌↔◌, ℕ, zero, suc, ◌+◌, ◌<◌, ◌≤◌, Bool, true, false, ◌==◌, List, [], ◌∷◌, ◌++◌}
+use Rattle.std.specs.Prelude.{◌≡◌, ◌↔◌, ℕ, zero, suc, ◌+◌, ◌-◌, ◌<◌, ◌≤◌, Bool, true, false, ◌==◌, List, [], ◌∷◌, ◌++◌}
 use Rattle.std.specs.Prelude.{if◌then◌else◌}
 use Rattle.std.specs.Int.{bit_at}
 
@@ -30,3 +30,7 @@ count_below (suc n) test = (if test n then 1 else 0) + count_below n test
 abbrev pub one_later : (first : Bool) (bit : ℕ → Bool) → ℕ → Bool
 one_later first bit zero = first
 one_later first bit (suc i) = bit i
+
+-- how many of the bits from one on and before another are set
+abbrev pub count_set : (word from end : ℕ) → ℕ
+count_set word from end = count_below (end - from) (λ i. word_bit word (from + i))

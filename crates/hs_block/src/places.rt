@@ -1,7 +1,7 @@
 //! The places of a block as the bits of a word.
 
 ghost use Rattle.std.specs.Prelude.{◌≡◌, ℕ, ◌<◌, ◌≤◌, ◌&&◌, ◌||◌, ◌==◌, false, nat_lt};
-ghost use Rattle.hs_block.specs.WordBits.{one_later, word_bit};
+ghost use Rattle.hs_block.specs.WordBits.{count_set, one_later, word_bit};
 
 use hs_bits::{WORD_BITS, lowest_bit};
 
@@ -53,6 +53,17 @@ pub fn low_places(count: usize) -> u64
     } else {
         u64::MAX >> (WORD_BITS - count)
     }
+}
+
+/// How many places from `from` on and before `end` have their bit set.
+#[inline(always)]
+pub(crate) fn count_places(word: u64, from: usize, end: usize) -> u64
+    requires from { from < end }
+    requires end { end ≤ 64 }
+    ensures { result ≡ count_set word from end }
+{
+    let bits = (word >> from) & low_places(end - from);
+    u64::from(bits.count_ones())
 }
 
 /// The word one place on, with that bit for the first place.

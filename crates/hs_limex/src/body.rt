@@ -75,7 +75,7 @@ impl Body {
     }
 
     /// Whether the region is at rest and stays so over the byte.
-    #[inline]
+    #[inline(always)]
     pub(crate) fn stays_at_rest(&self, region: &[u8], entering: bool, byte: u8) -> bool
         requires { length region.now ≡ row_len (moves_of_body self.now).size }
         ensures zero { IsTrue result → AreZero region.now }
@@ -89,7 +89,7 @@ impl Body {
     }
 
     /// Moves the region over the byte, before which the expression is entered or not.
-    #[inline]
+    #[inline(always)]
     pub(crate) fn move_over(
         &self,
         region: &mut [u8],
@@ -117,7 +117,7 @@ impl Body {
     }
 
     /// What may come next where a position that is live accepts.
-    #[inline]
+    #[inline(always)]
     pub(crate) fn accepted(&self, region: &[u8], prev: Prev) -> NextSet
         requires { length region.now ≡ row_len (moves_of_body self.now).size }
         ensures sound { (next : Next) →

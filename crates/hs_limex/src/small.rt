@@ -138,7 +138,7 @@ impl Small {
     }
 
     /// Moves the region over the byte, before which the expression is entered or not.
-    #[inline]
+    #[inline(always)]
     pub(crate) fn move_over(&self, region: &mut [u8], entering: bool, byte: u8)
         requires { length region.old ≡ row_len self.now.size }
         ensures len { length region.new ≡ length region.old }
@@ -211,7 +211,7 @@ impl Small {
     }
 
     /// What may come next where a position that is live accepts: anything, or nothing.
-    #[inline]
+    #[inline(always)]
     pub(crate) fn accepted(&self, region: &[u8]) -> NextSet
         requires { length region.now ≡ row_len self.now.size }
         ensures sound { (prev : Prev) (next : Next) →

@@ -127,6 +127,7 @@ impl Tables {
     }
 
     /// Moves the region over the byte, before which the expression is entered or not.
+    #[inline(never)]
     pub(crate) fn move_over(
         &self,
         region: &mut [u8],
@@ -189,6 +190,7 @@ impl Tables {
     }
 
     /// What may come next where a position that is live accepts.
+    #[inline(never)]
     pub(crate) fn accepted(&self, region: &[u8], prev: Prev) -> NextSet
         requires { length region.now ≡ row_len self.now.follows.size }
         ensures sound { (next : Next) →

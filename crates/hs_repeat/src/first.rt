@@ -35,6 +35,7 @@ impl First {
     }
 
     /// The distance behind the byte, before which the repeat is entered or not.
+    #[inline]
     fn next_distance(&self, distance: u32, entering: bool, byte: u8) -> u32
         requires { distance ≤ self.now.farthest.bound }
         ensures bounded { result ≤ self.now.farthest.bound }
@@ -70,6 +71,7 @@ impl Engine for First {
         self.farthest.clear(region);
     }
 
+    #[inline]
     fn step<L: Ledger>(
         &self,
         region: &mut [u8],
@@ -85,6 +87,7 @@ impl Engine for First {
         self.farthest.write(region, distance);
     }
 
+    #[inline]
     fn out(&self, region: &[u8], _prev: Prev, _at: u64) -> NextSet {
         if self.farthest.read(region) == self.farthest.bound {
             NextSet::all()
@@ -93,10 +96,12 @@ impl Engine for First {
         }
     }
 
+    #[inline]
     fn at_rest(&self, region: &[u8]) -> bool {
         self.farthest.is_at_rest(region)
     }
 
+    #[inline]
     fn wakers(&self) -> &ByteSet {
         &self.farthest.set
     }

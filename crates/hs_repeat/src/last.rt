@@ -73,6 +73,7 @@ impl Engine for Last {
         self.nearest.clear(region);
     }
 
+    #[inline]
     fn step<L: Ledger>(
         &self,
         region: &mut [u8],
@@ -88,6 +89,7 @@ impl Engine for Last {
         self.nearest.write(region, distance);
     }
 
+    #[inline]
     fn out(&self, region: &[u8], _prev: Prev, _at: u64) -> NextSet {
         if self.nearest.is_at_rest(region) {
             NextSet::empty()
@@ -96,10 +98,12 @@ impl Engine for Last {
         }
     }
 
+    #[inline]
     fn at_rest(&self, region: &[u8]) -> bool {
         self.nearest.is_at_rest(region)
     }
 
+    #[inline]
     fn wakers(&self) -> &ByteSet {
         &self.nearest.set
     }

@@ -18,7 +18,7 @@ returns-clause-runs g c first prev ticks run =
     let entered : has_next c.entering-enter.result (class_of b) ≡ bit = c.entering-enter.ensures (class_of b) ∙ c.contains_place.ensures in
     let counted : (m.always || has_next c.entering-enter.result (class_of b)) ≡ bit =
     ap (λ e. m.always || e) entered ∙ counts-bit m.always bit (λ always. c.requires.throughout always p.place c.requires.within) in
-    run-more m first c.args.region.now c.step.new.region prev c.args.at c.args.enters c.args.bytes.now p ticks c.behind-self.result c.out-self.result
+    run-more m first c.args.region.now c.step.new.region prev c.args.at c.args.enters c.args.bytes.now p ticks c.behind-self.result c.at_rest-self.result c.left_behind-self.result
     c.with_place-self.result c.with_place-self-2.result 1 run (record {
       within = c.requires.within;
       len = c.step.ensures.len;
@@ -28,10 +28,12 @@ returns-clause-runs g c first prev ticks run =
       takes = λ tree u entered is.
           subst (λ e. m.field c.step.new.region tree (u ++ b ∷ []) (entered ++ e ∷ [])) counted (c.step.ensures.takes tree u entered is.runs is.count is.offset is.behind is.field);
       behind_is = c.behind-self.ensures;
-      left_is = subst (λ n. TellsLeaves m c.step.new.region c.behind-self.result n c.out-self.result) place c.out-self.ensures.leaves;
-      rests = c.out-self.ensures.rests;
+      left_is = subst (λ n. TellsLeaves m c.step.new.region c.behind-self.result n c.left_behind-self.result) place c.left_behind-self.ensures.leaves;
+      rests_are = c.at_rest-self.ensures.zero;
+      quiet = c.at_rest-self.ensures.quiet;
+      silent = c.left_behind-self.ensures.silent;
       before_bits =
-          bits-as c.with_place-self.result p.ends.before p.place c.contains-ending.result p.left c.class_of.result (class_of b) c.with_place-self.ensures c.contains-ending.ensures c.class_of.ensures;
+          bits-as c.with_place-self.result p.ends.before p.place c.is_left_before-ending.result p.left (class_of b) (class_of b) c.with_place-self.ensures c.is_left_before-ending.ensures refl;
       behind_bits =
-          bits-as c.with_place-self-2.result p.ends.behind p.place c.contains-ended.result c.out-self.result after.Unknown after.Unknown c.with_place-self-2.ensures c.contains-ended.ensures refl;
+          bits-as c.with_place-self-2.result p.ends.behind p.place c.contains-ended.result c.left_behind-self.result after.Unknown after.Unknown c.with_place-self-2.ensures c.contains-ended.ensures refl;
     })
