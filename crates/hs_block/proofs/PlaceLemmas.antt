@@ -49,6 +49,10 @@ none-before word from place lowest i low high =
     let unset : bit_at (word / 2 ^ from) (i - from) ≡ 0 = lowest.lowest (i - from) (omega arith) in
     sym (ap (λ k. eqb (bit_at word k) 1) e) ∙ (sym (ap (λ m. eqb (m % 2) 1) (shr-shr word from (i - from))) ∙ ap (λ n. eqb n 1) unset)
 
+pub set-there : (word from place : ℕ) → IsLowestBit (word / 2 ^ from) place → word_bit word (from + place) ≡ true
+unfolding word_bit
+set-there word from place lowest = sym (ap (λ m. eqb (m % 2) 1) (shr-shr word from place)) ∙ ap (λ n. eqb n 1) lowest.is
+
 -- the place of the lowest bit is further, where that of the beginning isn't set
 pub further : (word from place : ℕ) → IsLowestBit (word / 2 ^ from) place → word_bit word from ≡ false → 0 < place
 unfolding word_bit
@@ -126,3 +130,21 @@ later-next behind start i below =
     bit-up behind 1 (suc i) below ∙ (ap (λ b. b && word_bit behind (suc i - 1)) low ∙ ap (word_bit behind) place) in
     bit-either (behind * 2 % 18446744073709551616) (bool_byte start) (suc i)
     ∙ (ap (λ b. b || word_bit (bool_byte start) (suc i)) up ∙ (ap (λ b. word_bit behind i || b) (later-byte start i) ∙ or-none (word_bit behind i)))
+
+-- a bit that is set in both words, and one that isn't
+and-first : (a b : Bool) → (a && b) ≡ true → a ≡ true
+and-first true b e = refl
+and-first false b e = e
+
+pub both-first : (x y i : ℕ) → word_bit (bit_and x y) i ≡ true → word_bit x i ≡ true
+both-first x y i set = and-first (word_bit x i) (word_bit y i) (sym (bit-both x y i) ∙ set)
+
+pub both-unset : (x y i : ℕ) → word_bit (bit_and x y) i ≡ false → word_bit x i ≡ true → word_bit y i ≡ false
+both-unset x y i unset first = sym (ap (λ t. t && word_bit y i) first) ∙ (sym (bit-both x y i) ∙ unset)
+
+-- where the first word has the bit and both haven't, no member stands
+pub no-member-there : (enters places i count : ℕ) (member : Bool) → i < count → word_bit enters i ≡ true → word_bit (bit_and enters places) i ≡ false →
+    eqb (bit_at places i) 1 ≡ (nat_lt i count && member) → member ≡ false
+unfolding word_bit
+no-member-there enters places i count member below entered unset is =
+    sym (ap (λ t. t && member) (less-is i count below)) ∙ (sym is ∙ both-unset enters places i unset entered)

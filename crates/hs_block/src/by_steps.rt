@@ -15,7 +15,7 @@ ghost use Rattle.hs_block.specs.Rests.{IsAsleepOver, is_busy_at};
 use crate::engine::BlockEnds;
 use crate::places::{contains_place, count_places, next_place, with_place};
 use hs_base::{ByteSet, Next, NextSet, Prev};
-use hs_bits::{clear_bits, is_zero};
+use hs_bits::{clear_bits, is_zero, member_places};
 use hs_engine::{Engine, Steps};
 use std::sync::ledger::Ledger;
 
@@ -189,17 +189,22 @@ fn next_waker(wakers: &ByteSet, enters: u64, bytes: &[u8], from: usize) -> usize
     ensures none { (i : ℕ) → from ≤ i → i < result → word_bit enters i ≡ true →
         has wakers.now (slice_index bytes.now i) ≡ false }
 {
-    let mut place = from;
-    while place < bytes.len() {
-        if !contains_place(enters, place) {
-            place = next_place(enters, place, bytes.len());
-        } else if wakers.contains(bytes[place]) {
-            return place;
-        } else {
-            place += 1;
-        }
+    if from == bytes.len() || is_woken(wakers, enters, bytes, from) {
+        return from;
     }
-    place
+    let wakes = enters & member_places(wakers, bytes);
+    next_place(wakes, from, bytes.len())
+}
+
+/// Whether the byte of that place is in the set, and the expression is entered before it. Where it is, the other bytes
+/// need no look.
+#[inline(always)]
+fn is_woken(wakers: &ByteSet, enters: u64, bytes: &[u8], place: usize) -> bool
+    requires within { place < length bytes.now }
+    requires few { length bytes.now ≤ 64 }
+    ensures { IsTrue result → word_bit enters place ≡ true }
+{
+    contains_place(enters, place) && wakers.contains(bytes[place])
 }
 
 /// The place up to which the engine is asleep. From there on it is busy, if bytes are left.

@@ -1,6 +1,6 @@
 //! The places of a block as the bits of a word.
 
-ghost use Rattle.std.specs.Prelude.{◌≡◌, ℕ, ◌<◌, ◌≤◌, ◌&&◌, ◌||◌, ◌==◌, false, nat_lt};
+ghost use Rattle.std.specs.Prelude.{◌≡◌, ℕ, ◌<◌, ◌≤◌, ◌&&◌, ◌||◌, ◌==◌, false, true, nat_lt};
 ghost use Rattle.hs_block.specs.WordBits.{count_set, one_later, word_bit};
 
 use hs_bits::{WORD_BITS, lowest_bit};
@@ -31,6 +31,7 @@ pub fn next_place(word: u64, from: usize, end: usize) -> usize
     ensures low { from ≤ result }
     ensures high { result ≤ end }
     ensures none { (i : ℕ) → from ≤ i → i < result → word_bit word i ≡ false }
+    ensures set { result < end → word_bit word result ≡ true }
     ensures further { from < end → word_bit word from ≡ false → from < result }
 {
     if from == end {

@@ -1,5 +1,6 @@
-use Rattle.std.proofs.Common.{arith}
-use Rattle.hs_block.proofs.PlaceLemmas.{none-from, none-before, further}
+use Rattle.std.proofs.Common.{◌≡◌, ◌+◌, ap, ◌∙◌, arith}
+use Rattle.hs_block.specs.WordBits.{word_bit}
+use Rattle.hs_block.proofs.PlaceLemmas.{none-from, none-before, further, set-there}
 use Rattle.hs_block.proofs.places.next_place.Goals as goal
 
 pub returns-then-rest-eq0-clause-none : goal.returns-then-rest-eq0-clause-none
@@ -12,3 +13,8 @@ returns-clause-none c i low high =
 pub returns-clause-further : goal.returns-clause-further
 returns-clause-further c below unset =
     omega (arith, further c.args.word c.args.from c.lowest_bit.result c.lowest_bit.ensures.lowest unset, c.min.ensures)
+
+pub returns-clause-set : goal.returns-clause-set
+returns-clause-set c below =
+    let e : c.min.result ≡ c.args.from + c.lowest_bit.result = omega (arith, c.min.ensures) in
+    ap (word_bit c.args.word) e ∙ set-there c.args.word c.args.from c.lowest_bit.result c.lowest_bit.ensures.lowest
