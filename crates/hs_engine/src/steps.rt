@@ -40,4 +40,11 @@ impl<L: Ledger> Steps<L> {
     {
         self.book.add(&mut self.share, 1);
     }
+
+    /// Counts so many steps.
+    pub fn tick_by(&mut self, count: u64)
+        ensures { self.new ≡ self.old + count }
+    {
+        self.book.add(&mut self.share, count);
+    }
 }
