@@ -7,3 +7,15 @@ pub mod LiteralWordLemmas
 pub mod LiteralBlockLemmas
 pub mod ContextLemmas
 pub mod ClassLaneLemmas
+pub mod NibbleLemmas
+pub mod NibbleLaneLemmas
+pub mod ClassWordLemmas
+pub mod AnyLemmas
+pub mod PackedLemmas
+pub mod StreamRowLemmas
+pub mod PositionWordLemmas
+pub mod StreamPassLemmas
+pub mod StreamRunLemmas
+pub mod TableLemmas
+pub mod SetTableLemmas
+pub mod StreamTakesLemmas

@@ -1,15 +1,22 @@
 //! Engines that take a block of up to 64 bytes at once: the places of a block are the bits of words.
 #![tactic(auto)]
 
+mod before_tables;
 pub mod block_laws;
 mod by_steps;
+mod class_words;
 mod contexts;
 mod engine;
 mod literal;
+mod nibbles;
 mod places;
+mod position_words;
+mod set_tables;
+mod streams;
 
 pub use by_steps::run_by_steps;
 pub use contexts::Contexts;
 pub use engine::{BlockEnds, BlockEngine};
 pub use literal::{Hits, LiteralRun, carry_of, entries_from, keep_carry, run_literal};
 pub use places::{contains_place, low_places, next_place, with_place};
+pub use streams::{MAX_STREAMS, Streams};

@@ -1,0 +1,50 @@
+-- What the tables say by which a block is taken in one pass.
+use Rattle.std.specs.Prelude.{◌≡◌, ℕ, ◌<◌, Bool, ◌&&◌, List, length, slice_get, slice_index, vec_len}
+use Rattle.hs_base.specs.Contexts.{Context}
+use Rattle.hs_engine.specs.declared.automaton.Automaton.{Automaton}
+use Rattle.hs_engine.specs.Automata.{takes, enters, accepts, follows}
+use Rattle.hs_block.specs.declared.nibbles.Nibbles.{Nibbles}
+use Rattle.hs_block.specs.declared.streams.Streams.{Streams}
+use Rattle.hs_block.specs.StreamSets.{in_class, is_from, takes_byte}
+use Rattle.hs_block.specs.WordBits.{word_bit}
+use Rattle.hs_block.specs.Rows.{Rules}
+
+-- The tables say of so many positions what is told of them: which byte each takes, in which contexts it is entered and
+-- accepts, and in which another may come before it.
+pub record Tells (s : Streams) (size : ℕ) (takes : (position byte : ℕ) → Bool)
+    (enters accepts : (position : ℕ) (c : Context) → Bool) (follows : (from to : ℕ) (c : Context) → Bool) : Type 0 where
+  pub size_is : vec_len s.froms ≡ size
+  pub takes_are : (x b : ℕ) → x < size → b < 256 → takes_byte s.sets.items s.numbers.items x b ≡ takes x b
+  pub enters_are : (x : ℕ) (c : Context) → word_bit s.enters x ≡ enters x c
+  pub accepts_are : (x : ℕ) (c : Context) → word_bit s.accepts x ≡ accepts x c
+  pub follows_are : (x y : ℕ) (c : Context) → x < size → is_from s.froms.items x y ≡ follows y x c
+
+-- they say what an automaton does
+abbrev pub TellsOf : Streams → Automaton → Type 0
+TellsOf s a = Tells s (vec_len a.sets) (takes a) (enters a) (accepts a) (follows a)
+
+-- what they say of a block
+abbrev pub stream_rules : Streams → (enters : ℕ) (bytes : List ℕ) → Rules
+stream_rules s entered bytes = record {
+  size = vec_len s.froms;
+  takes = λ i x. takes_byte s.sets.items s.numbers.items x (slice_index bytes i);
+  begins = λ i x. word_bit entered i && word_bit s.enters x;
+  follows = λ i y x. is_from s.froms.items x y;
+}
+
+-- the same, by a word for each set
+abbrev pub word_rules : Streams → (enters : ℕ) (classes : List ℕ) → Rules
+word_rules s entered classes = record {
+  size = vec_len s.froms;
+  takes = λ i x. word_bit (slice_index classes (slice_index s.numbers.items x)) i;
+  begins = λ i x. word_bit entered i && word_bit s.enters x;
+  follows = λ i y x. is_from s.froms.items x y;
+}
+
+-- the word of each set tells at which of so many places one of its bytes stands
+abbrev pub AreClassWords : (sets : List Nibbles) (classes bytes : List ℕ) (count : ℕ) → Type 0
+AreClassWords sets classes bytes n =
+    (k i : ℕ) →
+    k < length sets →
+    i < n →
+    word_bit (slice_index classes k) i ≡ in_class (slice_get sets k) (slice_index bytes i)

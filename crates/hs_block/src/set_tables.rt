@@ -1,0 +1,107 @@
+//! The sets of positions as tables, each once.
+
+ghost use Rattle.std.specs.Prelude.{◌≡◌, ℕ, ◌+◌, ◌<◌, ◌≤◌, true, Some, IfOk, IfSome, length, slice_get, vec_len};
+ghost use Rattle.hs_base.specs.ByteSets.{has};
+ghost use Rattle.hs_base.specs.Contexts.{Context};
+ghost use Rattle.hs_engine.specs.Automata.{in_mask, in_set};
+ghost use Rattle.hs_block.specs.StreamSets.{AreSetTables, in_class};
+
+use crate::nibbles::Nibbles;
+use hs_base::{ByteSet, Mask};
+use std::alloc::{AllocError, Global};
+
+/// The tables of sets.
+#[derive(Drop)]
+pub(crate) struct SetTables {
+    /// The sets, each once, behind that of the first bytes.
+    pub sets: Vec<Nibbles>,
+    /// For each position the number of its set.
+    pub numbers: Vec<usize>,
+}
+
+impl SetTables {
+    /// The tables of the sets of positions, and first of the bytes with which a match may begin.
+    pub(crate) fn build(
+        alloc: Global,
+        first: &ByteSet,
+        given: &[ByteSet],
+    ) -> Result<SetTables, AllocError>
+        requires { length given.now ≤ 16 }
+        ensures tables { IfOk result (λ tables.
+            AreSetTables tables.sets.items tables.numbers.items first.now given.now) }
+        ensures count { IfOk result (λ tables. vec_len tables.numbers ≡ length given.now) }
+    {
+        let mut sets = Vec::new(alloc);
+        number_of(&mut sets, first)?;
+        let mut numbers = Vec::new(alloc);
+        for position in 0..given.len() {
+            let number = number_of(&mut sets, &given[position])?;
+            numbers.push(number)?;
+        }
+        Ok(SetTables { sets, numbers })
+    }
+}
+
+/// The number of the set among those that are kept: it is put behind them where none is equal.
+fn number_of(kept: &mut Vec<Nibbles>, set: &ByteSet) -> Result<usize, AllocError>
+    requires { vec_len kept.old ≤ 16 }
+    ensures within { IfOk result (λ number. number < vec_len kept.new) }
+    ensures few { IfOk result (λ number. vec_len kept.new ≤ vec_len kept.old + 1) }
+    ensures more { IfOk result (λ number. vec_len kept.old ≤ vec_len kept.new) }
+    ensures stay { IfOk result (λ number. (k : ℕ) → k < vec_len kept.old →
+        slice_get kept.new.items k ≡ slice_get kept.old.items k) }
+    ensures members { IfOk result (λ number. (b : ℕ) → b < 256 →
+        in_class (slice_get kept.new.items number) b ≡ has set.now b) }
+{
+    let nibbles = Nibbles::of(set);
+    if let Some(number) = find(kept, &nibbles) {
+        return Ok(number);
+    }
+    let number = kept.len();
+    kept.push(nibbles)?;
+    Ok(number)
+}
+
+/// The number of an equal set among those that are kept.
+fn find(kept: &[Nibbles], nibbles: &Nibbles) -> Option<usize>
+    ensures { IfSome result (λ number. slice_get kept.now number ≡ Some nibbles.now) }
+{
+    for number in 0..kept.len() {
+        if kept[number] == *nibbles {
+            return Some(number);
+        }
+    }
+    None
+}
+
+/// The bytes in the set of a position that is entered in some context.
+pub(crate) fn first_bytes(sets: &[ByteSet], enters: &[Mask]) -> ByteSet
+    requires { length enters.now ≡ length sets.now }
+    ensures { (x b : ℕ) (c : Context) →
+        b < 256 →
+        in_mask (slice_get enters.now x) c ≡ true →
+        in_set (slice_get sets.now x) b ≡ true →
+        has result b ≡ true }
+{
+    let mut first = ByteSet::EMPTY;
+    for position in 0..enters.len() {
+        first = first.union(&first_bytes_at(sets, enters, position));
+    }
+    first
+}
+
+/// The bytes of the position, if it is entered in some context.
+fn first_bytes_at(sets: &[ByteSet], enters: &[Mask], position: usize) -> ByteSet
+    requires enters { position < length enters.now }
+    requires sets { position < length sets.now }
+    ensures { (b : ℕ) (c : Context) →
+        in_mask (slice_get enters.now position) c ≡ true →
+        in_set (slice_get sets.now position) b ≡ true →
+        has result b ≡ true }
+{
+    if enters[position] == Mask::empty() {
+        ByteSet::EMPTY
+    } else {
+        sets[position]
+    }
+}
