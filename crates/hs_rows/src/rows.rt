@@ -205,6 +205,20 @@ in <open s;write s 500;x%(499)a;save s f;expand t f;write t 501;%(501)a;save t f
 in <open s;write s 500;x%(499)a;write s 500;%(500)a;write s 1;y;close s;>
  = 0 <compiled 1 44;ok open s;ok write s 500;ok write s 500;ok write s 1;ok close s;>
 run <hs_tool compile p d;hs_tool stream d> p <16:/foo/> pieces 1,2,3,7,1000
+# Two streams that see nothing of each other.
+in <open s;open t;write s 2;fo;write t 2;xf;write s 1;o;write t 2;oo;write s 2;fo;reset s;write s 4;ofoo;close s;
+ close t;>
+ = 0 <compiled 1 38;ok open s;ok open t;ok write s 2;ok write t 2;s 16 3;ok write s 1;t 16 4;ok write t 2;
+ ok write s 2;ok reset s;s 16 4;ok write s 4;ok close s;ok close t;>
+# Reports come as bytes decide them, and a single one once.
+p <9:/a/;4:/b/H;6:/b\z/>
+ in <open s;open t;write s 1;x;write s 2;ab;write t 1;b;write s 2;ab;close s;close t;>
+ = 0 <compiled 3 90;ok open s;ok open t;ok write s 1;s 9 2;s 4 3;ok write s 2;t 4 1;ok write t 1;s 9 4;ok write s 2;
+ s 6 5;ok close s;t 6 1;ok close t;>
+# A write of no byte reports nothing, also where the empty text matches at the start.
+p <2:/a*/V> in <open s;open t;write s 0;;reset s;write s 1;b;close s;close t;>
+ = 0 <compiled 1 37;ok open s;ok open t;ok write s 0;s 2 0;ok reset s;s 2 0;s 2 1;ok write s 1;ok close s;t 2 0;
+ ok close t;>
 # A stream that was reset, and closed.
 p <17:/a$/> in <open s;write s 1;a;reset s;write s 1;a;close s;close s;>
  = 0 <compiled 1 37;ok open s;ok write s 1;s 17 1;ok reset s;ok write s 1;s 17 1;ok close s;no close s unknown;>
@@ -235,6 +249,15 @@ p <15:/[0-9]+foo[a-z]*bar/>
  write v 1;r;>
  = 0 <compiled 1 53;ok open s;ok write s 2;ok save s 126;ok expand t;ok write t 3;ok save t 126;ok expand u;
  ok write u 2;ok save u 126;ok expand v;v 15 8;ok write v 1;>
+in <open s;write s 2;fo;save s f;expand t f;write t 1;x;>
+ = 0 <compiled 1 38;ok open s;ok write s 2;ok save s 116;ok expand t;ok write t 1;>
+p <18:/a/H> in <open s;write s 1;x;save s f;expand t f;write t 1;a;>
+ = 0 <compiled 1 36;ok open s;ok write s 1;ok save s 118;ok expand t;t 18 2;ok write t 1;>
+p <15:/[0-9]+foo[a-z]*bar/> in <open s;write s 5;1foox;save s f;expand t f;write t 3;bar;>
+ = 0 <compiled 1 53;ok open s;ok write s 5;ok save s 126;ok expand t;t 15 8;ok write t 3;>
+# The region of no byte.
+in <open s;save s d;> = 0 <compiled 1 38;ok open s;ok save s 116;> <>
+ <HSST%01%00%B6Ds%CA%A5%BD%19cFw%AB%A9%1B%8Dd%D5%C1%8Ba%C3%89W%E4%E1r%EDV%DD%2E1SbJ%(77)%00>
 # A file is refused by its form, then by its version, its list, and its region.
 run <hs_tool compile p d;hs_tool stream d> p <16:/foo/> in <expand t f;write t 1;o;> pieces 1,2,3,7,1000
 f <HSST%01%00%B6Ds%CA%A5%BD%19cFw%AB%A9%1B%8Dd%D5%C1%8Ba%C3%89W%E4%E1r%EDV%DD%2E1SbJ%00%00%00%02%(69)%00fo%00%00%00>

@@ -97,6 +97,16 @@ none <ab> =
 1:/a\z/H <aa> = | 1@2
 1:/a$|\n/H <a%0A> = 1@2
 12:/a$|\n/H <a~%0A> = ~ 12@2
+# each time, where one of the entries asks for that
+mixed 1:/a/H 1:/b/ <aab> = 1@1 1@2 1@3
+# an end that only the end of the stream decides, beside one that bytes do
+1:/\ba(?:b+\z)?/ <> =
+1:/\ba(?:b+\z)?/ <a> = 1@1
+1:/\ba(?:b+\z)?/ <xa> =
+1:/\ba(?:b+\z)?/ <%20a> = 1@2
+1:/\ba(?:b+\z)?/ <ab> = 1@1 | 1@2
+1:/\ba(?:b+\z)?/ <abb> = 1@1 | 1@3
+1:/\ba(?:b+\z)?/ <abc> = 1@1
 ";
 
 /// Lists of one byte and its assertions, over short texts.
@@ -193,6 +203,24 @@ leaves /a{1000}/ <x~%(999)a> = no
 leaves /a{1000}/ <x~%(999)aa> = yes
 leaves /a{1000}/ <x~%(999)aaa> = no
 leaves /a{1000}/ <x~%(999)aay> = no
+leaves /a{3,}/ <> = no
+leaves /a{3,}/ <a> = no
+leaves /a{3,}/ <aa> = no
+leaves /a{3,}/ <aaa> = yes
+leaves /a{3,}/ <aaaa> = yes
+leaves /a{3,}/ <aab> = no
+leaves /a{1,2}/ <> = no
+leaves /a{1,2}/ <a> = yes
+leaves /a{1,2}/ <aa> = yes
+leaves /a{1,2}/ <aaa> = no
+leaves /a{1,2}/ <aaaa> = no
+leaves /a{1,2}/ <aab> = no
+leaves /a{2,3}/ <> = no
+leaves /a{2,3}/ <a> = no
+leaves /a{2,3}/ <aa> = yes
+leaves /a{2,3}/ <aaa> = yes
+leaves /a{2,3}/ <aaaa> = no
+leaves /a{2,3}/ <aab> = no
 ";
 
 /// Expressions whose chains have several pieces, and how they are split.
@@ -206,6 +234,10 @@ each /(?:ab){2}cd/ <ababcdabcd>
 each /x.{0,65}y/ <xaay%20xy%0Ay>
 each // <ab>
 each /.abcdefghijklmnopqrstuvwxyzabcdefg/ <xabcdefghijklmnopqrstuvwxyzabcdefg>
+each /\ba(?:b+\z)?/ <> <a> <xa> <%20a> <ab> <abb> <abc>
+1:/\bfo.{65,}/ <fo%(64)a> =
+1:/\bfo.{65,}/ <fo%(66)a> = 1@67 1@68
+split /\bfo.{65,}/ = ~e"fo"r;
 split /\bfoo\b/ = ~e"foo"e;
 split /x[\x00-\xff]{1000}y/ = ere;
 split /[0-9]+foo[a-z]*bar/ = e"foo"e"bar";
@@ -238,6 +270,7 @@ pub const CODE_POINTS: &[u8] = br#"
 1:/\A.\z/8 <%C3%A9> = | 1@2
 1:/\A.\z/8 <%E2~%82~%AC> = ~ ~ | 1@3
 1:/\A.\z/8 <%F0%9F%98%80> = | 1@4
+1:/\A./8 <%F0%9F%98%80> = 1@4
 13:/^.$/8 <%C3%A9> = | 13@2
 13:/^.$/8 <%C3~%A9%0A> = ~ | 13@2
 13:/^.$/8 <%FF> =
@@ -286,7 +319,17 @@ refused 1:/.{19}/8 = refused 1 1 9 PositionLimit 513
 refused 1:/.{19}/ =
 refused 1:/a/8W = refused 1 1 4 UnsupportedFlag 64
 positions /\x{20AC}/8 = 3
+positions /./8 = 27
+positions /(?:^[\x{e9}\x{800}]){2,3}/8 = 15
 split /foobar/8 = "foobar";
+# a letter with a third case is no literal
+split /ab[Kk]cd/8 = "abKcd";
+split /ab(?i:[Kk])cd/8 = "ab"e"cd";
+# the bounds of copies stay
+1:/\A[\x{E9}\x{20AC}]{2,3}\z/8 <%C3%A9> =
+1:/\A[\x{E9}\x{20AC}]{2,3}\z/8 <%C3%A9%E2%82%AC> = | 1@5
+1:/\A[\x{E9}\x{20AC}]{2,3}\z/8 <%C3%A9%E2%82%AC%C3%A9> = | 1@7
+1:/\A[\x{E9}\x{20AC}]{2,3}\z/8 <%C3%A9%C3%A9%C3%A9%C3%A9> =
 "#;
 
 /// Lists that are refused, by the first reason of the first entry that has one, and those that aren't.

@@ -1,17 +1,23 @@
-//! Tests of the crates of engines, pieces and regions. The crate is tests alone.
+//! Tests of the crates of engines, regions and literals. The crate is tests alone.
 #![tactic(auto)]
 
 #[cfg(test)]
 mod automata;
 #[cfg(test)]
-mod behind;
-#[cfg(test)]
 mod bits;
+#[cfg(test)]
+mod blocks;
+#[cfg(test)]
+mod confirming;
+#[cfg(test)]
+mod ends;
 #[cfg(test)]
 mod limex;
 #[cfg(test)]
-mod pieces;
+mod lists;
 #[cfg(test)]
 mod regions;
 #[cfg(test)]
-mod repeats;
+mod search;
+#[cfg(test)]
+mod tables;

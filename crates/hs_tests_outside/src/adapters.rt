@@ -1,7 +1,7 @@
 //! The adapters over real files, and over readers and writers that the system could be. It is `#[cfg(test)]`.
 use crate::memory::{check_calls, check_reads, check_writes};
-use hs_outside::{Failed, FolderStore, StdSink, StdSource, Store, write_all};
-use std::alloc::{AllocError, Allocator};
+use hs_outside::{FolderStore, StdSink, StdSource, Store, write_all};
+use std::alloc::{AllocError, Allocator, Global};
 use std::fs::{File, Metadata, OpenOptions, Permissions};
 use std::io::{Error, ErrorKind, Read, Write};
 use std::os::unix::fs::{PermissionsExt, symlink};
@@ -103,6 +103,11 @@ const STEPS: &str = " folder
 /link holds No birds
 /file holds No birds";
 
+/// A path that no other process takes.
+fn path_of(rt: &HostRuntime, end: &str) -> Result<String, AllocError> {
+    format!(in rt.alloc(); "/tmp/hs_outside-{}{end}", process::id(rt.process()))
+}
+
 /// Puts bytes, and tells whether that was done.
 fn is_put(rt: &HostRuntime, path: &str, bytes: &[u8]) -> bool {
     FolderStore::new(rt).put(path, bytes).is_ok()
@@ -177,7 +182,7 @@ fn is_step_so(rt: &HostRuntime, folder: &str, step: &str) -> Result<bool, AllocE
 
 #[test]
 fn a_put_is_whole_and_keeps_what_it_does_not_replace(rt: HostRuntime) -> Result<(), Fail> {
-    let folder = format!(in rt.alloc(); "/tmp/hs_outside-{}", process::id(rt.process()))?;
+    let folder = path_of(&rt, "")?;
     for step in STEPS.split('\n') {
         assert!(rt; is_step_so(&rt, folder.as_str(), step)?, "{step}");
     }
@@ -210,41 +215,63 @@ fn check_short(rt: &impl Abort, file: File) {
     assert!(rt; write_all(&mut sink, b"k, a bird").is_ok());
 }
 
+/// Asserts that bytes are moved into the file and out of it.
+fn check_streams(abort: &impl Abort, rt: &HostRuntime, path: &str) -> Result<(), io::Error> {
+    check_sink(abort, fs::create(rt, path)?);
+    check_source(abort, fs::open(rt, path)?, 16, "Look, a bird|");
+    check_source(abort, fs::open(rt, "/tmp")?, 4, "!");
+    check_short(abort, fs::create(rt, path)?);
+    assert!(abort; holds(rt, path, b"Look, a bird"));
+    fs::remove_file(rt, path)
+}
+
 #[test]
 fn streams_move_the_bytes_of_a_file(rt: HostRuntime) -> Result<(), Fail> {
-    let id = process::id(rt.process());
-    let path = format!(in rt.alloc(); "/tmp/hs_outside-{id}-stream")?;
-    check_sink(&rt, fs::create(&rt, path.as_str())?);
-    check_source(&rt, fs::open(&rt, path.as_str())?, 16, "Look, a bird|");
-    check_source(&rt, fs::open(&rt, "/tmp")?, 4, "!");
-    check_short(&rt, fs::create(&rt, path.as_str())?);
-    assert!(rt; fs::read(&rt, path.as_str())?.as_slice() == b"Look, a bird".as_slice());
-    fs::remove_file(&rt, path.as_str())?;
+    let path = path_of(&rt, "-stream")?;
+    check_streams(&rt, &rt, path.as_str())?;
     Ok(())
+}
+
+/// Calls on a store, with what they give. A star stands for the path of a file.
+const CALLS: &str = "*@0=?|*<Look, a bird=|*@6=a bird|*@12=|/tmp/hs_outside-none@12=?|*@0=Look, a |\
+    *<No birds, no planes=|*@8=, no pla|*@16=nes|*@1099511627776=|/tmp@0=!|/tmp<=!";
+
+/// The calls on the file of that path.
+fn calls_on(alloc: Global, path: &str) -> Result<String, AllocError> {
+    let mut calls = String::new(alloc);
+    for (number, part) in CALLS.split('*').enumerate() {
+        if 0 < number {
+            calls.push_str(path)?;
+        }
+        calls.push_str(part)?;
+    }
+    Ok(calls)
 }
 
 #[test]
 fn a_folder_store_reads_what_was_put(rt: HostRuntime) -> Result<(), Fail> {
-    let p = format!(in rt.alloc(); "/tmp/hs_outside-{}-store", process::id(rt.process()))?;
-    let rows = format!(in rt.alloc();
-        "{p}@0=?|{p}<Look, a bird=|{p}@6=a bird|{p}@12=|/tmp/hs_outside-none@12=?|\
-        {p}@0=Look, a |{p}<No birds, no planes=|{p}@8=, no pla|{p}@16=nes|{p}@1099511627776=|/tmp@0=!|/tmp<=!"
-    )?;
-    check_calls(&rt, &mut FolderStore::new(&rt), rows.as_str());
-    fs::remove_file(&rt, p.as_str())?;
+    let path = path_of(&rt, "-store")?;
+    let calls = calls_on(rt.alloc(), path.as_str())?;
+    check_calls(&rt, &mut FolderStore::new(&rt), calls.as_str());
+    fs::remove_file(&rt, path.as_str())?;
     Ok(())
 }
 
+/// So many copies of a part behind what stands before.
+fn name_of(alloc: Global, before: &str, part: &str, times: usize) -> Result<String, AllocError> {
+    let mut name = String::from_str(alloc, before)?;
+    for _copy in 0..times {
+        name.push_str(part)?;
+    }
+    Ok(name)
+}
+
 #[test]
-fn a_put_that_cannot_be_whole_fails(rt: HostRuntime) -> Result<(), Fail> {
+fn a_put_that_cannot_be_whole_fails(rt: HostRuntime) -> Result<(), AllocError> {
     // A file's name may have 255 bytes, a path 4,095, and a full device takes none.
     for (before, part, times) in [("/tmp/", "x", 256), ("", "./", 2_050), ("/dev/full", "", 1)] {
-        let mut name = String::from_str(rt.alloc(), before)?;
-        for _copy in 0..times {
-            name.push_str(part)?;
-        }
-        let answer = FolderStore::new(&rt).put(name.as_str(), b"Look");
-        assert!(rt; answer == Err(Failed), "{before}");
+        let name = name_of(rt.alloc(), before, part, times)?;
+        assert!(rt; !is_put(&rt, name.as_str(), b"Look"), "{before}");
     }
     Ok(())
 }

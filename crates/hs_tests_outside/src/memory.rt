@@ -22,27 +22,37 @@ fn given(read: Result<usize, StoreFault>, buf: &[u8]) -> Option<&[u8]> {
     }
 }
 
+/// Whether a read gives what the row says, into a buffer of so many bytes.
+fn is_read_so(source: &mut impl Source, room: usize, row: &str) -> bool {
+    let mut buf = *b"________________";
+    let read = match source.read(&mut buf[..room.min(16)]) {
+        Ok(n) => Ok(n),
+        Err(Failed) => Err(StoreFault::Failed),
+    };
+    given(read, &buf) == Some(row.as_bytes())
+}
+
 /// Asserts what these reads give, one after another, into a buffer of so many bytes.
 pub(crate) fn check_reads(rt: &impl Abort, source: &mut impl Source, room: usize, rows: &str) {
     for row in rows.split('|') {
-        let mut buf = *b"________________";
-        let read = match source.read(&mut buf[..room.min(16)]) {
-            Ok(n) => Ok(n),
-            Err(Failed) => Err(StoreFault::Failed),
-        };
-        assert!(rt; given(read, &buf) == Some(row.as_bytes()), "{row}");
+        assert!(rt; is_read_so(source, room, row), "{row}");
     }
 }
 
-/// Asserts the answers of these writes, one after another: bytes, and how many are taken, or `!` where the sink fails.
+/// Whether a write is answered as the row says: bytes, and how many are taken, or `!` where the sink fails.
+fn is_write_so(sink: &mut impl Sink, row: &str) -> bool {
+    let (bytes, count) = row.split_once('=').unwrap_or((row, "!"));
+    let found = match sink.write(bytes.as_bytes()) {
+        Ok(n) => b'0' + (n % 10) as u8,
+        Err(Failed) => b'!',
+    };
+    count.as_bytes() == [found].as_slice()
+}
+
+/// Asserts the answers of these writes, one after another.
 pub(crate) fn check_writes(rt: &impl Abort, sink: &mut impl Sink, rows: &str) {
     for row in rows.split('|') {
-        let (bytes, count) = row.split_once('=').unwrap_or((row, "!"));
-        let found = match sink.write(bytes.as_bytes()) {
-            Ok(n) => b'0' + (n % 10) as u8,
-            Err(Failed) => b'!',
-        };
-        assert!(rt; count.as_bytes() == [found].as_slice(), "{row}");
+        assert!(rt; is_write_so(sink, row), "{row}");
     }
 }
 
@@ -58,13 +68,18 @@ fn answer(store: &mut impl Store, call: &str, buf: &mut [u8]) -> Result<usize, S
     store.read_at(name, offset.parse::<u64>().unwrap_or(0), buf)
 }
 
+/// Whether a call gives what the row says, with a buffer of eight bytes.
+fn is_call_so(store: &mut impl Store, row: &str) -> bool {
+    let mut buf = *b"________";
+    let (call, wanted) = row.split_once('=').unwrap_or((row, ""));
+    let read = answer(store, call, &mut buf);
+    given(read, &buf) == Some(wanted.as_bytes())
+}
+
 /// Asserts what these calls give, one after another, with a buffer of eight bytes.
 pub(crate) fn check_calls(rt: &impl Abort, store: &mut impl Store, rows: &str) {
     for row in rows.split('|') {
-        let mut buf = *b"________";
-        let (call, wanted) = row.split_once('=').unwrap_or((row, ""));
-        let read = answer(store, call, &mut buf);
-        assert!(rt; given(read, &buf) == Some(wanted.as_bytes()), "{row}");
+        assert!(rt; is_call_so(store, row), "{row}");
     }
 }
 

@@ -1,7 +1,6 @@
 //! Words and what they ask for, by the rules of `clap`. It is `#[cfg(test)]`.
 use hs_request::{Request, request_of};
 use std::alloc::{AllocError, Global};
-use std::test::Fail;
 
 /// A command line, an equals sign, and the command with its two operands, or nothing where the words aren't taken.
 const ROWS: &str = "hs_tool match p f=match,p,f
@@ -75,14 +74,19 @@ fn told(alloc: Global, words: &[String]) -> Result<String, AllocError> {
     }
 }
 
+/// What a command line asks for.
+fn told_by(alloc: Global, line: &str) -> Result<String, AllocError> {
+    let words = words_of(alloc, line)?;
+    told(alloc, &words)
+}
+
 #[test]
-fn takes_commands_with_their_operands_alone(rt: HostRuntime) -> Result<(), Fail> {
+fn takes_commands_with_their_operands_alone(rt: HostRuntime) -> Result<(), AllocError> {
     for row in ROWS.split('\n') {
         let (line, wanted) = row.split_once('=').unwrap_or((row, "?"));
-        let words = words_of(rt.alloc(), line)?;
-        let found = told(rt.alloc(), words.as_slice())?;
+        let found = told_by(rt.alloc(), line)?;
         assert!(rt; found.as_str() == wanted, "{row} gives {found}");
     }
-    assert!(rt; request_of(rt.alloc(), &[])?.is_none());
+    assert!(rt; told(rt.alloc(), &[])?.is_empty());
     Ok(())
 }

@@ -19,13 +19,13 @@ fn told(
         .collect(alloc)
 }
 
-/// Numbers below 10 as their digits.
-fn digits(alloc: Global, numbers: &[usize]) -> Result<Vec<u8>, AllocError> {
-    let mut shown = Vec::new(alloc);
-    for number in numbers {
-        shown.push(b'0' + (*number % 10) as u8)?;
+/// Whether the numbers, which are below 10, are these digits.
+fn are_digits(numbers: &[usize], digits: &[u8]) -> bool {
+    let mut same = numbers.len() == digits.len();
+    for (number, digit) in numbers.iter().zip(digits.iter()) {
+        same &= *number == usize::from(digit.wrapping_sub(b'0'));
     }
-    Ok(shown)
+    same
 }
 
 /// Literals, what stands before, the bytes, and which numbers end behind the last byte.
@@ -56,16 +56,21 @@ hi,ghi,fghi,efghi,defghi,cdefghi,bcdefghi,abcdefghi,;;ghi;01\n\
 ~a~b~c~d~e~f~g~h~i,;;ABCDEFGHI;0\n\
 ~a~b~c~d~e~f~g~h~i,;Ab;CdEfGhI;0";
 
+/// Whether a row is so.
+fn is_so(alloc: Global, row: &[u8]) -> Result<bool, AllocError> {
+    let mut fields = row.split(|byte| *byte == b';');
+    let list = fields.next().unwrap_or(b"");
+    let history = fields.next().unwrap_or(b"");
+    let bytes = fields.next().unwrap_or(b"");
+    let wanted = fields.next().unwrap_or(b"?");
+    let found = told(alloc, list, history, bytes)?;
+    Ok(are_digits(&found, wanted))
+}
+
 #[test]
 fn tells_the_literals_that_end(rt: HostRuntime) -> Result<(), AllocError> {
     for row in ROWS.split(|byte| *byte == b'\n') {
-        let mut fields = row.split(|byte| *byte == b';');
-        let list = fields.next().unwrap_or(b"");
-        let history = fields.next().unwrap_or(b"");
-        let bytes = fields.next().unwrap_or(b"");
-        let found = told(rt.alloc(), list, history, bytes)?;
-        let shown = digits(rt.alloc(), &found)?;
-        assert!(rt; fields.next() == Some(shown.as_slice()), "{row:?}");
+        assert!(rt; is_so(rt.alloc(), row)?, "{row:?}");
     }
     Ok(())
 }
@@ -112,30 +117,57 @@ fn agrees_behind(
     Ok(true)
 }
 
+/// Whether the plain program tells the same of each bucket at each place behind some cuts.
+fn agrees(alloc: Global, confirm: &Confirm, literals: &[Vec<LitByte>]) -> Result<bool, AllocError> {
+    for cut in [0, 1, 2, 33, TEXT.len()] {
+        if !agrees_behind(alloc, confirm, literals, cut)? {
+            return Ok(false);
+        }
+    }
+    Ok(true)
+}
+
+/// Whether it is so of the list.
+fn agrees_on_the_list(alloc: Global) -> Result<bool, AllocError> {
+    let literals = literals_of(alloc, LIST)?;
+    if literals.len() != FILED.len() {
+        return Ok(false);
+    }
+    agrees(alloc, &Confirm::build(alloc, &literals, &FILED)?, &literals)
+}
+
 #[test]
 fn agrees_with_the_plain_program_at_each_place(rt: HostRuntime) -> Result<(), AllocError> {
-    let literals = literals_of(rt.alloc(), LIST)?;
-    assert!(rt; literals.len() == FILED.len());
-    let confirm = Confirm::build(rt.alloc(), literals.as_slice(), &FILED)?;
-    for cut in [0, 1, 2, 33, TEXT.len()] {
-        let agrees = agrees_behind(rt.alloc(), &confirm, literals.as_slice(), cut)?;
-        assert!(rt; agrees, "cut {cut}");
-    }
+    assert!(rt; agrees_on_the_list(rt.alloc())?);
     Ok(())
 }
 
-/// The numbers that end behind `cab` of the buckets that the mask leaves open.
-fn told_of(alloc: Global, confirm: &Confirm, mask: u8) -> Result<Vec<u8>, AllocError> {
+/// Whether just these numbers end behind `cab` of the buckets that the mask leaves open.
+fn is_left(alloc: Global, confirm: &Confirm, mask: u8, wanted: &[u8]) -> Result<bool, AllocError> {
     let told: Vec<usize> = confirm.place_ends(mask, b"ca", b"b", 1).collect(alloc)?;
-    digits(alloc, &told)
+    Ok(are_digits(&told, wanted))
+}
+
+/// Whether just the buckets are told that are left open: all, and three of them.
+fn are_left(alloc: Global, confirm: &Confirm) -> Result<bool, AllocError> {
+    let all = is_left(alloc, confirm, 0, b"01235")?;
+    Ok(is_left(alloc, confirm, 0b1111_0110, b"015")? & all)
+}
+
+/// Whether just those are told of six literals.
+fn are_told(alloc: Global) -> Result<bool, AllocError> {
+    let literals = literals_of(alloc, b"ab,b,ab,cab,xab,ab,")?;
+    if literals.len() != 6 {
+        return Ok(false);
+    }
+    are_left(
+        alloc,
+        &Confirm::build(alloc, &literals, &[3, 0, 7, 1, 0, 0])?,
+    )
 }
 
 #[test]
 fn tells_all_buckets_that_are_left_open(rt: HostRuntime) -> Result<(), AllocError> {
-    let literals = literals_of(rt.alloc(), b"ab,b,ab,cab,xab,ab,")?;
-    assert!(rt; literals.len() == 6);
-    let confirm = Confirm::build(rt.alloc(), literals.as_slice(), &[3, 0, 7, 1, 0, 0])?;
-    assert!(rt; told_of(rt.alloc(), &confirm, 0)?.as_slice() == b"01235".as_slice());
-    assert!(rt; told_of(rt.alloc(), &confirm, 0b1111_0110)?.as_slice() == b"015".as_slice());
+    assert!(rt; are_told(rt.alloc())?);
     Ok(())
 }

@@ -3,7 +3,6 @@ ghost use Rattle.std.specs.Prelude.{◌≡◌, ◌≤◌, ◌*◌, ◌^◌, IfOk
 
 use hs_fdr::{PLACES, Tables, plain_block, scan_block};
 use std::alloc::{AllocError, Global};
-use std::process::Abort;
 
 /// As many masks as tables of that width have, all the same.
 fn all_masks(alloc: Global, width: u8, mask: u8) -> Result<Vec<u8>, AllocError>
@@ -65,19 +64,24 @@ fn agrees(tables: &Tables, before: &[u8], block: &[u8]) -> bool {
     true
 }
 
+/// Whether they make the same of blocks of many lengths, with so many bytes of the text before them.
+fn agrees_behind(tables: &Tables, text: &[u8; 71], before: usize) -> bool {
+    for length in [0, 1, 7, 8, 9, 15, 16, 17, 56, 57, 63, 64] {
+        if !agrees(tables, &text[7 - before.min(7)..7], &text[7..7 + length]) {
+            return false;
+        }
+    }
+    true
+}
+
 #[test]
 fn lanes_agree_with_the_plain_program(rt: HostRuntime) -> Result<(), AllocError> {
     let text = mixed_text();
     for width in [9, 12, 15] {
         let tables = mixed_tables(rt.alloc(), width)?;
         for before in 0..8 {
-            for length in [0, 1, 7, 8, 9, 15, 16, 17, 56, 57, 63, 64] {
-                let (front, block) = (&text[7 - before..7], &text[7..7 + length]);
-                assert!(rt;
-                    agrees(&tables, front, block),
-                    "width {width}, {before} before {length}"
-                );
-            }
+            let holds = agrees_behind(&tables, &text, before);
+            assert!(rt; holds, "width {width}, {before} before");
         }
     }
     Ok(())
@@ -102,31 +106,54 @@ fn tables_of_ab(alloc: Global) -> Result<Tables, AllocError> {
     Tables::from_masks(alloc, 9, masks.as_slice())
 }
 
-/// The bytes before a block, the block, the byte behind it or none, and the masks that aren't 255.
-const ROWS: &[u8] = b";;;|;xab;;\xFF\xFF\xFE|;b;;\xFE|x;b;;\xFF|a;b;;\xFE|xxxxxxa;bx;;\xFE\xFF|\
-    a;b;\x01;\xFC|a;b;\x02;\xFE|;aba;\x01;\xFF\xFC\xFF";
+/// The bytes before a block, the block, the byte behind it, if there is one, and the first masks; the others are 255.
+type Row = (&'static [u8], &'static [u8], Option<u8>, &'static [u8]);
 
-/// Asserts the masks of a row.
-fn check_row(rt: &impl Abort, tables: &Tables, row: &[u8]) {
-    let mut fields = row.split(|byte| *byte == b';');
-    let before = fields.next().unwrap_or(b"");
-    let block = fields.next().unwrap_or(b"");
-    let next = fields.next().unwrap_or(b"").first().copied();
-    let wanted = fields.next().unwrap_or(b"");
-    for (at, mask) in by_lanes(tables, before, block, next).iter().enumerate() {
-        let full = wanted.get(at).copied().unwrap_or(0xFF);
-        assert_eq!(rt; *mask, full, "place {at} of {row:?}");
+const ROWS: [Row; 9] = [
+    (b"", b"", None, b""),
+    (b"", b"xab", None, b"\xFF\xFF\xFE"),
+    (b"", b"b", None, b"\xFE"),
+    (b"x", b"b", None, b"\xFF"),
+    (b"a", b"b", None, b"\xFE"),
+    (b"xxxxxxa", b"bx", None, b"\xFE\xFF"),
+    (b"a", b"b", Some(1), b"\xFC"),
+    (b"a", b"b", Some(2), b"\xFE"),
+    (b"", b"aba", Some(1), b"\xFF\xFC\xFF"),
+];
+
+/// Whether the masks of a row are as they are to be.
+fn is_so(tables: &Tables, row: Row) -> bool {
+    let (before, block, next, masks) = row;
+    let mut wanted = [0xFF; 64];
+    for (slot, mask) in wanted.iter_mut().zip(masks.iter()) {
+        *slot = *mask;
     }
+    by_lanes(tables, before, block, next) == wanted
+}
+
+/// The first row that isn't so.
+fn first_wrong(tables: &Tables) -> Option<Row> {
+    for row in ROWS {
+        if !is_so(tables, row) {
+            return Some(row);
+        }
+    }
+    None
+}
+
+/// Whether the tables have their width, and masks at some places.
+fn have_masks(tables: &Tables) -> bool {
+    tables.width() == 9
+        && tables.mask(0, 98) == 0xFE
+        && tables.mask(1, 97) == 0xFC
+        && tables.mask(1, 98) == 0xFD
+        && tables.mask(7, 0) == 0xFC
 }
 
 #[test]
 fn marks_the_last_byte_of_a_literal(rt: HostRuntime) -> Result<(), AllocError> {
     let tables = tables_of_ab(rt.alloc())?;
-    assert_eq!(rt; tables.width(), 9);
-    assert!(rt; tables.mask(0, 98) == 0xFE && tables.mask(1, 97) == 0xFC);
-    assert!(rt; tables.mask(1, 98) == 0xFD && tables.mask(7, 0) == 0xFC);
-    for row in ROWS.split(|byte| *byte == b'|') {
-        check_row(&rt, &tables, row);
-    }
+    assert!(rt; have_masks(&tables));
+    assert_eq!(rt; first_wrong(&tables), None);
     Ok(())
 }

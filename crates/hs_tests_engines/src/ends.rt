@@ -52,29 +52,41 @@ const LISTS: &[u8] = b"|ab,|ba,ba,ba,ba,|\
     a,ba,aba,baba,ababa,bababa,abababa,babababa,ababababa,bababababa,|aa,ab,ac,ba,bb,bc,ca,cb,cc,|\
     abcabcabcabcabcabcabcabcabcabcabca,bcabcabcabcabcabcabcabcabcabcabcab,|~aB,~a~b,Ab,AB,~cab,~c~a~b,";
 
-/// Asserts that what is told of the text, cut at some places, is what the plain program tells.
-fn check_list(
-    rt: &impl Abort,
+/// Whether what is told of the text, cut there, is what the plain program tells.
+fn agrees_at(
     alloc: Global,
+    built: &Literals,
     literals: &[Vec<LitByte>],
     text: &[u8],
-) -> Result<(), AllocError> {
-    let built = Literals::build(alloc, literals)?;
-    for cut in [0, 1, 7, 8, 64, 150] {
-        let (history, bytes) = text.split_at(cut.min(text.len()));
-        let plain = plain_scan(alloc, literals, history, bytes)?;
-        let found = told(alloc, &built, history, bytes)?;
-        assert!(rt; found.as_slice() == plain.as_slice(), "cut {cut}");
-    }
-    Ok(())
+    cut: usize,
+) -> Result<bool, AllocError> {
+    let (history, bytes) = text.split_at(cut.min(text.len()));
+    let found = told(alloc, built, history, bytes)?;
+    Ok(found == plain_scan(alloc, literals, history, bytes)?)
 }
 
-/// Asserts that of texts over so many letters each list tells what the plain program tells.
+/// Whether it is that at each of some cuts.
+fn agrees(alloc: Global, literals: &[Vec<LitByte>], text: &[u8]) -> Result<bool, AllocError> {
+    let built = Literals::build(alloc, literals)?;
+    for cut in [0, 1, 7, 8, 64, 150] {
+        if !agrees_at(alloc, &built, literals, text, cut)? {
+            return Ok(false);
+        }
+    }
+    Ok(true)
+}
+
+/// Whether it is that of the literals of a list.
+fn agrees_on(alloc: Global, list: &[u8], text: &[u8]) -> Result<bool, AllocError> {
+    let literals = literals_of(alloc, list)?;
+    agrees(alloc, &literals, text)
+}
+
+/// Asserts that of a text over so many letters each list tells what the plain program tells.
 fn check_letters(rt: &impl Abort, alloc: Global, letters: u8) -> Result<(), AllocError> {
     let text = mixed_text(alloc, 150, letters)?;
     for list in LISTS.split(|byte| *byte == b'|') {
-        let literals = literals_of(alloc, list)?;
-        check_list(rt, alloc, literals.as_slice(), text.as_slice())?;
+        assert!(rt; agrees_on(alloc, list, &text)?, "{list:?}");
     }
     Ok(())
 }
