@@ -16,7 +16,7 @@ use crate::step::Step;
 use crate::steps::Steps;
 use hs_forest::Forest;
 use hs_layout::Layout;
-use hs_nodes::{Graph, NodeTable, WakeTable};
+use hs_nodes::{Graph, NodeTable, WakeTable, idle_engines};
 use hs_reports::Identifier;
 use hs_rose::{PieceEngine, Program};
 use std::alloc::{AllocError, Global};
@@ -138,5 +138,6 @@ pub(crate) fn build_graph(
     let parts = built(alloc, &program, layout)?;
     let wakes = wake_table(alloc, &parts.nodes.nodes, literals as usize)?;
     let identifiers = report_identifiers(alloc, program.identifiers())?;
+    idle_engines(alloc, program.engines())?;
     Ok(graph_of(parts, program, identifiers, wakes))
 }

@@ -1,5 +1,5 @@
 -- Ends are gathered node by node.
-use Rattle.std.proofs.Common.{◌≡◌, ℕ, zero, suc, ◌+◌, ◌<◌, ◌≤◌, true, List, [], ◌∷◌, length, Some, slice_get, refl, sym, ap, subst, ◌∙◌, arith}
+use Rattle.std.proofs.Common.{◌≡◌, ℕ, zero, suc, ◌+◌, ◌<◌, ◌≤◌, Bool, true, false, List, [], ◌∷◌, length, Some, slice_get, refl, sym, ap, subst, ◌∙◌, arith}
 use Rattle.std.specs.Prelude.{slice_index, slice_index_or}
 use Rattle.std.proofs.lemmas.Option.{same_Some}
 use Rattle.hs_engine.specs.Engines.{Meaning}
@@ -66,6 +66,12 @@ module _ {E : Type 0} (graph : Graph E) (ends : List ChunkEnds) (all : ChunkEnds
         gathering-passes graph.terminals.items (left_before ends all block) (left_behind ends all block) at from to table order
         (λ k low high. resting k (omega (arith, high, inside)) (none k low high)) is.gathered;
   }
+
+  -- all of them are, or none is left anywhere
+  pub gathered-or : (at k : ℕ) (is_any : Bool) (first table : EndTable) → k ≤ length graph.table.nodes.items → (is_any ≡ true → k ≡ length graph.table.nodes.items) → (is_any ≡ false → (j : ℕ) → node_ends ends j ≡ nowhere) → IsGatheredTo graph ends all block at k first table →
+      IsGatheredTo graph ends all block at (length graph.table.nodes.items) first table
+  gathered-or at k true first table within whole none is = subst (λ n. IsGatheredTo graph ends all block at n first table) (whole refl) is
+  gathered-or at k false first table within whole none is = gathered-passed at k (length graph.table.nodes.items) first table within (omega arith) (λ j low high. none refl j) is
 
   pub gathered-more : (at k : ℕ) (own : ChunkEnds) (first table next : EndTable) → k < length graph.table.nodes.items → slice_get ends k ≡ Some own → IsGatheredTo graph ends all block at k first table → length next.words ≡ length table.words →
       ((p : ℕ) → is_noted table p ≡ true → is_noted next p ≡ true) → GathersNode graph k at (slice_index own.before block) (slice_index own.behind block) table next → IsGatheredTo graph ends all block at (k + 1) first next

@@ -229,6 +229,11 @@ node-leaves meaning engines region prev at past next hits ends own entered left 
 pub loop-done : (k end count : ℕ) → end ≤ k → k ≤ end → end ≡ count → k ≡ count
 loop-done k end count done low is = omega (arith, done, low, is)
 
+pub none-either : (a b : Bool) → (a || b) ≡ false → (a ≡ false) × (b ≡ false)
+none-either false false none = (refl, refl)
+none-either false true none = absurd (let e : true ≡ false = none in cc)
+none-either true b none = absurd (let e : true ≡ false = none in cc)
+
 -- all nodes, one after the other
 
 module _ {E : Type 0} (meaning : E → Meaning) (table : NodeTable E) (region : List ℕ) (prev : Prev) (at : ℕ) (past : List ℕ) (next : Next) (hits : List ChunkHits) where
@@ -240,16 +245,15 @@ module _ {E : Type 0} (meaning : E → Meaning) (table : NodeTable E) (region : 
   entered-tells ends count pieces u None below tells = leaving-begins u next
   entered-tells ends count pieces u (Some p) below tells = tells p (below p refl)
 
-  pub leaves-more : (ends : List ChunkEnds) (k : ℕ) (node : Node) (own : ChunkEnds) (left : Bool) → k < length ends → slice_get table.nodes.items k ≡ Some node → ((p : ℕ) → node.parent ≡ Some p → p < k) → is_left own ≡ left →
-      LeavesPiece meaning table.engines.items node.kind (node_part region node) prev at past next hits (is_entered ends node.parent) left → LeavesNodes meaning table region prev at past next hits ends k → LeavesNodes meaning table region prev at past next hits (set ends k own) (k + 1)
-  leaves-more ends k node own left inside there_node earlier own_is leaves before literals pieces u are stands past_is small hits_are held j below = elim (cases_eq j k) [
-    | inr apart ↦ subst (λ (e : ChunkEnds). TellsLeft (is_left e) (pieces j) u next) (sym (get_or-set_other ends k j own nowhere apart)) (before literals pieces u are stands past_is small hits_are held j (omega (arith, below, apart)))
+  pub leaves-more : (ends ends' : List ChunkEnds) (k : ℕ) (node : Node) (left : Bool) → slice_get table.nodes.items k ≡ Some node → ((p : ℕ) → node.parent ≡ Some p → p < k) → ((j : ℕ) → (j ≡ k → ⊥) → node_ends ends' j ≡ node_ends ends j) → is_left (node_ends ends' k) ≡ left →
+      LeavesPiece meaning table.engines.items node.kind (node_part region node) prev at past next hits (is_entered ends node.parent) left → LeavesNodes meaning table region prev at past next hits ends k → LeavesNodes meaning table region prev at past next hits ends' (k + 1)
+  leaves-more ends ends' k node left there_node earlier others own_is leaves before literals pieces u are stands past_is small hits_are held j below = elim (cases_eq j k) [
+    | inr apart ↦ subst (λ (e : ChunkEnds). TellsLeft (is_left e) (pieces j) u next) (sym (others j apart)) (before literals pieces u are stands past_is small hits_are held j (omega (arith, below, apart)))
     | inl same ↦
         let of = are k node there_node in
         let enters = entered-tells ends k pieces u node.parent earlier (before literals pieces u are stands past_is small hits_are held) in
         let holds = stands-held meaning table.engines.items node.kind node.parent (pieces k) (parent_pieces pieces node.parent) of.before of.piece (node_part region node) u of.behind of.own (held k node there_node) in
         let now = leaves literals of.before of.rest of.piece u of.runs of.fit stands past_is small hits_are holds (stands-entered node.kind node.parent (parent_pieces pieces node.parent) of.before (is_entered ends node.parent) u next of.behind enters) in
-        subst (λ n. TellsLeft (is_left (node_ends (set ends k own) n)) (pieces n) u next) (sym same)
-        (subst (λ (e : ChunkEnds). TellsLeft (is_left e) (pieces k) u next) (sym (get_or-set_same ends k own nowhere inside))
-        (subst (λ b. TellsLeft b (pieces k) u next) (sym own_is) (subst (λ ps. TellsLeft left ps u next) (sym of.own) now)))
+        subst (λ n. TellsLeft (is_left (node_ends ends' n)) (pieces n) u next) (sym same)
+        (subst (λ b. TellsLeft b (pieces k) u next) (sym own_is) (subst (λ ps. TellsLeft left ps u next) (sym of.own) now))
   ]

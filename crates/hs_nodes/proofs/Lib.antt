@@ -6,6 +6,7 @@ pub mod MarkLemmas
 pub mod FlatLemmas
 pub mod PassLemmas
 pub mod LiteralLemmas
+pub mod RowLemmas
 pub mod FirstLemmas
 pub mod KindLemmas
 pub mod RangeLemmas
@@ -14,6 +15,7 @@ pub mod LookLemmas
 pub mod PairLemmas
 pub mod RestLemmas
 pub mod WalkLemmas
+pub mod LivingLemmas
 pub mod SettleLemmas
 pub mod TickLemmas
 pub mod LeavingLemmas

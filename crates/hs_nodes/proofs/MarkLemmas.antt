@@ -10,7 +10,8 @@ use Rattle.std.proofs.lemmas.Nat.Bits.{bit_at-zero, bit_at_above}
 use Rattle.std.proofs.lemmas.Nat.{pow-add}
 use Rattle.std.proofs.Math.ListN.{drop_of_length-le}
 use Rattle.std.proofs.Math.Nat.{div-div-eq-div-mul}
-use Rattle.hs_base.specs.Bits.{has_word_bit}
+use Rattle.hs_base.specs.Bits.{AreZero, has_word_bit}
+use Rattle.hs_base.proofs.BitLemmas.{zero-all}
 use Rattle.hs_bits.specs.LowestBits.{IsLowestBit}
 use Rattle.hs_bits.specs.NextBits.{IsNextBit, IsNextBitIn, is_in_either}
 use Rattle.hs_bits.proofs.NextLemmas.{next-in_word, next-same, none-left, nowhere-join}
@@ -148,3 +149,22 @@ summed-whole words summary words' summary' new now w n n' some summed same same'
     let own = summed-written words summary new now w some summed there (new_is ∙ ap (λ ws. slice_set ws w (get_or new w 0)) same) some_is (len ∙ ap length same') put (λ k apart. others k apart ∙ ap (λ ws. has_word_bit ws k) same') in
     subst (λ ws. IsSummed ws (take n' (now ++ drop (length now) summary))) (sym (whole-written new words n wide count))
     (subst (λ ws. IsSummed new ws) (sym (whole-written now summary n' (len ∙ ap length same') count')) own)
+
+-- all marks are taken away
+pub summed-clear : (words summary words' summary' new now : List ℕ) (n n' : ℕ) → IsSummed words summary → words' ≡ words → summary' ≡ summary → length new ≡ length words' → length now ≡ length summary' → AreZero new → AreZero now → n ≡ length words → n' ≡ length summary →
+    IsSummed (take n (new ++ drop (length new) words)) (take n' (now ++ drop (length now) summary))
+summed-clear words summary words' summary' new now n n' summed same same' len len' zeros zeros' count count' =
+    let wide : length new ≡ length words = len ∙ ap length same in
+    let wide' : length now ≡ length summary = len' ∙ ap length same' in
+    let own : IsSummed new now = record {
+      room = omega (arith, wide, wide', summed.room);
+      small = omega (arith, wide, summed.small);
+      small_summary = omega (arith, wide', summed.small_summary);
+      is = λ w low. words-zero now (zero-all now zeros') w ∙ sym (ap (λ m. not (eqb m 0)) (zero-all new zeros w));
+    } in
+    subst (λ ws. IsSummed ws (take n' (now ++ drop (length now) summary))) (sym (whole-written new words n wide count))
+    (subst (λ ws. IsSummed new ws) (sym (whole-written now summary n' wide' count')) own)
+
+pub clear-marks : (words words' new : List ℕ) (n : ℕ) → words' ≡ words → length new ≡ length words' → AreZero new → n ≡ length words → (k : ℕ) → has_word_bit (take n (new ++ drop (length new) words)) k ≡ false
+clear-marks words words' new n same len zeros count k =
+    ap (λ ws. has_word_bit ws k) (whole-written new words n (len ∙ ap length same) count) ∙ words-zero new (zero-all new zeros) k

@@ -9,6 +9,7 @@ pub mod Nodes
 pub mod LookBacks
 pub mod Walks
 pub mod Resting
+pub mod Living
 pub mod Waking
 pub mod Graphs
 pub mod Leaving

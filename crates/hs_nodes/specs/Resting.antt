@@ -29,6 +29,16 @@ pub record IsIdleEngine (m : Meaning) (part : List ℕ) : Type 0 where
   pub rests : IsAtRest m part
   pub starts : IsStart m part
 
+-- Nothing is live in a region of the engines in which all bytes are 0, and it may stand at any offset.
+abbrev pub AreEnginesIdle : {E : Type 0} (meaning : E → Meaning) (engines : List E) → Type 0
+AreEnginesIdle {E = E} meaning engines =
+    (number : ℕ) (e : E) (part : List ℕ) →
+    slice_get engines number ≡ Some e →
+    (meaning e).always ≡ false →
+    length part ≡ (meaning e).width →
+    AreZero part →
+    IsIdleEngine (meaning e) part
+
 -- no byte of a chunk wakes an engine
 pub record IsAsleepIn (m : Meaning) (bytes : List ℕ) : Type 0 where
   pub wakers : ByteSet

@@ -99,17 +99,27 @@ pub fn gather_block<E: BlockEngine>(
     );
 }
 
+/// So many, if that is wanted, or none.
+fn count_if(wanted: bool, count: usize) -> usize
+    ensures within { result ≤ count }
+    ensures whole { wanted ≡ true → result ≡ count }
+{
+    if wanted { count } else { 0 }
+}
+
 /// Adds the ends that all nodes give in the first block of the chunk at the offset `at`, whatever is marked; `all` is
-/// everywhere.
+/// everywhere. No node is left anywhere, unless `is_any`.
 pub fn gather_all<E: BlockEngine>(
     graph: &Graph<E>,
     ends: &[ChunkEnds],
+    is_any: bool,
     all: &ChunkEnds,
     at: u64,
     table: &mut IdentifierEnds,
 )
     requires sound { AreTerminalsSound graph.now }
     requires ends { length ends.now ≡ length graph.now.table.nodes.items }
+    requires nowhere { is_any ≡ false → (k : ℕ) → node_ends ends.now k ≡ nowhere }
     requires count { length table.old.words ≡ length graph.now.identifiers.items }
     requires none { HasNoEnds table.old }
     requires room { at < 2 ^ 63 }
@@ -119,7 +129,7 @@ pub fn gather_all<E: BlockEngine>(
         (length graph.now.table.nodes.items + 1) table.new }
 {
     let nodes = graph.table.nodes.len();
-    for k in 0..nodes {
+    for k in 0..count_if(is_any, nodes) {
         let own = ends_at(ends, k);
         gather_node(graph, k, at, own.before[0], own.behind[0], table);
     }

@@ -8,7 +8,8 @@ ghost use Rattle.hs_base.specs.Trees.{Tree};
 ghost use Rattle.hs_nodes.specs.Contexts.{IsNull};
 ghost use Rattle.hs_nodes.specs.LookBacks.{TellsPair};
 ghost use Rattle.hs_nodes.specs.Nodes.{IsKindSound, IsWellPart, window_room};
-ghost use Rattle.hs_nodes.specs.Walks.{AreNodesWell, IsTableSound, node_part};
+ghost use Rattle.hs_nodes.specs.Left.{nowhere};
+ghost use Rattle.hs_nodes.specs.Walks.{AreNodesWell, IsTableSound, node_ends, node_part};
 ghost use Rattle.hs_nodes.specs.Leaving.{LeavesEngine, LeavesFirst, LeavesLiteral, LeavesNodes, LeavesPiece};
 ghost use Rattle.hs_nodes.specs.Leaving.{is_entered, is_left};
 ghost use Rattle.hs_nodes.specs.declared.table.Node.{Node};
@@ -199,24 +200,44 @@ fn leaves_node<E: BlockEngine, L: Ledger>(
     )
 }
 
-/// Writes into the ends of each node whether its pieces are left there.
+/// Writes into the ends of a node, which are nowhere, that its pieces are left, if they are.
+fn leave_if(ends: &mut [ChunkEnds], k: usize, left: bool)
+    requires there { k < length ends.old }
+    requires clear { node_ends ends.old k ≡ nowhere }
+    ensures count { length ends.new ≡ length ends.old }
+    ensures own { is_left (node_ends ends.new k) ≡ left }
+    ensures others { (j : ℕ) → (j ≡ k → ⊥) → node_ends ends.new j ≡ node_ends ends.old j }
+    ensures none { left ≡ false → ends.new ≡ ends.old }
+{
+    if left {
+        ends[k] = ends_if(true);
+    }
+}
+
+/// Writes into the ends of each node, which are nowhere, whether its pieces are left there. Answers whether those of
+/// any node are.
 pub fn leave_nodes<E: BlockEngine, L: Ledger>(
     table: &NodeTable<E>,
     region: &[u8],
     stop: &Stop,
     ends: &mut [ChunkEnds],
     steps: &mut Steps<L>,
-)
+) -> bool
     requires sound { IsTableSound E.meaning table.now (length stop.now.hits.now) (length region.now) }
     requires well { AreNodesWell E.meaning table.now region.now stop.now.at }
     requires count { length ends.old ≡ length table.now.nodes.items }
+    requires clear { (k : ℕ) → node_ends ends.old k ≡ nowhere }
     ensures count { length ends.new ≡ length ends.old }
     ensures ticks { steps.new ≤ steps.old + 16 * length table.now.nodes.items }
     ensures left { LeavesNodes E.meaning table.now region.now stop.now.prev stop.now.at stop.now.past.now stop.now.next
         stop.now.hits.now ends.new (length table.now.nodes.items) }
+    ensures none { result ≡ false → (k : ℕ) → node_ends ends.new k ≡ nowhere }
 {
+    let mut is_any = false;
     for k in 0..table.nodes.len() {
         let left = leaves_node(table, region, stop, ends, k, steps);
-        ends[k] = ends_if(left);
+        leave_if(ends, k, left);
+        is_any |= left;
     }
+    is_any
 }

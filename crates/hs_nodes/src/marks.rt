@@ -7,7 +7,8 @@ ghost use Rattle.hs_bits.specs.NextBits.{IsNextBitIn};
 ghost use Rattle.hs_nodes.specs.Marks.{IsSummed, is_marked, mark_room};
 
 use hs_bits::{
-    WORD_BITS, contains_word_bit, lowest_bit, next_bit_in, word_count_for, write_word_bit,
+    WORD_BITS, clear_words, contains_word_bit, lowest_bit, next_bit_in, word_count_for,
+    write_word_bit,
 };
 use std::alloc::{AllocError, Global};
 use std::marker::Model;
@@ -63,6 +64,15 @@ impl MarkSet {
     {
         let some = write_mark(&mut self.words, number, value);
         write_word_bit(&mut self.summary, number / WORD_BITS, some);
+    }
+
+    /// Takes all marks away.
+    pub fn clear(&mut self)
+        ensures room { length self.new ≡ length self.old }
+        ensures none { (k : ℕ) → is_marked self.new k ≡ false }
+    {
+        clear_words(&mut self.words);
+        clear_words(&mut self.summary);
     }
 
     /// The least number from `from` on that is marked; None exactly where there is none.

@@ -28,13 +28,13 @@ pub fn node_at<E>(table: &NodeTable<E>, k: usize) -> Node
 }
 
 /// Where the pieces before those of a node with that parent are left.
-fn entering(parent: Option<u32>, all: &ChunkEnds, ends: &[ChunkEnds]) -> ChunkEnds
+fn entering<'e>(parent: Option<u32>, all: &'e ChunkEnds, ends: &'e [ChunkEnds]) -> &'e ChunkEnds
     requires { (p : ℕ) → parent ≡ Some p → p < length ends.now }
-    ensures { result ≡ entering_ends parent all.now ends.now }
+    ensures { result.now ≡ entering_ends parent all.now ends.now }
 {
     match parent {
-        None => *all,
-        Some(parent) => ends[parent as usize],
+        None => all,
+        Some(parent) => &ends[parent as usize],
     }
 }
 
@@ -72,7 +72,7 @@ fn run_node<E: BlockEngine, L: Ledger>(
         &mut region[node.start as usize..node.end as usize],
         chunk,
         found,
-        &enters,
+        enters,
         steps,
     );
 }

@@ -97,3 +97,23 @@ module _ {E : Type 0} (graph : Graph E) (l : Laid) (fits : FitsLayout graph l) w
             (λ i low. let e : slice_index l.starts copy.field + i ≡ place + i = omega (arith, at_place) in ap (λ n. get_or new n 0) e ∙ here i (omega (arith, low, same))));
         outside = λ i out. elim out [ inl low ↦ below i (omega (arith, low, at_place)) | inr high ↦ from i (omega (arith, high, at_place, same, order)) ];
       }
+
+  -- where all bytes of fields are 0, all copies are made
+  pub copied-zeros : (region : List ℕ) → length region ≡ laid_size l → ((i : ℕ) → fields_at l.singles l.identifiers ≤ i → i < length region → get_or region i 0 ≡ 0) → AreFieldsCopied graph l (length graph.copies.items) region region
+  copied-zeros region size zeros = record {
+    len = refl;
+    copied = λ i copy node below at there.
+        let own = fits.copies i copy at in
+        let one : own.node ≡ node = same_Some own.node node (sym own.there ∙ there) in
+        let same : node.end - node.start ≡ slice_index l.starts (copy.field + 1) - slice_index l.starts copy.field = subst (λ z. z.end - z.start ≡ slice_index l.starts (copy.field + 1) - slice_index l.starts copy.field) one own.same in
+        let order = field-order copy.field own.within in
+        let within : slice_index l.starts (copy.field + 1) ≤ laid_size l = field-within copy.field own.within in
+        let first : fields_at l.singles l.identifiers ≤ slice_index l.starts copy.field = field-behind copy.field own.within in
+        let order' : node.start ≤ node.end = fits.order copy.node node there in
+        let within' : node.end ≤ laid_size l = fits.within copy.node node there in
+        let behind : fields_at l.singles l.identifiers ≤ node.start = fits.behind copy.node node there in
+        ranges-same region region (slice_index l.starts copy.field) (slice_index l.starts (copy.field + 1)) node.start node.end order (omega (arith, within, size)) order' (omega (arith, within', size)) (sym same)
+        (λ j low. zeros (slice_index l.starts copy.field + j) (omega (arith, first)) (omega (arith, low, order, within, size)) ∙ sym (zeros (node.start + j) (omega (arith, behind)) (omega (arith, low, same, order', within', size))));
+    nodes = λ k node there. refl;
+    header = λ i below. refl;
+  }

@@ -7,7 +7,6 @@ use Rattle.hs_literals.specs.HitTables.{AreMarked, HitTable, has_hit}
 use Rattle.hs_nodes.specs.Hits.{is_hit_at}
 use Rattle.hs_nodes.specs.Left.{nowhere}
 use Rattle.hs_nodes.specs.Marks.{is_marked, mark_room}
-use Rattle.hs_nodes.specs.Graphs.{keeps_field}
 use Rattle.hs_nodes.specs.Resting.{AreNodesResting, AreNodesUnwoken, IsResting, IsSettled}
 use Rattle.hs_nodes.specs.Waking.{AreEnginesUnwoken, AreWakesSound}
 use Rattle.hs_nodes.specs.Walks.{AreMoreMarks, ChangesMarked, IsAmongChildren, node_ends, node_part}
@@ -22,7 +21,6 @@ use Rattle.hs_nodes.proofs.WakeLemmas.{nodes-unwoken}
 use Rattle.hs_nodes.proofs.WalkLemmas.{there}
 use Rattle.hs_scan.specs.Hits.{HasNowhere, no_hits}
 use Rattle.hs_scan.specs.Scratches.{FitsRoom}
-use Rattle.hs_scan.specs.Writing.{AreKeepingMarked}
 use Rattle.hs_scan.proofs.HitLemmas.{no-hit}
 
 -- the nodes of the literals below a number are marked
@@ -89,15 +87,3 @@ module _ {E : Type 0} (meaning : E → Meaning) (graph : Graph E) where
     room = omega (arith, room, more.room, settled.room);
     below = λ k on. more.below k (settled.fewer k on);
   }
-
-  -- nothing is live in a node that keeps nothing
-  pub resting-kept : (marks region : List ℕ) → AreKeepingMarked graph.table.nodes.items marks → AreNodesResting meaning graph.table marks region
-  resting-kept marks region marked k node at none = by node.kind refl where
-    kept : keeps_field node.kind ≡ true → ⊥
-    kept keeps = let both : true ≡ false = sym (marked k node at keeps) ∙ none in absurd (cc)
-
-    by : (kind : NodeKind) → node.kind ≡ kind → IsResting meaning graph.table.engines.items kind (node_part region node)
-    by (Engine number null) is = absurd (kept (ap keeps_field is))
-    by (Literal number len) is = absurd (kept (ap keeps_field is))
-    by (FirstLiteral number len) is = tt
-    by (LookBack pair) is = tt

@@ -9,9 +9,8 @@ use Rattle.hs_base.specs.Regions.{Plan, history_at, region_offset, told_at}
 use Rattle.hs_base.specs.Told.{Pair, IsTold}
 use Rattle.hs_engine.specs.Engines.{Meaning}
 use Rattle.hs_layout.specs.Layouts.{Laid}
-use Rattle.hs_nodes.specs.Graphs.{RunsPlan, keeps_field}
+use Rattle.hs_nodes.specs.Graphs.{RunsPlan}
 use Rattle.hs_nodes.specs.Blocks.{EndsBehind, IsPast}
-use Rattle.hs_nodes.specs.Marks.{is_marked}
 use Rattle.hs_nodes.specs.Nodes.{AreHitsOf}
 use Rattle.hs_nodes.specs.Walks.{AreNodesHeld}
 use Rattle.hs_nodes.specs.declared.hits.ChunkHits.{ChunkHits}
@@ -38,13 +37,7 @@ pub record BeginsKnown (l : Laid) (region : List ℕ) (identifiers : List Identi
   pub pending : IsPending known
   pub read : AreRead l region identifiers known.told.items known.here.items
 
--- all nodes that keep something between two chunks are marked
-abbrev pub AreKeepingMarked : List Node → (marks : List ℕ) → Type 0
-AreKeepingMarked nodes marks =
-    (k : ℕ) (node : Node) → slice_get nodes k ≡ Some node → keeps_field node.kind ≡ true → is_marked marks k ≡ true
-
--- The scratch has where the stream of the region stands and what is known of it, and all nodes that keep something are
--- marked; all else is as before.
+-- The scratch has where the stream of the region stands and what is known of it; all else is as before.
 pub record BeginsWrite {E : Type 0} (graph : Graph E) (l : Laid) (region : List ℕ) (old new : Scratch) : Type 0 where
   pub room : FitsGraph graph new
   pub pending : IsPending new.course.known
@@ -54,7 +47,6 @@ pub record BeginsWrite {E : Type 0} (graph : Graph E) (l : Laid) (region : List 
   pub hits : new.hits ≡ old.hits
   pub rows : new.rows ≡ old.rows
   pub finals : new.finals ≡ old.finals
-  pub marked : AreKeepingMarked graph.table.nodes.items new.course.marks
 
 -- The row tells which identifiers a line feed leaves to the end: by what is known before it, by the ends about it, and
 -- by the ends before it were it the last byte.

@@ -1,6 +1,6 @@
 //! Where matches end behind all bytes so far, if that comes next.
 
-ghost use Rattle.std.specs.Prelude.{◌≡◌, ◌+◌, ◌*◌, ◌<◌, ◌≤◌, ◌^◌, ℕ, length};
+ghost use Rattle.std.specs.Prelude.{◌≡◌, ◌+◌, ◌*◌, ◌<◌, ◌≤◌, ◌^◌, ℕ, false, length};
 ghost use Rattle.hs_layout.specs.Layouts.{laid_size};
 ghost use Rattle.hs_literals.specs.Held.{held};
 ghost use Rattle.hs_nodes.specs.Graphs.{AreTerminalsSound, IsGraphSound};
@@ -30,6 +30,17 @@ fn forget_ends(ends: &mut [ChunkEnds])
     }
 }
 
+/// The same, unless none is left anywhere.
+fn forget_if(ends: &mut [ChunkEnds], is_any: bool)
+    requires { is_any ≡ false → (k : ℕ) → node_ends ends.old k ≡ nowhere }
+    ensures len { length ends.new ≡ length ends.old }
+    ensures nowhere { (k : ℕ) → node_ends ends.new k ≡ nowhere }
+{
+    if is_any {
+        forget_ends(ends);
+    }
+}
+
 /// Adds the ends behind all bytes so far, by where the literals end.
 fn ask_nodes<E: BlockEngine, L: Ledger>(
     graph: &Graph<E>,
@@ -55,15 +66,16 @@ fn ask_nodes<E: BlockEngine, L: Ledger>(
         next,
         hits: &scratch.hits,
     };
-    leave_nodes(&graph.table, region, &stop, &mut scratch.ends, steps);
+    let is_any = leave_nodes(&graph.table, region, &stop, &mut scratch.ends, steps);
     gather_all(
         graph,
         &scratch.ends,
+        is_any,
         &ends_if(true),
         scratch.at,
         &mut scratch.finals,
     );
-    forget_ends(&mut scratch.ends);
+    forget_if(&mut scratch.ends, is_any);
 }
 
 /// Finds of which identifiers a match ends behind all bytes so far, if that comes next.

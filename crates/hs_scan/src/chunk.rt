@@ -1,24 +1,20 @@
 //! One chunk: the nodes, and then the reports.
 
-ghost use Rattle.std.specs.Prelude.{◌≡◌, ◌+◌, ◌*◌, ◌<◌, ◌≤◌, ◌^◌, ℕ, IfOk, Some, length, slice_get, slice_index, true};
+ghost use Rattle.std.specs.Prelude.{◌≡◌, ◌+◌, ◌*◌, ◌<◌, ◌≤◌, ◌^◌, ℕ, IfOk, length, slice_index};
 ghost use Rattle.hs_base.specs.Lists.{Each};
 ghost use Rattle.hs_nodes.specs.Contexts.{AreChunkContexts};
-ghost use Rattle.hs_nodes.specs.Left.{nowhere};
-ghost use Rattle.hs_nodes.specs.Marks.{is_marked, mark_room};
-ghost use Rattle.hs_nodes.specs.Resting.{AreNodesResting, AreNodesUnwoken};
-ghost use Rattle.hs_nodes.specs.Walks.{AreNodesWell, IsOutside, IsTableSound, node_ends};
-ghost use Rattle.hs_nodes.specs.declared.table.Node.{Node};
+ghost use Rattle.hs_nodes.specs.Resting.{AreEnginesIdle, AreNodesResting, AreNodesUnwoken};
+ghost use Rattle.hs_nodes.specs.Walks.{AreNodesWell, IsOutside, IsTableSound};
 ghost use Rattle.hs_reports.specs.Events.{Takes};
 ghost use Rattle.hs_scan.specs.Knowing.{FitsKnown, IsPending};
-ghost use Rattle.hs_nodes.specs.Graphs.{AreTerminalsSound, keeps_field};
+ghost use Rattle.hs_nodes.specs.Graphs.{AreTerminalsSound};
 ghost use Rattle.hs_scan.specs.Scans.{ScansChunk};
 ghost use Rattle.hs_scan.specs.Scratches.{FitsRoom};
-ghost use Rattle.hs_scan.specs.Writing.{AreKeepingMarked};
 
 use crate::known::{Known, tell_chunk};
 use hs_block::BlockEngine;
 use hs_engine::Steps;
-use hs_nodes::{Chunk, ChunkEnds, Found, Graph, MarkSet, Node, NodeKind, everywhere, settle, walk};
+use hs_nodes::{Chunk, ChunkEnds, Found, Graph, MarkSet, everywhere, settle, walk};
 use hs_reports::Events;
 use std::alloc::{AllocError, Global};
 use std::sync::ledger::Ledger;
@@ -48,65 +44,6 @@ impl Course {
     }
 }
 
-/// Whether a node of that kind keeps something between two chunks.
-fn keeps_field(kind: NodeKind) -> bool
-    ensures { result ≡ keeps_field kind }
-{
-    match kind {
-        NodeKind::Engine(_, _) | NodeKind::Literal(_, _) => true,
-        NodeKind::FirstLiteral(_, _) | NodeKind::LookBack(_) => false,
-    }
-}
-
-/// Whether the node of that number keeps something between two chunks.
-fn keeps_at(nodes: &[Node], k: usize) -> bool
-    requires { k < length nodes.now }
-    ensures { (node : Node) → slice_get nodes.now k ≡ Some node → result ≡ keeps_field node.kind }
-{
-    keeps_field(nodes[k].kind)
-}
-
-/// Marks the number, if that is wanted.
-fn mark_if(marks: &mut MarkSet, number: usize, wanted: bool)
-    requires { number < mark_room marks.old }
-    ensures room { length marks.new ≡ length marks.old }
-    ensures put { wanted ≡ true → is_marked marks.new number ≡ true }
-    ensures others { (k : ℕ) → (k ≡ number → ⊥) → is_marked marks.new k ≡ is_marked marks.old k }
-{
-    if wanted {
-        marks.write(number, true);
-    }
-}
-
-/// Marks the nodes that keep something between two chunks.
-pub(crate) fn mark_keeping(nodes: &[Node], marks: &mut MarkSet)
-    requires room { length nodes.now ≤ mark_room marks.old }
-    ensures room { length marks.new ≡ length marks.old }
-    ensures keeping { AreKeepingMarked nodes.now marks.new }
-    ensures others { (k : ℕ) → length nodes.now ≤ k → is_marked marks.new k ≡ is_marked marks.old k }
-{
-    for k in 0..nodes.len() {
-        mark_if(marks, k, keeps_at(nodes, k));
-    }
-}
-
-/// Takes the marks of those nodes away in which nothing is live. The region stays as it is.
-pub(crate) fn unmark_resting<E: BlockEngine>(
-    graph: &Graph<E>,
-    region: &mut [u8],
-    ends: &mut [ChunkEnds],
-    marks: &mut MarkSet,
-)
-    requires table { (literals : ℕ) × IsTableSound E.meaning graph.now.table literals (length region.old) }
-    requires room { FitsRoom (length graph.now.table.nodes.items) ends.old marks.old }
-    requires resting { AreNodesResting E.meaning graph.now.table marks.old region.old }
-    ensures region { region.new ≡ region.old }
-    ensures room { FitsRoom (length graph.now.table.nodes.items) ends.new marks.new }
-    ensures resting { AreNodesResting E.meaning graph.now.table marks.new region.new }
-{
-    settle(&graph.table, region, ends, marks);
-}
-
 /// Takes a chunk by the nodes that are marked: the region goes from what is kept of the nodes before it to what is
 /// kept behind it, what is known of the identifiers likewise, and the new reports of the chunk are told. Nothing is
 /// live then in the nodes that aren't marked.
@@ -129,6 +66,7 @@ pub(crate) fn take_chunk<E: BlockEngine, V: Events, L: Ledger>(
     requires fits { FitsKnown (length graph.now.identifiers.items) course.old.known }
     requires pending { IsPending course.old.known }
     requires small { Each (λ b. b < 256) chunk.now.bytes.now }
+    requires idle { AreEnginesIdle E.meaning graph.now.table.engines.items }
     requires resting { AreNodesResting E.meaning graph.now.table course.old.marks region.old }
     requires unwoken { AreNodesUnwoken E.meaning graph.now.table course.old.marks found.now.hits.now
         chunk.now.bytes.now }

@@ -12,7 +12,7 @@ ghost use Rattle.hs_scan.specs.Scratches.{IsIdle, ServesGraph};
 
 use crate::last_byte::scan_write;
 use crate::scratch::Scratch;
-use crate::writing::{begin_write, end_write, rest_nodes};
+use crate::writing::{begin_write, end_write, mark_nodes};
 use hs_block::BlockEngine;
 use hs_engine::Steps;
 use hs_layout::Layout;
@@ -55,7 +55,7 @@ pub fn scan<E: BlockEngine, V: Events, L: Ledger>(
         return;
     }
     begin_write(graph, layout, region, scratch);
-    rest_nodes(graph, region, scratch);
+    mark_nodes(graph, region, scratch);
     scan_write(
         graph, literals, layout, region, scratch, bytes, events, steps,
     );

@@ -8,7 +8,7 @@ ghost use Rattle.hs_nodes.specs.Contexts.{AreChunkContexts};
 ghost use Rattle.hs_nodes.specs.Graphs.{AreTerminalsSound};
 ghost use Rattle.hs_nodes.specs.Left.{nowhere};
 ghost use Rattle.hs_nodes.specs.Marks.{is_marked, mark_room};
-ghost use Rattle.hs_nodes.specs.Resting.{AreNodesResting};
+ghost use Rattle.hs_nodes.specs.Resting.{AreEnginesIdle, AreNodesResting};
 ghost use Rattle.hs_nodes.specs.Waking.{AreWakesSound};
 ghost use Rattle.hs_nodes.specs.Walks.{AreNodesWell, IsOutside, IsTableSound, node_ends};
 ghost use Rattle.hs_reports.specs.EndTables.{HasNoEnds, words_of};
@@ -151,6 +151,7 @@ pub(crate) fn run_line_feed<E: BlockEngine, V: Events, L: Ledger>(
     requires bytes { chunk.now.bytes.now ≡ line_feed ∷ [] }
     requires wakes { AreWakesSound graph.now.table.nodes.items graph.now.wakes scratch.old.rows.count }
     requires others { (k : ℕ) → has_hit scratch.old.rows k ≡ false → HasNowhere scratch.old.hits.items k }
+    requires idle { AreEnginesIdle E.meaning graph.now.table.engines.items }
     requires resting { AreNodesResting E.meaning graph.now.table scratch.old.course.marks region.old }
     ensures len { length region.new ≡ length region.old }
     ensures well { AreNodesWell E.meaning graph.now.table region.new (chunk.now.at + length chunk.now.bytes.now) }

@@ -3,7 +3,7 @@
 ghost use Rattle.std.specs.Prelude.{◌≡◌, ◌^◌, ◌<◌, ℕ, length};
 ghost use Rattle.hs_layout.specs.Layouts.{laid_size};
 ghost use Rattle.hs_nodes.specs.Graphs.{FitsLayout};
-ghost use Rattle.hs_nodes.specs.Resting.{AreNodesResting};
+ghost use Rattle.hs_nodes.specs.Resting.{AreEnginesIdle, AreNodesResting};
 ghost use Rattle.hs_nodes.specs.Walks.{IsTableSound};
 ghost use Rattle.hs_reports.specs.EndTables.{HasNoEnds};
 ghost use Rattle.hs_keeping.specs.Keeping.{HasBits};
@@ -12,14 +12,13 @@ ghost use Rattle.hs_scan.specs.Scans.{IsWritten};
 ghost use Rattle.hs_scan.specs.Scratches.{FitsGraph, KeepsTables, stand_of};
 ghost use Rattle.hs_scan.specs.Writing.{BeginsKnown, BeginsWrite};
 
-use crate::chunk::{mark_keeping, unmark_resting};
 use crate::copying::copy_fields;
 use crate::known::Known;
 use crate::scratch::Scratch;
 use hs_block::BlockEngine;
 use hs_keeping::{read_rows, write_rows};
 use hs_layout::Layout;
-use hs_nodes::Graph;
+use hs_nodes::{Graph, mark_live};
 use hs_reports::Identifier;
 
 /// Reads what the region keeps of the identifiers, and notes those of which a pair ends behind the last byte.
@@ -41,8 +40,7 @@ fn begin_known(layout: &Layout, region: &[u8], identifiers: &[Identifier], known
     known.ends.note_all(&known.here);
 }
 
-/// Reads where the stream of a region stands, and what is known of it. All nodes that keep something are marked, since
-/// it may be live in each.
+/// Reads where the stream of a region stands, and what is known of it.
 pub(crate) fn begin_write<E: BlockEngine>(
     graph: &Graph<E>,
     layout: &Layout,
@@ -57,7 +55,6 @@ pub(crate) fn begin_write<E: BlockEngine>(
 {
     scratch.at = layout.offset(region);
     scratch.past.copy_from_slice(layout.history(region));
-    mark_keeping(&graph.table.nodes, &mut scratch.course.marks);
     begin_known(
         layout,
         region,
@@ -66,19 +63,17 @@ pub(crate) fn begin_write<E: BlockEngine>(
     );
 }
 
-/// Takes the marks of those nodes away in which nothing is live: the first chunk passes over them too, if it doesn't
-/// wake them. The region stays as it is.
-pub(crate) fn rest_nodes<E: BlockEngine>(graph: &Graph<E>, region: &mut [u8], scratch: &mut Scratch)
-    requires table { (literals : ℕ) × IsTableSound E.meaning graph.now.table literals (length region.old) }
+/// Marks the nodes in which something is live: the first chunk passes over all others, if it doesn't wake them.
+pub(crate) fn mark_nodes<E: BlockEngine>(graph: &Graph<E>, region: &[u8], scratch: &mut Scratch)
+    requires table { (literals : ℕ) × IsTableSound E.meaning graph.now.table literals (length region.now) }
+    requires idle { AreEnginesIdle E.meaning graph.now.table.engines.items }
     requires room { FitsGraph graph.now scratch.old }
-    requires resting { AreNodesResting E.meaning graph.now.table scratch.old.course.marks region.old }
-    ensures region { region.new ≡ region.old }
     ensures room { FitsGraph graph.now scratch.new }
-    ensures resting { AreNodesResting E.meaning graph.now.table scratch.new.course.marks region.new }
+    ensures resting { AreNodesResting E.meaning graph.now.table scratch.new.course.marks region.now }
     ensures known { scratch.new.course.known ≡ scratch.old.course.known }
     ensures keeps { KeepsTables scratch.old scratch.new }
 {
-    unmark_resting(graph, region, &mut scratch.ends, &mut scratch.course.marks);
+    mark_live(&graph.table, region, &mut scratch.course.marks);
 }
 
 /// Writes into a region all that is known of its stream but what is kept of the nodes, which is there.

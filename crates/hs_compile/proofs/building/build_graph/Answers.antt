@@ -4,6 +4,8 @@ use Rattle.hs_base.specs.LiteralView.{literal_bytes}
 use Rattle.hs_compile.proofs.GraphLemmas.{graph-is}
 use Rattle.hs_compile.proofs.JoinLemmas.{ready}
 use Rattle.hs_compile.proofs.RunLemmas.{runs-plan}
+use Rattle.hs_nodes.specs.Resting.{AreEnginesIdle}
+use Rattle.hs_rose.specs.PieceEngines.{piece_meaning}
 use Rattle.hs_compile.specs.GraphWakes.{AreWakeable}
 use Rattle.hs_compile.proofs.SoundLemmas.{graph-sound}
 use Rattle.hs_compile.proofs.WakeLemmas.{wakeable, wakes-same}
@@ -37,3 +39,4 @@ returns-clause-sound c =
     let count : c.in_ok-literals.literals ≡ length t.literals = omega (arith, c.in_ok-literals.ensures.is, ap length c.literals.ensures, length-map c.literals.result.now literal_bytes) in
     graph-sound t built.entries built.chains built.is c.args.layout.now c.requires.fits graph (graph-is t c.args.layout.now c.in_ok-parts.parts graph c.in_ok-parts.ensures is.is) (omega (arith, count, c.in_ok-literals.ensures.few))
     (wakes-same c.deref.result.now graph.table.nodes.items c.in_ok-literals.literals (length t.literals) c.in_ok-wakes.wakes graph.wakes (c.deref.ensures.value ∙ sym is.is.nodes) (sym is.wakes) count c.in_ok-wakes.ensures)
+    (subst (λ es. AreEnginesIdle piece_meaning es) (c.engines.ensures ∙ sym is.is.engines) c.in_ok-idle_engines.ensures)

@@ -1,7 +1,19 @@
+use Rattle.std.proofs.Common.{sym, ◌∙◌}
+use Rattle.hs_base.specs.Bits.{has_bit}
+use Rattle.hs_block.specs.LiteralBlocks.{turned}
+use Rattle.hs_block.specs.WordBits.{word_bit}
+use Rattle.hs_block.proofs.LiteralWordLemmas.{entries-same, turned-above, turned-twice}
 use Rattle.hs_nodes.proofs.LiteralLemmas.{literal-part}
 use Rattle.hs_nodes.proofs.literals.run_literal_part.Goals as goal
 
 pub returns-clause-takes : goal.returns-clause-takes
 returns-clause-takes c =
-    literal-part c.args.len c.carry_of-carry.result c.run_entries-ends.new.carry c.args.part.now c.keep_carry.new.row c.args.chunk.now.bytes.now c.args.hits.now c.args.enters.now c.run_entries-ends.result c.carry_of-carry.ensures.tells c.keep_carry.ensures.tells
+    let len = c.args.len in
+    let old = c.args.part.now in
+    let new = c.write_row.new.part in
+    let first = c.read_row-carry.result in
+    let last = c.run_entries-ends.new.carry in
+    literal-part len first last old new c.args.chunk.now.bytes.now c.args.hits.now c.args.enters.now c.run_entries-ends.result
+    (λ u entered tells. entries-same len (has_bit old) (turned len (word_bit first)) u entered (turned-twice len first (has_bit old) c.read_row-carry.ensures) (turned-above len (word_bit first)) tells)
+    (λ u entered tells. entries-same len (turned len (word_bit last)) (has_bit new) u entered (λ k below. sym (c.write_row.ensures.bits k)) (λ k above. c.write_row.ensures.bits k ∙ turned-above len (word_bit last) k above) tells)
     c.run_entries-ends.ensures.takes

@@ -1,8 +1,7 @@
-use Rattle.std.proofs.Common.{◌≡◌, ◌↔◌, IsTrue, slice_set, ◌<◌, ◌+◌, ℕ, List, length, true, false, refl, sym, subst, ◌∙◌, arith}
+use Rattle.std.proofs.Common.{◌≡◌, slice_set, ◌<◌, ◌+◌, ℕ, List, length, true, false, refl, sym, subst, ◌∙◌, arith}
 use Rattle.std.proofs.lemmas.List.{length-set}
 use Rattle.hs_nodes.specs.Left.{nowhere}
-use Rattle.hs_nodes.specs.Resting.{IsResting, IsUnset}
-use Rattle.hs_nodes.specs.Walks.{IsTableSound, node_part}
+use Rattle.hs_nodes.proofs.LivingLemmas.{node-rests}
 use Rattle.hs_nodes.proofs.SettleLemmas.{IsSettledTo, settled-all, settled-none, settled-pass, settled-visit}
 use Rattle.hs_nodes.proofs.WalkLemmas.{there}
 use Rattle.hs_nodes.proofs.settling.settle.Goals as goal
@@ -10,14 +9,10 @@ use Rattle.hs_nodes.proofs.settling.settle.Goals.{then-node_rests, else-node_res
 
 pub loop-k-init : goal.loop-k-init
 loop-k-init g c = record {
-  same = refl;
   ends = c.requires.ends;
   within = omega arith;
   is = settled-none g.E.Engine.meaning c.args.table.now c.args.region.now c.args.marks.now c.requires.resting c.args.ends.now c.requires.nowhere;
 }
-
-pub node_rests-requires-clause-sound : goal.node_rests-requires-clause-sound
-node_rests-requires-clause-sound g c = subst (λ (r : List ℕ). (n : ℕ) × IsTableSound g.E.Engine.meaning c.args.table.now n (length r)) (sym c.loop-k.invariant.same) c.requires.sound
 
 pub node_rests-requires-clause-there : goal.node_rests-requires-clause-there
 node_rests-requires-clause-there g c = c.requires.marked c.in-Some.k (c.loop-k.invariant.is.fewer c.in-Some.k c.in-Some.ensures.is)
@@ -33,17 +28,16 @@ loop-k-preserved g c =
     let inv = c.loop-k.invariant in
     let below : k < length table.nodes.items = c.requires.marked k (inv.is.fewer k c.in-Some.ensures.is) in
     let own = there table.nodes.items k below in
-    let unset = subst (λ (r : List ℕ). IsTrue c.node_rests.result ↔ IsUnset own.0.kind (node_part r own.0)) inv.same (c.node_rests.ensures.unset own.0 own.1) in
-    let rests = subst (λ (r : List ℕ). IsTrue c.node_rests.result → IsResting m table.engines.items own.0.kind (node_part r own.0)) inv.same (c.node_rests.ensures.rests own.0 own.1) in
+    let unset = c.node_rests.ensures own.0 own.1 in
+    let rests = node-rests m table c.requires.sound.0 region c.requires.sound.1 c.requires.idle k own.0 own.1 in
     let here = settled-pass m table region first c.requires.resting marks c.loop-k.ends c.loop-k.from k c.in-Some.ensures.low (omega (arith, below)) c.in-Some.ensures.least inv.is in record {
-      same = c.node_rests.ensures.same ∙ inv.same;
       ends = length-set c.loop-k.ends k nowhere ∙ inv.ends;
       within = omega (arith, below);
       is = elim c.if-node_rests.branch [
         | then-node_rests w ↦
             subst (λ (ms : List ℕ). IsSettledTo m table region first ms (slice_set c.loop-k.ends k nowhere) (k + 1)) (sym w.marks-is)
             (settled-visit m table region first c.requires.resting marks w.write.new.self c.loop-k.ends k (k + 1) refl own.0 own.1 inv.ends w.write.ensures.room w.write.ensures.others
-            (λ set. c.in-Some.ensures.is) (λ is. w.write.ensures.put) (λ not. absurd (not (unset.0 w.if-node_rests.true))) (λ off. rests w.if-node_rests.true) here)
+            (λ set. c.in-Some.ensures.is) (λ is. w.write.ensures.put) (λ not. absurd (not (unset.0 w.if-node_rests.true))) (λ off. rests (unset.0 w.if-node_rests.true)) here)
         | else-node_rests w ↦
             subst (λ (ms : List ℕ). IsSettledTo m table region first ms (slice_set c.loop-k.ends k nowhere) (k + 1)) (sym w.marks-is)
             (settled-visit m table region first c.requires.resting marks marks c.loop-k.ends k (k + 1) refl own.0 own.1 inv.ends refl (λ j apart. refl)

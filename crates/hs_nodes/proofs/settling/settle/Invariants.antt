@@ -4,10 +4,9 @@ use Rattle.hs_nodes.proofs.settling.settle.Given as goal
 
 abbrev pub invariant-loop-k : goal.invariant-loop-k
 invariant-loop-k g l = record {
-  same : l.region ≡ l.initial.region;
   ends : length l.ends ≡ length l.table.nodes.items;
   within : l.from ≤ length l.table.nodes.items;
-  is : IsSettledTo g.E.Engine.meaning l.table l.fn.region l.fn.marks l.marks l.ends l.from;
+  is : IsSettledTo g.E.Engine.meaning l.table l.region l.fn.marks l.marks l.ends l.from;
 }
 
 abbrev pub decreases-loop-k : goal.decreases-loop-k

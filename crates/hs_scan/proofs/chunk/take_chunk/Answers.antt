@@ -31,24 +31,10 @@ pub settle-requires-clause-resting : goal.settle-requires-clause-resting
 settle-requires-clause-resting g c =
     resting-stay g.E.Engine.meaning c.args.graph.now.table c.args.course.now.marks c.walk.new.marks c.args.region.now c.walk.new.region c.walk.new.ends c.walk.ensures.marks c.walk.ensures.changes c.requires.resting
 
-pub returns-clause-len : goal.returns-clause-len
-returns-clause-len g c = subst (λ r. length r ≡ length c.args.region.now) (sym c.settle.ensures.region) c.walk.ensures.changes.len
-
-pub returns-clause-well : goal.returns-clause-well
-returns-clause-well g c =
-    subst (λ r. AreNodesWell g.E.Engine.meaning c.args.graph.now.table r (c.args.chunk.now.at + length c.args.chunk.now.bytes.now)) (sym c.settle.ensures.region) c.walk.ensures.well
-
-pub returns-clause-outside : goal.returns-clause-outside
-returns-clause-outside g c i out = subst (λ r. slice_index r i ≡ slice_index c.args.region.now i) (sym c.settle.ensures.region) (c.walk.ensures.changes.outside i out)
-
 pub returns-clause-room : goal.returns-clause-room
 returns-clause-room g c =
     let room = c.requires.room in
     settled-room g.E.Engine.meaning c.args.graph.now (length c.args.graph.now.table.nodes.items) c.walk.new.region c.args.course.now.marks c.walk.new.marks c.settle.new.marks c.walk.new.ends c.settle.new.ends c.settle.ensures.ends (c.walk.ensures.ends ∙ room.count) room.room c.walk.ensures.marks c.settle.ensures.settled
-
-pub returns-clause-resting : goal.returns-clause-resting
-returns-clause-resting g c =
-    subst (λ r. AreNodesResting g.E.Engine.meaning c.args.graph.now.table c.settle.new.marks r) (sym c.settle.ensures.region) c.settle.ensures.settled.resting
 
 pub returns-clause-scans : goal.returns-clause-scans
 returns-clause-scans g c =
@@ -60,12 +46,11 @@ returns-clause-scans g c =
     let then = c.tell_chunk.new.known in
     let ends = c.walk.new.ends in
     let all = c.everywhere-all.result in
-    subst (λ r. Takes g.V.Events.tells c.args.events.now c.tell_chunk.new.events (ScansChunk m graph c.args.region.now r chunk.prev chunk.at chunk.past.now chunk.bytes.now hits known.told.items known.here.items then.told.items then.here.items)) (sym c.settle.ensures.region)
-    (takes-as g.V.Events.tells c.args.events.now c.tell_chunk.new.events
+    takes-as g.V.Events.tells c.args.events.now c.tell_chunk.new.events
     (TellsChunk m graph chunk.bytes.now chunk.at ends all known.told.items known.here.items then.told.items then.here.items)
     (ScansChunk m graph c.args.region.now c.walk.new.region chunk.prev chunk.at chunk.past.now chunk.bytes.now hits known.told.items known.here.items then.told.items then.here.items)
     (λ ps tells. chunk-takes m graph chunk.at c.args.region.now c.walk.new.region known.told.items known.here.items then.told.items then.here.items chunk.prev chunk.past.now chunk.bytes.now hits ends all ps (c.walk.ensures.ends ∙ c.requires.room.count) c.everywhere-all.ensures
-    c.walk.ensures.takes tells) c.tell_chunk.ensures.told)
+    c.walk.ensures.takes tells) c.tell_chunk.ensures.told
 
 pub returns-clause-ticks : goal.returns-clause-ticks
 returns-clause-ticks g c =

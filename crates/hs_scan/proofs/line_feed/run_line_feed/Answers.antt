@@ -57,20 +57,6 @@ settle-requires-clause-resting g c =
     subst (λ ms. AreNodesResting m table ms c.walk.new.region) (sym c.tell_line_feed.ensures.keeps.marks)
     (resting-stay m table c.wake.new.marks c.walk.new.marks r0 c.walk.new.region c.walk.new.ends c.walk.ensures.marks c.walk.ensures.changes rests)
 
-pub returns-clause-resting : goal.returns-clause-resting
-returns-clause-resting g c =
-    subst (λ r. AreNodesResting g.E.Engine.meaning c.args.graph.now.table c.settle.new.marks r) (sym c.settle.ensures.region) c.settle.ensures.settled.resting
-
-pub returns-clause-len : goal.returns-clause-len
-returns-clause-len g c = subst (λ r. length r ≡ length c.args.region.now) (sym c.settle.ensures.region) c.walk.ensures.changes.len
-
-pub returns-clause-well : goal.returns-clause-well
-returns-clause-well g c =
-    subst (λ r. AreNodesWell g.E.Engine.meaning c.args.graph.now.table r (c.args.chunk.now.at + length c.args.chunk.now.bytes.now)) (sym c.settle.ensures.region) c.walk.ensures.well
-
-pub returns-clause-outside : goal.returns-clause-outside
-returns-clause-outside g c i out = subst (λ r. slice_index r i ≡ slice_index c.args.region.now i) (sym c.settle.ensures.region) (c.walk.ensures.changes.outside i out)
-
 pub returns-clause-ticks : goal.returns-clause-ticks
 returns-clause-ticks g c =
     let nodes = c.args.graph.now.table.nodes.items in
@@ -95,12 +81,11 @@ returns-clause-scans g c =
     let now : ends ≡ left = whole left s.ends.items s.ends.len len (omega (arith, s.ends.ok)) in
     let took = subst (λ es. TakesNodes m graph.table c.args.region.now c.walk.new.region chunk.prev chunk.at chunk.past.now bytes c.deref-2.result.now es) (sym now) c.walk.ensures.takes in
     let takes = subst (λ hs. TakesNodes m graph.table c.args.region.now c.walk.new.region chunk.prev chunk.at chunk.past.now bytes hs ends) c.deref-2.ensures.value took in
-    subst (λ r. Takes g.V.Events.tells c.args.events.now c.tell_line_feed.new.events (ScansChunk m graph c.args.region.now r chunk.prev chunk.at chunk.past.now bytes s.hits.items known.told.items known.here.items then.told.items then.here.items)) (sym c.settle.ensures.region)
-    (takes-as g.V.Events.tells c.args.events.now c.tell_line_feed.new.events
+    takes-as g.V.Events.tells c.args.events.now c.tell_line_feed.new.events
     (TellsBlock m graph bytes chunk.at ends all 0 known.told.items known.here.items then.told.items then.here.items)
     (ScansChunk m graph c.args.region.now c.walk.new.region chunk.prev chunk.at chunk.past.now bytes s.hits.items known.told.items known.here.items then.told.items then.here.items)
     (λ ps tells. chunk-takes m graph chunk.at c.args.region.now c.walk.new.region known.told.items known.here.items then.told.items then.here.items chunk.prev chunk.past.now bytes s.hits.items ends all ps (ap length now ∙ (len ∙ c.requires.room.room.count)) c.everywhere-all.ensures
-    takes (first-tells m graph bytes chunk.at ends all known.told.items known.here.items then.told.items then.here.items ps c.requires.bytes tells)) c.tell_line_feed.ensures.told)
+    takes (first-tells m graph bytes chunk.at ends all known.told.items known.here.items then.told.items then.here.items ps c.requires.bytes tells)) c.tell_line_feed.ensures.told
 
 pub returns-clause-left : goal.returns-clause-left
 returns-clause-left g c =

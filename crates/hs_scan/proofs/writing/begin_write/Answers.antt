@@ -1,10 +1,8 @@
-use Rattle.std.proofs.Common.{◌≡◌, ◌≤◌, ◌-◌, length, refl, sym, ap, subst, ◌∙◌, inl, inr, arith}
-use Rattle.std.proofs.lemmas.Bool.{cases_lt}
+use Rattle.std.proofs.Common.{◌≡◌, ◌≤◌, ◌-◌, length, refl, sym, subst, ◌∙◌, arith}
 use Rattle.std.specs.Prelude.{slice_range}
 use Rattle.hs_base.proofs.RegionLemmas.{range-size}
 use Rattle.hs_keeping.specs.Keeping.{AreRead}
 use Rattle.hs_scan.specs.Knowing.{FitsKnown}
-use Rattle.hs_scan.specs.Writing.{AreKeepingMarked}
 use Rattle.hs_scan.proofs.writing.begin_write.Goals as goal
 
 pub copy_from_slice-requires : goal.copy_from_slice-requires
@@ -21,28 +19,19 @@ returns g c =
     let identifiers = c.args.graph.now.identifiers.items in
     record {
       room = record {
-        room = record {
-          count = room.room.count;
-          clear = room.room.clear;
-          room = omega (arith, room.room.room, c.mark_keeping.ensures.room);
-          below = λ k on. elim (cases_lt k (length c.args.graph.now.table.nodes.items)) [
-            | inl inner ↦ inner
-            | inr past ↦ room.room.below k (sym (c.mark_keeping.ensures.others k (omega (arith, past, ap length c.deref.ensures.value))) ∙ on)
-          ];
-        };
+        room = room.room;
         contexts = room.contexts;
         hits = room.hits;
-        known = subst (λ xs. FitsKnown (length xs) known) c.deref-2.ensures.value c.begin_known.ensures.fits;
+        known = subst (λ xs. FitsKnown (length xs) known) c.deref.ensures.value c.begin_known.ensures.fits;
         finals = room.finals;
         last = room.last;
         past = c.copy_from_slice.ensures.len ∙ room.past;
       };
       pending = c.begin_known.ensures.pending;
-      read = subst (λ xs. AreRead c.args.layout.now c.args.region.now xs known.told.items known.here.items) c.deref-2.ensures.value c.begin_known.ensures.read;
+      read = subst (λ xs. AreRead c.args.layout.now c.args.region.now xs known.told.items known.here.items) c.deref.ensures.value c.begin_known.ensures.read;
       at_is = c.offset-scratch.ensures;
       past = c.copy_from_slice.ensures.after ∙ c.history.ensures;
       hits = refl;
       rows = refl;
       finals = refl;
-      marked = subst (λ nodes. AreKeepingMarked nodes c.mark_keeping.new.marks) c.deref.ensures.value c.mark_keeping.ensures.keeping;
     }
