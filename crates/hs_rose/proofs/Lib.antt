@@ -14,3 +14,4 @@ pub mod SplitLemmas
 pub mod LawLemmas
 pub mod SizeLemmas
 pub mod PlanLemmas
+pub mod StreamingLemmas

@@ -12,8 +12,9 @@ use Rattle.hs_base.specs.Spans.{Spans, Copies}
 use Rattle.hs_base.specs.Trees.{Tree, class, repeat}
 use Rattle.hs_base.specs.WrittenOut.{count, write_out}
 use Rattle.hs_engine.specs.Tables.{IsClearFrom}
-use Rattle.hs_limex.specs.declared.limex.Limex.{Limex}
-use Rattle.hs_limex.specs.LimexEngines.{meaning_of_limex, moves_of_limex}
+use Rattle.hs_limex.specs.LimexEngines.{moves_of_limex}
+use Rattle.hs_rose.specs.declared.positions.PositionEngine.{PositionEngine}
+use Rattle.hs_rose.specs.PositionEngines.{meaning_of_positions}
 use Rattle.hs_repeat.specs.declared.first.First.{First}
 use Rattle.hs_repeat.specs.declared.last.Last.{Last}
 use Rattle.hs_repeat.specs.declared.ring.Ring.{Ring}
@@ -23,9 +24,9 @@ use Rattle.hs_rose.specs.Made.{IsNullMask}
 use Rattle.hs_rose.specs.PieceEngines.{IsEngineOf}
 
 -- the engine of an expression
-pub positions-engine : (limex : Box Limex Global) (tree : Tree) → (meaning_of_limex limex.value).is_for tree → IsEngineOf (engine.Positions limex) (nfa tree)
-positions-engine limex tree runs =
-    let size : (moves_of_limex limex.value).size ≡ count (write_out tree) = runs.fits.size ∙ runs.runs.tables.size in record {
+pub positions-engine : (positions : Box PositionEngine Global) (tree : Tree) → (meaning_of_positions positions.value).is_for tree → IsEngineOf (engine.Positions positions) (nfa tree)
+positions-engine positions tree runs =
+    let size : (moves_of_limex positions.value.limex).size ≡ count (write_out tree) = runs.fits.size ∙ runs.runs.tables.size in record {
       runs = runs;
       kind_is = refl;
       width = ap (λ n. (n + 7) / 8) size;

@@ -14,3 +14,5 @@ pub mod Views
 pub mod Finishing
 pub mod RoleLaws
 pub mod Plans
+pub mod Streaming
+pub mod PositionEngines

@@ -4,24 +4,24 @@ use Rattle.hs_engine.specs.Engines.{Meaning}
 use Rattle.hs_base.specs.Chains.{Piece, lit, nfa, rep, piece_tree}
 use Rattle.hs_base.specs.KeptPieces as kept
 use Rattle.hs_base.specs.KeptPieces.{Form, form_size, repeat_form, Says, IsFieldAt}
-use Rattle.hs_limex.specs.LimexEngines.{meaning_of_limex}
 use Rattle.hs_repeat.specs.RepeatEngines.{meaning_of_first, meaning_of_last, meaning_of_ring}
 use Rattle.hs_rose.specs.declared.engine.PieceEngine.{PieceEngine}
 use Rattle.hs_rose.specs.declared.engine.PieceEngine.TheVariants.{Positions, First, Last, Ring}
 use Rattle.hs_rose.specs.declared.kind.Kind.{Kind}
 use Rattle.hs_rose.specs.declared.kind.Kind.TheVariants as kind
 use Rattle.hs_rose.specs.Kinds.{kind_for}
+use Rattle.hs_rose.specs.PositionEngines.{meaning_of_positions}
 
 -- what it runs, and what its regions say
 abbrev pub piece_meaning : PieceEngine → Meaning
-piece_meaning (Positions limex) = meaning_of_limex limex.value
+piece_meaning (Positions positions) = meaning_of_positions positions.value
 piece_meaning (First first) = meaning_of_first first
 piece_meaning (Last last) = meaning_of_last last
 piece_meaning (Ring ring) = meaning_of_ring ring
 
 -- the kind of a role that keeps its regions
 abbrev pub engine_kind : PieceEngine → Kind
-engine_kind (Positions limex) = kind.Positions
+engine_kind (Positions positions) = kind.Positions
 engine_kind (First first) = kind.First
 engine_kind (Last last) = kind.Last
 engine_kind (Ring ring) = kind.Ring

@@ -2,10 +2,10 @@
 
 ghost use Rattle.std.specs.Prelude.{◌≡◌};
 
+use crate::positions::PositionEngine;
 use hs_base::{ByteSet, NextSet, Prev};
-use hs_block::BlockEngine;
+use hs_block::{BlockEnds, BlockEngine, run_by_steps};
 use hs_engine::{Engine, Steps};
-use hs_limex::Limex;
 use hs_repeat::{First, Last, Ring};
 use std::sync::ledger::Ledger;
 
@@ -13,7 +13,7 @@ use std::sync::ledger::Ledger;
 #[derive(Debug, Drop)]
 pub enum PieceEngine {
     /// An expression, by its positions.
-    Positions(Box<Limex>),
+    Positions(Box<PositionEngine>),
     /// At least so many bytes of a set.
     First(First),
     /// At most so many bytes of a set, and none or one at least.
@@ -29,7 +29,7 @@ impl Engine for PieceEngine {
 
     fn size(&self) -> usize {
         match self {
-            PieceEngine::Positions(limex) => limex.size(),
+            PieceEngine::Positions(positions) => positions.size(),
             PieceEngine::First(first) => first.size(),
             PieceEngine::Last(last) => last.size(),
             PieceEngine::Ring(ring) => ring.size(),
@@ -38,7 +38,7 @@ impl Engine for PieceEngine {
 
     fn clear(&self, region: &mut [u8]) {
         match self {
-            PieceEngine::Positions(limex) => limex.clear(region),
+            PieceEngine::Positions(positions) => positions.clear(region),
             PieceEngine::First(first) => first.clear(region),
             PieceEngine::Last(last) => last.clear(region),
             PieceEngine::Ring(ring) => ring.clear(region),
@@ -55,7 +55,7 @@ impl Engine for PieceEngine {
         steps: &mut Steps<L>,
     ) {
         match self {
-            PieceEngine::Positions(limex) => limex.step(region, prev, at, enter, byte, steps),
+            PieceEngine::Positions(positions) => positions.step(region, prev, at, enter, byte, steps),
             PieceEngine::First(first) => first.step(region, prev, at, enter, byte, steps),
             PieceEngine::Last(last) => last.step(region, prev, at, enter, byte, steps),
             PieceEngine::Ring(ring) => ring.step(region, prev, at, enter, byte, steps),
@@ -64,7 +64,7 @@ impl Engine for PieceEngine {
 
     fn out(&self, region: &[u8], prev: Prev, at: u64) -> NextSet {
         match self {
-            PieceEngine::Positions(limex) => limex.out(region, prev, at),
+            PieceEngine::Positions(positions) => positions.out(region, prev, at),
             PieceEngine::First(first) => first.out(region, prev, at),
             PieceEngine::Last(last) => last.out(region, prev, at),
             PieceEngine::Ring(ring) => ring.out(region, prev, at),
@@ -73,7 +73,7 @@ impl Engine for PieceEngine {
 
     fn at_rest(&self, region: &[u8]) -> bool {
         match self {
-            PieceEngine::Positions(limex) => limex.at_rest(region),
+            PieceEngine::Positions(positions) => positions.at_rest(region),
             PieceEngine::First(first) => first.at_rest(region),
             PieceEngine::Last(last) => last.at_rest(region),
             PieceEngine::Ring(ring) => ring.at_rest(region),
@@ -82,7 +82,7 @@ impl Engine for PieceEngine {
 
     fn wakers(&self) -> &ByteSet {
         match self {
-            PieceEngine::Positions(limex) => limex.wakers(),
+            PieceEngine::Positions(positions) => positions.wakers(),
             PieceEngine::First(first) => first.wakers(),
             PieceEngine::Last(last) => last.wakers(),
             PieceEngine::Ring(ring) => ring.wakers(),
@@ -91,7 +91,7 @@ impl Engine for PieceEngine {
 
     fn well_formed(&self, region: &[u8], at: u64) -> bool {
         match self {
-            PieceEngine::Positions(limex) => limex.well_formed(region, at),
+            PieceEngine::Positions(positions) => positions.well_formed(region, at),
             PieceEngine::First(first) => first.well_formed(region, at),
             PieceEngine::Last(last) => last.well_formed(region, at),
             PieceEngine::Ring(ring) => ring.well_formed(region, at),
@@ -99,4 +99,23 @@ impl Engine for PieceEngine {
     }
 }
 
-impl BlockEngine for PieceEngine {}
+impl BlockEngine for PieceEngine {
+    fn run<L: Ledger>(
+        &self,
+        region: &mut [u8],
+        prev: Prev,
+        at: u64,
+        enters: u64,
+        bytes: &[u8],
+        steps: &mut Steps<L>,
+    ) -> BlockEnds {
+        match self {
+            PieceEngine::Positions(positions) => {
+                positions.run(region, prev, at, enters, bytes, steps)
+            }
+            PieceEngine::First(_) | PieceEngine::Last(_) | PieceEngine::Ring(_) => {
+                run_by_steps(self, region, prev, at, enters, bytes, steps)
+            }
+        }
+    }
+}

@@ -16,11 +16,11 @@ ghost use Rattle.hs_rose.specs.PieceEngines.{IsEngineOf};
 ghost use Rattle.hs_rose.specs.Runnable.{IsRunnable, IsRun};
 
 use crate::engine::PieceEngine;
+use crate::positions::PositionEngine;
 use crate::same::same_piece;
 use hs_base::{ByteSet, Mask};
 use hs_expr::Expr;
 use hs_glushkov::build;
-use hs_limex::Limex;
 use hs_pieces::Piece;
 use hs_repeat::{First, Last, Ring};
 use std::alloc::{AllocError, Global};
@@ -93,11 +93,11 @@ fn make_positions(alloc: Global, expr: &Expr) -> Result<Made, AllocError>
     ensures made { IfOk result (λ made. IsMadeOf made.engine made.null (nfa (tree_of expr.now))) }
 {
     let automaton = build(alloc, expr)?;
-    let limex = Limex::build(alloc, &automaton)?;
+    let positions = PositionEngine::build(alloc, &automaton)?;
     let model = Piece::Nfa(expr.copy(alloc)?);
     Ok(Made {
         model,
-        engine: PieceEngine::Positions(Box::new(alloc, limex)?),
+        engine: PieceEngine::Positions(Box::new(alloc, positions)?),
         null: automaton.null(),
     })
 }

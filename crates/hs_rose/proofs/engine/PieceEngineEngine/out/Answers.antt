@@ -1,7 +1,7 @@
 use Rattle.std.proofs.Common.{sym, subst}
 use Rattle.hs_engine.specs.Engines.{TellsLeaves}
-use Rattle.hs_limex.specs.declared.limex.Limex.{Limex}
-use Rattle.hs_limex.specs.LimexEngines.{meaning_of_limex}
+use Rattle.hs_rose.specs.declared.positions.PositionEngine.{PositionEngine}
+use Rattle.hs_rose.specs.PositionEngines.{meaning_of_positions}
 use Rattle.hs_rose.specs.declared.engine.PieceEngine.{PieceEngine}
 use Rattle.hs_rose.specs.PieceEngines.{piece_meaning}
 use Rattle.hs_rose.proofs.engine.PieceEngineEngine.out.Goals as goal
@@ -9,7 +9,7 @@ use Rattle.hs_rose.proofs.engine.PieceEngineEngine.out.Goals as goal
 pub returns-in-Positions-clause-leaves : goal.returns-in-Positions-clause-leaves
 returns-in-Positions-clause-leaves c =
     subst (λ (e : PieceEngine). TellsLeaves (piece_meaning e) c.args.region.now c.args.prev c.args.at c.out.result) (sym c.in-Positions.is)
-    (subst (λ (l : Limex). TellsLeaves (meaning_of_limex l) c.args.region.now c.args.prev c.args.at c.out.result) c.deref.ensures c.out.ensures.leaves)
+    (subst (λ (l : PositionEngine). TellsLeaves (meaning_of_positions l) c.args.region.now c.args.prev c.args.at c.out.result) c.deref.ensures c.out.ensures.leaves)
 
 pub returns-in-First-clause-leaves : goal.returns-in-First-clause-leaves
 returns-in-First-clause-leaves c =

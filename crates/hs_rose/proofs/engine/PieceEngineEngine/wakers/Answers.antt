@@ -1,7 +1,7 @@
 use Rattle.std.proofs.Common.{sym, subst}
 use Rattle.hs_engine.specs.Engines.{AreWakers}
-use Rattle.hs_limex.specs.declared.limex.Limex.{Limex}
-use Rattle.hs_limex.specs.LimexEngines.{meaning_of_limex}
+use Rattle.hs_rose.specs.declared.positions.PositionEngine.{PositionEngine}
+use Rattle.hs_rose.specs.PositionEngines.{meaning_of_positions}
 use Rattle.hs_rose.specs.declared.engine.PieceEngine.{PieceEngine}
 use Rattle.hs_rose.specs.PieceEngines.{piece_meaning}
 use Rattle.hs_rose.proofs.engine.PieceEngineEngine.wakers.Goals as goal
@@ -9,7 +9,7 @@ use Rattle.hs_rose.proofs.engine.PieceEngineEngine.wakers.Goals as goal
 pub returns-in-Positions : goal.returns-in-Positions
 returns-in-Positions c =
     subst (λ (e : PieceEngine). AreWakers (piece_meaning e) c.wakers.result.now) (sym c.in-Positions.is)
-    (subst (λ (l : Limex). AreWakers (meaning_of_limex l) c.wakers.result.now) c.deref.ensures c.wakers.ensures)
+    (subst (λ (l : PositionEngine). AreWakers (meaning_of_positions l) c.wakers.result.now) c.deref.ensures c.wakers.ensures)
 
 pub returns-in-First : goal.returns-in-First
 returns-in-First c =

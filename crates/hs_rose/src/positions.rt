@@ -1,0 +1,135 @@
+//! The engine of an expression by its positions: byte by byte, and a block at once where that serves.
+
+ghost use Rattle.std.specs.Prelude.{◌≡◌, ℕ, ◌<◌, ◌≤◌, length, vec_len, Some, IfOk, MatchOption};
+ghost use Rattle.hs_base.specs.Contexts.{Context};
+ghost use Rattle.hs_block.specs.declared.streams.Streams.{Streams};
+ghost use Rattle.hs_block.specs.StreamSets.{is_from, takes_byte};
+ghost use Rattle.hs_block.specs.WordBits.{word_bit};
+ghost use Rattle.hs_limex.specs.LimexEngines.{moves_of_limex};
+
+use hs_base::{ByteSet, NextSet, Prev};
+use hs_block::{BlockEnds, BlockEngine, Streams, run_by_steps};
+use hs_engine::{Automaton, Engine, Steps};
+use hs_limex::Limex;
+use std::alloc::{AllocError, Global};
+use std::sync::ledger::Ledger;
+
+/// Runs an expression by its positions. Of few positions, where no context matters, it takes a block by a word for each
+/// position; else, and where that doesn't come to rest, byte by byte.
+#[derive(Debug, Drop)]
+pub struct PositionEngine {
+    /// The engine that takes bytes.
+    limex: Limex,
+    /// The tables for blocks, of the same positions.
+    streams: Option<Streams>,
+    ghost size_is: { (s : Streams) → streams ≡ Some s → vec_len s.froms ≡ (moves_of_limex limex).size },
+    ghost takes_are: { (s : Streams) → streams ≡ Some s → (x b : ℕ) → x < (moves_of_limex limex).size → b < 256 →
+        takes_byte s.sets.items s.numbers.items x b ≡ (moves_of_limex limex).reach b x },
+    ghost enters_are: { (s : Streams) → streams ≡ Some s → (x : ℕ) (c : Context) →
+        word_bit s.enters x ≡ (moves_of_limex limex).enters c x },
+    ghost accepts_are: { (s : Streams) → streams ≡ Some s → (x : ℕ) (c : Context) →
+        word_bit s.accepts x ≡ (moves_of_limex limex).accepts c x },
+    ghost follows_are: { (s : Streams) → streams ≡ Some s → (x y : ℕ) (c : Context) →
+        x < (moves_of_limex limex).size → is_from s.froms.items x y ≡ (moves_of_limex limex).follows y x c },
+}
+
+impl PositionEngine {
+    ghost use Rattle.hs_base.specs.Trees.{Tree};
+    ghost use Rattle.hs_engine.specs.Tables.{Runs};
+    ghost use Rattle.hs_block.specs.Blocks.{TakesBlock};
+    ghost use Rattle.hs_rose.specs.PositionEngines.{meaning_of_positions};
+
+    /// The engine of an automaton, of whose tables it makes its own.
+    pub(crate) fn build(alloc: Global, automaton: &Automaton) -> Result<PositionEngine, AllocError>
+        ensures { IfOk result (λ engine. (tree : Tree) → Runs automaton.now tree →
+            (meaning_of_positions engine).is_for tree) }
+    {
+        let limex = Limex::build(alloc, automaton)?;
+        let streams = Streams::build(alloc, automaton)?;
+        Ok(PositionEngine { limex, streams })
+    }
+
+    /// Takes a block at once; None where that doesn't serve, and then all is as before.
+    fn take_whole<L: Ledger>(
+        &self,
+        region: &mut [u8],
+        prev: Prev,
+        at: u64,
+        enters: u64,
+        bytes: &[u8],
+        steps: &mut Steps<L>,
+    ) -> Option<BlockEnds>
+        requires len { length region.old ≡ (meaning_of_positions self.now).width }
+        requires well { (meaning_of_positions self.now).well region.old at }
+        requires few { length bytes.now ≤ 64 }
+        ensures len { length region.new ≡ length region.old }
+        ensures takes { MatchOption result
+            ((region.new ≡ region.old) × (steps.new ≡ steps.old))
+            (λ ends. TakesBlock (meaning_of_positions self.now) region.old region.new prev at enters bytes.now ends
+                steps.old steps.new) }
+    {
+        match &self.streams {
+            Some(streams) => streams.run(region, enters, bytes, steps),
+            None => None,
+        }
+    }
+}
+
+impl Engine for PositionEngine {
+    ghost use Rattle.hs_rose.specs.PositionEngines.{meaning_of_positions};
+
+    ghost meaning = { λ e. meaning_of_positions e };
+
+    fn size(&self) -> usize {
+        self.limex.size()
+    }
+
+    fn clear(&self, region: &mut [u8]) {
+        self.limex.clear(region)
+    }
+
+    fn step<L: Ledger>(
+        &self,
+        region: &mut [u8],
+        prev: Prev,
+        at: u64,
+        enter: NextSet,
+        byte: u8,
+        steps: &mut Steps<L>,
+    ) {
+        self.limex.step(region, prev, at, enter, byte, steps)
+    }
+
+    fn out(&self, region: &[u8], prev: Prev, at: u64) -> NextSet {
+        self.limex.out(region, prev, at)
+    }
+
+    fn at_rest(&self, region: &[u8]) -> bool {
+        self.limex.at_rest(region)
+    }
+
+    fn wakers(&self) -> &ByteSet {
+        self.limex.wakers()
+    }
+
+    fn well_formed(&self, region: &[u8], at: u64) -> bool {
+        self.limex.well_formed(region, at)
+    }
+}
+
+impl BlockEngine for PositionEngine {
+    fn run<L: Ledger>(
+        &self,
+        region: &mut [u8],
+        prev: Prev,
+        at: u64,
+        enters: u64,
+        bytes: &[u8],
+        steps: &mut Steps<L>,
+    ) -> BlockEnds {
+        match self.take_whole(region, prev, at, enters, bytes, steps) {
+            Some(ends) => ends,
+            None => run_by_steps(self, region, prev, at, enters, bytes, steps),
+        }
+    }
+}
