@@ -1,18 +1,15 @@
 -- How many bytes the fields of chains take.
-use Rattle.std.proofs.Common.{◌≡◌, ℕ, suc, ◌+◌, ◌*◌, ◌^◌, ◌<◌, ◌≤◌, Bool, List, [], ◌∷◌, ◌++◌, length, map, take, slice_get, Some, refl, sym, ap, subst, ◌∙◌, arith}
+use Rattle.std.proofs.Common.{◌≡◌, ℕ, suc, ◌+◌, ◌≤◌, List, [], ◌∷◌, length, take, slice_get, Some, sym, ap, ◌∙◌, arith}
 use Rattle.std.specs.List.{sum_by}
 use Rattle.std.proofs.lemmas.List.{length-take-le, take_all}
 use Rattle.std.proofs.lemmas.List.Sums.{sum_by-append, sum_by-take-le}
 use Rattle.std.proofs.lemmas.Option.{slice_get_within}
 use Rattle.hs_base.specs.Chains.{Piece}
-use Rattle.hs_base.specs.Lists.{Each}
 use Rattle.hs_base.specs.Regions.{Place, place_size}
 use Rattle.hs_pieces.specs.LookBack.{begins_with_look_back}
-use Rattle.hs_pieces.specs.Meaning.{plain_chain}
-use Rattle.hs_pieces.specs.declared.piece.Chain.{Chain}
 use Rattle.hs_rose.specs.Plans.{chain_places, chain_size, chains_size, place_with}
 use Rattle.hs_rose.proofs.BuildLemmas.{places-at, places-length}
-use Rattle.hs_rose.proofs.ListLemmas.{get-map, take-get}
+use Rattle.hs_rose.proofs.ListLemmas.{take-get}
 
 -- one more is counted
 sum-more : {A : Type 0} (f : A → ℕ) (xs : List A) (k : ℕ) (x : A) → slice_get xs k ≡ Some x → sum_by f (take (k + 1) xs) ≡ sum_by f (take k xs) + f x

@@ -55,7 +55,9 @@ impl Engine for PieceEngine {
         steps: &mut Steps<L>,
     ) {
         match self {
-            PieceEngine::Positions(positions) => positions.step(region, prev, at, enter, byte, steps),
+            PieceEngine::Positions(positions) => positions.step(
+                region, prev, at, enter, byte, steps,
+            ),
             PieceEngine::First(first) => first.step(region, prev, at, enter, byte, steps),
             PieceEngine::Last(last) => last.step(region, prev, at, enter, byte, steps),
             PieceEngine::Ring(ring) => ring.step(region, prev, at, enter, byte, steps),

@@ -66,7 +66,7 @@ impl PositionEngine {
         ensures takes { MatchOption result
             ((region.new ≡ region.old) × (steps.new ≡ steps.old))
             (λ ends. TakesBlock (meaning_of_positions self.now) region.old region.new prev at enters bytes.now ends
-                steps.old steps.new) }
+            steps.old steps.new) }
     {
         match &self.streams {
             Some(streams) => streams.run(region, enters, bytes, steps),

@@ -1,4 +1,4 @@
-use Rattle.std.proofs.Common.{◌≡◌, ℕ, Some, length, slice_get, subst, arith}
+use Rattle.std.proofs.Common.{◌≡◌, Some, slice_get, subst, arith}
 use Rattle.std.proofs.lemmas.List.{length-map}
 use Rattle.hs_base.specs.Regions.{place_size}
 use Rattle.hs_pieces.specs.Meaning.{plain_chain, plain_piece}

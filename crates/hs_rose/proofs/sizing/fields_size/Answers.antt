@@ -1,6 +1,5 @@
-use Rattle.std.proofs.Common.{◌≡◌, ◌+◌, Some, map, slice_get, take, arith}
+use Rattle.std.proofs.Common.{◌≡◌, ◌+◌, Some, map, slice_get, arith}
 use Rattle.hs_pieces.specs.Meaning.{plain_chain}
-use Rattle.hs_rose.specs.Plans.{chains_size}
 use Rattle.hs_rose.specs.Runnable.{IsRunnableChain}
 use Rattle.hs_rose.proofs.ListLemmas.{each-get, get-map, read-get}
 use Rattle.hs_rose.proofs.SizeLemmas.{chain-counted, part-counted}
