@@ -1,7 +1,7 @@
 -- The places of the members of a set, by the bits of masks of lanes.
-use Rattle.std.proofs.Common.{◌≡◌, ◌≢◌, ℕ, zero, suc, ◌+◌, ◌-◌, ◌*◌, ◌/◌, ◌%◌, ◌^◌, ◌<◌, ◌≤◌, Bool, true, false, not, nat_lt, ◌&&◌, ◌||◌, List, [], ◌∷◌, length, get_or, map, set, cond, eqb, ltb, bit_or, bit_and, replicate, refl, sym, ap, ◌∙◌, inl, inr, arith, w8, w64, Fits}
+use Rattle.std.proofs.Common.{◌≡◌, ◌≢◌, ℕ, zero, suc, ◌+◌, ◌-◌, ◌*◌, ◌/◌, ◌%◌, ◌^◌, ◌<◌, ◌≤◌, Bool, true, false, not, nat_lt, ◌&&◌, ◌||◌, List, [], ◌∷◌, ◌++◌, length, get_or, map, set, cond, eqb, ltb, bit_or, bit_and, replicate, refl, sym, ap, ◌∙◌, inl, inr, arith, w8, w64, Fits}
 use Rattle.std.specs.Prelude.{nat_le}
-use Rattle.std.specs.Int.{bit_at}
+use Rattle.std.specs.Int.{bit_at, to_le_bytes}
 use Rattle.std.specs.Simd.Lanes.{chunk, mask_l, top, Each1, zip2, sel_l}
 use Rattle.std.proofs.lemmas.Bool.{cases_eq, cases_lt, lt-leb, le-leb, lt-ltb, le-ltb, eq-eqb, ne_eqb}
 use Rattle.std.proofs.lemmas.List.{length-map, get_or-map, get_or_past, ext_get_or, get_or-set_same, get_or-set_other}
@@ -151,12 +151,21 @@ lane-places first second lanes entries a b members low bs long fits en ea eb em 
 -- tables of a set
 
 pub tables-tell : (words first second : List ℕ) (b : ℕ) → b < 256 →
-    ((k : ℕ) → k < 128 → has_bit first k ≡ has_word_bit words (8 * 0 + k)) → ((k : ℕ) → k < 128 → has_bit second k ≡ has_word_bit words (8 * 16 + k)) →
+    ((k : ℕ) → k < 64 → has_bit first k ≡ eqb (bit_at (get_or words 0 0) k) 1) → ((k : ℕ) → k < 64 → has_bit first (64 + k) ≡ eqb (bit_at (get_or words 1 0) k) 1) →
+    ((k : ℕ) → k < 64 → has_bit second k ≡ eqb (bit_at (get_or words 2 0) k) 1) → ((k : ℕ) → k < 64 → has_bit second (64 + k) ≡ eqb (bit_at (get_or words 3 0) k) 1) →
     in_tables first second b ≡ has_word_bit words b
-tables-tell words first second b h low high =
+unfolding has_word_bit
+tables-tell words first second b h t0 t1 t2 t3 =
+    let at : (j : ℕ) → b / 64 ≡ j → eqb (bit_at (get_or words j 0) (b % 64)) 1 ≡ eqb (bit_at (get_or words (b / 64) 0) (b % 64)) 1 = λ j e. ap (λ n. eqb (bit_at (get_or words n 0) (b % 64)) 1) (sym e) in
     elim (cases_lt b 128) [
-      | inl l ↦ let e : 8 * 0 + b % 128 ≡ b = omega arith in rw (lt-ltb b 128 l) (low (b % 128) (omega arith) ∙ ap (has_word_bit words) e)
-      | inr g ↦ let e : 8 * 16 + b % 128 ≡ b = omega arith in rw (le-ltb b 128 g) (high (b % 128) (omega arith) ∙ ap (has_word_bit words) e)
+      | inl l ↦ ap (λ t. has_bit (cond t first second) (b % 128)) (lt-ltb b 128 l) ∙ elim (cases_lt b 64) [
+        | inl low ↦ let e : b % 128 ≡ b % 64 = omega arith in ap (has_bit first) e ∙ (t0 (b % 64) (omega arith) ∙ at 0 (omega arith))
+        | inr high ↦ let e : b % 128 ≡ 64 + b % 64 = omega arith in ap (has_bit first) e ∙ (t1 (b % 64) (omega arith) ∙ at 1 (omega arith))
+      ]
+      | inr g ↦ ap (λ t. has_bit (cond t first second) (b % 128)) (le-ltb b 128 g) ∙ elim (cases_lt b 192) [
+        | inl low ↦ let e : b % 128 ≡ b % 64 = omega arith in ap (has_bit second) e ∙ (t2 (b % 64) (omega arith) ∙ at 2 (omega arith))
+        | inr high ↦ let e : b % 128 ≡ 64 + b % 64 = omega arith in ap (has_bit second) e ∙ (t3 (b % 64) (omega arith) ∙ at 3 (omega arith))
+      ]
     ]
 
 -- sixteen places more
@@ -251,15 +260,8 @@ one-place test bytes place old value below is before i =
 pub none-placed : (test : ℕ → Bool) (bytes : List ℕ) → ArePlacesOf test bytes 0 0
 none-placed test bytes i = ap (λ n. eqb n 1) (bit_at-zero i) ∙ sym (ap (λ t. t && test (get_or bytes i 0)) (not-less i 0 (omega arith)))
 
--- a table, byte by byte
-
-pub table-more : (words table : List ℕ) (from place byte : ℕ) → place < length table → ((i : ℕ) → i < 8 → eqb (bit_at byte i) 1 ≡ has_word_bit words (8 * (from + place) + i)) →
-    ((k : ℕ) → k < 8 * place → has_bit table k ≡ has_word_bit words (8 * from + k)) → (k : ℕ) → k < 8 * (place + 1) → has_bit (set table place byte) k ≡ has_word_bit words (8 * from + k)
-unfolding has_bit
-table-more words table from place byte within is before k below =
-    elim (cases_eq (k / 8) place) [
-      | inl same ↦
-          let at : 8 * (from + place) + k % 8 ≡ 8 * from + k = omega arith in
-          rw (same, get_or-set_same table place byte 0 within) (is (k % 8) (omega arith) ∙ ap (has_word_bit words) at)
-      | inr apart ↦ rw (get_or-set_other table place (k / 8) byte 0 apart) (before k (let d : k / 8 ≢ place = apart in omega arith))
-    ]
+-- the bytes of two words, read one by one
+pub table-read : (xs ys : List ℕ) (low high k : ℕ) → xs ≡ to_le_bytes w64 low → ys ≡ to_le_bytes w64 high →
+    has_bit (get_or xs 0 0 ∷ get_or xs 1 0 ∷ get_or xs 2 0 ∷ get_or xs 3 0 ∷ get_or xs 4 0 ∷ get_or xs 5 0 ∷ get_or xs 6 0 ∷ get_or xs 7 0 ∷ get_or ys 0 0 ∷ get_or ys 1 0 ∷ get_or ys 2 0 ∷ get_or ys 3 0 ∷ get_or ys 4 0 ∷ get_or ys 5 0 ∷ get_or ys 6 0 ∷ get_or ys 7 0 ∷ []) k
+    ≡ has_bit (to_le_bytes w64 low ++ to_le_bytes w64 high) k
+table-read xs ys low high k one other = rw (one, other) refl

@@ -1,10 +1,10 @@
 -- Bits in a row of words.
-use Rattle.std.proofs.Common.{◌≡◌, ◌≢◌, ℕ, suc, ◌+◌, ◌-◌, ◌*◌, ◌/◌, ◌%◌, ◌^◌, ◌<◌, ◌≤◌, Bool, true, false, ◌&&◌, ◌||◌, List, length, get_or, set, eqb, bit_or, bit_and, refl, sym, ap, subst, ◌∙◌, inl, inr, arith, w64, [], ◌∷◌, take, drop, length-drop}
+use Rattle.std.proofs.Common.{◌≡◌, ◌≢◌, ℕ, zero, suc, ◌+◌, ◌-◌, ◌*◌, ◌/◌, ◌%◌, ◌^◌, ◌<◌, ◌≤◌, Bool, true, false, ◌&&◌, ◌||◌, List, length, get_or, set, eqb, bit_or, bit_and, refl, sym, ap, subst, ◌∙◌, inl, inr, arith, w64, [], ◌∷◌, ◌++◌, take, drop, length-drop}
 use Rattle.std.specs.Prelude.{nat_lt, nat_le}
-use Rattle.std.specs.Int.{bit_at, trailing_zeros, from_le_bytes}
+use Rattle.std.specs.Int.{bit_at, trailing_zeros, from_le_bytes, to_le_bytes}
 use Rattle.std.proofs.lemmas.Bool.{cases_eq, cases_lt, eq-eqb, eqb-true, ne_eqb, lt-ltb, le-ltb, le-leb, lt-leb}
-use Rattle.std.proofs.lemmas.List.{get_or-set_same, get_or-set_other, get_or_past, get_or-take, get_or-drop, length-take}
-use Rattle.std.proofs.lemmas.Nat.{and_le_l, shr-shr, shr_split, one_shl, pow_pos}
+use Rattle.std.proofs.lemmas.List.{get_or-set_same, get_or-set_other, get_or_past, get_or-take, get_or-drop, length-take, get_or_append_left, get_or-append-add}
+use Rattle.std.proofs.lemmas.Nat.{and_le_l, shr-shr, shr_split, one_shl, pow_pos, from_le_bytes-to_le_bytes_8}
 use Rattle.std.proofs.lemmas.Nat.Bits.{bit_at-trailing_zeros, bit_at-zero, bit_at_above, bit_at_cat_low, bit_at_cat_high}
 use Rattle.hs_base.proofs.ByteSetLemmas.{bit-or}
 use Rattle.hs_base.proofs.ContextSetLemmas.{bit-and, bit-all, bit-one}
@@ -486,6 +486,42 @@ eight-bits bytes at i room fits below =
     ∙ (value-bits eight small i
     ∙ (ap (λ b. eqb (bit_at b (i % 8)) 1) (there (i / 8) (omega arith))
     ∙ sym (ap (λ n. eqb (bit_at (get_or bytes n 0) ((8 * at + i) % 8)) 1) byte ∙ ap (λ n. eqb (bit_at (get_or bytes (at + i / 8) 0) n) 1) bit))))
+
+-- a word as eight bytes
+
+bit-of_byte : (xs ys : List ℕ) (i j : ℕ) → i % 8 ≡ j % 8 → get_or xs (i / 8) 0 ≡ get_or ys (j / 8) 0 → has_bit xs i ≡ has_bit ys j
+unfolding has_bit
+bit-of_byte xs ys i j bit read = ap (λ b. eqb (bit_at b (i % 8)) 1) read ∙ ap (λ n. eqb (bit_at (get_or ys (j / 8) 0) n) 1) bit
+
+le-fits : (n i : ℕ) → get_or (to_le_bytes w64 n) i 0 < 2 ^ 8
+le-fits n zero = omega arith
+le-fits n (suc zero) = omega arith
+le-fits n (suc (suc zero)) = omega arith
+le-fits n (suc (suc (suc zero))) = omega arith
+le-fits n (suc (suc (suc (suc zero)))) = omega arith
+le-fits n (suc (suc (suc (suc (suc zero))))) = omega arith
+le-fits n (suc (suc (suc (suc (suc (suc zero)))))) = omega arith
+le-fits n (suc (suc (suc (suc (suc (suc (suc zero))))))) = omega arith
+le-fits n (suc (suc (suc (suc (suc (suc (suc (suc i)))))))) = omega arith
+
+le-bits : (n k : ℕ) → n < 2 ^ 64 → has_bit (to_le_bytes w64 n) k ≡ eqb (bit_at n k) 1
+le-bits n k small =
+    sym (value-bits (to_le_bytes w64 n) (le-fits n) k)
+    ∙ ap (λ m. eqb (bit_at m k) 1) (sym (eight-value (get_or (to_le_bytes w64 n) 0 0) (get_or (to_le_bytes w64 n) 1 0) (get_or (to_le_bytes w64 n) 2 0) (get_or (to_le_bytes w64 n) 3 0) (get_or (to_le_bytes w64 n) 4 0) (get_or (to_le_bytes w64 n) 5 0) (get_or (to_le_bytes w64 n) 6 0) (get_or (to_le_bytes w64 n) 7 0)) ∙ from_le_bytes-to_le_bytes_8 n small)
+
+-- the bits of the bytes of two words
+pub low-bytes : (low high k : ℕ) → low < 2 ^ 64 → k < 64 → has_bit (to_le_bytes w64 low ++ to_le_bytes w64 high) k ≡ eqb (bit_at low k) 1
+low-bytes low high k small below =
+    let read : get_or (to_le_bytes w64 low ++ to_le_bytes w64 high) (k / 8) 0 ≡ get_or (to_le_bytes w64 low) (k / 8) 0 = get_or_append_left (to_le_bytes w64 low) (to_le_bytes w64 high) 0 (k / 8) (omega arith) in
+    bit-of_byte (to_le_bytes w64 low ++ to_le_bytes w64 high) (to_le_bytes w64 low) k k refl read ∙ le-bits low k small
+
+pub high-bytes : (low high k : ℕ) → high < 2 ^ 64 → has_bit (to_le_bytes w64 low ++ to_le_bytes w64 high) (64 + k) ≡ eqb (bit_at high k) 1
+high-bytes low high k small =
+    let place : (64 + k) / 8 ≡ 8 + k / 8 = omega arith in
+    let bit : (64 + k) % 8 ≡ k % 8 = omega arith in
+    let read : get_or (to_le_bytes w64 low ++ to_le_bytes w64 high) ((64 + k) / 8) 0 ≡ get_or (to_le_bytes w64 high) (k / 8) 0 =
+    ap (λ j. get_or (to_le_bytes w64 low ++ to_le_bytes w64 high) j 0) place ∙ get_or-append-add (to_le_bytes w64 low) (to_le_bytes w64 high) (k / 8) 0 in
+    bit-of_byte (to_le_bytes w64 low ++ to_le_bytes w64 high) (to_le_bytes w64 high) (64 + k) k bit read ∙ le-bits high k small
 
 -- one word of the bytes more
 pub word-more : (words first bytes : List ℕ) (p v : ℕ) → p < length words → ((i : ℕ) → i < 64 → eqb (bit_at v i) 1 ≡ has_bit bytes (8 * (8 * p) + i)) →

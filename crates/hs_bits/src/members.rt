@@ -3,13 +3,13 @@
 //! A set is seen as two tables of sixteen bytes, the first for the bytes below 128. Bit `b % 8` of the entry `b / 8 % 16`
 //! is whether the byte `b` is a member.
 
-ghost use Rattle.std.specs.Prelude.{◌≡◌, ℕ, ◌+◌, ◌*◌, ◌/◌, ◌%◌, ◌<◌, ◌≤◌, Bool, map, length, slice_index, nat_lt};
+ghost use Rattle.std.specs.Prelude.{◌≡◌, ℕ, ◌+◌, ◌/◌, ◌%◌, ◌<◌, ◌≤◌, ◌==◌, Bool, map, length, slice_index, nat_lt};
+ghost use Rattle.std.specs.Int.{bit_at};
 ghost use Rattle.std.specs.Simd.Lanes.{sel_l};
-ghost use Rattle.hs_base.specs.Bits.{has_bit, has_word_bit};
+ghost use Rattle.hs_base.specs.Bits.{has_bit};
 ghost use Rattle.hs_base.specs.ByteSets.{has};
 ghost use Rattle.hs_bits.specs.MemberPlaces.{ArePlacesOf, in_tables};
 
-use crate::words::byte_of;
 use hs_base::ByteSet;
 use std::simd::prelude::*;
 
@@ -45,10 +45,10 @@ impl Tables {
     fn of(set: &ByteSet) -> Tables
         ensures { (b : ℕ) → b < 256 → in_tables result.first result.second b ≡ has set.now b }
     {
-        let words = set.words();
+        let [w0, w1, w2, w3] = set.words();
         Tables {
-            first: table_of(&words, 0),
-            second: table_of(&words, u8x16::LEN),
+            first: table_of(w0, w1),
+            second: table_of(w2, w3),
         }
     }
 
@@ -81,17 +81,17 @@ impl Tables {
     }
 }
 
-/// Sixteen bytes of four words, from one on.
+/// The bytes of two words, the low ones first.
 #[inline(always)]
-fn table_of(words: &[u64; 4], from: usize) -> [u8; 16]
-    requires { from ≤ 16 }
-    ensures { (k : ℕ) → k < 128 → has_bit result k ≡ has_word_bit words.now (8 * from + k) }
+fn table_of(low: u64, high: u64) -> [u8; 16]
+    ensures low { (k : ℕ) → k < 64 → has_bit result k ≡ (bit_at low k == 1) }
+    ensures high { (k : ℕ) → k < 64 → has_bit result (64 + k) ≡ (bit_at high k == 1) }
 {
-    let mut table = [0; 16];
-    for place in 0..u8x16::LEN {
-        table[place] = byte_of(words, from + place);
-    }
-    table
+    let [a0, a1, a2, a3, a4, a5, a6, a7] = low.to_le_bytes();
+    let [b0, b1, b2, b3, b4, b5, b6, b7] = high.to_le_bytes();
+    [
+        a0, a1, a2, a3, a4, a5, a6, a7, b0, b1, b2, b3, b4, b5, b6, b7,
+    ]
 }
 
 /// The entry of each byte in its table.

@@ -146,7 +146,7 @@ pub fn store(words: &[u64], bytes: &mut [u8])
 }
 
 /// The byte of that number.
-pub(crate) fn byte_of(words: &[u64], place: usize) -> u8
+fn byte_of(words: &[u64], place: usize) -> u8
     requires { place < 8 * length words.now }
     ensures { (i : ℕ) → i < 8 → (bit_at result i == 1) ≡ has_word_bit words.now (8 * place + i) }
 {

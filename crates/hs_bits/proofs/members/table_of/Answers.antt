@@ -1,10 +1,12 @@
-use Rattle.std.proofs.Common.{arith, ◌∙◌}
-use Rattle.std.proofs.lemmas.List.{length-set}
-use Rattle.hs_bits.proofs.MemberLemmas.{table-more}
+use Rattle.std.proofs.Common.{ap, ◌∙◌}
+use Rattle.hs_bits.proofs.WordLemmas.{low-bytes, high-bytes}
+use Rattle.hs_bits.proofs.MemberLemmas.{table-read}
 use Rattle.hs_bits.proofs.members.table_of.Goals as goal
 
-pub loop-place-preserved : goal.loop-place-preserved
-loop-place-preserved c = (
-  length-set c.loop-place.table c.loop-place.place c.byte_of.result ∙ c.loop-place.invariant.0,
-  table-more c.args.words.now c.loop-place.table c.args.from c.loop-place.place c.byte_of.result (omega (arith, c.loop-place.invariant.0)) c.byte_of.ensures c.loop-place.invariant.1,
-)
+pub returns-clause-low : goal.returns-clause-low
+returns-clause-low c k below =
+    table-read c.to_le_bytes.result c.to_le_bytes-2.result c.args.low c.args.high k c.to_le_bytes.ensures c.to_le_bytes-2.ensures ∙ low-bytes c.args.low c.args.high k c.ranges.low.fits below
+
+pub returns-clause-high : goal.returns-clause-high
+returns-clause-high c k below =
+    table-read c.to_le_bytes.result c.to_le_bytes-2.result c.args.low c.args.high _ c.to_le_bytes.ensures c.to_le_bytes-2.ensures ∙ high-bytes c.args.low c.args.high k c.ranges.high.fits

@@ -4,4 +4,4 @@ use Rattle.hs_bits.proofs.members.Tables.of.Goals as goal
 
 pub returns : goal.returns
 returns c b small =
-    tables-tell c.words-words.result c.table_of.result c.table_of-2.result b small c.table_of.ensures c.table_of-2.ensures ∙ c.words-words.ensures b
+    tables-tell c.words.result c.table_of.result c.table_of-2.result b small c.table_of.ensures.low c.table_of.ensures.high c.table_of-2.ensures.low c.table_of-2.ensures.high ∙ c.words.ensures b
