@@ -7,9 +7,6 @@ pub mod LiteralWordLemmas
 pub mod LiteralBlockLemmas
 pub mod ContextLemmas
 pub mod ClassLaneLemmas
-pub mod NibbleLemmas
-pub mod NibbleLaneLemmas
-pub mod ClassWordLemmas
 pub mod AnyLemmas
 pub mod PackedLemmas
 pub mod StreamRowLemmas

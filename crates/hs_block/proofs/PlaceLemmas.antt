@@ -148,3 +148,8 @@ pub no-member-there : (enters places i count : ℕ) (member : Bool) → i < coun
 unfolding word_bit
 no-member-there enters places i count member below entered unset is =
     sym (ap (λ t. t && member) (less-is i count below)) ∙ (sym is ∙ both-unset enters places i unset entered)
+
+-- the bit of a place within is whether a member stands there
+pub member-bit : (places i count : ℕ) (member : Bool) → i < count → eqb (bit_at places i) 1 ≡ (nat_lt i count && member) → word_bit places i ≡ member
+unfolding word_bit
+member-bit places i count member below is = is ∙ ap (λ t. t && member) (less-is i count below)

@@ -12,7 +12,8 @@ use Rattle.hs_block.specs.Blocks.{is_blank, is_busy}
 use Rattle.hs_block.specs.Packed.{packed}
 use Rattle.hs_block.specs.Rows.{Solves, live_at}
 use Rattle.hs_block.specs.StreamRuns.{IsStreamRun, IsTried, is_accepting, stream_part, stream_row}
-use Rattle.hs_block.specs.StreamSets.{in_class, is_from, takes_byte}
+use Rattle.hs_engine.specs.Automata.{in_set}
+use Rattle.hs_block.specs.StreamSets.{is_from, takes_byte}
 use Rattle.hs_block.specs.StreamTables.{AreClassWords, word_rules}
 use Rattle.hs_block.specs.WordBits.{count_below, one_later, word_bit}
 use Rattle.hs_block.proofs.AnyLemmas.{any-none, any-same, true-false, true-or-false}
@@ -101,7 +102,7 @@ module _ (s : Streams) (old : List ℕ) (enters : ℕ) (whole classes words : Li
 -- a block in which nothing is live
 module _ (s : Streams) (old : List ℕ) (enters : ℕ) (whole : List ℕ) (count state first low : ℕ) (few : count ≤ 64) (len : length old ≡ (vec_len s.froms + 7) / 8) (state_is : (k : ℕ) → word_bit state k ≡ has_bit old k)
     (blank : eqb state 0 ≡ is_blank old) (small : (i : ℕ) → get_or whole i 0 < 256) (low_is : (i : ℕ) → word_bit low i ≡ nat_lt i count)
-    (first_is : (i : ℕ) → i < 64 → word_bit first i ≡ in_class (slice_get s.sets.items 0) (get_or whole i 0))
+    (first_is : (i : ℕ) → i < 64 → word_bit first i ≡ in_set (slice_get s.sets.items 0) (get_or whole i 0))
     (rests : (eqb state 0 && eqb (bit_and first (bit_and enters low)) 0) ≡ true) where
   no-state : state ≡ 0
   no-state = eqb-true state 0 (first_of_both (eqb state 0) (eqb (bit_and first (bit_and enters low)) 0) rests)

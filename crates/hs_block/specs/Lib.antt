@@ -6,7 +6,6 @@ pub mod Progress
 pub mod BlockLaws
 pub mod LiteralBlocks
 pub mod BlockContexts
-pub mod NibbleSets
 pub mod Rows
 pub mod Packed
 pub mod StreamSets

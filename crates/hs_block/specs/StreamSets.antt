@@ -1,6 +1,5 @@
 -- What tables of sets and of positions say, by their lists.
-use Rattle.std.specs.Prelude.{◌≡◌, ℕ, ◌+◌, ◌<◌, ◌≤◌, Bool, false, List, length, slice_get, slice_index}
-use Rattle.std.specs.Prelude.{Option, Some, None}
+use Rattle.std.specs.Prelude.{◌≡◌, ℕ, ◌+◌, ◌<◌, ◌≤◌, Bool, List, length, slice_get, slice_index}
 use Rattle.hs_base.specs.declared.byte_set.ByteSet.{ByteSet}
 use Rattle.hs_base.specs.declared.context.Next.TheVariants as after
 use Rattle.hs_base.specs.declared.context.Prev.TheVariants as before
@@ -8,18 +7,11 @@ use Rattle.hs_base.specs.ByteSets.{has}
 use Rattle.hs_base.specs.Contexts.{Context}
 use Rattle.hs_engine.specs.Automata.{in_set}
 use Rattle.hs_engine.specs.Between.{between}
-use Rattle.hs_block.specs.declared.nibbles.Nibbles.{Nibbles}
-use Rattle.hs_block.specs.NibbleSets.{in_nibbles}
 use Rattle.hs_block.specs.WordBits.{word_bit}
 
--- the byte is in the set, if there is one
-abbrev pub in_class : Option Nibbles → ℕ → Bool
-in_class None b = false
-in_class (Some set) b = in_nibbles set.first set.second b
-
 -- the position takes the byte, by the number of its set
-abbrev pub takes_byte : (sets : List Nibbles) (numbers : List ℕ) (position byte : ℕ) → Bool
-takes_byte sets numbers x b = in_class (slice_get sets (slice_index numbers x)) b
+abbrev pub takes_byte : (sets : List ByteSet) (numbers : List ℕ) (position byte : ℕ) → Bool
+takes_byte sets numbers x b = in_set (slice_get sets (slice_index numbers x)) b
 
 -- the other position may come before the one
 abbrev pub is_from : (froms : List ℕ) (position other : ℕ) → Bool
@@ -30,9 +22,9 @@ abbrev pub any_context : Context
 any_context = between before.Start after.Word
 
 -- Tables of the sets of so many positions behind a set of first bytes: that one is the first of them.
-pub record AreSetTables (sets : List Nibbles) (numbers : List ℕ) (first : ByteSet) (given : List ByteSet) : Type 0 where
+pub record AreSetTables (sets : List ByteSet) (numbers : List ℕ) (first : ByteSet) (given : List ByteSet) : Type 0 where
   pub some : 0 < length sets
   pub few : length sets ≤ length numbers + 1
   pub within : (x : ℕ) → slice_index numbers x < length sets
-  pub first_is : (b : ℕ) → b < 256 → in_class (slice_get sets 0) b ≡ has first b
+  pub first_is : (b : ℕ) → b < 256 → in_set (slice_get sets 0) b ≡ has first b
   pub takes_are : (x b : ℕ) → x < length numbers → b < 256 → takes_byte sets numbers x b ≡ in_set (slice_get given x) b

@@ -2,10 +2,10 @@
 use Rattle.std.specs.Prelude.{◌≡◌, ℕ, ◌<◌, Bool, ◌&&◌, List, length, slice_get, slice_index, vec_len}
 use Rattle.hs_base.specs.Contexts.{Context}
 use Rattle.hs_engine.specs.declared.automaton.Automaton.{Automaton}
-use Rattle.hs_engine.specs.Automata.{takes, enters, accepts, follows}
-use Rattle.hs_block.specs.declared.nibbles.Nibbles.{Nibbles}
+use Rattle.hs_engine.specs.Automata.{in_set, takes, enters, accepts, follows}
+use Rattle.hs_base.specs.declared.byte_set.ByteSet.{ByteSet}
 use Rattle.hs_block.specs.declared.streams.Streams.{Streams}
-use Rattle.hs_block.specs.StreamSets.{in_class, is_from, takes_byte}
+use Rattle.hs_block.specs.StreamSets.{is_from, takes_byte}
 use Rattle.hs_block.specs.WordBits.{word_bit}
 use Rattle.hs_block.specs.Rows.{Rules}
 
@@ -42,9 +42,9 @@ word_rules s entered classes = record {
 }
 
 -- the word of each set tells at which of so many places one of its bytes stands
-abbrev pub AreClassWords : (sets : List Nibbles) (classes bytes : List ℕ) (count : ℕ) → Type 0
+abbrev pub AreClassWords : (sets : List ByteSet) (classes bytes : List ℕ) (count : ℕ) → Type 0
 AreClassWords sets classes bytes n =
     (k i : ℕ) →
     k < length sets →
     i < n →
-    word_bit (slice_index classes k) i ≡ in_class (slice_get sets k) (slice_index bytes i)
+    word_bit (slice_index classes k) i ≡ in_set (slice_get sets k) (slice_index bytes i)

@@ -8,7 +8,6 @@ mod class_words;
 mod contexts;
 mod engine;
 mod literal;
-mod nibbles;
 mod places;
 mod position_words;
 mod set_tables;

@@ -1,12 +1,11 @@
-//! The sets of positions as tables, each once.
+//! The sets of positions, each once.
 
 ghost use Rattle.std.specs.Prelude.{◌≡◌, ℕ, ◌+◌, ◌<◌, ◌≤◌, true, Some, IfOk, IfSome, length, slice_get, vec_len};
 ghost use Rattle.hs_base.specs.ByteSets.{has};
 ghost use Rattle.hs_base.specs.Contexts.{Context};
 ghost use Rattle.hs_engine.specs.Automata.{in_mask, in_set};
-ghost use Rattle.hs_block.specs.StreamSets.{AreSetTables, in_class};
+ghost use Rattle.hs_block.specs.StreamSets.{AreSetTables};
 
-use crate::nibbles::Nibbles;
 use hs_base::{ByteSet, Mask};
 use std::alloc::{AllocError, Global};
 
@@ -14,7 +13,7 @@ use std::alloc::{AllocError, Global};
 #[derive(Drop)]
 pub(crate) struct SetTables {
     /// The sets, each once, behind that of the first bytes.
-    pub sets: Vec<Nibbles>,
+    pub sets: Vec<ByteSet>,
     /// For each position the number of its set.
     pub numbers: Vec<usize>,
 }
@@ -43,7 +42,7 @@ impl SetTables {
 }
 
 /// The number of the set among those that are kept: it is put behind them where none is equal.
-fn number_of(kept: &mut Vec<Nibbles>, set: &ByteSet) -> Result<usize, AllocError>
+fn number_of(kept: &mut Vec<ByteSet>, set: &ByteSet) -> Result<usize, AllocError>
     requires { vec_len kept.old ≤ 16 }
     ensures within { IfOk result (λ number. number < vec_len kept.new) }
     ensures few { IfOk result (λ number. vec_len kept.new ≤ vec_len kept.old + 1) }
@@ -51,23 +50,22 @@ fn number_of(kept: &mut Vec<Nibbles>, set: &ByteSet) -> Result<usize, AllocError
     ensures stay { IfOk result (λ number. (k : ℕ) → k < vec_len kept.old →
         slice_get kept.new.items k ≡ slice_get kept.old.items k) }
     ensures members { IfOk result (λ number. (b : ℕ) → b < 256 →
-        in_class (slice_get kept.new.items number) b ≡ has set.now b) }
+        in_set (slice_get kept.new.items number) b ≡ has set.now b) }
 {
-    let nibbles = Nibbles::of(set);
-    if let Some(number) = find(kept, &nibbles) {
+    if let Some(number) = find(kept, set) {
         return Ok(number);
     }
     let number = kept.len();
-    kept.push(nibbles)?;
+    kept.push(*set)?;
     Ok(number)
 }
 
 /// The number of an equal set among those that are kept.
-fn find(kept: &[Nibbles], nibbles: &Nibbles) -> Option<usize>
-    ensures { IfSome result (λ number. slice_get kept.now number ≡ Some nibbles.now) }
+fn find(kept: &[ByteSet], set: &ByteSet) -> Option<usize>
+    ensures { IfSome result (λ number. slice_get kept.now number ≡ Some set.now) }
 {
     for number in 0..kept.len() {
-        if kept[number] == *nibbles {
+        if kept[number] == *set {
             return Some(number);
         }
     }

@@ -11,16 +11,17 @@
 
 ghost use Rattle.std.specs.Prelude.{◌≡◌, ℕ, ◌+◌, ◌/◌, ◌<◌, ◌≤◌, ◌&&◌, ◌||◌, ◌==◌, Bool, true, false, not};
 ghost use Rattle.std.specs.Prelude.{IsTrue, List, length, set, slice_get, slice_index, vec_len};
-ghost use Rattle.hs_block.specs.StreamSets.{in_class, is_from, takes_byte};
+ghost use Rattle.hs_engine.specs.Automata.{in_set};
+ghost use Rattle.hs_block.specs.StreamSets.{is_from, takes_byte};
 ghost use Rattle.hs_block.specs.WordBits.{one_later, word_bit};
 
 use crate::before_tables::{back_word, common_word, words_before};
 use crate::class_words::class_word;
 use crate::engine::BlockEnds;
-use crate::nibbles::Nibbles;
 use crate::places::{contains_place, low_places, one_later, only_if, with_place};
 use crate::position_words::{column, count_places, load, meet, next_word, spread, store, united};
 use crate::set_tables::{SetTables, first_bytes};
+use hs_base::ByteSet;
 use hs_bits::WORD_BITS;
 use hs_engine::{Automaton, Steps};
 use std::alloc::{AllocError, Global};
@@ -38,7 +39,7 @@ const MAX_PASSES: usize = 8;
 #[derive(Debug, Drop)]
 pub struct Streams {
     /// The sets of bytes, each once. The first one has the bytes with which a match may begin.
-    pub(crate) sets: Vec<Nibbles>,
+    pub(crate) sets: Vec<ByteSet>,
     /// For each position the number of its set.
     pub(crate) numbers: Vec<usize>,
     /// For each position those that may come before it.
@@ -63,7 +64,7 @@ pub struct Streams {
         word_bit (slice_index others.items x) y ≡ (not (y == x) && is_from froms.items x y) },
     ghost backs_are: { (x y : ℕ) → x < y → is_from froms.items x y ≡ true → word_bit backs y ≡ true },
     ghost firsts: { (x b : ℕ) → x < vec_len froms → b < 256 → word_bit enters x ≡ true →
-        takes_byte sets.items numbers.items x b ≡ true → in_class (slice_get sets.items 0) b ≡ true },
+        takes_byte sets.items numbers.items x b ≡ true → in_set (slice_get sets.items 0) b ≡ true },
 }
 
 impl Streams {

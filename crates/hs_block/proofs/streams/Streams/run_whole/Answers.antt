@@ -1,6 +1,6 @@
 use Rattle.std.proofs.Common.{get_or, vec_len, arith, ap, sym, ◌∙◌}
 use Rattle.std.proofs.lemmas.Option.{slice_get_read}
-use Rattle.hs_block.specs.StreamSets.{in_class}
+use Rattle.hs_engine.specs.Automata.{in_set}
 use Rattle.hs_block.proofs.StreamRunLemmas.{rest-run, words-run}
 use Rattle.hs_block.proofs.streams.Streams.run_whole.Goals as goal
 
@@ -15,7 +15,7 @@ returns-then-state-first g c =
           (λ i. let b = c.type_inv.whole i in omega (arith, b)) c.low_places.ensures
           (λ i below.
           c.class_word-first.ensures i below
-          ∙ ap (λ set. in_class set (get_or whole i 0)) (sym (slice_get_read s.sets.items (vec_len s.sets) 0 c.index.result.now s.sets.ok.0 s.some_sets c.index.ensures)))
+          ∙ ap (λ set. in_set set (get_or whole i 0)) (sym (slice_get_read s.sets.items (vec_len s.sets) 0 c.index.result.now s.sets.ok.0 s.some_sets c.index.ensures)))
           c.if-state-first.true c.count_places.result
           (c.count_places.ensures count c.requires.few),
     )
