@@ -1,7 +1,7 @@
 //! At which of up to 64 bytes a member of a set stands, sixteen bytes at a time.
 //!
-//! A set is seen as two tables of sixteen bytes, the first for the bytes below 128. Bit `b % 8` of the entry `b / 8 % 16`
-//! is whether the byte `b` is a member.
+//! A set is seen as two tables of sixteen bytes, the first for the bytes below 128. Bit `b % 8` of the entry
+//! `b / 8 % 16` is whether the byte `b` is a member.
 
 ghost use Rattle.std.specs.Prelude.{◌≡◌, ℕ, ◌+◌, ◌/◌, ◌%◌, ◌<◌, ◌≤◌, ◌==◌, Bool, map, length, slice_index, nat_lt};
 ghost use Rattle.std.specs.Int.{bit_at};
