@@ -4,44 +4,23 @@ use hs_compile::{Database, compile};
 use std::alloc::{AllocError, Global};
 use std::test::Fail;
 
-/// The flags and the parameters of letters.
-fn settings(letters: &str) -> (Flags, Ext) {
-    let mut flags = Flags::NONE;
-    let mut ext = Ext::NONE;
-    for letter in letters.bytes() {
-        match letter {
-            b'H' => flags = flags.union(Flags::SINGLEMATCH),
-            b'V' => flags = flags.union(Flags::ALLOWEMPTY),
-            b'L' => flags = flags.union(Flags::SOM_LEFTMOST),
-            _ => {
-                let (min_offset, max_offset) = if letter == b'w' { (10, 15) } else { (2, 1) };
-                ext = Ext {
-                    bits: 3,
-                    min_offset,
-                    max_offset,
-                };
-            }
-        }
-    }
-    (flags, ext)
+/// The entry of an identifier and a text.
+pub(crate) fn entry(alloc: Global, id: u32, text: &str) -> Result<Entry, AllocError> {
+    Ok(Entry {
+        id: ExprId(id),
+        flags: Flags::NONE,
+        ext: Ext::NONE,
+        text: Vec::from_slice(alloc, text.as_bytes())?,
+    })
 }
 
-/// The entries of a list, in words.
-///
-/// An entry is `ID:/TEXT/` with its flags behind it: `H` and `V`, `L` for the start of a match, `w` for ends from 10 to
-/// 15, `o` for ends from 2 to 1.
-pub(crate) fn entries_of(alloc: Global, list: &str) -> Result<Vec<Entry>, AllocError> {
+/// The entries of a list, in words: each is `ID:/TEXT/`.
+fn entries_of(alloc: Global, list: &str) -> Result<Vec<Entry>, AllocError> {
     let mut entries = Vec::new(alloc);
-    for word in list.split_whitespace() {
+    for word in list.split(' ') {
         let (id, rest) = word.split_once(":/").unwrap_or((word, ""));
-        let (text, letters) = rest.split_once('/').unwrap_or((rest, ""));
-        let (flags, ext) = settings(letters);
-        entries.push(Entry {
-            id: ExprId(id.parse().unwrap_or(0)),
-            flags,
-            ext,
-            text: Vec::from_slice(alloc, text.as_bytes())?,
-        })?;
+        let (text, _end) = rest.split_once('/').unwrap_or((rest, ""));
+        entries.push(entry(alloc, id.parse().unwrap_or(0), text)?)?;
     }
     Ok(entries)
 }
