@@ -6,13 +6,16 @@ from .writing import byte_text
 
 @dataclass
 class Entry:
-    """An expression of a rule; `where` is FILE:LINE, `flags` are of `i m s x`, `notes` say what else the rule asks."""
+    """An expression of a rule; `where` is FILE:LINE, `flags` are of `i m s x`, `notes` say what else the rule asks.
+
+    `of_lines` says that it is applied to lines one by one, so that no match goes over a line's end."""
     where: str
     rule: str
     part: str
     text: str
     flags: str = ""
     notes: tuple = ()
+    of_lines: bool = False
 
 
 @dataclass

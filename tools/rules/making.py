@@ -8,6 +8,7 @@ import tempfile
 
 from .formats import FORMATS
 from .found import LeftOut
+from .lines import within_lines
 from .rewriting import on_one_line, rewrite, wider
 from .tree import CannotRewrite
 
@@ -46,9 +47,10 @@ class List:
 
     def expression(self, one):
         """The text and the flags that are written for it, and what was done."""
-        flags = "".join(flag for flag in "ismx" if flag in one.flags)
+        flags, read = "".join(flag for flag in "ismx" if flag in one.flags), one.text
         try:
-            text, flags, kinds = rewrite(one.text, flags)
+            read = within_lines(read, flags) if one.of_lines else read
+            text, flags, kinds = rewrite(read, flags)
             kinds = ", ".join(kinds)
             self.rewritten.update([kinds] if kinds else [])
             return text, flags, "rewritten: " + kinds if kinds else ""
@@ -56,13 +58,13 @@ class List:
             reason = str(fault)
         if self.wider_too:
             try:
-                text, flags = wider(one.text, flags)
+                text, flags = wider(read, flags)
                 self.widened[reason] += 1
                 return text, flags, "wider than the rule: " + reason
             except (CannotRewrite, ValueError, IndexError):
                 pass
         self.kept_as_is[reason] += 1
-        text = on_one_line(one.text, flags)
+        text = on_one_line(read, flags)
         return text, flags.replace("x", ""), "not rewritten: " + reason
 
     def leave(self, reason, where, rule, carries):

@@ -92,6 +92,7 @@ def line_of(path, option):
 
 def entries_of_option(path, rule, option, values):
     where, count = "%s:%d" % (path, line_of(path, option)), 0
+    several_lines = values.put_in(values.get("maxlines") or "1").strip() != "1"
     for line in values.put_in(values.sections.get("Definition", {}).get(option, "")).split("\n"):
         text = tags_written_out(line.strip())
         if not text or text.startswith("#"):
@@ -101,7 +102,8 @@ def entries_of_option(path, rule, option, values):
         if left:
             yield LeftOut(where, rule, "a value that the filter doesn't give (%s)" % left.group(0), True)
         else:
-            yield Entry(where, rule, "%s %d" % (option, count), text, "m")
+            of_lines = not several_lines and "\\n" not in text
+            yield Entry(where, rule, "%s %d" % (option, count), text, "m", of_lines=of_lines)
 
 
 def entries(paths):

@@ -41,4 +41,4 @@ def entries(paths):
         for number, line in numbered_lines(path):
             if line.strip() and not line.lstrip().startswith("#"):
                 text = line.rstrip()
-                yield Entry("%s:%d" % (path, number), "", "line", as_pcre(text), "m")
+                yield Entry("%s:%d" % (path, number), "", "line", as_pcre(text), "m", of_lines=True)
