@@ -9,8 +9,8 @@ class Engine:
 
     def __init__(self, program, database, folder):
         self.folder, self.names = folder, 0
-        self.process = subprocess.Popen([program, "stream", os.path.abspath(database)], cwd=folder, stdin=subprocess.PIPE,
-                                        stdout=subprocess.PIPE)
+        self.process = subprocess.Popen([program, "stream", os.path.abspath(database)], cwd=folder,
+                                        stdin=subprocess.PIPE, stdout=subprocess.PIPE)
 
     def name(self):
         """A name that no stream has had."""

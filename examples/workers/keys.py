@@ -1,4 +1,6 @@
-"""Which keys of Redis are used, and how a connection finds its slot. SPACE is the name of a group of workers with one list.
+"""Which keys of Redis are used, and how a connection finds its slot.
+
+SPACE is the name of a group of workers with one list.
 
   SPACE:in:SLOT      a stream of Redis: pieces of the connections of a slot in order, and their ends
   SPACE:owner:SLOT   the worker that has the slot, for as long as its lease lasts

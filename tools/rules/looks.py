@@ -1,16 +1,18 @@
 """Rewrites looks ahead and behind to expressions without them.
 
-A look ahead is a condition on the bytes behind it, so it is worked into what follows: the bytes that follow are read together with
-what is still asked of them, and from the pairs of both an expression is made as from an automaton. Where the expression ends before
-the condition is settled, it is made longer by the bytes that settle it, so its ends may move; where it begins is told by nobody, so
-a look behind moves nothing. A look behind is a look ahead in the reversed expression.
+A look ahead is a condition on the bytes behind it, so it is worked into what follows: the bytes that follow are read
+together with what is still asked of them, and from the pairs of both an expression is made as from an automaton. Where
+the expression ends before that is settled, it is made longer by the bytes that settle it, so its ends may move;
+where it begins is told by nobody, so a look behind moves nothing. A look behind is a look ahead in the reversed
+expression.
 
-What is asked is a set of pairs (negative, tree), trees over bytes and the end of the text: each tree tells how what follows may begin.
+What is asked is a set of pairs (negative, tree), trees over bytes and the end of the text: each tree tells how what
+follows may begin.
 """
 from functools import lru_cache
 
-from .tree import (ALL, EMPTY, END, NONE, WORD, CannotRewrite, alt, cat, has, is_nullable, items_of, parts, rep, reverse, size,
-                   with_parts)
+from .tree import (ALL, EMPTY, END, NONE, WORD, CannotRewrite, alt, cat, has, is_nullable, items_of, parts, rep, reverse,
+                   sharing_ends, size, with_parts)
 
 MOST_STATES = 300
 MOST_SIZE = 6000
@@ -179,7 +181,7 @@ def begin(asked):
 # What follows: its first bytes, and what comes behind each.
 
 def first_steps(tree):
-    """Pairs: (assertions before, set, asked before it, what comes behind), and for the empty text (assertions, asked)."""
+    """(assertions before, set, asked before it, what comes behind), and for the empty text (assertions, asked)."""
     kind = tree[0]
     if kind == "set":
         return [((), tree[1], frozenset(), EMPTY)], []
@@ -306,7 +308,7 @@ class Automaton:
                     behind_tail.append(cat(label, *items_of(behind)[:-len(tail)]))
                 else:
                     settled.append(cat(label, behind))
-        self.ends[state] = alt(*settled, cat(alt(*behind_tail), *tail))
+        self.ends[state] = sharing_ends(alt(*settled, cat(alt(*behind_tail), *tail)))
         for before, more in empties:
             left = asked | more
             if left and before and before[-1] in TEXT_ENDS:
@@ -335,7 +337,7 @@ class Automaton:
                     continue
                 for target, more in moves.items():
                     self.move(other, cat(label, more), target)
-                self.ends[other] = alt(self.ends[other], cat(label, self.ends[state]))
+                self.ends[other] = sharing_ends(alt(self.ends[other], cat(label, self.ends[state])))
                 if size(self.ends[other]) > MOST_SIZE:
                     raise CannotRewrite("a look whose rewriting is too long")
         return self.ends[self.order[0]]
@@ -366,7 +368,7 @@ def worked_in(tree, follows, may_pass_end):
     if kind == "alt":
         plain = [part for part in tree[1] if not asks(part)]
         looking = [without_aheads(part, follows, may_pass_end) for part in tree[1] if asks(part)]
-        return alt(*looking, *([cat(alt(*plain), follows)] if plain else []))
+        return sharing_ends(alt(*looking, *([cat(alt(*plain), follows)] if plain else [])))
     if kind == "group":
         return without_aheads(tree[2], follows, may_pass_end)
     if kind == "rep":

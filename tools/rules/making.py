@@ -12,8 +12,11 @@ from .lines import within_lines
 from .rewriting import on_one_line, rewrite, wider
 from .tree import CannotRewrite
 
-HELP = """Writes the expressions of rules as a pattern file of hs_tool on standard output, and what was left out, by reason, on
-standard error. FILE may be a folder: its files of the format's ending are read, also those in folders within."""
+HELP = """Writes the expressions of rules as a pattern file of hs_tool on standard output, and what was left out, by
+reason, on standard error. FILE may be a folder: its files of the format's ending are read, also in folders within."""
+
+
+LINES_AT_ONCE = 200
 
 
 def files_of(names, ending):
@@ -73,18 +76,24 @@ class List:
         self.map.append(("-", where, rule, "left out", reason))
 
     def keep_accepted(self, program):
-        """Each entry is tried alone; those that the program refuses are left out by its reason."""
-        kept, by_number = [], {row[0]: at for at, row in enumerate(self.map)}
-        for line in self.lines:
-            refusal = refusal_of(program, line)
+        """Entries that the program refuses are left out by its reason: in short lists first, then in that of all."""
+        rows = {row[0]: at for at, row in enumerate(self.map)}
+        kept = []
+        for start in range(0, len(self.lines), LINES_AT_ONCE):
+            kept += self.accepted(program, self.lines[start:start + LINES_AT_ONCE], rows)
+        self.lines = self.accepted(program, kept, rows)
+
+    def accepted(self, program, lines, rows):
+        while True:
+            refusal = refusal_of(program, lines)
             if refusal is None:
-                kept.append(line)
-                continue
-            at = by_number[int(line.partition(":")[0])]
-            _, where, rule, part, _ = self.map[at]
-            self.left["refused by the program: " + refusal] += 1
-            self.map[at] = ("-", where, rule, part + ", left out", "refused by the program: " + refusal)
-        self.lines = kept
+                return lines
+            number, reason = refusal
+            lines = [line for line in lines if not line.startswith("%d:" % number)]
+            _, where, rule, part, _ = self.map[rows[number]]
+            reason = "refused by the program: " + reason
+            self.left[reason] += 1
+            self.map[rows[number]] = ("-", where, rule, part + ", left out", reason)
 
     def tell(self, file):
         print("written %d of %d expressions" % (len(self.lines), self.carrying), file=file)
@@ -94,17 +103,19 @@ class List:
                 print("%s: %s: %d" % (title, reason, count), file=file)
 
 
-def refusal_of(program, line):
-    """Why the program refuses a list of this line; None where it accepts it."""
+def refusal_of(program, lines):
+    """The identifier that the program refuses of a list, and why; None where it accepts it."""
     with tempfile.NamedTemporaryFile("wb", suffix=".patterns") as file:
-        file.write(line.encode("latin-1") + b"\n")
+        file.write("".join(line + "\n" for line in lines).encode("latin-1"))
         file.flush()
         run = subprocess.run([program, "check", file.name], capture_output=True)
     if run.returncode == 0:
         return None
     words = run.stderr.decode("latin-1").split()
-    # refused ENTRY ID NUMBER NAME VALUES: the place or count isn't part of the reason, the form is.
-    return " ".join(words[4:6] if words[4:5] == ["Unsupported"] else words[4:5]) or "status %d" % run.returncode
+    if run.returncode != 2 or len(words) < 5 or not words[2].isdigit():
+        raise SystemExit("lists: %s: %s" % (program, " ".join(words)))
+    # refused ENTRY ID NUMBER NAME VALUES: the place or count isn't part of the reason, the word of a form is.
+    return int(words[2]), " ".join(words[4:6] if words[4] == "Unsupported" else words[4:5])
 
 
 def main():

@@ -18,6 +18,7 @@ NAMED = {
 QUANTIFIER = re.compile(r"([*+?]|\{\d+(?:,\d*)?\})([?+]?)")
 OPTIONS = re.compile(r"\(\?([imsxU]*)(?:-([imsxU]*))?([:)])")
 NAMED_GROUP = re.compile(r"\(\?(?:P?<|')([A-Za-z_]\w*)[>']")
+CONDITION = re.compile(r"\(\?\((?:<(\w+)>|'(\w+)'|(\w+))\)")
 REFERENCE = re.compile(r"\\(?:g(\d+)|g\{(\w+)\}|k[<{'](\w+)[>}'])|\(\?P=(\w+)\)")
 LOOKS = {"(?=": (True, False), "(?!": (True, True), "(?<=": (False, False), "(?<!": (False, True)}
 
@@ -139,15 +140,39 @@ class Reader:
         return self.numbered_group()
 
     def numbered_group(self):
+        if CONDITION.match(self.text, self.at):
+            return self.conditional()
         found = NAMED_GROUP.match(self.text, self.at)
         if not found and re.match(r"\([?*]", self.text[self.at:self.at + 2]):
-            raise CannotRewrite("a conditional, a verb or a recursion")
+            raise CannotRewrite("a verb, a recursion or another form")
         self.groups += 1
         number = self.groups
         if found:
             self.names[found.group(1)] = number
         self.take(len(found.group(0)) if found else 1)
         return ("group", number, self.closed())
+
+    def number_of(self, found):
+        """The group of a name or a number."""
+        name = next(word for word in found.groups() if word)
+        number = int(name) if name.isdigit() else self.names.get(name)
+        if number is None:
+            raise CannotRewrite("a reference to a group behind it")
+        return number
+
+    def conditional(self):
+        found = CONDITION.match(self.text, self.at)
+        self.at = found.end()
+        number, kept = self.number_of(found), set(self.flags)
+        branches = [self.branch()]
+        if self.rest_begins("|"):
+            self.take()
+            branches.append(self.branch())
+        if not self.rest_begins(")"):
+            raise CannotRewrite("a conditional of another form")
+        self.take()
+        self.flags = kept
+        return ("if", number, *(branches + [EMPTY])[:2])
 
     def closed(self):
         tree = self.alternatives()
@@ -158,10 +183,7 @@ class Reader:
 
     def reference(self, found):
         self.at = found.end()
-        name = next(word for word in found.groups() if word)
-        number = int(name) if name.isdigit() else self.names.get(name)
-        if number is None:
-            raise CannotRewrite("a reference to a group behind it")
+        number = self.number_of(found)
         self.used.add(number)
         return ("same", number)
 
@@ -282,7 +304,7 @@ class Reader:
 
 
 def read(text, flags):
-    """The tree of an expression under these flags (of `i m s x`), and the numbers of the groups that are referred to."""
+    """The tree of an expression under these flags (of `i m s x`), and the groups that are referred to."""
     reader = Reader(text, flags)
     tree = reader.alternatives()
     if reader.at < len(text):

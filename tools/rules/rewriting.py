@@ -1,14 +1,14 @@
-"""From the expression of a rule to one of the program: as it is where the program reads it, else by a rewriting that is sure."""
+"""From the expression of a rule to one of the program: as it is where the program reads it, else surely rewritten."""
 import re
 
 from .looks import without_looks_at_all
 from .reading import read
-from .tree import CannotRewrite, alt, cat, first_bytes, has, is_nullable, parts, size, with_parts
+from .tree import EMPTY, NONE, CannotRewrite, alt, cat, first_bytes, has, is_nullable, parts, size, with_parts
 from .writing import is_folded, write
 
 MOST_CHOICES = 10
 MOST_BYTES = 16000
-NEEDS = {"look": "look", "same": "reference", "atom": "atomic"}
+NEEDS = {"if": "conditional", "look": "look", "same": "reference", "atom": "atomic"}
 
 
 def needs_of(tree):
@@ -17,7 +17,7 @@ def needs_of(tree):
 
 
 def without_atomics(tree, follows):
-    """Atomic repeats of one set are plain ones where what follows can't begin with a byte of the set, or nothing follows."""
+    """Atomic repeats of one set are plain ones where what follows can't begin with a byte of it, or nothing follows."""
     if tree[0] == "cat":
         done = []
         for part in reversed(tree[1]):
@@ -36,6 +36,39 @@ def without_atomics(tree, follows):
         if has(tree, lambda part: part[0] == "atom"):
             follows = cat(("rep", follows, 0, 1), follows)
     return with_parts(tree, [without_atomics(part, follows) for part in parts(tree)])
+
+
+def without_conditionals(tree):
+    """One alternative for each of: the group that is asked has matched, or not."""
+    asked = first_conditional(tree)
+    if asked is None:
+        return tree
+    return without_conditionals(alt(settled(tree, asked, True), settled(tree, asked, False)))
+
+
+def first_conditional(tree):
+    if tree[0] == "if":
+        return tree[1]
+    return next((found for found in map(first_conditional, parts(tree)) if found is not None), None)
+
+
+def settled(tree, number, matched):
+    """What it matches so that the group has matched, or so that it hasn't; conditionals on it are decided."""
+    if tree[0] == "if" and tree[1] == number:
+        return settled(tree[2 if matched else 3], number, matched)
+    if group_of(tree, number) is None:
+        return with_parts(tree, [settled(part, number, matched) for part in parts(tree)])
+    if tree[0] == "group" and tree[1] == number:
+        return tree if matched else NONE
+    if tree[0] == "alt":
+        others = [part for part in tree[1] if group_of(part, number) is None and not matched]
+        return alt(*others, *[settled(part, number, matched) for part in tree[1] if group_of(part, number)])
+    if tree[0] in ("cat", "group"):
+        return with_parts(tree, [settled(part, number, matched) for part in parts(tree)])
+    if tree[0] == "rep" and tree[2:] == (0, 1):
+        inner = settled(tree[1], number, matched)
+        return inner if matched else alt(EMPTY, inner)
+    raise CannotRewrite("a conditional on a group that is repeated or looked at")
 
 
 def choices(tree):
@@ -101,7 +134,7 @@ def without_references(tree, folded):
 
 def unread(text):
     """Whether a form may stand in it that the program doesn't read: then it is read here."""
-    return re.search(r"\(\?(?:<?[=!]|>|P=)|\\[1-9gkGRN]|[*+?}]\+", text) is not None
+    return re.search(r"\(\?(?:<?[=!]|>|P=|\()|\\[1-9gkGRN]|[*+?}]\+", text) is not None
 
 
 def widened(tree, whole):
@@ -110,6 +143,8 @@ def widened(tree, whole):
         return cat()
     if tree[0] == "atom":
         return widened(tree[1], whole)
+    if tree[0] == "if":
+        return alt(*[widened(part, whole) for part in parts(tree)])
     if tree[0] == "same":
         group = group_of(whole, tree[1])
         if group is None or has(group, lambda part: part[0] == "same"):
@@ -136,7 +171,7 @@ def written(tree):
 
 
 def rewrite(text, flags):
-    """(text, flags, kinds of what was rewritten); flags are of `i m s x`, and `V` is added where the empty text matches."""
+    """(text, flags, kinds of what was rewritten); flags are of `i m s x`, and `V` where the empty text matches."""
     flags = "".join(flag for flag in "ismx" if flag in flags)
     try:
         tree, _ = read(text, flags)
@@ -148,6 +183,8 @@ def rewrite(text, flags):
     if not kinds:
         empty = "V" if is_nullable(tree) else ""
         return on_one_line(text, flags), flags.replace("x", "") + empty, []
+    if "conditional" in kinds:
+        tree = without_conditionals(tree)
     if "atomic" in kinds:
         tree = without_atomics(tree, ("cat", ()))
     if "reference" in kinds:

@@ -1,4 +1,4 @@
-"""Trees of expressions over bytes: how they are made, simplified and asked. Reading and writing them is in `reading` and `writing`.
+"""Trees of expressions over bytes: how they are made, simplified and asked. `reading` and `writing` turn text to them.
 
 A tree is a tuple, so that equal trees are equal values:
   ("set", mask)              one byte of a set; bit 256 is the end of the text, which stands in looks alone
@@ -7,6 +7,7 @@ A tree is a tuple, so that equal trees are equal values:
   ("at", word)               an assertion, by how it is written
   ("look", ahead, negative, tree)
   ("group", number, tree), ("same", number)    a group that is referred to, and the reference
+  ("if", number, tree, tree) one or the other, by whether a group has matched
   ("atom", tree)             an atomic group
 """
 from functools import lru_cache
@@ -62,6 +63,26 @@ def alt(*items):
     return flat[0] if len(flat) == 1 else ("alt", tuple(flat))
 
 
+def sharing_ends(tree):
+    """The alternatives of a tree, of which those that end alike share the end."""
+    if tree[0] != "alt":
+        return tree
+    groups = {}
+    for item in tree[1]:
+        groups.setdefault(items_of(item)[-1:], []).append(items_of(item))
+    branches = []
+    for last, members in groups.items():
+        shared = 1 if last and len(members) > 1 else 0
+        while shared and all(len(x) > shared for x in members) and len({x[-shared - 1] for x in members}) == 1:
+            shared += 1
+        if shared:
+            heads = sharing_ends(alt(*[cat(*x[:-shared]) for x in members]))
+            branches.append(cat(heads, *members[0][-shared:]))
+        else:
+            branches += [cat(*x) for x in members]
+    return alt(*branches)
+
+
 def rep(tree, least, most):
     if tree == EMPTY or most == 0:
         return EMPTY
@@ -83,8 +104,8 @@ def parts(tree):
         return tree[1]
     if kind in ("rep", "atom"):
         return (tree[1],)
-    if kind == "group":
-        return (tree[2],)
+    if kind in ("group", "if"):
+        return tree[2:]
     return (tree[3],) if kind == "look" else ()
 
 
@@ -101,6 +122,8 @@ def with_parts(tree, new):
         return ("atom", new[0])
     if kind == "group":
         return ("group", tree[1], new[0])
+    if kind == "if":
+        return ("if", tree[1], *new)
     return ("look", tree[1], tree[2], new[0]) if kind == "look" else tree
 
 
@@ -121,8 +144,8 @@ def is_nullable(tree):
         return True
     if kind in ("set", "same"):
         return False
-    if kind == "alt":
-        return any(is_nullable(part) for part in tree[1])
+    if kind in ("alt", "if"):
+        return any(is_nullable(part) for part in parts(tree))
     if kind == "rep":
         return tree[2] == 0 or is_nullable(tree[1])
     return all(is_nullable(part) for part in parts(tree))

@@ -16,7 +16,8 @@ ADDRESS_6 = r"(?:[0-9a-fA-F]{1,4}::?|::){1,7}(?:[0-9a-fA-F]{1,4}|:)"
 NAME = r"[\w\-.^_]*\w"
 ADDRESS = r"\[?(?:%s|%s)\]?" % (ADDRESS_4, ADDRESS_6)
 TAGS = {
-    "HOST": "(?:%s|%s)" % (ADDRESS, NAME), "ADDR": ADDRESS, "IP4": ADDRESS_4, "IP6": ADDRESS_6, "DNS": NAME, "CIDR": r"\d+",
+    "HOST": "(?:%s|%s)" % (ADDRESS, NAME), "ADDR": ADDRESS, "IP4": ADDRESS_4, "IP6": ADDRESS_6, "DNS": NAME,
+    "CIDR": r"\d+",
     "SUBNET": r"\[?(?:%s|%s)(?:/\d+)?\]?" % (ADDRESS_4, ADDRESS_6), "F-ID/": r"\S+", "F-PORT/": r"\w+",
     "SKIPLINES": r"\n(?:.*\n)*?",
 }
@@ -32,7 +33,8 @@ class Values:
     def read(self, path, seen=()):
         if path in seen or not os.path.exists(path):
             return
-        parser = configparser.RawConfigParser(strict=False, inline_comment_prefixes=";", default_section="\0", allow_no_value=True)
+        parser = configparser.RawConfigParser(strict=False, inline_comment_prefixes=";", default_section="\0",
+                                              allow_no_value=True)
         parser.read(path, encoding="latin-1")
         includes = dict(parser["INCLUDES"]) if parser.has_section("INCLUDES") else {}
         self.include(path, includes.get("before"), seen)

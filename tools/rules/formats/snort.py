@@ -1,4 +1,4 @@
-"""Snort and Suricata: each `content` and each `pcre` of a rule is an entry; what else the rule asks stands in the map."""
+"""Snort and Suricata: each `content` and each `pcre` of a rule is an entry; what else it asks stands in the map."""
 import re
 
 from ..found import Entry, LeftOut, joined_lines, literal
@@ -11,6 +11,7 @@ PCRE = re.compile(r'\s*(!?)\s*"\s*(?:/|m(.))(.*)"\s*(?:,.*)?$', re.S)
 PLACES = ("offset", "depth", "distance", "within", "startswith", "endswith", "bsize", "rawbytes", "isdataat")
 KEYS_OF_TEXT = ("content", "uricontent")
 STANDARD_FLAGS = "imsx"
+BUFFER = re.compile(r"(?:http|file|dns|tls|ssh|smb|pkt|raw|ja3|sip|krb5|mqtt|snmp|rfb|ftp|smtp|base64)[._]")
 DOLLAR = re.compile(r"\\.|\[\^?\]?(?:\\.|[^\]\\])*\]|\$", re.S)
 
 
@@ -89,7 +90,7 @@ def rule_entries(where, text):
         return
     rule, count, buffer = name_of(options), 0, ""
     for at, (key, value) in enumerate(options):
-        if not value and re.match(r"(?:http|file|dns|tls|ssh|smb|pkt|raw|ja3|sip|krb5|mqtt|snmp|rfb|ftp|smtp|base64)[._]", key):
+        if not value and BUFFER.match(key):
             buffer = key
         if key not in KEYS_OF_TEXT + ("pcre",):
             continue

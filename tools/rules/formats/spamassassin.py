@@ -1,4 +1,4 @@
-"""SpamAssassin: `body`, `rawbody`, `full`, `uri`, `header` and `mimeheader` rules, with the tags of `replace_tag` written out."""
+"""SpamAssassin: `body`, `rawbody`, `full`, `uri`, `header`, `mimeheader`; the tags of `replace_tag` are put in."""
 import re
 
 from ..found import Entry, LeftOut, numbered_lines
