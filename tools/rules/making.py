@@ -84,12 +84,15 @@ class List:
         self.lines = self.accepted(program, kept, rows)
 
     def accepted(self, program, lines, rows):
+        """The program tells the first entry that it refuses: those before it stand, those behind it are tried next."""
+        kept = []
         while True:
             refusal = refusal_of(program, lines)
             if refusal is None:
-                return lines
+                return kept + lines
             number, reason = refusal
-            lines = [line for line in lines if not line.startswith("%d:" % number)]
+            at = next(at for at, line in enumerate(lines) if line.startswith("%d:" % number))
+            kept, lines = kept + lines[:at], lines[at + 1:]
             _, where, rule, part, _ = self.map[rows[number]]
             reason = "refused by the program: " + reason
             self.left[reason] += 1
