@@ -7,3 +7,4 @@ pub mod LimexLemmas
 pub mod BodyLemmas
 pub mod SingleLemmas
 pub mod SmallLemmas
+pub mod RegionWordLemmas

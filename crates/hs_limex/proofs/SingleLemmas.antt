@@ -109,6 +109,15 @@ led-near f live far span led least most near = record {
       near.whole x k small set is (least x k is beside) (most x k is beside);
 }
 
+-- a bit that isn't the lowest one stays
+pub left-stays : (left place rest : ℕ) → IsLowestBit left place → AreBitsBehind left place rest → (x : ℕ) → x ≢ place → is_set left x ≡ true → is_set rest x ≡ true
+left-stays left place rest low behind x apart here =
+    let is : bit_at left x ≡ 1 = eqb-true (bit_at left x) 1 here in
+    elim (cases_lt place x) [
+      | inl above ↦ eq-eqb (bit_at rest x) 1 ((behind x).1 (above, is))
+      | inr under ↦ absurd (omega (arith, is, low.lowest x (omega arith)))
+    ]
+
 -- one position less is left
 pub led-more : (f : ℕ → ℕ → Bool) (live left place word rest led : ℕ) → IsLowestBit left place → AreBitsBehind left place rest → is_set live place ≡ true → ((k : ℕ) → is_set word k ≡ f place k) →
     IsLedBut f live left led → IsLedBut f live rest (bit_or led word)
@@ -124,19 +133,10 @@ led-more f live left place word rest led low behind set word_is old = record {
         | inl same ↦ right_of_either (is_set led k) (is_set word k) (word_is k ∙ (ap (λ p. f p k) (sym same) ∙ is))
         | inr apart ↦
             left_of_either (is_set led k) (is_set word k)
-            (old.whole x k small live_x is (not-true (is_set left x) (λ here. true-false (is_set rest x) (stays x apart here) gone)))
+            (old.whole x k small live_x is (not-true (is_set left x) (λ here. true-false (is_set rest x) (left-stays left place rest low behind x apart here) gone)))
       ];
 }
-  where
-    stays : (x : ℕ) → x ≢ place → is_set left x ≡ true → is_set rest x ≡ true
-    stays x apart here =
-        let is : bit_at left x ≡ 1 = eqb-true (bit_at left x) 1 here in
-        elim (cases_lt place x) [
-          | inl above ↦ eq-eqb (bit_at rest x) 1 ((behind x).1 (above, is))
-          | inr under ↦ absurd (omega (arith, is, low.lowest x (omega arith)))
-        ]
 
--- the bits that are left were left before
 pub left-before : (left place rest : ℕ) → AreBitsBehind left place rest → (x : ℕ) → is_set rest x ≡ true → is_set left x ≡ true
 left-before left place rest behind x is = eq-eqb (bit_at left x) 1 ((behind x).0 (eqb-true (bit_at rest x) 1 is)).1
 

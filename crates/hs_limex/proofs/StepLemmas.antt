@@ -32,7 +32,7 @@ true-or-false true = inl refl
 true-or-false false = inr refl
 
 -- one of the numbers below passes the test
-any-some_below : (n : ℕ) (test : ℕ → Bool) → any_below n test ≡ true → (x : ℕ) × (x < n) × (test x ≡ true)
+pub any-some_below : (n : ℕ) (test : ℕ → Bool) → any_below n test ≡ true → (x : ℕ) × (x < n) × (test x ≡ true)
 any-some_below zero test any = absurd (let e : false ≡ true = any in cc)
 any-some_below (suc n) test any =
     elim (of_either (test n) (any_below n test) any) [

@@ -8,9 +8,10 @@ ghost use Rattle.hs_limex.specs.WordTables.{in_table};
 ghost use Rattle.hs_limex.specs.Leading.{far_leads, near_leads};
 
 use crate::far_filling::DISTANCE_COUNT;
+use crate::region_words::unite_region;
 use crate::word_rows::WordRows;
 use hs_base::{Next, Prev};
-use hs_bits::{WORD_BITS, are_apart, contains_word_bit, shift_in, unite_bytes};
+use hs_bits::{WORD_BITS, are_apart, lowest_bit, shift_in, without_lowest_bit};
 use hs_engine::FollowRows;
 
 /// How many rows there are of what follows near by.
@@ -105,36 +106,10 @@ fn lead_word(
         (far_leads follows.now live.now far.now (between prev next) k)
         || first) }
 {
-    if live[place] & far[place] == 0 {
-        return;
-    }
-    for position in WORD_BITS * place..WORD_BITS * place + WORD_BITS {
-        lead_one(follows, live, far, position, prev, next, led);
-    }
-}
-
-/// Sets the bits of the positions that follow that one, if it is live and in the row.
-fn lead_one(
-    follows: &FollowRows,
-    live: &[u64],
-    far: &[u64],
-    position: usize,
-    prev: Prev,
-    next: Next,
-    led: &mut [u64],
-)
-    requires few { (x : ℕ) → has_word_bit far.now x ≡ true → x < follows.now.size }
-    requires live { length live.now ≡ 8 }
-    requires position { position < 64 * length far.now }
-    requires far { length far.now ≤ 8 }
-    requires led { length led.old ≡ 8 }
-    ensures len { length led.new ≡ length led.old }
-    ensures bits { (k : ℕ) →
-        has_word_bit led.new k ≡
-        (far_leads follows.now live.now far.now (between prev next) k position
-        || has_word_bit led.old k) }
-{
-    if contains_word_bit(live, position) && contains_word_bit(far, position) {
-        unite_bytes(led, follows.row(prev, next, position));
+    let mut left = live[place] & far[place];
+    while left != 0 {
+        let position = WORD_BITS * place + lowest_bit(left);
+        unite_region(led, follows.row(prev, next, position));
+        left = without_lowest_bit(left);
     }
 }

@@ -10,6 +10,7 @@ mod first_bytes;
 mod leading;
 mod limex;
 mod plain;
+mod region_words;
 mod single;
 mod small;
 mod small_filling;

@@ -13,11 +13,10 @@ use crate::far_filling::{far_of, near_of};
 use crate::filling::{any_of, masks_of, reach_of};
 use crate::first_bytes::first_bytes;
 use crate::leading::{lead_far, lead_near, span_of};
+use crate::region_words::{is_apart_from, store_region, unite_region};
 use crate::word_rows::WordRows;
 use hs_base::{ByteSet, MAX_POSITIONS, Next, NextSet, Prev};
-use hs_bits::{
-    WORD_BITS, are_apart, is_zero, keep_words, store, unite_bytes, unite_words, word_count_for,
-};
+use hs_bits::{WORD_BITS, are_apart, is_zero, keep_words, unite_words, word_count_for};
 use hs_engine::{Automaton, FollowRows};
 use std::alloc::{AllocError, Global};
 
@@ -149,11 +148,11 @@ impl Tables {
             has_bit region.new k ≡ true }
     {
         let mut live = [0u64; MAX_WIDTH];
-        unite_bytes(&mut live, region);
+        unite_region(&mut live, region);
         let mut led = [0u64; MAX_WIDTH];
         self.lead(&live, prev, next, entering, &mut led);
         keep_words(&mut led, self.reach.row(byte as usize));
-        store(&led, region);
+        store_region(&led, region);
     }
 
     /// Sets the bits of the positions that may follow those that are live, and of those that are entered.
@@ -200,11 +199,11 @@ impl Tables {
             AcceptsIn (moves_of_tables self.now) (has_bit region.now) (between prev next) →
             has_next result next ≡ true }
     {
-        let mut live = [0u64; MAX_WIDTH];
-        unite_bytes(&mut live, region);
-        if are_apart(&live, self.accepting.row(0)) {
+        if is_apart_from(region, self.accepting.row(0)) {
             return NextSet::empty();
         }
+        let mut live = [0u64; MAX_WIDTH];
+        unite_region(&mut live, region);
         self.accepted_among(&live, prev)
     }
 

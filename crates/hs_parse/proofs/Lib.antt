@@ -1,6 +1,7 @@
 pub mod ItemLemmas
 pub mod ClassLemmas
 pub mod SetLemmas
+pub mod InsertLemmas
 pub mod TokenLemmas
 pub mod RangeLemmas
 pub mod PointLemmas

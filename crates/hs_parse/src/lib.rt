@@ -6,6 +6,7 @@ mod class;
 mod fault;
 mod item;
 pub mod laws;
+mod named_set;
 mod parser;
 mod point_set;
 mod points;

@@ -1,9 +1,10 @@
 //! Tests of a character, and sets of the bytes that pass one.
-ghost use Rattle.std.specs.Prelude.{◌≡◌, ℕ, ◌<◌, ◌||◌};
+ghost use Rattle.std.specs.Prelude.{◌≡◌, ℕ, ◌+◌, ◌<◌, ◌==◌, ◌&&◌, ◌||◌, nat_lt, if◌then◌else◌};
 ghost use Rattle.hs_base.specs.ByteSets.{has, members};
-ghost use Rattle.hs_parse.specs.Classes.{other_case, is_between, passes, bytes_of};
+ghost use Rattle.hs_parse.specs.Classes.{other_case, is_within, is_of_class, passes, bytes_of};
 ghost use Rattle.hs_parse.specs.Tokens.{any_byte};
 
+use crate::named_set::named_set;
 use hs_base::ByteSet;
 use hs_syntax::Named;
 
@@ -18,29 +19,6 @@ pub(crate) enum Test {
     Class(Named, bool),
 }
 
-impl Test {
-    /// Whether a byte is one of them.
-    fn passes(self, byte: u8) -> bool
-        ensures { result ≡ passes self byte }
-    {
-        match self {
-            Test::Any(dotall) => dotall || byte != b'\n',
-            Test::Range(caseless, first, last) => {
-                is_between(first, last, byte as u32)
-                    || caseless && is_between(first, last, other_case(byte) as u32)
-            }
-            Test::Class(class, negated) => class.contains(byte) != negated,
-        }
-    }
-}
-
-/// Whether the code is within a range, both ends included.
-fn is_between(first: u32, last: u32, code: u32) -> bool
-    ensures { result ≡ is_between first last code }
-{
-    first <= code && code <= last
-}
-
 /// The same letter in the other case; another byte is itself.
 #[tactic(auto, unfolding(crate::specs::Classes::other_case))]
 fn other_case(byte: u8) -> u8
@@ -53,14 +31,53 @@ fn other_case(byte: u8) -> u8
     }
 }
 
-/// Adds the bytes that pass the test.
+/// Adds the bytes that pass the test. No byte is asked whether it passes: most ranges are short, and named classes are
+/// constants or a few ranges.
 pub(crate) fn insert_where(set: &mut ByteSet, test: Test)
     ensures { (b : ℕ) → b < 256 → has set.new b ≡ (passes test b || has set.old b) }
 {
-    for byte in 0..256usize {
-        if test.passes(byte as u8) {
-            set.insert(byte as u8);
-        }
+    match test {
+        Test::Any(dotall) => *set = any_byte(dotall).union(set),
+        Test::Range(caseless, first, last) => insert_range(set, caseless, first, last),
+        Test::Class(class, negated) => *set = class_set(class, negated).union(set),
+    }
+}
+
+/// Adds the bytes of a range, where the truth value says so in both cases.
+pub(crate) fn insert_range(set: &mut ByteSet, caseless: bool, first: u32, last: u32)
+    ensures { (b : ℕ) → b < 256 → has set.new b ≡ (is_within caseless first last b || has set.old b) }
+{
+    for code in first..behind(last) {
+        insert_letter(set, caseless, code as u8);
+    }
+}
+
+/// Where the bytes of a range end that has this last code.
+fn behind(last: u32) -> u32
+    ensures { result ≡ (if nat_lt last 256 then last + 1 else 256) }
+{
+    if last < 256 { last + 1 } else { 256 }
+}
+
+/// Adds a byte, where the truth value says so in both cases.
+fn insert_letter(set: &mut ByteSet, caseless: bool, byte: u8)
+    ensures { (b : ℕ) → b < 256 →
+        has set.new b ≡ (((b == byte) || (caseless && (other_case b == byte))) || has set.old b) }
+{
+    set.insert(byte);
+    if caseless {
+        set.insert(other_case(byte));
+    }
+}
+
+/// The bytes of the class, or those that it hasn't.
+fn class_set(class: Named, negated: bool) -> ByteSet
+    ensures { (b : ℕ) → b < 256 → has result b ≡ is_of_class class negated b }
+{
+    if negated {
+        named_set(class).complement()
+    } else {
+        named_set(class)
     }
 }
 

@@ -17,14 +17,16 @@ use Rattle.hs_rose.specs.declared.builder.Named.{Named}
 use Rattle.hs_rose.specs.declared.builder.Owner.{Owner}
 use Rattle.hs_rose.specs.declared.info.ChainInfo.{ChainInfo}
 use Rattle.hs_rose.specs.declared.info.EntryInfo.{EntryInfo}
+use Rattle.hs_rose.specs.declared.literal_index.LiteralIndex.{LiteralIndex}
 use Rattle.hs_rose.specs.declared.role.Role.{Role}
 use Rattle.hs_rose.specs.declared.shape.Shape.{Shape}
 use Rattle.hs_rose.specs.Building.{AreKept, IsBuilt, IsNamed, IsNext, IsOwner, as_many, one_more, IsPlaceOf, IsRoleFor, IsSound, literals_of, models_of}
 use Rattle.hs_rose.specs.Kinds.{IsShape}
 use Rattle.hs_rose.specs.Shapes.{shape_for}
 use Rattle.hs_rose.proofs.ShapeLemmas.{shaped}
+use Rattle.hs_rose.specs.Indexing.{IsIndexed}
 use Rattle.hs_rose.specs.Listing.{Asked, ListedChain, ListedPiece, asked_of, chains_from, listed_from, listed_piece, listed_pieces, pieces_of}
-use Rattle.hs_rose.specs.Made.{IsMade, model_of}
+use Rattle.hs_rose.specs.Made.{IsMade, IsMarked, model_of}
 use Rattle.hs_rose.specs.Numbering.{AreApart}
 use Rattle.hs_rose.specs.Programs.{AreChainsOf, IsChainOf, IsInfoOf, IsRoleOf, Names}
 use Rattle.hs_rose.specs.Ordering.{AreInOrder}
@@ -91,13 +93,13 @@ order-more old mid piece named r x place (one_more xs is_literal numbered count)
 -- one more piece
 pub piece-built : (old mid new : Builder) (owner : Owner) (before : ℕ) (piece : Piece) (shape : Shape) (named : Named) (r : Role) →
     (IsSound old → IsNamed old mid piece named) → shape ≡ shape_for owner.looks_back before piece → IsRoleFor owner before shape named r →
-    new.roles.items ≡ mid.roles.items ++ r ∷ [] → new.chains.items ≡ mid.chains.items → new.literals.items ≡ mid.literals.items → new.made.items ≡ mid.made.items →
+    new.roles.items ≡ mid.roles.items ++ r ∷ [] → new.chains.items ≡ mid.chains.items → new.literals ≡ mid.literals → new.made.items ≡ mid.made.items →
     (chains : List ListedChain) (pieces : List ListedPiece) (x : ListedChain) (place : Place) → IsOwner owner x → IsPlaceOf owner before piece place → IsBuilt old chains pieces → IsBuilt new chains (pieces ++ listed_piece x place ∷ [])
 piece-built old mid new owner before piece shape named r naming made_as made roles chain_list literal_list made_list chains pieces x place own at built =
     let is = naming built.sound in
     let ls = literals_of mid in
     let ms = models_of mid in
-    let same_ls : literals_of new ≡ ls = ap (λ zs. map literal_bytes zs) literal_list in
+    let same_ls : literals_of new ≡ ls = ap (λ (index : LiteralIndex). map literal_bytes index.list.items) literal_list in
     let same_ms : models_of new ≡ ms = ap (λ zs. map model_of zs) made_list in
     let made_role : IsRoleOf ls ms r (listed_piece x place) = role-made ls ms owner before piece shape named r x place own at made_as is.names made in
     let before_zip : AllZip (IsRoleOf ls ms) old.roles.items (listed_pieces chains ++ pieces) =
@@ -111,9 +113,11 @@ piece-built old mid new owner before piece shape named r naming made_as made rol
     subst (λ rs. AllZip (IsRoleOf ls ms) rs (listed_pieces chains ++ (pieces ++ listed_piece x place ∷ []))) (sym roles)
     (subst (λ ps. AllZip (IsRoleOf ls ms) (mid.roles.items ++ r ∷ []) ps) (append_assoc (listed_pieces chains) pieces (listed_piece x place ∷ [])) more) in record {
       sound = record {
+        indexed = subst (λ index. IsIndexed index) (sym literal_list) is.sound.indexed;
         literals = subst (λ zs. AreApart zs) (sym same_ls) is.sound.literals;
         models = subst (λ zs. AreApart zs) (sym same_ms) is.sound.models;
         made = subst (λ zs. Each IsMade zs) (sym made_list) is.sound.made;
+        marked = subst (λ zs. Each IsMarked zs) (sym made_list) is.sound.marked;
       };
       roles = subst (λ zs. AllZip (IsRoleOf zs (models_of new)) new.roles.items (listed_pieces chains ++ (pieces ++ listed_piece x place ∷ []))) (sym same_ls)
           (subst (λ zs. AllZip (IsRoleOf ls zs) new.roles.items (listed_pieces chains ++ (pieces ++ listed_piece x place ∷ []))) (sym same_ms) flat);
@@ -175,11 +179,11 @@ pieces-push chains x =
 
 pub chain-built : (old mid new : Builder) (chains : List ListedChain) (x : ListedChain) (info : ChainInfo) → IsBuilt old chains [] → IsBuilt mid chains (map (listed_piece x) (take (length x.pieces) (places_of_chain x))) →
     info.entry ≡ x.entry → info.first ≡ length old.roles.items → info.end ≡ length mid.roles.items →
-    new.chains.items ≡ mid.chains.items ++ info ∷ [] → new.roles.items ≡ mid.roles.items → new.literals.items ≡ mid.literals.items → new.made.items ≡ mid.made.items → IsBuilt new (chains ++ x ∷ []) []
+    new.chains.items ≡ mid.chains.items ++ info ∷ [] → new.roles.items ≡ mid.roles.items → new.literals ≡ mid.literals → new.made.items ≡ mid.made.items → IsBuilt new (chains ++ x ∷ []) []
 chain-built old mid new chains x info begun almost entry first end chain_list role_list literal_list made_list =
     let ls = literals_of mid in
     let ms = models_of mid in
-    let same_ls : literals_of new ≡ ls = ap (λ zs. map literal_bytes zs) literal_list in
+    let same_ls : literals_of new ≡ ls = ap (λ (index : LiteralIndex). map literal_bytes index.list.items) literal_list in
     let same_ms : models_of new ≡ ms = ap (λ zs. map model_of zs) made_list in
     let all : take (length x.pieces) (places_of_chain x) ≡ places_of_chain x = take_all (length x.pieces) (places_of_chain x) (omega (arith, places-length (begins_with_look_back x.pieces) [] x.pieces)) in
     let whole : IsBuilt mid chains (pieces_of x) = subst (λ ps. IsBuilt mid chains (map (listed_piece x) ps)) all almost in
@@ -190,9 +194,11 @@ chain-built old mid new chains x info begun almost entry first end chain_list ro
     let at_end : info.end ≡ 0 + length (listed_pieces chains) + length x.pieces = omega (arith, end, length_now, length-append (listed_pieces chains) (pieces_of x), pieces-length x) in
     record {
       sound = record {
+        indexed = subst (λ index. IsIndexed index) (sym literal_list) whole.sound.indexed;
         literals = subst (λ zs. AreApart zs) (sym same_ls) whole.sound.literals;
         models = subst (λ zs. AreApart zs) (sym same_ms) whole.sound.models;
         made = subst (λ zs. Each IsMade zs) (sym made_list) whole.sound.made;
+        marked = subst (λ zs. Each IsMarked zs) (sym made_list) whole.sound.marked;
       };
       roles = subst (λ zs. AllZip (IsRoleOf zs (models_of new)) new.roles.items (listed_pieces (chains ++ x ∷ []) ++ [])) (sym same_ls)
           (subst (λ zs. AllZip (IsRoleOf ls zs) new.roles.items (listed_pieces (chains ++ x ∷ []) ++ [])) (sym same_ms)

@@ -131,7 +131,7 @@ built-numbered b chains built = record {
   literals = λ j k r at named.
       let own = zip-left (IsRoleOf (literals_of b) (models_of b)) b.roles.items (listed_pieces chains ++ []) built.roles j r at in
       let below = literal-there (literals_of b) (models_of b) r own.0 own.0.place.looks_back own.0.place.pieces own.0.place.piece refl own.2 k named in
-      omega (arith, below, length-map b.literals.items literal_bytes, b.literals.ok.0);
+      omega (arith, below, length-map b.literals.list.items literal_bytes, b.literals.list.ok.0);
   engines = λ j k r at named.
       let own = zip-left (IsRoleOf (literals_of b) (models_of b)) b.roles.items (listed_pieces chains ++ []) built.roles j r at in
       let there = engine-there (literals_of b) (models_of b) r own.0 own.0.place.looks_back own.0.place.pieces own.0.place.piece refl own.2 k named in

@@ -9,9 +9,11 @@ use Rattle.hs_base.specs.LiteralView.{literal_bytes}
 use Rattle.hs_base.specs.Literals.{LiteralByte}
 use Rattle.hs_rose.specs.declared.builder.Builder.{Builder}
 use Rattle.hs_rose.specs.declared.builder.Named.{Named}
+use Rattle.hs_rose.specs.declared.literal_index.LiteralIndex.{LiteralIndex}
 use Rattle.hs_rose.specs.declared.making.Made.{Made}
 use Rattle.hs_rose.specs.Building.{AreKept, IsNamed, IsNext, IsSound, as_many, one_more, literals_of, models_of}
-use Rattle.hs_rose.specs.Made.{IsMade, IsNullMask, model_of}
+use Rattle.hs_rose.specs.Indexing.{IsIndexed}
+use Rattle.hs_rose.specs.Made.{IsMade, IsMarked, IsNullMask, model_of}
 use Rattle.hs_rose.specs.Numbering.{AreApart, IsNew, IsNumbered, found, added}
 use Rattle.hs_rose.specs.Programs.{IsEmptyMask, Names, NamesPiece}
 use Rattle.hs_rose.specs.Runnable.{IsRun}
@@ -51,12 +53,14 @@ numbered-next before now xs n (added new is end) =
 
 -- a literal
 pub literal-named : (before now : Builder) (xs : List LiteralByte) (named : Named) → now.roles.items ≡ before.roles.items → now.chains.items ≡ before.chains.items → now.made.items ≡ before.made.items →
-    IsNumbered (literals_of before) xs (literals_of now) named.number → IsEmptyMask named.null → IsSound before → IsNamed before now (lit xs) named
-literal-named before now xs named roles chains made numbered null sound = record {
+    IsNumbered (literals_of before) xs (literals_of now) named.number → IsIndexed now.literals → IsEmptyMask named.null → IsSound before → IsNamed before now (lit xs) named
+literal-named before now xs named roles chains made numbered indexed null sound = record {
   sound = record {
+    indexed = indexed;
     literals = numbered-apart (literals_of before) xs (literals_of now) named.number sound.literals numbered;
     models = subst (λ zs. AreApart (map model_of zs)) (sym made) sound.models;
     made = subst (λ zs. Each IsMade zs) (sym made) sound.made;
+    marked = subst (λ zs. Each IsMarked zs) (sym made) sound.marked;
   };
   grown = record {
     roles = roles;
@@ -82,25 +86,27 @@ null-of made n piece m each named at =
     subst (λ p. IsNullMask m.null (piece_tree p)) is (each-get IsMade made each n m at).null_is
 
 -- a piece that isn't a literal
-pub run-named : (before now : Builder) (piece : Piece) (named : Named) (m : Made) → IsRun piece → now.roles.items ≡ before.roles.items → now.chains.items ≡ before.chains.items → now.literals.items ≡ before.literals.items →
-    IsNumbered (models_of before) piece (models_of now) named.number → (Each IsMade before.made.items → Each IsMade now.made.items) →
+pub run-named : (before now : Builder) (piece : Piece) (named : Named) (m : Made) → IsRun piece → now.roles.items ≡ before.roles.items → now.chains.items ≡ before.chains.items → now.literals ≡ before.literals →
+    IsNumbered (models_of before) piece (models_of now) named.number → (Each IsMade before.made.items → Each IsMade now.made.items) → (Each IsMarked before.made.items → Each IsMarked now.made.items) →
     slice_get now.made.items named.number ≡ Some m → named.null ≡ m.null → IsSound before → IsNamed before now piece named
-run-named before now piece named m run roles chains literals numbered made at null sound =
+run-named before now piece named m run roles chains literals numbered made marked at null sound =
     let at_number = numbered-named (models_of before) piece (models_of now) named.number numbered in record {
       sound = record {
-        literals = subst (λ zs. AreApart zs) (sym (ap (λ zs. map literal_bytes zs) literals)) sound.literals;
+        indexed = subst (λ index. IsIndexed index) (sym literals) sound.indexed;
+        literals = subst (λ zs. AreApart zs) (sym (ap (λ (index : LiteralIndex). map literal_bytes index.list.items) literals)) sound.literals;
         models = numbered-apart (models_of before) piece (models_of now) named.number sound.models numbered;
         made = made sound.made;
+        marked = marked sound.marked;
       };
       grown = record {
         roles = roles;
         chains = chains;
-        literals = kept-same (literals_of before) (literals_of now) (ap (λ zs. map literal_bytes zs) literals);
+        literals = kept-same (literals_of before) (literals_of now) (ap (λ (index : LiteralIndex). map literal_bytes index.list.items) literals);
         models = numbered-kept (models_of before) piece (models_of now) named.number numbered;
       };
       names = piece-names (literals_of now) (models_of now) named.number named.null piece run (record {
         named = at_number;
         null_is = subst (λ (mask : Mask). IsNullMask mask (piece_tree piece)) (sym null) (null-of now.made.items named.number piece m (made sound.made) at_number at);
       });
-      next = as_many (ap (λ zs. length (map literal_bytes zs)) literals);
+      next = as_many (ap (λ (index : LiteralIndex). length (map literal_bytes index.list.items)) literals);
     }

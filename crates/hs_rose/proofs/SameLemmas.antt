@@ -1,7 +1,11 @@
 -- Lists and trees that are equal.
-use Rattle.std.proofs.Common.{◌≡◌, ◌↔◌, ℕ, suc, ◌+◌, ◌<◌, ◌≤◌, Bool, IsTrue, List, [], ◌∷◌, ◌++◌, length, map, take, slice_get, Some, refl, sym, ap, subst, ◌∙◌, arith}
+use Rattle.std.proofs.Common.{◌≡◌, ◌↔◌, ℕ, zero, suc, ◌+◌, ◌-◌, ◌*◌, ◌/◌, ◌%◌, ◌^◌, ◌<◌, ◌≤◌, Bool, IsTrue, List, [], ◌∷◌, ◌++◌, length, map, take, slice_get, get_or, eqb, Some, refl, sym, ap, subst, ◌∙◌, inl, inr, arith}
+use Rattle.std.specs.Int.{bit_at}
+use Rattle.std.proofs.lemmas.Bool.{cases_lt, false≢true}
+use Rattle.std.proofs.lemmas.Nat.Bits.{bit_at-lt, same_from_bits_below}
 use Rattle.std.proofs.lemmas.List.{take_all, length-map}
 use Rattle.hs_base.specs.declared.byte_set.ByteSet.{ByteSet}
+use Rattle.hs_base.specs.Bits.{has_word_bit}
 use Rattle.hs_base.specs.ByteSets.{has, members}
 use Rattle.hs_base.specs.Trees.{Tree, cat, alt, trees_of}
 use Rattle.hs_base.proofs.ByteSetLemmas.{members-at}
@@ -60,6 +64,43 @@ pub member-same : (s t : ByteSet) (b : ℕ) → b < 256 → members s ≡ member
 member-same s t b below same =
     let e : Some (has s b) ≡ Some (has t b) = sym (members-at s b below) ∙ ap (λ ms. slice_get ms b) same ∙ members-at t b below in
     cc
+
+-- the bits of a word of a set tell of its members
+bit-member : (s : ByteSet) (words : List ℕ) (k i : ℕ) → ((b : ℕ) → has_word_bit words b ≡ has s b) → i < 64 → eqb (bit_at (get_or words k 0) i) 1 ≡ has s (64 * k + i)
+unfolding has_word_bit
+bit-member s words k i is below =
+    let own : (64 * k + i) / 64 ≡ k = omega arith in
+    let at : (64 * k + i) % 64 ≡ i = omega arith in
+    subst (λ n. eqb (bit_at (get_or words n 0) i) 1 ≡ has s (64 * k + i)) own (subst (λ n. eqb (bit_at (get_or words ((64 * k + i) / 64) 0) n) 1 ≡ has s (64 * k + i)) at (is (64 * k + i)))
+
+-- sets with the same members have the same words, bit by bit
+pub word-same : (s t : ByteSet) (xs ys : List ℕ) (k : ℕ) → ((b : ℕ) → has_word_bit xs b ≡ has s b) → ((b : ℕ) → has_word_bit ys b ≡ has t b) → k < 4 → members s ≡ members t →
+    (i : ℕ) → i < 64 → eqb (bit_at (get_or xs k 0) i) 1 ≡ eqb (bit_at (get_or ys k 0) i) 1
+word-same s t xs ys k is is' within same i below = bit-member s xs k i is below ∙ member-same s t (64 * k + i) (omega arith) same ∙ sym (bit-member t ys k i is' below)
+
+-- sets agree on the members of one word more
+pub words-more : (s t : ByteSet) (xs ys : List ℕ) (k : ℕ) → ((b : ℕ) → has_word_bit xs b ≡ has s b) → ((b : ℕ) → has_word_bit ys b ≡ has t b) → ((b : ℕ) → b < 64 * k → has s b ≡ has t b) →
+    ((i : ℕ) → i < 64 → eqb (bit_at (get_or xs k 0) i) 1 ≡ eqb (bit_at (get_or ys k 0) i) 1) → (b : ℕ) → b < 64 * (k + 1) → has s b ≡ has t b
+words-more s t xs ys k is is' before word b below =
+    elim (cases_lt b (64 * k)) [
+      | inl lower ↦ before b lower
+      | inr higher ↦
+          let i : b - 64 * k < 64 = omega arith in
+          let whole : 64 * k + (b - 64 * k) ≡ b = omega arith in
+          subst (λ n. has s n ≡ has t n) whole (sym (bit-member s xs k (b - 64 * k) is i) ∙ word (b - 64 * k) i ∙ bit-member t ys k (b - 64 * k) is' i)
+    ]
+
+digit-same : (m n : ℕ) → m < 2 → n < 2 → eqb m 1 ≡ eqb n 1 → m ≡ n
+digit-same zero zero below below' e = refl
+digit-same zero (suc zero) below below' e = absurd (false≢true e)
+digit-same (suc zero) zero below below' e = absurd (false≢true (sym e))
+digit-same (suc zero) (suc zero) below below' e = refl
+digit-same (suc (suc m)) n below below' e = absurd (omega arith)
+digit-same m (suc (suc n)) below below' e = absurd (omega arith)
+
+-- words with the same bits
+pub bits-same : (x y : ℕ) → x < 2 ^ 64 → y < 2 ^ 64 → ((i : ℕ) → i < 64 → eqb (bit_at x i) 1 ≡ eqb (bit_at y i) 1) → x ≡ y
+bits-same x y below below' same = same_from_bits_below 64 x y below below' (λ i within. digit-same (bit_at x i) (bit_at y i) (bit_at-lt x i) (bit_at-lt y i) (same i within))
 
 -- lists of trees as one tree
 pub cat-agree : (r : Bool) (xs ys : List Tree) → (IsTrue r ↔ (xs ≡ ys)) → IsTrue r ↔ (cat (trees_of xs) ≡ cat (trees_of ys))

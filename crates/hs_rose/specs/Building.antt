@@ -12,25 +12,28 @@ use Rattle.hs_rose.specs.declared.builder.Named.{Named}
 use Rattle.hs_rose.specs.declared.builder.Owner.{Owner}
 use Rattle.hs_rose.specs.declared.role.Role.{Role}
 use Rattle.hs_rose.specs.declared.shape.Shape.{Shape}
+use Rattle.hs_rose.specs.Indexing.{IsIndexed}
 use Rattle.hs_rose.specs.Listing.{ListedChain, ListedPiece, listed_pieces}
-use Rattle.hs_rose.specs.Made.{IsMade, model_of}
+use Rattle.hs_rose.specs.Made.{IsMade, IsMarked, model_of}
 use Rattle.hs_rose.specs.Numbering.{AreApart}
 use Rattle.hs_rose.specs.Ordering.{AreInOrder}
 use Rattle.hs_rose.specs.Programs.{AreChainsOf, IsRoleOf, Names}
 
 -- the literals so far
 abbrev pub literals_of : Builder → List (List LiteralByte)
-literals_of b = map literal_bytes b.literals.items
+literals_of b = map literal_bytes b.literals.list.items
 
 -- the pieces so far that have engines
 abbrev pub models_of : Builder → List Piece
 models_of b = map model_of b.made.items
 
--- Each literal, and each piece that has an engine, is there once, with what is made of it.
+-- Each literal, and each piece that has an engine, is there once, with what is made of it, and all are found.
 pub record IsSound (b : Builder) : Type 0 where
+  pub indexed : IsIndexed b.literals
   pub literals : AreApart (literals_of b)
   pub models : AreApart (models_of b)
   pub made : Each IsMade b.made.items
+  pub marked : Each IsMarked b.made.items
 
 -- the members of the one list have the same numbers in the other
 abbrev pub AreKept : {A : Type 0} → List A → List A → Type 0

@@ -17,7 +17,7 @@ engine_made made = made.engine
 -- each role names a literal or an engine that is there
 pub record AreNumbered (b : Builder) : Type 0 where
   pub literals : (j k : ℕ) (r : Role) → slice_get b.roles.items j ≡ Some r → literal_of r ≡ Some k →
-      k < vec_len b.literals
+      k < vec_len b.literals.list
   pub engines : (j k : ℕ) (r : Role) → slice_get b.roles.items j ≡ Some r → engine_of r ≡ Some k → k < vec_len b.made
 
 -- The program has what is built.

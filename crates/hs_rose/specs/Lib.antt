@@ -6,6 +6,9 @@ pub mod Identifiers
 pub mod Runnable
 pub mod Made
 pub mod Numbering
+pub mod Keys
+pub mod Indexing
+pub mod Marks
 pub mod Naming
 pub mod Ordering
 pub mod Programs

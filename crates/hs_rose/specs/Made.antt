@@ -10,6 +10,7 @@ use Rattle.hs_base.specs.Trees.{Tree}
 use Rattle.hs_pieces.specs.Meaning.{plain_piece}
 use Rattle.hs_rose.specs.declared.engine.PieceEngine.{PieceEngine}
 use Rattle.hs_rose.specs.declared.making.Made.{Made}
+use Rattle.hs_rose.specs.Marks.{mark_of}
 use Rattle.hs_rose.specs.PieceEngines.{IsEngineOf}
 
 -- the mask has the contexts in which the expression has the empty span, in every stream
@@ -25,6 +26,10 @@ pub record IsMadeOf (engine : PieceEngine) (null : Mask) (piece : Piece) : Type 
 -- the piece that it was made of
 abbrev pub model_of : Made → Piece
 model_of made = plain_piece made.model
+
+-- its mark is that of its piece
+abbrev pub IsMarked : Made → Type 0
+IsMarked made = made.mark ≡ mark_of (model_of made)
 
 -- it is made of its piece
 abbrev pub IsMade : Made → Type 0

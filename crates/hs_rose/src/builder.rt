@@ -10,7 +10,7 @@ ghost use Rattle.hs_rose.specs.Listing.{ListedChain, ListedPiece, asked_of, chai
 ghost use Rattle.hs_rose.specs.Runnable.{AreRunnable, IsRun, IsRunnable, IsRunnableChain};
 
 use crate::info::ChainInfo;
-use crate::literals::number_of_literal;
+use crate::literal_index::LiteralIndex;
 use crate::making::{Made, number_of};
 use crate::role::Role;
 use crate::shape::Shape;
@@ -19,12 +19,12 @@ use hs_pieces::{Chain, Piece};
 use std::alloc::{AllocError, Global};
 
 /// What is built of a program so far.
-#[derive(Debug, Drop)]
+#[derive(Drop)]
 pub(crate) struct Builder {
     pub chains: Vec<ChainInfo>,
     pub roles: Vec<Role>,
     /// The literals, each once.
-    pub literals: Vec<Vec<LitByte>>,
+    pub literals: LiteralIndex,
     /// What is made of the other pieces, each once.
     pub made: Vec<Made>,
 }
@@ -58,7 +58,7 @@ impl Builder {
         Builder {
             chains: Vec::new(alloc),
             roles: Vec::new(alloc),
-            literals: Vec::new(alloc),
+            literals: LiteralIndex::new(alloc),
             made: Vec::new(alloc),
         }
     }
@@ -146,7 +146,7 @@ impl Builder {
         ensures { IfOk result (λ named. IsSound self.old →
             IsNamed self.old self.new (lit (map literal_byte bytes.now)) named) }
     {
-        let number = number_of_literal(alloc, &mut self.literals, bytes)?;
+        let number = self.literals.number_of(alloc, bytes)?;
         Ok(Named {
             number,
             null: Mask::empty(),

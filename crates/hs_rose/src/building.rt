@@ -57,15 +57,15 @@ fn finish(
     requires { AreNumbered builder }
     ensures { IfOk result (λ program. IsFinished infos.items identifiers.items builder program) }
 {
-    let count = builder.literals.len();
-    let literal_roles = roles_of_literals(alloc, &builder.roles, count)?;
+    let literals = builder.literals.into_list();
+    let literal_roles = roles_of_literals(alloc, &builder.roles, literals.len())?;
     let engines = engines_of(alloc, builder.made)?;
     Ok(Program::new(
         infos,
         identifiers,
         builder.chains,
         builder.roles,
-        builder.literals,
+        literals,
         literal_roles,
         engines,
     ))

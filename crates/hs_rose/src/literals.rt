@@ -1,8 +1,6 @@
-//! The literals of a program, and the roles that each stands for.
+//! The roles that each literal of a program stands for.
 
-ghost use Rattle.std.specs.Prelude.{◌≡◌, ℕ, ◌<◌, Some, IfOk, IfSome, MatchOption, List, [], map, slice_get, vec_len};
-ghost use Rattle.hs_base.specs.LiteralView.{literal_byte, literal_bytes};
-ghost use Rattle.hs_rose.specs.Numbering.{IsNew, IsNumbered};
+ghost use Rattle.std.specs.Prelude.{◌≡◌, ℕ, ◌<◌, Some, IfOk, IfSome, List, [], map, slice_get, vec_len};
 ghost use Rattle.hs_rose.specs.Finishing.{IsRoleAdded};
 ghost use Rattle.hs_rose.specs.Naming.{literal_of};
 ghost use Rattle.hs_rose.specs.Programs.{AreRolesOfLiterals};
@@ -10,40 +8,7 @@ ghost use Rattle.hs_rose.specs.Views.{role_numbers};
 ghost use Rattle.hs_rose.specs.declared.role.Role.{Role};
 
 use crate::role::Role;
-use crate::same::same_literal;
-use hs_base::LitByte;
 use std::alloc::{AllocError, Global};
-
-/// The number of the literal: it is put behind these where none of them is equal.
-pub(crate) fn number_of_literal(
-    alloc: Global,
-    literals: &mut Vec<Vec<LitByte>>,
-    bytes: &[LitByte],
-) -> Result<usize, AllocError>
-    ensures { IfOk result (λ number. IsNumbered (map literal_bytes literals.old.items) (map literal_byte bytes.now)
-        (map literal_bytes literals.new.items) number) }
-{
-    if let Some(number) = find_literal(literals, bytes) {
-        return Ok(number);
-    }
-    let number = literals.len();
-    literals.push(Vec::from_slice(alloc, bytes)?)?;
-    Ok(number)
-}
-
-/// The number of an equal literal.
-fn find_literal(literals: &[Vec<LitByte>], bytes: &[LitByte]) -> Option<usize>
-    ensures { MatchOption result
-        (IsNew (map literal_bytes literals.now) (map literal_byte bytes.now))
-        (λ number. slice_get (map literal_bytes literals.now) number ≡ Some (map literal_byte bytes.now)) }
-{
-    for (number, other) in literals.iter().enumerate() {
-        if same_literal(other, bytes) {
-            return Some(number);
-        }
-    }
-    None
-}
 
 /// For each of so many literals the numbers of its roles.
 pub(crate) fn roles_of_literals(

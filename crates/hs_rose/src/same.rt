@@ -1,7 +1,8 @@
 //! Whether two pieces are equal.
 
-ghost use Rattle.std.specs.Prelude.{◌≡◌, ◌↔◌, IsTrue, map};
-ghost use Rattle.hs_base.specs.ByteSets.{has, members};
+ghost use Rattle.std.specs.Prelude.{◌≡◌, ◌↔◌, ◌==◌, ◌<◌, ℕ, IsTrue, map};
+ghost use Rattle.std.specs.Int.{bit_at};
+ghost use Rattle.hs_base.specs.ByteSets.{members};
 ghost use Rattle.hs_base.specs.LiteralView.{literal_byte};
 ghost use Rattle.hs_expr.specs.Meaning.{tree_of};
 ghost use Rattle.hs_pieces.specs.Meaning.{plain_piece};
@@ -48,20 +49,21 @@ fn same_byte(x: LitByte, y: LitByte) -> bool
 fn same_set(x: &ByteSet, y: &ByteSet) -> bool
     ensures { IsTrue result ↔ (members x.now ≡ members y.now) }
 {
-    for number in 0..256u16 {
-        let byte = number as u8;
-        if !agree(x, y, byte) {
+    let xs = x.words();
+    let ys = y.words();
+    for k in 0..4 {
+        if !same_word(xs[k], ys[k]) {
             return false;
         }
     }
     true
 }
 
-/// Whether both sets have the byte, or neither.
-fn agree(x: &ByteSet, y: &ByteSet, byte: u8) -> bool
-    ensures { IsTrue result ↔ (has x.now byte ≡ has y.now byte) }
+/// Whether the two words have the same bits.
+fn same_word(x: u64, y: u64) -> bool
+    ensures { IsTrue result ↔ ((i : ℕ) → i < 64 → (bit_at x i == 1) ≡ (bit_at y i == 1)) }
 {
-    x.contains(byte) == y.contains(byte)
+    x == y
 }
 
 /// Whether the two expressions are equal.

@@ -9,5 +9,5 @@ pub returns : goal.returns
 returns c sound =
     let made = c.number_of.new.made.items in
     let piece = plain_piece c.args.piece.now in
-    let below = numbered-below model_of (map model_of c.args.self.now.made.items) piece made c.in_ok-number.number c.in_ok-number.ensures.numbered in
-    run-named _ _ piece _ c.index.result.now c.requires.run refl refl refl c.in_ok-number.ensures.numbered c.in_ok-number.ensures.made (read-get made c.in_ok-number.number c.index.result.now below c.index.ensures) refl sound
+    let below = numbered-below model_of (map model_of c.args.self.now.made.items) piece made c.in_ok-number.number (c.in_ok-number.ensures.numbered sound.marked) in
+    run-named _ _ piece _ c.index.result.now c.requires.run refl refl refl (c.in_ok-number.ensures.numbered sound.marked) c.in_ok-number.ensures.made c.in_ok-number.ensures.marked (read-get made c.in_ok-number.number c.index.result.now below c.index.ensures) refl sound

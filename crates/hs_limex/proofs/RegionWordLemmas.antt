@@ -1,0 +1,98 @@
+-- The words of a region.
+use Rattle.std.proofs.Common.{◌≡◌, ℕ, ◌+◌, ◌-◌, ◌*◌, ◌/◌, ◌%◌, ◌^◌, ◌<◌, ◌≤◌, Bool, true, false, ◌&&◌, List, ◌++◌, take, length, get_or, eqb, refl, sym, ap, ◌∙◌, inl, inr, arith}
+use Rattle.std.specs.Prelude.{nat_lt}
+use Rattle.std.specs.Int.{bit_at}
+use Rattle.std.proofs.lemmas.Bool.{cases_lt, lt-ltb}
+use Rattle.std.proofs.lemmas.List.{get_or_append_left, get_or-append-add, get_or-take, length-take-le}
+use Rattle.std.proofs.lemmas.Nat.{shr-shr}
+use Rattle.hs_base.specs.Bits.{has_bit, has_word_bit}
+use Rattle.hs_base.proofs.BitLemmas.{bits-past}
+use Rattle.hs_bits.proofs.WordLemmas.{all-under}
+use Rattle.hs_limex.specs.SingleWords.{is_set}
+use Rattle.hs_limex.proofs.SingleLemmas.{no-bit, past-word}
+
+-- the bits of one word of a row
+pub word-bit : (words : List ℕ) (place i : ℕ) → i < 64 → is_set (get_or words place 0) i ≡ has_word_bit words (64 * place + i)
+unfolding has_word_bit
+word-bit words place i small =
+    let k : ℕ = 64 * place + i in
+    let word : k / 64 ≡ place = omega arith in
+    let bit : k % 64 ≡ i = omega arith in
+    sym (ap (λ n. eqb (bit_at (get_or words n 0) (k % 64)) 1) word ∙ ap (λ n. eqb (bit_at (get_or words place 0) n) 1) bit)
+
+-- a word that ends with the bytes, moved down by the bytes before the start
+pub last-word : (bytes : List ℕ) (word at start shift i : ℕ) → word < 2 ^ 64 → ((j : ℕ) → j < 64 → is_set word j ≡ has_bit bytes (8 * at + j)) → at + 8 ≡ length bytes → start ≡ at + shift →
+    is_set (word / 2 ^ (8 * shift)) i ≡ has_bit bytes (8 * start + i)
+last-word bytes word at start shift i fits bits ends begins =
+    let j : ℕ = 8 * shift + i in
+    let moved : is_set (word / 2 ^ (8 * shift)) i ≡ is_set word j = ap (λ m. eqb (m % 2) 1) (shr-shr word (8 * shift) i) in
+    moved
+    ∙ elim (cases_lt j 64) [
+      | inl inside ↦
+          let same : 8 * at + j ≡ 8 * start + i = omega arith in
+          bits j inside ∙ ap (has_bit bytes) same
+      | inr past ↦ past-word word j fits past ∙ sym (bits-past bytes (8 * start + i) (omega arith))
+    ]
+
+-- all bits lie in the words that there are
+pub words-all : (bytes : List ℕ) (k n : ℕ) → length bytes ≤ 8 * n → (nat_lt k (64 * n) && has_bit bytes k) ≡ has_bit bytes k
+words-all bytes k n room = all-under k (64 * n) (has_bit bytes k) (λ past. bits-past bytes k (omega arith))
+
+-- where a part was written, the bits before it, and its own
+pub part-before : (bytes w back : List ℕ) (start k : ℕ) → start ≤ length bytes → k < 8 * start → has_bit (take start bytes ++ (w ++ back)) k ≡ has_bit bytes k
+unfolding has_bit
+part-before bytes w back start k within before =
+    let size : length (take start bytes) ≡ start = length-take-le start bytes within in
+    ap (λ n. eqb (bit_at n (k % 8)) 1) (get_or_append_left (take start bytes) (w ++ back) 0 (k / 8) (omega arith) ∙ get_or-take start bytes (k / 8) 0 (omega arith))
+
+pub part-here : (bytes w back : List ℕ) (start i : ℕ) → start ≤ length bytes → i < 8 * length w → has_bit (take start bytes ++ (w ++ back)) (8 * start + i) ≡ has_bit w i
+unfolding has_bit
+part-here bytes w back start i within below =
+    let size : length (take start bytes) ≡ start = length-take-le start bytes within in
+    let at : (8 * start + i) / 8 ≡ length (take start bytes) + i / 8 = omega arith in
+    let bit : (8 * start + i) % 8 ≡ i % 8 = omega arith in
+    ap (λ n. eqb (bit_at n ((8 * start + i) % 8)) 1)
+    (ap (λ n. get_or (take start bytes ++ (w ++ back)) n 0) at ∙ (get_or-append-add (take start bytes) (w ++ back) (i / 8) 0 ∙ get_or_append_left w back 0 (i / 8) (omega arith)))
+    ∙ ap (λ n. eqb (bit_at (get_or w (i / 8) 0) n) 1) bit
+
+-- the bits of the part are those of the word
+pub part-stored : (bytes w back : List ℕ) (place count word i : ℕ) → 8 * place ≤ length bytes → length w ≡ count → ((k : ℕ) → has_bit w k ≡ (nat_lt k (8 * count) && is_set word k)) → i < 8 * count →
+    has_bit (take (8 * place) bytes ++ (w ++ back)) (64 * place + i) ≡ is_set word i
+part-stored bytes w back place count word i within len bits inside =
+    let same : 64 * place + i ≡ 8 * (8 * place) + i = omega arith in
+    ap (has_bit (take (8 * place) bytes ++ (w ++ back))) same
+    ∙ (part-here bytes w back (8 * place) i within (omega arith) ∙ (bits i ∙ ap (λ b. b && is_set word i) (lt-ltb i (8 * count) inside)))
+
+-- one word more is stored
+pub stored-more : (words old new : List ℕ) (p count : ℕ) → ((k : ℕ) → k < 64 * p → has_bit new k ≡ has_bit old k) → ((i : ℕ) → i < 64 → 64 * p + i < count → has_bit new (64 * p + i) ≡ is_set (get_or words p 0) i) →
+    ((k : ℕ) → k < 64 * p → k < count → has_bit old k ≡ has_word_bit words k) → (k : ℕ) → k < 64 * (p + 1) → k < count → has_bit new k ≡ has_word_bit words k
+stored-more words old new p count before here known k below inside =
+    elim (cases_lt k (64 * p)) [
+      | inl under ↦ before k under ∙ known k under inside
+      | inr above ↦
+          let i : ℕ = k - 64 * p in
+          let small : i < 64 = omega arith in
+          let at : 64 * p + i ≡ k = omega arith in
+          ap (has_bit new) (sym at) ∙ (here i small (omega arith) ∙ (word-bit words p i small ∙ ap (has_word_bit words) at))
+    ]
+
+and-turned : (a b : Bool) → (a && b) ≡ (b && a)
+and-turned true true = refl
+and-turned true false = refl
+and-turned false true = refl
+and-turned false false = refl
+
+-- one word more has no bit in both
+pub apart-more : (bytes row : List ℕ) (p shared : ℕ) → shared ≡ 0 → ((i : ℕ) → i < 64 → is_set shared i ≡ (is_set (get_or row p 0) i && has_bit bytes (64 * p + i))) →
+    ((k : ℕ) → k < 64 * p → (has_bit bytes k && has_word_bit row k) ≡ false) → (k : ℕ) → k < 64 * (p + 1) → (has_bit bytes k && has_word_bit row k) ≡ false
+apart-more bytes row p shared none bits known k below =
+    elim (cases_lt k (64 * p)) [
+      | inl under ↦ known k under
+      | inr above ↦
+          let i : ℕ = k - 64 * p in
+          let small : i < 64 = omega arith in
+          let at : 64 * p + i ≡ k = omega arith in
+          and-turned (has_bit bytes k) (has_word_bit row k)
+          ∙ (ap (λ n. has_word_bit row n && has_bit bytes n) (sym at)
+          ∙ (ap (λ b. b && has_bit bytes (64 * p + i)) (sym (word-bit row p i small)) ∙ (sym (bits i small) ∙ (ap (λ w. is_set w i) none ∙ no-bit i))))
+    ]
