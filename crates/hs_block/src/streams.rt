@@ -20,10 +20,10 @@ use crate::class_words::class_word;
 use crate::engine::BlockEnds;
 use crate::places::{contains_place, low_places, one_later, only_if, with_place};
 use crate::position_words::{column, count_places, load, meet, next_word, spread, store, united};
-use crate::set_tables::{SetTables, first_bytes};
+use crate::set_tables::SetTables;
 use hs_base::ByteSet;
 use hs_bits::WORD_BITS;
-use hs_engine::{Automaton, Steps};
+use hs_engine::{Automaton, Steps, first_bytes};
 use std::alloc::{AllocError, Global};
 use std::sync::ledger::Ledger;
 

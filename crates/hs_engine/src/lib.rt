@@ -3,11 +3,13 @@
 
 mod automaton;
 mod engine;
+mod firsts;
 mod follow_rows;
 pub mod laws;
 mod steps;
 
 pub use automaton::Automaton;
 pub use engine::Engine;
+pub use firsts::first_bytes;
 pub use follow_rows::{CLASS_COUNT, FollowRows};
 pub use steps::Steps;

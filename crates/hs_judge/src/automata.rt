@@ -1,10 +1,10 @@
-//! `Limex` beside its twin `Plain`, over automata that no expression has: the same bits behind each byte, and the same
-//! answers. It is `#[cfg(test)]`.
+//! `Limex` beside its twin `Plain`, over automata that no expression has. It is `#[cfg(test)]`.
 use crate::cases::{Verdict, ensure};
 use crate::spans::{is_at_rest, run};
 use hs_base::{Assertion, ByteSet, Mask, Next, NextSet};
 use hs_engine::{Automaton, Engine, FollowRows};
-use hs_limex::{Limex, Plain};
+use hs_limex::Limex;
+use hs_nfa::Plain;
 use std::alloc::{AllocError, Global};
 use std::test::Fail;
 
@@ -136,13 +136,11 @@ const TEXTS: [&str; 5] = [
     "aaaaaaaaaaaaaaaaaaaaaaaa",
 ];
 
-/// What an engine that is entered at each offset says behind the text: what may come next, its region, and whether
-/// that is at rest.
-fn behind<E: Engine>(
-    alloc: Global,
-    engine: &E,
-    text: &[u8],
-) -> Result<(NextSet, Vec<u8>, Option<bool>), Fail> {
+/// What may come next, the region, and whether it is at rest.
+type Behind = (NextSet, Vec<u8>, Option<bool>);
+
+/// What an engine that is entered at each offset has behind the text.
+fn behind<E: Engine>(alloc: Global, engine: &E, text: &[u8]) -> Result<Behind, Fail> {
     let (left, region) = run(alloc, engine, text, u64::MAX, NextSet::of(Next::Word))?;
     let rests = is_at_rest(engine, &region);
     Ok((left, region, rests))

@@ -1,5 +1,4 @@
 pub mod AutomatonMeanings
-pub mod PlainEngines
 pub mod WordTables
 pub mod Numbers
 pub mod Near

@@ -1,15 +1,13 @@
-//! The engines of position automata: `Limex` moves by words of bits, and beside it stands `Plain`, its slow twin, which
-//! goes through the positions one by one. Both keep the same bits.
+//! The engine of position automata: `Limex` moves by words of bits.
 #![tactic(auto)]
 
 mod body;
+mod clearing;
 mod contexts;
 mod far_filling;
 mod filling;
-mod first_bytes;
 mod leading;
 mod limex;
-mod plain;
 mod region_words;
 mod single;
 mod small;
@@ -17,5 +15,5 @@ mod small_filling;
 mod tables;
 mod word_rows;
 
+pub use clearing::is_clear_from;
 pub use limex::Limex;
-pub use plain::Plain;

@@ -3,7 +3,7 @@
 ghost use Rattle.std.specs.Prelude.{◌≤◌, IfOk};
 
 use crate::body::Body;
-use crate::plain::is_clear_from;
+use crate::clearing::is_clear_from;
 use hs_base::{ByteSet, Next, NextSet, Prev};
 use hs_bits::{clear_bits, is_zero};
 use hs_engine::{Automaton, Engine, Steps};

@@ -4,12 +4,11 @@ ghost use Rattle.std.specs.Prelude.{◌≡◌, ℕ, ◌+◌, ◌*◌, ◌<◌, �
 ghost use Rattle.std.specs.Prelude.{length, slice_get, slice_index, vec_len};
 ghost use Rattle.hs_limex.specs.SingleWords.{follow_bit, is_set};
 
-use crate::first_bytes::first_bytes;
 use crate::single::{first_bits, is_clear, load, moved_on, store_word};
 use crate::small_filling::{REACH_WORDS, common_word, far_word, pitch_for, span_for, words_of};
 use hs_base::{ByteSet, NextSet};
 use hs_bits::{BYTE_BITS, WORD_BITS, lowest_bit, without_lowest_bit};
-use hs_engine::Automaton;
+use hs_engine::{Automaton, first_bytes};
 use std::alloc::{AllocError, Global};
 
 /// The tables of an automaton of at most 64 positions in which no context matters, as words with a bit for each

@@ -11,13 +11,12 @@ ghost use Rattle.hs_limex.specs.Near.{IsFew, IsNearFrom};
 use crate::contexts::{NEXT_COUNT, next_of, number_of};
 use crate::far_filling::{far_of, near_of};
 use crate::filling::{any_of, masks_of, reach_of};
-use crate::first_bytes::first_bytes;
 use crate::leading::{lead_far, lead_near, span_of};
 use crate::region_words::{is_apart_from, store_region, unite_region};
 use crate::word_rows::WordRows;
 use hs_base::{ByteSet, MAX_POSITIONS, Next, NextSet, Prev};
 use hs_bits::{WORD_BITS, are_apart, is_zero, keep_words, unite_words, word_count_for};
-use hs_engine::{Automaton, FollowRows};
+use hs_engine::{Automaton, FollowRows, first_bytes};
 use std::alloc::{AllocError, Global};
 
 /// The words that hold a bit for each of the most positions.
