@@ -13,7 +13,7 @@ use Rattle.hs_nodes.specs.declared.graph.FieldCopy.{FieldCopy}
 use Rattle.hs_nodes.specs.declared.table.Node.{Node}
 use Rattle.hs_nodes.specs.declared.table.NodeKind.{NodeKind}
 use Rattle.hs_nodes.specs.declared.table.NodeKind.TheVariants.{Engine, Literal, FirstLiteral, LookBack}
-use Rattle.hs_nodes.specs.declared.waking.WakeTable.{WakeTable}
+use Rattle.hs_nodes.specs.declared.wake_table.WakeTable.{WakeTable}
 use Rattle.hs_layout.specs.Layouts.{Laid}
 use Rattle.hs_rose.specs.declared.kind.Kind.TheVariants as kinds
 use Rattle.hs_rose.specs.declared.role.Role.{Role}

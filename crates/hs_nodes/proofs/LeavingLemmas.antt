@@ -1,9 +1,9 @@
 -- Where nodes are left behind all bytes so far.
-use Rattle.std.proofs.Common.{◌≡◌, ◌⊎◌, ◌↔◌, ℕ, suc, ◌+◌, ◌-◌, ◌/◌, ◌^◌, ◌<◌, ◌≤◌, Bool, true, false, ◌&&◌, ◌||◌, List, [], ◌∷◌, ◌++◌, length, map, take, set, Option, Some, None, slice_get, nat_eq, bit_and, refl, sym, ap, subst, ◌∙◌, inl, inr, arith}
+use Rattle.std.proofs.Common.{◌≡◌, ◌⊎◌, ◌↔◌, ℕ, suc, ◌+◌, ◌-◌, ◌/◌, ◌^◌, ◌<◌, ◌≤◌, Bool, true, false, ◌&&◌, ◌||◌, List, [], ◌∷◌, ◌++◌, length, map, take, Option, Some, None, slice_get, nat_eq, bit_and, refl, sym, ap, subst, ◌∙◌, inl, inr, arith}
 use Rattle.std.specs.Prelude.{slice_index}
 use mir.Val.{bool_byte}
 use Rattle.std.proofs.lemmas.Bool.{cases_eq}
-use Rattle.std.proofs.lemmas.List.{append-nil, get_or-set_same, get_or-set_other}
+use Rattle.std.proofs.lemmas.List.{append-nil}
 use Rattle.hs_base.specs.declared.context.Mask.{Mask}
 use Rattle.hs_base.specs.declared.context.Next.{Next}
 use Rattle.hs_base.specs.declared.context.NextSet.{NextSet}
@@ -29,7 +29,6 @@ use Rattle.hs_block.proofs.LiteralBlockLemmas.{never-empty}
 use Rattle.hs_engine.specs.Engines.{Meaning, TellsLeaves}
 use Rattle.hs_nodes.specs.Contexts.{IsNull}
 use Rattle.hs_nodes.specs.Hits.{AreChunkHits, KeepsEntries}
-use Rattle.hs_nodes.specs.Left.{nowhere}
 use Rattle.hs_nodes.specs.LookBacks.{TellsPair}
 use Rattle.hs_nodes.specs.Pieces.{IsHeldBy}
 use Rattle.hs_nodes.specs.Walks.{StandsBehind, node_ends, node_part, parent_pieces}

@@ -1,5 +1,5 @@
 -- Bytes that aren't 0 and the nodes that they are kept of, and what holds of engines whose bytes are 0.
-use Rattle.std.proofs.Common.{◌≡◌, ◌⊎◌, ℕ, zero, suc, ◌+◌, ◌-◌, ◌<◌, ◌≤◌, true, false, not, List, [], ◌∷◌, length, get_or, take, drop, eqb, Some, slice_get, slice_range, refl, sym, ap, subst, ◌∙◌, inl, inr, arith, w64}
+use Rattle.std.proofs.Common.{◌≡◌, ℕ, zero, suc, ◌+◌, ◌-◌, ◌<◌, ◌≤◌, true, false, not, List, [], ◌∷◌, length, get_or, take, drop, Some, slice_get, refl, sym, ap, subst, ◌∙◌, inl, inr, arith, w64}
 use Rattle.std.specs.Int.{from_le_bytes, to_le_bytes}
 use Rattle.std.specs.Slice.Scan.{HoldsNowhere}
 use Rattle.std.proofs.lemmas.Bool.{cases_eq, cases_lt, eq-eqb, ne_eqb, false≢true}
@@ -7,7 +7,7 @@ use Rattle.std.proofs.lemmas.List.{get_or-drop, get_or-take, length-drop, length
 use Rattle.std.proofs.lemmas.Nat.{le_bytes_8}
 use Rattle.std.proofs.lemmas.Option.{same_Some, slice_get_within}
 use Rattle.hs_base.specs.Bits.{AreZero}
-use Rattle.hs_base.proofs.BitLemmas.{same-places, zero-all}
+use Rattle.hs_base.proofs.BitLemmas.{same-places}
 use Rattle.hs_engine.specs.Engines.{IsQuiet, IsStart, Meaning}
 use Rattle.hs_nodes.specs.Living.{AreInTurn, IsAround, is_live}
 use Rattle.hs_nodes.specs.Marks.{is_marked}

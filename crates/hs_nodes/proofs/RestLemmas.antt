@@ -1,7 +1,7 @@
 -- Nodes that are passed over.
-use Rattle.std.proofs.Common.{◌≡◌, ◌⊎◌, ◌↔◌, ℕ, zero, suc, ◌+◌, ◌-◌, ◌*◌, ◌%◌, ◌^◌, ◌<◌, ◌≤◌, min, Bool, true, false, ◌&&◌, List, [], ◌∷◌, ◌++◌, length, get_or, take, drop, slice_get, Option, Some, None, refl, sym, ap, subst, ◌∙◌, inl, inr, arith, append_assoc}
+use Rattle.std.proofs.Common.{◌≡◌, ◌⊎◌, ◌↔◌, ℕ, zero, suc, ◌+◌, ◌-◌, ◌*◌, ◌%◌, ◌^◌, ◌<◌, ◌≤◌, min, Bool, true, false, ◌&&◌, List, [], ◌∷◌, ◌++◌, length, get_or, take, drop, replicate, slice_get, Option, Some, None, refl, sym, ap, subst, ◌∙◌, inl, inr, arith, append_assoc}
 use Rattle.std.specs.Prelude.{nat_lt}
-use Rattle.std.proofs.lemmas.List.{append-nil, take_all, take-append-drop}
+use Rattle.std.proofs.lemmas.List.{append-nil, replicate_more, take_all, take-append-drop}
 use Rattle.std.proofs.lemmas.Option.{slice_get-get_or}
 use Rattle.hs_base.specs.declared.context.Mask.{Mask}
 use Rattle.hs_base.specs.declared.context.Next.{Next}
@@ -10,7 +10,7 @@ use Rattle.hs_base.specs.Bits.{has_bit}
 use Rattle.hs_base.specs.Chains.{Piece, lit, nfa, piece_tree, IsFitChain}
 use Rattle.hs_base.specs.Contexts.{class_of}
 use Rattle.hs_base.specs.Fields.{entered_always}
-use Rattle.hs_base.specs.Leaving.{IsEmptyAt, LeavesAt, LeavesBehind}
+use Rattle.hs_base.specs.Leaving.{AreEntered, IsEmptyAt, LeavesAt, LeavesBehind}
 use Rattle.hs_base.specs.LiteralEnds.{EndsAt}
 use Rattle.hs_base.specs.LiteralRows.{TellsEntries, shifted}
 use Rattle.hs_base.specs.Literals.{LiteralByte}
@@ -60,15 +60,40 @@ engine-passed m pieces rest piece part u bytes fit runs never rests small none h
           (λ i low leaves empty. none.before i low leaves) (λ i low leaves empty. none.behind i low leaves),
     )
 
--- a first engine that no byte wakes
-pub engine-asleep : (m : Meaning) (rest : List Piece) (piece : Piece) (part u bytes : List ℕ) → IsFitChain (piece ∷ rest) → m.is_for (piece_tree piece) → m.always ≡ false → IsAtRest m part → IsNull None (piece_tree piece) → IsUnwoken m None part bytes →
-    IsHeld m [] piece part u → IsHeld m [] piece part (u ++ bytes) × AreLeftNowhere (piece ∷ []) u bytes
-engine-asleep m rest piece part u bytes fit runs never rests null unwoken held =
-    let enters = λ (i : ℕ). true in (
-      passed-all m [] rest piece part u bytes enters fit runs never (λ i low. leaving-begins (u ++ take i bytes) (class_of (get_or bytes i 0))) (λ i low. (unwoken.asleep i low).stays true) rests.quiet.leaves_nothing held,
-      passed-nowhere m [] rest piece part u bytes enters fit runs never (λ i low. leaving-begins (u ++ take i bytes) (class_of (get_or bytes i 0))) (λ i low. (unwoken.asleep i low).stays true) rests.quiet.leaves_nothing held
-          (λ i low leaves empty. null (u ++ take i bytes) (class_of (get_or bytes i 0)) empty) (λ i low leaves empty. null (u ++ take (i + 1) bytes) after.Unknown empty),
-    )
+-- a first engine in which a chunk wakes nothing
+module _ (m : Meaning) (rest : List Piece) (piece : Piece) (part u bytes : List ℕ) (fit : IsFitChain (piece ∷ rest)) (runs : m.is_for (piece_tree piece)) (null : IsNull None (piece_tree piece)) (unwoken : IsUnwoken m None part bytes) (held : IsHeld m [] piece part u) where
+  -- its entries behind so many bytes
+  entries-to : (i : ℕ) → i ≤ length bytes → AreEntered [] (u ++ take i bytes) (held.entered ++ replicate i true)
+  entries-to zero within = subst (λ v. AreEntered [] v (held.entered ++ [])) (sym (append-nil u)) (subst (λ es. AreEntered [] u es) (sym (append-nil held.entered)) held.are)
+  entries-to (suc i) within =
+      let own = entries-to i (omega arith) in
+      let next : i + 1 ≡ suc i = omega arith in
+      subst (λ es. AreEntered [] (u ++ take (suc i) bytes) es) (append_assoc held.entered (replicate i true) (true ∷ []) ∙ ap (λ es. held.entered ++ es) (replicate_more i true ∙ ap (λ n. replicate n true) next))
+      (subst (λ n. AreEntered [] (u ++ take n bytes) ((held.entered ++ replicate i true) ++ true ∷ [])) next
+      (subst (λ v. AreEntered [] v ((held.entered ++ replicate i true) ++ true ∷ [])) (block-more u bytes i (omega arith))
+      (entries-grow [] (u ++ take i bytes) (held.entered ++ replicate i true) (get_or bytes i 0) true own (leaving-begins (u ++ take i bytes) (class_of (get_or bytes i 0))))))
+
+  not-left : (i : ℕ) → i ≤ length bytes → (next : Next) → LeavesBehind [] piece (u ++ take i bytes) next → ⊥
+  not-left i within next leaves =
+      unwoken.asleep.leaves_nothing (piece_tree piece) u held.entered runs held.are.count held.field i next within
+      ((leaves-listed [] piece (u ++ take i bytes) (held.entered ++ replicate i true) next (entries-to i within)).0 leaves)
+
+  not-empty : (i : ℕ) (next : Next) → i ≤ length bytes → LeavesBehind [] piece (u ++ take i bytes) next ⊎ (LeavesAt [] (u ++ take i bytes) next × IsEmptyAt (piece_tree piece) (u ++ take i bytes) next) → ⊥
+  not-empty i next within (inl leaves) = not-left i within next leaves
+  not-empty i next within (inr both) = null (u ++ take i bytes) next both.1
+
+  pub engine-asleep : IsHeld m [] piece part (u ++ bytes) × AreLeftNowhere (piece ∷ []) u bytes
+  engine-asleep = (
+    record {
+      entered = held.entered ++ replicate (length bytes) true;
+      are = subst (λ v. AreEntered [] (u ++ v) (held.entered ++ replicate (length bytes) true)) (take_all (length bytes) bytes (omega arith)) (entries-to (length bytes) (omega arith));
+      field = unwoken.asleep.stays (piece_tree piece) u held.entered runs held.are.count held.field;
+    },
+    record {
+      before = λ i low leaves. not-empty i (class_of (get_or bytes i 0)) (omega arith) (leaves-last [] rest piece (u ++ take i bytes) (class_of (get_or bytes i 0)) fit leaves);
+      behind = λ i low leaves. not-empty (i + 1) after.Unknown (omega arith) (leaves-last [] rest piece (u ++ take (i + 1) bytes) after.Unknown fit leaves);
+    },
+  )
 
 -- a literal without entries
 module _ (pieces rest : List Piece) (literal : List LiteralByte) (m : ℕ) (part u bytes : List ℕ) (fit : IsFitChain (pieces ++ lit literal ∷ rest)) (count : length literal ≡ suc m) (unset : (k : ℕ) → has_bit part k ≡ false) (none : AreLeftNowhere pieces u bytes)
@@ -183,7 +208,7 @@ module _ {E : Type 0} (meaning : E → Meaning) (engines : List E) where
   engine-rests number null parent hits pieces rest piece part u bytes e there runs null_is never fit small may (root no_parent no_pieces) held =
       let own = may e there in
       let unwoken = own.1 no_parent in
-      let done = engine-asleep (meaning e) rest piece part u bytes (subst (λ ps. IsFitChain (ps ++ piece ∷ rest)) no_pieces fit) runs never own.0 (subst (λ (n : Option Mask). IsNull n (piece_tree piece)) unwoken.never_empty null_is)
+      let done = engine-asleep (meaning e) rest piece part u bytes (subst (λ ps. IsFitChain (ps ++ piece ∷ rest)) no_pieces fit) runs (subst (λ (n : Option Mask). IsNull n (piece_tree piece)) unwoken.never_empty null_is)
       (record { never_empty = refl; asleep = unwoken.asleep }) (subst (λ ps. IsHeld (meaning e) ps piece part u) no_pieces held) in
       (subst (λ ps. IsHeld (meaning e) ps piece part (u ++ bytes)) (sym no_pieces) done.0, subst (λ ps. AreLeftNowhere (ps ++ piece ∷ []) u bytes) (sym no_pieces) done.1)
   engine-rests number null parent hits pieces rest piece part u bytes e there runs null_is never fit small may (behind some none) held =

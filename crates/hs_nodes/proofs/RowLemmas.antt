@@ -1,5 +1,5 @@
 -- The four bytes that are kept of a literal as one word, turned round.
-use Rattle.std.proofs.Common.{◌≡◌, ℕ, zero, suc, ◌+◌, ◌-◌, ◌*◌, ◌/◌, ◌%◌, ◌^◌, ◌<◌, ◌≤◌, Bool, true, false, ◌&&◌, nat_le, nat_lt, List, [], ◌∷◌, length, get_or, take, drop, eqb, refl, sym, ap, subst, ◌∙◌, inl, inr, arith, w64}
+use Rattle.std.proofs.Common.{◌≡◌, ℕ, zero, suc, ◌+◌, ◌-◌, ◌*◌, ◌/◌, ◌%◌, ◌^◌, ◌<◌, ◌≤◌, false, ◌&&◌, nat_le, List, [], ◌∷◌, length, get_or, take, eqb, refl, sym, ap, subst, ◌∙◌, inl, inr, arith, w64}
 use Rattle.std.specs.Int.{bit_at, from_le_bytes, reverse_bits_onto, to_le_bytes}
 use Rattle.std.proofs.lemmas.Bool.{cases_lt, le-leb, lt-leb}
 use Rattle.std.proofs.lemmas.List.{get_or-take, get_or_past}

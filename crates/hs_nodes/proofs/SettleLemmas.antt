@@ -18,7 +18,6 @@ use Rattle.hs_nodes.specs.declared.table.NodeKind.{NodeKind}
 use Rattle.hs_nodes.specs.declared.table.NodeKind.TheVariants.{Engine, Literal, FirstLiteral, LookBack}
 use Rattle.hs_nodes.specs.declared.table.NodeTable.{NodeTable}
 use Rattle.hs_nodes.proofs.KindLemmas.{one-value}
-use Rattle.hs_nodes.proofs.RestLemmas.{byte-small}
 use Rattle.hs_nodes.proofs.WalkLemmas.{unmarked-before}
 
 module _ {E : Type 0} (meaning : E → Meaning) (table : NodeTable E) where
@@ -118,7 +117,7 @@ module _ {E : Type 0} (meaning : E → Meaning) (table : NodeTable E) where
     (rests e there).rests,
     λ no_parent. record {
       never_empty = (unwoken no_parent).0;
-      asleep = λ i low. let sleeps = (unwoken no_parent).1 e there in sleeps.are part _ (rests e there).starts (byte-small bytes i small low) (sleeps.none i low);
+      asleep = (unwoken no_parent).1 e there part (rests e there).starts;
     },
   )
   rest-by (Literal number len) hits part bytes parent small rests unwoken = (zero-bits part rests, unwoken)

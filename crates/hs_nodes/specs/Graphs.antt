@@ -12,7 +12,7 @@ use Rattle.hs_base.specs.Trees.{Tree}
 use Rattle.hs_engine.specs.Engines.{Meaning}
 use Rattle.hs_layout.specs.Layouts.{AreApart, Laid, laid_size, layout_of}
 use Rattle.hs_nodes.specs.Resting.{AreEnginesIdle}
-use Rattle.hs_nodes.specs.Waking.{AreWakesSound}
+use Rattle.hs_nodes.specs.Waking.{AreRowsSound, AreWakesSound}
 use Rattle.hs_nodes.specs.Walks.{AreNodesOf, IsTableSound}
 use Rattle.hs_nodes.specs.declared.table.Node.{Node}
 use Rattle.hs_nodes.specs.declared.table.NodeKind.{NodeKind}
@@ -166,4 +166,5 @@ pub record IsGraphSound {E : Type 0} (meaning : E → Meaning) (graph : Graph E)
   pub fits : FitsLayout graph l
   pub terminals : AreTerminalsSound graph
   pub wakes : AreWakesSound graph.table.nodes.items graph.wakes (length literals)
+  pub rows : AreRowsSound meaning graph.table graph.wakes
   pub idle : AreEnginesIdle meaning graph.table.engines.items

@@ -1,6 +1,6 @@
 -- The nodes of a forest of pieces: what each runs, what is kept of it, and where it may be passed over.
 use Rattle.std.specs.Prelude.{◌≡◌, ℕ, ◌*◌, ◌<◌, ◌≤◌, false, List, [], ◌∷◌, ◌++◌, length, Option}
-use Rattle.std.specs.Prelude.{Some, None, slice_get, slice_index, slice_index_or}
+use Rattle.std.specs.Prelude.{Some, None, slice_get, slice_index_or}
 use Rattle.hs_base.specs.declared.context.Mask.{Mask}
 use Rattle.hs_base.specs.declared.context.Prev.{Prev}
 use Rattle.hs_base.specs.Bits.{has_bit}
@@ -10,7 +10,7 @@ use Rattle.hs_base.specs.Lists.{Each}
 use Rattle.hs_base.specs.Literals.{LiteralByte}
 use Rattle.hs_base.specs.RepeatRows.{IsRingAt}
 use Rattle.hs_base.specs.Trees.{Tree}
-use Rattle.hs_engine.specs.Engines.{Meaning, IsAsleep, IsQuiet}
+use Rattle.hs_engine.specs.Engines.{Meaning, IsQuiet}
 use Rattle.hs_nodes.specs.Blocks.{EndsBehind, IsPast}
 use Rattle.hs_nodes.specs.Contexts.{IsNull}
 use Rattle.hs_nodes.specs.Hits.{AreChunkHits, KeepsEntries, hit_count, is_hit_at, no_hits}
@@ -21,6 +21,7 @@ use Rattle.hs_nodes.specs.declared.hits.ChunkHits.{ChunkHits}
 use Rattle.hs_nodes.specs.declared.table.LookBackPair.{LookBackPair}
 use Rattle.hs_nodes.specs.declared.table.NodeKind.{NodeKind}
 use Rattle.hs_nodes.specs.declared.table.NodeKind.TheVariants.{Engine, Literal, FirstLiteral, LookBack}
+use Rattle.hs_waking.specs.WakeRows.{SleepsOver}
 
 -- the number is that of the literal of the piece, which has so many bytes
 pub record IsLiteralOf (literals : List (List LiteralByte)) (number len : ℕ) (piece : Piece) : Type 0 where
@@ -42,10 +43,10 @@ pub record IsAtRest (m : Meaning) (part : List ℕ) : Type 0 where
   pub quiet : IsQuiet m part
   pub well : (at : ℕ) → m.well part at
 
--- And it may where it is entered before each byte of a chunk: it has no empty span, and no byte wakes it.
+-- And it may where it is entered before each byte of a chunk: it has no empty span, and the bytes wake nothing.
 pub record IsUnwoken (m : Meaning) (null : Option Mask) (part bytes : List ℕ) : Type 0 where
   pub never_empty : null ≡ None
-  pub asleep : (i : ℕ) → i < length bytes → IsAsleep m part (slice_index bytes i)
+  pub asleep : SleepsOver m part bytes
 
 -- where the pieces before are left, as far as a node of that kind asks
 abbrev pub IsEnteredBy : NodeKind → (pieces : List Piece) (u bytes : List ℕ) (enters : ChunkEnds) → Type 0
@@ -149,7 +150,7 @@ module _ {E : Type 0} (meaning : E → Meaning) (engines : List E) where
       IsPieceRun kind pieces piece new u bytes ends
 
   -- A node may be passed over in a chunk, if its parent is left nowhere in it: nothing is live, and if it has no parent
-  -- no byte wakes it and its literal ends nowhere.
+  -- the bytes wake nothing and its literal ends nowhere.
   abbrev pub MayRest : NodeKind → (parent : Option ℕ) (hits : List ChunkHits) (part bytes : List ℕ) → Type 0
   MayRest (Engine number null) parent hits part bytes =
       (e : E) →

@@ -1,10 +1,8 @@
 -- Nodes in which nothing is live between two chunks.
-use Rattle.std.specs.Prelude.{◌≡◌, ℕ, ◌<◌, ◌≤◌, true, false, List, length, Option, Some, None, slice_get, slice_index}
-use Rattle.hs_base.specs.declared.byte_set.ByteSet.{ByteSet}
+use Rattle.std.specs.Prelude.{◌≡◌, ℕ, ◌<◌, ◌≤◌, true, false, List, length, Option, Some, None, slice_get}
 use Rattle.hs_base.specs.Bits.{AreZero}
-use Rattle.hs_base.specs.ByteSets.{has}
 use Rattle.hs_base.specs.Lists.{Each}
-use Rattle.hs_engine.specs.Engines.{Meaning, AreWakers, IsStart}
+use Rattle.hs_engine.specs.Engines.{Meaning, IsStart}
 use Rattle.hs_nodes.specs.Hits.{is_hit_at}
 use Rattle.hs_nodes.specs.Left.{nowhere}
 use Rattle.hs_nodes.specs.Marks.{is_marked}
@@ -16,6 +14,7 @@ use Rattle.hs_nodes.specs.declared.table.Node.{Node}
 use Rattle.hs_nodes.specs.declared.table.NodeKind.{NodeKind}
 use Rattle.hs_nodes.specs.declared.table.NodeKind.TheVariants.{Engine, Literal, FirstLiteral, LookBack}
 use Rattle.hs_nodes.specs.declared.table.NodeTable.{NodeTable}
+use Rattle.hs_waking.specs.WakeRows.{SleepsThrough}
 
 -- nothing is live in what is kept of a node of that kind
 abbrev pub IsUnset : NodeKind → (part : List ℕ) → Type 0
@@ -39,12 +38,6 @@ AreEnginesIdle {E = E} meaning engines =
     AreZero part →
     IsIdleEngine (meaning e) part
 
--- no byte of a chunk wakes an engine
-pub record IsAsleepIn (m : Meaning) (bytes : List ℕ) : Type 0 where
-  pub wakers : ByteSet
-  pub are : AreWakers m wakers
-  pub none : (i : ℕ) → i < length bytes → has wakers (slice_index bytes i) ≡ false
-
 module _ {E : Type 0} (meaning : E → Meaning) (engines : List E) where
   -- A node of that kind stays as it is in each chunk that neither enters nor wakes it.
   abbrev pub IsResting : NodeKind → (part : List ℕ) → Type 0
@@ -54,11 +47,11 @@ module _ {E : Type 0} (meaning : E → Meaning) (engines : List E) where
   IsResting (FirstLiteral number len) part = Unit {0}
   IsResting (LookBack pair) part = Unit {0}
 
-  -- A chunk doesn't wake a node of that kind: if it has no parent, it has no empty span and no byte wakes it; and a
+  -- A chunk doesn't wake a node of that kind: if it has no parent, it has no empty span and its bytes wake nothing; and a
   -- first literal, or one behind an expression that looks back, ends nowhere.
   abbrev pub IsUnwokenIn : NodeKind → (parent : Option ℕ) → (hits : List ChunkHits) (bytes : List ℕ) → Type 0
   IsUnwokenIn (Engine number null) parent hits bytes =
-      parent ≡ None → (null ≡ None) × ((e : E) → slice_get engines number ≡ Some e → IsAsleepIn (meaning e) bytes)
+      parent ≡ None → (null ≡ None) × ((e : E) → slice_get engines number ≡ Some e → SleepsThrough (meaning e) bytes)
   IsUnwokenIn (Literal number len) parent hits bytes = parent ≡ None → ⊥
   IsUnwokenIn (FirstLiteral number len) parent hits bytes =
       (own : ChunkHits) → slice_get hits number ≡ Some own → (i : ℕ) → i ≤ length bytes → is_hit_at own i ≡ false

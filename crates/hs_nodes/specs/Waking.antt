@@ -1,18 +1,18 @@
 -- Which nodes a chunk may wake though nothing is live in them.
-use Rattle.std.specs.Prelude.{◌≡◌, ℕ, suc, ◌<◌, ◌≤◌, true, false, List, length, Option, Some, None, slice_get}
-use Rattle.std.specs.Prelude.{slice_index}
+use Rattle.std.specs.Prelude.{◌≡◌, ℕ, suc, ◌<◌, ◌≤◌, Bool, true, false, List, length, Option, Some, None, slice_get}
+use Rattle.std.specs.Prelude.{slice_index, take}
 use Rattle.hs_base.specs.declared.byte_set.ByteSet.{ByteSet}
 use Rattle.hs_base.specs.declared.context.Mask.{Mask}
-use Rattle.hs_base.specs.ByteSets.{has}
-use Rattle.hs_engine.specs.Engines.{Meaning, AreWakers}
+use Rattle.hs_engine.specs.Engines.{Meaning}
 use Rattle.hs_nodes.specs.Marks.{is_marked}
-use Rattle.hs_nodes.specs.Resting.{IsAsleepIn}
 use Rattle.hs_nodes.specs.Walks.{IsAmongChildren}
 use Rattle.hs_nodes.specs.declared.table.Node.{Node}
 use Rattle.hs_nodes.specs.declared.table.NodeKind.{NodeKind}
 use Rattle.hs_nodes.specs.declared.table.NodeKind.TheVariants.{Engine, Literal, FirstLiteral, LookBack}
 use Rattle.hs_nodes.specs.declared.table.NodeTable.{NodeTable}
-use Rattle.hs_nodes.specs.declared.waking.WakeTable.{WakeTable}
+use Rattle.hs_nodes.specs.declared.wake_table.WakeRow.{WakeRow}
+use Rattle.hs_nodes.specs.declared.wake_table.WakeTable.{WakeTable}
+use Rattle.hs_waking.specs.WakeRows.{AreNumbered, IsWakeRow, SleepsThrough}
 
 -- the literal that wakes a node of that kind where it ends, if there is one
 abbrev pub waking_literal : NodeKind → Option ℕ
@@ -46,21 +46,27 @@ pub record AreWakesSound (nodes : List Node) (wakes : WakeTable) (literals : ℕ
   pub behind : (k number len : ℕ) (node : Node) → slice_get nodes k ≡ Some node →
       node.kind ≡ Literal number len → node.parent ≡ None → ⊥
 
--- none of the bytes wakes an engine
-pub record IsAsleepBy (m : Meaning) (bytes : ByteSet) : Type 0 where
-  pub wakers : ByteSet
-  pub are : AreWakers m wakers
-  pub none : (b : ℕ) → b < 256 → has bytes b ≡ true → has wakers b ≡ false
+-- the numbers of the sets of a row
+abbrev pub row_numbers : WakeRow → List ℕ
+row_numbers row = take row.count row.numbers
 
--- nor a node of that kind that is entered everywhere, which has no empty span either
-abbrev pub IsKindAsleep : {E : Type 0} → (E → Meaning) → (engines : List E) → NodeKind → (bytes : ByteSet) → Type 0
+-- a node of that kind is one of an engine that has no empty span
+abbrev pub is_never_empty : NodeKind → Bool
+is_never_empty (Engine number None) = true
+is_never_empty (Engine number (Some mask)) = false
+is_never_empty (Literal number len) = false
+is_never_empty (FirstLiteral number len) = false
+is_never_empty (LookBack pair) = false
+
+-- a chunk wakes nothing in a node of that kind that is entered everywhere, which has no empty span either
+abbrev pub IsKindAsleep : {E : Type 0} → (E → Meaning) → (engines : List E) → NodeKind → (bytes : List ℕ) → Type 0
 IsKindAsleep meaning engines (Engine number null) bytes =
-    (null ≡ None) × ((e : _) → slice_get engines number ≡ Some e → IsAsleepBy (meaning e) bytes)
+    (null ≡ None) × ((e : _) → slice_get engines number ≡ Some e → SleepsThrough (meaning e) bytes)
 IsKindAsleep meaning engines (Literal number len) bytes = ⊥
 IsKindAsleep meaning engines (FirstLiteral number len) bytes = ⊥
 IsKindAsleep meaning engines (LookBack pair) bytes = ⊥
 
--- The engines without a parent that aren't marked have no empty span, and no byte wakes them.
+-- The engines without a parent that aren't marked have no empty span, and a chunk wakes nothing in them.
 abbrev pub AreEnginesUnwoken : {E : Type 0} → (E → Meaning) → NodeTable E → (marks bytes : List ℕ) → Type 0
 AreEnginesUnwoken meaning table marks bytes =
     (k number : ℕ) (null : Option Mask) (node : Node) →
@@ -68,4 +74,21 @@ AreEnginesUnwoken meaning table marks bytes =
     node.kind ≡ Engine number null →
     node.parent ≡ None →
     is_marked marks k ≡ false →
-    (null ≡ None) × ((e : _) → slice_get table.engines.items number ≡ Some e → IsAsleepIn (meaning e) bytes)
+    (null ≡ None) × ((e : _) → slice_get table.engines.items number ≡ Some e → SleepsThrough (meaning e) bytes)
+
+-- The row tells what wakes an engine, by the numbers of its sets.
+pub record IsRowOf (m : Meaning) (sets : List ByteSet) (row : WakeRow) : Type 0 where
+  pub own : List ByteSet
+  pub numbered : AreNumbered sets (row_numbers row) own
+  pub wakes : IsWakeRow m own
+
+-- The row that stands beside an engine without a parent is one of its own.
+abbrev pub AreRowsSound : {E : Type 0} → (E → Meaning) → NodeTable E → WakeTable → Type 0
+AreRowsSound meaning table wakes =
+    (i k number : ℕ) (null : Option Mask) (node : Node) (row : WakeRow) (e : _) →
+    slice_get wakes.first_engines.items i ≡ Some k →
+    slice_get wakes.rows.items i ≡ Some row →
+    slice_get table.nodes.items k ≡ Some node →
+    node.kind ≡ Engine number null →
+    slice_get table.engines.items number ≡ Some e →
+    IsRowOf (meaning e) wakes.sets.items row

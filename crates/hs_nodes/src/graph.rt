@@ -3,7 +3,7 @@
 ghost use Rattle.std.specs.Prelude.{◌≡◌, ◌<◌, length, Some, slice_get};
 
 use crate::table::NodeTable;
-use crate::waking::WakeTable;
+use crate::wake_table::WakeTable;
 use hs_reports::{Identifier, Terminal};
 
 /// A field of the region that is the same as that of a node.

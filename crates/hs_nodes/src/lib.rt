@@ -18,6 +18,7 @@ mod marks;
 mod nulls;
 mod settling;
 mod table;
+mod wake_table;
 mod waking;
 mod walking;
 
@@ -36,5 +37,6 @@ pub use marks::MarkSet;
 pub use nulls::chunk_contexts;
 pub use settling::settle;
 pub use table::{LookBackPair, MAX_LOOK_BACK, MAX_LOOK_BACK_REGION, Node, NodeKind, NodeTable};
-pub use waking::{WakeTable, wake_engines, wake_literal};
+pub use wake_table::{MAX_ROW, WakeRow, WakeTable};
+pub use waking::{wake_engines, wake_literal};
 pub use walking::{mark_all, node_at, walk};

@@ -16,7 +16,7 @@ use Rattle.hs_nodes.specs.declared.hits.ChunkHits.{ChunkHits}
 use Rattle.hs_nodes.specs.declared.table.Node.{Node}
 use Rattle.hs_nodes.specs.declared.table.NodeKind.{NodeKind}
 use Rattle.hs_nodes.specs.declared.table.NodeKind.TheVariants.{Engine, Literal, FirstLiteral, LookBack}
-use Rattle.hs_nodes.specs.declared.waking.WakeTable.{WakeTable}
+use Rattle.hs_nodes.specs.declared.wake_table.WakeTable.{WakeTable}
 use Rattle.hs_nodes.proofs.WakeLemmas.{nodes-unwoken}
 use Rattle.hs_nodes.proofs.WalkLemmas.{there}
 use Rattle.hs_scan.specs.Hits.{HasNowhere, no_hits}

@@ -1,5 +1,4 @@
-use Rattle.std.proofs.Common.{◌≡◌, ℕ, ◌<◌, Bool, true, false, ◌||◌, length, refl, subst, ap, ◌∙◌, arith}
-use Rattle.hs_nodes.specs.Left.{nowhere}
+use Rattle.std.proofs.Common.{ℕ, ◌<◌, length, subst, ap, ◌∙◌, arith}
 use Rattle.hs_nodes.specs.Leaving.{LeavesNodes}
 use Rattle.hs_nodes.specs.Walks.{node_ends}
 use Rattle.hs_nodes.proofs.WalkLemmas.{there}

@@ -1,4 +1,4 @@
-use Rattle.std.proofs.Common.{◌≡◌, length, refl, ◌∙◌, sym, arith}
+use Rattle.std.proofs.Common.{◌≡◌, length, ◌∙◌, arith}
 use Rattle.hs_nodes.proofs.LivingLemmas.{idle-by}
 use Rattle.hs_nodes.proofs.MarkLemmas.{whole-written}
 use Rattle.hs_nodes.proofs.living.idle_engine.Goals as goal

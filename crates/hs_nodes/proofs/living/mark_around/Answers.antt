@@ -1,7 +1,7 @@
-use Rattle.std.proofs.Common.{◌≡◌, ◌<◌, length, ◌∙◌, sym, subst, arith}
+use Rattle.std.proofs.Common.{◌∙◌, sym, subst, arith}
 use Rattle.std.proofs.lemmas.Bool.{le-leb}
 use Rattle.std.proofs.lemmas.Option.{slice_get_within}
-use Rattle.hs_nodes.proofs.LivingLemmas.{AreMarkedTo, marked-all, marked-end, marked-later, marked-none, marked-own, marked-pass}
+use Rattle.hs_nodes.proofs.LivingLemmas.{AreMarkedTo, marked-all, marked-end, marked-later, marked-own, marked-pass}
 use Rattle.hs_nodes.proofs.living.mark_around.Goals as goal
 use Rattle.hs_nodes.proofs.living.mark_around.Goals.{then-is_begun, else-is_begun}
 

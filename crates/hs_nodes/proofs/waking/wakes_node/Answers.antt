@@ -1,9 +1,15 @@
-use Rattle.std.proofs.Common.{◌-◌, sym, subst}
-use Rattle.hs_nodes.specs.Nodes.{IsKindSound}
+use Rattle.std.proofs.Common.{refl, sym, subst, ◌∙◌}
+use Rattle.std.proofs.lemmas.Option.{same_Some}
+use Rattle.hs_nodes.specs.Waking.{IsKindAsleep}
+use Rattle.hs_nodes.specs.declared.table.Node.{Node}
+use Rattle.hs_nodes.proofs.WakeLemmas.{each-small, row-asleep}
 use Rattle.hs_nodes.proofs.waking.wakes_node.Goals as goal
 
-pub wakes_kind-requires : goal.wakes_kind-requires
-wakes_kind-requires g c =
-    let (literals, size, sound) = c.requires.sound in
-    let node = c.node_at.result in
-    (literals, node.end - node.start, subst (λ es. IsKindSound g.E.Engine.meaning es literals node.kind (node.end - node.start)) (sym c.deref.ensures.value) (sound.kinds c.args.k node c.node_at.ensures))
+pub returns : goal.returns
+returns g c = λ node there none.
+    let graph = c.args.graph.now in
+    let (row, at_row, nowhere) = c.may_fit.ensures none in
+    let own = c.node_at.result in
+    let small = each-small c.args.bytes.now (λ i low. (c.type_inv.bytes i).fits) in
+    subst (λ (n : Node). IsKindAsleep g.E.Engine.meaning graph.table.engines.items n.kind c.args.bytes.now) (same_Some own node (sym c.node_at.ensures ∙ there))
+    (row-asleep g.E.Engine.meaning graph.table graph.wakes c.args.place c.args.k own c.args.bytes.now c.requires.rows small c.requires.is c.node_at.ensures own.kind refl (sym c.never_empty.ensures ∙ c.if-not-never_empty.false) row at_row nowhere)

@@ -1,4 +1,3 @@
-use Rattle.std.proofs.Common.{sym, arith}
 use Rattle.hs_nodes.proofs.MarkLemmas.{clear-marks, summed-clear}
 use Rattle.hs_nodes.proofs.marks.MarkSet.clear.Goals as goal
 
