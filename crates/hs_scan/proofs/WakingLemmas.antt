@@ -7,15 +7,12 @@ use Rattle.hs_literals.specs.HitTables.{AreMarked, HitTable, has_hit}
 use Rattle.hs_nodes.specs.Hits.{is_hit_at}
 use Rattle.hs_nodes.specs.Left.{nowhere}
 use Rattle.hs_nodes.specs.Marks.{is_marked, mark_room}
-use Rattle.hs_nodes.specs.Resting.{AreNodesResting, AreNodesUnwoken, IsResting, IsSettled}
+use Rattle.hs_nodes.specs.Resting.{AreNodesUnwoken, IsSettled}
 use Rattle.hs_nodes.specs.Waking.{AreEnginesUnwoken, AreWakesSound}
-use Rattle.hs_nodes.specs.Walks.{AreMoreMarks, ChangesMarked, IsAmongChildren, node_ends, node_part}
+use Rattle.hs_nodes.specs.Walks.{AreMoreMarks, ChangesMarked, IsAmongChildren, node_ends}
 use Rattle.hs_nodes.specs.declared.ends.ChunkEnds.{ChunkEnds}
 use Rattle.hs_nodes.specs.declared.graph.Graph.{Graph}
 use Rattle.hs_nodes.specs.declared.hits.ChunkHits.{ChunkHits}
-use Rattle.hs_nodes.specs.declared.table.Node.{Node}
-use Rattle.hs_nodes.specs.declared.table.NodeKind.{NodeKind}
-use Rattle.hs_nodes.specs.declared.table.NodeKind.TheVariants.{Engine, Literal, FirstLiteral, LookBack}
 use Rattle.hs_nodes.specs.declared.wake_table.WakeTable.{WakeTable}
 use Rattle.hs_nodes.proofs.WakeLemmas.{nodes-unwoken}
 use Rattle.hs_nodes.proofs.WalkLemmas.{there}

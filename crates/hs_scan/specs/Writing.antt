@@ -1,5 +1,5 @@
 -- The beginning of a write, and what its last byte leaves to the end.
-use Rattle.std.specs.Prelude.{◌≡◌, ℕ, ◌<◌, true, List, ◌++◌, length, Some, slice_get, slice_range}
+use Rattle.std.specs.Prelude.{◌≡◌, ℕ, ◌<◌, List, ◌++◌, length, Some, slice_get, slice_range}
 use Rattle.hs_base.specs.declared.context.Next.TheVariants as after
 use Rattle.hs_base.specs.declared.context.Prev.{Prev}
 use Rattle.hs_base.specs.Bits.{has_word_bit}
@@ -16,7 +16,6 @@ use Rattle.hs_nodes.specs.Walks.{AreNodesHeld}
 use Rattle.hs_nodes.specs.declared.hits.ChunkHits.{ChunkHits}
 use Rattle.hs_nodes.specs.declared.ends.ChunkEnds.{ChunkEnds}
 use Rattle.hs_nodes.specs.declared.graph.Graph.{Graph}
-use Rattle.hs_nodes.specs.declared.table.Node.{Node}
 use Rattle.hs_reports.specs.EndTables.{EndTable, words_of}
 use Rattle.hs_reports.specs.Settlement.{AreKnown}
 use Rattle.hs_reports.specs.Telling.{leaves_to_end}

@@ -9,7 +9,7 @@ ghost use Rattle.hs_nodes.specs.Graphs.{AreTerminalsSound};
 ghost use Rattle.hs_nodes.specs.Left.{nowhere};
 ghost use Rattle.hs_nodes.specs.Marks.{is_marked, mark_room};
 ghost use Rattle.hs_nodes.specs.Resting.{AreEnginesIdle, AreNodesResting};
-ghost use Rattle.hs_nodes.specs.Waking.{AreWakesSound};
+ghost use Rattle.hs_nodes.specs.Waking.{AreRowsSound, AreWakesSound};
 ghost use Rattle.hs_nodes.specs.Walks.{AreNodesWell, IsOutside, IsTableSound, node_ends};
 ghost use Rattle.hs_reports.specs.EndTables.{HasNoEnds, words_of};
 ghost use Rattle.hs_reports.specs.Events.{Takes};
@@ -150,6 +150,7 @@ pub(crate) fn run_line_feed<E: BlockEngine, V: Events, L: Ledger>(
     requires contexts { AreChunkContexts scratch.old.contexts.items chunk.now.prev chunk.now.at chunk.now.bytes.now }
     requires bytes { chunk.now.bytes.now ≡ line_feed ∷ [] }
     requires wakes { AreWakesSound graph.now.table.nodes.items graph.now.wakes scratch.old.rows.count }
+    requires rows { AreRowsSound E.meaning graph.now.table graph.now.wakes }
     requires others { (k : ℕ) → has_hit scratch.old.rows k ≡ false → HasNowhere scratch.old.hits.items k }
     requires idle { AreEnginesIdle E.meaning graph.now.table.engines.items }
     requires resting { AreNodesResting E.meaning graph.now.table scratch.old.course.marks region.old }
@@ -170,7 +171,13 @@ pub(crate) fn run_line_feed<E: BlockEngine, V: Events, L: Ledger>(
         chunk.now.bytes.now scratch.old.hits.items scratch.old.course.known.told.items
         scratch.old.course.known.here.items scratch.old.finals scratch.new.last.items }
 {
-    wake(graph, &scratch.rows, chunk.bytes, &mut scratch.course.marks);
+    wake(
+        graph,
+        &scratch.rows,
+        chunk.bytes,
+        &mut scratch.words,
+        &mut scratch.course.marks,
+    );
     let found = Found {
         contexts: &scratch.contexts,
         hits: &scratch.hits,

@@ -7,7 +7,7 @@ ghost use Rattle.hs_literals.specs.Held.{held};
 ghost use Rattle.hs_literals.specs.HitTables.{has_hit};
 ghost use Rattle.hs_nodes.specs.Contexts.{AreChunkContexts};
 ghost use Rattle.hs_nodes.specs.Resting.{AreEnginesIdle, AreNodesResting};
-ghost use Rattle.hs_nodes.specs.Waking.{AreWakesSound};
+ghost use Rattle.hs_nodes.specs.Waking.{AreRowsSound, AreWakesSound};
 ghost use Rattle.hs_nodes.specs.Walks.{AreNodesWell, IsOutside, IsTableSound};
 ghost use Rattle.hs_reports.specs.Events.{Takes};
 ghost use Rattle.hs_scan.specs.Hits.{HasNowhere};
@@ -47,6 +47,7 @@ fn run_chunk<E: BlockEngine, V: Events, L: Ledger>(
     requires contexts { AreChunkContexts scratch.old.contexts.items chunk.now.prev chunk.now.at chunk.now.bytes.now }
     requires small { Each (λ b. b < 256) chunk.now.bytes.now }
     requires wakes { AreWakesSound graph.now.table.nodes.items graph.now.wakes scratch.old.rows.count }
+    requires rows { AreRowsSound E.meaning graph.now.table graph.now.wakes }
     requires others { (k : ℕ) → has_hit scratch.old.rows k ≡ false → HasNowhere scratch.old.hits.items k }
     requires idle { AreEnginesIdle E.meaning graph.now.table.engines.items }
     requires resting { AreNodesResting E.meaning graph.now.table scratch.old.course.marks region.old }
@@ -66,7 +67,13 @@ fn run_chunk<E: BlockEngine, V: Events, L: Ledger>(
         scratch.old.course.known.told.items scratch.old.course.known.here.items scratch.new.course.known.told.items
         scratch.new.course.known.here.items) }
 {
-    wake(graph, &scratch.rows, chunk.bytes, &mut scratch.course.marks);
+    wake(
+        graph,
+        &scratch.rows,
+        chunk.bytes,
+        &mut scratch.words,
+        &mut scratch.course.marks,
+    );
     let found = Found {
         contexts: &scratch.contexts,
         hits: &scratch.hits,

@@ -21,6 +21,7 @@ use hs_layout::HISTORY_SIZE;
 use hs_literals::{HitRows, Literals};
 use hs_nodes::{Chunk, ChunkEnds, ChunkHits, Graph, MAX_BLOCKS};
 use hs_reports::IdentifierEnds;
+use hs_waking::ClassWords;
 use std::alloc::{AllocError, Global};
 
 /// Memory that a scan uses within a write, for one graph at a time.
@@ -34,6 +35,8 @@ pub struct Scratch {
     pub(crate) hits: Vec<ChunkHits>,
     /// The same as rows of bits.
     pub(crate) rows: HitRows,
+    /// At which places of a chunk the sets have bytes by which first engines are woken.
+    pub(crate) words: ClassWords,
     /// What goes from chunk to chunk.
     pub(crate) course: Course,
     /// Where matches of each identifier would end before a line feed, were that the last byte.
@@ -67,6 +70,7 @@ impl Scratch {
             contexts: vec![in alloc; Contexts::new(Prev::Start, &[]); MAX_BLOCKS]?,
             hits: vec![in alloc; ChunkHits::NOWHERE; count]?,
             rows: HitRows::new(alloc, count)?,
+            words: ClassWords::new(alloc, graph.wakes.sets.len())?,
             course: Course::new(alloc, nodes, identifiers)?,
             finals: IdentifierEnds::new(alloc, identifiers)?,
             last: vec![in alloc; 0u64; word_count_for(identifiers)]?,

@@ -4,14 +4,15 @@ ghost use Rattle.std.specs.Prelude.{◌≡◌, ◌<◌, ◌≤◌, ℕ, List, tr
 ghost use Rattle.hs_literals.specs.HitTables.{has_hit};
 ghost use Rattle.hs_nodes.specs.Marks.{is_marked, mark_room};
 ghost use Rattle.hs_nodes.specs.Resting.{AreNodesUnwoken};
-ghost use Rattle.hs_nodes.specs.Waking.{AreWakesSound};
-ghost use Rattle.hs_nodes.specs.Walks.{AreMoreMarks, IsAmongChildren, IsTableSound};
+ghost use Rattle.hs_nodes.specs.Waking.{AreRowsSound, AreWakesSound};
+ghost use Rattle.hs_nodes.specs.Walks.{AreMoreMarks, IsAmongChildren};
 ghost use Rattle.hs_nodes.specs.declared.hits.ChunkHits.{ChunkHits};
 ghost use Rattle.hs_scan.specs.Hits.{HasNowhere};
 
 use hs_block::BlockEngine;
 use hs_literals::HitRows;
 use hs_nodes::{Graph, MarkSet, wake_engines, wake_literal};
+use hs_waking::ClassWords;
 
 /// Marks the nodes that the literals wake that end in a chunk.
 fn wake_literals<E>(graph: &Graph<E>, rows: &HitRows, marks: &mut MarkSet)
@@ -35,16 +36,18 @@ pub(crate) fn wake<E: BlockEngine>(
     graph: &Graph<E>,
     rows: &HitRows,
     bytes: &[u8],
+    words: &mut ClassWords,
     marks: &mut MarkSet,
 )
-    requires table { (size : ℕ) × IsTableSound E.meaning graph.now.table rows.now.count size }
+    requires sound { AreRowsSound E.meaning graph.now.table graph.now.wakes }
     requires wakes { AreWakesSound graph.now.table.nodes.items graph.now.wakes rows.now.count }
     requires room { length graph.now.table.nodes.items ≤ mark_room marks.old }
     requires below { (k : ℕ) → is_marked marks.old k ≡ true → k < length graph.now.table.nodes.items }
+    requires few { length bytes.now ≤ 512 }
     ensures more { AreMoreMarks (length graph.now.table.nodes.items) marks.old marks.new }
     ensures unwoken { (hits : List ChunkHits) → ((k : ℕ) → has_hit rows.now k ≡ false → HasNowhere hits k) →
         AreNodesUnwoken E.meaning graph.now.table marks.new hits bytes.now }
 {
     wake_literals(graph, rows, marks);
-    wake_engines(graph, bytes, marks);
+    wake_engines(graph, bytes, words, marks);
 }

@@ -1,8 +1,5 @@
-use Rattle.std.proofs.Common.{◌≡◌, ◌+◌, length, sym, subst, ◌∙◌, arith}
-use Rattle.std.specs.Prelude.{slice_index}
-use Rattle.hs_reports.specs.Events.{Takes}
-use Rattle.hs_nodes.specs.Resting.{AreNodesResting}
-use Rattle.hs_nodes.specs.Walks.{AreNodesWell, IsTableSound}
+use Rattle.std.proofs.Common.{length, sym, subst, ◌∙◌, arith}
+use Rattle.hs_nodes.specs.Walks.{IsTableSound}
 use Rattle.hs_nodes.proofs.SettleLemmas.{resting-may, resting-stay}
 use Rattle.hs_nodes.proofs.TickLemmas.{nodes-most}
 use Rattle.hs_scan.specs.Scans.{ScansChunk}

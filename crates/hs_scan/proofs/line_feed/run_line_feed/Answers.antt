@@ -5,10 +5,8 @@ use Rattle.hs_nodes.proofs.WakeLemmas.{resting-more}
 use Rattle.hs_nodes.specs.Left.{nowhere}
 use Rattle.hs_nodes.specs.Marks.{is_marked}
 use Rattle.hs_nodes.specs.Resting.{AreNodesResting}
-use Rattle.hs_nodes.specs.Walks.{AreNodesWell, MayNodesRest, TakesNodes, node_ends, nodes_ticks}
-use Rattle.hs_reports.specs.Events.{Takes}
+use Rattle.hs_nodes.specs.Walks.{MayNodesRest, TakesNodes, node_ends, nodes_ticks}
 use Rattle.hs_scan.proofs.WakingLemmas.{passed-nowhere}
-use Rattle.std.specs.Prelude.{slice_index}
 use Rattle.hs_scan.specs.Scans.{ScansChunk}
 use Rattle.hs_scan.specs.Telling.{TellsBlock}
 use Rattle.hs_scan.proofs.BlockLemmas.{takes-as}

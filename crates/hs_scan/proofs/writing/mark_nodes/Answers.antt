@@ -1,4 +1,4 @@
-use Rattle.std.proofs.Common.{◌∙◌, arith}
+use Rattle.std.proofs.Common.{arith}
 use Rattle.hs_scan.proofs.writing.mark_nodes.Goals as goal
 
 pub returns-clause-room : goal.returns-clause-room

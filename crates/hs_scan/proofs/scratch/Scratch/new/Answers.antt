@@ -9,7 +9,7 @@ returns-clause-idle g c =
     (sym c.in_ok-vec-2.field-0.ok.0 ∙ c.in_ok-vec-2.ensures.len)
     (c.in_ok-vec-3.ensures.items_if_clones_equal (λ y is. is))
     c.in_ok-new.ensures.count_is
-    c.in_ok-new-2.ensures
     c.in_ok-new-3.ensures
+    c.in_ok-new-4.ensures
     (sym c.in_ok-vec-4.field-0.ok.0 ∙ (c.in_ok-vec-4.ensures.len ∙ c.word_count_for.ensures))
     refl
