@@ -1,0 +1,3 @@
+pub mod WakeLemmas
+mod LevelLemmas
+mod WordLemmas

@@ -1,0 +1,10 @@
+use Rattle.hs_base.specs.Bits.{has_word_bit}
+use Rattle.hs_base.proofs.BitLemmas.{zero-all}
+use Rattle.hs_bits.proofs.WordLemmas.{words-zero}
+use Rattle.hs_block.proofs.AnyLemmas.{true-false}
+use Rattle.hs_waking.proofs.class_words.ClassWords.begin.Goals as goal
+
+pub returns-clause-forgotten : goal.returns-clause-forgotten
+returns-clause-forgotten c sets bytes k known p few =
+    let words = c.clear_words.new.words in
+    true-false (has_word_bit words k) known (words-zero words (zero-all words c.clear_words.ensures.zero) k)

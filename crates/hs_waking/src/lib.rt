@@ -1,0 +1,19 @@
+//! Which engines a chunk may wake: a row of sets, of the first byte of a match, of the second and so on, keeps an
+//! engine asleep over a chunk in which it fits nowhere. `row_of` makes the row of an automaton, `fits` tells whether a
+//! row fits somewhere, 64 places at a time, and `fits_plain` is its slow twin. `laws` says what rows are good for.
+#![tactic(auto)]
+
+mod class_words;
+mod fitting;
+pub mod laws;
+mod levels;
+mod open_places;
+mod plain;
+mod rows;
+#[cfg(test)]
+mod tests;
+
+pub use class_words::{ClassWords, MAX_CHUNK};
+pub use fitting::fits;
+pub use plain::fits_plain;
+pub use rows::{MAX_ROW, row_of};
