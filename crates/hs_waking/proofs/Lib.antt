@@ -1,3 +1,4 @@
 pub mod WakeLemmas
 mod LevelLemmas
 mod WordLemmas
+mod FitLemmas
