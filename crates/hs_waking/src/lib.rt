@@ -3,11 +3,11 @@
 //! row fits somewhere, 64 places at a time, and `fits_plain` is its slow twin. `laws` says what rows are good for.
 #![tactic(auto)]
 
+mod chunk_places;
 mod class_words;
 mod fitting;
 pub mod laws;
 mod levels;
-mod open_places;
 mod plain;
 mod rows;
 #[cfg(test)]

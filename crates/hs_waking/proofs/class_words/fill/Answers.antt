@@ -10,7 +10,7 @@ loop-block-preserved c =
     let n = c.args.number in
     let block = c.loop-block.block in
     record {
-      len = length-set words (8 * n + block) c.block_word.result ∙ c.loop-block.invariant.len;
-      places = filled words c.args.bytes.now (has c.args.set.now) n block c.block_word.result (omega (arith, c.requires.room, c.loop-block.invariant.len)) (omega arith) c.loop-block.invariant.places c.block_word.ensures;
-      others = λ b apart. filled-others words n block c.block_word.result b (omega arith) apart ∙ c.loop-block.invariant.others b apart;
+      len = length-set words (9 * n + block) c.open_places.result ∙ c.loop-block.invariant.len;
+      places = filled words c.args.bytes.now (has c.args.set.now) n block c.open_places.result (omega (arith, c.requires.room, c.loop-block.invariant.len)) (omega arith) c.loop-block.invariant.places c.open_places.ensures;
+      others = λ b apart. filled-others words n block c.open_places.result b (omega arith) apart ∙ c.loop-block.invariant.others b apart;
     }
