@@ -1,0 +1,4 @@
+pub mod WakeLemmas
+mod LevelLemmas
+mod WordLemmas
+mod FitLemmas

@@ -1,1 +1,4 @@
+pub mod Fits
+pub mod Rows
 pub mod WakeRows
+pub mod ChunkWords

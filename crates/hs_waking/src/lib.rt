@@ -1,10 +1,19 @@
-//! Rows of sets that keep an engine asleep: the first bytes of each entry that isn't dead by then.
+//! Which engines a chunk may wake: a row of sets, of the first byte of a match, of the second and so on, keeps an
+//! engine asleep over a chunk in which it fits nowhere. `row_of` makes the row of an automaton, `fits` tells whether a
+//! row fits somewhere, 64 places at a time, and `fits_plain` is its slow twin. `laws` says what rows are good for.
 #![tactic(auto)]
 
+mod chunk_places;
 mod class_words;
 mod fitting;
-mod wakes;
+pub mod laws;
+mod levels;
+mod plain;
+mod rows;
+#[cfg(test)]
+mod tests;
 
-pub use class_words::ClassWords;
+pub use class_words::{ClassWords, MAX_CHUNK};
 pub use fitting::fits;
-pub use wakes::Wakes;
+pub use plain::fits_plain;
+pub use rows::{MAX_ROW, row_of};

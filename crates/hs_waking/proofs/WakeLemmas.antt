@@ -1,0 +1,153 @@
+-- Over bytes in which the row of an automaton fits nowhere no position that is reached accepts, and behind them none is
+-- reached.
+use Rattle.std.proofs.Common.{◌≡◌, ℕ, zero, suc, ◌+◌, ◌<◌, ◌≤◌, Bool, true, List, [], ◌∷◌, ◌++◌, length, take, replicate, get_or, Option, Some, slice_get, refl, sym, ap, subst, ◌∙◌, inl, inr, arith, length-append}
+use Rattle.std.specs.Prelude.{EachIndex, slice_index}
+use Rattle.std.proofs.lemmas.Bool.{cases_lt}
+use Rattle.std.proofs.lemmas.List.{append-nil, append_assoc, length-replicate, length-take-le, replicate-append-replicate, take_all}
+use Rattle.std.proofs.Math.Seq.{take-suc}
+use Rattle.hs_base.specs.declared.byte_set.ByteSet.{ByteSet}
+use Rattle.hs_base.specs.declared.context.Next.{Next}
+use Rattle.hs_base.specs.Bits.{has_bit}
+use Rattle.hs_base.specs.Contexts.{Context, class_of, context_of, prev_at}
+use Rattle.hs_base.specs.Fields.{Leaves}
+use Rattle.hs_base.specs.PositionRows.{IsField}
+use Rattle.hs_base.specs.Trees.{Tree}
+use Rattle.hs_base.specs.WrittenOut.{Core, IsReached, write_out}
+use Rattle.hs_engine.specs.declared.automaton.Automaton.{Automaton}
+use Rattle.hs_engine.specs.Agreement.{IsAccepting, StepsTo, steps_in, steps_on}
+use Rattle.hs_engine.specs.Automata.{enters, follows, in_set, takes}
+use Rattle.hs_engine.specs.Engines.{Meaning, IsStart}
+use Rattle.hs_engine.specs.Tables.{Runs}
+use Rattle.hs_engine.proofs.AgreementLemmas.{leaves-accepting, reached-steps}
+use Rattle.hs_engine.proofs.AutomatonLemmas.{start-clear}
+use Rattle.hs_block.proofs.AnyLemmas.{true-false}
+use Rattle.hs_waking.specs.Fits.{FitsAt, FitsNowhere, FitsTo}
+use Rattle.hs_waking.specs.Rows.{IsAtLevel, IsRowOf, RunsBy}
+use Rattle.hs_waking.specs.WakeRows.{IsWakeRow, SleepsOver}
+
+-- one more set has its byte
+pub fits-more : (row : ℕ → Option ByteSet) (bytes : List ℕ) (n p : ℕ) → FitsTo row bytes n p → (p + n < length bytes → in_set (row n) (get_or bytes (p + n) 0) ≡ true) → FitsTo row bytes (suc n) p
+fits-more row bytes n p fits last d below inside =
+    elim (cases_lt d n) [
+      | inl less ↦ fits d less inside
+      | inr past ↦
+          let same : n ≡ d = omega arith in
+          subst (λ k. in_set (row k) (get_or bytes (p + k) 0) ≡ true) same (last (omega arith))
+    ]
+
+-- The position is one of a level whose bytes end at a place, and not of the last level; the row fits up to there.
+record Stands (a : Automaton) (row : List ByteSet) (bytes : List ℕ) (at y : ℕ) : Type 0 where
+  level : ℕ
+  place : ℕ
+  behind : place + suc level ≡ at
+  at_level : IsAtLevel a level y
+  further : suc level < length row
+  fits : FitsTo (slice_get row) bytes (suc level) place
+
+module _ (a : Automaton) (row : List ByteSet) (is : IsRowOf a row) (bytes : List ℕ) (nowhere : FitsNowhere row bytes) where
+  -- where it has fitted up to the last level it would fit
+  stands : (i y level place : ℕ) → i < length bytes → place + suc level ≡ suc i → IsAtLevel a level y → level < length row → FitsTo (slice_get row) bytes (suc level) place → Stands a row bytes (suc i) y
+  stands i y level place within behind at_level below fits =
+      elim (cases_lt (suc level) (length row)) [
+        | inl further ↦ record { level = level; place = place; behind = behind; at_level = at_level; further = further; fits = fits }
+        | inr last ↦ absurd (nowhere place (omega arith) (λ d less inside. fits d (omega arith) inside))
+      ]
+
+  begins : (i y : ℕ) (c : Context) → i < length bytes → get_or bytes i 0 < 256 → enters a y c ≡ true → takes a y (get_or bytes i 0) ≡ true → Stands a row bytes (suc i) y
+  begins i y c within small enter member =
+      let first : in_set (slice_get row 0) (get_or bytes i 0) ≡ true = is.sets 0 y (get_or bytes i 0) is.some (c, enter) small member in
+      let place : i ≡ i + 0 = omega arith in
+      stands i y 0 i within (omega arith) (c, enter) is.some
+      (fits-more (slice_get row) bytes 0 i (λ d below inside. absurd (omega arith)) (λ inside. subst (λ p. in_set (slice_get row 0) (get_or bytes p 0) ≡ true) place first))
+
+  goes-on : (i x y : ℕ) (c : Context) → i < length bytes → get_or bytes i 0 < 256 → Stands a row bytes i x → follows a x y c ≡ true → takes a y (get_or bytes i 0) ≡ true → Stands a row bytes (suc i) y
+  goes-on i x y c within small before follow member =
+      let level : ℕ = suc before.level in
+      let at_level : IsAtLevel a level y = (x, c, before.at_level, follow) in
+      let last : in_set (slice_get row level) (get_or bytes i 0) ≡ true = is.sets level y (get_or bytes i 0) before.further at_level small member in
+      let place : i ≡ before.place + level = sym before.behind in
+      stands i y level before.place within (omega (arith, before.behind)) at_level before.further
+      (fits-more (slice_get row) bytes level before.place before.fits (λ inside. subst (λ p. in_set (slice_get row level) (get_or bytes p 0) ≡ true) place last))
+
+  module _ (small : EachIndex bytes (λ k. slice_index bytes k < 256)) (tree : Tree) (runs : Runs a tree) (u : List ℕ) (entered : List Bool) (len : length entered ≡ length u)
+      (unreached : (y : ℕ) → IsReached (write_out tree) u entered y → ⊥) where
+    abbrev Before : ℕ → List ℕ
+    Before i = u ++ take i bytes
+
+    abbrev Entered : ℕ → List Bool
+    Entered i = entered ++ replicate i true
+
+    same-len : (i : ℕ) → i ≤ length bytes → length (Entered i) ≡ length (Before i)
+    same-len i within =
+        omega (arith, len, length-append entered (replicate i true), length-append u (take i bytes), length-replicate i true, length-take-le i bytes within)
+
+    bytes-next : (i : ℕ) → i < length bytes → Before (suc i) ≡ Before i ++ get_or bytes i 0 ∷ []
+    bytes-next i within = ap (λ v. u ++ v) (take-suc bytes i 0 within) ∙ sym (append_assoc u (take i bytes) (get_or bytes i 0 ∷ []))
+
+    entered-next : (i : ℕ) → Entered (suc i) ≡ Entered i ++ true ∷ []
+    entered-next i =
+        let one : i + 1 ≡ suc i = omega arith in
+        ap (λ n. entered ++ replicate n true) (sym one)
+        ∙ (ap (λ v. entered ++ v) (sym (replicate-append-replicate i 1 true)) ∙ sym (append_assoc entered (replicate i true) (true ∷ [])))
+
+    of-steps : (i : ℕ) → i < length bytes → ((x : ℕ) → IsReached (write_out tree) (Before i) (Entered i) x → Stands a row bytes i x) → (y : ℕ) →
+        StepsTo (write_out tree) (Before i) (Entered i) (get_or bytes i 0) true y → Stands a row bytes (suc i) y
+    of-steps i within known y (steps_in member now enter) =
+        let b : ℕ = get_or bytes i 0 in
+        let here : Context = context_of (Before i) (class_of b) in
+        begins i y here within (small i within) (runs.tables.enters y here ∙ enter) ((runs.tables.sets y b (small i within)).1 member)
+    of-steps i within known y (steps_on x member reached follow) =
+        let b : ℕ = get_or bytes i 0 in
+        let here : Context = context_of (Before i) (class_of b) in
+        goes-on i x y here within (small i within) (known x reached) (runs.tables.follows x y (prev_at (Before i) (length (Before i))) b ∙ follow) ((runs.tables.sets y b (small i within)).1 member)
+
+    reached-stands : (i : ℕ) → i ≤ length bytes → (y : ℕ) → IsReached (write_out tree) (Before i) (Entered i) y → Stands a row bytes i y
+    reached-stands zero within y reached =
+        absurd (unreached y
+        (subst (λ e. IsReached (write_out tree) u e y) (append-nil entered)
+        (subst (λ w. IsReached (write_out tree) w (entered ++ []) y) (append-nil u) reached)))
+    reached-stands (suc i) within y reached =
+        let below : i < length bytes = omega arith in
+        let long : IsReached (write_out tree) (Before i ++ get_or bytes i 0 ∷ []) (Entered i ++ true ∷ []) y =
+        subst (λ e. IsReached (write_out tree) (Before i ++ get_or bytes i 0 ∷ []) e y) (entered-next i)
+        (subst (λ w. IsReached (write_out tree) w (Entered (suc i)) y) (bytes-next i below) reached) in
+        of-steps i below (reached-stands i (omega arith)) y
+        (reached-steps (write_out tree) (Before i) (Entered i) (get_or bytes i 0) true y (same-len i (omega arith)) long)
+
+    unreached-behind : (y : ℕ) → IsReached (write_out tree) (u ++ bytes) (entered ++ replicate (length bytes) true) y → ⊥
+    unreached-behind y reached =
+        let all : bytes ≡ take (length bytes) bytes = sym (take_all (length bytes) bytes (omega arith)) in
+        let last = reached-stands (length bytes) (omega arith) y
+        (subst (λ v. IsReached (write_out tree) (u ++ v) (entered ++ replicate (length bytes) true) y) all reached) in
+        nowhere last.place (omega (arith, last.behind)) (λ d below inside. last.fits d (omega (arith, last.behind)) inside)
+
+    left-nowhere : (i : ℕ) → i ≤ length bytes → (next : Next) → Leaves tree (Before i) (Entered i) next → ⊥
+    left-nowhere i within next leaves =
+        let accepting : IsAccepting (write_out tree) (Before i) (Entered i) next = leaves-accepting tree (Before i) (Entered i) next runs.plain runs.ends_last leaves in
+        let here = reached-stands i within accepting.position accepting.reached in
+        is.ends here.level accepting.position (context_of (Before i) next) here.further here.at_level
+        (runs.tables.accepts accepting.position (context_of (Before i) next) ∙ accepting.accepts)
+
+-- no position is reached where the region is that of the empty stream
+unreached-start : (r : Core) (region u : List ℕ) (entered : List Bool) → IsField region r [] [] → IsField region r u entered → (y : ℕ) → IsReached r u entered y → ⊥
+unreached-start r region u entered start field y reached = true-false (has_bit region y) ((field y).1 reached) (start-clear r region start y)
+
+rests-behind : (r : Core) (region w : List ℕ) (entries : List Bool) → IsField region r [] [] → ((y : ℕ) → IsReached r w entries y → ⊥) → IsField region r w entries
+rests-behind r region w entries start unreached y = (
+  λ set. true-false (has_bit region y) set (start-clear r region start y),
+  λ reached. absurd (unreached y reached),
+)
+
+pub wake-row : (m : Meaning) (a : Automaton) (row : List ByteSet) → RunsBy m a → IsRowOf a row → IsWakeRow m row
+wake-row m a row by is region bytes start small nowhere = record {
+  stays = λ tree u entered told len field.
+      let begun : IsField region (write_out tree) [] [] = (by.field region tree [] [] told).0 (start tree told) in
+      let here : IsField region (write_out tree) u entered = (by.field region tree u entered told).0 field in
+      (by.field region tree (u ++ bytes) (entered ++ replicate (length bytes) true) told).1
+      (rests-behind (write_out tree) region (u ++ bytes) (entered ++ replicate (length bytes) true) begun
+      (unreached-behind a row is bytes nowhere small tree (by.told tree told) u entered len (unreached-start (write_out tree) region u entered begun here)));
+  leaves_nothing = λ tree u entered told len field.
+      let begun : IsField region (write_out tree) [] [] = (by.field region tree [] [] told).0 (start tree told) in
+      let here : IsField region (write_out tree) u entered = (by.field region tree u entered told).0 field in
+      left-nowhere a row is bytes nowhere small tree (by.told tree told) u entered len (unreached-start (write_out tree) region u entered begun here);
+}

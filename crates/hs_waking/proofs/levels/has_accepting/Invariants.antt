@@ -1,0 +1,8 @@
+use Rattle.std.proofs.Common.{◌≡◌, ℕ, ◌<◌, true, false, slice_get}
+use Rattle.hs_base.specs.Bits.{has_word_bit}
+use Rattle.hs_base.specs.Contexts.{Context}
+use Rattle.hs_engine.specs.Automata.{in_mask}
+use Rattle.hs_waking.proofs.levels.has_accepting.Given as goal
+
+abbrev pub invariant-loop-position : goal.invariant-loop-position
+invariant-loop-position l = (x : ℕ) (c : Context) → x < l.position → has_word_bit l.level x ≡ true → in_mask (slice_get l.accepts x) c ≡ false

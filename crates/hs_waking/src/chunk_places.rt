@@ -1,0 +1,75 @@
+//! Places of a chunk as eight words, a bit for each.
+
+ghost use Rattle.std.specs.Prelude.{◌≡◌, ℕ, ◌+◌, ◌-◌, ◌<◌, ◌≤◌, ◌&&◌, nat_lt, not, length};
+ghost use Rattle.hs_base.specs.Bits.{has_word_bit};
+ghost use Rattle.hs_engine.specs.AnyBelow.{any_below};
+ghost use Rattle.hs_block.specs.WordBits.{word_bit};
+
+use crate::class_words::{CHUNK_WORDS, MAX_CHUNK};
+use hs_bits::WORD_BITS;
+use hs_block::low_places;
+
+/// The places of a chunk.
+pub(crate) type Places = [u64; CHUNK_WORDS];
+
+/// All places before that one.
+#[inline(always)]
+pub(crate) fn places_before(end: usize) -> Places
+    requires { end ≤ 512 }
+    ensures { (p : ℕ) → p < 512 → has_word_bit result p ≡ nat_lt p end }
+{
+    if end == MAX_CHUNK {
+        [u64::MAX; CHUNK_WORDS]
+    } else {
+        some_places_before(end)
+    }
+}
+
+/// The same, word by word.
+#[inline(never)]
+fn some_places_before(end: usize) -> Places
+    requires { end ≤ 512 }
+    ensures { (p : ℕ) → p < 512 → has_word_bit result p ≡ nat_lt p end }
+{
+    let mut places = [0u64; CHUNK_WORDS];
+    for word in 0..CHUNK_WORDS {
+        places[word] = low_places(end.saturating_sub(WORD_BITS * word).min(WORD_BITS));
+    }
+    places
+}
+
+/// Keeps the places behind which, so many places on, the class has its bit set.
+#[inline(always)]
+pub(crate) fn keep_open(places: &mut Places, class: &[u64], distance: usize)
+    requires class { length class.now ≡ 9 }
+    requires near { distance < 64 }
+    ensures { (p : ℕ) → p < 512 →
+        has_word_bit places.new p ≡ (has_word_bit places.old p && has_word_bit class.now (p + distance)) }
+{
+    for word in 0..CHUNK_WORDS {
+        places[word] &= moved(class[word], class[word + 1], distance);
+    }
+}
+
+/// The 64 bits that begin so many bits on in the first of two words.
+#[inline(always)]
+fn moved(word: u64, next: u64, distance: usize) -> u64
+    requires { distance < 64 }
+    ensures low { (i : ℕ) → i + distance < 64 → word_bit result i ≡ word_bit word (i + distance) }
+    ensures high { (i : ℕ) → i < 64 → 64 ≤ i + distance → word_bit result i ≡ word_bit next (i + distance - 64) }
+{
+    (word >> distance) | ((next << 1) << (WORD_BITS - 1 - distance))
+}
+
+/// Whether there is none.
+#[inline(always)]
+pub(crate) fn is_none(places: &[u64]) -> bool
+    requires { length places.now ≡ 8 }
+    ensures { result ≡ not (any_below 512 (has_word_bit places.now)) }
+{
+    let mut any = 0;
+    for word in 0..CHUNK_WORDS {
+        any |= places[word];
+    }
+    any == 0
+}

@@ -1,0 +1,2 @@
+//! `fits` beside `fits_plain`.
+
