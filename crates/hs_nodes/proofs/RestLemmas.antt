@@ -75,7 +75,7 @@ module _ (m : Meaning) (rest : List Piece) (piece : Piece) (part u bytes : List 
 
   not-left : (i : ℕ) → i ≤ length bytes → (next : Next) → LeavesBehind [] piece (u ++ take i bytes) next → ⊥
   not-left i within next leaves =
-      unwoken.asleep.leaves_nothing (piece_tree piece) u held.entered runs held.are.count held.field i next within
+      unwoken.asleep.leaves_nothing (piece_tree piece) u held.entered runs held.are.count held.field i within next
       ((leaves-listed [] piece (u ++ take i bytes) (held.entered ++ replicate i true) next (entries-to i within)).0 leaves)
 
   not-empty : (i : ℕ) (next : Next) → i ≤ length bytes → LeavesBehind [] piece (u ++ take i bytes) next ⊎ (LeavesAt [] (u ++ take i bytes) next × IsEmptyAt (piece_tree piece) (u ++ take i bytes) next) → ⊥

@@ -1,14 +1,13 @@
 -- Nodes that a chunk doesn't wake.
 use Rattle.std.proofs.Common.{◌≡◌, ℕ, suc, ◌+◌, ◌<◌, ◌≤◌, Bool, true, false, List, [], ◌∷◌, length, Option, Some, None, slice_get, refl, sym, ap, subst, ◌∙◌, inl, inr, arith}
-use Rattle.std.specs.Prelude.{slice_index}
+use Rattle.std.specs.Prelude.{EachIndex, slice_index}
 use Rattle.std.proofs.lemmas.Bool.{cases_eq}
 use Rattle.hs_base.specs.declared.byte_set.ByteSet.{ByteSet}
 use Rattle.hs_base.specs.declared.context.Mask.{Mask}
-use Rattle.hs_base.specs.Lists.{Each}
 use Rattle.hs_engine.specs.Engines.{Meaning}
 use Rattle.hs_nodes.specs.Hits.{is_hit_at}
 use Rattle.hs_nodes.specs.Marks.{is_marked}
-use Rattle.hs_nodes.specs.Resting.{AreNodesResting, AreNodesUnwoken, IsUnwokenIn}
+use Rattle.hs_nodes.specs.Resting.{AreNodesResting, AreNodesUnwoken, IsUnwokenIn, SleepsThrough}
 use Rattle.hs_nodes.specs.Waking.{AreEnginesUnwoken, AreRowsSound, AreWakesSound, IsKindAsleep, IsListed, is_never_empty, row_numbers, waking_literal}
 use Rattle.hs_nodes.specs.Walks.{AreMoreMarks, IsAmongChildren}
 use Rattle.hs_nodes.specs.declared.hits.ChunkHits.{ChunkHits}
@@ -18,13 +17,8 @@ use Rattle.hs_nodes.specs.declared.table.NodeKind.TheVariants.{Engine, Literal, 
 use Rattle.hs_nodes.specs.declared.table.NodeTable.{NodeTable}
 use Rattle.hs_nodes.specs.declared.wake_table.WakeRow.{WakeRow}
 use Rattle.hs_nodes.specs.declared.wake_table.WakeTable.{WakeTable}
-use Rattle.hs_waking.specs.WakeRows.{AreNumbered, FitsNowhere, SleepsThrough}
+use Rattle.hs_waking.specs.Fits.{FitsNowhere, IsRowBy}
 use Rattle.hs_nodes.proofs.WalkLemmas.{unmarked-before}
-
--- bytes, place by place
-pub each-small : (bytes : List ℕ) → ((i : ℕ) → i < length bytes → slice_index bytes i < 256) → Each (λ b. b < 256) bytes
-each-small [] small = tt
-each-small (b ∷ bytes) small = (small 0 (omega arith), each-small bytes (λ i low. small (suc i) (omega arith)))
 
 -- a mark that isn't there
 none-or : (b : Bool) → (b ≡ true → ⊥) → b ≡ false
@@ -50,14 +44,14 @@ module _ {E : Type 0} (meaning : E → Meaning) (table : NodeTable E) where
       kind-engine node.kind number null bytes kind_is (asleep k node (sound.entered k number null node there kind_is no_parent) there none)
 
   -- the row of a node that has no empty span fits nowhere
-  pub row-asleep : (wakes : WakeTable) (place k : ℕ) (node : Node) (bytes : List ℕ) → AreRowsSound meaning table wakes → Each (λ b. b < 256) bytes → slice_get wakes.first_engines.items place ≡ Some k → slice_get table.nodes.items k ≡ Some node →
-      (kind : NodeKind) → node.kind ≡ kind → is_never_empty kind ≡ true → (row : WakeRow) → slice_get wakes.rows.items place ≡ Some row → ((own : List ByteSet) → AreNumbered wakes.sets.items (row_numbers row) own → FitsNowhere own bytes) →
+  pub row-asleep : (wakes : WakeTable) (place k : ℕ) (node : Node) (bytes : List ℕ) → AreRowsSound meaning table wakes → EachIndex bytes (λ i. slice_index bytes i < 256) → slice_get wakes.first_engines.items place ≡ Some k → slice_get table.nodes.items k ≡ Some node →
+      (kind : NodeKind) → node.kind ≡ kind → is_never_empty kind ≡ true → (row : WakeRow) → slice_get wakes.rows.items place ≡ Some row → ((own : List ByteSet) → IsRowBy (row_numbers row) wakes.sets.items own → FitsNowhere own bytes) →
       IsKindAsleep meaning table.engines.items kind bytes
   row-asleep wakes place k node bytes sound small at there (Engine number None) is never row at_row nowhere = (
     refl,
     λ e at_e.
-        let own = sound place k number None node row e at at_row there is at_e in
-        own.wakes bytes small (nowhere own.own own.numbered),
+        let own = sound.are place k number None node row e at at_row there is at_e in
+        λ region starts. own.wakes region bytes starts small (nowhere own.own own.numbered),
   )
   row-asleep wakes place k node bytes sound small at there (Engine number (Some mask)) is never row at_row nowhere = absurd (cc)
   row-asleep wakes place k node bytes sound small at there (Literal number len) is never row at_row nowhere = absurd (cc)

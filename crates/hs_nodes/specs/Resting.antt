@@ -14,7 +14,7 @@ use Rattle.hs_nodes.specs.declared.table.Node.{Node}
 use Rattle.hs_nodes.specs.declared.table.NodeKind.{NodeKind}
 use Rattle.hs_nodes.specs.declared.table.NodeKind.TheVariants.{Engine, Literal, FirstLiteral, LookBack}
 use Rattle.hs_nodes.specs.declared.table.NodeTable.{NodeTable}
-use Rattle.hs_waking.specs.WakeRows.{SleepsThrough}
+use Rattle.hs_waking.specs.WakeRows.{SleepsOver}
 
 -- nothing is live in what is kept of a node of that kind
 abbrev pub IsUnset : NodeKind → (part : List ℕ) → Type 0
@@ -37,6 +37,10 @@ AreEnginesIdle {E = E} meaning engines =
     length part ≡ (meaning e).width →
     AreZero part →
     IsIdleEngine (meaning e) part
+
+-- A chunk wakes nothing in an engine, from each region that is that of the empty stream.
+abbrev pub SleepsThrough : Meaning → (bytes : List ℕ) → Type 0
+SleepsThrough m bytes = (region : List ℕ) → IsStart m region → SleepsOver m region bytes
 
 module _ {E : Type 0} (meaning : E → Meaning) (engines : List E) where
   -- A node of that kind stays as it is in each chunk that neither enters nor wakes it.

@@ -12,7 +12,9 @@ use Rattle.hs_nodes.specs.declared.table.NodeKind.TheVariants.{Engine, Literal, 
 use Rattle.hs_nodes.specs.declared.table.NodeTable.{NodeTable}
 use Rattle.hs_nodes.specs.declared.wake_table.WakeRow.{WakeRow}
 use Rattle.hs_nodes.specs.declared.wake_table.WakeTable.{WakeTable}
-use Rattle.hs_waking.specs.WakeRows.{AreNumbered, IsWakeRow, SleepsThrough}
+use Rattle.hs_waking.specs.Fits.{IsRowBy}
+use Rattle.hs_waking.specs.WakeRows.{IsWakeRow}
+use Rattle.hs_nodes.specs.Resting.{SleepsThrough}
 
 -- the literal that wakes a node of that kind where it ends, if there is one
 abbrev pub waking_literal : NodeKind → Option ℕ
@@ -77,18 +79,16 @@ AreEnginesUnwoken meaning table marks bytes =
     (null ≡ None) × ((e : _) → slice_get table.engines.items number ≡ Some e → SleepsThrough (meaning e) bytes)
 
 -- The row tells what wakes an engine, by the numbers of its sets.
-pub record IsRowOf (m : Meaning) (sets : List ByteSet) (row : WakeRow) : Type 0 where
+pub record IsRowFor (m : Meaning) (sets : List ByteSet) (row : WakeRow) : Type 0 where
   pub own : List ByteSet
-  pub numbered : AreNumbered sets (row_numbers row) own
+  pub numbered : IsRowBy (row_numbers row) sets own
   pub wakes : IsWakeRow m own
 
--- The row that stands beside an engine without a parent is one of its own.
-abbrev pub AreRowsSound : {E : Type 0} → (E → Meaning) → NodeTable E → WakeTable → Type 0
-AreRowsSound meaning table wakes =
-    (i k number : ℕ) (null : Option Mask) (node : Node) (row : WakeRow) (e : _) →
-    slice_get wakes.first_engines.items i ≡ Some k →
-    slice_get wakes.rows.items i ≡ Some row →
-    slice_get table.nodes.items k ≡ Some node →
-    node.kind ≡ Engine number null →
-    slice_get table.engines.items number ≡ Some e →
-    IsRowOf (meaning e) wakes.sets.items row
+-- The rows name sets that are there, and the one that stands beside an engine without a parent is one of its own.
+pub record AreRowsSound {E : Type 0} (meaning : E → Meaning) (table : NodeTable E) (wakes : WakeTable) : Type 0 where
+  pub within : (i d : ℕ) (row : WakeRow) → slice_get wakes.rows.items i ≡ Some row →
+      d < length (row_numbers row) → slice_index (row_numbers row) d < length wakes.sets.items
+  pub are : (i k number : ℕ) (null : Option Mask) (node : Node) (row : WakeRow) (e : E) →
+      slice_get wakes.first_engines.items i ≡ Some k → slice_get wakes.rows.items i ≡ Some row →
+      slice_get table.nodes.items k ≡ Some node → node.kind ≡ Engine number null →
+      slice_get table.engines.items number ≡ Some e → IsRowFor (meaning e) wakes.sets.items row

@@ -1,13 +1,14 @@
 //! Which nodes a chunk wakes.
 
-ghost use Rattle.std.specs.Prelude.{◌≡◌, ◌<◌, ◌≤◌, ℕ, List, true, false, length, Some, slice_get};
+ghost use Rattle.std.specs.Prelude.{◌≡◌, ◌<◌, ◌≤◌, ℕ, List, true, false, length, Some, slice_get, slice_index};
 ghost use Rattle.hs_base.specs.declared.byte_set.ByteSet.{ByteSet};
 ghost use Rattle.hs_nodes.specs.Marks.{is_marked, mark_room};
 ghost use Rattle.hs_nodes.specs.Waking.{AreEnginesUnwoken, AreRowsSound, AreWakesSound, IsKindAsleep, is_never_empty, row_numbers};
 ghost use Rattle.hs_nodes.specs.Walks.{AreMoreMarks, IsAmongChildren};
 ghost use Rattle.hs_nodes.specs.declared.table.Node.{Node};
 ghost use Rattle.hs_nodes.specs.declared.wake_table.WakeRow.{WakeRow};
-ghost use Rattle.hs_waking.specs.WakeRows.{AreNumbered, FitsNowhere};
+ghost use Rattle.hs_waking.specs.ChunkWords.{AreOfChunk};
+ghost use Rattle.hs_waking.specs.Fits.{FitsNowhere, IsRowBy};
 
 use crate::graph::Graph;
 use crate::marks::MarkSet;
@@ -48,18 +49,21 @@ fn never_empty(kind: NodeKind) -> bool
     }
 }
 
-/// Whether the row that stands at that place may fit the bytes of a chunk.
+/// Whether the row that stands at that place fits somewhere in a chunk, or can't be asked. The words are those of this
+/// chunk so far as they are known.
 fn may_fit(wakes: &WakeTable, place: usize, bytes: &[u8], words: &mut ClassWords) -> bool
+    requires numbers { (row : WakeRow) → slice_get wakes.now.rows.items place ≡ Some row → (d : ℕ) →
+        d < length (row_numbers row) → slice_index (row_numbers row) d < length wakes.now.sets.items }
     requires few { length bytes.now ≤ 512 }
-    ensures { result ≡ false → (row : WakeRow) × (slice_get wakes.now.rows.items place ≡ Some row)
-        × ((own : List ByteSet) → AreNumbered wakes.now.sets.items (row_numbers row) own →
-        FitsNowhere own bytes.now) }
+    requires chunk { AreOfChunk words.old wakes.now.sets.items bytes.now }
+    ensures chunk { AreOfChunk words.new wakes.now.sets.items bytes.now }
+    ensures nowhere { result ≡ false → (row : WakeRow) × (slice_get wakes.now.rows.items place ≡ Some row)
+        × ((own : List ByteSet) → IsRowBy (row_numbers row) wakes.now.sets.items own → FitsNowhere own bytes.now) }
 {
-    if place >= wakes.rows.len() {
+    if place >= wakes.rows.len() || wakes.sets.len() > words.count() {
         return true;
     }
-    let row = wakes.rows[place];
-    fits(row.numbers(), &wakes.sets, words, bytes)
+    fits(wakes.rows[place].numbers(), &wakes.sets, words, bytes)
 }
 
 /// Whether a chunk wakes the node of that number, which stands at that place among those of engines without a parent.
@@ -74,7 +78,9 @@ fn wakes_node<E: Engine>(
     requires there { k < length graph.now.table.nodes.items }
     requires is { slice_get graph.now.wakes.first_engines.items place ≡ Some k }
     requires few { length bytes.now ≤ 512 }
-    ensures { (node : Node) → slice_get graph.now.table.nodes.items k ≡ Some node → result ≡ false →
+    requires chunk { AreOfChunk words.old graph.now.wakes.sets.items bytes.now }
+    ensures chunk { AreOfChunk words.new graph.now.wakes.sets.items bytes.now }
+    ensures asleep { (node : Node) → slice_get graph.now.table.nodes.items k ≡ Some node → result ≡ false →
         IsKindAsleep E.meaning graph.now.table.engines.items node.kind bytes.now }
 {
     if !never_empty(node_at(&graph.table, k).kind) {
@@ -84,7 +90,7 @@ fn wakes_node<E: Engine>(
 }
 
 /// Marks the nodes of engines without a parent that a chunk wakes: those that have the empty span, and those whose row
-/// may fit its bytes.
+/// fits somewhere in its bytes.
 pub fn wake_engines<E: Engine>(
     graph: &Graph<E>,
     bytes: &[u8],

@@ -59,6 +59,13 @@ impl ClassWords {
         })
     }
 
+    /// For how many sets there is room.
+    pub fn count(&self) -> usize
+        ensures { result ≡ self.now.count }
+    {
+        self.count
+    }
+
     /// Forgets what is known of the chunk before. The work is a word for 64 sets.
     pub fn begin(&mut self)
         ensures count { self.new.count ≡ self.old.count }

@@ -2,8 +2,14 @@ use Rattle.std.proofs.Common.{sym, subst, arith}
 use Rattle.std.specs.Prelude.{vec_len}
 use Rattle.std.proofs.lemmas.Option.{slice_get_read}
 use Rattle.hs_nodes.specs.Waking.{row_numbers}
-use Rattle.hs_waking.specs.WakeRows.{AreNumbered}
+use Rattle.hs_waking.specs.Fits.{IsRowBy}
 use Rattle.hs_nodes.proofs.waking.may_fit.Goals as goal
 
-pub returns : goal.returns
-returns c = λ none. (c.index.result.now, slice_get_read c.args.wakes.now.rows.items (vec_len c.args.wakes.now.rows) c.args.place c.index.result.now c.args.wakes.now.rows.ok.0 (omega (arith, c.len.ensures, c.if-place-len.false)) c.index.ensures, λ own numbered. c.fits.ensures none own (subst (λ ns. AreNumbered c.deref.result.now ns own) (sym c.numbers.ensures) (subst (λ ss. AreNumbered ss (row_numbers c.index.result.now) own) (sym c.deref.ensures.value) numbered)))
+pub returns-clause-nowhere : goal.returns-clause-nowhere
+returns-clause-nowhere c = λ none.
+    let rows = c.args.wakes.now.rows in
+    let row = c.index.result.now in (
+      row,
+      slice_get_read rows.items (vec_len rows) c.args.place row rows.ok.0 (omega (arith, c.len.ensures, c.if-place-len.false)) c.index.ensures,
+      λ own numbered. (c.fits.ensures.fits own (subst (λ ns. IsRowBy ns c.deref.result.now own) (sym c.numbers.ensures) (subst (λ ss. IsRowBy (row_numbers row) ss own) (sym c.deref.ensures.value) numbered))).0 none,
+    )
