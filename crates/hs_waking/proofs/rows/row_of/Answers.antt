@@ -1,4 +1,4 @@
-use Rattle.std.proofs.Common.{rules, suc, true, ◌≡◌, ℕ, ◌++◌, [], ◌∷◌, ◌≤◌, false, slice_get, length, length-append, sym, subst, arith}
+use Rattle.std.proofs.Common.{rules, suc, true, ◌≡◌, ℕ, ◌++◌, [], ◌∷◌, ◌≤◌, false, slice_get, length, length-append, sym, ap, subst, arith}
 use Rattle.hs_base.specs.ByteSets.{has}
 use Rattle.hs_engine.specs.Automata.{in_mask, in_set}
 use Rattle.hs_waking.specs.Rows.{HasLevel, IsRowOf}
@@ -18,5 +18,5 @@ loop-level-preserved c =
     record {
       row = subst (IsRowOf a) (sym items) more.0;
       level = subst (λ r. (d : ℕ) → suc d ≡ length r → HasLevel a d c.next_level-level.result) (sym items) more.1;
-      few = omega (arith, length-append row (set ∷ []), items);
+      few = omega (arith, length-append row (set ∷ []), ap (λ r. length r) items);
     }
