@@ -73,14 +73,14 @@ module _ (m : Meaning) (rest : List Piece) (piece : Piece) (part u bytes : List 
       (subst (λ v. AreEntered [] v ((held.entered ++ replicate i true) ++ true ∷ [])) (block-more u bytes i (omega arith))
       (entries-grow [] (u ++ take i bytes) (held.entered ++ replicate i true) (get_or bytes i 0) true own (leaving-begins (u ++ take i bytes) (class_of (get_or bytes i 0))))))
 
-  not-left : (i : ℕ) → i ≤ length bytes → (next : Next) → LeavesBehind [] piece (u ++ take i bytes) next → ⊥
-  not-left i within next leaves =
-      unwoken.asleep.leaves_nothing (piece_tree piece) u held.entered runs held.are.count held.field i within next
+  not-left : (i : ℕ) → 0 < length bytes → i ≤ length bytes → (next : Next) → LeavesBehind [] piece (u ++ take i bytes) next → ⊥
+  not-left i some within next leaves =
+      unwoken.asleep.leaves_nothing (piece_tree piece) u held.entered runs held.are.count held.field i some within next
       ((leaves-listed [] piece (u ++ take i bytes) (held.entered ++ replicate i true) next (entries-to i within)).0 leaves)
 
-  not-empty : (i : ℕ) (next : Next) → i ≤ length bytes → LeavesBehind [] piece (u ++ take i bytes) next ⊎ (LeavesAt [] (u ++ take i bytes) next × IsEmptyAt (piece_tree piece) (u ++ take i bytes) next) → ⊥
-  not-empty i next within (inl leaves) = not-left i within next leaves
-  not-empty i next within (inr both) = null (u ++ take i bytes) next both.1
+  not-empty : (i : ℕ) (next : Next) → 0 < length bytes → i ≤ length bytes → LeavesBehind [] piece (u ++ take i bytes) next ⊎ (LeavesAt [] (u ++ take i bytes) next × IsEmptyAt (piece_tree piece) (u ++ take i bytes) next) → ⊥
+  not-empty i next some within (inl leaves) = not-left i some within next leaves
+  not-empty i next some within (inr both) = null (u ++ take i bytes) next both.1
 
   pub engine-asleep : IsHeld m [] piece part (u ++ bytes) × AreLeftNowhere (piece ∷ []) u bytes
   engine-asleep = (
@@ -90,8 +90,8 @@ module _ (m : Meaning) (rest : List Piece) (piece : Piece) (part u bytes : List 
       field = unwoken.asleep.stays (piece_tree piece) u held.entered runs held.are.count held.field;
     },
     record {
-      before = λ i low leaves. not-empty i (class_of (get_or bytes i 0)) (omega arith) (leaves-last [] rest piece (u ++ take i bytes) (class_of (get_or bytes i 0)) fit leaves);
-      behind = λ i low leaves. not-empty (i + 1) after.Unknown (omega arith) (leaves-last [] rest piece (u ++ take (i + 1) bytes) after.Unknown fit leaves);
+      before = λ i low leaves. not-empty i (class_of (get_or bytes i 0)) (omega arith) (omega arith) (leaves-last [] rest piece (u ++ take i bytes) (class_of (get_or bytes i 0)) fit leaves);
+      behind = λ i low leaves. not-empty (i + 1) after.Unknown (omega arith) (omega arith) (leaves-last [] rest piece (u ++ take (i + 1) bytes) after.Unknown fit leaves);
     },
   )
 

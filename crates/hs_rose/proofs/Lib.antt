@@ -17,3 +17,4 @@ pub mod LawLemmas
 pub mod SizeLemmas
 pub mod PlanLemmas
 pub mod StreamingLemmas
+pub mod MovesRowLemmas

@@ -19,3 +19,4 @@ pub mod RoleLaws
 pub mod Plans
 pub mod Streaming
 pub mod PositionEngines
+pub mod MovesRows

@@ -1,16 +1,19 @@
 //! The engine of an expression by its positions: byte by byte, and a block at once where that serves.
 
-ghost use Rattle.std.specs.Prelude.{◌≡◌, ℕ, ◌<◌, ◌≤◌, length, vec_len, Some, IfOk, MatchOption};
+ghost use Rattle.std.specs.Prelude.{◌≡◌, ℕ, ◌+◌, ◌<◌, ◌≤◌, length, slice_get, true, vec_len, Some, IfOk, MatchOption};
 ghost use Rattle.hs_base.specs.Contexts.{Context};
 ghost use Rattle.hs_block.specs.declared.streams.Streams.{Streams};
 ghost use Rattle.hs_block.specs.StreamSets.{is_from, takes_byte};
 ghost use Rattle.hs_block.specs.WordBits.{word_bit};
+ghost use Rattle.hs_engine.specs.Automata.{in_set};
 ghost use Rattle.hs_limex.specs.LimexEngines.{moves_of_limex};
+ghost use Rattle.hs_rose.specs.MovesRows.{IsMovesLevel};
 
 use hs_base::{ByteSet, NextSet, Prev};
 use hs_block::{BlockEnds, BlockEngine, Streams, run_by_steps};
 use hs_engine::{Automaton, Engine, Steps};
 use hs_limex::Limex;
+use hs_waking::row_of;
 use std::alloc::{AllocError, Global};
 use std::sync::ledger::Ledger;
 
@@ -22,6 +25,8 @@ pub struct PositionEngine {
     limex: Limex,
     /// The tables for blocks, of the same positions.
     streams: Option<Streams>,
+    /// The bytes of the first levels of positions.
+    row: Vec<ByteSet>,
     ghost size_is: { (s : Streams) → streams ≡ Some s → vec_len s.froms ≡ (moves_of_limex limex).size },
     ghost takes_are: { (s : Streams) → streams ≡ Some s → (x b : ℕ) → x < (moves_of_limex limex).size → b < 256 →
         takes_byte s.sets.items s.numbers.items x b ≡ (moves_of_limex limex).reach b x },
@@ -31,6 +36,11 @@ pub struct PositionEngine {
         word_bit s.accepts x ≡ (moves_of_limex limex).accepts c x },
     ghost follows_are: { (s : Streams) → streams ≡ Some s → (x y : ℕ) (c : Context) →
         x < (moves_of_limex limex).size → is_from s.froms.items x y ≡ (moves_of_limex limex).follows y x c },
+    ghost row_some: { 0 < length row.items },
+    ghost row_sets: { (d x b : ℕ) → d < length row.items → IsMovesLevel (moves_of_limex limex) d x → b < 256 →
+        (moves_of_limex limex).reach b x ≡ true → in_set (slice_get row.items d) b ≡ true },
+    ghost row_ends: { (d x : ℕ) (c : Context) → d + 1 < length row.items → IsMovesLevel (moves_of_limex limex) d x →
+        (moves_of_limex limex).accepts c x ≡ true → ⊥ },
 }
 
 impl PositionEngine {
@@ -38,6 +48,7 @@ impl PositionEngine {
     ghost use Rattle.hs_engine.specs.Tables.{Runs};
     ghost use Rattle.hs_block.specs.Blocks.{TakesBlock};
     ghost use Rattle.hs_rose.specs.PositionEngines.{meaning_of_positions};
+    ghost use Rattle.hs_waking.specs.WakeRows.{IsWakeRow};
 
     /// The engine of an automaton, of whose tables it makes its own.
     pub(crate) fn build(alloc: Global, automaton: &Automaton) -> Result<PositionEngine, AllocError>
@@ -46,7 +57,15 @@ impl PositionEngine {
     {
         let limex = Limex::build(alloc, automaton)?;
         let streams = Streams::build(alloc, automaton)?;
-        Ok(PositionEngine { limex, streams })
+        let row = row_of(alloc, automaton)?;
+        Ok(PositionEngine { limex, streams, row })
+    }
+
+    /// The sets of the first bytes of each entry that isn't dead by then.
+    pub(crate) fn row(&self) -> &[ByteSet]
+        ensures { IsWakeRow (meaning_of_positions self.now) result.now }
+    {
+        &self.row
     }
 
     /// Takes a block at once; None where that doesn't serve, and then all is as before.

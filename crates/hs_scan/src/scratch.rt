@@ -24,6 +24,9 @@ use hs_reports::IdentifierEnds;
 use hs_waking::ClassWords;
 use std::alloc::{AllocError, Global};
 
+/// For how many sets of bytes there is room: rows name no more.
+const MAX_SETS: usize = 1 << 16;
+
 /// Memory that a scan uses within a write, for one graph at a time.
 #[derive(Drop)]
 pub struct Scratch {
@@ -70,7 +73,7 @@ impl Scratch {
             contexts: vec![in alloc; Contexts::new(Prev::Start, &[]); MAX_BLOCKS]?,
             hits: vec![in alloc; ChunkHits::NOWHERE; count]?,
             rows: HitRows::new(alloc, count)?,
-            words: ClassWords::new(alloc, graph.wakes.sets.len())?,
+            words: ClassWords::new(alloc, graph.wakes.sets.len().min(MAX_SETS))?,
             course: Course::new(alloc, nodes, identifiers)?,
             finals: IdentifierEnds::new(alloc, identifiers)?,
             last: vec![in alloc; 0u64; word_count_for(identifiers)]?,

@@ -2,3 +2,4 @@ pub mod WakeLemmas
 mod LevelLemmas
 mod WordLemmas
 mod FitLemmas
+pub mod WakerLemmas

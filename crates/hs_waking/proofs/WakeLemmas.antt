@@ -22,7 +22,7 @@ use Rattle.hs_engine.proofs.AgreementLemmas.{leaves-accepting, reached-steps}
 use Rattle.hs_engine.proofs.AutomatonLemmas.{start-clear}
 use Rattle.hs_block.proofs.AnyLemmas.{true-false}
 use Rattle.hs_waking.specs.Fits.{FitsAt, FitsNowhere, FitsTo}
-use Rattle.hs_waking.specs.Rows.{IsAtLevel, IsRowOf, RunsBy}
+use Rattle.hs_waking.specs.Rows.{IsAtLevel, IsRowOf, RunsByRow}
 use Rattle.hs_waking.specs.WakeRows.{IsWakeRow, SleepsOver}
 
 -- one more set has its byte
@@ -138,16 +138,18 @@ rests-behind r region w entries start unreached y = (
   λ reached. absurd (unreached y reached),
 )
 
-pub wake-row : (m : Meaning) (a : Automaton) (row : List ByteSet) → RunsBy m a → IsRowOf a row → IsWakeRow m row
-wake-row m a row by is region bytes start small nowhere = record {
+pub wake-row : (m : Meaning) (row : List ByteSet) → RunsByRow m row → IsWakeRow m row
+wake-row m row by region bytes start small nowhere = record {
   stays = λ tree u entered told len field.
+      let (a, is, runs) = by.told tree told in
       let begun : IsField region (write_out tree) [] [] = (by.field region tree [] [] told).0 (start tree told) in
       let here : IsField region (write_out tree) u entered = (by.field region tree u entered told).0 field in
       (by.field region tree (u ++ bytes) (entered ++ replicate (length bytes) true) told).1
       (rests-behind (write_out tree) region (u ++ bytes) (entered ++ replicate (length bytes) true) begun
-      (unreached-behind a row is bytes nowhere small tree (by.told tree told) u entered len (unreached-start (write_out tree) region u entered begun here)));
+      (unreached-behind a row is bytes nowhere small tree runs u entered len (unreached-start (write_out tree) region u entered begun here)));
   leaves_nothing = λ tree u entered told len field.
+      let (a, is, runs) = by.told tree told in
       let begun : IsField region (write_out tree) [] [] = (by.field region tree [] [] told).0 (start tree told) in
       let here : IsField region (write_out tree) u entered = (by.field region tree u entered told).0 field in
-      left-nowhere a row is bytes nowhere small tree (by.told tree told) u entered len (unreached-start (write_out tree) region u entered begun here);
+      λ i some. left-nowhere a row is bytes nowhere small tree runs u entered len (unreached-start (write_out tree) region u entered begun here) i;
 }

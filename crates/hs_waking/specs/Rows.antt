@@ -34,9 +34,9 @@ pub record IsRowOf (a : Automaton) (row : List ByteSet) : Type 0 where
       in_set (slice_get row d) b ≡ true
   pub ends : (d x : ℕ) (c : Context) → suc d < length row → IsAtLevel a d x → accepts a x c ≡ true → ⊥
 
--- The engine runs expressions by that automaton, and its regions have a bit for each position.
-pub record RunsBy (m : Meaning) (a : Automaton) : Type 0 where
-  pub told : (tree : Tree) → m.is_for tree → Runs a tree
+-- The engine runs expressions by automata of which the row is one, and its regions have a bit for each position.
+pub record RunsByRow (m : Meaning) (row : List ByteSet) : Type 0 where
+  pub told : (tree : Tree) → m.is_for tree → (a : Automaton) × IsRowOf a row × Runs a tree
   pub field : (region : List ℕ) (tree : Tree) (u : List ℕ) (entered : List Bool) →
       m.is_for tree →
       m.field region tree u entered ↔ IsField region (write_out tree) u entered

@@ -21,6 +21,7 @@ pub record SleepsOver (m : Meaning) (region bytes : List ℕ) : Type 0 where
       length entered ≡ length u →
       m.field region tree u entered →
       (i : ℕ) →
+      0 < length bytes →
       i ≤ length bytes →
       (next : Next) → Leaves tree (u ++ take i bytes) (entered ++ replicate i true) next → ⊥
 

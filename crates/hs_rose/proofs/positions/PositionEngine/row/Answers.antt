@@ -1,0 +1,11 @@
+use Rattle.std.proofs.Common.{sym, subst}
+use Rattle.hs_limex.specs.LimexEngines.{moves_of_limex}
+use Rattle.hs_rose.specs.PositionEngines.{meaning_of_positions}
+use Rattle.hs_waking.specs.WakeRows.{IsWakeRow}
+use Rattle.hs_rose.proofs.MovesRowLemmas.{moves-row}
+use Rattle.hs_rose.proofs.positions.PositionEngine.row.Goals as goal
+
+pub returns : goal.returns
+returns c =
+    let own = c.args.self.now in
+    subst (λ ss. IsWakeRow (meaning_of_positions own) ss) (sym c.deref.ensures.value) (moves-row (moves_of_limex own.limex) own.row.items own.row_some own.row_sets own.row_ends)
