@@ -11,6 +11,7 @@ pub mod Walks
 pub mod Resting
 pub mod Living
 pub mod Waking
+pub mod RowTables
 pub mod Graphs
 pub mod Leaving
 pub mod Gathering

@@ -1,0 +1,21 @@
+-- Rows put into a table, set by set.
+use Rattle.std.specs.Prelude.{◌≡◌, ℕ, ◌<◌, ◌≤◌, List, [], ◌∷◌, ◌++◌, length, Some, slice_get, slice_index}
+use Rattle.hs_base.specs.declared.byte_set.ByteSet.{ByteSet}
+use Rattle.hs_nodes.specs.declared.row_table.RowTable.{RowTable}
+use Rattle.hs_nodes.specs.declared.wake_table.WakeRow.{WakeRow}
+
+-- sets that are there stay
+abbrev pub Extends : (old new : List ByteSet) → Type 0
+Extends old new = (k : ℕ) (set : ByteSet) → slice_get old k ≡ Some set → slice_get new k ≡ Some set
+
+-- The first so many numbers are those of the sets of a beginning of these.
+pub record IsCutRow (sets own : List ByteSet) (count : ℕ) (numbers : List ℕ) : Type 0 where
+  pub few : count ≤ length own
+  pub are : (d : ℕ) → d < count → slice_get sets (slice_index numbers d) ≡ slice_get own d
+
+-- Such a row was put behind the others, of which the sets stay.
+pub record PutsRow (old new : RowTable) (own : List ByteSet) : Type 0 where
+  pub row : WakeRow
+  pub rows : new.rows.items ≡ old.rows.items ++ row ∷ []
+  pub kept : Extends old.sets.items new.sets.items
+  pub is : IsCutRow new.sets.items own row.count row.numbers

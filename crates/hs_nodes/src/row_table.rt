@@ -1,0 +1,103 @@
+//! The rows of engines by the numbers of their sets, each of which is kept once.
+
+ghost use Rattle.std.specs.Prelude.{◌≡◌, ◌<◌, ◌≤◌, IfOk, IfSome, Some, length, slice_get};
+ghost use Rattle.hs_nodes.specs.RowTables.{Extends, IsCutRow, PutsRow};
+
+use crate::wake_table::{MAX_ROW, WakeRow};
+use hs_base::ByteSet;
+use std::alloc::{AllocError, Global};
+
+/// The most sets of a table.
+const MAX_SETS: usize = 1_024;
+
+/// The rows of engines, and the sets that they name.
+#[derive(Debug, Drop)]
+pub struct RowTable {
+    /// The rows.
+    pub rows: Vec<WakeRow>,
+    /// The sets of all rows, each once.
+    pub sets: Vec<ByteSet>,
+}
+
+impl RowTable {
+    /// No row.
+    pub fn new(alloc: Global) -> RowTable
+        ensures rows { length result.rows.items ≡ 0 }
+        ensures sets { length result.sets.items ≡ 0 }
+    {
+        RowTable {
+            rows: Vec::new(alloc),
+            sets: Vec::new(alloc),
+        }
+    }
+
+    /// Puts a row behind the others. It ends behind 8 sets, and before one for which there is no room: a shorter row
+    /// tells less. The only error is want of memory.
+    pub fn push(&mut self, row: &[ByteSet]) -> Result<(), AllocError>
+        ensures { IfOk result (λ done. PutsRow self.old self.new row.now) }
+    {
+        let own = self.cut(row)?;
+        self.rows.push(own)?;
+        Ok(())
+    }
+
+    /// The row by the numbers of its sets, as far as there is room.
+    fn cut(&mut self, row: &[ByteSet]) -> Result<WakeRow, AllocError>
+        ensures rows { self.new.rows ≡ self.old.rows }
+        ensures kept { Extends self.old.sets.items self.new.sets.items }
+        ensures row { IfOk result (λ own. IsCutRow self.new.sets.items row.now own.count own.numbers) }
+    {
+        let mut numbers = [0; MAX_ROW];
+        let end = row.len().min(MAX_ROW);
+        for depth in 0..end {
+            let Some(number) = self.number(&row[depth])? else {
+                return Ok(row_to(depth, numbers));
+            };
+            numbers[depth] = number;
+        }
+        Ok(row_to(end, numbers))
+    }
+
+    /// The number of the set, which is put behind the others if it isn't among them; None where there is no room.
+    fn number(&mut self, set: &ByteSet) -> Result<Option<u16>, AllocError>
+        ensures rows { self.new.rows ≡ self.old.rows }
+        ensures kept { Extends self.old.sets.items self.new.sets.items }
+        ensures number { IfOk result (λ found. IfSome found (λ number.
+            slice_get self.new.sets.items number ≡ Some set.now)) }
+    {
+        if let Some(number) = find(&self.sets, set) {
+            return Ok(Some(number as u16));
+        }
+        let number = self.sets.len();
+        if number >= MAX_SETS {
+            return Ok(None);
+        }
+        self.sets.push(*set)?;
+        Ok(Some(number as u16))
+    }
+}
+
+/// The row of the first so many of these numbers.
+fn row_to(count: usize, numbers: [u16; MAX_ROW]) -> WakeRow
+    requires { count ≤ 8 }
+    ensures count { result.count ≡ count }
+    ensures numbers { result.numbers ≡ numbers }
+{
+    WakeRow {
+        count: count as u8,
+        numbers,
+    }
+}
+
+/// The number of an equal set among the first 1,024 that are kept.
+fn find(kept: &[ByteSet], set: &ByteSet) -> Option<usize>
+    ensures there { IfSome result (λ number. slice_get kept.now number ≡ Some set.now) }
+    ensures few { IfSome result (λ number. number < 1024) }
+{
+    for number in 0..kept.len().min(MAX_SETS) {
+        if kept[number] == *set {
+            return Some(number);
+        }
+    }
+    None
+}
