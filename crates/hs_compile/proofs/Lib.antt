@@ -29,3 +29,4 @@ pub mod LoweredLemmas
 pub mod GraphLemmas
 pub mod SoundLemmas
 pub mod RunLemmas
+mod WakeRowLemmas

@@ -10,7 +10,7 @@ use Rattle.hs_layout.specs.Layouts.{AreApart, Laid, laid_size}
 use Rattle.hs_nodes.specs.Graphs.{AreTerminalsSound, FitsLayout, IsCopySound, IsGraphSound}
 use Rattle.hs_nodes.specs.Graphs as nodes
 use Rattle.hs_nodes.specs.Resting.{AreEnginesIdle}
-use Rattle.hs_nodes.specs.Waking.{AreWakesSound}
+use Rattle.hs_nodes.specs.Waking.{AreRowsSound, AreWakesSound}
 use Rattle.hs_nodes.specs.Walks.{IsTableSound}
 use Rattle.hs_nodes.specs.declared.graph.FieldCopy.{FieldCopy}
 use Rattle.hs_nodes.specs.declared.graph.Graph.{Graph}
@@ -191,8 +191,8 @@ module _ (t : Tables) (entries : List Asked) (chains : List (List (List Piece)))
     of_node = λ k below. of-node graph.terminal_starts.items graph.terminals.items k g.by_node (omega (arith, below, g.start_count));
   }
 
-  pub graph-sound : length t.literals < 2 ^ 32 → AreWakesSound graph.table.nodes.items graph.wakes (length t.literals) → AreEnginesIdle piece_meaning graph.table.engines.items → IsGraphSound piece_meaning graph t.literals l
-  graph-sound few wakes idle = record {
+  pub graph-sound : length t.literals < 2 ^ 32 → AreWakesSound graph.table.nodes.items graph.wakes (length t.literals) → AreRowsSound piece_meaning graph.table graph.wakes → AreEnginesIdle piece_meaning graph.table.engines.items → IsGraphSound piece_meaning graph t.literals l
+  graph-sound few wakes rows idle = record {
     table = table-sound;
     few = g.few;
     few_literals = few;
@@ -200,5 +200,6 @@ module _ (t : Tables) (entries : List Asked) (chains : List (List (List Piece)))
     fits = fits-layout;
     terminals = terminals-sound;
     wakes = wakes;
+    rows = rows;
     idle = idle;
   }

@@ -1,10 +1,15 @@
 -- The nodes that a chunk may wake.
 use Rattle.std.specs.Prelude.{◌≡◌, ℕ, ◌<◌, Bool, true, false, List, length, map, Option, Some, None, slice_get}
+use Rattle.hs_base.specs.declared.byte_set.ByteSet.{ByteSet}
+use Rattle.hs_base.specs.declared.context.Mask.{Mask}
 use Rattle.hs_base.specs.Lists.{Each}
 use Rattle.hs_nodes.specs.declared.table.Node.{Node}
 use Rattle.hs_nodes.specs.declared.table.NodeKind.{NodeKind}
 use Rattle.hs_nodes.specs.declared.table.NodeKind.TheVariants.{Engine, Literal, FirstLiteral, LookBack}
 use Rattle.hs_nodes.specs.Waking.{IsListed, waking_literal}
+use Rattle.hs_rose.specs.declared.engine.PieceEngine.{PieceEngine}
+use Rattle.hs_rose.specs.PieceEngines.{piece_meaning}
+use Rattle.hs_waking.specs.WakeRows.{IsWakeRow}
 
 -- the literals that wake the nodes
 abbrev pub waking_literals : List Node → List (Option ℕ)
@@ -33,3 +38,12 @@ pub record AreFirstEngines (nodes : List Node) (n : ℕ) (list : List ℕ) : Typ
   pub known : Each (λ k. k < length nodes) list
   pub all : (k : ℕ) (node : Node) → k < n → slice_get nodes k ≡ Some node →
       is_first_engine node.kind node.parent ≡ true → IsListed list k
+
+-- the row is that of the engine of the node of that number, if it is one
+abbrev pub IsRowAt : List Node → List PieceEngine → (k : ℕ) → (row : List ByteSet) → Type 0
+IsRowAt nodes engines k row =
+    (number : ℕ) (null : Option Mask) (node : Node) (e : PieceEngine) →
+    slice_get nodes k ≡ Some node →
+    node.kind ≡ Engine number null →
+    slice_get engines number ≡ Some e →
+    IsWakeRow (piece_meaning e) row

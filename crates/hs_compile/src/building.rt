@@ -136,7 +136,12 @@ pub(crate) fn build_graph(
 {
     let literals = graph_number(program.literals().len())?;
     let parts = built(alloc, &program, layout)?;
-    let wakes = wake_table(alloc, &parts.nodes.nodes, literals as usize)?;
+    let wakes = wake_table(
+        alloc,
+        &parts.nodes.nodes,
+        literals as usize,
+        program.engines(),
+    )?;
     let identifiers = report_identifiers(alloc, program.identifiers())?;
     idle_engines(alloc, program.engines())?;
     Ok(graph_of(parts, program, identifiers, wakes))

@@ -1,30 +1,39 @@
 //! The nodes that a chunk may wake, as a table.
 
 ghost use Rattle.std.specs.Prelude.{◌≡◌, IfOk, length};
-ghost use Rattle.hs_compile.specs.GraphWakes.{AreFirstEngines, AreWakeable, is_first_engine, waking_literals};
-ghost use Rattle.hs_nodes.specs.Waking.{AreWakesSound, waking_literal};
+ghost use Rattle.hs_compile.specs.GraphWakes.{AreFirstEngines, AreWakeable, IsRowAt, is_first_engine, waking_literals};
+ghost use Rattle.hs_nodes.specs.Waking.{AreRowsOf, AreWakesSound, waking_literal};
+ghost use Rattle.hs_rose.specs.PieceEngines.{piece_meaning};
 
 use crate::graph_numbers::graph_number;
+use hs_base::ByteSet;
 use hs_forest::group;
-use hs_nodes::{Node, NodeKind, WakeTable};
+use hs_nodes::{Node, NodeKind, RowTable, WakeTable};
+use hs_rose::PieceEngine;
 use std::alloc::{AllocError, Global};
 
-/// The nodes that a chunk may wake, for so many literals.
+/// The nodes that a chunk may wake, for so many literals, and what wakes those of engines.
 pub(crate) fn wake_table(
     alloc: Global,
     nodes: &[Node],
     literals: usize,
+    engines: &[PieceEngine],
 ) -> Result<WakeTable, AllocError>
     requires { AreWakeable nodes.now literals }
-    ensures { IfOk result (λ table. AreWakesSound nodes.now table literals) }
+    ensures sound { IfOk result (λ table. AreWakesSound nodes.now table literals) }
+    ensures rows { IfOk result (λ table. AreRowsOf piece_meaning nodes.now engines.now table.first_engines.items
+        table.rows.items table.sets.items) }
 {
     let wakers = literals_before(alloc, nodes)?;
     let groups = group(alloc, &wakers, literals)?;
     let first_engines = first_engines(alloc, nodes)?;
+    let table = row_table(alloc, nodes, &first_engines, engines)?;
     Ok(WakeTable {
         literal_starts: groups.starts,
         literal_nodes: groups.list,
         first_engines,
+        rows: table.rows,
+        sets: table.sets,
     })
 }
 
@@ -67,4 +76,37 @@ fn first_engines(alloc: Global, nodes: &[Node]) -> Result<Vec<u32>, AllocError>
         }
     }
     Ok(list)
+}
+
+/// The row of the engine of the node of that number; where there is none, one that tells nothing.
+fn engine_row<'e>(nodes: &[Node], k: usize, engines: &'e [PieceEngine]) -> &'e [ByteSet]
+    ensures { IsRowAt nodes.now engines.now k result.now }
+{
+    let Some(node) = nodes.get(k) else {
+        return &[];
+    };
+    let NodeKind::Engine(number, _) = node.kind else {
+        return &[];
+    };
+    match engines.get(number as usize) {
+        Some(engine) => engine.row(),
+        None => &[],
+    }
+}
+
+/// What wakes each of the engines of these nodes.
+fn row_table(
+    alloc: Global,
+    nodes: &[Node],
+    list: &[u32],
+    engines: &[PieceEngine],
+) -> Result<RowTable, AllocError>
+    ensures { IfOk result (λ table.
+        AreRowsOf piece_meaning nodes.now engines.now list.now table.rows.items table.sets.items) }
+{
+    let mut table = RowTable::new(alloc);
+    for i in 0..list.len() {
+        table.push(engine_row(nodes, list[i] as usize, engines))?;
+    }
+    Ok(table)
 }

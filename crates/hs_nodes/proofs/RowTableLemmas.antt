@@ -1,5 +1,5 @@
 -- Rows put into a table, set by set.
-use Rattle.std.proofs.Common.{◌≡◌, ℕ, zero, suc, ◌+◌, ◌<◌, Bool, true, List, [], ◌∷◌, ◌++◌, length, get_or, slice_get, Some, nat_eq, refl, sym, ap, subst, ◌∙◌, inl, inr, arith}
+use Rattle.std.proofs.Common.{◌≡◌, ℕ, zero, suc, ◌+◌, ◌<◌, Bool, true, List, [], ◌∷◌, ◌++◌, length, length-set, get_or, slice_get, Some, nat_eq, refl, sym, ap, subst, ◌∙◌, inl, inr, arith}
 use Rattle.std.specs.Prelude.{slice_index, slice_set}
 use Rattle.std.proofs.lemmas.List.{get_or-set_same, get_or-set_other}
 use Rattle.std.specs.Cmp.Lexicographic.{pointwise, same_text}
@@ -16,7 +16,8 @@ same-set kept n d set r below is equal =
     let one : x.words ≡ set.words = same_text x.words set.words (sym (sym is ∙ equal)) in
     slice_get-get_or kept n d below ∙ (λ i. Some (record { words = one i }))
 
-there : (xs : List ByteSet) (k : ℕ) → k < length xs → (x : ByteSet) × (slice_get xs k ≡ Some x)
+-- a set that is there
+pub there : (xs : List ByteSet) (k : ℕ) → k < length xs → (x : ByteSet) × (slice_get xs k ≡ Some x)
 there [] k low = absurd (omega (arith, low))
 there (x ∷ xs) zero low = (x, refl)
 there (x ∷ xs) (suc k) low = there xs k (omega (arith, low))
@@ -30,13 +31,14 @@ extends-then a b c one two k set at = two k set (one k set at)
 
 -- no set
 pub cut-none : (sets own : List ByteSet) (numbers : List ℕ) → IsCutRow sets own 0 numbers
-cut-none sets own numbers = record { few = omega arith; are = λ d low. absurd (omega arith) }
+cut-none sets own numbers = record { few = omega arith; room = omega arith; are = λ d low. absurd (omega arith) }
 
 -- one set more
 pub cut-more : (old new own : List ByteSet) (numbers : List ℕ) (d m n : ℕ) (set : ByteSet) → m ≡ d + 1 → Extends old new → IsCutRow old own d numbers → d < length own → d < length numbers → slice_get own d ≡ Some set → slice_get new n ≡ Some set →
     IsCutRow new own m (slice_set numbers d n)
 cut-more old new own numbers d m n set next kept is below room here last = record {
   few = omega (arith, next, below);
+  room = omega (arith, next, room, length-set numbers d n);
   are = λ e low.
       elim (cases_lt e d) [
         | inl less ↦
@@ -52,6 +54,7 @@ cut-more old new own numbers d m n set next kept is below room here last = recor
 pub cut-kept : (old new own : List ByteSet) (numbers : List ℕ) (d : ℕ) → Extends old new → IsCutRow old own d numbers → IsCutRow new own d numbers
 cut-kept old new own numbers d kept is = record {
   few = is.few;
+  room = is.room;
   are = λ e low.
       let (set, here) = there own e (omega (arith, low, is.few)) in
       kept (slice_index numbers e) set (is.are e low ∙ here) ∙ sym here;

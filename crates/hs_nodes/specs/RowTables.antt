@@ -11,6 +11,7 @@ Extends old new = (k : ℕ) (set : ByteSet) → slice_get old k ≡ Some set →
 -- The first so many numbers are those of the sets of a beginning of these.
 pub record IsCutRow (sets own : List ByteSet) (count : ℕ) (numbers : List ℕ) : Type 0 where
   pub few : count ≤ length own
+  pub room : count ≤ length numbers
   pub are : (d : ℕ) → d < count → slice_get sets (slice_index numbers d) ≡ slice_get own d
 
 -- Such a row was put behind the others, of which the sets stay.

@@ -85,10 +85,14 @@ pub record IsRowFor (m : Meaning) (sets : List ByteSet) (row : WakeRow) : Type 0
   pub wakes : IsWakeRow m own
 
 -- The rows name sets that are there, and the one that stands beside an engine without a parent is one of its own.
-pub record AreRowsSound {E : Type 0} (meaning : E → Meaning) (table : NodeTable E) (wakes : WakeTable) : Type 0 where
-  pub within : (i d : ℕ) (row : WakeRow) → slice_get wakes.rows.items i ≡ Some row →
-      d < length (row_numbers row) → slice_index (row_numbers row) d < length wakes.sets.items
+pub record AreRowsOf {E : Type 0} (meaning : E → Meaning) (nodes : List Node) (engines : List E) (first : List ℕ)
+    (rows : List WakeRow) (sets : List ByteSet) : Type 0 where
+  pub within : (i d : ℕ) (row : WakeRow) → slice_get rows i ≡ Some row → d < length (row_numbers row) →
+      slice_index (row_numbers row) d < length sets
   pub are : (i k number : ℕ) (null : Option Mask) (node : Node) (row : WakeRow) (e : E) →
-      slice_get wakes.first_engines.items i ≡ Some k → slice_get wakes.rows.items i ≡ Some row →
-      slice_get table.nodes.items k ≡ Some node → node.kind ≡ Engine number null →
-      slice_get table.engines.items number ≡ Some e → IsRowFor (meaning e) wakes.sets.items row
+      slice_get first i ≡ Some k → slice_get rows i ≡ Some row → slice_get nodes k ≡ Some node →
+      node.kind ≡ Engine number null → slice_get engines number ≡ Some e → IsRowFor (meaning e) sets row
+
+abbrev pub AreRowsSound : {E : Type 0} → (E → Meaning) → NodeTable E → WakeTable → Type 0
+AreRowsSound meaning table wakes =
+    AreRowsOf meaning table.nodes.items table.engines.items wakes.first_engines.items wakes.rows.items wakes.sets.items

@@ -7,7 +7,7 @@ use Rattle.hs_engine.specs.Automata.{in_set}
 use Rattle.hs_limex.specs.Fitting.{Fits, tables_meaning}
 use Rattle.hs_limex.specs.PositionMoves.{PositionMoves}
 use Rattle.hs_rose.specs.MovesRows.{IsMovesLevel}
-use Rattle.hs_waking.specs.Rows.{IsAtLevel, IsRowOf}
+use Rattle.hs_waking.specs.Rows.{IsAtLevel}
 use Rattle.hs_waking.specs.WakeRows.{IsWakeRow}
 use Rattle.hs_waking.proofs.WakeLemmas.{wake-row}
 
@@ -25,10 +25,14 @@ pub moves-row : (m : PositionMoves) (row : List ByteSet) → 0 < length row →
     ((d x b : ℕ) → d < length row → IsMovesLevel m d x → b < 256 → m.reach b x ≡ true → in_set (slice_get row d) b ≡ true) →
     ((d x : ℕ) (c : Context) → d + 1 < length row → IsMovesLevel m d x → m.accepts c x ≡ true → ⊥) → IsWakeRow (tables_meaning m) row
 moves-row m row some sets ends = wake-row (tables_meaning m) row (record {
-  told = λ tree is. (is.automaton, record {
-    some = some;
-    sets = λ d x b low at small member. sets d x b low (level-from m is.automaton is.fits d x at) small (is.fits.reach b x small ∙ member);
-    ends = λ d x c low at accept. ends d x c (omega (arith, low)) (level-from m is.automaton is.fits d x at) (is.fits.accepts c x ∙ accept);
-  }, is.runs);
+  told = λ tree is. (
+    is.automaton,
+    record {
+      some = some;
+      sets = λ d x b low at small member. sets d x b low (level-from m is.automaton is.fits d x at) small (is.fits.reach b x small ∙ member);
+      ends = λ d x c low at accept. ends d x c (omega (arith, low)) (level-from m is.automaton is.fits d x at) (is.fits.accepts c x ∙ accept);
+    },
+    is.runs,
+  );
   field = λ region tree u entered told. (λ is. is, λ is. is);
 })

@@ -58,7 +58,11 @@ impl PositionEngine {
         let limex = Limex::build(alloc, automaton)?;
         let streams = Streams::build(alloc, automaton)?;
         let row = row_of(alloc, automaton)?;
-        Ok(PositionEngine { limex, streams, row })
+        Ok(PositionEngine {
+            limex,
+            streams,
+            row,
+        })
     }
 
     /// The sets of the first bytes of each entry that isn't dead by then.

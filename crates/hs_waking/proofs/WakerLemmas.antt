@@ -1,5 +1,5 @@
 -- The bytes that wake an engine as a row of one set.
-use Rattle.std.proofs.Common.{◌≡◌, ℕ, zero, suc, ◌+◌, ◌<◌, ◌≤◌, Bool, true, false, ◌||◌, List, [], ◌∷◌, ◌++◌, length, take, replicate, get_or, Some, slice_get, refl, sym, ap, subst, ◌∙◌, arith, length-append}
+use Rattle.std.proofs.Common.{◌≡◌, ℕ, zero, suc, ◌+◌, ◌<◌, ◌≤◌, Bool, true, false, ◌||◌, List, [], ◌∷◌, ◌++◌, length, take, replicate, get_or, refl, sym, ap, subst, ◌∙◌, arith, length-append}
 use Rattle.std.specs.Prelude.{EachIndex, slice_index}
 use Rattle.std.proofs.lemmas.List.{append-nil, append_assoc, length-replicate, length-take-le, replicate-append-replicate, take_all}
 use Rattle.std.proofs.Math.Seq.{take-suc}
@@ -8,7 +8,7 @@ use Rattle.hs_base.specs.ByteSets.{has}
 use Rattle.hs_base.specs.Trees.{Tree}
 use Rattle.hs_engine.specs.Engines.{Meaning, AreWakers, IsAsleep, IsStart}
 use Rattle.hs_waking.specs.Fits.{FitsAt, FitsNowhere}
-use Rattle.hs_waking.specs.WakeRows.{IsWakeRow, SleepsOver}
+use Rattle.hs_waking.specs.WakeRows.{IsWakeRow}
 
 none-or : (b : Bool) → (b ≡ true → ⊥) → b ≡ false
 none-or true not = absurd (not refl)

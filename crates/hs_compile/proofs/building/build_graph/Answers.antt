@@ -9,6 +9,7 @@ use Rattle.hs_rose.specs.PieceEngines.{piece_meaning}
 use Rattle.hs_compile.specs.GraphWakes.{AreWakeable}
 use Rattle.hs_compile.proofs.SoundLemmas.{graph-sound}
 use Rattle.hs_compile.proofs.WakeLemmas.{wakeable, wakes-same}
+use Rattle.hs_compile.proofs.WakeRowLemmas.{rows-same}
 use Rattle.hs_compile.proofs.building.build_graph.Goals as goal
 
 pub built-requires-clause-ready : goal.built-requires-clause-ready
@@ -38,5 +39,6 @@ returns-clause-sound c =
     let is = c.graph_of.ensures in
     let count : c.in_ok-literals.literals ≡ length t.literals = omega (arith, c.in_ok-literals.ensures.is, ap length c.literals.ensures, length-map c.literals.result.now literal_bytes) in
     graph-sound t built.entries built.chains built.is c.args.layout.now c.requires.fits graph (graph-is t c.args.layout.now c.in_ok-parts.parts graph c.in_ok-parts.ensures is.is) (omega (arith, count, c.in_ok-literals.ensures.few))
-    (wakes-same c.deref.result.now graph.table.nodes.items c.in_ok-literals.literals (length t.literals) c.in_ok-wakes.wakes graph.wakes (c.deref.ensures.value ∙ sym is.is.nodes) (sym is.wakes) count c.in_ok-wakes.ensures)
-    (subst (λ es. AreEnginesIdle piece_meaning es) (c.engines.ensures ∙ sym is.is.engines) c.in_ok-idle_engines.ensures)
+    (wakes-same c.deref.result.now graph.table.nodes.items c.in_ok-literals.literals (length t.literals) c.in_ok-wakes.wakes graph.wakes (c.deref.ensures.value ∙ sym is.is.nodes) (sym is.wakes) count c.in_ok-wakes.ensures.sound)
+    (rows-same c.deref.result.now graph.table.nodes.items _ graph.table.engines.items c.in_ok-wakes.wakes graph.wakes (c.deref.ensures.value ∙ sym is.is.nodes) (c.engines.ensures ∙ sym is.is.engines) (sym is.wakes) c.in_ok-wakes.ensures.rows)
+    (subst (λ es. AreEnginesIdle piece_meaning es) (c.engines-2.ensures ∙ sym is.is.engines) c.in_ok-idle_engines.ensures)

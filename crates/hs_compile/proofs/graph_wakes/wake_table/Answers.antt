@@ -9,8 +9,8 @@ group-requires c =
     let are : c.deref.result.now ≡ waking_literals c.args.nodes.now = c.deref.ensures.value ∙ c.in_ok-wakers.ensures in
     subst (λ os. AreOwners os c.args.literals) (sym are) (waking-owners c.args.nodes.now c.args.literals c.requires)
 
-pub returns : goal.returns
-returns c =
+pub returns-clause-sound : goal.returns-clause-sound
+returns-clause-sound c =
     let are : c.deref.result.now ≡ waking_literals c.args.nodes.now = c.deref.ensures.value ∙ c.in_ok-wakers.ensures in
     wakes-sound c.args.nodes.now c.args.literals _ c.requires
     (subst (λ os. AreGroups os c.args.literals c.in_ok-groups.groups.starts.items c.in_ok-groups.groups.list.items) are c.in_ok-groups.ensures)

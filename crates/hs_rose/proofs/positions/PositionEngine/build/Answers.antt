@@ -1,4 +1,4 @@
-use Rattle.std.proofs.Common.{rules, length, ◌∙◌, sym, arith}
+use Rattle.std.proofs.Common.{rules, ◌∙◌, sym, arith}
 use Rattle.hs_rose.proofs.MovesRowLemmas.{level-of}
 use Rattle.hs_rose.proofs.positions.PositionEngine.build.Goals as goal
 
