@@ -1,19 +1,16 @@
 -- Levels as words, and the row that they make.
-use Rattle.std.proofs.Common.{◌≡◌, ℕ, zero, suc, ◌+◌, ◌<◌, ◌≤◌, Bool, true, false, List, [], ◌∷◌, ◌++◌, length, Some, slice_get, refl, sym, ap, subst, ◌∙◌, inl, inr, arith, length-append}
+use Rattle.std.proofs.Common.{◌≡◌, ℕ, zero, suc, ◌<◌, true, false, List, [], ◌∷◌, ◌++◌, length, slice_get, sym, ap, ◌∙◌, inl, inr, arith, length-append}
 use Rattle.std.proofs.lemmas.Bool.{cases_lt}
 use Rattle.hs_base.specs.declared.byte_set.ByteSet.{ByteSet}
 use Rattle.hs_base.specs.declared.context.Next.{Next}
-use Rattle.hs_base.specs.declared.context.Next.TheVariants as after
 use Rattle.hs_base.specs.declared.context.Prev.{Prev}
 use Rattle.hs_base.specs.declared.context.Prev.TheVariants as before
 use Rattle.hs_base.specs.Bits.{has_word_bit}
 use Rattle.hs_base.specs.ByteSets.{has}
-use Rattle.hs_base.specs.Contexts.{Context, prev_number}
+use Rattle.hs_base.specs.Contexts.{Context}
 use Rattle.hs_engine.specs.declared.automaton.Automaton.{Automaton}
-use Rattle.hs_engine.specs.declared.follow_rows.FollowRows.{FollowRows}
 use Rattle.hs_engine.specs.Automata.{accepts, enters, follows, in_set, takes}
 use Rattle.hs_engine.specs.Between.{between}
-use Rattle.hs_engine.specs.Rows.{in_row, in_square, square_number}
 use Rattle.hs_engine.proofs.AgreementLemmas.{get-append, get-seam}
 use Rattle.hs_block.proofs.AnyLemmas.{true-false}
 use Rattle.hs_waking.specs.Rows.{HasLevel, IsAtLevel, IsRowOf}

@@ -1,6 +1,6 @@
 -- Over bytes in which the row of an automaton fits nowhere no position that is reached accepts, and behind them none is
 -- reached.
-use Rattle.std.proofs.Common.{◌≡◌, ℕ, zero, suc, ◌+◌, ◌<◌, ◌≤◌, Bool, true, List, [], ◌∷◌, ◌++◌, length, take, replicate, get_or, Option, Some, slice_get, refl, sym, ap, subst, ◌∙◌, inl, inr, arith, length-append}
+use Rattle.std.proofs.Common.{◌≡◌, ℕ, zero, suc, ◌+◌, ◌<◌, ◌≤◌, Bool, true, List, [], ◌∷◌, ◌++◌, length, take, replicate, get_or, Option, slice_get, sym, ap, subst, ◌∙◌, inl, inr, arith, length-append}
 use Rattle.std.specs.Prelude.{EachIndex, slice_index}
 use Rattle.std.proofs.lemmas.Bool.{cases_lt}
 use Rattle.std.proofs.lemmas.List.{append-nil, append_assoc, length-replicate, length-take-le, replicate-append-replicate, take_all}
@@ -16,14 +16,14 @@ use Rattle.hs_base.specs.WrittenOut.{Core, IsReached, write_out}
 use Rattle.hs_engine.specs.declared.automaton.Automaton.{Automaton}
 use Rattle.hs_engine.specs.Agreement.{IsAccepting, StepsTo, steps_in, steps_on}
 use Rattle.hs_engine.specs.Automata.{enters, follows, in_set, takes}
-use Rattle.hs_engine.specs.Engines.{Meaning, IsStart}
+use Rattle.hs_engine.specs.Engines.{Meaning}
 use Rattle.hs_engine.specs.Tables.{Runs}
 use Rattle.hs_engine.proofs.AgreementLemmas.{leaves-accepting, reached-steps}
 use Rattle.hs_engine.proofs.AutomatonLemmas.{start-clear}
 use Rattle.hs_block.proofs.AnyLemmas.{true-false}
-use Rattle.hs_waking.specs.Fits.{FitsAt, FitsNowhere, FitsTo}
+use Rattle.hs_waking.specs.Fits.{FitsNowhere, FitsTo}
 use Rattle.hs_waking.specs.Rows.{IsAtLevel, IsRowOf, RunsBy}
-use Rattle.hs_waking.specs.WakeRows.{IsWakeRow, SleepsOver}
+use Rattle.hs_waking.specs.WakeRows.{IsWakeRow}
 
 -- one more set has its byte
 pub fits-more : (row : ℕ → Option ByteSet) (bytes : List ℕ) (n p : ℕ) → FitsTo row bytes n p → (p + n < length bytes → in_set (row n) (get_or bytes (p + n) 0) ≡ true) → FitsTo row bytes (suc n) p

@@ -1,5 +1,5 @@
 -- Words of a chunk.
-use Rattle.std.proofs.Common.{◌≡◌, ◌≢◌, ◌↔◌, ℕ, zero, suc, ◌+◌, ◌-◌, ◌*◌, ◌/◌, ◌%◌, ◌^◌, ◌<◌, ◌≤◌, Bool, true, false, not, ◌&&◌, ◌||◌, nat_lt, List, length, get_or, set, take, drop, replicate, Some, slice_get, eqb, bit_or, bit_and, refl, sym, ap, subst, ◌∙◌, inl, inr, arith}
+use Rattle.std.proofs.Common.{◌≡◌, ◌≢◌, ◌↔◌, ℕ, ◌+◌, ◌-◌, ◌*◌, ◌/◌, ◌%◌, ◌^◌, ◌<◌, ◌≤◌, Bool, true, false, not, ◌&&◌, ◌||◌, nat_lt, List, length, get_or, set, take, drop, replicate, Some, slice_get, eqb, bit_or, bit_and, refl, sym, ap, subst, ◌∙◌, inl, inr, arith}
 use Rattle.std.specs.Prelude.{nat_le, min}
 use Rattle.std.specs.Int.{bit_at}
 use Rattle.std.proofs.lemmas.Bool.{cases_eq, cases_lt, eq-eqb, ne_eqb, lt-ltb, le-ltb, lt-leb, le-leb}
@@ -12,7 +12,7 @@ use Rattle.hs_base.specs.Bits.{has_word_bit}
 use Rattle.hs_engine.specs.AnyBelow.{any_below}
 use Rattle.hs_block.proofs.AnyLemmas.{any-some, none-any, true-false, true-or-false}
 use Rattle.hs_base.proofs.ByteSetLemmas.{bit-not}
-use Rattle.hs_bits.proofs.WordLemmas.{or-none, or-turned, words-zero}
+use Rattle.hs_bits.proofs.WordLemmas.{or-none, words-zero}
 use Rattle.hs_block.specs.WordBits.{word_bit}
 use Rattle.hs_block.proofs.PlaceLemmas.{bit-both, bit-either, bit-none, bit-shifted, bit-up}
 use Rattle.hs_block.proofs.PositionWordLemmas.{no-bits, past-word}

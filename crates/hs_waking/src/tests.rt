@@ -118,8 +118,14 @@ fn tells_what_its_slow_twin_tells(rt: HostRuntime) -> Result<(), Fail> {
     let text = mixed_text();
     let mut words = ClassWords::new(rt.alloc(), TABLE.len())?;
     for len in [512, 511, 65, 64, 63, 1, 0] {
-        assert!(rt; agree(rt.alloc(), &TABLE, &mut words, &text[..len])?, "of {len} bytes");
-        assert!(rt; agree(rt.alloc(), &TABLE, &mut words, &text[512 - len..])?, "of {len} bytes");
+        assert!(rt;
+            agree(rt.alloc(), &TABLE, &mut words, &text[..len])?,
+            "of {len} bytes"
+        );
+        assert!(rt;
+            agree(rt.alloc(), &TABLE, &mut words, &text[512 - len..])?,
+            "of {len} bytes"
+        );
     }
     Ok(())
 }

@@ -1,4 +1,4 @@
-use Rattle.std.proofs.Common.{◌&&◌, ◌∙◌, ◌*◌, arith, get_or, bit_and}
+use Rattle.std.proofs.Common.{◌∙◌, arith, get_or, bit_and}
 use Rattle.std.proofs.lemmas.List.{length-set}
 use Rattle.hs_base.specs.Bits.{has_word_bit}
 use Rattle.hs_waking.proofs.WordLemmas.{bit-kept, kept-more}

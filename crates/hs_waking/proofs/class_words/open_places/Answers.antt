@@ -1,6 +1,4 @@
-use Rattle.std.proofs.Common.{◌≡◌, ◌-◌, ◌*◌, ◌&&◌, ℕ, ap, ◌∙◌, arith, nat_lt, min, length, get_or}
-use Rattle.hs_base.specs.ByteSets.{has}
-use Rattle.hs_block.specs.WordBits.{word_bit}
+use Rattle.std.proofs.Common.{◌≡◌, ◌-◌, ◌*◌, ap, ◌∙◌, arith, nat_lt, min, length}
 use Rattle.hs_waking.proofs.WordLemmas.{open-bit}
 use Rattle.hs_waking.proofs.class_words.open_places.Goals as goal
 

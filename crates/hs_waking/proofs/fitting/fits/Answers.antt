@@ -1,4 +1,4 @@
-use Rattle.std.proofs.Common.{◌≡◌, ◌+◌, ◌∙◌, ℕ, Option, true, false, refl, sym, arith, length, get_or, slice_get, rules}
+use Rattle.std.proofs.Common.{◌≡◌, ◌+◌, ◌∙◌, ℕ, Option, true, false, refl, arith, length, get_or, slice_get, rules}
 use Rattle.hs_base.specs.declared.byte_set.ByteSet.{ByteSet}
 use Rattle.hs_base.specs.Bits.{has_word_bit}
 use Rattle.hs_engine.specs.AnyBelow.{any_below}
@@ -22,8 +22,7 @@ returns-then-is_none-clause-fits c row by =
     let numbers = c.args.row.now in
     let depth = c.loop-depth.depth in
     let sets : ℕ → Option ByteSet = λ d. slice_get c.args.sets.now (get_or numbers d 0) in
-    let none : any_below 512 (has_word_bit c.keep_open.new.places) ≡ false = told-none c.is_none.result _ c.is_none.ensures c.if-is_none.true in
-    (
+    let none : any_below 512 (has_word_bit c.keep_open.new.places) ≡ false = told-none c.is_none.result _ c.is_none.ensures c.if-is_none.true in (
       λ told i within fits.
           none-open sets bytes (depth + 1) c.keep_open.new.places (length numbers) c.requires.few
           (open-more sets bytes c.requires.few depth (omega (arith, c.requires.short)) c.loop-depth.places c.keep_open.new.places c.row.result.now c.loop-depth.invariant.places c.keep_open.ensures
@@ -48,8 +47,7 @@ pub returns-clause-fits : goal.returns-clause-fits
 returns-clause-fits c row by =
     let bytes = c.args.bytes.now in
     let numbers = c.args.row.now in
-    let done : c.loop-depth.depth ≡ length numbers = omega arith in
-    (
+    let done : c.loop-depth.depth ≡ length numbers = omega arith in (
       λ told. absurd (let e : true ≡ false = told in cc),
       λ nowhere.
           absurd

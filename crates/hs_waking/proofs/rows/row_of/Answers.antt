@@ -1,6 +1,5 @@
-use Rattle.std.proofs.Common.{rules, suc, true, ◌≡◌, ℕ, ◌++◌, [], ◌∷◌, ◌≤◌, false, slice_get, length, length-append, sym, ap, subst, arith}
-use Rattle.hs_base.specs.ByteSets.{has}
-use Rattle.hs_engine.specs.Automata.{in_mask, in_set}
+use Rattle.std.proofs.Common.{rules, suc, ◌≡◌, ℕ, ◌++◌, [], ◌∷◌, false, slice_get, length, length-append, sym, ap, subst, arith}
+use Rattle.hs_engine.specs.Automata.{in_mask}
 use Rattle.hs_waking.specs.Rows.{HasLevel, IsRowOf}
 use Rattle.hs_waking.proofs.LevelLemmas.{level-more}
 use Rattle.hs_waking.proofs.rows.row_of.Goals as goal

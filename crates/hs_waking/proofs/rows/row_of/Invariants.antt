@@ -1,4 +1,4 @@
-use Rattle.std.proofs.Common.{◌≡◌, ℕ, suc, ◌-◌, ◌≤◌, length, vec_len}
+use Rattle.std.proofs.Common.{◌≡◌, ℕ, suc, ◌-◌, ◌≤◌, length}
 use Rattle.hs_waking.specs.Rows.{HasLevel, IsRowOf}
 use Rattle.hs_waking.proofs.rows.row_of.Given as goal
 
