@@ -235,10 +235,6 @@ behind-marks mask prev u bytes word places =
       above = λ i above. places i ∙ ap (λ t. t && has_context mask (context_behind prev bytes i)) (not-less i n above);
     }
 
--- the places of a whole block whose context is in a mask of some contexts
-pub whole-place : (bytes : List ℕ) (word i : ℕ) (test : Bool) → length bytes ≡ 64 → i < 64 → word_bit word i ≡ (nat_lt i (length bytes) && test) → word_bit word i ≡ test
-whole-place bytes word i test whole below is = is ∙ ap (λ t. t && test) (less-is i (length bytes) (omega arith))
-
 -- of a mask that has every context or none
 pub everywhere-bit : (word i : ℕ) (kept test : Bool) → i < 64 → word_bit word i ≡ (word_bit 18446744073709551615 i && kept) → test ≡ kept → word_bit word i ≡ test
 unfolding word_bit

@@ -11,7 +11,7 @@ use Rattle.hs_base.proofs.ContextLemmas.{first_of_both, second_of_both, of_both,
 use Rattle.hs_bits.specs.LowestBits.{IsLowestBit, AreBitsBehind}
 use Rattle.hs_bits.proofs.WordLemmas.{and-none, and-true, or-none}
 use Rattle.hs_engine.specs.AnyBelow.{any_below}
-use Rattle.hs_engine.specs.Automata.{in_mask}
+use Rattle.hs_engine.specs.Automata.{in_mask, in_set}
 use Rattle.hs_block.specs.declared.streams.Streams.{Streams}
 use Rattle.hs_block.specs.BlockContexts.{context_before, context_behind}
 use Rattle.hs_block.specs.Rows.{Rules, is_next, live_at}
@@ -328,11 +328,13 @@ zero-words n x =
     ]
 
 -- at first all words are 0
-pub settle-first : (s : Streams) (prev : Prev) (state enters : ℕ) (whole words : List ℕ) (todo : ℕ) → length words ≡ 64 → ((x : ℕ) → get_or words x 0 ≡ 0) →
-    ((y : ℕ) → vec_len s.froms ≤ y → word_bit todo y ≡ false) → ((x : ℕ) → word_bit todo x ≡ false → word_bit s.entered x ≡ false) →
+pub settle-first : (s : Streams) (prev : Prev) (state enters first : ℕ) (whole words : List ℕ) (todo : ℕ) → length words ≡ 64 → ((x : ℕ) → get_or words x 0 ≡ 0) →
+    ((i : ℕ) → get_or whole i 0 < 256) → ((i : ℕ) → i < 64 → word_bit first i ≡ in_set (slice_get s.sets.items 0) (get_or whole i 0)) →
+    ((y : ℕ) → vec_len s.froms ≤ y → word_bit todo y ≡ false) →
+    ((x : ℕ) → word_bit todo x ≡ false → word_bit s.entered x ≡ true → (i : ℕ) → (word_bit first i && word_bit enters i) ≡ false) →
     ((x : ℕ) → word_bit todo x ≡ false → any_below (vec_len s.froms) (λ y. word_bit state y && is_from s.froms.items x y) ≡ false) →
     IsSettled (stream_rules s prev enters whole) (word_bit state) words todo 0
-settle-first s prev state enters whole words todo len dark few entered led = record {
+settle-first s prev state enters first whole words todo len dark bytes first_is few entered led = record {
   len = len;
   todo_few = few;
   live_few = λ y past. bit-none y;
@@ -340,18 +342,27 @@ settle-first s prev state enters whole words todo len dark few entered led = rec
   holds = λ x low unset i small.
       let takes : Bool = takes_byte s.sets.items s.numbers.items x (get_or whole i 0) in
       let begins : Bool = word_bit enters i && in_mask (slice_get s.enters.items x) (context_before prev whole i) in
-      let unbegun : begins ≡ false = ap (λ b. word_bit enters i && b) (unentered x (context_before prev whole i) (entered x unset)) ∙ and-none (word_bit enters i) in
       ap (λ w. word_bit w i) (dark x)
       ∙ (bit-none i
-      ∙ sym (ap (λ b. takes && (b || any_below (vec_len s.froms) (λ y. live_at (word_bit state) words i y && is_from s.froms.items x y))) unbegun
-      ∙ (ap (λ b. takes && b) (unled x unset i) ∙ and-none takes)));
+      ∙ sym (ap (λ b. takes && (begins || b)) (unled x unset i)
+      ∙ (ap (λ b. takes && b) (or-none begins) ∙ unbegun x low unset i small)));
 }
   where
-    unentered : (x : ℕ) (c : Context) → word_bit s.entered x ≡ false → in_mask (slice_get s.enters.items x) c ≡ false
-    unentered x c unset = elim (true-or-false (in_mask (slice_get s.enters.items x) c)) [
-      | inl on ↦ true-false (word_bit s.entered x) (s.entered_some x c on) unset
-      | inr off ↦ off
-    ]
+    unbegun : (x : ℕ) → x < vec_len s.froms → word_bit todo x ≡ false → (i : ℕ) → i < 64 →
+        (takes_byte s.sets.items s.numbers.items x (get_or whole i 0) && (word_bit enters i && in_mask (slice_get s.enters.items x) (context_before prev whole i))) ≡ false
+    unbegun x low unset i small =
+        let t : Bool = takes_byte s.sets.items s.numbers.items x (get_or whole i 0) in
+        let m : Bool = in_mask (slice_get s.enters.items x) (context_before prev whole i) in
+        elim (true-or-false (t && (word_bit enters i && m))) [
+          | inr off ↦ off
+          | inl on ↦
+              let both : (word_bit enters i && m) ≡ true = second_of_both t (word_bit enters i && m) on in
+              let may : m ≡ true = second_of_both (word_bit enters i) m both in
+              let member : word_bit first i ≡ true =
+              first_is i small ∙ s.firsts x (get_or whole i 0) (context_before prev whole i) low (bytes i) may (first_of_both t (word_bit enters i && m) on) in
+              true-false (word_bit first i && word_bit enters i) (of_both (word_bit first i) (word_bit enters i) member (first_of_both (word_bit enters i) m both))
+              (entered x unset (s.entered_some x (context_before prev whole i) may) i)
+        ]
 
     unled : (x : ℕ) → word_bit todo x ≡ false → (i : ℕ) → any_below (vec_len s.froms) (λ y. live_at (word_bit state) words i y && is_from s.froms.items x y) ≡ false
     unled x unset zero = led x unset
@@ -359,26 +370,39 @@ settle-first s prev state enters whole words todo len dark few entered led = rec
         ap (λ w. word_bit w i && is_from s.froms.items x y) (dark y) ∙ ap (λ b. b && is_from s.froms.items x y) (bit-none i))
 
 -- the first positions that are to be made: entered ones, live ones, and those to which these lead
-pub first-few : (s : Streams) (state led y : ℕ) → ((y : ℕ) → vec_len s.froms ≤ y → word_bit state y ≡ false) → vec_len s.froms ≤ y →
-    word_bit led y ≡ any_below (length s.successors.items) (λ x. word_bit (get_or s.successors.items x 0) y && word_bit state x) → word_bit (bit_or s.entered (bit_or state led)) y ≡ false
-first-few s state led y state_few past led_is =
-    let none_ : word_bit led y ≡ false = led_is ∙ any-none (length s.successors.items) (λ x. word_bit (get_or s.successors.items x 0) y && word_bit state x) (λ x below.
-    ap (λ b. b && word_bit state x) (s.successors_are x y ∙ (ap (λ b. not (eqb y x) && b) (from-past s.froms.items y x (omega (arith, past, s.froms.ok.0))) ∙ and-none (not (eqb y x))))) in
-    bit-either s.entered (bit_or state led) y
-    ∙ (ap (λ b. b || word_bit (bit_or state led) y) (s.entered_few y past) ∙ (bit-either state led y ∙ (ap (λ b. b || word_bit led y) (state_few y past) ∙ none_)))
 
-pub first-entered : (s : Streams) (state led x : ℕ) → word_bit (bit_or s.entered (bit_or state led)) x ≡ false → word_bit s.entered x ≡ false
-first-entered s state led x unset = elim (true-or-false (word_bit s.entered x)) [
-  | inl on ↦ true-false (word_bit (bit_or s.entered (bit_or state led)) x) (bit-either s.entered (bit_or state led) x ∙ left_of_either (word_bit s.entered x) (word_bit (bit_or state led) x) on) unset
+either-off : (one other x : ℕ) → word_bit (bit_or one other) x ≡ false → word_bit one x ≡ false
+either-off one other x unset = elim (true-or-false (word_bit one x)) [
+  | inl on ↦ true-false (word_bit (bit_or one other) x) (bit-either one other x ∙ left_of_either (word_bit one x) (word_bit other x) on) unset
   | inr off ↦ off
 ]
 
-pub first-led : (s : Streams) (state led x : ℕ) → word_bit led x ≡ any_below (length s.successors.items) (λ y. word_bit (get_or s.successors.items y 0) x && word_bit state y) →
-    word_bit (bit_or s.entered (bit_or state led)) x ≡ false → any_below (vec_len s.froms) (λ y. word_bit state y && is_from s.froms.items x y) ≡ false
-first-led s state led x led_is unset =
+pub first-few : (s : Streams) (entered state led y : ℕ) (begins : Bool) → ((y : ℕ) → word_bit entered y ≡ (word_bit s.entered y && begins)) →
+    ((y : ℕ) → vec_len s.froms ≤ y → word_bit state y ≡ false) → vec_len s.froms ≤ y →
+    word_bit led y ≡ any_below (length s.successors.items) (λ x. word_bit (get_or s.successors.items x 0) y && word_bit state x) → word_bit (bit_or entered (bit_or state led)) y ≡ false
+first-few s entered state led y begins entered_is state_few past led_is =
+    let none_ : word_bit led y ≡ false = led_is ∙ any-none (length s.successors.items) (λ x. word_bit (get_or s.successors.items x 0) y && word_bit state x) (λ x below.
+    ap (λ b. b && word_bit state x) (s.successors_are x y ∙ (ap (λ b. not (eqb y x) && b) (from-past s.froms.items y x (omega (arith, past, s.froms.ok.0))) ∙ and-none (not (eqb y x))))) in
+    bit-either entered (bit_or state led) y
+    ∙ (ap (λ b. b || word_bit (bit_or state led) y) (entered_is y ∙ ap (λ b. b && begins) (s.entered_few y past))
+    ∙ (bit-either state led y ∙ (ap (λ b. b || word_bit led y) (state_few y past) ∙ none_)))
+
+pub first-entered : (s : Streams) (entered state led first enters x i : ℕ) → word_bit entered x ≡ (word_bit s.entered x && not (eqb (bit_and first enters) 0)) →
+    word_bit (bit_or entered (bit_or state led)) x ≡ false → word_bit s.entered x ≡ true → (word_bit first i && word_bit enters i) ≡ false
+first-entered s entered state led first enters x i entered_is unset on =
+    let off : not (eqb (bit_and first enters) 0) ≡ false =
+    sym (ap (λ b. b && not (eqb (bit_and first enters) 0)) on) ∙ (sym entered_is ∙ either-off entered (bit_or state led) x unset) in
+    elim (cases_eq (bit_and first enters) 0) [
+      | inl none_ ↦ sym (bit-both first enters i) ∙ (ap (λ w. word_bit w i) none_ ∙ bit-none i)
+      | inr some ↦ true-false (not (eqb (bit_and first enters) 0)) (ap not (ne_eqb (bit_and first enters) 0 some)) off
+    ]
+
+pub first-led : (s : Streams) (entered state led x : ℕ) → word_bit led x ≡ any_below (length s.successors.items) (λ y. word_bit (get_or s.successors.items y 0) x && word_bit state y) →
+    word_bit (bit_or entered (bit_or state led)) x ≡ false → any_below (vec_len s.froms) (λ y. word_bit state y && is_from s.froms.items x y) ≡ false
+first-led s entered state led x led_is unset =
     let F : ℕ → Bool = λ y. word_bit state y && is_from s.froms.items x y in
-    let either : word_bit (bit_or s.entered (bit_or state led)) x ≡ (word_bit s.entered x || (word_bit state x || word_bit led x)) =
-    bit-either s.entered (bit_or state led) x ∙ ap (λ b. word_bit s.entered x || b) (bit-either state led x) in
+    let either : word_bit (bit_or entered (bit_or state led)) x ≡ (word_bit entered x || (word_bit state x || word_bit led x)) =
+    bit-either entered (bit_or state led) x ∙ ap (λ b. word_bit entered x || b) (bit-either state led x) in
     elim (true-or-false (any_below (vec_len s.froms) F)) [
       | inr off ↦ off
       | inl any ↦
@@ -393,7 +417,7 @@ first-led s state led x led_is unset =
                 (of_both (word_bit (get_or s.successors.items y 0) x) (word_bit state y)
                 (s.successors_are y x ∙ of_both (not (eqb x y)) (is_from s.froms.items x y) (ap not (ne_eqb x y apart)) (second_of_both (word_bit state y) (is_from s.froms.items x y) is)) live))
           ] in
-          true-false (word_bit (bit_or s.entered (bit_or state led)) x) (either ∙ right_of_either (word_bit s.entered x) (word_bit state x || word_bit led x) set) unset
+          true-false (word_bit (bit_or entered (bit_or state led)) x) (either ∙ right_of_either (word_bit entered x) (word_bit state x || word_bit led x) set) unset
     ]
 
 -- what is read from the words
@@ -413,10 +437,10 @@ later-same first f g same zero = refl
 later-same first f g same (suc j) = same j
 
 -- the words of all positions, united
-pub live-bits : (words : List ℕ) (live word size j : ℕ) → length words ≡ 64 → live < 18446744073709551616 → ((y : ℕ) → size ≤ y → word_bit live y ≡ false) → ((y : ℕ) → 64 ≤ y → word_bit live y ≡ false) →
+pub live-bits : (words : List ℕ) (live word size j : ℕ) → length words ≡ 64 → ((y : ℕ) → size ≤ y → word_bit live y ≡ false) → ((y : ℕ) → 64 ≤ y → word_bit live y ≡ false) →
     ((y : ℕ) → word_bit live y ≡ false → get_or words y 0 ≡ 0) → word_bit word j ≡ any_below (length words) (λ y. word_bit (get_or words y 0) j && word_bit live y) →
     word_bit word j ≡ any_below size (λ y. word_bit (get_or words y 0) j)
-live-bits words live word size j room fits few past dark is =
+live-bits words live word size j room few past dark is =
     let F : ℕ → Bool = λ y. word_bit (get_or words y 0) j && word_bit live y in
     is
     ∙ (any-either size (length words) F (λ y high. ap (λ b. word_bit (get_or words y 0) j && b) (few y high) ∙ and-none (word_bit (get_or words y 0) j))

@@ -264,7 +264,7 @@ impl Streams {
     {
         let mut classes = ClassWords::new(first);
         let mut work = Work {
-            todo: self.first_todo(entry.state),
+            todo: self.first_todo(entry, first),
             live: 0,
         };
         for _round in 0..ROUNDS * self.froms.len() {
@@ -279,15 +279,18 @@ impl Streams {
         None
     }
 
-    /// The positions that are entered in some context, those that are live, and those to which one of these leads.
-    fn first_todo(&self, state: u64) -> u64
-        requires state { (y : ℕ) → vec_len self.now.froms ≤ y → word_bit state y ≡ false }
+    /// The positions that are entered in some context, if a first byte stands where the expression is entered, those
+    /// that are live, and those to which one of these leads.
+    fn first_todo(&self, entry: &Entry, first: u64) -> u64
+        requires state { (y : ℕ) → vec_len self.now.froms ≤ y → word_bit entry.now.state y ≡ false }
         ensures few { (y : ℕ) → vec_len self.now.froms ≤ y → word_bit result y ≡ false }
-        ensures entered { (x : ℕ) → word_bit result x ≡ false → word_bit self.now.entered x ≡ false }
-        ensures led { (x : ℕ) → word_bit result x ≡ false →
-            any_below (vec_len self.now.froms) (λ y. word_bit state y && is_from self.now.froms.items x y) ≡ false }
+        ensures entered { (x : ℕ) → word_bit result x ≡ false → word_bit self.now.entered x ≡ true →
+            (i : ℕ) → (word_bit first i && word_bit entry.now.enters i) ≡ false }
+        ensures led { (x : ℕ) → word_bit result x ≡ false → any_below (vec_len self.now.froms)
+            (λ y. word_bit entry.now.state y && is_from self.now.froms.items x y) ≡ false }
     {
-        self.entered | (state | united(&self.successors, state))
+        let entered = only_if(self.entered, first & entry.enters != 0);
+        entered | (entry.state | united(&self.successors, entry.state))
     }
 
     /// Makes the word of the lowest position that is to be made; None where the look at it fails.

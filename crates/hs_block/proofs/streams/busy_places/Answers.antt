@@ -19,7 +19,7 @@ returns c size few i =
     (c.one_later.ensures i (omega (arith, below, c.requires.few))
     ∙ later-same first (word_bit c.united-word.result) live
     (λ j.
-    live-bits words c.args.live c.united-word.result size j c.requires.room c.ranges.live.fits few (λ y past. past-word c.args.live y c.ranges.live.fits past) c.requires.dark (c.united-word.ensures j)) i))
+    live-bits words c.args.live c.united-word.result size j c.requires.room few (λ y past. past-word c.args.live y c.ranges.live.fits past) c.requires.dark (c.united-word.ensures j)) i))
 
 pub united-word-requires : goal.united-word-requires
 united-word-requires c = record { few = λ y past. past-word c.args.live y c.ranges.live.fits (omega (arith, past, c.requires.room)) }

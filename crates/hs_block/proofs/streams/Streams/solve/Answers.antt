@@ -1,4 +1,4 @@
-use Rattle.std.proofs.Common.{subst}
+use Rattle.std.proofs.Common.{subst, arith}
 use Rattle.hs_block.specs.Settling.{IsSettled}
 use Rattle.hs_block.specs.StreamTables.{stream_rules}
 use Rattle.hs_block.specs.WordBits.{word_bit}
@@ -12,8 +12,8 @@ loop-round-init c =
     record {
       known = c.new-classes.ensures s.sets.items c.args.whole.now c.requires.first;
       settled =
-          settle-first s entry.prev entry.state entry.enters c.args.whole.now c.args.words.now c.first_todo.result c.requires.room c.requires.zero c.first_todo.ensures.few c.first_todo.ensures.entered
-          c.first_todo.ensures.led;
+          settle-first s entry.prev entry.state entry.enters c.args.first c.args.whole.now c.args.words.now c.first_todo.result c.requires.room c.requires.zero
+          (λ i. let b = c.type_inv.whole i in omega (arith, b)) c.requires.first c.first_todo.ensures.few c.first_todo.ensures.entered c.first_todo.ensures.led;
     }
 
 pub returns-then-work-eq0-clause-settled : goal.returns-then-work-eq0-clause-settled
