@@ -2,6 +2,7 @@
 use Rattle.std.proofs.Common.{◌≡◌, ◌↔◌, ℕ, zero, suc, ◌+◌, ◌<◌, ◌≤◌, Bool, true, false, nat_lt, ◌&&◌, ◌||◌, List, ◌++◌, length, get_or, take, eqb, refl, sym, ap, subst, ◌∙◌, inl, inr, arith, bit_or, bit_and}
 use Rattle.std.proofs.lemmas.Bool.{cases_lt}
 use Rattle.std.proofs.lemmas.List.{append-nil}
+use Rattle.std.proofs.lemmas.Nat.Bits.{bit_at_ones}
 use Rattle.hs_base.specs.declared.context.Mask.{Mask}
 use Rattle.hs_base.specs.declared.context.Next.{Next}
 use Rattle.hs_base.specs.declared.context.Next.TheVariants as after
@@ -16,7 +17,7 @@ use Rattle.hs_engine.specs.Between.{between}
 use Rattle.hs_block.specs.declared.contexts.Contexts.{Contexts}
 use Rattle.hs_block.specs.declared.contexts.Classes.{Classes}
 use Rattle.hs_block.specs.WordBits.{word_bit, one_later, Marks}
-use Rattle.hs_block.specs.BlockContexts.{is_class, AreClasses, class_word, AreContexts, prev_before, is_part, HasContextBefore, HasContextBehind}
+use Rattle.hs_block.specs.BlockContexts.{is_class, AreClasses, class_word, AreContexts, prev_before, is_part, HasContextBefore, HasContextBehind, context_before, context_behind}
 use Rattle.hs_block.proofs.BlockLemmas.{prev-next}
 use Rattle.hs_block.proofs.PlaceLemmas.{bit-none, bit-both, bit-either, less-is, not-less}
 
@@ -137,7 +138,7 @@ part-bit contexts mask first prev bytes places among set are places_are among_is
     ]
 
 -- what stands before a place of a block, by its stream
-prev-there : (prev : Prev) (u bytes : List ℕ) (i : ℕ) → prev ≡ prev_at u (length u) → i ≤ length bytes → prev_before prev bytes i ≡ prev_at (u ++ take i bytes) (length (u ++ take i bytes))
+pub prev-there : (prev : Prev) (u bytes : List ℕ) (i : ℕ) → prev ≡ prev_at u (length u) → i ≤ length bytes → prev_before prev bytes i ≡ prev_at (u ++ take i bytes) (length (u ++ take i bytes))
 prev-there prev u bytes zero is below = is ∙ ap (λ w. prev_at w (length w)) (sym (append-nil u))
 prev-there prev u bytes (suc j) is below =
     subst (λ k. prev_before prev bytes (suc j) ≡ prev_at (u ++ take k bytes) (length (u ++ take k bytes))) (let e : j + 1 ≡ suc j = omega arith in e)
@@ -162,60 +163,82 @@ same-truth : (a b : Bool) → a ≡ b → (a ≡ true) ↔ (b ≡ true)
 same-truth a b same = ((λ is. sym same ∙ is), (λ is. same ∙ is))
 
 -- the four parts together
-pub before-marks : (mask : Mask) (prev : Prev) (u bytes : List ℕ) (start words newlines others : ℕ) → prev ≡ prev_at u (length u) →
+pub before-places : (mask : Mask) (prev : Prev) (bytes : List ℕ) (start words newlines others : ℕ) →
     ((i : ℕ) → word_bit start i ≡ is_part mask behind.Start prev bytes i) → ((i : ℕ) → word_bit words i ≡ is_part mask behind.Word prev bytes i) →
     ((i : ℕ) → word_bit newlines i ≡ is_part mask behind.Newline prev bytes i) → ((i : ℕ) → word_bit others i ≡ is_part mask behind.Other prev bytes i) →
-    Marks (length bytes) (bit_or start (bit_or words (bit_or newlines others))) (HasContextBefore mask u bytes)
-before-marks mask prev u bytes start words newlines others is p q r s =
+    (i : ℕ) → word_bit (bit_or start (bit_or words (bit_or newlines others))) i ≡ (nat_lt i (length bytes) && has_context mask (context_before prev bytes i))
+before-places mask prev bytes start words newlines others p q r s i =
     let n : ℕ = length bytes in
-    let whole : (i : ℕ) → word_bit (bit_or start (bit_or words (bit_or newlines others))) i
-    ≡ (is_part mask behind.Start prev bytes i || (is_part mask behind.Word prev bytes i || (is_part mask behind.Newline prev bytes i || is_part mask behind.Other prev bytes i))) = λ i.
+    let next : Next = class_of (get_or bytes i 0) in
+    let here : Prev = prev_before prev bytes i in
+    let x : Prev → Bool = λ p'. has_context mask (between p' next) in
     four-words start words newlines others i
-    ∙ same-four (word_bit start i) (word_bit words i) (word_bit newlines i) (word_bit others i) (is_part mask behind.Start prev bytes i) (is_part mask behind.Word prev bytes i)
-    (is_part mask behind.Newline prev bytes i) (is_part mask behind.Other prev bytes i) (p i) (q i) (r i) (s i) in
+    ∙ (same-four (word_bit start i) (word_bit words i) (word_bit newlines i) (word_bit others i) (is_part mask behind.Start prev bytes i) (is_part mask behind.Word prev bytes i)
+    (is_part mask behind.Newline prev bytes i) (is_part mask behind.Other prev bytes i) (p i) (q i) (r i) (s i)
+    ∙ elim (cases_lt i n) [
+      | inl below ↦
+          let low : nat_lt i n ≡ true = less-is i n below in
+          ap (λ t. (t && (eqb (prev_number here) 0 && x behind.Start)) || ((t && (eqb (prev_number here) 1 && x behind.Word)) || ((t && (eqb (prev_number here) 2 && x behind.Newline)) || (t && (eqb (prev_number here) 3 && x behind.Other))))) low
+          ∙ (picks-prev here x ∙ sym (ap (λ t. t && x here) low))
+      | inr above ↦
+          let high : nat_lt i n ≡ false = not-less i n above in
+          ap (λ t. (t && (eqb (prev_number here) 0 && x behind.Start)) || ((t && (eqb (prev_number here) 1 && x behind.Word)) || ((t && (eqb (prev_number here) 2 && x behind.Newline)) || (t && (eqb (prev_number here) 3 && x behind.Other))))) high
+          ∙ sym (ap (λ t. t && x here) high)
+    ])
+
+pub before-marks : (mask : Mask) (prev : Prev) (u bytes : List ℕ) (word : ℕ) → prev ≡ prev_at u (length u) →
+    ((i : ℕ) → word_bit word i ≡ (nat_lt i (length bytes) && has_context mask (context_before prev bytes i))) → Marks (length bytes) word (HasContextBefore mask u bytes)
+before-marks mask prev u bytes word is places =
+    let n : ℕ = length bytes in
     record {
       below = λ i below.
           let next : Next = class_of (get_or bytes i 0) in
-          let here : Prev = prev_before prev bytes i in
           let x : Prev → Bool = λ p'. has_context mask (between p' next) in
-          let low : nat_lt i n ≡ true = less-is i n below in
-          same-truth (word_bit (bit_or start (bit_or words (bit_or newlines others))) i) (has_context mask (context_of (u ++ take i bytes) next))
-          (whole i
-          ∙ (ap (λ t. (t && (eqb (prev_number here) 0 && x behind.Start)) || ((t && (eqb (prev_number here) 1 && x behind.Word)) || ((t && (eqb (prev_number here) 2 && x behind.Newline)) || (t && (eqb (prev_number here) 3 && x behind.Other))))) low
-          ∙ (picks-prev here x ∙ ap x (prev-there prev u bytes i is (omega arith)))));
-      above = λ i above.
-          let next : Next = class_of (get_or bytes i 0) in
-          let here : Prev = prev_before prev bytes i in
-          let x : Prev → Bool = λ p'. has_context mask (between p' next) in
-          whole i
-          ∙ ap (λ t. (t && (eqb (prev_number here) 0 && x behind.Start)) || ((t && (eqb (prev_number here) 1 && x behind.Word)) || ((t && (eqb (prev_number here) 2 && x behind.Newline)) || (t && (eqb (prev_number here) 3 && x behind.Other))))) (not-less i n above);
+          same-truth (word_bit word i) (has_context mask (context_of (u ++ take i bytes) next))
+          (places i ∙ (ap (λ t. t && x (prev_before prev bytes i)) (less-is i n below) ∙ ap x (prev-there prev u bytes i is (omega arith))));
+      above = λ i above. places i ∙ ap (λ t. t && has_context mask (context_before prev bytes i)) (not-less i n above);
     }
 
-pub behind-marks : (contexts : Contexts) (mask : Mask) (prev : Prev) (u bytes : List ℕ) (words newlines others : ℕ) → AreContexts contexts prev bytes →
+pub behind-places : (contexts : Contexts) (mask : Mask) (prev : Prev) (bytes : List ℕ) (words newlines others : ℕ) → AreContexts contexts prev bytes →
     ((i : ℕ) → word_bit words i ≡ (word_bit contexts.classes.words i && has_context mask (between behind.Word after.Unknown))) →
     ((i : ℕ) → word_bit newlines i ≡ (word_bit contexts.classes.newlines i && has_context mask (between behind.Newline after.Unknown))) →
     ((i : ℕ) → word_bit others i ≡ (word_bit contexts.classes.others i && has_context mask (between behind.Other after.Unknown))) →
-    Marks (length bytes) (bit_or words (bit_or newlines others)) (HasContextBehind mask u bytes)
-behind-marks contexts mask prev u bytes words newlines others are p q r =
+    (i : ℕ) → word_bit (bit_or words (bit_or newlines others)) i ≡ (nat_lt i (length bytes) && has_context mask (context_behind prev bytes i))
+behind-places contexts mask prev bytes words newlines others are p q r i =
     let n : ℕ = length bytes in
     let classes : Classes = contexts.classes in
     let x : Prev → Bool = λ p'. has_context mask (between p' after.Unknown) in
-    let whole : (i : ℕ) → word_bit (bit_or words (bit_or newlines others)) i
-    ≡ ((word_bit classes.words i && x behind.Word) || ((word_bit classes.newlines i && x behind.Newline) || (word_bit classes.others i && x behind.Other))) = λ i.
-    three-words words newlines others i (word_bit classes.words i && x behind.Word) (word_bit classes.newlines i && x behind.Newline) (word_bit classes.others i && x behind.Other) (p i) (q i) (r i) in
-    record {
-      below = λ i below.
-          let line : Bool = eqb (get_or bytes i 0) line_feed in
-          let word : Bool = is_word_byte (get_or bytes i 0) in
-          same-truth (word_bit (bit_or words (bit_or newlines others)) i) (has_context mask (context_of (u ++ take (i + 1) bytes) after.Unknown))
-          (whole i
-          ∙ (same-three (word_bit classes.words i) (word_bit classes.newlines i) (word_bit classes.others i) (is_class after.Word bytes i) (is_class after.Newline bytes i) (is_class after.Other bytes i)
+    let here : Bool = x (prev_before prev bytes (suc i)) in
+    three-words words newlines others i (word_bit classes.words i && x behind.Word) (word_bit classes.newlines i && x behind.Newline) (word_bit classes.others i && x behind.Other) (p i) (q i) (r i)
+    ∙ elim (cases_lt i n) [
+      | inl below ↦
+          same-three (word_bit classes.words i) (word_bit classes.newlines i) (word_bit classes.others i) (is_class after.Word bytes i) (is_class after.Newline bytes i) (is_class after.Other bytes i)
           (x behind.Word) (x behind.Newline) (x behind.Other) (class-below n i (word_bit classes.words i) (is_class after.Word bytes i) (are.classes.words i) below)
           (class-below n i (word_bit classes.newlines i) (is_class after.Newline bytes i) (are.classes.newlines i) below)
           (class-below n i (word_bit classes.others i) (is_class after.Other bytes i) (are.classes.others i) below)
-          ∙ (picks-behind line word x ∙ ap x (prev-next bytes u i (prev_by line word) below refl))));
-      above = λ i above. whole i ∙ among-above classes bytes n i (x behind.Word) (x behind.Newline) (x behind.Other) are.classes above;
+          ∙ (picks-behind (eqb (get_or bytes i 0) line_feed) (is_word_byte (get_or bytes i 0)) x ∙ sym (ap (λ t. t && here) (less-is i n below)))
+      | inr above ↦
+          among-above classes bytes n i (x behind.Word) (x behind.Newline) (x behind.Other) are.classes above ∙ sym (ap (λ t. t && here) (not-less i n above))
+    ]
+
+pub behind-marks : (mask : Mask) (prev : Prev) (u bytes : List ℕ) (word : ℕ) →
+    ((i : ℕ) → word_bit word i ≡ (nat_lt i (length bytes) && has_context mask (context_behind prev bytes i))) → Marks (length bytes) word (HasContextBehind mask u bytes)
+behind-marks mask prev u bytes word places =
+    let n : ℕ = length bytes in
+    let x : Prev → Bool = λ p'. has_context mask (between p' after.Unknown) in
+    record {
+      below = λ i below.
+          let line : Bool = eqb (get_or bytes i 0) line_feed in
+          let letter : Bool = is_word_byte (get_or bytes i 0) in
+          same-truth (word_bit word i) (has_context mask (context_of (u ++ take (i + 1) bytes) after.Unknown))
+          (places i ∙ (ap (λ t. t && x (prev_by line letter)) (less-is i n below) ∙ ap x (prev-next bytes u i (prev_by line letter) below refl)));
+      above = λ i above. places i ∙ ap (λ t. t && has_context mask (context_behind prev bytes i)) (not-less i n above);
     }
+
+-- of a mask that has every context or none
+pub everywhere-bit : (word i : ℕ) (kept test : Bool) → i < 64 → word_bit word i ≡ (word_bit 18446744073709551615 i && kept) → test ≡ kept → word_bit word i ≡ test
+unfolding word_bit
+everywhere-bit word i kept test below is same = is ∙ (ap (λ b. eqb b 1 && kept) (bit_at_ones 64 i below) ∙ sym same)
 
 -- the classes of no byte, and of one more
 pub classes-none : (bytes : List ℕ) → AreClasses (record { words = 0; newlines = 0; others = 0 }) bytes 0

@@ -7,11 +7,13 @@ pub mod LiteralWordLemmas
 pub mod LiteralBlockLemmas
 pub mod ContextLemmas
 pub mod ClassLaneLemmas
+pub mod ClassWordLemmas
+pub mod MaskLemmas
 pub mod AnyLemmas
 pub mod PackedLemmas
 pub mod StreamRowLemmas
 pub mod PositionWordLemmas
-pub mod StreamPassLemmas
+pub mod StreamSettleLemmas
 pub mod StreamRunLemmas
 pub mod TableLemmas
 pub mod SetTableLemmas

@@ -12,7 +12,7 @@ use Rattle.hs_base.proofs.BitLemmas.{same-places, zero-bits}
 use Rattle.hs_base.proofs.ContextLemmas.{first_of_both, second_of_both, of_both, of_either, left_of_either, right_of_either}
 use Rattle.hs_base.proofs.ContextSetLemmas.{bit-all, bit-and}
 use Rattle.hs_bits.specs.LowestBits.{IsLowestBit, AreBitsBehind}
-use Rattle.hs_bits.proofs.LowestLemmas.{others-stay}
+use Rattle.hs_bits.proofs.LowestLemmas.{lowest-gone, others-stay}
 use Rattle.hs_bits.proofs.WordLemmas.{and-true, or-none, or-turned, shl-bit}
 use Rattle.hs_engine.specs.AnyBelow.{any_below}
 use Rattle.hs_block.specs.Blocks.{is_blank}
@@ -32,6 +32,13 @@ no-bits word none_ = same_from_bits word 0 (λ k. omega (arith, bit_at-lt word k
 pub past-word : (word k : ℕ) → word < 2 ^ 64 → 64 ≤ k → word_bit word k ≡ false
 unfolding word_bit
 past-word word k fits past = ap (λ n. eqb n 1) (bit_at_above word 64 k fits past)
+
+pub both-past : (word other k : ℕ) → other < 2 ^ 64 → 64 ≤ k → word_bit (bit_and word other) k ≡ false
+both-past word other k fits past = bit-both word other k ∙ (ap (λ b. word_bit word k && b) (past-word other k fits past) ∙ and-false (word_bit word k))
+  where
+    and-false : (a : Bool) → (a && false) ≡ false
+    and-false true = refl
+    and-false false = refl
 
 -- two words have a bit in common
 pub meet-is : (one other size : ℕ) → ((y : ℕ) → size ≤ y → word_bit other y ≡ false) → not (eqb (bit_and one other) 0) ≡ any_below size (λ y. word_bit one y && word_bit other y)
@@ -67,11 +74,11 @@ module _ (n left place rest : ℕ) (low : IsLowestBit left place) (behind : AreB
   abbrev Rest : ℕ → Bool
   Rest y = w y && word_bit rest y
 
-  is-left : word_bit left place ≡ true
+  pub is-left : word_bit left place ≡ true
   unfolding word_bit
   is-left = eq-eqb (bit_at left place) 1 low.is
 
-  stays : (y : ℕ) → y ≢ place → word_bit rest y ≡ word_bit left y
+  pub stays : (y : ℕ) → y ≢ place → word_bit rest y ≡ word_bit left y
   unfolding word_bit
   stays y apart = ap (λ b. eqb b 1) (others-stay left place rest low behind y apart)
 
@@ -104,6 +111,10 @@ module _ (n left place rest : ℕ) (low : IsLowestBit left place) (behind : AreB
   pub few-left : ((y : ℕ) → n ≤ y → word_bit left y ≡ false) → (y : ℕ) → n ≤ y → word_bit rest y ≡ false
   few-left few y past = stays y (λ e. absurd (omega arith)) ∙ few y past
 
+  pub gone : word_bit rest place ≡ false
+  unfolding word_bit
+  gone = ap (λ n. eqb n 1) (lowest-gone left place rest behind)
+
 -- a bit that is set is one of so many
 pub lowest-within : (n left place : ℕ) → IsLowestBit left place → ((y : ℕ) → n ≤ y → word_bit left y ≡ false) → place < n
 unfolding word_bit
@@ -120,6 +131,32 @@ united-none n left w none_ all =
     and-false : (a : Bool) → (a && false) ≡ false
     and-false true = refl
     and-false false = refl
+
+-- the positions of some numbers that pass a test: those that are left are still to be looked at
+pub column-more : (n left place rest : ℕ) (low : IsLowestBit left place) (behind : AreBitsBehind left place rest) (below : place < n) (test : ℕ → Bool) (now old all : ℕ → Bool) →
+    ((x : ℕ) → now x ≡ ((eqb x place && test place) || old x)) → ((x : ℕ) → (old x || (word_bit left x && test x)) ≡ all x) → (x : ℕ) → (now x || (word_bit rest x && test x)) ≡ all x
+column-more n left place rest low behind below test now old all is whole x =
+    elim (cases_eq x place) [
+      | inl same ↦
+          let set : word_bit left x ≡ true = ap (word_bit left) same ∙ is-left n left place rest low behind below test in
+          let off : word_bit rest x ≡ false = ap (word_bit rest) same ∙ gone n left place rest low behind below test in
+          ap (λ b. b || (word_bit rest x && test x)) (is x ∙ (ap (λ b. (b && test place) || old x) (eq-eqb x place same) ∙ ap (λ k. test k || old x) (sym same)))
+          ∙ (ap (λ b. (test x || old x) || (b && test x)) off
+          ∙ (or-none (test x || old x) ∙ (or-turned (test x) (old x) ∙ (sym (ap (λ b. old x || (b && test x)) set) ∙ whole x))))
+      | inr apart ↦
+          ap (λ b. b || (word_bit rest x && test x)) (is x ∙ ap (λ b. (b && test place) || old x) (ne_eqb x place apart))
+          ∙ (ap (λ b. old x || (b && test x)) (stays n left place rest low behind below test x apart) ∙ whole x)
+    ]
+
+-- where no place is begun or led to
+pub unreached : (base led i : ℕ) → not (eqb (bit_or base (led * 2 % 18446744073709551616)) 0) ≡ false → i < 64 → (word_bit base i || (nat_le 1 i && word_bit led (i - 1))) ≡ false
+unreached base led i off below =
+    let none_ : bit_or base (led * 2 % 18446744073709551616) ≡ 0 = eqb-true (bit_or base (led * 2 % 18446744073709551616)) 0 (unnot (eqb (bit_or base (led * 2 % 18446744073709551616)) 0) off) in
+    sym (bit-either base (led * 2 % 18446744073709551616) i ∙ ap (λ b. word_bit base i || b) (bit-up led 1 i below)) ∙ (ap (λ w. word_bit w i) none_ ∙ bit-none i)
+  where
+    unnot : (b : Bool) → not b ≡ false → b ≡ true
+    unnot true is = refl
+    unnot false is = absurd (let e : true ≡ false = is in cc)
 
 -- the places of a class that are begun or led to
 pub next-bit : (class base led i : ℕ) → i < 64 →

@@ -1,23 +1,19 @@
 -- Tables of positions, made bit by bit.
-use Rattle.std.proofs.Common.{◌≡◌, ℕ, ◌+◌, ◌-◌, ◌*◌, ◌/◌, ◌%◌, ◌^◌, ◌<◌, ◌≤◌, Bool, true, false, not, ◌&&◌, ◌||◌, List, length, get_or, slice_get, eqb, bit_or, sym, ap, ◌∙◌, inl, inr, arith}
-use Rattle.std.proofs.lemmas.Bool.{cases_eq, cases_lt, le-leb, le-ltb}
+use Rattle.std.proofs.Common.{◌≡◌, ℕ, ◌+◌, ◌*◌, ◌<◌, ◌≤◌, Bool, true, false, not, ◌&&◌, ◌||◌, List, length, get_or, eqb, sym, ap, ◌∙◌, inl, inr, arith}
+use Rattle.std.proofs.lemmas.Bool.{cases_eq, cases_lt, eq-eqb, le-ltb, ne_eqb}
 use Rattle.hs_base.specs.Bits.{has_bit}
 use Rattle.hs_base.specs.Contexts.{Context}
-use Rattle.hs_base.proofs.ContextLemmas.{left_of_either, right_of_either}
 use Rattle.std.specs.Prelude.{nat_lt}
 use Rattle.hs_engine.specs.declared.automaton.Automaton.{Automaton}
 use Rattle.hs_engine.specs.declared.follow_rows.FollowRows.{FollowRows}
-use Rattle.hs_base.specs.declared.context.Mask.{Mask}
 use Rattle.hs_bits.proofs.WordLemmas.{and-none}
-use Rattle.hs_engine.specs.Automata.{follows, in_mask}
-use Rattle.hs_block.proofs.AnyLemmas.{true-false}
-use Rattle.std.proofs.lemmas.Option.{slice_get_past}
+use Rattle.hs_engine.specs.Automata.{follows}
 use Rattle.hs_engine.specs.RowSizes.{row_len}
 use Rattle.hs_engine.specs.Rows.{in_row, in_square, row_start, square_number}
-use Rattle.hs_block.specs.StreamSets.{any_context, is_from}
+use Rattle.hs_block.specs.StreamSets.{AreOrders, any_context, is_from}
 use Rattle.hs_block.specs.WordBits.{word_bit}
 use Rattle.std.proofs.lemmas.List.{get_or_past}
-use Rattle.hs_block.proofs.PlaceLemmas.{bit-either, bit-none, bit-shifted, bit-up}
+use Rattle.hs_block.proofs.PlaceLemmas.{bit-none, less-is, not-less}
 
 -- beyond its positions nothing follows
 pub row-past : (rows : FollowRows) (x y : ℕ) (c : Context) → rows.size ≤ x → in_row rows x y c ≡ false
@@ -31,25 +27,6 @@ same-follows a one x y c =
     let here : square_number a.follows.by_context c ≡ 0 = ap (λ b. square_number b c) one in
     let there : square_number a.follows.by_context any_context ≡ 0 = ap (λ b. square_number b any_context) one in
     ap (λ n. in_square a.follows n x y) (there ∙ sym here)
-
--- the bits of a word above a place
-pub above-bit : (word d i : ℕ) → d ≤ i → i < 64 → word_bit word i ≡ true → word_bit (word / 2 ^ d * 2 ^ d % 18446744073709551616) i ≡ true
-above-bit word d i high small is =
-    let place : d + (i - d) ≡ i = omega arith in
-    bit-up (word / 2 ^ d) d i small ∙ (ap (λ b. b && word_bit (word / 2 ^ d) (i - d)) (le-leb d i high) ∙ (bit-shifted word d (i - d) ∙ (ap (word_bit word) place ∙ is)))
-
--- one more position whose own come before lesser ones
-pub back-more : (froms : List ℕ) (p old : ℕ) → ((x y : ℕ) → x < p → x < y → y < 64 → is_from froms x y ≡ true → word_bit old y ≡ true) → (x y : ℕ) → x < p + 1 → x < y → y < 64 → is_from froms x y ≡ true →
-    word_bit (bit_or old (get_or froms p 0 / 2 ^ (p + 1) * 2 ^ (p + 1) % 18446744073709551616)) y ≡ true
-back-more froms p old before x y low less small is =
-    let more : ℕ = get_or froms p 0 / 2 ^ (p + 1) * 2 ^ (p + 1) % 18446744073709551616 in
-    bit-either old more y
-    ∙ elim (cases_eq x p) [
-      | inl same ↦
-          right_of_either (word_bit old y) (word_bit more y)
-          (above-bit (get_or froms p 0) (p + 1) y (omega arith) small (ap (λ k. word_bit (get_or froms k 0) y) (sym same) ∙ is))
-      | inr apart ↦ left_of_either (word_bit old y) (word_bit more y) (before x y (omega arith) less small is)
-    ]
 
 -- beyond the list no bit is set
 pub from-past : (froms : List ℕ) (x y : ℕ) → length froms ≤ x → is_from froms x y ≡ false
@@ -76,21 +53,45 @@ others-are rows froms others count count' are are' x y =
       | inr above ↦ from-past others x y (omega arith) ∙ sym (ap (λ b. not (eqb y x) && b) (from-past froms x y (omega arith)) ∙ and-none (not (eqb y x)))
     ]
 
-abbrev pub AreBacks : List ℕ → ℕ → Type 0
-AreBacks froms backs = (x y : ℕ) → x < y → y < 64 → is_from froms x y ≡ true → word_bit backs y ≡ true
+-- what a position takes is what the automaton says
+pub froms-follow : (a : Automaton) (x y : ℕ) (c : Context) → a.follows.by_context ≡ false → in_row a.follows y x any_context ≡ follows a y x c
+froms-follow a x y c one = same-follows a one y x c
 
-pub backs-are : (rows : FollowRows) (froms : List ℕ) (backs : ℕ) → rows.size ≤ 16 → length froms ≡ rows.size → AreBefore true rows froms →
-    AreBacks froms backs → (x y : ℕ) → x < y → is_from froms x y ≡ true → word_bit backs y ≡ true
-backs-are rows froms backs few count are back x y less is =
-    elim (cases_lt y rows.size) [
-      | inl below ↦ back x y less (omega arith) is
-      | inr past ↦ true-false (is_from froms x y) is (froms-few rows froms count are x y past)
+-- the positions behind each, by those before each
+abbrev pub AreTurned : List ℕ → List ℕ → Type 0
+AreTurned words turned = (x y : ℕ) → x < length words → word_bit (get_or turned x 0) y ≡ (nat_lt y (length words) && is_from words y x)
+
+pub successors-are : (rows : FollowRows) (froms others successors : List ℕ) → length froms ≡ rows.size → length others ≡ rows.size → length successors ≡ length others → AreBefore true rows froms →
+    AreBefore false rows others → AreTurned others successors → (x y : ℕ) → word_bit (get_or successors x 0) y ≡ (not (eqb y x) && is_from froms y x)
+successors-are rows froms others successors count count' count'' are are' turned x y =
+    let other : word_bit (get_or others y 0) x ≡ (not (eqb x y) && is_from froms y x) = others-are rows froms others count count' are are' y x in
+    let swapped : not (eqb x y) ≡ not (eqb y x) = ap not (eqb-swapped x y) in
+    let there : word_bit (get_or others y 0) x ≡ (not (eqb y x) && is_from froms y x) = other ∙ ap (λ b. b && is_from froms y x) swapped in
+    elim (cases_lt x (length others)) [
+      | inr past ↦
+          from-past successors x y (omega arith) ∙ sym (ap (λ b. not (eqb y x) && b) (froms-few rows froms count are y x (omega arith)) ∙ and-none (not (eqb y x)))
+      | inl below ↦
+          turned x y below
+          ∙ elim (cases_lt y (length others)) [
+            | inl inside ↦ ap (λ b. b && is_from others y x) (less-is y (length others) inside) ∙ there
+            | inr high ↦ ap (λ b. b && is_from others y x) (not-less y (length others) high) ∙ (sym (from-past others y x high) ∙ there)
+          ]
+    ]
+  where
+    eqb-swapped : (a b : ℕ) → eqb a b ≡ eqb b a
+    eqb-swapped a b = elim (cases_eq a b) [
+      | inl same ↦ eq-eqb a b same ∙ sym (eq-eqb b a (sym same))
+      | inr apart ↦ ne_eqb a b apart ∙ sym (ne_eqb b a (λ e. apart (sym e)))
     ]
 
--- a mask beyond the list
-pub mask-past : (masks : List Mask) (word : ℕ) (c : Context) (y : ℕ) → word_bit word y ≡ in_mask (slice_get masks y) c → length masks ≤ y → word_bit word y ≡ false
-mask-past masks word c y is past = is ∙ ap (λ o. in_mask o c) (slice_get_past masks y past)
-
--- what a position takes is what the automaton says
-pub froms-follow : (a : Automaton) (froms : List ℕ) → a.follows.by_context ≡ false → AreBefore true a.follows froms → (x y : ℕ) (c : Context) → x < a.follows.size → is_from froms x y ≡ follows a y x c
-froms-follow a froms one are x y c below = are x y below ∙ same-follows a one y x c
+pub orders-are : (rows : FollowRows) (froms others successors : List ℕ) → length froms ≡ rows.size → length others ≡ rows.size → length successors ≡ length others → AreBefore true rows froms →
+    AreBefore false rows others → AreTurned others successors → AreOrders rows froms others successors
+orders-are rows froms others successors count count' count'' are are' turned = record {
+  froms_count = count;
+  others_count = count';
+  successors_count = count'' ∙ count';
+  froms_are = are;
+  few = froms-few rows froms count are;
+  others_are = others-are rows froms others count count' are are';
+  successors_are = successors-are rows froms others successors count count' count'' are are' turned;
+}

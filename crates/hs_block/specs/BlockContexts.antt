@@ -1,13 +1,13 @@
 -- The contexts of the places of a block, by words.
 use Rattle.std.specs.Prelude.{◌≡◌, ℕ, zero, suc, ◌+◌, ◌≤◌, Bool, true, ◌&&◌, ◌==◌, nat_lt, List, ◌++◌}
-use Rattle.std.specs.Prelude.{length, take, slice_index}
+use Rattle.std.specs.Prelude.{length, take, slice_index, Option, Some}
 use Rattle.hs_base.specs.declared.context.Mask.{Mask}
 use Rattle.hs_base.specs.declared.context.Next.{Next}
 use Rattle.hs_base.specs.declared.context.Next.TheVariants as after
 use Rattle.hs_base.specs.declared.context.Prev.{Prev}
 use Rattle.hs_base.specs.declared.context.Prev.TheVariants as behind
 use Rattle.hs_base.specs.Assertions.{line_feed, is_word_byte}
-use Rattle.hs_base.specs.Contexts.{class_of, context_of, next_number, prev_at, prev_by, prev_number}
+use Rattle.hs_base.specs.Contexts.{Context, class_of, context_of, next_number, prev_at, prev_by, prev_number}
 use Rattle.hs_base.specs.ContextSets.{has_context}
 use Rattle.hs_engine.specs.Between.{between}
 use Rattle.hs_block.specs.declared.contexts.Contexts.{Contexts}
@@ -48,6 +48,18 @@ is_part mask prev first bytes i =
     nat_lt i (length bytes)
     && ((prev_number (prev_before first bytes i) == prev_number prev)
     && has_context mask (between prev (class_of (slice_index bytes i))))
+
+-- the context of a place of a block behind `prev`, where the byte there comes next
+abbrev pub context_before : Prev → (bytes : List ℕ) → ℕ → Context
+context_before prev bytes i = between (prev_before prev bytes i) (class_of (slice_index bytes i))
+
+-- and the one behind the byte there, where nothing is known of what comes next
+abbrev pub context_behind : Prev → (bytes : List ℕ) → ℕ → Context
+context_behind prev bytes i = between (prev_before prev bytes (suc i)) after.Unknown
+
+-- if there are contexts, they are those of a block behind `prev`
+abbrev pub AreMade : Option Contexts → Prev → (bytes : List ℕ) → Type 0
+AreMade made prev bytes = (contexts : Contexts) → made ≡ Some contexts → AreContexts contexts prev bytes
 
 -- the mask has the context of the place i of the block behind u, where the byte there comes next
 abbrev pub HasContextBefore : Mask → (u bytes : List ℕ) → ℕ → Type 0

@@ -8,6 +8,7 @@ pub mod LiteralBlocks
 pub mod BlockContexts
 pub mod Rows
 pub mod Packed
+pub mod Settling
 pub mod StreamSets
 pub mod StreamTables
 pub mod StreamRuns

@@ -1,5 +1,5 @@
 -- Which positions are live at each place of a block, and words that say so.
-use Rattle.std.specs.Prelude.{◌≡◌, ℕ, zero, suc, ◌<◌, Bool, ◌&&◌, ◌||◌, List, slice_index}
+use Rattle.std.specs.Prelude.{ℕ, zero, suc, Bool, ◌&&◌, ◌||◌, List, slice_index}
 use Rattle.hs_engine.specs.AnyBelow.{any_below}
 use Rattle.hs_block.specs.WordBits.{word_bit}
 
@@ -25,11 +25,3 @@ row rules start (suc i) x = is_next rules i (row rules start i) x
 abbrev pub live_at : (start : ℕ → Bool) (words : List ℕ) (place position : ℕ) → Bool
 live_at start words zero x = start x
 live_at start words (suc i) x = word_bit (slice_index words x) i
-
--- at each of so many places each position is live where the others make it so
-abbrev pub Solves : Rules → (start : ℕ → Bool) (words : List ℕ) (count : ℕ) → Type 0
-Solves rules start words n =
-    (i x : ℕ) →
-    i < n →
-    x < rules.size →
-    word_bit (slice_index words x) i ≡ is_next rules i (live_at start words i) x

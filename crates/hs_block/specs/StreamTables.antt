@@ -1,10 +1,13 @@
--- What the tables say by which a block is taken in one pass.
-use Rattle.std.specs.Prelude.{◌≡◌, ℕ, ◌<◌, Bool, ◌&&◌, List, length, slice_get, slice_index, vec_len}
+-- What the tables say by which a block is taken by words.
+use Rattle.std.specs.Prelude.{◌≡◌, ℕ, ◌<◌, Bool, true, ◌&&◌, List, slice_get, slice_index, vec_len}
+use Rattle.hs_base.specs.declared.context.Prev.{Prev}
 use Rattle.hs_base.specs.Contexts.{Context}
 use Rattle.hs_engine.specs.declared.automaton.Automaton.{Automaton}
-use Rattle.hs_engine.specs.Automata.{in_set, takes, enters, accepts, follows}
+use Rattle.hs_engine.specs.Automata.{in_mask, in_set, takes, enters, accepts, follows}
 use Rattle.hs_base.specs.declared.byte_set.ByteSet.{ByteSet}
+use Rattle.hs_block.specs.declared.class_words.ClassWords.{ClassWords}
 use Rattle.hs_block.specs.declared.streams.Streams.{Streams}
+use Rattle.hs_block.specs.BlockContexts.{context_before}
 use Rattle.hs_block.specs.StreamSets.{is_from, takes_byte}
 use Rattle.hs_block.specs.WordBits.{word_bit}
 use Rattle.hs_block.specs.Rows.{Rules}
@@ -15,36 +18,27 @@ pub record Tells (s : Streams) (size : ℕ) (takes : (position byte : ℕ) → B
     (enters accepts : (position : ℕ) (c : Context) → Bool) (follows : (from to : ℕ) (c : Context) → Bool) : Type 0 where
   pub size_is : vec_len s.froms ≡ size
   pub takes_are : (x b : ℕ) → x < size → b < 256 → takes_byte s.sets.items s.numbers.items x b ≡ takes x b
-  pub enters_are : (x : ℕ) (c : Context) → word_bit s.enters x ≡ enters x c
-  pub accepts_are : (x : ℕ) (c : Context) → word_bit s.accepts x ≡ accepts x c
+  pub enters_are : (x : ℕ) (c : Context) → in_mask (slice_get s.enters.items x) c ≡ enters x c
+  pub accepts_are : (x : ℕ) (c : Context) → in_mask (slice_get s.accepts.items x) c ≡ accepts x c
   pub follows_are : (x y : ℕ) (c : Context) → x < size → is_from s.froms.items x y ≡ follows y x c
 
 -- they say what an automaton does
 abbrev pub TellsOf : Streams → Automaton → Type 0
 TellsOf s a = Tells s (vec_len a.sets) (takes a) (enters a) (accepts a) (follows a)
 
--- what they say of a block
-abbrev pub stream_rules : Streams → (enters : ℕ) (bytes : List ℕ) → Rules
-stream_rules s entered bytes = record {
+-- what they say of a block behind `prev`
+abbrev pub stream_rules : Streams → Prev → (enters : ℕ) (bytes : List ℕ) → Rules
+stream_rules s prev entered bytes = record {
   size = vec_len s.froms;
   takes = λ i x. takes_byte s.sets.items s.numbers.items x (slice_index bytes i);
-  begins = λ i x. word_bit entered i && word_bit s.enters x;
+  begins = λ i x. word_bit entered i && in_mask (slice_get s.enters.items x) (context_before prev bytes i);
   follows = λ i y x. is_from s.froms.items x y;
 }
 
--- the same, by a word for each set
-abbrev pub word_rules : Streams → (enters : ℕ) (classes : List ℕ) → Rules
-word_rules s entered classes = record {
-  size = vec_len s.froms;
-  takes = λ i x. word_bit (slice_index classes (slice_index s.numbers.items x)) i;
-  begins = λ i x. word_bit entered i && word_bit s.enters x;
-  follows = λ i y x. is_from s.froms.items x y;
-}
-
--- the word of each set tells at which of so many places one of its bytes stands
-abbrev pub AreClassWords : (sets : List ByteSet) (classes bytes : List ℕ) (count : ℕ) → Type 0
-AreClassWords sets classes bytes n =
+-- the words that are made tell at which places of a block the bytes of their sets stand
+abbrev pub AreClassWords : ClassWords → (sets : List ByteSet) (bytes : List ℕ) → Type 0
+AreClassWords classes sets bytes =
     (k i : ℕ) →
-    k < length sets →
-    i < n →
-    word_bit (slice_index classes k) i ≡ in_set (slice_get sets k) (slice_index bytes i)
+    word_bit classes.known k ≡ true →
+    i < 64 →
+    word_bit (slice_index classes.words k) i ≡ in_set (slice_get sets k) (slice_index bytes i)

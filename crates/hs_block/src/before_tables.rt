@@ -1,15 +1,14 @@
 //! Which positions may come before each other, as words with a bit for each position.
 
-ghost use Rattle.std.specs.Prelude.{◌≡◌, ℕ, ◌<◌, ◌≤◌, ◌&&◌, ◌||◌, ◌==◌, Bool, true, not, IfOk, IfSome, length};
-ghost use Rattle.std.specs.Prelude.{slice_get, slice_index, vec_len};
-ghost use Rattle.hs_base.specs.Contexts.{Context};
-ghost use Rattle.hs_engine.specs.Automata.{in_mask};
+ghost use Rattle.std.specs.Prelude.{◌≡◌, ℕ, ◌<◌, ◌≤◌, ◌&&◌, ◌||◌, ◌==◌, Bool, not, IfOk, length, nat_lt};
+ghost use Rattle.std.specs.Prelude.{slice_index, vec_len};
 ghost use Rattle.hs_engine.specs.Rows.{in_row};
 ghost use Rattle.hs_block.specs.StreamSets.{any_context, is_from};
 ghost use Rattle.hs_block.specs.WordBits.{word_bit};
 
-use crate::places::with_place;
-use hs_base::{Mask, Next, Prev};
+use crate::places::{low_places, with_place};
+use crate::position_words::column;
+use hs_base::{Next, Prev};
 use hs_bits::{BYTE_BITS, contains_bit};
 use hs_engine::FollowRows;
 use std::alloc::{AllocError, Global};
@@ -20,7 +19,7 @@ pub(crate) fn words_before(
     follows: &FollowRows,
     itself: bool,
 ) -> Result<Vec<u64>, AllocError>
-    requires { follows.now.size ≤ 16 }
+    requires { follows.now.size ≤ 64 }
     ensures count { IfOk result (λ words. vec_len words ≡ follows.now.size) }
     ensures words { IfOk result (λ words. (x y : ℕ) → x < follows.now.size →
         word_bit (slice_index words.items x) y
@@ -35,7 +34,7 @@ pub(crate) fn words_before(
 
 /// Those that may come before a position, itself among them or not.
 fn word_before(follows: &FollowRows, position: usize, itself: bool) -> u64
-    requires few { follows.now.size ≤ 16 }
+    requires few { follows.now.size ≤ 64 }
     requires position { position < follows.now.size }
     ensures { (y : ℕ) → word_bit result y ≡
         ((itself || not (y == position)) && in_row follows.now y position any_context) }
@@ -57,43 +56,48 @@ fn may_follow(follows: &FollowRows, from: usize, to: usize) -> bool
     to < BYTE_BITS * row.len() && contains_bit(row, to)
 }
 
-/// The positions that may come before one of a lesser number.
-pub(crate) fn back_word(froms: &[u64]) -> u64
-    requires { length froms.now ≤ 16 }
-    ensures { (x y : ℕ) → x < y → y < 64 → is_from froms.now x y ≡ true → word_bit result y ≡ true }
+/// For each position those that may come behind it, by those that may come before each.
+fn turned(alloc: Global, words: &[u64]) -> Result<Vec<u64>, AllocError>
+    requires { length words.now ≤ 64 }
+    ensures count { IfOk result (λ turned. vec_len turned ≡ length words.now) }
+    ensures words { IfOk result (λ turned. (x y : ℕ) → x < length words.now →
+        word_bit (slice_index turned.items x) y ≡ (nat_lt y (length words.now) && is_from words.now y x)) }
 {
-    let mut word = 0;
-    for position in 0..froms.len() {
-        word |= (froms[position] >> (position + 1)) << (position + 1);
+    let all = low_places(words.len());
+    let mut turned = Vec::new(alloc);
+    for position in 0..words.len() {
+        turned.push(column(words, all, position))?;
     }
-    word
+    Ok(turned)
 }
 
-/// The positions whose mask has every context; None where the mask of one has some contexts alone.
-pub(crate) fn common_word(masks: &[Mask]) -> Option<u64>
-    requires { length masks.now ≤ 64 }
-    ensures { IfSome result (λ word.
-        (c : Context) (k : ℕ) → word_bit word k ≡ in_mask (slice_get masks.now k) c) }
-{
-    let mut word = 0;
-    for position in 0..masks.len() {
-        let everywhere = in_all_contexts(masks, position)?;
-        word = with_place(word, position, everywhere);
-    }
-    Some(word)
+/// Which positions may come before and behind each other.
+#[derive(Drop)]
+pub(crate) struct OrderTables {
+    /// For each position those that may come before it.
+    pub froms: Vec<u64>,
+    /// The same without the position itself.
+    pub others: Vec<u64>,
+    /// For each position those that may come behind it, without itself.
+    pub successors: Vec<u64>,
 }
 
-/// Whether the mask of that number has every context, or none; None where it has some alone.
-fn in_all_contexts(masks: &[Mask], number: usize) -> Option<bool>
-    requires { number < length masks.now }
-    ensures { IfSome result (λ everywhere.
-        (c : Context) → in_mask (slice_get masks.now number) c ≡ everywhere) }
-{
-    if masks[number] == Mask::all() {
-        Some(true)
-    } else if masks[number] == Mask::empty() {
-        Some(false)
-    } else {
-        None
+impl OrderTables {
+    ghost use Rattle.hs_block.specs.StreamSets.{AreOrders};
+
+    /// The tables of rows in which no context matters.
+    pub(crate) fn build(alloc: Global, follows: &FollowRows) -> Result<OrderTables, AllocError>
+        requires { follows.now.size ≤ 64 }
+        ensures { IfOk result (λ tables.
+            AreOrders follows.now tables.froms.items tables.others.items tables.successors.items) }
+    {
+        let froms = words_before(alloc, follows, true)?;
+        let others = words_before(alloc, follows, false)?;
+        let successors = turned(alloc, &others)?;
+        Ok(OrderTables {
+            froms,
+            others,
+            successors,
+        })
     }
 }

@@ -9,12 +9,13 @@
 //! \b                 1 . . 1 1 . . 1 . .    one of the two alone
 //! ```
 
-ghost use Rattle.std.specs.Prelude.{◌≡◌, ℕ, ◌+◌, ◌<◌, ◌≤◌, ◌&&◌, ◌||◌, ◌==◌, List, length};
+ghost use Rattle.std.specs.Prelude.{◌≡◌, ℕ, ◌+◌, ◌<◌, ◌≤◌, ◌&&◌, ◌||◌, ◌==◌, List, length, nat_lt};
 ghost use Rattle.hs_base.specs.Contexts.{prev_number};
 ghost use Rattle.hs_base.specs.ContextSets.{has_context, has_next};
 ghost use Rattle.hs_base.specs.declared.context.Next.TheVariants as after;
 ghost use Rattle.hs_base.specs.declared.context.Prev.{Prev};
-ghost use Rattle.hs_block.specs.BlockContexts.{AreClasses, AreContexts, TellsBefore, TellsBehind, class_word, is_part};
+ghost use Rattle.hs_block.specs.BlockContexts.{AreClasses, AreContexts, TellsBefore, TellsBehind, class_word};
+ghost use Rattle.hs_block.specs.BlockContexts.{context_before, context_behind, is_part};
 ghost use Rattle.hs_block.specs.WordBits.{one_later, word_bit};
 
 use crate::places::{one_later, only_if, with_place};
@@ -167,8 +168,9 @@ impl Contexts {
     }
 
     /// The places whose context is in the mask, where the byte there comes next.
-    pub fn before(&self, mask: Mask) -> u64
-        ensures { TellsBefore self.now mask result }
+    pub(crate) fn places_before(&self, mask: Mask) -> u64
+        ensures { (prev : Prev) (bytes : List ℕ) → AreContexts self.now prev bytes → (i : ℕ) →
+            word_bit result i ≡ (nat_lt i (length bytes) && has_context mask (context_before prev bytes i)) }
     {
         self.part(mask, Prev::Start)
             | (self.part(mask, Prev::Word)
@@ -176,8 +178,9 @@ impl Contexts {
     }
 
     /// The bytes behind which the context is in the mask, where nothing is known of what comes next.
-    pub fn behind(&self, mask: Mask) -> u64
-        ensures { TellsBehind self.now mask result }
+    pub(crate) fn places_behind(&self, mask: Mask) -> u64
+        ensures { (prev : Prev) (bytes : List ℕ) → AreContexts self.now prev bytes → (i : ℕ) →
+            word_bit result i ≡ (nat_lt i (length bytes) && has_context mask (context_behind prev bytes i)) }
     {
         let words = only_if(self.classes.words, mask.contains(Prev::Word, Next::Unknown));
         let newlines = only_if(
@@ -189,5 +192,19 @@ impl Contexts {
             mask.contains(Prev::Other, Next::Unknown),
         );
         words | (newlines | others)
+    }
+
+    /// The places whose context is in the mask, behind any stream that the block may follow.
+    pub fn before(&self, mask: Mask) -> u64
+        ensures { TellsBefore self.now mask result }
+    {
+        self.places_before(mask)
+    }
+
+    /// The bytes behind which the context is in the mask, behind any stream that the block may follow.
+    pub fn behind(&self, mask: Mask) -> u64
+        ensures { TellsBehind self.now mask result }
+    {
+        self.places_behind(mask)
     }
 }

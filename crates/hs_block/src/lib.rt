@@ -8,6 +8,7 @@ mod class_words;
 mod contexts;
 mod engine;
 mod literal;
+mod mask_words;
 mod places;
 mod position_words;
 mod set_tables;

@@ -1,14 +1,14 @@
 //! Words of 64 places, one for each position: united, moved on, and read across.
 
 ghost use Rattle.std.specs.Prelude.{◌≡◌, ℕ, ◌-◌, ◌/◌, ◌<◌, ◌≤◌, ◌&&◌, ◌||◌, ◌==◌, false, nat_lt, nat_le};
-ghost use Rattle.std.specs.Prelude.{length, slice_index};
+ghost use Rattle.std.specs.Prelude.{IfSome, length, slice_index};
 ghost use Rattle.hs_base.specs.Bits.{has_bit};
 ghost use Rattle.hs_engine.specs.AnyBelow.{any_below};
 ghost use Rattle.hs_block.specs.Blocks.{is_blank};
 ghost use Rattle.hs_block.specs.Packed.{packed};
 ghost use Rattle.hs_block.specs.WordBits.{count_below, word_bit};
 
-use crate::places::{contains_place, with_place};
+use crate::places::{contains_place, only_if, with_place};
 use hs_bits::{BYTE_BITS, lowest_bit, without_lowest_bit};
 
 /// Whether the two words have a bit in common.
@@ -55,19 +55,46 @@ pub(crate) fn spread(first: u64, run: u64) -> u64
     first | (run & (run ^ run.wrapping_add(first & run)))
 }
 
-/// The positions whose words have the bit of that place.
+/// The positions of those numbers whose words have the bit of that place.
 #[inline(always)]
-pub(crate) fn column(words: &[u64], size: usize, place: usize) -> u64
+pub(crate) fn column(words: &[u64], numbers: u64, place: usize) -> u64
     requires place { place < 64 }
-    requires within { size ≤ length words.now }
-    requires few { size ≤ 64 }
-    ensures { (x : ℕ) → word_bit result x ≡ (nat_lt x size && word_bit (slice_index words.now x) place) }
+    requires words { length words.now ≤ 64 }
+    requires few { (y : ℕ) → length words.now ≤ y → word_bit numbers y ≡ false }
+    ensures { (x : ℕ) → word_bit result x ≡ (word_bit numbers x && word_bit (slice_index words.now x) place) }
 {
     let mut all = 0;
-    for position in 0..size {
+    let mut left = numbers;
+    while left != 0 {
+        let position = lowest_bit(left);
         all = with_place(all, position, contains_place(words[position], place));
+        left = without_lowest_bit(left);
     }
     all
+}
+
+/// Whether one of the places is begun or led to from the place before.
+#[inline(always)]
+pub(crate) fn is_reached(base: u64, led: u64) -> bool
+    ensures { result ≡ false → (i : ℕ) → i < 64 →
+        (word_bit base i || (nat_le 1 i && word_bit led (i - 1))) ≡ false }
+{
+    base | (led << 1) != 0
+}
+
+/// The places of a class that are begun, led to from the place before, or, where the position may follow itself, in a
+/// row behind such a place; None where a look at them fails.
+#[inline(always)]
+pub(crate) fn row_word(class: u64, base: u64, led: u64, follows_itself: bool) -> Option<u64>
+    ensures { IfSome result (λ word. (i : ℕ) → i < 64 → word_bit word i ≡ (word_bit class i
+        && (word_bit base i || (nat_le 1 i && (word_bit led (i - 1) || (word_bit word (i - 1) && follows_itself)))))) }
+{
+    let word = spread(next_word(class, base, led), only_if(class, follows_itself));
+    if word == next_word(class, base, led | only_if(word, follows_itself)) {
+        Some(word)
+    } else {
+        None
+    }
 }
 
 /// How many of the bits are set.

@@ -2,10 +2,9 @@
 
 ghost use Rattle.std.specs.Prelude.{◌≡◌, ℕ, ◌+◌, ◌<◌, ◌≤◌, length, slice_get, true, vec_len, Some, IfOk, MatchOption};
 ghost use Rattle.hs_base.specs.Contexts.{Context};
+ghost use Rattle.hs_engine.specs.Automata.{in_mask, in_set};
 ghost use Rattle.hs_block.specs.declared.streams.Streams.{Streams};
 ghost use Rattle.hs_block.specs.StreamSets.{is_from, takes_byte};
-ghost use Rattle.hs_block.specs.WordBits.{word_bit};
-ghost use Rattle.hs_engine.specs.Automata.{in_set};
 ghost use Rattle.hs_limex.specs.LimexEngines.{moves_of_limex};
 ghost use Rattle.hs_rose.specs.MovesRows.{IsMovesLevel};
 
@@ -17,8 +16,8 @@ use hs_waking::row_of;
 use std::alloc::{AllocError, Global};
 use std::sync::ledger::Ledger;
 
-/// Runs an expression by its positions. Of few positions, where no context matters, it takes a block by a word for each
-/// position; else, and where that doesn't come to rest, byte by byte.
+/// Runs an expression by its positions. Of at most 64 positions that follow each other whatever the context it takes a
+/// block by a word for each position; else, and where that doesn't come to rest, byte by byte.
 #[derive(Debug, Drop)]
 pub struct PositionEngine {
     /// The engine that takes bytes.
@@ -31,9 +30,9 @@ pub struct PositionEngine {
     ghost takes_are: { (s : Streams) → streams ≡ Some s → (x b : ℕ) → x < (moves_of_limex limex).size → b < 256 →
         takes_byte s.sets.items s.numbers.items x b ≡ (moves_of_limex limex).reach b x },
     ghost enters_are: { (s : Streams) → streams ≡ Some s → (x : ℕ) (c : Context) →
-        word_bit s.enters x ≡ (moves_of_limex limex).enters c x },
+        in_mask (slice_get s.enters.items x) c ≡ (moves_of_limex limex).enters c x },
     ghost accepts_are: { (s : Streams) → streams ≡ Some s → (x : ℕ) (c : Context) →
-        word_bit s.accepts x ≡ (moves_of_limex limex).accepts c x },
+        in_mask (slice_get s.accepts.items x) c ≡ (moves_of_limex limex).accepts c x },
     ghost follows_are: { (s : Streams) → streams ≡ Some s → (x y : ℕ) (c : Context) →
         x < (moves_of_limex limex).size → is_from s.froms.items x y ≡ (moves_of_limex limex).follows y x c },
     ghost row_some: { 0 < length row.items },
@@ -92,7 +91,7 @@ impl PositionEngine {
             steps.old steps.new) }
     {
         match &self.streams {
-            Some(streams) => streams.run(region, enters, bytes, steps),
+            Some(streams) => streams.run(region, prev, enters, bytes, steps),
             None => None,
         }
     }

@@ -1,17 +1,48 @@
-use Rattle.std.proofs.Common.{rules, ◌∙◌, sym, arith}
+use Rattle.std.proofs.Common.{◌∙◌, sym, arith}
+use Rattle.hs_limex.specs.LimexEngines.{moves_of_limex}
 use Rattle.hs_rose.proofs.MovesRowLemmas.{level-of}
+use Rattle.hs_rose.proofs.StreamingLemmas.{told-moves, told-some}
 use Rattle.hs_rose.proofs.positions.PositionEngine.build.Goals as goal
 
-pub invariant_of-result : goal.invariant_of-result
-invariant_of-result c =
+pub invariant_of-result-clause-size_is : goal.invariant_of-result-clause-size_is
+invariant_of-result-clause-size_is c s is =
+    let a = c.args.automaton.now in
+    let limex = c.in_ok-limex.limex in
+    (told-moves s (moves_of_limex limex) a c.in_ok-limex.ensures.fits (told-some c.in_ok-streams.streams s a c.in_ok-streams.ensures is)).size_is
+
+pub invariant_of-result-clause-takes_are : goal.invariant_of-result-clause-takes_are
+invariant_of-result-clause-takes_are c s is =
+    let a = c.args.automaton.now in
+    let limex = c.in_ok-limex.limex in
+    (told-moves s (moves_of_limex limex) a c.in_ok-limex.ensures.fits (told-some c.in_ok-streams.streams s a c.in_ok-streams.ensures is)).takes_are
+
+pub invariant_of-result-clause-enters_are : goal.invariant_of-result-clause-enters_are
+invariant_of-result-clause-enters_are c s is =
+    let a = c.args.automaton.now in
+    let limex = c.in_ok-limex.limex in
+    (told-moves s (moves_of_limex limex) a c.in_ok-limex.ensures.fits (told-some c.in_ok-streams.streams s a c.in_ok-streams.ensures is)).enters_are
+
+pub invariant_of-result-clause-accepts_are : goal.invariant_of-result-clause-accepts_are
+invariant_of-result-clause-accepts_are c s is =
+    let a = c.args.automaton.now in
+    let limex = c.in_ok-limex.limex in
+    (told-moves s (moves_of_limex limex) a c.in_ok-limex.ensures.fits (told-some c.in_ok-streams.streams s a c.in_ok-streams.ensures is)).accepts_are
+
+pub invariant_of-result-clause-follows_are : goal.invariant_of-result-clause-follows_are
+invariant_of-result-clause-follows_are c s is =
+    let a = c.args.automaton.now in
+    let limex = c.in_ok-limex.limex in
+    (told-moves s (moves_of_limex limex) a c.in_ok-limex.ensures.fits (told-some c.in_ok-streams.streams s a c.in_ok-streams.ensures is)).follows_are
+
+pub invariant_of-result-clause-row_some : goal.invariant_of-result-clause-row_some
+invariant_of-result-clause-row_some c = c.in_ok-row.ensures.row.some
+
+pub invariant_of-result-clause-row_sets : goal.invariant_of-result-clause-row_sets
+invariant_of-result-clause-row_sets c d x b low at small member =
     let fits = c.in_ok-limex.ensures.fits in
-    let row = c.in_ok-row.ensures.row in record {
-      size_is = search rules;
-      takes_are = search rules;
-      enters_are = search rules;
-      accepts_are = search rules;
-      follows_are = search rules;
-      row_some = row.some;
-      row_sets = λ d x b low at small member. row.sets d x b low (level-of _ _ fits d x at) small (sym (fits.reach b x small) ∙ member);
-      row_ends = λ d x h low at accept. row.ends d x h (omega (arith, low)) (level-of _ _ fits d x at) (sym (fits.accepts h x) ∙ accept);
-    }
+    c.in_ok-row.ensures.row.sets d x b low (level-of _ _ fits d x at) small (sym (fits.reach b x small) ∙ member)
+
+pub invariant_of-result-clause-row_ends : goal.invariant_of-result-clause-row_ends
+invariant_of-result-clause-row_ends c d x h low at accept =
+    let fits = c.in_ok-limex.ensures.fits in
+    c.in_ok-row.ensures.row.ends d x h (omega (arith, low)) (level-of _ _ fits d x at) (sym (fits.accepts h x) ∙ accept)

@@ -1,0 +1,114 @@
+//! The places of a block whose contexts are in a mask, where most masks have every context or none.
+
+ghost use Rattle.std.specs.Prelude.{◌≡◌, ℕ, ◌<◌, ◌≤◌, IfSome, false, true, length, slice_get};
+ghost use Rattle.hs_base.specs.Contexts.{Context};
+ghost use Rattle.hs_base.specs.ContextSets.{has_context};
+ghost use Rattle.hs_engine.specs.Automata.{in_mask};
+ghost use Rattle.hs_block.specs.BlockContexts.{AreContexts, AreMade, context_before, context_behind};
+ghost use Rattle.hs_block.specs.WordBits.{word_bit};
+
+use crate::contexts::Contexts;
+use crate::places::{only_if, with_place};
+use hs_base::{Mask, Prev};
+
+/// Whether the mask has every context, or none; None where it has some alone.
+#[inline(always)]
+fn in_all_contexts(mask: Mask) -> Option<bool>
+    ensures { IfSome result (λ everywhere. (c : Context) → has_context mask c ≡ everywhere) }
+{
+    if mask == Mask::all() {
+        Some(true)
+    } else if mask == Mask::empty() {
+        Some(false)
+    } else {
+        None
+    }
+}
+
+/// The contexts of a block behind `prev`: those that are made, or new ones.
+fn contexts_of(made: Option<Contexts>, prev: Prev, whole: &[u8]) -> Contexts
+    requires whole { length whole.now ≡ 64 }
+    requires made { AreMade made prev whole.now }
+    ensures { AreContexts result prev whole.now }
+{
+    match made {
+        Some(contexts) => contexts,
+        None => Contexts::new(prev, whole),
+    }
+}
+
+/// The places of a whole block whose context is in the mask, where the byte there comes next.
+#[inline(always)]
+pub(crate) fn mask_before(made: Option<Contexts>, prev: Prev, whole: &[u8], mask: Mask) -> u64
+    requires whole { length whole.now ≡ 64 }
+    requires made { AreMade made prev whole.now }
+    ensures { (i : ℕ) → i < 64 → word_bit result i ≡ has_context mask (context_before prev whole.now i) }
+{
+    match in_all_contexts(mask) {
+        Some(everywhere) => only_if(u64::MAX, everywhere),
+        None => contexts_of(made, prev, whole).places_before(mask),
+    }
+}
+
+/// The bytes of a whole block behind which the context is in the mask, where nothing is known of what comes next.
+#[inline(always)]
+pub(crate) fn mask_behind(made: Option<Contexts>, prev: Prev, whole: &[u8], mask: Mask) -> u64
+    requires whole { length whole.now ≡ 64 }
+    requires made { AreMade made prev whole.now }
+    ensures { (i : ℕ) → i < 64 → word_bit result i ≡ has_context mask (context_behind prev whole.now i) }
+{
+    match in_all_contexts(mask) {
+        Some(everywhere) => only_if(u64::MAX, everywhere),
+        None => contexts_of(made, prev, whole).places_behind(mask),
+    }
+}
+
+/// Whether one of the masks has some contexts alone.
+pub(crate) fn has_mixed(masks: &[Mask]) -> bool
+    ensures { result ≡ false → (k : ℕ) (c d : Context) → k < length masks.now →
+        in_mask (slice_get masks.now k) c ≡ in_mask (slice_get masks.now k) d }
+{
+    for position in 0..masks.len() {
+        if is_mixed(masks, position) {
+            return true;
+        }
+    }
+    false
+}
+
+/// Whether the mask of that number has some contexts alone.
+fn is_mixed(masks: &[Mask], number: usize) -> bool
+    requires { number < length masks.now }
+    ensures { result ≡ false → (c d : Context) →
+        in_mask (slice_get masks.now number) c ≡ in_mask (slice_get masks.now number) d }
+{
+    match in_all_contexts(masks[number]) {
+        Some(_) => false,
+        None => true,
+    }
+}
+
+/// The positions whose mask has some context.
+pub(crate) fn some_word(masks: &[Mask]) -> u64
+    requires { length masks.now ≤ 64 }
+    ensures some { (k : ℕ) (c : Context) →
+        in_mask (slice_get masks.now k) c ≡ true → word_bit result k ≡ true }
+    ensures few { (k : ℕ) → length masks.now ≤ k → word_bit result k ≡ false }
+{
+    let mut word = 0;
+    for position in 0..masks.len() {
+        word = with_place(word, position, has_some(masks, position));
+    }
+    word
+}
+
+/// Whether the mask of that number has some context.
+fn has_some(masks: &[Mask], number: usize) -> bool
+    requires { number < length masks.now }
+    ensures { (c : Context) → in_mask (slice_get masks.now number) c ≡ true → result ≡ true }
+{
+    match in_all_contexts(masks[number]) {
+        Some(everywhere) => everywhere,
+        None => true,
+    }
+}
