@@ -9,12 +9,12 @@ use Rattle.hs_engine.specs.Automata.{in_set}
 use Rattle.hs_engine.specs.Engines.{Meaning}
 use Rattle.hs_engine.proofs.AgreementLemmas.{get-append, get-seam}
 use Rattle.hs_nodes.specs.declared.table.Node.{Node}
-use Rattle.hs_nodes.specs.declared.row_table.RowTable.{RowTable}
-use Rattle.hs_nodes.specs.declared.wake_table.WakeRow.{WakeRow}
+use Rattle.hs_waking.specs.declared.row_table.RowTable.{RowTable}
+use Rattle.hs_waking.specs.declared.wake_row.WakeRow.{WakeRow}
 use Rattle.hs_nodes.specs.declared.wake_table.WakeTable.{WakeTable}
-use Rattle.hs_nodes.specs.RowTables.{Extends, IsCutRow, PutsRow}
+use Rattle.hs_waking.specs.RowTables.{Extends, IsCutRow, PutsRow}
 use Rattle.hs_nodes.specs.Waking.{AreRowsOf, IsRowFor, row_numbers}
-use Rattle.hs_nodes.proofs.RowTableLemmas.{there}
+use Rattle.hs_waking.proofs.RowTableLemmas.{there}
 use Rattle.hs_rose.specs.declared.engine.PieceEngine.{PieceEngine}
 use Rattle.hs_rose.specs.PieceEngines.{piece_meaning}
 use Rattle.hs_waking.specs.Fits.{IsRowBy}

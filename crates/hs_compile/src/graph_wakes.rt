@@ -8,8 +8,9 @@ ghost use Rattle.hs_rose.specs.PieceEngines.{piece_meaning};
 use crate::graph_numbers::graph_number;
 use hs_base::ByteSet;
 use hs_forest::group;
-use hs_nodes::{Node, NodeKind, RowTable, WakeTable};
+use hs_nodes::{Node, NodeKind, WakeTable};
 use hs_rose::PieceEngine;
+use hs_waking::RowTable;
 use std::alloc::{AllocError, Global};
 
 /// The nodes that a chunk may wake, for so many literals, and what wakes those of engines.

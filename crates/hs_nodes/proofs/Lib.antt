@@ -23,4 +23,3 @@ pub mod WakeLemmas
 pub mod FieldLemmas
 pub mod PlanLemmas
 pub mod GatherLemmas
-pub mod RowTableLemmas

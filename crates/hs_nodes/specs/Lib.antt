@@ -11,7 +11,6 @@ pub mod Walks
 pub mod Resting
 pub mod Living
 pub mod Waking
-pub mod RowTables
 pub mod Graphs
 pub mod Leaving
 pub mod Gathering

@@ -51,8 +51,8 @@ module _ {E : Type 0} (meaning : E → Meaning) (engines : List E) where
   IsResting (FirstLiteral number len) part = Unit {0}
   IsResting (LookBack pair) part = Unit {0}
 
-  -- A chunk doesn't wake a node of that kind: if it has no parent, it has no empty span and its bytes wake nothing; and a
-  -- first literal, or one behind an expression that looks back, ends nowhere.
+  -- A chunk doesn't wake a node of that kind: if it has no parent, it has no empty span and its bytes wake nothing; and
+  -- a first literal, or one behind an expression that looks back, ends nowhere.
   abbrev pub IsUnwokenIn : NodeKind → (parent : Option ℕ) → (hits : List ChunkHits) (bytes : List ℕ) → Type 0
   IsUnwokenIn (Engine number null) parent hits bytes =
       parent ≡ None → (null ≡ None) × ((e : E) → slice_get engines number ≡ Some e → SleepsThrough (meaning e) bytes)

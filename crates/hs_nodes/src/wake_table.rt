@@ -1,11 +1,7 @@
 //! What tells which nodes a chunk wakes.
 
-ghost use Rattle.std.specs.Prelude.{◌≡◌, ◌≤◌, take};
-
 use hs_base::ByteSet;
-
-/// How many bytes a row tells of at most.
-pub const MAX_ROW: usize = 8;
+use hs_waking::WakeRow;
 
 /// The nodes that a chunk may wake though nothing is live in them: by literal, and those of engines that are entered
 /// everywhere.
@@ -22,23 +18,4 @@ pub struct WakeTable {
     pub rows: Vec<WakeRow>,
     /// The sets of all rows.
     pub sets: Vec<ByteSet>,
-}
-
-/// What wakes an engine: the sets of the first bytes of each entry that isn't dead by then, by their numbers.
-#[derive(Clone, Copy, Debug, PartialEq, Eq)]
-pub struct WakeRow {
-    /// How many bytes the row tells of.
-    pub count: u8,
-    /// The number of the set of each of them.
-    pub numbers: [u16; MAX_ROW],
-    ghost few: { count ≤ 8 },
-}
-
-impl WakeRow {
-    /// The numbers of its sets.
-    pub fn numbers(&self) -> &[u16]
-        ensures { result.now ≡ take self.now.count self.now.numbers }
-    {
-        &self.numbers[..self.count as usize]
-    }
 }

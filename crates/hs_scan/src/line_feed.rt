@@ -171,13 +171,9 @@ pub(crate) fn run_line_feed<E: BlockEngine, V: Events, L: Ledger>(
         chunk.now.bytes.now scratch.old.hits.items scratch.old.course.known.told.items
         scratch.old.course.known.here.items scratch.old.finals scratch.new.last.items }
 {
-    wake(
-        graph,
-        &scratch.rows,
-        chunk.bytes,
-        &mut scratch.words,
-        &mut scratch.course.marks,
-    );
+    let words = &mut scratch.words;
+    let marks = &mut scratch.course.marks;
+    wake(graph, &scratch.rows, chunk.bytes, words, marks);
     let found = Found {
         contexts: &scratch.contexts,
         hits: &scratch.hits,
@@ -193,12 +189,8 @@ pub(crate) fn run_line_feed<E: BlockEngine, V: Events, L: Ledger>(
     );
     let all = everywhere(chunk);
     tell_line_feed(graph, scratch, chunk, &all, events);
-    settle(
-        &graph.table,
-        region,
-        &mut scratch.ends,
-        &mut scratch.course.marks,
-    );
+    let marks = &mut scratch.course.marks;
+    settle(&graph.table, region, &mut scratch.ends, marks);
 }
 
 /// Forgets the ends of all identifiers.

@@ -67,13 +67,9 @@ fn run_chunk<E: BlockEngine, V: Events, L: Ledger>(
         scratch.old.course.known.told.items scratch.old.course.known.here.items scratch.new.course.known.told.items
         scratch.new.course.known.here.items) }
 {
-    wake(
-        graph,
-        &scratch.rows,
-        chunk.bytes,
-        &mut scratch.words,
-        &mut scratch.course.marks,
-    );
+    let words = &mut scratch.words;
+    let marks = &mut scratch.course.marks;
+    wake(graph, &scratch.rows, chunk.bytes, words, marks);
     let found = Found {
         contexts: &scratch.contexts,
         hits: &scratch.hits,

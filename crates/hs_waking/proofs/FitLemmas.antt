@@ -6,8 +6,8 @@ use Rattle.hs_base.specs.Bits.{has_word_bit}
 use Rattle.hs_engine.specs.AnyBelow.{any_below}
 use Rattle.hs_base.proofs.ContextLemmas.{first_of_both, second_of_both, of_both}
 use Rattle.hs_engine.specs.Automata.{in_set}
-use Rattle.hs_block.proofs.AnyLemmas.{any-some, none-any, some-any, true-false}
-use Rattle.hs_block.proofs.PlaceLemmas.{less, less-is}
+use Rattle.hs_waking.proofs.AnyLemmas.{any-some, none-any, some-any, true-false}
+use Rattle.hs_waking.proofs.PlaceLemmas.{less, less-is}
 use Rattle.hs_waking.specs.ChunkWords.{is_open_at}
 use Rattle.hs_waking.specs.Fits.{FitsAt, FitsTo, IsRowBy}
 use Rattle.hs_waking.proofs.WakeLemmas.{fits-more}

@@ -12,7 +12,7 @@ use Rattle.hs_engine.specs.declared.automaton.Automaton.{Automaton}
 use Rattle.hs_engine.specs.Automata.{accepts, enters, follows, in_set, takes}
 use Rattle.hs_engine.specs.Between.{between}
 use Rattle.hs_engine.proofs.AgreementLemmas.{get-append, get-seam}
-use Rattle.hs_block.proofs.AnyLemmas.{true-false}
+use Rattle.hs_waking.proofs.AnyLemmas.{true-false}
 use Rattle.hs_waking.specs.Rows.{HasLevel, IsAtLevel, IsRowOf}
 
 -- what holds behind each of the four holds of every context

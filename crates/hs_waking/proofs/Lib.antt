@@ -1,3 +1,6 @@
+pub mod AnyLemmas
+pub mod PlaceLemmas
+pub mod RowTableLemmas
 pub mod WakeLemmas
 mod LevelLemmas
 mod WordLemmas

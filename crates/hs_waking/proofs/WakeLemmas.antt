@@ -20,7 +20,7 @@ use Rattle.hs_engine.specs.Engines.{Meaning}
 use Rattle.hs_engine.specs.Tables.{Runs}
 use Rattle.hs_engine.proofs.AgreementLemmas.{leaves-accepting, reached-steps}
 use Rattle.hs_engine.proofs.AutomatonLemmas.{start-clear}
-use Rattle.hs_block.proofs.AnyLemmas.{true-false}
+use Rattle.hs_waking.proofs.AnyLemmas.{true-false}
 use Rattle.hs_waking.specs.Fits.{FitsNowhere, FitsTo}
 use Rattle.hs_waking.specs.Rows.{IsAtLevel, IsRowOf, RunsByRow}
 use Rattle.hs_waking.specs.WakeRows.{IsWakeRow}

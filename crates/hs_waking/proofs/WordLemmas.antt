@@ -10,17 +10,17 @@ use Rattle.hs_base.specs.declared.byte_set.ByteSet.{ByteSet}
 use Rattle.hs_base.specs.ByteSets.{has}
 use Rattle.hs_base.specs.Bits.{has_word_bit}
 use Rattle.hs_engine.specs.AnyBelow.{any_below}
-use Rattle.hs_block.proofs.AnyLemmas.{any-some, none-any, true-false, true-or-false}
+use Rattle.hs_waking.proofs.AnyLemmas.{any-some, none-any, true-false, true-or-false}
 use Rattle.hs_base.proofs.ByteSetLemmas.{bit-not}
 use Rattle.hs_bits.proofs.WordLemmas.{or-none, words-zero}
-use Rattle.hs_block.specs.WordBits.{word_bit}
-use Rattle.hs_block.proofs.PlaceLemmas.{bit-both, bit-either, bit-none, bit-shifted, bit-up}
-use Rattle.hs_block.proofs.PositionWordLemmas.{no-bits, past-word}
+use Rattle.hs_waking.specs.PlaceBits.{place_bit}
+use Rattle.hs_waking.proofs.PlaceLemmas.{bit-both, bit-either, bit-none, bit-shifted, bit-up}
+use Rattle.hs_waking.proofs.PlaceLemmas.{no-bits, past-word}
 use Rattle.hs_waking.specs.ChunkWords.{is_open_at}
 
 -- the bit of a place in a row of words
-pub row-bit : (words : List ℕ) (k : ℕ) → has_word_bit words k ≡ word_bit (get_or words (k / 64) 0) (k % 64)
-unfolding has_word_bit word_bit
+pub row-bit : (words : List ℕ) (k : ℕ) → has_word_bit words k ≡ place_bit (get_or words (k / 64) 0) (k % 64)
+unfolding has_word_bit place_bit
 row-bit words k = refl
 
 -- a word that is written
@@ -93,17 +93,17 @@ learnt words now known knows sets bytes n s there old places others bits k is p 
 -- 64 bits that begin in one word and go on in the next
 
 -- the bits of the word behind, moved up in two steps
-up-twice : (x d i : ℕ) → i < 64 → d < 64 → word_bit (x * 2 % 18446744073709551616 * 2 ^ (63 - d) % 18446744073709551616) i ≡ (nat_le (64 - d) i && word_bit x (i - (64 - d)))
+up-twice : (x d i : ℕ) → i < 64 → d < 64 → place_bit (x * 2 % 18446744073709551616 * 2 ^ (63 - d) % 18446744073709551616) i ≡ (nat_le (64 - d) i && place_bit x (i - (64 - d)))
 up-twice x d i below near =
     bit-up (x * 2 % 18446744073709551616) (63 - d) i below
     ∙ elim (cases_lt i (63 - d)) [
       | inl less ↦ rw (lt-leb (63 - d) i less, lt-leb (64 - d) i (omega arith)) refl
       | inr past ↦
-          let one : word_bit (x * 2 % 18446744073709551616) (i - (63 - d)) ≡ (nat_le 1 (i - (63 - d)) && word_bit x (i - (63 - d) - 1)) = bit-up x 1 (i - (63 - d)) (omega arith) in
-          ap (λ b. b && word_bit (x * 2 % 18446744073709551616) (i - (63 - d))) (le-leb (63 - d) i past)
+          let one : place_bit (x * 2 % 18446744073709551616) (i - (63 - d)) ≡ (nat_le 1 (i - (63 - d)) && place_bit x (i - (63 - d) - 1)) = bit-up x 1 (i - (63 - d)) (omega arith) in
+          ap (λ b. b && place_bit (x * 2 % 18446744073709551616) (i - (63 - d))) (le-leb (63 - d) i past)
           ∙ (one
-          ∙ (ap (λ b. b && word_bit x (i - (63 - d) - 1)) (let e : nat_le 1 (i - (63 - d)) ≡ nat_le (64 - d) i = grind (arith, nat_tests) in e)
-          ∙ ap (λ k. nat_le (64 - d) i && word_bit x k) (let e : i - (63 - d) - 1 ≡ i - (64 - d) = omega arith in e)))
+          ∙ (ap (λ b. b && place_bit x (i - (63 - d) - 1)) (let e : nat_le 1 (i - (63 - d)) ≡ nat_le (64 - d) i = grind (arith, nat_tests) in e)
+          ∙ ap (λ k. nat_le (64 - d) i && place_bit x k) (let e : i - (63 - d) - 1 ≡ i - (64 - d) = omega arith in e)))
     ]
 
 module _ (word behind d i : ℕ) (near : d < 64) (small : i < 64) where
@@ -113,24 +113,24 @@ module _ (word behind d i : ℕ) (near : d < 64) (small : i < 64) where
   abbrev High : ℕ
   High = behind * 2 % 18446744073709551616 * 2 ^ (63 - d) % 18446744073709551616
 
-  pub moved-low : i + d < 64 → word_bit (bit_or Low High) i ≡ word_bit word (i + d)
+  pub moved-low : i + d < 64 → place_bit (bit_or Low High) i ≡ place_bit word (i + d)
   moved-low below =
       let place : d + i ≡ i + d = omega arith in
       bit-either Low High i
-      ∙ (ap (λ b. word_bit Low i || b) (up-twice behind d i small near ∙ ap (λ b. b && word_bit behind (i - (64 - d))) (lt-leb (64 - d) i (omega arith)))
-      ∙ (or-none (word_bit Low i) ∙ (bit-shifted word d i ∙ ap (word_bit word) place)))
+      ∙ (ap (λ b. place_bit Low i || b) (up-twice behind d i small near ∙ ap (λ b. b && place_bit behind (i - (64 - d))) (lt-leb (64 - d) i (omega arith)))
+      ∙ (or-none (place_bit Low i) ∙ (bit-shifted word d i ∙ ap (place_bit word) place)))
 
-  pub moved-high : word < 2 ^ 64 → 64 ≤ i + d → word_bit (bit_or Low High) i ≡ word_bit behind (i + d - 64)
+  pub moved-high : word < 2 ^ 64 → 64 ≤ i + d → place_bit (bit_or Low High) i ≡ place_bit behind (i + d - 64)
   moved-high fits past =
       let place : i - (64 - d) ≡ i + d - 64 = omega arith in
       bit-either Low High i
-      ∙ (ap (λ b. b || word_bit High i) (bit-shifted word d i ∙ past-word word (d + i) fits (omega arith))
-      ∙ (up-twice behind d i small near ∙ (ap (λ b. b && word_bit behind (i - (64 - d))) (le-leb (64 - d) i (omega arith)) ∙ ap (word_bit behind) place)))
+      ∙ (ap (λ b. b || place_bit High i) (bit-shifted word d i ∙ past-word word (d + i) fits (omega arith))
+      ∙ (up-twice behind d i small near ∙ (ap (λ b. b && place_bit behind (i - (64 - d))) (le-leb (64 - d) i (omega arith)) ∙ ap (place_bit behind) place)))
 
 -- the places behind the last byte besides
 
-bit-flipped : (x i : ℕ) → x < 2 ^ 64 → i < 64 → word_bit (18446744073709551615 - x) i ≡ not (word_bit x i)
-unfolding word_bit
+bit-flipped : (x i : ℕ) → x < 2 ^ 64 → i < 64 → place_bit (18446744073709551615 - x) i ≡ not (place_bit x i)
+unfolding place_bit
 bit-flipped x i fits below = bit-not x i fits below
 
 or-true : (b : Bool) → (b || true) ≡ true
@@ -138,8 +138,8 @@ or-true true = refl
 or-true false = refl
 
 pub open-bit : (word low len start i : ℕ) (test : Bool) → low < 2 ^ 64 → i < 64 → eqb (bit_at word i) 1 ≡ (nat_lt (start + i) len && test) →
-    ((k : ℕ) → word_bit low k ≡ nat_lt k (min (len - start) 64)) → eqb (bit_at (bit_or word (18446744073709551615 - low)) i) 1 ≡ (nat_le len (start + i) || test)
-unfolding word_bit
+    ((k : ℕ) → place_bit low k ≡ nat_lt k (min (len - start) 64)) → eqb (bit_at (bit_or word (18446744073709551615 - low)) i) 1 ≡ (nat_le len (start + i) || test)
+unfolding place_bit
 open-bit word low len start i test fits below word_is low_is =
     bit-either word (18446744073709551615 - low) i
     ∙ (ap (λ b. eqb (bit_at word i) 1 || b) (bit-flipped low i fits below ∙ ap not (low_is i))
@@ -154,8 +154,8 @@ open-bit word low len start i test fits below word_is low_is =
 
 -- one word more of those before a place
 pub before-more : (words : List ℕ) (n low end p : ℕ) → n < length words → ((q : ℕ) → q < 64 * n → has_word_bit words q ≡ nat_lt q end) →
-    ((k : ℕ) → word_bit low k ≡ nat_lt k (min (end - 64 * n) 64)) → p < 64 * (n + 1) → has_word_bit (set words n low) p ≡ nat_lt p end
-unfolding word_bit
+    ((k : ℕ) → place_bit low k ≡ nat_lt k (min (end - 64 * n) 64)) → p < 64 * (n + 1) → has_word_bit (set words n low) p ≡ nat_lt p end
+unfolding place_bit
 before-more words n low end p within known low_is few =
     elim (cases_lt p (64 * n)) [
       | inl before ↦ bit-kept words n low p (λ same. omega arith) ∙ known p before
@@ -170,29 +170,29 @@ before-more words n low end p within known low_is few =
 
 -- one word more of those that are kept
 module _ (words class : List ℕ) (old : ℕ → Bool) (n d next : ℕ) (within : n < length words) (near : d < 64)
-    (low : (i : ℕ) → i + d < 64 → word_bit next i ≡ word_bit (get_or class n 0) (i + d))
-    (high : (i : ℕ) → i < 64 → 64 ≤ i + d → word_bit next i ≡ word_bit (get_or class (n + 1) 0) (i + d - 64)) where
+    (low : (i : ℕ) → i + d < 64 → place_bit next i ≡ place_bit (get_or class n 0) (i + d))
+    (high : (i : ℕ) → i < 64 → 64 ≤ i + d → place_bit next i ≡ place_bit (get_or class (n + 1) 0) (i + d - 64)) where
   -- the bit so far on in the class
-  next-is : (p : ℕ) → p / 64 ≡ n → word_bit next (p % 64) ≡ has_word_bit class (p + d)
+  next-is : (p : ℕ) → p / 64 ≡ n → place_bit next (p % 64) ≡ has_word_bit class (p + d)
   next-is p here =
       elim (cases_lt (p % 64 + d) 64) [
         | inl below ↦
             let place : n ≡ (p + d) / 64 = omega arith in
             let bit : p % 64 + d ≡ (p + d) % 64 = omega arith in
-            low (p % 64) below ∙ (ap (word_bit (get_or class n 0)) bit ∙ (ap (λ k. word_bit (get_or class k 0) ((p + d) % 64)) place ∙ sym (row-bit class (p + d))))
+            low (p % 64) below ∙ (ap (place_bit (get_or class n 0)) bit ∙ (ap (λ k. place_bit (get_or class k 0) ((p + d) % 64)) place ∙ sym (row-bit class (p + d))))
         | inr past ↦
             let place : n + 1 ≡ (p + d) / 64 = omega arith in
             let bit : p % 64 + d - 64 ≡ (p + d) % 64 = omega arith in
             high (p % 64) (omega arith) past
-            ∙ (ap (word_bit (get_or class (n + 1) 0)) bit ∙ (ap (λ k. word_bit (get_or class k 0) ((p + d) % 64)) place ∙ sym (row-bit class (p + d))))
+            ∙ (ap (place_bit (get_or class (n + 1) 0)) bit ∙ (ap (λ k. place_bit (get_or class k 0) ((p + d) % 64)) place ∙ sym (row-bit class (p + d))))
       ]
 
-  set-both : (q : ℕ) → q / 64 ≡ n → has_word_bit (set words n (bit_and (get_or words n 0) next)) q ≡ (has_word_bit words q && word_bit next (q % 64))
-  unfolding word_bit
+  set-both : (q : ℕ) → q / 64 ≡ n → has_word_bit (set words n (bit_and (get_or words n 0) next)) q ≡ (has_word_bit words q && place_bit next (q % 64))
+  unfolding place_bit
   set-both q here =
       bit-set words n (bit_and (get_or words n 0) next) q within here
       ∙ (bit-both (get_or words n 0) next (q % 64)
-      ∙ ap (λ b. b && word_bit next (q % 64)) (ap (λ k. word_bit (get_or words k 0) (q % 64)) (sym here) ∙ sym (row-bit words q)))
+      ∙ ap (λ b. b && place_bit next (q % 64)) (ap (λ k. place_bit (get_or words k 0) (q % 64)) (sym here) ∙ sym (row-bit words q)))
 
   pub kept-more : ((p : ℕ) → p < 64 * n → has_word_bit words p ≡ (old p && has_word_bit class (p + d))) → ((p : ℕ) → 64 * n ≤ p → has_word_bit words p ≡ old p) → (p : ℕ) → p < 64 * (n + 1) →
       has_word_bit (set words n (bit_and (get_or words n 0) next)) p ≡ (old p && has_word_bit class (p + d))
@@ -201,18 +201,18 @@ module _ (words class : List ℕ) (old : ℕ → Bool) (n d next : ℕ) (within 
         | inl before ↦ bit-kept words n (bit_and (get_or words n 0) next) p (λ same. omega arith) ∙ known p before
         | inr past ↦
             let here : p / 64 ≡ n = omega arith in
-            set-both p here ∙ (ap (λ b. b && word_bit next (p % 64)) (later p past) ∙ ap (λ b. old p && b) (next-is p here))
+            set-both p here ∙ (ap (λ b. b && place_bit next (p % 64)) (later p past) ∙ ap (λ b. old p && b) (next-is p here))
       ]
 
 -- words united
 either-zero : (a b : ℕ) → bit_or a b ≡ 0 → (a ≡ 0) × (b ≡ 0)
 either-zero a b none = (
-  no-bits a (λ k. left-none (word_bit a k) (word_bit b k) (unset k)),
-  no-bits b (λ k. right-none (word_bit a k) (word_bit b k) (unset k)),
+  no-bits a (λ k. left-none (place_bit a k) (place_bit b k) (unset k)),
+  no-bits b (λ k. right-none (place_bit a k) (place_bit b k) (unset k)),
 )
   where
-    unset : (k : ℕ) → (word_bit a k || word_bit b k) ≡ false
-    unset k = sym (bit-either a b k) ∙ (ap (λ w. word_bit w k) none ∙ bit-none k)
+    unset : (k : ℕ) → (place_bit a k || place_bit b k) ≡ false
+    unset k = sym (bit-either a b k) ∙ (ap (λ w. place_bit w k) none ∙ bit-none k)
 
     left-none : (x y : Bool) → (x || y) ≡ false → x ≡ false
     left-none true y e = e
@@ -223,7 +223,7 @@ either-zero a b none = (
     right-none false y e = e
 
 zero-either : (a b : ℕ) → a ≡ 0 → b ≡ 0 → bit_or a b ≡ 0
-zero-either a b left right = no-bits (bit_or a b) (λ k. bit-either a b k ∙ (ap (λ w. word_bit w k || word_bit b k) left ∙ (ap (λ w. word_bit 0 k || word_bit w k) right ∙ (ap (λ t. t || word_bit 0 k) (bit-none k) ∙ bit-none k))))
+zero-either a b left right = no-bits (bit_or a b) (λ k. bit-either a b k ∙ (ap (λ w. place_bit w k || place_bit b k) left ∙ (ap (λ w. place_bit 0 k || place_bit w k) right ∙ (ap (λ t. t || place_bit 0 k) (bit-none k) ∙ bit-none k))))
 
 pub any-more : (words : List ℕ) (any n : ℕ) → (any ≡ 0) ↔ ((j : ℕ) → j < n → get_or words j 0 ≡ 0) → (bit_or any (get_or words n 0) ≡ 0) ↔ ((j : ℕ) → j < n + 1 → get_or words j 0 ≡ 0)
 any-more words any n known = (
@@ -245,8 +245,8 @@ word-unset words j fits unset =
       | inl small ↦
           let place : j ≡ (64 * j + k) / 64 = omega arith in
           let bit : k ≡ (64 * j + k) % 64 = omega arith in
-          ap (word_bit (get_or words j 0)) bit
-          ∙ (ap (λ n. word_bit (get_or words n 0) ((64 * j + k) % 64)) place ∙ (sym (row-bit words (64 * j + k)) ∙ unset (64 * j + k) (sym place)))
+          ap (place_bit (get_or words j 0)) bit
+          ∙ (ap (λ n. place_bit (get_or words n 0) ((64 * j + k) % 64)) place ∙ (sym (row-bit words (64 * j + k)) ∙ unset (64 * j + k) (sym place)))
     ])
 
 pub none-is : (places : List ℕ) (any : ℕ) → ((j : ℕ) → j < 8 → get_or places j 0 < 2 ^ 64) → (any ≡ 0) ↔ ((j : ℕ) → j < 8 → get_or places j 0 ≡ 0) → eqb any 0 ≡ not (any_below 512 (has_word_bit places))
@@ -255,7 +255,7 @@ none-is places any fits zero_is =
       | inl some ↦
           let (p, below, set) = any-some 512 (has_word_bit places) some in
           let apart : any ≢ 0 =
-          λ none. true-false (has_word_bit places p) set (row-bit places p ∙ (ap (λ w. word_bit w (p % 64)) (zero_is.0 none (p / 64) (omega arith)) ∙ bit-none (p % 64))) in
+          λ none. true-false (has_word_bit places p) set (row-bit places p ∙ (ap (λ w. place_bit w (p % 64)) (zero_is.0 none (p / 64) (omega arith)) ∙ bit-none (p % 64))) in
           ne_eqb any 0 apart ∙ sym (ap not some)
       | inr none ↦
           let zero : any ≡ 0 = zero_is.1 (λ j small. word-unset places j (fits j small) (λ p here. none-any 512 (has_word_bit places) none p (omega arith))) in

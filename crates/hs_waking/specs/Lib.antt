@@ -2,3 +2,5 @@ pub mod Fits
 pub mod Rows
 pub mod WakeRows
 pub mod ChunkWords
+pub mod PlaceBits
+pub mod RowTables

@@ -3,11 +3,11 @@
 ghost use Rattle.std.specs.Prelude.{◌≡◌, ℕ, ◌+◌, ◌-◌, ◌<◌, ◌≤◌, ◌&&◌, nat_lt, not, length};
 ghost use Rattle.hs_base.specs.Bits.{has_word_bit};
 ghost use Rattle.hs_engine.specs.AnyBelow.{any_below};
-ghost use Rattle.hs_block.specs.WordBits.{word_bit};
+ghost use Rattle.hs_waking.specs.PlaceBits.{place_bit};
 
 use crate::class_words::{CHUNK_WORDS, MAX_CHUNK};
+use crate::low_places::low_places;
 use hs_bits::WORD_BITS;
-use hs_block::low_places;
 
 /// The places of a chunk.
 pub(crate) type Places = [u64; CHUNK_WORDS];
@@ -55,8 +55,8 @@ pub(crate) fn keep_open(places: &mut Places, class: &[u64], distance: usize)
 #[inline(always)]
 fn moved(word: u64, next: u64, distance: usize) -> u64
     requires { distance < 64 }
-    ensures low { (i : ℕ) → i + distance < 64 → word_bit result i ≡ word_bit word (i + distance) }
-    ensures high { (i : ℕ) → i < 64 → 64 ≤ i + distance → word_bit result i ≡ word_bit next (i + distance - 64) }
+    ensures low { (i : ℕ) → i + distance < 64 → place_bit result i ≡ place_bit word (i + distance) }
+    ensures high { (i : ℕ) → i < 64 → 64 ≤ i + distance → place_bit result i ≡ place_bit next (i + distance - 64) }
 {
     (word >> distance) | ((next << 1) << (WORD_BITS - 1 - distance))
 }

@@ -10,11 +10,11 @@ ghost use Rattle.hs_base.specs.declared.byte_set.ByteSet.{ByteSet};
 ghost use Rattle.hs_base.specs.Bits.{has_word_bit};
 ghost use Rattle.hs_base.specs.ByteSets.{has};
 
+use crate::low_places::low_places;
 use hs_base::ByteSet;
 use hs_bits::{
     WORD_BITS, clear_words, contains_word_bit, insert_word_bit, member_places, word_count_for,
 };
-use hs_block::low_places;
 use std::alloc::{AllocError, Global};
 
 /// The most bytes of a chunk.

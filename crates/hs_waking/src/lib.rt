@@ -8,12 +8,17 @@ mod class_words;
 mod fitting;
 pub mod laws;
 mod levels;
+mod low_places;
 mod plain;
+mod row_table;
 mod rows;
 #[cfg(test)]
 mod tests;
+mod wake_row;
 
 pub use class_words::{ClassWords, MAX_CHUNK};
 pub use fitting::fits;
 pub use plain::fits_plain;
+pub use row_table::RowTable;
 pub use rows::{MAX_ROW, row_of};
+pub use wake_row::WakeRow;

@@ -1,8 +1,8 @@
 use Rattle.std.proofs.Common.{inl, inr, arith}
 use Rattle.std.proofs.lemmas.Bool.{cases_lt}
 use Rattle.hs_engine.specs.Rows.{in_row}
-use Rattle.hs_block.proofs.AnyLemmas.{true-false}
-use Rattle.hs_block.proofs.TableLemmas.{row-past}
+use Rattle.hs_waking.proofs.AnyLemmas.{true-false}
+use Rattle.hs_waking.proofs.PlaceLemmas.{row-past}
 use Rattle.hs_waking.proofs.levels.next_level.Goals as goal
 
 pub returns : goal.returns

@@ -4,7 +4,7 @@ use Rattle.std.proofs.lemmas.List.{with_items_is}
 use Rattle.hs_base.specs.Bits.{has_word_bit}
 use Rattle.hs_base.proofs.BitLemmas.{zero-all}
 use Rattle.hs_bits.proofs.WordLemmas.{words-zero}
-use Rattle.hs_block.proofs.AnyLemmas.{true-false}
+use Rattle.hs_waking.proofs.AnyLemmas.{true-false}
 use Rattle.hs_waking.proofs.class_words.ClassWords.begin.Goals as goal
 
 pub returns-clause-forgotten : goal.returns-clause-forgotten

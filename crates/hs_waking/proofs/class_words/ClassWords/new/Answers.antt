@@ -1,5 +1,5 @@
 use Rattle.hs_base.specs.Bits.{has_word_bit}
-use Rattle.hs_block.proofs.AnyLemmas.{true-false}
+use Rattle.hs_waking.proofs.AnyLemmas.{true-false}
 use Rattle.hs_waking.proofs.WordLemmas.{words-blank}
 use Rattle.hs_waking.proofs.class_words.ClassWords.new.Goals as goal
 

@@ -1,9 +1,10 @@
 //! The rows of engines by the numbers of their sets, each of which is kept once.
 
 ghost use Rattle.std.specs.Prelude.{◌≡◌, ◌<◌, ◌≤◌, IfOk, IfSome, Some, length, slice_get};
-ghost use Rattle.hs_nodes.specs.RowTables.{Extends, IsCutRow, PutsRow};
+ghost use Rattle.hs_waking.specs.RowTables.{Extends, IsCutRow, PutsRow};
 
-use crate::wake_table::{MAX_ROW, WakeRow};
+use crate::rows::MAX_ROW;
+use crate::wake_row::WakeRow;
 use hs_base::ByteSet;
 use std::alloc::{AllocError, Global};
 

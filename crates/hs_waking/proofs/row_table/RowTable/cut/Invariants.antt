@@ -1,6 +1,6 @@
 use Rattle.std.proofs.Common.{◌≡◌, length}
-use Rattle.hs_nodes.specs.RowTables.{Extends, IsCutRow}
-use Rattle.hs_nodes.proofs.row_table.RowTable.cut.Given as goal
+use Rattle.hs_waking.specs.RowTables.{Extends, IsCutRow}
+use Rattle.hs_waking.proofs.row_table.RowTable.cut.Given as goal
 
 abbrev pub invariant-loop-depth : goal.invariant-loop-depth
 invariant-loop-depth l = record {

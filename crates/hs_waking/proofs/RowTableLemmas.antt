@@ -7,7 +7,7 @@ use Rattle.std.proofs.lemmas.Bool.{cases_lt}
 use Rattle.std.proofs.lemmas.Option.{slice_get-get_or, slice_get_within}
 use Rattle.hs_base.specs.declared.byte_set.ByteSet.{ByteSet}
 use Rattle.hs_engine.proofs.AgreementLemmas.{get-append}
-use Rattle.hs_nodes.specs.RowTables.{Extends, IsCutRow}
+use Rattle.hs_waking.specs.RowTables.{Extends, IsCutRow}
 
 -- sets with equal words are the same
 pub same-set : (kept : List ByteSet) (n : ℕ) (d set : ByteSet) (r : Bool) → n < length kept → r ≡ pointwise nat_eq (get_or kept n d).words set.words → r ≡ true → slice_get kept n ≡ Some set

@@ -1,8 +1,8 @@
 -- Rows put into a table, set by set.
 use Rattle.std.specs.Prelude.{◌≡◌, ℕ, ◌<◌, ◌≤◌, List, [], ◌∷◌, ◌++◌, length, Some, slice_get, slice_index}
 use Rattle.hs_base.specs.declared.byte_set.ByteSet.{ByteSet}
-use Rattle.hs_nodes.specs.declared.row_table.RowTable.{RowTable}
-use Rattle.hs_nodes.specs.declared.wake_table.WakeRow.{WakeRow}
+use Rattle.hs_waking.specs.declared.row_table.RowTable.{RowTable}
+use Rattle.hs_waking.specs.declared.wake_row.WakeRow.{WakeRow}
 
 -- sets that are there stay
 abbrev pub Extends : (old new : List ByteSet) → Type 0

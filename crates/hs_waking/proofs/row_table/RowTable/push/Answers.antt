@@ -1,6 +1,6 @@
 use Rattle.std.proofs.Common.{◌++◌, ◌∷◌, [], ap, ◌∙◌, Vec, Global}
-use Rattle.hs_nodes.specs.declared.wake_table.WakeRow.{WakeRow}
-use Rattle.hs_nodes.proofs.row_table.RowTable.push.Goals as goal
+use Rattle.hs_waking.specs.declared.wake_row.WakeRow.{WakeRow}
+use Rattle.hs_waking.proofs.row_table.RowTable.push.Goals as goal
 
 pub returns : goal.returns
 returns c = record {
