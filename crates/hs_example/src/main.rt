@@ -21,11 +21,20 @@ const ROOM: usize = 100;
 fn main(rt: HostRuntime) -> anyhow::Result<()> {
     let entries = read_list(rt.alloc(), LIST)?;
     let database = compile(rt.alloc(), &entries)?;
-    scan::<Brand>(&rt, &database, Blank::new(1))
+    scan(&rt, &database)
 }
 
-/// Scans a stream in two halves. The steps of engines are counted in a ledger, which takes no memory.
-fn scan<L: Ledger>(rt: &HostRuntime, database: &Database, blank: Blank) -> anyhow::Result<()>
+/// Scans a stream in two halves.
+fn scan(rt: &HostRuntime, database: &Database) -> anyhow::Result<()> {
+    scan_counted::<Brand>(rt, database, Blank::new(1))
+}
+
+/// The same with a ledger for the steps of engines, which takes no memory.
+fn scan_counted<L: Ledger>(
+    rt: &HostRuntime,
+    database: &Database,
+    blank: Blank,
+) -> anyhow::Result<()>
     requires name { blank.name ≡ L.name }
     requires parts { blank.parts ≡ L.parts }
     requires some { 0 < L.parts }
