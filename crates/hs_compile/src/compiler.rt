@@ -23,6 +23,25 @@ pub const MAX_ENTRIES: usize = 65_536;
 
 /// Compiles a list of expressions. A list is refused by its first entry that has a refusal, with the first of those, in
 /// the order of their numbers; else it is what scans each of its expressions.
+///
+/// # Errors
+///
+/// `Refused` where the list has a refusal; `Memory` where it finds no memory.
+///
+/// # Cost
+///
+/// On the lists of `docs/MEASURED.md` 0.05 to 0.3 milliseconds an entry, and with those of more than 1,000 entries less
+/// than 12 KB of memory an entry, of which all but the [`Database`] is given back.
+///
+/// # Examples
+///
+/// ```
+/// let entries = read_list(alloc, b"1:/foo.*bar/\n2:/(ba|fo)+[a-r]/\n")?;
+/// match compile(alloc, &entries) {
+///     Ok(database) => println!(rt; "{} bytes a stream", database.region_size())?,
+///     Err(fault) => println!(rt; "{fault}")?,
+/// }
+/// ```
 pub fn compile(alloc: Global, entries: &[Entry]) -> Result<Database, CompileFault>
     ensures compiled { IfOk result (IsCompiled (map listed entries.now)) }
     ensures digest { IfOk result (λ database. digest_of database ≡ sha256 (list_bytes (map listed entries.now))) }

@@ -7,7 +7,7 @@ use hs_reports::Events;
 use std::alloc::{AllocError, Global};
 use std::marker::Model;
 
-/// Keeps reports in a list, the first ones up to its room, and takes no memory for it.
+/// Keeps reports in a list, the first ones up to its room, and takes no memory for one that comes.
 #[derive(Drop)]
 pub struct Collected {
     reports: Vec<Report>,
@@ -27,7 +27,17 @@ impl Model for Collected {
 }
 
 impl Collected {
-    /// An empty list with room for `room` reports.
+    /// An empty list with room for `room` reports. The error is want of memory.
+    ///
+    /// # Cost
+    ///
+    /// It takes 16 bytes for each report that it has room for.
+    ///
+    /// # Examples
+    ///
+    /// ```
+    /// let mut told = Collected::new(alloc, 100)?;
+    /// ```
     pub fn new(alloc: Global, room: usize) -> Result<Self, AllocError>
         ensures { IfOk result (λ c. c ≡ record { reports = []; room = room }) }
     {
@@ -38,6 +48,18 @@ impl Collected {
     }
 
     /// The reports so far, in the order in which they came.
+    ///
+    /// # Cost
+    ///
+    /// They are lent: nothing is copied, and it takes no memory.
+    ///
+    /// # Examples
+    ///
+    /// ```
+    /// for report in told.reports() {
+    ///     println!(rt; "{} {}", report.id.0, report.to)?;
+    /// }
+    /// ```
     pub fn reports(&self) -> &[Report]
         ensures { result.now ≡ self.now.reports }
     {
