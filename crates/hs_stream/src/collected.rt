@@ -65,6 +65,23 @@ impl Collected {
     {
         &self.reports
     }
+
+    /// Drops all reports. The room stays.
+    ///
+    /// # Cost
+    ///
+    /// It takes no memory.
+    ///
+    /// # Examples
+    ///
+    /// ```
+    /// told.clear();
+    /// ```
+    pub fn clear(&mut self)
+        ensures { self.new ≡ record { reports = []; room = self.old.room } }
+    {
+        self.reports.clear();
+    }
 }
 
 impl Events for Collected {
