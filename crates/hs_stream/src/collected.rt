@@ -43,6 +43,13 @@ impl Collected {
     {
         &self.reports
     }
+
+    /// Drops all reports. It takes no memory, and the room stays.
+    pub fn clear(&mut self)
+        ensures { self.new ≡ record { reports = []; room = self.old.room } }
+    {
+        self.reports.clear();
+    }
 }
 
 impl Events for Collected {
