@@ -1,5 +1,5 @@
 -- What is drawn from a seed: the expressions of a list, the bytes of a stream, and the lengths of the pieces of a run.
-use Rattle.std.specs.Prelude.{ℕ, suc, ◌+◌, ◌*◌, ◌/◌, ◌%◌, List, [], ◌∷◌, ◌++◌, codes}
+use Rattle.std.specs.Prelude.{ℕ, zero, suc, ◌+◌, ◌*◌, ◌/◌, ◌%◌, ◌==◌, ◌||◌, List, [], ◌∷◌, ◌++◌, codes, if◌then◌else◌}
 use Rattle.hs_base.specs.Entries.{ListedEntry}
 use Rattle.hs_text.specs.Parameters.{no_parameters}
 
@@ -15,7 +15,7 @@ drawn k x = (stepped x / 65536) % k
 
 -- the number behind n draws
 abbrev pub after : (n x : ℕ) → ℕ
-after 0 x = x
+after zero x = x
 after (suc n) x = stepped (after n x)
 
 -- the number before the first draw
@@ -34,17 +34,15 @@ letters x = letter x ∷ letter (after 1 x) ∷ letter (after 2 x) ∷ []
 
 -- an expression: how it is made is drawn first, then its letters are
 abbrev pub expression : (made x : ℕ) → List ℕ
-expression 0 x = letters x
-expression 1 x = letters x ++ codes ".*" ++ letters (after 3 x)
-expression 2 x = codes "[0-9]+" ++ letters x
-expression (suc (suc (suc n))) x = letters x ++ codes "[a-z]{3,9}" ++ letters (after 3 x)
+expression made x =
+    if made == 0 then letters x
+    else (if made == 1 then letters x ++ codes ".*" ++ letters (after 3 x)
+    else (if made == 2 then codes "[0-9]+" ++ letters x
+    else letters x ++ codes "[a-z]{3,9}" ++ letters (after 3 x)))
 
 -- how many letters it has
 abbrev pub letter_count : (made : ℕ) → ℕ
-letter_count 0 = 3
-letter_count 1 = 6
-letter_count 2 = 3
-letter_count (suc (suc (suc n))) = 6
+letter_count made = if made == 0 || made == 2 then 3 else 6
 
 -- the entry of that identifier, without flags and parameters
 abbrev pub entry : (id x : ℕ) → ListedEntry
@@ -56,27 +54,28 @@ behind_entry x = after (letter_count (drawn 4 x)) (stepped x)
 
 -- the number behind n entries
 abbrev pub behind_entries : (n x : ℕ) → ℕ
-behind_entries 0 x = x
+behind_entries zero x = x
 behind_entries (suc n) x = behind_entry (behind_entries n x)
 
 -- n entries, each with its number, counted from 1, as its identifier
 abbrev pub entries : (n x : ℕ) → List ListedEntry
-entries 0 x = []
+entries zero x = []
 entries (suc n) x = entries n x ++ entry (suc n) (behind_entries n x) ∷ []
 
 -- ---- the stream
 
 -- the byte of a draw below 10: `a` to `f`, a line feed, a space, `0` or `1`
 abbrev pub byte : ℕ → ℕ
-byte 6 = 10
-byte 7 = 32
-byte 8 = 48
-byte 9 = 49
-byte n = 97 + n
+byte n =
+    if n == 6 then 10
+    else (if n == 7 then 32
+    else (if n == 8 then 48
+    else (if n == 9 then 49
+    else 97 + n)))
 
 -- n bytes
 abbrev pub bytes : (n x : ℕ) → List ℕ
-bytes 0 x = []
+bytes zero x = []
 bytes (suc n) x = bytes n x ++ byte (drawn 10 (after n x)) ∷ []
 
 -- ---- all that is drawn from a seed, in this order

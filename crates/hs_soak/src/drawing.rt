@@ -27,7 +27,7 @@ impl Drawn {
     pub fn from_seed(alloc: Global, seed: u32, count: u32) -> Result<Drawn, AllocError>
         ensures entries { IfOk result (λ drawn. map listed drawn.entries.items ≡ drawn_entries seed count) }
         ensures bytes { IfOk result (λ drawn. drawn.bytes.items ≡ drawn_stream seed count) }
-        ensures lengths { IfOk result (λ drawn. drawn.lengths ≡ before_lengths seed count) }
+        ensures lengths { IfOk result (λ drawn. drawn.lengths.number ≡ before_lengths seed count) }
     {
         let mut generator = Generator::new(seed);
         let entries = draw_entries(alloc, &mut generator, count)?;
@@ -42,8 +42,8 @@ impl Drawn {
 
 /// So many entries, which are numbered from 1.
 fn draw_entries(alloc: Global, generator: &mut Generator, count: u32) -> Result<Vec<Entry>, AllocError>
-    ensures drawn { IfOk result (λ drawn. map listed drawn.items ≡ entries count generator.old) }
-    ensures next { OnOk result (generator.new ≡ behind_entries count generator.old) }
+    ensures drawn { IfOk result (λ drawn. map listed drawn.items ≡ entries count generator.old.number) }
+    ensures next { OnOk result (generator.new.number ≡ behind_entries count generator.old.number) }
 {
     let mut drawn = Vec::with_capacity(alloc, count as usize)?;
     for number in 0..count {
@@ -55,8 +55,8 @@ fn draw_entries(alloc: Global, generator: &mut Generator, count: u32) -> Result<
 
 /// An entry with that identifier, without flags and parameters.
 fn draw_entry(alloc: Global, generator: &mut Generator, id: u32) -> Result<Entry, AllocError>
-    ensures drawn { IfOk result (λ drawn. listed drawn ≡ entry id generator.old) }
-    ensures next { OnOk result (generator.new ≡ behind_entry generator.old) }
+    ensures drawn { IfOk result (λ drawn. listed drawn ≡ entry id generator.old.number) }
+    ensures next { OnOk result (generator.new.number ≡ behind_entry generator.old.number) }
 {
     let made = generator.draw(4);
     let text = draw_expression(alloc, generator, made)?;
@@ -70,8 +70,8 @@ fn draw_entry(alloc: Global, generator: &mut Generator, id: u32) -> Result<Entry
 
 /// An expression that is made in that way.
 fn draw_expression(alloc: Global, generator: &mut Generator, made: u32) -> Result<Vec<u8>, AllocError>
-    ensures drawn { IfOk result (λ text. text.items ≡ expression made generator.old) }
-    ensures next { OnOk result (generator.new ≡ after (letter_count made) generator.old) }
+    ensures drawn { IfOk result (λ text. text.items ≡ expression made generator.old.number) }
+    ensures next { OnOk result (generator.new.number ≡ after (letter_count made) generator.old.number) }
 {
     match made {
         0 => draw_word(alloc, generator, b""),
@@ -83,8 +83,8 @@ fn draw_expression(alloc: Global, generator: &mut Generator, made: u32) -> Resul
 
 /// Three letters behind these bytes.
 fn draw_word(alloc: Global, generator: &mut Generator, before: &[u8]) -> Result<Vec<u8>, AllocError>
-    ensures drawn { IfOk result (λ text. text.items ≡ before.now ++ letters generator.old) }
-    ensures next { generator.new ≡ after 3 generator.old }
+    ensures drawn { IfOk result (λ text. text.items ≡ before.now ++ letters generator.old.number) }
+    ensures next { generator.new.number ≡ after 3 generator.old.number }
 {
     let word = generator.letters();
     let mut text = Vec::new(alloc);
@@ -95,9 +95,9 @@ fn draw_word(alloc: Global, generator: &mut Generator, before: &[u8]) -> Result<
 
 /// Three letters, these bytes, and three letters more.
 fn draw_two_words(alloc: Global, generator: &mut Generator, between: &[u8]) -> Result<Vec<u8>, AllocError>
-    ensures drawn { IfOk result (λ text. text.items ≡ letters generator.old ++ between.now ++ letters
-        (after 3 generator.old)) }
-    ensures next { generator.new ≡ after 6 generator.old }
+    ensures drawn { IfOk result (λ text. text.items ≡ letters generator.old.number ++ between.now ++ letters
+        (after 3 generator.old.number)) }
+    ensures next { generator.new.number ≡ after 6 generator.old.number }
 {
     let first = generator.letters();
     let second = generator.letters();
@@ -110,8 +110,8 @@ fn draw_two_words(alloc: Global, generator: &mut Generator, between: &[u8]) -> R
 
 /// So many bytes of a stream.
 fn draw_bytes(alloc: Global, generator: &mut Generator, count: usize) -> Result<Vec<u8>, AllocError>
-    ensures drawn { IfOk result (λ drawn. drawn.items ≡ bytes count generator.old) }
-    ensures next { OnOk result (generator.new ≡ after count generator.old) }
+    ensures drawn { IfOk result (λ drawn. drawn.items ≡ bytes count generator.old.number) }
+    ensures next { OnOk result (generator.new.number ≡ after count generator.old.number) }
 {
     let mut drawn = Vec::with_capacity(alloc, count)?;
     for _place in 0..count {

@@ -2,8 +2,6 @@
 ghost use Rattle.std.specs.Prelude.{◌≡◌, ℕ, ◌<◌};
 ghost use Rattle.hs_soak.specs.Drawing.{stepped, drawn, after, first_of, letter, letters, byte, piece_length};
 
-use std::marker::Model;
-
 /// How many numbers the generator has.
 const NUMBERS: u64 = 2_147_483_648;
 
@@ -13,18 +11,10 @@ pub struct Generator {
     number: u32,
 }
 
-impl Model for Generator {
-    ghost use Rattle.std.specs.Prelude.{ℕ};
-
-    ghost Value = { ℕ };
-
-    ghost view = { λ g. g.number };
-}
-
 impl Generator {
     /// The generator of a seed.
     pub fn new(seed: u32) -> Self
-        ensures { result ≡ first_of seed }
+        ensures { result.number ≡ first_of seed }
     {
         Generator {
             number: seed % NUMBERS as u32,
@@ -34,8 +24,8 @@ impl Generator {
     /// A number below the bound.
     pub fn draw(&mut self, bound: u32) -> u32
         requires { 0 < bound }
-        ensures value { result ≡ drawn bound self.old }
-        ensures next { self.new ≡ stepped self.old }
+        ensures value { result ≡ drawn bound self.old.number }
+        ensures next { self.new.number ≡ stepped self.old.number }
     {
         let next = (1_103_515_245 * u64::from(self.number) + 12_345) % NUMBERS;
         self.number = next as u32;
@@ -44,32 +34,32 @@ impl Generator {
 
     /// A letter `a` to `f`.
     fn letter(&mut self) -> u8
-        ensures value { result ≡ letter self.old }
-        ensures next { self.new ≡ stepped self.old }
+        ensures value { result ≡ letter self.old.number }
+        ensures next { self.new.number ≡ stepped self.old.number }
     {
         b'a' + self.draw(6) as u8
     }
 
     /// Three letters.
     pub(crate) fn letters(&mut self) -> [u8; 3]
-        ensures value { result ≡ letters self.old }
-        ensures next { self.new ≡ after 3 self.old }
+        ensures value { result ≡ letters self.old.number }
+        ensures next { self.new.number ≡ after 3 self.old.number }
     {
         [self.letter(), self.letter(), self.letter()]
     }
 
     /// A byte of a stream: `a` to `f`, a line feed, a space, `0` or `1`.
     pub(crate) fn byte(&mut self) -> u8
-        ensures value { result ≡ byte (drawn 10 self.old) }
-        ensures next { self.new ≡ stepped self.old }
+        ensures value { result ≡ byte (drawn 10 self.old.number) }
+        ensures next { self.new.number ≡ stepped self.old.number }
     {
         byte_of(self.draw(10))
     }
 
     /// The length of a piece of a run.
     pub(crate) fn piece_length(&mut self) -> usize
-        ensures value { result ≡ piece_length self.old }
-        ensures next { self.new ≡ stepped self.old }
+        ensures value { result ≡ piece_length self.old.number }
+        ensures next { self.new.number ≡ stepped self.old.number }
     {
         1 + self.draw(97) as usize
     }
