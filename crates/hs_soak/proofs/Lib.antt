@@ -1,1 +1,4 @@
 pub mod DrawingLemmas
+pub mod TallyLemmas
+pub mod RunLemmas
+pub mod SoakLemmas

@@ -1,5 +1,5 @@
 -- Runs: a stream of a database from its open to its close, with a tally of what it reported.
-use Rattle.std.specs.Prelude.{◌≡◌, ℕ, List, ◌++◌, [], Result, Ok, Err}
+use Rattle.std.specs.Prelude.{◌≡◌, ℕ, ◌%◌, Bool, false, ◌==◌, List, ◌++◌, []}
 use Rattle.hs_base.specs.Patterns.{Pattern}
 use Rattle.hs_base.specs.Told.{Pair, IsNew, IsLast}
 use Rattle.hs_compile.specs.Databases.{Compiled}
@@ -7,7 +7,25 @@ use Rattle.hs_stream.specs.Saving.{IsSaved, IsExpanded}
 use Rattle.hs_stream.specs.Streams.{IsFresh, IsStreamOf, Writes, Closes, region_of}
 use Rattle.hs_stream.specs.declared.stream.Stream.{Stream}
 use Rattle.hs_soak.specs.declared.tally.Tally.{Tally}
+use Rattle.hs_soak.specs.declared.runs.Cutting.{Cutting}
+use Rattle.hs_soak.specs.declared.runs.Cutting.TheVariants.{Even, Drawn}
+use Rattle.hs_soak.specs.Drawing.{piece_length, stepped}
 use Rattle.hs_soak.specs.Tallies.{tally_of, with_pairs}
+
+-- the length of the next piece, where there are as many bytes
+abbrev pub next_length : Cutting → ℕ
+next_length Even = 97
+next_length (Drawn generator) = piece_length generator.number
+
+-- how the stream is cut behind it
+abbrev pub behind_length : Cutting → Cutting
+behind_length Even = Even
+behind_length (Drawn generator) = Drawn (record { number = stepped generator.number })
+
+-- the stream is saved behind so many pieces
+abbrev pub saves_behind : Cutting → (pieces : ℕ) → Bool
+saves_behind Even pieces = false
+saves_behind (Drawn generator) pieces = pieces % 16 == 0
 
 -- Some pairs were reported, of which that holds, and they were added to the tally.
 pub record IsAdded (before now : Tally) (Holds : List Pair → Type 0) : Type 0 where

@@ -12,5 +12,7 @@ mod tally;
 
 pub use drawing::Drawn;
 pub use generator::Generator;
+pub use runs::{Cutting, run};
 pub use soak_command::soak;
+pub use swapping::{InMemory, Keeper};
 pub use tally::Tally;

@@ -1,13 +1,13 @@
 //! The two runs over the stream.
-ghost use Rattle.std.specs.Prelude.{◌≡◌, ◌<◌, List, [], IfOk, OnOk};
+ghost use Rattle.std.specs.Prelude.{◌≡◌, ◌<◌, true, List, [], IfOk, OnOk};
 ghost use Rattle.hs_stream.specs.Scratches.{IsScratchOf};
 ghost use Rattle.hs_stream.specs.Streams.{IsStreamOf, Writes, Closes, region_of};
 ghost use Rattle.hs_stream.specs.Standing.{RunsPatterns};
 ghost use Rattle.hs_base.specs.Patterns.{Pattern};
-ghost use Rattle.hs_soak.specs.Runs.{IsAdded, IsSummary};
+ghost use Rattle.hs_soak.specs.Runs.{IsAdded, IsSummary, IsSwapped};
 
 use crate::generator::Generator;
-use crate::swapping::swap;
+use crate::swapping::{Keeper, swap};
 use crate::tally::Tally;
 use hs_compile::Database;
 use hs_engine::Steps;
@@ -24,7 +24,7 @@ const PIECES_KEPT: u64 = 16;
 
 /// How a run cuts the stream.
 #[derive(Clone, Copy, Debug)]
-pub(crate) enum Cutting {
+pub enum Cutting {
     /// Into pieces of one length.
     Even,
     /// Into pieces whose lengths are drawn. The stream is saved and expanded behind each sixteenth of them.
@@ -32,9 +32,14 @@ pub(crate) enum Cutting {
 }
 
 impl Cutting {
+    ghost use Rattle.std.specs.Prelude.{◌≡◌, ◌<◌};
+    ghost use Rattle.hs_soak.specs.Runs.{behind_length, next_length, saves_behind};
+
     /// The length of the next piece, where there are as many bytes.
     fn next_length(&mut self) -> usize
-        ensures { 0 < result }
+        ensures some { 0 < result }
+        ensures value { result ≡ next_length self.old }
+        ensures next { self.new ≡ behind_length self.old }
     {
         match self {
             Cutting::Even => EVEN_LEN,
@@ -43,7 +48,9 @@ impl Cutting {
     }
 
     /// Whether the stream is saved behind so many pieces.
-    fn saves_behind(&self, pieces: u64) -> bool {
+    fn saves_behind(&self, pieces: u64) -> bool
+        ensures { result ≡ saves_behind self.now pieces }
+    {
         match self {
             Cutting::Even => false,
             Cutting::Drawn(_) => pieces % PIECES_KEPT == 0,
@@ -53,25 +60,27 @@ impl Cutting {
 
 /// A run over the bytes as one stream, with room for so many reports of a piece: the tally of what it reported. The
 /// error is want of memory, or of that room.
-pub(crate) fn run(
+pub fn run<K: Keeper>(
     alloc: Global,
     db: &Database,
     bytes: &[u8],
     cutting: Cutting,
     room: usize,
+    keeper: &mut K,
 ) -> Result<Tally, AllocError>
     ensures { IfOk result (λ tally. (P : List Pattern) → RunsPatterns db.now P → IsSummary P bytes.now tally) }
 {
-    run_counted::<Brand>(alloc, db, bytes, cutting, room, Blank::new(1))
+    run_counted::<K, Brand>(alloc, db, bytes, cutting, room, keeper, Blank::new(1))
 }
 
 /// Such a run, which counts the steps of engines in a ledger of its own.
-fn run_counted<L: Ledger>(
+fn run_counted<K: Keeper, L: Ledger>(
     alloc: Global,
     db: &Database,
     bytes: &[u8],
     cutting: Cutting,
     room: usize,
+    keeper: &mut K,
     blank: Blank,
 ) -> Result<Tally, AllocError>
     requires name { blank.name ≡ L.name }
@@ -88,6 +97,7 @@ fn run_counted<L: Ledger>(
         bytes,
         cutting,
         room,
+        keeper,
         &mut scratch,
         &mut collected,
         &mut steps,
@@ -95,12 +105,13 @@ fn run_counted<L: Ledger>(
 }
 
 /// Such a run, with memory to scan and to collect.
-fn run_over<L: Ledger>(
+fn run_over<K: Keeper, L: Ledger>(
     alloc: Global,
     db: &Database,
     bytes: &[u8],
     mut cutting: Cutting,
     room: usize,
+    keeper: &mut K,
     scratch: &mut Scratch,
     collected: &mut Collected,
     steps: &mut Steps<L>,
@@ -127,7 +138,7 @@ fn run_over<L: Ledger>(
         )?;
         rest = behind;
         pieces += 1;
-        stream = go_on(alloc, db, stream, cutting.saves_behind(pieces))?;
+        stream = go_on(alloc, db, stream, cutting.saves_behind(pieces), keeper)?;
     }
     close_run(db, stream, tally, room, scratch, collected, steps)
 }
@@ -178,24 +189,26 @@ fn close_run<L: Ledger>(
 {
     stream.close(db, scratch, collected, steps);
     match tally.taking(collected, room) {
-        Some(now) => Ok(now),
+        Some(last) => Ok(last),
         None => Err(AllocError),
     }
 }
 
 /// The stream that the run goes on with: where it is saved here, what that is expanded to.
-fn go_on(
+fn go_on<K: Keeper>(
     alloc: Global,
     db: &Database,
     stream: Stream,
     is_saved: bool,
+    keeper: &mut K,
 ) -> Result<Stream, AllocError>
     requires { IsStreamOf db.now stream }
     ensures fits { IfOk result (IsStreamOf db.now) }
     ensures region { IfOk result (λ next. region_of next ≡ region_of stream) }
+    ensures swapped { is_saved ≡ true → IfOk result (IsSwapped db.now stream) }
 {
     if is_saved {
-        swap(alloc, db, stream)
+        swap(alloc, db, stream, keeper)
     } else {
         Ok(stream)
     }

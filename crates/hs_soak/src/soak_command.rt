@@ -12,6 +12,7 @@ ghost use Rattle.hs_soak.specs.Endings.{IsSoakText, SoakEnds};
 use crate::drawing::Drawn;
 use crate::runs::{Cutting, run};
 use crate::summary::summary;
+use crate::swapping::InMemory;
 use hs_base::Entry;
 use hs_compile::{CompileFault, Database, compile};
 use hs_lists::Fault;
@@ -90,8 +91,10 @@ fn text_over(
 {
     let room = REPORTS_EACH * count as usize;
     let bytes = drawn.bytes.as_slice();
-    let even = run(alloc, database, bytes, Cutting::Even, room)?;
-    let cut = run(alloc, database, bytes, Cutting::Drawn(drawn.lengths), room)?;
+    let mut keeper = InMemory;
+    let even = run(alloc, database, bytes, Cutting::Even, room, &mut keeper)?;
+    let drawn_cutting = Cutting::Drawn(drawn.lengths);
+    let cut = run(alloc, database, bytes, drawn_cutting, room, &mut keeper)?;
     let region = database.region_size() as u64;
     summary(
         alloc,
