@@ -2,3 +2,4 @@ pub mod DrawingLemmas
 pub mod TallyLemmas
 pub mod RunLemmas
 pub mod SoakLemmas
+pub mod LineLemmas

@@ -1,5 +1,7 @@
 -- A run, from its open to its close.
-use Rattle.std.proofs.Common.{◌≡◌, ◌∙◌, ℕ, List, [], ◌++◌, take, drop, refl, sym, ap, subst, append_assoc, append-nil}
+use Rattle.std.proofs.Common.{◌≡◌, ◌∙◌, ℕ, zero, suc, ◌+◌, ◌<◌, ◌≤◌, ◌==◌, min, Bool, true, false, not, List, [], ◌++◌, length, take, drop, ap₂, arith, refl, sym, ap, subst, append_assoc, append-nil}
+use Rattle.std.proofs.lemmas.Bool.{eqb-true, eqb-false}
+use Rattle.std.proofs.lemmas.List.{nil_from_length, take-append-drop}
 use Rattle.hs_base.specs.Patterns.{Pattern}
 use Rattle.hs_base.specs.Told.{Pair}
 use Rattle.hs_compile.specs.Databases.{Compiled}
@@ -31,6 +33,20 @@ run-start db bytes stream fresh = record {
   split = refl;
   run = record { start = stream; fresh = fresh; pairs = []; writes = writes-none db stream; counted = refl };
 }
+
+pub piece-split : (n : ℕ) (rest piece behind : List ℕ) → piece ≡ take n rest → behind ≡ drop n rest → piece ++ behind ≡ rest
+piece-split n rest piece behind front back = ap₂ (λ (l r : List ℕ). l ++ r) front back ∙ take-append-drop n rest
+
+-- a piece isn't empty
+least : (a b : ℕ) → 0 < a → 0 < b → 0 < min a b
+least zero b some other = absurd (omega (arith, some))
+least (suc a) zero some other = absurd (omega (arith, other))
+least (suc a) (suc b) some other = omega arith
+
+pub count-more : (pieces n next rest behind bytes : ℕ) → n ≡ min next rest → 0 < next → 0 < rest → behind + n ≡ rest → pieces + rest ≤ bytes → pieces + 1 + behind ≤ bytes
+count-more pieces n next rest behind bytes is some left split within =
+    let more : 0 < min next rest = least next rest some left in
+    omega (arith, more, is, split, within)
 
 -- a piece more
 pub run-more : (db : Compiled) (bytes rest piece behind : List ℕ) (old between new : Stream) (before now : Tally) → IsRunTo db bytes rest old before → piece ++ behind ≡ rest → IsAdded before now (Writes db old between piece) → region_of new ≡ region_of between →
@@ -64,3 +80,13 @@ run-closed db bytes rest stream before now to none added P runs =
       by_end = end-last db P to.written stream added.pairs moves.stands added.holds;
       counted = added.added ∙ (ap (λ t. with_pairs t added.pairs) run.counted ∙ tally-join run.pairs added.pairs);
     })
+
+pub none-left : (rest : List ℕ) → (length rest == 0) ≡ true → rest ≡ []
+none-left rest e = nil_from_length rest (eqb-true (length rest) 0 e)
+
+pub some-left : (rest : List ℕ) → (length rest == 0) ≡ false → 0 < length rest
+some-left rest e = let apart = eqb-false (length rest) 0 e in positive (length rest) apart
+  where
+    positive : (n : ℕ) → (n ≡ 0 → ⊥) → 0 < n
+    positive zero unequal = absurd (unequal refl)
+    positive (suc n) unequal = omega arith

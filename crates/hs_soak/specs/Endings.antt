@@ -13,15 +13,16 @@ use Rattle.hs_soak.specs.declared.tally.Tally.{Tally}
 use Rattle.hs_soak.specs.Drawing.{drawn_entries, drawn_stream}
 use Rattle.hs_soak.specs.Runs.{IsSummary}
 
--- the line of a run: its name, how many reports there were, and the sum of their ends
-abbrev pub run_line : (name : List ℕ) → Tally → List ℕ
-run_line name tally = name ++ codes " " ++ decimal tally.count ++ codes " " ++ decimal tally.sum ++ codes "\n"
-
--- `expressions N`, `bytes L` and `region R`, a line each, and those of the two runs, `even` and `cut`
+-- `expressions N`, `bytes L` and `region R`, a line each, and then of the two runs, `even` and `cut`, how many reports
+-- there were and the sum of their ends
 abbrev pub soak_lines : (expressions bytes region : ℕ) → (even cut : Tally) → List ℕ
 soak_lines expressions bytes region even cut =
-    codes "expressions " ++ decimal expressions ++ codes "\nbytes " ++ decimal bytes ++ codes "\nregion "
-    ++ decimal region ++ codes "\n" ++ run_line (codes "even") even ++ run_line (codes "cut") cut
+    codes "expressions " ++ (decimal expressions
+    ++ (codes "\nbytes " ++ (decimal bytes
+    ++ (codes "\nregion " ++ (decimal region
+    ++ (codes "\neven " ++ (decimal even.count ++ (codes " " ++ (decimal even.sum
+    ++ (codes "\ncut " ++ (decimal cut.count ++ (codes " " ++ (decimal cut.sum
+    ++ codes "\n")))))))))))))
 
 -- The text of the runs over what is drawn from the seed: both tell the same.
 pub record IsSoakText (seed count : ℕ) (text : List ℕ) : Type 0 where

@@ -55,10 +55,17 @@ fn sum_with(start: u64, reports: &[Report]) -> Option<u64>
 {
     let mut sum = start;
     for report in reports {
-        let Some(more) = sum.checked_add(report.to) else {
+        let Some(more) = with_end(sum, report) else {
             return None;
         };
         sum = more;
     }
     Some(sum)
+}
+
+/// The sum with the end of a report; none where it doesn't fit into 64 bits.
+fn with_end(sum: u64, report: &Report) -> Option<u64>
+    ensures { IfSome result (λ more. more ≡ sum + report.now.to) }
+{
+    sum.checked_add(report.to)
 }
