@@ -1,5 +1,5 @@
 -- What is drawn, step by step.
-use Rattle.std.proofs.Common.{◌≡◌, ◌∙◌, ℕ, ◌+◌, ◌==◌, ◌||◌, true, false, Bool, List, [], ◌∷◌, ◌++◌, map, codes, if◌then◌else◌, refl, sym, ap, ap₂, append_assoc, subst, arith, suc}
+use Rattle.std.proofs.Common.{◌≡◌, ◌∙◌, ℕ, ◌+◌, ◌==◌, Bool, List, [], ◌∷◌, ◌++◌, map, codes, if◌then◌else◌, sym, ap, ap₂, append_assoc, subst, arith, suc}
 use Rattle.std.proofs.lemmas.Bool.{ne_eqb}
 use Rattle.std.proofs.lemmas.List.{map-append}
 use Rattle.hs_base.specs.Entries.{ListedEntry, listed}

@@ -1,9 +1,8 @@
 -- A run, from its open to its close.
-use Rattle.std.proofs.Common.{◌≡◌, ◌∙◌, ℕ, zero, suc, ◌+◌, ◌<◌, ◌≤◌, ◌==◌, min, Bool, true, false, not, List, [], ◌++◌, length, take, drop, ap₂, arith, refl, sym, ap, subst, append_assoc, append-nil}
+use Rattle.std.proofs.Common.{◌≡◌, ◌∙◌, ℕ, zero, suc, ◌+◌, ◌<◌, ◌≤◌, ◌==◌, min, true, false, List, [], ◌++◌, length, take, drop, ap₂, arith, refl, sym, ap, subst, append_assoc, append-nil}
 use Rattle.std.proofs.lemmas.Bool.{eqb-true, eqb-false}
 use Rattle.std.proofs.lemmas.List.{nil_from_length, take-append-drop}
 use Rattle.hs_base.specs.Patterns.{Pattern}
-use Rattle.hs_base.specs.Told.{Pair}
 use Rattle.hs_compile.specs.Databases.{Compiled}
 use Rattle.hs_stream.specs.declared.stream.Stream.{Stream}
 use Rattle.hs_stream.specs.Leading.{LeadsTo}
@@ -14,7 +13,7 @@ use Rattle.hs_stream.proofs.SavingLemmas.{saved-taken}
 use Rattle.hs_stream.proofs.StandLemmas.{fresh-stands, write-moves, end-last}
 use Rattle.hs_soak.specs.declared.tally.Tally.{Tally}
 use Rattle.hs_soak.specs.Runs.{IsAdded, IsRun, IsSummary, IsSwapped}
-use Rattle.hs_soak.specs.Tallies.{tally_of, with_pairs}
+use Rattle.hs_soak.specs.Tallies.{with_pairs}
 use Rattle.hs_soak.proofs.TallyLemmas.{tally-join}
 
 -- what is swapped has the same region

@@ -1,5 +1,5 @@
 -- What the command writes, and how it ends.
-use Rattle.std.proofs.Common.{◌≡◌, ◌∙◌, ℕ, zero, suc, ◌+◌, ◌*◌, List, [], ◌∷◌, ◌++◌, length, Option, Some, None, refl, sym, ap, ap₂, subst, arith, length-append}
+use Rattle.std.proofs.Common.{◌≡◌, ◌∙◌, ℕ, zero, suc, ◌*◌, List, [], ◌∷◌, ◌++◌, length, Option, Some, None, refl, sym, ap, ap₂, subst, arith, length-append}
 use Rattle.hs_base.specs.Patterns.{Pattern}
 use Rattle.hs_base.proofs.ToldLemmas.{new-once, last-once}
 use Rattle.hs_compile.specs.Answers.{IsCompiled}

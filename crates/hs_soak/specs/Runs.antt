@@ -4,7 +4,7 @@ use Rattle.hs_base.specs.Patterns.{Pattern}
 use Rattle.hs_base.specs.Told.{Pair, IsNew, IsLast}
 use Rattle.hs_compile.specs.Databases.{Compiled}
 use Rattle.hs_stream.specs.Saving.{IsSaved, IsExpanded}
-use Rattle.hs_stream.specs.Streams.{IsFresh, IsStreamOf, Writes, Closes, region_of}
+use Rattle.hs_stream.specs.Streams.{IsFresh, Writes, region_of}
 use Rattle.hs_stream.specs.declared.stream.Stream.{Stream}
 use Rattle.hs_soak.specs.declared.tally.Tally.{Tally}
 use Rattle.hs_soak.specs.declared.runs.Cutting.{Cutting}

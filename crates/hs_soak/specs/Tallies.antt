@@ -1,5 +1,5 @@
 -- How reports are counted.
-use Rattle.std.specs.Prelude.{ℕ, ◌+◌, List, length}
+use Rattle.std.specs.Prelude.{◌+◌, List, length}
 use Rattle.std.specs.List.{sum_by}
 use Rattle.hs_base.specs.Told.{Pair}
 use Rattle.hs_base.specs.declared.entry.Report.{Report}

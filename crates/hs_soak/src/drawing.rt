@@ -41,7 +41,11 @@ impl Drawn {
 }
 
 /// So many entries, which are numbered from 1.
-fn draw_entries(alloc: Global, generator: &mut Generator, count: u32) -> Result<Vec<Entry>, AllocError>
+fn draw_entries(
+    alloc: Global,
+    generator: &mut Generator,
+    count: u32,
+) -> Result<Vec<Entry>, AllocError>
     ensures drawn { IfOk result (λ drawn. map listed drawn.items ≡ entries count generator.old.number) }
     ensures next { OnOk result (generator.new.number ≡ behind_entries count generator.old.number) }
 {
@@ -69,7 +73,11 @@ fn draw_entry(alloc: Global, generator: &mut Generator, id: u32) -> Result<Entry
 }
 
 /// An expression that is made in that way.
-fn draw_expression(alloc: Global, generator: &mut Generator, made: u32) -> Result<Vec<u8>, AllocError>
+fn draw_expression(
+    alloc: Global,
+    generator: &mut Generator,
+    made: u32,
+) -> Result<Vec<u8>, AllocError>
     ensures drawn { IfOk result (λ text. text.items ≡ expression made generator.old.number) }
     ensures next { OnOk result (generator.new.number ≡ after (letter_count made) generator.old.number) }
 {
@@ -94,7 +102,11 @@ fn draw_word(alloc: Global, generator: &mut Generator, before: &[u8]) -> Result<
 }
 
 /// Three letters, these bytes, and three letters more.
-fn draw_two_words(alloc: Global, generator: &mut Generator, between: &[u8]) -> Result<Vec<u8>, AllocError>
+fn draw_two_words(
+    alloc: Global,
+    generator: &mut Generator,
+    between: &[u8],
+) -> Result<Vec<u8>, AllocError>
     ensures drawn { IfOk result (λ text. text.items ≡ letters generator.old.number ++ between.now ++ letters
         (after 3 generator.old.number)) }
     ensures next { generator.new.number ≡ after 6 generator.old.number }

@@ -24,12 +24,7 @@ const REPORTS_EACH: usize = 194;
 
 /// Draws a list of so many expressions and a stream from the seed, scans the stream in two ways, and writes what both
 /// reported.
-pub fn soak<'a, O: Sink>(
-    alloc: Global,
-    seed: u32,
-    count: u32,
-    out: &mut O,
-) -> Result<(), Fault<'a>>
+pub fn soak<'a, O: Sink>(alloc: Global, seed: u32, count: u32, out: &mut O) -> Result<(), Fault<'a>>
     ensures { (told : List ℕ → Told) (stored : ℕ) → SoakEnds seed count
         (outside_of told stored (O.written out.old) (O.faults out.old))
         (outside_of told stored (O.written out.new) (O.faults out.new))

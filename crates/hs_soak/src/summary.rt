@@ -19,5 +19,7 @@ pub(crate) fn summary(
 {
     let (count, sum) = (even.count, even.sum);
     let (cut_count, cut_sum) = (cut.count, cut.sum);
-    format!(in alloc; "expressions {expressions}\nbytes {bytes}\nregion {region}\neven {count} {sum}\ncut {cut_count} {cut_sum}\n")
+    format!(in alloc;
+        "expressions {expressions}\nbytes {bytes}\nregion {region}\neven {count} {sum}\ncut {cut_count} {cut_sum}\n"
+    )
 }

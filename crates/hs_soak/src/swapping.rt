@@ -21,12 +21,7 @@ pub trait Keeper {
         ensures { IfOk result (λ bytes. IsSaved db.now bytes.items (region_of stream)) };
 
     /// The stream that was saved as these bytes. The error is want of memory.
-    fn take_up(
-        &mut self,
-        alloc: Global,
-        db: &Database,
-        bytes: &[u8],
-    ) -> Result<Stream, AllocError>
+    fn take_up(&mut self, alloc: Global, db: &Database, bytes: &[u8]) -> Result<Stream, AllocError>
         ensures { IfOk result (IsExpanded db.now bytes.now) };
 }
 

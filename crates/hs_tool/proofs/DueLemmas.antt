@@ -92,15 +92,15 @@ stopped-told due (Endings.no_memory none) tells quiet = inr refl
 
 -- a command whose list isn't loaded
 due-stopped : (request : Request) (before now : Outside) (input inputs : Input) (cause : Cause) → NamesList request → StopsList (list_kind request) (list_name request) (before.told (list_name request)) before.stored now.stored cause → IsDueOutcome (Some request) before now input inputs (Some cause)
-due-stopped request before now input inputs cause lists stops due (Answers.unloaded _ other names is) quiet still reads = stopped-due stops is quiet
-due-stopped request before now input inputs cause lists stops due (Answers.no_file _ file scans tells gone) quiet still reads = stopped-told due stops tells quiet
-due-stopped request before now input inputs cause lists stops due (Answers.long_file _ file contents scans tells there longer) quiet still reads = stopped-told due stops tells quiet
-due-stopped request before now input inputs cause lists stops due (Answers.whole _ file contents scans tells there fits) quiet still reads = stopped-told due stops tells quiet
-due-stopped request before now input inputs cause lists stops due (Answers.whole_script _ bytes actions scans tells gives within is') quiet still reads = stopped-told due stops tells quiet
-due-stopped request before now input inputs cause lists stops due (Answers.faulty_script _ bytes actions fault scans tells gives within is') quiet still reads = stopped-told due stops tells quiet
-due-stopped request before now input inputs cause lists stops due (Answers.loaded _ scans tells) quiet still reads = stopped-told due stops tells quiet
-due-stopped request before now input inputs cause lists stops due (Answers.drawn seed count P accepted) quiet still reads = absurd lists
-due-stopped request before now input inputs cause lists stops due (Answers.drawn_refused seed count number id refusal first) quiet still reads = absurd lists
+due-stopped request before now input inputs cause from_file stops due (Answers.unloaded _ other names is) quiet still reads = stopped-due stops is quiet
+due-stopped request before now input inputs cause from_file stops due (Answers.no_file _ file scans tells gone) quiet still reads = stopped-told due stops tells quiet
+due-stopped request before now input inputs cause from_file stops due (Answers.long_file _ file contents scans tells there longer) quiet still reads = stopped-told due stops tells quiet
+due-stopped request before now input inputs cause from_file stops due (Answers.whole _ file contents scans tells there fits) quiet still reads = stopped-told due stops tells quiet
+due-stopped request before now input inputs cause from_file stops due (Answers.whole_script _ bytes actions scans tells gives within is') quiet still reads = stopped-told due stops tells quiet
+due-stopped request before now input inputs cause from_file stops due (Answers.faulty_script _ bytes actions fault scans tells gives within is') quiet still reads = stopped-told due stops tells quiet
+due-stopped request before now input inputs cause from_file stops due (Answers.loaded _ scans tells) quiet still reads = stopped-told due stops tells quiet
+due-stopped request before now input inputs cause from_file stops due (Answers.drawn seed count P accepted) quiet still reads = absurd from_file
+due-stopped request before now input inputs cause from_file stops due (Answers.drawn_refused seed count number id refusal first) quiet still reads = absurd from_file
 
 -- one file is scanned
 same-name : {file other : List ℕ} → file_named file ≡ file_named other → file ≡ other
@@ -277,8 +277,8 @@ due-soaked seed count text before now input inputs is due (Answers.unloaded _ ot
 due-soaked seed count text before now input inputs is due (Answers.no_file _ file scans tells gone) quiet still reads = absurd (drawn-file scans)
 due-soaked seed count text before now input inputs is due (Answers.long_file _ file contents scans tells there longer) quiet still reads = absurd (drawn-file scans)
 due-soaked seed count text before now input inputs is due (Answers.whole _ file contents scans tells there fits) quiet still reads = absurd (drawn-file scans)
-due-soaked seed count text before now input inputs is due (Answers.whole_script _ bytes actions scans tells gives within script) quiet still reads = absurd (drawn-script scans)
-due-soaked seed count text before now input inputs is due (Answers.faulty_script _ bytes actions fault scans tells gives within script) quiet still reads = absurd (drawn-script scans)
+due-soaked seed count text before now input inputs is due (Answers.whole_script _ bytes actions scans tells gives within runs) quiet still reads = absurd (drawn-script scans)
+due-soaked seed count text before now input inputs is due (Answers.faulty_script _ bytes actions fault scans tells gives within runs) quiet still reads = absurd (drawn-script scans)
 due-soaked seed count text before now input inputs is due (Answers.loaded _ scans tells) quiet still reads = absurd (drawn-none scans)
 due-soaked seed count text before now input inputs is due (Answers.drawn _ _ P accepted) quiet still reads = inl refl
 due-soaked seed count text before now input inputs is due (Answers.drawn_refused _ _ number id refusal first) quiet still reads =
@@ -290,8 +290,8 @@ due-drawn_refused seed count number id refusal before now input inputs first due
 due-drawn_refused seed count number id refusal before now input inputs first due (Answers.no_file _ file scans tells gone) quiet still reads = absurd (drawn-file scans)
 due-drawn_refused seed count number id refusal before now input inputs first due (Answers.long_file _ file contents scans tells there longer) quiet still reads = absurd (drawn-file scans)
 due-drawn_refused seed count number id refusal before now input inputs first due (Answers.whole _ file contents scans tells there fits) quiet still reads = absurd (drawn-file scans)
-due-drawn_refused seed count number id refusal before now input inputs first due (Answers.whole_script _ bytes actions scans tells gives within script) quiet still reads = absurd (drawn-script scans)
-due-drawn_refused seed count number id refusal before now input inputs first due (Answers.faulty_script _ bytes actions fault scans tells gives within script) quiet still reads = absurd (drawn-script scans)
+due-drawn_refused seed count number id refusal before now input inputs first due (Answers.whole_script _ bytes actions scans tells gives within runs) quiet still reads = absurd (drawn-script scans)
+due-drawn_refused seed count number id refusal before now input inputs first due (Answers.faulty_script _ bytes actions fault scans tells gives within runs) quiet still reads = absurd (drawn-script scans)
 due-drawn_refused seed count number id refusal before now input inputs first due (Answers.loaded _ scans tells) quiet still reads = absurd (drawn-none scans)
 due-drawn_refused seed count number id refusal before now input inputs first due (Answers.drawn _ _ P accepted) quiet still reads =
     absurd (lists.accepted-refused [] number (drawn_entries seed count) P id refusal accepted first)

@@ -1,4 +1,3 @@
-use Rattle.std.proofs.Common.{◌∙◌}
 use Rattle.hs_soak.proofs.DrawingLemmas.{entries-more, entries-next, pushed}
 use Rattle.hs_soak.proofs.drawing.draw_entries.Goals as goal
 
