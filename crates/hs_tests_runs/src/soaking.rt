@@ -17,6 +17,7 @@ const EXPRESSIONS: [&[u8]; 4] = [b"[0-9]+edb", b"fad[a-z]{3,9}aab", b"aaf[a-z]{3
 const STREAM: &[u8] = b"b a1c\n1 eafd1d \n\n0fb ebfc\nefecb edb\n00fd \nfdcedaedc0c  f1dbea10 ";
 
 /// Keeps streams in memory, and counts how many it was given and how many were taken up.
+#[derive(Drop)]
 struct Counting {
     given: u64,
     taken: u64,
