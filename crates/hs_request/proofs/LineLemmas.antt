@@ -1,7 +1,7 @@
 -- A command line that is built in steps is the one that is meant.
 use Rattle.std.proofs.Common.{◌≡◌, ◌||◌, ◌∙◌, ap, ap₂, true, false, codes}
 use Rattle.clap.specs.Simple.{on_top, app_of_fields}
-use Rattle.clap.specs.Words.{AddsSubcommand, App, Text, app_of, new_app, with_subcommand}
+use Rattle.clap.specs.Words.{AddsSubcommand, App, app_of, new_app, with_subcommand}
 use Rattle.clap.specs.declared.builder.command.Command.{Command}
 use Rattle.clap.specs.declared.builder.command.Command.TheViews.{out-Command as fields_of}
 use Rattle.hs_request.specs.Requests.{IsCommand, program}

@@ -1,8 +1,8 @@
 -- Words in which the command line finds no fault name one of its subcommands.
-use Rattle.std.proofs.Common.{◌≡◌, ◌∙◌, ◌&&◌, ℕ, Bool, true, false, not, List, [], ◌∷◌, Option, Some, None, find, is_some, option_map, refl, sym, ap, cond}
+use Rattle.std.proofs.Common.{◌≡◌, ◌∙◌, ◌&&◌, Bool, true, false, not, List, [], ◌∷◌, Option, Some, None, find, is_some, option_map, refl, sym, ap, cond}
 use Rattle.std.specs.List.{list_any}
 use Rattle.clap.specs.Facts.{explicit_source}
-use Rattle.clap.specs.Walk.{Held, Names, Walk, answers_to, finished, nothing_held, settled, walk, walk_from}
+use Rattle.clap.specs.Walk.{Held, Names, answers_to, finished, nothing_held, settled, walk, walk_from}
 use Rattle.clap.specs.Simple.{argument_words, built, entered, label_of, names_of, rows_at}
 use Rattle.clap.specs.Takes.{is_given as is_given_in}
 use Rattle.clap.specs.Kinds.{or_else, check_kinds}
@@ -35,7 +35,7 @@ AreNamed (s ∷ shapes) = IsNamed s × AreNamed shapes
 named : AreNamed (built command_line).subs
 unfolding clap_on_literals
 named =
-    (λ rows e. absurd (cc), (λ rows e. absurd (cc), (λ rows e. absurd (cc), (λ rows e. absurd (cc), (λ rows e. absurd (cc), (λ rows e. absurd (cc), tt))))))
+    (λ rows e. absurd (cc), (λ rows e. absurd (cc), (λ rows e. absurd (cc), (λ rows e. absurd (cc), (λ rows e. absurd (cc), (λ rows e. absurd (cc), (λ rows e. absurd (cc), tt)))))))
 
 -- what is found among them is a request
 abbrev IsAsked : Option Shape → List Text → Type 0

@@ -4,7 +4,7 @@ ghost use Rattle.std.specs.Option.{option_map};
 ghost use Rattle.clap.specs.Words.{found_of, kind_of, rows_of, subcommand_rows_of};
 ghost use Rattle.clap.specs.declared.error.ErrorKind.TheVariants.{OutOfMemory};
 ghost use Rattle.hs_request.specs.Requests.{request_of as request_of_words, request_in, request_named, plain_request};
-ghost use Rattle.hs_request.specs.Requests.{operand_in};
+ghost use Rattle.hs_request.specs.Requests.{operand_in, number_in, number_of};
 
 use crate::command_line::command_line;
 use clap::error::ErrorKind;
@@ -40,6 +40,11 @@ pub enum Request<'a> {
     /// `stream DB`: run the script of the input over streams of a database file.
     Stream {
         database: &'a str,
+    },
+    /// `soak SEED N`: draw so many expressions and a stream from a seed, and scan it in two ways.
+    Soak {
+        seed: u32,
+        count: u32,
     },
 }
 
@@ -106,6 +111,10 @@ fn named<'a>(name: &str, operands: &ArgMatches<'a>) -> Option<Request<'a>>
         "stream" => Some(Request::Stream {
             database: operand(operands, "DB"),
         }),
+        "soak" => Some(Request::Soak {
+            seed: number(operands, "SEED"),
+            count: number(operands, "N"),
+        }),
         _ => None,
     }
 }
@@ -117,5 +126,22 @@ fn operand<'a>(operands: &ArgMatches<'a>, name: &str) -> &'a str
     match operands.get_str(name) {
         Some(word) => word,
         None => "",
+    }
+}
+
+/// The number given for an operand.
+fn number(operands: &ArgMatches<'_>, name: &str) -> u32
+    ensures { result ≡ number_in (rows_of (found_of operands.now)) name.now }
+{
+    number_of(operand(operands, name))
+}
+
+/// The number that a word says; 0 where it says none of 32 bits.
+fn number_of(word: &str) -> u32
+    ensures { result ≡ number_of word.now }
+{
+    match word.parse() {
+        Ok(number) => number,
+        Err(_) => 0,
     }
 }

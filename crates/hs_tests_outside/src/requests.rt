@@ -39,7 +39,19 @@ hs_tool info=
 hs_tool scan d=
 hs_tool stream=
 hs_tool stream d f=
-hs_tool soak 1 2=
+hs_tool soak 1 2=soak,1,2
+hs_tool soak 0 1=soak,0,1
+hs_tool soak 4294967295 1000=soak,4294967295,1000
+hs_tool soak 007 03=soak,7,3
+hs_tool soak 4294967296 1=
+hs_tool soak 1 0=
+hs_tool soak 1 1001=
+hs_tool soak -1 5=
+hs_tool soak x 5=
+hs_tool soak 1 5x=
+hs_tool soak  5=
+hs_tool soak 1=
+hs_tool soak 1 2 3=
 hs_tool help match=";
 
 /// The words of a command line, which stand between single blanks.
@@ -60,12 +72,14 @@ fn parts_of<'r>(request: &Request<'r>) -> (&'static str, &'r str, &'r str) {
         Request::Info { database } => ("info", database, ""),
         Request::Scan { database, file } => ("scan", database, file),
         Request::Stream { database } => ("stream", database, ""),
+        Request::Soak { .. } => ("soak", "", ""),
     }
 }
 
 /// What words ask for, as it stands in a row.
 fn told(alloc: Global, words: &[String]) -> Result<String, AllocError> {
     match request_of(alloc, words)? {
+        Some(Request::Soak { seed, count }) => format!(in alloc; "soak,{seed},{count}"),
         Some(request) => {
             let (command, first, second) = parts_of(&request);
             format!(in alloc; "{command},{first},{second}")

@@ -8,4 +8,6 @@ mod lists;
 #[cfg(test)]
 mod saving;
 #[cfg(test)]
+mod soaking;
+#[cfg(test)]
 mod streams;

@@ -16,8 +16,9 @@ use Rattle.hs_stream.proofs.StandLemmas.{write-moves, end-last}
 use Rattle.hs_lines.specs.Passing.{IsPassedOn}
 use Rattle.hs_tool.specs.Scanning.{Interrupts, IsClosed, IsFileScanned, IsFilePartlyScanned}
 use Rattle.hs_lists.specs.Causes.{Cause, write, memory}
-use Rattle.hs_request.specs.Requests.{Request, match_file, check_list, compile_list, tell_database, scan_file, run_script}
+use Rattle.hs_request.specs.Requests.{Request, match_file, check_list, compile_list, tell_database, scan_file, run_script, soak}
 use Rattle.hs_lists.specs.ListKinds.{ListKind, pattern_file, database_file}
+use Rattle.hs_soak.specs.Endings as soaks
 use Rattle.hs_tool.specs.Answers
 use Rattle.hs_lists.specs.Endings
 use Rattle.hs_lists.specs.Loading.{IsLoaded}
@@ -162,6 +163,7 @@ unread-words (Some (compile_list patterns database)) before input = Endings.stop
 unread-words (Some (tell_database database)) before input = Endings.stopped memory (no_memory_early database_file database before before (Took-nothing before.out) (record { store = refl; sink = refl }))
 unread-words (Some (scan_file database file)) before input = Answers.stopped memory (no_memory_early database_file database before before (Took-nothing before.out) (record { store = refl; sink = refl }))
 unread-words (Some (run_script database)) before input = Answers.stopped memory (no_memory_early database_file database before before (Took-nothing before.out) (record { store = refl; sink = refl })) refl refl
+unread-words (Some (soak seed count)) before input = soaks.no_memory (Took-nothing before.out) (record { store = refl; sink = refl })
 
 -- and no file was put
 pub unput-words : (request : Option Request) (left : Option (List ℕ)) (told : List ℕ → Told) → KeepsFiles request left told told
@@ -172,3 +174,4 @@ unput-words (Some (compile_list patterns database)) left told = inl (λ other ap
 unput-words (Some (tell_database database)) left told = refl
 unput-words (Some (scan_file database file)) left told = refl
 unput-words (Some (run_script database)) left told = keeps-same refl
+unput-words (Some (soak seed count)) left told = refl

@@ -4,16 +4,18 @@ use Rattle.hs_base.specs.Entries.{ListedEntry}
 use Rattle.hs_outside.specs.Counts.{Rose}
 use Rattle.hs_outside.specs.Sink.{Took}
 use Rattle.hs_outside.specs.Store.{Told, untold}
-use Rattle.hs_request.specs.Requests.{Request, match_file, check_list, compile_list, tell_database, scan_file, run_script}
+use Rattle.hs_request.specs.Requests.{Request, match_file, check_list, compile_list, tell_database, scan_file, run_script, soak}
 use Rattle.hs_lists.specs.ListKinds.{ListKind}
 use Rattle.hs_tool.specs.Commands.{IsStream}
 use Rattle.hs_lists.specs.Accepting.{IsRefused, bad_line, bad_bytes, bad_form, bad_entry}
 use Rattle.hs_lists.specs.Causes.{Cause, usage, refused, read, write, store, absent, limit, form, script, memory, status_of, status_of_cause}
 use Rattle.hs_tool.proofs.BegunLemmas.{begun-missing}
+use Rattle.hs_soak.specs.Endings as soaks
+use Rattle.hs_soak.specs.Endings.{SoakEnds}
 use Rattle.hs_tool.specs.Answers
 use Rattle.hs_lists.specs.Endings
 use Rattle.hs_lists.specs.Endings.{Outside, StopsList, TellEnds, CompileEnds}
-use Rattle.hs_tool.specs.Answers.{Input, ScanEnds, StreamEnds, Ends, KeepsFiles, IsDue, IsAnswer, TellsFile, IsStatus, IsSilentStatus, HasRun}
+use Rattle.hs_tool.specs.Answers.{Input, ScanEnds, StreamEnds, Ends, KeepsFiles, IsDue, IsAnswer, TellsFile, IsStatus, IsSilentStatus, HasRun, HasSoaked}
 
 is_status : (outcome : Option Cause) → IsStatus (status_of outcome)
 is_status None = inl refl
@@ -104,6 +106,12 @@ stream_usage (Answers.long_script entries P bytes has answered long none still) 
 stream_usage (Answers.store_failed entries P has stopped rose sunk still) e = omega (arith, e)
 stream_usage (Answers.sink_failed entries P has begun rose) e = omega (arith, e)
 
+soak_usage : {seed count : ℕ} {before now : Outside} {outcome : Option Cause} → SoakEnds seed count before now outcome → status_of outcome ≡ 1 → ⊥
+soak_usage (soaks.done text is taken none) e = omega (arith, e)
+soak_usage (soaks.list_refused number id refusal first quiet none) e = omega (arith, e)
+soak_usage (soaks.no_memory quiet none) e = omega (arith, e)
+soak_usage (soaks.sink_failed text is taken rose) e = omega (arith, e)
+
 usage_request : (request : Option Request) (before now : Outside) (input inputs : Input) (outcome : Option Cause) → Ends request before now input inputs outcome → status_of outcome ≡ 1 → request ≡ None
 usage_request None before now input inputs outcome ends e = refl
 usage_request (Some (match_file patterns file)) before now input inputs outcome ends e = absurd (scan_usage ends e)
@@ -112,6 +120,7 @@ usage_request (Some (compile_list patterns database)) before now input inputs ou
 usage_request (Some (tell_database database)) before now input inputs outcome ends e = absurd (tell_usage ends e)
 usage_request (Some (scan_file database file)) before now input inputs outcome ends e = absurd (scan_usage ends e)
 usage_request (Some (run_script database)) before now input inputs outcome ends e = absurd (stream_usage ends e)
+usage_request (Some (soak seed count)) before now input inputs outcome ends e = absurd (soak_usage ends e)
 
 request_usage : (request : Option Request) (before now : Outside) (input inputs : Input) (outcome : Option Cause) → Ends request before now input inputs outcome → request ≡ None → (status_of outcome ≡ 1) ⊎ (status_of outcome ≡ 6)
 request_usage None before now input inputs outcome ends e =
@@ -159,6 +168,12 @@ stream_rose (Answers.long_script entries P bytes has answered long none still) e
 stream_rose (Answers.store_failed entries P has stopped rose sunk still) e = inl rose
 stream_rose (Answers.sink_failed entries P has begun rose) e = inr (inl rose)
 
+soak_rose : {seed count : ℕ} {before now : Outside} {outcome : Option Cause} → SoakEnds seed count before now outcome → status_of outcome ≡ 3 → Rose before.stored now.stored ⊎ Rose before.sunk now.sunk
+soak_rose (soaks.done text is taken none) e = absurd (omega (arith, e))
+soak_rose (soaks.list_refused number id refusal first quiet none) e = absurd (omega (arith, e))
+soak_rose (soaks.no_memory quiet none) e = absurd (omega (arith, e))
+soak_rose (soaks.sink_failed text is taken rose) e = inr rose
+
 ends_rose : (request : Option Request) (before now : Outside) (input inputs : Input) (outcome : Option Cause) → Ends request before now input inputs outcome → status_of outcome ≡ 3 → Fails request before now input inputs
 ends_rose None before now input inputs outcome ends e =
     absurd (elim ends.cause [
@@ -171,6 +186,7 @@ ends_rose (Some (compile_list patterns database)) before now input inputs outcom
 ends_rose (Some (tell_database database)) before now input inputs outcome ends e = failed_elsewhere (tell_rose ends e)
 ends_rose (Some (scan_file database file)) before now input inputs outcome ends e = failed_elsewhere (scan_rose ends e)
 ends_rose (Some (run_script database)) before now input inputs outcome ends e = stream_rose ends e
+ends_rose (Some (soak seed count)) before now input inputs outcome ends e = failed_elsewhere (soak_rose ends e)
 
 -- ---- status 5: a script with a fault
 
@@ -193,6 +209,12 @@ compile_unserved (Endings.stopped cause early kept) e = stops_unserved 5 early.s
 compile_unserved (Endings.put_failed entries P has spoils nothing rose) e = omega (arith, e)
 compile_unserved (Endings.sink_failed entries P bytes has is put taken rose) e = omega (arith, e)
 
+soak_unserved : {seed count : ℕ} {before now : Outside} {outcome : Option Cause} → SoakEnds seed count before now outcome → status_of outcome ≡ 5 → ⊥
+soak_unserved (soaks.done text is taken none) e = omega (arith, e)
+soak_unserved (soaks.list_refused number id refusal first quiet none) e = omega (arith, e)
+soak_unserved (soaks.no_memory quiet none) e = omega (arith, e)
+soak_unserved (soaks.sink_failed text is taken rose) e = omega (arith, e)
+
 ends_script : (request : Option Request) (before now : Outside) (input inputs : Input) (outcome : Option Cause) → Ends request before now input inputs outcome → status_of outcome ≡ 5 → IsStream request
 ends_script None before now input inputs outcome ends e =
     elim ends.cause [
@@ -205,6 +227,7 @@ ends_script (Some (compile_list patterns database)) before now input inputs outc
 ends_script (Some (tell_database database)) before now input inputs outcome ends e = tell_unserved ends e
 ends_script (Some (scan_file database file)) before now input inputs outcome ends e = scan_unserved ends e
 ends_script (Some (run_script database)) before now input inputs outcome ends e = tt
+ends_script (Some (soak seed count)) before now input inputs outcome ends e = soak_unserved ends e
 
 -- a script that was run to its end or its fault
 stream_run : {database : List ℕ} {before now : Outside} {input inputs : Input} {outcome : Option Cause} (n : ℕ) → StreamEnds database before now input inputs outcome → status_of outcome ≡ n → (n ≡ 0) ⊎ (n ≡ 5) → HasRun database before.told now.told input.left before.out now.out n
@@ -221,6 +244,17 @@ stream_run n (Answers.sink_failed entries P has begun rose) e is = absurd (apart
 ends_run : (request : Option Request) (before now : Outside) (input inputs : Input) (outcome : Option Cause) (database : List ℕ) (n : ℕ) → Ends request before now input inputs outcome → request ≡ Some (run_script database) → status_of outcome ≡ n → (n ≡ 0) ⊎ (n ≡ 5) → HasRun database before.told now.told input.left before.out now.out n
 ends_run request before now input inputs outcome database n ends same e is =
     stream_run n (subst (λ r. Ends r before now input inputs outcome) same ends) e is
+
+-- the runs over what is drawn were told
+soak_told : {seed count : ℕ} {before now : Outside} {outcome : Option Cause} → SoakEnds seed count before now outcome → status_of outcome ≡ 0 → HasSoaked seed count before.out now.out
+soak_told (soaks.done text is taken none) e = record { text = text; lines = is; taken = taken }
+soak_told (soaks.list_refused number id refusal first quiet none) e = absurd (omega (arith, e))
+soak_told (soaks.no_memory quiet none) e = absurd (omega (arith, e))
+soak_told (soaks.sink_failed text is taken rose) e = absurd (omega (arith, e))
+
+ends_soaked : (request : Option Request) (before now : Outside) (input inputs : Input) (outcome : Option Cause) (seed count : ℕ) → Ends request before now input inputs outcome → request ≡ Some (soak seed count) → status_of outcome ≡ 0 → HasSoaked seed count before.out now.out
+ends_soaked request before now input inputs outcome seed count ends same e =
+    soak_told (subst (λ r. Ends r before now input inputs outcome) same ends) e
 
 -- ---- the silent statuses
 
@@ -275,6 +309,12 @@ stream_silent (Answers.long_script entries P bytes has answered long none still)
 stream_silent (Answers.store_failed entries P has stopped rose sunk still) e = absurd (loud-failed e)
 stream_silent (Answers.sink_failed entries P has begun rose) e = absurd (loud-failed e)
 
+soak_silent : {seed count : ℕ} {before now : Outside} {outcome : Option Cause} → SoakEnds seed count before now outcome → IsSilentStatus (status_of outcome) → Took before.out now.out []
+soak_silent (soaks.done text is taken none) e = absurd (loud-done e)
+soak_silent (soaks.list_refused number id refusal first quiet none) e = quiet
+soak_silent (soaks.no_memory quiet none) e = quiet
+soak_silent (soaks.sink_failed text is taken rose) e = absurd (loud-failed e)
+
 ends_silent : (request : Option Request) (before now : Outside) (input inputs : Input) (outcome : Option Cause) → Ends request before now input inputs outcome → IsSilentStatus (status_of outcome) → (status_of outcome ≡ 7 → TellsFile request before.told) → Took before.out now.out []
 ends_silent None before now input inputs outcome ends e tells = ends.quiet
 ends_silent (Some (match_file patterns file)) before now input inputs outcome ends e tells = scan_silent ends e tells
@@ -283,6 +323,7 @@ ends_silent (Some (compile_list patterns database)) before now input inputs outc
 ends_silent (Some (tell_database database)) before now input inputs outcome ends e tells = tell_silent ends e
 ends_silent (Some (scan_file database file)) before now input inputs outcome ends e tells = scan_silent ends e tells
 ends_silent (Some (run_script database)) before now input inputs outcome ends e tells = stream_silent ends e
+ends_silent (Some (soak seed count)) before now input inputs outcome ends e tells = soak_silent ends e
 
 compile_unput : {patterns database : List ℕ} {before now : Outside} {outcome : Option Cause} → CompileEnds patterns database before now outcome → IsSilentStatus (status_of outcome) → now.told ≡ before.told
 compile_unput (Endings.done entries P bytes has is put taken none) e = absurd (loud-done e)
@@ -307,6 +348,7 @@ ends_unput (Some (compile_list patterns database)) before now input inputs outco
 ends_unput (Some (tell_database database)) before now input inputs outcome ends kept e = kept
 ends_unput (Some (scan_file database file)) before now input inputs outcome ends kept e = kept
 ends_unput (Some (run_script database)) before now input inputs outcome ends kept e = stream_unput ends e
+ends_unput (Some (soak seed count)) before now input inputs outcome ends kept e = kept
 
 stream_unread : {database : List ℕ} {before now : Outside} {input inputs : Input} {outcome : Option Cause} → StreamEnds database before now input inputs outcome → IsSilentStatus (status_of outcome) → inputs.left ≡ input.left
 stream_unread (Answers.done entries P has served end none still) e = absurd (loud-done e)
@@ -326,6 +368,7 @@ ends_unread (Some (compile_list patterns database)) before now input inputs outc
 ends_unread (Some (tell_database database)) before now input inputs outcome ends kept e = kept (λ is. is)
 ends_unread (Some (scan_file database file)) before now input inputs outcome ends kept e = kept (λ is. is)
 ends_unread (Some (run_script database)) before now input inputs outcome ends kept e = stream_unread ends e
+ends_unread (Some (soak seed count)) before now input inputs outcome ends kept e = kept (λ is. is)
 
 -- ---- of an answer
 
@@ -368,3 +411,7 @@ answer_unread {request} {before} {now} {input} {inputs} answer kept e = ends_unr
 pub answer_run : {request : Option Request} {before now : Outside} {input inputs : Input} {err erred : Option (List ℕ)} {count counted status : ℕ} → IsAnswer request before now input inputs err erred count counted status → (database : List ℕ) → request ≡ Some (run_script database) → (status ≡ 0) ⊎ (status ≡ 5) → HasRun database before.told now.told input.left before.out now.out status
 answer_run {request} {before} {now} {input} {inputs} {status = status} answer database same is =
     ends_run request before now input inputs answer.outcome database status answer.ends same (sym answer.ended) is
+
+pub answer_soaked : {request : Option Request} {before now : Outside} {input inputs : Input} {err erred : Option (List ℕ)} {count counted status : ℕ} → IsAnswer request before now input inputs err erred count counted status → (seed expressions : ℕ) → request ≡ Some (soak seed expressions) → status ≡ 0 → HasSoaked seed expressions before.out now.out
+answer_soaked {request} {before} {now} {input} {inputs} answer seed expressions same e =
+    ends_soaked request before now input inputs answer.outcome seed expressions answer.ends same (sym answer.ended ∙ e)

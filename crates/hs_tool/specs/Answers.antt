@@ -1,6 +1,8 @@
 -- The answers of the program: each with what it says of the store, the sink and the files.
 use Rattle.std.specs.Prelude.{◌≡◌, ◌≢◌, ℕ, ◌<◌, ◌≤◌, ◌⊎◌, List, [], ◌∷◌, length, Option, Some, None}
 use Rattle.hs_base.specs.Lists.{OneOf}
+use Rattle.hs_base.specs.declared.entry.ExprId.{ExprId}
+use Rattle.hs_base.specs.declared.refusal.Refusal.{Refusal}
 use Rattle.hs_base.specs.Entries.{ListedEntry}
 use Rattle.hs_base.specs.Patterns.{Pattern}
 use Rattle.hs_base.specs.Told.{Pair, IsNew}
@@ -12,21 +14,24 @@ use Rattle.hs_outside.specs.Store.{Told, untold, lacks, holds, Begins, IsFile, I
 use Rattle.hs_outside.specs.Store.{KeepsOthers, TellsNothing}
 use Rattle.hs_text.specs.declared.reply_lines.ScriptFault.{ScriptFault}
 use Rattle.hs_request.specs.Requests.{Request, match_file, check_list, compile_list, tell_database, scan_file}
-use Rattle.hs_request.specs.Requests.{run_script}
+use Rattle.hs_request.specs.Requests.{run_script, soak}
 use Rattle.hs_script.specs.Actions.{Action}
 use Rattle.hs_script.specs.Scripts.{IsScript}
 use Rattle.hs_reader.specs.Reading.{most_script}
 use Rattle.hs_lists.specs.ListKinds.{ListKind, pattern_file, database_file}
 use Rattle.hs_tool.specs.Commands.{list_kind, list_name, Scanned, no_bytes}
-use Rattle.hs_tool.specs.Commands.{file_named, script_of_input, scanned_by, IsStream}
+use Rattle.hs_tool.specs.Commands.{file_named, script_of_input, drawn_bytes, scanned_by, IsStream, NamesList}
 use Rattle.hs_lists.specs.Endings.{greatest_list, Outside, NoFault, TookNothing, HasList, StopsEarly, TellEnds}
 use Rattle.hs_lists.specs.Endings.{CompileEnds, IsAcceptedText, IsInfoText}
 use Rattle.hs_lists.specs.Accepting.{IsAccepted, IsRefused}
 use Rattle.hs_base.specs.Offsets.{greatest_offset}
-use Rattle.hs_lists.specs.Causes.{Cause, usage, read, write, store, absent, limit, script, memory, status_of}
+use Rattle.hs_lists.specs.Causes.{Cause, usage, refused, read, write, store, absent, limit, script, memory, status_of}
 use Rattle.hs_lists.specs.Causes.{fault_line}
 use Rattle.hs_base.specs.Regions.{Plan}
+use Rattle.hs_compile.specs.Lists.{AreAcceptedAs, IsFirstRefusal}
 use Rattle.hs_compile.specs.Sizes.{IsPlanOf}
+use Rattle.hs_soak.specs.Drawing.{drawn_entries}
+use Rattle.hs_soak.specs.Endings.{SoakEnds, IsSoakText}
 use Rattle.hs_tool.specs.SavedFiles.{KeepsBut, MaySave}
 use Rattle.hs_tool.specs.Streaming.{Setting, ByEach, IsTextOver, HasServed, HasAnswered, HasStopped, HasBegunAnswers}
 
@@ -177,6 +182,7 @@ Ends (Some (tell_database database)) before now input inputs outcome =
 Ends (Some (scan_file database file)) before now input inputs outcome =
     ScanEnds database_file database file before now outcome
 Ends (Some (run_script database)) before now input inputs outcome = StreamEnds database before now input inputs outcome
+Ends (Some (soak seed count)) before now input inputs outcome = SoakEnds seed count before now outcome
 
 -- The files are as they were, but for the one that `compile` puts, and those that a script saves into; with a put a
 -- store may stop telling of any.
@@ -218,6 +224,7 @@ pub data IsDue (told : List ℕ → Told) (left : Option (List ℕ)) : Option Re
   no_command : IsDue told left None (Some usage)
   -- the list
   unloaded : (request : Request) (cause : Cause) →
+      NamesList request →
       IsListDue (list_kind request) (list_name request) (told (list_name request)) cause →
       IsDue told left (Some request) (Some cause)
   -- the file that is scanned
@@ -258,12 +265,20 @@ pub data IsDue (told : List ℕ → Told) (left : Option (List ℕ)) : Option Re
       scanned_by request ≡ no_bytes →
       TellsList (list_kind request) (told (list_name request)) →
       IsDue told left (Some request) None
+  -- what is drawn is scanned: its list is accepted, or refused
+  drawn : (seed count : ℕ) (P : List Pattern) →
+      AreAcceptedAs (drawn_entries seed count) P →
+      IsDue told left (Some (soak seed count)) None
+  drawn_refused : (seed count number : ℕ) (id : ExprId) (refusal : Refusal) →
+      IsFirstRefusal (drawn_entries seed count) number id refusal →
+      IsDue told left (Some (soak seed count)) (Some (refused (Some (number, id)) refusal))
 
 -- the file that is scanned, if one is, is told
 abbrev pub TellsScanned : Scanned → (List ℕ → Told) → Type 0
 TellsScanned no_bytes told = Unit {0}
 TellsScanned (file_named file) told = told file ≢ untold
 TellsScanned script_of_input told = Unit {0}
+TellsScanned drawn_bytes told = Unit {0}
 
 -- the file that a command scans, if it scans one, is told
 abbrev pub TellsFile : Option Request → (List ℕ → Told) → Type 0
@@ -328,4 +343,11 @@ pub record HasRun (database : List ℕ) (told tells : List ℕ → Told) (left o
   pub ended : status ≡ status_of_ending ending
   pub text : List ℕ
   pub over : ByEach entries patterns (λ basis. IsTextOver basis told tells left ending text)
+  pub taken : Took out outs text
+
+-- The sink took the five lines of `soak`: both runs tell how many new reports the whole stream that is drawn has,
+-- followed by its last ones, and the sum of their ends.
+pub record HasSoaked (seed count : ℕ) (out outs : Option (List ℕ)) : Type 0 where
+  pub text : List ℕ
+  pub lines : IsSoakText seed count text
   pub taken : Took out outs text

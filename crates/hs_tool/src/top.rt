@@ -3,17 +3,19 @@ ghost use Rattle.std.specs.Prelude.{◌≡◌, ◌⊎◌, ℕ, List, [], map, st
 ghost use Rattle.hs_outside.specs.Counts.{Rose};
 ghost use Rattle.hs_outside.specs.Sink.{Took};
 ghost use Rattle.hs_request.specs.Requests.{request_of as request_of_words, plain_request, run_script as run_script_of};
+ghost use Rattle.hs_request.specs.Requests.{soak as soak_of};
 ghost use Rattle.hs_tool.specs.Commands.{IsStream};
 ghost use Rattle.hs_lists.specs.Causes.{Cause, cause_of, outcome_of, status_of, status_of_cause, line_of_cause};
 ghost use Rattle.hs_tool.specs.Answers.{Ends, IsDue, KeepsFiles, TellsFile, Tells, IsAnswer, IsStatus, IsSilentStatus};
 ghost use Rattle.hs_lists.specs.Endings.{outside_of};
-ghost use Rattle.hs_tool.specs.Answers.{HasRun};
+ghost use Rattle.hs_tool.specs.Answers.{HasRun, HasSoaked};
 
 use crate::match_command::match_file;
 use crate::stream_command::run_script;
 use hs_lists::{Fault, ListKind, check_list, compile_list, tell_database};
 use hs_outside::{Failed, Sink, Source, Store};
 use hs_request::{Request, request_of};
+use hs_soak::soak;
 use std::alloc::Global;
 
 /// Does what the words ask for, which begin with the program's name, and gives the status that the program ends with.
@@ -53,6 +55,10 @@ pub fn run<S: Store, I: Source, O: Sink, E: Sink>(
         request_of_words (map string_bytes words.now) ≡ Some (run_script_of database) → (result ≡ 0) ⊎ (result ≡ 5)
         → HasRun database (S.told store.old) (S.told store.new) (I.left input.old) (O.written out.old)
         (O.written out.new) result }
+
+    // Where `soak` ends with 0, `out` took its five lines, of which the last two tell the same of the whole stream.
+    ensures soak { (seed count : ℕ) → request_of_words (map string_bytes words.now) ≡ Some (soak_of seed count)
+        → result ≡ 0 → HasSoaked seed count (O.written out.old) (O.written out.new) }
 
     // Where the store tells the files, the source the script that is run, and no call on them or on `out` failed, the
     // status is the due one, or 6.
@@ -142,5 +148,6 @@ fn execute<'a, S: Store, I: Source, O: Sink>(
             match_file(alloc, ListKind::Database, database, file, store, out)
         }
         Request::Stream { database } => run_script(alloc, database, store, input, out),
+        Request::Soak { seed, count } => soak(alloc, seed, count, out),
     }
 }

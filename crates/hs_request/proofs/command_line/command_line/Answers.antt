@@ -10,4 +10,5 @@ returns c =
     let third = c.in_ok-line-3.ensures.more second in
     let fourth = c.in_ok-line-4.ensures.more third in
     let fifth = c.in_ok-line-5.ensures.more fourth in
-    IfOk-weaker c.with_one-3.result _ _ (λ line adds. adds.more fifth) c.with_one-3.ensures
+    let sixth = c.in_ok-line-6.ensures.more fifth in
+    IfOk-weaker c.with_soak.result _ _ (λ line adds. adds.more sixth) c.with_soak.ensures

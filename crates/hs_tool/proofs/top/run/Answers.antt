@@ -4,7 +4,7 @@ use Rattle.hs_request.specs.Requests.{request_of}
 use Rattle.hs_lists.specs.Causes.{cause_of}
 use Rattle.hs_tool.specs.Answers.{told}
 use Rattle.hs_tool.proofs.DueLemmas.{due_outcome}
-use Rattle.hs_tool.proofs.StatusLemmas.{answer_status, answer_usage, answer_no_command, answer_fault, answer_silent, answer_unput, answer_complete, answer_script, answer_unread, answer_run}
+use Rattle.hs_tool.proofs.StatusLemmas.{answer_status, answer_usage, answer_no_command, answer_fault, answer_silent, answer_unput, answer_complete, answer_script, answer_unread, answer_run, answer_soaked}
 use Rattle.hs_tool.proofs.top.run.Goals as goal
 
 pub returns-in-Ok-clause-answer : goal.returns-in-Ok-clause-answer
@@ -84,3 +84,9 @@ returns-in-Err-clause-unread g c = answer_unread (returns-in-Err-clause-answer g
 
 pub returns-in-Err-clause-stream : goal.returns-in-Err-clause-stream
 returns-in-Err-clause-stream g c = answer_run (returns-in-Err-clause-answer g c)
+
+pub returns-in-Ok-clause-soak : goal.returns-in-Ok-clause-soak
+returns-in-Ok-clause-soak g c = answer_soaked (returns-in-Ok-clause-answer g c)
+
+pub returns-in-Err-clause-soak : goal.returns-in-Err-clause-soak
+returns-in-Err-clause-soak g c = answer_soaked (returns-in-Err-clause-answer g c)

@@ -1,0 +1,5 @@
+pub mod DrawingLemmas
+pub mod TallyLemmas
+pub mod RunLemmas
+pub mod SoakLemmas
+pub mod LineLemmas

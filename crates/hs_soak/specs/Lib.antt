@@ -1,0 +1,4 @@
+pub mod Drawing
+pub mod Tallies
+pub mod Runs
+pub mod Endings

@@ -1,0 +1,104 @@
+//! What is drawn from a seed, and how the runs over it keep their stream. It is `#[cfg(test)]`.
+use hs_base::Entry;
+use hs_compile::{Database, compile};
+use hs_outside::MemSink;
+use hs_soak::{Cutting, Drawn, InMemory, Keeper, Tally, run, soak};
+use hs_stream::Stream;
+use std::alloc::{AllocError, Global};
+use std::test::Fail;
+
+/// What is written of ten expressions drawn from the seed 1, by a slow program of the definitions.
+const SOAKED: &[u8] = b"expressions 10\nbytes 640\nregion 119\neven 3 627\ncut 3 627\n";
+
+/// The first expressions that are drawn from the seed 1.
+const EXPRESSIONS: [&[u8]; 4] = [b"[0-9]+edb", b"fad[a-z]{3,9}aab", b"aaf[a-z]{3,9}fdd", b"ace.*fdd"];
+
+/// The first bytes of the stream behind one of them.
+const STREAM: &[u8] = b"b a1c\n1 eafd1d \n\n0fb ebfc\nefecb edb\n00fd \nfdcedaedc0c  f1dbea10 ";
+
+/// Keeps streams in memory, and counts how many it was given and how many were taken up.
+#[derive(Drop)]
+struct Counting {
+    given: u64,
+    taken: u64,
+}
+
+impl Keeper for Counting {
+    fn give_away(
+        &mut self,
+        alloc: Global,
+        db: &Database,
+        stream: Stream,
+    ) -> Result<Vec<u8>, AllocError> {
+        self.given = self.given.wrapping_add(1);
+        let mut memory = InMemory;
+        memory.give_away(alloc, db, stream)
+    }
+
+    fn take_up(
+        &mut self,
+        alloc: Global,
+        db: &Database,
+        bytes: &[u8],
+    ) -> Result<Stream, AllocError> {
+        self.taken = self.taken.wrapping_add(1);
+        let mut memory = InMemory;
+        memory.take_up(alloc, db, bytes)
+    }
+}
+
+/// Whether the entries are the first ones that are wanted.
+fn are_drawn(entries: &[Entry]) -> bool {
+    entries
+        .iter()
+        .zip(EXPRESSIONS.iter())
+        .all(|(entry, wanted)| entry.text.as_slice() == *wanted)
+}
+
+/// The database of entries that are accepted.
+fn compiled(alloc: Global, entries: &[Entry]) -> Result<Database, Fail> {
+    match compile(alloc, entries) {
+        Ok(database) => Ok(database),
+        Err(_) => Err(Fail::new("a list that is refused")),
+    }
+}
+
+/// The tally of a run with that cutting, and how many streams were given away and taken up.
+fn counted(alloc: Global, drawn: &Drawn, cutting: Cutting) -> Result<(Tally, u64, u64), Fail> {
+    let database = compiled(alloc, &drawn.entries)?;
+    let mut keeper = Counting { given: 0, taken: 0 };
+    let tally = run(alloc, &database, &drawn.bytes, cutting, 19_400, &mut keeper)?;
+    Ok((tally, keeper.given, keeper.taken))
+}
+
+/// What is written of ten expressions that are drawn from the seed 1.
+fn is_soaked(alloc: Global) -> Result<bool, Fail> {
+    let mut out = MemSink::new(alloc, 1_000, &[])?;
+    let is_done = soak(alloc, 1, 10, &mut out).is_ok();
+    Ok(is_done && out.written() == SOAKED)
+}
+
+#[test]
+fn draws_expressions_then_a_stream(rt: HostRuntime) -> Result<(), Fail> {
+    let drawn = Drawn::from_seed(rt.alloc(), 1, 10)?;
+    assert!(rt; drawn.entries.len() == 10 && are_drawn(&drawn.entries));
+    let drawn = Drawn::from_seed(rt.alloc(), 1, 1)?;
+    assert!(rt; drawn.bytes.as_slice() == STREAM);
+    Ok(())
+}
+
+#[test]
+fn saves_behind_each_sixteenth_piece(rt: HostRuntime) -> Result<(), Fail> {
+    let drawn = Drawn::from_seed(rt.alloc(), 1, 100)?;
+    let even = counted(rt.alloc(), &drawn, Cutting::Even)?;
+    let cut = counted(rt.alloc(), &drawn, Cutting::Drawn(drawn.lengths))?;
+    assert!(rt; even == (cut.0, 0, 0), "{even:?} is none of {cut:?}");
+    assert!(rt; cut == (even.0, 8, 8), "{cut:?} is saved otherwise");
+    Ok(())
+}
+
+#[test]
+fn tells_of_both_runs_the_same(rt: HostRuntime) -> Result<(), Fail> {
+    assert!(rt; is_soaked(rt.alloc())?);
+    Ok(())
+}
