@@ -16,7 +16,7 @@ fn add_names(lines: &mut Vec<u8>, start: &[u8], first: u8) -> Result<(), AllocEr
 }
 
 /// A line for each of 4,096 names, which begins so, and the text behind them.
-pub fn name_lines(alloc: Global, start: &[u8], text: &[u8]) -> Result<Vec<u8>, AllocError>
+pub(crate) fn name_lines(alloc: Global, start: &[u8], text: &[u8]) -> Result<Vec<u8>, AllocError>
     ensures { IfOk result (λ lines. length text.now ≤ length lines.items) }
 {
     let mut lines = Vec::new(alloc);

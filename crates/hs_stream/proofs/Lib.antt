@@ -5,3 +5,7 @@ pub mod WriteLemmas
 pub mod StandLemmas
 pub mod SavingLemmas
 pub mod VecLemmas
+pub mod DrawingLemmas
+pub mod TallyLemmas
+pub mod CutRunLemmas
+pub mod SummaryLemmas

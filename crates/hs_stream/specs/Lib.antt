@@ -7,3 +7,7 @@ pub mod Standing
 pub mod Foreign
 pub mod Saving
 pub mod SavingLaws
+pub mod Drawing
+pub mod Tallies
+pub mod CutRuns
+pub mod Summaries

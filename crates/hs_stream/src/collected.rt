@@ -66,6 +66,23 @@ impl Collected {
         &self.reports
     }
 
+    /// For how many reports there is room.
+    ///
+    /// # Cost
+    ///
+    /// None.
+    ///
+    /// # Examples
+    ///
+    /// ```
+    /// let is_full = told.reports().len() == told.room();
+    /// ```
+    pub fn room(&self) -> usize
+        ensures { result ≡ self.now.room }
+    {
+        self.room
+    }
+
     /// Drops all reports. The room stays.
     ///
     /// # Cost

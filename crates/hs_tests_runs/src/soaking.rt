@@ -1,17 +1,17 @@
 //! What is drawn from a seed, and how the runs over it keep their stream. It is `#[cfg(test)]`.
 use hs_base::Entry;
 use hs_compile::{Database, compile};
-use hs_outside::MemSink;
-use hs_soak::{Cutting, Drawn, InMemory, Keeper, Tally, run, soak};
-use hs_stream::Stream;
+use hs_stream::{Cutting, Drawn, InMemory, Keeper, Stream, Tally, run};
 use std::alloc::{AllocError, Global};
 use std::test::Fail;
 
-/// What is written of ten expressions drawn from the seed 1, by a slow program of the definitions.
-const SOAKED: &[u8] = b"expressions 10\nbytes 640\nregion 119\neven 3 627\ncut 3 627\n";
-
 /// The first expressions that are drawn from the seed 1.
-const EXPRESSIONS: [&[u8]; 4] = [b"[0-9]+edb", b"fad[a-z]{3,9}aab", b"aaf[a-z]{3,9}fdd", b"ace.*fdd"];
+const EXPRESSIONS: [&[u8]; 4] = [
+    b"[0-9]+edb",
+    b"fad[a-z]{3,9}aab",
+    b"aaf[a-z]{3,9}fdd",
+    b"ace.*fdd",
+];
 
 /// The first bytes of the stream behind one of them.
 const STREAM: &[u8] = b"b a1c\n1 eafd1d \n\n0fb ebfc\nefecb edb\n00fd \nfdcedaedc0c  f1dbea10 ";
@@ -71,13 +71,6 @@ fn counted(alloc: Global, drawn: &Drawn, cutting: Cutting) -> Result<(Tally, u64
     Ok((tally, keeper.given, keeper.taken))
 }
 
-/// What is written of ten expressions that are drawn from the seed 1.
-fn is_soaked(alloc: Global) -> Result<bool, Fail> {
-    let mut out = MemSink::new(alloc, 1_000, &[])?;
-    let is_done = soak(alloc, 1, 10, &mut out).is_ok();
-    Ok(is_done && out.written() == SOAKED)
-}
-
 #[test]
 fn draws_expressions_then_a_stream(rt: HostRuntime) -> Result<(), Fail> {
     let drawn = Drawn::from_seed(rt.alloc(), 1, 10)?;
@@ -94,11 +87,5 @@ fn saves_behind_each_sixteenth_piece(rt: HostRuntime) -> Result<(), Fail> {
     let cut = counted(rt.alloc(), &drawn, Cutting::Drawn(drawn.lengths))?;
     assert!(rt; even == (cut.0, 0, 0), "{even:?} is none of {cut:?}");
     assert!(rt; cut == (even.0, 8, 8), "{cut:?} is saved otherwise");
-    Ok(())
-}
-
-#[test]
-fn tells_of_both_runs_the_same(rt: HostRuntime) -> Result<(), Fail> {
-    assert!(rt; is_soaked(rt.alloc())?);
     Ok(())
 }

@@ -18,7 +18,7 @@ use Rattle.hs_tool.specs.Scanning.{Interrupts, IsClosed, IsFileScanned, IsFilePa
 use Rattle.hs_lists.specs.Causes.{Cause, write, memory}
 use Rattle.hs_request.specs.Requests.{Request, match_file, check_list, compile_list, tell_database, scan_file, run_script, soak}
 use Rattle.hs_lists.specs.ListKinds.{ListKind, pattern_file, database_file}
-use Rattle.hs_soak.specs.Endings as soaks
+use Rattle.hs_tool.specs.SoakEndings as soaks
 use Rattle.hs_tool.specs.Answers
 use Rattle.hs_lists.specs.Endings
 use Rattle.hs_lists.specs.Loading.{IsLoaded}

@@ -26,9 +26,9 @@ use Rattle.hs_lists.specs.Endings.{greatest_list, Outside, HasList, HasRefusedLi
 use Rattle.hs_tool.specs.Answers.{Input, HasWritten, ScanEnds, StreamEnds, UsageEnds, Ends, IsListDue, TellsList, IsDue, IsDueOutcome}
 use Rattle.hs_compile.specs.Lists.{IsFirstRefusal}
 use Rattle.hs_compile.proofs.ListLemmas as lists
-use Rattle.hs_soak.specs.Drawing.{drawn_entries}
-use Rattle.hs_soak.specs.Endings as soaks
-use Rattle.hs_soak.specs.Endings.{IsSoakText, SoakEnds}
+use Rattle.hs_stream.specs.Drawing.{drawn_entries}
+use Rattle.hs_tool.specs.SoakEndings as soaks
+use Rattle.hs_tool.specs.SoakEndings.{IsSoakText, SoakEnds}
 use Rattle.hs_lists.proofs.OnceLemmas.{accepted-refused, refused_once}
 use Rattle.hs_tool.proofs.StreamLemmas.{some_basis}
 

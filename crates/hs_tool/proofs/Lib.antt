@@ -1,3 +1,4 @@
+pub mod SoakLemmas
 pub mod WrittenLemmas
 pub mod ScanLemmas
 pub mod MapLemmas

@@ -10,8 +10,8 @@ use Rattle.hs_tool.specs.Commands.{IsStream}
 use Rattle.hs_lists.specs.Accepting.{IsRefused, bad_line, bad_bytes, bad_form, bad_entry}
 use Rattle.hs_lists.specs.Causes.{Cause, usage, refused, read, write, store, absent, limit, form, script, memory, status_of, status_of_cause}
 use Rattle.hs_tool.proofs.BegunLemmas.{begun-missing}
-use Rattle.hs_soak.specs.Endings as soaks
-use Rattle.hs_soak.specs.Endings.{SoakEnds}
+use Rattle.hs_tool.specs.SoakEndings as soaks
+use Rattle.hs_tool.specs.SoakEndings.{SoakEnds}
 use Rattle.hs_tool.specs.Answers
 use Rattle.hs_lists.specs.Endings
 use Rattle.hs_lists.specs.Endings.{Outside, StopsList, TellEnds, CompileEnds}

@@ -30,8 +30,8 @@ use Rattle.hs_lists.specs.Causes.{fault_line}
 use Rattle.hs_base.specs.Regions.{Plan}
 use Rattle.hs_compile.specs.Lists.{AreAcceptedAs, IsFirstRefusal}
 use Rattle.hs_compile.specs.Sizes.{IsPlanOf}
-use Rattle.hs_soak.specs.Drawing.{drawn_entries}
-use Rattle.hs_soak.specs.Endings.{SoakEnds, IsSoakText}
+use Rattle.hs_stream.specs.Drawing.{drawn_entries}
+use Rattle.hs_tool.specs.SoakEndings.{SoakEnds, IsSoakText}
 use Rattle.hs_tool.specs.SavedFiles.{KeepsBut, MaySave}
 use Rattle.hs_tool.specs.Streaming.{Setting, ByEach, IsTextOver, HasServed, HasAnswered, HasStopped, HasBegunAnswers}
 

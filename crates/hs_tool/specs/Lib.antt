@@ -1,3 +1,4 @@
+pub mod SoakEndings
 pub mod Commands
 pub mod Scanning
 pub mod OpenStreams

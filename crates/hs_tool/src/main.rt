@@ -8,6 +8,7 @@ mod piece;
 mod running;
 mod scan;
 mod session;
+mod soak_command;
 mod stream_command;
 #[cfg(test)]
 mod tests;

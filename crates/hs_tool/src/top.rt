@@ -11,11 +11,11 @@ ghost use Rattle.hs_lists.specs.Endings.{outside_of};
 ghost use Rattle.hs_tool.specs.Answers.{HasRun, HasSoaked};
 
 use crate::match_command::match_file;
+use crate::soak_command::soak;
 use crate::stream_command::run_script;
 use hs_lists::{Fault, ListKind, check_list, compile_list, tell_database};
 use hs_outside::{Failed, Sink, Source, Store};
 use hs_request::{Request, request_of};
-use hs_soak::soak;
 use std::alloc::Global;
 
 /// Does what the words ask for, which begin with the program's name, and gives the status that the program ends with.

@@ -4,7 +4,7 @@ use Rattle.hs_request.specs.declared.request.Request.{Request}
 use Rattle.hs_request.specs.declared.request.Request.TheVariants.{Soak}
 use Rattle.hs_lists.specs.Causes.{Cause}
 use Rattle.hs_lists.specs.Endings.{Outside}
-use Rattle.hs_soak.specs.Endings.{SoakEnds}
+use Rattle.hs_tool.specs.SoakEndings.{SoakEnds}
 use Rattle.hs_tool.specs.Answers.{Ends, Input}
 use Rattle.hs_tool.proofs.top.execute.Goals as goal
 

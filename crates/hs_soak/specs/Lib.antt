@@ -1,4 +1,0 @@
-pub mod Drawing
-pub mod Tallies
-pub mod Runs
-pub mod Endings
