@@ -86,12 +86,80 @@ pub trait RunsRow {
         Ok(world.answer(alloc, status)?)
     }
 
+    /// Judges a row: each run of it answers what is wanted.
+    fn judge_row(
+        alloc: Global,
+        name: &str,
+        setting: &Setting,
+        wanted: &Answer,
+    ) -> Result<(), Fail> {
+        for piece in &setting.pieces {
+            let found = Self::run_row(alloc, setting, *piece, setting.faults)?;
+            if !wanted.is_met_by(&found) {
+                return Err(unwanted(name, *piece as u64, &found));
+            }
+        }
+        Ok(())
+    }
+
+    /// Judges a row of one command where each call on that part fails in turn, and the script comes byte by byte: a
+    /// beginning of what is wanted was written, and the fault is told.
+    fn judge_calls(
+        alloc: Global,
+        name: &str,
+        setting: &Setting,
+        wanted: &Answer,
+        part: &str,
+        line: &str,
+    ) -> Result<(), Fail> {
+        for call in 1..MOST_CALLS {
+            let found = Self::run_row(alloc, setting, 1, faults_at(setting, part, call)?)?;
+            if !found.is_cut {
+                return Ok(());
+            }
+            if !wanted.is_cut_short(&found, line.as_bytes()) {
+                return Err(unwanted(name, call, &found));
+            }
+        }
+        Err("a row of too many calls".into())
+    }
+
+    /// Judges a row of these words, behind the row that gives what it doesn't say.
+    fn judge_words(
+        alloc: Global,
+        head: &[Vec<u8>],
+        words: &[Vec<u8>],
+        written: &[u8],
+    ) -> Result<(), Fail> {
+        let mut setting = Setting::new(alloc)?;
+        setting.take(alloc, head)?;
+        setting.take(alloc, words)?;
+        let mut wanted = wanted_of(alloc, written)?;
+        if setting.opens_all {
+            setting.script = name_lines(alloc, b"open ", &setting.script)?;
+            wanted.out = name_lines(alloc, b"ok open ", &wanted.out)?;
+        }
+        let name = format!(in alloc; "{words:?} = {written:?}")?;
+        Self::judge_row(alloc, &name, &setting, &wanted)?;
+        if setting.fails_each {
+            for (part, line) in PARTS {
+                Self::judge_calls(alloc, &name, &setting, &wanted, part, line)?;
+            }
+        }
+        Ok(())
+    }
+
     /// Judges the rows of a table.
-    fn judge(alloc: Global, table: &[u8]) -> Result<(), Fail>
-    where
-        Self: Sized,
-    {
-        judge_rows::<Self>(alloc, table)
+    fn judge(alloc: Global, table: &[u8]) -> Result<(), Fail> {
+        let rows = rows_of(alloc, table)?;
+        let mut head: &[Vec<u8>] = &[];
+        for row in &rows {
+            match &row.wanted {
+                Some(written) => Self::judge_words(alloc, head, &row.words, written)?,
+                None => head = &row.words,
+            }
+        }
+        Ok(())
     }
 }
 
@@ -107,80 +175,4 @@ fn faults_at(setting: &Setting, part: &str, call: u64) -> Result<Faults, Fail> {
 fn unwanted(name: &str, at: u64, found: &Answer) -> Fail {
     let (status, out, err, left) = (found.status, &found.out, &found.err, &found.left);
     Fail::new(format_args!("{name} {at}: {status} {out:?} {err:?} {left:?}"))
-}
-
-/// Judges a row: each run of it answers what is wanted.
-fn judge_row<R: RunsRow>(
-    alloc: Global,
-    name: &str,
-    setting: &Setting,
-    wanted: &Answer,
-) -> Result<(), Fail> {
-    for piece in &setting.pieces {
-        let found = R::run_row(alloc, setting, *piece, setting.faults)?;
-        if !wanted.is_met_by(&found) {
-            return Err(unwanted(name, *piece as u64, &found));
-        }
-    }
-    Ok(())
-}
-
-/// Judges a row of one command where each call on that part fails in turn, and the script comes byte by byte: a
-/// beginning of what is wanted was written, and the fault is told.
-fn judge_calls<R: RunsRow>(
-    alloc: Global,
-    name: &str,
-    setting: &Setting,
-    wanted: &Answer,
-    part: &str,
-    line: &str,
-) -> Result<(), Fail> {
-    for call in 1..MOST_CALLS {
-        let found = R::run_row(alloc, setting, 1, faults_at(setting, part, call)?)?;
-        if !found.is_cut {
-            return Ok(());
-        }
-        if !wanted.is_cut_short(&found, line.as_bytes()) {
-            return Err(unwanted(name, call, &found));
-        }
-    }
-    Err("a row of too many calls".into())
-}
-
-/// Judges a row of these words, behind the row that gives what it doesn't say.
-fn judge_words<R: RunsRow>(
-    alloc: Global,
-    head: &[Vec<u8>],
-    words: &[Vec<u8>],
-    written: &[u8],
-) -> Result<(), Fail> {
-    let mut setting = Setting::new(alloc)?;
-    setting.take(alloc, head)?;
-    setting.take(alloc, words)?;
-    let mut wanted = wanted_of(alloc, written)?;
-    if setting.opens_all {
-        setting.script = name_lines(alloc, b"open ", &setting.script)?;
-        wanted.out = name_lines(alloc, b"ok open ", &wanted.out)?;
-    }
-    let name = format!(in alloc; "{words:?} = {written:?}")?;
-    judge_row::<R>(alloc, &name, &setting, &wanted)?;
-    if setting.fails_each {
-        for (part, line) in PARTS {
-            judge_calls::<R>(alloc, &name, &setting, &wanted, part, line)?;
-        }
-    }
-    Ok(())
-}
-
-/// Judges the rows of a table.
-fn judge_rows<R: RunsRow>(alloc: Global, table: &[u8]) -> Result<(), Fail> {
-    let rows = rows_of(alloc, table)?;
-    let mut head: &[Vec<u8>] = &[];
-    for row in &rows {
-        match &row.wanted {
-            Some(written) => judge_words::<R>(alloc, head, &row.words, written)?,
-            None => head = &row.words,
-        }
-    }
-    Ok(())
 }
