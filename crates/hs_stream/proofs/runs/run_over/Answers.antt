@@ -8,7 +8,7 @@ loop-rest-init g c = record {
   to = run-start c.args.db.now c.args.bytes.now c.in_ok-stream.stream c.in_ok-stream.ensures.fresh;
   fits = c.in_ok-stream.ensures.fits;
   scratch = c.requires.scratch;
-  empty = λ i. record { reports = c.requires.empty i; room = sym c.room.ensures i };
+  empty = λ i. record { reports = c.requires.empty i; room = sym c.room-room.ensures i };
   counted = omega arith;
 }
 
