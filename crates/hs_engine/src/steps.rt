@@ -23,7 +23,19 @@ impl<L: Ledger> Model for Steps<L> {
 }
 
 impl<L: Ledger> Steps<L> {
-    /// A counter at 0, for a ledger that nothing else counts in.
+    /// A counter at 0, for a ledger that nothing else counts in: that is a brand, which a function takes as a type of
+    /// its own, with a blank of as many parts.
+    ///
+    /// # Cost
+    ///
+    /// No memory, and nothing at run time: steps are counted for the proofs alone.
+    ///
+    /// # Examples
+    ///
+    /// ```
+    /// let mut steps = Steps::<L>::open(blank);
+    /// stream.write(&database, &mut scratch, b"foo", &mut told, &mut steps)?;
+    /// ```
     pub fn open(blank: Blank) -> Steps<L>
         requires name { blank.name ≡ L.name }
         requires parts { blank.parts ≡ L.parts }

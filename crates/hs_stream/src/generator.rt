@@ -13,6 +13,13 @@ pub struct Generator {
 
 impl Generator {
     /// The generator of a seed.
+    ///
+    /// # Examples
+    ///
+    /// ```
+    /// let mut generator = Generator::new(1);
+    /// let below_six = generator.draw(6);
+    /// ```
     pub fn new(seed: u32) -> Self
         ensures { result.number ≡ first_of seed }
     {
@@ -21,7 +28,11 @@ impl Generator {
         }
     }
 
-    /// A number below the bound.
+    /// A number below the bound: the higher 15 of the next number's 31 bits, divided by it.
+    ///
+    /// # Cost
+    ///
+    /// A multiplication and two divisions.
     pub fn draw(&mut self, bound: u32) -> u32
         requires { 0 < bound }
         ensures value { result ≡ drawn bound self.old.number }

@@ -62,6 +62,19 @@ impl Cutting {
 
 /// A run over the bytes as one stream, with room for so many reports of a piece: the tally of what it reported. The
 /// error is want of memory, or of that room.
+///
+/// # Cost
+///
+/// It takes a scratch, a stream and the room for reports, and for each saved stream its bytes; and the time of a write
+/// for each piece.
+///
+/// # Examples
+///
+/// ```
+/// let mut keeper = InMemory;
+/// let even = run(alloc, &database, &drawn.bytes, Cutting::Even, 10_000, &mut keeper)?;
+/// let cut = run(alloc, &database, &drawn.bytes, Cutting::Drawn(drawn.lengths), 10_000, &mut keeper)?;
+/// ```
 pub fn run<K: Keeper>(
     alloc: Global,
     db: &Database,

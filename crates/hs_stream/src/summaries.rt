@@ -6,7 +6,14 @@ use crate::tally::Tally;
 use std::alloc::{AllocError, Global};
 
 /// The five lines: how many expressions and bytes there were, the length of a stream's region, and what each run
-/// reported.
+/// reported. The error is want of memory.
+///
+/// # Examples
+///
+/// ```
+/// let region = database.region_size() as u64;
+/// print!(rt; "{}", summary(alloc, 1000, 64_000, region, even, cut)?)?;
+/// ```
 pub fn summary(
     alloc: Global,
     expressions: u64,

@@ -18,6 +18,17 @@ use std::alloc::{AllocError, Global};
 ///
 /// `Line` with the number of the first line of another form, counted from 1 over all lines; `Memory` where the list
 /// finds no memory.
+///
+/// # Cost
+///
+/// The bytes are looked through once. Each entry takes a copy of its expression and a few words beside it.
+///
+/// # Examples
+///
+/// ```
+/// let entries = read_list(alloc, b"1:/foo.*bar/s\n2:/(ba|fo)+[a-r]/\n")?;
+/// let database = compile(alloc, &entries)?;
+/// ```
 pub fn read_list(alloc: Global, bytes: &[u8]) -> Result<Vec<Entry>, ListFault>
     ensures { MatchResult result
         (λ entries. IsList bytes.now (map listed entries.items))
