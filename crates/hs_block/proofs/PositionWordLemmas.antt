@@ -248,10 +248,15 @@ low-byte row i =
     same-digit (suc (suc a)) b h k e = absurd (omega arith)
     same-digit a (suc (suc b)) h k e = absurd (omega arith)
 
-pub stored-row : (bytes row : List ℕ) (n : ℕ) → length bytes ≡ n → ((i : ℕ) → i < n → get_or bytes i 0 ≡ bit_and (get_or row (i / 8) 0 / 2 ^ (8 * (i % 8))) 255) → bytes ≡ packed n (has_word_bit row)
+pub stored-row : (bytes row : List ℕ) (n : ℕ) → length bytes ≡ n → ((i : ℕ) → i < n → get_or bytes i 0 ≡ bit_and (get_or row (8 * i / 64) 0 / 2 ^ (8 * i % 64)) 255) → bytes ≡ packed n (has_word_bit row)
 stored-row bytes row n len are =
     same-places bytes (packed n (has_word_bit row)) (len ∙ sym (length-packed n (has_word_bit row)))
-    (λ i below. are i (omega arith) ∙ (low-byte row i ∙ sym (packed-at n (has_word_bit row) i (omega arith))))
+    (λ i below.
+    let place : 8 * i / 64 ≡ i / 8 = omega arith in
+    let shift : 8 * i % 64 ≡ 8 * (i % 8) = omega arith in
+    are i (omega arith)
+    ∙ (ap (λ k. bit_and (get_or row k 0 / 2 ^ (8 * i % 64)) 255) place ∙ ap (λ k. bit_and (get_or row (i / 8) 0 / 2 ^ k) 255) shift)
+    ∙ (low-byte row i ∙ sym (packed-at n (has_word_bit row) i (omega arith))))
 
 -- the first places, and others of the run
 pub spread-bit : (first run x i : ℕ) → word_bit (bit_or first (bit_and run x)) i ≡ (word_bit first i || (word_bit run i && word_bit (bit_or first (bit_and run x)) i))

@@ -38,7 +38,8 @@ pub record AreOrders (rows : FollowRows) (width : ℕ) (froms rests successors a
   pub successors_count : length successors ≡ width * rows.size
   pub asks_len : length asks ≡ 8
   pub asked : (x : ℕ) → has_word_bit asks x ≡ true → width * (12 * rows.size) ≤ length rests
-  pub froms_are : (x y : ℕ) (c : Context) → x < rows.size → is_from rows.size width froms rests x y c ≡ in_row rows y x c
+  pub froms_are : (x y : ℕ) (c : Context) → x < rows.size →
+      is_from rows.size width froms rests x y c ≡ in_row rows y x c
   pub unasked : (x q y : ℕ) → x < rows.size → q < 12 → y < rows.size → has_word_bit asks x ≡ false →
       in_rows rests width (12 * x + q) y ≡ false
   pub successors_have : (x y : ℕ) (c : Context) → x < rows.size → y < rows.size → in_row rows x y c ≡ true → y ≢ x →

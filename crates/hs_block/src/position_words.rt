@@ -13,9 +13,6 @@ use hs_bits::{
     BYTE_BITS, WORD_BITS, are_apart, lowest_bit, next_bit_in, unite_bytes, without_lowest_bit,
 };
 
-/// How many bytes a word has.
-const WORD_LEN: usize = WORD_BITS / BYTE_BITS;
-
 /// Whether the two rows have a bit in common.
 #[inline(always)]
 pub(crate) fn meet(one: &[u64], other: &[u64]) -> bool
@@ -116,12 +113,13 @@ pub(crate) fn column(words: &[u64], live: &[u64], size: usize, place: usize) -> 
 
 /// Makes the bits of the bytes those of the row.
 pub(crate) fn keep_row(row: &[u64], bytes: &mut [u8])
-    requires { length bytes.old ≤ 8 * length row.now }
+    requires room { length bytes.old ≤ 8 * length row.now }
+    requires few { length row.now ≤ 8 }
     ensures { bytes.new ≡ packed (length bytes.old) (has_word_bit row.now) }
 {
     for place in 0..bytes.len() {
-        let word = row[place / WORD_LEN];
-        bytes[place] = ((word >> (BYTE_BITS * (place % WORD_LEN))) & 0xff) as u8;
+        let bit = BYTE_BITS * place;
+        bytes[place] = ((row[bit / WORD_BITS] >> (bit % WORD_BITS)) & 0xff) as u8;
     }
 }
 

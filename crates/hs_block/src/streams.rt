@@ -44,7 +44,7 @@ pub const MAX_STREAMS: usize = MAX_WIDTH * WORD_BITS;
 const ROUNDS: usize = 8;
 
 /// The tables of an automaton of at most 512 positions, for whole blocks: 32 bytes for each set, and for each position
-/// 24 bytes and two rows of bits, with a bit for each position; where contexts matter between positions twelve rows more.
+/// 24 bytes and two rows of bits, with a bit for each position; where contexts matter between positions twelve more.
 #[derive(Debug, Drop)]
 pub struct Streams {
     /// How many positions there are.
@@ -57,8 +57,8 @@ pub struct Streams {
     pub(crate) numbers: Vec<usize>,
     /// For each position the row of those that may come before it in each context.
     pub(crate) froms: Vec<u64>,
-    /// For each position and each context in which a byte comes next the row of those that may come before it there, but
-    /// not in each; none at all where contexts don't matter.
+    /// For each position and each context in which a byte comes next the row of those that may come before it there,
+    /// but not in each; none at all where contexts don't matter.
     pub(crate) rests: Vec<u64>,
     /// The positions for which contexts matter.
     pub(crate) asks: [u64; MAX_WIDTH],
@@ -248,11 +248,18 @@ impl Streams {
                 behind: 0,
             });
         }
+        let state = load(region);
+        let entry = Entry {
+            prev,
+            contexts: self.contexts(prev, whole),
+            enters,
+            state,
+        };
         if self.size <= WORD_BITS {
             let mut words = [0u64; WORD_BITS];
-            self.take(region, prev, enters, whole, count, first, &mut words, steps)
+            self.take(region, &entry, whole, count, first, &mut words, steps)
         } else {
-            self.take_wide(region, prev, enters, whole, count, first, steps)
+            self.take_wide(region, &entry, whole, count, first, steps)
         }
     }
 
@@ -261,8 +268,7 @@ impl Streams {
     fn take_wide<L: Ledger>(
         &self,
         region: &mut [u8],
-        prev: Prev,
-        enters: u64,
+        entry: &Entry,
         whole: &[u8],
         count: usize,
         first: u64,
@@ -271,21 +277,23 @@ impl Streams {
         requires len { length region.old ≡ (self.now.size + 7) / 8 }
         requires clear { IsClearFrom region.old self.now.size }
         requires whole { length whole.now ≡ 64 }
+        requires made { AreMade entry.now.contexts entry.now.prev whole.now }
+        requires state { (k : ℕ) → has_word_bit entry.now.state k ≡ has_bit region.old k }
         requires few { count ≤ 64 }
         requires first { (i : ℕ) → i < 64 →
             word_bit first i ≡ in_set (slice_get self.now.sets.items 0) (slice_index whole.now i) }
-        ensures { IsTried self.now prev region.old region.new enters whole.now count result steps.old steps.new }
+        ensures { IsTried self.now entry.now.prev region.old region.new entry.now.enters whole.now count result
+            steps.old steps.new }
     {
         let mut words = [0u64; MAX_STREAMS];
-        self.take(region, prev, enters, whole, count, first, &mut words, steps)
+        self.take(region, entry, whole, count, first, &mut words, steps)
     }
 
     /// Takes them by words that are 0 so far. The places of the first bytes are told.
     fn take<L: Ledger>(
         &self,
         region: &mut [u8],
-        prev: Prev,
-        enters: u64,
+        entry: &Entry,
         whole: &[u8],
         count: usize,
         first: u64,
@@ -295,26 +303,22 @@ impl Streams {
         requires len { length region.old ≡ (self.now.size + 7) / 8 }
         requires clear { IsClearFrom region.old self.now.size }
         requires whole { length whole.now ≡ 64 }
+        requires made { AreMade entry.now.contexts entry.now.prev whole.now }
+        requires state { (k : ℕ) → has_word_bit entry.now.state k ≡ has_bit region.old k }
         requires few { count ≤ 64 }
         requires first { (i : ℕ) → i < 64 →
             word_bit first i ≡ in_set (slice_get self.now.sets.items 0) (slice_index whole.now i) }
         requires room { 64 * self.now.width ≤ length words.old }
         requires zero { (x : ℕ) → slice_index words.old x ≡ 0 }
-        ensures { IsTried self.now prev region.old region.new enters whole.now count result steps.old steps.new }
+        ensures { IsTried self.now entry.now.prev region.old region.new entry.now.enters whole.now count result
+            steps.old steps.new }
     {
-        let state = load(region);
-        let entry = Entry {
-            prev,
-            contexts: self.contexts(prev, whole),
-            enters,
-            state,
-        };
-        let Some(live) = self.solve(&entry, whole, first, words) else {
+        let Some(live) = self.solve(entry, whole, first, words) else {
             return None;
         };
-        let busy = self.busy_places(&entry, words, &live, count, is_zero(region));
+        let busy = self.busy_places(entry, words, &live, count, is_zero(region));
         steps.tick_by(count_places(busy));
-        let ends = self.ends(&entry, whole, words, &live, count);
+        let ends = self.ends(entry, whole, words, &live, count);
         self.keep(region, words, &live, count);
         Some(ends)
     }
