@@ -117,7 +117,6 @@ module _ (s : Streams) (prev : Prev) (old : List ℕ) (enters : ℕ) (whole : Li
     (blank : rested ≡ is_blank old) (small : (i : ℕ) → get_or whole i 0 < 256) (low_is : (i : ℕ) → word_bit low i ≡ nat_lt i count)
     (first_is : (i : ℕ) → i < 64 → word_bit first i ≡ in_set (slice_get s.sets.items 0) (get_or whole i 0))
     (rests : (rested && eqb (bit_and first (bit_and enters low)) 0) ≡ true) where
-
   no-first : bit_and first (bit_and enters low) ≡ 0
   no-first = eqb-true (bit_and first (bit_and enters low)) 0 (second_of_both (rested) (eqb (bit_and first (bit_and enters low)) 0) rests)
 

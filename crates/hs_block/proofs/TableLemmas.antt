@@ -1,5 +1,5 @@
 -- Rows of bits, one behind the other, and which positions may follow each other.
-use Rattle.std.proofs.Common.{◌≡◌, ◌≢◌, ◌↔◌, ℕ, zero, suc, ◌+◌, ◌-◌, ◌*◌, ◌/◌, ◌%◌, ◌<◌, ◌≤◌, Bool, true, false, not, nat_lt, ◌&&◌, ◌||◌, List, [], ◌++◌, length, get_or, take, drop, replicate, eqb, refl, sym, ap, subst, ◌∙◌, inl, inr, arith}
+use Rattle.std.proofs.Common.{◌≡◌, ◌≢◌, ◌↔◌, ℕ, zero, ◌+◌, ◌-◌, ◌*◌, ◌/◌, ◌%◌, ◌<◌, ◌≤◌, Bool, true, false, not, nat_lt, ◌&&◌, ◌||◌, List, [], ◌++◌, length, get_or, take, drop, replicate, eqb, refl, sym, ap, subst, ◌∙◌, inl, inr, arith}
 use Rattle.std.specs.Int.{bit_at}
 use Rattle.std.proofs.lemmas.Bool.{cases_eq, cases_lt, eq-eqb, le-ltb, ne_eqb}
 use Rattle.std.proofs.lemmas.List.{get_or-replicate, get_or-take, get_or-drop, get_or_append_left, get_or-append-add, get_or_past, length-append, length-replicate, length-take-le}
@@ -12,9 +12,9 @@ use Rattle.hs_base.specs.Contexts.{Context, prev_number}
 use Rattle.hs_bits.proofs.WordLemmas.{and-none, or-none, unset-bits, words-past, words-zero}
 use Rattle.hs_engine.specs.declared.follow_rows.FollowRows.{FollowRows}
 use Rattle.hs_engine.specs.RowSizes.{class_number, row_len, square_count}
-use Rattle.hs_engine.specs.Rows.{in_row, in_square, row_start, square_number}
-use Rattle.hs_block.specs.StreamSets.{AreOrders, in_rows, is_from}
-use Rattle.hs_block.proofs.AnyLemmas.{true-false, true-or-false}
+use Rattle.hs_engine.specs.Rows.{in_square, row_start, square_number}
+use Rattle.hs_block.specs.StreamSets.{AreOrders, in_rows}
+use Rattle.hs_block.proofs.AnyLemmas.{true-false}
 use Rattle.hs_block.proofs.PlaceLemmas.{less-is, not-less}
 
 -- no bit is set where all words are 0

@@ -1,5 +1,5 @@
 -- What a block does with the positions that the tables tell of, and with a region that has a bit for each.
-use Rattle.std.specs.Prelude.{◌≡◌, ◌↔◌, ℕ, zero, suc, ◌+◌, ◌/◌, Bool, false, ◌&&◌, nat_lt, List, length, vec_len}
+use Rattle.std.specs.Prelude.{◌≡◌, ◌↔◌, ℕ, zero, suc, ◌+◌, ◌/◌, Bool, false, ◌&&◌, nat_lt, List, length}
 use Rattle.std.specs.Prelude.{Option, Some, None, slice_get}
 use Rattle.hs_base.specs.declared.context.Prev.{Prev}
 use Rattle.hs_base.specs.Bits.{has_bit}

@@ -133,7 +133,12 @@ fn always_row(follows: &FollowRows, position: usize) -> [u64; MAX_WIDTH]
 }
 
 /// Those that may come before a position in the contexts of a square, but for those that may in each.
-fn rest_row(follows: &FollowRows, square: usize, position: usize, always: &[u64]) -> [u64; MAX_WIDTH]
+fn rest_row(
+    follows: &FollowRows,
+    square: usize,
+    position: usize,
+    always: &[u64],
+) -> [u64; MAX_WIDTH]
     requires few { follows.now.size ≤ 512 }
     requires square { square < square_count follows.now.by_context }
     requires always { follows.now.size ≤ 64 * length always.now }
@@ -184,7 +189,12 @@ fn froms_of(alloc: Global, follows: &FollowRows, width: usize) -> Result<Vec<u64
 }
 
 /// For each position and each square the row of those that may come before it there alone.
-fn rests_of(alloc: Global, follows: &FollowRows, width: usize, froms: &[u64]) -> Result<Vec<u64>, AllocError>
+fn rests_of(
+    alloc: Global,
+    follows: &FollowRows,
+    width: usize,
+    froms: &[u64],
+) -> Result<Vec<u64>, AllocError>
     requires few { follows.now.size ≤ 512 }
     requires wide { width ≡ word_count follows.now.size }
     requires by_context { follows.now.by_context ≡ true }

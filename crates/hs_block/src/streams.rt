@@ -31,8 +31,7 @@ use crate::position_words::{column, count_places, keep_row, load, meet, row_word
 use crate::set_tables::SetTables;
 use hs_base::{ByteSet, Mask, Prev};
 use hs_bits::{
-    WORD_BITS, contains_word_bit, is_zero, keep_words, next_bit_in, unite_words,
-    write_word_bit,
+    WORD_BITS, contains_word_bit, is_zero, keep_words, next_bit_in, unite_words, write_word_bit,
 };
 use hs_engine::{Automaton, Steps, first_bytes};
 use std::alloc::{AllocError, Global};
@@ -336,7 +335,13 @@ impl Streams {
     }
 
     /// Makes the words of the positions until they come to rest, and tells which aren't 0; None where they don't.
-    fn solve(&self, entry: &Entry, whole: &[u8], first: u64, words: &mut [u64]) -> Option<[u64; MAX_WIDTH]>
+    fn solve(
+        &self,
+        entry: &Entry,
+        whole: &[u8],
+        first: u64,
+        words: &mut [u64],
+    ) -> Option<[u64; MAX_WIDTH]>
         requires whole { length whole.now ≡ 64 }
         requires made { AreMade entry.now.contexts entry.now.prev whole.now }
         requires first { (i : ℕ) → i < 64 →
@@ -440,7 +445,10 @@ impl Streams {
         if word == old {
             return true;
         }
-        unite_words(&mut work.todo, row_at(&self.successors, self.width, position));
+        unite_words(
+            &mut work.todo,
+            row_at(&self.successors, self.width, position),
+        );
         true
     }
 
@@ -484,7 +492,14 @@ impl Streams {
 
     /// Where positions that are live lead to a position, and where it may follow itself.
     #[inline(always)]
-    fn arrivals(&self, position: usize, entry: &Entry, whole: &[u8], words: &[u64], live: &[u64]) -> Arrivals
+    fn arrivals(
+        &self,
+        position: usize,
+        entry: &Entry,
+        whole: &[u8],
+        words: &[u64],
+        live: &[u64],
+    ) -> Arrivals
         requires position { position < self.now.size }
         requires whole { length whole.now ≡ 64 }
         requires made { AreMade entry.now.contexts entry.now.prev whole.now }
@@ -553,7 +568,14 @@ impl Streams {
     }
 
     /// Where a position accepts that is live.
-    fn ends(&self, entry: &Entry, whole: &[u8], words: &[u64], live: &[u64], count: usize) -> BlockEnds
+    fn ends(
+        &self,
+        entry: &Entry,
+        whole: &[u8],
+        words: &[u64],
+        live: &[u64],
+        count: usize,
+    ) -> BlockEnds
         requires few { count ≤ 64 }
         requires whole { length whole.now ≡ 64 }
         requires made { AreMade entry.now.contexts entry.now.prev whole.now }
@@ -642,7 +664,14 @@ impl Streams {
     }
 
     /// The places before whose bytes a position is live or the expression is entered.
-    fn busy_places(&self, entry: &Entry, words: &[u64], live: &[u64], count: usize, blank: bool) -> u64
+    fn busy_places(
+        &self,
+        entry: &Entry,
+        words: &[u64],
+        live: &[u64],
+        count: usize,
+        blank: bool,
+    ) -> u64
         requires few { count ≤ 64 }
         requires room { 64 * self.now.width ≤ length words.now }
         requires live { length live.now ≡ 8 }

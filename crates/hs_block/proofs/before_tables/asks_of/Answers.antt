@@ -1,5 +1,4 @@
-use Rattle.std.proofs.Common.{◌*◌, not, refl, sym, ap, ◌∙◌, inl, inr, arith}
-use Rattle.hs_base.specs.Bits.{has_word_bit}
+use Rattle.std.proofs.Common.{◌∙◌}
 use Rattle.hs_block.proofs.TableLemmas.{asks-more}
 use Rattle.hs_block.proofs.before_tables.asks_of.Goals as goal
 

@@ -1,4 +1,4 @@
-use Rattle.std.proofs.Common.{◌&&◌, not, refl, ap, ◌∙◌, arith}
+use Rattle.std.proofs.Common.{◌&&◌, not, refl, ap, arith}
 use Rattle.hs_base.specs.Bits.{has_word_bit}
 use Rattle.hs_bits.proofs.WordLemmas.{none-under_alone}
 use Rattle.hs_engine.specs.Rows.{in_square}

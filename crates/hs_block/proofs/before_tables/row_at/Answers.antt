@@ -1,5 +1,4 @@
-use Rattle.std.proofs.Common.{◌*◌, ◌+◌, ◌-◌, take, drop, ap, ◌∙◌, arith}
-use Rattle.hs_base.specs.Bits.{has_word_bit}
+use Rattle.std.proofs.Common.{◌*◌, ◌+◌, ◌-◌, arith}
 use Rattle.hs_block.proofs.TableLemmas.{part-bits}
 use Rattle.hs_block.proofs.before_tables.row_at.Goals as goal
 

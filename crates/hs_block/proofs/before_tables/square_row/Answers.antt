@@ -1,4 +1,4 @@
-use Rattle.std.proofs.Common.{ap, ◌∙◌, arith}
+use Rattle.std.proofs.Common.{ap, ◌∙◌}
 use Rattle.hs_base.specs.Contexts.{Context}
 use Rattle.hs_engine.specs.Between.{between}
 use Rattle.hs_engine.specs.Rows.{in_square}

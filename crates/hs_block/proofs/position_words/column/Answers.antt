@@ -1,4 +1,4 @@
-use Rattle.std.proofs.Common.{length, get_or, refl, ap, ◌∙◌, arith}
+use Rattle.std.proofs.Common.{get_or, refl, ◌∙◌, arith}
 use Rattle.hs_bits.proofs.WordLemmas.{none-under_alone}
 use Rattle.hs_block.specs.WordBits.{word_bit}
 use Rattle.hs_block.proofs.PositionWordLemmas.{column-more, column-passed}

@@ -1,5 +1,3 @@
-use Rattle.std.proofs.Common.{◌&&◌, ◌||◌, ap, ◌∙◌, bit_and, bit_or}
-use Rattle.hs_block.specs.WordBits.{word_bit}
 use Rattle.hs_block.proofs.PositionWordLemmas.{looked-at}
 use Rattle.hs_block.proofs.position_words.row_word.Goals as goal
 

@@ -1,8 +1,4 @@
-use Rattle.std.proofs.Common.{◌≡◌, ◌+◌, ◌-◌, ◌*◌, ◌&&◌, length, get_or, bit_and, ap, ◌∙◌, arith}
-use Rattle.std.proofs.lemmas.Grind.{get_or_default_zero}
-use Rattle.hs_base.specs.Bits.{has_word_bit}
-use Rattle.hs_engine.specs.AnyBelow.{any_below}
-use Rattle.hs_block.specs.WordBits.{word_bit}
+use Rattle.std.proofs.Common.{arith}
 use Rattle.hs_block.proofs.PlaceLemmas.{bit-none}
 use Rattle.hs_block.proofs.PositionWordLemmas.{both-past, slice-places, united-place}
 use Rattle.hs_block.proofs.position_words.united_rows.Goals as goal

@@ -1,4 +1,4 @@
-use Rattle.std.proofs.Common.{◌*◌, length, sym, arith}
+use Rattle.std.proofs.Common.{◌*◌, length, sym}
 use Rattle.hs_base.specs.Bits.{has_word_bit}
 use Rattle.hs_block.proofs.ContextLemmas.{everywhere-bit}
 use Rattle.hs_block.proofs.StreamSettleLemmas.{arrived}

@@ -1,5 +1,4 @@
-use Rattle.std.proofs.Common.{◌&&◌, ap, sym, ◌∙◌, arith}
-use Rattle.hs_base.specs.Bits.{has_word_bit}
+use Rattle.std.proofs.Common.{ap, sym, ◌∙◌, arith}
 use Rattle.hs_block.specs.BlockContexts.{context_before}
 use Rattle.hs_block.specs.StreamSets.{in_rows}
 use Rattle.hs_block.proofs.StreamSettleLemmas.{from-always, led-always, read-row}

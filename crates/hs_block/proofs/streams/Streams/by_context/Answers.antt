@@ -1,4 +1,4 @@
-use Rattle.std.proofs.Common.{◌≡◌, ℕ, Bool, true, ◌+◌, ◌*◌, ◌<◌, ◌&&◌, ◌||◌, vec_len, length, ap, refl, sym, ◌∙◌, arith}
+use Rattle.std.proofs.Common.{◌≡◌, ℕ, true, ◌+◌, ◌*◌, ◌<◌, ◌||◌, length, ap, refl, sym, ◌∙◌, arith}
 use Rattle.hs_base.specs.Bits.{has_word_bit}
 use Rattle.hs_base.specs.Contexts.{Context}
 use Rattle.hs_engine.specs.Rows.{square_number}

@@ -1,4 +1,4 @@
-use Rattle.std.proofs.Common.{ℕ, suc, arith}
+use Rattle.std.proofs.Common.{suc, arith}
 use Rattle.hs_engine.specs.AnyBelow.{any_below}
 use Rattle.hs_block.specs.BlockContexts.{context_before, context_behind}
 use Rattle.hs_block.proofs.PlaceLemmas.{bit-none}

@@ -1,4 +1,4 @@
-use Rattle.std.proofs.Common.{◌||◌, length, ap, ◌∙◌, arith}
+use Rattle.std.proofs.Common.{length, ap, ◌∙◌, arith}
 use Rattle.hs_base.specs.Bits.{has_word_bit}
 use Rattle.hs_block.specs.StreamSets.{in_rows}
 use Rattle.hs_base.proofs.ContextLemmas.{left_of_either}

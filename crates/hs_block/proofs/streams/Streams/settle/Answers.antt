@@ -1,6 +1,5 @@
-use Rattle.std.proofs.Common.{◌≡◌, ◌≢◌, ℕ, ◌<◌, false, length, get_or, set, sym, ap, ◌∙◌, arith}
+use Rattle.std.proofs.Common.{◌<◌, length, set, sym, ap, ◌∙◌, arith}
 use Rattle.std.proofs.lemmas.List.{get_or-set_same, length-set}
-use Rattle.hs_base.specs.Bits.{has_word_bit}
 use Rattle.hs_block.specs.StreamSets.{in_rows}
 use Rattle.hs_block.proofs.StreamSettleLemmas.{row-unset, set-none, set-there, settle-more, still-unset}
 use Rattle.hs_block.proofs.TableLemmas.{row-room}

@@ -1,4 +1,3 @@
-use Rattle.std.proofs.Common.{arith}
 use Rattle.hs_block.proofs.StreamRunLemmas.{blank-is, words-run}
 use Rattle.hs_block.proofs.streams.Streams.take.Goals as goal
 
