@@ -1,7 +1,7 @@
 -- Whether one of the numbers below another passes a test.
-use Rattle.std.proofs.Common.{◌≡◌, ℕ, zero, suc, ◌<◌, ◌≤◌, Bool, true, false, ◌||◌, refl, sym, ap, subst, ◌∙◌, ◌⊎◌, inl, inr, arith}
+use Rattle.std.proofs.Common.{◌≡◌, ℕ, zero, suc, ◌+◌, ◌-◌, ◌<◌, ◌≤◌, Bool, true, false, ◌&&◌, ◌||◌, refl, sym, ap, subst, ◌∙◌, ◌⊎◌, inl, inr, arith}
 use Rattle.std.proofs.lemmas.Bool.{cases_eq, cases_lt}
-use Rattle.hs_base.proofs.ContextLemmas.{of_either, left_of_either, right_of_either}
+use Rattle.hs_base.proofs.ContextLemmas.{first_of_both, second_of_both, of_both, of_either, left_of_either, right_of_either}
 use Rattle.hs_engine.specs.AnyBelow.{any_below}
 
 pub true-or-false : (b : Bool) → (b ≡ true) ⊎ (b ≡ false)
@@ -76,4 +76,55 @@ any-either n m f few rest =
     elim (cases_lt x m) [
       | inl inside ↦ some-any m f x inside is
       | inr past ↦ true-false (f x) is (rest x past)
+    ])
+
+-- none between the two numbers passes
+pub any-skip : (n m : ℕ) (f : ℕ → Bool) → n ≤ m → ((x : ℕ) → n ≤ x → x < m → f x ≡ false) → any_below m f ≡ any_below n f
+any-skip n m f few between =
+    same-truth (any_below m f) (any_below n f)
+    (λ any.
+    let (x, below, is) = any-some m f any in
+    elim (cases_lt x n) [
+      | inl inside ↦ some-any n f x inside is
+      | inr past ↦ true-false (f x) is (between x past below)
+    ])
+    (λ any. let (x, below, is) = any-some n f any in some-any m f x (omega arith) is)
+
+-- those below a number, and so many from there on
+pub any-split : (n k : ℕ) (f : ℕ → Bool) → any_below (n + k) f ≡ (any_below n f || any_below k (λ y. f (n + y)))
+any-split n k f =
+    same-truth (any_below (n + k) f) (any_below n f || any_below k (λ y. f (n + y)))
+    (λ any.
+    let (x, below, is) = any-some (n + k) f any in
+    elim (cases_lt x n) [
+      | inl inside ↦ left_of_either (any_below n f) (any_below k (λ y. f (n + y))) (some-any n f x inside is)
+      | inr past ↦
+          let e : x ≡ n + (x - n) = omega arith in
+          right_of_either (any_below n f) (any_below k (λ y. f (n + y))) (some-any k (λ y. f (n + y)) (x - n) (omega arith) (sym (ap f e) ∙ is))
+    ])
+    (λ either.
+    elim (of_either (any_below n f) (any_below k (λ y. f (n + y))) either) [
+      | inl any ↦ let (x, below, is) = any-some n f any in some-any (n + k) f x (omega arith) is
+      | inr any ↦ let (x, below, is) = any-some k (λ y. f (n + y)) any in some-any (n + k) f (n + x) (omega arith) is
+    ])
+
+-- what passes with either test
+pub any-or : (n : ℕ) (l a b : ℕ → Bool) → (any_below n (λ y. l y && a y) || any_below n (λ y. l y && b y)) ≡ any_below n (λ y. l y && (a y || b y))
+any-or n l a b =
+    same-truth (any_below n (λ y. l y && a y) || any_below n (λ y. l y && b y)) (any_below n (λ y. l y && (a y || b y)))
+    (λ either.
+    elim (of_either (any_below n (λ y. l y && a y)) (any_below n (λ y. l y && b y)) either) [
+      | inl any ↦
+          let (x, below, is) = any-some n (λ y. l y && a y) any in
+          some-any n (λ y. l y && (a y || b y)) x below (of_both (l x) (a x || b x) (first_of_both (l x) (a x) is) (left_of_either (a x) (b x) (second_of_both (l x) (a x) is)))
+      | inr any ↦
+          let (x, below, is) = any-some n (λ y. l y && b y) any in
+          some-any n (λ y. l y && (a y || b y)) x below (of_both (l x) (a x || b x) (first_of_both (l x) (b x) is) (right_of_either (a x) (b x) (second_of_both (l x) (b x) is)))
+    ])
+    (λ any.
+    let (x, below, is) = any-some n (λ y. l y && (a y || b y)) any in
+    let live : l x ≡ true = first_of_both (l x) (a x || b x) is in
+    elim (of_either (a x) (b x) (second_of_both (l x) (a x || b x) is)) [
+      | inl one ↦ left_of_either (any_below n (λ y. l y && a y)) (any_below n (λ y. l y && b y)) (some-any n (λ y. l y && a y) x below (of_both (l x) (a x) live one))
+      | inr other ↦ right_of_either (any_below n (λ y. l y && a y)) (any_below n (λ y. l y && b y)) (some-any n (λ y. l y && b y) x below (of_both (l x) (b x) live other))
     ])

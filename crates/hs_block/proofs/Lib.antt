@@ -16,5 +16,6 @@ pub mod PositionWordLemmas
 pub mod StreamSettleLemmas
 pub mod StreamRunLemmas
 pub mod TableLemmas
+pub mod OrderLemmas
 pub mod SetTableLemmas
 pub mod StreamTakesLemmas

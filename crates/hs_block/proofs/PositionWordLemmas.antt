@@ -1,27 +1,26 @@
 -- Words of 64 places: united, moved on, counted, and read from bytes.
-use Rattle.std.proofs.Common.{◌≡◌, ◌≢◌, ℕ, zero, suc, ◌+◌, ◌-◌, ◌*◌, ◌/◌, ◌%◌, ◌^◌, ◌<◌, ◌≤◌, Bool, true, false, not, ◌&&◌, ◌||◌, List, length, get_or, eqb, bit_and, bit_or, refl, sym, ap, ◌∙◌, inl, inr, arith}
+use Rattle.std.proofs.Common.{◌≡◌, ◌≢◌, ◌↔◌, ℕ, zero, suc, ◌+◌, ◌-◌, ◌*◌, ◌/◌, ◌%◌, ◌^◌, ◌<◌, ◌≤◌, Bool, true, false, not, nat_lt, ◌&&◌, ◌||◌, List, length, get_or, take, drop, eqb, bit_and, bit_or, refl, sym, ap, ◌∙◌, inl, inr, arith}
 use Rattle.std.specs.Prelude.{if◌then◌else◌, nat_le}
 use Rattle.std.specs.Int.{bit_at}
 use Rattle.std.specs.Int.Count.{ones}
-use Rattle.std.proofs.lemmas.Bool.{cases_eq, cases_lt, eq-eqb, ne_eqb, eqb-true, eqb-false, le-leb, lt-leb}
+use Rattle.std.proofs.lemmas.Bool.{cases_eq, cases_lt, eq-eqb, eqb-true, eqb-false}
+use Rattle.std.proofs.lemmas.List.{get_or-take, get_or-drop}
 use Rattle.std.proofs.lemmas.Nat.{and_mask, mod-pow-add, ones_cat, pow_pos}
 use Rattle.std.proofs.lemmas.Nat.Bits.{bit_at-lt, bit_at-zero, bit_at_above, same_from_bits, same_from_bits_below}
 use Rattle.std.proofs.Math.Nat.{mod-lt, pow-suc}
-use Rattle.hs_base.specs.Bits.{AreZero, has_bit}
-use Rattle.hs_base.proofs.BitLemmas.{same-places, zero-bits}
+use Rattle.hs_base.specs.Bits.{has_word_bit}
+use Rattle.hs_base.proofs.BitLemmas.{same-places}
 use Rattle.hs_base.proofs.ContextLemmas.{first_of_both, second_of_both, of_both, of_either, left_of_either, right_of_either}
-use Rattle.hs_base.proofs.ContextSetLemmas.{bit-all, bit-and}
 use Rattle.hs_bits.specs.LowestBits.{IsLowestBit, AreBitsBehind}
 use Rattle.hs_bits.proofs.LowestLemmas.{lowest-gone, others-stay}
-use Rattle.hs_bits.proofs.WordLemmas.{and-true, or-none, or-turned, shl-bit}
+use Rattle.hs_bits.proofs.WordLemmas.{byte-bits, or-none}
 use Rattle.hs_engine.specs.AnyBelow.{any_below}
-use Rattle.hs_block.specs.Blocks.{is_blank}
 use Rattle.hs_block.specs.Packed.{digits, packed}
 use Rattle.hs_block.specs.WordBits.{word_bit, count_below}
-use Rattle.hs_block.proofs.AnyLemmas.{any-none, any-some, none-any, same-truth, some-any, true-false, true-or-false}
+use Rattle.hs_block.proofs.AnyLemmas.{any-none, any-same, any-some, any-split, none-any, same-truth, some-any, true-false, true-or-false}
 use Rattle.hs_block.proofs.PackedLemmas.{bit-digits, length-packed, packed-at}
-use Rattle.hs_block.proofs.PlaceLemmas.{bit-both, bit-either, bit-none, bit-shifted, bit-up}
-use Rattle.hs_block.proofs.RunLemmas.{blank-zero, zero-blank}
+use Rattle.hs_block.proofs.PlaceLemmas.{bit-both, bit-either, bit-none, bit-up, less-is, not-less}
+use Rattle.hs_block.proofs.TableLemmas.{with-bit}
 
 -- a word without a bit is 0
 pub no-bits : (word : ℕ) → ((k : ℕ) → word_bit word k ≡ false) → word ≡ 0
@@ -35,27 +34,6 @@ past-word word k fits past = ap (λ n. eqb n 1) (bit_at_above word 64 k fits pas
 
 pub both-past : (word other k : ℕ) → other < 2 ^ 64 → 64 ≤ k → word_bit (bit_and word other) k ≡ false
 both-past word other k fits past = bit-both word other k ∙ (ap (λ b. word_bit word k && b) (past-word other k fits past) ∙ and-false (word_bit word k))
-  where
-    and-false : (a : Bool) → (a && false) ≡ false
-    and-false true = refl
-    and-false false = refl
-
--- two words have a bit in common
-pub meet-is : (one other size : ℕ) → ((y : ℕ) → size ≤ y → word_bit other y ≡ false) → not (eqb (bit_and one other) 0) ≡ any_below size (λ y. word_bit one y && word_bit other y)
-meet-is one other size few =
-    elim (true-or-false (any_below size (λ y. word_bit one y && word_bit other y))) [
-      | inl any ↦
-          let (y, below, is) = any-some size (λ y. word_bit one y && word_bit other y) any in
-          let some : bit_and one other ≢ 0 = λ none_. true-false (word_bit (bit_and one other) y) (bit-both one other y ∙ is) (ap (λ w. word_bit w y) none_ ∙ bit-none y) in
-          ap not (ne_eqb (bit_and one other) 0 some) ∙ sym any
-      | inr none_ ↦
-          let unset : (y : ℕ) → word_bit (bit_and one other) y ≡ false = λ y.
-          elim (cases_lt y size) [
-            | inl below ↦ bit-both one other y ∙ none-any size (λ y. word_bit one y && word_bit other y) none_ y below
-            | inr past ↦ bit-both one other y ∙ (ap (λ b. word_bit one y && b) (few y past) ∙ and-false (word_bit one y))
-          ] in
-          ap not (eq-eqb (bit_and one other) 0 (no-bits (bit_and one other) unset)) ∙ sym none_
-    ]
   where
     and-false : (a : Bool) → (a && false) ≡ false
     and-false true = refl
@@ -132,38 +110,80 @@ united-none n left w none_ all =
     and-false true = refl
     and-false false = refl
 
--- the positions of some numbers that pass a test: those that are left are still to be looked at
-pub column-more : (n left place rest : ℕ) (low : IsLowestBit left place) (behind : AreBitsBehind left place rest) (below : place < n) (test : ℕ → Bool) (now old all : ℕ → Bool) →
-    ((x : ℕ) → now x ≡ ((eqb x place && test place) || old x)) → ((x : ℕ) → (old x || (word_bit left x && test x)) ≡ all x) → (x : ℕ) → (now x || (word_bit rest x && test x)) ≡ all x
-column-more n left place rest low behind below test now old all is whole x =
-    elim (cases_eq x place) [
-      | inl same ↦
-          let set : word_bit left x ≡ true = ap (word_bit left) same ∙ is-left n left place rest low behind below test in
-          let off : word_bit rest x ≡ false = ap (word_bit rest) same ∙ gone n left place rest low behind below test in
-          ap (λ b. b || (word_bit rest x && test x)) (is x ∙ (ap (λ b. (b && test place) || old x) (eq-eqb x place same) ∙ ap (λ k. test k || old x) (sym same)))
-          ∙ (ap (λ b. (test x || old x) || (b && test x)) off
-          ∙ (or-none (test x || old x) ∙ (or-turned (test x) (old x) ∙ (sym (ap (λ b. old x || (b && test x)) set) ∙ whole x))))
-      | inr apart ↦
-          ap (λ b. b || (word_bit rest x && test x)) (is x ∙ ap (λ b. (b && test place) || old x) (ne_eqb x place apart))
-          ∙ (ap (λ b. old x || (b && test x)) (stays n left place rest low behind below test x apart) ∙ whole x)
+-- rows
+
+pub row-word : (row : List ℕ) (p y : ℕ) → y < 64 → has_word_bit row (64 * p + y) ≡ word_bit (get_or row p 0) y
+unfolding has_word_bit word_bit
+row-word row p y below =
+    let place : (64 * p + y) / 64 ≡ p = omega arith in
+    let bit : (64 * p + y) % 64 ≡ y = omega arith in
+    ap (λ k. eqb (bit_at (get_or row k 0) ((64 * p + y) % 64)) 1) place ∙ ap (λ k. eqb (bit_at (get_or row p 0) k) 1) bit
+
+-- one word more of two rows
+pub united-place : (words row live some : List ℕ) (p i all part : ℕ) → length some ≡ 64 → ((y : ℕ) → y < 64 → get_or some y 0 ≡ get_or words (64 * p + y) 0) →
+    word_bit part i ≡ any_below (length some) (λ y. word_bit (get_or some y 0) i && word_bit (bit_and (get_or row p 0) (get_or live p 0)) y) →
+    word_bit all i ≡ any_below (64 * p) (λ y. word_bit (get_or words y 0) i && (has_word_bit row y && has_word_bit live y)) →
+    word_bit (bit_or all part) i ≡ any_below (64 * (p + 1)) (λ y. word_bit (get_or words y 0) i && (has_word_bit row y && has_word_bit live y))
+united-place words row live some p i all part long are part_is all_is =
+    let F : ℕ → Bool = λ y. word_bit (get_or words y 0) i && (has_word_bit row y && has_word_bit live y) in
+    let G : ℕ → Bool = λ y. word_bit (get_or some y 0) i && word_bit (bit_and (get_or row p 0) (get_or live p 0)) y in
+    let more : 64 * p + 64 ≡ 64 * (p + 1) = omega arith in
+    bit-either all part i
+    ∙ (ap (λ b. b || word_bit part i) all_is
+    ∙ (ap (λ b. any_below (64 * p) F || b)
+    (part_is
+    ∙ (ap (λ n. any_below n G) long
+    ∙ any-same 64 G (λ y. F (64 * p + y))
+    (λ y below.
+    ap (λ w. word_bit w i && word_bit (bit_and (get_or row p 0) (get_or live p 0)) y) (are y below)
+    ∙ ap (λ b. word_bit (get_or words (64 * p + y) 0) i && b)
+    (bit-both (get_or row p 0) (get_or live p 0) y
+    ∙ (ap (λ b. b && word_bit (get_or live p 0) y) (sym (row-word row p y below)) ∙ ap (λ b. has_word_bit row (64 * p + y) && b) (sym (row-word live p y below)))))))
+    ∙ (sym (any-split (64 * p) 64 F) ∙ ap (λ n. any_below n F) more)))
+
+pub slice-places : (words : List ℕ) (p y len : ℕ) → y < len → get_or (take len (drop (64 * p) words)) y 0 ≡ get_or words (64 * p + y) 0
+slice-places words p y len below = get_or-take len (drop (64 * p) words) y 0 below ∙ get_or-drop (64 * p) words y 0
+
+-- whether two rows meet
+pub meet-rows : (apart : Bool) (one other : List ℕ) (size : ℕ) → (apart ≡ true) ↔ ((k : ℕ) → (has_word_bit one k && has_word_bit other k) ≡ false) → ((y : ℕ) → size ≤ y → has_word_bit one y ≡ false) →
+    not apart ≡ any_below size (λ y. has_word_bit one y && has_word_bit other y)
+meet-rows true one other size is few = sym (any-none size (λ y. has_word_bit one y && has_word_bit other y) (λ y below. is.0 refl y))
+meet-rows false one other size is few =
+    elim (true-or-false (any_below size (λ y. has_word_bit one y && has_word_bit other y))) [
+      | inl on ↦ sym on
+      | inr off ↦
+          absurd (let e : false ≡ true =
+          is.1 (λ k.
+          elim (cases_lt k size) [
+            | inl below ↦ none-any size (λ y. has_word_bit one y && has_word_bit other y) off k below
+            | inr past ↦ ap (λ b. b && has_word_bit other k) (few k past)
+          ]) in cc)
     ]
 
--- where no place is begun or led to
-pub unreached : (base led i : ℕ) → not (eqb (bit_or base (led * 2 % 18446744073709551616)) 0) ≡ false → i < 64 → (word_bit base i || (nat_le 1 i && word_bit led (i - 1))) ≡ false
-unreached base led i off below =
-    let none_ : bit_or base (led * 2 % 18446744073709551616) ≡ 0 = eqb-true (bit_or base (led * 2 % 18446744073709551616)) 0 (unnot (eqb (bit_or base (led * 2 % 18446744073709551616)) 0) off) in
-    sym (bit-either base (led * 2 % 18446744073709551616) i ∙ ap (λ b. word_bit base i || b) (bit-up led 1 i below)) ∙ (ap (λ w. word_bit w i) none_ ∙ bit-none i)
-  where
-    unnot : (b : Bool) → not b ≡ false → b ≡ true
-    unnot true is = refl
-    unnot false is = absurd (let e : true ≡ false = is in cc)
+-- positions that aren't live are passed over
+pub column-passed : (live words : List ℕ) (from x place : ℕ) → from ≤ x → ((y : ℕ) → from ≤ y → y < x → has_word_bit live y ≡ false) → ((y : ℕ) → has_word_bit live y ≡ false → get_or words y 0 ≡ 0) →
+    (k : ℕ) (now : Bool) → now ≡ (nat_lt k from && word_bit (get_or words k 0) place) → now ≡ (nat_lt k x && word_bit (get_or words k 0) place)
+column-passed live words from x place low none_ dark k now is =
+    let test : Bool = word_bit (get_or words k 0) place in
+    is
+    ∙ elim (cases_lt k from) [
+      | inl below ↦ ap (λ b. b && test) (less-is k from below) ∙ sym (ap (λ b. b && test) (less-is k x (omega arith)))
+      | inr past ↦
+          ap (λ b. b && test) (not-less k from past)
+          ∙ elim (cases_lt k x) [
+            | inl between ↦
+                let off : test ≡ false = ap (λ w. word_bit w place) (dark k (none_ k past between)) ∙ bit-none place in
+                sym (ap (λ b. b && test) (less-is k x between) ∙ off)
+            | inr above ↦ sym (ap (λ b. b && test) (not-less k x above))
+          ]
+    ]
 
--- the places of a class that are begun or led to
-pub next-bit : (class base led i : ℕ) → i < 64 →
-    word_bit (bit_and class (bit_or base (led * 2 % 18446744073709551616))) i ≡ (word_bit class i && (word_bit base i || (nat_le 1 i && word_bit led (i - 1))))
-next-bit class base led i below =
-    bit-both class (bit_or base (led * 2 % 18446744073709551616)) i
-    ∙ ap (λ b. word_bit class i && b) (bit-either base (led * 2 % 18446744073709551616) i ∙ ap (λ b. word_bit base i || b) (bit-up led 1 i below))
+-- one position more of a column
+pub column-more : (row live words new : List ℕ) (from x place : ℕ) (value : Bool) → from ≤ x → ((y : ℕ) → from ≤ y → y < x → has_word_bit live y ≡ false) → ((y : ℕ) → has_word_bit live y ≡ false → get_or words y 0 ≡ 0) →
+    value ≡ word_bit (get_or words x 0) place → ((k : ℕ) → has_word_bit new k ≡ ((eqb k x && value) || has_word_bit row k)) → ((k : ℕ) → has_word_bit row k ≡ (nat_lt k from && word_bit (get_or words k 0) place)) →
+    (k : ℕ) → has_word_bit new k ≡ (nat_lt k (x + 1) && word_bit (get_or words k 0) place)
+column-more row live words new from x place value low none_ dark value_is new_is row_is k =
+    with-bit x k (word_bit (get_or words k 0) place) value (has_word_bit row k) (has_word_bit new k) (λ same. value_is ∙ ap (λ y. word_bit (get_or words y 0) place) (sym same)) (column-passed live words from x place low none_ dark k (has_word_bit row k) (row_is k)) (new_is k)
 
 -- how many bits are set
 
@@ -200,77 +220,7 @@ count-ones word count fits few rest =
     let e : word ≡ word % 2 ^ 64 = omega arith in
     ap ones e ∙ (ones-mod 64 word ∙ count-fewer count 64 (word_bit word) few rest)
 
--- the bits of bytes
-
-byte-moved : (byte place k : ℕ) → byte < 2 ^ 8 → place < 8 → word_bit (byte * 2 ^ (8 * place) % 2 ^ 64) k ≡ (eqb (k / 8) place && word_bit byte (k % 8))
-unfolding word_bit
-byte-moved byte place k fits small =
-    elim (cases_lt k 64) [
-      | inl inside ↦
-          shl-bit byte (8 * place) k inside
-          ∙ elim (cases_lt k (8 * place)) [
-            | inl below ↦
-                let apart : k / 8 ≢ place = omega arith in
-                rw (lt-leb (8 * place) k below, ne_eqb (k / 8) place apart) refl
-            | inr above ↦ elim (cases_lt k (8 * place + 8)) [
-              | inl here ↦
-                  let same : k / 8 ≡ place = omega arith in
-                  let bit : k - 8 * place ≡ k % 8 = omega arith in
-                  rw (le-leb (8 * place) k above, eq-eqb (k / 8) place same) (ap (λ b. eqb (bit_at byte b) 1) bit)
-              | inr past ↦
-                  let apart : k / 8 ≢ place = omega arith in
-                  let over : 8 ≤ k - 8 * place = omega arith in
-                  rw (le-leb (8 * place) k above, ne_eqb (k / 8) place apart) (ap (λ n. eqb n 1) (bit_at_above byte 8 (k - 8 * place) fits over))
-            ]
-          ]
-      | inr past ↦
-          let apart : k / 8 ≢ place = omega arith in
-          let below : byte * 2 ^ (8 * place) % 2 ^ 64 < 2 ^ 64 = omega arith in
-          ap (λ n. eqb n 1) (bit_at_above (byte * 2 ^ (8 * place) % 2 ^ 64) 64 k below past) ∙ sym (ap (λ b. b && eqb (bit_at byte (k % 8)) 1) (ne_eqb (k / 8) place apart))
-    ]
-
-truth-bit : (word k : ℕ) → word_bit word k ≡ eqb (bit_at word k) 1
-unfolding word_bit
-truth-bit word k = refl
-
--- a word with the bits of one byte
-pub with-byte : (bytes : List ℕ) (word place k : ℕ) → get_or bytes place 0 < 2 ^ 8 → place < 8 →
-    word_bit (bit_or word (get_or bytes place 0 * 2 ^ (8 * place) % 2 ^ 64)) k ≡ ((eqb (k / 8) place && has_bit bytes k) || word_bit word k)
-unfolding has_bit
-with-byte bytes word place k fits small =
-    let moved : ℕ = get_or bytes place 0 * 2 ^ (8 * place) % 2 ^ 64 in
-    bit-either word moved k
-    ∙ (or-turned (word_bit word k) (word_bit moved k)
-    ∙ ap (λ b. b || word_bit word k) (byte-moved (get_or bytes place 0) place k fits small ∙ same-byte (k / 8) place (λ p. word_bit (get_or bytes p 0) (k % 8)) ∙ ap (λ b. eqb (k / 8) place && b) (truth-bit (get_or bytes (k / 8) 0) (k % 8))))
-  where
-    same-byte : (p place : ℕ) (test : ℕ → Bool) → (eqb p place && test place) ≡ (eqb p place && test p)
-    same-byte p place test =
-        elim (cases_eq p place) [
-          | inl same ↦ ap (λ b. eqb p place && b) (ap test (sym same))
-          | inr apart ↦ rw (ne_eqb p place apart) refl
-        ]
-
--- a word is 0 where its bytes are blank
-pub word-blank : (bytes : List ℕ) (word : ℕ) → ((i : ℕ) → get_or bytes i 0 < 2 ^ 8) → ((k : ℕ) → word_bit word k ≡ has_bit bytes k) → eqb word 0 ≡ is_blank bytes
-unfolding has_bit
-word-blank bytes word each bits =
-    same-truth (eqb word 0) (is_blank bytes)
-    (λ none_. zero-blank bytes (clear (eqb-true word 0 none_)))
-    (λ blank. eq-eqb word 0 (no-bits word (λ k. bits k ∙ zero-bits bytes (blank-zero bytes blank) k)))
-  where
-    unset : word ≡ 0 → (k : ℕ) → has_bit bytes k ≡ false
-    unset none_ k = sym (bits k) ∙ (ap (λ w. word_bit w k) none_ ∙ bit-none k)
-
-    clear : word ≡ 0 → AreZero bytes
-    clear none_ i below =
-        same_from_bits_below 8 (get_or bytes i 0) 0 (each i) (omega arith) (λ b small.
-        let byte : (8 * i + b) / 8 ≡ i = omega arith in
-        let bit : (8 * i + b) % 8 ≡ b = omega arith in
-        let off : eqb (bit_at (get_or bytes i 0) b) 1 ≡ false =
-        sym (ap (λ n. eqb (bit_at (get_or bytes n 0) ((8 * i + b) % 8)) 1) byte ∙ ap (λ n. eqb (bit_at (get_or bytes i 0) n) 1) bit) ∙ unset none_ (8 * i + b) in
-        omega (arith, bit_at-lt (get_or bytes i 0) b, bit_at-zero b, eqb-false (bit_at (get_or bytes i 0) b) 1 off))
-
--- bytes that are those of a word
+-- bytes that are those of a row
 
 digits-below : (n : ℕ) (f : ℕ → Bool) → digits n f < 2 ^ n
 digits-below zero f = omega arith
@@ -282,16 +232,13 @@ digits-below (suc n) f =
     one-most true = omega arith
     one-most false = omega arith
 
-low-byte : (word i : ℕ) → bit_and (word / 2 ^ (8 * i)) 255 ≡ digits 8 (λ k. word_bit word (8 * i + k))
-unfolding word_bit
-low-byte word i =
-    let byte : ℕ = bit_and (word / 2 ^ (8 * i)) 255 in
-    let small : byte < 2 ^ 8 = omega (arith, and_mask (word / 2 ^ (8 * i)) 8) in
-    same_from_bits_below 8 byte (digits 8 (λ k. word_bit word (8 * i + k))) small (digits-below 8 (λ k. word_bit word (8 * i + k))) (λ k below.
-    same-digit (bit_at byte k) (bit_at (digits 8 (λ k. word_bit word (8 * i + k))) k) (bit_at-lt byte k) (bit_at-lt (digits 8 (λ k. word_bit word (8 * i + k))) k)
-    (bit-and (word / 2 ^ (8 * i)) 255 k
-    ∙ (ap (λ b. eqb (bit_at (word / 2 ^ (8 * i)) k) 1 && b) (bit-all 8 k below)
-    ∙ (and-true (eqb (bit_at (word / 2 ^ (8 * i)) k) 1) ∙ (bit-shifted word (8 * i) k ∙ sym (bit-digits 8 (λ k. word_bit word (8 * i + k)) k below))))))
+low-byte : (row : List ℕ) (i : ℕ) → bit_and (get_or row (i / 8) 0 / 2 ^ (8 * (i % 8))) 255 ≡ digits 8 (λ k. has_word_bit row (8 * i + k))
+low-byte row i =
+    let byte : ℕ = bit_and (get_or row (i / 8) 0 / 2 ^ (8 * (i % 8))) 255 in
+    let small : byte < 2 ^ 8 = omega (arith, and_mask (get_or row (i / 8) 0 / 2 ^ (8 * (i % 8))) 8) in
+    same_from_bits_below 8 byte (digits 8 (λ k. has_word_bit row (8 * i + k))) small (digits-below 8 (λ k. has_word_bit row (8 * i + k))) (λ k below.
+    same-digit (bit_at byte k) (bit_at (digits 8 (λ k. has_word_bit row (8 * i + k))) k) (bit_at-lt byte k) (bit_at-lt (digits 8 (λ k. has_word_bit row (8 * i + k))) k)
+    (byte-bits row i k below ∙ sym (bit-digits 8 (λ k. has_word_bit row (8 * i + k)) k below)))
   where
     same-digit : (a b : ℕ) → a < 2 → b < 2 → eqb a 1 ≡ eqb b 1 → a ≡ b
     same-digit zero zero h k e = refl
@@ -301,10 +248,15 @@ low-byte word i =
     same-digit (suc (suc a)) b h k e = absurd (omega arith)
     same-digit a (suc (suc b)) h k e = absurd (omega arith)
 
-pub stored-word : (bytes : List ℕ) (word n : ℕ) → length bytes ≡ n → ((i : ℕ) → i < n → get_or bytes i 0 ≡ bit_and (word / 2 ^ (8 * i)) 255) → bytes ≡ packed n (word_bit word)
-stored-word bytes word n len are =
-    same-places bytes (packed n (word_bit word)) (len ∙ sym (length-packed n (word_bit word)))
-    (λ i below. are i (omega arith) ∙ (low-byte word i ∙ sym (packed-at n (word_bit word) i (omega arith))))
+pub stored-row : (bytes row : List ℕ) (n : ℕ) → length bytes ≡ n → ((i : ℕ) → i < n → get_or bytes i 0 ≡ bit_and (get_or row (8 * i / 64) 0 / 2 ^ (8 * i % 64)) 255) → bytes ≡ packed n (has_word_bit row)
+stored-row bytes row n len are =
+    same-places bytes (packed n (has_word_bit row)) (len ∙ sym (length-packed n (has_word_bit row)))
+    (λ i below.
+    let place : 8 * i / 64 ≡ i / 8 = omega arith in
+    let shift : 8 * i % 64 ≡ 8 * (i % 8) = omega arith in
+    are i (omega arith)
+    ∙ (ap (λ k. bit_and (get_or row k 0 / 2 ^ (8 * i % 64)) 255) place ∙ ap (λ k. bit_and (get_or row (i / 8) 0 / 2 ^ k) 255) shift)
+    ∙ (low-byte row i ∙ sym (packed-at n (has_word_bit row) i (omega arith))))
 
 -- the first places, and others of the run
 pub spread-bit : (first run x i : ℕ) → word_bit (bit_or first (bit_and run x)) i ≡ (word_bit first i || (word_bit run i && word_bit (bit_or first (bit_and run x)) i))
@@ -316,3 +268,19 @@ spread-bit first run x i =
     again true r x = refl
     again false true x = refl
     again false false x = refl
+
+-- what a look at a word says
+pub looked-at : (class reached again word : ℕ) → word ≡ bit_and class (bit_or reached (bit_and (word * 2 % 18446744073709551616) again)) → (i : ℕ) → i < 64 →
+    word_bit word i ≡ (word_bit class i && (word_bit reached i || (nat_le 1 i && (word_bit word (i - 1) && word_bit again i))))
+looked-at class reached again word is i small =
+    let up : ℕ = word * 2 % 18446744073709551616 in
+    ap (λ w. word_bit w i) is
+    ∙ (bit-both class (bit_or reached (bit_and up again)) i
+    ∙ ap (λ b. word_bit class i && b)
+    (bit-either reached (bit_and up again) i
+    ∙ ap (λ b. word_bit reached i || b)
+    (bit-both up again i ∙ (ap (λ b. b && word_bit again i) (bit-up word 1 i small) ∙ and-grouped (nat_le 1 i) (word_bit word (i - 1)) (word_bit again i)))))
+  where
+    and-grouped : (a b c : Bool) → ((a && b) && c) ≡ (a && (b && c))
+    and-grouped true b c = refl
+    and-grouped false b c = refl

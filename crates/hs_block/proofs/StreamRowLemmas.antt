@@ -1,5 +1,5 @@
 -- The rows of a block are the fields of its expression.
-use Rattle.std.proofs.Common.{◌≡◌, ◌↔◌, ℕ, zero, suc, ◌+◌, ◌<◌, ◌≤◌, Bool, true, false, ◌&&◌, ◌||◌, List, [], ◌∷◌, ◌++◌, length, get_or, take, slice_get, Some, vec_len, sym, ap, subst, ◌∙◌, inl, inr, arith}
+use Rattle.std.proofs.Common.{◌≡◌, ◌↔◌, ℕ, zero, suc, ◌+◌, ◌<◌, ◌≤◌, Bool, true, false, ◌&&◌, ◌||◌, List, [], ◌∷◌, ◌++◌, length, get_or, take, slice_get, Some, sym, ap, subst, ◌∙◌, inl, inr, arith}
 use Rattle.std.proofs.lemmas.List.{append-nil}
 use Rattle.hs_base.specs.declared.context.Next.{Next}
 use Rattle.hs_base.specs.declared.context.Prev.{Prev}
@@ -20,7 +20,7 @@ use Rattle.hs_engine.proofs.PositionLemmas.{reach-below}
 use Rattle.hs_block.specs.declared.streams.Streams.{Streams}
 use Rattle.hs_block.specs.BlockContexts.{context_before, prev_before}
 use Rattle.hs_block.specs.Rows.{is_next, row}
-use Rattle.hs_block.specs.StreamTables.{TellsOf, stream_rules}
+use Rattle.hs_block.specs.StreamTables.{TellsOf, comes_before, stream_rules}
 use Rattle.hs_block.specs.WordBits.{bits_of, word_bit}
 use Rattle.hs_block.proofs.AnyLemmas.{any-some, some-any}
 use Rattle.hs_block.proofs.BlockLemmas.{block-more, entered-more, length-block, length-entered}
@@ -32,7 +32,7 @@ reached-below r u entered x reached = reach-below (context_at u false) (λ set i
 
 module _ (s : Streams) (a : Automaton) (tells : TellsOf s a) (r : Core) (tables : IsFor a r) where
   abbrev Size : ℕ
-  Size = vec_len s.froms
+  Size = s.size
 
   -- one step more
   module _ (u : List ℕ) (entered : List Bool) (len : length entered ≡ length u) (live : ℕ → Bool) (field : (x : ℕ) → x < Size → (live x ≡ true) ↔ IsReached r u entered x) (enters : ℕ) (bytes : List ℕ) (prev : Prev) (i : ℕ)
@@ -48,6 +48,10 @@ module _ (s : Streams) (a : Automaton) (tells : TellsOf s a) (r : Core) (tables 
 
     entered-is : (x : ℕ) → Entered x ≡ in_mask (slice_get s.enters.items x) Here
     entered-is x = ap (λ p. in_mask (slice_get s.enters.items x) (between p (class_of B))) behind
+
+    -- whether another may come before it there
+    from-is : (x y : ℕ) → comes_before s x y (context_before prev bytes i) ≡ comes_before s x y Here
+    from-is x y = ap (λ p. comes_before s x y (between p (class_of B))) behind
 
     abbrev On : ℕ → Bool
     On x = any_below Size (λ y. live y && (stream_rules s prev enters bytes).follows i y x)
@@ -69,7 +73,7 @@ module _ (s : Streams) (a : Automaton) (tells : TellsOf s a) (r : Core) (tables 
               let (y, inside, led) = any-some Size (λ y. live y && (stream_rules s prev enters bytes).follows i y x) on in
               steps_on y taken ((field y inside).0 (first_of_both (live y) ((stream_rules s prev enters bytes).follows i y x) led))
               (sym (tables.follows y x (prev_at u (length u)) B)
-              ∙ (sym (tells.follows_are x y Here (omega (arith, below, tells.size_is))) ∙ second_of_both (live y) ((stream_rules s prev enters bytes).follows i y x) led))
+              ∙ (sym (tells.follows_are x y Here (omega (arith, below, tells.size_is))) ∙ (sym (from-is x y) ∙ second_of_both (live y) ((stream_rules s prev enters bytes).follows i y x) led)))
         ]
 
     takes-it : (x : ℕ) → x < Size → slice_get (set_of r x) B ≡ Some true → (stream_rules s prev enters bytes).takes i x ≡ true
@@ -85,7 +89,7 @@ module _ (s : Streams) (a : Automaton) (tells : TellsOf s a) (r : Core) (tables 
         (right_of_either (Begins x) (On x)
         (some-any Size (λ y. live y && (stream_rules s prev enters bytes).follows i y x) y inside
         (of_both (live y) ((stream_rules s prev enters bytes).follows i y x) ((field y inside).1 reached)
-        (tells.follows_are x y Here (omega (arith, below, tells.size_is)) ∙ (tables.follows y x (prev_at u (length u)) B ∙ is)))))
+        (from-is x y ∙ (tells.follows_are x y Here (omega (arith, below, tells.size_is)) ∙ (tables.follows y x (prev_at u (length u)) B ∙ is))))))
 
     pub field-next : (x : ℕ) → x < Size → (is_next (stream_rules s prev enters bytes) i live x ≡ true) ↔ IsReached r (u ++ B ∷ []) (entered ++ word_bit enters i ∷ []) x
     field-next x below = (
@@ -110,11 +114,11 @@ module _ (s : Streams) (a : Automaton) (tells : TellsOf s a) (r : Core) (tables 
 
 -- an expression is left where a position is live that accepts
 pub accepts-leave : (s : Streams) (a : Automaton) → TellsOf s a → (tree : Tree) → Runs a tree → (u : List ℕ) (entered : List Bool) (live : ℕ → Bool) →
-    ((x : ℕ) → x < vec_len s.froms → (live x ≡ true) ↔ IsReached (write_out tree) u entered x) → (next : Next) (c : Context) → c ≡ context_of u next →
-    (any_below (vec_len s.froms) (λ x. live x && in_mask (slice_get s.accepts.items x) c) ≡ true) ↔ Leaves tree u entered next
+    ((x : ℕ) → x < s.size → (live x ≡ true) ↔ IsReached (write_out tree) u entered x) → (next : Next) (c : Context) → c ≡ context_of u next →
+    (any_below s.size (λ x. live x && in_mask (slice_get s.accepts.items x) c) ≡ true) ↔ Leaves tree u entered next
 accepts-leave s a tells tree runs u entered live field next c is_context = (
   λ any.
-      let (x, below, is) = any-some (vec_len s.froms) (λ x. live x && in_mask (slice_get s.accepts.items x) c) any in
+      let (x, below, is) = any-some s.size (λ x. live x && in_mask (slice_get s.accepts.items x) c) any in
       accepting-leaves tree u entered next runs.plain runs.ends_last (record {
         position = x;
         reached = (field x below).0 (first_of_both (live x) (in_mask (slice_get s.accepts.items x) c) is);
@@ -125,8 +129,8 @@ accepts-leave s a tells tree runs u entered live field next c is_context = (
   λ leaves.
       let is : IsAccepting (write_out tree) u entered next = leaves-accepting tree u entered next runs.plain runs.ends_last leaves in
       let x = is.position in
-      let below : x < vec_len s.froms = omega (arith, reached-below (write_out tree) u entered x is.reached, tells.size_is, runs.tables.size) in
-      some-any (vec_len s.froms) (λ x. live x && in_mask (slice_get s.accepts.items x) c) x below
+      let below : x < s.size = omega (arith, reached-below (write_out tree) u entered x is.reached, tells.size_is, runs.tables.size) in
+      some-any s.size (λ x. live x && in_mask (slice_get s.accepts.items x) c) x below
       (of_both (live x) (in_mask (slice_get s.accepts.items x) c) ((field x below).1 is.reached)
       (accept-is x ∙ (tells.accepts_are x (context_of u next) ∙ (runs.tables.accepts x (context_of u next) ∙ is.accepts)))),
 )

@@ -1,13 +1,13 @@
 -- What a block does, from the words of its positions.
-use Rattle.std.proofs.Common.{◌≡◌, ℕ, zero, suc, ◌+◌, ◌*◌, ◌/◌, ◌<◌, ◌≤◌, Bool, true, false, not, nat_lt, ◌&&◌, ◌||◌, List, length, get_or, slice_get, eqb, bit_and, vec_len, Option, Some, None, refl, sym, ap, ◌∙◌, inl, inr, arith}
+use Rattle.std.proofs.Common.{◌≡◌, ◌↔◌, ℕ, zero, suc, ◌+◌, ◌*◌, ◌/◌, ◌<◌, ◌≤◌, Bool, true, false, not, nat_lt, ◌&&◌, ◌||◌, List, length, get_or, slice_get, eqb, bit_and, Option, Some, None, refl, sym, ap, ◌∙◌, inl, inr, arith}
 use Rattle.std.proofs.lemmas.Bool.{cases_lt, eqb-true}
 use Rattle.hs_base.specs.declared.context.Mask.{Mask}
 use Rattle.hs_base.specs.declared.context.Next.TheVariants as after
 use Rattle.hs_base.specs.declared.context.Prev.{Prev}
 use Rattle.hs_base.specs.Assertions.{line_feed, is_word_byte}
-use Rattle.hs_base.specs.Bits.{AreZero, has_bit}
+use Rattle.hs_base.specs.Bits.{AreZero, has_bit, has_word_bit}
 use Rattle.hs_base.specs.Contexts.{Context, class_of, prev_by}
-use Rattle.hs_base.proofs.BitLemmas.{same-zero}
+use Rattle.hs_base.proofs.BitLemmas.{same-zero, zero-bits}
 use Rattle.hs_base.proofs.ContextLemmas.{first_of_both, second_of_both, of_both}
 use Rattle.hs_bits.proofs.WordLemmas.{and-none, and-true, or-none}
 use Rattle.hs_engine.specs.AnyBelow.{any_below}
@@ -16,15 +16,14 @@ use Rattle.hs_block.specs.declared.streams.Streams.{Streams}
 use Rattle.hs_block.specs.Blocks.{is_blank, is_busy}
 use Rattle.hs_block.specs.Packed.{packed}
 use Rattle.hs_block.specs.BlockContexts.{context_before, context_behind, prev_before}
-use Rattle.hs_block.specs.Rows.{live_at}
-use Rattle.hs_block.specs.Settling.{IsSettled}
+use Rattle.hs_block.specs.Rows.{is_next, live_at}
 use Rattle.hs_block.specs.StreamRuns.{IsStreamRun, IsTried, accepts_before, accepts_behind, stream_part, stream_row}
 use Rattle.hs_engine.specs.Automata.{in_mask, in_set}
 use Rattle.hs_engine.specs.Between.{between}
-use Rattle.hs_block.specs.StreamSets.{is_from, takes_byte}
-use Rattle.hs_block.specs.StreamTables.{stream_rules}
+use Rattle.hs_block.specs.StreamSets.{takes_byte}
+use Rattle.hs_block.specs.StreamTables.{comes_before, stream_rules}
 use Rattle.hs_block.specs.WordBits.{count_below, one_later, word_bit}
-use Rattle.hs_block.proofs.AnyLemmas.{any-none, any-same, true-false, true-or-false}
+use Rattle.hs_block.proofs.AnyLemmas.{any-none, any-same, same-truth, true-false, true-or-false}
 use Rattle.hs_block.proofs.BlockLemmas.{count-same}
 use Rattle.hs_block.proofs.PackedLemmas.{length-packed, packed-blank, packed-same, packed-zero}
 use Rattle.hs_block.proofs.PlaceLemmas.{bit-both, bit-none, less-is, not-less}
@@ -38,90 +37,94 @@ under i n a b same =
       | inr past ↦ ap (λ t. t && a) (not-less i n past) ∙ sym (ap (λ t. t && b) (not-less i n past))
     ]
 
+-- whether a region is 0, as the code tells it
+pub blank-is : (clear : Bool) (region : List ℕ) → (clear ≡ true) ↔ AreZero region → clear ≡ is_blank region
+blank-is clear region is = same-truth clear (is_blank region) (λ on. zero-blank region (is.0 on)) (λ blank. is.1 (blank-zero region blank))
+
 -- bits of the bytes of a region
-room-for : (s : Streams) (old : List ℕ) → length old ≡ (vec_len s.froms + 7) / 8 → vec_len s.froms ≤ 8 * length old
+room-for : (s : Streams) (old : List ℕ) → length old ≡ (s.size + 7) / 8 → s.size ≤ 8 * length old
 room-for s old len = omega (arith, len)
 
 -- the words of a block are its rows
-module _ (s : Streams) (prev : Prev) (old : List ℕ) (enters : ℕ) (whole words : List ℕ) (state live : ℕ) (state_is : (k : ℕ) → word_bit state k ≡ has_bit old k)
-    (settled : IsSettled (stream_rules s prev enters whole) (word_bit state) words 0 live) where
-  pub live-row : (i : ℕ) → i ≤ 64 → (x : ℕ) → x < vec_len s.froms → live_at (word_bit state) words i x ≡ stream_row s prev old enters whole i x
+module _ (s : Streams) (prev : Prev) (old : List ℕ) (enters : ℕ) (whole words : List ℕ) (state : List ℕ) (blank : Bool) (state_is : (k : ℕ) → has_word_bit state k ≡ has_bit old k)
+    (holds : (x : ℕ) → x < s.size → (i : ℕ) → i < 64 → word_bit (get_or words x 0) i ≡ is_next (stream_rules s prev enters whole) i (live_at (has_word_bit state) words i) x) where
+  pub live-row : (i : ℕ) → i ≤ 64 → (x : ℕ) → x < s.size → live_at (has_word_bit state) words i x ≡ stream_row s prev old enters whole i x
   live-row zero few x below = state_is x
   live-row (suc i) few x below =
-      settled.holds x below (bit-none x) i (omega arith)
+      holds x below i (omega arith)
       ∙ ap (λ b. takes_byte s.sets.items s.numbers.items x (get_or whole i 0) && (Begins || b))
-      (any-same (vec_len s.froms) (λ y. live_at (word_bit state) words i y && is_from s.froms.items x y) (λ y. stream_row s prev old enters whole i y && is_from s.froms.items x y)
-      (λ y inside. ap (λ b. b && is_from s.froms.items x y) (live-row i (omega arith) y inside)))
+      (any-same s.size (λ y. live_at (has_word_bit state) words i y && comes_before s x y (context_before prev whole i)) (λ y. stream_row s prev old enters whole i y && comes_before s x y (context_before prev whole i))
+      (λ y inside. ap (λ b. b && comes_before s x y (context_before prev whole i)) (live-row i (omega arith) y inside)))
     where
       Begins : Bool
       Begins = word_bit enters i && in_mask (slice_get s.enters.items x) (context_before prev whole i)
 
   -- the bits of the region behind a byte
-  part-live : (j : ℕ) → suc j ≤ 64 → length old ≡ (vec_len s.froms + 7) / 8 → any_below (vec_len s.froms) (λ x. word_bit (get_or words x 0) j) ≡ not (is_blank (stream_part s prev old enters whole (suc j)))
+  part-live : (j : ℕ) → suc j ≤ 64 → length old ≡ (s.size + 7) / 8 → any_below s.size (λ x. word_bit (get_or words x 0) j) ≡ not (is_blank (stream_part s prev old enters whole (suc j)))
   part-live j few len =
-      any-same (vec_len s.froms) (λ x. word_bit (get_or words x 0) j) (stream_row s prev old enters whole (suc j)) (live-row (suc j) few)
-      ∙ sym (packed-blank (length old) (vec_len s.froms) (stream_row s prev old enters whole (suc j)) (room-for s old len))
+      any-same s.size (λ x. word_bit (get_or words x 0) j) (stream_row s prev old enters whole (suc j)) (live-row (suc j) few)
+      ∙ sym (packed-blank (length old) s.size (stream_row s prev old enters whole (suc j)) (room-for s old len))
 
-  busy-is : (i : ℕ) → i < 64 → length old ≡ (vec_len s.froms + 7) / 8 → eqb state 0 ≡ is_blank old →
-      (word_bit enters i || one_later (not (eqb state 0)) (λ j. any_below (vec_len s.froms) (λ x. word_bit (get_or words x 0) j)) i) ≡ is_busy enters (stream_part s prev old enters whole) i
-  busy-is zero small len blank = ap (λ b. word_bit enters 0 || not b) blank
-  busy-is (suc j) small len blank = ap (λ b. word_bit enters (suc j) || b) (part-live j (omega arith) len)
+  busy-is : (i : ℕ) → i < 64 → length old ≡ (s.size + 7) / 8 → blank ≡ is_blank old →
+      (word_bit enters i || one_later (not blank) (λ j. any_below s.size (λ x. word_bit (get_or words x 0) j)) i) ≡ is_busy enters (stream_part s prev old enters whole) i
+  busy-is zero small len blank_is = ap (λ b. word_bit enters 0 || not b) blank_is
+  busy-is (suc j) small len blank_is = ap (λ b. word_bit enters (suc j) || b) (part-live j (omega arith) len)
 
-  kept-part : (new : List ℕ) (count : ℕ) → count ≤ 64 → length old ≡ (vec_len s.froms + 7) / 8 → (count ≡ 0 → new ≡ old) →
-      ((last : ℕ) → count ≡ last + 1 → new ≡ packed (length old) (λ x. nat_lt x (vec_len s.froms) && word_bit (get_or words x 0) last)) → new ≡ stream_part s prev old enters whole count
+  kept-part : (new : List ℕ) (count : ℕ) → count ≤ 64 → length old ≡ (s.size + 7) / 8 → (count ≡ 0 → new ≡ old) →
+      ((last : ℕ) → count ≡ last + 1 → new ≡ packed (length old) (λ x. nat_lt x s.size && word_bit (get_or words x 0) last)) → new ≡ stream_part s prev old enters whole count
   kept-part new zero few len none_ some = none_ refl
   kept-part new (suc n) few len none_ some =
       some n (omega arith)
-      ∙ packed-same (length old) (λ x. nat_lt x (vec_len s.froms) && word_bit (get_or words x 0) n) (λ x. nat_lt x (vec_len s.froms) && stream_row s prev old enters whole (suc n) x)
-      (λ x below. under x (vec_len s.froms) (word_bit (get_or words x 0) n) (stream_row s prev old enters whole (suc n) x) (live-row (suc n) few x))
+      ∙ packed-same (length old) (λ x. nat_lt x s.size && word_bit (get_or words x 0) n) (λ x. nat_lt x s.size && stream_row s prev old enters whole (suc n) x)
+      (λ x below. under x s.size (word_bit (get_or words x 0) n) (stream_row s prev old enters whole (suc n) x) (live-row (suc n) few x))
 
-  pub words-run : (new : List ℕ) (count : ℕ) (ends : BlockEnds) (busy ticks : ℕ) → count ≤ 64 → length old ≡ (vec_len s.froms + 7) / 8 → eqb state 0 ≡ is_blank old → (count ≡ 0 → new ≡ old) →
-      ((last : ℕ) → count ≡ last + 1 → new ≡ packed (length old) (λ x. nat_lt x (vec_len s.froms) && word_bit (get_or words x 0) last)) →
+  pub words-run : (new : List ℕ) (count : ℕ) (ends : BlockEnds) (busy ticks : ℕ) → count ≤ 64 → length old ≡ (s.size + 7) / 8 → blank ≡ is_blank old → (count ≡ 0 → new ≡ old) →
+      ((last : ℕ) → count ≡ last + 1 → new ≡ packed (length old) (λ x. nat_lt x s.size && word_bit (get_or words x 0) last)) →
       ((i : ℕ) → word_bit ends.before i
-      ≡ (nat_lt i count && any_below (vec_len s.froms) (λ x. live_at (word_bit state) words i x && in_mask (slice_get s.accepts.items x) (context_before prev whole i)))) →
+      ≡ (nat_lt i count && any_below s.size (λ x. live_at (has_word_bit state) words i x && in_mask (slice_get s.accepts.items x) (context_before prev whole i)))) →
       ((i : ℕ) → word_bit ends.behind i
-      ≡ (nat_lt i count && any_below (vec_len s.froms) (λ x. word_bit (get_or words x 0) i && in_mask (slice_get s.accepts.items x) (context_behind prev whole i)))) →
+      ≡ (nat_lt i count && any_below s.size (λ x. word_bit (get_or words x 0) i && in_mask (slice_get s.accepts.items x) (context_behind prev whole i)))) →
       ((i : ℕ) → word_bit busy i ≡
-      (nat_lt i count && (word_bit enters i || one_later (not (eqb state 0)) (λ j. any_below (vec_len s.froms) (λ x. word_bit (get_or words x 0) j)) i))) →
+      (nat_lt i count && (word_bit enters i || one_later (not blank) (λ j. any_below s.size (λ x. word_bit (get_or words x 0) j)) i))) →
       (((i : ℕ) → count ≤ i → word_bit busy i ≡ false) → ticks ≡ count_below count (word_bit busy)) → IsStreamRun s prev old new enters whole count ends ticks
-  words-run new count ends busy ticks few len blank none_ some before behind busy_bits counted = record {
+  words-run new count ends busy ticks few len blank_is none_ some before behind busy_bits counted = record {
     new_is = kept-part new count few len none_ some;
     before_is = λ i.
         let accept : ℕ → Bool = λ x. in_mask (slice_get s.accepts.items x) (context_before prev whole i) in
         before i
-        ∙ under i count (any_below (vec_len s.froms) (λ x. live_at (word_bit state) words i x && accept x)) (accepts_before s prev old enters whole i)
+        ∙ under i count (any_below s.size (λ x. live_at (has_word_bit state) words i x && accept x)) (accepts_before s prev old enters whole i)
         (λ below.
-        any-same (vec_len s.froms) (λ x. live_at (word_bit state) words i x && accept x) (λ x. stream_row s prev old enters whole i x && accept x)
+        any-same s.size (λ x. live_at (has_word_bit state) words i x && accept x) (λ x. stream_row s prev old enters whole i x && accept x)
         (λ x inside. ap (λ b. b && accept x) (live-row i (omega arith) x inside)));
     behind_is = λ i.
         let accept : ℕ → Bool = λ x. in_mask (slice_get s.accepts.items x) (context_behind prev whole i) in
         behind i
-        ∙ under i count (any_below (vec_len s.froms) (λ x. word_bit (get_or words x 0) i && accept x)) (accepts_behind s prev old enters whole i)
+        ∙ under i count (any_below s.size (λ x. word_bit (get_or words x 0) i && accept x)) (accepts_behind s prev old enters whole i)
         (λ below.
-        any-same (vec_len s.froms) (λ x. word_bit (get_or words x 0) i && accept x) (λ x. stream_row s prev old enters whole (suc i) x && accept x)
+        any-same s.size (λ x. word_bit (get_or words x 0) i && accept x) (λ x. stream_row s prev old enters whole (suc i) x && accept x)
         (λ x inside. ap (λ b. b && accept x) (live-row (suc i) (omega arith) x inside)));
     ticks_are =
-        counted (λ i past. busy_bits i ∙ ap (λ t. t && (word_bit enters i || one_later (not (eqb state 0)) (λ j. any_below (vec_len s.froms) (λ x. word_bit (get_or words x 0) j)) i)) (not-less i count past))
+        counted (λ i past. busy_bits i ∙ ap (λ t. t && (word_bit enters i || one_later (not blank) (λ j. any_below s.size (λ x. word_bit (get_or words x 0) j)) i)) (not-less i count past))
         ∙ count-same count (word_bit busy) (is_busy enters (stream_part s prev old enters whole))
         (λ i below.
         busy_bits i
-        ∙ (ap (λ t. t && (word_bit enters i || one_later (not (eqb state 0)) (λ j. any_below (vec_len s.froms) (λ x. word_bit (get_or words x 0) j)) i)) (less-is i count below)
-        ∙ busy-is i (omega arith) len blank));
+        ∙ (ap (λ t. t && (word_bit enters i || one_later (not blank) (λ j. any_below s.size (λ x. word_bit (get_or words x 0) j)) i)) (less-is i count below)
+        ∙ busy-is i (omega arith) len blank_is));
   }
 
 -- a block in which nothing is live
-module _ (s : Streams) (prev : Prev) (old : List ℕ) (enters : ℕ) (whole : List ℕ) (count state first low : ℕ) (few : count ≤ 64) (len : length old ≡ (vec_len s.froms + 7) / 8) (state_is : (k : ℕ) → word_bit state k ≡ has_bit old k)
-    (blank : eqb state 0 ≡ is_blank old) (small : (i : ℕ) → get_or whole i 0 < 256) (low_is : (i : ℕ) → word_bit low i ≡ nat_lt i count)
+module _ (s : Streams) (prev : Prev) (old : List ℕ) (enters : ℕ) (whole : List ℕ) (count first low : ℕ) (rested : Bool) (few : count ≤ 64) (len : length old ≡ (s.size + 7) / 8)
+    (blank : rested ≡ is_blank old) (small : (i : ℕ) → get_or whole i 0 < 256) (low_is : (i : ℕ) → word_bit low i ≡ nat_lt i count)
     (first_is : (i : ℕ) → i < 64 → word_bit first i ≡ in_set (slice_get s.sets.items 0) (get_or whole i 0))
-    (rests : (eqb state 0 && eqb (bit_and first (bit_and enters low)) 0) ≡ true) where
-  no-state : state ≡ 0
-  no-state = eqb-true state 0 (first_of_both (eqb state 0) (eqb (bit_and first (bit_and enters low)) 0) rests)
-
+    (rests : (rested && eqb (bit_and first (bit_and enters low)) 0) ≡ true) where
   no-first : bit_and first (bit_and enters low) ≡ 0
-  no-first = eqb-true (bit_and first (bit_and enters low)) 0 (second_of_both (eqb state 0) (eqb (bit_and first (bit_and enters low)) 0) rests)
+  no-first = eqb-true (bit_and first (bit_and enters low)) 0 (second_of_both (rested) (eqb (bit_and first (bit_and enters low)) 0) rests)
+
+  no-state : AreZero old
+  no-state = blank-zero old (sym blank ∙ first_of_both rested (eqb (bit_and first (bit_and enters low)) 0) rests)
 
   -- none begins
-  unbegun : (i x : ℕ) → i < count → x < vec_len s.froms →
+  unbegun : (i x : ℕ) → i < count → x < s.size →
       (takes_byte s.sets.items s.numbers.items x (get_or whole i 0) && (word_bit enters i && in_mask (slice_get s.enters.items x) (context_before prev whole i))) ≡ false
   unbegun i x below inside =
       let t : Bool = takes_byte s.sets.items s.numbers.items x (get_or whole i 0) in
@@ -140,31 +143,31 @@ module _ (s : Streams) (prev : Prev) (old : List ℕ) (enters : ℕ) (whole : Li
             (ap (λ w. word_bit w i) no-first ∙ bit-none i)
       ]
 
-  pub rest-row : (i : ℕ) → i ≤ count → (x : ℕ) → x < vec_len s.froms → stream_row s prev old enters whole i x ≡ false
-  rest-row zero within x inside = sym (state_is x) ∙ (ap (λ w. word_bit w x) no-state ∙ bit-none x)
+  pub rest-row : (i : ℕ) → i ≤ count → (x : ℕ) → x < s.size → stream_row s prev old enters whole i x ≡ false
+  rest-row zero within x inside = zero-bits old no-state x
   rest-row (suc i) within x inside =
       let t : Bool = takes_byte s.sets.items s.numbers.items x (get_or whole i 0) in
       let begins : Bool = word_bit enters i && in_mask (slice_get s.enters.items x) (context_before prev whole i) in
       ap (λ b. t && (begins || b))
-      (any-none (vec_len s.froms) (λ y. stream_row s prev old enters whole i y && is_from s.froms.items x y) (λ y below. ap (λ b. b && is_from s.froms.items x y) (rest-row i (omega arith) y below)))
+      (any-none s.size (λ y. stream_row s prev old enters whole i y && comes_before s x y (context_before prev whole i)) (λ y below. ap (λ b. b && comes_before s x y (context_before prev whole i)) (rest-row i (omega arith) y below)))
       ∙ (ap (λ b. t && b) (or-none begins) ∙ unbegun i x (omega arith) inside)
 
   rest-part : (i : ℕ) → i ≤ count → AreZero (stream_part s prev old enters whole i)
-  rest-part zero within = blank-zero old (sym blank ∙ first_of_both (eqb state 0) (eqb (bit_and first (bit_and enters low)) 0) rests)
+  rest-part zero within = no-state
   rest-part (suc i) within =
-      packed-zero (length old) (λ x. nat_lt x (vec_len s.froms) && stream_row s prev old enters whole (suc i) x)
-      (λ x below. under x (vec_len s.froms) (stream_row s prev old enters whole (suc i) x) false (rest-row (suc i) within x) ∙ and-none (nat_lt x (vec_len s.froms)))
+      packed-zero (length old) (λ x. nat_lt x s.size && stream_row s prev old enters whole (suc i) x)
+      (λ x below. under x s.size (stream_row s prev old enters whole (suc i) x) false (rest-row (suc i) within x) ∙ and-none (nat_lt x s.size))
 
   rest-blank : (i : ℕ) → i ≤ count → not (is_blank (stream_part s prev old enters whole i)) ≡ false
   rest-blank i within = ap not (zero-blank (stream_part s prev old enters whole i) (rest-part i within))
 
   part-len : (i : ℕ) → length (stream_part s prev old enters whole i) ≡ length old
   part-len zero = refl
-  part-len (suc i) = length-packed (length old) (λ x. nat_lt x (vec_len s.froms) && stream_row s prev old enters whole (suc i) x)
+  part-len (suc i) = length-packed (length old) (λ x. nat_lt x s.size && stream_row s prev old enters whole (suc i) x)
 
-  accepts-none : (i : ℕ) (c : Context) → i ≤ count → any_below (vec_len s.froms) (λ x. stream_row s prev old enters whole i x && in_mask (slice_get s.accepts.items x) c) ≡ false
+  accepts-none : (i : ℕ) (c : Context) → i ≤ count → any_below s.size (λ x. stream_row s prev old enters whole i x && in_mask (slice_get s.accepts.items x) c) ≡ false
   accepts-none i c within =
-      any-none (vec_len s.froms) (λ x. stream_row s prev old enters whole i x && in_mask (slice_get s.accepts.items x) c)
+      any-none s.size (λ x. stream_row s prev old enters whole i x && in_mask (slice_get s.accepts.items x) c)
       (λ x inside. ap (λ b. b && in_mask (slice_get s.accepts.items x) c) (rest-row i within x inside))
 
   pub rest-run : (ticks : ℕ) → (((i : ℕ) → count ≤ i → word_bit (bit_and enters low) i ≡ false) → ticks ≡ count_below count (word_bit (bit_and enters low))) →
@@ -197,28 +200,35 @@ module _ (s : Streams) (prev : Prev) (old : List ℕ) (enters : ℕ) (whole byte
   behind-alike : (mask : Option Mask) (i : ℕ) → i < count → in_mask mask (context_behind prev whole i) ≡ in_mask mask (context_behind prev bytes i)
   behind-alike mask i below = ap (λ p. in_mask mask (between p after.Unknown)) (prev-alike (suc i) (omega arith))
 
+  context-alike : (i : ℕ) → i < count → context_before prev whole i ≡ context_before prev bytes i
+  context-alike i below =
+      ap (λ p. between p (class_of (get_or whole i 0))) (prev-alike i (omega arith))
+      ∙ ap (λ b. between (prev_before prev bytes i) (class_of b)) (same i below)
+
   row-alike : (i : ℕ) → i ≤ count → (x : ℕ) → stream_row s prev old enters whole i x ≡ stream_row s prev old enters bytes i x
   row-alike zero within x = refl
   row-alike (suc i) within x =
       let begins : Bool = word_bit enters i && in_mask (slice_get s.enters.items x) (context_before prev bytes i) in
       ap (λ b. takes_byte s.sets.items s.numbers.items x b
-      && ((word_bit enters i && in_mask (slice_get s.enters.items x) (context_before prev whole i)) || any_below (vec_len s.froms) (λ y. stream_row s prev old enters whole i y && is_from s.froms.items x y)))
+      && ((word_bit enters i && in_mask (slice_get s.enters.items x) (context_before prev whole i)) || any_below s.size (λ y. stream_row s prev old enters whole i y && comes_before s x y (context_before prev whole i))))
       (same i (omega arith))
-      ∙ (ap (λ b. takes_byte s.sets.items s.numbers.items x (get_or bytes i 0) && ((word_bit enters i && b) || any_below (vec_len s.froms) (λ y. stream_row s prev old enters whole i y && is_from s.froms.items x y)))
+      ∙ (ap (λ b. takes_byte s.sets.items s.numbers.items x (get_or bytes i 0) && ((word_bit enters i && b) || any_below s.size (λ y. stream_row s prev old enters whole i y && comes_before s x y (context_before prev whole i))))
       (before-alike (slice_get s.enters.items x) i (omega arith))
       ∙ ap (λ b. takes_byte s.sets.items s.numbers.items x (get_or bytes i 0) && (begins || b))
-      (any-same (vec_len s.froms) (λ y. stream_row s prev old enters whole i y && is_from s.froms.items x y) (λ y. stream_row s prev old enters bytes i y && is_from s.froms.items x y)
-      (λ y inside. ap (λ b. b && is_from s.froms.items x y) (row-alike i (omega arith) y))))
+      (any-same s.size (λ y. stream_row s prev old enters whole i y && comes_before s x y (context_before prev whole i)) (λ y. stream_row s prev old enters bytes i y && comes_before s x y (context_before prev bytes i))
+      (λ y inside.
+      ap (λ b. b && comes_before s x y (context_before prev whole i)) (row-alike i (omega arith) y)
+      ∙ ap (λ c. stream_row s prev old enters bytes i y && comes_before s x y c) (context-alike i (omega arith)))))
 
   part-alike : (i : ℕ) → i ≤ count → stream_part s prev old enters whole i ≡ stream_part s prev old enters bytes i
   part-alike zero within = refl
   part-alike (suc i) within =
-      packed-same (length old) (λ x. nat_lt x (vec_len s.froms) && stream_row s prev old enters whole (suc i) x) (λ x. nat_lt x (vec_len s.froms) && stream_row s prev old enters bytes (suc i) x)
-      (λ x below. ap (λ b. nat_lt x (vec_len s.froms) && b) (row-alike (suc i) within x))
+      packed-same (length old) (λ x. nat_lt x s.size && stream_row s prev old enters whole (suc i) x) (λ x. nat_lt x s.size && stream_row s prev old enters bytes (suc i) x)
+      (λ x below. ap (λ b. nat_lt x s.size && b) (row-alike (suc i) within x))
 
   accepts-alike : (i : ℕ) → i < count → accepts_before s prev old enters whole i ≡ accepts_before s prev old enters bytes i
   accepts-alike i below =
-      any-same (vec_len s.froms) (λ x. stream_row s prev old enters whole i x && in_mask (slice_get s.accepts.items x) (context_before prev whole i))
+      any-same s.size (λ x. stream_row s prev old enters whole i x && in_mask (slice_get s.accepts.items x) (context_before prev whole i))
       (λ x. stream_row s prev old enters bytes i x && in_mask (slice_get s.accepts.items x) (context_before prev bytes i))
       (λ x inside.
       ap (λ b. b && in_mask (slice_get s.accepts.items x) (context_before prev whole i)) (row-alike i (omega arith) x)
@@ -226,7 +236,7 @@ module _ (s : Streams) (prev : Prev) (old : List ℕ) (enters : ℕ) (whole byte
 
   accepts-alike_behind : (i : ℕ) → i < count → accepts_behind s prev old enters whole i ≡ accepts_behind s prev old enters bytes i
   accepts-alike_behind i below =
-      any-same (vec_len s.froms) (λ x. stream_row s prev old enters whole (suc i) x && in_mask (slice_get s.accepts.items x) (context_behind prev whole i))
+      any-same s.size (λ x. stream_row s prev old enters whole (suc i) x && in_mask (slice_get s.accepts.items x) (context_behind prev whole i))
       (λ x. stream_row s prev old enters bytes (suc i) x && in_mask (slice_get s.accepts.items x) (context_behind prev bytes i))
       (λ x inside.
       ap (λ b. b && in_mask (slice_get s.accepts.items x) (context_behind prev whole i)) (row-alike (suc i) (omega arith) x)

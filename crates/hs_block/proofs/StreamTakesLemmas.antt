@@ -1,5 +1,5 @@
 -- A block that streams have taken is taken as the engine takes it.
-use Rattle.std.proofs.Common.{◌≡◌, ◌↔◌, ℕ, zero, suc, ◌+◌, ◌*◌, ◌/◌, ◌<◌, ◌≤◌, Bool, true, false, not, nat_lt, ◌&&◌, ◌||◌, List, [], ◌++◌, length, get_or, take, slice_get, vec_len, refl, sym, ap, subst, ◌∙◌, inl, inr, arith}
+use Rattle.std.proofs.Common.{◌≡◌, ◌↔◌, ℕ, zero, suc, ◌+◌, ◌*◌, ◌/◌, ◌<◌, ◌≤◌, Bool, true, false, not, nat_lt, ◌&&◌, ◌||◌, List, [], ◌++◌, length, get_or, take, slice_get, refl, sym, ap, subst, ◌∙◌, inl, inr, arith}
 use Rattle.std.proofs.lemmas.Bool.{cases_lt}
 use Rattle.std.proofs.lemmas.List.{append-nil, take_all}
 use Rattle.hs_base.specs.declared.context.Next.TheVariants as after
@@ -23,8 +23,8 @@ use Rattle.hs_block.specs.BlockContexts.{context_before, context_behind, prev_be
 use Rattle.hs_block.specs.Blocks.{IsFieldOf, TakesBlock, is_blank, is_busy}
 use Rattle.hs_block.specs.Scans.{IsLeftBefore, IsLeftBehind, Scans}
 use Rattle.hs_block.specs.StreamRuns.{IsStreamRun, RunsStreams, accepts_before, accepts_behind, stream_part, stream_row}
-use Rattle.hs_block.specs.StreamSets.{is_from, takes_byte}
-use Rattle.hs_block.specs.StreamTables.{TellsOf}
+use Rattle.hs_block.specs.StreamSets.{takes_byte}
+use Rattle.hs_block.specs.StreamTables.{TellsOf, comes_before}
 use Rattle.hs_block.specs.WordBits.{bits_of, word_bit}
 use Rattle.hs_block.proofs.AnyLemmas.{any-none}
 use Rattle.hs_block.proofs.ContextLemmas.{prev-there}
@@ -54,9 +54,9 @@ marked n word i b P below is tells =
       λ p. same ∙ tells.1 p,
     )
 
-module _ (s : Streams) (prev : Prev) (old : List ℕ) (enters : ℕ) (bytes : List ℕ) (len : length old ≡ (vec_len s.froms + 7) / 8) where
+module _ (s : Streams) (prev : Prev) (old : List ℕ) (enters : ℕ) (bytes : List ℕ) (len : length old ≡ (s.size + 7) / 8) where
   abbrev Size : ℕ
-  Size = vec_len s.froms
+  Size = s.size
 
   abbrev Part : ℕ → List ℕ
   Part = stream_part s prev old enters bytes
@@ -88,7 +88,7 @@ module _ (s : Streams) (prev : Prev) (old : List ℕ) (enters : ℕ) (bytes : Li
   rests-row : (i : ℕ) → AreZero (Part i) → word_bit enters i ≡ false → (x : ℕ) → x < Size → Row (suc i) x ≡ false
   rests-row i zeros unset x below =
       let t : Bool = takes_byte s.sets.items s.numbers.items x (get_or bytes i 0) in
-      ap (λ b. t && ((word_bit enters i && in_mask (slice_get s.enters.items x) (context_before prev bytes i)) || b)) (any-none Size (λ y. Row i y && is_from s.froms.items x y) (λ y inside. ap (λ b. b && is_from s.froms.items x y) (zero-row i zeros y inside)))
+      ap (λ b. t && ((word_bit enters i && in_mask (slice_get s.enters.items x) (context_before prev bytes i)) || b)) (any-none Size (λ y. Row i y && comes_before s x y (context_before prev bytes i)) (λ y inside. ap (λ b. b && comes_before s x y (context_before prev bytes i)) (zero-row i zeros y inside)))
       ∙ (ap (λ b. t && ((b && in_mask (slice_get s.enters.items x) (context_before prev bytes i)) || false)) unset ∙ and-none t)
 
   rests-part : (i : ℕ) → is_busy enters Part i ≡ false → Part (suc i) ≡ Part i
@@ -145,7 +145,7 @@ module _ (s : Streams) (prev : Prev) (old : List ℕ) (enters : ℕ) (bytes : Li
 pub stream-takes : (m : Meaning) (s : Streams) (old new : List ℕ) (prev : Prev) (at enters : ℕ) (bytes : List ℕ) (ends : BlockEnds) (ticks steps_old steps_new : ℕ) → RunsStreams m s → length old ≡ m.width → m.well old at →
     ((i : ℕ) → get_or bytes i 0 < 256) → steps_new ≡ steps_old + ticks → IsStreamRun s prev old new enters bytes (length bytes) ends ticks → TakesBlock m old new prev at enters bytes ends steps_old steps_new
 stream-takes m s old new prev at enters bytes ends ticks steps_old steps_new streams width well small counted run =
-    let len : length old ≡ (vec_len s.froms + 7) / 8 = width ∙ streams.width in
+    let len : length old ≡ (s.size + 7) / 8 = width ∙ streams.width in
     let part : ℕ → List ℕ = stream_part s prev old enters bytes in
     record {
       ticks = ticks;

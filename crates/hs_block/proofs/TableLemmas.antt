@@ -1,97 +1,264 @@
--- Tables of positions, made bit by bit.
-use Rattle.std.proofs.Common.{◌≡◌, ℕ, ◌+◌, ◌*◌, ◌<◌, ◌≤◌, Bool, true, false, not, ◌&&◌, ◌||◌, List, length, get_or, eqb, sym, ap, ◌∙◌, inl, inr, arith}
+-- Rows of bits, one behind the other, and which positions may follow each other.
+use Rattle.std.proofs.Common.{◌≡◌, ◌≢◌, ◌↔◌, ℕ, zero, ◌+◌, ◌-◌, ◌*◌, ◌/◌, ◌%◌, ◌<◌, ◌≤◌, Bool, true, false, not, nat_lt, ◌&&◌, ◌||◌, List, [], ◌++◌, length, get_or, take, drop, replicate, eqb, refl, sym, ap, subst, ◌∙◌, inl, inr, arith}
+use Rattle.std.specs.Int.{bit_at}
 use Rattle.std.proofs.lemmas.Bool.{cases_eq, cases_lt, eq-eqb, le-ltb, ne_eqb}
-use Rattle.hs_base.specs.Bits.{has_bit}
-use Rattle.hs_base.specs.Contexts.{Context}
-use Rattle.std.specs.Prelude.{nat_lt}
-use Rattle.hs_engine.specs.declared.automaton.Automaton.{Automaton}
+use Rattle.std.proofs.lemmas.List.{get_or-replicate, get_or-take, get_or-drop, get_or_append_left, get_or-append-add, get_or_past, length-append, length-replicate, length-take-le}
+use Rattle.hs_base.specs.declared.context.Next.{Next}
+use Rattle.hs_base.specs.declared.context.Next.TheVariants as after
+use Rattle.hs_base.specs.declared.context.Prev.{Prev}
+use Rattle.hs_base.specs.declared.context.Prev.TheVariants as behind
+use Rattle.hs_base.specs.Bits.{AreZero, has_bit, has_word_bit, word_count}
+use Rattle.hs_base.specs.Contexts.{Context, prev_number}
+use Rattle.hs_bits.proofs.WordLemmas.{and-none, or-none, unset-bits, words-past, words-zero}
 use Rattle.hs_engine.specs.declared.follow_rows.FollowRows.{FollowRows}
-use Rattle.hs_bits.proofs.WordLemmas.{and-none}
-use Rattle.hs_engine.specs.Automata.{follows}
-use Rattle.hs_engine.specs.RowSizes.{row_len}
-use Rattle.hs_engine.specs.Rows.{in_row, in_square, row_start, square_number}
-use Rattle.hs_block.specs.StreamSets.{AreOrders, any_context, is_from}
-use Rattle.hs_block.specs.WordBits.{word_bit}
-use Rattle.std.proofs.lemmas.List.{get_or_past}
-use Rattle.hs_block.proofs.PlaceLemmas.{bit-none, less-is, not-less}
+use Rattle.hs_engine.specs.RowSizes.{class_number, row_len, square_count}
+use Rattle.hs_engine.specs.Rows.{in_square, row_start, square_number}
+use Rattle.hs_block.specs.StreamSets.{AreOrders, in_rows}
+use Rattle.hs_block.proofs.AnyLemmas.{true-false}
+use Rattle.hs_block.proofs.PlaceLemmas.{less-is, not-less}
 
--- beyond its positions nothing follows
-pub row-past : (rows : FollowRows) (x y : ℕ) (c : Context) → rows.size ≤ x → in_row rows x y c ≡ false
+-- no bit is set where all words are 0
+pub zero-words : (n x : ℕ) → get_or (replicate n zero) x zero ≡ zero
+zero-words n x =
+    elim (cases_lt x n) [
+      | inl below ↦ get_or-replicate n x zero zero below
+      | inr past ↦ get_or_past (replicate n zero) x zero (omega (arith, past, length-replicate n zero))
+    ]
+
+pub zero-row : (n k : ℕ) → has_word_bit (replicate n zero) k ≡ false
+zero-row n k = words-zero (replicate n zero) (zero-words n) k
+
+-- a row has its room among so many
+pub row-room : (w x n : ℕ) → x < n → w * x + w ≤ w * n
+row-room w x n below =
+    let d : ℕ = n - (x + 1) in
+    let e : n ≡ x + 1 + d = omega arith in
+    let f : w * n ≡ w * (x + 1 + d) = ap (λ k. w * k) e in
+    let g : w * (x + 1 + d) ≡ w * x + w + w * d = omega arith in
+    omega (arith, f, g)
+
+-- the bits of a part
+pub part-bits : (rows : List ℕ) (from width y : ℕ) → y < 64 * width → has_word_bit (take width (drop from rows)) y ≡ has_word_bit rows (64 * from + y)
+unfolding has_word_bit
+part-bits rows from width y below =
+    let short : y / 64 < width = omega arith in
+    let place : from + y / 64 ≡ (64 * from + y) / 64 = omega arith in
+    let bit : y % 64 ≡ (64 * from + y) % 64 = omega arith in
+    ap (λ n. eqb (bit_at n (y % 64)) 1) (get_or-take width (drop from rows) (y / 64) 0 short ∙ (get_or-drop from rows (y / 64) 0 ∙ ap (λ i. get_or rows i 0) place))
+    ∙ ap (λ i. eqb (bit_at (get_or rows ((64 * from + y) / 64) 0) i) 1) bit
+
+-- rows with one more behind them
+pushed-old : (rows row : List ℕ) (k : ℕ) → k < 64 * length rows → has_word_bit (rows ++ row) k ≡ has_word_bit rows k
+unfolding has_word_bit
+pushed-old rows row k below = ap (λ n. eqb (bit_at n (k % 64)) 1) (get_or_append_left rows row 0 (k / 64) (omega arith))
+
+pushed-new : (rows row : List ℕ) (width y : ℕ) → y < 64 * width → has_word_bit (rows ++ take width row) (64 * length rows + y) ≡ has_word_bit row y
+unfolding has_word_bit
+pushed-new rows row width y below =
+    let place : (64 * length rows + y) / 64 ≡ length rows + y / 64 = omega arith in
+    let bit : (64 * length rows + y) % 64 ≡ y % 64 = omega arith in
+    ap (λ i. eqb (bit_at (get_or (rows ++ take width row) ((64 * length rows + y) / 64) 0) i) 1) bit
+    ∙ (ap (λ i. eqb (bit_at (get_or (rows ++ take width row) i 0) (y % 64)) 1) place
+    ∙ ap (λ n. eqb (bit_at n (y % 64)) 1) (get_or-append-add rows (take width row) (y / 64) 0 ∙ get_or-take width row (y / 64) 0 (omega arith)))
+
+-- So many rows are there, and of each bit there is told what a relation says.
+pub record AreRows (Bit : (row bit : ℕ) → Bool → Type 0) (width count : ℕ) (rows : List ℕ) : Type 0 where
+  pub count_is : length rows ≡ width * count
+  pub bits : (x y : ℕ) → x < count → y < 64 * width → Bit x y (in_rows rows width x y)
+
+pub rows-none : (Bit : (row bit : ℕ) → Bool → Type 0) (width : ℕ) → AreRows Bit width 0 []
+rows-none Bit width = record {
+  count_is = omega arith;
+  bits = λ x y below. absurd (omega arith);
+}
+
+pub rows-more : (Bit : (row bit : ℕ) → Bool → Type 0) (width count : ℕ) (rows row new : List ℕ) → AreRows Bit width count rows → width ≤ length row →
+    ((y : ℕ) → y < 64 * width → Bit count y (has_word_bit row y)) → new ≡ rows ++ take width row → AreRows Bit width (count + 1) new
+rows-more Bit width count rows row new are room bits is =
+    let long : length new ≡ length rows + width = ap (λ l. length l) is ∙ (length-append rows (take width row) ∙ ap (λ n. length rows + n) (length-take-le width row room)) in
+    let more : width * (count + 1) ≡ width * count + width = omega arith in
+    record {
+      count_is = omega (arith, long, more, are.count_is);
+      bits = λ x y below inside.
+          elim (cases_eq x count) [
+            | inl same ↦
+                let at : 64 * (width * x) + y ≡ 64 * length rows + y = ap (λ k. 64 * (width * k) + y) same ∙ ap (λ n. 64 * n + y) (sym are.count_is) in
+                let bit : has_word_bit new (64 * (width * x) + y) ≡ has_word_bit row y =
+                ap (λ k. has_word_bit new k) at ∙ (ap (λ l. has_word_bit l (64 * length rows + y)) is ∙ pushed-new rows row width y inside) in
+                subst (λ b. Bit x y b) (sym bit) (subst (λ k. Bit k y (has_word_bit row y)) (sym same) (bits y inside))
+            | inr apart ↦
+                let less : x < count = omega arith in
+                let low : 64 * (width * x) + y < 64 * length rows = omega (arith, row-room width x count less, are.count_is, inside) in
+                let bit : has_word_bit new (64 * (width * x) + y) ≡ has_word_bit rows (64 * (width * x) + y) =
+                ap (λ l. has_word_bit l (64 * (width * x) + y)) is ∙ pushed-old rows (take width row) (64 * (width * x) + y) low in
+                subst (λ b. Bit x y b) (sym bit) (are.bits x y less inside)
+          ];
+    }
+
+-- twelve rows as one
+pub part-of : (rows : List ℕ) (width x q y : ℕ) → in_rows rows (12 * width) x (64 * (width * q) + y) ≡ in_rows rows width (12 * x + q) y
+part-of rows width x q y =
+    let e : 64 * (12 * width * x) + (64 * (width * q) + y) ≡ 64 * (width * (12 * x + q)) + y = omega arith in
+    ap (λ k. has_word_bit rows k) e
+
+pub part-unset : (rows part : List ℕ) (width x q y : ℕ) → q < 12 → y < 64 * width → ((k : ℕ) → k < 64 * (12 * width) → has_word_bit part k ≡ in_rows rows (12 * width) x k) → AreZero part →
+    in_rows rows width (12 * x + q) y ≡ false
+part-unset rows part width x q y few below bits clear =
+    sym (part-of rows width x q y) ∙ (sym (bits (64 * (width * q) + y) (omega (arith, below, row-room width q 12 few))) ∙ unset-bits part clear (64 * (width * q) + y))
+
+-- beyond the positions nothing follows
+pub square-past : (rows : FollowRows) (k x y : ℕ) → rows.size ≤ x → in_square rows k x y ≡ false
 unfolding in_square
-row-past rows x y c past =
-    ap (λ b. b && (nat_lt y (8 * row_len rows.size) && has_bit rows.bits.items (8 * row_start rows.size (square_number rows.by_context c) x + y))) (le-ltb x rows.size past)
+square-past rows k x y past = ap (λ b. b && (nat_lt y (8 * row_len rows.size) && has_bit rows.bits.items (8 * row_start rows.size k x + y))) (le-ltb x rows.size past)
 
--- where there is one square of rows, any context stands for all
-pub same-follows : (a : Automaton) → a.follows.by_context ≡ false → (x y : ℕ) (c : Context) → follows a x y any_context ≡ follows a x y c
-same-follows a one x y c =
-    let here : square_number a.follows.by_context c ≡ 0 = ap (λ b. square_number b c) one in
-    let there : square_number a.follows.by_context any_context ≡ 0 = ap (λ b. square_number b any_context) one in
-    ap (λ n. in_square a.follows n x y) (there ∙ sym here)
+pub square-wide : (rows : FollowRows) (k x y : ℕ) → 8 * row_len rows.size ≤ y → in_square rows k x y ≡ false
+unfolding in_square
+square-wide rows k x y past = ap (λ b. nat_lt x rows.size && (b && has_bit rows.bits.items (8 * row_start rows.size k x + y))) (le-ltb y (8 * row_len rows.size) past) ∙ and-none (nat_lt x rows.size)
 
--- beyond the list no bit is set
-pub from-past : (froms : List ℕ) (x y : ℕ) → length froms ≤ x → is_from froms x y ≡ false
-from-past froms x y past = ap (λ w. word_bit w y) (get_or_past froms x 0 past) ∙ bit-none y
+prev-few : (p : Prev) → prev_number p < 4
+prev-few behind.Start = omega arith
+prev-few behind.Word = omega arith
+prev-few behind.Newline = omega arith
+prev-few behind.Other = omega arith
 
--- the words of those that may come before each position, itself among them or not
+class-few : (n : Next) → class_number n < 3
+class-few after.Word = omega arith
+class-few after.Newline = omega arith
+class-few after.Other = omega arith
+class-few after.End = omega arith
+class-few after.FinalNewline = omega arith
+class-few after.Unknown = omega arith
 
-abbrev pub AreBefore : (itself : Bool) → FollowRows → List ℕ → Type 0
-AreBefore itself rows words =
-    (x y : ℕ) → x < rows.size → word_bit (get_or words x 0) y ≡ ((itself || not (eqb y x)) && in_row rows y x any_context)
+pub square-few : (c : Context) → square_number true c < 12
+square-few c = omega (arith, prev-few c.prev, class-few c.next)
 
-pub froms-few : (rows : FollowRows) (froms : List ℕ) → length froms ≡ rows.size → AreBefore true rows froms → (x y : ℕ) → rows.size ≤ y → is_from froms x y ≡ false
-froms-few rows froms count are x y past =
-    elim (cases_lt x rows.size) [
-      | inl below ↦ are x y below ∙ row-past rows y x any_context past
-      | inr above ↦ from-past froms x y (omega arith)
+pub number-few : (by_context : Bool) (c : Context) → square_number by_context c < square_count by_context
+number-few true c = square-few c
+number-few false c = omega arith
+
+-- the number of a square, by the two that stand for its context
+pub square-there : (by_context : Bool) (square : ℕ) (c : Context) → square < square_count by_context → prev_number c.prev ≡ square / 3 → class_number c.next ≡ square % 3 → square_number by_context c ≡ square
+square-there true square c few prev class = omega (arith, prev, class)
+square-there false square c few prev class = omega arith
+
+-- in each context, or in one but not in each
+either-part : (always here : Bool) → (always ≡ true → here ≡ true) → (always || (here && not always)) ≡ here
+either-part true here is = sym (is refl)
+either-part false true is = refl
+either-part false false is = refl
+
+one-square : (by_context : Bool) → square_count by_context ≡ 1 → by_context ≡ false
+one-square false is = refl
+one-square true is = absurd (omega (arith, is))
+
+pub more-squares : (by_context : Bool) → (square_count by_context ≡ 1 → ⊥) → by_context ≡ true
+more-squares true is = refl
+more-squares false is = absurd (is refl)
+
+-- what holds of the rows where one square is for all contexts
+pub orders-one : (rows : FollowRows) (width : ℕ) (froms rests successors asks : List ℕ) → square_count rows.by_context ≡ 1 → length rests ≡ 0 → width ≡ word_count rows.size → length froms ≡ width * rows.size → length successors ≡ width * rows.size →
+    length asks ≡ 8 → ((k : ℕ) → has_word_bit asks k ≡ false) →
+    (rows.by_context ≡ false → (x y : ℕ) → x < rows.size → y < 64 * width → in_rows froms width x y ≡ in_square rows 0 y x) →
+    ((x k y : ℕ) → x < rows.size → y < 64 * width → k < square_count rows.by_context → in_square rows k x y ≡ true → y ≢ x → in_rows successors width x y ≡ true) →
+    AreOrders rows width froms rests successors asks
+orders-one rows width froms rests successors asks single empty_ wide froms_count successors_count asks_len none_ are have = record {
+  wide = wide;
+  froms_count = froms_count;
+  successors_count = successors_count;
+  asks_len = asks_len;
+  asked = λ x is. true-false (has_word_bit asks x) is (none_ x);
+  froms_are = λ x y c below.
+      let square : square_number rows.by_context c ≡ 0 = ap (λ b. square_number b c) (one-square rows.by_context single) in
+      let empty : in_rows rests width (12 * x + square_number true c) y ≡ false = words-past rests (64 * (width * (12 * x + square_number true c)) + y) (omega (arith, empty_)) in
+      elim (cases_lt y rows.size) [
+        | inl inside ↦
+            ap (λ b. b && (in_rows froms width x y || in_rows rests width (12 * x + square_number true c) y)) (less-is y rows.size inside)
+            ∙ (ap (λ b. in_rows froms width x y || b) empty
+            ∙ (or-none (in_rows froms width x y) ∙ (are (one-square rows.by_context single) x y below (omega (arith, inside, wide)) ∙ ap (λ k. in_square rows k y x) (sym square))))
+        | inr past ↦
+            ap (λ b. b && (in_rows froms width x y || in_rows rests width (12 * x + square_number true c) y)) (not-less y rows.size past)
+            ∙ sym (square-past rows (square_number rows.by_context c) y x past)
+      ];
+  unasked = λ x q y below few inside unset. words-past rests (64 * (width * (12 * x + q)) + y) (omega (arith, empty_));
+  successors_have = λ x y c below inside follows apart. have x (square_number rows.by_context c) y below (omega (arith, inside, wide)) (number-few rows.by_context c) follows apart;
+}
+
+-- and where each context has its own
+pub orders-more : (rows : FollowRows) (width : ℕ) (froms rests successors asks : List ℕ) → rows.by_context ≡ true → width ≡ word_count rows.size → length froms ≡ width * rows.size → length successors ≡ width * rows.size →
+    length asks ≡ 8 → length rests ≡ width * (12 * rows.size) →
+    ((x q y : ℕ) → x < rows.size → q < 12 → y < 64 * width → has_word_bit asks x ≡ false → in_rows rests width (12 * x + q) y ≡ false) →
+    ((x y k : ℕ) → x < rows.size → y < 64 * width → in_rows froms width x y ≡ true → k < square_count rows.by_context → in_square rows k y x ≡ true) →
+    ((x q y : ℕ) → x < rows.size → q < 12 → y < 64 * width → in_rows rests width (12 * x + q) y ≡ (in_square rows q y x && not (in_rows froms width x y))) →
+    ((x k y : ℕ) → x < rows.size → y < 64 * width → k < square_count rows.by_context → in_square rows k x y ≡ true → y ≢ x → in_rows successors width x y ≡ true) →
+    AreOrders rows width froms rests successors asks
+orders-more rows width froms rests successors asks more wide froms_count successors_count asks_len rests_count unasked each bits have = record {
+  wide = wide;
+  froms_count = froms_count;
+  successors_count = successors_count;
+  asks_len = asks_len;
+  asked = λ x is. omega (arith, rests_count);
+  froms_are = λ x y c below.
+      let q : ℕ = square_number true c in
+      let square : square_number rows.by_context c ≡ q = ap (λ b. square_number b c) more in
+      elim (cases_lt y rows.size) [
+        | inl inside ↦
+            let room : y < 64 * width = omega (arith, inside, wide) in
+            ap (λ b. b && (in_rows froms width x y || in_rows rests width (12 * x + q) y)) (less-is y rows.size inside)
+            ∙ (ap (λ b. in_rows froms width x y || b) (bits x q y below (square-few c) room)
+            ∙ (either-part (in_rows froms width x y) (in_square rows q y x)
+            (λ always. ap (λ k. in_square rows k y x) (sym square) ∙ each x y (square_number rows.by_context c) below room always (number-few rows.by_context c))
+            ∙ ap (λ k. in_square rows k y x) (sym square)))
+        | inr past ↦
+            ap (λ b. b && (in_rows froms width x y || in_rows rests width (12 * x + q) y)) (not-less y rows.size past)
+            ∙ sym (square-past rows (square_number rows.by_context c) y x past)
+      ];
+  unasked = λ x q y below few inside unset. unasked x q y below few (omega (arith, inside, wide)) unset;
+  successors_have = λ x y c below inside follows apart. have x (square_number rows.by_context c) y below (omega (arith, inside, wide)) (number-few rows.by_context c) follows apart;
+}
+
+-- one more bit of a row
+pub with-bit : (from k : ℕ) (test value before now : Bool) → (k ≡ from → value ≡ test) → before ≡ (nat_lt k from && test) → now ≡ ((eqb k from && value) || before) → now ≡ (nat_lt k (from + 1) && test)
+with-bit from k test value before now here was is =
+    elim (cases_eq k from) [
+      | inl same ↦
+          is
+          ∙ (ap (λ b. (b && value) || before) (eq-eqb k from same)
+          ∙ (ap (λ b. value || b) (was ∙ ap (λ b. b && test) (not-less k from (omega arith)))
+          ∙ (or-none value ∙ (here same ∙ sym (ap (λ b. b && test) (less-is k (from + 1) (omega arith)))))))
+      | inr apart ↦
+          is
+          ∙ (ap (λ b. (b && value) || before) (ne_eqb k from apart)
+          ∙ (was
+          ∙ elim (cases_lt k from) [
+            | inl below ↦ ap (λ b. b && test) (less-is k from below) ∙ sym (ap (λ b. b && test) (less-is k (from + 1) (omega arith)))
+            | inr past ↦ ap (λ b. b && test) (not-less k from past) ∙ sym (ap (λ b. b && test) (not-less k (from + 1) (omega arith)))
+          ]))
     ]
 
-pub others-are : (rows : FollowRows) (froms others : List ℕ) → length froms ≡ rows.size → length others ≡ rows.size → AreBefore true rows froms → AreBefore false rows others → (x y : ℕ) →
-    word_bit (get_or others x 0) y ≡ (not (eqb y x) && is_from froms x y)
-others-are rows froms others count count' are are' x y =
-    elim (cases_lt x rows.size) [
-      | inl below ↦ are' x y below ∙ ap (λ b. not (eqb y x) && b) (sym (are x y below))
-      | inr above ↦ from-past others x y (omega arith) ∙ sym (ap (λ b. not (eqb y x) && b) (from-past froms x y (omega arith)) ∙ and-none (not (eqb y x)))
+-- all of them
+pub with-all : (from size k : ℕ) (test now : Bool) → from ≡ size → (size ≤ k → test ≡ false) → now ≡ (nat_lt k from && test) → now ≡ test
+with-all from size k test now all past is =
+    is
+    ∙ elim (cases_lt k from) [
+      | inl below ↦ ap (λ b. b && test) (less-is k from below)
+      | inr above ↦ ap (λ b. b && test) (not-less k from above) ∙ sym (past (omega arith))
     ]
 
--- what a position takes is what the automaton says
-pub froms-follow : (a : Automaton) (x y : ℕ) (c : Context) → a.follows.by_context ≡ false → in_row a.follows y x any_context ≡ follows a y x c
-froms-follow a x y c one = same-follows a one y x c
-
--- the positions behind each, by those before each
-abbrev pub AreTurned : List ℕ → List ℕ → Type 0
-AreTurned words turned = (x y : ℕ) → x < length words → word_bit (get_or turned x 0) y ≡ (nat_lt y (length words) && is_from words y x)
-
-pub successors-are : (rows : FollowRows) (froms others successors : List ℕ) → length froms ≡ rows.size → length others ≡ rows.size → length successors ≡ length others → AreBefore true rows froms →
-    AreBefore false rows others → AreTurned others successors → (x y : ℕ) → word_bit (get_or successors x 0) y ≡ (not (eqb y x) && is_from froms y x)
-successors-are rows froms others successors count count' count'' are are' turned x y =
-    let other : word_bit (get_or others y 0) x ≡ (not (eqb x y) && is_from froms y x) = others-are rows froms others count count' are are' y x in
-    let swapped : not (eqb x y) ≡ not (eqb y x) = ap not (eqb-swapped x y) in
-    let there : word_bit (get_or others y 0) x ≡ (not (eqb y x) && is_from froms y x) = other ∙ ap (λ b. b && is_from froms y x) swapped in
-    elim (cases_lt x (length others)) [
-      | inr past ↦
-          from-past successors x y (omega arith) ∙ sym (ap (λ b. not (eqb y x) && b) (froms-few rows froms count are y x (omega arith)) ∙ and-none (not (eqb y x)))
-      | inl below ↦
-          turned x y below
-          ∙ elim (cases_lt y (length others)) [
-            | inl inside ↦ ap (λ b. b && is_from others y x) (less-is y (length others) inside) ∙ there
-            | inr high ↦ ap (λ b. b && is_from others y x) (not-less y (length others) high) ∙ (sym (from-past others y x high) ∙ there)
-          ]
+-- one position more that asks, or doesn't
+pub asks-more : (rests part asks new : List ℕ) (width p : ℕ) (unset : Bool) → ((k : ℕ) → k < 64 * (12 * width) → has_word_bit part k ≡ in_rows rests (12 * width) p k) → (unset ≡ true) ↔ AreZero part →
+    ((k : ℕ) → has_word_bit new k ≡ ((eqb k p && not unset) || has_word_bit asks k)) →
+    ((x q y : ℕ) → x < p → q < 12 → y < 64 * width → has_word_bit asks x ≡ false → in_rows rests width (12 * x + q) y ≡ false) →
+    (x q y : ℕ) → x < p + 1 → q < 12 → y < 64 * width → has_word_bit new x ≡ false → in_rows rests width (12 * x + q) y ≡ false
+asks-more rests part asks new width p unset bits is new_is unasked x q y below few inside off =
+    elim (cases_eq x p) [
+      | inl same ↦
+          let both : (not unset || has_word_bit asks x) ≡ false = sym (new_is x ∙ ap (λ b. (b && not unset) || has_word_bit asks x) (eq-eqb x p same)) ∙ off in
+          let clear : unset ≡ true = left-unset unset (has_word_bit asks x) both in
+          subst (λ k. in_rows rests width (12 * k + q) y ≡ false) (sym same) (part-unset rests part width p q y few inside bits (is.0 clear))
+      | inr apart ↦
+          unasked x q y (omega arith) few inside (sym (new_is x ∙ ap (λ b. (b && not unset) || has_word_bit asks x) (ne_eqb x p apart)) ∙ off)
     ]
   where
-    eqb-swapped : (a b : ℕ) → eqb a b ≡ eqb b a
-    eqb-swapped a b = elim (cases_eq a b) [
-      | inl same ↦ eq-eqb a b same ∙ sym (eq-eqb b a (sym same))
-      | inr apart ↦ ne_eqb a b apart ∙ sym (ne_eqb b a (λ e. apart (sym e)))
-    ]
-
-pub orders-are : (rows : FollowRows) (froms others successors : List ℕ) → length froms ≡ rows.size → length others ≡ rows.size → length successors ≡ length others → AreBefore true rows froms →
-    AreBefore false rows others → AreTurned others successors → AreOrders rows froms others successors
-orders-are rows froms others successors count count' count'' are are' turned = record {
-  froms_count = count;
-  others_count = count';
-  successors_count = count'' ∙ count';
-  froms_are = are;
-  few = froms-few rows froms count are;
-  others_are = others-are rows froms others count count' are are';
-  successors_are = successors-are rows froms others successors count count' count'' are are' turned;
-}
+    left-unset : (a b : Bool) → (not a || b) ≡ false → a ≡ true
+    left-unset true b is = refl
+    left-unset false b is = absurd (let e : true ≡ false = is in cc)

@@ -1,5 +1,6 @@
 -- How words of positions come to rest, one position at a time.
 use Rattle.std.specs.Prelude.{◌≡◌, ℕ, ◌<◌, ◌≤◌, Bool, false, List, length, slice_index}
+use Rattle.hs_base.specs.Bits.{has_word_bit}
 use Rattle.hs_block.specs.Rows.{Rules, is_next, live_at}
 use Rattle.hs_block.specs.WordBits.{word_bit}
 
@@ -9,9 +10,8 @@ Holds rules start words x =
     (i : ℕ) → i < 64 → word_bit (slice_index words x) i ≡ is_next rules i (live_at start words i) x
 
 -- Each position holds of which nothing is to be done, and the words are 0 of those that aren't live.
-pub record IsSettled (rules : Rules) (start : ℕ → Bool) (words : List ℕ) (todo live : ℕ) : Type 0 where
-  pub len : length words ≡ 64
-  pub todo_few : (y : ℕ) → rules.size ≤ y → word_bit todo y ≡ false
-  pub live_few : (y : ℕ) → rules.size ≤ y → word_bit live y ≡ false
-  pub dark : (y : ℕ) → word_bit live y ≡ false → slice_index words y ≡ 0
-  pub holds : (x : ℕ) → x < rules.size → word_bit todo x ≡ false → Holds rules start words x
+pub record IsSettled (rules : Rules) (start : ℕ → Bool) (words todo live : List ℕ) : Type 0 where
+  pub room : rules.size ≤ length words
+  pub live_few : (y : ℕ) → rules.size ≤ y → has_word_bit live y ≡ false
+  pub dark : (y : ℕ) → has_word_bit live y ≡ false → slice_index words y ≡ 0
+  pub holds : (x : ℕ) → x < rules.size → has_word_bit todo x ≡ false → Holds rules start words x

@@ -1,5 +1,5 @@
 -- What a block does with the positions that the tables tell of, and with a region that has a bit for each.
-use Rattle.std.specs.Prelude.{◌≡◌, ◌↔◌, ℕ, zero, suc, ◌+◌, ◌/◌, Bool, false, ◌&&◌, nat_lt, List, length, vec_len}
+use Rattle.std.specs.Prelude.{◌≡◌, ◌↔◌, ℕ, zero, suc, ◌+◌, ◌/◌, Bool, false, ◌&&◌, nat_lt, List, length}
 use Rattle.std.specs.Prelude.{Option, Some, None, slice_get}
 use Rattle.hs_base.specs.declared.context.Prev.{Prev}
 use Rattle.hs_base.specs.Bits.{has_bit}
@@ -27,13 +27,13 @@ stream_row s prev old enters bytes i x = row (stream_rules s prev enters bytes) 
 -- a position is live there that accepts, before the byte there
 abbrev pub accepts_before : Streams → Prev → (old : List ℕ) (enters : ℕ) (bytes : List ℕ) (place : ℕ) → Bool
 accepts_before s prev old enters bytes i =
-    any_below (vec_len s.froms)
+    any_below s.size
     (λ x. stream_row s prev old enters bytes i x && in_mask (slice_get s.accepts.items x) (context_before prev bytes i))
 
 -- and behind that byte, where nothing is known of what comes next
 abbrev pub accepts_behind : Streams → Prev → (old : List ℕ) (enters : ℕ) (bytes : List ℕ) (place : ℕ) → Bool
 accepts_behind s prev old enters bytes i =
-    any_below (vec_len s.froms)
+    any_below s.size
     (λ x. stream_row s prev old enters bytes (suc i) x
     && in_mask (slice_get s.accepts.items x) (context_behind prev bytes i))
 
@@ -41,7 +41,7 @@ accepts_behind s prev old enters bytes i =
 abbrev pub stream_part : Streams → Prev → (old : List ℕ) (enters : ℕ) (bytes : List ℕ) (place : ℕ) → List ℕ
 stream_part s prev old enters bytes zero = old
 stream_part s prev old enters bytes (suc i) =
-    packed (length old) (λ x. nat_lt x (vec_len s.froms) && stream_row s prev old enters bytes (suc i) x)
+    packed (length old) (λ x. nat_lt x s.size && stream_row s prev old enters bytes (suc i) x)
 
 -- So many bytes of the block behind `prev` lead from the one region to the other, in so many steps, and the words tell
 -- where a position accepts.
@@ -61,9 +61,9 @@ IsTried s prev old new enters bytes count (Some ends) before after =
 
 -- The engine runs expressions of whose automata the tables tell, and its regions have a bit for each position.
 pub record RunsStreams (m : Meaning) (s : Streams) : Type 0 where
-  pub width : m.width ≡ (vec_len s.froms + 7) / 8
+  pub width : m.width ≡ (s.size + 7) / 8
   pub always : m.always ≡ false
-  pub clear : (region : List ℕ) (at : ℕ) → m.well region at ↔ IsClearFrom region (vec_len s.froms)
+  pub clear : (region : List ℕ) (at : ℕ) → m.well region at ↔ IsClearFrom region s.size
   pub told : (tree : Tree) → m.is_for tree → (a : Automaton) × TellsOf s a × Runs a tree
   pub field : (region : List ℕ) (tree : Tree) (u : List ℕ) (entered : List Bool) →
       m.field region tree u entered ↔ IsField region (write_out tree) u entered

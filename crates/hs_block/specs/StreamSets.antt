@@ -1,28 +1,27 @@
 -- What tables of sets and of positions say, by their lists.
-use Rattle.std.specs.Prelude.{◌≡◌, ℕ, ◌+◌, ◌<◌, ◌≤◌, ◌==◌, ◌&&◌, Bool, false, not, List, length, slice_get}
-use Rattle.std.specs.Prelude.{slice_index}
+use Rattle.std.specs.Prelude.{◌≡◌, ◌≢◌, ℕ, ◌+◌, ◌*◌, ◌<◌, ◌≤◌, ◌&&◌, ◌||◌, Bool, true, false, nat_lt, List, length}
+use Rattle.std.specs.Prelude.{slice_get, slice_index}
 use Rattle.hs_base.specs.declared.byte_set.ByteSet.{ByteSet}
-use Rattle.hs_base.specs.declared.context.Next.TheVariants as after
-use Rattle.hs_base.specs.declared.context.Prev.TheVariants as before
+use Rattle.hs_base.specs.Bits.{has_word_bit, word_count}
 use Rattle.hs_base.specs.ByteSets.{has}
 use Rattle.hs_base.specs.Contexts.{Context}
 use Rattle.hs_engine.specs.Automata.{in_set}
-use Rattle.hs_engine.specs.Between.{between}
 use Rattle.hs_engine.specs.declared.follow_rows.FollowRows.{FollowRows}
-use Rattle.hs_engine.specs.Rows.{in_row}
-use Rattle.hs_block.specs.WordBits.{word_bit}
+use Rattle.hs_engine.specs.Rows.{in_row, square_number}
 
 -- the position takes the byte, by the number of its set
 abbrev pub takes_byte : (sets : List ByteSet) (numbers : List ℕ) (position byte : ℕ) → Bool
 takes_byte sets numbers x b = in_set (slice_get sets (slice_index numbers x)) b
 
--- the other position may come before the one
-abbrev pub is_from : (froms : List ℕ) (position other : ℕ) → Bool
-is_from froms x y = word_bit (slice_index froms x) y
+-- that bit of the row of that number is set, where rows of so many words stand one behind the other
+abbrev pub in_rows : (rows : List ℕ) (width row bit : ℕ) → Bool
+in_rows rows width r y = has_word_bit rows (64 * (width * r) + y)
 
--- any context stands for all where none matters
-abbrev pub any_context : Context
-any_context = between before.Start after.Word
+-- Of so many positions the other one may come before the one in that context: in each, or in that one. For each context
+-- in which a byte comes next a position has a row of its own.
+abbrev pub is_from : (size width : ℕ) (froms rests : List ℕ) (position other : ℕ) → Context → Bool
+is_from size width froms rests x y c =
+    nat_lt y size && (in_rows froms width x y || in_rows rests width (12 * x + square_number true c) y)
 
 -- Tables of the sets of so many positions behind a set of first bytes: that one is the first of them.
 pub record AreSetTables (sets : List ByteSet) (numbers : List ℕ) (first : ByteSet) (given : List ByteSet) : Type 0 where
@@ -32,12 +31,16 @@ pub record AreSetTables (sets : List ByteSet) (numbers : List ℕ) (first : Byte
   pub first_is : (b : ℕ) → b < 256 → in_set (slice_get sets 0) b ≡ has first b
   pub takes_are : (x b : ℕ) → x < length numbers → b < 256 → takes_byte sets numbers x b ≡ in_set (slice_get given x) b
 
--- Which of so many positions may come before and behind each other, in any context.
-pub record AreOrders (rows : FollowRows) (froms others successors : List ℕ) : Type 0 where
-  pub froms_count : length froms ≡ rows.size
-  pub others_count : length others ≡ rows.size
-  pub successors_count : length successors ≡ rows.size
-  pub froms_are : (x y : ℕ) → x < rows.size → is_from froms x y ≡ in_row rows y x any_context
-  pub few : (x y : ℕ) → rows.size ≤ y → is_from froms x y ≡ false
-  pub others_are : (x y : ℕ) → word_bit (slice_index others x) y ≡ (not (y == x) && is_from froms x y)
-  pub successors_are : (x y : ℕ) → word_bit (slice_index successors x) y ≡ (not (y == x) && is_from froms y x)
+-- Which of so many positions may come before and behind each other. Those that come behind may be too many.
+pub record AreOrders (rows : FollowRows) (width : ℕ) (froms rests successors asks : List ℕ) : Type 0 where
+  pub wide : width ≡ word_count rows.size
+  pub froms_count : length froms ≡ width * rows.size
+  pub successors_count : length successors ≡ width * rows.size
+  pub asks_len : length asks ≡ 8
+  pub asked : (x : ℕ) → has_word_bit asks x ≡ true → width * (12 * rows.size) ≤ length rests
+  pub froms_are : (x y : ℕ) (c : Context) → x < rows.size →
+      is_from rows.size width froms rests x y c ≡ in_row rows y x c
+  pub unasked : (x q y : ℕ) → x < rows.size → q < 12 → y < rows.size → has_word_bit asks x ≡ false →
+      in_rows rests width (12 * x + q) y ≡ false
+  pub successors_have : (x y : ℕ) (c : Context) → x < rows.size → y < rows.size → in_row rows x y c ≡ true → y ≢ x →
+      in_rows successors width x y ≡ true

@@ -9,17 +9,20 @@
 //! \b                 1 . . 1 1 . . 1 . .    one of the two alone
 //! ```
 
-ghost use Rattle.std.specs.Prelude.{◌≡◌, ℕ, ◌+◌, ◌<◌, ◌≤◌, ◌&&◌, ◌||◌, ◌==◌, List, length, nat_lt};
+ghost use Rattle.std.specs.Prelude.{◌≡◌, ℕ, ◌+◌, ◌<◌, ◌≤◌, ◌&&◌, ◌||◌, ◌==◌, List, length, nat_lt, true};
 ghost use Rattle.hs_base.specs.Contexts.{prev_number};
 ghost use Rattle.hs_base.specs.ContextSets.{has_context, has_next};
 ghost use Rattle.hs_base.specs.declared.context.Next.TheVariants as after;
 ghost use Rattle.hs_base.specs.declared.context.Prev.{Prev};
+ghost use Rattle.hs_engine.specs.Rows.{square_number};
 ghost use Rattle.hs_block.specs.BlockContexts.{AreClasses, AreContexts, TellsBefore, TellsBehind, class_word};
 ghost use Rattle.hs_block.specs.BlockContexts.{context_before, context_behind, is_part};
 ghost use Rattle.hs_block.specs.WordBits.{one_later, word_bit};
 
+use crate::before_tables::{class_of, prev_of};
 use crate::places::{one_later, only_if, with_place};
 use hs_base::{Mask, Next, NextSet, Prev};
+use hs_engine::CLASS_COUNT;
 use std::simd::prelude::*;
 
 /// A word for each class of bytes: at which places of a block one stands.
@@ -165,6 +168,16 @@ impl Contexts {
             word_bit result i ≡ is_part mask prev first bytes i }
     {
         self.behind_prev(prev) & self.classes.among(mask.row(prev))
+    }
+
+    /// The places whose context, where the byte there comes next, has that number of the twelve.
+    pub(crate) fn places_of(&self, square: usize) -> u64
+        requires { square < 12 }
+        ensures { (prev : Prev) (bytes : List ℕ) → AreContexts self.now prev bytes → (i : ℕ) → i < length bytes →
+            word_bit result i ≡ (square_number true (context_before prev bytes i) == square) }
+    {
+        let classes = NextSet::of(class_of(square % CLASS_COUNT));
+        self.behind_prev(prev_of(square / CLASS_COUNT)) & self.classes.among(classes)
     }
 
     /// The places whose context is in the mask, where the byte there comes next.

@@ -1,14 +1,16 @@
 //! The places of a block whose contexts are in a mask, where most masks have every context or none.
 
 ghost use Rattle.std.specs.Prelude.{◌≡◌, ℕ, ◌<◌, ◌≤◌, IfSome, false, true, length, slice_get};
+ghost use Rattle.hs_base.specs.Bits.{has_word_bit};
 ghost use Rattle.hs_base.specs.Contexts.{Context};
 ghost use Rattle.hs_base.specs.ContextSets.{has_context};
 ghost use Rattle.hs_engine.specs.Automata.{in_mask};
 ghost use Rattle.hs_block.specs.BlockContexts.{AreContexts, AreMade, context_before, context_behind};
 ghost use Rattle.hs_block.specs.WordBits.{word_bit};
 
+use crate::before_tables::{MAX_WIDTH, put_word_bit};
 use crate::contexts::Contexts;
-use crate::places::{only_if, with_place};
+use crate::places::only_if;
 use hs_base::{Mask, Prev};
 
 /// Whether the mask has every context, or none; None where it has some alone.
@@ -26,7 +28,7 @@ fn in_all_contexts(mask: Mask) -> Option<bool>
 }
 
 /// The contexts of a block behind `prev`: those that are made, or new ones.
-fn contexts_of(made: Option<Contexts>, prev: Prev, whole: &[u8]) -> Contexts
+pub(crate) fn contexts_of(made: Option<Contexts>, prev: Prev, whole: &[u8]) -> Contexts
     requires whole { length whole.now ≡ 64 }
     requires made { AreMade made prev whole.now }
     ensures { AreContexts result prev whole.now }
@@ -88,18 +90,18 @@ fn is_mixed(masks: &[Mask], number: usize) -> bool
     }
 }
 
-/// The positions whose mask has some context.
-pub(crate) fn some_word(masks: &[Mask]) -> u64
-    requires { length masks.now ≤ 64 }
+/// The row of the positions whose mask has some context.
+pub(crate) fn some_row(masks: &[Mask]) -> [u64; MAX_WIDTH]
+    requires { length masks.now ≤ 512 }
+    ensures len { length result ≡ 8 }
     ensures some { (k : ℕ) (c : Context) →
-        in_mask (slice_get masks.now k) c ≡ true → word_bit result k ≡ true }
-    ensures few { (k : ℕ) → length masks.now ≤ k → word_bit result k ≡ false }
+        in_mask (slice_get masks.now k) c ≡ true → has_word_bit result k ≡ true }
 {
-    let mut word = 0;
+    let mut row = [0u64; MAX_WIDTH];
     for position in 0..masks.len() {
-        word = with_place(word, position, has_some(masks, position));
+        put_word_bit(&mut row, position, has_some(masks, position));
     }
-    word
+    row
 }
 
 /// Whether the mask of that number has some context.

@@ -1,24 +1,27 @@
 //! Words of 64 places, one for each position: united, moved on, and read across.
 
-ghost use Rattle.std.specs.Prelude.{◌≡◌, ℕ, ◌-◌, ◌/◌, ◌<◌, ◌≤◌, ◌&&◌, ◌||◌, ◌==◌, false, nat_lt, nat_le};
+ghost use Rattle.std.specs.Prelude.{◌≡◌, ℕ, ◌-◌, ◌*◌, ◌<◌, ◌≤◌, ◌&&◌, ◌||◌, false, nat_lt, nat_le};
 ghost use Rattle.std.specs.Prelude.{IfSome, length, slice_index};
-ghost use Rattle.hs_base.specs.Bits.{has_bit};
+ghost use Rattle.hs_base.specs.Bits.{has_bit, has_word_bit};
 ghost use Rattle.hs_engine.specs.AnyBelow.{any_below};
-ghost use Rattle.hs_block.specs.Blocks.{is_blank};
 ghost use Rattle.hs_block.specs.Packed.{packed};
 ghost use Rattle.hs_block.specs.WordBits.{count_below, word_bit};
 
-use crate::places::{contains_place, only_if, with_place};
-use hs_bits::{BYTE_BITS, lowest_bit, without_lowest_bit};
+use crate::before_tables::{MAX_WIDTH, put_word_bit};
+use crate::places::contains_place;
+use hs_bits::{
+    BYTE_BITS, WORD_BITS, are_apart, lowest_bit, next_bit_in, unite_bytes, without_lowest_bit,
+};
 
-/// Whether the two words have a bit in common.
+/// Whether the two rows have a bit in common.
 #[inline(always)]
-pub(crate) fn meet(one: u64, other: u64) -> bool
+pub(crate) fn meet(one: &[u64], other: &[u64]) -> bool
+    requires { length other.now ≤ length one.now }
     ensures { (size : ℕ) →
-        ((y : ℕ) → size ≤ y → word_bit other y ≡ false) →
-        result ≡ any_below size (λ y. word_bit one y && word_bit other y) }
+        ((y : ℕ) → size ≤ y → has_word_bit one.now y ≡ false) →
+        result ≡ any_below size (λ y. has_word_bit one.now y && has_word_bit other.now y) }
 {
-    one & other != 0
+    !are_apart(one, other)
 }
 
 /// The words of those numbers, united.
@@ -37,13 +40,20 @@ pub(crate) fn united(words: &[u64], numbers: u64) -> u64
     all
 }
 
-/// The places of a class that are begun or led to from the place before.
+/// The words of those positions that both rows have, united.
 #[inline(always)]
-pub(crate) fn next_word(class: u64, base: u64, led: u64) -> u64
-    ensures { (i : ℕ) → i < 64 →
-        word_bit result i ≡ (word_bit class i && (word_bit base i || (nat_le 1 i && word_bit led (i - 1)))) }
+pub(crate) fn united_rows(words: &[u64], row: &[u64], live: &[u64]) -> u64
+    requires live { length row.now ≤ length live.now }
+    requires room { 64 * length row.now ≤ length words.now }
+    ensures { (i : ℕ) → word_bit result i ≡ any_below (64 * length row.now)
+        (λ y. word_bit (slice_index words.now y) i && (has_word_bit row.now y && has_word_bit live.now y)) }
 {
-    class & (base | (led << 1))
+    let mut all = 0;
+    for place in 0..row.len() {
+        let from = WORD_BITS * place;
+        all |= united(&words[from..from + WORD_BITS], row[place] & live[place]);
+    }
+    all
 }
 
 /// The first places and all in a row behind them that the run has: a sum carries a bit through a run. That all of those
@@ -55,42 +65,15 @@ pub(crate) fn spread(first: u64, run: u64) -> u64
     first | (run & (run ^ run.wrapping_add(first & run)))
 }
 
-/// The positions of those numbers whose words have the bit of that place.
+/// The places of a class that are reached, or behind such a place in a row of those at which the position may follow
+/// itself; None where a look at them fails.
 #[inline(always)]
-pub(crate) fn column(words: &[u64], numbers: u64, place: usize) -> u64
-    requires place { place < 64 }
-    requires words { length words.now ≤ 64 }
-    requires few { (y : ℕ) → length words.now ≤ y → word_bit numbers y ≡ false }
-    ensures { (x : ℕ) → word_bit result x ≡ (word_bit numbers x && word_bit (slice_index words.now x) place) }
-{
-    let mut all = 0;
-    let mut left = numbers;
-    while left != 0 {
-        let position = lowest_bit(left);
-        all = with_place(all, position, contains_place(words[position], place));
-        left = without_lowest_bit(left);
-    }
-    all
-}
-
-/// Whether one of the places is begun or led to from the place before.
-#[inline(always)]
-pub(crate) fn is_reached(base: u64, led: u64) -> bool
-    ensures { result ≡ false → (i : ℕ) → i < 64 →
-        (word_bit base i || (nat_le 1 i && word_bit led (i - 1))) ≡ false }
-{
-    base | (led << 1) != 0
-}
-
-/// The places of a class that are begun, led to from the place before, or, where the position may follow itself, in a
-/// row behind such a place; None where a look at them fails.
-#[inline(always)]
-pub(crate) fn row_word(class: u64, base: u64, led: u64, follows_itself: bool) -> Option<u64>
+pub(crate) fn row_word(class: u64, reached: u64, again: u64) -> Option<u64>
     ensures { IfSome result (λ word. (i : ℕ) → i < 64 → word_bit word i ≡ (word_bit class i
-        && (word_bit base i || (nat_le 1 i && (word_bit led (i - 1) || (word_bit word (i - 1) && follows_itself)))))) }
+        && (word_bit reached i || (nat_le 1 i && (word_bit word (i - 1) && word_bit again i))))) }
 {
-    let word = spread(next_word(class, base, led), only_if(class, follows_itself));
-    if word == next_word(class, base, led | only_if(word, follows_itself)) {
+    let word = spread(class & reached, class & again);
+    if word == class & (reached | ((word << 1) & again)) {
         Some(word)
     } else {
         None
@@ -108,37 +91,45 @@ pub(crate) fn count_places(word: u64) -> u64
     word.count_ones() as u64
 }
 
-/// The bits of at most eight bytes.
-#[inline(always)]
-pub(crate) fn load(bytes: &[u8]) -> u64
-    requires { length bytes.now ≤ 8 }
-    ensures bits { (k : ℕ) → word_bit result k ≡ has_bit bytes.now k }
-    ensures blank { (result == 0) ≡ is_blank bytes.now }
+/// The row of the positions whose words have the bit of that place.
+pub(crate) fn column(words: &[u64], live: &[u64], size: usize, place: usize) -> [u64; MAX_WIDTH]
+    requires place { place < 64 }
+    requires few { size ≤ 512 }
+    requires room { size ≤ length words.now }
+    requires live { length live.now ≡ 8 }
+    requires dark { (y : ℕ) → has_word_bit live.now y ≡ false → slice_index words.now y ≡ 0 }
+    ensures len { length result ≡ 8 }
+    ensures bits { (x : ℕ) →
+        has_word_bit result x ≡ (nat_lt x size && word_bit (slice_index words.now x) place) }
 {
-    let mut word = 0;
-    for place in 0..bytes.len() {
-        word = with_byte(word, bytes, place);
+    let mut row = [0u64; MAX_WIDTH];
+    let mut from = 0;
+    while let Some(position) = next_bit_in(live, from, size) {
+        put_word_bit(&mut row, position, contains_place(words[position], place));
+        from = position + 1;
     }
-    word
+    row
 }
 
-/// The word with the bits of the byte at the place.
-#[inline(always)]
-fn with_byte(word: u64, bytes: &[u8], place: usize) -> u64
-    requires inside { place < length bytes.now }
-    requires place { place < 8 }
-    ensures { (k : ℕ) → word_bit result k ≡ (((k / 8 == place) && has_bit bytes.now k) || word_bit word k) }
-{
-    word | (bytes[place] as u64) << (BYTE_BITS * place)
-}
-
-/// Makes the bits of at most eight bytes those of the word.
-#[inline(always)]
-pub(crate) fn store(word: u64, bytes: &mut [u8])
-    requires { length bytes.old ≤ 8 }
-    ensures { bytes.new ≡ packed (length bytes.old) (word_bit word) }
+/// Makes the bits of the bytes those of the row.
+pub(crate) fn keep_row(row: &[u64], bytes: &mut [u8])
+    requires room { length bytes.old ≤ 8 * length row.now }
+    requires few { length row.now ≤ 8 }
+    ensures { bytes.new ≡ packed (length bytes.old) (has_word_bit row.now) }
 {
     for place in 0..bytes.len() {
-        bytes[place] = ((word >> (BYTE_BITS * place)) & 0xff) as u8;
+        let bit = BYTE_BITS * place;
+        bytes[place] = ((row[bit / WORD_BITS] >> (bit % WORD_BITS)) & 0xff) as u8;
     }
+}
+
+/// The bits of the bytes as a row.
+pub(crate) fn load(bytes: &[u8]) -> [u64; MAX_WIDTH]
+    requires { length bytes.now ≤ 64 }
+    ensures len { length result ≡ 8 }
+    ensures bits { (k : ℕ) → has_word_bit result k ≡ has_bit bytes.now k }
+{
+    let mut row = [0u64; MAX_WIDTH];
+    unite_bytes(&mut row, bytes);
+    row
 }

@@ -24,7 +24,7 @@ impl SetTables {
         first: &ByteSet,
         given: &[ByteSet],
     ) -> Result<SetTables, AllocError>
-        requires { length given.now ≤ 64 }
+        requires { length given.now ≤ 512 }
         ensures tables { IfOk result (λ tables.
             AreSetTables tables.sets.items tables.numbers.items first.now given.now) }
         ensures count { IfOk result (λ tables. vec_len tables.numbers ≡ length given.now) }
@@ -42,7 +42,7 @@ impl SetTables {
 
 /// The number of the set among those that are kept: it is put behind them where none is equal.
 fn number_of(kept: &mut Vec<ByteSet>, set: &ByteSet) -> Result<usize, AllocError>
-    requires { vec_len kept.old ≤ 64 }
+    requires { vec_len kept.old ≤ 512 }
     ensures within { IfOk result (λ number. number < vec_len kept.new) }
     ensures few { IfOk result (λ number. vec_len kept.new ≤ vec_len kept.old + 1) }
     ensures more { IfOk result (λ number. vec_len kept.old ≤ vec_len kept.new) }

@@ -10,81 +10,93 @@
 //! d        . . . . 1 . 1 . . .    behind either of these
 //! ```
 
-ghost use Rattle.std.specs.Prelude.{◌≡◌, ◌≢◌, ℕ, ◌+◌, ◌/◌, ◌<◌, ◌≤◌, ◌&&◌, ◌||◌, ◌==◌, Bool, true, false, not};
-ghost use Rattle.std.specs.Prelude.{length, nat_lt, set, slice_get, slice_index, vec_len};
+ghost use Rattle.std.specs.Prelude.{◌≡◌, ◌≢◌, ℕ, ◌+◌, ◌*◌, ◌/◌, ◌<◌, ◌≤◌, ◌&&◌, ◌||◌, ◌==◌, Bool, true, false, not};
+ghost use Rattle.std.specs.Prelude.{List, length, nat_lt, set, slice_get, slice_index, vec_len};
 ghost use Rattle.hs_engine.specs.AnyBelow.{any_below};
+ghost use Rattle.hs_base.specs.Bits.{AreZero, has_bit, has_word_bit, word_count};
 ghost use Rattle.hs_base.specs.Contexts.{Context};
 ghost use Rattle.hs_engine.specs.Automata.{in_mask, in_set};
 ghost use Rattle.hs_block.specs.BlockContexts.{AreMade, context_before, context_behind};
-ghost use Rattle.hs_block.specs.StreamSets.{is_from, takes_byte};
+ghost use Rattle.hs_block.specs.Rows.{live_at};
+ghost use Rattle.hs_block.specs.StreamSets.{in_rows, is_from, takes_byte};
 ghost use Rattle.hs_block.specs.WordBits.{one_later, word_bit};
 
-use crate::before_tables::OrderTables;
+use crate::before_tables::{MAX_WIDTH, OrderTables, SQUARES, row_at};
 use crate::class_words::{ClassWords, MAX_SETS, class_word};
 use crate::contexts::Contexts;
 use crate::engine::BlockEnds;
-use crate::mask_words::{has_mixed, mask_before, mask_behind, some_word};
-use crate::places::{contains_place, low_places, one_later, only_if, with_place};
-use crate::position_words::{
-    column, count_places, is_reached, load, meet, row_word, store, united,
-};
+use crate::mask_words::{contexts_of, has_mixed, mask_before, mask_behind, some_row};
+use crate::places::{contains_place, low_places, one_later, only_if};
+use crate::position_words::{column, count_places, keep_row, load, meet, row_word, united_rows};
 use crate::set_tables::SetTables;
 use hs_base::{ByteSet, Mask, Prev};
-use hs_bits::{WORD_BITS, lowest_bit, without_lowest_bit};
+use hs_bits::{
+    WORD_BITS, contains_word_bit, is_zero, keep_words, next_bit_in, unite_words, write_word_bit,
+};
 use hs_engine::{Automaton, Steps, first_bytes};
 use std::alloc::{AllocError, Global};
 use std::sync::ledger::Ledger;
 
 /// How many positions there may be.
-pub const MAX_STREAMS: usize = WORD_BITS;
+pub const MAX_STREAMS: usize = MAX_WIDTH * WORD_BITS;
 /// How many words are made for each position until all are given up: so often a group may come round in a block.
 const ROUNDS: usize = 8;
 
-/// The tables of an automaton of at most 64 positions that follow each other whatever the context, for whole blocks: 32
-/// bytes for each set, 40 bytes for each position.
+/// The tables of an automaton of at most 512 positions, for whole blocks: 32 bytes for each set, and for each position
+/// 24 bytes and two rows of bits, with a bit for each position; where contexts matter between positions twelve more.
 #[derive(Debug, Drop)]
 pub struct Streams {
+    /// How many positions there are.
+    pub(crate) size: usize,
+    /// How many words a row has.
+    pub(crate) width: usize,
     /// The sets of bytes, each once. The first one has the bytes with which a match may begin.
     pub(crate) sets: Vec<ByteSet>,
     /// For each position the number of its set.
     pub(crate) numbers: Vec<usize>,
-    /// For each position those that may come before it.
+    /// For each position the row of those that may come before it in each context.
     pub(crate) froms: Vec<u64>,
-    /// The same without the position itself.
-    pub(crate) others: Vec<u64>,
-    /// For each position those that may come behind it, without itself.
+    /// For each position and each context in which a byte comes next the row of those that may come before it there,
+    /// but not in each; none at all where contexts don't matter.
+    pub(crate) rests: Vec<u64>,
+    /// The positions for which contexts matter.
+    pub(crate) asks: [u64; MAX_WIDTH],
+    /// For each position the row of those that may come behind it, without itself.
     pub(crate) successors: Vec<u64>,
     /// For each position the contexts in which it is entered.
     pub(crate) enters: Vec<Mask>,
     /// For each position the contexts in which it accepts.
     pub(crate) accepts: Vec<Mask>,
     /// The positions that are entered in some context.
-    pub(crate) entered: u64,
+    pub(crate) entered: [u64; MAX_WIDTH],
     /// The positions that accept in some context.
-    pub(crate) accepting: u64,
-    /// Whether a mask has some contexts alone.
+    pub(crate) accepting: [u64; MAX_WIDTH],
+    /// Whether a context matters anywhere.
     mixed: bool,
-    ghost few: { vec_len froms ≤ 64 },
-    ghost numbered: { vec_len numbers ≡ vec_len froms },
-    ghost alike: { vec_len others ≡ vec_len froms },
-    ghost succeeded: { vec_len successors ≡ vec_len froms },
-    ghost entered_all: { vec_len enters ≡ vec_len froms },
-    ghost accepted_all: { vec_len accepts ≡ vec_len froms },
+    ghost few: { size ≤ 512 },
+    ghost wide: { width ≡ word_count size },
+    ghost numbered: { vec_len numbers ≡ size },
+    ghost froms_whole: { vec_len froms ≡ width * size },
+    ghost succeeded: { vec_len successors ≡ width * size },
+    ghost asks_len: { length asks ≡ 8 },
+    ghost entered_len: { length entered ≡ 8 },
+    ghost accepting_len: { length accepting ≡ 8 },
+    ghost entered_all: { vec_len enters ≡ size },
+    ghost accepted_all: { vec_len accepts ≡ size },
     ghost few_sets: { vec_len sets ≤ 64 },
     ghost some_sets: { 0 < vec_len sets },
     ghost in_sets: { (x : ℕ) → slice_index numbers.items x < vec_len sets },
-    ghost froms_few: { (x y : ℕ) → vec_len froms ≤ y → is_from froms.items x y ≡ false },
-    ghost others_are: { (x y : ℕ) →
-        word_bit (slice_index others.items x) y ≡ (not (y == x) && is_from froms.items x y) },
-    ghost successors_are: { (x y : ℕ) →
-        word_bit (slice_index successors.items x) y ≡ (not (y == x) && is_from froms.items y x) },
-    ghost entered_few: { (y : ℕ) → vec_len froms ≤ y → word_bit entered y ≡ false },
+    ghost asked: { (x : ℕ) → has_word_bit asks x ≡ true → width * (12 * size) ≤ vec_len rests },
+    ghost unasked: { (x q y : ℕ) → x < size → q < 12 → y < size → has_word_bit asks x ≡ false →
+        in_rows rests.items width (12 * x + q) y ≡ false },
+    ghost successors_have: { (x y : ℕ) (c : Context) → x < size → y < size →
+        is_from size width froms.items rests.items y x c ≡ true → y ≢ x →
+        in_rows successors.items width x y ≡ true },
     ghost entered_some: { (x : ℕ) (c : Context) →
-        in_mask (slice_get enters.items x) c ≡ true → word_bit entered x ≡ true },
-    ghost accepting_few: { (y : ℕ) → vec_len froms ≤ y → word_bit accepting y ≡ false },
+        in_mask (slice_get enters.items x) c ≡ true → has_word_bit entered x ≡ true },
     ghost accepting_some: { (x : ℕ) (c : Context) →
-        in_mask (slice_get accepts.items x) c ≡ true → word_bit accepting x ≡ true },
-    ghost firsts: { (x b : ℕ) (c : Context) → x < vec_len froms → b < 256 →
+        in_mask (slice_get accepts.items x) c ≡ true → has_word_bit accepting x ≡ true },
+    ghost firsts: { (x b : ℕ) (c : Context) → x < size → b < 256 →
         in_mask (slice_get enters.items x) c ≡ true →
         takes_byte sets.items numbers.items x b ≡ true → in_set (slice_get sets.items 0) b ≡ true },
 }
@@ -99,34 +111,44 @@ struct Entry {
     /// The places before whose bytes the expression is entered.
     enters: u64,
     /// The positions that are live before it.
-    state: u64,
+    state: [u64; MAX_WIDTH],
+    ghost state_len: { length state ≡ 8 },
 }
 
 /// What is still to be done for the words of a block.
 #[derive(Clone, Copy, Debug)]
 struct Work {
     /// The positions whose words are to be made.
-    todo: u64,
+    todo: [u64; MAX_WIDTH],
     /// The positions whose words aren't 0.
-    live: u64,
+    live: [u64; MAX_WIDTH],
+    ghost todo_len: { length todo ≡ 8 },
+    ghost live_len: { length live ≡ 8 },
+}
+
+/// From where a position is reached.
+#[derive(Clone, Copy, Debug)]
+struct Arrivals {
+    /// The places to which another position leads, or one that is live before the block.
+    led: u64,
+    /// The places at which the position may follow itself.
+    again: u64,
 }
 
 impl Streams {
-    ghost use Rattle.std.specs.Prelude.{IfOk, IfSome};
+    ghost use Rattle.std.specs.Prelude.{IfOk, IfSome, IsTrue, ◌↔◌};
     ghost use Rattle.hs_engine.specs.Tables.{IsClearFrom};
+    ghost use Rattle.hs_block.specs.Blocks.{is_blank};
     ghost use Rattle.hs_block.specs.Packed.{packed};
-    ghost use Rattle.hs_block.specs.Rows.{is_next, live_at};
+    ghost use Rattle.hs_block.specs.Rows.{is_next};
     ghost use Rattle.hs_block.specs.Settling.{IsSettled};
     ghost use Rattle.hs_block.specs.StreamRuns.{IsTried};
-    ghost use Rattle.hs_block.specs.StreamTables.{AreClassWords, TellsOf, stream_rules};
+    ghost use Rattle.hs_block.specs.StreamTables.{AreClassWords, TellsOf, comes_before, stream_rules};
 
-    /// The tables of an automaton; None where it has more positions or sets, or a context matters between positions.
+    /// The tables of an automaton; None where it has too many sets.
     pub fn build(alloc: Global, automaton: &Automaton) -> Result<Option<Streams>, AllocError>
         ensures { IfOk result (λ found. IfSome found (λ streams. TellsOf streams automaton.now)) }
     {
-        if automaton.size() > MAX_STREAMS || automaton.follows().square_count() != 1 {
-            return Ok(None);
-        }
         let first = first_bytes(automaton.sets(), automaton.enters());
         let tables = SetTables::build(alloc, &first, automaton.sets())?;
         if tables.sets.len() > MAX_SETS {
@@ -137,8 +159,6 @@ impl Streams {
 
     /// The tables of an automaton, with those of its sets.
     fn make(alloc: Global, automaton: &Automaton, tables: SetTables) -> Result<Streams, AllocError>
-        requires few { vec_len automaton.now.sets ≤ 64 }
-        requires one { automaton.now.follows.by_context ≡ false }
         requires few_sets { vec_len tables.sets ≤ 64 }
         requires some_sets { 0 < vec_len tables.sets }
         requires numbered { vec_len tables.numbers ≡ vec_len automaton.now.sets }
@@ -155,17 +175,24 @@ impl Streams {
         let orders = OrderTables::build(alloc, automaton.follows())?;
         let enters = Vec::from_slice(alloc, automaton.enters())?;
         let accepts = Vec::from_slice(alloc, automaton.accepts())?;
-        let mixed = has_mixed(automaton.enters()) | has_mixed(automaton.accepts());
+        let asking = automaton.follows().square_count() != 1;
+        let mixed = asking | has_mixed(automaton.enters()) | has_mixed(automaton.accepts());
+        let entered = some_row(automaton.enters());
+        let accepting = some_row(automaton.accepts());
+        let asks = orders.asks;
         Ok(Streams {
+            size: automaton.size(),
+            width: orders.width,
             sets: tables.sets,
             numbers: tables.numbers,
             froms: orders.froms,
-            others: orders.others,
+            rests: orders.rests,
+            asks,
             successors: orders.successors,
             enters,
             accepts,
-            entered: some_word(automaton.enters()),
-            accepting: some_word(automaton.accepts()),
+            entered,
+            accepting,
             mixed,
         })
     }
@@ -181,8 +208,8 @@ impl Streams {
         bytes: &[u8],
         steps: &mut Steps<L>,
     ) -> Option<BlockEnds>
-        requires len { length region.old ≡ (vec_len self.now.froms + 7) / 8 }
-        requires clear { IsClearFrom region.old (vec_len self.now.froms) }
+        requires len { length region.old ≡ (self.now.size + 7) / 8 }
+        requires clear { IsClearFrom region.old self.now.size }
         requires few { length bytes.now ≤ 64 }
         ensures { IsTried self.now prev region.old region.new enters bytes.now (length bytes.now) result
             steps.old steps.new }
@@ -205,38 +232,97 @@ impl Streams {
         count: usize,
         steps: &mut Steps<L>,
     ) -> Option<BlockEnds>
-        requires len { length region.old ≡ (vec_len self.now.froms + 7) / 8 }
-        requires clear { IsClearFrom region.old (vec_len self.now.froms) }
+        requires len { length region.old ≡ (self.now.size + 7) / 8 }
+        requires clear { IsClearFrom region.old self.now.size }
         requires whole { length whole.now ≡ 64 }
         requires few { count ≤ 64 }
         ensures { IsTried self.now prev region.old region.new enters whole.now count result steps.old steps.new }
     {
-        let state = load(region);
         let first = class_word(&self.sets[0], whole);
         let entered = enters & low_places(count);
-        if (state == 0) & (first & entered == 0) {
+        if is_zero(region) & (first & entered == 0) {
             steps.tick_by(count_places(entered));
             return Some(BlockEnds {
                 before: 0,
                 behind: 0,
             });
         }
+        let state = load(region);
         let entry = Entry {
             prev,
             contexts: self.contexts(prev, whole),
             enters,
             state,
         };
-        let mut words = [0u64; MAX_STREAMS];
-        let Some(live) = self.solve(&entry, whole, first, &mut words) else {
-            return None;
-        };
-        steps.tick_by(count_places(busy_places(&entry, &words, live, count)));
-        self.keep(region, &words, live, count);
-        Some(self.ends(&entry, whole, &words, live, count))
+        if self.size <= WORD_BITS {
+            let mut words = [0u64; WORD_BITS];
+            self.take(region, &entry, whole, count, first, &mut words, steps)
+        } else {
+            self.take_wide(region, &entry, whole, count, first, steps)
+        }
     }
 
-    /// The contexts of a block behind `prev`, where a mask asks for them.
+    /// Takes them by as many words as there may be.
+    #[inline(never)]
+    fn take_wide<L: Ledger>(
+        &self,
+        region: &mut [u8],
+        entry: &Entry,
+        whole: &[u8],
+        count: usize,
+        first: u64,
+        steps: &mut Steps<L>,
+    ) -> Option<BlockEnds>
+        requires len { length region.old ≡ (self.now.size + 7) / 8 }
+        requires clear { IsClearFrom region.old self.now.size }
+        requires whole { length whole.now ≡ 64 }
+        requires made { AreMade entry.now.contexts entry.now.prev whole.now }
+        requires state { (k : ℕ) → has_word_bit entry.now.state k ≡ has_bit region.old k }
+        requires few { count ≤ 64 }
+        requires first { (i : ℕ) → i < 64 →
+            word_bit first i ≡ in_set (slice_get self.now.sets.items 0) (slice_index whole.now i) }
+        ensures { IsTried self.now entry.now.prev region.old region.new entry.now.enters whole.now count result
+            steps.old steps.new }
+    {
+        let mut words = [0u64; MAX_STREAMS];
+        self.take(region, entry, whole, count, first, &mut words, steps)
+    }
+
+    /// Takes them by words that are 0 so far. The places of the first bytes are told.
+    fn take<L: Ledger>(
+        &self,
+        region: &mut [u8],
+        entry: &Entry,
+        whole: &[u8],
+        count: usize,
+        first: u64,
+        words: &mut [u64],
+        steps: &mut Steps<L>,
+    ) -> Option<BlockEnds>
+        requires len { length region.old ≡ (self.now.size + 7) / 8 }
+        requires clear { IsClearFrom region.old self.now.size }
+        requires whole { length whole.now ≡ 64 }
+        requires made { AreMade entry.now.contexts entry.now.prev whole.now }
+        requires state { (k : ℕ) → has_word_bit entry.now.state k ≡ has_bit region.old k }
+        requires few { count ≤ 64 }
+        requires first { (i : ℕ) → i < 64 →
+            word_bit first i ≡ in_set (slice_get self.now.sets.items 0) (slice_index whole.now i) }
+        requires room { 64 * self.now.width ≤ length words.old }
+        requires zero { (x : ℕ) → slice_index words.old x ≡ 0 }
+        ensures { IsTried self.now entry.now.prev region.old region.new entry.now.enters whole.now count result
+            steps.old steps.new }
+    {
+        let Some(live) = self.solve(entry, whole, first, words) else {
+            return None;
+        };
+        let busy = self.busy_places(entry, words, &live, count, is_zero(region));
+        steps.tick_by(count_places(busy));
+        let ends = self.ends(entry, whole, words, &live, count);
+        self.keep(region, words, &live, count);
+        Some(ends)
+    }
+
+    /// The contexts of a block behind `prev`, where something asks for them.
     fn contexts(&self, prev: Prev, whole: &[u8]) -> Option<Contexts>
         requires { length whole.now ≡ 64 }
         ensures { AreMade result prev whole.now }
@@ -249,88 +335,125 @@ impl Streams {
     }
 
     /// Makes the words of the positions until they come to rest, and tells which aren't 0; None where they don't.
-    fn solve(&self, entry: &Entry, whole: &[u8], first: u64, words: &mut [u64]) -> Option<u64>
+    fn solve(
+        &self,
+        entry: &Entry,
+        whole: &[u8],
+        first: u64,
+        words: &mut [u64],
+    ) -> Option<[u64; MAX_WIDTH]>
         requires whole { length whole.now ≡ 64 }
         requires made { AreMade entry.now.contexts entry.now.prev whole.now }
         requires first { (i : ℕ) → i < 64 →
             word_bit first i ≡ in_set (slice_get self.now.sets.items 0) (slice_index whole.now i) }
-        requires state { (y : ℕ) → vec_len self.now.froms ≤ y → word_bit entry.now.state y ≡ false }
-        requires room { length words.old ≡ 64 }
+        requires state { (y : ℕ) → self.now.size ≤ y → has_word_bit entry.now.state y ≡ false }
+        requires room { 64 * self.now.width ≤ length words.old }
         requires zero { (x : ℕ) → slice_index words.old x ≡ 0 }
-        ensures len { length words.new ≡ 64 }
-        ensures settled { IfSome result (λ live.
-            IsSettled (stream_rules self.now entry.now.prev entry.now.enters whole.now) (word_bit entry.now.state)
-            words.new 0 live) }
+        ensures len { length words.new ≡ length words.old }
+        ensures live { IfSome result (λ live. length live ≡ 8) }
+        ensures settled { IfSome result (λ live. (x : ℕ) → x < self.now.size → (i : ℕ) → i < 64 →
+            word_bit (slice_index words.new x) i ≡ is_next (stream_rules self.now entry.now.prev entry.now.enters
+            whole.now) i (live_at (has_word_bit entry.now.state) words.new i) x) }
+        ensures few { IfSome result (λ live. (y : ℕ) → self.now.size ≤ y → has_word_bit live y ≡ false) }
+        ensures dark { IfSome result (λ live. (y : ℕ) → has_word_bit live y ≡ false →
+            slice_index words.new y ≡ 0) }
     {
         let mut classes = ClassWords::new(first);
-        let mut work = Work {
-            todo: self.first_todo(entry, first),
-            live: 0,
-        };
-        for _round in 0..ROUNDS * self.froms.len() {
-            if work.todo == 0 {
+        let todo = self.first_todo(entry, first);
+        let live = [0u64; MAX_WIDTH];
+        let mut work = Work { todo, live };
+        for _round in 0..ROUNDS * self.size {
+            let Some(position) = next_bit_in(&work.todo, 0, self.size) else {
                 return Some(work.live);
-            }
-            let Some(next) = self.settle(entry, whole, &mut classes, words, work) else {
-                return None;
             };
-            work = next;
+            if !self.settle(position, entry, whole, &mut classes, words, &mut work) {
+                return None;
+            }
         }
         None
     }
 
     /// The positions that are entered in some context, if a first byte stands where the expression is entered, those
     /// that are live, and those to which one of these leads.
-    fn first_todo(&self, entry: &Entry, first: u64) -> u64
-        requires state { (y : ℕ) → vec_len self.now.froms ≤ y → word_bit entry.now.state y ≡ false }
-        ensures few { (y : ℕ) → vec_len self.now.froms ≤ y → word_bit result y ≡ false }
-        ensures entered { (x : ℕ) → word_bit result x ≡ false → word_bit self.now.entered x ≡ true →
+    fn first_todo(&self, entry: &Entry, first: u64) -> [u64; MAX_WIDTH]
+        ensures len { length result ≡ 8 }
+        ensures entered { (x : ℕ) → has_word_bit result x ≡ false → has_word_bit self.now.entered x ≡ true →
             (i : ℕ) → (word_bit first i && word_bit entry.now.enters i) ≡ false }
-        ensures led { (x : ℕ) → word_bit result x ≡ false → any_below (vec_len self.now.froms)
-            (λ y. word_bit entry.now.state y && is_from self.now.froms.items x y) ≡ false }
+        ensures led { (x y : ℕ) (c : Context) → x < self.now.size → y < self.now.size →
+            has_word_bit result x ≡ false →
+            has_word_bit entry.now.state y ≡ true → comes_before self.now x y c ≡ false }
     {
-        let entered = only_if(self.entered, first & entry.enters != 0);
-        entered | (entry.state | united(&self.successors, entry.state))
+        let mut todo = self.led_by(&entry.state);
+        if first & entry.enters == 0 {
+            return todo;
+        }
+        unite_words(&mut todo, &self.entered);
+        todo
     }
 
-    /// Makes the word of the lowest position that is to be made; None where the look at it fails.
+    /// Those positions, and those to which they lead.
+    fn led_by(&self, state: &[u64]) -> [u64; MAX_WIDTH]
+        requires len { length state.now ≡ 8 }
+        ensures len { length result ≡ 8 }
+        ensures led { (x y : ℕ) (c : Context) → x < self.now.size → y < self.now.size →
+            has_word_bit result x ≡ false →
+            has_word_bit state.now y ≡ true → comes_before self.now x y c ≡ false }
+    {
+        let mut todo = [0u64; MAX_WIDTH];
+        unite_words(&mut todo, state);
+        let mut from = 0;
+        while let Some(position) = next_bit_in(state, from, self.size) {
+            unite_words(&mut todo, row_at(&self.successors, self.width, position));
+            from = position + 1;
+        }
+        todo
+    }
+
+    /// Makes the word of a position that is to be made; false where the look at it fails.
     #[inline(always)]
     fn settle(
         &self,
+        position: usize,
         entry: &Entry,
         whole: &[u8],
         classes: &mut ClassWords,
         words: &mut [u64],
-        work: Work,
-    ) -> Option<Work>
+        work: &mut Work,
+    ) -> bool
+        requires position { position < self.now.size }
         requires whole { length whole.now ≡ 64 }
         requires made { AreMade entry.now.contexts entry.now.prev whole.now }
+        requires state { (y : ℕ) → self.now.size ≤ y → has_word_bit entry.now.state y ≡ false }
         requires known { AreClassWords classes.old self.now.sets.items whole.now }
-        requires some { work.todo ≢ 0 }
+        requires room { 64 * self.now.width ≤ length words.old }
         requires settled { IsSettled (stream_rules self.now entry.now.prev entry.now.enters whole.now)
-            (word_bit entry.now.state) words.old work.todo work.live }
+            (has_word_bit entry.now.state) words.old work.old.todo work.old.live }
         ensures known { AreClassWords classes.new self.now.sets.items whole.now }
-        ensures len { length words.new ≡ 64 }
-        ensures settled { IfSome result (λ next.
-            IsSettled (stream_rules self.now entry.now.prev entry.now.enters whole.now) (word_bit entry.now.state)
-            words.new next.todo next.live) }
+        ensures len { length words.new ≡ length words.old }
+        ensures settled { IsTrue result →
+            IsSettled (stream_rules self.now entry.now.prev entry.now.enters whole.now)
+            (has_word_bit entry.now.state) words.new work.new.todo work.new.live }
     {
-        let position = lowest_bit(work.todo);
-        let Some(word) = self.word_of(position, entry, whole, classes, words, work.live) else {
-            return None;
+        let old = words[position];
+        words[position] = 0;
+        let Some(word) = self.word_of(position, entry, whole, classes, words, &work.live) else {
+            return false;
         };
-        let led = only_if(
-            self.successors.as_slice()[position],
-            word != words[position],
-        );
         words[position] = word;
-        Some(Work {
-            todo: without_lowest_bit(work.todo) | led,
-            live: with_place(work.live, position, word != 0),
-        })
+        write_word_bit(&mut work.todo, position, false);
+        write_word_bit(&mut work.live, position, word != 0);
+        if word == old {
+            return true;
+        }
+        unite_words(
+            &mut work.todo,
+            row_at(&self.successors, self.width, position),
+        );
+        true
     }
 
-    /// The word of a position, by those of the positions that may come before it; None where the look at it fails.
+    /// The word of a position whose word is 0 so far, by those of the positions that may come before it; None where the
+    /// look at it fails.
     #[inline(always)]
     fn word_of(
         &self,
@@ -339,71 +462,144 @@ impl Streams {
         whole: &[u8],
         classes: &mut ClassWords,
         words: &[u64],
-        live: u64,
+        live: &[u64],
     ) -> Option<u64>
-        requires position { position < vec_len self.now.froms }
+        requires position { position < self.now.size }
         requires whole { length whole.now ≡ 64 }
         requires made { AreMade entry.now.contexts entry.now.prev whole.now }
         requires known { AreClassWords classes.old self.now.sets.items whole.now }
-        requires room { length words.now ≡ 64 }
-        requires dark { (y : ℕ) → word_bit live y ≡ false → slice_index words.now y ≡ 0 }
+        requires room { 64 * self.now.width ≤ length words.now }
+        requires state { (y : ℕ) → self.now.size ≤ y → has_word_bit entry.now.state y ≡ false }
+        requires live { length live.now ≡ 8 }
+        requires live_few { (y : ℕ) → self.now.size ≤ y → has_word_bit live.now y ≡ false }
+        requires dark { (y : ℕ) → has_word_bit live.now y ≡ false → slice_index words.now y ≡ 0 }
+        requires none { slice_index words.now position ≡ 0 }
         ensures known { AreClassWords classes.new self.now.sets.items whole.now }
         ensures word { IfSome result (λ word. (i : ℕ) → i < 64 →
             word_bit word i
             ≡ is_next (stream_rules self.now entry.now.prev entry.now.enters whole.now) i
-            (live_at (word_bit entry.now.state) (set words.now position word) i) position) }
+            (live_at (has_word_bit entry.now.state) (set words.now position word) i) position) }
     {
-        let base = self.base_of(position, entry, whole);
-        let led = united(words, self.others.as_slice()[position] & live);
-        if !is_reached(base, led) {
+        let allowed = mask_before(entry.contexts, entry.prev, whole, self.enters[position]);
+        let arrivals = self.arrivals(position, entry, whole, words, live);
+        let reached = (entry.enters & allowed) | arrivals.led;
+        if reached == 0 {
             return Some(0);
         }
         let class = classes.of(&self.sets, self.numbers.as_slice()[position], whole);
-        let follows_itself = contains_place(self.froms.as_slice()[position], position);
-        row_word(class, base, led, follows_itself)
+        row_word(class, reached, arrivals.again)
     }
 
-    /// Where a position is entered, and at the first place whether one that is live before the block leads to it.
+    /// Where positions that are live lead to a position, and where it may follow itself.
     #[inline(always)]
-    fn base_of(&self, position: usize, entry: &Entry, whole: &[u8]) -> u64
-        requires position { position < vec_len self.now.froms }
+    fn arrivals(
+        &self,
+        position: usize,
+        entry: &Entry,
+        whole: &[u8],
+        words: &[u64],
+        live: &[u64],
+    ) -> Arrivals
+        requires position { position < self.now.size }
         requires whole { length whole.now ≡ 64 }
         requires made { AreMade entry.now.contexts entry.now.prev whole.now }
-        ensures { (i : ℕ) → i < 64 → word_bit result i ≡
-            (((i == 0) && any_below (vec_len self.now.froms)
-            (λ y. word_bit entry.now.state y && is_from self.now.froms.items position y))
-            || (word_bit entry.now.enters i
-            && in_mask (slice_get self.now.enters.items position) (context_before entry.now.prev whole.now i))) }
+        requires room { 64 * self.now.width ≤ length words.now }
+        requires state { (y : ℕ) → self.now.size ≤ y → has_word_bit entry.now.state y ≡ false }
+        requires live { length live.now ≡ 8 }
+        requires live_few { (y : ℕ) → self.now.size ≤ y → has_word_bit live.now y ≡ false }
+        requires dark { (y : ℕ) → has_word_bit live.now y ≡ false → slice_index words.now y ≡ 0 }
+        ensures led { (i : ℕ) → i < 64 → word_bit result.led i ≡ any_below self.now.size
+            (λ y. live_at (has_word_bit entry.now.state) words.now i y
+            && comes_before self.now position y (context_before entry.now.prev whole.now i)) }
+        ensures again { (i : ℕ) → i < 64 → word_bit result.again i
+            ≡ comes_before self.now position position (context_before entry.now.prev whole.now i) }
     {
-        let allowed = mask_before(entry.contexts, entry.prev, whole, self.enters[position]);
-        let begun = entry.enters & allowed;
-        with_place(begun, 0, meet(entry.state, self.froms.as_slice()[position]))
+        let row = row_at(&self.froms, self.width, position);
+        let always = arrive(row, position, entry, words, live);
+        if contains_word_bit(&self.asks, position) {
+            self.by_context(always, position, entry, whole, words, live)
+        } else {
+            always
+        }
+    }
+
+    /// The same, with the arrivals that every context allows told.
+    fn by_context(
+        &self,
+        always: Arrivals,
+        position: usize,
+        entry: &Entry,
+        whole: &[u8],
+        words: &[u64],
+        live: &[u64],
+    ) -> Arrivals
+        requires position { position < self.now.size }
+        requires whole { length whole.now ≡ 64 }
+        requires made { AreMade entry.now.contexts entry.now.prev whole.now }
+        requires room { 64 * self.now.width ≤ length words.now }
+        requires asks { has_word_bit self.now.asks position ≡ true }
+        requires state { (y : ℕ) → self.now.size ≤ y → has_word_bit entry.now.state y ≡ false }
+        requires live { length live.now ≡ 8 }
+        requires live_few { (y : ℕ) → self.now.size ≤ y → has_word_bit live.now y ≡ false }
+        requires dark { (y : ℕ) → has_word_bit live.now y ≡ false → slice_index words.now y ≡ 0 }
+        requires led { (i : ℕ) → i < 64 → word_bit always.led i ≡ any_below self.now.size
+            (λ y. live_at (has_word_bit entry.now.state) words.now i y
+            && in_rows self.now.froms.items self.now.width position y) }
+        requires again { (i : ℕ) → i < 64 → word_bit always.again i
+            ≡ in_rows self.now.froms.items self.now.width position position }
+        ensures led { (i : ℕ) → i < 64 → word_bit result.led i ≡ any_below self.now.size
+            (λ y. live_at (has_word_bit entry.now.state) words.now i y
+            && comes_before self.now position y (context_before entry.now.prev whole.now i)) }
+        ensures again { (i : ℕ) → i < 64 → word_bit result.again i
+            ≡ comes_before self.now position position (context_before entry.now.prev whole.now i) }
+    {
+        let contexts = contexts_of(entry.contexts, entry.prev, whole);
+        let mut all = always;
+        for square in 0..SQUARES {
+            let row = row_at(&self.rests, self.width, SQUARES * position + square);
+            let more = arrive(row, position, entry, words, live);
+            let places = contexts.places_of(square);
+            all = Arrivals {
+                led: all.led | (more.led & places),
+                again: all.again | (more.again & places),
+            };
+        }
+        all
     }
 
     /// Where a position accepts that is live.
-    fn ends(&self, entry: &Entry, whole: &[u8], words: &[u64], live: u64, count: usize) -> BlockEnds
+    fn ends(
+        &self,
+        entry: &Entry,
+        whole: &[u8],
+        words: &[u64],
+        live: &[u64],
+        count: usize,
+    ) -> BlockEnds
         requires few { count ≤ 64 }
         requires whole { length whole.now ≡ 64 }
         requires made { AreMade entry.now.contexts entry.now.prev whole.now }
-        requires room { length words.now ≡ 64 }
-        requires dark { (y : ℕ) → word_bit live y ≡ false → slice_index words.now y ≡ 0 }
+        requires room { self.now.size ≤ length words.now }
+        requires live { length live.now ≡ 8 }
+        requires dark { (y : ℕ) → has_word_bit live.now y ≡ false → slice_index words.now y ≡ 0 }
         ensures before { (i : ℕ) → word_bit result.before i ≡ (nat_lt i count
-            && any_below (vec_len self.now.froms)
-            (λ x. live_at (word_bit entry.now.state) words.now i x
+            && any_below self.now.size
+            (λ x. live_at (has_word_bit entry.now.state) words.now i x
             && in_mask (slice_get self.now.accepts.items x) (context_before entry.now.prev whole.now i))) }
         ensures behind { (i : ℕ) → word_bit result.behind i ≡ (nat_lt i count
-            && any_below (vec_len self.now.froms)
+            && any_below self.now.size
             (λ x. word_bit (slice_index words.now x) i
             && in_mask (slice_get self.now.accepts.items x) (context_behind entry.now.prev whole.now i))) }
     {
+        let ending = self.ending(&entry.state, live);
         let mut before = 0;
         let mut behind = 0;
-        let mut left = self.accepting & (live | entry.state);
-        while left != 0 {
-            let more = self.ends_of(lowest_bit(left), entry, whole, words);
+        let mut from = 0;
+        while let Some(position) = next_bit_in(&ending, from, self.size) {
+            let more = self.ends_of(position, entry, whole, words);
             before |= more.before;
             behind |= more.behind;
-            left = without_lowest_bit(left);
+            from = position + 1;
         }
         let low = low_places(count);
         BlockEnds {
@@ -412,15 +608,30 @@ impl Streams {
         }
     }
 
+    /// The positions that are live somewhere and accept in some context.
+    fn ending(&self, state: &[u64], live: &[u64]) -> [u64; MAX_WIDTH]
+        requires state { length state.now ≡ 8 }
+        requires live { length live.now ≡ 8 }
+        ensures len { length result ≡ 8 }
+        ensures bits { (k : ℕ) → k < 512 → has_word_bit result k
+            ≡ (has_word_bit self.now.accepting k && (has_word_bit live.now k || has_word_bit state.now k)) }
+    {
+        let mut ending = [0u64; MAX_WIDTH];
+        unite_words(&mut ending, state);
+        unite_words(&mut ending, live);
+        keep_words(&mut ending, &self.accepting);
+        ending
+    }
+
     /// Where a position accepts, if it is live there.
     #[inline(always)]
     fn ends_of(&self, position: usize, entry: &Entry, whole: &[u8], words: &[u64]) -> BlockEnds
-        requires position { position < vec_len self.now.froms }
+        requires position { position < self.now.size }
         requires whole { length whole.now ≡ 64 }
         requires made { AreMade entry.now.contexts entry.now.prev whole.now }
-        requires room { length words.now ≡ 64 }
+        requires room { self.now.size ≤ length words.now }
         ensures before { (i : ℕ) → i < 64 → word_bit result.before i ≡
-            (live_at (word_bit entry.now.state) words.now i position
+            (live_at (has_word_bit entry.now.state) words.now i position
             && in_mask (slice_get self.now.accepts.items position) (context_before entry.now.prev whole.now i)) }
         ensures behind { (i : ℕ) → i < 64 → word_bit result.behind i ≡
             (word_bit (slice_index words.now position) i
@@ -428,7 +639,7 @@ impl Streams {
     {
         let accepts = self.accepts[position];
         let word = words[position];
-        let before = one_later(word, contains_place(entry.state, position));
+        let before = one_later(word, contains_word_bit(&entry.state, position));
         BlockEnds {
             before: before & mask_before(entry.contexts, entry.prev, whole, accepts),
             behind: word & mask_behind(entry.contexts, entry.prev, whole, accepts),
@@ -436,33 +647,63 @@ impl Streams {
     }
 
     /// Keeps the positions that are live behind the last of so many bytes.
-    fn keep(&self, region: &mut [u8], words: &[u64], live: u64, count: usize)
+    fn keep(&self, region: &mut [u8], words: &[u64], live: &[u64], count: usize)
         requires few { count ≤ 64 }
-        requires room { length words.now ≡ 64 }
-        requires live { (y : ℕ) → vec_len self.now.froms ≤ y → word_bit live y ≡ false }
-        requires dark { (y : ℕ) → word_bit live y ≡ false → slice_index words.now y ≡ 0 }
-        requires len { length region.old ≡ (vec_len self.now.froms + 7) / 8 }
+        requires room { self.now.size ≤ length words.now }
+        requires live { length live.now ≡ 8 }
+        requires dark { (y : ℕ) → has_word_bit live.now y ≡ false → slice_index words.now y ≡ 0 }
+        requires len { length region.old ≡ (self.now.size + 7) / 8 }
         ensures none { count ≡ 0 → region.new ≡ region.old }
         ensures some { (last : ℕ) → count ≡ last + 1 → region.new ≡
             packed (length region.old)
-            (λ x. nat_lt x (vec_len self.now.froms) && word_bit (slice_index words.now x) last) }
+            (λ x. nat_lt x self.now.size && word_bit (slice_index words.now x) last) }
     {
         if count > 0 {
-            store(column(words, live, count - 1), region);
+            keep_row(&column(words, live, self.size, count - 1), region);
         }
+    }
+
+    /// The places before whose bytes a position is live or the expression is entered.
+    fn busy_places(
+        &self,
+        entry: &Entry,
+        words: &[u64],
+        live: &[u64],
+        count: usize,
+        blank: bool,
+    ) -> u64
+        requires few { count ≤ 64 }
+        requires room { 64 * self.now.width ≤ length words.now }
+        requires live { length live.now ≡ 8 }
+        requires live_few { (y : ℕ) → self.now.size ≤ y → has_word_bit live.now y ≡ false }
+        requires dark { (y : ℕ) → has_word_bit live.now y ≡ false → slice_index words.now y ≡ 0 }
+        ensures { (i : ℕ) → word_bit result i ≡ (nat_lt i count && (word_bit entry.now.enters i
+            || one_later (not blank)
+            (λ j. any_below self.now.size (λ x. word_bit (slice_index words.now x) j)) i)) }
+    {
+        let word = united_rows(words, row_at(live, self.width, 0), live);
+        low_places(count) & (entry.enters | one_later(word, !blank))
     }
 }
 
-/// The places before whose bytes a position is live or the expression is entered.
-fn busy_places(entry: &Entry, words: &[u64], live: u64, count: usize) -> u64
-    requires few { count ≤ 64 }
-    requires room { length words.now ≡ 64 }
-    requires dark { (y : ℕ) → word_bit live y ≡ false → slice_index words.now y ≡ 0 }
-    ensures { (size : ℕ) → ((y : ℕ) → size ≤ y → word_bit live y ≡ false) → (i : ℕ) →
-        word_bit result i ≡ (nat_lt i count && (word_bit entry.now.enters i
-        || one_later (not (entry.now.state == 0))
-        (λ j. any_below size (λ x. word_bit (slice_index words.now x) j)) i)) }
+/// Where positions that are live lead to one by a row of those that may come before it, and where it may follow itself.
+#[inline(always)]
+fn arrive(row: &[u64], position: usize, entry: &Entry, words: &[u64], live: &[u64]) -> Arrivals
+    requires position { position < 64 * length row.now }
+    requires room { 64 * length row.now ≤ length words.now }
+    requires narrow { length row.now ≤ 8 }
+    requires live { length live.now ≡ 8 }
+    requires dark { (y : ℕ) → has_word_bit live.now y ≡ false → slice_index words.now y ≡ 0 }
+    ensures led { (size : ℕ) → size ≤ 64 * length row.now →
+        ((y : ℕ) → size ≤ y → has_word_bit entry.now.state y ≡ false) →
+        ((y : ℕ) → size ≤ y → has_word_bit live.now y ≡ false) → (i : ℕ) → i < 64 →
+        word_bit result.led i ≡ any_below size
+        (λ y. live_at (has_word_bit entry.now.state) words.now i y && has_word_bit row.now y) }
+    ensures again { (i : ℕ) → i < 64 → word_bit result.again i ≡ has_word_bit row.now position }
 {
-    let word = united(words, live);
-    low_places(count) & (entry.enters | one_later(word, entry.state != 0))
+    let led = united_rows(words, row, live);
+    Arrivals {
+        led: one_later(led, meet(&entry.state, row)),
+        again: only_if(u64::MAX, contains_word_bit(row, position)),
+    }
 }

@@ -1,10 +1,11 @@
 //! The engine of an expression by its positions: byte by byte, and a block at once where that serves.
 
-ghost use Rattle.std.specs.Prelude.{◌≡◌, ℕ, ◌+◌, ◌<◌, ◌≤◌, length, slice_get, true, vec_len, Some, IfOk, MatchOption};
+ghost use Rattle.std.specs.Prelude.{◌≡◌, ℕ, ◌+◌, ◌<◌, ◌≤◌, length, slice_get, true, Some, IfOk, MatchOption};
 ghost use Rattle.hs_base.specs.Contexts.{Context};
 ghost use Rattle.hs_engine.specs.Automata.{in_mask, in_set};
 ghost use Rattle.hs_block.specs.declared.streams.Streams.{Streams};
-ghost use Rattle.hs_block.specs.StreamSets.{is_from, takes_byte};
+ghost use Rattle.hs_block.specs.StreamSets.{takes_byte};
+ghost use Rattle.hs_block.specs.StreamTables.{comes_before};
 ghost use Rattle.hs_limex.specs.LimexEngines.{moves_of_limex};
 ghost use Rattle.hs_rose.specs.MovesRows.{IsMovesLevel};
 
@@ -16,8 +17,8 @@ use hs_waking::row_of;
 use std::alloc::{AllocError, Global};
 use std::sync::ledger::Ledger;
 
-/// Runs an expression by its positions. Of at most 64 positions that follow each other whatever the context it takes a
-/// block by a word for each position; else, and where that doesn't come to rest, byte by byte.
+/// Runs an expression by its positions. Of at most 64 sets of bytes it takes a block by a word for each position; else,
+/// and where that doesn't come to rest, byte by byte.
 #[derive(Debug, Drop)]
 pub struct PositionEngine {
     /// The engine that takes bytes.
@@ -26,7 +27,7 @@ pub struct PositionEngine {
     streams: Option<Streams>,
     /// The bytes of the first levels of positions.
     row: Vec<ByteSet>,
-    ghost size_is: { (s : Streams) → streams ≡ Some s → vec_len s.froms ≡ (moves_of_limex limex).size },
+    ghost size_is: { (s : Streams) → streams ≡ Some s → s.size ≡ (moves_of_limex limex).size },
     ghost takes_are: { (s : Streams) → streams ≡ Some s → (x b : ℕ) → x < (moves_of_limex limex).size → b < 256 →
         takes_byte s.sets.items s.numbers.items x b ≡ (moves_of_limex limex).reach b x },
     ghost enters_are: { (s : Streams) → streams ≡ Some s → (x : ℕ) (c : Context) →
@@ -34,7 +35,7 @@ pub struct PositionEngine {
     ghost accepts_are: { (s : Streams) → streams ≡ Some s → (x : ℕ) (c : Context) →
         in_mask (slice_get s.accepts.items x) c ≡ (moves_of_limex limex).accepts c x },
     ghost follows_are: { (s : Streams) → streams ≡ Some s → (x y : ℕ) (c : Context) →
-        x < (moves_of_limex limex).size → is_from s.froms.items x y ≡ (moves_of_limex limex).follows y x c },
+        x < (moves_of_limex limex).size → comes_before s x y c ≡ (moves_of_limex limex).follows y x c },
     ghost row_some: { 0 < length row.items },
     ghost row_sets: { (d x b : ℕ) → d < length row.items → IsMovesLevel (moves_of_limex limex) d x → b < 256 →
         (moves_of_limex limex).reach b x ≡ true → in_set (slice_get row.items d) b ≡ true },

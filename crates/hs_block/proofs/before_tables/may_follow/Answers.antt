@@ -5,5 +5,5 @@ use Rattle.hs_block.proofs.before_tables.may_follow.Goals as goal
 
 pub returns-else-to-row : goal.returns-else-to-row
 returns-else-to-row c =
-    let row = c.row-row.result.now in
-    le-ltb c.args.to (8 * length row) (omega arith) ∙ (sym (bits-past row c.args.to (omega arith)) ∙ c.row-row.ensures.bits c.args.to)
+    let row = c.square_row-row.result.now in
+    le-ltb c.args.to (8 * length row) (omega arith) ∙ (sym (bits-past row c.args.to (omega arith)) ∙ c.square_row-row.ensures.bits c.args.to)

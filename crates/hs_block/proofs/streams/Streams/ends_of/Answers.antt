@@ -1,4 +1,4 @@
-use Rattle.std.proofs.Common.{vec_len, arith}
+use Rattle.std.proofs.Common.{length, refl, arith}
 use Rattle.std.proofs.lemmas.Option.{slice_get_read}
 use Rattle.hs_block.proofs.StreamSettleLemmas.{end-before, end-behind}
 use Rattle.hs_block.proofs.streams.Streams.ends_of.Goals as goal
@@ -7,14 +7,14 @@ pub returns-clause-before : goal.returns-clause-before
 returns-clause-before c i small =
     let s = c.args.self.now in
     let x = c.args.position in
-    end-before s c.args.entry.now.prev c.args.entry.now.state c.args.whole.now c.args.words.now x c.index-accepts.result.now c.contains_place.result c.one_later-before.result c.mask_before.result
-    (slice_get_read s.accepts.items (vec_len s.accepts) x c.index-accepts.result.now s.accepts.ok.0 (omega (arith, c.requires.position, s.accepted_all)) c.index-accepts.ensures)
-    c.contains_place.ensures c.one_later-before.ensures c.mask_before.ensures i small
+    end-before s c.args.entry.now.prev c.args.entry.now.state c.args.whole.now c.args.words.now x c.index-accepts.result.now c.contains_word_bit.result c.one_later-before.result c.mask_before.result
+    (slice_get_read s.accepts.items (length s.accepts.items) x c.index-accepts.result.now refl (omega (arith, c.requires.position, s.accepted_all, s.accepts.ok.0)) c.index-accepts.ensures)
+    c.contains_word_bit.ensures c.one_later-before.ensures c.mask_before.ensures i small
 
 pub returns-clause-behind : goal.returns-clause-behind
 returns-clause-behind c i small =
     let s = c.args.self.now in
     let x = c.args.position in
     end-behind s c.args.entry.now.prev c.args.whole.now c.args.words.now x c.index-accepts.result.now c.mask_behind.result
-    (slice_get_read s.accepts.items (vec_len s.accepts) x c.index-accepts.result.now s.accepts.ok.0 (omega (arith, c.requires.position, s.accepted_all)) c.index-accepts.ensures)
+    (slice_get_read s.accepts.items (length s.accepts.items) x c.index-accepts.result.now refl (omega (arith, c.requires.position, s.accepted_all, s.accepts.ok.0)) c.index-accepts.ensures)
     c.mask_behind.ensures i small

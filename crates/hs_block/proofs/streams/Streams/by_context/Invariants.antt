@@ -1,0 +1,18 @@
+use Rattle.std.proofs.Common.{◌≡◌, ℕ, ◌+◌, ◌*◌, ◌<◌, ◌&&◌, ◌||◌, true, nat_lt}
+use Rattle.hs_engine.specs.Rows.{square_number}
+use Rattle.hs_block.specs.BlockContexts.{context_before}
+use Rattle.hs_block.specs.StreamSets.{in_rows}
+use Rattle.hs_block.specs.WordBits.{word_bit}
+use Rattle.hs_block.proofs.StreamSettleLemmas.{LedBy}
+use Rattle.hs_block.proofs.streams.Streams.by_context.Given as goal
+
+abbrev pub invariant-loop-square : goal.invariant-loop-square
+invariant-loop-square l = record {
+  led : (i : ℕ) → i < 64 → word_bit l.all.led i
+      ≡ ((nat_lt (square_number true (context_before l.entry.prev l.whole i)) l.square && LedBy l.self l.entry.state l.words l.fn.position i (square_number true (context_before l.entry.prev l.whole i)))
+      || word_bit l.fn.always.led i);
+  again : (i : ℕ) → i < 64 → word_bit l.all.again i
+      ≡ ((nat_lt (square_number true (context_before l.entry.prev l.whole i)) l.square
+      && in_rows l.self.rests.items l.self.width (12 * l.fn.position + square_number true (context_before l.entry.prev l.whole i)) l.fn.position)
+      || word_bit l.fn.always.again i);
+}
