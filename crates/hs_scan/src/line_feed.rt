@@ -7,7 +7,7 @@ ghost use Rattle.hs_literals.specs.HitTables.{has_hit};
 ghost use Rattle.hs_nodes.specs.Contexts.{AreChunkContexts};
 ghost use Rattle.hs_nodes.specs.Graphs.{AreTerminalsSound};
 ghost use Rattle.hs_nodes.specs.Left.{nowhere};
-ghost use Rattle.hs_nodes.specs.Marks.{is_marked, mark_room};
+ghost use Rattle.hs_reports.specs.Marks.{is_marked, mark_room};
 ghost use Rattle.hs_nodes.specs.Resting.{AreEnginesIdle, AreNodesResting};
 ghost use Rattle.hs_nodes.specs.Waking.{AreRowsSound, AreWakesSound};
 ghost use Rattle.hs_nodes.specs.Walks.{AreNodesWell, IsOutside, IsTableSound, node_ends};

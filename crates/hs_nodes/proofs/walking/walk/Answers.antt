@@ -1,6 +1,6 @@
 use Rattle.std.proofs.Common.{◌≡◌, ◌≤◌, ◌<◌, ◌+◌, ◌-◌, ℕ, List, length, slice_index, true, refl, suc, inl, inr, sym, subst, ◌∙◌, arith}
 use Rattle.hs_nodes.specs.Left.{nowhere}
-use Rattle.hs_nodes.specs.Marks.{is_marked}
+use Rattle.hs_reports.specs.Marks.{is_marked}
 use Rattle.hs_nodes.specs.Nodes.{IsWellPart}
 use Rattle.hs_nodes.proofs.KindLemmas.{same-default}
 use Rattle.hs_nodes.proofs.NodeLemmas.{marks-none}
