@@ -1,5 +1,5 @@
 -- A node over a chunk, by its kind.
-use Rattle.std.proofs.Common.{◌≡◌, ℕ, zero, suc, ◌<◌, get_or, length, arith, List, [], ◌∷◌, ◌++◌, slice_get, Option, Some, None, refl, sym, ap, subst, ◌∙◌}
+use Rattle.std.proofs.Common.{◌≡◌, ℕ, zero, suc, ◌<◌, true, false, get_or, length, arith, List, [], ◌∷◌, ◌++◌, slice_get, Option, Some, None, refl, sym, ap, subst, ◌∙◌}
 use Rattle.std.specs.Option.{ForSome}
 use Rattle.hs_base.specs.declared.context.Mask.{Mask}
 use Rattle.hs_base.specs.declared.context.Prev.{Prev}
@@ -12,7 +12,7 @@ use Rattle.hs_nodes.specs.declared.table.NodeKind.TheVariants.{Engine, Literal, 
 use Rattle.hs_nodes.specs.Blocks.{EndsBehind}
 use Rattle.hs_nodes.specs.declared.table.LookBackPair.{LookBackPair}
 use Rattle.hs_nodes.specs.declared.table.NodeKind.{NodeKind}
-use Rattle.hs_nodes.specs.Contexts.{IsNull, NeedsContexts}
+use Rattle.hs_nodes.specs.Contexts.{IsNull, NeedsContexts, asks_contexts}
 use Rattle.hs_nodes.specs.Hits.{KeepsEntries, TakesLiteralPart}
 use Rattle.hs_nodes.specs.Left.{AreLeftIn}
 use Rattle.hs_nodes.specs.LookBacks.{AreLeftAt, TakesPair}
@@ -29,6 +29,14 @@ pub same-default : {A : Type 0} (xs : List A) (i : ℕ) (d e : A) → i < length
 same-default [] i d e low = absurd (omega arith)
 same-default (x ∷ xs) zero d e low = refl
 same-default (x ∷ xs) (suc i) d e low = same-default xs i d e (omega arith)
+
+-- a node that doesn't ask for contexts needs none
+pub asks-none : (kind : NodeKind) → asks_contexts kind ≡ false → NeedsContexts kind → ⊥
+asks-none (Engine number None) no needs = needs
+asks-none (Engine number (Some mask)) no needs = let both : true ≡ false = no in cc
+asks-none (Literal number len) no needs = needs
+asks-none (FirstLiteral number len) no needs = needs
+asks-none (LookBack pair) no needs = needs
 
 -- the contexts that a mask needs
 pub needed-contexts : (number : ℕ) (null : Option Mask) (P : Type 0) → (NeedsContexts (Engine number null) → P) → ForSome null (λ mask. P)

@@ -22,3 +22,4 @@ pub mod WakeLemmas
 pub mod FieldLemmas
 pub mod PlanLemmas
 pub mod GatherLemmas
+pub mod FillLemmas

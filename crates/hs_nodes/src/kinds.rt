@@ -18,7 +18,7 @@ use std::sync::ledger::Ledger;
 
 /// What nodes ask in a chunk beside its bytes.
 #[derive(Clone, Copy, Debug)]
-pub struct Found<'c, 'h> {
+pub(crate) struct Found<'c, 'h> {
     /// The contexts of its blocks, if a node has a mask.
     pub contexts: &'c [Contexts],
     /// Where each literal ends in it.

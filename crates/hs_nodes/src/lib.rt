@@ -2,6 +2,7 @@
 #![tactic(auto)]
 
 mod chunk;
+mod contexts;
 mod ends;
 mod engines;
 mod first;
@@ -27,7 +28,6 @@ pub use first::everywhere;
 pub use gathering::{NodeEnds, busy_words, gather_all, gather_block, gather_left};
 pub use graph::{FieldCopy, Graph, copy_at};
 pub use hits::ChunkHits;
-pub use kinds::Found;
 pub use laws::resting_nodes;
 pub use leaving::{Stop, ends_if, leave_nodes};
 pub use living::{idle_engines, mark_live, next_live};

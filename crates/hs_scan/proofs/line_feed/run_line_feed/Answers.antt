@@ -10,7 +10,7 @@ use Rattle.hs_scan.proofs.WakingLemmas.{passed-nowhere}
 use Rattle.hs_scan.specs.Scans.{ScansChunk}
 use Rattle.hs_scan.specs.Telling.{TellsBlock}
 use Rattle.hs_scan.proofs.BlockLemmas.{takes-as}
-use Rattle.hs_scan.proofs.FillLemmas.{whole}
+use Rattle.hs_nodes.proofs.FillLemmas.{whole}
 use Rattle.hs_scan.proofs.LineFeedLemmas.{first-tells, line_feed-chunk}
 use Rattle.hs_scan.proofs.ScanLemmas.{chunk-takes}
 use Rattle.hs_nodes.proofs.TickLemmas.{nodes-most}
