@@ -154,11 +154,9 @@ fn least_bucket(heads: &[usize; BUCKETS]) -> usize
     ensures least { (bucket : ℕ) → bucket < 8 → slice_index heads.now result ≤ slice_index heads.now bucket }
 {
     let mut least = 0;
-    let mut number = heads[0];
     for bucket in 1..BUCKETS {
-        if heads[bucket] < number {
+        if heads[bucket] < heads[least] {
             least = bucket;
-            number = heads[bucket];
         }
     }
     least

@@ -127,28 +127,29 @@ passed-nowhere j = record { before_is = nowhere-none.before j (omega arith); beh
 pub busy-none : (own : ChunkEnds) (words : List ℕ) → AddsBusy own 0 words words
 busy-none own words = record { below = λ j low. absurd (omega arith); above = λ j high. refl }
 
+-- words that are 0 together
+none-of : (a b c : ℕ) → bit_or a (bit_or b c) ≡ 0 → (a ≡ 0) × (b ≡ 0) × (c ≡ 0)
+none-of a b c none =
+    let first = le_or_l a (bit_or b c) in
+    let second = le_or_r a (bit_or b c) in
+    let left = le_or_l b c in
+    let right = le_or_r b c in
+    (omega (arith, none, first), omega (arith, none, second, left), omega (arith, none, second, right))
+
 -- the word of one more block
-pub busy-more : (own : ChunkEnds) (old mid : List ℕ) (j before behind : ℕ) → j < length mid → before ≡ slice_index own.before j → behind ≡ slice_index own.behind j → AddsBusy own j old mid → AddsBusy own (j + 1) old (slice_set mid j (bit_or (slice_index mid j) (bit_or before behind)))
-busy-more own old mid j before behind there before_is behind_is adds = record {
+pub busy-more : (own : ChunkEnds) (old mid : List ℕ) (j before behind word : ℕ) → j < length mid → before ≡ slice_index own.before j → behind ≡ slice_index own.behind j → word ≡ bit_or (slice_index mid j) (bit_or before behind) → AddsBusy own j old mid →
+    AddsBusy own (j + 1) old (slice_set mid j word)
+busy-more own old mid j before behind word there before_is behind_is word_is adds = record {
   below = λ i low none. elim (cases_eq i j) [
     | inl same ↦ subst (λ n. (slice_index old n ≡ 0) × IsPassed own n) (sym same) (here (sym (get_or-set_same mid j word 0 there) ∙ (ap (λ n. slice_index (slice_set mid j word) n) (sym same) ∙ none)))
     | inr apart ↦ adds.below i (omega (arith, low, apart)) (sym (get_or-set_other mid j i word 0 apart) ∙ none)
   ];
   above = λ i high. get_or-set_other mid j i word 0 (λ same. absurd (omega arith)) ∙ adds.above i (omega (arith, high));
 } where
-  abbrev word : ℕ
-  word = bit_or (slice_index mid j) (bit_or before behind)
-
   here : word ≡ 0 → (slice_index old j ≡ 0) × IsPassed own j
   here none =
-      let first = le_or_l (slice_index mid j) (bit_or before behind) in
-      let second = le_or_r (slice_index mid j) (bit_or before behind) in
-      let left = le_or_l before behind in
-      let right = le_or_r before behind in
-      (
-        sym (adds.above j (omega arith)) ∙ (let e : slice_index mid j ≡ 0 = omega (arith, none, first) in e),
-        record { before_is = sym before_is ∙ (let e : before ≡ 0 = omega (arith, none, second, left) in e); behind_is = sym behind_is ∙ (let e : behind ≡ 0 = omega (arith, none, second, right) in e) },
-      )
+      let all = none-of (slice_index mid j) before behind (sym word_is ∙ none) in
+      (sym (adds.above j (omega arith)) ∙ all.0, record { before_is = sym before_is ∙ all.1; behind_is = sym behind_is ∙ all.2 })
 
 -- In a block whose word is 0 no node before that number is left anywhere.
 pub record AreBusyTo (ends : List ChunkEnds) (words : List ℕ) (from : ℕ) : Type 0 where

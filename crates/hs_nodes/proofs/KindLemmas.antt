@@ -1,5 +1,5 @@
 -- A node over a chunk, by its kind.
-use Rattle.std.proofs.Common.{◌≡◌, ℕ, zero, suc, ◌<◌, true, false, get_or, length, arith, List, [], ◌∷◌, ◌++◌, slice_get, Option, Some, None, refl, sym, ap, subst, ◌∙◌}
+use Rattle.std.proofs.Common.{◌≡◌, ℕ, zero, suc, ◌<◌, ◌≤◌, true, false, get_or, length, arith, List, [], ◌∷◌, ◌++◌, slice_get, Option, Some, None, refl, sym, ap, subst, ◌∙◌}
 use Rattle.std.specs.Option.{ForSome}
 use Rattle.hs_base.specs.declared.context.Mask.{Mask}
 use Rattle.hs_base.specs.declared.context.Prev.{Prev}
@@ -32,11 +32,11 @@ same-default (x ∷ xs) (suc i) d e low = same-default xs i d e (omega arith)
 
 -- a node that doesn't ask for contexts needs none
 pub asks-none : (kind : NodeKind) → asks_contexts kind ≡ false → NeedsContexts kind → ⊥
-asks-none (Engine number None) no needs = needs
-asks-none (Engine number (Some mask)) no needs = let both : true ≡ false = no in cc
-asks-none (Literal number len) no needs = needs
-asks-none (FirstLiteral number len) no needs = needs
-asks-none (LookBack pair) no needs = needs
+asks-none (Engine number None) unasked needs = needs
+asks-none (Engine number (Some mask)) unasked needs = let both : true ≡ false = unasked in cc
+asks-none (Literal number len) unasked needs = needs
+asks-none (FirstLiteral number len) unasked needs = needs
+asks-none (LookBack pair) unasked needs = needs
 
 -- the contexts that a mask needs
 pub needed-contexts : (number : ℕ) (null : Option Mask) (P : Type 0) → (NeedsContexts (Engine number null) → P) → ForSome null (λ mask. P)

@@ -1,6 +1,7 @@
 //! Numbers that are marked, and the next one of them.
 
-ghost use Rattle.std.specs.Prelude.{◌≡◌, ◌/◌, ◌^◌, ◌<◌, ◌≤◌, ◌*◌, ◌==◌, ◌||◌, ℕ, false, not, IfOk, length, slice_index, slice_set};
+ghost use Rattle.std.specs.Prelude.{◌≡◌, ◌/◌, ◌^◌, ◌<◌, ◌≤◌, ◌==◌, ◌||◌, ℕ, false, not, IfOk, length};
+ghost use Rattle.std.specs.Prelude.{slice_index, slice_set};
 ghost use Rattle.std.specs.Int.{bit_at};
 ghost use Rattle.hs_base.specs.Bits.{has_word_bit, word_count};
 ghost use Rattle.hs_bits.specs.NextBits.{IsNextBitIn};

@@ -130,7 +130,8 @@ fn tell_line_feed<E: BlockEngine, V: Events>(
     scratch.course.known.tellings.tell(chunk.at, 0, events);
 }
 
-/// Takes a chunk of one line feed, of which the scratch has where the literals end in it, and which matches would end before it were it the last byte.
+/// Takes a chunk of one line feed, of which the scratch has where the literals end in it, and which matches would end
+/// before it were it the last byte.
 pub(crate) fn run_line_feed<E: BlockEngine, V: Events, L: Ledger>(
     graph: &Graph<E>,
     region: &mut [u8],
