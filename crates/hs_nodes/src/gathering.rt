@@ -12,9 +12,8 @@ ghost use Rattle.hs_nodes.specs.Gathering.{AddsBusy, AreBusy, AreGathered, Gathe
 use crate::chunk::{BLOCK_BYTES, MAX_BLOCKS};
 use crate::ends::ChunkEnds;
 use crate::graph::Graph;
-use hs_reports::MarkSet;
 use hs_block::BlockEngine;
-use hs_reports::{IdentifierEnds, Terminal};
+use hs_reports::{IdentifierEnds, MarkSet, Terminal};
 
 /// Where the nodes are left in a chunk.
 #[derive(Clone, Copy, Debug)]

@@ -10,10 +10,10 @@ ghost use Rattle.hs_nodes.specs.Walks.{IsTableSound, node_part};
 ghost use Rattle.hs_nodes.specs.declared.table.Node.{Node};
 ghost use Rattle.hs_base.specs.Bits.{AreZero};
 
-use hs_reports::MarkSet;
 use crate::table::{Node, NodeTable};
 use hs_bits::word_at;
 use hs_engine::Engine;
+use hs_reports::MarkSet;
 use std::alloc::{AllocError, Global};
 
 /// How many bytes are looked at together.

@@ -8,11 +8,11 @@ ghost use Rattle.hs_nodes.specs.Walks.{IsTableSound, node_ends, node_part};
 ghost use Rattle.hs_nodes.specs.declared.table.Node.{Node};
 
 use crate::ends::ChunkEnds;
-use hs_reports::MarkSet;
 use crate::table::{NodeKind, NodeTable};
 use crate::walking::node_at;
 use hs_bits::is_zero;
 use hs_engine::Engine;
+use hs_reports::MarkSet;
 
 /// Whether nothing is live in what is kept of a node of that kind.
 fn kind_rests(kind: NodeKind, part: &[u8]) -> bool

@@ -12,11 +12,11 @@ ghost use Rattle.hs_waking.specs.ChunkWords.{AreOfChunk};
 ghost use Rattle.hs_waking.specs.Fits.{FitsNowhere, IsRowBy};
 
 use crate::graph::Graph;
-use hs_reports::MarkSet;
 use crate::table::NodeKind;
 use crate::wake_table::WakeTable;
 use crate::walking::{mark_all, node_at, start_of};
 use hs_engine::Engine;
+use hs_reports::MarkSet;
 use hs_waking::{ClassWords, fits};
 
 /// Marks the nodes that the literal of that number wakes.

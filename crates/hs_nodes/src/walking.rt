@@ -15,11 +15,11 @@ use crate::ends::ChunkEnds;
 use crate::first::everywhere;
 use crate::hits::ChunkHits;
 use crate::kinds::{Found, run_kind};
-use hs_reports::MarkSet;
 use crate::table::{Node, NodeTable};
 use hs_base::Prev;
 use hs_block::{BlockEngine, Contexts};
 use hs_engine::Steps;
+use hs_reports::MarkSet;
 use std::sync::ledger::Ledger;
 
 /// The node of that number.

@@ -1,4 +1,4 @@
-use Rattle.std.proofs.Common.{◌+◌, ◌*◌, ◌<◌, ℕ, length, arith}
+use Rattle.std.proofs.Common.{◌+◌, ◌*◌, ℕ, length, arith}
 use Rattle.hs_nodes.proofs.GatherLemmas.{IsGatheredTo, gathered-all, gathered-none, gathered-past}
 use Rattle.hs_nodes.proofs.gathering.gather_left.Goals as goal
 

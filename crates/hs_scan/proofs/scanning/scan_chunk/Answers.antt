@@ -1,9 +1,7 @@
-use Rattle.std.proofs.Common.{◌≡◌, ◌+◌, ℕ, false, List, ◌++◌, length, drop, sym, ap, subst, ◌∙◌}
+use Rattle.std.proofs.Common.{◌≡◌, ◌+◌, ℕ, List, ◌++◌, length, drop, sym, ap, subst, ◌∙◌}
 use Rattle.hs_literals.specs.Held.{held}
-use Rattle.hs_literals.specs.HitTables.{HitTable, has_hit}
 use Rattle.hs_nodes.specs.Blocks.{EndsBehind}
 use Rattle.hs_nodes.specs.Resting.{AreNodesResting}
-use Rattle.hs_scan.specs.Hits.{HasNowhere}
 use Rattle.hs_scan.specs.declared.chunk.Course.{Course}
 use Rattle.hs_scan.specs.Scans.{Scans, ScansChunk, stand}
 use Rattle.hs_scan.specs.Scratches.{stand_of}

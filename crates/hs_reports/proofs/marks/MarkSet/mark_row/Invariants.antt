@@ -1,4 +1,4 @@
-use Rattle.std.proofs.Common.{◌≡◌, ◌-◌, ◌*◌, length}
+use Rattle.std.proofs.Common.{◌-◌, ◌*◌, length}
 use Rattle.hs_reports.proofs.MarkLemmas.{AreRowMarks}
 use Rattle.hs_reports.proofs.marks.MarkSet.mark_row.Given as goal
 
