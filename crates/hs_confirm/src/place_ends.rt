@@ -154,9 +154,11 @@ fn least_bucket(heads: &[usize; BUCKETS]) -> usize
     ensures least { (bucket : ℕ) → bucket < 8 → slice_index heads.now result ≤ slice_index heads.now bucket }
 {
     let mut least = 0;
+    let mut number = heads[0];
     for bucket in 1..BUCKETS {
-        if heads[bucket] < heads[least] {
+        if heads[bucket] < number {
             least = bucket;
+            number = heads[bucket];
         }
     }
     least

@@ -1,29 +1,21 @@
 -- Where pieces are entered everywhere, and where an expression has the empty span.
-use Rattle.std.proofs.Common.{◌≡◌, ◌⊎◌, ◌↔◌, ℕ, zero, suc, ◌+◌, ◌*◌, ◌-◌, ◌%◌, ◌^◌, ◌<◌, ◌≤◌, Bool, true, false, ◌&&◌, List, [], ◌∷◌, ◌++◌, length, take, slice_get, slice_index, min, eqb, Some, refl, sym, ap, subst, ◌∙◌, inl, inr, arith}
-use Rattle.std.specs.Prelude.{nat_lt, nat_le}
-use Rattle.std.proofs.lemmas.Bool.{cases_lt, le-ltb}
-use Rattle.std.proofs.lemmas.Bool.Decides.{nat_tests}
-use Rattle.std.proofs.lemmas.Nat.Bits.{bit_at_ones}
+use Rattle.std.proofs.Common.{◌≡◌, ◌⊎◌, ◌↔◌, ℕ, zero, suc, ◌+◌, ◌*◌, ◌-◌, ◌<◌, ◌≤◌, true, false, List, [], ◌∷◌, ◌++◌, length, take, slice_get, slice_index, Some, refl, sym, ap, subst, ◌∙◌, inl, inr, arith}
+use Rattle.std.specs.Prelude.{nat_lt}
 use Rattle.hs_base.specs.declared.context.Mask.{Mask}
 use Rattle.hs_base.specs.declared.context.Next.{Next}
 use Rattle.hs_base.specs.declared.context.Next.TheVariants as after
 use Rattle.hs_base.specs.declared.context.Prev.{Prev}
 use Rattle.hs_base.specs.Contexts.{class_of, prev_at}
-use Rattle.hs_base.specs.Fields.{entered_always}
 use Rattle.hs_base.specs.Leaving.{IsEmptyAt}
 use Rattle.hs_base.specs.Trees.{Tree}
 use Rattle.hs_base.proofs.ChainStreamLemmas.{leaving-begins}
-use Rattle.hs_base.proofs.ContextLemmas.{first_of_both, second_of_both, of_both}
 use Rattle.hs_block.specs.BlockContexts as of_block
 use Rattle.hs_block.specs.declared.contexts.Contexts.{Contexts}
-use Rattle.hs_block.specs.LiteralBlocks.{turned}
 use Rattle.hs_block.specs.WordBits.{word_bit, Marks}
-use Rattle.hs_block.proofs.PlaceLemmas.{bit-none, bit-up, less, less-is, not-less}
+use Rattle.hs_block.proofs.PlaceLemmas.{bit-none, less-is, not-less}
 use Rattle.hs_nodes.specs.declared.ends.ChunkEnds.{ChunkEnds}
 use Rattle.hs_nodes.specs.Blocks.{EndsBehind, block, front}
 use Rattle.hs_nodes.specs.Contexts.{AreChunkContexts, IsNull}
-use Rattle.hs_nodes.specs.FirstLiterals.{TellsEveryEntry}
-use Rattle.hs_nodes.specs.Hits.{IsCarryAt}
 use Rattle.hs_nodes.specs.Left.{AreLeft}
 use Rattle.hs_nodes.specs.Pieces.{AreEmpty}
 use Rattle.hs_nodes.proofs.ChunkLemmas.{block-past}
@@ -126,45 +118,3 @@ contexts-more contexts now c prev at bytes j is count so_far here i low = by_spl
         subst (λ zs. slice_get zs i ≡ Some c) (sym is) (subst (λ k. slice_get (contexts ++ c ∷ []) k ≡ Some c) last (get-behind contexts c)),
         λ u stands. subst (λ k. of_block.AreContexts c (prev_at (front u bytes k) (length (front u bytes k))) (block bytes k)) (sym same) (here u stands),
       )
-
--- all ones, some places on
-ones-from : (d i : ℕ) → i < 64 → word_bit (18446744073709551615 * 2 ^ d % 18446744073709551616) i ≡ nat_le d i
-unfolding word_bit
-ones-from d i low =
-    bit-up 18446744073709551615 d i low ∙ one (nat_le d i) (ap (λ n. eqb n 1) (bit_at_ones 64 (i - d) (omega arith))) where
-      one : (a : Bool) {b : Bool} → b ≡ true → (a && b) ≡ a
-      one true e = e
-      one false e = refl
-
-least-test : (len at back k : ℕ) → back ≡ min len at → k < len → nat_le (len - back) (len - suc k) ≡ nat_lt k at
-least-test len at back k is low = grind (arith, nat_tests)
-
--- the entries that still count of a literal that is entered everywhere
-pub every-turned : (len at back k : ℕ) → back ≡ min len at → len ≤ 32 → turned len (word_bit (18446744073709551615 * 2 ^ (len - back) % 18446744073709551616)) k ≡ (nat_lt k len && nat_lt k at)
-every-turned len at back k is short =
-    let word = 18446744073709551615 * 2 ^ (len - back) % 18446744073709551616 in
-    elim (cases_lt k len) [
-      | inl low ↦ ap (λ b. nat_lt k len && b) (ones-from (len - back) (len - suc k) (omega arith) ∙ least-test len at back k is low)
-      | inr high ↦ ap (λ b. b && word_bit word (len - suc k)) (le-ltb k len high) ∙ sym (ap (λ b. b && nat_lt k at) (le-ltb k len high))
-    ]
-
-always-get : (u : List ℕ) (i : ℕ) → i < length u → slice_get (entered_always u) i ≡ Some true
-always-get [] i low = absurd (omega arith)
-always-get (b ∷ u) zero low = refl
-always-get (b ∷ u) (suc i) low = always-get u i (omega arith)
-
-pub every-tells : (len at back : ℕ) → back ≡ min len at → len ≤ 32 → TellsEveryEntry len (18446744073709551615 * 2 ^ (len - back) % 18446744073709551616) at
-every-tells len at back is short u count k = (
-  (λ set.
-      let both : (nat_lt k len && nat_lt k at) ≡ true = sym (every-turned len at back k is short) ∙ set in
-      let low : k < len = less k len (first_of_both (nat_lt k len) (nat_lt k at) both) in
-      let early : k < at = less k at (second_of_both (nat_lt k len) (nat_lt k at) both) in
-      record { below = low; from = length u - suc k; ends = omega arith; is_entered = always-get u (length u - suc k) (omega arith) }),
-  (λ entry. every-turned len at back k is short ∙ of_both (nat_lt k len) (nat_lt k at) (less-is k len entry.below) (less-is k at (omega (arith, entry.ends)))),
-)
-
-pub every-well : (len at back : ℕ) → back ≡ min len at → len ≤ 32 → IsCarryAt len (18446744073709551615 * 2 ^ (len - back) % 18446744073709551616) at
-every-well len at back is short k high = every-turned len at back k is short ∙ ap (λ b. nat_lt k len && b) (not-less k at high) ∙ none (nat_lt k len) where
-  none : (a : Bool) → (a && false) ≡ false
-  none true = refl
-  none false = refl

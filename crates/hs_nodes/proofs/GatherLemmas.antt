@@ -1,7 +1,10 @@
 -- Ends are gathered node by node.
-use Rattle.std.proofs.Common.{◌≡◌, ℕ, zero, suc, ◌+◌, ◌<◌, ◌≤◌, Bool, true, false, List, [], ◌∷◌, length, Some, slice_get, refl, sym, ap, subst, ◌∙◌, arith}
+use Rattle.std.proofs.Common.{◌≡◌, ℕ, zero, suc, ◌+◌, ◌<◌, ◌≤◌, Bool, true, false, List, [], ◌∷◌, length, Some, bit_or, slice_get, slice_set, refl, sym, ap, subst, ◌∙◌, inl, inr, arith}
 use Rattle.std.specs.Prelude.{slice_index, slice_index_or}
-use Rattle.std.proofs.lemmas.Option.{same_Some}
+use Rattle.std.proofs.lemmas.Bool.{cases_eq, cases_lt}
+use Rattle.std.proofs.lemmas.List.{get_or-set_other, get_or-set_same, get_or_past}
+use Rattle.std.proofs.lemmas.Nat.{le_or_l, le_or_r}
+use Rattle.std.proofs.lemmas.Option.{get_or_from_slice_get, same_Some}
 use Rattle.hs_engine.specs.Engines.{Meaning}
 use Rattle.hs_nodes.specs.Left.{nowhere}
 use Rattle.hs_nodes.specs.Walks.{node_ends}
@@ -12,7 +15,7 @@ use Rattle.hs_reports.specs.Gathering.{AreEndsBelow}
 use Rattle.hs_reports.specs.declared.terminal.Terminal.{Terminal}
 use Rattle.hs_reports.proofs.GatheringLemmas.{gathering-begins, gathering-goes_on, gathering-passes}
 use Rattle.hs_nodes.specs.Graphs.{AreTerminalsSound}
-use Rattle.hs_nodes.specs.Gathering.{GathersNode, left_before, left_behind, ends_or_all, terminals_of}
+use Rattle.hs_nodes.specs.Gathering.{AddsBusy, AreBusy, GathersNode, IsPassed, left_before, left_behind, ends_or_all, terminals_of}
 use Rattle.hs_nodes.specs.declared.graph.Graph.{Graph}
 
 -- the ends of a node by its number
@@ -43,6 +46,12 @@ module _ {E : Type 0} (meaning : E → Meaning) (graph : Graph E) (sound : AreTe
       (subst (λ w. AddsEnds old new (terminals_of graph node) at (befores node) w) (sym behind_is)
       (subst (λ w. AddsEnds old new (terminals_of graph node) at w behind) (sym before_is) (subst (λ ts. AddsEnds old new ts at before behind) is adds)))
 
+  -- one that is left nowhere
+  pub node-passed : (node at before behind : ℕ) (table : EndTable) → before ≡ 0 → behind ≡ 0 → GathersNode graph node at before behind table table
+  node-passed node at before behind table none none' befores behinds before_is behind_is below =
+      gathering-passes graph.terminals.items befores behinds at node (node + 1) table (omega arith)
+      (λ k low high. let same : k ≡ node = omega arith in (ap befores same ∙ before_is ∙ none, ap behinds same ∙ behind_is ∙ none')) below
+
 module _ {E : Type 0} (graph : Graph E) (ends : List ChunkEnds) (all : ChunkEnds) (block : ℕ) (few : block < 8) (count : length ends ≡ length graph.table.nodes.items) where
   pub gathered-none : (at : ℕ) (table : EndTable) → length table.words ≡ length graph.identifiers.items → HasNoEnds table → IsGatheredTo graph ends all block at 0 table table
   gathered-none at table counted none = record {
@@ -56,6 +65,19 @@ module _ {E : Type 0} (graph : Graph E) (ends : List ChunkEnds) (all : ChunkEnds
   resting k below none =
       let is : ends_or_all ends all k ≡ nowhere = ends-at ends all nowhere k (omega (arith, count)) ∙ none in
       (ap (λ e. slice_index e.before block) is ∙ nowhere-none.before block (omega arith), ap (λ e. slice_index e.behind block) is ∙ nowhere-none.behind block (omega arith))
+
+  -- nodes that are left nowhere in the block are passed over
+  pub gathered-past : (at from to : ℕ) (first table : EndTable) → from ≤ to → to ≤ length graph.table.nodes.items → ((k : ℕ) → from ≤ k → k < to → IsPassed (node_ends ends k) block) → IsGatheredTo graph ends all block at from first table → IsGatheredTo graph ends all block at to first table
+  gathered-past at from to first table order inside none is = record {
+    within = inside;
+    counted = is.counted;
+    noted = is.noted;
+    gathered =
+        gathering-passes graph.terminals.items (left_before ends all block) (left_behind ends all block) at from to table order
+        (λ k low high.
+        let same : ends_or_all ends all k ≡ node_ends ends k = ends-at ends all nowhere k (omega (arith, count, high, inside)) in
+        (ap (λ e. slice_index e.before block) same ∙ (none k low high).before_is, ap (λ e. slice_index e.behind block) same ∙ (none k low high).behind_is)) is.gathered;
+  }
 
   pub gathered-passed : (at from to : ℕ) (first table : EndTable) → from ≤ to → to ≤ length graph.table.nodes.items → ((k : ℕ) → from ≤ k → k < to → node_ends ends k ≡ nowhere) → IsGatheredTo graph ends all block at from first table → IsGatheredTo graph ends all block at to first table
   gathered-passed at from to first table order inside none is = record {
@@ -96,3 +118,67 @@ module _ {E : Type 0} (graph : Graph E) (ends : List ChunkEnds) (all : ChunkEnds
       subst (λ m. AreEndsBelow graph.terminals.items (left_before ends all block) (left_behind ends all block) at (m + 1) next) last
       (goes (left_before ends all block) (left_behind ends all block) (ap (λ e. slice_index e.before block) same) (ap (λ e. slice_index e.behind block) same)
       (subst (λ m. AreEndsBelow graph.terminals.items (left_before ends all block) (left_behind ends all block) at m table) (sym last) is.gathered))
+
+-- Which blocks are busy.
+
+passed-nowhere : (j : ℕ) → IsPassed nowhere j
+passed-nowhere j = record { before_is = nowhere-none.before j (omega arith); behind_is = nowhere-none.behind j (omega arith) }
+
+pub busy-none : (own : ChunkEnds) (words : List ℕ) → AddsBusy own 0 words words
+busy-none own words = record { below = λ j low. absurd (omega arith); above = λ j high. refl }
+
+-- words that are 0 together
+none-of : (a b c : ℕ) → bit_or a (bit_or b c) ≡ 0 → (a ≡ 0) × (b ≡ 0) × (c ≡ 0)
+none-of a b c none =
+    let first = le_or_l a (bit_or b c) in
+    let second = le_or_r a (bit_or b c) in
+    let left = le_or_l b c in
+    let right = le_or_r b c in
+    (omega (arith, none, first), omega (arith, none, second, left), omega (arith, none, second, right))
+
+-- the word of one more block
+pub busy-more : (own : ChunkEnds) (old mid : List ℕ) (j before behind word : ℕ) → j < length mid → before ≡ slice_index own.before j → behind ≡ slice_index own.behind j → word ≡ bit_or (slice_index mid j) (bit_or before behind) → AddsBusy own j old mid →
+    AddsBusy own (j + 1) old (slice_set mid j word)
+busy-more own old mid j before behind word there before_is behind_is word_is adds = record {
+  below = λ i low none. elim (cases_eq i j) [
+    | inl same ↦ subst (λ n. (slice_index old n ≡ 0) × IsPassed own n) (sym same) (here (sym (get_or-set_same mid j word 0 there) ∙ (ap (λ n. slice_index (slice_set mid j word) n) (sym same) ∙ none)))
+    | inr apart ↦ adds.below i (omega (arith, low, apart)) (sym (get_or-set_other mid j i word 0 apart) ∙ none)
+  ];
+  above = λ i high. get_or-set_other mid j i word 0 (λ same. absurd (omega arith)) ∙ adds.above i (omega (arith, high));
+} where
+  here : word ≡ 0 → (slice_index old j ≡ 0) × IsPassed own j
+  here none =
+      let all = none-of (slice_index mid j) before behind (sym word_is ∙ none) in
+      (sym (adds.above j (omega arith)) ∙ all.0, record { before_is = sym before_is ∙ all.1; behind_is = sym behind_is ∙ all.2 })
+
+-- In a block whose word is 0 no node before that number is left anywhere.
+pub record AreBusyTo (ends : List ChunkEnds) (words : List ℕ) (from : ℕ) : Type 0 where
+  pub within : from ≤ length ends
+  pub passed : (block k : ℕ) → block < 8 → k < from → slice_index words block ≡ 0 → IsPassed (node_ends ends k) block
+
+pub busy-begins : (ends : List ChunkEnds) (words : List ℕ) → AreBusyTo ends words 0
+busy-begins ends words = record { within = omega arith; passed = λ block k few low. absurd (omega arith) }
+
+-- up to the next one that is marked, and that one
+pub busy-next : (ends : List ChunkEnds) (own : ChunkEnds) (mid new : List ℕ) (from k : ℕ) → k < length ends → slice_get ends k ≡ Some own → ((j : ℕ) → from ≤ j → j < k → node_ends ends j ≡ nowhere) → AddsBusy own 8 mid new → AreBusyTo ends mid from → AreBusyTo ends new (k + 1)
+busy-next ends own mid new from k there is rest adds are = record {
+  within = omega arith;
+  passed = λ block j few low none.
+      let both = adds.below block few none in
+      elim (cases_lt j from) [
+        | inl inner ↦ are.passed block j few inner both.0
+        | inr past ↦ elim (cases_eq j k) [
+          | inl same ↦ subst (λ e. IsPassed e block) (sym (ap (λ n. node_ends ends n) same ∙ get_or_from_slice_get ends k own nowhere is)) both.1
+          | inr apart ↦ subst (λ e. IsPassed e block) (sym (rest j past (omega (arith, low, apart)))) (passed-nowhere block)
+        ]
+      ];
+}
+
+pub busy-all : (ends : List ChunkEnds) (words : List ℕ) (from : ℕ) → ((j : ℕ) → from ≤ j → j < length ends → node_ends ends j ≡ nowhere) → AreBusyTo ends words from → AreBusy ends words
+busy-all ends words from rest are block k few none = elim (cases_lt k from) [
+  | inl inner ↦ are.passed block k few inner none
+  | inr past ↦ elim (cases_lt k (length ends)) [
+    | inl inside ↦ subst (λ e. IsPassed e block) (sym (rest k past inside)) (passed-nowhere block)
+    | inr beyond ↦ subst (λ e. IsPassed e block) (sym (get_or_past ends k nowhere beyond)) (passed-nowhere block)
+  ]
+]

@@ -1,12 +1,10 @@
 -- A node over a chunk, by its kind.
-use Rattle.std.proofs.Common.{◌≡◌, ℕ, zero, suc, ◌<◌, get_or, length, arith, List, [], ◌∷◌, ◌++◌, slice_get, Option, Some, None, refl, sym, ap, subst, ◌∙◌}
+use Rattle.std.proofs.Common.{◌≡◌, ℕ, zero, suc, ◌<◌, ◌≤◌, true, false, get_or, length, arith, List, [], ◌∷◌, ◌++◌, slice_get, Option, Some, None, refl, sym, ap, subst, ◌∙◌}
 use Rattle.std.specs.Option.{ForSome}
 use Rattle.hs_base.specs.declared.context.Mask.{Mask}
 use Rattle.hs_base.specs.declared.context.Prev.{Prev}
 use Rattle.hs_base.specs.Chains.{Piece, lit, nfa, piece_tree, IsFitChain}
-use Rattle.hs_base.specs.Fields.{entered_always}
 use Rattle.hs_base.specs.Trees.{Tree}
-use Rattle.hs_base.proofs.EntryLemmas.{first-entered}
 use Rattle.hs_engine.specs.Engines.{Meaning}
 use Rattle.hs_nodes.specs.declared.ends.ChunkEnds.{ChunkEnds}
 use Rattle.hs_nodes.specs.declared.hits.ChunkHits.{ChunkHits}
@@ -14,14 +12,14 @@ use Rattle.hs_nodes.specs.declared.table.NodeKind.TheVariants.{Engine, Literal, 
 use Rattle.hs_nodes.specs.Blocks.{EndsBehind}
 use Rattle.hs_nodes.specs.declared.table.LookBackPair.{LookBackPair}
 use Rattle.hs_nodes.specs.declared.table.NodeKind.{NodeKind}
-use Rattle.hs_nodes.specs.Contexts.{IsNull, NeedsContexts}
-use Rattle.hs_nodes.specs.FirstLiterals.{TellsEveryEntry}
-use Rattle.hs_nodes.specs.Hits.{CarriesEntries, KeepsEntries, TakesLiteral, TakesLiteralPart}
+use Rattle.hs_nodes.specs.Contexts.{IsNull, NeedsContexts, asks_contexts}
+use Rattle.hs_nodes.specs.Hits.{KeepsEntries, TakesLiteralPart}
 use Rattle.hs_nodes.specs.Left.{AreLeftIn}
-use Rattle.hs_nodes.specs.LookBacks.{TakesPair}
+use Rattle.hs_nodes.specs.LookBacks.{AreLeftAt, TakesPair}
 use Rattle.hs_nodes.specs.Nodes.{HoldsPiece, IsEnteredBy, IsPieceRun, IsWellPart, TakesPiece}
 use Rattle.hs_nodes.specs.Pieces.{AreEmptyIn, IsHeld, IsHeldBy, TakesChunk}
 use Rattle.hs_nodes.specs.Walks.{StandsBehind}
+use Rattle.hs_nodes.proofs.PairLemmas.{first-left}
 
 pub one-value : {A : Type 0} (x y : A) (o : Option A) → o ≡ Some x → o ≡ Some y → x ≡ y
 one-value x y o at at' = let both : Some x ≡ Some y = sym at ∙ at' in cc
@@ -31,6 +29,14 @@ pub same-default : {A : Type 0} (xs : List A) (i : ℕ) (d e : A) → i < length
 same-default [] i d e low = absurd (omega arith)
 same-default (x ∷ xs) zero d e low = refl
 same-default (x ∷ xs) (suc i) d e low = same-default xs i d e (omega arith)
+
+-- a node that doesn't ask for contexts needs none
+pub asks-none : (kind : NodeKind) → asks_contexts kind ≡ false → NeedsContexts kind → ⊥
+asks-none (Engine number None) unasked needs = needs
+asks-none (Engine number (Some mask)) unasked needs = let both : true ≡ false = unasked in cc
+asks-none (Literal number len) unasked needs = needs
+asks-none (FirstLiteral number len) unasked needs = needs
+asks-none (LookBack pair) unasked needs = needs
 
 -- the contexts that a mask needs
 pub needed-contexts : (number : ℕ) (null : Option Mask) (P : Type 0) → (NeedsContexts (Engine number null) → P) → ForSome null (λ mask. P)
@@ -58,13 +64,14 @@ module _ {E : Type 0} (meaning : E → Meaning) (engines : List E) where
       let run = takes pieces rest of.value u (subst (λ p. IsFitChain (pieces ++ p ∷ rest)) of.is fit) of.count bytes_are (hits_are number of.value own of.there there) left (subst (λ p. IsHeldBy (KeepsEntries len old) pieces p u) of.is held) in
       subst (λ p. IsPieceRun meaning engines (Literal number len) pieces p new u bytes ends) (sym of.is) (record { held = run.held; left = run.left })
 
-  pub first-takes : (number len carry carry' : ℕ) (old new : List ℕ) (prev : Prev) (at : ℕ) (past bytes : List ℕ) (hits : List ChunkHits) (enters ends : ChunkEnds) (own : ChunkHits) → slice_get hits number ≡ Some own → TellsEveryEntry len carry at →
-      TakesLiteral len carry carry' bytes own enters ends → TakesPiece meaning engines (FirstLiteral number len) old new prev at past bytes hits enters ends
-  first-takes number len carry carry' old new prev at past bytes hits enters ends own there tells takes literals pieces rest piece u of fit stands past_is bytes_are hits_are left held =
-      let is = of.1.is in
-      let start : IsHeldBy (CarriesEntries len carry) [] (lit of.1.value) u = record { entered = entered_always u; are = first-entered u; field = tells u (sym stands.offset) } in
-      let run = takes pieces rest of.1.value u (subst (λ p. IsFitChain (pieces ++ p ∷ rest)) is fit) of.1.count bytes_are (hits_are number of.1.value own of.1.there there) left (subst (λ ps. IsHeldBy (CarriesEntries len carry) ps (lit of.1.value) u) (sym of.0) start) in
-      subst (λ p. IsPieceRun meaning engines (FirstLiteral number len) pieces p new u bytes ends) (sym is) (record { held = tt; left = run.left })
+  pub first-takes : (number len : ℕ) (old new : List ℕ) (prev : Prev) (at : ℕ) (past bytes : List ℕ) (hits : List ChunkHits) (enters ends : ChunkEnds) (own : ChunkHits) → 1 ≤ len → slice_get hits number ≡ Some own →
+      ((pieces : List Piece) (u : List ℕ) → AreLeftAt own pieces u bytes → AreLeftIn pieces u bytes ends) → TakesPiece meaning engines (FirstLiteral number len) old new prev at past bytes hits enters ends
+  first-takes number len old new prev at past bytes hits enters ends own some there ends_are literals pieces rest piece u of fit stands past_is bytes_are hits_are left held =
+      let value = of.1.value in
+      let fit' : IsFitChain (lit value ∷ rest) = subst (λ p. IsFitChain (p ∷ rest)) of.1.is (subst (λ ps. IsFitChain (ps ++ piece ∷ rest)) of.0 fit) in
+      let both : AreLeftIn (lit value ∷ []) u bytes ends =
+      ends_are (lit value ∷ []) u (first-left value rest u bytes own (omega (arith, some, of.1.count)) fit' bytes_are (hits_are number value own of.1.there there)) in
+      record { held = tt; left = subst (λ ps. AreLeftIn (ps ++ piece ∷ []) u bytes ends) (sym of.0) (subst (λ p. AreLeftIn (p ∷ []) u bytes ends) (sym of.1.is) both) }
 
   pub pair-takes : (pair : LookBackPair) (old new : List ℕ) (prev : Prev) (at : ℕ) (past bytes : List ℕ) (hits : List ChunkHits) (enters ends : ChunkEnds) (e : E) (own : ChunkHits) → slice_get engines pair.engine ≡ Some e → slice_get hits pair.literal ≡ Some own →
       TakesPair (meaning e) pair.null pair.len at past bytes own ends → TakesPiece meaning engines (LookBack pair) old new prev at past bytes hits enters ends

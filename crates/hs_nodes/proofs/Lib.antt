@@ -2,7 +2,6 @@ pub mod ChunkLemmas
 pub mod PieceLemmas
 pub mod RunLemmas
 pub mod EngineLemmas
-pub mod MarkLemmas
 pub mod FlatLemmas
 pub mod PassLemmas
 pub mod LiteralLemmas
@@ -23,3 +22,4 @@ pub mod WakeLemmas
 pub mod FieldLemmas
 pub mod PlanLemmas
 pub mod GatherLemmas
+pub mod FillLemmas

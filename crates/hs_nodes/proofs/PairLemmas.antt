@@ -20,7 +20,7 @@ use Rattle.hs_base.specs.Lists.{Each}
 use Rattle.hs_base.specs.Spans.{Spans, CatSpans}
 use Rattle.hs_base.specs.Trees as trees
 use Rattle.hs_base.specs.Trees.{Tree, Trees, trees_of}
-use Rattle.hs_base.proofs.ChainStreamLemmas.{last-leaves, leaves-last}
+use Rattle.hs_base.proofs.ChainStreamLemmas.{last-leaves, leaves-last, leaving-begins}
 use Rattle.hs_base.proofs.ListLemmas.{each-left}
 use Rattle.hs_base.proofs.LiteralRowLemmas.{literal-spans_end, literals-leave_behind}
 use Rattle.hs_block.specs.WordBits.{word_bit, count_below}
@@ -56,11 +56,40 @@ taken-length (IsTaken.next here others) = ap suc (taken-length others)
 pub ends-within : (xs : List LiteralByte) (w : List ℕ) (end : ℕ) → EndsAt xs w end → length xs ≤ end
 ends-within xs w end ends = let size : length xs ≡ length ends.taken = taken-length ends.is in omega (arith, size, ends.at)
 
-module _ (tree : Tree) (xs : List LiteralByte) (rest : List Piece) (w : List ℕ) (some : 1 ≤ length xs) (each : Each (λ b. b < 256) w) (fit : IsFitChain (nfa tree ∷ lit xs ∷ rest)) where
-  span-ends : length xs ≤ length w → Spans w false (piece_tree (lit xs)) (length w - length xs) (length w) ↔ EndsAt xs w (length w)
-  span-ends within =
+module _ (xs : List LiteralByte) (w : List ℕ) (some : 1 ≤ length xs) (each : Each (λ b. b < 256) w) where
+  literal-ends : length xs ≤ length w → Spans w false (piece_tree (lit xs)) (length w - length xs) (length w) ↔ EndsAt xs w (length w)
+  literal-ends within =
       let e : length w - length xs + length xs ≡ length w = omega (arith, within) in
       subst (λ j. Spans w false (piece_tree (lit xs)) (length w - length xs) j ↔ EndsAt xs w j) e (literal-spans_end xs w false (length w - length xs) some each)
+
+  everywhere-before : length xs ≤ length w → IsEnteredBefore [] (length xs) w
+  everywhere-before within =
+      let place : ℕ = length w - length xs in
+      let there : place < length w = omega (arith, within, some) in
+      record {
+        byte = get_or w place 0;
+        there = slice_get-get_or w place 0 there;
+        entered = (leaving-begins (take place w) (class_of (get_or w place 0))).0 refl;
+      }
+
+  -- a literal that is entered everywhere is left where it ends
+  pub first-leaves : (rest : List Piece) → IsFitChain (lit xs ∷ rest) → (next : Next) → LeavesAt (lit xs ∷ []) w next ↔ EndsAt xs w (length w)
+  first-leaves rest fit next = (
+    λ left. elim (leaves-last [] rest (lit xs) w next fit left) [
+      | inl behind ↦
+          let wide : behind.from + length xs ≡ length w = lit-width (then_bytes w next) (then_ended next) xs behind.from (length w) behind.spans in
+          let within : length xs ≤ length w = omega (arith, wide) in
+          (literal-ends within).0 ((literals-leave_behind [] xs w next some within).0 behind).1
+      | inr both ↦ absurd (never-empty xs w next some both.1)
+    ],
+    λ ends.
+        let within = ends-within xs w (length w) ends in
+        last-leaves [] rest (lit xs) w next fit (inl ((literals-leave_behind [] xs w next some within).1 (everywhere-before within, (literal-ends within).1 ends))),
+  )
+
+module _ (tree : Tree) (xs : List LiteralByte) (rest : List Piece) (w : List ℕ) (some : 1 ≤ length xs) (each : Each (λ b. b < 256) w) (fit : IsFitChain (nfa tree ∷ lit xs ∷ rest)) where
+  span-ends : length xs ≤ length w → Spans w false (piece_tree (lit xs)) (length w - length xs) (length w) ↔ EndsAt xs w (length w)
+  span-ends within = literal-ends xs w some each within
 
   behind-leaves : (next : Next) → (EndsAt xs w (length w) × IsEnteredBefore (nfa tree ∷ []) (length xs) w) ↔ LeavesBehind (nfa tree ∷ []) (lit xs) w next
   behind-leaves next = (
@@ -97,6 +126,16 @@ ends-to xs u bytes i within =
     let stays = ends-stay xs (u ++ take i bytes) (drop i bytes) (length u + i) (omega (arith, size)) in (
       λ ends. subst (λ n. EndsAt xs (u ++ take i bytes) n) (sym size) (stays.1 (subst (λ v. EndsAt xs v (length u + i)) (upto u bytes i) ends)),
       λ ends. subst (λ v. EndsAt xs v (length u + i)) (sym (upto u bytes i)) (stays.0 (subst (λ n. EndsAt xs (u ++ take i bytes) n) size ends)),
+    )
+
+-- a literal that is entered everywhere is left in a chunk where it ends
+pub first-left : (xs : List LiteralByte) (rest : List Piece) (u bytes : List ℕ) (own : ChunkHits) → 1 ≤ length xs → IsFitChain (lit xs ∷ rest) → Each (λ b. b < 256) (u ++ bytes) → AreChunkHits own xs u bytes → AreLeftAt own (lit xs ∷ []) u bytes
+first-left xs rest u bytes own some fit small are i within next =
+    let left = first-leaves xs (u ++ take i bytes) some (small-to u bytes i small) rest fit next in
+    let ends = ends-to xs u bytes i within in
+    let told = are i within in (
+      λ set. left.1 (ends.0 (told.0 set)),
+      λ leaves. told.1 (ends.1 (left.0 leaves)),
     )
 
 take-front : {A : Type 0} (n : ℕ) (xs ys : List A) → n ≤ length xs → take n (xs ++ ys) ≡ take n xs

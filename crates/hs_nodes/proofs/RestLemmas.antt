@@ -1,7 +1,7 @@
 -- Nodes that are passed over.
-use Rattle.std.proofs.Common.{◌≡◌, ◌⊎◌, ◌↔◌, ℕ, zero, suc, ◌+◌, ◌-◌, ◌*◌, ◌%◌, ◌^◌, ◌<◌, ◌≤◌, min, Bool, true, false, ◌&&◌, List, [], ◌∷◌, ◌++◌, length, get_or, take, drop, replicate, slice_get, Option, Some, None, refl, sym, ap, subst, ◌∙◌, inl, inr, arith, append_assoc}
+use Rattle.std.proofs.Common.{◌≡◌, ◌⊎◌, ◌↔◌, ℕ, zero, suc, ◌+◌, ◌-◌, ◌<◌, ◌≤◌, Bool, true, false, ◌&&◌, List, [], ◌∷◌, ◌++◌, length, get_or, take, replicate, slice_get, Option, Some, None, refl, sym, ap, subst, ◌∙◌, inl, inr, arith, append_assoc}
 use Rattle.std.specs.Prelude.{nat_lt}
-use Rattle.std.proofs.lemmas.List.{append-nil, replicate_more, take_all, take-append-drop}
+use Rattle.std.proofs.lemmas.List.{append-nil, replicate_more, take_all}
 use Rattle.std.proofs.lemmas.Option.{slice_get-get_or}
 use Rattle.hs_base.specs.declared.context.Mask.{Mask}
 use Rattle.hs_base.specs.declared.context.Next.{Next}
@@ -9,23 +9,16 @@ use Rattle.hs_base.specs.declared.context.Next.TheVariants as after
 use Rattle.hs_base.specs.Bits.{has_bit}
 use Rattle.hs_base.specs.Chains.{Piece, lit, nfa, piece_tree, IsFitChain}
 use Rattle.hs_base.specs.Contexts.{class_of}
-use Rattle.hs_base.specs.Fields.{entered_always}
 use Rattle.hs_base.specs.Leaving.{AreEntered, IsEmptyAt, LeavesAt, LeavesBehind}
-use Rattle.hs_base.specs.LiteralEnds.{EndsAt}
 use Rattle.hs_base.specs.LiteralRows.{TellsEntries, shifted}
 use Rattle.hs_base.specs.Literals.{LiteralByte}
 use Rattle.hs_base.specs.Lists.{Each}
-use Rattle.hs_base.specs.Spans.{Spans}
 use Rattle.hs_base.proofs.ChainStreamLemmas.{leaves-last, leaving-begins}
-use Rattle.hs_base.proofs.ContextLemmas.{second_of_both}
-use Rattle.hs_base.proofs.EntryLemmas.{entries-grow, first-entered, leaves-listed}
-use Rattle.hs_base.proofs.ListLemmas.{each-left, each-right}
-use Rattle.hs_base.proofs.LiteralRowLemmas.{literal-spans_end, literals-leave, literals-step}
-use Rattle.hs_block.specs.LiteralBlocks.{turned}
-use Rattle.hs_block.specs.WordBits.{word_bit}
-use Rattle.hs_block.proofs.BlockLemmas.{block-more, length-block}
-use Rattle.hs_block.proofs.LiteralBlockLemmas.{ends-longer, never-empty}
-use Rattle.hs_block.proofs.PlaceLemmas.{less}
+use Rattle.hs_base.proofs.EntryLemmas.{entries-grow, leaves-listed}
+use Rattle.hs_base.proofs.ListLemmas.{each-right}
+use Rattle.hs_base.proofs.LiteralRowLemmas.{literals-leave, literals-step}
+use Rattle.hs_block.proofs.BlockLemmas.{block-more}
+use Rattle.hs_block.proofs.LiteralBlockLemmas.{never-empty}
 use Rattle.hs_engine.specs.Engines.{Meaning}
 use Rattle.hs_nodes.specs.declared.hits.ChunkHits.{ChunkHits}
 use Rattle.hs_nodes.specs.declared.table.NodeKind.{NodeKind}
@@ -35,10 +28,9 @@ use Rattle.hs_nodes.specs.Hits.{AreChunkHits, KeepsEntries, is_hit_at}
 use Rattle.hs_nodes.specs.Nodes.{AreHitsOf, HoldsPiece, IsAtRest, IsKindSound, IsLiteralOf, IsUnwoken, MayRest, RunsPiece}
 use Rattle.hs_nodes.specs.Pieces.{IsHeld, IsHeldBy}
 use Rattle.hs_nodes.specs.Walks.{StandsBehind}
-use Rattle.hs_nodes.proofs.FirstLemmas.{every-tells, every-turned}
 use Rattle.hs_nodes.proofs.FlatLemmas.{AreLeftNowhere}
 use Rattle.hs_nodes.proofs.KindLemmas.{one-value}
-use Rattle.hs_nodes.proofs.PairLemmas.{pair-passed}
+use Rattle.hs_nodes.proofs.PairLemmas.{first-left, pair-passed}
 use Rattle.hs_nodes.proofs.PassLemmas.{passed-all, passed-nowhere}
 
 no-truth : {A : Type 0} → (A → ⊥) → (false ≡ true) ↔ A
@@ -149,39 +141,15 @@ module _ (pieces rest : List Piece) (literal : List LiteralByte) (m : ℕ) (part
 -- a first literal that ends nowhere in the chunk
 module _ (rest : List Piece) (literal : List LiteralByte) (m : ℕ) (u bytes : List ℕ) (own : ChunkHits) (fit : IsFitChain (lit literal ∷ rest)) (count : length literal ≡ suc m) (short : suc m ≤ 32) (small : Each (λ b. b < 256) (u ++ bytes)) (are : AreChunkHits own literal u bytes)
     (none : (i : ℕ) → i ≤ length bytes → is_hit_at own i ≡ false) where
-  upto : (i : ℕ) → u ++ bytes ≡ (u ++ take i bytes) ++ drop i bytes
-  upto i = ap (λ v. u ++ v) (sym (take-append-drop i bytes)) ∙ sym (append_assoc u (take i bytes) (drop i bytes))
-
-  no-end : (i : ℕ) → i ≤ length bytes → EndsAt literal (u ++ take i bytes) (length (u ++ take i bytes)) → ⊥
-  no-end i within ends =
-      let long : EndsAt literal (u ++ bytes) (length (u ++ take i bytes)) = subst (λ v. EndsAt literal v (length (u ++ take i bytes))) (sym (upto i)) (ends-longer literal (u ++ take i bytes) (drop i bytes) (length (u ++ take i bytes)) ends) in
-      let set : is_hit_at own i ≡ true = (are i within).1 (subst (λ n. EndsAt literal (u ++ bytes) n) (length-block u bytes i within) long) in
+  clash : (i : ℕ) → i ≤ length bytes → (next : Next) → LeavesAt (lit literal ∷ []) (u ++ take i bytes) next → ⊥
+  clash i within next leaves =
+      let set : is_hit_at own i ≡ true = (first-left literal rest u bytes own (omega (arith, count)) fit small are i within next).1 leaves in
       let both : true ≡ false = sym set ∙ none i within in absurd (cc)
-
-  not-first : (i : ℕ) → i ≤ length bytes → (next : Next) → LeavesBehind [] (lit literal) (u ++ take i bytes) next → ⊥
-  not-first i within next leaves =
-      let w = u ++ take i bytes in
-      let back = min (suc m) (length w) in
-      let bit = turned (suc m) (word_bit (18446744073709551615 * 2 ^ (suc m - back) % 18446744073709551616)) in
-      let tells : TellsEntries (suc m) bit w (entered_always w) = every-tells (suc m) (length w) back refl short w refl in
-      let entered = first-entered w in
-      let out = (literals-leave literal m bit w (entered_always w) next count entered.count tells).0 ((leaves-listed [] (lit literal) w (entered_always w) next entered).0 leaves) in
-      let both : (nat_lt m (suc m) && nat_lt m (length w)) ≡ true = sym (every-turned (suc m) (length w) back m refl short) ∙ out.0 in
-      let room : m < length w = less m (length w) (second_of_both (nat_lt m (suc m)) (nat_lt m (length w)) both) in
-      let from = length w - suc m in
-      let end : from + length literal ≡ length w = omega arith in
-      let bytes_are : Each (λ b. b < 256) w = each-left (λ b. b < 256) w (drop i bytes) (subst (λ v. Each (λ b. b < 256) v) (upto i) small) in
-      let told = literal-spans_end literal w false from (omega arith) bytes_are in
-      no-end i within (subst (λ n. EndsAt literal w n) end (told.0 (subst (λ n. Spans w false (piece_tree (lit literal)) from n) (sym end) out.1)))
-
-  first-refuted : (i : ℕ) → i ≤ length bytes → (next : Next) → LeavesBehind [] (lit literal) (u ++ take i bytes) next ⊎ (LeavesAt [] (u ++ take i bytes) next × IsEmptyAt (piece_tree (lit literal)) (u ++ take i bytes) next) → ⊥
-  first-refuted i within next (inl leaves) = not-first i within next leaves
-  first-refuted i within next (inr both) = never-empty literal (u ++ take i bytes) next (omega arith) both.1
 
   pub first-passed : AreLeftNowhere (lit literal ∷ []) u bytes
   first-passed = record {
-    before = λ i low leaves. first-refuted i (omega arith) (class_of (get_or bytes i 0)) (leaves-last [] rest (lit literal) (u ++ take i bytes) (class_of (get_or bytes i 0)) fit leaves);
-    behind = λ i low leaves. first-refuted (i + 1) (omega arith) after.Unknown (leaves-last [] rest (lit literal) (u ++ take (i + 1) bytes) after.Unknown fit leaves);
+    before = λ i low leaves. clash i (omega arith) (class_of (get_or bytes i 0)) leaves;
+    behind = λ i low leaves. clash (i + 1) (omega arith) after.Unknown leaves;
   }
 
 -- the pieces before a node that is passed over: none, or such that are left nowhere

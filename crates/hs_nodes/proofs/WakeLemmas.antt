@@ -6,7 +6,7 @@ use Rattle.hs_base.specs.declared.byte_set.ByteSet.{ByteSet}
 use Rattle.hs_base.specs.declared.context.Mask.{Mask}
 use Rattle.hs_engine.specs.Engines.{Meaning}
 use Rattle.hs_nodes.specs.Hits.{is_hit_at}
-use Rattle.hs_nodes.specs.Marks.{is_marked}
+use Rattle.hs_reports.specs.Marks.{is_marked}
 use Rattle.hs_nodes.specs.Resting.{AreNodesResting, AreNodesUnwoken, IsUnwokenIn, SleepsThrough}
 use Rattle.hs_nodes.specs.Waking.{AreEnginesUnwoken, AreRowsSound, AreWakesSound, IsKindAsleep, IsListed, is_never_empty, row_numbers, waking_literal}
 use Rattle.hs_nodes.specs.Walks.{AreMoreMarks, IsAmongChildren}

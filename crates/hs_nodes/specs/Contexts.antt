@@ -1,5 +1,5 @@
 -- The contexts of the places of a chunk, and where an expression has the empty span.
-use Rattle.std.specs.Prelude.{◌≡◌, ◌↔◌, ℕ, ◌*◌, ◌<◌, true, List, length, Option, Some, None, slice_get}
+use Rattle.std.specs.Prelude.{◌≡◌, ◌↔◌, ℕ, ◌*◌, ◌<◌, Bool, true, false, List, length, Option, Some, None, slice_get}
 use Rattle.hs_base.specs.declared.context.Mask.{Mask}
 use Rattle.hs_base.specs.declared.context.Next.{Next}
 use Rattle.hs_base.specs.declared.context.Prev.{Prev}
@@ -32,3 +32,11 @@ NeedsContexts (Engine number (Some mask)) = Unit {0}
 NeedsContexts (Literal number len) = ⊥
 NeedsContexts (FirstLiteral number len) = ⊥
 NeedsContexts (LookBack pair) = ⊥
+
+-- whether it does
+abbrev pub asks_contexts : NodeKind → Bool
+asks_contexts (Engine number None) = false
+asks_contexts (Engine number (Some mask)) = true
+asks_contexts (Literal number len) = false
+asks_contexts (FirstLiteral number len) = false
+asks_contexts (LookBack pair) = false

@@ -1,9 +1,10 @@
 -- The ends of identifiers in a block, from where the nodes are left.
-use Rattle.std.specs.Prelude.{◌≡◌, ℕ, ◌+◌, ◌*◌, List, slice_index, slice_index_or, slice_range}
+use Rattle.std.specs.Prelude.{◌≡◌, ℕ, ◌+◌, ◌*◌, ◌<◌, ◌≤◌, List, slice_index, slice_index_or, slice_range}
 use Rattle.hs_engine.specs.Engines.{Meaning}
 use Rattle.hs_reports.specs.EndTables.{EndTable}
 use Rattle.hs_reports.specs.Gathering.{AreEndsBelow}
 use Rattle.hs_reports.specs.declared.terminal.Terminal.{Terminal}
+use Rattle.hs_nodes.specs.Walks.{node_ends}
 use Rattle.hs_nodes.specs.declared.ends.ChunkEnds.{ChunkEnds}
 use Rattle.hs_nodes.specs.declared.graph.Graph.{Graph}
 
@@ -17,6 +18,22 @@ left_before ends all block k = slice_index (ends_or_all ends all k).before block
 
 abbrev pub left_behind : (ends : List ChunkEnds) (all : ChunkEnds) (block k : ℕ) → ℕ
 left_behind ends all block k = slice_index (ends_or_all ends all k).behind block
+
+-- The node is left nowhere in that block.
+pub record IsPassed (ends : ChunkEnds) (block : ℕ) : Type 0 where
+  pub before_is : slice_index ends.before block ≡ 0
+  pub behind_is : slice_index ends.behind block ≡ 0
+
+-- In a block whose word is 0 no node is left anywhere.
+abbrev pub AreBusy : List ChunkEnds → (words : List ℕ) → Type 0
+AreBusy ends words =
+    (block k : ℕ) → block < 8 → slice_index words block ≡ 0 → IsPassed (node_ends ends k) block
+
+-- A word of the first so many blocks is 0 then only if it was and the node is left nowhere in the block; the others
+-- stay.
+pub record AddsBusy (own : ChunkEnds) (count : ℕ) (old new : List ℕ) : Type 0 where
+  pub below : (j : ℕ) → j < count → slice_index new j ≡ 0 → (slice_index old j ≡ 0) × IsPassed own j
+  pub above : (j : ℕ) → count ≤ j → slice_index new j ≡ slice_index old j
 
 -- the terminals of the node of that number
 abbrev pub terminals_of : {E : Type 0} → Graph E → ℕ → List Terminal

@@ -1,8 +1,6 @@
-//! What holds where pieces are entered at every offset: of a first piece, and of a first literal.
+//! Where pieces are entered at every offset.
 
-ghost use Rattle.std.specs.Prelude.{◌≡◌, ◌≤◌, ℕ, List, []};
-ghost use Rattle.hs_nodes.specs.FirstLiterals.{TellsEveryEntry};
-ghost use Rattle.hs_nodes.specs.Hits.{IsCarryAt};
+ghost use Rattle.std.specs.Prelude.{ℕ, List, []};
 ghost use Rattle.hs_nodes.specs.Left.{AreLeftIn};
 
 use crate::chunk::Chunk;
@@ -20,14 +18,4 @@ pub fn everywhere(chunk: &Chunk) -> ChunkEnds
         ends.behind[j] = all;
     }
     ends
-}
-
-/// The entries that still count of a literal that is entered at each of so many offsets.
-pub(crate) fn every_entry(len: usize, at: u64) -> u64
-    requires { len ≤ 32 }
-    ensures tells { TellsEveryEntry len result at }
-    ensures well { IsCarryAt len result at }
-{
-    let back = (len as u64).min(at);
-    u64::MAX << (len as u64 - back)
 }

@@ -2,19 +2,35 @@
 
 ghost use Rattle.std.specs.Prelude.{◌≡◌, ℕ, ◌+◌, ◌*◌, ◌<◌, ◌≤◌, ◌^◌, true, false, length, Some, slice_get};
 ghost use Rattle.hs_nodes.specs.Left.{nowhere};
-ghost use Rattle.hs_nodes.specs.Marks.{is_marked, mark_room};
+ghost use Rattle.hs_reports.specs.Marks.{is_marked, mark_room};
 ghost use Rattle.hs_nodes.specs.Walks.{node_ends};
 ghost use Rattle.hs_reports.specs.EndTables.{HasNoEnds, is_noted};
 ghost use Rattle.hs_reports.specs.Gathering.{AreEndsBelow};
 ghost use Rattle.hs_nodes.specs.Graphs.{AreTerminalsSound};
-ghost use Rattle.hs_nodes.specs.Gathering.{AreGathered, GathersNode, terminals_of};
+ghost use Rattle.hs_nodes.specs.Gathering.{AddsBusy, AreBusy, AreGathered, GathersNode, terminals_of};
 
-use crate::chunk::BLOCK_BYTES;
+use crate::chunk::{BLOCK_BYTES, MAX_BLOCKS};
 use crate::ends::ChunkEnds;
 use crate::graph::Graph;
-use crate::marks::MarkSet;
 use hs_block::BlockEngine;
-use hs_reports::{IdentifierEnds, Terminal};
+use hs_reports::{IdentifierEnds, MarkSet, Terminal};
+
+/// Where the nodes are left in a chunk.
+#[derive(Clone, Copy, Debug)]
+pub struct NodeEnds<'m, 'e, 'a> {
+    /// The nodes that may be left somewhere.
+    pub marks: &'m MarkSet,
+    /// Where each node is left.
+    pub ends: &'e [ChunkEnds],
+    /// Everywhere: there no pieces are left.
+    pub all: &'a ChunkEnds,
+    /// For each block a word that is 0 where no node is left anywhere in it.
+    pub busy: [u64; MAX_BLOCKS],
+    ghost room: { length ends.now ≤ mark_room marks.now },
+    ghost known: { (k : ℕ) → is_marked marks.now k ≡ true → k < length ends.now },
+    ghost rest: { (k : ℕ) → k < length ends.now → is_marked marks.now k ≡ false → node_ends ends.now k ≡ nowhere },
+    ghost are_busy: { AreBusy ends.now busy },
+}
 
 /// Where the node of that number is left.
 fn ends_at(ends: &[ChunkEnds], k: usize) -> &ChunkEnds
@@ -52,6 +68,9 @@ fn gather_node<E: BlockEngine>(
     ensures noted { (p : ℕ) → is_noted table.old p ≡ true → is_noted table.new p ≡ true }
     ensures goes_on { GathersNode graph.now node at before behind table.old table.new }
 {
+    if before == 0 && behind == 0 {
+        return;
+    }
     table.add_all(terminals_of(graph, node), at, before, behind);
 }
 
@@ -97,6 +116,67 @@ pub fn gather_block<E: BlockEngine>(
         all.behind[block],
         table,
     );
+}
+
+/// The same, with no look at the nodes in a block in which none is left.
+pub fn gather_left<E: BlockEngine>(
+    graph: &Graph<E>,
+    left: &NodeEnds,
+    block: usize,
+    at: u64,
+    table: &mut IdentifierEnds,
+)
+    requires sound { AreTerminalsSound graph.now }
+    requires ends { length left.now.ends.now ≡ length graph.now.table.nodes.items }
+    requires few { length graph.now.table.nodes.items < 2 ^ 32 }
+    requires block { block < 8 }
+    requires count { length table.old.words ≡ length graph.now.identifiers.items }
+    requires none { HasNoEnds table.old }
+    requires room { at + 64 * block < 2 ^ 63 }
+    ensures count { length table.new.words ≡ length table.old.words }
+    ensures noted { (p : ℕ) → is_noted table.old p ≡ true → is_noted table.new p ≡ true }
+    ensures gathered { AreGathered E.meaning graph.now left.now.ends.now left.now.all.now at block
+        (length graph.now.table.nodes.items + 1) table.new }
+{
+    if left.busy[block] != 0 {
+        gather_block(graph, left.marks, left.ends, left.all, block, at, table);
+        return;
+    }
+    gather_node(
+        graph,
+        graph.table.nodes.len(),
+        at + (BLOCK_BYTES * block) as u64,
+        left.all.before[block],
+        left.all.behind[block],
+        table,
+    );
+}
+
+/// Adds the places of a block about which a node is left, for each block.
+fn add_busy(busy: &mut [u64; MAX_BLOCKS], own: &ChunkEnds)
+    ensures { AddsBusy own.now 8 busy.old busy.new }
+{
+    for block in 0..MAX_BLOCKS {
+        busy[block] |= own.before[block] | own.behind[block];
+    }
+}
+
+/// For each block of a chunk a word that is 0 where no node is left anywhere in it. Nodes that aren't marked are left
+/// nowhere.
+pub fn busy_words(marks: &MarkSet, ends: &[ChunkEnds]) -> [u64; MAX_BLOCKS]
+    requires room { length ends.now ≤ mark_room marks.now }
+    requires known { (k : ℕ) → is_marked marks.now k ≡ true → k < length ends.now }
+    requires rest { (k : ℕ) → k < length ends.now → is_marked marks.now k ≡ false →
+        node_ends ends.now k ≡ nowhere }
+    ensures { AreBusy ends.now result }
+{
+    let mut busy = [0; MAX_BLOCKS];
+    let mut from = 0;
+    while let Some(k) = marks.next(from) {
+        add_busy(&mut busy, ends_at(ends, k));
+        from = k + 1;
+    }
+    busy
 }
 
 /// So many, if that is wanted, or none.

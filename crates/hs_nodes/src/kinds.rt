@@ -7,10 +7,9 @@ ghost use Rattle.hs_nodes.specs.Nodes.{IsKindSound, IsWellPart, TakesPiece, most
 use crate::chunk::Chunk;
 use crate::ends::ChunkEnds;
 use crate::engines::run_engine;
-use crate::first::every_entry;
 use crate::hits::ChunkHits;
-use crate::literals::{run_entries, run_literal_part};
-use crate::look_back::run_pair;
+use crate::literals::run_literal_part;
+use crate::look_back::{ends_of, run_pair};
 use crate::nulls::null_ends;
 use crate::table::NodeKind;
 use hs_block::{BlockEngine, Contexts};
@@ -19,7 +18,7 @@ use std::sync::ledger::Ledger;
 
 /// What nodes ask in a chunk beside its bytes.
 #[derive(Clone, Copy, Debug)]
-pub struct Found<'c, 'h> {
+pub(crate) struct Found<'c, 'h> {
     /// The contexts of its blocks, if a node has a mask.
     pub contexts: &'c [Contexts],
     /// Where each literal ends in it.
@@ -61,16 +60,7 @@ pub(crate) fn run_kind<E: BlockEngine, L: Ledger>(
                 enters,
             )
         }
-        NodeKind::FirstLiteral(number, len) => {
-            let mut carry = every_entry(len as usize, chunk.at);
-            run_entries(
-                len as usize,
-                &mut carry,
-                chunk,
-                &found.hits[number as usize],
-                enters,
-            )
-        }
+        NodeKind::FirstLiteral(number, _) => ends_of(chunk, &found.hits[number as usize]),
         NodeKind::LookBack(pair) => run_pair(
             &engines[pair.engine as usize],
             &pair,

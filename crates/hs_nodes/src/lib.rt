@@ -2,6 +2,7 @@
 #![tactic(auto)]
 
 mod chunk;
+mod contexts;
 mod ends;
 mod engines;
 mod first;
@@ -14,7 +15,6 @@ mod leaving;
 mod literals;
 mod living;
 mod look_back;
-mod marks;
 mod nulls;
 mod settling;
 mod table;
@@ -25,15 +25,14 @@ mod walking;
 pub use chunk::{BLOCK_BYTES, Chunk, MAX_BLOCKS, MAX_CHUNK, PAST_BYTES};
 pub use ends::ChunkEnds;
 pub use first::everywhere;
-pub use gathering::{gather_all, gather_block};
+pub use gathering::{NodeEnds, busy_words, gather_all, gather_block, gather_left};
 pub use graph::{FieldCopy, Graph, copy_at};
 pub use hits::ChunkHits;
-pub use kinds::Found;
+pub use hs_reports::MarkSet;
 pub use laws::resting_nodes;
 pub use leaving::{Stop, ends_if, leave_nodes};
 pub use living::{idle_engines, mark_live, next_live};
 pub use look_back::leaves_at_start;
-pub use marks::MarkSet;
 pub use nulls::chunk_contexts;
 pub use settling::settle;
 pub use table::{LookBackPair, MAX_LOOK_BACK, MAX_LOOK_BACK_REGION, Node, NodeKind, NodeTable};

@@ -195,7 +195,7 @@ fn find_pair<E: Engine, L: Ledger>(
 }
 
 /// Where pieces are left in a chunk, by the places where they are, whatever comes next.
-fn ends_of(chunk: &Chunk, left: &ChunkHits) -> ChunkEnds
+pub(crate) fn ends_of(chunk: &Chunk, left: &ChunkHits) -> ChunkEnds
     ensures { (pieces : List Piece) (u : List ℕ) → AreLeftAt left.now pieces u chunk.now.bytes.now →
         AreLeftIn pieces u chunk.now.bytes.now result }
 {

@@ -2,7 +2,7 @@
 
 ghost use Rattle.std.specs.Prelude.{◌≡◌, ◌<◌, ◌≤◌, ℕ, List, true, false, length, Some, slice_get, slice_index};
 ghost use Rattle.hs_base.specs.declared.byte_set.ByteSet.{ByteSet};
-ghost use Rattle.hs_nodes.specs.Marks.{is_marked, mark_room};
+ghost use Rattle.hs_reports.specs.Marks.{is_marked, mark_room};
 ghost use Rattle.hs_nodes.specs.Waking.{AreEnginesUnwoken, AreRowsSound, AreWakesSound, IsKindAsleep};
 ghost use Rattle.hs_nodes.specs.Waking.{is_never_empty, row_numbers};
 ghost use Rattle.hs_nodes.specs.Walks.{AreMoreMarks, IsAmongChildren};
@@ -12,11 +12,11 @@ ghost use Rattle.hs_waking.specs.ChunkWords.{AreOfChunk};
 ghost use Rattle.hs_waking.specs.Fits.{FitsNowhere, IsRowBy};
 
 use crate::graph::Graph;
-use crate::marks::MarkSet;
 use crate::table::NodeKind;
 use crate::wake_table::WakeTable;
 use crate::walking::{mark_all, node_at, start_of};
 use hs_engine::Engine;
+use hs_reports::MarkSet;
 use hs_waking::{ClassWords, fits};
 
 /// Marks the nodes that the literal of that number wakes.

@@ -3,20 +3,23 @@
 ghost use Rattle.std.specs.Prelude.{◌≡◌, ℕ, ◌+◌, ◌*◌, ◌<◌, ◌≤◌, true, length, slice_get, slice_index, EachIndex, Some};
 ghost use Rattle.hs_nodes.specs.Contexts.{AreChunkContexts, NeedsContexts};
 ghost use Rattle.hs_nodes.specs.Left.{nowhere};
-ghost use Rattle.hs_nodes.specs.Marks.{is_marked, mark_room};
+ghost use Rattle.hs_reports.specs.Marks.{is_marked, mark_room};
 ghost use Rattle.hs_nodes.specs.Nodes.{IsWellPart, most_ticks};
 ghost use Rattle.hs_nodes.specs.Walks.{AreMoreMarks, AreNodesWell, ChangesMarked, IsNodeRun, IsTableSound};
 ghost use Rattle.hs_nodes.specs.Walks.{MayNodesRest, TakesNodes, entering_ends, node_ends, node_part, nodes_ticks};
 ghost use Rattle.hs_nodes.specs.declared.table.Node.{Node};
 
-use crate::chunk::Chunk;
+use crate::chunk::{Chunk, MAX_BLOCKS};
+use crate::contexts::make_contexts;
 use crate::ends::ChunkEnds;
 use crate::first::everywhere;
+use crate::hits::ChunkHits;
 use crate::kinds::{Found, run_kind};
-use crate::marks::MarkSet;
 use crate::table::{Node, NodeTable};
-use hs_block::BlockEngine;
+use hs_base::Prev;
+use hs_block::{BlockEngine, Contexts};
 use hs_engine::Steps;
+use hs_reports::MarkSet;
 use std::sync::ledger::Ledger;
 
 /// The node of that number.
@@ -126,35 +129,39 @@ fn mark_children<E>(table: &NodeTable<E>, k: usize, marks: &mut MarkSet)
 pub fn walk<E: BlockEngine, L: Ledger>(
     table: &NodeTable<E>,
     chunk: &Chunk,
-    found: &Found,
+    hits: &[ChunkHits],
     region: &mut [u8],
     ends: &mut [ChunkEnds],
     marks: &mut MarkSet,
     steps: &mut Steps<L>,
 )
-    requires sound { IsTableSound E.meaning table.now (length found.now.hits.now) (length region.old) }
+    requires sound { IsTableSound E.meaning table.now (length hits.now) (length region.old) }
     requires well { AreNodesWell E.meaning table.now region.old chunk.now.at }
     requires ends { length ends.old ≡ length table.now.nodes.items }
     requires clear { (k : ℕ) → node_ends ends.old k ≡ nowhere }
     requires room { length table.now.nodes.items ≤ mark_room marks.old }
     requires marked { (k : ℕ) → is_marked marks.old k ≡ true → k < length table.now.nodes.items }
-    requires rests { MayNodesRest E.meaning table.now marks.old found.now.hits.now region.old chunk.now.bytes.now }
-    requires contexts { (k : ℕ) (node : Node) → slice_get table.now.nodes.items k ≡ Some node →
-        NeedsContexts node.kind →
-        AreChunkContexts found.now.contexts.now chunk.now.prev chunk.now.at chunk.now.bytes.now }
+    requires rests { MayNodesRest E.meaning table.now marks.old hits.now region.old chunk.now.bytes.now }
     ensures well { AreNodesWell E.meaning table.now region.new (chunk.now.at + length chunk.now.bytes.now) }
     ensures ends { length ends.new ≡ length ends.old }
     ensures marks { AreMoreMarks (length table.now.nodes.items) marks.old marks.new }
     ensures changes { ChangesMarked E.meaning table.now marks.new region.old region.new ends.new }
     ensures ticks { steps.new ≤
-        steps.old + nodes_ticks table.now.nodes.items found.now.hits.now (length chunk.now.bytes.now) }
+        steps.old + nodes_ticks table.now.nodes.items hits.now (length chunk.now.bytes.now) }
     ensures takes { TakesNodes E.meaning table.now region.old region.new chunk.now.prev chunk.now.at
-        chunk.now.past.now chunk.now.bytes.now found.now.hits.now ends.new }
+        chunk.now.past.now chunk.now.bytes.now hits.now ends.new }
 {
     let all = everywhere(chunk);
+    let mut contexts = [Contexts::new(Prev::Start, &[]); MAX_BLOCKS];
+    let mut are_made = false;
     let mut from = 0;
     while let Some(k) = marks.next(from) {
-        run_node(table, k, chunk, found, &all, region, ends, steps);
+        are_made = make_contexts(node_at(table, k).kind, chunk, &mut contexts, are_made);
+        let found = Found {
+            contexts: &contexts,
+            hits,
+        };
+        run_node(table, k, chunk, &found, &all, region, ends, steps);
         if !ends[k].is_nowhere() {
             mark_children(table, k, marks);
         }

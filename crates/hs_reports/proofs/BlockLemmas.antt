@@ -29,7 +29,7 @@ values-same f g n same =
 pub where-same : (ids : List ℕ) (f g : ℕ → Bool) (to : ℕ) → ((k : ℕ) → k < length ids → f k ≡ g k) → pairs_where ids f to ≡ pairs_where ids g to
 where-same ids f g to same = ap (λ values. pairs_told ids values to) (values-same f g (length ids) same)
 
-where-none : (ids : List ℕ) (f : ℕ → Bool) (to : ℕ) → ((k : ℕ) → k < length ids → f k ≡ false) → pairs_where ids f to ≡ []
+pub where-none : (ids : List ℕ) (f : ℕ → Bool) (to : ℕ) → ((k : ℕ) → k < length ids → f k ≡ false) → pairs_where ids f to ≡ []
 where-none ids f to none =
     pairs-of_none ids (values_by f (length ids)) (λ id. ⊥) to
     (tell-by ids f (λ id. ⊥) (λ k id named. (

@@ -4,7 +4,7 @@ use Rattle.std.specs.List.{list_any}
 use Rattle.std.proofs.lemmas.Bool.{cases_lt, cases_eq, eq-eqb, ne_eqb}
 use Rattle.std.proofs.lemmas.List.{length-replicate, get_or-replicate, get_or_past}
 use Rattle.hs_base.proofs.ByteSetLemmas.{or-false}
-use Rattle.hs_bits.proofs.WordLemmas.{words-zero}
+use Rattle.hs_base.specs.Bits.{has_word_bit}
 use Rattle.hs_reports.specs.declared.end_words.EndWords.{EndWords}
 use Rattle.hs_reports.specs.declared.terminal.Terminal.{Terminal}
 use Rattle.hs_reports.specs.EndTables.{no_words, EndTable, end_table, words_of, united, IsBlank, AddsEnds, Unites}
@@ -18,11 +18,11 @@ copies n i a = elim (cases_lt i n) [
   | inr past ↦ get_or_past (replicate n a) i a (omega (arith, length-replicate n a))
 ]
 
-pub blank : (words : List EndWords) (noted : List ℕ) (count n : ℕ) → words ≡ replicate count no_words → noted ≡ replicate n 0 → IsBlank (end_table words noted) count
-blank words noted count n is is' = record {
+pub blank : (words : List EndWords) (noted : List ℕ) (count : ℕ) → words ≡ replicate count no_words → ((p : ℕ) → has_word_bit noted p ≡ false) → IsBlank (end_table words noted) count
+blank words noted count is none = record {
   count_is = ap (λ xs. length xs) is ∙ length-replicate count no_words;
   words = λ p. ap (λ xs. get_or xs p no_words) is ∙ copies count p no_words;
-  noted = λ p. words-zero noted (λ i. ap (λ xs. get_or xs i 0) is' ∙ copies n i 0) p;
+  noted = none;
 }
 
 -- one terminal

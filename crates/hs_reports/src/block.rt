@@ -30,12 +30,14 @@ pub fn tell_block<V: Events>(
     ensures { Through V.tells events.old
         (chunk_pairs (id_numbers ids.now) (row_bit lates.now) (row_bit earlies.now) at (last + 1)) events.new }
 {
-    let mut left = (united(lates) | united(earlies)) & places_to(last as u64);
+    let late = united(lates);
+    let early = united(earlies);
+    let mut left = (late | early) & places_to(last as u64);
     while left != 0 {
         let place = lowest_bit(left);
         let here = at + place as u64;
-        tell_place(ids, lates, place, here, events);
-        tell_place(ids, earlies, place, here + 1, events);
+        tell_any(ids, lates, late, place, here, events);
+        tell_any(ids, earlies, early, place, here + 1, events);
         left = without_lowest_bit(left);
     }
 }
@@ -49,6 +51,27 @@ fn united(words: &[u64]) -> u64
         all |= *word;
     }
     all
+}
+
+/// Reports the pairs with the end `to` of those identifiers whose words have the bit of that place, if one of them may:
+/// `all` has the bits that are set in a word.
+fn tell_any<V: Events>(
+    ids: &[ExprId],
+    words: &[u64],
+    all: u64,
+    place: usize,
+    to: u64,
+    events: &mut V,
+)
+    requires words { length words.now ≡ length ids.now }
+    requires all { (i : ℕ) → word_bit all i ≡ false → (k : ℕ) → row_bit words.now k i ≡ false }
+    requires place { place < 64 }
+    ensures { Through V.tells events.old
+        (pairs_where (id_numbers ids.now) (λ k. row_bit words.now k place) to) events.new }
+{
+    if has_bit(all, place) {
+        tell_place(ids, words, place, to, events);
+    }
 }
 
 /// Reports the pairs with the end `to` of those identifiers whose words have the bit of that place.

@@ -7,8 +7,8 @@ ghost use Rattle.hs_reports.specs.EndTables.{AddsEnds, IsBlank, IsQuiet, NotesRo
 ghost use Rattle.hs_reports.specs.EndTables.{identifier_at, words_of};
 
 use crate::end_words::EndWords;
+use crate::marks::MarkSet;
 use crate::terminal::{Terminal, bound_word};
-use hs_bits::{insert_word_bit, next_bit_in, unite_words, word_count_for, write_word_bit};
 use std::alloc::{AllocError, Global};
 use std::marker::Model;
 
@@ -17,7 +17,7 @@ use std::marker::Model;
 #[derive(Drop)]
 pub struct IdentifierEnds {
     words: Vec<EndWords>,
-    noted: Vec<u64>,
+    noted: MarkSet,
 }
 
 impl Model for IdentifierEnds {
@@ -25,9 +25,9 @@ impl Model for IdentifierEnds {
 
     ghost Value = { EndTable };
 
-    ghost view = { λ e. end_table e.words.items e.noted.items };
+    ghost view = { λ e. end_table e.words.items e.noted };
 
-    ghost invariant = { λ e. IsEndTable (end_table e.words.items e.noted.items) };
+    ghost invariant = { λ e. IsEndTable (end_table e.words.items e.noted) };
 }
 
 impl IdentifierEnds {
@@ -38,7 +38,7 @@ impl IdentifierEnds {
     {
         Ok(IdentifierEnds {
             words: vec![in alloc; EndWords::NONE; count]?,
-            noted: vec![in alloc; 0; word_count_for(count)]?,
+            noted: MarkSet::new(alloc, count)?,
         })
     }
 
@@ -85,7 +85,7 @@ impl IdentifierEnds {
             before: words.before | before,
             behind: words.behind | behind,
         };
-        insert_word_bit(&mut self.noted, place);
+        self.noted.write(place, true);
     }
 
     /// Notes those identifiers whose bit is set in the row.
@@ -93,7 +93,7 @@ impl IdentifierEnds {
         requires { length row.now ≡ word_count (length self.old.words) }
         ensures { NotesRow self.old self.new row.now }
     {
-        unite_words(&mut self.noted, row);
+        self.noted.mark_row(row);
     }
 
     /// The first identifier that is noted from a number on, if there is one.
@@ -101,7 +101,7 @@ impl IdentifierEnds {
         ensures next { IsNextBitIn (has_word_bit self.now.noted) from (length self.now.words) result }
         ensures quiet { IsQuiet self.now }
     {
-        next_bit_in(&self.noted, from, self.words.len())
+        self.noted.next_before(from, self.words.len())
     }
 
     /// Where matches of the identifier of that number end.
@@ -118,6 +118,6 @@ impl IdentifierEnds {
         ensures { Resets self.old self.new place stays }
     {
         self.words[place] = EndWords::NONE;
-        write_word_bit(&mut self.noted, place, stays);
+        self.noted.write(place, stays);
     }
 }

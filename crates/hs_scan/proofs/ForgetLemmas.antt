@@ -5,7 +5,7 @@ use Rattle.std.proofs.lemmas.Bool.{cases_lt, eq-eqb}
 use Rattle.std.specs.Slice.Scan.{HoldsNowhere}
 use Rattle.hs_bits.specs.NextBits.{IsNextBit}
 use Rattle.hs_reports.specs.EndTables.{EndTable, IsQuiet, Resets, is_noted, no_words, words_of}
-use Rattle.hs_scan.proofs.FillLemmas.{get-past}
+use Rattle.hs_nodes.proofs.FillLemmas.{get-past}
 
 -- the first so many identifiers have no end
 pub record AreForgotten (count from : ℕ) (table : EndTable) : Type 0 where

@@ -19,7 +19,7 @@ use Rattle.hs_nodes.specs.declared.hits.ChunkHits.{ChunkHits}
 use Rattle.hs_scan.specs.Hits.{AreShown, HasNowhere, IsShown, hits_of, no_hits}
 use Rattle.hs_scan.specs.Scans.{AreHitsBehind}
 use Rattle.hs_scan.proofs.BlockLemmas.{value-tells}
-use Rattle.hs_scan.proofs.FillLemmas.{get-past, set-other, set-same}
+use Rattle.hs_nodes.proofs.FillLemmas.{get-past, set-other, set-same}
 
 -- the hits of the first so many blocks are those of the table
 pub record AreBlockHits (table : HitTable) (number : ℕ) (behind : List ℕ) (n : ℕ) : Type 0 where

@@ -3,7 +3,6 @@ pub mod RegionLemmas
 pub mod ScanLemmas
 pub mod EndingLemmas
 pub mod PastLemmas
-pub mod FillLemmas
 pub mod HitLemmas
 pub mod CopyLemmas
 pub mod WritingLemmas

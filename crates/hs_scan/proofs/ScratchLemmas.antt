@@ -40,7 +40,6 @@ module _ {E : Type 0} (graph : Graph E) (literals : ℕ) (s : Scratch) where
 -- One that is new: no node is left anywhere, and no literal ends.
 pub new-idle : (s : Scratch) (nodes identifiers literals : ℕ) →
     s.ends.items ≡ replicate nodes nowhere →
-    length s.contexts.items ≡ 8 →
     s.hits.items ≡ replicate literals no_hits →
     s.rows.count ≡ literals →
     IsFresh nodes identifiers s.course →
@@ -48,7 +47,7 @@ pub new-idle : (s : Scratch) (nodes identifiers literals : ℕ) →
     length s.last.items ≡ word_count identifiers →
     length s.past ≡ history_size →
     IsIdle s
-new-idle s nodes identifiers literals ends contexts hits rows fresh finals last past =
+new-idle s nodes identifiers literals ends hits rows fresh finals last past =
     let count : length s.ends.items ≡ nodes = ap length ends ∙ length-replicate nodes nowhere in
     let known : length s.course.known.ends.words ≡ identifiers = fresh.known.ends in
     let same : length s.hits.items ≡ literals = ap length hits ∙ length-replicate literals no_hits in
@@ -60,7 +59,6 @@ new-idle s nodes identifiers literals ends contexts hits rows fresh finals last 
     } in
     let has : HasRoom nodes identifiers s = record {
       room = room;
-      contexts = contexts;
       hits = same ∙ sym rows;
       known = fresh.known;
       finals = finals.count_is;

@@ -1,14 +1,12 @@
 -- Memory that a scan uses within a write.
 use Rattle.std.specs.Prelude.{◌≡◌, ℕ, ◌<◌, ◌≤◌, true, false, List, length}
 use Rattle.hs_base.specs.declared.context.Next.{Next}
-use Rattle.hs_base.specs.declared.context.Prev.{Prev}
 use Rattle.hs_base.specs.Bits.{word_count}
 use Rattle.hs_base.specs.Literals.{LiteralByte}
 use Rattle.hs_base.specs.Regions.{history_size}
 use Rattle.hs_literals.specs.HitTables.{has_hit}
-use Rattle.hs_nodes.specs.Contexts.{AreChunkContexts}
 use Rattle.hs_nodes.specs.Left.{nowhere}
-use Rattle.hs_nodes.specs.Marks.{is_marked, mark_room}
+use Rattle.hs_reports.specs.Marks.{is_marked, mark_room}
 use Rattle.hs_nodes.specs.Walks.{node_ends}
 use Rattle.hs_nodes.specs.declared.ends.ChunkEnds.{ChunkEnds}
 use Rattle.hs_reports.specs.EndTables.{HasNoEnds}
@@ -38,7 +36,6 @@ pub record IsFresh (nodes identifiers : ℕ) (course : Course) : Type 0 where
 -- There is room for so many nodes and identifiers, and for the hits that are looked for.
 pub record HasRoom (nodes identifiers : ℕ) (s : Scratch) : Type 0 where
   pub room : FitsRoom nodes s.ends.items s.course.marks
-  pub contexts : length s.contexts.items ≡ 8
   pub hits : length s.hits.items ≡ s.rows.count
   pub known : FitsKnown identifiers s.course.known
   pub finals : length s.finals.words ≡ identifiers
@@ -73,7 +70,6 @@ pub record FindsHits (literals : List (List LiteralByte)) (bytes : List ℕ) (ol
   pub count : length new.hits.items ≡ length old.hits.items
   pub rows : new.rows.count ≡ old.rows.count
   pub ends : new.ends ≡ old.ends
-  pub contexts : new.contexts ≡ old.contexts
   pub course : new.course ≡ old.course
   pub finals : new.finals ≡ old.finals
   pub last : new.last ≡ old.last
@@ -86,20 +82,6 @@ pub record ForgetsHits (old new : Scratch) : Type 0 where
   pub count : length new.hits.items ≡ length old.hits.items
   pub rows : new.rows ≡ old.rows
   pub ends : new.ends ≡ old.ends
-  pub contexts : new.contexts ≡ old.contexts
-  pub course : new.course ≡ old.course
-  pub finals : new.finals ≡ old.finals
-  pub last : new.last ≡ old.last
-  pub past : new.past ≡ old.past
-  pub at_is : new.at ≡ old.at
-
--- The contexts are those of a chunk, and all else is as before.
-pub record FillsContexts (prev : Prev) (at : ℕ) (bytes : List ℕ) (old new : Scratch) : Type 0 where
-  pub are : AreChunkContexts new.contexts.items prev at bytes
-  pub count : length new.contexts.items ≡ length old.contexts.items
-  pub hits : new.hits ≡ old.hits
-  pub rows : new.rows ≡ old.rows
-  pub ends : new.ends ≡ old.ends
   pub course : new.course ≡ old.course
   pub finals : new.finals ≡ old.finals
   pub last : new.last ≡ old.last
@@ -110,7 +92,6 @@ pub record FillsContexts (prev : Prev) (at : ℕ) (bytes : List ℕ) (old new : 
 pub record KeepsTables (old new : Scratch) : Type 0 where
   pub hits : new.hits ≡ old.hits
   pub rows : new.rows ≡ old.rows
-  pub contexts : new.contexts ≡ old.contexts
   pub finals : new.finals ≡ old.finals
   pub last : new.last ≡ old.last
   pub past : new.past ≡ old.past
@@ -120,7 +101,6 @@ pub record KeepsTables (old new : Scratch) : Type 0 where
 pub record KeepsLast (old new : Scratch) : Type 0 where
   pub hits : new.hits ≡ old.hits
   pub rows : new.rows ≡ old.rows
-  pub contexts : new.contexts ≡ old.contexts
   pub finals : new.finals ≡ old.finals
   pub past : new.past ≡ old.past
   pub at_is : new.at ≡ old.at
@@ -131,7 +111,6 @@ pub record KeepsNodes (old new : Scratch) : Type 0 where
   pub marks : new.course.marks ≡ old.course.marks
   pub hits : new.hits ≡ old.hits
   pub rows : new.rows ≡ old.rows
-  pub contexts : new.contexts ≡ old.contexts
   pub finals : new.finals ≡ old.finals
   pub past : new.past ≡ old.past
   pub at_is : new.at ≡ old.at

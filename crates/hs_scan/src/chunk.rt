@@ -2,7 +2,6 @@
 
 ghost use Rattle.std.specs.Prelude.{◌≡◌, ◌+◌, ◌*◌, ◌<◌, ◌≤◌, ◌^◌, ℕ, IfOk, length, slice_index};
 ghost use Rattle.hs_base.specs.Lists.{Each};
-ghost use Rattle.hs_nodes.specs.Contexts.{AreChunkContexts};
 ghost use Rattle.hs_nodes.specs.Resting.{AreEnginesIdle, AreNodesResting, AreNodesUnwoken};
 ghost use Rattle.hs_nodes.specs.Walks.{AreNodesWell, IsOutside, IsTableSound};
 ghost use Rattle.hs_reports.specs.Events.{Takes};
@@ -14,7 +13,7 @@ ghost use Rattle.hs_scan.specs.Scratches.{FitsRoom};
 use crate::known::{Known, tell_chunk};
 use hs_block::BlockEngine;
 use hs_engine::Steps;
-use hs_nodes::{Chunk, ChunkEnds, Found, Graph, MarkSet, everywhere, settle, walk};
+use hs_nodes::{Chunk, ChunkEnds, ChunkHits, Graph, MarkSet, everywhere, settle, walk};
 use hs_reports::Events;
 use std::alloc::{AllocError, Global};
 use std::sync::ledger::Ledger;
@@ -50,25 +49,24 @@ impl Course {
 pub(crate) fn take_chunk<E: BlockEngine, V: Events, L: Ledger>(
     graph: &Graph<E>,
     chunk: &Chunk,
-    found: &Found,
+    hits: &[ChunkHits],
     region: &mut [u8],
     ends: &mut [ChunkEnds],
     course: &mut Course,
     events: &mut V,
     steps: &mut Steps<L>,
 )
-    requires table { IsTableSound E.meaning graph.now.table (length found.now.hits.now) (length region.old) }
+    requires table { IsTableSound E.meaning graph.now.table (length hits.now) (length region.old) }
     requires sound { AreTerminalsSound graph.now }
     requires few { length graph.now.table.nodes.items < 2 ^ 32 }
     requires well { AreNodesWell E.meaning graph.now.table region.old chunk.now.at }
     requires room { FitsRoom (length graph.now.table.nodes.items) ends.old course.old.marks }
-    requires contexts { AreChunkContexts found.now.contexts.now chunk.now.prev chunk.now.at chunk.now.bytes.now }
     requires fits { FitsKnown (length graph.now.identifiers.items) course.old.known }
     requires pending { IsPending course.old.known }
     requires small { Each (λ b. b < 256) chunk.now.bytes.now }
     requires idle { AreEnginesIdle E.meaning graph.now.table.engines.items }
     requires resting { AreNodesResting E.meaning graph.now.table course.old.marks region.old }
-    requires unwoken { AreNodesUnwoken E.meaning graph.now.table course.old.marks found.now.hits.now
+    requires unwoken { AreNodesUnwoken E.meaning graph.now.table course.old.marks hits.now
         chunk.now.bytes.now }
     ensures len { length region.new ≡ length region.old }
     ensures well { AreNodesWell E.meaning graph.now.table region.new
@@ -82,14 +80,14 @@ pub(crate) fn take_chunk<E: BlockEngine, V: Events, L: Ledger>(
     ensures ticks { steps.new ≤
         steps.old + 16 * (length graph.now.table.nodes.items * (length chunk.now.bytes.now + 1)) }
     ensures scans { Takes V.tells events.old events.new (ScansChunk E.meaning graph.now region.old region.new
-        chunk.now.prev chunk.now.at chunk.now.past.now chunk.now.bytes.now found.now.hits.now
+        chunk.now.prev chunk.now.at chunk.now.past.now chunk.now.bytes.now hits.now
         course.old.known.told.items course.old.known.here.items course.new.known.told.items
         course.new.known.here.items) }
 {
     walk(
         &graph.table,
         chunk,
-        found,
+        hits,
         region,
         ends,
         &mut course.marks,

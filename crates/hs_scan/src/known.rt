@@ -3,7 +3,7 @@
 ghost use Rattle.std.specs.Prelude.{◌≡◌, ℕ, ◌+◌, ◌*◌, ◌<◌, ◌≤◌, ◌^◌, IfOk, false, true, length};
 ghost use Rattle.hs_nodes.specs.Blocks.{block};
 ghost use Rattle.hs_nodes.specs.Left.{nowhere};
-ghost use Rattle.hs_nodes.specs.Marks.{is_marked, mark_room};
+ghost use Rattle.hs_reports.specs.Marks.{is_marked, mark_room};
 ghost use Rattle.hs_nodes.specs.Walks.{node_ends};
 ghost use Rattle.hs_reports.specs.EndTables.{HasNoEnds};
 ghost use Rattle.hs_reports.specs.Events.{Takes};
@@ -13,7 +13,7 @@ ghost use Rattle.hs_scan.specs.Telling.{TellsBlock, TellsChunk};
 
 use hs_bits::word_count_for;
 use hs_block::BlockEngine;
-use hs_nodes::{BLOCK_BYTES, Chunk, ChunkEnds, Graph, MarkSet, gather_block};
+use hs_nodes::{BLOCK_BYTES, Chunk, ChunkEnds, Graph, MarkSet, NodeEnds, busy_words, gather_left};
 use hs_reports::{Events, Identifier, IdentifierEnds, Tellings, settle_block};
 use std::alloc::{AllocError, Global};
 
@@ -69,31 +69,25 @@ pub(crate) fn settle_known(identifiers: &[Identifier], known: &mut Known, last: 
 fn tell_known<E: BlockEngine, V: Events>(
     graph: &Graph<E>,
     chunk: &Chunk,
-    marks: &MarkSet,
-    ends: &[ChunkEnds],
-    all: &ChunkEnds,
+    left: &NodeEnds,
     number: usize,
     known: &mut Known,
     events: &mut V,
 )
     requires sound { AreTerminalsSound graph.now }
     requires few { length graph.now.table.nodes.items < 2 ^ 32 }
-    requires ends { length ends.now ≡ length graph.now.table.nodes.items }
-    requires marks { length graph.now.table.nodes.items ≤ mark_room marks.now }
-    requires below { (k : ℕ) → is_marked marks.now k ≡ true → k < length graph.now.table.nodes.items }
-    requires rest { (k : ℕ) → k < length graph.now.table.nodes.items → is_marked marks.now k ≡ false →
-        node_ends ends.now k ≡ nowhere }
+    requires ends { length left.now.ends.now ≡ length graph.now.table.nodes.items }
     requires there { 64 * number < length chunk.now.bytes.now }
     requires fits { FitsKnown (length graph.now.identifiers.items) known.old }
     requires pending { IsPending known.old }
     ensures fits { FitsKnown (length graph.now.identifiers.items) known.new }
     ensures pending { IsPending known.new }
     ensures told { Takes V.tells events.old events.new (TellsBlock E.meaning graph.now chunk.now.bytes.now
-        chunk.now.at ends.now all.now number known.old.told.items known.old.here.items known.new.told.items
-        known.new.here.items) }
+        chunk.now.at left.now.ends.now left.now.all.now number known.old.told.items known.old.here.items
+        known.new.told.items known.new.here.items) }
 {
     let own = chunk.block(number);
-    gather_block(graph, marks, ends, all, number, chunk.at, &mut known.ends);
+    gather_left(graph, left, number, chunk.at, &mut known.ends);
     let last = own.len() - 1;
     settle_known(&graph.identifiers, known, last);
     let at = chunk.at + (BLOCK_BYTES * number) as u64;
@@ -126,7 +120,13 @@ pub(crate) fn tell_chunk<E: BlockEngine, V: Events>(
         chunk.now.at ends.now all.now known.old.told.items known.old.here.items known.new.told.items
         known.new.here.items) }
 {
+    let left = NodeEnds {
+        marks,
+        ends,
+        all,
+        busy: busy_words(marks, ends),
+    };
     for j in 0..chunk.blocks() {
-        tell_known(graph, chunk, marks, ends, all, j, known, events);
+        tell_known(graph, chunk, &left, j, known, events);
     }
 }

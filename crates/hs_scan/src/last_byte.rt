@@ -22,7 +22,7 @@ use crate::asking::ask_ends;
 use crate::line_feed::{LINE_FEED, forget_finals, run_line_feed};
 use crate::past::{prev_of, push_past};
 use crate::scanning::scan_bytes;
-use crate::scratch::{Scratch, fill, find_hits, forget};
+use crate::scratch::{Scratch, find_hits, forget};
 use hs_base::Next;
 use hs_block::BlockEngine;
 use hs_engine::Steps;
@@ -79,7 +79,6 @@ fn scan_asked<E: BlockEngine, V: Events, L: Ledger>(
         prev: prev_of(scratch.at, &past),
         at: scratch.at,
     };
-    fill(scratch, &chunk);
     run_line_feed(graph, region, scratch, &chunk, events, steps);
     forget(scratch);
     push_past(&mut scratch.past, &LINE_FEED);

@@ -3,7 +3,6 @@
 
 mod asking;
 mod chunk;
-mod contexts;
 mod copying;
 mod feeding;
 mod finishing;

@@ -4,10 +4,9 @@ ghost use Rattle.std.specs.Prelude.{◌≡◌, ◌+◌, ◌*◌, ◌<◌, ◌≤
 ghost use Rattle.hs_base.specs.Assertions.{line_feed};
 ghost use Rattle.hs_base.specs.Bits.{has_word_bit, word_count};
 ghost use Rattle.hs_literals.specs.HitTables.{has_hit};
-ghost use Rattle.hs_nodes.specs.Contexts.{AreChunkContexts};
 ghost use Rattle.hs_nodes.specs.Graphs.{AreTerminalsSound};
 ghost use Rattle.hs_nodes.specs.Left.{nowhere};
-ghost use Rattle.hs_nodes.specs.Marks.{is_marked, mark_room};
+ghost use Rattle.hs_reports.specs.Marks.{is_marked, mark_room};
 ghost use Rattle.hs_nodes.specs.Resting.{AreEnginesIdle, AreNodesResting};
 ghost use Rattle.hs_nodes.specs.Waking.{AreRowsSound, AreWakesSound};
 ghost use Rattle.hs_nodes.specs.Walks.{AreNodesWell, IsOutside, IsTableSound, node_ends};
@@ -28,7 +27,7 @@ use crate::waking::wake;
 use hs_bits::{contains_word_bit, write_word_bit};
 use hs_block::BlockEngine;
 use hs_engine::Steps;
-use hs_nodes::{Chunk, ChunkEnds, Found, Graph, MarkSet, everywhere, gather_block, settle, walk};
+use hs_nodes::{Chunk, ChunkEnds, Graph, MarkSet, everywhere, gather_block, settle, walk};
 use hs_reports::{Events, Identifier, IdentifierEnds, is_left_to_end};
 use std::sync::ledger::Ledger;
 
@@ -131,8 +130,8 @@ fn tell_line_feed<E: BlockEngine, V: Events>(
     scratch.course.known.tellings.tell(chunk.at, 0, events);
 }
 
-/// Takes a chunk of one line feed, of which the scratch has the contexts, where the literals end in it, and which
-/// matches would end before it were it the last byte.
+/// Takes a chunk of one line feed, of which the scratch has where the literals end in it, and which matches would end
+/// before it were it the last byte.
 pub(crate) fn run_line_feed<E: BlockEngine, V: Events, L: Ledger>(
     graph: &Graph<E>,
     region: &mut [u8],
@@ -147,7 +146,6 @@ pub(crate) fn run_line_feed<E: BlockEngine, V: Events, L: Ledger>(
     requires well { AreNodesWell E.meaning graph.now.table region.old chunk.now.at }
     requires room { FitsGraph graph.now scratch.old }
     requires pending { IsPending scratch.old.course.known }
-    requires contexts { AreChunkContexts scratch.old.contexts.items chunk.now.prev chunk.now.at chunk.now.bytes.now }
     requires bytes { chunk.now.bytes.now ≡ line_feed ∷ [] }
     requires wakes { AreWakesSound graph.now.table.nodes.items graph.now.wakes scratch.old.rows.count }
     requires rows { AreRowsSound E.meaning graph.now.table graph.now.wakes }
@@ -174,14 +172,10 @@ pub(crate) fn run_line_feed<E: BlockEngine, V: Events, L: Ledger>(
     let words = &mut scratch.words;
     let marks = &mut scratch.course.marks;
     wake(graph, &scratch.rows, chunk.bytes, words, marks);
-    let found = Found {
-        contexts: &scratch.contexts,
-        hits: &scratch.hits,
-    };
     walk(
         &graph.table,
         chunk,
-        &found,
+        &scratch.hits,
         region,
         &mut scratch.ends,
         &mut scratch.course.marks,

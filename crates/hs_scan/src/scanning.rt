@@ -5,7 +5,6 @@ ghost use Rattle.hs_base.specs.Lists.{Each};
 ghost use Rattle.hs_layout.specs.Layouts.{laid_size};
 ghost use Rattle.hs_literals.specs.Held.{held};
 ghost use Rattle.hs_literals.specs.HitTables.{has_hit};
-ghost use Rattle.hs_nodes.specs.Contexts.{AreChunkContexts};
 ghost use Rattle.hs_nodes.specs.Resting.{AreEnginesIdle, AreNodesResting};
 ghost use Rattle.hs_nodes.specs.Waking.{AreRowsSound, AreWakesSound};
 ghost use Rattle.hs_nodes.specs.Walks.{AreNodesWell, IsOutside, IsTableSound};
@@ -19,17 +18,17 @@ ghost use Rattle.hs_scan.specs.Scratches.{FitsGraph, HasNoHits, KeepsAll, KeepsT
 
 use crate::chunk::take_chunk;
 use crate::past::{prev_of, push_past};
-use crate::scratch::{Scratch, fill, find_hits, forget};
+use crate::scratch::{Scratch, find_hits, forget};
 use crate::waking::wake;
 use hs_block::BlockEngine;
 use hs_engine::Steps;
 use hs_layout::Layout;
 use hs_literals::Literals;
-use hs_nodes::{Chunk, Found, Graph, MAX_CHUNK};
+use hs_nodes::{Chunk, Graph, MAX_CHUNK};
 use hs_reports::Events;
 use std::sync::ledger::Ledger;
 
-/// Takes a chunk, of which the scratch has the contexts, and where the literals end in it.
+/// Takes a chunk, of which the scratch has where the literals end in it.
 fn run_chunk<E: BlockEngine, V: Events, L: Ledger>(
     graph: &Graph<E>,
     region: &mut [u8],
@@ -44,7 +43,6 @@ fn run_chunk<E: BlockEngine, V: Events, L: Ledger>(
     requires well { AreNodesWell E.meaning graph.now.table region.old chunk.now.at }
     requires room { FitsGraph graph.now scratch.old }
     requires pending { IsPending scratch.old.course.known }
-    requires contexts { AreChunkContexts scratch.old.contexts.items chunk.now.prev chunk.now.at chunk.now.bytes.now }
     requires small { Each (λ b. b < 256) chunk.now.bytes.now }
     requires wakes { AreWakesSound graph.now.table.nodes.items graph.now.wakes scratch.old.rows.count }
     requires rows { AreRowsSound E.meaning graph.now.table graph.now.wakes }
@@ -70,14 +68,10 @@ fn run_chunk<E: BlockEngine, V: Events, L: Ledger>(
     let words = &mut scratch.words;
     let marks = &mut scratch.course.marks;
     wake(graph, &scratch.rows, chunk.bytes, words, marks);
-    let found = Found {
-        contexts: &scratch.contexts,
-        hits: &scratch.hits,
-    };
     take_chunk(
         graph,
         chunk,
-        &found,
+        &scratch.hits,
         region,
         &mut scratch.ends,
         &mut scratch.course,
@@ -130,7 +124,6 @@ pub(crate) fn scan_chunk<E: BlockEngine, V: Events, L: Ledger>(
         prev: prev_of(scratch.at, &past),
         at: scratch.at,
     };
-    fill(scratch, &chunk);
     run_chunk(graph, region, scratch, &chunk, events, steps);
     forget(scratch);
     push_past(&mut scratch.past, bytes);

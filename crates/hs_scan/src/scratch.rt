@@ -2,24 +2,20 @@
 
 ghost use Rattle.std.specs.Prelude.{◌≡◌, ◌+◌, ◌<◌, ◌≤◌, ◌^◌, ◌↔◌, ℕ, IfOk, IsTrue, List, Some, false, length};
 ghost use Rattle.std.specs.Prelude.{slice_get};
-ghost use Rattle.hs_nodes.specs.Contexts.{AreChunkContexts};
 ghost use Rattle.hs_base.specs.Literals.{LiteralByte};
 ghost use Rattle.hs_base.specs.Regions.{history_size};
 ghost use Rattle.hs_literals.specs.Held.{held};
 ghost use Rattle.hs_literals.specs.HitTables.{has_hit};
 ghost use Rattle.hs_scan.specs.Hits.{HasNowhere};
-ghost use Rattle.hs_scan.specs.Scratches.{FillsContexts, FindsHits, ForgetsHits, HasNoHits, IsIdle, ServesGraph};
+ghost use Rattle.hs_scan.specs.Scratches.{FindsHits, ForgetsHits, HasNoHits, IsIdle, ServesGraph};
 
 use crate::chunk::Course;
-use crate::contexts::fill_contexts;
 use crate::hits::{forget_hits, show_hits};
 use crate::past::seen_of;
-use hs_base::Prev;
 use hs_bits::word_count_for;
-use hs_block::Contexts;
 use hs_layout::HISTORY_SIZE;
 use hs_literals::{HitRows, Literals};
-use hs_nodes::{Chunk, ChunkEnds, ChunkHits, Graph, MAX_BLOCKS};
+use hs_nodes::{ChunkEnds, ChunkHits, Graph};
 use hs_reports::IdentifierEnds;
 use hs_waking::ClassWords;
 use std::alloc::{AllocError, Global};
@@ -32,8 +28,6 @@ const MAX_SETS: usize = 1 << 16;
 pub struct Scratch {
     /// Where each node is left in a chunk.
     pub(crate) ends: Vec<ChunkEnds>,
-    /// The contexts of the blocks of a chunk.
-    pub(crate) contexts: Vec<Contexts>,
     /// Where each literal ends in a chunk.
     pub(crate) hits: Vec<ChunkHits>,
     /// The same as rows of bits.
@@ -70,7 +64,6 @@ impl Scratch {
         let count = literals.count();
         Ok(Scratch {
             ends: vec![in alloc; ChunkEnds::NOWHERE; nodes]?,
-            contexts: vec![in alloc; Contexts::new(Prev::Start, &[]); MAX_BLOCKS]?,
             hits: vec![in alloc; ChunkHits::NOWHERE; count]?,
             rows: HitRows::new(alloc, count)?,
             words: ClassWords::new(alloc, graph.wakes.sets.len().min(MAX_SETS))?,
@@ -117,12 +110,4 @@ pub(crate) fn forget(scratch: &mut Scratch)
     ensures { ForgetsHits scratch.old scratch.new }
 {
     forget_hits(&scratch.rows, &mut scratch.hits);
-}
-
-/// Writes the contexts of the blocks of a chunk.
-pub(crate) fn fill(scratch: &mut Scratch, chunk: &Chunk)
-    requires { length scratch.old.contexts.items ≡ 8 }
-    ensures { FillsContexts chunk.now.prev chunk.now.at chunk.now.bytes.now scratch.old scratch.new }
-{
-    fill_contexts(&mut scratch.contexts, chunk);
 }

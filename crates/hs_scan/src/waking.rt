@@ -2,7 +2,7 @@
 
 ghost use Rattle.std.specs.Prelude.{◌≡◌, ◌<◌, ◌≤◌, ℕ, List, true, false, length};
 ghost use Rattle.hs_literals.specs.HitTables.{has_hit};
-ghost use Rattle.hs_nodes.specs.Marks.{is_marked, mark_room};
+ghost use Rattle.hs_reports.specs.Marks.{is_marked, mark_room};
 ghost use Rattle.hs_nodes.specs.Resting.{AreNodesUnwoken};
 ghost use Rattle.hs_nodes.specs.Waking.{AreRowsSound, AreWakesSound};
 ghost use Rattle.hs_nodes.specs.Walks.{AreMoreMarks, IsAmongChildren};

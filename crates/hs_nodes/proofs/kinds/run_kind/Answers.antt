@@ -50,17 +50,8 @@ run_literal_part-requires-clause-size g c = (subst (λ (k : NodeKind). IsKindSou
 pub run_literal_part-requires-clause-well : goal.run_literal_part-requires-clause-well
 run_literal_part-requires-clause-well g c = subst (λ (k : NodeKind). IsWellPart g.E.Engine.meaning c.args.engines.now k c.args.part.now c.args.chunk.now.at) c.in-Literal.is c.requires.well
 
-pub every_entry-carry-requires : goal.every_entry-carry-requires
-every_entry-carry-requires g c = (subst (λ (k : NodeKind). IsKindSound g.E.Engine.meaning c.args.engines.now (length c.args.found.now.hits.now) k (length c.args.part.now)) c.in-FirstLiteral.is c.requires.sound).2
-
 pub bounds-found-number-in-FirstLiteral : goal.bounds-found-number-in-FirstLiteral
 bounds-found-number-in-FirstLiteral g c = (subst (λ (k : NodeKind). IsKindSound g.E.Engine.meaning c.args.engines.now (length c.args.found.now.hits.now) k (length c.args.part.now)) c.in-FirstLiteral.is c.requires.sound).0
-
-pub run_entries-requires-clause-some : goal.run_entries-requires-clause-some
-run_entries-requires-clause-some g c = (subst (λ (k : NodeKind). IsKindSound g.E.Engine.meaning c.args.engines.now (length c.args.found.now.hits.now) k (length c.args.part.now)) c.in-FirstLiteral.is c.requires.sound).1
-
-pub run_entries-requires-clause-short : goal.run_entries-requires-clause-short
-run_entries-requires-clause-short g c = (subst (λ (k : NodeKind). IsKindSound g.E.Engine.meaning c.args.engines.now (length c.args.found.now.hits.now) k (length c.args.part.now)) c.in-FirstLiteral.is c.requires.sound).2
 
 pub returns-in-Engine-clause-len : goal.returns-in-Engine-clause-len
 returns-in-Engine-clause-len g c =
@@ -111,9 +102,9 @@ returns-in-FirstLiteral-clause-takes g c =
     let engines = c.args.engines.now in
     let hits = c.args.found.now.hits.now in
     let sound = subst (λ (k : NodeKind). IsKindSound m engines (length hits) k (length c.args.part.now)) c.in-FirstLiteral.is c.requires.sound in
-    subst (λ (k : NodeKind). TakesPiece m engines k c.args.part.now c.args.part.now c.args.chunk.now.prev c.args.chunk.now.at c.args.chunk.now.past.now c.args.chunk.now.bytes.now hits c.args.enters.now c.run_entries.result) (sym c.in-FirstLiteral.is)
-    (first-takes m engines c.in-FirstLiteral.number c.in-FirstLiteral.len c.every_entry-carry.result c.run_entries.new.carry c.args.part.now c.args.part.now c.args.chunk.now.prev c.args.chunk.now.at c.args.chunk.now.past.now c.args.chunk.now.bytes.now hits c.args.enters.now c.run_entries.result
-    _ (slice_get-get_or hits c.in-FirstLiteral.number _ sound.0) c.every_entry-carry.ensures.tells c.run_entries.ensures.takes)
+    subst (λ (k : NodeKind). TakesPiece m engines k c.args.part.now c.args.part.now c.args.chunk.now.prev c.args.chunk.now.at c.args.chunk.now.past.now c.args.chunk.now.bytes.now hits c.args.enters.now c.ends_of.result) (sym c.in-FirstLiteral.is)
+    (first-takes m engines c.in-FirstLiteral.number _ c.args.part.now c.args.part.now c.args.chunk.now.prev c.args.chunk.now.at c.args.chunk.now.past.now c.args.chunk.now.bytes.now hits c.args.enters.now c.ends_of.result
+    _ sound.1 (slice_get-get_or hits c.in-FirstLiteral.number _ sound.0) c.ends_of.ensures)
 
 pub returns-in-Engine-clause-ticks : goal.returns-in-Engine-clause-ticks
 returns-in-Engine-clause-ticks g c = subst (λ (k : NodeKind). c.run_engine.new.steps ≤ c.args.steps.now + most_ticks k c.args.found.now.hits.now (length c.args.chunk.now.bytes.now)) (sym c.in-Engine.is) c.run_engine.ensures.ticks

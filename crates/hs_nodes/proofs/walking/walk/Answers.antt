@@ -1,8 +1,10 @@
 use Rattle.std.proofs.Common.{◌≡◌, ◌≤◌, ◌<◌, ◌+◌, ◌-◌, ℕ, List, length, slice_index, true, refl, suc, inl, inr, sym, subst, ◌∙◌, arith}
+use Rattle.hs_nodes.specs.Contexts.{NeedsContexts}
 use Rattle.hs_nodes.specs.Left.{nowhere}
-use Rattle.hs_nodes.specs.Marks.{is_marked}
+use Rattle.hs_reports.specs.Marks.{is_marked}
 use Rattle.hs_nodes.specs.Nodes.{IsWellPart}
-use Rattle.hs_nodes.proofs.KindLemmas.{same-default}
+use Rattle.hs_nodes.specs.declared.table.Node.{Node}
+use Rattle.hs_nodes.proofs.KindLemmas.{one-value, same-default}
 use Rattle.hs_nodes.proofs.NodeLemmas.{marks-none}
 use Rattle.hs_nodes.proofs.WalkLemmas.{IsWalk, there, ticks-all, ticks-grow, ticks-more, walk-takes, walk-to, walk-visit, walk-well}
 use Rattle.hs_nodes.proofs.walking.walk.Goals as goal
@@ -11,6 +13,10 @@ use Rattle.hs_nodes.proofs.walking.walk.Goals.{then-not-is_nowhere, else-not-is_
 pub run_node-requires-clause-well : goal.run_node-requires-clause-well
 run_node-requires-clause-well g c node at =
     subst (λ ps. IsWellPart g.E.Engine.meaning c.args.table.now.engines.items node.kind ps c.args.chunk.now.at) (sym (c.loop-k.invariant.walk.later c.in-Some.k node c.in-Some.ensures.low at).1) (c.requires.well c.in-Some.k node at)
+
+pub run_node-requires-clause-contexts : goal.run_node-requires-clause-contexts
+run_node-requires-clause-contexts g c node at needs =
+    c.make_contexts-are_made.ensures.asked (subst (λ (n : Node). NeedsContexts n.kind) (one-value node c.node_at.result _ at c.node_at.ensures) needs)
 
 pub mark_children-requires-clause-end : goal.mark_children-requires-clause-end
 mark_children-requires-clause-end g c =
@@ -23,7 +29,7 @@ loop-k-preserved g c =
     let m = g.E.Engine.meaning in
     let table = c.args.table.now in
     let chunk = c.args.chunk.now in
-    let hits = c.args.found.now.hits.now in
+    let hits = c.args.hits.now in
     let k = c.in-Some.k in
     let inv = c.loop-k.invariant in
     let below : k < length table.nodes.items = inv.walk.more.below k c.in-Some.ensures.is in
@@ -33,6 +39,8 @@ loop-k-preserved g c =
     c.in-Some.ensures.least inv.walk in record {
       len = c.run_node.ensures.len ∙ inv.len;
       ends = c.run_node.ensures.ends ∙ inv.ends;
+      contexts = c.make_contexts-are_made.ensures.len ∙ inv.contexts;
+      made = c.make_contexts-are_made.ensures.made;
       steps =
           let more = ticks-more table.nodes.items k hits (length chunk.bytes.now) own.0 own.1 in
           let up = ticks-grow table.nodes.items c.loop-k.from k hits (length chunk.bytes.now) c.in-Some.ensures.low in
@@ -52,7 +60,7 @@ loop-k-preserved g c =
 
 pub returns-clause-ticks : goal.returns-clause-ticks
 returns-clause-ticks g c =
-    let up = ticks-all c.args.table.now.nodes.items c.loop-k.from c.args.found.now.hits.now (length c.args.chunk.now.bytes.now) in
+    let up = ticks-all c.args.table.now.nodes.items c.loop-k.from c.args.hits.now (length c.args.chunk.now.bytes.now) in
     omega (arith, up, c.loop-k.invariant.steps)
 
 pub returns-clause-well : goal.returns-clause-well
@@ -61,8 +69,8 @@ returns-clause-well g c =
     let chunk = c.args.chunk.now in
     let inv = c.loop-k.invariant in
     let room = inv.walk.more.room in
-    walk-well g.E.Engine.meaning table c.args.region.now c.args.marks.now chunk.prev chunk.at chunk.past.now chunk.bytes.now c.args.found.now.hits.now c.requires.sound chunk.few c.loop-k.region c.loop-k.ends c.loop-k.marks
-    (walk-to g.E.Engine.meaning table c.args.region.now c.args.marks.now chunk.prev chunk.at chunk.past.now chunk.bytes.now c.args.found.now.hits.now c.requires.sound chunk.few c.requires.rests c.loop-k.region c.loop-k.ends c.loop-k.marks c.loop-k.from (length table.nodes.items - c.loop-k.from) (length table.nodes.items)
+    walk-well g.E.Engine.meaning table c.args.region.now c.args.marks.now chunk.prev chunk.at chunk.past.now chunk.bytes.now c.args.hits.now c.requires.sound chunk.few c.loop-k.region c.loop-k.ends c.loop-k.marks
+    (walk-to g.E.Engine.meaning table c.args.region.now c.args.marks.now chunk.prev chunk.at chunk.past.now chunk.bytes.now c.args.hits.now c.requires.sound chunk.few c.requires.rests c.loop-k.region c.loop-k.ends c.loop-k.marks c.loop-k.from (length table.nodes.items - c.loop-k.from) (length table.nodes.items)
     (omega (arith, inv.walk.within)) (omega arith) (λ j low high. c.in_default.ensures j low (omega (arith, room, c.requires.room))) inv.walk)
 
 pub returns-clause-takes : goal.returns-clause-takes
@@ -71,6 +79,6 @@ returns-clause-takes g c =
     let chunk = c.args.chunk.now in
     let inv = c.loop-k.invariant in
     let room = inv.walk.more.room in
-    walk-takes g.E.Engine.meaning table c.args.region.now c.args.marks.now chunk.prev chunk.at chunk.past.now chunk.bytes.now c.args.found.now.hits.now c.requires.sound chunk.few c.loop-k.region c.loop-k.ends c.loop-k.marks
-    (walk-to g.E.Engine.meaning table c.args.region.now c.args.marks.now chunk.prev chunk.at chunk.past.now chunk.bytes.now c.args.found.now.hits.now c.requires.sound chunk.few c.requires.rests c.loop-k.region c.loop-k.ends c.loop-k.marks c.loop-k.from (length table.nodes.items - c.loop-k.from) (length table.nodes.items)
+    walk-takes g.E.Engine.meaning table c.args.region.now c.args.marks.now chunk.prev chunk.at chunk.past.now chunk.bytes.now c.args.hits.now c.requires.sound chunk.few c.loop-k.region c.loop-k.ends c.loop-k.marks
+    (walk-to g.E.Engine.meaning table c.args.region.now c.args.marks.now chunk.prev chunk.at chunk.past.now chunk.bytes.now c.args.hits.now c.requires.sound chunk.few c.requires.rests c.loop-k.region c.loop-k.ends c.loop-k.marks c.loop-k.from (length table.nodes.items - c.loop-k.from) (length table.nodes.items)
     (omega (arith, inv.walk.within)) (omega arith) (λ j low high. c.in_default.ensures j low (omega (arith, room, c.requires.room))) inv.walk)

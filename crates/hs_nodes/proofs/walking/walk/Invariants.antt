@@ -1,4 +1,5 @@
-use Rattle.std.proofs.Common.{◌≡◌, ◌+◌, ◌-◌, ◌≤◌, length, take}
+use Rattle.std.proofs.Common.{◌≡◌, ◌+◌, ◌-◌, ◌≤◌, true, length, take}
+use Rattle.hs_nodes.specs.Contexts.{AreChunkContexts}
 use Rattle.hs_nodes.specs.Walks.{nodes_ticks}
 use Rattle.hs_nodes.proofs.WalkLemmas.{IsWalk}
 use Rattle.hs_nodes.proofs.walking.walk.Given as goal
@@ -7,8 +8,10 @@ abbrev pub invariant-loop-k : goal.invariant-loop-k
 invariant-loop-k g l = record {
   len : length l.region ≡ length l.initial.region;
   ends : length l.ends ≡ length l.table.nodes.items;
-  steps : l.steps ≤ l.initial.steps + nodes_ticks (take l.from l.table.nodes.items) l.found.hits.now (length l.chunk.bytes.now);
-  walk : IsWalk g.E.Engine.meaning l.table l.fn.region l.fn.marks l.chunk.prev l.chunk.at l.chunk.past.now l.chunk.bytes.now l.found.hits.now l.region l.ends l.marks l.from;
+  contexts : length l.contexts ≡ 8;
+  made : l.are_made ≡ true → AreChunkContexts l.contexts l.chunk.prev l.chunk.at l.chunk.bytes.now;
+  steps : l.steps ≤ l.initial.steps + nodes_ticks (take l.from l.table.nodes.items) l.hits (length l.chunk.bytes.now);
+  walk : IsWalk g.E.Engine.meaning l.table l.fn.region l.fn.marks l.chunk.prev l.chunk.at l.chunk.past.now l.chunk.bytes.now l.hits l.region l.ends l.marks l.from;
 }
 
 abbrev pub decreases-loop-k : goal.decreases-loop-k

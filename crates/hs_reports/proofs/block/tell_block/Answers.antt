@@ -9,7 +9,7 @@ use Rattle.hs_reports.proofs.block.tell_block.Goals as goal
 pub loop-left-init : goal.loop-left-init
 loop-left-init g c = (
   0,
-  walked-none c.args.lates.now c.args.earlies.now c.united.result c.united-2.result c.places_to.result c.args.last c.requires.last c.united.ensures c.united-2.ensures c.places_to.ensures,
+  walked-none c.args.lates.now c.args.earlies.now c.united-late.result c.united-early.result c.places_to.result c.args.last c.requires.last c.united-late.ensures c.united-early.ensures c.places_to.ensures,
   subst (λ ps. Through g.V.Events.tells c.args.events.now ps c.args.events.now)
       (sym (chunk-none (id_numbers c.args.ids.now) (row_bit c.args.lates.now) (row_bit c.args.earlies.now) c.args.at)) still,
 )
@@ -22,7 +22,7 @@ loop-left-preserved g c =
       walked-next c.args.lates.now c.args.earlies.now (c.args.last + 1) c.loop-left.left m place walked c.lowest_bit-place.ensures.lowest
           c.without_lowest_bit-left.result c.lowest_bit-place.ensures.within (c.without_lowest_bit-left.ensures.behind place c.lowest_bit-place.ensures.lowest),
       through-place g.V.Events.tells c.args.lates.now c.args.earlies.now (id_numbers c.args.ids.now) c.args.at (c.args.last + 1) c.loop-left.left m place walked
-          c.lowest_bit-place.ensures.lowest c.lowest_bit-place.ensures.within told c.tell_place.ensures c.tell_place-in-loop-left.ensures,
+          c.lowest_bit-place.ensures.lowest c.lowest_bit-place.ensures.within told c.tell_any.ensures c.tell_any-in-loop-left.ensures,
     )
 
 pub returns : goal.returns

@@ -4,7 +4,7 @@ use Rattle.hs_nodes.specs.Walks.{node_ends}
 use Rattle.hs_nodes.specs.Leaving.{LeavesNodes}
 use Rattle.hs_nodes.specs.Gathering.{AreGathered}
 use Rattle.hs_scan.proofs.AskLemmas.{asks-table}
-use Rattle.hs_scan.proofs.FillLemmas.{whole}
+use Rattle.hs_nodes.proofs.FillLemmas.{whole}
 use Rattle.hs_scan.proofs.asking.ask_nodes.Goals as goal
 
 pub gather_all-requires-clause-nowhere : goal.gather_all-requires-clause-nowhere
@@ -48,7 +48,6 @@ returns-clause-asks g c =
           room = room.room.room;
           below = room.room.below;
         };
-        contexts = room.contexts;
         hits = room.hits;
         known = room.known;
         finals = c.gather_all.ensures.count ∙ room.finals;

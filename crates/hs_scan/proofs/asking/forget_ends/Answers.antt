@@ -1,7 +1,7 @@
 use Rattle.std.proofs.Common.{length, inl, inr, arith}
 use Rattle.std.proofs.lemmas.Bool.{cases_lt}
 use Rattle.hs_nodes.specs.Left.{nowhere}
-use Rattle.hs_scan.proofs.FillLemmas.{get-past}
+use Rattle.hs_nodes.proofs.FillLemmas.{get-past}
 use Rattle.hs_scan.proofs.asking.forget_ends.Goals as goal
 
 pub returns-clause-nowhere : goal.returns-clause-nowhere

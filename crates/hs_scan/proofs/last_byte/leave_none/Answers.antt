@@ -1,7 +1,7 @@
 use Rattle.std.proofs.Common.{length, inl, inr, arith}
 use Rattle.std.proofs.lemmas.Bool.{cases_lt}
 use Rattle.hs_bits.proofs.WordLemmas.{words-zero}
-use Rattle.hs_scan.proofs.FillLemmas.{get-past}
+use Rattle.hs_nodes.proofs.FillLemmas.{get-past}
 use Rattle.hs_scan.proofs.last_byte.leave_none.Goals as goal
 
 pub returns-clause-none : goal.returns-clause-none

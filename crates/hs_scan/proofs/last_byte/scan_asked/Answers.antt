@@ -1,10 +1,8 @@
-use Rattle.std.proofs.Common.{◌≡◌, ◌+◌, ℕ, false, List, [], ◌∷◌, ◌++◌, length, drop, sym, ap, subst, ◌∙◌, arith}
+use Rattle.std.proofs.Common.{◌≡◌, ◌+◌, ℕ, List, [], ◌∷◌, ◌++◌, length, drop, sym, ap, subst, ◌∙◌, arith}
 use Rattle.hs_base.specs.Assertions.{line_feed}
 use Rattle.hs_literals.specs.Held.{held}
-use Rattle.hs_literals.specs.HitTables.{HitTable, has_hit}
 use Rattle.hs_nodes.specs.Blocks.{EndsBehind}
 use Rattle.hs_nodes.specs.Resting.{AreNodesResting}
-use Rattle.hs_scan.specs.Hits.{HasNowhere}
 use Rattle.hs_scan.specs.declared.chunk.Course.{Course}
 use Rattle.hs_scan.specs.Scans.{Scans, ScansChunk, stand}
 use Rattle.hs_scan.specs.Scratches.{stand_of}
@@ -17,11 +15,11 @@ use Rattle.hs_scan.proofs.last_byte.scan_asked.Goals as goal
 
 pub run_line_feed-requires-clause-others : goal.run_line_feed-requires-clause-others
 run_line_feed-requires-clause-others g c k none =
-    subst (λ v. HasNowhere v.items k) (sym c.fill.ensures.hits) (c.find_hits.ensures.others k (subst (λ (r : HitTable). has_hit r k ≡ false) c.fill.ensures.rows none))
+    c.find_hits.ensures.others k none
 
 pub run_line_feed-requires-clause-resting : goal.run_line_feed-requires-clause-resting
 run_line_feed-requires-clause-resting g c =
-    subst (λ (k : Course). AreNodesResting g.E.Engine.meaning c.args.graph.now.table k.marks c.args.region.now) (sym (c.fill.ensures.course ∙ c.find_hits.ensures.course)) c.requires.resting
+    subst (λ (k : Course). AreNodesResting g.E.Engine.meaning c.args.graph.now.table k.marks c.args.region.now) (sym c.find_hits.ensures.course) c.requires.resting
 
 pub returns-clause-resting : goal.returns-clause-resting
 returns-clause-resting g c =
@@ -30,8 +28,8 @@ returns-clause-resting g c =
 pub returns-clause-early : goal.returns-clause-early
 returns-clause-early g c =
     let s = c.args.scratch.now in
-    let past_is : c.forget.new.scratch.past ≡ s.past = c.forget.ensures.past ∙ (c.run_line_feed.ensures.keeps.past ∙ (c.fill.ensures.past ∙ c.find_hits.ensures.past)) in
-    let at_is : c.forget.new.scratch.at ≡ s.at = c.forget.ensures.at_is ∙ (c.run_line_feed.ensures.keeps.at_is ∙ (c.fill.ensures.at_is ∙ c.find_hits.ensures.at_is)) in
+    let past_is : c.forget.new.scratch.past ≡ s.past = c.forget.ensures.past ∙ (c.run_line_feed.ensures.keeps.past ∙ c.find_hits.ensures.past) in
+    let at_is : c.forget.new.scratch.at ≡ s.at = c.forget.ensures.at_is ∙ (c.run_line_feed.ensures.keeps.at_is ∙ c.find_hits.ensures.at_is) in
     early-pushed s.past c.push_past.new.past (line_feed ∷ []) s.at (c.forget.new.scratch.at + length (line_feed ∷ [])) c.requires.room.past
     (c.push_past.ensures ∙ ap (λ (xs : List ℕ). drop (length (line_feed ∷ [])) (xs ++ (line_feed ∷ []))) past_is) (ap (λ n. n + length (line_feed ∷ [])) at_is)
 
@@ -45,16 +43,15 @@ returns-clause-scans g c =
     let r1 = c.run_line_feed.new.region in
     let s = c.args.scratch.now in
     let s1 = c.find_hits.new.scratch in
-    let s2 = c.fill.new.scratch in
+    let s2 = c.find_hits.new.scratch in
     let s3 = c.run_line_feed.new.scratch in
     let s4 = c.forget.new.scratch in
     let prev = c.prev_of.result in
     let found = c.find_hits.ensures in
-    let filled = c.fill.ensures in
     let kept = c.run_line_feed.ensures.keeps in
-    let course_is : s2.course ≡ s.course = filled.course ∙ found.course in
-    let at_is : s4.at ≡ s.at = c.forget.ensures.at_is ∙ (kept.at_is ∙ (filled.at_is ∙ found.at_is)) in
-    let past_is : s4.past ≡ s.past = c.forget.ensures.past ∙ (kept.past ∙ (filled.past ∙ found.past)) in
+    let course_is : s2.course ≡ s.course = found.course in
+    let at_is : s4.at ≡ s.at = c.forget.ensures.at_is ∙ (kept.at_is ∙ found.at_is) in
+    let past_is : s4.past ≡ s.past = c.forget.ensures.past ∙ (kept.past ∙ found.past) in
     let pushed : c.push_past.new.past ≡ drop (length bytes) (s.past ++ bytes) = c.push_past.ensures ∙ ap (λ (xs : List ℕ). drop (length bytes) (xs ++ bytes)) past_is in
     takes-as g.V.Events.tells c.args.events.now c.run_line_feed.new.events
     (ScansChunk m graph r0 r1 prev s1.at s1.past bytes s2.hits.items s2.course.known.told.items s2.course.known.here.items s3.course.known.told.items s3.course.known.here.items)
@@ -63,7 +60,7 @@ returns-clause-scans g c =
     let one : ScansChunk m graph r0 r1 prev s.at s.past bytes s2.hits.items s2.course.known.told.items s2.course.known.here.items s3.course.known.told.items s3.course.known.here.items ps =
     subst (λ n. ScansChunk m graph r0 r1 prev n s.past bytes s2.hits.items s2.course.known.told.items s2.course.known.here.items s3.course.known.told.items s3.course.known.here.items ps) found.at_is (subst (λ v. ScansChunk m graph r0 r1 prev s1.at v bytes s2.hits.items s2.course.known.told.items s2.course.known.here.items s3.course.known.told.items s3.course.known.here.items ps) found.past scans) in
     let two : ScansChunk m graph r0 r1 prev s.at s.past bytes s1.hits.items s2.course.known.told.items s2.course.known.here.items s3.course.known.told.items s3.course.known.here.items ps =
-    subst (λ v. ScansChunk m graph r0 r1 prev s.at s.past bytes v.items s2.course.known.told.items s2.course.known.here.items s3.course.known.told.items s3.course.known.here.items ps) filled.hits one in
+    one in
     let three : ScansChunk m graph r0 r1 prev s.at s.past bytes s1.hits.items s.course.known.told.items s.course.known.here.items s3.course.known.told.items s3.course.known.here.items ps =
     subst (λ k. ScansChunk m graph r0 r1 prev s.at s.past bytes s1.hits.items k.known.told.items k.known.here.items s3.course.known.told.items s3.course.known.here.items ps) course_is two in
     let four : ScansChunk m graph r0 r1 prev s.at s.past bytes s1.hits.items s.course.known.told.items s.course.known.here.items s4.course.known.told.items s4.course.known.here.items ps =
@@ -80,18 +77,17 @@ returns-clause-left g c =
     let literals = held c.args.literals.now in
     let s = c.args.scratch.now in
     let s1 = c.find_hits.new.scratch in
-    let s2 = c.fill.new.scratch in
+    let s2 = c.find_hits.new.scratch in
     let r0 = c.args.region.now in
     let found = c.find_hits.ensures in
-    let filled = c.fill.ensures in
     let prev = c.prev_of.result in
     let last : c.forget.new.scratch.last ≡ c.run_line_feed.new.scratch.last = c.forget.ensures.last in
-    let finals : s2.finals ≡ s.finals = filled.finals ∙ found.finals in
-    let course : s2.course ≡ s.course = filled.course ∙ found.course in
+    let finals : s2.finals ≡ s.finals = found.finals in
+    let course : s2.course ≡ s.course = found.course in
     let run = c.run_line_feed.ensures.left in
     let one : LeavesLineFeedChunk m graph r0 prev s.at s.past (line_feed ∷ []) s2.hits.items s2.course.known.told.items s2.course.known.here.items s2.finals c.run_line_feed.new.scratch.last.items =
     subst (λ n. LeavesLineFeedChunk m graph r0 prev n s.past (line_feed ∷ []) s2.hits.items s2.course.known.told.items s2.course.known.here.items s2.finals c.run_line_feed.new.scratch.last.items) found.at_is (subst (λ v. LeavesLineFeedChunk m graph r0 prev s1.at v (line_feed ∷ []) s2.hits.items s2.course.known.told.items s2.course.known.here.items s2.finals c.run_line_feed.new.scratch.last.items) found.past run) in
-    let two = subst (λ v. LeavesLineFeedChunk m graph r0 prev s.at s.past (line_feed ∷ []) v.items s2.course.known.told.items s2.course.known.here.items s2.finals c.run_line_feed.new.scratch.last.items) filled.hits one in
+    let two = one in
     let three = subst (λ k. LeavesLineFeedChunk m graph r0 prev s.at s.past (line_feed ∷ []) s1.hits.items k.known.told.items k.known.here.items s2.finals c.run_line_feed.new.scratch.last.items) course two in
     let four = subst (λ t. LeavesLineFeedChunk m graph r0 prev s.at s.past (line_feed ∷ []) s1.hits.items s.course.known.told.items s.course.known.here.items t c.run_line_feed.new.scratch.last.items) finals three in
     subst (λ v. LeavesToEnd m graph literals (stand_of s r0) (line_feed ∷ []) v.items) (sym last)

@@ -2,7 +2,7 @@ use Rattle.std.proofs.Common.{◌≡◌, ◌-◌, ◌++◌, length, take, drop, 
 use Rattle.hs_literals.specs.Held.{held}
 use Rattle.hs_scan.specs.Scratches.{stand_of}
 use Rattle.hs_scan.specs.Writing.{LeavesToEnd}
-use Rattle.hs_scan.proofs.FillLemmas.{whole}
+use Rattle.hs_nodes.proofs.FillLemmas.{whole}
 use Rattle.hs_scan.proofs.LineFeedLemmas.{none-left_behind}
 use Rattle.hs_scan.proofs.last_byte.scan_to_other.Goals as goal
 

@@ -3,14 +3,14 @@ use Rattle.hs_base.specs.Lists.{Each}
 use Rattle.hs_nodes.proofs.SettleLemmas.{resting-may, resting-stay}
 use Rattle.hs_nodes.proofs.WakeLemmas.{resting-more}
 use Rattle.hs_nodes.specs.Left.{nowhere}
-use Rattle.hs_nodes.specs.Marks.{is_marked}
+use Rattle.hs_reports.specs.Marks.{is_marked}
 use Rattle.hs_nodes.specs.Resting.{AreNodesResting}
 use Rattle.hs_nodes.specs.Walks.{MayNodesRest, TakesNodes, node_ends, nodes_ticks}
 use Rattle.hs_scan.proofs.WakingLemmas.{passed-nowhere}
 use Rattle.hs_scan.specs.Scans.{ScansChunk}
 use Rattle.hs_scan.specs.Telling.{TellsBlock}
 use Rattle.hs_scan.proofs.BlockLemmas.{takes-as}
-use Rattle.hs_scan.proofs.FillLemmas.{whole}
+use Rattle.hs_nodes.proofs.FillLemmas.{whole}
 use Rattle.hs_scan.proofs.LineFeedLemmas.{first-tells, line_feed-chunk}
 use Rattle.hs_scan.proofs.ScanLemmas.{chunk-takes}
 use Rattle.hs_nodes.proofs.TickLemmas.{nodes-most}
@@ -24,7 +24,7 @@ walk-requires-clause-rests g c =
     let bytes = c.args.chunk.now.bytes.now in
     let rests = resting-more m graph.table (length graph.table.nodes.items) s.course.marks c.wake.new.marks c.args.region.now c.wake.ensures.more c.requires.resting in
     let small : Each (λ b. b < 256) bytes = subst (Each (λ b. b < 256)) (sym c.requires.bytes) (omega arith, tt) in
-    subst (λ hs. MayNodesRest m graph.table c.wake.new.marks hs c.args.region.now bytes) (sym c.deref-2.ensures.value)
+    subst (λ hs. MayNodesRest m graph.table c.wake.new.marks hs c.args.region.now bytes) (sym c.deref.ensures.value)
     (resting-may m graph.table c.wake.new.marks s.hits.items c.args.region.now bytes small rests (c.wake.ensures.unwoken s.hits.items c.requires.others))
 
 pub tell_line_feed-requires-clause-rest : goal.tell_line_feed-requires-clause-rest
@@ -58,7 +58,7 @@ settle-requires-clause-resting g c =
 pub returns-clause-ticks : goal.returns-clause-ticks
 returns-clause-ticks g c =
     let nodes = c.args.graph.now.table.nodes.items in
-    let hits = c.deref-2.result.now in
+    let hits = c.deref.result.now in
     let count : ℕ = length c.args.chunk.now.bytes.now in
     let most : nodes_ticks nodes hits count ≤ 16 * (length nodes * 2) = subst (λ k. nodes_ticks nodes hits count ≤ 16 * (length nodes * (k + 1))) (ap length c.requires.bytes) (nodes-most nodes hits count) in
     omega (arith, most, c.walk.ensures.ticks)
@@ -77,8 +77,8 @@ returns-clause-scans g c =
     let len : length left ≡ length s.ends.items = c.walk.ensures.ends ∙ ap length c.deref_mut.ensures.value in
     let ends = take s.ends.len (left ++ drop (length left) s.ends.items) in
     let now : ends ≡ left = whole left s.ends.items s.ends.len len (omega (arith, s.ends.ok)) in
-    let took = subst (λ es. TakesNodes m graph.table c.args.region.now c.walk.new.region chunk.prev chunk.at chunk.past.now bytes c.deref-2.result.now es) (sym now) c.walk.ensures.takes in
-    let takes = subst (λ hs. TakesNodes m graph.table c.args.region.now c.walk.new.region chunk.prev chunk.at chunk.past.now bytes hs ends) c.deref-2.ensures.value took in
+    let took = subst (λ es. TakesNodes m graph.table c.args.region.now c.walk.new.region chunk.prev chunk.at chunk.past.now bytes c.deref.result.now es) (sym now) c.walk.ensures.takes in
+    let takes = subst (λ hs. TakesNodes m graph.table c.args.region.now c.walk.new.region chunk.prev chunk.at chunk.past.now bytes hs ends) c.deref.ensures.value took in
     takes-as g.V.Events.tells c.args.events.now c.tell_line_feed.new.events
     (TellsBlock m graph bytes chunk.at ends all 0 known.told.items known.here.items then.told.items then.here.items)
     (ScansChunk m graph c.args.region.now c.walk.new.region chunk.prev chunk.at chunk.past.now bytes s.hits.items known.told.items known.here.items then.told.items then.here.items)
@@ -97,7 +97,7 @@ returns-clause-left g c =
     let len : length left ≡ length s.ends.items = c.walk.ensures.ends ∙ ap length c.deref_mut.ensures.value in
     let ends = take s.ends.len (left ++ drop (length left) s.ends.items) in
     let now : ends ≡ left = whole left s.ends.items s.ends.len len (omega (arith, s.ends.ok)) in
-    let took = subst (λ es. TakesNodes m graph.table c.args.region.now c.walk.new.region chunk.prev chunk.at chunk.past.now bytes c.deref-2.result.now es) (sym now) c.walk.ensures.takes in
-    let takes = subst (λ hs. TakesNodes m graph.table c.args.region.now c.walk.new.region chunk.prev chunk.at chunk.past.now bytes hs ends) c.deref-2.ensures.value took in
+    let took = subst (λ es. TakesNodes m graph.table c.args.region.now c.walk.new.region chunk.prev chunk.at chunk.past.now bytes c.deref.result.now es) (sym now) c.walk.ensures.takes in
+    let takes = subst (λ hs. TakesNodes m graph.table c.args.region.now c.walk.new.region chunk.prev chunk.at chunk.past.now bytes hs ends) c.deref.ensures.value took in
     line_feed-chunk m graph chunk.at c.args.region.now c.walk.new.region known.told.items known.here.items chunk.prev chunk.past.now bytes s.hits.items ends c.everywhere-all.result s.finals c.tell_line_feed.new.scratch.last.items
     (ap length now ∙ (len ∙ c.requires.room.room.count)) c.everywhere-all.ensures takes c.tell_line_feed.ensures.left

@@ -8,7 +8,7 @@ use Rattle.hs_scan.specs.Telling.{TellsBlock}
 use Rattle.hs_nodes.specs.Gathering.{AreGathered}
 use Rattle.hs_scan.specs.Writing.{AreLeftByLineFeed, LeavesLineFeed}
 use Rattle.hs_scan.proofs.BlockLemmas.{block-tells}
-use Rattle.hs_scan.proofs.FillLemmas.{whole}
+use Rattle.hs_nodes.proofs.FillLemmas.{whole}
 use Rattle.hs_scan.proofs.LineFeedLemmas.{block-first, line_feed-leaves}
 use Rattle.hs_scan.proofs.line_feed.tell_line_feed.Goals as goal
 

@@ -1,14 +1,12 @@
-use Rattle.std.proofs.Common.{◌≡◌, ◌+◌, ℕ, false, List, ◌++◌, length, drop, sym, ap, subst, ◌∙◌}
+use Rattle.std.proofs.Common.{◌≡◌, ◌+◌, ℕ, List, ◌++◌, length, drop, sym, ap, subst, ◌∙◌}
 use Rattle.hs_literals.specs.Held.{held}
-use Rattle.hs_literals.specs.HitTables.{HitTable, has_hit}
 use Rattle.hs_nodes.specs.Blocks.{EndsBehind}
 use Rattle.hs_nodes.specs.Resting.{AreNodesResting}
-use Rattle.hs_scan.specs.Hits.{HasNowhere}
 use Rattle.hs_scan.specs.declared.chunk.Course.{Course}
 use Rattle.hs_scan.specs.Scans.{Scans, ScansChunk, stand}
 use Rattle.hs_scan.specs.Scratches.{stand_of}
 use Rattle.hs_scan.proofs.BlockLemmas.{takes-as}
-use Rattle.hs_scan.proofs.FillLemmas.{each-by}
+use Rattle.hs_nodes.proofs.FillLemmas.{each-by}
 use Rattle.hs_scan.proofs.PastLemmas.{early-pushed}
 use Rattle.hs_scan.proofs.ScanLemmas.{chunk-scans}
 use Rattle.hs_scan.proofs.scanning.scan_chunk.Goals as goal
@@ -18,11 +16,11 @@ run_chunk-requires-clause-small g c = each-by c.args.bytes.now (λ i. (c.type_in
 
 pub run_chunk-requires-clause-others : goal.run_chunk-requires-clause-others
 run_chunk-requires-clause-others g c k none =
-    subst (λ v. HasNowhere v.items k) (sym c.fill.ensures.hits) (c.find_hits.ensures.others k (subst (λ (r : HitTable). has_hit r k ≡ false) c.fill.ensures.rows none))
+    c.find_hits.ensures.others k none
 
 pub run_chunk-requires-clause-resting : goal.run_chunk-requires-clause-resting
 run_chunk-requires-clause-resting g c =
-    subst (λ (k : Course). AreNodesResting g.E.Engine.meaning c.args.graph.now.table k.marks c.args.region.now) (sym (c.fill.ensures.course ∙ c.find_hits.ensures.course)) c.requires.resting
+    subst (λ (k : Course). AreNodesResting g.E.Engine.meaning c.args.graph.now.table k.marks c.args.region.now) (sym c.find_hits.ensures.course) c.requires.resting
 
 pub returns-clause-resting : goal.returns-clause-resting
 returns-clause-resting g c =
@@ -31,8 +29,8 @@ returns-clause-resting g c =
 pub returns-clause-early : goal.returns-clause-early
 returns-clause-early g c =
     let s = c.args.scratch.now in
-    let past_is : c.forget.new.scratch.past ≡ s.past = c.forget.ensures.past ∙ (c.run_chunk.ensures.keeps.past ∙ (c.fill.ensures.past ∙ c.find_hits.ensures.past)) in
-    let at_is : c.forget.new.scratch.at ≡ s.at = c.forget.ensures.at_is ∙ (c.run_chunk.ensures.keeps.at_is ∙ (c.fill.ensures.at_is ∙ c.find_hits.ensures.at_is)) in
+    let past_is : c.forget.new.scratch.past ≡ s.past = c.forget.ensures.past ∙ (c.run_chunk.ensures.keeps.past ∙ c.find_hits.ensures.past) in
+    let at_is : c.forget.new.scratch.at ≡ s.at = c.forget.ensures.at_is ∙ (c.run_chunk.ensures.keeps.at_is ∙ c.find_hits.ensures.at_is) in
     early-pushed s.past c.push_past.new.past c.args.bytes.now s.at (c.forget.new.scratch.at + length c.args.bytes.now) c.requires.room.past
     (c.push_past.ensures ∙ ap (λ (xs : List ℕ). drop (length c.args.bytes.now) (xs ++ c.args.bytes.now)) past_is) (ap (λ n. n + length c.args.bytes.now) at_is)
 
@@ -46,16 +44,15 @@ returns-clause-scans g c =
     let r1 = c.run_chunk.new.region in
     let s = c.args.scratch.now in
     let s1 = c.find_hits.new.scratch in
-    let s2 = c.fill.new.scratch in
+    let s2 = c.find_hits.new.scratch in
     let s3 = c.run_chunk.new.scratch in
     let s4 = c.forget.new.scratch in
     let prev = c.prev_of.result in
     let found = c.find_hits.ensures in
-    let filled = c.fill.ensures in
     let kept = c.run_chunk.ensures.keeps in
-    let course_is : s2.course ≡ s.course = filled.course ∙ found.course in
-    let at_is : s4.at ≡ s.at = c.forget.ensures.at_is ∙ (kept.at_is ∙ (filled.at_is ∙ found.at_is)) in
-    let past_is : s4.past ≡ s.past = c.forget.ensures.past ∙ (kept.past ∙ (filled.past ∙ found.past)) in
+    let course_is : s2.course ≡ s.course = found.course in
+    let at_is : s4.at ≡ s.at = c.forget.ensures.at_is ∙ (kept.at_is ∙ found.at_is) in
+    let past_is : s4.past ≡ s.past = c.forget.ensures.past ∙ (kept.past ∙ found.past) in
     let pushed : c.push_past.new.past ≡ drop (length bytes) (s.past ++ bytes) = c.push_past.ensures ∙ ap (λ (xs : List ℕ). drop (length bytes) (xs ++ bytes)) past_is in
     takes-as g.V.Events.tells c.args.events.now c.run_chunk.new.events
     (ScansChunk m graph r0 r1 prev s1.at s1.past bytes s2.hits.items s2.course.known.told.items s2.course.known.here.items s3.course.known.told.items s3.course.known.here.items)
@@ -64,7 +61,7 @@ returns-clause-scans g c =
     let one : ScansChunk m graph r0 r1 prev s.at s.past bytes s2.hits.items s2.course.known.told.items s2.course.known.here.items s3.course.known.told.items s3.course.known.here.items ps =
     subst (λ n. ScansChunk m graph r0 r1 prev n s.past bytes s2.hits.items s2.course.known.told.items s2.course.known.here.items s3.course.known.told.items s3.course.known.here.items ps) found.at_is (subst (λ v. ScansChunk m graph r0 r1 prev s1.at v bytes s2.hits.items s2.course.known.told.items s2.course.known.here.items s3.course.known.told.items s3.course.known.here.items ps) found.past scans) in
     let two : ScansChunk m graph r0 r1 prev s.at s.past bytes s1.hits.items s2.course.known.told.items s2.course.known.here.items s3.course.known.told.items s3.course.known.here.items ps =
-    subst (λ v. ScansChunk m graph r0 r1 prev s.at s.past bytes v.items s2.course.known.told.items s2.course.known.here.items s3.course.known.told.items s3.course.known.here.items ps) filled.hits one in
+    one in
     let three : ScansChunk m graph r0 r1 prev s.at s.past bytes s1.hits.items s.course.known.told.items s.course.known.here.items s3.course.known.told.items s3.course.known.here.items ps =
     subst (λ k. ScansChunk m graph r0 r1 prev s.at s.past bytes s1.hits.items k.known.told.items k.known.here.items s3.course.known.told.items s3.course.known.here.items ps) course_is two in
     let four : ScansChunk m graph r0 r1 prev s.at s.past bytes s1.hits.items s.course.known.told.items s.course.known.here.items s4.course.known.told.items s4.course.known.here.items ps =

@@ -2,7 +2,7 @@ use Rattle.std.proofs.Common.{◌≡◌, ◌++◌, length, take, drop, refl, sym
 use Rattle.hs_literals.specs.Held.{held}
 use Rattle.hs_scan.specs.Hits.{HasNowhere}
 use Rattle.hs_scan.specs.Scans.{AreHitsBehind}
-use Rattle.hs_scan.proofs.FillLemmas.{whole}
+use Rattle.hs_nodes.proofs.FillLemmas.{whole}
 use Rattle.hs_scan.proofs.HitLemmas.{hits-behind}
 use Rattle.hs_scan.proofs.scratch.find_hits.Goals as goal
 
@@ -24,7 +24,6 @@ returns c =
       count = ap length now ∙ len;
       rows = c.find.ensures.count;
       ends = refl;
-      contexts = refl;
       course = refl;
       finals = refl;
       last = refl;

@@ -20,7 +20,6 @@ returns g c =
     record {
       room = record {
         room = room.room;
-        contexts = room.contexts;
         hits = room.hits;
         known = subst (λ xs. FitsKnown (length xs) known) c.deref.ensures.value c.begin_known.ensures.fits;
         finals = room.finals;

@@ -2,7 +2,7 @@ use Rattle.std.proofs.Common.{refl, sym, subst, arith}
 use Rattle.std.specs.Int.{to_le_bytes, w64}
 use Rattle.hs_keeping.specs.Keeping.{AreLast, AreRead}
 use Rattle.hs_scan.specs.Scratches.{stand_of}
-use Rattle.hs_scan.proofs.FillLemmas.{each-by}
+use Rattle.hs_nodes.proofs.FillLemmas.{each-by}
 use Rattle.hs_scan.proofs.WritingLemmas.{AreWrites, all-written}
 use Rattle.hs_scan.proofs.writing.end_write.Goals as goal
 

@@ -11,7 +11,6 @@ returns-clause-room g c =
         room = omega (arith, room.room.room, c.mark_live.ensures.room);
         below = c.mark_live.ensures.below;
       };
-      contexts = room.contexts;
       hits = room.hits;
       known = room.known;
       finals = room.finals;

@@ -1,10 +1,11 @@
 //! Numbers that are marked, and the next one of them.
 
-ghost use Rattle.std.specs.Prelude.{◌≡◌, ◌/◌, ◌^◌, ◌<◌, ◌≤◌, ◌==◌, ℕ, false, not, IfOk, length, slice_index, slice_set};
+ghost use Rattle.std.specs.Prelude.{◌≡◌, ◌/◌, ◌^◌, ◌<◌, ◌≤◌, ◌==◌, ◌||◌, ℕ, false, not, IfOk, length};
+ghost use Rattle.std.specs.Prelude.{slice_index, slice_set};
 ghost use Rattle.std.specs.Int.{bit_at};
-ghost use Rattle.hs_base.specs.Bits.{word_count};
+ghost use Rattle.hs_base.specs.Bits.{has_word_bit, word_count};
 ghost use Rattle.hs_bits.specs.NextBits.{IsNextBitIn};
-ghost use Rattle.hs_nodes.specs.Marks.{IsSummed, is_marked, mark_room};
+ghost use Rattle.hs_reports.specs.Marks.{IsSummed, is_marked, mark_room};
 
 use hs_bits::{
     WORD_BITS, clear_words, contains_word_bit, lowest_bit, next_bit_in, word_count_for,
@@ -24,7 +25,7 @@ pub struct MarkSet {
 
 impl Model for MarkSet {
     ghost use Rattle.std.specs.Prelude.{ℕ, List};
-    ghost use Rattle.hs_nodes.specs.Marks.{IsSummed};
+    ghost use Rattle.hs_reports.specs.Marks.{IsSummed};
 
     ghost Value = { List ℕ };
 
@@ -38,6 +39,7 @@ impl MarkSet {
     pub fn new(alloc: Global, count: usize) -> Result<MarkSet, AllocError>
         requires { count < 2 ^ 32 }
         ensures room { IfOk result (λ marks. count ≤ mark_room marks) }
+        ensures size { IfOk result (λ marks. length marks ≡ word_count count) }
         ensures none { IfOk result (λ marks. (k : ℕ) → is_marked marks k ≡ false) }
     {
         let words = word_count_for(count);
@@ -73,6 +75,32 @@ impl MarkSet {
     {
         clear_words(&mut self.words);
         clear_words(&mut self.summary);
+    }
+
+    /// Marks those numbers more whose bit is set in a row.
+    pub fn mark_row(&mut self, row: &[u64])
+        requires { length row.now ≤ length self.old }
+        ensures room { length self.new ≡ length self.old }
+        ensures marked { (k : ℕ) → is_marked self.new k ≡ (has_word_bit row.now k || is_marked self.old k) }
+    {
+        let _ = self.words.len();
+        let end = WORD_BITS * row.len();
+        let mut from = 0;
+        while let Some(k) = next_bit_in(row, from, end) {
+            self.write(k, true);
+            from = k + 1;
+        }
+    }
+
+    /// The least number from `from` on and before `end` that is marked; None exactly where there is none.
+    pub fn next_before(&self, from: usize, end: usize) -> Option<usize>
+        requires { end ≤ mark_room self.now }
+        ensures { IsNextBitIn (is_marked self.now) from end result }
+    {
+        let Some(k) = self.next(from) else {
+            return None;
+        };
+        if k < end { Some(k) } else { None }
     }
 
     /// The least number from `from` on that is marked; None exactly where there is none.

@@ -16,7 +16,7 @@ use Rattle.hs_bits.specs.LowestBits.{IsLowestBit}
 use Rattle.hs_bits.specs.NextBits.{IsNextBit, IsNextBitIn, is_in_either}
 use Rattle.hs_bits.proofs.NextLemmas.{next-in_word, next-same, none-left, nowhere-join}
 use Rattle.hs_bits.proofs.WordLemmas.{words-past, words-zero}
-use Rattle.hs_nodes.specs.Marks.{IsSummed}
+use Rattle.hs_reports.specs.Marks.{IsSummed}
 
 shr-bit : (n s i : ℕ) → bit_at (n / 2 ^ s) i ≡ bit_at n (s + i)
 shr-bit n s i = ap (λ m. m % 2) (div-div-eq-div-mul n (2 ^ s) (2 ^ i) ∙ ap (λ m. n / m) (sym (pow-add 2 s i)))
@@ -168,3 +168,37 @@ summed-clear words summary words' summary' new now n n' summed same same' len le
 pub clear-marks : (words words' new : List ℕ) (n : ℕ) → words' ≡ words → length new ≡ length words' → AreZero new → n ≡ length words → (k : ℕ) → has_word_bit (take n (new ++ drop (length new) words)) k ≡ false
 clear-marks words words' new n same len zeros count k =
     ap (λ ws. has_word_bit ws k) (whole-written new words n (len ∙ ap length same) count) ∙ words-zero new (zero-all new zeros) k
+
+-- The numbers below one are marked as a row tells, and the others as they were.
+pub record AreRowMarks (row old new : List ℕ) (from : ℕ) : Type 0 where
+  pub room : length new ≡ length old
+  pub below : (k : ℕ) → k < from → has_word_bit new k ≡ (has_word_bit row k || has_word_bit old k)
+  pub above : (k : ℕ) → from ≤ k → has_word_bit new k ≡ has_word_bit old k
+
+module _ (row old : List ℕ) where
+  pub row-none : AreRowMarks row old old 0
+  row-none = record { room = refl; below = λ k low. absurd (omega arith); above = λ k high. refl }
+
+  -- up to the next one, and that one
+  pub row-more : (mid new : List ℕ) (from k : ℕ) → IsNextBit (has_word_bit row) from (64 * length row) k → length new ≡ length mid → has_word_bit new k ≡ true → ((j : ℕ) → (j ≡ k → ⊥) → has_word_bit new j ≡ has_word_bit mid j) →
+      AreRowMarks row old mid from → AreRowMarks row old new (k + 1)
+  row-more mid new from k next len put others are = record {
+    room = len ∙ are.room;
+    below = λ j low. by_place j low (cases_eq j k);
+    above = λ j high. others j (λ same. absurd (omega arith)) ∙ are.above j (omega (arith, next.low));
+  } where
+    by_place : (j : ℕ) → j < k + 1 → (j ≡ k) ⊎ (j ≡ k → ⊥) → has_word_bit new j ≡ (has_word_bit row j || has_word_bit old j)
+    by_place j low (inl same) = ap (λ n. has_word_bit new n) same ∙ put ∙ sym (ap (λ b. b || has_word_bit old j) (ap (λ n. has_word_bit row n) same ∙ next.is))
+    by_place j low (inr apart) = others j apart ∙ elim (cases_lt j from) [
+      | inl inner ↦ are.below j inner
+      | inr past ↦ are.above j past ∙ sym (ap (λ b. b || has_word_bit old j) (next.least j past (omega (arith, low, apart))))
+    ]
+
+  pub row-all : (new : List ℕ) (from : ℕ) → HoldsNowhere (has_word_bit row) from (64 * length row) → AreRowMarks row old new from → (k : ℕ) → has_word_bit new k ≡ (has_word_bit row k || has_word_bit old k)
+  row-all new from none are k = elim (cases_lt k from) [
+    | inl inner ↦ are.below k inner
+    | inr past ↦ are.above k past ∙ sym (ap (λ b. b || has_word_bit old k) (unset (cases_lt k (64 * length row)) past))
+  ] where
+    unset : (k < 64 * length row) ⊎ (64 * length row ≤ k) → from ≤ k → has_word_bit row k ≡ false
+    unset (inl inside) past = none k past inside
+    unset (inr beyond) past = words-past row k beyond

@@ -2,8 +2,8 @@ use Rattle.std.proofs.Common.{◌+◌, ℕ, length, refl, subst, arith, length-s
 use Rattle.hs_base.specs.Contexts.{prev_at}
 use Rattle.hs_block.specs.BlockContexts.{AreContexts}
 use Rattle.hs_nodes.specs.Blocks.{front}
-use Rattle.hs_scan.proofs.FillLemmas.{filled-all, filled-more, filled-none}
-use Rattle.hs_scan.proofs.contexts.fill_contexts.Goals as goal
+use Rattle.hs_nodes.proofs.FillLemmas.{filled-all, filled-more, filled-none}
+use Rattle.hs_nodes.proofs.contexts.fill_contexts.Goals as goal
 
 pub loop-j-init : goal.loop-j-init
 loop-j-init c = filled-none c.args.contexts.now c.args.chunk.now.prev c.args.chunk.now.at c.args.chunk.now.bytes.now c.requires.room
