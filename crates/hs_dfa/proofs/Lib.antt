@@ -1,0 +1,10 @@
+pub mod DiscoveryLemmas
+pub mod SoFarLemmas
+pub mod StateLemmas
+pub mod HistoryLemmas
+pub mod FootingLemmas
+pub mod BuildLemmas
+pub mod EndLemmas
+pub mod ClassLemmas
+pub mod TransferLemmas
+pub mod DfaLemmas
