@@ -1,5 +1,5 @@
 -- One more move of the states that are built.
-use Rattle.std.proofs.Common.{◌≡◌, ℕ, zero, suc, ◌+◌, ◌*◌, ◌<◌, ◌≤◌, Bool, true, false, List, [], ◌∷◌, ◌++◌, map, length, get_or, EachIndex, slice_index, Option, Some, None, slice_get, refl, sym, ap, subst, ◌∙◌, inl, inr, arith, vec_len, length-append}
+use Rattle.std.proofs.Common.{◌≡◌, ℕ, zero, suc, ◌+◌, ◌<◌, ◌≤◌, false, List, [], ◌∷◌, ◌++◌, map, length, get_or, EachIndex, slice_index, Option, Some, slice_get, refl, sym, ap, subst, ◌∙◌, inl, inr, arith, vec_len, length-append}
 use Rattle.std.proofs.lemmas.Bool.{cases_lt}
 use Rattle.std.proofs.lemmas.List.{map-append, get_or_append_left}
 use Rattle.std.proofs.Math.Seq.{get_or-append_seam}
@@ -7,10 +7,9 @@ use Rattle.std.proofs.lemmas.Option.{none-some, slice_get_within, same_Some}
 use Rattle.hs_base.specs.Bits.{has_word_bit}
 use Rattle.hs_engine.specs.declared.automaton.Automaton.{Automaton}
 use Rattle.hs_dfa.specs.AutomatonStates.{AreBuilt, AreClassesTo, AreStatesIn, HasTooManyStates, IsFootingOf, state_of, tests_by}
-use Rattle.hs_dfa.specs.Discovery.{IsMove}
 use Rattle.hs_dfa.specs.DfaBuilding.{IsSoFar}
 use Rattle.hs_dfa.specs.DfaStates.{DfaState, first_state, kept_prev, move_by}
-use Rattle.hs_dfa.specs.Footings.{HasPositionsBelow, IsAlike, IsLikeOne, IsNewTo, is_moved_to}
+use Rattle.hs_dfa.specs.Footings.{HasPositionsBelow, IsLikeOne, IsNewTo, is_moved_to}
 use Rattle.hs_base.specs.declared.context.Prev.TheVariants as stands
 use Rattle.hs_engine.proofs.AgreementLemmas.{get-seam}
 use Rattle.hs_dfa.specs.Subsets.{IsEntered, is_added, is_known, is_too_many}

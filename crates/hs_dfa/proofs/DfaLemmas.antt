@@ -1,8 +1,7 @@
 -- What the tables of a `Dfa` say, and what its region does.
-use Rattle.std.proofs.Common.{◌≡◌, ◌↔◌, ℕ, zero, suc, ◌+◌, ◌*◌, ◌<◌, ◌≤◌, Bool, true, false, ◌&&◌, ◌||◌, List, [], ◌∷◌, ◌++◌, map, length, get_or, set, slice_index, Some, slice_get, refl, sym, ap, subst, ◌∙◌, arith, vec_len}
+use Rattle.std.proofs.Common.{◌≡◌, ◌↔◌, ℕ, ◌+◌, ◌*◌, ◌<◌, Bool, true, false, ◌&&◌, List, [], ◌∷◌, ◌++◌, map, length, set, slice_index, Some, slice_get, refl, sym, ap, subst, ◌∙◌, arith, vec_len}
 use Rattle.std.proofs.lemmas.Nat.{mul-add-lt}
 use Rattle.std.proofs.lemmas.Option.{slice_get_within, same_Some}
-use Rattle.hs_base.specs.declared.byte_set.ByteSet.{ByteSet}
 use Rattle.hs_base.specs.declared.context.Next.{Next}
 use Rattle.hs_base.specs.Bits.{has_word_bit}
 use Rattle.hs_base.specs.ByteSets.{has}
@@ -14,14 +13,16 @@ use Rattle.hs_engine.specs.declared.automaton.Automaton.{Automaton}
 use Rattle.hs_engine.specs.AnyBelow.{any_below}
 use Rattle.hs_engine.specs.Automata.{accepts}
 use Rattle.hs_engine.specs.Between.{between}
-use Rattle.hs_engine.specs.Engines.{AreWakers, IsAsleep, IsQuiet, IsStart, LeavesNothing}
+use Rattle.hs_engine.specs.Engines.{AreWakers, IsQuiet}
 use Rattle.hs_engine.specs.Tables.{Runs}
-use Rattle.hs_dfa.specs.AutomatonStates.{AreBuilt, AreStatesIn, state_of, tests_by}
-use Rattle.hs_dfa.specs.DfaBuilding.{done_number, number_at}
-use Rattle.hs_dfa.specs.DfaClauses.{HasMoreStates, IsBuiltFor, IsEmptyAt}
-use Rattle.hs_dfa.specs.DfaEngines.{IsDfaOf, IsNumberIn, IsNumberOf, TellsEnd, meaning_of_dfa, next_number}
-use Rattle.hs_dfa.specs.DfaHistories.{IsBlind, IsStateOf}
-use Rattle.hs_dfa.specs.DfaStates.{AreStatesOf, DfaState, first_state, is_accepting, is_live, move_by, tests_of}
+use Rattle.hs_dfa.specs.AutomatonStates.{AreBuilt, state_of, tests_by}
+use Rattle.hs_dfa.specs.DfaBuilding.{done_number}
+use Rattle.hs_dfa.specs.DfaClauses.{IsEmptyAt}
+use Rattle.hs_glushkov.specs.AssertionTests.{has_assertion}
+use Rattle.hs_dfa.specs.DfaEngines.{IsDfaOf, IsNumberOf, TellsEnd, meaning_of_dfa, next_number}
+use Rattle.hs_dfa.specs.DfaHistories.{IsStateOf}
+use Rattle.hs_dfa.proofs.BlindLemmas.{IsBlind, written-blind}
+use Rattle.hs_dfa.specs.DfaStates.{AreStatesOf, DfaState, first_state, is_live, move_by, tests_of}
 use Rattle.hs_dfa.specs.Discovery.{IsMove}
 use Rattle.hs_dfa.specs.StateEnds.{AreEndsOf}
 use Rattle.hs_dfa.specs.declared.dfa.Dfa.{Dfa}
@@ -65,15 +66,15 @@ module _ (a : Automaton) (tree : Tree) (runs : Runs a tree) where
         is_empty = (λ told. sym (live-count f) ∙ is.is_empty.0 told, λ none. is.is_empty.1 (live-count f ∙ none));
       })
 
-  pub dfa-is : (blind : a.has_assertion ≡ false → IsBlind (write_out tree)) (d : Dfa) (known : List Footing) → d.has_assertion ≡ a.has_assertion →
+  pub dfa-is : a.has_assertion ≡ has_assertion tree → (d : Dfa) (known : List Footing) → d.has_assertion ≡ a.has_assertion →
       AreBuilt a (slice_index d.classes) d.class_count known d.rows.items (length known) 0 → AreEndsOf a known (length known) d.ends.items → IsDfaOf d tree
-  dfa-is blind d known keeps built are =
+  dfa-is flag d known keeps built are =
       let states : List DfaState = map (state_of Size) known in
       let all : AreStatesOf Written a.has_assertion states = states-of a Written runs.tables a.has_assertion states (built-all a (slice_index d.classes) d.class_count known d.rows.items built) in
       record {
         plain = runs.plain;
         ends_last = runs.ends_last;
-        blind = λ none. blind (sym keeps ∙ none);
+        keeps = keeps ∙ flag;
         states = states;
         all = subst (λ h. AreStatesOf Written h states) (sym keeps) all;
         count = omega (arith, map-length (state_of Size) known, are.len, d.ends.ok.0);
@@ -106,6 +107,9 @@ module _ (d : Dfa) (tree : Tree) (is : IsDfaOf d tree) where
         ∙ ap (λ s. Some s) (one-state Expression d.has_assertion [] [] (first_state (tests_of Expression) d.has_assertion) own (state-start Expression d.has_assertion) own_is);
   }
 
+  blind : d.has_assertion ≡ false → IsBlind (write_out tree)
+  blind none = written-blind tree (sym is.keeps ∙ none)
+
   module _ (u : List ℕ) (entered : List Bool) (len : length entered ≡ length u) (region : List ℕ) (field : IsNumberOf (write_out tree) d.has_assertion u entered region) where
     number-is : slice_index region 0 ≡ field.number
     number-is = ap (λ z. slice_index z 0) field.region_is
@@ -120,7 +124,7 @@ module _ (d : Dfa) (tree : Tree) (is : IsDfaOf d tree) where
         let move = is.moves n b (slice_get_within is.states n field.state state-there) small in
         let source : move.source ≡ field.state = same_Some move.source field.state (sym move.at ∙ state-there) in
         let there : slice_get is.states (next_number d n b) ≡ Some after = move.leads ∙ ap (λ s. Some (move_by (tests_of Expression) d.has_assertion s b)) source in
-        let after_is : IsStateOf Expression d.has_assertion (u ++ b ∷ []) (entered ++ true ∷ []) after = state-step Expression d.has_assertion is.blind u entered len field.state field.is b in
+        let after_is : IsStateOf Expression d.has_assertion (u ++ b ∷ []) (entered ++ true ∷ []) after = state-step Expression d.has_assertion blind u entered len field.state field.is b in
         record {
           number = next_number d n b;
           region_is = refl;
@@ -134,7 +138,7 @@ module _ (d : Dfa) (tree : Tree) (is : IsDfaOf d tree) where
     pub end-leaves : (end : StateEnd) → slice_get d.ends.items (slice_index region 0) ≡ Some end → (next : Next) → (has_next end.accepts next ≡ true) ↔ Leaves tree u entered next
     end-leaves end there next =
         let tells = is.ends (slice_index region 0) field.state end state-there there in
-        let leaves = accepting-is-leaving tree is.plain is.ends_last d.has_assertion is.blind u entered len field.state field.is next in (
+        let leaves = accepting-is-leaving tree is.plain is.ends_last d.has_assertion blind u entered len field.state field.is next in (
           λ told. leaves.0 (sym (tells.accepts next) ∙ told),
           λ left. tells.accepts next ∙ leaves.1 left,
         )

@@ -1,7 +1,5 @@
 -- What states say of ends, made state by state.
-use Rattle.std.proofs.Common.{◌≡◌, ◌↔◌, ℕ, suc, ◌+◌, ◌<◌, Bool, true, false, ◌&&◌, ◌||◌, List, [], ◌∷◌, ◌++◌, length, Some, slice_get, refl, sym, ap, subst, ◌∙◌, inl, inr, arith, length-append, vec_len}
-use Rattle.hs_base.specs.declared.context.Next.{Next}
-use Rattle.hs_base.specs.Bits.{has_word_bit}
+use Rattle.std.proofs.Common.{◌≡◌, ℕ, suc, ◌+◌, Bool, false, ◌||◌, List, [], ◌∷◌, ◌++◌, Some, slice_get, sym, ap, subst, ◌∙◌, arith, length-append}
 use Rattle.hs_bits.proofs.WordLemmas.{or-turned}
 use Rattle.hs_engine.specs.declared.automaton.Automaton.{Automaton}
 use Rattle.hs_engine.specs.AnyBelow.{any_below}

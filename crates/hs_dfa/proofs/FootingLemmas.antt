@@ -1,16 +1,15 @@
 -- Footings as states: by their bits, and where bytes lead.
-use Rattle.std.proofs.Common.{◌≡◌, ◌↔◌, ℕ, zero, suc, ◌+◌, ◌*◌, ◌/◌, ◌%◌, ◌^◌, ◌<◌, ◌≤◌, Bool, true, false, ◌&&◌, ◌||◌, List, [], ◌∷◌, ◌++◌, map, length, get_or, eqb, Option, Some, None, slice_get, refl, sym, ap, subst, ◌∙◌, inl, inr, arith, replicate, vec_len}
+use Rattle.std.proofs.Common.{◌≡◌, ℕ, zero, suc, ◌+◌, ◌*◌, ◌/◌, ◌%◌, ◌^◌, ◌<◌, ◌≤◌, Bool, true, false, ◌&&◌, ◌||◌, List, [], ◌∷◌, map, length, get_or, eqb, Option, Some, None, slice_get, refl, sym, ap, ◌∙◌, inl, inr, arith, replicate, vec_len}
 use Rattle.std.specs.Int.{bit_at}
 use Rattle.std.specs.Option.{option_map}
 use Rattle.std.proofs.lemmas.Bool.{cases_lt}
 use Rattle.std.proofs.lemmas.List.{get_or_past, get_or-replicate}
-use Rattle.std.proofs.lemmas.Nat.Bits.{bit_at-lt, bit_at-zero, same_from_bits_below}
+use Rattle.std.proofs.lemmas.Nat.Bits.{bit_at-lt, same_from_bits_below}
 use Rattle.std.proofs.lemmas.Option.{slice_get-map, slice_get_past, same_Some, none-some}
-use Rattle.hs_base.specs.declared.context.Prev.{Prev}
 use Rattle.hs_base.specs.declared.context.Next.{Next}
 use Rattle.hs_base.specs.Assertions.{line_feed, is_word_byte}
 use Rattle.hs_base.specs.Bits.{has_word_bit}
-use Rattle.hs_base.specs.Contexts.{Context, class_of, next_by, prev_by}
+use Rattle.hs_base.specs.Contexts.{class_of, next_by, prev_by}
 use Rattle.hs_base.proofs.ContextLemmas.{first_of_both}
 use Rattle.hs_bits.proofs.WordLemmas.{or-turned, words-past, words-zero}
 use Rattle.hs_engine.specs.declared.automaton.Automaton.{Automaton}
@@ -21,7 +20,7 @@ use Rattle.hs_engine.specs.Rows.{in_row}
 use Rattle.hs_engine.specs.declared.follow_rows.FollowRows.{FollowRows}
 use Rattle.hs_engine.specs.Between.{between}
 use Rattle.hs_dfa.specs.AutomatonStates.{IsFootingOf, state_of, tests_by}
-use Rattle.hs_dfa.specs.DfaStates.{DfaState, is_led_to, is_live, kept_prev, move_by, state_where}
+use Rattle.hs_dfa.specs.DfaStates.{DfaState, is_led_to, is_live, kept_prev, move_by}
 use Rattle.hs_dfa.specs.Footings.{HasPositionsBelow, IsAlike, IsNewTo, is_moved_to}
 use Rattle.hs_dfa.specs.NextBehind.{next_behind}
 use Rattle.hs_dfa.specs.declared.footing.Footing.{Footing}

@@ -1,12 +1,13 @@
 -- Each stream has its state among those that are discovered.
-use Rattle.std.proofs.Common.{◌≡◌, ℕ, zero, suc, ◌+◌, ◌<◌, Bool, true, false, List, [], ◌∷◌, ◌++◌, map, length, get_or, Some, slice_get, refl, sym, ap, subst, ◌∙◌, arith, EachIndex, slice_index}
+use Rattle.std.proofs.Common.{◌≡◌, ℕ, suc, ◌<◌, Bool, true, false, List, [], ◌∷◌, ◌++◌, length, Some, refl, sym, ap, subst, ◌∙◌, arith, EachIndex, slice_index}
 use Rattle.std.proofs.lemmas.List.{map-append}
 use Rattle.std.proofs.lemmas.Option.{slice_get_within, same_Some}
 use Rattle.hs_base.specs.Fields.{entered_always}
 use Rattle.hs_base.specs.WrittenOut.{Core}
 use Rattle.hs_dfa.specs.Discovery.{LeadsBelow}
 use Rattle.hs_dfa.specs.DfaStates.{DfaState, AreStatesOf, tests_of, move_by, first_state}
-use Rattle.hs_dfa.specs.DfaHistories.{IsBlind, IsStateOf}
+use Rattle.hs_dfa.specs.DfaHistories.{IsStateOf}
+use Rattle.hs_dfa.proofs.BlindLemmas.{IsBlind}
 use Rattle.hs_dfa.specs.DfaLaws.{HasStateOf}
 use Rattle.hs_dfa.proofs.StateLemmas.{state-start, state-step}
 

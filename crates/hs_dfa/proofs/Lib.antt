@@ -1,5 +1,6 @@
 pub mod DiscoveryLemmas
 pub mod SoFarLemmas
+pub mod BlindLemmas
 pub mod StateLemmas
 pub mod HistoryLemmas
 pub mod FootingLemmas

@@ -1,13 +1,13 @@
 -- Discovering the values one by one: number by number, and for each number class by class of bytes.
-use Rattle.std.proofs.Common.{◌≡◌, ℕ, zero, suc, ◌+◌, ◌*◌, ◌<◌, ◌≤◌, List, [], ◌∷◌, ◌++◌, length, get_or, Some, None, slice_get, refl, sym, ap, subst, ◌∙◌, inl, inr, arith, length-append}
-use Rattle.std.proofs.lemmas.Bool.{cases_lt, cases_eq}
+use Rattle.std.proofs.Common.{◌≡◌, ℕ, zero, suc, ◌+◌, ◌*◌, ◌<◌, ◌≤◌, List, [], ◌∷◌, ◌++◌, length, get_or, Some, slice_get, refl, sym, ap, subst, ◌∙◌, inl, inr, arith, length-append}
+use Rattle.std.proofs.lemmas.Bool.{cases_lt}
 use Rattle.std.proofs.lemmas.Nat.{mul-add-lt}
 use Rattle.std.proofs.lemmas.List.{get_or_append_left}
 use Rattle.std.proofs.Math.Seq.{get_or-append_seam}
-use Rattle.std.proofs.lemmas.Option.{slice_get_within, slice_get-get_or, same_Some, none-some}
+use Rattle.std.proofs.lemmas.Option.{slice_get_within, same_Some, none-some}
 use Rattle.hs_engine.proofs.AgreementLemmas.{get-append, get-seam}
-use Rattle.hs_dfa.specs.Discovery.{IsMove, LeadsBelow, IsTakenBefore, earlier_value, lesser_byte, IsDiscovered, AreDiscovered, AreAllDiscovered}
-use Rattle.hs_dfa.specs.DfaBuilding.{IsDone, done_number, done_class, number_at, IsSoFar}
+use Rattle.hs_dfa.specs.Discovery.{IsMove, LeadsBelow, IsTakenBefore, earlier_value, lesser_byte, IsDiscovered, AreAllDiscovered}
+use Rattle.hs_dfa.specs.DfaBuilding.{IsDone, done_number, done_class, table_number, IsSoFar}
 
 once-one : {S : Type 0} (v : S) (i : ℕ) (s : S) → slice_get (v ∷ []) i ≡ Some s → i ≡ 0
 once-one v zero s is = refl
@@ -32,7 +32,7 @@ pub still-there : {S : Type 0} (values : List S) (v : S) (i : ℕ) (s : S) → s
 still-there values v i s is = get-append values (v ∷ []) i v (slice_get_within values i s is) ∙ is
 
 module _ {S : Type 0} (first : S) (move : S → ℕ → S) (class : ℕ → ℕ) (count : ℕ) where
-  start-none : (j b : ℕ) → IsDone class 0 0 j b → IsMove move (first ∷ []) j b (number_at class count [] j b)
+  start-none : (j b : ℕ) → IsDone class 0 0 j b → IsMove move (first ∷ []) j b (table_number class count [] j b)
   start-none j b (done_number less) = absurd (omega arith)
   start-none j b (done_class same less) = absurd (omega arith)
 
@@ -58,18 +58,19 @@ module _ {S : Type 0} (first : S) (move : S → ℕ → S) (class : ℕ → ℕ)
     -- the moves of a number are done
     pub so_far-row : c ≡ count → ((b : ℕ) → b < 256 → class b < count) → IsSoFar first move class count values next (i + 1) 0
     so_far-row full few = record { so_far = so.so_far; moves = λ j b small within done. so.moves j b small within (row-done full few j b small done) }
+
     pub so_far-all : i ≡ length values → AreAllDiscovered first move values
     so_far-all end = record {
       so_far = so.so_far;
       closed = λ j b within small.
           let is = so.moves j b small within (done_number (omega arith)) in
-          record { to = number_at class count next j b; below = slice_get_within values (number_at class count next j b) (move is.source b) is.leads; is = is };
+          record { to = table_number class count next j b; below = slice_get_within values (table_number class count next j b) (move is.source b) is.leads; is = is };
     }
 
     -- one more move, whose value is known
     module _ (len : length next ≡ i * count + c) (few : (b : ℕ) → b < 256 → class b < count) (n : ℕ)
         (leads : (b : ℕ) → b < 256 → class b ≡ c → IsMove move values i b n) where
-      old-number : (j b : ℕ) → b < 256 → IsDone class i c j b → number_at class count (next ++ n ∷ []) j b ≡ number_at class count next j b
+      old-number : (j b : ℕ) → b < 256 → IsDone class i c j b → table_number class count (next ++ n ∷ []) j b ≡ table_number class count next j b
       old-number j b small (done_number less) =
           let small_class : class b < count = few b small in
           let bound : j * count + class b < count * i = mul-add-lt j count (class b) i less small_class in
@@ -79,16 +80,16 @@ module _ {S : Type 0} (first : S) (move : S → ℕ → S) (class : ℕ → ℕ)
           let row : j * count ≡ i * count = ap (λ z. z * count) same in
           get_or_append_left next (n ∷ []) 0 (j * count + class b) (omega arith)
 
-      new-number : (j b : ℕ) → j ≡ i → class b ≡ c → number_at class count (next ++ n ∷ []) j b ≡ n
+      new-number : (j b : ℕ) → j ≡ i → class b ≡ c → table_number class count (next ++ n ∷ []) j b ≡ n
       new-number j b same is =
           let row : j * count ≡ i * count = ap (λ z. z * count) same in
           let place : j * count + class b ≡ length next = omega arith in
           ap (λ k. get_or (next ++ n ∷ []) k 0) place ∙ get_or-append_seam next n [] 0
 
-      old-move : (j b : ℕ) → b < 256 → j < length values → IsDone class i c j b → IsMove move values j b (number_at class count (next ++ n ∷ []) j b)
+      old-move : (j b : ℕ) → b < 256 → j < length values → IsDone class i c j b → IsMove move values j b (table_number class count (next ++ n ∷ []) j b)
       old-move j b small within done = subst (IsMove move values j b) (sym (old-number j b small done)) (so.moves j b small within done)
 
-      more-moves : (j b : ℕ) → b < 256 → j < length values → IsDone class i (c + 1) j b → IsMove move values j b (number_at class count (next ++ n ∷ []) j b)
+      more-moves : (j b : ℕ) → b < 256 → j < length values → IsDone class i (c + 1) j b → IsMove move values j b (table_number class count (next ++ n ∷ []) j b)
       more-moves j b small within (done_number less) = old-move j b small within (done_number less)
       more-moves j b small within (done_class same less) =
           elim (cases_lt (class b) c) [
@@ -147,7 +148,7 @@ module _ {S : Type 0} (first : S) (move : S → ℕ → S) (class : ℕ → ℕ)
             first = λ j b small taken.
                 let is = so.moves j b small (omega (arith, taken-within j b taken)) (taken-done j b taken) in
                 more-below (length values) j b
-                (record { to = number_at class count next j b; below = slice_get_within values (number_at class count next j b) (move is.source b) is.leads; is = is });
+                (record { to = table_number class count next j b; below = slice_get_within values (table_number class count next j b) (move is.source b) is.leads; is = is });
           }
 
       more-once : (k l : ℕ) (v : S) → IsEntry values (move s b0) k v → IsEntry values (move s b0) l v → k ≡ l
@@ -173,5 +174,5 @@ module _ {S : Type 0} (first : S) (move : S → ℕ → S) (class : ℕ → ℕ)
                     subst (IsDiscovered move More) (sym last) new-discovered
               ];
         };
-        moves = λ j b small within done. more-move j b (number_at class count next j b) (so.moves j b small (done-within j b done) done);
+        moves = λ j b small within done. more-move j b (table_number class count next j b) (so.moves j b small (done-within j b done) done);
       }

@@ -1,15 +1,14 @@
 -- The state behind a stream: the first one, one more byte, and what it tells of accepting.
-use Rattle.std.proofs.Common.{◌≡◌, ◌↔◌, ℕ, zero, suc, ◌+◌, ◌<◌, ◌≤◌, Bool, true, false, ◌&&◌, ◌||◌, List, [], ◌∷◌, ◌++◌, map, length, get_or, eqb, Some, None, slice_get, refl, sym, ap, subst, ◌∙◌, inl, inr, arith, length-append}
-use Rattle.std.specs.List.{range_with_len}
+use Rattle.std.proofs.Common.{◌≡◌, ◌↔◌, ℕ, zero, suc, ◌<◌, ◌≤◌, Bool, true, false, ◌&&◌, ◌||◌, List, [], ◌∷◌, ◌++◌, length, get_or, eqb, Some, slice_get, refl, sym, ap, subst, ◌∙◌, inl, inr, arith, length-append}
 use Rattle.std.proofs.lemmas.Bool.{cases_lt}
 use Rattle.std.proofs.lemmas.List.{get_or_past}
 use Rattle.std.proofs.lemmas.List.FromFn.{length-map-range_with_len, get_or-map-range_with_len, fill_by_all}
-use Rattle.std.proofs.lemmas.Option.{slice_get_within, slice_get-get_or, get_or_from_slice_get, none-some}
+use Rattle.std.proofs.lemmas.Option.{slice_get-get_or, get_or_from_slice_get, none-some}
 use Rattle.hs_base.specs.declared.context.Prev.{Prev}
 use Rattle.hs_base.specs.declared.context.Prev.TheVariants as stands
 use Rattle.hs_base.specs.declared.context.Next.{Next}
 use Rattle.hs_base.specs.Assertions.{line_feed, is_word_byte}
-use Rattle.hs_base.specs.Contexts.{Context, class_of, context_at, context_of, prev_at, prev_behind, prev_by}
+use Rattle.hs_base.specs.Contexts.{Context, class_of, context_at, prev_at, prev_behind, prev_by}
 use Rattle.hs_base.specs.EndAssertions.{has_embedded_end}
 use Rattle.hs_base.specs.Fields.{Leaves}
 use Rattle.hs_base.specs.Spans.{IsByteOf}
@@ -24,7 +23,8 @@ use Rattle.hs_engine.specs.Agreement.{StepsTo, steps_in, steps_on, IsAccepting}
 use Rattle.hs_engine.proofs.PositionLemmas.{reach-below}
 use Rattle.hs_engine.proofs.AgreementLemmas.{reached-steps, steps-reached, leaves-accepting, accepting-leaves}
 use Rattle.hs_dfa.specs.DfaStates.{DfaState, PositionTests, is_live, state_where, kept_prev, tests_of, is_led_to, move_by, first_state, is_accepting, IsEmptyState}
-use Rattle.hs_dfa.specs.DfaHistories.{IsBlind, IsStateOf}
+use Rattle.hs_dfa.specs.DfaHistories.{IsStateOf}
+use Rattle.hs_dfa.proofs.BlindLemmas.{IsBlind}
 
 pub true-false : {A : Type 0} (b : Bool) → b ≡ true → b ≡ false → A
 true-false b is isnt = absurd (let e : true ≡ false = sym is ∙ isnt in cc)

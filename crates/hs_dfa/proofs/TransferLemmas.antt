@@ -1,5 +1,5 @@
 -- The states of an automaton are those of its expression.
-use Rattle.std.proofs.Common.{◌≡◌, ◌↔◌, ℕ, ◌+◌, ◌<◌, ◌≤◌, Bool, true, false, ◌&&◌, ◌||◌, List, length, get_or, eqb, Some, slice_get, refl, sym, ap, subst, ◌∙◌, arith, vec_len}
+use Rattle.std.proofs.Common.{◌≡◌, ℕ, ◌<◌, Bool, true, false, ◌&&◌, ◌||◌, List, get_or, eqb, refl, sym, ap, subst, ◌∙◌, vec_len}
 use Rattle.std.proofs.lemmas.Option.{get_or_from_slice_get}
 use Rattle.hs_base.specs.declared.context.Prev.{Prev}
 use Rattle.hs_base.specs.declared.context.Prev.TheVariants as stands
@@ -13,7 +13,7 @@ use Rattle.hs_engine.specs.Automata.{accepts, enters, follows, takes}
 use Rattle.hs_engine.specs.Between.{between}
 use Rattle.hs_engine.specs.Positions.{accept, enter, follow}
 use Rattle.hs_engine.specs.Tables.{IsFor}
-use Rattle.hs_dfa.specs.AutomatonStates.{AreStatesIn, tests_by}
+use Rattle.hs_dfa.specs.AutomatonStates.{tests_by}
 use Rattle.hs_dfa.specs.DfaStates.{AreStatesBy, AreStatesOf, DfaState, first_state, is_led_to, is_live, kept_prev, move_by, state_where, tests_of}
 use Rattle.hs_dfa.specs.Discovery.{AreAllDiscovered}
 use Rattle.hs_dfa.proofs.DiscoveryLemmas.{all-as}

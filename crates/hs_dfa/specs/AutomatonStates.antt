@@ -1,5 +1,6 @@
 -- The states of an automaton by its tables.
-use Rattle.std.specs.Prelude.{◌≡◌, ℕ, ◌<◌, ◌≤◌, ◌+◌, ◌*◌, ◌==◌, Bool, List, map, length, Some, slice_get, slice_index, vec_len, EachIndex}
+use Rattle.std.specs.Prelude.{◌≡◌, ℕ, ◌<◌, ◌≤◌, ◌+◌, ◌*◌, ◌==◌, List, map, length}
+use Rattle.std.specs.Prelude.{Some, slice_get, slice_index, vec_len, EachIndex}
 use Rattle.hs_base.specs.Assertions.{line_feed, is_word_byte}
 use Rattle.hs_base.specs.Contexts.{prev_by}
 use Rattle.hs_base.specs.Bits.{has_word_bit}

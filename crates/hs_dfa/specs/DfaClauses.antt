@@ -1,21 +1,16 @@
 -- What is promised of an engine that is built, and of none.
-use Rattle.std.specs.Prelude.{◌≡◌, ◌↔◌, ℕ, ◌≤◌, Bool, true, false, List, length, Some, slice_get, slice_index}
+use Rattle.std.specs.Prelude.{◌≡◌, ◌↔◌, ℕ, ◌≤◌, Bool, true, List, length, Some, slice_get, slice_index}
 use Rattle.hs_base.specs.Trees.{Tree}
-use Rattle.hs_base.specs.WrittenOut.{Core, write_out}
-use Rattle.hs_engine.specs.declared.automaton.Automaton.{Automaton}
+use Rattle.hs_base.specs.WrittenOut.{write_out}
+use Rattle.hs_glushkov.specs.AssertionTests.{has_assertion}
 use Rattle.hs_dfa.specs.DfaEngines.{IsDfaOf}
-use Rattle.hs_dfa.specs.DfaHistories.{IsBlind}
 use Rattle.hs_dfa.specs.DfaStates.{AreStatesOf, DfaState, IsEmptyState, tests_of}
 use Rattle.hs_dfa.specs.declared.dfa.Dfa.{Dfa}
 
 -- an expression has more than 255 states: no list of less is that of its states
-abbrev pub HasMoreStates : Core → (has_assertion : Bool) → Type 0
-HasMoreStates r has_assertion = (states : List DfaState) → AreStatesOf r has_assertion states → length states ≤ 255 → ⊥
-
--- The engine is that of the expression, which is the same in every context where the automaton has no assertion.
-pub record IsBuiltFor (a : Automaton) (d : Dfa) (tree : Tree) : Type 0 where
-  pub keeps : d.has_assertion ≡ a.has_assertion
-  pub is_for : (a.has_assertion ≡ false → IsBlind (write_out tree)) → IsDfaOf d tree
+abbrev pub HasMoreStates : Tree → Type 0
+HasMoreStates tree =
+    (states : List DfaState) → AreStatesOf (write_out tree) (has_assertion tree) states → length states ≤ 255 → ⊥
 
 -- it is told whether the state of the region is without a live position
 abbrev pub IsEmptyAt : Dfa → (region : List ℕ) → Bool → Type 0

@@ -1,23 +1,25 @@
 -- What the engine `Dfa` means: its region is one byte, the number of a state.
 use Rattle.std.proofs.Common.{sym, ap, subst, ◌∙◌}
 use Rattle.std.proofs.lemmas.Option.{slice_get_within}
-use Rattle.std.specs.Prelude.{◌≡◌, ◌↔◌, ℕ, ◌+◌, ◌*◌, ◌<◌, Bool, true, false, List, [], ◌∷◌, length, Some, slice_get, slice_index, vec_len}
+use Rattle.std.specs.Prelude.{◌≡◌, ◌↔◌, ℕ, ◌<◌, Bool, true, false, List, [], ◌∷◌, length}
+use Rattle.std.specs.Prelude.{Some, slice_get, slice_index, vec_len}
 use Rattle.hs_base.specs.declared.context.Next.{Next}
 use Rattle.hs_base.specs.ContextSets.{has_next}
 use Rattle.hs_base.specs.EndAssertions.{has_embedded_end}
 use Rattle.hs_base.specs.Trees.{Tree}
 use Rattle.hs_base.specs.WrittenOut.{Core, IsPlain, write_out}
 use Rattle.hs_engine.specs.Engines.{Meaning}
-use Rattle.hs_dfa.specs.DfaBuilding.{number_at}
+use Rattle.hs_glushkov.specs.AssertionTests.{has_assertion}
+use Rattle.hs_dfa.specs.DfaBuilding.{table_number}
 use Rattle.hs_dfa.specs.Discovery.{IsMove}
-use Rattle.hs_dfa.specs.DfaHistories.{IsBlind, IsStateOf}
+use Rattle.hs_dfa.specs.DfaHistories.{IsStateOf}
 use Rattle.hs_dfa.specs.DfaStates.{AreStatesOf, DfaState, IsEmptyState, is_accepting, move_by, tests_of}
 use Rattle.hs_dfa.specs.declared.dfa.Dfa.{Dfa}
 use Rattle.hs_dfa.specs.declared.state_ends.StateEnd.{StateEnd}
 
 -- the number of the state to which the byte leads from that of a number
 abbrev pub next_number : Dfa → (number byte : ℕ) → ℕ
-next_number d number byte = number_at (slice_index d.classes) d.class_count d.rows.items number byte
+next_number d number byte = table_number (slice_index d.classes) d.class_count d.rows.items number byte
 
 -- what is said of the end of a match where the state has positions that accept
 pub record TellsEnd (r : Core) (state : DfaState) (end : StateEnd) : Type 0 where
@@ -28,7 +30,7 @@ pub record TellsEnd (r : Core) (state : DfaState) (end : StateEnd) : Type 0 wher
 pub record IsDfaOf (d : Dfa) (tree : Tree) : Type 0 where
   pub plain : IsPlain tree
   pub ends_last : has_embedded_end tree false ≡ false
-  pub blind : d.has_assertion ≡ false → IsBlind (write_out tree)
+  pub keeps : d.has_assertion ≡ has_assertion tree
   pub states : List DfaState
   pub all : AreStatesOf (write_out tree) d.has_assertion states
   pub count : length states ≡ vec_len d.ends
@@ -38,14 +40,14 @@ pub record IsDfaOf (d : Dfa) (tree : Tree) : Type 0 where
       slice_get d.ends.items i ≡ Some end → TellsEnd (write_out tree) state end
 
 -- The region is one byte, the number of the state behind u among all states.
-pub record IsNumberOf (r : Core) (has_assertion : Bool) (u : List ℕ) (entered : List Bool) (region : List ℕ) : Type 0
-    where
-  pub number : ℕ
-  pub region_is : region ≡ number ∷ []
-  pub state : DfaState
-  pub is : IsStateOf r has_assertion u entered state
-  pub numbered : (states : List DfaState) (own : DfaState) → AreStatesOf r has_assertion states →
-      IsStateOf r has_assertion u entered own → slice_get states number ≡ Some own
+pub record IsNumberOf (r : Core) (keeps : Bool) (u : List ℕ) (entered : List Bool) (region : List ℕ) : Type 0
+  where
+    pub number : ℕ
+    pub region_is : region ≡ number ∷ []
+    pub state : DfaState
+    pub is : IsStateOf r keeps u entered state
+    pub numbered : (states : List DfaState) (own : DfaState) → AreStatesOf r keeps states →
+        IsStateOf r keeps u entered own → slice_get states number ≡ Some own
 
 -- the region is the number of a state
 abbrev pub IsNumberIn : Dfa → List ℕ → Type 0

@@ -58,7 +58,8 @@ is_led_to t state byte y =
 -- the state to which the byte leads: the expression is entered before every byte
 abbrev pub move_by : PositionTests → (has_assertion : Bool) → DfaState → (byte : ℕ) → DfaState
 move_by t has_assertion state byte =
-    state_where t.size (is_led_to t state byte) (kept_prev has_assertion (prev_by (byte == line_feed) (is_word_byte byte)))
+    state_where t.size (is_led_to t state byte)
+    (kept_prev has_assertion (prev_by (byte == line_feed) (is_word_byte byte)))
 
 -- the state before the first byte: no position is live
 abbrev pub first_state : PositionTests → (has_assertion : Bool) → DfaState

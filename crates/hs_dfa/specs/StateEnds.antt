@@ -1,5 +1,5 @@
 -- What the states of an automaton say of the end of a match.
-use Rattle.std.specs.Prelude.{◌≡◌, ◌↔◌, ℕ, ◌<◌, Bool, true, false, ◌&&◌, List, length, Some, slice_get, vec_len}
+use Rattle.std.specs.Prelude.{◌≡◌, ◌↔◌, ℕ, true, false, ◌&&◌, List, length, Some, slice_get, vec_len}
 use Rattle.hs_base.specs.declared.context.Next.{Next}
 use Rattle.hs_base.specs.Bits.{has_word_bit}
 use Rattle.hs_base.specs.ContextSets.{has_next}
@@ -13,7 +13,8 @@ use Rattle.hs_dfa.specs.declared.state_ends.StateEnd.{StateEnd}
 -- in which contexts a live position accepts, and whether there is one
 pub record IsEndOf (a : Automaton) (state : Footing) (end : StateEnd) : Type 0 where
   pub accepts : (next : Next) → has_next end.accepts next
-      ≡ any_below (vec_len a.sets) (λ x. has_word_bit state.positions x && automata.accepts a x (between state.prev next))
+      ≡ any_below (vec_len a.sets)
+      (λ x. has_word_bit state.positions x && automata.accepts a x (between state.prev next))
   pub is_empty : (end.is_empty ≡ true) ↔ (any_below (vec_len a.sets) (has_word_bit state.positions) ≡ false)
 
 -- so of each of the first so many states

@@ -1,5 +1,6 @@
 -- How a state is entered into those that are known, and what is then built.
-use Rattle.std.specs.Prelude.{◌≡◌, ℕ, ◌<◌, ◌≤◌, ◌+◌, ◌∷◌, [], ◌++◌, Bool, true, false, List, length, Option, Some, None, slice_get, slice_index, vec_len}
+use Rattle.std.specs.Prelude.{◌≡◌, ℕ, ◌<◌, ◌≤◌, ◌∷◌, [], ◌++◌, Bool, true, false, List, length}
+use Rattle.std.specs.Prelude.{Option, Some, None, slice_index, vec_len}
 use Rattle.hs_engine.specs.declared.automaton.Automaton.{Automaton}
 use Rattle.hs_dfa.specs.AutomatonStates.{AreBuilt, HasTooManyStates}
 use Rattle.hs_dfa.specs.Footings.{IsLikeOne, IsNewTo}

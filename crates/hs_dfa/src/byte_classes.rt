@@ -7,14 +7,14 @@ use hs_base::Prev;
 use hs_engine::Automaton;
 use std::alloc::{AllocError, Global};
 
-/// How many bytes there are.
-pub(crate) const BYTE_COUNT: usize = 256;
+/// How many bytes have a class: all.
+pub(crate) const CLASSED_BYTES: usize = 256;
 
 /// The classes of all bytes, numbered by their first bytes.
 #[derive(Debug, Drop)]
 pub(crate) struct ByteClasses {
     /// The class of each byte.
-    pub(crate) classes: [u8; BYTE_COUNT],
+    pub(crate) classes: [u8; CLASSED_BYTES],
     /// The first byte of each class.
     pub(crate) firsts: Vec<u8>,
     /// What the bytes of each class do.
@@ -30,11 +30,11 @@ impl ByteClasses {
             AreClassesTo automaton.now built.classes built.firsts.items built.footings.items 256) }
     {
         let mut built = ByteClasses {
-            classes: [0; BYTE_COUNT],
+            classes: [0; CLASSED_BYTES],
             firsts: Vec::new(alloc),
             footings: Vec::new(alloc),
         };
-        for byte in 0..BYTE_COUNT {
+        for byte in 0..CLASSED_BYTES {
             built.add(automaton, byte as u8)?;
         }
         Ok(built)

@@ -4,11 +4,11 @@ ghost use Rattle.std.specs.Prelude.{◌≡◌, ◌↔◌, ℕ, ◌+◌, ◌*◌,
 ghost use Rattle.std.specs.Prelude.{EachIndex, slice_index, vec_len};
 ghost use Rattle.hs_base.specs.ByteSets.{has};
 
-use crate::byte_classes::{BYTE_COUNT, ByteClasses};
+use crate::byte_classes::{ByteClasses, CLASSED_BYTES};
 use crate::state_ends::{StateEnd, ends_of};
 use crate::subsets::Subsets;
 use hs_base::{ByteSet, NextSet, Prev};
-
+use hs_block::BlockEngine;
 use hs_engine::{Automaton, Engine, Steps};
 use std::alloc::{AllocError, Global};
 use std::sync::ledger::Ledger;
@@ -18,7 +18,7 @@ use std::sync::ledger::Ledger;
 #[derive(Debug, Drop)]
 pub struct Dfa {
     /// The class of each byte.
-    classes: [u8; BYTE_COUNT],
+    classes: [u8; CLASSED_BYTES],
     /// How many classes there are.
     class_count: usize,
     /// For each state a row of the numbers of the states to which the bytes lead, one for each class.
@@ -40,21 +40,22 @@ pub struct Dfa {
 
 impl Dfa {
     ghost use Rattle.hs_base.specs.Trees.{Tree};
-    ghost use Rattle.hs_base.specs.WrittenOut.{write_out};
     ghost use Rattle.hs_engine.specs.Tables.{Runs};
+    ghost use Rattle.hs_glushkov.specs.AssertionTests.{has_assertion};
     ghost use Rattle.hs_dfa.specs.AutomatonStates.{AreClassesTo};
     ghost use Rattle.hs_dfa.specs.DfaClauses.{HasMoreStates, IsEmptyAt};
-    ghost use Rattle.hs_dfa.specs.DfaEngines.{IsNumberIn, next_number};
-    ghost use Rattle.hs_dfa.specs.DfaClauses.{IsBuiltFor};
+    ghost use Rattle.hs_dfa.specs.DfaEngines.{IsNumberIn, meaning_of_dfa, next_number};
     ghost use Rattle.hs_dfa.specs.Subsets.{AllBuilt};
 
     /// The engine of an automaton; None exactly where it has more than 255 states.
     pub fn build(alloc: Global, automaton: &Automaton) -> Result<Option<Dfa>, AllocError>
         ensures some { IfOk result (λ found. IfSome found (λ dfa. (tree : Tree) →
-            Runs automaton.now tree → IsBuiltFor automaton.now dfa tree)) }
+            Runs automaton.now tree →
+            automaton.now.has_assertion ≡ has_assertion tree →
+            (meaning_of_dfa dfa).is_for tree)) }
         ensures few { IfOk result (λ found. IfSome found (λ dfa. vec_len dfa.ends ≤ 255)) }
         ensures none { IfOk result (λ found. found ≡ None → (tree : Tree) →
-            Runs automaton.now tree → HasMoreStates (write_out tree) automaton.now.has_assertion) }
+            Runs automaton.now tree → automaton.now.has_assertion ≡ has_assertion tree → HasMoreStates tree) }
     {
         let classes = ByteClasses::build(alloc, automaton)?;
         let Some(subsets) = Subsets::build(alloc, automaton, &classes)? else {
@@ -72,7 +73,10 @@ impl Dfa {
     ) -> Result<Dfa, AllocError>
         requires classes { AreClassesTo automaton.now classes.classes classes.firsts.items classes.footings.items 256 }
         requires built { AllBuilt automaton.now classes subsets.known.items subsets.rows.items }
-        ensures { IfOk result (λ dfa. (tree : Tree) → Runs automaton.now tree → IsBuiltFor automaton.now dfa tree) }
+        ensures { IfOk result (λ dfa. (tree : Tree) →
+            Runs automaton.now tree →
+            automaton.now.has_assertion ≡ has_assertion tree →
+            (meaning_of_dfa dfa).is_for tree) }
     {
         let ends = ends_of(alloc, automaton, &subsets.known)?;
         let wakers = wakers_of(&classes.classes, &subsets.rows);
@@ -115,12 +119,12 @@ impl Dfa {
 }
 
 /// The bytes whose class doesn't lead back to the first state.
-fn wakers_of(classes: &[u8; BYTE_COUNT], rows: &[u8]) -> ByteSet
+fn wakers_of(classes: &[u8; CLASSED_BYTES], rows: &[u8]) -> ByteSet
     requires { (b : ℕ) → b < 256 → slice_index classes.now b < length rows.now }
     ensures { (b : ℕ) → b < 256 → has result b ≡ false → slice_index rows.now (slice_index classes.now b) ≡ 0 }
 {
     let mut wakers = ByteSet::EMPTY;
-    for byte in 0..BYTE_COUNT {
+    for byte in 0..CLASSED_BYTES {
         if rows[classes[byte] as usize] != 0 {
             wakers.insert(byte as u8);
         }
@@ -173,4 +177,4 @@ impl Engine for Dfa {
     }
 }
 
-
+impl BlockEngine for Dfa {}

@@ -69,7 +69,13 @@ impl Footing {
     {
         let next = next_behind(byte.prev);
         let mut led = entered(automaton.enters(), self.prev, next);
-        add_followers(automaton.follows(), &self.positions, self.prev, next, &mut led);
+        add_followers(
+            automaton.follows(),
+            &self.positions,
+            self.prev,
+            next,
+            &mut led,
+        );
         keep(&mut led, &byte.positions);
         Footing {
             positions: led,

@@ -54,7 +54,8 @@ fn accepted(masks: &[Mask], live: &[u64; WIDTH], prev: Prev) -> NextSet
     requires { length masks.now ≤ 512 }
     ensures { (next : Next) →
         has_next result next ≡
-        any_below (length masks.now) (λ x. has_word_bit live.now x && in_mask (slice_get masks.now x) (between prev next)) }
+        any_below (length masks.now)
+        (λ x. has_word_bit live.now x && in_mask (slice_get masks.now x) (between prev next)) }
 {
     let mut told = NextSet::empty();
     for position in 0..masks.len() {

@@ -1,4 +1,4 @@
-use Rattle.std.proofs.Common.{slice_get, sym, ap, ◌∙◌, arith, ◌∷◌, []}
+use Rattle.std.proofs.Common.{slice_get, sym, ap, ◌∙◌, arith, []}
 use Rattle.std.proofs.lemmas.Option.{slice_get_past, slice_get-get_or}
 use Rattle.hs_base.specs.Bits.{has_word_bit}
 use Rattle.hs_engine.specs.Automata.{in_set}

@@ -1,4 +1,4 @@
-use Rattle.std.proofs.Common.{ℕ, ◌*◌, ◌≡◌, ◌<◌, length, slice_index, List, subst, sym, ap, ◌∙◌, arith, refl, vec_len}
+use Rattle.std.proofs.Common.{◌*◌, ◌≡◌, ◌<◌, length, slice_index, List, subst, sym, ap, arith, vec_len}
 use Rattle.hs_dfa.specs.AutomatonStates.{AreBuilt}
 use Rattle.hs_dfa.specs.StateEnds.{AreEndsOf}
 use Rattle.hs_dfa.specs.declared.footing.Footing.{Footing}
@@ -39,14 +39,10 @@ invariant_of-result c =
     }
 
 pub returns : goal.returns
-returns c tree runs =
+returns c tree runs flag =
     let a = c.args.automaton.now in
     let classes = c.args.classes in
     let subsets = c.args.subsets in
-    record {
-      keeps = c.has_assertion.ensures;
-      is_for = λ blind.
-          dfa-is a tree runs blind _ subsets.known.items c.has_assertion.ensures
-          (subst (λ n. AreBuilt a (slice_index classes.classes) n subsets.known.items subsets.rows.items (length subsets.known.items) 0) (sym c.len.ensures) c.requires.built)
-          (subst (λ xs. AreEndsOf a xs (length xs) c.in_ok-ends.ends.items) c.deref.ensures.value c.in_ok-ends.ensures);
-    }
+    dfa-is a tree runs flag _ subsets.known.items c.has_assertion.ensures
+    (subst (λ n. AreBuilt a (slice_index classes.classes) n subsets.known.items subsets.rows.items (length subsets.known.items) 0) (sym c.len.ensures) c.requires.built)
+    (subst (λ xs. AreEndsOf a xs (length xs) c.in_ok-ends.ends.items) c.deref.ensures.value c.in_ok-ends.ensures)

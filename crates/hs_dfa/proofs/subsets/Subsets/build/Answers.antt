@@ -1,4 +1,4 @@
-use Rattle.std.proofs.Common.{◌+◌, ◌≤◌, arith, vec_len}
+use Rattle.std.proofs.Common.{arith}
 use Rattle.hs_dfa.proofs.subsets.Subsets.build.Goals as goal
 
 pub loop-state-preserved : goal.loop-state-preserved

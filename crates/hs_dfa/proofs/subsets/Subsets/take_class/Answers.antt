@@ -1,4 +1,4 @@
-use Rattle.std.proofs.Common.{ℕ, ◌<◌, ◌≤◌, ◌+◌, ◌∷◌, [], ◌++◌, ◌≡◌, true, false, length, subst, sym, ap, ◌∙◌, slice_get, slice_index, Some, arith, refl, vec_len, Vec}
+use Rattle.std.proofs.Common.{ℕ, ◌+◌, ◌∷◌, [], ◌++◌, ◌≡◌, true, false, length, subst, sym, ap, ◌∙◌, slice_index, arith, vec_len, Vec}
 use Rattle.std.specs.declared.alloc.Global.{Global}
 use Rattle.std.proofs.lemmas.Option.{slice_get_read}
 use Rattle.hs_dfa.specs.AutomatonStates.{AreBuilt}

@@ -1,4 +1,4 @@
-use Rattle.std.proofs.Common.{ℕ, ◌+◌, ◌≡◌, true, false, length, subst, sym, slice_index, arith, vec_len}
+use Rattle.std.proofs.Common.{◌≡◌, true, false, length, subst, slice_index, arith, vec_len}
 use Rattle.hs_dfa.specs.AutomatonStates.{AreBuilt}
 use Rattle.hs_dfa.proofs.BuildLemmas.{built-row, class-few}
 use Rattle.hs_dfa.proofs.subsets.Subsets.take_state.Goals as goal
