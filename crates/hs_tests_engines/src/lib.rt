@@ -10,6 +10,8 @@ mod blocks;
 #[cfg(test)]
 mod confirming;
 #[cfg(test)]
+mod dfa;
+#[cfg(test)]
 mod ends;
 #[cfg(test)]
 mod limex;

@@ -1,0 +1,180 @@
+//! The engine whose region is the number of a state.
+
+ghost use Rattle.std.specs.Prelude.{◌≡◌, ◌↔◌, ℕ, ◌+◌, ◌*◌, ◌<◌, ◌≤◌, false, None, IfOk, IfSome, IsTrue, length};
+ghost use Rattle.std.specs.Prelude.{EachIndex, slice_index, vec_len};
+ghost use Rattle.hs_base.specs.ByteSets.{has};
+
+use crate::byte_classes::{ByteClasses, CLASSED_BYTES};
+use crate::state_ends::{StateEnd, ends_of};
+use crate::subsets::Subsets;
+use hs_base::{ByteSet, NextSet, Prev};
+use hs_block::BlockEngine;
+use hs_engine::{Automaton, Engine, Steps};
+use std::alloc::{AllocError, Global};
+use std::sync::ledger::Ledger;
+
+/// Runs an expression that is entered before every byte, by its states: a step is two reads of tables. It takes 256
+/// bytes for the classes of bytes, a byte for each state and class, and two bytes for each state.
+#[derive(Debug, Drop)]
+pub struct Dfa {
+    /// The class of each byte.
+    classes: [u8; CLASSED_BYTES],
+    /// How many classes there are.
+    class_count: usize,
+    /// For each state a row of the numbers of the states to which the bytes lead, one for each class.
+    rows: Vec<u8>,
+    /// What each state says of the end of a match.
+    ends: Vec<StateEnd>,
+    /// The bytes that lead from the first state to another.
+    wakers: ByteSet,
+    /// Whether states keep what stands before.
+    has_assertion: bool,
+    ghost some: { 0 < vec_len ends },
+    ghost few: { vec_len ends ≤ 255 },
+    ghost few_classes: { class_count ≤ 256 },
+    ghost whole: { vec_len rows ≡ vec_len ends * class_count },
+    ghost class_within: { (b : ℕ) → b < 256 → slice_index classes b < class_count },
+    ghost row_within: { EachIndex rows.items (λ k. slice_index rows.items k < vec_len ends) },
+    ghost wakers_are: { (b : ℕ) → b < 256 → has wakers b ≡ false → slice_index rows.items (slice_index classes b) ≡ 0 },
+}
+
+impl Dfa {
+    ghost use Rattle.hs_base.specs.Trees.{Tree};
+    ghost use Rattle.hs_engine.specs.Tables.{Runs};
+    ghost use Rattle.hs_glushkov.specs.AssertionTests.{has_assertion};
+    ghost use Rattle.hs_dfa.specs.AutomatonStates.{AreClassesTo};
+    ghost use Rattle.hs_dfa.specs.DfaClauses.{HasMoreStates, IsEmptyAt};
+    ghost use Rattle.hs_dfa.specs.DfaEngines.{IsNumberIn, meaning_of_dfa, next_number};
+    ghost use Rattle.hs_dfa.specs.Subsets.{AllBuilt};
+
+    /// The engine of an automaton; None exactly where it has more than 255 states.
+    pub fn build(alloc: Global, automaton: &Automaton) -> Result<Option<Dfa>, AllocError>
+        ensures some { IfOk result (λ found. IfSome found (λ dfa. (tree : Tree) →
+            Runs automaton.now tree →
+            automaton.now.has_assertion ≡ has_assertion tree →
+            (meaning_of_dfa dfa).is_for tree)) }
+        ensures few { IfOk result (λ found. IfSome found (λ dfa. vec_len dfa.ends ≤ 255)) }
+        ensures none { IfOk result (λ found. found ≡ None → (tree : Tree) →
+            Runs automaton.now tree → automaton.now.has_assertion ≡ has_assertion tree → HasMoreStates tree) }
+    {
+        let classes = ByteClasses::build(alloc, automaton)?;
+        let Some(subsets) = Subsets::build(alloc, automaton, &classes)? else {
+            return Ok(None);
+        };
+        Ok(Some(Dfa::of_tables(alloc, automaton, classes, subsets)?))
+    }
+
+    /// The engine of states that are built.
+    fn of_tables(
+        alloc: Global,
+        automaton: &Automaton,
+        classes: ByteClasses,
+        subsets: Subsets,
+    ) -> Result<Dfa, AllocError>
+        requires classes { AreClassesTo automaton.now classes.classes classes.firsts.items classes.footings.items 256 }
+        requires built { AllBuilt automaton.now classes subsets.known.items subsets.rows.items }
+        ensures { IfOk result (λ dfa. (tree : Tree) →
+            Runs automaton.now tree →
+            automaton.now.has_assertion ≡ has_assertion tree →
+            (meaning_of_dfa dfa).is_for tree) }
+    {
+        let ends = ends_of(alloc, automaton, &subsets.known)?;
+        let wakers = wakers_of(&classes.classes, &subsets.rows);
+        Ok(Dfa {
+            classes: classes.classes,
+            class_count: classes.footings.len(),
+            rows: subsets.rows,
+            ends,
+            wakers,
+            has_assertion: automaton.has_assertion(),
+        })
+    }
+
+    /// How many states there are.
+    pub fn state_count(&self) -> usize
+        ensures { result ≡ vec_len self.now.ends }
+    {
+        self.ends.len()
+    }
+
+    /// The number of the state to which the byte leads.
+    #[inline(always)]
+    fn next(&self, number: u8, byte: u8) -> u8
+        requires { number < vec_len self.now.ends }
+        ensures next { result ≡ next_number self.now number byte }
+        ensures few { result < vec_len self.now.ends }
+    {
+        let class = self.classes[byte as usize] as usize;
+        self.rows[number as usize * self.class_count + class]
+    }
+
+    /// Whether no position is live in the state of the region.
+    pub fn is_empty_at(&self, region: &[u8]) -> bool
+        requires len { length region.now ≡ 1 }
+        requires well { IsNumberIn self.now region.now }
+        ensures { IsEmptyAt self.now region.now result }
+    {
+        self.ends[region[0] as usize].is_empty
+    }
+}
+
+/// The bytes whose class doesn't lead back to the first state.
+fn wakers_of(classes: &[u8; CLASSED_BYTES], rows: &[u8]) -> ByteSet
+    requires { (b : ℕ) → b < 256 → slice_index classes.now b < length rows.now }
+    ensures { (b : ℕ) → b < 256 → has result b ≡ false → slice_index rows.now (slice_index classes.now b) ≡ 0 }
+{
+    let mut wakers = ByteSet::EMPTY;
+    for byte in 0..CLASSED_BYTES {
+        if rows[classes[byte] as usize] != 0 {
+            wakers.insert(byte as u8);
+        }
+    }
+    wakers
+}
+
+impl Engine for Dfa {
+    ghost use Rattle.hs_dfa.specs.DfaEngines.{meaning_of_dfa};
+
+    ghost meaning = { λ e. meaning_of_dfa e };
+
+    fn size(&self) -> usize {
+        1
+    }
+
+    fn clear(&self, region: &mut [u8]) {
+        region[0] = 0;
+    }
+
+    #[inline(always)]
+    fn step<L: Ledger>(
+        &self,
+        region: &mut [u8],
+        _prev: Prev,
+        _at: u64,
+        _enter: NextSet,
+        byte: u8,
+        steps: &mut Steps<L>,
+    ) {
+        steps.tick();
+        region[0] = self.next(region[0], byte);
+    }
+
+    fn out(&self, region: &[u8], _prev: Prev, _at: u64) -> NextSet {
+        self.ends[region[0] as usize].accepts
+    }
+
+    fn at_rest(&self, region: &[u8]) -> bool {
+        let number = region[0] as usize;
+        number < self.ends.len() && self.is_empty_at(region)
+    }
+
+    fn wakers(&self) -> &ByteSet {
+        &self.wakers
+    }
+
+    fn well_formed(&self, region: &[u8], _at: u64) -> bool {
+        (region[0] as usize) < self.ends.len()
+    }
+}
+
+impl BlockEngine for Dfa {}
