@@ -4,3 +4,8 @@ pub mod MemberLemmas
 pub mod NextLemmas
 pub mod UnionLemmas
 pub mod WordLemmas
+pub mod BlockLemmas
+pub mod PlaceLemmas
+pub mod ContextLemmas
+pub mod ClassLaneLemmas
+pub mod CountLemmas

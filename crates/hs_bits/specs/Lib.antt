@@ -3,3 +3,5 @@ pub mod LowestBits
 pub mod MemberPlaces
 pub mod NextBits
 pub mod Shifts
+pub mod WordBits
+pub mod BlockContexts

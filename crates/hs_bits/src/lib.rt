@@ -1,19 +1,27 @@
-//! Bits in rows of bytes and of words: single ones, ranges, the lowest and the next one, and whole rows at once.
+//! Bits in rows of bytes and of words: single ones, ranges, the lowest and the next one, and whole rows at
+//! once; and the places of a block of up to 64 bytes as the bits of a word: where members of a set stand, and in which
+//! contexts.
 #![tactic(auto)]
 
 mod bytes;
+mod contexts;
 mod lowest;
 mod members;
 mod next;
+mod places;
 mod ranges;
 mod words;
 
 pub use bytes::{
     BYTE_BITS, clear_bits, clear_live, contains_bit, insert_bit, is_zero, unite_bits, write_bit,
 };
+pub use contexts::Contexts;
 pub use lowest::{lowest_bit, without_lowest_bit};
 pub use members::member_places;
 pub use next::{next_bit_in, next_bit_in_either};
+pub use places::{
+    contains_place, count_places, low_places, next_place, one_later, only_if, with_place,
+};
 pub use ranges::{has_bit_in, has_bit_round};
 pub use words::{
     WORD_BITS, are_apart, clear_words, contains_word_bit, insert_word_bit, is_unset, keep_words,

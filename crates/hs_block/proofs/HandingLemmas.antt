@@ -11,10 +11,10 @@ use Rattle.hs_base.specs.Fields.{Leaves}
 use Rattle.hs_base.specs.Trees.{Tree}
 use Rattle.hs_engine.specs.Engines.{Meaning}
 use Rattle.hs_block.specs.declared.engine.BlockEnds.{BlockEnds}
-use Rattle.hs_block.specs.WordBits.{word_bit, bits_of, Marks}
+use Rattle.hs_bits.specs.WordBits.{word_bit, bits_of, Marks}
 use Rattle.hs_block.specs.Scans.{HandsOn, IsLeftBefore}
 use Rattle.hs_block.specs.Blocks.{IsFieldOf, IsBlockRun}
-use Rattle.hs_block.proofs.BlockLemmas.{length-bits}
+use Rattle.hs_bits.proofs.BlockLemmas.{length-bits}
 
 pub get-left : {A : Type 0} (xs ys : List A) (i : ℕ) → i < length xs → slice_get (xs ++ ys) i ≡ slice_get xs i
 get-left [] ys i below = absurd (omega arith)

@@ -1,12 +1,7 @@
-pub mod PlaceLemmas
-pub mod BlockLemmas
-pub mod CountLemmas
 pub mod RunLemmas
 pub mod HandingLemmas
 pub mod LiteralWordLemmas
 pub mod LiteralBlockLemmas
-pub mod ContextLemmas
-pub mod ClassLaneLemmas
 pub mod ClassWordLemmas
 pub mod MaskLemmas
 pub mod AnyLemmas
@@ -19,3 +14,4 @@ pub mod TableLemmas
 pub mod OrderLemmas
 pub mod SetTableLemmas
 pub mod StreamTakesLemmas
+pub mod SquareLemmas

@@ -19,10 +19,10 @@ use Rattle.hs_base.proofs.ContextLemmas.{first_of_both, second_of_both, of_both}
 use Rattle.hs_base.proofs.ListLemmas.{each-left}
 use Rattle.hs_base.proofs.LiteralRowLemmas.{literals-leave, literal-spans_end}
 use Rattle.hs_block.specs.declared.literal.Hits.{Hits}
-use Rattle.hs_block.specs.WordBits.{word_bit, bits_of}
+use Rattle.hs_bits.specs.WordBits.{word_bit, bits_of}
 use Rattle.hs_block.specs.Scans.{Scans, IsLeftBefore, IsLeftBehind}
 use Rattle.hs_block.specs.LiteralBlocks.{turned, TellsCarried, was_entered, is_hit, AreHits}
-use Rattle.hs_block.proofs.BlockLemmas.{length-block, length-entered}
+use Rattle.hs_bits.proofs.BlockLemmas.{length-block, length-entered}
 use Rattle.hs_block.proofs.HandingLemmas.{get-left, get-right, get-bits}
 use Rattle.hs_block.proofs.LiteralWordLemmas.{was-inside, was-behind, turned-above, turned-below, entries-same}
 

@@ -5,9 +5,9 @@ use Rattle.std.proofs.lemmas.Bool.{cases_eq, cases_lt, eq-eqb, ne_eqb}
 use Rattle.std.proofs.lemmas.Bool.Decides.{nat_tests}
 use Rattle.hs_base.specs.LiteralRows.{TellsEntries}
 use Rattle.hs_bits.proofs.WordLemmas.{and-true, and-none, or-none}
-use Rattle.hs_block.specs.WordBits.{word_bit}
+use Rattle.hs_bits.specs.WordBits.{word_bit}
 use Rattle.hs_block.specs.LiteralBlocks.{turned, was_entered}
-use Rattle.hs_block.proofs.PlaceLemmas.{bit-both, bit-either, bit-up, bit-shifted, less-is, not-less}
+use Rattle.hs_bits.proofs.PlaceLemmas.{bit-both, bit-either, bit-up, bit-shifted, less-is, not-less}
 
 pub was-inside : (n enters carry place : ℕ) → place < n → was_entered n enters carry place ≡ word_bit carry place
 was-inside n enters carry place below = ap (λ b. if b then word_bit carry place else word_bit enters (place - n)) (less-is place n below)

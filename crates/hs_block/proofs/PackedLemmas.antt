@@ -10,7 +10,7 @@ use Rattle.hs_engine.specs.AnyBelow.{any_below}
 use Rattle.hs_block.specs.Blocks.{is_blank}
 use Rattle.hs_block.specs.Packed.{digits, packed}
 use Rattle.hs_block.proofs.AnyLemmas.{any-some, none-any, true-false, true-or-false}
-use Rattle.hs_block.proofs.PlaceLemmas.{less-is, not-less}
+use Rattle.hs_bits.proofs.PlaceLemmas.{less-is, not-less}
 use Rattle.hs_block.proofs.RunLemmas.{blank-zero, zero-blank}
 
 pub length-packed : (n : ℕ) (bit : ℕ → Bool) → length (packed n bit) ≡ n

@@ -16,10 +16,10 @@ use Rattle.hs_bits.proofs.LowestLemmas.{lowest-gone, others-stay}
 use Rattle.hs_bits.proofs.WordLemmas.{byte-bits, or-none}
 use Rattle.hs_engine.specs.AnyBelow.{any_below}
 use Rattle.hs_block.specs.Packed.{digits, packed}
-use Rattle.hs_block.specs.WordBits.{word_bit, count_below}
+use Rattle.hs_bits.specs.WordBits.{word_bit, count_below}
 use Rattle.hs_block.proofs.AnyLemmas.{any-none, any-same, any-some, any-split, none-any, same-truth, some-any, true-false, true-or-false}
 use Rattle.hs_block.proofs.PackedLemmas.{bit-digits, length-packed, packed-at}
-use Rattle.hs_block.proofs.PlaceLemmas.{bit-both, bit-either, bit-none, bit-up, less-is, not-less}
+use Rattle.hs_bits.proofs.PlaceLemmas.{bit-both, bit-either, bit-none, bit-up, less-is, not-less}
 use Rattle.hs_block.proofs.TableLemmas.{with-bit}
 
 -- a word without a bit is 0

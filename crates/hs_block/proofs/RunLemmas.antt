@@ -15,14 +15,14 @@ use Rattle.hs_base.specs.declared.byte_set.ByteSet.{ByteSet}
 use Rattle.hs_base.specs.ByteSets.{has}
 use Rattle.hs_engine.specs.Engines.{Meaning, AreWakers, IsQuiet, IsStart, LeavesNothing, Stays, TellsLeaves}
 use Rattle.hs_block.specs.declared.by_steps.Progress.{Progress}
-use Rattle.hs_block.specs.WordBits.{word_bit, bits_of, Marks, count_below, count_set}
+use Rattle.hs_bits.specs.WordBits.{word_bit, bits_of, Marks, count_below, count_set}
 use Rattle.hs_block.specs.Scans.{IsLeftBefore, IsLeftBehind}
 use Rattle.hs_block.specs.Blocks.{IsEnteredThroughout, IsFieldOf, IsBlockRun, is_blank, is_busy}
 use Rattle.hs_block.specs.Rests.{is_busy_at, IsAsleepOver}
 use Rattle.hs_block.specs.Progress.{IsRunTo}
 use Rattle.std.proofs.lemmas.List.{append-nil, take_all}
-use Rattle.hs_block.proofs.PlaceLemmas.{or-false, bit-none}
-use Rattle.hs_block.proofs.BlockLemmas.{block-more, entered-more, length-block, length-entered, prev-next, marks-more, count-same, count-more, or-none}
+use Rattle.hs_bits.proofs.PlaceLemmas.{or-false, bit-none}
+use Rattle.hs_bits.proofs.BlockLemmas.{block-more, entered-more, length-block, length-entered, prev-next, marks-more, count-same, count-more, or-none}
 
 -- regions up to a place, and another from there on
 extended : (ℕ → List ℕ) → ℕ → List ℕ → ℕ → List ℕ

@@ -18,13 +18,13 @@ use Rattle.hs_engine.specs.Tables.{IsFor, Runs}
 use Rattle.hs_engine.proofs.AgreementLemmas.{accepting-leaves, leaves-accepting, reached-steps, steps-reached}
 use Rattle.hs_engine.proofs.PositionLemmas.{reach-below}
 use Rattle.hs_block.specs.declared.streams.Streams.{Streams}
-use Rattle.hs_block.specs.BlockContexts.{context_before, prev_before}
+use Rattle.hs_bits.specs.BlockContexts.{context_before, prev_before}
 use Rattle.hs_block.specs.Rows.{is_next, row}
 use Rattle.hs_block.specs.StreamTables.{TellsOf, comes_before, stream_rules}
-use Rattle.hs_block.specs.WordBits.{bits_of, word_bit}
+use Rattle.hs_bits.specs.WordBits.{bits_of, word_bit}
 use Rattle.hs_block.proofs.AnyLemmas.{any-some, some-any}
-use Rattle.hs_block.proofs.BlockLemmas.{block-more, entered-more, length-block, length-entered}
-use Rattle.hs_block.proofs.ContextLemmas.{prev-there}
+use Rattle.hs_bits.proofs.BlockLemmas.{block-more, entered-more, length-block, length-entered}
+use Rattle.hs_bits.proofs.ContextLemmas.{prev-there}
 
 -- a position that is reached is one of so many
 pub reached-below : (r : Core) (u : List ℕ) (entered : List Bool) (x : ℕ) → IsReached r u entered x → x < count r

@@ -15,18 +15,18 @@ use Rattle.hs_block.specs.declared.engine.BlockEnds.{BlockEnds}
 use Rattle.hs_block.specs.declared.streams.Streams.{Streams}
 use Rattle.hs_block.specs.Blocks.{is_blank, is_busy}
 use Rattle.hs_block.specs.Packed.{packed}
-use Rattle.hs_block.specs.BlockContexts.{context_before, context_behind, prev_before}
+use Rattle.hs_bits.specs.BlockContexts.{context_before, context_behind, prev_before}
 use Rattle.hs_block.specs.Rows.{is_next, live_at}
 use Rattle.hs_block.specs.StreamRuns.{IsStreamRun, IsTried, accepts_before, accepts_behind, stream_part, stream_row}
 use Rattle.hs_engine.specs.Automata.{in_mask, in_set}
 use Rattle.hs_engine.specs.Between.{between}
 use Rattle.hs_block.specs.StreamSets.{takes_byte}
 use Rattle.hs_block.specs.StreamTables.{comes_before, stream_rules}
-use Rattle.hs_block.specs.WordBits.{count_below, one_later, word_bit}
+use Rattle.hs_bits.specs.WordBits.{count_below, one_later, word_bit}
 use Rattle.hs_block.proofs.AnyLemmas.{any-none, any-same, same-truth, true-false, true-or-false}
-use Rattle.hs_block.proofs.BlockLemmas.{count-same}
+use Rattle.hs_bits.proofs.BlockLemmas.{count-same}
 use Rattle.hs_block.proofs.PackedLemmas.{length-packed, packed-blank, packed-same, packed-zero}
-use Rattle.hs_block.proofs.PlaceLemmas.{bit-both, bit-none, less-is, not-less}
+use Rattle.hs_bits.proofs.PlaceLemmas.{bit-both, bit-none, less-is, not-less}
 use Rattle.hs_block.proofs.RunLemmas.{blank-zero, zero-blank}
 
 -- both where a number is below another

@@ -14,14 +14,14 @@ use Rattle.hs_engine.specs.AnyBelow.{any_below}
 use Rattle.hs_engine.specs.Automata.{in_mask, in_set}
 use Rattle.hs_engine.specs.Rows.{square_number}
 use Rattle.hs_block.specs.declared.streams.Streams.{Streams}
-use Rattle.hs_block.specs.BlockContexts.{context_before, context_behind}
+use Rattle.hs_bits.specs.BlockContexts.{context_before, context_behind}
 use Rattle.hs_block.specs.Rows.{Rules, is_next, live_at}
 use Rattle.hs_block.specs.Settling.{Holds, IsSettled}
 use Rattle.hs_block.specs.StreamSets.{in_rows, takes_byte}
 use Rattle.hs_block.specs.StreamTables.{comes_before, stream_rules}
-use Rattle.hs_block.specs.WordBits.{one_later, word_bit}
+use Rattle.hs_bits.specs.WordBits.{one_later, word_bit}
 use Rattle.hs_block.proofs.AnyLemmas.{any-none, any-or, any-same, any-skip, any-some, same-truth, some-any, true-false, true-or-false}
-use Rattle.hs_block.proofs.PlaceLemmas.{bit-both, bit-either, bit-none, less-is, not-less}
+use Rattle.hs_bits.proofs.PlaceLemmas.{bit-both, bit-either, bit-none, less-is, not-less}
 use Rattle.hs_block.proofs.TableLemmas.{square-few}
 
 -- the words of those that aren't live are 0

@@ -19,17 +19,17 @@ use Rattle.hs_engine.specs.Engines.{Meaning}
 use Rattle.hs_engine.specs.Tables.{IsClearFrom, Runs}
 use Rattle.hs_block.specs.declared.engine.BlockEnds.{BlockEnds}
 use Rattle.hs_block.specs.declared.streams.Streams.{Streams}
-use Rattle.hs_block.specs.BlockContexts.{context_before, context_behind, prev_before}
+use Rattle.hs_bits.specs.BlockContexts.{context_before, context_behind, prev_before}
 use Rattle.hs_block.specs.Blocks.{IsFieldOf, TakesBlock, is_blank, is_busy}
 use Rattle.hs_block.specs.Scans.{IsLeftBefore, IsLeftBehind, Scans}
 use Rattle.hs_block.specs.StreamRuns.{IsStreamRun, RunsStreams, accepts_before, accepts_behind, stream_part, stream_row}
 use Rattle.hs_block.specs.StreamSets.{takes_byte}
 use Rattle.hs_block.specs.StreamTables.{TellsOf, comes_before}
-use Rattle.hs_block.specs.WordBits.{bits_of, word_bit}
+use Rattle.hs_bits.specs.WordBits.{bits_of, word_bit}
 use Rattle.hs_block.proofs.AnyLemmas.{any-none}
-use Rattle.hs_block.proofs.ContextLemmas.{prev-there}
+use Rattle.hs_bits.proofs.ContextLemmas.{prev-there}
 use Rattle.hs_block.proofs.PackedLemmas.{bit-packed, bit-packed_past, length-packed, packed-zero}
-use Rattle.hs_block.proofs.PlaceLemmas.{less, less-is, not-less}
+use Rattle.hs_bits.proofs.PlaceLemmas.{less, less-is, not-less}
 use Rattle.hs_block.proofs.RunLemmas.{blank-zero}
 use Rattle.hs_block.proofs.StreamRowLemmas.{accepts-leave, reached-below, rows-field}
 use Rattle.hs_block.proofs.StreamRunLemmas.{under}

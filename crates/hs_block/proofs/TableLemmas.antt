@@ -15,7 +15,7 @@ use Rattle.hs_engine.specs.RowSizes.{class_number, row_len, square_count}
 use Rattle.hs_engine.specs.Rows.{in_square, row_start, square_number}
 use Rattle.hs_block.specs.StreamSets.{AreOrders, in_rows}
 use Rattle.hs_block.proofs.AnyLemmas.{true-false}
-use Rattle.hs_block.proofs.PlaceLemmas.{less-is, not-less}
+use Rattle.hs_bits.proofs.PlaceLemmas.{less-is, not-less}
 
 -- no bit is set where all words are 0
 pub zero-words : (n x : ℕ) → get_or (replicate n zero) x zero ≡ zero

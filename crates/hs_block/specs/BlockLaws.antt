@@ -6,7 +6,7 @@ use Rattle.hs_base.specs.Leaving.{IsEmptyAt}
 use Rattle.hs_base.specs.LiteralEnds.{EndsAt}
 use Rattle.hs_base.specs.Literals.{LiteralByte}
 use Rattle.hs_base.specs.Trees.{Tree}
-use Rattle.hs_block.specs.WordBits.{bits_of, Marks}
+use Rattle.hs_bits.specs.WordBits.{bits_of, Marks}
 use Rattle.hs_block.specs.Scans.{HandsOn, IsLeftBefore}
 
 -- A word that tells where an expression is left in a block goes on with the list for the bytes before it.

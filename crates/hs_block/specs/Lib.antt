@@ -1,11 +1,9 @@
-pub mod WordBits
 pub mod Scans
 pub mod Blocks
 pub mod Rests
 pub mod Progress
 pub mod BlockLaws
 pub mod LiteralBlocks
-pub mod BlockContexts
 pub mod Rows
 pub mod Packed
 pub mod Settling

@@ -8,7 +8,7 @@ use Rattle.hs_base.specs.LiteralRows.{TellsEntries}
 use Rattle.hs_base.specs.Chains.{lit, piece_tree}
 use Rattle.hs_block.specs.declared.literal.Hits.{Hits}
 use Rattle.hs_block.specs.declared.literal.LiteralRun.{LiteralRun}
-use Rattle.hs_block.specs.WordBits.{word_bit, one_later}
+use Rattle.hs_bits.specs.WordBits.{word_bit, one_later}
 use Rattle.hs_block.specs.Scans.{Scans}
 
 -- the bits of a literal of n bytes the other way round: the first one tells of the entry that is farthest back

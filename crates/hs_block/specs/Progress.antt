@@ -8,7 +8,7 @@ use Rattle.hs_base.specs.ContextSets.{has_next}
 use Rattle.hs_base.specs.Trees.{Tree}
 use Rattle.hs_engine.specs.Engines.{Meaning, IsQuiet, TellsLeaves}
 use Rattle.hs_block.specs.declared.by_steps.Progress.{Progress}
-use Rattle.hs_block.specs.WordBits.{bits_of, Marks, count_below}
+use Rattle.hs_bits.specs.WordBits.{bits_of, Marks, count_below}
 use Rattle.hs_block.specs.Scans.{IsLeftBefore, IsLeftBehind}
 use Rattle.hs_block.specs.Blocks.{IsFieldOf, is_busy}
 

@@ -2,7 +2,7 @@
 use Rattle.std.specs.Prelude.{ℕ, ◌<◌, ◌≤◌, Bool, not, ◌||◌, List, slice_index}
 use Rattle.hs_base.specs.Bits.{AreZero}
 use Rattle.hs_engine.specs.Engines.{Meaning, LeavesNothing, Stays}
-use Rattle.hs_block.specs.WordBits.{word_bit}
+use Rattle.hs_bits.specs.WordBits.{word_bit}
 use Rattle.hs_block.specs.Blocks.{is_blank}
 
 -- before the byte of that place the engine is entered, or its region isn't all 0

@@ -1,7 +1,7 @@
 -- Which positions are live at each place of a block, and words that say so.
 use Rattle.std.specs.Prelude.{ℕ, zero, suc, Bool, ◌&&◌, ◌||◌, List, slice_index}
 use Rattle.hs_engine.specs.AnyBelow.{any_below}
-use Rattle.hs_block.specs.WordBits.{word_bit}
+use Rattle.hs_bits.specs.WordBits.{word_bit}
 
 -- What is said of each place of a block and each of so many positions: that it takes the byte there, that it is entered
 -- before that byte, and which others may come before it there.

@@ -4,7 +4,7 @@ use Rattle.hs_base.specs.declared.context.Next.TheVariants as after
 use Rattle.hs_base.specs.Contexts.{class_of}
 use Rattle.hs_base.specs.Trees.{Tree}
 use Rattle.hs_base.specs.Fields.{Leaves}
-use Rattle.hs_block.specs.WordBits.{bits_of, Marks}
+use Rattle.hs_bits.specs.WordBits.{bits_of, Marks}
 
 -- Behind u comes a block of bytes. The expression was entered in u as `entered` says, and is entered before the byte i
 -- of the block where bit i of `enters` is set.

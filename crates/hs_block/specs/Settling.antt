@@ -2,7 +2,7 @@
 use Rattle.std.specs.Prelude.{◌≡◌, ℕ, ◌<◌, ◌≤◌, Bool, false, List, length, slice_index}
 use Rattle.hs_base.specs.Bits.{has_word_bit}
 use Rattle.hs_block.specs.Rows.{Rules, is_next, live_at}
-use Rattle.hs_block.specs.WordBits.{word_bit}
+use Rattle.hs_bits.specs.WordBits.{word_bit}
 
 -- at each of 64 places the word of the position is what the words make it
 abbrev pub Holds : Rules → (start : ℕ → Bool) (words : List ℕ) (position : ℕ) → Type 0

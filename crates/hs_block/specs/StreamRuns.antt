@@ -13,12 +13,12 @@ use Rattle.hs_engine.specs.Engines.{Meaning}
 use Rattle.hs_engine.specs.Tables.{IsClearFrom, Runs}
 use Rattle.hs_block.specs.declared.engine.BlockEnds.{BlockEnds}
 use Rattle.hs_block.specs.declared.streams.Streams.{Streams}
-use Rattle.hs_block.specs.BlockContexts.{context_before, context_behind}
+use Rattle.hs_bits.specs.BlockContexts.{context_before, context_behind}
 use Rattle.hs_block.specs.Blocks.{is_busy}
 use Rattle.hs_block.specs.Packed.{packed}
 use Rattle.hs_block.specs.Rows.{row}
 use Rattle.hs_block.specs.StreamTables.{TellsOf, stream_rules}
-use Rattle.hs_block.specs.WordBits.{word_bit, count_below}
+use Rattle.hs_bits.specs.WordBits.{word_bit, count_below}
 
 -- the positions that are live before the byte of that place, or behind the last one
 abbrev pub stream_row : Streams → Prev → (old : List ℕ) (enters : ℕ) (bytes : List ℕ) (place position : ℕ) → Bool

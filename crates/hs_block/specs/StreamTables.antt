@@ -7,9 +7,9 @@ use Rattle.hs_engine.specs.Automata.{in_mask, in_set, takes, enters, accepts, fo
 use Rattle.hs_base.specs.declared.byte_set.ByteSet.{ByteSet}
 use Rattle.hs_block.specs.declared.class_words.ClassWords.{ClassWords}
 use Rattle.hs_block.specs.declared.streams.Streams.{Streams}
-use Rattle.hs_block.specs.BlockContexts.{context_before}
+use Rattle.hs_bits.specs.BlockContexts.{context_before}
 use Rattle.hs_block.specs.StreamSets.{is_from, takes_byte}
-use Rattle.hs_block.specs.WordBits.{word_bit}
+use Rattle.hs_bits.specs.WordBits.{word_bit}
 use Rattle.hs_block.specs.Rows.{Rules}
 
 -- the other position may come before the one in that context

@@ -1,17 +1,20 @@
 //! Which positions may come before each other, as rows of bits.
 
 ghost use Rattle.std.specs.Prelude.{◌≡◌, ◌≢◌, ℕ, ◌+◌, ◌*◌, ◌/◌, ◌%◌, ◌<◌, ◌≤◌, ◌++◌, ◌&&◌, ◌||◌, ◌==◌, not, IfOk};
-ghost use Rattle.std.specs.Prelude.{true, false, length, take, vec_len};
+ghost use Rattle.std.specs.Prelude.{true, false, List, length, take, vec_len};
 ghost use Rattle.hs_base.specs.Bits.{has_bit, has_word_bit, word_count};
 ghost use Rattle.hs_base.specs.Contexts.{next_number, prev_number};
 ghost use Rattle.hs_engine.specs.RowSizes.{class_number, row_len, square_count};
-ghost use Rattle.hs_engine.specs.Rows.{in_square};
+ghost use Rattle.hs_base.specs.declared.context.Prev.{Prev};
+ghost use Rattle.hs_engine.specs.Rows.{in_square, square_number};
+ghost use Rattle.hs_bits.specs.BlockContexts.{AreContexts, context_before};
+ghost use Rattle.hs_bits.specs.WordBits.{word_bit};
 ghost use Rattle.hs_block.specs.StreamSets.{in_rows};
 
-use hs_base::{Next, Prev};
+use hs_base::{Next, NextSet, Prev};
 use hs_bits::{
-    BYTE_BITS, WORD_BITS, contains_bit, contains_word_bit, insert_word_bit, is_unset, unite_bytes,
-    word_count_for, write_word_bit,
+    BYTE_BITS, Contexts, WORD_BITS, contains_bit, contains_word_bit, insert_word_bit, is_unset,
+    unite_bytes, word_count_for, write_word_bit,
 };
 use hs_engine::{CLASS_COUNT, FollowRows};
 use std::alloc::{AllocError, Global};
@@ -45,6 +48,16 @@ pub(crate) fn class_of(number: usize) -> Next
         1 => Next::Newline,
         _ => Next::Other,
     }
+}
+
+/// The places whose context, where the byte there comes next, has that number of the twelve.
+pub(crate) fn square_places(contexts: &Contexts, square: usize) -> u64
+    requires { square < 12 }
+    ensures { (prev : Prev) (bytes : List ℕ) → AreContexts contexts.now prev bytes → (i : ℕ) → i < length bytes →
+        word_bit result i ≡ (square_number true (context_before prev bytes i) == square) }
+{
+    let class = NextSet::of(class_of(square % CLASS_COUNT));
+    contexts.behind_prev(prev_of(square / CLASS_COUNT)) & contexts.among(class)
 }
 
 /// The row of that number.

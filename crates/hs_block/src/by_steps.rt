@@ -8,14 +8,15 @@ ghost use Rattle.hs_base.specs.ByteSets.{has};
 ghost use Rattle.hs_base.specs.Contexts.{class_of};
 ghost use Rattle.hs_base.specs.ContextSets.{has_next};
 ghost use Rattle.hs_engine.specs.Engines.{IsQuiet, IsStart, TellsLeaves};
-ghost use Rattle.hs_block.specs.WordBits.{count_set, word_bit};
+ghost use Rattle.hs_bits.specs.WordBits.{count_set, word_bit};
 ghost use Rattle.hs_block.specs.Blocks.{IsEnteredThroughout, TakesBlock};
 ghost use Rattle.hs_block.specs.Rests.{IsAsleepOver, is_busy_at};
 
 use crate::engine::BlockEnds;
-use crate::places::{contains_place, count_places, next_place, with_place};
 use hs_base::{ByteSet, Next, NextSet, Prev};
-use hs_bits::{clear_bits, is_zero, member_places};
+use hs_bits::{
+    clear_bits, contains_place, count_places, is_zero, member_places, next_place, with_place,
+};
 use hs_engine::{Engine, Steps};
 use std::sync::ledger::Ledger;
 

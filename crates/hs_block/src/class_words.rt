@@ -4,11 +4,10 @@ ghost use Rattle.std.specs.Prelude.{◌≡◌, ◌<◌, ◌≤◌, ℕ, List, le
 ghost use Rattle.hs_base.specs.ByteSets.{has};
 ghost use Rattle.hs_base.specs.declared.byte_set.ByteSet.{ByteSet};
 ghost use Rattle.hs_engine.specs.Automata.{in_set};
-ghost use Rattle.hs_block.specs.WordBits.{word_bit};
+ghost use Rattle.hs_bits.specs.WordBits.{word_bit};
 
-use crate::places::{contains_place, with_place};
 use hs_base::ByteSet;
-use hs_bits::{WORD_BITS, member_places};
+use hs_bits::{WORD_BITS, contains_place, member_places, with_place};
 
 /// How many sets of bytes there may be.
 pub(crate) const MAX_SETS: usize = WORD_BITS;

@@ -5,18 +5,14 @@ mod before_tables;
 pub mod block_laws;
 mod by_steps;
 mod class_words;
-mod contexts;
 mod engine;
 mod literal;
 mod mask_words;
-mod places;
 mod position_words;
 mod set_tables;
 mod streams;
 
 pub use by_steps::run_by_steps;
-pub use contexts::Contexts;
 pub use engine::{BlockEnds, BlockEngine};
 pub use literal::{Hits, LiteralRun, carry_of, entries_from, keep_carry, run_literal};
-pub use places::{contains_place, low_places, next_place, with_place};
 pub use streams::{MAX_STREAMS, Streams};

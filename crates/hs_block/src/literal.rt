@@ -14,11 +14,12 @@ ghost use Rattle.std.specs.Prelude.{◌≡◌, ◌↔◌, ℕ, ◌+◌, ◌*◌,
 ghost use Rattle.hs_base.specs.Bits.{has_bit};
 ghost use Rattle.hs_base.specs.LiteralRows.{TellsEntries};
 ghost use Rattle.hs_block.specs.LiteralBlocks.{RunsLiteral, TellsCarried, is_hit, turned, was_entered};
-ghost use Rattle.hs_block.specs.WordBits.{word_bit};
+ghost use Rattle.hs_bits.specs.WordBits.{word_bit};
 
 use crate::engine::BlockEnds;
-use crate::places::{contains_place, low_places, one_later, with_place};
-use hs_bits::{clear_bits, contains_bit, write_bit};
+use hs_bits::{
+    clear_bits, contains_bit, contains_place, low_places, one_later, with_place, write_bit,
+};
 
 /// Where a literal ends in a block.
 #[derive(Clone, Copy, Debug, PartialEq, Eq)]

@@ -5,13 +5,12 @@ ghost use Rattle.hs_base.specs.Bits.{has_word_bit};
 ghost use Rattle.hs_base.specs.Contexts.{Context};
 ghost use Rattle.hs_base.specs.ContextSets.{has_context};
 ghost use Rattle.hs_engine.specs.Automata.{in_mask};
-ghost use Rattle.hs_block.specs.BlockContexts.{AreContexts, AreMade, context_before, context_behind};
-ghost use Rattle.hs_block.specs.WordBits.{word_bit};
+ghost use Rattle.hs_bits.specs.BlockContexts.{AreContexts, AreMade, context_before, context_behind};
+ghost use Rattle.hs_bits.specs.WordBits.{word_bit};
 
 use crate::before_tables::{MAX_WIDTH, put_word_bit};
-use crate::contexts::Contexts;
-use crate::places::only_if;
 use hs_base::{Mask, Prev};
+use hs_bits::{Contexts, only_if};
 
 /// Whether the mask has every context, or none; None where it has some alone.
 #[inline(always)]

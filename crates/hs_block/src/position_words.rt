@@ -5,12 +5,12 @@ ghost use Rattle.std.specs.Prelude.{IfSome, length, slice_index};
 ghost use Rattle.hs_base.specs.Bits.{has_bit, has_word_bit};
 ghost use Rattle.hs_engine.specs.AnyBelow.{any_below};
 ghost use Rattle.hs_block.specs.Packed.{packed};
-ghost use Rattle.hs_block.specs.WordBits.{count_below, word_bit};
+ghost use Rattle.hs_bits.specs.WordBits.{count_below, word_bit};
 
 use crate::before_tables::{MAX_WIDTH, put_word_bit};
-use crate::places::contains_place;
 use hs_bits::{
-    BYTE_BITS, WORD_BITS, are_apart, lowest_bit, next_bit_in, unite_bytes, without_lowest_bit,
+    BYTE_BITS, WORD_BITS, are_apart, contains_place, lowest_bit, next_bit_in, unite_bytes,
+    without_lowest_bit,
 };
 
 /// Whether the two rows have a bit in common.

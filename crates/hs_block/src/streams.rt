@@ -16,22 +16,21 @@ ghost use Rattle.hs_engine.specs.AnyBelow.{any_below};
 ghost use Rattle.hs_base.specs.Bits.{AreZero, has_bit, has_word_bit, word_count};
 ghost use Rattle.hs_base.specs.Contexts.{Context};
 ghost use Rattle.hs_engine.specs.Automata.{in_mask, in_set};
-ghost use Rattle.hs_block.specs.BlockContexts.{AreMade, context_before, context_behind};
+ghost use Rattle.hs_bits.specs.BlockContexts.{AreMade, context_before, context_behind};
 ghost use Rattle.hs_block.specs.Rows.{live_at};
 ghost use Rattle.hs_block.specs.StreamSets.{in_rows, is_from, takes_byte};
-ghost use Rattle.hs_block.specs.WordBits.{one_later, word_bit};
+ghost use Rattle.hs_bits.specs.WordBits.{one_later, word_bit};
 
-use crate::before_tables::{MAX_WIDTH, OrderTables, SQUARES, row_at};
+use crate::before_tables::{MAX_WIDTH, OrderTables, SQUARES, row_at, square_places};
 use crate::class_words::{ClassWords, MAX_SETS, class_word};
-use crate::contexts::Contexts;
 use crate::engine::BlockEnds;
 use crate::mask_words::{contexts_of, has_mixed, mask_before, mask_behind, some_row};
-use crate::places::{contains_place, low_places, one_later, only_if};
 use crate::position_words::{column, count_places, keep_row, load, meet, row_word, united_rows};
 use crate::set_tables::SetTables;
 use hs_base::{ByteSet, Mask, Prev};
 use hs_bits::{
-    WORD_BITS, contains_word_bit, is_zero, keep_words, next_bit_in, unite_words, write_word_bit,
+    Contexts, WORD_BITS, contains_place, contains_word_bit, is_zero, keep_words, low_places,
+    next_bit_in, one_later, only_if, unite_words, write_word_bit,
 };
 use hs_engine::{Automaton, Steps, first_bytes};
 use std::alloc::{AllocError, Global};
@@ -558,7 +557,7 @@ impl Streams {
         for square in 0..SQUARES {
             let row = row_at(&self.rests, self.width, SQUARES * position + square);
             let more = arrive(row, position, entry, words, live);
-            let places = contexts.places_of(square);
+            let places = square_places(&contexts, square);
             all = Arrivals {
                 led: all.led | (more.led & places),
                 again: all.again | (more.again & places),

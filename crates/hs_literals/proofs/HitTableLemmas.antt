@@ -11,8 +11,8 @@ use Rattle.hs_bits.proofs.NextLemmas.{word-bit}
 use Rattle.hs_bits.proofs.WordLemmas.{or-none}
 use Rattle.hs_block.specs.declared.literal.Hits.{Hits}
 use Rattle.hs_block.specs.LiteralBlocks.{is_hit}
-use Rattle.hs_block.specs.WordBits.{word_bit}
-use Rattle.hs_block.proofs.PlaceLemmas.{bit-either, bit-shifted, bit-up, less-is, not-less}
+use Rattle.hs_bits.specs.WordBits.{word_bit}
+use Rattle.hs_bits.proofs.PlaceLemmas.{bit-either, bit-shifted, bit-up, less-is, not-less}
 use Rattle.hs_literals.specs.HitTables.{HitTable, IsHitTable, AreMarked, IsBlank, AddsHit, Forgets, hit_table, is_hit_at, has_hit}
 use Rattle.hs_literals.proofs.MarkSetLemmas.{zero-marks}
 

@@ -15,15 +15,15 @@ ghost use Rattle.std.specs.Prelude.{if◌then◌else◌};
 ghost use Rattle.hs_base.specs.Bits.{has_word_bit};
 ghost use Rattle.hs_bits.specs.NextBits.{IsNextBitIn};
 ghost use Rattle.hs_block.specs.LiteralBlocks.{is_hit};
-ghost use Rattle.hs_block.specs.WordBits.{word_bit};
+ghost use Rattle.hs_bits.specs.WordBits.{word_bit};
 ghost use Rattle.hs_literals.specs.HitTables.{AddsHit, AddsHits, AreMarked, Forgets, IsBlank, IsHitAtStart};
 ghost use Rattle.hs_literals.specs.HitTables.{IsHitInside, TellsHits, has_hit, is_hit_at};
 
 use crate::literals::Literals;
 use crate::mark_set::MarkSet;
 use crate::scan::LitScan;
-use hs_bits::{WORD_BITS, insert_word_bit};
-use hs_block::{Hits, contains_place};
+use hs_bits::{WORD_BITS, contains_place, insert_word_bit};
+use hs_block::Hits;
 use std::alloc::{AllocError, Global};
 use std::marker::Model;
 

@@ -5,7 +5,7 @@ use Rattle.std.proofs.Math.ListN.{drop_of_length-le}
 use Rattle.std.proofs.lemmas.List.{append-nil, get_or-append-add, take_all}
 use Rattle.hs_base.specs.Assertions.{line_feed, is_word_byte}
 use Rattle.hs_base.specs.Contexts.{prev_at, prev_by}
-use Rattle.hs_block.proofs.BlockLemmas.{block-more, length-block, prev-push}
+use Rattle.hs_bits.proofs.BlockLemmas.{block-more, length-block, prev-push}
 use Rattle.hs_nodes.specs.Blocks.{block, front}
 
 -- a block is what is sliced

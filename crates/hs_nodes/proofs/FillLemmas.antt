@@ -7,8 +7,8 @@ use Rattle.std.proofs.lemmas.List.{append-nil, take_all}
 use Rattle.hs_base.specs.declared.context.Prev.{Prev}
 use Rattle.hs_base.specs.Contexts.{prev_at}
 use Rattle.hs_base.specs.Lists.{Each}
-use Rattle.hs_block.specs.BlockContexts.{AreContexts}
-use Rattle.hs_block.specs.declared.contexts.Contexts.{Contexts}
+use Rattle.hs_bits.specs.BlockContexts.{AreContexts}
+use Rattle.hs_bits.specs.declared.contexts.Contexts.{Contexts}
 use Rattle.hs_nodes.specs.Blocks.{EndsBehind, block, front}
 use Rattle.hs_nodes.specs.Contexts.{AreChunkContexts}
 

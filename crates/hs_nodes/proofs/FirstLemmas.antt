@@ -9,10 +9,10 @@ use Rattle.hs_base.specs.Contexts.{class_of, prev_at}
 use Rattle.hs_base.specs.Leaving.{IsEmptyAt}
 use Rattle.hs_base.specs.Trees.{Tree}
 use Rattle.hs_base.proofs.ChainStreamLemmas.{leaving-begins}
-use Rattle.hs_block.specs.BlockContexts as of_block
-use Rattle.hs_block.specs.declared.contexts.Contexts.{Contexts}
-use Rattle.hs_block.specs.WordBits.{word_bit, Marks}
-use Rattle.hs_block.proofs.PlaceLemmas.{bit-none, less-is, not-less}
+use Rattle.hs_bits.specs.BlockContexts as of_block
+use Rattle.hs_bits.specs.declared.contexts.Contexts.{Contexts}
+use Rattle.hs_bits.specs.WordBits.{word_bit, Marks}
+use Rattle.hs_bits.proofs.PlaceLemmas.{bit-none, less-is, not-less}
 use Rattle.hs_nodes.specs.declared.ends.ChunkEnds.{ChunkEnds}
 use Rattle.hs_nodes.specs.Blocks.{EndsBehind, block, front}
 use Rattle.hs_nodes.specs.Contexts.{AreChunkContexts, IsNull}

@@ -15,9 +15,9 @@ use Rattle.hs_base.proofs.ListLemmas.{each-left}
 use Rattle.hs_block.specs.declared.literal.Hits.{Hits}
 use Rattle.hs_block.specs.declared.literal.LiteralRun.{LiteralRun}
 use Rattle.hs_block.specs.LiteralBlocks.{AreHits, RunsLiteral, TellsCarried, is_hit, was_entered}
-use Rattle.hs_block.specs.WordBits.{word_bit}
+use Rattle.hs_bits.specs.WordBits.{word_bit}
 use Rattle.hs_block.proofs.LiteralBlockLemmas.{ends-stay, never-empty}
-use Rattle.hs_block.proofs.PlaceLemmas.{bit-none}
+use Rattle.hs_bits.proofs.PlaceLemmas.{bit-none}
 use Rattle.hs_nodes.specs.declared.ends.ChunkEnds.{ChunkEnds}
 use Rattle.hs_nodes.specs.declared.hits.ChunkHits.{ChunkHits}
 use Rattle.hs_nodes.specs.Blocks.{block, front}

@@ -23,10 +23,10 @@ use Rattle.hs_base.specs.Trees.{Tree, Trees, trees_of}
 use Rattle.hs_base.proofs.ChainStreamLemmas.{last-leaves, leaves-last, leaving-begins}
 use Rattle.hs_base.proofs.ListLemmas.{each-left}
 use Rattle.hs_base.proofs.LiteralRowLemmas.{literal-spans_end, literals-leave_behind}
-use Rattle.hs_block.specs.WordBits.{word_bit, count_below}
-use Rattle.hs_block.proofs.BlockLemmas.{length-block}
+use Rattle.hs_bits.specs.WordBits.{word_bit, count_below}
+use Rattle.hs_bits.proofs.BlockLemmas.{length-block}
 use Rattle.hs_block.proofs.LiteralBlockLemmas.{ends-stay, never-empty}
-use Rattle.hs_block.proofs.PlaceLemmas.{bit-both, bit-none, later-first, later-next, less-is, not-less}
+use Rattle.hs_bits.proofs.PlaceLemmas.{bit-both, bit-none, later-first, later-next, less-is, not-less}
 use Rattle.hs_engine.specs.Engines.{Meaning}
 use Rattle.hs_nodes.specs.declared.hits.ChunkHits.{ChunkHits}
 use Rattle.hs_nodes.specs.Blocks.{block, front}

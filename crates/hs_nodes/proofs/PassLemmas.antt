@@ -8,7 +8,7 @@ use Rattle.hs_base.specs.Contexts.{class_of}
 use Rattle.hs_base.specs.Leaving.{IsEmptyAt, LeavesAt, LeavesBehind}
 use Rattle.hs_base.proofs.ChainStreamLemmas.{leaves-last}
 use Rattle.hs_base.proofs.EntryLemmas.{entries-grow, leaves-listed}
-use Rattle.hs_block.proofs.BlockLemmas.{block-more}
+use Rattle.hs_bits.proofs.BlockLemmas.{block-more}
 use Rattle.hs_engine.specs.Engines.{Meaning, LeavesNothing, Stays}
 use Rattle.hs_nodes.specs.Pieces.{IsHeld}
 use Rattle.hs_nodes.proofs.FlatLemmas.{AreLeftNowhere}

@@ -9,9 +9,9 @@ use Rattle.hs_base.specs.Leaving.{AreEntered, IsEmptyAt, LeavesAt, LeavesBehind}
 use Rattle.hs_base.specs.Fields.{Leaves}
 use Rattle.hs_base.proofs.ChainStreamLemmas.{leaves-last, last-leaves}
 use Rattle.hs_base.proofs.EntryLemmas.{entries-grow, leaves-listed}
-use Rattle.hs_block.specs.WordBits.{word_bit, bits_of}
+use Rattle.hs_bits.specs.WordBits.{word_bit, bits_of}
 use Rattle.hs_block.specs.Scans.{Scans}
-use Rattle.hs_block.proofs.BlockLemmas.{block-more, entered-more}
+use Rattle.hs_bits.proofs.BlockLemmas.{block-more, entered-more}
 use Rattle.hs_nodes.specs.Left.{AreLeft}
 use Rattle.hs_nodes.specs.Pieces.{AreEmpty}
 

@@ -17,7 +17,7 @@ use Rattle.hs_base.proofs.ChainStreamLemmas.{leaves-last, leaving-begins}
 use Rattle.hs_base.proofs.EntryLemmas.{entries-grow, leaves-listed}
 use Rattle.hs_base.proofs.ListLemmas.{each-right}
 use Rattle.hs_base.proofs.LiteralRowLemmas.{literals-leave, literals-step}
-use Rattle.hs_block.proofs.BlockLemmas.{block-more}
+use Rattle.hs_bits.proofs.BlockLemmas.{block-more}
 use Rattle.hs_block.proofs.LiteralBlockLemmas.{never-empty}
 use Rattle.hs_engine.specs.Engines.{Meaning}
 use Rattle.hs_nodes.specs.declared.hits.ChunkHits.{ChunkHits}

@@ -9,9 +9,9 @@ use Rattle.std.proofs.Math.Nat.{div-div-eq-div-mul}
 use Rattle.hs_base.specs.Bits.{has_bit}
 use Rattle.hs_bits.proofs.WordLemmas.{eight-bits}
 use Rattle.hs_block.specs.LiteralBlocks.{turned}
-use Rattle.hs_block.specs.WordBits.{word_bit}
+use Rattle.hs_bits.specs.WordBits.{word_bit}
 use Rattle.hs_block.proofs.LiteralWordLemmas.{turned-above, turned-below}
-use Rattle.hs_block.proofs.PlaceLemmas.{bit-shifted, bit-up}
+use Rattle.hs_bits.proofs.PlaceLemmas.{bit-shifted, bit-up}
 
 half-bit : (n i : ℕ) → bit_at (n / 2) i ≡ bit_at n (suc i)
 half-bit n i =

@@ -13,8 +13,8 @@ use Rattle.hs_base.specs.declared.context.Prev.{Prev}
 use Rattle.hs_engine.specs.Engines.{Meaning}
 use Rattle.hs_block.specs.declared.engine.BlockEnds.{BlockEnds}
 use Rattle.hs_block.specs.Blocks.{TakesBlock, is_busy}
-use Rattle.hs_block.specs.WordBits.{word_bit, bits_of, count_below}
-use Rattle.hs_block.proofs.PlaceLemmas.{bit-none}
+use Rattle.hs_bits.specs.WordBits.{word_bit, bits_of, count_below}
+use Rattle.hs_bits.proofs.PlaceLemmas.{bit-none}
 use Rattle.hs_nodes.specs.declared.ends.ChunkEnds.{ChunkEnds}
 use Rattle.hs_nodes.specs.Blocks.{block, front}
 use Rattle.hs_nodes.specs.Left.{AreLeft, AreLeftIn, nowhere}

@@ -1,7 +1,7 @@
 -- How many steps the nodes take at most.
 use Rattle.std.proofs.Common.{ℕ, zero, suc, ◌+◌, ◌*◌, ◌≤◌, Bool, true, false, List, [], ◌∷◌, length, if◌then◌else◌, arith}
 use Rattle.std.specs.Prelude.{slice_index_or}
-use Rattle.hs_block.specs.WordBits.{count_below}
+use Rattle.hs_bits.specs.WordBits.{count_below}
 use Rattle.hs_nodes.specs.Hits.{hit_count, is_hit_at, no_hits}
 use Rattle.hs_nodes.specs.Nodes.{most_ticks}
 use Rattle.hs_nodes.specs.Walks.{nodes_ticks}

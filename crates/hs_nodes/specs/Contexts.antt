@@ -7,8 +7,8 @@ use Rattle.hs_base.specs.Contexts.{context_of, prev_at}
 use Rattle.hs_base.specs.ContextSets.{has_context}
 use Rattle.hs_base.specs.Leaving.{IsEmptyAt}
 use Rattle.hs_base.specs.Trees.{Tree}
-use Rattle.hs_block.specs.BlockContexts.{AreContexts}
-use Rattle.hs_block.specs.declared.contexts.Contexts.{Contexts}
+use Rattle.hs_bits.specs.BlockContexts.{AreContexts}
+use Rattle.hs_bits.specs.declared.contexts.Contexts.{Contexts}
 use Rattle.hs_nodes.specs.Blocks.{EndsBehind, block, front}
 use Rattle.hs_nodes.specs.declared.table.NodeKind.{NodeKind}
 use Rattle.hs_nodes.specs.declared.table.NodeKind.TheVariants.{Engine, Literal, FirstLiteral, LookBack}

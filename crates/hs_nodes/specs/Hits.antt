@@ -9,7 +9,7 @@ use Rattle.hs_base.specs.Trees.{Tree}
 use Rattle.hs_base.specs.Bits.{has_bit}
 use Rattle.hs_base.specs.LiteralRows.{TellsEntries}
 use Rattle.hs_block.specs.LiteralBlocks.{TellsCarried, turned}
-use Rattle.hs_block.specs.WordBits.{word_bit, count_below}
+use Rattle.hs_bits.specs.WordBits.{word_bit, count_below}
 use Rattle.hs_nodes.specs.Left.{AreLeftIn}
 use Rattle.hs_nodes.specs.Pieces.{IsHeldBy, IsRunOver}
 use Rattle.hs_nodes.specs.declared.ends.ChunkEnds.{ChunkEnds}

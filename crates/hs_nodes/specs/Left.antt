@@ -5,7 +5,7 @@ use Rattle.hs_base.specs.declared.context.Next.TheVariants as after
 use Rattle.hs_base.specs.Chains.{Piece}
 use Rattle.hs_base.specs.Contexts.{class_of}
 use Rattle.hs_base.specs.Leaving.{LeavesAt}
-use Rattle.hs_block.specs.WordBits.{Marks}
+use Rattle.hs_bits.specs.WordBits.{Marks}
 use Rattle.hs_nodes.specs.Blocks.{block, front}
 use Rattle.hs_nodes.specs.declared.ends.ChunkEnds.{ChunkEnds}
 

@@ -6,7 +6,7 @@ use Rattle.hs_base.specs.Chains.{Piece, piece_tree, IsFitChain}
 use Rattle.hs_base.specs.Contexts.{class_of}
 use Rattle.hs_base.specs.Leaving.{AreEntered, IsEmptyAt}
 use Rattle.hs_base.specs.Trees.{Tree}
-use Rattle.hs_block.specs.WordBits.{word_bit}
+use Rattle.hs_bits.specs.WordBits.{word_bit}
 use Rattle.hs_engine.specs.Engines.{Meaning}
 use Rattle.hs_nodes.specs.Blocks.{EndsBehind, block, front}
 use Rattle.hs_nodes.specs.Left.{AreLeftIn}

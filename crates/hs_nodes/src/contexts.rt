@@ -5,7 +5,7 @@ ghost use Rattle.hs_nodes.specs.Contexts.{AreChunkContexts, NeedsContexts, asks_
 
 use crate::chunk::Chunk;
 use crate::table::NodeKind;
-use hs_block::Contexts;
+use hs_bits::Contexts;
 
 /// Writes the contexts of the blocks of a chunk.
 fn fill_contexts(contexts: &mut [Contexts], chunk: &Chunk)

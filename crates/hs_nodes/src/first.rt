@@ -5,7 +5,7 @@ ghost use Rattle.hs_nodes.specs.Left.{AreLeftIn};
 
 use crate::chunk::Chunk;
 use crate::ends::ChunkEnds;
-use hs_block::low_places;
+use hs_bits::low_places;
 
 /// Everywhere in a chunk: where no pieces are left.
 pub fn everywhere(chunk: &Chunk) -> ChunkEnds

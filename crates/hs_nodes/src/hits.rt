@@ -2,11 +2,12 @@
 
 ghost use Rattle.std.specs.Prelude.{◌≡◌, ◌+◌, ◌*◌, ◌<◌, ◌≤◌, ℕ};
 ghost use Rattle.hs_block.specs.LiteralBlocks.{is_hit};
-ghost use Rattle.hs_block.specs.WordBits.{word_bit};
+ghost use Rattle.hs_bits.specs.WordBits.{word_bit};
 ghost use Rattle.hs_nodes.specs.Hits.{is_hit_at};
 
 use crate::chunk::MAX_BLOCKS;
-use hs_block::{Hits, contains_place};
+use hs_bits::contains_place;
+use hs_block::Hits;
 
 /// Where a literal ends in a chunk.
 #[derive(Clone, Copy, Debug)]

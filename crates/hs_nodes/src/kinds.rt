@@ -12,7 +12,8 @@ use crate::literals::run_literal_part;
 use crate::look_back::{ends_of, run_pair};
 use crate::nulls::null_ends;
 use crate::table::NodeKind;
-use hs_block::{BlockEngine, Contexts};
+use hs_bits::Contexts;
+use hs_block::BlockEngine;
 use hs_engine::Steps;
 use std::sync::ledger::Ledger;
 

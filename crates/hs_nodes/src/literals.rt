@@ -4,7 +4,7 @@ ghost use Rattle.std.specs.Prelude.{◌≡◌, ◌+◌, ◌≤◌, ℕ, length};
 ghost use Rattle.hs_base.specs.Bits.{has_bit};
 ghost use Rattle.hs_base.specs.RepeatRows.{IsRingAt};
 ghost use Rattle.hs_block.specs.LiteralBlocks.{turned};
-ghost use Rattle.hs_block.specs.WordBits.{word_bit};
+ghost use Rattle.hs_bits.specs.WordBits.{word_bit};
 ghost use Rattle.hs_nodes.specs.Hits.{IsCarryAt, TakesLiteral, TakesLiteralPart};
 
 use crate::chunk::Chunk;

@@ -20,8 +20,7 @@ use crate::ends::ChunkEnds;
 use crate::hits::ChunkHits;
 use crate::table::{LookBackPair, MAX_LOOK_BACK, MAX_LOOK_BACK_REGION};
 use hs_base::{Mask, Next, NextSet, Prev};
-use hs_bits::{next_bit_in, write_word_bit};
-use hs_block::low_places;
+use hs_bits::{low_places, next_bit_in, write_word_bit};
 use hs_engine::{Engine, Steps};
 use std::sync::ledger::Ledger;
 

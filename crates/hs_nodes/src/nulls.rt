@@ -10,7 +10,7 @@ ghost use Rattle.hs_nodes.specs.Pieces.{AreEmptyIn};
 use crate::chunk::Chunk;
 use crate::ends::ChunkEnds;
 use hs_base::Mask;
-use hs_block::Contexts;
+use hs_bits::Contexts;
 use std::alloc::{AllocError, Global};
 
 /// The contexts of the blocks of a chunk.

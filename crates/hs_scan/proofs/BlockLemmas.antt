@@ -16,7 +16,7 @@ use Rattle.hs_base.specs.Told.{Pair, IsNew}
 use Rattle.hs_base.proofs.ListLemmas.{each-of_members, one_of-map}
 use Rattle.hs_base.proofs.NewLemmas.{new_nothing, told_more}
 use Rattle.hs_base.proofs.ToldLemmas.{new-joins}
-use Rattle.hs_block.specs.WordBits.{word_bit as block_bit}
+use Rattle.hs_bits.specs.WordBits.{word_bit as block_bit}
 use Rattle.hs_engine.specs.Engines.{Meaning}
 use Rattle.hs_nodes.specs.Blocks.{block, front}
 use Rattle.hs_nodes.specs.Left.{AreLeft, AreLeftIn, nowhere}

@@ -7,9 +7,9 @@ use Rattle.hs_base.specs.LiteralEnds.{EndsAt}
 use Rattle.hs_base.specs.Literals.{LiteralByte}
 use Rattle.hs_base.specs.Regions.{last_bytes}
 use Rattle.hs_block.specs.LiteralBlocks.{is_hit}
-use Rattle.hs_block.specs.WordBits.{word_bit}
+use Rattle.hs_bits.specs.WordBits.{word_bit}
 use Rattle.hs_block.specs.declared.literal.Hits.{Hits}
-use Rattle.hs_block.proofs.PlaceLemmas.{bit-none}
+use Rattle.hs_bits.proofs.PlaceLemmas.{bit-none}
 use Rattle.hs_literals.specs.HitLaws.{ReachesBack}
 use Rattle.hs_literals.specs.HitTables.{AreMarked, HitTable, TellsHits, has_hit}
 use Rattle.hs_literals.proofs.HitStreamLemmas.{hits-of_stream}

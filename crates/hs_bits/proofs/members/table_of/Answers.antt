@@ -1,4 +1,4 @@
-use Rattle.std.proofs.Common.{ap, ◌∙◌}
+use Rattle.std.proofs.Common.{◌∙◌}
 use Rattle.hs_bits.proofs.WordLemmas.{low-bytes, high-bytes}
 use Rattle.hs_bits.proofs.MemberLemmas.{table-read}
 use Rattle.hs_bits.proofs.members.table_of.Goals as goal

@@ -1,5 +1,5 @@
 use Rattle.std.proofs.Common.{arith}
-use Rattle.hs_block.specs.WordBits.{word_bit}
+use Rattle.hs_bits.specs.WordBits.{word_bit}
 use Rattle.hs_block.proofs.RunLemmas.{asleep-over, awake-busy}
 use Rattle.hs_block.proofs.by_steps.asleep_until.Goals as goal
 

@@ -1,7 +1,7 @@
 use Rattle.std.proofs.Common.{length, arith}
 use Rattle.std.specs.Prelude.{slice_index}
 use Rattle.hs_base.specs.ByteSets.{has}
-use Rattle.hs_block.proofs.PlaceLemmas.{both-first, no-member-there}
+use Rattle.hs_bits.proofs.PlaceLemmas.{both-first, no-member-there}
 use Rattle.hs_block.proofs.by_steps.next_waker.Goals as goal
 
 pub returns-clause-entered : goal.returns-clause-entered

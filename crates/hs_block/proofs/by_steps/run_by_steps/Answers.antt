@@ -1,5 +1,5 @@
 use Rattle.std.proofs.Common.{◌≡◌, ◌+◌, ◌<◌, true, length, sym, ap, subst, ◌∙◌, arith}
-use Rattle.hs_block.specs.WordBits.{count_set}
+use Rattle.hs_bits.specs.WordBits.{count_set}
 use Rattle.hs_block.specs.Rests.{is_busy_at}
 use Rattle.hs_block.specs.Progress.{IsRunTo}
 use Rattle.hs_block.proofs.RunLemmas.{run-none, run-all}

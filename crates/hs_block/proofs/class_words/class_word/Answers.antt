@@ -1,7 +1,7 @@
 use Rattle.std.proofs.Common.{length, arith}
 use Rattle.std.specs.Prelude.{slice_index}
 use Rattle.hs_base.specs.ByteSets.{has}
-use Rattle.hs_block.proofs.PlaceLemmas.{member-bit}
+use Rattle.hs_bits.proofs.PlaceLemmas.{member-bit}
 use Rattle.hs_block.proofs.class_words.class_word.Goals as goal
 
 pub returns : goal.returns

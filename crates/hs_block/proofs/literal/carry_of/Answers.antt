@@ -1,9 +1,9 @@
 use Rattle.std.proofs.Common.{◌≡◌, suc, ◌-◌, nat_lt, ◌&&◌, ap, ◌∙◌, arith}
 use Rattle.hs_base.specs.Bits.{has_bit}
 use Rattle.hs_bits.proofs.WordLemmas.{none-under_alone, number-more_alone}
-use Rattle.hs_block.specs.WordBits.{word_bit}
+use Rattle.hs_bits.specs.WordBits.{word_bit}
 use Rattle.hs_block.specs.LiteralBlocks.{turned}
-use Rattle.hs_block.proofs.PlaceLemmas.{bit-none}
+use Rattle.hs_bits.proofs.PlaceLemmas.{bit-none}
 use Rattle.hs_block.proofs.LiteralWordLemmas.{entries-same, turned-above, turned-twice}
 use Rattle.hs_block.proofs.literal.carry_of.Goals as goal
 

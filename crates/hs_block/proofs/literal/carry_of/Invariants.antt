@@ -1,6 +1,6 @@
 use Rattle.std.proofs.Common.{◌≡◌, ℕ, ◌-◌, suc, nat_lt, ◌&&◌}
 use Rattle.hs_base.specs.Bits.{has_bit}
-use Rattle.hs_block.specs.WordBits.{word_bit}
+use Rattle.hs_bits.specs.WordBits.{word_bit}
 use Rattle.hs_block.proofs.literal.carry_of.Given as goal
 
 abbrev pub invariant-loop-place : goal.invariant-loop-place

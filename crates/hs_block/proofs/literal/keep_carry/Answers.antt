@@ -2,7 +2,7 @@ use Rattle.std.proofs.Common.{◌≡◌, suc, ◌-◌, nat_lt, ◌&&◌, sym, ap
 use Rattle.hs_base.specs.Bits.{has_bit}
 use Rattle.hs_base.proofs.BitLemmas.{zero-bits}
 use Rattle.hs_bits.proofs.WordLemmas.{none-under_alone}
-use Rattle.hs_block.specs.WordBits.{word_bit}
+use Rattle.hs_bits.specs.WordBits.{word_bit}
 use Rattle.hs_block.specs.LiteralBlocks.{turned}
 use Rattle.hs_block.proofs.LiteralWordLemmas.{entries-same, turned-above, put-more}
 use Rattle.hs_block.proofs.literal.keep_carry.Goals as goal

@@ -1,5 +1,5 @@
 use Rattle.std.proofs.Common.{◌≡◌, ◌+◌, refl, sym, ap, ◌∙◌, arith, bit_and}
-use Rattle.hs_block.specs.WordBits.{word_bit}
+use Rattle.hs_bits.specs.WordBits.{word_bit}
 use Rattle.hs_block.specs.LiteralBlocks.{is_hit, was_entered}
 use Rattle.hs_block.proofs.LiteralWordLemmas.{words-below, words-above}
 use Rattle.hs_block.proofs.LiteralBlockLemmas.{literal-scans}

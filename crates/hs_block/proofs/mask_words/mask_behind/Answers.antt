@@ -1,6 +1,6 @@
 use Rattle.hs_base.specs.ContextSets.{has_context}
-use Rattle.hs_block.specs.BlockContexts.{context_behind}
-use Rattle.hs_block.proofs.ContextLemmas.{everywhere-bit}
+use Rattle.hs_bits.specs.BlockContexts.{context_behind}
+use Rattle.hs_bits.proofs.ContextLemmas.{everywhere-bit}
 use Rattle.hs_block.proofs.mask_words.mask_behind.Goals as goal
 
 pub returns-in-Some : goal.returns-in-Some

@@ -1,6 +1,6 @@
 use Rattle.std.proofs.Common.{get_or, refl, ◌∙◌, arith}
 use Rattle.hs_bits.proofs.WordLemmas.{none-under_alone}
-use Rattle.hs_block.specs.WordBits.{word_bit}
+use Rattle.hs_bits.specs.WordBits.{word_bit}
 use Rattle.hs_block.proofs.PositionWordLemmas.{column-more, column-passed}
 use Rattle.hs_block.proofs.TableLemmas.{zero-row}
 use Rattle.hs_block.proofs.position_words.column.Goals as goal

@@ -1,6 +1,6 @@
 use Rattle.std.proofs.Common.{◌≡◌, ℕ, ◌-◌, ◌≤◌, ◌&&◌, nat_lt, length, get_or}
 use Rattle.hs_base.specs.Bits.{has_word_bit}
-use Rattle.hs_block.specs.WordBits.{word_bit}
+use Rattle.hs_bits.specs.WordBits.{word_bit}
 use Rattle.hs_block.proofs.position_words.column.Given as goal
 
 abbrev pub invariant-loop-position : goal.invariant-loop-position

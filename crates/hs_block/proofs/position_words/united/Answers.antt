@@ -1,7 +1,7 @@
 use Rattle.std.proofs.Common.{ℕ, ◌&&◌, ◌||◌, length, get_or, ap, sym, ◌∙◌}
 use Rattle.hs_engine.specs.AnyBelow.{any_below}
-use Rattle.hs_block.specs.WordBits.{word_bit}
-use Rattle.hs_block.proofs.PlaceLemmas.{bit-either, bit-none}
+use Rattle.hs_bits.specs.WordBits.{word_bit}
+use Rattle.hs_bits.proofs.PlaceLemmas.{bit-either, bit-none}
 use Rattle.hs_block.proofs.PositionWordLemmas.{few-left, lowest-within, united-more, united-none}
 use Rattle.hs_block.proofs.position_words.united.Goals as goal
 

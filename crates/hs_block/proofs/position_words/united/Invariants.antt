@@ -1,6 +1,6 @@
 use Rattle.std.proofs.Common.{◌≡◌, ℕ, ◌≤◌, ◌&&◌, ◌||◌, false, length, get_or}
 use Rattle.hs_engine.specs.AnyBelow.{any_below}
-use Rattle.hs_block.specs.WordBits.{word_bit}
+use Rattle.hs_bits.specs.WordBits.{word_bit}
 use Rattle.hs_block.proofs.position_words.united.Given as goal
 
 abbrev pub invariant-loop-left : goal.invariant-loop-left

@@ -1,5 +1,5 @@
 use Rattle.std.proofs.Common.{arith}
-use Rattle.hs_block.proofs.PlaceLemmas.{bit-none}
+use Rattle.hs_bits.proofs.PlaceLemmas.{bit-none}
 use Rattle.hs_block.proofs.PositionWordLemmas.{both-past, slice-places, united-place}
 use Rattle.hs_block.proofs.position_words.united_rows.Goals as goal
 

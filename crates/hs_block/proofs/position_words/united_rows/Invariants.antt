@@ -1,7 +1,7 @@
 use Rattle.std.proofs.Common.{◌≡◌, ℕ, ◌*◌, ◌&&◌, get_or}
 use Rattle.hs_base.specs.Bits.{has_word_bit}
 use Rattle.hs_engine.specs.AnyBelow.{any_below}
-use Rattle.hs_block.specs.WordBits.{word_bit}
+use Rattle.hs_bits.specs.WordBits.{word_bit}
 use Rattle.hs_block.proofs.position_words.united_rows.Given as goal
 
 abbrev pub invariant-loop-place : goal.invariant-loop-place

@@ -1,6 +1,6 @@
 use Rattle.std.proofs.Common.{◌*◌, length, sym}
 use Rattle.hs_base.specs.Bits.{has_word_bit}
-use Rattle.hs_block.proofs.ContextLemmas.{everywhere-bit}
+use Rattle.hs_bits.proofs.ContextLemmas.{everywhere-bit}
 use Rattle.hs_block.proofs.StreamSettleLemmas.{arrived}
 use Rattle.hs_block.proofs.streams.arrive.Goals as goal
 

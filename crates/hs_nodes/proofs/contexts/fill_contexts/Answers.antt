@@ -1,6 +1,6 @@
 use Rattle.std.proofs.Common.{◌+◌, ℕ, length, refl, subst, arith, length-set}
 use Rattle.hs_base.specs.Contexts.{prev_at}
-use Rattle.hs_block.specs.BlockContexts.{AreContexts}
+use Rattle.hs_bits.specs.BlockContexts.{AreContexts}
 use Rattle.hs_nodes.specs.Blocks.{front}
 use Rattle.hs_nodes.proofs.FillLemmas.{filled-all, filled-more, filled-none}
 use Rattle.hs_nodes.proofs.contexts.fill_contexts.Goals as goal

@@ -1,5 +1,5 @@
 use Rattle.std.proofs.Common.{◌/◌, ◌^◌, ◌-◌, ap, ◌∙◌}
-use Rattle.hs_block.specs.WordBits.{word_bit}
+use Rattle.hs_bits.specs.WordBits.{word_bit}
 use Rattle.hs_nodes.proofs.RowLemmas.{four-bits, read-bits}
 use Rattle.hs_nodes.proofs.literals.read_row.Goals as goal
 

@@ -1,7 +1,7 @@
 use Rattle.std.proofs.Common.{sym, ◌∙◌}
 use Rattle.hs_base.specs.Bits.{has_bit}
 use Rattle.hs_block.specs.LiteralBlocks.{turned}
-use Rattle.hs_block.specs.WordBits.{word_bit}
+use Rattle.hs_bits.specs.WordBits.{word_bit}
 use Rattle.hs_block.proofs.LiteralWordLemmas.{entries-same, turned-above, turned-twice}
 use Rattle.hs_nodes.proofs.LiteralLemmas.{literal-part}
 use Rattle.hs_nodes.proofs.literals.run_literal_part.Goals as goal

@@ -1,6 +1,6 @@
 use Rattle.std.proofs.Common.{◌+◌, ◌∙◌, [], ◌∷◌, ap, subst, length, length-append}
 use Rattle.hs_base.specs.declared.context.Prev.{Prev}
-use Rattle.hs_block.specs.BlockContexts.{AreContexts}
+use Rattle.hs_bits.specs.BlockContexts.{AreContexts}
 use Rattle.hs_nodes.specs.Blocks.{block}
 use Rattle.hs_nodes.proofs.FirstLemmas.{contexts-more}
 use Rattle.hs_nodes.proofs.nulls.chunk_contexts.Goals as goal

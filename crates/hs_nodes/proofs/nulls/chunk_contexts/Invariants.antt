@@ -1,7 +1,7 @@
 use Rattle.std.proofs.Common.{◌≡◌, ◌<◌, ℕ, List, length, slice_get, Some}
 use Rattle.hs_base.specs.Contexts.{prev_at}
-use Rattle.hs_block.specs.BlockContexts.{AreContexts}
-use Rattle.hs_block.specs.declared.contexts.Contexts.{Contexts}
+use Rattle.hs_bits.specs.BlockContexts.{AreContexts}
+use Rattle.hs_bits.specs.declared.contexts.Contexts.{Contexts}
 use Rattle.hs_nodes.specs.Blocks.{EndsBehind, block, front}
 use Rattle.hs_nodes.proofs.nulls.chunk_contexts.Given as goal
 

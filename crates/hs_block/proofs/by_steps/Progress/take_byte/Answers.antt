@@ -3,7 +3,7 @@ use Rattle.hs_base.specs.declared.context.Next.TheVariants as after
 use Rattle.hs_base.specs.Contexts.{class_of}
 use Rattle.hs_base.specs.ContextSets.{has_next}
 use Rattle.hs_engine.specs.Engines.{TellsLeaves}
-use Rattle.hs_block.specs.WordBits.{word_bit}
+use Rattle.hs_bits.specs.WordBits.{word_bit}
 use Rattle.hs_block.specs.Rests.{is_busy_at}
 use Rattle.hs_block.proofs.RunLemmas.{run-more, bits-as, counts-bit, one-step}
 use Rattle.hs_block.proofs.by_steps.Progress.take_byte.Goals as goal

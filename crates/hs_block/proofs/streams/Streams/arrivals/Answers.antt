@@ -1,5 +1,5 @@
 use Rattle.std.proofs.Common.{ap, sym, ◌∙◌, arith}
-use Rattle.hs_block.specs.BlockContexts.{context_before}
+use Rattle.hs_bits.specs.BlockContexts.{context_before}
 use Rattle.hs_block.specs.StreamSets.{in_rows}
 use Rattle.hs_block.proofs.StreamSettleLemmas.{from-always, led-always, read-row}
 use Rattle.hs_block.proofs.streams.Streams.arrivals.Goals as goal

@@ -1,7 +1,7 @@
 use Rattle.std.proofs.Common.{ℕ, Bool, ◌||◌, not, get_or, ap, ◌∙◌, arith}
 use Rattle.hs_engine.specs.AnyBelow.{any_below}
-use Rattle.hs_block.specs.WordBits.{one_later, word_bit}
-use Rattle.hs_block.proofs.PlaceLemmas.{bit-either}
+use Rattle.hs_bits.specs.WordBits.{one_later, word_bit}
+use Rattle.hs_bits.proofs.PlaceLemmas.{bit-either}
 use Rattle.hs_block.proofs.StreamSettleLemmas.{busy-word, later-same, masked}
 use Rattle.hs_block.proofs.streams.Streams.busy_places.Goals as goal
 

@@ -2,9 +2,9 @@ use Rattle.std.proofs.Common.{◌≡◌, ℕ, true, ◌+◌, ◌*◌, ◌<◌, �
 use Rattle.hs_base.specs.Bits.{has_word_bit}
 use Rattle.hs_base.specs.Contexts.{Context}
 use Rattle.hs_engine.specs.Rows.{square_number}
-use Rattle.hs_block.specs.BlockContexts.{context_before}
+use Rattle.hs_bits.specs.BlockContexts.{context_before}
 use Rattle.hs_block.specs.StreamSets.{in_rows}
-use Rattle.hs_block.specs.WordBits.{word_bit}
+use Rattle.hs_bits.specs.WordBits.{word_bit}
 use Rattle.hs_block.proofs.StreamSettleLemmas.{LedBy, from-either, led-all, read-rest, squares-all, squares-more, squares-none}
 use Rattle.hs_block.proofs.TableLemmas.{row-room, square-few}
 use Rattle.hs_block.proofs.streams.Streams.by_context.Goals as goal
@@ -38,14 +38,14 @@ loop-square-preserved c =
     let read : (y : ℕ) → y < 64 * s.width → has_word_bit c.row_at-row.result.now y ≡ in_rows s.rests.items s.width (12 * x + square) y = λ y below. c.row_at-row.ensures.bits y below ∙ ap (λ items. in_rows items s.width (12 * x + square) y) c.deref.ensures.value in
     record {
       led = λ i small.
-          squares-more i square (here i) (LedBy s entry.state c.args.words.now x i) (word_bit c.args.always.led i) c.loop-square.all.led more.led c.places_of-places.result
+          squares-more i square (here i) (LedBy s entry.state c.args.words.now x i) (word_bit c.args.always.led i) c.loop-square.all.led more.led c.square_places-places.result
           (c.arrive-more.ensures.led s.size (omega (arith, s.wide, c.row_at-row.ensures.len)) c.requires.state c.requires.live_few i small
           ∙ read-rest s entry.state c.args.words.now c.row_at-row.result.now (12 * x + square) i read)
-          (c.places_of-places.ensures entry.prev whole c.contexts_of-contexts.ensures i (omega (arith, small, c.requires.whole))) (inv.led i small);
+          (c.square_places-places.ensures entry.prev whole c.contexts_of-contexts.ensures i (omega (arith, small, c.requires.whole))) (inv.led i small);
       again = λ i small.
-          squares-more i square (here i) (λ q. in_rows s.rests.items s.width (12 * x + q) x) (word_bit c.args.always.again i) c.loop-square.all.again more.again c.places_of-places.result
+          squares-more i square (here i) (λ q. in_rows s.rests.items s.width (12 * x + q) x) (word_bit c.args.always.again i) c.loop-square.all.again more.again c.square_places-places.result
           (c.arrive-more.ensures.again i small ∙ read x (omega (arith, c.requires.position, s.wide)))
-          (c.places_of-places.ensures entry.prev whole c.contexts_of-contexts.ensures i (omega (arith, small, c.requires.whole))) (inv.again i small);
+          (c.square_places-places.ensures entry.prev whole c.contexts_of-contexts.ensures i (omega (arith, small, c.requires.whole))) (inv.again i small);
     }
 
 pub returns-clause-led : goal.returns-clause-led

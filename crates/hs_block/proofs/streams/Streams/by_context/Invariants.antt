@@ -1,8 +1,8 @@
 use Rattle.std.proofs.Common.{◌≡◌, ℕ, ◌+◌, ◌*◌, ◌<◌, ◌&&◌, ◌||◌, true, nat_lt}
 use Rattle.hs_engine.specs.Rows.{square_number}
-use Rattle.hs_block.specs.BlockContexts.{context_before}
+use Rattle.hs_bits.specs.BlockContexts.{context_before}
 use Rattle.hs_block.specs.StreamSets.{in_rows}
-use Rattle.hs_block.specs.WordBits.{word_bit}
+use Rattle.hs_bits.specs.WordBits.{word_bit}
 use Rattle.hs_block.proofs.StreamSettleLemmas.{LedBy}
 use Rattle.hs_block.proofs.streams.Streams.by_context.Given as goal
 

@@ -1,7 +1,7 @@
 use Rattle.std.proofs.Common.{suc, arith}
 use Rattle.hs_engine.specs.AnyBelow.{any_below}
-use Rattle.hs_block.specs.BlockContexts.{context_before, context_behind}
-use Rattle.hs_block.proofs.PlaceLemmas.{bit-none}
+use Rattle.hs_bits.specs.BlockContexts.{context_before, context_behind}
+use Rattle.hs_bits.proofs.PlaceLemmas.{bit-none}
 use Rattle.hs_block.proofs.StreamSettleLemmas.{Accepts, ends-all, ends-more, masked}
 use Rattle.hs_block.proofs.streams.Streams.ends.Goals as goal
 

@@ -1,7 +1,7 @@
 use Rattle.std.proofs.Common.{◌≡◌, ℕ, suc, ◌-◌, ◌<◌, ◌≤◌}
 use Rattle.hs_engine.specs.AnyBelow.{any_below}
-use Rattle.hs_block.specs.BlockContexts.{context_before, context_behind}
-use Rattle.hs_block.specs.WordBits.{word_bit}
+use Rattle.hs_bits.specs.BlockContexts.{context_before, context_behind}
+use Rattle.hs_bits.specs.WordBits.{word_bit}
 use Rattle.hs_block.proofs.StreamSettleLemmas.{Accepts}
 use Rattle.hs_block.proofs.streams.Streams.ends.Given as goal
 

@@ -1,6 +1,6 @@
 use Rattle.std.proofs.Common.{◌&&◌, nat_lt, length, get_or, ap, ◌∙◌, arith}
 use Rattle.hs_base.specs.Bits.{has_word_bit}
-use Rattle.hs_block.specs.WordBits.{word_bit}
+use Rattle.hs_bits.specs.WordBits.{word_bit}
 use Rattle.hs_block.proofs.PackedLemmas.{packed-same}
 use Rattle.hs_block.proofs.streams.Streams.keep.Goals as goal
 

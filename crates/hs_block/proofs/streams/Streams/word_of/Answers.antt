@@ -3,7 +3,7 @@ use Rattle.std.specs.Prelude.{nat_le}
 use Rattle.std.proofs.lemmas.Option.{slice_get_read}
 use Rattle.hs_engine.specs.Automata.{in_set}
 use Rattle.hs_block.specs.StreamSets.{takes_byte}
-use Rattle.hs_block.specs.WordBits.{word_bit}
+use Rattle.hs_bits.specs.WordBits.{word_bit}
 use Rattle.hs_block.proofs.StreamSettleLemmas.{look-none, reached-bit, some-map, word-holds}
 use Rattle.hs_block.proofs.streams.Streams.word_of.Goals as goal
 

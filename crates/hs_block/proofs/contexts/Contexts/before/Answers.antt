@@ -1,5 +1,0 @@
-use Rattle.hs_block.proofs.ContextLemmas.{before-marks}
-use Rattle.hs_block.proofs.contexts.Contexts.before.Goals as goal
-
-pub returns : goal.returns
-returns c prev u bytes are is = before-marks c.args.mask prev u bytes c.places_before.result is (c.places_before.ensures prev bytes are)

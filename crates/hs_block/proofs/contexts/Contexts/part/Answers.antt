@@ -1,6 +1,0 @@
-use Rattle.hs_block.proofs.ContextLemmas.{part-bit}
-use Rattle.hs_block.proofs.contexts.Contexts.part.Goals as goal
-
-pub returns : goal.returns
-returns c first bytes are =
-    part-bit c.args.self.now c.args.mask first c.args.prev bytes c.behind_prev.result c.among.result c.row.result are c.behind_prev.ensures c.among.ensures c.row.ensures

@@ -1,5 +1,0 @@
-use Rattle.hs_block.proofs.PlaceLemmas.{bit-placed}
-use Rattle.hs_block.proofs.places.with_place.Goals as goal
-
-pub returns : goal.returns
-returns c = bit-placed c.args.word c.args.place c.args.value c.requires
