@@ -1,8 +1,7 @@
-use Rattle.std.proofs.Common.{◌≡◌, ◌+◌, ◌++◌, ◌∷◌, [], List, ℕ, length, ap, sym, subst, ◌∙◌, refl, arith}
+use Rattle.std.proofs.Common.{◌≡◌, ◌++◌, ◌∷◌, [], List, ℕ, length, ap, subst, ◌∙◌, refl, arith}
 use Rattle.std.proofs.lemmas.List.{length-append}
 use Rattle.hs_forest.specs.Growing.{IsBuilt}
 use Rattle.hs_forest.proofs.BuilderLemmas.{built-finished}
-use Rattle.hs_compile.specs.GraphSteps.{AreChainsStepped}
 use Rattle.hs_compile.proofs.StepLemmas.{no-steps, steps-done}
 use Rattle.hs_compile.proofs.steps.Steps.of_program.Goals as goal
 

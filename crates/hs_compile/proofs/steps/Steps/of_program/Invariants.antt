@@ -1,4 +1,3 @@
-use Rattle.std.proofs.Common.{ℕ, List}
 use Rattle.hs_compile.specs.GraphSteps.{AreChainsStepped}
 use Rattle.hs_compile.proofs.steps.Steps.of_program.Given as goal
 
