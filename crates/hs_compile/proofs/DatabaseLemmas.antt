@@ -2,8 +2,6 @@
 use Rattle.std.proofs.Common.{◌≡◌, ℕ, ◌-◌, ◌^◌, ◌<◌, ◌≤◌, List, [], ◌∷◌, ◌++◌, length, map, refl, sym, ap, ◌∙◌, subst, arith}
 use Rattle.std.specs.Prelude.{slice_index}
 use Rattle.std.specs.List.{AllZip}
-use Rattle.std.specs.declared.alloc.Global.{Global}
-use Rattle.std.specs.declared.vec.Vec.{Vec}
 use Rattle.std.proofs.lemmas.List.{length-map}
 use Rattle.hs_base.specs.declared.ext.Entry.{Entry}
 use Rattle.hs_base.specs.Chains.{Piece, chains_of}
@@ -16,10 +14,9 @@ use Rattle.hs_literals.specs.declared.literals.Literals.{Literals}
 use Rattle.hs_literals.specs.Held.{held}
 use Rattle.hs_nodes.specs.declared.graph.Graph.{Graph}
 use Rattle.hs_nodes.specs.Graphs.{IsGraphSound, RunsPlan, plan_layout}
-use Rattle.hs_pieces.specs.declared.piece.Chain.{Chain}
 use Rattle.hs_rose.specs.declared.engine.PieceEngine.{PieceEngine}
 use Rattle.hs_rose.specs.PieceEngines.{piece_meaning}
-use Rattle.hs_rose.specs.Listing.{asked_of, plain_chains}
+use Rattle.hs_rose.specs.Listing.{asked_of}
 use Rattle.hs_rose.specs.Plans.{AsksFor, plan_of}
 use Rattle.hs_rose.specs.Programs.{Tables, IsProgramOf}
 use Rattle.hs_rose.proofs.PlanLemmas.{is-plan}
@@ -29,7 +26,6 @@ use Rattle.hs_compile.specs.GraphLaws.{IsDatabaseOfPlans, IsProgramFor, RunsPlan
 use Rattle.hs_compile.specs.GraphTables.{IsLaidFor, program_layout}
 use Rattle.hs_compile.specs.Lists.{AreAcceptedFrom}
 use Rattle.hs_compile.specs.Sizes.{IsPlanOf, IsSizeOf, greatest_size}
-use Rattle.hs_compile.proofs.ListLemmas.{as-many}
 use Rattle.hs_compile.proofs.RowLemmas.{plan-laid}
 use Rattle.hs_compile.proofs.SizeLemmas.{size-once}
 
@@ -105,9 +101,3 @@ module _ (entries : List Entry) (P : List Pattern) (chains : List (List (List Pi
 
 pub compiled-few : (entries : List Entry) (P : List Pattern) (chains : List (List (List Piece))) → AreSplit (map listed entries) P chains → length entries < 2 ^ 32
 compiled-few entries P chains split = omega (arith, split.few, length-map entries listed)
-
-pub compiled-whole : (entries : List Entry) (P : List Pattern) (chains : List (Vec Chain Global)) → AreSplit (map listed entries) P (map plain_chains chains) → length chains ≡ length entries
-compiled-whole entries P chains split =
-    sym (length-map chains plain_chains)
-    ∙ (ap length split.chains_are
-    ∙ (length-map P (λ (x : Pattern). chains_of x.tree) ∙ (as-many [] (map listed entries) P split.accepted ∙ length-map entries listed)))

@@ -12,16 +12,20 @@ use Rattle.std.specs.declared.alloc.Global.{Global}
 use Rattle.std.specs.declared.vec.Vec.{Vec}
 use Rattle.hs_base.specs.Chains.{Piece, chains_of}
 use Rattle.hs_pieces.specs.declared.piece.Chain.{Chain}
-use Rattle.hs_rose.specs.Listing.{plain_chains}
+use Rattle.hs_pieces.specs.Meaning.{plain_chain}
+use Rattle.hs_rose.specs.declared.builder.Builder.{Builder}
+use Rattle.hs_rose.specs.Building.{IsBuilt}
+use Rattle.hs_rose.specs.Listing.{ListedChain, asked_of, chains_from, listed_chains, plain_chains}
+use Rattle.hs_rose.proofs.BuildLemmas.{listed-push}
 use Rattle.hs_rose.specs.Plans.{IsFitPattern}
 use Rattle.hs_rose.specs.Runnable.{AreRunnable}
 use Rattle.hs_compile.specs.declared.fault.CompileFault.{CompileFault}
 use Rattle.hs_compile.specs.declared.fault.CompileFault.TheVariants.{Refused, Memory}
-use Rattle.hs_compile.specs.Answers.{AreCompiled, IsCompiledEntry, IsEntryCause, IsCauseOf}
+use Rattle.hs_compile.specs.Answers.{AreSplit, IsCompiledEntry, IsEntryCause, IsCauseOf, IsListBuilt}
 use Rattle.hs_compile.specs.Counting.{AreCounts, IsSmall}
 use Rattle.hs_compile.specs.declared.counts.Counts.{Counts}
 use Rattle.hs_compile.specs.declared.seen.Seen.{Seen}
-use Rattle.hs_compile.specs.Remembered.{Remembers, Precede, AreSoFar}
+use Rattle.hs_compile.specs.Remembered.{Remembers, Precede, AreAdded, AreSoFar}
 use Rattle.hs_base.specs.declared.entry.ExprId.{ExprId}
 use Rattle.hs_base.specs.declared.refusal.Refusal.{Refusal}
 use Rattle.hs_base.specs.Entries.{ListedEntry}
@@ -158,28 +162,51 @@ next-number entries chains i entry seen counts is far = record {
   small = far.split.small;
 }
 
--- what is known of the entries so far
-pub step : (entries : List Entry) (chains chains' : List (Vec Chain Global)) (i : ℕ) (entry : Entry) (own : Vec Chain Global) (seen seen' : Seen) (counts counts' : Counts) → slice_get entries i ≡ Some entry →
-    AreSoFar (map listed (take i entries)) (map plain_chains chains) seen counts →
+-- there are as many expressions as entries
+pub as-many : (before entries : List ListedEntry) (P : List Pattern) → AreAcceptedFrom before entries P → length P ≡ length entries
+as-many before [] [] accepted = refl
+as-many before [] (x ∷ P) accepted = absurd accepted
+as-many before (entry ∷ entries) [] accepted = absurd accepted
+as-many before (entry ∷ entries) (x ∷ P) accepted = let n = as-many (before ++ entry ∷ []) entries P accepted.1 in omega (arith, n)
+
+-- and as many chains
+chains-count : (entries : List ListedEntry) (P : List Pattern) (chains : List (List (List Piece))) → AreSplit entries P chains → length chains ≡ length entries
+chains-count entries P chains split = ap length split.chains_are ∙ (length-map P (λ (x : Pattern). chains_of x.tree) ∙ as-many [] entries P split.accepted)
+
+-- one entry more is added
+pub step : (entries : List Entry) (i : ℕ) (entry : Entry) (own : Vec Chain Global) (lent : List Chain) (seen seen' : Seen) (counts counts' : Counts) (b b' : Builder) → slice_get entries i ≡ Some entry → lent ≡ own.items →
+    AreAdded (take i entries) seen counts b →
     ((before : List ListedEntry) (P : List Pattern) → Precede before P (i + 1) seen counts → IsCompiledEntry before P (listed entry) own counts') →
     ((before : List ListedEntry) → Remembers before seen → (IsMixed before (listed entry) → ⊥) → Remembers (before ++ listed entry ∷ []) seen') →
-    chains' ≡ chains ++ own ∷ [] →
-    AreSoFar (map listed (take (i + 1) entries)) (map plain_chains chains') seen' counts'
-step entries chains chains' i entry own seen seen' counts counts' is far compile add pushed =
+    ((before : List ListedChain) → IsBuilt b before [] → IsBuilt b' (before ++ chains_from (i + 1) 1 (asked_of entry) (map plain_chain lent)) []) →
+    AreAdded (take (i + 1) entries) seen' counts' b'
+step entries i entry own lent seen seen' counts counts' b b' is same was compile add build =
     let before = map listed (take i entries) in
-    let one = compile before far.patterns (next-number entries (map plain_chains chains) i entry seen counts is far) in
+    let es = map asked_of (take i entries) in
+    let far = was.far in
+    let one = compile before far.patterns (next-number entries was.chains i entry seen counts is far) in
     let kept : Remembers (before ++ listed entry ∷ []) seen' = add before far.kept (λ differs. one.accepted.free (MixedSingle entry.id) (misplaced (mixed differs))) in
-    let more = so-far-more before (map plain_chains chains) own (listed entry) seen seen' counts counts' far one kept in
-    subst (λ cs. AreSoFar (map listed (take (i + 1) entries)) cs seen' counts') (sym (ap (map plain_chains) pushed ∙ map-append plain_chains chains (own ∷ [])))
-    (subst (λ es. AreSoFar es (map plain_chains chains ++ plain_chains own ∷ []) seen' counts') (sym (listed_next entries i entry is)) more)
+    let more = so-far-more before was.chains own (listed entry) seen seen' counts counts' far one kept in
+    let many : length es ≡ length was.chains = length-map (take i entries) asked_of ∙ (sym (length-map (take i entries) listed) ∙ sym (chains-count before far.patterns was.chains far.split)) in
+    let number : i + 1 ≡ 1 + length es = omega (arith, length_listed entries i entry is, length-map (take i entries) listed, length-map (take i entries) asked_of) in
+    let asked : map asked_of (take (i + 1) entries) ≡ es ++ asked_of entry ∷ [] = ap (map asked_of) (take_next entries i entry is) ∙ map-append asked_of (take i entries) (entry ∷ []) in
+    let grown : IsBuilt b' (listed_chains es was.chains ++ chains_from (i + 1) 1 (asked_of entry) (map plain_chain lent)) [] = build (listed_chains es was.chains) was.built in
+    let owned : IsBuilt b' (listed_chains es was.chains ++ chains_from (1 + length es) 1 (asked_of entry) (plain_chains own)) [] =
+    subst (λ n. IsBuilt b' (listed_chains es was.chains ++ chains_from n 1 (asked_of entry) (plain_chains own)) []) number
+    (subst (λ (cs : List Chain). IsBuilt b' (listed_chains es was.chains ++ chains_from (i + 1) 1 (asked_of entry) (map plain_chain cs)) []) same grown) in
+    record {
+      chains = was.chains ++ plain_chains own ∷ [];
+      far = subst (λ xs. AreSoFar xs (was.chains ++ plain_chains own ∷ []) seen' counts') (sym (listed_next entries i entry is)) more;
+      built = subst (λ xs. IsBuilt b' (listed_chains xs (was.chains ++ plain_chains own ∷ [])) []) (sym asked)
+          (subst (λ xs. IsBuilt b' xs []) (sym (listed-push 1 es was.chains (asked_of entry) (plain_chains own) many)) owned);
+    }
 
--- all entries
-pub all-compiled : (entries : List Entry) (chains : List (Vec Chain Global)) (i : ℕ) (seen : Seen) (counts : Counts) → i ≡ length entries →
-    AreSoFar (map listed (take i entries)) (map plain_chains chains) seen counts → AreCompiled (map listed entries) chains
-all-compiled entries chains i seen counts all far =
+-- all entries are
+pub all-built : (entries : List Entry) (i : ℕ) (seen : Seen) (counts : Counts) (b : Builder) → i ≡ length entries → AreAdded (take i entries) seen counts b → IsListBuilt entries b
+all-built entries i seen counts b all was =
     let whole : take i entries ≡ entries = take_all i entries (omega (arith, all)) in
-    let done : AreSoFar (map listed entries) (map plain_chains chains) seen counts = subst (λ es. AreSoFar (map listed es) (map plain_chains chains) seen counts) whole far in
-    record { patterns = done.patterns; split = done.split }
+    let done : AreAdded entries seen counts b = subst (λ es. AreAdded es seen counts b) whole was in
+    record { patterns = done.far.patterns; chains = done.chains; split = done.far.split; built = done.built }
 
 pub refused-at : (entries : List Entry) (P : List Pattern) (i : ℕ) (entry : Entry) (refusal : Refusal) → slice_get entries i ≡ Some entry →
     AreAcceptedFrom [] (map listed (take i entries)) P → IsRefusalOf (map listed (take i entries)) (listed entry) refusal → IsFirstRefusal (map listed entries) (suc (length (map listed (take i entries)))) entry.id refusal
@@ -208,10 +235,3 @@ pub next-cause : (entries : List Entry) (chains : List (List (List Piece))) (i :
     ((before : List ListedEntry) (P : List Pattern) → Precede before P (i + 1) seen counts → IsEntryCause before (listed entry) fault) → IsCauseOf (map listed entries) fault
 next-cause entries chains i entry seen counts fault is far cause =
     cause-at entries far.patterns i entry fault is far.split.accepted (cause (map listed (take i entries)) far.patterns (next-number entries chains i entry seen counts is far))
-
--- there are as many expressions as entries
-pub as-many : (before entries : List ListedEntry) (P : List Pattern) → AreAcceptedFrom before entries P → length P ≡ length entries
-as-many before [] [] accepted = refl
-as-many before [] (x ∷ P) accepted = absurd accepted
-as-many before (entry ∷ entries) [] accepted = absurd accepted
-as-many before (entry ∷ entries) (x ∷ P) accepted = let n = as-many (before ++ entry ∷ []) entries P accepted.1 in omega (arith, n)

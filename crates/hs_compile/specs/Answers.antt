@@ -2,18 +2,21 @@
 use Rattle.std.specs.Prelude.{◌≡◌, suc, ◌<◌, ◌≤◌, List, ◌∷◌, [], ◌++◌, length, map, Option, Some, None}
 use Rattle.std.specs.declared.alloc.Global.{Global}
 use Rattle.std.specs.declared.vec.Vec.{Vec}
+use Rattle.hs_base.specs.declared.ext.Entry.{Entry}
 use Rattle.hs_base.specs.declared.ext.Ext.{Ext}
 use Rattle.hs_base.specs.declared.flags.Flags.{Flags}
 use Rattle.hs_base.specs.declared.refusal.Refusal.{Refusal}
 use Rattle.hs_base.specs.Chains.{Piece, chains_of}
-use Rattle.hs_base.specs.Entries.{ListedEntry}
+use Rattle.hs_base.specs.Entries.{ListedEntry, listed}
 use Rattle.hs_base.specs.Lists.{Each}
 use Rattle.hs_base.specs.Patterns.{Pattern}
 use Rattle.hs_base.specs.Refusals.{number_of}
 use Rattle.hs_base.specs.Regions.{Plan}
 use Rattle.hs_base.specs.Trees.{Tree}
 use Rattle.hs_pieces.specs.declared.piece.Chain.{Chain}
-use Rattle.hs_rose.specs.Listing.{plain_chains}
+use Rattle.hs_rose.specs.declared.builder.Builder.{Builder}
+use Rattle.hs_rose.specs.Building.{IsBuilt}
+use Rattle.hs_rose.specs.Listing.{asked_of, listed_chains, plain_chains}
 use Rattle.hs_rose.specs.Plans.{IsFitPattern}
 use Rattle.hs_rose.specs.Runnable.{AreRunnable}
 use Rattle.hs_support.specs.Refused.{HasRefusal as HasTreeRefusal}
@@ -52,10 +55,12 @@ pub record AreSplit (entries : List ListedEntry) (P : List Pattern) (chains : Li
   pub few : length entries ≤ greatest_count
   pub small : IsSmall P
 
--- So it is with some patterns.
-pub record AreCompiled (entries : List ListedEntry) (chains : List (Vec Chain Global)) : Type 0 where
+-- So it is with some patterns, and their program is built.
+pub record IsListBuilt (entries : List Entry) (builder : Builder) : Type 0 where
   pub patterns : List Pattern
-  pub split : AreSplit entries patterns (map plain_chains chains)
+  pub chains : List (List (List Piece))
+  pub split : AreSplit (map listed entries) patterns chains
+  pub built : IsBuilt builder (listed_chains (map asked_of entries) chains) []
 
 -- The entry behind these, which are those patterns, is accepted, and that is the number of its bytes.
 pub record IsCompiledEntry (before : List ListedEntry) (P : List Pattern) (entry : ListedEntry)

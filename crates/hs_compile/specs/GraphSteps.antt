@@ -4,7 +4,9 @@
 use Rattle.std.specs.Prelude.{◌≡◌, ◌+◌, ◌*◌, ◌^◌, ◌<◌, ◌≤◌, ℕ, suc, List, [], ◌∷◌, ◌++◌, length, Some, slice_get}
 use Rattle.std.specs.Prelude.{flat_map}
 use Rattle.std.specs.List.{AllZip}
+use Rattle.hs_forest.specs.declared.builder.Builder.{Builder}
 use Rattle.hs_forest.specs.Forests.{ForestTables, IsForestOf, beginnings}
+use Rattle.hs_forest.specs.Growing.{IsBuilt}
 use Rattle.hs_nodes.specs.declared.table.NodeKind.{NodeKind}
 use Rattle.hs_nodes.specs.declared.table.NodeKind.TheVariants.{Engine, Literal, FirstLiteral, LookBack}
 use Rattle.hs_rose.specs.declared.info.ChainInfo.{ChainInfo}
@@ -110,6 +112,13 @@ pub record AreStepsWithin (t : Tables) (keys : List (List ℕ)) (number : ℕ) (
 pub record AreSteps (t : Tables) (keys : List (List ℕ)) (steps : List Step) : Type 0 where
   pub count : length keys ≡ length t.chains
   pub are : AreStepsTo t keys [] (length t.roles) steps
+
+-- The steps of the first so many chains, of whose keys a forest is built.
+pub record AreChainsStepped (t : Tables) (number : ℕ) (steps : List Step) (builder : Builder) : Type 0 where
+  pub keys : List (List ℕ)
+  pub count : length keys ≡ number
+  pub are : AreStepsOfChains t keys steps
+  pub built : IsBuilt builder keys
 
 -- The forest is that of the keys of the chains.
 pub record IsForestFor (t : Tables) (steps : List Step) (forest : ForestTables) : Type 0 where

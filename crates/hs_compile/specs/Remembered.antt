@@ -1,12 +1,16 @@
 -- What is kept of the entries before one.
-use Rattle.std.specs.Prelude.{◌≡◌, ℕ, suc, Bool, List, length, Some}
+use Rattle.std.specs.Prelude.{◌≡◌, ℕ, suc, Bool, List, [], length, map, Some}
 use Rattle.std.specs.List.{AllZip}
 use Rattle.std.specs.Ordering.{nat_cmp}
 use Rattle.std.specs.BTreeMap.{get}
 use Rattle.hs_base.specs.Chains.{Piece}
-use Rattle.hs_base.specs.Entries.{ListedEntry}
+use Rattle.hs_base.specs.declared.ext.Entry.{Entry}
+use Rattle.hs_base.specs.Entries.{ListedEntry, listed}
 use Rattle.hs_base.specs.Lists.{OneOf, Each}
 use Rattle.hs_base.specs.Patterns.{Pattern}
+use Rattle.hs_rose.specs.declared.builder.Builder.{Builder}
+use Rattle.hs_rose.specs.Building.{IsBuilt}
+use Rattle.hs_rose.specs.Listing.{asked_of, listed_chains}
 use Rattle.hs_compile.specs.declared.counts.Counts.{Counts}
 use Rattle.hs_compile.specs.declared.seen.Seen.{Seen}
 use Rattle.hs_compile.specs.Answers.{AreSplit}
@@ -45,3 +49,9 @@ pub record AreSoFar (entries : List ListedEntry) (chains : List (List (List Piec
   pub kept : Remembers entries seen
   pub read : AllZip IsReadAs entries patterns
   pub counts_are : AreCounts patterns counts
+
+-- That is known of the entries so far, and their program is built.
+pub record AreAdded (entries : List Entry) (seen : Seen) (counts : Counts) (builder : Builder) : Type 0 where
+  pub chains : List (List (List Piece))
+  pub far : AreSoFar (map listed entries) chains seen counts
+  pub built : IsBuilt builder (listed_chains (map asked_of entries) chains) []

@@ -1,6 +1,7 @@
 //! The graph of a program.
 
 ghost use Rattle.std.specs.Prelude.{◌≡◌, ◌<◌, ◌^◌, IfOk, length, map};
+ghost use Rattle.hs_base.specs.LiteralView.{literal_bytes};
 ghost use Rattle.hs_compile.specs.GraphBuilding.{AreParts, IsGraphOf, same_identifier};
 ghost use Rattle.hs_compile.specs.GraphLaws.{RunsPlans};
 ghost use Rattle.hs_compile.specs.GraphSteps.{IsForestFor};
@@ -14,6 +15,7 @@ use crate::graph_wakes::wake_table;
 use crate::node_lists::NodeLists;
 use crate::step::Step;
 use crate::steps::Steps;
+use hs_base::LitByte;
 use hs_forest::Forest;
 use hs_layout::Layout;
 use hs_nodes::{Graph, NodeTable, WakeTable, idle_engines};
@@ -82,21 +84,22 @@ fn built(alloc: Global, program: &Program, layout: &Layout) -> Result<GraphParts
     ensures { IfOk result (λ parts. AreParts program.now layout.now parts) }
 {
     let steps = Steps::of_program(alloc, program)?;
-    let forest = Forest::build(alloc, &steps.keys)?;
-    parts_of(alloc, program, layout, &steps.list, &forest)
+    parts_of(alloc, program, layout, &steps.list, &steps.forest)
 }
 
-/// The graph of these parts.
+/// The graph of these parts, and the literals that its nodes name. What else the program has is given back.
 fn graph_of(
     parts: GraphParts,
     program: Program,
     identifiers: Vec<Identifier>,
     wakes: WakeTable,
-) -> Graph<PieceEngine>
+) -> (Graph<PieceEngine>, Vec<Vec<LitByte>>)
     requires { identifiers.items ≡ map same_identifier program.identifiers }
-    ensures is { IsGraphOf program parts result }
-    ensures wakes { result.wakes ≡ wakes }
+    ensures is { IsGraphOf program parts result.0 }
+    ensures wakes { result.0.wakes ≡ wakes }
+    ensures literals { map literal_bytes result.1.items ≡ program.literals }
 {
+    let (literals, engines) = program.into_named();
     let GraphParts {
         nodes: lists,
         child_starts,
@@ -105,34 +108,37 @@ fn graph_of(
     } = parts;
     let NodeLists { nodes, copies } = lists;
     let ChainEnds { terminals, starts } = ends;
-    Graph {
+    let graph = Graph {
         table: NodeTable {
             nodes,
             child_starts,
             children,
-            engines: program.into_engines(),
+            engines,
         },
         identifiers,
         terminals,
         terminal_starts: starts,
         copies,
         wakes,
-    }
+    };
+    (graph, literals)
 }
 
 /// The graph of the program of a list, for regions of that layout: a node for each beginning of a chain, once for all
 /// roles whose chains are equal up to them, but none for one that ends with a piece that looks back. The program's
-/// literals are those of the graph. The only error is want of memory; as
-/// such counts also that there are more nodes, terminals or literals than 32 bits can number.
+/// literals are those of the graph, and are given with it; what else the program has is given back. The only error is
+/// want of memory; as such counts also that there are more nodes, terminals or literals than 32 bits can number.
 pub(crate) fn build_graph(
     alloc: Global,
     program: Program,
     layout: &Layout,
-) -> Result<Graph<PieceEngine>, AllocError>
+) -> Result<(Graph<PieceEngine>, Vec<Vec<LitByte>>), AllocError>
     requires built { IsProgram program }
     requires fits { IsLaidFor program layout.now }
-    ensures runs { IfOk result (λ graph. RunsPlans program graph) }
-    ensures sound { IfOk result (λ graph. IsGraphSound piece_meaning graph program.literals layout.now) }
+    ensures runs { IfOk result (λ (graph, literals). RunsPlans program graph) }
+    ensures sound { IfOk result (λ (graph, literals).
+        IsGraphSound piece_meaning graph program.literals layout.now) }
+    ensures literals { IfOk result (λ (graph, literals). map literal_bytes literals.items ≡ program.literals) }
 {
     let literals = graph_number(program.literals().len())?;
     let parts = built(alloc, &program, layout)?;

@@ -4,7 +4,7 @@ ghost use Rattle.std.specs.Prelude.{◌≡◌, IfOk, IfErr, map};
 ghost use Rattle.sha2.specs.Sha256.{sha256};
 ghost use Rattle.hs_base.specs.Entries.{listed};
 ghost use Rattle.hs_dbfile.specs.Files.{list_bytes};
-ghost use Rattle.hs_compile.specs.Answers.{AreCompiled, IsCauseOf, IsCompiled};
+ghost use Rattle.hs_compile.specs.Answers.{IsCauseOf, IsCompiled, IsListBuilt};
 ghost use Rattle.hs_compile.specs.Databases.{digest_of};
 
 use crate::counts::Counts;
@@ -14,8 +14,7 @@ use crate::fault::CompileFault;
 use crate::seen::Seen;
 use hs_base::Entry;
 use hs_dbfile::digest;
-use hs_pieces::Chain;
-use hs_rose::Program;
+use hs_rose::Builder;
 use std::alloc::Global;
 
 /// The most entries of a list.
@@ -47,26 +46,26 @@ pub fn compile(alloc: Global, entries: &[Entry]) -> Result<Database, CompileFaul
     ensures digest { IfOk result (λ database. digest_of database ≡ sha256 (list_bytes (map listed entries.now))) }
     ensures refused { IfErr result (IsCauseOf (map listed entries.now)) }
 {
-    let chains = compile_entries(alloc, entries)?;
-    let program = Program::build(alloc, entries, &chains)?;
+    let builder = add_entries(alloc, entries)?;
+    let program = builder.finish(alloc, entries)?;
     let database = Database::of_program(alloc, program, digest(entries))?;
     Ok(database)
 }
 
-/// The chains of each expression of the list, in order.
-fn compile_entries(alloc: Global, entries: &[Entry]) -> Result<Vec<Vec<Chain>>, CompileFault>
-    ensures compiled { IfOk result (λ chains. AreCompiled (map listed entries.now) chains.items) }
+/// What is built of a program for the list. Of each entry the tree and the chains are given back before the next one.
+fn add_entries(alloc: Global, entries: &[Entry]) -> Result<Builder, CompileFault>
+    ensures built { IfOk result (IsListBuilt entries.now) }
     ensures refused { IfErr result (IsCauseOf (map listed entries.now)) }
 {
     let mut seen = Seen::new(alloc);
     let mut counts = Counts::none();
-    let mut chains = Vec::new(alloc);
+    let mut builder = Builder::new(alloc);
     for i in 0..entries.len() {
         let entry = &entries[i];
         let (own, next) = compile_entry(alloc, i as u32 + 1, &seen, counts, entry)?;
         seen.add(entry)?;
-        chains.push(own)?;
+        builder.add_entry(alloc, i as u32 + 1, entry, &own)?;
         counts = next;
     }
-    Ok(chains)
+    Ok(builder)
 }

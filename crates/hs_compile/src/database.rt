@@ -75,8 +75,8 @@ impl Database {
         ensures digest { IfOk result (λ database. digest_of database ≡ digest) }
     {
         let layout = lay_out(alloc, &program)?;
-        let literals = Literals::build(alloc, program.literals())?;
-        let graph = build_graph(alloc, program, &layout)?;
+        let (graph, named) = build_graph(alloc, program, &layout)?;
+        let literals = Literals::build(alloc, &named)?;
         Ok(Database::new(graph, literals, layout, digest))
     }
 

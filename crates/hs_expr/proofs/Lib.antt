@@ -2,6 +2,7 @@ pub mod CountLemmas
 pub mod EmptySpans
 pub mod EndLemmas
 pub mod ItemLemmas
+pub mod LiteralSetLemmas
 pub mod TreeLemmas
 pub mod WidthLemmas
 pub mod RunLemmas

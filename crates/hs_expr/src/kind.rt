@@ -8,6 +8,7 @@ ghost use Rattle.hs_expr.specs.Kinds.{kind_part};
 ghost use Rattle.hs_expr.specs.Meaning.{tree_of};
 
 use crate::expr::Expr;
+use crate::literal_set::literal_byte_of;
 use hs_base::{ByteSet, LitByte};
 
 /// The most bytes of one literal.
@@ -46,7 +47,7 @@ pub fn kind_of(item: &Expr) -> Kind
 fn class_kind(set: &ByteSet) -> Kind
     ensures { kind_part result (class (members set.now)) ≡ class_part (members set.now) (literal_of (members set.now)) }
 {
-    match LitByte::of_set(set) {
+    match literal_byte_of(set) {
         Some(byte) => Kind::Literal(byte),
         None => Kind::Ordinary,
     }

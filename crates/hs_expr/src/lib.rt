@@ -9,6 +9,7 @@ mod expr;
 mod items;
 mod kind;
 mod laws;
+mod literal_set;
 mod plain;
 
 pub use counts::{GREATEST_COUNT, LONGEST_ENCODING, greatest_width, least_width, positions};

@@ -6,14 +6,14 @@ ghost use Rattle.hs_forest.specs.Growing.{IsBuilt};
 use crate::growing::Growing;
 use std::alloc::{AllocError, Global};
 
-/// What is built of a forest so far.
+/// What is built of a forest so far. Its chains are needed no more once they are added.
 #[derive(Debug, Drop)]
-pub(crate) struct Builder {
-    pub growing: Growing,
+pub struct Builder {
+    pub(crate) growing: Growing,
     /// The node of each key of each chain, in order.
-    pub nodes: Vec<u32>,
+    pub(crate) nodes: Vec<u32>,
     /// The last node of each chain.
-    pub last_nodes: Vec<Option<u32>>,
+    pub(crate) last_nodes: Vec<Option<u32>>,
 }
 
 impl Builder {
@@ -28,7 +28,8 @@ impl Builder {
         }
     }
 
-    /// Puts a chain behind the others.
+    /// Puts a chain behind the others. This takes time by the logarithm of the count of nodes for each of its keys. The
+    /// only error is want of memory.
     pub fn add_chain(&mut self, chain: &[usize]) -> Result<(), AllocError>
         ensures { IfOk result (λ done. (chains : List (List ℕ)) → IsBuilt self.old chains →
             IsBuilt self.new (chains ++ chain.now ∷ [])) }

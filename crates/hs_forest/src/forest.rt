@@ -1,9 +1,8 @@
 //! A forest, as tables.
 
-ghost use Rattle.std.specs.Prelude.{◌≡◌, IfOk, map};
+ghost use Rattle.std.specs.Prelude.{◌≡◌, ℕ, List, IfOk};
 ghost use Rattle.hs_forest.specs.Forests.{IsForestOf, IsForestWhole};
-ghost use Rattle.hs_forest.specs.Growing.{AreFinished, IsFinished};
-ghost use Rattle.hs_forest.specs.Views.{numbers};
+ghost use Rattle.hs_forest.specs.Growing.{AreFinished, IsBuilt, IsFinished};
 
 use crate::builder::Builder;
 use crate::groups::{Groups, group};
@@ -37,17 +36,6 @@ impl Model for Forest {
 }
 
 impl Forest {
-    /// The forest of these chains. The only error is want of memory.
-    pub fn build(alloc: Global, chains: &[Vec<usize>]) -> Result<Forest, AllocError>
-        ensures { IfOk result (λ forest. IsForestOf forest (map numbers chains.now)) }
-    {
-        let mut builder = Builder::new(alloc);
-        for chain in chains {
-            builder.add_chain(chain)?;
-        }
-        finish(alloc, builder)
-    }
-
     /// Of each node the parent, which comes before it; a root has none.
     pub fn parents(&self) -> &[Option<u32>]
         ensures parents { result.now ≡ self.now.parents }
@@ -92,8 +80,18 @@ impl Forest {
     }
 }
 
+impl Builder {
+    /// The forest of the chains that were added. The only error is want of memory.
+    pub fn finish(self, alloc: Global) -> Result<Forest, AllocError>
+        requires { AreFinished self }
+        ensures { IfOk result (λ forest. (chains : List (List ℕ)) → IsBuilt self chains → IsForestOf forest chains) }
+    {
+        finished(alloc, self)
+    }
+}
+
 /// The forest of what is built.
-fn finish(alloc: Global, builder: Builder) -> Result<Forest, AllocError>
+fn finished(alloc: Global, builder: Builder) -> Result<Forest, AllocError>
     requires { AreFinished builder }
     ensures { IfOk result (λ forest. IsFinished builder forest) }
 {
@@ -105,8 +103,9 @@ fn finish(alloc: Global, builder: Builder) -> Result<Forest, AllocError>
     let Growing {
         parents,
         keys,
-        index: _index,
+        index,
     } = growing;
+    drop(index);
     let Groups { starts, list } = group(alloc, &parents, parents.len())?;
     Ok(Forest {
         parents,

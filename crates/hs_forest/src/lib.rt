@@ -8,6 +8,7 @@ mod groups;
 mod growing;
 mod laws;
 
+pub use builder::Builder;
 pub use forest::Forest;
 pub use groups::{Groups, group};
 pub use laws::equal_beginnings_are_one_node;

@@ -62,6 +62,7 @@ pub fn load<'a, S: Store>(
         Ok(entries) => entries,
         Err(fault) => return Err(fault),
     };
+    drop(bytes);
     let database = match compile_entries(alloc, entries.as_slice()) {
         Ok(database) => database,
         Err(fault) => return Err(fault),

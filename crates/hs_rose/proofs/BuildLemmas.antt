@@ -242,7 +242,7 @@ entry-built new before entry asked cs n end built =
     subst (λ xs. IsBuilt new (before ++ xs) []) (take_all n (chains_from entry 1 asked cs) (omega (arith, end, chains-length entry 1 asked cs))) built
 
 -- the chains of a list
-listed-push : (i : ℕ) (es : List Asked) (css : List (List (List Piece))) (e : Asked) (cs : List (List Piece)) → length es ≡ length css →
+pub listed-push : (i : ℕ) (es : List Asked) (css : List (List (List Piece))) (e : Asked) (cs : List (List Piece)) → length es ≡ length css →
     listed_from i (es ++ e ∷ []) (css ++ cs ∷ []) ≡ listed_from i es css ++ chains_from (i + length es) 1 e cs
 listed-push i [] [] e cs same = let none : i ≡ i + 0 = omega arith in append-nil (chains_from i 1 e cs) ∙ ap (λ n. chains_from n 1 e cs) none
 listed-push i [] (own ∷ css) e cs same = absurd (cc)

@@ -28,7 +28,7 @@ use Rattle.hs_rose.specs.Ordering.{AreInOrder}
 use Rattle.hs_rose.specs.PieceEngines.{IsEngineOf}
 use Rattle.hs_rose.specs.Runnable.{AreRunnable}
 use Rattle.hs_rose.specs.Naming.{engine_of, literal_of}
-use Rattle.hs_rose.specs.Programs.{Tables, AreChainsOf, AreRolesOfLiterals, IsInfoOf, IsProgramOf, IsRoleOf}
+use Rattle.hs_rose.specs.Programs.{Tables, AreChainsOf, IsInfoOf, IsProgramOf, IsRoleOf}
 use Rattle.hs_rose.proofs.ListLemmas.{zip-left, zip-map}
 
 -- the role of a literal names one, and that of another piece doesn't
@@ -165,8 +165,6 @@ program-built b infos identifiers t entries chains built about named few runnabl
       one_engine = built.sound.models;
       literal_order = subst (λ rs. AreInOrder rs (length t.literals)) (sym is.roles) (subst (λ ls. AreInOrder b.roles.items (length ls)) (sym is.literals) built.order);
       one_literal = subst (λ ls. AreApart ls) (sym is.literals) built.sound.literals;
-      literal_roles = subst (λ rs. AreRolesOfLiterals rs (length t.literals) t.literal_roles) (sym is.roles)
-          (subst (λ ls. AreRolesOfLiterals b.roles.items (length ls) t.literal_roles) (sym is.literals) is.literal_roles);
     }
 
 -- what an answer says, said otherwise

@@ -1,5 +1,5 @@
 -- What a builder leads to.
-use Rattle.std.specs.Prelude.{◌≡◌, ℕ, ◌<◌, List, [], ◌∷◌, ◌++◌, length, map, Option, Some, slice_get, vec_len, cond}
+use Rattle.std.specs.Prelude.{◌≡◌, ℕ, ◌<◌, List, map, Some, slice_get, vec_len}
 use Rattle.hs_rose.specs.declared.builder.Builder.{Builder}
 use Rattle.hs_rose.specs.declared.engine.PieceEngine.{PieceEngine}
 use Rattle.hs_rose.specs.declared.identifiers.Identifier.{Identifier}
@@ -8,7 +8,7 @@ use Rattle.hs_rose.specs.declared.making.Made.{Made}
 use Rattle.hs_rose.specs.declared.role.Role.{Role}
 use Rattle.hs_rose.specs.Building.{literals_of}
 use Rattle.hs_rose.specs.Naming.{engine_of, literal_of}
-use Rattle.hs_rose.specs.Programs.{Tables, AreRolesOfLiterals, is_number}
+use Rattle.hs_rose.specs.Programs.{Tables}
 
 -- the engine of a piece
 abbrev pub engine_made : Made → PieceEngine
@@ -28,11 +28,3 @@ pub record IsFinished (infos : List EntryInfo) (identifiers : List Identifier) (
   pub roles : t.roles ≡ b.roles.items
   pub literals : t.literals ≡ literals_of b
   pub engines : t.engines ≡ map engine_made b.made.items
-  pub literal_roles : AreRolesOfLiterals b.roles.items (length (literals_of b)) t.literal_roles
-
--- The number is put behind those in the list of the literal, if there is one; the other lists stay.
-pub record IsRoleAdded (before : List (List ℕ)) (literal : Option ℕ) (number : ℕ) (now : List (List ℕ)) : Type 0 where
-  pub count : length now ≡ length before
-  pub each : (k : ℕ) (list : List ℕ) → slice_get now k ≡ Some list → (own : List ℕ)
-      × (slice_get before k ≡ Some own)
-      × (list ≡ own ++ cond (is_number k literal) (number ∷ []) [])

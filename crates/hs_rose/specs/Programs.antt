@@ -1,6 +1,5 @@
 -- Which program is that of a list.
-use Rattle.std.specs.Prelude.{◌≡◌, ℕ, suc, ◌+◌, ◌==◌, ◌<◌, ◌^◌, Bool, false, List, [], ◌∷◌, length, Option, Some, None}
-use Rattle.std.specs.Prelude.{slice_get, cond}
+use Rattle.std.specs.Prelude.{◌≡◌, ℕ, ◌+◌, ◌<◌, ◌^◌, false, List, [], ◌∷◌, length, Some, slice_get}
 use Rattle.std.specs.List.{AllZip}
 use Rattle.hs_base.specs.declared.context.Mask.{Mask}
 use Rattle.hs_base.specs.Chains.{Piece, lit, nfa, rep}
@@ -26,14 +25,13 @@ use Rattle.hs_rose.specs.Runnable.{AreRunnable}
 use Rattle.hs_base.specs.Lists.{Each}
 
 -- What a program has: what is asked of each entry; the identifiers; the chains; a role for each piece; the literals and
--- engines that roles name by number, each once; and for each literal its roles.
+-- engines that roles name by number, each once.
 pub record Tables : Type 0 where
   pub entries : List EntryInfo
   pub identifiers : List Identifier
   pub chains : List ChainInfo
   pub roles : List Role
   pub literals : List (List LiteralByte)
-  pub literal_roles : List (List ℕ)
   pub engines : List PieceEngine
 
 -- the mask has no context
@@ -93,27 +91,10 @@ AreChainsOf first_role (c ∷ cs) [] = ⊥
 AreChainsOf first_role (c ∷ cs) (x ∷ xs) =
     IsChainOf first_role c x × AreChainsOf (first_role + length x.pieces) cs xs
 
--- whether the number is that one
-abbrev pub is_number : ℕ → Option ℕ → Bool
-is_number k None = false
-is_number k (Some n) = n == k
-
--- the numbers, from `at` on, of the roles with the literal of that number
-abbrev pub roles_with : (literal at : ℕ) → List Role → List ℕ
-roles_with literal at [] = []
-roles_with literal at (r ∷ roles) =
-    cond (is_number literal (literal_of r)) (at ∷ roles_with literal (suc at) roles) (roles_with literal (suc at) roles)
-
--- for each literal its roles
-pub record AreRolesOfLiterals (roles : List Role) (count : ℕ) (literal_roles : List (List ℕ)) : Type 0 where
-  pub count_is : length literal_roles ≡ count
-  pub each : (k : ℕ) (numbers : List ℕ) → slice_get literal_roles k ≡ Some numbers → numbers ≡ roles_with k 0 roles
-
 -- Each role names a literal or an engine that is there, and each chain has roles that are there.
 pub record IsWhole (t : Tables) : Type 0 where
   pub literals : (j k : ℕ) (r : Role) → slice_get t.roles j ≡ Some r → literal_of r ≡ Some k → k < length t.literals
   pub engines : (j k : ℕ) (r : Role) → slice_get t.roles j ≡ Some r → engine_of r ≡ Some k → k < length t.engines
-  pub literal_roles : length t.literal_roles ≡ length t.literals
 
 -- The program is that of the list: a role for each piece of each chain of each entry, in order. Equal literals are one,
 -- in the order of their first roles, and equal pieces have one engine.
@@ -130,4 +111,3 @@ pub record IsProgramOf (t : Tables) (entries : List Asked) (chains : List (List 
   pub one_engine : AreApart models
   pub one_literal : AreApart t.literals
   pub literal_order : AreInOrder t.roles (length t.literals)
-  pub literal_roles : AreRolesOfLiterals t.roles (length t.literals) t.literal_roles

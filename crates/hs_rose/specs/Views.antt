@@ -1,5 +1,5 @@
 -- Tables as the code keeps them.
-use Rattle.std.specs.Prelude.{ℕ, List, map}
+use Rattle.std.specs.Prelude.{List, map}
 use Rattle.std.specs.declared.vec.Vec.{Vec}
 use Rattle.std.specs.declared.alloc.Global.{Global}
 use Rattle.hs_base.specs.declared.literal.LitByte.{LitByte}
@@ -11,19 +11,14 @@ use Rattle.hs_rose.specs.declared.info.EntryInfo.{EntryInfo}
 use Rattle.hs_rose.specs.declared.role.Role.{Role}
 use Rattle.hs_rose.specs.Programs.{Tables}
 
--- a list of numbers that is kept
-abbrev pub role_numbers : Vec ℕ Global → List ℕ
-role_numbers list = list.items
-
 -- these tables
 abbrev pub tables_of : List EntryInfo → List Identifier → List ChainInfo → List Role → List (Vec LitByte Global) →
-    List (Vec ℕ Global) → List PieceEngine → Tables
-tables_of entries identifiers chains roles literals literal_roles engines = record {
+    List PieceEngine → Tables
+tables_of entries identifiers chains roles literals engines = record {
   entries = entries;
   identifiers = identifiers;
   chains = chains;
   roles = roles;
   literals = map literal_bytes literals;
-  literal_roles = map role_numbers literal_roles;
   engines = engines;
 }

@@ -18,15 +18,15 @@ use hs_base::{Entry, ExprId, LitByte, Mask};
 use hs_pieces::{Chain, Piece};
 use std::alloc::{AllocError, Global};
 
-/// What is built of a program so far.
+/// What is built of a program so far. An entry's chains are needed no more once they are added.
 #[derive(Drop)]
-pub(crate) struct Builder {
-    pub chains: Vec<ChainInfo>,
-    pub roles: Vec<Role>,
+pub struct Builder {
+    pub(crate) chains: Vec<ChainInfo>,
+    pub(crate) roles: Vec<Role>,
     /// The literals, each once.
-    pub literals: LiteralIndex,
+    pub(crate) literals: LiteralIndex,
     /// What is made of the other pieces, each once.
-    pub made: Vec<Made>,
+    pub(crate) made: Vec<Made>,
 }
 
 /// Where the pieces of a chain stand, and what is asked of them.

@@ -1,12 +1,14 @@
 //! The program of a list, from its entries and chains.
 
-ghost use Rattle.std.specs.Prelude.{◌≡◌, ℕ, ◌^◌, ◌<◌, IfOk, length, map};
+ghost use Rattle.std.specs.Prelude.{◌≡◌, ℕ, ◌^◌, ◌<◌, List, [], IfOk, length, map};
 ghost use Rattle.std.specs.List.Sorted.{IsStrictlyIncreasing};
 ghost use Rattle.std.specs.List.{AllZip};
 ghost use Rattle.hs_base.specs.Lists.{Each};
+ghost use Rattle.hs_base.specs.Chains.{Piece};
+ghost use Rattle.hs_rose.specs.Building.{IsBuilt};
 ghost use Rattle.hs_rose.specs.Finishing.{AreNumbered, IsFinished, engine_made};
 ghost use Rattle.hs_rose.specs.Identifiers.{entry_id, has_id};
-ghost use Rattle.hs_rose.specs.Listing.{asked_of, plain_chains};
+ghost use Rattle.hs_rose.specs.Listing.{asked_of, listed_chains, plain_chains};
 ghost use Rattle.hs_rose.specs.Programs.{IsInfoOf, IsProgramOf};
 ghost use Rattle.hs_rose.specs.Runnable.{AreRunnable};
 ghost use Rattle.hs_rose.specs.Views.{tables_of};
@@ -15,12 +17,27 @@ use crate::builder::Builder;
 use crate::engine::PieceEngine;
 use crate::identifiers::{Identifier, identifiers_of, ids_of, place_of};
 use crate::info::EntryInfo;
-use crate::literals::roles_of_literals;
 use crate::making::Made;
 use crate::program::Program;
 use hs_base::Entry;
 use hs_pieces::Chain;
 use std::alloc::{AllocError, Global};
+
+impl Builder {
+    /// The program of the entries, whose chains were added in order. The only error is want of memory.
+    pub fn finish(self, alloc: Global, entries: &[Entry]) -> Result<Program, AllocError>
+        requires few { length entries.now < 2 ^ 32 }
+        requires numbered { AreNumbered self }
+        ensures { IfOk result (λ program. (chains : List (List (List Piece))) → Each AreRunnable chains →
+            IsBuilt self (listed_chains (map asked_of entries.now) chains) [] →
+            IsProgramOf program (map asked_of entries.now) chains) }
+    {
+        let ids = ids_of(alloc, entries)?;
+        let infos = infos_of(alloc, entries, &ids)?;
+        let identifiers = identifiers_of(alloc, entries, &ids)?;
+        finished(alloc, infos, identifiers, self)
+    }
+}
 
 impl Program {
     /// The program of a list: of its entries and, for each of them, the chains of its expression. The only error is
@@ -40,15 +57,12 @@ impl Program {
         for (k, entry) in entries.iter().enumerate() {
             builder.add_entry(alloc, (k + 1) as u32, entry, &chains[k])?;
         }
-        let ids = ids_of(alloc, entries)?;
-        let infos = infos_of(alloc, entries, &ids)?;
-        let identifiers = identifiers_of(alloc, entries, &ids)?;
-        finish(alloc, infos, identifiers, builder)
+        builder.finish(alloc, entries)
     }
 }
 
 /// The program of what is built.
-fn finish(
+fn finished(
     alloc: Global,
     infos: Vec<EntryInfo>,
     identifiers: Vec<Identifier>,
@@ -58,7 +72,6 @@ fn finish(
     ensures { IfOk result (λ program. IsFinished infos.items identifiers.items builder program) }
 {
     let literals = builder.literals.into_list();
-    let literal_roles = roles_of_literals(alloc, &builder.roles, literals.len())?;
     let engines = engines_of(alloc, builder.made)?;
     Ok(Program::new(
         infos,
@@ -66,7 +79,6 @@ fn finish(
         builder.chains,
         builder.roles,
         literals,
-        literal_roles,
         engines,
     ))
 }

@@ -9,7 +9,6 @@ mod info;
 mod kind;
 mod laws;
 mod literal_index;
-mod literals;
 mod making;
 mod marks;
 mod positions;
@@ -20,6 +19,7 @@ mod shape;
 mod sizing;
 mod splitting;
 
+pub use builder::Builder;
 pub use engine::PieceEngine;
 pub use identifiers::Identifier;
 pub use info::{ChainInfo, EntryInfo};

@@ -18,7 +18,6 @@ pub struct Program {
     chains: Vec<ChainInfo>,
     roles: Vec<Role>,
     literals: Vec<Vec<LitByte>>,
-    literal_roles: Vec<Vec<usize>>,
     engines: Vec<PieceEngine>,
 }
 
@@ -29,15 +28,15 @@ impl Model for Program {
     ghost Value = { Tables };
 
     ghost view = { λ p. tables_of p.entries.items p.identifiers.items p.chains.items p.roles.items p.literals.items
-        p.literal_roles.items p.engines.items };
+        p.engines.items };
 
     ghost invariant = { λ p. IsWhole (tables_of p.entries.items p.identifiers.items p.chains.items p.roles.items
-        p.literals.items p.literal_roles.items p.engines.items) };
+        p.literals.items p.engines.items) };
 }
 
 impl Program {
     ghost use Rattle.hs_rose.specs.Programs.{IsWhole};
-    ghost use Rattle.hs_rose.specs.Views.{tables_of, role_numbers};
+    ghost use Rattle.hs_rose.specs.Views.{tables_of};
 
     /// The program of these tables.
     pub(crate) fn new(
@@ -46,13 +45,12 @@ impl Program {
         chains: Vec<ChainInfo>,
         roles: Vec<Role>,
         literals: Vec<Vec<LitByte>>,
-        literal_roles: Vec<Vec<usize>>,
         engines: Vec<PieceEngine>,
     ) -> Program
         requires { IsWhole (tables_of entries.items identifiers.items chains.items roles.items literals.items
-            literal_roles.items engines.items) }
+            engines.items) }
         ensures { result ≡ tables_of entries.items identifiers.items chains.items roles.items literals.items
-            literal_roles.items engines.items }
+            engines.items }
     {
         Program {
             entries,
@@ -60,7 +58,6 @@ impl Program {
             chains,
             roles,
             literals,
-            literal_roles,
             engines,
         }
     }
@@ -101,13 +98,6 @@ impl Program {
         &self.literals
     }
 
-    /// For each literal the numbers of its roles, rising.
-    pub fn literal_roles(&self) -> &[Vec<usize>]
-        ensures { map role_numbers result.now ≡ self.now.literal_roles }
-    {
-        &self.literal_roles
-    }
-
     /// The engines that roles name, one for all equal pieces.
     pub fn engines(&self) -> &[PieceEngine]
         ensures { result.now ≡ self.now.engines }
@@ -115,10 +105,11 @@ impl Program {
         &self.engines
     }
 
-    /// The engines that roles name, one for all equal pieces.
-    pub fn into_engines(self) -> Vec<PieceEngine>
-        ensures { result.items ≡ self.engines }
+    /// The literals and the engines that roles name. All else is given back.
+    pub fn into_named(self) -> (Vec<Vec<LitByte>>, Vec<PieceEngine>)
+        ensures literals { map literal_bytes result.0.items ≡ self.literals }
+        ensures engines { result.1.items ≡ self.engines }
     {
-        self.engines
+        (self.literals, self.engines)
     }
 }

@@ -17,8 +17,8 @@ built-requires-clause-ready c = ready c.args.program c.requires.built.entries c.
 
 pub returns-clause-runs : goal.returns-clause-runs
 returns-clause-runs c P is =
-    runs-plan c.args.program is.entries P is.program is.asks is.fit c.args.layout.now c.requires.fits c.graph_of.result
-    (graph-is c.args.program c.args.layout.now c.in_ok-parts.parts c.graph_of.result c.in_ok-parts.ensures c.graph_of.ensures.is)
+    runs-plan c.args.program is.entries P is.program is.asks is.fit c.args.layout.now c.requires.fits c.graph_of.result.0
+    (graph-is c.args.program c.args.layout.now c.in_ok-parts.parts c.graph_of.result.0 c.in_ok-parts.ensures c.graph_of.ensures.is)
 
 pub wake_table-requires : goal.wake_table-requires
 wake_table-requires c =
@@ -35,7 +35,7 @@ pub returns-clause-sound : goal.returns-clause-sound
 returns-clause-sound c =
     let built = c.requires.built in
     let t = c.args.program in
-    let graph = c.graph_of.result in
+    let graph = c.graph_of.result.0 in
     let is = c.graph_of.ensures in
     let count : c.in_ok-literals.literals ≡ length t.literals = omega (arith, c.in_ok-literals.ensures.is, ap length c.literals.ensures, length-map c.literals.result.now literal_bytes) in
     graph-sound t built.entries built.chains built.is c.args.layout.now c.requires.fits graph (graph-is t c.args.layout.now c.in_ok-parts.parts graph c.in_ok-parts.ensures is.is) (omega (arith, count, c.in_ok-literals.ensures.few))

@@ -1,4 +1,6 @@
-use Rattle.std.proofs.Common.{map, sym, subst, ◌∙◌, ◌≤◌}
+use Rattle.std.proofs.Common.{List, Vec, Global, map, ap, sym, subst, ◌∙◌, ◌≤◌}
+use Rattle.hs_base.specs.declared.literal.LitByte.{LitByte}
+use Rattle.hs_base.specs.LiteralView.{literal_bytes}
 use Rattle.hs_base.specs.Chains.{chains_of}
 use Rattle.hs_layout.specs.Layouts.{laid_size}
 use Rattle.hs_rose.specs.Plans.{plan_of}
@@ -20,7 +22,7 @@ new-requires c =
       is_of =
           database-plans c.args.program c.in_ok-graph.graph c.in_ok-literals.literals c.in_ok-layout.layout c.args.digest
           (record { laid = laid; small = subst (λ l. laid_size l ≤ greatest_size) (sym laid) c.requires.small })
-          (c.in_ok-literals.ensures ∙ c.literals.ensures) c.in_ok-graph.ensures.runs c.in_ok-graph.ensures.sound c.requires.patterns.patterns c.requires.patterns.is_for;
+          (c.in_ok-literals.ensures ∙ (ap (λ (ls : List (Vec LitByte Global)). map literal_bytes ls) c.deref.ensures.value ∙ c.in_ok-graph.ensures.literals)) c.in_ok-graph.ensures.runs c.in_ok-graph.ensures.sound c.requires.patterns.patterns c.requires.patterns.is_for;
     }
 
 pub returns-clause-plans : goal.returns-clause-plans
@@ -29,4 +31,4 @@ returns-clause-plans c =
     subst (IsDatabaseOfPlans c.args.program) (sym c.new.ensures)
     (database-plans c.args.program c.in_ok-graph.graph c.in_ok-literals.literals c.in_ok-layout.layout c.args.digest
     (record { laid = laid; small = subst (λ l. laid_size l ≤ greatest_size) (sym laid) c.requires.small })
-    (c.in_ok-literals.ensures ∙ c.literals.ensures) c.in_ok-graph.ensures.runs c.in_ok-graph.ensures.sound)
+    (c.in_ok-literals.ensures ∙ (ap (λ (ls : List (Vec LitByte Global)). map literal_bytes ls) c.deref.ensures.value ∙ c.in_ok-graph.ensures.literals)) c.in_ok-graph.ensures.runs c.in_ok-graph.ensures.sound)

@@ -1,18 +1,15 @@
-use Rattle.std.proofs.Common.{◌+◌, ◌++◌, List, [], length, map, take, sym, ap, subst, ◌∙◌, arith}
-use Rattle.std.specs.List.{AllZip}
-use Rattle.std.specs.List.Sorted.{IsStrictlyIncreasing}
+use Rattle.std.proofs.Common.{◌+◌, ◌++◌, List, [], map, take, sym, subst, arith}
 use Rattle.std.proofs.lemmas.List.{length-map}
+use Rattle.hs_base.specs.Chains.{Piece}
+use Rattle.hs_base.specs.Lists.{Each}
 use Rattle.hs_pieces.specs.declared.piece.Chain.{Chain}
 use Rattle.hs_pieces.specs.Meaning.{plain_chain}
 use Rattle.hs_rose.specs.Building.{IsBuilt}
-use Rattle.hs_rose.specs.Finishing.{IsFinished}
-use Rattle.hs_rose.specs.Identifiers.{AreIdentifiersFor, has_id}
 use Rattle.hs_rose.specs.Listing.{asked_of, chains_from, listed_chains, listed_from, plain_chains}
-use Rattle.hs_rose.specs.Programs.{IsInfoOf, IsProgramOf}
+use Rattle.hs_rose.specs.Programs.{IsProgramOf, Tables}
 use Rattle.hs_rose.specs.Runnable.{AreRunnable}
 use Rattle.hs_rose.proofs.BuildLemmas.{list-built, list-step}
-use Rattle.hs_rose.proofs.FinishLemmas.{built-numbered, ok-each, program-built}
-use Rattle.hs_rose.proofs.IdentifierLemmas.{identifiers-of}
+use Rattle.hs_rose.proofs.FinishLemmas.{built-numbered, ok-each}
 use Rattle.hs_rose.proofs.ListLemmas.{each-get, get-map, read-get}
 use Rattle.hs_rose.proofs.program.Program.build.Goals as goal
 
@@ -35,30 +32,18 @@ loop-k-preserved c =
     (subst (λ (cs : List Chain). IsBuilt c.add_entry.new.self (listed_from 1 (take k es) (take k css) ++ chains_from (k + 1) 1 (asked_of c.index-entries-k.result) (map plain_chain cs)) []) c.deref.ensures.value
     (c.in_ok-add_entry.ensures (listed_from 1 (take k es) (take k css)) c.loop-k.invariant))
 
-pub finish-requires : goal.finish-requires
-finish-requires c =
+pub finish-requires-clause-numbered : goal.finish-requires-clause-numbered
+finish-requires-clause-numbered c =
     let es = map asked_of c.args.entries.now in
     let css = map plain_chains c.args.chains.now in
     built-numbered c.loop-k.builder (listed_chains es css)
     (list-built c.loop-k.builder es css c.loop-k.k (omega (arith, length-map c.args.entries.now asked_of)) (omega (arith, length-map c.args.entries.now asked_of, length-map c.args.chains.now plain_chains, c.requires.whole)) c.loop-k.invariant)
 
-pub infos_of-requires-clause-rises : goal.infos_of-requires-clause-rises
-infos_of-requires-clause-rises c = subst IsStrictlyIncreasing (sym c.deref-2.ensures.value) c.in_ok-ids.ensures.rises
-
-pub infos_of-requires-clause-few : goal.infos_of-requires-clause-few
-infos_of-requires-clause-few c = omega (arith, ap length c.deref-2.ensures.value, c.in_ok-ids.ensures.few, c.requires.few)
-
-pub infos_of-requires-clause-known : goal.infos_of-requires-clause-known
-infos_of-requires-clause-known c id = ap (λ ids. has_id ids id) c.deref-2.ensures.value ∙ c.in_ok-ids.ensures.same id
-
 pub returns : goal.returns
 returns c =
     let es = map asked_of c.args.entries.now in
     let css = map plain_chains c.args.chains.now in
-    let made : AreIdentifiersFor c.in_ok-ids.ids.items es c.in_ok-identifiers.identifiers.items = subst (λ ids. AreIdentifiersFor ids es c.in_ok-identifiers.identifiers.items) c.deref-3.ensures.value c.in_ok-identifiers.ensures in
-    ok-each (IsFinished c.in_ok-infos.infos.items c.in_ok-identifiers.identifiers.items c.loop-k.builder) (λ program. IsProgramOf program es css) c.finish.result
-    (λ program is. program-built c.loop-k.builder c.in_ok-infos.infos.items c.in_ok-identifiers.identifiers.items program es css
-    (list-built c.loop-k.builder es css c.loop-k.k (omega (arith, length-map c.args.entries.now asked_of)) (omega (arith, length-map c.args.entries.now asked_of, length-map c.args.chains.now plain_chains, c.requires.whole)) c.loop-k.invariant)
-    (subst (λ ids. AllZip (IsInfoOf ids) c.in_ok-infos.infos.items es) (c.deref-2.ensures.value ∙ sym made.ids_are) c.in_ok-infos.ensures)
-    (identifiers-of c.args.entries.now c.in_ok-ids.ids.items c.in_ok-identifiers.identifiers.items c.in_ok-ids.ensures.rises c.in_ok-ids.ensures.same c.in_ok-ids.ensures.few made) (omega (arith, c.requires.few, length-map c.args.entries.now asked_of)) c.requires.runnable is)
+    ok-each (λ (program : Tables). (chains : List (List (List Piece))) → Each AreRunnable chains → IsBuilt c.loop-k.builder (listed_chains es chains) [] → IsProgramOf program es chains) (λ (program : Tables). IsProgramOf program es css) c.finish.result
+    (λ program is. is css c.requires.runnable
+    (list-built c.loop-k.builder es css c.loop-k.k (omega (arith, length-map c.args.entries.now asked_of)) (omega (arith, length-map c.args.entries.now asked_of, length-map c.args.chains.now plain_chains, c.requires.whole)) c.loop-k.invariant))
     c.finish.ensures
