@@ -179,6 +179,9 @@ each /a{3,512}/
 each /(?:a?b?a?b?){128}/
 <> <a> <a%20> <a%20b>
 each /(?:(?:a|\b)b?a?b?){128}/
+# contexts between positions, and a stream longer than a block
+<ab%20b> <%(64)aab%20b>
+each /(?:a|b\b)*b/ /\b(?:a|ab)\b.*b/ /^a|\Bb+$/m /(?:\bb|a)*b/ /(?:a|b){66}\b/
 ";
 
 /// Repeats of one set, which the engines of repeats run too.
