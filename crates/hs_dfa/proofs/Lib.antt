@@ -9,3 +9,4 @@ pub mod EndLemmas
 pub mod ClassLemmas
 pub mod TransferLemmas
 pub mod DfaLemmas
+pub mod BlockRunLemmas

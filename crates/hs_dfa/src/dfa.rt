@@ -1,20 +1,24 @@
 //! The engine whose region is the number of a state.
 
 ghost use Rattle.std.specs.Prelude.{◌≡◌, ◌↔◌, ℕ, ◌+◌, ◌*◌, ◌<◌, ◌≤◌, false, None, IfOk, IfSome, IsTrue, length};
-ghost use Rattle.std.specs.Prelude.{EachIndex, slice_index, vec_len};
+ghost use Rattle.std.specs.Prelude.{EachIndex, Some, slice_get, slice_index, vec_len};
 ghost use Rattle.hs_base.specs.ByteSets.{has};
+ghost use Rattle.hs_base.specs.Contexts.{class_of};
+ghost use Rattle.hs_base.specs.ContextSets.{has_next};
 
 use crate::byte_classes::{ByteClasses, CLASSED_BYTES};
 use crate::state_ends::{StateEnd, ends_of};
 use crate::subsets::Subsets;
-use hs_base::{ByteSet, NextSet, Prev};
-use hs_block::BlockEngine;
+use hs_base::{ByteSet, Next, NextSet, Prev};
+use hs_bits::with_place;
+use hs_block::{BlockEnds, BlockEngine, run_by_steps};
 use hs_engine::{Automaton, Engine, Steps};
 use std::alloc::{AllocError, Global};
 use std::sync::ledger::Ledger;
 
-/// Runs an expression that is entered before every byte, by its states: a step is two reads of tables. It takes 256
-/// bytes for the classes of bytes, a byte for each state and class, and two bytes for each state.
+/// Runs an expression that is entered before every byte, by its states: a step is two reads of tables, and over a block
+/// two more tell for each byte where the expression is left. It takes 256 bytes for the classes of bytes, a byte for
+/// each state and class, and two bytes for each state.
 #[derive(Debug, Drop)]
 pub struct Dfa {
     /// The class of each byte.
@@ -108,6 +112,18 @@ impl Dfa {
         self.rows[number as usize * self.class_count + class]
     }
 
+    /// Whether a live position of the state accepts before the byte. Where none accepts, the byte's class isn't asked.
+    #[inline(always)]
+    fn is_left_before(&self, number: u8, byte: u8) -> bool
+        requires { number < vec_len self.now.ends }
+        ensures { (end : StateEnd) →
+            slice_get self.now.ends.items number ≡ Some end →
+            result ≡ has_next end.accepts (class_of byte) }
+    {
+        let accepts = self.ends[number as usize].accepts;
+        accepts != NextSet::empty() && accepts.contains(Next::class_of(byte))
+    }
+
     /// Whether no position is live in the state of the region.
     pub fn is_empty_at(&self, region: &[u8]) -> bool
         requires len { length region.now ≡ 1 }
@@ -177,4 +193,35 @@ impl Engine for Dfa {
     }
 }
 
-impl BlockEngine for Dfa {}
+impl BlockEngine for Dfa {
+    fn run<L: Ledger>(
+        &self,
+        region: &mut [u8],
+        prev: Prev,
+        at: u64,
+        enters: u64,
+        bytes: &[u8],
+        steps: &mut Steps<L>,
+    ) -> BlockEnds {
+        // By steps the bytes are passed over that lead from the first state to itself.
+        if region[0] == 0 {
+            return run_by_steps(self, region, prev, at, enters, bytes, steps);
+        }
+        let mut number = region[0];
+        let mut ends = BlockEnds {
+            before: 0,
+            behind: 0,
+        };
+        for place in 0..bytes.len() {
+            let byte = bytes[place];
+            let ending = self.is_left_before(number, byte);
+            ends.before = with_place(ends.before, place, ending);
+            number = self.next(number, byte);
+            let ended = self.ends[number as usize].accepts.contains(Next::Unknown);
+            ends.behind = with_place(ends.behind, place, ended);
+        }
+        region[0] = number;
+        steps.tick_by(bytes.len() as u64);
+        ends
+    }
+}
