@@ -11,6 +11,7 @@ pub mod ContextSets
 pub mod Spans
 pub mod WrittenOut
 pub mod EndAssertions
+pub mod AssertionTests
 pub mod Literals
 pub mod LiteralView
 pub mod LiteralEnds

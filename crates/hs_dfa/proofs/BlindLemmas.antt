@@ -6,7 +6,7 @@ use Rattle.hs_base.specs.Trees as tree
 use Rattle.hs_base.specs.Trees.{Tree, Trees}
 use Rattle.hs_base.specs.WrittenOut.{Core, fail, empty, class, assert, cat, alt, plus, alt_from, at_least, cat_from, copies_then, count, pick, repeat_of, up_to, write_out}
 use Rattle.hs_engine.specs.Positions.{accept, enter, follow, null}
-use Rattle.hs_glushkov.specs.AssertionTests.{has_assertion, one_has_assertion}
+use Rattle.hs_base.specs.AssertionTests.{has_assertion, one_has_assertion}
 
 -- it is one and the same in every context whether a position is entered, follows another, or accepts
 pub record IsBlind (r : Core) : Type 0 where

@@ -18,7 +18,7 @@ use Rattle.hs_engine.specs.Tables.{Runs}
 use Rattle.hs_dfa.specs.AutomatonStates.{AreBuilt, state_of, tests_by}
 use Rattle.hs_dfa.specs.DfaBuilding.{done_number}
 use Rattle.hs_dfa.specs.DfaClauses.{IsEmptyAt}
-use Rattle.hs_glushkov.specs.AssertionTests.{has_assertion}
+use Rattle.hs_base.specs.AssertionTests.{has_assertion}
 use Rattle.hs_dfa.specs.DfaEngines.{IsDfaOf, IsNumberOf, TellsEnd, meaning_of_dfa, next_number}
 use Rattle.hs_dfa.specs.DfaHistories.{IsStateOf}
 use Rattle.hs_dfa.proofs.BlindLemmas.{IsBlind, written-blind}

@@ -2,7 +2,7 @@
 use Rattle.std.specs.Prelude.{◌≡◌, ◌↔◌, ℕ, ◌≤◌, Bool, true, List, length, Some, slice_get, slice_index}
 use Rattle.hs_base.specs.Trees.{Tree}
 use Rattle.hs_base.specs.WrittenOut.{write_out}
-use Rattle.hs_glushkov.specs.AssertionTests.{has_assertion}
+use Rattle.hs_base.specs.AssertionTests.{has_assertion}
 use Rattle.hs_dfa.specs.DfaEngines.{IsDfaOf}
 use Rattle.hs_dfa.specs.DfaStates.{AreStatesOf, DfaState, IsEmptyState, tests_of}
 use Rattle.hs_dfa.specs.declared.dfa.Dfa.{Dfa}

@@ -9,7 +9,7 @@ use Rattle.hs_base.specs.EndAssertions.{has_embedded_end}
 use Rattle.hs_base.specs.Trees.{Tree}
 use Rattle.hs_base.specs.WrittenOut.{Core, IsPlain, write_out}
 use Rattle.hs_engine.specs.Engines.{Meaning}
-use Rattle.hs_glushkov.specs.AssertionTests.{has_assertion}
+use Rattle.hs_base.specs.AssertionTests.{has_assertion}
 use Rattle.hs_dfa.specs.DfaBuilding.{table_number}
 use Rattle.hs_dfa.specs.Discovery.{IsMove}
 use Rattle.hs_dfa.specs.DfaHistories.{IsStateOf}

@@ -3,7 +3,7 @@ use Rattle.std.specs.Prelude.{◌≡◌, ℕ, ◌<◌, Bool, List, EachIndex, sl
 use Rattle.hs_base.specs.Fields.{entered_always}
 use Rattle.hs_base.specs.Trees.{Tree}
 use Rattle.hs_base.specs.WrittenOut.{Core, write_out}
-use Rattle.hs_glushkov.specs.AssertionTests.{has_assertion}
+use Rattle.hs_base.specs.AssertionTests.{has_assertion}
 use Rattle.hs_dfa.specs.DfaStates.{AreStatesOf, DfaState}
 use Rattle.hs_dfa.specs.DfaHistories.{IsStateOf}
 

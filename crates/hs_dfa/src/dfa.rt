@@ -45,7 +45,7 @@ pub struct Dfa {
 impl Dfa {
     ghost use Rattle.hs_base.specs.Trees.{Tree};
     ghost use Rattle.hs_engine.specs.Tables.{Runs};
-    ghost use Rattle.hs_glushkov.specs.AssertionTests.{has_assertion};
+    ghost use Rattle.hs_base.specs.AssertionTests.{has_assertion};
     ghost use Rattle.hs_dfa.specs.AutomatonStates.{AreClassesTo};
     ghost use Rattle.hs_dfa.specs.DfaClauses.{HasMoreStates, IsEmptyAt};
     ghost use Rattle.hs_dfa.specs.DfaEngines.{IsNumberIn, meaning_of_dfa, next_number};

@@ -4,5 +4,4 @@ pub mod FollowTables
 pub mod Squares
 pub mod Parts
 pub mod Cores
-pub mod AssertionTests
 pub mod BuiltParts

@@ -2,7 +2,7 @@
 
 ghost use Rattle.std.specs.Prelude.{◌≡◌, map};
 ghost use Rattle.hs_expr.specs.Meaning.{tree_of, trees_of};
-ghost use Rattle.hs_glushkov.specs.AssertionTests.{has_assertion, one_has_assertion};
+ghost use Rattle.hs_base.specs.AssertionTests.{has_assertion, one_has_assertion};
 
 use hs_expr::Expr;
 

@@ -7,7 +7,7 @@ ghost use Rattle.hs_base.specs.EndAssertions.{has_embedded_end};
 ghost use Rattle.hs_base.specs.WrittenOut.{IsPlain, ArePlain, empty, count, write_out, repeat_of};
 ghost use Rattle.hs_expr.specs.Meaning.{tree_of, trees_of};
 ghost use Rattle.hs_expr.specs.Counts.{written_copies};
-ghost use Rattle.hs_glushkov.specs.AssertionTests.{has_assertion};
+ghost use Rattle.hs_base.specs.AssertionTests.{has_assertion};
 ghost use Rattle.hs_glushkov.specs.BuiltParts.{table_of};
 ghost use Rattle.hs_glushkov.specs.Cores.{alt_of, cat_of, core_of};
 ghost use Rattle.hs_glushkov.specs.Parts.{Table, IsAdded, IsClear, IsRow, null_in_copies};

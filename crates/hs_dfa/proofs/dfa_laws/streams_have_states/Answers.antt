@@ -1,5 +1,5 @@
 use Rattle.hs_base.specs.WrittenOut.{write_out}
-use Rattle.hs_glushkov.specs.AssertionTests.{has_assertion}
+use Rattle.hs_base.specs.AssertionTests.{has_assertion}
 use Rattle.hs_dfa.proofs.BlindLemmas.{written-blind}
 use Rattle.hs_dfa.proofs.HistoryLemmas.{stream-has}
 use Rattle.hs_dfa.proofs.dfa_laws.streams_have_states.Goals as goal
