@@ -1,0 +1,4 @@
+pub mod KeptRegions
+pub mod KeptLaws
+pub mod Packing
+pub mod PackingLaws
