@@ -4,6 +4,8 @@
 #![tactic(auto)]
 
 #[cfg(test)]
+mod always;
+#[cfg(test)]
 mod automata;
 #[cfg(test)]
 mod cases;
