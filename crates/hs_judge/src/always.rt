@@ -26,36 +26,39 @@ fn prev_behind(bytes: &[u8]) -> Prev {
     }
 }
 
-/// What may come next behind two blocks in the engine, whose steps are counted.
+/// What may come next behind the text in the engine, whose steps are counted, with the bytes up to the cut as one block
+/// and those behind it as another.
 fn run_blocks<L: Ledger>(
     engine: &Dfa,
     region: &mut [u8],
-    first: &[u8],
-    second: &[u8],
+    text: &[u8],
+    cut: usize,
     blank: Blank,
 ) -> NextSet
     requires region { length region.old ≡ 1 }
-    requires first { length first.now ≤ 64 }
-    requires second { length second.now ≤ 64 }
+    requires text { length text.now ≤ 64 }
+    requires cut { cut ≤ length text.now }
     requires name { blank.name ≡ L.name }
     requires parts { blank.parts ≡ L.parts }
     requires some { 0 < L.parts }
 {
     let mut steps = Steps::<L>::open(blank);
-    let at = first.len() as u64;
+    let first = &text[..cut];
+    let second = &text[cut..];
     engine.clear(region);
-    engine.run(region, Prev::Start, 0, low_places(first.len()), first, &mut steps);
-    engine.run(region, prev_behind(first), at, low_places(second.len()), second, &mut steps);
-    engine.out(region, prev_behind(second), at + second.len() as u64)
+    engine.run(region, Prev::Start, 0, low_places(cut), first, &mut steps);
+    let enters = low_places(second.len());
+    engine.run(region, prev_behind(first), cut as u64, enters, second, &mut steps);
+    engine.out(region, prev_behind(text), text.len() as u64)
 }
 
-/// What may come next behind two blocks, and the region.
-fn in_blocks(engine: &Dfa, first: &[u8], second: &[u8]) -> (NextSet, [u8; 1])
-    requires first { length first.now ≤ 64 }
-    requires second { length second.now ≤ 64 }
+/// What may come next behind the text in two blocks, and the region.
+fn in_blocks(engine: &Dfa, text: &[u8], cut: usize) -> (NextSet, [u8; 1])
+    requires text { length text.now ≤ 64 }
+    requires cut { cut ≤ length text.now }
 {
     let mut region = [0xffu8; 1];
-    let left = run_blocks::<Brand>(engine, &mut region, first, second, Blank::new(1));
+    let left = run_blocks::<Brand>(engine, &mut region, text, cut, Blank::new(1));
     (left, region)
 }
 
@@ -64,7 +67,7 @@ fn judge_blocks(engine: &Dfa, text: &[u8], wanted: NextSet, region: &[u8]) -> Ve
     requires { length text.now ≤ 64 }
 {
     for cut in 0..=text.len() {
-        let (left, found) = in_blocks(engine, &text[..cut], &text[cut..]);
+        let (left, found) = in_blocks(engine, text, cut);
         ensure(
             left == wanted && found.as_slice() == region,
             format_args!("{left:?} in place of {wanted:?} behind {text:?}, cut at {cut}"),
