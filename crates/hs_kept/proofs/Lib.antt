@@ -1,0 +1,5 @@
+pub mod PartLemmas
+pub mod HeaderLemmas
+pub mod StatePartLemmas
+pub mod PlacedLemmas
+pub mod StepLemmas

@@ -1,0 +1,7 @@
+use Rattle.hs_kept.proofs.StepLemmas.{IsSetFor}
+use Rattle.hs_kept.proofs.HeaderLemmas.{header-well}
+use Rattle.hs_kept.proofs.PlacedLemmas.{forms-same}
+use Rattle.hs_kept.proofs.laws.kept_unpacks.Goals as goal
+
+pub returns : goal.returns
+returns c = ?
