@@ -2,4 +2,5 @@ pub mod PartLemmas
 pub mod HeaderLemmas
 pub mod StatePartLemmas
 pub mod PlacedLemmas
+pub mod KeptLemmas
 pub mod StepLemmas

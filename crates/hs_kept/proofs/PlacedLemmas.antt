@@ -62,6 +62,16 @@ sums-no-larger (p ∷ ps) (x ∷ xs) at place zip low =
     sums-no-larger ps xs (at + place_size p) (place + kept_form_size x) zip.1 (omega (arith, form-no-larger p x zip.0))
 
 -- Where they are.
+
+pub wide-placed : (plan : Plan) (k : ℕ) (p : Place) → slice_get (list_places plan) k ≡ Some p → (low : ℕ) × (high : ℕ) × IsPlaced plan k p low high
+wide-placed plan k p piece =
+    let within : k < length (list_places plan) = slice_get_within (list_places plan) k p piece in
+    let count : length (plan_starts plan) ≡ suc (length (map place_size (list_places plan))) = sums-size (plan_fields_at plan) (map place_size (list_places plan)) in
+    let count2 : length (map place_size (list_places plan)) ≡ length (list_places plan) = length-map (list_places plan) place_size in
+    let (low, begin) = get-there (plan_starts plan) k (omega arith) in
+    let (high, end) = get-there (plan_starts plan) (suc k) (omega arith) in
+    (low, high, record { piece = piece; begin = begin; end = end })
+
 module _ (plan : Plan) (forms : List KeptForm) (are : AreKeptForms plan forms) where
   pub kept-high : (k low high : ℕ) (p : Place) (form : KeptForm) → IsKeptPlaced plan forms k p form low high → high ≡ low + kept_form_size form
   kept-high k low high p form placed =
@@ -85,15 +95,6 @@ module _ (plan : Plan) (forms : List KeptForm) (are : AreKeptForms plan forms) w
       let (low, begin) = get-there (kept_starts plan forms) k (omega arith) in
       let (high, end) = get-there (kept_starts plan forms) (suc k) (omega arith) in
       (form, low, high, record { piece = piece; kept = there; begin = begin; end = end })
-
-  pub wide-placed : (k : ℕ) (p : Place) → slice_get (list_places plan) k ≡ Some p → (low : ℕ) × (high : ℕ) × IsPlaced plan k p low high
-  wide-placed k p piece =
-      let within : k < length (list_places plan) = slice_get_within (list_places plan) k p piece in
-      let count : length (plan_starts plan) ≡ suc (length (map place_size (list_places plan))) = sums-size (plan_fields_at plan) (map place_size (list_places plan)) in
-      let count2 : length (map place_size (list_places plan)) ≡ length (list_places plan) = length-map (list_places plan) place_size in
-      let (low, begin) = get-there (plan_starts plan) k (omega arith) in
-      let (high, end) = get-there (plan_starts plan) (suc k) (omega arith) in
-      (low, high, record { piece = piece; begin = begin; end = end })
 
   pub kept-form : (k low high : ℕ) (p : Place) (form : KeptForm) → IsKeptPlaced plan forms k p form low high → IsKeptForm p form
   kept-form k low high p form placed = zip-both (list_places plan) forms are k p form placed.piece placed.kept
