@@ -4,3 +4,4 @@ pub mod StatePartLemmas
 pub mod PlacedLemmas
 pub mod KeptLemmas
 pub mod StepLemmas
+pub mod PackingLemmas

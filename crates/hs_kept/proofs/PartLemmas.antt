@@ -118,7 +118,7 @@ pub record IsPart (ps : List Place) (forms : List KeptForm) (at place k : ℕ) (
 abbrev pub kept_end : ℕ → List KeptForm → ℕ
 kept_end place forms = slice_index (sums_from place (map kept_form_size forms)) (length (map kept_form_size forms))
 
-kept-low : (place : ℕ) (forms : List KeptForm) → place ≤ kept_end place forms
+pub kept-low : (place : ℕ) (forms : List KeptForm) → place ≤ kept_end place forms
 kept-low place forms = sums-low place (map kept_form_size forms)
 
 -- What holds of the fields that are left, by steps over fields and over states, holds of each part.

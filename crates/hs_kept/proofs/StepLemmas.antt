@@ -1,4 +1,4 @@
--- What holds of packings of a plan's regions.
+-- How a region goes on behind a field, and behind a set of positions, where it is unpacked, and where it is packed.
 use Rattle.std.proofs.Common.{◌≡◌, ℕ, zero, suc, ◌+◌, ◌-◌, ◌<◌, ◌≤◌, ◌↔◌, false, List, [], ◌∷◌, ◌++◌, length, map, take, drop, get_or, Some, slice_get, slice_range, refl, sym, ap, subst, ◌∙◌, arith, append_assoc, EachIndex, length-append, length-drop}
 use Rattle.std.specs.Prelude.{slice_index}
 use Rattle.std.specs.List.{AllZip}
@@ -28,9 +28,21 @@ use Rattle.hs_kept.proofs.HeaderLemmas.{header-front, header-of_region, header_o
 use Rattle.hs_kept.proofs.PartLemmas.{IsAhead, IsPart, IsPartOf, IsStatePart, ahead, cut-rest, cut-same, form-of_state, kept-field, kept-state, kept_end, part-at, range-as, range-join, range-none, sub-same, take-take, width-of_state}
 use Rattle.hs_kept.proofs.StatePartLemmas.{byte-field, byte-within, field-byte, first-within, get-there, set-bytes_are, set-fits, some-byte}
 
+-- A step over a field, and one over a set: what holds of the fields that are left holds of those behind it.
+
+abbrev pub FieldStep : (region kept : List ℕ) (Holds : List StateField → ℕ → ℕ → Type 0) → Type 0
+FieldStep region kept Holds =
+    (fs : List StateField) (at place next end : ℕ) (n : ℕ) → next ≡ at + n → end ≡ place + n → IsAhead fs next end → end ≤ length kept → Holds fs at place →
+    (slice_range region at next ≡ slice_range kept place end) × Holds fs next end
+
+abbrev pub StateStep : (region kept : List ℕ) (Holds : List StateField → ℕ → ℕ → Type 0) (Q : StateField → List ℕ → ℕ → Type 0) → Type 0
+StateStep region kept Holds Q =
+    (f : StateField) (fs : List StateField) (tree : Tree) → AreSetsOf f.sets tree → Holds (f ∷ fs) f.at f.place →
+    Q f (slice_range region f.at (end_of f)) (slice_index kept f.place) × Holds fs (end_of f) (suc f.place)
+
 -- What is unpacked, by fields that are left.
 
-from-split : (fs : List StateField) (kept : List ℕ) (at place end : ℕ) → IsAhead fs at end → place ≤ end → region_from fs place kept ≡ slice_range kept place end ++ region_from fs end kept
+pub from-split : (fs : List StateField) (kept : List ℕ) (at place end : ℕ) → IsAhead fs at end → place ≤ end → region_from fs place kept ≡ slice_range kept place end ++ region_from fs end kept
 from-split [] kept at place end before order = drop_split kept place end order
 from-split (f ∷ fs) kept at place end (d, one, other) order =
     let rest : List ℕ = set_bytes f.sets (slice_index kept f.place) ++ region_from fs (suc f.place) kept in
@@ -42,10 +54,10 @@ IsSetFor f set number = (number < state_count f.sets) × (set ≡ set_bytes f.se
 
 module _ (region kept : List ℕ) where
   -- the region goes on as what is unpacked of those fields, whose numbers are those of states
-  abbrev Unpacks : List StateField → (at place : ℕ) → Type 0
+  abbrev pub Unpacks : List StateField → (at place : ℕ) → Type 0
   Unpacks fs at place = (drop at region ≡ region_from fs place kept) × Each (λ f. slice_index kept f.place < state_count f.sets) fs
 
-  field-unpacks : (fs : List StateField) (at place next end : ℕ) (n : ℕ) → next ≡ at + n → end ≡ place + n → IsAhead fs next end → end ≤ length kept → Unpacks fs at place →
+  pub field-unpacks : (fs : List StateField) (at place next end : ℕ) (n : ℕ) → next ≡ at + n → end ≡ place + n → IsAhead fs next end → end ≤ length kept → Unpacks fs at place →
       (slice_range region at next ≡ slice_range kept place end) × Unpacks fs next end
   field-unpacks fs at place next end n one other before within holds =
       let e : length (slice_range kept place end) ≡ end - place = range-size kept place end (omega arith) within in
@@ -53,7 +65,7 @@ module _ (region kept : List ℕ) where
       let wide : next ≡ at + length (slice_range kept place end) = omega arith in
       (cut-same region (slice_range kept place end) (region_from fs end kept) at next split wide, (cut-rest region (slice_range kept place end) (region_from fs end kept) at next split wide, holds.1))
 
-  state-unpacks : (f : StateField) (fs : List StateField) (tree : Tree) → AreSetsOf f.sets tree → Unpacks (f ∷ fs) f.at f.place →
+  pub state-unpacks : (f : StateField) (fs : List StateField) (tree : Tree) → AreSetsOf f.sets tree → Unpacks (f ∷ fs) f.at f.place →
       IsSetFor f (slice_range region f.at (end_of f)) (slice_index kept f.place) × Unpacks fs (end_of f) (suc f.place)
   state-unpacks f fs tree sets holds =
       let n : ℕ = slice_index kept f.place in
@@ -69,7 +81,7 @@ module _ (region kept : List ℕ) where
     abbrev pub IsNumberOf : StateField → List ℕ → ℕ → Type 0
     IsNumberOf f set number = IsNumberFor f.sets set prev number
 
-    abbrev Packs : List StateField → (at place : ℕ) → Type 0
+    abbrev pub Packs : List StateField → (at place : ℕ) → Type 0
     Packs fs at place = AreAlikeBetween fs at place region kept × Each (λ f. IsNumberFor f.sets (slice_range region f.at (end_of f)) prev (slice_index kept f.place)) fs
 
     front-alike : (xs ys : List ℕ) (n d : ℕ) → take (n + d) xs ≡ take (n + d) ys → take n xs ≡ take n ys
@@ -94,12 +106,12 @@ module _ (region kept : List ℕ) where
         ∙ (ap (take d) (drop-drop place n kept) ∙ (ap (λ m. take d (drop m kept)) (sym other) ∙ sym (range-as kept end f.place d stands)))))),
         same.1))
 
-    field-packs : (fs : List StateField) (at place next end : ℕ) (n : ℕ) → next ≡ at + n → end ≡ place + n → IsAhead fs next end → end ≤ length kept → Packs fs at place →
+    pub field-packs : (fs : List StateField) (at place next end : ℕ) (n : ℕ) → next ≡ at + n → end ≡ place + n → IsAhead fs next end → end ≤ length kept → Packs fs at place →
         (slice_range region at next ≡ slice_range kept place end) × Packs fs next end
     field-packs fs at place next end n one other before within holds =
         let both = alike-split fs at place next end n one other before holds.0 in
         (both.0, (both.1, holds.1))
 
-    state-packs : (f : StateField) (fs : List StateField) (tree : Tree) → AreSetsOf f.sets tree → Packs (f ∷ fs) f.at f.place →
+    pub state-packs : (f : StateField) (fs : List StateField) (tree : Tree) → AreSetsOf f.sets tree → Packs (f ∷ fs) f.at f.place →
         IsNumberOf f (slice_range region f.at (end_of f)) (slice_index kept f.place) × Packs fs (end_of f) (suc f.place)
     state-packs f fs tree sets holds = (holds.1.0, (holds.0.1, holds.1.1))
