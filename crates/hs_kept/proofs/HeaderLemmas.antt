@@ -1,7 +1,7 @@
 -- The header of a region, and of what is kept: what begins with the same bytes has the same one.
-use Rattle.std.proofs.Common.{◌≡◌, ℕ, zero, suc, ◌+◌, ◌-◌, ◌*◌, ◌/◌, ◌%◌, ◌<◌, ◌≤◌, ◌↔◌, Bool, true, false, eqb, List, [], ◌∷◌, ◌++◌, length, take, drop, replicate, get_or, Some, slice_get, slice_range, refl, sym, ap, subst, ◌∙◌, inl, inr, arith}
+use Rattle.std.proofs.Common.{◌≡◌, ℕ, zero, suc, ◌+◌, ◌-◌, ◌*◌, ◌/◌, ◌%◌, ◌<◌, ◌≤◌, ◌↔◌, true, false, eqb, List, [], ◌∷◌, ◌++◌, length, take, drop, replicate, get_or, Some, slice_get, slice_range, refl, sym, ap, subst, ◌∙◌, inl, inr, arith}
 use Rattle.std.specs.Prelude.{slice_index, if◌then◌else◌}
-use Rattle.std.specs.Int.{bit_at, from_le_bytes, to_le_bytes, w64}
+use Rattle.std.specs.Int.{bit_at, from_le_bytes, w64}
 use Rattle.std.proofs.lemmas.Bool.{cases_eq, cases_lt, eq-eqb, ne_eqb}
 use Rattle.std.proofs.lemmas.Grind.{same_number_lists}
 use Rattle.std.proofs.lemmas.List.{drop-take, get_or-append_right, get_or-drop, get_or-replicate, get_or-take, get_or_append_left, length-replicate, length-take-le}
@@ -13,8 +13,7 @@ use Rattle.hs_base.specs.Contexts.{prev_at, prev_behind, prev_by}
 use Rattle.hs_base.specs.declared.context.Prev.{Prev}
 use Rattle.hs_base.specs.declared.context.Prev.TheVariants as stands
 use Rattle.hs_base.specs.Lists.{Each}
-use Rattle.hs_base.specs.Offsets.{greatest_offset}
-use Rattle.hs_base.specs.Regions.{AreBitsOf, AreSpare, IsHeader, IsRegion, Plan, fields_at, here_at, history_at, history_size, last_at, last_bytes, plan_fields_at, plan_here_at, plan_last_at, plan_size, region_offset, told_at}
+use Rattle.hs_base.specs.Regions.{AreBitsOf, IsHeader, IsRegion, Plan, fields_at, last_bytes, plan_fields_at, plan_here_at, plan_last_at, region_offset, told_at}
 use Rattle.hs_base.proofs.BitOnceLemmas.{byte-by_bits, each-below}
 use Rattle.hs_base.proofs.RegionLemmas.{get-range, range-size}
 use Rattle.hs_kept.specs.KeptRegions.{IsHeaderOf}

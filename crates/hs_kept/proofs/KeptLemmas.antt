@@ -1,28 +1,26 @@
 -- What holds of what streams keep of their regions.
-use Rattle.std.proofs.Common.{◌≡◌, ℕ, zero, suc, ◌+◌, ◌-◌, ◌<◌, ◌≤◌, List, [], ◌∷◌, ◌++◌, length, map, take, drop, replicate, get_or, Some, slice_get, slice_range, refl, sym, ap, subst, ◌∙◌, arith}
+use Rattle.std.proofs.Common.{◌≡◌, ℕ, zero, suc, ◌+◌, ◌-◌, ◌<◌, ◌≤◌, List, [], ◌∷◌, length, map, take, replicate, get_or, Some, slice_get, slice_range, refl, sym, ap, subst, ◌∙◌, arith}
 use Rattle.std.proofs.lemmas.List.{drop-replicate, length-map, length-replicate, take-replicate}
 use Rattle.std.proofs.lemmas.Option.{slice_get-get_or, slice_get_within, same_Some}
 use Rattle.std.proofs.Math.Seq.{take-length}
 use Rattle.hs_base.specs.AssertionTests.{has_assertion}
 use Rattle.hs_base.specs.Chains.{Piece}
 use Rattle.hs_base.specs.Fields.{entered_always}
-use Rattle.hs_base.specs.KeptPieces.{Form, form_size, IsFieldAt, IsKeptAs, positions}
-use Rattle.hs_base.specs.Leaving.{AreEntered}
+use Rattle.hs_base.specs.KeptPieces.{form_size, IsFieldAt, IsKeptAs, positions}
 use Rattle.hs_base.specs.Lists.{Each}
 use Rattle.hs_base.specs.PositionRows.{IsField}
 use Rattle.hs_base.specs.Regions.{IsPlaced, IsRegion, Place, Plan, list_places, place_form, place_size, plan_fields_at, plan_size, region_offset}
 use Rattle.hs_base.specs.Trees.{Tree}
-use Rattle.hs_base.specs.WrittenOut.{IsReached, write_out}
+use Rattle.hs_base.specs.WrittenOut.{write_out}
 use Rattle.hs_base.proofs.EntryLemmas.{entries-once, first-entered}
 use Rattle.hs_base.proofs.KeptLemmas.{fields-at, fields-once}
 use Rattle.hs_base.proofs.RegionLemmas.{fields-within, placed-end, size-above}
 use Rattle.hs_base.proofs.RegionStartLemmas.{regions-begin}
 use Rattle.hs_base.proofs.SumLemmas.{sums-first, sums-size}
-use Rattle.hs_states.specs.DfaHistories.{IsStateOf}
-use Rattle.hs_states.specs.DfaStates.{DfaState, first_state, is_live, tests_of}
+use Rattle.hs_states.specs.DfaStates.{first_state, is_live, tests_of}
 use Rattle.hs_states.proofs.StateLemmas.{state-start}
 use Rattle.hs_kept.specs.KeptLaws.{KeptFormsOnce, KeptIsNoLarger, KeptRegionsAreWell, KeptRegionsBegin, KeptRegionsOnce, KeptSizesOnce, SameKeptSameRegion}
-use Rattle.hs_kept.specs.KeptRegions.{AreKeptForms, IsHeaderOf, IsKeptByState, IsKeptForm, IsKeptPart, IsKeptPartAt, IsKeptPlaced, IsKeptRegion, IsKeptSize, IsStateByte, IsWellKept}
+use Rattle.hs_kept.specs.KeptRegions.{AreKeptForms, IsHeaderOf, IsKeptByState, IsKeptForm, IsKeptPart, IsKeptPartAt, IsKeptPlaced, IsKeptRegion, IsStateByte, IsWellKept}
 use Rattle.hs_kept.specs.KeptRegions.{KeptForm, field, kept_form_size, kept_size, kept_starts, state}
 use Rattle.hs_kept.proofs.HeaderLemmas.{header-of_region, header_of-front, header-once, header-well, join-front}
 use Rattle.hs_kept.proofs.PartLemmas.{form-of_state, kept-field, kept-state, range-as}

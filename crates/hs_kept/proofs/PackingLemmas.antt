@@ -1,29 +1,28 @@
 -- What holds of packings of a plan's regions.
-use Rattle.std.proofs.Common.{◌≡◌, ℕ, zero, suc, ◌+◌, ◌-◌, ◌<◌, ◌≤◌, ◌↔◌, List, [], ◌∷◌, ◌++◌, length, map, take, drop, get_or, Some, slice_get, slice_range, refl, sym, ap, subst, ◌∙◌, arith, EachIndex, length-append, length-drop}
+use Rattle.std.proofs.Common.{◌≡◌, ℕ, zero, suc, ◌+◌, ◌-◌, ◌<◌, ◌≤◌, List, [], ◌∷◌, ◌++◌, length, map, take, drop, Some, slice_get, slice_range, refl, sym, ap, subst, ◌∙◌, arith, EachIndex, length-append, length-drop}
 use Rattle.std.specs.Prelude.{slice_index}
 use Rattle.std.specs.List.{AllZip}
 use Rattle.std.proofs.lemmas.Option.{same_Some}
 use Rattle.hs_base.specs.Contexts.{prev_at}
 use Rattle.hs_base.specs.declared.context.Prev.{Prev}
-use Rattle.hs_base.specs.KeptPieces.{Form, form_size, IsFieldAt, IsKeptAs, positions}
+use Rattle.hs_base.specs.KeptPieces.{IsFieldAt, IsKeptAs, positions}
 use Rattle.hs_base.specs.Lists.{Each}
-use Rattle.hs_base.specs.Regions.{IsHeader, IsPlaced, IsRegion, IsWellFormed, Place, Plan, fields_at, list_places, place_form, place_size, plan_fields_at, plan_size, region_offset, sums_from}
+use Rattle.hs_base.specs.Regions.{IsPlaced, IsRegion, Place, Plan, list_places, place_form, place_size, plan_fields_at, plan_size, region_offset, sums_from}
 use Rattle.hs_base.specs.Trees.{Tree}
 use Rattle.hs_base.proofs.BitOnceLemmas.{each-below}
-use Rattle.hs_base.proofs.RegionLemmas.{fields-within, placed-end, range-size}
-use Rattle.hs_base.proofs.SumLemmas.{sums-first}
+use Rattle.hs_base.proofs.RegionLemmas.{placed-end, range-size}
 use Rattle.hs_states.specs.StateSets.{AreSetsOf, set_bytes, set_width, state_count}
 use Rattle.hs_states.specs.declared.state_sets.StateSets.{StateSets}
 use Rattle.hs_kept.specs.KeptRegions.{AreKeptForms, IsHeaderOf, IsKeptForm, IsKeptPart, IsKeptPartAt, IsKeptPlaced, IsKeptRegion, IsWellKept}
 use Rattle.hs_kept.specs.KeptRegions.{KeptForm, field, kept_form_size, kept_size, state}
 use Rattle.hs_kept.specs.Packing as packing
 use Rattle.hs_kept.specs.Packing.{AreNumbers, AreStateFields, IsNumberFor, IsPackedOf, IsPackingFor, end_of, known, unknown, packed_size, prev_in, region_from, unpacked}
-use Rattle.hs_kept.specs.PackingLaws.{KeptUnpacks, PackingsAreSized, PacksWell, RegionsPack, UnpackedHasHeader, UnpacksWell, WellFormedPacksWell, WellKeptUnpacksWell}
+use Rattle.hs_kept.specs.PackingLaws.{KeptUnpacks, PackingsAreSized, RegionsPack, UnpackedHasHeader, UnpacksWell, WellFormedPacksWell, WellKeptUnpacksWell}
 use Rattle.hs_kept.specs.declared.packing.Packing.{Packing}
 use Rattle.hs_kept.specs.declared.packing.StateField.{StateField}
 use Rattle.hs_kept.proofs.HeaderLemmas.{each-front, header-front, header-of_region, header_of-front, offset-front, prev-in}
 use Rattle.hs_kept.proofs.KeptLemmas.{as-piece, as-positions, kept-well, parts-by, size-by, well-parts_by}
-use Rattle.hs_kept.proofs.PartLemmas.{IsPartOf, IsStatePart, ahead, cut-same, form-of_state, kept-field, kept-state, kept-low, kept_end, one-range, part-at, range-as, range-none, width-of_state}
+use Rattle.hs_kept.proofs.PartLemmas.{IsPartOf, ahead, cut-same, form-of_state, kept-field, kept-state, kept-low, kept_end, one-range, part-at, range-as, range-none, width-of_state}
 use Rattle.hs_kept.proofs.PlacedLemmas.{header-within, kept-form, kept-high, kept-placed, kept-within, wide-placed}
 use Rattle.hs_kept.proofs.StatePartLemmas.{byte-field, byte-within, field-byte, first-within, set-bytes_are, set-fits, some-byte}
 use Rattle.hs_kept.proofs.StepLemmas.{FieldStep, IsNumberOf, IsSetFor, Packs, StateStep, Unpacks, field-packs, field-unpacks, from-split, state-packs, state-unpacks}
@@ -42,25 +41,25 @@ module _ (p : Packing) (plan : Plan) (is : IsPackingFor p plan) (kept : List ℕ
   module _ (region : List ℕ) (Holds : List StateField → ℕ → ℕ → Type 0) (Q : StateField → List ℕ → ℕ → Type 0) (field-step : FieldStep region kept Holds) (state-step : StateStep region kept Holds Q)
       (begins : Holds p.fields.items 0 0)
     where
-    first-step : (slice_range region 0 (plan_fields_at plan) ≡ slice_range kept 0 (plan_fields_at plan)) × Holds p.fields.items (plan_fields_at plan) (plan_fields_at plan)
-    first-step =
-        let n : ℕ = plan_fields_at plan in
-        let within : n ≤ kept_size plan is.forms = header-within plan is.forms is.are in
-        field-step p.fields.items 0 0 n n n (omega arith) (omega arith) (ahead is.fields) (omega (arith, kept-len)) begins
+      first-step : (slice_range region 0 (plan_fields_at plan) ≡ slice_range kept 0 (plan_fields_at plan)) × Holds p.fields.items (plan_fields_at plan) (plan_fields_at plan)
+      first-step =
+          let n : ℕ = plan_fields_at plan in
+          let within : n ≤ kept_size plan is.forms = header-within plan is.forms is.are in
+          field-step p.fields.items 0 0 n n n (omega arith) (omega arith) (ahead is.fields) (omega (arith, kept-len)) begins
 
-    parts-are : AreParts plan is.forms Q region kept
-    parts-are =
-        let n : ℕ = plan_fields_at plan in
-        record {
-          header = sym (range-as kept 0 n n (omega arith)) ∙ (sym first-step.0 ∙ range-as region 0 n n (omega arith));
-          part = λ k low high begin end q form placed there.
-              let wide : high ≡ low + place_size q = placed-end plan k low high q placed in
-              let wide2 : end ≡ begin + kept_form_size form = kept-high plan is.forms is.are k begin end q form there in
-              subst (λ m. IsPartOf Q form (slice_range region low m) (slice_range kept begin end)) (sym wide)
-              (subst (λ m. IsPartOf Q form (slice_range region low (low + place_size q)) (slice_range kept begin m)) (sym wide2)
-              (part-at region kept Holds Q field-step state-step is.fields is.are (omega (arith, kept-len)) first-step.1 k q form low begin
-              (record { piece = placed.piece; form_is = there.kept; low_is = placed.begin; begin_is = there.begin })));
-        }
+      parts-are : AreParts plan is.forms Q region kept
+      parts-are =
+          let n : ℕ = plan_fields_at plan in
+          record {
+            header = sym (range-as kept 0 n n (omega arith)) ∙ (sym first-step.0 ∙ range-as region 0 n n (omega arith));
+            part = λ k low high begin end q form placed there.
+                let wide : high ≡ low + place_size q = placed-end plan k low high q placed in
+                let wide2 : end ≡ begin + kept_form_size form = kept-high plan is.forms is.are k begin end q form there in
+                subst (λ m. IsPartOf Q form (slice_range region low m) (slice_range kept begin end)) (sym wide)
+                (subst (λ m. IsPartOf Q form (slice_range region low (low + place_size q)) (slice_range kept begin m)) (sym wide2)
+                (part-at region kept Holds Q field-step state-step is.fields is.are (omega (arith, kept-len)) first-step.1 k q form low begin
+                (record { piece = placed.piece; form_is = there.kept; low_is = placed.begin; begin_is = there.begin })));
+          }
 
   unpacked-parts : AreNumbers p kept → AreParts plan is.forms IsSetFor (unpacked p kept) kept
   unpacked-parts numbers =
@@ -81,10 +80,11 @@ numbers-from kept (packing.by_field {form = form} {forms = forms} {place = place
     numbers-from kept rest
     (λ k begin p tree piece is there. each (suc k) begin p tree piece is (subst (λ n. slice_get (sums_from (place + n) (map kept_form_size forms)) k ≡ Some begin) (sym size) there))
 numbers-from kept (packing.by_state {p = q} {forms = forms} {f = f} {place = place} tree one other sets rest) each =
-    let e : suc place ≡ place + 1 = omega arith in
-    (subst (λ n. slice_index kept n < state_count f.sets) (sym other) (each 0 place q tree refl refl refl f.sets sets),
-    numbers-from kept rest
-    (λ k begin p tree2 piece is there. each (suc k) begin p tree2 piece is (subst (λ n. slice_get (sums_from n (map kept_form_size forms)) k ≡ Some begin) e there)))
+    let e : suc place ≡ place + 1 = omega arith in (
+      subst (λ n. slice_index kept n < state_count f.sets) (sym other) (each 0 place q tree refl refl refl f.sets sets),
+      numbers-from kept rest
+          (λ k begin p tree2 piece is there. each (suc k) begin p tree2 piece is (subst (λ n. slice_get (sums_from n (map kept_form_size forms)) k ≡ Some begin) e there)),
+    )
 
 numbers-are : (p : Packing) (plan : Plan) → IsPackingFor p plan → (kept : List ℕ) → length kept ≡ packed_size p → IsWellKept plan kept → AreNumbers p kept
 numbers-are p plan is kept len well = numbers-from kept is.fields (λ k begin q tree piece there start sets are. number k begin q tree piece there start sets are)

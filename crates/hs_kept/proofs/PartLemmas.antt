@@ -1,19 +1,16 @@
 -- Regions and what is kept of them, piece by piece: the fields of both say the same.
-use Rattle.std.proofs.Common.{◌≡◌, ℕ, zero, suc, ◌+◌, ◌-◌, ◌<◌, ◌≤◌, false, List, [], ◌∷◌, ◌++◌, length, map, take, drop, get_or, Some, slice_get, slice_range, refl, sym, ap, subst, ◌∙◌, arith, append_assoc}
+use Rattle.std.proofs.Common.{◌≡◌, ℕ, zero, suc, ◌+◌, ◌-◌, ◌<◌, ◌≤◌, false, List, [], ◌∷◌, ◌++◌, length, map, take, drop, Some, slice_get, slice_range, refl, sym, ap, subst, ◌∙◌, arith}
 use Rattle.std.specs.Prelude.{slice_index}
 use Rattle.std.specs.List.{AllZip}
-use Rattle.std.proofs.lemmas.List.{drop-take, drop_at}
-use Rattle.std.proofs.lemmas.List.Folds.{drop_split}
+use Rattle.std.proofs.lemmas.List.{drop_at}
 use Rattle.std.proofs.lemmas.Option.{slice_get_within, same_Some}
 use Rattle.std.proofs.Math.Seq.{take-append_seam, take-add}
-use Rattle.hs_base.specs.Chains.{nfa}
 use Rattle.hs_base.specs.KeptPieces.{Form, form_of, form_size, positions}
-use Rattle.hs_base.specs.Lists.{Each}
 use Rattle.hs_base.specs.Regions.{Place, place_form, place_size, sums_from}
 use Rattle.hs_base.specs.Trees.{Tree}
-use Rattle.hs_base.proofs.RegionLemmas.{drop-drop, range-size}
+use Rattle.hs_base.proofs.RegionLemmas.{drop-drop}
 use Rattle.hs_base.proofs.SumLemmas.{sums-low}
-use Rattle.hs_states.specs.StateSets.{AreSetsOf, set_bytes, set_width, state_count}
+use Rattle.hs_states.specs.StateSets.{AreSetsOf, set_width}
 use Rattle.hs_kept.specs.KeptRegions.{IsKeptByState, IsKeptForm, by_field, by_state, KeptForm, field, kept_form_size, state}
 use Rattle.hs_kept.specs.Packing as packing
 use Rattle.hs_kept.specs.Packing.{AreAlikeBetween, AreStateFields, end_of, region_from}
@@ -128,74 +125,74 @@ module _ (region kept : List ℕ) (Holds : List StateField → ℕ → ℕ → T
     (state-step : (f : StateField) (fs : List StateField) (tree : Tree) → AreSetsOf f.sets tree → Holds (f ∷ fs) f.at f.place →
     Q f (slice_range region f.at (end_of f)) (slice_index kept f.place) × Holds fs (end_of f) (suc f.place))
   where
-  abbrev Part : Place → KeptForm → (low begin : ℕ) → Type 0
-  Part p form low begin = IsPartOf Q form (slice_range region low (low + place_size p)) (slice_range kept begin (begin + kept_form_size form))
+    abbrev Part : Place → KeptForm → (low begin : ℕ) → Type 0
+    Part p form low begin = IsPartOf Q form (slice_range region low (low + place_size p)) (slice_range kept begin (begin + kept_form_size form))
 
-  part-as : (q p : Place) (g form : KeptForm) (at low place begin : ℕ) → q ≡ p → g ≡ form → at ≡ low → place ≡ begin → Part q g at place → Part p form low begin
-  part-as q p g form at low place begin one two three four part =
-      subst (λ x. Part x form low begin) one (subst (λ x. Part q x low begin) two (subst (λ x. Part q g x begin) three (subst (λ x. Part q g at x) four part)))
+    part-as : (q p : Place) (g form : KeptForm) (at low place begin : ℕ) → q ≡ p → g ≡ form → at ≡ low → place ≡ begin → Part q g at place → Part p form low begin
+    part-as q p g form at low place begin one two three four part =
+        subst (λ x. Part x form low begin) one (subst (λ x. Part q x low begin) two (subst (λ x. Part q g x begin) three (subst (λ x. Part q g at x) four part)))
 
-  at-field : (f : StateField) (fs : List StateField) (at place : ℕ) → f.at ≡ at → f.place ≡ place → Holds (f ∷ fs) at place → Holds (f ∷ fs) f.at f.place
-  at-field f fs at place one other holds = subst (λ n. Holds (f ∷ fs) n f.place) (sym one) (subst (λ n. Holds (f ∷ fs) at n) (sym other) holds)
+    at-field : (f : StateField) (fs : List StateField) (at place : ℕ) → f.at ≡ at → f.place ≡ place → Holds (f ∷ fs) at place → Holds (f ∷ fs) f.at f.place
+    at-field f fs at place one other holds = subst (λ n. Holds (f ∷ fs) n f.place) (sym one) (subst (λ n. Holds (f ∷ fs) at n) (sym other) holds)
 
-  field-part : (p : Place) (form : Form) (fs : List StateField) (at place : ℕ) → form_size form ≡ place_size p → IsAhead fs (at + place_size p) (place + place_size p) →
-      place + place_size p ≤ length kept → Holds fs at place → Part p (field form) at place
-  field-part p form fs at place size before within holds =
-      (field-step fs at place (at + place_size p) (place + place_size p) (place_size p) refl refl before within holds).0 ∙ ap (λ n. slice_range kept place (place + n)) (sym size)
+    field-part : (p : Place) (form : Form) (fs : List StateField) (at place : ℕ) → form_size form ≡ place_size p → IsAhead fs (at + place_size p) (place + place_size p) →
+        place + place_size p ≤ length kept → Holds fs at place → Part p (field form) at place
+    field-part p form fs at place size before within holds =
+        (field-step fs at place (at + place_size p) (place + place_size p) (place_size p) refl refl before within holds).0 ∙ ap (λ n. slice_range kept place (place + n)) (sym size)
 
-  state-part : (p : Place) (tree : Tree) (f : StateField) (fs : List StateField) (at place : ℕ) → f.at ≡ at → f.place ≡ place → AreSetsOf f.sets tree → place_size p ≡ set_width f.sets →
-      place < length kept → Holds (f ∷ fs) at place → Part p (state tree) at place
-  state-part p tree f fs at place one other sets wide within holds =
-      let e : end_of f ≡ at + place_size p = omega arith in
-      record {
-        field = f;
-        sets = sets;
-        number = slice_index kept place;
-        byte = one-range kept place (place + 1) refl within;
-        is = subst (λ n. Q f (slice_range region at (at + place_size p)) (slice_index kept n)) other
-            (subst (λ n. Q f (slice_range region n (at + place_size p)) (slice_index kept f.place)) one
-            (subst (λ n. Q f (slice_range region f.at n) (slice_index kept f.place)) e
-            (state-step f fs tree sets (at-field f fs at place one other holds)).0));
-      }
+    state-part : (p : Place) (tree : Tree) (f : StateField) (fs : List StateField) (at place : ℕ) → f.at ≡ at → f.place ≡ place → AreSetsOf f.sets tree → place_size p ≡ set_width f.sets →
+        place < length kept → Holds (f ∷ fs) at place → Part p (state tree) at place
+    state-part p tree f fs at place one other sets wide within holds =
+        let e : end_of f ≡ at + place_size p = omega arith in
+        record {
+          field = f;
+          sets = sets;
+          number = slice_index kept place;
+          byte = one-range kept place (place + 1) refl within;
+          is = subst (λ n. Q f (slice_range region at (at + place_size p)) (slice_index kept n)) other
+              (subst (λ n. Q f (slice_range region n (at + place_size p)) (slice_index kept f.place)) one
+              (subst (λ n. Q f (slice_range region f.at n) (slice_index kept f.place)) e
+              (state-step f fs tree sets (at-field f fs at place one other holds)).0));
+        }
 
-  state-next : (p : Place) (tree : Tree) (f : StateField) (fs : List StateField) (at place : ℕ) → f.at ≡ at → f.place ≡ place → AreSetsOf f.sets tree → place_size p ≡ set_width f.sets →
-      Holds (f ∷ fs) at place → Holds fs (at + place_size p) (suc place)
-  state-next p tree f fs at place one other sets wide holds =
-      let e : end_of f ≡ at + place_size p = omega arith in
-      subst (λ n. Holds fs n (suc place)) e
-      (subst (λ n. Holds fs (end_of f) (suc n)) other (state-step f fs tree sets (at-field f fs at place one other holds)).1)
+    state-next : (p : Place) (tree : Tree) (f : StateField) (fs : List StateField) (at place : ℕ) → f.at ≡ at → f.place ≡ place → AreSetsOf f.sets tree → place_size p ≡ set_width f.sets →
+        Holds (f ∷ fs) at place → Holds fs (at + place_size p) (suc place)
+    state-next p tree f fs at place one other sets wide holds =
+        let e : end_of f ≡ at + place_size p = omega arith in
+        subst (λ n. Holds fs n (suc place)) e
+        (subst (λ n. Holds fs (end_of f) (suc n)) other (state-step f fs tree sets (at-field f fs at place one other holds)).1)
 
-  pub part-at : {ps : List Place} {forms : List KeptForm} {fs : List StateField} {at place : ℕ} → AreStateFields ps forms fs at place → AllZip IsKeptForm ps forms →
-      kept_end place forms ≤ length kept → Holds fs at place → (k : ℕ) (p : Place) (form : KeptForm) (low begin : ℕ) → IsPart ps forms at place k p form low begin → Part p form low begin
-  part-at packing.none zip within holds k p form low begin part = absurd (let e : k < 0 = slice_get_within [] k p part.piece in omega arith)
-  part-at (packing.by_field {p = q} {ps = ps} {form = g} {forms = forms} {fs = fs} {at = at} {place = place} size rest) zip within holds zero p form low begin part =
-      let room : place + form_size g ≤ kept_end (place + form_size g) forms = kept-low (place + form_size g) forms in
-      part-as q p (field g) form at low place begin (same_Some q p part.piece) (same_Some (field g) form part.form_is) (same_Some at low part.low_is) (same_Some place begin part.begin_is)
-      (field-part q g fs at place size (ahead rest) (omega arith) holds)
-  part-at (packing.by_field {p = q} {ps = ps} {form = g} {forms = forms} {fs = fs} {at = at} {place = place} size rest) zip within holds (suc k) p form low begin part =
-      let room : place + form_size g ≤ kept_end (place + form_size g) forms = kept-low (place + form_size g) forms in
-      let within2 : kept_end (place + place_size q) forms ≤ length kept = subst (λ n. kept_end (place + n) forms ≤ length kept) size within in
-      part-at rest zip.1 within2
-      (field-step fs at place (at + place_size q) (place + place_size q) (place_size q) refl refl (ahead rest) (omega arith) holds).1
-      k p form low begin
-      (record {
-        piece = part.piece;
-        form_is = part.form_is;
-        low_is = part.low_is;
-        begin_is = subst (λ n. slice_get (sums_from (place + n) (map kept_form_size forms)) k ≡ Some begin) size part.begin_is;
-      })
-  part-at (packing.by_state {p = q} {ps = ps} {forms = forms} {fs = fs} {f = f} {at = at} {place = place} tree one other sets rest) zip within holds zero p form low begin part =
-      let room : place + 1 ≤ kept_end (place + 1) forms = kept-low (place + 1) forms in
-      part-as q p (state tree) form at low place begin (same_Some q p part.piece) (same_Some (state tree) form part.form_is) (same_Some at low part.low_is) (same_Some place begin part.begin_is)
-      (state-part q tree f fs at place one other sets (width-of_state q tree f (kept-state q tree zip.0) sets) (omega arith) holds)
-  part-at (packing.by_state {p = q} {ps = ps} {forms = forms} {fs = fs} {f = f} {at = at} {place = place} tree one other sets rest) zip within holds (suc k) p form low begin part =
-      let e : place + 1 ≡ suc place = omega arith in
-      part-at rest zip.1 (subst (λ n. kept_end n forms ≤ length kept) e within)
-      (state-next q tree f fs at place one other sets (width-of_state q tree f (kept-state q tree zip.0) sets) holds)
-      k p form low begin
-      (record {
-        piece = part.piece;
-        form_is = part.form_is;
-        low_is = part.low_is;
-        begin_is = subst (λ n. slice_get (sums_from n (map kept_form_size forms)) k ≡ Some begin) e part.begin_is;
-      })
+    pub part-at : {ps : List Place} {forms : List KeptForm} {fs : List StateField} {at place : ℕ} → AreStateFields ps forms fs at place → AllZip IsKeptForm ps forms →
+        kept_end place forms ≤ length kept → Holds fs at place → (k : ℕ) (p : Place) (form : KeptForm) (low begin : ℕ) → IsPart ps forms at place k p form low begin → Part p form low begin
+    part-at packing.none zip within holds k p form low begin part = absurd (let e : k < 0 = slice_get_within [] k p part.piece in omega arith)
+    part-at (packing.by_field {p = q} {ps = ps} {form = g} {forms = forms} {fs = fs} {at = at} {place = place} size rest) zip within holds zero p form low begin part =
+        let room : place + form_size g ≤ kept_end (place + form_size g) forms = kept-low (place + form_size g) forms in
+        part-as q p (field g) form at low place begin (same_Some q p part.piece) (same_Some (field g) form part.form_is) (same_Some at low part.low_is) (same_Some place begin part.begin_is)
+        (field-part q g fs at place size (ahead rest) (omega arith) holds)
+    part-at (packing.by_field {p = q} {ps = ps} {form = g} {forms = forms} {fs = fs} {at = at} {place = place} size rest) zip within holds (suc k) p form low begin part =
+        let room : place + form_size g ≤ kept_end (place + form_size g) forms = kept-low (place + form_size g) forms in
+        let within2 : kept_end (place + place_size q) forms ≤ length kept = subst (λ n. kept_end (place + n) forms ≤ length kept) size within in
+        part-at rest zip.1 within2
+        (field-step fs at place (at + place_size q) (place + place_size q) (place_size q) refl refl (ahead rest) (omega arith) holds).1
+        k p form low begin
+        (record {
+          piece = part.piece;
+          form_is = part.form_is;
+          low_is = part.low_is;
+          begin_is = subst (λ n. slice_get (sums_from (place + n) (map kept_form_size forms)) k ≡ Some begin) size part.begin_is;
+        })
+    part-at (packing.by_state {p = q} {ps = ps} {forms = forms} {fs = fs} {f = f} {at = at} {place = place} tree one other sets rest) zip within holds zero p form low begin part =
+        let room : place + 1 ≤ kept_end (place + 1) forms = kept-low (place + 1) forms in
+        part-as q p (state tree) form at low place begin (same_Some q p part.piece) (same_Some (state tree) form part.form_is) (same_Some at low part.low_is) (same_Some place begin part.begin_is)
+        (state-part q tree f fs at place one other sets (width-of_state q tree f (kept-state q tree zip.0) sets) (omega arith) holds)
+    part-at (packing.by_state {p = q} {ps = ps} {forms = forms} {fs = fs} {f = f} {at = at} {place = place} tree one other sets rest) zip within holds (suc k) p form low begin part =
+        let e : place + 1 ≡ suc place = omega arith in
+        part-at rest zip.1 (subst (λ n. kept_end n forms ≤ length kept) e within)
+        (state-next q tree f fs at place one other sets (width-of_state q tree f (kept-state q tree zip.0) sets) holds)
+        k p form low begin
+        (record {
+          piece = part.piece;
+          form_is = part.form_is;
+          low_is = part.low_is;
+          begin_is = subst (λ n. slice_get (sums_from n (map kept_form_size forms)) k ≡ Some begin) e part.begin_is;
+        })

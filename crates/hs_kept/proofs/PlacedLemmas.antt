@@ -4,12 +4,11 @@ use Rattle.std.specs.List.{AllZip}
 use Rattle.std.specs.Option.{option_map}
 use Rattle.std.proofs.lemmas.List.{length-map}
 use Rattle.std.proofs.lemmas.Option.{slice_get-map, slice_get_within, same_Some}
-use Rattle.hs_base.specs.Chains.{nfa, piece_tree}
+use Rattle.hs_base.specs.Chains.{piece_tree}
 use Rattle.hs_base.specs.KeptPieces.{form_size}
-use Rattle.hs_base.specs.Regions.{IsPlaced, Place, Plan, list_places, place_form, place_size, plan_fields_at, plan_size, plan_starts, sums_from}
-use Rattle.hs_base.specs.Trees.{Tree}
+use Rattle.hs_base.specs.Regions.{IsPlaced, Place, Plan, list_places, place_size, plan_fields_at, plan_starts, sums_from}
 use Rattle.hs_base.proofs.SumLemmas.{sums-above, sums-low, sums-next, sums-size}
-use Rattle.hs_kept.specs.KeptRegions.{AreKeptForms, IsKeptForm, IsKeptPlaced, KeptForm, by_field, by_state, field, kept_form_size, kept_size, kept_starts, state}
+use Rattle.hs_kept.specs.KeptRegions.{AreKeptForms, IsKeptForm, IsKeptPlaced, KeptForm, by_field, field, kept_form_size, kept_size, kept_starts, state}
 use Rattle.hs_kept.proofs.PartLemmas.{form-of_state, kept-field, kept-state, kept_end}
 use Rattle.hs_kept.proofs.StatePartLemmas.{get-there}
 

@@ -1,27 +1,23 @@
 -- A piece that is kept by state: its set, and the number of it.
-use Rattle.std.proofs.Common.{◌≡◌, ℕ, zero, suc, ◌+◌, ◌/◌, ◌<◌, ◌≤◌, ◌↔◌, Bool, true, false, List, [], ◌∷◌, length, get_or, Some, slice_get, refl, sym, ap, subst, ◌∙◌, inl, inr, arith, EachIndex, slice_index}
+use Rattle.std.proofs.Common.{◌≡◌, ℕ, zero, suc, ◌<◌, ◌↔◌, Bool, false, List, [], ◌∷◌, length, get_or, Some, slice_get, refl, sym, ap, subst, ◌∙◌, inl, inr, arith, EachIndex, slice_index}
 use Rattle.std.proofs.lemmas.Bool.{cases_lt}
 use Rattle.std.proofs.lemmas.List.FromFn.{length-map-range_with_len}
 use Rattle.std.proofs.lemmas.Option.{slice_get_within, same_Some}
 use Rattle.hs_base.specs.AssertionTests.{has_assertion}
 use Rattle.hs_base.specs.Bits.{has_bit}
-use Rattle.hs_base.specs.Chains.{Piece}
 use Rattle.hs_base.specs.Contexts.{prev_at}
 use Rattle.hs_base.specs.Fields.{entered_always}
-use Rattle.hs_base.specs.KeptPieces.{AreBytes, form_size, IsFieldAt, IsKeptAs, IsKeptBy, positions}
-use Rattle.hs_base.specs.Leaving.{AreEntered}
-use Rattle.hs_base.specs.Lists.{Each}
+use Rattle.hs_base.specs.KeptPieces.{AreBytes, form_size, IsFieldAt, IsKeptAs, positions}
 use Rattle.hs_base.specs.PositionRows.{IsField}
 use Rattle.hs_base.specs.Regions.{Place}
 use Rattle.hs_base.specs.Trees.{Tree}
 use Rattle.hs_base.specs.WrittenOut.{Core, IsReached, count, write_out}
 use Rattle.hs_base.specs.declared.context.Prev.{Prev}
-use Rattle.hs_base.proofs.BitOnceLemmas.{each-below}
 use Rattle.hs_base.proofs.EntryLemmas.{entries-once, first-entered}
 use Rattle.hs_base.proofs.KeptLemmas.{bits-once_by}
 use Rattle.hs_states.specs.DfaHistories.{IsStateOf}
 use Rattle.hs_states.specs.DfaLaws.{HasStateOf}
-use Rattle.hs_states.specs.DfaStates.{AreStatesBy, AreStatesOf, DfaState, PositionTests, first_state, is_led_to, is_live, kept_prev, move_by, tests_of}
+use Rattle.hs_states.specs.DfaStates.{AreStatesOf, DfaState, first_state, is_led_to, is_live, kept_prev, move_by, tests_of}
 use Rattle.hs_states.specs.StateSets.{AreSetsOf, IsSetOf, prev_of, set_bytes, set_width, state_count}
 use Rattle.hs_states.specs.declared.state_sets.StateSets.{StateSets}
 use Rattle.hs_states.proofs.BlindLemmas.{written-blind}

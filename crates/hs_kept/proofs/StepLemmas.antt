@@ -1,32 +1,17 @@
 -- How a region goes on behind a field, and behind a set of positions, where it is unpacked, and where it is packed.
-use Rattle.std.proofs.Common.{◌≡◌, ℕ, zero, suc, ◌+◌, ◌-◌, ◌<◌, ◌≤◌, ◌↔◌, false, List, [], ◌∷◌, ◌++◌, length, map, take, drop, get_or, Some, slice_get, slice_range, refl, sym, ap, subst, ◌∙◌, arith, append_assoc, EachIndex, length-append, length-drop}
+use Rattle.std.proofs.Common.{◌≡◌, ℕ, suc, ◌+◌, ◌-◌, ◌<◌, ◌≤◌, List, [], ◌∷◌, ◌++◌, length, take, drop, slice_range, refl, sym, ap, ◌∙◌, arith, append_assoc}
 use Rattle.std.specs.Prelude.{slice_index}
-use Rattle.std.specs.List.{AllZip}
-use Rattle.std.specs.Option.{option_map}
 use Rattle.std.proofs.lemmas.List.{drop-take}
 use Rattle.std.proofs.lemmas.List.Folds.{drop_split}
-use Rattle.std.proofs.lemmas.Option.{slice_get_within, slice_get-map, slice_get-get_or, same_Some}
-use Rattle.hs_base.specs.Contexts.{prev_at}
 use Rattle.hs_base.specs.declared.context.Prev.{Prev}
-use Rattle.hs_base.specs.KeptPieces.{Form, form_size, IsFieldAt, IsKeptAs, positions}
 use Rattle.hs_base.specs.Lists.{Each}
-use Rattle.hs_base.specs.Regions.{IsHeader, IsPlaced, IsRegion, IsWellFormed, Place, Plan, fields_at, list_places, place_form, place_size, plan_fields_at, plan_size, plan_starts, region_offset, sums_from}
 use Rattle.hs_base.specs.Trees.{Tree}
-use Rattle.hs_base.proofs.BitOnceLemmas.{each-below}
-use Rattle.hs_base.proofs.RegionLemmas.{drop-drop, fields-within, placed-end, range-size}
-use Rattle.hs_base.proofs.SumLemmas.{sums-next, sums-size}
+use Rattle.hs_base.proofs.RegionLemmas.{drop-drop, range-size}
 use Rattle.hs_states.specs.StateSets.{AreSetsOf, set_bytes, set_width, state_count}
-use Rattle.hs_kept.specs.KeptLaws as laws
-use Rattle.hs_kept.specs.KeptRegions.{AreKeptForms, IsHeaderOf, IsKeptForm, IsKeptPart, IsKeptPartAt, IsKeptPlaced, IsKeptRegion, IsKeptSize, IsWellKept}
-use Rattle.hs_kept.specs.KeptRegions.{KeptForm, field, kept_form_size, kept_size, kept_starts, state}
-use Rattle.hs_kept.specs.Packing as packing
-use Rattle.hs_kept.specs.Packing.{AreAlikeBetween, AreNumbers, AreStateFields, IsNumberFor, IsPackedOf, IsPackingFor, end_of, known, unknown, packed_size, prev_in, region_from, unpacked, unpacked_size}
-use Rattle.hs_kept.specs.PackingLaws.{KeptUnpacks, PackingsAreSized, PacksWell, RegionsPack, UnpackedHasHeader, UnpacksWell, WellFormedPacksWell, WellKeptUnpacksWell}
-use Rattle.hs_kept.specs.declared.packing.Packing.{Packing}
+use Rattle.hs_kept.specs.Packing.{AreAlikeBetween, IsNumberFor, end_of, region_from}
 use Rattle.hs_kept.specs.declared.packing.StateField.{StateField}
-use Rattle.hs_kept.proofs.HeaderLemmas.{header-front, header-of_region, header_of-front, offset-front, prev-in}
-use Rattle.hs_kept.proofs.PartLemmas.{IsAhead, IsPart, IsPartOf, IsStatePart, ahead, cut-rest, cut-same, form-of_state, kept-field, kept-state, kept_end, part-at, range-as, range-join, range-none, sub-same, take-take, width-of_state}
-use Rattle.hs_kept.proofs.StatePartLemmas.{byte-field, byte-within, field-byte, first-within, get-there, set-bytes_are, set-fits, some-byte}
+use Rattle.hs_kept.proofs.PartLemmas.{IsAhead, cut-rest, cut-same, range-as, range-join, range-none, take-take}
+use Rattle.hs_kept.proofs.StatePartLemmas.{set-bytes_are}
 
 -- A step over a field, and one over a set: what holds of the fields that are left holds of those behind it.
 
@@ -92,19 +77,23 @@ module _ (region kept : List ℕ) where
 
     alike-split : (fs : List StateField) (at place next end : ℕ) (n : ℕ) → next ≡ at + n → end ≡ place + n → IsAhead fs next end → AreAlikeBetween fs at place region kept →
         (slice_range region at next ≡ slice_range kept place end) × AreAlikeBetween fs next end region kept
-    alike-split [] at place next end n one other before same =
-        (range-as region at next n one ∙ (ap (take n) same ∙ sym (range-as kept place end n other)),
-        ap (λ m. drop m region) one ∙ (sym (drop-drop at n region) ∙ (ap (drop n) same ∙ (drop-drop place n kept ∙ ap (λ m. drop m kept) (sym other)))))
+    alike-split [] at place next end n one other before same = (
+      range-as region at next n one ∙ (ap (take n) same ∙ sym (range-as kept place end n other)),
+      ap (λ m. drop m region) one ∙ (sym (drop-drop at n region) ∙ (ap (drop n) same ∙ (drop-drop place n kept ∙ ap (λ m. drop m kept) (sym other)))),
+    )
     alike-split (f ∷ fs) at place next end n one other (d, there, stands) same =
         let whole : take (n + d) (drop at region) ≡ take (n + d) (drop place kept) =
-        sym (range-as region at f.at (n + d) (omega arith)) ∙ (same.0 ∙ range-as kept place f.place (n + d) (omega arith)) in
-        (range-as region at next n one ∙ (front-alike (drop at region) (drop place kept) n d whole ∙ sym (range-as kept place end n other)),
-        (range-as region next f.at d there
-        ∙ (ap (λ m. take d (drop m region)) one
-        ∙ (ap (take d) (sym (drop-drop at n region))
-        ∙ (back-alike (drop at region) (drop place kept) n d whole
-        ∙ (ap (take d) (drop-drop place n kept) ∙ (ap (λ m. take d (drop m kept)) (sym other) ∙ sym (range-as kept end f.place d stands)))))),
-        same.1))
+        sym (range-as region at f.at (n + d) (omega arith)) ∙ (same.0 ∙ range-as kept place f.place (n + d) (omega arith)) in (
+          range-as region at next n one ∙ (front-alike (drop at region) (drop place kept) n d whole ∙ sym (range-as kept place end n other)),
+          (
+            range-as region next f.at d there
+                ∙ (ap (λ m. take d (drop m region)) one
+                ∙ (ap (take d) (sym (drop-drop at n region))
+                ∙ (back-alike (drop at region) (drop place kept) n d whole
+                ∙ (ap (take d) (drop-drop place n kept) ∙ (ap (λ m. take d (drop m kept)) (sym other) ∙ sym (range-as kept end f.place d stands)))))),
+            same.1,
+          ),
+        )
 
     pub field-packs : (fs : List StateField) (at place next end : ℕ) (n : ℕ) → next ≡ at + n → end ≡ place + n → IsAhead fs next end → end ≤ length kept → Packs fs at place →
         (slice_range region at next ≡ slice_range kept place end) × Packs fs next end

@@ -3,5 +3,6 @@
 
 pub mod laws;
 mod packing;
+pub mod packing_laws;
 
 pub use packing::{Packing, StateField};

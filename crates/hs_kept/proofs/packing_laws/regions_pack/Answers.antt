@@ -1,5 +1,5 @@
 use Rattle.hs_kept.proofs.PackingLemmas.{regions-pack}
-use Rattle.hs_kept.proofs.laws.regions_pack.Goals as goal
+use Rattle.hs_kept.proofs.packing_laws.regions_pack.Goals as goal
 
 pub returns : goal.returns
 returns c = regions-pack

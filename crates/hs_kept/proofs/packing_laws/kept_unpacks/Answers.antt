@@ -1,5 +1,5 @@
 use Rattle.hs_kept.proofs.PackingLemmas.{kept-unpacks}
-use Rattle.hs_kept.proofs.laws.kept_unpacks.Goals as goal
+use Rattle.hs_kept.proofs.packing_laws.kept_unpacks.Goals as goal
 
 pub returns : goal.returns
 returns c = kept-unpacks
