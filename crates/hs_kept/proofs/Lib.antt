@@ -5,3 +5,6 @@ pub mod PlacedLemmas
 pub mod KeptLemmas
 pub mod StepLemmas
 pub mod PackingLemmas
+pub mod FieldLemmas
+pub mod WritingLemmas
+pub mod PackLemmas
