@@ -1,4 +1,5 @@
 pub mod KeptRegions
 pub mod KeptLaws
+pub mod StateFields
 pub mod Packing
 pub mod PackingLaws
