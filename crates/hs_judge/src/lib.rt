@@ -6,8 +6,6 @@
 #[cfg(test)]
 mod always;
 #[cfg(test)]
-mod automata;
-#[cfg(test)]
 mod cases;
 #[cfg(test)]
 mod chains;
