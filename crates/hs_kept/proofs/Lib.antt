@@ -1,3 +1,5 @@
+pub mod CopyLemmas
 pub mod FieldLemmas
+pub mod PartOfLemmas
+pub mod PlaceLemmas
 pub mod WritingLemmas
-pub mod PackLemmas
