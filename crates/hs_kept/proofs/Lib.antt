@@ -1,4 +1,5 @@
 pub mod CopyLemmas
+pub mod FaultLemmas
 pub mod FieldLemmas
 pub mod PartOfLemmas
 pub mod PlaceLemmas

@@ -1,7 +1,7 @@
 //! What is kept of a region, and back: the number of a state for a set of positions.
 
 ghost use Rattle.std.specs.Prelude.{◌≡◌, ◌^◌, ◌≤◌, length};
-ghost use Rattle.hs_kept.specs.StateFields.{AreApart, AreApart-prop, IsFirstFrom, end_of};
+ghost use Rattle.hs_kept.specs.StateFields.{AreFieldsApart, AreFieldsApart-prop, IsFirstFrom, end_of};
 
 use crate::field_bytes::{pack_field, prev_behind, unpack_field};
 use hs_states::StateSets;
@@ -26,7 +26,7 @@ pub struct Packing {
     region_size: usize,
     /// How many of these are kept.
     size: usize,
-    ghost apart: { AreApart fields.items 0 0 region_size size } by { AreApart-prop fields.items 0 0 region_size size },
+    ghost apart: { AreFieldsApart fields.items 0 0 region_size size } by { AreFieldsApart-prop fields.items 0 0 region_size size },
     ghost header: { 72 ≤ region_size },
     ghost region_small: { region_size ≤ 2 ^ 24 },
     ghost small: { size ≤ 2 ^ 24 },
@@ -37,7 +37,7 @@ impl Packing {
 
     /// The packing by these fields, of regions of one size to bytes of the other.
     pub(crate) fn new(fields: Vec<StateField>, region_size: usize, size: usize) -> Packing
-        requires apart { AreApart fields.items 0 0 region_size size }
+        requires apart { AreFieldsApart fields.items 0 0 region_size size }
         requires header { 72 ≤ region_size }
         requires region_small { region_size ≤ 2 ^ 24 }
         requires small { size ≤ 2 ^ 24 }
@@ -208,7 +208,7 @@ impl Packing {
         ensures packs { result ≡ false → (region : List ℕ) → length region ≡ unpacked_size self.now →
             IsPackedOf self.now region region }
     {
-        !self.fields.is_empty()
+        self.fields.len() > 0
     }
 }
 

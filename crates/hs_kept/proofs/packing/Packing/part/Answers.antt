@@ -1,7 +1,6 @@
-use Rattle.std.proofs.Common.{◌≡◌, ℕ, ◌+◌, ◌-◌, ◌<◌, ◌≤◌, List, take, drop, slice_range, refl, sym, ap, ◌∙◌, subst}
-use Rattle.hs_kept.specs.StateFields.{end_of}
+use Rattle.std.proofs.Common.{ℕ, ◌+◌, ◌-◌, List, slice_range, refl, sym, ap, ◌∙◌, subst}
 use Rattle.hs_kept.specs.Packing.{unpacked}
-use Rattle.hs_kept.specs.Parts.{AreNumbersBefore, place_of}
+use Rattle.hs_kept.specs.Parts.{AreNumbersBefore}
 use Rattle.hs_kept.proofs.PartOfLemmas.{part-between, part-own}
 use Rattle.hs_kept.proofs.packing.Packing.part.Goals as goal
 
