@@ -1,0 +1,13 @@
+pub mod Discovery
+pub mod DfaStates
+pub mod DfaHistories
+pub mod DfaLaws
+pub mod NextBehind
+pub mod Footings
+pub mod Leading
+pub mod DfaBuilding
+pub mod AutomatonStates
+pub mod Subsets
+pub mod StateCounts
+pub mod PackedSets
+pub mod StateSets
