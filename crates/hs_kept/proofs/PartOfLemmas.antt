@@ -1,14 +1,15 @@
 -- Parts of what is unpacked: the set of a field, and what lies between fields.
-use Rattle.std.proofs.Common.{◌≡◌, ℕ, zero, suc, ◌+◌, ◌-◌, ◌<◌, ◌≤◌, ◌⊎◌, List, [], ◌∷◌, ◌++◌, length, take, drop, Some, slice_get, slice_range, sym, ap, subst, ◌∙◌, inl, inr, arith}
+use Rattle.std.proofs.Common.{◌≡◌, ℕ, zero, suc, ◌+◌, ◌-◌, ◌*◌, ◌<◌, ◌≤◌, ◌⊎◌, List, [], ◌∷◌, ◌++◌, length, take, drop, Some, slice_get, slice_range, sym, ap, subst, ◌∙◌, inl, inr, arith}
 use Rattle.std.specs.Prelude.{slice_index}
 use Rattle.std.proofs.lemmas.Bool.{cases_lt}
 use Rattle.std.proofs.lemmas.List.{drop-append-le, drop-drop, drop-take, length-drop, length-take-le, take-append-le, take-take}
 use Rattle.std.proofs.lemmas.Option.{same_Some, slice_get_within}
+use Rattle.std.proofs.Math.Nat.{mul-le-mul_left}
 use Rattle.std.proofs.Math.Seq.{drop-append-add, take-append_seam}
 use Rattle.hs_base.specs.Lists.{Each}
 use Rattle.hs_base.proofs.RegionLemmas.{range-size}
 use Rattle.hs_states.specs.StateSets.{set_bytes, set_width, state_count}
-use Rattle.hs_states.proofs.StateSetLemmas.{set-sized}
+use Rattle.hs_states.specs.declared.state_sets.StateSets.{StateSets}
 use Rattle.hs_kept.specs.Packing.{packed_size, region_from, unpacked, unpacked_size}
 use Rattle.hs_kept.specs.Parts.{AreNumbersBefore, place_from, place_of}
 use Rattle.hs_kept.specs.StateFields.{AreFieldsApart, IsNextField, end_of}
@@ -27,6 +28,12 @@ front-part zs ys n i m inner within =
     (drop-append-le i (take n zs) ys (omega (arith, size))
     ∙ ap (λ l. l ++ ys) (ap (λ k. drop i (take k zs)) (sym e) ∙ drop-take i (n - i) zs))
     ∙ (take-append-le m (take (n - i) (drop i zs)) ys (omega (arith, size')) ∙ take-take m (n - i) (drop i zs) (omega arith))
+
+-- how many bytes the set of a state has
+set-sized : (sets : StateSets) (n : ℕ) → n < state_count sets → length (set_bytes sets n) ≡ set_width sets
+set-sized sets n below =
+    let e : sets.width * (n + 1) ≤ sets.width * state_count sets = mul-le-mul_left sets.width (omega arith) in
+    length-take-le sets.width (drop (sets.width * n) sets.sets.items) (omega (arith, e, sets.whole, length-drop (sets.width * n) sets.sets.items, sets.sets.ok))
 
 module _ (kept : List ℕ) (r s : ℕ) (sized : length kept ≡ s) where
   -- each of the fields that begins before that byte has the number of a state

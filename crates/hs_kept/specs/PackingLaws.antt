@@ -3,7 +3,7 @@ use Rattle.std.specs.Prelude.{◌≡◌, ◌↔◌, ℕ, ◌<◌, List, length, 
 use Rattle.hs_base.specs.Lists.{Each}
 use Rattle.hs_base.specs.Regions.{Plan, IsRegion, IsWellFormed, fields_at}
 use Rattle.hs_kept.specs.KeptRegions.{IsKeptRegion, IsKeptSize, IsWellKept}
-use Rattle.hs_kept.specs.Packing.{AreNumbers, IsPackedOf, IsPackingFor, packed_size, unpacked}
+use Rattle.hs_kept.specs.Packing.{AreNumbers, IsPackedOf, IsPackingFor, packed_size, unpacked, unpacked_size}
 use Rattle.hs_kept.specs.declared.packing.Packing.{Packing}
 
 -- Its sizes are those of the plan.

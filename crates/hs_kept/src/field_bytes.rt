@@ -25,7 +25,8 @@ pub(crate) fn unpack_field(
     requires next { IsNextField field.now at place (length region.old) (length kept.now) }
     requires number { slice_index kept.now field.now.place < state_count field.now.sets }
     ensures len { length region.new ≡ length region.old }
-    ensures made { take (end_of field.now) region.new ≡ take at region.old ++ (slice_range kept.now place field.now.place
+    ensures made { take (end_of field.now) region.new ≡ take at region.old
+        ++ (slice_range kept.now place field.now.place
         ++ set_bytes field.now.sets (slice_index kept.now field.now.place)) }
 {
     region[at..field.at].copy_from_slice(&kept[place..field.place]);

@@ -15,18 +15,18 @@ bounds-kept-field c =
 pub returns-then-kept-field-clause-found : goal.returns-then-kept-field-clause-found
 returns-then-kept-field-clause-found c =
     fault-found c.args.self.now c.deref-field-items.result.now c.args.kept.now c.loop-field.field-index c.field-item.result c.deref-field-items.ensures.value c.loop-field-test.true c.field-item.is
-    c.loop-field.invariant (omega (arith, c.if-kept-field.true, c.count.ensures.is))
+    c.loop-field.invariant (omega (arith, c.if-kept-field.true, c.count.ensures.count))
 
 pub returns-then-kept-field-clause-well : goal.returns-then-kept-field-clause-well
 returns-then-kept-field-clause-well c numbers =
     absurd (fault-refutes c.args.self.now c.args.kept.now c.field-item.result.at c.field-item.result.place
     (fault-found c.args.self.now c.deref-field-items.result.now c.args.kept.now c.loop-field.field-index c.field-item.result c.deref-field-items.ensures.value c.loop-field-test.true c.field-item.is
-    c.loop-field.invariant (omega (arith, c.if-kept-field.true, c.count.ensures.is))) numbers)
+    c.loop-field.invariant (omega (arith, c.if-kept-field.true, c.count.ensures.count))) numbers)
 
 pub loop-field-preserved : goal.loop-field-preserved
 loop-field-preserved c =
     numbers-more c.args.self.now.fields.items c.deref-field-items.result.now c.args.kept.now c.loop-field.field-index c.field-item.result c.deref-field-items.ensures.value c.loop-field-test.true c.field-item.is
-    c.loop-field.invariant (omega (arith, c.if-kept-field.false, c.count.ensures.is))
+    c.loop-field.invariant (omega (arith, c.if-kept-field.false, c.count.ensures.count))
 
 pub returns-clause-found : goal.returns-clause-found
 returns-clause-found c =
