@@ -1,5 +1,12 @@
 pub mod CopyLemmas
 pub mod FaultLemmas
+pub mod PartLemmas
+pub mod HeaderLemmas
+pub mod StatePartLemmas
+pub mod PlacedLemmas
+pub mod KeptLemmas
+pub mod StepLemmas
+pub mod PackingLemmas
 pub mod FieldLemmas
 pub mod PartOfLemmas
 pub mod PlaceLemmas
