@@ -19,13 +19,13 @@ AreFieldsApart (f ∷ fs) at place region_size size =
     × ((f.at < end_of f) × AreFieldsApart fs (end_of f) (suc f.place) region_size size))
 
 -- of which there is one proof at most
-pub apart-one :
+pub apart-prop :
     (fs : List StateField) (at place region_size size : ℕ) → IsProp (AreFieldsApart fs at place region_size size)
-apart-one [] at place region_size size = ×_prop le_prop (ℕ_set (at + size) (place + region_size))
-apart-one (f ∷ fs) at place region_size size =
+apart-prop [] at place region_size size = ×_prop le_prop (ℕ_set (at + size) (place + region_size))
+apart-prop (f ∷ fs) at place region_size size =
     ×_prop le_prop
     (×_prop (ℕ_set (f.at + place) (at + f.place))
-    (×_prop le_prop (apart-one fs (end_of f) (suc f.place) region_size size)))
+    (×_prop le_prop (apart-prop fs (end_of f) (suc f.place) region_size size)))
 
 -- The field lies behind byte `at` of a region and byte `place` of what is kept, equally far, and within both.
 pub record IsNextField (f : StateField) (at place region_size size : ℕ) : Type 0 where

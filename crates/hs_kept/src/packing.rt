@@ -1,7 +1,7 @@
 //! What is kept of a region, and back: the number of a state for a set of positions.
 
 ghost use Rattle.std.specs.Prelude.{◌≡◌, ◌^◌, ◌≤◌, length};
-ghost use Rattle.hs_kept.specs.StateFields.{AreFieldsApart, apart-one, IsFirstFrom, end_of};
+ghost use Rattle.hs_kept.specs.StateFields.{AreFieldsApart, apart-prop, IsFirstFrom, end_of};
 
 use crate::field_bytes::{pack_field, prev_behind, unpack_field};
 use hs_states::StateSets;
@@ -26,7 +26,7 @@ pub struct Packing {
     region_size: usize,
     /// How many of these are kept.
     size: usize,
-    ghost apart: { AreFieldsApart fields.items 0 0 region_size size } by { apart-one fields.items 0 0 region_size size },
+    ghost apart: { AreFieldsApart fields.items 0 0 region_size size } by { apart-prop fields.items _ _ _ _ },
     ghost header: { 72 ≤ region_size },
     ghost region_small: { region_size ≤ 2 ^ 24 },
     ghost small: { size ≤ 2 ^ 24 },
