@@ -1,3 +1,5 @@
+pub mod CopyLemmas
+pub mod FaultLemmas
 pub mod PartLemmas
 pub mod HeaderLemmas
 pub mod StatePartLemmas
@@ -6,5 +8,6 @@ pub mod KeptLemmas
 pub mod StepLemmas
 pub mod PackingLemmas
 pub mod FieldLemmas
+pub mod PartOfLemmas
+pub mod PlaceLemmas
 pub mod WritingLemmas
-pub mod PackLemmas

@@ -5,13 +5,14 @@ use Rattle.std.proofs.lemmas.Bool.{cases_lt, le-ltb, lt-ltb}
 use Rattle.std.proofs.lemmas.List.{get_or-take, get_or_past, length-take-le, length-drop, take-append-le, drop-append-le}
 use Rattle.std.proofs.Math.Nat.{mul-le-mul_left, mul-suc}
 use Rattle.std.proofs.Math.Seq.{drop-append_seam, get_or-append_right, take-length}
-use Rattle.std.proofs.lemmas.Option.{get_or_from_slice_get, slice_get_within, same_Some}
+use Rattle.std.proofs.lemmas.Option.{get_or_from_slice_get, slice_get-get_or, slice_get_within, same_Some}
 use Rattle.hs_base.specs.declared.context.Prev.{Prev}
 use Rattle.hs_base.specs.declared.context.Prev.TheVariants as stands
 use Rattle.hs_base.specs.Bits.{has_bit, has_word_bit}
 use Rattle.hs_base.specs.Lists.{Each}
 use Rattle.hs_base.specs.Trees.{Tree}
 use Rattle.hs_base.specs.WrittenOut.{Core, write_out}
+use Rattle.hs_base.specs.WrittenOut as written
 use Rattle.hs_base.specs.AssertionTests.{has_assertion}
 use Rattle.hs_base.proofs.BitLemmas.{bits-past}
 use Rattle.hs_bits.proofs.WordLemmas.{and-none}
@@ -19,16 +20,16 @@ use Rattle.hs_engine.specs.declared.automaton.Automaton.{Automaton}
 use Rattle.hs_engine.specs.Tables.{Runs}
 use Rattle.hs_engine.proofs.AgreementLemmas.{get-seam}
 use Rattle.hs_states.specs.AutomatonStates.{AreBuilt, state_of, tests_by}
-use Rattle.hs_states.specs.DfaStates.{AreStatesOf, DfaState, is_live}
+use Rattle.hs_states.specs.DfaStates.{AreStatesOf, DfaState, first_state, is_led_to, is_live, move_by, tests_of}
 use Rattle.hs_states.specs.Footings.{HasPositionsBelow}
 use Rattle.hs_states.specs.PackedSets.{ArePrevsTo, AreSetsTo, IsPackedSet, IsSetPushed, set_at}
-use Rattle.hs_states.specs.StateSets.{AreSetsOf, IsSetOf, prev_of}
+use Rattle.hs_states.specs.StateSets.{AreSetsOf, IsSetOf, IsStateNumber, prev_of, state_count}
 use Rattle.hs_states.specs.declared.footing.Footing.{Footing}
 use Rattle.hs_states.specs.declared.state_sets.StateSets.{StateSets}
 use Rattle.hs_states.proofs.BuildLemmas.{built-all, map-length}
 use Rattle.hs_states.proofs.FootingLemmas.{IsStateAt, state-at}
 use Rattle.hs_states.proofs.SoFarLemmas.{still-there}
-use Rattle.hs_states.proofs.StateLemmas.{live-past, live-where, not-true, where-size}
+use Rattle.hs_states.proofs.StateLemmas.{live-past, live-where, not-true, same-live, where-size}
 use Rattle.hs_states.proofs.TransferLemmas.{states-of}
 
 each-by_place : (bytes : List ℕ) → ((i : ℕ) → get_or bytes i 0 < 256) → Each (λ b. b < 256) bytes
@@ -170,3 +171,36 @@ module _ (a : Automaton) (tree : Tree) (runs : Runs a tree) (flag : a.has_assert
             subst (λ z. IsSetOf s.width (set_at s.width s.sets.items i) z × (prev_of s i ≡ z.prev)) place.is
             (set-of i place.footing place.at, prev-of i place.footing place.at);
       }
+
+-- a set and what stands before have one number
+
+module _ (sets : StateSets) (tree : Tree) (are : AreSetsOf sets tree) where
+  abbrev Written : Core
+  Written = write_out tree
+
+  state-size : (i : ℕ) (s : DfaState) → slice_get are.states i ≡ Some s → length s.live ≡ written.count Written
+  state-size zero s at =
+      let first : DfaState = first_state (tests_of Written) (has_assertion tree) in
+      subst (λ (z : DfaState). length z.live ≡ written.count Written) (same_Some first s (sym are.all.so_far.begins ∙ at))
+      (where-size (written.count Written) (λ x. false) first.prev)
+  state-size (suc n) s at =
+      let d = are.all.so_far.discovered (suc n) (omega arith) (slice_get_within are.states (suc n) s at) in
+      let moved : DfaState = move_by (tests_of Written) (has_assertion tree) d.is.source d.byte in
+      subst (λ (z : DfaState). length z.live ≡ written.count Written) (same_Some moved s (sym d.is.leads ∙ at))
+      (where-size (written.count Written) (is_led_to (tests_of Written) d.is.source d.byte) moved.prev)
+
+  state-there : (i : ℕ) → i < state_count sets → slice_get are.states i ≡ Some (get_or are.states i (first_state (tests_of Written) (has_assertion tree)))
+  state-there i within = slice_get-get_or are.states i _ (omega (arith, within, are.count))
+
+  pub one-number : (bytes : List ℕ) (stands : Prev) (i j : ℕ) → IsStateNumber sets bytes stands i → IsStateNumber sets bytes stands j → i ≡ j
+  one-number bytes stands i j one other =
+      let s : DfaState = get_or are.states i (first_state (tests_of Written) (has_assertion tree)) in
+      let t : DfaState = get_or are.states j (first_state (tests_of Written) (has_assertion tree)) in
+      let at = state-there i one.within in
+      let there = state-there j other.within in
+      let same : s ≡ t =
+      same-live (written.count Written) s t (state-size i s at) (state-size j t there)
+      (λ x below.
+          sym ((are.each i s at).0.bits x) ∙ (ap (λ (b : List ℕ). has_bit b x) (one.set ∙ sym other.set) ∙ (are.each j t there).0.bits x))
+      (sym (are.each i s at).1 ∙ (one.prev ∙ sym other.prev ∙ (are.each j t there).1)) in
+      are.all.so_far.once i j t (at ∙ ap (λ (z : DfaState). Some z) same) there

@@ -55,3 +55,12 @@ abbrev pub IsNumberOfSet : StateSets → List ℕ → Prev → Option ℕ → Ty
 IsNumberOfSet sets bytes stands found =
     MatchOption found ((number : ℕ) → IsStateNumber sets bytes stands number → ⊥)
     (λ number. IsStateNumber sets bytes stands number)
+
+-- A set, with what stands before, has one number alone.
+abbrev pub SetsHaveOneNumber : Type 0
+SetsHaveOneNumber =
+    (sets : StateSets) (tree : Tree) (bytes : List ℕ) (stands : Prev) (i j : ℕ) →
+    AreSetsOf sets tree →
+    IsStateNumber sets bytes stands i →
+    IsStateNumber sets bytes stands j →
+    i ≡ j
