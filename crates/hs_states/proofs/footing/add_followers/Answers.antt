@@ -1,5 +1,4 @@
-use Rattle.std.proofs.Common.{ap, arith}
-use Rattle.hs_base.specs.Bits.{has_word_bit}
+use Rattle.std.proofs.Common.{arith}
 use Rattle.hs_engine.specs.Between.{between}
 use Rattle.hs_states.proofs.FootingLemmas.{followed-all, followed-more}
 use Rattle.hs_states.proofs.footing.add_followers.Goals as goal
