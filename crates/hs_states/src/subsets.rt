@@ -1,6 +1,7 @@
 //! The subset construction: the states of an automaton in the order in which they are discovered.
 
-ghost use Rattle.std.specs.Prelude.{◌≡◌, ◌+◌, ◌*◌, ◌<◌, ◌≤◌, true, false, IfOk, IfSome, length, vec_len, slice_index, Some, slice_get};
+ghost use Rattle.std.specs.Prelude.{◌≡◌, ◌+◌, ◌*◌, ◌<◌, ◌≤◌, true, false, IfOk, IfSome, length, vec_len, slice_index};
+ghost use Rattle.std.specs.Prelude.{Some, slice_get};
 
 use crate::byte_classes::ByteClasses;
 use crate::footing::{Footing, kept_prev, number_among};
