@@ -4,9 +4,13 @@
 
 mod check_command;
 mod compile_command;
+mod early;
 mod fault;
+mod form;
 mod info_command;
 mod loading;
+mod reading;
+mod skipping;
 
 pub use check_command::check_list;
 pub use compile_command::compile_list;

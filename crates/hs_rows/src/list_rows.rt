@@ -214,6 +214,8 @@ p <4294967296:/a/> = 2 <> <refused - - 16 ListLine 1;>
 p <00000000001:/a/> = 2 <> <refused - - 16 ListLine 1;>
 p <1:/a/;;(> = 2 <> <refused - - 16 ListLine 3;>
 p <1:/a*/;(> = 2 <> <refused - - 16 ListLine 2;>
+# A file that is judged before it is read whole.
+p <1:/a/;%(1100000)x> = 2 <> <refused - - 16 ListLine 2;>
 ";
 
 /// Files that are a database file up to a place: beginnings of one, one with a byte more, and two with another byte.
@@ -260,4 +262,6 @@ d <HSDB%01%00%01%(3)%00%10%(14)%00%(8)%FF%03%00fo> = 4 <> <fault database 37;>
 d <HSDB%01%00%01%(3)%00%10%(14)%00%(8)%FF%03%00foo%00> = 4 <> <fault database 38;>
 d <HSDB%01%00%01%(3)%00%10%(4)%00%08%(9)%00%(8)%FF%03%00foo> = 4 <> <fault database 15;>
 d <HSDB%01%00%01%(3)%00%10%(6)%00%01%(7)%00%(8)%FF%03%00foo> = 4 <> <fault database 17;>
+# A file that is judged before it is read whole.
+d <HSDB%01%00%(1100000)%FF> = 4 <> <fault database 15;>
 ";

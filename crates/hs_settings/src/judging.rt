@@ -2,7 +2,7 @@
 
 use crate::leaving::Leaving;
 use crate::names::name_lines;
-use crate::setting::{Answer, Faults, NO_FAULTS, PARTS, ROOM, Setting, wanted_of};
+use crate::setting::{Answer, Faults, NO_FAULTS, PARTS, ROOM, STORE_ROOM, Setting, wanted_of};
 use hs_outside::{Failed, MemSink, MemSource, MemStore, Store};
 use hs_rows::rows_of;
 use std::alloc::{AllocError, Global};
@@ -34,7 +34,7 @@ fn put(store: &mut MemStore, name: &str, file: &Option<Vec<u8>>) -> Result<(), F
 
 /// The store with the files of a row.
 fn store_of(alloc: Global, setting: &Setting, faults: Faults) -> Result<Leaving, Fail> {
-    let mut store = MemStore::new(alloc, 3, ROOM, &[faults.store])?;
+    let mut store = MemStore::new(alloc, 3, STORE_ROOM, &[faults.store])?;
     put(&mut store, "p", &setting.patterns)?;
     put(&mut store, "f", &setting.file)?;
     put(&mut store, "d", &setting.database)?;

@@ -6,8 +6,11 @@ use hs_rows::{number_of, text_of, words_of};
 use std::alloc::{AllocError, Global};
 use std::test::Fail;
 
-/// How many bytes the store, and `out` where no row says less, have room for.
+/// How many bytes `out` has room for where no row says less, and each piece of a script at most.
 pub const ROOM: usize = 262_144;
+
+/// How many bytes the store has room for: also those of a list that is judged before it is read whole.
+pub const STORE_ROOM: usize = 1_200_000;
 
 /// The calls that fail, and the read at which the store lacks its files, counted from 1; 0 is none.
 #[derive(Clone, Copy)]

@@ -4,7 +4,7 @@ use Rattle.hs_text.specs.declared.fault.ListFault.TheVariants.{Line}
 use Rattle.hs_text.specs.PatternFile.{HasBadLine}
 use Rattle.hs_text.specs.Reading.{IsListFault}
 use Rattle.hs_lists.specs.Accepting.{formless, unread, bad_line}
-use Rattle.hs_lists.proofs.loading.read_patterns.Goals as goal
+use Rattle.hs_lists.proofs.form.read_patterns.Goals as goal
 
 -- the line that the reader blames
 blamed : {T : Type 0} (Good : T → Type 0) (bytes : List ℕ) (line : ℕ) (result : Result T ListFault) → MatchResult result Good (λ fault. IsListFault bytes fault) → result ≡ Err (Line line) → HasBadLine bytes line

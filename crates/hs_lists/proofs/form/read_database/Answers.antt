@@ -4,7 +4,7 @@ use Rattle.hs_dbfile.specs.declared.fault.DecodeFault.TheVariants.{Form}
 use Rattle.hs_dbfile.specs.Files.{IsFormPlace}
 use Rattle.hs_dbfile.specs.Entries.{IsFaultOf}
 use Rattle.hs_lists.specs.Accepting.{formless, unread, bad_bytes}
-use Rattle.hs_lists.proofs.loading.read_database.Goals as goal
+use Rattle.hs_lists.proofs.form.read_database.Goals as goal
 
 -- the place that the reader names
 placed : {T : Type 0} (Good : T → Type 0) (bytes : List ℕ) (at : ℕ) (result : Result T DecodeFault) → MatchResult result Good (λ fault. IsFaultOf bytes fault) → result ≡ Err (Form at) → IsFormPlace bytes at
