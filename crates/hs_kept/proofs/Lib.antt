@@ -1,0 +1,3 @@
+mod ToldLemmas
+mod CandidateLemmas
+mod LayingLemmas

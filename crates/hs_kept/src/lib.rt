@@ -1,6 +1,8 @@
 //! What streams keep of their regions.
 #![tactic(auto)]
 
+mod builder;
 mod packing;
 
+pub use builder::PackingBuilder;
 pub use packing::{Packing, StateField};
