@@ -2,6 +2,7 @@
 #![tactic(auto)]
 
 mod builder;
+mod field_bytes;
 mod packing;
 
 pub use builder::PackingBuilder;
