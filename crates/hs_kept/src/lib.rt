@@ -3,7 +3,9 @@
 
 mod builder;
 mod field_bytes;
+pub mod laws;
 mod packing;
+pub mod packing_laws;
 
 pub use builder::PackingBuilder;
 pub use packing::{Packing, StateField};
