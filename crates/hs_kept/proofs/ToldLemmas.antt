@@ -37,7 +37,7 @@ pub told-found : (tree : Tree) (found : Option StateSets) → 0 < count (write_o
 told-found tree None some are more = by_field (λ t is. subst HasMoreStates (same-tree tree t is) (more refl) is.states is.few.all is.few.few)
 told-found tree (Some sets) some are more =
     by_state tree
-    (record { ahead = refl; first = refl; expression = refl; some = some; states = are.states; few = record { all = are.all; few = are.few } })
+    (record { ahead = refl; first = refl; expression = refl; some = some; states = are.states; few = record { all = are.all; few = let few = sets.few in let size = are.count in omega (arith, few, size) } })
     are
 
 -- a chain that begins with a piece that looks back

@@ -99,6 +99,7 @@ impl PackingBuilder {
         ensures { IfOk result (λ packing. (plan : Plan) → IsBuiltForPlan self layout.now plan →
             IsPackingFor packing plan) }
     {
+        let size = layout.size();
         let mut fields = Vec::with_capacity(alloc, self.candidates.len())?;
         let mut saved = 0;
         for candidate in self.candidates {
@@ -111,7 +112,7 @@ impl PackingBuilder {
             })?;
             saved += width - 1;
         }
-        Ok(Packing::new(fields, layout.size(), layout.size() - saved))
+        Ok(Packing::new(fields, size, size - saved))
     }
 }
 
