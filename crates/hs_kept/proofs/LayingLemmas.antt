@@ -161,8 +161,8 @@ apart-from starts _ _ number at saved before place r s (candidates.state {p = p}
     let width = state-width p tree c.sets keeps are in
     let some = state-some p tree c.sets keeps are in
     let begins_at : slice_index starts c.number ≡ at = ap (slice_index starts) own ∙ here.first in
-    (omega (arith, begins_at, order), (omega (arith, begins_at, order, same), apart-from starts ps cs (suc number) (at + place_size p) (saved + (set_width c.sets - 1)) (slice_index starts c.number + set_width c.sets) (suc (slice_index starts c.number - saved)) r s rest here.rest
-    (omega (arith, begins_at, width)) (omega (arith, begins_at, order, same, some)) all rest_is))
+    (omega (arith, begins_at, order), (omega (arith, begins_at, order, same), (omega (arith, some), apart-from starts ps cs (suc number) (at + place_size p) (saved + (set_width c.sets - 1)) (slice_index starts c.number + set_width c.sets) (suc (slice_index starts c.number - saved)) r s rest here.rest
+    (omega (arith, begins_at, width)) (omega (arith, begins_at, order, same, some)) all rest_is)))
 
 -- ---- a loop over candidates
 
