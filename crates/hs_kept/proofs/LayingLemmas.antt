@@ -20,7 +20,7 @@ use Rattle.hs_kept.specs.declared.packing.Packing.{Packing}
 use Rattle.hs_kept.specs.declared.packing.StateField.{StateField}
 use Rattle.hs_kept.specs.KeptRegions as kept
 use Rattle.hs_kept.specs.KeptRegions.{AreKeptForms, IsKeptByState, IsKeptForm, KeptForm, kept_form_size, kept_size, kept_starts}
-use Rattle.hs_kept.specs.StateFields.{AreApart, end_of}
+use Rattle.hs_kept.specs.StateFields.{AreFieldsApart, end_of}
 use Rattle.hs_kept.specs.Packing.{AreStateFields, IsPackingFor, packed_size, unpacked_size}
 use Rattle.hs_kept.specs.Packing as fields
 use Rattle.hs_kept.specs.Builders.{AreCandidates, HasCandidates, IsBuiltForPlan, IsKeptByField, places_in_chain, places_in_chains, places_in_list}
@@ -151,7 +151,7 @@ laid-from starts _ _ number at place saved (candidates.state {p = p} {ps = ps} {
 
 apart-from : (starts : List ℕ) (places : List Place) (cs : List Candidate) (number at saved before place r s : ℕ) → AreCandidates places cs number →
     drop number starts ≡ sums_from at (map place_size places) → before ≤ at → place + saved ≡ before →
-    end_from at (map place_size places) ≡ r → s + saved_by cs saved ≡ r → AreApart (fields_from starts cs saved) before place r s
+    end_from at (map place_size places) ≡ r → s + saved_by cs saved ≡ r → AreFieldsApart (fields_from starts cs saved) before place r s
 apart-from starts _ _ number at saved before place r s candidates.none begin order same all rest_is = (omega (arith, order, same, all, rest_is), omega (arith, order, same, all, rest_is))
 apart-from starts _ cs number at saved before place r s (candidates.field {p = p} {ps = ps} keeps rest) begin order same all rest_is =
     let here = begins starts number at (sums_from (at + place_size p) (map place_size ps)) begin in
@@ -236,9 +236,9 @@ module _ (b : PackingBuilder) (l : Laid) (plan : Plan) (is : IsBuiltForPlan b l 
     pub saved-within : saved ≤ laid_size l
     saved-within = omega (arith, sizes-add)
 
-    pub fields-apart : AreApart fs 0 0 (laid_size l) (laid_size l - saved)
+    pub fields-apart : AreFieldsApart fs 0 0 (laid_size l) (laid_size l - saved)
     fields-apart =
-        subst (λ gs. AreApart gs 0 0 (laid_size l) (laid_size l - saved)) (sym all-fields)
+        subst (λ gs. AreFieldsApart gs 0 0 (laid_size l) (laid_size l - saved)) (sym all-fields)
         (apart-from l.starts (list_places plan) b.candidates.items 0 (fields_at (length plan.singles) (length plan.identifiers)) 0 0 0 (laid_size l) (laid_size l - saved)
         own-candidates own-starts (omega arith) (omega arith) (sym own-size) (let saves = done.saves in omega (arith, saved-within, saves)))
 

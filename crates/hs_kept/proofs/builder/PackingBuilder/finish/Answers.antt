@@ -2,7 +2,7 @@ use Rattle.std.proofs.Common.{◌≡◌, ℕ, ◌+◌, ◌-◌, ◌∷◌, [], �
 use Rattle.std.specs.Vec.Iter.{into_iter_items}
 use Rattle.hs_kept.specs.declared.builder.Candidate.{Candidate}
 use Rattle.hs_kept.specs.declared.packing.StateField.{StateField}
-use Rattle.hs_kept.specs.StateFields.{AreApart}
+use Rattle.hs_kept.specs.StateFields.{AreFieldsApart}
 use Rattle.hs_kept.proofs.LayingLemmas.{IsLaying, fields-apart, header-within, laying-all, laying-more, laying-none, next-of, packing-for, saved-within}
 use Rattle.hs_kept.proofs.builder.PackingBuilder.finish.Goals as goal
 
@@ -65,7 +65,7 @@ pub new-requires-clause-apart : goal.new-requires-clause-apart
 new-requires-clause-apart c =
     let done = laying-all c.args.layout.now.starts c.args.self.candidates.items (into_iter_items c.loop-candidate.candidate-iterator) c.loop-candidate.fields.items c.loop-candidate.saved
         (sym c.loop-candidate.invariant.0 ∙ c.in-None.ensures.steps.0) c.loop-candidate.invariant.1 in
-    subst (λ n. AreApart c.loop-candidate.fields.items 0 0 n (n - c.loop-candidate.saved)) (sym c.size-size.ensures.all)
+    subst (λ n. AreFieldsApart c.loop-candidate.fields.items 0 0 n (n - c.loop-candidate.saved)) (sym c.size-size.ensures.all)
     (fields-apart c.args.self c.args.layout.now c.requires.0 c.requires.1 c.loop-candidate.fields.items c.loop-candidate.saved done)
 
 pub new-requires-clause-header : goal.new-requires-clause-header
