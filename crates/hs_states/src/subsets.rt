@@ -1,15 +1,24 @@
 //! The subset construction: the states of an automaton in the order in which they are discovered.
 
 ghost use Rattle.std.specs.Prelude.{◌≡◌, ◌+◌, ◌*◌, ◌<◌, ◌≤◌, true, false, IfOk, IfSome, length, vec_len, slice_index};
+ghost use Rattle.std.specs.Prelude.{Some, slice_get};
 
 use crate::byte_classes::ByteClasses;
-use crate::footing::{Footing, kept_prev, number_among};
+use crate::footing::{Footing, WIDTH, kept_prev, number_among};
+use crate::leads::Leads;
 use hs_base::Prev;
 use hs_engine::Automaton;
 use std::alloc::{AllocError, Global};
 
 /// How many states there may be, so that a byte holds the number of one.
 pub(crate) const MAX_STATES: usize = 255;
+
+/// How many numbers of states are kept to be tried first: about two for each state that there may be.
+const HINT_COUNT: usize = 512;
+/// How far the highest bits of a word lie that number these.
+const HINT_SHIFT: u32 = 55;
+/// An odd number that spreads the bits of a word to its highest ones.
+const SPREAD: u64 = 0x9e37_79b9_7f4a_7c15;
 
 /// The states so far, and where bytes lead from them.
 #[derive(Debug, Drop)]
@@ -18,10 +27,13 @@ pub struct Subsets {
     pub known: Vec<Footing>,
     /// For each state that was taken a row of the numbers of states, one for each class of bytes.
     pub rows: Vec<u8>,
+    /// For the places of bits the number of a state that may have them: a guess, which is tried before it is used.
+    hints: [u8; HINT_COUNT],
 }
 
 impl Subsets {
     ghost use Rattle.hs_states.specs.AutomatonStates.{AreBuilt, AreClassesTo, HasTooManyStates};
+    ghost use Rattle.hs_states.specs.Leading.{AreLeads};
     ghost use Rattle.hs_states.specs.Subsets.{AllBuilt, BuildsOn, IsEntered};
 
     /// The states of an automaton; None exactly where there are more than 255.
@@ -58,6 +70,7 @@ impl Subsets {
         Ok(Subsets {
             known,
             rows: Vec::new(alloc),
+            hints: [0; HINT_COUNT],
         })
     }
 
@@ -77,8 +90,9 @@ impl Subsets {
         ensures built { IfOk result (λ fits.
             BuildsOn automaton.now classes.now self.new.known.items self.new.rows.items (state + 1) 0 fits) }
     {
+        let leads = Leads::of(automaton, self.known[state]);
         for class in 0..classes.footings.len() {
-            if !self.take_class(automaton, classes, state, class)? {
+            if !self.take_class(automaton, classes, &leads, state, class)? {
                 return Ok(false);
             }
         }
@@ -91,20 +105,23 @@ impl Subsets {
         &mut self,
         automaton: &Automaton,
         classes: &ByteClasses,
+        leads: &Leads,
         state: usize,
         class: usize,
     ) -> Result<bool, AllocError>
         requires classes { AreClassesTo automaton.now classes.now.classes classes.now.firsts.items
             classes.now.footings.items 256 }
-        requires state { state < vec_len self.old.known }
+        requires state { slice_get self.old.known.items state ≡ Some leads.now.from }
+        requires leads { AreLeads automaton.now leads.now }
         requires class { class < vec_len classes.now.footings }
         requires built { AreBuilt automaton.now (slice_index classes.now.classes) (vec_len classes.now.footings)
             self.old.known.items self.old.rows.items state class }
+        ensures kept { IfOk result (λ _. slice_get self.new.known.items state ≡ Some leads.now.from) }
         ensures few { IfOk result (λ _. vec_len self.old.known ≤ vec_len self.new.known) }
         ensures built { IfOk result (λ fits.
             BuildsOn automaton.now classes.now self.new.known.items self.new.rows.items state (class + 1) fits) }
     {
-        let moved = self.known[state].moved(automaton, &classes.footings[class]);
+        let moved = leads.moved(automaton, &classes.footings[class]);
         let Some(number) = self.enter(moved)? else {
             return Ok(false);
         };
@@ -112,8 +129,38 @@ impl Subsets {
         Ok(true)
     }
 
-    /// The number of a state, which is put behind the others if it is new; None where there are too many.
+    /// The number of a state, which is put behind the others if it is new; None where there are too many. What was
+    /// found before for such bits is tried first.
     fn enter(&mut self, one: Footing) -> Result<Option<usize>, AllocError>
+        ensures rows { IfOk result (λ _. self.new.rows ≡ self.old.rows) }
+        ensures entered { IfOk result (λ number. IsEntered self.old.known.items self.new.known.items one number) }
+    {
+        let place = hint_place(&one);
+        let hint = self.hints[place] as usize;
+        if hint < self.known.len() && self.known[hint].is_alike(&one) {
+            return Ok(Some(hint));
+        }
+        let number = self.look_up(one)?;
+        self.keep_hint(place, number);
+        Ok(number)
+    }
+
+    /// Keeps the number that was found for bits that have this place.
+    fn keep_hint(&mut self, place: usize, number: Option<usize>)
+        requires { place < 512 }
+        ensures known { self.new.known ≡ self.old.known }
+        ensures rows { self.new.rows ≡ self.old.rows }
+    {
+        if let Some(found) = number {
+            if found < MAX_STATES {
+                self.hints[place] = found as u8;
+            }
+        }
+    }
+
+    /// The number of a state, which is looked for among all, and put behind them if it is new; None where there are too
+    /// many.
+    fn look_up(&mut self, one: Footing) -> Result<Option<usize>, AllocError>
         ensures rows { IfOk result (λ _. self.new.rows ≡ self.old.rows) }
         ensures entered { IfOk result (λ number. IsEntered self.old.known.items self.new.known.items one number) }
     {
@@ -126,4 +173,15 @@ impl Subsets {
         self.known.push(one)?;
         Ok(Some(self.known.len() - 1))
     }
+}
+
+/// The place by the bits of a state at which the number of one is kept that had such bits.
+fn hint_place(one: &Footing) -> usize
+    ensures { result < 512 }
+{
+    let mut mixed = one.prev.number() as u64;
+    for place in 0..WIDTH {
+        mixed = mixed.rotate_left(11) ^ one.positions[place];
+    }
+    (mixed.wrapping_mul(SPREAD) >> HINT_SHIFT) as usize
 }
