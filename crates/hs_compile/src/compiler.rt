@@ -56,8 +56,8 @@ pub fn compile(alloc: Global, entries: &[Entry]) -> Result<Database, CompileFaul
     Ok(database)
 }
 
-/// What is built of a program and of a packing for the list. Of each entry the tree and the chains are given back before
-/// the next one.
+/// What is built of a program and of a packing for the list. Of each entry the tree and the chains are given back
+/// before the next one.
 fn add_entries(
     alloc: Global,
     entries: &[Entry],
