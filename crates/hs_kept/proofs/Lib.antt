@@ -1,3 +1,6 @@
+mod ToldLemmas
+mod CandidateLemmas
+mod LayingLemmas
 pub mod CopyLemmas
 pub mod FaultLemmas
 pub mod PartLemmas

@@ -4,3 +4,4 @@ pub mod StateFields
 pub mod Packing
 pub mod Parts
 pub mod PackingLaws
+pub mod Builders
