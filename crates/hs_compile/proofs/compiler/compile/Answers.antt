@@ -31,8 +31,7 @@ lay_out-requires c =
 pub finish-requires-2 : goal.finish-requires-2
 finish-requires-2 c =
     let is = c.in_ok-builder.ensures.built in
-    let program : IsProgramOf c.in_ok-program.program (map asked_of c.args.entries.now) is.chains = c.in_ok-program.ensures is.chains is.split.runnable is.built in
-    (
+    let program : IsProgramOf c.in_ok-program.program (map asked_of c.args.entries.now) is.chains = c.in_ok-program.ensures is.chains is.split.runnable is.built in (
       plan_of c.in_ok-program.program is.patterns,
       built-for c.in_ok-program.program c.in_ok-builder.packing_builder c.in_ok-layout.layout is.patterns is.chains
           (program-for c.args.entries.now is.patterns is.chains is.split c.in_ok-program.program program) c.in_ok-layout.ensures is.split.chains_are is.packed,
