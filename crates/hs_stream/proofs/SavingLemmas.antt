@@ -72,7 +72,7 @@ expanded-on db plan u told is told_is saved expanded end end' bytes pieces piece
     (subst (IsBehind plan u) (same-region db bytes saved expanded own expanded_is) behind) same written written'
 
 file_of : List ℕ → List ℕ → State
-file_of digest region = record { version = 1; digest = digest; region = region }
+file_of digest region = record { version = 2; digest = digest; region = region }
 
 pub one-file : HistoriesHaveOneFile
 unfolding file_of
