@@ -15,24 +15,24 @@ use Rattle.hs_engine.specs.Automata.{accepts}
 use Rattle.hs_engine.specs.Between.{between}
 use Rattle.hs_engine.specs.Engines.{AreWakers, IsQuiet}
 use Rattle.hs_engine.specs.Tables.{Runs}
-use Rattle.hs_dfa.specs.AutomatonStates.{AreBuilt, state_of, tests_by}
-use Rattle.hs_dfa.specs.DfaBuilding.{done_number}
+use Rattle.hs_states.specs.AutomatonStates.{AreBuilt, state_of, tests_by}
+use Rattle.hs_states.specs.DfaBuilding.{done_number}
 use Rattle.hs_dfa.specs.DfaClauses.{IsEmptyAt}
 use Rattle.hs_base.specs.AssertionTests.{has_assertion}
 use Rattle.hs_dfa.specs.DfaEngines.{IsDfaOf, IsNumberOf, TellsEnd, meaning_of_dfa, next_number}
-use Rattle.hs_dfa.specs.DfaHistories.{IsStateOf}
-use Rattle.hs_dfa.proofs.BlindLemmas.{IsBlind, written-blind}
-use Rattle.hs_dfa.specs.DfaStates.{AreStatesOf, DfaState, first_state, is_live, move_by, tests_of}
-use Rattle.hs_dfa.specs.Discovery.{IsMove}
+use Rattle.hs_states.specs.DfaHistories.{IsStateOf}
+use Rattle.hs_states.proofs.BlindLemmas.{IsBlind, written-blind}
+use Rattle.hs_states.specs.DfaStates.{AreStatesOf, DfaState, first_state, is_live, move_by, tests_of}
+use Rattle.hs_states.specs.Discovery.{IsMove}
 use Rattle.hs_dfa.specs.StateEnds.{AreEndsOf}
 use Rattle.hs_dfa.specs.declared.dfa.Dfa.{Dfa}
-use Rattle.hs_dfa.specs.declared.footing.Footing.{Footing}
+use Rattle.hs_states.specs.declared.footing.Footing.{Footing}
 use Rattle.hs_dfa.specs.declared.state_ends.StateEnd.{StateEnd}
-use Rattle.hs_dfa.proofs.BuildLemmas.{built-all, map-length}
-use Rattle.hs_dfa.proofs.DiscoveryLemmas.{move-as, one-order}
-use Rattle.hs_dfa.proofs.FootingLemmas.{IsStateAt, state-at}
-use Rattle.hs_dfa.proofs.StateLemmas.{accepting-is-leaving, any-same, empty-leaves-nothing, first-empty, live-where, one-state, state-start, state-step}
-use Rattle.hs_dfa.proofs.TransferLemmas.{accepting-same, move-same, states-of}
+use Rattle.hs_states.proofs.BuildLemmas.{built-all, map-length}
+use Rattle.hs_states.proofs.DiscoveryLemmas.{move-as, one-order}
+use Rattle.hs_states.proofs.FootingLemmas.{IsStateAt, state-at}
+use Rattle.hs_states.proofs.StateLemmas.{accepting-is-leaving, any-same, empty-leaves-nothing, first-empty, live-where, one-state, state-start, state-step}
+use Rattle.hs_states.proofs.TransferLemmas.{accepting-same, move-same, states-of}
 
 -- the tables that are built
 

@@ -4,9 +4,9 @@ use Rattle.hs_bits.proofs.WordLemmas.{or-turned}
 use Rattle.hs_engine.specs.declared.automaton.Automaton.{Automaton}
 use Rattle.hs_engine.specs.AnyBelow.{any_below}
 use Rattle.hs_dfa.specs.StateEnds.{AreEndsOf, IsEndOf}
-use Rattle.hs_dfa.specs.declared.footing.Footing.{Footing}
+use Rattle.hs_states.specs.declared.footing.Footing.{Footing}
 use Rattle.hs_dfa.specs.declared.state_ends.StateEnd.{StateEnd}
-use Rattle.hs_dfa.proofs.SoFarLemmas.{IsEntry, entry-of, new_entry, old_entry}
+use Rattle.hs_states.proofs.SoFarLemmas.{IsEntry, entry-of, new_entry, old_entry}
 use Rattle.std.proofs.lemmas.Option.{same_Some}
 
 pub any-next : (n : ℕ) (test : ℕ → Bool) → any_below (n + 1) test ≡ (test n || any_below n test)

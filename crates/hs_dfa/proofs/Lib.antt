@@ -1,12 +1,3 @@
-pub mod DiscoveryLemmas
-pub mod SoFarLemmas
-pub mod BlindLemmas
-pub mod StateLemmas
-pub mod HistoryLemmas
-pub mod FootingLemmas
-pub mod BuildLemmas
 pub mod EndLemmas
-pub mod ClassLemmas
-pub mod TransferLemmas
 pub mod DfaLemmas
 pub mod BlockRunLemmas

@@ -1,16 +1,10 @@
--- What is promised of an engine that is built, and of none.
-use Rattle.std.specs.Prelude.{◌≡◌, ◌↔◌, ℕ, ◌≤◌, Bool, true, List, length, Some, slice_get, slice_index}
+-- What is promised of an engine that is built.
+use Rattle.std.specs.Prelude.{◌≡◌, ◌↔◌, ℕ, Bool, true, List, Some, slice_get, slice_index}
 use Rattle.hs_base.specs.Trees.{Tree}
 use Rattle.hs_base.specs.WrittenOut.{write_out}
-use Rattle.hs_base.specs.AssertionTests.{has_assertion}
+use Rattle.hs_states.specs.DfaStates.{AreStatesOf, DfaState, IsEmptyState, tests_of}
 use Rattle.hs_dfa.specs.DfaEngines.{IsDfaOf}
-use Rattle.hs_dfa.specs.DfaStates.{AreStatesOf, DfaState, IsEmptyState, tests_of}
 use Rattle.hs_dfa.specs.declared.dfa.Dfa.{Dfa}
-
--- an expression has more than 255 states: no list of less is that of its states
-abbrev pub HasMoreStates : Tree → Type 0
-HasMoreStates tree =
-    (states : List DfaState) → AreStatesOf (write_out tree) (has_assertion tree) states → length states ≤ 255 → ⊥
 
 -- it is told whether the state of the region is without a live position
 abbrev pub IsEmptyAt : Dfa → (region : List ℕ) → Bool → Type 0

@@ -10,10 +10,10 @@ use Rattle.hs_base.specs.Trees.{Tree}
 use Rattle.hs_base.specs.WrittenOut.{Core, IsPlain, write_out}
 use Rattle.hs_engine.specs.Engines.{Meaning}
 use Rattle.hs_base.specs.AssertionTests.{has_assertion}
-use Rattle.hs_dfa.specs.DfaBuilding.{table_number}
-use Rattle.hs_dfa.specs.Discovery.{IsMove}
-use Rattle.hs_dfa.specs.DfaHistories.{IsStateOf}
-use Rattle.hs_dfa.specs.DfaStates.{AreStatesOf, DfaState, IsEmptyState, is_accepting, move_by, tests_of}
+use Rattle.hs_states.specs.DfaBuilding.{table_number}
+use Rattle.hs_states.specs.Discovery.{IsMove}
+use Rattle.hs_states.specs.DfaHistories.{IsStateOf}
+use Rattle.hs_states.specs.DfaStates.{AreStatesOf, DfaState, IsEmptyState, is_accepting, move_by, tests_of}
 use Rattle.hs_dfa.specs.declared.dfa.Dfa.{Dfa}
 use Rattle.hs_dfa.specs.declared.state_ends.StateEnd.{StateEnd}
 

@@ -1,12 +1,3 @@
-pub mod Discovery
-pub mod DfaStates
-pub mod DfaHistories
-pub mod DfaLaws
-pub mod NextBehind
-pub mod Footings
-pub mod DfaBuilding
-pub mod AutomatonStates
-pub mod Subsets
 pub mod StateEnds
 pub mod DfaEngines
 pub mod DfaClauses

@@ -7,7 +7,7 @@ use Rattle.hs_engine.specs.declared.automaton.Automaton.{Automaton}
 use Rattle.hs_engine.specs.AnyBelow.{any_below}
 use Rattle.hs_engine.specs.Automata as automata
 use Rattle.hs_engine.specs.Between.{between}
-use Rattle.hs_dfa.specs.declared.footing.Footing.{Footing}
+use Rattle.hs_states.specs.declared.footing.Footing.{Footing}
 use Rattle.hs_dfa.specs.declared.state_ends.StateEnd.{StateEnd}
 
 -- in which contexts a live position accepts, and whether there is one

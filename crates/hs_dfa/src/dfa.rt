@@ -6,13 +6,12 @@ ghost use Rattle.hs_base.specs.ByteSets.{has};
 ghost use Rattle.hs_base.specs.Contexts.{class_of};
 ghost use Rattle.hs_base.specs.ContextSets.{has_next};
 
-use crate::byte_classes::{ByteClasses, CLASSED_BYTES};
 use crate::state_ends::{StateEnd, ends_of};
-use crate::subsets::Subsets;
 use hs_base::{ByteSet, Next, NextSet, Prev};
 use hs_bits::with_place;
 use hs_block::{BlockEnds, BlockEngine, run_by_steps};
 use hs_engine::{Automaton, Engine, Steps};
+use hs_states::{ByteClasses, CLASSED_BYTES, Subsets};
 use std::alloc::{AllocError, Global};
 use std::sync::ledger::Ledger;
 
@@ -46,10 +45,11 @@ impl Dfa {
     ghost use Rattle.hs_base.specs.Trees.{Tree};
     ghost use Rattle.hs_engine.specs.Tables.{Runs};
     ghost use Rattle.hs_base.specs.AssertionTests.{has_assertion};
-    ghost use Rattle.hs_dfa.specs.AutomatonStates.{AreClassesTo};
-    ghost use Rattle.hs_dfa.specs.DfaClauses.{HasMoreStates, IsEmptyAt};
+    ghost use Rattle.hs_states.specs.AutomatonStates.{AreClassesTo};
+    ghost use Rattle.hs_states.specs.StateCounts.{HasMoreStates};
+    ghost use Rattle.hs_dfa.specs.DfaClauses.{IsEmptyAt};
     ghost use Rattle.hs_dfa.specs.DfaEngines.{IsNumberIn, meaning_of_dfa, next_number};
-    ghost use Rattle.hs_dfa.specs.Subsets.{AllBuilt};
+    ghost use Rattle.hs_states.specs.Subsets.{AllBuilt};
 
     /// The engine of an automaton; None exactly where it has more than 255 states.
     pub fn build(alloc: Global, automaton: &Automaton) -> Result<Option<Dfa>, AllocError>

@@ -9,10 +9,10 @@ ghost use Rattle.hs_engine.specs.Automata.{in_mask};
 ghost use Rattle.hs_engine.specs.Between.{between};
 ghost use Rattle.hs_dfa.specs.StateEnds.{AreEndsOf, IsEndOf};
 
-use crate::footing::{Footing, WIDTH};
 use hs_base::{Mask, NextSet, Prev};
 use hs_bits::contains_word_bit;
 use hs_engine::Automaton;
+use hs_states::{Footing, WIDTH};
 use std::alloc::{AllocError, Global};
 
 /// What a state says of the end of a match.

@@ -1,6 +1,6 @@
 use Rattle.std.proofs.Common.{◌≡◌, false, true, sym, ◌∙◌, arith}
 use Rattle.hs_base.specs.Bits.{has_word_bit}
-use Rattle.hs_dfa.proofs.StateLemmas.{some-any, true-false}
+use Rattle.hs_states.proofs.StateLemmas.{some-any, true-false}
 use Rattle.hs_engine.specs.AnyBelow.{any_below}
 use Rattle.hs_dfa.proofs.state_ends.is_empty.Goals as goal
 

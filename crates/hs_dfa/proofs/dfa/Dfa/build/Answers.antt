@@ -1,7 +1,7 @@
-use Rattle.hs_dfa.proofs.TransferLemmas.{states-by}
+use Rattle.hs_states.proofs.TransferLemmas.{states-by}
 use Rattle.std.proofs.Common.{subst, sym}
 use Rattle.hs_base.specs.WrittenOut.{write_out}
-use Rattle.hs_dfa.specs.DfaStates.{AreStatesOf}
+use Rattle.hs_states.specs.DfaStates.{AreStatesOf}
 use Rattle.hs_dfa.proofs.dfa.Dfa.build.Goals as goal
 
 pub returns-in_default-clause-none : goal.returns-in_default-clause-none

@@ -1,8 +1,8 @@
 use Rattle.std.proofs.Common.{◌*◌, ◌≡◌, ◌<◌, length, slice_index, List, subst, sym, ap, arith, vec_len}
-use Rattle.hs_dfa.specs.AutomatonStates.{AreBuilt}
+use Rattle.hs_states.specs.AutomatonStates.{AreBuilt}
 use Rattle.hs_dfa.specs.StateEnds.{AreEndsOf}
-use Rattle.hs_dfa.specs.declared.footing.Footing.{Footing}
-use Rattle.hs_dfa.proofs.BuildLemmas.{class-few}
+use Rattle.hs_states.specs.declared.footing.Footing.{Footing}
+use Rattle.hs_states.proofs.BuildLemmas.{class-few}
 use Rattle.hs_dfa.proofs.DfaLemmas.{class-in_rows, known-some, dfa-is}
 use Rattle.hs_dfa.proofs.dfa.Dfa.of_tables.Goals as goal
 

@@ -1,5 +1,0 @@
-use Rattle.hs_dfa.specs.AutomatonStates.{AreClassesTo}
-use Rattle.hs_dfa.proofs.byte_classes.ByteClasses.build.Given as goal
-
-abbrev pub invariant-loop-byte : goal.invariant-loop-byte
-invariant-loop-byte l = AreClassesTo l.automaton l.built.classes l.built.firsts.items l.built.footings.items l.byte

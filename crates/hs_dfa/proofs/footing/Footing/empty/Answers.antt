@@ -1,5 +1,0 @@
-use Rattle.hs_dfa.proofs.FootingLemmas.{blank-bits}
-use Rattle.hs_dfa.proofs.footing.Footing.empty.Goals as goal
-
-pub returns-clause-none : goal.returns-clause-none
-returns-clause-none c k = blank-bits k

@@ -1,0 +1,9 @@
+pub mod DiscoveryLemmas
+pub mod SoFarLemmas
+pub mod BlindLemmas
+pub mod StateLemmas
+pub mod HistoryLemmas
+pub mod FootingLemmas
+pub mod BuildLemmas
+pub mod ClassLemmas
+pub mod TransferLemmas

@@ -1,0 +1,10 @@
+pub mod Discovery
+pub mod DfaStates
+pub mod DfaHistories
+pub mod DfaLaws
+pub mod NextBehind
+pub mod Footings
+pub mod DfaBuilding
+pub mod AutomatonStates
+pub mod Subsets
+pub mod StateCounts
