@@ -1,5 +1,4 @@
-pub mod ZeroLemmas
 pub mod CheckingLemmas
-pub mod FaultLemmas
 pub mod ExactLemmas
-pub mod PlanFaultLemmas
+pub mod PlacedLemmas
+pub mod ZeroLemmas

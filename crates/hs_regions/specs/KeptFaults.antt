@@ -32,9 +32,15 @@ module _ (plan : Plan) (kept : List ℕ) where
     header : IsHeaderFault (length plan.singles) (length plan.identifiers) kept at → IsKeptFault at
     part : IsHeader (length plan.singles) (length plan.identifiers) kept → IsPartFault at → IsKeptFault at
 
--- so it is by each plan that the graph runs
-abbrev pub IsFirstFault : {E : Type 0} → (E → Meaning) → Graph E → Laid → Packing → (kept : List ℕ) (at : ℕ) → Type 0
-IsFirstFault meaning graph l packing kept at =
-    (literals : List (List LiteralByte)) (plan : Plan) →
-    RunsPacked meaning graph l packing literals plan →
-    IsKeptFault plan kept at
+module _ {E : Type 0} (meaning : E → Meaning) (graph : Graph E) (l : Laid) (packing : Packing) (kept : List ℕ) where
+  -- so it is by each plan that the graph runs
+  abbrev pub IsFirstFault : (at : ℕ) → Type 0
+  IsFirstFault at =
+      (literals : List (List LiteralByte)) (plan : Plan) → RunsPacked meaning graph l packing literals plan →
+      IsKeptFault plan kept at
+
+  -- and so it is of what is kept of the pieces
+  abbrev pub IsFirstPartFault : (at : ℕ) → Type 0
+  IsFirstPartFault at =
+      (literals : List (List LiteralByte)) (plan : Plan) → RunsPacked meaning graph l packing literals plan →
+      IsPartFault plan kept at
