@@ -13,6 +13,8 @@ use Rattle.hs_base.specs.Patterns.{Pattern}
 use Rattle.hs_base.specs.Refusals.{number_of}
 use Rattle.hs_base.specs.Regions.{Plan}
 use Rattle.hs_base.specs.Trees.{Tree}
+use Rattle.hs_kept.specs.declared.builder.PackingBuilder.{PackingBuilder}
+use Rattle.hs_kept.specs.Builders.{IsPackedTo}
 use Rattle.hs_pieces.specs.declared.piece.Chain.{Chain}
 use Rattle.hs_rose.specs.declared.builder.Builder.{Builder}
 use Rattle.hs_rose.specs.Building.{IsBuilt}
@@ -55,12 +57,13 @@ pub record AreSplit (entries : List ListedEntry) (P : List Pattern) (chains : Li
   pub few : length entries ≤ greatest_count
   pub small : IsSmall P
 
--- So it is with some patterns, and their program is built.
-pub record IsListBuilt (entries : List Entry) (builder : Builder) : Type 0 where
+-- So it is with some patterns, and their program and packing are built.
+pub record IsListBuilt (entries : List Entry) (builder : Builder) (packing : PackingBuilder) : Type 0 where
   pub patterns : List Pattern
   pub chains : List (List (List Piece))
   pub split : AreSplit (map listed entries) patterns chains
   pub built : IsBuilt builder (listed_chains (map asked_of entries) chains) []
+  pub packed : IsPackedTo packing chains
 
 -- The entry behind these, which are those patterns, is accepted, and that is the number of its bytes.
 pub record IsCompiledEntry (before : List ListedEntry) (P : List Pattern) (entry : ListedEntry)

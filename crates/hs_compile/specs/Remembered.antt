@@ -8,6 +8,8 @@ use Rattle.hs_base.specs.declared.ext.Entry.{Entry}
 use Rattle.hs_base.specs.Entries.{ListedEntry, listed}
 use Rattle.hs_base.specs.Lists.{OneOf, Each}
 use Rattle.hs_base.specs.Patterns.{Pattern}
+use Rattle.hs_kept.specs.declared.builder.PackingBuilder.{PackingBuilder}
+use Rattle.hs_kept.specs.Builders.{IsPackedTo}
 use Rattle.hs_rose.specs.declared.builder.Builder.{Builder}
 use Rattle.hs_rose.specs.Building.{IsBuilt}
 use Rattle.hs_rose.specs.Listing.{asked_of, listed_chains}
@@ -50,8 +52,10 @@ pub record AreSoFar (entries : List ListedEntry) (chains : List (List (List Piec
   pub read : AllZip IsReadAs entries patterns
   pub counts_are : AreCounts patterns counts
 
--- That is known of the entries so far, and their program is built.
-pub record AreAdded (entries : List Entry) (seen : Seen) (counts : Counts) (builder : Builder) : Type 0 where
+-- That is known of the entries so far, and their program and packing are built.
+pub record AreAdded (entries : List Entry) (seen : Seen) (counts : Counts) (builder : Builder)
+    (packing : PackingBuilder) : Type 0 where
   pub chains : List (List (List Piece))
   pub far : AreSoFar (map listed entries) chains seen counts
   pub built : IsBuilt builder (listed_chains (map asked_of entries) chains) []
+  pub packed : IsPackedTo packing chains

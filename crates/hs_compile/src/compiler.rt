@@ -11,9 +11,11 @@ use crate::counts::Counts;
 use crate::database::Database;
 use crate::entry::compile_entry;
 use crate::fault::CompileFault;
+use crate::laying::lay_out;
 use crate::seen::Seen;
 use hs_base::Entry;
 use hs_dbfile::digest;
+use hs_kept::PackingBuilder;
 use hs_rose::Builder;
 use std::alloc::Global;
 
@@ -46,26 +48,34 @@ pub fn compile(alloc: Global, entries: &[Entry]) -> Result<Database, CompileFaul
     ensures digest { IfOk result (λ database. digest_of database ≡ sha256 (list_bytes (map listed entries.now))) }
     ensures refused { IfErr result (IsCauseOf (map listed entries.now)) }
 {
-    let builder = add_entries(alloc, entries)?;
+    let (builder, packing) = add_entries(alloc, entries)?;
     let program = builder.finish(alloc, entries)?;
-    let database = Database::of_program(alloc, program, digest(entries))?;
+    let layout = lay_out(alloc, &program)?;
+    let packing = packing.finish(alloc, &layout)?;
+    let database = Database::of_program(alloc, program, layout, packing, digest(entries))?;
     Ok(database)
 }
 
-/// What is built of a program for the list. Of each entry the tree and the chains are given back before the next one.
-fn add_entries(alloc: Global, entries: &[Entry]) -> Result<Builder, CompileFault>
-    ensures built { IfOk result (IsListBuilt entries.now) }
+/// What is built of a program and of a packing for the list. Of each entry the tree and the chains are given back before
+/// the next one.
+fn add_entries(
+    alloc: Global,
+    entries: &[Entry],
+) -> Result<(Builder, PackingBuilder), CompileFault>
+    ensures built { IfOk result (λ (builder, packing). IsListBuilt entries.now builder packing) }
     ensures refused { IfErr result (IsCauseOf (map listed entries.now)) }
 {
     let mut seen = Seen::new(alloc);
     let mut counts = Counts::none();
     let mut builder = Builder::new(alloc);
+    let mut packing = PackingBuilder::new(alloc);
     for i in 0..entries.len() {
         let entry = &entries[i];
         let (own, next) = compile_entry(alloc, i as u32 + 1, &seen, counts, entry)?;
         seen.add(entry)?;
         builder.add_entry(alloc, i as u32 + 1, entry, &own)?;
+        packing.add_chains(alloc, &own)?;
         counts = next;
     }
-    Ok(builder)
+    Ok((builder, packing))
 }

@@ -1,12 +1,11 @@
 //! What a list is compiled to.
 
 ghost use Rattle.std.specs.Prelude.{◌≡◌, ◌+◌, ◌^◌, ◌≤◌, IfOk};
-ghost use Rattle.hs_layout.specs.Layouts.{laid_size};
-ghost use Rattle.hs_compile.specs.GraphTables.{program_layout};
-ghost use Rattle.hs_compile.specs.Sizes.{greatest_size};
+ghost use Rattle.hs_kept.specs.Packing.{packed_size};
+ghost use Rattle.hs_compile.specs.GraphTables.{IsLaidFor};
 
 use crate::building::build_graph;
-use crate::laying::lay_out;
+use hs_kept::Packing;
 use hs_layout::Layout;
 use hs_literals::Literals;
 use hs_nodes::Graph;
@@ -14,19 +13,22 @@ use hs_rose::{PieceEngine, Program};
 use std::alloc::{AllocError, Global};
 use std::marker::Model;
 
-/// The length in bytes of what a file of a stream's state has beside the region.
+/// The length in bytes of what a file of a stream's state has beside what the stream keeps.
 pub const STATE_FILE_HEAD: usize = 42;
 
 /// What scans the expressions of a list. Nothing changes it, so one serves any number of streams.
 ///
 /// It keeps tables of 4 to 256 KB for its literals, and an engine for each other piece, equal ones once: some 4 KB for
-/// each 64 positions where there are more or a context matters, and else much less. With the lists of
-/// `docs/MEASURED.md` that have more than 1,000 entries a process that scans takes 2 to 12 KB an entry.
+/// each 64 positions where there are more or a context matters, and else much less. For each expression that a chain
+/// begins with and that has at most 255 states it keeps the sets of its states: 9 bytes a state where it has at most 64
+/// positions. With the lists of `docs/MEASURED.md` that have more than 1,000 entries a process that scans takes 2 to 12
+/// KB an entry.
 #[derive(Drop)]
 pub struct Database {
     graph: Graph<PieceEngine>,
     literals: Literals,
     layout: Layout,
+    packing: Packing,
     digest: [u8; 32],
 }
 
@@ -35,49 +37,55 @@ impl Model for Database {
 
     ghost Value = { Compiled };
 
-    ghost view = { λ d. compiled d.graph d.literals d.layout d.digest };
+    ghost view = { λ d. compiled d.graph d.literals d.layout d.packing d.digest };
 
-    ghost invariant = { λ d. IsWholeDatabase (compiled d.graph d.literals d.layout d.digest) };
+    ghost invariant = { λ d. IsWholeDatabase (compiled d.graph d.literals d.layout d.packing d.digest) };
 }
 
 impl Database {
     ghost use Rattle.hs_compile.specs.Databases.{IsWholeDatabase, compiled, digest_of, graph_of, layout_of};
-    ghost use Rattle.hs_compile.specs.Databases.{literals_in};
-    ghost use Rattle.hs_compile.specs.GraphLaws.{IsDatabaseOfPlans, IsOfPatterns};
+    ghost use Rattle.hs_compile.specs.Databases.{literals_in, packing_of};
+    ghost use Rattle.hs_compile.specs.GraphLaws.{IsDatabaseOfPlans, IsPackedProgram};
 
-    /// The database of a graph with these literals, of the layout of its regions, and of the digest of its list.
+    /// The database of a graph with these literals, of the layout and the packing of its regions, and of the digest of
+    /// its list.
     fn new(
         graph: Graph<PieceEngine>,
         literals: Literals,
         layout: Layout,
+        packing: Packing,
         digest: [u8; 32],
     ) -> Database
-        requires { IsWholeDatabase (compiled graph literals layout digest) }
-        ensures { result ≡ compiled graph literals layout digest }
+        requires { IsWholeDatabase (compiled graph literals layout packing digest) }
+        ensures { result ≡ compiled graph literals layout packing digest }
     {
         Database {
             graph,
             literals,
             layout,
+            packing,
             digest,
         }
     }
 
-    /// The database of a program, and of the digest of its list. The only error is want of memory.
+    /// The database of a program, of the layout and the packing of its regions, and of the digest of its list. The only
+    /// error is want of memory.
     pub(crate) fn of_program(
         alloc: Global,
         program: Program,
+        layout: Layout,
+        packing: Packing,
         digest: [u8; 32],
     ) -> Result<Database, AllocError>
-        requires patterns { IsOfPatterns program }
-        requires small { laid_size (program_layout program) ≤ greatest_size }
+        requires packed { IsPackedProgram program packing }
+        requires laid { IsLaidFor program layout }
         ensures plans { IfOk result (λ database. IsDatabaseOfPlans program database) }
+        ensures packing { IfOk result (λ database. packing_of database ≡ packing) }
         ensures digest { IfOk result (λ database. digest_of database ≡ digest) }
     {
-        let layout = lay_out(alloc, &program)?;
         let (graph, named) = build_graph(alloc, program, &layout)?;
         let literals = Literals::build(alloc, &named)?;
-        Ok(Database::new(graph, literals, layout, digest))
+        Ok(Database::new(graph, literals, layout, packing, digest))
     }
 
     /// The graph of nodes that a scan runs.
@@ -104,6 +112,14 @@ impl Database {
         &self.layout
     }
 
+    /// How a stream keeps its region: between its writes it has what the packing makes of that.
+    pub fn packing(&self) -> &Packing
+        ensures packing { result.now ≡ packing_of self.now }
+        ensures whole { IsWholeDatabase self.now }
+    {
+        &self.packing
+    }
+
     /// The SHA-256 digest of the encoding of its list, by which states of streams are told apart that belong to other
     /// lists.
     ///
@@ -122,7 +138,8 @@ impl Database {
         &self.digest
     }
 
-    /// The length in bytes of the region of a stream: each stream keeps so many, however long it is.
+    /// The length in bytes of what a stream keeps, however long it is: its region, in which one byte, the number of a
+    /// state, stands for the positions of each expression that a chain begins with and that has at most 255 states.
     ///
     /// # Cost
     ///
@@ -134,13 +151,14 @@ impl Database {
     /// println!(rt; "each stream keeps {} bytes", database.region_size())?;
     /// ```
     pub fn region_size(&self) -> usize
-        ensures size { result ≡ laid_size (layout_of self.now) }
+        ensures size { result ≡ packed_size (packing_of self.now) }
         ensures small { result ≤ 2 ^ 24 }
     {
-        self.layout.size()
+        self.packing.size()
     }
 
-    /// The length in bytes of the file of a stream's state, which is what a saved stream is.
+    /// The length in bytes of the file of a stream's state, which is what a saved stream is: what the stream keeps, and
+    /// what the file has beside it.
     ///
     /// # Cost
     ///
@@ -152,7 +170,7 @@ impl Database {
     /// println!(rt; "a saved stream has {} bytes", database.stream_size())?;
     /// ```
     pub fn stream_size(&self) -> usize
-        ensures { result ≡ laid_size (layout_of self.now) + 42 }
+        ensures { result ≡ packed_size (packing_of self.now) + 42 }
     {
         self.region_size() + STATE_FILE_HEAD
     }

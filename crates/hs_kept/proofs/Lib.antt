@@ -1,0 +1,13 @@
+mod ToldLemmas
+mod CandidateLemmas
+mod LayingLemmas
+pub mod PartLemmas
+pub mod HeaderLemmas
+pub mod StatePartLemmas
+pub mod PlacedLemmas
+pub mod KeptLemmas
+pub mod StepLemmas
+pub mod PackingLemmas
+pub mod FieldLemmas
+pub mod WritingLemmas
+pub mod PackLemmas

@@ -7,6 +7,10 @@ use Rattle.hs_kept.specs.KeptRegions.{AreKeptForms, IsKeptRegion, IsKeptSize, Is
 abbrev pub KeptFormsOnce : Type 0
 KeptFormsOnce = (plan : Plan) (xs ys : List KeptForm) → AreKeptForms plan xs → AreKeptForms plan ys → xs ≡ ys
 
+-- A plan's regions are kept in one number of bytes.
+abbrev pub KeptSizesOnce : Type 0
+KeptSizesOnce = (plan : Plan) (m n : ℕ) → IsKeptSize plan m → IsKeptSize plan n → m ≡ n
+
 -- What is kept takes no more bytes than a region.
 abbrev pub KeptIsNoLarger : Type 0
 KeptIsNoLarger = (plan : Plan) (size : ℕ) → IsKeptSize plan size → size ≤ plan_size plan

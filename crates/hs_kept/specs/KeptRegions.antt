@@ -1,6 +1,6 @@
 -- The region that a stream keeps between its writes, and that is saved: that of all pieces, in which one byte, the
 -- number of a state, stands for the positions of each first piece that has few states.
-use Rattle.std.specs.Prelude.{◌≡◌, ℕ, suc, ◌<◌, ◌≤◌, List, [], ◌∷◌, length, map, Bool, false, Some, slice_get, slice_range}
+use Rattle.std.specs.Prelude.{◌≡◌, ℕ, suc, ◌<◌, ◌≤◌, List, [], ◌∷◌, length, map, false, Some, slice_get, slice_range}
 use Rattle.std.specs.List.{AllZip}
 use Rattle.hs_base.specs.AssertionTests.{has_assertion}
 use Rattle.hs_base.specs.Chains.{Piece, nfa}

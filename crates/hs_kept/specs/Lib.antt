@@ -1,4 +1,6 @@
 pub mod KeptRegions
 pub mod KeptLaws
+pub mod StateFields
 pub mod Packing
 pub mod PackingLaws
+pub mod Builders

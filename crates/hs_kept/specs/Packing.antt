@@ -14,14 +14,11 @@ use Rattle.hs_states.specs.DfaStates.{kept_prev}
 use Rattle.hs_states.specs.StateSets.{AreSetsOf, prev_of, set_bytes, set_width, state_count}
 use Rattle.hs_states.specs.declared.state_sets.StateSets.{StateSets}
 use Rattle.hs_kept.specs.KeptRegions.{AreKeptForms, KeptForm, field, kept_size, state}
+pub use Rattle.hs_kept.specs.StateFields.{end_of}
 use Rattle.hs_kept.specs.declared.packing.Packing.{Packing}
 use Rattle.hs_kept.specs.declared.packing.StateField.{StateField}
 
 -- ---- which fields
-
--- where the set ends in a region
-abbrev pub end_of : StateField → ℕ
-end_of f = f.at + set_width f.sets
 
 -- Those are the fields of the pieces that are kept by state, in order, where the first piece has its field from byte
 -- `at` of a region, and what is kept of it stands from byte `place`.

@@ -3,7 +3,7 @@ use Rattle.std.specs.Prelude.{◌≡◌, ◌↔◌, ℕ, ◌<◌, List, length, 
 use Rattle.hs_base.specs.Lists.{Each}
 use Rattle.hs_base.specs.Regions.{Plan, IsRegion, IsWellFormed, fields_at}
 use Rattle.hs_kept.specs.KeptRegions.{IsKeptRegion, IsKeptSize, IsWellKept}
-use Rattle.hs_kept.specs.Packing.{AreNumbers, IsPackedOf, IsPackingFor, packed_size, unpacked, unpacked_size}
+use Rattle.hs_kept.specs.Packing.{AreNumbers, IsPackedOf, IsPackingFor, packed_size, unpacked}
 use Rattle.hs_kept.specs.declared.packing.Packing.{Packing}
 
 -- Its sizes are those of the plan.
@@ -24,7 +24,8 @@ RegionsPack =
     Each (λ b. b < 256) u → Each (λ b. b < 256) kept → IsRegion plan u region → IsPackedOf packing region kept →
     IsKeptRegion plan u kept
 
--- Bytes are well kept just where each number is that of a state and the region is well formed to which they are unpacked.
+-- Bytes are well kept just where each number is that of a state, and the region to which they are unpacked is well
+-- formed.
 pub record UnpacksWell (packing : Packing) (plan : Plan) (kept : List ℕ) : Type 0 where
   pub len : length kept ≡ packed_size packing
   pub numbers : AreNumbers packing kept

@@ -1,6 +1,11 @@
 //! What streams keep of their regions.
 #![tactic(auto)]
 
+mod builder;
+mod field_bytes;
+pub mod laws;
 mod packing;
+pub mod packing_laws;
 
+pub use builder::PackingBuilder;
 pub use packing::{Packing, StateField};

@@ -7,3 +7,4 @@ pub mod FootingLemmas
 pub mod BuildLemmas
 pub mod ClassLemmas
 pub mod TransferLemmas
+pub mod SetLemmas

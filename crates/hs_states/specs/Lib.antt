@@ -8,3 +8,5 @@ pub mod DfaBuilding
 pub mod AutomatonStates
 pub mod Subsets
 pub mod StateCounts
+pub mod PackedSets
+pub mod StateSets

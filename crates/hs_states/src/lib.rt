@@ -4,8 +4,10 @@
 mod byte_classes;
 mod footing;
 pub mod laws;
+mod state_sets;
 mod subsets;
 
 pub use byte_classes::{ByteClasses, CLASSED_BYTES};
 pub use footing::{Footing, WIDTH, kept_prev};
+pub use state_sets::StateSets;
 pub use subsets::Subsets;
