@@ -1,4 +1,7 @@
+pub mod ZeroLemmas
 pub mod CheckingLemmas
 pub mod ExactLemmas
-pub mod PlacedLemmas
-pub mod ZeroLemmas
+pub mod FaultLemmas
+pub mod PlanFaultLemmas
+pub mod PieceLemmas
+pub mod KeptFaultLemmas

@@ -1,6 +1,7 @@
 -- The pieces of a plan in a region and in what is kept of it, by their numbers.
 use Rattle.std.proofs.Common.{◌≡◌, ◌⊎◌, ℕ, zero, suc, ◌+◌, ◌-◌, ◌/◌, ◌<◌, ◌≤◌, Bool, true, false, nat_le, List, [], ◌∷◌, length, map, Some, slice_get, if◌then◌else◌, refl, sym, ap, subst, ◌∙◌, inl, inr, arith}
 use Rattle.std.specs.List.{AllZip}
+use Rattle.std.proofs.lemmas.Bool.{le-leb, lt-leb}
 use Rattle.std.proofs.lemmas.Option.{slice_get_within, same_Some}
 use Rattle.hs_base.specs.KeptPieces.{Form, form_size}
 use Rattle.hs_base.specs.Lists.{Each}
@@ -47,25 +48,11 @@ all-behind packing.none = tt
 all-behind (packing.by_field {p = p} {fs = fs} size rest) = each-map fs (λ f low. omega (arith, low)) (all-behind rest)
 all-behind (packing.by_state {fs = fs} tree one other sets rest) = (omega (arith, one), each-map fs (λ f low. omega (arith, low)) (all-behind rest))
 
-choose-true : (b : Bool) (m n : ℕ) → b ≡ true → (if b then m else n) ≡ m
-choose-true true m n is = refl
-choose-true false m n is = absurd (cc)
-
-choose-false : (b : Bool) (m n : ℕ) → b ≡ false → (if b then m else n) ≡ n
-choose-false true m n is = absurd (cc)
-choose-false false m n is = refl
-
-le-true : (m n : ℕ) → m ≤ n → nat_le m n ≡ true
-le-true m n low = omega (arith, low)
-
-le-false : (m n : ℕ) → n < m → nat_le m n ≡ false
-le-false m n low = omega (arith, low)
-
 -- where a field begins that stands before all of those
 pub place-first : (fs : List StateField) (at place : ℕ) → IsAhead fs at place → place_from fs at place at ≡ place
 place-first [] at place is = omega arith
 place-first (f ∷ fs) at place (d, one, other) =
-    choose-true (nat_le at f.at) _ _ (le-true at f.at (omega (arith, one))) ∙ (let e : place + (at - at) ≡ place = omega arith in e)
+    rw (le-leb at f.at (omega (arith, one))) (let e : place + (at - at) ≡ place = omega arith in e)
 
 -- behind a field of bytes that are kept as they are
 pub place-shift : (fs : List StateField) (at place n x : ℕ) → at + n ≤ x → place_from fs (at + n) (place + n) x ≡ place_from fs at place x
@@ -81,6 +68,9 @@ module _ (q : Place) (ps : List Place) (forms : List KeptForm) (f : StateField) 
   some : 0 < set_width f.sets
   some = let c : 0 < count (write_out tree) = (kept-state q tree kept).some in omega (arith, sets.width, c)
 
+  behind : (x : ℕ) → f.at < x → place_from (f ∷ fs) at place x ≡ place_from fs (end_of f) (suc f.place) x
+  behind x above = rw (lt-leb x f.at above) refl
+
   own-first : IsOwn (f ∷ fs) q tree at place
   own-first = record { number = 0; f = f; there = refl; at_is = one; place_is = other; sets = sets; wide = wide; some = some }
 
@@ -95,7 +85,7 @@ module _ (q : Place) (ps : List Place) (forms : List KeptForm) (f : StateField) 
         size = is.size;
         above = omega (arith, is.above);
         from =
-            choose-false (nat_le low f.at) _ _ (le-false low f.at (omega (arith, is.above, one, wide, some)))
+            behind low (omega (arith, is.above, one, wide, some))
             ∙ (ap (λ m. place_from fs m (suc f.place) low) e ∙ (ap (λ m. place_from fs (at + place_size q) (suc m) low) other ∙ is.from));
         apart = (inl (omega (arith, e, is.above)), is.apart);
       }
