@@ -8,6 +8,8 @@ pub mod PlacedLemmas
 pub mod KeptLemmas
 pub mod StepLemmas
 pub mod PackingLemmas
+pub mod CopyLemmas
 pub mod FieldLemmas
+pub mod PartOfLemmas
+pub mod PlaceLemmas
 pub mod WritingLemmas
-pub mod PackLemmas

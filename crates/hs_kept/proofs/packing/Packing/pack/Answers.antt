@@ -5,7 +5,7 @@ use Rattle.hs_kept.specs.declared.packing.StateField.{StateField}
 use Rattle.hs_kept.proofs.WritingLemmas.{end-written}
 use Rattle.hs_kept.specs.StateFields.{IsNext, end_of}
 use Rattle.hs_kept.proofs.FieldLemmas.{apart-step, apart-within, next-item}
-use Rattle.hs_kept.proofs.PackLemmas.{packed-all, packed-step}
+use Rattle.hs_kept.proofs.CopyLemmas.{packed-all, packed-step}
 use Rattle.hs_kept.proofs.packing.Packing.pack.Goals as goal
 
 pub pack_field-requires-clause-next : goal.pack_field-requires-clause-next

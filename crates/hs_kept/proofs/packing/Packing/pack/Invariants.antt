@@ -1,6 +1,6 @@
 use Rattle.std.proofs.Common.{◌≡◌, drop, length}
 use Rattle.hs_kept.specs.StateFields.{AreApart}
-use Rattle.hs_kept.proofs.PackLemmas.{IsPackedUpTo}
+use Rattle.hs_kept.proofs.CopyLemmas.{IsPackedUpTo}
 use Rattle.hs_kept.proofs.packing.Packing.pack.Given as goal
 
 abbrev pub invariant-loop-field : goal.invariant-loop-field
