@@ -172,6 +172,11 @@ module _ (a : Automaton) where
   entered-more known more one number (is_added own same new room) = omega (arith, ap (λ xs. length xs) same, length-append known (one ∷ []))
   entered-more known more one number (is_too_many own same new full) = omega (arith, ap (λ xs. length xs) same)
 
+  pub entered-stays : (known more : List Footing) (one : Footing) (number : Option ℕ) (i : ℕ) (f : Footing) → IsEntered known more one number → slice_get known i ≡ Some f → slice_get more i ≡ Some f
+  entered-stays known more one number i f (is_known k own same like) at = ap (λ xs. slice_get xs i) same ∙ at
+  entered-stays known more one number i f (is_added own same new room) at = ap (λ xs. slice_get xs i) same ∙ still-there known one i f at
+  entered-stays known more one number i f (is_too_many own same new full) at = ap (λ xs. slice_get xs i) same ∙ at
+
   only-one : (one : Footing) → ((k : ℕ) → has_word_bit one.positions k ≡ false) → (k : ℕ) (f : Footing) → slice_get (one ∷ []) k ≡ Some f → (x : ℕ) → has_word_bit f.positions x ≡ false
   only-one one none zero f there x = ap (λ (h : Footing). has_word_bit h.positions x) (sym (same_Some one f there)) ∙ none x
   only-one one none (suc k) f there x = absurd (none-some f there)

@@ -21,7 +21,7 @@ use Rattle.hs_engine.specs.declared.follow_rows.FollowRows.{FollowRows}
 use Rattle.hs_engine.specs.Between.{between}
 use Rattle.hs_states.specs.AutomatonStates.{IsFootingOf, state_of, tests_by}
 use Rattle.hs_states.specs.DfaStates.{DfaState, is_led_to, is_live, kept_prev, move_by}
-use Rattle.hs_states.specs.Footings.{HasPositionsBelow, IsAlike, IsNewTo, is_moved_to}
+use Rattle.hs_states.specs.Footings.{HasPositionsBelow, IsAlike, IsNewTo, is_led_on, is_moved_to}
 use Rattle.hs_states.specs.NextBehind.{next_behind}
 use Rattle.hs_states.specs.declared.footing.Footing.{Footing}
 use Rattle.hs_states.proofs.StateLemmas.{any-same, live-where, not-true, same-where, true-false}
@@ -72,24 +72,19 @@ kept-bits words row now len len' same kept k =
       | inr above ↦ words-past now k (omega arith) ∙ sym (ap (λ t. t && has_word_bit words k) (words-past row k (omega arith)))
     ]
 
--- where a byte leads, by the rows of what follows and the masks
-pub moved-bits : (a : Automaton) (f g : Footing) (k : ℕ) (rows : FollowRows) (masks : List Mask) (next : Next) (led entered now : List ℕ) → rows ≡ a.follows → masks ≡ a.enters.items → next ≡ next_behind g.prev →
+-- where a state leads, by the rows of what follows and the masks
+pub led-bits : (a : Automaton) (f : Footing) (next : Next) (k : ℕ) (rows : FollowRows) (masks : List Mask) (led entered : List ℕ) → rows ≡ a.follows → masks ≡ a.enters.items →
     has_word_bit entered k ≡ in_mask (slice_get masks k) (between f.prev next) →
     has_word_bit led k ≡ (any_below rows.size (λ x. has_word_bit f.positions x && in_row rows x k (between f.prev next)) || has_word_bit entered k) →
-    has_word_bit now k ≡ (has_word_bit g.positions k && has_word_bit led k) → has_word_bit now k ≡ is_moved_to a f g k
-moved-bits a f g k rows masks next led entered now same_rows same_masks same_next begins follow keeps =
+    has_word_bit led k ≡ is_led_on a f next k
+led-bits a f next k rows masks led entered same_rows same_masks begins follow =
     let any : Bool = any_below rows.size (λ x. has_word_bit f.positions x && in_row rows x k (between f.prev next)) in
     let into : has_word_bit entered k ≡ enters a k (between f.prev next) = begins ∙ ap (λ m. in_mask (slice_get m k) (between f.prev next)) same_masks in
     let on : any ≡ any_below (vec_len a.sets) (λ x. has_word_bit f.positions x && follows a x k (between f.prev next)) =
     ap (λ (q : FollowRows). any_below q.size (λ x. has_word_bit f.positions x && in_row q x k (between f.prev next))) same_rows
     ∙ ap (λ n. any_below n (λ x. has_word_bit f.positions x && follows a x k (between f.prev next))) a.follows_whole in
-    keeps
-    ∙ ap (λ t. has_word_bit g.positions k && t)
-    (follow
-    ∙ (or-turned any (has_word_bit entered k)
-    ∙ (ap (λ t. t || any) into
-    ∙ (ap (λ t. enters a k (between f.prev next) || t) on
-    ∙ ap (λ c. enters a k (between f.prev c) || any_below (vec_len a.sets) (λ x. has_word_bit f.positions x && follows a x k (between f.prev c))) same_next))))
+    follow
+    ∙ (or-turned any (has_word_bit entered k) ∙ (ap (λ t. t || any) into ∙ ap (λ t. enters a k (between f.prev next) || t) on))
 
 -- alike footings are the same state
 

@@ -1,6 +1,7 @@
 -- Positions by words of bits, with what stands at the same place.
 use Rattle.std.specs.Prelude.{◌≡◌, ℕ, Bool, true, ◌&&◌, ◌||◌, List, Option, MatchOption, Some, slice_get, vec_len, ◌<◌}
 use Rattle.hs_base.specs.Bits.{has_word_bit}
+use Rattle.hs_base.specs.declared.context.Next.{Next}
 use Rattle.hs_engine.specs.declared.automaton.Automaton.{Automaton}
 use Rattle.hs_engine.specs.AnyBelow.{any_below}
 use Rattle.hs_engine.specs.Automata.{enters, follows}
@@ -13,13 +14,15 @@ pub record IsAlike (one other : Footing) : Type 0 where
   pub positions : (k : ℕ) → has_word_bit one.positions k ≡ has_word_bit other.positions k
   pub prev : one.prev ≡ other.prev
 
+-- the position k is entered behind the state, or follows a live one, where that comes next
+abbrev pub is_led_on : Automaton → (state : Footing) → Next → ℕ → Bool
+is_led_on a state next k =
+    enters a k (between state.prev next)
+    || any_below (vec_len a.sets) (λ x. has_word_bit state.positions x && follows a x k (between state.prev next))
+
 -- a byte that does this leads from the state to the position k
 abbrev pub is_moved_to : Automaton → (state byte : Footing) → ℕ → Bool
-is_moved_to a state byte k =
-    has_word_bit byte.positions k
-    && (enters a k (between state.prev (next_behind byte.prev))
-    || any_below (vec_len a.sets) (λ x.
-    has_word_bit state.positions x && follows a x k (between state.prev (next_behind byte.prev))))
+is_moved_to a state byte k = has_word_bit byte.positions k && is_led_on a state (next_behind byte.prev) k
 
 -- none of them is like that one
 abbrev pub IsNewTo : List Footing → Footing → Type 0

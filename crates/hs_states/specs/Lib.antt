@@ -4,6 +4,7 @@ pub mod DfaHistories
 pub mod DfaLaws
 pub mod NextBehind
 pub mod Footings
+pub mod Leading
 pub mod DfaBuilding
 pub mod AutomatonStates
 pub mod Subsets

@@ -10,11 +10,10 @@ ghost use Rattle.hs_engine.specs.Between.{between};
 ghost use Rattle.hs_engine.specs.Rows.{in_row};
 ghost use Rattle.hs_states.specs.DfaStates.{kept_prev};
 ghost use Rattle.hs_states.specs.Footings.{IsNumberAmong};
-ghost use Rattle.hs_states.specs.NextBehind.{next_behind};
 
 use hs_base::{ByteSet, MAX_POSITIONS, Mask, Next, Prev};
 use hs_bits::{WORD_BITS, contains_word_bit, insert_word_bit, keep_words, unite_bytes};
-use hs_engine::{Automaton, FollowRows};
+use hs_engine::FollowRows;
 
 /// The words that hold a bit for each of the most positions.
 pub const WIDTH: usize = MAX_POSITIONS as usize / WORD_BITS;
@@ -30,7 +29,7 @@ pub struct Footing {
 }
 
 impl Footing {
-    ghost use Rattle.hs_states.specs.Footings.{IsAlike, is_moved_to};
+    ghost use Rattle.hs_states.specs.Footings.{IsAlike};
 
     /// The footing without a position.
     pub fn empty(prev: Prev) -> Footing
@@ -61,28 +60,6 @@ impl Footing {
     {
         self.prev == other.prev && are_alike(&self.positions, &other.positions)
     }
-
-    /// The state to which a byte leads from this one, by what the byte does.
-    pub fn moved(&self, automaton: &Automaton, byte: &Footing) -> Footing
-        ensures positions { (k : ℕ) →
-            has_word_bit result.positions k ≡ is_moved_to automaton.now self.now byte.now k }
-        ensures prev { result.prev ≡ kept_prev automaton.now.has_assertion byte.now.prev }
-    {
-        let next = next_behind(byte.prev);
-        let mut led = entered(automaton.enters(), self.prev, next);
-        add_followers(
-            automaton.follows(),
-            &self.positions,
-            self.prev,
-            next,
-            &mut led,
-        );
-        keep(&mut led, &byte.positions);
-        Footing {
-            positions: led,
-            prev: kept_prev(automaton.has_assertion(), byte.prev),
-        }
-    }
 }
 
 /// Whether the same bits are set.
@@ -110,7 +87,7 @@ fn takers(sets: &[ByteSet], byte: u8) -> [u64; WIDTH]
 }
 
 /// The positions whose mask has the context.
-fn entered(masks: &[Mask], prev: Prev, next: Next) -> [u64; WIDTH]
+pub(crate) fn entered(masks: &[Mask], prev: Prev, next: Next) -> [u64; WIDTH]
     requires { length masks.now ≤ 512 }
     ensures { (k : ℕ) → has_word_bit result k ≡ in_mask (slice_get masks.now k) (between prev next) }
 {
@@ -133,14 +110,14 @@ fn insert_if(words: &mut [u64; WIDTH], position: usize, wanted: bool)
 }
 
 /// Unsets the bits that aren't set in the row.
-fn keep(words: &mut [u64; WIDTH], row: &[u64; WIDTH])
+pub(crate) fn keep(words: &mut [u64; WIDTH], row: &[u64; WIDTH])
     ensures { (k : ℕ) → has_word_bit words.new k ≡ (has_word_bit row.now k && has_word_bit words.old k) }
 {
     keep_words(words, row);
 }
 
 /// Sets the bits of the positions that follow those that are live.
-fn add_followers(
+pub(crate) fn add_followers(
     rows: &FollowRows,
     live: &[u64; WIDTH],
     prev: Prev,
@@ -183,17 +160,6 @@ pub fn kept_prev(has_assertion: bool, prev: Prev) -> Prev
     ensures { result ≡ kept_prev has_assertion prev }
 {
     if has_assertion { prev } else { Prev::Other }
-}
-
-/// What comes next before a byte, by what stands behind it.
-fn next_behind(prev: Prev) -> Next
-    ensures { result ≡ next_behind prev }
-{
-    match prev {
-        Prev::Word => Next::Word,
-        Prev::Newline => Next::Newline,
-        Prev::Start | Prev::Other => Next::Other,
-    }
 }
 
 /// The number of a footing that is like that one; None exactly where there is none.

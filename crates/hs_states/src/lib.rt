@@ -4,6 +4,7 @@
 mod byte_classes;
 mod footing;
 pub mod laws;
+mod leads;
 mod state_sets;
 mod subsets;
 

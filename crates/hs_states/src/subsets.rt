@@ -1,9 +1,10 @@
 //! The subset construction: the states of an automaton in the order in which they are discovered.
 
-ghost use Rattle.std.specs.Prelude.{◌≡◌, ◌+◌, ◌*◌, ◌<◌, ◌≤◌, true, false, IfOk, IfSome, length, vec_len, slice_index};
+ghost use Rattle.std.specs.Prelude.{◌≡◌, ◌+◌, ◌*◌, ◌<◌, ◌≤◌, true, false, IfOk, IfSome, length, vec_len, slice_index, Some, slice_get};
 
 use crate::byte_classes::ByteClasses;
 use crate::footing::{Footing, kept_prev, number_among};
+use crate::leads::Leads;
 use hs_base::Prev;
 use hs_engine::Automaton;
 use std::alloc::{AllocError, Global};
@@ -22,6 +23,7 @@ pub struct Subsets {
 
 impl Subsets {
     ghost use Rattle.hs_states.specs.AutomatonStates.{AreBuilt, AreClassesTo, HasTooManyStates};
+    ghost use Rattle.hs_states.specs.Leading.{AreLeads};
     ghost use Rattle.hs_states.specs.Subsets.{AllBuilt, BuildsOn, IsEntered};
 
     /// The states of an automaton; None exactly where there are more than 255.
@@ -77,8 +79,9 @@ impl Subsets {
         ensures built { IfOk result (λ fits.
             BuildsOn automaton.now classes.now self.new.known.items self.new.rows.items (state + 1) 0 fits) }
     {
+        let leads = Leads::of(automaton, self.known[state]);
         for class in 0..classes.footings.len() {
-            if !self.take_class(automaton, classes, state, class)? {
+            if !self.take_class(automaton, classes, &leads, state, class)? {
                 return Ok(false);
             }
         }
@@ -91,20 +94,23 @@ impl Subsets {
         &mut self,
         automaton: &Automaton,
         classes: &ByteClasses,
+        leads: &Leads,
         state: usize,
         class: usize,
     ) -> Result<bool, AllocError>
         requires classes { AreClassesTo automaton.now classes.now.classes classes.now.firsts.items
             classes.now.footings.items 256 }
-        requires state { state < vec_len self.old.known }
+        requires state { slice_get self.old.known.items state ≡ Some leads.now.from }
+        requires leads { AreLeads automaton.now leads.now }
         requires class { class < vec_len classes.now.footings }
         requires built { AreBuilt automaton.now (slice_index classes.now.classes) (vec_len classes.now.footings)
             self.old.known.items self.old.rows.items state class }
+        ensures kept { IfOk result (λ _. slice_get self.new.known.items state ≡ Some leads.now.from) }
         ensures few { IfOk result (λ _. vec_len self.old.known ≤ vec_len self.new.known) }
         ensures built { IfOk result (λ fits.
             BuildsOn automaton.now classes.now self.new.known.items self.new.rows.items state (class + 1) fits) }
     {
-        let moved = self.known[state].moved(automaton, &classes.footings[class]);
+        let moved = leads.moved(automaton, &classes.footings[class]);
         let Some(number) = self.enter(moved)? else {
             return Ok(false);
         };

@@ -2,7 +2,7 @@ use Rattle.std.proofs.Common.{ℕ, ◌+◌, ◌∷◌, [], ◌++◌, ◌≡◌, 
 use Rattle.std.specs.declared.alloc.Global.{Global}
 use Rattle.std.proofs.lemmas.Option.{slice_get_read}
 use Rattle.hs_states.specs.AutomatonStates.{AreBuilt}
-use Rattle.hs_states.proofs.BuildLemmas.{entered-builds, entered-few, entered-too_many}
+use Rattle.hs_states.proofs.BuildLemmas.{entered-builds, entered-few, entered-stays, entered-too_many}
 use Rattle.hs_states.proofs.subsets.Subsets.take_class.Goals as goal
 
 pub returns-in_default-clause-built : goal.returns-in_default-clause-built
@@ -14,9 +14,9 @@ returns-in_default-clause-built c =
     record {
       built = λ never. absurd (let e : false ≡ true = never in cc);
       too_many = λ e.
-          entered-too_many a classes.classes classes.firsts.items classes.footings.items (vec_len classes.footings) counted c.requires.classes self.known.items self.rows.items c.args.state c.args.class c.requires.built c.requires.class c.index.result.now c.index-2.result.now c.moved-moved.result
-          (slice_get_read self.known.items (vec_len self.known) c.args.state c.index.result.now self.known.ok.0 c.requires.state c.index.ensures)
-          (slice_get_read classes.footings.items (vec_len classes.footings) c.args.class c.index-2.result.now classes.footings.ok.0 c.requires.class c.index-2.ensures)
+          entered-too_many a classes.classes classes.firsts.items classes.footings.items (vec_len classes.footings) counted c.requires.classes self.known.items self.rows.items c.args.state c.args.class c.requires.built c.requires.class c.args.leads.now.from c.index.result.now c.moved-moved.result
+          c.requires.state
+          (slice_get_read classes.footings.items (vec_len classes.footings) c.args.class c.index.result.now classes.footings.ok.0 c.requires.class c.index.ensures)
           c.moved-moved.ensures.positions c.moved-moved.ensures.prev c.enter.new.self.known.items c.in_ok-number.field-0 c.in_default.not-Some c.in_ok-number.ensures.entered;
     }
 
@@ -36,9 +36,12 @@ returns-clause-built c =
     record {
       built = λ e.
           subst (λ rs. AreBuilt a (slice_index classes.classes) (vec_len classes.footings) c.enter.new.self.known.items rs c.args.state (c.args.class + 1)) (sym rows)
-          (entered-builds a classes.classes classes.firsts.items classes.footings.items (vec_len classes.footings) counted c.requires.classes self.known.items self.rows.items c.args.state c.args.class c.requires.built c.requires.class c.index.result.now c.index-2.result.now c.moved-moved.result
-          (slice_get_read self.known.items (vec_len self.known) c.args.state c.index.result.now self.known.ok.0 c.requires.state c.index.ensures)
-          (slice_get_read classes.footings.items (vec_len classes.footings) c.args.class c.index-2.result.now classes.footings.ok.0 c.requires.class c.index-2.ensures)
+          (entered-builds a classes.classes classes.firsts.items classes.footings.items (vec_len classes.footings) counted c.requires.classes self.known.items self.rows.items c.args.state c.args.class c.requires.built c.requires.class c.args.leads.now.from c.index.result.now c.moved-moved.result
+          c.requires.state
+          (slice_get_read classes.footings.items (vec_len classes.footings) c.args.class c.index.result.now classes.footings.ok.0 c.requires.class c.index.ensures)
           c.moved-moved.ensures.positions c.moved-moved.ensures.prev c.enter.new.self.known.items c.in_ok-number.field-0 c.in-Some.number c.in-Some.is c.in_ok-number.ensures.entered);
       too_many = λ never. absurd (let e : true ≡ false = never in cc);
     }
+
+pub returns-clause-kept : goal.returns-clause-kept
+returns-clause-kept c = entered-stays c.args.automaton.now c.args.self.now.known.items c.enter.new.self.known.items c.moved-moved.result c.in_ok-number.field-0 c.args.state c.args.leads.now.from c.in_ok-number.ensures.entered c.requires.state
