@@ -1,11 +1,11 @@
 -- Fields are packed one behind the other.
-use Rattle.std.proofs.Common.{◌≡◌, ℕ, suc, ◌+◌, ◌-◌, ◌<◌, ◌≤◌, List, [], ◌∷◌, ◌++◌, length, take, drop, get_or, slice_range, refl, sym, ap, subst, ◌∙◌, arith, length-append}
+use Rattle.std.proofs.Common.{◌≡◌, ℕ, suc, ◌+◌, ◌<◌, List, [], ◌∷◌, ◌++◌, length, take, drop, get_or, slice_range, sym, ap, subst, ◌∙◌, arith, length-append}
 use Rattle.std.specs.Prelude.{slice_index}
 use Rattle.std.proofs.lemmas.List.{length-drop, length-take-le}
 use Rattle.std.proofs.Math.Seq.{drop-append-add, take-append_seam}
 use Rattle.hs_base.specs.declared.context.Prev.{Prev}
 use Rattle.hs_base.specs.Lists.{Each}
-use Rattle.hs_kept.specs.StateFields.{AreApart, IsNext, end_of}
+use Rattle.hs_kept.specs.StateFields.{AreFieldsApart, IsNextField, end_of}
 use Rattle.hs_kept.specs.Packing.{AreAlikeBetween, IsNumberFor, IsPackedOf, prev_in}
 use Rattle.hs_kept.specs.declared.packing.Packing.{Packing}
 use Rattle.hs_kept.specs.declared.packing.StateField.{StateField}
@@ -26,7 +26,7 @@ packed-none fields region prev kept = record { same = λ whole front alike. alik
 
 -- one field more
 pub packed-more : (fields : List StateField) (f : StateField) (fs : List StateField) (at place r s : ℕ) (region : List ℕ) (prev : Prev) (old new : List ℕ) →
-    IsNext f at place r s → IsPackedUpTo fields (f ∷ fs) at place region prev old → take place new ≡ take place old →
+    IsNextField f at place r s → IsPackedUpTo fields (f ∷ fs) at place region prev old → take place new ≡ take place old →
     slice_range region at f.at ≡ slice_range new place f.place → IsNumbered region prev new f →
     IsPackedUpTo fields fs (end_of f) (suc f.place) region prev new
 packed-more fields f fs at place r s region prev old new next so_far stays gap number = record {
@@ -45,7 +45,7 @@ packed-more fields f fs at place r s region prev old new next so_far stays gap n
 
 -- the same for the item of a loop over the fields
 pub packed-step : (fs gs : List StateField) (i : ℕ) (f : StateField) → gs ≡ fs → i < length gs → f ≡ get_or gs i f → (at place r s at' : ℕ) (region : List ℕ) (prev : Prev) (old new : List ℕ) →
-    at' ≡ end_of f → IsNext f at place r s → IsPackedUpTo fs (drop i fs) at place region prev old → take place new ≡ take place old →
+    at' ≡ end_of f → IsNextField f at place r s → IsPackedUpTo fs (drop i fs) at place region prev old → take place new ≡ take place old →
     slice_range region at f.at ≡ slice_range new place f.place → IsNumbered region prev new f →
     IsPackedUpTo fs (drop (i + 1) fs) at' (f.place + 1) region prev new
 packed-step fs gs i f same below is at place r s at' region prev old new end next so_far stays gap number =
@@ -58,11 +58,11 @@ packed-step fs gs i f same below is at place r s at' region prev old new end nex
 
 -- and what stands behind the last one
 pub packed-all : (packing : Packing) (left : List StateField) (at place : ℕ) (region : List ℕ) (prev : Prev) (old whole : List ℕ) →
-    left ≡ [] → length region ≡ packing.region_size → length old ≡ packing.size → AreApart left at place packing.region_size packing.size →
+    left ≡ [] → length region ≡ packing.region_size → length old ≡ packing.size → AreFieldsApart left at place packing.region_size packing.size →
     prev ≡ prev_in region → IsPackedUpTo packing.fields.items left at place region prev old → whole ≡ take place old ++ drop at region →
     IsPackedOf packing region whole
 packed-all packing left at place region prev old whole none sized sized' apart stands so_far is =
-    let end : AreApart [] at place packing.region_size packing.size = subst (λ l. AreApart l at place packing.region_size packing.size) none apart in
+    let end : AreFieldsApart [] at place packing.region_size packing.size = subst (λ l. AreFieldsApart l at place packing.region_size packing.size) none apart in
     let size : length (take place old) ≡ place = length-take-le place old (omega (arith, end.0, sized')) in
     let e : place ≡ length (take place old) + 0 = omega (arith, size) in
     let behind : drop place whole ≡ drop at region =

@@ -1,22 +1,22 @@
 -- Fields that lie apart.
-use Rattle.std.proofs.Common.{◌≡◌, ℕ, zero, suc, ◌+◌, ◌<◌, ◌≤◌, List, [], ◌∷◌, ◌++◌, length, drop, get_or, Some, slice_get, refl, sym, ap, subst, ◌∙◌, inl, inr, arith}
+use Rattle.std.proofs.Common.{◌≡◌, ℕ, zero, suc, ◌+◌, ◌<◌, ◌≤◌, List, [], ◌∷◌, ◌++◌, length, drop, get_or, Some, slice_get, sym, ap, subst, ◌∙◌, inl, inr, arith}
 use Rattle.std.proofs.Math.Seq.{drop-cons}
 use Rattle.std.proofs.lemmas.Option.{same_Some, slice_get-get_or, slice_get_within}
 use Rattle.std.proofs.lemmas.Bool.{cases_lt}
 use Rattle.hs_states.specs.StateSets.{set_width}
-use Rattle.hs_kept.specs.StateFields.{AreApart, IsNext, end_of}
+use Rattle.hs_kept.specs.StateFields.{AreFieldsApart, IsNextField, end_of}
 use Rattle.hs_kept.specs.declared.packing.Packing.{Packing}
 use Rattle.hs_kept.specs.declared.packing.StateField.{StateField}
 
 -- where the first field begins is within both
-pub apart-within : (fs : List StateField) (at place r s : ℕ) → AreApart fs at place r s → (place ≤ s) × (at ≤ r)
+pub apart-within : (fs : List StateField) (at place r s : ℕ) → AreFieldsApart fs at place r s → (place ≤ s) × (at ≤ r)
 apart-within [] at place r s apart = (apart.0, omega (arith, apart.0, apart.1))
 apart-within (f ∷ fs) at place r s apart =
     let rest : (suc f.place ≤ s) × (end_of f ≤ r) = apart-within fs (end_of f) (suc f.place) r s apart.1.1.1 in
     (omega (arith, rest.0, apart.0, apart.1.0), omega (arith, rest.1, apart.0))
 
 -- the first field is the next one
-pub apart-next : (f : StateField) (fs : List StateField) (at place r s : ℕ) → AreApart (f ∷ fs) at place r s → IsNext f at place r s
+pub apart-next : (f : StateField) (fs : List StateField) (at place r s : ℕ) → AreFieldsApart (f ∷ fs) at place r s → IsNextField f at place r s
 apart-next f fs at place r s apart =
     let rest : (suc f.place ≤ s) × (end_of f ≤ r) = apart-within fs (end_of f) (suc f.place) r s apart.1.1.1 in
     record {
@@ -34,17 +34,17 @@ drop-item fs k f below is =
     ∙ (ap (λ g. g ∷ drop (suc k) fs) (sym is) ∙ ap (λ n. f ∷ drop n fs) (let e : suc k ≡ k + 1 = omega arith in e))
 
 -- no field
-pub apart-none : (at place n : ℕ) → AreApart [] at place (at + n) (place + n)
+pub apart-none : (at place n : ℕ) → AreFieldsApart [] at place (at + n) (place + n)
 apart-none at place n = (omega arith, omega arith)
 
 -- more bytes behind the last field
-pub apart-gap : (fs : List StateField) (at place r s n : ℕ) → AreApart fs at place r s → AreApart fs at place (r + n) (s + n)
+pub apart-gap : (fs : List StateField) (at place r s n : ℕ) → AreFieldsApart fs at place r s → AreFieldsApart fs at place (r + n) (s + n)
 apart-gap [] at place r s n apart = (omega (arith, apart.0), omega (arith, apart.1))
 apart-gap (f ∷ fs) at place r s n apart = (apart.0, (apart.1.0, (apart.1.1.0, apart-gap fs (end_of f) (suc f.place) r s n apart.1.1.1)))
 
 -- a field more, which begins where the two end
-pub apart-more : (fs : List StateField) (at place r s : ℕ) (f : StateField) → AreApart fs at place r s → f.at ≡ r → f.place ≡ s → 0 < set_width f.sets →
-    AreApart (fs ++ f ∷ []) at place (end_of f) (suc f.place)
+pub apart-more : (fs : List StateField) (at place r s : ℕ) (f : StateField) → AreFieldsApart fs at place r s → f.at ≡ r → f.place ≡ s → 0 < set_width f.sets →
+    AreFieldsApart (fs ++ f ∷ []) at place (end_of f) (suc f.place)
 apart-more [] at place r s f apart begin begin' some =
     (omega (arith, apart.0, apart.1, begin), (omega (arith, apart.1, begin, begin'), (omega (arith, some), (omega arith, omega arith))))
 apart-more (g ∷ fs) at place r s f apart begin begin' some =
@@ -55,9 +55,9 @@ module _ (fs gs : List StateField) (i : ℕ) (f : StateField) (same : gs ≡ fs)
   pub left-item : drop i fs ≡ f ∷ drop (i + 1) fs
   left-item = subst (λ (l : List StateField). drop i l ≡ f ∷ drop (i + 1) l) same (drop-item gs i f below is)
 
-  pub next-item : (at place r s r' s' : ℕ) → r' ≡ r → s' ≡ s → AreApart (drop i fs) at place r s → IsNext f at place r' s'
+  pub next-item : (at place r s r' s' : ℕ) → r' ≡ r → s' ≡ s → AreFieldsApart (drop i fs) at place r s → IsNextField f at place r' s'
   next-item at place r s r' s' e e' apart =
-      let next : IsNext f at place r s = apart-next f (drop (i + 1) fs) at place r s (subst (λ l. AreApart l at place r s) left-item apart) in
+      let next : IsNextField f at place r s = apart-next f (drop (i + 1) fs) at place r s (subst (λ l. AreFieldsApart l at place r s) left-item apart) in
       record {
         behind = next.behind;
         place_behind = next.place_behind;
@@ -67,11 +67,11 @@ module _ (fs gs : List StateField) (i : ℕ) (f : StateField) (same : gs ≡ fs)
       }
 
   -- and the others lie apart behind it
-  pub apart-step : (at place r s at' : ℕ) → at' ≡ end_of f → AreApart (drop i fs) at place r s → AreApart (drop (i + 1) fs) at' (f.place + 1) r s
+  pub apart-step : (at place r s at' : ℕ) → at' ≡ end_of f → AreFieldsApart (drop i fs) at place r s → AreFieldsApart (drop (i + 1) fs) at' (f.place + 1) r s
   apart-step at place r s at' end apart =
-      let both : AreApart (f ∷ drop (i + 1) fs) at place r s = subst (λ l. AreApart l at place r s) left-item apart in
+      let both : AreFieldsApart (f ∷ drop (i + 1) fs) at place r s = subst (λ l. AreFieldsApart l at place r s) left-item apart in
       let e : suc f.place ≡ f.place + 1 = omega arith in
-      subst (λ n. AreApart (drop (i + 1) fs) n (f.place + 1) r s) (sym end) (subst (λ n. AreApart (drop (i + 1) fs) (end_of f) n r s) e both.1.1.1)
+      subst (λ n. AreFieldsApart (drop (i + 1) fs) n (f.place + 1) r s) (sym end) (subst (λ n. AreFieldsApart (drop (i + 1) fs) (end_of f) n r s) e both.1.1.1)
 
 -- A field among those that lie apart.
 pub record IsApart (f : StateField) (at place r s : ℕ) : Type 0 where
@@ -80,10 +80,10 @@ pub record IsApart (f : StateField) (at place r s : ℕ) : Type 0 where
   pub within : end_of f ≤ r
   pub place_within : f.place < s
 
-pub apart-get : (fs : List StateField) (at place r s k : ℕ) (f : StateField) → AreApart fs at place r s → slice_get fs k ≡ Some f → IsApart f at place r s
+pub apart-get : (fs : List StateField) (at place r s k : ℕ) (f : StateField) → AreFieldsApart fs at place r s → slice_get fs k ≡ Some f → IsApart f at place r s
 apart-get [] at place r s k f apart there = absurd (let e : k < 0 = slice_get_within [] k f there in omega arith)
 apart-get (g ∷ fs) at place r s zero f apart there =
-    let next : IsNext g at place r s = apart-next g fs at place r s apart in
+    let next : IsNextField g at place r s = apart-next g fs at place r s apart in
     let same : g ≡ f = same_Some g f there in
     subst (λ z. IsApart z at place r s) same
     (record { behind = apart.0; some = apart.1.1.0; within = next.within; place_within = next.place_within })
@@ -97,7 +97,7 @@ apart-get (g ∷ fs) at place r s (suc k) f apart there =
     }
 
 -- fields rise
-pub apart-rise : (fs : List StateField) (at place r s j k : ℕ) (f g : StateField) → AreApart fs at place r s → j < k → slice_get fs j ≡ Some f → slice_get fs k ≡ Some g → end_of f ≤ g.at
+pub apart-rise : (fs : List StateField) (at place r s j k : ℕ) (f g : StateField) → AreFieldsApart fs at place r s → j < k → slice_get fs j ≡ Some f → slice_get fs k ≡ Some g → end_of f ≤ g.at
 apart-rise [] at place r s j k f g apart less there there' = absurd (let e : j < 0 = slice_get_within [] j f there in omega arith)
 apart-rise (h ∷ fs) at place r s j zero f g apart less there there' = absurd (omega arith)
 apart-rise (h ∷ fs) at place r s zero (suc k) f g apart less there there' =
@@ -112,7 +112,7 @@ pub item-there : (fs : List StateField) (k : ℕ) (f : StateField) → k < lengt
 item-there fs k f below is = slice_get-get_or fs k f below ∙ ap (λ g. Some g) (sym is)
 
 -- all fields up to one begin before a byte, if that one does
-pub before-middle : (fs : List StateField) (r s at middle : ℕ) (g : StateField) → AreApart fs 0 0 r s → middle < length fs → g ≡ get_or fs middle g → g.at < at →
+pub before-middle : (fs : List StateField) (r s at middle : ℕ) (g : StateField) → AreFieldsApart fs 0 0 r s → middle < length fs → g ≡ get_or fs middle g → g.at < at →
     (j : ℕ) (f : StateField) → j < middle + 1 → slice_get fs j ≡ Some f → f.at < at
 before-middle fs r s at middle g apart below is less j f early there = elim (cases_lt j middle) [
   | inl before ↦

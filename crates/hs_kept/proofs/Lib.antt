@@ -1,6 +1,8 @@
 mod ToldLemmas
 mod CandidateLemmas
 mod LayingLemmas
+pub mod CopyLemmas
+pub mod FaultLemmas
 pub mod PartLemmas
 pub mod HeaderLemmas
 pub mod StatePartLemmas
@@ -8,7 +10,6 @@ pub mod PlacedLemmas
 pub mod KeptLemmas
 pub mod StepLemmas
 pub mod PackingLemmas
-pub mod CopyLemmas
 pub mod FieldLemmas
 pub mod PartOfLemmas
 pub mod PlaceLemmas

@@ -22,10 +22,10 @@ use Rattle.hs_kept.specs.declared.packing.Packing.{Packing}
 use Rattle.hs_kept.specs.declared.packing.StateField.{StateField}
 use Rattle.hs_kept.proofs.HeaderLemmas.{each-front, header-front, header-of_region, header_of-front, offset-front, prev-in}
 use Rattle.hs_kept.proofs.KeptLemmas.{as-piece, as-positions, kept-well, parts-by, size-by, well-parts_by}
-use Rattle.hs_kept.proofs.PartLemmas.{IsPartOf, ahead, cut-same, form-of_state, kept-field, kept-state, kept-low, kept_end, one-range, part-at, range-as, range-none, width-of_state}
+use Rattle.hs_kept.proofs.PartLemmas.{FieldStep, IsPartOf, StateStep, ahead, cut-same, form-of_state, kept-field, kept-state, kept-low, kept_end, one-range, part-at, range-as, range-none, width-of_state}
 use Rattle.hs_kept.proofs.PlacedLemmas.{header-within, kept-form, kept-high, kept-placed, kept-within, wide-placed}
 use Rattle.hs_kept.proofs.StatePartLemmas.{byte-field, byte-within, field-byte, first-within, set-bytes_are, set-fits, some-byte}
-use Rattle.hs_kept.proofs.StepLemmas.{FieldStep, IsNumberOf, IsSetFor, Packs, StateStep, Unpacks, field-packs, field-unpacks, from-split, state-packs, state-unpacks}
+use Rattle.hs_kept.proofs.StepLemmas.{IsNumberOf, IsSetFor, Packs, Unpacks, field-packs, field-unpacks, from-split, state-packs, state-unpacks}
 
 -- The parts of a region and of what is kept of it.
 
@@ -65,9 +65,9 @@ module _ (p : Packing) (plan : Plan) (is : IsPackingFor p plan) (kept : List ℕ
   unpacked-parts numbers =
       parts-are (unpacked p kept) (Unpacks (unpacked p kept) kept) IsSetFor (field-unpacks (unpacked p kept) kept) (state-unpacks (unpacked p kept) kept) (refl, numbers)
 
-  packed-parts : (region : List ℕ) → IsPackedOf p region kept → AreParts plan is.forms (IsNumberOf region kept (prev_in region)) region kept
+  packed-parts : (region : List ℕ) → IsPackedOf p region kept → AreParts plan is.forms (IsNumberOf (prev_in region)) region kept
   packed-parts region packs =
-      parts-are region (Packs region kept (prev_in region)) (IsNumberOf region kept (prev_in region)) (field-packs region kept (prev_in region)) (state-packs region kept (prev_in region))
+      parts-are region (Packs region kept (prev_in region)) (IsNumberOf (prev_in region)) (field-packs region kept (prev_in region)) (state-packs region kept (prev_in region))
       (packs.same, packs.numbers)
 
 -- The numbers are those of states, where what is kept may be kept.
@@ -182,16 +182,16 @@ unpack-part q (state tree) wide bytes u is part kept =
     as-piece q tree (kept-state q tree is) wide u
     (subst (λ zs. IsKeptAs (positions tree) [] zs u) (sym part.is.1) (byte-field part.field.sets tree part.sets bytes u part.number part.byte kept))
 
-module _ (region kept : List ℕ) (prev : Prev) where
+module _ (prev : Prev) where
   pack-part : (q : Place) (form : KeptForm) (wide bytes u : List ℕ) → EachIndex u (λ k. slice_index u k < 256) → prev ≡ prev_at u (length u) → IsKeptForm q form →
-      IsPartOf (IsNumberOf region kept prev) form wide bytes → IsKeptAs (place_form q) q.pieces wide u → IsKeptPart form q.pieces bytes u
+      IsPartOf (IsNumberOf prev) form wide bytes → IsKeptAs (place_form q) q.pieces wide u → IsKeptPart form q.pieces bytes u
   pack-part q (field form) wide bytes u small before is part kept =
       subst (λ zs. IsKeptAs form q.pieces zs u) part (subst (λ f. IsKeptAs f q.pieces wide u) (sym (kept-field q form is)) kept)
   pack-part q (state tree) wide bytes u small before is part kept =
       let by = kept-state q tree is in
       field-byte part.field.sets tree part.sets u wide small (as-positions q tree by wide u kept) by.states by.few bytes part.number prev part.byte before part.is
 
-  pack-well : (q : Place) (form : KeptForm) (wide bytes : List ℕ) (offset : ℕ) → IsKeptForm q form → IsPartOf (IsNumberOf region kept prev) form wide bytes →
+  pack-well : (q : Place) (form : KeptForm) (wide bytes : List ℕ) (offset : ℕ) → IsKeptForm q form → IsPartOf (IsNumberOf prev) form wide bytes →
       IsFieldAt (place_form q) wide offset → IsKeptPartAt form bytes offset
   pack-well q (field form) wide bytes offset is part at =
       subst (λ zs. IsFieldAt form zs offset) part (subst (λ f. IsFieldAt f wide offset) (sym (kept-field q form is)) at)
@@ -262,7 +262,7 @@ kept-unpacks p plan u kept is keeps = (unpacks-numbers p plan u kept is keeps, u
 
 pub regions-pack : RegionsPack
 regions-pack p plan u region kept is small small_kept are packs =
-    let parts : AreParts plan is.forms (IsNumberOf region kept (prev_in region)) region kept = packed-parts p plan is kept packs.len region packs in
+    let parts : AreParts plan is.forms (IsNumberOf (prev_in region)) region kept = packed-parts p plan is kept packs.len region packs in
     let header : IsHeaderOf plan u region = header-of_region plan u region are in
     record {
       forms = is.forms;
@@ -272,7 +272,7 @@ regions-pack p plan u region kept is small small_kept are packs =
       header = header_of-front (plan_fields_at plan) region kept (sym parts.header) plan u (omega arith) header;
       parts = λ k begin end q form there.
           let (low, high, placed) = wide-placed plan k q there.piece in
-          pack-part region kept (prev_in region) q form (slice_range region low high) (slice_range kept begin end) u (λ i below. each-below u small i) (prev-in plan u region header)
+          pack-part (prev_in region) q form (slice_range region low high) (slice_range kept begin end) u (λ i below. each-below u small i) (prev-in plan u region header)
           (kept-form plan is.forms is.are k begin end q form there) (parts.part k low high begin end q form placed there) (are.fields k low high q placed);
     }
 
@@ -322,7 +322,7 @@ well-kept-unpacks-well p plan kept is small = (well-unpacked p plan kept is smal
 
 pub well-formed-packs-well : WellFormedPacksWell
 well-formed-packs-well p plan region kept is small well packs =
-    let parts : AreParts plan is.forms (IsNumberOf region kept (prev_in region)) region kept = packed-parts p plan is kept packs.len region packs in
+    let parts : AreParts plan is.forms (IsNumberOf (prev_in region)) region kept = packed-parts p plan is kept packs.len region packs in
     let offset : region_offset kept ≡ region_offset region = offset-front (plan_fields_at plan) kept region parts.header (omega arith) in
     record {
       well = record {
@@ -334,7 +334,7 @@ well-formed-packs-well p plan region kept is small well packs =
         parts = λ k begin end q form there.
             let (low, high, placed) = wide-placed plan k q there.piece in
             subst (IsKeptPartAt form (slice_range kept begin end)) (sym offset)
-            (pack-well region kept (prev_in region) q form (slice_range region low high) (slice_range kept begin end) (region_offset region) (kept-form plan is.forms is.are k begin end q form there)
+            (pack-well (prev_in region) q form (slice_range region low high) (slice_range kept begin end) (region_offset region) (kept-form plan is.forms is.are k begin end q form there)
             (parts.part k low high begin end q form placed there) (well.fields k low high q placed));
       };
       header = parts.header;

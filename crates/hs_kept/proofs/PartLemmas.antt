@@ -118,12 +118,21 @@ kept_end place forms = slice_index (sums_from place (map kept_form_size forms)) 
 pub kept-low : (place : ℕ) (forms : List KeptForm) → place ≤ kept_end place forms
 kept-low place forms = sums-low place (map kept_form_size forms)
 
--- What holds of the fields that are left, by steps over fields and over states, holds of each part.
-module _ (region kept : List ℕ) (Holds : List StateField → ℕ → ℕ → Type 0) (Q : StateField → List ℕ → ℕ → Type 0)
-    (field-step : (fs : List StateField) (at place next end : ℕ) (n : ℕ) → next ≡ at + n → end ≡ place + n → IsAhead fs next end → end ≤ length kept → Holds fs at place →
-    (slice_range region at next ≡ slice_range kept place end) × Holds fs next end)
-    (state-step : (f : StateField) (fs : List StateField) (tree : Tree) → AreSetsOf f.sets tree → Holds (f ∷ fs) f.at f.place →
-    Q f (slice_range region f.at (end_of f)) (slice_index kept f.place) × Holds fs (end_of f) (suc f.place))
+-- A step over a field, and one over a set: what holds of the fields that are left holds of those behind it.
+
+abbrev pub FieldStep : (region kept : List ℕ) (Holds : List StateField → ℕ → ℕ → Type 0) → Type 0
+FieldStep region kept Holds =
+    (fs : List StateField) (at place next end : ℕ) (n : ℕ) → next ≡ at + n → end ≡ place + n → IsAhead fs next end → end ≤ length kept → Holds fs at place →
+    (slice_range region at next ≡ slice_range kept place end) × Holds fs next end
+
+abbrev pub StateStep : (region kept : List ℕ) (Holds : List StateField → ℕ → ℕ → Type 0) (Q : StateField → List ℕ → ℕ → Type 0) → Type 0
+StateStep region kept Holds Q =
+    (f : StateField) (fs : List StateField) (tree : Tree) → AreSetsOf f.sets tree → Holds (f ∷ fs) f.at f.place →
+    Q f (slice_range region f.at (end_of f)) (slice_index kept f.place) × Holds fs (end_of f) (suc f.place)
+
+-- By such steps what holds of the fields that are left says of each part what it is.
+module _ (region kept : List ℕ) (Holds : List StateField → ℕ → ℕ → Type 0) (Q : StateField → List ℕ → ℕ → Type 0) (field-step : FieldStep region kept Holds)
+    (state-step : StateStep region kept Holds Q)
   where
     abbrev Part : Place → KeptForm → (low begin : ℕ) → Type 0
     Part p form low begin = IsPartOf Q form (slice_range region low (low + place_size p)) (slice_range kept begin (begin + kept_form_size form))

@@ -1,18 +1,18 @@
 -- Parts of what is unpacked: the set of a field, and what lies between fields.
-use Rattle.std.proofs.Common.{◌≡◌, ℕ, zero, suc, ◌+◌, ◌-◌, ◌<◌, ◌≤◌, ◌⊎◌, List, [], ◌∷◌, ◌++◌, length, take, drop, Some, slice_get, slice_range, refl, sym, ap, subst, ◌∙◌, inl, inr, arith}
+use Rattle.std.proofs.Common.{◌≡◌, ℕ, zero, suc, ◌+◌, ◌-◌, ◌*◌, ◌<◌, ◌≤◌, ◌⊎◌, List, [], ◌∷◌, ◌++◌, length, take, drop, Some, slice_get, slice_range, sym, ap, subst, ◌∙◌, inl, inr, arith}
 use Rattle.std.specs.Prelude.{slice_index}
 use Rattle.std.proofs.lemmas.Bool.{cases_lt}
 use Rattle.std.proofs.lemmas.List.{drop-append-le, drop-drop, drop-take, length-drop, length-take-le, take-append-le, take-take}
 use Rattle.std.proofs.lemmas.Option.{same_Some, slice_get_within}
+use Rattle.std.proofs.Math.Nat.{mul-le-mul_left}
 use Rattle.std.proofs.Math.Seq.{drop-append-add, take-append_seam}
 use Rattle.hs_base.specs.Lists.{Each}
-use Rattle.hs_base.proofs.ListLemmas.{each-member, place-member}
 use Rattle.hs_base.proofs.RegionLemmas.{range-size}
 use Rattle.hs_states.specs.StateSets.{set_bytes, set_width, state_count}
-use Rattle.hs_states.proofs.StateSetLemmas.{set-sized}
+use Rattle.hs_states.specs.declared.state_sets.StateSets.{StateSets}
 use Rattle.hs_kept.specs.Packing.{packed_size, region_from, unpacked, unpacked_size}
 use Rattle.hs_kept.specs.Parts.{AreNumbersBefore, place_from, place_of}
-use Rattle.hs_kept.specs.StateFields.{AreApart, IsNext, end_of}
+use Rattle.hs_kept.specs.StateFields.{AreFieldsApart, IsNextField, end_of}
 use Rattle.hs_kept.specs.declared.packing.Packing.{Packing}
 use Rattle.hs_kept.specs.declared.packing.StateField.{StateField}
 use Rattle.hs_kept.proofs.FieldLemmas.{IsApart, apart-get, apart-next}
@@ -29,18 +29,24 @@ front-part zs ys n i m inner within =
     ∙ ap (λ l. l ++ ys) (ap (λ k. drop i (take k zs)) (sym e) ∙ drop-take i (n - i) zs))
     ∙ (take-append-le m (take (n - i) (drop i zs)) ys (omega (arith, size')) ∙ take-take m (n - i) (drop i zs) (omega arith))
 
+-- how many bytes the set of a state has
+set-sized : (sets : StateSets) (n : ℕ) → n < state_count sets → length (set_bytes sets n) ≡ set_width sets
+set-sized sets n below =
+    let e : sets.width * (n + 1) ≤ sets.width * state_count sets = mul-le-mul_left sets.width (omega arith) in
+    length-take-le sets.width (drop (sets.width * n) sets.sets.items) (omega (arith, e, sets.whole, length-drop (sets.width * n) sets.sets.items, sets.sets.ok))
+
 module _ (kept : List ℕ) (r s : ℕ) (sized : length kept ≡ s) where
   -- each of the fields that begins before that byte has the number of a state
   abbrev HaveNumbers : ℕ → List StateField → Type 0
   HaveNumbers at fs = Each (λ f. f.at < at → slice_index kept f.place < state_count f.sets) fs
 
-  gap-size : (f : StateField) (a p : ℕ) → IsNext f a p r s → length (slice_range kept p f.place) ≡ f.at - a
+  gap-size : (f : StateField) (a p : ℕ) → IsNextField f a p r s → length (slice_range kept p f.place) ≡ f.at - a
   gap-size f a p next =
       let size : length (slice_range kept p f.place) ≡ f.place - p = range-size kept p f.place next.place_behind (omega (arith, next.place_within, sized)) in
       omega (arith, size, next.alike, next.behind, next.place_behind)
 
   -- behind the first field
-  skip : (f : StateField) (fs : List StateField) (a p n : ℕ) → IsNext f a p r s → slice_index kept f.place < state_count f.sets →
+  skip : (f : StateField) (fs : List StateField) (a p n : ℕ) → IsNextField f a p r s → slice_index kept f.place < state_count f.sets →
       drop ((end_of f - a) + n) (region_from (f ∷ fs) p kept) ≡ drop n (region_from fs (suc f.place) kept)
   skip f fs a p n next number =
       let gap : List ℕ = slice_range kept p f.place in
@@ -51,7 +57,7 @@ module _ (kept : List ℕ) (r s : ℕ) (sized : length kept ≡ s) where
       ∙ (drop-append-add gap (set ++ rest) (length set + n) ∙ drop-append-add set rest n)
 
   -- the set of the first field
-  own-first : (f : StateField) (fs : List StateField) (a p : ℕ) → IsNext f a p r s → slice_index kept f.place < state_count f.sets →
+  own-first : (f : StateField) (fs : List StateField) (a p : ℕ) → IsNextField f a p r s → slice_index kept f.place < state_count f.sets →
       take (set_width f.sets) (drop (f.at - a) (region_from (f ∷ fs) p kept)) ≡ set_bytes f.sets (slice_index kept f.place)
   own-first f fs a p next number =
       let gap : List ℕ = slice_range kept p f.place in
@@ -62,17 +68,17 @@ module _ (kept : List ℕ) (r s : ℕ) (sized : length kept ≡ s) where
       ∙ (ap (λ l. take (set_width f.sets) l) (drop-append-add gap (set ++ rest) 0)
       ∙ (ap (λ m. take m (set ++ rest)) (sym (set-sized f.sets (slice_index kept f.place) number)) ∙ take-append_seam set rest))
 
-  own-from : (fs : List StateField) (a p k : ℕ) (f : StateField) → AreApart fs a p r s → slice_get fs k ≡ Some f → HaveNumbers (f.at + 1) fs →
+  own-from : (fs : List StateField) (a p k : ℕ) (f : StateField) → AreFieldsApart fs a p r s → slice_get fs k ≡ Some f → HaveNumbers (f.at + 1) fs →
       take (set_width f.sets) (drop (f.at - a) (region_from fs p kept)) ≡ set_bytes f.sets (slice_index kept f.place)
   own-from [] a p k f apart there numbers = absurd (let e : k < 0 = slice_get_within [] k f there in omega arith)
   own-from (g ∷ fs) a p zero f apart there numbers =
       let same : g ≡ f = same_Some g f there in
-      let next : IsNext g a p r s = apart-next g fs a p r s apart in
+      let next : IsNextField g a p r s = apart-next g fs a p r s apart in
       let less : g.at < f.at + 1 = subst (λ z. g.at < z.at + 1) same (let l : g.at < g.at + 1 = omega arith in l) in
       subst (λ z. take (set_width z.sets) (drop (z.at - a) (region_from (g ∷ fs) p kept)) ≡ set_bytes z.sets (slice_index kept z.place)) same
       (own-first g fs a p next (numbers.0 less))
   own-from (g ∷ fs) a p (suc k) f apart there numbers =
-      let next : IsNext g a p r s = apart-next g fs a p r s apart in
+      let next : IsNextField g a p r s = apart-next g fs a p r s apart in
       let rest : IsApart f (end_of g) (suc g.place) r s = apart-get fs (end_of g) (suc g.place) r s k f apart.1.1.1 there in
       let e : f.at - a ≡ (end_of g - a) + (f.at - end_of g) = omega (arith, next.behind, rest.behind) in
       let less : g.at < f.at + 1 = omega (arith, rest.behind) in
@@ -81,13 +87,13 @@ module _ (kept : List ℕ) (r s : ℕ) (sized : length kept ≡ s) where
       ∙ own-from fs (end_of g) (suc g.place) k f apart.1.1.1 there numbers.1)
 
   -- what lies between fields
-  between-from : (fs : List StateField) (a p start end : ℕ) → AreApart fs a p r s → a ≤ start → start ≤ end → end ≤ r → AreAround start end fs → HaveNumbers (start + 1) fs →
+  between-from : (fs : List StateField) (a p start end : ℕ) → AreFieldsApart fs a p r s → a ≤ start → start ≤ end → end ≤ r → AreAround start end fs → HaveNumbers (start + 1) fs →
       take (end - start) (drop (start - a) (region_from fs p kept)) ≡ take (end - start) (drop (place_from fs a p start) kept)
   between-from [] a p start end apart behind order within around numbers = ap (λ l. take (end - start) l) (drop-drop (start - a) p kept)
   between-from (g ∷ fs) a p start end apart behind order within around numbers =
       by (cases_lt g.at start) around.0 (λ late. between-from fs (end_of g) (suc g.place) start end apart.1.1.1 late order within around.1 numbers.1)
     where
-      next : IsNext g a p r s
+      next : IsNextField g a p r s
       next = apart-next g fs a p r s apart
 
       some : g.at < end_of g

@@ -1,15 +1,15 @@
 -- Where what begins at a byte of a region stands in what is kept.
-use Rattle.std.proofs.Common.{◌≡◌, ℕ, zero, suc, ◌+◌, ◌-◌, ◌<◌, ◌≤◌, ◌⊎◌, true, false, List, [], ◌∷◌, length, Some, get_or, slice_get, refl, sym, ap, subst, ◌∙◌, inl, inr, arith}
+use Rattle.std.proofs.Common.{◌≡◌, ℕ, zero, suc, ◌+◌, ◌-◌, ◌<◌, ◌≤◌, ◌⊎◌, List, [], ◌∷◌, length, Some, get_or, slice_get, refl, sym, ap, subst, ◌∙◌, inl, inr, arith}
 use Rattle.std.proofs.lemmas.Bool.{cases_lt, le-leb, lt-leb}
 use Rattle.std.proofs.lemmas.Option.{same_Some, slice_get-get_or, slice_get_within}
 use Rattle.hs_base.specs.Lists.{Each}
 use Rattle.hs_base.proofs.ListLemmas.{each-member, place-member}
 use Rattle.hs_kept.specs.Packing.{packed_size, unpacked_size}
 use Rattle.hs_kept.specs.Parts.{IsPartIn, between, own, place_from, place_of}
-use Rattle.hs_kept.specs.StateFields.{AreApart, IsFirstFrom, IsNext, end_of}
+use Rattle.hs_kept.specs.StateFields.{AreFieldsApart, IsFirstFrom, IsNextField, end_of}
 use Rattle.hs_kept.specs.declared.packing.Packing.{Packing}
 use Rattle.hs_kept.specs.declared.packing.StateField.{StateField}
-use Rattle.hs_kept.proofs.FieldLemmas.{IsApart, apart-get, apart-next, apart-rise, item-there}
+use Rattle.hs_kept.proofs.FieldLemmas.{apart-get, apart-next, apart-rise, item-there}
 
 -- in front of the first field, and behind it
 pub place-before : (f : StateField) (fs : List StateField) (low place at : ℕ) → at ≤ f.at → place_from (f ∷ fs) low place at ≡ place + (at - low)
@@ -58,12 +58,12 @@ abbrev pub AreAround : (start end : ℕ) → List StateField → Type 0
 AreAround start end fs = Each (λ f. (end_of f ≤ start) ⊎ (end ≤ f.at)) fs
 
 -- it is kept within the bytes
-between-within : (fs : List StateField) (r s a p start end : ℕ) → AreApart fs a p r s → a ≤ start → start ≤ end → end ≤ r → AreAround start end fs → place_from fs a p start + (end - start) ≤ s
+between-within : (fs : List StateField) (r s a p start end : ℕ) → AreFieldsApart fs a p r s → a ≤ start → start ≤ end → end ≤ r → AreAround start end fs → place_from fs a p start + (end - start) ≤ s
 between-within [] r s a p start end apart behind order within around = omega (arith, apart.0, apart.1, behind, order, within)
 between-within (g ∷ fs) r s a p start end apart behind order within around =
     by (cases_lt g.at start) around.0 (λ late. between-within fs r s (end_of g) (suc g.place) start end apart.1.1.1 late order within around.1)
   where
-    next : IsNext g a p r s
+    next : IsNextField g a p r s
     next = apart-next g fs a p r s apart
 
     some : g.at < end_of g

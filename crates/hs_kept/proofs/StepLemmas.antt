@@ -13,18 +13,6 @@ use Rattle.hs_kept.specs.declared.packing.StateField.{StateField}
 use Rattle.hs_kept.proofs.PartLemmas.{IsAhead, cut-rest, cut-same, range-as, range-join, range-none, take-take}
 use Rattle.hs_kept.proofs.StatePartLemmas.{set-bytes_are}
 
--- A step over a field, and one over a set: what holds of the fields that are left holds of those behind it.
-
-abbrev pub FieldStep : (region kept : List ℕ) (Holds : List StateField → ℕ → ℕ → Type 0) → Type 0
-FieldStep region kept Holds =
-    (fs : List StateField) (at place next end : ℕ) (n : ℕ) → next ≡ at + n → end ≡ place + n → IsAhead fs next end → end ≤ length kept → Holds fs at place →
-    (slice_range region at next ≡ slice_range kept place end) × Holds fs next end
-
-abbrev pub StateStep : (region kept : List ℕ) (Holds : List StateField → ℕ → ℕ → Type 0) (Q : StateField → List ℕ → ℕ → Type 0) → Type 0
-StateStep region kept Holds Q =
-    (f : StateField) (fs : List StateField) (tree : Tree) → AreSetsOf f.sets tree → Holds (f ∷ fs) f.at f.place →
-    Q f (slice_range region f.at (end_of f)) (slice_index kept f.place) × Holds fs (end_of f) (suc f.place)
-
 -- What is unpacked, by fields that are left.
 
 pub from-split : (fs : List StateField) (kept : List ℕ) (at place end : ℕ) → IsAhead fs at end → place ≤ end → region_from fs place kept ≡ slice_range kept place end ++ region_from fs end kept
@@ -32,6 +20,10 @@ from-split [] kept at place end before order = drop_split kept place end order
 from-split (f ∷ fs) kept at place end (d, one, other) order =
     let rest : List ℕ = set_bytes f.sets (slice_index kept f.place) ++ region_from fs (suc f.place) kept in
     ap (λ zs. zs ++ rest) (range-join kept place end f.place order (omega arith)) ∙ append_assoc (slice_range kept place end) (slice_range kept end f.place) rest
+
+-- the number is that of the state with that set, where this stands before, or 0
+abbrev pub IsNumberOf : Prev → StateField → List ℕ → ℕ → Type 0
+IsNumberOf prev f set number = IsNumberFor f.sets set prev number
 
 -- the number is that of a state with that set
 abbrev pub IsSetFor : StateField → List ℕ → ℕ → Type 0
@@ -63,9 +55,6 @@ module _ (region kept : List ℕ) where
 
   -- What is packed, by fields that are left.
   module _ (prev : Prev) where
-    abbrev pub IsNumberOf : StateField → List ℕ → ℕ → Type 0
-    IsNumberOf f set number = IsNumberFor f.sets set prev number
-
     abbrev pub Packs : List StateField → (at place : ℕ) → Type 0
     Packs fs at place = AreAlikeBetween fs at place region kept × Each (λ f. IsNumberFor f.sets (slice_range region f.at (end_of f)) prev (slice_index kept f.place)) fs
 
@@ -102,5 +91,5 @@ module _ (region kept : List ℕ) where
         (both.0, (both.1, holds.1))
 
     pub state-packs : (f : StateField) (fs : List StateField) (tree : Tree) → AreSetsOf f.sets tree → Packs (f ∷ fs) f.at f.place →
-        IsNumberOf f (slice_range region f.at (end_of f)) (slice_index kept f.place) × Packs fs (end_of f) (suc f.place)
+        IsNumberOf prev f (slice_range region f.at (end_of f)) (slice_index kept f.place) × Packs fs (end_of f) (suc f.place)
     state-packs f fs tree sets holds = (holds.1.0, (holds.0.1, holds.1.1))

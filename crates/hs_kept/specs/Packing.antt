@@ -11,7 +11,7 @@ use Rattle.hs_base.specs.Lists.{Each}
 use Rattle.hs_base.specs.Regions.{Place, Plan, fields_at, list_places, place_size, plan_size, region_offset}
 use Rattle.hs_base.specs.Trees.{Tree}
 use Rattle.hs_states.specs.DfaStates.{kept_prev}
-use Rattle.hs_states.specs.StateSets.{AreSetsOf, prev_of, set_bytes, set_width, state_count}
+use Rattle.hs_states.specs.StateSets.{AreSetsOf, prev_of, set_bytes, state_count}
 use Rattle.hs_states.specs.declared.state_sets.StateSets.{StateSets}
 use Rattle.hs_kept.specs.KeptRegions.{AreKeptForms, KeptForm, field, kept_size, state}
 pub use Rattle.hs_kept.specs.StateFields.{end_of}

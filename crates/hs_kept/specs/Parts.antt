@@ -1,7 +1,8 @@
 -- Parts of a region, without the whole of it: where they stand in what is kept.
-use Rattle.std.specs.Prelude.{◌≡◌, ◌⊎◌, ℕ, suc, ◌+◌, ◌-◌, ◌<◌, ◌≤◌, nat_le, List, [], ◌∷◌, Some, slice_get, slice_index, if◌then◌else◌}
+use Rattle.std.specs.Prelude.{◌≡◌, ◌⊎◌, ℕ, suc, ◌+◌, ◌-◌, ◌<◌, ◌≤◌, nat_le, List, [], ◌∷◌, Some, slice_get}
+use Rattle.std.specs.Prelude.{slice_index, if◌then◌else◌}
 use Rattle.hs_base.specs.Lists.{Each}
-use Rattle.hs_states.specs.StateSets.{state_count, set_width}
+use Rattle.hs_states.specs.StateSets.{state_count}
 use Rattle.hs_kept.specs.Packing.{end_of, unpacked_size}
 use Rattle.hs_kept.specs.declared.packing.Packing.{Packing}
 use Rattle.hs_kept.specs.declared.packing.StateField.{StateField}

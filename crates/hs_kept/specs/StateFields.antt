@@ -9,25 +9,26 @@ use Rattle.hs_kept.specs.declared.packing.StateField.{StateField}
 abbrev pub end_of : StateField → ℕ
 end_of f = f.at + set_width f.sets
 
--- From byte `at` of a region and byte `place` of what is kept on the fields, which have bytes, lie one behind the other,
--- between them as many bytes in the one as in the other, and so behind the last one, up to where the two end.
-abbrev pub AreApart : List StateField → (at place region_size size : ℕ) → Type 0
-AreApart [] at place region_size size = (place ≤ size) × (at + size ≡ place + region_size)
-AreApart (f ∷ fs) at place region_size size =
+-- From byte `at` of a region and byte `place` of what is kept on the fields, which have bytes, lie one behind the
+-- other, between them as many bytes in the one as in the other, and so behind the last one, up to where the two end.
+abbrev pub AreFieldsApart : List StateField → (at place region_size size : ℕ) → Type 0
+AreFieldsApart [] at place region_size size = (place ≤ size) × (at + size ≡ place + region_size)
+AreFieldsApart (f ∷ fs) at place region_size size =
     (at ≤ f.at)
     × ((f.at + place ≡ at + f.place)
-    × ((f.at < end_of f) × AreApart fs (end_of f) (suc f.place) region_size size))
+    × ((f.at < end_of f) × AreFieldsApart fs (end_of f) (suc f.place) region_size size))
 
-pub AreApart-prop :
-    (fs : List StateField) (at place region_size size : ℕ) → IsProp (AreApart fs at place region_size size)
-AreApart-prop [] at place region_size size = ×_prop le_prop (ℕ_set (at + size) (place + region_size))
-AreApart-prop (f ∷ fs) at place region_size size =
+-- of which there is one proof at most
+pub apart-prop :
+    (fs : List StateField) (at place region_size size : ℕ) → IsProp (AreFieldsApart fs at place region_size size)
+apart-prop [] at place region_size size = ×_prop le_prop (ℕ_set (at + size) (place + region_size))
+apart-prop (f ∷ fs) at place region_size size =
     ×_prop le_prop
     (×_prop (ℕ_set (f.at + place) (at + f.place))
-    (×_prop le_prop (AreApart-prop fs (end_of f) (suc f.place) region_size size)))
+    (×_prop le_prop (apart-prop fs (end_of f) (suc f.place) region_size size)))
 
 -- The field lies behind byte `at` of a region and byte `place` of what is kept, equally far, and within both.
-pub record IsNext (f : StateField) (at place region_size size : ℕ) : Type 0 where
+pub record IsNextField (f : StateField) (at place region_size size : ℕ) : Type 0 where
   pub behind : at ≤ f.at
   pub place_behind : place ≤ f.place
   pub alike : f.at + place ≡ at + f.place

@@ -4,7 +4,7 @@ ghost use Rattle.std.specs.Prelude.{◌≡◌, ◌^◌, ◌<◌, ◌≤◌, ◌+
 ghost use Rattle.hs_base.specs.Regions.{region_offset};
 ghost use Rattle.hs_states.specs.StateSets.{set_bytes, set_width, state_count};
 ghost use Rattle.hs_kept.specs.Packing.{IsNumberFor, prev_in};
-ghost use Rattle.hs_kept.specs.StateFields.{IsNext, end_of};
+ghost use Rattle.hs_kept.specs.StateFields.{IsNextField, end_of};
 
 use crate::packing::StateField;
 use hs_base::Prev;
@@ -22,10 +22,11 @@ pub(crate) fn unpack_field(
     place: usize,
 )
     requires small { length region.old ≤ 2 ^ 24 }
-    requires next { IsNext field.now at place (length region.old) (length kept.now) }
+    requires next { IsNextField field.now at place (length region.old) (length kept.now) }
     requires number { slice_index kept.now field.now.place < state_count field.now.sets }
     ensures len { length region.new ≡ length region.old }
-    ensures made { take (end_of field.now) region.new ≡ take at region.old ++ (slice_range kept.now place field.now.place
+    ensures made { take (end_of field.now) region.new ≡ take at region.old
+        ++ (slice_range kept.now place field.now.place
         ++ set_bytes field.now.sets (slice_index kept.now field.now.place)) }
 {
     region[at..field.at].copy_from_slice(&kept[place..field.place]);
@@ -42,7 +43,7 @@ pub(crate) fn pack_field(
     place: usize,
 )
     requires small { length region.now ≤ 2 ^ 24 }
-    requires next { IsNext field.now at place (length region.now) (length kept.old) }
+    requires next { IsNextField field.now at place (length region.now) (length kept.old) }
     ensures len { length kept.new ≡ length kept.old }
     ensures before { take place kept.new ≡ take place kept.old }
     ensures gap { slice_range region.now at field.now.at ≡ slice_range kept.new place field.now.place }

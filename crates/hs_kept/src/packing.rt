@@ -1,7 +1,7 @@
 //! What is kept of a region, and back: the number of a state for a set of positions.
 
 ghost use Rattle.std.specs.Prelude.{◌≡◌, ◌^◌, ◌≤◌, length};
-ghost use Rattle.hs_kept.specs.StateFields.{AreApart, AreApart-prop, IsFirstFrom, end_of};
+ghost use Rattle.hs_kept.specs.StateFields.{AreFieldsApart, apart-prop, IsFirstFrom, end_of};
 
 use crate::field_bytes::{pack_field, prev_behind, unpack_field};
 use hs_states::StateSets;
@@ -26,7 +26,7 @@ pub struct Packing {
     region_size: usize,
     /// How many of these are kept.
     size: usize,
-    ghost apart: { AreApart fields.items 0 0 region_size size } by { AreApart-prop fields.items 0 0 region_size size },
+    ghost apart: { AreFieldsApart fields.items 0 0 region_size size } by { apart-prop fields.items _ _ _ _ },
     ghost header: { 72 ≤ region_size },
     ghost region_small: { region_size ≤ 2 ^ 24 },
     ghost small: { size ≤ 2 ^ 24 },
@@ -37,7 +37,7 @@ impl Packing {
 
     /// The packing by these fields, of regions of one size to bytes of the other.
     pub(crate) fn new(fields: Vec<StateField>, region_size: usize, size: usize) -> Packing
-        requires apart { AreApart fields.items 0 0 region_size size }
+        requires apart { AreFieldsApart fields.items 0 0 region_size size }
         requires header { 72 ≤ region_size }
         requires region_small { region_size ≤ 2 ^ 24 }
         requires small { size ≤ 2 ^ 24 }
@@ -85,8 +85,8 @@ impl Packing {
         region[at..].copy_from_slice(&kept[place..]);
     }
 
-    /// Makes of a region what is kept of it. A set that is that of no state, which only a region leads to that no stream
-    /// has, is kept as the first one.
+    /// Makes of a region what is kept of it. A set that is that of no state, which only a region leads to that no
+    /// stream has, is kept as the first one. Its time is that of the copies and of one look-up a field.
     pub fn pack(&self, region: &[u8], kept: &mut [u8])
         requires region { length region.now ≡ unpacked_size self.now }
         requires kept { length kept.old ≡ packed_size self.now }
@@ -105,7 +105,8 @@ impl Packing {
 }
 
 impl Packing {
-    ghost use Rattle.std.specs.Prelude.{◌⊎◌, ◌<◌, ℕ, ◌+◌, ◌-◌, false, List, IfSome, MatchOption, None, Some, slice_get, slice_range};
+    ghost use Rattle.std.specs.Prelude.{◌⊎◌, ◌<◌, ℕ, ◌+◌, ◌-◌, false, List, IfSome, MatchOption, None, Some};
+    ghost use Rattle.std.specs.Prelude.{slice_get, slice_range};
     ghost use Rattle.hs_base.specs.Lists.{Each};
     ghost use Rattle.hs_kept.specs.Packing.{AreNumbers, IsPackedOf, packed_size, unpacked, unpacked_size};
     ghost use Rattle.hs_kept.specs.Parts.{AreNumbersBefore, IsNumberFault, IsPartIn, place_of};
@@ -208,7 +209,7 @@ impl Packing {
         ensures packs { result ≡ false → (region : List ℕ) → length region ≡ unpacked_size self.now →
             IsPackedOf self.now region region }
     {
-        !self.fields.is_empty()
+        self.fields.len() > 0
     }
 }
 

@@ -1,4 +1,4 @@
-use Rattle.std.proofs.Common.{◌≡◌, ℕ, ◌+◌, ◌-◌, ◌≤◌, List, ◌++◌, length, take, drop, slice_range, sym, ap, ◌∙◌, arith}
+use Rattle.std.proofs.Common.{◌≡◌, ℕ, ◌+◌, ◌-◌, List, length, slice_range, sym, ap, ◌∙◌, arith}
 use Rattle.hs_base.proofs.RegionLemmas.{range-size}
 use Rattle.hs_kept.proofs.WritingLemmas.{range-before_byte}
 use Rattle.hs_kept.proofs.field_bytes.pack_field.Goals as goal

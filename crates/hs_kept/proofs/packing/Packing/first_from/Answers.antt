@@ -1,4 +1,4 @@
-use Rattle.std.proofs.Common.{◌+◌, ◌-◌, ◌/◌, ◌<◌, ◌≤◌, ℕ, length, arith}
+use Rattle.std.proofs.Common.{◌+◌, ◌-◌, ◌/◌, ◌<◌, ℕ, length, arith}
 use Rattle.hs_kept.proofs.FieldLemmas.{before-middle, own-middle}
 use Rattle.hs_kept.proofs.packing.Packing.first_from.Goals as goal
 

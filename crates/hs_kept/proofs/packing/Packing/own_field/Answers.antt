@@ -1,10 +1,9 @@
-use Rattle.std.proofs.Common.{◌≡◌, ◌<◌, ◌≤◌, Some, length, slice_get, get_or, sym, ap, ◌∙◌, subst, arith}
+use Rattle.std.proofs.Common.{◌≡◌, ◌<◌, ◌≤◌, Some, length, slice_get, sym, ◌∙◌, subst, arith}
 use Rattle.std.proofs.lemmas.Option.{same_Some, slice_get_within}
 use Rattle.hs_kept.specs.StateFields.{end_of}
-use Rattle.hs_kept.specs.Packing.{unpacked_size}
 use Rattle.hs_kept.specs.declared.packing.StateField.{StateField}
 use Rattle.hs_kept.proofs.FieldLemmas.{IsApart, item-there, read-apart}
-use Rattle.hs_kept.proofs.PlaceLemmas.{AreAround, is-between, is-own, part-within}
+use Rattle.hs_kept.proofs.PlaceLemmas.{is-between, is-own, part-within}
 use Rattle.hs_kept.proofs.packing.Packing.own_field.Goals as goal
 
 pub returns-then-number-len-clause-between : goal.returns-then-number-len-clause-between

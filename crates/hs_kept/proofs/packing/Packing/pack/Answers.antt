@@ -1,9 +1,8 @@
-use Rattle.std.proofs.Common.{◌++◌, ◌-◌, ℕ, take, subst, slice_range, ◌≡◌, ◌<◌, ◌≤◌, ◌+◌, List, [], drop, length, refl, arith, ap, ◌∙◌, sym}
-use Rattle.std.specs.Prelude.{slice_index}
+use Rattle.std.proofs.Common.{◌++◌, ℕ, take, subst, ◌≡◌, ◌≤◌, List, [], drop, length, refl, arith, ap, ◌∙◌}
 use Rattle.std.proofs.lemmas.List.{drop_all, take_rest}
 use Rattle.hs_kept.specs.declared.packing.StateField.{StateField}
 use Rattle.hs_kept.proofs.WritingLemmas.{end-written}
-use Rattle.hs_kept.specs.StateFields.{IsNext, end_of}
+use Rattle.hs_kept.specs.StateFields.{IsNextField}
 use Rattle.hs_kept.proofs.FieldLemmas.{apart-step, apart-within, next-item}
 use Rattle.hs_kept.proofs.CopyLemmas.{packed-all, packed-step}
 use Rattle.hs_kept.proofs.packing.Packing.pack.Goals as goal
@@ -15,14 +14,14 @@ pack_field-requires-clause-next c =
 
 pub end-at-requires : goal.end-at-requires
 end-at-requires c =
-    let next : IsNext c.field-item.result c.loop-field.at c.loop-field.place c.args.self.now.region_size c.args.self.now.size =
+    let next : IsNextField c.field-item.result c.loop-field.at c.loop-field.place c.args.self.now.region_size c.args.self.now.size =
     next-item c.args.self.now.fields.items c.deref-field-items.result.now c.loop-field.field-index c.field-item.result c.deref-field-items.ensures.value c.loop-field-test.true c.field-item.is
     c.loop-field.at c.loop-field.place _ _ _ _ refl refl c.loop-field.invariant.apart in
     record { small = omega (arith, next.within, c.args.self.now.region_small) }
 
 pub overflow_add-place : goal.overflow_add-place
 overflow_add-place c =
-    let next : IsNext c.field-item.result c.loop-field.at c.loop-field.place c.args.self.now.region_size c.args.self.now.size =
+    let next : IsNextField c.field-item.result c.loop-field.at c.loop-field.place c.args.self.now.region_size c.args.self.now.size =
     next-item c.args.self.now.fields.items c.deref-field-items.result.now c.loop-field.field-index c.field-item.result c.deref-field-items.ensures.value c.loop-field-test.true c.field-item.is
     c.loop-field.at c.loop-field.place _ _ _ _ refl refl c.loop-field.invariant.apart in
     omega (arith, next.place_within, c.args.self.now.small)
@@ -34,7 +33,7 @@ loop-field-preserved c =
     let i = c.loop-field.field-index in
     let f = c.field-item.result in
     let same = c.deref-field-items.ensures.value in
-    let next : IsNext f c.loop-field.at c.loop-field.place c.args.self.now.region_size c.args.self.now.size =
+    let next : IsNextField f c.loop-field.at c.loop-field.place c.args.self.now.region_size c.args.self.now.size =
     next-item fs gs i f same c.loop-field-test.true c.field-item.is c.loop-field.at c.loop-field.place _ _ _ _ refl refl c.loop-field.invariant.apart in
     record {
       len = c.pack_field.ensures.len ∙ c.loop-field.invariant.len;

@@ -1,7 +1,6 @@
-use Rattle.std.proofs.Common.{◌≡◌, ℕ, ◌+◌, ◌-◌, ◌<◌, ◌≤◌, List, take, drop, slice_range, refl, sym, ap, ◌∙◌, subst}
-use Rattle.hs_kept.specs.StateFields.{end_of}
+use Rattle.std.proofs.Common.{ℕ, ◌+◌, ◌-◌, List, slice_range, refl, sym, ap, ◌∙◌, subst}
 use Rattle.hs_kept.specs.Packing.{unpacked}
-use Rattle.hs_kept.specs.Parts.{AreNumbersBefore, place_of}
+use Rattle.hs_kept.specs.Parts.{AreNumbersBefore}
 use Rattle.hs_kept.proofs.PartOfLemmas.{part-between, part-own}
 use Rattle.hs_kept.proofs.packing.Packing.part.Goals as goal
 
@@ -11,7 +10,7 @@ returns-in-Some-clause-bytes c =
     let packing = c.args.self.now in
     let kept : List ℕ = c.args.kept.now in
     let own = c.in-Some.ensures.own in
-    c.set.ensures.is
+    c.set.ensures.set
     ∙ sym (ap (λ (n : ℕ). slice_range (unpacked packing kept) n c.args.end) own.1 ∙ (ap (λ (n : ℕ). slice_range (unpacked packing kept) f.at n) own.2
     ∙ part-own packing kept c.first_from-number.result f own.0 (subst (λ (n : ℕ). AreNumbersBefore packing kept (n + 1)) own.1 c.requires.numbers) c.requires.kept))
 

@@ -1,4 +1,4 @@
-use Rattle.std.proofs.Common.{◌≡◌, ◌+◌, ◌-◌, ◌<◌, ◌≤◌, suc, sym, ◌∙◌, arith}
+use Rattle.std.proofs.Common.{◌≡◌, ◌+◌, ◌-◌, suc, arith}
 use Rattle.hs_kept.specs.StateFields.{end_of}
 use Rattle.hs_kept.specs.Parts.{place_from}
 use Rattle.hs_kept.proofs.FieldLemmas.{IsApart, read-apart}
