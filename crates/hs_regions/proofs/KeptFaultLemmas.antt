@@ -29,7 +29,7 @@ use Rattle.hs_regions.specs.Faults.{AreFieldsWellBefore, IsFieldFault}
 use Rattle.hs_regions.specs.KeptFaults.{IsPartFault}
 use Rattle.hs_regions.specs.Packed.{RunsPacked}
 use Rattle.hs_regions.proofs.ExactLemmas.{zero-at}
-use Rattle.hs_regions.proofs.PieceLemmas.{IsAt, IsBetween, IsOwn, each-map, field-piece, piece-at, place-shift}
+use Rattle.hs_regions.proofs.PieceLemmas.{IsAt, IsBetween, IsOwn, each-map, field-piece, numbers-up, piece-at, place-shift}
 use Rattle.hs_regions.proofs.PlanFaultLemmas.{fault-broken, field-before, start-next, starts-rise}
 
 module _ (packing : Packing) (plan : Plan) (is : IsPackingFor packing plan) where
@@ -48,7 +48,7 @@ module _ (packing : Packing) (plan : Plan) (is : IsPackingFor packing plan) wher
 
   -- where it is kept
   place-is : (p : Place) (form : Form) (low begin : ℕ) → IsBetween packing.fields.items first first p form low begin → place_of packing low ≡ begin
-  place-is p form low begin own = sym (place-shift packing.fields.items 0 0 first low own.above) ∙ own.from
+  place-is p form low begin lies = sym (place-shift packing.fields.items 0 0 first first first low (omega arith) (omega arith) lies.above) ∙ lies.from
 
   size-is : plan_size plan ≡ unpacked_size packing
   size-is = sym is.region_size
@@ -76,9 +76,6 @@ module _ (packing : Packing) (plan : Plan) (is : IsPackingFor packing plan) wher
         let above : start (k + 1) ≤ plan_size plan = size-above plan (suc k) (start (k + 1)) (placed plan k p there).end in
         omega (arith, above, next-is k p there, size-is)
 
-    numbers-up : (bound : ℕ) → AreNumbersBefore packing kept bound → (at : ℕ) → at < bound → AreNumbersBefore packing kept (at + 1)
-    numbers-up bound numbers at early = each-map packing.fields.items (λ f number less. number (omega (arith, less, early))) numbers
-
     number-at : (bound : ℕ) → AreNumbersBefore packing kept bound → (number : ℕ) (f : StateField) → slice_get packing.fields.items number ≡ Some f → f.at < bound → slice_index kept f.place < state_count f.sets
     number-at bound numbers number f there early =
         each-member (λ (g : StateField). g.at < bound → slice_index kept g.place < state_count g.sets) packing.fields.items f numbers (place-member packing.fields.items f number there) early
@@ -92,7 +89,7 @@ module _ (packing : Packing) (plan : Plan) (is : IsPackingFor packing plan) wher
         let wide : high ≡ low + form_size form = kept-high plan is.forms is.are k low high p (field form) at in
         let e : place_of packing (start k) + ((start k + place_size p) - start k) ≡ high = omega (arith, place, wide, o.size) in
         ap (λ n. slice_range region (start k) n) (next-is k p at.piece)
-        ∙ (part-between packing kept (start k) (start k + place_size p) (omega arith) (inside k p at.piece) o.apart (numbers-up bound numbers (start k) early) sized
+        ∙ (part-between packing kept (start k) (start k + place_size p) (omega arith) (inside k p at.piece) o.apart (numbers-up packing kept bound numbers (start k) early) sized
         ∙ (ap (λ n. slice_range kept (place_of packing (start k)) n) e ∙ ap (λ n. slice_range kept n high) place))
 
     -- the byte of a piece that is kept by the number of a state
@@ -138,7 +135,7 @@ module _ (packing : Packing) (plan : Plan) (is : IsPackingFor packing plan) wher
           let end : end_of o.f ≡ start (k + 1) = omega (arith, o.at_is, o.wide, next-is k p is_at.piece) in
           let set : plan_field plan region k ≡ set_bytes o.f.sets (slice_index kept o.f.place) =
               ap (λ n. slice_range region n (start (k + 1))) (sym o.at_is)
-              ∙ (ap (λ n. slice_range region o.f.at n) (sym end) ∙ part-own packing kept o.number o.f o.there (numbers-up bound numbers o.f.at begin) sized) in
+              ∙ (ap (λ n. slice_range region o.f.at n) (sym end) ∙ part-own packing kept o.number o.f o.there (numbers-up packing kept bound numbers o.f.at begin) sized) in
           subst (λ f. IsFieldAt f (plan_field plan region k) at) (sym (form-of_state p tree (by-state k low high p tree is_at)))
           (subst (λ bytes. IsFieldAt (positions tree) bytes at) (sym set) (set-fits tree o.f.sets o.sets (slice_index kept o.f.place) at number))
 

@@ -5,3 +5,5 @@ pub mod FaultLemmas
 pub mod PlanFaultLemmas
 pub mod PieceLemmas
 pub mod KeptFaultLemmas
+pub mod WellLemmas
+pub mod PartInLemmas

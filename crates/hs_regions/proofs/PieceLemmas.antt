@@ -12,7 +12,8 @@ use Rattle.hs_states.specs.StateSets.{AreSetsOf, set_width}
 use Rattle.hs_kept.specs.KeptRegions.{IsKeptForm, KeptForm, field, kept_form_size, state}
 use Rattle.hs_kept.specs.Packing as packing
 use Rattle.hs_kept.specs.Packing.{AreStateFields, end_of}
-use Rattle.hs_kept.specs.Parts.{place_from}
+use Rattle.hs_kept.specs.Parts.{AreNumbersBefore, place_from}
+use Rattle.hs_kept.specs.declared.packing.Packing.{Packing}
 use Rattle.hs_kept.specs.declared.packing.StateField.{StateField}
 use Rattle.hs_kept.proofs.PartLemmas.{IsAhead, IsPart, ahead, kept-state, width-of_state}
 
@@ -42,6 +43,10 @@ pub each-map : {A : Type 0} {P Q : A → Type 0} (xs : List A) → ((x : A) → 
 each-map [] f all = tt
 each-map (x ∷ xs) f all = (f x all.0, each-map xs f all.1)
 
+-- each field up to one that begins before the bound has the number of a state
+pub numbers-up : (packing : Packing) (kept : List ℕ) (bound : ℕ) → AreNumbersBefore packing kept bound → (at : ℕ) → at < bound → AreNumbersBefore packing kept (at + 1)
+numbers-up packing kept bound numbers at early = each-map packing.fields.items (λ f number less. number (omega (arith, less, early))) numbers
+
 -- the fields begin there or later
 all-behind : {ps : List Place} {forms : List KeptForm} {fs : List StateField} {at place : ℕ} → AreStateFields ps forms fs at place → Each (λ f. at ≤ f.at) fs
 all-behind packing.none = tt
@@ -55,10 +60,10 @@ place-first (f ∷ fs) at place (d, one, other) =
     rw (le-leb at f.at (omega (arith, one))) (let e : place + (at - at) ≡ place = omega arith in e)
 
 -- behind a field of bytes that are kept as they are
-pub place-shift : (fs : List StateField) (at place n x : ℕ) → at + n ≤ x → place_from fs (at + n) (place + n) x ≡ place_from fs at place x
-place-shift [] at place n x low = omega (arith, low)
-place-shift (f ∷ fs) at place n x low =
-    let e : (place + n) + (x - (at + n)) ≡ place + (x - at) = omega (arith, low) in
+pub place-shift : (fs : List StateField) (at place at' place' n x : ℕ) → at' ≡ at + n → place' ≡ place + n → at' ≤ x → place_from fs at' place' x ≡ place_from fs at place x
+place-shift [] at place at' place' n x one other low = omega (arith, one, other, low)
+place-shift (f ∷ fs) at place at' place' n x one other low =
+    let e : place' + (x - at') ≡ place + (x - at) = omega (arith, one, other, low) in
     ap (λ m. if nat_le x f.at then m else place_from fs (end_of f) (suc f.place) x) e
 
 module _ (q : Place) (ps : List Place) (forms : List KeptForm) (f : StateField) (fs : List StateField) (at place : ℕ) (tree : Tree) (one : f.at ≡ at) (other : f.place ≡ place) (sets : AreSetsOf f.sets tree) (kept : IsKeptForm q (state tree)) where
@@ -98,7 +103,7 @@ between-shift : (fs : List StateField) (at place n : ℕ) (p : Place) (form : Fo
 between-shift fs at place n p form low begin is = record {
   size = is.size;
   above = omega (arith, is.above);
-  from = sym (place-shift fs at place n low is.above) ∙ is.from;
+  from = sym (place-shift fs at place (at + n) (place + n) n low refl refl is.above) ∙ is.from;
   apart = is.apart;
 }
 

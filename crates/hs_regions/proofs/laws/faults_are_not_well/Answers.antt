@@ -1,7 +1,6 @@
-use Rattle.hs_regions.proofs.PieceLemmas.{piece-at, field-piece}
-use Rattle.hs_regions.proofs.FaultLemmas.{node-alone}
-use Rattle.hs_regions.proofs.PlanFaultLemmas.{fault-broken}
+use Rattle.hs_regions.proofs.KeptFaultLemmas.{number-fault}
+use Rattle.hs_regions.proofs.WellLemmas.{fault-never}
 use Rattle.hs_regions.proofs.laws.faults_are_not_well.Goals as goal
 
 pub returns : goal.returns
-returns c = _
+returns c = fault-never

@@ -1,0 +1,36 @@
+use Rattle.std.proofs.Common.{rules, ◌≡◌, ◌↔◌, ◌+◌, ◌-◌, ◌^◌, ◌<◌, ◌≤◌, true, IfSome, IsNone, IsTrue, length, slice_range, ℕ, ◌*◌, ◌/◌, ◌%◌, Bool, false, nat_eq, nat_lt, List, [], ◌∷◌, ◌++◌, slice_index_or, slice_set, bit_and, bit_or, Fits, w8, w32, w64, Bor, MutBor}
+use Rattle.hs_base.specs.RepeatRows.{IsRingAt}
+use Rattle.hs_base.specs.Regions.{region_offset}
+use Rattle.hs_kept.specs.Packing.{AreNumbers, packed_size, unpacked, unpacked_size}
+use Rattle.hs_kept.specs.Parts.{AreNumbersBefore, IsPartIn}
+use Rattle.hs_nodes.specs.Graphs.{FitsLayout, keeps_field}
+use Rattle.hs_nodes.specs.Nodes.{IsWellPart}
+use Rattle.hs_regions.specs.Checking.{AreCopiesIn, ArePartsIn, IsPartSized}
+use Rattle.hs_regions.specs.Faults.{AreCopiesWellBefore, AreFieldsWellBefore, AreNodesWellBefore, IsCopyFault, IsFieldFault, IsNodeFault}
+use Rattle.hs_regions.specs.KeptFaults.{IsFirstFault, IsFirstPartFault}
+use Rattle.hs_regions.specs.Packed.{IsWellPacked, RunsSomePacked}
+use Rattle.hs_regions.proofs.checking.first_fault.Goals as goal
+
+-- src/checking.rt:245:11
+pub header_fault-requires-clause-there : goal.header_fault-requires-clause-there
+header_fault-requires-clause-there g c = ?
+
+-- src/checking.rt:247:58
+pub offset_in-requires : goal.offset_in-requires
+offset_in-requires g c = ?
+
+-- src/checking.rt:233:1
+pub returns-in-Some-clause-none : goal.returns-in-Some-clause-none
+returns-in-Some-clause-none g c = ?
+
+-- src/checking.rt:233:1
+pub returns-in-Some-clause-first : goal.returns-in-Some-clause-first
+returns-in-Some-clause-first g c = ?
+
+-- src/checking.rt:233:1
+pub returns-in-None-clause-none : goal.returns-in-None-clause-none
+returns-in-None-clause-none g c = ?
+
+-- src/checking.rt:233:1
+pub returns-in-None-clause-first : goal.returns-in-None-clause-first
+returns-in-None-clause-first g c = ?
