@@ -1,13 +1,12 @@
 -- The first part of what is kept that breaks its rule, by the plan: from the first field of the region that does, or the
 -- first number of no state.
-use Rattle.std.proofs.Common.{◌≡◌, ℕ, suc, ◌+◌, ◌-◌, ◌<◌, ◌≤◌, List, [], ◌∷◌, length, map, Some, slice_get, slice_range, refl, sym, ap, subst, ◌∙◌, inl, inr, arith}
+use Rattle.std.proofs.Common.{◌≡◌, ℕ, suc, ◌+◌, ◌-◌, ◌<◌, ◌≤◌, List, [], ◌∷◌, length, Some, slice_get, slice_range, sym, ap, subst, ◌∙◌, inl, inr, arith}
 use Rattle.std.specs.Prelude.{slice_index}
-use Rattle.std.proofs.lemmas.Bool.{cases_eq, cases_lt}
+use Rattle.std.proofs.lemmas.Bool.{cases_lt}
 use Rattle.std.proofs.lemmas.Option.{get_or_from_slice_get, same_Some, slice_get_within}
 use Rattle.hs_base.specs.KeptPieces.{Form, form_size, IsFieldAt, positions}
-use Rattle.hs_base.specs.Lists.{Each}
 use Rattle.hs_base.specs.Literals.{LiteralByte}
-use Rattle.hs_base.specs.Regions.{Place, Plan, fields_at, list_places, place_form, place_size, plan_fields_at, plan_size, plan_starts, region_offset}
+use Rattle.hs_base.specs.Regions.{Place, Plan, fields_at, list_places, place_form, place_size, plan_size, plan_starts, region_offset}
 use Rattle.hs_base.specs.Trees.{Tree}
 use Rattle.hs_base.proofs.ListLemmas.{each-member, place-member}
 use Rattle.hs_base.proofs.RegionLemmas.{placed-end, size-above}
@@ -15,8 +14,8 @@ use Rattle.hs_engine.specs.Engines.{Meaning}
 use Rattle.hs_layout.specs.Layouts.{Laid}
 use Rattle.hs_nodes.specs.declared.graph.Graph.{Graph}
 use Rattle.hs_nodes.proofs.FieldLemmas.{placed, plan_field}
-use Rattle.hs_states.specs.StateSets.{AreSetsOf, set_bytes, set_width, state_count}
-use Rattle.hs_kept.specs.KeptRegions.{AreKeptForms, IsKeptByState, IsKeptForm, IsKeptPartAt, IsKeptPlaced, IsSomeStateByte, KeptForm, field, kept_form_size, kept_size, state}
+use Rattle.hs_states.specs.StateSets.{set_bytes, state_count}
+use Rattle.hs_kept.specs.KeptRegions.{IsKeptByState, IsKeptPartAt, IsKeptPlaced, IsSomeStateByte, KeptForm, field, kept_size, state}
 use Rattle.hs_kept.specs.Packing.{IsPackingFor, end_of, packed_size, unpacked, unpacked_size}
 use Rattle.hs_kept.specs.Parts.{AreNumbersBefore, IsNumberFault, IsPartIn, between, own, place_of}
 use Rattle.hs_kept.specs.declared.packing.Packing.{Packing}
@@ -134,8 +133,8 @@ module _ (packing : Packing) (plan : Plan) (is : IsPackingFor packing plan) wher
           let number : slice_index kept o.f.place < state_count o.f.sets = number-at bound numbers o.number o.f o.there begin in
           let end : end_of o.f ≡ start (k + 1) = omega (arith, o.at_is, o.wide, next-is k p is_at.piece) in
           let set : plan_field plan region k ≡ set_bytes o.f.sets (slice_index kept o.f.place) =
-              ap (λ n. slice_range region n (start (k + 1))) (sym o.at_is)
-              ∙ (ap (λ n. slice_range region o.f.at n) (sym end) ∙ part-own packing kept o.number o.f o.there (numbers-up packing kept bound numbers o.f.at begin) sized) in
+          ap (λ n. slice_range region n (start (k + 1))) (sym o.at_is)
+          ∙ (ap (λ n. slice_range region o.f.at n) (sym end) ∙ part-own packing kept o.number o.f o.there (numbers-up packing kept bound numbers o.f.at begin) sized) in
           subst (λ f. IsFieldAt f (plan_field plan region k) at) (sym (form-of_state p tree (by-state k low high p tree is_at)))
           (subst (λ bytes. IsFieldAt (positions tree) bytes at) (sym set) (set-fits tree o.f.sets o.sets (slice_index kept o.f.place) at number))
 
@@ -211,8 +210,8 @@ module _ {E : Type 0} (meaning : E → Meaning) (graph : Graph E) (l : Laid) (pa
       let form_is : form ≡ state has.tree = same_Some form (state has.tree) (sym placed_at.kept ∙ has.part.form_is) in
       let place_is : begin_kept ≡ place = same_Some begin_kept fault.f.place (sym placed_at.begin ∙ has.part.begin_is) ∙ fault.begin_kept in
       let placed_by : IsKeptPlaced plan runs.packing_for.forms has.k has.p (state has.tree) place high =
-          subst (λ n. IsKeptPlaced plan runs.packing_for.forms has.k has.p (state has.tree) n high) place_is
-          (subst (λ f. IsKeptPlaced plan runs.packing_for.forms has.k has.p f begin_kept high) form_is placed_at) in
+      subst (λ n. IsKeptPlaced plan runs.packing_for.forms has.k has.p (state has.tree) n high) place_is
+      (subst (λ f. IsKeptPlaced plan runs.packing_for.forms has.k has.p f begin_kept high) form_is placed_at) in
       let one : slice_range kept place high ≡ slice_index kept place ∷ [] = one-byte packing plan runs.packing_for kept sized has.k place high has.p has.tree placed_by in
       record {
         forms = runs.packing_for.forms;
@@ -225,8 +224,8 @@ module _ {E : Type 0} (meaning : E → Meaning) (graph : Graph E) (l : Laid) (pa
         before = parts-before low fault.before wells has.k (omega (arith, begin)) (slice_get_within (list_places plan) has.k has.p has.part.piece);
         breaks = λ some.
             let below : slice_index kept place < state_count fault.f.sets =
-                (state-byte has.p has.tree fault.f.sets (by-state packing plan runs.packing_for kept sized has.k place high has.p has.tree placed_by) has.sets (slice_index kept place)).0
-                (subst (λ bytes. IsSomeStateByte has.tree bytes) one some) in
+            (state-byte has.p has.tree fault.f.sets (by-state packing plan runs.packing_for kept sized has.k place high has.p has.tree placed_by) has.sets (slice_index kept place)).0
+            (subst (λ bytes. IsSomeStateByte has.tree bytes) one some) in
             let much : state_count fault.f.sets ≤ slice_index kept place = subst (λ n. state_count fault.f.sets ≤ slice_index kept n) fault.begin_kept fault.breaks in
             absurd (omega (arith, below, much));
       }

@@ -1,9 +1,9 @@
 -- What is kept of nodes lies in a region so that the packing knows its part.
-use Rattle.std.proofs.Common.{◌≡◌, ◌↔◌, ℕ, suc, ◌+◌, ◌-◌, ◌<◌, ◌≤◌, Bool, true, false, IsTrue, List, [], length, Option, Some, None, IfSome, slice_get, sym, ap, subst, ◌∙◌, inl, inr, arith}
+use Rattle.std.proofs.Common.{◌≡◌, ◌↔◌, ℕ, suc, ◌+◌, ◌-◌, ◌<◌, ◌≤◌, Bool, true, false, IsTrue, List, [], length, Option, Some, None, IfSome, slice_get, sym, subst, ◌∙◌, inl, inr, arith}
 use Rattle.std.specs.Prelude.{slice_index}
 use Rattle.std.proofs.lemmas.Bool.{cases_lt}
 use Rattle.hs_base.specs.Literals.{LiteralByte}
-use Rattle.hs_base.specs.Regions.{Place, Plan, list_places, place_size, plan_size, plan_starts, region_offset}
+use Rattle.hs_base.specs.Regions.{Place, Plan, list_places, place_size, plan_size, plan_starts}
 use Rattle.hs_base.proofs.RegionLemmas.{placed-end, size-above}
 use Rattle.hs_engine.specs.Engines.{Meaning}
 use Rattle.hs_kept.specs.Packing.{unpacked_size}
@@ -11,10 +11,7 @@ use Rattle.hs_kept.specs.Parts.{IsPartIn}
 use Rattle.hs_kept.specs.declared.packing.Packing.{Packing}
 use Rattle.hs_kept.proofs.PlacedLemmas.{kept-placed}
 use Rattle.hs_layout.specs.Layouts.{Laid}
-use Rattle.hs_nodes.specs.Graphs.{keeps_field}
-use Rattle.hs_nodes.specs.declared.graph.FieldCopy.{FieldCopy}
 use Rattle.hs_nodes.specs.declared.graph.Graph.{Graph}
-use Rattle.hs_nodes.specs.declared.table.Node.{Node}
 use Rattle.hs_nodes.proofs.FieldLemmas.{placed}
 use Rattle.hs_regions.specs.Checking.{AreCopiesIn, ArePartsIn}
 use Rattle.hs_regions.specs.Packed.{RunsPacked}

@@ -3,7 +3,7 @@ use Rattle.std.proofs.Common.{◌≡◌, ℕ, ◌+◌, ◌<◌, ◌≤◌, Bool,
 use Rattle.std.specs.Prelude.{slice_index, slice_range}
 use Rattle.std.proofs.lemmas.Bool.{cases_lt}
 use Rattle.std.proofs.lemmas.List.{length-map}
-use Rattle.std.proofs.lemmas.Option.{same_Some, slice_get_within}
+use Rattle.std.proofs.lemmas.Option.{same_Some}
 use Rattle.hs_base.specs.KeptPieces.{IsFieldAt}
 use Rattle.hs_base.specs.Literals.{LiteralByte}
 use Rattle.hs_base.specs.Regions.{Place, Plan, fields_at, list_places, place_form, place_size, plan_starts}

@@ -1,17 +1,18 @@
 -- What may be kept of a region of a graph is what is well kept for the plan that it runs.
-use Rattle.std.proofs.Common.{◌≡◌, ◌↔◌, ℕ, ◌+◌, ◌-◌, ◌<◌, ◌≤◌, List, length, take, IfSome, Option, Some, None, IsNone, slice_get, refl, sym, ap, subst, ◌∙◌, arith}
+use Rattle.std.proofs.Common.{◌≡◌, ◌↔◌, ℕ, suc, ◌+◌, ◌-◌, ◌<◌, ◌≤◌, List, [], ◌∷◌, length, take, get_or, IfSome, Option, Some, None, IsNone, refl, sym, ap, subst, ◌∙◌, arith}
 use Rattle.std.specs.Prelude.{slice_index}
 use Rattle.hs_base.specs.Lists.{Each}
 use Rattle.hs_base.specs.Literals.{LiteralByte}
-use Rattle.hs_base.specs.Regions.{Plan, IsHeader, IsWellFormed, fields_at, plan_fields_at, plan_size, region_offset}
+use Rattle.hs_base.specs.Regions.{Plan, IsHeader, IsWellFormed, fields_at, plan_fields_at, region_offset}
 use Rattle.hs_engine.specs.Engines.{Meaning}
-use Rattle.hs_kept.specs.KeptRegions.{IsWellKept}
+use Rattle.hs_kept.specs.KeptRegions.{IsWellKept, kept_size}
 use Rattle.hs_kept.specs.Packing.{AreNumbers, packed_size, unpacked, unpacked_size}
 use Rattle.hs_kept.specs.PackingLaws.{UnpacksWell}
 use Rattle.hs_kept.specs.declared.packing.Packing.{Packing}
 use Rattle.hs_kept.proofs.HeaderLemmas.{header-front, offset-front}
-use Rattle.hs_kept.proofs.KeptLemmas.{well-parts_by}
+use Rattle.hs_kept.proofs.KeptLemmas.{size-by, well-parts_by}
 use Rattle.hs_kept.proofs.PackingLemmas.{unpacked-bytes, unpacked-header, unpacked-size, well-kept-unpacks-well}
+use Rattle.hs_kept.proofs.PlacedLemmas.{header-within, kept-high, kept-within}
 use Rattle.hs_layout.specs.HeaderFaults as headers
 use Rattle.hs_layout.specs.Layouts.{Laid, laid_size}
 use Rattle.hs_nodes.specs.WellRegions.{IsWellRegion}
@@ -20,7 +21,7 @@ use Rattle.hs_nodes.proofs.PlanLemmas.{plan-size}
 use Rattle.hs_regions.specs.Faults as faults
 use Rattle.hs_regions.specs.Faults.{AreFieldsWellBefore}
 use Rattle.hs_regions.specs.KeptFaults as kept_faults
-use Rattle.hs_regions.specs.KeptFaults.{IsFirstFault}
+use Rattle.hs_regions.specs.KeptFaults.{IsFirstFault, IsPartFault}
 use Rattle.hs_regions.specs.Packed.{IsWellPacked, RunsPacked, RunsSomePacked}
 use Rattle.hs_regions.specs.RegionLaws.{FaultsAreNotWell, GraphKeepsWell}
 use Rattle.hs_regions.proofs.ExactLemmas.{regions-exact}
@@ -79,7 +80,7 @@ module _ {E : Type 0} (meaning : E → Meaning) (graph : Graph E) (l : Laid) (pa
       copies = λ i copy node there of_node.
           let sound = runs.sound.fits.copies i copy there in
           let inside : slice_index l.starts copy.field ≤ laid_size l =
-              runs.sound.fits.apart.rising copy.field (length l.starts - 1) (omega (arith, sound.within)) (omega (arith, sound.within)) in
+          runs.sound.fits.apart.rising copy.field (length l.starts - 1) (omega (arith, sound.within)) (omega (arith, sound.within)) in
           let low : ℕ = slice_index l.starts copy.field in
           let high : ℕ = slice_index l.starts (copy.field + 1) in
           subst (λ n. faults.IsWellIn meaning graph (unpacked packing kept) n node.kind low high) same-offset
@@ -101,3 +102,30 @@ pub none-found : {E : Type 0} (meaning : E → Meaning) (graph : Graph E) (l : L
 none-found meaning graph l packing kept found some small first packed =
     let well = (keeps-well meaning graph some.literals l packing some.plan kept some.is small).0 packed in
     none-by found first (λ place fault. fault-never some.plan kept place (fault some.literals some.plan some.is) well)
+
+pub each-by : (bytes : List ℕ) → ((i : ℕ) → get_or bytes i 0 < 256) → Each (λ b. b < 256) bytes
+each-by [] all = tt
+each-by (b ∷ bytes) all = (all 0, each-by bytes (λ i. all (suc i)))
+
+-- of numbers that are the same ones
+pub counts-as : (P : ℕ → ℕ → Type 0) (a b c d : ℕ) → a ≡ c → b ≡ d → P c d → P a b
+counts-as P a b c d e f holds = subst (λ n. P n b) (sym e) (subst (λ n. P c n) (sym f) holds)
+
+module _ {E : Type 0} (meaning : E → Meaning) (graph : Graph E) (l : Laid) (packing : Packing) (literals : List (List LiteralByte)) (plan : Plan) (runs : RunsPacked meaning graph l packing literals plan) (kept : List ℕ) (sized : length kept ≡ packed_size packing) where
+  -- there is a whole header
+  pub header-room : fields_at l.singles l.identifiers ≤ length kept
+  header-room =
+      let room : plan_fields_at plan ≤ kept_size plan runs.packing_for.forms = header-within plan runs.packing_for.forms runs.packing_for.are in
+      subst (λ (m : Laid). fields_at m.singles m.identifiers ≤ length kept) (sym runs.runs.laid) (omega (arith, room, runs.packing_for.size, sized))
+
+  -- the header of the layout is that of the plan
+  pub plan-counts : (P : ℕ → ℕ → Type 0) → P l.singles l.identifiers → P (length plan.singles) (length plan.identifiers)
+  plan-counts P holds = subst (λ (m : Laid). P m.singles m.identifiers) runs.runs.laid holds
+
+  -- a part begins within the bytes
+  pub part-within : (place : ℕ) → IsPartFault plan kept place → place ≤ 16777216
+  part-within place fault =
+      let high = kept-high plan fault.forms fault.are fault.number place fault.high fault.place fault.form fault.placed in
+      let below = kept-within plan fault.forms fault.are fault.number place fault.high fault.place fault.form fault.placed in
+      let same = size-by plan fault.forms runs.packing_for.forms fault.are runs.packing_for.are in
+      omega (arith, high, below, same, runs.packing_for.size, packing.small)

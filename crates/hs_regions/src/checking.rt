@@ -248,8 +248,8 @@ pub fn first_fault<E: BlockEngine>(
     }
 }
 
-/// Whether the bytes may be what is kept of a region of the graph: they have the length, and the header and what is kept
-/// of each piece keep to their rules.
+/// Whether the bytes may be what is kept of a region of the graph: they have the length, and the header and each part
+/// keep to their rules.
 pub fn well_formed<E: BlockEngine>(
     graph: &Graph<E>,
     layout: &Layout,

@@ -9,11 +9,11 @@ use hs_base::MAX_OFFSET;
 use hs_bits::{BYTE_BITS, has_bit_in, is_zero};
 use hs_layout::HISTORY_SIZE;
 
-/// Where the history begins: behind the offset.
-const HISTORY_AT: usize = 8;
+/// How many bytes the offset has, behind which the history begins.
+const OFFSET_SIZE: usize = 8;
 
-/// Where the bits of the single identifiers begin: behind the history.
-const TOLD_AT: usize = HISTORY_AT + HISTORY_SIZE;
+/// Where the rows of bits begin: behind the history.
+const ROWS_AT: usize = OFFSET_SIZE + HISTORY_SIZE;
 
 /// How many bytes the stream has of which these are kept.
 pub fn offset_in(kept: &[u8]) -> u64
@@ -35,17 +35,17 @@ pub(crate) fn header_fault(singles: usize, identifiers: usize, kept: &[u8]) -> O
     ensures first { IfSome result (IsHeaderFault singles identifiers kept.now) }
     ensures within { IfSome result (λ at. at ≤ length kept.now) }
 {
-    let here = TOLD_AT + bytes_for(singles);
+    let here = ROWS_AT + bytes_for(singles);
     let last = here + bytes_for(identifiers);
     let offset = offset_in(kept);
     if offset > MAX_OFFSET {
         return Some(0);
     }
     if !has_no_early_byte(kept, offset) {
-        return Some(HISTORY_AT);
+        return Some(OFFSET_SIZE);
     }
-    if !are_spare(kept, TOLD_AT, singles, here) {
-        return Some(TOLD_AT);
+    if !are_spare(kept, ROWS_AT, singles, here) {
+        return Some(ROWS_AT);
     }
     if !are_spare(kept, here, identifiers, last) {
         return Some(here);
@@ -63,7 +63,7 @@ fn has_no_early_byte(kept: &[u8], offset: u64) -> bool
     ensures { IsTrue result ↔ HasNoEarlyByte kept.now }
 {
     let seen = offset.min(HISTORY_SIZE as u64) as usize;
-    is_zero(&kept[HISTORY_AT..TOLD_AT - seen])
+    is_zero(&kept[OFFSET_SIZE..ROWS_AT - seen])
 }
 
 /// Whether none but the first so many bits from byte `from` on is set before byte `end`.

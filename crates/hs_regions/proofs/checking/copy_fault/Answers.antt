@@ -2,7 +2,6 @@ use Rattle.std.proofs.Common.{◌≡◌, ◌↔◌, ◌-◌, ◌+◌, ◌<◌, I
 use Rattle.std.specs.Prelude.{slice_index}
 use Rattle.std.proofs.lemmas.Option.{same_Some, slice_get_within}
 use Rattle.hs_kept.specs.Packing.{unpacked}
-use Rattle.hs_kept.specs.Parts.{IsPartIn}
 use Rattle.hs_nodes.specs.Nodes.{IsWellPart}
 use Rattle.hs_nodes.specs.declared.table.Node.{Node}
 use Rattle.hs_regions.specs.Checking.{IsPartSized}

@@ -1,4 +1,4 @@
-use Rattle.std.proofs.Common.{◌≡◌, ◌≤◌, refl, subst, arith}
+use Rattle.std.proofs.Common.{◌≤◌, refl, arith}
 use Rattle.hs_kept.specs.Packing.{unpacked, unpacked_size}
 use Rattle.hs_regions.proofs.FaultLemmas.{copy-alone, fault-within, least-fault, node-alone, some-map}
 use Rattle.hs_regions.proofs.PartInLemmas.{copies-in, parts-in, some-both}

@@ -1,4 +1,4 @@
-use Rattle.std.proofs.Common.{◌≡◌, ◌↔◌, ◌<◌, IsTrue, slice_range, refl, subst, arith}
+use Rattle.std.proofs.Common.{◌↔◌, ◌<◌, IsTrue, slice_range, refl, subst, arith}
 use Rattle.std.proofs.lemmas.Option.{slice_get_within}
 use Rattle.hs_kept.specs.Packing.{unpacked}
 use Rattle.hs_nodes.specs.Nodes.{IsWellPart}

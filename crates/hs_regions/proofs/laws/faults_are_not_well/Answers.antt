@@ -1,4 +1,3 @@
-use Rattle.hs_regions.proofs.KeptFaultLemmas.{number-fault}
 use Rattle.hs_regions.proofs.WellLemmas.{fault-never}
 use Rattle.hs_regions.proofs.laws.faults_are_not_well.Goals as goal
 
