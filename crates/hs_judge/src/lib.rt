@@ -4,7 +4,7 @@
 #![tactic(auto)]
 
 #[cfg(test)]
-mod automata;
+mod always;
 #[cfg(test)]
 mod cases;
 #[cfg(test)]

@@ -55,23 +55,18 @@ fn judge_rows<E: Engine>(engine: &E, rows: &[Row]) -> Verdict {
 /// Fails where another byte than `a` wakes the engine, of `a` and `b`.
 fn judge_wakers<E: Engine>(engine: &E) -> Verdict {
     let wakers = engine.wakers();
-    ensure(
-        wakers.contains(b'a') && !wakers.contains(b'b'),
-        "another waker",
-    )
+    let is_a_alone = wakers.contains(b'a') && !wakers.contains(b'b');
+    ensure(is_a_alone, "another waker")
 }
 
 /// Judges the engines of repeats of `a`.
 pub(crate) fn judge_regions() -> Verdict {
     let set = ByteSet::of(b'a');
-    let (first, ring, last) = (
-        First::new(set, 300),
-        Ring::new(set, 5, 12),
-        Last::new(set, 40),
-    );
+    let first = First::new(set, 300);
     judge_rows(&first, &FIRST)?;
     judge_wakers(&first)?;
+    let ring = Ring::new(set, 5, 12);
     judge_rows(&ring, &RING)?;
     judge_wakers(&ring)?;
-    judge_rows(&last, &LAST)
+    judge_rows(&Last::new(set, 40), &LAST)
 }

@@ -19,11 +19,15 @@ fn setup_of(alloc: Global, lines: &str) -> Result<Setup, Fail> {
 /// The kinds of the roles of a list.
 fn kinds_of(alloc: Global, lines: &str) -> Result<Vec<Kind>, Fail> {
     let setup = setup_of(alloc, lines)?;
-    let mut kinds = Vec::new(alloc);
-    for role in setup.program.roles() {
-        kinds.push(role.kind())?;
-    }
-    Ok(kinds)
+    let kinds = setup.program.roles().iter().map(|role| role.kind());
+    Ok(kinds.collect(alloc)?)
+}
+
+/// What is written of the roles of each literal of a list.
+fn literal_roles_of(alloc: Global, lines: &str) -> Result<String, Fail> {
+    let setup = setup_of(alloc, lines)?;
+    let roles = setup.program.literal_roles(alloc)?;
+    Ok(format!(in alloc; "{roles:?}")?)
 }
 
 /// The region of a stream of what runs a list.
@@ -59,13 +63,18 @@ fn size_of(alloc: Global, lines: &str) -> Result<usize, Fail> {
 fn pieces_are_of_these_kinds(rt: HostRuntime) -> Result<(), Fail> {
     let alloc = rt.alloc();
     let ring = kinds_of(alloc, "1:/x.{1000}y/\n")?;
-    assert_eq!(rt;
-        ring.as_slice(),
-        [Kind::Positions, Kind::Ring, Kind::Positions].as_slice()
-    );
+    let wanted = [Kind::Positions, Kind::Ring, Kind::Positions];
+    assert_eq!(rt; ring.as_slice(), wanted.as_slice());
     let looks_back = kinds_of(alloc, "1:/\\bfoo\\b/\n")?;
     let wanted = [Kind::LookBack, Kind::BareLiteral, Kind::Positions];
     assert_eq!(rt; looks_back.as_slice(), wanted.as_slice());
+    Ok(())
+}
+
+#[test]
+fn literals_stand_for_these_roles(rt: HostRuntime) -> Result<(), Fail> {
+    let roles = literal_roles_of(rt.alloc(), "1:/foo.*bar/\n2:/bar[0-9]foo/\n")?;
+    assert_eq!(rt; roles.as_str(), "[[0, 5], [2, 3]]");
     Ok(())
 }
 

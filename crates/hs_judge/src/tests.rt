@@ -1,6 +1,5 @@
 //! The rows, table by table.
 
-use crate::automata::judge_automata;
 use crate::chains::written;
 use crate::judging::{judge, judge_expression};
 use crate::regions::judge_regions;
@@ -72,11 +71,6 @@ fn nothing_matches_an_alternation_of_nothing(rt: HostRuntime) -> Result<(), Fail
         judge_nothing(alloc, text)?;
     }
     Ok(())
-}
-
-#[test]
-fn twins_keep_the_same_bits(rt: HostRuntime) -> Result<(), Fail> {
-    judge_automata(rt.alloc())
 }
 
 #[test]

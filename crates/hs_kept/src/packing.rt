@@ -106,7 +106,7 @@ impl Packing {
 
 impl Packing {
     ghost use Rattle.std.specs.Prelude.{◌⊎◌, ◌<◌, ℕ, ◌+◌, ◌-◌, false, List, IfSome, MatchOption, None, Some};
-    ghost use Rattle.std.specs.Prelude.{slice_get, slice_range};
+    ghost use Rattle.std.specs.Prelude.{◌↔◌, IsTrue, slice_get, slice_range, vec_len};
     ghost use Rattle.hs_base.specs.Lists.{Each};
     ghost use Rattle.hs_kept.specs.Packing.{AreNumbers, IsPackedOf, packed_size, unpacked, unpacked_size};
     ghost use Rattle.hs_kept.specs.Parts.{AreNumbersBefore, IsNumberFault, IsPartIn, place_of};
@@ -204,6 +204,7 @@ impl Packing {
 
     /// Whether there is a field with a number. Without one a region is kept as it is.
     pub fn has_states(&self) -> bool
+        ensures states { IsTrue result ↔ (0 < vec_len self.now.fields) }
         ensures sizes { result ≡ false → packed_size self.now ≡ unpacked_size self.now }
         ensures unpacks { result ≡ false → (kept : List ℕ) → unpacked self.now kept ≡ kept }
         ensures packs { result ≡ false → (region : List ℕ) → length region ≡ unpacked_size self.now →

@@ -1,10 +1,12 @@
--- What `info` tells: the identifiers of a database are those of its entries, each once, and its region is that of its plan.
+-- What `info` tells: the identifiers of a database are those of its entries, each once, and what is kept of a stream is
+-- what is kept of its plan's regions.
 use Rattle.std.proofs.Common.{◌≡◌, ◌↔◌, ℕ, ◌+◌, List, [], ◌∷◌, ◌++◌, length, map, Option, Result, Ok, Err, refl, sym, ap, ap₂, ◌∙◌, subst, inl, inr}
 use Rattle.std.proofs.lemmas.List.{length-map}
 use Rattle.hs_base.specs.Lists.{IsMember, OneOf}
 use Rattle.hs_base.specs.Entries.{ListedEntry}
 use Rattle.hs_base.specs.Patterns.{Pattern}
-use Rattle.hs_base.specs.Regions.{IsPlan, Plan, plan_size}
+use Rattle.hs_base.specs.Regions.{IsPlan, Plan}
+use Rattle.hs_kept.specs.KeptRegions.{IsKeptSize}
 use Rattle.hs_outside.specs.declared.fault.Failed.{Failed}
 use Rattle.hs_outside.specs.Sink.{IsSent, Sends}
 use Rattle.hs_outside.proofs.Sending.{IsSent-then, IsCutShort-after}
@@ -52,7 +54,7 @@ plan-names entries plan accepted is id =
 
 -- what the lines of a database say
 pub info-text : (database : Compiled) (entries : List ListedEntry) (P : List Pattern) (plan : Plan) (count names size state : ℕ) → AreAcceptedAs entries P → IsPlanOf P plan → IsDatabaseOf database plan →
-    count ≡ length entries → names ≡ length (identifiers_of database) → size ≡ plan_size plan → state ≡ size + 42 → IsInfoText entries (info_lines count names ++ size_lines size state)
+    count ≡ length entries → names ≡ length (identifiers_of database) → IsKeptSize plan size → state ≡ size + 42 → IsInfoText entries (info_lines count names ++ size_lines size state)
 info-text database entries P plan count names size state accepted planned is counted named sized stated =
     record {
       identifiers = plan.identifiers;

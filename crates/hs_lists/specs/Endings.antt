@@ -10,7 +10,7 @@ use Rattle.hs_outside.specs.Store.{Told, IsFile, IsLonger, IsMissing, PutsOrHide
 use Rattle.hs_text.specs.AnswerLines.{accepted_line, compiled_line, info_lines, size_lines}
 use Rattle.hs_dbfile.specs.Files.{IsDatabaseFile}
 use Rattle.hs_compile.specs.Lists.{AreAcceptedAs}
-use Rattle.hs_compile.specs.Sizes.{IsSizeOf}
+use Rattle.hs_compile.specs.Sizes.{IsKeptSizeOf}
 use Rattle.hs_lists.specs.ListKinds.{ListKind, pattern_file}
 use Rattle.hs_lists.specs.Accepting.{IsAccepted, IsRefused}
 use Rattle.hs_lists.specs.Causes.{Cause, write, store, absent, limit, memory}
@@ -95,8 +95,8 @@ pub data TellEnds (IsText : List ListedEntry → List ℕ → Type 0) (kind : Li
 abbrev pub IsAcceptedText : List ListedEntry → List ℕ → Type 0
 IsAcceptedText entries text = text ≡ accepted_line (length entries)
 
--- what a database holds: how many entries, how many identifiers, each counted once, and how many bytes the region of a
--- stream has, and its state file
+-- what a database holds: how many entries, how many identifiers, each counted once, and how many bytes are kept of a
+-- stream, and those of its state file
 pub record IsInfoText (entries : List ListedEntry) (text : List ℕ) : Type 0 where
   pub identifiers : List ℕ
   pub once : AreRising identifiers
@@ -104,7 +104,7 @@ pub record IsInfoText (entries : List ListedEntry) (text : List ℕ) : Type 0 wh
   pub patterns : List Pattern
   pub accepted : AreAcceptedAs entries patterns
   pub size : ℕ
-  pub is_size : IsSizeOf patterns size
+  pub is_size : IsKeptSizeOf patterns size
   pub whole : text ≡ info_lines (length entries) (length identifiers) ++ size_lines size (size + 42)
 
 -- How `compile PATTERNS DB` may end.

@@ -8,6 +8,7 @@ pub mod MakeLemmas
 pub mod ShapeLemmas
 pub mod OrderLemmas
 pub mod BuildLemmas
+pub mod RoleListLemmas
 pub mod IdentifierLemmas
 pub mod FinishLemmas
 pub mod ListedLemmas

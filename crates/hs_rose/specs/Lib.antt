@@ -11,6 +11,7 @@ pub mod Indexing
 pub mod Marks
 pub mod Naming
 pub mod Ordering
+pub mod LiteralRoles
 pub mod Programs
 pub mod Building
 pub mod Views

@@ -9,6 +9,7 @@ mod info;
 mod kind;
 mod laws;
 mod literal_index;
+mod literals;
 mod making;
 mod marks;
 mod positions;

@@ -229,17 +229,17 @@ in <open s;write s 2;fo;save s f;expand t f;write t 1;o;write s 1;x;>
  = 0 <compiled 1 38;ok open s;ok write s 2;ok save s 116;ok expand t;t 16 3;ok write t 1;ok write s 1;>
 in <open s;write s 1;f;write s 0;;write s 1;o;save s d;close s;>
  = 0 <compiled 1 38;ok open s;ok write s 1;ok write s 0;ok write s 1;ok save s 116;ok close s;> <>
- <HSST%01%00%B6Ds%CA%A5%BD%19cFw%AB%A9%1B%8Dd%D5%C1%8Ba%C3%89W%E4%E1r%EDV%DD%2E1SbJ%00%00%00%02%(69)%00fo%00%00>
+ <HSST%02%00%B6Ds%CA%A5%BD%19cFw%AB%A9%1B%8Dd%D5%C1%8Ba%C3%89W%E4%E1r%EDV%DD%2E1SbJ%00%00%00%02%(69)%00fo%00%00>
 in <save t f;expand t f;open s;expand s f;save s a.1_-;expand u a.1_-;save s .a;>
  = 5 <compiled 1 38;no save t unknown;no expand t absent;ok open s;no expand s exists;ok save s 116;ok expand u;
  fault script 7;>
-in <expand t f;reset t;write t 1;o;close t;> f <HSST%01%00%B6Ds%CA%A5%BD%19cFw%AB%A9%1B%8Dd%D5%C1%8Ba%C3%89W%E4%E1r%ED
+in <expand t f;reset t;write t 1;o;close t;> f <HSST%02%00%B6Ds%CA%A5%BD%19cFw%AB%A9%1B%8Dd%D5%C1%8Ba%C3%89W%E4%E1r%ED
  V%DD%2E1SbJ%00%00%00%02%(69)%00fo%00%00>
  = 0 <compiled 1 38;ok expand t;ok reset t;ok write t 1;ok close t;>
-in <expand t f;write t 1;o;save t d;expand u d;close u> f <HSST%01%00%B6Ds%CA%A5%BD%19cFw%AB%A9%1B%8Dd%D5%C1%8Ba%C3%89
+in <expand t f;write t 1;o;save t d;expand u d;close u> f <HSST%02%00%B6Ds%CA%A5%BD%19cFw%AB%A9%1B%8Dd%D5%C1%8Ba%C3%89
  W%E4%E1r%EDV%DD%2E1SbJ%00%00%00%02%(69)%00fo%00%00>
  = 0 <compiled 1 38;ok expand t;t 16 3;ok write t 1;ok save t 116;ok expand u;ok close u;> <>
- <HSST%01%00%B6Ds%CA%A5%BD%19cFw%AB%A9%1B%8Dd%D5%C1%8Ba%C3%89W%E4%E1r%EDV%DD%2E1SbJ%00%00%00%03%(68)%00foo%01%00>
+ <HSST%02%00%B6Ds%CA%A5%BD%19cFw%AB%A9%1B%8Dd%D5%C1%8Ba%C3%89W%E4%E1r%EDV%DD%2E1SbJ%00%00%00%03%(68)%00foo%01%00>
 p <18:/a/H> in <open s;write s 2;aa;save s f;expand t f;write t 1;a;>
  = 0 <compiled 1 36;ok open s;s 18 1;ok write s 2;ok save s 118;ok expand t;ok write t 1;>
 p <17:/a$/> in <open s;write s 1;a;save s f;expand t f;close t;close s;>
@@ -255,29 +255,36 @@ p <18:/a/H> in <open s;write s 1;x;save s f;expand t f;write t 1;a;>
  = 0 <compiled 1 36;ok open s;ok write s 1;ok save s 118;ok expand t;t 18 2;ok write t 1;>
 p <15:/[0-9]+foo[a-z]*bar/> in <open s;write s 5;1foox;save s f;expand t f;write t 3;bar;>
  = 0 <compiled 1 53;ok open s;ok write s 5;ok save s 126;ok expand t;t 15 8;ok write t 3;>
+# One byte, the number of a state, in place of ten positions.
+p <18:/[0-9]{10}/> in <open s;write s 3;123;save s d;expand t d;write t 7;4567890;save t e;>
+ = 0 <compiled 1 44;ok open s;ok write s 3;ok save s 117;ok expand t;t 18 10;ok write t 7;ok save t 117;> <>
+ <HSST%02%00A%C5%F6v&%18%C82%23%88O%9E%E1%CF%83%AE3%88%16m8%A9l%20%EA%EA%BAXuP%E1OK%00%00%00%03%(68)%00123%00%00%03>
 # The region of no byte.
 in <open s;save s d;> = 0 <compiled 1 38;ok open s;ok save s 116;> <>
- <HSST%01%00%B6Ds%CA%A5%BD%19cFw%AB%A9%1B%8Dd%D5%C1%8Ba%C3%89W%E4%E1r%EDV%DD%2E1SbJ%(77)%00>
+ <HSST%02%00%B6Ds%CA%A5%BD%19cFw%AB%A9%1B%8Dd%D5%C1%8Ba%C3%89W%E4%E1r%EDV%DD%2E1SbJ%(77)%00>
 # A file is refused by its form, then by its version, its list, and its region.
 run <hs_tool compile p d;hs_tool stream d> p <16:/foo/> in <expand t f;write t 1;o;> pieces 1,2,3,7,1000
-f <HSST%01%00%B6Ds%CA%A5%BD%19cFw%AB%A9%1B%8Dd%D5%C1%8Ba%C3%89W%E4%E1r%EDV%DD%2E1SbJ%00%00%00%02%(69)%00fo%00%00%00>
+f <HSST%02%00%B6Ds%CA%A5%BD%19cFw%AB%A9%1B%8Dd%D5%C1%8Ba%C3%89W%E4%E1r%EDV%DD%2E1SbJ%00%00%00%02%(69)%00fo%00%00%00>
  = 0 <compiled 1 38;no expand t form;no write t unknown;>
-f <HSST%01%00%B6Ds%CA%A5%BD%19cFw%AB%A9%1B%8Dd%D5%C1%8Ba%C3%89W%E4%E1r%EDV%DD%2E1SbJ%00%00%00%02%(69)%00fo%00>
+f <HSST%02%00%B6Ds%CA%A5%BD%19cFw%AB%A9%1B%8Dd%D5%C1%8Ba%C3%89W%E4%E1r%EDV%DD%2E1SbJ%00%00%00%02%(69)%00fo%00>
  = 0 <compiled 1 38;no expand t form;no write t unknown;>
 f <> = 0 <compiled 1 38;no expand t form;no write t unknown;>
-f <HSST%02%00%(32)%00%(4)%00> = 0 <compiled 1 38;no expand t version;no write t unknown;>
-f <HSST%01%00%(32)%00%(4)%00> = 0 <compiled 1 38;no expand t database;no write t unknown;>
-p <15:/[0-9]+foo[a-z]*bar/> f <HSST%01%00%B6Ds%CA%A5%BD%19cFw%AB%A9%1B%8Dd%D5%C1%8Ba%C3%89W%E4%E1r%EDV%DD%2E1SbJ%00%00
+f <HSST%01%00%(32)%00%(4)%00> = 0 <compiled 1 38;no expand t version;no write t unknown;>
+f <HSST%02%00%(32)%00%(4)%00> = 0 <compiled 1 38;no expand t database;no write t unknown;>
+p <15:/[0-9]+foo[a-z]*bar/> f <HSST%02%00%B6Ds%CA%A5%BD%19cFw%AB%A9%1B%8Dd%D5%C1%8Ba%C3%89W%E4%E1r%EDV%DD%2E1SbJ%00%00
  %00%02%(69)%00fo%00%00> = 0 <compiled 1 53;no expand t database;no write t unknown;>
-f <HSST%01%00%B6Ds%CA%A5%BD%19cFw%AB%A9%1B%8Dd%D5%C1%8Ba%C3%89W%E4%E1r%EDV%DD%2E1Sb%(4)%00>
+f <HSST%02%00%B6Ds%CA%A5%BD%19cFw%AB%A9%1B%8Dd%D5%C1%8Ba%C3%89W%E4%E1r%EDV%DD%2E1Sb%(4)%00>
  = 0 <compiled 1 38;no expand t form;no write t unknown;>
-f <HSST%01%00%B6Ds%CA%A5%BD%19cFw%AB%A9%1B%8Dd%D5%C1%8Ba%C3%89W%E4%E1r%EDV%DD%2E1SbJ%00%00%00%02%(69)%00fo%02%00>
+f <HSST%02%00%B6Ds%CA%A5%BD%19cFw%AB%A9%1B%8Dd%D5%C1%8Ba%C3%89W%E4%E1r%EDV%DD%2E1SbJ%00%00%00%02%(69)%00fo%02%00>
  = 0 <compiled 1 38;no expand t form;no write t unknown;>
+p <18:/[0-9]{10}/> f <HSST%02%00A%C5%F6v&%18%C82%23%88O%9E%E1%CF%83%AE3%88%16m8%A9l%20%EA%EA%BAXuP
+ %E1OK%00%00%00%03%(68)%00123%00%00%0B>
+ = 0 <compiled 1 44;no expand t form;no write t unknown;>
 # A region that no stream has whose bytes are known.
-in <expand s f;write s 1;x;write s 0;;save s d;reset s;write s 3;foo;> f <HSST%01%00%B6Ds%CA%A5%BD%19cFw%AB%A9%1B%8Dd
+in <expand s f;write s 1;x;write s 0;;save s d;reset s;write s 3;foo;> f <HSST%02%00%B6Ds%CA%A5%BD%19cFw%AB%A9%1B%8Dd
  %D5%C1%8Ba%C3%89W%E4%E1r%EDV%DD%2E1SbJ%00%00%00%(7)%FF%7F%(66)%00>
  = 0 <compiled 1 38;ok expand s;no write s length;ok write s 0;ok save s 116;ok reset s;s 16 3;ok write s 3;> <>
- <HSST%01%00%B6Ds%CA%A5%BD%19cFw%AB%A9%1B%8Dd%D5%C1%8Ba%C3%89W%E4%E1r%EDV%DD%2E1SbJ%00%00%00%(7)%FF%7F%(66)%00>
+ <HSST%02%00%B6Ds%CA%A5%BD%19cFw%AB%A9%1B%8Dd%D5%C1%8Ba%C3%89W%E4%E1r%EDV%DD%2E1SbJ%00%00%00%(7)%FF%7F%(66)%00>
 
 # A store that fails at a save or an expansion.
 run <hs_tool stream d> d <HSDB%01%00%01%(3)%00%10%(14)%00%(8)%FF%03%00foo>

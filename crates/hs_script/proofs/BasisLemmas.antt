@@ -1,7 +1,7 @@
 -- What is made of a file is one stream or one refusal.
 use Rattle.std.proofs.Common.{◌≡◌, ◌≢◌, ℕ, Bool, true, false, List, Option, None, Some, refl, sym, ap, ◌∙◌, subst, arith}
 use Rattle.std.specs.Option.{unwrap_or}
-use Rattle.hs_base.specs.Regions.{IsWellFormed}
+use Rattle.hs_kept.specs.KeptRegions.{IsWellKept}
 use Rattle.hs_dbfile.specs.States.{State}
 use Rattle.hs_dbfile.proofs.StateLemmas.{same_form}
 use Rattle.hs_text.specs.declared.reply_lines.Word.{Word}
@@ -53,7 +53,7 @@ module _ {basis : Basis} {b : List ℕ} where
   never_both (bad_form p) a = p _ a.file
   never_both (other_version n s h) a = h.other (sym h.told ∙ ap version_of (same_form h.form a.file))
   never_both (other_digest s h) a = h.other (ap digest_of (same_form h.form a.file))
-  never_both (bad_region r s file bad) a = bad (subst (IsWellFormed basis.plan) (ap region_of (same_form a.file file)) a.well)
+  never_both (bad_region r s file bad) a = bad (subst (IsWellKept basis.plan) (ap region_of (same_form a.file file)) a.well)
 
   pub region_once : {x y : List ℕ} → IsAcceptedFile basis b x → IsAcceptedFile basis b y → x ≡ y
   unfolding region_of

@@ -2,16 +2,19 @@
 use Rattle.std.specs.Prelude.{◌≡◌, ◌≢◌, ℕ, ◌+◌, ◌<◌, ◌≤◌, List, length, Option, None, Some}
 use Rattle.hs_base.specs.Lists.{Each}
 use Rattle.hs_base.specs.Patterns.{Pattern}
-use Rattle.hs_base.specs.Regions.{Plan, IsPlan, IsRegion, IsWellFormed, plan_size, region_offset}
+use Rattle.hs_base.specs.Regions.{Plan, IsPlan, region_offset}
 use Rattle.hs_base.specs.Told.{Pair, IsTold}
+use Rattle.hs_kept.specs.KeptRegions.{IsKeptRegion, IsKeptSize, IsWellKept}
 use Rattle.hs_dbfile.specs.States.{State, HasForm, HasVersion, IsOfOther, IsStateFile}
 use Rattle.hs_text.specs.declared.reply_lines.Word.{Word}
 use Rattle.hs_text.specs.declared.reply_lines.Word.TheVariants as word
 
--- The plan of the regions of a list and its digest, and for each file the bytes of the stream that it is taken for, if
--- for any. Regions don't tell which stream they are of, and several streams may have one.
+-- The plan of the regions of a list, how many bytes are kept of one, and the list's digest, and for each file the bytes
+-- of the stream that it is taken for, if for any. What is kept doesn't tell which stream it is of, and several streams
+-- may have the same.
 pub record Basis : Type 0 where
   pub plan : Plan
+  pub size : ℕ
   pub digest : List ℕ
   pub origin : List ℕ → Option (List ℕ)
 
@@ -19,7 +22,7 @@ pub record Basis : Type 0 where
 abbrev pub patterns_of : Basis → List Pattern
 patterns_of basis = basis.plan.patterns
 
--- A stream: that of the bytes that it took since it was opened or reset; or a foreign one, of which the region is all
+-- A stream: that of the bytes that it took since it was opened or reset; or a foreign one, of which what is kept is all
 -- that is known.
 pub data Stream : Type 0 where
   Of : List ℕ → Stream
@@ -44,27 +47,28 @@ most_state = 16777258
 
 -- how many bytes a state file of the list has
 abbrev pub state_size : Basis → ℕ
-state_size basis = plan_size basis.plan + 42
+state_size basis = basis.size + 42
 
--- The bytes are the state file of the region of this stream, and these pairs are what it told.
+-- The bytes are the state file of what is kept of this stream, and these pairs are what it told.
 pub record IsSavedBy (basis : Basis) (file h : List ℕ) : Type 0 where
   pub bytes : Each (λ b. b < 256) h
   pub told : List Pair
   pub is_told : IsTold (patterns_of basis) h told
   pub region : List ℕ
   pub saved : IsStateFile file basis.digest region
-  pub is_region : IsRegion basis.plan h region
+  pub is_region : IsKeptRegion basis.plan h region
 
--- Each file that is taken for that of a stream is its state file.
+-- Of the plan's regions so many bytes are kept, and each file that is taken for that of a stream is its state file.
 pub record IsBasis (basis : Basis) : Type 0 where
   pub plan : IsPlan basis.plan
+  pub size : IsKeptSize basis.plan basis.size
   pub origins : (file h : List ℕ) → basis.origin file ≡ Some h → IsSavedBy basis file h
 
 -- The bytes are a state file of the list with this region, which is well formed.
 pub record IsAcceptedFile (basis : Basis) (bytes region : List ℕ) : Type 0 where
   pub short : length bytes ≤ most_state
   pub file : IsStateFile bytes basis.digest region
-  pub well : IsWellFormed basis.plan region
+  pub well : IsWellKept basis.plan region
 
 -- The bytes are refused by this word: the form comes first, then the version, the digest, and the region.
 pub data RefusesBytes (basis : Basis) (bytes : List ℕ) : Word → Type 0 where
@@ -85,7 +89,7 @@ pub data RefusesBytes (basis : Basis) (bytes : List ℕ) : Word → Type 0 where
   bad_region : (region : List ℕ) →
       length bytes ≤ most_state →
       IsStateFile bytes basis.digest region →
-      (IsWellFormed basis.plan region → ⊥) →
+      (IsWellKept basis.plan region → ⊥) →
       RefusesBytes basis bytes word.Form
 
 -- no stream is made of the file, by this word
@@ -99,7 +103,7 @@ pub data Gives (basis : Basis) : File → Stream → Type 0 where
   gives_traced : {bytes region h : List ℕ} →
       basis.origin bytes ≡ Some h →
       IsAcceptedFile basis bytes region →
-      IsRegion basis.plan h region →
+      IsKeptRegion basis.plan h region →
       Gives basis (Bytes bytes) (Of h)
   gives_foreign : {bytes region : List ℕ} →
       basis.origin bytes ≡ None →

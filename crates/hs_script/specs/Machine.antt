@@ -2,8 +2,9 @@
 use Rattle.std.specs.Prelude.{◌≡◌, ◌≢◌, ◌⊎◌, ℕ, ◌+◌, ◌<◌, ◌≤◌, List, [], ◌++◌, length, Option, None, Some}
 use Rattle.hs_base.specs.Lists.{Each, IsMember, IsRising}
 use Rattle.hs_base.specs.Offsets.{greatest_offset}
-use Rattle.hs_base.specs.Regions.{Plan, IsWellFormed, region_offset}
+use Rattle.hs_base.specs.Regions.{Plan, region_offset}
 use Rattle.hs_base.specs.Told.{Pair, IsNew, IsLast}
+use Rattle.hs_kept.specs.KeptRegions.{IsWellKept}
 use Rattle.hs_text.specs.declared.commands.Verb.{Verb}
 use Rattle.hs_text.specs.declared.commands.Verb.TheVariants as verb
 use Rattle.hs_text.specs.declared.reply_lines.Word.{Word}
@@ -43,7 +44,7 @@ pub record AreWithin (plan : Plan) (low high : ℕ) (reports : List Pair) : Type
 
 -- What bytes may make of a foreign stream's region, and report. No bytes report nothing, and leave it as it is.
 pub record GoesOn (plan : Plan) (region v regions : List ℕ) (reports : List Pair) : Type 0 where
-  pub well : IsWellFormed plan regions
+  pub well : IsWellKept plan regions
   pub offset : region_offset regions ≡ region_offset region + length v
   pub within : AreWithin plan (region_offset region) (region_offset regions) reports
   pub idle : v ≡ [] → (regions ≡ region) × (reports ≡ [])

@@ -9,8 +9,10 @@ use Rattle.std.proofs.lemmas.Option.{slice_get-map, slice_get_past, same_Some, n
 use Rattle.hs_base.specs.declared.context.Next.{Next}
 use Rattle.hs_base.specs.Assertions.{line_feed, is_word_byte}
 use Rattle.hs_base.specs.Bits.{has_word_bit}
-use Rattle.hs_base.specs.Contexts.{class_of, next_by, prev_by}
+use Rattle.hs_base.specs.Contexts.{Context, class_of, next_by, prev_by}
 use Rattle.hs_base.proofs.ContextLemmas.{first_of_both}
+use Rattle.std.specs.Slice.Scan.{HoldsNowhere}
+use Rattle.hs_bits.specs.NextBits.{IsNextBit}
 use Rattle.hs_bits.proofs.WordLemmas.{or-turned, words-past, words-zero}
 use Rattle.hs_engine.specs.declared.automaton.Automaton.{Automaton}
 use Rattle.hs_engine.specs.AnyBelow.{any_below}
@@ -27,6 +29,10 @@ use Rattle.hs_states.specs.declared.footing.Footing.{Footing}
 use Rattle.hs_states.proofs.StateLemmas.{any-same, live-where, not-true, same-where, true-false}
 
 -- words with the same bits
+
+or-grouped : (a b c : Bool) → ((a || b) || c) ≡ (a || (b || c))
+or-grouped true b c = refl
+or-grouped false b c = refl
 
 same-number : (n m : ℕ) → n < 2 → m < 2 → eqb n 1 ≡ eqb m 1 → n ≡ m
 same-number zero zero below above same = refl
@@ -71,6 +77,43 @@ kept-bits words row now len len' same kept k =
       | inl below ↦ kept k (omega arith)
       | inr above ↦ words-past now k (omega arith) ∙ sym (ap (λ t. t && has_word_bit words k) (words-past row k (omega arith)))
     ]
+
+-- numbers of which the test holds for none add nothing
+any-skipped : (test : ℕ → Bool) (from n : ℕ) → from ≤ n → ((i : ℕ) → from ≤ i → i < n → test i ≡ false) → any_below n test ≡ any_below from test
+any-skipped test from zero above none = let e : 0 ≡ from = omega arith in ap (λ m. any_below m test) e
+any-skipped test from (suc n) above none =
+    elim (cases_lt n from) [
+      | inl all ↦ let e : suc n ≡ from = omega arith in ap (λ m. any_below m test) e
+      | inr more ↦
+          ap (λ t. t || any_below n test) (none n more (omega arith)) ∙ any-skipped test from n more (λ i low high. none i low (omega arith))
+    ]
+
+abbrev IsFollowed : FollowRows → List ℕ → Context → ℕ → ℕ → Bool
+IsFollowed rows live c k x = has_word_bit live x && in_row rows x k c
+
+followed-skipped : (rows : FollowRows) (live : List ℕ) (c : Context) (from n k : ℕ) → from ≤ n → HoldsNowhere (has_word_bit live) from n →
+    any_below n (IsFollowed rows live c k) ≡ any_below from (IsFollowed rows live c k)
+followed-skipped rows live c from n k above none =
+    any-skipped (IsFollowed rows live c k) from n above (λ i low high. ap (λ t. t && in_row rows i k c) (none i low high))
+
+-- the followers of one live position more
+pub followed-more : (rows : FollowRows) (live : List ℕ) (c : Context) (from end position k : ℕ) (row now before first : Bool) → IsNextBit (has_word_bit live) from end position →
+    row ≡ in_row rows position k c → now ≡ (row || before) → before ≡ (any_below from (IsFollowed rows live c k) || first) →
+    now ≡ (any_below (position + 1) (IsFollowed rows live c k) || first)
+followed-more rows live c from end position k row now before first next row_is now_is so =
+    let after : suc position ≡ position + 1 = omega arith in
+    let one : row ≡ IsFollowed rows live c k position = row_is ∙ sym (ap (λ t. t && in_row rows position k c) next.is) in
+    let same : any_below from (IsFollowed rows live c k) ≡ any_below position (IsFollowed rows live c k) =
+    sym (followed-skipped rows live c from position k next.low next.least) in
+    now_is
+    ∙ (ap (λ t. t || before) one
+    ∙ (ap (λ t. IsFollowed rows live c k position || t) (so ∙ ap (λ t. t || first) same)
+    ∙ (sym (or-grouped (IsFollowed rows live c k position) (any_below position (IsFollowed rows live c k)) first)
+    ∙ ap (λ m. any_below m (IsFollowed rows live c k) || first) after)))
+
+pub followed-all : (rows : FollowRows) (live : List ℕ) (c : Context) (from n k : ℕ) (now first : Bool) → from ≤ n → HoldsNowhere (has_word_bit live) from n →
+    now ≡ (any_below from (IsFollowed rows live c k) || first) → now ≡ (any_below n (IsFollowed rows live c k) || first)
+followed-all rows live c from n k now first above none so = so ∙ ap (λ t. t || first) (sym (followed-skipped rows live c from n k above none))
 
 -- where a state leads, by the rows of what follows and the masks
 pub led-bits : (a : Automaton) (f : Footing) (next : Next) (k : ℕ) (rows : FollowRows) (masks : List Mask) (led entered : List ℕ) → rows ≡ a.follows → masks ≡ a.enters.items →

@@ -1,5 +1,5 @@
 -- The states as sets of positions by bytes.
-use Rattle.std.proofs.Common.{◌≡◌, ℕ, zero, suc, ◌+◌, ◌*◌, ◌/◌, ◌%◌, ◌<◌, ◌≤◌, Bool, true, false, ◌&&◌, List, [], ◌∷◌, ◌++◌, drop, take, length, get_or, eqb, nat_lt, Some, slice_get, refl, sym, ap, subst, ◌∙◌, inl, inr, arith, length-append, vec_len, map}
+use Rattle.std.proofs.Common.{◌≡◌, ℕ, zero, suc, ◌+◌, ◌*◌, ◌/◌, ◌%◌, ◌<◌, ◌≤◌, false, ◌&&◌, List, [], ◌∷◌, ◌++◌, drop, take, length, get_or, eqb, nat_lt, Some, slice_get, refl, sym, ap, subst, ◌∙◌, inl, inr, arith, length-append, vec_len, map}
 use Rattle.std.specs.Int.{bit_at}
 use Rattle.std.proofs.lemmas.Bool.{cases_lt, le-ltb, lt-ltb}
 use Rattle.std.proofs.lemmas.List.{get_or-take, get_or_past, length-take-le, length-drop, take-append-le, drop-append-le}
@@ -19,7 +19,7 @@ use Rattle.hs_bits.proofs.WordLemmas.{and-none}
 use Rattle.hs_engine.specs.declared.automaton.Automaton.{Automaton}
 use Rattle.hs_engine.specs.Tables.{Runs}
 use Rattle.hs_engine.proofs.AgreementLemmas.{get-seam}
-use Rattle.hs_states.specs.AutomatonStates.{AreBuilt, state_of, tests_by}
+use Rattle.hs_states.specs.AutomatonStates.{AreBuilt, state_of}
 use Rattle.hs_states.specs.DfaStates.{AreStatesOf, DfaState, first_state, is_led_to, is_live, move_by, tests_of}
 use Rattle.hs_states.specs.Footings.{HasPositionsBelow}
 use Rattle.hs_states.specs.PackedSets.{ArePrevsTo, AreSetsTo, IsPackedSet, IsSetPushed, set_at}
@@ -201,6 +201,6 @@ module _ (sets : StateSets) (tree : Tree) (are : AreSetsOf sets tree) where
       let same : s ≡ t =
       same-live (written.count Written) s t (state-size i s at) (state-size j t there)
       (λ x below.
-          sym ((are.each i s at).0.bits x) ∙ (ap (λ (b : List ℕ). has_bit b x) (one.set ∙ sym other.set) ∙ (are.each j t there).0.bits x))
+      sym ((are.each i s at).0.bits x) ∙ (ap (λ (b : List ℕ). has_bit b x) (one.set ∙ sym other.set) ∙ (are.each j t there).0.bits x))
       (sym (are.each i s at).1 ∙ (one.prev ∙ sym other.prev ∙ (are.each j t there).1)) in
       are.all.so_far.once i j t (at ∙ ap (λ (z : DfaState). Some z) same) there

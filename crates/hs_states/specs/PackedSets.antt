@@ -1,5 +1,5 @@
 -- Sets of positions by bytes, one behind the other, and what stands before in each state.
-use Rattle.std.specs.Prelude.{◌≡◌, ℕ, ◌+◌, ◌*◌, ◌<◌, ◌&&◌, ◌++◌, List, drop, take, length, nat_lt, Some, slice_get}
+use Rattle.std.specs.Prelude.{◌≡◌, ℕ, ◌*◌, ◌<◌, ◌&&◌, ◌++◌, List, drop, take, length, nat_lt, Some, slice_get}
 use Rattle.hs_base.specs.declared.context.Prev.{Prev}
 use Rattle.hs_base.specs.Bits.{has_bit, has_word_bit}
 use Rattle.hs_base.specs.Lists.{Each}

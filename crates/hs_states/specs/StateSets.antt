@@ -1,5 +1,5 @@
 -- The states of an expression as sets of positions by bytes, by their numbers.
-use Rattle.std.specs.Prelude.{◌≡◌, ℕ, ◌+◌, ◌*◌, ◌/◌, ◌<◌, List, Option, MatchOption, get_or, length, vec_len}
+use Rattle.std.specs.Prelude.{◌≡◌, ℕ, ◌+◌, ◌/◌, ◌<◌, List, Option, MatchOption, get_or, length, vec_len}
 use Rattle.std.specs.Prelude.{Some, slice_get}
 use Rattle.hs_base.specs.declared.context.Prev.{Prev}
 use Rattle.hs_base.specs.declared.context.Prev.TheVariants as before

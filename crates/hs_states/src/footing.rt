@@ -12,7 +12,7 @@ ghost use Rattle.hs_states.specs.DfaStates.{kept_prev};
 ghost use Rattle.hs_states.specs.Footings.{IsNumberAmong};
 
 use hs_base::{ByteSet, MAX_POSITIONS, Mask, Next, Prev};
-use hs_bits::{WORD_BITS, contains_word_bit, insert_word_bit, keep_words, unite_bytes};
+use hs_bits::{WORD_BITS, insert_word_bit, keep_words, next_bit_in, unite_bytes};
 use hs_engine::FollowRows;
 
 /// The words that hold a bit for each of the most positions.
@@ -129,29 +129,11 @@ pub(crate) fn add_followers(
         (any_below rows.now.size (λ x. has_word_bit live.now x && in_row rows.now x k (between prev next))
         || has_word_bit led.old k) }
 {
-    for position in 0..rows.size() {
-        add_followers_of(rows, live, position, prev, next, led);
-    }
-}
-
-/// Sets the bits of the positions that follow that one, if it is live.
-fn add_followers_of(
-    rows: &FollowRows,
-    live: &[u64; WIDTH],
-    position: usize,
-    prev: Prev,
-    next: Next,
-    led: &mut [u64; WIDTH],
-)
-    requires { position < rows.now.size }
-    ensures { (k : ℕ) →
-        has_word_bit led.new k ≡
-        ((has_word_bit live.now position && in_row rows.now position k (between prev next))
-        || has_word_bit led.old k) }
-{
-    let few = rows.size();
-    if position < few && contains_word_bit(live, position) {
+    let size = rows.size();
+    let mut from = 0;
+    while let Some(position) = next_bit_in(live, from, size) {
         unite_bytes(led, rows.row(prev, next, position));
+        from = position + 1;
     }
 }
 

@@ -54,11 +54,7 @@ impl StateSets {
         let Some(subsets) = Subsets::build(alloc, automaton, &classes)? else {
             return Ok(None);
         };
-        Ok(Some(StateSets::of_states(
-            alloc,
-            automaton,
-            &subsets.known,
-        )?))
+        Ok(Some(StateSets::of_states(alloc, automaton, &subsets.known)?))
     }
 
     /// The sets of states of an automaton.

@@ -1,9 +1,10 @@
 //! The subset construction: the states of an automaton in the order in which they are discovered.
 
-ghost use Rattle.std.specs.Prelude.{◌≡◌, ◌+◌, ◌*◌, ◌<◌, ◌≤◌, true, false, IfOk, IfSome, length, vec_len, slice_index, Some, slice_get};
+ghost use Rattle.std.specs.Prelude.{◌≡◌, ◌+◌, ◌*◌, ◌<◌, ◌≤◌, true, false, IfOk, IfSome, length, vec_len, slice_index};
+ghost use Rattle.std.specs.Prelude.{Some, slice_get};
 
 use crate::byte_classes::ByteClasses;
-use crate::footing::{Footing, kept_prev, number_among};
+use crate::footing::{Footing, WIDTH, kept_prev, number_among};
 use crate::leads::Leads;
 use hs_base::Prev;
 use hs_engine::Automaton;
@@ -12,6 +13,13 @@ use std::alloc::{AllocError, Global};
 /// How many states there may be, so that a byte holds the number of one.
 pub(crate) const MAX_STATES: usize = 255;
 
+/// How many numbers of states are kept to be tried first: about two for each state that there may be.
+const HINT_COUNT: usize = 512;
+/// How far the highest bits of a word lie that number these.
+const HINT_SHIFT: u32 = 55;
+/// An odd number that spreads the bits of a word to its highest ones.
+const SPREAD: u64 = 0x9e37_79b9_7f4a_7c15;
+
 /// The states so far, and where bytes lead from them.
 #[derive(Debug, Drop)]
 pub struct Subsets {
@@ -19,6 +27,8 @@ pub struct Subsets {
     pub known: Vec<Footing>,
     /// For each state that was taken a row of the numbers of states, one for each class of bytes.
     pub rows: Vec<u8>,
+    /// For the places of bits the number of a state that may have them: a guess, which is tried before it is used.
+    hints: [u8; HINT_COUNT],
 }
 
 impl Subsets {
@@ -60,6 +70,7 @@ impl Subsets {
         Ok(Subsets {
             known,
             rows: Vec::new(alloc),
+            hints: [0; HINT_COUNT],
         })
     }
 
@@ -118,8 +129,38 @@ impl Subsets {
         Ok(true)
     }
 
-    /// The number of a state, which is put behind the others if it is new; None where there are too many.
+    /// The number of a state, which is put behind the others if it is new; None where there are too many. What was
+    /// found before for such bits is tried first.
     fn enter(&mut self, one: Footing) -> Result<Option<usize>, AllocError>
+        ensures rows { IfOk result (λ _. self.new.rows ≡ self.old.rows) }
+        ensures entered { IfOk result (λ number. IsEntered self.old.known.items self.new.known.items one number) }
+    {
+        let place = hint_place(&one);
+        let hint = self.hints[place] as usize;
+        if hint < self.known.len() && self.known[hint].is_alike(&one) {
+            return Ok(Some(hint));
+        }
+        let number = self.look_up(one)?;
+        self.keep_hint(place, number);
+        Ok(number)
+    }
+
+    /// Keeps the number that was found for bits that have this place.
+    fn keep_hint(&mut self, place: usize, number: Option<usize>)
+        requires { place < 512 }
+        ensures known { self.new.known ≡ self.old.known }
+        ensures rows { self.new.rows ≡ self.old.rows }
+    {
+        if let Some(found) = number {
+            if found < MAX_STATES {
+                self.hints[place] = found as u8;
+            }
+        }
+    }
+
+    /// The number of a state, which is looked for among all, and put behind them if it is new; None where there are too
+    /// many.
+    fn look_up(&mut self, one: Footing) -> Result<Option<usize>, AllocError>
         ensures rows { IfOk result (λ _. self.new.rows ≡ self.old.rows) }
         ensures entered { IfOk result (λ number. IsEntered self.old.known.items self.new.known.items one number) }
     {
@@ -132,4 +173,15 @@ impl Subsets {
         self.known.push(one)?;
         Ok(Some(self.known.len() - 1))
     }
+}
+
+/// The place by the bits of a state at which the number of one is kept that had such bits.
+fn hint_place(one: &Footing) -> usize
+    ensures { result < 512 }
+{
+    let mut mixed = one.prev.number() as u64;
+    for place in 0..WIDTH {
+        mixed = mixed.rotate_left(11) ^ one.positions[place];
+    }
+    (mixed.wrapping_mul(SPREAD) >> HINT_SHIFT) as usize
 }

@@ -96,11 +96,13 @@ fn counts_states(rt: HostRuntime) -> Result<(), Fail> {
     Ok(())
 }
 
-/// What may come next behind the text in the engine, which is entered before every byte, and whether it is at rest.
-fn step_through<E: Engine, L: Ledger>(
+/// What may come next behind the text in the engine, which is entered before every byte that is one of these, and
+/// whether it is at rest.
+pub(crate) fn step_through<E: Engine, L: Ledger>(
     engine: &E,
     region: &mut [u8],
     text: &[u8],
+    enter: NextSet,
     blank: Blank,
 ) -> (NextSet, bool)
     requires region { length region.old ≡ (E.meaning engine.now).width }
@@ -114,7 +116,7 @@ fn step_through<E: Engine, L: Ledger>(
     let mut prev = Prev::Start;
     let mut at = 0;
     for byte in text {
-        engine.step(region, prev, at, NextSet::all(), *byte, &mut steps);
+        engine.step(region, prev, at, enter, *byte, &mut steps);
         prev = Prev::behind(*byte);
         at += 1;
     }
@@ -126,7 +128,8 @@ fn behind<E: Engine>(alloc: Global, engine: &E, text: &[u8]) -> Result<(NextSet,
     requires { length text.now < 2 ^ 63 }
 {
     let mut region = vec![in alloc; 0xffu8; engine.size()]?;
-    Ok(step_through::<E, Brand>(engine, &mut region, text, Blank::new(1)))
+    let blank = Blank::new(1);
+    Ok(step_through::<E, Brand>(engine, &mut region, text, NextSet::all(), blank))
 }
 
 /// The text of a number, five bytes long.

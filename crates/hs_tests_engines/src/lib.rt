@@ -23,3 +23,5 @@ mod regions;
 mod search;
 #[cfg(test)]
 mod tables;
+#[cfg(test)]
+mod twins;

@@ -6,10 +6,10 @@ use std::alloc::Global;
 use std::process::Abort;
 use std::test::Fail;
 
-/// The saved stream `fo` over `16:/foo/`: the name, version 1, the digest of the list (by `sha256sum` of its encoding),
+/// The saved stream `fo` over `16:/foo/`: the name, version 2, the digest of the list (by `sha256sum` of its encoding),
 /// the length of the region, and the region: the offset, the last 64 bytes, and two rows of bits.
 const SAVED: &[u8; 116] =
-    b"HSST\x01\0\xb6\x44\x73\xca\xa5\xbd\x19\x63\x46\x77\xab\xa9\x1b\x8d\x64\xd5\xc1\x8b\
+    b"HSST\x02\0\xb6\x44\x73\xca\xa5\xbd\x19\x63\x46\x77\xab\xa9\x1b\x8d\x64\xd5\xc1\x8b\
     \x61\xc3\x89\x57\xe4\xe1\x72\xed\x56\xdd\x2e\x31\x53\x62\x4a\0\0\0\x02\0\0\0\0\0\0\0\
     \0\0\0\0\0\0\0\0\0\0\0\0\0\0\0\0\0\0\0\0\0\0\0\0\0\0\0\0\0\0\0\0\0\0\0\0\0\0\0\0\0\0\0\0\0\0\0\0\0\0\
     \0\0\0\0\0\0\0\0\0\0\0\0fo\0\0";

@@ -5,7 +5,10 @@ use Rattle.std.proofs.lemmas.Slice.Eq.{bytes_eq-Decides}
 use Rattle.std.specs.Str.{IsAscii}
 use Rattle.std.proofs.lemmas.Str.Ascii.{IsAscii-nil, IsAscii-cons}
 use Rattle.hs_base.specs.Lists.{Each}
-use Rattle.hs_base.specs.Regions.{IsWellFormed, IsRegion, plan_size}
+use Rattle.hs_kept.specs.KeptRegions.{IsKeptRegion, IsWellKept}
+use Rattle.hs_kept.specs.Packing.{packed_size}
+use Rattle.hs_kept.proofs.KeptLemmas.{kept-no-larger, sizes-once}
+use Rattle.hs_kept.proofs.PackingLemmas.{packings-sized}
 use Rattle.hs_outside.specs.Store.{Told, untold, lacks, holds, told_put, IsFile, IsLonger, IsMissing, PutsOrHides}
 use Rattle.hs_dbfile.specs.States.{IsStateFile}
 use Rattle.hs_dbfile.proofs.StateLemmas.{same_form, states_are_one, states_read_once}
@@ -15,7 +18,7 @@ use Rattle.hs_text.specs.declared.reply_lines.Word.{Word}
 use Rattle.hs_text.specs.declared.reply_lines.Word.TheVariants as word
 use Rattle.hs_text.specs.declared.reply_lines.Reply.{Reply}
 use Rattle.hs_text.specs.declared.reply_lines.Reply.TheVariants.{Done, No}
-use Rattle.hs_compile.specs.Databases.{Compiled}
+use Rattle.hs_compile.specs.Databases.{Compiled, packing_of}
 use Rattle.hs_stream.specs.declared.fault.ExpandFault.{ExpandFault}
 use Rattle.hs_stream.specs.declared.fault.ExpandFault.TheVariants as fault
 use Rattle.hs_stream.specs.declared.stream.Stream.{Stream}
@@ -200,6 +203,12 @@ has_put is before s stream name file bytes size told tells f saved tracks (inr h
   follows = λ n. untold-all (tells n) (hides n);
 }
 
+-- a database has the size that the machine goes by
+pub saved-size : {db : Compiled} {basis : Basis} {size : ℕ} → RunsBasis db basis → size ≡ packed_size (packing_of db) + 42 → size ≡ state_size basis
+saved-size {db} {basis} is told =
+    let same = sizes-once basis.plan (packed_size (packing_of db)) basis.size (packings-sized (packing_of db) basis.plan is.is_database.packing) is.is_basis.size in
+    omega (arith, told, same)
+
 pub performs-saved : {db : Compiled} {streams : Streams} {told tells : List ℕ → Told} (name file bytes : List ℕ) (size : ℕ) (stream : Stream) → stream_at streams name ≡ Some stream → IsSaved db bytes (region_of stream) → ((basis : Basis) → RunsBasis db basis → size ≡ state_size basis) → PutsOrHides told tells file bytes → Performs db (kept streams told) (kept streams tells) (Save name file ∷ []) (done verb.Save [] (Some size) ∷ [])
 performs-saved {db} {streams} {told} {tells} name file bytes size stream known saved sized puts =
     performs-by {old = kept streams told} {now = kept streams tells} (Save name file) (done verb.Save [] (Some size)) (Some stream) (puts-same streams name (Some stream) known) stepped
@@ -240,7 +249,8 @@ saved-short : {db : Compiled} {basis : Basis} {bytes h : List ℕ} → RunsBasis
 saved-short {basis = basis} {bytes = bytes} is saved =
     let one = states_are_one bytes basis.digest basis.digest saved.region saved.region saved.saved saved.saved in
     let small = is.is_database.small in
-    omega (arith, one.long, saved.is_region.len, is.is_database.size, small)
+    let few = kept-no-larger basis.plan (length saved.region) (record { forms = saved.is_region.forms; are = saved.is_region.are; size_is = saved.is_region.len }) in
+    omega (arith, one.long, few, is.is_database.size, small)
 
 -- what is shown, and refused by this word
 pub record IsRefusedAs (basis : Basis) (f : File) (w : Word) : Type 0 where
@@ -271,7 +281,7 @@ module _ {db : Compiled} {basis : Basis} (is : RunsBasis db basis) (bytes : List
   file : IsStateFile bytes basis.digest (region_of stream)
   file = by_basis is expanded.saved
 
-  well : IsWellFormed basis.plan (region_of stream)
+  well : IsWellKept basis.plan (region_of stream)
   well =
       (region-exact db basis.plan is.is_database (region_of stream)
       (each_by (λ b small. omega (arith, small)) (region_of stream) expanded.saved.is.region.bytes)).0 expanded.fits.region
@@ -280,9 +290,9 @@ module _ {db : Compiled} {basis : Basis} (is : RunsBasis db basis) (bytes : List
   accepted = record { short = short; file = file; well = well }
 
   -- of a stream's state file it has the region
-  at-saved : (h : List ℕ) → IsSavedBy basis bytes h → IsRegion basis.plan h (region_of stream)
+  at-saved : (h : List ℕ) → IsSavedBy basis bytes h → IsKeptRegion basis.plan h (region_of stream)
   at-saved h saved =
-      subst (IsRegion basis.plan h) ((states_are_one bytes basis.digest basis.digest saved.region (region_of stream) saved.saved file).regions) saved.is_region
+      subst (IsKeptRegion basis.plan h) ((states_are_one bytes basis.digest basis.digest saved.region (region_of stream) saved.saved file).regions) saved.is_region
 
   follows-at : (h : List ℕ) → IsSavedBy basis bytes h → IsAt basis h stream
   follows-at h saved = record { behind = record { bytes = saved.bytes; region = at-saved h saved }; told = saved.told; is_told = saved.is_told }
@@ -311,7 +321,7 @@ data IsRefusedBy (basis : Basis) (f : File) (e : ExpandFault) : Type 0 where
 
 module _ {db : Compiled} {basis : Basis} (is : RunsBasis db basis) (bytes : List ℕ) (short : length bytes ≤ most_state) where
   -- a region that a fault is told of isn't well formed
-  never-well : (at : ℕ) (region : List ℕ) → IsSaved db bytes region → IsExpandFaultOf db bytes (fault.Form at) → IsWellFormed basis.plan region → ⊥
+  never-well : (at : ℕ) (region : List ℕ) → IsSaved db bytes region → IsExpandFaultOf db bytes (fault.Form at) → IsWellKept basis.plan region → ⊥
   never-well at region saved form good =
       let taken = saved-taken db bytes region ((region-exact db basis.plan is.is_database region good.bytes).1 good) saved in
       let e : fault.Form at ≡ fault.Memory = taken.free (fault.Form at) form in

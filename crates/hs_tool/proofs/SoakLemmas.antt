@@ -3,10 +3,12 @@ use Rattle.std.proofs.Common.{◌≡◌, ◌∙◌, ℕ, zero, suc, ◌*◌, Lis
 use Rattle.hs_base.specs.Patterns.{Pattern}
 use Rattle.hs_base.proofs.ToldLemmas.{new-once, last-once}
 use Rattle.hs_compile.specs.Answers.{IsCompiled}
-use Rattle.hs_compile.specs.Databases.{Compiled, layout_of}
+use Rattle.hs_compile.specs.Databases.{Compiled, packing_of}
 use Rattle.hs_outside.specs.Sink.{IsCutShort, IsSent, Took, TookPrefix}
 use Rattle.hs_outside.specs.Store.{Told}
-use Rattle.hs_layout.specs.Layouts.{laid_size}
+use Rattle.hs_kept.specs.KeptRegions.{IsKeptSize}
+use Rattle.hs_kept.specs.Packing.{packed_size}
+use Rattle.hs_kept.proofs.PackingLemmas.{packings-sized}
 use Rattle.hs_lists.specs.Accepting.{IsEntryCause, first, uncompiled}
 use Rattle.hs_lists.specs.Causes.{Cause, write}
 use Rattle.hs_lists.specs.Endings.{Outside, NoFault, TookNothing, outside_of}
@@ -40,7 +42,7 @@ runs-compiled seed count is = record { plan = is.plan; patterns = is.is_plan.pat
 -- the five lines
 pub soak-text : (seed count : ℕ) (db : Compiled) (stream text : List ℕ) (even cut : Tally) (n size region : ℕ) → n ≡ count → IsCompiled (drawn_entries seed count) db → stream ≡ drawn_stream seed count →
     ((P : List Pattern) → RunsPatterns db P → IsSummary P stream even) → ((P : List Pattern) → RunsPatterns db P → IsSummary P stream cut) →
-    size ≡ length stream → region ≡ laid_size (layout_of db) → text ≡ soak_lines n size region even cut → IsSoakText seed count text
+    size ≡ length stream → region ≡ packed_size (packing_of db) → text ≡ soak_lines n size region even cut → IsSoakText seed count text
 soak-text seed count db stream text even cut n size region counted is drawn_is one other sized laid whole =
     let runs = runs-compiled seed count is in
     let P = is.patterns in
@@ -50,7 +52,7 @@ soak-text seed count db stream text even cut n size region counted is drawn_is o
       patterns = P;
       accepted = is.accepted;
       size = region;
-      is_size = record { plan = is.plan; is = is.is_plan; size = laid ∙ is.runs.size };
+      is_size = record { plan = is.plan; is = is.is_plan; size = subst (IsKeptSize is.plan) (sym laid) (packings-sized (packing_of db) is.plan is.runs.packing) };
       tally = even;
       summary = subst (λ w. IsSummary P w even) drawn_is (one P runs);
       whole = whole ∙ (ap (λ m. soak_lines m size region even cut) counted ∙ ap (λ m. soak_lines count m region even cut) long ∙ ap (λ t. soak_lines count (64 * count) region even t) (sym same));

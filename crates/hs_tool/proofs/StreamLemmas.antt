@@ -6,7 +6,9 @@ use Rattle.hs_outside.specs.Source.{Gave, IsAtEnd, IsWhole}
 use Rattle.hs_outside.specs.Sink.{Took, TookPrefix}
 use Rattle.hs_outside.specs.Store.{Told}
 use Rattle.hs_text.specs.declared.reply_lines.ScriptFault.{ScriptFault}
-use Rattle.hs_compile.specs.Databases.{Compiled, IsDatabaseOf}
+use Rattle.hs_kept.specs.Packing.{packed_size}
+use Rattle.hs_kept.proofs.PackingLemmas.{packings-sized}
+use Rattle.hs_compile.specs.Databases.{Compiled, IsDatabaseOf, packing_of}
 use Rattle.hs_compile.proofs.SizeLemmas.{plan-once}
 use Rattle.hs_script.specs.Bases.{Basis}
 use Rattle.hs_lists.specs.declared.loading.Loaded.{Loaded}
@@ -49,13 +51,19 @@ runs_each {loaded = loaded} is basis of = record {
 }
 
 pub has_database : {kind : ListKind} {told : Told} {loaded : Loaded} → (is : IsLoaded kind told loaded) → HasList database_file told (entries_of loaded) is.patterns → HasDatabase told (entries_of loaded) is.patterns
-has_database is has = record { list = has; plan = is.plan; is_plan = is.is_plan }
+has_database is has = record {
+  list = has;
+  plan = is.plan;
+  is_plan = is.is_plan;
+  size = packed_size (packing_of loaded.database);
+  kept = packings-sized (packing_of loaded.database) is.plan is.runs.packing;
+}
 
 -- a machine may go by the plan of the list, and take no file for that of a stream
 pub some_basis : {told : Told} {entries : List ListedEntry} {P : List Pattern} → HasDatabase told entries P → (basis : Basis) × IsBasisOf entries P basis
 some_basis {entries = entries} has = (
-  record { plan = has.plan; digest = list_digest entries; origin = λ file. None },
-  record { plan = has.is_plan; digest = refl; is_basis = record { plan = has.is_plan.is_plan; origins = λ file h e. absurd (cc e) } },
+  record { plan = has.plan; size = has.size; digest = list_digest entries; origin = λ file. None },
+  record { plan = has.is_plan; digest = refl; is_basis = record { plan = has.is_plan.is_plan; size = has.kept; origins = λ file h e. absurd (cc e) } },
 )
 
 module _ {db : Compiled} {entries : List ListedEntry} {P : List Pattern} (of : ByEach entries P (RunsBasis db)) where

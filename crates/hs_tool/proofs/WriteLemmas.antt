@@ -1,6 +1,6 @@
 -- What a write makes of the machine.
 use Rattle.std.proofs.Common.{◌≡◌, ℕ, Bool, false, List, [], ◌∷◌, ◌++◌, length, Option, None, Some, Result, refl, sym, subst, arith}
-use Rattle.hs_base.specs.Regions.{IsWellFormed}
+use Rattle.hs_kept.specs.KeptRegions.{IsWellKept}
 use Rattle.hs_base.specs.Told.{Pair}
 use Rattle.hs_base.proofs.NewLemmas.{told_more}
 use Rattle.hs_text.specs.declared.commands.Verb.TheVariants as verb
@@ -41,7 +41,7 @@ taken-of basis (Of h) v old new pairs is f written =
       follows = record { behind = led.behind; told = f.told ++ pairs; is_told = told_more basis.plan.patterns h v f.told pairs f.is_told led.reports };
     }
 taken-of basis (Foreign region) v old new pairs is f written =
-    let well : IsWellFormed basis.plan (region_of new) = written.well basis.plan is.is_database (subst (IsWellFormed basis.plan) (sym f.0) f.1) in
+    let well : IsWellKept basis.plan (region_of new) = written.well basis.plan is.is_database (subst (IsWellKept basis.plan) (sym f.0) f.1) in
     record {
       t = Foreign (region_of new);
       takes =

@@ -28,6 +28,7 @@ use Rattle.hs_base.specs.Offsets.{greatest_offset}
 use Rattle.hs_lists.specs.Causes.{Cause, usage, refused, read, write, store, absent, limit, script, memory, status_of}
 use Rattle.hs_lists.specs.Causes.{fault_line}
 use Rattle.hs_base.specs.Regions.{Plan}
+use Rattle.hs_kept.specs.KeptRegions.{IsKeptSize}
 use Rattle.hs_compile.specs.Lists.{AreAcceptedAs, IsFirstRefusal}
 use Rattle.hs_compile.specs.Sizes.{IsPlanOf}
 use Rattle.hs_stream.specs.Drawing.{drawn_entries}
@@ -98,11 +99,13 @@ pub data ScanEnds (kind : ListKind) (list file : List ℕ) (before now : Outside
       Rose before.sunk now.sunk →
       ScanEnds kind list file before now (Some write)
 
--- The list of the database file is accepted, and it has a plan.
+-- The list of the database file is accepted, and it has a plan, of whose regions so many bytes are kept.
 pub record HasDatabase (told : Told) (entries : List ListedEntry) (P : List Pattern) : Type 0 where
   pub list : HasList database_file told entries P
   pub plan : Plan
   pub is_plan : IsPlanOf P plan
+  pub size : ℕ
+  pub kept : IsKeptSize plan size
 
 -- what is said of the script of a command
 abbrev pub setting : List ListedEntry → List Pattern → Outside → Outside → Input → Input → Setting

@@ -3,9 +3,9 @@ use Rattle.std.specs.Prelude.{◌≡◌, ◌≢◌, ℕ, ◌+◌, List, Option, 
 use Rattle.std.specs.BTreeMap.{get_by, btree_map_len}
 use Rattle.std.specs.Ordering.{nat_cmp}
 use Rattle.std.specs.Cmp.Lexicographic.{slice_cmp}
-use Rattle.hs_base.specs.Regions.{IsWellFormed}
 use Rattle.hs_base.specs.Told.{Pair, IsTold}
 use Rattle.hs_outside.specs.Store.{Told, untold, lacks, holds}
+use Rattle.hs_kept.specs.KeptRegions.{IsWellKept}
 use Rattle.hs_compile.specs.Databases.{Compiled, IsDatabaseOf, digest_of}
 use Rattle.hs_stream.specs.declared.stream.Stream.{Stream}
 use Rattle.hs_stream.specs.Leading.{IsBehind}
@@ -51,19 +51,19 @@ pub record RunsBasis (db : Compiled) (basis : Basis) : Type 0 where
   pub is_database : IsDatabaseOf db basis.plan
   pub digest : basis.digest ≡ digest_of db
 
--- The stream has the region of these bytes, which told these pairs.
+-- The stream keeps what is kept of these bytes, which told these pairs.
 pub record IsAt (basis : Basis) (h : List ℕ) (stream : Stream) : Type 0 where
   pub behind : IsBehind basis.plan h (region_of stream)
   pub told : List Pair
   pub is_told : IsTold (patterns_of basis) h told
 
--- A stream of the machine is the one here: that of its bytes, or the one of its region.
+-- A stream of the machine is the one here: that of its bytes, or the one that keeps the same.
 abbrev pub Follows : Basis → Option Known → Option Stream → Type 0
 Follows basis None None = Unit {0}
 Follows basis None (Some stream) = ⊥
 Follows basis (Some s) None = ⊥
 Follows basis (Some (Of h)) (Some stream) = IsAt basis h stream
-Follows basis (Some (Foreign region)) (Some stream) = (region_of stream ≡ region) × IsWellFormed basis.plan region
+Follows basis (Some (Foreign region)) (Some stream) = (region_of stream ≡ region) × IsWellKept basis.plan region
 
 -- What the machine is told of a name is what the store tells of it.
 pub data FollowsFile (basis : Basis) : File → Told → Type 0 where

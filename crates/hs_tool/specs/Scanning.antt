@@ -3,7 +3,8 @@ use Rattle.std.specs.Prelude.{◌≡◌, ℕ, ◌+◌, ◌≤◌, List, [], leng
 use Rattle.hs_base.specs.Told.{Pair}
 use Rattle.hs_outside.specs.Counts.{Rose}
 use Rattle.hs_outside.specs.Store.{Told, IsMissing, IsPresent, IsLonger, IsFile, Begins}
-use Rattle.hs_base.specs.Regions.{Plan, IsWellFormed}
+use Rattle.hs_base.specs.Regions.{Plan}
+use Rattle.hs_kept.specs.KeptRegions.{IsWellKept}
 use Rattle.hs_compile.specs.Databases.{Compiled, IsDatabaseOf}
 use Rattle.hs_base.specs.Offsets.{greatest_offset}
 use Rattle.hs_stream.specs.declared.stream.Stream.{Stream}
@@ -29,8 +30,8 @@ pub record IsWritten (db : Compiled) (old new : Stream) (bytes : List ℕ) (pair
   pub offset : offset_of new ≡ offset_of old + length bytes
   pub well : (plan : Plan) →
       IsDatabaseOf db plan →
-      IsWellFormed plan (region_of old) →
-      IsWellFormed plan (region_of new)
+      IsWellKept plan (region_of old) →
+      IsWellKept plan (region_of new)
   pub idle : bytes ≡ [] → (region_of new ≡ region_of old) × (pairs ≡ [])
 
 -- The bytes were written to the stream, which has this name, if it has one, and that holds of the lines of its reports.

@@ -6,7 +6,7 @@ use Rattle.hs_base.specs.Patterns.{Pattern}
 use Rattle.hs_outside.specs.Counts.{Rose}
 use Rattle.hs_outside.specs.Sink.{Took, TookPrefix}
 use Rattle.hs_compile.specs.Lists.{AreAcceptedAs, IsFirstRefusal}
-use Rattle.hs_compile.specs.Sizes.{IsSizeOf}
+use Rattle.hs_compile.specs.Sizes.{IsKeptSizeOf}
 use Rattle.hs_lists.specs.Causes.{Cause, refused, write, memory}
 use Rattle.hs_lists.specs.Endings.{Outside, NoFault, TookNothing}
 use Rattle.hs_stream.specs.declared.tally.Tally.{Tally}
@@ -19,7 +19,7 @@ pub record IsSoakText (seed count : ℕ) (text : List ℕ) : Type 0 where
   pub patterns : List Pattern
   pub accepted : AreAcceptedAs (drawn_entries seed count) patterns
   pub size : ℕ
-  pub is_size : IsSizeOf patterns size
+  pub is_size : IsKeptSizeOf patterns size
   pub tally : Tally
   pub summary : IsSummary patterns (drawn_stream seed count) tally
   pub whole : text ≡ soak_lines count (64 * count) size tally tally

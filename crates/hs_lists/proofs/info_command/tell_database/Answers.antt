@@ -1,7 +1,9 @@
-use Rattle.std.proofs.Common.{◌≡◌, ◌++◌, ◌∙◌, ℕ, ◌+◌, List, length, refl, sym, ap, arith}
+use Rattle.std.proofs.Common.{◌≡◌, ◌++◌, ◌∙◌, ℕ, ◌+◌, List, length, refl, sym, subst, ap, arith}
 use Rattle.std.proofs.lemmas.List.{length-map}
 use Rattle.hs_base.specs.Entries.{listed}
-use Rattle.hs_base.specs.Regions.{plan_size}
+use Rattle.hs_compile.specs.Databases.{packing_of}
+use Rattle.hs_kept.specs.KeptRegions.{IsKeptSize}
+use Rattle.hs_kept.proofs.PackingLemmas.{packings-sized}
 use Rattle.hs_outside.proofs.Sending.{Took-nothing}
 use Rattle.hs_text.specs.AnswerLines.{info_lines, size_lines}
 use Rattle.hs_lists.specs.Loading.{entries_of}
@@ -21,7 +23,8 @@ returns-in-Ok-write_info-clause-ends g c =
     let count : c.len-expressions.result ≡ length entries = omega (arith, c.len-expressions.ensures, c.in-Ok.loaded.entries.ok.0, length-map c.in-Ok.loaded.entries.items listed) in
     let read : c.len-identifiers.result ≡ length c.graph.result.now.identifiers.items = omega (arith, c.len-identifiers.ensures, c.graph.result.now.identifiers.ok.0) in
     let named = identifiers-count c.in-Ok.loaded.database c.graph.result.now c.len-identifiers.result c.graph.ensures.graph read in
-    let size : c.region_size-region.result ≡ plan_size loaded.plan = c.region_size-region.ensures.size ∙ loaded.runs.size in
+    let size : IsKeptSize loaded.plan c.region_size-region.result =
+    subst (IsKeptSize loaded.plan) (sym c.region_size-region.ensures.size) (packings-sized (packing_of c.in-Ok.loaded.database) loaded.plan loaded.runs.packing) in
     let state : c.stream_size-state.result ≡ c.region_size-region.result + 42 = omega (arith, c.stream_size-state.ensures, c.region_size-region.ensures.size) in
     Endings.done entries loaded.patterns _ (has_list _ _ c.in-Ok.loaded loaded)
     (info-text c.in-Ok.loaded.database entries loaded.patterns loaded.plan c.len-expressions.result c.len-identifiers.result c.region_size-region.result c.stream_size-state.result loaded.accepted.accepted loaded.is_plan loaded.runs count named size state)
@@ -35,7 +38,8 @@ returns-clause-ends g c =
     let count : c.len-expressions.result ≡ length entries = omega (arith, c.len-expressions.ensures, c.in-Ok.loaded.entries.ok.0, length-map c.in-Ok.loaded.entries.items listed) in
     let read : c.len-identifiers.result ≡ length c.graph.result.now.identifiers.items = omega (arith, c.len-identifiers.ensures, c.graph.result.now.identifiers.ok.0) in
     let named = identifiers-count c.in-Ok.loaded.database c.graph.result.now c.len-identifiers.result c.graph.ensures.graph read in
-    let size : c.region_size-region.result ≡ plan_size loaded.plan = c.region_size-region.ensures.size ∙ loaded.runs.size in
+    let size : IsKeptSize loaded.plan c.region_size-region.result =
+    subst (IsKeptSize loaded.plan) (sym c.region_size-region.ensures.size) (packings-sized (packing_of c.in-Ok.loaded.database) loaded.plan loaded.runs.packing) in
     let state : c.stream_size-state.result ≡ c.region_size-region.result + 42 = omega (arith, c.stream_size-state.ensures, c.region_size-region.ensures.size) in
     Endings.sink_failed entries loaded.patterns _ (has_list _ _ c.in-Ok.loaded loaded)
     (info-text c.in-Ok.loaded.database entries loaded.patterns loaded.plan c.len-expressions.result c.len-identifiers.result c.region_size-region.result c.stream_size-state.result loaded.accepted.accepted loaded.is_plan loaded.runs count named size state)

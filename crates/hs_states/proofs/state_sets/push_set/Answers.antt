@@ -1,5 +1,4 @@
-use Rattle.std.proofs.Common.{take, arith, ◌<◌}
-use Rattle.std.proofs.lemmas.List.{length-take-le, get_or-take}
+use Rattle.std.proofs.Common.{take, arith}
 use Rattle.hs_states.proofs.SetLemmas.{packed-set, small-behind, taken-small}
 use Rattle.hs_states.proofs.state_sets.push_set.Goals as goal
 

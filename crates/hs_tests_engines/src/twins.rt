@@ -1,11 +1,14 @@
 //! `Limex` beside its twin `Plain`, over automata that no expression has. It is `#[cfg(test)]`.
-use crate::cases::{Verdict, ensure};
-use crate::spans::{is_at_rest, run};
+ghost use Rattle.std.specs.Prelude.{◌<◌, ◌^◌, length};
+
+use crate::dfa::step_through;
 use hs_base::{Assertion, ByteSet, Mask, Next, NextSet};
 use hs_engine::{Automaton, Engine, FollowRows};
 use hs_limex::Limex;
 use hs_nfa::Plain;
 use std::alloc::{AllocError, Global};
+use std::marker::Brand;
+use std::sync::ledger::Blank;
 use std::test::Fail;
 
 /// The mask of a number: of an assertion, of all contexts or of none.
@@ -136,26 +139,33 @@ const TEXTS: [&str; 5] = [
     "aaaaaaaaaaaaaaaaaaaaaaaa",
 ];
 
-/// What may come next, the region, and whether it is at rest.
-type Behind = (NextSet, Vec<u8>, Option<bool>);
+/// What may come next, whether the region is at rest, and the region.
+type Behind = (NextSet, bool, Vec<u8>);
 
-/// What an engine that is entered at each offset has behind the text.
-fn behind<E: Engine>(alloc: Global, engine: &E, text: &[u8]) -> Result<Behind, Fail> {
-    let (left, region) = run(alloc, engine, text, u64::MAX, NextSet::of(Next::Word))?;
-    let rests = is_at_rest(engine, &region);
-    Ok((left, region, rests))
+/// What an engine that is entered at each offset where a word byte comes next has behind the text.
+fn behind<E: Engine>(alloc: Global, engine: &E, text: &[u8]) -> Result<Behind, AllocError>
+    requires { length text.now < 2 ^ 63 }
+{
+    let mut region = vec![in alloc; 0xffu8; engine.size()]?;
+    let enter = NextSet::of(Next::Word);
+    let blank = Blank::new(1);
+    let (left, rests) = step_through::<E, Brand>(engine, &mut region, text, enter, blank);
+    Ok((left, rests, region))
 }
 
 /// Compares the regions and the answers behind the text.
-fn compare(alloc: Global, plain: &Plain, limex: &Limex, text: &[u8]) -> Verdict {
+fn compare(alloc: Global, plain: &Plain, limex: &Limex, text: &[u8]) -> Result<(), Fail> {
     let wanted = behind(alloc, plain, text)?;
     let found = behind(alloc, limex, text)?;
+    if found == wanted {
+        return Ok(());
+    }
     let what = format_args!("{found:?} in place of {wanted:?} behind {text:?}");
-    ensure(found == wanted, what)
+    Err(Fail::new(what))
 }
 
 /// Compares the engines of an automaton over each beginning of the text.
-fn compare_all(alloc: Global, plain: &Plain, limex: &Limex, text: &[u8]) -> Verdict {
+fn compare_all(alloc: Global, plain: &Plain, limex: &Limex, text: &[u8]) -> Result<(), Fail> {
     for cut in 0..=text.len() {
         compare(alloc, plain, limex, &text[..cut])?;
     }
@@ -163,7 +173,7 @@ fn compare_all(alloc: Global, plain: &Plain, limex: &Limex, text: &[u8]) -> Verd
 }
 
 /// Compares the engines of an automaton over each text.
-fn judge_automaton(alloc: Global, automaton: &Automaton) -> Verdict {
+fn judge_automaton(alloc: Global, automaton: &Automaton) -> Result<(), Fail> {
     let plain = Plain::build(alloc, automaton)?;
     let limex = Limex::build(alloc, automaton)?;
     for text in TEXTS {
@@ -172,8 +182,9 @@ fn judge_automaton(alloc: Global, automaton: &Automaton) -> Verdict {
     Ok(())
 }
 
-/// Compares the engines of each automaton, whose rows go by the context and don't.
-pub(crate) fn judge_automata(alloc: Global) -> Verdict {
+#[test]
+fn twins_keep_the_same_bits(rt: HostRuntime) -> Result<(), Fail> {
+    let alloc = rt.alloc();
     for (size, step) in AUTOMATA {
         for by_context in [false, true] {
             judge_automaton(alloc, &automaton(alloc, size, step, by_context)?)?;
