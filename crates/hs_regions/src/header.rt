@@ -10,10 +10,10 @@ use hs_bits::{BYTE_BITS, has_bit_in, is_zero};
 use hs_layout::HISTORY_SIZE;
 
 /// How many bytes the offset has, behind which the history begins.
-const OFFSET_SIZE: usize = 8;
+const OFFSET_LEN: usize = 8;
 
 /// Where the rows of bits begin: behind the history.
-const ROWS_AT: usize = OFFSET_SIZE + HISTORY_SIZE;
+const ROWS_AT: usize = OFFSET_LEN + HISTORY_SIZE;
 
 /// How many bytes the stream has of which these are kept.
 pub fn offset_in(kept: &[u8]) -> u64
@@ -42,7 +42,7 @@ pub(crate) fn header_fault(singles: usize, identifiers: usize, kept: &[u8]) -> O
         return Some(0);
     }
     if !has_no_early_byte(kept, offset) {
-        return Some(OFFSET_SIZE);
+        return Some(OFFSET_LEN);
     }
     if !are_spare(kept, ROWS_AT, singles, here) {
         return Some(ROWS_AT);
@@ -63,7 +63,7 @@ fn has_no_early_byte(kept: &[u8], offset: u64) -> bool
     ensures { IsTrue result ↔ HasNoEarlyByte kept.now }
 {
     let seen = offset.min(HISTORY_SIZE as u64) as usize;
-    is_zero(&kept[OFFSET_SIZE..ROWS_AT - seen])
+    is_zero(&kept[OFFSET_LEN..ROWS_AT - seen])
 }
 
 /// Whether none but the first so many bits from byte `from` on is set before byte `end`.
