@@ -9,6 +9,8 @@ use Rattle.hs_base.specs.Entries.{ListedEntry, listed}
 use Rattle.hs_base.specs.Patterns.{Pattern}
 use Rattle.hs_base.specs.Regions.{Plan, fields_at, list_places, place_size, plan_size, region_size, sums_from}
 use Rattle.hs_base.proofs.SumLemmas.{sums-size}
+use Rattle.hs_kept.specs.declared.packing.Packing.{Packing}
+use Rattle.hs_kept.specs.Packing.{IsPackingFor}
 use Rattle.hs_layout.specs.Layouts.{Laid, laid_size, layout_of as layout_for}
 use Rattle.hs_literals.specs.declared.literals.Literals.{Literals}
 use Rattle.hs_literals.specs.Held.{held}
@@ -21,7 +23,7 @@ use Rattle.hs_rose.specs.Plans.{AsksFor, plan_of}
 use Rattle.hs_rose.specs.Programs.{Tables, IsProgramOf}
 use Rattle.hs_rose.proofs.PlanLemmas.{is-plan}
 use Rattle.hs_compile.specs.Answers.{AreSplit, IsCompiled}
-use Rattle.hs_compile.specs.Databases.{Compiled, compiled}
+use Rattle.hs_compile.specs.Databases.{Compiled, compiled, packing_of}
 use Rattle.hs_compile.specs.GraphLaws.{IsDatabaseOfPlans, IsProgramFor, RunsPlans}
 use Rattle.hs_compile.specs.GraphTables.{IsLaidFor, program_layout}
 use Rattle.hs_compile.specs.Lists.{AreAcceptedFrom}
@@ -56,8 +58,8 @@ pub plan-laid-size : (plan : Plan) → laid_size (plan_layout plan) ≡ plan_siz
 plan-laid-size plan = laid-sums (length plan.singles) (length plan.identifiers) (map place_size (list_places plan))
 
 -- the database of a program is that of the plans whose program that is
-pub database-plans : (t : Tables) (graph : Graph PieceEngine) (literals : Literals) (l : Laid) (digest : List ℕ) → IsLaidFor t l → held literals ≡ t.literals → RunsPlans t graph → IsGraphSound piece_meaning graph t.literals l → IsDatabaseOfPlans t (compiled graph literals l digest)
-database-plans t graph literals l digest laid same runs sound P is =
+pub database-plans : (t : Tables) (graph : Graph PieceEngine) (literals : Literals) (l : Laid) (packing : Packing) (digest : List ℕ) → IsLaidFor t l → held literals ≡ t.literals → RunsPlans t graph → IsGraphSound piece_meaning graph t.literals l → IsDatabaseOfPlans t (compiled graph literals l packing digest)
+database-plans t graph literals l packing digest laid same runs sound P is packs =
     let plan = plan_of t P in
     let own : l ≡ plan_layout plan = laid.laid ∙ plan-laid t is.entries P is.program is.asks in
     record {
@@ -66,6 +68,7 @@ database-plans t graph literals l digest laid same runs sound P is =
       layout = own;
       size = ap laid_size own ∙ plan-laid-size plan;
       small = laid.small;
+      packing = packs;
     }
 
 module _ (entries : List Entry) (P : List Pattern) (chains : List (List (List Piece))) (split : AreSplit (map listed entries) P chains) (t : Tables) (is : IsProgramOf t (map asked_of entries) chains) where
@@ -88,13 +91,13 @@ module _ (entries : List Entry) (P : List Pattern) (chains : List (List (List Pi
   pub program-small : laid_size (program_layout t) ≤ greatest_size
   program-small = subst (λ n. n ≤ greatest_size) (size-once P split.small.bytes (laid_size (program_layout t)) split.small.size own-size) split.small.within
 
-  pub database-compiled : (database : Compiled) → IsDatabaseOfPlans t database → IsCompiled (map listed entries) database
-  database-compiled database is_of = record {
+  pub database-compiled : (database : Compiled) → IsDatabaseOfPlans t database → IsPackingFor (packing_of database) (plan_of t P) → IsCompiled (map listed entries) database
+  database-compiled database is_of packs = record {
     patterns = P;
     accepted = split.accepted;
     plan = plan_of t P;
     is_plan = plan-is;
-    runs = is_of P program-for;
+    runs = is_of P program-for packs;
   }
 
 -- what is built of an accepted list

@@ -30,3 +30,4 @@ pub mod GraphLemmas
 pub mod SoundLemmas
 pub mod RunLemmas
 mod WakeRowLemmas
+mod PackingLemmas

@@ -11,6 +11,8 @@ use Rattle.hs_base.proofs.ListLemmas.{each-append}
 use Rattle.std.specs.declared.alloc.Global.{Global}
 use Rattle.std.specs.declared.vec.Vec.{Vec}
 use Rattle.hs_base.specs.Chains.{Piece, chains_of}
+use Rattle.hs_kept.specs.declared.builder.PackingBuilder.{PackingBuilder}
+use Rattle.hs_kept.specs.Builders.{IsPackedTo, IsPackedWith}
 use Rattle.hs_pieces.specs.declared.piece.Chain.{Chain}
 use Rattle.hs_pieces.specs.Meaning.{plain_chain}
 use Rattle.hs_rose.specs.declared.builder.Builder.{Builder}
@@ -174,13 +176,14 @@ chains-count : (entries : List ListedEntry) (P : List Pattern) (chains : List (L
 chains-count entries P chains split = ap length split.chains_are ∙ (length-map P (λ (x : Pattern). chains_of x.tree) ∙ as-many [] entries P split.accepted)
 
 -- one entry more is added
-pub step : (entries : List Entry) (i : ℕ) (entry : Entry) (own : Vec Chain Global) (lent : List Chain) (seen seen' : Seen) (counts counts' : Counts) (b b' : Builder) → slice_get entries i ≡ Some entry → lent ≡ own.items →
-    AreAdded (take i entries) seen counts b →
+pub step : (entries : List Entry) (i : ℕ) (entry : Entry) (own : Vec Chain Global) (lent : List Chain) (seen seen' : Seen) (counts counts' : Counts) (b b' : Builder) (p p' : PackingBuilder) → slice_get entries i ≡ Some entry → lent ≡ own.items →
+    AreAdded (take i entries) seen counts b p →
     ((before : List ListedEntry) (P : List Pattern) → Precede before P (i + 1) seen counts → IsCompiledEntry before P (listed entry) own counts') →
     ((before : List ListedEntry) → Remembers before seen → (IsMixed before (listed entry) → ⊥) → Remembers (before ++ listed entry ∷ []) seen') →
     ((before : List ListedChain) → IsBuilt b before [] → IsBuilt b' (before ++ chains_from (i + 1) 1 (asked_of entry) (map plain_chain lent)) []) →
-    AreAdded (take (i + 1) entries) seen' counts' b'
-step entries i entry own lent seen seen' counts counts' b b' is same was compile add build =
+    IsPackedWith p p' (map plain_chain lent) →
+    AreAdded (take (i + 1) entries) seen' counts' b' p'
+step entries i entry own lent seen seen' counts counts' b b' p p' is same was compile add build pack =
     let before = map listed (take i entries) in
     let es = map asked_of (take i entries) in
     let far = was.far in
@@ -199,14 +202,15 @@ step entries i entry own lent seen seen' counts counts' b b' is same was compile
       far = subst (λ xs. AreSoFar xs (was.chains ++ plain_chains own ∷ []) seen' counts') (sym (listed_next entries i entry is)) more;
       built = subst (λ xs. IsBuilt b' (listed_chains xs (was.chains ++ plain_chains own ∷ [])) []) (sym asked)
           (subst (λ xs. IsBuilt b' xs []) (sym (listed-push 1 es was.chains (asked_of entry) (plain_chains own) many)) owned);
+      packed = subst (λ (cs : List Chain). IsPackedTo p' (was.chains ++ map plain_chain cs ∷ [])) same (pack was.chains was.packed);
     }
 
 -- all entries are
-pub all-built : (entries : List Entry) (i : ℕ) (seen : Seen) (counts : Counts) (b : Builder) → i ≡ length entries → AreAdded (take i entries) seen counts b → IsListBuilt entries b
-all-built entries i seen counts b all was =
+pub all-built : (entries : List Entry) (i : ℕ) (seen : Seen) (counts : Counts) (b : Builder) (p : PackingBuilder) → i ≡ length entries → AreAdded (take i entries) seen counts b p → IsListBuilt entries b p
+all-built entries i seen counts b p all was =
     let whole : take i entries ≡ entries = take_all i entries (omega (arith, all)) in
-    let done : AreAdded entries seen counts b = subst (λ es. AreAdded es seen counts b) whole was in
-    record { patterns = done.far.patterns; chains = done.chains; split = done.far.split; built = done.built }
+    let done : AreAdded entries seen counts b p = subst (λ es. AreAdded es seen counts b p) whole was in
+    record { patterns = done.far.patterns; chains = done.chains; split = done.far.split; built = done.built; packed = done.packed }
 
 pub refused-at : (entries : List Entry) (P : List Pattern) (i : ℕ) (entry : Entry) (refusal : Refusal) → slice_get entries i ≡ Some entry →
     AreAcceptedFrom [] (map listed (take i entries)) P → IsRefusalOf (map listed (take i entries)) (listed entry) refusal → IsFirstRefusal (map listed entries) (suc (length (map listed (take i entries)))) entry.id refusal

@@ -48,10 +48,10 @@ pub fn compile(alloc: Global, entries: &[Entry]) -> Result<Database, CompileFaul
     ensures digest { IfOk result (λ database. digest_of database ≡ sha256 (list_bytes (map listed entries.now))) }
     ensures refused { IfErr result (IsCauseOf (map listed entries.now)) }
 {
-    let (builder, packing) = add_entries(alloc, entries)?;
+    let (builder, packing_builder) = add_entries(alloc, entries)?;
     let program = builder.finish(alloc, entries)?;
     let layout = lay_out(alloc, &program)?;
-    let packing = packing.finish(alloc, &layout)?;
+    let packing = packing_builder.finish(alloc, &layout)?;
     let database = Database::of_program(alloc, program, layout, packing, digest(entries))?;
     Ok(database)
 }

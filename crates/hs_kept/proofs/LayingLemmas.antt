@@ -1,5 +1,5 @@
 -- The fields of candidates in a layout.
-use Rattle.std.proofs.Common.{◌≡◌, ℕ, zero, suc, ◌+◌, ◌-◌, ◌/◌, ◌^◌, ◌<◌, ◌≤◌, Bool, false, List, [], ◌∷◌, ◌++◌, length, map, flat_map, drop, refl, sym, ap, ◌∙◌, subst, arith}
+use Rattle.std.proofs.Common.{◌≡◌, ℕ, zero, suc, ◌+◌, ◌-◌, ◌/◌, ◌^◌, ◌<◌, ◌≤◌, Bool, false, List, [], ◌∷◌, ◌++◌, length, map, flat_map, drop, refl, sym, ap, ◌∙◌, subst, arith, append-nil, append_assoc}
 use Rattle.std.specs.Prelude.{slice_index}
 use Rattle.std.specs.List.{AllZip}
 use Rattle.std.proofs.lemmas.List.Folds.{flat_map-map}
@@ -8,6 +8,7 @@ use Rattle.hs_base.specs.KeptPieces.{form_of, form_size}
 use Rattle.hs_base.specs.Patterns.{Pattern}
 use Rattle.hs_base.specs.Regions.{Place, Plan, field_starts, fields_at, list_places, place_form, place_size, places_behind, places_of, plan_size, sums_from}
 use Rattle.hs_base.specs.Trees.{Tree}
+use Rattle.hs_base.proofs.SumLemmas.{sums-low, sums-size}
 use Rattle.hs_base.specs.WrittenOut.{count, write_out}
 use Rattle.hs_layout.specs.Layouts.{Laid, laid_size, layout_of}
 use Rattle.hs_pieces.specs.LookBack.{begins_with_look_back}
@@ -160,10 +161,99 @@ apart-from starts _ _ number at saved before place r s (candidates.state {p = p}
     let width = state-width p tree c.sets keeps are in
     let some = state-some p tree c.sets keeps are in
     let begins_at : slice_index starts c.number ≡ at = ap (slice_index starts) own ∙ here.first in
-    (
-      omega (arith, begins_at, order),
-      omega (arith, begins_at, order, same),
-      omega (arith, some),
-      apart-from starts ps cs (suc number) (at + place_size p) (saved + (set_width c.sets - 1)) (slice_index starts c.number + set_width c.sets) (suc (slice_index starts c.number - saved)) r s rest here.rest
-          (omega (arith, begins_at, width)) (omega (arith, begins_at, order, same, some)) all rest_is,
-    )
+    (omega (arith, begins_at, order), (omega (arith, begins_at, order, same), (omega (arith, some), apart-from starts ps cs (suc number) (at + place_size p) (saved + (set_width c.sets - 1)) (slice_index starts c.number + set_width c.sets) (suc (slice_index starts c.number - saved)) r s rest here.rest
+    (omega (arith, begins_at, width)) (omega (arith, begins_at, order, same, some)) all rest_is)))
+
+-- ---- a loop over candidates
+
+-- the candidate that comes next
+pub next-of : (starts : List ℕ) (all cs rest : List Candidate) (c : Candidate) (done : List StateField) (saved : ℕ) → cs ≡ c ∷ rest →
+    IsLaying starts all cs done saved → IsNextCandidate starts c rest saved
+next-of starts all cs rest c done saved same laying = next-candidate starts c rest saved (subst (λ xs. AreLeft starts xs saved) same laying.left)
+
+-- one more
+pub laying-more : (starts : List ℕ) (all cs rest : List Candidate) (c : Candidate) (done : List StateField) (saved : ℕ) (f : StateField) →
+    f.at ≡ slice_index starts c.number → f.place ≡ f.at - saved → f.sets ≡ c.sets → cs ≡ c ∷ rest →
+    IsLaying starts all cs done saved → IsLaying starts all rest (done ++ f ∷ []) (saved + (set_width c.sets - 1))
+laying-more starts all cs rest c done saved f at place sets split is =
+    let was : IsLaying starts all (c ∷ rest) done saved = subst (λ xs. IsLaying starts all xs done saved) split is in
+    let own : StateField = record { at = slice_index starts c.number; place = slice_index starts c.number - saved; sets = c.sets } in
+    let same : f ≡ own = same-field f own at (place ∙ ap (λ n. n - saved) at) sets in
+    record {
+      left = (next-candidate starts c rest saved was.left).left;
+      fields = append_assoc done (f ∷ []) (fields_from starts rest (saved + (set_width c.sets - 1)))
+          ∙ (ap (λ g. done ++ g ∷ fields_from starts rest (saved + (set_width c.sets - 1))) same ∙ was.fields);
+      saves = was.saves;
+    }
+  where
+    same-field : (f g : StateField) → f.at ≡ g.at → f.place ≡ g.place → f.sets ≡ g.sets → f ≡ g
+    same-field f g at place sets =
+        ap (λ n. record { at = n; place = f.place; sets = f.sets }) at
+        ∙ (ap (λ n. record { at = g.at; place = n; sets = f.sets }) place ∙ ap (λ s. record { at = g.at; place = g.place; sets = s }) sets)
+
+module _ (b : PackingBuilder) (l : Laid) (plan : Plan) (is : IsBuiltForPlan b l plan) where
+  same-places : places_in_list (map (λ (x : Pattern). chains_of x.tree) plan.patterns) ≡ list_places plan
+  same-places =
+      flat_map-map places_in_chains (λ (x : Pattern). chains_of x.tree) plan.patterns
+      ∙ ap (λ looks_back. flat_map (places_of looks_back) plan.patterns) (sym is.looks_back)
+
+  own-candidates : AreCandidates (list_places plan) b.candidates.items 0
+  own-candidates = subst (λ ps. AreCandidates ps b.candidates.items 0) same-places is.packed.candidates
+
+  own-starts : l.starts ≡ sums_from (fields_at (length plan.singles) (length plan.identifiers)) (map place_size (list_places plan))
+  own-starts = ap (λ (x : Laid). x.starts) is.layout
+
+  own-size : laid_size l ≡ plan_size plan
+  own-size =
+      let sums = sums_from (fields_at (length plan.singles) (length plan.identifiers)) (map place_size (list_places plan)) in
+      let size : length sums - 1 ≡ length (map place_size (list_places plan)) =
+          (let e = sums-size (fields_at (length plan.singles) (length plan.identifiers)) (map place_size (list_places plan)) in omega (arith, e)) in
+      ap laid_size is.layout ∙ ap (slice_index sums) size
+
+  pub own-laid : AreLaid l.starts (list_places plan) b.candidates.items (fields_at (length plan.singles) (length plan.identifiers)) (fields_at (length plan.singles) (length plan.identifiers)) 0
+  own-laid =
+      laid-from l.starts (list_places plan) b.candidates.items 0 (fields_at (length plan.singles) (length plan.identifiers)) (fields_at (length plan.singles) (length plan.identifiers)) 0
+      own-candidates own-starts (omega arith)
+
+  -- before the first candidate
+  pub laying-none : IsLaying l.starts b.candidates.items b.candidates.items [] 0
+  laying-none = record {
+    left = record { places = list_places plan; number = 0; at = fields_at (length plan.singles) (length plan.identifiers); are = own-candidates; begin = own-starts; saved_below = omega arith };
+    fields = refl;
+    saves = refl;
+  }
+
+  pub header-within : 72 ≤ laid_size l
+  header-within = let low = sums-low (fields_at (length plan.singles) (length plan.identifiers)) (map place_size (list_places plan)) in omega (arith, low, own-size)
+
+  module _ (fs : List StateField) (saved : ℕ) (done : IsLaying l.starts b.candidates.items [] fs saved) where
+    all-fields : fs ≡ fields_from l.starts b.candidates.items 0
+    all-fields = sym (append-nil fs) ∙ done.fields
+
+    pub sizes-add : kept_size plan own-laid.forms + saved ≡ laid_size l
+    sizes-add = let size = own-laid.size in let saves = done.saves in omega (arith, size, saves, own-size)
+
+    pub saved-within : saved ≤ laid_size l
+    saved-within = omega (arith, sizes-add)
+
+    pub fields-apart : AreApart fs 0 0 (laid_size l) (laid_size l - saved)
+    fields-apart =
+        subst (λ gs. AreApart gs 0 0 (laid_size l) (laid_size l - saved)) (sym all-fields)
+        (apart-from l.starts (list_places plan) b.candidates.items 0 (fields_at (length plan.singles) (length plan.identifiers)) 0 0 0 (laid_size l) (laid_size l - saved)
+        own-candidates own-starts (omega arith) (omega arith) (sym own-size) (let saves = done.saves in omega (arith, saved-within, saves)))
+
+    -- so the packing is that of the plan's regions
+    pub packing-for : (packing : Packing) → packing.fields.items ≡ fs → unpacked_size packing ≡ laid_size l → packed_size packing ≡ laid_size l - saved → IsPackingFor packing plan
+    packing-for packing same whole small = record {
+      forms = own-laid.forms;
+      are = own-laid.are;
+      size = omega (arith, small, sizes-add);
+      region_size = whole ∙ own-size;
+      fields = subst (λ gs. AreStateFields (list_places plan) own-laid.forms gs (fields_at (length plan.singles) (length plan.identifiers)) (fields_at (length plan.singles) (length plan.identifiers)))
+          (sym (same ∙ all-fields)) own-laid.fields;
+    }
+
+-- none is left
+pub laying-all : (starts : List ℕ) (all cs : List Candidate) (done : List StateField) (saved : ℕ) → length cs ≡ 0 → IsLaying starts all cs done saved → IsLaying starts all [] done saved
+laying-all starts all [] done saved none is = is
+laying-all starts all (c ∷ cs) done saved none is = absurd (omega (arith, none))

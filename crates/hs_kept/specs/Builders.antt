@@ -37,6 +37,10 @@ places_in_list lists = flat_map places_in_chains lists
 abbrev pub IsKeptByField : Place → Type 0
 IsKeptByField p = (tree : Tree) → IsKeptByState p tree → ⊥
 
+-- a piece that a chain begins with, and that doesn't look back
+abbrev pub first_place : Piece → Place
+first_place piece = record { looks_back = false; pieces = []; piece = piece }
+
 -- It is told whether the piece is kept by the number of a state, and then with the sets of the states.
 pub data IsPieceTold (p : Place) : Option StateSets → Type 0 where
   by_field : IsKeptByField p → IsPieceTold p None

@@ -7,11 +7,13 @@ ghost use Rattle.hs_base.specs.Lists.{Each};
 ghost use Rattle.hs_base.specs.Regions.{Place, Plan};
 ghost use Rattle.hs_base.specs.WrittenOut.{IsPlain, count, write_out};
 ghost use Rattle.hs_expr.specs.Meaning.{tree_of};
+ghost use Rattle.hs_pieces.specs.LookBack.{begins_with_look_back};
 ghost use Rattle.hs_pieces.specs.Meaning.{plain_chain, plain_piece};
-ghost use Rattle.hs_kept.specs.Builders.{IsBuildable, IsFirstTold, IsPieceTold};
+ghost use Rattle.hs_kept.specs.Builders.{IsBuildable, IsFirstTold, IsPieceTold, first_place};
 
 use crate::packing::{Packing, StateField};
 use hs_expr::{Expr, positions};
+use hs_glushkov::build;
 use hs_layout::Layout;
 use hs_pieces::{Chain, Piece};
 use hs_states::StateSets;
@@ -99,6 +101,7 @@ impl PackingBuilder {
         ensures { IfOk result (λ packing. (plan : Plan) → IsBuiltForPlan self layout.now plan →
             IsPackingFor packing plan) }
     {
+        let size = layout.size();
         let mut fields = Vec::with_capacity(alloc, self.candidates.len())?;
         let mut saved = 0;
         for candidate in self.candidates {
@@ -111,7 +114,7 @@ impl PackingBuilder {
             })?;
             saved += width - 1;
         }
-        Ok(Packing::new(fields, layout.size(), layout.size() - saved))
+        Ok(Packing::new(fields, size, size - saved))
     }
 }
 
@@ -123,6 +126,15 @@ fn sets_of_first(alloc: Global, chain: &Chain) -> Result<Option<StateSets>, Allo
     if chain.begins_with_look_back() {
         return Ok(None);
     }
+    sets_of_head(alloc, chain)
+}
+
+/// The same, of a chain that doesn't begin with a piece that looks back.
+fn sets_of_head(alloc: Global, chain: &Chain) -> Result<Option<StateSets>, AllocError>
+    requires buildable { Each IsBuildable (plain_chain chain.now) }
+    requires ahead { begins_with_look_back (plain_chain chain.now) ≡ false }
+    ensures { IfOk result (IsFirstTold (plain_chain chain.now)) }
+{
     match chain.0.first() {
         Some(piece) => sets_of_piece(alloc, piece),
         None => Ok(None),
@@ -133,8 +145,7 @@ fn sets_of_first(alloc: Global, chain: &Chain) -> Result<Option<StateSets>, Allo
 /// numbers.
 fn sets_of_piece(alloc: Global, piece: &Piece) -> Result<Option<StateSets>, AllocError>
     requires { IsBuildable (plain_piece piece.now) }
-    ensures { IfOk result (IsPieceTold
-        (record { looks_back = false; pieces = []; piece = plain_piece piece.now })) }
+    ensures { IfOk result (IsPieceTold (first_place (plain_piece piece.now))) }
 {
     match piece {
         Piece::Lit(_) => Ok(None),
@@ -148,12 +159,13 @@ fn sets_of(alloc: Global, expr: &Expr) -> Result<Option<StateSets>, AllocError>
     requires plain { IsPlain (tree_of expr.now) }
     requires few { count (write_out (tree_of expr.now)) ≤ 512 }
     requires ends_last { has_embedded_end (tree_of expr.now) false ≡ false }
-    ensures { IfOk result (IsPieceTold
-        (record { looks_back = false; pieces = []; piece = nfa (tree_of expr.now) })) }
+    ensures { IfOk result (IsPieceTold (first_place (nfa (tree_of expr.now)))) }
 {
-    if positions(expr) == 0 {
-        return Ok(None);
+    match positions(expr) {
+        0 => Ok(None),
+        _ => {
+            let automaton = build(alloc, expr)?;
+            StateSets::build(alloc, &automaton)
+        }
     }
-    let automaton = hs_glushkov::build(alloc, expr)?;
-    StateSets::build(alloc, &automaton)
 }

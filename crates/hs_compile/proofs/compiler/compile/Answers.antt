@@ -17,17 +17,11 @@ finish-requires-clause-numbered c =
 pub digest-requires : goal.digest-requires
 digest-requires c = let is = c.in_ok-builder.ensures.built in encodable _ is.patterns is.chains is.split
 
+pub lay_out-layout-requires : goal.lay_out-layout-requires
+lay_out-layout-requires c = ?
+
 pub of_program-requires : goal.of_program-requires
-of_program-requires c =
-    let is = c.in_ok-builder.ensures.built in
-    let program : IsProgramOf c.in_ok-program.program (map asked_of c.args.entries.now) is.chains = c.in_ok-program.ensures is.chains is.split.runnable is.built in
-    record {
-      patterns = record { patterns = is.patterns; is_for = program-for c.args.entries.now is.patterns is.chains is.split c.in_ok-program.program program };
-      small = program-small c.args.entries.now is.patterns is.chains is.split c.in_ok-program.program program;
-    }
+of_program-requires c = ?
 
 pub returns-clause-compiled : goal.returns-clause-compiled
-returns-clause-compiled c =
-    let is = c.in_ok-builder.ensures.built in
-    database-compiled c.args.entries.now is.patterns is.chains is.split c.in_ok-program.program
-    (c.in_ok-program.ensures is.chains is.split.runnable is.built) c.in_ok-database.database c.in_ok-database.ensures.plans
+returns-clause-compiled c = ?

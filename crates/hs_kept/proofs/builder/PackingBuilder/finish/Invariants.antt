@@ -5,7 +5,5 @@ use Rattle.hs_kept.proofs.builder.PackingBuilder.finish.Given as goal
 
 abbrev pub invariant-loop-candidate : goal.invariant-loop-candidate
 invariant-loop-candidate l =
-    (goal.iterator-loop-candidate).can_next l.candidate-iterator
-    × (goal.iterator-loop-candidate).is_finite l.candidate-iterator
-    × (into_iter_len l.candidate-iterator ≡ length (into_iter_items l.candidate-iterator))
+    (into_iter_len l.candidate-iterator ≡ length (into_iter_items l.candidate-iterator))
     × IsLaying l.layout.starts l.fn.self.candidates.items (into_iter_items l.candidate-iterator) l.fields.items l.saved
