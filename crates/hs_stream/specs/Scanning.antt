@@ -9,9 +9,9 @@ use Rattle.hs_rose.specs.PieceEngines.{piece_meaning}
 use Rattle.hs_stream.specs.Telling.{MayTell}
 
 -- The region is that of the bytes u of a stream.
-pub record IsScanned (plan : Plan) (u region : List ℕ) : Type 0 where
+pub record IsScanned (plan : Plan) (u now : List ℕ) : Type 0 where
   pub bytes : Each (λ b. b < 256) u
-  pub region : IsRegion plan u region
+  pub region : IsRegion plan u now
 
 -- It is that of the stream u with the bytes behind it, and the pairs are the new reports of the bytes.
 pub record IsScannedOn (plan : Plan) (u bytes region : List ℕ) (pairs : List Pair) : Type 0 where
