@@ -1,5 +1,6 @@
 -- From whole regions to what streams keep of them, and back.
-use Rattle.std.proofs.Common.{◌≡◌, ◌↔◌, ℕ, ◌-◌, ◌<◌, List, [], ◌++◌, length, take, sym, ap, subst, ◌∙◌, arith}
+use Rattle.std.proofs.Common.{◌≡◌, ◌↔◌, ℕ, ◌-◌, ◌<◌, ◌==◌, true, false, List, [], ◌∷◌, ◌++◌, refl, length, take, sym, ap, subst, ◌∙◌, arith}
+use Rattle.std.proofs.lemmas.Bool.{ne_eqb}
 use Rattle.std.proofs.lemmas.List.{append-nil}
 use Rattle.hs_base.specs.Lists.{Each}
 use Rattle.hs_base.specs.Regions.{Plan, IsWellFormed, plan_fields_at, region_offset}
@@ -87,3 +88,7 @@ leads-none db kept bytes none = record {
 
 pub takes-as : {V : Type 0} (Tells : V → ℕ → ℕ → V → Type 0) {start end : V} {P Q : List Pair → Type 0} → ((pairs : List Pair) → P pairs → Q pairs) → Takes Tells start end P → Takes Tells start end Q
 takes-as Tells f took = record { pairs = took.pairs; through = took.through; holds = f took.pairs took.holds }
+
+pub empty-is : (bytes : List ℕ) → (length bytes == 0) ≡ true → bytes ≡ []
+empty-is [] is = refl
+empty-is (b ∷ bytes) is = absurd (let e : true ≡ false = sym is ∙ ne_eqb (length (b ∷ bytes)) 0 (λ z. absurd (omega (arith, z))) in cc)

@@ -58,6 +58,7 @@ impl Stream {
         ensures offset { IfOk result (λ stream. offset_of stream ≡ 0) }
         ensures fresh { IfOk result (IsFresh db.now) }
     {
+        let _packing = db.packing();
         let region = zeros(alloc, db.region_size())?;
         Ok(Stream {
             region,
