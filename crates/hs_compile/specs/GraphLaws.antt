@@ -27,7 +27,7 @@ pub record IsProgramFor (t : Tables) (P : List Pattern) : Type 0 where
 pub record IsPackedProgram (t : Tables) (packing : Packing) : Type 0 where
   pub patterns : List Pattern
   pub is_for : IsProgramFor t patterns
-  pub packing : IsPackingFor packing (plan_of t patterns)
+  pub packs : IsPackingFor packing (plan_of t patterns)
 
 -- It holds of the plan of each list of patterns of which that is the program.
 abbrev pub OfPlans : Tables → (Plan → Type 0) → Type 0

@@ -56,12 +56,9 @@ pub fn compile(alloc: Global, entries: &[Entry]) -> Result<Database, CompileFaul
     Ok(database)
 }
 
-/// What is built of a program and of a packing for the list. Of each entry the tree and the chains are given back before
-/// the next one.
-fn add_entries(
-    alloc: Global,
-    entries: &[Entry],
-) -> Result<(Builder, PackingBuilder), CompileFault>
+/// What is built of a program and of a packing for the list. Of each entry the tree and the chains are given back
+/// before the next one.
+fn add_entries(alloc: Global, entries: &[Entry]) -> Result<(Builder, PackingBuilder), CompileFault>
     ensures built { IfOk result (λ (builder, packing). IsListBuilt entries.now builder packing) }
     ensures refused { IfErr result (IsCauseOf (map listed entries.now)) }
 {

@@ -33,9 +33,13 @@ pub struct Database {
 }
 
 impl Model for Database {
+    ghost use Rattle.std.specs.Coded.{codes};
+    ghost use Rattle.hs_kept.specs.contracts.packing.Packing as packing_row;
     ghost use Rattle.hs_compile.specs.Databases.{Compiled, IsWholeDatabase, compiled};
 
     ghost Value = { Compiled };
+
+    ghost coded = { Prim.hlevel (codes, packing_row.the_row.coded) };
 
     ghost view = { λ d. compiled d.graph d.literals d.layout d.packing d.digest };
 

@@ -1,5 +1,5 @@
 -- The candidates of the pieces of chains, one chain more.
-use Rattle.std.proofs.Common.{◌≡◌, ℕ, zero, suc, ◌+◌, ◌<◌, ◌≤◌, Bool, List, [], ◌∷◌, ◌++◌, length, map, flat_map, take, Option, Some, None, refl, sym, ap, ◌∙◌, subst, arith, append-nil, append_assoc}
+use Rattle.std.proofs.Common.{◌≡◌, ℕ, zero, suc, ◌+◌, ◌<◌, ◌≤◌, Bool, List, [], ◌∷◌, ◌++◌, length, map, take, Option, refl, sym, ap, ◌∙◌, subst, arith, append-nil, append_assoc}
 use Rattle.std.specs.Prelude.{get_or}
 use Rattle.std.proofs.lemmas.Grind.{flat_map-append}
 use Rattle.std.proofs.lemmas.List.{length-append, map-append, take_all, take_more}
@@ -12,7 +12,7 @@ use Rattle.hs_pieces.specs.Meaning.{plain_chain}
 use Rattle.hs_states.specs.declared.state_sets.StateSets.{StateSets}
 use Rattle.hs_kept.specs.declared.builder.Candidate.{Candidate}
 use Rattle.hs_kept.specs.declared.builder.PackingBuilder.{PackingBuilder}
-use Rattle.hs_kept.specs.Builders.{AreCandidates, HasCandidates, candidates_of, IsBuildable, IsFirstTold, IsKeptByField, IsPackedTo, IsPieceTold, by_field, by_state, field, none, state}
+use Rattle.hs_kept.specs.Builders.{AreCandidates, HasCandidates, candidates_of, IsBuildable, IsFirstTold, IsPackedTo, IsPieceTold, by_field, by_state, field, none, state}
 use Rattle.hs_kept.specs.Builders.{places_in_chain, places_in_chains, places_in_list}
 
 -- behind a chain's first piece no piece is kept by the number of a state
@@ -63,7 +63,7 @@ pub chains-more : (b b' : PackingBuilder) (before : List Place) (chains : List (
     HasCandidates b' (before ++ places_in_chains (chains ++ chain ∷ []))
 chains-more b b' before chains chain was add =
     let one : places_in_chains (chains ++ chain ∷ []) ≡ places_in_chains chains ++ places_in_chain chain =
-        flat_map-append places_in_chain chains (chain ∷ []) ∙ ap (λ ps. places_in_chains chains ++ ps) (append-nil (places_in_chain chain)) in
+    flat_map-append places_in_chain chains (chain ∷ []) ∙ ap (λ ps. places_in_chains chains ++ ps) (append-nil (places_in_chain chain)) in
     subst (HasCandidates b') (append_assoc before (places_in_chains chains) (places_in_chain chain) ∙ ap (λ ps. before ++ ps) (sym one)) (add (before ++ places_in_chains chains) was)
 
 -- the chains of one more expression
@@ -97,8 +97,8 @@ pub next-added : (b b' : PackingBuilder) (before : List Place) (chains : List Ch
     HasCandidates b' (before ++ places_in_chains (map plain_chain (take (k + 1) chains)))
 next-added b b' before chains k chain below is was add =
     let one : map plain_chain (take (k + 1) chains) ≡ map plain_chain (take k chains) ++ plain_chain chain ∷ [] =
-        ap (map plain_chain) (take_more chains k chain below) ∙ (map-append plain_chain (take k chains) (get_or chains k chain ∷ [])
-        ∙ ap (λ (c : Chain). map plain_chain (take k chains) ++ plain_chain c ∷ []) (sym is)) in
+    ap (map plain_chain) (take_more chains k chain below) ∙ (map-append plain_chain (take k chains) (get_or chains k chain ∷ [])
+    ∙ ap (λ (c : Chain). map plain_chain (take k chains) ++ plain_chain c ∷ []) (sym is)) in
     subst (λ cs. HasCandidates b' (before ++ places_in_chains cs)) (sym one) (chains-more b b' before (map plain_chain (take k chains)) (plain_chain chain) was add)
 
 -- all are

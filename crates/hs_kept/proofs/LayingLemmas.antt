@@ -1,17 +1,16 @@
 -- The fields of candidates in a layout.
-use Rattle.std.proofs.Common.{◌≡◌, ℕ, zero, suc, ◌+◌, ◌-◌, ◌/◌, ◌^◌, ◌<◌, ◌≤◌, Bool, false, List, [], ◌∷◌, ◌++◌, length, map, flat_map, drop, refl, sym, ap, ◌∙◌, subst, arith, append-nil, append_assoc}
+use Rattle.std.proofs.Common.{◌≡◌, ℕ, zero, suc, ◌+◌, ◌-◌, ◌/◌, ◌<◌, ◌≤◌, false, List, [], ◌∷◌, ◌++◌, length, map, flat_map, drop, refl, sym, ap, ◌∙◌, subst, arith, append-nil, append_assoc}
 use Rattle.std.specs.Prelude.{slice_index}
 use Rattle.std.specs.List.{AllZip}
 use Rattle.std.proofs.lemmas.List.Folds.{flat_map-map}
-use Rattle.hs_base.specs.Chains.{Piece, chains_of, nfa}
+use Rattle.hs_base.specs.Chains.{chains_of}
 use Rattle.hs_base.specs.KeptPieces.{form_of, form_size}
 use Rattle.hs_base.specs.Patterns.{Pattern}
-use Rattle.hs_base.specs.Regions.{Place, Plan, field_starts, fields_at, list_places, place_form, place_size, places_behind, places_of, plan_size, sums_from}
+use Rattle.hs_base.specs.Regions.{Place, Plan, fields_at, list_places, place_form, place_size, places_of, plan_size, sums_from}
 use Rattle.hs_base.specs.Trees.{Tree}
 use Rattle.hs_base.proofs.SumLemmas.{sums-low, sums-size}
 use Rattle.hs_base.specs.WrittenOut.{count, write_out}
-use Rattle.hs_layout.specs.Layouts.{Laid, laid_size, layout_of}
-use Rattle.hs_pieces.specs.LookBack.{begins_with_look_back}
+use Rattle.hs_layout.specs.Layouts.{Laid, laid_size}
 use Rattle.hs_states.specs.declared.state_sets.StateSets.{StateSets}
 use Rattle.hs_states.specs.StateSets.{AreSetsOf, set_width}
 use Rattle.hs_kept.specs.declared.builder.Candidate.{Candidate}
@@ -20,7 +19,7 @@ use Rattle.hs_kept.specs.declared.packing.Packing.{Packing}
 use Rattle.hs_kept.specs.declared.packing.StateField.{StateField}
 use Rattle.hs_kept.specs.KeptRegions as kept
 use Rattle.hs_kept.specs.KeptRegions.{AreKeptForms, IsKeptByState, IsKeptForm, KeptForm, kept_form_size, kept_size, kept_starts}
-use Rattle.hs_kept.specs.StateFields.{AreApart, end_of}
+use Rattle.hs_kept.specs.StateFields.{AreFieldsApart}
 use Rattle.hs_kept.specs.Packing.{AreStateFields, IsPackingFor, packed_size, unpacked_size}
 use Rattle.hs_kept.specs.Packing as fields
 use Rattle.hs_kept.specs.Builders.{AreCandidates, HasCandidates, IsBuiltForPlan, IsKeptByField, places_in_chain, places_in_chains, places_in_list}
@@ -151,7 +150,7 @@ laid-from starts _ _ number at place saved (candidates.state {p = p} {ps = ps} {
 
 apart-from : (starts : List ℕ) (places : List Place) (cs : List Candidate) (number at saved before place r s : ℕ) → AreCandidates places cs number →
     drop number starts ≡ sums_from at (map place_size places) → before ≤ at → place + saved ≡ before →
-    end_from at (map place_size places) ≡ r → s + saved_by cs saved ≡ r → AreApart (fields_from starts cs saved) before place r s
+    end_from at (map place_size places) ≡ r → s + saved_by cs saved ≡ r → AreFieldsApart (fields_from starts cs saved) before place r s
 apart-from starts _ _ number at saved before place r s candidates.none begin order same all rest_is = (omega (arith, order, same, all, rest_is), omega (arith, order, same, all, rest_is))
 apart-from starts _ cs number at saved before place r s (candidates.field {p = p} {ps = ps} keeps rest) begin order same all rest_is =
     let here = begins starts number at (sums_from (at + place_size p) (map place_size ps)) begin in
@@ -160,9 +159,17 @@ apart-from starts _ _ number at saved before place r s (candidates.state {p = p}
     let here = begins starts number at (sums_from (at + place_size p) (map place_size ps)) begin in
     let width = state-width p tree c.sets keeps are in
     let some = state-some p tree c.sets keeps are in
-    let begins_at : slice_index starts c.number ≡ at = ap (slice_index starts) own ∙ here.first in
-    (omega (arith, begins_at, order), (omega (arith, begins_at, order, same), (omega (arith, some), apart-from starts ps cs (suc number) (at + place_size p) (saved + (set_width c.sets - 1)) (slice_index starts c.number + set_width c.sets) (suc (slice_index starts c.number - saved)) r s rest here.rest
-    (omega (arith, begins_at, width)) (omega (arith, begins_at, order, same, some)) all rest_is)))
+    let begins_at : slice_index starts c.number ≡ at = ap (slice_index starts) own ∙ here.first in (
+      omega (arith, begins_at, order),
+      (
+        omega (arith, begins_at, order, same),
+        (
+          omega (arith, some),
+          apart-from starts ps cs (suc number) (at + place_size p) (saved + (set_width c.sets - 1)) (slice_index starts c.number + set_width c.sets) (suc (slice_index starts c.number - saved)) r s rest here.rest
+              (omega (arith, begins_at, width)) (omega (arith, begins_at, order, same, some)) all rest_is,
+        ),
+      ),
+    )
 
 -- ---- a loop over candidates
 
@@ -207,7 +214,7 @@ module _ (b : PackingBuilder) (l : Laid) (plan : Plan) (is : IsBuiltForPlan b l 
   own-size =
       let sums = sums_from (fields_at (length plan.singles) (length plan.identifiers)) (map place_size (list_places plan)) in
       let size : length sums - 1 ≡ length (map place_size (list_places plan)) =
-          (let e = sums-size (fields_at (length plan.singles) (length plan.identifiers)) (map place_size (list_places plan)) in omega (arith, e)) in
+      (let e = sums-size (fields_at (length plan.singles) (length plan.identifiers)) (map place_size (list_places plan)) in omega (arith, e)) in
       ap laid_size is.layout ∙ ap (slice_index sums) size
 
   pub own-laid : AreLaid l.starts (list_places plan) b.candidates.items (fields_at (length plan.singles) (length plan.identifiers)) (fields_at (length plan.singles) (length plan.identifiers)) 0
@@ -236,9 +243,9 @@ module _ (b : PackingBuilder) (l : Laid) (plan : Plan) (is : IsBuiltForPlan b l 
     pub saved-within : saved ≤ laid_size l
     saved-within = omega (arith, sizes-add)
 
-    pub fields-apart : AreApart fs 0 0 (laid_size l) (laid_size l - saved)
+    pub fields-apart : AreFieldsApart fs 0 0 (laid_size l) (laid_size l - saved)
     fields-apart =
-        subst (λ gs. AreApart gs 0 0 (laid_size l) (laid_size l - saved)) (sym all-fields)
+        subst (λ gs. AreFieldsApart gs 0 0 (laid_size l) (laid_size l - saved)) (sym all-fields)
         (apart-from l.starts (list_places plan) b.candidates.items 0 (fields_at (length plan.singles) (length plan.identifiers)) 0 0 0 (laid_size l) (laid_size l - saved)
         own-candidates own-starts (omega arith) (omega arith) (sym own-size) (let saves = done.saves in omega (arith, saved-within, saves)))
 

@@ -1,5 +1,5 @@
 -- Whether a piece is kept by the number of a state.
-use Rattle.std.proofs.Common.{◌≡◌, ℕ, ◌+◌, ◌<◌, ◌≤◌, Bool, true, false, true≢false, List, [], ◌∷◌, ◌++◌, length, Option, Some, None, IfSome, refl, sym, ap, ◌∙◌, subst, arith}
+use Rattle.std.proofs.Common.{◌≡◌, ℕ, ◌<◌, Bool, true, false, true≢false, List, [], ◌∷◌, Option, Some, None, IfSome, refl, sym, ap, ◌∙◌, subst, arith}
 use Rattle.std.specs.Prelude.{Result, Ok, Err, IfOk}
 use Rattle.std.specs.declared.alloc.AllocError.{AllocError}
 use Rattle.hs_base.specs.AssertionTests.{has_assertion}
@@ -7,7 +7,6 @@ use Rattle.hs_engine.specs.declared.automaton.Automaton.{Automaton}
 use Rattle.hs_engine.specs.Tables.{Runs}
 use Rattle.hs_base.specs.Chains.{Piece, lit, nfa, rep, piece_tree}
 use Rattle.hs_base.specs.Literals.{LiteralByte}
-use Rattle.hs_base.specs.Regions.{Place, places_behind}
 use Rattle.hs_base.specs.Trees.{Tree}
 use Rattle.hs_base.specs.WrittenOut.{count, write_out}
 use Rattle.hs_pieces.specs.LookBack.{begins_with_look_back}
@@ -15,7 +14,7 @@ use Rattle.hs_states.specs.StateCounts.{HasMoreStates}
 use Rattle.hs_states.specs.StateSets.{AreSetsOf}
 use Rattle.hs_states.specs.declared.state_sets.StateSets.{StateSets}
 use Rattle.hs_kept.specs.KeptRegions.{IsKeptByState}
-use Rattle.hs_kept.specs.Builders.{IsFirstTold, IsKeptByField, IsPieceTold, by_field, by_state, first_place}
+use Rattle.hs_kept.specs.Builders.{IsFirstTold, IsPieceTold, by_field, by_state, first_place}
 
 -- the expression of the piece is the one
 same-tree : (tree t : Tree) → IsKeptByState (first_place (nfa tree)) t → tree ≡ t

@@ -61,8 +61,8 @@ abbrev pub candidates_of : (number : ℕ) → Option StateSets → List Candidat
 candidates_of number None = []
 candidates_of number (Some sets) = record { number = number; sets = sets } ∷ []
 
--- Of those pieces, numbered from that number on, the ones that are kept by the number of a state have the candidates, in
--- order.
+-- Of those pieces, numbered from that number on, the ones that are kept by the number of a state have the candidates,
+-- in order.
 pub data AreCandidates : List Place → List Candidate → (number : ℕ) → Type 0 where
   none : {number : ℕ} → AreCandidates [] [] number
   field : {p : Place} {ps : List Place} {cs : List Candidate} {number : ℕ} →

@@ -161,11 +161,10 @@ fn sets_of(alloc: Global, expr: &Expr) -> Result<Option<StateSets>, AllocError>
     requires ends_last { has_embedded_end (tree_of expr.now) false ≡ false }
     ensures { IfOk result (IsPieceTold (first_place (nfa (tree_of expr.now)))) }
 {
-    match positions(expr) {
-        0 => Ok(None),
-        _ => {
-            let automaton = build(alloc, expr)?;
-            StateSets::build(alloc, &automaton)
-        }
+    if positions(expr) == 0 {
+        Ok(None)
+    } else {
+        let automaton = build(alloc, expr)?;
+        StateSets::build(alloc, &automaton)
     }
 }

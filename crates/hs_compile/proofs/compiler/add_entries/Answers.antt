@@ -1,9 +1,9 @@
-use Rattle.std.proofs.Common.{◌≡◌, ℕ, ◌<◌, List, [], length, map, Some, slice_get, get_or, refl, arith, subst, sym}
+use Rattle.std.proofs.Common.{◌≡◌, ℕ, ◌<◌, List, [], length, map, Some, slice_get, get_or, refl, arith, subst, sym, ◌∙◌}
 use Rattle.std.proofs.lemmas.Option.{slice_get_read}
 use Rattle.std.proofs.lemmas.Result.{err_from_is_err_and}
 use Rattle.hs_base.specs.declared.ext.Entry.{Entry}
 use Rattle.hs_base.specs.Lists.{Each}
-use Rattle.hs_kept.specs.Builders.{IsBuildable}
+use Rattle.hs_kept.specs.Builders.{IsBuildable, IsPackedWith}
 use Rattle.hs_pieces.specs.declared.piece.Chain.{Chain}
 use Rattle.hs_pieces.specs.Meaning.{plain_chain}
 use Rattle.hs_rose.specs.Listing.{plain_chains}
@@ -47,13 +47,14 @@ add_chains-requires c =
     let at = entry_at c.args.entries.now c.loop-i.i c.index-entries-i.result (omega arith) c.index-entries-i.is in
     let far = c.loop-i.invariant.far in
     let one = c.in_ok-own.ensures.compiled _ far.patterns (next-number c.args.entries.now c.loop-i.invariant.chains c.loop-i.i c.index-entries-i.result c.loop-i.seen c.loop-i.counts at far) in
-    subst (λ (cs : List Chain). Each (Each IsBuildable) (map plain_chain cs)) (sym c.deref-2.ensures.value) (chains-buildable (plain_chains c.in_ok-own.own) one.runnable.each)
+    subst (λ (cs : List Chain). Each (Each IsBuildable) (map plain_chain cs)) (sym c.deref-in-loop-i.ensures.value) (chains-buildable (plain_chains c.in_ok-own.own) one.runnable.each)
 
 pub loop-i-preserved : goal.loop-i-preserved
 loop-i-preserved c =
     step c.args.entries.now c.loop-i.i c.index-entries-i.result c.in_ok-own.own c.deref.result.now c.loop-i.seen c.add.new.self c.loop-i.counts c.in_ok-own.next c.loop-i.builder c.add_entry.new.self c.loop-i.packing c.add_chains.new.self
     (entry_at c.args.entries.now c.loop-i.i c.index-entries-i.result (omega arith) c.index-entries-i.is) c.deref.ensures.value
-    c.loop-i.invariant c.in_ok-own.ensures.compiled c.in_ok-add.ensures c.in_ok-add_entry.ensures c.in_ok-add_chains.ensures
+    c.loop-i.invariant c.in_ok-own.ensures.compiled c.in_ok-add.ensures c.in_ok-add_entry.ensures
+    (subst (λ (cs : List Chain). IsPackedWith c.loop-i.packing c.add_chains.new.self (map plain_chain cs)) (c.deref-in-loop-i.ensures.value ∙ sym c.deref.ensures.value) c.in_ok-add_chains.ensures)
 
 pub returns-clause-built : goal.returns-clause-built
 returns-clause-built c = all-built c.args.entries.now c.loop-i.i c.loop-i.seen c.loop-i.counts c.loop-i.builder c.loop-i.packing (omega arith) c.loop-i.invariant

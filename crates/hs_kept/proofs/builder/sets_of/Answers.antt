@@ -1,4 +1,4 @@
-use Rattle.std.proofs.Common.{◌≡◌, ◌<◌, Option, Some, None, Ok, Err, Result, IfOk, IfSome, arith}
+use Rattle.std.proofs.Common.{◌≡◌, arith}
 use Rattle.hs_base.specs.WrittenOut.{count, write_out}
 use Rattle.hs_expr.specs.Counts.{positions}
 use Rattle.hs_expr.specs.Meaning.{tree_of}
@@ -11,8 +11,8 @@ returns-then-positions-eq0 c =
     let all : count (write_out (tree_of c.args.expr.now)) ≡ positions (tree_of c.args.expr.now) = count-written (tree_of c.args.expr.now) c.requires.plain in
     told-empty (tree_of c.args.expr.now) (omega (arith, all, c.positions.ensures, c.requires.few, c.if-positions-eq0.true))
 
-pub returns : goal.returns
-returns c =
+pub returns-in_ok-automaton : goal.returns-in_ok-automaton
+returns-in_ok-automaton c =
     let all : count (write_out (tree_of c.args.expr.now)) ≡ positions (tree_of c.args.expr.now) = count-written (tree_of c.args.expr.now) c.requires.plain in
-    sets-told (tree_of c.args.expr.now) c.in_ok-automaton.automaton c.build-2.result
-    (omega (arith, all, c.positions.ensures, c.requires.few, c.if-positions-eq0.false)) c.in_ok-automaton.ensures.runs c.in_ok-automaton.ensures.assertion c.build-2.ensures.some c.build-2.ensures.none
+    sets-told (tree_of c.args.expr.now) c.in_ok-automaton.automaton c.build-else-positions-eq0.result
+    (omega (arith, all, c.positions.ensures, c.requires.few, c.if-positions-eq0.false)) c.in_ok-automaton.ensures.runs c.in_ok-automaton.ensures.assertion c.build-else-positions-eq0.ensures.some c.build-else-positions-eq0.ensures.none

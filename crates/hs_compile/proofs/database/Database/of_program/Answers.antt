@@ -18,7 +18,7 @@ new-requires c = record {
   is_of =
       database-plans c.args.program c.in_ok-graph.graph c.in_ok-literals.literals c.args.layout c.args.packing c.args.digest c.requires.laid
       (c.in_ok-literals.ensures ∙ (ap (λ (ls : List (Vec LitByte Global)). map literal_bytes ls) c.deref.ensures.value ∙ c.in_ok-graph.ensures.literals)) c.in_ok-graph.ensures.runs c.in_ok-graph.ensures.sound
-      c.requires.packed.patterns c.requires.packed.is_for c.requires.packed.packing;
+      c.requires.packed.patterns c.requires.packed.is_for c.requires.packed.packs;
 }
 
 pub returns-clause-plans : goal.returns-clause-plans

@@ -1,4 +1,4 @@
-use Rattle.std.proofs.Common.{◌≡◌, ◌+◌, length, arith}
+use Rattle.std.proofs.Common.{arith}
 use Rattle.std.proofs.lemmas.List.{length-map}
 use Rattle.hs_pieces.specs.Meaning.{plain_chain, plain_piece}
 use Rattle.hs_kept.proofs.CandidateLemmas.{chain-added}
