@@ -237,7 +237,7 @@ state_read_within {bytes = bytes} {rest = rest} {state = state} read =
     omega (arith, l, both)
 
 -- what is written part by part is the file
-pub state_written : (digest region a b c : List ℕ) → a ≡ [] ++ (name_bytes ++ to_le_bytes w16 1) → b ≡ a ++ digest → c ≡ b ++ region_bytes region → length digest ≡ 32 → AreBytes digest → length region < 4294967296 → Each (λ b. b < 256) region → IsStateFile c digest region
+pub state_written : (digest region a b c : List ℕ) → a ≡ [] ++ (name_bytes ++ to_le_bytes w16 2) → b ≡ a ++ digest → c ≡ b ++ region_bytes region → length digest ≡ 32 → AreBytes digest → length region < 4294967296 → Each (λ b. b < 256) region → IsStateFile c digest region
 state_written digest region a b c a-is b-is c-is sized fits short widths = record {
   is = record {
     numbered = omega arith;
@@ -247,16 +247,16 @@ state_written digest region a b c a-is b-is c-is sized fits short widths = recor
   whole =
       c-is
       ∙ ap (λ xs. xs ++ region_bytes region) (b-is ∙ ap (λ xs. xs ++ digest) a-is)
-      ∙ append_assoc (name_bytes ++ to_le_bytes w16 1) digest (region_bytes region);
+      ∙ append_assoc (name_bytes ++ to_le_bytes w16 2) digest (region_bytes region);
 }
 
 made : ℕ → List ℕ → List ℕ → State
 made version digest region = record { version = version; digest = digest; region = region }
 
-same_state : (s : State) (digest region : List ℕ) → s.version ≡ 1 → s.digest ≡ digest → region ≡ s.region → s ≡ record { version = 1; digest = digest; region = region }
+same_state : (s : State) (digest region : List ℕ) → s.version ≡ 2 → s.digest ≡ digest → region ≡ s.region → s ≡ record { version = 2; digest = digest; region = region }
 unfolding made
 same_state s digest region v d r =
-    ap (λ n. made n s.digest s.region) v ∙ (ap (λ x. made 1 x s.region) d ∙ ap (λ x. made 1 digest x) (sym r))
+    ap (λ n. made n s.digest s.region) v ∙ (ap (λ x. made 2 x s.region) d ∙ ap (λ x. made 2 digest x) (sym r))
 
 -- what holds the version and the digest is their file
 pub state_of_digest : {bytes digest region : List ℕ} (state : State) → HasForm bytes state → IsOfDigest state digest region → IsStateFile bytes digest region
@@ -309,5 +309,5 @@ pub states_are_one : (bytes digest digest' region region' : List ℕ) → IsStat
 states_are_one bytes digest digest' region region' p q = record {
   digests = ap (λ (s : State). s.digest) (same_form p q);
   regions = ap (λ (s : State). s.region) (same_form p q);
-  long = ap length p.whole ∙ long_is (record { version = 1; digest = digest; region = region }) p.is.digest;
+  long = ap length p.whole ∙ long_is (record { version = 2; digest = digest; region = region }) p.is.digest;
 }

@@ -47,7 +47,7 @@ pub record HasForm (bytes : List ℕ) (state : State) : Type 0 where
 
 -- the version of the state files that are written
 abbrev pub state_version : ℕ
-state_version = 1
+state_version = 2
 
 -- The bytes are the state file of the region of a stream over the list of that digest.
 abbrev pub IsStateFile : (bytes digest region : List ℕ) → Type 0

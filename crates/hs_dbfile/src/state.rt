@@ -16,10 +16,10 @@ use std::alloc::{AllocError, Global};
 const NAME: [u8; 4] = *b"HSST";
 
 /// The version of the state files that are written, and of those that are read.
-const VERSION: u16 = 1;
+const VERSION: u16 = 2;
 
 /// What the state files that are written begin with: the name and the version.
-const HEAD: [u8; 6] = *b"HSST\x01\x00";
+const HEAD: [u8; 6] = *b"HSST\x02\x00";
 
 /// Why a state file gave no region. Where several of these hold, the first one is told.
 #[derive(Clone, Copy, Debug, PartialEq, Eq)]
@@ -41,7 +41,7 @@ struct StateParts<'a> {
     region: &'a [u8],
 }
 
-/// The state file of a region: `HSST`, version 1, the digest of its list, and the region behind its length.
+/// The state file of a region: `HSST`, version 2, the digest of its list, and the region behind its length.
 ///
 /// # Errors
 ///

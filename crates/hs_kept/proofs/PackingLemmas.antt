@@ -160,7 +160,7 @@ module _ (p : Packing) (plan : Plan) (is : IsPackingFor p plan) (kept : List ℕ
   unpacked-split : unpacked p kept ≡ slice_range kept 0 (plan_fields_at plan) ++ region_from p.fields.items (plan_fields_at plan) kept
   unpacked-split = from-split p.fields.items kept (plan_fields_at plan) 0 (plan_fields_at plan) (ahead is.fields) (omega arith)
 
-  unpacked-size : length (unpacked p kept) ≡ plan_size plan
+  pub unpacked-size : length (unpacked p kept) ≡ plan_size plan
   unpacked-size =
       let n : ℕ = plan_fields_at plan in
       let within : n ≤ kept_size plan is.forms = header-within plan is.forms is.are in
@@ -170,7 +170,7 @@ module _ (p : Packing) (plan : Plan) (is : IsPackingFor p plan) (kept : List ℕ
       let sum : length (unpacked p kept) ≡ n + length (region_from p.fields.items n kept) = omega arith in
       sum ∙ from-size kept is.fields is.are (sym (len ∙ is.size)) numbers
 
-  unpacked-bytes : Each (λ b. b < 256) kept → Each (λ b. b < 256) (unpacked p kept)
+  pub unpacked-bytes : Each (λ b. b < 256) kept → Each (λ b. b < 256) (unpacked p kept)
   unpacked-bytes small = from-bytes kept is.fields small numbers 0
 
 -- What is unpacked of a part, and packed.

@@ -1,5 +1,9 @@
 pub mod ZeroLemmas
 pub mod CheckingLemmas
-pub mod FaultLemmas
 pub mod ExactLemmas
+pub mod FaultLemmas
 pub mod PlanFaultLemmas
+pub mod PieceLemmas
+pub mod KeptFaultLemmas
+pub mod WellLemmas
+pub mod PartInLemmas

@@ -1,16 +1,15 @@
--- The first field of a region that breaks its rule is the first one by the plan that the graph runs.
-use Rattle.std.proofs.Common.{◌≡◌, ℕ, ◌+◌, ◌<◌, Bool, true, false, List, length, map, Some, slice_get, refl, sym, ap, subst, ◌∙◌, inl, inr, arith}
+-- The first field of a region that breaks its rule is that of the first such piece of the plan that the graph runs.
+use Rattle.std.proofs.Common.{◌≡◌, ℕ, ◌+◌, ◌<◌, ◌≤◌, Bool, true, false, List, length, map, Some, slice_get, refl, sym, ap, subst, ◌∙◌, inl, inr, arith}
 use Rattle.std.specs.Prelude.{slice_index, slice_range}
 use Rattle.std.proofs.lemmas.Bool.{cases_lt}
 use Rattle.std.proofs.lemmas.List.{length-map}
-use Rattle.std.proofs.lemmas.Option.{same_Some, slice_get_within}
+use Rattle.std.proofs.lemmas.Option.{same_Some}
 use Rattle.hs_base.specs.KeptPieces.{IsFieldAt}
 use Rattle.hs_base.specs.Literals.{LiteralByte}
-use Rattle.hs_base.specs.Regions.{Place, Plan, IsHeader, IsPlaced, fields_at, list_places, place_form, place_size, plan_starts, region_offset}
+use Rattle.hs_base.specs.Regions.{Place, Plan, fields_at, list_places, place_form, place_size, plan_starts}
 use Rattle.hs_base.proofs.RegionLemmas.{placed-end}
 use Rattle.hs_base.proofs.SumLemmas.{sums-rise, sums-size}
 use Rattle.hs_engine.specs.Engines.{Meaning}
-use Rattle.hs_layout.specs.HeaderFaults as headers
 use Rattle.hs_layout.specs.Layouts.{Laid}
 use Rattle.hs_nodes.specs.Graphs.{IsGraphSound, keeps, keeps_field}
 use Rattle.hs_nodes.specs.Nodes.{IsWellPart}
@@ -20,11 +19,9 @@ use Rattle.hs_nodes.specs.declared.graph.Graph.{Graph}
 use Rattle.hs_nodes.specs.declared.table.Node.{Node}
 use Rattle.hs_nodes.specs.declared.table.NodeKind.{NodeKind}
 use Rattle.hs_regions.specs.Faults as faults
-use Rattle.hs_regions.specs.Faults.{IsKeptIn}
-use Rattle.hs_nodes.specs.WellRegions.{IsWellRegion, RunsLaid}
-use Rattle.hs_regions.specs.PlanFaults as plans
-use Rattle.hs_regions.specs.RegionLaws.{GraphFaultsAreOfThePlan}
-use Rattle.hs_regions.proofs.ExactLemmas.{copy-place, copy-well, field-is, high-is, low-is, node-by, node-field, own-field, range-none, unkept-at, unkept-part, zero-at}
+use Rattle.hs_regions.specs.Faults.{AreFieldsWellBefore, IsFieldFault, IsKeptIn}
+use Rattle.hs_nodes.specs.WellRegions.{RunsLaid}
+use Rattle.hs_regions.proofs.ExactLemmas.{copy-place, copy-well, high-is, low-is, node-by, node-field, own-field, range-none, unkept-at, unkept-part, zero-at}
 use Rattle.hs_nodes.proofs.FieldLemmas.{placed, plan_field}
 
 module _ {E : Type 0} (meaning : E → Meaning) (graph : Graph E) (literals : List (List LiteralByte)) (l : Laid) (plan : Plan) (sound : IsGraphSound meaning graph literals l) (laid : RunsLaid meaning graph literals l plan) (region : List ℕ) (at : ℕ) where
@@ -57,13 +54,13 @@ module _ {E : Type 0} (meaning : E → Meaning) (graph : Graph E) (literals : Li
           ]))
 
   -- What is kept there has a place, and breaks the rule of its form.
-  record IsBroken (low high : ℕ) : Type 0 where
-    role : ℕ
-    p : Place
-    place : slice_get (list_places plan) role ≡ Some p
-    begin : low ≡ start role
-    end : high ≡ start (role + 1)
-    breaks : IsFieldAt (place_form p) (plan_field plan region role) at → ⊥
+  pub record IsBroken (low high : ℕ) : Type 0 where
+    pub role : ℕ
+    pub p : Place
+    pub place : slice_get (list_places plan) role ≡ Some p
+    pub begin : low ≡ start role
+    pub end : high ≡ start (role + 1)
+    pub breaks : IsFieldAt (place_form p) (plan_field plan region role) at → ⊥
 
   broken-own : (k : ℕ) (node : Node) → slice_get graph.table.nodes.items k ≡ Some node → (IsWellIn node.kind node.start node.end → ⊥) → IsBroken node.start node.end
   broken-own k node is breaks = by-kind (keeps_field node.kind) refl
@@ -106,60 +103,32 @@ module _ {E : Type 0} (meaning : E → Meaning) (graph : Graph E) (literals : Li
       let own = broken-copy i copy node is of (λ well. breaks (well-as kind node.kind low (slice_index l.starts copy.field) high (slice_index l.starts (copy.field + 1)) same begin end well)) in
       record { role = own.role; p = own.p; place = own.place; begin = begin ∙ own.begin; end = end ∙ own.end; breaks = own.breaks }
 
-  -- a field before it may stand there
-  before-well : (place : ℕ) → ((other : NodeKind) (low high : ℕ) → IsKeptIn graph l other low high → low < place → IsWellIn other low high) → (role number : ℕ) (p : Place) → role < number → start number ≡ place → number < length (list_places plan) →
-      slice_get (list_places plan) role ≡ Some p → IsFieldAt (place_form p) (plan_field plan region role) at
-  before-well place wells role number p early is within there_is = elim (cases_lt (start role) place) [
-    | inl low ↦ field-here role p there_is (λ kind kept. wells kind (start role) (start (role + 1)) kept low)
+  -- a field that begins before that byte may stand there
+  pub field-before : (bound : ℕ) → AreFieldsWellBefore meaning graph region at l bound → (role : ℕ) (p : Place) → start role < bound → slice_get (list_places plan) role ≡ Some p → IsFieldAt (place_form p) (plan_field plan region role) at
+  field-before bound wells role p low there_is = field-here role p there_is (λ kind kept. wells kind (start role) (start (role + 1)) kept low)
+
+  -- the fields of the pieces rise
+  pub starts-rise : (j k : ℕ) → j ≤ k → k < length (list_places plan) → start j ≤ start k
+  starts-rise j k order within =
+      let first = fields_at (length plan.singles) (length plan.identifiers) in
+      let sizes = map place_size (list_places plan) in
+      sums-rise first sizes j k order (omega (arith, within, sums-size first sizes, length-map (list_places plan) place_size))
+
+  pub start-next : (k : ℕ) (p : Place) → slice_get (list_places plan) k ≡ Some p → start (k + 1) ≡ start k + place_size p
+  start-next k p is = placed-end plan k (start k) (start (k + 1)) p (placed plan k p is)
+
+  -- a piece before one that begins later
+  pub before-well : (bound : ℕ) → AreFieldsWellBefore meaning graph region at l bound → (role number : ℕ) (p : Place) → role < number → start number ≤ bound → number < length (list_places plan) → slice_get (list_places plan) role ≡ Some p →
+      IsFieldAt (place_form p) (plan_field plan region role) at
+  before-well bound wells role number p early low within there_is = elim (cases_lt (start role) bound) [
+    | inl before ↦ field-before bound wells role p before there_is
     | inr late ↦
-        let first = fields_at (length plan.singles) (length plan.identifiers) in
-        let sizes = map place_size (list_places plan) in
-        let rise = sums-rise first sizes (role + 1) number (omega (arith, early)) (omega (arith, within, sums-size first sizes, length-map (list_places plan) place_size)) in
-        let wide = placed-end plan role (start role) (start (role + 1)) p (placed plan role p there_is) in
-        subst (λ bytes. IsFieldAt (place_form p) bytes at) (sym (range-none region (start role) (start (role + 1)) (omega (arith, rise, is, late))))
-        (zero-at (place_form p) at (omega (arith, wide, rise, is, late)))
+        let rise = starts-rise (role + 1) number (omega (arith, early)) within in
+        let wide = start-next role p there_is in
+        subst (λ bytes. IsFieldAt (place_form p) bytes at) (sym (range-none region (start role) (start (role + 1)) (omega (arith, rise, low, late))))
+        (zero-at (place_form p) at (omega (arith, wide, rise, low, late)))
   ]
 
-module _ {E : Type 0} (meaning : E → Meaning) where
-  pub faults-planned : GraphFaultsAreOfThePlan meaning
-  faults-planned graph literals l plan region place sound laid (faults.header fault) =
-      plans.header (subst (λ (m : Laid). headers.IsHeaderFault m.singles m.identifiers region place) laid.laid fault)
-  faults-planned graph literals l plan region place sound laid (faults.field header fault) =
-      let at = region_offset region in
-      let b = broken meaning graph literals l plan sound laid region at fault.kind place fault.end fault.there fault.breaks in
-      plans.field (subst (λ (m : Laid). IsHeader m.singles m.identifiers region) laid.laid header)
-      (record {
-        number = b.role;
-        high = slice_index (plan_starts plan) (b.role + 1);
-        place = b.p;
-        placed = subst (λ n. IsPlaced plan b.role b.p n (slice_index (plan_starts plan) (b.role + 1))) (sym b.begin) (placed plan b.role b.p b.place);
-        before = λ k low high p early is.
-            subst (λ bytes. IsFieldAt (place_form p) bytes at) (sym (field-is plan region k low high p is))
-            (before-well meaning graph literals l plan sound laid region at place fault.before k b.role p early (sym b.begin) (slice_get_within (list_places plan) b.role b.p b.place) is.piece);
-        breaks = λ field.
-            b.breaks (subst (λ n. IsFieldAt (place_form b.p) (slice_range region n (slice_index (plan_starts plan) (b.role + 1))) at) b.begin field);
-      })
-
--- no header has a fault and keeps to its rules
-header-never : (singles identifiers : ℕ) (region : List ℕ) (place : ℕ) → headers.IsHeaderFault singles identifiers region place → IsHeader singles identifiers region → ⊥
-header-never singles identifiers region place (headers.offset is great) well = absurd (omega (arith, great, well.offset))
-header-never singles identifiers region place (headers.history is small breaks) well = breaks well.history
-header-never singles identifiers region place (headers.told is small early breaks) well = breaks well.told
-header-never singles identifiers region place (headers.here is small early spare breaks) well = breaks well.here
-header-never singles identifiers region place (headers.last is small early spare spare' breaks) well = breaks well.last
-
-module _ {E : Type 0} (meaning : E → Meaning) (graph : Graph E) (l : Laid) (region : List ℕ) where
-  kept-well : IsWellRegion meaning graph l region → (kind : NodeKind) (low high : ℕ) → IsKeptIn graph l kind low high → IsWellPart meaning graph.table.engines.items kind (slice_range region low high) (region_offset region)
-  kept-well well kind low high (faults.own k node is same begin end) =
-      subst (λ x. IsWellPart meaning graph.table.engines.items x (slice_range region low high) (region_offset region)) (sym same)
-      (subst (λ n. IsWellPart meaning graph.table.engines.items node.kind (slice_range region n high) (region_offset region)) (sym begin)
-      (subst (λ n. IsWellPart meaning graph.table.engines.items node.kind (slice_range region node.start n) (region_offset region)) (sym end) (well.fits.nodes k node is)))
-  kept-well well kind low high (faults.copied i copy node is of same begin end) =
-      subst (λ x. IsWellPart meaning graph.table.engines.items x (slice_range region low high) (region_offset region)) (sym same)
-      (subst (λ n. IsWellPart meaning graph.table.engines.items node.kind (slice_range region n high) (region_offset region)) (sym begin)
-      (subst (λ n. IsWellPart meaning graph.table.engines.items node.kind (slice_range region (slice_index l.starts copy.field) n) (region_offset region)) (sym end) (well.copies i copy node is of)))
-
-  -- no region has a fault
-  pub fault-never : (place : ℕ) → faults.IsFirstFault meaning graph l region place → IsWellRegion meaning graph l region → ⊥
-  fault-never place (faults.header fault) well = header-never l.singles l.identifiers region place fault well.header
-  fault-never place (faults.field header fault) well = fault.breaks (kept-well well fault.kind place fault.end fault.there)
+  -- the field that breaks its rule is that of a piece
+  pub fault-broken : (place : ℕ) (fault : IsFieldFault meaning graph region at l place) → IsBroken place fault.end
+  fault-broken place fault = broken fault.kind place fault.end fault.there fault.breaks

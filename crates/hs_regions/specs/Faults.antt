@@ -1,13 +1,8 @@
--- The first field of a region that breaks its rule.
+-- The first field of a region that breaks its rule, among those that begin before a byte.
 use Rattle.std.specs.Prelude.{◌≡◌, ℕ, ◌+◌, ◌<◌, List, Some, slice_get, slice_index, slice_range}
-use Rattle.hs_base.specs.Literals.{LiteralByte}
-use Rattle.hs_base.specs.Regions.{IsHeader, region_offset}
 use Rattle.hs_engine.specs.Engines.{Meaning}
-use Rattle.hs_layout.specs.HeaderFaults.{IsHeaderFault}
-use Rattle.hs_layout.specs.Layouts.{Laid, field_bytes}
-use Rattle.hs_nodes.specs.Graphs.{IsGraphSound}
+use Rattle.hs_layout.specs.Layouts.{Laid}
 use Rattle.hs_nodes.specs.Nodes.{IsWellPart}
-use Rattle.hs_nodes.specs.Walks.{node_part}
 use Rattle.hs_nodes.specs.declared.graph.FieldCopy.{FieldCopy}
 use Rattle.hs_nodes.specs.declared.graph.Graph.{Graph}
 use Rattle.hs_nodes.specs.declared.table.Node.{Node}
@@ -30,25 +25,39 @@ pub data IsKeptIn {E : Type 0} (graph : Graph E) (l : Laid) (kind : NodeKind) (l
       high ≡ slice_index l.starts (copy.field + 1) →
       IsKeptIn graph l kind low high
 
--- The graph can be run over regions of that layout, with some literals.
-pub record IsSoundWithSome {E : Type 0} (meaning : E → Meaning) (graph : Graph E) (l : Laid) : Type 0 where
-  pub literals : List (List LiteralByte)
-  pub sound : IsGraphSound meaning graph literals l
+module _ {E : Type 0} (meaning : E → Meaning) (graph : Graph E) (region : List ℕ) (at : ℕ) where
+  -- what is kept of a node of that kind may stand at the offset, from the one to before the other byte
+  abbrev pub IsWellIn : NodeKind → (low high : ℕ) → Type 0
+  IsWellIn kind low high = IsWellPart meaning graph.table.engines.items kind (slice_range region low high) at
 
-module _ {E : Type 0} (meaning : E → Meaning) (graph : Graph E) where
-  -- The first node of which what is kept may not stand at the offset has its field from that byte on.
-  pub record IsNodeFault (region : List ℕ) (at place : ℕ) : Type 0 where
+  -- so may each node's own field that begins before that byte
+  abbrev pub AreNodesWellBefore : (bound : ℕ) → Type 0
+  AreNodesWellBefore bound =
+      (k : ℕ) (node : Node) → slice_get graph.table.nodes.items k ≡ Some node → node.start < bound →
+      IsWellIn node.kind node.start node.end
+
+  -- The first node of which what is kept may not stand there has its field from that byte on.
+  pub record IsNodeFault (place : ℕ) : Type 0 where
     pub number : ℕ
     pub node : Node
     pub there : slice_get graph.table.nodes.items number ≡ Some node
     pub begin : place ≡ node.start
     pub before : (k : ℕ) (other : Node) → k < number → slice_get graph.table.nodes.items k ≡ Some other →
-        IsWellPart meaning graph.table.engines.items other.kind (node_part region other) at
-    pub breaks : IsWellPart meaning graph.table.engines.items node.kind (node_part region node) at → ⊥
+        other.start < place → IsWellIn other.kind other.start other.end
+    pub breaks : IsWellIn node.kind node.start node.end → ⊥
 
   module _ (l : Laid) where
-    -- The first copy that may not stand at the offset begins at that byte.
-    pub record IsCopyFault (region : List ℕ) (at place : ℕ) : Type 0 where
+    -- so may each copy that begins before that byte
+    abbrev pub AreCopiesWellBefore : (bound : ℕ) → Type 0
+    AreCopiesWellBefore bound =
+        (i : ℕ) (copy : FieldCopy) (node : Node) →
+        slice_get graph.copies.items i ≡ Some copy →
+        slice_get graph.table.nodes.items copy.node ≡ Some node →
+        slice_index l.starts copy.field < bound →
+        IsWellIn node.kind (slice_index l.starts copy.field) (slice_index l.starts (copy.field + 1))
+
+    -- The first copy that may not stand there begins at that byte.
+    pub record IsCopyFault (place : ℕ) : Type 0 where
       pub number : ℕ
       pub copy : FieldCopy
       pub node : Node
@@ -58,22 +67,20 @@ module _ {E : Type 0} (meaning : E → Meaning) (graph : Graph E) where
       pub before : (i : ℕ) (other : FieldCopy) (own : Node) → i < number →
           slice_get graph.copies.items i ≡ Some other →
           slice_get graph.table.nodes.items other.node ≡ Some own →
-          IsWellPart meaning graph.table.engines.items own.kind (field_bytes l region other.field) at
-      pub breaks : IsWellPart meaning graph.table.engines.items node.kind (field_bytes l region copy.field) at → ⊥
+          slice_index l.starts other.field < place →
+          IsWellIn own.kind (slice_index l.starts other.field) (slice_index l.starts (other.field + 1))
+      pub breaks :
+          IsWellIn node.kind (slice_index l.starts copy.field) (slice_index l.starts (copy.field + 1)) → ⊥
 
-    -- The first field that may not stand at the offset begins at that byte: each one that begins before it may.
-    pub record IsFieldFault (region : List ℕ) (at place : ℕ) : Type 0 where
+    -- each field that begins before that byte may stand there
+    abbrev pub AreFieldsWellBefore : (bound : ℕ) → Type 0
+    AreFieldsWellBefore bound =
+        (kind : NodeKind) (low high : ℕ) → IsKeptIn graph l kind low high → low < bound → IsWellIn kind low high
+
+    -- The first field that may not stand there begins at that byte: each one that begins before it may.
+    pub record IsFieldFault (place : ℕ) : Type 0 where
       pub kind : NodeKind
       pub end : ℕ
       pub there : IsKeptIn graph l kind place end
-      pub before : (other : NodeKind) (low high : ℕ) → IsKeptIn graph l other low high → low < place →
-          IsWellPart meaning graph.table.engines.items other (slice_range region low high) at
-      pub breaks : IsWellPart meaning graph.table.engines.items kind (slice_range region place end) at → ⊥
-
-    -- The first field of the region that breaks its rule begins at that byte: it is one of the header, or the header
-    -- keeps to its rules, and it is what is kept of a node, or a copy of it.
-    pub data IsFirstFault (region : List ℕ) (place : ℕ) : Type 0 where
-      header : IsHeaderFault l.singles l.identifiers region place → IsFirstFault region place
-      field : IsHeader l.singles l.identifiers region →
-          IsFieldFault region (region_offset region) place →
-          IsFirstFault region place
+      pub before : AreFieldsWellBefore place
+      pub breaks : IsWellIn kind place end → ⊥

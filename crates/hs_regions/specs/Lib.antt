@@ -1,5 +1,6 @@
 pub mod Clearing
+pub mod Packed
+pub mod KeptFaults
 pub mod Checking
 pub mod Faults
-pub mod PlanFaults
 pub mod RegionLaws

@@ -1,6 +1,6 @@
 //! Laws of regions of a graph: functions that do nothing, whose contracts state them.
 
-ghost use Rattle.hs_regions.specs.RegionLaws.{GraphFaultsAreOfThePlan, GraphRegionsAreWellFormed};
+ghost use Rattle.hs_regions.specs.RegionLaws.{FaultsAreNotWell, GraphKeepsWell, GraphRegionsAreWellFormed};
 
 use hs_block::BlockEngine;
 
@@ -9,7 +9,12 @@ pub fn graph_regions_are_well_formed<E: BlockEngine>()
     ensures { GraphRegionsAreWellFormed E.meaning }
 {}
 
-/// Where the first field of a region begins that breaks its rule is where it begins by the plan that the graph runs.
-pub fn graph_faults_are_of_the_plan<E: BlockEngine>()
-    ensures { GraphFaultsAreOfThePlan E.meaning }
+/// Bytes may be what is kept of a region of a graph just where they are well kept for the plan that it runs.
+pub fn graph_keeps_well<E: BlockEngine>()
+    ensures { GraphKeepsWell E.meaning }
+{}
+
+/// Bytes of which a part breaks its rule aren't well kept.
+pub fn faults_are_not_well()
+    ensures { FaultsAreNotWell }
 {}

@@ -1,4 +1,5 @@
 pub mod RunningLemmas
+pub mod PackedLemmas
 pub mod EmptyLemmas
 pub mod JoinLemmas
 pub mod WriteLemmas

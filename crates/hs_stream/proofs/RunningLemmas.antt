@@ -5,7 +5,7 @@ use Rattle.hs_base.specs.Literals.{LiteralByte}
 use Rattle.hs_base.specs.Regions.{Plan, IsWellFormed, region_offset}
 use Rattle.hs_base.specs.Told.{Pair}
 use Rattle.hs_base.proofs.ListLemmas.{each-append}
-use Rattle.hs_compile.specs.Databases.{Compiled, IsDatabaseOf, IsWholeDatabase, graph_of, layout_of, literals_in}
+use Rattle.hs_compile.specs.Databases.{Compiled, IsDatabaseOf, IsWholeDatabase, graph_of, layout_of, literals_in, packing_of}
 use Rattle.hs_layout.specs.Layouts.{Laid}
 use Rattle.hs_literals.specs.Held.{held}
 use Rattle.hs_literals.specs.declared.literals.Literals.{Literals}
@@ -15,12 +15,13 @@ use Rattle.hs_reports.specs.Identifiers.{numbers_of}
 use Rattle.hs_reports.specs.Pairs.{ArePairsOf}
 use Rattle.hs_rose.specs.PieceEngines.{piece_meaning}
 use Rattle.hs_rose.specs.declared.engine.PieceEngine.{PieceEngine}
-use Rattle.hs_regions.specs.Faults.{IsSoundWithSome}
+use Rattle.hs_kept.specs.declared.packing.Packing.{Packing}
+use Rattle.hs_regions.specs.Packed.{RunsPacked, RunsSomePacked}
 use Rattle.hs_scan.specs.Feeding.{Feeds, Finishes}
 use Rattle.hs_nodes.specs.WellRegions.{RunsLaid}
 use Rattle.hs_regions.proofs.ExactLemmas.{regions-exact}
-use Rattle.hs_stream.specs.Foreign.{MayEnd, MayLead, MayTell}
-use Rattle.hs_stream.specs.Leading.{IsRegionOf, LeadsTo}
+use Rattle.hs_stream.specs.Scanning.{IsWholeRegionOf, MayScan, MayScanEnd, ScansTo}
+use Rattle.hs_stream.specs.Telling.{MayTell}
 
 pub each-by : (bytes : List ℕ) → ((i : ℕ) → get_or bytes i 0 < 256) → Each (λ b. b < 256) bytes
 each-by [] all = tt
@@ -50,24 +51,29 @@ lent-as {db} {graph} {literals} {l} own P holds =
     (subst (λ ls. P graph (held ls) (layout_of db)) own.literals_are
     (subst (λ m. P graph (held literals) m) own.layout_is holds))
 
--- and of the graph and the layout alone
-pub as-pair : (db : Compiled) {graph : Graph PieceEngine} {l : Laid} → graph ≡ graph_of db → l ≡ layout_of db → (P : Graph PieceEngine → Laid → Type 0) → P (graph_of db) (layout_of db) → P graph l
-as-pair db {graph} {l} same same_l P holds = subst (λ g. P g l) (sym same) (subst (λ m. P (graph_of db) m) (sym same_l) holds)
+-- and of the graph, the layout and the packing
+pub as-three : (db : Compiled) {graph : Graph PieceEngine} {l : Laid} {packing : Packing} → graph ≡ graph_of db → l ≡ layout_of db → packing ≡ packing_of db → (P : Graph PieceEngine → Laid → Packing → Type 0) → P (graph_of db) (layout_of db) (packing_of db) → P graph l packing
+as-three db {graph} {l} {packing} same same_l same_p P holds =
+    subst (λ g. P g l packing) (sym same) (subst (λ m. P (graph_of db) m packing) (sym same_l) (subst (λ p. P (graph_of db) (layout_of db) p) (sym same_p) holds))
 
-pub pair-as : (db : Compiled) {graph : Graph PieceEngine} {l : Laid} → graph ≡ graph_of db → l ≡ layout_of db → (P : Graph PieceEngine → Laid → Type 0) → P graph l → P (graph_of db) (layout_of db)
-pair-as db {graph} {l} same same_l P holds = subst (λ g. P g (layout_of db)) same (subst (λ m. P graph m) same_l holds)
-
-pub whole-sound : (db : Compiled) → IsWholeDatabase db → IsSoundWithSome piece_meaning (graph_of db) (layout_of db)
-whole-sound db whole = record { literals = held (literals_in db); sound = whole.is_of.sound }
+pub three-as : (db : Compiled) {graph : Graph PieceEngine} {l : Laid} {packing : Packing} → graph ≡ graph_of db → l ≡ layout_of db → packing ≡ packing_of db → (P : Graph PieceEngine → Laid → Packing → Type 0) → P graph l packing → P (graph_of db) (layout_of db) (packing_of db)
+three-as db {graph} {l} {packing} same same_l same_p P holds =
+    subst (λ g. P g (layout_of db) (packing_of db)) same (subst (λ m. P graph m (packing_of db)) same_l (subst (λ p. P graph l p) same_p holds))
 
 module _ (db : Compiled) (plan : Plan) (is : IsDatabaseOf db plan) where
   pub plan-runs : RunsLaid piece_meaning (graph_of db) (held (literals_in db)) (layout_of db) plan
   plan-runs = record { runs = is.runs; laid = is.layout }
 
+  pub plan-packed : RunsPacked piece_meaning (graph_of db) (layout_of db) (packing_of db) (held (literals_in db)) plan
+  plan-packed = record { sound = is.sound; runs = plan-runs; packing_for = is.packing }
+
   -- what may be run as a region is what is well formed for the plan
-  pub region-exact : (region : List ℕ) → Each (λ b. b < 256) region → IsRegionOf db region ↔ IsWellFormed plan region
+  pub region-exact : (region : List ℕ) → Each (λ b. b < 256) region → IsWholeRegionOf db region ↔ IsWellFormed plan region
   region-exact region small =
       regions-exact piece_meaning (graph_of db) (held (literals_in db)) (layout_of db) plan region is.sound plan-runs small
+
+pub whole-packed : (db : Compiled) → IsWholeDatabase db → RunsSomePacked piece_meaning (graph_of db) (layout_of db) (packing_of db)
+whole-packed db whole = record { literals = held (literals_in db); plan = whole.plan; is = plan-packed db whole.plan whole.is_of }
 
 -- pairs of the identifiers of the graph are of those of each plan
 pairs-told : (db : Compiled) (low high : ℕ) (pairs : List Pair) → ArePairsOf (numbers_of (graph_of db).identifiers.items) low high pairs → MayTell db low high pairs
@@ -77,28 +83,28 @@ pairs-told db low high pairs are = record {
   rising = are.rising;
 }
 
-feeds-lead : (db : Compiled) (old new bytes : List ℕ) (pairs : List Pair) → Each (λ b. b < 256) bytes → Feeds piece_meaning (graph_of db) (held (literals_in db)) (layout_of db) old new bytes pairs → LeadsTo db old new bytes pairs
-feeds-lead db old new bytes pairs small feeds plan u told is behind told_is =
+feeds-scan : (db : Compiled) (old new bytes : List ℕ) (pairs : List Pair) → Each (λ b. b < 256) bytes → Feeds piece_meaning (graph_of db) (held (literals_in db)) (layout_of db) old new bytes pairs → ScansTo db old new bytes pairs
+feeds-scan db old new bytes pairs small feeds plan u told is behind told_is =
     let fed = feeds.feeds plan u told (plan-runs db plan is) behind.bytes behind.region told_is in
     record {
-      behind = record { bytes = each-append (λ b. b < 256) u bytes behind.bytes small; region = fed.region };
+      scanned = record { bytes = each-append (λ b. b < 256) u bytes behind.bytes small; region = fed.region };
       reports = fed.new;
     }
 
 module _ {V : Type 0} (Tells : V → ℕ → ℕ → V → Type 0) {start end : V} (db : Compiled) where
   -- what the runner reported of bytes
-  pub takes-lead : {old new bytes : List ℕ} → Each (λ b. b < 256) bytes → Takes Tells start end (Feeds piece_meaning (graph_of db) (held (literals_in db)) (layout_of db) old new bytes) → Takes Tells start end (MayLead db old new bytes)
-  takes-lead {old} {new} {bytes} small took = record {
+  pub takes-scan : {old new bytes : List ℕ} → Each (λ b. b < 256) bytes → Takes Tells start end (Feeds piece_meaning (graph_of db) (held (literals_in db)) (layout_of db) old new bytes) → Takes Tells start end (MayScan db old new bytes)
+  takes-scan {old} {new} {bytes} small took = record {
     pairs = took.pairs;
     through = took.through;
     holds = record {
-      leads = feeds-lead db old new bytes took.pairs small took.holds;
+      scans = feeds-scan db old new bytes took.pairs small took.holds;
       tells = pairs-told db (region_offset old) (region_offset new) took.pairs took.holds.pairs_are;
     };
   }
 
   -- and of the end
-  pub takes-end : {region : List ℕ} → Takes Tells start end (Finishes piece_meaning (graph_of db) (held (literals_in db)) (layout_of db) region) → Takes Tells start end (MayEnd db region)
+  pub takes-end : {region : List ℕ} → Takes Tells start end (Finishes piece_meaning (graph_of db) (held (literals_in db)) (layout_of db) region) → Takes Tells start end (MayScanEnd db region)
   takes-end {region} took = record {
     pairs = took.pairs;
     through = took.through;

@@ -1,14 +1,13 @@
 -- Saved streams.
 use Rattle.std.proofs.Common.{◌≡◌, ◌∙◌, ℕ, List, length, refl, sym, ap, subst}
-use Rattle.hs_base.proofs.RegionLemmas.{regions-once, regions-well}
-use Rattle.hs_compile.specs.Databases.{Compiled, digest_of as database_digest, graph_of, layout_of, literals_in}
+use Rattle.hs_base.specs.Lists.{Each}
+use Rattle.hs_compile.specs.Databases.{Compiled, digest_of as database_digest}
 use Rattle.hs_dbfile.specs.States.{IsReadOnce, IsStateFaultOf, State, state_bytes}
 use Rattle.hs_dbfile.specs.declared.state.StateFault.{StateFault}
 use Rattle.hs_dbfile.specs.declared.state.StateFault.TheVariants as state
 use Rattle.hs_dbfile.proofs.StateLemmas.{states_read_once}
-use Rattle.hs_literals.specs.Held.{held}
-use Rattle.hs_rose.specs.PieceEngines.{piece_meaning}
-use Rattle.hs_regions.proofs.PlanFaultLemmas.{fault-never, faults-planned as graph-faults}
+use Rattle.hs_kept.proofs.KeptLemmas.{kept-once, kept-well}
+use Rattle.hs_regions.proofs.WellLemmas.{fault-never}
 use Rattle.hs_stream.specs.declared.fault.ExpandFault.{ExpandFault}
 use Rattle.hs_stream.specs.declared.fault.ExpandFault.TheVariants as fault
 use Rattle.hs_stream.specs.declared.stream.Stream.{Stream}
@@ -17,7 +16,7 @@ use Rattle.hs_stream.specs.Saving as saving
 use Rattle.hs_stream.specs.Saving.{IsExpanded, IsExpandFaultOf, IsFormFault, IsSaved, told_as}
 use Rattle.hs_stream.specs.SavingLaws.{ExpandedGoesOn, ExpandedStands, FaultsAreOfThePlan, HistoriesAreTaken, HistoriesHaveOneFile, IsTaken, SavedIsTaken}
 use Rattle.hs_stream.specs.Streams.{region_of}
-use Rattle.hs_stream.proofs.RunningLemmas.{plan-runs, region-exact}
+use Rattle.hs_stream.proofs.PackedLemmas.{kept-exact}
 use Rattle.hs_stream.proofs.WriteLemmas.{cuts-tell_nothing}
 
 -- ---- what a file gives
@@ -34,9 +33,11 @@ module _ (db : Compiled) (bytes region : List ℕ) (well : IsRegionOf db region)
 
   no-form : (at : ℕ) → IsFormFault db bytes at → ⊥
   no-form at (saving.outer place) = once.never region (state.Form at) saved place
-  no-form at (saving.size other own apart_is is) = apart_is (ap length (once.regions other region own saved) ∙ well.fits.sized)
+  no-form at (saving.size other own apart_is is) = apart_is (ap length (once.regions other region own saved) ∙ well.len)
   no-form at (saving.field other place own sized broken is) =
-      fault-never piece_meaning (graph_of db) (layout_of db) region place (subst (λ r. IsFaultOf db r place) (once.regions other region own saved) broken) well
+      let fault = subst (λ r. IsFaultOf db r place) (once.regions other region own saved) broken in
+      let plan = fault.whole.plan in
+      fault-never plan region place (fault.first plan fault.whole.is_of) ((kept-exact db plan fault.whole.is_of region saved.is.region.bytes).0 well)
 
   free-alone : (f : ExpandFault) → IsExpandFaultOf db bytes f → f ≡ fault.Memory
   free-alone (fault.Form at) form = absurd (no-form at form)
@@ -52,7 +53,7 @@ saved-taken db bytes region well saved = taken db bytes region well saved
 
 pub histories-taken : HistoriesAreTaken
 histories-taken db plan u bytes region is behind saved =
-    taken db bytes region ((region-exact db plan is region behind.region.bytes).1 (regions-well plan u region behind.region)) saved
+    taken db bytes region ((kept-exact db plan is region behind.region.bytes).1 (kept-well plan u region behind.region)) saved
 
 -- what is expanded has the region that was saved
 same-region : (db : Compiled) (bytes : List ℕ) (saved expanded : Stream) → IsSaved db bytes (region_of saved) → IsExpanded db bytes expanded → region_of saved ≡ region_of expanded
@@ -72,13 +73,12 @@ expanded-on db plan u told is told_is saved expanded end end' bytes pieces piece
     (subst (IsBehind plan u) (same-region db bytes saved expanded own expanded_is) behind) same written written'
 
 file_of : List ℕ → List ℕ → State
-file_of digest region = record { version = 1; digest = digest; region = region }
+file_of digest region = record { version = 2; digest = digest; region = region }
 
 pub one-file : HistoriesHaveOneFile
 unfolding file_of
 one-file db plan u bytes bytes' region region' behind behind' own own' =
-    own.whole ∙ (ap (λ r. state_bytes (file_of (database_digest db) r)) (regions-once plan u region region' behind.region behind'.region) ∙ sym own'.whole)
+    own.whole ∙ (ap (λ r. state_bytes (file_of (database_digest db) r)) (kept-once plan u region region' behind.region behind'.region) ∙ sym own'.whole)
 
 pub faults-planned : FaultsAreOfThePlan
-faults-planned db plan region place is fault =
-    graph-faults piece_meaning (graph_of db) (held (literals_in db)) (layout_of db) plan region place is.sound (plan-runs db plan is) fault
+faults-planned db plan region place is fault = fault.first plan is

@@ -1,7 +1,7 @@
 -- Any list of writes.
 use Rattle.std.proofs.Common.{◌≡◌, ◌∙◌, ℕ, List, [], ◌∷◌, ◌++◌, sym, ap, subst, append_assoc}
 use Rattle.std.proofs.lemmas.List.{append-nil}
-use Rattle.hs_base.proofs.RegionLemmas.{regions-once}
+use Rattle.hs_kept.proofs.KeptLemmas.{kept-once}
 use Rattle.hs_base.proofs.NewLemmas.{told_start}
 use Rattle.hs_base.proofs.ToldLemmas.{new-once, last-once}
 use Rattle.hs_stream.specs.Leading.{IsLed}
@@ -28,7 +28,7 @@ cuts-tell_nothing db plan u told is told_is start start' end end' pieces pieces'
     record {
       reports = new-once plan.patterns u (joined pieces) pairs pairs' led.reports led'.reports;
       behind = led.behind;
-      region = regions-once plan w (region_of end') (region_of end) led'.behind.region led.behind.region;
+      region = kept-once plan w (region_of end') (region_of end) led'.behind.region led.behind.region;
       lasts = λ last last' ends ends'. last-once plan.patterns w last last' (ends plan w is led.behind) (ends' plan w is led'.behind);
     }
 

@@ -1,28 +1,23 @@
 -- What a write or an end may report of any stream of a database, that of no bytes too, which is called foreign.
-use Rattle.std.specs.Prelude.{◌≡◌, ℕ, ◌+◌, ◌-◌, ◌<◌, ◌≤◌, List, length}
-use Rattle.hs_base.specs.Lists.{Each, IsMember, IsRising}
-use Rattle.hs_base.specs.Regions.{Plan, region_offset}
+use Rattle.std.specs.Prelude.{◌≡◌, ℕ, ◌+◌, ◌-◌, ◌<◌, List, length}
+use Rattle.hs_base.specs.Lists.{Each}
+use Rattle.hs_base.specs.Regions.{region_offset}
 use Rattle.hs_base.specs.Told.{Pair}
-use Rattle.hs_compile.specs.Databases.{Compiled, IsDatabaseOf}
+use Rattle.hs_compile.specs.Databases.{Compiled}
 use Rattle.hs_stream.specs.declared.stream.Stream.{Stream}
 use Rattle.hs_stream.specs.Leading.{EndsWith, LeadsTo}
 use Rattle.hs_stream.specs.Streams.{Closes, Writes, offset_of, region_of}
+pub use Rattle.hs_stream.specs.Telling.{MayTell}
 
--- The pairs name identifiers of the database's plans, and their ends lie in these bounds and don't fall.
-pub record MayTell (db : Compiled) (low high : ℕ) (pairs : List Pair) : Type 0 where
-  pub named : (plan : Plan) → IsDatabaseOf db plan → Each (λ pair. IsMember pair.id plan.identifiers) pairs
-  pub bounded : Each (λ pair. (low ≤ pair.to) × (pair.to ≤ high)) pairs
-  pub rising : IsRising (λ x y. x.to ≤ y.to) pairs
-
--- The bytes led from the one region to the other and reported these pairs, whatever region that was.
+-- What was kept was led from the one to the other by the bytes, which reported these pairs, whatever stream that was.
 pub record MayLead (db : Compiled) (old new bytes : List ℕ) (pairs : List Pair) : Type 0 where
   pub leads : LeadsTo db old new bytes pairs
   pub tells : MayTell db (region_offset old) (region_offset new) pairs
 
--- The end of the stream of a region reported these pairs, whatever region that was.
-pub record MayEnd (db : Compiled) (region : List ℕ) (pairs : List Pair) : Type 0 where
-  pub ends : EndsWith db region pairs
-  pub tells : MayTell db (region_offset region - 1) (region_offset region) pairs
+-- The end of the stream of which that is kept reported these pairs, whatever stream that was.
+pub record MayEnd (db : Compiled) (kept : List ℕ) (pairs : List Pair) : Type 0 where
+  pub ends : EndsWith db kept pairs
+  pub tells : MayTell db (region_offset kept - 1) (region_offset kept) pairs
 
 -- The bytes led from the one stream to the other and reported these pairs, whatever stream that was.
 pub record MayWrite (db : Compiled) (old new : Stream) (bytes : List ℕ) (pairs : List Pair) : Type 0 where

@@ -1,5 +1,7 @@
 pub mod Collecting
 pub mod Scratches
+pub mod Telling
+pub mod Scanning
 pub mod Leading
 pub mod Streams
 pub mod Writing

@@ -1,10 +1,10 @@
 -- Saved streams: what bytes they are, and why bytes give no stream.
 use Rattle.std.specs.Prelude.{◌≡◌, ◌≢◌, ℕ, ◌+◌, List, length}
-use Rattle.hs_compile.specs.Databases.{Compiled, digest_of as database_digest, layout_of}
+use Rattle.hs_compile.specs.Databases.{Compiled, digest_of as database_digest, packing_of}
 use Rattle.hs_dbfile.specs.States.{IsStateFile, IsStatePlace, HasVersion, IsOfOther}
 use Rattle.hs_dbfile.specs.declared.state.StateFault.{StateFault}
 use Rattle.hs_dbfile.specs.declared.state.StateFault.TheVariants as state
-use Rattle.hs_layout.specs.Layouts.{laid_size}
+use Rattle.hs_kept.specs.Packing.{packed_size}
 use Rattle.hs_stream.specs.declared.fault.ExpandFault.{ExpandFault}
 use Rattle.hs_stream.specs.declared.fault.ExpandFault.TheVariants as fault
 use Rattle.hs_stream.specs.declared.stream.Stream.{Stream}
@@ -21,18 +21,18 @@ pub record IsExpanded (db : Compiled) (bytes : List ℕ) (stream : Stream) : Typ
   pub saved : IsSaved db bytes (region_of stream)
 
 -- The bytes have no form of a saved stream of the database from that place on: they haven't the form of a state file
--- and stop being one there; or the length in the file, which stands there, isn't that of the database's regions; or the
--- first field of the region that breaks its rule begins there.
+-- and stop being one there; or the length in the file, which stands there, isn't that of what the database keeps;
+-- or the first part of this that breaks its rule begins there.
 pub data IsFormFault (db : Compiled) (bytes : List ℕ) (at : ℕ) : Type 0 where
   outer : IsStatePlace bytes at → IsFormFault db bytes at
   size : (region : List ℕ) →
       IsSaved db bytes region →
-      length region ≢ laid_size (layout_of db) →
+      length region ≢ packed_size (packing_of db) →
       at ≡ 38 →
       IsFormFault db bytes at
   field : (region : List ℕ) (place : ℕ) →
       IsSaved db bytes region →
-      length region ≡ laid_size (layout_of db) →
+      length region ≡ packed_size (packing_of db) →
       IsFaultOf db region place →
       at ≡ 42 + place →
       IsFormFault db bytes at

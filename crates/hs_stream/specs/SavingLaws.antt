@@ -4,7 +4,7 @@ use Rattle.hs_base.specs.Patterns.{Pattern}
 use Rattle.hs_base.specs.Regions.{Plan}
 use Rattle.hs_base.specs.Told.{Pair, IsTold}
 use Rattle.hs_compile.specs.Databases.{Compiled, IsDatabaseOf}
-use Rattle.hs_regions.specs.PlanFaults.{IsPlanFault}
+use Rattle.hs_regions.specs.KeptFaults.{IsKeptFault}
 use Rattle.hs_stream.specs.declared.fault.ExpandFault.{ExpandFault}
 use Rattle.hs_stream.specs.declared.fault.ExpandFault.TheVariants as fault
 use Rattle.hs_stream.specs.declared.stream.Stream.{Stream}
@@ -54,8 +54,8 @@ HistoriesHaveOneFile =
     IsBehind plan u region → IsBehind plan u region' →
     IsSaved db bytes region → IsSaved db bytes' region' → bytes ≡ bytes'
 
--- The first field of a region that breaks its rule is the first one by the plan of the database.
+-- The first part of what is kept that breaks its rule is the first one by the plan of the database.
 abbrev pub FaultsAreOfThePlan : Type 0
 FaultsAreOfThePlan =
     (db : Compiled) (plan : Plan) (region : List ℕ) (place : ℕ) → IsDatabaseOf db plan →
-    IsFaultOf db region place → IsPlanFault plan region place
+    IsFaultOf db region place → IsKeptFault plan region place

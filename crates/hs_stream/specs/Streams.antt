@@ -1,9 +1,10 @@
 -- The streams of a database.
 use Rattle.std.specs.Prelude.{◌≡◌, ◌↔◌, ℕ, ◌<◌, List, []}
 use Rattle.hs_base.specs.Lists.{Each}
-use Rattle.hs_base.specs.Regions.{Plan, IsWellFormed, region_offset}
+use Rattle.hs_base.specs.Regions.{Plan, region_offset}
 use Rattle.hs_base.specs.Told.{Pair}
 use Rattle.hs_compile.specs.Databases.{Compiled, IsDatabaseOf, digest_of as database_digest}
+use Rattle.hs_kept.specs.KeptRegions.{IsWellKept}
 use Rattle.hs_stream.specs.declared.stream.Stream.{Stream}
 use Rattle.hs_stream.specs.Leading.{IsBehind, IsRegionOf, LeadsTo, EndsWith}
 
@@ -19,20 +20,20 @@ digest_of stream = stream.digest
 abbrev pub offset_of : Stream → ℕ
 offset_of stream = region_offset (region_of stream)
 
--- The stream is one of the database: it has the digest, and its region is well formed.
+-- The stream is one of the database: it has the digest, and what is kept of it is well formed.
 pub record IsStreamOf (db : Compiled) (stream : Stream) : Type 0 where
   pub digest : digest_of stream ≡ database_digest db
   pub region : IsRegionOf db (region_of stream)
 
--- That is so just where its region is well formed for the plan of the database.
+-- That is so just where that is well kept for the plan of the database.
 abbrev pub StreamsAreWellFormed : Type 0
 StreamsAreWellFormed =
     (db : Compiled) (plan : Plan) (stream : Stream) →
     IsDatabaseOf db plan →
     Each (λ b. b < 256) (region_of stream) →
-    IsStreamOf db stream ↔ ((digest_of stream ≡ database_digest db) × IsWellFormed plan (region_of stream))
+    IsStreamOf db stream ↔ ((digest_of stream ≡ database_digest db) × IsWellKept plan (region_of stream))
 
--- its region is that of the empty stream
+-- what is kept of it is that of the empty stream
 abbrev pub IsFresh : Compiled → Stream → Type 0
 IsFresh db stream = (plan : Plan) → IsDatabaseOf db plan → IsBehind plan [] (region_of stream)
 

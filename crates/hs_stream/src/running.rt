@@ -1,16 +1,17 @@
-//! The runner of a database, over regions of its streams. All calls of it stand here, but for those of `scratch`.
+//! The runner of a database, over whole regions of its streams, and what may be kept of these. All calls of it stand
+//! here, but for those of `scratch`.
 ghost use Rattle.std.specs.Prelude.{◌≡◌, ◌↔◌, ◌+◌, ◌*◌, ◌<◌, ◌≤◌, ◌^◌, IfSome, IsNone, IsTrue, [], length};
 ghost use Rattle.hs_base.specs.Lists.{Each};
 ghost use Rattle.hs_base.specs.Offsets.{greatest_offset};
 ghost use Rattle.hs_base.specs.Regions.{region_offset};
-ghost use Rattle.hs_compile.specs.Databases.{IsWholeDatabase, layout_of, nodes_of};
-ghost use Rattle.hs_layout.specs.Layouts.{laid_size};
+ghost use Rattle.hs_compile.specs.Databases.{IsWholeDatabase, nodes_of, packing_of};
+ghost use Rattle.hs_kept.specs.Packing.{packed_size};
 ghost use Rattle.hs_reports.specs.Events.{Takes};
-ghost use Rattle.hs_stream.specs.Scratches.{IsScratchOf};
-ghost use Rattle.hs_stream.specs.Foreign.{MayEnd, MayLead};
+ghost use Rattle.hs_scan.specs.Scratches.{IsIdle};
+ghost use Rattle.hs_stream.specs.Scratches.{ServesDatabase};
 ghost use Rattle.hs_stream.specs.Leading.{IsFaultOf, IsRegionOf};
+ghost use Rattle.hs_stream.specs.Scanning.{IsWholeRegionOf, MayScan, MayScanEnd};
 
-use crate::scratch::Scratch;
 use hs_compile::Database;
 use hs_engine::Steps;
 use hs_regions::{first_fault, well_formed};
@@ -22,21 +23,22 @@ use std::sync::ledger::Ledger;
 pub(crate) fn run_bytes<V: Events, L: Ledger>(
     db: &Database,
     region: &mut [u8],
-    scratch: &mut Scratch,
+    scratch: &mut hs_scan::Scratch,
     bytes: &[u8],
     events: &mut V,
     steps: &mut Steps<L>,
 )
-    requires region { IsRegionOf db.now region.old }
-    requires scratch { IsScratchOf db.now scratch.old }
+    requires region { IsWholeRegionOf db.now region.old }
+    requires ready { IsIdle scratch.old }
+    requires scratch { ServesDatabase db.now scratch.old }
     requires room { region_offset region.old + length bytes.now ≤ greatest_offset }
-    ensures region { IsRegionOf db.now region.new }
+    ensures region { IsWholeRegionOf db.now region.new }
     ensures len { length region.new ≡ length region.old }
-    ensures scratch { IsScratchOf db.now scratch.new }
+    ensures ready { IsIdle scratch.new }
+    ensures scratch { ServesDatabase db.now scratch.new }
     ensures offset { region_offset region.new ≡ region_offset region.old + length bytes.now }
     ensures small { Each (λ b. b < 256) region.new }
-    ensures idle { bytes.now ≡ [] → (events.new ≡ events.old) × (region.new ≡ region.old) }
-    ensures told { Takes V.tells events.old events.new (MayLead db.now region.old region.new bytes.now) }
+    ensures told { Takes V.tells events.old events.new (MayScan db.now region.old region.new bytes.now) }
     ensures ticks { steps.new ≤ steps.old + 48 * (length (nodes_of db.now) * length bytes.now) }
 {
     scan(
@@ -44,7 +46,7 @@ pub(crate) fn run_bytes<V: Events, L: Ledger>(
         db.literals(),
         db.layout(),
         region,
-        &mut scratch.room,
+        scratch,
         bytes,
         events,
         steps,
@@ -55,44 +57,45 @@ pub(crate) fn run_bytes<V: Events, L: Ledger>(
 pub(crate) fn run_end<V: Events, L: Ledger>(
     db: &Database,
     region: &[u8],
-    scratch: &mut Scratch,
+    scratch: &mut hs_scan::Scratch,
     events: &mut V,
     steps: &mut Steps<L>,
 )
-    requires region { IsRegionOf db.now region.now }
-    requires scratch { IsScratchOf db.now scratch.old }
-    ensures scratch { IsScratchOf db.now scratch.new }
-    ensures told { Takes V.tells events.old events.new (MayEnd db.now region.now) }
+    requires region { IsWholeRegionOf db.now region.now }
+    requires ready { IsIdle scratch.old }
+    requires scratch { ServesDatabase db.now scratch.old }
+    ensures ready { IsIdle scratch.new }
+    ensures scratch { ServesDatabase db.now scratch.new }
+    ensures told { Takes V.tells events.old events.new (MayScanEnd db.now region.now) }
     ensures ticks { steps.new ≤ steps.old + 16 * length (nodes_of db.now) }
-    ensures whole { IsWholeDatabase db.now }
 {
     finish(
         db.graph(),
         db.literals(),
         db.layout(),
         region,
-        &mut scratch.room,
+        scratch,
         events,
         steps,
     );
 }
 
-/// Whether the bytes may be the region of a stream of the database.
-pub(crate) fn is_region(db: &Database, region: &[u8]) -> bool
-    ensures { IsTrue result ↔ IsRegionOf db.now region.now }
+/// Whether the bytes may be what is kept of a stream of the database.
+pub(crate) fn is_region(db: &Database, kept: &[u8]) -> bool
+    ensures { IsTrue result ↔ IsRegionOf db.now kept.now }
 {
-    let fits = well_formed(db.graph(), db.layout(), region);
+    let fits = well_formed(db.graph(), db.layout(), db.packing(), kept);
     fits
 }
 
-/// Where the first field begins that breaks its rule, of bytes that have the length of a region of the database. None:
-/// they may be the region of a stream of it.
-pub(crate) fn region_fault(db: &Database, region: &[u8]) -> Option<usize>
-    requires sized { length region.now ≡ laid_size (layout_of db.now) }
-    ensures none { IsNone result ↔ IsRegionOf db.now region.now }
-    ensures first { IfSome result (IsFaultOf db.now region.now) }
+/// Where the first part begins that breaks its rule, of bytes that have the length of what is kept of a stream of the
+/// database. None: they may be that.
+pub(crate) fn region_fault(db: &Database, kept: &[u8]) -> Option<usize>
+    requires sized { length kept.now ≡ packed_size (packing_of db.now) }
+    ensures none { IsNone result ↔ IsRegionOf db.now kept.now }
+    ensures first { IfSome result (IsFaultOf db.now kept.now) }
     ensures small { IfSome result (λ place. place ≤ 2 ^ 24) }
 {
-    let place = first_fault(db.graph(), db.layout(), region);
+    let place = first_fault(db.graph(), db.layout(), db.packing(), kept);
     place
 }

@@ -1,4 +1,4 @@
-//! Regions in saved streams, written and read.
+//! What is kept of streams in files, written and read.
 ghost use Rattle.std.specs.Prelude.{◌≡◌, IfOk, MatchResult};
 ghost use Rattle.hs_stream.specs.Leading.{IsRegionOf};
 ghost use Rattle.hs_stream.specs.Saving.{IsExpandFaultOf, IsSaved, told_as};

@@ -1,5 +1,5 @@
 //! Memory that calls on streams use.
-ghost use Rattle.std.specs.Prelude.{◌↔◌, IsTrue, IfOk};
+ghost use Rattle.std.specs.Prelude.{◌≡◌, ◌↔◌, replicate, IsTrue, IfOk};
 ghost use Rattle.hs_scan.specs.Scratches.{IsIdle};
 
 use hs_compile::Database;
@@ -8,10 +8,14 @@ use std::alloc::{AllocError, Global};
 /// Memory that a call on a stream uses. Nothing in it outlives the call, so one scratch serves all streams of the
 /// databases that it fits.
 ///
-/// It takes 129 bytes a node of the database, 145 a literal and 53 an identifier, and less than 1 KB beside them.
+/// It takes 129 bytes a node of the database, 145 a literal and 53 an identifier, the bytes of a whole region, and less
+/// than 1 KB beside them.
 #[derive(Drop)]
 pub struct Scratch {
+    /// What a scan uses.
     pub(crate) room: hs_scan::Scratch,
+    /// Bytes for the region that a scan goes over.
+    pub(crate) region: Vec<u8>,
     ghost idle: { IsIdle room },
 }
 
@@ -34,6 +38,7 @@ impl Scratch {
     {
         Ok(Scratch {
             room: hs_scan::Scratch::new(alloc, db.graph(), db.literals())?,
+            region: zeros(alloc, db.packing().region_size())?,
         })
     }
 
@@ -42,7 +47,7 @@ impl Scratch {
     ///
     /// # Cost
     ///
-    /// Three numbers are compared, and it takes no memory.
+    /// Four numbers are compared, and it takes no memory.
     ///
     /// # Examples
     ///
@@ -54,6 +59,16 @@ impl Scratch {
     pub fn fits(&self, db: &Database) -> bool
         ensures { IsTrue result ↔ IsScratchOf db.now self.now }
     {
+        if self.region.len() != db.packing().region_size() {
+            return false;
+        }
         self.room.fits(db.graph(), db.literals())
     }
+}
+
+/// So many bytes 0. The error is want of memory.
+pub(crate) fn zeros(alloc: Global, count: usize) -> Result<Vec<u8>, AllocError>
+    ensures { IfOk result (λ bytes. bytes.items ≡ replicate count 0) }
+{
+    vec![in alloc; 0u8; count]
 }

@@ -1,5 +1,5 @@
 //! One stream.
-ghost use Rattle.std.specs.Prelude.{◌≡◌, ◌↔◌, ◌+◌, ◌*◌, ◌<◌, ◌≤◌, length, replicate, IsTrue, IsErr, IfOk, OnOk, OnErr};
+ghost use Rattle.std.specs.Prelude.{◌≡◌, ◌↔◌, ◌+◌, ◌*◌, ◌<◌, ◌≤◌, length, IsTrue, IsErr, IfOk, OnOk, OnErr};
 ghost use Rattle.std.specs.Prelude.{MatchResult, []};
 ghost use Rattle.hs_base.specs.Offsets.{greatest_offset};
 ghost use Rattle.hs_compile.specs.Databases.{nodes_of};
@@ -7,13 +7,15 @@ ghost use Rattle.hs_reports.specs.Events.{Takes};
 ghost use Rattle.hs_stream.specs.Scratches.{IsScratchOf};
 
 use crate::fault::ExpandFault;
-use crate::running::{is_region, run_bytes, run_end};
+use crate::packed::{end_packed, write_packed};
+use crate::running::is_region;
 use crate::saving::{file_of, region_in};
-use crate::scratch::Scratch;
+use crate::scratch::{Scratch, zeros};
 use hs_base::MAX_OFFSET;
 use hs_bits::clear_bits;
 use hs_compile::Database;
 use hs_engine::Steps;
+use hs_regions::offset_in;
 use hs_reports::Events;
 use std::alloc::{AllocError, Global};
 use std::sync::ledger::Ledger;
@@ -25,7 +27,7 @@ use thiserror::Error;
 pub struct StreamFull;
 
 /// A stream that is scanned for the expressions of a database: what is kept of its bytes, and which database it is. It
-/// takes the bytes of a region of the database, and 56 beside them.
+/// takes the bytes of [`Database::region_size`], and 56 beside them.
 #[derive(Debug, Drop)]
 pub struct Stream {
     /// All that is kept of its bytes.
@@ -43,7 +45,7 @@ impl Stream {
     ///
     /// # Cost
     ///
-    /// It takes the bytes of a region ([`Database::region_size`]) and sets them to 0. Of the calls on a stream only
+    /// It takes the bytes that are kept ([`Database::region_size`]) and sets them to 0. Of the calls on a stream only
     /// `save` takes memory too.
     ///
     /// # Examples
@@ -56,7 +58,8 @@ impl Stream {
         ensures offset { IfOk result (λ stream. offset_of stream ≡ 0) }
         ensures fresh { IfOk result (IsFresh db.now) }
     {
-        let region = zeros(alloc, db.layout().size())?;
+        let _packing = db.packing();
+        let region = zeros(alloc, db.region_size())?;
         Ok(Stream {
             region,
             digest: *db.digest(),
@@ -72,8 +75,7 @@ impl Stream {
     ///
     /// # Cost
     ///
-    /// No memory. The region is looked through once: a write of one byte takes 0.3 microseconds with one word and 0.5
-    /// with 1,000. The bytes are looked through for literals, 512 at a time, and over these only nodes are run that a
+    /// No memory. The region is made of what is kept, looked through once, and packed again. The bytes are looked through for literals, 512 at a time, and over these only nodes are run that a
     /// literal or a byte wakes or in which something is live: `README.md` has speeds. No byte takes more than 48 steps
     /// of engines for each node of the database.
     ///
@@ -110,7 +112,15 @@ impl Stream {
         if !has_room(self.offset(db), bytes.len()) {
             return Err(StreamFull);
         }
-        run_bytes(db, &mut self.region, scratch, bytes, events, steps);
+        write_packed(
+            db,
+            &mut self.region,
+            &mut scratch.region,
+            &mut scratch.room,
+            bytes,
+            events,
+            steps,
+        );
         Ok(())
     }
 
@@ -143,7 +153,14 @@ impl Stream {
         ensures ticks { steps.new ≤ steps.old + 16 * length (nodes_of db.now) }
     {
         let Stream { region, .. } = self;
-        run_end(db, &region, scratch, events, steps);
+        end_packed(
+            db,
+            &region,
+            &mut scratch.region,
+            &mut scratch.room,
+            events,
+            steps,
+        );
     }
 
     /// Ends the stream, and reports what only its end decides, by end, then identifier. It then goes on as a stream of
@@ -151,7 +168,7 @@ impl Stream {
     ///
     /// # Cost
     ///
-    /// That of `close`, and the bytes of the region are set to 0. No memory is taken or given back.
+    /// That of `close`, and the bytes that are kept are set to 0. No memory is taken or given back.
     ///
     /// # Examples
     ///
@@ -176,7 +193,14 @@ impl Stream {
         ensures any { Takes V.tells events.old events.new (MayClose db.now self.old) }
         ensures ticks { steps.new ≤ steps.old + 16 * length (nodes_of db.now) }
     {
-        run_end(db, &self.region, scratch, events, steps);
+        end_packed(
+            db,
+            &self.region,
+            &mut scratch.region,
+            &mut scratch.room,
+            events,
+            steps,
+        );
         clear_bits(&mut self.region);
     }
 
@@ -185,8 +209,8 @@ impl Stream {
     ///
     /// # Cost
     ///
-    /// It takes as many bytes as the saved stream has ([`Database::stream_size`], 42 more than a region), and copies
-    /// the region into them.
+    /// It takes as many bytes as the saved stream has ([`Database::stream_size`], 42 more than are kept), and copies these
+    /// into them.
     ///
     /// # Examples
     ///
@@ -208,13 +232,13 @@ impl Stream {
     /// `Form` where the bytes haven't the form of a state file, with the length of their longest beginning that begins
     /// one. `Version` where the form is there with another version. `OtherDatabase` where form and version are there
     /// with the digest of another database. Behind these `Form` again: 38 where the length in the file isn't that of
-    /// the database's regions, else the place in the file of the first field of the region that breaks its rule.
+    /// what the database keeps, else the place in the file of the first part of this that breaks its rule.
     /// `Memory` is want of memory.
     ///
     /// # Cost
     ///
-    /// It looks at each field of the region, and takes the bytes of a region ([`Database::region_size`]) only where the
-    /// bytes are a saved stream.
+    /// It looks at each part of what is kept, and takes the bytes of it ([`Database::region_size`]) only where the bytes
+    /// are a saved stream.
     ///
     /// # Examples
     ///
@@ -238,12 +262,12 @@ impl Stream {
         Ok(Stream { region, digest })
     }
 
-    /// Whether the stream is one of the database: it has its digest, and its region is well formed for it. So is each
+    /// Whether the stream is one of the database: it has its digest, and what is kept is well formed for it. So is each
     /// one that was opened or expanded for it, which no caller needs to ask.
     ///
     /// # Cost
     ///
-    /// It compares 32 bytes, and then looks at each field of the region. It takes no memory.
+    /// It compares 32 bytes, and then looks at each part of what is kept. It takes no memory.
     ///
     /// # Examples
     ///
@@ -276,7 +300,8 @@ impl Stream {
         requires fits { IsStreamOf db.now self.now }
         ensures { result ≡ offset_of self.now }
     {
-        db.layout().offset(&self.region)
+        let _packing = db.packing();
+        offset_in(&self.region)
     }
 
     /// All that is kept of its bytes.
@@ -295,13 +320,6 @@ impl Stream {
     {
         &self.region
     }
-}
-
-/// So many bytes 0. The error is want of memory.
-fn zeros(alloc: Global, count: usize) -> Result<Vec<u8>, AllocError>
-    ensures { IfOk result (λ bytes. bytes.items ≡ replicate count 0) }
-{
-    vec![in alloc; 0u8; count]
 }
 
 /// Whether so many bytes may come at the offset.

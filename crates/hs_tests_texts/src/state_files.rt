@@ -10,15 +10,15 @@ const REGION: [u8; 3] = [1, 2, 3];
 
 /// The state file of the region over a list whose digest is that of the empty message (NIST, "Example Values",
 /// SHA-256): name, version, digest, length, region.
-const FILE: &[u8] = b"HSST\x01\x00\
+const FILE: &[u8] = b"HSST\x02\x00\
 \xe3\xb0\xc4\x42\x98\xfc\x1c\x14\x9a\xfb\xf4\xc8\x99\x6f\xb9\x24\
 \x27\xae\x41\xe4\x64\x9b\x93\x4c\xa4\x95\x99\x1b\x78\x52\xb8\x55\
 \x03\x00\x00\x00\x01\x02\x03";
 
 /// Bytes of the file with what stands there instead, or behind it, and what is answered of it.
 const CHANGES: &str = "\
-0=88>form 0|3=88>form 3|4=0>version 0|4=2>version 2|5=1>version 257|6=0>database|37=0>database|38=2>form 44|\
-38=4>form 45|41=1>form 45|42=9>ok|44=255>ok|45=0>form 45|4=2,6=0>version 2|4=2,45=0>form 45|6=0,38=2>form 44|\
+0=88>form 0|3=88>form 3|4=0>version 0|4=1>version 1|5=1>version 258|6=0>database|37=0>database|38=2>form 44|\
+38=4>form 45|41=1>form 45|42=9>ok|44=255>ok|45=0>form 45|4=1,6=0>version 1|4=3,45=0>form 45|6=0,38=2>form 44|\
 38=4,45=9>ok|38=0>form 42";
 
 /// The file with the changes of a row.

@@ -11,7 +11,7 @@ returns c =
     c.extend_from_slice.new.self.items
     c.append_digest.new.bytes.items
     c.append_region.new.bytes.items
-    (c.in_ok-extend_from_slice.ensures.items ∙ ap (λ xs. xs ++ (name_bytes ++ to_le_bytes w16 1)) c.new-bytes.ensures.items)
+    (c.in_ok-extend_from_slice.ensures.items ∙ ap (λ xs. xs ++ (name_bytes ++ to_le_bytes w16 2)) c.new-bytes.ensures.items)
     c.in_ok-append_digest.ensures.written
     c.in_ok-append_region.ensures.written
     c.append_digest.ensures.sized

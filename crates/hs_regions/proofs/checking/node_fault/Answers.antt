@@ -1,17 +1,29 @@
-use Rattle.std.proofs.Common.{slice_get, sym, ap, subst, ◌∙◌, inl, inr, arith}
-use Rattle.std.proofs.lemmas.Bool.{cases_eq}
-use Rattle.std.proofs.lemmas.Option.{same_Some}
+use Rattle.std.proofs.Common.{◌↔◌, ◌<◌, IsTrue, slice_range, refl, subst, arith}
+use Rattle.std.proofs.lemmas.Option.{slice_get_within}
+use Rattle.hs_kept.specs.Packing.{unpacked}
 use Rattle.hs_nodes.specs.Nodes.{IsWellPart}
-use Rattle.hs_nodes.specs.Walks.{node_part}
-use Rattle.hs_nodes.specs.declared.table.Node.{Node}
+use Rattle.hs_regions.proofs.PartInLemmas.{stands-not}
 use Rattle.hs_regions.proofs.checking.node_fault.Goals as goal
 
-pub loop-k-preserved : goal.loop-k-preserved
-loop-k-preserved g c j other below at = elim (cases_eq j c.loop-k.k) [
-  | inl same ↦
-      let graph = c.args.graph.now in
-      let one = same_Some c.node_at-node.result other (sym c.node_at-node.ensures ∙ (ap (slice_get graph.table.nodes.items) (sym same) ∙ at)) in
-      subst (λ (node : Node). IsWellPart g.E.Engine.meaning graph.table.engines.items node.kind (node_part c.args.region.now node) c.args.at) one
-      (subst (λ engines. IsWellPart g.E.Engine.meaning engines c.node_at-node.result.kind (node_part c.args.region.now c.node_at-node.result) c.args.at) c.deref.ensures.value (c.is_part.ensures.0 c.if-not-is_part.false))
-  | inr apart ↦ c.loop-k.invariant j other (omega (arith, below, apart)) at
-]
+pub stands-requires-clause-part : goal.stands-requires-clause-part
+stands-requires-clause-part g c = c.requires.parts.parts c.loop-k.k c.node_at-node.result c.node_at-node.ensures
+
+pub returns-then-not-stands-clause-first : goal.returns-then-not-stands-clause-first
+returns-then-not-stands-clause-first g c =
+    let node = c.node_at-node.result in
+    let bytes = slice_range (unpacked c.args.packing.now c.args.kept.now) node.start node.end in
+    let law =
+    subst (λ engines. IsTrue c.stands.result ↔ (node.start < c.args.bound → IsWellPart g.E.Engine.meaning engines node.kind bytes c.args.at)) c.deref.ensures.value c.stands.ensures in
+    let (early, never) = stands-not node.start c.args.bound c.stands.result c.if-not-stands.true law in
+    record {
+      number = c.loop-k.k;
+      node = node;
+      there = c.node_at-node.ensures;
+      begin = refl;
+      before = λ k other less there low. c.loop-k.invariant k other less there (omega (arith, low, early));
+      breaks = never;
+    }
+
+pub returns-clause-none : goal.returns-clause-none
+returns-clause-none g c none k node there low =
+    c.loop-k.invariant k node (omega (arith, slice_get_within c.args.graph.now.table.nodes.items k node there, c.loop-k-test.false, c.len-k-end.ensures, c.args.graph.now.table.nodes.ok.0)) there low

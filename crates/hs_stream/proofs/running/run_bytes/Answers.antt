@@ -6,7 +6,7 @@ use Rattle.hs_reports.specs.Events.{Takes}
 use Rattle.hs_scan.specs.Feeding.{Feeds}
 use Rattle.hs_nodes.specs.WellRegions.{FitsRegion, IsWellRegion}
 use Rattle.hs_scan.specs.Scratches.{ServesGraph}
-use Rattle.hs_stream.proofs.RunningLemmas.{as-lent, each-by, lent, lent-as, takes-lead}
+use Rattle.hs_stream.proofs.RunningLemmas.{as-lent, each-by, lent, lent-as, takes-scan}
 use Rattle.hs_stream.proofs.running.run_bytes.Goals as goal
 
 pub scan-requires-clause-sound : goal.scan-requires-clause-sound
@@ -19,7 +19,7 @@ scan-requires-clause-region g c =
 
 pub scan-requires-clause-scratch : goal.scan-requires-clause-scratch
 scan-requires-clause-scratch g c =
-    as-lent (lent c.args.db.now c.graph.ensures.graph c.literals.ensures.literals c.layout.ensures.layout) (λ x ls l. ServesGraph x (length ls) c.args.scratch.now.room) (c.requires.scratch)
+    as-lent (lent c.args.db.now c.graph.ensures.graph c.literals.ensures.literals c.layout.ensures.layout) (λ x ls l. ServesGraph x (length ls) c.args.scratch.now) (c.requires.scratch)
 
 pub returns-clause-region : goal.returns-clause-region
 returns-clause-region g c =
@@ -36,12 +36,9 @@ returns-clause-scratch g c =
 pub returns-clause-small : goal.returns-clause-small
 returns-clause-small g c = each-by c.scan.new.region (λ k. (c.type_inv.region k).fits)
 
-pub returns-clause-idle : goal.returns-clause-idle
-returns-clause-idle g c none = (c.scan.ensures.silent none, c.scan.ensures.stays none)
-
 pub returns-clause-told : goal.returns-clause-told
 returns-clause-told g c =
-    takes-lead g.V.Events.tells c.args.db.now (each-by c.args.bytes.now (λ k. (c.type_inv.bytes k).fits))
+    takes-scan g.V.Events.tells c.args.db.now (each-by c.args.bytes.now (λ k. (c.type_inv.bytes k).fits))
     (lent-as (lent c.args.db.now c.graph.ensures.graph c.literals.ensures.literals c.layout.ensures.layout) (λ x ls l. Takes g.V.Events.tells c.args.events.now c.scan.new.events (Feeds piece_meaning x ls l c.args.region.now c.scan.new.region c.args.bytes.now)) (c.scan.ensures.taken))
 
 pub returns-clause-ticks : goal.returns-clause-ticks

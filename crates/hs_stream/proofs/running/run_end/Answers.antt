@@ -18,7 +18,7 @@ finish-requires-clause-region g c =
 
 pub finish-requires-clause-scratch : goal.finish-requires-clause-scratch
 finish-requires-clause-scratch g c =
-    as-lent (lent c.args.db.now c.graph.ensures.graph c.literals.ensures.literals c.layout.ensures.layout) (λ x ls l. ServesGraph x (length ls) c.args.scratch.now.room) (c.requires.scratch)
+    as-lent (lent c.args.db.now c.graph.ensures.graph c.literals.ensures.literals c.layout.ensures.layout) (λ x ls l. ServesGraph x (length ls) c.args.scratch.now) (c.requires.scratch)
 
 pub finish-requires-clause-room : goal.finish-requires-clause-room
 finish-requires-clause-room g c =

@@ -4,12 +4,12 @@ use Rattle.hs_stream.specs.Foreign.{MayEnd}
 use Rattle.hs_stream.specs.Leading.{IsRegionOf}
 use Rattle.hs_stream.proofs.stream.Stream.close.Goals as goal
 
-pub run_end-requires-clause-region : goal.run_end-requires-clause-region
-run_end-requires-clause-region g c = subst (IsRegionOf c.args.db.now) (sym c.deref.ensures.value) c.requires.fits.region
+pub end_packed-requires-clause-kept : goal.end_packed-requires-clause-kept
+end_packed-requires-clause-kept g c = subst (IsRegionOf c.args.db.now) (sym c.deref.ensures.value) c.requires.fits.region
 
 pub returns-clause-any : goal.returns-clause-any
 returns-clause-any g c =
-    let took = subst (λ bs. Takes g.V.Events.tells c.args.events.now c.run_end.new.events (MayEnd c.args.db.now bs)) c.deref.ensures.value c.run_end.ensures.told in
+    let took = subst (λ bs. Takes g.V.Events.tells c.args.events.now c.end_packed.new.events (MayEnd c.args.db.now bs)) c.deref.ensures.value c.end_packed.ensures.told in
     record { pairs = took.pairs; through = took.through; holds = record { closes = took.holds.ends; tells = took.holds.tells } }
 
 pub returns-clause-told : goal.returns-clause-told
@@ -18,4 +18,4 @@ returns-clause-told g c =
     record { pairs = took.pairs; through = took.through; holds = took.holds.closes }
 
 pub returns-clause-ticks : goal.returns-clause-ticks
-returns-clause-ticks g c = c.run_end.ensures.ticks
+returns-clause-ticks g c = c.end_packed.ensures.ticks
