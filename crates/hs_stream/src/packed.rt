@@ -18,8 +18,7 @@ use hs_reports::Events;
 use std::sync::ledger::Ledger;
 
 /// Takes the next bytes of the stream of which that is kept, and reports what they decide, in the order in which they
-/// do. Where the database keeps whole regions no byte is copied, and else the region is made in bytes that are there for
-/// it.
+/// do. Where the database keeps whole regions no byte is copied; else the region is made in bytes there for it.
 pub(crate) fn write_kept<V: Events, L: Ledger>(
     db: &Database,
     kept: &mut [u8],
