@@ -1,14 +1,14 @@
 -- From whole regions to what streams keep of them, and back.
-use Rattle.std.proofs.Common.{◌≡◌, ◌↔◌, ℕ, ◌-◌, ◌<◌, ◌==◌, true, false, List, [], ◌∷◌, ◌++◌, refl, length, take, sym, ap, subst, ◌∙◌, arith}
+use Rattle.std.proofs.Common.{◌≡◌, ◌↔◌, ℕ, ◌-◌, ◌<◌, ◌==◌, true, false, List, [], ◌∷◌, ◌++◌, refl, length, sym, ap, subst, ◌∙◌, arith}
 use Rattle.std.proofs.lemmas.Bool.{ne_eqb}
 use Rattle.std.proofs.lemmas.List.{append-nil}
 use Rattle.hs_base.specs.Lists.{Each}
-use Rattle.hs_base.specs.Regions.{Plan, IsWellFormed, plan_fields_at, region_offset}
+use Rattle.hs_base.specs.Regions.{Plan, plan_fields_at, region_offset}
 use Rattle.hs_base.specs.Told.{Pair, IsNew}
 use Rattle.hs_base.proofs.NewLemmas.{new_nothing}
 use Rattle.hs_compile.specs.Databases.{Compiled, IsDatabaseOf, IsWholeDatabase, graph_of, layout_of, literals_in, packing_of}
 use Rattle.hs_kept.specs.KeptRegions.{IsWellKept}
-use Rattle.hs_kept.specs.Packing.{IsPackedOf, packed_size, unpacked, unpacked_size}
+use Rattle.hs_kept.specs.Packing.{IsPackedOf, unpacked, unpacked_size}
 use Rattle.hs_kept.specs.PackingLaws.{PacksWell}
 use Rattle.hs_kept.proofs.HeaderLemmas.{offset-front}
 use Rattle.hs_kept.proofs.PackingLemmas.{kept-unpacks, regions-pack, unpacked-header, unpacked-size, well-formed-packs-well}
@@ -17,8 +17,8 @@ use Rattle.hs_reports.specs.Events.{Takes}
 use Rattle.hs_rose.specs.PieceEngines.{piece_meaning}
 use Rattle.hs_regions.proofs.WellLemmas.{keeps-well}
 use Rattle.hs_stream.specs.Foreign.{MayEnd, MayLead}
-use Rattle.hs_stream.specs.Leading.{EndsWith, IsBehind, IsRegionOf, LeadsTo}
-use Rattle.hs_stream.specs.Scanning.{IsScanned, IsWholeRegionOf, MayScan, MayScanEnd, ScansEnd, ScansTo}
+use Rattle.hs_stream.specs.Leading.{IsBehind, IsRegionOf}
+use Rattle.hs_stream.specs.Scanning.{IsScanned, IsWholeRegionOf, MayScan, MayScanEnd}
 use Rattle.hs_stream.specs.Telling.{MayTell}
 use Rattle.hs_stream.proofs.RunningLemmas.{plan-packed, region-exact}
 

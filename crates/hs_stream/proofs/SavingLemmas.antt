@@ -1,6 +1,5 @@
 -- Saved streams.
 use Rattle.std.proofs.Common.{◌≡◌, ◌∙◌, ℕ, List, length, refl, sym, ap, subst}
-use Rattle.hs_base.specs.Lists.{Each}
 use Rattle.hs_compile.specs.Databases.{Compiled, digest_of as database_digest}
 use Rattle.hs_dbfile.specs.States.{IsReadOnce, IsStateFaultOf, State, state_bytes}
 use Rattle.hs_dbfile.specs.declared.state.StateFault.{StateFault}

@@ -1,4 +1,5 @@
--- Whole regions of the streams of a database, over which the runner goes: what bytes of a stream, or its end, make of one.
+-- Whole regions of the streams of a database, over which the runner goes: what bytes of a stream, or its end, make of
+-- one.
 use Rattle.std.specs.Prelude.{ℕ, ◌-◌, ◌<◌, List, ◌++◌}
 use Rattle.hs_base.specs.Lists.{Each}
 use Rattle.hs_base.specs.Regions.{Plan, IsRegion, region_offset}

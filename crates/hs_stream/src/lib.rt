@@ -1,8 +1,8 @@
 //! Streams over a database: each is opened, written in pieces, reset and closed, and tells what its bytes decide when
-//! they decide it. All that is kept of one is a packed form of its region and the digest of its database, so it can be saved as a few
-//! bytes and gone on with elsewhere. `specs/Streams.antt` says what a stream is seen as, `laws` what follows for any
-//! list of writes, and `saving_laws` what follows where streams are saved in between. `run` scans what is drawn from a
-//! seed (`Drawn`) as one stream, cut and saved in between or not, and counts what that reports.
+//! they decide it. All that is kept of one is a packed form of its region and the digest of its database, so it can be
+//! saved as a few bytes and gone on with elsewhere. `specs/Streams.antt` says what a stream is seen as, `laws` what
+//! follows for any list of writes, and `saving_laws` what follows where streams are saved in between. `run` scans what
+//! is drawn from a seed (`Drawn`) as one stream, cut and saved in between or not, and counts what that reports.
 #![tactic(auto)]
 
 mod collected;

@@ -9,7 +9,7 @@ ghost use Rattle.hs_reports.specs.Events.{Takes};
 ghost use Rattle.hs_scan.specs.Scratches.{IsIdle};
 ghost use Rattle.hs_stream.specs.Foreign.{MayEnd, MayLead};
 ghost use Rattle.hs_stream.specs.Leading.{IsRegionOf};
-ghost use Rattle.hs_stream.specs.Scratches.{ServesDatabase};
+ghost use Rattle.hs_stream.specs.Scratches.{KeepsWhole, ServesDatabase};
 
 use crate::running::{run_bytes, run_end};
 use hs_compile::Database;
@@ -18,8 +18,72 @@ use hs_reports::Events;
 use std::sync::ledger::Ledger;
 
 /// Takes the next bytes of the stream of which that is kept, and reports what they decide, in the order in which they
-/// do. The region is made in bytes that are there for it.
-pub(crate) fn write_packed<V: Events, L: Ledger>(
+/// do. Where the database keeps whole regions no byte is copied; else the region is made in bytes there for it.
+pub(crate) fn write_kept<V: Events, L: Ledger>(
+    db: &Database,
+    kept: &mut [u8],
+    region: &mut [u8],
+    scratch: &mut hs_scan::Scratch,
+    bytes: &[u8],
+    events: &mut V,
+    steps: &mut Steps<L>,
+)
+    requires kept { IsRegionOf db.now kept.old }
+    requires region { length region.old ≡ unpacked_size (packing_of db.now) }
+    requires ready { IsIdle scratch.old }
+    requires scratch { ServesDatabase db.now scratch.old }
+    requires room { region_offset kept.old + length bytes.now ≤ greatest_offset }
+    ensures kept { IsRegionOf db.now kept.new }
+    ensures len { length kept.new ≡ length kept.old }
+    ensures region { length region.new ≡ length region.old }
+    ensures ready { IsIdle scratch.new }
+    ensures scratch { ServesDatabase db.now scratch.new }
+    ensures offset { region_offset kept.new ≡ region_offset kept.old + length bytes.now }
+    ensures small { Each (λ b. b < 256) kept.new }
+    ensures idle { bytes.now ≡ [] → (events.new ≡ events.old) × (kept.new ≡ kept.old) }
+    ensures told { Takes V.tells events.old events.new (MayLead db.now kept.old kept.new bytes.now) }
+    ensures ticks { steps.new ≤ steps.old + 48 * (length (nodes_of db.now) * length bytes.now) }
+{
+    if db.packing().has_states() {
+        write_packed(db, kept, region, scratch, bytes, events, steps);
+    } else {
+        write_whole(db, kept, scratch, bytes, events, steps);
+    }
+}
+
+/// Takes such bytes where whole regions are kept.
+fn write_whole<V: Events, L: Ledger>(
+    db: &Database,
+    kept: &mut [u8],
+    scratch: &mut hs_scan::Scratch,
+    bytes: &[u8],
+    events: &mut V,
+    steps: &mut Steps<L>,
+)
+    requires alike { KeepsWhole (packing_of db.now) }
+    requires kept { IsRegionOf db.now kept.old }
+    requires ready { IsIdle scratch.old }
+    requires scratch { ServesDatabase db.now scratch.old }
+    requires room { region_offset kept.old + length bytes.now ≤ greatest_offset }
+    ensures kept { IsRegionOf db.now kept.new }
+    ensures len { length kept.new ≡ length kept.old }
+    ensures ready { IsIdle scratch.new }
+    ensures scratch { ServesDatabase db.now scratch.new }
+    ensures offset { region_offset kept.new ≡ region_offset kept.old + length bytes.now }
+    ensures small { Each (λ b. b < 256) kept.new }
+    ensures idle { bytes.now ≡ [] → (events.new ≡ events.old) × (kept.new ≡ kept.old) }
+    ensures told { Takes V.tells events.old events.new (MayLead db.now kept.old kept.new bytes.now) }
+    ensures ticks { steps.new ≤ steps.old + 48 * (length (nodes_of db.now) * length bytes.now) }
+{
+    if bytes.is_empty() {
+        return;
+    }
+    let _packing = db.packing();
+    run_bytes(db, kept, scratch, bytes, events, steps);
+}
+
+/// Takes such bytes over a region that is made of what is kept, and packed again.
+fn write_packed<V: Events, L: Ledger>(
     db: &Database,
     kept: &mut [u8],
     region: &mut [u8],

@@ -7,7 +7,7 @@ ghost use Rattle.hs_reports.specs.Events.{Takes};
 ghost use Rattle.hs_stream.specs.Scratches.{IsScratchOf};
 
 use crate::fault::ExpandFault;
-use crate::packed::{end_packed, write_packed};
+use crate::packed::{end_packed, write_kept};
 use crate::running::is_region;
 use crate::saving::{file_of, region_in};
 use crate::scratch::{Scratch, zeros};
@@ -75,9 +75,10 @@ impl Stream {
     ///
     /// # Cost
     ///
-    /// No memory. The region is made of what is kept, looked through once, and packed again. The bytes are looked through for literals, 512 at a time, and over these only nodes are run that a
-    /// literal or a byte wakes or in which something is live: `README.md` has speeds. No byte takes more than 48 steps
-    /// of engines for each node of the database.
+    /// No memory. The region is made of what is kept, looked through once, and packed again. The bytes are looked
+    /// through for literals, 512 at a time, and over these only nodes are run that a literal or a byte wakes or in
+    /// which something is live: `README.md` has speeds. No byte takes more than 48 steps of engines for each node of
+    /// the database.
     ///
     /// # Examples
     ///
@@ -112,7 +113,7 @@ impl Stream {
         if !has_room(self.offset(db), bytes.len()) {
             return Err(StreamFull);
         }
-        write_packed(
+        write_kept(
             db,
             &mut self.region,
             &mut scratch.region,
@@ -209,8 +210,8 @@ impl Stream {
     ///
     /// # Cost
     ///
-    /// It takes as many bytes as the saved stream has ([`Database::stream_size`], 42 more than are kept), and copies these
-    /// into them.
+    /// It takes as many bytes as the saved stream has ([`Database::stream_size`], 42 more than are kept), and copies
+    /// these into them.
     ///
     /// # Examples
     ///
@@ -237,8 +238,8 @@ impl Stream {
     ///
     /// # Cost
     ///
-    /// It looks at each part of what is kept, and takes the bytes of it ([`Database::region_size`]) only where the bytes
-    /// are a saved stream.
+    /// It looks at each part of what is kept, and takes the bytes of it ([`Database::region_size`]) only where the
+    /// bytes are a saved stream.
     ///
     /// # Examples
     ///

@@ -1,4 +1,4 @@
-use Rattle.std.proofs.Common.{◌≡◌, ◌+◌, ◌≤◌, ◌∙◌, [], length, refl, sym, ap, subst, arith}
+use Rattle.std.proofs.Common.{◌≡◌, ◌+◌, ◌≤◌, ◌∙◌, [], length, sym, ap, subst}
 use Rattle.hs_base.specs.Regions.{region_offset}
 use Rattle.hs_compile.specs.Databases.{packing_of}
 use Rattle.hs_kept.specs.Packing.{IsPackedOf, unpacked}

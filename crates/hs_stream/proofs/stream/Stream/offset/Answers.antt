@@ -1,4 +1,4 @@
-use Rattle.std.proofs.Common.{◌≡◌, ◌∙◌, ◌≤◌, length, ap, arith}
+use Rattle.std.proofs.Common.{◌∙◌, length, ap, arith}
 use Rattle.hs_base.specs.Regions.{region_offset}
 use Rattle.hs_stream.specs.Streams.{region_of}
 use Rattle.hs_stream.proofs.EmptyLemmas.{offset-there}

@@ -8,34 +8,34 @@ use Rattle.hs_stream.specs.Leading.{IsRegionOf}
 use Rattle.hs_stream.proofs.VecLemmas.{with-items_same}
 use Rattle.hs_stream.proofs.stream.Stream.write.Goals as goal
 
-pub write_packed-requires-clause-kept : goal.write_packed-requires-clause-kept
-write_packed-requires-clause-kept g c = subst (IsRegionOf c.args.db.now) (sym c.deref_mut.ensures.value) c.requires.fits.region
+pub write_kept-requires-clause-kept : goal.write_kept-requires-clause-kept
+write_kept-requires-clause-kept g c = subst (IsRegionOf c.args.db.now) (sym c.deref_mut.ensures.value) c.requires.fits.region
 
 pub returns-clause-fits : goal.returns-clause-fits
 returns-clause-fits g c =
-    let region = with_items_is c.args.self.now.region c.write_packed.new.kept (c.write_packed.ensures.len ∙ c.deref_mut.ensures.len) in
-    record { digest = c.requires.fits.digest; region = subst (IsRegionOf c.args.db.now) (sym region) c.write_packed.ensures.kept }
+    let region = with_items_is c.args.self.now.region c.write_kept.new.kept (c.write_kept.ensures.len ∙ c.deref_mut.ensures.len) in
+    record { digest = c.requires.fits.digest; region = subst (IsRegionOf c.args.db.now) (sym region) c.write_kept.ensures.kept }
 
 pub returns-clause-offset : goal.returns-clause-offset
 returns-clause-offset g c =
-    let region = with_items_is c.args.self.now.region c.write_packed.new.kept (c.write_packed.ensures.len ∙ c.deref_mut.ensures.len) in
-    ap region_offset region ∙ (c.write_packed.ensures.offset ∙ ap (λ bs. region_offset bs + length c.args.bytes.now) c.deref_mut.ensures.value)
+    let region = with_items_is c.args.self.now.region c.write_kept.new.kept (c.write_kept.ensures.len ∙ c.deref_mut.ensures.len) in
+    ap region_offset region ∙ (c.write_kept.ensures.offset ∙ ap (λ bs. region_offset bs + length c.args.bytes.now) c.deref_mut.ensures.value)
 
 pub returns-clause-any : goal.returns-clause-any
 returns-clause-any g c =
     let old = c.args.self.now.region in
-    let new = c.write_packed.new in
-    let region = with_items_is old new.kept (c.write_packed.ensures.len ∙ c.deref_mut.ensures.len) in
+    let new = c.write_kept.new in
+    let region = with_items_is old new.kept (c.write_kept.ensures.len ∙ c.deref_mut.ensures.len) in
     let took =
     subst (λ bs. Takes g.V.Events.tells c.args.events.now new.events (MayLead c.args.db.now old.items bs c.args.bytes.now)) (sym region)
-    (subst (λ bs. Takes g.V.Events.tells c.args.events.now new.events (MayLead c.args.db.now bs new.kept c.args.bytes.now)) c.deref_mut.ensures.value c.write_packed.ensures.told) in
+    (subst (λ bs. Takes g.V.Events.tells c.args.events.now new.events (MayLead c.args.db.now bs new.kept c.args.bytes.now)) c.deref_mut.ensures.value c.write_kept.ensures.told) in
     record {
       pairs = took.pairs;
       through = took.through;
       holds = record {
         writes = took.holds.leads;
         tells = took.holds.tells;
-        small = subst (Each (λ b. b < 256)) (sym region) c.write_packed.ensures.small;
+        small = subst (Each (λ b. b < 256)) (sym region) c.write_kept.ensures.small;
         offset = returns-clause-offset g c;
       };
     }
@@ -48,11 +48,11 @@ returns-clause-told g c =
 pub returns-clause-idle : goal.returns-clause-idle
 returns-clause-idle g c none =
     let self = c.args.self.now in
-    let (silent, stays) = c.write_packed.ensures.idle none in
-    (silent, ap (λ v. record self { region = v }) (with-items_same self.region c.write_packed.new.kept (stays ∙ c.deref_mut.ensures.value)))
+    let (silent, stays) = c.write_kept.ensures.idle none in
+    (silent, ap (λ v. record self { region = v }) (with-items_same self.region c.write_kept.new.kept (stays ∙ c.deref_mut.ensures.value)))
 
 pub returns-then-not-has_room-clause-ticks : goal.returns-then-not-has_room-clause-ticks
 returns-then-not-has_room-clause-ticks g c = omega arith
 
 pub returns-clause-ticks : goal.returns-clause-ticks
-returns-clause-ticks g c = c.write_packed.ensures.ticks
+returns-clause-ticks g c = c.write_kept.ensures.ticks
