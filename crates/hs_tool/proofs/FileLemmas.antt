@@ -26,7 +26,7 @@ use Rattle.hs_stream.specs.Leading.{IsBehind}
 use Rattle.hs_stream.specs.Saving as saving
 use Rattle.hs_stream.specs.Saving.{IsExpanded, IsExpandFaultOf, IsSaved}
 use Rattle.hs_stream.specs.Streams.{IsStreamOf, region_of}
-use Rattle.hs_stream.proofs.RunningLemmas.{region-exact}
+use Rattle.hs_stream.proofs.PackedLemmas.{kept-exact}
 use Rattle.hs_stream.proofs.SavingLemmas.{histories-taken, saved-taken}
 use Rattle.hs_script.specs.Actions.{Action, Save, Expand, name_of}
 use Rattle.hs_script.specs.Bases.{Basis, IsSavedBy, File, Untold, Missing, Saved, Bytes, Stream as Known, Of, Foreign, Shows, as_told, anything, Gives, Refuses, Keeps, Puts, IsAcceptedFile, most_state, state_size}
@@ -283,7 +283,7 @@ module _ {db : Compiled} {basis : Basis} (is : RunsBasis db basis) (bytes : List
 
   well : IsWellKept basis.plan (region_of stream)
   well =
-      (region-exact db basis.plan is.is_database (region_of stream)
+      (kept-exact db basis.plan is.is_database (region_of stream)
       (each_by (λ b small. omega (arith, small)) (region_of stream) expanded.saved.is.region.bytes)).0 expanded.fits.region
 
   accepted : IsAcceptedFile basis bytes (region_of stream)
@@ -323,7 +323,7 @@ module _ {db : Compiled} {basis : Basis} (is : RunsBasis db basis) (bytes : List
   -- a region that a fault is told of isn't well formed
   never-well : (at : ℕ) (region : List ℕ) → IsSaved db bytes region → IsExpandFaultOf db bytes (fault.Form at) → IsWellKept basis.plan region → ⊥
   never-well at region saved form good =
-      let taken = saved-taken db bytes region ((region-exact db basis.plan is.is_database region good.bytes).1 good) saved in
+      let taken = saved-taken db bytes region ((kept-exact db basis.plan is.is_database region good.bytes).1 good) saved in
       let e : fault.Form at ≡ fault.Memory = taken.free (fault.Form at) form in
       cc e
 

@@ -132,7 +132,7 @@ follows-count basis (Some (Foreign region)) (Some stream) f = refl
 
 -- as long
 pub known-offset : (basis : Basis) (s : Known) (stream : Stream) → Follows basis (Some s) (Some stream) → bases.offset_of s ≡ offset_of stream
-known-offset basis (Of h) stream f = sym f.behind.region.offset
+known-offset basis (Of h) stream f = sym f.behind.region.header.offset
 known-offset basis (Foreign region) stream f = ap region_offset (sym f.0)
 
 -- The machine's stream and its files move, and those here are then those of the machine.

@@ -51,7 +51,7 @@ runs_each {loaded = loaded} is basis of = record {
 }
 
 pub has_database : {kind : ListKind} {told : Told} {loaded : Loaded} → (is : IsLoaded kind told loaded) → HasList database_file told (entries_of loaded) is.patterns → HasDatabase told (entries_of loaded) is.patterns
-has_database is has = record {
+has_database {loaded = loaded} is has = record {
   list = has;
   plan = is.plan;
   is_plan = is.is_plan;

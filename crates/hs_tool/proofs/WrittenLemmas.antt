@@ -9,7 +9,7 @@ use Rattle.hs_stream.specs.declared.stream.Stream.{Stream}
 use Rattle.hs_stream.specs.Foreign.{MayTell, MayWrite}
 use Rattle.hs_stream.specs.Streams.{IsStreamOf, StreamsAreWellFormed, offset_of, region_of}
 use Rattle.hs_stream.proofs.JoinLemmas.{writes-none, writes-more}
-use Rattle.hs_stream.proofs.RunningLemmas.{region-exact}
+use Rattle.hs_stream.proofs.PackedLemmas.{kept-exact}
 use Rattle.hs_tool.specs.Scanning.{IsWritten}
 
 -- what holds of each, by what held of each
@@ -75,7 +75,7 @@ one {db} {old} {new} fits idle may = record {
   writes = may.writes;
   tells = may.tells;
   offset = may.offset;
-  well = λ plan is well. (region-exact db plan is (region_of new) may.small).0 fits.region;
+  well = λ plan is well. (kept-exact db plan is (region_of new) may.small).0 fits.region;
   idle = idle;
 }
 
