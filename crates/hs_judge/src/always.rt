@@ -48,7 +48,14 @@ fn run_blocks<L: Ledger>(
     engine.clear(region);
     engine.run(region, Prev::Start, 0, low_places(cut), first, &mut steps);
     let enters = low_places(second.len());
-    engine.run(region, prev_behind(first), cut as u64, enters, second, &mut steps);
+    engine.run(
+        region,
+        prev_behind(first),
+        cut as u64,
+        enters,
+        second,
+        &mut steps,
+    );
     engine.out(region, prev_behind(text), text.len() as u64)
 }
 
