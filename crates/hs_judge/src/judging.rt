@@ -1,6 +1,5 @@
 //! A row through all that is judged. It is `#[cfg(test)]`.
 
-use crate::always::judge_always;
 use crate::cases::{Answer, Case, List, Verdict, ensure, written};
 use crate::chains;
 use crate::engines::{Question, ask_each, automaton_of};
@@ -49,7 +48,6 @@ fn judge_split(alloc: Global, name: &str, expr: &Expr, text: &[u8], spans: &Span
 pub(crate) fn judge_expression(alloc: Global, name: &str, expr: &Expr, text: &[u8]) -> Verdict {
     let spans = Spans::of(alloc, name, expr, text)?;
     ask_each(alloc, Question::Spans(&spans))?;
-    judge_always(alloc, &spans)?;
     if chains::is_one_piece(alloc, expr)? {
         return Ok(());
     }

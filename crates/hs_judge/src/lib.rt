@@ -4,8 +4,6 @@
 #![tactic(auto)]
 
 #[cfg(test)]
-mod always;
-#[cfg(test)]
 mod cases;
 #[cfg(test)]
 mod chains;

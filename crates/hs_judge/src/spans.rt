@@ -32,8 +32,8 @@ const ENTRIES: [u64; 7] = [0, 3, 9, 0x112, 0x5555, 1 << 40, u64::MAX];
 pub(crate) struct Spans {
     /// What a failure is told by.
     name: String,
-    pub(crate) expr: Expr,
-    pub(crate) text: Vec<u8>,
+    expr: Expr,
+    text: Vec<u8>,
     pub(crate) lefts: Vec<Vec<NextSet>>,
 }
 
@@ -155,7 +155,7 @@ pub(crate) fn is_at_rest<E: Engine>(engine: &E, region: &[u8]) -> Option<bool> {
 }
 
 /// What may come next, where the expression is entered at some offsets before the text's end.
-pub(crate) fn left_of(all: &[NextSet], len: usize, entries: u64) -> NextSet {
+fn left_of(all: &[NextSet], len: usize, entries: u64) -> NextSet {
     let mut left = NextSet::empty();
     for (from, set) in all.iter().enumerate() {
         if from < len && is_entered(entries, from as u64) {
