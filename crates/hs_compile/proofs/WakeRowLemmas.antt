@@ -13,11 +13,15 @@ use Rattle.hs_waking.specs.declared.row_table.RowTable.{RowTable}
 use Rattle.hs_waking.specs.declared.wake_row.WakeRow.{WakeRow}
 use Rattle.hs_nodes.specs.declared.wake_table.WakeTable.{WakeTable}
 use Rattle.hs_waking.specs.RowTables.{Extends, IsCutRow, PutsRow}
-use Rattle.hs_nodes.specs.Waking.{AreRowsOf, IsRowFor, row_numbers}
-use Rattle.hs_waking.proofs.RowTableLemmas.{there}
+use Rattle.hs_base.specs.declared.context.Prev.{Prev}
+use Rattle.hs_bits.specs.BlockContexts.{prev_before}
+use Rattle.hs_nodes.specs.Waking.{AreRowsOf, IsRowFor}
+use Rattle.hs_waking.specs.declared.prev_set.PrevSet.{PrevSet}
+use Rattle.hs_waking.specs.PrevSets.{has_prev}
+use Rattle.hs_waking.proofs.RowTableLemmas.{behind-kept, there}
 use Rattle.hs_rose.specs.declared.engine.PieceEngine.{PieceEngine}
 use Rattle.hs_rose.specs.PieceEngines.{piece_meaning}
-use Rattle.hs_waking.specs.Fits.{IsRowBy}
+use Rattle.hs_waking.specs.Fits.{IsBehindBy, IsRowBy, row_numbers}
 use Rattle.hs_waking.specs.WakeRows.{IsWakeRow}
 use Rattle.hs_compile.specs.GraphWakes.{IsRowAt}
 
@@ -29,11 +33,11 @@ taken (suc n) [] d low = refl
 taken (suc n) (x ∷ xs) zero low = refl
 taken (suc n) (x ∷ xs) (suc d) low = taken n xs d (omega (arith, low))
 
-cut-wakes : (m : Meaning) (own : List ByteSet) (n : ℕ) → IsWakeRow m own → IsWakeRow m (take n own)
-cut-wakes m own n wakes region bytes starts small nowhere =
-    wakes region bytes starts small (λ i low fits. nowhere i low (λ d within inside.
+cut-wakes : (m : Meaning) (behind less : PrevSet) (own : List ByteSet) (n : ℕ) → ((prev : Prev) → has_prev less prev ≡ true → has_prev behind prev ≡ true) → IsWakeRow m less own → IsWakeRow m behind (take n own)
+cut-wakes m behind less own n more wakes region bytes prev starts small nowhere =
+    wakes region bytes prev starts small (λ i low fits. nowhere i low (more (prev_before prev bytes i) fits.0, λ d within inside.
     let short = length-take n own in
-    ap (λ o. in_set o (slice_index bytes (i + d))) (taken n own d (omega (arith, within, short))) ∙ fits d (omega (arith, within, short)) inside))
+    ap (λ o. in_set o (slice_index bytes (i + d))) (taken n own d (omega (arith, within, short))) ∙ fits.1 d (omega (arith, within, short)) inside))
 
 -- sets that are put behind others
 
@@ -78,11 +82,12 @@ rows-none nodes engines list table none = record {
   count = none;
   rows = record {
     within = λ i d row at low. absurd (omega (arith, none, slice_get_within table.rows.items i row at));
+    begins = λ i row at. absurd (omega (arith, none, slice_get_within table.rows.items i row at));
     are = λ i k number null node row e listed at. absurd (omega (arith, none, slice_get_within table.rows.items i row at));
   };
 }
 
-module _ (nodes : List Node) (engines : List PieceEngine) (list : List ℕ) (n m k : ℕ) (next : m ≡ n + 1) (old new : RowTable) (own : List ByteSet) (at_list : slice_get list n ≡ Some k) (of_node : IsRowAt nodes engines k own) (puts : PutsRow old new own)
+module _ (nodes : List Node) (engines : List PieceEngine) (list : List ℕ) (n m k : ℕ) (next : m ≡ n + 1) (old new : RowTable) (behind : PrevSet) (own : List ByteSet) (at_list : slice_get list n ≡ Some k) (of_node : IsRowAt nodes engines k behind own) (puts : PutsRow old new behind own)
     (to : AreRowsTo nodes engines list n old) where
   old-row : (i : ℕ) (row : WakeRow) → i < n → slice_get new.rows.items i ≡ Some row → slice_get old.rows.items i ≡ Some row
   old-row i row low at = sym (get-append old.rows.items (puts.row ∷ []) i row (omega (arith, low, to.count))) ∙ (ap (λ rs. slice_get rs i) (sym puts.rows) ∙ at)
@@ -106,6 +111,10 @@ module _ (nodes : List Node) (engines : List PieceEngine) (list : List ℕ) (n m
             subst (λ (r : WakeRow). slice_index (row_numbers r) d < length new.sets.items) is
             (cut-within new.sets.items own puts.row puts.is d (subst (λ (r : WakeRow). d < length (row_numbers r)) (sym is) low))
       ];
+      begins = λ i row at. elim (cases_lt i n) [
+        | inl less ↦ behind-kept row row old.sets.items new.sets.items refl refl puts.kept (to.rows.begins i row (old-row i row less at))
+        | inr past ↦ let (same, is) = new-row i row (omega (arith, past)) at in subst (λ (r : WakeRow). IsBehindBy r new.sets.items) is puts.behind_is
+      ];
       are = λ i k' number null node row e listed at there_node kind_is there_e. elim (cases_lt i n) [
         | inl less ↦ row-kept (piece_meaning e) old.sets.items new.sets.items row puts.kept (to.rows.are i k' number null node row e listed (old-row i row less at) there_node kind_is there_e)
         | inr past ↦
@@ -114,7 +123,7 @@ module _ (nodes : List Node) (engines : List PieceEngine) (list : List ℕ) (n m
             subst (λ (r : WakeRow). IsRowFor (piece_meaning e) new.sets.items r) is (record {
               own = take puts.row.count own;
               numbered = cut-numbered new.sets.items own puts.row puts.is;
-              wakes = cut-wakes (piece_meaning e) own puts.row.count (of_node number null node e (ap (slice_get nodes) (sym one) ∙ there_node) kind_is there_e);
+              wakes = cut-wakes (piece_meaning e) puts.row.behind behind own puts.row.count puts.behind_more (of_node number null node e (ap (slice_get nodes) (sym one) ∙ there_node) kind_is there_e);
             })
       ];
     };

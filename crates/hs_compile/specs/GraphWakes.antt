@@ -9,6 +9,7 @@ use Rattle.hs_nodes.specs.declared.table.NodeKind.TheVariants.{Engine, Literal, 
 use Rattle.hs_nodes.specs.Waking.{IsListed, waking_literal}
 use Rattle.hs_rose.specs.declared.engine.PieceEngine.{PieceEngine}
 use Rattle.hs_rose.specs.PieceEngines.{piece_meaning}
+use Rattle.hs_waking.specs.declared.prev_set.PrevSet.{PrevSet}
 use Rattle.hs_waking.specs.WakeRows.{IsWakeRow}
 
 -- the literals that wake the nodes
@@ -39,11 +40,11 @@ pub record AreFirstEngines (nodes : List Node) (n : ℕ) (list : List ℕ) : Typ
   pub all : (k : ℕ) (node : Node) → k < n → slice_get nodes k ≡ Some node →
       is_first_engine node.kind node.parent ≡ true → IsListed list k
 
--- the row is that of the engine of the node of that number, if it is one
-abbrev pub IsRowAt : List Node → List PieceEngine → (k : ℕ) → (row : List ByteSet) → Type 0
-IsRowAt nodes engines k row =
+-- the row, which begins behind these, is that of the engine of the node of that number, if it is one
+abbrev pub IsRowAt : List Node → List PieceEngine → (k : ℕ) → PrevSet → (row : List ByteSet) → Type 0
+IsRowAt nodes engines k behind row =
     (number : ℕ) (null : Option Mask) (node : Node) (e : PieceEngine) →
     slice_get nodes k ≡ Some node →
     node.kind ≡ Engine number null →
     slice_get engines number ≡ Some e →
-    IsWakeRow (piece_meaning e) row
+    IsWakeRow (piece_meaning e) behind row

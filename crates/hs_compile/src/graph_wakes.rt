@@ -6,11 +6,10 @@ ghost use Rattle.hs_nodes.specs.Waking.{AreRowsOf, AreWakesSound, waking_literal
 ghost use Rattle.hs_rose.specs.PieceEngines.{piece_meaning};
 
 use crate::graph_numbers::graph_number;
-use hs_base::ByteSet;
 use hs_forest::group;
 use hs_nodes::{Node, NodeKind, WakeTable};
 use hs_rose::PieceEngine;
-use hs_waking::RowTable;
+use hs_waking::{Beginning, RowTable};
 use std::alloc::{AllocError, Global};
 
 /// The nodes that a chunk may wake, for so many literals, and what wakes those of engines.
@@ -79,19 +78,19 @@ fn first_engines(alloc: Global, nodes: &[Node]) -> Result<Vec<u32>, AllocError>
     Ok(list)
 }
 
-/// The row of the engine of the node of that number; where there is none, one that tells nothing.
-fn engine_row<'e>(nodes: &[Node], k: usize, engines: &'e [PieceEngine]) -> &'e [ByteSet]
-    ensures { IsRowAt nodes.now engines.now k result.now }
+/// How each match of the engine of the node of that number begins; where there is none, anyhow.
+fn beginning_at<'e>(nodes: &[Node], k: usize, engines: &'e [PieceEngine]) -> Beginning<'e>
+    ensures { IsRowAt nodes.now engines.now k result.behind result.row.now }
 {
     let Some(node) = nodes.get(k) else {
-        return &[];
+        return Beginning::anyhow();
     };
     let NodeKind::Engine(number, _) = node.kind else {
-        return &[];
+        return Beginning::anyhow();
     };
     match engines.get(number as usize) {
-        Some(engine) => engine.row(),
-        None => &[],
+        Some(engine) => engine.beginning(),
+        None => Beginning::anyhow(),
     }
 }
 
@@ -107,7 +106,7 @@ fn row_table(
 {
     let mut table = RowTable::new(alloc);
     for i in 0..list.len() {
-        table.push(engine_row(nodes, list[i] as usize, engines))?;
+        table.push(&beginning_at(nodes, list[i] as usize, engines))?;
     }
     Ok(table)
 }

@@ -1,5 +1,5 @@
 -- Where pieces are entered everywhere, and where an expression has the empty span.
-use Rattle.std.proofs.Common.{◌≡◌, ◌⊎◌, ◌↔◌, ℕ, zero, suc, ◌+◌, ◌*◌, ◌-◌, ◌<◌, ◌≤◌, true, false, List, [], ◌∷◌, ◌++◌, length, take, slice_get, slice_index, Some, refl, sym, ap, subst, ◌∙◌, inl, inr, arith}
+use Rattle.std.proofs.Common.{◌≡◌, ◌⊎◌, ◌↔◌, ℕ, zero, suc, ◌+◌, ◌*◌, ◌<◌, ◌≤◌, true, false, List, [], ◌∷◌, ◌++◌, length, take, slice_get, slice_index, Some, refl, sym, ap, subst, ◌∙◌, inl, inr, arith}
 use Rattle.std.specs.Prelude.{nat_lt}
 use Rattle.hs_base.specs.declared.context.Mask.{Mask}
 use Rattle.hs_base.specs.declared.context.Next.{Next}

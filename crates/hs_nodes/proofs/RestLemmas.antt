@@ -8,7 +8,8 @@ use Rattle.hs_base.specs.declared.context.Next.{Next}
 use Rattle.hs_base.specs.declared.context.Next.TheVariants as after
 use Rattle.hs_base.specs.Bits.{has_bit}
 use Rattle.hs_base.specs.Chains.{Piece, lit, nfa, piece_tree, IsFitChain}
-use Rattle.hs_base.specs.Contexts.{class_of}
+use Rattle.hs_base.specs.declared.context.Prev.{Prev}
+use Rattle.hs_base.specs.Contexts.{class_of, prev_at}
 use Rattle.hs_base.specs.Leaving.{AreEntered, IsEmptyAt, LeavesAt, LeavesBehind}
 use Rattle.hs_base.specs.LiteralRows.{TellsEntries, shifted}
 use Rattle.hs_base.specs.Literals.{LiteralByte}
@@ -53,7 +54,7 @@ engine-passed m pieces rest piece part u bytes fit runs never rests small none h
     )
 
 -- a first engine in which a chunk wakes nothing
-module _ (m : Meaning) (rest : List Piece) (piece : Piece) (part u bytes : List ℕ) (fit : IsFitChain (piece ∷ rest)) (runs : m.is_for (piece_tree piece)) (null : IsNull None (piece_tree piece)) (unwoken : IsUnwoken m None part bytes) (held : IsHeld m [] piece part u) where
+module _ (m : Meaning) (rest : List Piece) (piece : Piece) (part u : List ℕ) (prev : Prev) (bytes : List ℕ) (last : prev ≡ prev_at u (length u)) (fit : IsFitChain (piece ∷ rest)) (runs : m.is_for (piece_tree piece)) (null : IsNull None (piece_tree piece)) (unwoken : IsUnwoken m None part prev bytes) (held : IsHeld m [] piece part u) where
   -- its entries behind so many bytes
   entries-to : (i : ℕ) → i ≤ length bytes → AreEntered [] (u ++ take i bytes) (held.entered ++ replicate i true)
   entries-to zero within = subst (λ v. AreEntered [] v (held.entered ++ [])) (sym (append-nil u)) (subst (λ es. AreEntered [] u es) (sym (append-nil held.entered)) held.are)
@@ -67,7 +68,7 @@ module _ (m : Meaning) (rest : List Piece) (piece : Piece) (part u bytes : List 
 
   not-left : (i : ℕ) → 0 < length bytes → i ≤ length bytes → (next : Next) → LeavesBehind [] piece (u ++ take i bytes) next → ⊥
   not-left i some within next leaves =
-      unwoken.asleep.leaves_nothing (piece_tree piece) u held.entered runs held.are.count held.field i some within next
+      unwoken.asleep.leaves_nothing (piece_tree piece) u held.entered runs held.are.count last held.field i some within next
       ((leaves-listed [] piece (u ++ take i bytes) (held.entered ++ replicate i true) next (entries-to i within)).0 leaves)
 
   not-empty : (i : ℕ) (next : Next) → 0 < length bytes → i ≤ length bytes → LeavesBehind [] piece (u ++ take i bytes) next ⊎ (LeavesAt [] (u ++ take i bytes) next × IsEmptyAt (piece_tree piece) (u ++ take i bytes) next) → ⊥
@@ -79,7 +80,7 @@ module _ (m : Meaning) (rest : List Piece) (piece : Piece) (part u bytes : List 
     record {
       entered = held.entered ++ replicate (length bytes) true;
       are = subst (λ v. AreEntered [] (u ++ v) (held.entered ++ replicate (length bytes) true)) (take_all (length bytes) bytes (omega arith)) (entries-to (length bytes) (omega arith));
-      field = unwoken.asleep.stays (piece_tree piece) u held.entered runs held.are.count held.field;
+      field = unwoken.asleep.stays (piece_tree piece) u held.entered runs held.are.count last held.field;
     },
     record {
       before = λ i low leaves. not-empty i (class_of (get_or bytes i 0)) (omega arith) (omega arith) (leaves-last [] rest piece (u ++ take i bytes) (class_of (get_or bytes i 0)) fit leaves);
@@ -171,15 +172,15 @@ stands-passed (FirstLiteral number len) parent pieces before u bytes same passed
 stands-passed (LookBack pair) parent pieces before u bytes alone passed = tt
 
 module _ {E : Type 0} (meaning : E → Meaning) (engines : List E) where
-  engine-rests : (number : ℕ) (null : Option Mask) (parent : Option ℕ) (hits : List ChunkHits) (pieces rest : List Piece) (piece : Piece) (part u bytes : List ℕ) (e : E) → slice_get engines number ≡ Some e → (meaning e).is_for (piece_tree piece) → IsNull null (piece_tree piece) → (meaning e).always ≡ false →
-      IsFitChain (pieces ++ piece ∷ rest) → Each (λ b. b < 256) bytes → MayRest meaning engines (Engine number null) parent hits part bytes → ArePassed parent pieces u bytes → IsHeld (meaning e) pieces piece part u → IsHeld (meaning e) pieces piece part (u ++ bytes) × AreLeftNowhere (pieces ++ piece ∷ []) u bytes
-  engine-rests number null parent hits pieces rest piece part u bytes e there runs null_is never fit small may (root no_parent no_pieces) held =
+  engine-rests : (number : ℕ) (null : Option Mask) (parent : Option ℕ) (hits : List ChunkHits) (pieces rest : List Piece) (piece : Piece) (part u : List ℕ) (prev : Prev) (bytes : List ℕ) (e : E) → prev ≡ prev_at u (length u) → slice_get engines number ≡ Some e → (meaning e).is_for (piece_tree piece) → IsNull null (piece_tree piece) → (meaning e).always ≡ false →
+      IsFitChain (pieces ++ piece ∷ rest) → Each (λ b. b < 256) bytes → MayRest meaning engines (Engine number null) parent hits part prev bytes → ArePassed parent pieces u bytes → IsHeld (meaning e) pieces piece part u → IsHeld (meaning e) pieces piece part (u ++ bytes) × AreLeftNowhere (pieces ++ piece ∷ []) u bytes
+  engine-rests number null parent hits pieces rest piece part u prev bytes e last there runs null_is never fit small may (root no_parent no_pieces) held =
       let own = may e there in
       let unwoken = own.1 no_parent in
-      let done = engine-asleep (meaning e) rest piece part u bytes (subst (λ ps. IsFitChain (ps ++ piece ∷ rest)) no_pieces fit) runs (subst (λ (n : Option Mask). IsNull n (piece_tree piece)) unwoken.never_empty null_is)
+      let done = engine-asleep (meaning e) rest piece part u prev bytes last (subst (λ ps. IsFitChain (ps ++ piece ∷ rest)) no_pieces fit) runs (subst (λ (n : Option Mask). IsNull n (piece_tree piece)) unwoken.never_empty null_is)
       (record { never_empty = refl; asleep = unwoken.asleep }) (subst (λ ps. IsHeld (meaning e) ps piece part u) no_pieces held) in
       (subst (λ ps. IsHeld (meaning e) ps piece part (u ++ bytes)) (sym no_pieces) done.0, subst (λ ps. AreLeftNowhere (ps ++ piece ∷ []) u bytes) (sym no_pieces) done.1)
-  engine-rests number null parent hits pieces rest piece part u bytes e there runs null_is never fit small may (behind some none) held =
+  engine-rests number null parent hits pieces rest piece part u prev bytes e last there runs null_is never fit small may (behind some none) held =
       engine-passed (meaning e) pieces rest piece part u bytes fit runs never (may e there).0 small none held
 
   -- what a node leaves that is passed over
@@ -187,28 +188,28 @@ module _ {E : Type 0} (meaning : E → Meaning) (engines : List E) where
     pub held : HoldsPiece meaning engines kind pieces piece part (u ++ bytes)
     pub left : AreLeftNowhere (pieces ++ piece ∷ []) u bytes
 
-  literal-rests : (number len : ℕ) (parent : Option ℕ) (literals : List (List LiteralByte)) (hits : List ChunkHits) (pieces rest : List Piece) (piece : Piece) (part u bytes : List ℕ) (len' : ℕ) → len ≡ suc len' → IsLiteralOf literals number len piece → IsFitChain (pieces ++ piece ∷ rest) →
-      MayRest meaning engines (Literal number len) parent hits part bytes → ArePassed parent pieces u bytes → HoldsPiece meaning engines (Literal number len) pieces piece part u → IsPassed (Literal number len) pieces piece part u bytes
-  literal-rests number len parent literals hits pieces rest piece part u bytes m long of fit may (root no_parent no_pieces) held = absurd (may.1 no_parent)
-  literal-rests number len parent literals hits pieces rest piece part u bytes m long of fit may (behind some none) held =
+  literal-rests : (number len : ℕ) (parent : Option ℕ) (literals : List (List LiteralByte)) (hits : List ChunkHits) (pieces rest : List Piece) (piece : Piece) (part u : List ℕ) (prev : Prev) (bytes : List ℕ) (len' : ℕ) → len ≡ suc len' → IsLiteralOf literals number len piece → IsFitChain (pieces ++ piece ∷ rest) →
+      MayRest meaning engines (Literal number len) parent hits part prev bytes → ArePassed parent pieces u bytes → HoldsPiece meaning engines (Literal number len) pieces piece part u → IsPassed (Literal number len) pieces piece part u bytes
+  literal-rests number len parent literals hits pieces rest piece part u prev bytes m long of fit may (root no_parent no_pieces) held = absurd (may.1 no_parent)
+  literal-rests number len parent literals hits pieces rest piece part u prev bytes m long of fit may (behind some none) held =
       let done = literal-passed pieces rest of.value m part u bytes (subst (λ p. IsFitChain (pieces ++ p ∷ rest)) of.is fit) (of.count ∙ long) may.0 none (subst (λ n. IsHeldBy (KeepsEntries n part) pieces (lit of.value) u) long (subst (λ p. IsHeldBy (KeepsEntries len part) pieces p u) of.is held)) in
       record {
         held = subst (λ p. IsHeldBy (KeepsEntries len part) pieces p (u ++ bytes)) (sym of.is) (subst (λ n. IsHeldBy (KeepsEntries n part) pieces (lit of.value) (u ++ bytes)) (sym long) done.0);
         left = subst (λ p. AreLeftNowhere (pieces ++ p ∷ []) u bytes) (sym of.is) done.1;
       }
 
-  pub node-rests : (kind : NodeKind) (count size : ℕ) (parent : Option ℕ) (literals : List (List LiteralByte)) (hits : List ChunkHits) (pieces rest : List Piece) (piece : Piece) (part u bytes : List ℕ) → IsKindSound meaning engines count kind size → count ≡ length hits → RunsPiece meaning engines literals kind pieces piece →
-      IsFitChain (pieces ++ piece ∷ rest) → Each (λ b. b < 256) (u ++ bytes) → AreHitsOf literals hits u bytes → MayRest meaning engines kind parent hits part bytes → IsPassedBy kind parent pieces u bytes → HoldsPiece meaning engines kind pieces piece part u →
+  pub node-rests : (kind : NodeKind) (count size : ℕ) (parent : Option ℕ) (literals : List (List LiteralByte)) (hits : List ChunkHits) (pieces rest : List Piece) (piece : Piece) (part u : List ℕ) (prev : Prev) (bytes : List ℕ) → prev ≡ prev_at u (length u) → IsKindSound meaning engines count kind size → count ≡ length hits → RunsPiece meaning engines literals kind pieces piece →
+      IsFitChain (pieces ++ piece ∷ rest) → Each (λ b. b < 256) (u ++ bytes) → AreHitsOf literals hits u bytes → MayRest meaning engines kind parent hits part prev bytes → IsPassedBy kind parent pieces u bytes → HoldsPiece meaning engines kind pieces piece part u →
       IsPassed kind pieces piece part u bytes
-  node-rests (Engine number null) count size parent literals hits pieces rest piece part u bytes sound same of fit small hits_are may passed held =
-      let done = engine-rests number null parent hits pieces rest piece part u bytes of.value of.there of.runs of.null_is (sound.each of.value of.there).1 fit (each-right (λ b. b < 256) u bytes small) may passed (held of.value of.there) in record {
+  node-rests (Engine number null) count size parent literals hits pieces rest piece part u prev bytes last sound same of fit small hits_are may passed held =
+      let done = engine-rests number null parent hits pieces rest piece part u prev bytes of.value last of.there of.runs of.null_is (sound.each of.value of.there).1 fit (each-right (λ b. b < 256) u bytes small) may passed (held of.value of.there) in record {
         held = λ other there'. subst (λ v. IsHeld (meaning v) pieces piece part (u ++ bytes)) (one-value of.value other (slice_get engines number) of.there there') done.0;
         left = done.1;
       }
-  node-rests (Literal number len) count size parent literals hits pieces rest piece part u bytes sound same of fit small hits_are may passed held =
+  node-rests (Literal number len) count size parent literals hits pieces rest piece part u prev bytes last sound same of fit small hits_are may passed held =
       let long : len ≡ suc (len - 1) = omega (arith, sound.1) in
-      literal-rests number len parent literals hits pieces rest piece part u bytes (len - 1) long of fit may passed held
-  node-rests (FirstLiteral number len) count size parent literals hits pieces rest piece part u bytes sound same of fit small hits_are may passed held =
+      literal-rests number len parent literals hits pieces rest piece part u prev bytes (len - 1) long of fit may passed held
+  node-rests (FirstLiteral number len) count size parent literals hits pieces rest piece part u prev bytes last sound same of fit small hits_are may passed held =
       let there = slice_get-get_or hits number no-hits (omega (arith, sound.0)) in
       let own = get_or hits number no-hits in
       let value = of.1.value in
@@ -220,7 +221,7 @@ module _ {E : Type 0} (meaning : E → Meaning) (engines : List E) where
       } where
         no-hits : ChunkHits
         no-hits = record { at_start = false; behind = [] }
-  node-rests (LookBack pair) count size parent literals hits pieces rest piece part u bytes sound same of fit small hits_are may passed held =
+  node-rests (LookBack pair) count size parent literals hits pieces rest piece part u prev bytes last sound same of fit small hits_are may passed held =
       let there = slice_get-get_or hits pair.literal no-hits (omega (arith, sound.1)) in
       let own = get_or hits pair.literal no-hits in
       let value = of.literal.value in

@@ -112,20 +112,20 @@ module _ {E : Type 0} (meaning : E → Meaning) (table : NodeTable E) where
 
   -- the laws
 
-  rest-by : (kind : NodeKind) (hits : List ChunkHits) (part bytes : List ℕ) (parent : _) → Each (λ b. b < 256) bytes → IsResting meaning table.engines.items kind part → IsUnwokenIn meaning table.engines.items kind parent hits bytes → MayRest meaning table.engines.items kind parent hits part bytes
-  rest-by (Engine number null) hits part bytes parent small rests unwoken = λ e there. (
+  rest-by : (kind : NodeKind) (hits : List ChunkHits) (part : List ℕ) (prev : _) (bytes : List ℕ) (parent : _) → Each (λ b. b < 256) bytes → IsResting meaning table.engines.items kind part → IsUnwokenIn meaning table.engines.items kind parent hits prev bytes → MayRest meaning table.engines.items kind parent hits part prev bytes
+  rest-by (Engine number null) hits part prev bytes parent small rests unwoken = λ e there. (
     (rests e there).rests,
     λ no_parent. record {
       never_empty = (unwoken no_parent).0;
       asleep = (unwoken no_parent).1 e there part (rests e there).starts;
     },
   )
-  rest-by (Literal number len) hits part bytes parent small rests unwoken = (zero-bits part rests, unwoken)
-  rest-by (FirstLiteral number len) hits part bytes parent small rests unwoken = unwoken
-  rest-by (LookBack pair) hits part bytes parent small rests unwoken = unwoken
+  rest-by (Literal number len) hits part prev bytes parent small rests unwoken = (zero-bits part rests, unwoken)
+  rest-by (FirstLiteral number len) hits part prev bytes parent small rests unwoken = unwoken
+  rest-by (LookBack pair) hits part prev bytes parent small rests unwoken = unwoken
 
   pub resting-may : RestingNodesMayRest meaning table
-  resting-may marks hits region bytes small rests unwoken k node there none = rest-by node.kind hits (node_part region node) bytes node.parent small (rests k node there none) (unwoken k node there none)
+  resting-may marks hits region bytes prev small rests unwoken k node there none = rest-by node.kind hits (node_part region node) prev bytes node.parent small (rests k node there none) (unwoken k node there none)
 
   pub resting-stay : RestingNodesStay meaning table
   resting-stay old new region region' ends more changes rests k node there none =

@@ -44,11 +44,11 @@ module _ {E : Type 0} (meaning : E → Meaning) (table : NodeTable E) where
   nodes = table.nodes.items
 
   -- what a node keeps that may rest may stand at any offset
-  pub rest-well : (kind : NodeKind) (parent : Option ℕ) (hits : List ChunkHits) (part bytes : List ℕ) (at : ℕ) → MayRest meaning table.engines.items kind parent hits part bytes → IsWellPart meaning table.engines.items kind part at
-  rest-well (Engine number null) parent hits part bytes at may = λ e there'. (may e there').0.well at
-  rest-well (Literal number len) parent hits part bytes at may = record { spare = λ k high. may.0 k; early = λ k high. may.0 k }
-  rest-well (FirstLiteral number len) parent hits part bytes at may = tt
-  rest-well (LookBack pair) parent hits part bytes at may = tt
+  pub rest-well : (kind : NodeKind) (parent : Option ℕ) (hits : List ChunkHits) (part : List ℕ) (prev : Prev) (bytes : List ℕ) (at : ℕ) → MayRest meaning table.engines.items kind parent hits part prev bytes → IsWellPart meaning table.engines.items kind part at
+  rest-well (Engine number null) parent hits part prev bytes at may = λ e there'. (may e there').0.well at
+  rest-well (Literal number len) parent hits part prev bytes at may = record { spare = λ k high. may.0 k; early = λ k high. may.0 k }
+  rest-well (FirstLiteral number len) parent hits part prev bytes at may = tt
+  rest-well (LookBack pair) parent hits part prev bytes at may = tt
 
   -- the nodes before one of them are done
   pub record AreDone (pieces : ℕ → List Piece) (region u bytes : List ℕ) (ends : List ChunkEnds) (n : ℕ) : Type 0 where
@@ -90,7 +90,7 @@ module _ {E : Type 0} (meaning : E → Meaning) (table : NodeTable E) where
       takes = λ literals pieces u of stands past_is small hits_are held. record { left = λ k low. absurd (omega arith); held = λ k node low there'. absurd (omega arith) };
     }
 
-    module _ (rests : MayNodesRest meaning table marks_first hits first bytes) (region : List ℕ) (ends : List ChunkEnds) (marks : List ℕ) where
+    module _ (rests : MayNodesRest meaning table marks_first hits first prev bytes) (region : List ℕ) (ends : List ChunkEnds) (marks : List ℕ) where
       -- the pieces before a node that is passed over
       passed-before : (n : ℕ) (node : Node) (pieces : ℕ → List Piece) (u : List ℕ) → slice_get table.nodes.items n ≡ Some node → is_marked marks n ≡ false → ((p : ℕ) → node.parent ≡ Some p → node_ends ends p ≡ nowhere) → ((p : ℕ) → p < n → AreLeftIn (pieces p) u bytes (node_ends ends p)) →
           ArePassed node.parent (parent_pieces pieces node.parent) u bytes
@@ -120,7 +120,7 @@ module _ {E : Type 0} (meaning : E → Meaning) (table : NodeTable E) where
         own : (x : Node) × (slice_get table.nodes.items n ≡ Some x)
         own = there table.nodes.items n below
 
-        may : MayRest meaning table.engines.items own.0.kind own.0.parent hits (node_part first own.0) bytes
+        may : MayRest meaning table.engines.items own.0.kind own.0.parent hits (node_part first own.0) prev bytes
         may = rests n own.0 own.1 (unmarked-before marks_first marks n walk.more.kept none)
 
         later_own : (node_ends ends n ≡ nowhere) × (node_part region own.0 ≡ node_part first own.0)
@@ -131,7 +131,7 @@ module _ {E : Type 0} (meaning : E → Meaning) (table : NodeTable E) where
         parent-zero k p other high at_k none' of (inr same) = ap (λ i. node_ends ends i) same ∙ later_own.0
 
         own-well : IsWellPart meaning table.engines.items own.0.kind (node_part region own.0) (at + length bytes)
-        own-well = subst (λ ps. IsWellPart meaning table.engines.items own.0.kind ps (at + length bytes)) (sym later_own.1) (rest-well own.0.kind own.0.parent hits (node_part first own.0) bytes (at + length bytes) may)
+        own-well = subst (λ ps. IsWellPart meaning table.engines.items own.0.kind ps (at + length bytes)) (sym later_own.1) (rest-well own.0.kind own.0.parent hits (node_part first own.0) prev bytes (at + length bytes) may)
 
         well-by : (k : ℕ) (other : Node) → slice_get table.nodes.items k ≡ Some other → (k < n) ⊎ (k ≡ n) → IsWellPart meaning table.engines.items other.kind (node_part region other) (at + length bytes)
         well-by k other at_k (inl low) = walk.well k other low at_k
@@ -145,7 +145,7 @@ module _ {E : Type 0} (meaning : E → Meaning) (table : NodeTable E) where
             let done = walk.takes literals pieces u of stands past_is small hits_are held in
             let is = of n own.0 own.1 in
             let before = passed-before n own.0 pieces u own.1 none (λ p is_p. walk.parents n p own.0 (omega arith) own.1 none is_p (sound.earlier n p own.0 own.1 is_p)) done.left in
-            let passed = node-rests meaning table.engines.items own.0.kind (length hits) (own.0.end - own.0.start) own.0.parent literals hits is.before is.rest is.piece (node_part first own.0) u bytes (sound.kinds n own.0 own.1) refl is.runs is.fit small hits_are may
+            let passed = node-rests meaning table.engines.items own.0.kind (length hits) (own.0.end - own.0.start) own.0.parent literals hits is.before is.rest is.piece (node_part first own.0) u prev bytes stands.behind (sound.kinds n own.0 own.1) refl is.runs is.fit small hits_are may
             (stands-passed own.0.kind own.0.parent (parent_pieces pieces own.0.parent) is.before u bytes is.behind before)
             (stands-held meaning table.engines.items own.0.kind own.0.parent (pieces n) (parent_pieces pieces own.0.parent) is.before is.piece (node_part first own.0) u is.behind is.own (held n own.0 own.1)) in
             let zero_left : AreLeftIn (pieces n) u bytes (node_ends ends n) = subst (λ (e : ChunkEnds). AreLeftIn (pieces n) u bytes e) (sym later_own.0) (subst (λ ps. AreLeftIn ps u bytes nowhere) (sym is.own) (nowhere-left (is.before ++ is.piece ∷ []) u bytes nowhere nowhere-none passed.left)) in

@@ -44,9 +44,9 @@ pub record IsAtRest (m : Meaning) (part : List ℕ) : Type 0 where
   pub well : (at : ℕ) → m.well part at
 
 -- And it may where it is entered before each byte of a chunk: it has no empty span, and the bytes wake nothing.
-pub record IsUnwoken (m : Meaning) (null : Option Mask) (part bytes : List ℕ) : Type 0 where
+pub record IsUnwoken (m : Meaning) (null : Option Mask) (part : List ℕ) (prev : Prev) (bytes : List ℕ) : Type 0 where
   pub never_empty : null ≡ None
-  pub asleep : SleepsOver m part bytes
+  pub asleep : SleepsOver m part prev bytes
 
 -- where the pieces before are left, as far as a node of that kind asks
 abbrev pub IsEnteredBy : NodeKind → (pieces : List Piece) (u bytes : List ℕ) (enters : ChunkEnds) → Type 0
@@ -151,20 +151,20 @@ module _ {E : Type 0} (meaning : E → Meaning) (engines : List E) where
 
   -- A node may be passed over in a chunk, if its parent is left nowhere in it: nothing is live, and if it has no parent
   -- the bytes wake nothing and its literal ends nowhere.
-  abbrev pub MayRest : NodeKind → (parent : Option ℕ) (hits : List ChunkHits) (part bytes : List ℕ) → Type 0
-  MayRest (Engine number null) parent hits part bytes =
+  abbrev pub MayRest : NodeKind → (parent : Option ℕ) (hits : List ChunkHits) (part : List ℕ) → Prev → (bytes : List ℕ) → Type 0
+  MayRest (Engine number null) parent hits part prev bytes =
       (e : E) →
       slice_get engines number ≡ Some e →
-      IsAtRest (meaning e) part × (parent ≡ None → IsUnwoken (meaning e) null part bytes)
-  MayRest (Literal number len) parent hits part bytes =
+      IsAtRest (meaning e) part × (parent ≡ None → IsUnwoken (meaning e) null part prev bytes)
+  MayRest (Literal number len) parent hits part prev bytes =
       ((k : ℕ) → has_bit part k ≡ false) × (parent ≡ None → ⊥)
-  MayRest (FirstLiteral number len) parent hits part bytes =
+  MayRest (FirstLiteral number len) parent hits part prev bytes =
       (own : ChunkHits) →
       slice_get hits number ≡ Some own →
       (i : ℕ) →
       i ≤ length bytes →
       is_hit_at own i ≡ false
-  MayRest (LookBack pair) parent hits part bytes =
+  MayRest (LookBack pair) parent hits part prev bytes =
       (own : ChunkHits) →
       slice_get hits pair.literal ≡ Some own →
       (i : ℕ) →

@@ -1,5 +1,6 @@
 -- Nodes in which nothing is live between two chunks.
 use Rattle.std.specs.Prelude.{◌≡◌, ℕ, ◌<◌, ◌≤◌, true, false, List, length, Option, Some, None, slice_get}
+use Rattle.hs_base.specs.declared.context.Prev.{Prev}
 use Rattle.hs_base.specs.Bits.{AreZero}
 use Rattle.hs_base.specs.Lists.{Each}
 use Rattle.hs_engine.specs.Engines.{Meaning, IsStart}
@@ -38,9 +39,9 @@ AreEnginesIdle {E = E} meaning engines =
     AreZero part →
     IsIdleEngine (meaning e) part
 
--- A chunk wakes nothing in an engine, from each region that is that of the empty stream.
-abbrev pub SleepsThrough : Meaning → (bytes : List ℕ) → Type 0
-SleepsThrough m bytes = (region : List ℕ) → IsStart m region → SleepsOver m region bytes
+-- A chunk behind `prev` wakes nothing in an engine, from each region that is that of the empty stream.
+abbrev pub SleepsThrough : Meaning → Prev → (bytes : List ℕ) → Type 0
+SleepsThrough m prev bytes = (region : List ℕ) → IsStart m region → SleepsOver m region prev bytes
 
 module _ {E : Type 0} (meaning : E → Meaning) (engines : List E) where
   -- A node of that kind stays as it is in each chunk that neither enters nor wakes it.
@@ -53,13 +54,13 @@ module _ {E : Type 0} (meaning : E → Meaning) (engines : List E) where
 
   -- A chunk doesn't wake a node of that kind: if it has no parent, it has no empty span and its bytes wake nothing; and
   -- a first literal, or one behind an expression that looks back, ends nowhere.
-  abbrev pub IsUnwokenIn : NodeKind → (parent : Option ℕ) → (hits : List ChunkHits) (bytes : List ℕ) → Type 0
-  IsUnwokenIn (Engine number null) parent hits bytes =
-      parent ≡ None → (null ≡ None) × ((e : E) → slice_get engines number ≡ Some e → SleepsThrough (meaning e) bytes)
-  IsUnwokenIn (Literal number len) parent hits bytes = parent ≡ None → ⊥
-  IsUnwokenIn (FirstLiteral number len) parent hits bytes =
+  abbrev pub IsUnwokenIn : NodeKind → (parent : Option ℕ) → (hits : List ChunkHits) → Prev → (bytes : List ℕ) → Type 0
+  IsUnwokenIn (Engine number null) parent hits prev bytes =
+      parent ≡ None → (null ≡ None) × ((e : E) → slice_get engines number ≡ Some e → SleepsThrough (meaning e) prev bytes)
+  IsUnwokenIn (Literal number len) parent hits prev bytes = parent ≡ None → ⊥
+  IsUnwokenIn (FirstLiteral number len) parent hits prev bytes =
       (own : ChunkHits) → slice_get hits number ≡ Some own → (i : ℕ) → i ≤ length bytes → is_hit_at own i ≡ false
-  IsUnwokenIn (LookBack pair) parent hits bytes =
+  IsUnwokenIn (LookBack pair) parent hits prev bytes =
       (own : ChunkHits) →
       slice_get hits pair.literal ≡ Some own →
       (i : ℕ) →
@@ -76,12 +77,12 @@ module _ {E : Type 0} (meaning : E → Meaning) (table : NodeTable E) where
       IsResting meaning table.engines.items node.kind (node_part region node)
 
   -- a chunk doesn't wake the nodes that aren't marked
-  abbrev pub AreNodesUnwoken : (marks : List ℕ) (hits : List ChunkHits) (bytes : List ℕ) → Type 0
-  AreNodesUnwoken marks hits bytes =
+  abbrev pub AreNodesUnwoken : (marks : List ℕ) (hits : List ChunkHits) → Prev → (bytes : List ℕ) → Type 0
+  AreNodesUnwoken marks hits prev bytes =
       (k : ℕ) (node : Node) →
       slice_get table.nodes.items k ≡ Some node →
       is_marked marks k ≡ false →
-      IsUnwokenIn meaning table.engines.items node.kind node.parent hits bytes
+      IsUnwokenIn meaning table.engines.items node.kind node.parent hits prev bytes
 
   -- Of the nodes that were marked those stay so in which something is live, and none is left anywhere.
   pub record IsSettled (region old new : List ℕ) (ends : List ChunkEnds) : Type 0 where
@@ -97,11 +98,11 @@ module _ {E : Type 0} (meaning : E → Meaning) (table : NodeTable E) where
   -- LAW: nodes in which nothing is live, and which a chunk doesn't wake, may be passed over in it.
   abbrev pub RestingNodesMayRest : Type 0
   RestingNodesMayRest =
-      (marks : List ℕ) (hits : List ChunkHits) (region bytes : List ℕ) →
+      (marks : List ℕ) (hits : List ChunkHits) (region bytes : List ℕ) (prev : Prev) →
       Each (λ b. b < 256) bytes →
       AreNodesResting marks region →
-      AreNodesUnwoken marks hits bytes →
-      MayNodesRest meaning table marks hits region bytes
+      AreNodesUnwoken marks hits prev bytes →
+      MayNodesRest meaning table marks hits region prev bytes
 
   -- LAW: a walk leaves the nodes that aren't marked as they were.
   abbrev pub RestingNodesStay : Type 0

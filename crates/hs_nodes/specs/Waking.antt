@@ -1,8 +1,9 @@
 -- Which nodes a chunk may wake though nothing is live in them.
 use Rattle.std.specs.Prelude.{◌≡◌, ℕ, suc, ◌<◌, ◌≤◌, Bool, true, false, List, length, Option, Some, None, slice_get}
-use Rattle.std.specs.Prelude.{slice_index, take}
+use Rattle.std.specs.Prelude.{slice_index}
 use Rattle.hs_base.specs.declared.byte_set.ByteSet.{ByteSet}
 use Rattle.hs_base.specs.declared.context.Mask.{Mask}
+use Rattle.hs_base.specs.declared.context.Prev.{Prev}
 use Rattle.hs_engine.specs.Engines.{Meaning}
 use Rattle.hs_reports.specs.Marks.{is_marked}
 use Rattle.hs_nodes.specs.Walks.{IsAmongChildren}
@@ -12,7 +13,7 @@ use Rattle.hs_nodes.specs.declared.table.NodeKind.TheVariants.{Engine, Literal, 
 use Rattle.hs_nodes.specs.declared.table.NodeTable.{NodeTable}
 use Rattle.hs_waking.specs.declared.wake_row.WakeRow.{WakeRow}
 use Rattle.hs_nodes.specs.declared.wake_table.WakeTable.{WakeTable}
-use Rattle.hs_waking.specs.Fits.{IsRowBy}
+use Rattle.hs_waking.specs.Fits.{IsBehindBy, IsRowBy, row_numbers}
 use Rattle.hs_waking.specs.WakeRows.{IsWakeRow}
 use Rattle.hs_nodes.specs.Resting.{SleepsThrough}
 
@@ -48,10 +49,6 @@ pub record AreWakesSound (nodes : List Node) (wakes : WakeTable) (literals : ℕ
   pub behind : (k number len : ℕ) (node : Node) → slice_get nodes k ≡ Some node →
       node.kind ≡ Literal number len → node.parent ≡ None → ⊥
 
--- the numbers of the sets of a row
-abbrev pub row_numbers : WakeRow → List ℕ
-row_numbers row = take row.count row.numbers
-
 -- a node of that kind is one of an engine that has no empty span
 abbrev pub is_never_empty : NodeKind → Bool
 is_never_empty (Engine number None) = true
@@ -61,34 +58,35 @@ is_never_empty (FirstLiteral number len) = false
 is_never_empty (LookBack pair) = false
 
 -- a chunk wakes nothing in a node of that kind that is entered everywhere, which has no empty span either
-abbrev pub IsKindAsleep : {E : Type 0} → (E → Meaning) → (engines : List E) → NodeKind → (bytes : List ℕ) → Type 0
-IsKindAsleep meaning engines (Engine number null) bytes =
-    (null ≡ None) × ((e : _) → slice_get engines number ≡ Some e → SleepsThrough (meaning e) bytes)
-IsKindAsleep meaning engines (Literal number len) bytes = ⊥
-IsKindAsleep meaning engines (FirstLiteral number len) bytes = ⊥
-IsKindAsleep meaning engines (LookBack pair) bytes = ⊥
+abbrev pub IsKindAsleep : {E : Type 0} → (E → Meaning) → (engines : List E) → NodeKind → Prev → (bytes : List ℕ) → Type 0
+IsKindAsleep meaning engines (Engine number null) prev bytes =
+    (null ≡ None) × ((e : _) → slice_get engines number ≡ Some e → SleepsThrough (meaning e) prev bytes)
+IsKindAsleep meaning engines (Literal number len) prev bytes = ⊥
+IsKindAsleep meaning engines (FirstLiteral number len) prev bytes = ⊥
+IsKindAsleep meaning engines (LookBack pair) prev bytes = ⊥
 
 -- The engines without a parent that aren't marked have no empty span, and a chunk wakes nothing in them.
-abbrev pub AreEnginesUnwoken : {E : Type 0} → (E → Meaning) → NodeTable E → (marks bytes : List ℕ) → Type 0
-AreEnginesUnwoken meaning table marks bytes =
+abbrev pub AreEnginesUnwoken : {E : Type 0} → (E → Meaning) → NodeTable E → (marks : List ℕ) → Prev → (bytes : List ℕ) → Type 0
+AreEnginesUnwoken meaning table marks prev bytes =
     (k number : ℕ) (null : Option Mask) (node : Node) →
     slice_get table.nodes.items k ≡ Some node →
     node.kind ≡ Engine number null →
     node.parent ≡ None →
     is_marked marks k ≡ false →
-    (null ≡ None) × ((e : _) → slice_get table.engines.items number ≡ Some e → SleepsThrough (meaning e) bytes)
+    (null ≡ None) × ((e : _) → slice_get table.engines.items number ≡ Some e → SleepsThrough (meaning e) prev bytes)
 
 -- The row tells what wakes an engine, by the numbers of its sets.
 pub record IsRowFor (m : Meaning) (sets : List ByteSet) (row : WakeRow) : Type 0 where
   pub own : List ByteSet
   pub numbered : IsRowBy (row_numbers row) sets own
-  pub wakes : IsWakeRow m own
+  pub wakes : IsWakeRow m row.behind own
 
 -- The rows name sets that are there, and the one that stands beside an engine without a parent is one of its own.
 pub record AreRowsOf {E : Type 0} (meaning : E → Meaning) (nodes : List Node) (engines : List E) (first : List ℕ)
     (rows : List WakeRow) (sets : List ByteSet) : Type 0 where
   pub within : (i d : ℕ) (row : WakeRow) → slice_get rows i ≡ Some row → d < length (row_numbers row) →
       slice_index (row_numbers row) d < length sets
+  pub begins : (i : ℕ) (row : WakeRow) → slice_get rows i ≡ Some row → IsBehindBy row sets
   pub are : (i k number : ℕ) (null : Option Mask) (node : Node) (row : WakeRow) (e : E) →
       slice_get first i ≡ Some k → slice_get rows i ≡ Some row → slice_get nodes k ≡ Some node →
       node.kind ≡ Engine number null → slice_get engines number ≡ Some e → IsRowFor (meaning e) sets row

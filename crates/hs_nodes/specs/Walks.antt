@@ -127,12 +127,12 @@ module _ {E : Type 0} (meaning : E → Meaning) (table : NodeTable E) where
       IsWellPart meaning table.engines.items node.kind (node_part region node) at
 
   -- each node that isn't marked may be passed over in the chunk
-  abbrev pub MayNodesRest : (marks : List ℕ) (hits : List ChunkHits) (region bytes : List ℕ) → Type 0
-  MayNodesRest marks hits region bytes =
+  abbrev pub MayNodesRest : (marks : List ℕ) (hits : List ChunkHits) (region : List ℕ) → Prev → (bytes : List ℕ) → Type 0
+  MayNodesRest marks hits region prev bytes =
       (k : ℕ) (node : Node) →
       slice_get table.nodes.items k ≡ Some node →
       is_marked marks k ≡ false →
-      MayRest meaning table.engines.items node.kind node.parent hits (node_part region node) bytes
+      MayRest meaning table.engines.items node.kind node.parent hits (node_part region node) prev bytes
 
   -- A chunk leads to what is kept of each node behind it, and tells where the pieces of each node are left.
   pub record AreNodesRun (pieces : ℕ → List Piece) (region u bytes : List ℕ) (ends : List ChunkEnds) : Type 0 where

@@ -4,17 +4,18 @@ ghost use Rattle.std.specs.Prelude.{◌≡◌, ◌<◌, ◌≤◌, ℕ, List, tr
 ghost use Rattle.hs_base.specs.declared.byte_set.ByteSet.{ByteSet};
 ghost use Rattle.hs_reports.specs.Marks.{is_marked, mark_room};
 ghost use Rattle.hs_nodes.specs.Waking.{AreEnginesUnwoken, AreRowsSound, AreWakesSound, IsKindAsleep};
-ghost use Rattle.hs_nodes.specs.Waking.{is_never_empty, row_numbers};
+ghost use Rattle.hs_nodes.specs.Waking.{is_never_empty};
 ghost use Rattle.hs_nodes.specs.Walks.{AreMoreMarks, IsAmongChildren};
 ghost use Rattle.hs_nodes.specs.declared.table.Node.{Node};
 ghost use Rattle.hs_waking.specs.declared.wake_row.WakeRow.{WakeRow};
 ghost use Rattle.hs_waking.specs.ChunkWords.{AreOfChunk};
-ghost use Rattle.hs_waking.specs.Fits.{FitsNowhere, IsRowBy};
+ghost use Rattle.hs_waking.specs.Fits.{FitsNowhere, IsBehindBy, IsRowBy, row_numbers};
 
 use crate::graph::Graph;
 use crate::table::NodeKind;
 use crate::wake_table::WakeTable;
 use crate::walking::{mark_all, node_at, start_of};
+use hs_base::Prev;
 use hs_engine::Engine;
 use hs_reports::MarkSet;
 use hs_waking::{ClassWords, fits};
@@ -50,28 +51,37 @@ fn never_empty(kind: NodeKind) -> bool
     }
 }
 
-/// Whether the row that stands at that place fits somewhere in a chunk, or can't be asked. The words are those of this
-/// chunk so far as they are known.
-fn may_fit(wakes: &WakeTable, place: usize, bytes: &[u8], words: &mut ClassWords) -> bool
+/// Whether the row that stands at that place fits somewhere in a chunk behind `prev`, or can't be asked. The words are
+/// those of this chunk so far as they are known.
+fn may_fit(
+    wakes: &WakeTable,
+    place: usize,
+    prev: Prev,
+    bytes: &[u8],
+    words: &mut ClassWords,
+) -> bool
     requires numbers { (row : WakeRow) → slice_get wakes.now.rows.items place ≡ Some row → (d : ℕ) →
         d < length (row_numbers row) → slice_index (row_numbers row) d < length wakes.now.sets.items }
+    requires begins { (row : WakeRow) → slice_get wakes.now.rows.items place ≡ Some row →
+        IsBehindBy row wakes.now.sets.items }
     requires few { length bytes.now ≤ 512 }
     requires chunk { AreOfChunk words.old wakes.now.sets.items bytes.now }
     ensures chunk { AreOfChunk words.new wakes.now.sets.items bytes.now }
     ensures nowhere { result ≡ false → (row : WakeRow) × (slice_get wakes.now.rows.items place ≡ Some row)
-        × ((own : List ByteSet) → IsRowBy (row_numbers row) wakes.now.sets.items own → FitsNowhere own bytes.now) }
+        × ((own : List ByteSet) → IsRowBy (row_numbers row) wakes.now.sets.items own → FitsNowhere row.behind own prev bytes.now) }
 {
     if place >= wakes.rows.len() || wakes.sets.len() > words.count() {
         return true;
     }
-    fits(wakes.rows[place].numbers(), &wakes.sets, words, bytes)
+    fits(&wakes.rows[place], &wakes.sets, words, prev, bytes)
 }
 
-/// Whether a chunk wakes the node of that number, which stands at that place among those of engines without a parent.
+/// Whether a chunk behind `prev` wakes the node of that number, which stands at that place among those of engines without a parent.
 fn wakes_node<E: Engine>(
     graph: &Graph<E>,
     place: usize,
     k: usize,
+    prev: Prev,
     bytes: &[u8],
     words: &mut ClassWords,
 ) -> bool
@@ -82,18 +92,19 @@ fn wakes_node<E: Engine>(
     requires chunk { AreOfChunk words.old graph.now.wakes.sets.items bytes.now }
     ensures chunk { AreOfChunk words.new graph.now.wakes.sets.items bytes.now }
     ensures asleep { (node : Node) → slice_get graph.now.table.nodes.items k ≡ Some node → result ≡ false →
-        IsKindAsleep E.meaning graph.now.table.engines.items node.kind bytes.now }
+        IsKindAsleep E.meaning graph.now.table.engines.items node.kind prev bytes.now }
 {
     if !never_empty(node_at(&graph.table, k).kind) {
         return true;
     }
-    may_fit(&graph.wakes, place, bytes, words)
+    may_fit(&graph.wakes, place, prev, bytes, words)
 }
 
-/// Marks the nodes of engines without a parent that a chunk wakes: those that have the empty span, and those whose row
-/// fits somewhere in its bytes.
+/// Marks the nodes of engines without a parent that a chunk behind `prev` wakes: those that have the empty span, and
+/// those whose row fits somewhere in its bytes.
 pub fn wake_engines<E: Engine>(
     graph: &Graph<E>,
+    prev: Prev,
     bytes: &[u8],
     words: &mut ClassWords,
     marks: &mut MarkSet,
@@ -104,12 +115,12 @@ pub fn wake_engines<E: Engine>(
     requires below { (k : ℕ) → is_marked marks.old k ≡ true → k < length graph.now.table.nodes.items }
     requires few { length bytes.now ≤ 512 }
     ensures more { AreMoreMarks (length graph.now.table.nodes.items) marks.old marks.new }
-    ensures asleep { AreEnginesUnwoken E.meaning graph.now.table marks.new bytes.now }
+    ensures asleep { AreEnginesUnwoken E.meaning graph.now.table marks.new prev bytes.now }
 {
     words.begin();
     for i in 0..graph.wakes.first_engines.len() {
         let k = start_of(&graph.wakes.first_engines, i);
-        if wakes_node(graph, i, k, bytes, words) {
+        if wakes_node(graph, i, k, prev, bytes, words) {
             marks.write(k, true);
         }
     }

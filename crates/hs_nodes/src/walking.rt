@@ -142,7 +142,8 @@ pub fn walk<E: BlockEngine, L: Ledger>(
     requires clear { (k : ℕ) → node_ends ends.old k ≡ nowhere }
     requires room { length table.now.nodes.items ≤ mark_room marks.old }
     requires marked { (k : ℕ) → is_marked marks.old k ≡ true → k < length table.now.nodes.items }
-    requires rests { MayNodesRest E.meaning table.now marks.old hits.now region.old chunk.now.bytes.now }
+    requires rests { MayNodesRest E.meaning table.now marks.old hits.now region.old chunk.now.prev
+        chunk.now.bytes.now }
     ensures well { AreNodesWell E.meaning table.now region.new (chunk.now.at + length chunk.now.bytes.now) }
     ensures ends { length ends.new ≡ length ends.old }
     ensures marks { AreMoreMarks (length table.now.nodes.items) marks.old marks.new }

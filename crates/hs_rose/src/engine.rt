@@ -7,7 +7,7 @@ use hs_base::{ByteSet, NextSet, Prev};
 use hs_block::{BlockEnds, BlockEngine, run_by_steps};
 use hs_engine::{Engine, Steps};
 use hs_repeat::{First, Last, Ring};
-use std::slice::from_ref;
+use hs_waking::Beginning;
 use std::sync::ledger::Ledger;
 
 /// Runs a piece that isn't a literal.
@@ -27,16 +27,16 @@ impl PieceEngine {
     ghost use Rattle.hs_rose.specs.PieceEngines.{piece_meaning};
     ghost use Rattle.hs_waking.specs.WakeRows.{IsWakeRow};
 
-    /// The sets of the first bytes of each entry that isn't dead by then: the first byte, the second and so on. Bytes
-    /// that they fit nowhere wake nothing.
-    pub fn row(&self) -> &[ByteSet]
-        ensures { IsWakeRow (piece_meaning self.now) result.now }
+    /// How each match begins: what may stand before it, and the sets of its first byte, the second and so on. Bytes in
+    /// which none begins so wake nothing.
+    pub fn beginning(&self) -> Beginning<'_>
+        ensures { IsWakeRow (piece_meaning self.now) result.behind result.row.now }
     {
         match self {
-            PieceEngine::Positions(positions) => positions.row(),
-            PieceEngine::First(first) => from_ref(first.wakers()),
-            PieceEngine::Last(last) => from_ref(last.wakers()),
-            PieceEngine::Ring(ring) => from_ref(ring.wakers()),
+            PieceEngine::Positions(positions) => positions.beginning(),
+            PieceEngine::First(first) => Beginning::with(first.wakers()),
+            PieceEngine::Last(last) => Beginning::with(last.wakers()),
+            PieceEngine::Ring(ring) => Beginning::with(ring.wakers()),
         }
     }
 }

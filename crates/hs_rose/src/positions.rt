@@ -1,19 +1,22 @@
 //! The engine of an expression by its positions: byte by byte, and a block at once where that serves.
 
 ghost use Rattle.std.specs.Prelude.{◌≡◌, ℕ, ◌+◌, ◌<◌, ◌≤◌, length, slice_get, true, Some, IfOk, MatchOption};
-ghost use Rattle.hs_base.specs.Contexts.{Context};
+ghost use Rattle.hs_base.specs.declared.context.Prev.{Prev};
+ghost use Rattle.hs_base.specs.Contexts.{Context, class_of};
 ghost use Rattle.hs_engine.specs.Automata.{in_mask, in_set};
+ghost use Rattle.hs_engine.specs.Between.{between};
 ghost use Rattle.hs_block.specs.declared.streams.Streams.{Streams};
 ghost use Rattle.hs_block.specs.StreamSets.{takes_byte};
 ghost use Rattle.hs_block.specs.StreamTables.{comes_before};
 ghost use Rattle.hs_limex.specs.LimexEngines.{moves_of_limex};
 ghost use Rattle.hs_rose.specs.MovesRows.{IsMovesLevel};
+ghost use Rattle.hs_waking.specs.PrevSets.{has_prev};
 
 use hs_base::{ByteSet, NextSet, Prev};
 use hs_block::{BlockEnds, BlockEngine, Streams, run_by_steps};
 use hs_engine::{Automaton, Engine, Steps};
 use hs_limex::Limex;
-use hs_waking::row_of;
+use hs_waking::{Beginning, PrevSet, behind_of, row_of};
 use std::alloc::{AllocError, Global};
 use std::sync::ledger::Ledger;
 
@@ -25,6 +28,8 @@ pub struct PositionEngine {
     limex: Limex,
     /// The tables for blocks, of the same positions.
     streams: Option<Streams>,
+    /// What may stand before a match.
+    behind: PrevSet,
     /// The bytes of the first levels of positions.
     row: Vec<ByteSet>,
     ghost size_is: { (s : Streams) → streams ≡ Some s → s.size ≡ (moves_of_limex limex).size },
@@ -36,6 +41,9 @@ pub struct PositionEngine {
         in_mask (slice_get s.accepts.items x) c ≡ (moves_of_limex limex).accepts c x },
     ghost follows_are: { (s : Streams) → streams ≡ Some s → (x y : ℕ) (c : Context) →
         x < (moves_of_limex limex).size → comes_before s x y c ≡ (moves_of_limex limex).follows y x c },
+    ghost behind_has: { (x b : ℕ) (prev : Prev) → b < 256 →
+        (moves_of_limex limex).enters (between prev (class_of b)) x ≡ true → (moves_of_limex limex).reach b x ≡ true →
+        has_prev behind prev ≡ true },
     ghost row_some: { 0 < length row.items },
     ghost row_sets: { (d x b : ℕ) → d < length row.items → IsMovesLevel (moves_of_limex limex) d x → b < 256 →
         (moves_of_limex limex).reach b x ≡ true → in_set (slice_get row.items d) b ≡ true },
@@ -57,19 +65,24 @@ impl PositionEngine {
     {
         let limex = Limex::build(alloc, automaton)?;
         let streams = Streams::build(alloc, automaton)?;
+        let behind = behind_of(automaton);
         let row = row_of(alloc, automaton)?;
         Ok(PositionEngine {
             limex,
             streams,
+            behind,
             row,
         })
     }
 
-    /// The sets of the first bytes of each entry that isn't dead by then.
-    pub(crate) fn row(&self) -> &[ByteSet]
-        ensures { IsWakeRow (meaning_of_positions self.now) result.now }
+    /// How each match begins: what may stand before it, and the sets of its first bytes.
+    pub(crate) fn beginning(&self) -> Beginning<'_>
+        ensures { IsWakeRow (meaning_of_positions self.now) result.behind result.row.now }
     {
-        &self.row
+        Beginning {
+            behind: self.behind,
+            row: &self.row,
+        }
     }
 
     /// Takes a block at once; None where that doesn't serve, and then all is as before.

@@ -4,6 +4,7 @@ use Rattle.std.proofs.lemmas.Bool.{cases_eq, cases_lt}
 use Rattle.std.proofs.lemmas.Option.{get_or_from_slice_get}
 use Rattle.hs_engine.specs.Engines.{Meaning}
 use Rattle.hs_literals.specs.HitTables.{AreMarked, HitTable, has_hit}
+use Rattle.hs_base.specs.declared.context.Prev.{Prev}
 use Rattle.hs_nodes.specs.Hits.{is_hit_at}
 use Rattle.hs_nodes.specs.Left.{nowhere}
 use Rattle.hs_reports.specs.Marks.{is_marked, mark_room}
@@ -66,11 +67,11 @@ nowhere-ends hits number own none at i = ap (λ (h : ChunkHits). is_hit_at h i) 
 
 module _ {E : Type 0} (meaning : E → Meaning) (graph : Graph E) where
   -- what is left unmarked by the literals that end, and by the engines that a byte wakes
-  pub chunk-unwoken : (table : HitTable) (first mid marks bytes : List ℕ) → AreWakesSound graph.table.nodes.items graph.wakes table.count →
-      ((number k : ℕ) → has_hit table number ≡ true → IsAmongChildren graph.wakes.literal_starts.items graph.wakes.literal_nodes.items number k → is_marked mid k ≡ true) → AreMoreMarks (length graph.table.nodes.items) mid marks → AreEnginesUnwoken meaning graph.table marks bytes → (hits : List ChunkHits) →
-      ((k : ℕ) → has_hit table k ≡ false → HasNowhere hits k) → AreNodesUnwoken meaning graph.table marks hits bytes
-  chunk-unwoken table first mid marks bytes sound woken more engines hits others =
-      nodes-unwoken meaning graph.table graph.wakes table.count sound (has_hit table) hits marks bytes (λ number k hit among. more.kept k (woken number k hit among)) (λ number own none at i low. nowhere-ends hits number own (others number none) at i) engines
+  pub chunk-unwoken : (table : HitTable) (first mid marks : List ℕ) (prev : Prev) (bytes : List ℕ) → AreWakesSound graph.table.nodes.items graph.wakes table.count →
+      ((number k : ℕ) → has_hit table number ≡ true → IsAmongChildren graph.wakes.literal_starts.items graph.wakes.literal_nodes.items number k → is_marked mid k ≡ true) → AreMoreMarks (length graph.table.nodes.items) mid marks → AreEnginesUnwoken meaning graph.table marks prev bytes → (hits : List ChunkHits) →
+      ((k : ℕ) → has_hit table k ≡ false → HasNowhere hits k) → AreNodesUnwoken meaning graph.table marks hits prev bytes
+  chunk-unwoken table first mid marks prev bytes sound woken more engines hits others =
+      nodes-unwoken meaning graph.table graph.wakes table.count sound (has_hit table) hits marks prev bytes (λ number k hit among. more.kept k (woken number k hit among)) (λ number own none at i low. nowhere-ends hits number own (others number none) at i) engines
 
   -- the nodes that a walk passed over are left nowhere
   pub passed-nowhere : (marks region region' : List ℕ) (ends : List ChunkEnds) → ChangesMarked meaning graph.table marks region region' ends → (k : ℕ) → k < length graph.table.nodes.items → is_marked marks k ≡ false → node_ends ends k ≡ nowhere

@@ -67,7 +67,7 @@ pub(crate) fn take_chunk<E: BlockEngine, V: Events, L: Ledger>(
     requires idle { AreEnginesIdle E.meaning graph.now.table.engines.items }
     requires resting { AreNodesResting E.meaning graph.now.table course.old.marks region.old }
     requires unwoken { AreNodesUnwoken E.meaning graph.now.table course.old.marks hits.now
-        chunk.now.bytes.now }
+        chunk.now.prev chunk.now.bytes.now }
     ensures len { length region.new ≡ length region.old }
     ensures well { AreNodesWell E.meaning graph.now.table region.new
         (chunk.now.at + length chunk.now.bytes.now) }

@@ -9,6 +9,7 @@ ghost use Rattle.hs_nodes.specs.Walks.{AreMoreMarks, IsAmongChildren};
 ghost use Rattle.hs_nodes.specs.declared.hits.ChunkHits.{ChunkHits};
 ghost use Rattle.hs_scan.specs.Hits.{HasNowhere};
 
+use hs_base::Prev;
 use hs_block::BlockEngine;
 use hs_literals::HitRows;
 use hs_nodes::{Graph, MarkSet, wake_engines, wake_literal};
@@ -31,10 +32,11 @@ fn wake_literals<E>(graph: &Graph<E>, rows: &HitRows, marks: &mut MarkSet)
     }
 }
 
-/// Marks the nodes that a chunk wakes, in which just the literals end of which the rows tell it.
+/// Marks the nodes that a chunk behind `prev` wakes, in which just the literals end of which the rows tell it.
 pub(crate) fn wake<E: BlockEngine>(
     graph: &Graph<E>,
     rows: &HitRows,
+    prev: Prev,
     bytes: &[u8],
     words: &mut ClassWords,
     marks: &mut MarkSet,
@@ -46,8 +48,8 @@ pub(crate) fn wake<E: BlockEngine>(
     requires few { length bytes.now ≤ 512 }
     ensures more { AreMoreMarks (length graph.now.table.nodes.items) marks.old marks.new }
     ensures unwoken { (hits : List ChunkHits) → ((k : ℕ) → has_hit rows.now k ≡ false → HasNowhere hits k) →
-        AreNodesUnwoken E.meaning graph.now.table marks.new hits bytes.now }
+        AreNodesUnwoken E.meaning graph.now.table marks.new hits prev bytes.now }
 {
     wake_literals(graph, rows, marks);
-    wake_engines(graph, bytes, words, marks);
+    wake_engines(graph, prev, bytes, words, marks);
 }

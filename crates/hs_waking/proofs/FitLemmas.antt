@@ -6,15 +6,15 @@ use Rattle.hs_base.specs.Bits.{has_word_bit}
 use Rattle.hs_engine.specs.AnyBelow.{any_below}
 use Rattle.hs_base.proofs.ContextLemmas.{first_of_both, second_of_both, of_both}
 use Rattle.hs_engine.specs.Automata.{in_set}
-use Rattle.hs_waking.proofs.AnyLemmas.{any-some, none-any, some-any, true-false}
+use Rattle.hs_waking.proofs.AnyLemmas.{any-some, none-any, true-false}
 use Rattle.hs_waking.proofs.PlaceLemmas.{less, less-is}
 use Rattle.hs_waking.specs.ChunkWords.{is_open_at}
-use Rattle.hs_waking.specs.Fits.{FitsAt, FitsTo, IsRowBy}
+use Rattle.hs_waking.specs.Fits.{FitsTo, IsRowBy}
 use Rattle.hs_waking.proofs.WakeLemmas.{fits-more}
 
--- The bits of the places of a chunk are those at which so many sets fit.
-abbrev pub AreOpen : (row : ℕ → Option ByteSet) (bytes : List ℕ) (count : ℕ) (places : List ℕ) → Type 0
-AreOpen row bytes count places = (p : ℕ) → p < 512 → (has_word_bit places p ≡ true) ↔ ((p < length bytes) × FitsTo row bytes count p)
+-- The bits of the places of a chunk are those at which a row may begin and so many of its sets fit.
+abbrev pub AreOpen : (begun : ℕ → Bool) (row : ℕ → Option ByteSet) (bytes : List ℕ) (count : ℕ) (places : List ℕ) → Type 0
+AreOpen begun row bytes count places = (p : ℕ) → p < 512 → (has_word_bit places p ≡ true) ↔ ((p < length bytes) × (begun p ≡ true) × FitsTo row bytes count p)
 
 -- whether there is one, by the answer whether there is none
 
@@ -28,18 +28,17 @@ told-some answer false is some = absurd (let e : false ≡ true = sym some ∙ i
 
 -- before any set
 
-pub open-first : (row : ℕ → Option ByteSet) (bytes places : List ℕ) → ((p : ℕ) → p < 512 → has_word_bit places p ≡ nat_lt p (length bytes)) → AreOpen row bytes 0 places
-open-first row bytes places are p small = (
-  λ set. (less p (length bytes) (sym (are p small) ∙ set), λ d none inside. absurd (omega arith)),
-  λ both. are p small ∙ less-is p (length bytes) both.0,
+pub open-first : (begun : ℕ → Bool) (row : ℕ → Option ByteSet) (bytes places : List ℕ) → ((p : ℕ) → p < 512 → has_word_bit places p ≡ (nat_lt p (length bytes) && begun p)) → AreOpen begun row bytes 0 places
+open-first begun row bytes places are p small = (
+  λ set.
+      let both : (nat_lt p (length bytes) && begun p) ≡ true = sym (are p small) ∙ set in
+      (less p (length bytes) (first_of_both (nat_lt p (length bytes)) (begun p) both), second_of_both (nat_lt p (length bytes)) (begun p) both, λ d none inside. absurd (omega arith)),
+  λ all. are p small ∙ of_both (nat_lt p (length bytes)) (begun p) (less-is p (length bytes) all.0) all.1,
 )
-
-pub some-first : (bytes places : List ℕ) → 0 < length bytes → ((p : ℕ) → p < 512 → has_word_bit places p ≡ nat_lt p (length bytes)) → any_below 512 (has_word_bit places) ≡ true
-some-first bytes places within are = some-any 512 (has_word_bit places) 0 (omega arith) (are 0 (omega arith) ∙ less-is 0 (length bytes) within)
 
 -- one set more
 
-module _ (row : ℕ → Option ByteSet) (bytes : List ℕ) (few : length bytes ≤ 512) (depth : ℕ) (near : depth < 64) (places now class : List ℕ) (known : AreOpen row bytes depth places)
+module _ (begun : ℕ → Bool) (row : ℕ → Option ByteSet) (bytes : List ℕ) (few : length bytes ≤ 512) (depth : ℕ) (near : depth < 64) (places now class : List ℕ) (known : AreOpen begun row bytes depth places)
     (now_is : (p : ℕ) → p < 512 → has_word_bit now p ≡ (has_word_bit places p && has_word_bit class (p + depth)))
     (class_is : (p : ℕ) → p < 576 → has_word_bit class p ≡ is_open_at (row depth) bytes p) where
   -- within the bytes the class has a place where the set has the byte
@@ -56,41 +55,41 @@ module _ (row : ℕ → Option ByteSet) (bytes : List ℕ) (few : length bytes �
         | inr past ↦ class-behind p small past
       ]
 
-  pub open-more : AreOpen row bytes (depth + 1) now
+  pub open-more : AreOpen begun row bytes (depth + 1) now
   open-more p small = (
     λ set.
         let both : (has_word_bit places p && has_word_bit class (p + depth)) ≡ true = sym (now_is p small) ∙ set in
-        let (within, fits) = (known p small).0 (first_of_both (has_word_bit places p) (has_word_bit class (p + depth)) both) in
+        let (within, may, fits) = (known p small).0 (first_of_both (has_word_bit places p) (has_word_bit class (p + depth)) both) in
         let more : FitsTo row bytes (suc depth) p =
         fits-more row bytes depth p fits (λ inside. sym (class-within p small inside) ∙ second_of_both (has_word_bit places p) (has_word_bit class (p + depth)) both) in
-        (within, λ d below inside. more d (omega arith) inside),
-    λ both.
-        let fits : FitsTo row bytes (depth + 1) p = both.1 in
+        (within, may, λ d below inside. more d (omega arith) inside),
+    λ all.
+        let fits : FitsTo row bytes (depth + 1) p = all.2 in
         now_is p small
-        ∙ of_both (has_word_bit places p) (has_word_bit class (p + depth)) ((known p small).1 (both.0, λ d below inside. fits d (omega arith) inside)) (class-fits p small fits),
+        ∙ of_both (has_word_bit places p) (has_word_bit class (p + depth)) ((known p small).1 (all.0, all.1, λ d below inside. fits d (omega arith) inside)) (class-fits p small fits),
   )
 
 -- no place is open
-pub none-open : (row : ℕ → Option ByteSet) (bytes : List ℕ) (count : ℕ) (places : List ℕ) (n : ℕ) → length bytes ≤ 512 → AreOpen row bytes count places → any_below 512 (has_word_bit places) ≡ false → count ≤ n →
-    (p : ℕ) → p < length bytes → FitsTo row bytes n p → ⊥
-none-open row bytes count places n few known none_ part p within fits =
-    true-false (has_word_bit places p) ((known p (omega arith)).1 (within, λ d below inside. fits d (omega arith) inside)) (none-any 512 (has_word_bit places) none_ p (omega arith))
+pub none-open : (begun : ℕ → Bool) (row : ℕ → Option ByteSet) (bytes : List ℕ) (count : ℕ) (places : List ℕ) (n : ℕ) → length bytes ≤ 512 → AreOpen begun row bytes count places → any_below 512 (has_word_bit places) ≡ false → count ≤ n →
+    (p : ℕ) → p < length bytes → begun p ≡ true → FitsTo row bytes n p → ⊥
+none-open begun row bytes count places n few known none_ part p within may fits =
+    true-false (has_word_bit places p) ((known p (omega arith)).1 (within, may, λ d below inside. fits d (omega arith) inside)) (none-any 512 (has_word_bit places) none_ p (omega arith))
 
 -- some place is open
-pub some-open : (row : ℕ → Option ByteSet) (bytes : List ℕ) (n : ℕ) (places : List ℕ) → AreOpen row bytes n places → any_below 512 (has_word_bit places) ≡ true →
-    ((p : ℕ) → p < length bytes → FitsTo row bytes n p → ⊥) → ⊥
-some-open row bytes n places known some none_ =
+pub some-open : (begun : ℕ → Bool) (row : ℕ → Option ByteSet) (bytes : List ℕ) (n : ℕ) (places : List ℕ) → AreOpen begun row bytes n places → any_below 512 (has_word_bit places) ≡ true →
+    ((p : ℕ) → p < length bytes → begun p ≡ true → FitsTo row bytes n p → ⊥) → ⊥
+some-open begun row bytes n places known some none_ =
     let (p, below, set) = any-some 512 (has_word_bit places) some in
-    let (within, fits) = (known p below).0 set in
-    none_ p within fits
+    let (within, may, fits) = (known p below).0 set in
+    none_ p within may fits
 
 -- a row by the numbers of its sets
 
-pub row-fits : (numbers : List ℕ) (sets row : List ByteSet) (bytes : List ℕ) (i : ℕ) → IsRowBy numbers sets row → FitsTo (λ d. slice_get sets (get_or numbers d 0)) bytes (length numbers) i → FitsAt row bytes i
+pub row-fits : (numbers : List ℕ) (sets row : List ByteSet) (bytes : List ℕ) (i : ℕ) → IsRowBy numbers sets row → FitsTo (λ d. slice_get sets (get_or numbers d 0)) bytes (length numbers) i → FitsTo (slice_get row) bytes (length row) i
 row-fits numbers sets row bytes i by fits d below inside =
     let within : d < length numbers = omega (arith, by.count) in
     ap (λ o. in_set o (get_or bytes (i + d) 0)) (by.are d within) ∙ fits d within inside
 
-pub fits-row : (numbers : List ℕ) (sets row : List ByteSet) (bytes : List ℕ) (i : ℕ) → IsRowBy numbers sets row → FitsAt row bytes i → FitsTo (λ d. slice_get sets (get_or numbers d 0)) bytes (length numbers) i
+pub fits-row : (numbers : List ℕ) (sets row : List ByteSet) (bytes : List ℕ) (i : ℕ) → IsRowBy numbers sets row → FitsTo (slice_get row) bytes (length row) i → FitsTo (λ d. slice_get sets (get_or numbers d 0)) bytes (length numbers) i
 fits-row numbers sets row bytes i by fits d below inside =
     sym (ap (λ o. in_set o (get_or bytes (i + d) 0)) (by.are d below)) ∙ fits d (omega (arith, by.count)) inside

@@ -6,3 +6,4 @@ mod LevelLemmas
 mod WordLemmas
 mod FitLemmas
 pub mod WakerLemmas
+pub mod PrevLemmas

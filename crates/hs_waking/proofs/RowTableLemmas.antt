@@ -7,6 +7,11 @@ use Rattle.std.proofs.lemmas.Bool.{cases_lt}
 use Rattle.std.proofs.lemmas.Option.{slice_get-get_or, slice_get_within}
 use Rattle.hs_base.specs.declared.byte_set.ByteSet.{ByteSet}
 use Rattle.hs_engine.proofs.AgreementLemmas.{get-append}
+use Rattle.hs_base.specs.Assertions.{line_feed, is_word_byte}
+use Rattle.hs_base.specs.Contexts.{prev_by}
+use Rattle.hs_waking.specs.declared.wake_row.WakeRow.{WakeRow}
+use Rattle.hs_waking.specs.Fits.{IsBehindBy}
+use Rattle.hs_waking.specs.PrevSets.{has_prev, is_each}
 use Rattle.hs_waking.specs.RowTables.{Extends, IsCutRow}
 
 -- sets with equal words are the same
@@ -59,3 +64,12 @@ cut-kept old new own numbers d kept is = record {
       let (set, here) = there own e (omega (arith, low, is.few)) in
       kept (slice_index numbers e) set (is.are e low ∙ here) ∙ sym here;
 }
+
+-- where a row may begin is told by the number of the same set
+pub behind-kept : (begun row : WakeRow) (old new : List ByteSet) → row.behind ≡ begun.behind → row.behind_number ≡ begun.behind_number → Extends old new → IsBehindBy begun old → IsBehindBy row new
+behind-kept begun row old new behind number kept is few =
+    let (bytes, at, are) = is (ap is_each (sym behind) ∙ few) in (
+      bytes,
+      ap (slice_get new) number ∙ kept begun.behind_number bytes at,
+      λ b below. are b below ∙ ap (λ s. has_prev s (prev_by (nat_eq b line_feed) (is_word_byte b))) (sym behind),
+    )

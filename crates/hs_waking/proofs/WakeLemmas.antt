@@ -7,6 +7,9 @@ use Rattle.std.proofs.lemmas.List.{append-nil, append_assoc, length-replicate, l
 use Rattle.std.proofs.Math.Seq.{take-suc}
 use Rattle.hs_base.specs.declared.byte_set.ByteSet.{ByteSet}
 use Rattle.hs_base.specs.declared.context.Next.{Next}
+use Rattle.hs_base.specs.declared.context.Prev.{Prev}
+use Rattle.hs_bits.specs.BlockContexts.{prev_before}
+use Rattle.hs_engine.specs.Between.{between}
 use Rattle.hs_base.specs.Bits.{has_bit}
 use Rattle.hs_base.specs.Contexts.{Context, class_of, context_of, prev_at}
 use Rattle.hs_base.specs.Fields.{Leaves}
@@ -20,9 +23,12 @@ use Rattle.hs_engine.specs.Engines.{Meaning}
 use Rattle.hs_engine.specs.Tables.{Runs}
 use Rattle.hs_engine.proofs.AgreementLemmas.{leaves-accepting, reached-steps}
 use Rattle.hs_engine.proofs.AutomatonLemmas.{start-clear}
+use Rattle.hs_bits.proofs.ContextLemmas.{prev-there}
 use Rattle.hs_waking.proofs.AnyLemmas.{true-false}
 use Rattle.hs_waking.specs.Fits.{FitsNowhere, FitsTo}
-use Rattle.hs_waking.specs.Rows.{IsAtLevel, IsRowOf, RunsByRow}
+use Rattle.hs_waking.specs.declared.prev_set.PrevSet.{PrevSet}
+use Rattle.hs_waking.specs.PrevSets.{has_prev}
+use Rattle.hs_waking.specs.Rows.{IsAtLevel, IsBehindOf, IsRowOf, RunsByRow}
 use Rattle.hs_waking.specs.WakeRows.{IsWakeRow}
 
 -- one more set has its byte
@@ -35,41 +41,47 @@ fits-more row bytes n p fits last d below inside =
           subst (λ k. in_set (row k) (get_or bytes (p + k) 0) ≡ true) same (last (omega arith))
     ]
 
--- The position is one of a level whose bytes end at a place, and not of the last level; the row fits up to there.
-record Stands (a : Automaton) (row : List ByteSet) (bytes : List ℕ) (at y : ℕ) : Type 0 where
+-- The position is one of a level whose bytes end at a place, and not of the last level; the row may begin where these begin, and fits up
+-- to there.
+record Stands (a : Automaton) (begins : ℕ → Bool) (row : List ByteSet) (bytes : List ℕ) (at y : ℕ) : Type 0 where
   level : ℕ
   place : ℕ
   behind : place + suc level ≡ at
+  begun : begins place ≡ true
   at_level : IsAtLevel a level y
   further : suc level < length row
   fits : FitsTo (slice_get row) bytes (suc level) place
 
-module _ (a : Automaton) (row : List ByteSet) (is : IsRowOf a row) (bytes : List ℕ) (nowhere : FitsNowhere row bytes) where
+module _ (a : Automaton) (behind : PrevSet) (row : List ByteSet) (is : IsRowOf a row) (before_is : IsBehindOf a behind) (prev : Prev) (bytes : List ℕ) (nowhere : FitsNowhere behind row prev bytes) where
+  abbrev Begins : ℕ → Bool
+  Begins i = has_prev behind (prev_before prev bytes i)
+
   -- where it has fitted up to the last level it would fit
-  stands : (i y level place : ℕ) → i < length bytes → place + suc level ≡ suc i → IsAtLevel a level y → level < length row → FitsTo (slice_get row) bytes (suc level) place → Stands a row bytes (suc i) y
-  stands i y level place within behind at_level below fits =
+  stands : (i y level place : ℕ) → i < length bytes → place + suc level ≡ suc i → Begins place ≡ true → IsAtLevel a level y → level < length row → FitsTo (slice_get row) bytes (suc level) place → Stands a Begins row bytes (suc i) y
+  stands i y level place within to begun at_level below fits =
       elim (cases_lt (suc level) (length row)) [
-        | inl further ↦ record { level = level; place = place; behind = behind; at_level = at_level; further = further; fits = fits }
-        | inr last ↦ absurd (nowhere place (omega arith) (λ d less inside. fits d (omega arith) inside))
+        | inl further ↦ record { level = level; place = place; behind = to; begun = begun; at_level = at_level; further = further; fits = fits }
+        | inr last ↦ absurd (nowhere place (omega arith) (begun, λ d less inside. fits d (omega arith) inside))
       ]
 
-  begins : (i y : ℕ) (c : Context) → i < length bytes → get_or bytes i 0 < 256 → enters a y c ≡ true → takes a y (get_or bytes i 0) ≡ true → Stands a row bytes (suc i) y
-  begins i y c within small enter member =
+  begins : (i y : ℕ) → i < length bytes → get_or bytes i 0 < 256 → enters a y (between (prev_before prev bytes i) (class_of (get_or bytes i 0))) ≡ true → takes a y (get_or bytes i 0) ≡ true → Stands a Begins row bytes (suc i) y
+  begins i y within small enter member =
+      let c : Context = between (prev_before prev bytes i) (class_of (get_or bytes i 0)) in
       let first : in_set (slice_get row 0) (get_or bytes i 0) ≡ true = is.sets 0 y (get_or bytes i 0) is.some (c, enter) small member in
       let place : i ≡ i + 0 = omega arith in
-      stands i y 0 i within (omega arith) (c, enter) is.some
+      stands i y 0 i within (omega arith) (before_is y (get_or bytes i 0) (prev_before prev bytes i) small enter member) (c, enter) is.some
       (fits-more (slice_get row) bytes 0 i (λ d below inside. absurd (omega arith)) (λ inside. subst (λ p. in_set (slice_get row 0) (get_or bytes p 0) ≡ true) place first))
 
-  goes-on : (i x y : ℕ) (c : Context) → i < length bytes → get_or bytes i 0 < 256 → Stands a row bytes i x → follows a x y c ≡ true → takes a y (get_or bytes i 0) ≡ true → Stands a row bytes (suc i) y
+  goes-on : (i x y : ℕ) (c : Context) → i < length bytes → get_or bytes i 0 < 256 → Stands a Begins row bytes i x → follows a x y c ≡ true → takes a y (get_or bytes i 0) ≡ true → Stands a Begins row bytes (suc i) y
   goes-on i x y c within small before follow member =
       let level : ℕ = suc before.level in
       let at_level : IsAtLevel a level y = (x, c, before.at_level, follow) in
       let last : in_set (slice_get row level) (get_or bytes i 0) ≡ true = is.sets level y (get_or bytes i 0) before.further at_level small member in
       let place : i ≡ before.place + level = sym before.behind in
-      stands i y level before.place within (omega (arith, before.behind)) at_level before.further
+      stands i y level before.place within (omega (arith, before.behind)) before.begun at_level before.further
       (fits-more (slice_get row) bytes level before.place before.fits (λ inside. subst (λ p. in_set (slice_get row level) (get_or bytes p 0) ≡ true) place last))
 
-  module _ (small : EachIndex bytes (λ k. slice_index bytes k < 256)) (tree : Tree) (runs : Runs a tree) (u : List ℕ) (entered : List Bool) (len : length entered ≡ length u)
+  module _ (small : EachIndex bytes (λ k. slice_index bytes k < 256)) (tree : Tree) (runs : Runs a tree) (u : List ℕ) (entered : List Bool) (len : length entered ≡ length u) (last : prev ≡ prev_at u (length u))
       (unreached : (y : ℕ) → IsReached (write_out tree) u entered y → ⊥) where
     abbrev Before : ℕ → List ℕ
     Before i = u ++ take i bytes
@@ -90,18 +102,20 @@ module _ (a : Automaton) (row : List ByteSet) (is : IsRowOf a row) (bytes : List
         ap (λ n. entered ++ replicate n true) (sym one)
         ∙ (ap (λ v. entered ++ v) (sym (replicate-append-replicate i 1 true)) ∙ sym (append_assoc entered (replicate i true) (true ∷ [])))
 
-    of-steps : (i : ℕ) → i < length bytes → ((x : ℕ) → IsReached (write_out tree) (Before i) (Entered i) x → Stands a row bytes i x) → (y : ℕ) →
-        StepsTo (write_out tree) (Before i) (Entered i) (get_or bytes i 0) true y → Stands a row bytes (suc i) y
+    of-steps : (i : ℕ) → i < length bytes → ((x : ℕ) → IsReached (write_out tree) (Before i) (Entered i) x → Stands a Begins row bytes i x) → (y : ℕ) →
+        StepsTo (write_out tree) (Before i) (Entered i) (get_or bytes i 0) true y → Stands a Begins row bytes (suc i) y
     of-steps i within known y (steps_in member now enter) =
         let b : ℕ = get_or bytes i 0 in
         let here : Context = context_of (Before i) (class_of b) in
-        begins i y here within (small i within) (runs.tables.enters y here ∙ enter) ((runs.tables.sets y b (small i within)).1 member)
+        begins i y within (small i within)
+        (subst (λ p. enters a y (between p (class_of b)) ≡ true) (sym (prev-there prev u bytes i last (omega (arith, within)))) (runs.tables.enters y here ∙ enter))
+        ((runs.tables.sets y b (small i within)).1 member)
     of-steps i within known y (steps_on x member reached follow) =
         let b : ℕ = get_or bytes i 0 in
         let here : Context = context_of (Before i) (class_of b) in
         goes-on i x y here within (small i within) (known x reached) (runs.tables.follows x y (prev_at (Before i) (length (Before i))) b ∙ follow) ((runs.tables.sets y b (small i within)).1 member)
 
-    reached-stands : (i : ℕ) → i ≤ length bytes → (y : ℕ) → IsReached (write_out tree) (Before i) (Entered i) y → Stands a row bytes i y
+    reached-stands : (i : ℕ) → i ≤ length bytes → (y : ℕ) → IsReached (write_out tree) (Before i) (Entered i) y → Stands a Begins row bytes i y
     reached-stands zero within y reached =
         absurd (unreached y
         (subst (λ e. IsReached (write_out tree) u e y) (append-nil entered)
@@ -117,9 +131,9 @@ module _ (a : Automaton) (row : List ByteSet) (is : IsRowOf a row) (bytes : List
     unreached-behind : (y : ℕ) → IsReached (write_out tree) (u ++ bytes) (entered ++ replicate (length bytes) true) y → ⊥
     unreached-behind y reached =
         let all : bytes ≡ take (length bytes) bytes = sym (take_all (length bytes) bytes (omega arith)) in
-        let last = reached-stands (length bytes) (omega arith) y
+        let stood = reached-stands (length bytes) (omega arith) y
         (subst (λ v. IsReached (write_out tree) (u ++ v) (entered ++ replicate (length bytes) true) y) all reached) in
-        nowhere last.place (omega (arith, last.behind)) (λ d below inside. last.fits d (omega (arith, last.behind)) inside)
+        nowhere stood.place (omega (arith, stood.behind)) (stood.begun, λ d below inside. stood.fits d (omega (arith, stood.behind)) inside)
 
     left-nowhere : (i : ℕ) → i ≤ length bytes → (next : Next) → Leaves tree (Before i) (Entered i) next → ⊥
     left-nowhere i within next leaves =
@@ -138,18 +152,18 @@ rests-behind r region w entries start unreached y = (
   λ reached. absurd (unreached y reached),
 )
 
-pub wake-row : (m : Meaning) (row : List ByteSet) → RunsByRow m row → IsWakeRow m row
-wake-row m row by region bytes start small nowhere = record {
-  stays = λ tree u entered told len field.
-      let (a, is, runs) = by.told tree told in
+pub wake-row : (m : Meaning) (behind : PrevSet) (row : List ByteSet) → RunsByRow m behind row → IsWakeRow m behind row
+wake-row m behind row by region bytes prev start small nowhere = record {
+  stays = λ tree u entered told len last field.
+      let (a, is, before, runs) = by.told tree told in
       let begun : IsField region (write_out tree) [] [] = (by.field region tree [] [] told).0 (start tree told) in
       let here : IsField region (write_out tree) u entered = (by.field region tree u entered told).0 field in
       (by.field region tree (u ++ bytes) (entered ++ replicate (length bytes) true) told).1
       (rests-behind (write_out tree) region (u ++ bytes) (entered ++ replicate (length bytes) true) begun
-      (unreached-behind a row is bytes nowhere small tree runs u entered len (unreached-start (write_out tree) region u entered begun here)));
-  leaves_nothing = λ tree u entered told len field.
-      let (a, is, runs) = by.told tree told in
+      (unreached-behind a behind row is before prev bytes nowhere small tree runs u entered len last (unreached-start (write_out tree) region u entered begun here)));
+  leaves_nothing = λ tree u entered told len last field.
+      let (a, is, before, runs) = by.told tree told in
       let begun : IsField region (write_out tree) [] [] = (by.field region tree [] [] told).0 (start tree told) in
       let here : IsField region (write_out tree) u entered = (by.field region tree u entered told).0 field in
-      λ i some. left-nowhere a row is bytes nowhere small tree runs u entered len (unreached-start (write_out tree) region u entered begun here) i;
+      λ i some. left-nowhere a behind row is before prev bytes nowhere small tree runs u entered len last (unreached-start (write_out tree) region u entered begun here) i;
 }

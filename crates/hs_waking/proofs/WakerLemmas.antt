@@ -1,13 +1,17 @@
 -- The bytes that wake an engine as a row of one set.
-use Rattle.std.proofs.Common.{◌≡◌, ℕ, zero, suc, ◌+◌, ◌<◌, ◌≤◌, Bool, true, false, ◌||◌, List, [], ◌∷◌, ◌++◌, length, take, replicate, get_or, refl, sym, ap, subst, ◌∙◌, arith, length-append}
+use Rattle.std.proofs.Common.{◌≡◌, ℕ, zero, suc, ◌+◌, ◌<◌, ◌≤◌, Bool, true, false, ◌||◌, List, [], ◌∷◌, ◌++◌, length, take, replicate, get_or, slice_get, refl, sym, ap, subst, ◌∙◌, arith, length-append}
 use Rattle.std.specs.Prelude.{EachIndex, slice_index}
 use Rattle.std.proofs.lemmas.List.{append-nil, append_assoc, length-replicate, length-take-le, replicate-append-replicate, take_all}
 use Rattle.std.proofs.Math.Seq.{take-suc}
 use Rattle.hs_base.specs.declared.byte_set.ByteSet.{ByteSet}
+use Rattle.hs_base.specs.declared.context.Prev.{Prev}
+use Rattle.hs_bits.specs.BlockContexts.{prev_before}
+use Rattle.hs_waking.specs.declared.prev_set.PrevSet.{PrevSet}
+use Rattle.hs_waking.specs.PrevSets.{has_prev}
 use Rattle.hs_base.specs.ByteSets.{has}
 use Rattle.hs_base.specs.Trees.{Tree}
 use Rattle.hs_engine.specs.Engines.{Meaning, AreWakers, IsAsleep, IsStart}
-use Rattle.hs_waking.specs.Fits.{FitsAt, FitsNowhere}
+use Rattle.hs_waking.specs.Fits.{FitsNowhere, FitsTo}
 use Rattle.hs_waking.specs.WakeRows.{IsWakeRow}
 
 none-or : (b : Bool) → (b ≡ true → ⊥) → b ≡ false
@@ -18,10 +22,11 @@ either-true : (b : Bool) → (b || true) ≡ true
 either-true true = refl
 either-true false = refl
 
-module _ (m : Meaning) (set : ByteSet) (wakers : AreWakers m set) (region bytes : List ℕ) (starts : IsStart m region) (small : EachIndex bytes (λ k. slice_index bytes k < 256)) (nowhere : FitsNowhere (set ∷ []) bytes) where
+module _ (m : Meaning) (behind : PrevSet) (set : ByteSet) (each : (prev : Prev) → has_prev behind prev ≡ true) (wakers : AreWakers m set) (region bytes : List ℕ) (prev : Prev) (starts : IsStart m region)
+    (small : EachIndex bytes (λ k. slice_index bytes k < 256)) (nowhere : FitsNowhere behind (set ∷ []) prev bytes) where
   outside : (i : ℕ) → i < length bytes → has set (get_or bytes i 0) ≡ false
-  outside i low = none-or (has set (get_or bytes i 0)) (λ is. nowhere i low (fits-here is)) where
-    fits-here : has set (get_or bytes i 0) ≡ true → FitsAt (set ∷ []) bytes i
+  outside i low = none-or (has set (get_or bytes i 0)) (λ is. nowhere i low (each (prev_before prev bytes i), fits-here is)) where
+    fits-here : has set (get_or bytes i 0) ≡ true → FitsTo (slice_get (set ∷ [])) bytes 1 i
     fits-here is zero below inside = let same : i ≡ i + 0 = omega arith in subst (λ n. has set (get_or bytes n 0) ≡ true) same is
     fits-here is (suc d) below inside = absurd (omega arith)
 
@@ -41,13 +46,13 @@ module _ (m : Meaning) (set : ByteSet) (wakers : AreWakers m set) (region bytes 
         (subst (λ es. m.field region tree ((u ++ take i bytes) ++ get_or bytes i 0 ∷ []) es) (append_assoc entered (replicate i true) (true ∷ []) ∙ ap (λ v. entered ++ v) (replicate-append-replicate i 1 true ∙ ap (λ n. replicate n true) one))
         (subst (λ b. m.field region tree ((u ++ take i bytes) ++ get_or bytes i 0 ∷ []) ((entered ++ replicate i true) ++ b ∷ [])) (either-true m.always) next))
 
-pub waker-row : (m : Meaning) (set : ByteSet) → AreWakers m set → IsWakeRow m (set ∷ [])
-waker-row m set wakers region bytes starts small nowhere = record {
-  stays = λ tree u entered told len field.
+pub waker-row : (m : Meaning) (behind : PrevSet) (set : ByteSet) → ((prev : Prev) → has_prev behind prev ≡ true) → AreWakers m set → IsWakeRow m behind (set ∷ [])
+waker-row m behind set each wakers region bytes prev starts small nowhere = record {
+  stays = λ tree u entered told len before field.
       subst (λ v. m.field region tree (u ++ v) (entered ++ replicate (length bytes) true)) (take_all (length bytes) bytes (omega arith))
-      (stays-to m set wakers region bytes starts small nowhere tree u entered told len field (length bytes) (omega arith));
-  leaves_nothing = λ tree u entered told len field i some within next.
-      (sleeps m set wakers region bytes starts small nowhere 0 some).leaves_nothing tree (u ++ take i bytes) (entered ++ replicate i true) told
-      (same-len m set wakers region bytes starts small nowhere tree u entered told len field i within)
-      (stays-to m set wakers region bytes starts small nowhere tree u entered told len field i within) next;
+      (stays-to m behind set each wakers region bytes prev starts small nowhere tree u entered told len field (length bytes) (omega arith));
+  leaves_nothing = λ tree u entered told len before field i some within next.
+      (sleeps m behind set each wakers region bytes prev starts small nowhere 0 some).leaves_nothing tree (u ++ take i bytes) (entered ++ replicate i true) told
+      (same-len m behind set each wakers region bytes prev starts small nowhere tree u entered told len field i within)
+      (stays-to m behind set each wakers region bytes prev starts small nowhere tree u entered told len field i within) next;
 }

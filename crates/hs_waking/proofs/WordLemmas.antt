@@ -1,5 +1,5 @@
 -- Words of a chunk.
-use Rattle.std.proofs.Common.{◌≡◌, ◌≢◌, ◌↔◌, ℕ, ◌+◌, ◌-◌, ◌*◌, ◌/◌, ◌%◌, ◌^◌, ◌<◌, ◌≤◌, Bool, true, false, not, ◌&&◌, ◌||◌, nat_lt, List, length, get_or, set, take, drop, replicate, Some, slice_get, eqb, bit_or, bit_and, refl, sym, ap, subst, ◌∙◌, inl, inr, arith}
+use Rattle.std.proofs.Common.{◌≡◌, ◌≢◌, ◌↔◌, ◌⊎◌, [], ◌∷◌, zero, suc, ℕ, ◌+◌, ◌-◌, ◌*◌, ◌/◌, ◌%◌, ◌^◌, ◌<◌, ◌≤◌, Bool, true, false, not, ◌&&◌, ◌||◌, nat_lt, List, length, get_or, set, take, drop, replicate, Some, slice_get, eqb, bit_or, bit_and, refl, sym, ap, subst, ◌∙◌, inl, inr, arith}
 use Rattle.std.specs.Prelude.{nat_le, min}
 use Rattle.std.specs.Int.{bit_at}
 use Rattle.std.proofs.lemmas.Bool.{cases_eq, cases_lt, eq-eqb, ne_eqb, lt-ltb, le-ltb, lt-leb, le-leb}
@@ -13,7 +13,7 @@ use Rattle.hs_engine.specs.AnyBelow.{any_below}
 use Rattle.hs_waking.proofs.AnyLemmas.{any-some, none-any, true-false, true-or-false}
 use Rattle.hs_base.proofs.ByteSetLemmas.{bit-not}
 use Rattle.hs_bits.proofs.WordLemmas.{or-none, words-zero}
-use Rattle.hs_waking.specs.PlaceBits.{place_bit}
+use Rattle.hs_waking.specs.PlaceBits.{is_behind, place_bit}
 use Rattle.hs_waking.proofs.PlaceLemmas.{bit-both, bit-either, bit-none, bit-shifted, bit-up}
 use Rattle.hs_waking.proofs.PlaceLemmas.{no-bits, past-word}
 use Rattle.hs_waking.specs.ChunkWords.{is_open_at}
@@ -268,3 +268,28 @@ unfolding has_word_bit
 all-ones p end all below =
     ap (λ w. eqb (bit_at w (p % 64)) 1) (get_or-replicate 8 (p / 64) 18446744073709551615 0 (omega arith))
     ∙ (ap (λ b. eqb b 1) (bit_at_ones 64 (p % 64) (omega arith)) ∙ sym (lt-ltb p end (omega arith)))
+
+-- the words of the places before
+
+pub later-first : (word : ℕ) (first : Bool) (class : List ℕ) (p : ℕ) → p + 63 < 64 → ((first ≡ true) × (word ≡ 9223372036854775808)) ⊎ ((first ≡ false) × (word ≡ 0)) →
+    has_word_bit (word ∷ 0 ∷ 0 ∷ 0 ∷ 0 ∷ 0 ∷ 0 ∷ 0 ∷ 0 ∷ []) (p + 63) ≡ is_behind first class p
+unfolding has_word_bit
+later-first word first class zero low (inl (is, top)) = ap (λ w. eqb (bit_at w 63) 1) top ∙ sym is
+later-first word first class zero low (inr (not, none)) = ap (λ w. eqb (bit_at w 63) 1) none ∙ sym not
+later-first word first class (suc p) low either = absurd (omega arith)
+
+pub later-more : (words class : List ℕ) (first : Bool) (n : ℕ) → 1 ≤ n → n < length words → ((p : ℕ) → p + 63 < 64 * n → has_word_bit words (p + 63) ≡ is_behind first class p) →
+    (p : ℕ) → p + 63 < 64 * (n + 1) → has_word_bit (set words n (get_or class (n - 1) 0)) (p + 63) ≡ is_behind first class p
+unfolding place_bit has_word_bit
+later-more words class first n some within known zero low = bit-kept words n (get_or class (n - 1) 0) 63 (λ same. absurd (omega (arith, some))) ∙ known 0 (omega (arith, some))
+later-more words class first n some within known (suc p) low =
+    elim (cases_lt (suc p + 63) (64 * n)) [
+      | inl before ↦ bit-kept words n (get_or class (n - 1) 0) (suc p + 63) (λ same. absurd (omega arith)) ∙ known (suc p) before
+      | inr past ↦
+          let here : (suc p + 63) / 64 ≡ n = omega arith in
+          let word : n - 1 ≡ p / 64 = omega arith in
+          let bit : (suc p + 63) % 64 ≡ p % 64 = omega arith in
+          bit-set words n (get_or class (n - 1) 0) (suc p + 63) within here
+          ∙ (ap (λ k. eqb (bit_at (get_or class k 0) ((suc p + 63) % 64)) 1) word
+          ∙ (ap (λ k. eqb (bit_at (get_or class (p / 64) 0) k) 1) bit ∙ sym (row-bit class p)))
+    ]

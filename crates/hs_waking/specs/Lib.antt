@@ -1,3 +1,4 @@
+pub mod PrevSets
 pub mod Fits
 pub mod Rows
 pub mod WakeRows

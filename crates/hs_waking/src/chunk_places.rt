@@ -3,9 +3,9 @@
 ghost use Rattle.std.specs.Prelude.{◌≡◌, ℕ, ◌+◌, ◌-◌, ◌<◌, ◌≤◌, ◌&&◌, nat_lt, not, length};
 ghost use Rattle.hs_base.specs.Bits.{has_word_bit};
 ghost use Rattle.hs_engine.specs.AnyBelow.{any_below};
-ghost use Rattle.hs_waking.specs.PlaceBits.{place_bit};
+ghost use Rattle.hs_waking.specs.PlaceBits.{is_behind, place_bit};
 
-use crate::class_words::{CHUNK_WORDS, MAX_CHUNK};
+use crate::class_words::{CHUNK_WORDS, CLASS_WORDS, MAX_CHUNK};
 use crate::low_places::low_places;
 use hs_bits::WORD_BITS;
 
@@ -49,6 +49,31 @@ pub(crate) fn keep_open(places: &mut Places, class: &[u64], distance: usize)
     for word in 0..CHUNK_WORDS {
         places[word] &= moved(class[word], class[word + 1], distance);
     }
+}
+
+/// Keeps the places behind those of which the class has the bit set, and the first place, if that is wanted.
+#[inline(always)]
+pub(crate) fn keep_behind(places: &mut Places, class: &[u64], first: bool)
+    requires class { length class.now ≡ 9 }
+    ensures { (p : ℕ) → p < 512 →
+        has_word_bit places.new p ≡ (has_word_bit places.old p && is_behind first class.now p) }
+{
+    let before = one_later(class, first);
+    keep_open(places, &before, WORD_BITS - 1);
+}
+
+/// The words with each bit 64 places on, and that of the place before these.
+#[inline(always)]
+fn one_later(class: &[u64], first: bool) -> [u64; CLASS_WORDS]
+    requires class { length class.now ≡ 9 }
+    ensures { (p : ℕ) → p < 512 → has_word_bit result (p + 63) ≡ is_behind first class.now p }
+{
+    let mut words = [0u64; CLASS_WORDS];
+    words[0] = if first { 1 << (WORD_BITS - 1) } else { 0 };
+    for word in 1..CLASS_WORDS {
+        words[word] = class[word - 1];
+    }
+    words
 }
 
 /// The 64 bits that begin so many bits on in the first of two words.

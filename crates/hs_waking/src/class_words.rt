@@ -22,7 +22,7 @@ pub const MAX_CHUNK: usize = 512;
 /// How many words hold a bit for each of them.
 pub(crate) const CHUNK_WORDS: usize = MAX_CHUNK / WORD_BITS;
 /// How many words a set has: behind those of the chunk one more, all of whose places lie behind the last byte.
-const CLASS_WORDS: usize = CHUNK_WORDS + 1;
+pub(crate) const CLASS_WORDS: usize = CHUNK_WORDS + 1;
 
 /// At which places of a chunk the bytes of each set of a table stand: 72 bytes and a bit a set, taken once. Its caller
 /// keeps it from chunk to chunk.

@@ -10,38 +10,53 @@
 //! fits            . 1 . . . . . 1
 //! ```
 
-ghost use Rattle.std.specs.Prelude.{◌≡◌, ◌↔◌, ℕ, ◌<◌, ◌≤◌, false, List, length, slice_index};
+ghost use Rattle.std.specs.Prelude.{◌≡◌, ◌↔◌, ℕ, ◌<◌, ◌≤◌, ◌&&◌, nat_lt, false, List, length, slice_index};
 ghost use Rattle.hs_base.specs.declared.byte_set.ByteSet.{ByteSet};
+ghost use Rattle.hs_base.specs.Bits.{has_word_bit};
+ghost use Rattle.hs_bits.specs.BlockContexts.{prev_before};
 ghost use Rattle.hs_waking.specs.ChunkWords.{AreOfChunk};
-ghost use Rattle.hs_waking.specs.Fits.{FitsNowhere, IsRowBy};
+ghost use Rattle.hs_waking.specs.Fits.{FitsNowhere, IsBehindBy, IsRowBy, row_numbers};
+ghost use Rattle.hs_waking.specs.PrevSets.{has_prev};
 
-use crate::chunk_places::{is_none, keep_open, places_before};
+use crate::chunk_places::{Places, is_none, keep_behind, keep_open, places_before};
 use crate::class_words::ClassWords;
-use hs_base::ByteSet;
+use crate::wake_row::WakeRow;
+use hs_base::{ByteSet, Prev};
 
-/// Whether the row of the sets of these numbers fits at some place of a chunk; at its end, as far as it goes. The words
-/// are those of this chunk so far as they are known.
+/// Whether the row fits at some place of a chunk behind `prev`; at its end, as far as it goes. The words are those of
+/// this chunk so far as they are known.
 ///
 /// The places at which the sets so far have their bytes are kept for all places at once, and it ends with the first set
 /// that leaves none. Block by block, with an end for each block, took two to three times as long.
-pub fn fits(row: &[u16], sets: &[ByteSet], words: &mut ClassWords, bytes: &[u8]) -> bool
-    requires numbers { (d : ℕ) → d < length row.now → slice_index row.now d < length sets.now }
-    requires short { length row.now ≤ 64 }
+pub fn fits(
+    row: &WakeRow,
+    sets: &[ByteSet],
+    words: &mut ClassWords,
+    prev: Prev,
+    bytes: &[u8],
+) -> bool
+    requires numbers { (d : ℕ) → d < length (row_numbers row.now) →
+        slice_index (row_numbers row.now) d < length sets.now }
+    requires behind { IsBehindBy row.now sets.now }
     requires room { length sets.now ≤ words.old.count }
     requires few { length bytes.now ≤ 512 }
     requires chunk { AreOfChunk words.old sets.now bytes.now }
     ensures count { words.new.count ≡ words.old.count }
     ensures chunk { AreOfChunk words.new sets.now bytes.now }
-    ensures fits { (sets_of_row : List ByteSet) →
-        IsRowBy row.now sets.now sets_of_row →
-        (result ≡ false) ↔ FitsNowhere sets_of_row bytes.now }
+    ensures fits { (own : List ByteSet) →
+        IsRowBy (row_numbers row.now) sets.now own →
+        (result ≡ false) ↔ FitsNowhere row.now.behind own prev bytes.now }
 {
-    if bytes.is_empty() {
+    if row.behind.is_start() && !row.behind.contains(prev) {
         return false;
     }
-    let mut places = places_before(bytes.len());
-    for depth in 0..row.len() {
-        let number = row[depth] as usize;
+    let numbers = row.numbers();
+    let mut places = begun_places(row, sets, words, prev, bytes);
+    if is_none(&places) {
+        return false;
+    }
+    for depth in 0..numbers.len() {
+        let number = numbers[depth] as usize;
         words.learn(sets, number, bytes);
         keep_open(&mut places, words.row(number), depth);
         if is_none(&places) {
@@ -49,4 +64,32 @@ pub fn fits(row: &[u16], sets: &[ByteSet], words: &mut ClassWords, bytes: &[u8])
         }
     }
     true
+}
+
+/// The places of a chunk behind `prev` at which the row may begin.
+#[inline(always)]
+fn begun_places(
+    row: &WakeRow,
+    sets: &[ByteSet],
+    words: &mut ClassWords,
+    prev: Prev,
+    bytes: &[u8],
+) -> Places
+    requires behind { IsBehindBy row.now sets.now }
+    requires room { length sets.now ≤ words.old.count }
+    requires few { length bytes.now ≤ 512 }
+    requires chunk { AreOfChunk words.old sets.now bytes.now }
+    ensures count { words.new.count ≡ words.old.count }
+    ensures chunk { AreOfChunk words.new sets.now bytes.now }
+    ensures places { (p : ℕ) → p < 512 → has_word_bit result p ≡
+        (nat_lt p (length bytes.now) && has_prev row.now.behind (prev_before prev bytes.now p)) }
+{
+    let mut places = places_before(bytes.len());
+    if row.behind.is_all() {
+        return places;
+    }
+    let number = row.behind_number as usize;
+    words.learn(sets, number, bytes);
+    keep_behind(&mut places, words.row(number), row.behind.contains(prev));
+    places
 }

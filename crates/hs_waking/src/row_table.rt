@@ -1,8 +1,13 @@
 //! The rows of engines by the numbers of their sets, each of which is kept once.
 
-ghost use Rattle.std.specs.Prelude.{◌≡◌, ◌<◌, ◌≤◌, IfOk, IfSome, Some, length, slice_get};
+ghost use Rattle.std.specs.Prelude.{◌≡◌, ◌<◌, ◌≤◌, true, IfOk, IfSome, Some, length, slice_get};
+ghost use Rattle.hs_base.specs.declared.context.Prev.{Prev};
+ghost use Rattle.hs_waking.specs.Fits.{IsBehindBy};
+ghost use Rattle.hs_waking.specs.PrevSets.{has_prev};
 ghost use Rattle.hs_waking.specs.RowTables.{Extends, IsCutRow, PutsRow};
 
+use crate::beginning::Beginning;
+use crate::prev_set::PrevSet;
 use crate::rows::MAX_ROW;
 use crate::wake_row::WakeRow;
 use hs_base::ByteSet;
@@ -32,31 +37,50 @@ impl RowTable {
         }
     }
 
-    /// Puts a row behind the others. It ends behind 8 sets, and before one for which there is no room: a shorter row
-    /// tells less. The only error is want of memory.
-    pub fn push(&mut self, row: &[ByteSet]) -> Result<(), AllocError>
-        ensures { IfOk result (λ done. PutsRow self.old self.new row.now) }
+    /// Puts the row of a beginning behind the others. It ends behind 8 sets, and before one for which there is no room: a
+    /// shorter row tells less. The only error is want of memory.
+    pub fn push(&mut self, beginning: &Beginning<'_>) -> Result<(), AllocError>
+        ensures { IfOk result (λ done. PutsRow self.old self.new beginning.now.behind beginning.now.row.now) }
     {
-        let own = self.cut(row)?;
+        let begun = self.begin(beginning.behind)?;
+        let own = self.cut(begun, beginning.row)?;
         self.rows.push(own)?;
         Ok(())
     }
 
-    /// The row by the numbers of its sets, as far as there is room.
-    fn cut(&mut self, row: &[ByteSet]) -> Result<WakeRow, AllocError>
+    /// The row of no set that begins behind these; behind anything, where there is no room for the set of their bytes.
+    fn begin(&mut self, behind: PrevSet) -> Result<WakeRow, AllocError>
+        ensures rows { self.new.rows ≡ self.old.rows }
+        ensures kept { Extends self.old.sets.items self.new.sets.items }
+        ensures more { IfOk result (λ row. (prev : Prev) →
+            has_prev behind prev ≡ true → has_prev row.behind prev ≡ true) }
+        ensures behind { IfOk result (λ row. IsBehindBy row self.new.sets.items) }
+    {
+        if !behind.is_all() {
+            if let Some(number) = self.number(&behind.bytes())? {
+                return Ok(row_behind(behind, number));
+            }
+        }
+        Ok(row_behind(PrevSet::all(), 0))
+    }
+
+    /// The row that is begun so, by the numbers of its sets, as far as there is room.
+    fn cut(&mut self, begun: WakeRow, row: &[ByteSet]) -> Result<WakeRow, AllocError>
         ensures rows { self.new.rows ≡ self.old.rows }
         ensures kept { Extends self.old.sets.items self.new.sets.items }
         ensures row { IfOk result (λ own. IsCutRow self.new.sets.items row.now own.count own.numbers) }
+        ensures behind { IfOk result (λ own. own.behind ≡ begun.behind) }
+        ensures number { IfOk result (λ own. own.behind_number ≡ begun.behind_number) }
     {
         let mut numbers = [0; MAX_ROW];
         let end = row.len().min(MAX_ROW);
         for depth in 0..end {
             let Some(number) = self.number(&row[depth])? else {
-                return Ok(row_to(depth, numbers));
+                return Ok(row_to(begun, depth, numbers));
             };
             numbers[depth] = number;
         }
-        Ok(row_to(end, numbers))
+        Ok(row_to(begun, end, numbers))
     }
 
     /// The number of the set, which is put behind the others if it isn't among them; None where there is no room.
@@ -78,13 +102,30 @@ impl RowTable {
     }
 }
 
-/// The row of the first so many of these numbers.
-fn row_to(count: usize, numbers: [u16; MAX_ROW]) -> WakeRow
+/// The row of no set that begins behind these, with the number of the set of their bytes.
+fn row_behind(behind: PrevSet, number: u16) -> WakeRow
+    ensures behind { result.behind ≡ behind }
+    ensures number { result.behind_number ≡ number }
+{
+    WakeRow {
+        behind,
+        behind_number: number,
+        count: 0,
+        numbers: [0; MAX_ROW],
+    }
+}
+
+/// The row of the first so many of these numbers, begun so.
+fn row_to(begun: WakeRow, count: usize, numbers: [u16; MAX_ROW]) -> WakeRow
     requires { count ≤ 8 }
+    ensures behind { result.behind ≡ begun.behind }
+    ensures number { result.behind_number ≡ begun.behind_number }
     ensures count { result.count ≡ count }
     ensures numbers { result.numbers ≡ numbers }
 {
     WakeRow {
+        behind: begun.behind,
+        behind_number: begun.behind_number,
         count: count as u8,
         numbers,
     }

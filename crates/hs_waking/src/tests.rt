@@ -1,39 +1,49 @@
 //! `fits` beside its slow twin, and the row of an automaton of two positions.
 
 ghost use Rattle.std.specs.Prelude.{◌≡◌, ℕ, ◌<◌, ◌≤◌, true, length, slice_index};
-ghost use Rattle.hs_waking.specs.ChunkWords.{AreOfChunk};
+ghost use Rattle.hs_waking.specs.Fits.{IsBehindBy};
 
+use crate::befores::behind_of;
+use crate::beginning::Beginning;
 use crate::class_words::{ClassWords, MAX_CHUNK};
 use crate::fitting::fits;
 use crate::plain::fits_plain;
+use crate::prev_set::PrevSet;
+use crate::row_table::RowTable;
 use crate::rows::row_of;
-use hs_base::{ByteSet, Mask};
+use crate::wake_row::WakeRow;
+use hs_base::{Assertion, ByteSet, Mask, Prev};
 use hs_engine::{Automaton, FollowRows};
 use std::alloc::{AllocError, Global};
 use std::test::Fail;
 
 /// The sets of the rows.
-const TABLE: [ByteSet; 6] = [
-    ByteSet::DIGITS,
-    ByteSet::SPACE,
-    ByteSet::WORD,
-    ByteSet::NOT_NEWLINE,
-    ByteSet::ALL,
-    ByteSet::EMPTY,
-];
-/// Rows by the numbers of their sets.
-const ROWS: [&[u16]; 10] = [
+const DIGIT: ByteSet = ByteSet::DIGITS;
+
+const SPACE: ByteSet = ByteSet::SPACE;
+
+const WORD: ByteSet = ByteSet::WORD;
+
+const ANY: ByteSet = ByteSet::ALL;
+
+const NONE: ByteSet = ByteSet::EMPTY;
+
+const INNER: ByteSet = ByteSet::NOT_NEWLINE;
+/// Rows of sets.
+const ROWS: [&[ByteSet]; 10] = [
     &[],
-    &[0],
-    &[5],
-    &[4, 5],
-    &[0, 1],
-    &[1, 4, 4, 0],
-    &[0, 0, 0, 0, 0],
-    &[2, 4, 4, 4, 4, 4, 4, 5],
-    &[0, 0, 1, 1, 0, 0, 1, 1],
-    &[3, 3, 3, 3, 3, 3, 3, 3],
+    &[DIGIT],
+    &[NONE],
+    &[ANY, NONE],
+    &[DIGIT, SPACE],
+    &[SPACE, ANY, ANY, DIGIT],
+    &[DIGIT, DIGIT, DIGIT, DIGIT, DIGIT],
+    &[WORD, ANY, ANY, ANY, ANY, ANY, ANY, NONE],
+    &[DIGIT, DIGIT, SPACE, SPACE, DIGIT, DIGIT, SPACE, SPACE],
+    &[INNER, INNER, INNER, INNER, INNER, INNER, INNER, INNER],
 ];
+/// What may stand before an offset.
+const PREVS: [Prev; 4] = [Prev::Start, Prev::Word, Prev::Newline, Prev::Other];
 
 /// Bytes of four kinds that follow no pattern.
 fn mixed_text() -> [u8; MAX_CHUNK] {
@@ -63,51 +73,50 @@ fn are_known(row: &[u16], count: usize) -> bool
     true
 }
 
-/// The sets of a row.
-fn sets_of(alloc: Global, row: &[u16]) -> Result<Vec<ByteSet>, AllocError> {
-    let mut sets = Vec::new(alloc);
-    for number in row {
-        sets.push(TABLE[*number as usize % TABLE.len()])?;
+/// Whether the row has the number of the set of the bytes behind which it may begin.
+fn is_begun(row: &WakeRow, sets: &[ByteSet]) -> bool
+    ensures { result ≡ true → IsBehindBy row.now sets.now }
+{
+    if row.behind.is_all() {
+        return true;
     }
-    Ok(sets)
+    let number = row.behind_number as usize;
+    number < sets.len() && sets[number] == row.behind.bytes()
 }
 
-/// Whether both tell the same of a row in a chunk.
+/// Whether both tell the same of a row in a chunk behind `prev`.
 fn agrees(
     alloc: Global,
-    row: &[u16],
-    table: &[ByteSet],
-    words: &mut ClassWords,
+    behind: PrevSet,
+    row: &[ByteSet],
+    prev: Prev,
     bytes: &[u8],
 ) -> Result<bool, AllocError>
-    requires room { length table.now ≤ words.old.count }
-    requires few { length bytes.now ≤ 512 }
-    requires chunk { AreOfChunk words.old table.now bytes.now }
-    ensures count { words.new.count ≡ words.old.count }
-    ensures chunk { AreOfChunk words.new table.now bytes.now }
+    requires { length bytes.now ≤ 512 }
 {
-    if row.len() > 8 || !are_known(row, table.len()) {
+    let mut table = RowTable::new(alloc);
+    table.push(&Beginning { behind, row })?;
+    let count = table.sets.len();
+    let Some(made) = table.rows.get(0) else {
+        return Ok(false);
+    };
+    if count > 9 || !are_known(made.numbers(), count) || !is_begun(made, &table.sets) {
         return Ok(false);
     }
-    let told = fits(row, table, words, bytes);
-    Ok(told == fits_plain(&sets_of(alloc, row)?, bytes))
+    let mut words = ClassWords::new(alloc, count)?;
+    let told = fits(made, &table.sets, &mut words, prev, bytes);
+    Ok(told == fits_plain(behind, row, prev, bytes))
 }
 
-/// Whether they do so of each row.
-fn agree(
-    alloc: Global,
-    table: &[ByteSet],
-    words: &mut ClassWords,
-    bytes: &[u8],
-) -> Result<bool, AllocError>
-    requires room { length table.now ≤ words.old.count }
-    requires few { length bytes.now ≤ 512 }
-    ensures count { words.new.count ≡ words.old.count }
+/// Whether they do so of each row behind these, whatever stands before the chunk.
+fn agree(alloc: Global, behind: PrevSet, bytes: &[u8]) -> Result<bool, AllocError>
+    requires { length bytes.now ≤ 512 }
 {
-    words.begin();
     for row in ROWS {
-        if !agrees(alloc, row, table, words, bytes)? {
-            return Ok(false);
+        for prev in PREVS {
+            if !agrees(alloc, behind, row, prev, bytes)? {
+                return Ok(false);
+            }
         }
     }
     Ok(true)
@@ -116,28 +125,35 @@ fn agree(
 #[test]
 fn tells_what_its_slow_twin_tells(rt: HostRuntime) -> Result<(), Fail> {
     let text = mixed_text();
-    let mut words = ClassWords::new(rt.alloc(), TABLE.len())?;
-    for len in [512, 511, 65, 64, 63, 1, 0] {
-        assert!(rt;
-            agree(rt.alloc(), &TABLE, &mut words, &text[..len])?,
-            "of {len} bytes"
-        );
-        assert!(rt;
-            agree(rt.alloc(), &TABLE, &mut words, &text[512 - len..])?,
-            "of {len} bytes"
-        );
+    let start = PrevSet::empty().with(Prev::Start, true);
+    let line = start.with(Prev::Newline, true);
+    for behind in [
+        PrevSet::all(),
+        start,
+        line,
+        line.with(Prev::Other, true),
+        PrevSet::empty(),
+    ] {
+        for len in [512, 511, 65, 64, 63, 1, 0] {
+            assert!(rt; agree(rt.alloc(), behind, &text[..len])?, "of {len} bytes");
+            assert!(rt;
+                agree(rt.alloc(), behind, &text[512 - len..])?,
+                "of {len} bytes"
+            );
+        }
     }
     Ok(())
 }
 
-/// The automaton of two positions, a digit and then a blank, that accepts behind the first one too if `early` says so.
-fn digit_and_blank(alloc: Global, early: bool) -> Result<Automaton, AllocError> {
+/// The automaton of two positions, a digit in a context of the mask and then a blank, that accepts behind the first one
+/// too if `early` says so.
+fn digit_and_blank(alloc: Global, mask: Mask, early: bool) -> Result<Automaton, AllocError> {
     let first = if early { Mask::all() } else { Mask::empty() };
     let mut follows = FollowRows::new(alloc, 2, false)?;
     follows.insert(0, 0, 1);
     Ok(Automaton::new(
         Vec::from_array(alloc, [ByteSet::DIGITS, ByteSet::SPACE])?,
-        Vec::from_array(alloc, [Mask::all(), Mask::empty()])?,
+        Vec::from_array(alloc, [mask, Mask::empty()])?,
         Vec::from_array(alloc, [first, Mask::all()])?,
         follows,
         Mask::empty(),
@@ -147,9 +163,27 @@ fn digit_and_blank(alloc: Global, early: bool) -> Result<Automaton, AllocError> 
 
 #[test]
 fn a_row_ends_where_a_position_accepts(rt: HostRuntime) -> Result<(), Fail> {
-    let both = row_of(rt.alloc(), &digit_and_blank(rt.alloc(), false)?)?;
+    let both = row_of(
+        rt.alloc(),
+        &digit_and_blank(rt.alloc(), Mask::all(), false)?,
+    )?;
     assert!(rt; both.as_slice() == [ByteSet::DIGITS, ByteSet::SPACE].as_slice());
-    let one = row_of(rt.alloc(), &digit_and_blank(rt.alloc(), true)?)?;
+    let one = row_of(rt.alloc(), &digit_and_blank(rt.alloc(), Mask::all(), true)?)?;
     assert!(rt; one.as_slice() == [ByteSet::DIGITS].as_slice());
+    Ok(())
+}
+
+#[test]
+fn a_match_begins_where_its_context_lets_it(rt: HostRuntime) -> Result<(), Fail> {
+    let anywhere = behind_of(&digit_and_blank(rt.alloc(), Mask::all(), false)?);
+    assert!(rt; anywhere == PrevSet::all());
+    let line = behind_of(&digit_and_blank(rt.alloc(), Mask::of(Assertion::LineStart), false)?);
+    let line_start = PrevSet::empty()
+        .with(Prev::Start, true)
+        .with(Prev::Newline, true);
+    assert!(rt; line == line_start);
+    let boundary = Mask::of(Assertion::WordBoundary);
+    let number = behind_of(&digit_and_blank(rt.alloc(), boundary, false)?);
+    assert!(rt; number == line_start.with(Prev::Other, true));
     Ok(())
 }

@@ -1,8 +1,7 @@
 use Rattle.std.proofs.Common.{sym, subst, arith}
 use Rattle.std.specs.Prelude.{vec_len}
 use Rattle.std.proofs.lemmas.Option.{slice_get_read}
-use Rattle.hs_nodes.specs.Waking.{row_numbers}
-use Rattle.hs_waking.specs.Fits.{IsRowBy}
+use Rattle.hs_waking.specs.Fits.{IsRowBy, row_numbers}
 use Rattle.hs_nodes.proofs.waking.may_fit.Goals as goal
 
 pub returns-clause-nowhere : goal.returns-clause-nowhere
@@ -11,5 +10,5 @@ returns-clause-nowhere c = λ none.
     let row = c.index.result.now in (
       row,
       slice_get_read rows.items (vec_len rows) c.args.place row rows.ok.0 (omega (arith, c.len.ensures, c.if-place-len.false)) c.index.ensures,
-      λ own numbered. (c.fits.ensures.fits own (subst (λ ns. IsRowBy ns c.deref.result.now own) (sym c.numbers.ensures) (subst (λ ss. IsRowBy (row_numbers row) ss own) (sym c.deref.ensures.value) numbered))).0 none,
+      λ own numbered. (c.fits.ensures.fits own (subst (λ ss. IsRowBy (row_numbers row) ss own) (sym c.deref.ensures.value) numbered)).0 none,
     )

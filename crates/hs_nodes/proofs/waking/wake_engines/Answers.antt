@@ -7,5 +7,5 @@ returns-clause-asleep g c =
     let graph = c.args.graph.now in
     let (literals, sound) = c.requires.wakes in
     let listed = graph.wakes.first_engines in
-    engines-unwoken g.E.Engine.meaning graph.table graph.wakes literals c.loop-i.marks c.args.bytes.now sound
-    (looked-all g.E.Engine.meaning graph.table listed.items c.args.bytes.now c.args.marks.now c.loop-i.marks c.loop-i.i (omega (arith, c.loop-i-test.false, c.len-i-end.ensures, listed.ok.0)) c.loop-i.invariant.looked)
+    engines-unwoken g.E.Engine.meaning graph.table graph.wakes literals c.loop-i.marks c.args.prev c.args.bytes.now sound
+    (looked-all g.E.Engine.meaning graph.table listed.items c.args.prev c.args.bytes.now c.args.marks.now c.loop-i.marks c.loop-i.i (omega (arith, c.loop-i-test.false, c.len-i-end.ensures, listed.ok.0)) c.loop-i.invariant.looked)

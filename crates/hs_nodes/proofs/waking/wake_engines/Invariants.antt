@@ -4,6 +4,6 @@ use Rattle.hs_nodes.proofs.waking.wake_engines.Given as goal
 
 abbrev pub invariant-loop-i : goal.invariant-loop-i
 invariant-loop-i g l = record {
-  looked : AreLookedAt g.E.Engine.meaning l.graph.table l.graph.wakes.first_engines.items l.bytes l.fn.marks l.marks l.i;
+  looked : AreLookedAt g.E.Engine.meaning l.graph.table l.graph.wakes.first_engines.items l.prev l.bytes l.fn.marks l.marks l.i;
   chunk : AreOfChunk l.words l.graph.wakes.sets.items l.bytes;
 }

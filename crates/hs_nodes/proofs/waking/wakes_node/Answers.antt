@@ -10,5 +10,5 @@ returns-clause-asleep g c = λ node there none.
     let graph = c.args.graph.now in
     let (row, at_row, nowhere) = c.may_fit.ensures.nowhere none in
     let own = c.node_at.result in
-    subst (λ (n : Node). IsKindAsleep g.E.Engine.meaning graph.table.engines.items n.kind c.args.bytes.now) (same_Some own node (sym c.node_at.ensures ∙ there))
-    (row-asleep g.E.Engine.meaning graph.table graph.wakes c.args.place c.args.k own c.args.bytes.now c.requires.rows (λ i low. (c.type_inv.bytes i).fits) c.requires.is c.node_at.ensures own.kind refl (sym c.never_empty.ensures ∙ c.if-not-never_empty.false) row at_row nowhere)
+    subst (λ (n : Node). IsKindAsleep g.E.Engine.meaning graph.table.engines.items n.kind c.args.prev c.args.bytes.now) (same_Some own node (sym c.node_at.ensures ∙ there))
+    (row-asleep g.E.Engine.meaning graph.table graph.wakes c.args.place c.args.k own c.args.prev c.args.bytes.now c.requires.rows (λ i low. (c.type_inv.bytes i).fits) c.requires.is c.node_at.ensures own.kind refl (sym c.never_empty.ensures ∙ c.if-not-never_empty.false) row at_row nowhere)

@@ -11,7 +11,7 @@ use Rattle.hs_scan.proofs.chunk.take_chunk.Goals as goal
 
 pub walk-requires-clause-rests : goal.walk-requires-clause-rests
 walk-requires-clause-rests g c =
-    resting-may g.E.Engine.meaning c.args.graph.now.table c.args.course.now.marks c.args.hits.now c.args.region.now c.args.chunk.now.bytes.now c.requires.small c.requires.resting c.requires.unwoken
+    resting-may g.E.Engine.meaning c.args.graph.now.table c.args.course.now.marks c.args.hits.now c.args.region.now c.args.chunk.now.bytes.now c.args.chunk.now.prev c.requires.small c.requires.resting c.requires.unwoken
 
 pub tell_chunk-requires-clause-rest : goal.tell_chunk-requires-clause-rest
 tell_chunk-requires-clause-rest g c = passed-nowhere g.E.Engine.meaning c.args.graph.now c.walk.new.marks c.args.region.now c.walk.new.region c.walk.new.ends c.walk.ensures.changes

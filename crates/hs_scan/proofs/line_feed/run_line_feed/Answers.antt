@@ -24,8 +24,8 @@ walk-requires-clause-rests g c =
     let bytes = c.args.chunk.now.bytes.now in
     let rests = resting-more m graph.table (length graph.table.nodes.items) s.course.marks c.wake.new.marks c.args.region.now c.wake.ensures.more c.requires.resting in
     let small : Each (λ b. b < 256) bytes = subst (Each (λ b. b < 256)) (sym c.requires.bytes) (omega arith, tt) in
-    subst (λ hs. MayNodesRest m graph.table c.wake.new.marks hs c.args.region.now bytes) (sym c.deref.ensures.value)
-    (resting-may m graph.table c.wake.new.marks s.hits.items c.args.region.now bytes small rests (c.wake.ensures.unwoken s.hits.items c.requires.others))
+    subst (λ hs. MayNodesRest m graph.table c.wake.new.marks hs c.args.region.now c.args.chunk.now.prev bytes) (sym c.deref.ensures.value)
+    (resting-may m graph.table c.wake.new.marks s.hits.items c.args.region.now bytes c.args.chunk.now.prev small rests (c.wake.ensures.unwoken s.hits.items c.requires.others))
 
 pub tell_line_feed-requires-clause-rest : goal.tell_line_feed-requires-clause-rest
 tell_line_feed-requires-clause-rest g c k below none =

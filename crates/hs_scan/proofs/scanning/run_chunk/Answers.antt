@@ -9,4 +9,4 @@ take_chunk-requires-clause-resting g c =
 
 pub take_chunk-requires-clause-unwoken : goal.take_chunk-requires-clause-unwoken
 take_chunk-requires-clause-unwoken g c =
-    subst (λ hs. AreNodesUnwoken g.E.Engine.meaning c.args.graph.now.table c.wake.new.marks hs c.args.chunk.now.bytes.now) (sym c.deref.ensures.value) (c.wake.ensures.unwoken c.args.scratch.now.hits.items c.requires.others)
+    subst (λ hs. AreNodesUnwoken g.E.Engine.meaning c.args.graph.now.table c.wake.new.marks hs c.args.chunk.now.prev c.args.chunk.now.bytes.now) (sym c.deref.ensures.value) (c.wake.ensures.unwoken c.args.scratch.now.hits.items c.requires.others)

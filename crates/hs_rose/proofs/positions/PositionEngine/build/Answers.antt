@@ -1,4 +1,6 @@
 use Rattle.std.proofs.Common.{◌∙◌, sym, arith}
+use Rattle.hs_base.specs.Contexts.{class_of}
+use Rattle.hs_engine.specs.Between.{between}
 use Rattle.hs_limex.specs.LimexEngines.{moves_of_limex}
 use Rattle.hs_rose.proofs.MovesRowLemmas.{level-of}
 use Rattle.hs_rose.proofs.StreamingLemmas.{told-moves, told-some}
@@ -33,6 +35,11 @@ invariant_of-result-clause-follows_are c s is =
     let a = c.args.automaton.now in
     let limex = c.in_ok-limex.limex in
     (told-moves s (moves_of_limex limex) a c.in_ok-limex.ensures.fits (told-some c.in_ok-streams.streams s a c.in_ok-streams.ensures is)).follows_are
+
+pub invariant_of-result-clause-behind_has : goal.invariant_of-result-clause-behind_has
+invariant_of-result-clause-behind_has c x b prev small enter member =
+    let fits = c.in_ok-limex.ensures.fits in
+    c.behind_of-behind.ensures x b prev small (sym (fits.enters (between prev (class_of b)) x) ∙ enter) (sym (fits.reach b x small) ∙ member)
 
 pub invariant_of-result-clause-row_some : goal.invariant_of-result-clause-row_some
 invariant_of-result-clause-row_some c = c.in_ok-row.ensures.row.some
