@@ -35,9 +35,12 @@ taken (suc n) (x ∷ xs) (suc d) low = taken n xs d (omega (arith, low))
 
 cut-wakes : (m : Meaning) (behind less : PrevSet) (own : List ByteSet) (n : ℕ) → ((prev : Prev) → has_prev less prev ≡ true → has_prev behind prev ≡ true) → IsWakeRow m less own → IsWakeRow m behind (take n own)
 cut-wakes m behind less own n more wakes region bytes prev starts small nowhere =
-    wakes region bytes prev starts small (λ i low fits. nowhere i low (more (prev_before prev bytes i) fits.0, λ d within inside.
-    let short = length-take n own in
-    ap (λ o. in_set o (slice_index bytes (i + d))) (taken n own d (omega (arith, within, short))) ∙ fits.1 d (omega (arith, within, short)) inside))
+    wakes region bytes prev starts small (λ i low fits. nowhere i low (
+      more (prev_before prev bytes i) fits.0,
+      λ d within inside.
+          let short = length-take n own in
+          ap (λ o. in_set o (slice_index bytes (i + d))) (taken n own d (omega (arith, within, short))) ∙ fits.1 d (omega (arith, within, short)) inside,
+    ))
 
 -- sets that are put behind others
 

@@ -19,7 +19,7 @@ use Rattle.hs_base.proofs.BitOnceLemmas.{each-below}
 use Rattle.hs_base.proofs.ChainStreamLemmas.{last-leaves, leaves-last, leaving-begins}
 use Rattle.hs_base.proofs.EntryLemmas.{window-enough}
 use Rattle.hs_base.proofs.StreamContexts.{prev-append}
-use Rattle.hs_engine.specs.Engines.{Meaning, IsQuiet, IsStart, TakesByte, TellsLeaves}
+use Rattle.hs_engine.specs.Engines.{Meaning, IsAsleep, IsQuiet, IsStart, TakesByte, TellsLeaves}
 use Rattle.hs_nodes.specs.Blocks.{IsPast, prev_by_count}
 use Rattle.hs_nodes.specs.Contexts.{IsNull}
 use Rattle.hs_nodes.specs.LookBacks.{IsRunBack}
@@ -73,42 +73,71 @@ module _ (m : Meaning) (tree : Tree) (runs : m.is_for tree) (listed : m.always �
   unfolding prev_at
   prev-next u k b below is = ap prev_behind (ap (λ x. Some x) (sym is) ∙ sym (slice_get-get_or u k 0 below))
 
-  pub run-more : (u : List ℕ) (n i at b : ℕ) (part new : List ℕ) (prev next : Prev) (all : NextSet) → IsRunTo u n i part prev → n + i < length u → get_or u (n + i) 0 ≡ b → at ≡ n + i →
-      ((c : Next) → has_next all c ≡ true) → TakesByte m part new prev at all b → next ≡ prev_by (eqb b line_feed) (is_word_byte b) → IsRunTo u n (i + 1) new next
-  run-more u n i at b part new prev next all is below byte here every takes then =
-      let w : List ℕ = take (n + i) u in
-      let size : length w ≡ n + i = length-take-le (n + i) u (omega (arith, below)) in
-      let front : List Bool = entered_never (take n u) in
-      let rest : List ℕ = drop n u in
-      let long : length rest ≡ length u - n = length-drop n u in
-      let count : length (front ++ entered_always (take i rest)) ≡ length w =
-      omega (
-        arith,
-        length-append front (entered_always (take i rest)),
-        never-size (take n u),
-        always-size (take i rest),
-        length-take-le n u (omega (arith, below)),
-        length-take-le i rest (omega (arith, below, long)),
-        size,
-      ) in
-      let whole : u ≡ w ++ drop (n + i) u = sym (take-append-drop (n + i) u) in
-      let same_prev : prev_at u (n + i) ≡ prev_at w (length w) =
-      ap (λ z. prev_at z (n + i)) whole ∙ (prev-append w (drop (n + i) u) (n + i) (omega (arith, size)) ∙ ap (prev_at w) (sym size)) in
-      let moved : m.field new tree (w ++ b ∷ []) ((front ++ entered_always (take i rest)) ++ (m.always || has_next all (class_of b)) ∷ []) =
-      takes tree w (front ++ entered_always (take i rest)) runs count (here ∙ sym size) (is.stands ∙ same_prev) is.field in
-      let entered : (front ++ entered_always (take i rest)) ++ (m.always || has_next all (class_of b)) ∷ [] ≡ front ++ entered_always (take (i + 1) rest) =
-      ap (λ a. (front ++ entered_always (take i rest)) ++ (a || has_next all (class_of b)) ∷ []) listed
-      ∙ (ap (λ a. (front ++ entered_always (take i rest)) ++ a ∷ []) (every (class_of b))
-      ∙ (append_assoc front (entered_always (take i rest)) (true ∷ [])
-      ∙ ap (λ es. front ++ es) (sym (ap entered_always (take_more rest i 0 (omega (arith, below, long))) ∙ always-push (take i rest) (get_or rest i 0))))) in
-      let e : n + (i + 1) ≡ suc (n + i) = omega arith in
-      let longer : take (n + (i + 1)) u ≡ w ++ b ∷ [] = ap (λ k. take k u) e ∙ (take-next u (n + i) below ∙ ap (λ x. w ++ x ∷ []) byte) in
-      record {
-        field =
-            subst (λ z. m.field new tree z (front ++ entered_always (take (i + 1) rest))) (sym longer)
-            (subst (λ es. m.field new tree (w ++ b ∷ []) es) entered moved);
-        stands = then ∙ (prev-next u (n + i) b below byte ∙ ap (prev_at u) (sym e));
-      }
+  -- one byte more, before which it is entered
+  module _ (u : List ℕ) (n i b : ℕ) (part : List ℕ) (prev : Prev) (is : IsRunTo u n i part prev) (below : n + i < length u) (byte : get_or u (n + i) 0 ≡ b) where
+    abbrev So : List ℕ
+    So = take (n + i) u
+
+    abbrev Entries : List Bool
+    Entries = entered_never (take n u) ++ entered_always (take i (drop n u))
+
+    size : length So ≡ n + i
+    size = length-take-le (n + i) u (omega (arith, below))
+
+    long : length (drop n u) ≡ length u - n
+    long = length-drop n u
+
+    count : length Entries ≡ length So
+    count = omega (
+      arith,
+      length-append (entered_never (take n u)) (entered_always (take i (drop n u))),
+      never-size (take n u),
+      always-size (take i (drop n u)),
+      length-take-le n u (omega (arith, below)),
+      length-take-le i (drop n u) (omega (arith, below, long)),
+      size,
+    )
+
+    same-prev : prev_at u (n + i) ≡ prev_at So (length So)
+    same-prev =
+        let whole : u ≡ So ++ drop (n + i) u = sym (take-append-drop (n + i) u) in
+        ap (λ z. prev_at z (n + i)) whole ∙ (prev-append So (drop (n + i) u) (n + i) (omega (arith, size)) ∙ ap (prev_at So) (sym size))
+
+    run-grow : (new : List ℕ) (next : Prev) (enters : Bool) → enters ≡ true → m.field new tree (So ++ b ∷ []) (Entries ++ (m.always || enters) ∷ []) → next ≡ prev_by (eqb b line_feed) (is_word_byte b) → IsRunTo u n (i + 1) new next
+    run-grow new next enters every moved then =
+        let front : List Bool = entered_never (take n u) in
+        let rest : List ℕ = drop n u in
+        let entered : Entries ++ (m.always || enters) ∷ [] ≡ front ++ entered_always (take (i + 1) rest) =
+        ap (λ a. Entries ++ (a || enters) ∷ []) listed
+        ∙ (ap (λ a. Entries ++ a ∷ []) every
+        ∙ (append_assoc front (entered_always (take i rest)) (true ∷ [])
+        ∙ ap (λ es. front ++ es) (sym (ap entered_always (take_more rest i 0 (omega (arith, below, long))) ∙ always-push (take i rest) (get_or rest i 0))))) in
+        let e : n + (i + 1) ≡ suc (n + i) = omega arith in
+        let longer : take (n + (i + 1)) u ≡ So ++ b ∷ [] = ap (λ k. take k u) e ∙ (take-next u (n + i) below ∙ ap (λ x. So ++ x ∷ []) byte) in
+        record {
+          field =
+              subst (λ z. m.field new tree z (front ++ entered_always (take (i + 1) rest))) (sym longer)
+              (subst (λ es. m.field new tree (So ++ b ∷ []) es) entered moved);
+          stands = then ∙ (prev-next u (n + i) b below byte ∙ ap (prev_at u) (sym e));
+        }
+
+    pub run-more : (at : ℕ) (new : List ℕ) (next : Prev) (all : NextSet) → at ≡ n + i → ((c : Next) → has_next all c ≡ true) → TakesByte m part new prev at all b → next ≡ prev_by (eqb b line_feed) (is_word_byte b) → IsRunTo u n (i + 1) new next
+    run-more at new next all here every takes then =
+        run-grow new next (has_next all (class_of b)) (every (class_of b)) (takes tree So Entries runs count (here ∙ sym size) (is.stands ∙ same-prev) is.field) then
+
+    -- and one that wakes nothing
+    run-pass : IsAsleep m part b → IsRunTo u n (i + 1) part (prev_by (eqb b line_feed) (is_word_byte b))
+    run-pass asleep = run-grow part (prev_by (eqb b line_feed) (is_word_byte b)) true refl (asleep.stays true tree So Entries runs count is.field) refl
+
+  -- so many bytes that wake nothing
+  pub run-passes : (u : List ℕ) (n k : ℕ) (part : List ℕ) (prev : Prev) → IsRunTo u n 0 part prev → n + k ≤ length u → ((i : ℕ) → i < k → IsAsleep m part (get_or u (n + i) 0)) → (then : Prev) × IsRunTo u n k part then
+  run-passes u n zero part prev begun within asleep = (prev, begun)
+  run-passes u n (suc k) part prev begun within asleep =
+      let (before, done) = run-passes u n k part prev begun (omega arith) (λ i low. asleep i (omega arith)) in
+      let next : k + 1 ≡ suc k = omega arith in
+      let b : ℕ = get_or u (n + k) 0 in
+      let then : Prev = prev_by (eqb b line_feed) (is_word_byte b) in
+      (then, subst (λ j. IsRunTo u n j part then) next (run-pass u n k b part before done (omega arith) refl (asleep k (omega arith))))
 
   pub run-end : (u : List ℕ) (n seen end : ℕ) (part : List ℕ) (prev : Prev) → IsRunTo u n seen part prev → end ≤ length u → n + seen ≡ end → (window_size ≤ seen) ⊎ (n ≡ 0) → IsRunBack m tree (take end u) part × (prev ≡ prev_at u end)
   run-end u n seen end part prev is within place enough =

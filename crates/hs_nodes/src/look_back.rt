@@ -1,11 +1,12 @@
 //! Expressions that look back: they are asked anew, from the last bytes, where the literal behind them ends.
 
-ghost use Rattle.std.specs.Prelude.{◌≡◌, ◌*◌, ◌+◌, ◌-◌, ◌≤◌, ◌<◌, ℕ, List, false, length};
+ghost use Rattle.std.specs.Prelude.{◌≡◌, ◌*◌, ◌+◌, ◌-◌, ◌≤◌, ◌<◌, ℕ, List, ◌++◌, false, length, slice_index};
 ghost use Rattle.std.specs.Prelude.{◌↔◌, true};
 ghost use Rattle.hs_base.specs.Chains.{Piece};
 ghost use Rattle.hs_base.specs.Contexts.{prev_at};
 ghost use Rattle.hs_base.specs.Leaving.{IsEmptyAt};
 ghost use Rattle.hs_base.specs.Trees.{Tree};
+ghost use Rattle.hs_engine.specs.Engines.{IsAsleep, IsStart};
 ghost use Rattle.hs_nodes.specs.Blocks.{prev_by_count};
 ghost use Rattle.hs_nodes.specs.Contexts.{IsNull};
 ghost use Rattle.hs_nodes.specs.Hits.{hit_count};
@@ -35,8 +36,27 @@ fn prev_behind(count: u64, last: u8) -> Prev
     }
 }
 
+/// How many bytes from one place to another wake nothing, before the first one that may.
+fn passed_over<E: Engine>(engine: &E, chunk: &Chunk, begin: usize, end: usize) -> usize
+    requires order { begin ≤ end }
+    requires high { end ≤ 64 + length chunk.now.bytes.now }
+    ensures few { begin + result ≤ end }
+    ensures asleep { (region : List ℕ) (i : ℕ) → IsStart (E.meaning engine.now) region → i < result →
+        IsAsleep (E.meaning engine.now) region
+        (slice_index (chunk.now.past.now ++ chunk.now.bytes.now) (begin + i)) }
+{
+    let wakers = engine.wakers();
+    for place in begin..end {
+        if wakers.contains(chunk.byte_at(place)) {
+            return place - begin;
+        }
+    }
+    end - begin
+}
+
 /// Runs the engine over the last bytes of those before the place, which is one among the past bytes and those of the
-/// chunk; it is entered before each of them. Answers what stands behind them.
+/// chunk; it is entered before each of them, and those that wake nothing come without a step as long as nothing is live.
+/// Answers what stands behind them.
 fn run_back<E: Engine, L: Ledger>(
     engine: &E,
     part: &mut [u8],
@@ -59,10 +79,11 @@ fn run_back<E: Engine, L: Ledger>(
     let seen = MAX_LOOK_BACK.min(offset as usize);
     let begin = place - seen;
     let from = offset - seen as u64;
+    let passed = passed_over(engine, chunk, begin, place);
     engine.clear(part);
     let _is_at_rest = engine.at_rest(part);
-    let mut prev = prev_behind(from, chunk.byte_at(begin - 1));
-    for i in 0..seen {
+    let mut prev = prev_behind(from + passed as u64, chunk.byte_at(begin + passed - 1));
+    for i in passed..seen {
         let byte = chunk.byte_at(begin + i);
         engine.step(part, prev, from + i as u64, NextSet::all(), byte, steps);
         prev = Prev::behind(byte);

@@ -171,14 +171,7 @@ pub(crate) fn run_line_feed<E: BlockEngine, V: Events, L: Ledger>(
 {
     let words = &mut scratch.words;
     let marks = &mut scratch.course.marks;
-    wake(
-        graph,
-        &scratch.rows,
-        chunk.prev,
-        chunk.bytes,
-        words,
-        marks,
-    );
+    wake(graph, &scratch.rows, chunk.prev, chunk.bytes, words, marks);
     walk(
         &graph.table,
         chunk,

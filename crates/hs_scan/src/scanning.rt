@@ -67,14 +67,7 @@ fn run_chunk<E: BlockEngine, V: Events, L: Ledger>(
 {
     let words = &mut scratch.words;
     let marks = &mut scratch.course.marks;
-    wake(
-        graph,
-        &scratch.rows,
-        chunk.prev,
-        chunk.bytes,
-        words,
-        marks,
-    );
+    wake(graph, &scratch.rows, chunk.prev, chunk.bytes, words, marks);
     take_chunk(
         graph,
         chunk,

@@ -1,6 +1,8 @@
 use Rattle.std.proofs.Common.{◌≡◌, ℕ, ◌+◌, ◌-◌, ◌<◌, ◌≤◌, ◌⊎◌, ◌++◌, length, refl, subst, ◌∙◌, inl, inr, arith, length-append}
 use Rattle.std.proofs.lemmas.Bool.{cases_lt}
-use Rattle.hs_nodes.proofs.LookLemmas.{IsRunTo, run-begin, run-end, run-more, window-prev, window-read}
+use Rattle.hs_base.specs.Contexts.{prev_at}
+use Rattle.hs_engine.specs.Engines.{IsAsleep}
+use Rattle.hs_nodes.proofs.LookLemmas.{IsRunTo, run-begin, run-end, run-more, run-passes, window-byte, window-prev, window-read}
 use Rattle.hs_nodes.proofs.look_back.run_back.Goals as goal
 
 pub loop-i-init : goal.loop-i-init
@@ -9,18 +11,28 @@ loop-i-init g c =
     let past = c.args.chunk.now.past.now in
     let bytes = c.args.chunk.now.bytes.now in
     let seen : ℕ = c.min-seen.result in
+    let passed : ℕ = c.passed_over-passed.result in
     let n : ℕ = at + c.args.place - 64 - seen in
     record {
       len = c.clear.ensures.len;
-      well = c.clear.ensures.well (n + 0);
+      well = c.clear.ensures.well (n + passed);
       steps = omega arith;
       runs = λ tree u runs listed is.
+          let m = g.E.Engine.meaning c.args.engine.now in
           let long : length (u ++ bytes) ≡ length u + length bytes = length-append u bytes in
-          let within : n ≤ length (u ++ bytes) = omega (arith, is.offset, long, c.requires.high) in
+          let few = c.passed_over-passed.ensures.few in
+          let within : n + passed ≤ length (u ++ bytes) = omega (arith, is.offset, long, c.requires.high, few, c.min-seen.ensures, c.requires.within) in
           let quiet = c.at_rest-is_at_rest.ensures.quiet ((c.at_rest-is_at_rest.ensures.zero listed).1 (c.clear.ensures.zero listed)) in
-          run-begin (g.E.Engine.meaning c.args.engine.now) tree runs listed (u ++ bytes) n c.clear.new.region c.prev_behind-prev.result is.small within c.clear.ensures.starts quiet
-          (c.prev_behind-prev.ensures
-          ∙ window-prev u past bytes n (c.args.place - seen - 1) c.byte_at.result is.past_is within (omega (arith, is.offset, c.min-seen.ensures, c.requires.low, c.requires.within)) c.byte_at.ensures);
+          let begun = run-begin m tree runs listed (u ++ bytes) n c.clear.new.region (prev_at (u ++ bytes) n) is.small (omega (arith, within)) c.clear.ensures.starts quiet refl in
+          let (then, done) = run-passes m tree runs listed (u ++ bytes) n passed c.clear.new.region (prev_at (u ++ bytes) n) begun within
+          (λ i low. subst (λ b. IsAsleep m c.clear.new.region b) (window-byte u past bytes (n + i) (c.args.place - seen + i) is.past_is (omega (arith, is.offset, c.min-seen.ensures, c.requires.low, c.requires.within)))
+          (c.passed_over-passed.ensures.asleep c.clear.new.region i c.clear.ensures.starts low)) in
+          record {
+            field = done.field;
+            stands =
+                c.prev_behind-prev.ensures
+                ∙ window-prev u past bytes (n + passed) (c.args.place - seen + passed - 1) c.byte_at.result is.past_is within (omega (arith, is.offset, c.min-seen.ensures, c.requires.low, c.requires.within)) c.byte_at.ensures;
+          };
     }
 
 pub loop-i-preserved : goal.loop-i-preserved
@@ -41,8 +53,8 @@ loop-i-preserved g c =
       runs = λ tree u runs listed is.
           let long : length (u ++ bytes) ≡ length u + length bytes = length-append u bytes in
           let below : n + i < length (u ++ bytes) = omega (arith, is.offset, long, c.min-seen.ensures, c.requires.high, c.requires.within, c.loop-i-test.true) in
-          run-more m tree runs listed (u ++ bytes) n i (n + i) c.byte_at-byte.result c.loop-i.part c.step.new.region c.loop-i.prev c.behind-prev.result c.all.result (inv.runs tree u runs listed is) below
-          (window-read u past bytes (n + i) (c.args.place - seen + i) c.byte_at-byte.result is.past_is (omega (arith, is.offset, c.min-seen.ensures, c.requires.low, c.requires.within)) c.byte_at-byte.ensures) refl c.all.ensures c.step.ensures.takes c.behind-prev.ensures;
+          run-more m tree runs listed (u ++ bytes) n i c.byte_at-byte.result c.loop-i.part c.loop-i.prev (inv.runs tree u runs listed is) below
+          (window-read u past bytes (n + i) (c.args.place - seen + i) c.byte_at-byte.result is.past_is (omega (arith, is.offset, c.min-seen.ensures, c.requires.low, c.requires.within)) c.byte_at-byte.ensures) (n + i) c.step.new.region c.behind-prev.result c.all.result refl c.all.ensures c.step.ensures.takes c.behind-prev.ensures;
     }
 
 pub returns-clause-runs : goal.returns-clause-runs
