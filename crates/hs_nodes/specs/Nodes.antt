@@ -151,7 +151,8 @@ module _ {E : Type 0} (meaning : E → Meaning) (engines : List E) where
 
   -- A node may be passed over in a chunk, if its parent is left nowhere in it: nothing is live, and if it has no parent
   -- the bytes wake nothing and its literal ends nowhere.
-  abbrev pub MayRest : NodeKind → (parent : Option ℕ) (hits : List ChunkHits) (part : List ℕ) → Prev → (bytes : List ℕ) → Type 0
+  abbrev pub MayRest : NodeKind → (parent : Option ℕ) (hits : List ChunkHits) (part : List ℕ) → Prev →
+      (bytes : List ℕ) → Type 0
   MayRest (Engine number null) parent hits part prev bytes =
       (e : E) →
       slice_get engines number ≡ Some e →

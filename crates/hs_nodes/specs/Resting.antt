@@ -56,7 +56,8 @@ module _ {E : Type 0} (meaning : E → Meaning) (engines : List E) where
   -- a first literal, or one behind an expression that looks back, ends nowhere.
   abbrev pub IsUnwokenIn : NodeKind → (parent : Option ℕ) → (hits : List ChunkHits) → Prev → (bytes : List ℕ) → Type 0
   IsUnwokenIn (Engine number null) parent hits prev bytes =
-      parent ≡ None → (null ≡ None) × ((e : E) → slice_get engines number ≡ Some e → SleepsThrough (meaning e) prev bytes)
+      parent ≡ None →
+      (null ≡ None) × ((e : E) → slice_get engines number ≡ Some e → SleepsThrough (meaning e) prev bytes)
   IsUnwokenIn (Literal number len) parent hits prev bytes = parent ≡ None → ⊥
   IsUnwokenIn (FirstLiteral number len) parent hits prev bytes =
       (own : ChunkHits) → slice_get hits number ≡ Some own → (i : ℕ) → i ≤ length bytes → is_hit_at own i ≡ false

@@ -58,7 +58,8 @@ is_never_empty (FirstLiteral number len) = false
 is_never_empty (LookBack pair) = false
 
 -- a chunk wakes nothing in a node of that kind that is entered everywhere, which has no empty span either
-abbrev pub IsKindAsleep : {E : Type 0} → (E → Meaning) → (engines : List E) → NodeKind → Prev → (bytes : List ℕ) → Type 0
+abbrev pub IsKindAsleep : {E : Type 0} → (E → Meaning) → (engines : List E) → NodeKind → Prev → (bytes : List ℕ) →
+    Type 0
 IsKindAsleep meaning engines (Engine number null) prev bytes =
     (null ≡ None) × ((e : _) → slice_get engines number ≡ Some e → SleepsThrough (meaning e) prev bytes)
 IsKindAsleep meaning engines (Literal number len) prev bytes = ⊥
@@ -66,7 +67,8 @@ IsKindAsleep meaning engines (FirstLiteral number len) prev bytes = ⊥
 IsKindAsleep meaning engines (LookBack pair) prev bytes = ⊥
 
 -- The engines without a parent that aren't marked have no empty span, and a chunk wakes nothing in them.
-abbrev pub AreEnginesUnwoken : {E : Type 0} → (E → Meaning) → NodeTable E → (marks : List ℕ) → Prev → (bytes : List ℕ) → Type 0
+abbrev pub AreEnginesUnwoken : {E : Type 0} → (E → Meaning) → NodeTable E → (marks : List ℕ) → Prev →
+    (bytes : List ℕ) → Type 0
 AreEnginesUnwoken meaning table marks prev bytes =
     (k number : ℕ) (null : Option Mask) (node : Node) →
     slice_get table.nodes.items k ≡ Some node →

@@ -127,7 +127,8 @@ module _ {E : Type 0} (meaning : E → Meaning) (table : NodeTable E) where
       IsWellPart meaning table.engines.items node.kind (node_part region node) at
 
   -- each node that isn't marked may be passed over in the chunk
-  abbrev pub MayNodesRest : (marks : List ℕ) (hits : List ChunkHits) (region : List ℕ) → Prev → (bytes : List ℕ) → Type 0
+  abbrev pub MayNodesRest : (marks : List ℕ) (hits : List ChunkHits) (region : List ℕ) → Prev → (bytes : List ℕ) →
+      Type 0
   MayNodesRest marks hits region prev bytes =
       (k : ℕ) (node : Node) →
       slice_get table.nodes.items k ≡ Some node →

@@ -55,8 +55,8 @@ fn passed_over<E: Engine>(engine: &E, chunk: &Chunk, begin: usize, end: usize) -
 }
 
 /// Runs the engine over the last bytes of those before the place, which is one among the past bytes and those of the
-/// chunk; it is entered before each of them, and those that wake nothing come without a step as long as nothing is live.
-/// Answers what stands behind them.
+/// chunk; it is entered before each of them, and as long as nothing is live those that wake nothing come without a
+/// step. Answers what stands behind them.
 fn run_back<E: Engine, L: Ledger>(
     engine: &E,
     part: &mut [u8],

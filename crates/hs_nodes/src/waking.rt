@@ -68,7 +68,8 @@ fn may_fit(
     requires chunk { AreOfChunk words.old wakes.now.sets.items bytes.now }
     ensures chunk { AreOfChunk words.new wakes.now.sets.items bytes.now }
     ensures nowhere { result ≡ false → (row : WakeRow) × (slice_get wakes.now.rows.items place ≡ Some row)
-        × ((own : List ByteSet) → IsRowBy (row_numbers row) wakes.now.sets.items own → FitsNowhere row.behind own prev bytes.now) }
+        × ((own : List ByteSet) → IsRowBy (row_numbers row) wakes.now.sets.items own →
+            FitsNowhere row.behind own prev bytes.now) }
 {
     if place >= wakes.rows.len() || wakes.sets.len() > words.count() {
         return true;
@@ -76,7 +77,8 @@ fn may_fit(
     fits(&wakes.rows[place], &wakes.sets, words, prev, bytes)
 }
 
-/// Whether a chunk behind `prev` wakes the node of that number, which stands at that place among those of engines without a parent.
+/// Whether a chunk behind `prev` wakes the node of that number, which stands at that place among those of engines
+/// without a parent.
 fn wakes_node<E: Engine>(
     graph: &Graph<E>,
     place: usize,

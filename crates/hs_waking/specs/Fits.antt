@@ -13,8 +13,8 @@ abbrev pub FitsTo : (row : ℕ → Option ByteSet) (bytes : List ℕ) (count pla
 FitsTo row bytes count i =
     (d : ℕ) → d < count → i + d < length bytes → in_set (row d) (slice_index bytes (i + d)) ≡ true
 
--- What stands before a place of bytes behind `prev` is one of these, and each set of the row has its byte from that place
--- on. At the end of the bytes a row fits as far as they go.
+-- What stands before a place of bytes behind `prev` is one of these, and each set of the row has its byte from that
+-- place on. At the end of the bytes a row fits as far as they go.
 abbrev pub FitsAt : PrevSet → (row : List ByteSet) → Prev → (bytes : List ℕ) (place : ℕ) → Type 0
 FitsAt behind row prev bytes i =
     (has_prev behind (prev_before prev bytes i) ≡ true) × FitsTo (slice_get row) bytes (length row) i

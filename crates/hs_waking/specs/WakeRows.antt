@@ -11,8 +11,8 @@ use Rattle.hs_engine.specs.Engines.{Meaning, IsStart}
 use Rattle.hs_waking.specs.declared.prev_set.PrevSet.{PrevSet}
 use Rattle.hs_waking.specs.Fits.{FitsNowhere}
 
--- The region stays over the bytes behind `prev`, before each of which the expression is entered, and the expression isn't
--- left before any of them or behind the last.
+-- The region stays over the bytes behind `prev`, before each of which the expression is entered, and the expression
+-- isn't left before any of them or behind the last.
 pub record SleepsOver (m : Meaning) (region : List ℕ) (prev : Prev) (bytes : List ℕ) : Type 0 where
   pub stays : (tree : Tree) (u : List ℕ) (entered : List Bool) →
       m.is_for tree →

@@ -19,7 +19,10 @@ pub struct Beginning<'b> {
 
 impl<'b> Beginning<'b> {
     /// Anyhow: it tells nothing.
-    pub fn anyhow() -> Beginning<'b> {
+    pub fn anyhow() -> Beginning<'b>
+        ensures behind { (prev : Prev) → has_prev result.behind prev ≡ true }
+        ensures row { result.row.now ≡ [] }
+    {
         Beginning {
             behind: PrevSet::all(),
             row: &[],

@@ -37,8 +37,8 @@ impl RowTable {
         }
     }
 
-    /// Puts the row of a beginning behind the others. It ends behind 8 sets, and before one for which there is no room: a
-    /// shorter row tells less. The only error is want of memory.
+    /// Puts the row of a beginning behind the others. It ends behind 8 sets, and before one for which there is no room:
+    /// a shorter row tells less. The only error is want of memory.
     pub fn push(&mut self, beginning: &Beginning<'_>) -> Result<(), AllocError>
         ensures { IfOk result (λ done. PutsRow self.old self.new beginning.now.behind beginning.now.row.now) }
     {
