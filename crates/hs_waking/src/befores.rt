@@ -9,7 +9,7 @@ ghost use Rattle.hs_engine.specs.Between.{between};
 ghost use Rattle.hs_waking.specs.PrevSets.{has_prev};
 ghost use Rattle.hs_waking.specs.Rows.{IsBehindOf};
 
-use crate::prev_set::{BYTE_VALUES, PrevSet};
+use crate::prev_set::{ALL_BYTES, PrevSet};
 use hs_base::{ByteSet, Mask, Next, Prev};
 use hs_engine::Automaton;
 
@@ -35,7 +35,7 @@ fn behind_either(behind: PrevSet, mask: Mask, set: &ByteSet) -> PrevSet
         return PrevSet::all();
     }
     let mut all = behind;
-    for byte in 0..BYTE_VALUES {
+    for byte in 0..ALL_BYTES {
         if set.contains(byte as u8) {
             all = behind_next(all, mask, Next::class_of(byte as u8));
         }

@@ -3,7 +3,7 @@
 use hs_base::{ByteSet, Prev};
 
 /// How many bytes there are.
-pub(crate) const BYTE_VALUES: usize = 256;
+pub(crate) const ALL_BYTES: usize = 256;
 
 /// A set of what may stand before an offset.
 #[derive(Clone, Copy, Debug, PartialEq, Eq)]
@@ -77,7 +77,7 @@ impl PrevSet {
         ensures { AreBytesBehind self result }
     {
         let mut bytes = ByteSet::EMPTY;
-        for byte in 0..BYTE_VALUES {
+        for byte in 0..ALL_BYTES {
             if self.contains(Prev::behind(byte as u8)) {
                 bytes.insert(byte as u8);
             }
