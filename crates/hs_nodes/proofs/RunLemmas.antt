@@ -144,16 +144,21 @@ count-few (suc n) f = by (f n) (count-few n f) where
   by true few = omega (arith, few)
   by false few = omega (arith, few)
 
--- the steps up to a block and in it
-pub steps-more : (m : Meaning) (old new : List ℕ) (prev : Prev) (at enters : ℕ) (bytes own : List ℕ) (ends : BlockEnds) (j n first here now : ℕ) → n ≡ j + 1 → 64 * j < length bytes → own ≡ block bytes j → TakesBlock m old new prev at enters own ends here now →
-    here ≤ first + length (take (64 * j) bytes) → now ≤ first + length (take (64 * n) bytes)
-steps-more m old new prev at enters bytes own ends j n first here now next below own_is takes so_far =
+-- the steps of a block
+pub steps-few : (m : Meaning) (old new : List ℕ) (prev : Prev) (at enters : ℕ) (own : List ℕ) (ends : BlockEnds) (here now : ℕ) → TakesBlock m old new prev at enters own ends here now → now ≤ here + length own
+steps-few m old new prev at enters own ends here now takes =
     let few = count-few (length own) (is_busy enters takes.run.parts) in
     let ticks : takes.ticks ≤ length own = subst (λ k. k ≤ length own) (sym takes.run.ticks_are) few in
+    let counted : now ≡ here + takes.ticks = takes.counted in
+    omega (arith, ticks, counted)
+
+-- the steps up to a block and in it
+pub steps-more : (bytes own : List ℕ) (j n first here now : ℕ) → n ≡ j + 1 → 64 * j < length bytes → own ≡ block bytes j → now ≤ here + length own →
+    here ≤ first + length (take (64 * j) bytes) → now ≤ first + length (take (64 * n) bytes)
+steps-more bytes own j n first here now next below own_is few so_far =
     let reach = reach-more bytes own j n 0 next below own_is in
     let short : length (take (64 * j) bytes) ≡ 64 * j = length-take-le (64 * j) bytes (omega arith) in
-    let counted : now ≡ here + takes.ticks = takes.counted in
-    omega (arith, ticks, reach, short, counted, so_far)
+    omega (arith, few, reach, short, so_far)
 
 zero-at : (i : ℕ) → slice_index (0 ∷ 0 ∷ 0 ∷ 0 ∷ 0 ∷ 0 ∷ 0 ∷ 0 ∷ []) i ≡ 0
 zero-at i = all-zero (0 ∷ 0 ∷ 0 ∷ 0 ∷ 0 ∷ 0 ∷ 0 ∷ 0 ∷ []) (refl, (refl, (refl, (refl, (refl, (refl, (refl, (refl, tt)))))))) i where

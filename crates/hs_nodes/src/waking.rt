@@ -1,6 +1,6 @@
 //! Which nodes a chunk wakes.
 
-ghost use Rattle.std.specs.Prelude.{◌≡◌, ◌<◌, ◌≤◌, ℕ, List, true, false, length, Some, slice_get, slice_index};
+ghost use Rattle.std.specs.Prelude.{◌≡◌, ◌*◌, ◌<◌, ◌≤◌, ℕ, List, true, false, length, None, Some, slice_get, slice_index};
 ghost use Rattle.hs_base.specs.declared.byte_set.ByteSet.{ByteSet};
 ghost use Rattle.hs_reports.specs.Marks.{is_marked, mark_room};
 ghost use Rattle.hs_nodes.specs.Waking.{AreEnginesUnwoken, AreRowsSound, AreWakesSound, IsKindAsleep};
@@ -95,6 +95,9 @@ fn wakes_node<E: Engine>(
     ensures chunk { AreOfChunk words.new graph.now.wakes.sets.items bytes.now }
     ensures asleep { (node : Node) → slice_get graph.now.table.nodes.items k ≡ Some node → result ≡ false →
         IsKindAsleep E.meaning graph.now.table.engines.items node.kind prev bytes.now }
+    ensures beside { (node : Node) (blocks : BlockSet) → slice_get graph.now.table.nodes.items k ≡ Some node →
+        result ≡ Some blocks →
+        IsBesideAsleep E.meaning graph.now.table.engines.items node.kind blocks prev bytes.now }
 {
     if !never_empty(node_at(&graph.table, k).kind) {
         return true;

@@ -1,5 +1,7 @@
 use Rattle.std.proofs.Common.{◌≡◌, ◌+◌, ◌*◌, ◌<◌, length, true, false, refl, sym, subst, ◌∙◌, arith, length-set}
 use Rattle.std.proofs.lemmas.List.{length-take-le}
+use Rattle.hs_waking.specs.BlockSets.{has_block}
+use Rattle.hs_nodes.proofs.AwakeLemmas.{block-asleep}
 use Rattle.hs_nodes.proofs.EngineLemmas.{blocks-all, blocks-more, blocks-none}
 use Rattle.hs_nodes.proofs.RunLemmas.{ends-more, nowhere-more, nowhere-none, reach-all, reach-more, steps-more, word-through}
 use Rattle.hs_nodes.proofs.engines.run_engine.Goals as goal
@@ -15,33 +17,38 @@ loop-j-init g c = record {
   takes = blocks-none (g.E.Engine.meaning c.args.engine.now) c.args.region.now c.args.chunk.now.prev c.args.chunk.now.at c.args.chunk.now.bytes.now c.args.enters.now c.args.null.now _;
 }
 
-pub run-own-requires-clause-well : goal.run-own-requires-clause-well
-run-own-requires-clause-well g c =
+pub run_block-own-requires-clause-well : goal.run_block-own-requires-clause-well
+run_block-own-requires-clause-well g c =
     let low : 64 * c.loop-j.j < length c.args.chunk.now.bytes.now = c.blocks-j-end.ensures.some c.loop-j.j c.loop-j-test.true in
     subst (λ n. (g.E.Engine.meaning c.args.engine.now).well c.loop-j.region (c.args.chunk.now.at + n)) (length-take-le (64 * c.loop-j.j) c.args.chunk.now.bytes.now (omega (arith, low))) c.loop-j.invariant.well
 
-pub run-own-requires-clause-room : goal.run-own-requires-clause-room
-run-own-requires-clause-room g c = omega (arith, c.args.chunk.now.room, c.block-bytes.ensures.within)
+pub run_block-own-requires-clause-room : goal.run_block-own-requires-clause-room
+run_block-own-requires-clause-room g c = omega (arith, c.args.chunk.now.room, c.block-bytes.ensures.within)
 
-pub run-own-requires-clause-throughout : goal.run-own-requires-clause-throughout
-run-own-requires-clause-throughout g c always = absurd (let both : true ≡ false = sym always ∙ c.requires.listed in cc)
+pub run_block-own-requires-clause-asleep : goal.run_block-own-requires-clause-asleep
+run_block-own-requires-clause-asleep g c no =
+    let m = g.E.Engine.meaning c.args.engine.now in
+    let bytes = c.args.chunk.now.bytes.now in
+    let j = c.loop-j.j in
+    let small : j < 8 = ? in
+    let out : has_block c.args.awake j ≡ false = sym c.contains.ensures ∙ no in
+    block-asleep m c.args.chunk.now.prev (slice_index c.args.enters.now.before j) bytes c.block-bytes.result.now j c.prev_before.result c.block-bytes.ensures.bytes c.prev_before.ensures.is (c.requires.entered j small out) (c.requires.asleep j small out)
 
 pub loop-j-preserved : goal.loop-j-preserved
 loop-j-preserved g c =
     let j = c.loop-j.j in
     let inv = c.loop-j.invariant in
     let more = ends-more c.loop-j.ends.before c.loop-j.ends.behind j _ _ (omega (arith, inv.befores, c.blocks-j-end.ensures.few)) (omega (arith, inv.behinds, c.blocks-j-end.ensures.few)) in record {
-      len = c.run-own.ensures.len;
-      well = subst (λ n. (g.E.Engine.meaning c.args.engine.now).well c.run-own.new.region n) (reach-more c.args.chunk.now.bytes.now c.block-bytes.result.now j (j + 1) c.args.chunk.now.at refl (omega arith) c.block-bytes.ensures.bytes) c.run-own.ensures.well;
+      len = c.run_block-own.ensures.len;
+      well = subst (λ n. (g.E.Engine.meaning c.args.engine.now).well c.run_block-own.new.region n) (reach-more c.args.chunk.now.bytes.now c.block-bytes.result.now j (j + 1) c.args.chunk.now.at refl (omega arith) c.block-bytes.ensures.bytes) c.run_block-own.ensures.well;
       befores = simp length-set inv.befores;
       behinds = simp length-set inv.behinds;
       nowhere = nowhere-more _ _ j (j + 1) _ _ refl more inv.nowhere;
       steps =
-          steps-more (g.E.Engine.meaning c.args.engine.now) _ _ _ _ _ c.args.chunk.now.bytes.now c.block-bytes.result.now c.run-own.result j (j + 1) c.args.steps.now c.loop-j.steps c.run-own.new.steps refl (omega arith) c.block-bytes.ensures.bytes
-          c.run-own.ensures.takes inv.steps;
+          steps-more c.args.chunk.now.bytes.now c.block-bytes.result.now j (j + 1) c.args.steps.now c.loop-j.steps c.run_block-own.new.steps refl (omega arith) c.block-bytes.ensures.bytes c.run_block-own.ensures.ticks inv.steps;
       takes =
-          blocks-more (g.E.Engine.meaning c.args.engine.now) c.args.region.now c.loop-j.region c.run-own.new.region c.args.chunk.now.prev c.prev_before.result c.args.chunk.now.at (c.args.chunk.now.at + 64 * j) c.args.chunk.now.bytes.now c.block-bytes.result.now
-          c.args.enters.now c.args.null.now c.loop-j.ends _ j (j + 1) c.run-own.result _ _ _ _ (omega arith) refl c.block-bytes.ensures.bytes refl c.prev_before.ensures c.run-own.ensures.takes (word-through _ _ _) (word-through _ _ _) more (omega (arith, c.blocks-j-end.ensures.few))
+          blocks-more (g.E.Engine.meaning c.args.engine.now) c.args.region.now c.loop-j.region c.run_block-own.new.region c.args.chunk.now.prev c.prev_before.result c.args.chunk.now.at (c.args.chunk.now.at + 64 * j) c.args.chunk.now.bytes.now c.block-bytes.result.now
+          c.args.enters.now c.args.null.now c.loop-j.ends _ j (j + 1) c.run_block-own.result _ _ (omega arith) refl c.block-bytes.ensures.bytes refl c.prev_before.ensures c.run_block-own.ensures.scans (word-through _ _ _) (word-through _ _ _) more (omega (arith, c.blocks-j-end.ensures.few))
           inv.takes;
     }
 
