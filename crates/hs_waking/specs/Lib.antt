@@ -1,3 +1,4 @@
+pub mod BlockSets
 pub mod PrevSets
 pub mod Fits
 pub mod Rows

@@ -10,14 +10,18 @@
 //! fits            . 1 . . . . . 1
 //! ```
 
-ghost use Rattle.std.specs.Prelude.{◌≡◌, ◌↔◌, ℕ, ◌<◌, ◌≤◌, ◌&&◌, nat_lt, false, List, length, slice_index};
+ghost use Rattle.std.specs.Prelude.{◌≡◌, ◌↔◌, ℕ, ◌<◌, ◌≤◌, ◌*◌, ◌&&◌, nat_lt, false, List, length, slice_index};
+ghost use Rattle.std.specs.Prelude.{None, Some};
 ghost use Rattle.hs_base.specs.declared.byte_set.ByteSet.{ByteSet};
 ghost use Rattle.hs_base.specs.Bits.{has_word_bit};
 ghost use Rattle.hs_bits.specs.BlockContexts.{prev_before};
+ghost use Rattle.hs_waking.specs.BlockSets.{bytes_of_block, has_block};
+ghost use Rattle.hs_waking.specs.declared.block_set.BlockSet.{BlockSet};
 ghost use Rattle.hs_waking.specs.ChunkWords.{AreOfChunk};
 ghost use Rattle.hs_waking.specs.Fits.{FitsNowhere, IsBehindBy, IsRowBy, row_numbers};
 ghost use Rattle.hs_waking.specs.PrevSets.{has_prev};
 
+use crate::block_set::BlockSet;
 use crate::chunk_places::{Places, is_none, keep_behind, keep_open, places_before};
 use crate::class_words::ClassWords;
 use crate::wake_row::WakeRow;
@@ -64,6 +68,40 @@ pub fn fits(
         }
     }
     true
+}
+
+/// In which blocks of a chunk behind `prev` the row fits somewhere, at the end of a block as far as that goes; None where
+/// it fits nowhere in the chunk. The words are those of this chunk so far as they are known.
+pub fn awake_blocks(
+    row: &WakeRow,
+    sets: &[ByteSet],
+    words: &mut ClassWords,
+    prev: Prev,
+    bytes: &[u8],
+) -> Option<BlockSet>
+    requires numbers { (d : ℕ) → d < length (row_numbers row.now) →
+        slice_index (row_numbers row.now) d < length sets.now }
+    requires behind { IsBehindBy row.now sets.now }
+    requires room { length sets.now ≤ words.old.count }
+    requires few { length bytes.now ≤ 512 }
+    requires chunk { AreOfChunk words.old sets.now bytes.now }
+    ensures count { words.new.count ≡ words.old.count }
+    ensures chunk { AreOfChunk words.new sets.now bytes.now }
+    ensures none { (own : List ByteSet) →
+        IsRowBy (row_numbers row.now) sets.now own →
+        (result ≡ None) ↔ FitsNowhere row.now.behind own prev bytes.now }
+    ensures asleep { (own : List ByteSet) (blocks : BlockSet) (j : ℕ) →
+        IsRowBy (row_numbers row.now) sets.now own →
+        result ≡ Some blocks →
+        j < 8 →
+        has_block blocks j ≡ false →
+        FitsNowhere row.now.behind own (prev_before prev bytes.now (64 * j)) (bytes_of_block bytes.now j) }
+{
+    if fits(row, sets, words, prev, bytes) {
+        Some(BlockSet::all())
+    } else {
+        None
+    }
 }
 
 /// The places of a chunk behind `prev` at which the row may begin.

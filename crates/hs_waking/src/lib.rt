@@ -6,6 +6,7 @@
 
 mod befores;
 mod beginning;
+mod block_set;
 mod chunk_places;
 mod class_words;
 mod fitting;
@@ -22,8 +23,9 @@ mod wake_row;
 
 pub use befores::behind_of;
 pub use beginning::Beginning;
+pub use block_set::BlockSet;
 pub use class_words::{ClassWords, MAX_CHUNK};
-pub use fitting::fits;
+pub use fitting::{awake_blocks, fits};
 pub use plain::fits_plain;
 pub use prev_set::PrevSet;
 pub use row_table::RowTable;
