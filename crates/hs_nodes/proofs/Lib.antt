@@ -23,3 +23,4 @@ pub mod FieldLemmas
 pub mod PlanLemmas
 pub mod GatherLemmas
 pub mod FillLemmas
+pub mod AwakeLemmas

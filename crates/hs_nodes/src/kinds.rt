@@ -1,8 +1,10 @@
 //! One node over a chunk.
 
 ghost use Rattle.std.specs.Prelude.{◌≡◌, ◌+◌, ◌≤◌, length};
+ghost use Rattle.hs_nodes.specs.Awake.{IsBesideAsleep, IsEnteredBeside};
 ghost use Rattle.hs_nodes.specs.Contexts.{AreChunkContexts, NeedsContexts};
 ghost use Rattle.hs_nodes.specs.Nodes.{IsKindSound, IsWellPart, TakesPiece, most_ticks};
+ghost use Rattle.hs_nodes.specs.Resting.{AreEnginesIdle};
 
 use crate::chunk::Chunk;
 use crate::ends::ChunkEnds;
@@ -15,6 +17,7 @@ use crate::table::NodeKind;
 use hs_bits::Contexts;
 use hs_block::BlockEngine;
 use hs_engine::Steps;
+use hs_waking::BlockSet;
 use std::sync::ledger::Ledger;
 
 /// What nodes ask in a chunk beside its bytes.
@@ -26,8 +29,8 @@ pub(crate) struct Found<'c, 'h> {
     pub hits: &'h [ChunkHits],
 }
 
-/// Takes a chunk by a node of that kind, where the pieces before are left as `enters` tell. Answers where the pieces up
-/// to it are left.
+/// Takes a chunk by a node of that kind, where the pieces before are left as `enters` tell. In blocks that aren't awake
+/// an engine is entered everywhere and woken nowhere. Answers where the pieces up to the node are left.
 pub(crate) fn run_kind<E: BlockEngine, L: Ledger>(
     kind: NodeKind,
     engines: &[E],
@@ -35,12 +38,16 @@ pub(crate) fn run_kind<E: BlockEngine, L: Ledger>(
     chunk: &Chunk,
     found: &Found,
     enters: &ChunkEnds,
+    awake: BlockSet,
     steps: &mut Steps<L>,
 ) -> ChunkEnds
     requires sound { IsKindSound E.meaning engines.now (length found.now.hits.now) kind (length part.old) }
     requires well { IsWellPart E.meaning engines.now kind part.old chunk.now.at }
     requires contexts { NeedsContexts kind →
         AreChunkContexts found.now.contexts.now chunk.now.prev chunk.now.at chunk.now.bytes.now }
+    requires idle { AreEnginesIdle E.meaning engines.now }
+    requires asleep { IsBesideAsleep E.meaning engines.now kind awake chunk.now.prev chunk.now.bytes.now }
+    requires entered { IsEnteredBeside awake enters.now chunk.now.bytes.now }
     ensures len { length part.new ≡ length part.old }
     ensures well { IsWellPart E.meaning engines.now kind part.new (chunk.now.at + length chunk.now.bytes.now) }
     ensures ticks { steps.new ≤ steps.old + most_ticks kind found.now.hits.now (length chunk.now.bytes.now) }
@@ -50,7 +57,15 @@ pub(crate) fn run_kind<E: BlockEngine, L: Ledger>(
     match kind {
         NodeKind::Engine(number, null) => {
             let null = null_ends(null, chunk, found.contexts);
-            run_engine(&engines[number as usize], part, chunk, enters, &null, steps)
+            run_engine(
+                &engines[number as usize],
+                part,
+                chunk,
+                enters,
+                &null,
+                awake,
+                steps,
+            )
         }
         NodeKind::Literal(number, len) => {
             run_literal_part(

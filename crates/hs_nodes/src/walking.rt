@@ -1,8 +1,12 @@
 //! A walk over the nodes of a table, over a chunk.
 
-ghost use Rattle.std.specs.Prelude.{◌≡◌, ℕ, ◌+◌, ◌*◌, ◌<◌, ◌≤◌, true, length, slice_get, slice_index, EachIndex, Some};
+ghost use Rattle.std.specs.Prelude.{◌≡◌, ℕ, ◌+◌, ◌*◌, ◌<◌, ◌≤◌, true, false, List, [], length, slice_get, slice_index};
+ghost use Rattle.std.specs.Prelude.{EachIndex, None, Some};
+ghost use Rattle.hs_nodes.specs.Awake.{AreBesideAsleep};
 ghost use Rattle.hs_nodes.specs.Contexts.{AreChunkContexts, NeedsContexts};
-ghost use Rattle.hs_nodes.specs.Left.{nowhere};
+ghost use Rattle.hs_nodes.specs.Left.{AreLeftIn, nowhere};
+ghost use Rattle.hs_nodes.specs.Resting.{AreEnginesIdle};
+ghost use Rattle.hs_waking.specs.BlockSets.{has_block};
 ghost use Rattle.hs_reports.specs.Marks.{is_marked, mark_room};
 ghost use Rattle.hs_nodes.specs.Nodes.{IsWellPart, most_ticks};
 ghost use Rattle.hs_nodes.specs.Walks.{AreMoreMarks, AreNodesWell, ChangesMarked, IsNodeRun, IsTableSound};
@@ -21,6 +25,7 @@ use hs_bits::Contexts;
 use hs_block::BlockEngine;
 use hs_engine::Steps;
 use hs_reports::MarkSet;
+use hs_waking::BlockSet;
 use std::sync::ledger::Ledger;
 
 /// The node of that number.
@@ -42,6 +47,21 @@ fn entering<'e>(parent: Option<u32>, all: &'e ChunkEnds, ends: &'e [ChunkEnds]) 
     }
 }
 
+/// In which blocks the node of that number may be woken, by what is said of those that have no parent; in all, where
+/// nothing is said.
+fn awake_of(parent: Option<u32>, k: usize, awake: &[BlockSet]) -> BlockSet
+    ensures { (j : ℕ) → j < 8 → has_block result j ≡ false →
+        (parent ≡ None) × (slice_get awake.now k ≡ Some result) }
+{
+    if parent.is_some() {
+        return BlockSet::all();
+    }
+    match awake.get(k) {
+        Some(blocks) => *blocks,
+        None => BlockSet::all(),
+    }
+}
+
 /// Takes a chunk by the node of that number; `all` is everywhere.
 fn run_node<E: BlockEngine, L: Ledger>(
     table: &NodeTable<E>,
@@ -49,6 +69,7 @@ fn run_node<E: BlockEngine, L: Ledger>(
     chunk: &Chunk,
     found: &Found,
     all: &ChunkEnds,
+    awake: &[BlockSet],
     region: &mut [u8],
     ends: &mut [ChunkEnds],
     steps: &mut Steps<L>,
@@ -60,6 +81,9 @@ fn run_node<E: BlockEngine, L: Ledger>(
         IsWellPart E.meaning table.now.engines.items node.kind (node_part region.old node) chunk.now.at }
     requires contexts { (node : Node) → slice_get table.now.nodes.items k ≡ Some node → NeedsContexts node.kind →
         AreChunkContexts found.now.contexts.now chunk.now.prev chunk.now.at chunk.now.bytes.now }
+    requires idle { AreEnginesIdle E.meaning table.now.engines.items }
+    requires asleep { AreBesideAsleep E.meaning table.now awake.now chunk.now.prev chunk.now.bytes.now }
+    requires everywhere { (u : List ℕ) → AreLeftIn [] u chunk.now.bytes.now all.now }
     ensures len { length region.new ≡ length region.old }
     ensures ends { length ends.new ≡ length ends.old }
     ensures ticks { (node : Node) → slice_get table.now.nodes.items k ≡ Some node →
@@ -77,6 +101,7 @@ fn run_node<E: BlockEngine, L: Ledger>(
         chunk,
         found,
         enters,
+        awake_of(node.parent, k, awake),
         steps,
     );
 }
@@ -126,11 +151,13 @@ fn mark_children<E>(table: &NodeTable<E>, k: usize, marks: &mut MarkSet)
 }
 
 /// Takes a chunk by the nodes that are marked, in their order; where a node is left, its children are marked. So those
-/// that are marked then have been run, and no other one has been looked at.
+/// that are marked then have been run, and no other one has been looked at. Of engines without a parent it is said in
+/// which blocks they may be woken.
 pub fn walk<E: BlockEngine, L: Ledger>(
     table: &NodeTable<E>,
     chunk: &Chunk,
     hits: &[ChunkHits],
+    awake: &[BlockSet],
     region: &mut [u8],
     ends: &mut [ChunkEnds],
     marks: &mut MarkSet,
@@ -144,6 +171,8 @@ pub fn walk<E: BlockEngine, L: Ledger>(
     requires marked { (k : ℕ) → is_marked marks.old k ≡ true → k < length table.now.nodes.items }
     requires rests { MayNodesRest E.meaning table.now marks.old hits.now region.old chunk.now.prev
         chunk.now.bytes.now }
+    requires idle { AreEnginesIdle E.meaning table.now.engines.items }
+    requires asleep { AreBesideAsleep E.meaning table.now awake.now chunk.now.prev chunk.now.bytes.now }
     ensures well { AreNodesWell E.meaning table.now region.new (chunk.now.at + length chunk.now.bytes.now) }
     ensures ends { length ends.new ≡ length ends.old }
     ensures marks { AreMoreMarks (length table.now.nodes.items) marks.old marks.new }
@@ -163,7 +192,7 @@ pub fn walk<E: BlockEngine, L: Ledger>(
             contexts: &contexts,
             hits,
         };
-        run_node(table, k, chunk, &found, &all, region, ends, steps);
+        run_node(table, k, chunk, &found, &all, awake, region, ends, steps);
         if !ends[k].is_nowhere() {
             mark_children(table, k, marks);
         }

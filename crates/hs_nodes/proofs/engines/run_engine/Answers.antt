@@ -1,4 +1,4 @@
-use Rattle.std.proofs.Common.{◌≡◌, ◌+◌, ◌*◌, ◌<◌, length, true, false, refl, sym, subst, ◌∙◌, arith, length-set}
+use Rattle.std.proofs.Common.{slice_index, ◌≡◌, ◌+◌, ◌*◌, ◌<◌, length, false, refl, sym, subst, ◌∙◌, arith, length-set}
 use Rattle.std.proofs.lemmas.List.{length-take-le}
 use Rattle.hs_waking.specs.BlockSets.{has_block}
 use Rattle.hs_nodes.proofs.AwakeLemmas.{block-asleep}
@@ -26,12 +26,12 @@ pub run_block-own-requires-clause-room : goal.run_block-own-requires-clause-room
 run_block-own-requires-clause-room g c = omega (arith, c.args.chunk.now.room, c.block-bytes.ensures.within)
 
 pub run_block-own-requires-clause-asleep : goal.run_block-own-requires-clause-asleep
-run_block-own-requires-clause-asleep g c no =
+run_block-own-requires-clause-asleep g c slept =
     let m = g.E.Engine.meaning c.args.engine.now in
     let bytes = c.args.chunk.now.bytes.now in
     let j = c.loop-j.j in
-    let small : j < 8 = ? in
-    let out : has_block c.args.awake j ≡ false = sym c.contains.ensures ∙ no in
+    let small : j < 8 = omega (arith, c.loop-j-test.true, c.blocks-j-end.ensures.few) in
+    let out : has_block c.args.awake j ≡ false = sym c.contains.ensures ∙ slept in
     block-asleep m c.args.chunk.now.prev (slice_index c.args.enters.now.before j) bytes c.block-bytes.result.now j c.prev_before.result c.block-bytes.ensures.bytes c.prev_before.ensures.is (c.requires.entered j small out) (c.requires.asleep j small out)
 
 pub loop-j-preserved : goal.loop-j-preserved
@@ -48,7 +48,7 @@ loop-j-preserved g c =
           steps-more c.args.chunk.now.bytes.now c.block-bytes.result.now j (j + 1) c.args.steps.now c.loop-j.steps c.run_block-own.new.steps refl (omega arith) c.block-bytes.ensures.bytes c.run_block-own.ensures.ticks inv.steps;
       takes =
           blocks-more (g.E.Engine.meaning c.args.engine.now) c.args.region.now c.loop-j.region c.run_block-own.new.region c.args.chunk.now.prev c.prev_before.result c.args.chunk.now.at (c.args.chunk.now.at + 64 * j) c.args.chunk.now.bytes.now c.block-bytes.result.now
-          c.args.enters.now c.args.null.now c.loop-j.ends _ j (j + 1) c.run_block-own.result _ _ (omega arith) refl c.block-bytes.ensures.bytes refl c.prev_before.ensures c.run_block-own.ensures.scans (word-through _ _ _) (word-through _ _ _) more (omega (arith, c.blocks-j-end.ensures.few))
+          c.args.enters.now c.args.null.now c.loop-j.ends _ j (j + 1) c.run_block-own.result _ _ (omega arith) refl c.block-bytes.ensures.bytes refl c.prev_before.ensures.behind c.run_block-own.ensures.scans (word-through _ _ _) (word-through _ _ _) more (omega (arith, c.blocks-j-end.ensures.few))
           inv.takes;
     }
 

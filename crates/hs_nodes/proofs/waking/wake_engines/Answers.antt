@@ -1,5 +1,6 @@
-use Rattle.std.proofs.Common.{arith}
-use Rattle.hs_nodes.proofs.WakeLemmas.{engines-unwoken, looked-all}
+use Rattle.std.proofs.Common.{◌+◌, refl, arith}
+use Rattle.hs_nodes.proofs.AwakeLemmas.{all-beside, beside-all, beside-more, beside-none}
+use Rattle.hs_nodes.proofs.WakeLemmas.{engines-unwoken, looked-all, looked-more}
 use Rattle.hs_nodes.proofs.waking.wake_engines.Goals as goal
 
 pub returns-clause-asleep : goal.returns-clause-asleep
@@ -9,3 +10,22 @@ returns-clause-asleep g c =
     let listed = graph.wakes.first_engines in
     engines-unwoken g.E.Engine.meaning graph.table graph.wakes literals c.loop-i.marks c.args.prev c.args.bytes.now sound
     (looked-all g.E.Engine.meaning graph.table listed.items c.args.prev c.args.bytes.now c.args.marks.now c.loop-i.marks c.loop-i.i (omega (arith, c.loop-i-test.false, c.len-i-end.ensures, listed.ok.0)) c.loop-i.invariant.looked)
+
+pub returns-clause-beside : goal.returns-clause-beside
+returns-clause-beside g c =
+    let graph = c.args.graph.now in
+    let (literals, sound) = c.requires.wakes in
+    let listed = graph.wakes.first_engines in
+    beside-all g.E.Engine.meaning graph.table listed.items c.args.prev c.args.bytes.now graph.wakes literals c.loop-i.awake c.loop-i.i sound refl (omega (arith, c.loop-i-test.false, c.len-i-end.ensures, listed.ok.0)) c.loop-i.invariant.beside
+
+pub loop-i-preserved : goal.loop-i-preserved
+loop-i-preserved g c =
+    let graph = c.args.graph.now in
+    let m = g.E.Engine.meaning in
+    let list = graph.wakes.first_engines.items in
+    let i = c.loop-i.i in
+    record {
+      looked = looked-more m graph.table list c.args.prev c.args.bytes.now c.args.marks.now c.loop-i.marks c.wake_engine.new.marks i (i + 1) refl c.wake_engine.ensures.more c.wake_engine.ensures.asleep c.loop-i.invariant.looked;
+      chunk = c.wake_engine.ensures.chunk;
+      beside = beside-more m graph.table list c.args.prev c.args.bytes.now c.loop-i.awake c.wake_engine.new.awake i (i + 1) refl c.wake_engine.ensures.elsewhere c.wake_engine.ensures.beside c.loop-i.invariant.beside;
+    }
