@@ -168,6 +168,15 @@ before-more words n low end p within known low_is few =
           ])
     ]
 
+-- a word of which some bits are kept
+set-both : (words : List ℕ) (n next : ℕ) → n < length words → (q : ℕ) → q / 64 ≡ n → has_word_bit (set words n (bit_and (get_or words n 0) next)) q ≡ (has_word_bit words q && place_bit next (q % 64))
+unfolding place_bit
+set-both words n next within q here =
+    bit-set words n (bit_and (get_or words n 0) next) q within here
+    ∙ (bit-both (get_or words n 0) next (q % 64)
+    ∙ ap (λ b. b && place_bit next (q % 64)) (ap (λ k. place_bit (get_or words k 0) (q % 64)) (sym here) ∙ sym (row-bit words q)))
+
+-- each bit of a full word is set
 ones : (k : ℕ) → k < 64 → place_bit 18446744073709551615 k ≡ true
 unfolding place_bit
 ones k below = ap (λ b. eqb b 1) (bit_at_ones 64 k below)
@@ -191,13 +200,6 @@ module _ (words class : List ℕ) (old : ℕ → Bool) (n d next : ℕ) (within 
             ∙ (ap (place_bit (get_or class (n + 1) 0)) bit ∙ (ap (λ k. place_bit (get_or class k 0) ((p + d) % 64)) place ∙ sym (row-bit class (p + d))))
       ]
 
-  set-both : (q : ℕ) → q / 64 ≡ n → has_word_bit (set words n (bit_and (get_or words n 0) next)) q ≡ (has_word_bit words q && place_bit next (q % 64))
-  unfolding place_bit
-  set-both q here =
-      bit-set words n (bit_and (get_or words n 0) next) q within here
-      ∙ (bit-both (get_or words n 0) next (q % 64)
-      ∙ ap (λ b. b && place_bit next (q % 64)) (ap (λ k. place_bit (get_or words k 0) (q % 64)) (sym here) ∙ sym (row-bit words q)))
-
   pub kept-more : ((p : ℕ) → p < 64 * n → has_word_bit words p ≡ (old p && has_word_bit class (p + d))) → ((p : ℕ) → 64 * n ≤ p → has_word_bit words p ≡ old p) → (p : ℕ) → p < 64 * (n + 1) →
       has_word_bit (set words n (bit_and (get_or words n 0) next)) p ≡ (old p && has_word_bit class (p + d))
   kept-more known later p few =
@@ -205,7 +207,7 @@ module _ (words class : List ℕ) (old : ℕ → Bool) (n d next : ℕ) (within 
         | inl before ↦ bit-kept words n (bit_and (get_or words n 0) next) p (λ same. omega arith) ∙ known p before
         | inr past ↦
             let here : p / 64 ≡ n = omega arith in
-            set-both p here ∙ (ap (λ b. b && place_bit next (p % 64)) (later p past) ∙ ap (λ b. old p && b) (next-is p here))
+            set-both words n next within p here ∙ (ap (λ b. b && place_bit next (p % 64)) (later p past) ∙ ap (λ b. old p && b) (next-is p here))
       ]
 
 -- one word more of those that are kept within their blocks
@@ -227,13 +229,6 @@ module _ (words class : List ℕ) (old : ℕ → Bool) (n d next : ℕ) (within 
             high (p % 64) (omega arith) past ∙ (ones (p % 64 + d - 64) (omega arith) ∙ ap (λ b. b || has_word_bit class (p + d)) (sym (le-leb 64 (p % 64 + d) past)))
       ]
 
-  set-within : (q : ℕ) → q / 64 ≡ n → has_word_bit (set words n (bit_and (get_or words n 0) next)) q ≡ (has_word_bit words q && place_bit next (q % 64))
-  unfolding place_bit
-  set-within q here =
-      bit-set words n (bit_and (get_or words n 0) next) q within here
-      ∙ (bit-both (get_or words n 0) next (q % 64)
-      ∙ ap (λ b. b && place_bit next (q % 64)) (ap (λ k. place_bit (get_or words k 0) (q % 64)) (sym here) ∙ sym (row-bit words q)))
-
   pub kept-within : ((p : ℕ) → p < 64 * n → has_word_bit words p ≡ (old p && (nat_le 64 (p % 64 + d) || has_word_bit class (p + d)))) → ((p : ℕ) → 64 * n ≤ p → has_word_bit words p ≡ old p) → (p : ℕ) → p < 64 * (n + 1) →
       has_word_bit (set words n (bit_and (get_or words n 0) next)) p ≡ (old p && (nat_le 64 (p % 64 + d) || has_word_bit class (p + d)))
   kept-within known later p few =
@@ -241,7 +236,7 @@ module _ (words class : List ℕ) (old : ℕ → Bool) (n d next : ℕ) (within 
         | inl before ↦ bit-kept words n (bit_and (get_or words n 0) next) p (λ same. omega arith) ∙ known p before
         | inr past ↦
             let here : p / 64 ≡ n = omega arith in
-            set-within p here ∙ (ap (λ b. b && place_bit next (p % 64)) (later p past) ∙ ap (λ b. old p && b) (within-is p here))
+            set-both words n next within p here ∙ (ap (λ b. b && place_bit next (p % 64)) (later p past) ∙ ap (λ b. old p && b) (within-is p here))
       ]
 
 -- words united

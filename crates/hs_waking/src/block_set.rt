@@ -8,7 +8,7 @@ pub struct BlockSet {
 }
 
 impl BlockSet {
-    ghost use Rattle.std.specs.Prelude.{◌≡◌, ℕ, ◌<◌, ◌==◌, ◌&&◌, ◌||◌, false};
+    ghost use Rattle.std.specs.Prelude.{◌≡◌, ℕ, ◌<◌, ◌==◌, ◌&&◌, ◌||◌, true, false};
     ghost use Rattle.hs_waking.specs.BlockSets.{has_block};
 
     /// No block.
@@ -16,6 +16,13 @@ impl BlockSet {
         ensures { (j : ℕ) → has_block result j ≡ false }
     {
         BlockSet { bits: 0 }
+    }
+
+    /// All blocks.
+    pub fn all() -> BlockSet
+        ensures { (j : ℕ) → j < 8 → has_block result j ≡ true }
+    {
+        BlockSet { bits: u8::MAX }
     }
 
     /// The block of that number besides, if it is wanted.

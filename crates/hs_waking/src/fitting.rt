@@ -9,6 +9,8 @@
 //! [d], 2 on       . 1 . . . . 1 1
 //! fits            . 1 . . . . . 1
 //! ```
+//!
+//! Block by block a place counts as set where a set of the row would have its byte in the next block.
 
 ghost use Rattle.std.specs.Prelude.{◌≡◌, ◌↔◌, ℕ, ◌<◌, ◌≤◌, ◌*◌, ◌&&◌, nat_lt, true, false, List, length, slice_index};
 ghost use Rattle.std.specs.Prelude.{None, Some};
