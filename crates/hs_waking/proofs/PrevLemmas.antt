@@ -32,7 +32,7 @@ power-of-prev before.Word = refl
 power-of-prev before.Newline = refl
 power-of-prev before.Other = refl
 
-or-turned : (a b c : Bool) → b ≡ c → (a || b) ≡ ((c && true) || a)
+pub or-turned : (a b c : Bool) → b ≡ c → (a || b) ≡ ((c && true) || a)
 or-turned true true true same = refl
 or-turned true false false same = refl
 or-turned false true true same = refl

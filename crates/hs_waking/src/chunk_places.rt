@@ -1,10 +1,12 @@
 //! Places of a chunk as eight words, a bit for each.
 
-ghost use Rattle.std.specs.Prelude.{◌≡◌, ℕ, ◌+◌, ◌-◌, ◌<◌, ◌≤◌, ◌&&◌, nat_lt, not, length};
+ghost use Rattle.std.specs.Prelude.{◌≡◌, ℕ, ◌+◌, ◌-◌, ◌*◌, ◌%◌, ◌<◌, ◌≤◌, ◌&&◌, ◌||◌, nat_le, nat_lt, not, length};
 ghost use Rattle.hs_base.specs.Bits.{has_word_bit};
 ghost use Rattle.hs_engine.specs.AnyBelow.{any_below};
+ghost use Rattle.hs_waking.specs.BlockSets.{has_block};
 ghost use Rattle.hs_waking.specs.PlaceBits.{is_behind, place_bit};
 
+use crate::block_set::BlockSet;
 use crate::class_words::{CHUNK_WORDS, CLASS_WORDS, MAX_CHUNK};
 use crate::low_places::low_places;
 use hs_bits::WORD_BITS;
@@ -48,6 +50,20 @@ pub(crate) fn keep_open(places: &mut Places, class: &[u64], distance: usize)
 {
     for word in 0..CHUNK_WORDS {
         places[word] &= moved(class[word], class[word + 1], distance);
+    }
+}
+
+/// The same, block by block: a place stays where so many places on the next block has begun.
+#[inline(always)]
+pub(crate) fn keep_open_within(places: &mut Places, class: &[u64], distance: usize)
+    requires class { length class.now ≡ 9 }
+    requires near { distance < 64 }
+    ensures { (p : ℕ) → p < 512 →
+        has_word_bit places.new p ≡
+        (has_word_bit places.old p && (nat_le 64 (p % 64 + distance) || has_word_bit class.now (p + distance))) }
+{
+    for word in 0..CHUNK_WORDS {
+        places[word] &= moved(class[word], u64::MAX, distance);
     }
 }
 
@@ -97,4 +113,17 @@ pub(crate) fn is_none(places: &[u64]) -> bool
         any |= places[word];
     }
     any == 0
+}
+
+/// The blocks in which there is one.
+#[inline(always)]
+pub(crate) fn blocks_with(places: &[u64]) -> BlockSet
+    requires { length places.now ≡ 8 }
+    ensures { (j : ℕ) → j < 8 → has_block result j ≡ any_below 64 (λ i. has_word_bit places.now (64 * j + i)) }
+{
+    let mut blocks = BlockSet::empty();
+    for block in 0..CHUNK_WORDS {
+        blocks = blocks.with(block, places[block] != 0);
+    }
+    blocks
 }

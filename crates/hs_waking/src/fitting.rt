@@ -9,8 +9,10 @@
 //! [d], 2 on       . 1 . . . . 1 1
 //! fits            . 1 . . . . . 1
 //! ```
+//!
+//! Block by block a place counts as set where a set of the row would have its byte in the next block.
 
-ghost use Rattle.std.specs.Prelude.{◌≡◌, ◌↔◌, ℕ, ◌<◌, ◌≤◌, ◌*◌, ◌&&◌, nat_lt, false, List, length, slice_index};
+ghost use Rattle.std.specs.Prelude.{◌≡◌, ◌↔◌, ℕ, ◌<◌, ◌≤◌, ◌*◌, ◌&&◌, nat_lt, true, false, List, length, slice_index};
 ghost use Rattle.std.specs.Prelude.{None, Some};
 ghost use Rattle.hs_base.specs.declared.byte_set.ByteSet.{ByteSet};
 ghost use Rattle.hs_base.specs.Bits.{has_word_bit};
@@ -22,7 +24,9 @@ ghost use Rattle.hs_waking.specs.Fits.{FitsNowhere, IsBehindBy, IsRowBy, row_num
 ghost use Rattle.hs_waking.specs.PrevSets.{has_prev};
 
 use crate::block_set::BlockSet;
-use crate::chunk_places::{Places, is_none, keep_behind, keep_open, places_before};
+use crate::chunk_places::{
+    Places, blocks_with, is_none, keep_behind, keep_open, keep_open_within, places_before,
+};
 use crate::class_words::ClassWords;
 use crate::wake_row::WakeRow;
 use hs_base::{ByteSet, Prev};
@@ -70,8 +74,8 @@ pub fn fits(
     true
 }
 
-/// In which blocks of a chunk behind `prev` the row fits somewhere, at the end of a block as far as that goes; None where
-/// it fits nowhere in the chunk. The words are those of this chunk so far as they are known.
+/// In which blocks of a chunk behind `prev` the row fits somewhere, at the end of a block as far as that goes; None
+/// where it fits nowhere in the chunk. The words are those of this chunk so far as they are known.
 pub fn awake_blocks(
     row: &WakeRow,
     sets: &[ByteSet],
@@ -96,12 +100,24 @@ pub fn awake_blocks(
         j < 8 →
         has_block blocks j ≡ false →
         FitsNowhere row.now.behind own (prev_before prev bytes.now (64 * j)) (bytes_of_block bytes.now j) }
+    ensures awake { (own : List ByteSet) (blocks : BlockSet) (j : ℕ) →
+        IsRowBy (row_numbers row.now) sets.now own →
+        result ≡ Some blocks →
+        j < 8 →
+        has_block blocks j ≡ true →
+        FitsNowhere row.now.behind own (prev_before prev bytes.now (64 * j)) (bytes_of_block bytes.now j) → ⊥ }
 {
-    if fits(row, sets, words, prev, bytes) {
-        Some(BlockSet::all())
-    } else {
-        None
+    if !fits(row, sets, words, prev, bytes) {
+        return None;
     }
+    let numbers = row.numbers();
+    let mut places = begun_places(row, sets, words, prev, bytes);
+    for depth in 0..numbers.len() {
+        let number = numbers[depth] as usize;
+        words.learn(sets, number, bytes);
+        keep_open_within(&mut places, words.row(number), depth);
+    }
+    Some(blocks_with(&places))
 }
 
 /// The places of a chunk behind `prev` at which the row may begin.

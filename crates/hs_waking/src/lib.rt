@@ -1,7 +1,7 @@
 //! Which engines a chunk may wake: a row of sets, of the first byte of a match, of the second and so on, keeps an
 //! engine asleep over a chunk in which it fits nowhere behind what may stand before a match. `row_of` and `behind_of`
 //! make these of an automaton, `fits` tells whether a row fits somewhere, 64 places at a time, and `fits_plain` is its
-//! slow twin. `laws` says what rows are good for.
+//! slow twin; `awake_blocks` tells besides in which blocks of 64 bytes. `laws` says what rows are good for.
 #![tactic(auto)]
 
 mod befores;

@@ -1,18 +1,20 @@
-//! `fits` beside its slow twin, and the row of an automaton of two positions.
+//! `fits` and `awake_blocks` beside the slow twin, and the row of an automaton of two positions.
 
 ghost use Rattle.std.specs.Prelude.{◌≡◌, ℕ, ◌<◌, ◌≤◌, true, length, slice_index};
 ghost use Rattle.hs_waking.specs.Fits.{IsBehindBy};
 
 use crate::befores::behind_of;
 use crate::beginning::Beginning;
+use crate::block_set::BlockSet;
 use crate::class_words::{ClassWords, MAX_CHUNK};
-use crate::fitting::fits;
+use crate::fitting::{awake_blocks, fits};
 use crate::plain::fits_plain;
 use crate::prev_set::PrevSet;
 use crate::row_table::RowTable;
 use crate::rows::row_of;
 use crate::wake_row::WakeRow;
 use hs_base::{Assertion, ByteSet, Mask, Prev};
+use hs_bits::WORD_BITS;
 use hs_engine::{Automaton, FollowRows};
 use std::alloc::{AllocError, Global};
 use std::test::Fail;
@@ -84,7 +86,36 @@ fn is_begun(row: &WakeRow, sets: &[ByteSet]) -> bool
     number < sets.len() && sets[number] == row.behind.bytes()
 }
 
-/// Whether both tell the same of a row in a chunk behind `prev`.
+/// What stands before that place of the bytes behind `prev`.
+fn before(prev: Prev, bytes: &[u8], place: usize) -> Prev
+    requires { place ≤ length bytes.now }
+{
+    match place.checked_sub(1) {
+        None => prev,
+        Some(last) => Prev::behind(bytes[last]),
+    }
+}
+
+/// Whether the row fits somewhere in the block of that number, byte by byte.
+fn fits_block(behind: PrevSet, row: &[ByteSet], prev: Prev, bytes: &[u8], block: usize) -> bool
+    requires { block < 8 }
+{
+    let from = (WORD_BITS * block).min(bytes.len());
+    let to = (from + WORD_BITS).min(bytes.len());
+    fits_plain(behind, row, before(prev, bytes, from), &bytes[from..to])
+}
+
+/// Whether the blocks are those in which the row fits somewhere, byte by byte.
+fn are_blocks(told: BlockSet, behind: PrevSet, row: &[ByteSet], prev: Prev, bytes: &[u8]) -> bool {
+    for block in 0..8 {
+        if told.contains(block) != fits_block(behind, row, prev, bytes, block) {
+            return false;
+        }
+    }
+    true
+}
+
+/// Whether all tell the same of a row in a chunk behind `prev`.
 fn agrees(
     alloc: Global,
     behind: PrevSet,
@@ -105,7 +136,12 @@ fn agrees(
     }
     let mut words = ClassWords::new(alloc, count)?;
     let told = fits(made, &table.sets, &mut words, prev, bytes);
-    Ok(told == fits_plain(behind, row, prev, bytes))
+    let blocks = awake_blocks(made, &table.sets, &mut words, prev, bytes);
+    let same = match blocks {
+        None => !told,
+        Some(blocks) => told && are_blocks(blocks, behind, row, prev, bytes),
+    };
+    Ok(same && told == fits_plain(behind, row, prev, bytes))
 }
 
 /// Whether they do so of each row behind these, whatever stands before the chunk.
