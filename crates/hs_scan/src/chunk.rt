@@ -2,6 +2,7 @@
 
 ghost use Rattle.std.specs.Prelude.{◌≡◌, ◌+◌, ◌*◌, ◌<◌, ◌≤◌, ◌^◌, ℕ, IfOk, length, slice_index};
 ghost use Rattle.hs_base.specs.Lists.{Each};
+ghost use Rattle.hs_nodes.specs.Awake.{AreBesideAsleep};
 ghost use Rattle.hs_nodes.specs.Resting.{AreEnginesIdle, AreNodesResting, AreNodesUnwoken};
 ghost use Rattle.hs_nodes.specs.Walks.{AreNodesWell, IsOutside, IsTableSound};
 ghost use Rattle.hs_reports.specs.Events.{Takes};
@@ -15,6 +16,7 @@ use hs_block::BlockEngine;
 use hs_engine::Steps;
 use hs_nodes::{Chunk, ChunkEnds, ChunkHits, Graph, MarkSet, everywhere, settle, walk};
 use hs_reports::Events;
+use hs_waking::BlockSet;
 use std::alloc::{AllocError, Global};
 use std::sync::ledger::Ledger;
 
@@ -45,11 +47,12 @@ impl Course {
 
 /// Takes a chunk by the nodes that are marked: the region goes from what is kept of the nodes before it to what is
 /// kept behind it, what is known of the identifiers likewise, and the new reports of the chunk are told. Nothing is
-/// live then in the nodes that aren't marked.
+/// live then in the nodes that aren't marked. Of engines without a parent it is said in which blocks they may be woken.
 pub(crate) fn take_chunk<E: BlockEngine, V: Events, L: Ledger>(
     graph: &Graph<E>,
     chunk: &Chunk,
     hits: &[ChunkHits],
+    awake: &[BlockSet],
     region: &mut [u8],
     ends: &mut [ChunkEnds],
     course: &mut Course,
@@ -68,6 +71,7 @@ pub(crate) fn take_chunk<E: BlockEngine, V: Events, L: Ledger>(
     requires resting { AreNodesResting E.meaning graph.now.table course.old.marks region.old }
     requires unwoken { AreNodesUnwoken E.meaning graph.now.table course.old.marks hits.now
         chunk.now.prev chunk.now.bytes.now }
+    requires beside { AreBesideAsleep E.meaning graph.now.table awake.now chunk.now.prev chunk.now.bytes.now }
     ensures len { length region.new ≡ length region.old }
     ensures well { AreNodesWell E.meaning graph.now.table region.new
         (chunk.now.at + length chunk.now.bytes.now) }
@@ -88,6 +92,7 @@ pub(crate) fn take_chunk<E: BlockEngine, V: Events, L: Ledger>(
         &graph.table,
         chunk,
         hits,
+        awake,
         region,
         ends,
         &mut course.marks,

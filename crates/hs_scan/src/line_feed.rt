@@ -169,13 +169,20 @@ pub(crate) fn run_line_feed<E: BlockEngine, V: Events, L: Ledger>(
         chunk.now.bytes.now scratch.old.hits.items scratch.old.course.known.told.items
         scratch.old.course.known.here.items scratch.old.finals scratch.new.last.items }
 {
-    let words = &mut scratch.words;
-    let marks = &mut scratch.course.marks;
-    wake(graph, &scratch.rows, chunk.prev, chunk.bytes, words, marks);
+    wake(
+        graph,
+        &scratch.rows,
+        chunk.prev,
+        chunk.bytes,
+        &mut scratch.words,
+        &mut scratch.awake,
+        &mut scratch.course.marks,
+    );
     walk(
         &graph.table,
         chunk,
         &scratch.hits,
+        &scratch.awake,
         region,
         &mut scratch.ends,
         &mut scratch.course.marks,

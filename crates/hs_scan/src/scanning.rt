@@ -65,13 +65,20 @@ fn run_chunk<E: BlockEngine, V: Events, L: Ledger>(
         scratch.old.course.known.told.items scratch.old.course.known.here.items scratch.new.course.known.told.items
         scratch.new.course.known.here.items) }
 {
-    let words = &mut scratch.words;
-    let marks = &mut scratch.course.marks;
-    wake(graph, &scratch.rows, chunk.prev, chunk.bytes, words, marks);
+    wake(
+        graph,
+        &scratch.rows,
+        chunk.prev,
+        chunk.bytes,
+        &mut scratch.words,
+        &mut scratch.awake,
+        &mut scratch.course.marks,
+    );
     take_chunk(
         graph,
         chunk,
         &scratch.hits,
+        &scratch.awake,
         region,
         &mut scratch.ends,
         &mut scratch.course,
