@@ -1,4 +1,3 @@
-use Rattle.std.proofs.Common.{ap, sym, ◌∙◌}
 use Rattle.hs_waking.proofs.RowTableLemmas.{same-set}
 use Rattle.hs_waking.proofs.tests.is_begun.Goals as goal
 
