@@ -1,5 +1,5 @@
 -- In which blocks of a chunk an engine without a parent may be woken.
-use Rattle.std.specs.Prelude.{◌≡◌, ℕ, ◌+◌, ◌*◌, ◌<◌, ◌≤◌, false, List, length, Option, Some, None, slice_get, slice_index}
+use Rattle.std.specs.Prelude.{◌≡◌, ℕ, ◌*◌, ◌<◌, Bool, false, List, length, Option, Some, None, slice_get, slice_index}
 use Rattle.hs_base.specs.declared.context.Mask.{Mask}
 use Rattle.hs_base.specs.declared.context.Prev.{Prev}
 use Rattle.hs_base.specs.Bits.{AreZero}
@@ -31,7 +31,7 @@ IsBlockAsleep m prev enters bytes = AreSet enters (length bytes) × SleepsThroug
 -- behind the block, and the words of the ends tell where the expression is left.
 abbrev pub ScansBlock : Meaning → (old new : List ℕ) → Prev → (at enters : ℕ) (bytes : List ℕ) → BlockEnds → Type 0
 ScansBlock m old new prev at enters bytes ends =
-    (tree : Tree) (u : List ℕ) (entered : List _) →
+    (tree : Tree) (u : List ℕ) (entered : List Bool) →
     IsFieldOf m old prev at tree u entered →
     Scans (m.field new tree) tree u entered bytes enters ends.before ends.behind
 

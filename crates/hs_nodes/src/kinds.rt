@@ -27,6 +27,8 @@ pub(crate) struct Found<'c, 'h> {
     pub contexts: &'c [Contexts],
     /// Where each literal ends in it.
     pub hits: &'h [ChunkHits],
+    /// In which of its blocks each node without a parent may be woken.
+    pub awake: &'h [BlockSet],
 }
 
 /// Takes a chunk by a node of that kind, where the pieces before are left as `enters` tell. In blocks that aren't awake

@@ -1,6 +1,7 @@
 //! Which nodes a chunk wakes.
 
-ghost use Rattle.std.specs.Prelude.{◌≡◌, ◌*◌, ◌<◌, ◌≤◌, ℕ, List, true, false, length, None, Some, slice_get, slice_index};
+ghost use Rattle.std.specs.Prelude.{◌≡◌, ◌*◌, ◌<◌, ◌≤◌, ℕ, List, true, false, length, None, Some, slice_get};
+ghost use Rattle.std.specs.Prelude.{slice_index};
 ghost use Rattle.hs_base.specs.declared.byte_set.ByteSet.{ByteSet};
 ghost use Rattle.hs_reports.specs.Marks.{is_marked, mark_room};
 ghost use Rattle.hs_bits.specs.BlockContexts.{prev_before};
@@ -55,8 +56,8 @@ fn never_empty(kind: NodeKind) -> bool
     }
 }
 
-/// In which blocks of a chunk behind `prev` the row fits that stands at that place, all, if it can't be asked; None where
-/// it fits nowhere. The words are those of this chunk so far as they are known.
+/// In which blocks of a chunk behind `prev` the row fits that stands at that place, or all, if it can't be asked; None
+/// where it fits nowhere. The words are those of this chunk so far as they are known.
 fn may_fit(
     wakes: &WakeTable,
     place: usize,
@@ -116,6 +117,7 @@ fn wakes_node<E: Engine>(
 
 /// Tells in which blocks the node of that number may be woken, if there is room for it.
 fn tell_awake(awake: &mut [BlockSet], k: usize, blocks: BlockSet)
+    ensures len { length awake.new ≡ length awake.old }
     ensures own { (told : BlockSet) → slice_get awake.new k ≡ Some told → told ≡ blocks }
     ensures others { (i : ℕ) → (i ≡ k → ⊥) → slice_get awake.new i ≡ slice_get awake.old i }
 {
@@ -152,6 +154,7 @@ fn wake_engine<E: Engine>(
         slice_get graph.now.table.nodes.items (slice_index graph.now.wakes.first_engines.items place) ≡ Some node →
         slice_get awake.new (slice_index graph.now.wakes.first_engines.items place) ≡ Some blocks →
         IsBesideAsleep E.meaning graph.now.table.engines.items node.kind blocks prev bytes.now }
+    ensures len { length awake.new ≡ length awake.old }
     ensures elsewhere { (i : ℕ) → (i ≡ slice_index graph.now.wakes.first_engines.items place → ⊥) →
         slice_get awake.new i ≡ slice_get awake.old i }
 {
@@ -180,6 +183,7 @@ pub fn wake_engines<E: Engine>(
     requires room { length graph.now.table.nodes.items ≤ mark_room marks.old }
     requires below { (k : ℕ) → is_marked marks.old k ≡ true → k < length graph.now.table.nodes.items }
     requires few { length bytes.now ≤ 512 }
+    ensures len { length awake.new ≡ length awake.old }
     ensures beside { AreBesideAsleep E.meaning graph.now.table awake.new prev bytes.now }
     ensures more { AreMoreMarks (length graph.now.table.nodes.items) marks.old marks.new }
     ensures asleep { AreEnginesUnwoken E.meaning graph.now.table marks.new prev bytes.now }

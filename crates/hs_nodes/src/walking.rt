@@ -69,7 +69,6 @@ fn run_node<E: BlockEngine, L: Ledger>(
     chunk: &Chunk,
     found: &Found,
     all: &ChunkEnds,
-    awake: &[BlockSet],
     region: &mut [u8],
     ends: &mut [ChunkEnds],
     steps: &mut Steps<L>,
@@ -82,7 +81,7 @@ fn run_node<E: BlockEngine, L: Ledger>(
     requires contexts { (node : Node) → slice_get table.now.nodes.items k ≡ Some node → NeedsContexts node.kind →
         AreChunkContexts found.now.contexts.now chunk.now.prev chunk.now.at chunk.now.bytes.now }
     requires idle { AreEnginesIdle E.meaning table.now.engines.items }
-    requires asleep { AreBesideAsleep E.meaning table.now awake.now chunk.now.prev chunk.now.bytes.now }
+    requires asleep { AreBesideAsleep E.meaning table.now found.now.awake.now chunk.now.prev chunk.now.bytes.now }
     requires everywhere { (u : List ℕ) → AreLeftIn [] u chunk.now.bytes.now all.now }
     ensures len { length region.new ≡ length region.old }
     ensures ends { length ends.new ≡ length ends.old }
@@ -101,7 +100,7 @@ fn run_node<E: BlockEngine, L: Ledger>(
         chunk,
         found,
         enters,
-        awake_of(node.parent, k, awake),
+        awake_of(node.parent, k, found.awake),
         steps,
     );
 }
@@ -191,8 +190,9 @@ pub fn walk<E: BlockEngine, L: Ledger>(
         let found = Found {
             contexts: &contexts,
             hits,
+            awake,
         };
-        run_node(table, k, chunk, &found, &all, awake, region, ends, steps);
+        run_node(table, k, chunk, &found, &all, region, ends, steps);
         if !ends[k].is_nowhere() {
             mark_children(table, k, marks);
         }

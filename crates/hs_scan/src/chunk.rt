@@ -25,6 +25,8 @@ use std::sync::ledger::Ledger;
 pub(crate) struct Course {
     /// The nodes that are run over the next chunk, and those in which something may be live.
     pub marks: MarkSet,
+    /// In which blocks of a chunk each node may be woken, as far as it is one of an engine without a parent.
+    pub awake: Vec<BlockSet>,
     /// What is known of the identifiers.
     pub known: Known,
 }
@@ -40,6 +42,7 @@ impl Course {
     {
         Ok(Course {
             marks: MarkSet::new(alloc, nodes)?,
+            awake: vec![in alloc; BlockSet::all(); nodes]?,
             known: Known::new(alloc, identifiers)?,
         })
     }
@@ -52,7 +55,6 @@ pub(crate) fn take_chunk<E: BlockEngine, V: Events, L: Ledger>(
     graph: &Graph<E>,
     chunk: &Chunk,
     hits: &[ChunkHits],
-    awake: &[BlockSet],
     region: &mut [u8],
     ends: &mut [ChunkEnds],
     course: &mut Course,
@@ -71,7 +73,8 @@ pub(crate) fn take_chunk<E: BlockEngine, V: Events, L: Ledger>(
     requires resting { AreNodesResting E.meaning graph.now.table course.old.marks region.old }
     requires unwoken { AreNodesUnwoken E.meaning graph.now.table course.old.marks hits.now
         chunk.now.prev chunk.now.bytes.now }
-    requires beside { AreBesideAsleep E.meaning graph.now.table awake.now chunk.now.prev chunk.now.bytes.now }
+    requires beside { AreBesideAsleep E.meaning graph.now.table course.old.awake.items chunk.now.prev
+        chunk.now.bytes.now }
     ensures len { length region.new ≡ length region.old }
     ensures well { AreNodesWell E.meaning graph.now.table region.new
         (chunk.now.at + length chunk.now.bytes.now) }
@@ -92,7 +95,7 @@ pub(crate) fn take_chunk<E: BlockEngine, V: Events, L: Ledger>(
         &graph.table,
         chunk,
         hits,
-        awake,
+        &course.awake,
         region,
         ends,
         &mut course.marks,

@@ -175,14 +175,14 @@ pub(crate) fn run_line_feed<E: BlockEngine, V: Events, L: Ledger>(
         chunk.prev,
         chunk.bytes,
         &mut scratch.words,
-        &mut scratch.awake,
+        &mut scratch.course.awake,
         &mut scratch.course.marks,
     );
     walk(
         &graph.table,
         chunk,
         &scratch.hits,
-        &scratch.awake,
+        &scratch.course.awake,
         region,
         &mut scratch.ends,
         &mut scratch.course.marks,

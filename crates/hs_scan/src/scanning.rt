@@ -71,14 +71,13 @@ fn run_chunk<E: BlockEngine, V: Events, L: Ledger>(
         chunk.prev,
         chunk.bytes,
         &mut scratch.words,
-        &mut scratch.awake,
+        &mut scratch.course.awake,
         &mut scratch.course.marks,
     );
     take_chunk(
         graph,
         chunk,
         &scratch.hits,
-        &scratch.awake,
         region,
         &mut scratch.ends,
         &mut scratch.course,

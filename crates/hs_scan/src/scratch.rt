@@ -17,7 +17,7 @@ use hs_layout::HISTORY_SIZE;
 use hs_literals::{HitRows, Literals};
 use hs_nodes::{ChunkEnds, ChunkHits, Graph};
 use hs_reports::IdentifierEnds;
-use hs_waking::{BlockSet, ClassWords};
+use hs_waking::ClassWords;
 use std::alloc::{AllocError, Global};
 
 /// For how many sets of bytes there is room: rows name no more.
@@ -34,8 +34,6 @@ pub struct Scratch {
     pub(crate) rows: HitRows,
     /// At which places of a chunk the sets have bytes by which first engines are woken.
     pub(crate) words: ClassWords,
-    /// In which blocks of a chunk each node may be woken, as far as it is one of an engine without a parent.
-    pub(crate) awake: Vec<BlockSet>,
     /// What goes from chunk to chunk.
     pub(crate) course: Course,
     /// Where matches of each identifier would end before a line feed, were that the last byte.
@@ -69,7 +67,6 @@ impl Scratch {
             hits: vec![in alloc; ChunkHits::NOWHERE; count]?,
             rows: HitRows::new(alloc, count)?,
             words: ClassWords::new(alloc, graph.wakes.sets.len().min(MAX_SETS))?,
-            awake: vec![in alloc; BlockSet::all(); nodes]?,
             course: Course::new(alloc, nodes, identifiers)?,
             finals: IdentifierEnds::new(alloc, identifiers)?,
             last: vec![in alloc; 0u64; word_count_for(identifiers)]?,

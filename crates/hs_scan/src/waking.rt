@@ -50,6 +50,7 @@ pub(crate) fn wake<E: BlockEngine>(
     requires below { (k : ℕ) → is_marked marks.old k ≡ true → k < length graph.now.table.nodes.items }
     requires few { length bytes.now ≤ 512 }
     ensures more { AreMoreMarks (length graph.now.table.nodes.items) marks.old marks.new }
+    ensures len { length awake.new ≡ length awake.old }
     ensures beside { AreBesideAsleep E.meaning graph.now.table awake.new prev bytes.now }
     ensures unwoken { (hits : List ChunkHits) → ((k : ℕ) → has_hit rows.now k ≡ false → HasNowhere hits k) →
         AreNodesUnwoken E.meaning graph.now.table marks.new hits prev bytes.now }

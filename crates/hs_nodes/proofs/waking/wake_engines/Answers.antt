@@ -1,4 +1,4 @@
-use Rattle.std.proofs.Common.{◌+◌, refl, arith}
+use Rattle.std.proofs.Common.{◌+◌, ◌∙◌, refl, arith}
 use Rattle.hs_nodes.proofs.AwakeLemmas.{all-beside, beside-all, beside-more, beside-none}
 use Rattle.hs_nodes.proofs.WakeLemmas.{engines-unwoken, looked-all, looked-more}
 use Rattle.hs_nodes.proofs.waking.wake_engines.Goals as goal
@@ -27,5 +27,6 @@ loop-i-preserved g c =
     record {
       looked = looked-more m graph.table list c.args.prev c.args.bytes.now c.args.marks.now c.loop-i.marks c.wake_engine.new.marks i (i + 1) refl c.wake_engine.ensures.more c.wake_engine.ensures.asleep c.loop-i.invariant.looked;
       chunk = c.wake_engine.ensures.chunk;
+      len = c.wake_engine.ensures.len ∙ c.loop-i.invariant.len;
       beside = beside-more m graph.table list c.args.prev c.args.bytes.now c.loop-i.awake c.wake_engine.new.awake i (i + 1) refl c.wake_engine.ensures.elsewhere c.wake_engine.ensures.beside c.loop-i.invariant.beside;
     }
