@@ -6,3 +6,4 @@ pub mod WakeRows
 pub mod ChunkWords
 pub mod PlaceBits
 pub mod RowTables
+pub mod EntryRows
