@@ -9,7 +9,9 @@ use Rattle.hs_engine.specs.Automata.{in_set}
 use Rattle.hs_waking.proofs.AnyLemmas.{any-some, none-any, true-false}
 use Rattle.hs_waking.proofs.PlaceLemmas.{less, less-is}
 use Rattle.hs_waking.specs.ChunkWords.{is_open_at}
-use Rattle.hs_waking.specs.Fits.{FitsTo, IsRowBy}
+use Rattle.hs_base.specs.declared.context.Prev.{Prev}
+use Rattle.hs_waking.specs.Fits.{FitsAt, FitsNowhere, FitsTo, IsRowBy}
+use Rattle.hs_waking.specs.declared.prev_set.PrevSet.{PrevSet}
 use Rattle.hs_waking.proofs.WakeLemmas.{fits-more}
 
 -- The bits of the places of a chunk are those at which a row may begin and so many of its sets fit.
@@ -69,20 +71,6 @@ module _ (begun : ℕ → Bool) (row : ℕ → Option ByteSet) (bytes : List ℕ
         ∙ of_both (has_word_bit places p) (has_word_bit class (p + depth)) ((known p small).1 (all.0, all.1, λ d below inside. fits d (omega arith) inside)) (class-fits p small fits),
   )
 
--- no place is open
-pub none-open : (begun : ℕ → Bool) (row : ℕ → Option ByteSet) (bytes : List ℕ) (count : ℕ) (places : List ℕ) (n : ℕ) → length bytes ≤ 512 → AreOpen begun row bytes count places → any_below 512 (has_word_bit places) ≡ false → count ≤ n →
-    (p : ℕ) → p < length bytes → begun p ≡ true → FitsTo row bytes n p → ⊥
-none-open begun row bytes count places n few known none_ part p within may fits =
-    true-false (has_word_bit places p) ((known p (omega arith)).1 (within, may, λ d below inside. fits d (omega arith) inside)) (none-any 512 (has_word_bit places) none_ p (omega arith))
-
--- some place is open
-pub some-open : (begun : ℕ → Bool) (row : ℕ → Option ByteSet) (bytes : List ℕ) (n : ℕ) (places : List ℕ) → AreOpen begun row bytes n places → any_below 512 (has_word_bit places) ≡ true →
-    ((p : ℕ) → p < length bytes → begun p ≡ true → FitsTo row bytes n p → ⊥) → ⊥
-some-open begun row bytes n places known some none_ =
-    let (p, below, set) = any-some 512 (has_word_bit places) some in
-    let (within, may, fits) = (known p below).0 set in
-    none_ p within may fits
-
 -- a row by the numbers of its sets
 
 pub row-fits : (numbers : List ℕ) (sets row : List ByteSet) (bytes : List ℕ) (i : ℕ) → IsRowBy numbers sets row → FitsTo (λ d. slice_get sets (get_or numbers d 0)) bytes (length numbers) i → FitsTo (slice_get row) bytes (length row) i
@@ -93,3 +81,37 @@ row-fits numbers sets row bytes i by fits d below inside =
 pub fits-row : (numbers : List ℕ) (sets row : List ByteSet) (bytes : List ℕ) (i : ℕ) → IsRowBy numbers sets row → FitsTo (slice_get row) bytes (length row) i → FitsTo (λ d. slice_get sets (get_or numbers d 0)) bytes (length numbers) i
 fits-row numbers sets row bytes i by fits d below inside =
     sym (ap (λ o. in_set o (get_or bytes (i + d) 0)) (by.are d below)) ∙ fits d (omega (arith, by.count)) inside
+
+-- the places of a row of which all sets have been asked
+
+module _ (begun : ℕ → Bool) (numbers : List ℕ) (sets row : List ByteSet) (bytes : List ℕ) (depth : ℕ) (places : List ℕ) (by : IsRowBy numbers sets row) where
+  abbrev Row : ℕ → Option ByteSet
+  Row d = slice_get sets (get_or numbers d 0)
+
+  pub all-open : length numbers ≤ depth → depth ≤ length numbers → AreOpen begun Row bytes depth places → (p : ℕ) → p < 512 → (has_word_bit places p ≡ true) ↔ ((p < length bytes) × ((begun p ≡ true) × FitsTo (slice_get row) bytes (length row) p))
+  all-open enough within known p small = (
+    λ set. let (inside, may, fits) = (known p small).0 set in (inside, (may, row-fits numbers sets row bytes p by (λ d below behind. fits d (omega arith) behind))),
+    λ all. let (inside, (may, fits)) = all in (known p small).1 (inside, may, λ d below behind. fits-row numbers sets row bytes p by fits d (omega arith) behind),
+  )
+
+  -- none is left
+  pub none-fits : depth ≤ length numbers → AreOpen begun Row bytes depth places → any_below 512 (has_word_bit places) ≡ false → (p : ℕ) → p < 512 → (has_word_bit places p ≡ true) ↔ ((p < length bytes) × ((begun p ≡ true) × FitsTo (slice_get row) bytes (length row) p))
+  none-fits within known none p small = (
+    λ set. true-false (has_word_bit places p) set (none-any 512 (has_word_bit places) none p small),
+    λ all. let (inside, (may, fits)) = all in (known p small).1 (inside, may, λ d below behind. fits-row numbers sets row bytes p by fits d (omega arith) behind),
+  )
+
+-- there is none just where the row fits nowhere
+pub some-fits : (behind : PrevSet) (row : List ByteSet) (prev : Prev) (bytes places : List ℕ) (none : Bool) → length bytes ≤ 512 → none ≡ not (any_below 512 (has_word_bit places)) →
+    ((p : ℕ) → p < 512 → (has_word_bit places p ≡ true) ↔ ((p < length bytes) × FitsAt behind row prev bytes p)) → (not none ≡ false) ↔ FitsNowhere behind row prev bytes
+some-fits behind row prev bytes places true few none fits = (
+  λ told p inside fit. true-false (has_word_bit places p) ((fits p (omega arith)).1 (inside, fit)) (none-any 512 (has_word_bit places) (told-none true _ none refl) p (omega arith)),
+  λ nowhere. refl,
+)
+some-fits behind row prev bytes places false few none fits = (
+  λ told. absurd (let e : true ≡ false = told in cc),
+  λ nowhere.
+      let (p, below, set) = any-some 512 (has_word_bit places) (told-some false _ none refl) in
+      let (inside, fit) = (fits p below).0 set in
+      absurd (nowhere p inside fit),
+)

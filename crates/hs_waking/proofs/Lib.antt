@@ -5,6 +5,6 @@ pub mod WakeLemmas
 mod LevelLemmas
 mod WordLemmas
 mod FitLemmas
-mod BlockLemmas
 pub mod WakerLemmas
 pub mod PrevLemmas
+mod StartLemmas

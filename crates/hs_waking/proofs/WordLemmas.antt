@@ -210,35 +210,6 @@ module _ (words class : List ℕ) (old : ℕ → Bool) (n d next : ℕ) (within 
             set-both words n next within p here ∙ (ap (λ b. b && place_bit next (p % 64)) (later p past) ∙ ap (λ b. old p && b) (next-is p here))
       ]
 
--- one word more of those that are kept within their blocks
-module _ (words class : List ℕ) (old : ℕ → Bool) (n d next : ℕ) (within : n < length words) (near : d < 64)
-    (low : (i : ℕ) → i + d < 64 → place_bit next i ≡ place_bit (get_or class n 0) (i + d))
-    (high : (i : ℕ) → i < 64 → 64 ≤ i + d → place_bit next i ≡ place_bit 18446744073709551615 (i + d - 64)) where
-  -- the bit so far on in the class, if it is one of the block
-  within-is : (p : ℕ) → p / 64 ≡ n → place_bit next (p % 64) ≡ (nat_le 64 (p % 64 + d) || has_word_bit class (p + d))
-  within-is p here =
-      elim (cases_lt (p % 64 + d) 64) [
-        | inl below ↦
-            let place : n ≡ (p + d) / 64 = omega arith in
-            let bit : p % 64 + d ≡ (p + d) % 64 = omega arith in
-            low (p % 64) below
-            ∙ (ap (place_bit (get_or class n 0)) bit
-            ∙ (ap (λ k. place_bit (get_or class k 0) ((p + d) % 64)) place
-            ∙ (sym (row-bit class (p + d)) ∙ ap (λ b. b || has_word_bit class (p + d)) (sym (lt-leb 64 (p % 64 + d) below)))))
-        | inr past ↦
-            high (p % 64) (omega arith) past ∙ (ones (p % 64 + d - 64) (omega arith) ∙ ap (λ b. b || has_word_bit class (p + d)) (sym (le-leb 64 (p % 64 + d) past)))
-      ]
-
-  pub kept-within : ((p : ℕ) → p < 64 * n → has_word_bit words p ≡ (old p && (nat_le 64 (p % 64 + d) || has_word_bit class (p + d)))) → ((p : ℕ) → 64 * n ≤ p → has_word_bit words p ≡ old p) → (p : ℕ) → p < 64 * (n + 1) →
-      has_word_bit (set words n (bit_and (get_or words n 0) next)) p ≡ (old p && (nat_le 64 (p % 64 + d) || has_word_bit class (p + d)))
-  kept-within known later p few =
-      elim (cases_lt p (64 * n)) [
-        | inl before ↦ bit-kept words n (bit_and (get_or words n 0) next) p (λ same. omega arith) ∙ known p before
-        | inr past ↦
-            let here : p / 64 ≡ n = omega arith in
-            set-both words n next within p here ∙ (ap (λ b. b && place_bit next (p % 64)) (later p past) ∙ ap (λ b. old p && b) (within-is p here))
-      ]
-
 -- words united
 either-zero : (a b : ℕ) → bit_or a b ≡ 0 → (a ≡ 0) × (b ≡ 0)
 either-zero a b none = (
@@ -283,26 +254,6 @@ word-unset words j fits unset =
           ap (place_bit (get_or words j 0)) bit
           ∙ (ap (λ n. place_bit (get_or words n 0) ((64 * j + k) % 64)) place ∙ (sym (row-bit words (64 * j + k)) ∙ unset (64 * j + k) (sym place)))
     ])
-
--- it isn't 0 where one has
-pub word-any : (words : List ℕ) (j : ℕ) → get_or words j 0 < 2 ^ 64 → not (eqb (get_or words j 0) 0) ≡ any_below 64 (λ i. has_word_bit words (64 * j + i))
-word-any words j fits =
-    elim (true-or-false (any_below 64 (λ i. has_word_bit words (64 * j + i)))) [
-      | inl some ↦
-          let (i, below, set) = any-some 64 (λ i. has_word_bit words (64 * j + i)) some in
-          let place : (64 * j + i) / 64 ≡ j = omega arith in
-          let apart : get_or words j 0 ≢ 0 =
-          λ none.
-          true-false (has_word_bit words (64 * j + i)) set
-          (row-bit words (64 * j + i) ∙ (ap (λ w. place_bit w ((64 * j + i) % 64)) (ap (λ k. get_or words k 0) place ∙ none) ∙ bit-none ((64 * j + i) % 64))) in
-          ap not (ne_eqb (get_or words j 0) 0 apart) ∙ sym some
-      | inr none ↦
-          let unset : (p : ℕ) → p / 64 ≡ j → has_word_bit words p ≡ false =
-          λ p here.
-          let place : p ≡ 64 * j + p % 64 = omega arith in
-          ap (has_word_bit words) place ∙ none-any 64 (λ i. has_word_bit words (64 * j + i)) none (p % 64) (omega arith) in
-          ap not (eq-eqb (get_or words j 0) 0 (word-unset words j fits unset)) ∙ sym none
-    ]
 
 pub none-is : (places : List ℕ) (any : ℕ) → ((j : ℕ) → j < 8 → get_or places j 0 < 2 ^ 64) → (any ≡ 0) ↔ ((j : ℕ) → j < 8 → get_or places j 0 ≡ 0) → eqb any 0 ≡ not (any_below 512 (has_word_bit places))
 none-is places any fits zero_is =

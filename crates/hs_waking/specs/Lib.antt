@@ -1,4 +1,3 @@
-pub mod BlockSets
 pub mod PrevSets
 pub mod Fits
 pub mod Rows
@@ -7,3 +6,4 @@ pub mod ChunkWords
 pub mod PlaceBits
 pub mod RowTables
 pub mod EntryRows
+pub mod Starts

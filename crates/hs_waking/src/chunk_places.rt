@@ -1,18 +1,21 @@
 //! Places of a chunk as eight words, a bit for each.
 
-ghost use Rattle.std.specs.Prelude.{◌≡◌, ℕ, ◌+◌, ◌-◌, ◌*◌, ◌%◌, ◌<◌, ◌≤◌, ◌&&◌, ◌||◌, nat_le, nat_lt, not, length};
+ghost use Rattle.std.specs.Prelude.{◌≡◌, ℕ, ◌+◌, ◌-◌, ◌<◌, ◌≤◌, ◌&&◌, nat_lt, not, true, length};
+ghost use Rattle.std.specs.Prelude.{slice_index};
 ghost use Rattle.hs_base.specs.Bits.{has_word_bit};
 ghost use Rattle.hs_engine.specs.AnyBelow.{any_below};
-ghost use Rattle.hs_waking.specs.BlockSets.{has_block};
 ghost use Rattle.hs_waking.specs.PlaceBits.{is_behind, place_bit};
 
-use crate::block_set::BlockSet;
 use crate::class_words::{CHUNK_WORDS, CLASS_WORDS, MAX_CHUNK};
 use crate::low_places::low_places;
 use hs_bits::WORD_BITS;
 
-/// The places of a chunk.
-pub(crate) type Places = [u64; CHUNK_WORDS];
+/// Places of a chunk: a word for each of its blocks of 64 bytes, a bit for each place.
+pub type Places = [u64; CHUNK_WORDS];
+/// No place.
+pub const NO_PLACES: Places = [0; CHUNK_WORDS];
+/// All places, those behind the last byte too.
+pub const ALL_PLACES: Places = [u64::MAX; CHUNK_WORDS];
 
 /// All places before that one.
 #[inline(always)]
@@ -21,7 +24,7 @@ pub(crate) fn places_before(end: usize) -> Places
     ensures { (p : ℕ) → p < 512 → has_word_bit result p ≡ nat_lt p end }
 {
     if end == MAX_CHUNK {
-        [u64::MAX; CHUNK_WORDS]
+        ALL_PLACES
     } else {
         some_places_before(end)
     }
@@ -33,7 +36,7 @@ fn some_places_before(end: usize) -> Places
     requires { end ≤ 512 }
     ensures { (p : ℕ) → p < 512 → has_word_bit result p ≡ nat_lt p end }
 {
-    let mut places = [0u64; CHUNK_WORDS];
+    let mut places = NO_PLACES;
     for word in 0..CHUNK_WORDS {
         places[word] = low_places(end.saturating_sub(WORD_BITS * word).min(WORD_BITS));
     }
@@ -50,20 +53,6 @@ pub(crate) fn keep_open(places: &mut Places, class: &[u64], distance: usize)
 {
     for word in 0..CHUNK_WORDS {
         places[word] &= moved(class[word], class[word + 1], distance);
-    }
-}
-
-/// The same, block by block: a place stays where so many places on the next block has begun.
-#[inline(always)]
-pub(crate) fn keep_open_within(places: &mut Places, class: &[u64], distance: usize)
-    requires class { length class.now ≡ 9 }
-    requires near { distance < 64 }
-    ensures { (p : ℕ) → p < 512 →
-        has_word_bit places.new p ≡
-        (has_word_bit places.old p && (nat_le 64 (p % 64 + distance) || has_word_bit class.now (p + distance))) }
-{
-    for word in 0..CHUNK_WORDS {
-        places[word] &= moved(class[word], u64::MAX, distance);
     }
 }
 
@@ -104,26 +93,14 @@ fn moved(word: u64, next: u64, distance: usize) -> u64
 
 /// Whether there is none.
 #[inline(always)]
-pub(crate) fn is_none(places: &[u64]) -> bool
+pub fn is_none(places: &[u64]) -> bool
     requires { length places.now ≡ 8 }
-    ensures { result ≡ not (any_below 512 (has_word_bit places.now)) }
+    ensures none { result ≡ not (any_below 512 (has_word_bit places.now)) }
+    ensures zero { result ≡ true → (j : ℕ) → j < 8 → slice_index places.now j ≡ 0 }
 {
     let mut any = 0;
     for word in 0..CHUNK_WORDS {
         any |= places[word];
     }
     any == 0
-}
-
-/// The blocks in which there is one.
-#[inline(always)]
-pub(crate) fn blocks_with(places: &[u64]) -> BlockSet
-    requires { length places.now ≡ 8 }
-    ensures { (j : ℕ) → j < 8 → has_block result j ≡ any_below 64 (λ i. has_word_bit places.now (64 * j + i)) }
-{
-    let mut blocks = BlockSet::empty();
-    for block in 0..CHUNK_WORDS {
-        blocks = blocks.with(block, places[block] != 0);
-    }
-    blocks
 }

@@ -1,4 +1,4 @@
-//! Whether a row of sets fits somewhere in a chunk, at all of its places at once.
+//! Where a row of sets fits in a chunk, for all of its places at once.
 //!
 //! The words of the row `[ab] [c] [d]` over eight bytes; behind the last one all places count as set:
 //!
@@ -9,33 +9,22 @@
 //! [d], 2 on       . 1 . . . . 1 1
 //! fits            . 1 . . . . . 1
 //! ```
-//!
-//! Block by block a place counts as set where a set of the row would have its byte in the next block.
 
-ghost use Rattle.std.specs.Prelude.{◌≡◌, ◌↔◌, ℕ, ◌<◌, ◌≤◌, ◌*◌, ◌&&◌, nat_lt, true, false, List, length, slice_index};
-ghost use Rattle.std.specs.Prelude.{None, Some};
+ghost use Rattle.std.specs.Prelude.{◌≡◌, ◌↔◌, ℕ, ◌<◌, ◌≤◌, ◌&&◌, nat_lt, true, false, List, length, slice_index};
 ghost use Rattle.hs_base.specs.declared.byte_set.ByteSet.{ByteSet};
 ghost use Rattle.hs_base.specs.Bits.{has_word_bit};
 ghost use Rattle.hs_bits.specs.BlockContexts.{prev_before};
-ghost use Rattle.hs_waking.specs.BlockSets.{bytes_of_block, has_block};
-ghost use Rattle.hs_waking.specs.declared.block_set.BlockSet.{BlockSet};
 ghost use Rattle.hs_waking.specs.ChunkWords.{AreOfChunk};
-ghost use Rattle.hs_waking.specs.Fits.{FitsNowhere, IsBehindBy, IsRowBy, row_numbers};
+ghost use Rattle.hs_waking.specs.Fits.{FitsAt, FitsNowhere, IsBehindBy, IsRowBy, row_numbers};
 ghost use Rattle.hs_waking.specs.PrevSets.{has_prev};
 
-use crate::block_set::BlockSet;
-use crate::chunk_places::{
-    Places, blocks_with, is_none, keep_behind, keep_open, keep_open_within, places_before,
-};
+use crate::chunk_places::{NO_PLACES, Places, is_none, keep_behind, keep_open, places_before};
 use crate::class_words::ClassWords;
 use crate::wake_row::WakeRow;
 use hs_base::{ByteSet, Prev};
 
 /// Whether the row fits at some place of a chunk behind `prev`; at its end, as far as it goes. The words are those of
 /// this chunk so far as they are known.
-///
-/// The places at which the sets so far have their bytes are kept for all places at once, and it ends with the first set
-/// that leaves none. Block by block, with an end for each block, took two to three times as long.
 pub fn fits(
     row: &WakeRow,
     sets: &[ByteSet],
@@ -55,34 +44,21 @@ pub fn fits(
         IsRowBy (row_numbers row.now) sets.now own →
         (result ≡ false) ↔ FitsNowhere row.now.behind own prev bytes.now }
 {
-    if row.behind.is_start() && !row.behind.contains(prev) {
-        return false;
-    }
-    let numbers = row.numbers();
-    let mut places = begun_places(row, sets, words, prev, bytes);
-    if is_none(&places) {
-        return false;
-    }
-    for depth in 0..numbers.len() {
-        let number = numbers[depth] as usize;
-        words.learn(sets, number, bytes);
-        keep_open(&mut places, words.row(number), depth);
-        if is_none(&places) {
-            return false;
-        }
-    }
-    true
+    !is_none(&fit_places(row, sets, words, prev, bytes))
 }
 
-/// In which blocks of a chunk behind `prev` the row fits somewhere, at the end of a block as far as that goes; None
-/// where it fits nowhere in the chunk. The words are those of this chunk so far as they are known.
-pub fn awake_blocks(
+/// The places of a chunk behind `prev` at which the row fits; at its end, as far as it goes. The words are those of this
+/// chunk so far as they are known.
+///
+/// The places at which the sets so far have their bytes are kept for all places at once, and it ends with the first set
+/// that leaves none. Block by block, with an end for each block, took two to three times as long.
+pub fn fit_places(
     row: &WakeRow,
     sets: &[ByteSet],
     words: &mut ClassWords,
     prev: Prev,
     bytes: &[u8],
-) -> Option<BlockSet>
+) -> Places
     requires numbers { (d : ℕ) → d < length (row_numbers row.now) →
         slice_index (row_numbers row.now) d < length sets.now }
     requires behind { IsBehindBy row.now sets.now }
@@ -91,33 +67,26 @@ pub fn awake_blocks(
     requires chunk { AreOfChunk words.old sets.now bytes.now }
     ensures count { words.new.count ≡ words.old.count }
     ensures chunk { AreOfChunk words.new sets.now bytes.now }
-    ensures none { (own : List ByteSet) →
+    ensures places { (own : List ByteSet) →
         IsRowBy (row_numbers row.now) sets.now own →
-        (result ≡ None) ↔ FitsNowhere row.now.behind own prev bytes.now }
-    ensures asleep { (own : List ByteSet) (blocks : BlockSet) (j : ℕ) →
-        IsRowBy (row_numbers row.now) sets.now own →
-        result ≡ Some blocks →
-        j < 8 →
-        has_block blocks j ≡ false →
-        FitsNowhere row.now.behind own (prev_before prev bytes.now (64 * j)) (bytes_of_block bytes.now j) }
-    ensures awake { (own : List ByteSet) (blocks : BlockSet) (j : ℕ) →
-        IsRowBy (row_numbers row.now) sets.now own →
-        result ≡ Some blocks →
-        j < 8 →
-        has_block blocks j ≡ true →
-        FitsNowhere row.now.behind own (prev_before prev bytes.now (64 * j)) (bytes_of_block bytes.now j) → ⊥ }
+        (p : ℕ) →
+        p < 512 →
+        (has_word_bit result p ≡ true) ↔ ((p < length bytes.now) × FitsAt row.now.behind own prev bytes.now p) }
 {
-    if !fits(row, sets, words, prev, bytes) {
-        return None;
+    if row.behind.is_start() && !row.behind.contains(prev) {
+        return NO_PLACES;
     }
     let numbers = row.numbers();
     let mut places = begun_places(row, sets, words, prev, bytes);
     for depth in 0..numbers.len() {
+        if is_none(&places) {
+            return places;
+        }
         let number = numbers[depth] as usize;
         words.learn(sets, number, bytes);
-        keep_open_within(&mut places, words.row(number), depth);
+        keep_open(&mut places, words.row(number), depth);
     }
-    Some(blocks_with(&places))
+    places
 }
 
 /// The places of a chunk behind `prev` at which the row may begin.

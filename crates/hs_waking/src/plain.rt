@@ -22,7 +22,7 @@ pub fn fits_plain(behind: PrevSet, row: &[ByteSet], prev: Prev, bytes: &[u8]) ->
 }
 
 /// Whether what stands before that place of the bytes behind `prev` is one of these.
-fn may_begin(behind: PrevSet, prev: Prev, bytes: &[u8], place: usize) -> bool
+pub(crate) fn may_begin(behind: PrevSet, prev: Prev, bytes: &[u8], place: usize) -> bool
     requires { place < length bytes.now }
     ensures { result ≡ has_prev behind (prev_before prev bytes.now place) }
 {
@@ -33,7 +33,7 @@ fn may_begin(behind: PrevSet, prev: Prev, bytes: &[u8], place: usize) -> bool
 }
 
 /// Whether each set of the row has its byte from that place on.
-fn fits_at(row: &[ByteSet], bytes: &[u8], place: usize) -> bool
+pub(crate) fn fits_at(row: &[ByteSet], bytes: &[u8], place: usize) -> bool
     requires { place < length bytes.now }
     ensures { IsTrue result ↔ FitsTo (slice_get row.now) bytes.now (length row.now) place }
 {

@@ -1,20 +1,20 @@
-//! `fits` and `awake_blocks` beside the slow twin, and the row of an automaton of two positions.
+//! `fits` and `fit_places` beside the slow twin, and the row of an automaton of two positions.
 
 ghost use Rattle.std.specs.Prelude.{◌≡◌, ℕ, ◌<◌, ◌≤◌, true, length, slice_index};
 ghost use Rattle.hs_waking.specs.Fits.{IsBehindBy};
 
 use crate::befores::behind_of;
 use crate::beginning::Beginning;
-use crate::block_set::BlockSet;
+use crate::chunk_places::Places;
 use crate::class_words::{ClassWords, MAX_CHUNK};
-use crate::fitting::{awake_blocks, fits};
-use crate::plain::fits_plain;
+use crate::fitting::{fit_places, fits};
+use crate::plain::{fits_at, fits_plain, may_begin};
 use crate::prev_set::PrevSet;
 use crate::row_table::RowTable;
 use crate::rows::row_of;
 use crate::wake_row::WakeRow;
 use hs_base::{Assertion, ByteSet, Mask, Prev};
-use hs_bits::WORD_BITS;
+use hs_bits::contains_word_bit;
 use hs_engine::{Automaton, FollowRows};
 use std::alloc::{AllocError, Global};
 use std::test::Fail;
@@ -86,29 +86,13 @@ fn is_begun(row: &WakeRow, sets: &[ByteSet]) -> bool
     number < sets.len() && sets[number] == row.behind.bytes()
 }
 
-/// What stands before that place of the bytes behind `prev`.
-fn before(prev: Prev, bytes: &[u8], place: usize) -> Prev
-    requires { place ≤ length bytes.now }
+/// Whether the places are those at which the row fits, byte by byte.
+fn are_places(told: &Places, behind: PrevSet, row: &[ByteSet], prev: Prev, bytes: &[u8]) -> bool
+    requires { length bytes.now ≤ 512 }
 {
-    match place.checked_sub(1) {
-        None => prev,
-        Some(last) => Prev::behind(bytes[last]),
-    }
-}
-
-/// Whether the row fits somewhere in the block of that number, byte by byte.
-fn fits_block(behind: PrevSet, row: &[ByteSet], prev: Prev, bytes: &[u8], block: usize) -> bool
-    requires { block < 8 }
-{
-    let from = (WORD_BITS * block).min(bytes.len());
-    let to = (from + WORD_BITS).min(bytes.len());
-    fits_plain(behind, row, before(prev, bytes, from), &bytes[from..to])
-}
-
-/// Whether the blocks are those in which the row fits somewhere, byte by byte.
-fn are_blocks(told: BlockSet, behind: PrevSet, row: &[ByteSet], prev: Prev, bytes: &[u8]) -> bool {
-    for block in 0..8 {
-        if told.contains(block) != fits_block(behind, row, prev, bytes, block) {
+    for place in 0..bytes.len() {
+        let here = may_begin(behind, prev, bytes, place) && fits_at(row, bytes, place);
+        if contains_word_bit(told, place) != here {
             return false;
         }
     }
@@ -136,11 +120,8 @@ fn agrees(
     }
     let mut words = ClassWords::new(alloc, count)?;
     let told = fits(made, &table.sets, &mut words, prev, bytes);
-    let blocks = awake_blocks(made, &table.sets, &mut words, prev, bytes);
-    let same = match blocks {
-        None => !told,
-        Some(blocks) => told && are_blocks(blocks, behind, row, prev, bytes),
-    };
+    let places = fit_places(made, &table.sets, &mut words, prev, bytes);
+    let same = are_places(&places, behind, row, prev, bytes);
     Ok(same && told == fits_plain(behind, row, prev, bytes))
 }
 

@@ -1,6 +1,6 @@
 use Rattle.std.proofs.Common.{◌≡◌, ◌<◌, ◌^◌, get_or, inl, inr, subst, arith}
 use Rattle.std.proofs.Math.Facts.{Fits-lt-pow}
-use Rattle.std.proofs.lemmas.Bool.{cases_lt}
+use Rattle.std.proofs.lemmas.Bool.{cases_lt, eqb-true}
 use Rattle.hs_waking.proofs.WordLemmas.{any-more, none-is}
 use Rattle.hs_waking.proofs.chunk_places.is_none.Goals as goal
 
@@ -17,8 +17,13 @@ loop-word-preserved c =
       zero = any-more places c.loop-word.any word c.loop-word.invariant.zero;
     }
 
-pub returns : goal.returns
-returns c =
+pub returns-clause-none : goal.returns-clause-none
+returns-clause-none c =
     let done : c.loop-word.word ≡ 8 = omega arith in
     none-is c.args.places.now c.loop-word.any (λ j small. c.loop-word.invariant.fits j (omega arith))
     (λ none j small. c.loop-word.invariant.zero.0 none j (omega arith), λ zeros. c.loop-word.invariant.zero.1 (λ j below. zeros j (omega arith)))
+
+pub returns-clause-zero : goal.returns-clause-zero
+returns-clause-zero c none j small =
+    let done : c.loop-word.word ≡ 8 = omega arith in
+    c.loop-word.invariant.zero.0 (eqb-true c.loop-word.any 0 none) j (omega arith)
