@@ -13,4 +13,4 @@ pub mod Graphs
 pub mod Leaving
 pub mod Gathering
 pub mod WellRegions
-pub mod Awake
+pub mod Starting

@@ -1,5 +1,6 @@
 -- Which nodes a chunk may wake though nothing is live in them.
-use Rattle.std.specs.Prelude.{◌≡◌, ℕ, suc, ◌<◌, ◌≤◌, Bool, true, false, List, length, Option, Some, None, slice_get}
+use Rattle.std.specs.Prelude.{◌≡◌, ◌↔◌, ℕ, suc, ◌<◌, ◌≤◌, Bool, true, false, List, length, replicate, Option, Some, None}
+use Rattle.std.specs.Prelude.{slice_get}
 use Rattle.std.specs.Prelude.{slice_index}
 use Rattle.hs_base.specs.declared.byte_set.ByteSet.{ByteSet}
 use Rattle.hs_base.specs.declared.context.Mask.{Mask}
@@ -13,8 +14,9 @@ use Rattle.hs_nodes.specs.declared.table.NodeKind.TheVariants.{Engine, Literal, 
 use Rattle.hs_nodes.specs.declared.table.NodeTable.{NodeTable}
 use Rattle.hs_waking.specs.declared.wake_row.WakeRow.{WakeRow}
 use Rattle.hs_nodes.specs.declared.wake_table.WakeTable.{WakeTable}
-use Rattle.hs_waking.specs.Fits.{IsBehindBy, IsRowBy, row_numbers}
-use Rattle.hs_waking.specs.WakeRows.{IsWakeRow}
+use Rattle.hs_base.specs.Bits.{has_word_bit}
+use Rattle.hs_waking.specs.Fits.{FitsAt, IsBehindBy, IsRowBy, row_numbers}
+use Rattle.hs_waking.specs.EntryRows.{TellsBeginnings}
 use Rattle.hs_nodes.specs.Resting.{SleepsThrough}
 
 -- the literal that wakes a node of that kind where it ends, if there is one
@@ -77,11 +79,11 @@ AreEnginesUnwoken meaning table marks prev bytes =
     is_marked marks k ≡ false →
     (null ≡ None) × ((e : _) → slice_get table.engines.items number ≡ Some e → SleepsThrough (meaning e) prev bytes)
 
--- The row tells what wakes an engine, by the numbers of its sets.
+-- The row tells how matches of an engine begin, by the numbers of its sets.
 pub record IsRowFor (m : Meaning) (sets : List ByteSet) (row : WakeRow) : Type 0 where
   pub own : List ByteSet
   pub numbered : IsRowBy (row_numbers row) sets own
-  pub wakes : IsWakeRow m row.behind own
+  pub tells : TellsBeginnings m row.behind own
 
 -- The rows name sets that are there, and the one that stands beside an engine without a parent is one of its own.
 pub record AreRowsOf {E : Type 0} (meaning : E → Meaning) (nodes : List Node) (engines : List E) (first : List ℕ)
@@ -96,3 +98,12 @@ pub record AreRowsOf {E : Type 0} (meaning : E → Meaning) (nodes : List Node) 
 abbrev pub AreRowsSound : {E : Type 0} → (E → Meaning) → NodeTable E → WakeTable → Type 0
 AreRowsSound meaning table wakes =
     AreRowsOf meaning table.nodes.items table.engines.items wakes.first_engines.items wakes.rows.items wakes.sets.items
+
+-- The words are the places of a chunk behind `prev` at which the row fits that stands at that place, or all.
+pub data AreStartsBy (wakes : WakeTable) (place : ℕ) (prev : Prev) (bytes places : List ℕ) : Type 0 where
+  all : places ≡ replicate 8 18446744073709551615 → AreStartsBy wakes place prev bytes places
+  fits : (row : WakeRow) → slice_get wakes.rows.items place ≡ Some row →
+      ((own : List ByteSet) → IsRowBy (row_numbers row) wakes.sets.items own →
+      (p : ℕ) → p < 512 →
+      (has_word_bit places p ≡ true) ↔ ((p < length bytes) × FitsAt row.behind own prev bytes p)) →
+      AreStartsBy wakes place prev bytes places

@@ -1,6 +1,6 @@
 //! Where pieces are left in a chunk.
 
-ghost use Rattle.std.specs.Prelude.{◌≡◌, ◌↔◌, IsTrue};
+ghost use Rattle.std.specs.Prelude.{◌≡◌, ◌↔◌, ℕ, ◌<◌, ◌≤◌, IsTrue, bit_and, bit_or, slice_index};
 
 use crate::chunk::MAX_BLOCKS;
 
@@ -27,5 +27,20 @@ impl ChunkEnds {
         ensures { IsTrue result ↔ (self.now ≡ nowhere) }
     {
         *self == ChunkEnds::NOWHERE
+    }
+
+    /// These, and where pieces that are left as `enters` tell are followed by the empty span where `null` tells it.
+    pub(crate) fn through(&self, enters: &ChunkEnds, null: &ChunkEnds) -> ChunkEnds
+        ensures before { (j : ℕ) → j < 8 → slice_index result.before j ≡ bit_or (slice_index self.now.before j)
+            (bit_and (slice_index enters.now.before j) (slice_index null.now.before j)) }
+        ensures behind { (j : ℕ) → j < 8 → slice_index result.behind j ≡ bit_or (slice_index self.now.behind j)
+            (bit_and (slice_index enters.now.behind j) (slice_index null.now.behind j)) }
+    {
+        let mut ends = *self;
+        for j in 0..MAX_BLOCKS {
+            ends.before[j] |= enters.before[j] & null.before[j];
+            ends.behind[j] |= enters.behind[j] & null.behind[j];
+        }
+        ends
     }
 }

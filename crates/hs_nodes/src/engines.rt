@@ -1,8 +1,9 @@
 //! An engine over a chunk.
 
 ghost use Rattle.std.specs.Prelude.{◌≡◌, ◌+◌, ◌≤◌, ◌^◌, false, length};
-ghost use Rattle.hs_nodes.specs.Awake.{IsBlockAsleep, IsEnteredBeside, IsIdle, ScansBlock, SleepsBeside};
 ghost use Rattle.hs_nodes.specs.Pieces.{TakesChunk};
+ghost use Rattle.hs_nodes.specs.Starting.{IsIdle, RunsEntered, ScansBlock};
+ghost use Rattle.hs_waking.specs.Starts.{start_word};
 
 use crate::chunk::{BLOCK_BYTES, Chunk};
 use crate::ends::ChunkEnds;
@@ -10,60 +11,22 @@ use hs_base::Prev;
 use hs_bits::is_zero;
 use hs_block::{BlockEnds, BlockEngine};
 use hs_engine::Steps;
-use hs_waking::BlockSet;
+use hs_waking::Starts;
 use std::sync::ledger::Ledger;
 
-/// Takes a block by an engine that is entered where the word tells it. Where the block wakes nothing, and nothing is
-/// live, it isn't run.
-fn run_block<E: BlockEngine, L: Ledger>(
-    engine: &E,
-    region: &mut [u8],
-    prev: Prev,
-    at: u64,
-    enters: u64,
-    bytes: &[u8],
-    is_awake: bool,
-    steps: &mut Steps<L>,
-) -> BlockEnds
-    requires len { length region.old ≡ (E.meaning engine.now).width }
-    requires well { (E.meaning engine.now).well region.old at }
-    requires few { length bytes.now ≤ 64 }
-    requires room { at + length bytes.now ≤ 2 ^ 63 }
-    requires listed { (E.meaning engine.now).always ≡ false }
-    requires idle { IsIdle (E.meaning engine.now) }
-    requires asleep { is_awake ≡ false → IsBlockAsleep (E.meaning engine.now) prev enters bytes.now }
-    ensures len { length region.new ≡ (E.meaning engine.now).width }
-    ensures well { (E.meaning engine.now).well region.new (at + length bytes.now) }
-    ensures ticks { steps.new ≤ steps.old + length bytes.now }
-    ensures scans { ScansBlock (E.meaning engine.now) region.old region.new prev at enters bytes.now result }
-{
-    if !is_awake && is_zero(region) {
-        return BlockEnds {
-            before: 0,
-            behind: 0,
-        };
-    }
-    engine.run(region, prev, at, enters, bytes, steps)
-}
-
 /// Takes a chunk by an engine, block by block, where the pieces before are left as `enters` tell, and the piece has the
-/// empty span where `null` tells it. Blocks that aren't awake wake nothing, and there it is entered everywhere. Answers
-/// where the pieces up to it are left.
+/// empty span where `null` tells it. Answers where the pieces up to it are left.
 pub(crate) fn run_engine<E: BlockEngine, L: Ledger>(
     engine: &E,
     region: &mut [u8],
     chunk: &Chunk,
     enters: &ChunkEnds,
     null: &ChunkEnds,
-    awake: BlockSet,
     steps: &mut Steps<L>,
 ) -> ChunkEnds
     requires len { length region.old ≡ (E.meaning engine.now).width }
     requires well { (E.meaning engine.now).well region.old chunk.now.at }
     requires listed { (E.meaning engine.now).always ≡ false }
-    requires idle { IsIdle (E.meaning engine.now) }
-    requires asleep { SleepsBeside (E.meaning engine.now) awake chunk.now.prev chunk.now.bytes.now }
-    requires entered { IsEnteredBeside awake enters.now chunk.now.bytes.now }
     ensures len { length region.new ≡ (E.meaning engine.now).width }
     ensures well { (E.meaning engine.now).well region.new (chunk.now.at + length chunk.now.bytes.now) }
     ensures ticks { steps.new ≤ steps.old + length chunk.now.bytes.now }
@@ -74,18 +37,86 @@ pub(crate) fn run_engine<E: BlockEngine, L: Ledger>(
     for j in 0..chunk.blocks() {
         let bytes = chunk.block(j);
         let at = chunk.at + (BLOCK_BYTES * j) as u64;
-        let own = run_block(
-            engine,
+        let own = engine.run(
             region,
             chunk.prev_before(j),
             at,
             enters.before[j],
             bytes,
-            awake.contains(j),
             steps,
         );
         ends.before[j] = own.before | (enters.before[j] & null.before[j]);
         ends.behind[j] = own.behind | (enters.behind[j] & null.behind[j]);
+    }
+    ends
+}
+
+/// Takes a block by an engine that is entered where the word tells it. Where it is entered nowhere, and nothing is live,
+/// it isn't run.
+fn run_block<E: BlockEngine, L: Ledger>(
+    engine: &E,
+    region: &mut [u8],
+    prev: Prev,
+    at: u64,
+    enters: u64,
+    bytes: &[u8],
+    steps: &mut Steps<L>,
+) -> BlockEnds
+    requires len { length region.old ≡ (E.meaning engine.now).width }
+    requires well { (E.meaning engine.now).well region.old at }
+    requires few { length bytes.now ≤ 64 }
+    requires room { at + length bytes.now ≤ 2 ^ 63 }
+    requires listed { (E.meaning engine.now).always ≡ false }
+    requires idle { IsIdle (E.meaning engine.now) }
+    ensures len { length region.new ≡ (E.meaning engine.now).width }
+    ensures well { (E.meaning engine.now).well region.new (at + length bytes.now) }
+    ensures ticks { steps.new ≤ steps.old + length bytes.now }
+    ensures scans { ScansBlock (E.meaning engine.now) region.old region.new prev at enters bytes.now result }
+{
+    if enters == 0 && is_zero(region) {
+        return BlockEnds {
+            before: 0,
+            behind: 0,
+        };
+    }
+    engine.run(region, prev, at, enters, bytes, steps)
+}
+
+/// Takes a chunk by an engine without a parent, block by block, which is entered where a match of the node of that
+/// number may begin. Answers where its expression is left.
+pub(crate) fn run_first<E: BlockEngine, L: Ledger>(
+    engine: &E,
+    region: &mut [u8],
+    chunk: &Chunk,
+    starts: &Starts,
+    k: usize,
+    steps: &mut Steps<L>,
+) -> ChunkEnds
+    requires len { length region.old ≡ (E.meaning engine.now).width }
+    requires well { (E.meaning engine.now).well region.old chunk.now.at }
+    requires listed { (E.meaning engine.now).always ≡ false }
+    requires idle { IsIdle (E.meaning engine.now) }
+    ensures len { length region.new ≡ (E.meaning engine.now).width }
+    ensures well { (E.meaning engine.now).well region.new (chunk.now.at + length chunk.now.bytes.now) }
+    ensures ticks { steps.new ≤ steps.old + length chunk.now.bytes.now }
+    ensures runs { RunsEntered (E.meaning engine.now) region.old region.new chunk.now.prev chunk.now.at
+        chunk.now.bytes.now (start_word starts.now k) result }
+{
+    let mut ends = ChunkEnds::NOWHERE;
+    for j in 0..chunk.blocks() {
+        let bytes = chunk.block(j);
+        let at = chunk.at + (BLOCK_BYTES * j) as u64;
+        let own = run_block(
+            engine,
+            region,
+            chunk.prev_before(j),
+            at,
+            starts.word(k, j),
+            bytes,
+            steps,
+        );
+        ends.before[j] = own.before;
+        ends.behind[j] = own.behind;
     }
     ends
 }

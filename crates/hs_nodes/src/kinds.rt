@@ -1,14 +1,14 @@
 //! One node over a chunk.
 
-ghost use Rattle.std.specs.Prelude.{◌≡◌, ◌+◌, ◌≤◌, length};
-ghost use Rattle.hs_nodes.specs.Awake.{IsBesideAsleep, IsEnteredBeside};
+ghost use Rattle.std.specs.Prelude.{◌≡◌, ℕ, ◌+◌, ◌≤◌, Some, length};
 ghost use Rattle.hs_nodes.specs.Contexts.{AreChunkContexts, NeedsContexts};
 ghost use Rattle.hs_nodes.specs.Nodes.{IsKindSound, IsWellPart, TakesPiece, most_ticks};
 ghost use Rattle.hs_nodes.specs.Resting.{AreEnginesIdle};
+ghost use Rattle.hs_nodes.specs.Starting.{DoStartsSuffice, IsEnteredThroughout};
 
 use crate::chunk::Chunk;
 use crate::ends::ChunkEnds;
-use crate::engines::run_engine;
+use crate::engines::{run_engine, run_first};
 use crate::hits::ChunkHits;
 use crate::literals::run_literal_part;
 use crate::look_back::{ends_of, run_pair};
@@ -17,7 +17,7 @@ use crate::table::NodeKind;
 use hs_bits::Contexts;
 use hs_block::BlockEngine;
 use hs_engine::Steps;
-use hs_waking::BlockSet;
+use hs_waking::Starts;
 use std::sync::ledger::Ledger;
 
 /// What nodes ask in a chunk beside its bytes.
@@ -27,12 +27,13 @@ pub(crate) struct Found<'c, 'h> {
     pub contexts: &'c [Contexts],
     /// Where each literal ends in it.
     pub hits: &'h [ChunkHits],
-    /// In which of its blocks each node without a parent may be woken.
-    pub awake: &'h [BlockSet],
+    /// At which of its places matches of each node without a parent may begin.
+    pub starts: &'h Starts,
 }
 
-/// Takes a chunk by a node of that kind, where the pieces before are left as `enters` tell. In blocks that aren't awake
-/// an engine is entered everywhere and woken nowhere. Answers where the pieces up to the node are left.
+/// Takes a chunk by a node of that kind, where the pieces before are left as `enters` tell. `first` is its number, if it
+/// has no parent: then it is entered throughout, and needs to be where its matches may begin. Answers where the pieces up
+/// to the node are left.
 pub(crate) fn run_kind<E: BlockEngine, L: Ledger>(
     kind: NodeKind,
     engines: &[E],
@@ -40,7 +41,7 @@ pub(crate) fn run_kind<E: BlockEngine, L: Ledger>(
     chunk: &Chunk,
     found: &Found,
     enters: &ChunkEnds,
-    awake: BlockSet,
+    first: Option<usize>,
     steps: &mut Steps<L>,
 ) -> ChunkEnds
     requires sound { IsKindSound E.meaning engines.now (length found.now.hits.now) kind (length part.old) }
@@ -48,8 +49,9 @@ pub(crate) fn run_kind<E: BlockEngine, L: Ledger>(
     requires contexts { NeedsContexts kind →
         AreChunkContexts found.now.contexts.now chunk.now.prev chunk.now.at chunk.now.bytes.now }
     requires idle { AreEnginesIdle E.meaning engines.now }
-    requires asleep { IsBesideAsleep E.meaning engines.now kind awake chunk.now.prev chunk.now.bytes.now }
-    requires entered { IsEnteredBeside awake enters.now chunk.now.bytes.now }
+    requires starts { (k : ℕ) → first ≡ Some k →
+        DoStartsSuffice E.meaning engines.now kind found.now.starts.now k chunk.now.prev chunk.now.bytes.now }
+    requires entered { (k : ℕ) → first ≡ Some k → IsEnteredThroughout enters.now chunk.now.bytes.now }
     ensures len { length part.new ≡ length part.old }
     ensures well { IsWellPart E.meaning engines.now kind part.new (chunk.now.at + length chunk.now.bytes.now) }
     ensures ticks { steps.new ≤ steps.old + most_ticks kind found.now.hits.now (length chunk.now.bytes.now) }
@@ -59,15 +61,13 @@ pub(crate) fn run_kind<E: BlockEngine, L: Ledger>(
     match kind {
         NodeKind::Engine(number, null) => {
             let null = null_ends(null, chunk, found.contexts);
-            run_engine(
-                &engines[number as usize],
-                part,
-                chunk,
-                enters,
-                &null,
-                awake,
-                steps,
-            )
+            let engine = &engines[number as usize];
+            match first {
+                Some(k) => {
+                    run_first(engine, part, chunk, found.starts, k, steps).through(enters, &null)
+                }
+                None => run_engine(engine, part, chunk, enters, &null, steps),
+            }
         }
         NodeKind::Literal(number, len) => {
             run_literal_part(

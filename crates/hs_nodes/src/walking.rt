@@ -2,11 +2,10 @@
 
 ghost use Rattle.std.specs.Prelude.{◌≡◌, ℕ, ◌+◌, ◌*◌, ◌<◌, ◌≤◌, true, false, List, [], length, slice_get, slice_index};
 ghost use Rattle.std.specs.Prelude.{EachIndex, None, Some};
-ghost use Rattle.hs_nodes.specs.Awake.{AreBesideAsleep};
 ghost use Rattle.hs_nodes.specs.Contexts.{AreChunkContexts, NeedsContexts};
 ghost use Rattle.hs_nodes.specs.Left.{AreLeftIn, nowhere};
 ghost use Rattle.hs_nodes.specs.Resting.{AreEnginesIdle};
-ghost use Rattle.hs_waking.specs.BlockSets.{has_block};
+ghost use Rattle.hs_nodes.specs.Starting.{AreStartsEnough};
 ghost use Rattle.hs_reports.specs.Marks.{is_marked, mark_room};
 ghost use Rattle.hs_nodes.specs.Nodes.{IsWellPart, most_ticks};
 ghost use Rattle.hs_nodes.specs.Walks.{AreMoreMarks, AreNodesWell, ChangesMarked, IsNodeRun, IsTableSound};
@@ -25,7 +24,7 @@ use hs_bits::Contexts;
 use hs_block::BlockEngine;
 use hs_engine::Steps;
 use hs_reports::MarkSet;
-use hs_waking::BlockSet;
+use hs_waking::Starts;
 use std::sync::ledger::Ledger;
 
 /// The node of that number.
@@ -44,21 +43,6 @@ fn entering<'e>(parent: Option<u32>, all: &'e ChunkEnds, ends: &'e [ChunkEnds]) 
     match parent {
         None => all,
         Some(parent) => &ends[parent as usize],
-    }
-}
-
-/// In which blocks the node of that number may be woken, by what is said of those that have no parent; in all, where
-/// nothing is said.
-fn awake_of(parent: Option<u32>, k: usize, awake: &[BlockSet]) -> BlockSet
-    ensures { (j : ℕ) → j < 8 → has_block result j ≡ false →
-        (parent ≡ None) × (slice_get awake.now k ≡ Some result) }
-{
-    if parent.is_some() {
-        return BlockSet::all();
-    }
-    match awake.get(k) {
-        Some(blocks) => *blocks,
-        None => BlockSet::all(),
     }
 }
 
@@ -81,7 +65,7 @@ fn run_node<E: BlockEngine, L: Ledger>(
     requires contexts { (node : Node) → slice_get table.now.nodes.items k ≡ Some node → NeedsContexts node.kind →
         AreChunkContexts found.now.contexts.now chunk.now.prev chunk.now.at chunk.now.bytes.now }
     requires idle { AreEnginesIdle E.meaning table.now.engines.items }
-    requires asleep { AreBesideAsleep E.meaning table.now found.now.awake.now chunk.now.prev chunk.now.bytes.now }
+    requires starts { AreStartsEnough E.meaning table.now found.now.starts.now chunk.now.prev chunk.now.bytes.now }
     requires everywhere { (u : List ℕ) → AreLeftIn [] u chunk.now.bytes.now all.now }
     ensures len { length region.new ≡ length region.old }
     ensures ends { length ends.new ≡ length ends.old }
@@ -93,6 +77,7 @@ fn run_node<E: BlockEngine, L: Ledger>(
 {
     let node = node_at(table, k);
     let enters = entering(node.parent, all, ends);
+    let first = if node.parent.is_none() { Some(k) } else { None };
     ends[k] = run_kind(
         node.kind,
         &table.engines,
@@ -100,7 +85,7 @@ fn run_node<E: BlockEngine, L: Ledger>(
         chunk,
         found,
         enters,
-        awake_of(node.parent, k, found.awake),
+        first,
         steps,
     );
 }
@@ -150,13 +135,13 @@ fn mark_children<E>(table: &NodeTable<E>, k: usize, marks: &mut MarkSet)
 }
 
 /// Takes a chunk by the nodes that are marked, in their order; where a node is left, its children are marked. So those
-/// that are marked then have been run, and no other one has been looked at. Of engines without a parent it is said in
-/// which blocks they may be woken.
+/// that are marked then have been run, and no other one has been looked at. Of engines without a parent it is said where
+/// their matches may begin.
 pub fn walk<E: BlockEngine, L: Ledger>(
     table: &NodeTable<E>,
     chunk: &Chunk,
     hits: &[ChunkHits],
-    awake: &[BlockSet],
+    starts: &Starts,
     region: &mut [u8],
     ends: &mut [ChunkEnds],
     marks: &mut MarkSet,
@@ -171,7 +156,7 @@ pub fn walk<E: BlockEngine, L: Ledger>(
     requires rests { MayNodesRest E.meaning table.now marks.old hits.now region.old chunk.now.prev
         chunk.now.bytes.now }
     requires idle { AreEnginesIdle E.meaning table.now.engines.items }
-    requires asleep { AreBesideAsleep E.meaning table.now awake.now chunk.now.prev chunk.now.bytes.now }
+    requires starts { AreStartsEnough E.meaning table.now starts.now chunk.now.prev chunk.now.bytes.now }
     ensures well { AreNodesWell E.meaning table.now region.new (chunk.now.at + length chunk.now.bytes.now) }
     ensures ends { length ends.new ≡ length ends.old }
     ensures marks { AreMoreMarks (length table.now.nodes.items) marks.old marks.new }
@@ -190,7 +175,7 @@ pub fn walk<E: BlockEngine, L: Ledger>(
         let found = Found {
             contexts: &contexts,
             hits,
-            awake,
+            starts,
         };
         run_node(table, k, chunk, &found, &all, region, ends, steps);
         if !ends[k].is_nowhere() {
