@@ -2,6 +2,8 @@ pub mod AnyLemmas
 pub mod PlaceLemmas
 pub mod RowTableLemmas
 pub mod WakeLemmas
+pub mod EntryLemmas
+pub mod SetEntryLemmas
 mod LevelLemmas
 mod WordLemmas
 mod FitLemmas

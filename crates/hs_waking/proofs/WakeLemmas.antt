@@ -41,38 +41,35 @@ fits-more row bytes n p fits last d below inside =
           subst (λ k. in_set (row k) (get_or bytes (p + k) 0) ≡ true) same (last (omega arith))
     ]
 
--- The position is one of a level whose bytes end at a place, and not of the last level; the row may begin where these begin, and fits up
--- to there.
-record Stands (a : Automaton) (begins : ℕ → Bool) (row : List ByteSet) (bytes : List ℕ) (at y : ℕ) : Type 0 where
-  level : ℕ
-  place : ℕ
-  behind : place + suc level ≡ at
-  begun : begins place ≡ true
-  at_level : IsAtLevel a level y
-  further : suc level < length row
-  fits : FitsTo (slice_get row) bytes (suc level) place
+-- The position is one of a level whose bytes end at a place, and not of the last level; the row begins where these begin, and fits up to
+-- there.
+pub record Stands (a : Automaton) (Begins : ℕ → Type 0) (row : List ByteSet) (bytes : List ℕ) (at y : ℕ) : Type 0 where
+  pub level : ℕ
+  pub place : ℕ
+  pub behind : place + suc level ≡ at
+  pub begun : Begins place
+  pub at_level : IsAtLevel a level y
+  pub further : suc level < length row
+  pub fits : FitsTo (slice_get row) bytes (suc level) place
 
-module _ (a : Automaton) (behind : PrevSet) (row : List ByteSet) (is : IsRowOf a row) (before_is : IsBehindOf a behind) (prev : Prev) (bytes : List ℕ) (nowhere : FitsNowhere behind row prev bytes) where
-  abbrev Begins : ℕ → Bool
-  Begins i = has_prev behind (prev_before prev bytes i)
-
+-- where it begins nowhere and fits to its end
+module _ (a : Automaton) (row : List ByteSet) (is : IsRowOf a row) (bytes : List ℕ) (Begins : ℕ → Type 0) (nowhere : (i : ℕ) → i < length bytes → Begins i → FitsTo (slice_get row) bytes (length row) i → ⊥) where
   -- where it has fitted up to the last level it would fit
-  stands : (i y level place : ℕ) → i < length bytes → place + suc level ≡ suc i → Begins place ≡ true → IsAtLevel a level y → level < length row → FitsTo (slice_get row) bytes (suc level) place → Stands a Begins row bytes (suc i) y
+  stands : (i y level place : ℕ) → i < length bytes → place + suc level ≡ suc i → Begins place → IsAtLevel a level y → level < length row → FitsTo (slice_get row) bytes (suc level) place → Stands a Begins row bytes (suc i) y
   stands i y level place within to begun at_level below fits =
       elim (cases_lt (suc level) (length row)) [
         | inl further ↦ record { level = level; place = place; behind = to; begun = begun; at_level = at_level; further = further; fits = fits }
-        | inr last ↦ absurd (nowhere place (omega arith) (begun, λ d less inside. fits d (omega arith) inside))
+        | inr last ↦ absurd (nowhere place (omega arith) begun (λ d less inside. fits d (omega arith) inside))
       ]
 
-  begins : (i y : ℕ) → i < length bytes → get_or bytes i 0 < 256 → enters a y (between (prev_before prev bytes i) (class_of (get_or bytes i 0))) ≡ true → takes a y (get_or bytes i 0) ≡ true → Stands a Begins row bytes (suc i) y
-  begins i y within small enter member =
-      let c : Context = between (prev_before prev bytes i) (class_of (get_or bytes i 0)) in
+  pub begins : (i y : ℕ) (c : Context) → i < length bytes → get_or bytes i 0 < 256 → Begins i → enters a y c ≡ true → takes a y (get_or bytes i 0) ≡ true → Stands a Begins row bytes (suc i) y
+  begins i y c within small begun enter member =
       let first : in_set (slice_get row 0) (get_or bytes i 0) ≡ true = is.sets 0 y (get_or bytes i 0) is.some (c, enter) small member in
       let place : i ≡ i + 0 = omega arith in
-      stands i y 0 i within (omega arith) (before_is y (get_or bytes i 0) (prev_before prev bytes i) small enter member) (c, enter) is.some
+      stands i y 0 i within (omega arith) begun (c, enter) is.some
       (fits-more (slice_get row) bytes 0 i (λ d below inside. absurd (omega arith)) (λ inside. subst (λ p. in_set (slice_get row 0) (get_or bytes p 0) ≡ true) place first))
 
-  goes-on : (i x y : ℕ) (c : Context) → i < length bytes → get_or bytes i 0 < 256 → Stands a Begins row bytes i x → follows a x y c ≡ true → takes a y (get_or bytes i 0) ≡ true → Stands a Begins row bytes (suc i) y
+  pub goes-on : (i x y : ℕ) (c : Context) → i < length bytes → get_or bytes i 0 < 256 → Stands a Begins row bytes i x → follows a x y c ≡ true → takes a y (get_or bytes i 0) ≡ true → Stands a Begins row bytes (suc i) y
   goes-on i x y c within small before follow member =
       let level : ℕ = suc before.level in
       let at_level : IsAtLevel a level y = (x, c, before.at_level, follow) in
@@ -80,6 +77,28 @@ module _ (a : Automaton) (behind : PrevSet) (row : List ByteSet) (is : IsRowOf a
       let place : i ≡ before.place + level = sym before.behind in
       stands i y level before.place within (omega (arith, before.behind)) before.begun at_level before.further
       (fits-more (slice_get row) bytes level before.place before.fits (λ inside. subst (λ p. in_set (slice_get row level) (get_or bytes p 0) ≡ true) place last))
+
+  -- at the end of the bytes it fits as far as they go
+  pub stands-nowhere : (y : ℕ) → Stands a Begins row bytes (length bytes) y → ⊥
+  stands-nowhere y stood = nowhere stood.place (omega (arith, stood.behind)) stood.begun (λ d below inside. stood.fits d (omega (arith, stood.behind)) inside)
+
+-- one more of the bytes
+pub bytes-next : (u bytes : List ℕ) (i : ℕ) → i < length bytes → u ++ take (suc i) bytes ≡ (u ++ take i bytes) ++ get_or bytes i 0 ∷ []
+bytes-next u bytes i within = ap (λ v. u ++ v) (take-suc bytes i 0 within) ∙ sym (append_assoc u (take i bytes) (get_or bytes i 0 ∷ []))
+
+-- before which it is entered
+pub entered-next : (entered : List Bool) (i : ℕ) → entered ++ replicate (suc i) true ≡ (entered ++ replicate i true) ++ true ∷ []
+entered-next entered i =
+    let one : i + 1 ≡ suc i = omega arith in
+    ap (λ n. entered ++ replicate n true) (sym one)
+    ∙ (ap (λ v. entered ++ v) (sym (replicate-append-replicate i 1 true)) ∙ sym (append_assoc entered (replicate i true) (true ∷ [])))
+
+module _ (a : Automaton) (behind : PrevSet) (row : List ByteSet) (is : IsRowOf a row) (before_is : IsBehindOf a behind) (prev : Prev) (bytes : List ℕ) (nowhere : FitsNowhere behind row prev bytes) where
+  abbrev Begins : ℕ → Type 0
+  Begins i = has_prev behind (prev_before prev bytes i) ≡ true
+
+  nowhere-whole : (i : ℕ) → i < length bytes → Begins i → FitsTo (slice_get row) bytes (length row) i → ⊥
+  nowhere-whole i within begun fits = nowhere i within (begun, fits)
 
   module _ (small : EachIndex bytes (λ k. slice_index bytes k < 256)) (tree : Tree) (runs : Runs a tree) (u : List ℕ) (entered : List Bool) (len : length entered ≡ length u) (last : prev ≡ prev_at u (length u))
       (unreached : (y : ℕ) → IsReached (write_out tree) u entered y → ⊥) where
@@ -93,27 +112,20 @@ module _ (a : Automaton) (behind : PrevSet) (row : List ByteSet) (is : IsRowOf a
     same-len i within =
         omega (arith, len, length-append entered (replicate i true), length-append u (take i bytes), length-replicate i true, length-take-le i bytes within)
 
-    bytes-next : (i : ℕ) → i < length bytes → Before (suc i) ≡ Before i ++ get_or bytes i 0 ∷ []
-    bytes-next i within = ap (λ v. u ++ v) (take-suc bytes i 0 within) ∙ sym (append_assoc u (take i bytes) (get_or bytes i 0 ∷ []))
-
-    entered-next : (i : ℕ) → Entered (suc i) ≡ Entered i ++ true ∷ []
-    entered-next i =
-        let one : i + 1 ≡ suc i = omega arith in
-        ap (λ n. entered ++ replicate n true) (sym one)
-        ∙ (ap (λ v. entered ++ v) (sym (replicate-append-replicate i 1 true)) ∙ sym (append_assoc entered (replicate i true) (true ∷ [])))
-
     of-steps : (i : ℕ) → i < length bytes → ((x : ℕ) → IsReached (write_out tree) (Before i) (Entered i) x → Stands a Begins row bytes i x) → (y : ℕ) →
         StepsTo (write_out tree) (Before i) (Entered i) (get_or bytes i 0) true y → Stands a Begins row bytes (suc i) y
     of-steps i within known y (steps_in member now enter) =
         let b : ℕ = get_or bytes i 0 in
         let here : Context = context_of (Before i) (class_of b) in
-        begins i y within (small i within)
-        (subst (λ p. enters a y (between p (class_of b)) ≡ true) (sym (prev-there prev u bytes i last (omega (arith, within)))) (runs.tables.enters y here ∙ enter))
-        ((runs.tables.sets y b (small i within)).1 member)
+        let takes_it : takes a y b ≡ true = (runs.tables.sets y b (small i within)).1 member in
+        let enters_it : enters a y (between (prev_before prev bytes i) (class_of b)) ≡ true =
+        subst (λ p. enters a y (between p (class_of b)) ≡ true) (sym (prev-there prev u bytes i last (omega (arith, within)))) (runs.tables.enters y here ∙ enter) in
+        begins a row is bytes Begins nowhere-whole i y (between (prev_before prev bytes i) (class_of b)) within (small i within)
+        (before_is y b (prev_before prev bytes i) (small i within) enters_it takes_it) enters_it takes_it
     of-steps i within known y (steps_on x member reached follow) =
         let b : ℕ = get_or bytes i 0 in
         let here : Context = context_of (Before i) (class_of b) in
-        goes-on i x y here within (small i within) (known x reached) (runs.tables.follows x y (prev_at (Before i) (length (Before i))) b ∙ follow) ((runs.tables.sets y b (small i within)).1 member)
+        goes-on a row is bytes Begins nowhere-whole i x y here within (small i within) (known x reached) (runs.tables.follows x y (prev_at (Before i) (length (Before i))) b ∙ follow) ((runs.tables.sets y b (small i within)).1 member)
 
     reached-stands : (i : ℕ) → i ≤ length bytes → (y : ℕ) → IsReached (write_out tree) (Before i) (Entered i) y → Stands a Begins row bytes i y
     reached-stands zero within y reached =
@@ -123,17 +135,17 @@ module _ (a : Automaton) (behind : PrevSet) (row : List ByteSet) (is : IsRowOf a
     reached-stands (suc i) within y reached =
         let below : i < length bytes = omega arith in
         let long : IsReached (write_out tree) (Before i ++ get_or bytes i 0 ∷ []) (Entered i ++ true ∷ []) y =
-        subst (λ e. IsReached (write_out tree) (Before i ++ get_or bytes i 0 ∷ []) e y) (entered-next i)
-        (subst (λ w. IsReached (write_out tree) w (Entered (suc i)) y) (bytes-next i below) reached) in
+        subst (λ e. IsReached (write_out tree) (Before i ++ get_or bytes i 0 ∷ []) e y) (entered-next entered i)
+        (subst (λ w. IsReached (write_out tree) w (Entered (suc i)) y) (bytes-next u bytes i below) reached) in
         of-steps i below (reached-stands i (omega arith)) y
         (reached-steps (write_out tree) (Before i) (Entered i) (get_or bytes i 0) true y (same-len i (omega arith)) long)
 
     unreached-behind : (y : ℕ) → IsReached (write_out tree) (u ++ bytes) (entered ++ replicate (length bytes) true) y → ⊥
     unreached-behind y reached =
         let all : bytes ≡ take (length bytes) bytes = sym (take_all (length bytes) bytes (omega arith)) in
-        let stood = reached-stands (length bytes) (omega arith) y
-        (subst (λ v. IsReached (write_out tree) (u ++ v) (entered ++ replicate (length bytes) true) y) all reached) in
-        nowhere stood.place (omega (arith, stood.behind)) (stood.begun, λ d below inside. stood.fits d (omega (arith, stood.behind)) inside)
+        stands-nowhere a row is bytes Begins nowhere-whole y
+        (reached-stands (length bytes) (omega arith) y
+        (subst (λ v. IsReached (write_out tree) (u ++ v) (entered ++ replicate (length bytes) true) y) all reached))
 
     left-nowhere : (i : ℕ) → i ≤ length bytes → (next : Next) → Leaves tree (Before i) (Entered i) next → ⊥
     left-nowhere i within next leaves =

@@ -5,8 +5,10 @@ use Rattle.std.specs.Prelude.{EachIndex, slice_index}
 use Rattle.hs_base.specs.declared.byte_set.ByteSet.{ByteSet}
 use Rattle.hs_base.specs.declared.context.Next.{Next}
 use Rattle.hs_base.specs.declared.context.Prev.{Prev}
+use Rattle.hs_base.specs.ByteSets.{members}
 use Rattle.hs_base.specs.Contexts.{prev_at}
 use Rattle.hs_base.specs.Fields.{Leaves}
+use Rattle.hs_base.specs.RepeatRows.{IsUnbroken}
 use Rattle.hs_base.specs.Trees.{Tree}
 use Rattle.hs_engine.specs.Engines.{Meaning}
 use Rattle.hs_waking.specs.declared.prev_set.PrevSet.{PrevSet}
@@ -54,3 +56,17 @@ IsEntryRow m behind row =
 pub record TellsBeginnings (m : Meaning) (behind : PrevSet) (row : List ByteSet) : Type 0 where
   pub wakes : IsWakeRow m behind row
   pub enters : IsEntryRow m behind row
+
+-- The engine runs repeats of one set of bytes: what its regions say, and where it is left, goes by the entries behind
+-- which no byte outside of the set stands.
+pub record RunsBySet (m : Meaning) (set : ByteSet) : Type 0 where
+  pub field : (region : List ℕ) (tree : Tree) (u : List ℕ) (entered other : List Bool) →
+      m.is_for tree →
+      ((q : ℕ) → IsUnbroken (members set) u entered q ↔ IsUnbroken (members set) u other q) →
+      m.field region tree u entered →
+      m.field region tree u other
+  pub leaves : (tree : Tree) (u : List ℕ) (entered other : List Bool) (next : Next) →
+      m.is_for tree →
+      ((q : ℕ) → IsUnbroken (members set) u entered q → IsUnbroken (members set) u other q) →
+      Leaves tree u entered next →
+      Leaves tree u other next
