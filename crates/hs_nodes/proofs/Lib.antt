@@ -23,4 +23,5 @@ pub mod FieldLemmas
 pub mod PlanLemmas
 pub mod GatherLemmas
 pub mod FillLemmas
-pub mod AwakeLemmas
+pub mod StartingLemmas
+pub mod EnteredLemmas

@@ -1,7 +1,6 @@
 //! A chunk of the bytes of a stream, block by block.
 
 ghost use Rattle.std.specs.Prelude.{◌≡◌, ◌+◌, ◌*◌, ◌^◌, ◌<◌, ◌≤◌, ◌++◌, ℕ, List, length, slice_index};
-ghost use Rattle.hs_bits.specs.BlockContexts.{prev_before};
 ghost use Rattle.hs_base.specs.Contexts.{prev_at};
 ghost use Rattle.hs_nodes.specs.Blocks.{block, block_count, front};
 
@@ -58,8 +57,7 @@ impl Chunk<'_, '_> {
     /// What stands before a block.
     pub fn prev_before(&self, number: usize) -> Prev
         requires { 64 * number < length self.now.bytes.now }
-        ensures is { result ≡ prev_before self.now.prev self.now.bytes.now (64 * number) }
-        ensures behind { (u : List ℕ) → self.now.prev ≡ prev_at u (length u) →
+        ensures { (u : List ℕ) → self.now.prev ≡ prev_at u (length u) →
             result ≡ prev_at (front u self.now.bytes.now number) (length (front u self.now.bytes.now number)) }
     {
         if number == 0 {

@@ -1,9 +1,10 @@
 //! An engine over a chunk.
 
-ghost use Rattle.std.specs.Prelude.{◌≡◌, ◌+◌, ◌≤◌, ◌^◌, false, length};
+ghost use Rattle.std.specs.Prelude.{◌≡◌, ℕ, ◌+◌, ◌≤◌, ◌^◌, false, Some, length};
 ghost use Rattle.hs_nodes.specs.Pieces.{TakesChunk};
-ghost use Rattle.hs_nodes.specs.Starting.{IsIdle, RunsEntered, ScansBlock};
-ghost use Rattle.hs_waking.specs.Starts.{start_word};
+ghost use Rattle.hs_nodes.specs.Starting.{IsEnteredThroughout, IsIdle, RunsEntered, ScansBlock};
+ghost use Rattle.hs_waking.specs.EntryRows.{DoEntriesSuffice};
+ghost use Rattle.hs_waking.specs.Starts.{start_word, starts_at};
 
 use crate::chunk::{BLOCK_BYTES, Chunk};
 use crate::ends::ChunkEnds;
@@ -14,9 +15,40 @@ use hs_engine::Steps;
 use hs_waking::Starts;
 use std::sync::ledger::Ledger;
 
-/// Takes a chunk by an engine, block by block, where the pieces before are left as `enters` tell, and the piece has the
-/// empty span where `null` tells it. Answers where the pieces up to it are left.
+/// Takes a chunk by an engine, where the pieces before are left as `enters` tell, and the piece has the empty span where
+/// `null` tells it. `first` is the number of its node, if that has no parent: then it is entered throughout, and needs to
+/// be where its matches may begin. Answers where the pieces up to it are left.
 pub(crate) fn run_engine<E: BlockEngine, L: Ledger>(
+    engine: &E,
+    region: &mut [u8],
+    chunk: &Chunk,
+    enters: &ChunkEnds,
+    null: &ChunkEnds,
+    starts: &Starts,
+    first: Option<usize>,
+    steps: &mut Steps<L>,
+) -> ChunkEnds
+    requires len { length region.old ≡ (E.meaning engine.now).width }
+    requires well { (E.meaning engine.now).well region.old chunk.now.at }
+    requires listed { (E.meaning engine.now).always ≡ false }
+    requires idle { IsIdle (E.meaning engine.now) }
+    requires starts { (k : ℕ) → first ≡ Some k →
+        DoEntriesSuffice (E.meaning engine.now) (starts_at starts.now k) chunk.now.prev chunk.now.bytes.now }
+    requires entered { (k : ℕ) → first ≡ Some k → IsEnteredThroughout enters.now chunk.now.bytes.now }
+    ensures len { length region.new ≡ (E.meaning engine.now).width }
+    ensures well { (E.meaning engine.now).well region.new (chunk.now.at + length chunk.now.bytes.now) }
+    ensures ticks { steps.new ≤ steps.old + length chunk.now.bytes.now }
+    ensures takes { TakesChunk (E.meaning engine.now) region.old region.new chunk.now.prev chunk.now.at
+        chunk.now.bytes.now enters.now null.now result }
+{
+    match first {
+        Some(k) => run_first(engine, region, chunk, starts, k, steps).through(enters, null),
+        None => run_entered(engine, region, chunk, enters, null, steps),
+    }
+}
+
+/// Takes a chunk so by an engine that is entered where `enters` tell, block by block.
+fn run_entered<E: BlockEngine, L: Ledger>(
     engine: &E,
     region: &mut [u8],
     chunk: &Chunk,
@@ -27,6 +59,7 @@ pub(crate) fn run_engine<E: BlockEngine, L: Ledger>(
     requires len { length region.old ≡ (E.meaning engine.now).width }
     requires well { (E.meaning engine.now).well region.old chunk.now.at }
     requires listed { (E.meaning engine.now).always ≡ false }
+    requires idle { IsIdle (E.meaning engine.now) }
     ensures len { length region.new ≡ (E.meaning engine.now).width }
     ensures well { (E.meaning engine.now).well region.new (chunk.now.at + length chunk.now.bytes.now) }
     ensures ticks { steps.new ≤ steps.old + length chunk.now.bytes.now }
@@ -37,7 +70,8 @@ pub(crate) fn run_engine<E: BlockEngine, L: Ledger>(
     for j in 0..chunk.blocks() {
         let bytes = chunk.block(j);
         let at = chunk.at + (BLOCK_BYTES * j) as u64;
-        let own = engine.run(
+        let own = run_block(
+            engine,
             region,
             chunk.prev_before(j),
             at,
@@ -84,7 +118,7 @@ fn run_block<E: BlockEngine, L: Ledger>(
 
 /// Takes a chunk by an engine without a parent, block by block, which is entered where a match of the node of that
 /// number may begin. Answers where its expression is left.
-pub(crate) fn run_first<E: BlockEngine, L: Ledger>(
+fn run_first<E: BlockEngine, L: Ledger>(
     engine: &E,
     region: &mut [u8],
     chunk: &Chunk,

@@ -8,7 +8,7 @@ ghost use Rattle.hs_nodes.specs.Starting.{DoStartsSuffice, IsEnteredThroughout};
 
 use crate::chunk::Chunk;
 use crate::ends::ChunkEnds;
-use crate::engines::{run_engine, run_first};
+use crate::engines::run_engine;
 use crate::hits::ChunkHits;
 use crate::literals::run_literal_part;
 use crate::look_back::{ends_of, run_pair};
@@ -61,13 +61,16 @@ pub(crate) fn run_kind<E: BlockEngine, L: Ledger>(
     match kind {
         NodeKind::Engine(number, null) => {
             let null = null_ends(null, chunk, found.contexts);
-            let engine = &engines[number as usize];
-            match first {
-                Some(k) => {
-                    run_first(engine, part, chunk, found.starts, k, steps).through(enters, &null)
-                }
-                None => run_engine(engine, part, chunk, enters, &null, steps),
-            }
+            run_engine(
+                &engines[number as usize],
+                part,
+                chunk,
+                enters,
+                &null,
+                found.starts,
+                first,
+                steps,
+            )
         }
         NodeKind::Literal(number, len) => {
             run_literal_part(

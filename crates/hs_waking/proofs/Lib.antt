@@ -5,8 +5,8 @@ pub mod WakeLemmas
 pub mod EntryLemmas
 pub mod SetEntryLemmas
 mod LevelLemmas
-mod WordLemmas
+pub mod WordLemmas
 mod FitLemmas
 pub mod WakerLemmas
 pub mod PrevLemmas
-mod StartLemmas
+pub mod StartLemmas

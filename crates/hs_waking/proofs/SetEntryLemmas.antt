@@ -92,7 +92,7 @@ set-entry-row m behind set each by kept prev bytes small keeps = record {
   leaves = λ tree u entered told len last i within next. (
     leaves-all tree (u ++ take i bytes) entered kept i next,
     by.leaves tree (u ++ take i bytes) (entered ++ replicate i true) (entered ++ entries_to kept i) next told
-    (unbroken-kept behind set each kept prev bytes small keeps u entered len i within),
+        (unbroken-kept behind set each kept prev bytes small keeps u entered len i within),
   );
 }
 

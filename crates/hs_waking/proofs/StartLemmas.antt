@@ -1,9 +1,14 @@
 -- The words of a table of starts.
-use Rattle.std.proofs.Common.{◌≡◌, ℕ, ◌<◌, ◌≤◌, Bool, true, false, List, [], length, set, if◌then◌else◌, ap, ◌∙◌, arith}
+use Rattle.std.proofs.Common.{◌≡◌, ℕ, ◌<◌, ◌≤◌, Bool, true, false, List, [], length, set, if◌then◌else◌, ap, ◌∙◌, arith, ◌/◌, ◌%◌, eqb, inl, inr}
 use Rattle.std.specs.Prelude.{nat_le, slice_index, slice_index_or}
-use Rattle.std.proofs.lemmas.Bool.{lt-leb, le-leb}
+use Rattle.std.proofs.lemmas.Bool.{cases_lt, lt-leb, le-leb}
 use Rattle.std.proofs.lemmas.List.{get_or-set_same, get_or-set_other}
-use Rattle.hs_waking.specs.Starts.{told_word}
+use Rattle.std.specs.Int.{bit_at}
+use Rattle.std.proofs.lemmas.Nat.Bits.{bit_at_ones}
+use Rattle.hs_base.specs.Bits.{has_word_bit}
+use Rattle.hs_bits.specs.WordBits.{word_bit}
+use Rattle.hs_waking.specs.Starts.{start_word, starts_at, told_word}
+use Rattle.hs_waking.specs.declared.starts.Starts.{Starts}
 
 -- beyond the count
 pub told-past : (count : ℕ) (some : List Bool) (places : List (List ℕ)) (k j : ℕ) → count ≤ k → told_word count some places k j ≡ 18446744073709551615
@@ -39,3 +44,14 @@ module _ (count : ℕ) (some : List Bool) (places : List (List ℕ)) (n : ℕ) (
   pub told-others-none : (is : Bool) (k j : ℕ) → (k ≡ n → ⊥) → told_word count (set some n is) places k j ≡ told_word count some places k j
   told-others-none is k j apart =
       ap (λ b. if nat_le count k then 18446744073709551615 else (if b then slice_index (slice_index_or places k []) j else 0)) (get_or-set_other some n k is false apart)
+
+-- a place that is told of one is a start of it
+pub told-starts : (s : Starts) (k : ℕ) (places : List ℕ) → (k < s.count → (j : ℕ) → j < 8 → start_word s k j ≡ slice_index places j) → (p : ℕ) → p < 512 → has_word_bit places p ≡ true → starts_at s k p ≡ true
+unfolding start_word word_bit has_word_bit
+told-starts s k places told p small set =
+    elim (cases_lt k s.count) [
+      | inl below ↦ ap (λ w. eqb (bit_at w (p % 64)) 1) (told below (p / 64) (omega arith)) ∙ set
+      | inr past ↦
+          ap (λ w. eqb (bit_at w (p % 64)) 1) (told-past s.count s.some.items s.places.items k (p / 64) past)
+          ∙ ap (λ b. eqb b 1) (bit_at_ones 64 (p % 64) (omega arith))
+    ]

@@ -15,7 +15,7 @@ loop-j-preserved c =
     filled-more c.loop-j.contexts chunk.prev chunk.at chunk.bytes.now j (j + 1) c.new.result refl (omega arith) (simp length-set)
     (λ u stands.
     subst (λ xs. AreContexts c.new.result (prev_at (front u chunk.bytes.now j) (length (front u chunk.bytes.now j))) xs) c.block.ensures.bytes
-    (subst (λ p. AreContexts c.new.result p c.block.result.now) (c.prev_before.ensures.behind u stands.behind) c.new.ensures)) c.loop-j.invariant
+    (subst (λ p. AreContexts c.new.result p c.block.result.now) (c.prev_before.ensures u stands.behind) c.new.ensures)) c.loop-j.invariant
 
 pub returns-clause-are : goal.returns-clause-are
 returns-clause-are c =

@@ -1,7 +1,8 @@
 use Rattle.std.proofs.Common.{◌≡◌, ◌+◌, ◌*◌, ◌≤◌, length, take}
-use Rattle.hs_nodes.proofs.EngineLemmas.{TakesBlocks}
+use Rattle.hs_waking.specs.Starts.{start_word}
+use Rattle.hs_nodes.proofs.EnteredLemmas.{RunsTo}
 use Rattle.hs_nodes.proofs.RunLemmas.{AreNowhereFrom}
-use Rattle.hs_nodes.proofs.engines.run_engine.Given as goal
+use Rattle.hs_nodes.proofs.engines.run_first.Given as goal
 
 abbrev pub invariant-loop-j : goal.invariant-loop-j
 invariant-loop-j g l = record {
@@ -11,6 +12,6 @@ invariant-loop-j g l = record {
   behinds : length l.ends.behind ≡ 8;
   nowhere : AreNowhereFrom l.j l.ends;
   steps : l.steps ≤ l.initial.steps + length (take (64 * l.j) l.chunk.bytes.now);
-  takes : TakesBlocks (g.E.Engine.meaning l.engine) l.fn.region l.region l.chunk.prev l.chunk.at l.chunk.bytes.now
-      l.enters l.null l.ends l.j;
+  runs : RunsTo (g.E.Engine.meaning l.engine) l.fn.region l.region l.chunk.prev l.chunk.at l.chunk.bytes.now
+      (start_word l.starts l.k) l.ends l.j;
 }

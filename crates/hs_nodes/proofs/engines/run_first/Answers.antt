@@ -1,10 +1,9 @@
-use Rattle.std.proofs.Common.{slice_index, ◌≡◌, ◌+◌, ◌*◌, ◌<◌, length, false, refl, sym, subst, ◌∙◌, arith, length-set}
+use Rattle.std.proofs.Common.{◌≡◌, ◌+◌, ◌*◌, ◌<◌, length, refl, sym, subst, ◌∙◌, arith, length-set}
 use Rattle.std.proofs.lemmas.List.{length-take-le}
-use Rattle.hs_waking.specs.BlockSets.{has_block}
-use Rattle.hs_nodes.proofs.AwakeLemmas.{block-asleep}
-use Rattle.hs_nodes.proofs.EngineLemmas.{blocks-all, blocks-more, blocks-none}
-use Rattle.hs_nodes.proofs.RunLemmas.{ends-more, nowhere-more, nowhere-none, reach-all, reach-more, steps-more, word-through}
-use Rattle.hs_nodes.proofs.engines.run_engine.Goals as goal
+use Rattle.hs_waking.specs.Starts.{start_word}
+use Rattle.hs_nodes.proofs.EnteredLemmas.{entered-all, entered-more, entered-none}
+use Rattle.hs_nodes.proofs.RunLemmas.{ends-more, nowhere-more, nowhere-none, reach-all, reach-more, steps-more}
+use Rattle.hs_nodes.proofs.engines.run_first.Goals as goal
 
 pub loop-j-init : goal.loop-j-init
 loop-j-init g c = record {
@@ -14,7 +13,7 @@ loop-j-init g c = record {
   behinds = refl;
   nowhere = nowhere-none;
   steps = omega arith;
-  takes = blocks-none (g.E.Engine.meaning c.args.engine.now) c.args.region.now c.args.chunk.now.prev c.args.chunk.now.at c.args.chunk.now.bytes.now c.args.enters.now c.args.null.now _;
+  runs = entered-none (g.E.Engine.meaning c.args.engine.now) c.args.region.now c.args.chunk.now.prev c.args.chunk.now.at c.args.chunk.now.bytes.now (start_word c.args.starts.now c.args.k) _;
 }
 
 pub run_block-own-requires-clause-well : goal.run_block-own-requires-clause-well
@@ -24,15 +23,6 @@ run_block-own-requires-clause-well g c =
 
 pub run_block-own-requires-clause-room : goal.run_block-own-requires-clause-room
 run_block-own-requires-clause-room g c = omega (arith, c.args.chunk.now.room, c.block-bytes.ensures.within)
-
-pub run_block-own-requires-clause-asleep : goal.run_block-own-requires-clause-asleep
-run_block-own-requires-clause-asleep g c slept =
-    let m = g.E.Engine.meaning c.args.engine.now in
-    let bytes = c.args.chunk.now.bytes.now in
-    let j = c.loop-j.j in
-    let small : j < 8 = omega (arith, c.loop-j-test.true, c.blocks-j-end.ensures.few) in
-    let out : has_block c.args.awake j ≡ false = sym c.contains.ensures ∙ slept in
-    block-asleep m c.args.chunk.now.prev (slice_index c.args.enters.now.before j) bytes c.block-bytes.result.now j c.prev_before.result c.block-bytes.ensures.bytes c.prev_before.ensures.is (c.requires.entered j small out) (c.requires.asleep j small out)
 
 pub loop-j-preserved : goal.loop-j-preserved
 loop-j-preserved g c =
@@ -46,16 +36,15 @@ loop-j-preserved g c =
       nowhere = nowhere-more _ _ j (j + 1) _ _ refl more inv.nowhere;
       steps =
           steps-more c.args.chunk.now.bytes.now c.block-bytes.result.now j (j + 1) c.args.steps.now c.loop-j.steps c.run_block-own.new.steps refl (omega arith) c.block-bytes.ensures.bytes c.run_block-own.ensures.ticks inv.steps;
-      takes =
-          blocks-more (g.E.Engine.meaning c.args.engine.now) c.args.region.now c.loop-j.region c.run_block-own.new.region c.args.chunk.now.prev c.prev_before.result c.args.chunk.now.at (c.args.chunk.now.at + 64 * j) c.args.chunk.now.bytes.now c.block-bytes.result.now
-          c.args.enters.now c.args.null.now c.loop-j.ends _ j (j + 1) c.run_block-own.result _ _ (omega arith) refl c.block-bytes.ensures.bytes refl c.prev_before.ensures.behind c.run_block-own.ensures.scans (word-through _ _ _) (word-through _ _ _) more (omega (arith, c.blocks-j-end.ensures.few))
-          inv.takes;
+      runs =
+          entered-more (g.E.Engine.meaning c.args.engine.now) c.args.region.now c.loop-j.region c.run_block-own.new.region c.args.chunk.now.prev c.prev_before.result c.args.chunk.now.at (c.args.chunk.now.at + 64 * j) c.args.chunk.now.bytes.now c.block-bytes.result.now
+          (start_word c.args.starts.now c.args.k) c.word.result c.loop-j.ends _ j (j + 1) c.run_block-own.result (omega arith) refl c.block-bytes.ensures.bytes refl c.prev_before.ensures c.word.ensures c.run_block-own.ensures.scans more inv.runs;
     }
 
-pub returns-clause-takes : goal.returns-clause-takes
-returns-clause-takes g c =
-    blocks-all (g.E.Engine.meaning c.args.engine.now) c.args.region.now c.loop-j.region c.args.chunk.now.prev c.args.chunk.now.at c.args.chunk.now.bytes.now c.args.enters.now c.args.null.now c.loop-j.ends c.loop-j.j (omega (arith, c.blocks-j-end.ensures.count))
-    c.loop-j.invariant.nowhere c.loop-j.invariant.takes
+pub returns-clause-runs : goal.returns-clause-runs
+returns-clause-runs g c =
+    entered-all (g.E.Engine.meaning c.args.engine.now) c.args.region.now c.loop-j.region c.args.chunk.now.prev c.args.chunk.now.at c.args.chunk.now.bytes.now (start_word c.args.starts.now c.args.k) c.loop-j.ends c.loop-j.j (omega (arith, c.blocks-j-end.ensures.count))
+    c.loop-j.invariant.nowhere c.loop-j.invariant.runs
 
 pub returns-clause-well : goal.returns-clause-well
 returns-clause-well g c =
