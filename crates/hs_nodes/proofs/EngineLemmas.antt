@@ -6,7 +6,7 @@ use Rattle.hs_base.specs.Contexts.{prev_at}
 use Rattle.hs_block.specs.declared.engine.BlockEnds.{BlockEnds}
 use Rattle.hs_engine.specs.Engines.{Meaning}
 use Rattle.hs_nodes.specs.declared.ends.ChunkEnds.{ChunkEnds}
-use Rattle.hs_nodes.specs.Awake.{ScansBlock}
+use Rattle.hs_nodes.specs.Starting.{ScansBlock}
 use Rattle.hs_nodes.specs.Blocks.{EndsBehind, block, front}
 use Rattle.hs_nodes.specs.Left.{AreLeftIn}
 use Rattle.hs_nodes.specs.Pieces.{AreEmptyIn, IsHeld, TakesChunk}

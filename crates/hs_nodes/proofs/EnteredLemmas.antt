@@ -1,6 +1,6 @@
 -- An engine over a chunk that is entered at some of its places, block by block.
-use Rattle.std.proofs.Common.{◌≡◌, ◌⊎◌, ℕ, zero, suc, ◌+◌, ◌*◌, ◌/◌, ◌%◌, ◌<◌, ◌≤◌, Bool, true, false, List, [], ◌∷◌, ◌++◌, length, take, slice_index, refl, sym, ap, subst, ◌∙◌, inl, inr, arith, length-append}
-use Rattle.std.proofs.lemmas.List.{append-nil, append_assoc, length-take-le, take_all}
+use Rattle.std.proofs.Common.{◌≡◌, ◌⊎◌, ℕ, zero, suc, ◌+◌, ◌*◌, ◌/◌, ◌%◌, ◌<◌, ◌≤◌, Bool, List, [], ◌∷◌, ◌++◌, length, take, drop, slice_index, refl, sym, ap, subst, ◌∙◌, inl, inr, arith, length-append}
+use Rattle.std.proofs.lemmas.List.{append-nil, append_assoc, length-take}
 use Rattle.hs_base.specs.declared.context.Prev.{Prev}
 use Rattle.hs_base.specs.Contexts.{prev_at}
 use Rattle.hs_base.specs.Trees.{Tree}
@@ -12,10 +12,14 @@ use Rattle.hs_block.specs.declared.engine.BlockEnds.{BlockEnds}
 use Rattle.hs_engine.specs.Engines.{Meaning}
 use Rattle.hs_waking.specs.EntryRows.{entries_to}
 use Rattle.hs_nodes.specs.Blocks.{block, front}
-use Rattle.hs_nodes.specs.Starting.{IsRunEntered, RunsEntered, ScansBlock, entered_to, is_place}
+use Rattle.hs_nodes.specs.Starting.{RunsEntered, ScansBlock, entered_to, is_place}
 use Rattle.hs_nodes.specs.declared.ends.ChunkEnds.{ChunkEnds}
 use Rattle.hs_nodes.proofs.ChunkLemmas.{block-past, front-all, front-more, front-none, length-front}
 use Rattle.hs_nodes.proofs.RunLemmas.{AreMoreEnds, AreNowhereFrom, reach-all, reach-more, reach-upto}
+
+pub length-block-few : (bytes : List ℕ) (j : ℕ) → length (block bytes j) ≤ 64
+unfolding block
+length-block-few bytes j = omega (arith, length-take 64 (drop (64 * j) bytes))
 
 -- the entries of a block are the bits of its word
 pub place-of : (words : ℕ → ℕ) (j i : ℕ) → i < 64 → is_place words (64 * j + i) ≡ word_bit (words j) i
@@ -87,15 +91,11 @@ module _ (m : Meaning) (old region new : List ℕ) (prev here_prev : Prev) (at h
       field = run.field;
     })
 
-    few : length (block bytes j) ≤ 64
-    few = let reach = reach-more bytes (block bytes j) j n 0 next below refl in
-        let up = reach-upto bytes j (omega arith) in
-        omega (arith, reach, length-block-few bytes j)
-
     entries-next : entered_to entered words bytes j ++ bits_of (words j) (length (block bytes j)) ≡ entered_to entered words bytes n
     entries-next =
-        let reach : 64 * j + length (block bytes j) ≡ length (take (64 * n) bytes) = reach-more bytes (block bytes j) j n 0 next below refl in
-        sym (entered-place entered words bytes j (length (block bytes j)) few (omega arith)) ∙ ap (λ k. entered ++ entries_to (is_place words) k) reach
+        let up = reach-more bytes (block bytes j) j n 0 next below refl in
+        let reach : 64 * j + length (block bytes j) ≡ length (take (64 * n) bytes) = omega (arith, up) in
+        sym (entered-place entered words bytes j (length (block bytes j)) (length-block-few bytes j) (omega arith)) ∙ ap (λ k. entered ++ entries_to (is_place words) k) reach
 
     before-at : (i : ℕ) → (i < j) ⊎ (i ≡ j) → Marks (length (block bytes i)) (slice_index ends'.before i) (IsLeftBefore tree (front u bytes i) (entered_to entered words bytes i) (block bytes i) (words i))
     before-at i (inl low) = subst (λ w. Marks (length (block bytes i)) w (IsLeftBefore tree (front u bytes i) (entered_to entered words bytes i) (block bytes i) (words i))) (sym (more.before_other i (omega arith))) (run.before_is i low)

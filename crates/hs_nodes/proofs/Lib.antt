@@ -25,3 +25,4 @@ pub mod GatherLemmas
 pub mod FillLemmas
 pub mod StartingLemmas
 pub mod EnteredLemmas
+pub mod SufficeLemmas

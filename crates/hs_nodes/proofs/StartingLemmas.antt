@@ -1,47 +1,71 @@
--- Blocks of a chunk that wake nothing in an engine without a parent.
-use Rattle.std.proofs.Common.{◌≡◌, ◌↔◌, ℕ, zero, suc, ◌+◌, ◌-◌, ◌*◌, ◌<◌, ◌≤◌, Bool, true, false, not, List, [], ◌∷◌, ◌++◌, length, take, drop, replicate, slice_get, slice_index, Option, Some, None, eqb, refl, sym, ap, subst, ◌∙◌, inl, inr, arith}
+-- Engines without a parent: where they need to be entered.
+use Rattle.std.proofs.Common.{◌≡◌, ◌↔◌, ℕ, zero, suc, ◌+◌, ◌/◌, ◌%◌, ◌<◌, ◌≤◌, Bool, true, false, ◌||◌, List, [], ◌∷◌, ◌++◌, length, take, replicate, slice_get, slice_index, eqb, Some, refl, sym, ap, subst, ◌∙◌, inl, inr, arith}
 use Rattle.std.specs.Prelude.{EachIndex}
-use Rattle.std.specs.Option.{is_some}
-use Rattle.std.proofs.lemmas.Bool.{cases_eq}
-use Rattle.std.proofs.lemmas.List.{get_or-drop, get_or-take, length-drop, length-take, replicate_more}
+use Rattle.std.specs.Int.{bit_at}
 use Rattle.std.proofs.lemmas.Nat.Bits.{bit_at-zero}
-use Rattle.hs_base.specs.declared.byte_set.ByteSet.{ByteSet}
-use Rattle.hs_base.specs.declared.context.Mask.{Mask}
+use Rattle.std.proofs.lemmas.Bool.{cases_eq}
+use Rattle.std.proofs.lemmas.List.{append-nil, replicate_more, take_all}
+use Rattle.hs_base.specs.declared.context.Next.{Next}
 use Rattle.hs_base.specs.declared.context.Next.TheVariants as after
 use Rattle.hs_base.specs.declared.context.Prev.{Prev}
-use Rattle.hs_base.specs.Assertions.{line_feed, is_word_byte}
-use Rattle.hs_base.specs.Contexts.{class_of, prev_by}
+use Rattle.hs_base.specs.Bits.{has_word_bit}
+use Rattle.hs_base.specs.Contexts.{class_of}
 use Rattle.hs_base.specs.Fields.{Leaves}
 use Rattle.hs_base.specs.Trees.{Tree}
-use Rattle.hs_bits.specs.BlockContexts.{prev_before}
-use Rattle.hs_bits.specs.WordBits.{AreSet, bits_of, word_bit}
-use Rattle.hs_block.specs.Blocks.{IsFieldOf}
-use Rattle.hs_block.specs.declared.engine.BlockEnds.{BlockEnds}
-use Rattle.hs_engine.specs.Engines.{Meaning, IsStart}
 use Rattle.hs_base.proofs.ChainStreamLemmas.{leaving-begins}
-use Rattle.hs_nodes.specs.Awake.{AreBesideAsleep, IsBesideAsleep, IsBlockAsleep, ScansBlock}
-use Rattle.hs_nodes.specs.Waking.{AreWakesSound, IsListed}
+use Rattle.hs_bits.specs.WordBits.{AreSet, bits_of, word_bit}
+use Rattle.hs_bits.proofs.BlockLemmas.{block-more, entered-more, length-block, length-entered}
+use Rattle.hs_bits.proofs.PlaceLemmas.{bit-none}
+use Rattle.hs_block.specs.Blocks.{IsFieldOf}
+use Rattle.hs_engine.specs.Engines.{IsQuiet, Meaning}
+use Rattle.hs_nodes.specs.Left.{AreLeftIn}
+use Rattle.hs_nodes.specs.Starting.{AreStartsEnough, DoStartsSuffice, IsEnteredThroughout, ScansBlock}
+use Rattle.hs_nodes.specs.Waking.{AreRowsSound, AreStartsBy, AreWakesSound, IsKindAsleep, IsListed, is_never_empty}
+use Rattle.hs_nodes.specs.declared.ends.ChunkEnds.{ChunkEnds}
 use Rattle.hs_nodes.specs.declared.table.Node.{Node}
 use Rattle.hs_nodes.specs.declared.table.NodeTable.{NodeTable}
 use Rattle.hs_nodes.specs.declared.wake_table.WakeTable.{WakeTable}
-use Rattle.hs_nodes.specs.Blocks.{block}
-use Rattle.hs_nodes.specs.Left.{AreLeftIn}
-use Rattle.hs_nodes.specs.Resting.{SleepsThrough}
-use Rattle.hs_nodes.specs.declared.ends.ChunkEnds.{ChunkEnds}
-use Rattle.hs_nodes.specs.declared.table.NodeKind.{NodeKind}
-use Rattle.hs_nodes.specs.declared.table.NodeKind.TheVariants.{Engine}
-use Rattle.hs_waking.specs.BlockSets.{bytes_of_block, has_block}
-use Rattle.hs_waking.specs.declared.block_set.BlockSet.{BlockSet}
-use Rattle.hs_waking.specs.declared.prev_set.PrevSet.{PrevSet}
-use Rattle.hs_waking.specs.Fits.{FitsNowhere}
-use Rattle.hs_waking.specs.WakeRows.{IsWakeRow, SleepsOver}
+use Rattle.hs_waking.specs.EntryRows.{DoEntriesSuffice, entries_to}
+use Rattle.hs_waking.specs.Starts.{start_word, starts_at}
+use Rattle.hs_waking.specs.declared.starts.Starts.{Starts}
+use Rattle.hs_nodes.proofs.WakeLemmas.{row-asleep}
+use Rattle.hs_waking.proofs.AnyLemmas.{true-false}
+use Rattle.hs_waking.proofs.StartLemmas.{told-starts}
+use Rattle.hs_waking.proofs.WordLemmas.{all-ones}
+use Rattle.std.proofs.lemmas.Bool.{lt-ltb}
 
--- the block of a chunk that isn't awake
-pub block-asleep : (m : Meaning) (prev : Prev) (enters : ℕ) (bytes own : List ℕ) (j : ℕ) (here : Prev) → own ≡ block bytes j → here ≡ prev_before prev bytes (64 * j) → AreSet enters (length (bytes_of_block bytes j)) →
-    SleepsThrough m (prev_before prev bytes (64 * j)) (bytes_of_block bytes j) → IsBlockAsleep m here enters own
-unfolding block
-block-asleep m prev enters bytes own j here own_is here_is entered asleep =
-    subst (λ bs. IsBlockAsleep m here enters bs) (sym own_is) (entered, subst (λ p. SleepsThrough m p (bytes_of_block bytes j)) (sym here_is) asleep)
+-- a block that an engine at rest isn't entered in
+module _ (m : Meaning) (region : List ℕ) (prev : Prev) (at enters : ℕ) (bytes : List ℕ) (never : m.always ≡ false) (quiet : IsQuiet m region) (small : EachIndex bytes (λ i. slice_index bytes i < 256)) (none : enters ≡ 0) where
+  unset : (i : ℕ) → word_bit enters i ≡ false
+  unset i = ap (λ w. word_bit w i) none ∙ bit-none i
+
+  module _ (tree : Tree) (u : List ℕ) (entered : List Bool) (of : IsFieldOf m region prev at tree u entered) where
+    counted : (i : ℕ) → i ≤ length bytes → length (entered ++ bits_of enters i) ≡ length (u ++ take i bytes)
+    counted i within = omega (arith, of.count, length-entered entered enters i, length-block u bytes i within)
+
+    quiet-to : (i : ℕ) → i ≤ length bytes → m.field region tree (u ++ take i bytes) (entered ++ bits_of enters i)
+    quiet-to zero within = subst (λ v. m.field region tree v (entered ++ [])) (sym (append-nil u)) (subst (m.field region tree u) (sym (append-nil entered)) of.field)
+    quiet-to (suc i) within =
+        let next : i + 1 ≡ suc i = omega arith in
+        let same : (m.always || false) ≡ word_bit enters i = ap (λ b. b || false) never ∙ sym (unset i) in
+        subst (λ n. m.field region tree (u ++ take n bytes) (entered ++ bits_of enters n)) next
+        (subst (λ es. m.field region tree (u ++ take (i + 1) bytes) es) (entered-more entered enters i)
+        (subst (λ v. m.field region tree v ((entered ++ bits_of enters i) ++ word_bit enters i ∷ [])) (block-more u bytes i (omega arith))
+        (subst (λ b. m.field region tree ((u ++ take i bytes) ++ slice_index bytes i ∷ []) ((entered ++ bits_of enters i) ++ b ∷ [])) same
+        (quiet.stays never (slice_index bytes i) (small i (omega arith)) tree (u ++ take i bytes) (entered ++ bits_of enters i) of.runs (counted i (omega arith)) (quiet-to i (omega arith))))))
+
+    not-left : (i : ℕ) → i ≤ length bytes → (next : Next) → Leaves tree (u ++ take i bytes) (entered ++ bits_of enters i) next → ⊥
+    not-left i within next = quiet.leaves_nothing tree (u ++ take i bytes) (entered ++ bits_of enters i) of.runs (counted i within) (quiet-to i within) next
+
+  nothing-there : (i : ℕ) {A : Type 0} → (A → ⊥) → (word_bit 0 i ≡ true) ↔ A
+  nothing-there i not = (λ set. let both : true ≡ false = sym set ∙ bit-none i in absurd (cc), λ a. absurd (not a))
+
+  pub quiet-scans : ScansBlock m region region prev at enters bytes (record { before = 0; behind = 0 })
+  quiet-scans tree u entered of = record {
+    field = subst (λ v. m.field region tree (u ++ v) (entered ++ bits_of enters (length bytes))) (take_all (length bytes) bytes (omega arith)) (quiet-to tree u entered of (length bytes) (omega arith));
+    before_is = record { below = λ i low. nothing-there i (not-left tree u entered of i (omega (arith, low)) (class_of (slice_index bytes i))); above = λ i high. bit-none i };
+    behind_is = record { below = λ i low. nothing-there i (not-left tree u entered of (i + 1) (omega (arith, low)) after.Unknown); above = λ i high. bit-none i };
+  }
 
 -- the entries of a block before each byte of which the engine is entered
 pub bits-all : (enters n : ℕ) → AreSet enters n → bits_of enters n ≡ replicate n true
@@ -50,99 +74,96 @@ bits-all enters (suc n) set =
     let one : n + 1 ≡ suc n = omega arith in
     ap (λ b. bits_of enters n ++ b ∷ []) (set n (omega arith)) ∙ (ap (λ bs. bs ++ true ∷ []) (bits-all enters n (λ i low. set i (omega arith))) ∙ (replicate_more n true ∙ ap (λ k. replicate k true) one))
 
--- it may be passed over
-pub asleep-scans : (m : Meaning) (region : List ℕ) (prev : Prev) (at enters : ℕ) (bytes : List ℕ) → IsStart m region → IsBlockAsleep m prev enters bytes → ScansBlock m region region prev at enters bytes (record { before = 0; behind = 0 })
-unfolding word_bit
-asleep-scans m region prev at enters bytes start (set, asleep) tree u entered of =
-    let over : SleepsOver m region prev bytes = asleep region start in
-    record {
-      field = subst (λ es. m.field region tree (u ++ bytes) (entered ++ es)) (sym (bits-all enters (length bytes) set)) (over.stays tree u entered of.runs of.count of.behind of.field);
-      before_is = record {
-        below = λ i low. no-truth i (λ leaves.
-            over.leaves_nothing tree u entered of.runs of.count of.behind of.field i (omega (arith, low)) (omega (arith, low)) (class_of (slice_index bytes i))
-            (subst (λ es. Leaves tree (u ++ take i bytes) (entered ++ es) (class_of (slice_index bytes i))) (bits-all enters i (λ k less. set k (omega (arith, less, low)))) leaves));
-        above = λ i high. word-zero i;
-      };
-      behind_is = record {
-        below = λ i low. no-truth i (λ leaves.
-            over.leaves_nothing tree u entered of.runs of.count of.behind of.field (i + 1) (omega (arith, low)) (omega (arith, low)) after.Unknown
-            (subst (λ es. Leaves tree (u ++ take (i + 1) bytes) (entered ++ es) after.Unknown) (bits-all enters (i + 1) (λ k less. set k (omega (arith, less, low)))) leaves));
-        above = λ i high. word-zero i;
-      };
-    } where
-      word-zero : (i : ℕ) → word_bit 0 i ≡ false
-      word-zero i = ap (λ b. eqb b 1) (bit_at-zero i)
-
-      no-truth : (i : ℕ) {A : Type 0} → (A → ⊥) → (word_bit 0 i ≡ true) ↔ A
-      no-truth i not = (λ set. let both : true ≡ false = sym set ∙ word-zero i in absurd (cc), λ a. absurd (not a))
-
 -- where no pieces are left is everywhere
-pub everywhere-set : (bytes : List ℕ) (all : ChunkEnds) → ((u : List ℕ) → AreLeftIn [] u bytes all) → (j : ℕ) → j < 8 → AreSet (slice_index all.before j) (length (bytes_of_block bytes j))
-unfolding block
+pub everywhere-set : (bytes : List ℕ) (all : ChunkEnds) → ((u : List ℕ) → AreLeftIn [] u bytes all) → IsEnteredThroughout all bytes
 everywhere-set bytes all left j small i low = (((left []).each j small).before_is.below i low).1 ((leaving-begins _ _).0 refl)
 
--- the blocks in which a node of that kind sleeps
-module _ {E : Type 0} (meaning : E → Meaning) (engines : List E) where
-  -- by the row, which fits nowhere in the block
-  pub row-beside : (kind : NodeKind) (blocks : BlockSet) (prev : Prev) (bytes : List ℕ) → EachIndex bytes (λ i. slice_index bytes i < 256) →
-      ((number : ℕ) (null : Option Mask) (e : E) → kind ≡ Engine number null → slice_get engines number ≡ Some e → (j : ℕ) → j < 8 → has_block blocks j ≡ false →
-      (behind : PrevSet) × (row : List ByteSet) × (IsWakeRow (meaning e) behind row × FitsNowhere behind row (prev_before prev bytes (64 * j)) (bytes_of_block bytes j))) →
-      IsBesideAsleep meaning engines kind blocks prev bytes
-  row-beside kind blocks prev bytes small rows number null e is there j few out region starts =
-      let (behind, row, both) = rows number null e is there j few out in
-      let (wakes, nowhere) = both in
-      wakes region (bytes_of_block bytes j) (prev_before prev bytes (64 * j)) starts (λ i low. small-block i low) nowhere where
-        small-block : (i : ℕ) → i < length (bytes_of_block bytes j) → slice_index (bytes_of_block bytes j) i < 256
-        small-block i low =
-            let cut = length-take 64 (drop (64 * j) bytes) in
-            let rest = length-drop (64 * j) bytes in
-            let same : slice_index (bytes_of_block bytes j) i ≡ slice_index bytes (64 * j + i) = get_or-take 64 (drop (64 * j) bytes) i 0 (omega (arith, low, cut)) ∙ get_or-drop (64 * j) bytes i 0 in
-            subst (λ b. b < 256) (sym same) (small (64 * j + i) (omega (arith, low, cut, rest)))
+-- entries that are the same as far as they are asked
 
-  -- all of them are awake
-  pub all-beside : (kind : NodeKind) (blocks : BlockSet) (prev : Prev) (bytes : List ℕ) → ((j : ℕ) → j < 8 → has_block blocks j ≡ true) → IsBesideAsleep meaning engines kind blocks prev bytes
-  all-beside kind blocks prev bytes all number null e is there j few out = let both : true ≡ false = sym (all j few) ∙ out in absurd (cc)
+entries-same : (kept kept' : ℕ → Bool) (n : ℕ) → ((p : ℕ) → p < n → kept p ≡ kept' p) → entries_to kept n ≡ entries_to kept' n
+entries-same kept kept' zero same = refl
+entries-same kept kept' (suc n) same = ap (λ es. es ++ kept n ∷ []) (entries-same kept kept' n (λ p low. same p (omega arith))) ∙ ap (λ b. entries_to kept' n ++ b ∷ []) (same n (omega arith))
 
--- what stands before a block of a chunk
-pub before-first : (prev : Prev) (bytes : List ℕ) (j : ℕ) → j ≡ 0 → prev ≡ prev_before prev bytes (64 * j)
-before-first prev bytes zero none = refl
-before-first prev bytes (suc j) none = absurd (omega arith)
+entries-all : (kept : ℕ → Bool) (n : ℕ) → ((p : ℕ) → p < n → kept p ≡ true) → entries_to kept n ≡ replicate n true
+entries-all kept zero all = refl
+entries-all kept (suc n) all =
+    let one : n + 1 ≡ suc n = omega arith in
+    ap (λ es. es ++ kept n ∷ []) (entries-all kept n (λ p low. all p (omega arith))) ∙ (ap (λ b. replicate n true ++ b ∷ []) (all n (omega arith)) ∙ (replicate_more n true ∙ ap (λ k. replicate k true) one))
 
-pub before-later : (prev : Prev) (bytes : List ℕ) (j : ℕ) → (j ≡ 0 → ⊥) → prev_by (eqb (slice_index bytes (64 * j - 1)) line_feed) (is_word_byte (slice_index bytes (64 * j - 1))) ≡ prev_before prev bytes (64 * j)
-before-later prev bytes zero some = absurd (some refl)
-before-later prev bytes (suc j) some =
-    let place : suc (64 * suc j - 1) ≡ 64 * suc j = omega arith in
-    ap (prev_before prev bytes) place
+pub suffice-same : (m : Meaning) (kept kept' : ℕ → Bool) (prev : Prev) (bytes : List ℕ) → ((p : ℕ) → p < length bytes → kept p ≡ kept' p) → DoEntriesSuffice m kept prev bytes → DoEntriesSuffice m kept' prev bytes
+suffice-same m kept kept' prev bytes same suffice = record {
+  field = λ tree u region entered runs count last held.
+      suffice.field tree u region entered runs count last (subst (λ es. m.field region tree (u ++ bytes) (entered ++ es)) (sym (entries-same kept kept' (length bytes) same)) held);
+  leaves = λ tree u entered runs count last i within next.
+      subst (λ es. Leaves tree (u ++ take i bytes) (entered ++ es) next ↔ Leaves tree (u ++ take i bytes) (entered ++ replicate i true) next) (entries-same kept kept' i (λ p low. same p (omega (arith, low, within))))
+      (suffice.leaves tree u entered runs count last i within next);
+}
 
--- an answer that is None isn't one
-pub none-some : {A B : Type 0} (o : Option A) (answer : Bool) → o ≡ None → is_some o ≡ not answer → answer ≡ false → B
-none-some None true none told no' = absurd (let e : true ≡ false = no' in cc)
-none-some None false none told no' = absurd (let e : false ≡ true = told in cc)
-none-some (Some a) answer none told no' = absurd (let e : Some a ≡ None = none in cc)
+pub suffice-all : (m : Meaning) (kept : ℕ → Bool) (prev : Prev) (bytes : List ℕ) → ((p : ℕ) → p < length bytes → kept p ≡ true) → DoEntriesSuffice m kept prev bytes
+suffice-all m kept prev bytes all = record {
+  field = λ tree u region entered runs count last held. subst (λ es. m.field region tree (u ++ bytes) (entered ++ es)) (entries-all kept (length bytes) all) held;
+  leaves = λ tree u entered runs count last i within next.
+      subst (λ es. Leaves tree (u ++ take i bytes) (entered ++ es) next ↔ Leaves tree (u ++ take i bytes) (entered ++ replicate i true) next) (sym (entries-all kept i (λ p low. all p (omega (arith, low, within)))))
+      (λ leaves. leaves, λ leaves. leaves);
+}
 
--- so many of the nodes of a list have been looked at
-abbrev pub AreBesideTo : {E : Type 0} (meaning : E → Meaning) (table : NodeTable E) (numbers : List ℕ) (prev : Prev) (bytes : List ℕ) (awake : List BlockSet) (n : ℕ) → Type 0
-AreBesideTo meaning table numbers prev bytes awake n =
-    (i : ℕ) (node : Node) (blocks : BlockSet) → i < n → i < length numbers → slice_get table.nodes.items (slice_index numbers i) ≡ Some node → slice_get awake (slice_index numbers i) ≡ Some blocks →
-    IsBesideAsleep meaning table.engines.items node.kind blocks prev bytes
+-- words that are all 0 have no place
+pub zero-places : (places : List ℕ) → ((j : ℕ) → j < 8 → slice_index places j ≡ 0) → (p : ℕ) → p < 512 → has_word_bit places p ≡ false
+unfolding has_word_bit
+zero-places places zero_words p small = ap (λ w. eqb (bit_at w (p % 64)) 1) (zero_words (p / 64) (omega arith)) ∙ ap (λ b. eqb b 1) (bit_at-zero (p % 64))
+
+-- a number that stands in a list
+pub read-there : (xs : List ℕ) (i : ℕ) → i < length xs → slice_get xs i ≡ Some (slice_index xs i)
+read-there [] i low = absurd (omega arith)
+read-there (x ∷ xs) zero low = refl
+read-there (x ∷ xs) (suc i) low = read-there xs i (omega arith)
+
+-- the row of a node of an engine tells it
+module _ {E : Type 0} (meaning : E → Meaning) (table : NodeTable E) (wakes : WakeTable) (place k : ℕ) (prev : Prev) (bytes places : List ℕ) (starts : Starts) (sound : AreRowsSound meaning table wakes) (few : length bytes ≤ 512) (small : EachIndex bytes (λ i. slice_index bytes i < 256))
+    (at : slice_get wakes.first_engines.items place ≡ Some k) (told : k < starts.count → (j : ℕ) → j < 8 → start_word starts k j ≡ slice_index places j) where
+  pub row-starts : (node : Node) → slice_get table.nodes.items k ≡ Some node → AreStartsBy wakes place prev bytes places → DoStartsSuffice meaning table.engines.items node.kind starts k prev bytes
+  row-starts node there (AreStartsBy.all is) number null e kind_is at_e =
+      suffice-all (meaning e) (starts_at starts k) prev bytes (λ p low.
+      told-starts starts k places told p (omega (arith, low, few)) (ap (λ ws. has_word_bit ws p) is ∙ (all-ones p 512 refl (omega (arith, low, few)) ∙ lt-ltb p 512 (omega (arith, low, few)))))
+  row-starts node there (AreStartsBy.fits row at_row exact) number null e kind_is at_e =
+      let own = sound.are place k number null node row e at at_row there kind_is at_e in
+      own.tells.enters (starts_at starts k) prev bytes small (λ p low fits. told-starts starts k places told p (omega (arith, low, few)) ((exact own.own own.numbered p (omega (arith, low, few))).1 (low, fits)))
+
+  -- one that has no empty span, and whose matches begin nowhere, sleeps
+  pub starts-asleep : (node : Node) → slice_get table.nodes.items k ≡ Some node → is_never_empty node.kind ≡ true → ((p : ℕ) → p < 512 → has_word_bit places p ≡ false) → AreStartsBy wakes place prev bytes places → IsKindAsleep meaning table.engines.items node.kind prev bytes
+  starts-asleep node there never none (AreStartsBy.all is) =
+      true-false (has_word_bit places 0) (ap (λ ws. has_word_bit ws 0) is ∙ (all-ones 0 512 refl (omega arith) ∙ lt-ltb 0 512 (omega arith))) (none 0 (omega arith))
+  starts-asleep node there never none (AreStartsBy.fits row at_row exact) =
+      row-asleep meaning table wakes place k node prev bytes sound small at there node.kind refl never row at_row
+      (λ own numbered p low fits. true-false (has_word_bit places p) ((exact own numbered p (omega (arith, low, few))).1 (low, fits)) (none p (omega (arith, low, few))))
+
+-- so many of the nodes of a list have been told
+abbrev pub AreStartsTo : {E : Type 0} (meaning : E → Meaning) (table : NodeTable E) (numbers : List ℕ) (prev : Prev) (bytes : List ℕ) (starts : Starts) (n : ℕ) → Type 0
+AreStartsTo meaning table numbers prev bytes starts n =
+    (i : ℕ) (node : Node) → i < n → i < length numbers → slice_get table.nodes.items (slice_index numbers i) ≡ Some node →
+    DoStartsSuffice meaning table.engines.items node.kind starts (slice_index numbers i) prev bytes
 
 module _ {E : Type 0} (meaning : E → Meaning) (table : NodeTable E) (numbers : List ℕ) (prev : Prev) (bytes : List ℕ) where
-  pub beside-none : (awake : List BlockSet) → AreBesideTo meaning table numbers prev bytes awake 0
-  beside-none awake i node blocks low = absurd (omega arith)
+  pub starts-none : (starts : Starts) → AreStartsTo meaning table numbers prev bytes starts 0
+  starts-none starts i node low = absurd (omega arith)
 
-  pub beside-more : (awake new : List BlockSet) (n m : ℕ) → m ≡ n + 1 → ((i : ℕ) → (i ≡ slice_index numbers n → ⊥) → slice_get new i ≡ slice_get awake i) →
-      ((node : Node) (blocks : BlockSet) → slice_get table.nodes.items (slice_index numbers n) ≡ Some node → slice_get new (slice_index numbers n) ≡ Some blocks → IsBesideAsleep meaning table.engines.items node.kind blocks prev bytes) →
-      AreBesideTo meaning table numbers prev bytes awake n → AreBesideTo meaning table numbers prev bytes new m
-  beside-more awake new n m next others sound before i node blocks low inside there at =
+  pub starts-more : (starts new : Starts) (n m : ℕ) → m ≡ n + 1 → length bytes ≤ 512 → ((k j : ℕ) → (k ≡ slice_index numbers n → ⊥) → j < 8 → start_word new k j ≡ start_word starts k j) →
+      ((node : Node) → slice_get table.nodes.items (slice_index numbers n) ≡ Some node → DoStartsSuffice meaning table.engines.items node.kind new (slice_index numbers n) prev bytes) →
+      AreStartsTo meaning table numbers prev bytes starts n → AreStartsTo meaning table numbers prev bytes new m
+  starts-more starts new n m next few others own before i node low inside there =
       elim (cases_eq (slice_index numbers i) (slice_index numbers n)) [
-        | inl same ↦ sound node blocks (ap (slice_get table.nodes.items) (sym same) ∙ there) (ap (slice_get new) (sym same) ∙ at)
+        | inl same ↦ subst (λ k. DoStartsSuffice meaning table.engines.items node.kind new k prev bytes) (sym same) (own node (ap (slice_get table.nodes.items) (sym same) ∙ there))
         | inr apart ↦
             let elsewhere : i ≡ n → ⊥ = λ same. apart (ap (slice_index numbers) same) in
             let earlier : i < n = omega (arith, low, next, elsewhere) in
-            before i node blocks earlier inside there (sym (others (slice_index numbers i) apart) ∙ at)
+            λ number null e kind_is at_e.
+            suffice-same (meaning e) (starts_at starts (slice_index numbers i)) (starts_at new (slice_index numbers i)) prev bytes
+            (λ p within. ap (λ w. word_bit w (p % 64)) (sym (others (slice_index numbers i) (p / 64) apart (omega (arith, within, few)))))
+            (before i node earlier inside there number null e kind_is at_e)
       ]
 
-  pub beside-all : (wakes : WakeTable) (literals : ℕ) (awake : List BlockSet) (n : ℕ) → AreWakesSound table.nodes.items wakes literals → numbers ≡ wakes.first_engines.items → length numbers ≤ n → AreBesideTo meaning table numbers prev bytes awake n → AreBesideAsleep meaning table awake prev bytes
-  beside-all wakes literals awake n sound same all to k node blocks there no_parent at number null e kind_is =
+  pub starts-all : (wakes : WakeTable) (literals : ℕ) (starts : Starts) (n : ℕ) → AreWakesSound table.nodes.items wakes literals → numbers ≡ wakes.first_engines.items → length numbers ≤ n → AreStartsTo meaning table numbers prev bytes starts n → AreStartsEnough meaning table starts prev bytes
+  starts-all wakes literals starts n sound same all to k node there no_parent number null e kind_is at_e =
       let listed = subst (λ ns. IsListed ns k) (sym same) (sound.entered k number null node there kind_is no_parent) in
-      to listed.place node blocks (omega (arith, listed.within, all)) listed.within (ap (slice_get table.nodes.items) listed.is ∙ there) (ap (slice_get awake) listed.is ∙ at) number null e kind_is
+      subst (λ i. DoEntriesSuffice (meaning e) (starts_at starts i) prev bytes) listed.is
+      (to listed.place node (omega (arith, listed.within, all)) listed.within (ap (slice_get table.nodes.items) listed.is ∙ there) number null e kind_is at_e)

@@ -52,7 +52,7 @@ module _ {E : Type 0} (meaning : E → Meaning) (table : NodeTable E) where
     refl,
     λ e at_e.
         let own = sound.are place k number None node row e at at_row there is at_e in
-        λ region starts. own.wakes region bytes prev starts small (nowhere own.own own.numbered),
+        λ region starts. own.tells.wakes region bytes prev starts small (nowhere own.own own.numbered),
   )
   row-asleep wakes place k node prev bytes sound small at there (Engine number (Some mask)) is never row at_row nowhere = absurd (cc)
   row-asleep wakes place k node prev bytes sound small at there (Literal number len) is never row at_row nowhere = absurd (cc)

@@ -35,6 +35,8 @@ impl ChunkEnds {
             (bit_and (slice_index enters.now.before j) (slice_index null.now.before j)) }
         ensures behind { (j : ℕ) → j < 8 → slice_index result.behind j ≡ bit_or (slice_index self.now.behind j)
             (bit_and (slice_index enters.now.behind j) (slice_index null.now.behind j)) }
+        ensures past { (j : ℕ) → 8 ≤ j → slice_index result.before j ≡ 0 }
+        ensures past_behind { (j : ℕ) → 8 ≤ j → slice_index result.behind j ≡ 0 }
     {
         let mut ends = *self;
         for j in 0..MAX_BLOCKS {

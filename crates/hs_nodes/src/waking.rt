@@ -1,7 +1,8 @@
 //! Which nodes a chunk wakes.
 
-ghost use Rattle.std.specs.Prelude.{◌≡◌, ◌<◌, ◌≤◌, ℕ, true, false, length, Some, slice_get};
+ghost use Rattle.std.specs.Prelude.{◌≡◌, ◌*◌, ◌<◌, ◌≤◌, ℕ, true, false, length, Some, slice_get};
 ghost use Rattle.std.specs.Prelude.{slice_index};
+ghost use Rattle.hs_base.specs.Bits.{has_word_bit};
 ghost use Rattle.hs_reports.specs.Marks.{is_marked, mark_room};
 ghost use Rattle.hs_nodes.specs.Starting.{AreStartsEnough, DoStartsSuffice};
 ghost use Rattle.hs_nodes.specs.Waking.{AreEnginesUnwoken, AreRowsSound, AreStartsBy, AreWakesSound, IsKindAsleep};
@@ -77,6 +78,15 @@ fn start_places(
     fit_places(&wakes.rows[place], &wakes.sets, words, prev, bytes)
 }
 
+/// Whether a chunk wakes the node of that number, in which its matches may begin at these places.
+fn is_woken<E>(graph: &Graph<E>, k: usize, places: &Places) -> bool
+    requires there { k < length graph.now.table.nodes.items }
+    ensures asleep { (node : Node) → slice_get graph.now.table.nodes.items k ≡ Some node → result ≡ false →
+        (is_never_empty node.kind ≡ true) × ((p : ℕ) → p < 512 → has_word_bit places.now p ≡ false) }
+{
+    !is_none(places) | !never_empty(node_at(&graph.table, k).kind)
+}
+
 /// Marks the node that stands at that place among those of engines without a parent, if a chunk behind `prev` wakes it,
 /// and tells where its matches may begin.
 fn wake_engine<E: Engine>(
@@ -111,7 +121,7 @@ fn wake_engine<E: Engine>(
     let k = start_of(&graph.wakes.first_engines, place);
     let places = start_places(&graph.wakes, place, prev, bytes, words);
     starts.tell(k, &places);
-    if !is_none(&places) || !never_empty(node_at(&graph.table, k).kind) {
+    if is_woken(graph, k, &places) {
         marks.write(k, true);
     }
 }

@@ -46,6 +46,16 @@ fn entering<'e>(parent: Option<u32>, all: &'e ChunkEnds, ends: &'e [ChunkEnds]) 
     }
 }
 
+/// The number of a node, if it has no parent.
+fn first_number(parent: Option<u32>, k: usize) -> Option<usize>
+    ensures { (i : ℕ) → result ≡ Some i → (parent ≡ None) × (i ≡ k) }
+{
+    match parent {
+        None => Some(k),
+        Some(_) => None,
+    }
+}
+
 /// Takes a chunk by the node of that number; `all` is everywhere.
 fn run_node<E: BlockEngine, L: Ledger>(
     table: &NodeTable<E>,
@@ -77,7 +87,6 @@ fn run_node<E: BlockEngine, L: Ledger>(
 {
     let node = node_at(table, k);
     let enters = entering(node.parent, all, ends);
-    let first = if node.parent.is_none() { Some(k) } else { None };
     ends[k] = run_kind(
         node.kind,
         &table.engines,
@@ -85,7 +94,7 @@ fn run_node<E: BlockEngine, L: Ledger>(
         chunk,
         found,
         enters,
-        first,
+        first_number(node.parent, k),
         steps,
     );
 }

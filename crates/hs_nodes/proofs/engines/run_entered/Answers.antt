@@ -1,4 +1,4 @@
-use Rattle.std.proofs.Common.{◌≡◌, ◌+◌, ◌*◌, ◌<◌, length, refl, sym, subst, ◌∙◌, arith, length-set}
+use Rattle.std.proofs.Common.{◌+◌, ◌*◌, ◌<◌, length, refl, subst, arith, length-set}
 use Rattle.std.proofs.lemmas.List.{length-take-le}
 use Rattle.hs_nodes.proofs.EngineLemmas.{blocks-all, blocks-more, blocks-none}
 use Rattle.hs_nodes.proofs.RunLemmas.{ends-more, nowhere-more, nowhere-none, reach-all, reach-more, steps-more, word-through}

@@ -1,4 +1,4 @@
-use Rattle.std.proofs.Common.{◌≡◌, ◌+◌, ◌*◌, ◌<◌, length, refl, sym, subst, ◌∙◌, arith, length-set}
+use Rattle.std.proofs.Common.{◌+◌, ◌*◌, ◌<◌, length, refl, subst, arith, length-set}
 use Rattle.std.proofs.lemmas.List.{length-take-le}
 use Rattle.hs_waking.specs.Starts.{start_word}
 use Rattle.hs_nodes.proofs.EnteredLemmas.{entered-all, entered-more, entered-none}

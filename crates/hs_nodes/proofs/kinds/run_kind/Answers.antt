@@ -42,11 +42,11 @@ run_engine-requires-clause-idle g c part len zero =
     let there = slice_get_read engines (length engines) c.in-Engine.number c.index-engines-number.result refl sound.there c.index-engines-number.is in
     c.requires.idle c.in-Engine.number c.index-engines-number.result part there (sound.each c.index-engines-number.result there).1 len zero
 
-pub run_engine-requires-clause-asleep : goal.run_engine-requires-clause-asleep
-run_engine-requires-clause-asleep g c =
+pub run_engine-requires-clause-starts : goal.run_engine-requires-clause-starts
+run_engine-requires-clause-starts g c k is =
     let engines = c.args.engines.now in
     let sound = subst (λ (k : NodeKind). IsKindSound g.E.Engine.meaning engines (length c.args.found.now.hits.now) k (length c.args.part.now)) c.in-Engine.is c.requires.sound in
-    c.requires.asleep c.in-Engine.number c.in-Engine.null c.index-engines-number.result c.in-Engine.is (slice_get_read engines (length engines) c.in-Engine.number c.index-engines-number.result refl sound.there c.index-engines-number.is)
+    c.requires.starts k is c.in-Engine.number c.in-Engine.null c.index-engines-number.result c.in-Engine.is (slice_get_read engines (length engines) c.in-Engine.number c.index-engines-number.result refl sound.there c.index-engines-number.is)
 
 pub bounds-found-number : goal.bounds-found-number
 bounds-found-number g c = (subst (λ (k : NodeKind). IsKindSound g.E.Engine.meaning c.args.engines.now (length c.args.found.now.hits.now) k (length c.args.part.now)) c.in-Literal.is c.requires.sound).0

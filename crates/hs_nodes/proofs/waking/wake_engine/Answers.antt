@@ -1,13 +1,35 @@
-use Rattle.std.proofs.Common.{◌≡◌, ◌∙◌, ℕ, Some, slice_get, slice_index, sym, ap, subst}
-use Rattle.hs_nodes.specs.Awake.{IsBesideAsleep}
-use Rattle.hs_waking.specs.declared.block_set.BlockSet.{BlockSet}
+use Rattle.std.proofs.Common.{◌≡◌, ◌∙◌, arith, slice_get, slice_index, sym, ap}
+use Rattle.hs_nodes.proofs.StartingLemmas.{read-there, row-starts, starts-asleep}
+use Rattle.hs_waking.specs.Starts.{start_word}
 use Rattle.hs_nodes.proofs.waking.wake_engine.Goals as goal
 
-pub returns-in-Some-clause-beside : goal.returns-in-Some-clause-beside
-returns-in-Some-clause-beside g c node blocks there at =
+pub returns-then-is_woken-clause-starts : goal.returns-then-is_woken-clause-starts
+returns-then-is_woken-clause-starts g c node there =
     let graph = c.args.graph.now in
-    let own = c.in-Some.blocks in
-    let same : c.start_of-k.result ≡ slice_index graph.wakes.first_engines.items c.args.place = c.start_of-k.ensures ∙ ap (λ xs. slice_index xs c.args.place) c.deref.ensures.value in
-    let is : blocks ≡ own = c.tell_awake.ensures.own blocks (ap (slice_get c.tell_awake.new.awake) same ∙ at) in
-    subst (λ (bs : BlockSet). IsBesideAsleep g.E.Engine.meaning graph.table.engines.items node.kind bs c.args.prev c.args.bytes.now) (sym is)
-    (c.wakes_node.ensures.beside node own (ap (slice_get graph.table.nodes.items) same ∙ there) c.in-Some.is)
+    let list = graph.wakes.first_engines.items in
+    let k = slice_index list c.args.place in
+    let same : c.start_of-k.result ≡ k = c.start_of-k.ensures ∙ ap (λ xs. slice_index xs c.args.place) c.deref.ensures.value in
+    row-starts g.E.Engine.meaning graph.table graph.wakes c.args.place k c.args.prev c.args.bytes.now c.start_places-places.result c.tell.new.self c.requires.rows c.requires.few (λ i low. (c.type_inv.bytes i).fits) (read-there list c.args.place c.requires.place)
+    (λ below j small. ap (λ i. start_word c.tell.new.self i j) (sym same) ∙ c.tell.ensures.own (omega (arith, below, same, c.tell.ensures.count)) j small)
+    node there c.start_places-places.ensures.places
+
+pub returns-else-is_woken-clause-starts : goal.returns-else-is_woken-clause-starts
+returns-else-is_woken-clause-starts g c node there =
+    let graph = c.args.graph.now in
+    let list = graph.wakes.first_engines.items in
+    let k = slice_index list c.args.place in
+    let same : c.start_of-k.result ≡ k = c.start_of-k.ensures ∙ ap (λ xs. slice_index xs c.args.place) c.deref.ensures.value in
+    row-starts g.E.Engine.meaning graph.table graph.wakes c.args.place k c.args.prev c.args.bytes.now c.start_places-places.result c.tell.new.self c.requires.rows c.requires.few (λ i low. (c.type_inv.bytes i).fits) (read-there list c.args.place c.requires.place)
+    (λ below j small. ap (λ i. start_word c.tell.new.self i j) (sym same) ∙ c.tell.ensures.own (omega (arith, below, same, c.tell.ensures.count)) j small)
+    node there c.start_places-places.ensures.places
+
+pub returns-else-is_woken-clause-asleep : goal.returns-else-is_woken-clause-asleep
+returns-else-is_woken-clause-asleep g c node there unmarked =
+    let graph = c.args.graph.now in
+    let list = graph.wakes.first_engines.items in
+    let k = slice_index list c.args.place in
+    let same : c.start_of-k.result ≡ k = c.start_of-k.ensures ∙ ap (λ xs. slice_index xs c.args.place) c.deref.ensures.value in
+    let (never, none) = c.is_woken.ensures.asleep node (ap (slice_get graph.table.nodes.items) same ∙ there) c.if-is_woken.false in
+    starts-asleep g.E.Engine.meaning graph.table graph.wakes c.args.place k c.args.prev c.args.bytes.now c.start_places-places.result c.tell.new.self c.requires.rows c.requires.few (λ i low. (c.type_inv.bytes i).fits) (read-there list c.args.place c.requires.place)
+    (λ below j small. ap (λ i. start_word c.tell.new.self i j) (sym same) ∙ c.tell.ensures.own (omega (arith, below, same, c.tell.ensures.count)) j small)
+    node there never none c.start_places-places.ensures.places

@@ -1,5 +1,5 @@
-use Rattle.std.proofs.Common.{◌+◌, ◌∙◌, refl, arith}
-use Rattle.hs_nodes.proofs.AwakeLemmas.{all-beside, beside-all, beside-more, beside-none}
+use Rattle.std.proofs.Common.{◌+◌, refl, arith}
+use Rattle.hs_nodes.proofs.StartingLemmas.{starts-all, starts-more}
 use Rattle.hs_nodes.proofs.WakeLemmas.{engines-unwoken, looked-all, looked-more}
 use Rattle.hs_nodes.proofs.waking.wake_engines.Goals as goal
 
@@ -11,12 +11,12 @@ returns-clause-asleep g c =
     engines-unwoken g.E.Engine.meaning graph.table graph.wakes literals c.loop-i.marks c.args.prev c.args.bytes.now sound
     (looked-all g.E.Engine.meaning graph.table listed.items c.args.prev c.args.bytes.now c.args.marks.now c.loop-i.marks c.loop-i.i (omega (arith, c.loop-i-test.false, c.len-i-end.ensures, listed.ok.0)) c.loop-i.invariant.looked)
 
-pub returns-clause-beside : goal.returns-clause-beside
-returns-clause-beside g c =
+pub returns-clause-starts : goal.returns-clause-starts
+returns-clause-starts g c =
     let graph = c.args.graph.now in
     let (literals, sound) = c.requires.wakes in
     let listed = graph.wakes.first_engines in
-    beside-all g.E.Engine.meaning graph.table listed.items c.args.prev c.args.bytes.now graph.wakes literals c.loop-i.awake c.loop-i.i sound refl (omega (arith, c.loop-i-test.false, c.len-i-end.ensures, listed.ok.0)) c.loop-i.invariant.beside
+    starts-all g.E.Engine.meaning graph.table listed.items c.args.prev c.args.bytes.now graph.wakes literals c.loop-i.starts c.loop-i.i sound refl (omega (arith, c.loop-i-test.false, c.len-i-end.ensures, listed.ok.0)) c.loop-i.invariant.starts
 
 pub loop-i-preserved : goal.loop-i-preserved
 loop-i-preserved g c =
@@ -27,6 +27,5 @@ loop-i-preserved g c =
     record {
       looked = looked-more m graph.table list c.args.prev c.args.bytes.now c.args.marks.now c.loop-i.marks c.wake_engine.new.marks i (i + 1) refl c.wake_engine.ensures.more c.wake_engine.ensures.asleep c.loop-i.invariant.looked;
       chunk = c.wake_engine.ensures.chunk;
-      len = c.wake_engine.ensures.len ∙ c.loop-i.invariant.len;
-      beside = beside-more m graph.table list c.args.prev c.args.bytes.now c.loop-i.awake c.wake_engine.new.awake i (i + 1) refl c.wake_engine.ensures.elsewhere c.wake_engine.ensures.beside c.loop-i.invariant.beside;
+      starts = starts-more m graph.table list c.args.prev c.args.bytes.now c.loop-i.starts c.wake_engine.new.starts i (i + 1) refl c.requires.few c.wake_engine.ensures.others c.wake_engine.ensures.starts c.loop-i.invariant.starts;
     }

@@ -1,5 +1,4 @@
-use Rattle.std.proofs.Common.{◌≡◌, length}
-use Rattle.hs_nodes.proofs.AwakeLemmas.{AreBesideTo}
+use Rattle.hs_nodes.proofs.StartingLemmas.{AreStartsTo}
 use Rattle.hs_nodes.proofs.WakeLemmas.{AreLookedAt}
 use Rattle.hs_waking.specs.ChunkWords.{AreOfChunk}
 use Rattle.hs_nodes.proofs.waking.wake_engines.Given as goal
@@ -8,6 +7,5 @@ abbrev pub invariant-loop-i : goal.invariant-loop-i
 invariant-loop-i g l = record {
   looked : AreLookedAt g.E.Engine.meaning l.graph.table l.graph.wakes.first_engines.items l.prev l.bytes l.fn.marks l.marks l.i;
   chunk : AreOfChunk l.words l.graph.wakes.sets.items l.bytes;
-  len : length l.awake ≡ length l.initial.awake;
-  beside : AreBesideTo g.E.Engine.meaning l.graph.table l.graph.wakes.first_engines.items l.prev l.bytes l.awake l.i;
+  starts : AreStartsTo g.E.Engine.meaning l.graph.table l.graph.wakes.first_engines.items l.prev l.bytes l.starts l.i;
 }

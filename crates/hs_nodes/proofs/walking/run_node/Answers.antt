@@ -1,27 +1,29 @@
-use Rattle.std.proofs.Common.{◌≡◌, ◌∙◌, ℕ, Option, Some, ◌+◌, ◌≤◌, length, refl, slice_get, slice_index, sym, ap, subst}
-use Rattle.hs_bits.specs.WordBits.{AreSet}
-use Rattle.hs_waking.specs.BlockSets.{bytes_of_block}
+use Rattle.std.proofs.Common.{◌≡◌, ◌∙◌, ℕ, Option, Some, ◌+◌, ◌≤◌, length, refl, slice_get, sym, ap, subst}
 use Rattle.hs_nodes.specs.Walks.{entering_ends}
 use Rattle.hs_nodes.specs.declared.ends.ChunkEnds.{ChunkEnds}
-use Rattle.hs_nodes.proofs.AwakeLemmas.{everywhere-set}
+use Rattle.hs_nodes.specs.Starting.{IsEnteredThroughout}
+use Rattle.hs_waking.specs.EntryRows.{DoEntriesSuffice}
+use Rattle.hs_waking.specs.Starts.{starts_at}
+use Rattle.hs_nodes.proofs.StartingLemmas.{everywhere-set}
 use Rattle.hs_nodes.specs.Nodes.{most_ticks}
 use Rattle.hs_nodes.specs.declared.table.Node.{Node}
 use Rattle.hs_nodes.proofs.KindLemmas.{one-value}
 use Rattle.hs_nodes.proofs.NodeLemmas.{node-run}
 use Rattle.hs_nodes.proofs.walking.run_node.Goals as goal
 
-pub run_kind-requires-clause-asleep : goal.run_kind-requires-clause-asleep
-run_kind-requires-clause-asleep g c number null e is at j few out =
-    let (no_parent, here) = c.awake_of.ensures j few out in
-    c.requires.asleep c.args.k c.node_at-node.result c.awake_of.result c.node_at-node.ensures no_parent here number null e is (subst (λ es. slice_get es number ≡ Some e) c.deref.ensures.value at) j few out
+pub run_kind-requires-clause-starts : goal.run_kind-requires-clause-starts
+run_kind-requires-clause-starts g c k is number null e kind_is at =
+    let (no_parent, same) = c.first_number.ensures k is in
+    subst (λ i. DoEntriesSuffice (g.E.Engine.meaning e) (starts_at c.args.found.now.starts.now i) c.args.chunk.now.prev c.args.chunk.now.bytes.now) (sym same)
+    (c.requires.starts c.args.k c.node_at-node.result c.node_at-node.ensures no_parent number null e kind_is (subst (λ es. slice_get es number ≡ Some e) c.deref.ensures.value at))
 
 pub run_kind-requires-clause-entered : goal.run_kind-requires-clause-entered
-run_kind-requires-clause-entered g c j few out =
-    let (no_parent, here) = c.awake_of.ensures j few out in
+run_kind-requires-clause-entered g c k is =
+    let (no_parent, place) = c.first_number.ensures k is in
     let bytes = c.args.chunk.now.bytes.now in
     let all = c.args.all.now in
     let same : c.entering-enters.result.now ≡ all = c.entering-enters.ensures ∙ ap (λ (p : Option ℕ). entering_ends p all c.args.ends.now) no_parent in
-    subst (λ (es : ChunkEnds). AreSet (slice_index es.before j) (length (bytes_of_block bytes j))) (sym same) (everywhere-set bytes all c.requires.everywhere j few)
+    subst (λ (es : ChunkEnds). IsEnteredThroughout es bytes) (sym same) (everywhere-set bytes all c.requires.everywhere)
 
 pub returns-clause-runs : goal.returns-clause-runs
 returns-clause-runs g c =
