@@ -21,8 +21,8 @@ use Rattle.hs_waking.specs.PrevSets.{has_prev}
 use Rattle.hs_waking.proofs.RowTableLemmas.{behind-kept, there}
 use Rattle.hs_rose.specs.declared.engine.PieceEngine.{PieceEngine}
 use Rattle.hs_rose.specs.PieceEngines.{piece_meaning}
-use Rattle.hs_waking.specs.Fits.{IsBehindBy, IsRowBy, row_numbers}
-use Rattle.hs_waking.specs.WakeRows.{IsWakeRow}
+use Rattle.hs_waking.specs.EntryRows.{TellsBeginnings}
+use Rattle.hs_waking.specs.Fits.{FitsAt, IsBehindBy, IsRowBy, row_numbers}
 use Rattle.hs_compile.specs.GraphWakes.{IsRowAt}
 
 -- a row that ends early
@@ -33,14 +33,20 @@ taken (suc n) [] d low = refl
 taken (suc n) (x ∷ xs) zero low = refl
 taken (suc n) (x ∷ xs) (suc d) low = taken n xs d (omega (arith, low))
 
-cut-wakes : (m : Meaning) (behind less : PrevSet) (own : List ByteSet) (n : ℕ) → ((prev : Prev) → has_prev less prev ≡ true → has_prev behind prev ≡ true) → IsWakeRow m less own → IsWakeRow m behind (take n own)
-cut-wakes m behind less own n more wakes region bytes prev starts small nowhere =
-    wakes region bytes prev starts small (λ i low fits. nowhere i low (
-      more (prev_before prev bytes i) fits.0,
-      λ d within inside.
-          let short = length-take n own in
-          ap (λ o. in_set o (slice_index bytes (i + d))) (taken n own d (omega (arith, within, short))) ∙ fits.1 d (omega (arith, within, short)) inside,
-    ))
+-- it fits wherever the whole row does, and so does one that may begin behind more
+cut-fits : (behind less : PrevSet) (own : List ByteSet) (n : ℕ) → ((prev : Prev) → has_prev less prev ≡ true → has_prev behind prev ≡ true) → (prev : Prev) (bytes : List ℕ) (i : ℕ) → FitsAt less own prev bytes i → FitsAt behind (take n own) prev bytes i
+cut-fits behind less own n more prev bytes i fits = (
+  more (prev_before prev bytes i) fits.0,
+  λ d within inside.
+      let short = length-take n own in
+      ap (λ o. in_set o (slice_index bytes (i + d))) (taken n own d (omega (arith, within, short))) ∙ fits.1 d (omega (arith, within, short)) inside,
+)
+
+cut-tells : (m : Meaning) (behind less : PrevSet) (own : List ByteSet) (n : ℕ) → ((prev : Prev) → has_prev less prev ≡ true → has_prev behind prev ≡ true) → TellsBeginnings m less own → TellsBeginnings m behind (take n own)
+cut-tells m behind less own n more tells = record {
+  wakes = λ region bytes prev starts small nowhere. tells.wakes region bytes prev starts small (λ i low fits. nowhere i low (cut-fits behind less own n more prev bytes i fits));
+  enters = λ kept prev bytes small keeps. tells.enters kept prev bytes small (λ i low fits. keeps i low (cut-fits behind less own n more prev bytes i fits));
+}
 
 -- sets that are put behind others
 
@@ -53,7 +59,7 @@ numbered-kept numbers old new own kept by = record {
 }
 
 row-kept : (m : Meaning) (old new : List ByteSet) (row : WakeRow) → Extends old new → IsRowFor m old row → IsRowFor m new row
-row-kept m old new row kept is = record { own = is.own; numbered = numbered-kept (row_numbers row) old new is.own kept is.numbered; wakes = is.wakes }
+row-kept m old new row kept is = record { own = is.own; numbered = numbered-kept (row_numbers row) old new is.own kept is.numbered; tells = is.tells }
 
 within-kept : (old new : List ByteSet) (k : ℕ) → Extends old new → k < length old → k < length new
 within-kept old new k kept low = let (set, here) = there old k low in slice_get_within new k set (kept k set here)
@@ -126,7 +132,7 @@ module _ (nodes : List Node) (engines : List PieceEngine) (list : List ℕ) (n m
             subst (λ (r : WakeRow). IsRowFor (piece_meaning e) new.sets.items r) is (record {
               own = take puts.row.count own;
               numbered = cut-numbered new.sets.items own puts.row puts.is;
-              wakes = cut-wakes (piece_meaning e) puts.row.behind behind own puts.row.count puts.behind_more (of_node number null node e (ap (slice_get nodes) (sym one) ∙ there_node) kind_is there_e);
+              tells = cut-tells (piece_meaning e) puts.row.behind behind own puts.row.count puts.behind_more (of_node number null node e (ap (slice_get nodes) (sym one) ∙ there_node) kind_is there_e);
             })
       ];
     };

@@ -10,7 +10,7 @@ use Rattle.hs_nodes.specs.Waking.{IsListed, waking_literal}
 use Rattle.hs_rose.specs.declared.engine.PieceEngine.{PieceEngine}
 use Rattle.hs_rose.specs.PieceEngines.{piece_meaning}
 use Rattle.hs_waking.specs.declared.prev_set.PrevSet.{PrevSet}
-use Rattle.hs_waking.specs.WakeRows.{IsWakeRow}
+use Rattle.hs_waking.specs.EntryRows.{TellsBeginnings}
 
 -- the literals that wake the nodes
 abbrev pub waking_literals : List Node → List (Option ℕ)
@@ -40,11 +40,11 @@ pub record AreFirstEngines (nodes : List Node) (n : ℕ) (list : List ℕ) : Typ
   pub all : (k : ℕ) (node : Node) → k < n → slice_get nodes k ≡ Some node →
       is_first_engine node.kind node.parent ≡ true → IsListed list k
 
--- the row, which begins behind these, is that of the engine of the node of that number, if it is one
+-- the row, which begins behind these, tells how matches of the engine of the node of that number begin, if it is one
 abbrev pub IsRowAt : List Node → List PieceEngine → (k : ℕ) → PrevSet → (row : List ByteSet) → Type 0
 IsRowAt nodes engines k behind row =
     (number : ℕ) (null : Option Mask) (node : Node) (e : PieceEngine) →
     slice_get nodes k ≡ Some node →
     node.kind ≡ Engine number null →
     slice_get engines number ≡ Some e →
-    IsWakeRow (piece_meaning e) behind row
+    TellsBeginnings (piece_meaning e) behind row

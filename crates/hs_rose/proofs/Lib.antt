@@ -18,3 +18,4 @@ pub mod SizeLemmas
 pub mod PlanLemmas
 pub mod StreamingLemmas
 pub mod MovesRowLemmas
+mod RepeatEntryLemmas

@@ -11,8 +11,9 @@ use Rattle.hs_engine.specs.Automata.{in_set}
 use Rattle.hs_limex.specs.Fitting.{Fits, tables_meaning}
 use Rattle.hs_limex.specs.PositionMoves.{PositionMoves}
 use Rattle.hs_rose.specs.MovesRows.{IsMovesLevel}
-use Rattle.hs_waking.specs.Rows.{IsAtLevel}
-use Rattle.hs_waking.specs.WakeRows.{IsWakeRow}
+use Rattle.hs_waking.specs.EntryRows.{TellsBeginnings}
+use Rattle.hs_waking.specs.Rows.{IsAtLevel, RunsByRow}
+use Rattle.hs_waking.proofs.EntryLemmas.{entry-row}
 use Rattle.hs_waking.proofs.WakeLemmas.{wake-row}
 
 -- levels by the tables are those of the automaton
@@ -24,12 +25,12 @@ pub level-from : (m : PositionMoves) (a : Automaton) → Fits m a → (d x : ℕ
 level-from m a fits zero x (c, enter) = (c, fits.enters c x ∙ enter)
 level-from m a fits (suc d) y (x, c, before, follow) = (x, c, level-from m a fits d x before, fits.follows x y c ∙ follow)
 
--- what is said by the tables keeps the engine asleep
-pub moves-row : (m : PositionMoves) (behind : PrevSet) (row : List ByteSet) → 0 < length row →
+-- what is said by the tables is said by the automaton
+moves-by : (m : PositionMoves) (behind : PrevSet) (row : List ByteSet) → 0 < length row →
     ((x b : ℕ) (prev : Prev) → b < 256 → m.enters (between prev (class_of b)) x ≡ true → m.reach b x ≡ true → has_prev behind prev ≡ true) →
     ((d x b : ℕ) → d < length row → IsMovesLevel m d x → b < 256 → m.reach b x ≡ true → in_set (slice_get row d) b ≡ true) →
-    ((d x : ℕ) (c : Context) → d + 1 < length row → IsMovesLevel m d x → m.accepts c x ≡ true → ⊥) → IsWakeRow (tables_meaning m) behind row
-moves-row m behind row some before sets ends = wake-row (tables_meaning m) behind row (record {
+    ((d x : ℕ) (c : Context) → d + 1 < length row → IsMovesLevel m d x → m.accepts c x ≡ true → ⊥) → RunsByRow (tables_meaning m) behind row
+moves-by m behind row some before sets ends = record {
   told = λ tree is. (
     is.automaton,
     record {
@@ -41,4 +42,12 @@ moves-row m behind row some before sets ends = wake-row (tables_meaning m) behin
     is.runs,
   );
   field = λ region tree u entered told. (λ is. is, λ is. is);
-})
+}
+
+pub moves-row : (m : PositionMoves) (behind : PrevSet) (row : List ByteSet) → 0 < length row →
+    ((x b : ℕ) (prev : Prev) → b < 256 → m.enters (between prev (class_of b)) x ≡ true → m.reach b x ≡ true → has_prev behind prev ≡ true) →
+    ((d x b : ℕ) → d < length row → IsMovesLevel m d x → b < 256 → m.reach b x ≡ true → in_set (slice_get row d) b ≡ true) →
+    ((d x : ℕ) (c : Context) → d + 1 < length row → IsMovesLevel m d x → m.accepts c x ≡ true → ⊥) → TellsBeginnings (tables_meaning m) behind row
+moves-row m behind row some before sets ends =
+    let by : RunsByRow (tables_meaning m) behind row = moves-by m behind row some before sets ends in
+    record { wakes = wake-row (tables_meaning m) behind row by; enters = entry-row (tables_meaning m) behind row by }

@@ -25,12 +25,12 @@ pub enum PieceEngine {
 
 impl PieceEngine {
     ghost use Rattle.hs_rose.specs.PieceEngines.{piece_meaning};
-    ghost use Rattle.hs_waking.specs.WakeRows.{IsWakeRow};
+    ghost use Rattle.hs_waking.specs.EntryRows.{TellsBeginnings};
 
     /// How each match begins: what may stand before it, and the sets of its first byte, the second and so on. Bytes in
-    /// which none begins so wake nothing.
+    /// which none begins so wake nothing, and where none begins so the engine needs no entry.
     pub fn beginning(&self) -> Beginning<'_>
-        ensures { IsWakeRow (piece_meaning self.now) result.behind result.row.now }
+        ensures { TellsBeginnings (piece_meaning self.now) result.behind result.row.now }
     {
         match self {
             PieceEngine::Positions(positions) => positions.beginning(),

@@ -56,7 +56,7 @@ impl PositionEngine {
     ghost use Rattle.hs_engine.specs.Tables.{Runs};
     ghost use Rattle.hs_block.specs.Blocks.{TakesBlock};
     ghost use Rattle.hs_rose.specs.PositionEngines.{meaning_of_positions};
-    ghost use Rattle.hs_waking.specs.WakeRows.{IsWakeRow};
+    ghost use Rattle.hs_waking.specs.EntryRows.{TellsBeginnings};
 
     /// The engine of an automaton, of whose tables it makes its own.
     pub(crate) fn build(alloc: Global, automaton: &Automaton) -> Result<PositionEngine, AllocError>
@@ -77,7 +77,7 @@ impl PositionEngine {
 
     /// How each match begins: what may stand before it, and the sets of its first bytes.
     pub(crate) fn beginning(&self) -> Beginning<'_>
-        ensures { IsWakeRow (meaning_of_positions self.now) result.behind result.row.now }
+        ensures { TellsBeginnings (meaning_of_positions self.now) result.behind result.row.now }
     {
         Beginning {
             behind: self.behind,
