@@ -2,8 +2,8 @@
 
 ghost use Rattle.std.specs.Prelude.{◌≡◌, ◌+◌, ◌*◌, ◌<◌, ◌≤◌, ◌^◌, ℕ, IfOk, length, slice_index};
 ghost use Rattle.hs_base.specs.Lists.{Each};
-ghost use Rattle.hs_nodes.specs.Awake.{AreBesideAsleep};
 ghost use Rattle.hs_nodes.specs.Resting.{AreEnginesIdle, AreNodesResting, AreNodesUnwoken};
+ghost use Rattle.hs_nodes.specs.Starting.{AreStartsEnough};
 ghost use Rattle.hs_nodes.specs.Walks.{AreNodesWell, IsOutside, IsTableSound};
 ghost use Rattle.hs_reports.specs.Events.{Takes};
 ghost use Rattle.hs_scan.specs.Knowing.{FitsKnown, IsPending};
@@ -16,7 +16,7 @@ use hs_block::BlockEngine;
 use hs_engine::Steps;
 use hs_nodes::{Chunk, ChunkEnds, ChunkHits, Graph, MarkSet, everywhere, settle, walk};
 use hs_reports::Events;
-use hs_waking::BlockSet;
+use hs_waking::Starts;
 use std::alloc::{AllocError, Global};
 use std::sync::ledger::Ledger;
 
@@ -25,8 +25,8 @@ use std::sync::ledger::Ledger;
 pub(crate) struct Course {
     /// The nodes that are run over the next chunk, and those in which something may be live.
     pub marks: MarkSet,
-    /// In which blocks of a chunk each node may be woken, as far as it is one of an engine without a parent.
-    pub awake: Vec<BlockSet>,
+    /// Where matches of each node may begin in a chunk, as far as it is one of an engine without a parent.
+    pub starts: Starts,
     /// What is known of the identifiers.
     pub known: Known,
 }
@@ -42,7 +42,7 @@ impl Course {
     {
         Ok(Course {
             marks: MarkSet::new(alloc, nodes)?,
-            awake: vec![in alloc; BlockSet::all(); nodes]?,
+            starts: Starts::new(alloc, nodes)?,
             known: Known::new(alloc, identifiers)?,
         })
     }
@@ -50,7 +50,7 @@ impl Course {
 
 /// Takes a chunk by the nodes that are marked: the region goes from what is kept of the nodes before it to what is
 /// kept behind it, what is known of the identifiers likewise, and the new reports of the chunk are told. Nothing is
-/// live then in the nodes that aren't marked. Of engines without a parent it is said in which blocks they may be woken.
+/// live then in the nodes that aren't marked. Of engines without a parent it is said where their matches may begin.
 pub(crate) fn take_chunk<E: BlockEngine, V: Events, L: Ledger>(
     graph: &Graph<E>,
     chunk: &Chunk,
@@ -73,8 +73,7 @@ pub(crate) fn take_chunk<E: BlockEngine, V: Events, L: Ledger>(
     requires resting { AreNodesResting E.meaning graph.now.table course.old.marks region.old }
     requires unwoken { AreNodesUnwoken E.meaning graph.now.table course.old.marks hits.now
         chunk.now.prev chunk.now.bytes.now }
-    requires beside { AreBesideAsleep E.meaning graph.now.table course.old.awake.items chunk.now.prev
-        chunk.now.bytes.now }
+    requires starts { AreStartsEnough E.meaning graph.now.table course.old.starts chunk.now.prev chunk.now.bytes.now }
     ensures len { length region.new ≡ length region.old }
     ensures well { AreNodesWell E.meaning graph.now.table region.new
         (chunk.now.at + length chunk.now.bytes.now) }
@@ -95,7 +94,7 @@ pub(crate) fn take_chunk<E: BlockEngine, V: Events, L: Ledger>(
         &graph.table,
         chunk,
         hits,
-        &course.awake,
+        &course.starts,
         region,
         ends,
         &mut course.marks,

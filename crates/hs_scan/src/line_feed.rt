@@ -175,14 +175,14 @@ pub(crate) fn run_line_feed<E: BlockEngine, V: Events, L: Ledger>(
         chunk.prev,
         chunk.bytes,
         &mut scratch.words,
-        &mut scratch.course.awake,
+        &mut scratch.course.starts,
         &mut scratch.course.marks,
     );
     walk(
         &graph.table,
         chunk,
         &scratch.hits,
-        &scratch.course.awake,
+        &scratch.course.starts,
         region,
         &mut scratch.ends,
         &mut scratch.course.marks,

@@ -71,7 +71,7 @@ fn run_chunk<E: BlockEngine, V: Events, L: Ledger>(
         chunk.prev,
         chunk.bytes,
         &mut scratch.words,
-        &mut scratch.course.awake,
+        &mut scratch.course.starts,
         &mut scratch.course.marks,
     );
     take_chunk(

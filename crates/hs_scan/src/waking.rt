@@ -3,7 +3,7 @@
 ghost use Rattle.std.specs.Prelude.{◌≡◌, ◌<◌, ◌≤◌, ℕ, List, true, false, length};
 ghost use Rattle.hs_literals.specs.HitTables.{has_hit};
 ghost use Rattle.hs_reports.specs.Marks.{is_marked, mark_room};
-ghost use Rattle.hs_nodes.specs.Awake.{AreBesideAsleep};
+ghost use Rattle.hs_nodes.specs.Starting.{AreStartsEnough};
 ghost use Rattle.hs_nodes.specs.Resting.{AreNodesUnwoken};
 ghost use Rattle.hs_nodes.specs.Waking.{AreRowsSound, AreWakesSound};
 ghost use Rattle.hs_nodes.specs.Walks.{AreMoreMarks, IsAmongChildren};
@@ -14,7 +14,7 @@ use hs_base::Prev;
 use hs_block::BlockEngine;
 use hs_literals::HitRows;
 use hs_nodes::{Graph, MarkSet, wake_engines, wake_literal};
-use hs_waking::{BlockSet, ClassWords};
+use hs_waking::{ClassWords, Starts};
 
 /// Marks the nodes that the literals wake that end in a chunk.
 fn wake_literals<E>(graph: &Graph<E>, rows: &HitRows, marks: &mut MarkSet)
@@ -34,14 +34,14 @@ fn wake_literals<E>(graph: &Graph<E>, rows: &HitRows, marks: &mut MarkSet)
 }
 
 /// Marks the nodes that a chunk behind `prev` wakes, in which just the literals end of which the rows tell it. Tells of
-/// the engines without a parent in which blocks they may be woken.
+/// the engines without a parent where their matches may begin.
 pub(crate) fn wake<E: BlockEngine>(
     graph: &Graph<E>,
     rows: &HitRows,
     prev: Prev,
     bytes: &[u8],
     words: &mut ClassWords,
-    awake: &mut [BlockSet],
+    starts: &mut Starts,
     marks: &mut MarkSet,
 )
     requires sound { AreRowsSound E.meaning graph.now.table graph.now.wakes }
@@ -50,11 +50,10 @@ pub(crate) fn wake<E: BlockEngine>(
     requires below { (k : ℕ) → is_marked marks.old k ≡ true → k < length graph.now.table.nodes.items }
     requires few { length bytes.now ≤ 512 }
     ensures more { AreMoreMarks (length graph.now.table.nodes.items) marks.old marks.new }
-    ensures len { length awake.new ≡ length awake.old }
-    ensures beside { AreBesideAsleep E.meaning graph.now.table awake.new prev bytes.now }
+    ensures starts { AreStartsEnough E.meaning graph.now.table starts.new prev bytes.now }
     ensures unwoken { (hits : List ChunkHits) → ((k : ℕ) → has_hit rows.now k ≡ false → HasNowhere hits k) →
         AreNodesUnwoken E.meaning graph.now.table marks.new hits prev bytes.now }
 {
     wake_literals(graph, rows, marks);
-    wake_engines(graph, prev, bytes, words, awake, marks);
+    wake_engines(graph, prev, bytes, words, starts, marks);
 }

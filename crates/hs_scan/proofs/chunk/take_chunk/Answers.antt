@@ -1,5 +1,4 @@
 use Rattle.std.proofs.Common.{length, sym, subst, ◌∙◌, arith}
-use Rattle.hs_nodes.specs.Awake.{AreBesideAsleep}
 use Rattle.hs_nodes.specs.Walks.{IsTableSound}
 use Rattle.hs_nodes.proofs.SettleLemmas.{resting-may, resting-stay}
 use Rattle.hs_nodes.proofs.TickLemmas.{nodes-most}
@@ -13,10 +12,6 @@ use Rattle.hs_scan.proofs.chunk.take_chunk.Goals as goal
 pub walk-requires-clause-rests : goal.walk-requires-clause-rests
 walk-requires-clause-rests g c =
     resting-may g.E.Engine.meaning c.args.graph.now.table c.args.course.now.marks c.args.hits.now c.args.region.now c.args.chunk.now.bytes.now c.args.chunk.now.prev c.requires.small c.requires.resting c.requires.unwoken
-
-pub walk-requires-clause-asleep : goal.walk-requires-clause-asleep
-walk-requires-clause-asleep g c =
-    subst (λ bs. AreBesideAsleep g.E.Engine.meaning c.args.graph.now.table bs c.args.chunk.now.prev c.args.chunk.now.bytes.now) (sym c.deref.ensures.value) c.requires.beside
 
 pub tell_chunk-requires-clause-rest : goal.tell_chunk-requires-clause-rest
 tell_chunk-requires-clause-rest g c = passed-nowhere g.E.Engine.meaning c.args.graph.now c.walk.new.marks c.args.region.now c.walk.new.region c.walk.new.ends c.walk.ensures.changes

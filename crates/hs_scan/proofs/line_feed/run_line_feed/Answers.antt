@@ -1,7 +1,6 @@
 use Rattle.std.proofs.Common.{◌≡◌, ◌+◌, ◌*◌, ◌<◌, ◌≤◌, ℕ, false, ◌++◌, length, take, drop, sym, ap, subst, ◌∙◌, arith}
 use Rattle.hs_base.specs.Lists.{Each}
 use Rattle.hs_nodes.proofs.SettleLemmas.{resting-may, resting-stay}
-use Rattle.hs_nodes.specs.Awake.{AreBesideAsleep}
 use Rattle.hs_nodes.proofs.WakeLemmas.{resting-more}
 use Rattle.hs_nodes.specs.Left.{nowhere}
 use Rattle.hs_reports.specs.Marks.{is_marked}
@@ -28,20 +27,11 @@ walk-requires-clause-rests g c =
     subst (λ hs. MayNodesRest m graph.table c.wake.new.marks hs c.args.region.now c.args.chunk.now.prev bytes) (sym c.deref.ensures.value)
     (resting-may m graph.table c.wake.new.marks s.hits.items c.args.region.now bytes c.args.chunk.now.prev small rests (c.wake.ensures.unwoken s.hits.items c.requires.others))
 
-pub walk-requires-clause-asleep : goal.walk-requires-clause-asleep
-walk-requires-clause-asleep g c =
-    let table = c.args.graph.now.table in
-    let chunk = c.args.chunk.now in
-    let old = c.args.scratch.now.course.awake in
-    let len : length c.wake.new.awake ≡ length old.items = c.wake.ensures.len ∙ ap length c.deref_mut.ensures.value in
-    let now = whole c.wake.new.awake old.items old.len len (omega (arith, old.ok)) in
-    subst (λ bs. AreBesideAsleep g.E.Engine.meaning table bs chunk.prev chunk.bytes.now) (sym (c.deref-2.ensures.value ∙ now)) c.wake.ensures.beside
-
 pub tell_line_feed-requires-clause-rest : goal.tell_line_feed-requires-clause-rest
 tell_line_feed-requires-clause-rest g c k below none =
     let s = c.args.scratch.now in
     let left = c.walk.new.ends in
-    let len : length left ≡ length s.ends.items = c.walk.ensures.ends ∙ ap length c.deref_mut-2.ensures.value in
+    let len : length left ≡ length s.ends.items = c.walk.ensures.ends ∙ ap length c.deref_mut.ensures.value in
     subst (λ es. node_ends es k ≡ nowhere) (sym (whole left s.ends.items s.ends.len len (omega (arith, s.ends.ok))))
     (passed-nowhere g.E.Engine.meaning c.args.graph.now c.walk.new.marks c.args.region.now c.walk.new.region left c.walk.ensures.changes k below none)
 
@@ -50,9 +40,9 @@ settle-requires-clause-nowhere g c k below none =
     let s = c.args.scratch.now in
     let left = c.walk.new.ends in
     let kept = c.tell_line_feed.ensures.keeps in
-    let len : length left ≡ length s.ends.items = c.walk.ensures.ends ∙ ap length c.deref_mut-2.ensures.value in
+    let len : length left ≡ length s.ends.items = c.walk.ensures.ends ∙ ap length c.deref_mut.ensures.value in
     let now = whole left s.ends.items s.ends.len len (omega (arith, s.ends.ok)) in
-    subst (λ es. node_ends es k ≡ nowhere) (sym (c.deref_mut-3.ensures.value ∙ (ap (λ v. v.items) kept.ends ∙ now)))
+    subst (λ es. node_ends es k ≡ nowhere) (sym (c.deref_mut-2.ensures.value ∙ (ap (λ v. v.items) kept.ends ∙ now)))
     (passed-nowhere g.E.Engine.meaning c.args.graph.now c.walk.new.marks c.args.region.now c.walk.new.region left c.walk.ensures.changes k below (subst (λ ms. is_marked ms k ≡ false) kept.marks none))
 
 pub settle-requires-clause-resting : goal.settle-requires-clause-resting
@@ -84,7 +74,7 @@ returns-clause-scans g c =
     let then = c.tell_line_feed.new.scratch.course.known in
     let left = c.walk.new.ends in
     let all = c.everywhere-all.result in
-    let len : length left ≡ length s.ends.items = c.walk.ensures.ends ∙ ap length c.deref_mut-2.ensures.value in
+    let len : length left ≡ length s.ends.items = c.walk.ensures.ends ∙ ap length c.deref_mut.ensures.value in
     let ends = take s.ends.len (left ++ drop (length left) s.ends.items) in
     let now : ends ≡ left = whole left s.ends.items s.ends.len len (omega (arith, s.ends.ok)) in
     let took = subst (λ es. TakesNodes m graph.table c.args.region.now c.walk.new.region chunk.prev chunk.at chunk.past.now bytes c.deref.result.now es) (sym now) c.walk.ensures.takes in
@@ -104,7 +94,7 @@ returns-clause-left g c =
     let s = c.args.scratch.now in
     let known = s.course.known in
     let left = c.walk.new.ends in
-    let len : length left ≡ length s.ends.items = c.walk.ensures.ends ∙ ap length c.deref_mut-2.ensures.value in
+    let len : length left ≡ length s.ends.items = c.walk.ensures.ends ∙ ap length c.deref_mut.ensures.value in
     let ends = take s.ends.len (left ++ drop (length left) s.ends.items) in
     let now : ends ≡ left = whole left s.ends.items s.ends.len len (omega (arith, s.ends.ok)) in
     let took = subst (λ es. TakesNodes m graph.table c.args.region.now c.walk.new.region chunk.prev chunk.at chunk.past.now bytes c.deref.result.now es) (sym now) c.walk.ensures.takes in
