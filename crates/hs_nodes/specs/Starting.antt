@@ -41,8 +41,8 @@ is_place words p = word_bit (words (p / 64)) (p % 64)
 abbrev pub entered_to : (entered : List Bool) (words : ℕ → ℕ) (bytes : List ℕ) (number : ℕ) → List Bool
 entered_to entered words bytes j = entered ++ entries_to (is_place words) (length (take (64 * j) bytes))
 
--- A chunk behind u, in which the expression is entered where the words tell it, leads to its field behind the chunk, and
--- the ends tell where it is left in each block.
+-- A chunk behind u, in which the expression is entered where the words tell it, leads to its field behind the chunk,
+-- and the ends tell where it is left in each block.
 pub record IsRunEntered (Field : List ℕ → List Bool → Type 0) (tree : Tree) (u : List ℕ) (entered : List Bool)
     (bytes : List ℕ) (words : ℕ → ℕ) (ends : ChunkEnds) : Type 0 where
   pub field : Field (u ++ bytes) (entered ++ entries_to (is_place words) (length bytes))

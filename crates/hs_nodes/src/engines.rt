@@ -15,9 +15,9 @@ use hs_engine::Steps;
 use hs_waking::Starts;
 use std::sync::ledger::Ledger;
 
-/// Takes a chunk by an engine, where the pieces before are left as `enters` tell, and the piece has the empty span where
-/// `null` tells it. `first` is the number of its node, if that has no parent: then it is entered throughout, and needs to
-/// be where its matches may begin. Answers where the pieces up to it are left.
+/// Takes a chunk by an engine, where the pieces before are left as `enters` tell, and the piece has the empty span
+/// where `null` tells it. `first` is the number of its node, if that has no parent: then it is entered throughout, and
+/// needs to be where its matches may begin. Answers where the pieces up to it are left.
 pub(crate) fn run_engine<E: BlockEngine, L: Ledger>(
     engine: &E,
     region: &mut [u8],
@@ -85,8 +85,8 @@ fn run_entered<E: BlockEngine, L: Ledger>(
     ends
 }
 
-/// Takes a block by an engine that is entered where the word tells it. Where it is entered nowhere, and nothing is live,
-/// it isn't run.
+/// Takes a block by an engine that is entered where the word tells it. Where it is entered nowhere, and nothing is
+/// live, it isn't run.
 fn run_block<E: BlockEngine, L: Ledger>(
     engine: &E,
     region: &mut [u8],

@@ -31,9 +31,9 @@ pub(crate) struct Found<'c, 'h> {
     pub starts: &'h Starts,
 }
 
-/// Takes a chunk by a node of that kind, where the pieces before are left as `enters` tell. `first` is its number, if it
-/// has no parent: then it is entered throughout, and needs to be where its matches may begin. Answers where the pieces up
-/// to the node are left.
+/// Takes a chunk by a node of that kind, where the pieces before are left as `enters` tell. `first` is its number, if
+/// it has no parent: then it is entered throughout, and needs to be where its matches may begin. Answers where the
+/// pieces up to the node are left.
 pub(crate) fn run_kind<E: BlockEngine, L: Ledger>(
     kind: NodeKind,
     engines: &[E],

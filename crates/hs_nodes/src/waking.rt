@@ -54,8 +54,8 @@ fn never_empty(kind: NodeKind) -> bool
     }
 }
 
-/// The places of a chunk behind `prev` at which the row fits that stands at that place, or all, if it can't be asked. The
-/// words are those of this chunk so far as they are known.
+/// The places of a chunk behind `prev` at which the row fits that stands at that place, or all, if it can't be asked.
+/// The words are those of this chunk so far as they are known.
 fn start_places(
     wakes: &WakeTable,
     place: usize,

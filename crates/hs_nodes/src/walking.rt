@@ -75,7 +75,8 @@ fn run_node<E: BlockEngine, L: Ledger>(
     requires contexts { (node : Node) → slice_get table.now.nodes.items k ≡ Some node → NeedsContexts node.kind →
         AreChunkContexts found.now.contexts.now chunk.now.prev chunk.now.at chunk.now.bytes.now }
     requires idle { AreEnginesIdle E.meaning table.now.engines.items }
-    requires starts { AreStartsEnough E.meaning table.now found.now.starts.now chunk.now.prev chunk.now.bytes.now }
+    requires starts { AreStartsEnough E.meaning table.now found.now.starts.now chunk.now.prev
+        chunk.now.bytes.now }
     requires everywhere { (u : List ℕ) → AreLeftIn [] u chunk.now.bytes.now all.now }
     ensures len { length region.new ≡ length region.old }
     ensures ends { length ends.new ≡ length ends.old }
@@ -144,8 +145,8 @@ fn mark_children<E>(table: &NodeTable<E>, k: usize, marks: &mut MarkSet)
 }
 
 /// Takes a chunk by the nodes that are marked, in their order; where a node is left, its children are marked. So those
-/// that are marked then have been run, and no other one has been looked at. Of engines without a parent it is said where
-/// their matches may begin.
+/// that are marked then have been run, and no other one has been looked at. Of engines without a parent it is said
+/// where their matches may begin.
 pub fn walk<E: BlockEngine, L: Ledger>(
     table: &NodeTable<E>,
     chunk: &Chunk,

@@ -47,8 +47,8 @@ pub fn fits(
     !is_none(&fit_places(row, sets, words, prev, bytes))
 }
 
-/// The places of a chunk behind `prev` at which the row fits; at its end, as far as it goes. The words are those of this
-/// chunk so far as they are known.
+/// The places of a chunk behind `prev` at which the row fits; at its end, as far as it goes. The words are those of
+/// this chunk so far as they are known.
 ///
 /// The places at which the sets so far have their bytes are kept for all places at once, and it ends with the first set
 /// that leaves none. Block by block, with an end for each block, took two to three times as long.

@@ -1,8 +1,8 @@
 //! Where matches may begin in a chunk: a row of sets, of the first byte of a match, of the second and so on, keeps an
 //! engine asleep over a chunk in which it fits nowhere behind what may stand before a match, and elsewhere the engine
-//! needs to be entered only where it fits. `row_of` and `behind_of` make these of an automaton, `fit_places` tells where
-//! a row fits, 64 places at a time, `fits` whether it does somewhere, and `fits_plain` is its slow twin; `Starts` keeps
-//! the places of many rows. `laws` says what rows are good for.
+//! needs to be entered only where it fits. `row_of` and `behind_of` make these of an automaton, `fit_places` tells
+//! where a row fits, 64 places at a time, `fits` whether it does somewhere, and `fits_plain` is its slow twin; `Starts`
+//! keeps the places of many rows. `laws` says what rows are good for.
 #![tactic(auto)]
 
 mod befores;
