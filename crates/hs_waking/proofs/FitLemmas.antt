@@ -10,13 +10,10 @@ use Rattle.hs_waking.proofs.AnyLemmas.{any-some, none-any, true-false}
 use Rattle.hs_waking.proofs.PlaceLemmas.{less, less-is}
 use Rattle.hs_waking.specs.ChunkWords.{is_open_at}
 use Rattle.hs_base.specs.declared.context.Prev.{Prev}
+use Rattle.hs_waking.specs.FitStacks.{AreOpen}
 use Rattle.hs_waking.specs.Fits.{FitsAt, FitsNowhere, FitsTo, IsRowBy}
 use Rattle.hs_waking.specs.declared.prev_set.PrevSet.{PrevSet}
 use Rattle.hs_waking.proofs.WakeLemmas.{fits-more}
-
--- The bits of the places of a chunk are those at which a row may begin and so many of its sets fit.
-abbrev pub AreOpen : (begun : ℕ → Bool) (row : ℕ → Option ByteSet) (bytes : List ℕ) (count : ℕ) (places : List ℕ) → Type 0
-AreOpen begun row bytes count places = (p : ℕ) → p < 512 → (has_word_bit places p ≡ true) ↔ ((p < length bytes) × (begun p ≡ true) × FitsTo row bytes count p)
 
 -- whether there is one, by the answer whether there is none
 

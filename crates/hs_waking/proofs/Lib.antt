@@ -10,3 +10,4 @@ mod FitLemmas
 pub mod WakerLemmas
 pub mod PrevLemmas
 pub mod StartLemmas
+mod FitStackLemmas

@@ -7,3 +7,4 @@ pub mod PlaceBits
 pub mod RowTables
 pub mod EntryRows
 pub mod Starts
+pub mod FitStacks

@@ -93,7 +93,16 @@ fn moved(word: u64, next: u64, distance: usize) -> u64
 
 /// Whether there is none.
 #[inline(always)]
-pub fn is_none(places: &[u64]) -> bool
+pub fn is_none(places: &Places) -> bool
+    ensures none { result ≡ not (any_below 512 (has_word_bit places.now)) }
+    ensures zero { result ≡ true → (j : ℕ) → j < 8 → slice_index places.now j ≡ 0 }
+{
+    are_zero(places)
+}
+
+/// Whether all of these words are 0.
+#[inline(always)]
+fn are_zero(places: &[u64]) -> bool
     requires { length places.now ≡ 8 }
     ensures none { result ≡ not (any_below 512 (has_word_bit places.now)) }
     ensures zero { result ≡ true → (j : ℕ) → j < 8 → slice_index places.now j ≡ 0 }

@@ -91,7 +91,7 @@ pub fn fit_places(
 
 /// The places of a chunk behind `prev` at which the row may begin.
 #[inline(always)]
-fn begun_places(
+pub(crate) fn begun_places(
     row: &WakeRow,
     sets: &[ByteSet],
     words: &mut ClassWords,

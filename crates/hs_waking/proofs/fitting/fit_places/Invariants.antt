@@ -2,7 +2,7 @@ use Rattle.std.proofs.Common.{◌≡◌, get_or, slice_get}
 use Rattle.hs_bits.specs.BlockContexts.{prev_before}
 use Rattle.hs_waking.specs.ChunkWords.{AreOfChunk}
 use Rattle.hs_waking.specs.PrevSets.{has_prev}
-use Rattle.hs_waking.proofs.FitLemmas.{AreOpen}
+use Rattle.hs_waking.specs.FitStacks.{AreOpen}
 use Rattle.hs_waking.proofs.fitting.fit_places.Given as goal
 
 abbrev pub invariant-loop-depth : goal.invariant-loop-depth

@@ -2,7 +2,7 @@ use Rattle.std.proofs.Common.{◌≡◌, ◌<◌, ◌^◌, get_or, inl, inr, sub
 use Rattle.std.proofs.Math.Facts.{Fits-lt-pow}
 use Rattle.std.proofs.lemmas.Bool.{cases_lt, eqb-true}
 use Rattle.hs_waking.proofs.WordLemmas.{any-more, none-is}
-use Rattle.hs_waking.proofs.chunk_places.is_none.Goals as goal
+use Rattle.hs_waking.proofs.chunk_places.are_zero.Goals as goal
 
 pub loop-word-preserved : goal.loop-word-preserved
 loop-word-preserved c =

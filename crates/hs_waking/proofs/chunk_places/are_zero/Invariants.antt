@@ -1,5 +1,5 @@
 use Rattle.std.proofs.Common.{◌≡◌, ◌↔◌, ℕ, ◌<◌, ◌^◌, get_or}
-use Rattle.hs_waking.proofs.chunk_places.is_none.Given as goal
+use Rattle.hs_waking.proofs.chunk_places.are_zero.Given as goal
 
 abbrev pub invariant-loop-word : goal.invariant-loop-word
 invariant-loop-word l = record {
