@@ -11,6 +11,7 @@ ghost use Rattle.hs_nodes.specs.Walks.{AreMoreMarks, IsAmongChildren};
 ghost use Rattle.hs_nodes.specs.declared.table.Node.{Node};
 ghost use Rattle.hs_waking.specs.declared.wake_row.WakeRow.{WakeRow};
 ghost use Rattle.hs_waking.specs.ChunkWords.{AreOfChunk};
+ghost use Rattle.hs_waking.specs.FitStacks.{IsStackOf};
 ghost use Rattle.hs_waking.specs.Fits.{IsBehindBy, row_numbers};
 ghost use Rattle.hs_waking.specs.Starts.{start_word};
 
@@ -21,7 +22,7 @@ use crate::walking::{mark_all, node_at, start_of};
 use hs_base::Prev;
 use hs_engine::Engine;
 use hs_reports::MarkSet;
-use hs_waking::{ALL_PLACES, ClassWords, Places, Starts, fit_places, is_none};
+use hs_waking::{ALL_PLACES, ClassWords, FitStack, Places, Starts, is_none};
 
 /// Marks the nodes that the literal of that number wakes.
 pub fn wake_literal<E>(graph: &Graph<E>, number: usize, marks: &mut MarkSet)
@@ -55,13 +56,14 @@ fn never_empty(kind: NodeKind) -> bool
 }
 
 /// The places of a chunk behind `prev` at which the row fits that stands at that place, or all, if it can't be asked.
-/// The words are those of this chunk so far as they are known.
+/// The words are those of this chunk so far as they are known, and the levels those of a row in it.
 fn start_places(
     wakes: &WakeTable,
     place: usize,
     prev: Prev,
     bytes: &[u8],
     words: &mut ClassWords,
+    stack: &mut FitStack,
 ) -> Places
     requires numbers { (row : WakeRow) → slice_get wakes.now.rows.items place ≡ Some row → (d : ℕ) →
         d < length (row_numbers row) → slice_index (row_numbers row) d < length wakes.now.sets.items }
@@ -69,13 +71,15 @@ fn start_places(
         IsBehindBy row wakes.now.sets.items }
     requires few { length bytes.now ≤ 512 }
     requires chunk { AreOfChunk words.old wakes.now.sets.items bytes.now }
+    requires levels { IsStackOf stack.old wakes.now.sets.items prev bytes.now }
     ensures chunk { AreOfChunk words.new wakes.now.sets.items bytes.now }
+    ensures levels { IsStackOf stack.new wakes.now.sets.items prev bytes.now }
     ensures places { AreStartsBy wakes.now place prev bytes.now result }
 {
     if place >= wakes.rows.len() || wakes.sets.len() > words.count() {
         return ALL_PLACES;
     }
-    fit_places(&wakes.rows[place], &wakes.sets, words, prev, bytes)
+    stack.fit_places(&wakes.rows[place], &wakes.sets, words, prev, bytes)
 }
 
 /// Whether a chunk wakes the node of that number, in which its matches may begin at these places.
@@ -95,6 +99,7 @@ fn wake_engine<E: Engine>(
     prev: Prev,
     bytes: &[u8],
     words: &mut ClassWords,
+    stack: &mut FitStack,
     starts: &mut Starts,
     marks: &mut MarkSet,
 )
@@ -105,7 +110,9 @@ fn wake_engine<E: Engine>(
     requires below { (k : ℕ) → is_marked marks.old k ≡ true → k < length graph.now.table.nodes.items }
     requires few { length bytes.now ≤ 512 }
     requires chunk { AreOfChunk words.old graph.now.wakes.sets.items bytes.now }
+    requires levels { IsStackOf stack.old graph.now.wakes.sets.items prev bytes.now }
     ensures chunk { AreOfChunk words.new graph.now.wakes.sets.items bytes.now }
+    ensures levels { IsStackOf stack.new graph.now.wakes.sets.items prev bytes.now }
     ensures more { AreMoreMarks (length graph.now.table.nodes.items) marks.old marks.new }
     ensures asleep { (node : Node) →
         slice_get graph.now.table.nodes.items (slice_index graph.now.wakes.first_engines.items place) ≡ Some node →
@@ -119,7 +126,7 @@ fn wake_engine<E: Engine>(
         start_word starts.new k j ≡ start_word starts.old k j }
 {
     let k = start_of(&graph.wakes.first_engines, place);
-    let places = start_places(&graph.wakes, place, prev, bytes, words);
+    let places = start_places(&graph.wakes, place, prev, bytes, words, stack);
     starts.tell(k, &places);
     if is_woken(graph, k, &places) {
         marks.write(k, true);
@@ -146,7 +153,8 @@ pub fn wake_engines<E: Engine>(
     ensures asleep { AreEnginesUnwoken E.meaning graph.now.table marks.new prev bytes.now }
 {
     words.begin();
+    let mut stack = FitStack::new();
     for i in 0..graph.wakes.first_engines.len() {
-        wake_engine(graph, i, prev, bytes, words, starts, marks);
+        wake_engine(graph, i, prev, bytes, words, &mut stack, starts, marks);
     }
 }

@@ -1,11 +1,13 @@
 use Rattle.hs_nodes.proofs.StartingLemmas.{AreStartsTo}
 use Rattle.hs_nodes.proofs.WakeLemmas.{AreLookedAt}
 use Rattle.hs_waking.specs.ChunkWords.{AreOfChunk}
+use Rattle.hs_waking.specs.FitStacks.{IsStackOf}
 use Rattle.hs_nodes.proofs.waking.wake_engines.Given as goal
 
 abbrev pub invariant-loop-i : goal.invariant-loop-i
 invariant-loop-i g l = record {
   looked : AreLookedAt g.E.Engine.meaning l.graph.table l.graph.wakes.first_engines.items l.prev l.bytes l.fn.marks l.marks l.i;
   chunk : AreOfChunk l.words l.graph.wakes.sets.items l.bytes;
+  levels : IsStackOf l.stack l.graph.wakes.sets.items l.prev l.bytes;
   starts : AreStartsTo g.E.Engine.meaning l.graph.table l.graph.wakes.first_engines.items l.prev l.bytes l.starts l.i;
 }
