@@ -1,8 +1,11 @@
 -- The nodes that a chunk may wake.
 use Rattle.std.proofs.Common.{◌≡◌, ℕ, zero, suc, ◌+◌, ◌<◌, false, List, [], ◌∷◌, ◌++◌, length, slice_get, Option, Some, None, refl, sym, ap, subst, ◌∙◌, inl, inr, arith}
 use Rattle.std.specs.Prelude.{slice_index}
+use Rattle.std.specs.List.{All}
+use Rattle.std.specs.List.Sorted.{IsPermutation}
 use Rattle.std.proofs.lemmas.Bool.{cases_eq, false≢true}
-use Rattle.std.proofs.lemmas.List.{get_or_append_left, length-append, length-map}
+use Rattle.std.proofs.lemmas.List.{get_or_append_left, get_or_default, length-append, length-map}
+use Rattle.std.proofs.lemmas.List.Sorted.{All-permutation, Contains-permutation}
 use Rattle.std.proofs.lemmas.Option.{same_Some, slice_get_within}
 use Rattle.hs_base.specs.Lists.{Each}
 use Rattle.hs_base.proofs.ListLemmas.{each-append}
@@ -69,6 +72,29 @@ module _ (nodes : List Node) (n : ℕ) (list : List ℕ) (are : AreFirstEngines 
       | inr apart ↦ are.all k other (omega (arith, low, apart)) there is
     ];
   }
+
+-- the same ones in another order
+
+each-all : (P : ℕ → Type 0) (xs : List ℕ) → Each P xs → All P xs
+each-all P [] each k d low = absurd (omega (arith, low))
+each-all P (x ∷ xs) each zero d low = each.0
+each-all P (x ∷ xs) each (suc k) d low = each-all P xs each.1 k d (omega (arith, low))
+
+all-each : (P : ℕ → Type 0) (xs : List ℕ) → All P xs → Each P xs
+all-each P [] all = tt
+all-each P (x ∷ xs) all = (all 0 x (omega arith), all-each P xs (λ k d low. all (suc k) d (omega (arith, low))))
+
+listed-moved : (xs ys : List ℕ) (k : ℕ) → IsPermutation xs ys → IsListed xs k → IsListed ys k
+listed-moved xs ys k moved listed =
+    let (place, within, is) = Contains-permutation xs ys k moved (listed.place, listed.within, get_or_default xs listed.place k 0 listed.within ∙ listed.is) in
+    record { place = place; within = within; is = get_or_default ys place 0 k within ∙ is }
+
+pub engines-moved : (nodes : List Node) (n : ℕ) (xs ys : List ℕ) → IsPermutation xs ys → AreFirstEngines nodes n xs → AreFirstEngines nodes n ys
+engines-moved nodes n xs ys moved are =
+    let P : ℕ → Type 0 = λ k. k < length nodes in record {
+      known = all-each P ys (All-permutation P xs ys moved (each-all P xs are.known));
+      all = λ k node low there is. listed-moved xs ys k moved (are.all k node low there is);
+    }
 
 -- the literals that wake nodes are there
 pub waking-owners : (nodes : List Node) (literals : ℕ) → AreWakeable nodes literals → AreOwners (waking_literals nodes) literals

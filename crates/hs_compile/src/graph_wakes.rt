@@ -1,16 +1,24 @@
 //! The nodes that a chunk may wake, as a table.
 
 ghost use Rattle.std.specs.Prelude.{◌≡◌, IfOk, length};
+ghost use Rattle.std.specs.List.Sorted.{IsPermutation};
 ghost use Rattle.hs_compile.specs.GraphWakes.{AreFirstEngines, AreWakeable, IsRowAt, is_first_engine, waking_literals};
 ghost use Rattle.hs_nodes.specs.Waking.{AreRowsOf, AreWakesSound, waking_literal};
 ghost use Rattle.hs_rose.specs.PieceEngines.{piece_meaning};
 
 use crate::graph_numbers::graph_number;
+use hs_base::{ByteSet, Prev};
 use hs_forest::group;
 use hs_nodes::{Node, NodeKind, WakeTable};
 use hs_rose::PieceEngine;
-use hs_waking::{Beginning, RowTable};
+use hs_waking::{Beginning, PrevSet, RowTable};
 use std::alloc::{AllocError, Global};
+
+/// How many sets of a beginning tell which others are alike.
+const ALIKE_SETS: usize = 8;
+
+/// An odd number whose bits are mixed well.
+const MIXER: u64 = 0x9E37_79B9_7F4A_7C15;
 
 /// The nodes that a chunk may wake, for so many literals, and what wakes those of engines.
 pub(crate) fn wake_table(
@@ -26,7 +34,8 @@ pub(crate) fn wake_table(
 {
     let wakers = literals_before(alloc, nodes)?;
     let groups = group(alloc, &wakers, literals)?;
-    let first_engines = first_engines(alloc, nodes)?;
+    let listed = first_engines(alloc, nodes)?;
+    let first_engines = alike_together(nodes, listed, engines)?;
     let table = row_table(alloc, nodes, &first_engines, engines)?;
     Ok(WakeTable {
         literal_starts: groups.starts,
@@ -65,7 +74,7 @@ fn is_first(node: &Node) -> bool
     matches!(node.kind, NodeKind::Engine(_, _))
 }
 
-/// The nodes of engines that have no parent.
+/// The nodes of engines that have no parent, rising.
 fn first_engines(alloc: Global, nodes: &[Node]) -> Result<Vec<u32>, AllocError>
     ensures { IfOk result (λ list. AreFirstEngines nodes.now (length nodes.now) list.items) }
 {
@@ -92,6 +101,49 @@ fn beginning_at<'e>(nodes: &[Node], k: usize, engines: &'e [PieceEngine]) -> Beg
         Some(engine) => engine.beginning(),
         None => Beginning::anyhow(),
     }
+}
+
+/// The same nodes, those of engines whose matches begin alike next to each other: a scan that finds where one may begin
+/// then finds it for the next one too.
+fn alike_together(
+    nodes: &[Node],
+    mut list: Vec<u32>,
+    engines: &[PieceEngine],
+) -> Result<Vec<u32>, AllocError>
+    ensures { IfOk result (λ sorted. IsPermutation list.items sorted.items) }
+{
+    list.sort_by_cached_key(|k| start_key(&beginning_at(nodes, *k as usize, engines)))?;
+    Ok(list)
+}
+
+/// A key that is equal where matches begin alike, and unequal nearly always where they don't: what may stand before
+/// them, and then each set.
+fn start_key(beginning: &Beginning<'_>) -> [u32; 1 + ALIKE_SETS] {
+    let mut key = [0; 1 + ALIKE_SETS];
+    key[0] = behind_key(beginning.behind);
+    for depth in 0..beginning.row.len().min(ALIKE_SETS) {
+        key[1 + depth] = set_key(&beginning.row[depth]);
+    }
+    key
+}
+
+/// The members, each as a bit.
+fn behind_key(behind: PrevSet) -> u32 {
+    let start = behind.contains(Prev::Start) as u32;
+    let word = behind.contains(Prev::Word) as u32;
+    let newline = behind.contains(Prev::Newline) as u32;
+    let other = behind.contains(Prev::Other) as u32;
+    start | (word << 1) | (newline << 2) | (other << 3)
+}
+
+/// The words of the set, mixed.
+fn set_key(set: &ByteSet) -> u32 {
+    let words = set.words();
+    let mut mixed = MIXER;
+    for i in 0..words.len() {
+        mixed = (mixed.rotate_left(29) ^ words[i]).wrapping_mul(MIXER);
+    }
+    (mixed >> 32) as u32
 }
 
 /// What wakes each of the engines of these nodes.
