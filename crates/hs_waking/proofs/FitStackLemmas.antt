@@ -1,15 +1,18 @@
 -- The levels of rows.
-use Rattle.std.proofs.Common.{◌≡◌, ℕ, ◌+◌, ◌<◌, ◌≤◌, ◌&&◌, nat_lt, Bool, List, [], length, take, get_or, set, Option, slice_get, sym, ap, subst, ◌∙◌, refl, inl, inr, arith}
+use Rattle.std.proofs.Common.{◌≡◌, ℕ, ◌+◌, ◌<◌, ◌≤◌, ◌&&◌, nat_lt, Bool, false, List, [], length, take, get_or, set, Option, slice_get, sym, ap, subst, ◌∙◌, refl, inl, inr, arith}
 use Rattle.std.specs.Prelude.{slice_index, slice_index_or}
 use Rattle.std.proofs.lemmas.Bool.{cases_eq}
-use Rattle.std.proofs.lemmas.List.{get_or-set_same, get_or-set_other, get_or-take}
+use Rattle.std.proofs.lemmas.List.{get_or-set_same, get_or-set_other, get_or-take, length-take}
 use Rattle.hs_base.specs.declared.byte_set.ByteSet.{ByteSet}
 use Rattle.hs_base.specs.declared.context.Prev.{Prev}
 use Rattle.hs_base.specs.Bits.{has_word_bit}
 use Rattle.hs_bits.specs.BlockContexts.{prev_before}
 use Rattle.hs_engine.specs.Automata.{in_set}
-use Rattle.hs_waking.proofs.FitLemmas.{open-first}
+use Rattle.hs_engine.specs.AnyBelow.{any_below}
+use Rattle.hs_waking.proofs.AnyLemmas.{none-any, true-false}
+use Rattle.hs_waking.proofs.FitLemmas.{none-fits, open-first}
 use Rattle.hs_waking.specs.FitStacks.{AreOpen, AreOpenOf}
+use Rattle.hs_waking.specs.Fits.{FitsNowhere, IsRowBy, row_numbers}
 use Rattle.hs_waking.specs.PrevSets.{has_prev}
 use Rattle.hs_waking.specs.declared.prev_set.PrevSet.{PrevSet}
 use Rattle.hs_waking.specs.declared.wake_row.WakeRow.{WakeRow}
@@ -53,3 +56,12 @@ pub begun-level : (row other : WakeRow) (sets : List ByteSet) (prev : Prev) (byt
 begun-level row other sets prev bytes levels places room behind are =
     levels-more other sets prev bytes levels places 0 1 (omega arith) room (λ d low. absurd (omega arith))
     (open-alike row other sets prev bytes 0 places behind (λ d low. absurd (omega arith)) (open-first (λ p. has_prev row.behind (prev_before prev bytes p)) (λ d. slice_get sets (slice_index row.numbers d)) bytes places are))
+
+-- a row that has a level without a place fits nowhere
+pub dead-nowhere : (row other : WakeRow) (sets own : List ByteSet) (prev : Prev) (bytes : List ℕ) (n : ℕ) (places : List ℕ) → row.behind ≡ other.behind → ((d : ℕ) → d < n → slice_index row.numbers d ≡ slice_index other.numbers d) → n ≤ length (row_numbers other) →
+    AreOpenOf row sets prev bytes n places → any_below 512 (has_word_bit places) ≡ false → length bytes ≤ 512 → IsRowBy (row_numbers other) sets own → FitsNowhere other.behind own prev bytes
+dead-nowhere row other sets own prev bytes n places behind numbers within are none few by p inside fits =
+    let small : p < 512 = omega (arith, inside, few) in
+    let cut = open-cut other sets prev bytes n places (omega (arith, within, length-take other.count other.numbers)) (open-alike row other sets prev bytes n places behind numbers are) in
+    let both = none-fits (λ q. has_prev other.behind (prev_before prev bytes q)) (row_numbers other) sets own bytes n places by within cut none p small in
+    true-false (has_word_bit places p) (both.1 (inside, fits)) (none-any 512 (has_word_bit places) none p small)

@@ -19,7 +19,8 @@ AreOpen begun row bytes count places =
     (has_word_bit places p ≡ true) ↔ ((p < length bytes) × (begun p ≡ true) × FitsTo row bytes count p)
 
 -- And so for a row by the numbers of its sets.
-abbrev pub AreOpenOf : WakeRow → (sets : List ByteSet) → Prev → (bytes : List ℕ) (count : ℕ) (places : List ℕ) → Type 0
+abbrev pub AreOpenOf : WakeRow → (sets : List ByteSet) → Prev → (bytes : List ℕ) (count : ℕ) (places : List ℕ) →
+    Type 0
 AreOpenOf row sets prev bytes =
     AreOpen (λ p. has_prev row.behind (prev_before prev bytes p)) (λ d. slice_get sets (slice_index row.numbers d)) bytes
 

@@ -45,7 +45,7 @@ impl FitStack {
     ghost use Rattle.hs_base.specs.Bits.{has_word_bit};
     ghost use Rattle.hs_waking.specs.ChunkWords.{AreOfChunk};
     ghost use Rattle.hs_waking.specs.FitStacks.{IsStackOf};
-    ghost use Rattle.hs_waking.specs.Fits.{FitsAt, IsBehindBy, IsRowBy, row_numbers};
+    ghost use Rattle.hs_waking.specs.Fits.{FitsAt, FitsNowhere, IsBehindBy, IsRowBy, row_numbers};
 
     /// Of no row yet.
     pub fn new() -> FitStack
@@ -61,6 +61,25 @@ impl FitStack {
             count: 0,
             levels: [NO_PLACES; MAX_LEVELS],
         }
+    }
+
+    /// Whether the row has all levels that are known, and the last of them has no place: then it fits nowhere.
+    #[inline]
+    pub fn rules_out(&self, row: &WakeRow) -> bool
+        ensures { result ≡ true → (sets own : List ByteSet) (prev : Prev) (bytes : List ℕ) →
+            IsStackOf self.now sets prev bytes →
+            length bytes ≤ 512 →
+            IsRowBy (row_numbers row.now) sets own →
+            FitsNowhere row.now.behind own prev bytes }
+    {
+        if self.count == 0 {
+            return false;
+        }
+        let last = self.count - 1;
+        if !is_none(&self.levels[last]) {
+            return false;
+        }
+        last < levels_alike(&self.row, row).min(row.numbers().len() + 1)
     }
 
     /// The places of a chunk behind `prev` at which the row fits; at its end, as far as it goes. The words are those of

@@ -57,6 +57,18 @@ impl Starts {
         }
     }
 
+    /// Tells that no match of the engine of that number begins in the chunk.
+    #[inline]
+    pub fn tell_nowhere(&mut self, number: usize)
+        ensures count { self.new.count ≡ self.old.count }
+        ensures own { number < self.old.count → (j : ℕ) → j < 8 → start_word self.new number j ≡ 0 }
+        ensures others { (k j : ℕ) → (k ≡ number → ⊥) → j < 8 → start_word self.new k j ≡ start_word self.old k j }
+    {
+        if number < self.count {
+            self.some[number] = false;
+        }
+    }
+
     /// The word of the places in the block of that number at which matches of an engine may begin.
     #[inline]
     pub fn word(&self, number: usize, block: usize) -> u64
