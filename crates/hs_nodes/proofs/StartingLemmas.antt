@@ -4,7 +4,7 @@ use Rattle.std.specs.Prelude.{EachIndex}
 use Rattle.std.specs.Int.{bit_at}
 use Rattle.std.proofs.lemmas.Nat.Bits.{bit_at-zero}
 use Rattle.std.proofs.lemmas.Bool.{cases_eq}
-use Rattle.std.proofs.lemmas.List.{append-nil, replicate_more, take_all}
+use Rattle.std.proofs.lemmas.List.{get_or-replicate, append-nil, replicate_more, take_all}
 use Rattle.hs_base.specs.declared.context.Next.{Next}
 use Rattle.hs_base.specs.declared.context.Next.TheVariants as after
 use Rattle.hs_base.specs.declared.context.Prev.{Prev}
@@ -20,11 +20,14 @@ use Rattle.hs_block.specs.Blocks.{IsFieldOf}
 use Rattle.hs_engine.specs.Engines.{IsQuiet, Meaning}
 use Rattle.hs_nodes.specs.Left.{AreLeftIn}
 use Rattle.hs_nodes.specs.Starting.{AreStartsEnough, DoStartsSuffice, IsEnteredThroughout, ScansBlock}
-use Rattle.hs_nodes.specs.Waking.{AreRowsSound, AreStartsBy, AreWakesSound, IsKindAsleep, IsListed, is_never_empty}
+use Rattle.hs_nodes.specs.Waking.{AreRowsSound, AreStartsBy, AreWakesSound, IsKindAsleep, IsListed, is_never_empty, no_places}
 use Rattle.hs_nodes.specs.declared.ends.ChunkEnds.{ChunkEnds}
 use Rattle.hs_nodes.specs.declared.table.Node.{Node}
 use Rattle.hs_nodes.specs.declared.table.NodeTable.{NodeTable}
 use Rattle.hs_nodes.specs.declared.wake_table.WakeTable.{WakeTable}
+use Rattle.hs_waking.specs.Fits.{FitsNowhere, IsRowBy, row_numbers}
+use Rattle.hs_waking.specs.declared.wake_row.WakeRow.{WakeRow}
+use Rattle.hs_base.specs.declared.byte_set.ByteSet.{ByteSet}
 use Rattle.hs_waking.specs.EntryRows.{DoEntriesSuffice, entries_to}
 use Rattle.hs_waking.specs.Starts.{start_word, starts_at}
 use Rattle.hs_waking.specs.declared.starts.Starts.{Starts}
@@ -111,6 +114,17 @@ suffice-all m kept prev bytes all = record {
 pub zero-places : (places : List ℕ) → ((j : ℕ) → j < 8 → slice_index places j ≡ 0) → (p : ℕ) → p < 512 → has_word_bit places p ≡ false
 unfolding has_word_bit
 zero-places places zero_words p small = ap (λ w. eqb (bit_at w (p % 64)) 1) (zero_words (p / 64) (omega arith)) ∙ ap (λ b. eqb b 1) (bit_at-zero (p % 64))
+
+pub word-none : (j : ℕ) → j < 8 → slice_index no_places j ≡ 0
+word-none j small = get_or-replicate 8 j 0 0 small
+
+-- a row that fits nowhere has no places
+pub none-starts : (wakes : WakeTable) (place : ℕ) (prev : Prev) (bytes : List ℕ) (row : WakeRow) → slice_get wakes.rows.items place ≡ Some row → ((own : List ByteSet) → IsRowBy (row_numbers row) wakes.sets.items own → FitsNowhere row.behind own prev bytes) → AreStartsBy wakes place prev bytes no_places
+none-starts wakes place prev bytes row at_row nowhere =
+    AreStartsBy.fits row at_row (λ own numbered p small. (
+      λ set. true-false (has_word_bit no_places p) set (zero-places no_places word-none p small),
+      λ all. absurd (nowhere own numbered p all.0 all.1),
+    ))
 
 -- a number that stands in a list
 pub read-there : (xs : List ℕ) (i : ℕ) → i < length xs → slice_get xs i ≡ Some (slice_index xs i)

@@ -98,6 +98,10 @@ abbrev pub AreRowsSound : {E : Type 0} → (E → Meaning) → NodeTable E → W
 AreRowsSound meaning table wakes =
     AreRowsOf meaning table.nodes.items table.engines.items wakes.first_engines.items wakes.rows.items wakes.sets.items
 
+-- no place of a chunk
+abbrev pub no_places : List ℕ
+no_places = replicate 8 0
+
 -- The words are the places of a chunk behind `prev` at which the row fits that stands at that place, or all.
 pub data AreStartsBy (wakes : WakeTable) (place : ℕ) (prev : Prev) (bytes places : List ℕ) : Type 0 where
   all : places ≡ replicate 8 18446744073709551615 → AreStartsBy wakes place prev bytes places

@@ -1,12 +1,13 @@
 //! Which nodes a chunk wakes.
 
-ghost use Rattle.std.specs.Prelude.{◌≡◌, ◌*◌, ◌<◌, ◌≤◌, ℕ, true, false, length, Some, slice_get};
+ghost use Rattle.std.specs.Prelude.{◌≡◌, ◌*◌, ◌<◌, ◌≤◌, ℕ, List, true, false, length, Some, slice_get};
 ghost use Rattle.std.specs.Prelude.{slice_index};
 ghost use Rattle.hs_base.specs.Bits.{has_word_bit};
 ghost use Rattle.hs_reports.specs.Marks.{is_marked, mark_room};
 ghost use Rattle.hs_nodes.specs.Starting.{AreStartsEnough, DoStartsSuffice};
 ghost use Rattle.hs_nodes.specs.Waking.{AreEnginesUnwoken, AreRowsSound, AreStartsBy, AreWakesSound, IsKindAsleep};
-ghost use Rattle.hs_nodes.specs.Waking.{is_never_empty};
+ghost use Rattle.hs_base.specs.declared.context.Prev.{Prev};
+ghost use Rattle.hs_nodes.specs.Waking.{is_never_empty, no_places};
 ghost use Rattle.hs_nodes.specs.Walks.{AreMoreMarks, IsAmongChildren};
 ghost use Rattle.hs_nodes.specs.declared.table.Node.{Node};
 ghost use Rattle.hs_waking.specs.declared.wake_row.WakeRow.{WakeRow};
@@ -82,6 +83,26 @@ fn start_places(
     stack.fit_places(&wakes.rows[place], &wakes.sets, words, prev, bytes)
 }
 
+/// Whether the row before rules out the one that stands at that place, of the node of that number, which has no empty
+/// span either.
+fn is_ruled_out<E>(graph: &Graph<E>, place: usize, k: usize, stack: &FitStack) -> bool
+    requires there { k < length graph.now.table.nodes.items }
+    ensures never { (node : Node) → slice_get graph.now.table.nodes.items k ≡ Some node → result ≡ true →
+        is_never_empty node.kind ≡ true }
+    ensures places { (prev : Prev) (bytes : List ℕ) → result ≡ true →
+        IsStackOf stack.now graph.now.wakes.sets.items prev bytes →
+        length bytes ≤ 512 →
+        AreStartsBy graph.now.wakes place prev bytes no_places }
+{
+    if place >= graph.wakes.rows.len() {
+        return false;
+    }
+    if !stack.rules_out(&graph.wakes.rows[place]) {
+        return false;
+    }
+    never_empty(node_at(&graph.table, k).kind)
+}
+
 /// Whether a chunk wakes the node of that number, in which its matches may begin at these places.
 fn is_woken<E>(graph: &Graph<E>, k: usize, places: &Places) -> bool
     requires there { k < length graph.now.table.nodes.items }
@@ -126,6 +147,10 @@ fn wake_engine<E: Engine>(
         start_word starts.new k j ≡ start_word starts.old k j }
 {
     let k = start_of(&graph.wakes.first_engines, place);
+    if is_ruled_out(graph, place, k, stack) {
+        starts.tell_nowhere(k);
+        return;
+    }
     let places = start_places(&graph.wakes, place, prev, bytes, words, stack);
     starts.tell(k, &places);
     if is_woken(graph, k, &places) {
