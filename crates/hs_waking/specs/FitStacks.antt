@@ -22,7 +22,8 @@ AreOpen begun row bytes count places =
 abbrev pub AreOpenOf : WakeRow → (sets : List ByteSet) → Prev → (bytes : List ℕ) (count : ℕ) (places : List ℕ) →
     Type 0
 AreOpenOf row sets prev bytes =
-    AreOpen (λ p. has_prev row.behind (prev_before prev bytes p)) (λ d. slice_get sets (slice_index row.numbers d)) bytes
+    AreOpen (λ p. has_prev row.behind (prev_before prev bytes p)) (λ d. slice_get sets (slice_index row.numbers d))
+    bytes
 
 -- The levels are those of the row in a chunk behind `prev`.
 abbrev pub IsStackOf : FitStack → (sets : List ByteSet) → Prev → (bytes : List ℕ) → Type 0
