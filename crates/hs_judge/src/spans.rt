@@ -23,7 +23,8 @@ const AFTER: [(Next, &str, bool); 6] = [
     (Next::Unknown, "", false),
 ];
 
-/// Where an expression is entered, beside each offset alone: bit `k` stands for the offset `k`.
+/// Where an expression is entered, beside each offset alone: bit `k` stands for the offset `k`, and the last one for
+/// every offset.
 const ENTRIES: [u64; 7] = [0, 3, 9, 0x112, 0x5555, 1 << 40, u64::MAX];
 
 /// An expression, and what may come next where it ends behind each beginning of a text, for each offset at which it is
@@ -31,9 +32,9 @@ const ENTRIES: [u64; 7] = [0, 3, 9, 0x112, 0x5555, 1 << 40, u64::MAX];
 #[derive(Drop)]
 pub(crate) struct Spans {
     /// What a failure is told by.
-    name: String,
+    pub(crate) name: String,
     expr: Expr,
-    text: Vec<u8>,
+    pub(crate) text: Vec<u8>,
     pub(crate) lefts: Vec<Vec<NextSet>>,
 }
 
@@ -93,7 +94,7 @@ impl Spans {
 
 /// Whether the expression is entered at the offset.
 fn is_entered(entries: u64, at: u64) -> bool {
-    at < 64 && (entries >> at) & 1 == 1
+    entries == u64::MAX || (at < 64 && (entries >> at) & 1 == 1)
 }
 
 /// What may come next behind the text in the engine, whose steps are counted.
@@ -155,7 +156,7 @@ pub(crate) fn is_at_rest<E: Engine>(engine: &E, region: &[u8]) -> Option<bool> {
 }
 
 /// What may come next, where the expression is entered at some offsets before the text's end.
-fn left_of(all: &[NextSet], len: usize, entries: u64) -> NextSet {
+pub(crate) fn left_of(all: &[NextSet], len: usize, entries: u64) -> NextSet {
     let mut left = NextSet::empty();
     for (from, set) in all.iter().enumerate() {
         if from < len && is_entered(entries, from as u64) {
@@ -166,7 +167,7 @@ fn left_of(all: &[NextSet], len: usize, entries: u64) -> NextSet {
 }
 
 /// Fails where the answers differ.
-fn same(found: NextSet, wanted: NextSet, name: &str, text: &[u8]) -> Verdict {
+pub(crate) fn same(found: NextSet, wanted: NextSet, name: &str, text: &[u8]) -> Verdict {
     let what = format_args!("{found:?} in place of {wanted:?} behind {text:?}, of {name}");
     ensure(found == wanted, what)
 }
@@ -193,12 +194,17 @@ fn compare_entered<E: Engine>(
     same(left, left_of(all, text.len(), entries), name, text)
 }
 
-/// Compares where the expression matches no byte behind the text with the spans.
-fn compare_null(name: &str, null: Mask, text: &[u8], all: &[NextSet]) -> Verdict {
-    let prev = match text.last() {
+/// What stands before the byte behind these.
+pub(crate) fn prev_behind(bytes: &[u8]) -> Prev {
+    match bytes.last() {
         None => Prev::Start,
         Some(byte) => Prev::behind(*byte),
-    };
+    }
+}
+
+/// Compares where the expression matches no byte behind the text with the spans.
+fn compare_null(name: &str, null: Mask, text: &[u8], all: &[NextSet]) -> Verdict {
+    let prev = prev_behind(text);
     same(null.row(prev), *all.last().ok_or("no offset")?, name, text)
 }
 

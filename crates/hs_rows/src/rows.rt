@@ -259,6 +259,11 @@ p <15:/[0-9]+foo[a-z]*bar/> in <open s;write s 5;1foox;save s f;expand t f;write
 p <18:/[0-9]{10}/> in <open s;write s 3;123;save s d;expand t d;write t 7;4567890;save t e;>
  = 0 <compiled 1 44;ok open s;ok write s 3;ok save s 117;ok expand t;t 18 10;ok write t 7;ok save t 117;> <>
  <HSST%02%00A%C5%F6v&%18%C82%23%88O%9E%E1%CF%83%AE3%88%16m8%A9l%20%EA%EA%BAXuP%E1OK%00%00%00%03%(68)%00123%00%00%03>
+# The byte of a state, and the bit of an identifier that is reported once.
+p <18:/a/H> in <open s;write s 1;a;save s d;close s;>
+ = 0 <compiled 1 36;ok open s;s 18 1;ok write s 1;ok save s 118;ok close s;> <>
+ <HSST%02%00O%B6%E0^%CB%11%17-j%F7%8E+h%0B%CD%1C%118%C2%E2%AF%05%DF4%BE%DA%BF%DB%A3cj5L%00%00%00%01%(70)%00a
+ %01%01%00%01>
 # The region of no byte.
 in <open s;save s d;> = 0 <compiled 1 38;ok open s;ok save s 116;> <>
  <HSST%02%00%B6Ds%CA%A5%BD%19cFw%AB%A9%1B%8Dd%D5%C1%8Ba%C3%89W%E4%E1r%EDV%DD%2E1SbJ%(77)%00>
