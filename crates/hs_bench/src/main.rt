@@ -1,17 +1,25 @@
 //! `hs_bench`: measures scans. `hs_bench scan DB FILE PIECE` writes FILE in pieces of PIECE bytes to one stream of the
-//! database file DB, `hs_bench literals WORDS FILE` looks for the lines of WORDS in FILE, and `hs_bench kernel FILE`
-//! makes only the masks of FILE. Without words it prints nothing.
+//! database file DB, `hs_bench engines DB FILE` runs the first expression of DB over FILE by steps, by blocks and by
+//! states, `hs_bench literals WORDS FILE` looks for the lines of WORDS in FILE, and `hs_bench kernel FILE` makes only
+//! the masks of FILE. Without words it prints nothing.
 #![tactic(auto)]
 
 ghost use Rattle.std.specs.Prelude.{◌≡◌, ◌-◌, ◌^◌, length, min};
 ghost use Rattle.hs_literals.specs.Left.{scan_left};
 
+mod blocks;
+mod expression;
 mod kernel;
 mod rate;
 mod stream;
 mod words;
 
+use blocks::{BLOCK_BYTES, Measured, Way, measure};
+use expression::{Engines, engines_of, expression_of, first_entry};
+use hs_block::BlockEngine;
+use hs_expr::positions;
 use hs_literals::{LitScan, Literals};
+use hs_rose::{PieceEngine, PositionEngine};
 use kernel::run_kernel;
 use rate::Fastest;
 use std::io::ErrorKind;
@@ -32,6 +40,9 @@ fn main(rt: HostRuntime) -> io::Result<()> {
         [_, command, file] if command.as_str() == "kernel" => scan_blocks(&rt, file.as_str()),
         [_, command, database, file, piece] if command.as_str() == "scan" => {
             scan_stream(&rt, database.as_str(), file.as_str(), piece.as_str())
+        }
+        [_, command, database, file] if command.as_str() == "engines" => {
+            scan_engines(&rt, database.as_str(), file.as_str())
         }
         _ => Ok(()),
     }
@@ -55,6 +66,69 @@ fn scan_stream(rt: &HostRuntime, database: &str, file: &str, piece: &str) -> io:
         "seconds {}.{:09}",
         told.time.as_secs(),
         told.time.subsec_nanos()
+    )
+}
+
+/// Runs the first expression of a database file over a file, in each way.
+fn scan_engines(rt: &HostRuntime, database: &str, file: &str) -> io::Result<()> {
+    let list = fs::read(rt, database)?;
+    let entries = first_entry(rt.alloc(), list.as_slice())?;
+    let text = fs::read(rt, file)?;
+    let Some(entry) = entries.first() else {
+        return Err(ErrorKind::InvalidInput.into());
+    };
+    let expr = expression_of(rt.alloc(), entry)?;
+    let positions = positions(&expr);
+    let Some(engines) = engines_of(rt.alloc(), entries.as_slice(), expr)? else {
+        return Err(ErrorKind::InvalidInput.into());
+    };
+    println!(rt; "{positions} positions, {} bytes", text.len())?;
+    print_ways(rt, &engines, text.as_slice())
+}
+
+/// Prints the line of each way.
+fn print_ways(rt: &HostRuntime, engines: &Engines, text: &[u8]) -> io::Result<()> {
+    let by_positions = by_positions(engines);
+    let by_states = engines.by_states.as_ref();
+    print_way(rt, "by steps", by_positions, Way::BySteps, text)?;
+    print_way(rt, "by blocks", by_positions, Way::AtOnce, text)?;
+    print_way(rt, "by states", by_states, Way::AtOnce, text)
+}
+
+/// The engine by positions.
+fn by_positions(engines: &Engines) -> Option<&PositionEngine> {
+    match engines.program.engines().first() {
+        Some(PieceEngine::Positions(positions)) => Some(positions),
+        Some(PieceEngine::First(_) | PieceEngine::Last(_) | PieceEngine::Ring(_)) | None => None,
+    }
+}
+
+/// Prints how fast an engine takes the text in that way, and where its expression is left.
+fn print_way<E: BlockEngine>(
+    rt: &HostRuntime,
+    name: &str,
+    engine: Option<&E>,
+    way: Way,
+    text: &[u8],
+) -> io::Result<()> {
+    let Some(engine) = engine else {
+        return println!(rt; "{name}: none");
+    };
+    match measure(rt, engine, way, text)? {
+        Some(measured) => print_measured(rt, name, measured),
+        None => Err(ErrorKind::InvalidInput.into()),
+    }
+}
+
+/// Prints the line of a way.
+fn print_measured(rt: &HostRuntime, name: &str, measured: Measured) -> io::Result<()> {
+    let tenths = measured.fastest.block_tenths(BLOCK_BYTES);
+    println!(rt;
+        "{name}: {}.{} ns a block, left before {} bytes and behind {}",
+        tenths / 10,
+        tenths % 10,
+        measured.left.before,
+        measured.left.behind
     )
 }
 

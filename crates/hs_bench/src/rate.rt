@@ -15,7 +15,7 @@ pub(crate) struct Fastest {
 
 impl Fastest {
     ghost use Rattle.std.specs.Duration.{as_nanos};
-    ghost use Rattle.hs_bench.specs.Rates.{rate_of};
+    ghost use Rattle.hs_bench.specs.Rates.{block_tenths_of, rate_of};
 
     /// No time yet.
     pub(crate) fn new(bytes: usize) -> Fastest
@@ -42,6 +42,15 @@ impl Fastest {
     {
         (self.bytes as u128 * 1000)
             .checked_div(self.nanoseconds)
+            .unwrap_or(0)
+    }
+
+    /// The tenths of a nanosecond that a block of so many bytes took, or 0 where there are no bytes.
+    pub(crate) fn block_tenths(&self, block: usize) -> u128
+        ensures { result ≡ block_tenths_of self.now.bytes self.now.nanoseconds block }
+    {
+        (self.nanoseconds.saturating_mul(10 * block as u128))
+            .checked_div(self.bytes as u128)
             .unwrap_or(0)
     }
 }

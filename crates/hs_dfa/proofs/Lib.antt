@@ -1,3 +1,4 @@
 pub mod EndLemmas
 pub mod DfaLemmas
 pub mod BlockRunLemmas
+pub mod SetRunLemmas

@@ -1,3 +1,4 @@
 pub mod StateEnds
 pub mod DfaEngines
 pub mod DfaClauses
+pub mod SetRuns

@@ -2,6 +2,8 @@
 #![tactic(auto)]
 
 mod dfa;
+mod set_dfa;
 mod state_ends;
 
 pub use dfa::Dfa;
+pub use set_dfa::SetDfa;

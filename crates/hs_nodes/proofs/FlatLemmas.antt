@@ -102,3 +102,18 @@ left-nowhere pieces u bytes ends few zero_ends left = record {
       marked-none (length (block bytes j)) (slice_index ends.behind j) (λ r. LeavesAt pieces (front u bytes j ++ take (r + 1) (block bytes j)) after.Unknown) (left.each j (omega arith)).behind_is (zero_ends.behind j (omega arith)) r below
       (subst (λ v. LeavesAt pieces v after.Unknown) (sym (block-front u bytes j (r + 1) (omega arith) ∙ ap (λ n. u ++ take n bytes) there)) leaves);
 }
+
+-- the words tell of each place of the chunk
+pub left-flat : (pieces : List Piece) (u bytes : List ℕ) (ends : ChunkEnds) → length bytes ≤ 512 → AreLeftIn pieces u bytes ends → (i : ℕ) → i < length bytes →
+    (word_bit (slice_index ends.before (i / 64)) (i % 64) ≡ true) ↔ LeavesAt pieces (u ++ take i bytes) (class_of (get_or bytes i 0))
+left-flat pieces u bytes ends few left i low =
+    let j = i / 64 in
+    let r = i % 64 in
+    let there : 64 * j + r ≡ i = omega arith in
+    let below = length-block_of bytes j r (omega arith) (omega arith) in
+    let told = (left.each j (omega arith)).before_is.below r below in
+    let byte : get_or (block bytes j) r 0 ≡ get_or bytes i 0 = block-byte bytes j r (omega arith) ∙ ap (λ n. get_or bytes n 0) there in
+    let stream : front u bytes j ++ take r (block bytes j) ≡ u ++ take i bytes = block-front u bytes j r (omega arith) ∙ ap (λ n. u ++ take n bytes) there in (
+      λ set. subst (λ v. LeavesAt pieces v (class_of (get_or bytes i 0))) stream (subst (λ b. LeavesAt pieces (front u bytes j ++ take r (block bytes j)) (class_of b)) byte (told.0 set)),
+      λ leaves. told.1 (subst (λ b. LeavesAt pieces (front u bytes j ++ take r (block bytes j)) (class_of b)) (sym byte) (subst (λ v. LeavesAt pieces v (class_of (get_or bytes i 0))) (sym stream) leaves)),
+    )

@@ -5,6 +5,7 @@ pub mod EngineLemmas
 pub mod FlatLemmas
 pub mod PassLemmas
 pub mod LiteralLemmas
+pub mod TurnLemmas
 pub mod RowLemmas
 pub mod FirstLemmas
 pub mod KindLemmas
@@ -13,6 +14,8 @@ pub mod NodeLemmas
 pub mod LookLemmas
 pub mod PairLemmas
 pub mod RestLemmas
+pub mod SpareLemmas
+pub mod TailLemmas
 pub mod WalkLemmas
 pub mod LivingLemmas
 pub mod SettleLemmas

@@ -87,6 +87,13 @@ module _ (xs : List LiteralByte) (w : List ℕ) (some : 1 ≤ length xs) (each :
         last-leaves [] rest (lit xs) w next fit (inl ((literals-leave_behind [] xs w next some within).1 (everywhere-before within, (literal-ends within).1 ends))),
   )
 
+  -- and behind any pieces it is left only where it ends
+  pub behind-ends : (pieces : List Piece) (next : Next) → LeavesBehind pieces (lit xs) w next → EndsAt xs w (length w)
+  behind-ends pieces next behind =
+      let wide : behind.from + length xs ≡ length w = lit-width (then_bytes w next) (then_ended next) xs behind.from (length w) behind.spans in
+      let within : length xs ≤ length w = omega (arith, wide) in
+      (literal-ends within).0 ((literals-leave_behind pieces xs w next some within).0 behind).1
+
 module _ (tree : Tree) (xs : List LiteralByte) (rest : List Piece) (w : List ℕ) (some : 1 ≤ length xs) (each : Each (λ b. b < 256) w) (fit : IsFitChain (nfa tree ∷ lit xs ∷ rest)) where
   span-ends : length xs ≤ length w → Spans w false (piece_tree (lit xs)) (length w - length xs) (length w) ↔ EndsAt xs w (length w)
   span-ends within = literal-ends xs w some each within
@@ -117,10 +124,10 @@ module _ (tree : Tree) (xs : List LiteralByte) (rest : List Piece) (w : List ℕ
 upto : (u bytes : List ℕ) (i : ℕ) → u ++ bytes ≡ (u ++ take i bytes) ++ drop i bytes
 upto u bytes i = ap (λ v. u ++ v) (sym (take-append-drop i bytes)) ∙ sym (append_assoc u (take i bytes) (drop i bytes))
 
-small-to : (u bytes : List ℕ) (i : ℕ) → Each (λ b. b < 256) (u ++ bytes) → Each (λ b. b < 256) (u ++ take i bytes)
+pub small-to : (u bytes : List ℕ) (i : ℕ) → Each (λ b. b < 256) (u ++ bytes) → Each (λ b. b < 256) (u ++ take i bytes)
 small-to u bytes i each = each-left (λ b. b < 256) (u ++ take i bytes) (drop i bytes) (subst (λ v. Each (λ b. b < 256) v) (upto u bytes i) each)
 
-ends-to : (xs : List LiteralByte) (u bytes : List ℕ) (i : ℕ) → i ≤ length bytes → EndsAt xs (u ++ bytes) (length u + i) ↔ EndsAt xs (u ++ take i bytes) (length (u ++ take i bytes))
+pub ends-to : (xs : List LiteralByte) (u bytes : List ℕ) (i : ℕ) → i ≤ length bytes → EndsAt xs (u ++ bytes) (length u + i) ↔ EndsAt xs (u ++ take i bytes) (length (u ++ take i bytes))
 ends-to xs u bytes i within =
     let size : length (u ++ take i bytes) ≡ length u + i = length-block u bytes i within in
     let stays = ends-stay xs (u ++ take i bytes) (drop i bytes) (length u + i) (omega (arith, size)) in (

@@ -1,75 +1,36 @@
 -- The four bytes that are kept of a literal as one word, turned round.
 use Rattle.std.proofs.Common.{◌≡◌, ℕ, zero, suc, ◌+◌, ◌-◌, ◌*◌, ◌/◌, ◌%◌, ◌^◌, ◌<◌, ◌≤◌, false, ◌&&◌, nat_le, List, [], ◌∷◌, length, get_or, take, eqb, refl, sym, ap, subst, ◌∙◌, inl, inr, arith, w64}
-use Rattle.std.specs.Int.{bit_at, from_le_bytes, reverse_bits_onto, to_le_bytes}
+use Rattle.std.specs.Int.{bit_at, from_le_bytes, to_le_bytes}
 use Rattle.std.proofs.lemmas.Bool.{cases_lt, le-leb, lt-leb}
 use Rattle.std.proofs.lemmas.List.{get_or-take, get_or_past}
-use Rattle.std.proofs.lemmas.Nat.{from_le_bytes-to_le_bytes_8, pow-add}
-use Rattle.std.proofs.lemmas.Nat.Bits.{bit_at-zero, bit_at_lowest}
-use Rattle.std.proofs.Math.Nat.{div-div-eq-div-mul}
+use Rattle.std.proofs.lemmas.Nat.{from_le_bytes-to_le_bytes_8}
+use Rattle.std.proofs.lemmas.Nat.Bits.{bit_at-zero}
 use Rattle.hs_base.specs.Bits.{has_bit}
 use Rattle.hs_bits.proofs.WordLemmas.{eight-bits}
 use Rattle.hs_block.specs.LiteralBlocks.{turned}
 use Rattle.hs_bits.specs.WordBits.{word_bit}
 use Rattle.hs_block.proofs.LiteralWordLemmas.{turned-above, turned-below}
-use Rattle.hs_bits.proofs.PlaceLemmas.{bit-shifted, bit-up}
+use Rattle.hs_bits.proofs.PlaceLemmas.{bit-shifted, bit-up, none-from}
 
-half-bit : (n i : ℕ) → bit_at (n / 2) i ≡ bit_at n (suc i)
-half-bit n i =
-    let one : n / 2 ≡ n / 2 ^ 1 = omega arith in
-    let next : 1 + i ≡ suc i = omega arith in
-    ap (λ m. bit_at m i) one ∙ (ap (λ m. m % 2) (div-div-eq-div-mul n (2 ^ 1) (2 ^ i) ∙ ap (λ m. n / m) (sym (pow-add 2 1 i))) ∙ ap (bit_at n) next)
-
-joined-low : (n a : ℕ) → bit_at (a * 2 + n % 2) 0 ≡ bit_at n 0
-joined-low n a = bit_at_lowest (a * 2 + n % 2) ∙ ((let e : (a * 2 + n % 2) % 2 ≡ n % 2 = omega arith in e) ∙ sym (bit_at_lowest n))
-
-joined-high : (n a i : ℕ) → bit_at (a * 2 + n % 2) (suc i) ≡ bit_at a i
-joined-high n a i = sym (half-bit (a * 2 + n % 2) i) ∙ ap (λ m. bit_at m i) (let e : (a * 2 + n % 2) / 2 ≡ a = omega arith in e)
-
--- the bits that are turned round, and those behind them
-onto-high : (m n a i : ℕ) → m ≤ i → bit_at (reverse_bits_onto m n a) i ≡ bit_at a (i - m)
-unfolding reverse_bits_onto
-onto-high zero n a i high = let e : i ≡ i - 0 = omega arith in ap (bit_at a) e
-onto-high (suc m) n a i high =
-    let next : i - m ≡ suc (i - suc m) = omega (arith, high) in
-    onto-high m (n / 2) (a * 2 + n % 2) i (omega (arith, high)) ∙ (ap (bit_at (a * 2 + n % 2)) next ∙ joined-high n a (i - suc m))
-
-onto-low : (m n a i : ℕ) → i < m → bit_at (reverse_bits_onto m n a) i ≡ bit_at n (m - suc i)
-unfolding reverse_bits_onto
-onto-low zero n a i low = absurd (omega arith)
-onto-low (suc m) n a i low = elim (cases_lt i m) [
-  | inl inner ↦
-      let next : suc (m - suc i) ≡ suc m - suc i = omega (arith, inner) in
-      onto-low m (n / 2) (a * 2 + n % 2) i inner ∙ (half-bit n (m - suc i) ∙ ap (bit_at n) next)
-  | inr past ↦
-      let here : i - m ≡ 0 = omega (arith, low, past) in
-      let last : 0 ≡ suc m - suc i = omega (arith, low, past) in
-      onto-high m (n / 2) (a * 2 + n % 2) i past ∙ (ap (bit_at (a * 2 + n % 2)) here ∙ (joined-low n a ∙ ap (bit_at n) last))
-]
-
-reversed-bit : (n i : ℕ) → i < 64 → word_bit (reverse_bits_onto 64 n 0) i ≡ word_bit n (63 - i)
-unfolding word_bit
-reversed-bit n i low = let e : 64 - suc i ≡ 63 - i = omega arith in ap (λ b. eqb b 1) (onto-low 64 n 0 i low ∙ ap (bit_at n) e)
-
-reversed-none : (n i : ℕ) → 64 ≤ i → word_bit (reverse_bits_onto 64 n 0) i ≡ false
-unfolding word_bit
-reversed-none n i high = ap (λ b. eqb b 1) (onto-high 64 n 0 i high ∙ bit_at-zero (i - 64))
+-- a word has no bits past its last one
+none-past : (word i : ℕ) → word < 2 ^ 64 → 64 ≤ i → word_bit word i ≡ false
+none-past word i fits high = let none : word / 2 ^ 64 ≡ 0 = omega (arith, fits) in none-from word 64 none i high
 
 -- The word of a row, turned round and moved down, has the bits of the row.
-pub read-bits : (row : ℕ) (part : List ℕ) (len i : ℕ) → 1 ≤ len → len ≤ 32 → ((k : ℕ) → k < 64 → word_bit row k ≡ has_bit part k) → word_bit (reverse_bits_onto 64 row 0 / 2 ^ (64 - len)) i ≡ turned len (has_bit part) i
-read-bits row part len i some short is = elim (cases_lt i len) [
+pub read-bits : (row round : ℕ) (part : List ℕ) (len i : ℕ) → 1 ≤ len → len ≤ 32 → round < 2 ^ 64 → ((k : ℕ) → k < 64 → word_bit round k ≡ word_bit row (63 - k)) → ((k : ℕ) → k < 64 → word_bit row k ≡ has_bit part k) → word_bit (round / 2 ^ (64 - len)) i ≡ turned len (has_bit part) i
+read-bits row round part len i some short fits turns is = elim (cases_lt i len) [
   | inl below ↦
       let e : 63 - (64 - len + i) ≡ len - suc i = omega (arith, below, short) in
-      bit-shifted (reverse_bits_onto 64 row 0) (64 - len) i
-      ∙ (reversed-bit row (64 - len + i) (omega (arith, below, short)) ∙ (ap (word_bit row) e ∙ (is (len - suc i) (omega (arith, short)) ∙ sym (turned-below len (has_bit part) i below))))
-  | inr above ↦
-      bit-shifted (reverse_bits_onto 64 row 0) (64 - len) i ∙ (reversed-none row (64 - len + i) (omega (arith, above, short)) ∙ sym (turned-above len (has_bit part) i above))
+      bit-shifted round (64 - len) i
+      ∙ (turns (64 - len + i) (omega (arith, below, short)) ∙ (ap (word_bit row) e ∙ (is (len - suc i) (omega (arith, short)) ∙ sym (turned-below len (has_bit part) i below))))
+  | inr above ↦ bit-shifted round (64 - len) i ∙ (none-past round (64 - len + i) fits (omega (arith, above, short)) ∙ sym (turned-above len (has_bit part) i above))
 ]
 
 -- And the word that is moved up and turned round has the bits of the other one.
-pub kept-bits : (carry len k : ℕ) → 1 ≤ len → len ≤ 32 → k < 64 → word_bit (reverse_bits_onto 64 (carry * 2 ^ (64 - len) % 18446744073709551616) 0) k ≡ turned len (word_bit carry) k
-kept-bits carry len k some short low =
+pub kept-bits : (carry round len k : ℕ) → 1 ≤ len → len ≤ 32 → k < 64 → word_bit round k ≡ word_bit (carry * 2 ^ (64 - len) % 18446744073709551616) (63 - k) → word_bit round k ≡ turned len (word_bit carry) k
+kept-bits carry round len k some short low turns =
     let up : word_bit (carry * 2 ^ (64 - len) % 18446744073709551616) (63 - k) ≡ (nat_le (64 - len) (63 - k) && word_bit carry (63 - k - (64 - len))) = bit-up carry (64 - len) (63 - k) (omega arith) in
-    reversed-bit (carry * 2 ^ (64 - len) % 18446744073709551616) k low
+    turns
     ∙ (up
     ∙ elim (cases_lt k len) [
       | inl below ↦
@@ -136,8 +97,8 @@ past-bits : (part : List ℕ) (k : ℕ) → length part ≡ 4 → 32 ≤ k → h
 unfolding has_bit
 past-bits part k len high = ap (λ b. eqb (bit_at b (k % 8)) 1) (get_or_past part (k / 8) 0 (omega (arith, len, high))) ∙ ap (λ b. eqb b 1) (bit_at-zero (k % 8))
 
-pub written-bits : (carry row : ℕ) (part : List ℕ) (len : ℕ) → 1 ≤ len → len ≤ 32 → length part ≡ 4 → row < 2 ^ 64 → row ≡ reverse_bits_onto 64 (carry * 2 ^ (64 - len) % 18446744073709551616) 0 → part ≡ take 4 (to_le_bytes w64 row) → (k : ℕ) → has_bit part k ≡ turned len (word_bit carry) k
-written-bits carry row part len some short size fits is bytes k = elim (cases_lt k 32) [
-  | inl low ↦ first-four (to_le_bytes w64 row) part k bytes low ∙ (word-bits row k fits (omega (arith, low)) ∙ (ap (λ n. word_bit n k) is ∙ kept-bits carry len k some short (omega (arith, low))))
+pub written-bits : (carry row : ℕ) (part : List ℕ) (len : ℕ) → 1 ≤ len → len ≤ 32 → length part ≡ 4 → row < 2 ^ 64 → ((k : ℕ) → k < 64 → word_bit row k ≡ word_bit (carry * 2 ^ (64 - len) % 18446744073709551616) (63 - k)) → part ≡ take 4 (to_le_bytes w64 row) → (k : ℕ) → has_bit part k ≡ turned len (word_bit carry) k
+written-bits carry row part len some short size fits turns bytes k = elim (cases_lt k 32) [
+  | inl low ↦ first-four (to_le_bytes w64 row) part k bytes low ∙ (word-bits row k fits (omega (arith, low)) ∙ kept-bits carry row len k some short (omega (arith, low)) (turns k (omega (arith, low))))
   | inr high ↦ past-bits part k size high ∙ sym (turned-above len (word_bit carry) k (omega (arith, short, high)))
 ]

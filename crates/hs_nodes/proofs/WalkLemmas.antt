@@ -3,6 +3,7 @@ use Rattle.std.proofs.Common.{◌≡◌, ◌⊎◌, ℕ, zero, suc, ◌+◌, ◌
 use Rattle.std.proofs.lemmas.Option.{same_Some, slice_get_within}
 use Rattle.hs_base.specs.declared.context.Prev.{Prev}
 use Rattle.hs_base.specs.Chains.{Piece}
+use Rattle.hs_base.specs.Contexts.{prev_at}
 use Rattle.hs_base.specs.Lists.{Each}
 use Rattle.hs_base.specs.Literals.{LiteralByte}
 use Rattle.hs_engine.specs.Engines.{Meaning}
@@ -16,12 +17,14 @@ use Rattle.hs_nodes.specs.Blocks.{EndsBehind, IsPast}
 use Rattle.hs_nodes.specs.Left.{AreLeftIn, nowhere}
 use Rattle.hs_reports.specs.Marks.{is_marked}
 use Rattle.hs_nodes.specs.Nodes.{AreHitsOf, HoldsPiece, IsWellPart, MayRest, most_ticks}
-use Rattle.hs_nodes.specs.Walks.{AreMoreMarks, AreNodesHeld, AreNodesOf, AreNodesWell, ChangesMarked, IsAmongChildren, IsNodeHeld, IsNodeRun, IsTableSound, MayNodesRest, TakesNodes, node_ends, entering_ends, node_part, nodes_ticks, parent_pieces}
+use Rattle.hs_nodes.specs.Sparing.{IsSpared, IsUntouched}
+use Rattle.hs_nodes.specs.Walks.{AreMoreMarks, AreNodesHeld, AreNodesOf, AreNodesWell, ChangesMarked, IsAmongChildren, IsNodeHeld, IsNodeOf, IsNodeRun, IsTableSound, MayNodesRest, TakesNodes, node_ends, entering_ends, node_part, nodes_ticks, parent_pieces}
 use Rattle.hs_nodes.proofs.FlatLemmas.{AreLeftNowhere, left-nowhere, nowhere-left}
 use Rattle.hs_nodes.proofs.KindLemmas.{held-stands, one-value, stands-entered, stands-held}
 use Rattle.hs_nodes.proofs.NodeLemmas.{marks-none}
-use Rattle.hs_nodes.proofs.RestLemmas.{ArePassed, root, behind, node-rests, stands-passed}
+use Rattle.hs_nodes.proofs.RestLemmas.{ArePassed, IsPassed, root, behind, node-rests, stands-passed}
 use Rattle.hs_nodes.proofs.RunLemmas.{nowhere-none}
+use Rattle.hs_nodes.proofs.SpareLemmas.{node-spared}
 
 -- the member of a number
 pub there : {A : Type 0} (xs : List A) (k : ℕ) → k < length xs → (x : A) × (slice_get xs k ≡ Some x)
@@ -67,13 +70,21 @@ module _ {E : Type 0} (meaning : E → Meaning) (table : NodeTable E) where
       AreNodesHeld meaning table pieces old u →
       AreDone pieces new u bytes ends n
 
+  -- the children of a node that is left are marked, but for those that need no run
+  abbrev pub ChildrenMarked : (marks : List ℕ) (hits : List ChunkHits) (bytes : List ℕ) (n : ℕ) (left : ChunkEnds) → Type 0
+  ChildrenMarked marks hits bytes n left =
+      (k : ℕ) (node : Node) →
+      IsAmongChildren table.child_starts.items table.children.items n k →
+      slice_get table.nodes.items k ≡ Some node →
+      (is_marked marks k ≡ true) ⊎ IsSpared node.kind hits (length bytes) left
+
   -- how far a walk has come
   pub record IsWalk (first : List ℕ) (marks_first : List ℕ) (prev : Prev) (at : ℕ) (past bytes : List ℕ) (hits : List ChunkHits) (region : List ℕ) (ends : List ChunkEnds) (marks : List ℕ) (n : ℕ) : Type 0 where
     pub within : n ≤ length table.nodes.items
     pub more : AreMoreMarks (length table.nodes.items) marks_first marks
     pub changes : ChangesMarked meaning table marks first region ends
     pub later : (k : ℕ) (node : Node) → n ≤ k → slice_get table.nodes.items k ≡ Some node → (node_ends ends k ≡ nowhere) × (node_part region node ≡ node_part first node)
-    pub parents : (k p : ℕ) (node : Node) → n ≤ k → slice_get table.nodes.items k ≡ Some node → is_marked marks k ≡ false → node.parent ≡ Some p → p < n → node_ends ends p ≡ nowhere
+    pub parents : (k p : ℕ) (node : Node) → n ≤ k → slice_get table.nodes.items k ≡ Some node → is_marked marks k ≡ false → node.parent ≡ Some p → p < n → IsUntouched node.kind hits (length bytes) (node_ends ends p)
     pub well : (k : ℕ) (node : Node) → k < n → slice_get table.nodes.items k ≡ Some node → IsWellPart meaning table.engines.items node.kind (node_part region node) (at + length bytes)
     pub takes : TakesTo first region prev at past bytes hits ends n
 
@@ -126,9 +137,32 @@ module _ {E : Type 0} (meaning : E → Meaning) (table : NodeTable E) where
         later_own : (node_ends ends n ≡ nowhere) × (node_part region own.0 ≡ node_part first own.0)
         later_own = walk.later n own.0 (omega arith) own.1
 
-        parent-zero : (k p : ℕ) (other : Node) → n + 1 ≤ k → slice_get table.nodes.items k ≡ Some other → is_marked marks k ≡ false → other.parent ≡ Some p → (p < n) ⊎ (p ≡ n) → node_ends ends p ≡ nowhere
+        parent-zero : (k p : ℕ) (other : Node) → n + 1 ≤ k → slice_get table.nodes.items k ≡ Some other → is_marked marks k ≡ false → other.parent ≡ Some p → (p < n) ⊎ (p ≡ n) → IsUntouched other.kind hits (length bytes) (node_ends ends p)
         parent-zero k p other high at_k none' of (inl low) = walk.parents k p other (omega arith) at_k none' of low
-        parent-zero k p other high at_k none' of (inr same) = ap (λ i. node_ends ends i) same ∙ later_own.0
+        parent-zero k p other high at_k none' of (inr same) = inl (ap (λ i. node_ends ends i) same ∙ later_own.0)
+
+        own-passed : (literals : List (List LiteralByte)) (pieces : ℕ → List Piece) (u : List ℕ) (is : IsNodeOf meaning table literals pieces n own.0) → Each (λ b. b < 256) (u ++ bytes) → AreHitsOf literals hits u bytes → IsNodeHeld meaning table pieces first u n own.0 → prev ≡ prev_at u (length u) →
+            ((p : ℕ) → p < n → AreLeftIn (pieces p) u bytes (node_ends ends p)) → IsPassed meaning table.engines.items own.0.kind is.before is.piece (node_part first own.0) u bytes
+        own-passed literals pieces u is small hits_are held last left = by (parent-cases own.0.parent) where
+          own_held : HoldsPiece meaning table.engines.items own.0.kind is.before is.piece (node_part first own.0) u
+          own_held = stands-held meaning table.engines.items own.0.kind own.0.parent (pieces n) (parent_pieces pieces own.0.parent) is.before is.piece (node_part first own.0) u is.behind is.own held
+
+          rests-by : ((p : ℕ) → own.0.parent ≡ Some p → node_ends ends p ≡ nowhere) → IsPassed meaning table.engines.items own.0.kind is.before is.piece (node_part first own.0) u bytes
+          rests-by zeros =
+              node-rests meaning table.engines.items own.0.kind (length hits) (own.0.end - own.0.start) own.0.parent literals hits is.before is.rest is.piece (node_part first own.0) u prev bytes last (sound.kinds n own.0 own.1) refl is.runs is.fit small hits_are may
+              (stands-passed own.0.kind own.0.parent (parent_pieces pieces own.0.parent) is.before u bytes is.behind (passed-before n own.0 pieces u own.1 none zeros left)) own_held
+
+          spared-by : (p : ℕ) → own.0.parent ≡ Some p → IsSpared own.0.kind hits (length bytes) (node_ends ends p) → IsPassed meaning table.engines.items own.0.kind is.before is.piece (node_part first own.0) u bytes
+          spared-by p of spared =
+              node-spared meaning table.engines.items own.0.kind (length hits) (own.0.end - own.0.start) own.0.parent literals hits (parent_pieces pieces own.0.parent) is.before is.rest is.piece (node_part first own.0) u prev bytes (node_ends ends p) (sound.kinds n own.0 own.1) refl is.runs is.behind is.fit few small hits_are may
+              spared (subst (λ (q : Option ℕ). AreLeftIn (parent_pieces pieces q) u bytes (node_ends ends p)) (sym of) (left p (sound.earlier n p own.0 own.1 of))) own_held
+
+          by : (own.0.parent ≡ None) ⊎ ((p : ℕ) × (own.0.parent ≡ Some p)) → IsPassed meaning table.engines.items own.0.kind is.before is.piece (node_part first own.0) u bytes
+          by (inl no_parent) = rests-by (λ p of. let both : None ≡ Some p = sym no_parent ∙ of in absurd (cc))
+          by (inr (p, of)) = elim (walk.parents n p own.0 (omega arith) own.1 none of (sound.earlier n p own.0 own.1 of)) [
+            | inl zero_ends ↦ rests-by (λ q of'. let same : p ≡ q = same_Some p q (sym of ∙ of') in subst (λ i. node_ends ends i ≡ nowhere) same zero_ends)
+            | inr spared ↦ spared-by p of spared
+          ]
 
         own-well : IsWellPart meaning table.engines.items own.0.kind (node_part region own.0) (at + length bytes)
         own-well = subst (λ ps. IsWellPart meaning table.engines.items own.0.kind ps (at + length bytes)) (sym later_own.1) (rest-well own.0.kind own.0.parent hits (node_part first own.0) prev bytes (at + length bytes) may)
@@ -144,10 +178,7 @@ module _ {E : Type 0} (meaning : E → Meaning) (table : NodeTable E) where
         done-more literals pieces u of stands past_is small hits_are held =
             let done = walk.takes literals pieces u of stands past_is small hits_are held in
             let is = of n own.0 own.1 in
-            let before = passed-before n own.0 pieces u own.1 none (λ p is_p. walk.parents n p own.0 (omega arith) own.1 none is_p (sound.earlier n p own.0 own.1 is_p)) done.left in
-            let passed = node-rests meaning table.engines.items own.0.kind (length hits) (own.0.end - own.0.start) own.0.parent literals hits is.before is.rest is.piece (node_part first own.0) u prev bytes stands.behind (sound.kinds n own.0 own.1) refl is.runs is.fit small hits_are may
-            (stands-passed own.0.kind own.0.parent (parent_pieces pieces own.0.parent) is.before u bytes is.behind before)
-            (stands-held meaning table.engines.items own.0.kind own.0.parent (pieces n) (parent_pieces pieces own.0.parent) is.before is.piece (node_part first own.0) u is.behind is.own (held n own.0 own.1)) in
+            let passed = own-passed literals pieces u is small hits_are (held n own.0 own.1) stands.behind done.left in
             let zero_left : AreLeftIn (pieces n) u bytes (node_ends ends n) = subst (λ (e : ChunkEnds). AreLeftIn (pieces n) u bytes e) (sym later_own.0) (subst (λ ps. AreLeftIn ps u bytes nowhere) (sym is.own) (nowhere-left (is.before ++ is.piece ∷ []) u bytes nowhere nowhere-none passed.left)) in
             let own_held : IsNodeHeld meaning table pieces region (u ++ bytes) n own.0 =
             held-stands meaning table.engines.items own.0.kind own.0.parent (pieces n) (parent_pieces pieces own.0.parent) is.before is.piece (node_part region own.0) (u ++ bytes) is.behind is.own
@@ -170,7 +201,7 @@ module _ {E : Type 0} (meaning : E → Meaning) (table : NodeTable E) where
 
     module _ (all : ChunkEnds) (everywhere : (u : List ℕ) → AreLeftIn [] u bytes all) (region region' : List ℕ) (ends ends' : List ChunkEnds) (marks marks' : List ℕ) (n m : ℕ) (next : m ≡ n + 1) (own : Node) (at_n : slice_get table.nodes.items n ≡ Some own) (marked : is_marked marks n ≡ true)
         (run : IsNodeRun meaning table n own region region' prev at past bytes hits all ends ends') (sized : length region' ≡ length region) (grown : AreMoreMarks (length table.nodes.items) marks marks')
-        (children : (node_ends ends' n ≡ nowhere) ⊎ ((k : ℕ) → IsAmongChildren table.child_starts.items table.children.items n k → is_marked marks' k ≡ true)) (walk : IsWalk first marks_first prev at past bytes hits region ends marks n) where
+        (children : (node_ends ends' n ≡ nowhere) ⊎ ChildrenMarked marks' hits bytes n (node_ends ends' n)) (walk : IsWalk first marks_first prev at past bytes hits region ends marks n) where
       below-next : (k : ℕ) → k < m → (k < n) ⊎ (k ≡ n)
       below-next k low = grind (arith, next)
 
@@ -183,12 +214,15 @@ module _ {E : Type 0} (meaning : E → Meaning) (table : NodeTable E) where
       all-marks : AreMoreMarks (length table.nodes.items) marks_first marks'
       all-marks = record { room = grown.room ∙ walk.more.room; kept = λ k set. grown.kept k (walk.more.kept k set); below = grown.below }
 
-      parent-by : (k p : ℕ) (node : Node) → slice_get table.nodes.items k ≡ Some node → n + 1 ≤ k → is_marked marks' k ≡ false → node.parent ≡ Some p → (p < n) ⊎ (p ≡ n) → (node_ends ends' n ≡ nowhere) ⊎ ((j : ℕ) → IsAmongChildren table.child_starts.items table.children.items n j → is_marked marks' j ≡ true) → node_ends ends' p ≡ nowhere
-      parent-by k p node at_k high none of (inl low) told = run.ends_stay p (λ same. absurd (omega arith)) ∙ walk.parents k p node (omega arith) at_k (unmarked-before marks marks' k grown.kept none) of low
-      parent-by k p node at_k high none of (inr same) (inl zero_ends) = ap (λ i. node_ends ends' i) same ∙ zero_ends
+      parent-by : (k p : ℕ) (node : Node) → slice_get table.nodes.items k ≡ Some node → n + 1 ≤ k → is_marked marks' k ≡ false → node.parent ≡ Some p → (p < n) ⊎ (p ≡ n) → (node_ends ends' n ≡ nowhere) ⊎ ChildrenMarked marks' hits bytes n (node_ends ends' n) → IsUntouched node.kind hits (length bytes) (node_ends ends' p)
+      parent-by k p node at_k high none of (inl low) told = subst (λ (e : ChunkEnds). IsUntouched node.kind hits (length bytes) e) (sym (run.ends_stay p (λ same. absurd (omega arith)))) (walk.parents k p node (omega arith) at_k (unmarked-before marks marks' k grown.kept none) of low)
+      parent-by k p node at_k high none of (inr same) (inl zero_ends) = inl (ap (λ i. node_ends ends' i) same ∙ zero_ends)
       parent-by k p node at_k high none of (inr same) (inr told) =
           let among : IsAmongChildren table.child_starts.items table.children.items n k = sound.among k n node at_k (of ∙ ap Some same) in
-          let both : true ≡ false = sym (told k among) ∙ none in absurd (cc)
+          elim (told k node among at_k) [
+            | inl set ↦ let both : true ≡ false = sym set ∙ none in absurd (cc)
+            | inr spared ↦ inr (subst (λ i. IsSpared node.kind hits (length bytes) (node_ends ends' i)) (sym same) spared)
+          ]
 
       well-by : (k : ℕ) (node : Node) → slice_get table.nodes.items k ≡ Some node → (k < n) ⊎ (k ≡ n) → IsWellPart meaning table.engines.items node.kind (node_part region' node) (at + length bytes)
       well-by k node at_k (inl low) = subst (λ ps. IsWellPart meaning table.engines.items node.kind ps (at + length bytes)) (sym (run.parts_stay k node (λ same. absurd (omega arith)) at_k)) (walk.well k node low at_k)

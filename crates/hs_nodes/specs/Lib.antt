@@ -14,3 +14,5 @@ pub mod Leaving
 pub mod Gathering
 pub mod WellRegions
 pub mod Starting
+pub mod Sparing
+pub mod Turning

@@ -3,6 +3,10 @@
 ghost use Rattle.std.specs.Prelude.{◌≡◌, ◌↔◌, ℕ, ◌<◌, ◌≤◌, IsTrue, bit_and, bit_or, slice_index};
 
 use crate::chunk::MAX_BLOCKS;
+use hs_bits::next_bit_in;
+
+/// How many bytes a literal has at most.
+const MAX_LITERAL: usize = 32;
 
 /// Where pieces are left in a chunk: for each of its blocks a word with a bit for each byte, none from its end on.
 #[derive(Clone, Copy, Debug, PartialEq, Eq)]
@@ -15,6 +19,7 @@ pub struct ChunkEnds {
 
 impl ChunkEnds {
     ghost use Rattle.hs_nodes.specs.Left.{nowhere};
+    ghost use Rattle.hs_nodes.specs.Sparing.{AreQuiet};
 
     /// Nowhere.
     pub const NOWHERE: ChunkEnds = ChunkEnds {
@@ -27,6 +32,18 @@ impl ChunkEnds {
         ensures { IsTrue result ↔ (self.now ≡ nowhere) }
     {
         *self == ChunkEnds::NOWHERE
+    }
+
+    /// Before how many of the last bytes of a chunk of so many the pieces are not left, up to as many as a literal has.
+    pub(crate) fn quiet_end(&self, count: usize) -> usize
+        requires { count ≤ 512 }
+        ensures { AreQuiet result count self.now }
+    {
+        let mut from = count.saturating_sub(MAX_LITERAL);
+        while let Some(place) = next_bit_in(&self.before, from, count) {
+            from = place + 1;
+        }
+        count - from
     }
 
     /// These, and where pieces that are left as `enters` tell are followed by the empty span where `null` tells it.

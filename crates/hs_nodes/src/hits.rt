@@ -1,12 +1,12 @@
 //! Where a literal ends in a chunk.
 
-ghost use Rattle.std.specs.Prelude.{◌≡◌, ◌+◌, ◌*◌, ◌<◌, ◌≤◌, ℕ};
+ghost use Rattle.std.specs.Prelude.{◌≡◌, ◌+◌, ◌*◌, ◌<◌, ◌≤◌, ℕ, true, false};
 ghost use Rattle.hs_block.specs.LiteralBlocks.{is_hit};
 ghost use Rattle.hs_bits.specs.WordBits.{word_bit};
 ghost use Rattle.hs_nodes.specs.Hits.{is_hit_at};
 
 use crate::chunk::MAX_BLOCKS;
-use hs_bits::contains_place;
+use hs_bits::{contains_place, is_unset};
 use hs_block::Hits;
 
 /// Where a literal ends in a chunk.
@@ -24,6 +24,13 @@ impl ChunkHits {
         at_start: false,
         behind: [0; MAX_BLOCKS],
     };
+
+    /// Whether it ends nowhere.
+    pub(crate) fn is_nowhere(&self) -> bool
+        ensures { result ≡ true → (i : ℕ) → is_hit_at self.now i ≡ false }
+    {
+        !self.at_start & is_unset(&self.behind)
+    }
 
     /// Where it ends in a block.
     pub(crate) fn of_block(&self, number: usize) -> Hits

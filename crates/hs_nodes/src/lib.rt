@@ -18,6 +18,7 @@ mod look_back;
 mod nulls;
 mod settling;
 mod table;
+mod turning;
 mod wake_table;
 mod waking;
 mod walking;

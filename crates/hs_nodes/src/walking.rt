@@ -1,15 +1,19 @@
 //! A walk over the nodes of a table, over a chunk.
 
-ghost use Rattle.std.specs.Prelude.{◌≡◌, ℕ, ◌+◌, ◌*◌, ◌<◌, ◌≤◌, true, false, List, [], length, slice_get, slice_index};
+ghost use Rattle.std.specs.Prelude.{◌≡◌, ℕ, ◌+◌, ◌*◌, ◌<◌, ◌≤◌, ◌⊎◌, true, false, List, [], length, slice_get};
+ghost use Rattle.std.specs.Prelude.{slice_index};
 ghost use Rattle.std.specs.Prelude.{EachIndex, None, Some};
 ghost use Rattle.hs_nodes.specs.Contexts.{AreChunkContexts, NeedsContexts};
 ghost use Rattle.hs_nodes.specs.Left.{AreLeftIn, nowhere};
 ghost use Rattle.hs_nodes.specs.Resting.{AreEnginesIdle};
+ghost use Rattle.hs_nodes.specs.Sparing.{AreQuiet, IsLiteralThere, IsSpared};
 ghost use Rattle.hs_nodes.specs.Starting.{AreStartsEnough};
 ghost use Rattle.hs_reports.specs.Marks.{is_marked, mark_room};
 ghost use Rattle.hs_nodes.specs.Nodes.{IsWellPart, most_ticks};
-ghost use Rattle.hs_nodes.specs.Walks.{AreMoreMarks, AreNodesWell, ChangesMarked, IsNodeRun, IsTableSound};
-ghost use Rattle.hs_nodes.specs.Walks.{MayNodesRest, TakesNodes, entering_ends, node_ends, node_part, nodes_ticks};
+ghost use Rattle.hs_nodes.specs.Walks.{AreMoreMarks, AreNodesWell, ChangesMarked, IsAmongChildren, IsNodeRun};
+ghost use Rattle.hs_nodes.specs.Walks.{IsTableSound, MayNodesRest, TakesNodes, entering_ends, node_ends, node_part};
+ghost use Rattle.hs_nodes.specs.Walks.{nodes_ticks};
+ghost use Rattle.hs_nodes.specs.declared.ends.ChunkEnds.{ChunkEnds};
 ghost use Rattle.hs_nodes.specs.declared.table.Node.{Node};
 
 use crate::chunk::{Chunk, MAX_BLOCKS};
@@ -18,7 +22,7 @@ use crate::ends::ChunkEnds;
 use crate::first::everywhere;
 use crate::hits::ChunkHits;
 use crate::kinds::{Found, run_kind};
-use crate::table::{Node, NodeTable};
+use crate::table::{Node, NodeKind, NodeTable};
 use hs_base::Prev;
 use hs_bits::Contexts;
 use hs_block::BlockEngine;
@@ -123,30 +127,82 @@ pub fn mark_all(numbers: &[u32], from: usize, end: usize, marks: &mut MarkSet)
     }
 }
 
-/// Marks the children of the node of that number.
-fn mark_children<E>(table: &NodeTable<E>, k: usize, marks: &mut MarkSet)
+/// Whether a node of that kind, in which nothing is live, needs no run, where its parent is left before none of the last
+/// so many bytes of a chunk: it is a literal of no more bytes, which ends nowhere in the chunk.
+fn is_spared(kind: NodeKind, hits: &[ChunkHits], quiet: usize) -> bool
+    requires { IsLiteralThere (length hits.now) kind }
+    ensures { (count : ℕ) (enters : ChunkEnds) → AreQuiet quiet count enters → result ≡ true →
+        IsSpared kind hits.now count enters }
+{
+    match kind {
+        NodeKind::Engine(_, _) => false,
+        NodeKind::Literal(number, len) => {
+            len as usize <= quiet && hits[number as usize].is_nowhere()
+        }
+        NodeKind::FirstLiteral(_, _) => false,
+        NodeKind::LookBack(_) => false,
+    }
+}
+
+/// Marks the node of that number, unless it needs no run where its parent is left before none of the last so many bytes
+/// of a chunk.
+fn mark_child<E>(
+    table: &NodeTable<E>,
+    child: usize,
+    hits: &[ChunkHits],
+    quiet: usize,
+    marks: &mut MarkSet,
+)
+    requires there { child < length table.now.nodes.items }
+    requires literal { (node : Node) → slice_get table.now.nodes.items child ≡ Some node →
+        IsLiteralThere (length hits.now) node.kind }
+    requires room { length table.now.nodes.items ≤ mark_room marks.old }
+    requires below { (k : ℕ) → is_marked marks.old k ≡ true → k < length table.now.nodes.items }
+    ensures more { AreMoreMarks (length table.now.nodes.items) marks.old marks.new }
+    ensures needed { (count : ℕ) (enters : ChunkEnds) (node : Node) → AreQuiet quiet count enters →
+        slice_get table.now.nodes.items child ≡ Some node →
+        (is_marked marks.new child ≡ true) ⊎ IsSpared node.kind hits.now count enters }
+{
+    if is_spared(node_at(table, child).kind, hits, quiet) {
+        return;
+    }
+    marks.write(child, true);
+}
+
+/// Marks the children of the node of that number, which is left as the ends tell in a chunk of so many bytes, but for
+/// those that need no run.
+fn mark_children<E>(
+    table: &NodeTable<E>,
+    k: usize,
+    hits: &[ChunkHits],
+    ends: &ChunkEnds,
+    count: usize,
+    marks: &mut MarkSet,
+)
+    requires few { count ≤ 512 }
     requires there { k + 1 < length table.now.child_starts.items }
     requires end { slice_index table.now.child_starts.items (k + 1) ≤ length table.now.children.items }
+    requires literals { (child : ℕ) (node : Node) → slice_get table.now.nodes.items child ≡ Some node →
+        IsLiteralThere (length hits.now) node.kind }
     requires room { length table.now.nodes.items ≤ mark_room marks.old }
     requires children { (i : ℕ) → i < length table.now.children.items →
         slice_index table.now.children.items i < length table.now.nodes.items }
     requires below { (k : ℕ) → is_marked marks.old k ≡ true → k < length table.now.nodes.items }
     ensures more { AreMoreMarks (length table.now.nodes.items) marks.old marks.new }
-    ensures all { (i : ℕ) → slice_index table.now.child_starts.items k ≤ i →
-        i < slice_index table.now.child_starts.items (k + 1) →
-        is_marked marks.new (slice_index table.now.children.items i) ≡ true }
+    ensures needed { (child : ℕ) (node : Node) →
+        IsAmongChildren table.now.child_starts.items table.now.children.items k child →
+        slice_get table.now.nodes.items child ≡ Some node →
+        (is_marked marks.new child ≡ true) ⊎ IsSpared node.kind hits.now count ends.now }
 {
-    mark_all(
-        &table.children,
-        start_of(&table.child_starts, k),
-        start_of(&table.child_starts, k + 1),
-        marks,
-    );
+    let quiet = ends.quiet_end(count);
+    for i in start_of(&table.child_starts, k)..start_of(&table.child_starts, k + 1) {
+        mark_child(table, start_of(&table.children, i), hits, quiet, marks);
+    }
 }
 
-/// Takes a chunk by the nodes that are marked, in their order; where a node is left, its children are marked. So those
-/// that are marked then have been run, and no other one has been looked at. Of engines without a parent it is said
-/// where their matches may begin.
+/// Takes a chunk by the nodes that are marked, in their order; where a node is left, its children are marked, but for
+/// literals of which nothing comes. So those that are marked then have been run, and no other one. Of engines without a
+/// parent it is said where their matches may begin.
 pub fn walk<E: BlockEngine, L: Ledger>(
     table: &NodeTable<E>,
     chunk: &Chunk,
@@ -189,7 +245,7 @@ pub fn walk<E: BlockEngine, L: Ledger>(
         };
         run_node(table, k, chunk, &found, &all, region, ends, steps);
         if !ends[k].is_nowhere() {
-            mark_children(table, k, marks);
+            mark_children(table, k, hits, &ends[k], chunk.bytes.len(), marks);
         }
         from = k + 1;
     }

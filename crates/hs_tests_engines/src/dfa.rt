@@ -2,7 +2,8 @@
 ghost use Rattle.std.specs.Prelude.{◌≡◌, ◌≤◌, ◌<◌, ◌^◌, length};
 
 use hs_base::{Assertion, ByteSet, NextSet, Prev};
-use hs_dfa::Dfa;
+use hs_block::{BlockEnds, run_by_steps};
+use hs_dfa::{Dfa, SetDfa};
 use hs_engine::{Automaton, Engine, Steps};
 use hs_expr::{Expr, has_embedded_end, is_plain, positions};
 use hs_glushkov::build;
@@ -175,6 +176,95 @@ fn agrees(alloc: Global, text: &[u8]) -> Result<bool, AllocError> {
 fn tells_what_limex_tells(rt: HostRuntime) -> Result<(), Fail> {
     for (text, _wanted) in COUNTS {
         assert!(rt; agrees(rt.alloc(), text)?);
+    }
+    Ok(())
+}
+
+/// What a block tells, and what it leaves in the region.
+type Taken = (BlockEnds, Vec<u8>);
+
+/// Takes the text as the first block of a stream by the states over sets.
+fn taken_by_sets<L: Ledger>(
+    alloc: Global,
+    sets: &SetDfa,
+    text: &[u8],
+    blank: Blank,
+) -> Result<Option<Taken>, AllocError>
+    requires text { length text.now ≤ 64 }
+    requires name { blank.name ≡ L.name }
+    requires parts { blank.parts ≡ L.parts }
+    requires some { 0 < L.parts }
+{
+    let mut steps = Steps::<L>::open(blank);
+    let mut region = vec![in alloc; 0u8; sets.width()]?;
+    match sets.run(&mut region, Prev::Start, 0, text, &mut steps) {
+        Some(ends) => Ok(Some((ends, region))),
+        None => Ok(None),
+    }
+}
+
+/// The same byte by byte, entered before each.
+fn taken_by_steps<L: Ledger>(
+    alloc: Global,
+    limex: &Limex,
+    text: &[u8],
+    blank: Blank,
+) -> Result<Taken, AllocError>
+    requires text { length text.now ≤ 64 }
+    requires name { blank.name ≡ L.name }
+    requires parts { blank.parts ≡ L.parts }
+    requires some { 0 < L.parts }
+{
+    let mut steps = Steps::<L>::open(blank);
+    let mut region = vec![in alloc; 0xffu8; limex.size()]?;
+    limex.clear(&mut region);
+    let ends = run_by_steps(
+        limex,
+        &mut region,
+        Prev::Start,
+        0,
+        u64::MAX,
+        text,
+        &mut steps,
+    );
+    Ok((ends, region))
+}
+
+/// Whether the states over sets tell and leave of each text of five bytes what the positions do.
+fn agree_over_sets(alloc: Global, sets: &SetDfa, limex: &Limex) -> Result<bool, AllocError> {
+    for number in 0..1024 {
+        let text = text_of(number);
+        let by_steps = taken_by_steps::<Brand>(alloc, limex, &text, Blank::new(1))?;
+        match taken_by_sets::<Brand>(alloc, sets, &text, Blank::new(1))? {
+            Some(by_sets) => {
+                if by_sets.0 != by_steps.0 || by_sets.1.as_slice() != by_steps.1.as_slice() {
+                    return Ok(false);
+                }
+            }
+            None => {
+                return Ok(false);
+            }
+        }
+    }
+    Ok(true)
+}
+
+/// Whether they do so of an expression, if it has an engine.
+fn agrees_over_sets(alloc: Global, text: &[u8]) -> Result<bool, AllocError> {
+    let expr = read(alloc, text)?;
+    let Some(automaton) = automaton_of(alloc, &expr)? else {
+        return Ok(true);
+    };
+    let Some(sets) = SetDfa::build(alloc, &automaton)? else {
+        return Ok(true);
+    };
+    agree_over_sets(alloc, &sets, &Limex::build(alloc, &automaton)?)
+}
+
+#[test]
+fn tells_over_sets_what_positions_tell(rt: HostRuntime) -> Result<(), Fail> {
+    for (text, _wanted) in COUNTS {
+        assert!(rt; agrees_over_sets(rt.alloc(), text)?);
     }
     Ok(())
 }

@@ -14,7 +14,7 @@ use hs_base::ByteSet;
 use std::alloc::{AllocError, Global};
 
 /// The most sets of a table.
-const MAX_SETS: usize = 1_024;
+const MAX_SETS: usize = 4_096;
 
 /// The rows of engines, and the sets that they name.
 #[derive(Debug, Drop)]
@@ -131,10 +131,10 @@ fn row_to(begun: WakeRow, count: usize, numbers: [u16; MAX_ROW]) -> WakeRow
     }
 }
 
-/// The number of an equal set among the first 1,024 that are kept.
+/// The number of an equal set among the first 4,096 that are kept.
 fn find(kept: &[ByteSet], set: &ByteSet) -> Option<usize>
     ensures there { IfSome result (λ number. slice_get kept.now number ≡ Some set.now) }
-    ensures few { IfSome result (λ number. number < 1024) }
+    ensures few { IfSome result (λ number. number < 4096) }
 {
     for number in 0..kept.len().min(MAX_SETS) {
         if kept[number] == *set {

@@ -1,11 +1,14 @@
-use Rattle.std.proofs.Common.{◌≡◌, ◌≤◌, ◌<◌, ◌+◌, ◌-◌, ℕ, List, length, slice_index, true, refl, suc, inl, inr, sym, subst, ◌∙◌, arith}
+use Rattle.std.proofs.Common.{◌≡◌, ◌⊎◌, ◌≤◌, ◌<◌, ◌+◌, ◌-◌, ℕ, List, length, slice_index, true, refl, suc, inl, inr, sym, subst, ◌∙◌, arith}
 use Rattle.hs_nodes.specs.Contexts.{NeedsContexts}
 use Rattle.hs_nodes.specs.Left.{nowhere}
 use Rattle.hs_reports.specs.Marks.{is_marked}
 use Rattle.hs_nodes.specs.Nodes.{IsWellPart}
+use Rattle.hs_nodes.specs.Sparing.{IsSpared}
+use Rattle.hs_nodes.specs.declared.ends.ChunkEnds.{ChunkEnds}
 use Rattle.hs_nodes.specs.declared.table.Node.{Node}
 use Rattle.hs_nodes.proofs.KindLemmas.{one-value, same-default}
 use Rattle.hs_nodes.proofs.NodeLemmas.{marks-none}
+use Rattle.hs_nodes.proofs.SpareLemmas.{literal-there}
 use Rattle.hs_nodes.proofs.WalkLemmas.{IsWalk, there, ticks-all, ticks-grow, ticks-more, walk-takes, walk-to, walk-visit, walk-well}
 use Rattle.hs_nodes.proofs.walking.walk.Goals as goal
 use Rattle.hs_nodes.proofs.walking.walk.Goals.{then-not-is_nowhere, else-not-is_nowhere}
@@ -23,6 +26,11 @@ mark_children-requires-clause-end g c =
     let below : c.in-Some.k < length c.args.table.now.nodes.items = c.loop-k.invariant.walk.more.below c.in-Some.k c.in-Some.ensures.is in
     let next : suc c.in-Some.k ≡ c.in-Some.k + 1 = omega arith in
     subst (λ n. slice_index c.args.table.now.child_starts.items n ≤ length c.args.table.now.children.items) next (c.requires.sound.starts_end c.in-Some.k below)
+
+pub mark_children-requires-clause-literals : goal.mark_children-requires-clause-literals
+mark_children-requires-clause-literals g c child node at =
+    let table = c.args.table.now in
+    literal-there g.E.Engine.meaning table.engines.items node.kind (length c.args.hits.now) (node.end - node.start) (c.requires.sound.kinds child node at)
 
 pub loop-k-preserved : goal.loop-k-preserved
 loop-k-preserved g c =
@@ -50,7 +58,8 @@ loop-k-preserved g c =
         | then-not-is_nowhere w ↦
             subst (λ (ms : List ℕ). IsWalk m table c.args.region.now c.args.marks.now chunk.prev chunk.at chunk.past.now chunk.bytes.now hits c.run_node.new.region c.run_node.new.ends ms (k + 1)) (sym w.marks-is)
             (walk-visit m table c.args.region.now c.args.marks.now chunk.prev chunk.at chunk.past.now chunk.bytes.now hits c.requires.sound chunk.few c.everywhere-all.result c.everywhere-all.ensures c.loop-k.region c.run_node.new.region c.loop-k.ends c.run_node.new.ends c.loop-k.marks w.mark_children.new.marks
-            k (k + 1) refl own.0 own.1 c.in-Some.ensures.is (c.run_node.ensures.runs own.0 own.1) c.run_node.ensures.len w.mark_children.ensures.more (inr (λ j among. subst (λ n. is_marked w.mark_children.new.marks n ≡ true) among.is (w.mark_children.ensures.all among.place among.low (omega (arith, subst (λ n. among.place < slice_index table.child_starts.items n) next among.high))))) here)
+            k (k + 1) refl own.0 own.1 c.in-Some.ensures.is (c.run_node.ensures.runs own.0 own.1) c.run_node.ensures.len w.mark_children.ensures.more (inr (λ j node among at.
+            subst (λ (e : ChunkEnds). (is_marked w.mark_children.new.marks j ≡ true) ⊎ IsSpared node.kind hits (length chunk.bytes.now) e) (same-default c.run_node.new.ends k _ nowhere (omega (arith, below, c.run_node.ensures.ends, inv.ends))) (w.mark_children.ensures.needed j node among at))) here)
         | else-not-is_nowhere w ↦
             subst (λ (ms : List ℕ). IsWalk m table c.args.region.now c.args.marks.now chunk.prev chunk.at chunk.past.now chunk.bytes.now hits c.run_node.new.region c.run_node.new.ends ms (k + 1)) (sym w.marks-is)
             (walk-visit m table c.args.region.now c.args.marks.now chunk.prev chunk.at chunk.past.now chunk.bytes.now hits c.requires.sound chunk.few c.everywhere-all.result c.everywhere-all.ensures c.loop-k.region c.run_node.new.region c.loop-k.ends c.run_node.new.ends c.loop-k.marks c.loop-k.marks
