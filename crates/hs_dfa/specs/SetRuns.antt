@@ -31,8 +31,8 @@ pub record IsSetBehind (d : SetDfa) (region : List ℕ) (prev : Prev) (at : ℕ)
   pub behind : prev ≡ prev_at u (length u)
   pub field : IsField region (write_out tree) u entered
 
--- The region goes from the old set to the new one, from state to state, a step for each byte. For each stream of the old
--- one these are the fields behind its bytes, and the words of the ends tell where the expression is left.
+-- The region goes from the old set to the new one, from state to state, a step for each byte. For each stream of the
+-- old one these are the fields behind its bytes, and the words of the ends tell where the expression is left.
 pub record IsSetRun (d : SetDfa) (old new : List ℕ) (prev : Prev) (at : ℕ) (bytes : List ℕ) (ends : BlockEnds)
     (steps_old steps_new : ℕ) : Type 0 where
   pub ticks : steps_new ≡ steps_old + length bytes

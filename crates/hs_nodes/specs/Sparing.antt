@@ -8,8 +8,8 @@ use Rattle.hs_nodes.specs.declared.hits.ChunkHits.{ChunkHits}
 use Rattle.hs_nodes.specs.declared.table.NodeKind.{NodeKind}
 use Rattle.hs_nodes.specs.declared.table.NodeKind.TheVariants.{Engine, Literal, FirstLiteral, LookBack}
 
--- The ends tell of none of the last so many bytes of a chunk: the pieces are left before none of these. So no literal of
--- so many bytes that was entered in the chunk goes on behind it.
+-- The ends tell of none of the last so many bytes of a chunk: the pieces are left before none of these. So no literal
+-- of so many bytes that was entered in the chunk goes on behind it.
 abbrev pub AreQuiet : (last count : ℕ) → ChunkEnds → Type 0
 AreQuiet last count ends = (i : ℕ) → i < count → count ≤ i + last → has_word_bit ends.before i ≡ false
 

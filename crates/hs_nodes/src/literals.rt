@@ -96,8 +96,8 @@ fn last_entries(len: usize, enters: &ChunkEnds, count: usize) -> u64
     entries_from(len, enters.before[last], carry, count - BLOCK_BYTES * last)
 }
 
-/// Takes a chunk by a literal of which the bytes tell the entries. Where it ends nowhere, it is left nowhere, and of its
-/// entries those before the last bytes of the chunk alone count.
+/// Takes a chunk by a literal of which the bytes tell the entries. Where it ends nowhere, it is left nowhere, and of
+/// its entries those before the last bytes of the chunk alone count.
 pub(crate) fn run_literal_part(
     len: usize,
     part: &mut [u8],

@@ -127,8 +127,8 @@ pub fn mark_all(numbers: &[u32], from: usize, end: usize, marks: &mut MarkSet)
     }
 }
 
-/// Whether a node of that kind, in which nothing is live, needs no run, where its parent is left before none of the last
-/// so many bytes of a chunk: it is a literal of no more bytes, which ends nowhere in the chunk.
+/// Whether a node of that kind, in which nothing is live, needs no run, where its parent is left before none of the
+/// last so many bytes of a chunk: it is a literal of no more bytes, which ends nowhere in the chunk.
 fn is_spared(kind: NodeKind, hits: &[ChunkHits], quiet: usize) -> bool
     requires { IsLiteralThere (length hits.now) kind }
     ensures { (count : ℕ) (enters : ChunkEnds) → AreQuiet quiet count enters → result ≡ true →
