@@ -1,5 +1,6 @@
 -- A block by the numbers of states.
-use Rattle.std.proofs.Common.{◌≡◌, ℕ, ◌+◌, ◌<◌, ◌≤◌, Bool, true, false, ◌&&◌, ◌||◌, List, [], ◌∷◌, ◌++◌, length, get_or, eqb, Some, slice_get, refl, sym, ap, subst, ◌∙◌, arith, vec_len}
+use Rattle.std.proofs.Common.{◌≡◌, ℕ, zero, suc, ◌+◌, ◌-◌, ◌<◌, ◌≤◌, Bool, true, false, nat_lt, ◌&&◌, ◌||◌, List, [], ◌∷◌, ◌++◌, length, get_or, eqb, Some, slice_get, refl, sym, ap, subst, ◌∙◌, arith, vec_len}
+use Rattle.hs_base.specs.declared.context.Next.{Next}
 use Rattle.hs_base.specs.declared.context.Next.TheVariants as after
 use Rattle.hs_base.specs.declared.context.Prev.{Prev}
 use Rattle.hs_base.specs.Assertions.{line_feed, is_word_byte}
@@ -11,6 +12,8 @@ use Rattle.hs_block.specs.declared.engine.BlockEnds.{BlockEnds}
 use Rattle.hs_block.specs.Blocks.{IsBlockRun, IsEnteredThroughout}
 use Rattle.hs_block.specs.Progress.{IsRunTo}
 use Rattle.hs_block.specs.Rests.{is_busy_at}
+use Rattle.std.specs.Int.{bit_at}
+use Rattle.hs_bits.proofs.PlaceLemmas.{less-is}
 use Rattle.hs_bits.specs.WordBits.{word_bit}
 use Rattle.hs_block.proofs.RunLemmas.{entered-busy, one-step, run-all, run-more, run-none}
 use Rattle.hs_dfa.specs.DfaEngines.{IsNumberOf, meaning_of_dfa, next_number}
@@ -81,6 +84,42 @@ so_far-more d region prev at enters bytes place number ends end next before' beh
       });
     }
 
+-- bytes that keep a state which tells no end
+so_far-stay : (d : Dfa) (region : List ℕ) (prev : Prev) (at enters : ℕ) (bytes : List ℕ) (place number : ℕ) (ends : BlockEnds) →
+    IsRunSoFar d region prev at enters bytes place number ends → place < length bytes → get_or bytes place 0 < 256 → IsEnteredThroughout (meaning_of_dfa d) enters (length bytes) →
+    next_number d number (get_or bytes place 0) ≡ number → ((e : StateEnd) → slice_get d.ends.items number ≡ Some e → (next : Next) → has_next e.accepts next ≡ false) →
+    IsRunSoFar d region prev at enters bytes (place + 1) number ends
+so_far-stay d region prev at enters bytes place number ends so within small throughout stays silent =
+    so_far-more d region prev at enters bytes place number ends so.end number ends.before ends.behind false false so within small throughout (sym stays) so.below so.there
+    (λ e there. sym (silent e there (class_of (get_or bytes place 0)))) (sym (silent so.end so.there after.Unknown)) (λ j. same-bit (eqb j place) (word_bit ends.before j)) (λ j. same-bit (eqb j place) (word_bit ends.behind j))
+  where
+    same-bit : (e b : Bool) → b ≡ ((e && false) || b)
+    same-bit true b = refl
+    same-bit false b = refl
+
+pub so_far-stays : (d : Dfa) (region : List ℕ) (prev : Prev) (at enters : ℕ) (bytes : List ℕ) (more place number : ℕ) (ends : BlockEnds) →
+    IsRunSoFar d region prev at enters bytes place number ends → more + place ≤ length bytes → ((i : ℕ) → get_or bytes i 0 < 256) → IsEnteredThroughout (meaning_of_dfa d) enters (length bytes) →
+    ((i : ℕ) → place ≤ i → i < more + place → next_number d number (get_or bytes i 0) ≡ number) →
+    ((e : StateEnd) → slice_get d.ends.items number ≡ Some e → place < more + place → (next : Next) → has_next e.accepts next ≡ false) → IsRunSoFar d region prev at enters bytes (more + place) number ends
+so_far-stays d region prev at enters bytes zero place number ends so within small throughout stays silent =
+    subst (λ p. IsRunSoFar d region prev at enters bytes p number ends) (let e : place ≡ 0 + place = omega arith in e) so
+so_far-stays d region prev at enters bytes (suc more) place number ends so within small throughout stays silent =
+    let e : (more + place) + 1 ≡ suc more + place = omega arith in
+    subst (λ p. IsRunSoFar d region prev at enters bytes p number ends) e
+    (so_far-stay d region prev at enters bytes (more + place) number ends
+    (so_far-stays d region prev at enters bytes more place number ends so (omega (arith, within)) small throughout (λ i low high. stays i low (omega (arith, high))) (λ e there some. silent e there (omega arith))) (omega (arith, within))
+    (small (more + place)) throughout (stays (more + place) (omega arith) (omega arith)) (λ e there. silent e there (omega arith)))
+
+-- as far as the next byte that leads to another state
+pub so_far-next_in : (d : Dfa) (region : List ℕ) (prev : Prev) (at enters : ℕ) (bytes : List ℕ) (place to number : ℕ) (ends : BlockEnds) →
+    IsRunSoFar d region prev at enters bytes place number ends → place ≤ to → to ≤ length bytes → ((i : ℕ) → get_or bytes i 0 < 256) → IsEnteredThroughout (meaning_of_dfa d) enters (length bytes) →
+    ((i : ℕ) → place ≤ i → i < to → next_number d number (get_or bytes i 0) ≡ number) →
+    ((e : StateEnd) → slice_get d.ends.items number ≡ Some e → place < to → (next : Next) → has_next e.accepts next ≡ false) → IsRunSoFar d region prev at enters bytes to number ends
+so_far-next_in d region prev at enters bytes place to number ends so low high small throughout stays silent =
+    let e : (to - place) + place ≡ to = omega (arith, low) in
+    subst (λ p. IsRunSoFar d region prev at enters bytes p number ends) e
+    (so_far-stays d region prev at enters bytes (to - place) place number ends so (omega (arith, e, high)) small throughout (λ i below above. stays i below (omega (arith, e, above))) (λ z there some. silent z there (omega (arith, e, some))))
+
 pub so_far-all : (d : Dfa) (region : List ℕ) (prev : Prev) (at enters : ℕ) (bytes : List ℕ) (place number : ℕ) (ends : BlockEnds) → IsRunSoFar d region prev at enters bytes place number ends → length bytes ≤ place →
     IsBlockRun (meaning_of_dfa d) region (number ∷ []) prev at enters bytes ends place
 so_far-all d region prev at enters bytes place number ends so all =
@@ -90,3 +129,8 @@ pub one-region : (region : List ℕ) → length region ≡ 1 → region ≡ get_
 one-region [] len = absurd (omega arith)
 one-region (x ∷ []) len = refl
 one-region (x ∷ y ∷ region) len = absurd (omega arith)
+
+-- a place that isn't marked has a byte outside of the set
+pub unset-outside : (word i n : ℕ) (b : Bool) → i < n → eqb (bit_at word i) 1 ≡ (nat_lt i n && b) → word_bit word i ≡ false → b ≡ false
+unfolding word_bit
+unset-outside word i n b below is unset = sym (is ∙ ap (λ t. t && b) (less-is i n below)) ∙ unset

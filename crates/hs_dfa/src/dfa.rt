@@ -5,19 +5,24 @@ ghost use Rattle.std.specs.Prelude.{EachIndex, Some, slice_get, slice_index, vec
 ghost use Rattle.hs_base.specs.ByteSets.{has};
 ghost use Rattle.hs_base.specs.Contexts.{class_of};
 ghost use Rattle.hs_base.specs.ContextSets.{has_next};
+ghost use Rattle.hs_base.specs.declared.context.Next.{Next};
+ghost use Rattle.hs_engine.specs.Automata.{in_set};
 
 use crate::state_ends::{StateEnd, ends_of};
 use hs_base::{ByteSet, Next, NextSet, Prev};
-use hs_bits::with_place;
+use hs_bits::{member_places, next_place, with_place};
 use hs_block::{BlockEnds, BlockEngine, run_by_steps};
 use hs_engine::{Automaton, Engine, Steps};
 use hs_states::{ByteClasses, CLASSED_BYTES, Subsets};
 use std::alloc::{AllocError, Global};
 use std::sync::ledger::Ledger;
 
+/// How many bytes in a row keep a state before the next one that doesn't is looked for by lanes.
+const LONG_STAY: usize = 8;
+
 /// Runs an expression that is entered before every byte, by its states: a step is two reads of tables, and over a block
 /// two more tell for each byte where the expression is left. It takes 256 bytes for the classes of bytes, a byte for
-/// each state and class, and two bytes for each state.
+/// each state and class, and 34 bytes for each state.
 #[derive(Debug, Drop)]
 pub struct Dfa {
     /// The class of each byte.
@@ -30,6 +35,8 @@ pub struct Dfa {
     ends: Vec<StateEnd>,
     /// The bytes that lead from the first state to another.
     wakers: ByteSet,
+    /// For each state the bytes that lead from it to another.
+    leaving: Vec<ByteSet>,
     /// Whether states keep what stands before.
     has_assertion: bool,
     ghost some: { 0 < vec_len ends },
@@ -38,6 +45,9 @@ pub struct Dfa {
     ghost whole: { vec_len rows ≡ vec_len ends * class_count },
     ghost class_within: { (b : ℕ) → b < 256 → slice_index classes b < class_count },
     ghost row_within: { EachIndex rows.items (λ k. slice_index rows.items k < vec_len ends) },
+    ghost leaving_all: { vec_len leaving ≡ vec_len ends },
+    ghost leaving_are: { (n b : ℕ) → n < vec_len ends → b < 256 → in_set (slice_get leaving.items n) b ≡ false →
+        slice_index rows.items (n * class_count + slice_index classes b) ≡ n },
     ghost wakers_are: { (b : ℕ) → b < 256 → has wakers b ≡ false → slice_index rows.items (slice_index classes b) ≡ 0 },
 }
 
@@ -84,12 +94,15 @@ impl Dfa {
     {
         let ends = ends_of(alloc, automaton, &subsets.known)?;
         let wakers = wakers_of(&classes.classes, &subsets.rows);
+        let count = classes.footings.len();
+        let leaving = leaving_of(alloc, &classes.classes, count, &subsets.rows, ends.len())?;
         Ok(Dfa {
             classes: classes.classes,
-            class_count: classes.footings.len(),
+            class_count: count,
             rows: subsets.rows,
             ends,
             wakers,
+            leaving,
             has_assertion: automaton.has_assertion(),
         })
     }
@@ -124,6 +137,41 @@ impl Dfa {
         accepts != NextSet::empty() && accepts.contains(Next::class_of(byte))
     }
 
+    /// The place of the next byte from that one on that leads to another state, or the end, where so many bytes in a row
+    /// have kept the state and it tells no end. Elsewhere that place itself.
+    #[inline(always)]
+    fn next_in(&self, number: u8, kept: usize, bytes: &[u8], place: usize) -> usize
+        requires number { number < vec_len self.now.ends }
+        requires place { place ≤ length bytes.now }
+        requires few { length bytes.now ≤ 64 }
+        ensures low { place ≤ result }
+        ensures high { result ≤ length bytes.now }
+        ensures silent { (end : StateEnd) → slice_get self.now.ends.items number ≡ Some end → place < result →
+            (next : Next) → has_next end.accepts next ≡ false }
+        ensures stays { (i : ℕ) → place ≤ i → i < result →
+            next_number self.now number (slice_index bytes.now i) ≡ number }
+    {
+        if kept < LONG_STAY || self.ends[number as usize].accepts != NextSet::empty() {
+            return place;
+        }
+        self.stay(number, bytes, place)
+    }
+
+    /// The place of the next byte from that one on that leads to another state, or the end.
+    #[inline(never)]
+    fn stay(&self, number: u8, bytes: &[u8], place: usize) -> usize
+        requires number { number < vec_len self.now.ends }
+        requires place { place ≤ length bytes.now }
+        requires few { length bytes.now ≤ 64 }
+        ensures low { place ≤ result }
+        ensures high { result ≤ length bytes.now }
+        ensures stays { (i : ℕ) → place ≤ i → i < result →
+            next_number self.now number (slice_index bytes.now i) ≡ number }
+    {
+        let leaving = member_places(&self.leaving[number as usize], bytes);
+        next_place(leaving, place, bytes.len())
+    }
+
     /// Whether no position is live in the state of the region.
     pub fn is_empty_at(&self, region: &[u8]) -> bool
         requires len { length region.now ≡ 1 }
@@ -146,6 +194,62 @@ fn wakers_of(classes: &[u8; CLASSED_BYTES], rows: &[u8]) -> ByteSet
         }
     }
     wakers
+}
+
+/// For each of so many states the bytes whose class leads from it to another.
+fn leaving_of(
+    alloc: Global,
+    classes: &[u8; CLASSED_BYTES],
+    class_count: usize,
+    rows: &[u8],
+    states: usize,
+) -> Result<Vec<ByteSet>, AllocError>
+    requires few { states ≤ 255 }
+    requires few_classes { class_count ≤ 256 }
+    requires rows { (n b : ℕ) → n < states → b < 256 →
+        n * class_count + slice_index classes.now b < length rows.now }
+    ensures count { IfOk result (λ all. vec_len all ≡ states) }
+    ensures each { IfOk result (λ all. (n b : ℕ) → n < states → b < 256 →
+        in_set (slice_get all.items n) b ≡ false →
+        slice_index rows.now (n * class_count + slice_index classes.now b) ≡ n) }
+{
+    let mut all = Vec::new(alloc);
+    for number in 0..states {
+        all.push(leaving_from(classes, class_count, rows, number))?;
+    }
+    Ok(all)
+}
+
+/// The bytes whose class leads from the state of that number to another.
+fn leaving_from(
+    classes: &[u8; CLASSED_BYTES],
+    class_count: usize,
+    rows: &[u8],
+    number: usize,
+) -> ByteSet
+    requires few { number < 255 }
+    requires few_classes { class_count ≤ 256 }
+    requires row { (b : ℕ) → b < 256 → number * class_count + slice_index classes.now b < length rows.now }
+    ensures { (b : ℕ) → b < 256 → has result b ≡ false →
+        slice_index rows.now (number * class_count + slice_index classes.now b) ≡ number }
+{
+    let mut leaving = ByteSet::EMPTY;
+    for byte in 0..CLASSED_BYTES {
+        let class = classes[byte] as usize;
+        if rows[number * class_count + class] as usize != number {
+            leaving.insert(byte as u8);
+        }
+    }
+    leaving
+}
+
+/// How many bytes in a row have kept the state, as far as that counts.
+#[inline(always)]
+fn count_kept(kept: usize, keeps: bool) -> usize
+    requires { kept ≤ 8 }
+    ensures { result ≤ 8 }
+{
+    if keeps { (kept + 1).min(LONG_STAY) } else { 0 }
 }
 
 impl Engine for Dfa {
@@ -212,13 +316,18 @@ impl BlockEngine for Dfa {
             before: 0,
             behind: 0,
         };
-        for place in 0..bytes.len() {
+        let mut place = 0;
+        let mut kept = 0;
+        while place < bytes.len() {
             let byte = bytes[place];
             let ending = self.is_left_before(number, byte);
             ends.before = with_place(ends.before, place, ending);
-            number = self.next(number, byte);
-            let ended = self.ends[number as usize].accepts.contains(Next::Unknown);
+            let next = self.next(number, byte);
+            let ended = self.ends[next as usize].accepts.contains(Next::Unknown);
             ends.behind = with_place(ends.behind, place, ended);
+            kept = count_kept(kept, next == number);
+            number = next;
+            place = self.next_in(number, kept, bytes, place + 1);
         }
         region[0] = number;
         steps.tick_by(bytes.len() as u64);

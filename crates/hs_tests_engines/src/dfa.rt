@@ -1,5 +1,5 @@
 //! How many states expressions have, counted by hand, and their engine beside `Limex`. It is `#[cfg(test)]`.
-ghost use Rattle.std.specs.Prelude.{◌≡◌, ◌≤◌, ◌<◌, ◌^◌, length};
+ghost use Rattle.std.specs.Prelude.{◌≡◌, ◌≤◌, ◌<◌, ◌^◌, false, length};
 
 use hs_base::{Assertion, ByteSet, NextSet, Prev};
 use hs_block::{BlockEnds, run_by_steps};
@@ -203,47 +203,59 @@ fn taken_by_sets<L: Ledger>(
     }
 }
 
-/// The same byte by byte, entered before each.
-fn taken_by_steps<L: Ledger>(
-    alloc: Global,
-    limex: &Limex,
+/// The same, with a ledger of its own.
+fn by_sets(alloc: Global, sets: &SetDfa, text: &[u8]) -> Result<Option<Taken>, AllocError>
+    requires { length text.now ≤ 64 }
+{
+    let blank = Blank::new(1);
+    taken_by_sets::<Brand>(alloc, sets, text, blank)
+}
+
+/// Takes the text byte by byte as the first block of a stream, entered before each.
+fn block_by_steps<E: Engine, L: Ledger>(
+    engine: &E,
+    region: &mut [u8],
     text: &[u8],
     blank: Blank,
-) -> Result<Taken, AllocError>
+) -> BlockEnds
+    requires region { length region.old ≡ (E.meaning engine.now).width }
+    requires listed { (E.meaning engine.now).always ≡ false }
     requires text { length text.now ≤ 64 }
     requires name { blank.name ≡ L.name }
     requires parts { blank.parts ≡ L.parts }
     requires some { 0 < L.parts }
 {
     let mut steps = Steps::<L>::open(blank);
+    engine.clear(region);
+    run_by_steps(engine, region, Prev::Start, 0, u64::MAX, text, &mut steps)
+}
+
+/// The same, with a region and a ledger of its own.
+fn by_steps(alloc: Global, limex: &Limex, text: &[u8]) -> Result<Taken, AllocError>
+    requires { length text.now ≤ 64 }
+{
     let mut region = vec![in alloc; 0xffu8; limex.size()]?;
-    limex.clear(&mut region);
-    let ends = run_by_steps(
-        limex,
-        &mut region,
-        Prev::Start,
-        0,
-        u64::MAX,
-        text,
-        &mut steps,
-    );
+    let blank = Blank::new(1);
+    let ends = block_by_steps::<Limex, Brand>(limex, &mut region, text, blank);
     Ok((ends, region))
 }
 
-/// Whether the states over sets tell and leave of each text of five bytes what the positions do.
+/// Whether the states over sets tell and leave of the text what the positions do.
+fn agree_over(alloc: Global, sets: &SetDfa, limex: &Limex, text: &[u8]) -> Result<bool, AllocError>
+    requires { length text.now ≤ 64 }
+{
+    let wanted = by_steps(alloc, limex, text)?;
+    match by_sets(alloc, sets, text)? {
+        Some(found) => Ok(found.0 == wanted.0 && found.1.as_slice() == wanted.1.as_slice()),
+        None => Ok(false),
+    }
+}
+
+/// Whether they do so of each text of five bytes.
 fn agree_over_sets(alloc: Global, sets: &SetDfa, limex: &Limex) -> Result<bool, AllocError> {
     for number in 0..1024 {
-        let text = text_of(number);
-        let by_steps = taken_by_steps::<Brand>(alloc, limex, &text, Blank::new(1))?;
-        match taken_by_sets::<Brand>(alloc, sets, &text, Blank::new(1))? {
-            Some(by_sets) => {
-                if by_sets.0 != by_steps.0 || by_sets.1.as_slice() != by_steps.1.as_slice() {
-                    return Ok(false);
-                }
-            }
-            None => {
-                return Ok(false);
-            }
+        if !agree_over(alloc, sets, limex, &text_of(number))? {
+            return Ok(false);
         }
     }
     Ok(true)
