@@ -137,8 +137,8 @@ impl Dfa {
         accepts != NextSet::empty() && accepts.contains(Next::class_of(byte))
     }
 
-    /// The place of the next byte from that one on that leads to another state, or the end, where so many bytes in a row
-    /// have kept the state and it tells no end. Elsewhere that place itself.
+    /// The place of the next byte from that one on that leads to another state, or the end, where so many bytes in a
+    /// row have kept the state and it tells no end. Elsewhere that place itself.
     #[inline(always)]
     fn next_in(&self, number: u8, kept: usize, bytes: &[u8], place: usize) -> usize
         requires number { number < vec_len self.now.ends }
