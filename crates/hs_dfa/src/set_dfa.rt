@@ -1,10 +1,13 @@
 //! The engine over states whose regions are sets of positions.
 
-ghost use Rattle.std.specs.Prelude.{◌≡◌, ◌+◌, ◌^◌, ◌<◌, ◌≤◌, None, IfOk, IfSome, length};
+ghost use Rattle.std.specs.Prelude.{◌≡◌, ◌↔◌, ◌+◌, ◌*◌, ◌^◌, ◌<◌, ◌≤◌, None, IfOk, IfSome, IsTrue, length, vec_len};
 ghost use Rattle.hs_states.specs.StateSets.{set_bytes, set_width, state_count};
+ghost use Rattle.hs_engine.specs.Tables.{IsClearFrom};
+ghost use Rattle.hs_dfa.specs.ClearSets.{AreClear};
 
 use crate::dfa::Dfa;
 use hs_base::Prev;
+use hs_bits::{BYTE_BITS, has_bit_in};
 use hs_block::{BlockEnds, BlockEngine};
 use hs_engine::{Automaton, Steps};
 use hs_states::StateSets;
@@ -19,6 +22,10 @@ pub struct SetDfa {
     dfa: Dfa,
     /// The sets of the same states.
     sets: StateSets,
+    /// How many positions there are.
+    size: usize,
+    ghost same: { state_count sets ≡ vec_len dfa.ends },
+    ghost clear: { AreClear sets size },
 }
 
 impl SetDfa {
@@ -41,7 +48,12 @@ impl SetDfa {
         let Some(sets) = StateSets::build(alloc, automaton)? else {
             return Ok(None);
         };
-        Ok(Some(SetDfa { dfa, sets }))
+        let size = automaton.size();
+        // Both are always so.
+        if sets.count() != dfa.state_count() || !are_clear(&sets, size) {
+            return Ok(None);
+        }
+        Ok(Some(SetDfa { dfa, sets, size }))
     }
 
     /// How many bytes a region has.
@@ -51,8 +63,8 @@ impl SetDfa {
         self.sets.width()
     }
 
-    /// Takes a block behind `prev`, before each byte of which the expression is entered. None where the region is the
-    /// set of no state: all is then as before.
+    /// Takes a block behind `prev`, before each byte of which the expression is entered. None exactly where the region
+    /// is the set of no state that has this before it: all is then as before.
     pub fn run<L: Ledger>(
         &self,
         region: &mut [u8],
@@ -70,23 +82,33 @@ impl SetDfa {
         let Some(number) = self.sets.number_of(region, prev) else {
             return None;
         };
-        if number as usize >= self.dfa.state_count() {
-            return None;
-        }
         let mut state = [number];
         let ends = self.dfa.run(&mut state, prev, at, u64::MAX, bytes, steps);
-        keep_set(&self.sets, state[0], region);
+        region.copy_from_slice(self.sets.set(state[0]));
         Some(ends)
     }
 }
 
-/// Makes the region the set of the state of that number, if there is one.
-fn keep_set(sets: &StateSets, number: u8, region: &mut [u8])
-    requires { length region.old ≡ set_width sets.now }
-    ensures len { length region.new ≡ length region.old }
-    ensures set { number < state_count sets.now → region.new ≡ set_bytes sets.now number }
+/// Whether no set has a bit behind those of so many positions.
+fn are_clear(sets: &StateSets, size: usize) -> bool
+    ensures { IsTrue result ↔ AreClear sets.now size }
 {
-    if (number as usize) < sets.count() {
-        region.copy_from_slice(sets.set(number));
+    if size > BYTE_BITS * sets.width() {
+        return false;
     }
+    for number in 0..sets.count() {
+        if !is_clear_from(sets.set(number as u8), size) {
+            return false;
+        }
+    }
+    true
+}
+
+/// Whether no bit from that one on is set.
+fn is_clear_from(set: &[u8], first: usize) -> bool
+    requires room { first ≤ 8 * length set.now }
+    requires small { 8 * length set.now < 2 ^ 64 }
+    ensures { IsTrue result ↔ IsClearFrom set.now first }
+{
+    !has_bit_in(set, first, BYTE_BITS * set.len())
 }
