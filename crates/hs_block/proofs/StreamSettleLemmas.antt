@@ -213,18 +213,25 @@ pub some-map : {P Q : ℕ → Type 0} (found : Option ℕ) → ((word : ℕ) →
 some-map None onward is = is
 some-map (Some word) onward is = onward word is
 
+-- the places at which it is entered in a context of a mask; where it is entered nowhere, none
+pub entered-bit : (enters : ℕ) (allowed : ℕ) (In : ℕ → Bool) → ((i : ℕ) → i < 64 → word_bit allowed i ≡ In i) → (i : ℕ) → i < 64 → word_bit (bit_and enters allowed) i ≡ (word_bit enters i && In i)
+entered-bit enters allowed In is i small = bit-both enters allowed i ∙ ap (λ b. word_bit enters i && b) (is i small)
+
+pub entered-nowhere : (enters : ℕ) (In : ℕ → Bool) → enters ≡ 0 → (i : ℕ) → word_bit 0 i ≡ (word_bit enters i && In i)
+entered-nowhere enters In none i = subst (λ w. word_bit 0 i ≡ (word_bit w i && In i)) (sym none) (bit-none i ∙ sym (ap (λ b. b && In i) (bit-none i)))
+
 -- where a position is reached
-pub reached-bit : (s : Streams) (prev : Prev) (state : List ℕ) (enters : ℕ) (whole words : List ℕ) (x : ℕ) (mask : Mask) (allowed led : ℕ) → slice_get s.enters.items x ≡ Some mask →
-    ((i : ℕ) → i < 64 → word_bit allowed i ≡ has_context mask (context_before prev whole i)) →
+pub reached-bit : (s : Streams) (prev : Prev) (state : List ℕ) (enters : ℕ) (whole words : List ℕ) (x : ℕ) (mask : Mask) (entered led : ℕ) → slice_get s.enters.items x ≡ Some mask →
+    ((i : ℕ) → i < 64 → word_bit entered i ≡ (word_bit enters i && has_context mask (context_before prev whole i))) →
     ((i : ℕ) → i < 64 → word_bit led i ≡ any_below s.size (λ y. live_at (has_word_bit state) words i y && comes_before s x y (context_before prev whole i))) → (i : ℕ) → i < 64 →
-    word_bit (bit_or (bit_and enters allowed) led) i
+    word_bit (bit_or entered led) i
     ≡ ((word_bit enters i && in_mask (slice_get s.enters.items x) (context_before prev whole i))
     || any_below s.size (λ y. live_at (has_word_bit state) words i y && comes_before s x y (context_before prev whole i)))
-reached-bit s prev state enters whole words x mask allowed led at allowed_is led_is i small =
-    bit-either (bit_and enters allowed) led i
-    ∙ (ap (λ b. word_bit (bit_and enters allowed) i || b) (led_is i small)
+reached-bit s prev state enters whole words x mask entered led at entered_is led_is i small =
+    bit-either entered led i
+    ∙ (ap (λ b. word_bit entered i || b) (led_is i small)
     ∙ ap (λ b. b || any_below s.size (λ y. live_at (has_word_bit state) words i y && comes_before s x y (context_before prev whole i)))
-    (bit-both enters allowed i ∙ ap (λ b. word_bit enters i && b) (allowed_is i small ∙ sym (ap (λ o. in_mask o (context_before prev whole i)) at))))
+    (entered_is i small ∙ ap (λ b. word_bit enters i && b) (sym (ap (λ o. in_mask o (context_before prev whole i)) at))))
 
 -- where a position accepts
 abbrev pub Accepts : Streams → (state : List ℕ) (words : List ℕ) (place : ℕ) → Context → (position : ℕ) → Bool

@@ -15,6 +15,7 @@ ghost use Rattle.std.specs.Prelude.{List, length, nat_lt, set, slice_get, slice_
 ghost use Rattle.hs_engine.specs.AnyBelow.{any_below};
 ghost use Rattle.hs_base.specs.Bits.{AreZero, has_bit, has_word_bit, word_count};
 ghost use Rattle.hs_base.specs.Contexts.{Context};
+ghost use Rattle.hs_base.specs.ContextSets.{has_context};
 ghost use Rattle.hs_engine.specs.Automata.{in_mask, in_set};
 ghost use Rattle.hs_bits.specs.BlockContexts.{AreMade, context_before, context_behind};
 ghost use Rattle.hs_block.specs.Rows.{live_at};
@@ -38,6 +39,10 @@ use std::sync::ledger::Ledger;
 
 /// How many positions there may be.
 pub const MAX_STREAMS: usize = MAX_WIDTH * WORD_BITS;
+/// How many words of a row still ask for fewer words of positions.
+const MIDDLE_WIDTH: usize = 3;
+/// How many words of positions there are then.
+const MIDDLE_STREAMS: usize = MIDDLE_WIDTH * WORD_BITS;
 /// How many words are made for each position until all are given up: so often a group may come round in a block.
 const ROUNDS: usize = 8;
 
@@ -261,7 +266,7 @@ impl Streams {
         }
     }
 
-    /// Takes them by as many words as there may be.
+    /// Takes them by as many words as there may be, or by those of a middle width, which are made sooner.
     #[inline(never)]
     fn take_wide<L: Ledger>(
         &self,
@@ -283,6 +288,10 @@ impl Streams {
         ensures { IsTried self.now entry.now.prev region.old region.new entry.now.enters whole.now count result
             steps.old steps.new }
     {
+        if self.width <= MIDDLE_WIDTH {
+            let mut words = [0u64; MIDDLE_STREAMS];
+            return self.take(region, entry, whole, count, first, &mut words, steps);
+        }
         let mut words = [0u64; MAX_STREAMS];
         self.take(region, entry, whole, count, first, &mut words, steps)
     }
@@ -479,9 +488,9 @@ impl Streams {
             ≡ is_next (stream_rules self.now entry.now.prev entry.now.enters whole.now) i
             (live_at (has_word_bit entry.now.state) (set words.now position word) i) position) }
     {
-        let allowed = mask_before(entry.contexts, entry.prev, whole, self.enters[position]);
+        let entered = entered_places(entry, whole, self.enters[position]);
         let arrivals = self.arrivals(position, entry, whole, words, live);
-        let reached = (entry.enters & allowed) | arrivals.led;
+        let reached = entered | arrivals.led;
         if reached == 0 {
             return Some(0);
         }
@@ -683,6 +692,20 @@ impl Streams {
         let word = united_rows(words, row_at(live, self.width, 0), live);
         low_places(count) & (entry.enters | one_later(word, !blank))
     }
+}
+
+/// The places of a block at which the expression is entered in a context of the mask.
+#[inline(always)]
+fn entered_places(entry: &Entry, whole: &[u8], mask: Mask) -> u64
+    requires whole { length whole.now ≡ 64 }
+    requires made { AreMade entry.now.contexts entry.now.prev whole.now }
+    ensures { (i : ℕ) → i < 64 → word_bit result i
+        ≡ (word_bit entry.now.enters i && has_context mask (context_before entry.now.prev whole.now i)) }
+{
+    if entry.enters == 0 {
+        return 0;
+    }
+    entry.enters & mask_before(entry.contexts, entry.prev, whole, mask)
 }
 
 /// Where positions that are live lead to one by a row of those that may come before it, and where it may follow itself.

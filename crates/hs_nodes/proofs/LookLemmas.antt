@@ -1,6 +1,6 @@
 -- An engine over the last bytes, where it was at rest before.
 use Rattle.std.proofs.Common.{◌≡◌, ℕ, zero, suc, ◌+◌, ◌-◌, ◌<◌, ◌≤◌, ◌⊎◌, ◌↔◌, Bool, true, false, ◌||◌, List, [], ◌∷◌, ◌++◌, length, get_or, replicate, take, drop, slice_index, eqb, Some, None, refl, sym, ap, subst, ◌∙◌, inl, inr, arith, length-append, length-drop, append_assoc}
-use Rattle.std.proofs.lemmas.List.{length-map, map-append, append-nil, take_more, length-take-le, take-append-drop, length-replicate, get_or-drop, get_or-append-add}
+use Rattle.std.proofs.lemmas.List.{length-map, map-append, append-nil, take_more, length-take-le, take-append-drop, length-replicate, get_or-drop, get_or-take, get_or-append-add}
 use Rattle.std.proofs.lemmas.Option.{slice_get-get_or}
 use Rattle.std.proofs.Math.Seq.{take-add}
 use Rattle.hs_base.specs.declared.context.Mask.{Mask}
@@ -15,15 +15,19 @@ use Rattle.hs_base.specs.Fields.{entered_always}
 use Rattle.hs_base.specs.Leaving.{IsAtMostWide, IsEmptyAt, LeavesAt, LeavesBehind, entered_never}
 use Rattle.hs_base.specs.Lists.{Each}
 use Rattle.hs_base.specs.Trees.{Tree}
+use Rattle.hs_base.proofs.BitLemmas.{same-places}
 use Rattle.hs_base.proofs.BitOnceLemmas.{each-below}
 use Rattle.hs_base.proofs.ChainStreamLemmas.{last-leaves, leaves-last, leaving-begins}
 use Rattle.hs_base.proofs.EntryLemmas.{window-enough}
 use Rattle.hs_base.proofs.StreamContexts.{prev-append}
+use Rattle.hs_bits.specs.WordBits.{AreSet, bits_of}
+use Rattle.hs_block.specs.Blocks.{IsFieldOf}
 use Rattle.hs_engine.specs.Engines.{Meaning, IsAsleep, IsQuiet, IsStart, TakesByte, TellsLeaves}
 use Rattle.hs_nodes.specs.Blocks.{IsPast, prev_by_count}
 use Rattle.hs_nodes.specs.Contexts.{IsNull}
-use Rattle.hs_nodes.specs.LookBacks.{IsRunBack}
+use Rattle.hs_nodes.specs.LookBacks.{IsRunBack, IsStream}
 use Rattle.hs_nodes.specs.Nodes.{window_size}
+use Rattle.hs_nodes.proofs.StartingLemmas.{bits-all}
 
 never-push : (u : List ℕ) (b : ℕ) → entered_never (u ++ b ∷ []) ≡ entered_never u ++ false ∷ []
 never-push u b = map-append (λ b. false) u (b ∷ [])
@@ -39,6 +43,20 @@ always-size u = length-map u (λ b. true)
 
 take-next : (v : List ℕ) (k : ℕ) → k < length v → take (suc k) v ≡ take k v ++ get_or v k 0 ∷ []
 take-next v k below = let e : suc k ≡ k + 1 = omega arith in ap (λ n. take n v) e ∙ take_more v k 0 below
+
+always-all : (xs : List ℕ) → entered_always xs ≡ replicate (length xs) true
+always-all [] = refl
+always-all (x ∷ xs) = ap (λ es. true ∷ es) (always-all xs)
+
+drop-none : (k : ℕ) → drop {A = ℕ} k [] ≡ []
+drop-none zero = refl
+drop-none (suc k) = refl
+
+dropped : (n : ℕ) (u : List ℕ) (i k : ℕ) → k ≡ n + i → drop k u ≡ drop i (drop n u)
+dropped zero u i k e = let same : k ≡ i = omega (arith, e) in ap (λ j. drop j u) same
+dropped (suc n) [] i k e = drop-none k ∙ sym (drop-none i)
+dropped (suc n) (x ∷ u) i zero e = absurd (omega (arith, e))
+dropped (suc n) (x ∷ u) i (suc k) e = dropped n u i k (omega (arith, e))
 
 module _ (m : Meaning) (tree : Tree) (runs : m.is_for tree) (listed : m.always ≡ false) where
   -- what is at rest stays, not entered
@@ -138,6 +156,42 @@ module _ (m : Meaning) (tree : Tree) (runs : m.is_for tree) (listed : m.always �
       let b : ℕ = get_or u (n + k) 0 in
       let then : Prev = prev_by (eqb b line_feed) (is_word_byte b) in
       (then, subst (λ j. IsRunTo u n j part then) next (run-pass u n k b part before done (omega arith) refl (asleep k (omega arith))))
+
+  -- a block of bytes, before each of which it is entered
+  pub run-block : (u : List ℕ) (n i k enters at : ℕ) (part new : List ℕ) (prev then : Prev) (own : List ℕ) → IsRunTo u n i part prev → n + i < length u → n + i + k ≤ length u → own ≡ take k (drop (n + i) u) → AreSet enters k → at ≡ n + i →
+      ((v : List ℕ) (entered : List Bool) → IsFieldOf m part prev at tree v entered → m.field new tree (v ++ own) (entered ++ bits_of enters (length own))) → then ≡ prev_at u (n + (i + k)) → IsRunTo u n (i + k) new then
+  run-block u n i k enters at part new prev then own is below within own_is all here moves stands =
+      let w : List ℕ = take (n + i) u in
+      let rest : List ℕ = drop n u in
+      let front : List Bool = entered_never (take n u) in
+      let entries : List Bool = front ++ entered_always (take i rest) in
+      let size : length w ≡ n + i = size u n i (get_or u (n + i) 0) part prev is below refl in
+      let counted : length entries ≡ length w = count u n i (get_or u (n + i) 0) part prev is below refl in
+      let long : length (drop (n + i) u) ≡ length u - (n + i) = length-drop (n + i) u in
+      let few : length own ≡ k = ap length own_is ∙ length-take-le k (drop (n + i) u) (omega (arith, within, long)) in
+      let moved : m.field new tree (w ++ own) (entries ++ bits_of enters (length own)) =
+      moves w entries
+      (record {
+        runs = runs;
+        count = counted;
+        offset = here ∙ sym size;
+        behind = is.stands ∙ same-prev u n i (get_or u (n + i) 0) part prev is below refl;
+        field = is.field;
+      }) in
+      let place : n + (i + k) ≡ n + i + k = omega arith in
+      let longer : take (n + (i + k)) u ≡ w ++ own = ap (λ j. take j u) place ∙ (take-add (n + i) k u ∙ ap (λ z. w ++ z) (sym own_is)) in
+      let tail : own ≡ take k (drop i rest) = own_is ∙ ap (take k) (dropped n u i (n + i) refl) in
+      let marks : bits_of enters (length own) ≡ entered_always own = bits-all enters (length own) (subst (AreSet enters) (sym few) all) ∙ sym (always-all own) in
+      let later : entered_always (take (i + k) rest) ≡ entered_always (take i rest) ++ entered_always own =
+      ap entered_always (take-add i k rest ∙ ap (λ z. take i rest ++ z) (sym tail)) ∙ map-append (λ b. true) (take i rest) own in
+      let entered : entries ++ bits_of enters (length own) ≡ front ++ entered_always (take (i + k) rest) =
+      ap (λ es. entries ++ es) marks ∙ (append_assoc front (entered_always (take i rest)) (entered_always own) ∙ ap (λ es. front ++ es) (sym later)) in
+      record {
+        field =
+            subst (λ z. m.field new tree z (front ++ entered_always (take (i + k) rest))) (sym longer)
+            (subst (λ es. m.field new tree (w ++ own) es) entered moved);
+        stands = stands;
+      }
 
   pub run-end : (u : List ℕ) (n seen end : ℕ) (part : List ℕ) (prev : Prev) → IsRunTo u n seen part prev → end ≤ length u → n + seen ≡ end → (window_size ≤ seen) ⊎ (n ≡ 0) → IsRunBack m tree (take end u) part × (prev ≡ prev_at u end)
   run-end u n seen end part prev is within place enough =
@@ -254,3 +308,41 @@ prev-none w b = refl
 pub window-prev : (u past bytes : List ℕ) (n place last : ℕ) → IsPast past u → n ≤ length (u ++ bytes) → n + 63 ≡ length u + place → last ≡ slice_index (past ++ bytes) place → prev_by_count n last ≡ prev_at (u ++ bytes) n
 window-prev u past bytes zero place last is within at same = prev-none (u ++ bytes) last
 window-prev u past bytes (suc n) place last is within at same = prev-some (u ++ bytes) n last (omega (arith, within)) (sym (same ∙ window-byte u past bytes n place is (omega (arith, at))))
+
+-- the bytes from a place on, copied
+pub window-list : (u past bytes window : List ℕ) (n begin count : ℕ) → IsPast past u → n + 64 ≡ length u + begin → n + count ≤ length (u ++ bytes) → count ≤ length window →
+    ((i : ℕ) → i < count → slice_index window i ≡ slice_index (past ++ bytes) (begin + i)) → take count window ≡ take count (drop n (u ++ bytes))
+window-list u past bytes window n begin count is at within room same =
+    let long : length (drop n (u ++ bytes)) ≡ length (u ++ bytes) - n = length-drop n (u ++ bytes) in
+    let one : length (take count window) ≡ count = length-take-le count window room in
+    let other : length (take count (drop n (u ++ bytes))) ≡ count = length-take-le count (drop n (u ++ bytes)) (omega (arith, within, long)) in
+    same-places (take count window) (take count (drop n (u ++ bytes))) (one ∙ sym other)
+    (λ i low.
+    let below : i < count = omega (arith, low, one) in
+    get_or-take count window i 0 below
+    ∙ (same i below
+    ∙ (window-byte u past bytes (n + i) (begin + i) is (omega (arith, at))
+    ∙ (sym (get_or-drop n (u ++ bytes) i 0) ∙ sym (get_or-take count (drop n (u ++ bytes)) i 0 below)))))
+
+module _ (m : Meaning) (tree : Tree) (runs : m.is_for tree) (listed : m.always ≡ false) (at : ℕ) (u past bytes : List ℕ) (is : IsStream u at past bytes) where
+  -- bytes that wake nothing, of which the last one tells what stands behind them
+  pub run-asleep : (n begin passed last : ℕ) (part : List ℕ) (prev : Prev) → n + 64 ≡ length u + begin → 1 ≤ begin → n + passed ≤ length (u ++ bytes) → IsStart m part → IsQuiet m part → ((i : ℕ) → i < passed → IsAsleep m part (slice_index (past ++ bytes) (begin + i))) →
+      prev ≡ prev_by_count (n + passed) last → last ≡ slice_index (past ++ bytes) (begin + passed - 1) → IsRunTo m tree runs listed (u ++ bytes) n passed part prev
+  run-asleep n begin passed last part prev place some within starts quiet asleep stands same =
+      let begun = run-begin m tree runs listed (u ++ bytes) n part (prev_at (u ++ bytes) n) is.small (omega (arith, within)) starts quiet refl in
+      let (then, done) = run-passes m tree runs listed (u ++ bytes) n passed part (prev_at (u ++ bytes) n) begun within
+      (λ i low. subst (λ b. IsAsleep m part b) (window-byte u past bytes (n + i) (begin + i) is.past_is (omega (arith, place))) (asleep i low)) in
+      record {
+        field = done.field;
+        stands = stands ∙ window-prev u past bytes (n + passed) (begin + passed - 1) last is.past_is within (omega (arith, place, some)) same;
+      }
+
+  -- and a block of others behind them
+  pub run-window : (n begin passed k enters from last : ℕ) (part new window : List ℕ) (prev then : Prev) → IsRunTo m tree runs listed (u ++ bytes) n passed part prev → n + 64 ≡ length u + begin → 1 ≤ k → n + passed + k ≤ length (u ++ bytes) → k ≤ length window →
+      ((i : ℕ) → i < k → slice_index window i ≡ slice_index (past ++ bytes) (begin + passed + i)) → AreSet enters k → from ≡ n + passed →
+      ((v : List ℕ) (entered : List Bool) → IsFieldOf m part prev from tree v entered → m.field new tree (v ++ take k window) (entered ++ bits_of enters (length (take k window)))) →
+      then ≡ prev_by_count (n + (passed + k)) last → last ≡ slice_index (past ++ bytes) (begin + (passed + k) - 1) → IsRunTo m tree runs listed (u ++ bytes) n (passed + k) new then
+  run-window n begin passed k enters from last part new window prev then before place some within room same all here moves stands last_is =
+      run-block m tree runs listed (u ++ bytes) n passed k enters from part new prev then (take k window) before (omega (arith, some, within)) within
+      (window-list u past bytes window (n + passed) (begin + passed) k is.past_is (omega (arith, place)) within room same) all here moves
+      (stands ∙ window-prev u past bytes (n + (passed + k)) (begin + (passed + k) - 1) last is.past_is (omega (arith, within)) (omega (arith, place, some)) last_is)

@@ -91,7 +91,7 @@ fn leaves_first(len: usize, hits: &ChunkHits) -> bool
 }
 
 /// Whether both pieces of a pair are left, where its literal ends there or not, as the hits tell.
-fn leaves_look_back<E: Engine, L: Ledger>(
+fn leaves_look_back<E: BlockEngine, L: Ledger>(
     engine: &E,
     pair: &LookBackPair,
     stop: &Stop,

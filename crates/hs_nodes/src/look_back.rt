@@ -20,8 +20,9 @@ use crate::chunk::{Chunk, MAX_BLOCKS, PAST_BYTES};
 use crate::ends::ChunkEnds;
 use crate::hits::ChunkHits;
 use crate::table::{LookBackPair, MAX_LOOK_BACK, MAX_LOOK_BACK_REGION};
-use hs_base::{Mask, Next, NextSet, Prev};
+use hs_base::{Mask, Next, Prev};
 use hs_bits::{low_places, next_bit_in, write_word_bit};
+use hs_block::BlockEngine;
 use hs_engine::{Engine, Steps};
 use std::sync::ledger::Ledger;
 
@@ -54,10 +55,25 @@ fn passed_over<E: Engine>(engine: &E, chunk: &Chunk, begin: usize, end: usize) -
     end - begin
 }
 
+/// So many bytes from that place on, of the past ones and those of the chunk.
+fn window_at(chunk: &Chunk, begin: usize, count: usize) -> [u8; MAX_LOOK_BACK]
+    requires few { count ≤ 16 }
+    requires within { begin + count ≤ 64 + length chunk.now.bytes.now }
+    ensures len { length result ≡ 16 }
+    ensures bytes { (i : ℕ) → i < count →
+        slice_index result i ≡ slice_index (chunk.now.past.now ++ chunk.now.bytes.now) (begin + i) }
+{
+    let mut window = [0u8; MAX_LOOK_BACK];
+    for i in 0..count {
+        window[i] = chunk.byte_at(begin + i);
+    }
+    window
+}
+
 /// Runs the engine over the last bytes of those before the place, which is one among the past bytes and those of the
-/// chunk; it is entered before each of them, and as long as nothing is live those that wake nothing come without a
-/// step. Answers what stands behind them.
-fn run_back<E: Engine, L: Ledger>(
+/// chunk, as one block; it is entered before each of them, and those that wake nothing are passed over before. Answers
+/// what stands behind them.
+fn run_back<E: BlockEngine, L: Ledger>(
     engine: &E,
     part: &mut [u8],
     chunk: &Chunk,
@@ -82,13 +98,15 @@ fn run_back<E: Engine, L: Ledger>(
     let passed = passed_over(engine, chunk, begin, place);
     engine.clear(part);
     let _is_at_rest = engine.at_rest(part);
-    let mut prev = prev_behind(from + passed as u64, chunk.byte_at(begin + passed - 1));
-    for i in passed..seen {
-        let byte = chunk.byte_at(begin + i);
-        engine.step(part, prev, from + i as u64, NextSet::all(), byte, steps);
-        prev = Prev::behind(byte);
+    let prev = prev_behind(from + passed as u64, chunk.byte_at(begin + passed - 1));
+    if passed == seen {
+        return prev;
     }
-    prev
+    let left = seen - passed;
+    let window = window_at(chunk, begin + passed, left);
+    let at = from + passed as u64;
+    engine.run(part, prev, at, low_places(left), &window[..left], steps);
+    prev_behind(offset, chunk.byte_at(place - 1))
 }
 
 /// Whether an expression has the empty span where that stands before and that comes next.
@@ -103,7 +121,7 @@ fn is_empty_between(null: Option<Mask>, prev: Prev, next: Next) -> bool
 }
 
 /// Whether the expression is left before the byte of that number among the past ones and those of the chunk.
-fn leaves_back<E: Engine, L: Ledger>(
+fn leaves_back<E: BlockEngine, L: Ledger>(
     engine: &E,
     null: Option<Mask>,
     chunk: &Chunk,
@@ -129,7 +147,7 @@ fn leaves_back<E: Engine, L: Ledger>(
 }
 
 /// Whether both pieces of the pair are left behind so many bytes of a chunk, where its literal ends there.
-fn leaves_pair<E: Engine, L: Ledger>(
+fn leaves_pair<E: BlockEngine, L: Ledger>(
     engine: &E,
     pair: &LookBackPair,
     chunk: &Chunk,
@@ -163,7 +181,7 @@ fn leaves_pair<E: Engine, L: Ledger>(
 
 /// Whether both pieces of a pair are left where the chunk begins, at which its literal ends or not, as the hits tell.
 /// The window is memory for the engine; what is in it doesn't count.
-pub fn leaves_at_start<E: Engine, L: Ledger>(
+pub fn leaves_at_start<E: BlockEngine, L: Ledger>(
     engine: &E,
     pair: &LookBackPair,
     chunk: &Chunk,
@@ -187,7 +205,7 @@ pub fn leaves_at_start<E: Engine, L: Ledger>(
 }
 
 /// Where both pieces of the pair are left in a chunk, of the places where the literal ends.
-fn find_pair<E: Engine, L: Ledger>(
+fn find_pair<E: BlockEngine, L: Ledger>(
     engine: &E,
     pair: &LookBackPair,
     chunk: &Chunk,
@@ -229,7 +247,7 @@ pub(crate) fn ends_of(chunk: &Chunk, left: &ChunkHits) -> ChunkEnds
 }
 
 /// Takes a chunk by a pair, whose literal ends where the hits tell it. Answers where both pieces are left.
-pub(crate) fn run_pair<E: Engine, L: Ledger>(
+pub(crate) fn run_pair<E: BlockEngine, L: Ledger>(
     engine: &E,
     pair: &LookBackPair,
     chunk: &Chunk,

@@ -134,8 +134,14 @@ impl BlockEngine for PieceEngine {
             PieceEngine::Positions(positions) => {
                 positions.run(region, prev, at, enters, bytes, steps)
             }
-            PieceEngine::First(_) | PieceEngine::Last(_) | PieceEngine::Ring(_) => {
-                run_by_steps(self, region, prev, at, enters, bytes, steps)
+            PieceEngine::First(first) => {
+                run_by_steps(first, region, prev, at, enters, bytes, steps)
+            }
+            PieceEngine::Last(last) => {
+                run_by_steps(last, region, prev, at, enters, bytes, steps)
+            }
+            PieceEngine::Ring(ring) => {
+                run_by_steps(ring, region, prev, at, enters, bytes, steps)
             }
         }
     }

@@ -1,4 +1,4 @@
-use Rattle.std.proofs.Common.{◌&&◌, ◌||◌, ◌-◌, length, get_or, slice_get, refl, ap, ◌∙◌, bit_and, bit_or, arith}
+use Rattle.std.proofs.Common.{◌&&◌, ◌||◌, ◌-◌, length, get_or, slice_get, refl, ap, ◌∙◌, bit_or, arith}
 use Rattle.std.specs.Prelude.{nat_le}
 use Rattle.std.proofs.lemmas.Option.{slice_get_read}
 use Rattle.hs_engine.specs.Automata.{in_set}
@@ -14,10 +14,10 @@ returns-then-reached-eq0-clause-word c =
     let whole = c.args.whole.now in
     let words = c.args.words.now in
     let x = c.args.position in
-    let reached = bit_or (bit_and entry.enters c.mask_before-allowed.result) c.arrivals-arrivals.result.led in
+    let reached = bit_or c.entered_places-entered.result c.arrivals-arrivals.result.led in
     word-holds s entry.prev entry.state entry.enters whole words x 0 reached c.arrivals-arrivals.result.again c.requires.position (omega (arith, c.requires.position, c.requires.room, s.wide)) c.requires.none
-    (reached-bit s entry.prev entry.state entry.enters whole words x _ c.mask_before-allowed.result c.arrivals-arrivals.result.led
-    (slice_get_read s.enters.items (length s.enters.items) x c.index.result.now refl (omega (arith, c.requires.position, s.entered_all, s.enters.ok.0)) c.index.ensures) c.mask_before-allowed.ensures c.arrivals-arrivals.ensures.led)
+    (reached-bit s entry.prev entry.state entry.enters whole words x _ c.entered_places-entered.result c.arrivals-arrivals.result.led
+    (slice_get_read s.enters.items (length s.enters.items) x c.index.result.now refl (omega (arith, c.requires.position, s.entered_all, s.enters.ok.0)) c.index.ensures) c.entered_places-entered.ensures c.arrivals-arrivals.ensures.led)
     c.arrivals-arrivals.ensures.again
     (λ i small. look-none reached c.arrivals-arrivals.result.again i (takes_byte s.sets.items s.numbers.items x (get_or whole i 0)) c.if-reached-eq0.true)
 
@@ -28,13 +28,13 @@ returns-clause-word c =
     let whole = c.args.whole.now in
     let words = c.args.words.now in
     let x = c.args.position in
-    let reached = bit_or (bit_and entry.enters c.mask_before-allowed.result) c.arrivals-arrivals.result.led in
+    let reached = bit_or c.entered_places-entered.result c.arrivals-arrivals.result.led in
     let again = c.arrivals-arrivals.result.again in
     some-map c.row_word.result
     (λ word look.
     word-holds s entry.prev entry.state entry.enters whole words x word reached again c.requires.position (omega (arith, c.requires.position, c.requires.room, s.wide)) c.requires.none
-    (reached-bit s entry.prev entry.state entry.enters whole words x _ c.mask_before-allowed.result c.arrivals-arrivals.result.led
-    (slice_get_read s.enters.items (length s.enters.items) x c.index.result.now refl (omega (arith, c.requires.position, s.entered_all, s.enters.ok.0)) c.index.ensures) c.mask_before-allowed.ensures c.arrivals-arrivals.ensures.led)
+    (reached-bit s entry.prev entry.state entry.enters whole words x _ c.entered_places-entered.result c.arrivals-arrivals.result.led
+    (slice_get_read s.enters.items (length s.enters.items) x c.index.result.now refl (omega (arith, c.requires.position, s.entered_all, s.enters.ok.0)) c.index.ensures) c.entered_places-entered.ensures c.arrivals-arrivals.ensures.led)
     c.arrivals-arrivals.ensures.again
     (λ k below.
     look k below
