@@ -24,10 +24,6 @@ abbrev pub IsAtLevel : Automaton → (level position : ℕ) → Type 0
 IsAtLevel a zero x = (c : Context) × (enters a x c ≡ true)
 IsAtLevel a (suc d) y = (x : ℕ) × (c : Context) × IsAtLevel a d x × (follows a x y c ≡ true)
 
--- the bits of the positions of the level are set
-abbrev pub HasLevel : Automaton → (level : ℕ) (words : List ℕ) → Type 0
-HasLevel a d words = (x : ℕ) → IsAtLevel a d x → has_word_bit words x ≡ true
-
 -- The row has a set for each of the first levels, with the bytes of its positions. No position accepts in any context
 -- that is of one of these levels but the last.
 pub record IsRowOf (a : Automaton) (row : List ByteSet) : Type 0 where
