@@ -1,4 +1,4 @@
--- An engine that is entered where its row fits reaches what it reaches where it is entered before each byte.
+-- An engine that is entered where one of its rows fits reaches what it reaches where it is entered before each byte.
 use Rattle.std.proofs.Common.{◌≡◌, ◌⊎◌, ℕ, zero, suc, ◌+◌, ◌<◌, ◌≤◌, Bool, true, false, List, [], ◌∷◌, ◌++◌, length, take, replicate, get_or, Some, slice_get, refl, sym, subst, ◌∙◌, inl, inr, arith, length-append}
 use Rattle.std.specs.Prelude.{EachIndex, slice_index}
 use Rattle.std.proofs.lemmas.Bool.{cases_lt}
@@ -22,12 +22,13 @@ use Rattle.hs_engine.specs.Tables.{Runs}
 use Rattle.hs_engine.proofs.AgreementLemmas.{accepting-leaves, get-append, get-seam, leaves-accepting, reached-steps, steps-reached}
 use Rattle.hs_bits.proofs.ContextLemmas.{prev-there}
 use Rattle.hs_waking.proofs.AnyLemmas.{true-false, true-or-false}
+use Rattle.hs_waking.proofs.RowLemmas.{only-row, runs-one-row}
 use Rattle.hs_waking.proofs.WakeLemmas.{Stands, begins, bytes-next, entered-next, goes-on, stands-nowhere}
-use Rattle.hs_waking.specs.EntryRows.{IsEntryRow, KeepsFits, entries_to}
-use Rattle.hs_waking.specs.Fits.{FitsTo}
+use Rattle.hs_waking.specs.EntryRows.{AreEntryRows, IsEntryRow, KeepsSomeFits, entries_to}
+use Rattle.hs_waking.specs.Fits.{FitsAt, FitsTo}
 use Rattle.hs_waking.specs.declared.prev_set.PrevSet.{PrevSet}
 use Rattle.hs_waking.specs.PrevSets.{has_prev}
-use Rattle.hs_waking.specs.Rows.{IsBehindOf, IsRowOf, RunsByRow}
+use Rattle.hs_waking.specs.Rows.{AreRowsOf, IsBehindOf, RunsByRow, RunsByRows}
 
 -- the entries before these bytes alone, and those before each
 
@@ -66,7 +67,7 @@ kept-all entered kept (suc i) q is =
           subst (λ k. slice_get ((entered ++ replicate i true) ++ true ∷ []) k ≡ Some true) last (get-seam (entered ++ replicate i true) true)
     ])
 
-module _ (a : Automaton) (behind : PrevSet) (row : List ByteSet) (is : IsRowOf a row) (before_is : IsBehindOf a behind) (prev : Prev) (bytes : List ℕ) (kept : ℕ → Bool) (keeps : KeepsFits behind row kept prev bytes) (small : EachIndex bytes (λ k. slice_index bytes k < 256))
+module _ (a : Automaton) (behind : PrevSet) (rows : List (List ByteSet)) (are : AreRowsOf a rows) (before_is : IsBehindOf a behind) (prev : Prev) (bytes : List ℕ) (kept : ℕ → Bool) (keeps : KeepsSomeFits behind rows kept prev bytes) (small : EachIndex bytes (λ k. slice_index bytes k < 256))
     (tree : Tree) (runs : Runs a tree) (u : List ℕ) (entered : List Bool) (len : length entered ≡ length u) (last : prev ≡ prev_at u (length u)) where
   -- an entry that is left out
   abbrev Misses : ℕ → Type 0
@@ -83,10 +84,10 @@ module _ (a : Automaton) (behind : PrevSet) (row : List ByteSet) (is : IsRowOf a
 
   -- reached by an entry that isn't, or else standing behind one that is
   abbrev Known : ℕ → ℕ → Type 0
-  Known i y = IsReached (write_out tree) (Before i) (Kept i) y ⊎ Stands a Misses row bytes i y
+  Known i y = IsReached (write_out tree) (Before i) (Kept i) y ⊎ Stands a Misses rows bytes i y
 
-  misses-whole : (i : ℕ) → i < length bytes → Misses i → FitsTo (slice_get row) bytes (length row) i → ⊥
-  misses-whole i within (begun, out) fits = true-false (kept i) (keeps i within (begun, fits)) out
+  misses-whole : (k i : ℕ) (row : List ByteSet) → slice_get rows k ≡ Some row → i < length bytes → Misses i → FitsTo (slice_get row) bytes (length row) i → ⊥
+  misses-whole k i row there within (begun, out) fits = true-false (kept i) (keeps k i row there within (begun, fits)) out
 
   arrives : (i : ℕ) → i < length bytes → (y : ℕ) → StepsTo (write_out tree) (Before i) (Kept i) (get_or bytes i 0) (kept i) y → IsReached (write_out tree) (Before (suc i)) (Kept (suc i)) y
   arrives i within y steps =
@@ -105,7 +106,7 @@ module _ (a : Automaton) (behind : PrevSet) (row : List ByteSet) (is : IsRowOf a
       elim (true-or-false (kept i)) [
         | inl stays ↦ inl (arrives i within y (steps_in member stays enter))
         | inr out ↦
-            inr (begins a row is bytes Misses misses-whole i y (between (prev_before prev bytes i) (class_of b)) within (small i within)
+            inr (begins a rows are bytes Misses misses-whole i y (between (prev_before prev bytes i) (class_of b)) within (small i within)
             (before_is y b (prev_before prev bytes i) (small i within) enters_it takes_it, out) enters_it takes_it)
       ]
   of-steps i within known y (steps_on x member reached follow) =
@@ -114,7 +115,7 @@ module _ (a : Automaton) (behind : PrevSet) (row : List ByteSet) (is : IsRowOf a
       elim (known x reached) [
         | inl before ↦ inl (arrives i within y (steps_on x member before follow))
         | inr standing ↦
-            inr (goes-on a row is bytes Misses misses-whole i x y here within (small i within) standing
+            inr (goes-on a rows are bytes Misses misses-whole i x y here within (small i within) standing
             (runs.tables.follows x y (prev_at (Before i) (length (Before i))) b ∙ follow) ((runs.tables.sets y b (small i within)).1 member))
       ]
 
@@ -133,7 +134,7 @@ module _ (a : Automaton) (behind : PrevSet) (row : List ByteSet) (is : IsRowOf a
       let whole : take (length bytes) bytes ≡ bytes = take_all (length bytes) bytes (omega arith) in
       elim (known (length bytes) (omega arith) y (subst (λ v. IsReached (write_out tree) (u ++ v) (All (length bytes)) y) (sym whole) reached)) [
         | inl before ↦ subst (λ v. IsReached (write_out tree) (u ++ v) (Kept (length bytes)) y) whole before
-        | inr standing ↦ absurd (stands-nowhere a row is bytes Misses misses-whole y standing)
+        | inr standing ↦ absurd (stands-nowhere a rows are bytes Misses misses-whole y standing)
       ]
 
   reached-all : (w : List ℕ) (i y : ℕ) → IsReached (write_out tree) w (Kept i) y → IsReached (write_out tree) w (All i) y
@@ -147,7 +148,7 @@ module _ (a : Automaton) (behind : PrevSet) (row : List ByteSet) (is : IsRowOf a
             accepting-leaves tree (Before i) (Kept i) next runs.plain runs.ends_last
             (record { position = accepting.position; reached = before; accepts = accepting.accepts })
         | inr standing ↦
-            absurd (is.ends standing.level accepting.position (context_of (Before i) next) standing.further standing.at_level
+            absurd (standing.is.ends standing.level accepting.position (context_of (Before i) next) standing.further standing.at_level
             (runs.tables.accepts accepting.position (context_of (Before i) next) ∙ accepting.accepts))
       ]
 
@@ -162,16 +163,21 @@ pub leaves-all : (tree : Tree) (w : List ℕ) (entered : List Bool) (kept : ℕ 
 leaves-all tree w entered kept i next leaves =
     record { from = leaves.from; is_entered = kept-all entered kept i leaves.from leaves.is_entered; before = leaves.before; spans = leaves.spans }
 
-pub entry-row : (m : Meaning) (behind : PrevSet) (row : List ByteSet) → RunsByRow m behind row → IsEntryRow m behind row
-entry-row m behind row by kept prev bytes small keeps = record {
+pub entry-rows : (m : Meaning) (behind : PrevSet) (rows : List (List ByteSet)) → RunsByRows m behind rows → AreEntryRows m behind rows
+entry-rows m behind rows by kept prev bytes small keeps = record {
   field = λ tree u region entered told len last field.
-      let (a, is, before, runs) = by.told tree told in
+      let (a, are, before, runs) = by.told tree told in
       (by.field region tree (u ++ bytes) (entered ++ replicate (length bytes) true) told).1
-      (field-all a behind row is before prev bytes kept keeps small tree runs u entered len last region
+      (field-all a behind rows are before prev bytes kept keeps small tree runs u entered len last region
       ((by.field region tree (u ++ bytes) (entered ++ entries_to kept (length bytes)) told).0 field));
   leaves = λ tree u entered told len last i within next.
-      let (a, is, before, runs) = by.told tree told in (
+      let (a, are, before, runs) = by.told tree told in (
         leaves-all tree (u ++ take i bytes) entered kept i next,
-        leaves-kept a behind row is before prev bytes kept keeps small tree runs u entered len last i within next,
+        leaves-kept a behind rows are before prev bytes kept keeps small tree runs u entered len last i within next,
       );
 }
+
+pub entry-row : (m : Meaning) (behind : PrevSet) (row : List ByteSet) → RunsByRow m behind row → IsEntryRow m behind row
+entry-row m behind row by kept prev bytes small keeps =
+    entry-rows m behind (row ∷ []) (runs-one-row m behind row by) kept prev bytes small
+    (λ k i other at within fits. keeps i within (subst (λ r. FitsAt behind r prev bytes i) (sym (only-row row other k at)) fits))

@@ -1,6 +1,7 @@
 pub mod AnyLemmas
 pub mod PlaceLemmas
 pub mod RowTableLemmas
+pub mod RowLemmas
 pub mod WakeLemmas
 pub mod EntryLemmas
 pub mod SetEntryLemmas

@@ -1,7 +1,7 @@
 -- Before which bytes an engine has to be entered, where it might be before each: an entry of which nothing comes may be
 -- left out.
 use Rattle.std.specs.Prelude.{◌≡◌, ◌↔◌, ℕ, zero, suc, ◌<◌, ◌≤◌, Bool, true, List, [], ◌∷◌, ◌++◌, length}
-use Rattle.std.specs.Prelude.{EachIndex, replicate, slice_index, take}
+use Rattle.std.specs.Prelude.{EachIndex, Some, replicate, slice_get, slice_index, take}
 use Rattle.hs_base.specs.declared.byte_set.ByteSet.{ByteSet}
 use Rattle.hs_base.specs.declared.context.Next.{Next}
 use Rattle.hs_base.specs.declared.context.Prev.{Prev}
@@ -13,7 +13,7 @@ use Rattle.hs_base.specs.Trees.{Tree}
 use Rattle.hs_engine.specs.Engines.{Meaning}
 use Rattle.hs_waking.specs.declared.prev_set.PrevSet.{PrevSet}
 use Rattle.hs_waking.specs.Fits.{FitsAt}
-use Rattle.hs_waking.specs.WakeRows.{IsWakeRow}
+use Rattle.hs_waking.specs.WakeRows.{AreWakeRows, IsWakeRow}
 
 -- whether it is entered before each of so many bytes
 abbrev pub entries_to : (kept : ℕ → Bool) (count : ℕ) → List Bool
@@ -56,6 +56,28 @@ IsEntryRow m behind row =
 pub record TellsBeginnings (m : Meaning) (behind : PrevSet) (row : List ByteSet) : Type 0 where
   pub wakes : IsWakeRow m behind row
   pub enters : IsEntryRow m behind row
+
+-- None of the rows fits before another of the bytes.
+abbrev pub KeepsSomeFits : PrevSet → (rows : List (List ByteSet)) → (kept : ℕ → Bool) → Prev → (bytes : List ℕ) → Type 0
+KeepsSomeFits behind rows kept prev bytes =
+    (k i : ℕ) (row : List ByteSet) →
+    slice_get rows k ≡ Some row →
+    i < length bytes →
+    FitsAt behind row prev bytes i →
+    kept i ≡ true
+
+-- It suffices that the engine is entered where one of the rows fits behind what may stand before it.
+abbrev pub AreEntryRows : Meaning → PrevSet → (rows : List (List ByteSet)) → Type 0
+AreEntryRows m behind rows =
+    (kept : ℕ → Bool) (prev : Prev) (bytes : List ℕ) →
+    EachIndex bytes (λ k. slice_index bytes k < 256) →
+    KeepsSomeFits behind rows kept prev bytes →
+    DoEntriesSuffice m kept prev bytes
+
+-- What rows tell of an engine: bytes in which none of them fits wake nothing, and no entry counts where none fits.
+pub record TellBeginnings (m : Meaning) (behind : PrevSet) (rows : List (List ByteSet)) : Type 0 where
+  pub wakes : AreWakeRows m behind rows
+  pub enters : AreEntryRows m behind rows
 
 -- The engine runs repeats of one set of bytes: what its regions say, and where it is left, goes by the entries behind
 -- which no byte outside of the set stands.

@@ -1,6 +1,6 @@
 -- What a row of sets tells of an engine: over bytes in which it fits nowhere the engine sleeps.
 use Rattle.std.specs.Prelude.{◌≡◌, ℕ, ◌<◌, ◌≤◌, Bool, true, List, ◌++◌, length, take, replicate, EachIndex}
-use Rattle.std.specs.Prelude.{slice_index}
+use Rattle.std.specs.Prelude.{Some, slice_get, slice_index}
 use Rattle.hs_base.specs.declared.byte_set.ByteSet.{ByteSet}
 use Rattle.hs_base.specs.declared.context.Next.{Next}
 use Rattle.hs_base.specs.declared.context.Prev.{Prev}
@@ -38,4 +38,14 @@ IsWakeRow m behind row =
     IsStart m region →
     EachIndex bytes (λ k. slice_index bytes k < 256) →
     FitsNowhere behind row prev bytes →
+    SleepsOver m region prev bytes
+
+-- Bytes in which none of the rows fits anywhere behind what may stand before it wake nothing, while the region is that
+-- of the empty stream.
+abbrev pub AreWakeRows : Meaning → PrevSet → (rows : List (List ByteSet)) → Type 0
+AreWakeRows m behind rows =
+    (region bytes : List ℕ) (prev : Prev) →
+    IsStart m region →
+    EachIndex bytes (λ k. slice_index bytes k < 256) →
+    ((k : ℕ) (row : List ByteSet) → slice_get rows k ≡ Some row → FitsNowhere behind row prev bytes) →
     SleepsOver m region prev bytes

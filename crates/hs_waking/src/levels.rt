@@ -34,8 +34,18 @@ pub(crate) fn first_level(enters: &[Mask]) -> Level
     level
 }
 
+/// That position alone.
+pub(crate) fn level_of(position: usize) -> Level
+    requires { position < 512 }
+    ensures { has_word_bit result position ≡ true }
+{
+    let mut level = [0u64; LEVEL_WORDS];
+    insert_word_bit(&mut level, position);
+    level
+}
+
 /// Whether the mask of the position has a context.
-fn is_used(masks: &[Mask], position: usize) -> bool
+pub(crate) fn is_used(masks: &[Mask], position: usize) -> bool
     requires { position < length masks.now }
     ensures { (c : Context) → result ≡ false → in_mask (slice_get masks.now position) c ≡ false }
 {

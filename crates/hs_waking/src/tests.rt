@@ -1,4 +1,5 @@
-//! `fits` and `fit_places` beside the slow twin, and the row of an automaton of two positions.
+//! `fits` and `fit_places` beside the slow twin, the row of an automaton of two positions, and the rows of one with
+//! alternatives.
 
 ghost use Rattle.std.specs.Prelude.{◌≡◌, ℕ, ◌<◌, ◌≤◌, true, length, slice_index};
 ghost use Rattle.hs_waking.specs.Fits.{IsBehindBy};
@@ -11,7 +12,7 @@ use crate::fitting::{fit_places, fits};
 use crate::plain::{fits_at, fits_plain, may_begin};
 use crate::prev_set::PrevSet;
 use crate::row_table::RowTable;
-use crate::rows::row_of;
+use crate::rows::{row_of, rows_of};
 use crate::wake_row::WakeRow;
 use hs_base::{Assertion, ByteSet, Mask, Prev};
 use hs_bits::contains_word_bit;
@@ -187,6 +188,87 @@ fn a_row_ends_where_a_position_accepts(rt: HostRuntime) -> Result<(), Fail> {
     assert!(rt; both.as_slice() == [ByteSet::DIGITS, ByteSet::SPACE].as_slice());
     let one = row_of(rt.alloc(), &digit_and_blank(rt.alloc(), Mask::all(), true)?)?;
     assert!(rt; one.as_slice() == [ByteSet::DIGITS].as_slice());
+    Ok(())
+}
+
+/// The set of two bytes.
+fn either(one: u8, other: u8) -> ByteSet {
+    ByteSet::of(one).union(&ByteSet::of(other))
+}
+
+/// The automaton of `(ab|c|c)[xy]+z`, with a position for each letter and for the class.
+fn alternatives(alloc: Global) -> Result<Automaton, AllocError> {
+    let (all, none) = (Mask::all(), Mask::empty());
+    let mut follows = FollowRows::new(alloc, 6, false)?;
+    follows.insert(0, 0, 1);
+    follows.insert(0, 1, 4);
+    follows.insert(0, 2, 4);
+    follows.insert(0, 3, 4);
+    follows.insert(0, 4, 4);
+    follows.insert(0, 4, 5);
+    Ok(Automaton::new(
+        Vec::from_array(
+            alloc,
+            [
+                ByteSet::of(b'a'),
+                ByteSet::of(b'b'),
+                ByteSet::of(b'c'),
+                ByteSet::of(b'c'),
+                either(b'x', b'y'),
+                ByteSet::of(b'z'),
+            ],
+        )?,
+        Vec::from_array(alloc, [all, none, all, all, none, none])?,
+        Vec::from_array(alloc, [none, none, none, none, none, all])?,
+        follows,
+        none,
+        false,
+    ))
+}
+
+/// Whether these are its rows, that from c once.
+fn are_of_alternatives(rows: &[Vec<ByteSet>]) -> bool {
+    if rows.len() != 2 {
+        return false;
+    }
+    let class = either(b'x', b'y');
+    let last = class.union(&ByteSet::of(b'z'));
+    let from_a = [ByteSet::of(b'a'), ByteSet::of(b'b'), class, last];
+    let from_c = [ByteSet::of(b'c'), class, last];
+    rows[0].as_slice() == from_a.as_slice() && rows[1].as_slice() == from_c.as_slice()
+}
+
+#[test]
+fn each_alternative_has_its_row(rt: HostRuntime) -> Result<(), Fail> {
+    let rows = rows_of(rt.alloc(), &alternatives(rt.alloc())?)?;
+    assert!(rt; are_of_alternatives(&rows));
+    Ok(())
+}
+
+/// The automaton of that many single bytes, each of them a match.
+fn single_bytes(alloc: Global, count: usize) -> Result<Automaton, AllocError>
+    requires { count ≤ 32 }
+{
+    let mut sets = vec![in alloc; ByteSet::EMPTY; count]?;
+    for byte in 0..count {
+        sets[byte] = ByteSet::of(byte as u8);
+    }
+    Ok(Automaton::new(
+        sets,
+        vec![in alloc; Mask::all(); count]?,
+        vec![in alloc; Mask::all(); count]?,
+        FollowRows::new(alloc, count, false)?,
+        Mask::empty(),
+        false,
+    ))
+}
+
+#[test]
+fn many_alternatives_have_one_row(rt: HostRuntime) -> Result<(), Fail> {
+    let most = rows_of(rt.alloc(), &single_bytes(rt.alloc(), 16)?)?;
+    assert!(rt; most.len() == 16);
+    let more = rows_of(rt.alloc(), &single_bytes(rt.alloc(), 17)?)?;
+    assert!(rt; more.len() == 1);
     Ok(())
 }
 
