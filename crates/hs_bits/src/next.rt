@@ -37,6 +37,7 @@ pub fn next_bit_in_either(words: &[u64], row: &[u64], from: usize, end: usize) -
 }
 
 /// The least such bit of the words from `word` on.
+#[inline]
 fn next_bit_from_word(words: &[u64], row: &[u64], word: usize, end: usize) -> Option<usize>
     requires same { length row.now ≡ length words.now }
     requires room { end ≤ 64 * length words.now }

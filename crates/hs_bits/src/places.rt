@@ -46,6 +46,7 @@ pub fn next_place(word: u64, from: usize, end: usize) -> usize
 }
 
 /// The word with the bits of so many places set, the lowest ones.
+#[inline]
 pub fn low_places(count: usize) -> u64
     requires { count ≤ 64 }
     ensures { (i : ℕ) → word_bit result i ≡ nat_lt i count }
@@ -69,6 +70,7 @@ pub fn count_places(word: u64, from: usize, end: usize) -> u64
 }
 
 /// The word one place on, with that bit for the first place.
+#[inline]
 pub fn one_later(word: u64, first: bool) -> u64
     ensures { (i : ℕ) → i < 64 → word_bit result i ≡ one_later first (word_bit word) i }
 {
@@ -76,6 +78,7 @@ pub fn one_later(word: u64, first: bool) -> u64
 }
 
 /// The word, or none of its bits.
+#[inline]
 pub fn only_if(word: u64, kept: bool) -> u64
     ensures { (i : ℕ) → word_bit result i ≡ (word_bit word i && kept) }
 {

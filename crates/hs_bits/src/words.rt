@@ -41,6 +41,7 @@ pub fn insert_word_bit(words: &mut [u64], bit: usize)
 }
 
 /// Sets the bit of that number, or unsets it.
+#[inline]
 pub fn write_word_bit(words: &mut [u64], bit: usize, value: bool)
     requires { bit < 64 * length words.old }
     ensures len { length words.new ≡ length words.old }
@@ -154,6 +155,7 @@ fn byte_of(words: &[u64], place: usize) -> u8
 }
 
 /// Sets the bits that are set in the row too.
+#[inline]
 pub fn unite_words(words: &mut [u64], row: &[u64])
     requires { length row.now ≤ length words.old }
     ensures len { length words.new ≡ length words.old }
@@ -165,6 +167,7 @@ pub fn unite_words(words: &mut [u64], row: &[u64])
 }
 
 /// Unsets the bits that aren't set in the row.
+#[inline]
 pub fn keep_words(words: &mut [u64], row: &[u64])
     requires { length row.now ≤ length words.old }
     ensures len { length words.new ≡ length words.old }
@@ -178,6 +181,7 @@ pub fn keep_words(words: &mut [u64], row: &[u64])
 }
 
 /// Whether no bit is set in both rows.
+#[inline]
 pub fn are_apart(words: &[u64], row: &[u64]) -> bool
     requires { length row.now ≤ length words.now }
     ensures { IsTrue result ↔ ((k : ℕ) → (has_word_bit words.now k && has_word_bit row.now k) ≡ false) }

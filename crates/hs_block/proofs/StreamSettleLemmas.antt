@@ -340,7 +340,7 @@ module _ (s : Streams) (prev : Prev) (state : List ℕ) (enters : ℕ) (whole wo
 -- at first all words are 0
 pub settle-first : (s : Streams) (prev : Prev) (state : List ℕ) (enters first : ℕ) (whole words todo live : List ℕ) → s.size ≤ length words → ((x : ℕ) → get_or words x 0 ≡ 0) →
     ((i : ℕ) → get_or whole i 0 < 256) → ((i : ℕ) → i < 64 → word_bit first i ≡ in_set (slice_get s.sets.items 0) (get_or whole i 0)) → ((k : ℕ) → has_word_bit live k ≡ false) →
-    ((x : ℕ) → has_word_bit todo x ≡ false → has_word_bit s.entered x ≡ true → (i : ℕ) → (word_bit first i && word_bit enters i) ≡ false) →
+    ((x : ℕ) → x < s.size → has_word_bit todo x ≡ false → has_word_bit s.entered x ≡ true → (i : ℕ) → (word_bit first i && word_bit enters i) ≡ false) →
     ((x y : ℕ) (c : Context) → x < s.size → y < s.size → has_word_bit todo x ≡ false → has_word_bit state y ≡ true → comes_before s x y c ≡ false) →
     IsSettled (stream_rules s prev enters whole) (has_word_bit state) words todo live
 settle-first s prev state enters first whole words todo live room dark bytes first_is unlive entered led = record {
@@ -369,7 +369,7 @@ settle-first s prev state enters first whole words todo live room dark bytes fir
               let member : word_bit first i ≡ true =
               first_is i small ∙ s.firsts x (get_or whole i 0) (context_before prev whole i) low (bytes i) may (first_of_both t (word_bit enters i && m) on) in
               true-false (word_bit first i && word_bit enters i) (of_both (word_bit first i) (word_bit enters i) member (first_of_both (word_bit enters i) m both))
-              (entered x unset (s.entered_some x (context_before prev whole i) may) i)
+              (entered x low unset (s.entered_some x (context_before prev whole i) may) i)
         ]
 
     unled : (x : ℕ) → x < s.size → has_word_bit todo x ≡ false → (i : ℕ) → any_below s.size (λ y. live_at (has_word_bit state) words i y && comes_before s x y (context_before prev whole i)) ≡ false
@@ -466,7 +466,7 @@ later-same first f g same (suc j) = same j
 -- where a position accepts: the ones that can are those that accept somewhere and are live
 
 module _ (s : Streams) (state live words ending : List ℕ) (dark : (y : ℕ) → has_word_bit live y ≡ false → get_or words y 0 ≡ 0)
-    (ending_is : (k : ℕ) → k < 512 → has_word_bit ending k ≡ (has_word_bit s.accepting k && (has_word_bit live k || has_word_bit state k))) where
+    (ending_is : (k : ℕ) → k < s.size → has_word_bit ending k ≡ (has_word_bit s.accepting k && (has_word_bit live k || has_word_bit state k))) where
   live-off : (y : ℕ) → (has_word_bit live y || has_word_bit state y) ≡ false → (i : ℕ) → live_at (has_word_bit state) words i y ≡ false
   live-off y unset zero = elim (true-or-false (has_word_bit state y)) [
     | inl on ↦ true-false (has_word_bit live y || has_word_bit state y) (right_of_either (has_word_bit live y) (has_word_bit state y) on) unset
@@ -491,7 +491,7 @@ module _ (s : Streams) (state live words ending : List ℕ) (dark : (y : ℕ) �
               | inr none_ ↦ true-false l (first_of_both l m on) (live-off y none_ i)
             ] in
             true-false (has_word_bit ending y)
-            (ending_is y (omega (arith, below, s.few)) ∙ of_both (has_word_bit s.accepting y) (has_word_bit live y || has_word_bit state y) (s.accepting_some y c (second_of_both l m on)) seen) unset
+            (ending_is y below ∙ of_both (has_word_bit s.accepting y) (has_word_bit live y || has_word_bit state y) (s.accepting_some y c (second_of_both l m on)) seen) unset
       ]
 
   pub ends-more : (i at : ℕ) (c : Context) (from x old more : ℕ) → x < s.size → ((y : ℕ) → from ≤ y → y < x → has_word_bit ending y ≡ false) → from ≤ x → word_bit more i ≡ Accepts s state words at c x →

@@ -1,4 +1,5 @@
 -- Rows of bits, one behind the other, and which positions may follow each other.
+use prog.Memory.{up}
 use Rattle.std.proofs.Common.{◌≡◌, ◌≢◌, ◌↔◌, ℕ, zero, ◌+◌, ◌-◌, ◌*◌, ◌/◌, ◌%◌, ◌<◌, ◌≤◌, Bool, true, false, not, nat_lt, ◌&&◌, ◌||◌, List, [], ◌++◌, length, get_or, take, drop, replicate, eqb, refl, sym, ap, subst, ◌∙◌, inl, inr, arith}
 use Rattle.std.specs.Int.{bit_at}
 use Rattle.std.proofs.lemmas.Bool.{cases_eq, cases_lt, eq-eqb, le-ltb, ne_eqb}
@@ -46,6 +47,11 @@ part-bits rows from width y below =
     let bit : y % 64 ≡ (64 * from + y) % 64 = omega arith in
     ap (λ n. eqb (bit_at n (y % 64)) 1) (get_or-take width (drop from rows) (y / 64) 0 short ∙ (get_or-drop from rows (y / 64) 0 ∙ ap (λ i. get_or rows i 0) place))
     ∙ ap (λ i. eqb (bit_at (get_or rows ((64 * from + y) / 64) 0) i) 1) bit
+
+-- the first words of a row have its first bits
+pub front-bits : (row : List ℕ) (width y : ℕ) → y < 64 * width → has_word_bit (take width row) y ≡ has_word_bit row y
+unfolding has_word_bit
+front-bits row width y below = ap (λ n. eqb (bit_at n (y % 64)) 1) (get_or-take width row (y / 64) 0 (omega arith))
 
 -- rows with one more behind them
 pushed-old : (rows row : List ℕ) (k : ℕ) → k < 64 * length rows → has_word_bit (rows ++ row) k ≡ has_word_bit rows k
@@ -262,3 +268,7 @@ asks-more rests part asks new width p unset bits is new_is unasked x q y below f
     left-unset : (a b : Bool) → (not a || b) ≡ false → a ≡ true
     left-unset true b is = refl
     left-unset false b is = absurd (let e : true ≡ false = is in cc)
+
+-- what few bytes take, up to the next multiple of eight
+pub small-size : (bytes : ℕ) → bytes ≤ 1024 → up 8 bytes < 9223372036854775808
+small-size bytes few = omega arith

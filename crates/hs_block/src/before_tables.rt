@@ -9,7 +9,7 @@ ghost use Rattle.hs_base.specs.declared.context.Prev.{Prev};
 ghost use Rattle.hs_engine.specs.Rows.{in_square, square_number};
 ghost use Rattle.hs_bits.specs.BlockContexts.{AreContexts, context_before};
 ghost use Rattle.hs_bits.specs.WordBits.{word_bit};
-ghost use Rattle.hs_block.specs.StreamSets.{in_rows};
+ghost use Rattle.hs_block.specs.StreamSets.{RowsFit, in_rows};
 
 use hs_base::{Next, NextSet, Prev};
 use hs_bits::{
@@ -68,6 +68,17 @@ pub(crate) fn row_at(rows: &[u64], width: usize, number: usize) -> &[u64]
     ensures bits { (y : ℕ) → y < 64 * width → has_word_bit result.now y ≡ in_rows rows.now width number y }
 {
     &rows[width * number..width * number + width]
+}
+
+/// The row of that number, of so many words; in a program for rows of one word that is known.
+#[inline(always)]
+pub(crate) fn row_in<const W: usize>(rows: &[u64], width: usize, number: usize) -> &[u64]
+    requires fits { RowsFit width W }
+    requires room { width * number + width ≤ length rows.now }
+    ensures len { length result.now ≡ width }
+    ensures bits { (y : ℕ) → y < 64 * width → has_word_bit result.now y ≡ in_rows rows.now width number y }
+{
+    row_at(rows, if W == 1 { 1 } else { width }, number)
 }
 
 /// Puts the first words of a row behind the rows.

@@ -11,6 +11,9 @@ use hs_bits::{WORD_BITS, contains_place, member_places, with_place};
 
 /// How many sets of bytes there may be.
 pub(crate) const MAX_SETS: usize = WORD_BITS;
+/// Of how many of them the words are kept: room for more has to be cleared for each block, which costs more than to make
+/// some words twice.
+const KEPT_SETS: usize = 16;
 
 /// The places of a whole block whose bytes are in the set.
 #[inline(always)]
@@ -21,14 +24,15 @@ pub(crate) fn class_word(set: &ByteSet, bytes: &[u8]) -> u64
     member_places(set, bytes)
 }
 
-/// The places of the bytes of each of up to 64 sets in a block, made when they are first asked for.
+/// The places of the bytes of each of up to 64 sets in a block, made when they are asked for. Those of the first sets are
+/// kept.
 #[derive(Clone, Copy, Debug)]
 pub(crate) struct ClassWords {
     /// The words of the sets, by their numbers.
-    words: [u64; MAX_SETS],
+    words: [u64; KEPT_SETS],
     /// The sets whose words are made.
     known: u64,
-    ghost len: { length words ≡ 64 },
+    ghost len: { length words ≡ 16 },
 }
 
 impl ClassWords {
@@ -41,7 +45,7 @@ impl ClassWords {
             ((i : ℕ) → i < 64 → word_bit first i ≡ in_set (slice_get sets 0) (slice_index bytes i)) →
             AreClassWords result sets bytes }
     {
-        let mut words = [0u64; MAX_SETS];
+        let mut words = [0u64; KEPT_SETS];
         words[0] = first;
         ClassWords { words, known: 1 }
     }
@@ -57,6 +61,9 @@ impl ClassWords {
         ensures word { (i : ℕ) → i < 64 →
             word_bit result i ≡ in_set (slice_get sets.now number) (slice_index whole.now i) }
     {
+        if number >= KEPT_SETS {
+            return class_word(&sets[number], whole);
+        }
         if !contains_place(self.known, number) {
             self.words[number] = class_word(&sets[number], whole);
             self.known = with_place(self.known, number, true);

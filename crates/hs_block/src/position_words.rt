@@ -7,11 +7,24 @@ ghost use Rattle.hs_engine.specs.AnyBelow.{any_below};
 ghost use Rattle.hs_block.specs.Packed.{packed};
 ghost use Rattle.hs_bits.specs.WordBits.{count_below, word_bit};
 
-use crate::before_tables::{MAX_WIDTH, put_word_bit};
+use crate::before_tables::put_word_bit;
 use hs_bits::{
     BYTE_BITS, WORD_BITS, are_apart, contains_place, lowest_bit, next_bit_in, unite_bytes,
     without_lowest_bit,
 };
+
+/// The number of a position of a row; that of a row of one word is below 64, as a program for such rows then knows.
+#[inline(always)]
+pub(crate) fn place_in<const W: usize>(position: usize) -> usize
+    requires { position < 64 * W }
+    ensures { result ≡ position }
+{
+    if W == 1 {
+        position % WORD_BITS
+    } else {
+        position
+    }
+}
 
 /// Whether the two rows have a bit in common.
 #[inline(always)]
@@ -92,17 +105,23 @@ pub(crate) fn count_places(word: u64) -> u64
 }
 
 /// The row of the positions whose words have the bit of that place.
-pub(crate) fn column(words: &[u64], live: &[u64], size: usize, place: usize) -> [u64; MAX_WIDTH]
+pub(crate) fn column<const W: usize>(
+    words: &[u64],
+    live: &[u64],
+    size: usize,
+    place: usize,
+) -> [u64; W]
     requires place { place < 64 }
-    requires few { size ≤ 512 }
+    requires rows { W ≤ 8 }
+    requires few { size ≤ 64 * W }
     requires room { size ≤ length words.now }
-    requires live { length live.now ≡ 8 }
+    requires live { length live.now ≡ W }
     requires dark { (y : ℕ) → has_word_bit live.now y ≡ false → slice_index words.now y ≡ 0 }
-    ensures len { length result ≡ 8 }
+    ensures len { length result ≡ W }
     ensures bits { (x : ℕ) →
         has_word_bit result x ≡ (nat_lt x size && word_bit (slice_index words.now x) place) }
 {
-    let mut row = [0u64; MAX_WIDTH];
+    let mut row = [0u64; W];
     let mut from = 0;
     while let Some(position) = next_bit_in(live, from, size) {
         put_word_bit(&mut row, position, contains_place(words[position], place));
@@ -124,12 +143,12 @@ pub(crate) fn keep_row(row: &[u64], bytes: &mut [u8])
 }
 
 /// The bits of the bytes as a row.
-pub(crate) fn load(bytes: &[u8]) -> [u64; MAX_WIDTH]
-    requires { length bytes.now ≤ 64 }
-    ensures len { length result ≡ 8 }
+pub(crate) fn load<const W: usize>(bytes: &[u8]) -> [u64; W]
+    requires { length bytes.now ≤ 8 * W }
+    ensures len { length result ≡ W }
     ensures bits { (k : ℕ) → has_word_bit result k ≡ has_bit bytes.now k }
 {
-    let mut row = [0u64; MAX_WIDTH];
+    let mut row = [0u64; W];
     unite_bytes(&mut row, bytes);
     row
 }

@@ -19,14 +19,16 @@ ghost use Rattle.hs_base.specs.ContextSets.{has_context};
 ghost use Rattle.hs_engine.specs.Automata.{in_mask, in_set};
 ghost use Rattle.hs_bits.specs.BlockContexts.{AreMade, context_before, context_behind};
 ghost use Rattle.hs_block.specs.Rows.{live_at};
-ghost use Rattle.hs_block.specs.StreamSets.{in_rows, is_from, takes_byte};
+ghost use Rattle.hs_block.specs.StreamSets.{RowsFit, in_rows, is_from, takes_byte};
 ghost use Rattle.hs_bits.specs.WordBits.{one_later, word_bit};
 
-use crate::before_tables::{MAX_WIDTH, OrderTables, SQUARES, row_at, square_places};
+use crate::before_tables::{MAX_WIDTH, OrderTables, SQUARES, row_in, square_places};
 use crate::class_words::{ClassWords, MAX_SETS, class_word};
 use crate::engine::BlockEnds;
 use crate::mask_words::{contexts_of, has_mixed, mask_before, mask_behind, some_row};
-use crate::position_words::{column, count_places, keep_row, load, meet, row_word, united_rows};
+use crate::position_words::{
+    column, count_places, keep_row, load, meet, place_in, row_word, united_rows,
+};
 use crate::set_tables::SetTables;
 use hs_base::{ByteSet, Mask, Prev};
 use hs_bits::{
@@ -107,7 +109,21 @@ pub struct Streams {
 
 /// What stands before a block, and where the expression is entered in it.
 #[derive(Clone, Copy, Debug)]
-struct Entry {
+struct Setting {
+    /// What stands before its first byte.
+    prev: Prev,
+    /// The contexts of its places, if they are made.
+    contexts: Option<Contexts>,
+    /// The places before whose bytes the expression is entered.
+    enters: u64,
+    /// Whether no position is live before it.
+    blank: bool,
+}
+
+/// The same with the positions that are live before the block. The rows of all that is done with it have `W` words: a
+/// row of one word stays in a register.
+#[derive(Clone, Copy, Debug)]
+struct Entry<const W: usize> {
     /// What stands before its first byte.
     prev: Prev,
     /// The contexts of its places, if they are made.
@@ -115,19 +131,19 @@ struct Entry {
     /// The places before whose bytes the expression is entered.
     enters: u64,
     /// The positions that are live before it.
-    state: [u64; MAX_WIDTH],
-    ghost state_len: { length state ≡ 8 },
+    state: [u64; W],
+    ghost state_len: { length state ≡ W },
 }
 
 /// What is still to be done for the words of a block.
 #[derive(Clone, Copy, Debug)]
-struct Work {
+struct Work<const W: usize> {
     /// The positions whose words are to be made.
-    todo: [u64; MAX_WIDTH],
+    todo: [u64; W],
     /// The positions whose words aren't 0.
-    live: [u64; MAX_WIDTH],
-    ghost todo_len: { length todo ≡ 8 },
-    ghost live_len: { length live ≡ 8 },
+    live: [u64; W],
+    ghost todo_len: { length todo ≡ W },
+    ghost live_len: { length live ≡ W },
 }
 
 /// From where a position is reached.
@@ -244,34 +260,34 @@ impl Streams {
     {
         let first = class_word(&self.sets[0], whole);
         let entered = enters & low_places(count);
-        if is_zero(region) & (first & entered == 0) {
+        let blank = is_zero(region);
+        if blank & (first & entered == 0) {
             steps.tick_by(count_places(entered));
             return Some(BlockEnds {
                 before: 0,
                 behind: 0,
             });
         }
-        let state = load(region);
-        let entry = Entry {
+        let setting = Setting {
             prev,
             contexts: self.contexts(prev, whole),
             enters,
-            state,
+            blank,
         };
-        if self.size <= WORD_BITS {
+        if self.width == 1 {
             let mut words = [0u64; WORD_BITS];
-            self.take(region, &entry, whole, count, first, &mut words, steps)
-        } else {
-            self.take_wide(region, &entry, whole, count, first, steps)
+            return self.take::<L, 1>(region, &setting, whole, count, first, &mut words, steps);
         }
+        self.take_wide(region, &setting, whole, count, first, steps)
     }
 
-    /// Takes them by as many words as there may be, or by those of a middle width, which are made sooner.
+    /// Takes them by rows of several words: by as many as there may be, or by those of a middle width, which are made
+    /// sooner.
     #[inline(never)]
     fn take_wide<L: Ledger>(
         &self,
         region: &mut [u8],
-        entry: &Entry,
+        setting: &Setting,
         whole: &[u8],
         count: usize,
         first: u64,
@@ -280,53 +296,63 @@ impl Streams {
         requires len { length region.old ≡ (self.now.size + 7) / 8 }
         requires clear { IsClearFrom region.old self.now.size }
         requires whole { length whole.now ≡ 64 }
-        requires made { AreMade entry.now.contexts entry.now.prev whole.now }
-        requires state { (k : ℕ) → has_word_bit entry.now.state k ≡ has_bit region.old k }
+        requires made { AreMade setting.now.contexts setting.now.prev whole.now }
+        requires blank { setting.now.blank ≡ is_blank region.old }
         requires few { count ≤ 64 }
+        requires many { self.now.width ≢ 1 }
         requires first { (i : ℕ) → i < 64 →
             word_bit first i ≡ in_set (slice_get self.now.sets.items 0) (slice_index whole.now i) }
-        ensures { IsTried self.now entry.now.prev region.old region.new entry.now.enters whole.now count result
+        ensures { IsTried self.now setting.now.prev region.old region.new setting.now.enters whole.now count result
             steps.old steps.new }
     {
         if self.width <= MIDDLE_WIDTH {
             let mut words = [0u64; MIDDLE_STREAMS];
-            return self.take(region, entry, whole, count, first, &mut words, steps);
+            return self.take::<L, MIDDLE_WIDTH>(
+                region, setting, whole, count, first, &mut words, steps,
+            );
         }
         let mut words = [0u64; MAX_STREAMS];
-        self.take(region, entry, whole, count, first, &mut words, steps)
+        self.take::<L, MAX_WIDTH>(region, setting, whole, count, first, &mut words, steps)
     }
 
     /// Takes them by words that are 0 so far. The places of the first bytes are told.
-    fn take<L: Ledger>(
+    fn take<L: Ledger, const W: usize>(
         &self,
         region: &mut [u8],
-        entry: &Entry,
+        setting: &Setting,
         whole: &[u8],
         count: usize,
         first: u64,
         words: &mut [u64],
         steps: &mut Steps<L>,
     ) -> Option<BlockEnds>
+        requires fits { RowsFit self.now.width W }
         requires len { length region.old ≡ (self.now.size + 7) / 8 }
         requires clear { IsClearFrom region.old self.now.size }
         requires whole { length whole.now ≡ 64 }
-        requires made { AreMade entry.now.contexts entry.now.prev whole.now }
-        requires state { (k : ℕ) → has_word_bit entry.now.state k ≡ has_bit region.old k }
+        requires made { AreMade setting.now.contexts setting.now.prev whole.now }
+        requires blank { setting.now.blank ≡ is_blank region.old }
         requires few { count ≤ 64 }
         requires first { (i : ℕ) → i < 64 →
             word_bit first i ≡ in_set (slice_get self.now.sets.items 0) (slice_index whole.now i) }
         requires room { 64 * self.now.width ≤ length words.old }
         requires zero { (x : ℕ) → slice_index words.old x ≡ 0 }
-        ensures { IsTried self.now entry.now.prev region.old region.new entry.now.enters whole.now count result
+        ensures { IsTried self.now setting.now.prev region.old region.new setting.now.enters whole.now count result
             steps.old steps.new }
     {
-        let Some(live) = self.solve(entry, whole, first, words) else {
+        let entry = Entry {
+            prev: setting.prev,
+            contexts: setting.contexts,
+            enters: setting.enters,
+            state: load::<W>(region),
+        };
+        let Some(live) = self.solve(&entry, whole, first, words) else {
             return None;
         };
-        let busy = self.busy_places(entry, words, &live, count, is_zero(region));
+        let busy = self.busy_places(&entry, words, &live, count, setting.blank);
         steps.tick_by(count_places(busy));
-        let ends = self.ends(entry, whole, words, &live, count);
-        self.keep(region, words, &live, count);
+        let ends = self.ends(&entry, whole, words, &live, count);
+        self.keep::<W>(region, words, &live, count);
         Some(ends)
     }
 
@@ -343,13 +369,14 @@ impl Streams {
     }
 
     /// Makes the words of the positions until they come to rest, and tells which aren't 0; None where they don't.
-    fn solve(
+    fn solve<const W: usize>(
         &self,
-        entry: &Entry,
+        entry: &Entry<W>,
         whole: &[u8],
         first: u64,
         words: &mut [u64],
-    ) -> Option<[u64; MAX_WIDTH]>
+    ) -> Option<[u64; W]>
+        requires fits { RowsFit self.now.width W }
         requires whole { length whole.now ≡ 64 }
         requires made { AreMade entry.now.contexts entry.now.prev whole.now }
         requires first { (i : ℕ) → i < 64 →
@@ -358,7 +385,7 @@ impl Streams {
         requires room { 64 * self.now.width ≤ length words.old }
         requires zero { (x : ℕ) → slice_index words.old x ≡ 0 }
         ensures len { length words.new ≡ length words.old }
-        ensures live { IfSome result (λ live. length live ≡ 8) }
+        ensures live { IfSome result (λ live. length live ≡ W) }
         ensures settled { IfSome result (λ live. (x : ℕ) → x < self.now.size → (i : ℕ) → i < 64 →
             word_bit (slice_index words.new x) i ≡ is_next (stream_rules self.now entry.now.prev entry.now.enters
             whole.now) i (live_at (has_word_bit entry.now.state) words.new i) x) }
@@ -368,12 +395,13 @@ impl Streams {
     {
         let mut classes = ClassWords::new(first);
         let todo = self.first_todo(entry, first);
-        let live = [0u64; MAX_WIDTH];
+        let live = [0u64; W];
         let mut work = Work { todo, live };
         for _round in 0..ROUNDS * self.size {
             let Some(position) = next_bit_in(&work.todo, 0, self.size) else {
                 return Some(work.live);
             };
+            let position = place_in::<W>(position);
             if !self.settle(position, entry, whole, &mut classes, words, &mut work) {
                 return None;
             }
@@ -383,9 +411,11 @@ impl Streams {
 
     /// The positions that are entered in some context, if a first byte stands where the expression is entered, those
     /// that are live, and those to which one of these leads.
-    fn first_todo(&self, entry: &Entry, first: u64) -> [u64; MAX_WIDTH]
-        ensures len { length result ≡ 8 }
-        ensures entered { (x : ℕ) → has_word_bit result x ≡ false → has_word_bit self.now.entered x ≡ true →
+    fn first_todo<const W: usize>(&self, entry: &Entry<W>, first: u64) -> [u64; W]
+        requires fits { RowsFit self.now.width W }
+        ensures len { length result ≡ W }
+        ensures entered { (x : ℕ) → x < self.now.size → has_word_bit result x ≡ false →
+            has_word_bit self.now.entered x ≡ true →
             (i : ℕ) → (word_bit first i && word_bit entry.now.enters i) ≡ false }
         ensures led { (x y : ℕ) (c : Context) → x < self.now.size → y < self.now.size →
             has_word_bit result x ≡ false →
@@ -395,23 +425,25 @@ impl Streams {
         if first & entry.enters == 0 {
             return todo;
         }
-        unite_words(&mut todo, &self.entered);
+        unite_words(&mut todo, &self.entered[..W]);
         todo
     }
 
     /// Those positions, and those to which they lead.
-    fn led_by(&self, state: &[u64]) -> [u64; MAX_WIDTH]
-        requires len { length state.now ≡ 8 }
-        ensures len { length result ≡ 8 }
+    fn led_by<const W: usize>(&self, state: &[u64]) -> [u64; W]
+        requires fits { RowsFit self.now.width W }
+        requires len { length state.now ≡ W }
+        ensures len { length result ≡ W }
         ensures led { (x y : ℕ) (c : Context) → x < self.now.size → y < self.now.size →
             has_word_bit result x ≡ false →
             has_word_bit state.now y ≡ true → comes_before self.now x y c ≡ false }
     {
-        let mut todo = [0u64; MAX_WIDTH];
+        let mut todo = [0u64; W];
         unite_words(&mut todo, state);
         let mut from = 0;
         while let Some(position) = next_bit_in(state, from, self.size) {
-            unite_words(&mut todo, row_at(&self.successors, self.width, position));
+            let row = row_in::<W>(&self.successors, self.width, position);
+            unite_words(&mut todo, row);
             from = position + 1;
         }
         todo
@@ -419,15 +451,16 @@ impl Streams {
 
     /// Makes the word of a position that is to be made; false where the look at it fails.
     #[inline(always)]
-    fn settle(
+    fn settle<const W: usize>(
         &self,
         position: usize,
-        entry: &Entry,
+        entry: &Entry<W>,
         whole: &[u8],
         classes: &mut ClassWords,
         words: &mut [u64],
-        work: &mut Work,
+        work: &mut Work<W>,
     ) -> bool
+        requires fits { RowsFit self.now.width W }
         requires position { position < self.now.size }
         requires whole { length whole.now ≡ 64 }
         requires made { AreMade entry.now.contexts entry.now.prev whole.now }
@@ -455,7 +488,7 @@ impl Streams {
         }
         unite_words(
             &mut work.todo,
-            row_at(&self.successors, self.width, position),
+            row_in::<W>(&self.successors, self.width, position),
         );
         true
     }
@@ -463,22 +496,23 @@ impl Streams {
     /// The word of a position whose word is 0 so far, by those of the positions that may come before it; None where the
     /// look at it fails.
     #[inline(always)]
-    fn word_of(
+    fn word_of<const W: usize>(
         &self,
         position: usize,
-        entry: &Entry,
+        entry: &Entry<W>,
         whole: &[u8],
         classes: &mut ClassWords,
         words: &[u64],
         live: &[u64],
     ) -> Option<u64>
+        requires fits { RowsFit self.now.width W }
         requires position { position < self.now.size }
         requires whole { length whole.now ≡ 64 }
         requires made { AreMade entry.now.contexts entry.now.prev whole.now }
         requires known { AreClassWords classes.old self.now.sets.items whole.now }
         requires room { 64 * self.now.width ≤ length words.now }
         requires state { (y : ℕ) → self.now.size ≤ y → has_word_bit entry.now.state y ≡ false }
-        requires live { length live.now ≡ 8 }
+        requires live { length live.now ≡ W }
         requires live_few { (y : ℕ) → self.now.size ≤ y → has_word_bit live.now y ≡ false }
         requires dark { (y : ℕ) → has_word_bit live.now y ≡ false → slice_index words.now y ≡ 0 }
         requires none { slice_index words.now position ≡ 0 }
@@ -500,20 +534,21 @@ impl Streams {
 
     /// Where positions that are live lead to a position, and where it may follow itself.
     #[inline(always)]
-    fn arrivals(
+    fn arrivals<const W: usize>(
         &self,
         position: usize,
-        entry: &Entry,
+        entry: &Entry<W>,
         whole: &[u8],
         words: &[u64],
         live: &[u64],
     ) -> Arrivals
+        requires fits { RowsFit self.now.width W }
         requires position { position < self.now.size }
         requires whole { length whole.now ≡ 64 }
         requires made { AreMade entry.now.contexts entry.now.prev whole.now }
         requires room { 64 * self.now.width ≤ length words.now }
         requires state { (y : ℕ) → self.now.size ≤ y → has_word_bit entry.now.state y ≡ false }
-        requires live { length live.now ≡ 8 }
+        requires live { length live.now ≡ W }
         requires live_few { (y : ℕ) → self.now.size ≤ y → has_word_bit live.now y ≡ false }
         requires dark { (y : ℕ) → has_word_bit live.now y ≡ false → slice_index words.now y ≡ 0 }
         ensures led { (i : ℕ) → i < 64 → word_bit result.led i ≡ any_below self.now.size
@@ -522,7 +557,7 @@ impl Streams {
         ensures again { (i : ℕ) → i < 64 → word_bit result.again i
             ≡ comes_before self.now position position (context_before entry.now.prev whole.now i) }
     {
-        let row = row_at(&self.froms, self.width, position);
+        let row = row_in::<W>(&self.froms, self.width, position);
         let always = arrive(row, position, entry, words, live);
         if contains_word_bit(&self.asks, position) {
             self.by_context(always, position, entry, whole, words, live)
@@ -532,22 +567,23 @@ impl Streams {
     }
 
     /// The same, with the arrivals that every context allows told.
-    fn by_context(
+    fn by_context<const W: usize>(
         &self,
         always: Arrivals,
         position: usize,
-        entry: &Entry,
+        entry: &Entry<W>,
         whole: &[u8],
         words: &[u64],
         live: &[u64],
     ) -> Arrivals
+        requires fits { RowsFit self.now.width W }
         requires position { position < self.now.size }
         requires whole { length whole.now ≡ 64 }
         requires made { AreMade entry.now.contexts entry.now.prev whole.now }
         requires room { 64 * self.now.width ≤ length words.now }
         requires asks { has_word_bit self.now.asks position ≡ true }
         requires state { (y : ℕ) → self.now.size ≤ y → has_word_bit entry.now.state y ≡ false }
-        requires live { length live.now ≡ 8 }
+        requires live { length live.now ≡ W }
         requires live_few { (y : ℕ) → self.now.size ≤ y → has_word_bit live.now y ≡ false }
         requires dark { (y : ℕ) → has_word_bit live.now y ≡ false → slice_index words.now y ≡ 0 }
         requires led { (i : ℕ) → i < 64 → word_bit always.led i ≡ any_below self.now.size
@@ -564,7 +600,7 @@ impl Streams {
         let contexts = contexts_of(entry.contexts, entry.prev, whole);
         let mut all = always;
         for square in 0..SQUARES {
-            let row = row_at(&self.rests, self.width, SQUARES * position + square);
+            let row = row_in::<W>(&self.rests, self.width, SQUARES * position + square);
             let more = arrive(row, position, entry, words, live);
             let places = square_places(&contexts, square);
             all = Arrivals {
@@ -576,19 +612,20 @@ impl Streams {
     }
 
     /// Where a position accepts that is live.
-    fn ends(
+    fn ends<const W: usize>(
         &self,
-        entry: &Entry,
+        entry: &Entry<W>,
         whole: &[u8],
         words: &[u64],
         live: &[u64],
         count: usize,
     ) -> BlockEnds
+        requires fits { RowsFit self.now.width W }
         requires few { count ≤ 64 }
         requires whole { length whole.now ≡ 64 }
         requires made { AreMade entry.now.contexts entry.now.prev whole.now }
         requires room { self.now.size ≤ length words.now }
-        requires live { length live.now ≡ 8 }
+        requires live { length live.now ≡ W }
         requires dark { (y : ℕ) → has_word_bit live.now y ≡ false → slice_index words.now y ≡ 0 }
         ensures before { (i : ℕ) → word_bit result.before i ≡ (nat_lt i count
             && any_below self.now.size
@@ -599,7 +636,7 @@ impl Streams {
             (λ x. word_bit (slice_index words.now x) i
             && in_mask (slice_get self.now.accepts.items x) (context_behind entry.now.prev whole.now i))) }
     {
-        let ending = self.ending(&entry.state, live);
+        let ending = self.ending::<W>(&entry.state, live);
         let mut before = 0;
         let mut behind = 0;
         let mut from = 0;
@@ -617,23 +654,31 @@ impl Streams {
     }
 
     /// The positions that are live somewhere and accept in some context.
-    fn ending(&self, state: &[u64], live: &[u64]) -> [u64; MAX_WIDTH]
-        requires state { length state.now ≡ 8 }
-        requires live { length live.now ≡ 8 }
-        ensures len { length result ≡ 8 }
-        ensures bits { (k : ℕ) → k < 512 → has_word_bit result k
+    fn ending<const W: usize>(&self, state: &[u64], live: &[u64]) -> [u64; W]
+        requires fits { RowsFit self.now.width W }
+        requires state { length state.now ≡ W }
+        requires live { length live.now ≡ W }
+        ensures len { length result ≡ W }
+        ensures bits { (k : ℕ) → k < self.now.size → has_word_bit result k
             ≡ (has_word_bit self.now.accepting k && (has_word_bit live.now k || has_word_bit state.now k)) }
     {
-        let mut ending = [0u64; MAX_WIDTH];
+        let mut ending = [0u64; W];
         unite_words(&mut ending, state);
         unite_words(&mut ending, live);
-        keep_words(&mut ending, &self.accepting);
+        keep_words(&mut ending, &self.accepting[..W]);
         ending
     }
 
     /// Where a position accepts, if it is live there.
     #[inline(always)]
-    fn ends_of(&self, position: usize, entry: &Entry, whole: &[u8], words: &[u64]) -> BlockEnds
+    fn ends_of<const W: usize>(
+        &self,
+        position: usize,
+        entry: &Entry<W>,
+        whole: &[u8],
+        words: &[u64],
+    ) -> BlockEnds
+        requires fits { RowsFit self.now.width W }
         requires position { position < self.now.size }
         requires whole { length whole.now ≡ 64 }
         requires made { AreMade entry.now.contexts entry.now.prev whole.now }
@@ -655,10 +700,11 @@ impl Streams {
     }
 
     /// Keeps the positions that are live behind the last of so many bytes.
-    fn keep(&self, region: &mut [u8], words: &[u64], live: &[u64], count: usize)
+    fn keep<const W: usize>(&self, region: &mut [u8], words: &[u64], live: &[u64], count: usize)
+        requires fits { RowsFit self.now.width W }
         requires few { count ≤ 64 }
         requires room { self.now.size ≤ length words.now }
-        requires live { length live.now ≡ 8 }
+        requires live { length live.now ≡ W }
         requires dark { (y : ℕ) → has_word_bit live.now y ≡ false → slice_index words.now y ≡ 0 }
         requires len { length region.old ≡ (self.now.size + 7) / 8 }
         ensures none { count ≡ 0 → region.new ≡ region.old }
@@ -667,36 +713,37 @@ impl Streams {
             (λ x. nat_lt x self.now.size && word_bit (slice_index words.now x) last) }
     {
         if count > 0 {
-            keep_row(&column(words, live, self.size, count - 1), region);
+            keep_row(&column::<W>(words, live, self.size, count - 1), region);
         }
     }
 
     /// The places before whose bytes a position is live or the expression is entered.
-    fn busy_places(
+    fn busy_places<const W: usize>(
         &self,
-        entry: &Entry,
+        entry: &Entry<W>,
         words: &[u64],
         live: &[u64],
         count: usize,
         blank: bool,
     ) -> u64
+        requires fits { RowsFit self.now.width W }
         requires few { count ≤ 64 }
         requires room { 64 * self.now.width ≤ length words.now }
-        requires live { length live.now ≡ 8 }
+        requires live { length live.now ≡ W }
         requires live_few { (y : ℕ) → self.now.size ≤ y → has_word_bit live.now y ≡ false }
         requires dark { (y : ℕ) → has_word_bit live.now y ≡ false → slice_index words.now y ≡ 0 }
         ensures { (i : ℕ) → word_bit result i ≡ (nat_lt i count && (word_bit entry.now.enters i
             || one_later (not blank)
             (λ j. any_below self.now.size (λ x. word_bit (slice_index words.now x) j)) i)) }
     {
-        let word = united_rows(words, row_at(live, self.width, 0), live);
+        let word = united_rows(words, row_in::<W>(live, self.width, 0), live);
         low_places(count) & (entry.enters | one_later(word, !blank))
     }
 }
 
 /// The places of a block at which the expression is entered in a context of the mask.
 #[inline(always)]
-fn entered_places(entry: &Entry, whole: &[u8], mask: Mask) -> u64
+fn entered_places<const W: usize>(entry: &Entry<W>, whole: &[u8], mask: Mask) -> u64
     requires whole { length whole.now ≡ 64 }
     requires made { AreMade entry.now.contexts entry.now.prev whole.now }
     ensures { (i : ℕ) → i < 64 → word_bit result i
@@ -710,11 +757,17 @@ fn entered_places(entry: &Entry, whole: &[u8], mask: Mask) -> u64
 
 /// Where positions that are live lead to one by a row of those that may come before it, and where it may follow itself.
 #[inline(always)]
-fn arrive(row: &[u64], position: usize, entry: &Entry, words: &[u64], live: &[u64]) -> Arrivals
+fn arrive<const W: usize>(
+    row: &[u64],
+    position: usize,
+    entry: &Entry<W>,
+    words: &[u64],
+    live: &[u64],
+) -> Arrivals
     requires position { position < 64 * length row.now }
     requires room { 64 * length row.now ≤ length words.now }
-    requires narrow { length row.now ≤ 8 }
-    requires live { length live.now ≡ 8 }
+    requires narrow { length row.now ≤ W }
+    requires live { length live.now ≡ W }
     requires dark { (y : ℕ) → has_word_bit live.now y ≡ false → slice_index words.now y ≡ 0 }
     ensures led { (size : ℕ) → size ≤ 64 * length row.now →
         ((y : ℕ) → size ≤ y → has_word_bit entry.now.state y ≡ false) →

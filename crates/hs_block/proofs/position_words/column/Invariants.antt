@@ -4,11 +4,11 @@ use Rattle.hs_bits.specs.WordBits.{word_bit}
 use Rattle.hs_block.proofs.position_words.column.Given as goal
 
 abbrev pub invariant-loop-position : goal.invariant-loop-position
-invariant-loop-position l = record {
-  len : length l.row ≡ 8;
+invariant-loop-position g l = record {
+  len : length l.row ≡ g.row.W;
   within : l.from ≤ l.size;
   bits : (k : ℕ) → has_word_bit l.row k ≡ (nat_lt k l.from && word_bit (get_or l.words k 0) l.fn.place);
 }
 
 abbrev pub decreases-loop-position : goal.decreases-loop-position
-decreases-loop-position l = l.size - l.from
+decreases-loop-position g l = l.size - l.from

@@ -5,4 +5,4 @@ use Rattle.hs_block.proofs.TableLemmas.{zero-row}
 use Rattle.hs_block.proofs.position_words.load.Goals as goal
 
 pub returns-clause-bits : goal.returns-clause-bits
-returns-clause-bits c k = c.unite_bytes.ensures.bits k ∙ (ap (λ b. has_bit c.args.bytes.now k || b) (zero-row 8 k) ∙ or-none (has_bit c.args.bytes.now k))
+returns-clause-bits g c k = c.unite_bytes.ensures.bits k ∙ (ap (λ b. has_bit c.args.bytes.now k || b) (zero-row _ k) ∙ or-none (has_bit c.args.bytes.now k))

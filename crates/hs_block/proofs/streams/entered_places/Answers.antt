@@ -4,8 +4,8 @@ use Rattle.hs_block.proofs.StreamSettleLemmas.{entered-bit, entered-nowhere}
 use Rattle.hs_block.proofs.streams.entered_places.Goals as goal
 
 pub returns-then-entry-eq0 : goal.returns-then-entry-eq0
-returns-then-entry-eq0 c i below =
+returns-then-entry-eq0 g c i below =
     entered-nowhere c.args.entry.now.enters (λ k. has_context c.args.mask (context_before c.args.entry.now.prev c.args.whole.now k)) c.if-entry-eq0.true i
 
 pub returns : goal.returns
-returns c = entered-bit c.args.entry.now.enters c.mask_before.result (λ k. has_context c.args.mask (context_before c.args.entry.now.prev c.args.whole.now k)) c.mask_before.ensures
+returns g c = entered-bit c.args.entry.now.enters c.mask_before.result (λ k. has_context c.args.mask (context_before c.args.entry.now.prev c.args.whole.now k)) c.mask_before.ensures

@@ -5,4 +5,4 @@ use Rattle.hs_block.proofs.class_words.ClassWords.new.Goals as goal
 
 pub returns : goal.returns
 returns c sets bytes first_is k i set small =
-    known-first (replicate 64 0) c.args.first k i (λ n. in_set (slice_get sets n) (get_or bytes i 0)) (omega arith) set (first_is i small)
+    known-first (replicate 16 0) c.args.first k i (λ n. in_set (slice_get sets n) (get_or bytes i 0)) (omega arith) set (first_is i small)

@@ -6,7 +6,7 @@ use Rattle.hs_block.proofs.StreamSettleLemmas.{busy-word, later-same, masked}
 use Rattle.hs_block.proofs.streams.Streams.busy_places.Goals as goal
 
 pub returns : goal.returns
-returns c i =
+returns g c i =
     let s = c.args.self.now in
     let words = c.args.words.now in
     let enters = c.args.entry.now.enters in
@@ -18,4 +18,4 @@ returns c i =
     ∙ ap (λ b. word_bit enters i || b)
     (c.one_later.ensures i (omega (arith, below, c.requires.few))
     ∙ later-same first (word_bit c.united_rows-word.result) live
-    (λ j. busy-word s words c.args.live.now c.row_at.result.now c.united_rows-word.result j c.row_at.ensures.len c.row_at.ensures.bits c.requires.live_few c.requires.dark (c.united_rows-word.ensures j)) i))
+    (λ j. busy-word s words c.args.live.now c.row_in.result.now c.united_rows-word.result j c.row_in.ensures.len c.row_in.ensures.bits c.requires.live_few c.requires.dark (c.united_rows-word.ensures j)) i))

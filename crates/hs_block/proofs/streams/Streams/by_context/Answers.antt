@@ -10,7 +10,7 @@ use Rattle.hs_block.proofs.TableLemmas.{row-room, square-few}
 use Rattle.hs_block.proofs.streams.Streams.by_context.Goals as goal
 
 pub loop-square-init : goal.loop-square-init
-loop-square-init c =
+loop-square-init g c =
     let s = c.args.self.now in
     let x = c.args.position in
     let here : ℕ → ℕ = λ i. square_number true (context_before c.args.entry.now.prev c.args.whole.now i) in
@@ -19,14 +19,17 @@ loop-square-init c =
       again = λ i small. squares-none (here i) (in_rows s.rests.items s.width (12 * x + here i) x) (word_bit c.args.always.again i) (word_bit c.args.always.again i) refl;
     }
 
-pub row_at-row-requires : goal.row_at-row-requires
-row_at-row-requires c =
+pub row_in-row-requires : goal.row_in-row-requires
+row_in-row-requires g c =
     let s = c.args.self.now in
     let room = row-room s.width (12 * c.args.position + c.loop-square.square) (12 * s.size) (omega (arith, c.requires.position)) in
-    omega (arith, room, s.asked c.args.position c.requires.asks, s.rests.ok.0, ap (λ items. length items) c.deref.ensures.value)
+    record {
+      fits = c.requires.fits;
+      room = omega (arith, room, s.asked c.args.position c.requires.asks, s.rests.ok.0, ap (λ items. length items) c.deref.ensures.value);
+    }
 
 pub loop-square-preserved : goal.loop-square-preserved
-loop-square-preserved c =
+loop-square-preserved g c =
     let s = c.args.self.now in
     let x = c.args.position in
     let square = c.loop-square.square in
@@ -35,12 +38,12 @@ loop-square-preserved c =
     let whole = c.args.whole.now in
     let here : ℕ → ℕ = λ i. square_number true (context_before entry.prev whole i) in
     let more = c.arrive-more.result in
-    let read : (y : ℕ) → y < 64 * s.width → has_word_bit c.row_at-row.result.now y ≡ in_rows s.rests.items s.width (12 * x + square) y = λ y below. c.row_at-row.ensures.bits y below ∙ ap (λ items. in_rows items s.width (12 * x + square) y) c.deref.ensures.value in
+    let read : (y : ℕ) → y < 64 * s.width → has_word_bit c.row_in-row.result.now y ≡ in_rows s.rests.items s.width (12 * x + square) y = λ y below. c.row_in-row.ensures.bits y below ∙ ap (λ items. in_rows items s.width (12 * x + square) y) c.deref.ensures.value in
     record {
       led = λ i small.
           squares-more i square (here i) (LedBy s entry.state c.args.words.now x i) (word_bit c.args.always.led i) c.loop-square.all.led more.led c.square_places-places.result
-          (c.arrive-more.ensures.led s.size (omega (arith, s.wide, c.row_at-row.ensures.len)) c.requires.state c.requires.live_few i small
-          ∙ read-rest s entry.state c.args.words.now c.row_at-row.result.now (12 * x + square) i read)
+          (c.arrive-more.ensures.led s.size (omega (arith, s.wide, c.row_in-row.ensures.len)) c.requires.state c.requires.live_few i small
+          ∙ read-rest s entry.state c.args.words.now c.row_in-row.result.now (12 * x + square) i read)
           (c.square_places-places.ensures entry.prev whole c.contexts_of-contexts.ensures i (omega (arith, small, c.requires.whole))) (inv.led i small);
       again = λ i small.
           squares-more i square (here i) (λ q. in_rows s.rests.items s.width (12 * x + q) x) (word_bit c.args.always.again i) c.loop-square.all.again more.again c.square_places-places.result
@@ -49,7 +52,7 @@ loop-square-preserved c =
     }
 
 pub returns-clause-led : goal.returns-clause-led
-returns-clause-led c i small =
+returns-clause-led g c i small =
     let s = c.args.self.now in
     let x = c.args.position in
     let state = c.args.entry.now.state in
@@ -59,7 +62,7 @@ returns-clause-led c i small =
     (squares-all (square_number true here) c.loop-square.square (LedBy s state words x i) (word_bit c.args.always.led i) (word_bit c.loop-square.all.led i) (omega arith) (square-few here) (c.loop-square.invariant.led i small))
 
 pub returns-clause-again : goal.returns-clause-again
-returns-clause-again c i small =
+returns-clause-again g c i small =
     let s = c.args.self.now in
     let x = c.args.position in
     let here : Context = context_before c.args.entry.now.prev c.args.whole.now i in

@@ -7,7 +7,7 @@ use Rattle.hs_block.proofs.StreamSettleLemmas.{LedBy}
 use Rattle.hs_block.proofs.streams.Streams.by_context.Given as goal
 
 abbrev pub invariant-loop-square : goal.invariant-loop-square
-invariant-loop-square l = record {
+invariant-loop-square g l = record {
   led : (i : ℕ) → i < 64 → word_bit l.all.led i
       ≡ ((nat_lt (square_number true (context_before l.entry.prev l.whole i)) l.square && LedBy l.self l.entry.state l.words l.fn.position i (square_number true (context_before l.entry.prev l.whole i)))
       || word_bit l.fn.always.led i);

@@ -6,14 +6,14 @@ use Rattle.hs_block.proofs.StreamSettleLemmas.{Accepts, ends-all, ends-more, mas
 use Rattle.hs_block.proofs.streams.Streams.ends.Goals as goal
 
 pub loop-position-init : goal.loop-position-init
-loop-position-init c = record {
+loop-position-init g c = record {
   within = omega arith;
   ends_before = λ i small. bit-none i;
   ends_behind = λ i small. bit-none i;
 }
 
 pub loop-position-preserved : goal.loop-position-preserved
-loop-position-preserved c =
+loop-position-preserved g c =
     let s = c.args.self.now in
     let entry = c.args.entry.now in
     let words = c.args.words.now in
@@ -33,7 +33,7 @@ loop-position-preserved c =
     }
 
 pub returns-clause-before : goal.returns-clause-before
-returns-clause-before c i =
+returns-clause-before g c i =
     let s = c.args.self.now in
     let entry = c.args.entry.now in
     let here = context_before entry.prev c.args.whole.now i in
@@ -43,7 +43,7 @@ returns-clause-before c i =
     (c.loop-position.invariant.ends_before i (omega (arith, below, c.requires.few))))
 
 pub returns-clause-behind : goal.returns-clause-behind
-returns-clause-behind c i =
+returns-clause-behind g c i =
     let s = c.args.self.now in
     let entry = c.args.entry.now in
     let here = context_behind entry.prev c.args.whole.now i in

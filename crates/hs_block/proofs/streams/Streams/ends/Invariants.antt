@@ -6,11 +6,11 @@ use Rattle.hs_block.proofs.StreamSettleLemmas.{Accepts}
 use Rattle.hs_block.proofs.streams.Streams.ends.Given as goal
 
 abbrev pub invariant-loop-position : goal.invariant-loop-position
-invariant-loop-position l = record {
+invariant-loop-position g l = record {
   within : l.from ≤ l.self.size;
   ends_before : (i : ℕ) → i < 64 → word_bit l.before i ≡ any_below l.from (Accepts l.self l.entry.state l.words i (context_before l.entry.prev l.whole i));
   ends_behind : (i : ℕ) → i < 64 → word_bit l.behind i ≡ any_below l.from (Accepts l.self l.entry.state l.words (suc i) (context_behind l.entry.prev l.whole i));
 }
 
 abbrev pub decreases-loop-position : goal.decreases-loop-position
-decreases-loop-position l = l.self.size - l.from
+decreases-loop-position g l = l.self.size - l.from

@@ -4,7 +4,7 @@ use Rattle.hs_block.proofs.StreamSettleLemmas.{end-before, end-behind}
 use Rattle.hs_block.proofs.streams.Streams.ends_of.Goals as goal
 
 pub returns-clause-before : goal.returns-clause-before
-returns-clause-before c i small =
+returns-clause-before g c i small =
     let s = c.args.self.now in
     let x = c.args.position in
     end-before s c.args.entry.now.prev c.args.entry.now.state c.args.whole.now c.args.words.now x c.index-accepts.result.now c.contains_word_bit.result c.one_later-before.result c.mask_before.result
@@ -12,7 +12,7 @@ returns-clause-before c i small =
     c.contains_word_bit.ensures c.one_later-before.ensures c.mask_before.ensures i small
 
 pub returns-clause-behind : goal.returns-clause-behind
-returns-clause-behind c i small =
+returns-clause-behind g c i small =
     let s = c.args.self.now in
     let x = c.args.position in
     end-behind s c.args.entry.now.prev c.args.whole.now c.args.words.now x c.index-accepts.result.now c.mask_behind.result

@@ -5,7 +5,7 @@ use Rattle.hs_block.proofs.PackedLemmas.{packed-same}
 use Rattle.hs_block.proofs.streams.Streams.keep.Goals as goal
 
 pub returns-then-count-gt0-clause-some : goal.returns-then-count-gt0-clause-some
-returns-then-count-gt0-clause-some c last is =
+returns-then-count-gt0-clause-some g c last is =
     let s = c.args.self.now in
     let words = c.args.words.now in
     c.keep_row.ensures

@@ -1,4 +1,4 @@
-use Rattle.hs_block.proofs.StreamRunLemmas.{blank-is, words-run}
+use Rattle.hs_block.proofs.StreamRunLemmas.{words-run}
 use Rattle.hs_block.proofs.streams.Streams.take.Goals as goal
 
 pub returns : goal.returns
@@ -8,7 +8,7 @@ returns g c =
     let live = c.in-Some.live in (
       c.count_places.result,
       c.tick_by.ensures,
-      words-run s c.args.entry.now.prev c.args.region.now c.args.entry.now.enters c.args.whole.now c.solve.new.words c.args.entry.now.state c.is_zero.result c.requires.state c.in-Some.ensures.settled
-          c.keep.new.region count c.ends-ends.result c.busy_places-busy.result c.count_places.result c.requires.few c.requires.len (blank-is c.is_zero.result c.args.region.now c.is_zero.ensures) c.keep.ensures.none c.keep.ensures.some
+      words-run s c.args.setting.now.prev c.args.region.now c.args.setting.now.enters c.args.whole.now c.solve.new.words c.load.result c.args.setting.now.blank c.load.ensures.bits c.in-Some.ensures.settled
+          c.keep.new.region count c.ends-ends.result c.busy_places-busy.result c.count_places.result c.requires.few c.requires.len c.requires.blank c.keep.ensures.none c.keep.ensures.some
           c.ends-ends.ensures.before c.ends-ends.ensures.behind c.busy_places-busy.ensures (c.count_places.ensures count c.requires.few),
     )

@@ -8,7 +8,7 @@ use Rattle.hs_block.proofs.StreamSettleLemmas.{look-none, reached-bit, some-map,
 use Rattle.hs_block.proofs.streams.Streams.word_of.Goals as goal
 
 pub returns-then-reached-eq0-clause-word : goal.returns-then-reached-eq0-clause-word
-returns-then-reached-eq0-clause-word c =
+returns-then-reached-eq0-clause-word g c =
     let s = c.args.self.now in
     let entry = c.args.entry.now in
     let whole = c.args.whole.now in
@@ -22,7 +22,7 @@ returns-then-reached-eq0-clause-word c =
     (λ i small. look-none reached c.arrivals-arrivals.result.again i (takes_byte s.sets.items s.numbers.items x (get_or whole i 0)) c.if-reached-eq0.true)
 
 pub returns-clause-word : goal.returns-clause-word
-returns-clause-word c =
+returns-clause-word g c =
     let s = c.args.self.now in
     let entry = c.args.entry.now in
     let whole = c.args.whole.now in
