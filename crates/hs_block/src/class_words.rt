@@ -11,8 +11,8 @@ use hs_bits::{WORD_BITS, contains_place, member_places, with_place};
 
 /// How many sets of bytes there may be.
 pub(crate) const MAX_SETS: usize = WORD_BITS;
-/// Of how many of them the words are kept: room for more has to be cleared for each block, which costs more than to make
-/// some words twice.
+/// Of how many of them the words are kept: room for more has to be cleared for each block, which costs more than to
+/// make some words twice.
 const KEPT_SETS: usize = 16;
 
 /// The places of a whole block whose bytes are in the set.
@@ -24,8 +24,8 @@ pub(crate) fn class_word(set: &ByteSet, bytes: &[u8]) -> u64
     member_places(set, bytes)
 }
 
-/// The places of the bytes of each of up to 64 sets in a block, made when they are asked for. Those of the first sets are
-/// kept.
+/// The places of the bytes of each of up to 64 sets in a block, made when they are asked for. Those of the first sets
+/// are kept.
 #[derive(Clone, Copy, Debug)]
 pub(crate) struct ClassWords {
     /// The words of the sets, by their numbers.
