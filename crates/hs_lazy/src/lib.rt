@@ -1,0 +1,9 @@
+//! States of many engines at once, which are made when bytes first lead to them.
+#![tactic(auto)]
+
+mod cache;
+mod dfa;
+mod engine;
+
+pub use cache::{Cache, ToldEnds};
+pub use engine::{ByteEnds, TimelessEngine};
