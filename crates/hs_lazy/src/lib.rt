@@ -4,6 +4,8 @@
 mod cache;
 mod dfa;
 mod engine;
+mod laws;
 
 pub use cache::{Cache, ToldEnds};
 pub use engine::{ByteEnds, TimelessEngine};
+pub use laws::loaded_regions;

@@ -29,3 +29,6 @@ pub mod FillLemmas
 pub mod StartingLemmas
 pub mod EnteredLemmas
 pub mod SufficeLemmas
+pub mod CachedLemmas
+pub mod ToldLemmas
+pub mod LoadLemmas

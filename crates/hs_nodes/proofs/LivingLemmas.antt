@@ -197,7 +197,7 @@ pub idle-by : (m : Meaning) (cleared rest part : List ℕ) → rest ≡ cleared 
 idle-by m cleared rest part same len starts zeros well quiet size zeros' =
     let own : cleared ≡ part = zeros-same cleared part (len ∙ sym size) zeros zeros' in
     subst (λ (xs : List ℕ). IsIdleEngine m xs) own
-    (record { rests = record { quiet = subst (λ (xs : List ℕ). IsQuiet m xs) same (quiet (subst (λ (xs : List ℕ). AreZero xs) (sym same) zeros)); well = well }; starts = starts })
+    (record { rests = record { quiet = subst (λ (xs : List ℕ). IsQuiet m xs) same (quiet (subst (λ (xs : List ℕ). AreZero xs) (sym same) zeros)); well = well }; starts = starts; sized = len; zero = zeros })
 
 -- the engines below a number are idle
 abbrev pub AreIdleTo : {E : Type 0} (meaning : E → Meaning) (engines : List E) (n : ℕ) → Type 0

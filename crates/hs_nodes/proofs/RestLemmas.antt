@@ -21,6 +21,7 @@ use Rattle.hs_base.proofs.LiteralRowLemmas.{literals-leave, literals-step}
 use Rattle.hs_bits.proofs.BlockLemmas.{block-more}
 use Rattle.hs_block.proofs.LiteralBlockLemmas.{never-empty}
 use Rattle.hs_engine.specs.Engines.{Meaning}
+use Rattle.hs_lazy.specs.Runs.{IsRunThrough}
 use Rattle.hs_nodes.specs.declared.hits.ChunkHits.{ChunkHits}
 use Rattle.hs_nodes.specs.declared.table.NodeKind.{NodeKind}
 use Rattle.hs_nodes.specs.declared.table.NodeKind.TheVariants.{Engine, Literal, FirstLiteral, LookBack}
@@ -66,25 +67,32 @@ module _ (m : Meaning) (rest : List Piece) (piece : Piece) (part u : List ℕ) (
       (subst (λ v. AreEntered [] v ((held.entered ++ replicate i true) ++ true ∷ [])) (block-more u bytes i (omega arith))
       (entries-grow [] (u ++ take i bytes) (held.entered ++ replicate i true) (get_or bytes i 0) true own (leaving-begins (u ++ take i bytes) (class_of (get_or bytes i 0))))))
 
-  not-left : (i : ℕ) → 0 < length bytes → i ≤ length bytes → (next : Next) → LeavesBehind [] piece (u ++ take i bytes) next → ⊥
-  not-left i some within next leaves =
-      unwoken.asleep.leaves_nothing (piece_tree piece) u held.entered runs held.are.count last held.field i some within next
-      ((leaves-listed [] piece (u ++ take i bytes) (held.entered ++ replicate i true) next (entries-to i within)).0 leaves)
+  -- what it does over the chunk
+  run : IsRunThrough (m.field part (piece_tree piece)) (piece_tree piece) u held.entered bytes (λ i. false) (λ i. false)
+  run = unwoken.asleep (piece_tree piece) u held.entered runs held.are.count last held.field
 
-  not-empty : (i : ℕ) (next : Next) → 0 < length bytes → i ≤ length bytes → LeavesBehind [] piece (u ++ take i bytes) next ⊎ (LeavesAt [] (u ++ take i bytes) next × IsEmptyAt (piece_tree piece) (u ++ take i bytes) next) → ⊥
-  not-empty i next some within (inl leaves) = not-left i some within next leaves
-  not-empty i next some within (inr both) = null (u ++ take i bytes) next both.1
+  not-before : (i : ℕ) → i < length bytes → LeavesBehind [] piece (u ++ take i bytes) (class_of (get_or bytes i 0)) → ⊥
+  not-before i low leaves =
+      let told : false ≡ true = (run.before_is i low).1 ((leaves-listed [] piece (u ++ take i bytes) (held.entered ++ replicate i true) (class_of (get_or bytes i 0)) (entries-to i (omega arith))).0 leaves) in cc
+
+  not-after : (i : ℕ) → i < length bytes → LeavesBehind [] piece (u ++ take (i + 1) bytes) after.Unknown → ⊥
+  not-after i low leaves =
+      let told : false ≡ true = (run.behind_is i low).1 ((leaves-listed [] piece (u ++ take (i + 1) bytes) (held.entered ++ replicate (i + 1) true) after.Unknown (entries-to (i + 1) (omega arith))).0 leaves) in cc
+
+  not-empty : (v : List ℕ) (next : Next) → (LeavesBehind [] piece v next → ⊥) → LeavesBehind [] piece v next ⊎ (LeavesAt [] v next × IsEmptyAt (piece_tree piece) v next) → ⊥
+  not-empty v next not (inl leaves) = not leaves
+  not-empty v next not (inr both) = null v next both.1
 
   pub engine-asleep : IsHeld m [] piece part (u ++ bytes) × AreLeftNowhere (piece ∷ []) u bytes
   engine-asleep = (
     record {
       entered = held.entered ++ replicate (length bytes) true;
       are = subst (λ v. AreEntered [] (u ++ v) (held.entered ++ replicate (length bytes) true)) (take_all (length bytes) bytes (omega arith)) (entries-to (length bytes) (omega arith));
-      field = unwoken.asleep.stays (piece_tree piece) u held.entered runs held.are.count last held.field;
+      field = run.field;
     },
     record {
-      before = λ i low leaves. not-empty i (class_of (get_or bytes i 0)) (omega arith) (omega arith) (leaves-last [] rest piece (u ++ take i bytes) (class_of (get_or bytes i 0)) fit leaves);
-      behind = λ i low leaves. not-empty (i + 1) after.Unknown (omega arith) (omega arith) (leaves-last [] rest piece (u ++ take (i + 1) bytes) after.Unknown fit leaves);
+      before = λ i low leaves. not-empty (u ++ take i bytes) (class_of (get_or bytes i 0)) (not-before i low) (leaves-last [] rest piece (u ++ take i bytes) (class_of (get_or bytes i 0)) fit leaves);
+      behind = λ i low leaves. not-empty (u ++ take (i + 1) bytes) after.Unknown (not-after i low) (leaves-last [] rest piece (u ++ take (i + 1) bytes) after.Unknown fit leaves);
     },
   )
 

@@ -117,7 +117,7 @@ module _ {E : Type 0} (meaning : E → Meaning) (table : NodeTable E) where
     (rests e there).rests,
     λ no_parent. record {
       never_empty = (unwoken no_parent).0;
-      asleep = (unwoken no_parent).1 e there part (rests e there).starts;
+      asleep = (unwoken no_parent).1 e there part (rests e there);
     },
   )
   rest-by (Literal number len) hits part prev bytes parent small rests unwoken = (zero-bits part rests, unwoken)

@@ -1,5 +1,5 @@
 -- Engines without a parent: where they need to be entered.
-use Rattle.std.proofs.Common.{◌≡◌, ◌↔◌, ℕ, zero, suc, ◌+◌, ◌/◌, ◌%◌, ◌<◌, ◌≤◌, Bool, true, false, ◌||◌, List, [], ◌∷◌, ◌++◌, length, take, replicate, slice_get, slice_index, eqb, Some, refl, sym, ap, subst, ◌∙◌, inl, inr, arith}
+use Rattle.std.proofs.Common.{◌≡◌, ◌↔◌, ℕ, zero, suc, ◌+◌, ◌/◌, ◌%◌, ◌<◌, ◌≤◌, Bool, true, false, ◌||◌, List, [], ◌∷◌, ◌++◌, length, take, replicate, slice_get, slice_index, eqb, None, Some, refl, sym, ap, subst, ◌∙◌, inl, inr, arith}
 use Rattle.std.specs.Prelude.{EachIndex}
 use Rattle.std.specs.Int.{bit_at}
 use Rattle.std.proofs.lemmas.Nat.Bits.{bit_at-zero}
@@ -18,6 +18,8 @@ use Rattle.hs_bits.proofs.BlockLemmas.{block-more, entered-more, length-block, l
 use Rattle.hs_bits.proofs.PlaceLemmas.{bit-none}
 use Rattle.hs_block.specs.Blocks.{IsFieldOf}
 use Rattle.hs_engine.specs.Engines.{IsQuiet, Meaning}
+use Rattle.hs_lazy.specs.Caches.{told}
+use Rattle.hs_lazy.specs.declared.cache.Cache.{Cache}
 use Rattle.hs_nodes.specs.Left.{AreLeftIn}
 use Rattle.hs_nodes.specs.Starting.{AreStartsEnough, DoStartsSuffice, IsEnteredThroughout, ScansBlock}
 use Rattle.hs_nodes.specs.Waking.{AreRowsSound, AreStartsBy, AreWakesSound, IsKindAsleep, IsListed, is_never_empty, no_places}
@@ -152,32 +154,32 @@ module _ {E : Type 0} (meaning : E → Meaning) (table : NodeTable E) (wakes : W
       (λ own numbered p low fits. true-false (has_word_bit places p) ((exact own numbered p (omega (arith, low, few))).1 (low, fits)) (none p (omega (arith, low, few))))
 
 -- so many of the nodes of a list have been told
-abbrev pub AreStartsTo : {E : Type 0} (meaning : E → Meaning) (table : NodeTable E) (numbers : List ℕ) (prev : Prev) (bytes : List ℕ) (starts : Starts) (n : ℕ) → Type 0
-AreStartsTo meaning table numbers prev bytes starts n =
-    (i : ℕ) (node : Node) → i < n → i < length numbers → slice_get table.nodes.items (slice_index numbers i) ≡ Some node →
+abbrev pub AreStartsTo : {E : Type 0} (meaning : E → Meaning) (table : NodeTable E) (cache : Cache) (numbers : List ℕ) (prev : Prev) (bytes : List ℕ) (starts : Starts) (n : ℕ) → Type 0
+AreStartsTo meaning table cache numbers prev bytes starts n =
+    (i : ℕ) (node : Node) → i < n → i < length numbers → slice_get table.nodes.items (slice_index numbers i) ≡ Some node → told cache (slice_index numbers i) ≡ None →
     DoStartsSuffice meaning table.engines.items node.kind starts (slice_index numbers i) prev bytes
 
-module _ {E : Type 0} (meaning : E → Meaning) (table : NodeTable E) (numbers : List ℕ) (prev : Prev) (bytes : List ℕ) where
-  pub starts-none : (starts : Starts) → AreStartsTo meaning table numbers prev bytes starts 0
+module _ {E : Type 0} (meaning : E → Meaning) (table : NodeTable E) (cache : Cache) (numbers : List ℕ) (prev : Prev) (bytes : List ℕ) where
+  pub starts-none : (starts : Starts) → AreStartsTo meaning table cache numbers prev bytes starts 0
   starts-none starts i node low = absurd (omega arith)
 
   pub starts-more : (starts new : Starts) (n m : ℕ) → m ≡ n + 1 → length bytes ≤ 512 → ((k j : ℕ) → (k ≡ slice_index numbers n → ⊥) → j < 8 → start_word new k j ≡ start_word starts k j) →
-      ((node : Node) → slice_get table.nodes.items (slice_index numbers n) ≡ Some node → DoStartsSuffice meaning table.engines.items node.kind new (slice_index numbers n) prev bytes) →
-      AreStartsTo meaning table numbers prev bytes starts n → AreStartsTo meaning table numbers prev bytes new m
-  starts-more starts new n m next few others own before i node low inside there =
+      ((node : Node) → slice_get table.nodes.items (slice_index numbers n) ≡ Some node → told cache (slice_index numbers n) ≡ None → DoStartsSuffice meaning table.engines.items node.kind new (slice_index numbers n) prev bytes) →
+      AreStartsTo meaning table cache numbers prev bytes starts n → AreStartsTo meaning table cache numbers prev bytes new m
+  starts-more starts new n m next few others own before i node low inside there untold =
       elim (cases_eq (slice_index numbers i) (slice_index numbers n)) [
-        | inl same ↦ subst (λ k. DoStartsSuffice meaning table.engines.items node.kind new k prev bytes) (sym same) (own node (ap (slice_get table.nodes.items) (sym same) ∙ there))
+        | inl same ↦ subst (λ k. DoStartsSuffice meaning table.engines.items node.kind new k prev bytes) (sym same) (own node (ap (slice_get table.nodes.items) (sym same) ∙ there) (ap (told cache) (sym same) ∙ untold))
         | inr apart ↦
             let elsewhere : i ≡ n → ⊥ = λ same. apart (ap (slice_index numbers) same) in
             let earlier : i < n = omega (arith, low, next, elsewhere) in
             λ number null e kind_is at_e.
             suffice-same (meaning e) (starts_at starts (slice_index numbers i)) (starts_at new (slice_index numbers i)) prev bytes
             (λ p within. ap (λ w. word_bit w (p % 64)) (sym (others (slice_index numbers i) (p / 64) apart (omega (arith, within, few)))))
-            (before i node earlier inside there number null e kind_is at_e)
+            (before i node earlier inside there untold number null e kind_is at_e)
       ]
 
-  pub starts-all : (wakes : WakeTable) (literals : ℕ) (starts : Starts) (n : ℕ) → AreWakesSound table.nodes.items wakes literals → numbers ≡ wakes.first_engines.items → length numbers ≤ n → AreStartsTo meaning table numbers prev bytes starts n → AreStartsEnough meaning table starts prev bytes
-  starts-all wakes literals starts n sound same all to k node there no_parent number null e kind_is at_e =
+  pub starts-all : (wakes : WakeTable) (literals : ℕ) (starts : Starts) (n : ℕ) → AreWakesSound table.nodes.items wakes literals → numbers ≡ wakes.first_engines.items → length numbers ≤ n → AreStartsTo meaning table cache numbers prev bytes starts n → AreStartsEnough meaning table cache starts prev bytes
+  starts-all wakes literals starts n sound same all to k node there no_parent untold number null e kind_is at_e =
       let listed = subst (λ ns. IsListed ns k) (sym same) (sound.entered k number null node there kind_is no_parent) in
       subst (λ i. DoEntriesSuffice (meaning e) (starts_at starts i) prev bytes) listed.is
-      (to listed.place node (omega (arith, listed.within, all)) listed.within (ap (slice_get table.nodes.items) listed.is ∙ there) number null e kind_is at_e)
+      (to listed.place node (omega (arith, listed.within, all)) listed.within (ap (slice_get table.nodes.items) listed.is ∙ there) (ap (told cache) listed.is ∙ untold) number null e kind_is at_e)

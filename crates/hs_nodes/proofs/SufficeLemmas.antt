@@ -23,11 +23,11 @@ use Rattle.hs_nodes.proofs.RunLemmas.{AreNowhereFrom, IsRunTo, reach-all, reach-
 use Rattle.hs_nodes.proofs.StartingLemmas.{bits-all}
 
 -- a place of a block is one of the chunk
-reach-place : (bytes : List ℕ) (j i : ℕ) → i ≤ length (block bytes j) → 64 * j ≤ length bytes → 64 * j + i ≤ length bytes
+pub reach-place : (bytes : List ℕ) (j i : ℕ) → i ≤ length (block bytes j) → 64 * j ≤ length bytes → 64 * j + i ≤ length bytes
 unfolding block
 reach-place bytes j i within reaches = omega (arith, within, reaches, length-take 64 (drop (64 * j) bytes), length-drop (64 * j) bytes)
 
-reach-block : (bytes : List ℕ) (j i : ℕ) → i < length (block bytes j) → 64 * j ≤ length bytes
+pub reach-block : (bytes : List ℕ) (j i : ℕ) → i < length (block bytes j) → 64 * j ≤ length bytes
 unfolding block
 reach-block bytes j i low = omega (arith, low, length-take 64 (drop (64 * j) bytes), length-drop (64 * j) bytes)
 
@@ -38,7 +38,7 @@ take-again (suc i) (suc n) [] below = refl
 take-again (suc i) (suc n) (x ∷ xs) below = ap (λ v. x ∷ v) (take-again i n xs (omega arith))
 
 -- the bytes before it
-place-front : (u bytes : List ℕ) (j i : ℕ) → i ≤ length (block bytes j) → u ++ take (64 * j + i) bytes ≡ front u bytes j ++ take i (block bytes j)
+pub place-front : (u bytes : List ℕ) (j i : ℕ) → i ≤ length (block bytes j) → u ++ take (64 * j + i) bytes ≡ front u bytes j ++ take i (block bytes j)
 unfolding front block
 place-front u bytes j i within =
     ap (λ v. u ++ v) (take-add (64 * j) i bytes)

@@ -6,6 +6,10 @@ use Rattle.hs_base.specs.declared.byte_set.ByteSet.{ByteSet}
 use Rattle.hs_base.specs.declared.context.Mask.{Mask}
 use Rattle.hs_base.specs.declared.context.Prev.{Prev}
 use Rattle.hs_engine.specs.Engines.{Meaning}
+use Rattle.hs_base.specs.Contexts.{class_of}
+use Rattle.hs_base.specs.declared.context.Next.TheVariants as after
+use Rattle.hs_waking.specs.WakeRows.{SleepsOver}
+use Rattle.hs_nodes.specs.Nodes.{PassesOver}
 use Rattle.hs_nodes.specs.Hits.{is_hit_at}
 use Rattle.hs_reports.specs.Marks.{is_marked}
 use Rattle.hs_nodes.specs.Resting.{AreNodesResting, AreNodesUnwoken, IsUnwokenIn, SleepsThrough}
@@ -20,6 +24,14 @@ use Rattle.hs_waking.specs.declared.wake_row.WakeRow.{WakeRow}
 use Rattle.hs_nodes.specs.declared.wake_table.WakeTable.{WakeTable}
 use Rattle.hs_waking.specs.Fits.{FitsNowhere, IsRowBy, row_numbers}
 use Rattle.hs_nodes.proofs.WalkLemmas.{unmarked-before}
+
+-- what sleeps over bytes passes over them
+pub sleeps-passes : (m : Meaning) (region : List ℕ) (prev : Prev) (bytes : List ℕ) → SleepsOver m region prev bytes → PassesOver m region prev bytes
+sleeps-passes m region prev bytes sleeps tree u entered runs count last field = record {
+  field = sleeps.stays tree u entered runs count last field;
+  before_is = λ i low. ((λ set. absurd (cc)), λ leaves. absurd (sleeps.leaves_nothing tree u entered runs count last field i (omega arith) (omega arith) (class_of (slice_index bytes i)) leaves));
+  behind_is = λ i low. ((λ set. absurd (cc)), λ leaves. absurd (sleeps.leaves_nothing tree u entered runs count last field (i + 1) (omega arith) (omega arith) after.Unknown leaves));
+}
 
 -- a mark that isn't there
 none-or : (b : Bool) → (b ≡ true → ⊥) → b ≡ false
@@ -52,7 +64,7 @@ module _ {E : Type 0} (meaning : E → Meaning) (table : NodeTable E) where
     refl,
     λ e at_e.
         let own = sound.are place k number None node row e at at_row there is at_e in
-        λ region starts. own.tells.wakes region bytes prev starts small (nowhere own.own own.numbered),
+        λ region idle. sleeps-passes (meaning e) region prev bytes (own.tells.wakes region bytes prev idle.starts small (nowhere own.own own.numbered)),
   )
   row-asleep wakes place k node prev bytes sound small at there (Engine number (Some mask)) is never row at_row nowhere = absurd (cc)
   row-asleep wakes place k node prev bytes sound small at there (Literal number len) is never row at_row nowhere = absurd (cc)

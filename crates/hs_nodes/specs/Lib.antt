@@ -16,3 +16,5 @@ pub mod WellRegions
 pub mod Starting
 pub mod Sparing
 pub mod Turning
+pub mod Cached
+pub mod Loading

@@ -21,7 +21,7 @@ use Rattle.hs_nodes.specs.declared.hits.ChunkHits.{ChunkHits}
 use Rattle.hs_nodes.specs.declared.table.LookBackPair.{LookBackPair}
 use Rattle.hs_nodes.specs.declared.table.NodeKind.{NodeKind}
 use Rattle.hs_nodes.specs.declared.table.NodeKind.TheVariants.{Engine, Literal, FirstLiteral, LookBack}
-use Rattle.hs_waking.specs.WakeRows.{SleepsOver}
+use Rattle.hs_lazy.specs.Runs.{RunsThrough}
 
 -- the number is that of the literal of the piece, which has so many bytes
 pub record IsLiteralOf (literals : List (List LiteralByte)) (number len : ℕ) (piece : Piece) : Type 0 where
@@ -43,10 +43,15 @@ pub record IsAtRest (m : Meaning) (part : List ℕ) : Type 0 where
   pub quiet : IsQuiet m part
   pub well : (at : ℕ) → m.well part at
 
+-- The region stays over the bytes behind `prev`, before each of which the expression is entered, and the expression is
+-- left nowhere: not before a byte of them, nor behind one where nothing is known of what comes next.
+abbrev pub PassesOver : Meaning → (region : List ℕ) → Prev → (bytes : List ℕ) → Type 0
+PassesOver m region prev bytes = RunsThrough m region region prev bytes (λ i. false) (λ i. false)
+
 -- And it may where it is entered before each byte of a chunk: it has no empty span, and the bytes wake nothing.
 pub record IsUnwoken (m : Meaning) (null : Option Mask) (part : List ℕ) (prev : Prev) (bytes : List ℕ) : Type 0 where
   pub never_empty : null ≡ None
-  pub asleep : SleepsOver m part prev bytes
+  pub asleep : PassesOver m part prev bytes
 
 -- where the pieces before are left, as far as a node of that kind asks
 abbrev pub IsEnteredBy : NodeKind → (pieces : List Piece) (u bytes : List ℕ) (enters : ChunkEnds) → Type 0

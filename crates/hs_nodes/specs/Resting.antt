@@ -7,7 +7,7 @@ use Rattle.hs_engine.specs.Engines.{Meaning, IsStart}
 use Rattle.hs_nodes.specs.Hits.{is_hit_at}
 use Rattle.hs_nodes.specs.Left.{nowhere}
 use Rattle.hs_reports.specs.Marks.{is_marked}
-use Rattle.hs_nodes.specs.Nodes.{IsAtRest}
+use Rattle.hs_nodes.specs.Nodes.{IsAtRest, PassesOver}
 use Rattle.hs_nodes.specs.Walks.{AreMoreMarks, ChangesMarked, MayNodesRest, node_ends, node_part}
 use Rattle.hs_nodes.specs.declared.ends.ChunkEnds.{ChunkEnds}
 use Rattle.hs_nodes.specs.declared.hits.ChunkHits.{ChunkHits}
@@ -15,7 +15,6 @@ use Rattle.hs_nodes.specs.declared.table.Node.{Node}
 use Rattle.hs_nodes.specs.declared.table.NodeKind.{NodeKind}
 use Rattle.hs_nodes.specs.declared.table.NodeKind.TheVariants.{Engine, Literal, FirstLiteral, LookBack}
 use Rattle.hs_nodes.specs.declared.table.NodeTable.{NodeTable}
-use Rattle.hs_waking.specs.WakeRows.{SleepsOver}
 
 -- nothing is live in what is kept of a node of that kind
 abbrev pub IsUnset : NodeKind → (part : List ℕ) → Type 0
@@ -24,10 +23,13 @@ IsUnset (Literal number len) part = AreZero part
 IsUnset (FirstLiteral number len) part = Unit {0}
 IsUnset (LookBack pair) part = Unit {0}
 
--- Nothing is live in an engine's region, and it may stand at any offset, behind the empty stream too.
+-- Nothing is live in an engine's region, in which all bytes are 0, and it may stand at any offset, behind the empty
+-- stream too.
 pub record IsIdleEngine (m : Meaning) (part : List ℕ) : Type 0 where
   pub rests : IsAtRest m part
   pub starts : IsStart m part
+  pub sized : length part ≡ m.width
+  pub zero : AreZero part
 
 -- Nothing is live in a region of the engines in which all bytes are 0, and it may stand at any offset.
 abbrev pub AreEnginesIdle : {E : Type 0} (meaning : E → Meaning) (engines : List E) → Type 0
@@ -39,9 +41,9 @@ AreEnginesIdle {E = E} meaning engines =
     AreZero part →
     IsIdleEngine (meaning e) part
 
--- A chunk behind `prev` wakes nothing in an engine, from each region that is that of the empty stream.
+-- A chunk behind `prev` wakes nothing in an engine, from each region on in which nothing is live.
 abbrev pub SleepsThrough : Meaning → Prev → (bytes : List ℕ) → Type 0
-SleepsThrough m prev bytes = (region : List ℕ) → IsStart m region → SleepsOver m region prev bytes
+SleepsThrough m prev bytes = (region : List ℕ) → IsIdleEngine m region → PassesOver m region prev bytes
 
 module _ {E : Type 0} (meaning : E → Meaning) (engines : List E) where
   -- A node of that kind stays as it is in each chunk that neither enters nor wakes it.

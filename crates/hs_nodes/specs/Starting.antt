@@ -1,5 +1,5 @@
 -- Engines without a parent over a chunk: they are entered where a match may begin, and that suffices.
-use Rattle.std.specs.Prelude.{◌≡◌, ℕ, ◌*◌, ◌/◌, ◌%◌, ◌<◌, Bool, List, ◌++◌, length, take, Option, Some, None}
+use Rattle.std.specs.Prelude.{◌≡◌, ℕ, ◌+◌, ◌*◌, ◌/◌, ◌%◌, ◌<◌, ◌≤◌, Bool, false, List, ◌++◌, length, take, Option, Some, None}
 use Rattle.std.specs.Prelude.{slice_get, slice_index}
 use Rattle.hs_base.specs.declared.context.Mask.{Mask}
 use Rattle.hs_base.specs.declared.context.Prev.{Prev}
@@ -10,6 +10,8 @@ use Rattle.hs_block.specs.Blocks.{IsFieldOf}
 use Rattle.hs_block.specs.Scans.{IsLeftBefore, IsLeftBehind, Scans}
 use Rattle.hs_block.specs.declared.engine.BlockEnds.{BlockEnds}
 use Rattle.hs_engine.specs.Engines.{Meaning}
+use Rattle.hs_lazy.specs.Caches.{Told, told}
+use Rattle.hs_lazy.specs.declared.cache.Cache.{Cache}
 use Rattle.hs_nodes.specs.Blocks.{block, front}
 use Rattle.hs_nodes.specs.Resting.{IsIdleEngine}
 use Rattle.hs_nodes.specs.declared.ends.ChunkEnds.{ChunkEnds}
@@ -59,6 +61,24 @@ RunsEntered m old new prev at bytes words ends =
     IsFieldOf m old prev at tree u entered →
     IsRunEntered (m.field new tree) tree u entered bytes words ends
 
+-- The engine takes a chunk as if it were entered before each byte: it is entered so that this suffices.
+pub record RunsAlone (m : Meaning) (old new : List ℕ) (prev : Prev) (at : ℕ) (bytes : List ℕ) (ends : ChunkEnds) :
+    Type 0 where
+  pub words : ℕ → ℕ
+  pub runs : RunsEntered m old new prev at bytes words ends
+  pub suffices : DoEntriesSuffice m (is_place words) prev bytes
+
+-- The words have what is told of the bytes of that block of a chunk, and no more.
+pub record IsToldIn (bytes : List ℕ) (t : Told) (j before behind : ℕ) : Type 0 where
+  pub before_in : (i : ℕ) → i < length (block bytes j) → word_bit before i ≡ t.before (64 * j + i)
+  pub before_past : (i : ℕ) → length (block bytes j) ≤ i → word_bit before i ≡ false
+  pub behind_in : (i : ℕ) → i < length (block bytes j) → word_bit behind i ≡ t.behind (64 * j + i)
+  pub behind_past : (i : ℕ) → length (block bytes j) ≤ i → word_bit behind i ≡ false
+
+-- And so in each block.
+abbrev pub AreToldEnds : (bytes : List ℕ) → ChunkEnds → Told → Type 0
+AreToldEnds bytes ends t = (j : ℕ) → IsToldIn bytes t j (slice_index ends.before j) (slice_index ends.behind j)
+
 -- It suffices that a node of that kind, if it is one of an engine, is entered where its matches may begin.
 abbrev pub DoStartsSuffice : {E : Type 0} → (E → Meaning) → (engines : List E) → NodeKind → Starts → (number : ℕ) →
     Prev → (bytes : List ℕ) → Type 0
@@ -68,12 +88,14 @@ DoStartsSuffice {E = E} meaning engines kind starts k prev bytes =
     slice_get engines number ≡ Some e →
     DoEntriesSuffice (meaning e) (starts_at starts k) prev bytes
 
--- And so for each node without a parent.
-abbrev pub AreStartsEnough : {E : Type 0} → (E → Meaning) → NodeTable E → Starts → Prev → (bytes : List ℕ) → Type 0
-AreStartsEnough meaning table starts prev bytes =
+-- And so for each node without a parent of which a cache tells nothing.
+abbrev pub AreStartsEnough : {E : Type 0} → (E → Meaning) → NodeTable E → Cache → Starts → Prev → (bytes : List ℕ) →
+    Type 0
+AreStartsEnough meaning table cache starts prev bytes =
     (k : ℕ) (node : Node) →
     slice_get table.nodes.items k ≡ Some node →
     node.parent ≡ None →
+    told cache k ≡ None →
     DoStartsSuffice meaning table.engines.items node.kind starts k prev bytes
 
 -- The pieces before are left before each byte of a chunk.

@@ -1,23 +1,27 @@
 //! An engine over a chunk.
 
-ghost use Rattle.std.specs.Prelude.{◌≡◌, ℕ, ◌+◌, ◌≤◌, ◌^◌, false, Some, length};
+ghost use Rattle.std.specs.Prelude.{◌≡◌, ℕ, ◌+◌, ◌≤◌, ◌^◌, false, None, Some, length};
 ghost use Rattle.hs_nodes.specs.Pieces.{TakesChunk};
-ghost use Rattle.hs_nodes.specs.Starting.{IsEnteredThroughout, IsIdle, RunsEntered, ScansBlock};
+ghost use Rattle.hs_lazy.specs.Caches.{TellsRun, Told, told};
+ghost use Rattle.hs_nodes.specs.Starting.{AreToldEnds, IsEnteredThroughout, IsIdle, RunsAlone, RunsEntered};
+ghost use Rattle.hs_nodes.specs.Starting.{ScansBlock};
 ghost use Rattle.hs_waking.specs.EntryRows.{DoEntriesSuffice};
 ghost use Rattle.hs_waking.specs.Starts.{start_word, starts_at};
 
 use crate::chunk::{BLOCK_BYTES, Chunk};
 use crate::ends::ChunkEnds;
 use hs_base::Prev;
-use hs_bits::is_zero;
+use hs_bits::{is_zero, low_places};
 use hs_block::{BlockEnds, BlockEngine};
 use hs_engine::Steps;
+use hs_lazy::Cache;
 use hs_waking::Starts;
 use std::sync::ledger::Ledger;
 
 /// Takes a chunk by an engine, where the pieces before are left as `enters` tell, and the piece has the empty span
 /// where `null` tells it. `first` is the number of its node, if that has no parent: then it is entered throughout, and
-/// needs to be where its matches may begin. Answers where the pieces up to it are left.
+/// the cache tells what it does, or it needs to be entered where its matches may begin. Answers where the pieces up to
+/// it are left.
 pub(crate) fn run_engine<E: BlockEngine, L: Ledger>(
     engine: &E,
     region: &mut [u8],
@@ -25,6 +29,7 @@ pub(crate) fn run_engine<E: BlockEngine, L: Ledger>(
     enters: &ChunkEnds,
     null: &ChunkEnds,
     starts: &Starts,
+    cache: &Cache,
     first: Option<usize>,
     steps: &mut Steps<L>,
 ) -> ChunkEnds
@@ -32,8 +37,10 @@ pub(crate) fn run_engine<E: BlockEngine, L: Ledger>(
     requires well { (E.meaning engine.now).well region.old chunk.now.at }
     requires listed { (E.meaning engine.now).always ≡ false }
     requires idle { IsIdle (E.meaning engine.now) }
-    requires starts { (k : ℕ) → first ≡ Some k →
+    requires starts { (k : ℕ) → first ≡ Some k → told cache.now k ≡ None →
         DoEntriesSuffice (E.meaning engine.now) (starts_at starts.now k) chunk.now.prev chunk.now.bytes.now }
+    requires told { (k : ℕ) (t : Told) → first ≡ Some k → told cache.now k ≡ Some t →
+        TellsRun (E.meaning engine.now) region.old chunk.now.prev chunk.now.bytes.now t }
     requires entered { (k : ℕ) → first ≡ Some k → IsEnteredThroughout enters.now chunk.now.bytes.now }
     ensures len { length region.new ≡ (E.meaning engine.now).width }
     ensures well { (E.meaning engine.now).well region.new (chunk.now.at + length chunk.now.bytes.now) }
@@ -42,9 +49,58 @@ pub(crate) fn run_engine<E: BlockEngine, L: Ledger>(
         chunk.now.bytes.now enters.now null.now result }
 {
     match first {
-        Some(k) => run_first(engine, region, chunk, starts, k, steps).through(enters, null),
+        Some(k) => run_alone(engine, region, chunk, starts, cache, k, steps).through(enters, null),
         None => run_entered(engine, region, chunk, enters, null, steps),
     }
+}
+
+/// Takes a chunk by an engine without a parent, as the cache tells it or by itself. Answers where its expression is
+/// left.
+fn run_alone<E: BlockEngine, L: Ledger>(
+    engine: &E,
+    region: &mut [u8],
+    chunk: &Chunk,
+    starts: &Starts,
+    cache: &Cache,
+    k: usize,
+    steps: &mut Steps<L>,
+) -> ChunkEnds
+    requires len { length region.old ≡ (E.meaning engine.now).width }
+    requires well { (E.meaning engine.now).well region.old chunk.now.at }
+    requires listed { (E.meaning engine.now).always ≡ false }
+    requires idle { IsIdle (E.meaning engine.now) }
+    requires starts { told cache.now k ≡ None →
+        DoEntriesSuffice (E.meaning engine.now) (starts_at starts.now k) chunk.now.prev chunk.now.bytes.now }
+    requires told { (t : Told) → told cache.now k ≡ Some t →
+        TellsRun (E.meaning engine.now) region.old chunk.now.prev chunk.now.bytes.now t }
+    ensures len { length region.new ≡ (E.meaning engine.now).width }
+    ensures well { (E.meaning engine.now).well region.new (chunk.now.at + length chunk.now.bytes.now) }
+    ensures ticks { steps.new ≤ steps.old + length chunk.now.bytes.now }
+    ensures runs { RunsAlone (E.meaning engine.now) region.old region.new chunk.now.prev chunk.now.at
+        chunk.now.bytes.now result }
+{
+    if cache.is_told(k) {
+        take_told(region, chunk, cache, k)
+    } else {
+        run_first(engine, region, chunk, starts, k, steps)
+    }
+}
+
+/// Takes what a cache tells of the node of that number over a chunk.
+fn take_told(region: &mut [u8], chunk: &Chunk, cache: &Cache, k: usize) -> ChunkEnds
+    requires told { (t : Told) × (told cache.now k ≡ Some t) × (length region.old ≡ length t.part) }
+    ensures part { (t : Told) → told cache.now k ≡ Some t → region.new ≡ t.part }
+    ensures ends { (t : Told) → told cache.now k ≡ Some t → AreToldEnds chunk.now.bytes.now result t }
+{
+    region.copy_from_slice(cache.part(k));
+    let told = cache.ends(k);
+    let mut ends = ChunkEnds::NOWHERE;
+    for j in 0..chunk.blocks() {
+        let all = low_places(chunk.block(j).len());
+        ends.before[j] = told.before[j] & all;
+        ends.behind[j] = told.behind[j] & all;
+    }
+    ends
 }
 
 /// Takes a chunk so by an engine that is entered where `enters` tell, block by block.

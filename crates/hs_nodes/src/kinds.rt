@@ -1,6 +1,8 @@
 //! One node over a chunk.
 
-ghost use Rattle.std.specs.Prelude.{◌≡◌, ℕ, ◌+◌, ◌≤◌, Some, length};
+ghost use Rattle.std.specs.Prelude.{◌≡◌, ℕ, ◌+◌, ◌≤◌, None, Some, length};
+ghost use Rattle.hs_lazy.specs.Caches.{Told, told};
+ghost use Rattle.hs_nodes.specs.Cached.{IsToldKind};
 ghost use Rattle.hs_nodes.specs.Contexts.{AreChunkContexts, NeedsContexts};
 ghost use Rattle.hs_nodes.specs.Nodes.{IsKindSound, IsWellPart, TakesPiece, most_ticks};
 ghost use Rattle.hs_nodes.specs.Resting.{AreEnginesIdle};
@@ -17,6 +19,7 @@ use crate::table::NodeKind;
 use hs_bits::Contexts;
 use hs_block::BlockEngine;
 use hs_engine::Steps;
+use hs_lazy::Cache;
 use hs_waking::Starts;
 use std::sync::ledger::Ledger;
 
@@ -29,11 +32,13 @@ pub(crate) struct Found<'c, 'h> {
     pub hits: &'h [ChunkHits],
     /// At which of its places matches of each node without a parent may begin.
     pub starts: &'h Starts,
+    /// What a cache tells of it.
+    pub cache: &'h Cache,
 }
 
 /// Takes a chunk by a node of that kind, where the pieces before are left as `enters` tell. `first` is its number, if
-/// it has no parent: then it is entered throughout, and needs to be where its matches may begin. Answers where the
-/// pieces up to the node are left.
+/// it has no parent: then it is entered throughout, and the cache tells what it does, or it needs to be entered where
+/// its matches may begin. Answers where the pieces up to the node are left.
 pub(crate) fn run_kind<E: BlockEngine, L: Ledger>(
     kind: NodeKind,
     engines: &[E],
@@ -49,7 +54,9 @@ pub(crate) fn run_kind<E: BlockEngine, L: Ledger>(
     requires contexts { NeedsContexts kind →
         AreChunkContexts found.now.contexts.now chunk.now.prev chunk.now.at chunk.now.bytes.now }
     requires idle { AreEnginesIdle E.meaning engines.now }
-    requires starts { (k : ℕ) → first ≡ Some k →
+    requires told { (k : ℕ) (t : Told) → first ≡ Some k → told found.now.cache.now k ≡ Some t →
+        IsToldKind E.meaning engines.now kind part.old chunk.now.prev chunk.now.bytes.now t }
+    requires starts { (k : ℕ) → first ≡ Some k → told found.now.cache.now k ≡ None →
         DoStartsSuffice E.meaning engines.now kind found.now.starts.now k chunk.now.prev chunk.now.bytes.now }
     requires entered { (k : ℕ) → first ≡ Some k → IsEnteredThroughout enters.now chunk.now.bytes.now }
     ensures len { length part.new ≡ length part.old }
@@ -68,6 +75,7 @@ pub(crate) fn run_kind<E: BlockEngine, L: Ledger>(
                 enters,
                 &null,
                 found.starts,
+                found.cache,
                 first,
                 steps,
             )

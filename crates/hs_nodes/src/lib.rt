@@ -1,6 +1,7 @@
 //! The nodes of a forest of pieces, run over a chunk of up to eight blocks of 64 bytes.
 #![tactic(auto)]
 
+mod cached;
 mod chunk;
 mod contexts;
 mod ends;
@@ -23,6 +24,7 @@ mod wake_table;
 mod waking;
 mod walking;
 
+pub use cached::{cache_for, run_cached};
 pub use chunk::{BLOCK_BYTES, Chunk, MAX_BLOCKS, MAX_CHUNK, PAST_BYTES};
 pub use ends::ChunkEnds;
 pub use first::everywhere;

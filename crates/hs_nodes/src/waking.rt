@@ -1,9 +1,11 @@
 //! Which nodes a chunk wakes.
 
-ghost use Rattle.std.specs.Prelude.{◌≡◌, ◌*◌, ◌<◌, ◌≤◌, ℕ, List, true, false, length, Some, slice_get};
+ghost use Rattle.std.specs.Prelude.{◌≡◌, ◌*◌, ◌<◌, ◌≤◌, ℕ, List, true, false, length, None, Some, slice_get};
 ghost use Rattle.std.specs.Prelude.{slice_index};
 ghost use Rattle.hs_base.specs.Bits.{has_word_bit};
 ghost use Rattle.hs_reports.specs.Marks.{is_marked, mark_room};
+ghost use Rattle.hs_lazy.specs.Caches.{told};
+ghost use Rattle.hs_nodes.specs.Cached.{AreToldAsleep};
 ghost use Rattle.hs_nodes.specs.Starting.{AreStartsEnough, DoStartsSuffice};
 ghost use Rattle.hs_nodes.specs.Waking.{AreEnginesUnwoken, AreRowsSound, AreStartsBy, AreWakesSound, IsKindAsleep};
 ghost use Rattle.hs_base.specs.declared.context.Prev.{Prev};
@@ -22,6 +24,7 @@ use crate::wake_table::WakeTable;
 use crate::walking::{mark_all, node_at, start_of};
 use hs_base::Prev;
 use hs_engine::Engine;
+use hs_lazy::Cache;
 use hs_reports::MarkSet;
 use hs_waking::{ALL_PLACES, ClassWords, FitStack, Places, Starts, is_none};
 
@@ -121,6 +124,7 @@ fn wake_engine<E: Engine>(
     bytes: &[u8],
     words: &mut ClassWords,
     stack: &mut FitStack,
+    cache: &Cache,
     starts: &mut Starts,
     marks: &mut MarkSet,
 )
@@ -132,6 +136,7 @@ fn wake_engine<E: Engine>(
     requires few { length bytes.now ≤ 512 }
     requires chunk { AreOfChunk words.old graph.now.wakes.sets.items bytes.now }
     requires levels { IsStackOf stack.old graph.now.wakes.sets.items prev bytes.now }
+    requires told { AreToldAsleep E.meaning graph.now.table cache.now marks.old prev bytes.now }
     ensures chunk { AreOfChunk words.new graph.now.wakes.sets.items bytes.now }
     ensures levels { IsStackOf stack.new graph.now.wakes.sets.items prev bytes.now }
     ensures more { AreMoreMarks (length graph.now.table.nodes.items) marks.old marks.new }
@@ -141,12 +146,16 @@ fn wake_engine<E: Engine>(
         IsKindAsleep E.meaning graph.now.table.engines.items node.kind prev bytes.now }
     ensures starts { (node : Node) →
         slice_get graph.now.table.nodes.items (slice_index graph.now.wakes.first_engines.items place) ≡ Some node →
+        told cache.now (slice_index graph.now.wakes.first_engines.items place) ≡ None →
         DoStartsSuffice E.meaning graph.now.table.engines.items node.kind starts.new
         (slice_index graph.now.wakes.first_engines.items place) prev bytes.now }
     ensures others { (k j : ℕ) → (k ≡ slice_index graph.now.wakes.first_engines.items place → ⊥) → j < 8 →
         start_word starts.new k j ≡ start_word starts.old k j }
 {
     let k = start_of(&graph.wakes.first_engines, place);
+    if cache.is_told(k) {
+        return;
+    }
     if is_ruled_out(graph, place, k, stack) {
         starts.tell_nowhere(k);
         return;
@@ -159,12 +168,14 @@ fn wake_engine<E: Engine>(
 }
 
 /// Marks the nodes of engines without a parent that a chunk behind `prev` wakes: those that have the empty span, and
-/// those whose row fits somewhere in its bytes. Tells of each where its matches may begin.
+/// those whose row fits somewhere in its bytes. Tells of each where its matches may begin. Those of which a cache tells
+/// are left as they are.
 pub fn wake_engines<E: Engine>(
     graph: &Graph<E>,
     prev: Prev,
     bytes: &[u8],
     words: &mut ClassWords,
+    cache: &Cache,
     starts: &mut Starts,
     marks: &mut MarkSet,
 )
@@ -173,13 +184,16 @@ pub fn wake_engines<E: Engine>(
     requires room { length graph.now.table.nodes.items ≤ mark_room marks.old }
     requires below { (k : ℕ) → is_marked marks.old k ≡ true → k < length graph.now.table.nodes.items }
     requires few { length bytes.now ≤ 512 }
-    ensures starts { AreStartsEnough E.meaning graph.now.table starts.new prev bytes.now }
+    requires told { AreToldAsleep E.meaning graph.now.table cache.now marks.old prev bytes.now }
+    ensures starts { AreStartsEnough E.meaning graph.now.table cache.now starts.new prev bytes.now }
     ensures more { AreMoreMarks (length graph.now.table.nodes.items) marks.old marks.new }
     ensures asleep { AreEnginesUnwoken E.meaning graph.now.table marks.new prev bytes.now }
 {
     words.begin();
     let mut stack = FitStack::new();
     for i in 0..graph.wakes.first_engines.len() {
-        wake_engine(graph, i, prev, bytes, words, &mut stack, starts, marks);
+        wake_engine(
+            graph, i, prev, bytes, words, &mut stack, cache, starts, marks,
+        );
     }
 }

@@ -3,6 +3,8 @@
 ghost use Rattle.std.specs.Prelude.{◌≡◌, ℕ, ◌+◌, ◌*◌, ◌<◌, ◌≤◌, ◌⊎◌, true, false, List, [], length, slice_get};
 ghost use Rattle.std.specs.Prelude.{slice_index};
 ghost use Rattle.std.specs.Prelude.{EachIndex, None, Some};
+ghost use Rattle.hs_lazy.specs.Caches.{Told, told};
+ghost use Rattle.hs_nodes.specs.Cached.{IsToldKind, TellsNodes};
 ghost use Rattle.hs_nodes.specs.Contexts.{AreChunkContexts, NeedsContexts};
 ghost use Rattle.hs_nodes.specs.Left.{AreLeftIn, nowhere};
 ghost use Rattle.hs_nodes.specs.Resting.{AreEnginesIdle};
@@ -27,6 +29,7 @@ use hs_base::Prev;
 use hs_bits::Contexts;
 use hs_block::BlockEngine;
 use hs_engine::Steps;
+use hs_lazy::Cache;
 use hs_reports::MarkSet;
 use hs_waking::Starts;
 use std::sync::ledger::Ledger;
@@ -79,7 +82,10 @@ fn run_node<E: BlockEngine, L: Ledger>(
     requires contexts { (node : Node) → slice_get table.now.nodes.items k ≡ Some node → NeedsContexts node.kind →
         AreChunkContexts found.now.contexts.now chunk.now.prev chunk.now.at chunk.now.bytes.now }
     requires idle { AreEnginesIdle E.meaning table.now.engines.items }
-    requires starts { AreStartsEnough E.meaning table.now found.now.starts.now chunk.now.prev
+    requires told { (node : Node) (t : Told) → slice_get table.now.nodes.items k ≡ Some node →
+        told found.now.cache.now k ≡ Some t → IsToldKind E.meaning table.now.engines.items node.kind
+        (node_part region.old node) chunk.now.prev chunk.now.bytes.now t }
+    requires starts { AreStartsEnough E.meaning table.now found.now.cache.now found.now.starts.now chunk.now.prev
         chunk.now.bytes.now }
     requires everywhere { (u : List ℕ) → AreLeftIn [] u chunk.now.bytes.now all.now }
     ensures len { length region.new ≡ length region.old }
@@ -202,12 +208,13 @@ fn mark_children<E>(
 
 /// Takes a chunk by the nodes that are marked, in their order; where a node is left, its children are marked, but for
 /// literals of which nothing comes. So those that are marked then have been run, and no other one. Of engines without a
-/// parent it is said where their matches may begin.
+/// parent the cache tells what they do, or it is said where their matches may begin.
 pub fn walk<E: BlockEngine, L: Ledger>(
     table: &NodeTable<E>,
     chunk: &Chunk,
     hits: &[ChunkHits],
     starts: &Starts,
+    cache: &Cache,
     region: &mut [u8],
     ends: &mut [ChunkEnds],
     marks: &mut MarkSet,
@@ -222,7 +229,8 @@ pub fn walk<E: BlockEngine, L: Ledger>(
     requires rests { MayNodesRest E.meaning table.now marks.old hits.now region.old chunk.now.prev
         chunk.now.bytes.now }
     requires idle { AreEnginesIdle E.meaning table.now.engines.items }
-    requires starts { AreStartsEnough E.meaning table.now starts.now chunk.now.prev chunk.now.bytes.now }
+    requires told { TellsNodes E.meaning table.now cache.now region.old chunk.now.prev chunk.now.bytes.now }
+    requires starts { AreStartsEnough E.meaning table.now cache.now starts.now chunk.now.prev chunk.now.bytes.now }
     ensures well { AreNodesWell E.meaning table.now region.new (chunk.now.at + length chunk.now.bytes.now) }
     ensures ends { length ends.new ≡ length ends.old }
     ensures marks { AreMoreMarks (length table.now.nodes.items) marks.old marks.new }
@@ -242,6 +250,7 @@ pub fn walk<E: BlockEngine, L: Ledger>(
             contexts: &contexts,
             hits,
             starts,
+            cache,
         };
         run_node(table, k, chunk, &found, &all, region, ends, steps);
         if !ends[k].is_nowhere() {

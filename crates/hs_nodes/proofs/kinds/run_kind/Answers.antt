@@ -43,10 +43,10 @@ run_engine-requires-clause-idle g c part len zero =
     c.requires.idle c.in-Engine.number c.index-engines-number.result part there (sound.each c.index-engines-number.result there).1 len zero
 
 pub run_engine-requires-clause-starts : goal.run_engine-requires-clause-starts
-run_engine-requires-clause-starts g c k is =
+run_engine-requires-clause-starts g c k is untold =
     let engines = c.args.engines.now in
     let sound = subst (λ (k : NodeKind). IsKindSound g.E.Engine.meaning engines (length c.args.found.now.hits.now) k (length c.args.part.now)) c.in-Engine.is c.requires.sound in
-    c.requires.starts k is c.in-Engine.number c.in-Engine.null c.index-engines-number.result c.in-Engine.is (slice_get_read engines (length engines) c.in-Engine.number c.index-engines-number.result refl sound.there c.index-engines-number.is)
+    c.requires.starts k is untold c.in-Engine.number c.in-Engine.null c.index-engines-number.result c.in-Engine.is (slice_get_read engines (length engines) c.in-Engine.number c.index-engines-number.result refl sound.there c.index-engines-number.is)
 
 pub bounds-found-number : goal.bounds-found-number
 bounds-found-number g c = (subst (λ (k : NodeKind). IsKindSound g.E.Engine.meaning c.args.engines.now (length c.args.found.now.hits.now) k (length c.args.part.now)) c.in-Literal.is c.requires.sound).0
@@ -166,3 +166,9 @@ returns-in-LookBack-clause-takes g c =
     subst (λ (k : NodeKind). TakesPiece m engines k c.args.part.now c.args.part.now c.args.chunk.now.prev c.args.chunk.now.at c.args.chunk.now.past.now c.args.chunk.now.bytes.now hits c.args.enters.now c.run_pair.result) (sym c.in-LookBack.is)
     (pair-takes m engines c.in-LookBack.pair c.args.part.now c.args.part.now c.args.chunk.now.prev c.args.chunk.now.at c.args.chunk.now.past.now c.args.chunk.now.bytes.now hits c.args.enters.now c.run_pair.result
     c.index-engines-pair.result _ (slice_get_read engines (length engines) c.in-LookBack.pair.engine c.index-engines-pair.result refl sound.0.there c.index-engines-pair.is) (slice_get-get_or hits c.in-LookBack.pair.literal _ sound.1) c.run_pair.ensures.takes)
+
+pub run_engine-requires-clause-told : goal.run_engine-requires-clause-told
+run_engine-requires-clause-told g c k t is some =
+    let engines = c.args.engines.now in
+    let sound = subst (λ (k : NodeKind). IsKindSound g.E.Engine.meaning engines (length c.args.found.now.hits.now) k (length c.args.part.now)) c.in-Engine.is c.requires.sound in
+    c.requires.told k t is some c.in-Engine.number c.in-Engine.null c.index-engines-number.result c.in-Engine.is (slice_get_read engines (length engines) c.in-Engine.number c.index-engines-number.result refl sound.there c.index-engines-number.is)

@@ -1,11 +1,13 @@
 use Rattle.std.proofs.Common.{◌≡◌, ◌∙◌, arith, slice_get, slice_index, sym, ap}
 use Rattle.hs_nodes.proofs.StartingLemmas.{read-there, row-starts, starts-asleep, word-none, zero-places}
 use Rattle.hs_waking.specs.Starts.{start_word}
+use Rattle.hs_lazy.specs.Caches.{told}
 use Rattle.hs_nodes.specs.Waking.{no_places}
+use Rattle.hs_nodes.proofs.CachedLemmas.{none-some, told-true}
 use Rattle.hs_nodes.proofs.waking.wake_engine.Goals as goal
 
 pub returns-then-is_woken-clause-starts : goal.returns-then-is_woken-clause-starts
-returns-then-is_woken-clause-starts g c node there =
+returns-then-is_woken-clause-starts g c node there untold =
     let graph = c.args.graph.now in
     let list = graph.wakes.first_engines.items in
     let k = slice_index list c.args.place in
@@ -15,7 +17,7 @@ returns-then-is_woken-clause-starts g c node there =
     node there c.start_places-places.ensures.places
 
 pub returns-else-is_woken-clause-starts : goal.returns-else-is_woken-clause-starts
-returns-else-is_woken-clause-starts g c node there =
+returns-else-is_woken-clause-starts g c node there untold =
     let graph = c.args.graph.now in
     let list = graph.wakes.first_engines.items in
     let k = slice_index list c.args.place in
@@ -36,7 +38,7 @@ returns-else-is_woken-clause-asleep g c node there unmarked =
     node there never none c.start_places-places.ensures.places
 
 pub returns-then-is_ruled_out-clause-starts : goal.returns-then-is_ruled_out-clause-starts
-returns-then-is_ruled_out-clause-starts g c node there =
+returns-then-is_ruled_out-clause-starts g c node there untold =
     let graph = c.args.graph.now in
     let list = graph.wakes.first_engines.items in
     let k = slice_index list c.args.place in
@@ -57,3 +59,21 @@ returns-then-is_ruled_out-clause-asleep g c node there unmarked =
     starts-asleep g.E.Engine.meaning graph.table graph.wakes c.args.place k c.args.prev c.args.bytes.now no_places c.tell_nowhere.new.self c.requires.rows c.requires.few (λ i low. (c.type_inv.bytes i).fits) (read-there list c.args.place c.requires.place)
     (λ below j small. ap (λ i. start_word c.tell_nowhere.new.self i j) (sym same) ∙ (c.tell_nowhere.ensures.own (omega (arith, below, same, c.tell_nowhere.ensures.count)) j small ∙ sym (word-none j small)))
     node there never (zero-places no_places word-none) places
+
+pub returns-then-is_told-clause-starts : goal.returns-then-is_told-clause-starts
+returns-then-is_told-clause-starts g c node there untold =
+    let graph = c.args.graph.now in
+    let list = graph.wakes.first_engines.items in
+    let k = slice_index list c.args.place in
+    let same : c.start_of-k.result ≡ k = c.start_of-k.ensures ∙ ap (λ xs. slice_index xs c.args.place) c.deref.ensures.value in
+    let some = told-true (told c.args.cache.now c.start_of-k.result) c.is_told.result c.is_told.ensures c.if-is_told.true in
+    absurd (none-some (told c.args.cache.now k) some.0 untold (ap (told c.args.cache.now) (sym same) ∙ some.1))
+
+pub returns-then-is_told-clause-asleep : goal.returns-then-is_told-clause-asleep
+returns-then-is_told-clause-asleep g c node there unmarked =
+    let graph = c.args.graph.now in
+    let list = graph.wakes.first_engines.items in
+    let k = slice_index list c.args.place in
+    let same : c.start_of-k.result ≡ k = c.start_of-k.ensures ∙ ap (λ xs. slice_index xs c.args.place) c.deref.ensures.value in
+    let some = told-true (told c.args.cache.now c.start_of-k.result) c.is_told.result c.is_told.ensures c.if-is_told.true in
+    c.requires.told k some.0 node (ap (told c.args.cache.now) (sym same) ∙ some.1) there unmarked

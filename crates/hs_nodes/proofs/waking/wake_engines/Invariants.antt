@@ -9,5 +9,5 @@ invariant-loop-i g l = record {
   looked : AreLookedAt g.E.Engine.meaning l.graph.table l.graph.wakes.first_engines.items l.prev l.bytes l.fn.marks l.marks l.i;
   chunk : AreOfChunk l.words l.graph.wakes.sets.items l.bytes;
   levels : IsStackOf l.stack l.graph.wakes.sets.items l.prev l.bytes;
-  starts : AreStartsTo g.E.Engine.meaning l.graph.table l.graph.wakes.first_engines.items l.prev l.bytes l.starts l.i;
+  starts : AreStartsTo g.E.Engine.meaning l.graph.table l.cache l.graph.wakes.first_engines.items l.prev l.bytes l.starts l.i;
 }

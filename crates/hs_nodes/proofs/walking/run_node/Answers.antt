@@ -1,4 +1,5 @@
 use Rattle.std.proofs.Common.{◌≡◌, ◌∙◌, ℕ, Option, Some, ◌+◌, ◌≤◌, length, refl, slice_get, sym, ap, subst}
+use Rattle.hs_lazy.specs.Caches.{told}
 use Rattle.hs_nodes.specs.Walks.{entering_ends}
 use Rattle.hs_nodes.specs.declared.ends.ChunkEnds.{ChunkEnds}
 use Rattle.hs_nodes.specs.Starting.{IsEnteredThroughout}
@@ -12,10 +13,10 @@ use Rattle.hs_nodes.proofs.NodeLemmas.{node-run}
 use Rattle.hs_nodes.proofs.walking.run_node.Goals as goal
 
 pub run_kind-requires-clause-starts : goal.run_kind-requires-clause-starts
-run_kind-requires-clause-starts g c k is number null e kind_is at =
+run_kind-requires-clause-starts g c k is untold number null e kind_is at =
     let (no_parent, same) = c.first_number.ensures k is in
     subst (λ i. DoEntriesSuffice (g.E.Engine.meaning e) (starts_at c.args.found.now.starts.now i) c.args.chunk.now.prev c.args.chunk.now.bytes.now) (sym same)
-    (c.requires.starts c.args.k c.node_at-node.result c.node_at-node.ensures no_parent number null e kind_is (subst (λ es. slice_get es number ≡ Some e) c.deref.ensures.value at))
+    (c.requires.starts c.args.k c.node_at-node.result c.node_at-node.ensures no_parent (ap (told c.args.found.now.cache.now) (sym same) ∙ untold) number null e kind_is (subst (λ es. slice_get es number ≡ Some e) c.deref.ensures.value at))
 
 pub run_kind-requires-clause-entered : goal.run_kind-requires-clause-entered
 run_kind-requires-clause-entered g c k is =
@@ -34,3 +35,8 @@ returns-clause-runs g c =
 pub returns-clause-ticks : goal.returns-clause-ticks
 returns-clause-ticks g c node at =
     subst (λ (n : Node). c.run_kind.new.steps ≤ c.args.steps.now + most_ticks n.kind c.args.found.now.hits.now (length c.args.chunk.now.bytes.now)) (one-value c.node_at-node.result node (slice_get c.args.table.now.nodes.items c.args.k) c.node_at-node.ensures at) c.run_kind.ensures.ticks
+
+pub run_kind-requires-clause-told : goal.run_kind-requires-clause-told
+run_kind-requires-clause-told g c k t is some number null e kind_is at =
+    let (no_parent, same) = c.first_number.ensures k is in
+    c.requires.told c.node_at-node.result t c.node_at-node.ensures (ap (told c.args.found.now.cache.now) (sym same) ∙ some) number null e kind_is (subst (λ es. slice_get es number ≡ Some e) c.deref.ensures.value at)

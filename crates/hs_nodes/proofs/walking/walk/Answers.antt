@@ -1,4 +1,5 @@
 use Rattle.std.proofs.Common.{◌≡◌, ◌⊎◌, ◌≤◌, ◌<◌, ◌+◌, ◌-◌, ℕ, List, length, slice_index, true, refl, suc, inl, inr, sym, subst, ◌∙◌, arith}
+use Rattle.hs_nodes.specs.Cached.{IsToldKind}
 use Rattle.hs_nodes.specs.Contexts.{NeedsContexts}
 use Rattle.hs_nodes.specs.Left.{nowhere}
 use Rattle.hs_reports.specs.Marks.{is_marked}
@@ -20,6 +21,11 @@ run_node-requires-clause-well g c node at =
 pub run_node-requires-clause-contexts : goal.run_node-requires-clause-contexts
 run_node-requires-clause-contexts g c node at needs =
     c.make_contexts-are_made.ensures.asked (subst (λ (n : Node). NeedsContexts n.kind) (one-value node c.node_at.result _ at c.node_at.ensures) needs)
+
+pub run_node-requires-clause-told : goal.run_node-requires-clause-told
+run_node-requires-clause-told g c node t at some =
+    subst (λ ps. IsToldKind g.E.Engine.meaning c.args.table.now.engines.items node.kind ps c.args.chunk.now.prev c.args.chunk.now.bytes.now t) (sym (c.loop-k.invariant.walk.later c.in-Some.k node c.in-Some.ensures.low at).1)
+    (c.requires.told c.in-Some.k t node some at)
 
 pub mark_children-requires-clause-end : goal.mark_children-requires-clause-end
 mark_children-requires-clause-end g c =
