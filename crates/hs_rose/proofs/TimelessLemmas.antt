@@ -1,5 +1,5 @@
 -- A byte that the tables for blocks have taken is taken wherever the stream stands.
-use Rattle.std.proofs.Common.{◌≡◌, ◌↔◌, ℕ, zero, suc, ◌+◌, ◌<◌, Bool, true, List, [], ◌∷◌, ◌++◌, length, get_or, Some, refl, sym, subst, ◌∙◌, arith}
+use Rattle.std.proofs.Common.{◌≡◌, ◌↔◌, ℕ, zero, suc, ◌<◌, true, List, [], ◌∷◌, ◌++◌, length, get_or, Some, refl, sym, subst, arith}
 use Rattle.hs_base.specs.declared.context.Prev.{Prev}
 use Rattle.hs_base.specs.declared.context.Next.TheVariants as after
 use Rattle.hs_base.specs.Contexts.{class_of}
@@ -13,7 +13,7 @@ use Rattle.hs_block.proofs.StreamTakesLemmas.{stream-takes}
 use Rattle.hs_engine.specs.Engines.{Meaning}
 use Rattle.hs_engine.specs.Tables.{IsClearFrom}
 use Rattle.hs_lazy.specs.declared.engine.ByteEnds.{ByteEnds}
-use Rattle.hs_lazy.specs.Runs.{IsRunThrough, TakesEntered}
+use Rattle.hs_lazy.specs.Runs.{TakesEntered}
 use Rattle.hs_limex.specs.LimexEngines.{moves_of_limex}
 use Rattle.hs_rose.specs.declared.positions.PositionEngine.{PositionEngine}
 use Rattle.hs_rose.specs.Streaming.{TellsMoves}
