@@ -17,5 +17,6 @@ pub mod LawLemmas
 pub mod SizeLemmas
 pub mod PlanLemmas
 pub mod StreamingLemmas
+pub mod TimelessLemmas
 pub mod MovesRowLemmas
 mod RepeatEntryLemmas

@@ -6,6 +6,7 @@ use crate::positions::PositionEngine;
 use hs_base::{ByteSet, NextSet, Prev};
 use hs_block::{BlockEnds, BlockEngine, run_by_steps};
 use hs_engine::{Engine, Steps};
+use hs_lazy::{ByteEnds, TimelessEngine};
 use hs_repeat::{First, Last, Ring};
 use hs_waking::Beginning;
 use std::sync::ledger::Ledger;
@@ -143,6 +144,26 @@ impl BlockEngine for PieceEngine {
             PieceEngine::Ring(ring) => {
                 run_by_steps(ring, region, prev, at, enters, bytes, steps)
             }
+        }
+    }
+}
+
+impl TimelessEngine for PieceEngine {
+    fn is_timeless(&self) -> bool {
+        match self {
+            PieceEngine::Positions(positions) => positions.is_timeless(),
+            PieceEngine::First(_) => false,
+            PieceEngine::Last(_) => false,
+            PieceEngine::Ring(_) => false,
+        }
+    }
+
+    fn take_byte(&self, region: &mut [u8], prev: Prev, byte: u8) -> Option<ByteEnds> {
+        match self {
+            PieceEngine::Positions(positions) => positions.take_byte(region, prev, byte),
+            PieceEngine::First(_) => None,
+            PieceEngine::Last(_) => None,
+            PieceEngine::Ring(_) => None,
         }
     }
 }

@@ -13,12 +13,15 @@ ghost use Rattle.hs_rose.specs.MovesRows.{IsMovesLevel};
 ghost use Rattle.hs_waking.specs.PrevSets.{has_prev};
 
 use hs_base::{ByteSet, NextSet, Prev};
+use hs_bits::contains_place;
 use hs_block::{BlockEnds, BlockEngine, Streams, run_by_steps};
 use hs_engine::{Automaton, Engine, Steps};
+use hs_lazy::{ByteEnds, TimelessEngine};
 use hs_limex::Limex;
 use hs_waking::{Beginning, PrevSet, behind_of, row_of};
 use std::alloc::{AllocError, Global};
-use std::sync::ledger::Ledger;
+use std::marker::Brand;
+use std::sync::ledger::{Blank, Ledger};
 
 /// Runs an expression by its positions. Of at most 64 sets of bytes it takes a block by a word for each position; else,
 /// and where that doesn't come to rest, byte by byte.
@@ -55,6 +58,7 @@ impl PositionEngine {
     ghost use Rattle.hs_base.specs.Trees.{Tree};
     ghost use Rattle.hs_engine.specs.Tables.{Runs};
     ghost use Rattle.hs_block.specs.Blocks.{TakesBlock};
+    ghost use Rattle.hs_lazy.specs.Runs.{TakesEntered};
     ghost use Rattle.hs_rose.specs.PositionEngines.{meaning_of_positions};
     ghost use Rattle.hs_waking.specs.EntryRows.{TellsBeginnings};
 
@@ -108,6 +112,40 @@ impl PositionEngine {
             Some(streams) => streams.run(region, prev, enters, bytes, steps),
             None => None,
         }
+    }
+
+    /// Takes a byte by the tables for blocks, before which the expression is entered, with a ledger of its own for the
+    /// steps. None where there are no tables, where the region can't be a field, or where that doesn't serve; then the
+    /// region is as before.
+    fn take_entered<L: Ledger>(
+        &self,
+        region: &mut [u8],
+        prev: Prev,
+        byte: u8,
+        blank: Blank,
+    ) -> Option<ByteEnds>
+        requires len { length region.old ≡ (meaning_of_positions self.now).width }
+        requires name { blank.name ≡ L.name }
+        requires parts { blank.parts ≡ L.parts }
+        requires whole { 0 < L.parts }
+        ensures len { length region.new ≡ length region.old }
+        ensures takes { MatchOption result (region.new ≡ region.old)
+            (TakesEntered (meaning_of_positions self.now) region.old region.new prev byte) }
+    {
+        let Some(streams) = &self.streams else {
+            return None;
+        };
+        if !self.limex.well_formed(region, 0) {
+            return None;
+        }
+        let mut steps = Steps::<L>::open(blank);
+        let Some(ends) = streams.run(region, prev, 1, &[byte], &mut steps) else {
+            return None;
+        };
+        Some(ByteEnds {
+            before: contains_place(ends.before, 0),
+            behind: contains_place(ends.behind, 0),
+        })
     }
 }
 
@@ -167,5 +205,15 @@ impl BlockEngine for PositionEngine {
             Some(ends) => ends,
             None => run_by_steps(self, region, prev, at, enters, bytes, steps),
         }
+    }
+}
+
+impl TimelessEngine for PositionEngine {
+    fn is_timeless(&self) -> bool {
+        self.streams.is_some()
+    }
+
+    fn take_byte(&self, region: &mut [u8], prev: Prev, byte: u8) -> Option<ByteEnds> {
+        self.take_entered::<Brand>(region, prev, byte, Blank::new(1))
     }
 }

@@ -1,20 +1,13 @@
 use Rattle.std.proofs.Common.{arith}
 use Rattle.hs_limex.specs.LimexEngines.{moves_of_limex}
-use Rattle.hs_rose.specs.Streaming.{TellsMoves}
 use Rattle.hs_rose.specs.PositionEngines.{meaning_of_positions}
 use Rattle.hs_rose.proofs.StreamingLemmas.{runs-streams, tried-takes}
+use Rattle.hs_rose.proofs.TimelessLemmas.{engine-tells}
 use Rattle.hs_rose.proofs.positions.PositionEngine.take_whole.Goals as goal
 
 pub returns-in-Some-clause-takes : goal.returns-in-Some-clause-takes
 returns-in-Some-clause-takes g c =
     let e = c.args.self.now in
     let s = c.in-Some.streams in
-    let tells : TellsMoves s (moves_of_limex e.limex) = record {
-      size_is = e.size_is s c.in-Some.is;
-      takes_are = e.takes_are s c.in-Some.is;
-      enters_are = e.enters_are s c.in-Some.is;
-      accepts_are = e.accepts_are s c.in-Some.is;
-      follows_are = e.follows_are s c.in-Some.is;
-    } in
     tried-takes (meaning_of_positions e) s c.args.region.now c.run.new.region c.args.prev c.args.at c.args.enters c.args.bytes.now c.run.result c.args.steps.now c.run.new.steps
-    (runs-streams s (moves_of_limex e.limex) tells) c.requires.len c.requires.well (λ i. let b = c.type_inv.bytes i in omega (arith, b)) c.run.ensures
+    (runs-streams s (moves_of_limex e.limex) (engine-tells e s c.in-Some.is)) c.requires.len c.requires.well (λ i. let b = c.type_inv.bytes i in omega (arith, b)) c.run.ensures
