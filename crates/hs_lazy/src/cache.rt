@@ -74,6 +74,21 @@ impl Cache {
         })
     }
 
+    /// For no number. It takes no memory.
+    pub fn none<E: TimelessEngine>(alloc: Global, engines: &[E]) -> Cache
+        ensures dfas { AreDfasOf E.meaning engines.now result.dfas }
+        ensures none { (k : ℕ) → engine_at result.dfas k ≡ None }
+    {
+        let _ = engines.len();
+        Cache {
+            dfas: Dfas {
+                list: Vec::new(alloc),
+                places: Vec::new(alloc),
+            },
+            runs: Vec::new(alloc),
+        }
+    }
+
     /// Has the engine run for the number, if it is timeless and small. The only error is want of memory.
     pub fn add<E: TimelessEngine>(
         &mut self,

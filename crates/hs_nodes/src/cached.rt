@@ -32,6 +32,13 @@ pub fn cache_for<E: TimelessEngine>(
     Ok(cache)
 }
 
+/// A cache for none of the nodes of a table.
+pub fn no_cache<E: TimelessEngine>(alloc: Global, table: &NodeTable<E>) -> Cache
+    ensures { IsCacheOf E.meaning table.now result }
+{
+    Cache::none(alloc, &table.engines)
+}
+
 /// Has the cache run the node of that number, if it can. The only error is want of memory.
 fn add_node<E: TimelessEngine>(
     alloc: Global,

@@ -24,7 +24,7 @@ mod wake_table;
 mod waking;
 mod walking;
 
-pub use cached::{cache_for, run_cached};
+pub use cached::{cache_for, no_cache, run_cached};
 pub use chunk::{BLOCK_BYTES, Chunk, MAX_BLOCKS, MAX_CHUNK, PAST_BYTES};
 pub use ends::ChunkEnds;
 pub use first::everywhere;

@@ -2,6 +2,7 @@
 
 ghost use Rattle.std.specs.Prelude.{◌≡◌, ◌+◌, ◌*◌, ◌<◌, ◌≤◌, ◌^◌, ℕ, IfOk, length, slice_index};
 ghost use Rattle.hs_base.specs.Lists.{Each};
+ghost use Rattle.hs_nodes.specs.Cached.{TellsNodes};
 ghost use Rattle.hs_nodes.specs.Resting.{AreEnginesIdle, AreNodesResting, AreNodesUnwoken};
 ghost use Rattle.hs_nodes.specs.Starting.{AreStartsEnough};
 ghost use Rattle.hs_nodes.specs.Walks.{AreNodesWell, IsOutside, IsTableSound};
@@ -14,6 +15,7 @@ ghost use Rattle.hs_scan.specs.Scratches.{FitsRoom};
 use crate::known::{Known, tell_chunk};
 use hs_block::BlockEngine;
 use hs_engine::Steps;
+use hs_lazy::Cache;
 use hs_nodes::{Chunk, ChunkEnds, ChunkHits, Graph, MarkSet, everywhere, settle, walk};
 use hs_reports::Events;
 use hs_waking::Starts;
@@ -50,11 +52,13 @@ impl Course {
 
 /// Takes a chunk by the nodes that are marked: the region goes from what is kept of the nodes before it to what is
 /// kept behind it, what is known of the identifiers likewise, and the new reports of the chunk are told. Nothing is
-/// live then in the nodes that aren't marked. Of engines without a parent it is said where their matches may begin.
+/// live then in the nodes that aren't marked. Of engines without a parent the cache tells what they do, or it is said
+/// where their matches may begin.
 pub(crate) fn take_chunk<E: BlockEngine, V: Events, L: Ledger>(
     graph: &Graph<E>,
     chunk: &Chunk,
     hits: &[ChunkHits],
+    cache: &Cache,
     region: &mut [u8],
     ends: &mut [ChunkEnds],
     course: &mut Course,
@@ -73,7 +77,9 @@ pub(crate) fn take_chunk<E: BlockEngine, V: Events, L: Ledger>(
     requires resting { AreNodesResting E.meaning graph.now.table course.old.marks region.old }
     requires unwoken { AreNodesUnwoken E.meaning graph.now.table course.old.marks hits.now
         chunk.now.prev chunk.now.bytes.now }
-    requires starts { AreStartsEnough E.meaning graph.now.table course.old.starts chunk.now.prev chunk.now.bytes.now }
+    requires told { TellsNodes E.meaning graph.now.table cache.now region.old chunk.now.prev chunk.now.bytes.now }
+    requires starts { AreStartsEnough E.meaning graph.now.table cache.now course.old.starts chunk.now.prev
+        chunk.now.bytes.now }
     ensures len { length region.new ≡ length region.old }
     ensures well { AreNodesWell E.meaning graph.now.table region.new
         (chunk.now.at + length chunk.now.bytes.now) }
@@ -95,6 +101,7 @@ pub(crate) fn take_chunk<E: BlockEngine, V: Events, L: Ledger>(
         chunk,
         hits,
         &course.starts,
+        cache,
         region,
         ends,
         &mut course.marks,

@@ -4,6 +4,7 @@ ghost use Rattle.std.specs.Prelude.{◌≡◌, ◌+◌, ◌*◌, ◌≤◌, [], 
 ghost use Rattle.hs_base.specs.Offsets.{greatest_offset};
 ghost use Rattle.hs_base.specs.Regions.{region_offset};
 ghost use Rattle.hs_literals.specs.Held.{held};
+ghost use Rattle.hs_nodes.specs.Cached.{IsCacheOf};
 ghost use Rattle.hs_nodes.specs.Graphs.{IsGraphSound};
 ghost use Rattle.hs_reports.specs.Events.{Takes};
 ghost use Rattle.hs_scan.specs.Feeding.{Feeds, GoesOnAlike};
@@ -13,9 +14,9 @@ ghost use Rattle.hs_scan.specs.Scratches.{IsIdle, ServesGraph};
 use crate::last_byte::scan_write;
 use crate::scratch::Scratch;
 use crate::writing::{begin_write, end_write, mark_nodes};
-use hs_block::BlockEngine;
 use hs_engine::Steps;
 use hs_layout::Layout;
+use hs_lazy::{Cache, TimelessEngine};
 use hs_literals::Literals;
 use hs_nodes::Graph;
 use hs_reports::Events;
@@ -23,11 +24,12 @@ use std::sync::ledger::Ledger;
 
 /// Takes the next bytes of the stream of a region, and reports what they decide, in the order in which they do. The
 /// offset stays a number that a stream may have. No bytes leave the region as it is, and report nothing.
-pub fn scan<E: BlockEngine, V: Events, L: Ledger>(
+pub fn scan<E: TimelessEngine, V: Events, L: Ledger>(
     graph: &Graph<E>,
     literals: &Literals,
     layout: &Layout,
     region: &mut [u8],
+    cache: &mut Cache,
     scratch: &mut Scratch,
     bytes: &[u8],
     events: &mut V,
@@ -38,6 +40,8 @@ pub fn scan<E: BlockEngine, V: Events, L: Ledger>(
     requires idle { IsIdle scratch.old }
     requires scratch { ServesGraph graph.now (length (held literals.now)) scratch.old }
     requires room { region_offset region.old + length bytes.now ≤ greatest_offset }
+    requires cache { IsCacheOf E.meaning graph.now.table cache.old }
+    ensures cache { IsCacheOf E.meaning graph.now.table cache.new }
     ensures region { FitsRegion E.meaning graph.now layout.now region.new }
     ensures idle { IsIdle scratch.new }
     ensures scratch { ServesGraph graph.now (length (held literals.now)) scratch.new }
@@ -57,7 +61,7 @@ pub fn scan<E: BlockEngine, V: Events, L: Ledger>(
     begin_write(graph, layout, region, scratch);
     mark_nodes(graph, region, scratch);
     scan_write(
-        graph, literals, layout, region, scratch, bytes, events, steps,
+        graph, literals, layout, region, cache, scratch, bytes, events, steps,
     );
     end_write(graph, layout, region, scratch);
 }

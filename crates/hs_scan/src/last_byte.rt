@@ -6,6 +6,7 @@ ghost use Rattle.hs_base.specs.Assertions.{line_feed};
 ghost use Rattle.hs_base.specs.Bits.{has_word_bit};
 ghost use Rattle.hs_layout.specs.Layouts.{laid_size};
 ghost use Rattle.hs_literals.specs.Held.{held};
+ghost use Rattle.hs_nodes.specs.Cached.{IsCacheOf};
 ghost use Rattle.hs_nodes.specs.Graphs.{IsGraphSound};
 ghost use Rattle.hs_nodes.specs.Resting.{AreNodesResting};
 ghost use Rattle.hs_nodes.specs.Walks.{AreNodesWell, IsOutside};
@@ -24,20 +25,21 @@ use crate::past::{prev_of, push_past};
 use crate::scanning::scan_bytes;
 use crate::scratch::{Scratch, find_hits, forget};
 use hs_base::Next;
-use hs_block::BlockEngine;
 use hs_engine::Steps;
 use hs_layout::Layout;
+use hs_lazy::{Cache, TimelessEngine};
 use hs_literals::Literals;
 use hs_nodes::{Chunk, Graph};
 use hs_reports::Events;
 use std::sync::ledger::Ledger;
 
 /// Takes a line feed of which is asked what would end before it, and writes which identifiers it leaves to the end.
-fn scan_asked<E: BlockEngine, V: Events, L: Ledger>(
+fn scan_asked<E: TimelessEngine, V: Events, L: Ledger>(
     graph: &Graph<E>,
     literals: &Literals,
     layout: &Layout,
     region: &mut [u8],
+    cache: &mut Cache,
     scratch: &mut Scratch,
     events: &mut V,
     steps: &mut Steps<L>,
@@ -53,6 +55,8 @@ fn scan_asked<E: BlockEngine, V: Events, L: Ledger>(
     requires small { scratch.old.at < 2 ^ 63 }
     requires asks { AsksEnds E.meaning graph.now (held literals.now) scratch.old.at scratch.old.past region.old
         after.FinalNewline scratch.old.finals }
+    requires cache { IsCacheOf E.meaning graph.now.table cache.old }
+    ensures cache { IsCacheOf E.meaning graph.now.table cache.new }
     ensures len { length region.new ≡ length region.old }
     ensures well { AreNodesWell E.meaning graph.now.table region.new scratch.new.at }
     ensures outside { (i : ℕ) → IsOutside graph.now.table.nodes.items i →
@@ -79,18 +83,19 @@ fn scan_asked<E: BlockEngine, V: Events, L: Ledger>(
         prev: prev_of(scratch.at, &past),
         at: scratch.at,
     };
-    run_line_feed(graph, region, scratch, &chunk, events, steps);
+    run_line_feed(graph, region, cache, scratch, &chunk, events, steps);
     forget(scratch);
     push_past(&mut scratch.past, &LINE_FEED);
     scratch.at += 1;
 }
 
 /// Takes a line feed, and writes which identifiers it leaves to the end.
-fn scan_line_feed<E: BlockEngine, V: Events, L: Ledger>(
+fn scan_line_feed<E: TimelessEngine, V: Events, L: Ledger>(
     graph: &Graph<E>,
     literals: &Literals,
     layout: &Layout,
     region: &mut [u8],
+    cache: &mut Cache,
     scratch: &mut Scratch,
     events: &mut V,
     steps: &mut Steps<L>,
@@ -105,6 +110,8 @@ fn scan_line_feed<E: BlockEngine, V: Events, L: Ledger>(
     requires none { HasNoHits scratch.old }
     requires no_finals { HasNoEnds scratch.old.finals }
     requires small { scratch.old.at < 2 ^ 63 }
+    requires cache { IsCacheOf E.meaning graph.now.table cache.old }
+    ensures cache { IsCacheOf E.meaning graph.now.table cache.new }
     ensures len { length region.new ≡ length region.old }
     ensures well { AreNodesWell E.meaning graph.now.table region.new scratch.new.at }
     ensures outside { (i : ℕ) → IsOutside graph.now.table.nodes.items i →
@@ -132,7 +139,9 @@ fn scan_line_feed<E: BlockEngine, V: Events, L: Ledger>(
         Next::FinalNewline,
         steps,
     );
-    scan_asked(graph, literals, layout, region, scratch, events, steps);
+    scan_asked(
+        graph, literals, layout, region, cache, scratch, events, steps,
+    );
     forget_finals(&mut scratch.finals);
 }
 
@@ -147,11 +156,12 @@ fn leave_none(last: &mut [u64])
 }
 
 /// Takes bytes up to a line feed, which is the last one.
-fn scan_to_line_feed<E: BlockEngine, V: Events, L: Ledger>(
+fn scan_to_line_feed<E: TimelessEngine, V: Events, L: Ledger>(
     graph: &Graph<E>,
     literals: &Literals,
     layout: &Layout,
     region: &mut [u8],
+    cache: &mut Cache,
     scratch: &mut Scratch,
     bytes: &[u8],
     events: &mut V,
@@ -169,6 +179,8 @@ fn scan_to_line_feed<E: BlockEngine, V: Events, L: Ledger>(
     requires some { 0 < length bytes.now }
     requires ends { slice_index bytes.now (length bytes.now - 1) ≡ line_feed }
     requires small { scratch.old.at + length bytes.now ≤ 2 ^ 63 }
+    requires cache { IsCacheOf E.meaning graph.now.table cache.old }
+    ensures cache { IsCacheOf E.meaning graph.now.table cache.new }
     ensures len { length region.new ≡ length region.old }
     ensures well { AreNodesWell E.meaning graph.now.table region.new scratch.new.at }
     ensures outside { (i : ℕ) → IsOutside graph.now.table.nodes.items i →
@@ -193,20 +205,24 @@ fn scan_to_line_feed<E: BlockEngine, V: Events, L: Ledger>(
         literals,
         layout,
         region,
+        cache,
         scratch,
         &bytes[..last],
         events,
         steps,
     );
-    scan_line_feed(graph, literals, layout, region, scratch, events, steps);
+    scan_line_feed(
+        graph, literals, layout, region, cache, scratch, events, steps,
+    );
 }
 
 /// Takes bytes of which the last one is no line feed.
-fn scan_to_other<E: BlockEngine, V: Events, L: Ledger>(
+fn scan_to_other<E: TimelessEngine, V: Events, L: Ledger>(
     graph: &Graph<E>,
     literals: &Literals,
     layout: &Layout,
     region: &mut [u8],
+    cache: &mut Cache,
     scratch: &mut Scratch,
     bytes: &[u8],
     events: &mut V,
@@ -224,6 +240,8 @@ fn scan_to_other<E: BlockEngine, V: Events, L: Ledger>(
     requires some { 0 < length bytes.now }
     requires ends { slice_index bytes.now (length bytes.now - 1) ≡ line_feed → ⊥ }
     requires small { scratch.old.at + length bytes.now ≤ 2 ^ 63 }
+    requires cache { IsCacheOf E.meaning graph.now.table cache.old }
+    ensures cache { IsCacheOf E.meaning graph.now.table cache.new }
     ensures len { length region.new ≡ length region.old }
     ensures well { AreNodesWell E.meaning graph.now.table region.new scratch.new.at }
     ensures outside { (i : ℕ) → IsOutside graph.now.table.nodes.items i →
@@ -243,17 +261,18 @@ fn scan_to_other<E: BlockEngine, V: Events, L: Ledger>(
         bytes.now scratch.new.last.items }
 {
     scan_bytes(
-        graph, literals, layout, region, scratch, bytes, events, steps,
+        graph, literals, layout, region, cache, scratch, bytes, events, steps,
     );
     leave_none(&mut scratch.last);
 }
 
 /// Takes the bytes of a write, of which there are some, and writes which identifiers the last one leaves to the end.
-pub(crate) fn scan_write<E: BlockEngine, V: Events, L: Ledger>(
+pub(crate) fn scan_write<E: TimelessEngine, V: Events, L: Ledger>(
     graph: &Graph<E>,
     literals: &Literals,
     layout: &Layout,
     region: &mut [u8],
+    cache: &mut Cache,
     scratch: &mut Scratch,
     bytes: &[u8],
     events: &mut V,
@@ -270,6 +289,8 @@ pub(crate) fn scan_write<E: BlockEngine, V: Events, L: Ledger>(
     requires no_finals { HasNoEnds scratch.old.finals }
     requires some { 0 < length bytes.now }
     requires small { scratch.old.at + length bytes.now ≤ 2 ^ 63 }
+    requires cache { IsCacheOf E.meaning graph.now.table cache.old }
+    ensures cache { IsCacheOf E.meaning graph.now.table cache.new }
     ensures len { length region.new ≡ length region.old }
     ensures well { AreNodesWell E.meaning graph.now.table region.new scratch.new.at }
     ensures outside { (i : ℕ) → IsOutside graph.now.table.nodes.items i →
@@ -291,11 +312,11 @@ pub(crate) fn scan_write<E: BlockEngine, V: Events, L: Ledger>(
     let last = bytes.len() - 1;
     if bytes[last] == b'\n' {
         scan_to_line_feed(
-            graph, literals, layout, region, scratch, bytes, events, steps,
+            graph, literals, layout, region, cache, scratch, bytes, events, steps,
         );
     } else {
         scan_to_other(
-            graph, literals, layout, region, scratch, bytes, events, steps,
+            graph, literals, layout, region, cache, scratch, bytes, events, steps,
         );
     }
 }

@@ -4,6 +4,7 @@ ghost use Rattle.std.specs.Prelude.{◌≡◌, ◌+◌, ◌*◌, ◌<◌, ◌≤
 ghost use Rattle.hs_base.specs.Assertions.{line_feed};
 ghost use Rattle.hs_base.specs.Bits.{has_word_bit, word_count};
 ghost use Rattle.hs_literals.specs.HitTables.{has_hit};
+ghost use Rattle.hs_nodes.specs.Cached.{IsCacheOf};
 ghost use Rattle.hs_nodes.specs.Graphs.{AreTerminalsSound};
 ghost use Rattle.hs_nodes.specs.Left.{nowhere};
 ghost use Rattle.hs_reports.specs.Marks.{is_marked, mark_room};
@@ -27,6 +28,7 @@ use crate::waking::wake;
 use hs_bits::{contains_word_bit, write_word_bit};
 use hs_block::BlockEngine;
 use hs_engine::Steps;
+use hs_lazy::{Cache, TimelessEngine};
 use hs_nodes::{Chunk, ChunkEnds, Graph, MarkSet, everywhere, gather_block, settle, walk};
 use hs_reports::{Events, Identifier, IdentifierEnds, is_left_to_end};
 use std::sync::ledger::Ledger;
@@ -132,9 +134,10 @@ fn tell_line_feed<E: BlockEngine, V: Events>(
 
 /// Takes a chunk of one line feed, of which the scratch has where the literals end in it, and which matches would end
 /// before it were it the last byte.
-pub(crate) fn run_line_feed<E: BlockEngine, V: Events, L: Ledger>(
+pub(crate) fn run_line_feed<E: TimelessEngine, V: Events, L: Ledger>(
     graph: &Graph<E>,
     region: &mut [u8],
+    cache: &mut Cache,
     scratch: &mut Scratch,
     chunk: &Chunk,
     events: &mut V,
@@ -152,6 +155,8 @@ pub(crate) fn run_line_feed<E: BlockEngine, V: Events, L: Ledger>(
     requires others { (k : ℕ) → has_hit scratch.old.rows k ≡ false → HasNowhere scratch.old.hits.items k }
     requires idle { AreEnginesIdle E.meaning graph.now.table.engines.items }
     requires resting { AreNodesResting E.meaning graph.now.table scratch.old.course.marks region.old }
+    requires cache { IsCacheOf E.meaning graph.now.table cache.old }
+    ensures cache { IsCacheOf E.meaning graph.now.table cache.new }
     ensures len { length region.new ≡ length region.old }
     ensures well { AreNodesWell E.meaning graph.now.table region.new (chunk.now.at + length chunk.now.bytes.now) }
     ensures outside { (i : ℕ) → IsOutside graph.now.table.nodes.items i →
@@ -174,7 +179,9 @@ pub(crate) fn run_line_feed<E: BlockEngine, V: Events, L: Ledger>(
         &scratch.rows,
         chunk.prev,
         chunk.bytes,
+        region,
         &mut scratch.words,
+        cache,
         &mut scratch.course.starts,
         &mut scratch.course.marks,
     );
@@ -183,6 +190,7 @@ pub(crate) fn run_line_feed<E: BlockEngine, V: Events, L: Ledger>(
         chunk,
         &scratch.hits,
         &scratch.course.starts,
+        cache,
         region,
         &mut scratch.ends,
         &mut scratch.course.marks,

@@ -11,6 +11,7 @@ ghost use Rattle.hs_nodes.specs.Walks.{AreNodesWell, IsOutside, IsTableSound};
 ghost use Rattle.hs_reports.specs.Events.{Takes};
 ghost use Rattle.hs_scan.specs.Hits.{HasNowhere};
 ghost use Rattle.hs_scan.specs.Knowing.{IsPending};
+ghost use Rattle.hs_nodes.specs.Cached.{IsCacheOf};
 ghost use Rattle.hs_nodes.specs.Graphs.{AreTerminalsSound, IsGraphSound};
 ghost use Rattle.hs_scan.specs.Past.{KeepsEarly};
 ghost use Rattle.hs_scan.specs.Scans.{Scans, ScansChunk};
@@ -20,18 +21,19 @@ use crate::chunk::take_chunk;
 use crate::past::{prev_of, push_past};
 use crate::scratch::{Scratch, find_hits, forget};
 use crate::waking::wake;
-use hs_block::BlockEngine;
 use hs_engine::Steps;
 use hs_layout::Layout;
+use hs_lazy::{Cache, TimelessEngine};
 use hs_literals::Literals;
 use hs_nodes::{Chunk, Graph, MAX_CHUNK};
 use hs_reports::Events;
 use std::sync::ledger::Ledger;
 
 /// Takes a chunk, of which the scratch has where the literals end in it.
-fn run_chunk<E: BlockEngine, V: Events, L: Ledger>(
+fn run_chunk<E: TimelessEngine, V: Events, L: Ledger>(
     graph: &Graph<E>,
     region: &mut [u8],
+    cache: &mut Cache,
     scratch: &mut Scratch,
     chunk: &Chunk,
     events: &mut V,
@@ -49,6 +51,8 @@ fn run_chunk<E: BlockEngine, V: Events, L: Ledger>(
     requires others { (k : ℕ) → has_hit scratch.old.rows k ≡ false → HasNowhere scratch.old.hits.items k }
     requires idle { AreEnginesIdle E.meaning graph.now.table.engines.items }
     requires resting { AreNodesResting E.meaning graph.now.table scratch.old.course.marks region.old }
+    requires cache { IsCacheOf E.meaning graph.now.table cache.old }
+    ensures cache { IsCacheOf E.meaning graph.now.table cache.new }
     ensures len { length region.new ≡ length region.old }
     ensures well { AreNodesWell E.meaning graph.now.table region.new
         (chunk.now.at + length chunk.now.bytes.now) }
@@ -70,7 +74,9 @@ fn run_chunk<E: BlockEngine, V: Events, L: Ledger>(
         &scratch.rows,
         chunk.prev,
         chunk.bytes,
+        region,
         &mut scratch.words,
+        cache,
         &mut scratch.course.starts,
         &mut scratch.course.marks,
     );
@@ -78,6 +84,7 @@ fn run_chunk<E: BlockEngine, V: Events, L: Ledger>(
         graph,
         chunk,
         &scratch.hits,
+        cache,
         region,
         &mut scratch.ends,
         &mut scratch.course,
@@ -87,11 +94,12 @@ fn run_chunk<E: BlockEngine, V: Events, L: Ledger>(
 }
 
 /// Takes up to 512 bytes.
-pub(crate) fn scan_chunk<E: BlockEngine, V: Events, L: Ledger>(
+pub(crate) fn scan_chunk<E: TimelessEngine, V: Events, L: Ledger>(
     graph: &Graph<E>,
     literals: &Literals,
     layout: &Layout,
     region: &mut [u8],
+    cache: &mut Cache,
     scratch: &mut Scratch,
     bytes: &[u8],
     events: &mut V,
@@ -107,6 +115,8 @@ pub(crate) fn scan_chunk<E: BlockEngine, V: Events, L: Ledger>(
     requires none { HasNoHits scratch.old }
     requires few { length bytes.now ≤ 512 }
     requires small { scratch.old.at + length bytes.now ≤ 2 ^ 63 }
+    requires cache { IsCacheOf E.meaning graph.now.table cache.old }
+    ensures cache { IsCacheOf E.meaning graph.now.table cache.new }
     ensures len { length region.new ≡ length region.old }
     ensures well { AreNodesWell E.meaning graph.now.table region.new scratch.new.at }
     ensures outside { (i : ℕ) → IsOutside graph.now.table.nodes.items i →
@@ -130,18 +140,19 @@ pub(crate) fn scan_chunk<E: BlockEngine, V: Events, L: Ledger>(
         prev: prev_of(scratch.at, &past),
         at: scratch.at,
     };
-    run_chunk(graph, region, scratch, &chunk, events, steps);
+    run_chunk(graph, region, cache, scratch, &chunk, events, steps);
     forget(scratch);
     push_past(&mut scratch.past, bytes);
     scratch.at += bytes.len() as u64;
 }
 
 /// Takes bytes, 512 at a time.
-pub(crate) fn scan_bytes<E: BlockEngine, V: Events, L: Ledger>(
+pub(crate) fn scan_bytes<E: TimelessEngine, V: Events, L: Ledger>(
     graph: &Graph<E>,
     literals: &Literals,
     layout: &Layout,
     region: &mut [u8],
+    cache: &mut Cache,
     scratch: &mut Scratch,
     bytes: &[u8],
     events: &mut V,
@@ -156,6 +167,8 @@ pub(crate) fn scan_bytes<E: BlockEngine, V: Events, L: Ledger>(
     requires resting { AreNodesResting E.meaning graph.now.table scratch.old.course.marks region.old }
     requires none { HasNoHits scratch.old }
     requires small { scratch.old.at + length bytes.now ≤ 2 ^ 63 }
+    requires cache { IsCacheOf E.meaning graph.now.table cache.old }
+    ensures cache { IsCacheOf E.meaning graph.now.table cache.new }
     ensures len { length region.new ≡ length region.old }
     ensures well { AreNodesWell E.meaning graph.now.table region.new scratch.new.at }
     ensures outside { (i : ℕ) → IsOutside graph.now.table.nodes.items i →
@@ -179,6 +192,7 @@ pub(crate) fn scan_bytes<E: BlockEngine, V: Events, L: Ledger>(
             literals,
             layout,
             region,
+            cache,
             scratch,
             &bytes[from..end],
             events,

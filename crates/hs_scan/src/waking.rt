@@ -4,16 +4,17 @@ ghost use Rattle.std.specs.Prelude.{◌≡◌, ◌<◌, ◌≤◌, ℕ, List, tr
 ghost use Rattle.hs_literals.specs.HitTables.{has_hit};
 ghost use Rattle.hs_reports.specs.Marks.{is_marked, mark_room};
 ghost use Rattle.hs_nodes.specs.Starting.{AreStartsEnough};
-ghost use Rattle.hs_nodes.specs.Resting.{AreNodesUnwoken};
+ghost use Rattle.hs_nodes.specs.Cached.{IsCacheOf, TellsNodes};
+ghost use Rattle.hs_nodes.specs.Resting.{AreEnginesIdle, AreNodesResting, AreNodesUnwoken};
 ghost use Rattle.hs_nodes.specs.Waking.{AreRowsSound, AreWakesSound};
-ghost use Rattle.hs_nodes.specs.Walks.{AreMoreMarks, IsAmongChildren};
+ghost use Rattle.hs_nodes.specs.Walks.{AreMoreMarks, IsAmongChildren, IsTableSound};
 ghost use Rattle.hs_nodes.specs.declared.hits.ChunkHits.{ChunkHits};
 ghost use Rattle.hs_scan.specs.Hits.{HasNowhere};
 
 use hs_base::Prev;
-use hs_block::BlockEngine;
+use hs_lazy::{Cache, TimelessEngine};
 use hs_literals::HitRows;
-use hs_nodes::{Graph, MarkSet, wake_engines, wake_literal};
+use hs_nodes::{Graph, MarkSet, run_cached, wake_engines, wake_literal};
 use hs_waking::{ClassWords, Starts};
 
 /// Marks the nodes that the literals wake that end in a chunk.
@@ -33,27 +34,37 @@ fn wake_literals<E>(graph: &Graph<E>, rows: &HitRows, marks: &mut MarkSet)
     }
 }
 
-/// Marks the nodes that a chunk behind `prev` wakes, in which just the literals end of which the rows tell it. Tells of
-/// the engines without a parent where their matches may begin.
-pub(crate) fn wake<E: BlockEngine>(
+/// Marks the nodes that a chunk behind `prev` wakes, in which just the literals end of which the rows tell it. Of the
+/// engines without a parent the cache tells what they do, from the region on, or it is said where their matches may
+/// begin.
+pub(crate) fn wake<E: TimelessEngine>(
     graph: &Graph<E>,
     rows: &HitRows,
     prev: Prev,
     bytes: &[u8],
+    region: &[u8],
     words: &mut ClassWords,
+    cache: &mut Cache,
     starts: &mut Starts,
     marks: &mut MarkSet,
 )
+    requires table { IsTableSound E.meaning graph.now.table rows.now.count (length region.now) }
+    requires idle { AreEnginesIdle E.meaning graph.now.table.engines.items }
+    requires resting { AreNodesResting E.meaning graph.now.table marks.old region.now }
+    requires cache { IsCacheOf E.meaning graph.now.table cache.old }
     requires sound { AreRowsSound E.meaning graph.now.table graph.now.wakes }
     requires wakes { AreWakesSound graph.now.table.nodes.items graph.now.wakes rows.now.count }
     requires room { length graph.now.table.nodes.items ≤ mark_room marks.old }
     requires below { (k : ℕ) → is_marked marks.old k ≡ true → k < length graph.now.table.nodes.items }
     requires few { length bytes.now ≤ 512 }
     ensures more { AreMoreMarks (length graph.now.table.nodes.items) marks.old marks.new }
-    ensures starts { AreStartsEnough E.meaning graph.now.table starts.new prev bytes.now }
+    ensures cache { IsCacheOf E.meaning graph.now.table cache.new }
+    ensures told { TellsNodes E.meaning graph.now.table cache.new region.now prev bytes.now }
+    ensures starts { AreStartsEnough E.meaning graph.now.table cache.new starts.new prev bytes.now }
     ensures unwoken { (hits : List ChunkHits) → ((k : ℕ) → has_hit rows.now k ≡ false → HasNowhere hits k) →
         AreNodesUnwoken E.meaning graph.now.table marks.new hits prev bytes.now }
 {
+    run_cached(&graph.table, prev, bytes, region, cache, marks);
     wake_literals(graph, rows, marks);
-    wake_engines(graph, prev, bytes, words, starts, marks);
+    wake_engines(graph, prev, bytes, words, cache, starts, marks);
 }

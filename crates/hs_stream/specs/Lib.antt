@@ -13,3 +13,4 @@ pub mod Drawing
 pub mod Tallies
 pub mod CutRuns
 pub mod Summaries
+pub mod Caches

@@ -6,6 +6,9 @@ use Rattle.hs_kept.specs.declared.packing.Packing.{Packing}
 use Rattle.hs_literals.specs.Held.{held}
 use Rattle.hs_scan.specs.Scratches.{ServesGraph}
 use Rattle.hs_scan.specs.declared.scratch.Scratch as scan
+use Rattle.hs_lazy.specs.declared.cache.Cache as lazy
+use Rattle.hs_nodes.specs.Cached.{IsCacheOf}
+use Rattle.hs_rose.specs.PieceEngines.{piece_meaning}
 use Rattle.hs_stream.specs.declared.scratch.Scratch.{Scratch}
 
 -- By the packing a region is kept as it is.
@@ -17,6 +20,10 @@ pub record KeepsWhole (packing : Packing) : Type 0 where
 -- the room has as many nodes, identifiers and literals as the database
 abbrev pub ServesDatabase : Compiled → scan.Scratch → Type 0
 ServesDatabase db room = ServesGraph (graph_of db) (length (held (literals_in db))) room
+
+-- the states are of the engines of the database
+abbrev pub AreStatesOf : Compiled → lazy.Cache → Type 0
+AreStatesOf db states = IsCacheOf piece_meaning (graph_of db).table states
 
 -- It has the room that the graph of the database takes, and a region of it.
 pub record IsScratchOf (db : Compiled) (scratch : Scratch) : Type 0 where

@@ -5,6 +5,7 @@
 //! is drawn from a seed (`Drawn`) as one stream, cut and saved in between or not, and counts what that reports.
 #![tactic(auto)]
 
+mod cache;
 mod collected;
 mod drawing;
 mod fault;
@@ -21,6 +22,7 @@ mod summaries;
 mod swapping;
 mod tally;
 
+pub use cache::Cache;
 pub use collected::Collected;
 pub use drawing::Drawn;
 pub use fault::ExpandFault;

@@ -9,7 +9,7 @@ ghost use Rattle.hs_reports.specs.Events.{Takes};
 ghost use Rattle.hs_scan.specs.Scratches.{IsIdle};
 ghost use Rattle.hs_stream.specs.Foreign.{MayEnd, MayLead};
 ghost use Rattle.hs_stream.specs.Leading.{IsRegionOf};
-ghost use Rattle.hs_stream.specs.Scratches.{KeepsWhole, ServesDatabase};
+ghost use Rattle.hs_stream.specs.Scratches.{AreStatesOf, KeepsWhole, ServesDatabase};
 
 use crate::running::{run_bytes, run_end};
 use hs_compile::Database;
@@ -23,6 +23,7 @@ pub(crate) fn write_kept<V: Events, L: Ledger>(
     db: &Database,
     kept: &mut [u8],
     region: &mut [u8],
+    states: &mut hs_lazy::Cache,
     scratch: &mut hs_scan::Scratch,
     bytes: &[u8],
     events: &mut V,
@@ -33,6 +34,8 @@ pub(crate) fn write_kept<V: Events, L: Ledger>(
     requires ready { IsIdle scratch.old }
     requires scratch { ServesDatabase db.now scratch.old }
     requires room { region_offset kept.old + length bytes.now ≤ greatest_offset }
+    requires states { AreStatesOf db.now states.old }
+    ensures states { AreStatesOf db.now states.new }
     ensures kept { IsRegionOf db.now kept.new }
     ensures len { length kept.new ≡ length kept.old }
     ensures region { length region.new ≡ length region.old }
@@ -45,9 +48,9 @@ pub(crate) fn write_kept<V: Events, L: Ledger>(
     ensures ticks { steps.new ≤ steps.old + 48 * (length (nodes_of db.now) * length bytes.now) }
 {
     if db.packing().has_states() {
-        write_packed(db, kept, region, scratch, bytes, events, steps);
+        write_packed(db, kept, region, states, scratch, bytes, events, steps);
     } else {
-        write_whole(db, kept, scratch, bytes, events, steps);
+        write_whole(db, kept, states, scratch, bytes, events, steps);
     }
 }
 
@@ -55,6 +58,7 @@ pub(crate) fn write_kept<V: Events, L: Ledger>(
 fn write_whole<V: Events, L: Ledger>(
     db: &Database,
     kept: &mut [u8],
+    states: &mut hs_lazy::Cache,
     scratch: &mut hs_scan::Scratch,
     bytes: &[u8],
     events: &mut V,
@@ -65,6 +69,8 @@ fn write_whole<V: Events, L: Ledger>(
     requires ready { IsIdle scratch.old }
     requires scratch { ServesDatabase db.now scratch.old }
     requires room { region_offset kept.old + length bytes.now ≤ greatest_offset }
+    requires states { AreStatesOf db.now states.old }
+    ensures states { AreStatesOf db.now states.new }
     ensures kept { IsRegionOf db.now kept.new }
     ensures len { length kept.new ≡ length kept.old }
     ensures ready { IsIdle scratch.new }
@@ -79,7 +85,7 @@ fn write_whole<V: Events, L: Ledger>(
         return;
     }
     let _packing = db.packing();
-    run_bytes(db, kept, scratch, bytes, events, steps);
+    run_bytes(db, kept, states, scratch, bytes, events, steps);
 }
 
 /// Takes such bytes over a region that is made of what is kept, and packed again.
@@ -87,6 +93,7 @@ fn write_packed<V: Events, L: Ledger>(
     db: &Database,
     kept: &mut [u8],
     region: &mut [u8],
+    states: &mut hs_lazy::Cache,
     scratch: &mut hs_scan::Scratch,
     bytes: &[u8],
     events: &mut V,
@@ -97,6 +104,8 @@ fn write_packed<V: Events, L: Ledger>(
     requires ready { IsIdle scratch.old }
     requires scratch { ServesDatabase db.now scratch.old }
     requires room { region_offset kept.old + length bytes.now ≤ greatest_offset }
+    requires states { AreStatesOf db.now states.old }
+    ensures states { AreStatesOf db.now states.new }
     ensures kept { IsRegionOf db.now kept.new }
     ensures len { length kept.new ≡ length kept.old }
     ensures region { length region.new ≡ length region.old }
@@ -113,7 +122,7 @@ fn write_packed<V: Events, L: Ledger>(
     }
     let packing = db.packing();
     packing.unpack(kept, region);
-    run_bytes(db, region, scratch, bytes, events, steps);
+    run_bytes(db, region, states, scratch, bytes, events, steps);
     packing.pack(region, kept);
 }
 

@@ -8,7 +8,7 @@ ghost use Rattle.hs_compile.specs.Databases.{IsWholeDatabase, nodes_of, packing_
 ghost use Rattle.hs_kept.specs.Packing.{packed_size};
 ghost use Rattle.hs_reports.specs.Events.{Takes};
 ghost use Rattle.hs_scan.specs.Scratches.{IsIdle};
-ghost use Rattle.hs_stream.specs.Scratches.{ServesDatabase};
+ghost use Rattle.hs_stream.specs.Scratches.{AreStatesOf, ServesDatabase};
 ghost use Rattle.hs_stream.specs.Leading.{IsFaultOf, IsRegionOf};
 ghost use Rattle.hs_stream.specs.Scanning.{IsWholeRegionOf, MayScan, MayScanEnd};
 
@@ -23,6 +23,7 @@ use std::sync::ledger::Ledger;
 pub(crate) fn run_bytes<V: Events, L: Ledger>(
     db: &Database,
     region: &mut [u8],
+    states: &mut hs_lazy::Cache,
     scratch: &mut hs_scan::Scratch,
     bytes: &[u8],
     events: &mut V,
@@ -31,7 +32,9 @@ pub(crate) fn run_bytes<V: Events, L: Ledger>(
     requires region { IsWholeRegionOf db.now region.old }
     requires ready { IsIdle scratch.old }
     requires scratch { ServesDatabase db.now scratch.old }
+    requires states { AreStatesOf db.now states.old }
     requires room { region_offset region.old + length bytes.now ≤ greatest_offset }
+    ensures states { AreStatesOf db.now states.new }
     ensures region { IsWholeRegionOf db.now region.new }
     ensures len { length region.new ≡ length region.old }
     ensures ready { IsIdle scratch.new }
@@ -46,6 +49,7 @@ pub(crate) fn run_bytes<V: Events, L: Ledger>(
         db.literals(),
         db.layout(),
         region,
+        states,
         scratch,
         bytes,
         events,

@@ -12,6 +12,8 @@ use std::alloc::{AllocError, Global};
 /// than 1 KB beside them.
 #[derive(Drop)]
 pub struct Scratch {
+    /// Where its memory comes from.
+    pub(crate) alloc: Global,
     /// What a scan uses.
     pub(crate) room: hs_scan::Scratch,
     /// Bytes for the region that a scan goes over.
@@ -37,6 +39,7 @@ impl Scratch {
         ensures { IfOk result (IsScratchOf db.now) }
     {
         Ok(Scratch {
+            alloc,
             room: hs_scan::Scratch::new(alloc, db.graph(), db.literals())?,
             region: zeros(alloc, db.packing().region_size())?,
         })

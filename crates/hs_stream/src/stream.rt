@@ -4,8 +4,9 @@ ghost use Rattle.std.specs.Prelude.{MatchResult, []};
 ghost use Rattle.hs_base.specs.Offsets.{greatest_offset};
 ghost use Rattle.hs_compile.specs.Databases.{nodes_of};
 ghost use Rattle.hs_reports.specs.Events.{Takes};
-ghost use Rattle.hs_stream.specs.Scratches.{IsScratchOf};
+ghost use Rattle.hs_stream.specs.Scratches.{AreStatesOf, IsScratchOf};
 
+use crate::cache::Cache;
 use crate::fault::ExpandFault;
 use crate::packed::{end_packed, write_kept};
 use crate::running::is_region;
@@ -15,6 +16,7 @@ use hs_base::MAX_OFFSET;
 use hs_bits::clear_bits;
 use hs_compile::Database;
 use hs_engine::Steps;
+use hs_nodes::no_cache;
 use hs_regions::offset_in;
 use hs_reports::Events;
 use std::alloc::{AllocError, Global};
@@ -37,6 +39,7 @@ pub struct Stream {
 }
 
 impl Stream {
+    ghost use Rattle.hs_stream.specs.Caches.{IsCacheOf};
     ghost use Rattle.hs_stream.specs.Foreign.{MayClose, MayWrite};
     ghost use Rattle.hs_stream.specs.Saving.{IsExpanded, IsExpandFaultOf, IsSaved};
     ghost use Rattle.hs_stream.specs.Streams.{offset_of, region_of, IsStreamOf, IsFresh, Writes, Closes};
@@ -110,6 +113,83 @@ impl Stream {
         ensures idle { bytes.now ≡ [] → (events.new ≡ events.old) × (self.new ≡ self.old) }
         ensures ticks { steps.new ≤ steps.old + 48 * (length (nodes_of db.now) * length bytes.now) }
     {
+        let mut states = no_cache(scratch.alloc, &db.graph().table);
+        self.write_by(db, &mut states, scratch, bytes, events, steps)
+    }
+
+    /// Takes the next bytes as [`Stream::write`] does, with what a cache has seen.
+    ///
+    /// # Errors
+    ///
+    /// Those of `write`, where it is.
+    ///
+    /// # Cost
+    ///
+    /// No memory. It is that of `write`, but for expressions that a chain begins with, of which many are looked up as
+    /// one where a byte was seen in the same states before.
+    ///
+    /// # Examples
+    ///
+    /// ```
+    /// let mut cache = Cache::new(alloc, &database)?;
+    /// stream.write_cached(&database, &mut cache, b"foo", &mut told, &mut steps)?;
+    /// ```
+    pub fn write_cached<V: Events, L: Ledger>(
+        &mut self,
+        db: &Database,
+        cache: &mut Cache,
+        bytes: &[u8],
+        events: &mut V,
+        steps: &mut Steps<L>,
+    ) -> Result<(), StreamFull>
+        requires fits { IsStreamOf db.now self.old }
+        requires cache { IsCacheOf db.now cache.old }
+        ensures fits { IsStreamOf db.now self.new }
+        ensures cache { IsCacheOf db.now cache.new }
+        ensures full { IsErr result ↔ (greatest_offset < offset_of self.old + length bytes.now) }
+        ensures kept { OnErr result (self.new ≡ self.old) }
+        ensures untold { OnErr result (events.new ≡ events.old) }
+        ensures offset { OnOk result (offset_of self.new ≡ offset_of self.old + length bytes.now) }
+        ensures told { OnOk result (Takes V.tells events.old events.new (Writes db.now self.old self.new bytes.now)) }
+        ensures any { OnOk result (Takes V.tells events.old events.new (MayWrite db.now self.old self.new bytes.now)) }
+        ensures idle { bytes.now ≡ [] → (events.new ≡ events.old) × (self.new ≡ self.old) }
+        ensures ticks { steps.new ≤ steps.old + 48 * (length (nodes_of db.now) * length bytes.now) }
+    {
+        self.write_by(
+            db,
+            &mut cache.states,
+            &mut cache.scratch,
+            bytes,
+            events,
+            steps,
+        )
+    }
+
+    /// Takes the next bytes, with the states that were seen.
+    fn write_by<V: Events, L: Ledger>(
+        &mut self,
+        db: &Database,
+        states: &mut hs_lazy::Cache,
+        scratch: &mut Scratch,
+        bytes: &[u8],
+        events: &mut V,
+        steps: &mut Steps<L>,
+    ) -> Result<(), StreamFull>
+        requires fits { IsStreamOf db.now self.old }
+        requires scratch { IsScratchOf db.now scratch.old }
+        requires states { AreStatesOf db.now states.old }
+        ensures fits { IsStreamOf db.now self.new }
+        ensures scratch { IsScratchOf db.now scratch.new }
+        ensures states { AreStatesOf db.now states.new }
+        ensures full { IsErr result ↔ (greatest_offset < offset_of self.old + length bytes.now) }
+        ensures kept { OnErr result (self.new ≡ self.old) }
+        ensures untold { OnErr result (events.new ≡ events.old) }
+        ensures offset { OnOk result (offset_of self.new ≡ offset_of self.old + length bytes.now) }
+        ensures told { OnOk result (Takes V.tells events.old events.new (Writes db.now self.old self.new bytes.now)) }
+        ensures any { OnOk result (Takes V.tells events.old events.new (MayWrite db.now self.old self.new bytes.now)) }
+        ensures idle { bytes.now ≡ [] → (events.new ≡ events.old) × (self.new ≡ self.old) }
+        ensures ticks { steps.new ≤ steps.old + 48 * (length (nodes_of db.now) * length bytes.now) }
+    {
         if !has_room(self.offset(db), bytes.len()) {
             return Err(StreamFull);
         }
@@ -117,6 +197,7 @@ impl Stream {
             db,
             &mut self.region,
             &mut scratch.region,
+            states,
             &mut scratch.room,
             bytes,
             events,
@@ -162,6 +243,65 @@ impl Stream {
             events,
             steps,
         );
+    }
+
+    /// Ends the stream as [`Stream::close`] does, with the memory of a cache.
+    ///
+    /// # Cost
+    ///
+    /// That of `close`.
+    ///
+    /// # Examples
+    ///
+    /// ```
+    /// stream.close_cached(&database, &mut cache, &mut told, &mut steps);
+    /// ```
+    pub fn close_cached<V: Events, L: Ledger>(
+        self,
+        db: &Database,
+        cache: &mut Cache,
+        events: &mut V,
+        steps: &mut Steps<L>,
+    )
+        requires fits { IsStreamOf db.now self }
+        requires cache { IsCacheOf db.now cache.old }
+        ensures cache { IsCacheOf db.now cache.new }
+        ensures told { Takes V.tells events.old events.new (Closes db.now self) }
+        ensures any { Takes V.tells events.old events.new (MayClose db.now self) }
+        ensures ticks { steps.new ≤ steps.old + 16 * length (nodes_of db.now) }
+    {
+        self.close(db, &mut cache.scratch, events, steps)
+    }
+
+    /// Ends the stream as [`Stream::reset`] does, with the memory of a cache.
+    ///
+    /// # Cost
+    ///
+    /// That of `reset`.
+    ///
+    /// # Examples
+    ///
+    /// ```
+    /// stream.reset_cached(&database, &mut cache, &mut told, &mut steps);
+    /// ```
+    pub fn reset_cached<V: Events, L: Ledger>(
+        &mut self,
+        db: &Database,
+        cache: &mut Cache,
+        events: &mut V,
+        steps: &mut Steps<L>,
+    )
+        requires fits { IsStreamOf db.now self.old }
+        requires cache { IsCacheOf db.now cache.old }
+        ensures fits { IsStreamOf db.now self.new }
+        ensures cache { IsCacheOf db.now cache.new }
+        ensures offset { offset_of self.new ≡ 0 }
+        ensures fresh { IsFresh db.now self.new }
+        ensures told { Takes V.tells events.old events.new (Closes db.now self.old) }
+        ensures any { Takes V.tells events.old events.new (MayClose db.now self.old) }
+        ensures ticks { steps.new ≤ steps.old + 16 * length (nodes_of db.now) }
+    {
+        self.reset(db, &mut cache.scratch, events, steps)
     }
 
     /// Ends the stream, and reports what only its end decides, by end, then identifier. It then goes on as a stream of

@@ -20,6 +20,7 @@ loop-from-init g c =
       keeps = record { rows = refl; finals = refl; last = refl };
       pending = c.requires.pending;
       resting = c.requires.resting;
+      cache = c.requires.cache;
       none = c.requires.none;
       early = λ none. none;
       ticks = omega arith;
@@ -51,6 +52,7 @@ loop-from-preserved g c =
       keeps = record { rows = c.scan_chunk.ensures.keeps.rows ∙ inv.keeps.rows; finals = c.scan_chunk.ensures.keeps.finals ∙ inv.keeps.finals; last = c.scan_chunk.ensures.keeps.last ∙ inv.keeps.last };
       pending = c.scan_chunk.ensures.pending;
       resting = c.scan_chunk.ensures.resting;
+      cache = c.scan_chunk.ensures.cache;
       none = c.scan_chunk.ensures.none;
       early = λ none. c.scan_chunk.ensures.early (inv.early none);
       ticks =

@@ -1,6 +1,7 @@
 use Rattle.std.proofs.Common.{◌≡◌, ◌+◌, ◌-◌, ◌*◌, ◌≤◌, ℕ, length, take}
 use Rattle.std.specs.Prelude.{slice_index}
 use Rattle.hs_literals.specs.Held.{held}
+use Rattle.hs_nodes.specs.Cached.{IsCacheOf}
 use Rattle.hs_nodes.specs.Resting.{AreNodesResting}
 use Rattle.hs_nodes.specs.Walks.{AreNodesWell, IsOutside}
 use Rattle.hs_reports.specs.Events.{Takes}
@@ -20,6 +21,7 @@ invariant-loop-from g l = record {
   keeps : KeepsAll l.fn.scratch l.scratch;
   pending : IsPending l.scratch.course.known;
   resting : AreNodesResting g.E.Engine.meaning l.graph.table l.scratch.course.marks l.region;
+  cache : IsCacheOf g.E.Engine.meaning l.graph.table l.cache;
   none : HasNoHits l.scratch;
   early : KeepsEarly l.fn.scratch.at l.scratch.at l.fn.scratch.past l.scratch.past;
   ticks : l.steps ≤ l.fn.steps + 32 * (length l.graph.table.nodes.items * l.from);

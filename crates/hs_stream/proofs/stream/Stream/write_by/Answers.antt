@@ -6,7 +6,7 @@ use Rattle.hs_reports.specs.Events.{Takes}
 use Rattle.hs_stream.specs.Foreign.{MayLead}
 use Rattle.hs_stream.specs.Leading.{IsRegionOf}
 use Rattle.hs_stream.proofs.VecLemmas.{with-items_same}
-use Rattle.hs_stream.proofs.stream.Stream.write.Goals as goal
+use Rattle.hs_stream.proofs.stream.Stream.write_by.Goals as goal
 
 pub write_kept-requires-clause-kept : goal.write_kept-requires-clause-kept
 write_kept-requires-clause-kept g c = subst (IsRegionOf c.args.db.now) (sym c.deref_mut.ensures.value) c.requires.fits.region
