@@ -39,7 +39,7 @@ impl<S: Store, I: Source, O: Sink, L: Ledger> Session<'_, '_, '_, '_, '_, '_, S,
         };
         let reply = streams.reset(
             self.db,
-            self.scratch,
+            self.cache,
             name.as_slice(),
             &mut lines,
             self.steps,
@@ -69,7 +69,7 @@ impl<S: Store, I: Source, O: Sink, L: Ledger> Session<'_, '_, '_, '_, '_, '_, S,
         };
         let reply = streams.close(
             self.db,
-            self.scratch,
+            self.cache,
             name.as_slice(),
             &mut lines,
             self.steps,
