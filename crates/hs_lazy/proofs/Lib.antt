@@ -1,1 +1,9 @@
+pub mod TableLemmas
+pub mod PartLemmas
+pub mod RunLemmas
+pub mod StepLemmas
+pub mod SoundLemmas
+pub mod ChunkLemmas
 pub mod EmptyLemmas
+pub mod ToldLemmas
+pub mod PutLemmas

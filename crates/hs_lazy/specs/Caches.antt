@@ -1,14 +1,18 @@
 -- What a cache has of each number, and what it tells of a chunk.
 use Rattle.std.specs.Prelude.{◌≡◌, ℕ, ◌<◌, Bool, true, false, List, [], Option, Some, None, length, slice_get}
-use Rattle.std.specs.Prelude.{slice_range}
+use Rattle.std.specs.Prelude.{slice_index, slice_range, nat_lt, ◌&&◌}
 use Rattle.hs_base.specs.declared.context.Prev.{Prev}
 use Rattle.hs_base.specs.Bits.{AreZero}
 use Rattle.hs_engine.specs.Engines.{Meaning}
 use Rattle.hs_lazy.specs.declared.cache.Cache.{Cache}
 use Rattle.hs_lazy.specs.declared.cache.Dfas.{Dfas}
 use Rattle.hs_lazy.specs.declared.cache.Place.{Place}
-use Rattle.hs_lazy.specs.declared.dfa.Member.{Member}
-use Rattle.hs_lazy.specs.declared.dfa.Run.{Run}
+use Rattle.hs_lazy.specs.declared.parts.Member.{Member}
+use Rattle.hs_lazy.specs.declared.parts.Run.{Run}
+use Rattle.hs_lazy.specs.declared.parts.State.{State}
+use Rattle.hs_lazy.specs.declared.dfa.LazyDfa.{LazyDfa}
+use Rattle.hs_lazy.specs.Walks.{IsTaken}
+use Rattle.hs_lazy.specs.Parts.{before_of, behind_of, ends_of, part, set_of}
 use Rattle.hs_lazy.specs.Runs.{RunsThrough}
 use Rattle.hs_lazy.specs.Tables.{engine_at, member_of, place_of}
 
@@ -38,21 +42,50 @@ abbrev pub told_if : Bool → Told → Option Told
 told_if true t = Some t
 told_if false t = None
 
-abbrev pub told_by : Option Member → Option Run → Option Told
-told_by None run = None
-told_by (Some member) None = None
-told_by (Some member) (Some run) =
+-- the ends before a chunk's bytes and behind them, of the member of that number, by the steps of the trace
+abbrev pub befores_of : LazyDfa → Run → (member : ℕ) → ℕ → Bool
+befores_of dfa run member i =
+    nat_lt i run.count && before_of (set_of dfa.ends.items (ends_of (slice_index run.trace i))) member
+
+abbrev pub behinds_of : LazyDfa → Run → (member : ℕ) → ℕ → Bool
+behinds_of dfa run member i =
+    nat_lt i run.count && behind_of (set_of dfa.ends.items (ends_of (slice_index run.trace i))) member
+
+abbrev pub told_of : Option State → LazyDfa → Run → (number : ℕ) → Member → Option Told
+told_of None dfa run number member = None
+told_of (Some state) dfa run number member =
     told_if run.is_done
     (record {
       engine = member.engine;
-      part = slice_range run.last member.start member.end;
-      before = λ i. false;
-      behind = λ i. false;
+      part = part state.image member;
+      before = befores_of dfa run number;
+      behind = behinds_of dfa run number;
     })
+
+abbrev pub told_by : Option Member → Option LazyDfa → Option Run → (number : ℕ) → Option Told
+told_by None dfa run number = None
+told_by (Some member) None run number = None
+told_by (Some member) (Some dfa) None number = None
+told_by (Some member) (Some dfa) (Some run) number =
+    told_of (slice_get dfa.states.items run.state) dfa run number member
+
+-- the automaton took the chunk
+abbrev pub done_by : Option LazyDfa → Option Run → Bool
+done_by None run = false
+done_by (Some dfa) None = false
+done_by (Some dfa) (Some run) = run.is_done && nat_lt run.state (length dfa.states.items)
+
+abbrev pub is_done_at : List LazyDfa → List Run → Place → Bool
+is_done_at list runs p = done_by (slice_get list p.dfa) (slice_get runs p.dfa)
+
+-- what is told by a place, of the number that has it
+abbrev pub told_at : Option Member → (list : List LazyDfa) (runs : List Run) → Option Place → Option Told
+told_at member list runs None = None
+told_at member list runs (Some p) = told_by member (slice_get list p.dfa) (slice_get runs p.dfa) p.member
 
 -- what is told of a number, if its automaton took the chunk
 unfoldable pub told : Cache → ℕ → Option Told
-told cache k = told_by (member_of cache.dfas k) (run_at cache.runs.items (place_of cache.dfas k))
+told cache k = told_at (member_of cache.dfas k) cache.dfas.list.items cache.runs.items (place_of cache.dfas k)
 
 -- What is told is what the engine does, from that region on.
 pub record TellsRun (m : Meaning) (old : List ℕ) (prev : Prev) (bytes : List ℕ) (t : Told) : Type 0 where
@@ -65,3 +98,14 @@ pub record IsSilent (t : Told) : Type 0 where
   pub zero : AreZero t.part
   pub before : (i : ℕ) → t.before i ≡ false
   pub behind : (i : ℕ) → t.behind i ≡ false
+
+-- the images before the chunk stay
+abbrev pub AreSameImages : (old new : List Run) → Type 0
+AreSameImages old new =
+    (i : ℕ) (run : Run) → slice_get new i ≡ Some run → (before : Run) × (slice_get old i ≡ Some before) × (run.image ≡ before.image)
+
+-- each automaton that is told to have taken the chunk did
+abbrev pub AreTaken : List LazyDfa → List Run → Prev → (bytes : List ℕ) → Type 0
+AreTaken list runs prev bytes =
+    (i : ℕ) (dfa : LazyDfa) (run : Run) → slice_get list i ≡ Some dfa → slice_get runs i ≡ Some run →
+    run.is_done ≡ true → IsTaken dfa.states.items dfa.rows.items run prev bytes

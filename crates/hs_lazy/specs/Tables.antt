@@ -1,10 +1,13 @@
 -- What the states of a cache are of.
-use Rattle.std.specs.Prelude.{◌≡◌, ℕ, ◌<◌, ◌≤◌, ◌-◌, false, List, Option, Some, None, length, slice_get, slice_range}
+use Rattle.std.specs.Prelude.{◌≡◌, ℕ, ◌<◌, ◌≤◌, ◌-◌, false, List, Option, Some, None, length, slice_get, slice_range, if◌then◌else◌, ◌==◌}
+use Rattle.std.proofs.Math.ListN.{set}
 use Rattle.hs_engine.specs.Engines.{Meaning}
+use Rattle.hs_lazy.specs.Sound.{IsSound}
+use Rattle.hs_lazy.specs.Members.{IsTakenIn}
 use Rattle.hs_lazy.specs.declared.cache.Dfas.{Dfas}
 use Rattle.hs_lazy.specs.declared.cache.Place.{Place}
 use Rattle.hs_lazy.specs.declared.dfa.LazyDfa.{LazyDfa}
-use Rattle.hs_lazy.specs.declared.dfa.Member.{Member}
+use Rattle.hs_lazy.specs.declared.parts.Member.{Member}
 
 -- the member of that place, if it is there
 abbrev pub member_in : Option LazyDfa → ℕ → Option Member
@@ -23,8 +26,13 @@ place_in (Some place) = place
 abbrev pub place_of : Dfas → ℕ → Option Place
 place_of d k = place_in (slice_get d.places.items k)
 
+-- the member, if it is of that number
+abbrev pub own_member : ℕ → Option Member → Option Member
+own_member k None = None
+own_member k (Some member) = if member.number == k then Some member else None
+
 abbrev pub member_of : Dfas → ℕ → Option Member
-member_of d k = member_by d.list.items (place_of d k)
+member_of d k = own_member k (member_by d.list.items (place_of d k))
 
 abbrev pub engine_in : Option Member → Option ℕ
 engine_in None = None
@@ -34,7 +42,27 @@ engine_in (Some member) = Some member.engine
 unfoldable pub engine_at : Dfas → ℕ → Option ℕ
 engine_at d k = engine_in (member_of d k)
 
--- The engines of the numbers are there, and count as entered where they are told to be.
+-- all known steps are what the engines do
+abbrev pub AreAllSound : {E : Type 0} → (E → Meaning) → (engines : List E) → List LazyDfa → Type 0
+AreAllSound meaning engines list =
+    (i : ℕ) (dfa : LazyDfa) → slice_get list i ≡ Some dfa →
+    IsSound meaning engines dfa.members.items dfa.states.items dfa.rows.items dfa.ends.items
+
+-- One automaton more runs for the number, or all is as before.
+pub data IsPut (old new : Dfas) (number engine size : ℕ) : Type 0 where
+  stays : new.list.items ≡ old.list.items → new.places ≡ old.places → IsPut old new number engine size
+  is_put :
+      (at member : ℕ) (before behind : LazyDfa) →
+      slice_get old.list.items at ≡ Some before →
+      new.list.items ≡ set old.list.items at behind →
+      new.places.items ≡ set old.places.items number (Some (record { dfa = at; member = member })) →
+      number < length old.places.items →
+      IsTakenIn before behind number engine size member →
+      IsPut old new number engine size
+
+-- The engines of the numbers are there, and count as entered where they are told to be; all steps that are known are
+-- what the engines do.
 pub record AreDfasOf {E : Type 0} (meaning : E → Meaning) (engines : List E) (d : Dfas) : Type 0 where
   pub there : (k n : ℕ) → engine_at d k ≡ Some n → n < length engines
   pub listed : (k n : ℕ) (e : E) → engine_at d k ≡ Some n → slice_get engines n ≡ Some e → (meaning e).always ≡ false
+  pub sound : AreAllSound meaning engines d.list.items

@@ -1,22 +1,58 @@
 //! One automaton over the regions of some engines.
 
+ghost use Rattle.std.specs.Prelude.{◌≡◌, ◌<◌, ◌≤◌, ℕ, IfSome, length, slice_index, vec_capacity};
+ghost use Rattle.hs_lazy.specs.Parts.{AreApart, AreLeading, AreLive, AreUnknownFrom, IsLive};
+ghost use Rattle.hs_lazy.specs.Walks.{state_before};
+
+use crate::engine::ByteEnds;
+use crate::parts::{EndSet, IMAGE_BYTES, MEMBER_WORDS, Member, Run, State};
+use hs_base::Prev;
+use hs_bits::{
+    clear_words, contains_word_bit, is_unset, is_zero, unite_words, word_at, write_word_bit,
+};
 use std::alloc::{AllocError, Global};
 
-/// How many bytes the regions of its engines have together at most.
-pub(crate) const IMAGE_BYTES: usize = 512;
+/// How many engines an automaton has at most.
+pub(crate) const MAX_MEMBERS: usize = 256;
 
-/// An engine of the automaton.
-#[derive(Clone, Copy, Debug)]
-pub struct Member {
-    /// The number by which its owner knows it.
-    pub number: u32,
-    /// Its number among the engines.
-    pub engine: u32,
-    /// Where its region begins in an image.
-    pub start: u32,
-    /// Where it ends.
-    pub end: u32,
-}
+/// How many states are kept at most.
+const MAX_STATES: usize = 1024;
+
+/// How many sets of ends are kept at most.
+const MAX_END_SETS: usize = 4096;
+
+/// How many steps a state has: one by each byte.
+const ROW_LEN: usize = 256;
+
+/// Where the number of the set of ends begins in a step; below is the number of the next state and one.
+pub(crate) const ENDS_UNIT: u32 = 65536;
+
+/// How many slots there are by which states are found.
+const SLOT_COUNT: usize = 4 * MAX_STATES;
+
+/// How many slots are looked at for a state.
+const MAX_PROBES: usize = 8;
+
+/// An odd number with as many set bits as not, by which images are mixed.
+const MIXER: u64 = 0x9E37_79B9_7F4A_7C15;
+
+/// How many steps may be made at first.
+const FIRST_CREDIT: u32 = 4096;
+
+/// How many may be made after each rest.
+const LATER_CREDIT: u32 = 1024;
+
+/// How many more for each chunk that is taken.
+const CHUNK_CREDIT: u32 = 8;
+
+/// How many at most.
+const MOST_CREDIT: u32 = 8192;
+
+/// For how many chunks an automaton rests at first.
+const FIRST_REST: u32 = 64;
+
+/// For how many it rests at most.
+const LONGEST_REST: u32 = 4096;
 
 /// An automaton over the regions of its members, one behind the other: an image. Its states are images with what stands
 /// before the next byte.
@@ -24,15 +60,403 @@ pub struct Member {
 pub struct LazyDfa {
     /// Its engines.
     pub members: Vec<Member>,
+    /// The states that were met.
+    pub states: Vec<State>,
+    /// The steps of each state by each byte: 0 where it isn't known, else the number of the next state and one, and
+    /// above it the number of its set of ends and one, or 0 for none.
+    pub rows: Vec<u32>,
+    /// The sets of members that steps leave.
+    pub ends: Vec<EndSet>,
+    /// By the hash of a state its number and one, or 0.
+    pub slots: Vec<u16>,
+    /// How many steps may be made before the automaton has to rest.
+    pub credit: u32,
+    /// For how many chunks it rests.
+    pub rest: u32,
+    /// For how many chunks it will rest next.
+    pub patience: u32,
+    ghost apart: { AreApart members.items },
+    ghost few: { length members.items ≤ 256 },
+    ghost states_few: { length states.items ≤ 1024 },
+    ghost states_room: { 1024 ≤ vec_capacity states },
+    ghost rows_len: { length rows.items ≡ 262144 },
+    ghost leading: { AreLeading rows.items (length states.items) },
+    ghost unknown: { AreUnknownFrom rows.items (length states.items) },
+    ghost live: { AreLive members.items states.items },
+    ghost slots_len: { length slots.items ≡ 4096 },
+    ghost ends_few: { length ends.items ≤ 4096 },
+    ghost ends_room: { 4096 ≤ vec_capacity ends },
+    ghost members_room: { 256 ≤ vec_capacity members },
 }
 
-/// What a chunk made of an automaton.
-#[derive(Clone, Copy, Debug)]
-pub struct Run {
-    /// The image before the chunk.
-    pub image: [u8; IMAGE_BYTES],
-    /// The image behind it.
-    pub last: [u8; IMAGE_BYTES],
-    /// Whether the chunk was taken.
-    pub is_done: bool,
+impl LazyDfa {
+    ghost use Rattle.std.specs.Prelude.{◌≡◌, ◌+◌, ◌*◌, ◌<◌, ◌≤◌, ℕ, [], IfOk, IfSome, MatchOption, Some, None, true, false, length, slice_get, slice_index, slice_set};
+    ghost use Rattle.hs_base.specs.Bits.{AreZero, has_word_bit};
+    ghost use Rattle.hs_lazy.specs.Parts.{AreKept, AreUnknownFrom, IsLive, IsState, IsStepTo, before_of, behind_of, ends_of, entry, next_of, set_of};
+    ghost use Rattle.hs_lazy.specs.Walks.{IsWalk, state_before};
+    ghost use Rattle.hs_lazy.specs.declared.parts.Member.{Member};
+    ghost use Rattle.hs_lazy.specs.declared.parts.State.{State};
+    ghost use Rattle.hs_lazy.specs.Members.{IsAsleepIn, IsTakenIn};
+    ghost use Rattle.hs_lazy.specs.Images.{IsSameSets, part_at};
+
+    /// An automaton without engines. The only error is want of memory.
+    pub fn new(alloc: Global) -> Result<LazyDfa, AllocError>
+        ensures members { IfOk result (λ dfa. dfa.members.items ≡ []) }
+        ensures states { IfOk result (λ dfa. dfa.states.items ≡ []) }
+    {
+        Ok(LazyDfa {
+            members: Vec::with_capacity(alloc, MAX_MEMBERS)?,
+            states: Vec::with_capacity(alloc, MAX_STATES)?,
+            rows: vec![in alloc; 0u32; MAX_STATES * ROW_LEN]?,
+            ends: Vec::with_capacity(alloc, MAX_END_SETS)?,
+            slots: vec![in alloc; 0u16; SLOT_COUNT]?,
+            credit: FIRST_CREDIT,
+            rest: 0,
+            patience: FIRST_REST,
+        })
+    }
+
+    /// Forgets all states.
+    pub fn forget(&mut self)
+        ensures members { self.new.members ≡ self.old.members }
+        ensures states { self.new.states.items ≡ [] }
+    {
+        if self.states.is_empty() {
+            return;
+        }
+        self.states.clear();
+        self.ends.clear();
+        self.rows.fill(0);
+        self.slots.fill(0);
+    }
+
+    /// The number of the state with that image and what stands before the next byte, which may be a new one. None where
+    /// there is no room for it.
+    pub fn find(&mut self, image: &[u8; IMAGE_BYTES], prev: Prev) -> Option<usize>
+        ensures members { self.new.members ≡ self.old.members }
+        ensures rows { self.new.rows ≡ self.old.rows }
+        ensures ends { self.new.ends ≡ self.old.ends }
+        ensures states { AreKept self.old.states.items self.new.states.items }
+        ensures found { IfSome result (λ s. IsState self.new.states.items s image.now prev) }
+    {
+        let hash = hash_of(image, prev);
+        if let Some(number) = self.known(hash, image, prev) {
+            return Some(number);
+        }
+        self.add_state(hash, image, prev)
+    }
+
+    /// The number of the state with that image and what stands before the next byte, if it is found by that hash.
+    fn known(&self, hash: usize, image: &[u8; IMAGE_BYTES], prev: Prev) -> Option<usize>
+        requires { hash < 4096 }
+        ensures { IfSome result (λ s. IsState self.now.states.items s image.now prev) }
+    {
+        for probe in 0..MAX_PROBES {
+            let slot = self.slots[(hash + probe) % SLOT_COUNT];
+            if slot == 0 {
+                return None;
+            }
+            let number = slot as usize - 1;
+            if self.is_state(number, image, prev) {
+                return Some(number);
+            }
+        }
+        None
+    }
+
+    /// Whether the state of that number is there, with that image and what stands before the next byte.
+    fn is_state(&self, number: usize, image: &[u8; IMAGE_BYTES], prev: Prev) -> bool
+        ensures { result ≡ true → IsState self.now.states.items number image.now prev }
+    {
+        match self.states.get(number) {
+            Some(state) => state.prev == prev && state.image == *image,
+            None => false,
+        }
+    }
+
+    /// Puts a state behind the others. None where there is no room for it.
+    fn add_state(&mut self, hash: usize, image: &[u8; IMAGE_BYTES], prev: Prev) -> Option<usize>
+        requires { hash < 4096 }
+        ensures members { self.new.members ≡ self.old.members }
+        ensures rows { self.new.rows ≡ self.old.rows }
+        ensures ends { self.new.ends ≡ self.old.ends }
+        ensures states { AreKept self.old.states.items self.new.states.items }
+        ensures found { IfSome result (λ s. IsState self.new.states.items s image.now prev) }
+    {
+        let number = self.states.len();
+        if number >= MAX_STATES {
+            return None;
+        }
+        let Some(slot) = free_slot(&self.slots, hash) else {
+            return None;
+        };
+        let live = live_members(&self.members, image);
+        self.slots[slot] = number as u16 + 1;
+        self.states
+            .push(State {
+                image: *image,
+                prev,
+                live,
+            })
+            .unwrap();
+        Some(number)
+    }
+
+    /// The number of a set of ends, which may be a new one. None where there is no room for it.
+    pub fn number_of(&mut self, set: EndSet) -> Option<u32>
+        ensures members { self.new.members ≡ self.old.members }
+        ensures rows { self.new.rows ≡ self.old.rows }
+        ensures states { self.new.states ≡ self.old.states }
+        ensures ends { AreKept self.old.ends.items self.new.ends.items }
+        ensures within { IfSome result (λ n. n ≤ length self.new.ends.items) }
+        ensures few { IfSome result (λ n. n ≤ 4096) }
+        ensures same { IfSome result (λ n. IsSameSets (set_of self.new.ends.items n) set) }
+    {
+        if is_unset(&set.before) && is_unset(&set.behind) {
+            return Some(0);
+        }
+        if self.ends.len() >= MAX_END_SETS {
+            return None;
+        }
+        self.ends.push(set).unwrap();
+        Some(self.ends.len() as u32)
+    }
+
+    /// Writes the step of a state by a byte.
+    pub fn write_step(&mut self, state: usize, byte: u8, next: usize, ends: u32) -> u32
+        requires state { state < length self.old.states.items }
+        requires next { next < length self.old.states.items }
+        requires ends { ends ≤ 4096 }
+        ensures members { self.new.members ≡ self.old.members }
+        ensures states { self.new.states ≡ self.old.states }
+        ensures ends { self.new.ends ≡ self.old.ends }
+        ensures rows { self.new.rows.items ≡ slice_set self.old.rows.items (256 * state + byte) result }
+        ensures step { IsStepTo result next ends }
+    {
+        let step = ENDS_UNIT * ends + next as u32 + 1;
+        self.rows[ROW_LEN * state + byte as usize] = step;
+        step
+    }
+
+    /// Takes from the credit what a step costs. Where it is used up, the automaton is to rest.
+    pub fn spend(&mut self) -> bool
+        ensures members { self.new.members ≡ self.old.members }
+        ensures states { self.new.states ≡ self.old.states }
+        ensures rows { self.new.rows ≡ self.old.rows }
+        ensures ends { self.new.ends ≡ self.old.ends }
+    {
+        if self.credit > 0 {
+            self.credit -= 1;
+            return true;
+        }
+        self.credit = LATER_CREDIT;
+        self.rest = self.patience;
+        self.patience = self.patience.saturating_mul(2).min(LONGEST_REST);
+        false
+    }
+
+    /// Gives credit for a chunk that was taken.
+    pub fn earn(&mut self)
+        ensures members { self.new.members ≡ self.old.members }
+        ensures states { self.new.states ≡ self.old.states }
+        ensures rows { self.new.rows ≡ self.old.rows }
+        ensures ends { self.new.ends ≡ self.old.ends }
+    {
+        self.credit = self.credit.saturating_add(CHUNK_CREDIT).min(MOST_CREDIT);
+    }
+
+    /// Whether the automaton rests for a chunk.
+    pub fn rests(&mut self) -> bool
+        ensures members { self.new.members ≡ self.old.members }
+        ensures states { self.new.states ≡ self.old.states }
+        ensures rows { self.new.rows ≡ self.old.rows }
+        ensures ends { self.new.ends ≡ self.old.ends }
+    {
+        if self.rest == 0 {
+            return false;
+        }
+        self.rest -= 1;
+        true
+    }
+
+    /// Whether there is room for a region of that size more.
+    pub fn has_room(&self, size: usize) -> bool
+        requires { size ≤ 64 }
+    {
+        self.members.len() < MAX_MEMBERS && self.end() as usize + size <= IMAGE_BYTES
+    }
+
+    /// Where the region of the last member ends.
+    fn end(&self) -> u32
+        ensures within { result ≤ 512 }
+        ensures end { (k : ℕ) (m : Member) → slice_get self.now.members.items k ≡ Some m → m.end ≤ result }
+    {
+        match self.members.last() {
+            Some(member) => member.end,
+            None => 0,
+        }
+    }
+
+    /// Takes in an engine with a region of that size, and forgets all states. Answers its number among the members;
+    /// None where there is no room for it, and then all stays.
+    pub fn put(&mut self, number: u32, engine: u32, size: u32) -> Option<u32>
+        requires { size ≤ 64 }
+        ensures { MatchOption result (self.new ≡ self.old) (IsTakenIn self.old self.new number engine size) }
+    {
+        let start = self.end();
+        let member = self.members.len();
+        if member >= MAX_MEMBERS || (start + size) as usize > IMAGE_BYTES {
+            return None;
+        }
+        self.forget();
+        self.members
+            .push(Member {
+                number,
+                engine,
+                start,
+                end: start + size,
+            })
+            .unwrap();
+        Some(member as u32)
+    }
+
+    /// The members in whose regions something is live behind a chunk, or which are left in it.
+    pub fn woken(&self, run: &Run) -> [u64; MEMBER_WORDS]
+        ensures { (state : State) (k : ℕ) → slice_get self.now.states.items run.now.state ≡ Some state →
+            has_word_bit result k ≡ false → IsAsleepIn self.now run.now state k }
+    {
+        let Some(state) = self.states.get(run.state) else {
+            return [0; MEMBER_WORDS];
+        };
+        let mut woken = state.live;
+        for place in 0..run.count {
+            let step = run.trace[place];
+            if step >= ENDS_UNIT {
+                let set = self.set_of(step);
+                unite_words(&mut woken, &set.before);
+                unite_words(&mut woken, &set.behind);
+            }
+        }
+        woken
+    }
+
+    /// Follows known steps over the bytes from that place on, up to one that isn't known.
+    pub fn walk(&self, first: usize, from: usize, bytes: &[u8], trace: &mut [u32]) -> usize
+        requires few { length bytes.now ≤ length trace.old }
+        requires from { from ≤ length bytes.now }
+        requires first { first < length self.now.states.items }
+        requires walk { IsWalk self.now.rows.items first bytes.now trace.old from }
+        ensures len { length trace.new ≡ length trace.old }
+        ensures from { from ≤ result }
+        ensures within { result ≤ length bytes.now }
+        ensures walk { IsWalk self.now.rows.items first bytes.now trace.new result }
+        ensures stops { result < length bytes.now → entry self.now.rows.items (state_before first trace.new result)
+            (slice_index bytes.now result) ≡ 0 }
+    {
+        let mut state = state_at(first, trace, from);
+        for place in from..bytes.len() {
+            let step = self.rows[ROW_LEN * state + bytes[place] as usize];
+            if step == 0 {
+                return place;
+            }
+            trace[place] = step;
+            state = (step % ENDS_UNIT) as usize - 1;
+        }
+        bytes.len()
+    }
+
+    /// The region of a member in a state; where either isn't there, nothing.
+    pub fn part(&self, state: usize, member: usize) -> &[u8]
+        ensures { result.now ≡ part_at self.now.states.items self.now.members.items state member }
+    {
+        let Some(state) = self.states.get(state) else {
+            return &[];
+        };
+        let Some(member) = self.members.get(member) else {
+            return &[];
+        };
+        &state.image[member.start as usize..member.end as usize]
+    }
+
+    /// Whether the set of ends of a step has that member, before its byte and behind it.
+    pub fn ends_of(&self, step: u32, member: usize) -> ByteEnds
+        requires { member < 256 }
+        ensures before { result.before ≡ before_of (set_of self.now.ends.items (ends_of step)) member }
+        ensures behind { result.behind ≡ behind_of (set_of self.now.ends.items (ends_of step)) member }
+    {
+        let set = self.set_of(step);
+        ByteEnds {
+            before: contains_word_bit(&set.before, member),
+            behind: contains_word_bit(&set.behind, member),
+        }
+    }
+
+    /// The set of ends of a step.
+    fn set_of(&self, step: u32) -> EndSet
+        ensures { IsSameSets (set_of self.now.ends.items (ends_of step)) result }
+    {
+        let number = (step / ENDS_UNIT) as usize;
+        if number == 0 {
+            return EndSet::NOWHERE;
+        }
+        match self.ends.get(number - 1) {
+            Some(set) => *set,
+            None => EndSet::NOWHERE,
+        }
+    }
+}
+
+/// The number of the state before the byte at that place.
+pub fn state_at(first: usize, trace: &[u32], place: usize) -> usize
+    requires { place ≤ length trace.now }
+    ensures { result ≡ state_before first trace.now place }
+{
+    if place == 0 {
+        first
+    } else {
+        (trace[place - 1] % ENDS_UNIT).saturating_sub(1) as usize
+    }
+}
+
+/// The members in whose regions something is live.
+fn live_members(members: &[Member], image: &[u8; IMAGE_BYTES]) -> [u64; MEMBER_WORDS]
+    requires apart { AreApart members.now }
+    requires few { length members.now ≤ 256 }
+    ensures live { IsLive members.now image.now result }
+    ensures len { length result ≡ 4 }
+    ensures image_len { length image.now ≡ 512 }
+{
+    let mut live = [0; MEMBER_WORDS];
+    for k in 0..members.len() {
+        let member = members[k];
+        let is_asleep = is_zero(&image[member.start as usize..member.end as usize]);
+        write_word_bit(&mut live, k, !is_asleep);
+    }
+    live
+}
+
+/// The first free slot of a few from that one on.
+fn free_slot(slots: &[u16], hash: usize) -> Option<usize>
+    requires len { length slots.now ≡ 4096 }
+    requires hash { hash < 4096 }
+    ensures { IfSome result (λ slot. slot < 4096) }
+{
+    for probe in 0..MAX_PROBES {
+        let slot = (hash + probe) % SLOT_COUNT;
+        if slots[slot] == 0 {
+            return Some(slot);
+        }
+    }
+    None
+}
+
+/// The slot by which a state is looked for first.
+fn hash_of(image: &[u8; IMAGE_BYTES], prev: Prev) -> usize
+    ensures { result < 4096 }
+{
+    let mut mixed = prev as u64;
+    for word in 0..IMAGE_BYTES / 8 {
+        mixed = (mixed.rotate_left(29) ^ word_at(image, 8 * word)).wrapping_mul(MIXER);
+    }
+    (mixed >> 52) as usize
 }

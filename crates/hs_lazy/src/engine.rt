@@ -15,6 +15,14 @@ pub struct ByteEnds {
     pub behind: bool,
 }
 
+impl ByteEnds {
+    /// It is left neither before the byte nor behind it.
+    pub(crate) const NOWHERE: ByteEnds = ByteEnds {
+        before: false,
+        behind: false,
+    };
+}
+
 /// An engine that may take a byte wherever its stream stands.
 pub trait TimelessEngine: BlockEngine {
     /// Whether it does, as a rule. Nothing hangs on it but speed.

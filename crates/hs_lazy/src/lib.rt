@@ -5,6 +5,9 @@ mod cache;
 mod dfa;
 mod engine;
 mod laws;
+mod parts;
+mod running;
+mod steps;
 
 pub use cache::{Cache, ToldEnds};
 pub use engine::{ByteEnds, TimelessEngine};

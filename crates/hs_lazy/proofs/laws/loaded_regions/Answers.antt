@@ -1,5 +1,5 @@
-use Rattle.hs_lazy.proofs.EmptyLemmas.{no-engine, not-some}
+use Rattle.hs_lazy.proofs.PutLemmas.{loaded-size}
 use Rattle.hs_lazy.proofs.laws.loaded_regions.Goals as goal
 
 pub returns : goal.returns
-returns g c k n e is there = not-some _ n (no-engine c.args.cache.now.dfas k c.args.cache.now.dfas.empty) is
+returns g c k n e is at = loaded-size g.E.Engine.meaning c.args.engines.now c.args.cache.now c.requires k n e is at

@@ -1,0 +1,17 @@
+use Rattle.std.proofs.Common.{◌≡◌, ℕ, ◌<◌, ◌≤◌, length, Some, slice_get}
+use Rattle.hs_base.specs.Bits.{has_word_bit}
+use Rattle.hs_lazy.specs.declared.parts.Member.{Member}
+use Rattle.hs_lazy.specs.Parts.{part}
+use Rattle.hs_lazy.specs.Runs.{TakesEntered}
+use Rattle.hs_lazy.proofs.steps.take_members.Given as goal
+
+abbrev pub invariant-loop-k : goal.invariant-loop-k
+invariant-loop-k g l = record {
+  len : length l.image ≡ 512;
+  befores : length l.ends.before ≡ 4;
+  behinds : length l.ends.behind ≡ 4;
+  done : (j : ℕ) (m : Member) (e : _) → j < l.k → slice_get l.members j ≡ Some m → slice_get l.engines m.engine ≡ Some e →
+      TakesEntered (g.E.Engine.meaning e) (part l.old.image m) (part l.image m) l.old.prev l.byte
+      (record { before = has_word_bit l.ends.before j; behind = has_word_bit l.ends.behind j });
+  left : (j : ℕ) (m : Member) → l.k ≤ j → slice_get l.members j ≡ Some m → part l.image m ≡ part l.old.image m;
+}

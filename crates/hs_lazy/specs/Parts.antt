@@ -1,0 +1,98 @@
+-- What the parts of an automaton are, and how its tables are read.
+use Rattle.std.specs.Prelude.{◌≡◌, ℕ, zero, suc, ◌+◌, ◌*◌, ◌/◌, ◌%◌, ◌-◌, ◌<◌, ◌≤◌, Bool, false, List, [], Option, Some, None}
+use Rattle.std.specs.Prelude.{length, slice_get, slice_index, slice_range}
+use Rattle.hs_base.specs.declared.context.Prev.{Prev}
+use Rattle.hs_base.specs.Bits.{AreZero, has_word_bit}
+use Rattle.hs_lazy.specs.declared.parts.Member.{Member}
+use Rattle.hs_lazy.specs.declared.parts.State.{State}
+use Rattle.hs_lazy.specs.declared.parts.EndSet.{EndSet}
+
+-- the region of a member in an image
+abbrev pub part : List ℕ → Member → List ℕ
+part image m = slice_range image m.start m.end
+
+-- the regions of the members lie one behind the other, within an image
+pub record AreApart (members : List Member) : Type 0 where
+  pub rising : (k : ℕ) (m : Member) → slice_get members k ≡ Some m → m.start ≤ m.end
+  pub within : (k : ℕ) (m : Member) → slice_get members k ≡ Some m → m.end ≤ 512
+  pub in_turn : (j k : ℕ) (a b : Member) → j < k → slice_get members j ≡ Some a → slice_get members k ≡ Some b →
+      a.end ≤ b.start
+
+-- A member without its bit has nothing live.
+abbrev pub IsLive : (members : List Member) (image live : List ℕ) → Type 0
+IsLive members image live =
+    (k : ℕ) (m : Member) → slice_get members k ≡ Some m → has_word_bit live k ≡ false → AreZero (part image m)
+
+-- Each state has an image and bits of their sizes, by which a member without its bit has nothing live.
+pub record IsWhole (members : List Member) (st : State) : Type 0 where
+  pub image_len : length st.image ≡ 512
+  pub live_len : length st.live ≡ 4
+  pub live : IsLive members st.image st.live
+
+abbrev pub AreLive : (members : List Member) (states : List State) → Type 0
+AreLive members states = (s : ℕ) (st : State) → slice_get states s ≡ Some st → IsWhole members st
+
+-- the step of a state by a byte: 0 where it isn't known
+abbrev pub entry : (rows : List ℕ) (s b : ℕ) → ℕ
+entry rows s b = slice_index rows (256 * s + b)
+
+-- the state that a step leads to
+abbrev pub next_of : ℕ → ℕ
+next_of step = step % 65536 - 1
+
+-- the number of the set of ends of a step: 0 for none
+abbrev pub ends_of : ℕ → ℕ
+ends_of step = step / 65536
+
+-- each known step leads to one of so many states
+abbrev pub AreLeading : (rows : List ℕ) (count : ℕ) → Type 0
+AreLeading rows count =
+    (k : ℕ) → (slice_index rows k ≡ 0 → ⊥) → (0 < slice_index rows k % 65536) × (slice_index rows k % 65536 ≤ count)
+
+-- no step of a state from there on is known
+abbrev pub AreUnknownFrom : (rows : List ℕ) (count : ℕ) → Type 0
+AreUnknownFrom rows count = (k : ℕ) → 256 * count ≤ k → slice_index rows k ≡ 0
+
+-- the set of ends of that number
+abbrev pub set_of : List EndSet → ℕ → Option EndSet
+set_of sets zero = None
+set_of sets (suc n) = slice_get sets n
+
+abbrev pub before_of : Option EndSet → ℕ → Bool
+before_of None k = false
+before_of (Some set) k = has_word_bit set.before k
+
+abbrev pub behind_of : Option EndSet → ℕ → Bool
+behind_of None k = false
+behind_of (Some set) k = has_word_bit set.behind k
+
+-- these states are there still
+abbrev pub AreKept : {A : Type 0} → (old new : List A) → Type 0
+AreKept {A = A} old new = (i : ℕ) (x : A) → slice_get old i ≡ Some x → slice_get new i ≡ Some x
+
+-- the state of that number has that image, and that stands before the next byte
+pub record IsState (states : List State) (s : ℕ) (image : List ℕ) (prev : Prev) : Type 0 where
+  pub state : State
+  pub is : slice_get states s ≡ Some state
+  pub image_is : state.image ≡ image
+  pub prev_is : state.prev ≡ prev
+
+-- known steps stay
+abbrev pub AreStepsKept : (old new : List ℕ) → Type 0
+AreStepsKept old new = (k : ℕ) → (slice_index old k ≡ 0 → ⊥) → slice_index new k ≡ slice_index old k
+
+-- the step is known, and that
+pub record IsMade (rows : List ℕ) (s b step : ℕ) : Type 0 where
+  pub is : step ≡ entry rows s b
+  pub known : step ≡ 0 → ⊥
+
+-- one of two members lies before the other
+pub data IsBeside : Member → Member → Type 0 where
+  before_it : {member other : Member} → other.end ≤ member.start → IsBeside member other
+  behind_it : {member other : Member} → member.end ≤ other.start → IsBeside member other
+
+-- the step leads to that state, with the set of ends of that number
+pub record IsStepTo (step next ends : ℕ) : Type 0 where
+  pub known : step ≡ 0 → ⊥
+  pub next_is : next_of step ≡ next
+  pub ends_is : ends_of step ≡ ends

@@ -1,0 +1,42 @@
+-- That the steps of an automaton are what its engines do.
+use Rattle.std.specs.Prelude.{◌≡◌, ℕ, ◌+◌, ◌<◌, ◌≤◌, Bool, false, List, Some, length, slice_get}
+use Rattle.hs_base.specs.Contexts.{prev_behind}
+use Rattle.hs_engine.specs.Engines.{Meaning}
+use Rattle.hs_lazy.specs.declared.parts.Member.{Member}
+use Rattle.hs_lazy.specs.declared.parts.State.{State}
+use Rattle.hs_lazy.specs.declared.parts.EndSet.{EndSet}
+use Rattle.hs_lazy.specs.Runs.{TakesEntered}
+use Rattle.hs_lazy.specs.Parts.{before_of, behind_of, ends_of, entry, next_of, part, set_of}
+
+-- The members' engines are there, count as entered where they are told to be, and have regions of their sizes.
+pub record AreMembersOf {E : Type 0} (meaning : E → Meaning) (engines : List E) (members : List Member) : Type 0 where
+  pub there : (k : ℕ) (m : Member) → slice_get members k ≡ Some m → m.engine < length engines
+  pub listed : (k : ℕ) (m : Member) (e : E) → slice_get members k ≡ Some m → slice_get engines m.engine ≡ Some e →
+      (meaning e).always ≡ false
+  pub sized : (k : ℕ) (m : Member) (e : E) → slice_get members k ≡ Some m → slice_get engines m.engine ≡ Some e →
+      m.start + (meaning e).width ≡ m.end
+
+-- A byte leads each member from its region in the one state to that in the other, and leaves it as told.
+abbrev pub TakeEntered : {E : Type 0} → (E → Meaning) → (engines : List E) (members : List Member) (old : State)
+    (new : List ℕ) (byte : ℕ) (before behind : ℕ → Bool) → Type 0
+TakeEntered {E = E} meaning engines members old new byte before behind =
+    (k : ℕ) (m : Member) (e : E) → slice_get members k ≡ Some m → slice_get engines m.engine ≡ Some e →
+    TakesEntered (meaning e) (part old.image m) (part new m) old.prev byte
+    (record { before = before k; behind = behind k })
+
+-- A step of a state by a byte is what the engines do.
+pub record IsStep {E : Type 0} (meaning : E → Meaning) (engines : List E) (members : List Member) (states : List State)
+    (ends : List EndSet) (old : State) (byte step : ℕ) : Type 0 where
+  pub next : State
+  pub next_is : slice_get states (next_of step) ≡ Some next
+  pub prev_is : next.prev ≡ prev_behind (Some byte)
+  pub ends_within : ends_of step ≤ length ends
+  pub takes : TakeEntered meaning engines members old next.image byte (before_of (set_of ends (ends_of step)))
+      (behind_of (set_of ends (ends_of step)))
+
+-- All known steps are.
+pub record IsSound {E : Type 0} (meaning : E → Meaning) (engines : List E) (members : List Member) (states : List State)
+    (rows : List ℕ) (ends : List EndSet) : Type 0 where
+  pub of : AreMembersOf meaning engines members
+  pub steps : (s b : ℕ) (old : State) → slice_get states s ≡ Some old → b < 256 → (entry rows s b ≡ 0 → ⊥) →
+      IsStep meaning engines members states ends old b (entry rows s b)

@@ -1,0 +1,208 @@
+//! The steps of an automaton, which are made when a byte is first met in a state.
+
+ghost use Rattle.std.specs.Prelude.{◌≡◌, ◌+◌, ◌<◌, ◌≤◌, false, true, IfSome, length};
+ghost use Rattle.hs_base.specs.Bits.{AreZero, has_word_bit};
+ghost use Rattle.hs_lazy.specs.Parts.{AreApart, AreKept, AreStepsKept, IsBeside, IsLive, IsMade, entry, part};
+ghost use Rattle.hs_lazy.specs.declared.parts.Member.{Member};
+ghost use Rattle.hs_lazy.specs.Runs.{AreZerosBlank, IsBlank, TakesEntered};
+ghost use Rattle.hs_lazy.specs.Sound.{AreMembersOf, IsSound, TakeEntered};
+ghost use Rattle.hs_lazy.specs.Walks.{IsTaken, IsWalk};
+
+use crate::dfa::{LazyDfa, state_at};
+use crate::engine::{ByteEnds, TimelessEngine};
+use crate::parts::{EndSet, Member, Run, State};
+use hs_base::Prev;
+use hs_bits::{contains_word_bit, write_word_bit};
+
+/// Takes a chunk behind `prev` from the image that is loaded on, if the automaton doesn't rest and doesn't give up.
+pub fn run_dfa<E: TimelessEngine>(
+    dfa: &mut LazyDfa,
+    engines: &[E],
+    run: &mut Run,
+    prev: Prev,
+    bytes: &[u8],
+)
+    requires blank { AreZerosBlank E.meaning engines.now }
+    requires sound { IsSound E.meaning engines.now dfa.old.members.items dfa.old.states.items dfa.old.rows.items
+        dfa.old.ends.items }
+    requires few { length bytes.now ≤ 512 }
+    ensures sound { IsSound E.meaning engines.now dfa.new.members.items dfa.new.states.items dfa.new.rows.items
+        dfa.new.ends.items }
+    ensures members { dfa.new.members ≡ dfa.old.members }
+    ensures image { run.new.image ≡ run.old.image }
+    ensures taken { run.new.is_done ≡ true → IsTaken dfa.new.states.items dfa.new.rows.items run.new prev bytes.now }
+{
+    run.is_done = false;
+    if bytes.is_empty() || dfa.rests() {
+        return;
+    }
+    run.is_done = take_chunk(dfa, engines, run, prev, bytes);
+    if run.is_done {
+        dfa.earn();
+    } else {
+        dfa.forget();
+    }
+}
+
+/// Takes a chunk behind `prev` from the image that is loaded on. Answers whether it did, and didn't give up.
+fn take_chunk<E: TimelessEngine>(
+    dfa: &mut LazyDfa,
+    engines: &[E],
+    run: &mut Run,
+    prev: Prev,
+    bytes: &[u8],
+) -> bool
+    requires blank { AreZerosBlank E.meaning engines.now }
+    requires sound { IsSound E.meaning engines.now dfa.old.members.items dfa.old.states.items dfa.old.rows.items
+        dfa.old.ends.items }
+    requires few { length bytes.now ≤ 512 }
+    requires some { 0 < length bytes.now }
+    ensures sound { IsSound E.meaning engines.now dfa.new.members.items dfa.new.states.items dfa.new.rows.items
+        dfa.new.ends.items }
+    ensures members { dfa.new.members ≡ dfa.old.members }
+    ensures image { run.new.image ≡ run.old.image }
+    ensures taken { result ≡ true → IsTaken dfa.new.states.items dfa.new.rows.items run.new prev bytes.now }
+{
+    let Some(first) = dfa.find(&run.image, prev) else {
+        return false;
+    };
+    if !follow(dfa, engines, first, bytes, &mut run.trace) {
+        return false;
+    }
+    run.count = bytes.len();
+    run.state = state_at(first, &run.trace, bytes.len());
+    true
+}
+
+/// Follows the steps over all bytes, and makes those that aren't known. Answers whether it did, and didn't give up.
+fn follow<E: TimelessEngine>(
+    dfa: &mut LazyDfa,
+    engines: &[E],
+    first: usize,
+    bytes: &[u8],
+    trace: &mut [u32],
+) -> bool
+    requires blank { AreZerosBlank E.meaning engines.now }
+    requires sound { IsSound E.meaning engines.now dfa.old.members.items dfa.old.states.items dfa.old.rows.items
+        dfa.old.ends.items }
+    requires few { length bytes.now ≤ length trace.old }
+    requires first { first < length dfa.old.states.items }
+    ensures sound { IsSound E.meaning engines.now dfa.new.members.items dfa.new.states.items dfa.new.rows.items
+        dfa.new.ends.items }
+    ensures members { dfa.new.members ≡ dfa.old.members }
+    ensures states { AreKept dfa.old.states.items dfa.new.states.items }
+    ensures len { length trace.new ≡ length trace.old }
+    ensures walk { result ≡ true → IsWalk dfa.new.rows.items first bytes.now trace.new (length bytes.now) }
+{
+    let mut place = dfa.walk(first, 0, bytes, trace);
+    while place < bytes.len() {
+        let state = state_at(first, trace, place);
+        let Some(step) = make_step(dfa, engines, state, bytes[place]) else {
+            return false;
+        };
+        trace[place] = step;
+        place = dfa.walk(first, place + 1, bytes, trace);
+    }
+    true
+}
+
+/// Makes the step of a state by a byte. None where there is no room or no credit for it, or an engine doesn't tell what
+/// the byte does.
+#[inline(never)]
+fn make_step<E: TimelessEngine>(
+    dfa: &mut LazyDfa,
+    engines: &[E],
+    state: usize,
+    byte: u8,
+) -> Option<u32>
+    requires blank { AreZerosBlank E.meaning engines.now }
+    requires sound { IsSound E.meaning engines.now dfa.old.members.items dfa.old.states.items dfa.old.rows.items
+        dfa.old.ends.items }
+    requires state { state < length dfa.old.states.items }
+    requires unknown { entry dfa.old.rows.items state byte ≡ 0 }
+    ensures sound { IsSound E.meaning engines.now dfa.new.members.items dfa.new.states.items dfa.new.rows.items
+        dfa.new.ends.items }
+    ensures members { dfa.new.members ≡ dfa.old.members }
+    ensures states { AreKept dfa.old.states.items dfa.new.states.items }
+    ensures rows { AreStepsKept dfa.old.rows.items dfa.new.rows.items }
+    ensures step { IfSome result (IsMade dfa.new.rows.items state byte) }
+{
+    if !dfa.spend() {
+        return None;
+    }
+    let old = dfa.states[state];
+    let mut image = old.image;
+    let Some(ends) = take_members(&dfa.members, engines, &old, &mut image, byte) else {
+        return None;
+    };
+    let Some(next) = dfa.find(&image, Prev::behind(byte)) else {
+        return None;
+    };
+    let Some(number) = dfa.number_of(ends) else {
+        return None;
+    };
+    Some(dfa.write_step(state, byte, next, number))
+}
+
+/// Takes a byte in the regions of all members, from those of a state on. Answers which of them are left; None where an
+/// engine doesn't tell it.
+fn take_members<E: TimelessEngine>(
+    members: &[Member],
+    engines: &[E],
+    old: &State,
+    image: &mut [u8],
+    byte: u8,
+) -> Option<EndSet>
+    requires blank { AreZerosBlank E.meaning engines.now }
+    requires of { AreMembersOf E.meaning engines.now members.now }
+    requires apart { AreApart members.now }
+    requires few { length members.now ≤ 256 }
+    requires live { IsLive members.now old.now.image old.now.live }
+    requires live_len { length old.now.live ≡ 4 }
+    requires image { image.old ≡ old.now.image }
+    requires len { length image.old ≡ 512 }
+    ensures len { length image.new ≡ length image.old }
+    ensures takes { IfSome result (λ set. TakeEntered E.meaning engines.now members.now old.now image.new byte
+        (has_word_bit set.before) (has_word_bit set.behind)) }
+{
+    let mut ends = EndSet::NOWHERE;
+    for k in 0..members.len() {
+        let member = members[k];
+        let is_live = contains_word_bit(&old.live, k);
+        let engine = &engines[member.engine as usize];
+        let Some(own) = take_member(engine, member, is_live, image, old.prev, byte) else {
+            return None;
+        };
+        write_word_bit(&mut ends.before, k, own.before);
+        write_word_bit(&mut ends.behind, k, own.behind);
+    }
+    Some(ends)
+}
+
+/// Takes a byte in the region of a member. Where nothing is live there and the byte wakes nothing, the engine isn't
+/// asked.
+fn take_member<E: TimelessEngine>(
+    engine: &E,
+    member: Member,
+    is_live: bool,
+    image: &mut [u8],
+    prev: Prev,
+    byte: u8,
+) -> Option<ByteEnds>
+    requires within { member.end ≤ length image.old }
+    requires sized { member.start + (E.meaning engine.now).width ≡ member.end }
+    requires blank { is_live ≡ false → IsBlank (E.meaning engine.now) (part image.old member) }
+    ensures len { length image.new ≡ length image.old }
+    ensures others { (other : Member) → IsBeside member other → part image.new other ≡ part image.old other }
+    ensures takes { IfSome result (λ own. TakesEntered (E.meaning engine.now) (part image.old member)
+        (part image.new member) prev byte own) }
+{
+    if !is_live && !engine.wakers().contains(byte) {
+        return Some(ByteEnds::NOWHERE);
+    }
+    engine.take_byte(
+        &mut image[member.start as usize..member.end as usize],
+        prev,
+        byte,
+    )
+}
