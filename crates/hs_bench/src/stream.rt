@@ -9,7 +9,7 @@ use hs_base::ExprId;
 use hs_compile::{Database, compile};
 use hs_dbfile::decode_file;
 use hs_engine::Steps;
-use hs_stream::{Events, Cache, Stream, StreamFull};
+use hs_stream::{Cache, Events, Stream, StreamFull};
 use std::alloc::Global;
 use std::io::{self, ErrorKind};
 use std::marker::Brand;

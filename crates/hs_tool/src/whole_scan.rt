@@ -86,14 +86,7 @@ fn scan_counted<S: Store, O: Sink, L: Ledger>(
         Ok(()) => {}
         Err(fault) => return Err(fault),
     }
-    match close_scan(
-        database,
-        stream,
-        &mut cache,
-        out,
-        &mut pending,
-        &mut steps,
-    ) {
+    match close_scan(database, stream, &mut cache, out, &mut pending, &mut steps) {
         Ok(()) => Ok(()),
         Err(Failed) => Err(ScanFault::Write),
     }

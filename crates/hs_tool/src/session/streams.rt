@@ -8,7 +8,7 @@ ghost use Rattle.hs_tool.specs.ExpandWords.{word_of_fault};
 
 use hs_compile::Database;
 use hs_engine::Steps;
-use hs_stream::{Events, ExpandFault, Cache, Stream};
+use hs_stream::{Cache, Events, ExpandFault, Stream};
 use hs_text::{Reply, Verb, Word};
 use std::alloc::{AllocError, Global};
 use std::collections::BTreeMap;
