@@ -10,8 +10,8 @@ use std::alloc::{AllocError, Global};
 /// that database were seen, with what each byte was seen to make of them. What was seen once is looked up from then on,
 /// so that writes are faster; what they report is the same. Nothing of a stream outlives a call.
 ///
-/// Beside the scratch it takes 2 MB for every 256 expressions, or 4,096 positions, that a chain of the database begins
-/// with, and nothing where there are few.
+/// Beside the scratch it takes up to 2 MB for every 256 expressions, or 4,096 positions, that a chain of the database
+/// begins with.
 #[derive(Drop)]
 pub struct Cache {
     /// What a call uses.
