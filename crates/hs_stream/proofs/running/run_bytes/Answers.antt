@@ -1,5 +1,6 @@
 use Rattle.std.proofs.Common.{◌+◌, ◌*◌, ◌≤◌, ◌∙◌, length, sym, ap}
 use Rattle.hs_layout.specs.Layouts.{laid_size}
+use Rattle.hs_nodes.specs.Cached.{IsCacheOf}
 use Rattle.hs_nodes.specs.Graphs.{IsGraphSound}
 use Rattle.hs_rose.specs.PieceEngines.{piece_meaning}
 use Rattle.hs_reports.specs.Events.{Takes}
@@ -44,3 +45,11 @@ returns-clause-told g c =
 pub returns-clause-ticks : goal.returns-clause-ticks
 returns-clause-ticks g c =
     lent-as (lent c.args.db.now c.graph.ensures.graph c.literals.ensures.literals c.layout.ensures.layout) (λ x ls l. c.scan.new.steps ≤ c.args.steps.now + 48 * (length x.table.nodes.items * length c.args.bytes.now)) (c.scan.ensures.ticks)
+
+pub scan-requires-clause-cache : goal.scan-requires-clause-cache
+scan-requires-clause-cache g c =
+    as-lent (lent c.args.db.now c.graph.ensures.graph c.literals.ensures.literals c.layout.ensures.layout) (λ x ls l. IsCacheOf piece_meaning x.table c.args.states.now) (c.requires.states)
+
+pub returns-clause-states : goal.returns-clause-states
+returns-clause-states g c =
+    lent-as (lent c.args.db.now c.graph.ensures.graph c.literals.ensures.literals c.layout.ensures.layout) (λ x ls l. IsCacheOf piece_meaning x.table c.scan.new.cache) (c.scan.ensures.cache)
