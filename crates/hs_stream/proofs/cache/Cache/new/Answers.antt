@@ -1,4 +1,4 @@
-use Rattle.std.proofs.Common.{◌×◌, ℕ, length, sym, subst}
+use Rattle.std.proofs.Common.{ℕ, length, sym, subst}
 use Rattle.hs_compile.specs.Databases.{graph_of, layout_of, literals_in}
 use Rattle.hs_layout.specs.Layouts.{laid_size}
 use Rattle.hs_literals.specs.Held.{held}
