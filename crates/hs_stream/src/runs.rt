@@ -1,14 +1,14 @@
 //! The two runs over the stream.
 ghost use Rattle.std.specs.Prelude.{◌≡◌, ◌<◌, true, List, [], IfOk, OnOk};
-ghost use Rattle.hs_stream.specs.Scratches.{IsScratchOf};
+ghost use Rattle.hs_stream.specs.Caches.{IsCacheOf};
 ghost use Rattle.hs_stream.specs.Streams.{IsStreamOf, Writes, Closes, region_of};
 ghost use Rattle.hs_stream.specs.Standing.{RunsPatterns};
 ghost use Rattle.hs_base.specs.Patterns.{Pattern};
 ghost use Rattle.hs_stream.specs.CutRuns.{IsAdded, IsSummary, IsSwapped};
 
+use crate::cache::Cache;
 use crate::collected::Collected;
 use crate::generator::Generator;
-use crate::scratch::Scratch;
 use crate::stream::Stream;
 use crate::swapping::{Keeper, swap};
 use crate::tally::Tally;
@@ -65,7 +65,7 @@ impl Cutting {
 ///
 /// # Cost
 ///
-/// It takes a scratch, a stream and the room for reports, and for each saved stream its bytes; and the time of a write
+/// It takes a cache, a stream and the room for reports, and for each saved stream its bytes; and the time of a write
 /// for each piece.
 ///
 /// # Examples
@@ -103,7 +103,7 @@ fn run_counted<K: Keeper, L: Ledger>(
     requires some { 0 < L.parts }
     ensures { IfOk result (λ tally. (P : List Pattern) → RunsPatterns db.now P → IsSummary P bytes.now tally) }
 {
-    let mut scratch = Scratch::new(alloc, db)?;
+    let mut cache = Cache::new(alloc, db)?;
     let mut collected = Collected::new(alloc, room)?;
     let mut steps = Steps::<L>::open(blank);
     run_over(
@@ -112,7 +112,7 @@ fn run_counted<K: Keeper, L: Ledger>(
         bytes,
         cutting,
         keeper,
-        &mut scratch,
+        &mut cache,
         &mut collected,
         &mut steps,
     )
@@ -125,11 +125,11 @@ fn run_over<K: Keeper, L: Ledger>(
     bytes: &[u8],
     mut cutting: Cutting,
     keeper: &mut K,
-    scratch: &mut Scratch,
+    cache: &mut Cache,
     collected: &mut Collected,
     steps: &mut Steps<L>,
 ) -> Result<Tally, AllocError>
-    requires scratch { IsScratchOf db.now scratch.old }
+    requires cache { IsCacheOf db.now cache.old }
     requires empty { collected.old.reports ≡ [] }
     ensures { IfOk result (λ tally. (P : List Pattern) → RunsPatterns db.now P → IsSummary P bytes.now tally) }
 {
@@ -140,21 +140,12 @@ fn run_over<K: Keeper, L: Ledger>(
     let mut pieces: u64 = 0;
     while !rest.is_empty() {
         let (piece, behind) = rest.split_at(cutting.next_length().min(rest.len()));
-        tally = write_piece(
-            db,
-            &mut stream,
-            piece,
-            tally,
-            room,
-            scratch,
-            collected,
-            steps,
-        )?;
+        tally = write_piece(db, &mut stream, piece, tally, room, cache, collected, steps)?;
         rest = behind;
         pieces += 1;
         stream = go_on(alloc, db, stream, cutting.saves_behind(pieces), keeper)?;
     }
-    close_run(db, stream, tally, room, scratch, collected, steps)
+    close_run(db, stream, tally, room, cache, collected, steps)
 }
 
 /// Writes a piece, and gives the tally with what it reported.
@@ -164,19 +155,19 @@ fn write_piece<L: Ledger>(
     piece: &[u8],
     tally: Tally,
     room: usize,
-    scratch: &mut Scratch,
+    cache: &mut Cache,
     collected: &mut Collected,
     steps: &mut Steps<L>,
 ) -> Result<Tally, AllocError>
     requires fits { IsStreamOf db.now stream.old }
-    requires scratch { IsScratchOf db.now scratch.old }
+    requires cache { IsCacheOf db.now cache.old }
     requires empty { collected.old ≡ record { reports = []; room = room } }
     ensures fits { IsStreamOf db.now stream.new }
-    ensures scratch { IsScratchOf db.now scratch.new }
+    ensures cache { IsCacheOf db.now cache.new }
     ensures emptied { OnOk result (collected.new ≡ record { reports = []; room = room }) }
     ensures added { IfOk result (λ now. IsAdded tally now (Writes db.now stream.old stream.new piece.now)) }
 {
-    match stream.write(db, scratch, piece, collected, steps) {
+    match stream.write_cached(db, cache, piece, collected, steps) {
         Ok(()) => {}
         Err(_) => return Err(AllocError),
     }
@@ -192,16 +183,16 @@ fn close_run<L: Ledger>(
     stream: Stream,
     tally: Tally,
     room: usize,
-    scratch: &mut Scratch,
+    cache: &mut Cache,
     collected: &mut Collected,
     steps: &mut Steps<L>,
 ) -> Result<Tally, AllocError>
     requires fits { IsStreamOf db.now stream }
-    requires scratch { IsScratchOf db.now scratch.old }
+    requires cache { IsCacheOf db.now cache.old }
     requires empty { collected.old ≡ record { reports = []; room = room } }
     ensures { IfOk result (λ now. IsAdded tally now (Closes db.now stream)) }
 {
-    stream.close(db, scratch, collected, steps);
+    stream.close_cached(db, cache, collected, steps);
     match tally.taking(collected, room) {
         Some(last) => Ok(last),
         None => Err(AllocError),

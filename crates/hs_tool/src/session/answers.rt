@@ -37,7 +37,13 @@ impl<S: Store, I: Source, O: Sink, L: Ledger> Session<'_, '_, '_, '_, '_, '_, S,
             pending: &mut self.pending,
             failed: false,
         };
-        let reply = streams.reset(self.db, self.cache, name.as_slice(), &mut lines, self.steps);
+        let reply = streams.reset(
+            self.db,
+            self.scratch,
+            name.as_slice(),
+            &mut lines,
+            self.steps,
+        );
         if lines.failed { Err(Failed) } else { Ok(reply) }
     }
 
@@ -61,7 +67,13 @@ impl<S: Store, I: Source, O: Sink, L: Ledger> Session<'_, '_, '_, '_, '_, '_, S,
             pending: &mut self.pending,
             failed: false,
         };
-        let reply = streams.close(self.db, self.cache, name.as_slice(), &mut lines, self.steps);
+        let reply = streams.close(
+            self.db,
+            self.scratch,
+            name.as_slice(),
+            &mut lines,
+            self.steps,
+        );
         if lines.failed { Err(Failed) } else { Ok(reply) }
     }
 }

@@ -7,7 +7,7 @@ pub loop-rest-init : goal.loop-rest-init
 loop-rest-init g c = record {
   to = run-start c.args.db.now c.args.bytes.now c.in_ok-stream.stream c.in_ok-stream.ensures.fresh;
   fits = c.in_ok-stream.ensures.fits;
-  scratch = c.requires.scratch;
+  cache = c.requires.cache;
   empty = λ i. record { reports = c.requires.empty i; room = sym c.room-room.ensures i };
   counted = omega arith;
 }
@@ -21,7 +21,7 @@ loop-rest-preserved g c =
           run-more c.args.db.now c.args.bytes.now c.loop-rest.rest.now c.split_at.result.0.now c.split_at.result.1.now c.loop-rest.stream c.write_piece.new.stream c.in_ok-stream-2.stream c.loop-rest.tally c.in_ok-tally.tally kept.to
           (piece-split c.min.result c.loop-rest.rest.now c.split_at.result.0.now c.split_at.result.1.now c.split_at.ensures.front c.split_at.ensures.back) c.in_ok-tally.ensures.added c.in_ok-stream-2.ensures.region;
       fits = c.in_ok-stream-2.ensures.fits;
-      scratch = c.write_piece.ensures.scratch;
+      cache = c.write_piece.ensures.cache;
       empty = c.in_ok-tally.ensures.emptied;
       counted =
           count-more c.loop-rest.pieces c.min.result c.next_length.result (length c.loop-rest.rest.now) (length c.split_at.result.1.now) (length c.args.bytes.now) c.min.ensures c.next_length.ensures.some some c.split_at.ensures.back_len
