@@ -8,7 +8,8 @@ use std::alloc::{AllocError, Global};
 
 /// Memory that a call on a stream of one database uses, as a [`Scratch`] is, and the states in which the expressions of
 /// that database were seen, with what each byte was seen to make of them. What was seen once is looked up from then on,
-/// so that writes are faster; what they report is the same. Nothing of a stream outlives a call.
+/// for many expressions at once: that serves where matches are few, and costs where they end at nearly every byte. What
+/// is reported is the same. Nothing of a stream outlives a call.
 ///
 /// Beside the scratch it takes up to 2 MB for every 256 expressions, or 4,096 positions, that a chain of the database
 /// begins with.
