@@ -4,6 +4,7 @@ ghost use Rattle.std.specs.Prelude.{◌≡◌, ◌<◌, ◌≤◌, ℕ, IfSome, 
 ghost use Rattle.hs_lazy.specs.Parts.{AreApart, AreLeading, AreLive, AreUnknownFrom, IsLive};
 ghost use Rattle.hs_lazy.specs.Walks.{state_before};
 
+use crate::budget::Budget;
 use crate::engine::ByteEnds;
 use crate::parts::{EndSet, IMAGE_BYTES, MEMBER_WORDS, Member, Run, State};
 use hs_base::Prev;
@@ -36,24 +37,6 @@ const MAX_PROBES: usize = 8;
 /// An odd number with as many set bits as not, by which images are mixed.
 const MIXER: u64 = 0x9E37_79B9_7F4A_7C15;
 
-/// How many steps may be made at first.
-const FIRST_CREDIT: u32 = 4096;
-
-/// How many may be made after each rest.
-const LATER_CREDIT: u32 = 1024;
-
-/// How many more for each chunk that is taken.
-const CHUNK_CREDIT: u32 = 8;
-
-/// How many at most.
-const MOST_CREDIT: u32 = 8192;
-
-/// For how many chunks an automaton rests at first.
-const FIRST_REST: u32 = 64;
-
-/// For how many it rests at most.
-const LONGEST_REST: u32 = 4096;
-
 /// An automaton over the regions of its members, one behind the other: an image. Its states are images with what stands
 /// before the next byte.
 #[derive(Debug, Drop)]
@@ -69,12 +52,8 @@ pub struct LazyDfa {
     pub ends: Vec<EndSet>,
     /// By the hash of a state its number and one, or 0.
     pub slots: Vec<u16>,
-    /// How many steps may be made before the automaton has to rest.
-    pub credit: u32,
-    /// For how many chunks it rests.
-    pub rest: u32,
-    /// For how many chunks it will rest next.
-    pub patience: u32,
+    /// What may be spent on steps that aren't known yet.
+    pub budget: Budget,
     ghost apart: { AreApart members.items },
     ghost few: { length members.items ≤ 256 },
     ghost states_few: { length states.items ≤ 1024 },
@@ -110,9 +89,7 @@ impl LazyDfa {
             rows: vec![in alloc; 0u32; MAX_STATES * ROW_LEN]?,
             ends: Vec::with_capacity(alloc, MAX_END_SETS)?,
             slots: vec![in alloc; 0u16; SLOT_COUNT]?,
-            credit: FIRST_CREDIT,
-            rest: 0,
-            patience: FIRST_REST,
+            budget: Budget::FIRST,
         })
     }
 
@@ -236,47 +213,6 @@ impl LazyDfa {
         let step = ENDS_UNIT * ends + next as u32 + 1;
         self.rows[ROW_LEN * state + byte as usize] = step;
         step
-    }
-
-    /// Takes from the credit what a step costs. Where it is used up, the automaton is to rest.
-    pub fn spend(&mut self) -> bool
-        ensures members { self.new.members ≡ self.old.members }
-        ensures states { self.new.states ≡ self.old.states }
-        ensures rows { self.new.rows ≡ self.old.rows }
-        ensures ends { self.new.ends ≡ self.old.ends }
-    {
-        if self.credit > 0 {
-            self.credit -= 1;
-            return true;
-        }
-        self.credit = LATER_CREDIT;
-        self.rest = self.patience;
-        self.patience = self.patience.saturating_mul(2).min(LONGEST_REST);
-        false
-    }
-
-    /// Gives credit for a chunk that was taken.
-    pub fn earn(&mut self)
-        ensures members { self.new.members ≡ self.old.members }
-        ensures states { self.new.states ≡ self.old.states }
-        ensures rows { self.new.rows ≡ self.old.rows }
-        ensures ends { self.new.ends ≡ self.old.ends }
-    {
-        self.credit = self.credit.saturating_add(CHUNK_CREDIT).min(MOST_CREDIT);
-    }
-
-    /// Whether the automaton rests for a chunk.
-    pub fn rests(&mut self) -> bool
-        ensures members { self.new.members ≡ self.old.members }
-        ensures states { self.new.states ≡ self.old.states }
-        ensures rows { self.new.rows ≡ self.old.rows }
-        ensures ends { self.new.ends ≡ self.old.ends }
-    {
-        if self.rest == 0 {
-            return false;
-        }
-        self.rest -= 1;
-        true
     }
 
     /// Whether there is room for a region of that size more.

@@ -1,6 +1,7 @@
 //! States of many engines at once, which are made when bytes first lead to them.
 #![tactic(auto)]
 
+mod budget;
 mod cache;
 mod dfa;
 mod engine;

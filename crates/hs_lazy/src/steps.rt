@@ -33,15 +33,18 @@ pub fn run_dfa<E: TimelessEngine>(
     ensures taken { run.new.is_done ≡ true → IsTaken dfa.new.states.items dfa.new.rows.items run.new prev bytes.now }
 {
     run.is_done = false;
-    if bytes.is_empty() || dfa.rests() {
+    if bytes.is_empty() || dfa.budget.rests() {
         return;
     }
     run.is_done = take_chunk(dfa, engines, run, prev, bytes);
     if run.is_done {
-        dfa.earn();
-    } else {
+        dfa.budget.earn();
+        return;
+    }
+    if !dfa.budget.is_spent() {
         dfa.forget();
     }
+    dfa.budget.begin_rest();
 }
 
 /// Takes a chunk behind `prev` from the image that is loaded on. Answers whether it did, and didn't give up.
@@ -127,10 +130,11 @@ fn make_step<E: TimelessEngine>(
     ensures rows { AreStepsKept dfa.old.rows.items dfa.new.rows.items }
     ensures step { IfSome result (IsMade dfa.new.rows.items state byte) }
 {
-    if !dfa.spend() {
+    let old = dfa.states[state];
+    let cost = cost_of(&dfa.members, engines, &old.live, byte);
+    if !dfa.budget.spend(cost) {
         return None;
     }
-    let old = dfa.states[state];
     let mut image = old.image;
     let Some(ends) = take_members(&dfa.members, engines, &old, &mut image, byte) else {
         return None;
@@ -142,6 +146,23 @@ fn make_step<E: TimelessEngine>(
         return None;
     };
     Some(dfa.write_step(state, byte, next, number))
+}
+
+/// What a step costs: one, and as many as engines are asked for the byte.
+fn cost_of<E: TimelessEngine>(members: &[Member], engines: &[E], live: &[u64], byte: u8) -> u32
+    requires of { AreMembersOf E.meaning engines.now members.now }
+    requires few { length members.now ≤ 256 }
+    requires live_len { length live.now ≡ 4 }
+    ensures { (0 < result) × (result ≤ 257) }
+{
+    let mut cost = 1;
+    for k in 0..members.len() {
+        let engine = &engines[members[k].engine as usize];
+        if contains_word_bit(live, k) || engine.wakers().contains(byte) {
+            cost += 1;
+        }
+    }
+    cost
 }
 
 /// Takes a byte in the regions of all members, from those of a state on. Answers which of them are left; None where an

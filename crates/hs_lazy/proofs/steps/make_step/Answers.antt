@@ -6,7 +6,7 @@ use Rattle.hs_lazy.specs.declared.parts.State.{State}
 use Rattle.hs_lazy.specs.declared.dfa.LazyDfa.{LazyDfa}
 use Rattle.hs_lazy.specs.Parts.{IsState, IsWhole}
 use Rattle.hs_lazy.specs.Sound.{IsStep, TakeEntered}
-use Rattle.hs_lazy.proofs.SoundLemmas.{IsSoundDfa, after-ends, after-find, after-same, after-write}
+use Rattle.hs_lazy.proofs.SoundLemmas.{IsSoundDfa, after-ends, after-find, after-write}
 use Rattle.hs_lazy.proofs.StepLemmas.{step-made}
 use Rattle.hs_lazy.proofs.steps.make_step.Goals as goal
 
@@ -18,29 +18,25 @@ read-state d d' s old same low is = slice_get_read d'.states.items _ s old refl 
 
 pub take_members-requires-clause-live_len : goal.take_members-requires-clause-live_len
 take_members-requires-clause-live_len g c =
-    (c.spend.new.self.live c.args.state c.index.result.now (read-state c.args.dfa.now c.spend.new.self c.args.state _ c.spend.ensures.states c.requires.state c.index.ensures)).live_len
+    (c.args.dfa.now.live c.args.state c.index.result.now (read-state c.args.dfa.now c.args.dfa.now c.args.state _ refl c.requires.state c.index.ensures)).live_len
 
 pub take_members-requires-clause-len : goal.take_members-requires-clause-len
 take_members-requires-clause-len g c =
-    (c.spend.new.self.live c.args.state c.index.result.now (read-state c.args.dfa.now c.spend.new.self c.args.state _ c.spend.ensures.states c.requires.state c.index.ensures)).image_len
+    (c.args.dfa.now.live c.args.state c.index.result.now (read-state c.args.dfa.now c.args.dfa.now c.args.state _ refl c.requires.state c.index.ensures)).image_len
 
 pub returns-in_default-find-clause-sound : goal.returns-in_default-find-clause-sound
 returns-in_default-find-clause-sound g c =
-    let s1 : IsSoundDfa g.E.Engine.meaning c.args.engines.now c.spend.new.self =
-    after-same g.E.Engine.meaning c.args.engines.now c.args.dfa.now c.spend.new.self c.spend.ensures.members c.spend.ensures.states c.spend.ensures.rows c.spend.ensures.ends c.requires.sound in
-    after-find g.E.Engine.meaning c.args.engines.now c.spend.new.self c.find.new.self c.find.ensures.members c.find.ensures.states c.find.ensures.rows c.find.ensures.ends s1
+    after-find g.E.Engine.meaning c.args.engines.now c.args.dfa.now c.find.new.self c.find.ensures.members c.find.ensures.states c.find.ensures.rows c.find.ensures.ends c.requires.sound
 
 pub returns-in_default-number_of-clause-sound : goal.returns-in_default-number_of-clause-sound
 returns-in_default-number_of-clause-sound g c =
-    let s1 : IsSoundDfa g.E.Engine.meaning c.args.engines.now c.spend.new.self =
-    after-same g.E.Engine.meaning c.args.engines.now c.args.dfa.now c.spend.new.self c.spend.ensures.members c.spend.ensures.states c.spend.ensures.rows c.spend.ensures.ends c.requires.sound in
     let s2 : IsSoundDfa g.E.Engine.meaning c.args.engines.now c.find.new.self =
-    after-find g.E.Engine.meaning c.args.engines.now c.spend.new.self c.find.new.self c.find.ensures.members c.find.ensures.states c.find.ensures.rows c.find.ensures.ends s1 in
+    after-find g.E.Engine.meaning c.args.engines.now c.args.dfa.now c.find.new.self c.find.ensures.members c.find.ensures.states c.find.ensures.rows c.find.ensures.ends c.requires.sound in
     after-ends g.E.Engine.meaning c.args.engines.now c.find.new.self c.number_of.new.self c.number_of.ensures.members c.number_of.ensures.states c.number_of.ensures.rows c.number_of.ensures.ends s2
 
 pub write_step-requires-clause-state : goal.write_step-requires-clause-state
 write_step-requires-clause-state g c =
-    let is : slice_get c.spend.new.self.states.items c.args.state ≡ Some c.index.result.now = read-state c.args.dfa.now c.spend.new.self c.args.state _ c.spend.ensures.states c.requires.state c.index.ensures in
+    let is : slice_get c.args.dfa.now.states.items c.args.state ≡ Some c.index.result.now = read-state c.args.dfa.now c.args.dfa.now c.args.state _ refl c.requires.state c.index.ensures in
     subst (λ v. c.args.state < length v.items) (sym c.number_of.ensures.states) (slice_get_within c.find.new.self.states.items c.args.state _ (c.find.ensures.states c.args.state c.index.result.now is))
 
 pub write_step-requires-clause-next : goal.write_step-requires-clause-next
@@ -49,18 +45,16 @@ write_step-requires-clause-next g c =
 
 pub returns-clause-sound : goal.returns-clause-sound
 returns-clause-sound g c =
-    let s1 : IsSoundDfa g.E.Engine.meaning c.args.engines.now c.spend.new.self =
-    after-same g.E.Engine.meaning c.args.engines.now c.args.dfa.now c.spend.new.self c.spend.ensures.members c.spend.ensures.states c.spend.ensures.rows c.spend.ensures.ends c.requires.sound in
     let s2 : IsSoundDfa g.E.Engine.meaning c.args.engines.now c.find.new.self =
-    after-find g.E.Engine.meaning c.args.engines.now c.spend.new.self c.find.new.self c.find.ensures.members c.find.ensures.states c.find.ensures.rows c.find.ensures.ends s1 in
+    after-find g.E.Engine.meaning c.args.engines.now c.args.dfa.now c.find.new.self c.find.ensures.members c.find.ensures.states c.find.ensures.rows c.find.ensures.ends c.requires.sound in
     let s3 : IsSoundDfa g.E.Engine.meaning c.args.engines.now c.number_of.new.self =
     after-ends g.E.Engine.meaning c.args.engines.now c.find.new.self c.number_of.new.self c.number_of.ensures.members c.number_of.ensures.states c.number_of.ensures.rows c.number_of.ensures.ends s2 in
-    let is : slice_get c.spend.new.self.states.items c.args.state ≡ Some c.index.result.now = read-state c.args.dfa.now c.spend.new.self c.args.state _ c.spend.ensures.states c.requires.state c.index.ensures in
+    let is : slice_get c.args.dfa.now.states.items c.args.state ≡ Some c.index.result.now = read-state c.args.dfa.now c.args.dfa.now c.args.state _ refl c.requires.state c.index.ensures in
     let is3 : slice_get c.number_of.new.self.states.items c.args.state ≡ Some c.index.result.now =
     subst (λ v. slice_get v.items c.args.state ≡ Some c.index.result.now) (sym c.number_of.ensures.states) (c.find.ensures.states c.args.state c.index.result.now is) in
     let takes : TakeEntered g.E.Engine.meaning c.args.engines.now c.number_of.new.self.members.items c.index.result.now c.take_members.new.image c.args.byte (has_word_bit c.in-Some.ends.before) (has_word_bit c.in-Some.ends.behind) =
     subst (λ v. TakeEntered g.E.Engine.meaning c.args.engines.now v.items c.index.result.now c.take_members.new.image c.args.byte (has_word_bit c.in-Some.ends.before) (has_word_bit c.in-Some.ends.behind)) (sym (c.number_of.ensures.members ∙ c.find.ensures.members))
-    (subst (λ l. TakeEntered g.E.Engine.meaning c.args.engines.now l c.index.result.now c.take_members.new.image c.args.byte (has_word_bit c.in-Some.ends.before) (has_word_bit c.in-Some.ends.behind)) c.deref.ensures.value c.in-Some.ensures.takes) in
+    (subst (λ l. TakeEntered g.E.Engine.meaning c.args.engines.now l c.index.result.now c.take_members.new.image c.args.byte (has_word_bit c.in-Some.ends.before) (has_word_bit c.in-Some.ends.behind)) c.deref-2.ensures.value c.in-Some.ensures.takes) in
     let state : IsState c.number_of.new.self.states.items c.in-Some-find.next c.take_members.new.image (prev_behind (Some c.args.byte)) =
     subst (λ v. IsState v.items c.in-Some-find.next c.take_members.new.image (prev_behind (Some c.args.byte))) (sym c.number_of.ensures.states)
     (subst (λ p. IsState c.find.new.self.states.items c.in-Some-find.next c.take_members.new.image p) c.behind.ensures c.in-Some-find.ensures.found) in
