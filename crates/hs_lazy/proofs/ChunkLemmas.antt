@@ -1,6 +1,7 @@
 -- What a chunk made of the members of an automaton, and what is told of it.
 use Rattle.std.proofs.Common.{◌≡◌, ℕ, zero, suc, ◌+◌, ◌*◌, ◌-◌, ◌<◌, ◌≤◌, ◌⊎◌, inl, inr, Bool, true, false, ◌&&◌, ◌==◌, nat_lt, List, [], ◌∷◌, ◌++◌, length, take, Option, Some, None, slice_get, slice_index, get_or, EachIndex, refl, sym, ap, subst, ◌∙◌, arith, rules, tests}
 use Rattle.std.specs.Prelude.{if◌then◌else◌}
+use Rattle.std.proofs.lemmas.Option.{slice_get_within}
 use Rattle.std.proofs.lemmas.List.{take_all, length-take-le}
 use Rattle.hs_base.specs.declared.context.Prev.{Prev}
 use Rattle.hs_base.specs.Contexts.{prev_behind}
@@ -101,7 +102,7 @@ pub record IsTold (member : Option Member) (list : List LazyDfa) (runs : List Ru
   pub state : State
   pub state_is : slice_get dfa.states.items run.state ≡ Some state
   pub done : run.is_done ≡ true
-  pub told_is : (record { engine = of.engine; part = part state.image of; before = befores_of dfa run at.member; behind = behinds_of dfa run at.member }) ≡ t
+  pub told_is : (record { engine = of.engine; part = part state.image of; before = befores_of run at.member; behind = behinds_of run at.member }) ≡ t
 
 if-told : (b : Bool) (x t : Told) → told_if b x ≡ Some t → (b ≡ true) × (x ≡ t)
 if-told true x t is = (refl, cc)
@@ -113,7 +114,7 @@ told-inside None list runs (Some p) t is = absurd (cc)
 told-inside (Some m) list runs (Some p) t is = with-dfa (slice_get list p.dfa) refl is
   where
     with-state : (dfa : LazyDfa) (run : Run) → slice_get list p.dfa ≡ Some dfa → slice_get runs p.dfa ≡ Some run → (o : Option State) → slice_get dfa.states.items run.state ≡ o →
-        told_of o dfa run p.member m ≡ Some t → IsTold (Some m) list runs (Some p) t
+        told_of o run p.member m ≡ Some t → IsTold (Some m) list runs (Some p) t
     with-state dfa run d r None s is = absurd (cc)
     with-state dfa run d r (Some st) s is =
         let x = if-told run.is_done _ t is in
@@ -142,15 +143,20 @@ member-at list p dfa m is there = ap (λ o. member_in o p.member) (sym is) ∙ t
 lt-and : (i n : ℕ) (x : Bool) → i < n → (nat_lt i n && x) ≡ x
 lt-and i n x low = grind (arith, tests)
 
+-- a bit of the table, which is that of the step
+told-bit : {k : ℕ} {left by : Bool} (i count : ℕ) → k < 256 → (k < 256 → left ≡ (nat_lt i count && by)) → {n : ℕ} → i < n → count ≡ n → left ≡ by
+told-bit {by = by} i count few is low same = is few ∙ lt-and i count by (omega (arith, low, same))
+
 -- what an automaton tells of a member is what its engine does
 pub taken-tells : {E : Type 0} (meaning : E → Meaning) (engines : List E) (dfa : LazyDfa) (run : Run) (prev : Prev) (bytes : List ℕ) (k : ℕ) (m : Member) (e : E) (st : State) →
     IsSound meaning engines dfa.members.items dfa.states.items dfa.rows.items dfa.ends.items →
-    IsTaken dfa.states.items dfa.rows.items run prev bytes → EachIndex bytes (λ i. slice_index bytes i < 256) →
+    IsTaken dfa.states.items dfa.rows.items dfa.ends.items run prev bytes → EachIndex bytes (λ i. slice_index bytes i < 256) →
     slice_get dfa.members.items k ≡ Some m → slice_get engines m.engine ≡ Some e → slice_get dfa.states.items run.state ≡ Some st →
-    TellsRun (meaning e) (part run.image m) prev bytes (record { engine = m.engine; part = part st.image m; before = befores_of dfa run k; behind = behinds_of dfa run k })
+    TellsRun (meaning e) (part run.image m) prev bytes (record { engine = m.engine; part = part st.image m; before = befores_of run k; behind = behinds_of run k })
 taken-tells meaning engines dfa run prev bytes k m e st sound taken small is there state =
     let all : IsRunTo meaning engines dfa.members.items dfa.states.items dfa.rows.items dfa.ends.items sound taken.first run.image prev bytes run.trace taken.starts taken.walk small (length bytes) =
     run-to meaning engines dfa.members.items dfa.states.items dfa.rows.items dfa.ends.items sound taken.first run.image prev bytes run.trace taken.starts taken.walk small (length bytes) (omega arith) in
+    let few : k < 256 = omega (arith, slice_get_within dfa.members.items k m is, dfa.few) in
     let same : all.state ≡ st = some-state (sym (subst (λ s. slice_get dfa.states.items s ≡ Some all.state) (sym taken.state_is) all.is) ∙ state) in
     let runs : RunsThrough (meaning e) (part run.image m) (part st.image m) prev (take (length bytes) bytes) (λ i. before_of (set_of dfa.ends.items (ends_of (slice_index run.trace i))) k) (λ i. behind_of (set_of dfa.ends.items (ends_of (slice_index run.trace i))) k) =
     subst (λ (s : State). RunsThrough (meaning e) (part run.image m) (part s.image m) prev (take (length bytes) bytes) (λ i. before_of (set_of dfa.ends.items (ends_of (slice_index run.trace i))) k) (λ i. behind_of (set_of dfa.ends.items (ends_of (slice_index run.trace i))) k)) same (all.runs k m e is there) in
@@ -160,9 +166,9 @@ taken-tells meaning engines dfa run prev bytes k m e st sound taken small is the
           let wide : m.start + (meaning e).width ≡ m.end = sound.of.sized k m e is there in
           omega (arith, size, wide);
       well = λ at. subst (λ (s : State). (meaning e).well (part s.image m) at) same (all.well taken.some k m e is there at);
-      runs = run-same (meaning e) (part run.image m) (part st.image m) prev bytes (λ i. before_of (set_of dfa.ends.items (ends_of (slice_index run.trace i))) k) (λ i. behind_of (set_of dfa.ends.items (ends_of (slice_index run.trace i))) k) (befores_of dfa run k) (behinds_of dfa run k)
-          (λ i low. lt-and i run.count _ (omega (arith, low, taken.count_is)))
-          (λ i low. lt-and i run.count _ (omega (arith, low, taken.count_is)))
+      runs = run-same (meaning e) (part run.image m) (part st.image m) prev bytes (λ i. before_of (set_of dfa.ends.items (ends_of (slice_index run.trace i))) k) (λ i. behind_of (set_of dfa.ends.items (ends_of (slice_index run.trace i))) k) (befores_of run k) (behinds_of run k)
+          (λ i low. told-bit i run.count few (taken.ended.before k i) low taken.count_is)
+          (λ i low. told-bit i run.count few (taken.ended.behind k i) low taken.count_is)
           (subst (λ xs. RunsThrough (meaning e) (part run.image m) (part st.image m) prev xs (λ i. before_of (set_of dfa.ends.items (ends_of (slice_index run.trace i))) k) (λ i. behind_of (set_of dfa.ends.items (ends_of (slice_index run.trace i))) k)) (take_all (length bytes) bytes (omega arith)) runs);
     }
   where

@@ -5,5 +5,7 @@ pub mod StepLemmas
 pub mod SoundLemmas
 pub mod ChunkLemmas
 pub mod EmptyLemmas
+pub mod ListLemmas
+pub mod EndLemmas
 pub mod ToldLemmas
 pub mod PutLemmas

@@ -67,7 +67,7 @@ four-zeros (suc (suc (suc (suc i)))) = get_or_past four (suc (suc (suc (suc i)))
 pub four-unset : (k : ℕ) → has_word_bit four k ≡ false
 four-unset k = words-zero four four-zeros k
 
-abbrev eight : List ℕ
+abbrev pub eight : List ℕ
 eight = 0 ∷ 0 ∷ 0 ∷ 0 ∷ 0 ∷ 0 ∷ 0 ∷ 0 ∷ []
 
 eight-zeros : (i : ℕ) → get_or eight i 0 ≡ 0

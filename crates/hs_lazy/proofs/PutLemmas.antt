@@ -20,7 +20,7 @@ use Rattle.hs_lazy.specs.Caches.{loaded, loaded_by, run_at}
 use Rattle.hs_lazy.specs.declared.cache.Cache.{Cache}
 use Rattle.hs_lazy.specs.declared.parts.Run.{Run}
 use Rattle.hs_lazy.proofs.ChunkLemmas.{own-is}
-use Rattle.hs_lazy.proofs.ToldLemmas.{get-set, set-got, set-others}
+use Rattle.hs_lazy.proofs.ListLemmas.{get-set, set-got, set-others}
 
 some-same : {A : Type 0} (x y : A) → Some x ≡ Some y → x ≡ y
 some-same x y e = cc

@@ -25,29 +25,8 @@ use Rattle.hs_engine.specs.Engines.{Meaning}
 use Rattle.hs_lazy.specs.Sound.{IsSound}
 use Rattle.hs_lazy.specs.Walks.{IsTaken}
 use Rattle.hs_lazy.specs.Tables.{AreAllSound, AreDfasOf, engine_at, engine_in, member_by, member_in, member_of, own_member, place_in, place_of}
+use Rattle.hs_lazy.proofs.ListLemmas.{get-set, set-got, set-others}
 use Rattle.hs_lazy.proofs.ChunkLemmas.{IsTold, member-at, own-is, taken-tells, told-inside}
-
--- what stands in a list in which one was replaced
-pub get-set : {A : Type 0} (xs : List A) (i : ℕ) (y : A) (j : ℕ) (x : A) → i < length xs → slice_get (set xs i y) j ≡ Some x →
-    ((j ≡ i) × (x ≡ y)) ⊎ ((j ≡ i → ⊥) × (slice_get xs j ≡ Some x))
-get-set xs i y j x low is =
-    let within : j < length (set xs i y) = slice_get_within (set xs i y) j x is in
-    let what : get_or (set xs i y) j x ≡ x = get_or_from_slice_get (set xs i y) j x x is in
-    elim (cases_eq j i) [
-      | inl same ↦ inl (same, sym what ∙ (ap (λ n. get_or (set xs i y) n x) same ∙ get_or-set_same xs i y x low))
-      | inr other ↦
-          inr (other, slice_get-get_or xs j x (omega (arith, within, length-set xs i y)) ∙ ap Some (sym (get_or-set_other xs i j y x other) ∙ what))
-    ]
-
-pub set-got : {A : Type 0} (xs : List A) (i : ℕ) (y : A) → i < length xs → slice_get (set xs i y) i ≡ Some y
-set-got xs i y low = slice_get-get_or (set xs i y) i y (omega (arith, low, length-set xs i y)) ∙ ap Some (get_or-set_same xs i y y low)
-
-pub set-others : {A : Type 0} (xs : List A) (i : ℕ) (y : A) (j : ℕ) → (j ≡ i → ⊥) → slice_get (set xs i y) j ≡ slice_get xs j
-set-others xs i y j other = elim (cases_lt j (length xs)) [
-  | inr high ↦ slice_get_past (set xs i y) j (omega (arith, high, length-set xs i y)) ∙ sym (slice_get_past xs j high)
-  | inl low ↦
-      slice_get-get_or (set xs i y) j y (omega (arith, low, length-set xs i y)) ∙ (ap Some (get_or-set_other xs i j y y other) ∙ sym (slice_get-get_or xs j y low))
-]
 
 -- members stay where an automaton is replaced by one with the same
 pub members-set : (list : List LazyDfa) (at : ℕ) (old new : LazyDfa) → at < length list → slice_get list at ≡ Some old → new.members ≡ old.members →
@@ -75,8 +54,8 @@ pub record IsToldBy (t : Told) (dfa : LazyDfa) (run : Run) (k : ℕ) : Type 0 wh
   pub of_is : slice_get dfa.members.items k ≡ Some of
   pub state_is : slice_get dfa.states.items run.state ≡ Some state
   pub part_is : t.part ≡ part state.image of
-  pub before_is : t.before ≡ befores_of dfa run k
-  pub behind_is : t.behind ≡ behinds_of dfa run k
+  pub before_is : t.before ≡ befores_of run k
+  pub behind_is : t.behind ≡ behinds_of run k
   pub done : run.is_done ≡ true
 
 pub told-by-place : (member : Option Member) (list : List LazyDfa) (runs : List Run) (place : Option Place) (t : Told) (p : Place) (dfa : LazyDfa) (run : Run) →
@@ -93,8 +72,8 @@ told-by-place member list runs place t p dfa run own it spot d r =
       of_is = member-at list p dfa it.of d there;
       state_is = subst (λ (x : LazyDfa). slice_get x.states.items run.state ≡ Some it.state) ds (subst (λ (x : Run). slice_get it.dfa.states.items x.state ≡ Some it.state) rs it.state_is);
       part_is = ap (λ (x : Told). x.part) (sym it.told_is);
-      before_is = ap (λ (x : Told). x.before) (sym it.told_is) ∙ (ap (λ (x : LazyDfa). befores_of x it.run it.at.member) ds ∙ (ap (λ (x : Run). befores_of dfa x it.at.member) rs ∙ ap (λ (q : Place). befores_of dfa run q.member) at));
-      behind_is = ap (λ (x : Told). x.behind) (sym it.told_is) ∙ (ap (λ (x : LazyDfa). behinds_of x it.run it.at.member) ds ∙ (ap (λ (x : Run). behinds_of dfa x it.at.member) rs ∙ ap (λ (q : Place). behinds_of dfa run q.member) at));
+      before_is = ap (λ (x : Told). x.before) (sym it.told_is) ∙ ((ap (λ (x : Run). befores_of x it.at.member) rs ∙ ap (λ (q : Place). befores_of run q.member) at));
+      behind_is = ap (λ (x : Told). x.behind) (sym it.told_is) ∙ ((ap (λ (x : Run). behinds_of x it.at.member) rs ∙ ap (λ (q : Place). behinds_of run q.member) at));
       done = subst (λ (x : Run). x.is_done ≡ true) rs it.done;
     }
 
@@ -103,6 +82,13 @@ pub told-place : (cache : Cache) (k : ℕ) (t : Told) (p : Place) (dfa : LazyDfa
 told-place cache k t p dfa run is spot d r =
     told-by-place (member_of cache.dfas k) cache.dfas.list.items cache.runs.items (place_of cache.dfas k) t p dfa run
     (λ m own. own-is k (member_by cache.dfas.list.items (place_of cache.dfas k)) m own) (told-open cache k t is) spot d r
+
+pub told-run : (cache : Cache) (k : ℕ) (t : Told) (p : Place) (run : Run) → told cache k ≡ Some t → place_of cache.dfas k ≡ Some p →
+    slice_get cache.runs.items p.dfa ≡ Some run → (dfa : LazyDfa) × IsToldBy t dfa run p.member
+told-run cache k t p run is spot r =
+    let it : IsTold (member_of cache.dfas k) cache.dfas.list.items cache.runs.items (place_of cache.dfas k) t = told-open cache k t is in
+    let at : it.at ≡ p = some-same it.at p (sym it.at_is ∙ spot) in
+    (it.dfa, told-place cache k t p it.dfa run is spot (subst (λ (q : Place). slice_get cache.dfas.list.items q.dfa ≡ Some it.dfa) at it.dfa_is) r)
 
 pub told-part : (t : Told) (dfa : LazyDfa) (run : Run) (k : ℕ) → IsToldBy t dfa run k → part_at dfa.states.items dfa.members.items run.state k ≡ t.part
 told-part t dfa run k it =
@@ -218,11 +204,11 @@ decide-by (Some dfa) (Some run) m n b is = elim (cases_lt run.state (length dfa.
   | inr high ↦ high-by b high is
 ]
   where
-    done-by : (st : State) (b d : Bool) → b ≡ d → run.is_done ≡ d → MatchBool b ((t : Told) × (told_of (Some st) dfa run n m ≡ Some t)) (told_of (Some st) dfa run n m ≡ None)
-    done-by st true true is done = (_, ap (λ x. told_if x (record { engine = m.engine; part = part st.image m; before = befores_of dfa run n; behind = behinds_of dfa run n })) done)
+    done-by : (st : State) (b d : Bool) → b ≡ d → run.is_done ≡ d → MatchBool b ((t : Told) × (told_of (Some st) run n m ≡ Some t)) (told_of (Some st) run n m ≡ None)
+    done-by st true true is done = (_, ap (λ x. told_if x (record { engine = m.engine; part = part st.image m; before = befores_of run n; behind = behinds_of run n })) done)
     done-by st true false is done = absurd (cc)
     done-by st false true is done = absurd (cc)
-    done-by st false false is done = ap (λ x. told_if x (record { engine = m.engine; part = part st.image m; before = befores_of dfa run n; behind = behinds_of dfa run n })) done
+    done-by st false false is done = ap (λ x. told_if x (record { engine = m.engine; part = part st.image m; before = befores_of run n; behind = behinds_of run n })) done
 
     and-low : (x : Bool) → run.state < length dfa.states.items → (x && nat_lt run.state (length dfa.states.items)) ≡ x
     and-low x low = grind (arith, tests)
@@ -235,19 +221,19 @@ decide-by (Some dfa) (Some run) m n b is = elim (cases_lt run.state (length dfa.
     some-at (x ∷ xs) i low = (get_or (x ∷ xs) i x, slice_get-get_or (x ∷ xs) i x low)
 
     low-by : (b : Bool) → run.state < length dfa.states.items → b ≡ (run.is_done && nat_lt run.state (length dfa.states.items)) →
-        MatchBool b ((t : Told) × (told_of (slice_get dfa.states.items run.state) dfa run n m ≡ Some t)) (told_of (slice_get dfa.states.items run.state) dfa run n m ≡ None)
+        MatchBool b ((t : Told) × (told_of (slice_get dfa.states.items run.state) run n m ≡ Some t)) (told_of (slice_get dfa.states.items run.state) run n m ≡ None)
     low-by b low is =
         let st : (x : State) × (slice_get dfa.states.items run.state ≡ Some x) = some-at dfa.states.items run.state low in
-        subst (λ o. MatchBool b ((t : Told) × (told_of o dfa run n m ≡ Some t)) (told_of o dfa run n m ≡ None)) (sym st.1)
+        subst (λ o. MatchBool b ((t : Told) × (told_of o run n m ≡ Some t)) (told_of o run n m ≡ None)) (sym st.1)
         (done-by st.0 b run.is_done (is ∙ and-low run.is_done low) refl)
 
     high-by : (b : Bool) → length dfa.states.items ≤ run.state → b ≡ (run.is_done && nat_lt run.state (length dfa.states.items)) →
-        MatchBool b ((t : Told) × (told_of (slice_get dfa.states.items run.state) dfa run n m ≡ Some t)) (told_of (slice_get dfa.states.items run.state) dfa run n m ≡ None)
+        MatchBool b ((t : Told) × (told_of (slice_get dfa.states.items run.state) run n m ≡ Some t)) (told_of (slice_get dfa.states.items run.state) run n m ≡ None)
     high-by true high is = absurd (cc-by (and-high run.is_done high) is)
       where
         cc-by : {x : Bool} → x ≡ false → true ≡ x → ⊥
         cc-by e f = absurd (cc)
-    high-by false high is = ap (λ o. told_of o dfa run n m) (slice_get_past dfa.states.items run.state high)
+    high-by false high is = ap (λ o. told_of o run n m) (slice_get_past dfa.states.items run.state high)
 
 pub told-decides : (cache : Cache) (k : ℕ) (m : Member) (p : Place) (b : Bool) → member_of cache.dfas k ≡ Some m → place_of cache.dfas k ≡ Some p →
     b ≡ is_done_at cache.dfas.list.items cache.runs.items p → MatchBool b ((t : Told) × (told cache k ≡ Some t)) (told cache k ≡ None)
@@ -366,11 +352,11 @@ lt-none i n x none = elim (cases_lt i n) [
 ]
 
 -- what isn't woken is silent
-pub asleep-silent : (t : Told) (dfa : LazyDfa) (run : Run) (k : ℕ) (it : IsToldBy t dfa run k) → IsAsleepIn dfa run it.state k → IsSilent t
+pub asleep-silent : (t : Told) (dfa : LazyDfa) (run : Run) (k : ℕ) (it : IsToldBy t dfa run k) → IsAsleepIn run it.state k → IsSilent t
 asleep-silent t dfa run k it asleep = record {
   zero = subst (λ p. AreZero p) (sym it.part_is) ((dfa.live run.state it.state it.state_is).live k it.of it.of_is asleep.live);
-  before = λ i. ap (λ f. f i) it.before_is ∙ lt-none i run.count _ (asleep.before i);
-  behind = λ i. ap (λ f. f i) it.behind_is ∙ lt-none i run.count _ (asleep.behind i);
+  before = λ i. ap (λ f. f i) it.before_is ∙ run.ends.silent_before k i asleep.ended;
+  behind = λ i. ap (λ f. f i) it.behind_is ∙ run.ends.silent_behind k i asleep.ended;
 }
 
 -- the regions of the other numbers stay where one is loaded

@@ -1,6 +1,6 @@
 -- What a cache has of each number, and what it tells of a chunk.
 use Rattle.std.specs.Prelude.{◌≡◌, ℕ, ◌<◌, Bool, true, false, List, [], Option, Some, None, length, slice_get}
-use Rattle.std.specs.Prelude.{slice_index, slice_range, nat_lt, ◌&&◌}
+use Rattle.std.specs.Prelude.{slice_range, nat_lt, ◌&&◌}
 use Rattle.hs_base.specs.declared.context.Prev.{Prev}
 use Rattle.hs_base.specs.Bits.{AreZero}
 use Rattle.hs_engine.specs.Engines.{Meaning}
@@ -12,7 +12,8 @@ use Rattle.hs_lazy.specs.declared.parts.Run.{Run}
 use Rattle.hs_lazy.specs.declared.parts.State.{State}
 use Rattle.hs_lazy.specs.declared.dfa.LazyDfa.{LazyDfa}
 use Rattle.hs_lazy.specs.Walks.{IsTaken}
-use Rattle.hs_lazy.specs.Parts.{before_of, behind_of, ends_of, part, set_of}
+use Rattle.hs_lazy.specs.Ends.{left_before, left_behind}
+use Rattle.hs_lazy.specs.Parts.{part}
 use Rattle.hs_lazy.specs.Runs.{RunsThrough}
 use Rattle.hs_lazy.specs.Tables.{engine_at, member_of, place_of}
 
@@ -42,24 +43,22 @@ abbrev pub told_if : Bool → Told → Option Told
 told_if true t = Some t
 told_if false t = None
 
--- the ends before a chunk's bytes and behind them, of the member of that number, by the steps of the trace
-abbrev pub befores_of : LazyDfa → Run → (member : ℕ) → ℕ → Bool
-befores_of dfa run member i =
-    nat_lt i run.count && before_of (set_of dfa.ends.items (ends_of (slice_index run.trace i))) member
+-- the ends before a chunk's bytes and behind them, of the member of that number
+abbrev pub befores_of : Run → (member : ℕ) → ℕ → Bool
+befores_of run member i = left_before run.ends.rows member i
 
-abbrev pub behinds_of : LazyDfa → Run → (member : ℕ) → ℕ → Bool
-behinds_of dfa run member i =
-    nat_lt i run.count && behind_of (set_of dfa.ends.items (ends_of (slice_index run.trace i))) member
+abbrev pub behinds_of : Run → (member : ℕ) → ℕ → Bool
+behinds_of run member i = left_behind run.ends.rows member i
 
-abbrev pub told_of : Option State → LazyDfa → Run → (number : ℕ) → Member → Option Told
-told_of None dfa run number member = None
-told_of (Some state) dfa run number member =
+abbrev pub told_of : Option State → Run → (number : ℕ) → Member → Option Told
+told_of None run number member = None
+told_of (Some state) run number member =
     told_if run.is_done
     (record {
       engine = member.engine;
       part = part state.image member;
-      before = befores_of dfa run number;
-      behind = behinds_of dfa run number;
+      before = befores_of run number;
+      behind = behinds_of run number;
     })
 
 abbrev pub told_by : Option Member → Option LazyDfa → Option Run → (number : ℕ) → Option Told
@@ -67,7 +66,7 @@ told_by None dfa run number = None
 told_by (Some member) None run number = None
 told_by (Some member) (Some dfa) None number = None
 told_by (Some member) (Some dfa) (Some run) number =
-    told_of (slice_get dfa.states.items run.state) dfa run number member
+    told_of (slice_get dfa.states.items run.state) run number member
 
 -- the automaton took the chunk
 abbrev pub done_by : Option LazyDfa → Option Run → Bool
@@ -108,4 +107,4 @@ AreSameImages old new =
 abbrev pub AreTaken : List LazyDfa → List Run → Prev → (bytes : List ℕ) → Type 0
 AreTaken list runs prev bytes =
     (i : ℕ) (dfa : LazyDfa) (run : Run) → slice_get list i ≡ Some dfa → slice_get runs i ≡ Some run →
-    run.is_done ≡ true → IsTaken dfa.states.items dfa.rows.items run prev bytes
+    run.is_done ≡ true → IsTaken dfa.states.items dfa.rows.items dfa.ends.items run prev bytes

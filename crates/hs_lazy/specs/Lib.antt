@@ -1,6 +1,7 @@
 pub mod Runs
 pub mod Parts
 pub mod Images
+pub mod Ends
 pub mod Members
 pub mod Walks
 pub mod Sound

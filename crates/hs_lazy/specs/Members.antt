@@ -1,11 +1,10 @@
 -- What an automaton takes in, and what is silent in it.
-use Rattle.std.specs.Prelude.{◌≡◌, ℕ, ◌+◌, ◌<◌, ◌≤◌, false, List, [], ◌∷◌, ◌++◌, Some, length, slice_get, slice_index}
+use Rattle.std.specs.Prelude.{◌≡◌, ℕ, ◌+◌, ◌≤◌, false, List, [], ◌∷◌, ◌++◌, Some, length, slice_get}
 use Rattle.hs_base.specs.Bits.{has_word_bit}
 use Rattle.hs_lazy.specs.declared.parts.Member.{Member}
 use Rattle.hs_lazy.specs.declared.parts.State.{State}
 use Rattle.hs_lazy.specs.declared.parts.Run.{Run}
 use Rattle.hs_lazy.specs.declared.dfa.LazyDfa.{LazyDfa}
-use Rattle.hs_lazy.specs.Parts.{before_of, behind_of, ends_of, set_of}
 
 -- An engine more was taken in, and no state is known.
 pub record IsTakenIn (old new : LazyDfa) (number engine size place : ℕ) : Type 0 where
@@ -17,8 +16,7 @@ pub record IsTakenIn (old new : LazyDfa) (number engine size place : ℕ) : Type
   pub engine_is : member.engine ≡ engine
   pub size_is : member.start + size ≡ member.end
 
--- Nothing is live in the region of the member behind the chunk, and it is left nowhere in it.
-pub record IsAsleepIn (dfa : LazyDfa) (run : Run) (state : State) (k : ℕ) : Type 0 where
+-- Nothing is live in the region of the member behind the chunk, and it has no bit of an end.
+pub record IsAsleepIn (run : Run) (state : State) (k : ℕ) : Type 0 where
   pub live : has_word_bit state.live k ≡ false
-  pub before : (i : ℕ) → i < run.count → before_of (set_of dfa.ends.items (ends_of (slice_index run.trace i))) k ≡ false
-  pub behind : (i : ℕ) → i < run.count → behind_of (set_of dfa.ends.items (ends_of (slice_index run.trace i))) k ≡ false
+  pub ended : has_word_bit run.ends.members k ≡ false

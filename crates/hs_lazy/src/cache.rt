@@ -5,7 +5,7 @@ ghost use Rattle.std.specs.Prelude.{◌≡◌, ◌≤◌, length};
 use crate::dfa::LazyDfa;
 use crate::engine::TimelessEngine;
 use crate::parts::{Member, Run};
-use crate::running::{ends_by, run_all};
+use crate::running::run_all;
 use hs_base::Prev;
 use hs_bits::{clear_bits, next_bit_in};
 use hs_reports::MarkSet;
@@ -306,11 +306,8 @@ impl Cache {
         let Some(place) = self.dfas.place(number) else {
             return ToldEnds::NOWHERE;
         };
-        let Some(run) = self.runs.get(place.dfa as usize) else {
-            return ToldEnds::NOWHERE;
-        };
-        match self.dfas.list.get(place.dfa as usize) {
-            Some(dfa) => ends_by(dfa, run, place.member as usize),
+        match self.runs.get(place.dfa as usize) {
+            Some(run) => run.ends.of(place.member as usize),
             None => ToldEnds::NOWHERE,
         }
     }

@@ -5,11 +5,11 @@ ghost use Rattle.hs_lazy.specs.Parts.{AreApart, AreLeading, AreLive, AreUnknownF
 ghost use Rattle.hs_lazy.specs.Walks.{state_before};
 
 use crate::budget::Budget;
-use crate::engine::ByteEnds;
+use crate::end_table::EndTable;
 use crate::parts::{EndSet, IMAGE_BYTES, MEMBER_WORDS, Member, Run, State};
 use hs_base::Prev;
 use hs_bits::{
-    clear_words, contains_word_bit, is_unset, is_zero, unite_words, word_at, write_word_bit,
+    clear_words, is_unset, is_zero, unite_words, word_at, write_word_bit,
 };
 use std::alloc::{AllocError, Global};
 
@@ -71,10 +71,11 @@ pub struct LazyDfa {
 impl LazyDfa {
     ghost use Rattle.std.specs.Prelude.{◌≡◌, ◌+◌, ◌*◌, ◌<◌, ◌≤◌, ℕ, [], IfOk, IfSome, MatchOption, Some, None, true, false, length, slice_get, slice_index, slice_set};
     ghost use Rattle.hs_base.specs.Bits.{AreZero, has_word_bit};
-    ghost use Rattle.hs_lazy.specs.Parts.{AreKept, AreUnknownFrom, IsLive, IsState, IsStepTo, before_of, behind_of, ends_of, entry, next_of, set_of};
+    ghost use Rattle.hs_lazy.specs.Parts.{AreKept, AreUnknownFrom, IsLive, IsState, IsStepTo, ends_of, entry, next_of, set_of};
     ghost use Rattle.hs_lazy.specs.Walks.{IsWalk, state_before};
     ghost use Rattle.hs_lazy.specs.declared.parts.Member.{Member};
     ghost use Rattle.hs_lazy.specs.declared.parts.State.{State};
+    ghost use Rattle.hs_lazy.specs.Ends.{AreEndsOf};
     ghost use Rattle.hs_lazy.specs.Members.{IsAsleepIn, IsTakenIn};
     ghost use Rattle.hs_lazy.specs.Images.{IsSameSets, part_at};
 
@@ -259,21 +260,29 @@ impl LazyDfa {
     /// The members in whose regions something is live behind a chunk, or which are left in it.
     pub fn woken(&self, run: &Run) -> [u64; MEMBER_WORDS]
         ensures { (state : State) (k : ℕ) → slice_get self.now.states.items run.now.state ≡ Some state →
-            has_word_bit result k ≡ false → IsAsleepIn self.now run.now state k }
+            has_word_bit result k ≡ false → IsAsleepIn run.now state k }
     {
         let Some(state) = self.states.get(run.state) else {
             return [0; MEMBER_WORDS];
         };
         let mut woken = state.live;
-        for place in 0..run.count {
-            let step = run.trace[place];
+        unite_words(&mut woken, &run.ends.members);
+        woken
+    }
+
+    /// Tells where the members are left that the first steps of a trace leave.
+    pub fn tell_ends(&self, trace: &[u32], count: usize, ends: &mut EndTable)
+        requires few { count ≤ 512 }
+        requires within { count ≤ length trace.now }
+        ensures { AreEndsOf self.now.ends.items trace.now count ends.new.rows }
+    {
+        ends.clear();
+        for place in 0..count {
+            let step = trace[place];
             if step >= ENDS_UNIT {
-                let set = self.set_of(step);
-                unite_words(&mut woken, &set.before);
-                unite_words(&mut woken, &set.behind);
+                ends.insert(place, &self.set_of(step));
             }
         }
-        woken
     }
 
     /// Follows known steps over the bytes from that place on, up to one that isn't known.
@@ -312,19 +321,6 @@ impl LazyDfa {
             return &[];
         };
         &state.image[member.start as usize..member.end as usize]
-    }
-
-    /// Whether the set of ends of a step has that member, before its byte and behind it.
-    pub fn ends_of(&self, step: u32, member: usize) -> ByteEnds
-        requires { member < 256 }
-        ensures before { result.before ≡ before_of (set_of self.now.ends.items (ends_of step)) member }
-        ensures behind { result.behind ≡ behind_of (set_of self.now.ends.items (ends_of step)) member }
-    {
-        let set = self.set_of(step);
-        ByteEnds {
-            before: contains_word_bit(&set.before, member),
-            behind: contains_word_bit(&set.behind, member),
-        }
     }
 
     /// The set of ends of a step.

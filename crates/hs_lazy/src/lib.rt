@@ -4,6 +4,7 @@
 mod budget;
 mod cache;
 mod dfa;
+mod end_table;
 mod engine;
 mod laws;
 mod parts;

@@ -2,6 +2,7 @@
 
 ghost use Rattle.std.specs.Prelude.{◌≡◌, ◌≤◌, length};
 
+use crate::end_table::EndTable;
 use hs_base::Prev;
 
 /// How many bytes the regions of its engines have together at most.
@@ -64,6 +65,8 @@ pub struct Run {
     pub state: usize,
     /// Whether the chunk was taken.
     pub is_done: bool,
+    /// Where its members are left in it.
+    pub ends: EndTable,
     ghost few: { count ≤ 512 },
     ghost image_len: { length image ≡ 512 },
 }
@@ -83,6 +86,7 @@ impl Run {
         count: 0,
         state: 0,
         is_done: false,
+        ends: EndTable::NOWHERE,
     };
 
     /// Loads the region of a member.

@@ -30,7 +30,8 @@ pub fn run_dfa<E: TimelessEngine>(
         dfa.new.ends.items }
     ensures members { dfa.new.members ≡ dfa.old.members }
     ensures image { run.new.image ≡ run.old.image }
-    ensures taken { run.new.is_done ≡ true → IsTaken dfa.new.states.items dfa.new.rows.items run.new prev bytes.now }
+    ensures taken { run.new.is_done ≡ true → IsTaken dfa.new.states.items dfa.new.rows.items dfa.new.ends.items
+        run.new prev bytes.now }
 {
     run.is_done = false;
     if bytes.is_empty() || dfa.budget.rests() {
@@ -64,7 +65,8 @@ fn take_chunk<E: TimelessEngine>(
         dfa.new.ends.items }
     ensures members { dfa.new.members ≡ dfa.old.members }
     ensures image { run.new.image ≡ run.old.image }
-    ensures taken { result ≡ true → IsTaken dfa.new.states.items dfa.new.rows.items run.new prev bytes.now }
+    ensures taken { result ≡ true → IsTaken dfa.new.states.items dfa.new.rows.items dfa.new.ends.items
+        run.new prev bytes.now }
 {
     let Some(first) = dfa.find(&run.image, prev) else {
         return false;
@@ -73,6 +75,7 @@ fn take_chunk<E: TimelessEngine>(
         return false;
     }
     run.count = bytes.len();
+    dfa.tell_ends(&run.trace, bytes.len(), &mut run.ends);
     run.state = state_at(first, &run.trace, bytes.len());
     true
 }

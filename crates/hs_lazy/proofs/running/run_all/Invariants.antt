@@ -14,5 +14,5 @@ invariant-loop-at g l = record {
   members : (i k : ℕ) → member_in (slice_get l.list i) k ≡ member_in (slice_get l.fn.list i) k;
   images : AreSameImages l.fn.runs l.runs;
   taken : (i : ℕ) (dfa : LazyDfa) (run : Run) → i < l.at → slice_get l.list i ≡ Some dfa → slice_get l.runs i ≡ Some run →
-      run.is_done ≡ true → IsTaken dfa.states.items dfa.rows.items run l.prev l.bytes;
+      run.is_done ≡ true → IsTaken dfa.states.items dfa.rows.items dfa.ends.items run l.prev l.bytes;
 }

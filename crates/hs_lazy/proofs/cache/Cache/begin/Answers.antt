@@ -4,7 +4,8 @@ use Rattle.std.proofs.lemmas.Option.{slice_get_within, slice_get-get_or}
 use Rattle.std.specs.Vec.{with_items}
 use Rattle.hs_base.specs.Bits.{AreZero}
 use Rattle.hs_lazy.specs.declared.parts.Run.{Run}
-use Rattle.hs_lazy.proofs.ToldLemmas.{get-set, loaded-sized, loaded-zero}
+use Rattle.hs_lazy.proofs.ListLemmas.{get-set}
+use Rattle.hs_lazy.proofs.ToldLemmas.{loaded-sized, loaded-zero}
 use Rattle.hs_lazy.proofs.cache.Cache.begin.Goals as goal
 
 pub returns-clause-zero : goal.returns-clause-zero

@@ -3,7 +3,8 @@ use Rattle.std.proofs.lemmas.Option.{slice_get_past, slice_get_read}
 use Rattle.hs_lazy.specs.Caches.{loaded}
 use Rattle.hs_lazy.specs.Parts.{part}
 use Rattle.hs_lazy.proofs.EmptyLemmas.{not-some}
-use Rattle.hs_lazy.proofs.ToldLemmas.{engine-nobody, engine-nowhere, engine-of, loaded-is, loaded-none, loaded-others, set-got}
+use Rattle.hs_lazy.proofs.ListLemmas.{set-got}
+use Rattle.hs_lazy.proofs.ToldLemmas.{engine-nobody, engine-nowhere, engine-of, loaded-is, loaded-none, loaded-others}
 use Rattle.hs_lazy.proofs.cache.Cache.load.Goals as goal
 
 nothing : (xs : List ℕ) → length xs ≡ 0 → [] ≡ xs

@@ -1,0 +1,33 @@
+-- Where the members of an automaton are left in a chunk.
+use Rattle.std.specs.Prelude.{◌≡◌, ℕ, ◌<◌, Bool, false, ◌&&◌, nat_lt, List, Option, Some, None, length, slice_get, slice_index}
+use Rattle.hs_base.specs.Bits.{has_word_bit}
+use Rattle.hs_lazy.specs.declared.cache.ToldEnds.{ToldEnds}
+use Rattle.hs_lazy.specs.declared.parts.EndSet.{EndSet}
+use Rattle.hs_lazy.specs.Parts.{before_of, behind_of, ends_of, set_of}
+
+-- there is a bit for each byte of a chunk
+pub record IsRowWhole (row : ToldEnds) : Type 0 where
+  pub before : length row.before ≡ 8
+  pub behind : length row.behind ≡ 8
+
+abbrev pub row_before : Option ToldEnds → ℕ → Bool
+row_before None i = false
+row_before (Some row) i = has_word_bit row.before i
+
+abbrev pub row_behind : Option ToldEnds → ℕ → Bool
+row_behind None i = false
+row_behind (Some row) i = has_word_bit row.behind i
+
+-- the member is left before the byte i, or behind it
+abbrev pub left_before : (rows : List ToldEnds) (member i : ℕ) → Bool
+left_before rows m i = row_before (slice_get rows m) i
+
+abbrev pub left_behind : (rows : List ToldEnds) (member i : ℕ) → Bool
+left_behind rows m i = row_behind (slice_get rows m) i
+
+-- The table has just the ends of so many steps of a trace.
+pub record AreEndsOf (sets : List EndSet) (trace : List ℕ) (count : ℕ) (rows : List ToldEnds) : Type 0 where
+  pub before : (m i : ℕ) → m < 256 →
+      left_before rows m i ≡ (nat_lt i count && before_of (set_of sets (ends_of (slice_index trace i))) m)
+  pub behind : (m i : ℕ) → m < 256 →
+      left_behind rows m i ≡ (nat_lt i count && behind_of (set_of sets (ends_of (slice_index trace i))) m)
