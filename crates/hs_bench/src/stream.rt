@@ -1,7 +1,7 @@
 //! One stream over a file, in writes of one length, whose reports are counted and not printed.
 
 ghost use Rattle.std.specs.Prelude.{◌≡◌, ◌<◌, IfOk, OnOk};
-ghost use Rattle.hs_stream.specs.Scratches.{IsScratchOf};
+ghost use Rattle.hs_stream.specs.Caches.{IsCacheOf};
 ghost use Rattle.hs_stream.specs.Streams.{IsStreamOf};
 ghost use Rattle.hs_bench.specs.Streaming.{AddsReports, IsDatabaseIn, IsStreamed};
 
@@ -9,7 +9,7 @@ use hs_base::ExprId;
 use hs_compile::{Database, compile};
 use hs_dbfile::decode_file;
 use hs_engine::Steps;
-use hs_stream::{Events, Scratch, Stream, StreamFull};
+use hs_stream::{Cache, Events, Stream, StreamFull};
 use std::alloc::Global;
 use std::io::{self, ErrorKind};
 use std::marker::Brand;
@@ -49,14 +49,14 @@ pub(crate) fn database_of(alloc: Global, bytes: &[u8]) -> io::Result<Database>
 fn write_pieces<L: Ledger>(
     database: &Database,
     stream: &mut Stream,
-    scratch: &mut Scratch,
+    cache: &mut Cache,
     text: &[u8],
     piece: usize,
     reports: &mut Reports,
     steps: &mut Steps<L>,
 ) -> Result<(), StreamFull>
     requires stream { IsStreamOf database.now stream.old }
-    requires scratch { IsScratchOf database.now scratch.old }
+    requires cache { IsCacheOf database.now cache.old }
     requires some { 0 < piece }
     requires none { reports.old.count ≡ 0 }
     ensures { OnOk result (AddsReports database.now stream.old stream.new text.now 0 reports.new.count) }
@@ -64,7 +64,7 @@ fn write_pieces<L: Ledger>(
     let mut rest = text;
     while !rest.is_empty() {
         let (bytes, behind) = rest.split_at(rest.len().min(piece));
-        match stream.write(database, scratch, bytes, reports, steps) {
+        match stream.write_cached(database, cache, bytes, reports, steps) {
             Ok(()) => {}
             Err(full) => return Err(full),
         }
@@ -108,14 +108,14 @@ fn stream_counted<L: Ledger>(
     ensures { IfOk result (λ told. IsStreamed database.now text.now told.reports) }
 {
     let mut stream = Stream::open(rt.alloc(), database)?;
-    let mut scratch = Scratch::new(rt.alloc(), database)?;
+    let mut cache = Cache::new(rt.alloc(), database)?;
     let mut steps = Steps::<L>::open(blank);
     let mut reports = Reports { count: 0 };
     let start = rt.thread_cpu_time()?;
     let Ok(()) = write_pieces(
         database,
         &mut stream,
-        &mut scratch,
+        &mut cache,
         text,
         piece,
         &mut reports,

@@ -1,7 +1,7 @@
 -- The session of a script: what its methods go by, what they keep, and what they do, with the session before and after.
 use Rattle.std.specs.Prelude.{◌≡◌, ℕ, Bool, List, Option, Result}
 use Rattle.hs_outside.specs.Store.{Told}
-use Rattle.hs_stream.specs.Scratches.{IsScratchOf}
+use Rattle.hs_stream.specs.Caches.{IsCacheOf}
 use Rattle.hs_stream.specs.declared.stream.Stream.{Stream}
 use Rattle.hs_reader.specs.declared.fault.Break.{Break}
 use Rattle.hs_tool.specs.declared.session.Session.{Session}
@@ -16,7 +16,7 @@ module _ {S I O L : Type 0} where
   -- The open streams and the room to scan in are for its database.
   pub record IsReady (session : Session S I O L) (streams : Streams) : Type 0 where
     pub fits : AreStreamsOf session.db.now streams
-    pub scratch : IsScratchOf session.db.now session.scratch.now
+    pub cache : IsCacheOf session.db.now session.cache.now
 
   -- It goes on over the same database, store, source and sink, with room to scan in.
   pub record Stays (before now : Session S I O L) : Type 0 where
@@ -24,7 +24,7 @@ module _ {S I O L : Type 0} where
     pub same_store : now.store.ghost_name ≡ before.store.ghost_name
     pub same_input : now.input.ghost_name ≡ before.input.ghost_name
     pub same_out : now.out.ghost_name ≡ before.out.ghost_name
-    pub scratch : IsScratchOf before.db.now now.scratch.now
+    pub cache : IsCacheOf before.db.now now.cache.now
 
   -- It goes on so, and the open streams are for its database.
   pub record Keeps (before now : Session S I O L) (streams : Streams) : Type 0 where

@@ -2,7 +2,7 @@
 ghost use Rattle.std.specs.Prelude.{◌≡◌, ◌++◌, OnOk, OnErr, IfErr};
 ghost use Rattle.hs_base.specs.MatchText.{end_line as line_of_end};
 ghost use Rattle.hs_outside.specs.Sink.{TookPrefix, Sends};
-ghost use Rattle.hs_stream.specs.Scratches.{IsScratchOf};
+ghost use Rattle.hs_stream.specs.Caches.{IsCacheOf};
 ghost use Rattle.hs_stream.specs.Streams.{offset_of, IsStreamOf};
 ghost use Rattle.hs_lines.specs.Passing.{IsPassedOn};
 ghost use Rattle.hs_tool.specs.Scanning.{Interrupts, IsClosed, IsFileScanned, IsFilePartlyScanned};
@@ -13,7 +13,7 @@ use hs_compile::Database;
 use hs_engine::Steps;
 use hs_lines::Pending;
 use hs_outside::{Failed, PIECE_LEN, Sink, Store, StoreFault};
-use hs_stream::{Scratch, Stream};
+use hs_stream::{Cache, Stream};
 use hs_text::{LINE_LEN, end_line};
 use std::sync::ledger::Ledger;
 
@@ -37,7 +37,7 @@ pub enum ScanFault {
 pub(crate) fn scan_file<S: Store, O: Sink, L: Ledger>(
     db: &Database,
     stream: &mut Stream,
-    scratch: &mut Scratch,
+    cache: &mut Cache,
     name: &str,
     store: &mut S,
     out: &mut O,
@@ -45,10 +45,10 @@ pub(crate) fn scan_file<S: Store, O: Sink, L: Ledger>(
     steps: &mut Steps<L>,
 ) -> Result<(), ScanFault>
     requires fits { IsStreamOf db.now stream.old }
-    requires scratch { IsScratchOf db.now scratch.old }
+    requires cache { IsCacheOf db.now cache.old }
     requires start { offset_of stream.old ≡ 0 }
     ensures fits { IsStreamOf db.now stream.new }
-    ensures scratch { IsScratchOf db.now scratch.new }
+    ensures cache { IsCacheOf db.now cache.new }
     ensures scanned { OnOk result (IsFileScanned db.now (S.told store.old name.now) stream.old stream.new
         (λ text. IsPassedOn (O.written out.old) (O.written out.new) (O.faults out.old) (O.faults out.new)
         pending.old pending.new text)) }
@@ -72,7 +72,7 @@ pub(crate) fn scan_file<S: Store, O: Sink, L: Ledger>(
             return Err(ScanFault::Limit);
         }
         let bytes = &piece[..count];
-        match write_piece(db, &None, stream, scratch, bytes, out, pending, steps) {
+        match write_piece(db, &None, stream, cache, bytes, out, pending, steps) {
             Ok(()) => {}
             Err(Failed) => return Err(ScanFault::Write),
         }
@@ -84,19 +84,19 @@ pub(crate) fn scan_file<S: Store, O: Sink, L: Ledger>(
 pub(crate) fn close_scan<O: Sink, L: Ledger>(
     db: &Database,
     stream: Stream,
-    scratch: &mut Scratch,
+    cache: &mut Cache,
     out: &mut O,
     pending: &mut Pending,
     steps: &mut Steps<L>,
 ) -> Result<(), Failed>
     requires fits { IsStreamOf db.now stream }
-    requires scratch { IsScratchOf db.now scratch.old }
+    requires cache { IsCacheOf db.now cache.old }
     ensures { IsClosed db.now stream
         (λ text. Sends result (O.written out.old) (O.written out.new) (O.faults out.old) (O.faults out.new)
         (pending.old ++ (text ++ line_of_end (offset_of stream)))) }
 {
     let total = stream.offset(db);
-    match close_stream(db, stream, scratch, out, pending, steps) {
+    match close_stream(db, stream, cache, out, pending, steps) {
         Ok(()) => write_end(total, out, pending),
         Err(Failed) => Err(Failed),
     }

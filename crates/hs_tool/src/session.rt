@@ -4,7 +4,7 @@ ghost use Rattle.std.specs.Prelude.{◌≡◌, ◌<◌, ◌++◌, false, [], is_
 ghost use Rattle.hs_outside.specs.Counts.{Rose};
 ghost use Rattle.hs_outside.specs.Sink.{Took, TookPrefix};
 ghost use Rattle.hs_lines.specs.Passing.{IsPassed, Passes};
-ghost use Rattle.hs_stream.specs.Scratches.{IsScratchOf};
+ghost use Rattle.hs_stream.specs.Caches.{IsCacheOf};
 ghost use Rattle.hs_reader.specs.Breaks.{is_write as is_sink};
 ghost use Rattle.hs_tool.specs.SavedFiles.{KeepsBut, MaySave};
 ghost use Rattle.hs_tool.specs.ScriptCommands.{StopCounts, StoreCounts};
@@ -23,7 +23,7 @@ use hs_engine::Steps;
 use hs_lines::Pending;
 use hs_outside::{Failed, Sink, Source, Store};
 use hs_reader::{Break, Line, Reader};
-use hs_stream::Scratch;
+use hs_stream::Cache;
 use std::alloc::Global;
 use std::marker::Brand;
 use std::sync::ledger::{Blank, Ledger};
@@ -36,7 +36,7 @@ pub(crate) struct Session<'d, 's, 'f, 'i, 'o, 't, S: Store, I: Source, O: Sink, 
     /// What the streams are scanned for.
     pub(crate) db: &'d Database,
     /// Room to scan in.
-    pub(crate) scratch: &'s mut Scratch,
+    pub(crate) cache: &'s mut Cache,
     /// Where streams are saved.
     pub(crate) store: &'f mut S,
     /// The piece of the script that was read last.
@@ -95,15 +95,15 @@ fn serve_counted<S: Store, I: Source, O: Sink, L: Ledger>(
     ensures counts { EndCounts (I.faults input.old) (I.faults input.new) (O.faults out.old) (O.faults out.new) result }
     ensures stored { EndStored (S.faults store.old) (S.faults store.new) result }
 {
-    let mut scratch = match Scratch::new(alloc, db) {
-        Ok(scratch) => scratch,
+    let mut cache = match Cache::new(alloc, db) {
+        Ok(cache) => cache,
         Err(_) => return Err(ScriptStop::Memory),
     };
     let mut steps = Steps::<L>::open(blank);
     let mut session = Session {
         alloc,
         db,
-        scratch: &mut scratch,
+        cache: &mut cache,
         store,
         reader: Reader::new(),
         input,
@@ -117,7 +117,7 @@ fn serve_counted<S: Store, I: Source, O: Sink, L: Ledger>(
 impl<S: Store, I: Source, O: Sink, L: Ledger> Session<'_, '_, '_, '_, '_, '_, S, I, O, L> {
     /// Runs the script to its end, or until it stops, and writes the lines that wait then.
     fn run(&mut self) -> Result<(), ScriptStop>
-        requires scratch { IsScratchOf self.old.db.now self.old.scratch.now }
+        requires cache { IsCacheOf self.old.db.now self.old.cache.now }
         requires unread { self.old.reader ≡ record { bytes = []; at = 0; ended = false } }
         requires unanswered { self.old.pending ≡ [] }
         ensures same_store { self.new.store.ghost_name ≡ self.old.store.ghost_name }
@@ -139,7 +139,7 @@ impl<S: Store, I: Source, O: Sink, L: Ledger> Session<'_, '_, '_, '_, '_, '_, S,
 
     /// Runs the script to its end, or until it stops. Lines may wait then.
     fn run_script(&mut self) -> Result<(), ScriptStop>
-        requires scratch { IsScratchOf self.old.db.now self.old.scratch.now }
+        requires cache { IsCacheOf self.old.db.now self.old.cache.now }
         requires unread { self.old.reader ≡ record { bytes = []; at = 0; ended = false } }
         ensures same_store { self.new.store.ghost_name ≡ self.old.store.ghost_name }
         ensures same_input { self.new.input.ghost_name ≡ self.old.input.ghost_name }

@@ -13,7 +13,7 @@ use hs_compile::Database;
 use hs_engine::Steps;
 use hs_lines::Pending;
 use hs_outside::{Failed, Sink, Store};
-use hs_stream::{Scratch, Stream};
+use hs_stream::{Cache, Stream};
 use std::alloc::Global;
 use std::marker::Brand;
 use std::sync::ledger::{Blank, Ledger};
@@ -67,8 +67,8 @@ fn scan_counted<S: Store, O: Sink, L: Ledger>(
         Ok(stream) => stream,
         Err(_) => return Err(ScanFault::Memory),
     };
-    let mut scratch = match Scratch::new(alloc, database) {
-        Ok(scratch) => scratch,
+    let mut cache = match Cache::new(alloc, database) {
+        Ok(cache) => cache,
         Err(_) => return Err(ScanFault::Memory),
     };
     let mut pending = Pending::new();
@@ -76,7 +76,7 @@ fn scan_counted<S: Store, O: Sink, L: Ledger>(
     match scan_file(
         database,
         &mut stream,
-        &mut scratch,
+        &mut cache,
         file.name,
         store,
         out,
@@ -86,14 +86,7 @@ fn scan_counted<S: Store, O: Sink, L: Ledger>(
         Ok(()) => {}
         Err(fault) => return Err(fault),
     }
-    match close_scan(
-        database,
-        stream,
-        &mut scratch,
-        out,
-        &mut pending,
-        &mut steps,
-    ) {
+    match close_scan(database, stream, &mut cache, out, &mut pending, &mut steps) {
         Ok(()) => Ok(()),
         Err(Failed) => Err(ScanFault::Write),
     }

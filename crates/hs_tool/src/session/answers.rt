@@ -37,13 +37,7 @@ impl<S: Store, I: Source, O: Sink, L: Ledger> Session<'_, '_, '_, '_, '_, '_, S,
             pending: &mut self.pending,
             failed: false,
         };
-        let reply = streams.reset(
-            self.db,
-            self.scratch,
-            name.as_slice(),
-            &mut lines,
-            self.steps,
-        );
+        let reply = streams.reset(self.db, self.cache, name.as_slice(), &mut lines, self.steps);
         if lines.failed { Err(Failed) } else { Ok(reply) }
     }
 
@@ -67,13 +61,7 @@ impl<S: Store, I: Source, O: Sink, L: Ledger> Session<'_, '_, '_, '_, '_, '_, S,
             pending: &mut self.pending,
             failed: false,
         };
-        let reply = streams.close(
-            self.db,
-            self.scratch,
-            name.as_slice(),
-            &mut lines,
-            self.steps,
-        );
+        let reply = streams.close(self.db, self.cache, name.as_slice(), &mut lines, self.steps);
         if lines.failed { Err(Failed) } else { Ok(reply) }
     }
 }

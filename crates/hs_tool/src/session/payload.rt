@@ -1,7 +1,7 @@
 //! The bytes of a write, as they come.
 ghost use Rattle.std.specs.Prelude.{◌≡◌, ◌+◌, ◌<◌, ◌≤◌, take, MatchBool};
 ghost use Rattle.hs_base.specs.Offsets.{greatest_offset};
-ghost use Rattle.hs_stream.specs.Scratches.{IsScratchOf};
+ghost use Rattle.hs_stream.specs.Caches.{IsCacheOf};
 ghost use Rattle.hs_stream.specs.Streams.{offset_of, IsStreamOf};
 ghost use Rattle.hs_reader.specs.Breaks.{ReadCounts, Counts};
 ghost use Rattle.hs_tool.specs.Payloads.{SomeCome, IsPayloadRefused};
@@ -56,7 +56,7 @@ impl<S: Store, I: Source, O: Sink, L: Ledger> Session<'_, '_, '_, '_, '_, '_, S,
         count: u64,
     ) -> Result<Payload, Break>
         requires fits { IsStreamOf self.old.db.now stream.old }
-        requires scratch { IsScratchOf self.old.db.now self.old.scratch.now }
+        requires cache { IsCacheOf self.old.db.now self.old.cache.now }
         ensures stays { Stays self.old self.new }
         ensures same_files { self.new.store ≡ self.old.store }
         ensures fits { IsStreamOf self.old.db.now stream.new }
@@ -80,7 +80,7 @@ impl<S: Store, I: Source, O: Sink, L: Ledger> Session<'_, '_, '_, '_, '_, '_, S,
     /// wait.
     fn scan_payload(&mut self, stream: &mut Stream, name: &Name, count: u64) -> Result<bool, Break>
         requires fits { IsStreamOf self.old.db.now stream.old }
-        requires scratch { IsScratchOf self.old.db.now self.old.scratch.now }
+        requires cache { IsCacheOf self.old.db.now self.old.cache.now }
         requires room { offset_of stream.old + count ≤ greatest_offset }
         ensures stays { Stays self.old self.new }
         ensures same_files { self.new.store ≡ self.old.store }
@@ -104,7 +104,7 @@ impl<S: Store, I: Source, O: Sink, L: Ledger> Session<'_, '_, '_, '_, '_, '_, S,
                 db,
                 &named,
                 stream,
-                self.scratch,
+                self.cache,
                 bytes,
                 self.out,
                 &mut self.pending,

@@ -2,13 +2,13 @@
 ghost use Rattle.std.specs.Prelude.{◌≡◌, ◌≢◌, ℕ, List, Option, None, Some, [], ◌∷◌, OnOk, OnErr, IfErr, IsTrue, ◌↔◌};
 ghost use Rattle.std.specs.Prelude.{MatchOption};
 ghost use Rattle.hs_reports.specs.Events.{Takes};
-ghost use Rattle.hs_stream.specs.Scratches.{IsScratchOf};
+ghost use Rattle.hs_stream.specs.Caches.{IsCacheOf};
 ghost use Rattle.hs_script.specs.Actions.{Open, Reset, Close};
 ghost use Rattle.hs_tool.specs.ExpandWords.{word_of_fault};
 
 use hs_compile::Database;
 use hs_engine::Steps;
-use hs_stream::{Events, ExpandFault, Scratch, Stream};
+use hs_stream::{Cache, Events, ExpandFault, Stream};
 use hs_text::{Reply, Verb, Word};
 use std::alloc::{AllocError, Global};
 use std::collections::BTreeMap;
@@ -135,15 +135,15 @@ impl Streams {
     pub(crate) fn reset<V: Events, L: Ledger>(
         &mut self,
         db: &Database,
-        scratch: &mut Scratch,
+        cache: &mut Cache,
         name: &[u8],
         events: &mut V,
         steps: &mut Steps<L>,
     ) -> Reply
         requires fits { AreStreamsOf db.now self.old }
-        requires scratch { IsScratchOf db.now scratch.old }
+        requires cache { IsCacheOf db.now cache.old }
         ensures fits { AreStreamsOf db.now self.new }
-        ensures scratch { IsScratchOf db.now scratch.new }
+        ensures cache { IsCacheOf db.now cache.new }
         ensures performs { Takes V.tells events.old events.new
             (λ pairs. PerformsStill db.now self.old self.new (Reset name.now ∷ [])
             (record { reports = pairs; reply = Some result } ∷ [])) }
@@ -151,7 +151,7 @@ impl Streams {
         match self.map.get_mut(name) {
             None => Reply::No(Verb::Reset, Word::Unknown),
             Some(stream) => {
-                stream.reset(db, scratch, events, steps);
+                stream.reset_cached(db, cache, events, steps);
                 Reply::Done(Verb::Reset, None)
             }
         }
@@ -161,15 +161,15 @@ impl Streams {
     pub(crate) fn close<V: Events, L: Ledger>(
         &mut self,
         db: &Database,
-        scratch: &mut Scratch,
+        cache: &mut Cache,
         name: &[u8],
         events: &mut V,
         steps: &mut Steps<L>,
     ) -> Reply
         requires fits { AreStreamsOf db.now self.old }
-        requires scratch { IsScratchOf db.now scratch.old }
+        requires cache { IsCacheOf db.now cache.old }
         ensures fits { AreStreamsOf db.now self.new }
-        ensures scratch { IsScratchOf db.now scratch.new }
+        ensures cache { IsCacheOf db.now cache.new }
         ensures performs { Takes V.tells events.old events.new
             (λ pairs. PerformsStill db.now self.old self.new (Close name.now ∷ [])
             (record { reports = pairs; reply = Some result } ∷ [])) }
@@ -177,7 +177,7 @@ impl Streams {
         match self.map.remove(name) {
             None => Reply::No(Verb::Close, Word::Unknown),
             Some(stream) => {
-                stream.close(db, scratch, events, steps);
+                stream.close_cached(db, cache, events, steps);
                 Reply::Done(Verb::Close, None)
             }
         }

@@ -6,16 +6,16 @@ use Rattle.hs_tool.proofs.piece.write_piece.Goals as goal
 
 pub returns-then-lines-clause-scanned : goal.returns-then-lines-clause-scanned
 returns-then-lines-clause-scanned g c =
-    let taken = takes-written c.args.bytes.now c.write.ensures.fits c.write.ensures.idle (when_ok c.write.result (λ err. omega (arith, c.write.ensures.full.0 err, c.requires.room)) c.write.ensures.any) in
-    let lines = wrote g.O.Sink.written g.O.Sink.faults _ taken.pairs c.write.new.events refl taken.through in
+    let taken = takes-written c.args.bytes.now c.write_cached.ensures.fits c.write_cached.ensures.idle (when_ok c.write_cached.result (λ err. omega (arith, c.write_cached.ensures.full.0 err, c.requires.room)) c.write_cached.ensures.any) in
+    let lines = wrote g.O.Sink.written g.O.Sink.faults _ taken.pairs c.write_cached.new.events refl taken.through in
     let same = lines.same_out in
     let part = printed-part lines.printed c.if-lines.true in
     record { pairs = taken.pairs; writes = taken.holds; passes = search (rules, same, part) }
 
 pub returns-else-lines-clause-scanned : goal.returns-else-lines-clause-scanned
 returns-else-lines-clause-scanned g c =
-    let taken = takes-written c.args.bytes.now c.write.ensures.fits c.write.ensures.idle (when_ok c.write.result (λ err. omega (arith, c.write.ensures.full.0 err, c.requires.room)) c.write.ensures.any) in
-    let lines = wrote g.O.Sink.written g.O.Sink.faults _ taken.pairs c.write.new.events refl taken.through in
+    let taken = takes-written c.args.bytes.now c.write_cached.ensures.fits c.write_cached.ensures.idle (when_ok c.write_cached.result (λ err. omega (arith, c.write_cached.ensures.full.0 err, c.requires.room)) c.write_cached.ensures.any) in
+    let lines = wrote g.O.Sink.written g.O.Sink.faults _ taken.pairs c.write_cached.new.events refl taken.through in
     let same_out = lines.same_out in
     let same_pending = lines.same_pending in
     let all = printed-all lines.printed c.if-lines.false in

@@ -8,7 +8,7 @@ pub pieces-init : goal.pieces-init
 pieces-init g c = record {
   seen = seen-start c.args.db.now (g.S.Store.told c.args.store.now c.args.name.now) c.args.stream.now (g.O.Sink.written c.args.out.now) (g.O.Sink.faults c.args.out.now) c.args.pending.now c.requires.start;
   fits = c.requires.fits;
-  scratch = c.requires.scratch;
+  cache = c.requires.cache;
   stored = refl;
   sunk = refl;
   room = search rules;
@@ -34,7 +34,7 @@ pieces-preserved g c =
     record {
       seen = seen-more c.offset-at.result c.in-Ok.count c.offset-at.ensures (omega arith) kept.seen reads c.in-Ok-write_piece.ensures.scanned c.in-Ok-write_piece.ensures.offset;
       fits = c.in-Ok-write_piece.ensures.fits;
-      scratch = c.in-Ok-write_piece.ensures.scratch;
+      cache = c.in-Ok-write_piece.ensures.cache;
       stored = c.in-Ok.ensures.counted ∙ kept.stored;
       sunk = c.in-Ok-write_piece.ensures.scanned.passes.counted ∙ kept.sunk;
       room = omega (arith, c.read_at.auto.buf, kept.room);

@@ -1,6 +1,6 @@
 use Rattle.std.proofs.Common.{◌≡◌, ◌-◌, length}
 use Rattle.hs_base.specs.Offsets.{greatest_offset}
-use Rattle.hs_stream.specs.Scratches.{IsScratchOf}
+use Rattle.hs_stream.specs.Caches.{IsCacheOf}
 use Rattle.hs_stream.specs.Streams.{offset_of, IsStreamOf}
 use Rattle.hs_lines.specs.Passing.{IsPassedOn}
 use Rattle.hs_outside.specs.declared.transfer.TheConstants.{PIECE_LEN}
@@ -12,7 +12,7 @@ invariant-pieces g l = record {
   seen : IsScannedTo l.db (g.S.Store.told l.fn.store l.name) l.fn.stream l.stream
       (λ text. IsPassedOn (g.O.Sink.written l.fn.out) (g.O.Sink.written l.out) (g.O.Sink.faults l.fn.out) (g.O.Sink.faults l.out) l.fn.pending l.pending text);
   fits : IsStreamOf l.db l.stream;
-  scratch : IsScratchOf l.db l.scratch;
+  cache : IsCacheOf l.db l.cache;
   stored : g.S.Store.faults l.store ≡ g.S.Store.faults l.fn.store;
   sunk : g.O.Sink.faults l.out ≡ g.O.Sink.faults l.fn.out;
   room : length l.piece ≡ PIECE_LEN;

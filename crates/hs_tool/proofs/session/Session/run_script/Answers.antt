@@ -1,5 +1,5 @@
 use Rattle.std.proofs.Common.{◌∙◌, true, false, Err, refl, sym, subst, arith}
-use Rattle.hs_stream.specs.Scratches.{IsScratchOf}
+use Rattle.hs_stream.specs.Caches.{IsCacheOf}
 use Rattle.hs_tool.specs.OpenStreams.{AreStreamsOf, kept}
 use Rattle.hs_tool.specs.ScriptCommands.{StoreCounts}
 use Rattle.hs_tool.proofs.SaveLemmas.{keeps-same, keeps-join, may-save}
@@ -21,7 +21,7 @@ loop-streams-init g c = record {
   kept_files = keeps-same refl;
   stored = refl;
   fits = λ name stream at. absurd (no_stream (sym (c.new-streams.ensures.none name) ∙ at));
-  scratch = c.requires.scratch;
+  cache = c.requires.cache;
   counted = record { source = refl; sink = refl };
 }
 
@@ -58,7 +58,7 @@ loop-streams-preserved g c =
       kept_files = keeps-join c.loop-streams.invariant.kept_files (λ name saves. may-save c.loop-streams.invariant.so_far line name saves) (c.run_line.ensures.files line.line line.keeps);
       stored = c.in-Ok.ensures.stored ∙ c.loop-streams.invariant.stored;
       fits = subst (λ db. AreStreamsOf db c.run_line.new.streams) (sym keeps.stays.same_db) keeps.fits;
-      scratch = subst (λ db. IsScratchOf db c.run_line.new.self.scratch.now) (sym keeps.stays.same_db) keeps.stays.scratch;
+      cache = subst (λ db. IsCacheOf db c.run_line.new.self.cache.now) (sym keeps.stays.same_db) keeps.stays.cache;
       counted = record {
         source = c.in-Ok.ensures.counts.source ∙ (c.in-Ok-true.ensures.counts ∙ c.loop-streams.invariant.counted.source);
         sink = c.in-Ok-answer_now.ensures.counted ∙ (c.in-Ok.ensures.counts.sink ∙ c.loop-streams.invariant.counted.sink);

@@ -1,5 +1,5 @@
 use Rattle.std.proofs.Common.{◌≡◌, ◌-◌, false}
-use Rattle.hs_stream.specs.Scratches.{IsScratchOf}
+use Rattle.hs_stream.specs.Caches.{IsCacheOf}
 use Rattle.hs_reader.specs.Reading.{most_taken}
 use Rattle.hs_reader.specs.Breaks.{NoFault}
 use Rattle.hs_tool.specs.OpenStreams.{AreStreamsOf, kept}
@@ -18,7 +18,7 @@ invariant-loop-streams g l = record {
   kept_files : KeepsBut (MaySave (g.I.Source.left l.fn.self.input.now)) (g.S.Store.told l.fn.self.store.now) (g.S.Store.told l.self.store.now);
   stored : g.S.Store.faults l.self.store.now ≡ g.S.Store.faults l.fn.self.store.now;
   fits : AreStreamsOf l.self.db.now l.streams;
-  scratch : IsScratchOf l.self.db.now l.self.scratch.now;
+  cache : IsCacheOf l.self.db.now l.self.cache.now;
   counted : NoFault (g.I.Source.faults l.fn.self.input.now) (g.I.Source.faults l.self.input.now) (g.O.Sink.faults l.fn.self.out.now) (g.O.Sink.faults l.self.out.now);
 }
 

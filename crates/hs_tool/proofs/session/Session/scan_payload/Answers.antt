@@ -12,7 +12,7 @@ loop-left-init g c = record {
     come = comes-start (g.I.Source.left c.args.self.now.input.now) c.args.self.now.reader c.args.count;
     scanned = scans-none c.args.self.now.db.now (Some c.args.name.now) c.args.stream.now (passed-nothing (g.O.Sink.written c.args.self.now.out.now) c.args.self.now.pending);
   };
-  stays = record { same_db = refl; same_store = refl; same_input = refl; same_out = refl; scratch = c.requires.scratch };
+  stays = record { same_db = refl; same_store = refl; same_input = refl; same_out = refl; cache = c.requires.cache };
   same_files = refl;
   fits = c.requires.fits;
   room = c.requires.room;
@@ -36,7 +36,7 @@ loop-left-preserved g c =
         same_store = c.loop-left.invariant.stays.same_store;
         same_input = c.loop-left.invariant.stays.same_input;
         same_out = c.loop-left.invariant.stays.same_out;
-        scratch = c.write_piece-scanned.ensures.scratch;
+        cache = c.write_piece-scanned.ensures.cache;
       };
       same_files = c.loop-left.invariant.same_files;
       fits = c.write_piece-scanned.ensures.fits;
@@ -77,7 +77,7 @@ returns-in-Err-clause-counts g c = counts-broken (g.I.Source.faults c.fill.new.i
 pub returns-in-Err-clause-stays : goal.returns-in-Err-clause-stays
 returns-in-Err-clause-stays g c =
     let stays = c.loop-left.invariant.stays in
-    record { same_db = stays.same_db; same_store = stays.same_store; same_input = stays.same_input; same_out = stays.same_out; scratch = stays.scratch }
+    record { same_db = stays.same_db; same_store = stays.same_store; same_input = stays.same_input; same_out = stays.same_out; cache = stays.cache }
 
 pub returns-in-Ok-false-clause-scanned : goal.returns-in-Ok-false-clause-scanned
 returns-in-Ok-false-clause-scanned g c =

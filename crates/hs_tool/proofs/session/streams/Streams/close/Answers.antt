@@ -18,5 +18,5 @@ returns-in-Some-clause-fits g c =
 pub returns-in-Some-clause-performs : goal.returns-in-Some-clause-performs
 returns-in-Some-clause-performs g c =
     let removed = c.in-Some.ensures in
-    takes-weaker c.close.ensures.any
+    takes-weaker c.close_cached.ensures.any
     (λ pairs ends. performs-close c.args.name.now c.in-Some.stream pairs (sym removed.value) (puts-removed _ removed.value removed.updates removed.len) ends)

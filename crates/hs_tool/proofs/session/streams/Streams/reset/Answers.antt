@@ -12,11 +12,11 @@ returns-in-None-clause-performs g c =
 
 pub returns-in-Some-clause-fits : goal.returns-in-Some-clause-fits
 returns-in-Some-clause-fits g c =
-    fits-put {old = c.args.self.now} {new = record { map = c.get_mut.follows.lender c.reset.new.self }} c.requires.fits (puts-lent (sym c.in-Some.ensures.value) (c.get_mut.follows.holds c.reset.new.self))
-    (λ stream e. subst (λ s. IsStreamOf c.args.db.now s) (same_stream e) c.reset.ensures.fits)
+    fits-put {old = c.args.self.now} {new = record { map = c.get_mut.follows.lender c.reset_cached.new.self }} c.requires.fits (puts-lent (sym c.in-Some.ensures.value) (c.get_mut.follows.holds c.reset_cached.new.self))
+    (λ stream e. subst (λ s. IsStreamOf c.args.db.now s) (same_stream e) c.reset_cached.ensures.fits)
 
 pub returns-in-Some-clause-performs : goal.returns-in-Some-clause-performs
 returns-in-Some-clause-performs g c =
-    takes-weaker c.reset.ensures.any
-    (λ pairs ends. performs-reset c.args.name.now c.in-Some.stream.now c.reset.new.self pairs (sym c.in-Some.ensures.value)
-    (puts-lent (sym c.in-Some.ensures.value) (c.get_mut.follows.holds c.reset.new.self)) c.reset.ensures.fresh ends)
+    takes-weaker c.reset_cached.ensures.any
+    (λ pairs ends. performs-reset c.args.name.now c.in-Some.stream.now c.reset_cached.new.self pairs (sym c.in-Some.ensures.value)
+    (puts-lent (sym c.in-Some.ensures.value) (c.get_mut.follows.holds c.reset_cached.new.self)) c.reset_cached.ensures.fresh ends)
