@@ -1,29 +1,24 @@
 -- What a chunk made of the members of an automaton, and what is told of it.
-use Rattle.std.proofs.Common.{◌≡◌, ℕ, zero, suc, ◌+◌, ◌*◌, ◌-◌, ◌<◌, ◌≤◌, ◌⊎◌, inl, inr, Bool, true, false, ◌&&◌, ◌==◌, nat_lt, List, [], ◌∷◌, ◌++◌, length, take, Option, Some, None, slice_get, slice_index, get_or, EachIndex, refl, sym, ap, subst, ◌∙◌, arith, rules, tests}
+use Rattle.std.proofs.Common.{◌≡◌, ℕ, zero, suc, ◌+◌, ◌-◌, ◌<◌, ◌≤◌, Bool, true, false, ◌&&◌, ◌==◌, nat_lt, List, [], ◌∷◌, ◌++◌, length, take, Option, Some, None, slice_get, slice_index, EachIndex, refl, sym, ap, subst, ◌∙◌, arith, tests}
 use Rattle.std.specs.Prelude.{if◌then◌else◌}
 use Rattle.std.proofs.lemmas.Option.{slice_get_within}
 use Rattle.std.proofs.lemmas.List.{take_all, length-take-le}
 use Rattle.hs_base.specs.declared.context.Prev.{Prev}
-use Rattle.hs_base.specs.Contexts.{prev_behind}
 use Rattle.hs_engine.specs.Engines.{Meaning}
-use Rattle.hs_lazy.specs.declared.cache.Cache.{Cache}
-use Rattle.hs_lazy.specs.declared.cache.Dfas.{Dfas}
 use Rattle.hs_lazy.specs.declared.cache.Place.{Place}
 use Rattle.hs_lazy.specs.declared.dfa.LazyDfa.{LazyDfa}
-use Rattle.hs_lazy.specs.declared.engine.ByteEnds.{ByteEnds}
 use Rattle.hs_lazy.specs.declared.parts.EndSet.{EndSet}
 use Rattle.hs_lazy.specs.declared.parts.Member.{Member}
 use Rattle.hs_lazy.specs.declared.parts.Run.{Run}
 use Rattle.hs_lazy.specs.declared.parts.State.{State}
-use Rattle.hs_lazy.specs.Caches.{TellsRun, Told, befores_of, behinds_of, loaded_by, run_at, told_at, told_by, told_if, told_of}
-use Rattle.hs_lazy.specs.Parts.{IsState, before_of, behind_of, ends_of, entry, next_of, part, set_of}
-use Rattle.hs_lazy.specs.Runs.{RunsThrough, TakesEntered}
-use Rattle.hs_lazy.specs.Sound.{IsSound, IsStep}
-use Rattle.hs_lazy.specs.Tables.{member_by, member_in, member_of, own_member, place_of}
-use Rattle.hs_lazy.specs.Walks.{IsTaken, IsWalk, state_before}
+use Rattle.hs_lazy.specs.Caches.{TellsRun, Told, befores_of, behinds_of, told_at, told_by, told_if, told_of}
+use Rattle.hs_lazy.specs.Parts.{IsState, before_of, behind_of, ends_of, entry, part, set_of}
+use Rattle.hs_lazy.specs.Runs.{RunsThrough}
+use Rattle.hs_lazy.specs.Sound.{IsDfaSound, IsStep}
+use Rattle.hs_lazy.specs.Tables.{member_by, member_in, own_member}
+use Rattle.hs_lazy.specs.Walks.{IsChunkTaken, IsWalk, state_before}
 use Rattle.hs_lazy.proofs.PartLemmas.{size-part}
 use Rattle.hs_lazy.proofs.RunLemmas.{StandsBehind, run-more, run-none, run-same, stands-more, stands-none}
-use Rattle.hs_lazy.proofs.StepLemmas.{takes-ends}
 
 take-next : (xs : List ℕ) (i : ℕ) → i < length xs → take i xs ++ slice_index xs i ∷ [] ≡ take (suc i) xs
 take-next [] i low = absurd (omega (arith, low))
@@ -31,7 +26,7 @@ take-next (x ∷ xs) zero low = refl
 take-next (x ∷ xs) (suc i) low = ap (λ l. x ∷ l) (take-next xs i (omega (arith, low)))
 
 module _ {E : Type 0} (meaning : E → Meaning) (engines : List E) (members : List Member) (states : List State) (rows : List ℕ) (ends : List EndSet)
-    (sound : IsSound meaning engines members states rows ends) (first : ℕ) (image : List ℕ) (prev : Prev) (bytes trace : List ℕ)
+    (sound : IsDfaSound meaning engines members states rows ends) (first : ℕ) (image : List ℕ) (prev : Prev) (bytes trace : List ℕ)
     (starts : IsState states first image prev) (walk : IsWalk rows first bytes trace (length bytes))
     (small : EachIndex bytes (λ i. slice_index bytes i < 256)) where
   abbrev before-by : (k i : ℕ) → Bool
@@ -149,8 +144,8 @@ told-bit {by = by} i count few is low same = is few ∙ lt-and i count by (omega
 
 -- what an automaton tells of a member is what its engine does
 pub taken-tells : {E : Type 0} (meaning : E → Meaning) (engines : List E) (dfa : LazyDfa) (run : Run) (prev : Prev) (bytes : List ℕ) (k : ℕ) (m : Member) (e : E) (st : State) →
-    IsSound meaning engines dfa.members.items dfa.states.items dfa.rows.items dfa.ends.items →
-    IsTaken dfa.states.items dfa.rows.items dfa.ends.items run prev bytes → EachIndex bytes (λ i. slice_index bytes i < 256) →
+    IsDfaSound meaning engines dfa.members.items dfa.states.items dfa.rows.items dfa.ends.items →
+    IsChunkTaken dfa.states.items dfa.rows.items dfa.ends.items run prev bytes → EachIndex bytes (λ i. slice_index bytes i < 256) →
     slice_get dfa.members.items k ≡ Some m → slice_get engines m.engine ≡ Some e → slice_get dfa.states.items run.state ≡ Some st →
     TellsRun (meaning e) (part run.image m) prev bytes (record { engine = m.engine; part = part st.image m; before = befores_of run k; behind = behinds_of run k })
 taken-tells meaning engines dfa run prev bytes k m e st sound taken small is there state =

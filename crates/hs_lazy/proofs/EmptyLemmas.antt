@@ -1,5 +1,5 @@
 -- Automata that aren't there yet, and tables that are empty.
-use Rattle.std.proofs.Common.{◌≡◌, ℕ, ◌+◌, ◌*◌, ◌<◌, ◌≤◌, ◌⊎◌, inl, inr, List, [], replicate, length, Option, Some, None, slice_get, slice_index, get_or, refl, sym, ap, subst, ◌∙◌, arith}
+use Rattle.std.proofs.Common.{◌≡◌, ℕ, inl, inr, List, [], replicate, length, Option, Some, None, slice_index, refl, sym, ap, subst, ◌∙◌, arith}
 use Rattle.std.proofs.lemmas.Bool.{cases_lt}
 use Rattle.std.proofs.lemmas.List.{get_or-replicate, get_or_past, length-replicate}
 use Rattle.std.proofs.lemmas.Option.{slice_get_within}
@@ -9,8 +9,8 @@ use Rattle.hs_lazy.specs.declared.cache.Place.{Place}
 use Rattle.hs_lazy.specs.declared.dfa.LazyDfa.{LazyDfa}
 use Rattle.hs_lazy.specs.declared.parts.Member.{Member}
 use Rattle.hs_lazy.specs.declared.parts.State.{State}
-use Rattle.hs_lazy.specs.Parts.{AreApart, AreLeading, AreLive, AreUnknownFrom}
-use Rattle.hs_lazy.specs.Tables.{AreDfasOf, engine_at, engine_in, member_by, own_member, place_of}
+use Rattle.hs_lazy.specs.Parts.{AreMembersApart, AreLeading, AreLive, AreUnknownFrom}
+use Rattle.hs_lazy.specs.Tables.{AreDfasOf, engine_at, engine_in, member_by, own_member, place_for}
 
 none-by : (list : List LazyDfa) (p : Option Place) → list ≡ [] → member_by list p ≡ None
 none-by list None e = refl
@@ -18,7 +18,7 @@ none-by list (Some p) e = subst (λ (l : List LazyDfa). member_by l (Some p) ≡
 
 pub no-engine : (d : Dfas) (k : ℕ) → d.list.items ≡ [] → engine_at d k ≡ None
 unfolding engine_at
-no-engine d k e = ap (λ o. engine_in (own_member k o)) (none-by d.list.items (place_of d k) e)
+no-engine d k e = ap (λ o. engine_in (own_member k o)) (none-by d.list.items (place_for d k) e)
 
 pub not-some : {A B : Type 0} (o : Option A) (x : A) → o ≡ None → o ≡ Some x → B
 not-some o x none some = absurd (cc)
@@ -30,7 +30,7 @@ no-dfas meaning engines d none = record {
   sound = λ i dfa is. absurd (omega (arith, slice_get_within d.list.items i dfa is, ap length none));
 }
 
-pub no-members : (members : List Member) → members ≡ [] → AreApart members
+pub no-members : (members : List Member) → members ≡ [] → AreMembersApart members
 no-members members none = record {
   rising = λ k m is. absurd (omega (arith, slice_get_within members k m is, ap length none));
   within = λ k m is. absurd (omega (arith, slice_get_within members k m is, ap length none));

@@ -1,15 +1,14 @@
 -- Regions in an image, and the bits of sets of members.
-use Rattle.std.proofs.Common.{◌≡◌, ℕ, zero, suc, ◌+◌, ◌-◌, ◌*◌, ◌/◌, ◌<◌, ◌≤◌, ◌⊎◌, inl, inr, Bool, true, false, List, [], ◌∷◌, ◌++◌, length, take, drop, Option, Some, None, slice_get, slice_index, slice_range, get_or, refl, sym, ap, subst, ◌∙◌, arith, length-append, length-drop}
+use Rattle.std.proofs.Common.{◌≡◌, ℕ, zero, suc, ◌-◌, ◌<◌, ◌≤◌, false, List, [], ◌∷◌, ◌++◌, length, take, drop, Option, Some, None, slice_get, get_or, refl, sym, ap, ◌∙◌, arith, length-append, length-drop}
 use Rattle.std.proofs.lemmas.List.{length-take-le, get_or_past}
 use Rattle.std.proofs.lemmas.Slice.{take-put_mid_below, drop-put_mid, between-put_mid, between_is}
 use borrow.Rule.Slice.PartMut.{mid_of, put_mid}
 use Rattle.hs_base.specs.Bits.{AreZero, has_word_bit}
 use Rattle.hs_bits.proofs.WordLemmas.{words-zero, unset-bits}
 use Rattle.hs_lazy.specs.declared.parts.Member.{Member}
-use Rattle.hs_lazy.specs.declared.parts.State.{State}
 use Rattle.hs_lazy.specs.declared.parts.EndSet.{EndSet}
 use Rattle.hs_lazy.specs.Images.{IsSameSets}
-use Rattle.hs_lazy.specs.Parts.{AreApart, AreKept, IsBeside, IsLive, AreLive, before_of, behind_of, part, set_of}
+use Rattle.hs_lazy.specs.Parts.{AreMembersApart, IsBeside, before_of, behind_of, part, set_of}
 use Rattle.hs_lazy.specs.Parts.IsBeside.{before_it, behind_it}
 
 pub size-mid : (low high : ℕ) (xs : List ℕ) → low ≤ high → high ≤ length xs → length (mid_of low (high - low) xs) ≡ high - low
@@ -46,11 +45,11 @@ size-put image bytes m order within long = omega (
 )
 
 -- two members lie one before the other
-pub beside : (members : List Member) (j k : ℕ) (a b : Member) → AreApart members → slice_get members j ≡ Some a → slice_get members k ≡ Some b →
+pub beside : (members : List Member) (j k : ℕ) (a b : Member) → AreMembersApart members → slice_get members j ≡ Some a → slice_get members k ≡ Some b →
     j < k → IsBeside b a
 beside members j k a b apart is-a is-b less = before_it (apart.in_turn j k a b less is-a is-b)
 
-pub beside-back : (members : List Member) (j k : ℕ) (a b : Member) → AreApart members → slice_get members j ≡ Some a → slice_get members k ≡ Some b →
+pub beside-back : (members : List Member) (j k : ℕ) (a b : Member) → AreMembersApart members → slice_get members j ≡ Some a → slice_get members k ≡ Some b →
     j < k → IsBeside a b
 beside-back members j k a b apart is-a is-b less = behind_it (apart.in_turn j k a b less is-a is-b)
 

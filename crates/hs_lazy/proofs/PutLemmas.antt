@@ -1,24 +1,22 @@
 -- A number to which an engine is given, and an automaton more.
-use Rattle.std.proofs.Common.{◌≡◌, ◌⊎◌, ℕ, zero, suc, ◌+◌, ◌<◌, ◌≤◌, ◌-◌, Bool, true, false, List, [], ◌∷◌, ◌++◌, length, slice_get, slice_range, Option, Some, None, refl, sym, ap, subst, ◌∙◌, inl, inr, arith, length-append, eqb}
+use Rattle.std.proofs.Common.{◌≡◌, ℕ, zero, suc, ◌+◌, ◌<◌, Bool, true, false, List, [], ◌∷◌, ◌++◌, length, slice_get, Option, Some, None, refl, sym, ap, subst, ◌∙◌, inl, inr, arith, eqb}
 use Rattle.std.specs.Prelude.{if◌then◌else◌}
 use Rattle.std.proofs.Math.ListN.{set}
 use Rattle.std.proofs.lemmas.Bool.{cases_eq, ne_eqb}
 use Rattle.std.proofs.lemmas.Option.{slice_get_within}
 use Rattle.hs_engine.specs.Engines.{Meaning}
 use Rattle.hs_lazy.specs.Members.{IsTakenIn}
-use Rattle.hs_lazy.specs.Parts.{AreApart}
-use Rattle.hs_lazy.specs.Sound.{AreMembersOf, IsSound}
-use Rattle.hs_lazy.specs.Tables.{AreDfasOf, IsPut, engine_at, engine_in, member_by, member_in, member_of, own_member, place_in, place_of}
+use Rattle.hs_lazy.specs.Sound.{AreMembersOf, IsDfaSound}
+use Rattle.hs_lazy.specs.Tables.{AreDfasOf, IsPut, engine_at, engine_in, member_by, member_in, member_of, own_member, place_in, place_for}
 use Rattle.hs_lazy.specs.Tables.IsPut.{is_put, stays}
 use Rattle.hs_lazy.specs.declared.cache.Dfas.{Dfas}
 use Rattle.hs_lazy.specs.declared.cache.Place.{Place}
 use Rattle.hs_lazy.specs.declared.dfa.LazyDfa.{LazyDfa}
 use Rattle.hs_lazy.specs.declared.parts.Member.{Member}
-use Rattle.hs_lazy.proofs.TableLemmas.{get-either, get-last, get-pushed, sound-none}
+use Rattle.hs_lazy.proofs.TableLemmas.{get-either, get-last, sound-none}
 use Rattle.hs_base.proofs.RegionLemmas.{range-size}
 use Rattle.hs_lazy.specs.Caches.{loaded, loaded_by, run_at}
 use Rattle.hs_lazy.specs.declared.cache.Cache.{Cache}
-use Rattle.hs_lazy.specs.declared.parts.Run.{Run}
 use Rattle.hs_lazy.proofs.ChunkLemmas.{own-is}
 use Rattle.hs_lazy.proofs.ListLemmas.{get-set, set-got, set-others}
 
@@ -37,13 +35,13 @@ pushed-by list new none None = refl
 pushed-by list new none (Some p) = pushed-member list new none p.dfa p.member
 
 -- the engines of numbers go by the list and the places
-pub engine-same : (d d' : Dfas) (k : ℕ) → member_by d'.list.items (place_of d' k) ≡ member_by d.list.items (place_of d k) → engine_at d' k ≡ engine_at d k
+pub engine-same : (d d' : Dfas) (k : ℕ) → member_by d'.list.items (place_for d' k) ≡ member_by d.list.items (place_for d k) → engine_at d' k ≡ engine_at d k
 unfolding engine_at
 engine-same d d' k same = ap (λ m. engine_in (own_member k m)) same
 
 pub engine-pushed : (d d' : Dfas) (new : LazyDfa) (k : ℕ) → new.members.items ≡ [] → d'.list.items ≡ d.list.items ++ new ∷ [] → d'.places ≡ d.places → engine_at d' k ≡ engine_at d k
 engine-pushed d d' new k none list places =
-    engine-same d d' k (ap (λ l. member_by l (place_of d' k)) list ∙ (ap (λ ps. member_by (d.list.items ++ new ∷ []) (place_in (slice_get ps.items k))) places ∙ pushed-by d.list.items new none (place_of d k)))
+    engine-same d d' k (ap (λ l. member_by l (place_for d' k)) list ∙ (ap (λ ps. member_by (d.list.items ++ new ∷ []) (place_in (slice_get ps.items k))) places ∙ pushed-by d.list.items new none (place_for d k)))
 
 no-members : {E : Type 0} (meaning : E → Meaning) (engines : List E) (members : List Member) → members ≡ [] → AreMembersOf meaning engines members
 no-members meaning engines members none = record {
@@ -58,7 +56,7 @@ dfas-pushed meaning engines d d' new none unknown list places are = record {
   listed = λ k n e is at. are.listed k n e (sym (engine-pushed d d' new k none list places) ∙ is) at;
   sound = λ i dfa is. elim (get-either d.list.items new i dfa (ap (λ l. slice_get l i) (sym list) ∙ is)) [
     | inl there ↦ are.sound i dfa there
-    | inr here ↦ subst (λ (x : LazyDfa). IsSound meaning engines x.members.items x.states.items x.rows.items x.ends.items) (sym here.1)
+    | inr here ↦ subst (λ (x : LazyDfa). IsDfaSound meaning engines x.members.items x.states.items x.rows.items x.ends.items) (sym here.1)
         (sound-none meaning engines new.members.items new.states.items new.rows.items new.ends.items unknown (no-members meaning engines new.members.items none))
   ];
 }
@@ -79,10 +77,10 @@ module _ (d d' : Dfas) (number engine size at member : ℕ) (before behind : Laz
   low : at < length d.list.items
   low = slice_get_within d.list.items at before there
 
-  new-place : place_of d' number ≡ Some (record { dfa = at; member = member })
+  new-place : place_for d' number ≡ Some (record { dfa = at; member = member })
   new-place = ap (λ ps. place_in (slice_get ps number)) places ∙ ap place_in (set-got d.places.items number (Some (record { dfa = at; member = member })) within)
 
-  old-place : (k : ℕ) → (k ≡ number → ⊥) → place_of d' k ≡ place_of d k
+  old-place : (k : ℕ) → (k ≡ number → ⊥) → place_for d' k ≡ place_for d k
   old-place k apart = ap (λ ps. place_in (slice_get ps k)) places ∙ ap place_in (set-others d.places.items number (Some (record { dfa = at; member = member })) k apart)
 
   new-dfa : slice_get d'.list.items at ≡ Some behind
@@ -91,7 +89,7 @@ module _ (d d' : Dfas) (number engine size at member : ℕ) (before behind : Laz
   new-member : slice_get behind.members.items member ≡ Some taken.member
   new-member = ap (λ ms. slice_get ms member) taken.members ∙ (ap (slice_get (before.members.items ++ taken.member ∷ [])) taken.place_is ∙ get-last before.members.items taken.member)
 
-  found : member_by d'.list.items (place_of d' number) ≡ Some taken.member
+  found : member_by d'.list.items (place_for d' number) ≡ Some taken.member
   found = ap (member_by d'.list.items) new-place ∙ (ap (λ o. member_in o member) new-dfa ∙ new-member)
 
   pub put-own : (n : ℕ) → engine_at d' number ≡ Some n → n ≡ engine
@@ -113,10 +111,10 @@ module _ (d d' : Dfas) (number engine size at member : ℕ) (before behind : Laz
   pub put-others : (k : ℕ) → (k ≡ number → ⊥) → engine_at d' k ≡ engine_at d k
   unfolding engine_at
   put-others k apart =
-      ap engine_in (ap (λ l. own_member k (member_by l (place_of d' k))) list ∙ (ap (λ p. own_member k (member_by (set d.list.items at behind) p)) (old-place k apart) ∙ others-by k apart (place_of d k)))
+      ap engine_in (ap (λ l. own_member k (member_by l (place_for d' k))) list ∙ (ap (λ p. own_member k (member_by (set d.list.items at behind) p)) (old-place k apart) ∙ others-by k apart (place_for d k)))
 
   module _ {E : Type 0} (meaning : E → Meaning) (engines : List E) (own : E) (own_is : slice_get engines engine ≡ Some own) (listed : (e : E) → slice_get engines engine ≡ Some e → (meaning e).always ≡ false) (size_is : size ≡ (meaning own).width) (are : AreDfasOf meaning engines d) where
-    old-sound : IsSound meaning engines before.members.items before.states.items before.rows.items before.ends.items
+    old-sound : IsDfaSound meaning engines before.members.items before.states.items before.rows.items before.ends.items
     old-sound = are.sound at before there
 
     of-engine : (P : ℕ → Type 0) → P engine → P taken.member.engine
@@ -151,7 +149,7 @@ module _ (d d' : Dfas) (number engine size at member : ℕ) (before behind : Laz
         | inr apart ↦ are.listed k n e (sym (put-others k apart) ∙ is) at_e
       ];
       sound = λ i dfa is. elim (get-set d.list.items at behind i dfa low (ap (λ l. slice_get l i) (sym list) ∙ is)) [
-        | inl here ↦ subst (λ (x : LazyDfa). IsSound meaning engines x.members.items x.states.items x.rows.items x.ends.items) (sym here.1)
+        | inl here ↦ subst (λ (x : LazyDfa). IsDfaSound meaning engines x.members.items x.states.items x.rows.items x.ends.items) (sym here.1)
             (sound-none meaning engines behind.members.items behind.states.items behind.rows.items behind.ends.items taken.states members-of)
         | inr old ↦ are.sound i dfa old.1
       ];
@@ -160,7 +158,7 @@ module _ (d d' : Dfas) (number engine size at member : ℕ) (before behind : Laz
 -- nothing was put
 module _ (d d' : Dfas) (list : d'.list.items ≡ d.list.items) (places : d'.places ≡ d.places) where
   pub stay-engine : (k : ℕ) → engine_at d' k ≡ engine_at d k
-  stay-engine k = engine-same d d' k (ap (λ l. member_by l (place_of d' k)) list ∙ ap (λ ps. member_by d.list.items (place_in (slice_get ps.items k))) places)
+  stay-engine k = engine-same d d' k (ap (λ l. member_by l (place_for d' k)) list ∙ ap (λ ps. member_by d.list.items (place_in (slice_get ps.items k))) places)
 
   pub stay-dfas : {E : Type 0} (meaning : E → Meaning) (engines : List E) → AreDfasOf meaning engines d → AreDfasOf meaning engines d'
   stay-dfas meaning engines are = record {
@@ -211,11 +209,11 @@ pub loaded-size : {E : Type 0} (meaning : E → Meaning) (engines : List E) (cac
 unfolding engine_at loaded
 loaded-size meaning engines cache are k n e is at =
     let (m, own, engine_is) = engine-member (member_of cache.dfas k) n is in
-    let (p, place_is, by) = member-place cache.dfas.list.items (place_of cache.dfas k) m (own-is k (member_by cache.dfas.list.items (place_of cache.dfas k)) m own) in
+    let (p, place_is, by) = member-place cache.dfas.list.items (place_for cache.dfas k) m (own-is k (member_by cache.dfas.list.items (place_for cache.dfas k)) m own) in
     let (dfa, dfa_is, member_is) = member-dfa (slice_get cache.dfas.list.items p.dfa) p.member m by in
     let (run, run_is) = there cache.runs.items p.dfa (omega (arith, slice_get_within cache.dfas.list.items p.dfa dfa dfa_is, cache.runs_room)) in
     let size = (are.sound p.dfa dfa dfa_is).of.sized p.member m e member_is (ap (slice_get engines) engine_is ∙ at) in
-    ap (λ o. length (loaded_by o (run_at cache.runs.items (place_of cache.dfas k)))) own
+    ap (λ o. length (loaded_by o (run_at cache.runs.items (place_for cache.dfas k)))) own
     ∙ (ap (λ o. length (loaded_by (Some m) (run_at cache.runs.items o))) place_is
     ∙ (ap (λ o. length (loaded_by (Some m) o)) run_is
     ∙ (range-size run.image m.start m.end (dfa.apart.rising p.member m member_is) (omega (arith, run.image_len, dfa.apart.within p.member m member_is)) ∙ omega (arith, size))))

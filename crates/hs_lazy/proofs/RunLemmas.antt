@@ -1,18 +1,14 @@
 -- What bytes make of regions: none, one more, and all of a chunk.
-use Rattle.std.proofs.Common.{◌≡◌, ℕ, zero, suc, ◌+◌, ◌*◌, ◌-◌, ◌<◌, ◌≤◌, ◌⊎◌, ◌↔◌, inl, inr, Bool, true, false, ◌||◌, List, [], ◌∷◌, ◌++◌, length, take, drop, replicate, Option, Some, None, slice_get, slice_index, get_or, EachIndex, refl, sym, ap, subst, ◌∙◌, arith, length-append}
-use Rattle.std.proofs.lemmas.List.{append-nil, take_all, append_assoc, length-take, take-append-le, get_or_append_left, get_or-append-add, length-replicate}
-use Rattle.std.proofs.lemmas.Option.{slice_get_within, slice_get-get_or}
-use Rattle.std.proofs.lemmas.Bool.{cases_eq, cases_lt}
-use Rattle.hs_base.specs.declared.context.Next.{Next}
+use Rattle.std.proofs.Common.{◌≡◌, ℕ, zero, suc, ◌+◌, ◌<◌, ◌↔◌, inl, inr, Bool, true, false, ◌||◌, List, [], ◌∷◌, ◌++◌, length, take, replicate, Some, slice_index, refl, sym, ap, subst, ◌∙◌, arith, length-append}
+use Rattle.std.proofs.lemmas.List.{append-nil, take_all, append_assoc, take-append-le, get_or_append_left, length-replicate}
+use Rattle.std.proofs.lemmas.Bool.{cases_lt}
 use Rattle.hs_base.specs.declared.context.Next.TheVariants as after
 use Rattle.hs_base.specs.declared.context.Prev.{Prev}
-use Rattle.hs_base.specs.Bits.{AreZero}
 use Rattle.hs_base.specs.Contexts.{class_of, prev_at, prev_behind}
 use Rattle.hs_base.specs.Fields.{Leaves}
-use Rattle.hs_base.specs.Trees.{Tree}
 use Rattle.hs_engine.specs.Engines.{IsAsleep, Meaning}
 use Rattle.hs_lazy.specs.declared.engine.ByteEnds.{ByteEnds}
-use Rattle.hs_lazy.specs.Runs.{IsBlank, IsRunThrough, RunsThrough, TakesEntered}
+use Rattle.hs_lazy.specs.Runs.{IsBlankRegion, IsRunThrough, RunsThrough, TakesEntered}
 use Rattle.hs_lazy.proofs.TableLemmas.{get-last}
 
 -- What stands before the byte behind these: what stood before them, if there are none.
@@ -128,7 +124,7 @@ or-true true = refl
 or-true false = refl
 
 -- A member that sleeps on stays as it is, and is left nowhere.
-pub asleep-takes : (m : Meaning) (region : List ℕ) (prev : Prev) (byte : ℕ) (ends : ByteEnds) → IsAsleep m region byte → IsBlank m region →
+pub asleep-takes : (m : Meaning) (region : List ℕ) (prev : Prev) (byte : ℕ) (ends : ByteEnds) → IsAsleep m region byte → IsBlankRegion m region →
     ends.before ≡ false → ends.behind ≡ false → TakesEntered m region region prev byte ends
 asleep-takes m region prev byte ends asleep blank no-before no-behind = record {
   well = blank.well;

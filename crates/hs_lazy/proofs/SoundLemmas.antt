@@ -1,5 +1,5 @@
 -- An automaton stays sound while its tables grow.
-use Rattle.std.proofs.Common.{◌≡◌, ℕ, ◌+◌, ◌*◌, ◌<◌, ◌≤◌, false, List, length, Option, Some, None, slice_get, refl, sym, ap, subst, ◌∙◌, arith}
+use Rattle.std.proofs.Common.{◌≡◌, ℕ, ◌+◌, ◌*◌, ◌<◌, List, length, Some, slice_get, refl, sym, ap, subst, arith}
 use Rattle.std.proofs.Math.ListN.{set}
 use Rattle.std.proofs.lemmas.Option.{slice_get_within}
 use Rattle.hs_engine.specs.Engines.{Meaning}
@@ -7,21 +7,21 @@ use Rattle.hs_lazy.specs.declared.parts.Member.{Member}
 use Rattle.hs_lazy.specs.declared.parts.State.{State}
 use Rattle.hs_lazy.specs.declared.parts.EndSet.{EndSet}
 use Rattle.hs_lazy.specs.declared.dfa.LazyDfa.{LazyDfa}
-use Rattle.hs_lazy.specs.Parts.{AreKept, AreUnknownFrom}
-use Rattle.hs_lazy.specs.Sound.{AreMembersOf, IsSound, IsStep}
-use Rattle.hs_lazy.proofs.TableLemmas.{sound-ends, sound-grown, sound-none, sound-written}
+use Rattle.hs_lazy.specs.Parts.{AreStillThere}
+use Rattle.hs_lazy.specs.Sound.{AreMembersOf, IsDfaSound, IsStep}
+use Rattle.hs_lazy.proofs.TableLemmas.{sound-ends, sound-grown, sound-written}
 
 module _ {E : Type 0} (meaning : E → Meaning) (engines : List E) where
   abbrev pub IsSoundDfa : LazyDfa → Type 0
-  IsSoundDfa d = IsSound meaning engines d.members.items d.states.items d.rows.items d.ends.items
+  IsSoundDfa d = IsDfaSound meaning engines d.members.items d.states.items d.rows.items d.ends.items
 
   pub sound-same : (m m' : List Member) (s s' : List State) (r r' : List ℕ) (e e' : List EndSet) → m' ≡ m → s' ≡ s → r' ≡ r → e' ≡ e →
-      IsSound meaning engines m s r e → IsSound meaning engines m' s' r' e'
+      IsDfaSound meaning engines m s r e → IsDfaSound meaning engines m' s' r' e'
   sound-same m m' s s' r r' e e' ms ss rs es sound =
-      subst (λ x. IsSound meaning engines x s' r' e') (sym ms)
-      (subst (λ x. IsSound meaning engines m x r' e') (sym ss)
-      (subst (λ x. IsSound meaning engines m s x e') (sym rs)
-      (subst (λ x. IsSound meaning engines m s r x) (sym es) sound)))
+      subst (λ x. IsDfaSound meaning engines x s' r' e') (sym ms)
+      (subst (λ x. IsDfaSound meaning engines m x r' e') (sym ss)
+      (subst (λ x. IsDfaSound meaning engines m s x e') (sym rs)
+      (subst (λ x. IsDfaSound meaning engines m s r x) (sym es) sound)))
 
   pub after-same : (d d' : LazyDfa) → d'.members ≡ d.members → d'.states ≡ d.states → d'.rows ≡ d.rows → d'.ends ≡ d.ends →
       IsSoundDfa d → IsSoundDfa d'
@@ -29,14 +29,14 @@ module _ {E : Type 0} (meaning : E → Meaning) (engines : List E) where
       sound-same d.members.items d'.members.items d.states.items d'.states.items d.rows.items d'.rows.items d.ends.items d'.ends.items
       (ap (λ v. v.items) ms) (ap (λ v. v.items) ss) (ap (λ v. v.items) rs) (ap (λ v. v.items) es) sound
 
-  pub after-find : (d d' : LazyDfa) → d'.members ≡ d.members → AreKept d.states.items d'.states.items → d'.rows ≡ d.rows → d'.ends ≡ d.ends →
+  pub after-find : (d d' : LazyDfa) → d'.members ≡ d.members → AreStillThere d.states.items d'.states.items → d'.rows ≡ d.rows → d'.ends ≡ d.ends →
       IsSoundDfa d → IsSoundDfa d'
   after-find d d' ms kept rs es sound =
       sound-same d.members.items d'.members.items d'.states.items d'.states.items d.rows.items d'.rows.items d.ends.items d'.ends.items
       (ap (λ v. v.items) ms) refl (ap (λ v. v.items) rs) (ap (λ v. v.items) es)
       (sound-grown meaning engines d.members.items d.states.items d'.states.items d.rows.items d.ends.items d.unknown kept sound)
 
-  pub after-ends : (d d' : LazyDfa) → d'.members ≡ d.members → d'.states ≡ d.states → d'.rows ≡ d.rows → AreKept d.ends.items d'.ends.items →
+  pub after-ends : (d d' : LazyDfa) → d'.members ≡ d.members → d'.states ≡ d.states → d'.rows ≡ d.rows → AreStillThere d.ends.items d'.ends.items →
       IsSoundDfa d → IsSoundDfa d'
   after-ends d d' ms ss rs kept sound =
       sound-same d.members.items d'.members.items d.states.items d'.states.items d.rows.items d'.rows.items d'.ends.items d'.ends.items

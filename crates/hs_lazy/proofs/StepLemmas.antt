@@ -1,5 +1,5 @@
 -- Members that take a byte, one after the other.
-use Rattle.std.proofs.Common.{◌≡◌, ℕ, ◌+◌, ◌-◌, ◌*◌, ◌<◌, ◌≤◌, ◌⊎◌, inl, inr, Bool, true, false, List, [], ◌∷◌, ◌++◌, length, Option, Some, None, slice_get, slice_index, get_or, refl, sym, ap, subst, ◌∙◌, arith, length-append}
+use Rattle.std.proofs.Common.{◌≡◌, ℕ, ◌+◌, ◌-◌, ◌<◌, ◌≤◌, inl, inr, Bool, true, false, List, [], ◌∷◌, ◌++◌, length, Some, slice_get, sym, ap, subst, ◌∙◌, arith, length-append}
 use Rattle.std.specs.Prelude.{if◌then◌else◌}
 use Rattle.std.proofs.lemmas.Bool.{cases_eq}
 use Rattle.std.proofs.lemmas.Option.{slice_get_within}
@@ -12,9 +12,9 @@ use Rattle.hs_lazy.specs.declared.parts.Member.{Member}
 use Rattle.hs_lazy.specs.declared.parts.State.{State}
 use Rattle.hs_lazy.specs.declared.parts.EndSet.{EndSet}
 use Rattle.hs_lazy.specs.Images.{IsSameSets}
-use Rattle.hs_lazy.specs.Parts.{AreApart, AreKept, AreLeading, AreLive, IsBeside, IsState, IsStepTo, IsWhole, before_of, behind_of, ends_of, next_of, part, set_of}
-use Rattle.hs_lazy.specs.Runs.{AreZerosBlank, IsBlank, TakesEntered}
-use Rattle.hs_lazy.specs.Sound.{AreMembersOf, IsSound, IsStep, TakeEntered}
+use Rattle.hs_lazy.specs.Parts.{AreMembersApart, AreLeading, AreLive, IsBeside, IsState, IsStepTo, IsStateWhole, before_of, behind_of, part, set_of}
+use Rattle.hs_lazy.specs.Runs.{AreZerosBlank, IsBlankRegion, TakesEntered}
+use Rattle.hs_lazy.specs.Sound.{AreMembersOf, IsStep, TakeEntered}
 use Rattle.hs_lazy.proofs.PartLemmas.{beside, beside-back, size-part}
 use Rattle.hs_lazy.proofs.RunLemmas.{run-same}
 use Rattle.hs_lazy.proofs.TableLemmas.{get-either, same-got}
@@ -39,7 +39,7 @@ module _ {E : Type 0} (meaning : E → Meaning) (engines : List E) (members : Li
   AreLeft image k = (j : ℕ) (m : Member) → k ≤ j → slice_get members j ≡ Some m → part image m ≡ part old.image m
 
   module _ (image image' before before' behind behind' : List ℕ) (k : ℕ) (m : Member) (e : E) (own : ByteEnds)
-      (apart : AreApart members) (is : slice_get members k ≡ Some m) (there : slice_get engines m.engine ≡ Some e)
+      (apart : AreMembersApart members) (is : slice_get members k ≡ Some m) (there : slice_get engines m.engine ≡ Some e)
       (others : (other : Member) → IsBeside m other → part image' other ≡ part image other) where
     pub left-more : AreLeft image k → AreLeft image' (k + 1)
     left-more left j m' high is' =
@@ -71,9 +71,9 @@ module _ {E : Type 0} (meaning : E → Meaning) (engines : List E) (members : Li
             (subst (λ p. TakesEntered (meaning e) p (part image' m) old.prev byte own) (left k m (omega arith) is) takes)))
 
   -- a member without its bit is blank
-  pub blank-left : (image : List ℕ) (k : ℕ) (m : Member) (e : E) → AreZerosBlank meaning engines → AreMembersOf meaning engines members → AreApart members →
+  pub blank-left : (image : List ℕ) (k : ℕ) (m : Member) (e : E) → AreZerosBlank meaning engines → AreMembersOf meaning engines members → AreMembersApart members →
       length image ≡ 512 → slice_get members k ≡ Some m → slice_get engines m.engine ≡ Some e →
-      part image m ≡ part old.image m → AreZero (part old.image m) → IsBlank (meaning e) (part image m)
+      part image m ≡ part old.image m → AreZero (part old.image m) → IsBlankRegion (meaning e) (part image m)
   blank-left image k m e blank of apart long is there left zero =
       blank m.engine e (part image m) there (of.listed k m e is there)
       (let size : length (part image m) ≡ m.end - m.start = size-part image m (apart.rising k m is) (let w : m.end ≤ 512 = apart.within k m is in omega (arith, w, long)) in
@@ -98,10 +98,10 @@ module _ {E : Type 0} (meaning : E → Meaning) (engines : List E) (members : Li
 
 -- states where one may have been put behind
 pub live-pushed : (members : List Member) (old new : List State) (st : State) (b : Bool) → new ≡ (if b then old ++ st ∷ [] else old) →
-    AreLive members old → IsWhole members st → AreLive members new
+    AreLive members old → IsStateWhole members st → AreLive members new
 live-pushed members old new st true same live whole s x is = elim (get-either old st s x (subst (λ (l : List State). slice_get l s ≡ Some x) same is)) [
   | inl there ↦ live s x there
-  | inr here ↦ subst (IsWhole members) (sym here.1) whole
+  | inr here ↦ subst (IsStateWhole members) (sym here.1) whole
 ]
 live-pushed members old new st false same live whole s x is = live s x (subst (λ (l : List State). slice_get l s ≡ Some x) same is)
 
@@ -110,10 +110,10 @@ leading-more rows few more low leading k known =
     let one = leading k known in (one.0, omega (arith, low, one.1))
 
 -- members where one may have been put behind
-pub apart-pushed : (old new : List Member) (m : Member) (b : Bool) → new ≡ (if b then old ++ m ∷ [] else old) → AreApart old →
-    ((k : ℕ) (x : Member) → slice_get old k ≡ Some x → x.end ≤ m.start) → m.start ≤ m.end → m.end ≤ 512 → AreApart new
-apart-pushed old new m false same apart behind order within = subst AreApart (sym same) apart
-apart-pushed old new m true same apart behind order within = subst AreApart (sym same) (record {
+pub apart-pushed : (old new : List Member) (m : Member) (b : Bool) → new ≡ (if b then old ++ m ∷ [] else old) → AreMembersApart old →
+    ((k : ℕ) (x : Member) → slice_get old k ≡ Some x → x.end ≤ m.start) → m.start ≤ m.end → m.end ≤ 512 → AreMembersApart new
+apart-pushed old new m false same apart behind order within = subst AreMembersApart (sym same) apart
+apart-pushed old new m true same apart behind order within = subst AreMembersApart (sym same) (record {
   rising = λ k x is. elim (get-either old m k x is) [ inl there ↦ apart.rising k x there | inr here ↦ subst (λ (y : Member). y.start ≤ y.end) (sym here.1) order ];
   within = λ k x is. elim (get-either old m k x is) [ inl there ↦ apart.within k x there | inr here ↦ subst (λ (y : Member). y.end ≤ 512) (sym here.1) within ];
   in_turn = λ j k a c low is-a is-c. elim (get-either old m j a is-a) [

@@ -1,17 +1,16 @@
 -- The tables of an automaton: what is kept in them while they grow.
-use Rattle.std.proofs.Common.{◌≡◌, ℕ, ◌%◌, zero, suc, ◌+◌, ◌*◌, ◌<◌, ◌≤◌, ◌⊎◌, inl, inr, Bool, true, false, List, [], ◌∷◌, ◌++◌, length, Option, Some, None, slice_get, slice_index, get_or, refl, sym, ap, subst, ◌∙◌, arith, rules, tests, ltb, length-append}
+use Rattle.std.proofs.Common.{◌≡◌, ℕ, ◌%◌, zero, suc, ◌+◌, ◌*◌, ◌<◌, ◌≤◌, ◌⊎◌, inl, inr, Bool, true, false, List, [], ◌∷◌, ◌++◌, length, Some, None, slice_get, slice_index, get_or, refl, sym, ap, subst, ◌∙◌, arith, rules, tests, ltb, length-append}
 use Rattle.std.specs.Prelude.{Result, Ok, is_ok, if◌then◌else◌}
 use Rattle.std.proofs.Math.ListN.{set}
 use Rattle.std.proofs.lemmas.List.{get_or_append_left, get_or-append-add, get_or-set_same, get_or-set_other}
 use Rattle.std.proofs.lemmas.Option.{slice_get_within, slice_get_past, slice_get_read, slice_get-get_or, get_or_from_slice_get}
 use Rattle.std.proofs.lemmas.Bool.{cases_eq, cases_lt}
-use Rattle.hs_base.specs.Contexts.{prev_behind}
 use Rattle.hs_engine.specs.Engines.{Meaning}
 use Rattle.hs_lazy.specs.declared.parts.Member.{Member}
 use Rattle.hs_lazy.specs.declared.parts.State.{State}
 use Rattle.hs_lazy.specs.declared.parts.EndSet.{EndSet}
-use Rattle.hs_lazy.specs.Parts.{AreKept, AreStepsKept, AreUnknownFrom, AreLeading, IsState, before_of, behind_of, ends_of, entry, next_of, set_of}
-use Rattle.hs_lazy.specs.Sound.{AreMembersOf, IsSound, IsStep, TakeEntered}
+use Rattle.hs_lazy.specs.Parts.{AreStillThere, AreStepsKept, AreUnknownFrom, AreLeading, before_of, behind_of, ends_of, entry, next_of, set_of}
+use Rattle.hs_lazy.specs.Sound.{AreMembersOf, IsDfaSound, IsStep, TakeEntered}
 use Rattle.hs_lazy.specs.Walks.{IsWalk, state_before}
 
 pub pushed : {A T E : Type 0} (old new : List A) (x : A) (r : Result T E) (t : T) → new ≡ (if is_ok r then old ++ x ∷ [] else old) → r ≡ Ok t →
@@ -38,10 +37,10 @@ get-pushed xs y i x is =
     slice_get-get_or (xs ++ y ∷ []) i x (omega (arith, length-append xs (y ∷ []))) ∙
     ap Some (get_or_append_left xs (y ∷ []) x i low ∙ get_or_from_slice_get xs i x x is)
 
-pub kept-pushed : {A : Type 0} (xs : List A) (y : A) → AreKept xs (xs ++ y ∷ [])
+pub kept-pushed : {A : Type 0} (xs : List A) (y : A) → AreStillThere xs (xs ++ y ∷ [])
 kept-pushed xs y i x is = get-pushed xs y i x is
 
-pub kept-same : {A : Type 0} (xs ys : List A) → ys ≡ xs → AreKept xs ys
+pub kept-same : {A : Type 0} (xs ys : List A) → ys ≡ xs → AreStillThere xs ys
 kept-same xs ys same i x is = subst (λ (l : List _). slice_get l i ≡ Some x) (sym same) is
 
 pub get-last : {A : Type 0} (xs : List A) (y : A) → slice_get (xs ++ y ∷ []) (length xs) ≡ Some y
@@ -68,7 +67,7 @@ pub same-got : {A : Type 0} (xs : List A) (i : ℕ) (x y : A) → slice_get xs i
 same-got xs i x y one other = some-same x y (sym one ∙ other)
 
 -- a list has no more behind a push
-pub kept-length : {A : Type 0} (old new : List A) → AreKept old new → length old ≤ length new
+pub kept-length : {A : Type 0} (old new : List A) → AreStillThere old new → length old ≤ length new
 kept-length [] new kept = omega arith
 kept-length (x ∷ xs) new kept =
     let last : slice_get (x ∷ xs) (length xs) ≡ Some (get_or (x ∷ xs) (length xs) x) = slice_get-get_or (x ∷ xs) (length xs) x (omega arith) in
@@ -78,15 +77,15 @@ kept-length (x ∷ xs) new kept =
 module _ {E : Type 0} (meaning : E → Meaning) (engines : List E) (members : List Member) where
   -- no state has a step that isn't sound
   pub sound-none : (states : List State) (rows : List ℕ) (ends : List EndSet) → states ≡ [] → AreMembersOf meaning engines members →
-      IsSound meaning engines members states rows ends
+      IsDfaSound meaning engines members states rows ends
   sound-none states rows ends none of = record {
     of = of;
     steps = λ s b old is small known. absurd (omega (arith, slice_get_within states s old is, ap length none));
   }
 
   pub sound-grown : (states states' : List State) (rows : List ℕ) (ends : List EndSet) →
-      AreUnknownFrom rows (length states) → AreKept states states' →
-      IsSound meaning engines members states rows ends → IsSound meaning engines members states' rows ends
+      AreUnknownFrom rows (length states) → AreStillThere states states' →
+      IsDfaSound meaning engines members states rows ends → IsDfaSound meaning engines members states' rows ends
   sound-grown states states' rows ends unknown kept sound = record {
     of = sound.of;
     steps = λ s b old is small known. elim (cases_lt s (length states)) [
@@ -110,15 +109,15 @@ module _ {E : Type 0} (meaning : E → Meaning) (engines : List E) (members : Li
             takes = one.takes;
           }
 
-  set-kept : (ends ends' : List EndSet) (n : ℕ) → AreKept ends ends' → n ≤ length ends → set_of ends' n ≡ set_of ends n
+  set-kept : (ends ends' : List EndSet) (n : ℕ) → AreStillThere ends ends' → n ≤ length ends → set_of ends' n ≡ set_of ends n
   set-kept ends ends' zero kept within = refl
   set-kept [] ends' (suc n) kept within = absurd (omega (arith, within))
   set-kept (e ∷ es) ends' (suc n) kept within =
       let there : slice_get (e ∷ es) n ≡ Some (get_or (e ∷ es) n e) = slice_get-get_or (e ∷ es) n e (omega (arith, within)) in
       kept n (get_or (e ∷ es) n e) there ∙ sym there
 
-  pub sound-ends : (states : List State) (rows : List ℕ) (ends ends' : List EndSet) → AreKept ends ends' →
-      IsSound meaning engines members states rows ends → IsSound meaning engines members states rows ends'
+  pub sound-ends : (states : List State) (rows : List ℕ) (ends ends' : List EndSet) → AreStillThere ends ends' →
+      IsDfaSound meaning engines members states rows ends → IsDfaSound meaning engines members states rows ends'
   sound-ends states rows ends ends' kept sound = record {
     of = sound.of;
     steps = λ s b old is small known. step s b old (sound.steps s b old is small known);
@@ -140,8 +139,8 @@ module _ {E : Type 0} (meaning : E → Meaning) (engines : List E) (members : Li
   pub sound-written : (states : List State) (rows : List ℕ) (ends : List EndSet) (s b step : ℕ) (old : State) →
       slice_get states s ≡ Some old → b < 256 → 256 * s + b < length rows →
       IsStep meaning engines members states ends old b step →
-      IsSound meaning engines members states rows ends →
-      IsSound meaning engines members states (set rows (256 * s + b) step) ends
+      IsDfaSound meaning engines members states rows ends →
+      IsDfaSound meaning engines members states (set rows (256 * s + b) step) ends
   sound-written states rows ends s b step old is small within one sound = record {
     of = sound.of;
     steps = λ s' b' old' is' small' known. elim (cases_eq (256 * s' + b') (256 * s + b)) [

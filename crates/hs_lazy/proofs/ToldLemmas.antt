@@ -1,14 +1,14 @@
 -- What is told of a number, by the tables.
-use Rattle.std.proofs.Common.{◌≡◌, ℕ, zero, suc, ◌+◌, ◌*◌, ◌-◌, ◌<◌, ◌≤◌, ◌⊎◌, inl, inr, Bool, true, false, ◌&&◌, nat_lt, List, [], ◌∷◌, length, take, drop, Option, Some, None, slice_get, slice_index, slice_range, get_or, EachIndex, refl, sym, ap, subst, ◌∙◌, arith, rules, tests, length-drop}
+use Rattle.std.proofs.Common.{◌≡◌, ℕ, ◌+◌, ◌-◌, ◌<◌, ◌≤◌, inl, inr, Bool, true, false, ◌&&◌, nat_lt, List, [], ◌∷◌, length, drop, Option, Some, None, slice_get, slice_index, slice_range, get_or, EachIndex, refl, sym, ap, subst, ◌∙◌, arith, tests, length-drop}
 use Rattle.std.specs.Prelude.{MatchBool, if◌then◌else◌}
 use Rattle.std.proofs.Math.ListN.{set}
 use Rattle.std.proofs.lemmas.Bool.{cases_eq, cases_lt, ne_eqb}
 use Rattle.hs_base.specs.Bits.{AreZero}
 use Rattle.hs_base.proofs.RegionLemmas.{get-range}
-use Rattle.hs_lazy.specs.Parts.{AreApart, IsBeside}
+use Rattle.hs_lazy.specs.Parts.{IsBeside}
 use Rattle.hs_lazy.proofs.PartLemmas.{beside, beside-back}
-use Rattle.std.proofs.lemmas.List.{get_or_past, length-take, get_or-set_same, get_or-set_other, length-set}
-use Rattle.std.proofs.lemmas.Option.{slice_get_within, slice_get_past, slice_get-get_or, get_or_from_slice_get}
+use Rattle.std.proofs.lemmas.List.{get_or_past, length-take}
+use Rattle.std.proofs.lemmas.Option.{slice_get_past, slice_get-get_or}
 use Rattle.hs_lazy.specs.declared.cache.Cache.{Cache}
 use Rattle.hs_lazy.specs.declared.cache.Dfas.{Dfas}
 use Rattle.hs_lazy.specs.declared.cache.Place.{Place}
@@ -22,9 +22,8 @@ use Rattle.hs_lazy.specs.Members.{IsAsleepIn}
 use Rattle.hs_lazy.specs.Parts.{part}
 use Rattle.hs_base.specs.declared.context.Prev.{Prev}
 use Rattle.hs_engine.specs.Engines.{Meaning}
-use Rattle.hs_lazy.specs.Sound.{IsSound}
-use Rattle.hs_lazy.specs.Walks.{IsTaken}
-use Rattle.hs_lazy.specs.Tables.{AreAllSound, AreDfasOf, engine_at, engine_in, member_by, member_in, member_of, own_member, place_in, place_of}
+use Rattle.hs_lazy.specs.Sound.{IsDfaSound}
+use Rattle.hs_lazy.specs.Tables.{AreAllSound, AreDfasOf, engine_at, engine_in, member_by, member_in, member_of, own_member, place_in, place_for}
 use Rattle.hs_lazy.proofs.ListLemmas.{get-set, set-got, set-others}
 use Rattle.hs_lazy.proofs.ChunkLemmas.{IsTold, member-at, own-is, taken-tells, told-inside}
 
@@ -40,9 +39,9 @@ members-set list at old new low is same i k = elim (cases_eq i at) [
   | inr other ↦ ap (λ o. member_in o k) (set-others list at new i other)
 ]
 
-pub told-open : (cache : Cache) (k : ℕ) (t : Told) → told cache k ≡ Some t → IsTold (member_of cache.dfas k) cache.dfas.list.items cache.runs.items (place_of cache.dfas k) t
+pub told-open : (cache : Cache) (k : ℕ) (t : Told) → told cache k ≡ Some t → IsTold (member_of cache.dfas k) cache.dfas.list.items cache.runs.items (place_for cache.dfas k) t
 unfolding told
-told-open cache k t is = told-inside (member_of cache.dfas k) cache.dfas.list.items cache.runs.items (place_of cache.dfas k) t is
+told-open cache k t is = told-inside (member_of cache.dfas k) cache.dfas.list.items cache.runs.items (place_for cache.dfas k) t is
 
 some-same : {A : Type 0} (x y : A) → Some x ≡ Some y → x ≡ y
 some-same x y same = cc
@@ -77,16 +76,16 @@ told-by-place member list runs place t p dfa run own it spot d r =
       done = subst (λ (x : Run). x.is_done ≡ true) rs it.done;
     }
 
-pub told-place : (cache : Cache) (k : ℕ) (t : Told) (p : Place) (dfa : LazyDfa) (run : Run) → told cache k ≡ Some t → place_of cache.dfas k ≡ Some p →
+pub told-place : (cache : Cache) (k : ℕ) (t : Told) (p : Place) (dfa : LazyDfa) (run : Run) → told cache k ≡ Some t → place_for cache.dfas k ≡ Some p →
     slice_get cache.dfas.list.items p.dfa ≡ Some dfa → slice_get cache.runs.items p.dfa ≡ Some run → IsToldBy t dfa run p.member
 told-place cache k t p dfa run is spot d r =
-    told-by-place (member_of cache.dfas k) cache.dfas.list.items cache.runs.items (place_of cache.dfas k) t p dfa run
-    (λ m own. own-is k (member_by cache.dfas.list.items (place_of cache.dfas k)) m own) (told-open cache k t is) spot d r
+    told-by-place (member_of cache.dfas k) cache.dfas.list.items cache.runs.items (place_for cache.dfas k) t p dfa run
+    (λ m own. own-is k (member_by cache.dfas.list.items (place_for cache.dfas k)) m own) (told-open cache k t is) spot d r
 
-pub told-run : (cache : Cache) (k : ℕ) (t : Told) (p : Place) (run : Run) → told cache k ≡ Some t → place_of cache.dfas k ≡ Some p →
+pub told-run : (cache : Cache) (k : ℕ) (t : Told) (p : Place) (run : Run) → told cache k ≡ Some t → place_for cache.dfas k ≡ Some p →
     slice_get cache.runs.items p.dfa ≡ Some run → (dfa : LazyDfa) × IsToldBy t dfa run p.member
 told-run cache k t p run is spot r =
-    let it : IsTold (member_of cache.dfas k) cache.dfas.list.items cache.runs.items (place_of cache.dfas k) t = told-open cache k t is in
+    let it : IsTold (member_of cache.dfas k) cache.dfas.list.items cache.runs.items (place_for cache.dfas k) t = told-open cache k t is in
     let at : it.at ≡ p = some-same it.at p (sym it.at_is ∙ spot) in
     (it.dfa, told-place cache k t p it.dfa run is spot (subst (λ (q : Place). slice_get cache.dfas.list.items q.dfa ≡ Some it.dfa) at it.dfa_is) r)
 
@@ -99,7 +98,7 @@ pub same-members : (d d' : Dfas) → d'.places ≡ d.places → ((i k : ℕ) →
     (k : ℕ) → member_of d' k ≡ member_of d k
 same-members d d' places members k =
     let items : d'.places.items ≡ d.places.items = ap (λ v. v.items) places in
-    ap (own_member k) (by (place_of d' k) ∙ ap (λ l. member_by d.list.items (place_in (slice_get l k))) items)
+    ap (own_member k) (by (place_for d' k) ∙ ap (λ l. member_by d.list.items (place_in (slice_get l k))) items)
   where
     by : (p : Option Place) → member_by d'.list.items p ≡ member_by d.list.items p
     by None = refl
@@ -114,22 +113,22 @@ unfolding engine_at
 engine-of d k m is = ap engine_in is
 
 -- the region that is loaded
-pub loaded-is : (cache : Cache) (k : ℕ) (m : Member) (p : Place) (run : Run) → member_of cache.dfas k ≡ Some m → place_of cache.dfas k ≡ Some p →
+pub loaded-is : (cache : Cache) (k : ℕ) (m : Member) (p : Place) (run : Run) → member_of cache.dfas k ≡ Some m → place_for cache.dfas k ≡ Some p →
     slice_get cache.runs.items p.dfa ≡ Some run → loaded cache k ≡ part run.image m
 unfolding loaded
 loaded-is cache k m p run own spot r =
-    ap (λ o. loaded_by o (run_at cache.runs.items (place_of cache.dfas k))) own ∙
+    ap (λ o. loaded_by o (run_at cache.runs.items (place_for cache.dfas k))) own ∙
     (ap (λ o. loaded_by (Some m) (run_at cache.runs.items o)) spot ∙ ap (λ o. loaded_by (Some m) o) r)
 
-pub no-place : {A : Type 0} (cache : Cache) (k : ℕ) (t : Told) → told cache k ≡ Some t → place_of cache.dfas k ≡ None → A
-no-place cache k t is none = absurd (let it : IsTold _ _ _ _ t = told-open cache k t is in by (place_of cache.dfas k) it.at none it.at_is)
+pub no-place : {A : Type 0} (cache : Cache) (k : ℕ) (t : Told) → told cache k ≡ Some t → place_for cache.dfas k ≡ None → A
+no-place cache k t is none = absurd (let it : IsTold _ _ _ _ t = told-open cache k t is in by (place_for cache.dfas k) it.at none it.at_is)
   where
     by : (o : Option Place) (p : Place) → o ≡ None → o ≡ Some p → ⊥
     by o p n s = absurd (cc)
 
-pub no-run : {A : Type 0} (cache : Cache) (k : ℕ) (t : Told) (p : Place) → told cache k ≡ Some t → place_of cache.dfas k ≡ Some p → slice_get cache.runs.items p.dfa ≡ None → A
+pub no-run : {A : Type 0} (cache : Cache) (k : ℕ) (t : Told) (p : Place) → told cache k ≡ Some t → place_for cache.dfas k ≡ Some p → slice_get cache.runs.items p.dfa ≡ None → A
 no-run cache k t p is spot none =
-    let it : IsTold (member_of cache.dfas k) cache.dfas.list.items cache.runs.items (place_of cache.dfas k) t = told-open cache k t is in
+    let it : IsTold (member_of cache.dfas k) cache.dfas.list.items cache.runs.items (place_for cache.dfas k) t = told-open cache k t is in
     let at : it.at ≡ p = some-same it.at p (sym it.at_is ∙ spot) in
     let there : slice_get cache.runs.items p.dfa ≡ Some it.run = subst (λ (q : Place). slice_get cache.runs.items q.dfa ≡ Some it.run) at it.run_is in
     absurd (by (slice_get cache.runs.items p.dfa) it.run none there)
@@ -137,9 +136,9 @@ no-run cache k t p is spot none =
     by : (o : Option Run) (x : Run) → o ≡ None → o ≡ Some x → ⊥
     by o x n s = absurd (cc)
 
-pub no-dfa : {A : Type 0} (cache : Cache) (k : ℕ) (t : Told) (p : Place) → told cache k ≡ Some t → place_of cache.dfas k ≡ Some p → slice_get cache.dfas.list.items p.dfa ≡ None → A
+pub no-dfa : {A : Type 0} (cache : Cache) (k : ℕ) (t : Told) (p : Place) → told cache k ≡ Some t → place_for cache.dfas k ≡ Some p → slice_get cache.dfas.list.items p.dfa ≡ None → A
 no-dfa cache k t p is spot none =
-    let it : IsTold (member_of cache.dfas k) cache.dfas.list.items cache.runs.items (place_of cache.dfas k) t = told-open cache k t is in
+    let it : IsTold (member_of cache.dfas k) cache.dfas.list.items cache.runs.items (place_for cache.dfas k) t = told-open cache k t is in
     let at : it.at ≡ p = some-same it.at p (sym it.at_is ∙ spot) in
     let there : slice_get cache.dfas.list.items p.dfa ≡ Some it.dfa = subst (λ (q : Place). slice_get cache.dfas.list.items q.dfa ≡ Some it.dfa) at it.dfa_is in
     absurd (by (slice_get cache.dfas.list.items p.dfa) it.dfa none there)
@@ -158,9 +157,9 @@ images-set fn runs at old new low is image same i run there = elim (get-set runs
 
 module _ {E : Type 0} (meaning : E → Meaning) (engines : List E) where
   pub sound-set : (list : List LazyDfa) (at : ℕ) (new : LazyDfa) → at < length list →
-      IsSound meaning engines new.members.items new.states.items new.rows.items new.ends.items → AreAllSound meaning engines list → AreAllSound meaning engines (set list at new)
+      IsDfaSound meaning engines new.members.items new.states.items new.rows.items new.ends.items → AreAllSound meaning engines list → AreAllSound meaning engines (set list at new)
   sound-set list at new low one all i dfa is = elim (get-set list at new i dfa low is) [
-    | inl (here, what) ↦ subst (λ (x : LazyDfa). IsSound meaning engines x.members.items x.states.items x.rows.items x.ends.items) (sym what) one
+    | inl (here, what) ↦ subst (λ (x : LazyDfa). IsDfaSound meaning engines x.members.items x.states.items x.rows.items x.ends.items) (sym what) one
     | inr (other, was) ↦ all i dfa was
   ]
 
@@ -175,13 +174,13 @@ module _ {E : Type 0} (meaning : E → Meaning) (engines : List E) where
       AreAllSound meaning engines cache'.dfas.list.items → AreSameImages cache.runs.items cache'.runs.items → AreTaken cache'.dfas.list.items cache'.runs.items prev bytes →
       EachIndex bytes (λ i. slice_index bytes i < 256) → (k : ℕ) (t : Told) (e : E) → told cache' k ≡ Some t → slice_get engines t.engine ≡ Some e → TellsRun (meaning e) (loaded cache k) prev bytes t
   run-told cache cache' prev bytes places same sound images taken small k t e is there =
-      let it : IsTold (member_of cache'.dfas k) cache'.dfas.list.items cache'.runs.items (place_of cache'.dfas k) t = told-open cache' k t is in
-      let by : member_by cache'.dfas.list.items (place_of cache'.dfas k) ≡ Some it.of = own-is k (member_by cache'.dfas.list.items (place_of cache'.dfas k)) it.of it.of_is in
+      let it : IsTold (member_of cache'.dfas k) cache'.dfas.list.items cache'.runs.items (place_for cache'.dfas k) t = told-open cache' k t is in
+      let by : member_by cache'.dfas.list.items (place_for cache'.dfas k) ≡ Some it.of = own-is k (member_by cache'.dfas.list.items (place_for cache'.dfas k)) it.of it.of_is in
       let of : slice_get it.dfa.members.items it.at.member ≡ Some it.of = member-at cache'.dfas.list.items it.at it.dfa it.of it.dfa_is (subst (λ o. member_by cache'.dfas.list.items o ≡ Some it.of) it.at_is by) in
       let engine : it.of.engine ≡ t.engine = ap (λ (x : Told). x.engine) it.told_is in
       let prior : (before : Run) × (slice_get cache.runs.items it.at.dfa ≡ Some before) × (it.run.image ≡ before.image) = images it.at.dfa it.run it.run_is in
       let items : cache'.dfas.places.items ≡ cache.dfas.places.items = ap (λ v. v.items) places in
-      let spot : place_of cache.dfas k ≡ Some it.at = sym (ap (λ l. place_in (slice_get l k)) items) ∙ it.at_is in
+      let spot : place_for cache.dfas k ≡ Some it.at = sym (ap (λ l. place_in (slice_get l k)) items) ∙ it.at_is in
       let from : loaded cache k ≡ part it.run.image it.of = loaded-is cache k it.of it.at prior.0 (sym (same k) ∙ it.of_is) spot prior.1 ∙ ap (λ i. part i it.of) (sym prior.2) in
       subst (λ old. TellsRun (meaning e) old prev bytes t) (sym from)
       (subst (λ (x : Told). TellsRun (meaning e) (part it.run.image it.of) prev bytes x) it.told_is
@@ -190,7 +189,7 @@ module _ {E : Type 0} (meaning : E → Meaning) (engines : List E) where
 
 pub run-of : (cache cache' : Cache) → ((k : ℕ) → member_of cache'.dfas k ≡ member_of cache.dfas k) → (k : ℕ) (t : Told) → told cache' k ≡ Some t → engine_at cache.dfas k ≡ Some t.engine
 run-of cache cache' same k t is =
-    let it : IsTold (member_of cache'.dfas k) cache'.dfas.list.items cache'.runs.items (place_of cache'.dfas k) t = told-open cache' k t is in
+    let it : IsTold (member_of cache'.dfas k) cache'.dfas.list.items cache'.runs.items (place_for cache'.dfas k) t = told-open cache' k t is in
     engine-of cache.dfas k it.of (sym (same k) ∙ it.of_is) ∙ ap Some (ap (λ (x : Told). x.engine) it.told_is)
 
 decide-by : (d : Option LazyDfa) (r : Option Run) (m : Member) (n : ℕ) (b : Bool) → b ≡ done_by d r →
@@ -235,7 +234,7 @@ decide-by (Some dfa) (Some run) m n b is = elim (cases_lt run.state (length dfa.
         cc-by e f = absurd (cc)
     high-by false high is = ap (λ o. told_of o run n m) (slice_get_past dfa.states.items run.state high)
 
-pub told-decides : (cache : Cache) (k : ℕ) (m : Member) (p : Place) (b : Bool) → member_of cache.dfas k ≡ Some m → place_of cache.dfas k ≡ Some p →
+pub told-decides : (cache : Cache) (k : ℕ) (m : Member) (p : Place) (b : Bool) → member_of cache.dfas k ≡ Some m → place_for cache.dfas k ≡ Some p →
     b ≡ is_done_at cache.dfas.list.items cache.runs.items p → MatchBool b ((t : Told) × (told cache k ≡ Some t)) (told cache k ≡ None)
 unfolding told
 told-decides cache k m p b own spot is =
@@ -243,11 +242,11 @@ told-decides cache k m p b own spot is =
     (subst (λ o. MatchBool b ((t : Told) × (told_by o (slice_get cache.dfas.list.items p.dfa) (slice_get cache.runs.items p.dfa) p.member ≡ Some t)) (told_by o (slice_get cache.dfas.list.items p.dfa) (slice_get cache.runs.items p.dfa) p.member ≡ None)) (sym own)
     (decide-by (slice_get cache.dfas.list.items p.dfa) (slice_get cache.runs.items p.dfa) m p.member b is))
 
-pub told-nowhere : (cache : Cache) (k : ℕ) → place_of cache.dfas k ≡ None → told cache k ≡ None
+pub told-nowhere : (cache : Cache) (k : ℕ) → place_for cache.dfas k ≡ None → told cache k ≡ None
 unfolding told
 told-nowhere cache k none = ap (λ o. told_at (member_of cache.dfas k) cache.dfas.list.items cache.runs.items o) none
 
-pub told-nobody : (cache : Cache) (k : ℕ) (p : Place) → place_of cache.dfas k ≡ Some p → member_of cache.dfas k ≡ None → told cache k ≡ None
+pub told-nobody : (cache : Cache) (k : ℕ) (p : Place) → place_for cache.dfas k ≡ Some p → member_of cache.dfas k ≡ None → told cache k ≡ None
 unfolding told
 told-nobody cache k p spot none =
     ap (λ o. told_at (member_of cache.dfas k) cache.dfas.list.items cache.runs.items o) spot ∙
@@ -270,7 +269,7 @@ same-range xs ys a b same = omega (arith, same, length-take (b - a) (drop a xs),
 
 pub loaded-zero : (cache : Cache) → ((i : ℕ) (run : Run) → slice_get cache.runs.items i ≡ Some run → AreZero run.image) → (k : ℕ) → AreZero (loaded cache k)
 unfolding loaded
-loaded-zero cache zeros k = by (member_of cache.dfas k) (place_of cache.dfas k)
+loaded-zero cache zeros k = by (member_of cache.dfas k) (place_for cache.dfas k)
   where
     by-run : (m : Member) (i : ℕ) (o : Option Run) → slice_get cache.runs.items i ≡ o → AreZero (loaded_by (Some m) o)
     by-run m i None is = λ j low. absurd (omega (arith, low))
@@ -286,7 +285,7 @@ pub loaded-sized : (cache cache' : Cache) → cache'.dfas ≡ cache.dfas → len
     (k : ℕ) → length (loaded cache' k) ≡ length (loaded cache k)
 unfolding loaded
 loaded-sized cache cache' same count sized k =
-    ap (λ (d : Dfas). length (loaded_by (member_of d k) (run_at cache'.runs.items (place_of d k)))) same ∙ by (member_of cache.dfas k) (place_of cache.dfas k)
+    ap (λ (d : Dfas). length (loaded_by (member_of d k) (run_at cache'.runs.items (place_for d k)))) same ∙ by (member_of cache.dfas k) (place_for cache.dfas k)
   where
     by-run : (m : Member) (i : ℕ) (o : Option Run) → slice_get cache'.runs.items i ≡ o → length (loaded_by (Some m) o) ≡ length (loaded_by (Some m) (slice_get cache.runs.items i))
     by-run m i (Some run) is =
@@ -309,7 +308,7 @@ loaded-sized cache cache' same count sized k =
     by (Some m) None = refl
     by (Some m) (Some p) = by-run m p.dfa (slice_get cache'.runs.items p.dfa) refl
 
-pub engine-nowhere : (d : Dfas) (k : ℕ) → place_of d k ≡ None → engine_at d k ≡ None
+pub engine-nowhere : (d : Dfas) (k : ℕ) → place_for d k ≡ None → engine_at d k ≡ None
 unfolding engine_at
 engine-nowhere d k none = ap (λ o. engine_in (own_member k (member_by d.list.items o))) none
 
@@ -337,11 +336,11 @@ member-dfa list p m is = by (slice_get list p.dfa) refl is
     by None d own = absurd (cc)
     by (Some dfa) d own = (dfa, d, own)
 
-pub told-member : (cache : Cache) (k : ℕ) (t : Told) (p : Place) (dfa : LazyDfa) (m : Member) → told cache k ≡ Some t → place_of cache.dfas k ≡ Some p →
+pub told-member : (cache : Cache) (k : ℕ) (t : Told) (p : Place) (dfa : LazyDfa) (m : Member) → told cache k ≡ Some t → place_for cache.dfas k ≡ Some p →
     slice_get cache.dfas.list.items p.dfa ≡ Some dfa → slice_get dfa.members.items p.member ≡ Some m → member_of cache.dfas k ≡ Some m
 told-member cache k t p dfa m is spot d there =
-    let it : IsTold (member_of cache.dfas k) cache.dfas.list.items cache.runs.items (place_of cache.dfas k) t = told-open cache k t is in
-    let by : member_by cache.dfas.list.items (place_of cache.dfas k) ≡ Some it.of = own-is k (member_by cache.dfas.list.items (place_of cache.dfas k)) it.of it.of_is in
+    let it : IsTold (member_of cache.dfas k) cache.dfas.list.items cache.runs.items (place_for cache.dfas k) t = told-open cache k t is in
+    let by : member_by cache.dfas.list.items (place_for cache.dfas k) ≡ Some it.of = own-is k (member_by cache.dfas.list.items (place_for cache.dfas k)) it.of it.of_is in
     let of : slice_get dfa.members.items p.member ≡ Some it.of = member-at cache.dfas.list.items p dfa it.of d (subst (λ o. member_by cache.dfas.list.items o ≡ Some it.of) spot by) in
     it.of_is ∙ (sym of ∙ there)
 
@@ -361,15 +360,15 @@ asleep-silent t dfa run k it asleep = record {
 
 -- the regions of the other numbers stay where one is loaded
 module _ (cache cache' : Cache) (n : ℕ) (m : Member) (p : Place) (old new : Run) (same : cache'.dfas ≡ cache.dfas)
-    (own : member_of cache.dfas n ≡ Some m) (spot : place_of cache.dfas n ≡ Some p) (low : p.dfa < length cache.runs.items)
+    (own : member_of cache.dfas n ≡ Some m) (spot : place_for cache.dfas n ≡ Some p) (low : p.dfa < length cache.runs.items)
     (was : slice_get cache.runs.items p.dfa ≡ Some old) (now : cache'.runs.items ≡ set cache.runs.items p.dfa new)
     (others : (other : Member) → IsBeside m other → part new.image other ≡ part old.image other) where
-  other-beside : (k : ℕ) (m' : Member) (p' : Place) → (k ≡ n → ⊥) → member_of cache.dfas k ≡ Some m' → place_of cache.dfas k ≡ Some p' → p'.dfa ≡ p.dfa → IsBeside m m'
+  other-beside : (k : ℕ) (m' : Member) (p' : Place) → (k ≡ n → ⊥) → member_of cache.dfas k ≡ Some m' → place_for cache.dfas k ≡ Some p' → p'.dfa ≡ p.dfa → IsBeside m m'
   other-beside k m' p' away own' spot' here =
       let a : (dfa : LazyDfa) × (slice_get cache.dfas.list.items p.dfa ≡ Some dfa) × (slice_get dfa.members.items p.member ≡ Some m) =
-      member-dfa cache.dfas.list.items p m (subst (λ o. member_by cache.dfas.list.items o ≡ Some m) spot (own-is n (member_by cache.dfas.list.items (place_of cache.dfas n)) m own)) in
+      member-dfa cache.dfas.list.items p m (subst (λ o. member_by cache.dfas.list.items o ≡ Some m) spot (own-is n (member_by cache.dfas.list.items (place_for cache.dfas n)) m own)) in
       let b : (dfa : LazyDfa) × (slice_get cache.dfas.list.items p'.dfa ≡ Some dfa) × (slice_get dfa.members.items p'.member ≡ Some m') =
-      member-dfa cache.dfas.list.items p' m' (subst (λ o. member_by cache.dfas.list.items o ≡ Some m') spot' (own-is k (member_by cache.dfas.list.items (place_of cache.dfas k)) m' own')) in
+      member-dfa cache.dfas.list.items p' m' (subst (λ o. member_by cache.dfas.list.items o ≡ Some m') spot' (own-is k (member_by cache.dfas.list.items (place_for cache.dfas k)) m' own')) in
       let one : b.0 ≡ a.0 = some-same b.0 a.0 (sym b.1 ∙ (ap (slice_get cache.dfas.list.items) here ∙ a.1)) in
       let there : slice_get a.0.members.items p'.member ≡ Some m' = subst (λ (d : LazyDfa). slice_get d.members.items p'.member ≡ Some m') one b.2 in
       elim (cases_lt p'.member p.member) [
@@ -377,7 +376,7 @@ module _ (cache cache' : Cache) (n : ℕ) (m : Member) (p : Place) (old new : Ru
         | inr more ↦ elim (cases_eq p'.member p.member) [
           | inl equal ↦
               let alike : m' ≡ m = some-same m' m (sym there ∙ (ap (slice_get a.0.members.items) equal ∙ a.2)) in
-              absurd (away (sym (own-number k (member_by cache.dfas.list.items (place_of cache.dfas k)) m' own') ∙ (ap (λ (x : Member). x.number) alike ∙ own-number n (member_by cache.dfas.list.items (place_of cache.dfas n)) m own)))
+              absurd (away (sym (own-number k (member_by cache.dfas.list.items (place_for cache.dfas k)) m' own') ∙ (ap (λ (x : Member). x.number) alike ∙ own-number n (member_by cache.dfas.list.items (place_for cache.dfas n)) m own)))
           | inr other ↦ beside-back a.0.members.items p.member p'.member m m' a.0.apart a.2 there (omega (arith, more, other))
         ]
       ]
@@ -385,9 +384,9 @@ module _ (cache cache' : Cache) (n : ℕ) (m : Member) (p : Place) (old new : Ru
   pub loaded-others : (k : ℕ) → (k ≡ n → ⊥) → loaded cache' k ≡ loaded cache k
   unfolding loaded
   loaded-others k away =
-      ap (λ (d : Dfas). loaded_by (member_of d k) (run_at cache'.runs.items (place_of d k))) same ∙ by (member_of cache.dfas k) (place_of cache.dfas k) refl refl
+      ap (λ (d : Dfas). loaded_by (member_of d k) (run_at cache'.runs.items (place_for d k))) same ∙ by (member_of cache.dfas k) (place_for cache.dfas k) refl refl
     where
-      by : (o : Option Member) (q : Option Place) → member_of cache.dfas k ≡ o → place_of cache.dfas k ≡ q → loaded_by o (run_at cache'.runs.items q) ≡ loaded_by o (run_at cache.runs.items q)
+      by : (o : Option Member) (q : Option Place) → member_of cache.dfas k ≡ o → place_for cache.dfas k ≡ q → loaded_by o (run_at cache'.runs.items q) ≡ loaded_by o (run_at cache.runs.items q)
       by None q a b = refl
       by (Some m') None a b = refl
       by (Some m') (Some p') a b = elim (cases_eq p'.dfa p.dfa) [
@@ -401,7 +400,7 @@ module _ (cache cache' : Cache) (n : ℕ) (m : Member) (p : Place) (old new : Ru
             ap (λ (l : List Run). loaded_by (Some m') (slice_get l p'.dfa)) now ∙ ap (λ o. loaded_by (Some m') o) (set-others cache.runs.items p.dfa new p'.dfa other)
       ]
 
-pub loaded-none : (cache : Cache) (k : ℕ) (p : Place) → place_of cache.dfas k ≡ Some p → slice_get cache.runs.items p.dfa ≡ None → loaded cache k ≡ []
+pub loaded-none : (cache : Cache) (k : ℕ) (p : Place) → place_for cache.dfas k ≡ Some p → slice_get cache.runs.items p.dfa ≡ None → loaded cache k ≡ []
 unfolding loaded
 loaded-none cache k p spot r =
     ap (λ o. loaded_by (member_of cache.dfas k) (run_at cache.runs.items o)) spot ∙ (ap (λ o. loaded_by (member_of cache.dfas k) o) r ∙ by (member_of cache.dfas k))

@@ -1,21 +1,20 @@
 -- What a cache has of each number, and what it tells of a chunk.
-use Rattle.std.specs.Prelude.{◌≡◌, ℕ, ◌<◌, Bool, true, false, List, [], Option, Some, None, length, slice_get}
+use Rattle.std.specs.Prelude.{◌≡◌, ℕ, Bool, true, false, List, [], Option, Some, None, length, slice_get}
 use Rattle.std.specs.Prelude.{slice_range, nat_lt, ◌&&◌}
 use Rattle.hs_base.specs.declared.context.Prev.{Prev}
 use Rattle.hs_base.specs.Bits.{AreZero}
 use Rattle.hs_engine.specs.Engines.{Meaning}
 use Rattle.hs_lazy.specs.declared.cache.Cache.{Cache}
-use Rattle.hs_lazy.specs.declared.cache.Dfas.{Dfas}
 use Rattle.hs_lazy.specs.declared.cache.Place.{Place}
 use Rattle.hs_lazy.specs.declared.parts.Member.{Member}
 use Rattle.hs_lazy.specs.declared.parts.Run.{Run}
 use Rattle.hs_lazy.specs.declared.parts.State.{State}
 use Rattle.hs_lazy.specs.declared.dfa.LazyDfa.{LazyDfa}
-use Rattle.hs_lazy.specs.Walks.{IsTaken}
+use Rattle.hs_lazy.specs.Walks.{IsChunkTaken}
 use Rattle.hs_lazy.specs.Ends.{left_before, left_behind}
 use Rattle.hs_lazy.specs.Parts.{part}
 use Rattle.hs_lazy.specs.Runs.{RunsThrough}
-use Rattle.hs_lazy.specs.Tables.{engine_at, member_of, place_of}
+use Rattle.hs_lazy.specs.Tables.{member_of, place_for}
 
 -- What is told of a number: the engine that runs for it, its region behind the chunk, and before and behind which of
 -- the chunk's bytes its expression is left.
@@ -37,7 +36,7 @@ loaded_by (Some member) None = []
 loaded_by (Some member) (Some run) = slice_range run.image member.start member.end
 
 unfoldable pub loaded : Cache → ℕ → List ℕ
-loaded cache k = loaded_by (member_of cache.dfas k) (run_at cache.runs.items (place_of cache.dfas k))
+loaded cache k = loaded_by (member_of cache.dfas k) (run_at cache.runs.items (place_for cache.dfas k))
 
 abbrev pub told_if : Bool → Told → Option Told
 told_if true t = Some t
@@ -84,7 +83,7 @@ told_at member list runs (Some p) = told_by member (slice_get list p.dfa) (slice
 
 -- what is told of a number, if its automaton took the chunk
 unfoldable pub told : Cache → ℕ → Option Told
-told cache k = told_at (member_of cache.dfas k) cache.dfas.list.items cache.runs.items (place_of cache.dfas k)
+told cache k = told_at (member_of cache.dfas k) cache.dfas.list.items cache.runs.items (place_for cache.dfas k)
 
 -- What is told is what the engine does, from that region on.
 pub record TellsRun (m : Meaning) (old : List ℕ) (prev : Prev) (bytes : List ℕ) (t : Told) : Type 0 where
@@ -101,10 +100,11 @@ pub record IsSilent (t : Told) : Type 0 where
 -- the images before the chunk stay
 abbrev pub AreSameImages : (old new : List Run) → Type 0
 AreSameImages old new =
-    (i : ℕ) (run : Run) → slice_get new i ≡ Some run → (before : Run) × (slice_get old i ≡ Some before) × (run.image ≡ before.image)
+    (i : ℕ) (run : Run) → slice_get new i ≡ Some run →
+    (before : Run) × (slice_get old i ≡ Some before) × (run.image ≡ before.image)
 
 -- each automaton that is told to have taken the chunk did
 abbrev pub AreTaken : List LazyDfa → List Run → Prev → (bytes : List ℕ) → Type 0
 AreTaken list runs prev bytes =
     (i : ℕ) (dfa : LazyDfa) (run : Run) → slice_get list i ≡ Some dfa → slice_get runs i ≡ Some run →
-    run.is_done ≡ true → IsTaken dfa.states.items dfa.rows.items dfa.ends.items run prev bytes
+    run.is_done ≡ true → IsChunkTaken dfa.states.items dfa.rows.items dfa.ends.items run prev bytes

@@ -1,5 +1,6 @@
 -- Where the members of an automaton are left in a chunk.
-use Rattle.std.specs.Prelude.{◌≡◌, ℕ, ◌<◌, Bool, false, ◌&&◌, nat_lt, List, Option, Some, None, length, slice_get, slice_index}
+use Rattle.std.specs.Prelude.{◌≡◌, ℕ, ◌<◌, Bool, false, ◌&&◌, nat_lt}
+use Rattle.std.specs.Prelude.{List, Option, Some, None, length, slice_get, slice_index}
 use Rattle.hs_base.specs.Bits.{has_word_bit}
 use Rattle.hs_lazy.specs.declared.cache.ToldEnds.{ToldEnds}
 use Rattle.hs_lazy.specs.declared.parts.EndSet.{EndSet}
@@ -26,7 +27,7 @@ abbrev pub left_behind : (rows : List ToldEnds) (member i : ℕ) → Bool
 left_behind rows m i = row_behind (slice_get rows m) i
 
 -- The table has just the ends of so many steps of a trace.
-pub record AreEndsOf (sets : List EndSet) (trace : List ℕ) (count : ℕ) (rows : List ToldEnds) : Type 0 where
+pub record AreTraceEnds (sets : List EndSet) (trace : List ℕ) (count : ℕ) (rows : List ToldEnds) : Type 0 where
   pub before : (m i : ℕ) → m < 256 →
       left_before rows m i ≡ (nat_lt i count && before_of (set_of sets (ends_of (slice_index trace i))) m)
   pub behind : (m i : ℕ) → m < 256 →

@@ -1,6 +1,6 @@
 -- What the parts of an automaton are, and how its tables are read.
-use Rattle.std.specs.Prelude.{◌≡◌, ℕ, zero, suc, ◌+◌, ◌*◌, ◌/◌, ◌%◌, ◌-◌, ◌<◌, ◌≤◌, Bool, false, List, [], Option, Some, None}
-use Rattle.std.specs.Prelude.{length, slice_get, slice_index, slice_range}
+use Rattle.std.specs.Prelude.{◌≡◌, ℕ, zero, suc, ◌+◌, ◌*◌, ◌/◌, ◌%◌, ◌-◌, ◌<◌, ◌≤◌, Bool, false}
+use Rattle.std.specs.Prelude.{List, Option, Some, None, length, slice_get, slice_index, slice_range}
 use Rattle.hs_base.specs.declared.context.Prev.{Prev}
 use Rattle.hs_base.specs.Bits.{AreZero, has_word_bit}
 use Rattle.hs_lazy.specs.declared.parts.Member.{Member}
@@ -12,7 +12,7 @@ abbrev pub part : List ℕ → Member → List ℕ
 part image m = slice_range image m.start m.end
 
 -- the regions of the members lie one behind the other, within an image
-pub record AreApart (members : List Member) : Type 0 where
+pub record AreMembersApart (members : List Member) : Type 0 where
   pub rising : (k : ℕ) (m : Member) → slice_get members k ≡ Some m → m.start ≤ m.end
   pub within : (k : ℕ) (m : Member) → slice_get members k ≡ Some m → m.end ≤ 512
   pub in_turn : (j k : ℕ) (a b : Member) → j < k → slice_get members j ≡ Some a → slice_get members k ≡ Some b →
@@ -24,13 +24,13 @@ IsLive members image live =
     (k : ℕ) (m : Member) → slice_get members k ≡ Some m → has_word_bit live k ≡ false → AreZero (part image m)
 
 -- Each state has an image and bits of their sizes, by which a member without its bit has nothing live.
-pub record IsWhole (members : List Member) (st : State) : Type 0 where
+pub record IsStateWhole (members : List Member) (st : State) : Type 0 where
   pub image_len : length st.image ≡ 512
   pub live_len : length st.live ≡ 4
   pub live : IsLive members st.image st.live
 
 abbrev pub AreLive : (members : List Member) (states : List State) → Type 0
-AreLive members states = (s : ℕ) (st : State) → slice_get states s ≡ Some st → IsWhole members st
+AreLive members states = (s : ℕ) (st : State) → slice_get states s ≡ Some st → IsStateWhole members st
 
 -- the step of a state by a byte: 0 where it isn't known
 abbrev pub entry : (rows : List ℕ) (s b : ℕ) → ℕ
@@ -67,8 +67,8 @@ behind_of None k = false
 behind_of (Some set) k = has_word_bit set.behind k
 
 -- these states are there still
-abbrev pub AreKept : {A : Type 0} → (old new : List A) → Type 0
-AreKept {A = A} old new = (i : ℕ) (x : A) → slice_get old i ≡ Some x → slice_get new i ≡ Some x
+abbrev pub AreStillThere : {A : Type 0} → (old new : List A) → Type 0
+AreStillThere {A = A} old new = (i : ℕ) (x : A) → slice_get old i ≡ Some x → slice_get new i ≡ Some x
 
 -- the state of that number has that image, and that stands before the next byte
 pub record IsState (states : List State) (s : ℕ) (image : List ℕ) (prev : Prev) : Type 0 where
@@ -82,7 +82,7 @@ abbrev pub AreStepsKept : (old new : List ℕ) → Type 0
 AreStepsKept old new = (k : ℕ) → (slice_index old k ≡ 0 → ⊥) → slice_index new k ≡ slice_index old k
 
 -- the step is known, and that
-pub record IsMade (rows : List ℕ) (s b step : ℕ) : Type 0 where
+pub record IsStepMade (rows : List ℕ) (s b step : ℕ) : Type 0 where
   pub is : step ≡ entry rows s b
   pub known : step ≡ 0 → ⊥
 

@@ -1,4 +1,4 @@
--- What bytes make of an engine's region wherever its stream stands, where its expression is entered before each of them.
+-- What bytes make of an engine's region wherever its stream stands, where the expression is entered before each.
 use Rattle.std.specs.Prelude.{◌≡◌, ◌↔◌, ℕ, ◌+◌, ◌<◌, Bool, true, false, List, [], ◌∷◌, ◌++◌, length, replicate, take}
 use Rattle.std.specs.Prelude.{Some, slice_get, slice_index}
 use Rattle.hs_base.specs.declared.context.Next.TheVariants as after
@@ -36,7 +36,7 @@ pub record TakesEntered (m : Meaning) (old new : List ℕ) (prev : Prev) (byte :
   pub runs : RunsThrough m old new prev (byte ∷ []) (λ i. ends.before) (λ i. ends.behind)
 
 -- The region of each engine in which all bytes are 0 is that of the empty stream, and may stand at any offset.
-pub record IsBlank (m : Meaning) (region : List ℕ) : Type 0 where
+pub record IsBlankRegion (m : Meaning) (region : List ℕ) : Type 0 where
   pub starts : IsStart m region
   pub well : (at : ℕ) → m.well region at
 
@@ -47,4 +47,4 @@ AreZerosBlank {E = E} meaning engines =
     (meaning e).always ≡ false →
     length region ≡ (meaning e).width →
     AreZero region →
-    IsBlank (meaning e) region
+    IsBlankRegion (meaning e) region

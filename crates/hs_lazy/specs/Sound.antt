@@ -35,8 +35,8 @@ pub record IsStep {E : Type 0} (meaning : E → Meaning) (engines : List E) (mem
       (behind_of (set_of ends (ends_of step)))
 
 -- All known steps are.
-pub record IsSound {E : Type 0} (meaning : E → Meaning) (engines : List E) (members : List Member) (states : List State)
-    (rows : List ℕ) (ends : List EndSet) : Type 0 where
+pub record IsDfaSound {E : Type 0} (meaning : E → Meaning) (engines : List E) (members : List Member)
+    (states : List State) (rows : List ℕ) (ends : List EndSet) : Type 0 where
   pub of : AreMembersOf meaning engines members
   pub steps : (s b : ℕ) (old : State) → slice_get states s ≡ Some old → b < 256 → (entry rows s b ≡ 0 → ⊥) →
       IsStep meaning engines members states ends old b (entry rows s b)

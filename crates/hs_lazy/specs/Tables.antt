@@ -1,8 +1,9 @@
 -- What the states of a cache are of.
-use Rattle.std.specs.Prelude.{◌≡◌, ℕ, ◌<◌, ◌≤◌, ◌-◌, false, List, Option, Some, None, length, slice_get, slice_range, if◌then◌else◌, ◌==◌}
+use Rattle.std.specs.Prelude.{◌≡◌, ℕ, ◌<◌, false, if◌then◌else◌, ◌==◌}
+use Rattle.std.specs.Prelude.{List, Option, Some, None, length, slice_get}
 use Rattle.std.proofs.Math.ListN.{set}
 use Rattle.hs_engine.specs.Engines.{Meaning}
-use Rattle.hs_lazy.specs.Sound.{IsSound}
+use Rattle.hs_lazy.specs.Sound.{IsDfaSound}
 use Rattle.hs_lazy.specs.Members.{IsTakenIn}
 use Rattle.hs_lazy.specs.declared.cache.Dfas.{Dfas}
 use Rattle.hs_lazy.specs.declared.cache.Place.{Place}
@@ -23,8 +24,8 @@ abbrev pub place_in : Option (Option Place) → Option Place
 place_in None = None
 place_in (Some place) = place
 
-abbrev pub place_of : Dfas → ℕ → Option Place
-place_of d k = place_in (slice_get d.places.items k)
+abbrev pub place_for : Dfas → ℕ → Option Place
+place_for d k = place_in (slice_get d.places.items k)
 
 -- the member, if it is of that number
 abbrev pub own_member : ℕ → Option Member → Option Member
@@ -32,7 +33,7 @@ own_member k None = None
 own_member k (Some member) = if member.number == k then Some member else None
 
 abbrev pub member_of : Dfas → ℕ → Option Member
-member_of d k = own_member k (member_by d.list.items (place_of d k))
+member_of d k = own_member k (member_by d.list.items (place_for d k))
 
 abbrev pub engine_in : Option Member → Option ℕ
 engine_in None = None
@@ -46,7 +47,7 @@ engine_at d k = engine_in (member_of d k)
 abbrev pub AreAllSound : {E : Type 0} → (E → Meaning) → (engines : List E) → List LazyDfa → Type 0
 AreAllSound meaning engines list =
     (i : ℕ) (dfa : LazyDfa) → slice_get list i ≡ Some dfa →
-    IsSound meaning engines dfa.members.items dfa.states.items dfa.rows.items dfa.ends.items
+    IsDfaSound meaning engines dfa.members.items dfa.states.items dfa.rows.items dfa.ends.items
 
 -- One automaton more runs for the number, or all is as before.
 pub data IsPut (old new : Dfas) (number engine size : ℕ) : Type 0 where

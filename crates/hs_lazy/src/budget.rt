@@ -1,9 +1,10 @@
-//! What may be spent on steps that aren't known yet. Nothing hangs on it but speed.
+//! What may be spent on steps that aren't known yet. Nothing hangs on it but speed: what an automaton doesn't tell, the
+//! engines do.
 
 ghost use Rattle.std.specs.Prelude.{◌≡◌, nat_le, nat_lt};
 
 /// How many engines may be asked for a byte at first.
-const FIRST_CREDIT: u32 = 16384;
+const FIRST_CREDIT: u32 = 8192;
 
 /// How many after each rest.
 const LATER_CREDIT: u32 = 2048;
@@ -12,7 +13,7 @@ const LATER_CREDIT: u32 = 2048;
 const CHUNK_CREDIT: u32 = 16;
 
 /// How many at most.
-const MOST_CREDIT: u32 = 16384;
+const MOST_CREDIT: u32 = 8192;
 
 /// For how many chunks an automaton rests at first.
 const FIRST_REST: u32 = 256;

@@ -31,11 +31,11 @@ pub struct Dfas {
 
 impl Dfas {
     ghost use Rattle.std.specs.Prelude.{◌≡◌, ◌≤◌};
-    ghost use Rattle.hs_lazy.specs.Tables.{IsPut, member_of, place_of};
+    ghost use Rattle.hs_lazy.specs.Tables.{IsPut, member_of, place_for};
 
     /// The place of a number, if it has one.
     pub(crate) fn place(&self, number: usize) -> Option<Place>
-        ensures { result ≡ place_of self.now number }
+        ensures { result ≡ place_for self.now number }
     {
         match self.places.get(number) {
             Some(place) => *place,
@@ -129,11 +129,12 @@ pub struct Cache {
 }
 
 impl Cache {
-    ghost use Rattle.std.specs.Prelude.{◌^◌, ◌<◌, ◌≤◌, ℕ, ◌*◌, IfOk, MatchBool, None, Some, false, length, slice_get, true};
+    ghost use Rattle.std.specs.Prelude.{◌^◌, ◌<◌, ◌≤◌, ℕ, ◌*◌, false, true, length};
+    ghost use Rattle.std.specs.Prelude.{IfOk, MatchBool, None, Some, slice_get};
     ghost use Rattle.hs_base.specs.Bits.{AreZero, has_word_bit};
     ghost use Rattle.hs_lazy.specs.Caches.{IsSilent, TellsRun, Told, is_done_at, loaded, told};
     ghost use Rattle.hs_lazy.specs.Runs.{AreZerosBlank};
-    ghost use Rattle.hs_lazy.specs.Tables.{AreDfasOf, engine_at, member_of, place_of};
+    ghost use Rattle.hs_lazy.specs.Tables.{AreDfasOf, engine_at, member_of, place_for};
     ghost use Rattle.hs_lazy.specs.declared.parts.Member.{Member};
     ghost use Rattle.hs_lazy.specs.declared.cache.Place.{Place};
     ghost use Rattle.hs_reports.specs.Marks.{is_marked, mark_room};
@@ -347,7 +348,7 @@ impl Cache {
         ensures kept { (k : ℕ) → is_marked marks.old k ≡ true → is_marked marks.new k ≡ true }
         ensures own { (k : ℕ) → is_marked marks.new k ≡ true → (is_marked marks.old k ≡ false) →
             (n : ℕ) × (engine_at self.now.dfas k ≡ Some n) }
-        ensures silent { (k : ℕ) (t : Told) (p : Place) → place_of self.now.dfas k ≡ Some p → p.dfa ≡ at →
+        ensures silent { (k : ℕ) (t : Told) (p : Place) → place_for self.now.dfas k ≡ Some p → p.dfa ≡ at →
             told self.now k ≡ Some t → is_marked marks.new k ≡ false → IsSilent t }
     {
         let Some(dfa) = self.dfas.list.get(at) else {

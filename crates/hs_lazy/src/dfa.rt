@@ -1,16 +1,14 @@
 //! One automaton over the regions of some engines.
 
 ghost use Rattle.std.specs.Prelude.{◌≡◌, ◌<◌, ◌≤◌, ℕ, IfSome, length, slice_index, vec_capacity};
-ghost use Rattle.hs_lazy.specs.Parts.{AreApart, AreLeading, AreLive, AreUnknownFrom, IsLive};
+ghost use Rattle.hs_lazy.specs.Parts.{AreMembersApart, AreLeading, AreLive, AreUnknownFrom, IsLive};
 ghost use Rattle.hs_lazy.specs.Walks.{state_before};
 
 use crate::budget::Budget;
 use crate::end_table::EndTable;
 use crate::parts::{EndSet, IMAGE_BYTES, MEMBER_WORDS, Member, Run, State};
 use hs_base::Prev;
-use hs_bits::{
-    clear_words, is_unset, is_zero, unite_words, word_at, write_word_bit,
-};
+use hs_bits::{clear_words, is_unset, is_zero, unite_words, word_at, write_word_bit};
 use std::alloc::{AllocError, Global};
 
 /// How many engines an automaton has at most.
@@ -34,8 +32,8 @@ const SLOT_COUNT: usize = 4 * MAX_STATES;
 /// How many slots are looked at for a state.
 const MAX_PROBES: usize = 8;
 
-/// An odd number with as many set bits as not, by which images are mixed.
-const MIXER: u64 = 0x9E37_79B9_7F4A_7C15;
+/// An odd number with about as many set bits as not, by which images are mixed.
+const IMAGE_MIXER: u64 = 0xD6E8_FEB8_6659_FD93;
 
 /// An automaton over the regions of its members, one behind the other: an image. Its states are images with what stands
 /// before the next byte.
@@ -54,7 +52,7 @@ pub struct LazyDfa {
     pub slots: Vec<u16>,
     /// What may be spent on steps that aren't known yet.
     pub budget: Budget,
-    ghost apart: { AreApart members.items },
+    ghost apart: { AreMembersApart members.items },
     ghost few: { length members.items ≤ 256 },
     ghost states_few: { length states.items ≤ 1024 },
     ghost states_room: { 1024 ≤ vec_capacity states },
@@ -69,13 +67,15 @@ pub struct LazyDfa {
 }
 
 impl LazyDfa {
-    ghost use Rattle.std.specs.Prelude.{◌≡◌, ◌+◌, ◌*◌, ◌<◌, ◌≤◌, ℕ, [], IfOk, IfSome, MatchOption, Some, None, true, false, length, slice_get, slice_index, slice_set};
+    ghost use Rattle.std.specs.Prelude.{◌≡◌, ◌+◌, ◌*◌, ◌<◌, ◌≤◌, ℕ, [], true, false, length};
+    ghost use Rattle.std.specs.Prelude.{IfOk, IfSome, MatchOption, Some, None, slice_get, slice_index, slice_set};
     ghost use Rattle.hs_base.specs.Bits.{AreZero, has_word_bit};
-    ghost use Rattle.hs_lazy.specs.Parts.{AreKept, AreUnknownFrom, IsLive, IsState, IsStepTo, ends_of, entry, next_of, set_of};
+    ghost use Rattle.hs_lazy.specs.Parts.{AreStillThere, AreUnknownFrom, IsLive, IsState, IsStepTo};
+    ghost use Rattle.hs_lazy.specs.Parts.{ends_of, entry, next_of, set_of};
     ghost use Rattle.hs_lazy.specs.Walks.{IsWalk, state_before};
     ghost use Rattle.hs_lazy.specs.declared.parts.Member.{Member};
     ghost use Rattle.hs_lazy.specs.declared.parts.State.{State};
-    ghost use Rattle.hs_lazy.specs.Ends.{AreEndsOf};
+    ghost use Rattle.hs_lazy.specs.Ends.{AreTraceEnds};
     ghost use Rattle.hs_lazy.specs.Members.{IsAsleepIn, IsTakenIn};
     ghost use Rattle.hs_lazy.specs.Images.{IsSameSets, part_at};
 
@@ -114,7 +114,7 @@ impl LazyDfa {
         ensures members { self.new.members ≡ self.old.members }
         ensures rows { self.new.rows ≡ self.old.rows }
         ensures ends { self.new.ends ≡ self.old.ends }
-        ensures states { AreKept self.old.states.items self.new.states.items }
+        ensures states { AreStillThere self.old.states.items self.new.states.items }
         ensures found { IfSome result (λ s. IsState self.new.states.items s image.now prev) }
     {
         let hash = hash_of(image, prev);
@@ -158,7 +158,7 @@ impl LazyDfa {
         ensures members { self.new.members ≡ self.old.members }
         ensures rows { self.new.rows ≡ self.old.rows }
         ensures ends { self.new.ends ≡ self.old.ends }
-        ensures states { AreKept self.old.states.items self.new.states.items }
+        ensures states { AreStillThere self.old.states.items self.new.states.items }
         ensures found { IfSome result (λ s. IsState self.new.states.items s image.now prev) }
     {
         let number = self.states.len();
@@ -185,7 +185,7 @@ impl LazyDfa {
         ensures members { self.new.members ≡ self.old.members }
         ensures rows { self.new.rows ≡ self.old.rows }
         ensures states { self.new.states ≡ self.old.states }
-        ensures ends { AreKept self.old.ends.items self.new.ends.items }
+        ensures ends { AreStillThere self.old.ends.items self.new.ends.items }
         ensures within { IfSome result (λ n. n ≤ length self.new.ends.items) }
         ensures few { IfSome result (λ n. n ≤ 4096) }
         ensures same { IfSome result (λ n. IsSameSets (set_of self.new.ends.items n) set) }
@@ -219,6 +219,7 @@ impl LazyDfa {
     /// Whether there is room for a region of that size more.
     pub fn has_room(&self, size: usize) -> bool
         requires { size ≤ 64 }
+        ensures { result ≡ true → length self.now.members.items < 256 }
     {
         self.members.len() < MAX_MEMBERS && self.end() as usize + size <= IMAGE_BYTES
     }
@@ -274,7 +275,7 @@ impl LazyDfa {
     pub fn tell_ends(&self, trace: &[u32], count: usize, ends: &mut EndTable)
         requires few { count ≤ 512 }
         requires within { count ≤ length trace.now }
-        ensures { AreEndsOf self.now.ends.items trace.now count ends.new.rows }
+        ensures { AreTraceEnds self.now.ends.items trace.now count ends.new.rows }
     {
         ends.clear();
         for place in 0..count {
@@ -352,7 +353,7 @@ pub fn state_at(first: usize, trace: &[u32], place: usize) -> usize
 
 /// The members in whose regions something is live.
 fn live_members(members: &[Member], image: &[u8; IMAGE_BYTES]) -> [u64; MEMBER_WORDS]
-    requires apart { AreApart members.now }
+    requires apart { AreMembersApart members.now }
     requires few { length members.now ≤ 256 }
     ensures live { IsLive members.now image.now result }
     ensures len { length result ≡ 4 }
@@ -388,7 +389,7 @@ fn hash_of(image: &[u8; IMAGE_BYTES], prev: Prev) -> usize
 {
     let mut mixed = prev as u64;
     for word in 0..IMAGE_BYTES / 8 {
-        mixed = (mixed.rotate_left(29) ^ word_at(image, 8 * word)).wrapping_mul(MIXER);
+        mixed = (mixed.rotate_left(29) ^ word_at(image, 8 * word)).wrapping_mul(IMAGE_MIXER);
     }
     (mixed >> 52) as usize
 }

@@ -2,13 +2,14 @@
 
 ghost use Rattle.std.specs.Prelude.{◌≡◌, ◌+◌, ◌<◌, ◌≤◌, false, true, IfSome, length};
 ghost use Rattle.hs_base.specs.Bits.{AreZero, has_word_bit};
-ghost use Rattle.hs_lazy.specs.Parts.{AreApart, AreKept, AreStepsKept, IsBeside, IsLive, IsMade, entry, part};
+ghost use Rattle.hs_lazy.specs.Parts.{AreMembersApart, AreStillThere, AreStepsKept, IsBeside, IsLive, IsStepMade};
+ghost use Rattle.hs_lazy.specs.Parts.{entry, part};
 ghost use Rattle.hs_lazy.specs.declared.parts.Member.{Member};
-ghost use Rattle.hs_lazy.specs.Runs.{AreZerosBlank, IsBlank, TakesEntered};
-ghost use Rattle.hs_lazy.specs.Sound.{AreMembersOf, IsSound, TakeEntered};
-ghost use Rattle.hs_lazy.specs.Walks.{IsTaken, IsWalk};
+ghost use Rattle.hs_lazy.specs.Runs.{AreZerosBlank, IsBlankRegion, TakesEntered};
+ghost use Rattle.hs_lazy.specs.Sound.{AreMembersOf, IsDfaSound, TakeEntered};
+ghost use Rattle.hs_lazy.specs.Walks.{IsChunkTaken, IsWalk};
 
-use crate::dfa::{LazyDfa, state_at};
+use crate::dfa::{ENDS_UNIT, LazyDfa, state_at};
 use crate::engine::{ByteEnds, TimelessEngine};
 use crate::parts::{EndSet, Member, Run, State};
 use hs_base::Prev;
@@ -23,14 +24,14 @@ pub fn run_dfa<E: TimelessEngine>(
     bytes: &[u8],
 )
     requires blank { AreZerosBlank E.meaning engines.now }
-    requires sound { IsSound E.meaning engines.now dfa.old.members.items dfa.old.states.items dfa.old.rows.items
+    requires sound { IsDfaSound E.meaning engines.now dfa.old.members.items dfa.old.states.items dfa.old.rows.items
         dfa.old.ends.items }
     requires few { length bytes.now ≤ 512 }
-    ensures sound { IsSound E.meaning engines.now dfa.new.members.items dfa.new.states.items dfa.new.rows.items
+    ensures sound { IsDfaSound E.meaning engines.now dfa.new.members.items dfa.new.states.items dfa.new.rows.items
         dfa.new.ends.items }
     ensures members { dfa.new.members ≡ dfa.old.members }
     ensures image { run.new.image ≡ run.old.image }
-    ensures taken { run.new.is_done ≡ true → IsTaken dfa.new.states.items dfa.new.rows.items dfa.new.ends.items
+    ensures taken { run.new.is_done ≡ true → IsChunkTaken dfa.new.states.items dfa.new.rows.items dfa.new.ends.items
         run.new prev bytes.now }
 {
     run.is_done = false;
@@ -38,14 +39,27 @@ pub fn run_dfa<E: TimelessEngine>(
         return;
     }
     run.is_done = take_chunk(dfa, engines, run, prev, bytes);
-    if run.is_done {
-        dfa.budget.earn();
-        return;
-    }
-    if !dfa.budget.is_spent() {
+    if !run.is_done && !dfa.budget.is_spent() {
         dfa.forget();
     }
-    dfa.budget.begin_rest();
+    if run.is_done && !has_many_ends(&run.trace, bytes.len()) {
+        dfa.budget.earn();
+    } else {
+        dfa.budget.begin_rest();
+    }
+}
+
+/// Whether a quarter of the first steps of a trace leaves a member: the engines tell so many ends sooner, a word at a
+/// time.
+fn has_many_ends(trace: &[u32], count: usize) -> bool
+    requires within { count ≤ length trace.now }
+    requires few { count ≤ 512 }
+{
+    let mut ending = 0;
+    for place in 0..count {
+        ending += (trace[place] >= ENDS_UNIT) as usize;
+    }
+    4 * ending > count
 }
 
 /// Takes a chunk behind `prev` from the image that is loaded on. Answers whether it did, and didn't give up.
@@ -57,15 +71,15 @@ fn take_chunk<E: TimelessEngine>(
     bytes: &[u8],
 ) -> bool
     requires blank { AreZerosBlank E.meaning engines.now }
-    requires sound { IsSound E.meaning engines.now dfa.old.members.items dfa.old.states.items dfa.old.rows.items
+    requires sound { IsDfaSound E.meaning engines.now dfa.old.members.items dfa.old.states.items dfa.old.rows.items
         dfa.old.ends.items }
     requires few { length bytes.now ≤ 512 }
     requires some { 0 < length bytes.now }
-    ensures sound { IsSound E.meaning engines.now dfa.new.members.items dfa.new.states.items dfa.new.rows.items
+    ensures sound { IsDfaSound E.meaning engines.now dfa.new.members.items dfa.new.states.items dfa.new.rows.items
         dfa.new.ends.items }
     ensures members { dfa.new.members ≡ dfa.old.members }
     ensures image { run.new.image ≡ run.old.image }
-    ensures taken { result ≡ true → IsTaken dfa.new.states.items dfa.new.rows.items dfa.new.ends.items
+    ensures taken { result ≡ true → IsChunkTaken dfa.new.states.items dfa.new.rows.items dfa.new.ends.items
         run.new prev bytes.now }
 {
     let Some(first) = dfa.find(&run.image, prev) else {
@@ -89,14 +103,14 @@ fn follow<E: TimelessEngine>(
     trace: &mut [u32],
 ) -> bool
     requires blank { AreZerosBlank E.meaning engines.now }
-    requires sound { IsSound E.meaning engines.now dfa.old.members.items dfa.old.states.items dfa.old.rows.items
+    requires sound { IsDfaSound E.meaning engines.now dfa.old.members.items dfa.old.states.items dfa.old.rows.items
         dfa.old.ends.items }
     requires few { length bytes.now ≤ length trace.old }
     requires first { first < length dfa.old.states.items }
-    ensures sound { IsSound E.meaning engines.now dfa.new.members.items dfa.new.states.items dfa.new.rows.items
+    ensures sound { IsDfaSound E.meaning engines.now dfa.new.members.items dfa.new.states.items dfa.new.rows.items
         dfa.new.ends.items }
     ensures members { dfa.new.members ≡ dfa.old.members }
-    ensures states { AreKept dfa.old.states.items dfa.new.states.items }
+    ensures states { AreStillThere dfa.old.states.items dfa.new.states.items }
     ensures len { length trace.new ≡ length trace.old }
     ensures walk { result ≡ true → IsWalk dfa.new.rows.items first bytes.now trace.new (length bytes.now) }
 {
@@ -122,16 +136,16 @@ fn make_step<E: TimelessEngine>(
     byte: u8,
 ) -> Option<u32>
     requires blank { AreZerosBlank E.meaning engines.now }
-    requires sound { IsSound E.meaning engines.now dfa.old.members.items dfa.old.states.items dfa.old.rows.items
+    requires sound { IsDfaSound E.meaning engines.now dfa.old.members.items dfa.old.states.items dfa.old.rows.items
         dfa.old.ends.items }
     requires state { state < length dfa.old.states.items }
     requires unknown { entry dfa.old.rows.items state byte ≡ 0 }
-    ensures sound { IsSound E.meaning engines.now dfa.new.members.items dfa.new.states.items dfa.new.rows.items
+    ensures sound { IsDfaSound E.meaning engines.now dfa.new.members.items dfa.new.states.items dfa.new.rows.items
         dfa.new.ends.items }
     ensures members { dfa.new.members ≡ dfa.old.members }
-    ensures states { AreKept dfa.old.states.items dfa.new.states.items }
+    ensures states { AreStillThere dfa.old.states.items dfa.new.states.items }
     ensures rows { AreStepsKept dfa.old.rows.items dfa.new.rows.items }
-    ensures step { IfSome result (IsMade dfa.new.rows.items state byte) }
+    ensures step { IfSome result (IsStepMade dfa.new.rows.items state byte) }
 {
     let old = dfa.states[state];
     let cost = cost_of(&dfa.members, engines, &old.live, byte);
@@ -179,7 +193,7 @@ fn take_members<E: TimelessEngine>(
 ) -> Option<EndSet>
     requires blank { AreZerosBlank E.meaning engines.now }
     requires of { AreMembersOf E.meaning engines.now members.now }
-    requires apart { AreApart members.now }
+    requires apart { AreMembersApart members.now }
     requires few { length members.now ≤ 256 }
     requires live { IsLive members.now old.now.image old.now.live }
     requires live_len { length old.now.live ≡ 4 }
@@ -215,7 +229,7 @@ fn take_member<E: TimelessEngine>(
 ) -> Option<ByteEnds>
     requires within { member.end ≤ length image.old }
     requires sized { member.start + (E.meaning engine.now).width ≡ member.end }
-    requires blank { is_live ≡ false → IsBlank (E.meaning engine.now) (part image.old member) }
+    requires blank { is_live ≡ false → IsBlankRegion (E.meaning engine.now) (part image.old member) }
     ensures len { length image.new ≡ length image.old }
     ensures others { (other : Member) → IsBeside member other → part image.new other ≡ part image.old other }
     ensures takes { IfSome result (λ own. TakesEntered (E.meaning engine.now) (part image.old member)

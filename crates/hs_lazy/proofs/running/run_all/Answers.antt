@@ -1,8 +1,8 @@
-use Rattle.std.proofs.Common.{◌≡◌, ℕ, ◌<◌, ◌≤◌, length, inl, inr, ◌⊎◌, Some, slice_get, sym, ap, subst, ◌∙◌, refl, arith, rules, length-set}
-use Rattle.std.proofs.lemmas.Option.{slice_get_read, slice_get-get_or, slice_get_within}
+use Rattle.std.proofs.Common.{◌<◌, length, inl, inr, sym, ap, subst, ◌∙◌, refl, arith, length-set}
+use Rattle.std.proofs.lemmas.Option.{slice_get-get_or, slice_get_within}
 use Rattle.hs_lazy.specs.declared.dfa.LazyDfa.{LazyDfa}
 use Rattle.hs_lazy.specs.declared.parts.Run.{Run}
-use Rattle.hs_lazy.specs.Walks.{IsTaken}
+use Rattle.hs_lazy.specs.Walks.{IsChunkTaken}
 use Rattle.hs_lazy.proofs.ListLemmas.{get-set}
 use Rattle.hs_lazy.proofs.ToldLemmas.{images-set, members-set, sound-set}
 use Rattle.hs_lazy.proofs.running.run_all.Goals as goal
@@ -25,8 +25,8 @@ loop-at-preserved g c =
       taken = λ i dfa run below d r done. elim (get-set c.loop-at.list c.loop-at.at c.run_dfa.new.dfa i dfa low d) [
         | inl (here, what) ↦ elim (get-set c.loop-at.runs c.loop-at.at c.run_dfa.new.run i run low-run r) [
           | inl (here', what') ↦
-              subst (λ (x : LazyDfa). IsTaken x.states.items x.rows.items x.ends.items run c.args.prev c.args.bytes.now) (sym what)
-              (subst (λ (x : Run). IsTaken c.run_dfa.new.dfa.states.items c.run_dfa.new.dfa.rows.items c.run_dfa.new.dfa.ends.items x c.args.prev c.args.bytes.now) (sym what')
+              subst (λ (x : LazyDfa). IsChunkTaken x.states.items x.rows.items x.ends.items run c.args.prev c.args.bytes.now) (sym what)
+              (subst (λ (x : Run). IsChunkTaken c.run_dfa.new.dfa.states.items c.run_dfa.new.dfa.rows.items c.run_dfa.new.dfa.ends.items x c.args.prev c.args.bytes.now) (sym what')
               (c.run_dfa.ensures.taken (ap (λ (x : Run). x.is_done) (sym what') ∙ done)))
           | inr (other, was) ↦ absurd (other here)
         ]

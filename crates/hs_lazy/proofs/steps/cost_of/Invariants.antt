@@ -1,4 +1,4 @@
-use Rattle.std.proofs.Common.{◌≡◌, ◌+◌, ◌<◌, ◌≤◌, ℕ}
+use Rattle.std.proofs.Common.{◌+◌, ◌<◌, ◌≤◌}
 use Rattle.hs_lazy.proofs.steps.cost_of.Given as goal
 
 abbrev pub invariant-loop-k : goal.invariant-loop-k

@@ -1,4 +1,4 @@
-use Rattle.std.proofs.Common.{◌≡◌, ℕ, ◌+◌, ◌<◌, ◌≤◌, length, List, Some, slice_get, slice_index, sym, ap, subst, ◌∙◌, refl, arith, rules, length-set}
+use Rattle.std.proofs.Common.{◌≤◌, length, slice_index, ap, ◌∙◌, arith, length-set}
 use Rattle.hs_lazy.specs.Parts.{entry}
 use Rattle.hs_lazy.proofs.TableLemmas.{kept-length, walk-kept, walk-more}
 use Rattle.hs_lazy.proofs.steps.follow.Goals as goal

@@ -1,14 +1,14 @@
-use Rattle.std.proofs.Common.{◌≡◌, ℕ, ◌-◌, ◌<◌, ◌≤◌, length, slice_index}
-use Rattle.hs_lazy.specs.Parts.{AreKept, entry}
-use Rattle.hs_lazy.specs.Sound.{IsSound}
+use Rattle.std.proofs.Common.{◌≡◌, ◌-◌, ◌<◌, ◌≤◌, length, slice_index}
+use Rattle.hs_lazy.specs.Parts.{AreStillThere, entry}
+use Rattle.hs_lazy.specs.Sound.{IsDfaSound}
 use Rattle.hs_lazy.specs.Walks.{IsWalk, state_before}
 use Rattle.hs_lazy.proofs.steps.follow.Given as goal
 
 abbrev pub invariant-loop-place : goal.invariant-loop-place
 invariant-loop-place g l = record {
-  sound : IsSound g.E.Engine.meaning l.engines l.dfa.members.items l.dfa.states.items l.dfa.rows.items l.dfa.ends.items;
+  sound : IsDfaSound g.E.Engine.meaning l.engines l.dfa.members.items l.dfa.states.items l.dfa.rows.items l.dfa.ends.items;
   members : l.dfa.members ≡ l.fn.dfa.members;
-  states : AreKept l.fn.dfa.states.items l.dfa.states.items;
+  states : AreStillThere l.fn.dfa.states.items l.dfa.states.items;
   first : l.first < length l.dfa.states.items;
   len : length l.trace ≡ length l.fn.trace;
   within : l.place ≤ length l.bytes;

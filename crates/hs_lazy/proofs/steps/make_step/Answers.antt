@@ -1,16 +1,16 @@
-use Rattle.std.proofs.Common.{◌≡◌, ℕ, ◌+◌, ◌<◌, length, List, Some, slice_get, get_or, sym, ap, subst, ◌∙◌, refl, arith, rules}
+use Rattle.std.proofs.Common.{◌≡◌, ℕ, ◌<◌, length, Some, slice_get, get_or, sym, subst, ◌∙◌, refl}
 use Rattle.std.proofs.lemmas.Option.{slice_get_within, slice_get_read}
 use Rattle.hs_base.specs.Bits.{has_word_bit}
 use Rattle.hs_base.specs.Contexts.{prev_behind}
 use Rattle.hs_lazy.specs.declared.parts.State.{State}
 use Rattle.hs_lazy.specs.declared.dfa.LazyDfa.{LazyDfa}
-use Rattle.hs_lazy.specs.Parts.{IsState, IsWhole}
+use Rattle.hs_lazy.specs.Parts.{IsState, IsStateWhole}
 use Rattle.hs_lazy.specs.Sound.{IsStep, TakeEntered}
 use Rattle.hs_lazy.proofs.SoundLemmas.{IsSoundDfa, after-ends, after-find, after-write}
 use Rattle.hs_lazy.proofs.StepLemmas.{step-made}
 use Rattle.hs_lazy.proofs.steps.make_step.Goals as goal
 
-at-state : (d d' : LazyDfa) (s : ℕ) (old : State) → d'.states ≡ d.states → s < length d.states.items → slice_get d'.states.items s ≡ Some old → IsWhole d'.members.items old
+at-state : (d d' : LazyDfa) (s : ℕ) (old : State) → d'.states ≡ d.states → s < length d.states.items → slice_get d'.states.items s ≡ Some old → IsStateWhole d'.members.items old
 at-state d d' s old same low is = d'.live s old is
 
 read-state : (d d' : LazyDfa) (s : ℕ) (old : State) → d'.states ≡ d.states → s < length d.states.items → old ≡ get_or d'.states.items s old → slice_get d'.states.items s ≡ Some old

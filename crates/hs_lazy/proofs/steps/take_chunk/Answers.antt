@@ -1,4 +1,3 @@
-use Rattle.std.proofs.Common.{◌≡◌, ℕ, ◌+◌, ◌<◌, ◌≤◌, length, List, Some, slice_get, sym, ap, subst, ◌∙◌, refl, arith, rules}
 use Rattle.std.proofs.lemmas.Option.{slice_get_within}
 use Rattle.hs_lazy.proofs.SoundLemmas.{after-find}
 use Rattle.hs_lazy.proofs.steps.take_chunk.Goals as goal

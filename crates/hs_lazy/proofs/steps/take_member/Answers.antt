@@ -1,5 +1,4 @@
-use Rattle.std.proofs.Common.{◌≡◌, ◌-◌, refl, sym, ap, ◌∙◌, length, arith}
-use borrow.Rule.Slice.PartMut.{mid_of, put_mid}
+use Rattle.std.proofs.Common.{refl, sym, ◌∙◌, arith}
 use Rattle.hs_lazy.specs.Parts.{part}
 use Rattle.hs_lazy.proofs.PartLemmas.{part-beside, size-mid}
 use Rattle.hs_lazy.proofs.RunLemmas.{asleep-takes}

@@ -1,4 +1,4 @@
-use Rattle.std.proofs.Common.{◌≡◌, ◌∙◌, length, refl}
+use Rattle.std.proofs.Common.{◌∙◌, length, refl}
 use Rattle.std.proofs.lemmas.Option.{slice_get_read}
 use Rattle.hs_lazy.proofs.PutLemmas.{put-leaves}
 use Rattle.hs_lazy.proofs.cache.Cache.add.Goals as goal

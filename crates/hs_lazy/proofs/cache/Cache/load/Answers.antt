@@ -1,4 +1,4 @@
-use Rattle.std.proofs.Common.{◌≡◌, ◌∙◌, ℕ, ◌<◌, ◌≤◌, length, List, [], ◌∷◌, Some, None, Option, slice_get, sym, subst, refl, ap, arith}
+use Rattle.std.proofs.Common.{◌≡◌, ◌∙◌, ℕ, ◌<◌, length, List, [], ◌∷◌, Some, slice_get, sym, refl, ap, arith}
 use Rattle.std.proofs.lemmas.Option.{slice_get_past, slice_get_read}
 use Rattle.hs_lazy.specs.Caches.{loaded}
 use Rattle.hs_lazy.specs.Parts.{part}

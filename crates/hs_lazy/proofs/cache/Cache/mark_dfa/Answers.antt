@@ -1,10 +1,8 @@
-use Rattle.std.proofs.Common.{◌≡◌, ◌∙◌, ℕ, ◌+◌, ◌<◌, ◌≤◌, length, List, Some, None, Option, Bool, true, false, inl, inr, ◌⊎◌, slice_get, sym, subst, refl, ap, arith}
+use Rattle.std.proofs.Common.{◌≡◌, ◌∙◌, List, Some, None, Bool, true, false, inl, inr, ◌⊎◌, slice_get, sym, subst, refl, ap}
 use Rattle.hs_base.specs.Bits.{has_word_bit}
 use Rattle.hs_reports.specs.Marks.{is_marked}
-use Rattle.hs_lazy.specs.declared.dfa.LazyDfa.{LazyDfa}
 use Rattle.hs_lazy.specs.declared.parts.Member.{Member}
-use Rattle.hs_lazy.specs.declared.parts.Run.{Run}
-use Rattle.hs_lazy.specs.Tables.{member_by, member_of, place_of}
+use Rattle.hs_lazy.specs.Tables.{member_by, member_of, place_for}
 use Rattle.hs_lazy.proofs.TableLemmas.{got, got-none}
 use Rattle.hs_lazy.proofs.ToldLemmas.{IsToldBy, asleep-silent, no-dfa, no-run, own-number, told-member, told-place}
 use Rattle.hs_lazy.proofs.cache.Cache.mark_dfa.Goals as goal
@@ -37,7 +35,7 @@ returns-clause-silent c k t p spot at is unset =
     let r : slice_get c.args.self.now.runs.items p.dfa ≡ Some c.in-Some-get.run'.now = subst (λ n. slice_get c.args.self.now.runs.items n ≡ Some c.in-Some-get.run'.now) (sym at) (got c.args.self.now.runs.items _ c.args.at _ c.deref-2.ensures.value c.in-Some-get.ensures.lookup.3.0 c.in-Some-get.ensures.lookup.1) in
     let it : IsToldBy t c.in-Some.dfa.now c.in-Some-get.run'.now p.member = told-place c.args.self.now k t p _ _ is spot d r in
     let own : member_of c.args.self.now.dfas k ≡ Some it.of = told-member c.args.self.now k t p c.in-Some.dfa.now it.of is spot d it.of_is in
-    let number : it.of.number ≡ k = own-number k (member_by c.args.self.now.dfas.list.items (place_of c.args.self.now.dfas k)) it.of own in
+    let number : it.of.number ≡ k = own-number k (member_by c.args.self.now.dfas.list.items (place_for c.args.self.now.dfas k)) it.of own in
     elim (either (has_word_bit c.woken-woken.result p.member)) [
       | inl bit ↦
           both (is_marked c.mark_members.new.marks k)

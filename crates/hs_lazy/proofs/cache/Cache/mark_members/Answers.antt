@@ -1,10 +1,10 @@
-use Rattle.std.proofs.Common.{◌≡◌, ◌∙◌, ℕ, ◌+◌, ◌<◌, ◌≤◌, length, Some, None, Option, Bool, true, false, inl, inr, ◌⊎◌, slice_get, get_or, sym, subst, refl, ap, arith}
+use Rattle.std.proofs.Common.{◌≡◌, ◌∙◌, Bool, true, false, inl, inr, ◌⊎◌, get_or, sym, refl, ap, arith}
 use Rattle.std.proofs.lemmas.Bool.{cases_eq, cases_lt}
 use Rattle.std.proofs.lemmas.Option.{get_or_from_slice_get, slice_get_within}
 use Rattle.hs_base.specs.Bits.{has_word_bit}
 use Rattle.hs_reports.specs.Marks.{is_marked}
 use Rattle.hs_lazy.specs.declared.parts.Member.{Member}
-use Rattle.hs_lazy.specs.Tables.{engine_at, member_of}
+use Rattle.hs_lazy.specs.Tables.{member_of}
 use Rattle.hs_lazy.proofs.cache.Cache.mark_members.Goals as goal
 
 both : {A : Type 0} (b : Bool) → b ≡ true → b ≡ false → A

@@ -1,4 +1,4 @@
-use Rattle.std.proofs.Common.{◌≡◌, ◌∙◌, ℕ, ◌<◌, Some, None, Option, Bool, true, false, inl, inr, ◌⊎◌, sym, subst, refl, ap, arith}
+use Rattle.std.proofs.Common.{◌≡◌, ◌∙◌, Some, None, Option, Bool, true, false, inl, inr, sym, ap}
 use Rattle.std.proofs.lemmas.Bool.{cases_eq}
 use Rattle.hs_reports.specs.Marks.{is_marked}
 use Rattle.hs_lazy.specs.declared.parts.Member.{Member}

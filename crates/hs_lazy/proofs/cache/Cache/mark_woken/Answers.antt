@@ -1,8 +1,8 @@
-use Rattle.std.proofs.Common.{◌≡◌, ◌∙◌, ℕ, ◌*◌, ◌+◌, ◌<◌, ◌≤◌, length, Some, None, Option, Bool, true, false, inl, inr, ◌⊎◌, slice_get, sym, subst, refl, ap, arith}
+use Rattle.std.proofs.Common.{◌≡◌, ◌∙◌, Bool, true, false, inl, inr, ◌⊎◌, refl, arith}
 use Rattle.std.proofs.lemmas.Bool.{cases_eq}
 use Rattle.std.proofs.lemmas.Option.{slice_get_within}
 use Rattle.hs_reports.specs.Marks.{is_marked}
-use Rattle.hs_lazy.specs.Tables.{member_of, place_of}
+use Rattle.hs_lazy.specs.Tables.{member_of, place_for}
 use Rattle.hs_lazy.proofs.ChunkLemmas.{IsTold}
 use Rattle.hs_lazy.proofs.ToldLemmas.{told-open}
 use Rattle.hs_lazy.proofs.cache.Cache.mark_woken.Goals as goal
@@ -51,6 +51,6 @@ returns-clause-below c count engines old k marked = elim (either (is_marked c.ar
 
 pub returns-clause-silent : goal.returns-clause-silent
 returns-clause-silent c k t is unset =
-    let it : IsTold (member_of c.args.self.now.dfas k) c.args.self.now.dfas.list.items c.args.self.now.runs.items (place_of c.args.self.now.dfas k) t = told-open c.args.self.now k t is in
+    let it : IsTold (member_of c.args.self.now.dfas k) c.args.self.now.dfas.list.items c.args.self.now.runs.items (place_for c.args.self.now.dfas k) t = told-open c.args.self.now k t is in
     c.loop-at.invariant.silent k t it.at it.at_is
     (omega (arith, slice_get_within c.args.self.now.runs.items it.at.dfa it.run it.run_is, c.loop-at-test.false, c.args.self.now.runs.ok.0)) is unset

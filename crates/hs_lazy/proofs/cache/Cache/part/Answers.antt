@@ -1,7 +1,4 @@
-use Rattle.std.proofs.Common.{◌≡◌, ◌∙◌, ℕ, ◌<◌, List, [], Some, None, sym, subst, refl, ap, slice_get, arith}
-use Rattle.std.proofs.lemmas.Option.{slice_get_within}
-use Rattle.hs_lazy.specs.declared.dfa.LazyDfa.{LazyDfa}
-use Rattle.hs_lazy.specs.declared.parts.Run.{Run}
+use Rattle.std.proofs.Common.{◌≡◌, ◌∙◌, Some, sym, slice_get}
 use Rattle.hs_lazy.proofs.TableLemmas.{got, got-none}
 use Rattle.hs_lazy.proofs.ToldLemmas.{IsToldBy, no-dfa, no-place, no-run, told-part, told-place}
 use Rattle.hs_lazy.proofs.cache.Cache.part.Goals as goal

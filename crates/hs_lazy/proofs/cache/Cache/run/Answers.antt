@@ -1,8 +1,7 @@
-use Rattle.std.proofs.Common.{◌≡◌, ℕ, ◌<◌, ◌≤◌, length, List, Some, slice_get, sym, ap, subst, ◌∙◌, refl, arith, rules}
+use Rattle.std.proofs.Common.{◌≡◌, ℕ, length, List, slice_get, sym, ap, subst, ◌∙◌, refl, arith}
 use Rattle.std.proofs.lemmas.List.{with_items_is}
 use Rattle.std.specs.Vec.{with_items}
 use Rattle.hs_lazy.specs.declared.cache.Cache.{Cache}
-use Rattle.hs_lazy.specs.declared.cache.Dfas.{Dfas}
 use Rattle.hs_lazy.specs.declared.dfa.LazyDfa.{LazyDfa}
 use Rattle.hs_lazy.specs.declared.parts.Run.{Run}
 use Rattle.hs_lazy.specs.Caches.{AreSameImages, AreTaken}

@@ -1,7 +1,7 @@
-use Rattle.std.proofs.Common.{◌≡◌, ℕ, ◌+◌, ◌<◌, ◌≤◌, false, length, List, Some, slice_get, ◌∷◌, [], ◌++◌, inl, inr, ◌⊎◌, sym, ap, subst, ◌∙◌, refl, arith, rules, length-append, length-set}
+use Rattle.std.proofs.Common.{◌≡◌, length, List, Some, slice_get, ◌∷◌, [], ◌++◌, sym, subst, ◌∙◌, refl, length-set}
 use Rattle.std.specs.Prelude.{is_ok}
 use Rattle.hs_lazy.specs.declared.parts.State.{State}
-use Rattle.hs_lazy.specs.Parts.{AreKept, IsLive, IsState}
+use Rattle.hs_lazy.specs.Parts.{AreStillThere, IsLive}
 use Rattle.hs_lazy.proofs.StepLemmas.{leading-more, live-pushed}
 use Rattle.hs_lazy.proofs.TableLemmas.{get-last, kept-pushed, more-pushed, pushed}
 use Rattle.hs_lazy.proofs.dfa.LazyDfa.add_state.Goals as goal
@@ -27,7 +27,7 @@ pub returns-clause-states : goal.returns-clause-states
 returns-clause-states c =
     let now : c.push.new.self.items ≡ c.args.self.now.states.items ++ (record { image = c.args.image.now; prev = c.args.prev; live = c.live_members-live.result }) ∷ [] =
     pushed _ _ _ c.push.result c.unwrap.result c.push.ensures.items c.unwrap.ensures in
-    subst (AreKept c.args.self.now.states.items) (sym now) (kept-pushed c.args.self.now.states.items _)
+    subst (AreStillThere c.args.self.now.states.items) (sym now) (kept-pushed c.args.self.now.states.items _)
 
 pub returns-clause-found : goal.returns-clause-found
 returns-clause-found c =

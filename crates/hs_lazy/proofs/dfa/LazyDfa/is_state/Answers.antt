@@ -1,7 +1,6 @@
-use Rattle.std.proofs.Common.{◌≡◌, ◌/◌, ◌-◌, ◌∷◌, [], ◌++◌, suc, length, Some, None, slice_get, sym, ap, subst, ◌∙◌, refl, arith, rules, tests}
+use Rattle.std.proofs.Common.{sym, ◌∙◌, rules, tests}
 use denote.Enum.Bare.{same_true}
 use Rattle.hs_base.specs.contracts.context.Prev.{the_type}
-use Rattle.hs_lazy.specs.declared.parts.State.{State}
 use Rattle.hs_lazy.proofs.TableLemmas.{got}
 use Rattle.hs_lazy.proofs.dfa.LazyDfa.is_state.Goals as goal
 

@@ -1,4 +1,4 @@
-use Rattle.std.proofs.Common.{◌≡◌, ap, ◌∙◌, sym, length, arith}
+use Rattle.std.proofs.Common.{ap, length, arith}
 use Rattle.hs_lazy.proofs.EmptyLemmas.{no-members, no-states, zeros-leading, zeros-unknown}
 use Rattle.hs_lazy.proofs.dfa.LazyDfa.new.Goals as goal
 

@@ -1,7 +1,7 @@
-use Rattle.std.proofs.Common.{◌≡◌, ◌/◌, ◌-◌, ◌∷◌, [], ◌++◌, suc, length, Some, None, slice_get, sym, ap, subst, ◌∙◌, refl, arith, rules, length-append}
-use Rattle.hs_lazy.specs.Parts.{AreKept, set_of}
-use Rattle.hs_lazy.proofs.TableLemmas.{get-last, kept-same, kept-pushed, pushed}
-use Rattle.hs_lazy.proofs.PartLemmas.{none-same, set-by, set-zero, some-same, unset-same}
+use Rattle.std.proofs.Common.{◌≡◌, ◌∷◌, [], ◌++◌, suc, length, None, slice_get, sym, ap, subst, ◌∙◌, refl, arith, length-append}
+use Rattle.hs_lazy.specs.Parts.{AreStillThere}
+use Rattle.hs_lazy.proofs.TableLemmas.{get-last, kept-pushed, pushed}
+use Rattle.hs_lazy.proofs.PartLemmas.{set-by, some-same, unset-same}
 use Rattle.hs_lazy.proofs.dfa.LazyDfa.number_of.Goals as goal
 
 pub returns-then-is_unset-2-clause-same : goal.returns-then-is_unset-2-clause-same
@@ -10,7 +10,7 @@ returns-then-is_unset-2-clause-same c = unset-same None c.args.set refl (c.is_un
 pub returns-clause-ends : goal.returns-clause-ends
 returns-clause-ends c =
     let now : c.push.new.self.items ≡ c.args.self.now.ends.items ++ c.args.set ∷ [] = pushed _ _ c.args.set c.push.result c.unwrap.result c.push.ensures.items c.unwrap.ensures in
-    subst (AreKept c.args.self.now.ends.items) (sym now) (kept-pushed c.args.self.now.ends.items c.args.set)
+    subst (AreStillThere c.args.self.now.ends.items) (sym now) (kept-pushed c.args.self.now.ends.items c.args.set)
 
 pub returns-clause-same : goal.returns-clause-same
 returns-clause-same c =

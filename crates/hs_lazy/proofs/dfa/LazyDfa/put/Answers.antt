@@ -1,6 +1,5 @@
-use Rattle.std.proofs.Common.{◌≡◌, ◌∙◌, ℕ, ◌+◌, ◌<◌, ◌≤◌, length, List, Some, slice_get, sym, subst, refl, ap, arith}
+use Rattle.std.proofs.Common.{◌≡◌, ◌+◌, length, Some, slice_get, subst, ap, arith}
 use Rattle.std.specs.Prelude.{is_ok}
-use Rattle.hs_lazy.specs.declared.parts.Member.{Member}
 use Rattle.hs_lazy.proofs.EmptyLemmas.{no-states}
 use Rattle.hs_lazy.proofs.StepLemmas.{apart-pushed, few-pushed}
 use Rattle.hs_lazy.proofs.dfa.LazyDfa.put.Goals as goal

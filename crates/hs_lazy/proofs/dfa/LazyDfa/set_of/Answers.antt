@@ -1,6 +1,6 @@
-use Rattle.std.proofs.Common.{◌≡◌, ◌/◌, ◌-◌, suc, Some, None, slice_get, sym, ◌∙◌, refl, arith, rules}
+use Rattle.std.proofs.Common.{◌≡◌, ◌/◌, ◌-◌, Some, None, slice_get, ◌∙◌, arith}
 use Rattle.hs_lazy.proofs.TableLemmas.{got, got-none}
-use Rattle.hs_lazy.specs.Parts.{ends_of, set_of}
+use Rattle.hs_lazy.specs.Parts.{ends_of}
 use Rattle.hs_lazy.proofs.PartLemmas.{none-same, set-by, set-zero, some-same}
 use Rattle.hs_lazy.proofs.dfa.LazyDfa.set_of.Goals as goal
 

@@ -1,4 +1,4 @@
-use Rattle.std.proofs.Common.{◌≡◌, ℕ, ◌<◌, ◌≤◌, length}
+use Rattle.std.proofs.Common.{◌≡◌, ◌<◌, length}
 use Rattle.hs_lazy.specs.Walks.{IsWalk, state_before}
 use Rattle.hs_lazy.proofs.dfa.LazyDfa.walk.Given as goal
 

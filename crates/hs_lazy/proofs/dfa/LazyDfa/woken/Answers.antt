@@ -1,7 +1,6 @@
-use Rattle.std.proofs.Common.{◌≡◌, ℕ, ◌<◌, ◌≤◌, ◌||◌, Bool, true, false, Some, slice_get, refl, sym, ap, subst, ◌∙◌, arith}
+use Rattle.std.proofs.Common.{◌≡◌, ◌||◌, Bool, true, false, Some, slice_get, refl, sym, ap, ◌∙◌, arith}
 use Rattle.hs_base.specs.Bits.{has_word_bit}
 use Rattle.hs_lazy.specs.declared.parts.State.{State}
-use Rattle.hs_lazy.specs.Parts.{IsWhole}
 use Rattle.hs_lazy.proofs.TableLemmas.{got, same-got}
 use Rattle.hs_lazy.proofs.dfa.LazyDfa.woken.Goals as goal
 

@@ -1,4 +1,4 @@
-use Rattle.std.proofs.Common.{◌≡◌, ◌≤◌, ◌-◌, length, sym, ap, ◌∙◌, arith, rules}
+use Rattle.std.proofs.Common.{◌≤◌, length, ◌∙◌, rules}
 use Rattle.hs_lazy.proofs.PartLemmas.{part-beside, size-mid}
 use Rattle.hs_lazy.proofs.parts.Run.load.Goals as goal
 
