@@ -1,7 +1,7 @@
 //! What may be spent on steps that aren't known yet. Nothing hangs on it but speed: what an automaton doesn't tell, the
 //! engines do.
 
-ghost use Rattle.std.specs.Prelude.{◌≡◌, nat_le, nat_lt};
+ghost use Rattle.std.specs.Prelude.{◌≡◌, false, nat_le, nat_lt};
 
 /// How many engines may be asked for a byte at first.
 const FIRST_CREDIT: u32 = 8192;
@@ -15,6 +15,9 @@ const CHUNK_CREDIT: u32 = 16;
 /// How many at most.
 const MOST_CREDIT: u32 = 8192;
 
+/// After how many chunks that were taken in vain, for each of which two that weren't make up, an automaton rests.
+const MOST_VAIN: u32 = 16;
+
 /// For how many chunks an automaton rests at first.
 const FIRST_REST: u32 = 256;
 
@@ -27,6 +30,8 @@ const LONGEST_REST: u32 = 4096;
 pub struct Budget {
     /// How many engines may be asked before the automaton has to rest.
     credit: u32,
+    /// How many chunks were taken in vain of late.
+    vain: u32,
     /// For how many chunks it rests still.
     rest: u32,
     /// For how many it will rest next.
@@ -37,6 +42,7 @@ impl Budget {
     /// What an automaton begins with.
     pub(crate) const FIRST: Budget = Budget {
         credit: FIRST_CREDIT,
+        vain: 0,
         rest: 0,
         patience: FIRST_REST,
     };
@@ -60,11 +66,19 @@ impl Budget {
         self.credit == 0
     }
 
-    /// Gives what a chunk earns that was taken.
-    pub(crate) fn earn(&mut self)
-        ensures { self.new.rest ≡ self.old.rest }
+    /// Gives what a chunk earns that was taken, and begins a rest where too many were taken in vain.
+    pub(crate) fn earn(&mut self, in_vain: bool)
+        ensures { in_vain ≡ false → self.new.rest ≡ self.old.rest }
     {
         self.credit = self.credit.saturating_add(CHUNK_CREDIT).min(MOST_CREDIT);
+        if !in_vain {
+            self.vain = self.vain.saturating_sub(2);
+            return;
+        }
+        self.vain = self.vain.saturating_add(1);
+        if self.vain >= MOST_VAIN {
+            self.begin_rest();
+        }
     }
 
     /// Begins a rest, and gives what may be spent behind it.
@@ -72,6 +86,7 @@ impl Budget {
         ensures { self.new.rest ≡ self.old.patience }
     {
         self.credit = LATER_CREDIT;
+        self.vain = 0;
         self.rest = self.patience;
         self.patience = self.patience.saturating_mul(2).min(LONGEST_REST);
     }

@@ -271,6 +271,16 @@ impl LazyDfa {
         woken
     }
 
+    /// Whether nothing is live in a state, or there is none.
+    pub fn is_idle(&self, state: usize) -> bool
+        ensures { result ≡ false → state < length self.now.states.items }
+    {
+        match self.states.get(state) {
+            Some(state) => is_unset(&state.live),
+            None => true,
+        }
+    }
+
     /// Tells where the members are left that the first steps of a trace leave.
     pub fn tell_ends(&self, trace: &[u32], count: usize, ends: &mut EndTable)
         requires few { count ≤ 512 }

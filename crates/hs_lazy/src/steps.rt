@@ -39,14 +39,15 @@ pub fn run_dfa<E: TimelessEngine>(
         return;
     }
     run.is_done = take_chunk(dfa, engines, run, prev, bytes);
-    if !run.is_done && !dfa.budget.is_spent() {
+    if run.is_done {
+        let in_vain = dfa.is_idle(run.state) || has_many_ends(&run.trace, bytes.len());
+        dfa.budget.earn(in_vain);
+        return;
+    }
+    if !dfa.budget.is_spent() {
         dfa.forget();
     }
-    if run.is_done && !has_many_ends(&run.trace, bytes.len()) {
-        dfa.budget.earn();
-    } else {
-        dfa.budget.begin_rest();
-    }
+    dfa.budget.begin_rest();
 }
 
 /// Whether a quarter of the first steps of a trace leaves a member: the engines tell so many ends sooner, a word at a
