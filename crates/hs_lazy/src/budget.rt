@@ -15,8 +15,8 @@ const CHUNK_CREDIT: u32 = 16;
 /// How many at most.
 const MOST_CREDIT: u32 = 8192;
 
-/// After how many chunks that were taken in vain, for each of which two that weren't make up, an automaton rests.
-const MOST_VAIN: u32 = 16;
+/// After how many chunks in turn that were taken in vain an automaton rests.
+const MOST_VAIN: u32 = 64;
 
 /// For how many chunks an automaton rests at first.
 const FIRST_REST: u32 = 256;
@@ -30,7 +30,7 @@ const LONGEST_REST: u32 = 4096;
 pub struct Budget {
     /// How many engines may be asked before the automaton has to rest.
     credit: u32,
-    /// How many chunks were taken in vain of late.
+    /// How many chunks in turn were taken in vain.
     vain: u32,
     /// For how many chunks it rests still.
     rest: u32,
@@ -72,7 +72,7 @@ impl Budget {
     {
         self.credit = self.credit.saturating_add(CHUNK_CREDIT).min(MOST_CREDIT);
         if !in_vain {
-            self.vain = self.vain.saturating_sub(2);
+            self.vain = 0;
             return;
         }
         self.vain = self.vain.saturating_add(1);
