@@ -2,8 +2,8 @@ use Rattle.std.proofs.Common.{sym}
 use Rattle.hs_tool.proofs.OpenLemmas.{performs-close, performs-close_unknown, puts-removed, fits-put, takes-weaker, takes-nothing, no_stream}
 use Rattle.hs_tool.proofs.session.streams.Streams.close.Goals as goal
 
-pub close-requires-clause-fits : goal.close-requires-clause-fits
-close-requires-clause-fits g c = c.requires.fits c.args.name.now c.in-Some.stream (sym c.in-Some.ensures.value)
+pub close_cached-requires-clause-fits : goal.close_cached-requires-clause-fits
+close_cached-requires-clause-fits g c = c.requires.fits c.args.name.now c.in-Some.stream (sym c.in-Some.ensures.value)
 
 pub returns-in-None-clause-performs : goal.returns-in-None-clause-performs
 returns-in-None-clause-performs g c =

@@ -3,8 +3,8 @@ use Rattle.hs_stream.specs.Streams.{IsStreamOf}
 use Rattle.hs_tool.proofs.OpenLemmas.{performs-reset, performs-reset_unknown, puts-lent, puts-unchanged, fits-put, takes-weaker, takes-nothing, same_stream}
 use Rattle.hs_tool.proofs.session.streams.Streams.reset.Goals as goal
 
-pub reset-requires-clause-fits : goal.reset-requires-clause-fits
-reset-requires-clause-fits g c = c.requires.fits c.args.name.now c.in-Some.stream.now (sym c.in-Some.ensures.value)
+pub reset_cached-requires-clause-fits : goal.reset_cached-requires-clause-fits
+reset_cached-requires-clause-fits g c = c.requires.fits c.args.name.now c.in-Some.stream.now (sym c.in-Some.ensures.value)
 
 pub returns-in-None-clause-performs : goal.returns-in-None-clause-performs
 returns-in-None-clause-performs g c =
