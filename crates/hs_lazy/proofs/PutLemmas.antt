@@ -4,7 +4,8 @@ use Rattle.std.specs.Prelude.{if◌then◌else◌}
 use Rattle.std.proofs.Math.ListN.{set}
 use Rattle.std.proofs.lemmas.Bool.{cases_eq, ne_eqb}
 use Rattle.std.proofs.lemmas.Option.{slice_get_within}
-use Rattle.hs_engine.specs.Engines.{Meaning}
+use Rattle.hs_base.specs.declared.byte_set.ByteSet.{ByteSet}
+use Rattle.hs_engine.specs.Engines.{AreWakers, Meaning}
 use Rattle.hs_lazy.specs.Members.{IsTakenIn}
 use Rattle.hs_lazy.specs.Sound.{AreMembersOf, IsDfaSound}
 use Rattle.hs_lazy.specs.Tables.{AreDfasOf, IsPut, engine_at, engine_in, member_by, member_in, member_of, own_member, place_in, place_for}
@@ -48,6 +49,7 @@ no-members meaning engines members none = record {
   there = λ k m is. absurd (omega (arith, slice_get_within members k m is, ap length none));
   listed = λ k m e is at. absurd (omega (arith, slice_get_within members k m is, ap length none));
   sized = λ k m e is at. absurd (omega (arith, slice_get_within members k m is, ap length none));
+  woken = λ k m e is at. absurd (omega (arith, slice_get_within members k m is, ap length none));
 }
 
 pub dfas-pushed : {E : Type 0} (meaning : E → Meaning) (engines : List E) (d d' : Dfas) (new : LazyDfa) → new.members.items ≡ [] → new.states.items ≡ [] → d'.list.items ≡ d.list.items ++ new ∷ [] → d'.places ≡ d.places → AreDfasOf meaning engines d → AreDfasOf meaning engines d'
@@ -72,8 +74,8 @@ engine-if : (b : Bool) (m : Member) (n : ℕ) → engine_in (if b then Some m el
 engine-if true m n e = sym (some-same m.engine n e)
 engine-if false m n e = absurd (cc)
 
-module _ (d d' : Dfas) (number engine size at member : ℕ) (before behind : LazyDfa) (there : slice_get d.list.items at ≡ Some before) (list : d'.list.items ≡ set d.list.items at behind) (places : d'.places.items ≡ set d.places.items number (Some (record { dfa = at; member = member })))
-    (within : number < length d.places.items) (taken : IsTakenIn before behind number engine size member) where
+module _ (d d' : Dfas) (number engine size at member : ℕ) (wakers : ByteSet) (before behind : LazyDfa) (there : slice_get d.list.items at ≡ Some before) (list : d'.list.items ≡ set d.list.items at behind) (places : d'.places.items ≡ set d.places.items number (Some (record { dfa = at; member = member })))
+    (within : number < length d.places.items) (taken : IsTakenIn before behind number engine size wakers member) where
   low : at < length d.list.items
   low = slice_get_within d.list.items at before there
 
@@ -113,7 +115,7 @@ module _ (d d' : Dfas) (number engine size at member : ℕ) (before behind : Laz
   put-others k apart =
       ap engine_in (ap (λ l. own_member k (member_by l (place_for d' k))) list ∙ (ap (λ p. own_member k (member_by (set d.list.items at behind) p)) (old-place k apart) ∙ others-by k apart (place_for d k)))
 
-  module _ {E : Type 0} (meaning : E → Meaning) (engines : List E) (own : E) (own_is : slice_get engines engine ≡ Some own) (listed : (e : E) → slice_get engines engine ≡ Some e → (meaning e).always ≡ false) (size_is : size ≡ (meaning own).width) (are : AreDfasOf meaning engines d) where
+  module _ {E : Type 0} (meaning : E → Meaning) (engines : List E) (own : E) (own_is : slice_get engines engine ≡ Some own) (listed : (e : E) → slice_get engines engine ≡ Some e → (meaning e).always ≡ false) (size_is : size ≡ (meaning own).width) (are_wakers : AreWakers (meaning own) wakers) (are : AreDfasOf meaning engines d) where
     old-sound : IsDfaSound meaning engines before.members.items before.states.items before.rows.items before.ends.items
     old-sound = are.sound at before there
 
@@ -135,6 +137,12 @@ module _ (d d' : Dfas) (number engine size at member : ℕ) (before behind : Laz
         | inr here ↦ subst (λ (x : Member). slice_get engines x.engine ≡ Some e → x.start + (meaning e).width ≡ x.end) (sym here.1)
             (of-engine (λ i. slice_get engines i ≡ Some e → taken.member.start + (meaning e).width ≡ taken.member.end)
             (λ at_e. let same : own ≡ e = some-same own e (sym own_is ∙ at_e) in subst (λ (x : E). taken.member.start + (meaning x).width ≡ taken.member.end) same (subst (λ n. taken.member.start + n ≡ taken.member.end) size_is taken.size_is)))
+      ];
+      woken = λ k m e is. elim (get-either before.members.items taken.member k m is) [
+        | inl old ↦ old-sound.of.woken k m e old
+        | inr here ↦ subst (λ (x : Member). slice_get engines x.engine ≡ Some e → AreWakers (meaning e) x.wakers) (sym here.1)
+            (of-engine (λ i. slice_get engines i ≡ Some e → AreWakers (meaning e) taken.member.wakers)
+            (λ at_e. let same : own ≡ e = some-same own e (sym own_is ∙ at_e) in subst (λ (x : E). AreWakers (meaning x) taken.member.wakers) same (subst (λ w. AreWakers (meaning own) w) (sym taken.wakers_are) are_wakers)))
       ];
     })
 
@@ -173,17 +181,17 @@ pub record PutLeaves {E : Type 0} (meaning : E → Meaning) (engines : List E) (
   pub own : (n : ℕ) → engine_at d' number ≡ Some n → n ≡ engine
   pub others : (k : ℕ) → (k ≡ number → ⊥) → engine_at d' k ≡ engine_at d k
 
-pub put-leaves : {E : Type 0} (meaning : E → Meaning) (engines : List E) (d d' : Dfas) (number engine size : ℕ) (own : E) → slice_get engines engine ≡ Some own → ((e : E) → slice_get engines engine ≡ Some e → (meaning e).always ≡ false) → size ≡ (meaning own).width → engine_at d number ≡ None →
-    AreDfasOf meaning engines d → IsPut d d' number engine size → PutLeaves meaning engines d d' number engine
-put-leaves meaning engines d d' number engine size own own_is listed size_is none are (stays list places) = record {
+pub put-leaves : {E : Type 0} (meaning : E → Meaning) (engines : List E) (d d' : Dfas) (number engine size : ℕ) (wakers : ByteSet) (own : E) → slice_get engines engine ≡ Some own → ((e : E) → slice_get engines engine ≡ Some e → (meaning e).always ≡ false) → size ≡ (meaning own).width → AreWakers (meaning own) wakers → engine_at d number ≡ None →
+    AreDfasOf meaning engines d → IsPut d d' number engine size wakers → PutLeaves meaning engines d d' number engine
+put-leaves meaning engines d d' number engine size wakers own own_is listed size_is are_wakers none are (stays list places) = record {
   dfas = stay-dfas d d' list places meaning engines are;
   own = λ n is. absurd (let both : Some n ≡ None = sym is ∙ (stay-engine d d' list places number ∙ none) in cc);
   others = λ k apart. stay-engine d d' list places k;
 }
-put-leaves meaning engines d d' number engine size own own_is listed size_is none are (is_put at member before behind there list places within taken) = record {
-  dfas = put-dfas d d' number engine size at member before behind there list places within taken meaning engines own own_is listed size_is are;
-  own = put-own d d' number engine size at member before behind there list places within taken;
-  others = put-others d d' number engine size at member before behind there list places within taken;
+put-leaves meaning engines d d' number engine size wakers own own_is listed size_is are_wakers none are (is_put at member before behind there list places within taken) = record {
+  dfas = put-dfas d d' number engine size at member wakers before behind there list places within taken meaning engines own own_is listed size_is are_wakers are;
+  own = put-own d d' number engine size at member wakers before behind there list places within taken;
+  others = put-others d d' number engine size at member wakers before behind there list places within taken;
 }
 
 -- the region that is loaded for a number

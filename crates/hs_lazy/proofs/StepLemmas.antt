@@ -1,10 +1,11 @@
 -- Members that take a byte, one after the other.
-use Rattle.std.proofs.Common.{◌≡◌, ℕ, ◌+◌, ◌-◌, ◌<◌, ◌≤◌, inl, inr, Bool, true, false, List, [], ◌∷◌, ◌++◌, length, Some, slice_get, sym, ap, subst, ◌∙◌, arith, length-append}
+use Rattle.std.proofs.Common.{◌≡◌, ◌||◌, refl, ℕ, ◌+◌, ◌-◌, ◌<◌, ◌≤◌, inl, inr, Bool, true, false, List, [], ◌∷◌, ◌++◌, length, Some, slice_get, sym, ap, subst, ◌∙◌, arith, length-append}
 use Rattle.std.specs.Prelude.{if◌then◌else◌}
-use Rattle.std.proofs.lemmas.Bool.{cases_eq}
+use Rattle.std.proofs.lemmas.Bool.{cases_eq, cases_lt}
 use Rattle.std.proofs.lemmas.Option.{slice_get_within}
 use Rattle.hs_base.specs.declared.context.Prev.{Prev}
 use Rattle.hs_base.specs.Bits.{AreZero, has_word_bit}
+use Rattle.hs_base.specs.ByteSets.{has}
 use Rattle.hs_base.specs.Contexts.{prev_behind}
 use Rattle.hs_engine.specs.Engines.{Meaning}
 use Rattle.hs_lazy.specs.declared.engine.ByteEnds.{ByteEnds}
@@ -12,12 +13,20 @@ use Rattle.hs_lazy.specs.declared.parts.Member.{Member}
 use Rattle.hs_lazy.specs.declared.parts.State.{State}
 use Rattle.hs_lazy.specs.declared.parts.EndSet.{EndSet}
 use Rattle.hs_lazy.specs.Images.{IsSameSets}
-use Rattle.hs_lazy.specs.Parts.{AreMembersApart, AreLeading, AreLive, IsBeside, IsState, IsStepTo, IsStateWhole, before_of, behind_of, part, set_of}
+use Rattle.hs_lazy.specs.Parts.{AreMembersApart, AreLeading, AreLive, IsBeside, IsLive, IsState, IsStepTo, IsStateWhole, before_of, behind_of, part, set_of}
 use Rattle.hs_lazy.specs.Runs.{AreZerosBlank, IsBlankRegion, TakesEntered}
 use Rattle.hs_lazy.specs.Sound.{AreMembersOf, IsStep, TakeEntered}
 use Rattle.hs_lazy.proofs.PartLemmas.{beside, beside-back, size-part}
-use Rattle.hs_lazy.proofs.RunLemmas.{run-same}
+use Rattle.hs_lazy.proofs.RunLemmas.{asleep-takes, run-same}
 use Rattle.hs_lazy.proofs.TableLemmas.{get-either, same-got}
+
+neither-left : (x y : Bool) → (x || y) ≡ false → x ≡ false
+neither-left true y none = absurd (cc)
+neither-left false y none = refl
+
+neither-right : (x y : Bool) → (x || y) ≡ false → y ≡ false
+neither-right true y none = absurd (cc)
+neither-right false y none = none
 
 -- only what is told counts
 pub takes-ends : (m : Meaning) (old new : List ℕ) (prev : Prev) (byte : ℕ) (ends : ByteEnds) (before behind : Bool) →
@@ -79,6 +88,22 @@ module _ {E : Type 0} (meaning : E → Meaning) (engines : List E) (members : Li
       (let size : length (part image m) ≡ m.end - m.start = size-part image m (apart.rising k m is) (let w : m.end ≤ 512 = apart.within k m is in omega (arith, w, long)) in
       let wide : m.start + (meaning e).width ≡ m.end = of.sized k m e is there in omega (arith, size, wide))
       (subst (λ p. AreZero p) (sym left) zero)
+
+  -- members that aren't asked take the byte as they are
+  pub done-gap : (image before behind asked : List ℕ) (from to : ℕ) → AreZerosBlank meaning engines → AreMembersOf meaning engines members → AreMembersApart members →
+      IsLive members old.image old.live → length image ≡ 512 → byte < 256 →
+      ((j : ℕ) (m : Member) → slice_get members j ≡ Some m → has_word_bit asked j ≡ (has_word_bit old.live j || has m.wakers byte)) →
+      ((j : ℕ) → from ≤ j → j < to → has_word_bit asked j ≡ false) →
+      ((j : ℕ) → from ≤ j → has_word_bit before j ≡ false) → ((j : ℕ) → from ≤ j → has_word_bit behind j ≡ false) →
+      AreLeft image from → AreDone image before behind from → AreDone image before behind to
+  done-gap image before behind asked from to blank of apart live long small asks unasked none-before none-behind left done j m e low is there = elim (cases_lt j from) [
+    | inl less ↦ done j m e less is there
+    | inr high ↦
+        let none : (has_word_bit old.live j || has m.wakers byte) ≡ false = sym (asks j m is) ∙ unasked j high low in
+        let own : IsBlankRegion (meaning e) (part image m) = blank-left image j m e blank of apart long is there (left j m high is) (live j m is (neither-left (has_word_bit old.live j) (has m.wakers byte) none)) in
+        subst (λ p. TakesEntered (meaning e) p (part image m) old.prev byte (record { before = has_word_bit before j; behind = has_word_bit behind j })) (left j m high is)
+        (asleep-takes (meaning e) (part image m) old.prev byte _ (of.woken j m e is there (part image m) byte own.starts small (neither-right (has_word_bit old.live j) (has m.wakers byte) none)) own (none-before j high) (none-behind j high))
+  ]
 
   -- the step that was made is what the engines do
   pub step-made : (states : List State) (ends : List EndSet) (image before behind : List ℕ) (next number step : ℕ) →

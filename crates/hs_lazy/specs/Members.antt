@@ -1,5 +1,6 @@
 -- What an automaton takes in, and what is silent in it.
 use Rattle.std.specs.Prelude.{◌≡◌, ℕ, ◌+◌, false, [], ◌∷◌, ◌++◌, length}
+use Rattle.hs_base.specs.declared.byte_set.ByteSet.{ByteSet}
 use Rattle.hs_base.specs.Bits.{has_word_bit}
 use Rattle.hs_lazy.specs.declared.parts.Member.{Member}
 use Rattle.hs_lazy.specs.declared.parts.State.{State}
@@ -7,7 +8,7 @@ use Rattle.hs_lazy.specs.declared.parts.Run.{Run}
 use Rattle.hs_lazy.specs.declared.dfa.LazyDfa.{LazyDfa}
 
 -- An engine more was taken in, and no state is known.
-pub record IsTakenIn (old new : LazyDfa) (number engine size place : ℕ) : Type 0 where
+pub record IsTakenIn (old new : LazyDfa) (number engine size : ℕ) (wakers : ByteSet) (place : ℕ) : Type 0 where
   pub member : Member
   pub members : new.members.items ≡ old.members.items ++ member ∷ []
   pub place_is : place ≡ length old.members.items
@@ -15,6 +16,7 @@ pub record IsTakenIn (old new : LazyDfa) (number engine size place : ℕ) : Type
   pub number_is : member.number ≡ number
   pub engine_is : member.engine ≡ engine
   pub size_is : member.start + size ≡ member.end
+  pub wakers_are : member.wakers ≡ wakers
 
 -- Nothing is live in the region of the member behind the chunk, and it has no bit of an end.
 pub record IsAsleepIn (run : Run) (state : State) (k : ℕ) : Type 0 where

@@ -1,20 +1,23 @@
 -- That the steps of an automaton are what its engines do.
 use Rattle.std.specs.Prelude.{◌≡◌, ℕ, ◌+◌, ◌<◌, ◌≤◌, Bool, false, List, Some, length, slice_get}
 use Rattle.hs_base.specs.Contexts.{prev_behind}
-use Rattle.hs_engine.specs.Engines.{Meaning}
+use Rattle.hs_engine.specs.Engines.{AreWakers, Meaning}
 use Rattle.hs_lazy.specs.declared.parts.Member.{Member}
 use Rattle.hs_lazy.specs.declared.parts.State.{State}
 use Rattle.hs_lazy.specs.declared.parts.EndSet.{EndSet}
 use Rattle.hs_lazy.specs.Runs.{TakesEntered}
 use Rattle.hs_lazy.specs.Parts.{before_of, behind_of, ends_of, entry, next_of, part, set_of}
 
--- The members' engines are there, count as entered where they are told to be, and have regions of their sizes.
+-- The members' engines are there, count as entered where they are told to be, have regions of their sizes, and are woken
+-- by their wakers alone.
 pub record AreMembersOf {E : Type 0} (meaning : E → Meaning) (engines : List E) (members : List Member) : Type 0 where
   pub there : (k : ℕ) (m : Member) → slice_get members k ≡ Some m → m.engine < length engines
   pub listed : (k : ℕ) (m : Member) (e : E) → slice_get members k ≡ Some m → slice_get engines m.engine ≡ Some e →
       (meaning e).always ≡ false
   pub sized : (k : ℕ) (m : Member) (e : E) → slice_get members k ≡ Some m → slice_get engines m.engine ≡ Some e →
       m.start + (meaning e).width ≡ m.end
+  pub woken : (k : ℕ) (m : Member) (e : E) → slice_get members k ≡ Some m → slice_get engines m.engine ≡ Some e →
+      AreWakers (meaning e) m.wakers
 
 -- A byte leads each member from its region in the one state to that in the other, and leaves it as told.
 abbrev pub TakeEntered : {E : Type 0} → (E → Meaning) → (engines : List E) (members : List Member) (old : State)

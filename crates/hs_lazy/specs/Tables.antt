@@ -2,6 +2,7 @@
 use Rattle.std.specs.Prelude.{◌≡◌, ℕ, ◌<◌, false, if◌then◌else◌, ◌==◌}
 use Rattle.std.specs.Prelude.{List, Option, Some, None, length, slice_get}
 use Rattle.std.proofs.Math.ListN.{set}
+use Rattle.hs_base.specs.declared.byte_set.ByteSet.{ByteSet}
 use Rattle.hs_engine.specs.Engines.{Meaning}
 use Rattle.hs_lazy.specs.Sound.{IsDfaSound}
 use Rattle.hs_lazy.specs.Members.{IsTakenIn}
@@ -50,16 +51,16 @@ AreAllSound meaning engines list =
     IsDfaSound meaning engines dfa.members.items dfa.states.items dfa.rows.items dfa.ends.items
 
 -- One automaton more runs for the number, or all is as before.
-pub data IsPut (old new : Dfas) (number engine size : ℕ) : Type 0 where
-  stays : new.list.items ≡ old.list.items → new.places ≡ old.places → IsPut old new number engine size
+pub data IsPut (old new : Dfas) (number engine size : ℕ) (wakers : ByteSet) : Type 0 where
+  stays : new.list.items ≡ old.list.items → new.places ≡ old.places → IsPut old new number engine size wakers
   is_put :
       (at member : ℕ) (before behind : LazyDfa) →
       slice_get old.list.items at ≡ Some before →
       new.list.items ≡ set old.list.items at behind →
       new.places.items ≡ set old.places.items number (Some (record { dfa = at; member = member })) →
       number < length old.places.items →
-      IsTakenIn before behind number engine size member →
-      IsPut old new number engine size
+      IsTakenIn before behind number engine size wakers member →
+      IsPut old new number engine size wakers
 
 -- The engines of the numbers are there, and count as entered where they are told to be; all steps that are known are
 -- what the engines do.

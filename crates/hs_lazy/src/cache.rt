@@ -6,7 +6,7 @@ use crate::dfa::LazyDfa;
 use crate::engine::TimelessEngine;
 use crate::parts::{Member, Run};
 use crate::running::run_all;
-use hs_base::Prev;
+use hs_base::{ByteSet, Prev};
 use hs_bits::{clear_bits, next_bit_in};
 use hs_reports::MarkSet;
 use std::alloc::{AllocError, Global};
@@ -69,10 +69,10 @@ impl Dfas {
         }
     }
 
-    /// Has the last automaton run an engine for a number, if there is room.
-    fn put(&mut self, number: usize, engine: usize, size: usize)
+    /// Has the last automaton run an engine for a number, which those bytes may wake, if there is room.
+    fn put(&mut self, number: usize, engine: usize, size: usize, wakers: ByteSet)
         requires { size ≤ 64 }
-        ensures { IsPut self.old self.new number engine size }
+        ensures { IsPut self.old self.new number engine size wakers }
     {
         let Some(last) = self.list.len().checked_sub(1) else {
             return;
@@ -84,7 +84,8 @@ impl Dfas {
         {
             return;
         }
-        let Some(member) = self.list[last].put(number as u32, engine as u32, size as u32) else {
+        let (number_is, engine_is, size_is) = (number as u32, engine as u32, size as u32);
+        let Some(member) = self.list[last].put(number_is, engine_is, size_is, wakers) else {
             return;
         };
         self.places[number] = Some(Place {
@@ -190,12 +191,13 @@ impl Cache {
         ensures own { (n : ℕ) → engine_at self.new.dfas number ≡ Some n → n ≡ engine }
         ensures others { (k : ℕ) → (k ≡ number → ⊥) → engine_at self.new.dfas k ≡ engine_at self.old.dfas k }
     {
-        let size = engines[engine].size();
-        if !engines[engine].is_timeless() || size == 0 || size > MAX_SIZE {
+        let own = &engines[engine];
+        let size = own.size();
+        if !own.is_timeless() || size == 0 || size > MAX_SIZE {
             return Ok(());
         }
         self.make_room(alloc, engines, size)?;
-        self.dfas.put(number, engine, size);
+        self.dfas.put(number, engine, size, *own.wakers());
         Ok(())
     }
 

@@ -7,7 +7,7 @@ ghost use Rattle.hs_lazy.specs.Walks.{state_before};
 use crate::budget::Budget;
 use crate::end_table::EndTable;
 use crate::parts::{EndSet, IMAGE_BYTES, MEMBER_WORDS, Member, Run, State};
-use hs_base::Prev;
+use hs_base::{ByteSet, Prev};
 use hs_bits::{clear_words, is_unset, is_zero, unite_words, word_at, write_word_bit};
 use std::alloc::{AllocError, Global};
 
@@ -237,9 +237,9 @@ impl LazyDfa {
 
     /// Takes in an engine with a region of that size, and forgets all states. Answers its number among the members;
     /// None where there is no room for it, and then all stays.
-    pub fn put(&mut self, number: u32, engine: u32, size: u32) -> Option<u32>
+    pub fn put(&mut self, number: u32, engine: u32, size: u32, wakers: ByteSet) -> Option<u32>
         requires { size ≤ 64 }
-        ensures { MatchOption result (self.new ≡ self.old) (IsTakenIn self.old self.new number engine size) }
+        ensures { MatchOption result (self.new ≡ self.old) (IsTakenIn self.old self.new number engine size wakers) }
     {
         let start = self.end();
         let member = self.members.len();
@@ -253,6 +253,7 @@ impl LazyDfa {
                 engine,
                 start,
                 end: start + size,
+                wakers,
             })
             .unwrap();
         Some(member as u32)

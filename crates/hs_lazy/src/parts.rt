@@ -3,7 +3,7 @@
 ghost use Rattle.std.specs.Prelude.{◌≡◌, ◌≤◌, length};
 
 use crate::end_table::EndTable;
-use hs_base::Prev;
+use hs_base::{ByteSet, Prev};
 
 /// How many bytes the regions of its engines have together at most.
 pub(crate) const IMAGE_BYTES: usize = 512;
@@ -22,6 +22,8 @@ pub struct Member {
     pub start: u32,
     /// Where it ends.
     pub end: u32,
+    /// The bytes that may wake it: over others its region stays all 0 where it is.
+    pub wakers: ByteSet,
 }
 
 /// A state of the automaton: the regions of all members, and what stands before the next byte.

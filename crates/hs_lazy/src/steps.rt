@@ -1,19 +1,20 @@
 //! The steps of an automaton, which are made when a byte is first met in a state.
 
-ghost use Rattle.std.specs.Prelude.{◌≡◌, ◌+◌, ◌<◌, ◌≤◌, false, true, IfSome, length};
-ghost use Rattle.hs_base.specs.Bits.{AreZero, has_word_bit};
+ghost use Rattle.std.specs.Prelude.{◌≡◌, ◌+◌, ◌<◌, ◌≤◌, ◌||◌, ℕ, true, IfSome, Some, length, slice_get};
+ghost use Rattle.hs_base.specs.Bits.{has_word_bit};
+ghost use Rattle.hs_base.specs.ByteSets.{has};
 ghost use Rattle.hs_lazy.specs.Parts.{AreMembersApart, AreStillThere, AreStepsKept, IsBeside, IsLive, IsStepMade};
 ghost use Rattle.hs_lazy.specs.Parts.{entry, part};
 ghost use Rattle.hs_lazy.specs.declared.parts.Member.{Member};
-ghost use Rattle.hs_lazy.specs.Runs.{AreZerosBlank, IsBlankRegion, TakesEntered};
+ghost use Rattle.hs_lazy.specs.Runs.{AreZerosBlank, TakesEntered};
 ghost use Rattle.hs_lazy.specs.Sound.{AreMembersOf, IsDfaSound, TakeEntered};
 ghost use Rattle.hs_lazy.specs.Walks.{IsChunkTaken, IsWalk};
 
 use crate::dfa::{ENDS_UNIT, LazyDfa, state_at};
 use crate::engine::{ByteEnds, TimelessEngine};
-use crate::parts::{EndSet, Member, Run, State};
+use crate::parts::{EndSet, MEMBER_WORDS, Member, Run, State};
 use hs_base::Prev;
-use hs_bits::{contains_word_bit, write_word_bit};
+use hs_bits::{contains_word_bit, next_bit_in, write_word_bit};
 
 /// Takes a chunk behind `prev` from the image that is loaded on, if the automaton doesn't rest and doesn't give up.
 pub fn run_dfa<E: TimelessEngine>(
@@ -149,12 +150,12 @@ fn make_step<E: TimelessEngine>(
     ensures step { IfSome result (IsStepMade dfa.new.rows.items state byte) }
 {
     let old = dfa.states[state];
-    let cost = cost_of(&dfa.members, engines, &old.live, byte);
-    if !dfa.budget.spend(cost) {
+    let asked = asked_members(&dfa.members, &old.live, byte);
+    if !dfa.budget.spend(cost_of(&asked)) {
         return None;
     }
     let mut image = old.image;
-    let Some(ends) = take_members(&dfa.members, engines, &old, &mut image, byte) else {
+    let Some(ends) = take_members(&dfa.members, engines, &old, &asked, &mut image, byte) else {
         return None;
     };
     let Some(next) = dfa.find(&image, Prev::behind(byte)) else {
@@ -166,29 +167,45 @@ fn make_step<E: TimelessEngine>(
     Some(dfa.write_step(state, byte, next, number))
 }
 
-/// What a step costs: one, and as many as engines are asked for the byte.
-fn cost_of<E: TimelessEngine>(members: &[Member], engines: &[E], live: &[u64], byte: u8) -> u32
-    requires of { AreMembersOf E.meaning engines.now members.now }
+/// The members that are asked for a byte: those in which something is live, and those that it may wake.
+fn asked_members(
+    members: &[Member],
+    live: &[u64; MEMBER_WORDS],
+    byte: u8,
+) -> [u64; MEMBER_WORDS]
     requires few { length members.now ≤ 256 }
     requires live_len { length live.now ≡ 4 }
+    ensures len { length result ≡ 4 }
+    ensures bits { (k : ℕ) (m : Member) → slice_get members.now k ≡ Some m →
+        has_word_bit result k ≡ (has_word_bit live.now k || has m.wakers byte) }
+{
+    let mut asked = *live;
+    for k in 0..members.len() {
+        let is_asked = contains_word_bit(live, k) | members[k].wakers.contains(byte);
+        write_word_bit(&mut asked, k, is_asked);
+    }
+    asked
+}
+
+/// What a step costs: one, and as many as engines are asked for the byte.
+fn cost_of(asked: &[u64; MEMBER_WORDS]) -> u32
+    requires len { length asked.now ≡ 4 }
     ensures { (0 < result) × (result ≤ 257) }
 {
     let mut cost = 1;
-    for k in 0..members.len() {
-        let engine = &engines[members[k].engine as usize];
-        if contains_word_bit(live, k) || engine.wakers().contains(byte) {
-            cost += 1;
-        }
+    for word in 0..MEMBER_WORDS {
+        cost += asked[word].count_ones();
     }
     cost
 }
 
-/// Takes a byte in the regions of all members, from those of a state on. Answers which of them are left; None where an
-/// engine doesn't tell it.
+/// Takes a byte in the regions of those members that are asked for it, from those of a state on; in all others nothing
+/// is live, and the byte wakes nothing. Answers which members are left; None where an engine doesn't tell it.
 fn take_members<E: TimelessEngine>(
     members: &[Member],
     engines: &[E],
     old: &State,
+    asked: &[u64; MEMBER_WORDS],
     image: &mut [u8],
     byte: u8,
 ) -> Option<EndSet>
@@ -197,7 +214,9 @@ fn take_members<E: TimelessEngine>(
     requires apart { AreMembersApart members.now }
     requires few { length members.now ≤ 256 }
     requires live { IsLive members.now old.now.image old.now.live }
-    requires live_len { length old.now.live ≡ 4 }
+    requires asked_len { length asked.now ≡ 4 }
+    requires asked { (k : ℕ) (m : Member) → slice_get members.now k ≡ Some m →
+        has_word_bit asked.now k ≡ (has_word_bit old.now.live k || has m.wakers byte) }
     requires image { image.old ≡ old.now.image }
     requires len { length image.old ≡ 512 }
     ensures len { length image.new ≡ length image.old }
@@ -205,40 +224,35 @@ fn take_members<E: TimelessEngine>(
         (has_word_bit set.before) (has_word_bit set.behind)) }
 {
     let mut ends = EndSet::NOWHERE;
-    for k in 0..members.len() {
+    let mut from = 0;
+    while let Some(k) = next_bit_in(asked, from, members.len()) {
         let member = members[k];
-        let is_live = contains_word_bit(&old.live, k);
         let engine = &engines[member.engine as usize];
-        let Some(own) = take_member(engine, member, is_live, image, old.prev, byte) else {
+        let Some(own) = take_member(engine, member, image, old.prev, byte) else {
             return None;
         };
         write_word_bit(&mut ends.before, k, own.before);
         write_word_bit(&mut ends.behind, k, own.behind);
+        from = k + 1;
     }
     Some(ends)
 }
 
-/// Takes a byte in the region of a member. Where nothing is live there and the byte wakes nothing, the engine isn't
-/// asked.
+/// Takes a byte in the region of a member.
 fn take_member<E: TimelessEngine>(
     engine: &E,
     member: Member,
-    is_live: bool,
     image: &mut [u8],
     prev: Prev,
     byte: u8,
 ) -> Option<ByteEnds>
     requires within { member.end ≤ length image.old }
     requires sized { member.start + (E.meaning engine.now).width ≡ member.end }
-    requires blank { is_live ≡ false → IsBlankRegion (E.meaning engine.now) (part image.old member) }
     ensures len { length image.new ≡ length image.old }
     ensures others { (other : Member) → IsBeside member other → part image.new other ≡ part image.old other }
     ensures takes { IfSome result (λ own. TakesEntered (E.meaning engine.now) (part image.old member)
         (part image.new member) prev byte own) }
 {
-    if !is_live && !engine.wakers().contains(byte) {
-        return Some(ByteEnds::NOWHERE);
-    }
     engine.take_byte(
         &mut image[member.start as usize..member.end as usize],
         prev,

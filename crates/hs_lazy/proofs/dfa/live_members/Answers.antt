@@ -1,4 +1,4 @@
-use Rattle.std.proofs.Common.{◌≡◌, true, false, not, get_or, inl, inr, sym, ap, subst, ◌∙◌, refl, arith, rules}
+use Rattle.std.proofs.Common.{◌≡◌, [], true, false, not, get_or, inl, inr, sym, ap, subst, ◌∙◌, refl, arith, rules}
 use Rattle.std.proofs.lemmas.Bool.{cases_eq}
 use Rattle.std.proofs.lemmas.Option.{slice_get_within, get_or_from_slice_get}
 use Rattle.hs_base.specs.Bits.{AreZero, has_word_bit}
@@ -10,13 +10,16 @@ asleep : (unset : _) → (x : _) → x ≡ not unset → x ≡ false → unset �
 asleep true x e f = refl
 asleep false x e f = absurd (cc)
 
+abbrev nobody : Member
+nobody = record { number = 0; engine = 0; start = 0; end = 0; wakers = record { words = [] } }
+
 pub loop-k-preserved : goal.loop-k-preserved
 loop-k-preserved c = record {
   len = search rules;
   done = λ j m low is unset. elim (cases_eq j c.loop-k.k) [
     | inl same ↦
-        let it : get_or c.args.members.now c.loop-k.k (record { number = 0; engine = 0; start = 0; end = 0 }) ≡ m =
-        ap (λ n. get_or c.args.members.now n (record { number = 0; engine = 0; start = 0; end = 0 })) (sym same) ∙ get_or_from_slice_get c.args.members.now j m _ is in
+        let it : get_or c.args.members.now c.loop-k.k nobody ≡ m =
+        ap (λ n. get_or c.args.members.now n nobody) (sym same) ∙ get_or_from_slice_get c.args.members.now j m _ is in
         subst (λ (x : Member). AreZero (part c.args.image.now x)) it
         (c.is_zero-is_asleep.ensures.0 (asleep c.is_zero-is_asleep.result _ c.write_word_bit.ensures.put (ap (has_word_bit c.write_word_bit.new.words) (sym same) ∙ unset)))
     | inr apart ↦ c.loop-k.invariant.done j m (omega (arith, low, apart)) is (sym (c.write_word_bit.ensures.others j apart) ∙ unset)

@@ -4,7 +4,7 @@ use Rattle.hs_base.specs.Bits.{has_word_bit}
 use Rattle.hs_base.specs.Contexts.{prev_behind}
 use Rattle.hs_lazy.specs.declared.parts.State.{State}
 use Rattle.hs_lazy.specs.declared.dfa.LazyDfa.{LazyDfa}
-use Rattle.hs_lazy.specs.Parts.{IsState, IsStateWhole}
+use Rattle.hs_lazy.specs.Parts.{IsLive, IsState, IsStateWhole}
 use Rattle.hs_lazy.specs.Sound.{IsStep, TakeEntered}
 use Rattle.hs_lazy.proofs.SoundLemmas.{IsSoundDfa, after-ends, after-find, after-write}
 use Rattle.hs_lazy.proofs.StepLemmas.{step-made}
@@ -16,13 +16,21 @@ at-state d d' s old same low is = d'.live s old is
 read-state : (d d' : LazyDfa) (s : ℕ) (old : State) → d'.states ≡ d.states → s < length d.states.items → old ≡ get_or d'.states.items s old → slice_get d'.states.items s ≡ Some old
 read-state d d' s old same low is = slice_get_read d'.states.items _ s old refl (subst (λ v. s < length v.items) (sym same) low) is
 
-pub take_members-requires-clause-live_len : goal.take_members-requires-clause-live_len
-take_members-requires-clause-live_len g c =
+pub asked_members-asked-requires-clause-live_len : goal.asked_members-asked-requires-clause-live_len
+asked_members-asked-requires-clause-live_len g c =
     (c.args.dfa.now.live c.args.state c.index.result.now (read-state c.args.dfa.now c.args.dfa.now c.args.state _ refl c.requires.state c.index.ensures)).live_len
 
 pub take_members-requires-clause-len : goal.take_members-requires-clause-len
 take_members-requires-clause-len g c =
     (c.args.dfa.now.live c.args.state c.index.result.now (read-state c.args.dfa.now c.args.dfa.now c.args.state _ refl c.requires.state c.index.ensures)).image_len
+
+pub slice_bounds-take_members-end : goal.slice_bounds-take_members-end
+slice_bounds-take_members-end g c = sym (c.args.dfa.now.live c.args.state c.index.result.now (read-state c.args.dfa.now c.args.dfa.now c.args.state _ refl c.requires.state c.index.ensures)).image_len
+
+pub take_members-requires-clause-live : goal.take_members-requires-clause-live
+take_members-requires-clause-live g c =
+    subst (λ l. IsLive l c.index.result.now.image c.index.result.now.live) (sym c.deref-2.ensures.value)
+    (c.args.dfa.now.live c.args.state c.index.result.now (read-state c.args.dfa.now c.args.dfa.now c.args.state _ refl c.requires.state c.index.ensures)).live
 
 pub returns-in_default-find-clause-sound : goal.returns-in_default-find-clause-sound
 returns-in_default-find-clause-sound g c =

@@ -1,4 +1,4 @@
-use Rattle.std.proofs.Common.{◌≡◌, ◌∙◌, Bool, true, false, inl, inr, ◌⊎◌, get_or, sym, refl, ap, arith}
+use Rattle.std.proofs.Common.{◌≡◌, [], ◌∙◌, Bool, true, false, inl, inr, ◌⊎◌, get_or, sym, refl, ap, arith}
 use Rattle.std.proofs.lemmas.Bool.{cases_eq, cases_lt}
 use Rattle.std.proofs.lemmas.Option.{get_or_from_slice_get, slice_get_within}
 use Rattle.hs_base.specs.Bits.{has_word_bit}
@@ -14,6 +14,9 @@ either : (b : Bool) → (b ≡ true) ⊎ (b ≡ false)
 either true = inl refl
 either false = inr refl
 
+abbrev nobody : Member
+nobody = record { number = 0; engine = 0; start = 0; end = 0; wakers = record { words = [] } }
+
 pub loop-k-preserved : goal.loop-k-preserved
 loop-k-preserved c = record {
   room = c.mark_number.ensures.room ∙ c.loop-k.invariant.room;
@@ -27,9 +30,9 @@ loop-k-preserved c = record {
     | inl before ↦ c.mark_number.ensures.kept m.number (c.loop-k.invariant.marked k m own before is there bit)
     | inr high ↦ elim (cases_eq k c.in-Some.k) [
       | inl same ↦
-          let it : get_or c.args.members.now c.in-Some.k (record { number = 0; engine = 0; start = 0; end = 0 }) ≡ m =
-          ap (λ n. get_or c.args.members.now n (record { number = 0; engine = 0; start = 0; end = 0 })) (sym same) ∙ get_or_from_slice_get c.args.members.now k m _ is in
-          let at : (get_or c.args.members.now c.in-Some.k (record { number = 0; engine = 0; start = 0; end = 0 })).number ≡ m.number = ap (λ (x : Member). x.number) it in
+          let it : get_or c.args.members.now c.in-Some.k nobody ≡ m =
+          ap (λ n. get_or c.args.members.now n nobody) (sym same) ∙ get_or_from_slice_get c.args.members.now k m _ is in
+          let at : (get_or c.args.members.now c.in-Some.k nobody).number ≡ m.number = ap (λ (x : Member). x.number) it in
           ap (is_marked c.mark_number.new.marks) (sym at) ∙ c.mark_number.ensures.marked own (ap (member_of c.args.self.now.dfas) at ∙ there)
       | inr other ↦ both (has_word_bit c.args.woken.now k) bit (c.in-Some.ensures.least k high (omega (arith, low, other)))
     ]
