@@ -5,7 +5,7 @@ use Rattle.std.proofs.lemmas.Bool.{cases_eq, cases_lt}
 use Rattle.std.proofs.lemmas.Option.{slice_get_past}
 use Rattle.hs_base.specs.Bits.{has_word_bit}
 use Rattle.hs_lazy.specs.declared.cache.ToldEnds.{ToldEnds}
-use Rattle.hs_lazy.specs.Ends.{IsRowWhole, left_before, left_behind, row_before, row_behind}
+use Rattle.hs_lazy.specs.Ends.{IsRowWhole, member_left_before, member_left_behind, row_before, row_behind}
 use Rattle.hs_lazy.proofs.ListLemmas.{get-set, set-got, set-others}
 use Rattle.hs_lazy.proofs.PartLemmas.{eight, eight-unset}
 
@@ -24,35 +24,35 @@ same-rows (suc n) (suc m) row is = same-rows n m row is
 pub empty-whole : (n m : ℕ) (row : ToldEnds) → slice_get (replicate n nothing) m ≡ Some row → IsRowWhole row
 empty-whole n m row is = subst (λ r. IsRowWhole r) (sym (same-rows n m row is)) nothing-whole
 
-pub empty-before : (n m i : ℕ) → left_before (replicate n nothing) m i ≡ false
+pub empty-before : (n m i : ℕ) → member_left_before (replicate n nothing) m i ≡ false
 empty-before zero m i = refl
 empty-before (suc n) zero i = eight-unset i
 empty-before (suc n) (suc m) i = empty-before n m i
 
-pub empty-behind : (n m i : ℕ) → left_behind (replicate n nothing) m i ≡ false
+pub empty-behind : (n m i : ℕ) → member_left_behind (replicate n nothing) m i ≡ false
 empty-behind zero m i = refl
 empty-behind (suc n) zero i = eight-unset i
 empty-behind (suc n) (suc m) i = empty-behind n m i
 
 -- behind the last row there is nothing
-pub past-before : (rows : List ToldEnds) (m i : ℕ) → length rows ≤ m → left_before rows m i ≡ false
+pub past-before : (rows : List ToldEnds) (m i : ℕ) → length rows ≤ m → member_left_before rows m i ≡ false
 past-before rows m i past = ap (λ o. row_before o i) (slice_get_past rows m past)
 
-pub past-behind : (rows : List ToldEnds) (m i : ℕ) → length rows ≤ m → left_behind rows m i ≡ false
+pub past-behind : (rows : List ToldEnds) (m i : ℕ) → length rows ≤ m → member_left_behind rows m i ≡ false
 past-behind rows m i past = ap (λ o. row_behind o i) (slice_get_past rows m past)
 
 -- a row is written
 module _ (rows : List ToldEnds) (m : ℕ) (row : ToldEnds) (low : m < length rows) where
-  pub before-own : (i : ℕ) → left_before (set rows m row) m i ≡ has_word_bit row.before i
+  pub before-own : (i : ℕ) → member_left_before (set rows m row) m i ≡ has_word_bit row.before i
   before-own i = ap (λ o. row_before o i) (set-got rows m row low)
 
-  pub behind-own : (i : ℕ) → left_behind (set rows m row) m i ≡ has_word_bit row.behind i
+  pub behind-own : (i : ℕ) → member_left_behind (set rows m row) m i ≡ has_word_bit row.behind i
   behind-own i = ap (λ o. row_behind o i) (set-got rows m row low)
 
-  pub before-other : (k i : ℕ) → (k ≡ m → ⊥) → left_before (set rows m row) k i ≡ left_before rows k i
+  pub before-other : (k i : ℕ) → (k ≡ m → ⊥) → member_left_before (set rows m row) k i ≡ member_left_before rows k i
   before-other k i away = ap (λ o. row_before o i) (set-others rows m row k away)
 
-  pub behind-other : (k i : ℕ) → (k ≡ m → ⊥) → left_behind (set rows m row) k i ≡ left_behind rows k i
+  pub behind-other : (k i : ℕ) → (k ≡ m → ⊥) → member_left_behind (set rows m row) k i ≡ member_left_behind rows k i
   behind-other k i away = ap (λ o. row_behind o i) (set-others rows m row k away)
 
   pub whole-set : IsRowWhole row → ((k : ℕ) (x : ToldEnds) → slice_get rows k ≡ Some x → IsRowWhole x) →
@@ -64,15 +64,15 @@ module _ (rows : List ToldEnds) (m : ℕ) (row : ToldEnds) (low : m < length row
 
 -- a row is emptied
 module _ (rows : List ToldEnds) (m : ℕ) (low : m < length rows) where
-  pub emptied-before : (k i : ℕ) → ((k ≡ m → ⊥) → left_before rows k i ≡ false) → left_before (set rows m nothing) k i ≡ false
+  pub emptied-before : (k i : ℕ) → ((k ≡ m → ⊥) → member_left_before rows k i ≡ false) → member_left_before (set rows m nothing) k i ≡ false
   emptied-before k i others = elim (cases_eq k m) [
-    | inl same ↦ ap (λ n. left_before (set rows m nothing) n i) same ∙ (before-own rows m nothing low i ∙ eight-unset i)
+    | inl same ↦ ap (λ n. member_left_before (set rows m nothing) n i) same ∙ (before-own rows m nothing low i ∙ eight-unset i)
     | inr away ↦ before-other rows m nothing low k i away ∙ others away
   ]
 
-  pub emptied-behind : (k i : ℕ) → ((k ≡ m → ⊥) → left_behind rows k i ≡ false) → left_behind (set rows m nothing) k i ≡ false
+  pub emptied-behind : (k i : ℕ) → ((k ≡ m → ⊥) → member_left_behind rows k i ≡ false) → member_left_behind (set rows m nothing) k i ≡ false
   emptied-behind k i others = elim (cases_eq k m) [
-    | inl same ↦ ap (λ n. left_behind (set rows m nothing) n i) same ∙ (behind-own rows m nothing low i ∙ eight-unset i)
+    | inl same ↦ ap (λ n. member_left_behind (set rows m nothing) n i) same ∙ (behind-own rows m nothing low i ∙ eight-unset i)
     | inr away ↦ behind-other rows m nothing low k i away ∙ others away
   ]
 
@@ -131,16 +131,16 @@ inserted left left' left0 bit from m place own put others prior fresh least afte
 
 -- a row is written of a member that may be left
 pub set-silent-before : (rows : List ToldEnds) (m : ℕ) (row : ToldEnds) (members : List ℕ) → m < length rows → has_word_bit members m ≡ true →
-    ((k i : ℕ) → has_word_bit members k ≡ false → left_before rows k i ≡ false) →
-    (k i : ℕ) → has_word_bit members k ≡ false → left_before (set rows m row) k i ≡ false
+    ((k i : ℕ) → has_word_bit members k ≡ false → member_left_before rows k i ≡ false) →
+    (k i : ℕ) → has_word_bit members k ≡ false → member_left_before (set rows m row) k i ≡ false
 set-silent-before rows m row members low marked all k i unset = elim (cases_eq k m) [
   | inl same ↦ absurd (let is : has_word_bit members k ≡ true = ap (has_word_bit members) same ∙ marked in cc)
   | inr away ↦ before-other rows m row low k i away ∙ all k i unset
 ]
 
 pub set-silent-behind : (rows : List ToldEnds) (m : ℕ) (row : ToldEnds) (members : List ℕ) → m < length rows → has_word_bit members m ≡ true →
-    ((k i : ℕ) → has_word_bit members k ≡ false → left_behind rows k i ≡ false) →
-    (k i : ℕ) → has_word_bit members k ≡ false → left_behind (set rows m row) k i ≡ false
+    ((k i : ℕ) → has_word_bit members k ≡ false → member_left_behind rows k i ≡ false) →
+    (k i : ℕ) → has_word_bit members k ≡ false → member_left_behind (set rows m row) k i ≡ false
 set-silent-behind rows m row members low marked all k i unset = elim (cases_eq k m) [
   | inl same ↦ absurd (let is : has_word_bit members k ≡ true = ap (has_word_bit members) same ∙ marked in cc)
   | inr away ↦ behind-other rows m row low k i away ∙ all k i unset

@@ -11,7 +11,7 @@ use Rattle.hs_lazy.specs.declared.parts.Run.{Run}
 use Rattle.hs_lazy.specs.declared.parts.State.{State}
 use Rattle.hs_lazy.specs.declared.dfa.LazyDfa.{LazyDfa}
 use Rattle.hs_lazy.specs.Walks.{IsChunkTaken}
-use Rattle.hs_lazy.specs.Ends.{left_before, left_behind}
+use Rattle.hs_lazy.specs.Ends.{member_left_before, member_left_behind}
 use Rattle.hs_lazy.specs.Parts.{part}
 use Rattle.hs_lazy.specs.Runs.{RunsThrough}
 use Rattle.hs_lazy.specs.Tables.{member_of, place_for}
@@ -44,10 +44,10 @@ told_if false t = None
 
 -- the ends before a chunk's bytes and behind them, of the member of that number
 abbrev pub befores_of : Run → (member : ℕ) → ℕ → Bool
-befores_of run member i = left_before run.ends.rows member i
+befores_of run member i = member_left_before run.ends.rows member i
 
 abbrev pub behinds_of : Run → (member : ℕ) → ℕ → Bool
-behinds_of run member i = left_behind run.ends.rows member i
+behinds_of run member i = member_left_behind run.ends.rows member i
 
 abbrev pub told_of : Option State → Run → (number : ℕ) → Member → Option Told
 told_of None run number member = None

@@ -20,15 +20,15 @@ row_behind None i = false
 row_behind (Some row) i = has_word_bit row.behind i
 
 -- the member is left before the byte i, or behind it
-abbrev pub left_before : (rows : List ToldEnds) (member i : ℕ) → Bool
-left_before rows m i = row_before (slice_get rows m) i
+abbrev pub member_left_before : (rows : List ToldEnds) (member i : ℕ) → Bool
+member_left_before rows m i = row_before (slice_get rows m) i
 
-abbrev pub left_behind : (rows : List ToldEnds) (member i : ℕ) → Bool
-left_behind rows m i = row_behind (slice_get rows m) i
+abbrev pub member_left_behind : (rows : List ToldEnds) (member i : ℕ) → Bool
+member_left_behind rows m i = row_behind (slice_get rows m) i
 
 -- The table has just the ends of so many steps of a trace.
 pub record AreTraceEnds (sets : List EndSet) (trace : List ℕ) (count : ℕ) (rows : List ToldEnds) : Type 0 where
   pub before : (m i : ℕ) → m < 256 →
-      left_before rows m i ≡ (nat_lt i count && before_of (set_of sets (ends_of (slice_index trace i))) m)
+      member_left_before rows m i ≡ (nat_lt i count && before_of (set_of sets (ends_of (slice_index trace i))) m)
   pub behind : (m i : ℕ) → m < 256 →
-      left_behind rows m i ≡ (nat_lt i count && behind_of (set_of sets (ends_of (slice_index trace i))) m)
+      member_left_behind rows m i ≡ (nat_lt i count && behind_of (set_of sets (ends_of (slice_index trace i))) m)

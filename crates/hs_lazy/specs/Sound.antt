@@ -8,8 +8,8 @@ use Rattle.hs_lazy.specs.declared.parts.EndSet.{EndSet}
 use Rattle.hs_lazy.specs.Runs.{TakesEntered}
 use Rattle.hs_lazy.specs.Parts.{before_of, behind_of, ends_of, entry, next_of, part, set_of}
 
--- The members' engines are there, count as entered where they are told to be, have regions of their sizes, and are woken
--- by their wakers alone.
+-- The members' engines are there, count as entered where they are told to be, have regions of their sizes, and are
+-- woken by their wakers alone.
 pub record AreMembersOf {E : Type 0} (meaning : E → Meaning) (engines : List E) (members : List Member) : Type 0 where
   pub there : (k : ℕ) (m : Member) → slice_get members k ≡ Some m → m.engine < length engines
   pub listed : (k : ℕ) (m : Member) (e : E) → slice_get members k ≡ Some m → slice_get engines m.engine ≡ Some e →

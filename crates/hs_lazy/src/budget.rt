@@ -4,16 +4,16 @@
 ghost use Rattle.std.specs.Prelude.{◌≡◌, false, nat_le, nat_lt};
 
 /// How many engines may be asked for a byte at first.
-const FIRST_CREDIT: u32 = 8192;
+const FIRST_CREDIT: u32 = 65536;
 
 /// How many after each rest.
-const LATER_CREDIT: u32 = 2048;
+const LATER_CREDIT: u32 = 16384;
 
 /// How many more for each chunk that was taken.
-const CHUNK_CREDIT: u32 = 16;
+const CHUNK_CREDIT: u32 = 64;
 
 /// How many at most.
-const MOST_CREDIT: u32 = 8192;
+const MOST_CREDIT: u32 = 65536;
 
 /// After how many chunks in turn that were taken in vain an automaton rests.
 const MOST_VAIN: u32 = 64;

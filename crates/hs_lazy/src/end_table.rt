@@ -2,7 +2,7 @@
 
 ghost use Rattle.std.specs.Prelude.{◌≡◌, ◌<◌, ◌≤◌, ℕ, ◌==◌, ◌&&◌, ◌||◌, Some, false, length, slice_get};
 ghost use Rattle.hs_base.specs.Bits.{has_word_bit};
-ghost use Rattle.hs_lazy.specs.Ends.{IsRowWhole, left_before, left_behind};
+ghost use Rattle.hs_lazy.specs.Ends.{IsRowWhole, member_left_before, member_left_behind};
 ghost use Rattle.hs_lazy.specs.declared.cache.ToldEnds.{ToldEnds};
 
 use crate::cache::ToldEnds;
@@ -20,8 +20,8 @@ pub struct EndTable {
     ghost rows_len: { length rows ≡ 256 },
     ghost whole: { (m : ℕ) (row : ToldEnds) → slice_get rows m ≡ Some row → IsRowWhole row },
     ghost members_len: { length members ≡ 4 },
-    ghost silent_before: { (m i : ℕ) → has_word_bit members m ≡ false → left_before rows m i ≡ false },
-    ghost silent_behind: { (m i : ℕ) → has_word_bit members m ≡ false → left_behind rows m i ≡ false },
+    ghost silent_before: { (m i : ℕ) → has_word_bit members m ≡ false → member_left_before rows m i ≡ false },
+    ghost silent_behind: { (m i : ℕ) → has_word_bit members m ≡ false → member_left_behind rows m i ≡ false },
 }
 
 impl EndTable {
@@ -33,8 +33,8 @@ impl EndTable {
 
     /// Forgets all.
     pub(crate) fn clear(&mut self)
-        ensures before { (m i : ℕ) → left_before self.new.rows m i ≡ false }
-        ensures behind { (m i : ℕ) → left_behind self.new.rows m i ≡ false }
+        ensures before { (m i : ℕ) → member_left_before self.new.rows m i ≡ false }
+        ensures behind { (m i : ℕ) → member_left_behind self.new.rows m i ≡ false }
     {
         let mut from = 0;
         while let Some(member) = next_bit_in(&self.members, from, MAX_MEMBERS) {
@@ -49,12 +49,12 @@ impl EndTable {
         requires place { place < 512 }
         requires before_len { length set.now.before ≡ 4 }
         requires behind_len { length set.now.behind ≡ 4 }
-        requires before { (m : ℕ) → left_before self.old.rows m place ≡ false }
-        requires behind { (m : ℕ) → left_behind self.old.rows m place ≡ false }
-        ensures before { (m i : ℕ) → m < 256 → left_before self.new.rows m i
-            ≡ (left_before self.old.rows m i || (i == place) && has_word_bit set.now.before m) }
-        ensures behind { (m i : ℕ) → m < 256 → left_behind self.new.rows m i
-            ≡ (left_behind self.old.rows m i || (i == place) && has_word_bit set.now.behind m) }
+        requires before { (m : ℕ) → member_left_before self.old.rows m place ≡ false }
+        requires behind { (m : ℕ) → member_left_behind self.old.rows m place ≡ false }
+        ensures before { (m i : ℕ) → m < 256 → member_left_before self.new.rows m i
+            ≡ (member_left_before self.old.rows m i || (i == place) && has_word_bit set.now.before m) }
+        ensures behind { (m i : ℕ) → m < 256 → member_left_behind self.new.rows m i
+            ≡ (member_left_behind self.old.rows m i || (i == place) && has_word_bit set.now.behind m) }
     {
         unite_words(&mut self.members, &set.before);
         unite_words(&mut self.members, &set.behind);
@@ -70,8 +70,8 @@ impl EndTable {
     /// Where a member is left.
     pub(crate) fn of(&self, member: usize) -> ToldEnds
         requires { member < 256 }
-        ensures before { (i : ℕ) → has_word_bit result.before i ≡ left_before self.now.rows member i }
-        ensures behind { (i : ℕ) → has_word_bit result.behind i ≡ left_behind self.now.rows member i }
+        ensures before { (i : ℕ) → has_word_bit result.before i ≡ member_left_before self.now.rows member i }
+        ensures behind { (i : ℕ) → has_word_bit result.behind i ≡ member_left_behind self.now.rows member i }
     {
         self.rows[member]
     }

@@ -2,7 +2,7 @@ use Rattle.std.proofs.Common.{◌≡◌, ℕ, ◌<◌, false, inl, inr, refl, �
 use Rattle.std.proofs.lemmas.Bool.{cases_lt}
 use Rattle.std.proofs.lemmas.List.{length-set}
 use Rattle.hs_base.specs.Bits.{has_word_bit}
-use Rattle.hs_lazy.specs.Ends.{left_before, left_behind}
+use Rattle.hs_lazy.specs.Ends.{member_left_before, member_left_behind}
 use Rattle.hs_lazy.proofs.EndLemmas.{all-emptied, emptied-before, emptied-behind, nothing, nothing-whole, past-before, past-behind, whole-set}
 use Rattle.hs_lazy.proofs.end_table.EndTable.clear.Goals as goal
 
@@ -34,19 +34,19 @@ loop-member-preserved c =
     }
 
 pub returns-clause-before : goal.returns-clause-before
-returns-clause-before c = all-emptied (left_before c.loop-member.self.rows) (has_word_bit c.loop-member.self.members) c.loop-member.from c.loop-member.invariant.before
+returns-clause-before c = all-emptied (member_left_before c.loop-member.self.rows) (has_word_bit c.loop-member.self.members) c.loop-member.from c.loop-member.invariant.before
     c.loop-member.self.silent_before c.in_default.ensures (λ m i past. past-before c.loop-member.self.rows m i (omega (arith, past, c.loop-member.self.rows_len)))
 
 pub returns-clause-behind : goal.returns-clause-behind
-returns-clause-behind c = all-emptied (left_behind c.loop-member.self.rows) (has_word_bit c.loop-member.self.members) c.loop-member.from c.loop-member.invariant.behind
+returns-clause-behind c = all-emptied (member_left_behind c.loop-member.self.rows) (has_word_bit c.loop-member.self.members) c.loop-member.from c.loop-member.invariant.behind
     c.loop-member.self.silent_behind c.in_default.ensures (λ m i past. past-behind c.loop-member.self.rows m i (omega (arith, past, c.loop-member.self.rows_len)))
 
 pub way_repeat-self : goal.way_repeat-self
 way_repeat-self c =
-    let before : (m i : ℕ) → left_before c.loop-member.self.rows m i ≡ false =
-    all-emptied (left_before c.loop-member.self.rows) (has_word_bit c.loop-member.self.members) c.loop-member.from c.loop-member.invariant.before
+    let before : (m i : ℕ) → member_left_before c.loop-member.self.rows m i ≡ false =
+    all-emptied (member_left_before c.loop-member.self.rows) (has_word_bit c.loop-member.self.members) c.loop-member.from c.loop-member.invariant.before
     c.loop-member.self.silent_before c.in_default.ensures (λ m i past. past-before c.loop-member.self.rows m i (omega (arith, past, c.loop-member.self.rows_len))) in
-    let behind : (m i : ℕ) → left_behind c.loop-member.self.rows m i ≡ false =
-    all-emptied (left_behind c.loop-member.self.rows) (has_word_bit c.loop-member.self.members) c.loop-member.from c.loop-member.invariant.behind
+    let behind : (m i : ℕ) → member_left_behind c.loop-member.self.rows m i ≡ false =
+    all-emptied (member_left_behind c.loop-member.self.rows) (has_word_bit c.loop-member.self.members) c.loop-member.from c.loop-member.invariant.behind
     c.loop-member.self.silent_behind c.in_default.ensures (λ m i past. past-behind c.loop-member.self.rows m i (omega (arith, past, c.loop-member.self.rows_len))) in
     (c.loop-member.self.rows_len, (c.loop-member.self.whole, (refl, ((λ m i unset. before m i), ((λ m i unset. behind m i), tt)))))

@@ -3,7 +3,7 @@ use Rattle.std.proofs.lemmas.List.{length-set}
 use Rattle.std.proofs.lemmas.Option.{slice_get-get_or}
 use Rattle.hs_base.specs.Bits.{has_word_bit}
 use Rattle.hs_lazy.specs.declared.cache.ToldEnds.{ToldEnds}
-use Rattle.hs_lazy.specs.Ends.{left_before, left_behind, row_before, row_behind}
+use Rattle.hs_lazy.specs.Ends.{member_left_before, member_left_behind, row_before, row_behind}
 use Rattle.hs_lazy.proofs.EndLemmas.{before-other, before-own, behind-other, behind-own, inserted, set-silent-before, set-silent-behind, whole-set}
 use Rattle.hs_lazy.proofs.end_table.EndTable.insert.Goals as goal
 
@@ -27,14 +27,14 @@ loop-member-preserved c =
     record {
       from = omega (arith, small);
       members = c.loop-member.invariant.members;
-      before = inserted (left_before rows) _ (left_before c.args.self.now.rows) (has_word_bit c.args.set.now.before) c.loop-member.from m c.args.place
+      before = inserted (member_left_before rows) _ (member_left_before c.args.self.now.rows) (has_word_bit c.args.set.now.before) c.loop-member.from m c.args.place
           (λ i away. before-own rows m new low i ∙ (c.write_row.ensures.befores i away ∙ sym (ap (λ o. row_before o i) (slice_get-get_or rows m _ low))))
           (before-own rows m new low c.args.place ∙ (c.write_row.ensures.before ∙ c.contains_word_bit-before.ensures))
           (before-other rows m new low)
           c.loop-member.invariant.before c.requires.before
           (λ j high less. (either-unset (has_word_bit c.args.set.now.before j) (has_word_bit c.args.set.now.behind j) (c.in-Some.ensures.least j high less)).0)
           c.in-Some.ensures.low small;
-      behind = inserted (left_behind rows) _ (left_behind c.args.self.now.rows) (has_word_bit c.args.set.now.behind) c.loop-member.from m c.args.place
+      behind = inserted (member_left_behind rows) _ (member_left_behind c.args.self.now.rows) (has_word_bit c.args.set.now.behind) c.loop-member.from m c.args.place
           (λ i away. behind-own rows m new low i ∙ (c.write_row.ensures.behinds i away ∙ sym (ap (λ o. row_behind o i) (slice_get-get_or rows m _ low))))
           (behind-own rows m new low c.args.place ∙ (c.write_row.ensures.behind ∙ c.contains_word_bit-behind.ensures))
           (behind-other rows m new low)
