@@ -11,3 +11,4 @@ pub mod SmallWords
 pub mod SmallMoves
 pub mod BodyMoves
 pub mod LimexEngines
+pub mod Anywhere

@@ -1,6 +1,6 @@
 //! The engine that moves 64 positions at a time.
 
-ghost use Rattle.std.specs.Prelude.{◌≤◌, IfOk};
+ghost use Rattle.std.specs.Prelude.{◌≡◌, ℕ, ◌≤◌, IfOk, length};
 
 use crate::body::Body;
 use crate::clearing::is_clear_from;
@@ -23,6 +23,7 @@ pub struct Limex {
 impl Limex {
     ghost use Rattle.hs_base.specs.Trees.{Tree};
     ghost use Rattle.hs_engine.specs.Tables.{Runs};
+    ghost use Rattle.hs_limex.specs.Anywhere.{TakesAnywhere, TellsAnywhere};
     ghost use Rattle.hs_limex.specs.Fitting.{Fits};
     ghost use Rattle.hs_limex.specs.LimexEngines.{meaning_of_limex, moves_of_limex};
 
@@ -36,6 +37,29 @@ impl Limex {
         Ok(Limex {
             body: Body::build(alloc, automaton)?,
         })
+    }
+
+    /// Takes a byte behind `prev`, before which the expression is entered, wherever the stream stands, and counts no
+    /// step.
+    pub fn move_entered(&self, region: &mut [u8], prev: Prev, byte: u8)
+        requires len { length region.old ≡ (meaning_of_limex self.now).width }
+        ensures len { length region.new ≡ length region.old }
+        ensures well { (at : ℕ) → (meaning_of_limex self.now).well region.new at }
+        ensures takes { TakesAnywhere (meaning_of_limex self.now) region.old region.new prev byte }
+    {
+        if self.body.stays_at_rest(region, true, byte) {
+            return;
+        }
+        let next = Next::class_of(byte);
+        self.body.move_over(region, prev, next, true, byte);
+    }
+
+    /// What may come next where the expression is left behind `prev`, wherever the stream stands.
+    pub fn leaves(&self, region: &[u8], prev: Prev) -> NextSet
+        requires len { length region.now ≡ (meaning_of_limex self.now).width }
+        ensures { TellsAnywhere (meaning_of_limex self.now) region.now prev result }
+    {
+        self.body.accepted(region, prev)
     }
 }
 
