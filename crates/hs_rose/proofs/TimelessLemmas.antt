@@ -1,19 +1,20 @@
--- A byte that the tables for blocks have taken is taken wherever the stream stands.
-use Rattle.std.proofs.Common.{◌≡◌, ◌↔◌, ℕ, zero, suc, ◌<◌, true, List, [], ◌∷◌, ◌++◌, length, get_or, Some, refl, sym, subst, arith}
+-- What the tables for blocks tell, and that a byte is taken wherever the stream stands.
+use Rattle.std.proofs.Common.{◌≡◌, ◌↔◌, ℕ, zero, suc, ◌<◌, Bool, true, List, [], ◌∷◌, ◌++◌, length, Some, sym, subst, ◌∙◌, arith, length-append}
+use Rattle.std.proofs.lemmas.List.{append-nil}
+use Rattle.std.specs.Prelude.{eqb}
 use Rattle.hs_base.specs.declared.context.Prev.{Prev}
 use Rattle.hs_base.specs.declared.context.Next.TheVariants as after
-use Rattle.hs_base.specs.Contexts.{class_of}
+use Rattle.hs_base.specs.declared.context.NextSet.{NextSet}
+use Rattle.hs_base.specs.Assertions.{line_feed, is_word_byte}
+use Rattle.hs_base.specs.Contexts.{class_of, prev_by}
+use Rattle.hs_base.specs.ContextSets.{has_next}
 use Rattle.hs_base.specs.Fields.{Leaves}
-use Rattle.hs_bits.specs.WordBits.{word_bit}
-use Rattle.hs_block.specs.declared.engine.BlockEnds.{BlockEnds}
+use Rattle.hs_bits.proofs.BlockLemmas.{prev-push}
 use Rattle.hs_block.specs.declared.streams.Streams.{Streams}
-use Rattle.hs_block.specs.Blocks.{TakesBlock}
-use Rattle.hs_block.specs.StreamRuns.{IsStreamRun, RunsStreams}
-use Rattle.hs_block.proofs.StreamTakesLemmas.{stream-takes}
 use Rattle.hs_engine.specs.Engines.{Meaning}
-use Rattle.hs_engine.specs.Tables.{IsClearFrom}
 use Rattle.hs_lazy.specs.declared.engine.ByteEnds.{ByteEnds}
 use Rattle.hs_lazy.specs.Runs.{TakesEntered}
+use Rattle.hs_limex.specs.Anywhere.{TakesAnywhere, TellsAnywhere}
 use Rattle.hs_limex.specs.LimexEngines.{moves_of_limex}
 use Rattle.hs_rose.specs.declared.positions.PositionEngine.{PositionEngine}
 use Rattle.hs_rose.specs.Streaming.{TellsMoves}
@@ -28,40 +29,32 @@ engine-tells e s is = record {
   follows_are = e.follows_are s is;
 }
 
--- the expression is entered before the one byte
-first-set : word_bit 1 0 ≡ true
-unfolding word_bit
-first-set = refl
-
 -- what holds of the first place holds of each place of one byte
 only-place : (P : ℕ → Type 0) → P 0 → (i : ℕ) → i < 1 → P i
 only-place P first zero below = first
 only-place P first (suc i) below = absurd (omega arith)
 
-only-byte : (byte : ℕ) → byte < 256 → (i : ℕ) → get_or (byte ∷ []) i 0 < 256
-only-byte byte small zero = small
-only-byte byte small (suc i) = omega arith
+-- with nothing behind them, a stream and its entries are the same
+as-ended : (P : List ℕ → List Bool → Type 0) (u : List ℕ) (entered : List Bool) → P u entered → P (u ++ []) (entered ++ [])
+as-ended P u entered is = subst (λ w. P w (entered ++ [])) (sym (append-nil u)) (subst (P u) (sym (append-nil entered)) is)
 
--- the byte is taken as a block of one byte, wherever the stream stands
-as-block : (m : Meaning) (s : Streams) (old new : List ℕ) (prev : Prev) (byte : ℕ) (ends : BlockEnds) (ticks : ℕ) → RunsStreams m s → length old ≡ m.width → IsClearFrom old s.size → byte < 256 →
-    IsStreamRun s prev old new 1 (byte ∷ []) 1 ends ticks → (at : ℕ) → TakesBlock m old new prev at 1 (byte ∷ []) ends 0 ticks
-as-block m s old new prev byte ends ticks streams len clear small run at =
-    stream-takes m s old new prev at 1 (byte ∷ []) ends ticks 0 ticks streams len ((streams.clear old at).1 clear) (only-byte byte small) (omega arith) run
-
--- so it is taken with the lowest bits of the ends
-pub byte-taken : (m : Meaning) (s : Streams) (old new : List ℕ) (prev : Prev) (byte : ℕ) (ends : BlockEnds) (told : ByteEnds) (ticks : ℕ) → RunsStreams m s → length old ≡ m.width → IsClearFrom old s.size → byte < 256 →
-    IsStreamRun s prev old new 1 (byte ∷ []) 1 ends ticks → told.before ≡ word_bit ends.before 0 → told.behind ≡ word_bit ends.behind 0 → TakesEntered m old new prev byte told
-byte-taken m s old new prev byte ends told ticks streams len clear small run before behind =
-    let takes : (at : ℕ) → TakesBlock m old new prev at 1 (byte ∷ []) ends 0 ticks = as-block m s old new prev byte ends ticks streams len clear small run in
+-- A byte is taken with what is told before it and behind it.
+pub byte-taken : (m : Meaning) (old new : List ℕ) (prev behind : Prev) (byte : ℕ) (before_set behind_set : NextSet) (ends : ByteEnds) → TellsAnywhere m old prev before_set →
+    ((at : ℕ) → m.well new at) → TakesAnywhere m old new prev byte → TellsAnywhere m new behind behind_set → behind ≡ prev_by (eqb byte line_feed) (is_word_byte byte) →
+    ends.before ≡ has_next before_set (class_of byte) → ends.behind ≡ has_next behind_set after.Unknown → TakesEntered m old new prev byte ends
+byte-taken m old new prev behind byte before_set behind_set ends tells well takes tells' behind_is before_told behind_told =
     record {
-      well = λ at. (streams.clear new at).1 ((streams.clear new 1).0 (subst (λ part. m.well part 1) (takes 0).run.last ((takes 0).run.well 1 (omega arith))));
+      well = well;
       runs = λ tree u entered is count prev_is field.
-          let scans = (takes (length u)).run.scans tree u entered (record { runs = is; count = count; offset = refl; behind = prev_is; field = field }) in
+          let field' = takes tree u entered is count prev_is field in
+          let count' : length (entered ++ true ∷ []) ≡ length (u ++ byte ∷ []) = omega (arith, count, length-append entered (true ∷ []), length-append u (byte ∷ [])) in
+          let left = tells tree u entered is count prev_is field (class_of byte) in
+          let left' = tells' tree (u ++ byte ∷ []) (entered ++ true ∷ []) is count' (behind_is ∙ sym (prev-push u byte)) field' after.Unknown in
           record {
-            field = subst (λ b. m.field new tree (u ++ byte ∷ []) (entered ++ b ∷ [])) first-set scans.field;
-            before_is = only-place _ (subst (λ b. (b ≡ true) ↔ Leaves tree (u ++ []) (entered ++ []) (class_of byte)) (sym before) (scans.before_is.below 0 (omega arith)));
-            behind_is = only-place _
-                (subst (λ b. (b ≡ true) ↔ Leaves tree (u ++ byte ∷ []) (entered ++ true ∷ []) after.Unknown) (sym behind)
-                (subst (λ b. (word_bit ends.behind 0 ≡ true) ↔ Leaves tree (u ++ byte ∷ []) (entered ++ b ∷ []) after.Unknown) first-set (scans.behind_is.below 0 (omega arith))));
+            field = field';
+            before_is = only-place _
+                (as-ended (λ w es. (ends.before ≡ true) ↔ Leaves tree w es (class_of byte)) u entered
+                (subst (λ b. (b ≡ true) ↔ Leaves tree u entered (class_of byte)) (sym before_told) left));
+            behind_is = only-place _ (subst (λ b. (b ≡ true) ↔ Leaves tree (u ++ byte ∷ []) (entered ++ true ∷ []) after.Unknown) (sym behind_told) left');
           };
     }

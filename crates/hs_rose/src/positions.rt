@@ -12,16 +12,14 @@ ghost use Rattle.hs_limex.specs.LimexEngines.{moves_of_limex};
 ghost use Rattle.hs_rose.specs.MovesRows.{IsMovesLevel};
 ghost use Rattle.hs_waking.specs.PrevSets.{has_prev};
 
-use hs_base::{ByteSet, NextSet, Prev};
-use hs_bits::contains_place;
+use hs_base::{ByteSet, Next, NextSet, Prev};
 use hs_block::{BlockEnds, BlockEngine, Streams, run_by_steps};
 use hs_engine::{Automaton, Engine, Steps};
 use hs_lazy::{ByteEnds, TimelessEngine};
 use hs_limex::Limex;
 use hs_waking::{Beginning, PrevSet, behind_of, row_of};
 use std::alloc::{AllocError, Global};
-use std::marker::Brand;
-use std::sync::ledger::{Blank, Ledger};
+use std::sync::ledger::Ledger;
 
 /// Runs an expression by its positions. Of at most 64 sets of bytes it takes a block by a word for each position; else,
 /// and where that doesn't come to rest, byte by byte.
@@ -114,38 +112,22 @@ impl PositionEngine {
         }
     }
 
-    /// Takes a byte by the tables for blocks, before which the expression is entered, with a ledger of its own for the
-    /// steps. None where there are no tables, where the region can't be a field, or where that doesn't serve; then the
-    /// region is as before.
-    fn take_entered<L: Ledger>(
-        &self,
-        region: &mut [u8],
-        prev: Prev,
-        byte: u8,
-        blank: Blank,
-    ) -> Option<ByteEnds>
+    /// Takes a byte behind `prev`, before which the expression is entered, wherever the stream stands.
+    fn take_entered(&self, region: &mut [u8], prev: Prev, byte: u8) -> ByteEnds
         requires len { length region.old ≡ (meaning_of_positions self.now).width }
-        requires name { blank.name ≡ L.name }
-        requires parts { blank.parts ≡ L.parts }
-        requires whole { 0 < L.parts }
         ensures len { length region.new ≡ length region.old }
-        ensures takes { MatchOption result (region.new ≡ region.old)
-            (TakesEntered (meaning_of_positions self.now) region.old region.new prev byte) }
+        ensures takes { TakesEntered (meaning_of_positions self.now) region.old region.new prev byte result }
     {
-        let Some(streams) = &self.streams else {
-            return None;
-        };
-        if !self.limex.well_formed(region, 0) {
-            return None;
-        }
-        let mut steps = Steps::<L>::open(blank);
-        let Some(ends) = streams.run(region, prev, 1, &[byte], &mut steps) else {
-            return None;
-        };
-        Some(ByteEnds {
-            before: contains_place(ends.before, 0),
-            behind: contains_place(ends.behind, 0),
-        })
+        let before = self
+            .limex
+            .leaves(region, prev)
+            .contains(Next::class_of(byte));
+        self.limex.move_entered(region, prev, byte);
+        let behind = self
+            .limex
+            .leaves(region, Prev::behind(byte))
+            .contains(Next::Unknown);
+        ByteEnds { before, behind }
     }
 }
 
@@ -210,10 +192,10 @@ impl BlockEngine for PositionEngine {
 
 impl TimelessEngine for PositionEngine {
     fn is_timeless(&self) -> bool {
-        self.streams.is_some()
+        true
     }
 
     fn take_byte(&self, region: &mut [u8], prev: Prev, byte: u8) -> Option<ByteEnds> {
-        self.take_entered::<Brand>(region, prev, byte, Blank::new(1))
+        Some(self.take_entered(region, prev, byte))
     }
 }
