@@ -168,11 +168,7 @@ fn make_step<E: TimelessEngine>(
 }
 
 /// The members that are asked for a byte: those in which something is live, and those that it may wake.
-fn asked_members(
-    members: &[Member],
-    live: &[u64; MEMBER_WORDS],
-    byte: u8,
-) -> [u64; MEMBER_WORDS]
+fn asked_members(members: &[Member], live: &[u64; MEMBER_WORDS], byte: u8) -> [u64; MEMBER_WORDS]
     requires few { length members.now ≤ 256 }
     requires live_len { length live.now ≡ 4 }
     ensures len { length result ≡ 4 }
