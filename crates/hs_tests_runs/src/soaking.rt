@@ -1,9 +1,18 @@
-//! What is drawn from a seed, and how the runs over it keep their stream. It is `#[cfg(test)]`.
-use hs_base::Entry;
+//! What is drawn from a seed, how the runs over it keep their stream, and that a cache changes nothing of what is told.
+//! It is `#[cfg(test)]`.
+ghost use Rattle.std.specs.Prelude.{◌≡◌, ◌<◌};
+
+use hs_base::{Entry, Report};
 use hs_compile::{Database, compile};
-use hs_stream::{Cutting, Drawn, InMemory, Keeper, Stream, Tally, run};
+use hs_engine::Steps;
+use hs_stream::{Collected, Cutting, Drawn, InMemory, Keeper, Scratch, Stream, Tally, run};
 use std::alloc::{AllocError, Global};
+use std::marker::Brand;
+use std::sync::ledger::{Blank, Ledger};
 use std::test::Fail;
+
+/// The most reports of a piece.
+const ROOM: usize = 19_400;
 
 /// The first expressions that are drawn from the seed 1.
 const EXPRESSIONS: [&[u8]; 4] = [
@@ -67,8 +76,47 @@ fn compiled(alloc: Global, entries: &[Entry]) -> Result<Database, Fail> {
 fn counted(alloc: Global, drawn: &Drawn, cutting: Cutting) -> Result<(Tally, u64, u64), Fail> {
     let database = compiled(alloc, &drawn.entries)?;
     let mut keeper = Counting { given: 0, taken: 0 };
-    let tally = run(alloc, &database, &drawn.bytes, cutting, 19_400, &mut keeper)?;
+    let tally = run(alloc, &database, &drawn.bytes, cutting, ROOM, &mut keeper)?;
     Ok((tally, keeper.given, keeper.taken))
+}
+
+/// The tally of reports.
+fn tally_of(reports: &[Report]) -> Tally {
+    let mut tally = Tally { count: 0, sum: 0 };
+    for report in reports {
+        tally.count = tally.count.wrapping_add(1);
+        tally.sum = tally.sum.wrapping_add(report.to);
+    }
+    tally
+}
+
+/// The tally of one write and the close by a scratch, which remembers nothing of the bytes.
+fn told_by_scratch<L: Ledger>(
+    alloc: Global,
+    database: &Database,
+    bytes: &[u8],
+    blank: Blank,
+) -> Result<Tally, Fail>
+    requires name { blank.name ≡ L.name }
+    requires parts { blank.parts ≡ L.parts }
+    requires some { 0 < L.parts }
+{
+    let mut stream = Stream::open(alloc, database)?;
+    let mut scratch = Scratch::new(alloc, database)?;
+    let mut told = Collected::new(alloc, ROOM)?;
+    let mut steps = Steps::<L>::open(blank);
+    stream.write(database, &mut scratch, bytes, &mut told, &mut steps)?;
+    stream.close(database, &mut scratch, &mut told, &mut steps);
+    Ok(tally_of(told.reports()))
+}
+
+/// The tallies of what is drawn from a seed: by a cache, in pieces of one length, and by a scratch, in one.
+fn told_both_ways(alloc: Global, seed: u32) -> Result<(Tally, Tally), Fail> {
+    let drawn = Drawn::from_seed(alloc, seed, 60)?;
+    let (cached, _given, _taken) = counted(alloc, &drawn, Cutting::Even)?;
+    let database = compiled(alloc, &drawn.entries)?;
+    let anew = told_by_scratch::<Brand>(alloc, &database, &drawn.bytes, Blank::new(1))?;
+    Ok((cached, anew))
 }
 
 #[test]
@@ -87,5 +135,17 @@ fn saves_behind_each_sixteenth_piece(rt: HostRuntime) -> Result<(), Fail> {
     let cut = counted(rt.alloc(), &drawn, Cutting::Drawn(drawn.lengths))?;
     assert!(rt; even == (cut.0, 0, 0), "{even:?} is none of {cut:?}");
     assert!(rt; cut == (even.0, 8, 8), "{cut:?} is saved otherwise");
+    Ok(())
+}
+
+#[test]
+fn tells_by_a_cache_what_a_scratch_tells(rt: HostRuntime) -> Result<(), Fail> {
+    for seed in 1..5 {
+        let (cached, anew) = told_both_ways(rt.alloc(), seed)?;
+        assert!(rt;
+            cached == anew && cached.count > 0,
+            "{cached:?} is not {anew:?}"
+        );
+    }
     Ok(())
 }
