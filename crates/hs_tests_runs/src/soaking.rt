@@ -110,13 +110,17 @@ fn told_by_scratch<L: Ledger>(
     Ok(tally_of(told.reports()))
 }
 
+/// The tally of one write and the close by a scratch.
+fn told_anew(alloc: Global, database: &Database, bytes: &[u8]) -> Result<Tally, Fail> {
+    told_by_scratch::<Brand>(alloc, database, bytes, Blank::new(1))
+}
+
 /// The tallies of what is drawn from a seed: by a cache, in pieces of one length, and by a scratch, in one.
 fn told_both_ways(alloc: Global, seed: u32) -> Result<(Tally, Tally), Fail> {
     let drawn = Drawn::from_seed(alloc, seed, 60)?;
     let (cached, _given, _taken) = counted(alloc, &drawn, Cutting::Even)?;
     let database = compiled(alloc, &drawn.entries)?;
-    let anew = told_by_scratch::<Brand>(alloc, &database, &drawn.bytes, Blank::new(1))?;
-    Ok((cached, anew))
+    Ok((cached, told_anew(alloc, &database, &drawn.bytes)?))
 }
 
 #[test]

@@ -1,4 +1,4 @@
-use Rattle.hs_tests_runs.proofs.soaking.told_both_ways.Given as goal
+use Rattle.hs_tests_runs.proofs.soaking.told_anew.Given as goal
 
 -- the ledger is that of the blank which is handed over
 abbrev pub ghosts-told_by_scratch : goal.ghosts-told_by_scratch
