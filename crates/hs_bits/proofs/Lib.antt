@@ -1,6 +1,7 @@
 pub mod BitRangeLemmas
 pub mod LowestLemmas
 pub mod MemberLemmas
+pub mod MarkLemmas
 pub mod NextLemmas
 pub mod UnionLemmas
 pub mod WordLemmas

@@ -1,5 +1,6 @@
 pub mod BitRanges
 pub mod LowestBits
+pub mod Marks
 pub mod MemberPlaces
 pub mod NextBits
 pub mod Shifts

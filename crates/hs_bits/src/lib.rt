@@ -1,11 +1,12 @@
 //! Bits in rows of bytes and of words: single ones, ranges, the lowest and the next one, and whole rows at
-//! once; and the places of a block of up to 64 bytes as the bits of a word: where members of a set stand, and in which
+//! once; numbers that are marked (`marks`); and the places of a block of up to 64 bytes as the bits of a word: where members of a set stand, and in which
 //! contexts.
 #![tactic(auto)]
 
 mod bytes;
 mod contexts;
 mod lowest;
+mod marks;
 mod members;
 mod next;
 mod places;
@@ -17,6 +18,7 @@ pub use bytes::{
 };
 pub use contexts::Contexts;
 pub use lowest::{lowest_bit, without_lowest_bit};
+pub use marks::MarkSet;
 pub use members::member_places;
 pub use next::{next_bit_in, next_bit_in_either};
 pub use places::{

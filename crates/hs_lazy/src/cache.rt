@@ -7,8 +7,7 @@ use crate::engine::TimelessEngine;
 use crate::parts::{Member, Run};
 use crate::running::run_all;
 use hs_base::{ByteSet, Prev};
-use hs_bits::{clear_bits, next_bit_in};
-use hs_reports::MarkSet;
+use hs_bits::{MarkSet, clear_bits, next_bit_in};
 use std::alloc::{AllocError, Global};
 
 /// Which member of which automaton runs for a number.
@@ -138,7 +137,7 @@ impl Cache {
     ghost use Rattle.hs_lazy.specs.Tables.{AreDfasOf, engine_at, member_of, place_for};
     ghost use Rattle.hs_lazy.specs.declared.parts.Member.{Member};
     ghost use Rattle.hs_lazy.specs.declared.cache.Place.{Place};
-    ghost use Rattle.hs_reports.specs.Marks.{is_marked, mark_room};
+    ghost use Rattle.hs_bits.specs.Marks.{is_marked, mark_room};
 
     /// For so many numbers, of which none has an engine yet. The only error is want of memory.
     pub fn new<E: TimelessEngine>(

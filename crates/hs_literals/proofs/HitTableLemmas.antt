@@ -14,7 +14,7 @@ use Rattle.hs_block.specs.LiteralBlocks.{is_hit}
 use Rattle.hs_bits.specs.WordBits.{word_bit}
 use Rattle.hs_bits.proofs.PlaceLemmas.{bit-either, bit-shifted, bit-up, less-is, not-less}
 use Rattle.hs_literals.specs.HitTables.{HitTable, IsHitTable, AreMarked, IsBlank, AddsHit, Forgets, hit_table, is_hit_at, has_hit}
-use Rattle.hs_literals.proofs.MarkSetLemmas.{zero-marks}
+use Rattle.hs_bits.proofs.MarkLemmas.{zero-marks}
 
 high-bit : (word i : ℕ) → word < 2 ^ 64 → 64 ≤ i → word_bit word i ≡ false
 unfolding word_bit

@@ -1,7 +1,6 @@
 pub mod AllEndLemmas
 pub mod MaskLemmas
 pub mod OpenLemmas
-pub mod MarkSetLemmas
 pub mod HitTableLemmas
 pub mod HitLoopLemmas
 pub mod HitStreamLemmas

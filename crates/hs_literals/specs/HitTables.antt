@@ -4,7 +4,7 @@ use Rattle.std.specs.Prelude.{nat_lt, List, ◌++◌, length, Some, slice_get}
 use Rattle.hs_base.specs.Bits.{has_word_bit}
 use Rattle.hs_base.specs.LiteralEnds.{EndsAt}
 use Rattle.hs_base.specs.Literals.{LiteralByte}
-use Rattle.hs_literals.specs.MarkSets.{is_marked, mark_room}
+use Rattle.hs_bits.specs.Marks.{is_marked, mark_room}
 
 -- The literal of that number ends behind so many bytes of the chunk; it may begin in the bytes before.
 pub record IsHit (literals : List (List LiteralByte)) (before bytes : List ℕ) (number place : ℕ) : Type 0 where

@@ -5,6 +5,5 @@ pub mod Places
 pub mod AllEnds
 pub mod Held
 pub mod Left
-pub mod MarkSets
 pub mod HitTables
 pub mod HitLaws

@@ -20,9 +20,8 @@ ghost use Rattle.hs_literals.specs.HitTables.{AddsHit, AddsHits, AreMarked, Forg
 ghost use Rattle.hs_literals.specs.HitTables.{IsHitInside, TellsHits, has_hit, is_hit_at};
 
 use crate::literals::Literals;
-use crate::mark_set::MarkSet;
 use crate::scan::LitScan;
-use hs_bits::{WORD_BITS, contains_place, insert_word_bit};
+use hs_bits::{MarkSet, WORD_BITS, contains_place, insert_word_bit};
 use hs_block::Hits;
 use std::alloc::{AllocError, Global};
 use std::marker::Model;

@@ -10,7 +10,7 @@ use Rattle.hs_base.specs.Bits.{AreZero}
 use Rattle.hs_base.proofs.BitLemmas.{same-places}
 use Rattle.hs_engine.specs.Engines.{IsQuiet, IsStart, Meaning}
 use Rattle.hs_nodes.specs.Living.{AreInTurn, IsAround, is_live}
-use Rattle.hs_reports.specs.Marks.{is_marked}
+use Rattle.hs_bits.specs.Marks.{is_marked}
 use Rattle.hs_nodes.specs.Nodes.{IsKindSound}
 use Rattle.hs_nodes.specs.Resting.{AreEnginesIdle, AreNodesResting, IsIdleEngine, IsResting, IsUnset}
 use Rattle.hs_nodes.specs.Walks.{IsTableSound, node_part}

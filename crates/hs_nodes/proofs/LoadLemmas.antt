@@ -9,7 +9,7 @@ use Rattle.hs_engine.specs.Engines.{Meaning}
 use Rattle.hs_lazy.specs.Caches.{IsSilent, TellsRun, Told, loaded, told}
 use Rattle.hs_lazy.specs.Tables.{engine_at}
 use Rattle.hs_lazy.specs.declared.cache.Cache.{Cache}
-use Rattle.hs_reports.specs.Marks.{is_marked}
+use Rattle.hs_bits.specs.Marks.{is_marked}
 use Rattle.hs_nodes.specs.Cached.{AreToldAsleep, IsCacheOf, IsCachedNode, TellsNodes}
 use Rattle.hs_nodes.specs.Loading.{AreUnloaded, IsLoadedTo}
 use Rattle.hs_nodes.specs.Nodes.{IsEngineSound, IsKindSound}

@@ -10,7 +10,7 @@ use Rattle.hs_nodes.specs.declared.hits.ChunkHits.{ChunkHits}
 use Rattle.hs_nodes.specs.declared.table.Node.{Node}
 use Rattle.hs_nodes.specs.declared.table.NodeTable.{NodeTable}
 use Rattle.hs_nodes.specs.Left.{nowhere}
-use Rattle.hs_reports.specs.Marks.{is_marked}
+use Rattle.hs_bits.specs.Marks.{is_marked}
 use Rattle.hs_nodes.specs.Nodes.{IsWellPart, TakesPiece}
 use Rattle.hs_nodes.specs.Walks.{AreMoreMarks, IsNodeRun, IsTableSound, node_ends, entering_ends, node_part}
 use Rattle.hs_nodes.proofs.KindLemmas.{one-value}

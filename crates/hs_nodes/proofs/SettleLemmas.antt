@@ -7,7 +7,7 @@ use Rattle.hs_base.specs.Lists.{Each}
 use Rattle.hs_base.proofs.BitLemmas.{zero-bits}
 use Rattle.hs_engine.specs.Engines.{Meaning}
 use Rattle.hs_nodes.specs.Left.{nowhere}
-use Rattle.hs_reports.specs.Marks.{is_marked}
+use Rattle.hs_bits.specs.Marks.{is_marked}
 use Rattle.hs_nodes.specs.Nodes.{MayRest}
 use Rattle.hs_nodes.specs.Resting.{AreNodesResting, IsResting, IsSettled, IsUnset, IsUnwokenIn, RestingNodesMayRest, RestingNodesStay}
 use Rattle.hs_nodes.specs.Walks.{node_ends, node_part}

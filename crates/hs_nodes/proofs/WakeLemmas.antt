@@ -11,7 +11,7 @@ use Rattle.hs_base.specs.declared.context.Next.TheVariants as after
 use Rattle.hs_waking.specs.WakeRows.{SleepsOver}
 use Rattle.hs_nodes.specs.Nodes.{PassesOver}
 use Rattle.hs_nodes.specs.Hits.{is_hit_at}
-use Rattle.hs_reports.specs.Marks.{is_marked}
+use Rattle.hs_bits.specs.Marks.{is_marked}
 use Rattle.hs_nodes.specs.Resting.{AreNodesResting, AreNodesUnwoken, IsUnwokenIn, SleepsThrough}
 use Rattle.hs_nodes.specs.Waking.{AreEnginesUnwoken, AreRowsSound, AreWakesSound, IsKindAsleep, IsListed, is_never_empty, waking_literal}
 use Rattle.hs_nodes.specs.Walks.{AreMoreMarks, IsAmongChildren}

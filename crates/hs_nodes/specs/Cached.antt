@@ -6,7 +6,7 @@ use Rattle.hs_engine.specs.Engines.{Meaning}
 use Rattle.hs_lazy.specs.Caches.{TellsRun, Told, told}
 use Rattle.hs_lazy.specs.Tables.{AreDfasOf, engine_at}
 use Rattle.hs_lazy.specs.declared.cache.Cache.{Cache}
-use Rattle.hs_reports.specs.Marks.{is_marked}
+use Rattle.hs_bits.specs.Marks.{is_marked}
 use Rattle.hs_nodes.specs.Walks.{node_part}
 use Rattle.hs_nodes.specs.Waking.{IsKindAsleep}
 use Rattle.hs_nodes.specs.declared.table.Node.{Node}

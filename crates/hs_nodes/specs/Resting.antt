@@ -6,7 +6,7 @@ use Rattle.hs_base.specs.Lists.{Each}
 use Rattle.hs_engine.specs.Engines.{Meaning, IsStart}
 use Rattle.hs_nodes.specs.Hits.{is_hit_at}
 use Rattle.hs_nodes.specs.Left.{nowhere}
-use Rattle.hs_reports.specs.Marks.{is_marked}
+use Rattle.hs_bits.specs.Marks.{is_marked}
 use Rattle.hs_nodes.specs.Nodes.{IsAtRest, PassesOver}
 use Rattle.hs_nodes.specs.Walks.{AreMoreMarks, ChangesMarked, MayNodesRest, node_ends, node_part}
 use Rattle.hs_nodes.specs.declared.ends.ChunkEnds.{ChunkEnds}

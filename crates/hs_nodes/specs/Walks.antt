@@ -8,7 +8,7 @@ use Rattle.hs_base.specs.Literals.{LiteralByte}
 use Rattle.hs_engine.specs.Engines.{Meaning}
 use Rattle.hs_nodes.specs.Blocks.{EndsBehind, IsPast}
 use Rattle.hs_nodes.specs.Left.{AreLeftIn, nowhere}
-use Rattle.hs_reports.specs.Marks.{is_marked}
+use Rattle.hs_bits.specs.Marks.{is_marked}
 use Rattle.hs_nodes.specs.Nodes.{AreHitsOf, HoldsPiece, IsKindSound, IsWellPart, MayRest, RunsPiece}
 use Rattle.hs_nodes.specs.Nodes.{TakesPiece, most_ticks}
 use Rattle.hs_nodes.specs.declared.ends.ChunkEnds.{ChunkEnds}

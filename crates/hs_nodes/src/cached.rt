@@ -2,7 +2,7 @@
 
 ghost use Rattle.std.specs.Prelude.{◌≡◌, ◌<◌, ◌≤◌, ◌^◌, ℕ, IfOk, None, true, length};
 ghost use Rattle.hs_lazy.specs.Tables.{engine_at};
-ghost use Rattle.hs_reports.specs.Marks.{is_marked, mark_room};
+ghost use Rattle.hs_bits.specs.Marks.{is_marked, mark_room};
 ghost use Rattle.hs_nodes.specs.Cached.{AreToldAsleep, IsCacheOf, TellsNodes};
 ghost use Rattle.hs_nodes.specs.Loading.{AreUnloaded, IsLoadedTo};
 ghost use Rattle.hs_nodes.specs.Resting.{AreEnginesIdle, AreNodesResting};
@@ -11,8 +11,8 @@ ghost use Rattle.hs_nodes.specs.Walks.{AreMoreMarks, IsTableSound};
 use crate::table::{NodeKind, NodeTable};
 use crate::walking::node_at;
 use hs_base::Prev;
+use hs_bits::MarkSet;
 use hs_lazy::{Cache, TimelessEngine, loaded_regions};
-use hs_reports::MarkSet;
 use std::alloc::{AllocError, Global};
 
 /// A cache for the nodes of a table: those of timeless engines that have no parent and no empty span. The only error is

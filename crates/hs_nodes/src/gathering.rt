@@ -2,7 +2,7 @@
 
 ghost use Rattle.std.specs.Prelude.{◌≡◌, ℕ, ◌+◌, ◌*◌, ◌<◌, ◌≤◌, ◌^◌, true, false, length, Some, slice_get};
 ghost use Rattle.hs_nodes.specs.Left.{nowhere};
-ghost use Rattle.hs_reports.specs.Marks.{is_marked, mark_room};
+ghost use Rattle.hs_bits.specs.Marks.{is_marked, mark_room};
 ghost use Rattle.hs_nodes.specs.Walks.{node_ends};
 ghost use Rattle.hs_reports.specs.EndTables.{HasNoEnds, is_noted};
 ghost use Rattle.hs_reports.specs.Gathering.{AreEndsBelow};
@@ -12,8 +12,9 @@ ghost use Rattle.hs_nodes.specs.Gathering.{AddsBusy, AreBusy, AreGathered, Gathe
 use crate::chunk::{BLOCK_BYTES, MAX_BLOCKS};
 use crate::ends::ChunkEnds;
 use crate::graph::Graph;
+use hs_bits::MarkSet;
 use hs_block::BlockEngine;
-use hs_reports::{IdentifierEnds, MarkSet, Terminal};
+use hs_reports::{IdentifierEnds, Terminal};
 
 /// Where the nodes are left in a chunk.
 #[derive(Clone, Copy, Debug)]

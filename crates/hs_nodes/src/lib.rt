@@ -31,7 +31,6 @@ pub use first::everywhere;
 pub use gathering::{NodeEnds, busy_words, gather_all, gather_block, gather_left};
 pub use graph::{FieldCopy, Graph, copy_at};
 pub use hits::ChunkHits;
-pub use hs_reports::MarkSet;
 pub use laws::resting_nodes;
 pub use leaving::{Stop, ends_if, leave_nodes};
 pub use living::{idle_engines, mark_live, next_live};

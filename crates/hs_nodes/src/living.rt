@@ -4,16 +4,15 @@ ghost use Rattle.std.specs.Prelude.{◌≡◌, ◌<◌, ◌≤◌, ℕ, List, If
 ghost use Rattle.std.specs.Slice.Scan.{HoldsNowhere};
 ghost use Rattle.hs_bits.specs.NextBits.{IsNextBitIn};
 ghost use Rattle.hs_nodes.specs.Living.{AreInTurn, IsAround, is_live};
-ghost use Rattle.hs_reports.specs.Marks.{is_marked, mark_room};
+ghost use Rattle.hs_bits.specs.Marks.{is_marked, mark_room};
 ghost use Rattle.hs_nodes.specs.Resting.{AreEnginesIdle, AreNodesResting, IsIdleEngine};
 ghost use Rattle.hs_nodes.specs.Walks.{IsTableSound, node_part};
 ghost use Rattle.hs_nodes.specs.declared.table.Node.{Node};
 ghost use Rattle.hs_base.specs.Bits.{AreZero};
 
 use crate::table::{Node, NodeTable};
-use hs_bits::word_at;
+use hs_bits::{MarkSet, word_at};
 use hs_engine::Engine;
-use hs_reports::MarkSet;
 use std::alloc::{AllocError, Global};
 
 /// How many bytes are looked at together.

@@ -2,7 +2,7 @@
 
 ghost use Rattle.std.specs.Prelude.{◌≡◌, ◌↔◌, ℕ, ◌<◌, ◌≤◌, true, false, length, IsTrue, Some, slice_get};
 ghost use Rattle.hs_nodes.specs.Left.{nowhere};
-ghost use Rattle.hs_reports.specs.Marks.{is_marked, mark_room};
+ghost use Rattle.hs_bits.specs.Marks.{is_marked, mark_room};
 ghost use Rattle.hs_nodes.specs.Resting.{AreEnginesIdle, AreNodesResting, IsSettled, IsUnset};
 ghost use Rattle.hs_nodes.specs.Walks.{IsTableSound, node_ends, node_part};
 ghost use Rattle.hs_nodes.specs.declared.table.Node.{Node};
@@ -10,9 +10,8 @@ ghost use Rattle.hs_nodes.specs.declared.table.Node.{Node};
 use crate::ends::ChunkEnds;
 use crate::table::{NodeKind, NodeTable};
 use crate::walking::node_at;
-use hs_bits::is_zero;
+use hs_bits::{MarkSet, is_zero};
 use hs_engine::Engine;
-use hs_reports::MarkSet;
 
 /// Whether nothing is live in what is kept of a node of that kind.
 fn kind_rests(kind: NodeKind, part: &[u8]) -> bool

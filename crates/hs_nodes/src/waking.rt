@@ -3,7 +3,7 @@
 ghost use Rattle.std.specs.Prelude.{◌≡◌, ◌*◌, ◌<◌, ◌≤◌, ℕ, List, true, false, length, None, Some, slice_get};
 ghost use Rattle.std.specs.Prelude.{slice_index};
 ghost use Rattle.hs_base.specs.Bits.{has_word_bit};
-ghost use Rattle.hs_reports.specs.Marks.{is_marked, mark_room};
+ghost use Rattle.hs_bits.specs.Marks.{is_marked, mark_room};
 ghost use Rattle.hs_lazy.specs.Caches.{told};
 ghost use Rattle.hs_nodes.specs.Cached.{AreToldAsleep};
 ghost use Rattle.hs_nodes.specs.Starting.{AreStartsEnough, DoStartsSuffice};
@@ -23,9 +23,9 @@ use crate::table::NodeKind;
 use crate::wake_table::WakeTable;
 use crate::walking::{mark_all, node_at, start_of};
 use hs_base::Prev;
+use hs_bits::MarkSet;
 use hs_engine::Engine;
 use hs_lazy::Cache;
-use hs_reports::MarkSet;
 use hs_waking::{ALL_PLACES, ClassWords, FitStack, Places, Starts, is_none};
 
 /// Marks the nodes that the literal of that number wakes.

@@ -7,7 +7,6 @@ pub mod TellingLemmas
 pub mod BlockLemmas
 pub mod WalkLemmas
 pub mod TerminalLemmas
-pub mod MarkLemmas
 pub mod EndTableLemmas
 pub mod GatheringLemmas
 pub mod SettlementLemmas

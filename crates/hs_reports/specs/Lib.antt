@@ -9,7 +9,6 @@ pub mod Identifiers
 pub mod Pairs
 pub mod Terminals
 pub mod TerminalLaws
-pub mod Marks
 pub mod EndTables
 pub mod Gathering
 pub mod Tellings

@@ -7,8 +7,8 @@ ghost use Rattle.hs_reports.specs.EndTables.{AddsEnds, IsBlank, IsQuiet, NotesRo
 ghost use Rattle.hs_reports.specs.EndTables.{identifier_at, words_of};
 
 use crate::end_words::EndWords;
-use crate::marks::MarkSet;
 use crate::terminal::{Terminal, bound_word};
+use hs_bits::MarkSet;
 use std::alloc::{AllocError, Global};
 use std::marker::Model;
 

@@ -7,7 +7,7 @@ use Rattle.hs_literals.specs.HitTables.{AreMarked, HitTable, has_hit}
 use Rattle.hs_base.specs.declared.context.Prev.{Prev}
 use Rattle.hs_nodes.specs.Hits.{is_hit_at}
 use Rattle.hs_nodes.specs.Left.{nowhere}
-use Rattle.hs_reports.specs.Marks.{is_marked, mark_room}
+use Rattle.hs_bits.specs.Marks.{is_marked, mark_room}
 use Rattle.hs_nodes.specs.Resting.{AreNodesUnwoken, IsSettled}
 use Rattle.hs_nodes.specs.Waking.{AreEnginesUnwoken, AreWakesSound}
 use Rattle.hs_nodes.specs.Walks.{AreMoreMarks, ChangesMarked, IsAmongChildren, node_ends}

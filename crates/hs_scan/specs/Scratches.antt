@@ -6,7 +6,7 @@ use Rattle.hs_base.specs.Literals.{LiteralByte}
 use Rattle.hs_base.specs.Regions.{history_size}
 use Rattle.hs_literals.specs.HitTables.{has_hit}
 use Rattle.hs_nodes.specs.Left.{nowhere}
-use Rattle.hs_reports.specs.Marks.{is_marked, mark_room}
+use Rattle.hs_bits.specs.Marks.{is_marked, mark_room}
 use Rattle.hs_nodes.specs.Walks.{node_ends}
 use Rattle.hs_nodes.specs.declared.ends.ChunkEnds.{ChunkEnds}
 use Rattle.hs_reports.specs.EndTables.{HasNoEnds}

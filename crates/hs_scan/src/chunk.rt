@@ -13,10 +13,11 @@ ghost use Rattle.hs_scan.specs.Scans.{ScansChunk};
 ghost use Rattle.hs_scan.specs.Scratches.{FitsRoom};
 
 use crate::known::{Known, tell_chunk};
+use hs_bits::MarkSet;
 use hs_block::BlockEngine;
 use hs_engine::Steps;
 use hs_lazy::Cache;
-use hs_nodes::{Chunk, ChunkEnds, ChunkHits, Graph, MarkSet, everywhere, settle, walk};
+use hs_nodes::{Chunk, ChunkEnds, ChunkHits, Graph, everywhere, settle, walk};
 use hs_reports::Events;
 use hs_waking::Starts;
 use std::alloc::{AllocError, Global};

@@ -3,7 +3,7 @@
 ghost use Rattle.std.specs.Prelude.{◌≡◌, ℕ, ◌+◌, ◌*◌, ◌<◌, ◌≤◌, ◌^◌, IfOk, false, true, length};
 ghost use Rattle.hs_nodes.specs.Blocks.{block};
 ghost use Rattle.hs_nodes.specs.Left.{nowhere};
-ghost use Rattle.hs_reports.specs.Marks.{is_marked, mark_room};
+ghost use Rattle.hs_bits.specs.Marks.{is_marked, mark_room};
 ghost use Rattle.hs_nodes.specs.Walks.{node_ends};
 ghost use Rattle.hs_reports.specs.EndTables.{HasNoEnds};
 ghost use Rattle.hs_reports.specs.Events.{Takes};
@@ -11,9 +11,9 @@ ghost use Rattle.hs_scan.specs.Knowing.{FitsKnown, IsPending, SettlesKnown};
 ghost use Rattle.hs_nodes.specs.Graphs.{AreTerminalsSound};
 ghost use Rattle.hs_scan.specs.Telling.{TellsBlock, TellsChunk};
 
-use hs_bits::word_count_for;
+use hs_bits::{MarkSet, word_count_for};
 use hs_block::BlockEngine;
-use hs_nodes::{BLOCK_BYTES, Chunk, ChunkEnds, Graph, MarkSet, NodeEnds, busy_words, gather_left};
+use hs_nodes::{BLOCK_BYTES, Chunk, ChunkEnds, Graph, NodeEnds, busy_words, gather_left};
 use hs_reports::{Events, Identifier, IdentifierEnds, Tellings, settle_block};
 use std::alloc::{AllocError, Global};
 

@@ -7,7 +7,7 @@ ghost use Rattle.hs_literals.specs.HitTables.{has_hit};
 ghost use Rattle.hs_nodes.specs.Cached.{IsCacheOf};
 ghost use Rattle.hs_nodes.specs.Graphs.{AreTerminalsSound};
 ghost use Rattle.hs_nodes.specs.Left.{nowhere};
-ghost use Rattle.hs_reports.specs.Marks.{is_marked, mark_room};
+ghost use Rattle.hs_bits.specs.Marks.{is_marked, mark_room};
 ghost use Rattle.hs_nodes.specs.Resting.{AreEnginesIdle, AreNodesResting};
 ghost use Rattle.hs_nodes.specs.Waking.{AreRowsSound, AreWakesSound};
 ghost use Rattle.hs_nodes.specs.Walks.{AreNodesWell, IsOutside, IsTableSound, node_ends};
@@ -25,11 +25,11 @@ ghost use Rattle.hs_scan.specs.Writing.{AreLeftByLineFeed, LeavesLineFeed, Leave
 use crate::known::{Known, settle_known};
 use crate::scratch::Scratch;
 use crate::waking::wake;
-use hs_bits::{contains_word_bit, write_word_bit};
+use hs_bits::{MarkSet, contains_word_bit, write_word_bit};
 use hs_block::BlockEngine;
 use hs_engine::Steps;
 use hs_lazy::{Cache, TimelessEngine};
-use hs_nodes::{Chunk, ChunkEnds, Graph, MarkSet, everywhere, gather_block, settle, walk};
+use hs_nodes::{Chunk, ChunkEnds, Graph, everywhere, gather_block, settle, walk};
 use hs_reports::{Events, Identifier, IdentifierEnds, is_left_to_end};
 use std::sync::ledger::Ledger;
 

@@ -2,7 +2,7 @@
 
 ghost use Rattle.std.specs.Prelude.{◌≡◌, ◌<◌, ◌≤◌, ℕ, List, true, false, length};
 ghost use Rattle.hs_literals.specs.HitTables.{has_hit};
-ghost use Rattle.hs_reports.specs.Marks.{is_marked, mark_room};
+ghost use Rattle.hs_bits.specs.Marks.{is_marked, mark_room};
 ghost use Rattle.hs_nodes.specs.Starting.{AreStartsEnough};
 ghost use Rattle.hs_nodes.specs.Cached.{IsCacheOf, TellsNodes};
 ghost use Rattle.hs_nodes.specs.Resting.{AreEnginesIdle, AreNodesResting, AreNodesUnwoken};
@@ -12,9 +12,10 @@ ghost use Rattle.hs_nodes.specs.declared.hits.ChunkHits.{ChunkHits};
 ghost use Rattle.hs_scan.specs.Hits.{HasNowhere};
 
 use hs_base::Prev;
+use hs_bits::MarkSet;
 use hs_lazy::{Cache, TimelessEngine};
 use hs_literals::HitRows;
-use hs_nodes::{Graph, MarkSet, run_cached, wake_engines, wake_literal};
+use hs_nodes::{Graph, run_cached, wake_engines, wake_literal};
 use hs_waking::{ClassWords, Starts};
 
 /// Marks the nodes that the literals wake that end in a chunk.

@@ -1,6 +1,6 @@
 use Rattle.std.proofs.Common.{◌≡◌, ◌-◌, ◌≤◌, ◌<◌, ℕ, length}
 use Rattle.hs_lazy.specs.Caches.{loaded}
-use Rattle.hs_reports.specs.Marks.{mark_room}
+use Rattle.hs_bits.specs.Marks.{mark_room}
 use Rattle.hs_nodes.specs.Loading.{IsLoadedTo}
 use Rattle.hs_nodes.proofs.cached.load_marked.Given as goal
 

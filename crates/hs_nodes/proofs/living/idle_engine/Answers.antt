@@ -1,6 +1,6 @@
 use Rattle.std.proofs.Common.{◌≡◌, length, ◌∙◌, arith}
 use Rattle.hs_nodes.proofs.LivingLemmas.{idle-by}
-use Rattle.hs_reports.proofs.MarkLemmas.{whole-written}
+use Rattle.hs_bits.proofs.MarkLemmas.{whole-written}
 use Rattle.hs_nodes.proofs.living.idle_engine.Goals as goal
 
 pub returns : goal.returns

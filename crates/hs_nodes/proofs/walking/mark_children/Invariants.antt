@@ -1,6 +1,6 @@
 use Rattle.std.proofs.Common.{◌≡◌, ◌⊎◌, ℕ, ◌<◌, ◌≤◌, true, length}
 use Rattle.std.specs.Prelude.{slice_get, slice_index, Some}
-use Rattle.hs_reports.specs.Marks.{is_marked}
+use Rattle.hs_bits.specs.Marks.{is_marked}
 use Rattle.hs_nodes.specs.Sparing.{IsSpared}
 use Rattle.hs_nodes.specs.Walks.{AreMoreMarks}
 use Rattle.hs_nodes.specs.declared.table.Node.{Node}

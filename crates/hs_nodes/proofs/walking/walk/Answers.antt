@@ -2,7 +2,7 @@ use Rattle.std.proofs.Common.{◌≡◌, ◌⊎◌, ◌≤◌, ◌<◌, ◌+◌,
 use Rattle.hs_nodes.specs.Cached.{IsToldKind}
 use Rattle.hs_nodes.specs.Contexts.{NeedsContexts}
 use Rattle.hs_nodes.specs.Left.{nowhere}
-use Rattle.hs_reports.specs.Marks.{is_marked}
+use Rattle.hs_bits.specs.Marks.{is_marked}
 use Rattle.hs_nodes.specs.Nodes.{IsWellPart}
 use Rattle.hs_nodes.specs.Sparing.{IsSpared}
 use Rattle.hs_nodes.specs.declared.ends.ChunkEnds.{ChunkEnds}

@@ -1,5 +1,5 @@
 use Rattle.std.proofs.Common.{◌≡◌, ◌+◌, ◌≤◌, ◌++◌, length, take, drop, sym, ap, subst, ◌∙◌, arith}
-use Rattle.hs_reports.proofs.MarkLemmas.{whole-written}
+use Rattle.hs_bits.proofs.MarkLemmas.{whole-written}
 use Rattle.hs_reports.specs.Settlement.{ArePending, SettlesBlock}
 use Rattle.hs_scan.proofs.known.settle_known.Goals as goal
 

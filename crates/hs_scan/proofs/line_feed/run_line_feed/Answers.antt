@@ -3,7 +3,7 @@ use Rattle.hs_base.specs.Lists.{Each}
 use Rattle.hs_nodes.proofs.SettleLemmas.{resting-may, resting-stay}
 use Rattle.hs_nodes.proofs.WakeLemmas.{resting-more}
 use Rattle.hs_nodes.specs.Left.{nowhere}
-use Rattle.hs_reports.specs.Marks.{is_marked}
+use Rattle.hs_bits.specs.Marks.{is_marked}
 use Rattle.hs_nodes.specs.Resting.{AreNodesResting}
 use Rattle.hs_nodes.specs.Walks.{MayNodesRest, TakesNodes, node_ends, nodes_ticks}
 use Rattle.hs_scan.proofs.WakingLemmas.{passed-nowhere}

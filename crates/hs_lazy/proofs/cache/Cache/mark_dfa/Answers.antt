@@ -1,6 +1,6 @@
 use Rattle.std.proofs.Common.{◌≡◌, ◌∙◌, List, Some, None, Bool, true, false, inl, inr, ◌⊎◌, slice_get, sym, subst, refl, ap}
 use Rattle.hs_base.specs.Bits.{has_word_bit}
-use Rattle.hs_reports.specs.Marks.{is_marked}
+use Rattle.hs_bits.specs.Marks.{is_marked}
 use Rattle.hs_lazy.specs.declared.parts.Member.{Member}
 use Rattle.hs_lazy.specs.Tables.{member_by, member_of, place_for}
 use Rattle.hs_lazy.proofs.TableLemmas.{got, got-none}

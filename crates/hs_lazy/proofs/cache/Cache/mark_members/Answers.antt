@@ -2,7 +2,7 @@ use Rattle.std.proofs.Common.{◌≡◌, [], ◌∙◌, Bool, true, false, inl, 
 use Rattle.std.proofs.lemmas.Bool.{cases_eq, cases_lt}
 use Rattle.std.proofs.lemmas.Option.{get_or_from_slice_get, slice_get_within}
 use Rattle.hs_base.specs.Bits.{has_word_bit}
-use Rattle.hs_reports.specs.Marks.{is_marked}
+use Rattle.hs_bits.specs.Marks.{is_marked}
 use Rattle.hs_lazy.specs.declared.parts.Member.{Member}
 use Rattle.hs_lazy.specs.Tables.{member_of}
 use Rattle.hs_lazy.proofs.cache.Cache.mark_members.Goals as goal

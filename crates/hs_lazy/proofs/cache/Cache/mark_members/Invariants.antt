@@ -1,6 +1,6 @@
 use Rattle.std.proofs.Common.{◌≡◌, ℕ, ◌-◌, ◌<◌, ◌≤◌, true, false, length, Some, slice_get}
 use Rattle.hs_base.specs.Bits.{has_word_bit}
-use Rattle.hs_reports.specs.Marks.{is_marked}
+use Rattle.hs_bits.specs.Marks.{is_marked}
 use Rattle.hs_lazy.specs.declared.parts.Member.{Member}
 use Rattle.hs_lazy.specs.Tables.{engine_at, member_of}
 use Rattle.hs_lazy.proofs.cache.Cache.mark_members.Given as goal

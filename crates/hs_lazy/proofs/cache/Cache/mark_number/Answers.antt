@@ -1,6 +1,6 @@
 use Rattle.std.proofs.Common.{◌≡◌, ◌∙◌, Some, None, Option, Bool, true, false, inl, inr, sym, ap}
 use Rattle.std.proofs.lemmas.Bool.{cases_eq}
-use Rattle.hs_reports.specs.Marks.{is_marked}
+use Rattle.hs_bits.specs.Marks.{is_marked}
 use Rattle.hs_lazy.specs.declared.parts.Member.{Member}
 use Rattle.hs_lazy.specs.Tables.{engine_at}
 use Rattle.hs_lazy.proofs.ToldLemmas.{engine-of}

@@ -1,7 +1,7 @@
 use Rattle.std.proofs.Common.{◌≡◌, ◌∙◌, Bool, true, false, inl, inr, ◌⊎◌, refl, arith}
 use Rattle.std.proofs.lemmas.Bool.{cases_eq}
 use Rattle.std.proofs.lemmas.Option.{slice_get_within}
-use Rattle.hs_reports.specs.Marks.{is_marked}
+use Rattle.hs_bits.specs.Marks.{is_marked}
 use Rattle.hs_lazy.specs.Tables.{member_of, place_for}
 use Rattle.hs_lazy.proofs.ChunkLemmas.{IsTold}
 use Rattle.hs_lazy.proofs.ToldLemmas.{told-open}

@@ -1,5 +1,5 @@
 use Rattle.std.proofs.Common.{◌≡◌, ℕ, ◌<◌, true, false, length, Some}
-use Rattle.hs_reports.specs.Marks.{is_marked}
+use Rattle.hs_bits.specs.Marks.{is_marked}
 use Rattle.hs_lazy.specs.declared.cache.Place.{Place}
 use Rattle.hs_lazy.specs.Caches.{IsSilent, Told, told}
 use Rattle.hs_lazy.specs.Tables.{engine_at, place_for}

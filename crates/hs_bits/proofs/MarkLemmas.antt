@@ -10,12 +10,13 @@ use Rattle.std.proofs.lemmas.Nat.Bits.{bit_at-zero, bit_at_above}
 use Rattle.std.proofs.lemmas.Nat.{pow-add}
 use Rattle.std.proofs.Math.ListN.{drop_of_length-le}
 use Rattle.std.proofs.Math.Nat.{div-div-eq-div-mul}
-use Rattle.hs_base.specs.Bits.{has_word_bit}
+use Rattle.hs_base.specs.Bits.{AreZero, has_word_bit}
+use Rattle.hs_base.proofs.BitLemmas.{zero-all}
 use Rattle.hs_bits.specs.LowestBits.{IsLowestBit}
 use Rattle.hs_bits.specs.NextBits.{IsNextBit, IsNextBitIn, is_in_either}
 use Rattle.hs_bits.proofs.NextLemmas.{next-in_word, next-same, none-left, nowhere-join}
 use Rattle.hs_bits.proofs.WordLemmas.{words-past, words-zero}
-use Rattle.hs_literals.specs.MarkSets.{IsSummed}
+use Rattle.hs_bits.specs.Marks.{IsSummed}
 
 shr-bit : (n s i : ℕ) → bit_at (n / 2 ^ s) i ≡ bit_at n (s + i)
 shr-bit n s i = ap (λ m. m % 2) (div-div-eq-div-mul n (2 ^ s) (2 ^ i) ∙ ap (λ m. n / m) (sym (pow-add 2 s i)))
@@ -148,3 +149,56 @@ summed-whole words summary words' summary' new now w n n' some summed same same'
     let own = summed-written words summary new now w some summed there (new_is ∙ ap (λ ws. slice_set ws w (get_or new w 0)) same) some_is (len ∙ ap length same') put (λ k apart. others k apart ∙ ap (λ ws. has_word_bit ws k) same') in
     subst (λ ws. IsSummed ws (take n' (now ++ drop (length now) summary))) (sym (whole-written new words n wide count))
     (subst (λ ws. IsSummed new ws) (sym (whole-written now summary n' (len ∙ ap length same') count')) own)
+
+-- all marks are taken away
+pub summed-clear : (words summary words' summary' new now : List ℕ) (n n' : ℕ) → IsSummed words summary → words' ≡ words → summary' ≡ summary → length new ≡ length words' → length now ≡ length summary' → AreZero new → AreZero now → n ≡ length words → n' ≡ length summary →
+    IsSummed (take n (new ++ drop (length new) words)) (take n' (now ++ drop (length now) summary))
+summed-clear words summary words' summary' new now n n' summed same same' len len' zeros zeros' count count' =
+    let wide : length new ≡ length words = len ∙ ap length same in
+    let wide' : length now ≡ length summary = len' ∙ ap length same' in
+    let own : IsSummed new now = record {
+      room = omega (arith, wide, wide', summed.room);
+      small = omega (arith, wide, summed.small);
+      small_summary = omega (arith, wide', summed.small_summary);
+      is = λ w low. words-zero now (zero-all now zeros') w ∙ sym (ap (λ m. not (eqb m 0)) (zero-all new zeros w));
+    } in
+    subst (λ ws. IsSummed ws (take n' (now ++ drop (length now) summary))) (sym (whole-written new words n wide count))
+    (subst (λ ws. IsSummed new ws) (sym (whole-written now summary n' wide' count')) own)
+
+pub clear-marks : (words words' new : List ℕ) (n : ℕ) → words' ≡ words → length new ≡ length words' → AreZero new → n ≡ length words → (k : ℕ) → has_word_bit (take n (new ++ drop (length new) words)) k ≡ false
+clear-marks words words' new n same len zeros count k =
+    ap (λ ws. has_word_bit ws k) (whole-written new words n (len ∙ ap length same) count) ∙ words-zero new (zero-all new zeros) k
+
+-- The numbers below one are marked as a row tells, and the others as they were.
+pub record AreRowMarks (row old new : List ℕ) (from : ℕ) : Type 0 where
+  pub room : length new ≡ length old
+  pub below : (k : ℕ) → k < from → has_word_bit new k ≡ (has_word_bit row k || has_word_bit old k)
+  pub above : (k : ℕ) → from ≤ k → has_word_bit new k ≡ has_word_bit old k
+
+module _ (row old : List ℕ) where
+  pub row-none : AreRowMarks row old old 0
+  row-none = record { room = refl; below = λ k low. absurd (omega arith); above = λ k high. refl }
+
+  -- up to the next one, and that one
+  pub row-more : (mid new : List ℕ) (from k : ℕ) → IsNextBit (has_word_bit row) from (64 * length row) k → length new ≡ length mid → has_word_bit new k ≡ true → ((j : ℕ) → (j ≡ k → ⊥) → has_word_bit new j ≡ has_word_bit mid j) →
+      AreRowMarks row old mid from → AreRowMarks row old new (k + 1)
+  row-more mid new from k next len put others are = record {
+    room = len ∙ are.room;
+    below = λ j low. by_place j low (cases_eq j k);
+    above = λ j high. others j (λ same. absurd (omega arith)) ∙ are.above j (omega (arith, next.low));
+  } where
+    by_place : (j : ℕ) → j < k + 1 → (j ≡ k) ⊎ (j ≡ k → ⊥) → has_word_bit new j ≡ (has_word_bit row j || has_word_bit old j)
+    by_place j low (inl same) = ap (λ n. has_word_bit new n) same ∙ put ∙ sym (ap (λ b. b || has_word_bit old j) (ap (λ n. has_word_bit row n) same ∙ next.is))
+    by_place j low (inr apart) = others j apart ∙ elim (cases_lt j from) [
+      | inl inner ↦ are.below j inner
+      | inr past ↦ are.above j past ∙ sym (ap (λ b. b || has_word_bit old j) (next.least j past (omega (arith, low, apart))))
+    ]
+
+  pub row-all : (new : List ℕ) (from : ℕ) → HoldsNowhere (has_word_bit row) from (64 * length row) → AreRowMarks row old new from → (k : ℕ) → has_word_bit new k ≡ (has_word_bit row k || has_word_bit old k)
+  row-all new from none are k = elim (cases_lt k from) [
+    | inl inner ↦ are.below k inner
+    | inr past ↦ are.above k past ∙ sym (ap (λ b. b || has_word_bit old k) (unset (cases_lt k (64 * length row)) past))
+  ] where
+    unset : (k < 64 * length row) ⊎ (64 * length row ≤ k) → from ≤ k → has_word_bit row k ≡ false
+    unset (inl inside) past = none k past inside
+    unset (inr beyond) past = words-past row k beyond

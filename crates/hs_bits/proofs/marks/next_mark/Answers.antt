@@ -1,8 +1,8 @@
 use Rattle.std.proofs.Common.{◌+◌, ◌*◌, ◌/◌, ◌%◌, ◌^◌, get_or, refl, subst, arith}
 use Rattle.std.specs.Slice.Scan.{HoldsNowhere}
 use Rattle.hs_base.specs.Bits.{has_word_bit}
-use Rattle.hs_reports.proofs.MarkLemmas.{first-in, none-last, none-to, word-within}
-use Rattle.hs_reports.proofs.marks.next_mark.Goals as goal
+use Rattle.hs_bits.proofs.MarkLemmas.{first-in, none-last, none-to, word-within}
+use Rattle.hs_bits.proofs.marks.next_mark.Goals as goal
 
 pub returns-then-rest-ne0 : goal.returns-then-rest-ne0
 returns-then-rest-ne0 c =

@@ -1,6 +1,6 @@
 use Rattle.std.proofs.Common.{◌-◌, ◌*◌, length}
-use Rattle.hs_reports.proofs.MarkLemmas.{AreRowMarks}
-use Rattle.hs_reports.proofs.marks.MarkSet.mark_row.Given as goal
+use Rattle.hs_bits.proofs.MarkLemmas.{AreRowMarks}
+use Rattle.hs_bits.proofs.marks.MarkSet.mark_row.Given as goal
 
 abbrev pub invariant-loop-k : goal.invariant-loop-k
 invariant-loop-k l = AreRowMarks l.row l.initial.self l.self l.from

@@ -1,6 +1,6 @@
 use Rattle.std.proofs.Common.{◌<◌, ◌*◌, ◌/◌, ℕ, List, length, sym, subst, arith}
-use Rattle.hs_reports.proofs.MarkLemmas.{summed-whole}
-use Rattle.hs_reports.proofs.marks.MarkSet.write.Goals as goal
+use Rattle.hs_bits.proofs.MarkLemmas.{summed-whole}
+use Rattle.hs_bits.proofs.marks.MarkSet.write.Goals as goal
 
 pub invariant_of-self : goal.invariant_of-self
 invariant_of-self c =

@@ -1,6 +1,6 @@
 use Rattle.std.proofs.Common.{◌∙◌}
 use Rattle.hs_bits.proofs.WordLemmas.{written-bit, kept-bit}
-use Rattle.hs_reports.proofs.marks.write_mark.Goals as goal
+use Rattle.hs_bits.proofs.marks.write_mark.Goals as goal
 
 pub returns-clause-put : goal.returns-clause-put
 returns-clause-put c = written-bit c.args.words.now c.args.number c.with_bit-word.result c.requires ∙ c.with_bit-word.ensures.put

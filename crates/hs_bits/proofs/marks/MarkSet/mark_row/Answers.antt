@@ -1,5 +1,5 @@
-use Rattle.hs_reports.proofs.MarkLemmas.{row-all, row-more, row-none}
-use Rattle.hs_reports.proofs.marks.MarkSet.mark_row.Goals as goal
+use Rattle.hs_bits.proofs.MarkLemmas.{row-all, row-more, row-none}
+use Rattle.hs_bits.proofs.marks.MarkSet.mark_row.Goals as goal
 
 pub loop-k-init : goal.loop-k-init
 loop-k-init c = row-none c.args.row.now c.args.self.now

@@ -1,6 +1,6 @@
 use Rattle.std.proofs.Common.{arith}
-use Rattle.hs_reports.proofs.MarkLemmas.{summed-none, zero-marks}
-use Rattle.hs_reports.proofs.marks.MarkSet.new.Goals as goal
+use Rattle.hs_bits.proofs.MarkLemmas.{summed-none, zero-marks}
+use Rattle.hs_bits.proofs.marks.MarkSet.new.Goals as goal
 
 pub invariant_of-result : goal.invariant_of-result
 invariant_of-result c =

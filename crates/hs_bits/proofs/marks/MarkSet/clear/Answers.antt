@@ -1,5 +1,5 @@
-use Rattle.hs_reports.proofs.MarkLemmas.{clear-marks, summed-clear}
-use Rattle.hs_reports.proofs.marks.MarkSet.clear.Goals as goal
+use Rattle.hs_bits.proofs.MarkLemmas.{clear-marks, summed-clear}
+use Rattle.hs_bits.proofs.marks.MarkSet.clear.Goals as goal
 
 pub invariant_of-self : goal.invariant_of-self
 invariant_of-self c =
