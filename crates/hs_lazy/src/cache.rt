@@ -83,8 +83,8 @@ impl Dfas {
         {
             return;
         }
-        let (number_is, engine_is, size_is) = (number as u32, engine as u32, size as u32);
-        let Some(member) = self.list[last].put(number_is, engine_is, size_is, wakers) else {
+        let Some(member) = self.list[last].put(number as u32, engine as u32, size as u32, wakers)
+        else {
             return;
         };
         self.places[number] = Some(Place {

@@ -4,7 +4,7 @@ ghost use Rattle.std.specs.Prelude.{◌≡◌, length, MatchOption};
 ghost use Rattle.hs_lazy.specs.Runs.{TakesEntered};
 
 use hs_base::Prev;
-use hs_block::BlockEngine;
+use hs_engine::Engine;
 
 /// Where an expression is left around one byte.
 #[derive(Clone, Copy, Debug, PartialEq, Eq)]
@@ -15,16 +15,8 @@ pub struct ByteEnds {
     pub behind: bool,
 }
 
-impl ByteEnds {
-    /// It is left neither before the byte nor behind it.
-    pub(crate) const NOWHERE: ByteEnds = ByteEnds {
-        before: false,
-        behind: false,
-    };
-}
-
 /// An engine that may take a byte wherever its stream stands.
-pub trait TimelessEngine: BlockEngine {
+pub trait TimelessEngine: Engine {
     /// Whether it does, as a rule. Nothing hangs on it but speed.
     fn is_timeless(&self) -> bool;
 

@@ -24,7 +24,7 @@ use std::sync::ledger::Ledger;
 
 /// Takes the next bytes of the stream of a region, and reports what they decide, in the order in which they do. The
 /// offset stays a number that a stream may have. No bytes leave the region as it is, and report nothing.
-pub fn scan<E: TimelessEngine, V: Events, L: Ledger>(
+pub fn scan<E: BlockEngine + TimelessEngine, V: Events, L: Ledger>(
     graph: &Graph<E>,
     literals: &Literals,
     layout: &Layout,

@@ -25,6 +25,7 @@ use crate::past::{prev_of, push_past};
 use crate::scanning::scan_bytes;
 use crate::scratch::{Scratch, find_hits, forget};
 use hs_base::Next;
+use hs_block::BlockEngine;
 use hs_engine::Steps;
 use hs_layout::Layout;
 use hs_lazy::{Cache, TimelessEngine};
@@ -34,7 +35,7 @@ use hs_reports::Events;
 use std::sync::ledger::Ledger;
 
 /// Takes a line feed of which is asked what would end before it, and writes which identifiers it leaves to the end.
-fn scan_asked<E: TimelessEngine, V: Events, L: Ledger>(
+fn scan_asked<E: BlockEngine + TimelessEngine, V: Events, L: Ledger>(
     graph: &Graph<E>,
     literals: &Literals,
     layout: &Layout,
@@ -90,7 +91,7 @@ fn scan_asked<E: TimelessEngine, V: Events, L: Ledger>(
 }
 
 /// Takes a line feed, and writes which identifiers it leaves to the end.
-fn scan_line_feed<E: TimelessEngine, V: Events, L: Ledger>(
+fn scan_line_feed<E: BlockEngine + TimelessEngine, V: Events, L: Ledger>(
     graph: &Graph<E>,
     literals: &Literals,
     layout: &Layout,
@@ -156,7 +157,7 @@ fn leave_none(last: &mut [u64])
 }
 
 /// Takes bytes up to a line feed, which is the last one.
-fn scan_to_line_feed<E: TimelessEngine, V: Events, L: Ledger>(
+fn scan_to_line_feed<E: BlockEngine + TimelessEngine, V: Events, L: Ledger>(
     graph: &Graph<E>,
     literals: &Literals,
     layout: &Layout,
@@ -217,7 +218,7 @@ fn scan_to_line_feed<E: TimelessEngine, V: Events, L: Ledger>(
 }
 
 /// Takes bytes of which the last one is no line feed.
-fn scan_to_other<E: TimelessEngine, V: Events, L: Ledger>(
+fn scan_to_other<E: BlockEngine + TimelessEngine, V: Events, L: Ledger>(
     graph: &Graph<E>,
     literals: &Literals,
     layout: &Layout,
@@ -267,7 +268,7 @@ fn scan_to_other<E: TimelessEngine, V: Events, L: Ledger>(
 }
 
 /// Takes the bytes of a write, of which there are some, and writes which identifiers the last one leaves to the end.
-pub(crate) fn scan_write<E: TimelessEngine, V: Events, L: Ledger>(
+pub(crate) fn scan_write<E: BlockEngine + TimelessEngine, V: Events, L: Ledger>(
     graph: &Graph<E>,
     literals: &Literals,
     layout: &Layout,

@@ -134,7 +134,7 @@ fn tell_line_feed<E: BlockEngine, V: Events>(
 
 /// Takes a chunk of one line feed, of which the scratch has where the literals end in it, and which matches would end
 /// before it were it the last byte.
-pub(crate) fn run_line_feed<E: TimelessEngine, V: Events, L: Ledger>(
+pub(crate) fn run_line_feed<E: BlockEngine + TimelessEngine, V: Events, L: Ledger>(
     graph: &Graph<E>,
     region: &mut [u8],
     cache: &mut Cache,

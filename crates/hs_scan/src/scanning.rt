@@ -30,7 +30,7 @@ use hs_reports::Events;
 use std::sync::ledger::Ledger;
 
 /// Takes a chunk, of which the scratch has where the literals end in it.
-fn run_chunk<E: TimelessEngine, V: Events, L: Ledger>(
+fn run_chunk<E: BlockEngine + TimelessEngine, V: Events, L: Ledger>(
     graph: &Graph<E>,
     region: &mut [u8],
     cache: &mut Cache,
@@ -94,7 +94,7 @@ fn run_chunk<E: TimelessEngine, V: Events, L: Ledger>(
 }
 
 /// Takes up to 512 bytes.
-pub(crate) fn scan_chunk<E: TimelessEngine, V: Events, L: Ledger>(
+pub(crate) fn scan_chunk<E: BlockEngine + TimelessEngine, V: Events, L: Ledger>(
     graph: &Graph<E>,
     literals: &Literals,
     layout: &Layout,
@@ -147,7 +147,7 @@ pub(crate) fn scan_chunk<E: TimelessEngine, V: Events, L: Ledger>(
 }
 
 /// Takes bytes, 512 at a time.
-pub(crate) fn scan_bytes<E: TimelessEngine, V: Events, L: Ledger>(
+pub(crate) fn scan_bytes<E: BlockEngine + TimelessEngine, V: Events, L: Ledger>(
     graph: &Graph<E>,
     literals: &Literals,
     layout: &Layout,
