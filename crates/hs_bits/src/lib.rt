@@ -1,6 +1,6 @@
 //! Bits in rows of bytes and of words: single ones, ranges, the lowest and the next one, and whole rows at
-//! once; numbers that are marked (`marks`); and the places of a block of up to 64 bytes as the bits of a word: where members of a set stand, and in which
-//! contexts.
+//! once; numbers that are marked; and the places of a block of up to 64 bytes as the bits of a word: where members of a
+//! set stand, and in which contexts.
 #![tactic(auto)]
 
 mod bytes;

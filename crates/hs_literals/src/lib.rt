@@ -1,7 +1,7 @@
 //! Every place at which one of many literals ends, by lanes: `literals` has the tables, `blocks` the masks of 64
 //! places, `marks` which of them may have an end, `places` goes to the next one that may, and `scan` tells the ends.
-//! `specs/ScanEnds.antt` says what an end is. `hit_rows` has the ends in a chunk as rows of bits, and `hit_laws` says what
-//! that tells of a stream.
+//! `specs/ScanEnds.antt` says what an end is. `hit_rows` has the ends in a chunk as rows of bits, and `hit_laws` says
+//! what that tells of a stream.
 #![tactic(auto)]
 
 mod blocks;
