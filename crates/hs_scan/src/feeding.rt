@@ -14,6 +14,7 @@ ghost use Rattle.hs_scan.specs.Scratches.{IsIdle, ServesGraph};
 use crate::last_byte::scan_write;
 use crate::scratch::Scratch;
 use crate::writing::{begin_write, end_write, mark_nodes};
+use hs_block::BlockEngine;
 use hs_engine::Steps;
 use hs_layout::Layout;
 use hs_lazy::{Cache, TimelessEngine};

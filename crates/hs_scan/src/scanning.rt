@@ -21,6 +21,7 @@ use crate::chunk::take_chunk;
 use crate::past::{prev_of, push_past};
 use crate::scratch::{Scratch, find_hits, forget};
 use crate::waking::wake;
+use hs_block::BlockEngine;
 use hs_engine::Steps;
 use hs_layout::Layout;
 use hs_lazy::{Cache, TimelessEngine};
