@@ -1,9 +1,11 @@
 -- Regions in an image, and the bits of sets of members.
-use Rattle.std.proofs.Common.{◌≡◌, ℕ, zero, suc, ◌-◌, ◌<◌, ◌≤◌, false, List, [], ◌∷◌, ◌++◌, length, take, drop, Option, Some, None, slice_get, get_or, refl, sym, ap, ◌∙◌, arith, length-append, length-drop}
-use Rattle.std.proofs.lemmas.List.{length-take-le, get_or_past}
+use Rattle.std.proofs.Common.{◌≡◌, ℕ, zero, suc, ◌+◌, ◌-◌, ◌<◌, ◌≤◌, false, List, [], ◌∷◌, ◌++◌, length, take, drop, Option, Some, None, slice_get, slice_range, get_or, refl, sym, ap, ◌∙◌, arith, length-append, length-drop}
+use Rattle.std.proofs.lemmas.List.{length-take, length-take-le, get_or_past}
 use Rattle.std.proofs.lemmas.Slice.{take-put_mid_below, drop-put_mid, between-put_mid, between_is}
 use borrow.Rule.Slice.PartMut.{mid_of, put_mid}
 use Rattle.hs_base.specs.Bits.{AreZero, has_word_bit}
+use Rattle.hs_base.proofs.BitLemmas.{same-zero, zero-all}
+use Rattle.hs_base.proofs.RegionLemmas.{get-range}
 use Rattle.hs_bits.proofs.WordLemmas.{words-zero, unset-bits}
 use Rattle.hs_lazy.specs.declared.parts.Member.{Member}
 use Rattle.hs_lazy.specs.declared.parts.EndSet.{EndSet}
@@ -43,6 +45,21 @@ size-put image bytes m order within long = omega (
   within,
   long,
 )
+
+-- a range of a list that is zero
+size-range : (xs : List ℕ) (a b i : ℕ) → i < length (slice_range xs a b) → i < b - a
+size-range xs a b i low = omega (arith, low, length-take (b - a) (drop a xs))
+
+pub zero-range : (xs : List ℕ) (a b : ℕ) → AreZero xs → AreZero (slice_range xs a b)
+zero-range xs a b zeros i low = get-range xs a b i (size-range xs a b i low) ∙ zero-all xs zeros (a + i)
+
+pub same-range : (xs ys : List ℕ) (a b : ℕ) → length xs ≡ length ys → length (slice_range xs a b) ≡ length (slice_range ys a b)
+same-range xs ys a b same = omega (arith, same, length-take (b - a) (drop a xs), length-take (b - a) (drop a ys), length-drop a xs, length-drop a ys)
+
+-- the regions of a member in two images in which it has nothing live
+pub same-parts : (image other : List ℕ) (m : Member) → length image ≡ length other → AreZero image → AreZero (part other m) → part image m ≡ part other m
+same-parts image other m long none none' =
+    same-zero (part image m) (part other m) (same-range image other m.start m.end long) (zero-range image m.start m.end none) none'
 
 -- two members lie one before the other
 pub beside : (members : List Member) (j k : ℕ) (a b : Member) → AreMembersApart members → slice_get members j ≡ Some a → slice_get members k ≡ Some b →

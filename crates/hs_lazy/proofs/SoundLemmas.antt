@@ -1,15 +1,19 @@
 -- An automaton stays sound while its tables grow.
-use Rattle.std.proofs.Common.{◌≡◌, ℕ, ◌+◌, ◌*◌, ◌<◌, List, length, Some, slice_get, refl, sym, ap, subst, arith}
+use Rattle.std.proofs.Common.{◌≡◌, ℕ, ◌+◌, ◌*◌, ◌<◌, List, length, Some, slice_get, get_or, refl, sym, ap, subst, arith}
 use Rattle.std.proofs.Math.ListN.{set}
-use Rattle.std.proofs.lemmas.Option.{slice_get_within}
+use Rattle.std.proofs.lemmas.Option.{slice_get_read, slice_get_within}
 use Rattle.hs_engine.specs.Engines.{Meaning}
 use Rattle.hs_lazy.specs.declared.parts.Member.{Member}
 use Rattle.hs_lazy.specs.declared.parts.State.{State}
 use Rattle.hs_lazy.specs.declared.parts.EndSet.{EndSet}
 use Rattle.hs_lazy.specs.declared.dfa.LazyDfa.{LazyDfa}
-use Rattle.hs_lazy.specs.Parts.{AreStillThere}
+use Rattle.hs_lazy.specs.Parts.{AreStillThere, IsStateWhole}
 use Rattle.hs_lazy.specs.Sound.{AreMembersOf, IsDfaSound, IsStep}
 use Rattle.hs_lazy.proofs.TableLemmas.{sound-ends, sound-grown, sound-written}
+
+-- a state that was read is whole
+pub whole-at : (d : LazyDfa) (s : ℕ) (old : State) → s < length d.states.items → old ≡ get_or d.states.items s old → IsStateWhole d.members.items old
+whole-at d s old low is = d.live s old (slice_get_read d.states.items _ s old refl low is)
 
 module _ {E : Type 0} (meaning : E → Meaning) (engines : List E) where
   abbrev pub IsSoundDfa : LazyDfa → Type 0

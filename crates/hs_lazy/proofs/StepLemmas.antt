@@ -1,7 +1,8 @@
 -- Members that take a byte, one after the other.
-use Rattle.std.proofs.Common.{◌≡◌, ◌||◌, refl, ℕ, ◌+◌, ◌-◌, ◌<◌, ◌≤◌, inl, inr, Bool, true, false, List, [], ◌∷◌, ◌++◌, length, Some, slice_get, sym, ap, subst, ◌∙◌, arith, length-append}
-use Rattle.std.specs.Prelude.{if◌then◌else◌}
+use Rattle.std.proofs.Common.{◌≡◌, ◌||◌, refl, ℕ, ◌+◌, ◌-◌, ◌<◌, ◌≤◌, inl, inr, Bool, true, false, List, [], ◌∷◌, ◌++◌, length, replicate, Option, None, Some, slice_get, sym, ap, subst, ◌∙◌, arith, length-append}
+use Rattle.std.specs.Prelude.{if◌then◌else◌, IfSome}
 use Rattle.std.proofs.lemmas.Bool.{cases_eq, cases_lt}
+use Rattle.std.proofs.lemmas.List.{get_or-replicate, length-replicate}
 use Rattle.std.proofs.lemmas.Option.{slice_get_within}
 use Rattle.hs_base.specs.declared.context.Prev.{Prev}
 use Rattle.hs_base.specs.Bits.{AreZero, has_word_bit}
@@ -13,10 +14,10 @@ use Rattle.hs_lazy.specs.declared.parts.Member.{Member}
 use Rattle.hs_lazy.specs.declared.parts.State.{State}
 use Rattle.hs_lazy.specs.declared.parts.EndSet.{EndSet}
 use Rattle.hs_lazy.specs.Images.{IsSameSets}
-use Rattle.hs_lazy.specs.Parts.{AreMembersApart, AreLeading, AreLive, IsBeside, IsLive, IsState, IsStepTo, IsStateWhole, before_of, behind_of, part, set_of}
+use Rattle.hs_lazy.specs.Parts.{AreMembersApart, AreLeading, AreLive, IsBeside, IsLive, IsState, IsStepMade, IsStepTo, IsStateWhole, before_of, behind_of, ends_of, entry, next_of, part, set_of}
 use Rattle.hs_lazy.specs.Runs.{AreZerosBlank, IsBlankRegion, TakesEntered}
-use Rattle.hs_lazy.specs.Sound.{AreMembersOf, IsStep, TakeEntered}
-use Rattle.hs_lazy.proofs.PartLemmas.{beside, beside-back, size-part}
+use Rattle.hs_lazy.specs.Sound.{AreMembersOf, HaveTaken, IsDfaSound, IsIdleStep, IsStep, TakeEntered}
+use Rattle.hs_lazy.proofs.PartLemmas.{beside, beside-back, same-parts, size-part}
 use Rattle.hs_lazy.proofs.RunLemmas.{asleep-takes, run-same}
 use Rattle.hs_lazy.proofs.TableLemmas.{get-either, same-got}
 
@@ -37,73 +38,86 @@ takes-ends m old new prev byte ends before behind befores behinds takes = record
 }
 
 module _ {E : Type 0} (meaning : E → Meaning) (engines : List E) (members : List Member) (old : State) (byte : ℕ) where
-  -- so many members have taken the byte
-  abbrev pub AreDone : (image before behind : List ℕ) (k : ℕ) → Type 0
-  AreDone image before behind k =
-      (j : ℕ) (m : Member) (e : E) → j < k → slice_get members j ≡ Some m → slice_get engines m.engine ≡ Some e →
+  -- the members that aren't asked have taken the byte, and those that are before a place
+  abbrev pub AreDone : (image before behind asked : List ℕ) (from : ℕ) → Type 0
+  AreDone image before behind asked from =
+      (j : ℕ) (m : Member) (e : E) → slice_get members j ≡ Some m → slice_get engines m.engine ≡ Some e → (from ≤ j → has_word_bit asked j ≡ false) →
       TakesEntered (meaning e) (part old.image m) (part image m) old.prev byte (record { before = has_word_bit before j; behind = has_word_bit behind j })
 
-  -- the others are as they were
-  abbrev pub AreLeft : (image : List ℕ) (k : ℕ) → Type 0
-  AreLeft image k = (j : ℕ) (m : Member) → k ≤ j → slice_get members j ≡ Some m → part image m ≡ part old.image m
+  -- one more does
+  pub done-more : (image image' before before' behind behind' asked : List ℕ) (from k : ℕ) (m : Member) (e : E) (own : ByteEnds) →
+      AreMembersApart members → slice_get members k ≡ Some m → slice_get engines m.engine ≡ Some e →
+      ((other : Member) → IsBeside m other → part image' other ≡ part image other) →
+      ((j : ℕ) → from ≤ j → j < k → has_word_bit asked j ≡ false) →
+      TakesEntered (meaning e) (part old.image m) (part image' m) old.prev byte own →
+      has_word_bit before' k ≡ own.before → has_word_bit behind' k ≡ own.behind →
+      ((j : ℕ) → (j ≡ k → ⊥) → has_word_bit before' j ≡ has_word_bit before j) →
+      ((j : ℕ) → (j ≡ k → ⊥) → has_word_bit behind' j ≡ has_word_bit behind j) →
+      AreDone image before behind asked from → AreDone image' before' behind' asked (k + 1)
+  done-more image image' before before' behind behind' asked from k m e own apart is there others least takes put-before put-behind befores behinds done j m' e' is' there' unasked = elim (cases_eq j k) [
+    | inl same ↦ here same
+    | inr other ↦
+        takes-ends (meaning e') (part old.image m') (part image' m') old.prev byte (record { before = has_word_bit before j; behind = has_word_bit behind j }) (has_word_bit before' j) (has_word_bit behind' j)
+        (befores j other) (behinds j other)
+        (subst (λ p. TakesEntered (meaning e') (part old.image m') p old.prev byte (record { before = has_word_bit before j; behind = has_word_bit behind j }))
+        (sym (others m' (side other)))
+        (done j m' e' is' there' (quiet other)))
+  ]
+    where
+      quiet : (j ≡ k → ⊥) → from ≤ j → has_word_bit asked j ≡ false
+      quiet other high = elim (cases_lt j k) [
+        | inl less ↦ least j high less
+        | inr more ↦ unasked (omega (arith, more, other))
+      ]
 
-  module _ (image image' before before' behind behind' : List ℕ) (k : ℕ) (m : Member) (e : E) (own : ByteEnds)
-      (apart : AreMembersApart members) (is : slice_get members k ≡ Some m) (there : slice_get engines m.engine ≡ Some e)
-      (others : (other : Member) → IsBeside m other → part image' other ≡ part image other) where
-    pub left-more : AreLeft image k → AreLeft image' (k + 1)
-    left-more left j m' high is' =
-        others m' (beside-back members k j m m' apart is is' (omega (arith, high))) ∙ left j m' (omega (arith, high)) is'
+      side : (j ≡ k → ⊥) → IsBeside m m'
+      side other = elim (cases_lt j k) [
+        | inl less ↦ beside members j k m' m apart is' is less
+        | inr more ↦ beside-back members k j m m' apart is is' (omega (arith, more, other))
+      ]
 
-    pub done-more : TakesEntered (meaning e) (part image m) (part image' m) old.prev byte own →
-        has_word_bit before' k ≡ own.before → has_word_bit behind' k ≡ own.behind →
-        ((j : ℕ) → (j ≡ k → ⊥) → has_word_bit before' j ≡ has_word_bit before j) →
-        ((j : ℕ) → (j ≡ k → ⊥) → has_word_bit behind' j ≡ has_word_bit behind j) →
-        AreLeft image k → AreDone image before behind k → AreDone image' before' behind' (k + 1)
-    done-more takes put-before put-behind befores behinds left done j m' e' low is' there' = elim (cases_eq j k) [
-      | inl same ↦ here same
-      | inr other ↦
-          takes-ends (meaning e') (part old.image m') (part image' m') old.prev byte (record { before = has_word_bit before j; behind = has_word_bit behind j }) (has_word_bit before' j) (has_word_bit behind' j)
-          (befores j other) (behinds j other)
-          (subst (λ p. TakesEntered (meaning e') (part old.image m') p old.prev byte (record { before = has_word_bit before j; behind = has_word_bit behind j }))
-          (sym (others m' (beside members j k m' m apart is' is (omega (arith, low, other)))))
-          (done j m' e' (omega (arith, low, other)) is' there'))
-    ]
-      where
-        here : j ≡ k → TakesEntered (meaning e') (part old.image m') (part image' m') old.prev byte (record { before = has_word_bit before' j; behind = has_word_bit behind' j })
-        here same =
-            let mine : m ≡ m' = same-got members k m m' is (subst (λ n. slice_get members n ≡ Some m') same is') in
-            let its : e ≡ e' = same-got engines m.engine e e' there (subst (λ (x : Member). slice_get engines x.engine ≡ Some e') (sym mine) there') in
-            subst (λ x. TakesEntered (meaning x) (part old.image m') (part image' m') old.prev byte (record { before = has_word_bit before' j; behind = has_word_bit behind' j })) its
-            (subst (λ (x : Member). TakesEntered (meaning e) (part old.image x) (part image' x) old.prev byte (record { before = has_word_bit before' j; behind = has_word_bit behind' j })) mine
-            (takes-ends (meaning e) (part old.image m) (part image' m) old.prev byte own (has_word_bit before' j) (has_word_bit behind' j)
-            (ap (has_word_bit before') same ∙ put-before) (ap (has_word_bit behind') same ∙ put-behind)
-            (subst (λ p. TakesEntered (meaning e) p (part image' m) old.prev byte own) (left k m (omega arith) is) takes)))
+      here : j ≡ k → TakesEntered (meaning e') (part old.image m') (part image' m') old.prev byte (record { before = has_word_bit before' j; behind = has_word_bit behind' j })
+      here same =
+          let mine : m ≡ m' = same-got members k m m' is (subst (λ n. slice_get members n ≡ Some m') same is') in
+          let its : e ≡ e' = same-got engines m.engine e e' there (subst (λ (x : Member). slice_get engines x.engine ≡ Some e') (sym mine) there') in
+          subst (λ x. TakesEntered (meaning x) (part old.image m') (part image' m') old.prev byte (record { before = has_word_bit before' j; behind = has_word_bit behind' j })) its
+          (subst (λ (x : Member). TakesEntered (meaning e) (part old.image x) (part image' x) old.prev byte (record { before = has_word_bit before' j; behind = has_word_bit behind' j })) mine
+          (takes-ends (meaning e) (part old.image m) (part image' m) old.prev byte own (has_word_bit before' j) (has_word_bit behind' j)
+          (ap (has_word_bit before') same ∙ put-before) (ap (has_word_bit behind') same ∙ put-behind) takes))
 
   -- a member without its bit is blank
-  pub blank-left : (image : List ℕ) (k : ℕ) (m : Member) (e : E) → AreZerosBlank meaning engines → AreMembersOf meaning engines members → AreMembersApart members →
-      length image ≡ 512 → slice_get members k ≡ Some m → slice_get engines m.engine ≡ Some e →
-      part image m ≡ part old.image m → AreZero (part old.image m) → IsBlankRegion (meaning e) (part image m)
-  blank-left image k m e blank of apart long is there left zero =
-      blank m.engine e (part image m) there (of.listed k m e is there)
-      (let size : length (part image m) ≡ m.end - m.start = size-part image m (apart.rising k m is) (let w : m.end ≤ 512 = apart.within k m is in omega (arith, w, long)) in
+  blank-part : (k : ℕ) (m : Member) (e : E) → AreZerosBlank meaning engines → AreMembersOf meaning engines members → AreMembersApart members →
+      length old.image ≡ 512 → slice_get members k ≡ Some m → slice_get engines m.engine ≡ Some e → AreZero (part old.image m) → IsBlankRegion (meaning e) (part old.image m)
+  blank-part k m e blank of apart long is there zero =
+      blank m.engine e (part old.image m) there (of.listed k m e is there)
+      (let size : length (part old.image m) ≡ m.end - m.start = size-part old.image m (apart.rising k m is) (let w : m.end ≤ 512 = apart.within k m is in omega (arith, w, long)) in
       let wide : m.start + (meaning e).width ≡ m.end = of.sized k m e is there in omega (arith, size, wide))
-      (subst (λ p. AreZero p) (sym left) zero)
+      zero
 
-  -- members that aren't asked take the byte as they are
-  pub done-gap : (image before behind asked : List ℕ) (from to : ℕ) → AreZerosBlank meaning engines → AreMembersOf meaning engines members → AreMembersApart members →
-      IsLive members old.image old.live → length image ≡ 512 → byte < 256 →
+  -- members in which nothing is live, and which the byte doesn't wake, take it as they are
+  pub others-asleep : (asked : List ℕ) (ends : EndSet) → AreZerosBlank meaning engines → AreMembersOf meaning engines members → AreMembersApart members →
+      IsStateWhole members old → byte < 256 →
       ((j : ℕ) (m : Member) → slice_get members j ≡ Some m → has_word_bit asked j ≡ (has_word_bit old.live j || has m.wakers byte)) →
-      ((j : ℕ) → from ≤ j → j < to → has_word_bit asked j ≡ false) →
-      ((j : ℕ) → from ≤ j → has_word_bit before j ≡ false) → ((j : ℕ) → from ≤ j → has_word_bit behind j ≡ false) →
-      AreLeft image from → AreDone image before behind from → AreDone image before behind to
-  done-gap image before behind asked from to blank of apart live long small asks unasked none-before none-behind left done j m e low is there = elim (cases_lt j from) [
-    | inl less ↦ done j m e less is there
-    | inr high ↦
-        let none : (has_word_bit old.live j || has m.wakers byte) ≡ false = sym (asks j m is) ∙ unasked j high low in
-        let own : IsBlankRegion (meaning e) (part image m) = blank-left image j m e blank of apart long is there (left j m high is) (live j m is (neither-left (has_word_bit old.live j) (has m.wakers byte) none)) in
-        subst (λ p. TakesEntered (meaning e) p (part image m) old.prev byte (record { before = has_word_bit before j; behind = has_word_bit behind j })) (left j m high is)
-        (asleep-takes (meaning e) (part image m) old.prev byte _ (of.woken j m e is there (part image m) byte own.starts small (neither-right (has_word_bit old.live j) (has m.wakers byte) none)) own (none-before j high) (none-behind j high))
-  ]
+      ((j : ℕ) → has_word_bit ends.before j ≡ false) → ((j : ℕ) → has_word_bit ends.behind j ≡ false) →
+      HaveTaken meaning engines members old old.image byte asked ends
+  others-asleep asked ends blank of apart whole small asks none-before none-behind k m e is there unasked =
+      let none : (has_word_bit old.live k || has m.wakers byte) ≡ false = sym (asks k m is) ∙ unasked in
+      let own : IsBlankRegion (meaning e) (part old.image m) = blank-part k m e blank of apart whole.image_len is there (whole.live k m is (neither-left (has_word_bit old.live k) (has m.wakers byte) none)) in
+      asleep-takes (meaning e) (part old.image m) old.prev byte _ (of.woken k m e is there (part old.image m) byte own.starts small (neither-right (has_word_bit old.live k) (has m.wakers byte) none)) own (none-before k) (none-behind k)
+
+  -- members in which nothing is live do what they do where nothing is live at all
+  pub others-idle : (states : List State) (sets : List EndSet) (step : ℕ) (image : List ℕ) (ends : EndSet) →
+      IsIdleStep meaning engines members states sets old.prev byte step → IsStateWhole members old →
+      ((next : State) → slice_get states (next_of step) ≡ Some next → image ≡ next.image) → IsSameSets (set_of sets (ends_of step)) ends →
+      HaveTaken meaning engines members old image byte old.live ends
+  others-idle states sets step image ends idle whole image-is same k m e is there unasked =
+      let it : IsStep meaning engines members states sets idle.idle byte step = idle.is in
+      let parts : part idle.idle.image m ≡ part old.image m = same-parts idle.idle.image old.image m (idle.long ∙ sym whole.image_len) idle.zero (whole.live k m is unasked) in
+      let told : ByteEnds = record { before = before_of (set_of sets (ends_of step)) k; behind = behind_of (set_of sets (ends_of step)) k } in
+      takes-ends (meaning e) (part old.image m) (part image m) old.prev byte told (has_word_bit ends.before k) (has_word_bit ends.behind k) (sym (same.before k)) (sym (same.behind k))
+      (subst (λ i. TakesEntered (meaning e) (part old.image m) (part i m) old.prev byte told) (sym (image-is it.next it.next_is))
+      (subst (λ p. TakesEntered (meaning e) (part old.image m) (part it.next.image m) p byte told) idle.prev_is
+      (subst (λ p. TakesEntered (meaning e) p (part it.next.image m) idle.idle.prev byte told) parts (it.takes k m e is there))))
 
   -- the step that was made is what the engines do
   pub step-made : (states : List State) (ends : List EndSet) (image before behind : List ℕ) (next number step : ℕ) →
@@ -120,6 +134,28 @@ module _ {E : Type 0} (meaning : E → Meaning) (engines : List E) (members : Li
         (takes-ends (meaning e) (part old.image m) (part state.state.image m) old.prev byte (record { before = has_word_bit before k; behind = has_word_bit behind k }) _ _ (sets.before k) (sets.behind k)
         (subst (λ i. TakesEntered (meaning e) (part old.image m) (part i m) old.prev byte (record { before = has_word_bit before k; behind = has_word_bit behind k })) (sym state.image_is) (takes k m e is there)));
   }
+
+-- the step by a byte of a state in which nothing is live
+pub idle-step : {E : Type 0} (meaning : E → Meaning) (engines : List E) (members : List Member) (states : List State) (rows : List ℕ) (ends : List EndSet) (s : ℕ) (image : List ℕ) (prev : Prev) (byte step : ℕ) →
+    IsDfaSound meaning engines members states rows ends → IsState states s image prev → image ≡ replicate 512 0 → byte < 256 →
+    step ≡ entry rows s byte → (step ≡ 0 → ⊥) → IsIdleStep meaning engines members states ends prev byte step
+idle-step meaning engines members states rows ends s image prev byte step sound state zeros small is known =
+    let all : state.state.image ≡ replicate 512 0 = state.image_is ∙ zeros in
+    record {
+      idle = state.state;
+      zero = subst AreZero (sym all) (λ i low. get_or-replicate 512 i 0 0 (omega (arith, low, length-replicate {A = ℕ} 512 0)));
+      long = ap length all ∙ length-replicate {A = ℕ} 512 0;
+      prev_is = state.prev_is;
+      is = subst (IsStep meaning engines members states ends state.state byte) (sym is) (sound.steps s byte state.state state.is small (λ none. known (is ∙ none)));
+    }
+
+-- the same of a step that may have been made
+pub idle-made : {E : Type 0} (meaning : E → Meaning) (engines : List E) (members : List Member) (states : List State) (rows : List ℕ) (ends : List EndSet) (s : ℕ) (image : List ℕ) (prev : Prev) (byte : ℕ) (step : Option ℕ) →
+    IsDfaSound meaning engines members states rows ends → IsState states s image prev → image ≡ replicate 512 0 → byte < 256 →
+    IfSome step (IsStepMade rows s byte) → IfSome step (IsIdleStep meaning engines members states ends prev byte)
+idle-made meaning engines members states rows ends s image prev byte None sound state zeros small made = made
+idle-made meaning engines members states rows ends s image prev byte (Some step) sound state zeros small made =
+    idle-step meaning engines members states rows ends s image prev byte step sound state zeros small made.is made.known
 
 -- states where one may have been put behind
 pub live-pushed : (members : List Member) (old new : List State) (st : State) (b : Bool) → new ≡ (if b then old ++ st ∷ [] else old) →

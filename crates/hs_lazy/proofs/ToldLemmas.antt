@@ -4,9 +4,8 @@ use Rattle.std.specs.Prelude.{MatchBool, if◌then◌else◌}
 use Rattle.std.proofs.Math.ListN.{set}
 use Rattle.std.proofs.lemmas.Bool.{cases_eq, cases_lt, ne_eqb}
 use Rattle.hs_base.specs.Bits.{AreZero}
-use Rattle.hs_base.proofs.RegionLemmas.{get-range}
 use Rattle.hs_lazy.specs.Parts.{IsBeside}
-use Rattle.hs_lazy.proofs.PartLemmas.{beside, beside-back}
+use Rattle.hs_lazy.proofs.PartLemmas.{beside, beside-back, same-range, zero-range}
 use Rattle.std.proofs.lemmas.List.{get_or_past, length-take}
 use Rattle.std.proofs.lemmas.Option.{slice_get_past, slice_get-get_or}
 use Rattle.hs_lazy.specs.declared.cache.Cache.{Cache}
@@ -251,21 +250,6 @@ unfolding told
 told-nobody cache k p spot none =
     ap (λ o. told_at (member_of cache.dfas k) cache.dfas.list.items cache.runs.items o) spot ∙
     ap (λ o. told_by o (slice_get cache.dfas.list.items p.dfa) (slice_get cache.runs.items p.dfa) p.member) none
-
-zero-all : (xs : List ℕ) → AreZero xs → (i : ℕ) → get_or xs i 0 ≡ 0
-zero-all xs zeros i = elim (cases_lt i (length xs)) [
-  | inl low ↦ zeros i low
-  | inr high ↦ get_or_past xs i 0 high
-]
-
-size-range : (xs : List ℕ) (a b i : ℕ) → i < length (slice_range xs a b) → i < b - a
-size-range xs a b i low = omega (arith, low, length-take (b - a) (drop a xs))
-
-zero-range : (xs : List ℕ) (a b : ℕ) → AreZero xs → AreZero (slice_range xs a b)
-zero-range xs a b zeros i low = get-range xs a b i (size-range xs a b i low) ∙ zero-all xs zeros (a + i)
-
-same-range : (xs ys : List ℕ) (a b : ℕ) → length xs ≡ length ys → length (slice_range xs a b) ≡ length (slice_range ys a b)
-same-range xs ys a b same = omega (arith, same, length-take (b - a) (drop a xs), length-take (b - a) (drop a ys), length-drop a xs, length-drop a ys)
 
 pub loaded-zero : (cache : Cache) → ((i : ℕ) (run : Run) → slice_get cache.runs.items i ≡ Some run → AreZero run.image) → (k : ℕ) → AreZero (loaded cache k)
 unfolding loaded

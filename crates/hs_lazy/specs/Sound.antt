@@ -1,5 +1,7 @@
 -- That the steps of an automaton are what its engines do.
 use Rattle.std.specs.Prelude.{◌≡◌, ℕ, ◌+◌, ◌<◌, ◌≤◌, Bool, false, List, Some, length, slice_get}
+use Rattle.hs_base.specs.declared.context.Prev.{Prev}
+use Rattle.hs_base.specs.Bits.{AreZero, has_word_bit}
 use Rattle.hs_base.specs.Contexts.{prev_behind}
 use Rattle.hs_engine.specs.Engines.{AreWakers, Meaning}
 use Rattle.hs_lazy.specs.declared.parts.Member.{Member}
@@ -27,6 +29,15 @@ TakeEntered {E = E} meaning engines members old new byte before behind =
     TakesEntered (meaning e) (part old.image m) (part new m) old.prev byte
     (record { before = before k; behind = behind k })
 
+-- The members without a bit have taken the byte so.
+abbrev pub HaveTaken : {E : Type 0} → (E → Meaning) → (engines : List E) (members : List Member) (old : State)
+    (new : List ℕ) (byte : ℕ) (asked : List ℕ) (ends : EndSet) → Type 0
+HaveTaken {E = E} meaning engines members old new byte asked ends =
+    (k : ℕ) (m : Member) (e : E) → slice_get members k ≡ Some m → slice_get engines m.engine ≡ Some e →
+    has_word_bit asked k ≡ false →
+    TakesEntered (meaning e) (part old.image m) (part new m) old.prev byte
+    (record { before = has_word_bit ends.before k; behind = has_word_bit ends.behind k })
+
 -- A step of a state by a byte is what the engines do.
 pub record IsStep {E : Type 0} (meaning : E → Meaning) (engines : List E) (members : List Member) (states : List State)
     (ends : List EndSet) (old : State) (byte step : ℕ) : Type 0 where
@@ -36,6 +47,15 @@ pub record IsStep {E : Type 0} (meaning : E → Meaning) (engines : List E) (mem
   pub ends_within : ends_of step ≤ length ends
   pub takes : TakeEntered meaning engines members old next.image byte (before_of (set_of ends (ends_of step)))
       (behind_of (set_of ends (ends_of step)))
+
+-- The step by a byte where nothing is live and that stands before it.
+pub record IsIdleStep {E : Type 0} (meaning : E → Meaning) (engines : List E) (members : List Member)
+    (states : List State) (ends : List EndSet) (prev : Prev) (byte step : ℕ) : Type 0 where
+  pub idle : State
+  pub zero : AreZero idle.image
+  pub long : length idle.image ≡ 512
+  pub prev_is : idle.prev ≡ prev
+  pub is : IsStep meaning engines members states ends idle byte step
 
 -- All known steps are.
 pub record IsDfaSound {E : Type 0} (meaning : E → Meaning) (engines : List E) (members : List Member)

@@ -216,6 +216,27 @@ impl LazyDfa {
         step
     }
 
+    /// The step of a state by a byte: 0 where it isn't known.
+    pub fn step(&self, state: usize, byte: u8) -> u32
+        requires { state < length self.now.states.items }
+        ensures { result ≡ entry self.now.rows.items state byte }
+    {
+        self.rows[ROW_LEN * state + byte as usize]
+    }
+
+    /// The regions behind a step, if it leads to a state.
+    pub fn image_behind(&self, step: u32) -> [u8; IMAGE_BYTES]
+        ensures { (next : State) → slice_get self.now.states.items (next_of step) ≡ Some next → result ≡ next.image }
+    {
+        match self
+            .states
+            .get((step % ENDS_UNIT).saturating_sub(1) as usize)
+        {
+            Some(next) => next.image,
+            None => [0; IMAGE_BYTES],
+        }
+    }
+
     /// Whether there is room for a region of that size more.
     pub fn has_room(&self, size: usize) -> bool
         requires { size ≤ 64 }
@@ -336,7 +357,7 @@ impl LazyDfa {
     }
 
     /// The set of ends of a step.
-    fn set_of(&self, step: u32) -> EndSet
+    pub fn set_of(&self, step: u32) -> EndSet
         ensures { IsSameSets (set_of self.now.ends.items (ends_of step)) result }
     {
         let number = (step / ENDS_UNIT) as usize;

@@ -1,4 +1,4 @@
-use Rattle.std.proofs.Common.{◌≡◌, ◌-◌, ℕ, ◌<◌, ◌≤◌, false, length, Some, slice_get}
+use Rattle.std.proofs.Common.{◌≡◌, ◌-◌, ℕ, ◌≤◌, false, length, Some, slice_get}
 use Rattle.hs_base.specs.Bits.{has_word_bit}
 use Rattle.hs_lazy.specs.declared.parts.Member.{Member}
 use Rattle.hs_lazy.specs.Parts.{part}
@@ -11,12 +11,9 @@ invariant-loop-k g l = record {
   befores : length l.ends.before ≡ 4;
   behinds : length l.ends.behind ≡ 4;
   within : l.from ≤ length l.members;
-  unset_before : (j : ℕ) → l.from ≤ j → has_word_bit l.ends.before j ≡ false;
-  unset_behind : (j : ℕ) → l.from ≤ j → has_word_bit l.ends.behind j ≡ false;
-  done : (j : ℕ) (m : Member) (e : _) → j < l.from → slice_get l.members j ≡ Some m → slice_get l.engines m.engine ≡ Some e →
+  done : (j : ℕ) (m : Member) (e : _) → slice_get l.members j ≡ Some m → slice_get l.engines m.engine ≡ Some e → (l.from ≤ j → has_word_bit l.asked j ≡ false) →
       TakesEntered (g.E.Engine.meaning e) (part l.old.image m) (part l.image m) l.old.prev l.byte
       (record { before = has_word_bit l.ends.before j; behind = has_word_bit l.ends.behind j });
-  left : (j : ℕ) (m : Member) → l.from ≤ j → slice_get l.members j ≡ Some m → part l.image m ≡ part l.old.image m;
 }
 
 abbrev pub decreases-loop-k : goal.decreases-loop-k
