@@ -1,5 +1,5 @@
 -- What a chunk made of the members of an automaton, and what is told of it.
-use Rattle.std.proofs.Common.{◌≡◌, ℕ, zero, suc, ◌+◌, ◌-◌, ◌<◌, ◌≤◌, Bool, true, false, ◌&&◌, ◌==◌, nat_lt, List, [], ◌∷◌, ◌++◌, length, take, Option, Some, None, slice_get, slice_index, EachIndex, refl, sym, ap, subst, ◌∙◌, arith, tests}
+use Rattle.std.proofs.Common.{◌≡◌, ℕ, zero, suc, ◌+◌, ◌-◌, ◌<◌, ◌≤◌, Bool, true, false, not, ◌&&◌, ◌==◌, nat_lt, List, [], ◌∷◌, ◌++◌, length, take, Option, Some, None, slice_get, slice_index, EachIndex, refl, sym, ap, subst, ◌∙◌, arith, tests}
 use Rattle.std.specs.Prelude.{if◌then◌else◌}
 use Rattle.std.proofs.lemmas.Option.{slice_get_within}
 use Rattle.std.proofs.lemmas.List.{take_all, length-take-le}
@@ -40,17 +40,17 @@ module _ {E : Type 0} (meaning : E → Meaning) (engines : List E) (members : Li
     pub state : State
     pub is : slice_get states (state_before first trace i) ≡ Some state
     pub stands : StandsBehind prev (take i bytes) state.prev
-    pub runs : (k : ℕ) (m : Member) (e : E) → slice_get members k ≡ Some m → slice_get engines m.engine ≡ Some e →
+    pub runs : (k : ℕ) (m : Member) (e : E) → slice_get members k ≡ Some m → slice_get engines m.engine ≡ Some e → m.is_dropped ≡ false →
         RunsThrough (meaning e) (part image m) (part state.image m) prev (take i bytes) (before-by k) (behind-by k)
-    pub well : 0 < i → (k : ℕ) (m : Member) (e : E) → slice_get members k ≡ Some m → slice_get engines m.engine ≡ Some e → (at : ℕ) → (meaning e).well (part state.image m) at
+    pub well : 0 < i → (k : ℕ) (m : Member) (e : E) → slice_get members k ≡ Some m → slice_get engines m.engine ≡ Some e → m.is_dropped ≡ false → (at : ℕ) → (meaning e).well (part state.image m) at
 
   run-first : IsRunTo 0
   run-first = record {
     state = starts.state;
     is = starts.is;
     stands = subst (λ p. StandsBehind prev [] p) (sym starts.prev_is) (stands-none prev);
-    runs = λ k m e is there. subst (λ x. RunsThrough (meaning e) (part image m) (part x m) prev [] (before-by k) (behind-by k)) (sym starts.image_is) (run-none (meaning e) (part image m) prev (before-by k) (behind-by k));
-    well = λ some k m e is there at. absurd (omega (arith, some));
+    runs = λ k m e is there kept. subst (λ x. RunsThrough (meaning e) (part image m) (part x m) prev [] (before-by k) (behind-by k)) (sym starts.image_is) (run-none (meaning e) (part image m) prev (before-by k) (behind-by k));
+    well = λ some k m e is there kept at. absurd (omega (arith, some));
   }
 
   module _ (i : ℕ) (low : i < length bytes) (prior : IsRunTo i) where
@@ -72,12 +72,12 @@ module _ {E : Type 0} (meaning : E → Meaning) (engines : List E) (members : Li
       state = one.next;
       is = one.next_is;
       stands = subst (λ xs. StandsBehind prev xs one.next.prev) (take-next bytes i low) (subst (λ p. StandsBehind prev (take i bytes ++ slice_index bytes i ∷ []) p) (sym one.prev_is) (stands-more prev (take i bytes) (slice_index bytes i)));
-      runs = λ k m e is there. subst (λ xs. RunsThrough (meaning e) (part image m) (part one.next.image m) prev xs (before-by k) (behind-by k)) (take-next bytes i low)
+      runs = λ k m e is there kept. subst (λ xs. RunsThrough (meaning e) (part image m) (part one.next.image m) prev xs (before-by k) (behind-by k)) (take-next bytes i low)
           (run-more (meaning e) (part image m) (part prior.state.image m) (part one.next.image m) prev prior.state.prev (take i bytes) (slice_index bytes i) (before-by k) (behind-by k)
-          (prior.runs k m e is there)
-          (subst (λ n. RunsThrough (meaning e) (part prior.state.image m) (part one.next.image m) prior.state.prev (slice_index bytes i ∷ []) (λ j. before-by k n) (λ j. behind-by k n)) (sym count) (one.takes k m e is there).runs)
+          (prior.runs k m e is there kept)
+          (subst (λ n. RunsThrough (meaning e) (part prior.state.image m) (part one.next.image m) prior.state.prev (slice_index bytes i ∷ []) (λ j. before-by k n) (λ j. behind-by k n)) (sym count) (one.takes k m e is there kept).runs)
           prior.stands);
-      well = λ some k m e is there at. (one.takes k m e is there).well at;
+      well = λ some k m e is there kept at. (one.takes k m e is there kept).well at;
     }
 
   pub run-to : (i : ℕ) → i ≤ length bytes → IsRunTo i
@@ -126,11 +126,21 @@ told-inside (Some m) list runs (Some p) t is = with-dfa (slice_get list p.dfa) r
 -- a member of a number is the one at its place
 pub own-is : (k : ℕ) (o : Option Member) (m : Member) → own_member k o ≡ Some m → o ≡ Some m
 own-is k None m is = absurd (cc)
-own-is k (Some x) m is = by (x.number == k) is
+own-is k (Some x) m is = by ((x.number == k) && not x.is_dropped) is
   where
     by : (b : Bool) → (if b then Some x else None) ≡ Some m → Some x ≡ Some m
     by true is = is
     by false is = absurd (cc)
+
+-- it wasn't given up
+pub own-kept : (k : ℕ) (o : Option Member) (m : Member) → own_member k o ≡ Some m → m.is_dropped ≡ false
+own-kept k None m is = absurd (cc)
+own-kept k (Some x) m is = by (x.number == k) x.is_dropped refl is
+  where
+    by : (a b : Bool) → x.is_dropped ≡ b → (if a && not b then Some x else None) ≡ Some m → m.is_dropped ≡ false
+    by true false dropped e = (let same : x ≡ m = cc in ap (λ (y : Member). y.is_dropped) (sym same) ∙ dropped)
+    by true true dropped e = absurd (cc)
+    by false b dropped e = absurd (cc)
 
 pub member-at : (list : List LazyDfa) (p : Place) (dfa : LazyDfa) (m : Member) → slice_get list p.dfa ≡ Some dfa → member_by list (Some p) ≡ Some m → slice_get dfa.members.items p.member ≡ Some m
 member-at list p dfa m is there = ap (λ o. member_in o p.member) (sym is) ∙ there
@@ -146,21 +156,21 @@ told-bit {by = by} i count few is low same = is few ∙ lt-and i count by (omega
 pub taken-tells : {E : Type 0} (meaning : E → Meaning) (engines : List E) (dfa : LazyDfa) (run : Run) (prev : Prev) (bytes : List ℕ) (k : ℕ) (m : Member) (e : E) (st : State) →
     IsDfaSound meaning engines dfa.members.items dfa.states.items dfa.rows.items dfa.ends.items →
     IsChunkTaken dfa.states.items dfa.rows.items dfa.ends.items run prev bytes → EachIndex bytes (λ i. slice_index bytes i < 256) →
-    slice_get dfa.members.items k ≡ Some m → slice_get engines m.engine ≡ Some e → slice_get dfa.states.items run.state ≡ Some st →
+    slice_get dfa.members.items k ≡ Some m → slice_get engines m.engine ≡ Some e → m.is_dropped ≡ false → slice_get dfa.states.items run.state ≡ Some st →
     TellsRun (meaning e) (part run.image m) prev bytes (record { engine = m.engine; part = part st.image m; before = befores_of run k; behind = behinds_of run k })
-taken-tells meaning engines dfa run prev bytes k m e st sound taken small is there state =
+taken-tells meaning engines dfa run prev bytes k m e st sound taken small is there kept state =
     let all : IsRunTo meaning engines dfa.members.items dfa.states.items dfa.rows.items dfa.ends.items sound taken.first run.image prev bytes run.trace taken.starts taken.walk small (length bytes) =
     run-to meaning engines dfa.members.items dfa.states.items dfa.rows.items dfa.ends.items sound taken.first run.image prev bytes run.trace taken.starts taken.walk small (length bytes) (omega arith) in
     let few : k < 256 = omega (arith, slice_get_within dfa.members.items k m is, dfa.few) in
     let same : all.state ≡ st = some-state (sym (subst (λ s. slice_get dfa.states.items s ≡ Some all.state) (sym taken.state_is) all.is) ∙ state) in
     let runs : RunsThrough (meaning e) (part run.image m) (part st.image m) prev (take (length bytes) bytes) (λ i. before_of (set_of dfa.ends.items (ends_of (slice_index run.trace i))) k) (λ i. behind_of (set_of dfa.ends.items (ends_of (slice_index run.trace i))) k) =
-    subst (λ (s : State). RunsThrough (meaning e) (part run.image m) (part s.image m) prev (take (length bytes) bytes) (λ i. before_of (set_of dfa.ends.items (ends_of (slice_index run.trace i))) k) (λ i. behind_of (set_of dfa.ends.items (ends_of (slice_index run.trace i))) k)) same (all.runs k m e is there) in
+    subst (λ (s : State). RunsThrough (meaning e) (part run.image m) (part s.image m) prev (take (length bytes) bytes) (λ i. before_of (set_of dfa.ends.items (ends_of (slice_index run.trace i))) k) (λ i. behind_of (set_of dfa.ends.items (ends_of (slice_index run.trace i))) k)) same (all.runs k m e is there kept) in
     record {
       sized =
           let size : length (part st.image m) ≡ m.end - m.start = size-part st.image m (dfa.apart.rising k m is) (let w : m.end ≤ 512 = dfa.apart.within k m is in omega (arith, w, (dfa.live run.state st state).image_len)) in
           let wide : m.start + (meaning e).width ≡ m.end = sound.of.sized k m e is there in
           omega (arith, size, wide);
-      well = λ at. subst (λ (s : State). (meaning e).well (part s.image m) at) same (all.well taken.some k m e is there at);
+      well = λ at. subst (λ (s : State). (meaning e).well (part s.image m) at) same (all.well taken.some k m e is there kept at);
       runs = run-same (meaning e) (part run.image m) (part st.image m) prev bytes (λ i. before_of (set_of dfa.ends.items (ends_of (slice_index run.trace i))) k) (λ i. behind_of (set_of dfa.ends.items (ends_of (slice_index run.trace i))) k) (befores_of run k) (behinds_of run k)
           (λ i low. told-bit i run.count few (taken.ended.before k i) low taken.count_is)
           (λ i low. told-bit i run.count few (taken.ended.behind k i) low taken.count_is)

@@ -9,3 +9,4 @@ pub mod ListLemmas
 pub mod EndLemmas
 pub mod ToldLemmas
 pub mod PutLemmas
+pub mod ShedLemmas

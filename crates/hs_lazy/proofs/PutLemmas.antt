@@ -1,5 +1,5 @@
 -- A number to which an engine is given, and an automaton more.
-use Rattle.std.proofs.Common.{◌≡◌, ℕ, zero, suc, ◌+◌, ◌<◌, Bool, true, false, List, [], ◌∷◌, ◌++◌, length, slice_get, Option, Some, None, refl, sym, ap, subst, ◌∙◌, inl, inr, arith, eqb}
+use Rattle.std.proofs.Common.{◌≡◌, ℕ, zero, suc, ◌+◌, ◌<◌, Bool, true, false, not, ◌&&◌, List, [], ◌∷◌, ◌++◌, length, slice_get, Option, Some, None, refl, sym, ap, subst, ◌∙◌, inl, inr, arith, eqb}
 use Rattle.std.specs.Prelude.{if◌then◌else◌}
 use Rattle.std.proofs.Math.ListN.{set}
 use Rattle.std.proofs.lemmas.Bool.{cases_eq, ne_eqb}
@@ -65,7 +65,7 @@ dfas-pushed meaning engines d d' new none unknown list places are = record {
 
 -- one member more, of another number
 more-own : (members : List Member) (m : Member) (k j : ℕ) → (m.number ≡ k → ⊥) → own_member k (slice_get (members ++ m ∷ []) j) ≡ own_member k (slice_get members j)
-more-own [] m k zero apart = ap (λ (b : Bool). if b then Some m else None) (ne_eqb m.number k apart)
+more-own [] m k zero apart = ap (λ (b : Bool). if b && not m.is_dropped then Some m else None) (ne_eqb m.number k apart)
 more-own [] m k (suc j) apart = refl
 more-own (x ∷ members) m k zero apart = refl
 more-own (x ∷ members) m k (suc j) apart = more-own members m k j apart
@@ -96,7 +96,7 @@ module _ (d d' : Dfas) (number engine size at member : ℕ) (wakers : ByteSet) (
 
   pub put-own : (n : ℕ) → engine_at d' number ≡ Some n → n ≡ engine
   unfolding engine_at
-  put-own n is = engine-if (eqb taken.member.number number) taken.member n (sym (ap (λ o. engine_in (own_member number o)) found) ∙ is) ∙ taken.engine_is
+  put-own n is = engine-if (eqb taken.member.number number && not taken.member.is_dropped) taken.member n (sym (ap (λ o. engine_in (own_member number o)) found) ∙ is) ∙ taken.engine_is
 
   others-by : (k : ℕ) → (k ≡ number → ⊥) → (p : Option Place) → own_member k (member_by (set d.list.items at behind) p) ≡ own_member k (member_by d.list.items p)
   others-by k apart None = refl

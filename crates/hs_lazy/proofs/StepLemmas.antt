@@ -41,7 +41,7 @@ module _ {E : Type 0} (meaning : E → Meaning) (engines : List E) (members : Li
   -- the members that aren't asked have taken the byte, and those that are before a place
   abbrev pub AreDone : (image before behind asked : List ℕ) (from : ℕ) → Type 0
   AreDone image before behind asked from =
-      (j : ℕ) (m : Member) (e : E) → slice_get members j ≡ Some m → slice_get engines m.engine ≡ Some e → (from ≤ j → has_word_bit asked j ≡ false) →
+      (j : ℕ) (m : Member) (e : E) → slice_get members j ≡ Some m → slice_get engines m.engine ≡ Some e → m.is_dropped ≡ false → (from ≤ j → has_word_bit asked j ≡ false) →
       TakesEntered (meaning e) (part old.image m) (part image m) old.prev byte (record { before = has_word_bit before j; behind = has_word_bit behind j })
 
   -- one more does
@@ -54,14 +54,14 @@ module _ {E : Type 0} (meaning : E → Meaning) (engines : List E) (members : Li
       ((j : ℕ) → (j ≡ k → ⊥) → has_word_bit before' j ≡ has_word_bit before j) →
       ((j : ℕ) → (j ≡ k → ⊥) → has_word_bit behind' j ≡ has_word_bit behind j) →
       AreDone image before behind asked from → AreDone image' before' behind' asked (k + 1)
-  done-more image image' before before' behind behind' asked from k m e own apart is there others least takes put-before put-behind befores behinds done j m' e' is' there' unasked = elim (cases_eq j k) [
+  done-more image image' before before' behind behind' asked from k m e own apart is there others least takes put-before put-behind befores behinds done j m' e' is' there' kept unasked = elim (cases_eq j k) [
     | inl same ↦ here same
     | inr other ↦
         takes-ends (meaning e') (part old.image m') (part image' m') old.prev byte (record { before = has_word_bit before j; behind = has_word_bit behind j }) (has_word_bit before' j) (has_word_bit behind' j)
         (befores j other) (behinds j other)
         (subst (λ p. TakesEntered (meaning e') (part old.image m') p old.prev byte (record { before = has_word_bit before j; behind = has_word_bit behind j }))
         (sym (others m' (side other)))
-        (done j m' e' is' there' (quiet other)))
+        (done j m' e' is' there' kept (quiet other)))
   ]
     where
       quiet : (j ≡ k → ⊥) → from ≤ j → has_word_bit asked j ≡ false
@@ -97,11 +97,11 @@ module _ {E : Type 0} (meaning : E → Meaning) (engines : List E) (members : Li
   -- members in which nothing is live, and which the byte doesn't wake, take it as they are
   pub others-asleep : (asked : List ℕ) (ends : EndSet) → AreZerosBlank meaning engines → AreMembersOf meaning engines members → AreMembersApart members →
       IsStateWhole members old → byte < 256 →
-      ((j : ℕ) (m : Member) → slice_get members j ≡ Some m → has_word_bit asked j ≡ (has_word_bit old.live j || has m.wakers byte)) →
+      ((j : ℕ) (m : Member) → slice_get members j ≡ Some m → m.is_dropped ≡ false → has_word_bit asked j ≡ (has_word_bit old.live j || has m.wakers byte)) →
       ((j : ℕ) → has_word_bit ends.before j ≡ false) → ((j : ℕ) → has_word_bit ends.behind j ≡ false) →
       HaveTaken meaning engines members old old.image byte asked ends
-  others-asleep asked ends blank of apart whole small asks none-before none-behind k m e is there unasked =
-      let none : (has_word_bit old.live k || has m.wakers byte) ≡ false = sym (asks k m is) ∙ unasked in
+  others-asleep asked ends blank of apart whole small asks none-before none-behind k m e is there kept unasked =
+      let none : (has_word_bit old.live k || has m.wakers byte) ≡ false = sym (asks k m is kept) ∙ unasked in
       let own : IsBlankRegion (meaning e) (part old.image m) = blank-part k m e blank of apart whole.image_len is there (whole.live k m is (neither-left (has_word_bit old.live k) (has m.wakers byte) none)) in
       asleep-takes (meaning e) (part old.image m) old.prev byte _ (of.woken k m e is there (part old.image m) byte own.starts small (neither-right (has_word_bit old.live k) (has m.wakers byte) none)) own (none-before k) (none-behind k)
 
@@ -110,14 +110,14 @@ module _ {E : Type 0} (meaning : E → Meaning) (engines : List E) (members : Li
       IsIdleStep meaning engines members states sets old.prev byte step → IsStateWhole members old →
       ((next : State) → slice_get states (next_of step) ≡ Some next → image ≡ next.image) → IsSameSets (set_of sets (ends_of step)) ends →
       HaveTaken meaning engines members old image byte old.live ends
-  others-idle states sets step image ends idle whole image-is same k m e is there unasked =
+  others-idle states sets step image ends idle whole image-is same k m e is there kept unasked =
       let it : IsStep meaning engines members states sets idle.idle byte step = idle.is in
       let parts : part idle.idle.image m ≡ part old.image m = same-parts idle.idle.image old.image m (idle.long ∙ sym whole.image_len) idle.zero (whole.live k m is unasked) in
       let told : ByteEnds = record { before = before_of (set_of sets (ends_of step)) k; behind = behind_of (set_of sets (ends_of step)) k } in
       takes-ends (meaning e) (part old.image m) (part image m) old.prev byte told (has_word_bit ends.before k) (has_word_bit ends.behind k) (sym (same.before k)) (sym (same.behind k))
       (subst (λ i. TakesEntered (meaning e) (part old.image m) (part i m) old.prev byte told) (sym (image-is it.next it.next_is))
       (subst (λ p. TakesEntered (meaning e) (part old.image m) (part it.next.image m) p byte told) idle.prev_is
-      (subst (λ p. TakesEntered (meaning e) p (part it.next.image m) idle.idle.prev byte told) parts (it.takes k m e is there))))
+      (subst (λ p. TakesEntered (meaning e) p (part it.next.image m) idle.idle.prev byte told) parts (it.takes k m e is there kept))))
 
   -- the step that was made is what the engines do
   pub step-made : (states : List State) (ends : List EndSet) (image before behind : List ℕ) (next number step : ℕ) →
@@ -129,10 +129,10 @@ module _ {E : Type 0} (meaning : E → Meaning) (engines : List E) (members : Li
     next_is = subst (λ n. slice_get states n ≡ Some state.state) (sym to.next_is) state.is;
     prev_is = state.prev_is;
     ends_within = subst (λ n. n ≤ length ends) (sym to.ends_is) within;
-    takes = λ k m e is there.
+    takes = λ k m e is there kept.
         subst (λ n. TakesEntered (meaning e) (part old.image m) (part state.state.image m) old.prev byte (record { before = before_of (set_of ends n) k; behind = behind_of (set_of ends n) k })) (sym to.ends_is)
         (takes-ends (meaning e) (part old.image m) (part state.state.image m) old.prev byte (record { before = has_word_bit before k; behind = has_word_bit behind k }) _ _ (sets.before k) (sets.behind k)
-        (subst (λ i. TakesEntered (meaning e) (part old.image m) (part i m) old.prev byte (record { before = has_word_bit before k; behind = has_word_bit behind k })) (sym state.image_is) (takes k m e is there)));
+        (subst (λ i. TakesEntered (meaning e) (part old.image m) (part i m) old.prev byte (record { before = has_word_bit before k; behind = has_word_bit behind k })) (sym state.image_is) (takes k m e is there kept)));
   }
 
 -- the step by a byte of a state in which nothing is live

@@ -1,5 +1,5 @@
 -- What is told of a number, by the tables.
-use Rattle.std.proofs.Common.{◌≡◌, ℕ, ◌+◌, ◌-◌, ◌<◌, ◌≤◌, inl, inr, Bool, true, false, ◌&&◌, nat_lt, List, [], ◌∷◌, length, drop, Option, Some, None, slice_get, slice_index, slice_range, get_or, EachIndex, refl, sym, ap, subst, ◌∙◌, arith, tests, length-drop}
+use Rattle.std.proofs.Common.{◌≡◌, ℕ, ◌+◌, ◌-◌, ◌<◌, ◌≤◌, inl, inr, Bool, true, false, not, ◌&&◌, nat_lt, List, [], ◌∷◌, length, drop, Option, Some, None, slice_get, slice_index, slice_range, get_or, EachIndex, refl, sym, ap, subst, ◌∙◌, arith, tests, length-drop}
 use Rattle.std.specs.Prelude.{MatchBool, if◌then◌else◌}
 use Rattle.std.proofs.Math.ListN.{set}
 use Rattle.std.proofs.lemmas.Bool.{cases_eq, cases_lt, ne_eqb}
@@ -24,7 +24,7 @@ use Rattle.hs_engine.specs.Engines.{Meaning}
 use Rattle.hs_lazy.specs.Sound.{IsDfaSound}
 use Rattle.hs_lazy.specs.Tables.{AreAllSound, AreDfasOf, engine_at, engine_in, member_by, member_in, member_of, own_member, place_in, place_for}
 use Rattle.hs_lazy.proofs.ListLemmas.{get-set, set-got, set-others}
-use Rattle.hs_lazy.proofs.ChunkLemmas.{IsTold, member-at, own-is, taken-tells, told-inside}
+use Rattle.hs_lazy.proofs.ChunkLemmas.{IsTold, member-at, own-is, own-kept, taken-tells, told-inside}
 
 -- members stay where an automaton is replaced by one with the same
 pub members-set : (list : List LazyDfa) (at : ℕ) (old new : LazyDfa) → at < length list → slice_get list at ≡ Some old → new.members ≡ old.members →
@@ -184,7 +184,7 @@ module _ {E : Type 0} (meaning : E → Meaning) (engines : List E) where
       subst (λ old. TellsRun (meaning e) old prev bytes t) (sym from)
       (subst (λ (x : Told). TellsRun (meaning e) (part it.run.image it.of) prev bytes x) it.told_is
       (taken-tells meaning engines it.dfa it.run prev bytes it.at.member it.of e it.state (sound it.at.dfa it.dfa it.dfa_is) (taken it.at.dfa it.dfa it.run it.dfa_is it.run_is it.done) small of
-      (subst (λ n. slice_get engines n ≡ Some e) (sym engine) there) it.state_is))
+      (subst (λ n. slice_get engines n ≡ Some e) (sym engine) there) (own-kept k (member_by cache'.dfas.list.items (place_for cache'.dfas k)) it.of it.of_is) it.state_is))
 
 pub run-of : (cache cache' : Cache) → ((k : ℕ) → member_of cache'.dfas k ≡ member_of cache.dfas k) → (k : ℕ) (t : Told) → told cache' k ≡ Some t → engine_at cache.dfas k ≡ Some t.engine
 run-of cache cache' same k t is =
@@ -308,7 +308,7 @@ own-number k (Some x) m is = elim (cases_eq x.number k) [
 ]
   where
     no-own : (x.number ≡ k → ⊥) → own_member k (Some x) ≡ None
-    no-own other = ap (λ (b : Bool). if b then Some x else None) (ne_eqb x.number k other)
+    no-own other = ap (λ (b : Bool). if b && not x.is_dropped then Some x else None) (ne_eqb x.number k other)
 
     none-some : None ≡ Some m → ⊥
     none-some e = absurd (cc)

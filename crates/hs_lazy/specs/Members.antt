@@ -2,6 +2,7 @@
 use Rattle.std.specs.Prelude.{◌≡◌, ℕ, ◌+◌, false, [], ◌∷◌, ◌++◌, length}
 use Rattle.hs_base.specs.declared.byte_set.ByteSet.{ByteSet}
 use Rattle.hs_base.specs.Bits.{has_word_bit}
+use Rattle.hs_lazy.specs.Parts.{AreFewer}
 use Rattle.hs_lazy.specs.declared.parts.Member.{Member}
 use Rattle.hs_lazy.specs.declared.parts.State.{State}
 use Rattle.hs_lazy.specs.declared.parts.Run.{Run}
@@ -17,6 +18,12 @@ pub record IsTakenIn (old new : LazyDfa) (number engine size : ℕ) (wakers : By
   pub engine_is : member.engine ≡ engine
   pub size_is : member.start + size ≡ member.end
   pub wakers_are : member.wakers ≡ wakers
+  pub kept : member.is_dropped ≡ false
+
+-- Members were given up and no state is known, or all is as before.
+pub data IsShed (old new : LazyDfa) : Type 0 where
+  stays : new ≡ old → IsShed old new
+  sheds : AreFewer old.members.items new.members.items → new.states.items ≡ [] → IsShed old new
 
 -- Nothing is live in the region of the member behind the chunk, and it has no bit of an end.
 pub record IsAsleepIn (run : Run) (state : State) (k : ℕ) : Type 0 where

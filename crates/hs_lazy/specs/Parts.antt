@@ -96,3 +96,18 @@ pub record IsStepTo (step next ends : ℕ) : Type 0 where
   pub known : step ≡ 0 → ⊥
   pub next_is : next_of step ≡ next
   pub ends_is : ends_of step ≡ ends
+
+-- The same member, which may have been given up.
+pub record IsSameMember (old new : Member) : Type 0 where
+  pub number_is : new.number ≡ old.number
+  pub engine_is : new.engine ≡ old.engine
+  pub start_is : new.start ≡ old.start
+  pub end_is : new.end ≡ old.end
+  pub wakers_are : new.wakers ≡ old.wakers
+  pub kept : new.is_dropped ≡ false → old.is_dropped ≡ false
+
+-- The same members, of which some may have been given up.
+abbrev pub AreFewer : (old new : List Member) → Type 0
+AreFewer old new =
+    (k : ℕ) (m : Member) → slice_get new k ≡ Some m →
+    (before : Member) × (slice_get old k ≡ Some before) × IsSameMember before m

@@ -21,19 +21,21 @@ pub record AreMembersOf {E : Type 0} (meaning : E → Meaning) (engines : List E
   pub woken : (k : ℕ) (m : Member) (e : E) → slice_get members k ≡ Some m → slice_get engines m.engine ≡ Some e →
       AreWakers (meaning e) m.wakers
 
--- A byte leads each member from its region in the one state to that in the other, and leaves it as told.
+-- A byte leads each member that wasn't given up from its region in the one state to that in the other, and leaves it as told.
 abbrev pub TakeEntered : {E : Type 0} → (E → Meaning) → (engines : List E) (members : List Member) (old : State)
     (new : List ℕ) (byte : ℕ) (before behind : ℕ → Bool) → Type 0
 TakeEntered {E = E} meaning engines members old new byte before behind =
     (k : ℕ) (m : Member) (e : E) → slice_get members k ≡ Some m → slice_get engines m.engine ≡ Some e →
+    m.is_dropped ≡ false →
     TakesEntered (meaning e) (part old.image m) (part new m) old.prev byte
     (record { before = before k; behind = behind k })
 
--- The members without a bit have taken the byte so.
+-- The members without a bit that weren't given up have taken the byte so.
 abbrev pub HaveTaken : {E : Type 0} → (E → Meaning) → (engines : List E) (members : List Member) (old : State)
     (new : List ℕ) (byte : ℕ) (asked : List ℕ) (ends : EndSet) → Type 0
 HaveTaken {E = E} meaning engines members old new byte asked ends =
     (k : ℕ) (m : Member) (e : E) → slice_get members k ≡ Some m → slice_get engines m.engine ≡ Some e →
+    m.is_dropped ≡ false →
     has_word_bit asked k ≡ false →
     TakesEntered (meaning e) (part old.image m) (part new m) old.prev byte
     (record { before = has_word_bit ends.before k; behind = has_word_bit ends.behind k })

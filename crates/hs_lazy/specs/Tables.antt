@@ -1,5 +1,5 @@
 -- What the states of a cache are of.
-use Rattle.std.specs.Prelude.{◌≡◌, ℕ, ◌<◌, false, if◌then◌else◌, ◌==◌}
+use Rattle.std.specs.Prelude.{◌≡◌, ℕ, ◌<◌, false, not, ◌&&◌, if◌then◌else◌, ◌==◌}
 use Rattle.std.specs.Prelude.{List, Option, Some, None, length, slice_get}
 use Rattle.std.proofs.Math.ListN.{set}
 use Rattle.hs_base.specs.declared.byte_set.ByteSet.{ByteSet}
@@ -28,10 +28,10 @@ place_in (Some place) = place
 abbrev pub place_for : Dfas → ℕ → Option Place
 place_for d k = place_in (slice_get d.places.items k)
 
--- the member, if it is of that number
+-- the member, if it is of that number and wasn't given up
 abbrev pub own_member : ℕ → Option Member → Option Member
 own_member k None = None
-own_member k (Some member) = if member.number == k then Some member else None
+own_member k (Some member) = if (member.number == k) && not member.is_dropped then Some member else None
 
 abbrev pub member_of : Dfas → ℕ → Option Member
 member_of d k = own_member k (member_by d.list.items (place_for d k))

@@ -5,7 +5,7 @@ ghost use Rattle.std.specs.Prelude.{◌≡◌, ◌≤◌, length};
 use crate::dfa::LazyDfa;
 use crate::engine::TimelessEngine;
 use crate::parts::{Member, Run};
-use crate::running::run_all;
+use crate::running::{run_all, shed_all};
 use hs_base::{ByteSet, Prev};
 use hs_bits::{MarkSet, clear_bits, next_bit_in};
 use std::alloc::{AllocError, Global};
@@ -53,7 +53,7 @@ impl Dfas {
             return None;
         };
         match dfa.members.get(place.member as usize) {
-            Some(member) if member.number as usize == number => Some(*member),
+            Some(member) if member.number as usize == number && !member.is_dropped => Some(*member),
             _ => None,
         }
     }
@@ -221,6 +221,17 @@ impl Cache {
         self.runs.push(Run::NOTHING)?;
         self.dfas.list.push(dfa)?;
         Ok(())
+    }
+
+    /// Gives up, in each automaton that had no room for a state, the engines whose regions change most often: they run
+    /// for their numbers no more.
+    pub fn shed<E: TimelessEngine>(&mut self, engines: &[E])
+        requires dfas { AreDfasOf E.meaning engines.now self.old.dfas }
+        ensures dfas { AreDfasOf E.meaning engines.now self.new.dfas }
+        ensures fewer { (k n : ℕ) → engine_at self.new.dfas k ≡ Some n → engine_at self.old.dfas k ≡ Some n }
+    {
+        let _ = engines.len();
+        shed_all(&mut self.dfas.list);
     }
 
     /// Begins a chunk: no region is loaded, so each is all 0.

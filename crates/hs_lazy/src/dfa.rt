@@ -1,7 +1,7 @@
 //! One automaton over the regions of some engines.
 
 ghost use Rattle.std.specs.Prelude.{◌≡◌, ◌<◌, ◌≤◌, ℕ, IfSome, length, slice_index, vec_capacity};
-ghost use Rattle.hs_lazy.specs.Parts.{AreMembersApart, AreLeading, AreLive, AreUnknownFrom, IsLive};
+ghost use Rattle.hs_lazy.specs.Parts.{AreFewer, AreMembersApart, AreLeading, AreLive, AreUnknownFrom, IsLive};
 ghost use Rattle.hs_lazy.specs.Walks.{state_before};
 
 use crate::budget::Budget;
@@ -52,6 +52,8 @@ pub struct LazyDfa {
     pub slots: Vec<u16>,
     /// What may be spent on steps that aren't known yet.
     pub budget: Budget,
+    /// Whether there was no room for a state.
+    pub is_full: bool,
     ghost apart: { AreMembersApart members.items },
     ghost few: { length members.items ≤ 256 },
     ghost states_few: { length states.items ≤ 1024 },
@@ -91,6 +93,7 @@ impl LazyDfa {
             ends: Vec::with_capacity(alloc, MAX_END_SETS)?,
             slots: vec![in alloc; 0u16; SLOT_COUNT]?,
             budget: Budget::FIRST,
+            is_full: false,
         })
     }
 
@@ -106,6 +109,38 @@ impl LazyDfa {
         self.ends.clear();
         self.rows.fill(0);
         self.slots.fill(0);
+    }
+
+    /// Gives up the members whose regions change most often from state to state, and forgets all states.
+    pub fn shed(&mut self)
+        ensures members { AreFewer self.old.members.items self.new.members.items }
+        ensures states { self.new.states.items ≡ [] }
+    {
+        let changes = self.changes();
+        let most = greatest(&changes);
+        self.forget();
+        self.is_full = false;
+        drop_members(&mut self.members, &changes, (most - most / 4).max(1));
+    }
+
+    /// How often the region of each member changes from state to state.
+    fn changes(&self) -> [u32; MAX_MEMBERS] {
+        let mut changes = [0; MAX_MEMBERS];
+        for member in 0..MAX_MEMBERS {
+            changes[member] = self.changes_of(member);
+        }
+        changes
+    }
+
+    /// How often the region of that member does.
+    fn changes_of(&self, member: usize) -> u32 {
+        let mut changes = 0u32;
+        for state in 1..self.states.len() {
+            if self.part(state, member) != self.part(state - 1, member) {
+                changes = changes.saturating_add(1);
+            }
+        }
+        changes
     }
 
     /// The number of the state with that image and what stands before the next byte, which may be a new one. None where
@@ -275,6 +310,7 @@ impl LazyDfa {
                 start,
                 end: start + size,
                 wakers,
+                is_dropped: false,
             })
             .unwrap();
         Some(member as u32)
@@ -398,6 +434,28 @@ fn live_members(members: &[Member], image: &[u8; IMAGE_BYTES]) -> [u64; MEMBER_W
         write_word_bit(&mut live, k, !is_asleep);
     }
     live
+}
+
+/// The greatest of the numbers.
+fn greatest(numbers: &[u32; MAX_MEMBERS]) -> u32 {
+    let mut most = 0;
+    for number in numbers {
+        most = (*number).max(most);
+    }
+    most
+}
+
+/// Gives up those members whose regions change at least so often.
+fn drop_members(members: &mut [Member], changes: &[u32; MAX_MEMBERS], least: u32)
+    requires few { length members.old ≤ 256 }
+    ensures len { length members.new ≡ length members.old }
+    ensures fewer { AreFewer members.old members.new }
+{
+    for k in 0..members.len() {
+        if changes[k] >= least {
+            members[k].is_dropped = true;
+        }
+    }
 }
 
 /// The first free slot of a few from that one on.

@@ -24,6 +24,8 @@ pub struct Member {
     pub end: u32,
     /// The bytes that may wake it: over others its region stays all 0 where it is.
     pub wakers: ByteSet,
+    /// Whether it was given up: it is run no more.
+    pub is_dropped: bool,
 }
 
 /// A state of the automaton: the regions of all members, and what stands before the next byte.

@@ -1,15 +1,37 @@
 //! All automata over a chunk.
 
-ghost use Rattle.std.specs.Prelude.{◌≡◌, ◌≤◌, ℕ, length, slice_get};
+ghost use Rattle.std.specs.Prelude.{◌≡◌, ◌≤◌, ℕ, Some, length, slice_get};
 ghost use Rattle.hs_lazy.specs.Caches.{AreSameImages, AreTaken};
 ghost use Rattle.hs_lazy.specs.Runs.{AreZerosBlank};
+ghost use Rattle.hs_lazy.specs.Members.{IsShed};
 ghost use Rattle.hs_lazy.specs.Tables.{AreAllSound, member_in};
+ghost use Rattle.hs_lazy.specs.declared.dfa.LazyDfa.{LazyDfa};
 
 use crate::dfa::LazyDfa;
 use crate::engine::TimelessEngine;
 use crate::parts::Run;
 use crate::steps::run_dfa;
 use hs_base::Prev;
+
+/// Has the automaton give up members, if it had no room for a state.
+fn shed_full(dfa: &mut LazyDfa)
+    ensures { IsShed dfa.old dfa.new }
+{
+    if dfa.is_full {
+        dfa.shed();
+    }
+}
+
+/// Has each automaton give up members that had no room for a state.
+pub(crate) fn shed_all(list: &mut [LazyDfa])
+    ensures len { length list.new ≡ length list.old }
+    ensures shed { (i : ℕ) (dfa : LazyDfa) → slice_get list.new i ≡ Some dfa →
+        (old : LazyDfa) × (slice_get list.old i ≡ Some old) × IsShed old dfa }
+{
+    for at in 0..list.len() {
+        shed_full(&mut list[at]);
+    }
+}
 
 /// Has each automaton take a chunk behind `prev`.
 pub(crate) fn run_all<E: TimelessEngine>(

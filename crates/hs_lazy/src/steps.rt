@@ -1,6 +1,6 @@
 //! The steps of an automaton, which are made when a byte is first met in a state.
 
-ghost use Rattle.std.specs.Prelude.{◌≡◌, ◌+◌, ◌<◌, ◌≤◌, ◌||◌, ℕ, true, IfSome, Some, length, slice_get};
+ghost use Rattle.std.specs.Prelude.{◌≡◌, ◌+◌, ◌<◌, ◌≤◌, ◌||◌, ℕ, true, false, IfSome, Some, length, slice_get};
 ghost use Rattle.hs_base.specs.Bits.{has_word_bit};
 ghost use Rattle.hs_base.specs.ByteSets.{has};
 ghost use Rattle.hs_lazy.specs.Parts.{AreMembersApart, AreStillThere, AreStepsKept, IsBeside, IsStepMade};
@@ -46,10 +46,11 @@ pub fn run_dfa<E: TimelessEngine>(
         dfa.budget.earn(in_vain);
         return;
     }
-    if !dfa.budget.is_spent() {
-        dfa.forget();
+    if dfa.budget.is_spent() {
+        dfa.budget.begin_rest();
+    } else {
+        dfa.is_full = true;
     }
-    dfa.budget.begin_rest();
 }
 
 /// Whether a quarter of the first steps of a trace leaves a member: the engines tell so many ends sooner, a word at a
@@ -311,12 +312,13 @@ fn asked_members(members: &[Member], live: &[u64; MEMBER_WORDS], byte: u8) -> [u
     requires few { length members.now ≤ 256 }
     requires live_len { length live.now ≡ 4 }
     ensures len { length result ≡ 4 }
-    ensures bits { (k : ℕ) (m : Member) → slice_get members.now k ≡ Some m →
+    ensures bits { (k : ℕ) (m : Member) → slice_get members.now k ≡ Some m → m.is_dropped ≡ false →
         has_word_bit result k ≡ (has_word_bit live.now k || has m.wakers byte) }
 {
     let mut asked = *live;
     for k in 0..members.len() {
-        let is_asked = contains_word_bit(live, k) | members[k].wakers.contains(byte);
+        let is_waking = members[k].wakers.contains(byte) & !members[k].is_dropped;
+        let is_asked = contains_word_bit(live, k) | is_waking;
         write_word_bit(&mut asked, k, is_asked);
     }
     asked

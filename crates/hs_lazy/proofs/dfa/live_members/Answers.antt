@@ -11,7 +11,7 @@ asleep true x e f = refl
 asleep false x e f = absurd (cc)
 
 abbrev nobody : Member
-nobody = record { number = 0; engine = 0; start = 0; end = 0; wakers = record { words = [] } }
+nobody = record { number = 0; engine = 0; start = 0; end = 0; wakers = record { words = [] }; is_dropped = false }
 
 pub loop-k-preserved : goal.loop-k-preserved
 loop-k-preserved c = record {

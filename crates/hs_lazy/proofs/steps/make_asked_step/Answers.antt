@@ -25,7 +25,7 @@ take_members-requires-clause-others g c =
     subst (λ l. HaveTaken g.E.Engine.meaning c.args.engines.now l c.index.result.now c.index.result.now.image c.args.byte c.asked_members-asked.result nowhere) (sym c.deref-2.ensures.value)
     (others-asleep g.E.Engine.meaning c.args.engines.now c.args.dfa.now.members.items c.index.result.now c.args.byte c.asked_members-asked.result nowhere
     c.requires.blank c.requires.sound.of c.args.dfa.now.apart (whole-at c.args.dfa.now c.args.state c.index.result.now c.requires.state c.index.ensures) c.ranges.byte.fits
-    (λ j m is. c.asked_members-asked.ensures.bits j m (subst (λ l. slice_get l j ≡ Some m) (sym c.deref.ensures.value) is)) four-unset four-unset)
+    (λ j m is kept. c.asked_members-asked.ensures.bits j m (subst (λ l. slice_get l j ≡ Some m) (sym c.deref.ensures.value) is) kept) four-unset four-unset)
 
 pub put_step-requires-clause-takes : goal.put_step-requires-clause-takes
 put_step-requires-clause-takes g c old is =

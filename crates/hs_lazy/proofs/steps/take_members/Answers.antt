@@ -1,11 +1,11 @@
-use Rattle.std.proofs.Common.{◌≡◌, [], ℕ, List, Some, slice_get, get_or, length, ◌∙◌, refl, arith}
+use Rattle.std.proofs.Common.{◌≡◌, [], ℕ, false, List, Some, slice_get, get_or, length, ◌∙◌, refl, arith}
 use Rattle.std.proofs.lemmas.Option.{slice_get_within, slice_get-get_or, slice_get_read}
 use Rattle.hs_lazy.specs.declared.parts.Member.{Member}
 use Rattle.hs_lazy.proofs.StepLemmas.{done-more}
 use Rattle.hs_lazy.proofs.steps.take_members.Goals as goal
 
 abbrev member : (members : List Member) (k : ℕ) → Member
-member members k = get_or members k (record { number = 0; engine = 0; start = 0; end = 0; wakers = record { words = [] } })
+member members k = get_or members k (record { number = 0; engine = 0; start = 0; end = 0; wakers = record { words = [] }; is_dropped = false })
 
 pub loop-k-init : goal.loop-k-init
 loop-k-init g c = record {
@@ -13,7 +13,7 @@ loop-k-init g c = record {
   befores = c.requires.before_len;
   behinds = c.requires.behind_len;
   within = omega arith;
-  done = λ j m e is there unasked. c.requires.others j m e is there (unasked (omega arith));
+  done = λ j m e is there kept unasked. c.requires.others j m e is there kept (unasked (omega arith));
 }
 
 pub loop-k-preserved : goal.loop-k-preserved
@@ -33,4 +33,4 @@ loop-k-preserved g c =
     }
 
 pub returns-clause-takes : goal.returns-clause-takes
-returns-clause-takes g c told k m e is there = c.loop-k.invariant.done k m e is there (λ high. c.in_default.ensures k high (slice_get_within c.args.members.now k m is))
+returns-clause-takes g c told k m e is there kept = c.loop-k.invariant.done k m e is there kept (λ high. c.in_default.ensures k high (slice_get_within c.args.members.now k m is))

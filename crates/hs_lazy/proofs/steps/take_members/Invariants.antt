@@ -11,7 +11,7 @@ invariant-loop-k g l = record {
   befores : length l.ends.before ≡ 4;
   behinds : length l.ends.behind ≡ 4;
   within : l.from ≤ length l.members;
-  done : (j : ℕ) (m : Member) (e : _) → slice_get l.members j ≡ Some m → slice_get l.engines m.engine ≡ Some e → (l.from ≤ j → has_word_bit l.asked j ≡ false) →
+  done : (j : ℕ) (m : Member) (e : _) → slice_get l.members j ≡ Some m → slice_get l.engines m.engine ≡ Some e → m.is_dropped ≡ false → (l.from ≤ j → has_word_bit l.asked j ≡ false) →
       TakesEntered (g.E.Engine.meaning e) (part l.old.image m) (part l.image m) l.old.prev l.byte
       (record { before = has_word_bit l.ends.before j; behind = has_word_bit l.ends.behind j });
 }
