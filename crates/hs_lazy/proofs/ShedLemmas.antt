@@ -1,8 +1,8 @@
 -- Members that are given up.
-use Rattle.std.proofs.Common.{◌≡◌, ℕ, ◌+◌, ◌<◌, Bool, true, false, not, ◌&&◌, inl, inr, List, [], length, Option, Some, None, slice_get, refl, sym, ap, subst, ◌∙◌, arith, eqb}
+use Rattle.std.proofs.Common.{◌≡◌, ℕ, ◌+◌, ◌<◌, Bool, false, not, ◌&&◌, inl, inr, List, length, Option, Some, None, slice_get, refl, sym, ap, subst, ◌∙◌, arith}
 use Rattle.std.specs.Prelude.{if◌then◌else◌}
 use Rattle.std.proofs.Math.ListN.{set}
-use Rattle.std.proofs.lemmas.Bool.{cases_eq, cases_lt, eq-eqb}
+use Rattle.std.proofs.lemmas.Bool.{eq-eqb}
 use Rattle.std.proofs.lemmas.Option.{slice_get_within}
 use Rattle.hs_engine.specs.Engines.{AreWakers, Meaning}
 use Rattle.hs_lazy.specs.Members.{IsShed}
@@ -16,7 +16,7 @@ use Rattle.hs_lazy.specs.declared.dfa.LazyDfa.{LazyDfa}
 use Rattle.hs_lazy.specs.declared.parts.Member.{Member}
 use Rattle.hs_lazy.proofs.ChunkLemmas.{own-is, own-kept}
 use Rattle.hs_lazy.proofs.ListLemmas.{get-set}
-use Rattle.hs_lazy.proofs.TableLemmas.{same-got, sound-none}
+use Rattle.hs_lazy.proofs.TableLemmas.{sound-none}
 use Rattle.hs_lazy.proofs.ToldLemmas.{own-number}
 
 pub fewer-same : (members : List Member) → AreFewer members members

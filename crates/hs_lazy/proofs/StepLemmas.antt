@@ -14,7 +14,7 @@ use Rattle.hs_lazy.specs.declared.parts.Member.{Member}
 use Rattle.hs_lazy.specs.declared.parts.State.{State}
 use Rattle.hs_lazy.specs.declared.parts.EndSet.{EndSet}
 use Rattle.hs_lazy.specs.Images.{IsSameSets}
-use Rattle.hs_lazy.specs.Parts.{AreMembersApart, AreLeading, AreLive, IsBeside, IsLive, IsState, IsStepMade, IsStepTo, IsStateWhole, before_of, behind_of, ends_of, entry, next_of, part, set_of}
+use Rattle.hs_lazy.specs.Parts.{AreMembersApart, AreLeading, AreLive, IsBeside, IsState, IsStepMade, IsStepTo, IsStateWhole, before_of, behind_of, ends_of, entry, next_of, part, set_of}
 use Rattle.hs_lazy.specs.Runs.{AreZerosBlank, IsBlankRegion, TakesEntered}
 use Rattle.hs_lazy.specs.Sound.{AreMembersOf, HaveTaken, IsDfaSound, IsIdleStep, IsStep, TakeEntered}
 use Rattle.hs_lazy.proofs.PartLemmas.{beside, beside-back, same-parts, size-part}

@@ -86,6 +86,14 @@ fn load_marked<E: TimelessEngine>(
     }
 }
 
+/// Has a cache run those of its nodes no more for whose states it had no room.
+fn shed_cache<E: TimelessEngine>(table: &NodeTable<E>, cache: &mut Cache)
+    requires { IsCacheOf E.meaning table.now cache.old }
+    ensures { IsCacheOf E.meaning table.now cache.new }
+{
+    cache.shed(&table.engines);
+}
+
 /// Takes a chunk behind `prev` by a cache: it tells of some of its nodes what they do, and of these those are marked in
 /// which something is live behind the chunk or that are left in it.
 pub fn run_cached<E: TimelessEngine>(
@@ -108,6 +116,7 @@ pub fn run_cached<E: TimelessEngine>(
     ensures told { TellsNodes E.meaning table.now cache.new region.now prev bytes.now }
     ensures asleep { AreToldAsleep E.meaning table.now cache.new marks.new prev bytes.now }
 {
+    shed_cache(table, cache);
     cache.begin();
     load_marked(table, region, marks, cache);
     loaded_regions(&table.engines, cache);

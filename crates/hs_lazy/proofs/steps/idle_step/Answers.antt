@@ -1,6 +1,5 @@
 use Rattle.std.proofs.Common.{refl}
 use Rattle.std.proofs.lemmas.Option.{slice_get_within}
-use Rattle.hs_lazy.specs.declared.parts.State.{State}
 use Rattle.hs_lazy.specs.Parts.{IsState}
 use Rattle.hs_lazy.proofs.SoundLemmas.{after-find}
 use Rattle.hs_lazy.proofs.StepLemmas.{idle-made, idle-step}

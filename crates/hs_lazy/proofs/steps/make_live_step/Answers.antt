@@ -1,4 +1,4 @@
-use Rattle.std.proofs.Common.{◌≡◌, Some, slice_get, refl, sym, subst}
+use Rattle.std.proofs.Common.{refl, sym, subst}
 use Rattle.std.proofs.lemmas.Option.{slice_get_read}
 use Rattle.hs_base.specs.Bits.{has_word_bit}
 use Rattle.hs_lazy.specs.Sound.{HaveTaken, TakeEntered}

@@ -1,4 +1,4 @@
-use Rattle.std.proofs.Common.{◌≡◌, [], ℕ, false, List, Some, slice_get, get_or, length, ◌∙◌, refl, arith}
+use Rattle.std.proofs.Common.{◌≡◌, [], ℕ, false, List, Some, slice_get, get_or, ◌∙◌, refl, arith}
 use Rattle.std.proofs.lemmas.Option.{slice_get_within, slice_get-get_or, slice_get_read}
 use Rattle.hs_lazy.specs.declared.parts.Member.{Member}
 use Rattle.hs_lazy.proofs.StepLemmas.{done-more}
