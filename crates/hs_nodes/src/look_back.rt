@@ -21,7 +21,7 @@ use crate::ends::ChunkEnds;
 use crate::hits::ChunkHits;
 use crate::table::{LookBackPair, MAX_LOOK_BACK, MAX_LOOK_BACK_REGION};
 use hs_base::{Mask, Next, Prev};
-use hs_bits::{low_places, next_bit_in, write_word_bit};
+use hs_bits::{is_unset, low_places, next_bit_in, write_word_bit};
 use hs_block::BlockEngine;
 use hs_engine::{Engine, Steps};
 use std::sync::ledger::Ledger;
@@ -47,6 +47,10 @@ fn passed_over<E: Engine>(engine: &E, chunk: &Chunk, begin: usize, end: usize) -
         (slice_index (chunk.now.past.now ++ chunk.now.bytes.now) (begin + i)) }
 {
     let wakers = engine.wakers();
+    if is_unset(&wakers.words()) {
+        chunk.bytes_are_small();
+        return end - begin;
+    }
     for place in begin..end {
         if wakers.contains(chunk.byte_at(place)) {
             return place - begin;
