@@ -10,6 +10,7 @@ ghost use Rattle.hs_waking.specs.Starts.{start_word, starts_at};
 
 use crate::chunk::{BLOCK_BYTES, Chunk};
 use crate::ends::ChunkEnds;
+use crate::foretold::Foretold;
 use hs_base::Prev;
 use hs_bits::{is_zero, low_places};
 use hs_block::{BlockEnds, BlockEngine};
@@ -28,8 +29,7 @@ pub(crate) fn run_engine<E: BlockEngine, L: Ledger>(
     chunk: &Chunk,
     enters: &ChunkEnds,
     null: &ChunkEnds,
-    starts: &Starts,
-    cache: &Cache,
+    foretold: &Foretold,
     first: Option<usize>,
     steps: &mut Steps<L>,
 ) -> ChunkEnds
@@ -37,9 +37,10 @@ pub(crate) fn run_engine<E: BlockEngine, L: Ledger>(
     requires well { (E.meaning engine.now).well region.old chunk.now.at }
     requires listed { (E.meaning engine.now).always ≡ false }
     requires idle { IsIdle (E.meaning engine.now) }
-    requires starts { (k : ℕ) → first ≡ Some k → told cache.now k ≡ None →
-        DoEntriesSuffice (E.meaning engine.now) (starts_at starts.now k) chunk.now.prev chunk.now.bytes.now }
-    requires told { (k : ℕ) (t : Told) → first ≡ Some k → told cache.now k ≡ Some t →
+    requires starts { (k : ℕ) → first ≡ Some k → told foretold.now.cache.now k ≡ None →
+        DoEntriesSuffice (E.meaning engine.now) (starts_at foretold.now.starts.now k) chunk.now.prev
+        chunk.now.bytes.now }
+    requires told { (k : ℕ) (t : Told) → first ≡ Some k → told foretold.now.cache.now k ≡ Some t →
         TellsRun (E.meaning engine.now) region.old chunk.now.prev chunk.now.bytes.now t }
     requires entered { (k : ℕ) → first ≡ Some k → IsEnteredThroughout enters.now chunk.now.bytes.now }
     ensures len { length region.new ≡ (E.meaning engine.now).width }
@@ -49,7 +50,7 @@ pub(crate) fn run_engine<E: BlockEngine, L: Ledger>(
         chunk.now.bytes.now enters.now null.now result }
 {
     match first {
-        Some(k) => run_alone(engine, region, chunk, starts, cache, k, steps).through(enters, null),
+        Some(k) => run_alone(engine, region, chunk, foretold, k, steps).through(enters, null),
         None => run_entered(engine, region, chunk, enters, null, steps),
     }
 }
@@ -60,8 +61,7 @@ fn run_alone<E: BlockEngine, L: Ledger>(
     engine: &E,
     region: &mut [u8],
     chunk: &Chunk,
-    starts: &Starts,
-    cache: &Cache,
+    foretold: &Foretold,
     k: usize,
     steps: &mut Steps<L>,
 ) -> ChunkEnds
@@ -69,9 +69,10 @@ fn run_alone<E: BlockEngine, L: Ledger>(
     requires well { (E.meaning engine.now).well region.old chunk.now.at }
     requires listed { (E.meaning engine.now).always ≡ false }
     requires idle { IsIdle (E.meaning engine.now) }
-    requires starts { told cache.now k ≡ None →
-        DoEntriesSuffice (E.meaning engine.now) (starts_at starts.now k) chunk.now.prev chunk.now.bytes.now }
-    requires told { (t : Told) → told cache.now k ≡ Some t →
+    requires starts { told foretold.now.cache.now k ≡ None →
+        DoEntriesSuffice (E.meaning engine.now) (starts_at foretold.now.starts.now k) chunk.now.prev
+        chunk.now.bytes.now }
+    requires told { (t : Told) → told foretold.now.cache.now k ≡ Some t →
         TellsRun (E.meaning engine.now) region.old chunk.now.prev chunk.now.bytes.now t }
     ensures len { length region.new ≡ (E.meaning engine.now).width }
     ensures well { (E.meaning engine.now).well region.new (chunk.now.at + length chunk.now.bytes.now) }
@@ -79,10 +80,10 @@ fn run_alone<E: BlockEngine, L: Ledger>(
     ensures runs { RunsAlone (E.meaning engine.now) region.old region.new chunk.now.prev chunk.now.at
         chunk.now.bytes.now result }
 {
-    if cache.is_told(k) {
-        take_told(region, chunk, cache, k)
+    if foretold.cache.is_told(k) {
+        take_told(region, chunk, foretold.cache, k)
     } else {
-        run_first(engine, region, chunk, starts, k, steps)
+        run_first(engine, region, chunk, foretold.starts, k, steps)
     }
 }
 

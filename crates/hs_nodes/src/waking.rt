@@ -3,6 +3,7 @@
 ghost use Rattle.std.specs.Prelude.{◌≡◌, ◌*◌, ◌<◌, ◌≤◌, ℕ, List, true, false, length, None, Some, slice_get};
 ghost use Rattle.std.specs.Prelude.{slice_index};
 ghost use Rattle.hs_base.specs.Bits.{has_word_bit};
+ghost use Rattle.hs_base.specs.Lists.{Each};
 ghost use Rattle.hs_bits.specs.Marks.{is_marked, mark_room};
 ghost use Rattle.hs_lazy.specs.Caches.{told};
 ghost use Rattle.hs_nodes.specs.Cached.{AreToldAsleep};
@@ -18,6 +19,7 @@ ghost use Rattle.hs_waking.specs.FitStacks.{IsStackOf};
 ghost use Rattle.hs_waking.specs.Fits.{IsBehindBy, row_numbers};
 ghost use Rattle.hs_waking.specs.Starts.{start_word};
 
+use crate::chunk::Chunk;
 use crate::graph::Graph;
 use crate::table::NodeKind;
 use crate::wake_table::WakeTable;
@@ -115,13 +117,12 @@ fn is_woken<E>(graph: &Graph<E>, k: usize, places: &Places) -> bool
     !is_none(places) | !never_empty(node_at(&graph.table, k).kind)
 }
 
-/// Marks the node that stands at that place among those of engines without a parent, if a chunk behind `prev` wakes it,
-/// and tells where its matches may begin.
+/// Marks the node that stands at that place among those of engines without a parent, if a chunk wakes it, and tells
+/// where its matches may begin.
 fn wake_engine<E: Engine>(
     graph: &Graph<E>,
     place: usize,
-    prev: Prev,
-    bytes: &[u8],
+    chunk: &Chunk,
     words: &mut ClassWords,
     stack: &mut FitStack,
     cache: &Cache,
@@ -133,22 +134,22 @@ fn wake_engine<E: Engine>(
     requires there { slice_index graph.now.wakes.first_engines.items place < length graph.now.table.nodes.items }
     requires room { length graph.now.table.nodes.items ≤ mark_room marks.old }
     requires below { (k : ℕ) → is_marked marks.old k ≡ true → k < length graph.now.table.nodes.items }
-    requires few { length bytes.now ≤ 512 }
-    requires chunk { AreOfChunk words.old graph.now.wakes.sets.items bytes.now }
-    requires levels { IsStackOf stack.old graph.now.wakes.sets.items prev bytes.now }
-    requires told { AreToldAsleep E.meaning graph.now.table cache.now marks.old prev bytes.now }
-    ensures chunk { AreOfChunk words.new graph.now.wakes.sets.items bytes.now }
-    ensures levels { IsStackOf stack.new graph.now.wakes.sets.items prev bytes.now }
+    requires small { Each (λ b. b < 256) chunk.now.bytes.now }
+    requires chunk { AreOfChunk words.old graph.now.wakes.sets.items chunk.now.bytes.now }
+    requires levels { IsStackOf stack.old graph.now.wakes.sets.items chunk.now.prev chunk.now.bytes.now }
+    requires told { AreToldAsleep E.meaning graph.now.table cache.now marks.old chunk.now.prev chunk.now.bytes.now }
+    ensures chunk { AreOfChunk words.new graph.now.wakes.sets.items chunk.now.bytes.now }
+    ensures levels { IsStackOf stack.new graph.now.wakes.sets.items chunk.now.prev chunk.now.bytes.now }
     ensures more { AreMoreMarks (length graph.now.table.nodes.items) marks.old marks.new }
     ensures asleep { (node : Node) →
         slice_get graph.now.table.nodes.items (slice_index graph.now.wakes.first_engines.items place) ≡ Some node →
         is_marked marks.new (slice_index graph.now.wakes.first_engines.items place) ≡ false →
-        IsKindAsleep E.meaning graph.now.table.engines.items node.kind prev bytes.now }
+        IsKindAsleep E.meaning graph.now.table.engines.items node.kind chunk.now.prev chunk.now.bytes.now }
     ensures starts { (node : Node) →
         slice_get graph.now.table.nodes.items (slice_index graph.now.wakes.first_engines.items place) ≡ Some node →
         told cache.now (slice_index graph.now.wakes.first_engines.items place) ≡ None →
         DoStartsSuffice E.meaning graph.now.table.engines.items node.kind starts.new
-        (slice_index graph.now.wakes.first_engines.items place) prev bytes.now }
+        (slice_index graph.now.wakes.first_engines.items place) chunk.now.prev chunk.now.bytes.now }
     ensures others { (k j : ℕ) → (k ≡ slice_index graph.now.wakes.first_engines.items place → ⊥) → j < 8 →
         start_word starts.new k j ≡ start_word starts.old k j }
 {
@@ -160,20 +161,19 @@ fn wake_engine<E: Engine>(
         starts.tell_nowhere(k);
         return;
     }
-    let places = start_places(&graph.wakes, place, prev, bytes, words, stack);
+    let places = start_places(&graph.wakes, place, chunk.prev, chunk.bytes, words, stack);
     starts.tell(k, &places);
     if is_woken(graph, k, &places) {
         marks.write(k, true);
     }
 }
 
-/// Marks the nodes of engines without a parent that a chunk behind `prev` wakes: those that have the empty span, and
-/// those whose row fits somewhere in its bytes. Tells of each where its matches may begin. Those of which a cache tells
-/// are left as they are.
+/// Marks the nodes of engines without a parent that a chunk wakes: those that have the empty span, and those whose row
+/// fits somewhere in its bytes. Tells of each where its matches may begin. Those of which a cache tells are left as
+/// they are.
 pub fn wake_engines<E: Engine>(
     graph: &Graph<E>,
-    prev: Prev,
-    bytes: &[u8],
+    chunk: &Chunk,
     words: &mut ClassWords,
     cache: &Cache,
     starts: &mut Starts,
@@ -183,17 +183,15 @@ pub fn wake_engines<E: Engine>(
     requires rows { AreRowsSound E.meaning graph.now.table graph.now.wakes }
     requires room { length graph.now.table.nodes.items ≤ mark_room marks.old }
     requires below { (k : ℕ) → is_marked marks.old k ≡ true → k < length graph.now.table.nodes.items }
-    requires few { length bytes.now ≤ 512 }
-    requires told { AreToldAsleep E.meaning graph.now.table cache.now marks.old prev bytes.now }
-    ensures starts { AreStartsEnough E.meaning graph.now.table cache.now starts.new prev bytes.now }
+    requires small { Each (λ b. b < 256) chunk.now.bytes.now }
+    requires told { AreToldAsleep E.meaning graph.now.table cache.now marks.old chunk.now.prev chunk.now.bytes.now }
+    ensures starts { AreStartsEnough E.meaning graph.now.table cache.now starts.new chunk.now.prev chunk.now.bytes.now }
     ensures more { AreMoreMarks (length graph.now.table.nodes.items) marks.old marks.new }
-    ensures asleep { AreEnginesUnwoken E.meaning graph.now.table marks.new prev bytes.now }
+    ensures asleep { AreEnginesUnwoken E.meaning graph.now.table marks.new chunk.now.prev chunk.now.bytes.now }
 {
     words.begin();
     let mut stack = FitStack::new();
     for i in 0..graph.wakes.first_engines.len() {
-        wake_engine(
-            graph, i, prev, bytes, words, &mut stack, cache, starts, marks,
-        );
+        wake_engine(graph, i, chunk, words, &mut stack, cache, starts, marks);
     }
 }

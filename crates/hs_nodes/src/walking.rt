@@ -22,6 +22,7 @@ use crate::chunk::{Chunk, MAX_BLOCKS};
 use crate::contexts::make_contexts;
 use crate::ends::ChunkEnds;
 use crate::first::everywhere;
+use crate::foretold::Foretold;
 use crate::hits::ChunkHits;
 use crate::kinds::{Found, run_kind};
 use crate::table::{Node, NodeKind, NodeTable};
@@ -29,8 +30,6 @@ use hs_base::Prev;
 use hs_bits::{Contexts, MarkSet};
 use hs_block::BlockEngine;
 use hs_engine::Steps;
-use hs_lazy::Cache;
-use hs_waking::Starts;
 use std::sync::ledger::Ledger;
 
 /// The node of that number.
@@ -73,7 +72,7 @@ fn run_node<E: BlockEngine, L: Ledger>(
     ends: &mut [ChunkEnds],
     steps: &mut Steps<L>,
 )
-    requires sound { IsTableSound E.meaning table.now (length found.now.hits.now) (length region.old) }
+    requires sound { IsTableSound E.meaning table.now (length found.now.foretold.now.hits.now) (length region.old) }
     requires there { k < length table.now.nodes.items }
     requires ends { length ends.old ≡ length table.now.nodes.items }
     requires well { (node : Node) → slice_get table.now.nodes.items k ≡ Some node →
@@ -82,18 +81,18 @@ fn run_node<E: BlockEngine, L: Ledger>(
         AreChunkContexts found.now.contexts.now chunk.now.prev chunk.now.at chunk.now.bytes.now }
     requires idle { AreEnginesIdle E.meaning table.now.engines.items }
     requires told { (node : Node) (t : Told) → slice_get table.now.nodes.items k ≡ Some node →
-        told found.now.cache.now k ≡ Some t → IsToldKind E.meaning table.now.engines.items node.kind
+        told found.now.foretold.now.cache.now k ≡ Some t → IsToldKind E.meaning table.now.engines.items node.kind
         (node_part region.old node) chunk.now.prev chunk.now.bytes.now t }
-    requires starts { AreStartsEnough E.meaning table.now found.now.cache.now found.now.starts.now chunk.now.prev
-        chunk.now.bytes.now }
+    requires starts { AreStartsEnough E.meaning table.now found.now.foretold.now.cache.now
+        found.now.foretold.now.starts.now chunk.now.prev chunk.now.bytes.now }
     requires everywhere { (u : List ℕ) → AreLeftIn [] u chunk.now.bytes.now all.now }
     ensures len { length region.new ≡ length region.old }
     ensures ends { length ends.new ≡ length ends.old }
     ensures ticks { (node : Node) → slice_get table.now.nodes.items k ≡ Some node →
-        steps.new ≤ steps.old + most_ticks node.kind found.now.hits.now (length chunk.now.bytes.now) }
+        steps.new ≤ steps.old + most_ticks node.kind found.now.foretold.now.hits.now (length chunk.now.bytes.now) }
     ensures runs { (node : Node) → slice_get table.now.nodes.items k ≡ Some node → IsNodeRun E.meaning table.now k node
-        region.old region.new chunk.now.prev chunk.now.at chunk.now.past.now chunk.now.bytes.now found.now.hits.now
-        all.now ends.old ends.new }
+        region.old region.new chunk.now.prev chunk.now.at chunk.now.past.now chunk.now.bytes.now
+        found.now.foretold.now.hits.now all.now ends.old ends.new }
 {
     let node = node_at(table, k);
     let enters = entering(node.parent, all, ends);
@@ -211,33 +210,33 @@ fn mark_children<E>(
 pub fn walk<E: BlockEngine, L: Ledger>(
     table: &NodeTable<E>,
     chunk: &Chunk,
-    hits: &[ChunkHits],
-    starts: &Starts,
-    cache: &Cache,
+    foretold: &Foretold,
     region: &mut [u8],
     ends: &mut [ChunkEnds],
     marks: &mut MarkSet,
     steps: &mut Steps<L>,
 )
-    requires sound { IsTableSound E.meaning table.now (length hits.now) (length region.old) }
+    requires sound { IsTableSound E.meaning table.now (length foretold.now.hits.now) (length region.old) }
     requires well { AreNodesWell E.meaning table.now region.old chunk.now.at }
     requires ends { length ends.old ≡ length table.now.nodes.items }
     requires clear { (k : ℕ) → node_ends ends.old k ≡ nowhere }
     requires room { length table.now.nodes.items ≤ mark_room marks.old }
     requires marked { (k : ℕ) → is_marked marks.old k ≡ true → k < length table.now.nodes.items }
-    requires rests { MayNodesRest E.meaning table.now marks.old hits.now region.old chunk.now.prev
+    requires rests { MayNodesRest E.meaning table.now marks.old foretold.now.hits.now region.old chunk.now.prev
         chunk.now.bytes.now }
     requires idle { AreEnginesIdle E.meaning table.now.engines.items }
-    requires told { TellsNodes E.meaning table.now cache.now region.old chunk.now.prev chunk.now.bytes.now }
-    requires starts { AreStartsEnough E.meaning table.now cache.now starts.now chunk.now.prev chunk.now.bytes.now }
+    requires told { TellsNodes E.meaning table.now foretold.now.cache.now region.old chunk.now.prev
+        chunk.now.bytes.now }
+    requires starts { AreStartsEnough E.meaning table.now foretold.now.cache.now foretold.now.starts.now chunk.now.prev
+        chunk.now.bytes.now }
     ensures well { AreNodesWell E.meaning table.now region.new (chunk.now.at + length chunk.now.bytes.now) }
     ensures ends { length ends.new ≡ length ends.old }
     ensures marks { AreMoreMarks (length table.now.nodes.items) marks.old marks.new }
     ensures changes { ChangesMarked E.meaning table.now marks.new region.old region.new ends.new }
     ensures ticks { steps.new ≤
-        steps.old + nodes_ticks table.now.nodes.items hits.now (length chunk.now.bytes.now) }
+        steps.old + nodes_ticks table.now.nodes.items foretold.now.hits.now (length chunk.now.bytes.now) }
     ensures takes { TakesNodes E.meaning table.now region.old region.new chunk.now.prev chunk.now.at
-        chunk.now.past.now chunk.now.bytes.now hits.now ends.new }
+        chunk.now.past.now chunk.now.bytes.now foretold.now.hits.now ends.new }
 {
     let all = everywhere(chunk);
     let mut contexts = [Contexts::new(Prev::Start, &[]); MAX_BLOCKS];
@@ -247,13 +246,11 @@ pub fn walk<E: BlockEngine, L: Ledger>(
         are_made = make_contexts(node_at(table, k).kind, chunk, &mut contexts, are_made);
         let found = Found {
             contexts: &contexts,
-            hits,
-            starts,
-            cache,
+            foretold: &*foretold,
         };
         run_node(table, k, chunk, &found, &all, region, ends, steps);
         if !ends[k].is_nowhere() {
-            mark_children(table, k, hits, &ends[k], chunk.bytes.len(), marks);
+            mark_children(table, k, foretold.hits, &ends[k], chunk.bytes.len(), marks);
         }
         from = k + 1;
     }

@@ -1,3 +1,4 @@
+pub mod BetweenLemmas
 pub mod BlockLemmas
 pub mod RegionLemmas
 pub mod ScanLemmas

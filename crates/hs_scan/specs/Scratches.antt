@@ -1,19 +1,24 @@
 -- Memory that a scan uses within a write.
-use Rattle.std.specs.Prelude.{◌≡◌, ℕ, ◌<◌, ◌≤◌, true, false, List, length}
+use Rattle.std.specs.Prelude.{◌≡◌, ℕ, ◌<◌, ◌≤◌, ◌^◌, true, false, List, length}
 use Rattle.hs_base.specs.declared.context.Next.{Next}
 use Rattle.hs_base.specs.Bits.{word_count}
 use Rattle.hs_base.specs.Literals.{LiteralByte}
 use Rattle.hs_base.specs.Regions.{history_size}
+use Rattle.hs_lazy.specs.declared.cache.Cache.{Cache}
 use Rattle.hs_literals.specs.HitTables.{has_hit}
 use Rattle.hs_nodes.specs.Left.{nowhere}
 use Rattle.hs_bits.specs.Marks.{is_marked, mark_room}
-use Rattle.hs_nodes.specs.Walks.{node_ends}
+use Rattle.hs_nodes.specs.Cached.{IsCacheOf}
+use Rattle.hs_nodes.specs.Graphs.{AreTerminalsSound}
+use Rattle.hs_nodes.specs.Resting.{AreEnginesIdle, AreNodesResting}
+use Rattle.hs_nodes.specs.Waking.{AreRowsSound, AreWakesSound}
+use Rattle.hs_nodes.specs.Walks.{AreNodesWell, IsTableSound, node_ends}
 use Rattle.hs_nodes.specs.declared.ends.ChunkEnds.{ChunkEnds}
 use Rattle.hs_reports.specs.EndTables.{HasNoEnds}
 use Rattle.hs_engine.specs.Engines.{Meaning}
 use Rattle.hs_scan.specs.Asking.{AsksTable}
 use Rattle.hs_scan.specs.Hits.{HasNowhere}
-use Rattle.hs_scan.specs.Knowing.{FitsKnown}
+use Rattle.hs_scan.specs.Knowing.{FitsKnown, IsPending}
 use Rattle.hs_scan.specs.Scans.{AreHitsBehind, Stand, stand}
 use Rattle.hs_nodes.specs.declared.graph.Graph.{Graph}
 use Rattle.hs_scan.specs.declared.chunk.Course.{Course}
@@ -70,6 +75,7 @@ pub record FindsHits (literals : List (List LiteralByte)) (bytes : List ℕ) (ol
   pub count : length new.hits.items ≡ length old.hits.items
   pub rows : new.rows.count ≡ old.rows.count
   pub ends : new.ends ≡ old.ends
+  pub starts : new.starts ≡ old.starts
   pub course : new.course ≡ old.course
   pub finals : new.finals ≡ old.finals
   pub last : new.last ≡ old.last
@@ -82,6 +88,7 @@ pub record ForgetsHits (old new : Scratch) : Type 0 where
   pub count : length new.hits.items ≡ length old.hits.items
   pub rows : new.rows ≡ old.rows
   pub ends : new.ends ≡ old.ends
+  pub starts : new.starts ≡ old.starts
   pub course : new.course ≡ old.course
   pub finals : new.finals ≡ old.finals
   pub last : new.last ≡ old.last
@@ -118,6 +125,7 @@ pub record KeepsNodes (old new : Scratch) : Type 0 where
 -- Only what was asked of the nodes is another one.
 pub record KeepsAsked (old new : Scratch) : Type 0 where
   pub rows : new.rows.count ≡ old.rows.count
+  pub starts : new.starts ≡ old.starts
   pub course : new.course ≡ old.course
   pub last : new.last ≡ old.last
   pub past : new.past ≡ old.past
@@ -136,6 +144,7 @@ pub record AsksNodes {E : Type 0} (meaning : E → Meaning) (graph : Graph E) (r
   pub room : FitsGraph graph new
   pub hits : new.hits ≡ old.hits
   pub rows : new.rows ≡ old.rows
+  pub starts : new.starts ≡ old.starts
   pub course : new.course ≡ old.course
   pub last : new.last ≡ old.last
   pub past : new.past ≡ old.past
@@ -145,3 +154,22 @@ pub record AsksNodes {E : Type 0} (meaning : E → Meaning) (graph : Graph E) (r
 -- where a scan is that has this scratch and that region
 abbrev pub stand_of : Scratch → (region : List ℕ) → Stand
 stand_of s region = stand s.at s.past region s.course.known.told.items s.course.known.here.items
+
+-- The nodes of a graph may be run, where its list has so many literals and its region so many bytes.
+pub record MayRunNodes {E : Type 0} (meaning : E → Meaning) (graph : Graph E) (literals size : ℕ) : Type 0 where
+  pub table : IsTableSound meaning graph.table literals size
+  pub terminals : AreTerminalsSound graph
+  pub few : length graph.table.nodes.items < 2 ^ 32
+  pub wakes : AreWakesSound graph.table.nodes.items graph.wakes literals
+  pub rows : AreRowsSound meaning graph.table graph.wakes
+  pub idle : AreEnginesIdle meaning graph.table.engines.items
+
+-- A scan is between two chunks, at that offset: what the region keeps of the nodes is well formed, nothing is live in
+-- those that aren't marked, and the cache is one of these nodes.
+pub record IsBetweenChunks {E : Type 0} (meaning : E → Meaning) (graph : Graph E) (at : ℕ) (region : List ℕ)
+    (states : Cache) (s : Scratch) : Type 0 where
+  pub well : AreNodesWell meaning graph.table region at
+  pub room : FitsGraph graph s
+  pub pending : IsPending s.course.known
+  pub resting : AreNodesResting meaning graph.table s.course.marks region
+  pub cache : IsCacheOf meaning graph.table states

@@ -12,11 +12,10 @@ ghost use Rattle.hs_scan.specs.Asking.{AsksEnds};
 
 use crate::past::prev_of;
 use crate::scratch::{Scratch, find_hits, forget};
+use crate::tables::Tables;
 use hs_base::Next;
 use hs_block::BlockEngine;
 use hs_engine::Steps;
-use hs_layout::Layout;
-use hs_literals::Literals;
 use hs_nodes::{ChunkEnds, Graph, Stop, ends_if, gather_all, leave_nodes};
 use std::sync::ledger::Ledger;
 
@@ -80,31 +79,29 @@ fn ask_nodes<E: BlockEngine, L: Ledger>(
 
 /// Finds of which identifiers a match ends behind all bytes so far, if that comes next.
 pub(crate) fn ask_ends<E: BlockEngine, L: Ledger>(
-    graph: &Graph<E>,
-    literals: &Literals,
-    layout: &Layout,
+    tables: &Tables<E>,
     region: &[u8],
     scratch: &mut Scratch,
     next: Next,
     steps: &mut Steps<L>,
 )
-    requires sound { IsGraphSound E.meaning graph.now (held literals.now) layout.now }
-    requires sized { length region.now ≡ laid_size layout.now }
-    requires well { AreNodesWell E.meaning graph.now.table region.now scratch.old.at }
-    requires room { FitsGraph graph.now scratch.old }
-    requires rows { scratch.old.rows.count ≡ length (held literals.now) }
+    requires sound { IsGraphSound E.meaning tables.now.graph.now (held tables.now.literals.now) tables.now.layout.now }
+    requires sized { length region.now ≡ laid_size tables.now.layout.now }
+    requires well { AreNodesWell E.meaning tables.now.graph.now.table region.now scratch.old.at }
+    requires room { FitsGraph tables.now.graph.now scratch.old }
+    requires rows { scratch.old.rows.count ≡ length (held tables.now.literals.now) }
     requires none { HasNoHits scratch.old }
     requires no_finals { HasNoEnds scratch.old.finals }
     requires small { scratch.old.at < 2 ^ 63 }
-    ensures room { FitsGraph graph.now scratch.new }
+    ensures room { FitsGraph tables.now.graph.now scratch.new }
     ensures none { HasNoHits scratch.new }
-    ensures ticks { steps.new ≤ steps.old + 16 * length graph.now.table.nodes.items }
+    ensures ticks { steps.new ≤ steps.old + 16 * length tables.now.graph.now.table.nodes.items }
     ensures keeps { KeepsAsked scratch.old scratch.new }
-    ensures asks { AsksEnds E.meaning graph.now (held literals.now) scratch.old.at scratch.old.past region.now next
-        scratch.new.finals }
+    ensures asks { AsksEnds E.meaning tables.now.graph.now (held tables.now.literals.now) scratch.old.at
+        scratch.old.past region.now next scratch.new.finals }
 {
-    let _ = layout.fields();
-    find_hits(literals, scratch, &[]);
-    ask_nodes(graph, region, scratch, next, steps);
+    let _ = tables.layout.fields();
+    find_hits(tables.literals, scratch, &[]);
+    ask_nodes(tables.graph, region, scratch, next, steps);
     forget(scratch);
 }

@@ -16,10 +16,8 @@ use crate::known::{Known, tell_chunk};
 use hs_bits::MarkSet;
 use hs_block::BlockEngine;
 use hs_engine::Steps;
-use hs_lazy::Cache;
-use hs_nodes::{Chunk, ChunkEnds, ChunkHits, Graph, everywhere, settle, walk};
+use hs_nodes::{Chunk, ChunkEnds, Foretold, Graph, everywhere, settle, walk};
 use hs_reports::Events;
-use hs_waking::Starts;
 use std::alloc::{AllocError, Global};
 use std::sync::ledger::Ledger;
 
@@ -28,8 +26,6 @@ use std::sync::ledger::Ledger;
 pub(crate) struct Course {
     /// The nodes that are run over the next chunk, and those in which something may be live.
     pub marks: MarkSet,
-    /// Where matches of each node may begin in a chunk, as far as it is one of an engine without a parent.
-    pub starts: Starts,
     /// What is known of the identifiers.
     pub known: Known,
 }
@@ -45,7 +41,6 @@ impl Course {
     {
         Ok(Course {
             marks: MarkSet::new(alloc, nodes)?,
-            starts: Starts::new(alloc, nodes)?,
             known: Known::new(alloc, identifiers)?,
         })
     }
@@ -58,15 +53,14 @@ impl Course {
 pub(crate) fn take_chunk<E: BlockEngine, V: Events, L: Ledger>(
     graph: &Graph<E>,
     chunk: &Chunk,
-    hits: &[ChunkHits],
-    cache: &Cache,
+    foretold: &Foretold,
     region: &mut [u8],
     ends: &mut [ChunkEnds],
     course: &mut Course,
     events: &mut V,
     steps: &mut Steps<L>,
 )
-    requires table { IsTableSound E.meaning graph.now.table (length hits.now) (length region.old) }
+    requires table { IsTableSound E.meaning graph.now.table (length foretold.now.hits.now) (length region.old) }
     requires sound { AreTerminalsSound graph.now }
     requires few { length graph.now.table.nodes.items < 2 ^ 32 }
     requires well { AreNodesWell E.meaning graph.now.table region.old chunk.now.at }
@@ -76,11 +70,12 @@ pub(crate) fn take_chunk<E: BlockEngine, V: Events, L: Ledger>(
     requires small { Each (λ b. b < 256) chunk.now.bytes.now }
     requires idle { AreEnginesIdle E.meaning graph.now.table.engines.items }
     requires resting { AreNodesResting E.meaning graph.now.table course.old.marks region.old }
-    requires unwoken { AreNodesUnwoken E.meaning graph.now.table course.old.marks hits.now
+    requires unwoken { AreNodesUnwoken E.meaning graph.now.table course.old.marks foretold.now.hits.now
         chunk.now.prev chunk.now.bytes.now }
-    requires told { TellsNodes E.meaning graph.now.table cache.now region.old chunk.now.prev chunk.now.bytes.now }
-    requires starts { AreStartsEnough E.meaning graph.now.table cache.now course.old.starts chunk.now.prev
+    requires told { TellsNodes E.meaning graph.now.table foretold.now.cache.now region.old chunk.now.prev
         chunk.now.bytes.now }
+    requires starts { AreStartsEnough E.meaning graph.now.table foretold.now.cache.now foretold.now.starts.now
+        chunk.now.prev chunk.now.bytes.now }
     ensures len { length region.new ≡ length region.old }
     ensures well { AreNodesWell E.meaning graph.now.table region.new
         (chunk.now.at + length chunk.now.bytes.now) }
@@ -93,21 +88,12 @@ pub(crate) fn take_chunk<E: BlockEngine, V: Events, L: Ledger>(
     ensures ticks { steps.new ≤
         steps.old + 16 * (length graph.now.table.nodes.items * (length chunk.now.bytes.now + 1)) }
     ensures scans { Takes V.tells events.old events.new (ScansChunk E.meaning graph.now region.old region.new
-        chunk.now.prev chunk.now.at chunk.now.past.now chunk.now.bytes.now hits.now
+        chunk.now.prev chunk.now.at chunk.now.past.now chunk.now.bytes.now foretold.now.hits.now
         course.old.known.told.items course.old.known.here.items course.new.known.told.items
         course.new.known.here.items) }
 {
-    walk(
-        &graph.table,
-        chunk,
-        hits,
-        &course.starts,
-        cache,
-        region,
-        ends,
-        &mut course.marks,
-        steps,
-    );
+    let marks = &mut course.marks;
+    walk(&graph.table, chunk, foretold, region, ends, marks, steps);
     let all = everywhere(chunk);
     tell_chunk(
         graph,

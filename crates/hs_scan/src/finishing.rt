@@ -21,14 +21,13 @@ use crate::asking::ask_ends;
 use crate::known::Known;
 use crate::line_feed::{forget_finals, is_final};
 use crate::scratch::Scratch;
+use crate::tables::Tables;
 use crate::writing::begin_write;
 use hs_base::{ExprId, Next};
 use hs_bits::contains_word_bit;
 use hs_block::BlockEngine;
 use hs_engine::Steps;
 use hs_layout::Layout;
-use hs_literals::Literals;
-use hs_nodes::Graph;
 use hs_reports::{Events, Identifier, IdentifierEnds};
 use std::sync::ledger::Ledger;
 
@@ -114,40 +113,39 @@ fn report_ends<V: Events>(
 
 /// Reports what only the end of the stream decides, if it ends here. The region stays as it is.
 pub fn finish<E: BlockEngine, V: Events, L: Ledger>(
-    graph: &Graph<E>,
-    literals: &Literals,
-    layout: &Layout,
+    tables: &Tables<E>,
     region: &[u8],
     scratch: &mut Scratch,
     events: &mut V,
     steps: &mut Steps<L>,
 )
-    requires sound { IsGraphSound E.meaning graph.now (held literals.now) layout.now }
-    requires region { FitsRegion E.meaning graph.now layout.now region.now }
+    requires sound { IsGraphSound E.meaning tables.now.graph.now (held tables.now.literals.now) tables.now.layout.now }
+    requires region { FitsRegion E.meaning tables.now.graph.now tables.now.layout.now region.now }
     requires idle { IsIdle scratch.old }
-    requires scratch { ServesGraph graph.now (length (held literals.now)) scratch.old }
+    requires scratch { ServesGraph tables.now.graph.now (length (held tables.now.literals.now)) scratch.old }
     requires room { region_offset region.now ≤ greatest_offset }
     ensures idle { IsIdle scratch.new }
-    ensures scratch { ServesGraph graph.now (length (held literals.now)) scratch.new }
-    ensures taken { Takes V.tells events.old events.new (Finishes E.meaning graph.now (held literals.now) layout.now
-        region.now) }
-    ensures alike { EndsAlike E.meaning graph.now (held literals.now) layout.now region.now }
-    ensures ticks { steps.new ≤ steps.old + 16 * length graph.now.table.nodes.items }
+    ensures scratch { ServesGraph tables.now.graph.now (length (held tables.now.literals.now)) scratch.new }
+    ensures taken { Takes V.tells events.old events.new (Finishes E.meaning tables.now.graph.now
+        (held tables.now.literals.now) tables.now.layout.now region.now) }
+    ensures alike { EndsAlike E.meaning tables.now.graph.now (held tables.now.literals.now) tables.now.layout.now
+        region.now }
+    ensures ticks { steps.new ≤ steps.old + 16 * length tables.now.graph.now.table.nodes.items }
 {
-    begin_write(graph, layout, region, scratch);
-    ask_ends(graph, literals, layout, region, scratch, Next::End, steps);
+    begin_write(tables.graph, tables.layout, region, scratch);
+    ask_ends(tables, region, scratch, Next::End, steps);
     let at = scratch.at;
     report_lasts(
-        layout,
+        tables.layout,
         region,
-        &graph.identifiers,
+        &tables.graph.identifiers,
         at.saturating_sub(1),
         events,
     );
     report_ends(
-        layout,
+        tables.layout,
         region,
-        &graph.identifiers,
+        &tables.graph.identifiers,
         &scratch.course.known,
         &scratch.finals,
         at,

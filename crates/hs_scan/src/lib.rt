@@ -13,9 +13,11 @@ mod line_feed;
 mod past;
 mod scanning;
 mod scratch;
+mod tables;
 mod waking;
 mod writing;
 
 pub use feeding::scan;
 pub use finishing::finish;
 pub use scratch::Scratch;
+pub use tables::Tables;

@@ -4,13 +4,10 @@ ghost use Rattle.std.specs.Prelude.{◌≡◌, ◌+◌, ◌*◌, ◌<◌, ◌≤
 ghost use Rattle.hs_base.specs.Assertions.{line_feed};
 ghost use Rattle.hs_base.specs.Bits.{has_word_bit, word_count};
 ghost use Rattle.hs_literals.specs.HitTables.{has_hit};
-ghost use Rattle.hs_nodes.specs.Cached.{IsCacheOf};
 ghost use Rattle.hs_nodes.specs.Graphs.{AreTerminalsSound};
 ghost use Rattle.hs_nodes.specs.Left.{nowhere};
 ghost use Rattle.hs_bits.specs.Marks.{is_marked, mark_room};
-ghost use Rattle.hs_nodes.specs.Resting.{AreEnginesIdle, AreNodesResting};
-ghost use Rattle.hs_nodes.specs.Waking.{AreRowsSound, AreWakesSound};
-ghost use Rattle.hs_nodes.specs.Walks.{AreNodesWell, IsOutside, IsTableSound, node_ends};
+ghost use Rattle.hs_nodes.specs.Walks.{IsOutside, node_ends};
 ghost use Rattle.hs_reports.specs.EndTables.{HasNoEnds, words_of};
 ghost use Rattle.hs_reports.specs.Events.{Takes};
 ghost use Rattle.hs_reports.specs.Telling.{leaves_to_end};
@@ -18,18 +15,18 @@ ghost use Rattle.hs_reports.specs.WordBits.{word_bit};
 ghost use Rattle.hs_scan.specs.Hits.{HasNowhere};
 ghost use Rattle.hs_scan.specs.Knowing.{FitsKnown, IsPending};
 ghost use Rattle.hs_scan.specs.Scans.{ScansChunk};
-ghost use Rattle.hs_scan.specs.Scratches.{FitsGraph, KeepsLast, KeepsNodes};
+ghost use Rattle.hs_scan.specs.Scratches.{IsBetweenChunks, KeepsLast, KeepsNodes, MayRunNodes};
 ghost use Rattle.hs_scan.specs.Telling.{TellsBlock};
 ghost use Rattle.hs_scan.specs.Writing.{AreLeftByLineFeed, LeavesLineFeed, LeavesLineFeedChunk};
 
 use crate::known::{Known, settle_known};
 use crate::scratch::Scratch;
 use crate::waking::wake;
-use hs_bits::{MarkSet, contains_word_bit, write_word_bit};
+use hs_bits::{contains_word_bit, write_word_bit};
 use hs_block::BlockEngine;
 use hs_engine::Steps;
 use hs_lazy::{Cache, TimelessEngine};
-use hs_nodes::{Chunk, ChunkEnds, Graph, everywhere, gather_block, settle, walk};
+use hs_nodes::{Chunk, ChunkEnds, Foretold, Graph, everywhere, gather_block, settle, walk};
 use hs_reports::{Events, Identifier, IdentifierEnds, is_left_to_end};
 use std::sync::ledger::Ledger;
 
@@ -143,27 +140,15 @@ pub(crate) fn run_line_feed<E: BlockEngine + TimelessEngine, V: Events, L: Ledge
     events: &mut V,
     steps: &mut Steps<L>,
 )
-    requires table { IsTableSound E.meaning graph.now.table scratch.old.rows.count (length region.old) }
-    requires sound { AreTerminalsSound graph.now }
-    requires few { length graph.now.table.nodes.items < 2 ^ 32 }
-    requires well { AreNodesWell E.meaning graph.now.table region.old chunk.now.at }
-    requires room { FitsGraph graph.now scratch.old }
-    requires pending { IsPending scratch.old.course.known }
+    requires runs { MayRunNodes E.meaning graph.now scratch.old.rows.count (length region.old) }
+    requires before { IsBetweenChunks E.meaning graph.now chunk.now.at region.old cache.old scratch.old }
     requires bytes { chunk.now.bytes.now ≡ line_feed ∷ [] }
-    requires wakes { AreWakesSound graph.now.table.nodes.items graph.now.wakes scratch.old.rows.count }
-    requires rows { AreRowsSound E.meaning graph.now.table graph.now.wakes }
     requires others { (k : ℕ) → has_hit scratch.old.rows k ≡ false → HasNowhere scratch.old.hits.items k }
-    requires idle { AreEnginesIdle E.meaning graph.now.table.engines.items }
-    requires resting { AreNodesResting E.meaning graph.now.table scratch.old.course.marks region.old }
-    requires cache { IsCacheOf E.meaning graph.now.table cache.old }
-    ensures cache { IsCacheOf E.meaning graph.now.table cache.new }
     ensures len { length region.new ≡ length region.old }
-    ensures well { AreNodesWell E.meaning graph.now.table region.new (chunk.now.at + length chunk.now.bytes.now) }
     ensures outside { (i : ℕ) → IsOutside graph.now.table.nodes.items i →
         slice_index region.new i ≡ slice_index region.old i }
-    ensures room { FitsGraph graph.now scratch.new }
-    ensures pending { IsPending scratch.new.course.known }
-    ensures resting { AreNodesResting E.meaning graph.now.table scratch.new.course.marks region.new }
+    ensures behind { IsBetweenChunks E.meaning graph.now (chunk.now.at + length chunk.now.bytes.now) region.new
+        cache.new scratch.new }
     ensures ticks { steps.new ≤ steps.old + 32 * length graph.now.table.nodes.items }
     ensures keeps { KeepsLast scratch.old scratch.new }
     ensures scans { Takes V.tells events.old events.new (ScansChunk E.meaning graph.now region.old region.new
@@ -177,20 +162,22 @@ pub(crate) fn run_line_feed<E: BlockEngine + TimelessEngine, V: Events, L: Ledge
     wake(
         graph,
         &scratch.rows,
-        chunk.prev,
-        chunk.bytes,
+        chunk,
         region,
         &mut scratch.words,
         cache,
-        &mut scratch.course.starts,
+        &mut scratch.starts,
         &mut scratch.course.marks,
     );
+    let foretold = Foretold {
+        hits: &scratch.hits,
+        starts: &scratch.starts,
+        cache: &*cache,
+    };
     walk(
         &graph.table,
         chunk,
-        &scratch.hits,
-        &scratch.course.starts,
-        cache,
+        &foretold,
         region,
         &mut scratch.ends,
         &mut scratch.course.marks,

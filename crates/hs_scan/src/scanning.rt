@@ -5,28 +5,24 @@ ghost use Rattle.hs_base.specs.Lists.{Each};
 ghost use Rattle.hs_layout.specs.Layouts.{laid_size};
 ghost use Rattle.hs_literals.specs.Held.{held};
 ghost use Rattle.hs_literals.specs.HitTables.{has_hit};
-ghost use Rattle.hs_nodes.specs.Resting.{AreEnginesIdle, AreNodesResting};
-ghost use Rattle.hs_nodes.specs.Waking.{AreRowsSound, AreWakesSound};
-ghost use Rattle.hs_nodes.specs.Walks.{AreNodesWell, IsOutside, IsTableSound};
+ghost use Rattle.hs_nodes.specs.Walks.{IsOutside};
 ghost use Rattle.hs_reports.specs.Events.{Takes};
 ghost use Rattle.hs_scan.specs.Hits.{HasNowhere};
-ghost use Rattle.hs_scan.specs.Knowing.{IsPending};
-ghost use Rattle.hs_nodes.specs.Cached.{IsCacheOf};
-ghost use Rattle.hs_nodes.specs.Graphs.{AreTerminalsSound, IsGraphSound};
+ghost use Rattle.hs_nodes.specs.Graphs.{IsGraphSound};
 ghost use Rattle.hs_scan.specs.Past.{KeepsEarly};
 ghost use Rattle.hs_scan.specs.Scans.{Scans, ScansChunk};
-ghost use Rattle.hs_scan.specs.Scratches.{FitsGraph, HasNoHits, KeepsAll, KeepsTables, stand_of};
+ghost use Rattle.hs_scan.specs.Scratches.{HasNoHits, IsBetweenChunks, KeepsAll, KeepsTables, MayRunNodes};
+ghost use Rattle.hs_scan.specs.Scratches.{stand_of};
 
 use crate::chunk::take_chunk;
 use crate::past::{prev_of, push_past};
 use crate::scratch::{Scratch, find_hits, forget};
+use crate::tables::Tables;
 use crate::waking::wake;
 use hs_block::BlockEngine;
 use hs_engine::Steps;
-use hs_layout::Layout;
 use hs_lazy::{Cache, TimelessEngine};
-use hs_literals::Literals;
-use hs_nodes::{Chunk, Graph, MAX_CHUNK};
+use hs_nodes::{Chunk, Foretold, Graph, MAX_CHUNK};
 use hs_reports::Events;
 use std::sync::ledger::Ledger;
 
@@ -40,28 +36,15 @@ fn run_chunk<E: BlockEngine + TimelessEngine, V: Events, L: Ledger>(
     events: &mut V,
     steps: &mut Steps<L>,
 )
-    requires table { IsTableSound E.meaning graph.now.table scratch.old.rows.count (length region.old) }
-    requires sound { AreTerminalsSound graph.now }
-    requires few { length graph.now.table.nodes.items < 2 ^ 32 }
-    requires well { AreNodesWell E.meaning graph.now.table region.old chunk.now.at }
-    requires room { FitsGraph graph.now scratch.old }
-    requires pending { IsPending scratch.old.course.known }
+    requires runs { MayRunNodes E.meaning graph.now scratch.old.rows.count (length region.old) }
+    requires before { IsBetweenChunks E.meaning graph.now chunk.now.at region.old cache.old scratch.old }
     requires small { Each (λ b. b < 256) chunk.now.bytes.now }
-    requires wakes { AreWakesSound graph.now.table.nodes.items graph.now.wakes scratch.old.rows.count }
-    requires rows { AreRowsSound E.meaning graph.now.table graph.now.wakes }
     requires others { (k : ℕ) → has_hit scratch.old.rows k ≡ false → HasNowhere scratch.old.hits.items k }
-    requires idle { AreEnginesIdle E.meaning graph.now.table.engines.items }
-    requires resting { AreNodesResting E.meaning graph.now.table scratch.old.course.marks region.old }
-    requires cache { IsCacheOf E.meaning graph.now.table cache.old }
-    ensures cache { IsCacheOf E.meaning graph.now.table cache.new }
     ensures len { length region.new ≡ length region.old }
-    ensures well { AreNodesWell E.meaning graph.now.table region.new
-        (chunk.now.at + length chunk.now.bytes.now) }
     ensures outside { (i : ℕ) → IsOutside graph.now.table.nodes.items i →
         slice_index region.new i ≡ slice_index region.old i }
-    ensures room { FitsGraph graph.now scratch.new }
-    ensures pending { IsPending scratch.new.course.known }
-    ensures resting { AreNodesResting E.meaning graph.now.table scratch.new.course.marks region.new }
+    ensures behind { IsBetweenChunks E.meaning graph.now (chunk.now.at + length chunk.now.bytes.now) region.new
+        cache.new scratch.new }
     ensures ticks { steps.new ≤
         steps.old + 16 * (length graph.now.table.nodes.items * (length chunk.now.bytes.now + 1)) }
     ensures keeps { KeepsTables scratch.old scratch.new }
@@ -73,19 +56,22 @@ fn run_chunk<E: BlockEngine + TimelessEngine, V: Events, L: Ledger>(
     wake(
         graph,
         &scratch.rows,
-        chunk.prev,
-        chunk.bytes,
+        chunk,
         region,
         &mut scratch.words,
         cache,
-        &mut scratch.course.starts,
+        &mut scratch.starts,
         &mut scratch.course.marks,
     );
+    let foretold = Foretold {
+        hits: &scratch.hits,
+        starts: &scratch.starts,
+        cache: &*cache,
+    };
     take_chunk(
         graph,
         chunk,
-        &scratch.hits,
-        cache,
+        &foretold,
         region,
         &mut scratch.ends,
         &mut scratch.course,
@@ -96,9 +82,7 @@ fn run_chunk<E: BlockEngine + TimelessEngine, V: Events, L: Ledger>(
 
 /// Takes up to 512 bytes.
 pub(crate) fn scan_chunk<E: BlockEngine + TimelessEngine, V: Events, L: Ledger>(
-    graph: &Graph<E>,
-    literals: &Literals,
-    layout: &Layout,
+    tables: &Tables<E>,
     region: &mut [u8],
     cache: &mut Cache,
     scratch: &mut Scratch,
@@ -106,34 +90,27 @@ pub(crate) fn scan_chunk<E: BlockEngine + TimelessEngine, V: Events, L: Ledger>(
     events: &mut V,
     steps: &mut Steps<L>,
 )
-    requires sound { IsGraphSound E.meaning graph.now (held literals.now) layout.now }
-    requires sized { length region.old ≡ laid_size layout.now }
-    requires well { AreNodesWell E.meaning graph.now.table region.old scratch.old.at }
-    requires room { FitsGraph graph.now scratch.old }
-    requires rows { scratch.old.rows.count ≡ length (held literals.now) }
-    requires pending { IsPending scratch.old.course.known }
-    requires resting { AreNodesResting E.meaning graph.now.table scratch.old.course.marks region.old }
+    requires sound { IsGraphSound E.meaning tables.now.graph.now (held tables.now.literals.now) tables.now.layout.now }
+    requires sized { length region.old ≡ laid_size tables.now.layout.now }
+    requires before { IsBetweenChunks E.meaning tables.now.graph.now scratch.old.at region.old cache.old scratch.old }
+    requires rows { scratch.old.rows.count ≡ length (held tables.now.literals.now) }
     requires none { HasNoHits scratch.old }
     requires few { length bytes.now ≤ 512 }
     requires small { scratch.old.at + length bytes.now ≤ 2 ^ 63 }
-    requires cache { IsCacheOf E.meaning graph.now.table cache.old }
-    ensures cache { IsCacheOf E.meaning graph.now.table cache.new }
     ensures len { length region.new ≡ length region.old }
-    ensures well { AreNodesWell E.meaning graph.now.table region.new scratch.new.at }
-    ensures outside { (i : ℕ) → IsOutside graph.now.table.nodes.items i →
+    ensures behind { IsBetweenChunks E.meaning tables.now.graph.now scratch.new.at region.new cache.new scratch.new }
+    ensures outside { (i : ℕ) → IsOutside tables.now.graph.now.table.nodes.items i →
         slice_index region.new i ≡ slice_index region.old i }
-    ensures room { FitsGraph graph.now scratch.new }
     ensures keeps { KeepsAll scratch.old scratch.new }
-    ensures pending { IsPending scratch.new.course.known }
-    ensures resting { AreNodesResting E.meaning graph.now.table scratch.new.course.marks region.new }
     ensures none { HasNoHits scratch.new }
     ensures at { scratch.new.at ≡ scratch.old.at + length bytes.now }
-    ensures ticks { steps.new ≤ steps.old + 16 * (length graph.now.table.nodes.items * (length bytes.now + 1)) }
+    ensures ticks { steps.new ≤
+        steps.old + 16 * (length tables.now.graph.now.table.nodes.items * (length bytes.now + 1)) }
     ensures early { KeepsEarly scratch.old.at scratch.new.at scratch.old.past scratch.new.past }
-    ensures scans { Takes V.tells events.old events.new (Scans E.meaning graph.now
-        (held literals.now) (stand_of scratch.old region.old) (stand_of scratch.new region.new) bytes.now) }
+    ensures scans { Takes V.tells events.old events.new (Scans E.meaning tables.now.graph.now
+        (held tables.now.literals.now) (stand_of scratch.old region.old) (stand_of scratch.new region.new) bytes.now) }
 {
-    find_hits(literals, scratch, bytes);
+    find_hits(tables.literals, scratch, bytes);
     let past = scratch.past;
     let chunk = Chunk {
         bytes,
@@ -141,7 +118,7 @@ pub(crate) fn scan_chunk<E: BlockEngine + TimelessEngine, V: Events, L: Ledger>(
         prev: prev_of(scratch.at, &past),
         at: scratch.at,
     };
-    run_chunk(graph, region, cache, scratch, &chunk, events, steps);
+    run_chunk(tables.graph, region, cache, scratch, &chunk, events, steps);
     forget(scratch);
     push_past(&mut scratch.past, bytes);
     scratch.at += bytes.len() as u64;
@@ -149,9 +126,7 @@ pub(crate) fn scan_chunk<E: BlockEngine + TimelessEngine, V: Events, L: Ledger>(
 
 /// Takes bytes, 512 at a time.
 pub(crate) fn scan_bytes<E: BlockEngine + TimelessEngine, V: Events, L: Ledger>(
-    graph: &Graph<E>,
-    literals: &Literals,
-    layout: &Layout,
+    tables: &Tables<E>,
     region: &mut [u8],
     cache: &mut Cache,
     scratch: &mut Scratch,
@@ -159,39 +134,29 @@ pub(crate) fn scan_bytes<E: BlockEngine + TimelessEngine, V: Events, L: Ledger>(
     events: &mut V,
     steps: &mut Steps<L>,
 )
-    requires sound { IsGraphSound E.meaning graph.now (held literals.now) layout.now }
-    requires sized { length region.old ≡ laid_size layout.now }
-    requires well { AreNodesWell E.meaning graph.now.table region.old scratch.old.at }
-    requires room { FitsGraph graph.now scratch.old }
-    requires rows { scratch.old.rows.count ≡ length (held literals.now) }
-    requires pending { IsPending scratch.old.course.known }
-    requires resting { AreNodesResting E.meaning graph.now.table scratch.old.course.marks region.old }
+    requires sound { IsGraphSound E.meaning tables.now.graph.now (held tables.now.literals.now) tables.now.layout.now }
+    requires sized { length region.old ≡ laid_size tables.now.layout.now }
+    requires before { IsBetweenChunks E.meaning tables.now.graph.now scratch.old.at region.old cache.old scratch.old }
+    requires rows { scratch.old.rows.count ≡ length (held tables.now.literals.now) }
     requires none { HasNoHits scratch.old }
     requires small { scratch.old.at + length bytes.now ≤ 2 ^ 63 }
-    requires cache { IsCacheOf E.meaning graph.now.table cache.old }
-    ensures cache { IsCacheOf E.meaning graph.now.table cache.new }
     ensures len { length region.new ≡ length region.old }
-    ensures well { AreNodesWell E.meaning graph.now.table region.new scratch.new.at }
-    ensures outside { (i : ℕ) → IsOutside graph.now.table.nodes.items i →
+    ensures behind { IsBetweenChunks E.meaning tables.now.graph.now scratch.new.at region.new cache.new scratch.new }
+    ensures outside { (i : ℕ) → IsOutside tables.now.graph.now.table.nodes.items i →
         slice_index region.new i ≡ slice_index region.old i }
-    ensures room { FitsGraph graph.now scratch.new }
     ensures keeps { KeepsAll scratch.old scratch.new }
-    ensures pending { IsPending scratch.new.course.known }
-    ensures resting { AreNodesResting E.meaning graph.now.table scratch.new.course.marks region.new }
     ensures none { HasNoHits scratch.new }
     ensures at { scratch.new.at ≡ scratch.old.at + length bytes.now }
-    ensures ticks { steps.new ≤ steps.old + 32 * (length graph.now.table.nodes.items * length bytes.now) }
+    ensures ticks { steps.new ≤ steps.old + 32 * (length tables.now.graph.now.table.nodes.items * length bytes.now) }
     ensures early { KeepsEarly scratch.old.at scratch.new.at scratch.old.past scratch.new.past }
-    ensures scans { Takes V.tells events.old events.new (Scans E.meaning graph.now
-        (held literals.now) (stand_of scratch.old region.old) (stand_of scratch.new region.new) bytes.now) }
+    ensures scans { Takes V.tells events.old events.new (Scans E.meaning tables.now.graph.now
+        (held tables.now.literals.now) (stand_of scratch.old region.old) (stand_of scratch.new region.new) bytes.now) }
 {
     let mut from = 0;
     while from < bytes.len() {
         let end = (from + MAX_CHUNK).min(bytes.len());
         scan_chunk(
-            graph,
-            literals,
-            layout,
+            tables,
             region,
             cache,
             scratch,

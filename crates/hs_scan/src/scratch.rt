@@ -17,7 +17,7 @@ use hs_layout::HISTORY_SIZE;
 use hs_literals::{HitRows, Literals};
 use hs_nodes::{ChunkEnds, ChunkHits, Graph};
 use hs_reports::IdentifierEnds;
-use hs_waking::ClassWords;
+use hs_waking::{ClassWords, Starts};
 use std::alloc::{AllocError, Global};
 
 /// For how many sets of bytes there is room: rows name no more.
@@ -34,6 +34,8 @@ pub struct Scratch {
     pub(crate) rows: HitRows,
     /// At which places of a chunk the sets have bytes by which first engines are woken.
     pub(crate) words: ClassWords,
+    /// Where matches of each node may begin in a chunk, as far as it is one of an engine without a parent.
+    pub(crate) starts: Starts,
     /// What goes from chunk to chunk.
     pub(crate) course: Course,
     /// Where matches of each identifier would end before a line feed, were that the last byte.
@@ -67,6 +69,7 @@ impl Scratch {
             hits: vec![in alloc; ChunkHits::NOWHERE; count]?,
             rows: HitRows::new(alloc, count)?,
             words: ClassWords::new(alloc, graph.wakes.sets.len().min(MAX_SETS))?,
+            starts: Starts::new(alloc, nodes)?,
             course: Course::new(alloc, nodes, identifiers)?,
             finals: IdentifierEnds::new(alloc, identifiers)?,
             last: vec![in alloc; 0u64; word_count_for(identifiers)]?,

@@ -1,6 +1,7 @@
 //! Which nodes are run over a chunk, beside those in which something is live.
 
 ghost use Rattle.std.specs.Prelude.{◌≡◌, ◌<◌, ◌≤◌, ℕ, List, true, false, length};
+ghost use Rattle.hs_base.specs.Lists.{Each};
 ghost use Rattle.hs_literals.specs.HitTables.{has_hit};
 ghost use Rattle.hs_bits.specs.Marks.{is_marked, mark_room};
 ghost use Rattle.hs_nodes.specs.Starting.{AreStartsEnough};
@@ -11,11 +12,10 @@ ghost use Rattle.hs_nodes.specs.Walks.{AreMoreMarks, IsAmongChildren, IsTableSou
 ghost use Rattle.hs_nodes.specs.declared.hits.ChunkHits.{ChunkHits};
 ghost use Rattle.hs_scan.specs.Hits.{HasNowhere};
 
-use hs_base::Prev;
 use hs_bits::MarkSet;
 use hs_lazy::{Cache, TimelessEngine};
 use hs_literals::HitRows;
-use hs_nodes::{Graph, run_cached, wake_engines, wake_literal};
+use hs_nodes::{Chunk, Graph, run_cached, wake_engines, wake_literal};
 use hs_waking::{ClassWords, Starts};
 
 /// Marks the nodes that the literals wake that end in a chunk.
@@ -35,14 +35,13 @@ fn wake_literals<E>(graph: &Graph<E>, rows: &HitRows, marks: &mut MarkSet)
     }
 }
 
-/// Marks the nodes that a chunk behind `prev` wakes, in which just the literals end of which the rows tell it. Of the
+/// Marks the nodes that a chunk wakes, in which just the literals end of which the rows tell it. Of the
 /// engines without a parent the cache tells what they do, from the region on, or it is said where their matches may
 /// begin.
 pub(crate) fn wake<E: TimelessEngine>(
     graph: &Graph<E>,
     rows: &HitRows,
-    prev: Prev,
-    bytes: &[u8],
+    chunk: &Chunk,
     region: &[u8],
     words: &mut ClassWords,
     cache: &mut Cache,
@@ -57,15 +56,15 @@ pub(crate) fn wake<E: TimelessEngine>(
     requires wakes { AreWakesSound graph.now.table.nodes.items graph.now.wakes rows.now.count }
     requires room { length graph.now.table.nodes.items ≤ mark_room marks.old }
     requires below { (k : ℕ) → is_marked marks.old k ≡ true → k < length graph.now.table.nodes.items }
-    requires few { length bytes.now ≤ 512 }
+    requires small { Each (λ b. b < 256) chunk.now.bytes.now }
     ensures more { AreMoreMarks (length graph.now.table.nodes.items) marks.old marks.new }
     ensures cache { IsCacheOf E.meaning graph.now.table cache.new }
-    ensures told { TellsNodes E.meaning graph.now.table cache.new region.now prev bytes.now }
-    ensures starts { AreStartsEnough E.meaning graph.now.table cache.new starts.new prev bytes.now }
+    ensures told { TellsNodes E.meaning graph.now.table cache.new region.now chunk.now.prev chunk.now.bytes.now }
+    ensures starts { AreStartsEnough E.meaning graph.now.table cache.new starts.new chunk.now.prev chunk.now.bytes.now }
     ensures unwoken { (hits : List ChunkHits) → ((k : ℕ) → has_hit rows.now k ≡ false → HasNowhere hits k) →
-        AreNodesUnwoken E.meaning graph.now.table marks.new hits prev bytes.now }
+        AreNodesUnwoken E.meaning graph.now.table marks.new hits chunk.now.prev chunk.now.bytes.now }
 {
-    run_cached(&graph.table, prev, bytes, region, cache, marks);
+    run_cached(&graph.table, chunk.prev, chunk.bytes, region, cache, marks);
     wake_literals(graph, rows, marks);
-    wake_engines(graph, prev, bytes, words, cache, starts, marks);
+    wake_engines(graph, chunk, words, cache, starts, marks);
 }

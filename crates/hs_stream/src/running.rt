@@ -16,7 +16,7 @@ use hs_compile::Database;
 use hs_engine::Steps;
 use hs_regions::{first_fault, well_formed};
 use hs_reports::Events;
-use hs_scan::{finish, scan};
+use hs_scan::{Tables, finish, scan};
 use std::sync::ledger::Ledger;
 
 /// Takes the next bytes of the stream of a region, and reports what they decide, in the order in which they do.
@@ -44,17 +44,12 @@ pub(crate) fn run_bytes<V: Events, L: Ledger>(
     ensures told { Takes V.tells events.old events.new (MayScan db.now region.old region.new bytes.now) }
     ensures ticks { steps.new ≤ steps.old + 48 * (length (nodes_of db.now) * length bytes.now) }
 {
-    scan(
-        db.graph(),
-        db.literals(),
-        db.layout(),
-        region,
-        states,
-        scratch,
-        bytes,
-        events,
-        steps,
-    );
+    let tables = Tables {
+        graph: db.graph(),
+        literals: db.literals(),
+        layout: db.layout(),
+    };
+    scan(&tables, region, states, scratch, bytes, events, steps);
 }
 
 /// Reports what only the end of the stream of a region decides, if it ends here.
@@ -73,15 +68,12 @@ pub(crate) fn run_end<V: Events, L: Ledger>(
     ensures told { Takes V.tells events.old events.new (MayScanEnd db.now region.now) }
     ensures ticks { steps.new ≤ steps.old + 16 * length (nodes_of db.now) }
 {
-    finish(
-        db.graph(),
-        db.literals(),
-        db.layout(),
-        region,
-        scratch,
-        events,
-        steps,
-    );
+    let tables = Tables {
+        graph: db.graph(),
+        literals: db.literals(),
+        layout: db.layout(),
+    };
+    finish(&tables, region, scratch, events, steps);
 }
 
 /// Whether the bytes may be what is kept of a stream of the database.

@@ -14,69 +14,69 @@ null_ends-null-requires g c =
     (λ needs. c.requires.contexts (subst (λ (k : NodeKind). NeedsContexts k) (sym c.in-Engine.is) needs))
 
 pub bounds-engines-number : goal.bounds-engines-number
-bounds-engines-number g c = (subst (λ (k : NodeKind). IsKindSound g.E.Engine.meaning c.args.engines.now (length c.args.found.now.hits.now) k (length c.args.part.now)) c.in-Engine.is c.requires.sound).there
+bounds-engines-number g c = (subst (λ (k : NodeKind). IsKindSound g.E.Engine.meaning c.args.engines.now (length c.args.found.now.foretold.now.hits.now) k (length c.args.part.now)) c.in-Engine.is c.requires.sound).there
 
 pub run_engine-requires-clause-len : goal.run_engine-requires-clause-len
 run_engine-requires-clause-len g c =
     let engines = c.args.engines.now in
-    let sound = subst (λ (k : NodeKind). IsKindSound g.E.Engine.meaning engines (length c.args.found.now.hits.now) k (length c.args.part.now)) c.in-Engine.is c.requires.sound in
+    let sound = subst (λ (k : NodeKind). IsKindSound g.E.Engine.meaning engines (length c.args.found.now.foretold.now.hits.now) k (length c.args.part.now)) c.in-Engine.is c.requires.sound in
     sym (sound.each c.index-engines-number.result (slice_get_read engines (length engines) c.in-Engine.number c.index-engines-number.result refl sound.there c.index-engines-number.is)).0
 
 pub run_engine-requires-clause-well : goal.run_engine-requires-clause-well
 run_engine-requires-clause-well g c =
     let engines = c.args.engines.now in
-    let sound = subst (λ (k : NodeKind). IsKindSound g.E.Engine.meaning engines (length c.args.found.now.hits.now) k (length c.args.part.now)) c.in-Engine.is c.requires.sound in
+    let sound = subst (λ (k : NodeKind). IsKindSound g.E.Engine.meaning engines (length c.args.found.now.foretold.now.hits.now) k (length c.args.part.now)) c.in-Engine.is c.requires.sound in
     subst (λ (k : NodeKind). IsWellPart g.E.Engine.meaning engines k c.args.part.now c.args.chunk.now.at) c.in-Engine.is c.requires.well c.index-engines-number.result
     (slice_get_read engines (length engines) c.in-Engine.number c.index-engines-number.result refl sound.there c.index-engines-number.is)
 
 pub run_engine-requires-clause-listed : goal.run_engine-requires-clause-listed
 run_engine-requires-clause-listed g c =
     let engines = c.args.engines.now in
-    let sound = subst (λ (k : NodeKind). IsKindSound g.E.Engine.meaning engines (length c.args.found.now.hits.now) k (length c.args.part.now)) c.in-Engine.is c.requires.sound in
+    let sound = subst (λ (k : NodeKind). IsKindSound g.E.Engine.meaning engines (length c.args.found.now.foretold.now.hits.now) k (length c.args.part.now)) c.in-Engine.is c.requires.sound in
     (sound.each c.index-engines-number.result (slice_get_read engines (length engines) c.in-Engine.number c.index-engines-number.result refl sound.there c.index-engines-number.is)).1
 
 pub run_engine-requires-clause-idle : goal.run_engine-requires-clause-idle
 run_engine-requires-clause-idle g c part len zero =
     let engines = c.args.engines.now in
-    let sound = subst (λ (k : NodeKind). IsKindSound g.E.Engine.meaning engines (length c.args.found.now.hits.now) k (length c.args.part.now)) c.in-Engine.is c.requires.sound in
+    let sound = subst (λ (k : NodeKind). IsKindSound g.E.Engine.meaning engines (length c.args.found.now.foretold.now.hits.now) k (length c.args.part.now)) c.in-Engine.is c.requires.sound in
     let there = slice_get_read engines (length engines) c.in-Engine.number c.index-engines-number.result refl sound.there c.index-engines-number.is in
     c.requires.idle c.in-Engine.number c.index-engines-number.result part there (sound.each c.index-engines-number.result there).1 len zero
 
 pub run_engine-requires-clause-starts : goal.run_engine-requires-clause-starts
 run_engine-requires-clause-starts g c k is untold =
     let engines = c.args.engines.now in
-    let sound = subst (λ (k : NodeKind). IsKindSound g.E.Engine.meaning engines (length c.args.found.now.hits.now) k (length c.args.part.now)) c.in-Engine.is c.requires.sound in
+    let sound = subst (λ (k : NodeKind). IsKindSound g.E.Engine.meaning engines (length c.args.found.now.foretold.now.hits.now) k (length c.args.part.now)) c.in-Engine.is c.requires.sound in
     c.requires.starts k is untold c.in-Engine.number c.in-Engine.null c.index-engines-number.result c.in-Engine.is (slice_get_read engines (length engines) c.in-Engine.number c.index-engines-number.result refl sound.there c.index-engines-number.is)
 
-pub bounds-found-number : goal.bounds-found-number
-bounds-found-number g c = (subst (λ (k : NodeKind). IsKindSound g.E.Engine.meaning c.args.engines.now (length c.args.found.now.hits.now) k (length c.args.part.now)) c.in-Literal.is c.requires.sound).0
+pub bounds-hits-number : goal.bounds-hits-number
+bounds-hits-number g c = (subst (λ (k : NodeKind). IsKindSound g.E.Engine.meaning c.args.engines.now (length c.args.found.now.foretold.now.hits.now) k (length c.args.part.now)) c.in-Literal.is c.requires.sound).0
 
 pub run_literal_part-requires-clause-some : goal.run_literal_part-requires-clause-some
-run_literal_part-requires-clause-some g c = (subst (λ (k : NodeKind). IsKindSound g.E.Engine.meaning c.args.engines.now (length c.args.found.now.hits.now) k (length c.args.part.now)) c.in-Literal.is c.requires.sound).1
+run_literal_part-requires-clause-some g c = (subst (λ (k : NodeKind). IsKindSound g.E.Engine.meaning c.args.engines.now (length c.args.found.now.foretold.now.hits.now) k (length c.args.part.now)) c.in-Literal.is c.requires.sound).1
 
 pub run_literal_part-requires-clause-short : goal.run_literal_part-requires-clause-short
-run_literal_part-requires-clause-short g c = (subst (λ (k : NodeKind). IsKindSound g.E.Engine.meaning c.args.engines.now (length c.args.found.now.hits.now) k (length c.args.part.now)) c.in-Literal.is c.requires.sound).2
+run_literal_part-requires-clause-short g c = (subst (λ (k : NodeKind). IsKindSound g.E.Engine.meaning c.args.engines.now (length c.args.found.now.foretold.now.hits.now) k (length c.args.part.now)) c.in-Literal.is c.requires.sound).2
 
 pub run_literal_part-requires-clause-size : goal.run_literal_part-requires-clause-size
-run_literal_part-requires-clause-size g c = (subst (λ (k : NodeKind). IsKindSound g.E.Engine.meaning c.args.engines.now (length c.args.found.now.hits.now) k (length c.args.part.now)) c.in-Literal.is c.requires.sound).3
+run_literal_part-requires-clause-size g c = (subst (λ (k : NodeKind). IsKindSound g.E.Engine.meaning c.args.engines.now (length c.args.found.now.foretold.now.hits.now) k (length c.args.part.now)) c.in-Literal.is c.requires.sound).3
 
 pub run_literal_part-requires-clause-well : goal.run_literal_part-requires-clause-well
 run_literal_part-requires-clause-well g c = subst (λ (k : NodeKind). IsWellPart g.E.Engine.meaning c.args.engines.now k c.args.part.now c.args.chunk.now.at) c.in-Literal.is c.requires.well
 
-pub bounds-found-number-in-FirstLiteral : goal.bounds-found-number-in-FirstLiteral
-bounds-found-number-in-FirstLiteral g c = (subst (λ (k : NodeKind). IsKindSound g.E.Engine.meaning c.args.engines.now (length c.args.found.now.hits.now) k (length c.args.part.now)) c.in-FirstLiteral.is c.requires.sound).0
+pub bounds-hits-number-in-FirstLiteral : goal.bounds-hits-number-in-FirstLiteral
+bounds-hits-number-in-FirstLiteral g c = (subst (λ (k : NodeKind). IsKindSound g.E.Engine.meaning c.args.engines.now (length c.args.found.now.foretold.now.hits.now) k (length c.args.part.now)) c.in-FirstLiteral.is c.requires.sound).0
 
 pub returns-in-Engine-clause-len : goal.returns-in-Engine-clause-len
 returns-in-Engine-clause-len g c =
     let engines = c.args.engines.now in
-    let sound = subst (λ (k : NodeKind). IsKindSound g.E.Engine.meaning engines (length c.args.found.now.hits.now) k (length c.args.part.now)) c.in-Engine.is c.requires.sound in
+    let sound = subst (λ (k : NodeKind). IsKindSound g.E.Engine.meaning engines (length c.args.found.now.foretold.now.hits.now) k (length c.args.part.now)) c.in-Engine.is c.requires.sound in
     c.run_engine.ensures.len ∙ (sound.each c.index-engines-number.result (slice_get_read engines (length engines) c.in-Engine.number c.index-engines-number.result refl sound.there c.index-engines-number.is)).0
 
 pub returns-in-Engine-clause-well : goal.returns-in-Engine-clause-well
 returns-in-Engine-clause-well g c =
     let m = g.E.Engine.meaning in
     let engines = c.args.engines.now in
-    let sound = subst (λ (k : NodeKind). IsKindSound m engines (length c.args.found.now.hits.now) k (length c.args.part.now)) c.in-Engine.is c.requires.sound in
+    let sound = subst (λ (k : NodeKind). IsKindSound m engines (length c.args.found.now.foretold.now.hits.now) k (length c.args.part.now)) c.in-Engine.is c.requires.sound in
     subst (λ (k : NodeKind). IsWellPart m engines k c.run_engine.new.region (c.args.chunk.now.at + length c.args.chunk.now.bytes.now)) (sym c.in-Engine.is)
     (engine-well m engines c.in-Engine.number c.in-Engine.null c.run_engine.new.region (c.args.chunk.now.at + length c.args.chunk.now.bytes.now) c.index-engines-number.result (slice_get_read engines (length engines) c.in-Engine.number c.index-engines-number.result refl sound.there c.index-engines-number.is) c.run_engine.ensures.well)
 
@@ -84,14 +84,14 @@ pub returns-in-Engine-clause-takes : goal.returns-in-Engine-clause-takes
 returns-in-Engine-clause-takes g c =
     let m = g.E.Engine.meaning in
     let engines = c.args.engines.now in
-    let sound = subst (λ (k : NodeKind). IsKindSound m engines (length c.args.found.now.hits.now) k (length c.args.part.now)) c.in-Engine.is c.requires.sound in
-    subst (λ (k : NodeKind). TakesPiece m engines k c.args.part.now c.run_engine.new.region c.args.chunk.now.prev c.args.chunk.now.at c.args.chunk.now.past.now c.args.chunk.now.bytes.now c.args.found.now.hits.now c.args.enters.now c.run_engine.result) (sym c.in-Engine.is)
-    (engine-takes m engines c.in-Engine.number c.in-Engine.null c.args.part.now c.run_engine.new.region c.args.chunk.now.prev c.args.chunk.now.at c.args.chunk.now.past.now c.args.chunk.now.bytes.now c.args.found.now.hits.now c.args.enters.now c.null_ends-null.result c.run_engine.result
+    let sound = subst (λ (k : NodeKind). IsKindSound m engines (length c.args.found.now.foretold.now.hits.now) k (length c.args.part.now)) c.in-Engine.is c.requires.sound in
+    subst (λ (k : NodeKind). TakesPiece m engines k c.args.part.now c.run_engine.new.region c.args.chunk.now.prev c.args.chunk.now.at c.args.chunk.now.past.now c.args.chunk.now.bytes.now c.args.found.now.foretold.now.hits.now c.args.enters.now c.run_engine.result) (sym c.in-Engine.is)
+    (engine-takes m engines c.in-Engine.number c.in-Engine.null c.args.part.now c.run_engine.new.region c.args.chunk.now.prev c.args.chunk.now.at c.args.chunk.now.past.now c.args.chunk.now.bytes.now c.args.found.now.foretold.now.hits.now c.args.enters.now c.null_ends-null.result c.run_engine.result
     c.index-engines-number.result (slice_get_read engines (length engines) c.in-Engine.number c.index-engines-number.result refl sound.there c.index-engines-number.is) c.null_ends-null.ensures c.run_engine.ensures.takes)
 
 pub returns-in-Literal-clause-len : goal.returns-in-Literal-clause-len
 returns-in-Literal-clause-len g c =
-    c.run_literal_part.ensures.size ∙ sym (subst (λ (k : NodeKind). IsKindSound g.E.Engine.meaning c.args.engines.now (length c.args.found.now.hits.now) k (length c.args.part.now)) c.in-Literal.is c.requires.sound).3
+    c.run_literal_part.ensures.size ∙ sym (subst (λ (k : NodeKind). IsKindSound g.E.Engine.meaning c.args.engines.now (length c.args.found.now.foretold.now.hits.now) k (length c.args.part.now)) c.in-Literal.is c.requires.sound).3
 
 pub returns-in-Literal-clause-well : goal.returns-in-Literal-clause-well
 returns-in-Literal-clause-well g c = subst (λ (k : NodeKind). IsWellPart g.E.Engine.meaning c.args.engines.now k c.run_literal_part.new.part (c.args.chunk.now.at + length c.args.chunk.now.bytes.now)) (sym c.in-Literal.is) c.run_literal_part.ensures.well
@@ -100,7 +100,7 @@ pub returns-in-Literal-clause-takes : goal.returns-in-Literal-clause-takes
 returns-in-Literal-clause-takes g c =
     let m = g.E.Engine.meaning in
     let engines = c.args.engines.now in
-    let hits = c.args.found.now.hits.now in
+    let hits = c.args.found.now.foretold.now.hits.now in
     let sound = subst (λ (k : NodeKind). IsKindSound m engines (length hits) k (length c.args.part.now)) c.in-Literal.is c.requires.sound in
     subst (λ (k : NodeKind). TakesPiece m engines k c.args.part.now c.run_literal_part.new.part c.args.chunk.now.prev c.args.chunk.now.at c.args.chunk.now.past.now c.args.chunk.now.bytes.now hits c.args.enters.now c.run_literal_part.result) (sym c.in-Literal.is)
     (literal-takes m engines c.in-Literal.number c.in-Literal.len c.args.part.now c.run_literal_part.new.part c.args.chunk.now.prev c.args.chunk.now.at c.args.chunk.now.past.now c.args.chunk.now.bytes.now hits c.args.enters.now c.run_literal_part.result
@@ -113,45 +113,45 @@ pub returns-in-FirstLiteral-clause-takes : goal.returns-in-FirstLiteral-clause-t
 returns-in-FirstLiteral-clause-takes g c =
     let m = g.E.Engine.meaning in
     let engines = c.args.engines.now in
-    let hits = c.args.found.now.hits.now in
+    let hits = c.args.found.now.foretold.now.hits.now in
     let sound = subst (λ (k : NodeKind). IsKindSound m engines (length hits) k (length c.args.part.now)) c.in-FirstLiteral.is c.requires.sound in
     subst (λ (k : NodeKind). TakesPiece m engines k c.args.part.now c.args.part.now c.args.chunk.now.prev c.args.chunk.now.at c.args.chunk.now.past.now c.args.chunk.now.bytes.now hits c.args.enters.now c.ends_of.result) (sym c.in-FirstLiteral.is)
     (first-takes m engines c.in-FirstLiteral.number _ c.args.part.now c.args.part.now c.args.chunk.now.prev c.args.chunk.now.at c.args.chunk.now.past.now c.args.chunk.now.bytes.now hits c.args.enters.now c.ends_of.result
     _ sound.1 (slice_get-get_or hits c.in-FirstLiteral.number _ sound.0) c.ends_of.ensures)
 
 pub returns-in-Engine-clause-ticks : goal.returns-in-Engine-clause-ticks
-returns-in-Engine-clause-ticks g c = subst (λ (k : NodeKind). c.run_engine.new.steps ≤ c.args.steps.now + most_ticks k c.args.found.now.hits.now (length c.args.chunk.now.bytes.now)) (sym c.in-Engine.is) c.run_engine.ensures.ticks
+returns-in-Engine-clause-ticks g c = subst (λ (k : NodeKind). c.run_engine.new.steps ≤ c.args.steps.now + most_ticks k c.args.found.now.foretold.now.hits.now (length c.args.chunk.now.bytes.now)) (sym c.in-Engine.is) c.run_engine.ensures.ticks
 
 pub bounds-engines-pair : goal.bounds-engines-pair
-bounds-engines-pair g c = (subst (λ (k : NodeKind). IsKindSound g.E.Engine.meaning c.args.engines.now (length c.args.found.now.hits.now) k (length c.args.part.now)) c.in-LookBack.is c.requires.sound).0.there
+bounds-engines-pair g c = (subst (λ (k : NodeKind). IsKindSound g.E.Engine.meaning c.args.engines.now (length c.args.found.now.foretold.now.hits.now) k (length c.args.part.now)) c.in-LookBack.is c.requires.sound).0.there
 
-pub bounds-found-pair : goal.bounds-found-pair
-bounds-found-pair g c = (subst (λ (k : NodeKind). IsKindSound g.E.Engine.meaning c.args.engines.now (length c.args.found.now.hits.now) k (length c.args.part.now)) c.in-LookBack.is c.requires.sound).1
+pub bounds-hits-pair : goal.bounds-hits-pair
+bounds-hits-pair g c = (subst (λ (k : NodeKind). IsKindSound g.E.Engine.meaning c.args.engines.now (length c.args.found.now.foretold.now.hits.now) k (length c.args.part.now)) c.in-LookBack.is c.requires.sound).1
 
 pub run_pair-requires-clause-room : goal.run_pair-requires-clause-room
 run_pair-requires-clause-room g c =
     let engines = c.args.engines.now in
-    let sound = subst (λ (k : NodeKind). IsKindSound g.E.Engine.meaning engines (length c.args.found.now.hits.now) k (length c.args.part.now)) c.in-LookBack.is c.requires.sound in
+    let sound = subst (λ (k : NodeKind). IsKindSound g.E.Engine.meaning engines (length c.args.found.now.foretold.now.hits.now) k (length c.args.part.now)) c.in-LookBack.is c.requires.sound in
     (sound.0.each c.index-engines-pair.result (slice_get_read engines (length engines) c.in-LookBack.pair.engine c.index-engines-pair.result refl sound.0.there c.index-engines-pair.is)).0
 
 pub run_pair-requires-clause-listed : goal.run_pair-requires-clause-listed
 run_pair-requires-clause-listed g c =
     let engines = c.args.engines.now in
-    let sound = subst (λ (k : NodeKind). IsKindSound g.E.Engine.meaning engines (length c.args.found.now.hits.now) k (length c.args.part.now)) c.in-LookBack.is c.requires.sound in
+    let sound = subst (λ (k : NodeKind). IsKindSound g.E.Engine.meaning engines (length c.args.found.now.foretold.now.hits.now) k (length c.args.part.now)) c.in-LookBack.is c.requires.sound in
     (sound.0.each c.index-engines-pair.result (slice_get_read engines (length engines) c.in-LookBack.pair.engine c.index-engines-pair.result refl sound.0.there c.index-engines-pair.is)).1
 
 pub run_pair-requires-clause-some : goal.run_pair-requires-clause-some
-run_pair-requires-clause-some g c = (subst (λ (k : NodeKind). IsKindSound g.E.Engine.meaning c.args.engines.now (length c.args.found.now.hits.now) k (length c.args.part.now)) c.in-LookBack.is c.requires.sound).2
+run_pair-requires-clause-some g c = (subst (λ (k : NodeKind). IsKindSound g.E.Engine.meaning c.args.engines.now (length c.args.found.now.foretold.now.hits.now) k (length c.args.part.now)) c.in-LookBack.is c.requires.sound).2
 
 pub run_pair-requires-clause-short : goal.run_pair-requires-clause-short
-run_pair-requires-clause-short g c = (subst (λ (k : NodeKind). IsKindSound g.E.Engine.meaning c.args.engines.now (length c.args.found.now.hits.now) k (length c.args.part.now)) c.in-LookBack.is c.requires.sound).3
+run_pair-requires-clause-short g c = (subst (λ (k : NodeKind). IsKindSound g.E.Engine.meaning c.args.engines.now (length c.args.found.now.foretold.now.hits.now) k (length c.args.part.now)) c.in-LookBack.is c.requires.sound).3
 
 pub returns-in-LookBack-clause-well : goal.returns-in-LookBack-clause-well
 returns-in-LookBack-clause-well g c = subst (λ (k : NodeKind). IsWellPart g.E.Engine.meaning c.args.engines.now k c.args.part.now (c.args.chunk.now.at + length c.args.chunk.now.bytes.now)) (sym c.in-LookBack.is) tt
 
 pub returns-in-LookBack-clause-ticks : goal.returns-in-LookBack-clause-ticks
 returns-in-LookBack-clause-ticks g c =
-    let hits = c.args.found.now.hits.now in
+    let hits = c.args.found.now.foretold.now.hits.now in
     let count = length c.args.chunk.now.bytes.now in
     let sound = subst (λ (k : NodeKind). IsKindSound g.E.Engine.meaning c.args.engines.now (length hits) k (length c.args.part.now)) c.in-LookBack.is c.requires.sound in
     subst (λ (k : NodeKind). c.run_pair.new.steps ≤ c.args.steps.now + most_ticks k hits count) (sym c.in-LookBack.is)
@@ -161,7 +161,7 @@ pub returns-in-LookBack-clause-takes : goal.returns-in-LookBack-clause-takes
 returns-in-LookBack-clause-takes g c =
     let m = g.E.Engine.meaning in
     let engines = c.args.engines.now in
-    let hits = c.args.found.now.hits.now in
+    let hits = c.args.found.now.foretold.now.hits.now in
     let sound = subst (λ (k : NodeKind). IsKindSound m engines (length hits) k (length c.args.part.now)) c.in-LookBack.is c.requires.sound in
     subst (λ (k : NodeKind). TakesPiece m engines k c.args.part.now c.args.part.now c.args.chunk.now.prev c.args.chunk.now.at c.args.chunk.now.past.now c.args.chunk.now.bytes.now hits c.args.enters.now c.run_pair.result) (sym c.in-LookBack.is)
     (pair-takes m engines c.in-LookBack.pair c.args.part.now c.args.part.now c.args.chunk.now.prev c.args.chunk.now.at c.args.chunk.now.past.now c.args.chunk.now.bytes.now hits c.args.enters.now c.run_pair.result
@@ -170,5 +170,5 @@ returns-in-LookBack-clause-takes g c =
 pub run_engine-requires-clause-told : goal.run_engine-requires-clause-told
 run_engine-requires-clause-told g c k t is some =
     let engines = c.args.engines.now in
-    let sound = subst (λ (k : NodeKind). IsKindSound g.E.Engine.meaning engines (length c.args.found.now.hits.now) k (length c.args.part.now)) c.in-Engine.is c.requires.sound in
+    let sound = subst (λ (k : NodeKind). IsKindSound g.E.Engine.meaning engines (length c.args.found.now.foretold.now.hits.now) k (length c.args.part.now)) c.in-Engine.is c.requires.sound in
     c.requires.told k t is some c.in-Engine.number c.in-Engine.null c.index-engines-number.result c.in-Engine.is (slice_get_read engines (length engines) c.in-Engine.number c.index-engines-number.result refl sound.there c.index-engines-number.is)

@@ -4,6 +4,7 @@ use Rattle.hs_waking.specs.Starts.{start_word}
 use Rattle.hs_lazy.specs.Caches.{told}
 use Rattle.hs_nodes.specs.Waking.{no_places}
 use Rattle.hs_nodes.proofs.CachedLemmas.{none-some, told-true}
+use Rattle.hs_nodes.proofs.RestLemmas.{byte-small}
 use Rattle.hs_nodes.proofs.waking.wake_engine.Goals as goal
 
 pub returns-then-is_woken-clause-starts : goal.returns-then-is_woken-clause-starts
@@ -12,7 +13,7 @@ returns-then-is_woken-clause-starts g c node there untold =
     let list = graph.wakes.first_engines.items in
     let k = slice_index list c.args.place in
     let same : c.start_of-k.result ≡ k = c.start_of-k.ensures ∙ ap (λ xs. slice_index xs c.args.place) c.deref.ensures.value in
-    row-starts g.E.Engine.meaning graph.table graph.wakes c.args.place k c.args.prev c.args.bytes.now c.start_places-places.result c.tell.new.self c.requires.rows c.requires.few (λ i low. (c.type_inv.bytes i).fits) (read-there list c.args.place c.requires.place)
+    row-starts g.E.Engine.meaning graph.table graph.wakes c.args.place k c.args.chunk.now.prev c.args.chunk.now.bytes.now c.start_places-places.result c.tell.new.self c.requires.rows c.args.chunk.now.few (λ i low. byte-small c.args.chunk.now.bytes.now i c.requires.small low) (read-there list c.args.place c.requires.place)
     (λ below j small. ap (λ i. start_word c.tell.new.self i j) (sym same) ∙ c.tell.ensures.own (omega (arith, below, same, c.tell.ensures.count)) j small)
     node there c.start_places-places.ensures.places
 
@@ -22,7 +23,7 @@ returns-else-is_woken-clause-starts g c node there untold =
     let list = graph.wakes.first_engines.items in
     let k = slice_index list c.args.place in
     let same : c.start_of-k.result ≡ k = c.start_of-k.ensures ∙ ap (λ xs. slice_index xs c.args.place) c.deref.ensures.value in
-    row-starts g.E.Engine.meaning graph.table graph.wakes c.args.place k c.args.prev c.args.bytes.now c.start_places-places.result c.tell.new.self c.requires.rows c.requires.few (λ i low. (c.type_inv.bytes i).fits) (read-there list c.args.place c.requires.place)
+    row-starts g.E.Engine.meaning graph.table graph.wakes c.args.place k c.args.chunk.now.prev c.args.chunk.now.bytes.now c.start_places-places.result c.tell.new.self c.requires.rows c.args.chunk.now.few (λ i low. byte-small c.args.chunk.now.bytes.now i c.requires.small low) (read-there list c.args.place c.requires.place)
     (λ below j small. ap (λ i. start_word c.tell.new.self i j) (sym same) ∙ c.tell.ensures.own (omega (arith, below, same, c.tell.ensures.count)) j small)
     node there c.start_places-places.ensures.places
 
@@ -33,7 +34,7 @@ returns-else-is_woken-clause-asleep g c node there unmarked =
     let k = slice_index list c.args.place in
     let same : c.start_of-k.result ≡ k = c.start_of-k.ensures ∙ ap (λ xs. slice_index xs c.args.place) c.deref.ensures.value in
     let (never, none) = c.is_woken.ensures.asleep node (ap (slice_get graph.table.nodes.items) same ∙ there) c.if-is_woken.false in
-    starts-asleep g.E.Engine.meaning graph.table graph.wakes c.args.place k c.args.prev c.args.bytes.now c.start_places-places.result c.tell.new.self c.requires.rows c.requires.few (λ i low. (c.type_inv.bytes i).fits) (read-there list c.args.place c.requires.place)
+    starts-asleep g.E.Engine.meaning graph.table graph.wakes c.args.place k c.args.chunk.now.prev c.args.chunk.now.bytes.now c.start_places-places.result c.tell.new.self c.requires.rows c.args.chunk.now.few (λ i low. byte-small c.args.chunk.now.bytes.now i c.requires.small low) (read-there list c.args.place c.requires.place)
     (λ below j small. ap (λ i. start_word c.tell.new.self i j) (sym same) ∙ c.tell.ensures.own (omega (arith, below, same, c.tell.ensures.count)) j small)
     node there never none c.start_places-places.ensures.places
 
@@ -43,8 +44,8 @@ returns-then-is_ruled_out-clause-starts g c node there untold =
     let list = graph.wakes.first_engines.items in
     let k = slice_index list c.args.place in
     let same : c.start_of-k.result ≡ k = c.start_of-k.ensures ∙ ap (λ xs. slice_index xs c.args.place) c.deref.ensures.value in
-    let places = c.is_ruled_out.ensures.places c.args.prev c.args.bytes.now c.if-is_ruled_out.true c.requires.levels c.requires.few in
-    row-starts g.E.Engine.meaning graph.table graph.wakes c.args.place k c.args.prev c.args.bytes.now no_places c.tell_nowhere.new.self c.requires.rows c.requires.few (λ i low. (c.type_inv.bytes i).fits) (read-there list c.args.place c.requires.place)
+    let places = c.is_ruled_out.ensures.places c.args.chunk.now.prev c.args.chunk.now.bytes.now c.if-is_ruled_out.true c.requires.levels c.args.chunk.now.few in
+    row-starts g.E.Engine.meaning graph.table graph.wakes c.args.place k c.args.chunk.now.prev c.args.chunk.now.bytes.now no_places c.tell_nowhere.new.self c.requires.rows c.args.chunk.now.few (λ i low. byte-small c.args.chunk.now.bytes.now i c.requires.small low) (read-there list c.args.place c.requires.place)
     (λ below j small. ap (λ i. start_word c.tell_nowhere.new.self i j) (sym same) ∙ (c.tell_nowhere.ensures.own (omega (arith, below, same, c.tell_nowhere.ensures.count)) j small ∙ sym (word-none j small)))
     node there places
 
@@ -54,9 +55,9 @@ returns-then-is_ruled_out-clause-asleep g c node there unmarked =
     let list = graph.wakes.first_engines.items in
     let k = slice_index list c.args.place in
     let same : c.start_of-k.result ≡ k = c.start_of-k.ensures ∙ ap (λ xs. slice_index xs c.args.place) c.deref.ensures.value in
-    let places = c.is_ruled_out.ensures.places c.args.prev c.args.bytes.now c.if-is_ruled_out.true c.requires.levels c.requires.few in
+    let places = c.is_ruled_out.ensures.places c.args.chunk.now.prev c.args.chunk.now.bytes.now c.if-is_ruled_out.true c.requires.levels c.args.chunk.now.few in
     let never = c.is_ruled_out.ensures.never node (ap (slice_get graph.table.nodes.items) same ∙ there) c.if-is_ruled_out.true in
-    starts-asleep g.E.Engine.meaning graph.table graph.wakes c.args.place k c.args.prev c.args.bytes.now no_places c.tell_nowhere.new.self c.requires.rows c.requires.few (λ i low. (c.type_inv.bytes i).fits) (read-there list c.args.place c.requires.place)
+    starts-asleep g.E.Engine.meaning graph.table graph.wakes c.args.place k c.args.chunk.now.prev c.args.chunk.now.bytes.now no_places c.tell_nowhere.new.self c.requires.rows c.args.chunk.now.few (λ i low. byte-small c.args.chunk.now.bytes.now i c.requires.small low) (read-there list c.args.place c.requires.place)
     (λ below j small. ap (λ i. start_word c.tell_nowhere.new.self i j) (sym same) ∙ (c.tell_nowhere.ensures.own (omega (arith, below, same, c.tell_nowhere.ensures.count)) j small ∙ sym (word-none j small)))
     node there never (zero-places no_places word-none) places
 

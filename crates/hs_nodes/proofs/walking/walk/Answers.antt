@@ -36,14 +36,14 @@ mark_children-requires-clause-end g c =
 pub mark_children-requires-clause-literals : goal.mark_children-requires-clause-literals
 mark_children-requires-clause-literals g c child node at =
     let table = c.args.table.now in
-    literal-there g.E.Engine.meaning table.engines.items node.kind (length c.args.hits.now) (node.end - node.start) (c.requires.sound.kinds child node at)
+    literal-there g.E.Engine.meaning table.engines.items node.kind (length c.args.foretold.now.hits.now) (node.end - node.start) (c.requires.sound.kinds child node at)
 
 pub loop-k-preserved : goal.loop-k-preserved
 loop-k-preserved g c =
     let m = g.E.Engine.meaning in
     let table = c.args.table.now in
     let chunk = c.args.chunk.now in
-    let hits = c.args.hits.now in
+    let hits = c.args.foretold.now.hits.now in
     let k = c.in-Some.k in
     let inv = c.loop-k.invariant in
     let below : k < length table.nodes.items = inv.walk.more.below k c.in-Some.ensures.is in
@@ -75,7 +75,7 @@ loop-k-preserved g c =
 
 pub returns-clause-ticks : goal.returns-clause-ticks
 returns-clause-ticks g c =
-    let up = ticks-all c.args.table.now.nodes.items c.loop-k.from c.args.hits.now (length c.args.chunk.now.bytes.now) in
+    let up = ticks-all c.args.table.now.nodes.items c.loop-k.from c.args.foretold.now.hits.now (length c.args.chunk.now.bytes.now) in
     omega (arith, up, c.loop-k.invariant.steps)
 
 pub returns-clause-well : goal.returns-clause-well
@@ -84,8 +84,8 @@ returns-clause-well g c =
     let chunk = c.args.chunk.now in
     let inv = c.loop-k.invariant in
     let room = inv.walk.more.room in
-    walk-well g.E.Engine.meaning table c.args.region.now c.args.marks.now chunk.prev chunk.at chunk.past.now chunk.bytes.now c.args.hits.now c.requires.sound chunk.few c.loop-k.region c.loop-k.ends c.loop-k.marks
-    (walk-to g.E.Engine.meaning table c.args.region.now c.args.marks.now chunk.prev chunk.at chunk.past.now chunk.bytes.now c.args.hits.now c.requires.sound chunk.few c.requires.rests c.loop-k.region c.loop-k.ends c.loop-k.marks c.loop-k.from (length table.nodes.items - c.loop-k.from) (length table.nodes.items)
+    walk-well g.E.Engine.meaning table c.args.region.now c.args.marks.now chunk.prev chunk.at chunk.past.now chunk.bytes.now c.args.foretold.now.hits.now c.requires.sound chunk.few c.loop-k.region c.loop-k.ends c.loop-k.marks
+    (walk-to g.E.Engine.meaning table c.args.region.now c.args.marks.now chunk.prev chunk.at chunk.past.now chunk.bytes.now c.args.foretold.now.hits.now c.requires.sound chunk.few c.requires.rests c.loop-k.region c.loop-k.ends c.loop-k.marks c.loop-k.from (length table.nodes.items - c.loop-k.from) (length table.nodes.items)
     (omega (arith, inv.walk.within)) (omega arith) (λ j low high. c.in_default.ensures j low (omega (arith, room, c.requires.room))) inv.walk)
 
 pub returns-clause-takes : goal.returns-clause-takes
@@ -94,6 +94,6 @@ returns-clause-takes g c =
     let chunk = c.args.chunk.now in
     let inv = c.loop-k.invariant in
     let room = inv.walk.more.room in
-    walk-takes g.E.Engine.meaning table c.args.region.now c.args.marks.now chunk.prev chunk.at chunk.past.now chunk.bytes.now c.args.hits.now c.requires.sound chunk.few c.loop-k.region c.loop-k.ends c.loop-k.marks
-    (walk-to g.E.Engine.meaning table c.args.region.now c.args.marks.now chunk.prev chunk.at chunk.past.now chunk.bytes.now c.args.hits.now c.requires.sound chunk.few c.requires.rests c.loop-k.region c.loop-k.ends c.loop-k.marks c.loop-k.from (length table.nodes.items - c.loop-k.from) (length table.nodes.items)
+    walk-takes g.E.Engine.meaning table c.args.region.now c.args.marks.now chunk.prev chunk.at chunk.past.now chunk.bytes.now c.args.foretold.now.hits.now c.requires.sound chunk.few c.loop-k.region c.loop-k.ends c.loop-k.marks
+    (walk-to g.E.Engine.meaning table c.args.region.now c.args.marks.now chunk.prev chunk.at chunk.past.now chunk.bytes.now c.args.foretold.now.hits.now c.requires.sound chunk.few c.requires.rests c.loop-k.region c.loop-k.ends c.loop-k.marks c.loop-k.from (length table.nodes.items - c.loop-k.from) (length table.nodes.items)
     (omega (arith, inv.walk.within)) (omega arith) (λ j low high. c.in_default.ensures j low (omega (arith, room, c.requires.room))) inv.walk)

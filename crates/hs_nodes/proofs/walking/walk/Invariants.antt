@@ -10,8 +10,8 @@ invariant-loop-k g l = record {
   ends : length l.ends ≡ length l.table.nodes.items;
   contexts : length l.contexts ≡ 8;
   made : l.are_made ≡ true → AreChunkContexts l.contexts l.chunk.prev l.chunk.at l.chunk.bytes.now;
-  steps : l.steps ≤ l.initial.steps + nodes_ticks (take l.from l.table.nodes.items) l.hits (length l.chunk.bytes.now);
-  walk : IsWalk g.E.Engine.meaning l.table l.fn.region l.fn.marks l.chunk.prev l.chunk.at l.chunk.past.now l.chunk.bytes.now l.hits l.region l.ends l.marks l.from;
+  steps : l.steps ≤ l.initial.steps + nodes_ticks (take l.from l.table.nodes.items) l.foretold.hits.now (length l.chunk.bytes.now);
+  walk : IsWalk g.E.Engine.meaning l.table l.fn.region l.fn.marks l.chunk.prev l.chunk.at l.chunk.past.now l.chunk.bytes.now l.foretold.hits.now l.region l.ends l.marks l.from;
 }
 
 abbrev pub decreases-loop-k : goal.decreases-loop-k

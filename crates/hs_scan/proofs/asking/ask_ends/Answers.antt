@@ -7,8 +7,8 @@ use Rattle.hs_scan.proofs.asking.ask_ends.Goals as goal
 pub returns-clause-asks : goal.returns-clause-asks
 returns-clause-asks g c =
     let m = g.E.Engine.meaning in
-    let graph = c.args.graph.now in
-    let literals = held c.args.literals.now in
+    let graph = c.args.tables.now.graph.now in
+    let literals = held c.args.tables.now.literals.now in
     let region = c.args.region.now in
     let next = c.args.next in
     let s = c.args.scratch.now in

@@ -56,6 +56,7 @@ returns-clause-asks g c =
       };
       hits = refl;
       rows = refl;
+      starts = refl;
       course = refl;
       last = refl;
       past = refl;

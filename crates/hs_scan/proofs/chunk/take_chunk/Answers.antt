@@ -11,14 +11,14 @@ use Rattle.hs_scan.proofs.chunk.take_chunk.Goals as goal
 
 pub walk-requires-clause-rests : goal.walk-requires-clause-rests
 walk-requires-clause-rests g c =
-    resting-may g.E.Engine.meaning c.args.graph.now.table c.args.course.now.marks c.args.hits.now c.args.region.now c.args.chunk.now.bytes.now c.args.chunk.now.prev c.requires.small c.requires.resting c.requires.unwoken
+    resting-may g.E.Engine.meaning c.args.graph.now.table c.args.course.now.marks c.args.foretold.now.hits.now c.args.region.now c.args.chunk.now.bytes.now c.args.chunk.now.prev c.requires.small c.requires.resting c.requires.unwoken
 
 pub tell_chunk-requires-clause-rest : goal.tell_chunk-requires-clause-rest
 tell_chunk-requires-clause-rest g c = passed-nowhere g.E.Engine.meaning c.args.graph.now c.walk.new.marks c.args.region.now c.walk.new.region c.walk.new.ends c.walk.ensures.changes
 
 pub settle-requires-clause-sound : goal.settle-requires-clause-sound
 settle-requires-clause-sound g c =
-    let hits = c.args.hits.now in
+    let hits = c.args.foretold.now.hits.now in
     (length hits, subst (λ n. IsTableSound g.E.Engine.meaning c.args.graph.now.table (length hits) n) (sym c.walk.ensures.changes.len) c.requires.table)
 
 pub settle-requires-clause-nowhere : goal.settle-requires-clause-nowhere
@@ -38,7 +38,7 @@ returns-clause-scans g c =
     let m = g.E.Engine.meaning in
     let graph = c.args.graph.now in
     let chunk = c.args.chunk.now in
-    let hits = c.args.hits.now in
+    let hits = c.args.foretold.now.hits.now in
     let known = c.args.course.now.known in
     let then = c.tell_chunk.new.known in
     let ends = c.walk.new.ends in
@@ -51,5 +51,5 @@ returns-clause-scans g c =
 
 pub returns-clause-ticks : goal.returns-clause-ticks
 returns-clause-ticks g c =
-    let most = nodes-most c.args.graph.now.table.nodes.items c.args.hits.now (length c.args.chunk.now.bytes.now) in
+    let most = nodes-most c.args.graph.now.table.nodes.items c.args.foretold.now.hits.now (length c.args.chunk.now.bytes.now) in
     omega (arith, most, c.walk.ensures.ticks)

@@ -19,13 +19,13 @@ use Rattle.hs_scan.proofs.ScratchLemmas.{graph-room, hit-rows}
 use Rattle.hs_scan.proofs.finishing.finish.Goals as goal
 
 pub begin_write-requires-clause-room : goal.begin_write-requires-clause-room
-begin_write-requires-clause-room g c = graph-room c.args.graph.now (length (held c.args.literals.now)) c.args.scratch.now c.requires.idle c.requires.scratch
+begin_write-requires-clause-room g c = graph-room c.args.tables.now.graph.now (length (held c.args.tables.now.literals.now)) c.args.scratch.now c.requires.idle c.requires.scratch
 
 pub ask_ends-requires-clause-well : goal.ask_ends-requires-clause-well
-ask_ends-requires-clause-well g c = subst (AreNodesWell g.E.Engine.meaning c.args.graph.now.table c.args.region.now) (sym c.begin_write.ensures.at_is) c.requires.region.nodes
+ask_ends-requires-clause-well g c = subst (AreNodesWell g.E.Engine.meaning c.args.tables.now.graph.now.table c.args.region.now) (sym c.begin_write.ensures.at_is) c.requires.region.nodes
 
 pub ask_ends-requires-clause-rows : goal.ask_ends-requires-clause-rows
-ask_ends-requires-clause-rows g c = ap (λ r. r.count) c.begin_write.ensures.rows ∙ hit-rows c.args.graph.now (length (held c.args.literals.now)) c.args.scratch.now c.requires.idle c.requires.scratch
+ask_ends-requires-clause-rows g c = ap (λ r. r.count) c.begin_write.ensures.rows ∙ hit-rows c.args.tables.now.graph.now (length (held c.args.tables.now.literals.now)) c.args.scratch.now c.requires.idle c.requires.scratch
 
 pub ask_ends-requires-clause-none : goal.ask_ends-requires-clause-none
 ask_ends-requires-clause-none g c k = subst (λ v. HasNowhere v.items k) (sym c.begin_write.ensures.hits) (c.requires.idle.none k)
@@ -39,9 +39,9 @@ ask_ends-requires-clause-small g c = omega (arith, c.begin_write.ensures.at_is, 
 pub returns-clause-taken : goal.returns-clause-taken
 returns-clause-taken g c =
     let m = g.E.Engine.meaning in
-    let graph = c.args.graph.now in
-    let literals = held c.args.literals.now in
-    let l = c.args.layout.now in
+    let graph = c.args.tables.now.graph.now in
+    let literals = held c.args.tables.now.literals.now in
+    let l = c.args.tables.now.layout.now in
     let region = c.args.region.now in
     let ids = graph.identifiers.items in
     let tells = g.V.Events.tells in
@@ -68,4 +68,4 @@ returns-clause-taken g c =
 pub returns-clause-alike : goal.returns-clause-alike
 returns-clause-alike g c =
     let taken = returns-clause-taken g c in
-    finishes-alike g.E.Engine.meaning c.args.graph.now (held c.args.literals.now) c.args.layout.now c.args.region.now taken.pairs taken.holds
+    finishes-alike g.E.Engine.meaning c.args.tables.now.graph.now (held c.args.tables.now.literals.now) c.args.tables.now.layout.now c.args.region.now taken.pairs taken.holds

@@ -2,8 +2,6 @@ use Rattle.std.proofs.Common.{◌≡◌, ◌+◌, ℕ, List, [], ◌∷◌, ◌+
 use Rattle.hs_base.specs.Assertions.{line_feed}
 use Rattle.hs_literals.specs.Held.{held}
 use Rattle.hs_nodes.specs.Blocks.{EndsBehind}
-use Rattle.hs_nodes.specs.Resting.{AreNodesResting}
-use Rattle.hs_scan.specs.declared.chunk.Course.{Course}
 use Rattle.hs_scan.specs.Scans.{Scans, ScansChunk, stand}
 use Rattle.hs_scan.specs.Scratches.{stand_of}
 use Rattle.hs_scan.specs.Writing.{LeavesLineFeedChunk, LeavesToEnd}
@@ -11,33 +9,26 @@ use Rattle.hs_scan.proofs.LineFeedLemmas.{line_feed-ends}
 use Rattle.hs_scan.proofs.BlockLemmas.{takes-as}
 use Rattle.hs_scan.proofs.PastLemmas.{early-pushed}
 use Rattle.hs_scan.proofs.ScanLemmas.{chunk-scans}
+use Rattle.hs_scan.proofs.BetweenLemmas.{between-kept, found-keeps, pushed-length}
 use Rattle.hs_scan.proofs.last_byte.scan_asked.Goals as goal
 
 pub run_line_feed-requires-clause-others : goal.run_line_feed-requires-clause-others
 run_line_feed-requires-clause-others g c k none =
     c.find_hits.ensures.others k none
 
-pub run_line_feed-requires-clause-resting : goal.run_line_feed-requires-clause-resting
-run_line_feed-requires-clause-resting g c =
-    subst (λ (k : Course). AreNodesResting g.E.Engine.meaning c.args.graph.now.table k.marks c.args.region.now) (sym c.find_hits.ensures.course) c.requires.resting
-
-pub returns-clause-resting : goal.returns-clause-resting
-returns-clause-resting g c =
-    subst (λ (k : Course). AreNodesResting g.E.Engine.meaning c.args.graph.now.table k.marks c.run_line_feed.new.region) (sym c.forget.ensures.course) c.run_line_feed.ensures.resting
-
 pub returns-clause-early : goal.returns-clause-early
 returns-clause-early g c =
     let s = c.args.scratch.now in
     let past_is : c.forget.new.scratch.past ≡ s.past = c.forget.ensures.past ∙ (c.run_line_feed.ensures.keeps.past ∙ c.find_hits.ensures.past) in
     let at_is : c.forget.new.scratch.at ≡ s.at = c.forget.ensures.at_is ∙ (c.run_line_feed.ensures.keeps.at_is ∙ c.find_hits.ensures.at_is) in
-    early-pushed s.past c.push_past.new.past (line_feed ∷ []) s.at (c.forget.new.scratch.at + length (line_feed ∷ [])) c.requires.room.past
+    early-pushed s.past c.push_past.new.past (line_feed ∷ []) s.at (c.forget.new.scratch.at + length (line_feed ∷ [])) c.requires.before.room.past
     (c.push_past.ensures ∙ ap (λ (xs : List ℕ). drop (length (line_feed ∷ [])) (xs ++ (line_feed ∷ []))) past_is) (ap (λ n. n + length (line_feed ∷ [])) at_is)
 
 pub returns-clause-scans : goal.returns-clause-scans
 returns-clause-scans g c =
     let m = g.E.Engine.meaning in
-    let graph = c.args.graph.now in
-    let literals = held c.args.literals.now in
+    let graph = c.args.tables.now.graph.now in
+    let literals = held c.args.tables.now.literals.now in
     let bytes : List ℕ = line_feed ∷ [] in
     let r0 = c.args.region.now in
     let r1 = c.run_line_feed.new.region in
@@ -73,8 +64,8 @@ returns-clause-scans g c =
 pub returns-clause-left : goal.returns-clause-left
 returns-clause-left g c =
     let m = g.E.Engine.meaning in
-    let graph = c.args.graph.now in
-    let literals = held c.args.literals.now in
+    let graph = c.args.tables.now.graph.now in
+    let literals = held c.args.tables.now.literals.now in
     let s = c.args.scratch.now in
     let s1 = c.find_hits.new.scratch in
     let s2 = c.find_hits.new.scratch in
@@ -93,3 +84,24 @@ returns-clause-left g c =
     subst (λ v. LeavesToEnd m graph literals (stand_of s r0) (line_feed ∷ []) v.items) (sym last)
     (line_feed-ends m graph literals s.at s.past r0 s.course.known.told.items s.course.known.here.items prev s1.hits.items s.finals c.run_line_feed.new.scratch.last.items
     (λ u e e'. subst (λ n. EndsBehind u prev n) found.at_is (c.prev_of.ensures u (found.at_is ∙ e) (found.past ∙ e'))) found.hits c.requires.asks four)
+
+pub run_line_feed-requires-clause-before : goal.run_line_feed-requires-clause-before
+run_line_feed-requires-clause-before g c =
+    let found = c.find_hits.ensures in
+    between-kept g.E.Engine.meaning c.args.tables.now.graph.now c.args.region.now c.args.cache.now found.at_is (found-keeps found) c.requires.before
+
+pub returns-clause-behind : goal.returns-clause-behind
+returns-clause-behind g c =
+    let behind = c.run_line_feed.ensures.behind in
+    let forgot = c.forget.ensures in
+    let size = pushed-length c.forget.new.scratch.past (line_feed ∷ []) c.push_past.new.past (ap length forgot.past ∙ behind.room.past) c.push_past.ensures in
+    between-kept g.E.Engine.meaning c.args.tables.now.graph.now c.run_line_feed.new.region c.run_line_feed.new.cache (ap (λ n. n + length (line_feed ∷ [])) (forgot.at_is ∙ c.run_line_feed.ensures.keeps.at_is))
+    (record {
+      ends = forgot.ends;
+      course = forgot.course;
+      hits = forgot.count;
+      rows = ap (λ r. r.count) forgot.rows;
+      finals = ap (λ f. length f.words) forgot.finals;
+      last = ap (λ v. length v.items) forgot.last;
+      past = size ∙ sym behind.room.past;
+    }) behind

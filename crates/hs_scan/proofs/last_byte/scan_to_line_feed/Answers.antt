@@ -12,8 +12,8 @@ use Rattle.hs_scan.proofs.last_byte.scan_to_line_feed.Goals as goal
 pub returns-clause-scans : goal.returns-clause-scans
 returns-clause-scans g c =
     let m = g.E.Engine.meaning in
-    let graph = c.args.graph.now in
-    let literals = held c.args.literals.now in
+    let graph = c.args.tables.now.graph.now in
+    let literals = held c.args.tables.now.literals.now in
     let bytes = c.args.bytes.now in
     let n : ℕ = length bytes - 1 in
     let first = stand_of c.args.scratch.now c.args.region.now in
@@ -25,7 +25,7 @@ returns-clause-scans g c =
 pub returns-clause-left : goal.returns-clause-left
 returns-clause-left g c =
     let taken = c.scan_bytes.ensures.scans in
-    line_feed-left_behind g.E.Engine.meaning c.args.graph.now (held c.args.literals.now) (stand_of c.args.scratch.now c.args.region.now) (stand_of c.scan_bytes.new.scratch c.scan_bytes.new.region) c.args.bytes.now (length c.args.bytes.now - 1) taken.pairs c.scan_line_feed.new.scratch.last.items
+    line_feed-left_behind g.E.Engine.meaning c.args.tables.now.graph.now (held c.args.tables.now.literals.now) (stand_of c.args.scratch.now c.args.region.now) (stand_of c.scan_bytes.new.scratch c.scan_bytes.new.region) c.args.bytes.now (length c.args.bytes.now - 1) taken.pairs c.scan_line_feed.new.scratch.last.items
     (omega (arith, c.requires.some)) c.requires.ends taken.holds c.scan_line_feed.ensures.left
 
 pub returns-clause-early : goal.returns-clause-early
@@ -36,7 +36,7 @@ returns-clause-outside g c i out = c.scan_line_feed.ensures.outside i out ∙ c.
 
 pub returns-clause-ticks : goal.returns-clause-ticks
 returns-clause-ticks g c =
-    let nodes : ℕ = length c.args.graph.now.table.nodes.items in
+    let nodes : ℕ = length c.args.tables.now.graph.now.table.nodes.items in
     let bytes = c.args.bytes.now in
     let n : ℕ = length bytes - 1 in
     let size : length (take n bytes) ≡ n = length-take-le n bytes (omega arith) in

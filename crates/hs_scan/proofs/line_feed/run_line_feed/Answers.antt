@@ -16,13 +16,16 @@ use Rattle.hs_scan.proofs.ScanLemmas.{chunk-takes}
 use Rattle.hs_nodes.proofs.TickLemmas.{nodes-most}
 use Rattle.hs_scan.proofs.line_feed.run_line_feed.Goals as goal
 
+pub wake-requires-clause-small : goal.wake-requires-clause-small
+wake-requires-clause-small g c = subst (Each (λ b. b < 256)) (sym c.requires.bytes) (omega arith, tt)
+
 pub walk-requires-clause-rests : goal.walk-requires-clause-rests
 walk-requires-clause-rests g c =
     let m = g.E.Engine.meaning in
     let s = c.args.scratch.now in
     let graph = c.args.graph.now in
     let bytes = c.args.chunk.now.bytes.now in
-    let rests = resting-more m graph.table (length graph.table.nodes.items) s.course.marks c.wake.new.marks c.args.region.now c.wake.ensures.more c.requires.resting in
+    let rests = resting-more m graph.table (length graph.table.nodes.items) s.course.marks c.wake.new.marks c.args.region.now c.wake.ensures.more c.requires.before.resting in
     let small : Each (λ b. b < 256) bytes = subst (Each (λ b. b < 256)) (sym c.requires.bytes) (omega arith, tt) in
     subst (λ hs. MayNodesRest m graph.table c.wake.new.marks hs c.args.region.now c.args.chunk.now.prev bytes) (sym c.deref.ensures.value)
     (resting-may m graph.table c.wake.new.marks s.hits.items c.args.region.now bytes c.args.chunk.now.prev small rests (c.wake.ensures.unwoken s.hits.items c.requires.others))
@@ -51,7 +54,7 @@ settle-requires-clause-resting g c =
     let table = c.args.graph.now.table in
     let marks = c.args.scratch.now.course.marks in
     let r0 = c.args.region.now in
-    let rests = resting-more m table (length table.nodes.items) marks c.wake.new.marks r0 c.wake.ensures.more c.requires.resting in
+    let rests = resting-more m table (length table.nodes.items) marks c.wake.new.marks r0 c.wake.ensures.more c.requires.before.resting in
     subst (λ ms. AreNodesResting m table ms c.walk.new.region) (sym c.tell_line_feed.ensures.keeps.marks)
     (resting-stay m table c.wake.new.marks c.walk.new.marks r0 c.walk.new.region c.walk.new.ends c.walk.ensures.marks c.walk.ensures.changes rests)
 
@@ -82,7 +85,7 @@ returns-clause-scans g c =
     takes-as g.V.Events.tells c.args.events.now c.tell_line_feed.new.events
     (TellsBlock m graph bytes chunk.at ends all 0 known.told.items known.here.items then.told.items then.here.items)
     (ScansChunk m graph c.args.region.now c.walk.new.region chunk.prev chunk.at chunk.past.now bytes s.hits.items known.told.items known.here.items then.told.items then.here.items)
-    (λ ps tells. chunk-takes m graph chunk.at c.args.region.now c.walk.new.region known.told.items known.here.items then.told.items then.here.items chunk.prev chunk.past.now bytes s.hits.items ends all ps (ap length now ∙ (len ∙ c.requires.room.room.count)) c.everywhere-all.ensures
+    (λ ps tells. chunk-takes m graph chunk.at c.args.region.now c.walk.new.region known.told.items known.here.items then.told.items then.here.items chunk.prev chunk.past.now bytes s.hits.items ends all ps (ap length now ∙ (len ∙ c.requires.before.room.room.count)) c.everywhere-all.ensures
     takes (first-tells m graph bytes chunk.at ends all known.told.items known.here.items then.told.items then.here.items ps c.requires.bytes tells)) c.tell_line_feed.ensures.told
 
 pub returns-clause-left : goal.returns-clause-left
@@ -100,4 +103,4 @@ returns-clause-left g c =
     let took = subst (λ es. TakesNodes m graph.table c.args.region.now c.walk.new.region chunk.prev chunk.at chunk.past.now bytes c.deref.result.now es) (sym now) c.walk.ensures.takes in
     let takes = subst (λ hs. TakesNodes m graph.table c.args.region.now c.walk.new.region chunk.prev chunk.at chunk.past.now bytes hs ends) c.deref.ensures.value took in
     line_feed-chunk m graph chunk.at c.args.region.now c.walk.new.region known.told.items known.here.items chunk.prev chunk.past.now bytes s.hits.items ends c.everywhere-all.result s.finals c.tell_line_feed.new.scratch.last.items
-    (ap length now ∙ (len ∙ c.requires.room.room.count)) c.everywhere-all.ensures takes c.tell_line_feed.ensures.left
+    (ap length now ∙ (len ∙ c.requires.before.room.room.count)) c.everywhere-all.ensures takes c.tell_line_feed.ensures.left

@@ -5,7 +5,7 @@ use Rattle.hs_scan.proofs.scanning.run_chunk.Goals as goal
 
 pub take_chunk-requires-clause-resting : goal.take_chunk-requires-clause-resting
 take_chunk-requires-clause-resting g c =
-    resting-more g.E.Engine.meaning c.args.graph.now.table (length c.args.graph.now.table.nodes.items) c.args.scratch.now.course.marks c.wake.new.marks c.args.region.now c.wake.ensures.more c.requires.resting
+    resting-more g.E.Engine.meaning c.args.graph.now.table (length c.args.graph.now.table.nodes.items) c.args.scratch.now.course.marks c.wake.new.marks c.args.region.now c.wake.ensures.more c.requires.before.resting
 
 pub take_chunk-requires-clause-unwoken : goal.take_chunk-requires-clause-unwoken
 take_chunk-requires-clause-unwoken g c =

@@ -14,25 +14,21 @@ loop-from-init g c =
     record {
       within = omega arith;
       len = refl;
-      well = c.requires.well;
+      between = c.requires.before;
       outside = λ i out. refl;
-      room = c.requires.room;
       keeps = record { rows = refl; finals = refl; last = refl };
-      pending = c.requires.pending;
-      resting = c.requires.resting;
-      cache = c.requires.cache;
       none = c.requires.none;
       early = λ none. none;
       ticks = omega arith;
       at_is = omega arith;
-      scans = takes-none g.V.Events.tells c.args.events.now (Scans g.E.Engine.meaning c.args.graph.now (held c.args.literals.now) s s []) (scans-none g.E.Engine.meaning c.args.graph.now (held c.args.literals.now) s);
+      scans = takes-none g.V.Events.tells c.args.events.now (Scans g.E.Engine.meaning c.args.tables.now.graph.now (held c.args.tables.now.literals.now) s s []) (scans-none g.E.Engine.meaning c.args.tables.now.graph.now (held c.args.tables.now.literals.now) s);
     }
 
 pub loop-from-preserved : goal.loop-from-preserved
 loop-from-preserved g c =
     let m = g.E.Engine.meaning in
-    let graph = c.args.graph.now in
-    let literals = held c.args.literals.now in
+    let graph = c.args.tables.now.graph.now in
+    let literals = held c.args.tables.now.literals.now in
     let bytes = c.args.bytes.now in
     let inv = c.loop-from.invariant in
     let from : ℕ = c.loop-from.from in
@@ -46,13 +42,9 @@ loop-from-preserved g c =
     record {
       within = inside;
       len = c.scan_chunk.ensures.len ∙ inv.len;
-      well = c.scan_chunk.ensures.well;
+      between = c.scan_chunk.ensures.behind;
       outside = λ i out. c.scan_chunk.ensures.outside i out ∙ inv.outside i out;
-      room = c.scan_chunk.ensures.room;
       keeps = record { rows = c.scan_chunk.ensures.keeps.rows ∙ inv.keeps.rows; finals = c.scan_chunk.ensures.keeps.finals ∙ inv.keeps.finals; last = c.scan_chunk.ensures.keeps.last ∙ inv.keeps.last };
-      pending = c.scan_chunk.ensures.pending;
-      resting = c.scan_chunk.ensures.resting;
-      cache = c.scan_chunk.ensures.cache;
       none = c.scan_chunk.ensures.none;
       early = λ none. c.scan_chunk.ensures.early (inv.early none);
       ticks =

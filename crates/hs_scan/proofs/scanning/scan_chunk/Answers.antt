@@ -1,14 +1,13 @@
 use Rattle.std.proofs.Common.{◌≡◌, ◌+◌, ℕ, List, ◌++◌, length, drop, sym, ap, subst, ◌∙◌}
 use Rattle.hs_literals.specs.Held.{held}
 use Rattle.hs_nodes.specs.Blocks.{EndsBehind}
-use Rattle.hs_nodes.specs.Resting.{AreNodesResting}
-use Rattle.hs_scan.specs.declared.chunk.Course.{Course}
 use Rattle.hs_scan.specs.Scans.{Scans, ScansChunk, stand}
 use Rattle.hs_scan.specs.Scratches.{stand_of}
 use Rattle.hs_scan.proofs.BlockLemmas.{takes-as}
 use Rattle.hs_nodes.proofs.FillLemmas.{each-by}
 use Rattle.hs_scan.proofs.PastLemmas.{early-pushed}
 use Rattle.hs_scan.proofs.ScanLemmas.{chunk-scans}
+use Rattle.hs_scan.proofs.BetweenLemmas.{between-kept, found-keeps, pushed-length}
 use Rattle.hs_scan.proofs.scanning.scan_chunk.Goals as goal
 
 pub run_chunk-requires-clause-small : goal.run_chunk-requires-clause-small
@@ -18,27 +17,19 @@ pub run_chunk-requires-clause-others : goal.run_chunk-requires-clause-others
 run_chunk-requires-clause-others g c k none =
     c.find_hits.ensures.others k none
 
-pub run_chunk-requires-clause-resting : goal.run_chunk-requires-clause-resting
-run_chunk-requires-clause-resting g c =
-    subst (λ (k : Course). AreNodesResting g.E.Engine.meaning c.args.graph.now.table k.marks c.args.region.now) (sym c.find_hits.ensures.course) c.requires.resting
-
-pub returns-clause-resting : goal.returns-clause-resting
-returns-clause-resting g c =
-    subst (λ (k : Course). AreNodesResting g.E.Engine.meaning c.args.graph.now.table k.marks c.run_chunk.new.region) (sym c.forget.ensures.course) c.run_chunk.ensures.resting
-
 pub returns-clause-early : goal.returns-clause-early
 returns-clause-early g c =
     let s = c.args.scratch.now in
     let past_is : c.forget.new.scratch.past ≡ s.past = c.forget.ensures.past ∙ (c.run_chunk.ensures.keeps.past ∙ c.find_hits.ensures.past) in
     let at_is : c.forget.new.scratch.at ≡ s.at = c.forget.ensures.at_is ∙ (c.run_chunk.ensures.keeps.at_is ∙ c.find_hits.ensures.at_is) in
-    early-pushed s.past c.push_past.new.past c.args.bytes.now s.at (c.forget.new.scratch.at + length c.args.bytes.now) c.requires.room.past
+    early-pushed s.past c.push_past.new.past c.args.bytes.now s.at (c.forget.new.scratch.at + length c.args.bytes.now) c.requires.before.room.past
     (c.push_past.ensures ∙ ap (λ (xs : List ℕ). drop (length c.args.bytes.now) (xs ++ c.args.bytes.now)) past_is) (ap (λ n. n + length c.args.bytes.now) at_is)
 
 pub returns-clause-scans : goal.returns-clause-scans
 returns-clause-scans g c =
     let m = g.E.Engine.meaning in
-    let graph = c.args.graph.now in
-    let literals = held c.args.literals.now in
+    let graph = c.args.tables.now.graph.now in
+    let literals = held c.args.tables.now.literals.now in
     let bytes = c.args.bytes.now in
     let r0 = c.args.region.now in
     let r1 = c.run_chunk.new.region in
@@ -70,3 +61,24 @@ returns-clause-scans g c =
     (chunk-scans m graph literals s.at s.past c.push_past.new.past r0 r1 s.course.known.told.items s.course.known.here.items s4.course.known.told.items s4.course.known.here.items prev bytes s1.hits.items ps (each-by bytes (λ i. (c.type_inv.bytes i).fits))
     (λ u e e'. subst (λ n. EndsBehind u prev n) found.at_is (c.prev_of.ensures u (found.at_is ∙ e) (found.past ∙ e'))) found.hits pushed four))
     c.run_chunk.ensures.scans
+
+pub run_chunk-requires-clause-before : goal.run_chunk-requires-clause-before
+run_chunk-requires-clause-before g c =
+    let found = c.find_hits.ensures in
+    between-kept g.E.Engine.meaning c.args.tables.now.graph.now c.args.region.now c.args.cache.now found.at_is (found-keeps found) c.requires.before
+
+pub returns-clause-behind : goal.returns-clause-behind
+returns-clause-behind g c =
+    let behind = c.run_chunk.ensures.behind in
+    let forgot = c.forget.ensures in
+    let size = pushed-length c.forget.new.scratch.past c.args.bytes.now c.push_past.new.past (ap length forgot.past ∙ behind.room.past) c.push_past.ensures in
+    between-kept g.E.Engine.meaning c.args.tables.now.graph.now c.run_chunk.new.region c.run_chunk.new.cache (ap (λ n. n + length c.args.bytes.now) (forgot.at_is ∙ c.run_chunk.ensures.keeps.at_is))
+    (record {
+      ends = forgot.ends;
+      course = forgot.course;
+      hits = forgot.count;
+      rows = ap (λ r. r.count) forgot.rows;
+      finals = ap (λ f. length f.words) forgot.finals;
+      last = ap (λ v. length v.items) forgot.last;
+      past = size ∙ sym behind.room.past;
+    }) behind

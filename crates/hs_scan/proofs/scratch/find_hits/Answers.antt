@@ -24,6 +24,7 @@ returns c =
       count = ap length now ∙ len;
       rows = c.find.ensures.count;
       ends = refl;
+      starts = refl;
       course = refl;
       finals = refl;
       last = refl;

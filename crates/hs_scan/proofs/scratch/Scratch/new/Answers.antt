@@ -8,7 +8,7 @@ returns-clause-idle g c =
     (c.in_ok-vec.ensures.items_if_clones_equal (λ y is. is))
     (c.in_ok-vec-2.ensures.items_if_clones_equal (λ y is. is))
     c.in_ok-new.ensures.count_is
-    c.in_ok-new-3.ensures
     c.in_ok-new-4.ensures
+    c.in_ok-new-5.ensures
     (sym c.in_ok-vec-3.field-0.ok.0 ∙ (c.in_ok-vec-3.ensures.len ∙ c.word_count_for.ensures))
     refl
