@@ -21,7 +21,8 @@ pub record AreMembersOf {E : Type 0} (meaning : E → Meaning) (engines : List E
   pub woken : (k : ℕ) (m : Member) (e : E) → slice_get members k ≡ Some m → slice_get engines m.engine ≡ Some e →
       AreWakers (meaning e) m.wakers
 
--- A byte leads each member that wasn't given up from its region in the one state to that in the other, and leaves it as told.
+-- A byte leads each member that wasn't given up from its region in the one state to that in the other, and leaves it
+-- as told.
 abbrev pub TakeEntered : {E : Type 0} → (E → Meaning) → (engines : List E) (members : List Member) (old : State)
     (new : List ℕ) (byte : ℕ) (before behind : ℕ → Bool) → Type 0
 TakeEntered {E = E} meaning engines members old new byte before behind =

@@ -11,7 +11,6 @@ ghost use Rattle.hs_rose.specs.Identifiers.{entry_id, has_id};
 ghost use Rattle.hs_rose.specs.Listing.{asked_of, listed_chains, plain_chains};
 ghost use Rattle.hs_rose.specs.Programs.{IsInfoOf, IsProgramOf};
 ghost use Rattle.hs_rose.specs.Runnable.{AreRunnable};
-ghost use Rattle.hs_rose.specs.Views.{tables_of};
 
 use crate::builder::Builder;
 use crate::engine::PieceEngine;

@@ -152,18 +152,14 @@ impl TimelessEngine for PieceEngine {
     fn is_timeless(&self) -> bool {
         match self {
             PieceEngine::Positions(positions) => positions.is_timeless(),
-            PieceEngine::First(_) => false,
-            PieceEngine::Last(_) => false,
-            PieceEngine::Ring(_) => false,
+            PieceEngine::First(_) | PieceEngine::Last(_) | PieceEngine::Ring(_) => false,
         }
     }
 
     fn take_byte(&self, region: &mut [u8], prev: Prev, byte: u8) -> Option<ByteEnds> {
         match self {
             PieceEngine::Positions(positions) => positions.take_byte(region, prev, byte),
-            PieceEngine::First(_) => None,
-            PieceEngine::Last(_) => None,
-            PieceEngine::Ring(_) => None,
+            PieceEngine::First(_) | PieceEngine::Last(_) | PieceEngine::Ring(_) => None,
         }
     }
 }
