@@ -214,6 +214,7 @@ module _ (t : Tables) (models : List Piece) (engines : AllZip IsEngineOf t.engin
             each = λ v at.
                 let one : e ≡ v = same_Some e v (sym there ∙ (ap (slice_get graph.table.engines.items) (sym is.engine) ∙ at)) in
                 subst (λ (x : PieceEngine). ((piece_meaning x).width ≤ 64) × ((piece_meaning x).always ≡ false)) one (omega (arith, of.width, small), of.always);
+            edges = λ v at. is.edges v (sym (ap (λ es. slice_get es before.number) same_engines) ∙ (ap (slice_get graph.table.engines.items) (sym is.engine) ∙ at));
           },
           subst (λ n. n < length t.literals) (sym is.literal) short.0,
           short.1,

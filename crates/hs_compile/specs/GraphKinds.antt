@@ -2,12 +2,15 @@
 use Rattle.std.specs.Prelude.{◌≡◌, ◌<◌, ℕ, suc, List, length, Option, Some, None, slice_get}
 use Rattle.hs_base.specs.declared.context.Mask.{Mask}
 use Rattle.hs_base.specs.Literals.{LiteralByte}
+use Rattle.hs_nodes.specs.Edges.{HasEdges}
 use Rattle.hs_nodes.specs.declared.table.LookBackPair.{LookBackPair}
 use Rattle.hs_nodes.specs.declared.table.NodeKind.{NodeKind}
 use Rattle.hs_nodes.specs.declared.table.NodeKind.TheVariants.{Engine, Literal, FirstLiteral, LookBack}
+use Rattle.hs_rose.specs.declared.engine.PieceEngine.{PieceEngine}
 use Rattle.hs_rose.specs.declared.kind.Kind.TheVariants as kinds
 use Rattle.hs_rose.specs.declared.role.Role.{Role}
 use Rattle.hs_rose.specs.Naming.{engine_of}
+use Rattle.hs_rose.specs.PieceEngines.{piece_meaning}
 use Rattle.hs_rose.specs.Programs.{Tables, IsEmptyMask}
 use Rattle.hs_compile.specs.GraphTables.{LooksBack}
 
@@ -38,6 +41,8 @@ pub record IsPairOf (t : Tables) (before r : Role) (own : NodeKind) : Type 0 whe
   pub bare : r.kind ≡ kinds.BareLiteral
   pub engine : pair.engine ≡ before.number
   pub null : IsKeptMask pair.null before.null
+  pub edges : (e : PieceEngine) → slice_get t.engines before.number ≡ Some e →
+      HasEdges (piece_meaning e) pair.behind pair.last
   pub literal : pair.literal ≡ r.number
   pub len : HasLength t r.number pair.len
   pub is : own ≡ LookBack pair

@@ -1,17 +1,21 @@
 //! What the node of a role runs.
 
-ghost use Rattle.std.specs.Prelude.{◌≡◌, ◌<◌, ◌≤◌, ℕ, length, IfOk, Option};
+ghost use Rattle.std.specs.Prelude.{◌≡◌, ◌<◌, ◌≤◌, ℕ, length, slice_get, IfOk, Option, Some};
 ghost use Rattle.hs_rose.specs.declared.kind.Kind.TheVariants as kinds;
+ghost use Rattle.hs_rose.specs.declared.engine.PieceEngine.{PieceEngine};
 ghost use Rattle.hs_rose.specs.Naming.{literal_of};
+ghost use Rattle.hs_rose.specs.PieceEngines.{piece_meaning};
+ghost use Rattle.hs_nodes.specs.Edges.{HasEdges};
 ghost use Rattle.hs_nodes.specs.declared.table.NodeKind.TheVariants as nodes;
 ghost use Rattle.hs_compile.specs.GraphKinds.{HasLength, IsKeptMask, IsKindAt, IsKindOf, IsPairOf};
 ghost use Rattle.hs_compile.specs.GraphTables.{IsOneOf, IsReady, LooksBack};
 
 use crate::graph_numbers::graph_number;
 use crate::graph_tables::{literal_size, looks_back, role_at};
-use hs_base::Mask;
+use hs_base::{ByteSet, Mask};
 use hs_nodes::{LookBackPair, NodeKind};
-use hs_rose::{ChainInfo, Kind, Program, Role};
+use hs_rose::{ChainInfo, Kind, PieceEngine, Program, Role};
+use hs_waking::PrevSet;
 use std::alloc::AllocError;
 
 /// The contexts of a mask, if it has any.
@@ -64,6 +68,24 @@ pub(crate) fn kind_of(program: &Program, role: &Role) -> Result<NodeKind, AllocE
     }
 }
 
+/// What may stand before a match of the engine, and the bytes that may be its last one.
+fn edges_of(engine: &PieceEngine) -> (PrevSet, ByteSet)
+    ensures { HasEdges (piece_meaning engine.now) result.0 result.1 }
+{
+    (engine.beginning().behind, engine.last_bytes())
+}
+
+/// The same of the engine of that number. Where there is none, it is all of them.
+fn edges_at(engines: &[PieceEngine], number: usize) -> (PrevSet, ByteSet)
+    ensures { (e : PieceEngine) → slice_get engines.now number ≡ Some e →
+        HasEdges (piece_meaning e) result.0 result.1 }
+{
+    match engines.get(number) {
+        Some(engine) => edges_of(engine),
+        None => (PrevSet::all(), ByteSet::ALL),
+    }
+}
+
 /// The kind of the node of a literal behind a piece that looks back.
 pub(crate) fn pair_kind(
     program: &Program,
@@ -76,9 +98,12 @@ pub(crate) fn pair_kind(
     requires there { role.now.number < length program.now.literals }
     ensures { IfOk result (λ own. IsPairOf program.now before.now role.now own) }
 {
+    let (behind, last) = edges_at(program.engines(), before.number());
     Ok(NodeKind::LookBack(LookBackPair {
         engine: graph_number(before.number())?,
         null: kept_mask(before.null()),
+        behind,
+        last,
         literal: graph_number(role.number())?,
         len: literal_size(program, role.number()),
     }))
