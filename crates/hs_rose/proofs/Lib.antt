@@ -19,4 +19,5 @@ pub mod PlanLemmas
 pub mod StreamingLemmas
 pub mod TimelessLemmas
 pub mod MovesRowLemmas
+pub mod LastByteLemmas
 mod RepeatEntryLemmas

@@ -25,6 +25,11 @@ pub enum PieceEngine {
 }
 
 impl PieceEngine {
+    ghost use Rattle.std.specs.Prelude.{ℕ, ◌<◌, Bool, true, List, [], ◌∷◌, ◌++◌};
+    ghost use Rattle.hs_base.specs.ByteSets.{has};
+    ghost use Rattle.hs_base.specs.declared.context.Next.{Next};
+    ghost use Rattle.hs_base.specs.Fields.{Leaves};
+    ghost use Rattle.hs_base.specs.Trees.{Tree};
     ghost use Rattle.hs_rose.specs.PieceEngines.{piece_meaning};
     ghost use Rattle.hs_waking.specs.EntryRows.{TellsBeginnings};
 
@@ -38,6 +43,23 @@ impl PieceEngine {
             PieceEngine::First(first) => Beginning::with(first.wakers()),
             PieceEngine::Last(last) => Beginning::with(last.wakers()),
             PieceEngine::Ring(ring) => Beginning::with(ring.wakers()),
+        }
+    }
+
+    /// The bytes that may be the last one of a match. Of a repeat it tells all bytes: such a piece never looks back, so
+    /// that none asks for fewer.
+    pub fn last_bytes(&self) -> ByteSet
+        ensures { (tree : Tree) (u : List ℕ) (b : ℕ) (entered : List Bool) (next : Next) →
+            (piece_meaning self.now).is_for tree →
+            b < 256 →
+            Leaves tree (u ++ b ∷ []) entered next →
+            has result b ≡ true }
+    {
+        match self {
+            PieceEngine::Positions(positions) => positions.last_bytes(),
+            PieceEngine::First(_) | PieceEngine::Last(_) | PieceEngine::Ring(_) => {
+                ByteSet::EMPTY.complement()
+            }
         }
     }
 }

@@ -1,6 +1,9 @@
 //! The engine of an expression by its positions: byte by byte, and a block at once where that serves.
 
-ghost use Rattle.std.specs.Prelude.{◌≡◌, ℕ, ◌+◌, ◌<◌, ◌≤◌, length, slice_get, true, Some, IfOk, MatchOption};
+ghost use Rattle.std.specs.Prelude.{◌≡◌, ℕ, ◌+◌, ◌<◌, ◌≤◌, Bool, true, Some, IfOk, MatchOption};
+ghost use Rattle.std.specs.Prelude.{List, [], ◌∷◌, ◌++◌, length, slice_get};
+ghost use Rattle.hs_base.specs.ByteSets.{has};
+ghost use Rattle.hs_base.specs.declared.context.Next.{Next};
 ghost use Rattle.hs_base.specs.declared.context.Prev.{Prev};
 ghost use Rattle.hs_base.specs.Contexts.{Context, class_of};
 ghost use Rattle.hs_engine.specs.Automata.{in_mask, in_set};
@@ -14,7 +17,7 @@ ghost use Rattle.hs_waking.specs.PrevSets.{has_prev};
 
 use hs_base::{ByteSet, Next, NextSet, Prev};
 use hs_block::{BlockEnds, BlockEngine, Streams, run_by_steps};
-use hs_engine::{Automaton, Engine, Steps};
+use hs_engine::{Automaton, Engine, Steps, first_bytes};
 use hs_lazy::{ByteEnds, TimelessEngine};
 use hs_limex::Limex;
 use hs_waking::{Beginning, PrevSet, behind_of, row_of};
@@ -33,6 +36,8 @@ pub struct PositionEngine {
     behind: PrevSet,
     /// The bytes of the first levels of positions.
     row: Vec<ByteSet>,
+    /// The bytes of the positions behind which a match may end.
+    last: ByteSet,
     ghost size_is: { (s : Streams) → streams ≡ Some s → s.size ≡ (moves_of_limex limex).size },
     ghost takes_are: { (s : Streams) → streams ≡ Some s → (x b : ℕ) → x < (moves_of_limex limex).size → b < 256 →
         takes_byte s.sets.items s.numbers.items x b ≡ (moves_of_limex limex).reach b x },
@@ -50,9 +55,12 @@ pub struct PositionEngine {
         (moves_of_limex limex).reach b x ≡ true → in_set (slice_get row.items d) b ≡ true },
     ghost row_ends: { (d x : ℕ) (c : Context) → d + 1 < length row.items → IsMovesLevel (moves_of_limex limex) d x →
         (moves_of_limex limex).accepts c x ≡ true → ⊥ },
+    ghost last_has: { (x b : ℕ) (c : Context) → b < 256 → (moves_of_limex limex).accepts c x ≡ true →
+        (moves_of_limex limex).reach b x ≡ true → has last b ≡ true },
 }
 
 impl PositionEngine {
+    ghost use Rattle.hs_base.specs.Fields.{Leaves};
     ghost use Rattle.hs_base.specs.Trees.{Tree};
     ghost use Rattle.hs_engine.specs.Tables.{Runs};
     ghost use Rattle.hs_block.specs.Blocks.{TakesBlock};
@@ -69,11 +77,14 @@ impl PositionEngine {
         let streams = Streams::build(alloc, automaton)?;
         let behind = behind_of(automaton);
         let row = row_of(alloc, automaton)?;
+        // By the masks for accepting it gives the last bytes of matches, as by those for entering the first.
+        let last = first_bytes(automaton.sets(), automaton.accepts());
         Ok(PositionEngine {
             limex,
             streams,
             behind,
             row,
+            last,
         })
     }
 
@@ -85,6 +96,17 @@ impl PositionEngine {
             behind: self.behind,
             row: &self.row,
         }
+    }
+
+    /// The bytes that may be the last one of a match.
+    pub fn last_bytes(&self) -> ByteSet
+        ensures { (tree : Tree) (u : List ℕ) (b : ℕ) (entered : List Bool) (next : Next) →
+            (meaning_of_positions self.now).is_for tree →
+            b < 256 →
+            Leaves tree (u ++ b ∷ []) entered next →
+            has result b ≡ true }
+    {
+        self.last
     }
 
     /// Takes a block at once; None where that doesn't serve, and then all is as before.

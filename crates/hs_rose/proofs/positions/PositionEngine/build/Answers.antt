@@ -1,5 +1,6 @@
-use Rattle.std.proofs.Common.{◌∙◌, sym, arith}
+use Rattle.std.proofs.Common.{slice_get, ◌∙◌, ap, sym, arith}
 use Rattle.hs_base.specs.Contexts.{class_of}
+use Rattle.hs_engine.specs.Automata.{in_mask, in_set}
 use Rattle.hs_engine.specs.Between.{between}
 use Rattle.hs_limex.specs.LimexEngines.{moves_of_limex}
 use Rattle.hs_rose.proofs.MovesRowLemmas.{level-of}
@@ -53,3 +54,10 @@ pub invariant_of-result-clause-row_ends : goal.invariant_of-result-clause-row_en
 invariant_of-result-clause-row_ends c d x h low at accept =
     let fits = c.in_ok-limex.ensures.fits in
     c.in_ok-row.ensures.row.ends d x h (omega (arith, low)) (level-of _ _ fits d x at) (sym (fits.accepts h x) ∙ accept)
+
+pub invariant_of-result-clause-last_has : goal.invariant_of-result-clause-last_has
+invariant_of-result-clause-last_has c x b h small accept member =
+    let fits = c.in_ok-limex.ensures.fits in
+    c.first_bytes-last.ensures x b h small
+    (ap (λ items. in_mask (slice_get items x) h) c.accepts.ensures ∙ (sym (fits.accepts h x) ∙ accept))
+    (ap (λ items. in_set (slice_get items x) b) c.sets.ensures ∙ (sym (fits.reach b x small) ∙ member))
