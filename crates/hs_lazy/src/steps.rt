@@ -259,7 +259,7 @@ fn make_live_step<E: TimelessEngine>(
         return None;
     }
     let mut image = dfa.image_behind(idle);
-    let mut ends = dfa.set_of(idle);
+    let mut ends = *dfa.set_of(idle);
     if !take_members(
         &dfa.members,
         engines,
