@@ -1,6 +1,6 @@
 -- The literals that are kept, each with its bucket and its key.
-use Rattle.std.specs.Prelude.{◌≡◌, ℕ, ◌<◌, ◌≤◌, ◌-◌, ◌^◌, bit_and, Bool, true, false, ◌&&◌, ◌==◌, List, length, map, Option, Some, None}
-use Rattle.std.specs.Prelude.{slice_get, slice_index}
+use Rattle.std.specs.Prelude.{◌≡◌, ℕ, ◌<◌, ◌≤◌, ◌-◌, ◌^◌, bit_and, Bool, true, false, ◌&&◌, ◌==◌, List, length, map}
+use Rattle.std.specs.Prelude.{Option, Some, None, slice_get, slice_index}
 use Rattle.std.specs.List.{range_with_len, filter}
 use Rattle.hs_base.specs.Literals.{LiteralByte}
 use Rattle.hs_base.specs.LiteralView.{literal_byte}
