@@ -12,6 +12,7 @@ pub mod KindLemmas
 pub mod RangeLemmas
 pub mod NodeLemmas
 pub mod LookLemmas
+pub mod EdgeLemmas
 pub mod PairLemmas
 pub mod RestLemmas
 pub mod SpareLemmas

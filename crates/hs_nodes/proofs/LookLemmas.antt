@@ -35,16 +35,16 @@ never-push u b = map-append (λ b. false) u (b ∷ [])
 always-push : (u : List ℕ) (b : ℕ) → entered_always (u ++ b ∷ []) ≡ entered_always u ++ true ∷ []
 always-push u b = map-append (λ b. true) u (b ∷ [])
 
-never-size : (u : List ℕ) → length (entered_never u) ≡ length u
+pub never-size : (u : List ℕ) → length (entered_never u) ≡ length u
 never-size u = length-map u (λ b. false)
 
 always-size : (u : List ℕ) → length (entered_always u) ≡ length u
 always-size u = length-map u (λ b. true)
 
-take-next : (v : List ℕ) (k : ℕ) → k < length v → take (suc k) v ≡ take k v ++ get_or v k 0 ∷ []
+pub take-next : (v : List ℕ) (k : ℕ) → k < length v → take (suc k) v ≡ take k v ++ get_or v k 0 ∷ []
 take-next v k below = let e : suc k ≡ k + 1 = omega arith in ap (λ n. take n v) e ∙ take_more v k 0 below
 
-always-all : (xs : List ℕ) → entered_always xs ≡ replicate (length xs) true
+pub always-all : (xs : List ℕ) → entered_always xs ≡ replicate (length xs) true
 always-all [] = refl
 always-all (x ∷ xs) = ap (λ es. true ∷ es) (always-all xs)
 

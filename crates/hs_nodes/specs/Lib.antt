@@ -3,6 +3,7 @@ pub mod Left
 pub mod Pieces
 pub mod Hits
 pub mod Contexts
+pub mod Edges
 pub mod Nodes
 pub mod LookBacks
 pub mod Walks

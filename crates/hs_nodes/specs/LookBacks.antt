@@ -1,9 +1,12 @@
 -- An expression that looks back, and the literal behind it: where both are left in a chunk.
 use Rattle.std.specs.Prelude.{◌≡◌, ◌↔◌, ℕ, ◌+◌, ◌-◌, ◌<◌, ◌≤◌, ◌⊎◌, true, Bool, List, [], ◌∷◌, ◌++◌, length, take}
-use Rattle.std.specs.Prelude.{Option, slice_index}
+use Rattle.std.specs.Prelude.{Option, false, slice_index}
+use Rattle.hs_base.specs.declared.byte_set.ByteSet.{ByteSet}
 use Rattle.hs_base.specs.declared.context.Mask.{Mask}
 use Rattle.hs_base.specs.declared.context.Next.{Next}
 use Rattle.hs_base.specs.declared.context.Prev.{Prev}
+use Rattle.hs_base.specs.declared.context.Prev.TheVariants.{Start}
+use Rattle.hs_base.specs.ByteSets.{has}
 use Rattle.hs_base.specs.Chains.{Piece, lit, nfa, IsFitChain}
 use Rattle.hs_base.specs.Contexts.{class_of, prev_at}
 use Rattle.hs_base.specs.Fields.{entered_always}
@@ -19,6 +22,8 @@ use Rattle.hs_nodes.specs.Left.{AreLeftIn}
 use Rattle.hs_nodes.specs.Nodes.{window_size}
 use Rattle.hs_nodes.specs.declared.ends.ChunkEnds.{ChunkEnds}
 use Rattle.hs_nodes.specs.declared.hits.ChunkHits.{ChunkHits}
+use Rattle.hs_waking.specs.PrevSets.{has_prev}
+use Rattle.hs_waking.specs.declared.prev_set.PrevSet.{PrevSet}
 
 -- The pieces are left behind just those so many bytes of the chunk that the hits tell, whatever comes next.
 abbrev pub AreLeftAt : ChunkHits → List Piece → (u bytes : List ℕ) → Type 0
@@ -62,6 +67,14 @@ LeavesBack m null at past bytes place leaves =
     IsStream u at past bytes →
     (leaves ≡ true) ↔ LeavesAt (nfa tree ∷ []) (take (length u + place - 64) (u ++ bytes))
     (class_of (slice_index (u ++ bytes) (length u + place - 64)))
+
+-- Why no match ends behind so many bytes, of which that is the last one: there are none, that one ends no match, or
+-- each begins where the stream does, and they are more than an expression that looks back has.
+pub data EndsNowhere (behind : PrevSet) (last : ByteSet) (offset byte : ℕ) : Type 0 where
+  at_start : offset ≡ 0 → EndsNowhere behind last offset byte
+  by_last : has last byte ≡ false → EndsNowhere behind last offset byte
+  by_start : window_size < offset → ((prev : Prev) → has_prev behind prev ≡ true → prev ≡ Start) →
+      EndsNowhere behind last offset byte
 
 -- An expression, which the engine runs, and the literal behind it, which ends where the hits tell it.
 pub record IsPair (m : Meaning) (null : Option Mask) (len at : ℕ) (past bytes : List ℕ) (hits : ChunkHits)

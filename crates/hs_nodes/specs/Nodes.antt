@@ -13,6 +13,7 @@ use Rattle.hs_base.specs.Trees.{Tree}
 use Rattle.hs_engine.specs.Engines.{Meaning, IsQuiet}
 use Rattle.hs_nodes.specs.Blocks.{EndsBehind, IsPast}
 use Rattle.hs_nodes.specs.Contexts.{IsNull}
+use Rattle.hs_nodes.specs.Edges.{HasEdges}
 use Rattle.hs_nodes.specs.Hits.{AreChunkHits, KeepsEntries, hit_count, is_hit_at, no_hits}
 use Rattle.hs_nodes.specs.Left.{AreLeftIn}
 use Rattle.hs_nodes.specs.Pieces.{IsHeld, IsHeldBy}
@@ -119,11 +120,13 @@ module _ {E : Type 0} (meaning : E → Meaning) (engines : List E) where
     pub there : number < length engines
     pub each : (e : E) → slice_get engines number ≡ Some e → ((meaning e).width ≡ size) × ((meaning e).always ≡ false)
 
-  -- the number is that of an engine whose regions have at most 64 bytes, and which is entered where it is told to be
-  pub record IsWindowSound (number : ℕ) : Type 0 where
-    pub there : number < length engines
-    pub each : (e : E) → slice_get engines number ≡ Some e →
+  -- The pair names an engine whose regions have at most 64 bytes, and which is entered where it is told to be; its
+  -- matches begin and end as the pair says.
+  pub record IsWindowSound (pair : LookBackPair) : Type 0 where
+    pub there : pair.engine < length engines
+    pub each : (e : E) → slice_get engines pair.engine ≡ Some e →
         ((meaning e).width ≤ window_room) × ((meaning e).always ≡ false)
+    pub edges : (e : E) → slice_get engines pair.engine ≡ Some e → HasEdges (meaning e) pair.behind pair.last
 
   -- What a node of that kind names is there, for so many literals, and what is kept of it has that size.
   abbrev pub IsKindSound : (literals : ℕ) → NodeKind → (size : ℕ) → Type 0
@@ -131,7 +134,7 @@ module _ {E : Type 0} (meaning : E → Meaning) (engines : List E) where
   IsKindSound literals (Literal number len) size = (number < literals) × (1 ≤ len) × (len ≤ 32) × (size ≡ 4)
   IsKindSound literals (FirstLiteral number len) size = (number < literals) × (1 ≤ len) × (len ≤ 32)
   IsKindSound literals (LookBack pair) size =
-      IsWindowSound pair.engine × (pair.literal < literals) × (1 ≤ pair.len) × (pair.len ≤ 32)
+      IsWindowSound pair × (pair.literal < literals) × (1 ≤ pair.len) × (pair.len ≤ 32)
 
   -- A chunk leads to what is kept of the piece behind it, and tells where the pieces up to it are left.
   pub record IsPieceRun (kind : NodeKind) (pieces : List Piece) (piece : Piece) (part u bytes : List ℕ)

@@ -66,14 +66,6 @@ impl Chunk<'_, '_> {
         Prev::behind(self.bytes[BLOCK_BYTES * number - 1])
     }
 
-    /// Each of the past bytes and of those of the chunk is below 256. Nothing is done.
-    pub(crate) fn bytes_are_small(&self)
-        ensures { (i : ℕ) → slice_index (self.now.past.now ++ self.now.bytes.now) i < 256 }
-    {
-        all_are_small(self.past);
-        all_are_small(self.bytes);
-    }
-
     /// The byte of that number among the past ones and those of the chunk.
     pub(crate) fn byte_at(&self, place: usize) -> u8
         requires { place < 64 + length self.now.bytes.now }
@@ -85,11 +77,4 @@ impl Chunk<'_, '_> {
             self.bytes[place - PAST_BYTES]
         }
     }
-}
-
-/// Each byte is below 256. Nothing is done.
-fn all_are_small(bytes: &[u8])
-    ensures { (i : ℕ) → slice_index bytes.now i < 256 }
-{
-    let _ = bytes;
 }

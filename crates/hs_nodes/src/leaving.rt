@@ -7,6 +7,7 @@ ghost use Rattle.hs_base.specs.Leaving.{IsEmptyAt};
 ghost use Rattle.hs_base.specs.Trees.{Tree};
 ghost use Rattle.hs_nodes.specs.Contexts.{IsNull};
 ghost use Rattle.hs_nodes.specs.LookBacks.{TellsPair};
+ghost use Rattle.hs_nodes.specs.Edges.{HasEdges};
 ghost use Rattle.hs_nodes.specs.Nodes.{IsKindSound, IsWellPart, window_room};
 ghost use Rattle.hs_nodes.specs.Left.{nowhere};
 ghost use Rattle.hs_nodes.specs.Walks.{AreNodesWell, IsTableSound, node_ends, node_part};
@@ -100,6 +101,7 @@ fn leaves_look_back<E: BlockEngine, L: Ledger>(
 ) -> bool
     requires room { (E.meaning engine.now).width ≤ window_room }
     requires listed { (E.meaning engine.now).always ≡ false }
+    requires edges { HasEdges (E.meaning engine.now) pair.now.behind pair.now.last }
     requires some { 1 ≤ pair.now.len }
     requires short { pair.now.len ≤ 32 }
     ensures ticks { steps.new ≤ steps.old + 16 }

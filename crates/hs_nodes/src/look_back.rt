@@ -9,10 +9,11 @@ ghost use Rattle.hs_base.specs.Trees.{Tree};
 ghost use Rattle.hs_engine.specs.Engines.{IsAsleep, IsStart};
 ghost use Rattle.hs_nodes.specs.Blocks.{prev_by_count};
 ghost use Rattle.hs_nodes.specs.Contexts.{IsNull};
+ghost use Rattle.hs_nodes.specs.Edges.{HasEdges};
 ghost use Rattle.hs_nodes.specs.Hits.{hit_count};
 ghost use Rattle.hs_nodes.specs.Left.{AreLeftIn};
-ghost use Rattle.hs_nodes.specs.LookBacks.{AreLeftAt, FindsPair, LeavesBack, LeavesPair, RunsBack, TakesPair};
-ghost use Rattle.hs_nodes.specs.LookBacks.{TellsPair};
+ghost use Rattle.hs_nodes.specs.LookBacks.{AreLeftAt, EndsNowhere, FindsPair, LeavesBack, LeavesPair, RunsBack};
+ghost use Rattle.hs_nodes.specs.LookBacks.{TakesPair, TellsPair};
 ghost use Rattle.hs_nodes.specs.Nodes.{window_room};
 ghost use Rattle.hs_nodes.specs.declared.hits.ChunkHits.{ChunkHits};
 
@@ -21,7 +22,7 @@ use crate::ends::ChunkEnds;
 use crate::hits::ChunkHits;
 use crate::table::{LookBackPair, MAX_LOOK_BACK, MAX_LOOK_BACK_REGION};
 use hs_base::{Mask, Next, Prev};
-use hs_bits::{is_unset, low_places, next_bit_in, write_word_bit};
+use hs_bits::{low_places, next_bit_in, write_word_bit};
 use hs_block::BlockEngine;
 use hs_engine::{Engine, Steps};
 use std::sync::ledger::Ledger;
@@ -47,10 +48,6 @@ fn passed_over<E: Engine>(engine: &E, chunk: &Chunk, begin: usize, end: usize) -
         (slice_index (chunk.now.past.now ++ chunk.now.bytes.now) (begin + i)) }
 {
     let wakers = engine.wakers();
-    if is_unset(&wakers.words()) {
-        chunk.bytes_are_small();
-        return end - begin;
-    }
     for place in begin..end {
         if wakers.contains(chunk.byte_at(place)) {
             return place - begin;
@@ -124,10 +121,20 @@ fn is_empty_between(null: Option<Mask>, prev: Prev, next: Next) -> bool
     }
 }
 
+/// Whether no match of a pair's expression ends behind so many bytes, of which that is the last one: it ends none, or
+/// each begins where the stream does and has fewer bytes.
+fn ends_nowhere(pair: &LookBackPair, offset: u64, byte: u8) -> bool
+    ensures { result ≡ true → EndsNowhere pair.now.behind pair.now.last offset byte }
+{
+    offset == 0
+        || !pair.last.contains(byte)
+        || (offset > MAX_LOOK_BACK as u64 && pair.behind.is_start())
+}
+
 /// Whether the expression is left before the byte of that number among the past ones and those of the chunk.
 fn leaves_back<E: BlockEngine, L: Ledger>(
     engine: &E,
-    null: Option<Mask>,
+    pair: &LookBackPair,
     chunk: &Chunk,
     place: usize,
     window: &mut [u8],
@@ -135,19 +142,25 @@ fn leaves_back<E: BlockEngine, L: Ledger>(
 ) -> bool
     requires room { (E.meaning engine.now).width ≤ length window.old }
     requires listed { (E.meaning engine.now).always ≡ false }
+    requires edges { HasEdges (E.meaning engine.now) pair.now.behind pair.now.last }
     requires low { 32 ≤ place }
     requires high { place < 64 + length chunk.now.bytes.now }
     requires within { 64 ≤ chunk.now.at + place }
     ensures window { length window.new ≡ length window.old }
     ensures ticks { steps.new ≤ steps.old + 16 }
-    ensures leaves { LeavesBack (E.meaning engine.now) null chunk.now.at chunk.now.past.now chunk.now.bytes.now place
-        result }
+    ensures leaves { LeavesBack (E.meaning engine.now) pair.now.null chunk.now.at chunk.now.past.now
+        chunk.now.bytes.now place result }
 {
+    let offset = chunk.at + place as u64 - PAST_BYTES as u64;
+    let byte = chunk.byte_at(place - 1);
+    let next = Next::class_of(chunk.byte_at(place));
+    if ends_nowhere(pair, offset, byte) {
+        return is_empty_between(pair.null, prev_behind(offset, byte), next);
+    }
     let part = &mut window[..engine.size()];
     let prev = run_back(engine, part, chunk, place, steps);
-    let next = Next::class_of(chunk.byte_at(place));
-    let out = engine.out(part, prev, chunk.at + place as u64 - PAST_BYTES as u64);
-    out.contains(next) | is_empty_between(null, prev, next)
+    let out = engine.out(part, prev, offset);
+    out.contains(next) | is_empty_between(pair.null, prev, next)
 }
 
 /// Whether both pieces of the pair are left behind so many bytes of a chunk, where its literal ends there.
@@ -161,6 +174,7 @@ fn leaves_pair<E: BlockEngine, L: Ledger>(
 ) -> bool
     requires room { (E.meaning engine.now).width ≤ length window.old }
     requires listed { (E.meaning engine.now).always ≡ false }
+    requires edges { HasEdges (E.meaning engine.now) pair.now.behind pair.now.last }
     requires some { 1 ≤ pair.now.len }
     requires short { pair.now.len ≤ 32 }
     requires within { place ≤ length chunk.now.bytes.now }
@@ -173,14 +187,7 @@ fn leaves_pair<E: BlockEngine, L: Ledger>(
     if chunk.at + (place as u64) < len as u64 {
         return false;
     }
-    leaves_back(
-        engine,
-        pair.null,
-        chunk,
-        PAST_BYTES + place - len,
-        window,
-        steps,
-    )
+    leaves_back(engine, pair, chunk, PAST_BYTES + place - len, window, steps)
 }
 
 /// Whether both pieces of a pair are left where the chunk begins, at which its literal ends or not, as the hits tell.
@@ -195,6 +202,7 @@ pub fn leaves_at_start<E: BlockEngine, L: Ledger>(
 ) -> bool
     requires room { (E.meaning engine.now).width ≤ length window.old }
     requires listed { (E.meaning engine.now).always ≡ false }
+    requires edges { HasEdges (E.meaning engine.now) pair.now.behind pair.now.last }
     requires some { 1 ≤ pair.now.len }
     requires short { pair.now.len ≤ 32 }
     ensures window { length window.new ≡ length window.old }
@@ -218,6 +226,7 @@ fn find_pair<E: BlockEngine, L: Ledger>(
 ) -> ChunkHits
     requires room { (E.meaning engine.now).width ≤ window_room }
     requires listed { (E.meaning engine.now).always ≡ false }
+    requires edges { HasEdges (E.meaning engine.now) pair.now.behind pair.now.last }
     requires some { 1 ≤ pair.now.len }
     requires short { pair.now.len ≤ 32 }
     ensures ticks { steps.new ≤ steps.old + 16 * hit_count hits.now (length chunk.now.bytes.now) }
@@ -260,6 +269,7 @@ pub(crate) fn run_pair<E: BlockEngine, L: Ledger>(
 ) -> ChunkEnds
     requires room { (E.meaning engine.now).width ≤ window_room }
     requires listed { (E.meaning engine.now).always ≡ false }
+    requires edges { HasEdges (E.meaning engine.now) pair.now.behind pair.now.last }
     requires some { 1 ≤ pair.now.len }
     requires short { pair.now.len ≤ 32 }
     ensures ticks { steps.new ≤ steps.old + 16 * hit_count hits.now (length chunk.now.bytes.now) }

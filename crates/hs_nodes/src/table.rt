@@ -1,6 +1,7 @@
 //! The nodes of a forest, as tables.
 
-use hs_base::Mask;
+use hs_base::{ByteSet, Mask};
+use hs_waking::PrevSet;
 
 /// The most bytes of an expression that looks back.
 pub const MAX_LOOK_BACK: usize = 16;
@@ -15,6 +16,10 @@ pub struct LookBackPair {
     pub engine: u32,
     /// The contexts in which the expression has the empty span, if there are any.
     pub null: Option<Mask>,
+    /// What may stand before a match of the expression.
+    pub behind: PrevSet,
+    /// The bytes that may be the last one of a match.
+    pub last: ByteSet,
     /// The literal, by its number.
     pub literal: u32,
     /// How many bytes the literal has.

@@ -140,6 +140,12 @@ run_pair-requires-clause-listed g c =
     let sound = subst (λ (k : NodeKind). IsKindSound g.E.Engine.meaning engines (length c.args.found.now.foretold.now.hits.now) k (length c.args.part.now)) c.in-LookBack.is c.requires.sound in
     (sound.0.each c.index-engines-pair.result (slice_get_read engines (length engines) c.in-LookBack.pair.engine c.index-engines-pair.result refl sound.0.there c.index-engines-pair.is)).1
 
+pub run_pair-requires-clause-edges : goal.run_pair-requires-clause-edges
+run_pair-requires-clause-edges g c =
+    let engines = c.args.engines.now in
+    let sound = subst (λ (k : NodeKind). IsKindSound g.E.Engine.meaning engines (length c.args.found.now.foretold.now.hits.now) k (length c.args.part.now)) c.in-LookBack.is c.requires.sound in
+    sound.0.edges c.index-engines-pair.result (slice_get_read engines (length engines) c.in-LookBack.pair.engine c.index-engines-pair.result refl sound.0.there c.index-engines-pair.is)
+
 pub run_pair-requires-clause-some : goal.run_pair-requires-clause-some
 run_pair-requires-clause-some g c = (subst (λ (k : NodeKind). IsKindSound g.E.Engine.meaning c.args.engines.now (length c.args.found.now.foretold.now.hits.now) k (length c.args.part.now)) c.in-LookBack.is c.requires.sound).2
 

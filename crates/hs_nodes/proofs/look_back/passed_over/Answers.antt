@@ -1,5 +1,4 @@
-use Rattle.std.proofs.Common.{◌+◌, ◌++◌, get_or, sym, ◌∙◌, arith}
-use Rattle.hs_bits.proofs.WordLemmas.{unset-bits}
+use Rattle.std.proofs.Common.{◌+◌, ◌++◌, get_or, arith}
 use Rattle.hs_nodes.proofs.look_back.passed_over.Goals as goal
 
 pub returns-then-contains-clause-asleep : goal.returns-then-contains-clause-asleep
@@ -11,9 +10,3 @@ pub returns-clause-asleep : goal.returns-clause-asleep
 returns-clause-asleep g c region i starts low =
     let (small, apart) = c.loop-place.invariant (c.args.begin + i) (omega arith) (omega (arith, low, c.loop-place-test.false)) in
     c.wakers-wakers.ensures region (get_or (c.args.chunk.now.past.now ++ c.args.chunk.now.bytes.now) (c.args.begin + i) 0) starts small apart
-
-pub returns-then-is_unset-clause-asleep : goal.returns-then-is_unset-clause-asleep
-returns-then-is_unset-clause-asleep g c region i starts low =
-    let byte = get_or (c.args.chunk.now.past.now ++ c.args.chunk.now.bytes.now) (c.args.begin + i) 0 in
-    c.wakers-wakers.ensures region byte starts (c.bytes_are_small.ensures (c.args.begin + i))
-    (sym (c.words.ensures byte) ∙ unset-bits c.words.result (c.is_unset.ensures.0 c.if-is_unset.true) byte)
