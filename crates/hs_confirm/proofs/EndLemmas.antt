@@ -135,23 +135,6 @@ ends_from-untold widths entries rows bucket key text offset number next keyed is
     ends_from-out entries bucket text offset number says
     ∙ ends_from-skip widths entries rows bucket key text offset (number + 1) next keyed is least
 
--- whether the entry of a number ends, by its parts
-pub entry_ends-read : (widths : List ℕ) (entries : List Entry) (bucket key : ℕ) (text : List ℕ) (offset number : ℕ) (entry : Entry) → AreKeyed widths entries → key ≡ text_key (get_or widths bucket 0) text offset → slice_get entries number ≡ Some entry
-    → (entry.bucket ≡ bucket → entry.key ≡ key → ends_there (literal_in entry) text offset ≡ true → ⊥) → number_ends entries bucket text offset number ≡ false
-entry_ends-read widths entries bucket key text offset number entry keyed is numbered none =
-    false_from_ne_true (number_ends entries bucket text offset number) (λ says.
-    let found : IsEntryEnd entries bucket text offset number = number_end entries bucket text offset number says in
-    let same : found.entry ≡ entry = same_Some found.entry entry (sym found.numbered ∙ numbered) in
-    let filed : entry.bucket ≡ bucket = sym (ap (λ e. e.bucket) same) ∙ found.filed in
-    let ends : ends_there (literal_in entry) text offset ≡ true = sym (ap (λ e. ends_there (literal_in e) text offset) same) ∙ found.ends in
-    let known : IsKeyed widths entry = keyed number entry numbered in
-    none filed
-    (known.key
-    ∙ keys-same (get_or widths entry.bucket 0) (literal_in entry) text offset (are_small entry.literal.items) known.short ends
-    ∙ ap (λ b. text_key (get_or widths b 0) text offset) filed
-    ∙ sym is)
-    ends)
-
 -- the key of an entry that ends there is that of the text
 pub end_key : (widths : List ℕ) (entries : List Entry) (bucket : ℕ) (text : List ℕ) (offset number : ℕ) (entry : Entry) → AreKeyed widths entries → number_ends entries bucket text offset number ≡ true → slice_get entries number ≡ Some entry
     → entry.key ≡ text_key (get_or widths bucket 0) text offset

@@ -11,7 +11,7 @@ use Rattle.hs_base.specs.declared.literal.LitByte.{LitByte}
 use Rattle.hs_base.specs.Literals.{LiteralByte, takes, is_small_letter}
 use Rattle.hs_base.specs.LiteralView.{literal_byte}
 use Rattle.hs_confirm.specs.Taking.{takes_all, ends_there}
-use Rattle.hs_confirm.specs.Keys.{folded, literal_place, text_place, eight_places, full_literal_key, full_text_key, key_at, literal_key, text_key}
+use Rattle.hs_confirm.specs.Keys.{IsMask, folded, literal_place, text_place, eight_places, full_literal_key, full_text_key, key_at, literal_key, text_key}
 
 literal_place-within : (literal : List LiteralByte) (back : ℕ) → back < length literal → literal_place literal back ≡ folded (get_or (map (λ x. x.byte) literal) (length literal - 1 - back) 0)
 unfolding literal_place
@@ -226,3 +226,12 @@ mask-some width full narrow =
 pub keys-same : (width : ℕ) (literal : List LiteralByte) (text : List ℕ) (offset : ℕ) → AreSmall literal → width ≤ length literal → ends_there literal text offset ≡ true → literal_key width literal ≡ text_key width text offset
 unfolding full_literal_key full_text_key
 keys-same width literal text offset small short says = key_at-same width (literal_place literal) (text_place text offset) (λ back h. places-same literal text offset back small says (omega arith))
+
+-- the key of a literal at a width that it isn't shorter than is that of each text where it ends
+pub keys-own : (width mask own : ℕ) (literal : List LiteralByte) (text : List ℕ) (offset full : ℕ) → AreSmall literal → width ≤ length literal → own ≡ literal_key width literal → IsMask width mask → full ≡ full_text_key text offset → full < 2 ^ 64
+    → ends_there literal text offset ≡ true → bit_and full mask ≡ own
+keys-own width mask own literal text offset full small short key masked is fits ends =
+    masked full fits
+    ∙ ap (key_at width) is
+    ∙ sym (keys-same width literal text offset small short ends)
+    ∙ sym key

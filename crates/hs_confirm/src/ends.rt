@@ -18,12 +18,15 @@ pub struct Ends<'a> {
     /// The place, an offset in `bytes`.
     at: usize,
     bucket: u8,
+    /// The last eight bytes in front of the place.
+    full: u64,
     /// The key of what stands in front of the place, at the width of the bucket.
     key: u64,
     /// The least number that hasn't been looked at: of the row of that bucket and key, or the count of all literals.
     next: usize,
     ghost eight: { bucket < 8 },
     ghost within: { at ≤ length bytes.now },
+    ghost full_is: { full ≡ full_text_key (history.now ++ bytes.now) (length history.now + at) },
     ghost keyed: { key ≡ text_key (slice_index confirm.now.widths bucket) (history.now ++ bytes.now)
         (length history.now + at) },
     ghost stands: { next < vec_len confirm.now.entries →
@@ -81,16 +84,18 @@ impl<'a> Ends<'a> {
             bytes,
             at,
             bucket,
+            full,
             key,
             next: confirm.chains.first(row),
         }
     }
 
-    /// Those behind a number that ends there, of its bucket.
+    /// Those behind a number that ends there, of its bucket, given the last eight bytes in front of the place.
     pub(crate) fn behind(
         confirm: &'a Confirm,
         number: usize,
         bucket: u8,
+        full: u64,
         history: &'a [u8],
         bytes: &'a [u8],
         at: usize,
@@ -98,6 +103,7 @@ impl<'a> Ends<'a> {
         requires bucket { bucket < 8 }
         requires within { at ≤ length bytes.now }
         requires number { number < vec_len confirm.now.entries }
+        requires full { full ≡ full_text_key (history.now ++ bytes.now) (length history.now + at) }
         requires ends { number_ends confirm.now.entries.items bucket (history.now ++ bytes.now)
             (length history.now + at) number ≡ true }
         ensures { ends_left result ≡ ends_from confirm.now.entries.items bucket (history.now ++ bytes.now)
@@ -109,6 +115,7 @@ impl<'a> Ends<'a> {
             bytes,
             at,
             bucket,
+            full,
             key: confirm.entries[number].key,
             next: confirm.chains.after(number),
         }
@@ -122,7 +129,7 @@ impl<'a> Ends<'a> {
             (self.now.history.now ++ self.now.bytes.now) (length self.now.history.now + self.now.at) number }
     {
         let entry = &self.confirm.entries[number];
-        entry.key == self.key
+        self.full & entry.own_mask == entry.own
             && entry.bucket == self.bucket
             && ends_there(&entry.literal, self.history, self.bytes, self.at)
     }

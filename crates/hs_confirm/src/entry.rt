@@ -11,4 +11,8 @@ pub(crate) struct Entry {
     pub(crate) bucket: u8,
     /// The key of the literal at the width of its bucket.
     pub(crate) key: u64,
+    /// The key of its last eight bytes, or of all that it has.
+    pub(crate) own: u64,
+    /// The bits of that key that count.
+    pub(crate) own_mask: u64,
 }

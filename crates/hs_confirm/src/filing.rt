@@ -2,12 +2,13 @@
 
 ghost use Rattle.std.specs.Prelude.{◌≡◌, ◌<◌, ◌≤◌, ℕ, IfOk, length, map, slice_index, vec_len};
 ghost use Rattle.hs_base.specs.LiteralView.{literal_byte};
-ghost use Rattle.hs_confirm.specs.Entries.{AreKeyed, literal_in, rows_of_entries};
+ghost use Rattle.hs_confirm.specs.Entries.{AreKeyed, IsOwnKey, literal_in, rows_of_entries};
 ghost use Rattle.hs_confirm.specs.Keys.{literal_key};
 ghost use Rattle.hs_confirm.specs.Widths.{AreShort};
 
 use crate::entry::Entry;
-use crate::keys::{key_row, literal_key};
+use crate::keys::{KEY_LEN, key_row, literal_key, mask_of};
+use crate::widths::narrowed;
 use hs_base::{BUCKETS, LitByte};
 use std::alloc::{AllocError, Global};
 
@@ -22,11 +23,15 @@ fn entry_of(alloc: Global, literal: &[LitByte], bucket: u8, width: u8) -> Result
     ensures literal { IfOk result (λ entry. entry.literal.items ≡ literal.now) }
     ensures bucket { IfOk result (λ entry. entry.bucket ≡ bucket) }
     ensures key { IfOk result (λ entry. entry.key ≡ literal_key width (map literal_byte literal.now)) }
+    ensures own { IfOk result (λ entry. IsOwnKey (map literal_byte literal.now) entry.own entry.own_mask) }
 {
+    let own_width = narrowed(KEY_LEN, literal);
     Ok(Entry {
         literal: literal.to_vec(alloc)?,
         bucket,
         key: literal_key(literal, width),
+        own: literal_key(literal, own_width),
+        own_mask: mask_of(own_width),
     })
 }
 

@@ -21,10 +21,13 @@ pub struct PlaceEnds<'a> {
     bytes: &'a [u8],
     /// The place, an offset in `bytes`.
     at: usize,
+    /// The last eight bytes in front of it.
+    full: u64,
     /// For each bucket its least number that hasn't been told, or the count of all literals.
     heads: [usize; BUCKETS],
     ghost within: { at ≤ length bytes.now },
     ghost eight: { length heads ≡ 8 },
+    ghost full_is: { full ≡ full_text_key (history.now ++ bytes.now) (length history.now + at) },
     ghost ends: { AreHeads confirm.now.entries.items (history.now ++ bytes.now) (length history.now + at) heads },
 }
 
@@ -125,11 +128,13 @@ fn heads_of(
     heads
 }
 
-/// The next number of that number's bucket that ends at `at`, or the count of all literals.
+/// The next number of that number's bucket that ends at `at`, or the count of all literals, given the last eight bytes
+/// before `at`.
 fn head_behind(
     confirm: &Confirm,
     number: usize,
     bucket: u8,
+    full: u64,
     history: &[u8],
     bytes: &[u8],
     at: usize,
@@ -137,13 +142,14 @@ fn head_behind(
     requires within { at ≤ length bytes.now }
     requires number { number < vec_len confirm.now.entries }
     requires bucket { bucket < 8 }
+    requires full { full ≡ full_text_key (history.now ++ bytes.now) (length history.now + at) }
     requires ends { number_ends confirm.now.entries.items bucket (history.now ++ bytes.now) (length history.now + at)
         number ≡ true }
     ensures { IsFirstPassing
         (number_ends confirm.now.entries.items bucket (history.now ++ bytes.now) (length history.now + at)) (number + 1)
         (vec_len confirm.now.entries) result }
 {
-    Ends::behind(confirm, number, bucket, history, bytes, at)
+    Ends::behind(confirm, number, bucket, full, history, bytes, at)
         .next()
         .unwrap_or(confirm.entries.len())
 }
@@ -189,6 +195,7 @@ impl<'a> PlaceEnds<'a> {
             history,
             bytes,
             at,
+            full: full_text_key(history, bytes, at),
             heads: [confirm.entries.len(); BUCKETS],
         }
     }
@@ -220,6 +227,7 @@ impl<'a> PlaceEnds<'a> {
             history,
             bytes,
             at,
+            full,
             heads: heads_of(confirm, mask, first, full, history, bytes, at),
         })
     }
@@ -245,6 +253,7 @@ impl<'a> Iterator for PlaceEnds<'a> {
             self.confirm,
             number,
             bucket as u8,
+            self.full,
             self.history,
             self.bytes,
             self.at,

@@ -8,7 +8,7 @@ use crate::keys::{KEY_LEN, mask_of};
 use hs_base::{BUCKETS, LitByte};
 
 /// The width, or the length of a literal where that is less.
-fn narrowed(width: u8, literal: &[LitByte]) -> u8
+pub(crate) fn narrowed(width: u8, literal: &[LitByte]) -> u8
     ensures width { result ≤ width }
     ensures short { result ≤ length literal.now }
 {

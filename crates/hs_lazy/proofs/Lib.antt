@@ -10,3 +10,4 @@ pub mod EndLemmas
 pub mod ToldLemmas
 pub mod PutLemmas
 pub mod ShedLemmas
+pub mod TraceLemmas

@@ -9,7 +9,7 @@ use Rattle.hs_engine.specs.Engines.{Meaning}
 use Rattle.hs_lazy.specs.declared.parts.Member.{Member}
 use Rattle.hs_lazy.specs.declared.parts.State.{State}
 use Rattle.hs_lazy.specs.declared.parts.EndSet.{EndSet}
-use Rattle.hs_lazy.specs.Parts.{AreStillThere, AreStepsKept, AreUnknownFrom, AreLeading, before_of, behind_of, ends_of, entry, next_of, set_of}
+use Rattle.hs_lazy.specs.Parts.{AreSetsWhole, AreStillThere, AreStepsKept, AreUnknownFrom, AreLeading, IsSetWhole, before_of, behind_of, ends_of, entry, next_of, set_of}
 use Rattle.hs_lazy.specs.Sound.{AreMembersOf, IsDfaSound, IsStep, TakeEntered}
 use Rattle.hs_lazy.specs.Walks.{IsWalk, state_before}
 
@@ -62,6 +62,15 @@ get-either xs y i x is =
           let here : i ≡ length xs = omega (arith, low, more, length-append xs (y ∷ [])) in
           inr (here, some-same x y (sym is ∙ (ap (slice_get (xs ++ y ∷ [])) here ∙ get-last xs y)))
     ]
+
+-- each set of ends is whole still behind a push
+pub whole-pushed : (old new : List EndSet) (set : EndSet) (b : Bool) → new ≡ (if b then old ++ set ∷ [] else old) → IsSetWhole set →
+    AreSetsWhole old → AreSetsWhole new
+whole-pushed old new set true is one all n x there = elim (get-either old set n x (subst (λ (l : List _). slice_get l n ≡ Some x) is there)) [
+  | inl was ↦ all n x was
+  | inr (here, same) ↦ subst (λ s. IsSetWhole s) (sym same) one
+]
+whole-pushed old new set false is one all n x there = all n x (subst (λ (l : List _). slice_get l n ≡ Some x) is there)
 
 pub same-got : {A : Type 0} (xs : List A) (i : ℕ) (x y : A) → slice_get xs i ≡ Some x → slice_get xs i ≡ Some y → x ≡ y
 same-got xs i x y one other = some-same x y (sym one ∙ other)

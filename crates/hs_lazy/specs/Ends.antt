@@ -1,5 +1,5 @@
 -- Where the members of an automaton are left in a chunk.
-use Rattle.std.specs.Prelude.{◌≡◌, ℕ, ◌<◌, Bool, false, ◌&&◌, nat_lt}
+use Rattle.std.specs.Prelude.{◌≡◌, ℕ, ◌<◌, ◌≤◌, Bool, false, ◌&&◌, nat_lt}
 use Rattle.std.specs.Prelude.{List, Option, Some, None, length, slice_get, slice_index}
 use Rattle.hs_base.specs.Bits.{has_word_bit}
 use Rattle.hs_lazy.specs.declared.cache.ToldEnds.{ToldEnds}
@@ -32,3 +32,14 @@ pub record AreTraceEnds (sets : List EndSet) (trace : List ℕ) (count : ℕ) (r
       member_left_before rows m i ≡ (nat_lt i count && before_of (set_of sets (ends_of (slice_index trace i))) m)
   pub behind : (m i : ℕ) → m < 256 →
       member_left_behind rows m i ≡ (nat_lt i count && behind_of (set_of sets (ends_of (slice_index trace i))) m)
+
+-- none of the steps from the first place on, up to the other, leaves a member
+abbrev pub AreSilent : (trace : List ℕ) (first past : ℕ) → Type 0
+AreSilent trace first past = (i : ℕ) → first ≤ i → i < past → slice_index trace i < 65536
+
+-- the step of that place leaves a member, and none from the first place on does before it
+pub record IsNextEnding (trace : List ℕ) (first count place : ℕ) : Type 0 where
+  pub from : first ≤ place
+  pub within : place < count
+  pub leaves : 65536 ≤ slice_index trace place
+  pub silent : AreSilent trace first place

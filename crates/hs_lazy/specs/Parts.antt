@@ -32,6 +32,14 @@ pub record IsStateWhole (members : List Member) (st : State) : Type 0 where
 abbrev pub AreLive : (members : List Member) (states : List State) → Type 0
 AreLive members states = (s : ℕ) (st : State) → slice_get states s ≡ Some st → IsStateWhole members st
 
+-- Each set of ends has a bit for each member.
+pub record IsSetWhole (set : EndSet) : Type 0 where
+  pub before_len : length set.before ≡ 4
+  pub behind_len : length set.behind ≡ 4
+
+abbrev pub AreSetsWhole : (sets : List EndSet) → Type 0
+AreSetsWhole sets = (n : ℕ) (set : EndSet) → slice_get sets n ≡ Some set → IsSetWhole set
+
 -- the step of a state by a byte: 0 where it isn't known
 abbrev pub entry : (rows : List ℕ) (s b : ℕ) → ℕ
 entry rows s b = slice_index rows (256 * s + b)

@@ -1,7 +1,10 @@
 //! One automaton over the regions of some engines.
 
-ghost use Rattle.std.specs.Prelude.{◌≡◌, ◌<◌, ◌≤◌, ℕ, IfSome, length, slice_index, vec_capacity};
+ghost use Rattle.std.specs.Prelude.{◌≡◌, ◌+◌, ◌<◌, ◌≤◌, ℕ, true, IfSome, MatchOption};
+ghost use Rattle.std.specs.Prelude.{length, slice_index, vec_capacity};
 ghost use Rattle.hs_lazy.specs.Parts.{AreFewer, AreMembersApart, AreLeading, AreLive, AreUnknownFrom, IsLive};
+ghost use Rattle.hs_lazy.specs.Parts.{AreSetsWhole};
+ghost use Rattle.hs_lazy.specs.Ends.{AreSilent, IsNextEnding};
 ghost use Rattle.hs_lazy.specs.Walks.{state_before};
 
 use crate::budget::Budget;
@@ -25,6 +28,9 @@ const ROW_LEN: usize = 256;
 
 /// Where the number of the set of ends begins in a step; below is the number of the next state and one.
 pub(crate) const ENDS_UNIT: u32 = 65536;
+
+/// How many steps are passed over at once where none of them leaves a member.
+const GROUP_STEPS: usize = 16;
 
 /// How many slots there are by which states are found.
 const SLOT_COUNT: usize = 4 * MAX_STATES;
@@ -65,6 +71,7 @@ pub struct LazyDfa {
     ghost slots_len: { length slots.items ≡ 4096 },
     ghost ends_few: { length ends.items ≤ 4096 },
     ghost ends_room: { 4096 ≤ vec_capacity ends },
+    ghost ends_whole: { AreSetsWhole ends.items },
     ghost members_room: { 256 ≤ vec_capacity members },
 }
 
@@ -346,11 +353,10 @@ impl LazyDfa {
         ensures { AreTraceEnds self.now.ends.items trace.now count ends.new.rows }
     {
         ends.clear();
-        for place in 0..count {
-            let step = trace[place];
-            if step >= ENDS_UNIT {
-                ends.insert(place, &self.set_of(step));
-            }
+        let mut from = 0;
+        while let Some(place) = next_ending(trace, from, count) {
+            ends.insert(place, self.set_of(trace[place]));
+            from = place + 1;
         }
     }
 
@@ -393,18 +399,69 @@ impl LazyDfa {
     }
 
     /// The set of ends of a step.
-    pub fn set_of(&self, step: u32) -> EndSet
-        ensures { IsSameSets (set_of self.now.ends.items (ends_of step)) result }
+    pub fn set_of(&self, step: u32) -> &EndSet
+        ensures same { IsSameSets (set_of self.now.ends.items (ends_of step)) result.now }
+        ensures before_len { length result.now.before ≡ 4 }
+        ensures behind_len { length result.now.behind ≡ 4 }
     {
         let number = (step / ENDS_UNIT) as usize;
         if number == 0 {
-            return EndSet::NOWHERE;
+            return &EndSet::NOWHERE;
         }
         match self.ends.get(number - 1) {
-            Some(set) => *set,
-            None => EndSet::NOWHERE,
+            Some(set) => set,
+            None => &EndSet::NOWHERE,
         }
     }
+}
+
+/// The first place from that one on whose step leaves a member, among so many steps of a trace.
+fn next_ending(trace: &[u32], first: usize, count: usize) -> Option<usize>
+    requires few { count ≤ 512 }
+    requires within { count ≤ length trace.now }
+    requires first { first ≤ count }
+    ensures { MatchOption result (AreSilent trace.now first count) (IsNextEnding trace.now first count) }
+{
+    let mut from = first;
+    while from < count {
+        let past = (from - from % GROUP_STEPS + GROUP_STEPS).min(count);
+        if let Some(place) = ending_within(trace, from, past) {
+            return Some(place);
+        }
+        from = past;
+    }
+    None
+}
+
+/// The first place of a group, or of a part of one, whose step leaves a member.
+fn ending_within(trace: &[u32], first: usize, past: usize) -> Option<usize>
+    requires few { past ≤ 512 }
+    requires within { past ≤ length trace.now }
+    requires first { first ≤ past }
+    ensures { MatchOption result (AreSilent trace.now first past) (IsNextEnding trace.now first past) }
+{
+    if first + GROUP_STEPS == past && are_silent(trace, first) {
+        return None;
+    }
+    for place in first..past {
+        if trace[place] >= ENDS_UNIT {
+            return Some(place);
+        }
+    }
+    None
+}
+
+/// Whether no step of a group leaves a member.
+fn are_silent(trace: &[u32], from: usize) -> bool
+    requires few { from ≤ 512 }
+    requires within { from + 16 ≤ length trace.now }
+    ensures { result ≡ true → AreSilent trace.now from (from + 16) }
+{
+    let mut all = 0;
+    for place in from..from + GROUP_STEPS {
+        all |= trace[place];
+    }
+    all < ENDS_UNIT
 }
 
 /// The number of the state before the byte at that place.

@@ -59,11 +59,11 @@ fn has_many_ends(trace: &[u32], count: usize) -> bool
     requires within { count ≤ length trace.now }
     requires few { count ≤ 512 }
 {
-    let mut ending = 0;
+    let mut ending = 0u32;
     for place in 0..count {
-        ending += (trace[place] >= ENDS_UNIT) as usize;
+        ending += (trace[place] >= ENDS_UNIT) as u32;
     }
-    4 * ending > count
+    4 * ending as usize > count
 }
 
 /// Takes a chunk behind `prev` from the image that is loaded on. Answers whether it did, and didn't give up.
@@ -259,7 +259,7 @@ fn make_live_step<E: TimelessEngine>(
         return None;
     }
     let mut image = dfa.image_behind(idle);
-    let mut ends = dfa.set_of(idle);
+    let mut ends = *dfa.set_of(idle);
     if !take_members(
         &dfa.members,
         engines,

@@ -36,7 +36,6 @@ pub use hits::ChunkHits;
 pub use laws::resting_nodes;
 pub use leaving::{Stop, ends_if, leave_nodes};
 pub use living::{idle_engines, mark_live, next_live};
-pub use look_back::leaves_at_start;
 pub use nulls::chunk_contexts;
 pub use settling::settle;
 pub use table::{LookBackPair, MAX_LOOK_BACK, MAX_LOOK_BACK_REGION, Node, NodeKind, NodeTable};

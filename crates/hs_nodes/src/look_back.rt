@@ -192,7 +192,7 @@ fn leaves_pair<E: BlockEngine, L: Ledger>(
 
 /// Whether both pieces of a pair are left where the chunk begins, at which its literal ends or not, as the hits tell.
 /// The window is memory for the engine; what is in it doesn't count.
-pub fn leaves_at_start<E: BlockEngine, L: Ledger>(
+pub(crate) fn leaves_at_start<E: BlockEngine, L: Ledger>(
     engine: &E,
     pair: &LookBackPair,
     chunk: &Chunk,

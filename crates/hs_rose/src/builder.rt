@@ -1,8 +1,6 @@
 //! Building the program of a list.
 
 ghost use Rattle.std.specs.Prelude.{◌≡◌, ℕ, ◌+◌, ◌^◌, ◌<◌, [], ◌∷◌, ◌++◌, List, IfOk, length, map};
-ghost use Rattle.hs_base.specs.Chains.{lit};
-ghost use Rattle.hs_base.specs.LiteralView.{literal_byte};
 ghost use Rattle.hs_base.specs.Regions.{Place};
 ghost use Rattle.hs_pieces.specs.Meaning.{plain_chain, plain_piece};
 ghost use Rattle.hs_rose.specs.Building.{IsBuilt, IsNamed, IsOwner, IsPlaceOf, IsRoleFor, IsSound};
@@ -14,7 +12,7 @@ use crate::literal_index::LiteralIndex;
 use crate::making::{Made, number_of};
 use crate::role::Role;
 use crate::shape::Shape;
-use hs_base::{Entry, ExprId, LitByte, Mask};
+use hs_base::{Entry, ExprId, Mask};
 use hs_pieces::{Chain, Piece};
 use std::alloc::{AllocError, Global};
 
@@ -135,22 +133,13 @@ impl Builder {
         ensures { IfOk result (λ named. IsSound self.old → IsNamed self.old self.new (plain_piece piece.now) named) }
     {
         match piece {
-            Piece::Lit(bytes) => self.name_literal(alloc, bytes),
+            Piece::Lit(bytes) => Ok(Named {
+                number: self.literals.number_of(alloc, bytes)?,
+                null: Mask::empty(),
+            }),
             Piece::Nfa(_) => self.name_run(alloc, piece),
             Piece::Rep(_, _, _) => self.name_run(alloc, piece),
         }
-    }
-
-    /// Names the literal.
-    fn name_literal(&mut self, alloc: Global, bytes: &[LitByte]) -> Result<Named, AllocError>
-        ensures { IfOk result (λ named. IsSound self.old →
-            IsNamed self.old self.new (lit (map literal_byte bytes.now)) named) }
-    {
-        let number = self.literals.number_of(alloc, bytes)?;
-        Ok(Named {
-            number,
-            null: Mask::empty(),
-        })
     }
 
     /// Names a piece that isn't a literal.

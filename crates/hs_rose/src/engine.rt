@@ -46,8 +46,8 @@ impl PieceEngine {
         }
     }
 
-    /// The bytes that may be the last one of a match. Of a repeat that is all of them: it never looks back, which is
-    /// what they are asked for.
+    /// The bytes that may be the last one of a match. Of a repeat it tells all bytes: such a piece never looks back, so
+    /// that none asks for fewer.
     pub fn last_bytes(&self) -> ByteSet
         ensures { (tree : Tree) (u : List ℕ) (b : ℕ) (entered : List Bool) (next : Next) →
             (piece_meaning self.now).is_for tree →

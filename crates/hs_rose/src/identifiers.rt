@@ -23,7 +23,7 @@ pub(crate) fn ids_of(alloc: Global, entries: &[Entry]) -> Result<Vec<u32>, Alloc
     ensures same { IfOk result (λ ids. (id : ℕ) → has_id ids.items id ≡ has_id (map entry_id entries.now) id) }
     ensures few { IfOk result (λ ids. length ids.items ≤ length entries.now) }
 {
-    let ids = all_ids(alloc, entries)?;
+    let ids: Vec<u32> = entries.iter().map(|e| e.id.0).collect(alloc)?;
     Ok(rising(ids))
 }
 
@@ -40,13 +40,6 @@ pub(crate) fn identifiers_of(
     identifiers_for(alloc, ids, &many)
 }
 
-/// The number of each entry's identifier.
-fn all_ids(alloc: Global, entries: &[Entry]) -> Result<Vec<u32>, AllocError>
-    ensures { IfOk result (λ ids. ids.items ≡ map entry_id entries.now) }
-{
-    entries.iter().map(|e| e.id.0).collect(alloc)
-}
-
 /// The number of the identifier of each entry that doesn't ask for a single report.
 fn many_ids(alloc: Global, entries: &[Entry]) -> Result<Vec<u32>, AllocError>
     ensures { IfOk result (λ ids. ids.items ≡
@@ -54,16 +47,9 @@ fn many_ids(alloc: Global, entries: &[Entry]) -> Result<Vec<u32>, AllocError>
 {
     entries
         .iter()
-        .filter(|e| !asks_single(e))
+        .filter(|e| !e.flags.contains(Flags::SINGLEMATCH))
         .map(|e| e.id.0)
         .collect(alloc)
-}
-
-/// Whether the entry asks that its identifier be reported at most once in a stream.
-fn asks_single(entry: &Entry) -> bool
-    ensures { result ≡ asks_single (asked_of entry.now) }
-{
-    entry.flags.contains(Flags::SINGLEMATCH)
 }
 
 /// The same numbers, each once, rising.

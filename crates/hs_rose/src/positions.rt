@@ -77,7 +77,7 @@ impl PositionEngine {
         let streams = Streams::build(alloc, automaton)?;
         let behind = behind_of(automaton);
         let row = row_of(alloc, automaton)?;
-        // of the positions that accept in some context, and not of those that are entered in some
+        // By the masks for accepting it gives the last bytes of matches, as by those for entering the first.
         let last = first_bytes(automaton.sets(), automaton.accepts());
         Ok(PositionEngine {
             limex,

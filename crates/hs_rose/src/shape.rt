@@ -1,7 +1,6 @@
 //! What is kept of a piece.
 
-ghost use Rattle.std.specs.Prelude.{◌≡◌, ◌+◌, ◌/◌, ◌≤◌, Some};
-ghost use Rattle.hs_base.specs.Trees.{AreBounds};
+ghost use Rattle.std.specs.Prelude.{◌≡◌, ◌+◌, ◌/◌, ◌≤◌};
 ghost use Rattle.hs_base.specs.WrittenOut.{IsPlain, count, write_out};
 ghost use Rattle.hs_expr.specs.Meaning.{tree_of};
 
@@ -26,7 +25,7 @@ pub(crate) struct Shape {
 }
 
 impl Shape {
-    ghost use Rattle.hs_rose.specs.Shapes.{shape, shape_for, literal_shape, tree_shape, repeat_shape};
+    ghost use Rattle.hs_rose.specs.Shapes.{shape, shape_for};
     ghost use Rattle.hs_rose.specs.Runnable.{IsRunnable};
     ghost use Rattle.hs_pieces.specs.Meaning.{plain_piece};
 
@@ -36,9 +35,15 @@ impl Shape {
         ensures { result ≡ shape_for looks_back before (plain_piece piece.now) }
     {
         match piece {
-            Piece::Lit(_) => Shape::of_literal(looks_back, before),
-            Piece::Nfa(expr) => Shape::of_tree(looks_back, before, expr),
-            Piece::Rep(_, least, greatest) => Shape::of_repeat(*least, *greatest),
+            Piece::Lit(_) if before == 0 || (before == 1 && looks_back) => {
+                Shape::new(Kind::BareLiteral, 0)
+            }
+            Piece::Lit(_) => Shape::new(Kind::Literal, LITERAL_SIZE),
+            Piece::Nfa(_) if before == 0 && looks_back => Shape::new(Kind::LookBack, 0),
+            Piece::Nfa(expr) => Shape::new(Kind::Positions, bytes_for(position_count(expr))),
+            Piece::Rep(_, _, None) => Shape::new(Kind::First, DISTANCE_SIZE),
+            Piece::Rep(_, least, Some(_)) if *least <= 1 => Shape::new(Kind::Last, DISTANCE_SIZE),
+            Piece::Rep(_, _, Some(greatest)) => Shape::new(Kind::Ring, bytes_for(*greatest)),
         }
     }
 
@@ -47,53 +52,6 @@ impl Shape {
         ensures { result ≡ shape kind size }
     {
         Shape { kind, size }
-    }
-
-    /// Of a literal.
-    fn of_literal(looks_back: bool, before: usize) -> Shape
-        ensures { result ≡ literal_shape looks_back before }
-    {
-        if before == 0 || (before == 1 && looks_back) {
-            Shape::new(Kind::BareLiteral, 0)
-        } else {
-            Shape::new(Kind::Literal, LITERAL_SIZE)
-        }
-    }
-
-    /// Of an expression.
-    fn of_tree(looks_back: bool, before: usize, expr: &Expr) -> Shape
-        requires plain { IsPlain (tree_of expr.now) }
-        requires few { count (write_out (tree_of expr.now)) ≤ 512 }
-        ensures { result ≡ tree_shape looks_back before (count (write_out (tree_of expr.now))) }
-    {
-        if before == 0 && looks_back {
-            Shape::new(Kind::LookBack, 0)
-        } else {
-            Shape::new(Kind::Positions, bytes_for(position_count(expr)))
-        }
-    }
-
-    /// Of a long repeat of a set.
-    fn of_repeat(least: u32, greatest: Option<u32>) -> Shape
-        requires { AreBounds least greatest }
-        ensures { result ≡ repeat_shape least greatest }
-    {
-        match greatest {
-            None => Shape::new(Kind::First, DISTANCE_SIZE),
-            Some(greatest) => Shape::of_bounded(least, greatest),
-        }
-    }
-
-    /// Of a repeat with an end.
-    fn of_bounded(least: u32, greatest: u32) -> Shape
-        requires { greatest ≤ 32767 }
-        ensures { result ≡ repeat_shape least (Some greatest) }
-    {
-        if least <= 1 {
-            Shape::new(Kind::Last, DISTANCE_SIZE)
-        } else {
-            Shape::new(Kind::Ring, bytes_for(greatest))
-        }
     }
 }
 

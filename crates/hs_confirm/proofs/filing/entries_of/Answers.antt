@@ -2,7 +2,7 @@ use Rattle.std.proofs.Common.{◌≡◌, ◌∙◌, length, get_or, map, sym, ap
 use Rattle.std.proofs.lemmas.List.{map_push, get_or-map, length-map}
 use Rattle.hs_base.specs.LiteralView.{literal_byte}
 use Rattle.hs_confirm.specs.Keys.{literal_key}
-use Rattle.hs_confirm.specs.Entries.{AreKeyed, literal_in}
+use Rattle.hs_confirm.specs.Entries.{AreKeyed, IsOwnKey, literal_in}
 use Rattle.hs_confirm.proofs.FilingLemmas.{push-more, take-push, keyed-push}
 use Rattle.hs_confirm.proofs.filing.entries_of.Goals as goal
 
@@ -30,5 +30,6 @@ loop-number-preserved c =
         key = made.key
             ∙ ap (λ w. literal_key w (map literal_byte c.as_slice.result.now)) (ap (λ b. get_or widths b 0) c.from.ensures ∙ sym width)
             ∙ ap (λ xs. literal_key (get_or widths entry.bucket 0) (map literal_byte xs)) (sym made.literal);
+        own = subst (λ xs. IsOwnKey (map literal_byte xs) entry.own entry.own_mask) (sym made.literal) made.own;
       }));
     }

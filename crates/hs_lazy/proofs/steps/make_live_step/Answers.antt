@@ -18,10 +18,10 @@ take_members-requires-clause-old_len g c = (whole-at c.args.dfa.now c.args.state
 
 pub take_members-requires-clause-others : goal.take_members-requires-clause-others
 take_members-requires-clause-others g c =
-    subst (λ l. HaveTaken g.E.Engine.meaning c.args.engines.now l c.index.result.now c.image_behind-image.result c.args.byte c.index.result.now.live c.set_of-ends.result) (sym c.deref.ensures.value)
-    (others-idle g.E.Engine.meaning c.args.engines.now c.args.dfa.now.members.items c.index.result.now c.args.byte c.args.dfa.now.states.items c.args.dfa.now.ends.items c.args.idle c.image_behind-image.result c.set_of-ends.result
+    subst (λ l. HaveTaken g.E.Engine.meaning c.args.engines.now l c.index.result.now c.image_behind-image.result c.args.byte c.index.result.now.live c.set_of.result.now) (sym c.deref.ensures.value)
+    (others-idle g.E.Engine.meaning c.args.engines.now c.args.dfa.now.members.items c.index.result.now c.args.byte c.args.dfa.now.states.items c.args.dfa.now.ends.items c.args.idle c.image_behind-image.result c.set_of.result.now
     (c.requires.idle c.index.result.now (slice_get_read c.args.dfa.now.states.items _ c.args.state c.index.result.now refl c.requires.state c.index.ensures))
-    (whole-at c.args.dfa.now c.args.state c.index.result.now c.requires.state c.index.ensures) c.image_behind-image.ensures c.set_of-ends.ensures)
+    (whole-at c.args.dfa.now c.args.state c.index.result.now c.requires.state c.index.ensures) c.image_behind-image.ensures c.set_of.ensures.same)
 
 pub put_step-requires-clause-takes : goal.put_step-requires-clause-takes
 put_step-requires-clause-takes g c old is =

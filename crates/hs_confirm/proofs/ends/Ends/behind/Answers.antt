@@ -24,6 +24,7 @@ invariant_of-result c =
     record {
       eight = c.requires.bucket;
       within = c.requires.within;
+      full_is = c.requires.full;
       keyed = key;
       stands = λ below. least.stands (omega (arith, below, same, confirm.entries.ok.0));
     }
