@@ -10,3 +10,4 @@ pub mod PlaceLemmas
 pub mod ContextLemmas
 pub mod ClassLaneLemmas
 pub mod CountLemmas
+pub mod RunLemmas

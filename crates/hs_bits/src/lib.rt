@@ -11,6 +11,7 @@ mod members;
 mod next;
 mod places;
 mod ranges;
+mod runs;
 mod words;
 
 pub use bytes::{
@@ -25,6 +26,7 @@ pub use places::{
     contains_place, count_places, low_places, next_place, one_later, only_if, with_place,
 };
 pub use ranges::{has_bit_in, has_bit_round};
+pub use runs::{row_word, spread};
 pub use words::{
     WORD_BITS, are_apart, clear_words, contains_word_bit, insert_word_bit, is_unset, keep_words,
     shift_in, store, unite_bytes, unite_words, word_at, word_count_for, write_word_bit,

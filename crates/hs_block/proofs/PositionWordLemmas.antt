@@ -1,6 +1,6 @@
 -- Words of 64 places: united, moved on, counted, and read from bytes.
 use Rattle.std.proofs.Common.{◌≡◌, ◌≢◌, ◌↔◌, ℕ, zero, suc, ◌+◌, ◌-◌, ◌*◌, ◌/◌, ◌%◌, ◌^◌, ◌<◌, ◌≤◌, Bool, true, false, not, nat_lt, ◌&&◌, ◌||◌, List, length, get_or, take, drop, eqb, bit_and, bit_or, refl, sym, ap, ◌∙◌, inl, inr, arith}
-use Rattle.std.specs.Prelude.{if◌then◌else◌, nat_le}
+use Rattle.std.specs.Prelude.{if◌then◌else◌}
 use Rattle.std.specs.Int.{bit_at}
 use Rattle.std.specs.Int.Count.{ones}
 use Rattle.std.proofs.lemmas.Bool.{cases_eq, cases_lt, eq-eqb, eqb-true, eqb-false}
@@ -19,7 +19,7 @@ use Rattle.hs_block.specs.Packed.{digits, packed}
 use Rattle.hs_bits.specs.WordBits.{word_bit, count_below}
 use Rattle.hs_block.proofs.AnyLemmas.{any-none, any-same, any-some, any-split, none-any, same-truth, some-any, true-false, true-or-false}
 use Rattle.hs_block.proofs.PackedLemmas.{bit-digits, length-packed, packed-at}
-use Rattle.hs_bits.proofs.PlaceLemmas.{bit-both, bit-either, bit-none, bit-up, less-is, not-less}
+use Rattle.hs_bits.proofs.PlaceLemmas.{bit-both, bit-either, bit-none, less-is, not-less}
 use Rattle.hs_block.proofs.TableLemmas.{with-bit}
 
 -- a word without a bit is 0
@@ -257,30 +257,3 @@ stored-row bytes row n len are =
     are i (omega arith)
     ∙ (ap (λ k. bit_and (get_or row k 0 / 2 ^ (8 * i % 64)) 255) place ∙ ap (λ k. bit_and (get_or row (i / 8) 0 / 2 ^ k) 255) shift)
     ∙ (low-byte row i ∙ sym (packed-at n (has_word_bit row) i (omega arith))))
-
--- the first places, and others of the run
-pub spread-bit : (first run x i : ℕ) → word_bit (bit_or first (bit_and run x)) i ≡ (word_bit first i || (word_bit run i && word_bit (bit_or first (bit_and run x)) i))
-spread-bit first run x i =
-    let is : word_bit (bit_or first (bit_and run x)) i ≡ (word_bit first i || (word_bit run i && word_bit x i)) = bit-either first (bit_and run x) i ∙ ap (λ b. word_bit first i || b) (bit-both run x i) in
-    is ∙ (again (word_bit first i) (word_bit run i) (word_bit x i) ∙ ap (λ b. word_bit first i || (word_bit run i && b)) (sym is))
-  where
-    again : (f r x : Bool) → (f || (r && x)) ≡ (f || (r && (f || (r && x))))
-    again true r x = refl
-    again false true x = refl
-    again false false x = refl
-
--- what a look at a word says
-pub looked-at : (class reached again word : ℕ) → word ≡ bit_and class (bit_or reached (bit_and (word * 2 % 18446744073709551616) again)) → (i : ℕ) → i < 64 →
-    word_bit word i ≡ (word_bit class i && (word_bit reached i || (nat_le 1 i && (word_bit word (i - 1) && word_bit again i))))
-looked-at class reached again word is i small =
-    let up : ℕ = word * 2 % 18446744073709551616 in
-    ap (λ w. word_bit w i) is
-    ∙ (bit-both class (bit_or reached (bit_and up again)) i
-    ∙ ap (λ b. word_bit class i && b)
-    (bit-either reached (bit_and up again) i
-    ∙ ap (λ b. word_bit reached i || b)
-    (bit-both up again i ∙ (ap (λ b. b && word_bit again i) (bit-up word 1 i small) ∙ and-grouped (nat_le 1 i) (word_bit word (i - 1)) (word_bit again i)))))
-  where
-    and-grouped : (a b c : Bool) → ((a && b) && c) ≡ (a && (b && c))
-    and-grouped true b c = refl
-    and-grouped false b c = refl

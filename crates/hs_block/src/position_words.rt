@@ -1,7 +1,7 @@
 //! Words of 64 places, one for each position: united, moved on, and read across.
 
-ghost use Rattle.std.specs.Prelude.{◌≡◌, ℕ, ◌-◌, ◌*◌, ◌<◌, ◌≤◌, ◌&&◌, ◌||◌, false, nat_lt, nat_le};
-ghost use Rattle.std.specs.Prelude.{IfSome, length, slice_index};
+ghost use Rattle.std.specs.Prelude.{◌≡◌, ℕ, ◌*◌, ◌<◌, ◌≤◌, ◌&&◌, false, nat_lt};
+ghost use Rattle.std.specs.Prelude.{length, slice_index};
 ghost use Rattle.hs_base.specs.Bits.{has_bit, has_word_bit};
 ghost use Rattle.hs_engine.specs.AnyBelow.{any_below};
 ghost use Rattle.hs_block.specs.Packed.{packed};
@@ -67,30 +67,6 @@ pub(crate) fn united_rows(words: &[u64], row: &[u64], live: &[u64]) -> u64
         all |= united(&words[from..from + WORD_BITS], row[place] & live[place]);
     }
     all
-}
-
-/// The first places and all in a row behind them that the run has: a sum carries a bit through a run. That all of those
-/// are there is not promised: what calls this looks at what it gives.
-#[inline(always)]
-pub(crate) fn spread(first: u64, run: u64) -> u64
-    ensures { (i : ℕ) → word_bit result i ≡ (word_bit first i || (word_bit run i && word_bit result i)) }
-{
-    first | (run & (run ^ run.wrapping_add(first & run)))
-}
-
-/// The places of a class that are reached, or behind such a place in a row of those at which the position may follow
-/// itself; None where a look at them fails.
-#[inline(always)]
-pub(crate) fn row_word(class: u64, reached: u64, again: u64) -> Option<u64>
-    ensures { IfSome result (λ word. (i : ℕ) → i < 64 → word_bit word i ≡ (word_bit class i
-        && (word_bit reached i || (nat_le 1 i && (word_bit word (i - 1) && word_bit again i))))) }
-{
-    let word = spread(class & reached, class & again);
-    if word == class & (reached | ((word << 1) & again)) {
-        Some(word)
-    } else {
-        None
-    }
 }
 
 /// How many of the bits are set.

@@ -26,14 +26,12 @@ use crate::before_tables::{MAX_WIDTH, OrderTables, SQUARES, row_in, square_place
 use crate::class_words::{ClassWords, MAX_SETS, class_word};
 use crate::engine::BlockEnds;
 use crate::mask_words::{contexts_of, has_mixed, mask_before, mask_behind, some_row};
-use crate::position_words::{
-    column, count_places, keep_row, load, meet, place_in, row_word, united_rows,
-};
+use crate::position_words::{column, count_places, keep_row, load, meet, place_in, united_rows};
 use crate::set_tables::SetTables;
 use hs_base::{ByteSet, Mask, Prev};
 use hs_bits::{
     Contexts, WORD_BITS, contains_place, contains_word_bit, is_zero, keep_words, low_places,
-    next_bit_in, one_later, only_if, unite_words, write_word_bit,
+    next_bit_in, one_later, only_if, row_word, unite_words, write_word_bit,
 };
 use hs_engine::{Automaton, Steps, first_bytes};
 use std::alloc::{AllocError, Global};
