@@ -62,3 +62,9 @@ pub ones-of-part : (word from end low : ℕ) → low < 18446744073709551616 → 
 ones-of-part word from end low small few is =
     ones-between word from end (bit_and (word / 2 ^ from) low) (omega (arith, and_le_r (word / 2 ^ from) low)) few
     (λ i. bit-both (word / 2 ^ from) low i ∙ (ap (λ b. b && word_bit low i) (bit-shifted word from i) ∙ ap (λ b. word_bit word (from + i) && b) (is i)))
+
+-- the ones of a word that has none from some place on
+pub ones-of_whole : (word count : ℕ) → word < 2 ^ 64 → count ≤ 64 → ((i : ℕ) → count ≤ i → word_bit word i ≡ false) → count_ones word ≡ count_below count (word_bit word)
+ones-of_whole word count small few none =
+    let e : 64 ≡ count + (64 - count) = omega arith in
+    ones-are 64 word small ∙ (ap (λ k. count_below k (word_bit word)) e ∙ count-cut (64 - count) count (word_bit word) none)

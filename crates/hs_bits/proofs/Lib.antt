@@ -11,3 +11,5 @@ pub mod ContextLemmas
 pub mod ClassLaneLemmas
 pub mod CountLemmas
 pub mod RunLemmas
+pub mod PackedLemmas
+pub mod RowLemmas

@@ -1,9 +1,9 @@
 -- Bits in a row of words.
-use Rattle.std.proofs.Common.{◌≡◌, ◌≢◌, ℕ, zero, suc, ◌+◌, ◌-◌, ◌*◌, ◌/◌, ◌%◌, ◌^◌, ◌<◌, ◌≤◌, Bool, true, false, ◌&&◌, ◌||◌, List, length, get_or, set, eqb, bit_or, bit_and, refl, sym, ap, subst, ◌∙◌, inl, inr, arith, w64, [], ◌∷◌, ◌++◌, take, drop, length-drop}
+use Rattle.std.proofs.Common.{◌≡◌, ◌≢◌, ℕ, zero, suc, ◌+◌, ◌-◌, ◌*◌, ◌/◌, ◌%◌, ◌^◌, ◌<◌, ◌≤◌, Bool, true, false, ◌&&◌, ◌||◌, List, length, get_or, set, eqb, bit_or, bit_and, refl, sym, ap, subst, ◌∙◌, inl, inr, arith, w64, [], ◌∷◌, ◌++◌, take, drop, length-drop, replicate}
 use Rattle.std.specs.Prelude.{nat_lt, nat_le}
 use Rattle.std.specs.Int.{bit_at, trailing_zeros, from_le_bytes, to_le_bytes}
 use Rattle.std.proofs.lemmas.Bool.{cases_eq, cases_lt, eq-eqb, eqb-true, ne_eqb, lt-ltb, le-ltb, le-leb, lt-leb}
-use Rattle.std.proofs.lemmas.List.{get_or-set_same, get_or-set_other, get_or_past, get_or-take, get_or-drop, length-take, get_or_append_left, get_or-append-add}
+use Rattle.std.proofs.lemmas.List.{get_or-set_same, get_or-set_other, get_or-replicate, get_or_past, get_or-take, get_or-drop, length-replicate, length-take, get_or_append_left, get_or-append-add}
 use Rattle.std.proofs.lemmas.Nat.{and_le_l, shr-shr, shr_split, one_shl, pow_pos, from_le_bytes-to_le_bytes_8}
 use Rattle.std.proofs.lemmas.Nat.Bits.{bit_at-trailing_zeros, bit_at-zero, bit_at_above, bit_at_cat_low, bit_at_cat_high}
 use Rattle.hs_base.proofs.ByteSetLemmas.{bit-or}
@@ -152,6 +152,17 @@ unfolding has_word_bit
 words-zero words zeros k = ap (λ n. eqb (bit_at n (k % 64)) 1) (zeros (k / 64)) ∙ ap (λ n. eqb n 1) (bit_at-zero (k % 64))
 
 -- a word that another was united with
+-- no bit is set where all words are 0
+pub zero-words : (n x : ℕ) → get_or (replicate n zero) x zero ≡ zero
+zero-words n x =
+    elim (cases_lt x n) [
+      | inl below ↦ get_or-replicate n x zero zero below
+      | inr past ↦ get_or_past (replicate n zero) x zero (omega (arith, past, length-replicate n zero))
+    ]
+
+pub zero-row : (n k : ℕ) → has_word_bit (replicate n zero) k ≡ false
+zero-row n k = words-zero (replicate n zero) (zero-words n) k
+
 pub bits-united_word : (words : List ℕ) (p v k : ℕ) → p < length words →
     has_word_bit (set words p (bit_or (get_or words p 0) v)) k ≡ ((eqb (k / 64) p && eqb (bit_at v (k % 64)) 1) || has_word_bit words k)
 unfolding has_word_bit
@@ -308,18 +319,6 @@ together words row p small some apart =
     let e : true ≡ false = sym both ∙ none in cc
 
 -- bytes that words are stored to
-
-pub stored-byte : (words bytes : List ℕ) (p v : ℕ) → p < length bytes → ((i : ℕ) → i < 8 → eqb (bit_at v i) 1 ≡ has_word_bit words (8 * p + i)) →
-    ((k : ℕ) → k < 8 * p → has_bit bytes k ≡ has_word_bit words k) → (k : ℕ) → k < 8 * (p + 1) → has_bit (set bytes p v) k ≡ has_word_bit words k
-unfolding has_bit
-stored-byte words bytes p v within byte before k below =
-    elim (cases_eq (k / 8) p) [
-      | inl same ↦
-          let e : 8 * p + k % 8 ≡ k = omega arith in
-          ap (λ n. eqb (bit_at (get_or (set bytes p v) n 0) (k % 8)) 1) same
-          ∙ (ap (λ n. eqb (bit_at n (k % 8)) 1) (get_or-set_same bytes p v 0 within) ∙ (byte (k % 8) (omega arith) ∙ ap (has_word_bit words) e))
-      | inr apart ↦ ap (λ n. eqb (bit_at n (k % 8)) 1) (get_or-set_other bytes p (k / 8) v 0 apart) ∙ before k (omega arith)
-    ]
 
 pub stored : (words bytes : List ℕ) (n : ℕ) → length bytes ≡ n → ((k : ℕ) → k < 8 * n → has_bit bytes k ≡ has_word_bit words k) → (k : ℕ) → has_bit bytes k ≡ (nat_lt k (8 * n) && has_word_bit words k)
 stored words bytes n len bits k =

@@ -6,3 +6,4 @@ pub mod NextBits
 pub mod Shifts
 pub mod WordBits
 pub mod BlockContexts
+pub mod Packed

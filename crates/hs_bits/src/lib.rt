@@ -7,10 +7,12 @@ mod bytes;
 mod contexts;
 mod lowest;
 mod marks;
+mod masks;
 mod members;
 mod next;
 mod places;
 mod ranges;
+mod rows;
 mod runs;
 mod words;
 
@@ -20,14 +22,18 @@ pub use bytes::{
 pub use contexts::Contexts;
 pub use lowest::{lowest_bit, without_lowest_bit};
 pub use marks::MarkSet;
+pub use masks::{contexts_of, in_all_contexts, mask_before, mask_behind};
 pub use members::member_places;
 pub use next::{next_bit_in, next_bit_in_either};
 pub use places::{
-    contains_place, count_places, low_places, next_place, one_later, only_if, with_place,
+    contains_place, count_places, low_places, next_place, one_later, only_if, place_count,
+    with_place,
 };
 pub use ranges::{has_bit_in, has_bit_round};
+pub use rows::{column, load, place_in};
 pub use runs::{row_word, spread};
 pub use words::{
     WORD_BITS, are_apart, clear_words, contains_word_bit, insert_word_bit, is_unset, keep_words,
-    shift_in, store, unite_bytes, unite_words, word_at, word_count_for, write_word_bit,
+    put_word_bit, shift_in, store, unite_bytes, unite_words, word_at, word_count_for,
+    write_word_bit,
 };

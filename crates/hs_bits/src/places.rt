@@ -1,7 +1,7 @@
 //! The places of a block as the bits of a word.
 
 ghost use Rattle.std.specs.Prelude.{◌≡◌, ℕ, ◌<◌, ◌≤◌, ◌&&◌, ◌||◌, ◌==◌, false, true, nat_lt};
-ghost use Rattle.hs_bits.specs.WordBits.{count_set, one_later, word_bit};
+ghost use Rattle.hs_bits.specs.WordBits.{count_below, count_set, one_later, word_bit};
 
 use crate::lowest::lowest_bit;
 use crate::words::WORD_BITS;
@@ -67,6 +67,17 @@ pub fn count_places(word: u64, from: usize, end: usize) -> u64
 {
     let bits = (word >> from) & low_places(end - from);
     u64::from(bits.count_ones())
+}
+
+/// How many places have their bit set.
+#[inline(always)]
+pub fn place_count(word: u64) -> u64
+    ensures { (count : ℕ) →
+        count ≤ 64 →
+        ((i : ℕ) → count ≤ i → word_bit word i ≡ false) →
+        result ≡ count_below count (word_bit word) }
+{
+    word.count_ones() as u64
 }
 
 /// The word one place on, with that bit for the first place.

@@ -4,6 +4,7 @@ ghost use Rattle.std.specs.Prelude.{◌≡◌, ◌↔◌, ℕ, ◌+◌, ◌-◌,
 ghost use Rattle.std.specs.Prelude.{◌||◌, ◌==◌, nat_lt, nat_le, length, take, drop};
 ghost use Rattle.std.specs.Int.{bit_at, from_le_bytes, w64};
 ghost use Rattle.hs_base.specs.Bits.{AreZero, has_bit, has_word_bit, word_count};
+ghost use Rattle.hs_bits.specs.Packed.{digits, packed};
 ghost use Rattle.hs_bits.specs.Shifts.{is_shifted};
 
 use crate::bytes::BYTE_BITS;
@@ -38,6 +39,17 @@ pub fn insert_word_bit(words: &mut [u64], bit: usize)
     ensures bits { (k : ℕ) → has_word_bit words.new k ≡ ((k == bit) || has_word_bit words.old k) }
 {
     words[bit / WORD_BITS] |= 1 << (bit % WORD_BITS);
+}
+
+/// Sets the bit of that number, if `value` says so.
+pub fn put_word_bit(words: &mut [u64], bit: usize, value: bool)
+    requires { bit < 64 * length words.old }
+    ensures len { length words.new ≡ length words.old }
+    ensures bits { (k : ℕ) → has_word_bit words.new k ≡ (((k == bit) && value) || has_word_bit words.old k) }
+{
+    if value {
+        insert_word_bit(words, bit);
+    }
 }
 
 /// Sets the bit of that number, or unsets it.
@@ -140,6 +152,7 @@ pub fn store(words: &[u64], bytes: &mut [u8])
     requires { length bytes.old ≤ 8 * length words.now }
     ensures len { length bytes.new ≡ length bytes.old }
     ensures bits { (k : ℕ) → has_bit bytes.new k ≡ (nat_lt k (8 * length bytes.old) && has_word_bit words.now k) }
+    ensures packed { bytes.new ≡ packed (length bytes.old) (has_word_bit words.now) }
 {
     for place in 0..bytes.len() {
         bytes[place] = byte_of(words, place);
@@ -149,7 +162,7 @@ pub fn store(words: &[u64], bytes: &mut [u8])
 /// The byte of that number.
 fn byte_of(words: &[u64], place: usize) -> u8
     requires { place < 8 * length words.now }
-    ensures { (i : ℕ) → i < 8 → (bit_at result i == 1) ≡ has_word_bit words.now (8 * place + i) }
+    ensures { result ≡ digits 8 (λ i. has_word_bit words.now (8 * place + i)) }
 {
     ((words[place / WORD_LEN] >> (BYTE_BITS * (place % WORD_LEN))) & 0xff) as u8
 }

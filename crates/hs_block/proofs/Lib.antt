@@ -5,7 +5,6 @@ pub mod LiteralBlockLemmas
 pub mod ClassWordLemmas
 pub mod MaskLemmas
 pub mod AnyLemmas
-pub mod PackedLemmas
 pub mod StreamRowLemmas
 pub mod PositionWordLemmas
 pub mod StreamSettleLemmas

@@ -1,31 +1,18 @@
--- Words of 64 places: united, moved on, counted, and read from bytes.
-use Rattle.std.proofs.Common.{◌≡◌, ◌≢◌, ◌↔◌, ℕ, zero, suc, ◌+◌, ◌-◌, ◌*◌, ◌/◌, ◌%◌, ◌^◌, ◌<◌, ◌≤◌, Bool, true, false, not, nat_lt, ◌&&◌, ◌||◌, List, length, get_or, take, drop, eqb, bit_and, bit_or, refl, sym, ap, ◌∙◌, inl, inr, arith}
-use Rattle.std.specs.Prelude.{if◌then◌else◌}
+-- Words of 64 places: united, and rows that meet.
+use Rattle.std.proofs.Common.{◌≡◌, ◌≢◌, ◌↔◌, ℕ, ◌+◌, ◌*◌, ◌/◌, ◌%◌, ◌^◌, ◌<◌, ◌≤◌, Bool, true, false, not, ◌&&◌, ◌||◌, List, length, get_or, take, drop, eqb, bit_and, bit_or, refl, sym, ap, ◌∙◌, inl, inr, arith}
 use Rattle.std.specs.Int.{bit_at}
-use Rattle.std.specs.Int.Count.{ones}
-use Rattle.std.proofs.lemmas.Bool.{cases_eq, cases_lt, eq-eqb, eqb-true, eqb-false}
+use Rattle.std.proofs.lemmas.Bool.{cases_eq, cases_lt, eq-eqb, eqb-true}
 use Rattle.std.proofs.lemmas.List.{get_or-take, get_or-drop}
-use Rattle.std.proofs.lemmas.Nat.{and_mask, mod-pow-add, ones_cat, pow_pos}
-use Rattle.std.proofs.lemmas.Nat.Bits.{bit_at-lt, bit_at-zero, bit_at_above, same_from_bits, same_from_bits_below}
-use Rattle.std.proofs.Math.Nat.{mod-lt, pow-suc}
+use Rattle.std.proofs.lemmas.Nat.Bits.{bit_at_above}
 use Rattle.hs_base.specs.Bits.{has_word_bit}
-use Rattle.hs_base.proofs.BitLemmas.{same-places}
 use Rattle.hs_base.proofs.ContextLemmas.{first_of_both, second_of_both, of_both, of_either, left_of_either, right_of_either}
 use Rattle.hs_bits.specs.LowestBits.{IsLowestBit, AreBitsBehind}
 use Rattle.hs_bits.proofs.LowestLemmas.{lowest-gone, others-stay}
-use Rattle.hs_bits.proofs.WordLemmas.{byte-bits, or-none}
+use Rattle.hs_bits.proofs.WordLemmas.{or-none}
 use Rattle.hs_engine.specs.AnyBelow.{any_below}
-use Rattle.hs_block.specs.Packed.{digits, packed}
-use Rattle.hs_bits.specs.WordBits.{word_bit, count_below}
+use Rattle.hs_bits.specs.WordBits.{word_bit}
 use Rattle.hs_block.proofs.AnyLemmas.{any-none, any-same, any-some, any-split, none-any, same-truth, some-any, true-false, true-or-false}
-use Rattle.hs_block.proofs.PackedLemmas.{bit-digits, length-packed, packed-at}
-use Rattle.hs_bits.proofs.PlaceLemmas.{bit-both, bit-either, bit-none, less-is, not-less}
-use Rattle.hs_block.proofs.TableLemmas.{with-bit}
-
--- a word without a bit is 0
-pub no-bits : (word : ℕ) → ((k : ℕ) → word_bit word k ≡ false) → word ≡ 0
-unfolding word_bit
-no-bits word none_ = same_from_bits word 0 (λ k. omega (arith, bit_at-lt word k, bit_at-zero k, eqb-false (bit_at word k) 1 (none_ k)))
+use Rattle.hs_bits.proofs.PlaceLemmas.{bit-both, bit-either, bit-none}
 
 -- beyond the end of a word no bit is set
 pub past-word : (word k : ℕ) → word < 2 ^ 64 → 64 ≤ k → word_bit word k ≡ false
@@ -159,101 +146,3 @@ meet-rows false one other size is few =
             | inr past ↦ ap (λ b. b && has_word_bit other k) (few k past)
           ]) in cc)
     ]
-
--- positions that aren't live are passed over
-pub column-passed : (live words : List ℕ) (from x place : ℕ) → from ≤ x → ((y : ℕ) → from ≤ y → y < x → has_word_bit live y ≡ false) → ((y : ℕ) → has_word_bit live y ≡ false → get_or words y 0 ≡ 0) →
-    (k : ℕ) (now : Bool) → now ≡ (nat_lt k from && word_bit (get_or words k 0) place) → now ≡ (nat_lt k x && word_bit (get_or words k 0) place)
-column-passed live words from x place low none_ dark k now is =
-    let test : Bool = word_bit (get_or words k 0) place in
-    is
-    ∙ elim (cases_lt k from) [
-      | inl below ↦ ap (λ b. b && test) (less-is k from below) ∙ sym (ap (λ b. b && test) (less-is k x (omega arith)))
-      | inr past ↦
-          ap (λ b. b && test) (not-less k from past)
-          ∙ elim (cases_lt k x) [
-            | inl between ↦
-                let off : test ≡ false = ap (λ w. word_bit w place) (dark k (none_ k past between)) ∙ bit-none place in
-                sym (ap (λ b. b && test) (less-is k x between) ∙ off)
-            | inr above ↦ sym (ap (λ b. b && test) (not-less k x above))
-          ]
-    ]
-
--- one position more of a column
-pub column-more : (row live words new : List ℕ) (from x place : ℕ) (value : Bool) → from ≤ x → ((y : ℕ) → from ≤ y → y < x → has_word_bit live y ≡ false) → ((y : ℕ) → has_word_bit live y ≡ false → get_or words y 0 ≡ 0) →
-    value ≡ word_bit (get_or words x 0) place → ((k : ℕ) → has_word_bit new k ≡ ((eqb k x && value) || has_word_bit row k)) → ((k : ℕ) → has_word_bit row k ≡ (nat_lt k from && word_bit (get_or words k 0) place)) →
-    (k : ℕ) → has_word_bit new k ≡ (nat_lt k (x + 1) && word_bit (get_or words k 0) place)
-column-more row live words new from x place value low none_ dark value_is new_is row_is k =
-    with-bit x k (word_bit (get_or words k 0) place) value (has_word_bit row k) (has_word_bit new k) (λ same. value_is ∙ ap (λ y. word_bit (get_or words y 0) place) (sym same)) (column-passed live words from x place low none_ dark k (has_word_bit row k) (row_is k)) (new_is k)
-
--- how many bits are set
-
-one-is : (b : ℕ) → b < 2 → ones b ≡ (if eqb b 1 then 1 else 0)
-unfolding ones
-one-is zero below = refl
-one-is (suc zero) below = refl
-one-is (suc (suc b)) below = absurd (omega arith)
-
-ones-mod : (n word : ℕ) → ones (word % 2 ^ n) ≡ count_below n (word_bit word)
-unfolding word_bit ones
-ones-mod zero word = let e : word % 1 ≡ 0 = omega arith in ap ones e
-ones-mod (suc n) word =
-    let e : suc n ≡ 1 + n = omega arith in
-    let low : ℕ = word % 2 ^ n in
-    let small : low < 2 ^ n = mod-lt word (pow_pos n) in
-    ap (λ k. ones (word % 2 ^ k)) e
-    ∙ (ap ones (mod-pow-add word 1 n)
-    ∙ (ones_cat n (word / 2 ^ n % 2) low small
-    ∙ (ap (λ k. k + ones low) (one-is (bit_at word n) (bit_at-lt word n)) ∙ ap (λ k. (if eqb (bit_at word n) 1 then 1 else 0) + k) (ones-mod n word))))
-
-count-fewer : (n m : ℕ) (f : ℕ → Bool) → n ≤ m → ((i : ℕ) → n ≤ i → f i ≡ false) → count_below m f ≡ count_below n f
-count-fewer n zero f few rest = let e : 0 ≡ n = omega arith in ap (λ k. count_below k f) e
-count-fewer n (suc m) f few rest =
-    elim (cases_eq n (suc m)) [
-      | inl same ↦ ap (λ k. count_below k f) (sym same)
-      | inr apart ↦
-          let none_ : ◌≡◌ {A = ℕ} (if f m then 1 else 0) 0 = ap (λ b. if b then 1 else 0) (rest m (omega arith)) in
-          omega (arith, none_, count-fewer n m f (omega arith) rest)
-    ]
-
-pub count-ones : (word count : ℕ) → word < 2 ^ 64 → count ≤ 64 → ((i : ℕ) → count ≤ i → word_bit word i ≡ false) → ones word ≡ count_below count (word_bit word)
-count-ones word count fits few rest =
-    let e : word ≡ word % 2 ^ 64 = omega arith in
-    ap ones e ∙ (ones-mod 64 word ∙ count-fewer count 64 (word_bit word) few rest)
-
--- bytes that are those of a row
-
-digits-below : (n : ℕ) (f : ℕ → Bool) → digits n f < 2 ^ n
-digits-below zero f = omega arith
-digits-below (suc n) f =
-    let first : (if f 0 then 1 else 0) ≤ 1 = one-most (f 0) in
-    omega (arith, first, digits-below n (λ k. f (suc k)), pow-suc 2 n)
-  where
-    one-most : (b : Bool) → (if b then 1 else 0) ≤ 1
-    one-most true = omega arith
-    one-most false = omega arith
-
-low-byte : (row : List ℕ) (i : ℕ) → bit_and (get_or row (i / 8) 0 / 2 ^ (8 * (i % 8))) 255 ≡ digits 8 (λ k. has_word_bit row (8 * i + k))
-low-byte row i =
-    let byte : ℕ = bit_and (get_or row (i / 8) 0 / 2 ^ (8 * (i % 8))) 255 in
-    let small : byte < 2 ^ 8 = omega (arith, and_mask (get_or row (i / 8) 0 / 2 ^ (8 * (i % 8))) 8) in
-    same_from_bits_below 8 byte (digits 8 (λ k. has_word_bit row (8 * i + k))) small (digits-below 8 (λ k. has_word_bit row (8 * i + k))) (λ k below.
-    same-digit (bit_at byte k) (bit_at (digits 8 (λ k. has_word_bit row (8 * i + k))) k) (bit_at-lt byte k) (bit_at-lt (digits 8 (λ k. has_word_bit row (8 * i + k))) k)
-    (byte-bits row i k below ∙ sym (bit-digits 8 (λ k. has_word_bit row (8 * i + k)) k below)))
-  where
-    same-digit : (a b : ℕ) → a < 2 → b < 2 → eqb a 1 ≡ eqb b 1 → a ≡ b
-    same-digit zero zero h k e = refl
-    same-digit zero (suc zero) h k e = absurd (let f : false ≡ true = e in cc)
-    same-digit (suc zero) zero h k e = absurd (let f : true ≡ false = e in cc)
-    same-digit (suc zero) (suc zero) h k e = refl
-    same-digit (suc (suc a)) b h k e = absurd (omega arith)
-    same-digit a (suc (suc b)) h k e = absurd (omega arith)
-
-pub stored-row : (bytes row : List ℕ) (n : ℕ) → length bytes ≡ n → ((i : ℕ) → i < n → get_or bytes i 0 ≡ bit_and (get_or row (8 * i / 64) 0 / 2 ^ (8 * i % 64)) 255) → bytes ≡ packed n (has_word_bit row)
-stored-row bytes row n len are =
-    same-places bytes (packed n (has_word_bit row)) (len ∙ sym (length-packed n (has_word_bit row)))
-    (λ i below.
-    let place : 8 * i / 64 ≡ i / 8 = omega arith in
-    let shift : 8 * i % 64 ≡ 8 * (i % 8) = omega arith in
-    are i (omega arith)
-    ∙ (ap (λ k. bit_and (get_or row k 0 / 2 ^ (8 * i % 64)) 255) place ∙ ap (λ k. bit_and (get_or row (i / 8) 0 / 2 ^ k) 255) shift)
-    ∙ (low-byte row i ∙ sym (packed-at n (has_word_bit row) i (omega arith))))

@@ -14,7 +14,7 @@ use Rattle.hs_engine.specs.AnyBelow.{any_below}
 use Rattle.hs_block.specs.declared.engine.BlockEnds.{BlockEnds}
 use Rattle.hs_block.specs.declared.streams.Streams.{Streams}
 use Rattle.hs_block.specs.Blocks.{is_blank, is_busy}
-use Rattle.hs_block.specs.Packed.{packed}
+use Rattle.hs_bits.specs.Packed.{packed}
 use Rattle.hs_bits.specs.BlockContexts.{context_before, context_behind, prev_before}
 use Rattle.hs_block.specs.Rows.{is_next, live_at}
 use Rattle.hs_block.specs.StreamRuns.{IsStreamRun, IsTried, accepts_before, accepts_behind, stream_part, stream_row}
@@ -23,11 +23,34 @@ use Rattle.hs_engine.specs.Between.{between}
 use Rattle.hs_block.specs.StreamSets.{takes_byte}
 use Rattle.hs_block.specs.StreamTables.{comes_before, stream_rules}
 use Rattle.hs_bits.specs.WordBits.{count_below, one_later, word_bit}
-use Rattle.hs_block.proofs.AnyLemmas.{any-none, any-same, same-truth, true-false, true-or-false}
+use Rattle.hs_block.proofs.AnyLemmas.{any-none, any-same, any-some, none-any, same-truth, true-false, true-or-false}
 use Rattle.hs_bits.proofs.BlockLemmas.{count-same}
-use Rattle.hs_block.proofs.PackedLemmas.{length-packed, packed-blank, packed-same, packed-zero}
+use Rattle.hs_bits.proofs.PackedLemmas.{bit-packed, length-packed, packed-same, packed-zero}
 use Rattle.hs_bits.proofs.PlaceLemmas.{bit-both, bit-none, less-is, not-less}
 use Rattle.hs_block.proofs.RunLemmas.{blank-zero, zero-blank}
+
+-- the bytes are blank where none passes
+packed-blank : (n size : ℕ) (f : ℕ → Bool) → size ≤ 8 * n → not (is_blank (packed n (λ x. nat_lt x size && f x))) ≡ any_below size f
+packed-blank n size f room =
+    let bit : ℕ → Bool = λ x. nat_lt x size && f x in
+    elim (true-or-false (any_below size f)) [
+      | inl any ↦
+          let (x, below, is) = any-some size f any in
+          let set : has_bit (packed n bit) x ≡ true = bit-packed n bit x (omega arith) ∙ (ap (λ b. b && f x) (less-is x size below) ∙ is) in
+          let live : is_blank (packed n bit) ≡ false =
+          elim (true-or-false (is_blank (packed n bit))) [
+            | inl blank ↦ true-false (has_bit (packed n bit) x) set (zero-bits (packed n bit) (blank-zero (packed n bit) blank) x)
+            | inr isnt ↦ isnt
+          ] in
+          ap not live ∙ sym any
+      | inr none_ ↦
+          let unset : (x : ℕ) → x < 8 * n → bit x ≡ false = λ x below.
+          elim (cases_lt x size) [
+            | inl inside ↦ ap (λ b. b && f x) (less-is x size inside) ∙ none-any size f none_ x inside
+            | inr past ↦ ap (λ b. b && f x) (not-less x size past)
+          ] in
+          ap not (zero-blank (packed n bit) (packed-zero n bit unset)) ∙ sym none_
+    ]
 
 -- both where a number is below another
 pub under : (i n : ℕ) (a b : Bool) → (i < n → a ≡ b) → (nat_lt i n && a) ≡ (nat_lt i n && b)

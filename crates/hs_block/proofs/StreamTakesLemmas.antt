@@ -28,7 +28,7 @@ use Rattle.hs_block.specs.StreamTables.{TellsOf, comes_before}
 use Rattle.hs_bits.specs.WordBits.{bits_of, word_bit}
 use Rattle.hs_block.proofs.AnyLemmas.{any-none}
 use Rattle.hs_bits.proofs.ContextLemmas.{prev-there}
-use Rattle.hs_block.proofs.PackedLemmas.{bit-packed, bit-packed_past, length-packed, packed-zero}
+use Rattle.hs_bits.proofs.PackedLemmas.{bit-packed, bit-packed_past, length-packed, packed-zero}
 use Rattle.hs_bits.proofs.PlaceLemmas.{less, less-is, not-less}
 use Rattle.hs_block.proofs.RunLemmas.{blank-zero}
 use Rattle.hs_block.proofs.StreamRowLemmas.{accepts-leave, reached-below, rows-field}

@@ -18,17 +18,6 @@ use Rattle.hs_block.specs.StreamSets.{AreOrders, in_rows}
 use Rattle.hs_block.proofs.AnyLemmas.{true-false}
 use Rattle.hs_bits.proofs.PlaceLemmas.{less-is, not-less}
 
--- no bit is set where all words are 0
-pub zero-words : (n x : ℕ) → get_or (replicate n zero) x zero ≡ zero
-zero-words n x =
-    elim (cases_lt x n) [
-      | inl below ↦ get_or-replicate n x zero zero below
-      | inr past ↦ get_or_past (replicate n zero) x zero (omega (arith, past, length-replicate n zero))
-    ]
-
-pub zero-row : (n k : ℕ) → has_word_bit (replicate n zero) k ≡ false
-zero-row n k = words-zero (replicate n zero) (zero-words n) k
-
 -- a row has its room among so many
 pub row-room : (w x n : ℕ) → x < n → w * x + w ≤ w * n
 row-room w x n below =
@@ -222,26 +211,7 @@ orders-more rows width froms rests successors asks more wide froms_count success
   successors_have = λ x y c below inside follows apart. have x (square_number rows.by_context c) y below (omega (arith, inside, wide)) (number-few rows.by_context c) follows apart;
 }
 
--- one more bit of a row
-pub with-bit : (from k : ℕ) (test value before now : Bool) → (k ≡ from → value ≡ test) → before ≡ (nat_lt k from && test) → now ≡ ((eqb k from && value) || before) → now ≡ (nat_lt k (from + 1) && test)
-with-bit from k test value before now here was is =
-    elim (cases_eq k from) [
-      | inl same ↦
-          is
-          ∙ (ap (λ b. (b && value) || before) (eq-eqb k from same)
-          ∙ (ap (λ b. value || b) (was ∙ ap (λ b. b && test) (not-less k from (omega arith)))
-          ∙ (or-none value ∙ (here same ∙ sym (ap (λ b. b && test) (less-is k (from + 1) (omega arith)))))))
-      | inr apart ↦
-          is
-          ∙ (ap (λ b. (b && value) || before) (ne_eqb k from apart)
-          ∙ (was
-          ∙ elim (cases_lt k from) [
-            | inl below ↦ ap (λ b. b && test) (less-is k from below) ∙ sym (ap (λ b. b && test) (less-is k (from + 1) (omega arith)))
-            | inr past ↦ ap (λ b. b && test) (not-less k from past) ∙ sym (ap (λ b. b && test) (not-less k (from + 1) (omega arith)))
-          ]))
-    ]
-
--- all of them
+-- all bits of a row
 pub with-all : (from size k : ℕ) (test now : Bool) → from ≡ size → (size ≤ k → test ≡ false) → now ≡ (nat_lt k from && test) → now ≡ test
 with-all from size k test now all past is =
     is

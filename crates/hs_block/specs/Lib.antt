@@ -5,7 +5,6 @@ pub mod Progress
 pub mod BlockLaws
 pub mod LiteralBlocks
 pub mod Rows
-pub mod Packed
 pub mod Settling
 pub mod StreamSets
 pub mod StreamTables

@@ -15,7 +15,7 @@ use Rattle.hs_block.specs.declared.engine.BlockEnds.{BlockEnds}
 use Rattle.hs_block.specs.declared.streams.Streams.{Streams}
 use Rattle.hs_bits.specs.BlockContexts.{context_before, context_behind}
 use Rattle.hs_block.specs.Blocks.{is_busy}
-use Rattle.hs_block.specs.Packed.{packed}
+use Rattle.hs_bits.specs.Packed.{packed}
 use Rattle.hs_block.specs.Rows.{row}
 use Rattle.hs_block.specs.StreamTables.{TellsOf, stream_rules}
 use Rattle.hs_bits.specs.WordBits.{word_bit, count_below}

@@ -13,7 +13,7 @@ ghost use Rattle.hs_block.specs.StreamSets.{RowsFit, in_rows};
 
 use hs_base::{Next, NextSet, Prev};
 use hs_bits::{
-    BYTE_BITS, Contexts, WORD_BITS, contains_bit, contains_word_bit, insert_word_bit, is_unset,
+    BYTE_BITS, Contexts, WORD_BITS, contains_bit, contains_word_bit, is_unset, put_word_bit,
     unite_bytes, word_count_for, write_word_bit,
 };
 use hs_engine::{CLASS_COUNT, FollowRows};
@@ -88,17 +88,6 @@ fn push_row(rows: &mut Vec<u64>, row: &[u64], width: usize) -> Result<(), AllocE
 {
     rows.extend_from_slice(&row[..width])?;
     Ok(())
-}
-
-/// Sets the bit of that number, if `value` says so.
-pub(crate) fn put_word_bit(row: &mut [u64], bit: usize, value: bool)
-    requires { bit < 64 * length row.old }
-    ensures len { length row.new ≡ length row.old }
-    ensures bits { (k : ℕ) → has_word_bit row.new k ≡ (((k == bit) && value) || has_word_bit row.old k) }
-{
-    if value {
-        insert_word_bit(row, bit);
-    }
 }
 
 /// The positions that may come behind one, in the contexts of a square.

@@ -25,13 +25,14 @@ ghost use Rattle.hs_bits.specs.WordBits.{one_later, word_bit};
 use crate::before_tables::{MAX_WIDTH, OrderTables, SQUARES, row_in, square_places};
 use crate::class_words::{ClassWords, MAX_SETS, class_word};
 use crate::engine::BlockEnds;
-use crate::mask_words::{contexts_of, has_mixed, mask_before, mask_behind, some_row};
-use crate::position_words::{column, count_places, keep_row, load, meet, place_in, united_rows};
+use crate::mask_words::{has_mixed, some_row};
+use crate::position_words::{meet, united_rows};
 use crate::set_tables::SetTables;
 use hs_base::{ByteSet, Mask, Prev};
 use hs_bits::{
-    Contexts, WORD_BITS, contains_place, contains_word_bit, is_zero, keep_words, low_places,
-    next_bit_in, one_later, only_if, row_word, unite_words, write_word_bit,
+    Contexts, WORD_BITS, column, contains_place, contains_word_bit, contexts_of, is_zero,
+    keep_words, load, low_places, mask_before, mask_behind, next_bit_in, one_later, only_if,
+    place_count, place_in, row_word, store, unite_words, write_word_bit,
 };
 use hs_engine::{Automaton, Steps, first_bytes};
 use std::alloc::{AllocError, Global};
@@ -157,7 +158,7 @@ impl Streams {
     ghost use Rattle.std.specs.Prelude.{IfOk, IfSome, IsTrue, ◌↔◌};
     ghost use Rattle.hs_engine.specs.Tables.{IsClearFrom};
     ghost use Rattle.hs_block.specs.Blocks.{is_blank};
-    ghost use Rattle.hs_block.specs.Packed.{packed};
+    ghost use Rattle.hs_bits.specs.Packed.{packed};
     ghost use Rattle.hs_block.specs.Rows.{is_next};
     ghost use Rattle.hs_block.specs.Settling.{IsSettled};
     ghost use Rattle.hs_block.specs.StreamRuns.{IsTried};
@@ -260,7 +261,7 @@ impl Streams {
         let entered = enters & low_places(count);
         let blank = is_zero(region);
         if blank & (first & entered == 0) {
-            steps.tick_by(count_places(entered));
+            steps.tick_by(place_count(entered));
             return Some(BlockEnds {
                 before: 0,
                 behind: 0,
@@ -348,7 +349,7 @@ impl Streams {
             return None;
         };
         let busy = self.busy_places(&entry, words, &live, count, setting.blank);
-        steps.tick_by(count_places(busy));
+        steps.tick_by(place_count(busy));
         let ends = self.ends(&entry, whole, words, &live, count);
         self.keep::<W>(region, words, &live, count);
         Some(ends)
@@ -711,7 +712,7 @@ impl Streams {
             (λ x. nat_lt x self.now.size && word_bit (slice_index words.now x) last) }
     {
         if count > 0 {
-            keep_row(&column::<W>(words, live, self.size, count - 1), region);
+            store(&column::<W>(words, live, self.size, count - 1), region);
         }
     }
 

@@ -1,8 +1,8 @@
 use Rattle.std.proofs.Common.{refl, arith}
-use Rattle.hs_bits.proofs.WordLemmas.{none-under_alone}
+use Rattle.hs_bits.proofs.WordLemmas.{none-under_alone, zero-row}
 use Rattle.hs_engine.specs.Rows.{in_square}
 use Rattle.hs_block.proofs.AnyLemmas.{true-false}
-use Rattle.hs_block.proofs.TableLemmas.{square-past, with-all, zero-row}
+use Rattle.hs_block.proofs.TableLemmas.{square-past, with-all}
 use Rattle.hs_block.proofs.before_tables.always_row.Goals as goal
 
 pub loop-from-init : goal.loop-from-init

@@ -8,5 +8,5 @@ loop-position-preserved c =
     record {
       len = c.put_word_bit.ensures.len ∙ inv.len;
       unasked =
-          asks-more c.args.rests.now c.row_at-part.result.now c.loop-position.asks c.put_word_bit.new.row c.args.width c.loop-position.position c.is_unset.result (c.row_at-part.ensures.bits) c.is_unset.ensures c.put_word_bit.ensures.bits inv.unasked;
+          asks-more c.args.rests.now c.row_at-part.result.now c.loop-position.asks c.put_word_bit.new.words c.args.width c.loop-position.position c.is_unset.result (c.row_at-part.ensures.bits) c.is_unset.ensures c.put_word_bit.ensures.bits inv.unasked;
     }

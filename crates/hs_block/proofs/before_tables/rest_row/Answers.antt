@@ -1,8 +1,8 @@
 use Rattle.std.proofs.Common.{◌&&◌, not, refl, ap, arith}
 use Rattle.hs_base.specs.Bits.{has_word_bit}
-use Rattle.hs_bits.proofs.WordLemmas.{none-under_alone}
+use Rattle.hs_bits.proofs.WordLemmas.{none-under_alone, zero-row}
 use Rattle.hs_engine.specs.Rows.{in_square}
-use Rattle.hs_block.proofs.TableLemmas.{square-past, with-all, zero-row}
+use Rattle.hs_block.proofs.TableLemmas.{square-past, with-all}
 use Rattle.hs_block.proofs.before_tables.rest_row.Goals as goal
 
 pub loop-from-init : goal.loop-from-init

@@ -20,7 +20,7 @@ loop-position-preserved c =
     record {
       len = c.put_word_bit.ensures.len ∙ inv.len;
       some = λ k h below is.
-          some-more p k c.has_some.result (has_word_bit c.loop-position.row k) (has_word_bit c.put_word_bit.new.row k) below (c.put_word_bit.ensures.bits k)
+          some-more p k c.has_some.result (has_word_bit c.loop-position.row k) (has_word_bit c.put_word_bit.new.words k) below (c.put_word_bit.ensures.bits k)
           (λ same. c.has_some.ensures h (ap (λ n. in_mask (slice_get c.args.masks.now n) h) (sym same) ∙ is)) (λ less. inv.some k h less is);
     }
 

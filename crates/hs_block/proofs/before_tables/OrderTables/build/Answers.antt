@@ -1,7 +1,8 @@
 use Rattle.std.proofs.Common.{◌+◌, ◌*◌, ◌&&◌, not, length, refl, sym, ap, ◌∙◌, arith}
 use Rattle.hs_engine.specs.Rows.{in_square}
+use Rattle.hs_bits.proofs.WordLemmas.{zero-row}
 use Rattle.hs_block.specs.StreamSets.{in_rows}
-use Rattle.hs_block.proofs.TableLemmas.{more-squares, orders-more, orders-one, zero-row}
+use Rattle.hs_block.proofs.TableLemmas.{more-squares, orders-more, orders-one}
 use Rattle.hs_block.proofs.before_tables.OrderTables.build.Goals as goal
 
 pub returns-then-square_count-eq1 : goal.returns-then-square_count-eq1

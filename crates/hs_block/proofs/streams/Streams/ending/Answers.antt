@@ -1,8 +1,8 @@
 use Rattle.std.proofs.Common.{◌*◌, ◌<◌, ◌&&◌, ◌||◌, ap, ◌∙◌, arith}
 use Rattle.std.proofs.lemmas.List.{length-take-le}
 use Rattle.hs_base.specs.Bits.{has_word_bit}
-use Rattle.hs_bits.proofs.WordLemmas.{or-none}
-use Rattle.hs_block.proofs.TableLemmas.{front-bits, zero-row}
+use Rattle.hs_bits.proofs.WordLemmas.{or-none, zero-row}
+use Rattle.hs_block.proofs.TableLemmas.{front-bits}
 use Rattle.hs_block.proofs.streams.Streams.ending.Goals as goal
 
 pub returns-clause-bits : goal.returns-clause-bits

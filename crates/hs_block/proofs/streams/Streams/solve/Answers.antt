@@ -1,6 +1,6 @@
 use Rattle.std.proofs.Common.{refl, arith}
+use Rattle.hs_bits.proofs.WordLemmas.{zero-row}
 use Rattle.hs_block.proofs.StreamSettleLemmas.{settle-first}
-use Rattle.hs_block.proofs.TableLemmas.{zero-row}
 use Rattle.hs_block.proofs.streams.Streams.solve.Goals as goal
 
 pub loop-round-init : goal.loop-round-init

@@ -1,5 +1,5 @@
 use Rattle.std.proofs.Common.{arith}
-use Rattle.hs_block.proofs.TableLemmas.{zero-words}
+use Rattle.hs_bits.proofs.WordLemmas.{zero-words}
 use Rattle.hs_block.proofs.streams.Streams.take_wide.Goals as goal
 
 pub take-requires : goal.take-requires

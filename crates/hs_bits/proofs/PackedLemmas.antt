@@ -1,17 +1,17 @@
 -- Bytes made of a test of the numbers of their bits.
-use Rattle.std.proofs.Common.{◌≡◌, ℕ, zero, suc, ◌+◌, ◌*◌, ◌/◌, ◌%◌, ◌^◌, ◌<◌, ◌≤◌, Bool, true, false, not, nat_lt, ◌&&◌, ◌∷◌, length, get_or, eqb, refl, sym, ap, ◌∙◌, inl, inr, arith}
+use Rattle.std.proofs.Common.{◌≡◌, ℕ, zero, suc, ◌+◌, ◌*◌, ◌/◌, ◌%◌, ◌^◌, ◌<◌, ◌≤◌, Bool, true, false, nat_lt, ◌&&◌, ◌∷◌, List, length, get_or, set, eqb, bit_and, refl, sym, ap, ◌∙◌, inl, inr, arith}
 use Rattle.std.specs.Prelude.{if◌then◌else◌}
 use Rattle.std.specs.Int.{bit_at}
-use Rattle.std.proofs.lemmas.Bool.{cases_lt}
-use Rattle.std.proofs.lemmas.Nat.{shr-shr}
-use Rattle.hs_base.specs.Bits.{AreZero, has_bit}
-use Rattle.hs_base.proofs.BitLemmas.{bits-past, zero-bits}
-use Rattle.hs_engine.specs.AnyBelow.{any_below}
-use Rattle.hs_block.specs.Blocks.{is_blank}
-use Rattle.hs_block.specs.Packed.{digits, packed}
-use Rattle.hs_block.proofs.AnyLemmas.{any-some, none-any, true-false, true-or-false}
+use Rattle.std.proofs.lemmas.Bool.{cases_eq, cases_lt}
+use Rattle.std.proofs.lemmas.List.{get_or-set_same, get_or-set_other}
+use Rattle.std.proofs.lemmas.Nat.{and_mask, shr-shr}
+use Rattle.std.proofs.lemmas.Nat.Bits.{bit_at-lt, same_from_bits_below}
+use Rattle.std.proofs.Math.Nat.{pow-suc}
+use Rattle.hs_base.specs.Bits.{AreZero, has_bit, has_word_bit}
+use Rattle.hs_base.proofs.BitLemmas.{bits-past, same-places}
+use Rattle.hs_bits.specs.Packed.{digits, packed}
 use Rattle.hs_bits.proofs.PlaceLemmas.{less-is, not-less}
-use Rattle.hs_block.proofs.RunLemmas.{blank-zero, zero-blank}
+use Rattle.hs_bits.proofs.WordLemmas.{byte-bits}
 
 pub length-packed : (n : ℕ) (bit : ℕ → Bool) → length (packed n bit) ≡ n
 length-packed zero bit = refl
@@ -88,25 +88,51 @@ packed-zero n f none_ i below =
     let inside : i < n = omega (arith, length-packed n f) in
     packed-at n f i inside ∙ digits-none 8 (λ k. f (8 * i + k)) (λ k small. none_ (8 * i + k) (omega arith))
 
--- the bytes are blank where none passes
-pub packed-blank : (n size : ℕ) (f : ℕ → Bool) → size ≤ 8 * n → not (is_blank (packed n (λ x. nat_lt x size && f x))) ≡ any_below size f
-packed-blank n size f room =
-    let bit : ℕ → Bool = λ x. nat_lt x size && f x in
-    elim (true-or-false (any_below size f)) [
-      | inl any ↦
-          let (x, below, is) = any-some size f any in
-          let set : has_bit (packed n bit) x ≡ true = bit-packed n bit x (omega arith) ∙ (ap (λ b. b && f x) (less-is x size below) ∙ is) in
-          let live : is_blank (packed n bit) ≡ false =
-          elim (true-or-false (is_blank (packed n bit))) [
-            | inl blank ↦ true-false (has_bit (packed n bit) x) set (zero-bits (packed n bit) (blank-zero (packed n bit) blank) x)
-            | inr isnt ↦ isnt
-          ] in
-          ap not live ∙ sym any
-      | inr none_ ↦
-          let unset : (x : ℕ) → x < 8 * n → bit x ≡ false = λ x below.
-          elim (cases_lt x size) [
-            | inl inside ↦ ap (λ b. b && f x) (less-is x size inside) ∙ none-any size f none_ x inside
-            | inr past ↦ ap (λ b. b && f x) (not-less x size past)
-          ] in
-          ap not (zero-blank (packed n bit) (packed-zero n bit unset)) ∙ sym none_
+-- the bits of such bytes
+pub bits-of_packed : (bytes : List ℕ) (n : ℕ) (f : ℕ → Bool) → bytes ≡ packed n f → (x : ℕ) → has_bit bytes x ≡ (nat_lt x (8 * n) && f x)
+bits-of_packed bytes n f is x =
+    ap (λ b. has_bit b x) is
+    ∙ elim (cases_lt x (8 * n)) [
+      | inl below ↦ bit-packed n f x below ∙ sym (ap (λ b. b && f x) (less-is x (8 * n) below))
+      | inr past ↦ bit-packed_past n f x past ∙ sym (ap (λ b. b && f x) (not-less x (8 * n) past))
     ]
+
+-- bytes that are those of a row
+
+digits-below : (n : ℕ) (f : ℕ → Bool) → digits n f < 2 ^ n
+digits-below zero f = omega arith
+digits-below (suc n) f =
+    let first : (if f 0 then 1 else 0) ≤ 1 = one-most (f 0) in
+    omega (arith, first, digits-below n (λ k. f (suc k)), pow-suc 2 n)
+  where
+    one-most : (b : Bool) → (if b then 1 else 0) ≤ 1
+    one-most true = omega arith
+    one-most false = omega arith
+
+pub low-byte : (row : List ℕ) (i : ℕ) → bit_and (get_or row (i / 8) 0 / 2 ^ (8 * (i % 8))) 255 ≡ digits 8 (λ k. has_word_bit row (8 * i + k))
+low-byte row i =
+    let byte : ℕ = bit_and (get_or row (i / 8) 0 / 2 ^ (8 * (i % 8))) 255 in
+    let small : byte < 2 ^ 8 = omega (arith, and_mask (get_or row (i / 8) 0 / 2 ^ (8 * (i % 8))) 8) in
+    same_from_bits_below 8 byte (digits 8 (λ k. has_word_bit row (8 * i + k))) small (digits-below 8 (λ k. has_word_bit row (8 * i + k))) (λ k below.
+    same-digit (bit_at byte k) (bit_at (digits 8 (λ k. has_word_bit row (8 * i + k))) k) (bit_at-lt byte k) (bit_at-lt (digits 8 (λ k. has_word_bit row (8 * i + k))) k)
+    (byte-bits row i k below ∙ sym (bit-digits 8 (λ k. has_word_bit row (8 * i + k)) k below)))
+  where
+    same-digit : (a b : ℕ) → a < 2 → b < 2 → eqb a 1 ≡ eqb b 1 → a ≡ b
+    same-digit zero zero h k e = refl
+    same-digit zero (suc zero) h k e = absurd (let f : false ≡ true = e in cc)
+    same-digit (suc zero) zero h k e = absurd (let f : true ≡ false = e in cc)
+    same-digit (suc zero) (suc zero) h k e = refl
+    same-digit (suc (suc a)) b h k e = absurd (omega arith)
+    same-digit a (suc (suc b)) h k e = absurd (omega arith)
+
+-- one byte more, and all of them
+pub byte-stored : (bytes : List ℕ) (p v : ℕ) (f : ℕ → Bool) → p < length bytes → v ≡ digits 8 (λ k. f (8 * p + k)) → ((i : ℕ) → i < p → get_or bytes i 0 ≡ digits 8 (λ k. f (8 * i + k))) →
+    (i : ℕ) → i < p + 1 → get_or (set bytes p v) i 0 ≡ digits 8 (λ k. f (8 * i + k))
+byte-stored bytes p v f within byte before i below =
+    elim (cases_eq i p) [
+      | inl same ↦ ap (λ n. get_or (set bytes p v) n 0) same ∙ (get_or-set_same bytes p v 0 within ∙ (byte ∙ ap (λ n. digits 8 (λ k. f (8 * n + k))) (sym same)))
+      | inr apart ↦ get_or-set_other bytes p i v 0 apart ∙ before i (omega arith)
+    ]
+
+pub all-stored : (bytes : List ℕ) (n : ℕ) (f : ℕ → Bool) → length bytes ≡ n → ((i : ℕ) → i < n → get_or bytes i 0 ≡ digits 8 (λ k. f (8 * i + k))) → bytes ≡ packed n f
+all-stored bytes n f len are = same-places bytes (packed n f) (len ∙ sym (length-packed n f)) (λ i below. are i (omega arith) ∙ sym (packed-at n f i (omega arith)))
