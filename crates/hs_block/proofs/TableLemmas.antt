@@ -1,16 +1,16 @@
 -- Rows of bits, one behind the other, and which positions may follow each other.
 use prog.Memory.{up}
-use Rattle.std.proofs.Common.{◌≡◌, ◌≢◌, ◌↔◌, ℕ, zero, ◌+◌, ◌-◌, ◌*◌, ◌/◌, ◌%◌, ◌<◌, ◌≤◌, Bool, true, false, not, nat_lt, ◌&&◌, ◌||◌, List, [], ◌++◌, length, get_or, take, drop, replicate, eqb, refl, sym, ap, subst, ◌∙◌, inl, inr, arith}
+use Rattle.std.proofs.Common.{◌≡◌, ◌≢◌, ◌↔◌, ℕ, ◌+◌, ◌-◌, ◌*◌, ◌/◌, ◌%◌, ◌<◌, ◌≤◌, Bool, true, false, not, nat_lt, ◌&&◌, ◌||◌, List, [], ◌++◌, length, get_or, take, drop, eqb, refl, sym, ap, subst, ◌∙◌, inl, inr, arith}
 use Rattle.std.specs.Int.{bit_at}
 use Rattle.std.proofs.lemmas.Bool.{cases_eq, cases_lt, eq-eqb, le-ltb, ne_eqb}
-use Rattle.std.proofs.lemmas.List.{get_or-replicate, get_or-take, get_or-drop, get_or_append_left, get_or-append-add, get_or_past, length-append, length-replicate, length-take-le}
+use Rattle.std.proofs.lemmas.List.{get_or-take, get_or-drop, get_or_append_left, get_or-append-add, length-append, length-take-le}
 use Rattle.hs_base.specs.declared.context.Next.{Next}
 use Rattle.hs_base.specs.declared.context.Next.TheVariants as after
 use Rattle.hs_base.specs.declared.context.Prev.{Prev}
 use Rattle.hs_base.specs.declared.context.Prev.TheVariants as behind
 use Rattle.hs_base.specs.Bits.{AreZero, has_bit, has_word_bit, word_count}
 use Rattle.hs_base.specs.Contexts.{Context, prev_number}
-use Rattle.hs_bits.proofs.WordLemmas.{and-none, or-none, unset-bits, words-past, words-zero}
+use Rattle.hs_bits.proofs.WordLemmas.{and-none, or-none, unset-bits, words-past}
 use Rattle.hs_engine.specs.declared.follow_rows.FollowRows.{FollowRows}
 use Rattle.hs_engine.specs.RowSizes.{class_number, row_len, square_count}
 use Rattle.hs_engine.specs.Rows.{in_square, row_start, square_number}
