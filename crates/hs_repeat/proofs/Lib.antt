@@ -3,4 +3,7 @@ pub mod DistanceLemmas
 pub mod PlaceLemmas
 pub mod FirstLemmas
 pub mod LastLemmas
+pub mod LastWalkLemmas
+pub mod LastBlockLemmas
+pub mod LastLawLemmas
 pub mod RingLemmas

@@ -1,3 +1,5 @@
 pub mod Repeats
 pub mod RepeatMeanings
 pub mod RepeatEngines
+pub mod RepeatBlocks
+pub mod RepeatLaws

@@ -1,10 +1,9 @@
 //! The engine of at most so many bytes of a set.
 
-ghost use Rattle.std.specs.Prelude.{◌≡◌, ℕ, ◌+◌, ◌<◌, ◌≤◌, Bool, true, false, List, [], ◌∷◌, ◌++◌, length, Some};
-ghost use Rattle.hs_base.specs.ByteSets.{has, members};
+ghost use Rattle.std.specs.Prelude.{◌≡◌, ◌+◌, ◌<◌, ◌≤◌, false, Some};
+ghost use Rattle.hs_base.specs.ByteSets.{has};
 ghost use Rattle.hs_base.specs.Trees.{greatest_bound};
-ghost use Rattle.hs_base.specs.RepeatRows.{IsAway};
-ghost use Rattle.hs_base.specs.RepeatRows.{IsDistanceAt, IsLastDistance, IsLastRow, distance_of};
+ghost use Rattle.hs_repeat.specs.RepeatBlocks.{distance_behind};
 
 use crate::distance::{DISTANCE_LEN, Distance};
 use hs_base::{ByteSet, Next, NextSet, Prev};
@@ -16,7 +15,7 @@ use std::sync::ledger::Ledger;
 #[derive(Debug, Drop)]
 pub struct Last {
     /// The distance of the nearest entry, up to the greatest number of bytes.
-    nearest: Distance,
+    pub(crate) nearest: Distance,
 }
 
 impl Last {
@@ -40,10 +39,8 @@ impl Last {
         requires { distance ≤ self.now.nearest.bound }
         ensures bounded { result ≤ self.now.nearest.bound }
         ensures within { result ≤ distance + 1 }
-        ensures moves { (u : List ℕ) (entered : List Bool) → length entered ≡ length u →
-            IsLastDistance self.now.nearest.bound (IsAway (members self.now.nearest.set) u entered) distance →
-            IsLastDistance self.now.nearest.bound
-            (IsAway (members self.now.nearest.set) (u ++ byte ∷ []) (entered ++ entering ∷ [])) result }
+        ensures moves { result ≡ distance_behind self.now.nearest.bound distance entering
+            (has self.now.nearest.set byte) }
         ensures rests { distance ≡ 0 → entering ≡ false → result ≡ 0 }
     {
         if !self.nearest.set.contains(byte) {

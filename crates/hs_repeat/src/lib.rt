@@ -5,6 +5,8 @@
 mod distance;
 mod first;
 mod last;
+mod last_block;
+pub mod laws;
 mod ring;
 
 pub use first::First;
