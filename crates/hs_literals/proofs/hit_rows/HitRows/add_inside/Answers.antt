@@ -1,4 +1,4 @@
-use Rattle.std.proofs.Common.{◌≡◌, ◌≤◌, ◌+◌, ◌++◌, ◌∙◌, length, ap, subst, arith}
+use Rattle.std.proofs.Common.{◌≤◌, ◌+◌, ◌++◌, ◌∙◌, length, ap, subst, arith}
 use Rattle.hs_literals.specs.Held.{held, held_buckets}
 use Rattle.hs_literals.specs.Masking.{HidesNone}
 use Rattle.hs_literals.specs.Places.{NoneBetween}
