@@ -6,7 +6,7 @@ use Rattle.std.specs.Option.{option_map, unwrap_or, MatchOption}
 use Rattle.std.specs.List.{range_with_len, filter}
 use Rattle.std.proofs.lemmas.Bool.{false≢true, and_parts, and_from, and_right, le-leb, leb-true, cases_lt, cases_eq, false_from_ne_true}
 use Rattle.std.proofs.lemmas.List.{get_or-replicate}
-use Rattle.std.proofs.lemmas.Nat.Bits.{bit_at-zero, bit_at_above, bit_at_not}
+use Rattle.std.proofs.lemmas.Nat.Bits.{bit_at_above, bit_at_not}
 use Rattle.std.proofs.lemmas.Option.{slice_get-map, slice_get_within, same_Some}
 use Rattle.hs_base.specs.Lists.{IsMember}
 use Rattle.hs_bits.specs.LowestBits.{IsLowestBit, AreBitsBehind}
@@ -18,7 +18,7 @@ use Rattle.hs_confirm.specs.Taking.{ends_there}
 use Rattle.hs_confirm.specs.Entries.{literal_in, AreKeyed, number_ends, ends_from}
 use Rattle.hs_confirm.specs.Heads.{IsFirstPassing, IsHead, IsFirstHead, HasNone, AreOpenBuckets, OutsideHave, AreHeads, entry_left, number_left, left_behind}
 use Rattle.hs_confirm.proofs.TakingLemmas.{ends_from_there, there_from_ends}
-use Rattle.hs_confirm.proofs.EndLemmas.{IsEntryEnd, number_end, end_number, bucket_end, entry_end, mapped}
+use Rattle.hs_confirm.proofs.EndLemmas.{IsEntryEnd, number_end, end_number, bucket_end, mapped}
 use Rattle.hs_confirm.proofs.NumberLemmas.{passing, passing-in, passing-end, passing-skip, IsPassing, member-passing, passing-member, passing-rising}
 
 -- the first of a list, or else another number
@@ -238,26 +238,6 @@ left_behind-exact widths entries mask heads text offset keyed inside are =
       );
     }
 
--- a head that is no number
-pub head-none : (entries : List Entry) (mask : ℕ) (text : List ℕ) (offset bucket number : ℕ) → IsHead entries mask text offset bucket number → length entries ≤ number → HasNone entries mask text offset bucket
-head-none entries mask text offset bucket number head past = λ unmasked k below. (head.unmasked unmasked).fail k (omega arith) (omega arith)
-
--- where no bucket has one, there is none
-pub none-exact : (widths : List ℕ) (entries : List Entry) (mask : ℕ) (text : List ℕ) (offset : ℕ) → AreKeyed widths entries → ((b : ℕ) → b < 8 → HasNone entries mask text offset b)
-    → ArePlaceEnds (map literal_in entries) (map (λ entry. entry.bucket) entries) mask text offset []
-none-exact widths entries mask text offset keyed none = record {
-  rising = tt;
-  exact = λ number. (
-    λ member. absurd member,
-    λ is.
-        let says : number_ends entries is.bucket text offset number ≡ true = entry_end entries is.bucket text offset number (record { literal = is.literal; numbered = is.numbered; filed = is.filed; ends = is.ends }) in
-        let found : IsEntryEnd entries is.bucket text offset number = number_end entries is.bucket text offset number says in
-        let few : is.bucket < 8 = subst (λ b. b < 8) found.filed (keyed number found.entry found.numbered).few in
-        let within : number < length entries = slice_get_within entries number found.entry found.numbered in
-        absurd (false≢true (sym (none is.bucket few is.unmasked number within) ∙ says)),
-  );
-}
-
 -- where a bucket has one, there is one
 pub some-exact : (entries : List Entry) (mask : ℕ) (text : List ℕ) (offset bucket number : ℕ) (numbers : List ℕ) → offset ≤ length text → IsHead entries mask text offset bucket number → number < length entries
     → ArePlaceEnds (map literal_in entries) (map (λ entry. entry.bucket) entries) mask text offset numbers → numbers ≢ []
@@ -279,26 +259,9 @@ open-all mask fits bucket is =
       | inr past ↦ absurd (omega (arith, bit_at_above (255 - mask) 8 bucket (omega arith) past, is))
     ]
 
-pub outside-masked : (entries : List Entry) (mask : ℕ) (text : List ℕ) (offset : ℕ) → mask < 256 → OutsideHave (HasNone entries mask text offset) (255 - mask)
-outside-masked entries mask text offset fits bucket few out = λ unmasked. absurd (omega (arith, bit_at_not w8 mask bucket fits few, out, unmasked))
-
 -- one bucket less
 pub open-step : (mask left less bucket : ℕ) → AreOpenBuckets mask left → AreBitsBehind left bucket less → AreOpenBuckets mask less
 open-step mask left less bucket are behind other is = let (_, old) = (behind other).0 is in are other old
-
-pub outside-step : (P : ℕ → Type 0) (left less bucket : ℕ) → OutsideHave P left → P bucket → IsLowestBit left bucket → AreBitsBehind left bucket less → OutsideHave P less
-outside-step P left less bucket have is low behind other few out =
-    elim (cases_eq other bucket) [
-      | inl same ↦ subst P (sym same) is
-      | inr apart ↦ have other few (sym (others-stay left bucket less low behind other apart) ∙ out)
-    ]
-
-pub outside-all : (P : ℕ → Type 0) (left : ℕ) → left ≡ 0 → OutsideHave P left → (bucket : ℕ) → bucket < 8 → P bucket
-outside-all P left e have bucket few = have bucket few (ap (λ n. bit_at n bucket) e ∙ bit_at-zero bucket)
-
--- the first number that passes is none
-pub passing-none : (entries : List Entry) (mask : ℕ) (text : List ℕ) (offset bucket number : ℕ) → IsFirstPassing (number_ends entries bucket text offset) 0 (length entries) number → length entries ≤ number → HasNone entries mask text offset bucket
-passing-none entries mask text offset bucket number first past = λ unmasked k below. first.fail k (omega arith) (omega arith)
 
 none-head : (entries : List Entry) (mask : ℕ) (text : List ℕ) (offset bucket number : ℕ) → HasNone entries mask text offset bucket → number ≡ length entries → IsHead entries mask text offset bucket number
 none-head entries mask text offset bucket number none e = record {
@@ -308,18 +271,6 @@ none-head entries mask text offset bucket number none e = record {
 
 pub open-head : (entries : List Entry) (mask : ℕ) (text : List ℕ) (offset bucket number : ℕ) → bit_at mask bucket ≡ 0 → IsFirstPassing (number_ends entries bucket text offset) 0 (length entries) number → IsHead entries mask text offset bucket number
 open-head entries mask text offset bucket number unmasked first = record { unmasked = λ _. first; masked = λ masked. absurd (masked unmasked) }
-
--- the first bucket that was found, with those before it
-pub first-head : (entries : List Entry) (mask : ℕ) (text : List ℕ) (offset left less bucket number : ℕ) → AreOpenBuckets mask left → OutsideHave (HasNone entries mask text offset) left → IsLowestBit left bucket
-    → AreBitsBehind left bucket less → IsFirstPassing (number_ends entries bucket text offset) 0 (length entries) number → number < length entries → IsFirstHead entries mask text offset bucket number less
-first-head entries mask text offset left less bucket number are none low behind first within = record {
-  few = (are bucket low.is).0;
-  unmasked = (are bucket low.is).1;
-  first = first;
-  within = within;
-  unmasked_left = open-step mask left less bucket are behind;
-  none = λ other below is apart. none other below (sym (others-stay left bucket less low behind other apart) ∙ is);
-}
 
 -- the heads where one bucket is known to have one
 pub heads-first : (entries : List Entry) (mask : ℕ) (text : List ℕ) (offset bucket number left count : ℕ) → count ≡ length entries → IsFirstHead entries mask text offset bucket number left

@@ -6,3 +6,4 @@ pub mod EndLemmas
 pub mod FilingLemmas
 pub mod PlainLemmas
 pub mod HeadLemmas
+pub mod FoundLemmas

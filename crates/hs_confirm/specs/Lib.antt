@@ -10,3 +10,6 @@ pub mod Left
 pub mod PlaceEnds
 pub mod Heads
 pub mod PlaceLeft
+pub mod OpenEnds
+pub mod Found
+pub mod OpenLeft

@@ -11,6 +11,7 @@ use crate::chains::Chains;
 use crate::ends::Ends;
 use crate::entry::Entry;
 use crate::filing::{entries_of, row_count, rows_of};
+use crate::open_ends::OpenEnds;
 use crate::place_ends::PlaceEnds;
 use crate::widths::{masks_of, widths_of};
 use hs_base::{BUCKETS, LitByte};
@@ -38,6 +39,8 @@ impl Confirm {
     ghost use Rattle.hs_confirm.specs.BucketEnds.{AreBucketEnds};
     ghost use Rattle.hs_confirm.specs.Filed.{literals_of, buckets_of};
     ghost use Rattle.hs_confirm.specs.Left.{ends_left};
+    ghost use Rattle.hs_confirm.specs.OpenEnds.{AreOpenEnds};
+    ghost use Rattle.hs_confirm.specs.OpenLeft.{open_left};
     ghost use Rattle.hs_confirm.specs.PlaceEnds.{ArePlaceEnds};
     ghost use Rattle.hs_confirm.specs.PlaceLeft.{place_left};
 
@@ -136,5 +139,25 @@ impl Confirm {
             (length history.now + at) (place_left ends)) }
     {
         PlaceEnds::some(self, mask, history, bytes, at)
+    }
+
+    /// As `some_place_ends`, in no order that is promised: less work where literals of several buckets end.
+    #[inline(always)]
+    pub fn open_ends<'a>(
+        &'a self,
+        mask: u8,
+        history: &'a [u8],
+        bytes: &'a [u8],
+        at: usize,
+    ) -> Option<OpenEnds<'a>>
+        requires within { at ≤ length bytes.now }
+        ensures { MatchOption result
+            (AreOpenEnds (literals_of self.now) (buckets_of self.now) mask (history.now ++ bytes.now)
+            (length history.now + at) [])
+            (λ ends. (open_left ends ≢ []) ×
+            AreOpenEnds (literals_of self.now) (buckets_of self.now) mask (history.now ++ bytes.now)
+            (length history.now + at) (open_left ends)) }
+    {
+        OpenEnds::some(self, mask, history, bytes, at)
     }
 }

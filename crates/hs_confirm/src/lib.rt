@@ -1,6 +1,6 @@
-//! Which literals of a bucket end at a place: exact answers where a faster search says that some of them may. `confirm`
-//! has the table, `ends` the iteration over its answers, `plain` the slow twin. `specs/BucketEnds.antt` says what an
-//! end is.
+//! Which literals end at a place: exact answers where a faster search says that some may. `confirm` has the table,
+//! `ends` the iteration over its answers for one bucket, `open_ends` that for several buckets, `place_ends` the same in
+//! order, `plain` the slow twin. `specs/BucketEnds.antt` says what an end is.
 #![tactic(auto)]
 
 mod chains;
@@ -8,7 +8,9 @@ mod confirm;
 mod ends;
 mod entry;
 mod filing;
+mod head;
 mod keys;
+mod open_ends;
 mod place_ends;
 mod plain;
 mod taking;
@@ -16,5 +18,6 @@ mod widths;
 
 pub use confirm::Confirm;
 pub use ends::Ends;
+pub use open_ends::OpenEnds;
 pub use place_ends::PlaceEnds;
 pub use plain::plain_ends;

@@ -3,12 +3,14 @@
 ghost use Rattle.std.specs.Prelude.{◌≡◌, ◌≢◌, ◌<◌, ◌≤◌, ◌+◌, ◌++◌, ℕ, [], true, MatchOption, length, slice_index};
 ghost use Rattle.std.specs.Prelude.{vec_len};
 ghost use Rattle.hs_confirm.specs.Entries.{number_ends};
-ghost use Rattle.hs_confirm.specs.Heads.{AreHeads, IsHead, IsFirstHead, IsFirstPassing, HasNone};
+ghost use Rattle.hs_confirm.specs.Heads.{AreHeads, IsHead, IsFirstHead, IsFirstPassing};
 ghost use Rattle.hs_confirm.specs.Keys.{full_text_key};
 
 use crate::confirm::Confirm;
 use crate::ends::Ends;
+use crate::head::Head;
 use crate::keys::full_text_key;
+use crate::open_ends::first_head;
 use hs_base::BUCKETS;
 use hs_bits::{lowest_bit, without_lowest_bit};
 
@@ -29,16 +31,6 @@ pub struct PlaceEnds<'a> {
     ghost eight: { length heads ≡ 8 },
     ghost full_is: { full ≡ full_text_key (history.now ++ bytes.now) (length history.now + at) },
     ghost ends: { AreHeads confirm.now.entries.items (history.now ++ bytes.now) (length history.now + at) heads },
-}
-
-/// A bucket in which a literal ends.
-#[derive(Clone, Copy)]
-struct Head {
-    bucket: u8,
-    /// The first number of the bucket that ends.
-    number: usize,
-    /// A bit for each open bucket that hasn't been looked at.
-    left: u64,
 }
 
 /// The first number of a bucket that ends at `at`, or the count of all literals, given the last eight bytes before
@@ -62,41 +54,6 @@ fn head_of(
     Ends::with_key(confirm, bucket, full, history, bytes, at)
         .next()
         .unwrap_or(confirm.entries.len())
-}
-
-/// A bucket in which a literal ends at `at`, if there is one among those whose bit in the mask is 0.
-///
-/// At most places there is none, so this small answer is what is asked for first.
-#[inline(never)]
-fn first_head(
-    confirm: &Confirm,
-    mask: u8,
-    full: u64,
-    history: &[u8],
-    bytes: &[u8],
-    at: usize,
-) -> Option<Head>
-    requires within { at ≤ length bytes.now }
-    requires full { full ≡ full_text_key (history.now ++ bytes.now) (length history.now + at) }
-    ensures { MatchOption result ((bucket : ℕ) → bucket < 8 →
-        HasNone confirm.now.entries.items mask (history.now ++ bytes.now) (length history.now + at) bucket)
-        (λ head. IsFirstHead confirm.now.entries.items mask (history.now ++ bytes.now) (length history.now + at)
-        head.bucket head.number head.left) }
-{
-    let mut left = u64::from(!mask);
-    while left != 0 {
-        let bucket = lowest_bit(left) as u8;
-        left = without_lowest_bit(left);
-        let number = head_of(confirm, bucket, full, history, bytes, at);
-        if number < confirm.entries.len() {
-            return Some(Head {
-                bucket,
-                number,
-                left,
-            });
-        }
-    }
-    None
 }
 
 /// For each bucket its first number that ends at `at`, or the count of all literals, given the first one of them.
@@ -218,7 +175,7 @@ impl<'a> PlaceEnds<'a> {
             (length history.now + at) (place_left ends)) }
     {
         let full = full_text_key(history, bytes, at);
-        let first = match first_head(confirm, mask, full, history, bytes, at) {
+        let first = match first_head(confirm, u64::from(!mask), full, history, bytes, at) {
             Some(first) => first,
             None => return None,
         };

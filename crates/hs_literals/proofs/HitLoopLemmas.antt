@@ -1,16 +1,18 @@
 -- Ends that a loop adds, one by one, and all of a chunk.
 use Rattle.std.proofs.Common.{◌≡◌, ◌↔◌, ◌⊎◌, ℕ, zero, suc, ◌+◌, ◌<◌, ◌≤◌, Bool, true, false, ◌&&◌, ◌||◌, List, [], ◌∷◌, ◌++◌, length, eqb, refl, sym, ap, subst, ◌∙◌, inl, inr, arith}
-use Rattle.std.proofs.lemmas.Bool.{cases_eq, eq-eqb, eqb-true, false≢true}
+use Rattle.std.proofs.lemmas.Bool.{cases_eq, cases_lt, eq-eqb, eqb-true, false≢true}
 use Rattle.std.proofs.lemmas.Nat.Bits.{bit_at-zero}
 use Rattle.std.proofs.lemmas.Option.{slice_get_within, slice_get-get_or}
 use Rattle.hs_base.specs.Lists.{IsMember}
 use Rattle.hs_base.specs.Literals.{LiteralByte}
 use Rattle.hs_base.specs.LiteralEnds.{EndsAt}
 use Rattle.hs_base.proofs.ListLemmas.{member-map, map-member}
-use Rattle.hs_confirm.specs.PlaceEnds.{IsPlaceEnd, ArePlaceEnds}
-use Rattle.hs_literals.specs.ScanEnds.{IsScanEnd, AreScanEnds}
+use Rattle.hs_confirm.specs.OpenEnds.{AreOpenEnds}
+use Rattle.hs_confirm.specs.PlaceEnds.{IsPlaceEnd}
+use Rattle.hs_literals.specs.Masking.{HidesNone}
+use Rattle.hs_literals.specs.Places.{NoneBetween}
 use Rattle.hs_literals.specs.AllEnds.{pairs_of_place}
-use Rattle.hs_literals.specs.HitTables.{HitTable, IsHit, IsBlank, TellsHits, AddsHit, AddsHits, IsHitAtStart, IsHitInside, is_hit_at, has_hit}
+use Rattle.hs_literals.specs.HitTables.{HitTable, IsHit, IsBlank, TellsHits, AddsHit, AddsHits, IsHitAt, IsHitInside, IsHitUpTo, is_hit_at, has_hit}
 
 -- Of the new ends some are added, and those of a list are left.
 pub record StillAdds (IsNew : (number place : ℕ) → Type 0) (left : List (ℕ × ℕ)) (old now : HitTable) : Type 0 where
@@ -112,40 +114,116 @@ module _ (IsNew : (number place : ℕ) → Type 0) (old now new : HitTable) (lef
 pub next-new : (IsNew : (number place : ℕ) → Type 0) (old now : HitTable) (left rest : List (ℕ × ℕ)) (place number : ℕ) → StillAdds IsNew left old now → left ≡ (place, number) ∷ rest → IsNew number place
 next-new IsNew old now left rest place number adds next = adds.each number place (subst (IsMember (place, number)) (sym next) (inl refl))
 
--- The new ends of a chunk.
-
-pub inside-scan : (literals : List (List LiteralByte)) (before bytes : List ℕ) (ends : List (ℕ × ℕ)) → AreScanEnds literals before bytes ends → (n p : ℕ) → IsHitInside literals before bytes n p ↔ IsMember (p, n) ends
-inside-scan literals before bytes ends are n p = (
-  (λ hit. (are.exact (p, n)).1 (record { literal = hit.1.literal; numbered = hit.1.numbered; some = hit.0; within = hit.1.within; ends = hit.1.ends })),
-  (λ member. let is : IsScanEnd literals before bytes p n = (are.exact (p, n)).0 member in (is.some, record { literal = is.literal; numbered = is.numbered; within = is.within; ends = is.ends })),
-)
-
-pub start-ends : (literals : List (List LiteralByte)) (buckets before bytes : List ℕ) (numbers : List ℕ) → length buckets ≡ length literals → ArePlaceEnds literals buckets 0 (before ++ bytes) (length before + 0) numbers → (n p : ℕ) →
-    IsHitAtStart literals before bytes n p ↔ IsMember (p, n) (pairs_of_place 0 numbers)
-start-ends literals buckets before bytes numbers same are n p = (
+-- The ends at one place, given a mask that hides none of them.
+pub place-ends : (literals : List (List LiteralByte)) (buckets before bytes : List ℕ) (mask place : ℕ) (numbers : List ℕ) → length buckets ≡ length literals → place ≤ length bytes → HidesNone mask literals buckets (before ++ bytes) (length before + place)
+    → AreOpenEnds literals buckets mask (before ++ bytes) (length before + place) numbers → (n p : ℕ) → IsHitAt literals before bytes place n p ↔ IsMember (p, n) (pairs_of_place place numbers)
+place-ends literals buckets before bytes mask place numbers same within hides are n p = (
   (λ hit.
       let is = hit.1 in
-      let filed = slice_get-get_or buckets n 0 (let within : n < length literals = slice_get_within literals n is.literal is.numbered in omega arith) in
-      let offset : length before + p ≡ length before + 0 = ap (λ k. length before + k) hit.0 in
-      let member : IsMember n numbers = (are.exact n).1 (record { literal = is.literal; bucket = _; numbered = is.numbered; filed = filed; unmasked = bit_at-zero _; ends = subst (EndsAt is.literal (before ++ bytes)) offset is.ends }) in
-      subst (λ q. IsMember (q, n) (pairs_of_place 0 numbers)) (sym hit.0) (member-map (λ m. (0, m)) numbers n member)),
+      let filed = slice_get-get_or buckets n 0 (let below : n < length literals = slice_get_within literals n is.literal is.numbered in omega arith) in
+      let ends : EndsAt is.literal (before ++ bytes) (length before + place) = subst (λ k. EndsAt is.literal (before ++ bytes) (length before + k)) hit.0 is.ends in
+      let member : IsMember n numbers = (are n).1 (record { literal = is.literal; bucket = _; numbered = is.numbered; filed = filed; unmasked = hides n _ is.literal is.numbered filed ends; ends = ends }) in
+      subst (λ q. IsMember (q, n) (pairs_of_place place numbers)) (sym hit.0) (member-map (λ m. (place, m)) numbers n member)),
   (λ member.
-      let from = map-member (λ m. (0, m)) numbers (p, n) member in
-      let start : p ≡ 0 = ap (λ x. x.0) from.2 in
+      let from = map-member (λ m. (place, m)) numbers (p, n) member in
+      let there : p ≡ place = ap (λ x. x.0) from.2 in
       let own : n ≡ from.0 = ap (λ x. x.1) from.2 in
-      let is : IsPlaceEnd literals buckets 0 (before ++ bytes) (length before + 0) n = (are.exact n).0 (subst (λ m. IsMember m numbers) (sym own) from.1) in
-      let offset : length before + 0 ≡ length before + p = ap (λ k. length before + k) (sym start) in (
-        start,
-        record { literal = is.literal; numbered = is.numbered; within = omega (arith, start); ends = subst (EndsAt is.literal (before ++ bytes)) offset is.ends },
+      let is : IsPlaceEnd literals buckets mask (before ++ bytes) (length before + place) n = (are n).0 (subst (λ m. IsMember m numbers) (sym own) from.1) in (
+        there,
+        record { literal = is.literal; numbered = is.numbered; within = omega (arith, there, within); ends = subst (λ k. EndsAt is.literal (before ++ bytes) (length before + k)) (sym there) is.ends },
       )),
 )
+
+pub place-none : (literals : List (List LiteralByte)) (buckets before bytes : List ℕ) (mask place : ℕ) (table : HitTable) → length buckets ≡ length literals → place ≤ length bytes → HidesNone mask literals buckets (before ++ bytes) (length before + place)
+    → AreOpenEnds literals buckets mask (before ++ bytes) (length before + place) [] → AddsHits table table (IsHitAt literals before bytes place)
+place-none literals buckets before bytes mask place table same within hides are =
+    let none : (n p : ℕ) → IsHitAt literals before bytes place n p ↔ IsMember {A = ℕ × ℕ} (p, n) [] = place-ends literals buckets before bytes mask place [] same within hides are in
+    adds-all (IsHitAt literals before bytes place) table [] table (adds-start (IsHitAt literals before bytes place) table [] none) refl
+
+-- a mask that leaves each bucket open
+pub hides-nothing : (literals : List (List LiteralByte)) (buckets text : List ℕ) (offset : ℕ) → HidesNone 0 literals buckets text offset
+hides-nothing literals buckets text offset number bucket literal numbered filed ends = bit_at-zero bucket
+
+-- One place after the other.
+
+pub adds-joined : (P Q R : (number place : ℕ) → Type 0) (old now new : HitTable) → AddsHits old now P → AddsHits now new Q → ((n p : ℕ) → R n p ↔ (P n p ⊎ Q n p)) → AddsHits old new R
+adds-joined P Q R old now new first second are = record {
+  count = second.count ∙ first.count;
+  places = λ n p. (
+    (λ set. elim ((second.places n p).0 set) [
+      | inl later ↦ inl ((are n p).1 (inr later))
+      | inr was ↦ elim ((first.places n p).0 was) [ inl one ↦ inl ((are n p).1 (inl one)) | inr before ↦ inr before ]
+    ]),
+    (λ is. elim is [
+      | inl new ↦ elim ((are n p).0 new) [ inl one ↦ (second.places n p).1 (inr ((first.places n p).1 (inl one))) | inr later ↦ (second.places n p).1 (inl later) ]
+      | inr before ↦ (second.places n p).1 (inr ((first.places n p).1 (inr before)))
+    ]),
+  );
+  numbers = λ n. (
+    (λ set. elim ((second.numbers n).0 set) [
+      | inl later ↦ inl (later.0, (are n later.0).1 (inr later.1))
+      | inr was ↦ elim ((first.numbers n).0 was) [ inl one ↦ inl (one.0, (are n one.0).1 (inl one.1)) | inr before ↦ inr before ]
+    ]),
+    (λ is. elim is [
+      | inl new ↦ elim ((are n new.0).0 new.1) [ inl one ↦ (second.numbers n).1 (inr ((first.numbers n).1 (inl (new.0, one)))) | inr later ↦ (second.numbers n).1 (inl (new.0, later)) ]
+      | inr before ↦ (second.numbers n).1 (inr ((first.numbers n).1 (inr before)))
+    ]),
+  );
+}
+
+adds-alike : (P R : (number place : ℕ) → Type 0) (old new : HitTable) → AddsHits old new P → ((n p : ℕ) → R n p ↔ P n p) → AddsHits old new R
+adds-alike P R old new adds are = record {
+  count = adds.count;
+  places = λ n p. (
+    (λ set. elim ((adds.places n p).0 set) [ inl one ↦ inl ((are n p).1 one) | inr before ↦ inr before ]),
+    (λ is. elim is [ inl one ↦ (adds.places n p).1 (inl ((are n p).0 one)) | inr before ↦ (adds.places n p).1 (inr before) ]),
+  );
+  numbers = λ n. (
+    (λ set. elim ((adds.numbers n).0 set) [ inl one ↦ inl (one.0, (are n one.0).1 one.1) | inr before ↦ inr before ]),
+    (λ is. elim is [ inl one ↦ (adds.numbers n).1 (inl (one.0, (are n one.0).0 one.1)) | inr before ↦ (adds.numbers n).1 (inr before) ]),
+  );
+}
+
+-- none so far
+pub upto-start : (literals : List (List LiteralByte)) (before bytes : List ℕ) (table : HitTable) (at : ℕ) → at ≡ 0 → AddsHits table table (IsHitUpTo literals before bytes at)
+upto-start literals before bytes table at start =
+    adds-all (IsHitUpTo literals before bytes at) table [] table (adds-start (IsHitUpTo literals before bytes at) table [] (λ n p. ((λ hit. absurd (let low : 1 ≤ p = hit.1.0 in let high : p ≤ at = hit.0 in omega arith)), (λ member. absurd member)))) refl
+
+-- those of one place more
+pub upto-next : (literals : List (List LiteralByte)) (before bytes : List ℕ) (old now new : HitTable) (from to : ℕ) → from < to → NoneBetween literals before bytes from to → AddsHits old now (IsHitUpTo literals before bytes from) → AddsHits now new (IsHitAt literals before bytes to) → AddsHits old new (IsHitUpTo literals before bytes to)
+upto-next literals before bytes old now new from to order none =
+    λ first second.
+    adds-joined (IsHitUpTo literals before bytes from) (IsHitAt literals before bytes to) (IsHitUpTo literals before bytes to) old now new first second (λ n p. (
+      (λ hit. elim (cases_lt from p) [
+        | inl above ↦ elim (cases_lt p to) [
+          | inl below ↦ absurd (none p n hit.1.1.literal above below hit.1.1.numbered hit.1.1.ends)
+          | inr at ↦ let high : p ≤ to = hit.0 in inr (omega arith, hit.1.1)
+        ]
+        | inr low ↦ inl (low, hit.1)
+      ]),
+      (λ is. elim is [
+        | inl hit ↦ let high : p ≤ from = hit.0 in (omega arith, hit.1)
+        | inr hit ↦ let at : p ≡ to = hit.0 in (omega arith, (omega arith, hit.1))
+      ]),
+    ))
+
+-- all of them
+pub upto-all : (literals : List (List LiteralByte)) (before bytes : List ℕ) (old new : HitTable) (from to : ℕ) → length bytes < to → NoneBetween literals before bytes from to → AddsHits old new (IsHitUpTo literals before bytes from) → AddsHits old new (IsHitInside literals before bytes)
+upto-all literals before bytes old new from to past none adds =
+    adds-alike (IsHitUpTo literals before bytes from) (IsHitInside literals before bytes) old new adds (λ n p. (
+      (λ hit. elim (cases_lt from p) [
+        | inl above ↦ let high : p ≤ length bytes = hit.1.within in absurd (none p n hit.1.literal above (omega arith) hit.1.numbered hit.1.ends)
+        | inr low ↦ (low, hit)
+      ]),
+      (λ hit. hit.1),
+    ))
 
 positive : (p : ℕ) → (p ≡ 0 → ⊥) → 1 ≤ p
 positive zero not_zero = absurd (not_zero refl)
 positive (suc p) not_zero = omega arith
 
 -- All ends of a chunk.
-pub hits-told : (literals : List (List LiteralByte)) (before bytes : List ℕ) (old first new : HitTable) (count : ℕ) → IsBlank old count → AddsHits old first (IsHitAtStart literals before bytes) → AddsHits first new (IsHitInside literals before bytes) → TellsHits new literals before bytes
+pub hits-told : (literals : List (List LiteralByte)) (before bytes : List ℕ) (old first new : HitTable) (count : ℕ) → IsBlank old count → AddsHits old first (IsHitAt literals before bytes 0) → AddsHits first new (IsHitInside literals before bytes) → TellsHits new literals before bytes
 hits-told literals before bytes old first new count blank starts insides = record {
   places = λ n p. ((λ set. told n p ((insides.places n p).0 set)), (λ hit. (insides.places n p).1 (by_place n p hit)));
   numbers = λ n. ((λ set. told-number n ((insides.numbers n).0 set)), (λ hit. (insides.numbers n).1 (by_number n hit.0 hit.1)));

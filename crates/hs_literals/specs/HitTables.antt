@@ -71,10 +71,14 @@ pub record AddsHits (old new : HitTable) (IsNew : (number place : ℕ) → Type 
   pub places : (n p : ℕ) → (is_hit_at new n p ≡ true) ↔ (IsNew n p ⊎ (is_hit_at old n p ≡ true))
   pub numbers : (n : ℕ) → (has_hit new n ≡ true) ↔ (((p : ℕ) × IsNew n p) ⊎ (has_hit old n ≡ true))
 
--- A literal ends right where the chunk begins.
-abbrev pub IsHitAtStart : List (List LiteralByte) → (before bytes : List ℕ) → (number place : ℕ) → Type 0
-IsHitAtStart literals before bytes number place = (place ≡ 0) × IsHit literals before bytes number place
+-- A literal ends behind so many bytes of the chunk.
+abbrev pub IsHitAt : List (List LiteralByte) → (before bytes : List ℕ) → (end : ℕ) → (number place : ℕ) → Type 0
+IsHitAt literals before bytes end number place = (place ≡ end) × IsHit literals before bytes number place
 
 -- A literal ends behind a byte of the chunk.
 abbrev pub IsHitInside : List (List LiteralByte) → (before bytes : List ℕ) → (number place : ℕ) → Type 0
 IsHitInside literals before bytes number place = (1 ≤ place) × IsHit literals before bytes number place
+
+-- A literal ends behind a byte of the chunk, and no further than behind so many.
+abbrev pub IsHitUpTo : List (List LiteralByte) → (before bytes : List ℕ) → (end : ℕ) → (number place : ℕ) → Type 0
+IsHitUpTo literals before bytes end number place = (place ≤ end) × IsHitInside literals before bytes number place

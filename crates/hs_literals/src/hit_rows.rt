@@ -10,17 +10,18 @@
 //!
 //! A place is one of 0 to 512: a literal that ends at place 0 stands whole before the chunk.
 
-ghost use Rattle.std.specs.Prelude.{◌≡◌, ℕ, ◌+◌, ◌*◌, ◌<◌, ◌≤◌, ◌^◌, ◌&&◌, nat_lt, nat_le, IfOk, length, slice_index};
-ghost use Rattle.std.specs.Prelude.{if◌then◌else◌};
+ghost use Rattle.std.specs.Prelude.{◌≡◌, ℕ, ◌+◌, ◌*◌, ◌<◌, ◌≤◌, ◌^◌, ◌++◌, ◌&&◌, nat_lt, nat_le, IfOk, length};
+ghost use Rattle.std.specs.Prelude.{slice_index, if◌then◌else◌};
 ghost use Rattle.hs_base.specs.Bits.{has_word_bit};
 ghost use Rattle.hs_bits.specs.NextBits.{IsNextBitIn};
 ghost use Rattle.hs_block.specs.LiteralBlocks.{is_hit};
 ghost use Rattle.hs_bits.specs.WordBits.{word_bit};
-ghost use Rattle.hs_literals.specs.HitTables.{AddsHit, AddsHits, AreMarked, Forgets, IsBlank, IsHitAtStart};
+ghost use Rattle.hs_literals.specs.HitTables.{AddsHit, AddsHits, AreMarked, Forgets, IsBlank, IsHitAt};
 ghost use Rattle.hs_literals.specs.HitTables.{IsHitInside, TellsHits, has_hit, is_hit_at};
+ghost use Rattle.hs_literals.specs.Masking.{HidesNone};
 
 use crate::literals::Literals;
-use crate::scan::LitScan;
+use crate::places::Places;
 use hs_bits::{MarkSet, WORD_BITS, contains_place, insert_word_bit};
 use hs_block::Hits;
 use std::alloc::{AllocError, Global};
@@ -56,7 +57,7 @@ impl Model for HitRows {
 }
 
 impl HitRows {
-    ghost use Rattle.hs_literals.specs.Held.{held};
+    ghost use Rattle.hs_literals.specs.Held.{held, held_buckets};
 
     /// Rows of so many literals, none of which ends anywhere.
     ///
@@ -96,17 +97,33 @@ impl HitRows {
         ensures tells { TellsHits self.new (held literals.now) before.now bytes.now }
     {
         self.clear();
-        self.add_at_start(literals, before, bytes);
+        self.add_place(literals, before, bytes, 0, EVERY_BUCKET);
         self.add_inside(literals, before, bytes);
     }
 
-    /// Adds the literals that end where the chunk begins.
-    fn add_at_start(&mut self, literals: &Literals, before: &[u8], bytes: &[u8])
+    /// Adds the literals that end at a place, given a mask that hides none of them.
+    #[inline]
+    fn add_place(
+        &mut self,
+        literals: &Literals,
+        before: &[u8],
+        bytes: &[u8],
+        place: usize,
+        mask: u8,
+    )
         requires known { length (held literals.now) ≤ self.old.count }
-        ensures { AddsHits self.old self.new (IsHitAtStart (held literals.now) before.now bytes.now) }
+        requires few { length bytes.now ≤ 512 }
+        requires within { place ≤ length bytes.now }
+        requires hides { HidesNone mask (held literals.now) (held_buckets literals.now) (before.now ++ bytes.now)
+            (length before.now + place) }
+        ensures { AddsHits self.old self.new (IsHitAt (held literals.now) before.now bytes.now place) }
     {
-        for number in literals.confirm.place_ends(EVERY_BUCKET, before, bytes, 0) {
-            self.add(number, 0);
+        let ends = match literals.confirm.open_ends(mask, before, bytes, place) {
+            Some(ends) => ends,
+            None => return,
+        };
+        for number in ends {
+            self.add(number, place);
         }
     }
 
@@ -116,8 +133,9 @@ impl HitRows {
         requires few { length bytes.now ≤ 512 }
         ensures { AddsHits self.old self.new (IsHitInside (held literals.now) before.now bytes.now) }
     {
-        for (place, number) in LitScan::new(literals, before, bytes) {
-            self.add(number, place);
+        let mut places = Places::new(literals, before, bytes);
+        while let Some(mask) = places.next_open() {
+            self.add_place(literals, before, bytes, places.at, mask);
         }
     }
 

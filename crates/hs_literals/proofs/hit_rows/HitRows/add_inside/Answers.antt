@@ -1,34 +1,68 @@
-use Rattle.std.proofs.Common.{◌≡◌, ap, sym, subst, arith}
-use Rattle.std.proofs.lemmas.Option.{slice_get_within}
-use Rattle.hs_literals.specs.Held.{held}
-use Rattle.hs_literals.specs.HitTables.{IsHitInside}
-use Rattle.hs_literals.specs.Left.{scan_left}
-use Rattle.hs_literals.specs.ScanEnds.{AreScanEnds}
-use Rattle.hs_literals.proofs.HitLoopLemmas.{adds-start, adds-next, adds-all, next-new, inside-scan}
+use Rattle.std.proofs.Common.{◌≤◌, ◌+◌, ◌++◌, ◌∙◌, length, ap, subst, arith}
+use Rattle.hs_literals.specs.Held.{held, held_buckets}
+use Rattle.hs_literals.specs.Masking.{HidesNone}
+use Rattle.hs_literals.specs.Places.{NoneBetween}
+use Rattle.hs_literals.proofs.HitLoopLemmas.{upto-start, upto-next, upto-all}
 use Rattle.hs_literals.proofs.hit_rows.HitRows.add_inside.Goals as goal
 
-pub loop-place-init : goal.loop-place-init
-loop-place-init c =
-    let literals = held c.args.literals.now in
-    let left = scan_left c.into_iter-place-iterator.result in
-    let same : scan_left c.new-place-items.result ≡ left = ap scan_left (sym c.into_iter-place-iterator.ensures.into_iter_gives) in
-    adds-start (IsHitInside literals c.args.before.now c.args.bytes.now) c.args.self.now left
-    (inside-scan literals c.args.before.now c.args.bytes.now left (subst (AreScanEnds literals c.args.before.now c.args.bytes.now) same c.new-place-items.ensures))
-
-pub add-requires : goal.add-requires
-add-requires c =
-    let literals = held c.args.literals.now in
-    let (some, hit) = next-new (IsHitInside literals c.args.before.now c.args.bytes.now) c.args.self.now c.loop-place.self (scan_left c.loop-place.place-iterator) (scan_left c.next.new.self) c.in-Some.place c.in-Some.number c.loop-place.invariant c.in-Some.ensures.steps in
+pub loop-mask-init : goal.loop-mask-init
+loop-mask-init c =
+    let made = c.new-places.ensures in
     record {
-      known = omega (arith, slice_get_within literals c.in-Some.number hit.literal hit.numbered, c.loop-place.invariant.count, c.requires.known);
-      within = omega (arith, hit.within, c.requires.few);
+      literals = made.literals;
+      history = made.history;
+      bytes = made.bytes;
+      adds = upto-start (held c.args.literals.now) c.args.before.now c.args.bytes.now c.args.self.now c.new-places.result.at made.at;
     }
 
-pub loop-place-preserved : goal.loop-place-preserved
-loop-place-preserved c =
-    adds-next (IsHitInside (held c.args.literals.now) c.args.before.now c.args.bytes.now) c.args.self.now c.loop-place.self c.add.new.self (scan_left c.loop-place.place-iterator) (scan_left c.next.new.self) c.in-Some.place c.in-Some.number
-    c.loop-place.invariant c.in-Some.ensures.steps c.add.ensures
+pub add_place-requires : goal.add_place-requires
+add_place-requires c =
+    let before = c.args.before.now in
+    let bytes = c.args.bytes.now in
+    let old = c.loop-mask.places in
+    let new = c.next_open.new.self in
+    let is = c.loop-mask.invariant in
+    let entered = c.in-Some.ensures in
+    let mask = c.in-Some.mask in
+    record {
+      known = omega (arith, c.requires.known, is.adds.count);
+      few = c.requires.few;
+      within = subst (λ b. new.at ≤ length b) (ap (λ b. b.now) entered.bytes ∙ is.bytes) new.within;
+      hides =
+          subst (λ l. HidesNone mask (held l) (held_buckets l) (before ++ bytes) (length before + new.at)) is.literals
+          (subst (λ h. HidesNone mask (held old.literals.now) (held_buckets old.literals.now) (h ++ bytes) (length h + new.at)) is.history
+          (subst (λ b. HidesNone mask (held old.literals.now) (held_buckets old.literals.now) (old.history.now ++ b) (length old.history.now + new.at)) is.bytes entered.next.1));
+    }
+
+pub loop-mask-preserved : goal.loop-mask-preserved
+loop-mask-preserved c =
+    let old = c.loop-mask.places in
+    let new = c.next_open.new.self in
+    let is = c.loop-mask.invariant in
+    let entered = c.in-Some.ensures in
+    let before = c.args.before.now in
+    let bytes = c.args.bytes.now in
+    let none =
+    subst (λ l. NoneBetween (held l) before bytes old.at new.at) is.literals
+    (subst (λ h. NoneBetween (held old.literals.now) h bytes old.at new.at) is.history
+    (subst (λ b. NoneBetween (held old.literals.now) old.history.now b old.at new.at) is.bytes entered.none_before)) in
+    record {
+      literals = ap (λ l. l.now) entered.literals ∙ is.literals;
+      history = ap (λ h. h.now) entered.history ∙ is.history;
+      bytes = ap (λ b. b.now) entered.bytes ∙ is.bytes;
+      adds = upto-next (held c.args.literals.now) before bytes c.args.self.now c.loop-mask.self c.add_place.new.self old.at new.at entered.next.0 none is.adds c.add_place.ensures;
+    }
 
 pub returns : goal.returns
 returns c =
-    adds-all (IsHitInside (held c.args.literals.now) c.args.before.now c.args.bytes.now) c.args.self.now (scan_left c.loop-place.place-iterator) c.loop-place.self c.loop-place.invariant c.in-None.ensures.steps.0
+    let old = c.loop-mask.places in
+    let new = c.next_open.new.self in
+    let is = c.loop-mask.invariant in
+    let end = c.in_default.ensures in
+    let before = c.args.before.now in
+    let bytes = c.args.bytes.now in
+    let none =
+    subst (λ l. NoneBetween (held l) before bytes old.at (new.at + 1)) is.literals
+    (subst (λ h. NoneBetween (held old.literals.now) h bytes old.at (new.at + 1)) is.history
+    (subst (λ b. NoneBetween (held old.literals.now) old.history.now b old.at (new.at + 1)) is.bytes end.next.1)) in
+    upto-all (held c.args.literals.now) before bytes c.args.self.now c.loop-mask.self old.at (new.at + 1) (omega (arith, end.next.0, ap length is.bytes)) none is.adds
