@@ -14,7 +14,7 @@ use Rattle.hs_bits.specs.WordBits.{word_bit}
 use Rattle.hs_bits.specs.MemberPlaces.{ArePlacesOf}
 use Rattle.hs_bits.proofs.PlaceLemmas.{bit-either, bit-none, member-bit}
 use Rattle.hs_bits.proofs.WordLemmas.{and-true}
-use Rattle.hs_repeat.specs.RepeatBlocks.{IsKept, IsLastPlace, TakesDistances, distance_behind}
+use Rattle.hs_repeat.specs.RepeatBlocks.{GoesOnOver, IsLastPlace, TakesDistances, distance_behind}
 use Rattle.hs_repeat.proofs.LastWalkLemmas.{left-there, walk, walk-more, walk-within, walked-whole}
 
 -- the places outside of the set
@@ -38,7 +38,7 @@ not-on a false is on = refl
 
 pub kept-places : (bound distance class end count : ℕ) → class < 2 ^ 64 → distance ≢ 0 → distance ≤ bound → end ≡ min 64 (bound - distance) → count ≤ end →
     ((i : ℕ) → 0 ≤ i → i < count → word_bit (18446744073709551615 - class) i ≡ false) → (count < end → word_bit (18446744073709551615 - class) count ≡ true) →
-    IsKept bound distance (word_bit class) count
+    GoesOnOver bound distance (word_bit class) count
 kept-places bound distance class end count fits some low end_is few before there = record {
   few = omega arith;
   rests = λ none. absurd (some none);
@@ -80,7 +80,7 @@ last-counted word place fits last =
 -- the distances of the block
 
 module _ (set : ByteSet) (bound old enters : ℕ) (bytes : List ℕ) (class reached count : ℕ) (long : 64 ≤ bound) (whole : length bytes ≡ 64) (places : ArePlacesOf (has set) bytes (length bytes) class)
-    (word_is : (i : ℕ) → i < 64 → word_bit reached i ≡ (word_bit class i && (word_bit enters i || (nat_le 1 i && (word_bit reached (i - 1) && word_bit 18446744073709551615 i))))) (kept : IsKept bound old (word_bit class) count) where
+    (word_is : (i : ℕ) → i < 64 → word_bit reached i ≡ (word_bit class i && (word_bit enters i || (nat_le 1 i && (word_bit reached (i - 1) && word_bit 18446744073709551615 i))))) (kept : GoesOnOver bound old (word_bit class) count) where
   always-again : (i : ℕ) → i < 64 → word_bit 18446744073709551615 i ≡ true
   unfolding word_bit
   always-again i below = bit-all 64 i below

@@ -4,7 +4,7 @@ use Rattle.std.specs.Prelude.{nat_le, nat_lt}
 use Rattle.std.proofs.lemmas.Bool.{cases_eq, cases_lt, ne_eqb, lt-ltb, le-ltb}
 use Rattle.std.proofs.lemmas.Bool.Decides.{nat_tests}
 use Rattle.hs_bits.proofs.PlaceLemmas.{less-is, not-less}
-use Rattle.hs_repeat.specs.RepeatBlocks.{IsKept, IsLastPlace, distance_behind}
+use Rattle.hs_repeat.specs.RepeatBlocks.{GoesOnOver, IsLastPlace, distance_behind}
 
 -- the distance behind a byte, case by case
 
@@ -59,7 +59,7 @@ pub data HasWalked (enters : ℕ → Bool) (old count i : ℕ) (reached : Bool) 
   older : reached ≡ false → i ≤ count → d ≡ old + i → HasWalked enters old count i reached d
   gone : reached ≡ false → count < i → d ≡ 0 → HasWalked enters old count i reached d
 
-module _ (bound old count : ℕ) (inside enters : ℕ → Bool) (long : 64 ≤ bound) (kept : IsKept bound old inside count) where
+module _ (bound old count : ℕ) (inside enters : ℕ → Bool) (long : 64 ≤ bound) (kept : GoesOnOver bound old inside count) where
   last-here : (i : ℕ) → enters i ≡ true → IsLastPlace enters (i + 1) i
   last-here i entered = record {
     before = omega arith;

@@ -26,7 +26,7 @@ pub record TakesDistances (set : ByteSet) (bound old new enters : ℕ) (bytes : 
 
 -- What lives before a block at that distance goes on over so many of its first places: up to the bound, or to the first
 -- place outside of the set.
-pub record IsKept (bound distance : ℕ) (inside : ℕ → Bool) (count : ℕ) : Type 0 where
+pub record GoesOnOver (bound distance : ℕ) (inside : ℕ → Bool) (count : ℕ) : Type 0 where
   pub few : count ≤ 64
   pub rests : distance ≡ 0 → count ≡ 0
   pub within : distance + count ≤ bound

@@ -3,7 +3,7 @@
 ghost use Rattle.std.specs.Prelude.{◌≡◌, ◌≢◌, ℕ, ◌+◌, ◌^◌, ◌<◌, ◌≤◌, true, false, length, MatchOption};
 ghost use Rattle.hs_base.specs.RepeatRows.{distance_of};
 ghost use Rattle.hs_bits.specs.WordBits.{word_bit};
-ghost use Rattle.hs_repeat.specs.RepeatBlocks.{IsKept, IsLastPlace, TakesDistances};
+ghost use Rattle.hs_repeat.specs.RepeatBlocks.{GoesOnOver, IsLastPlace, TakesDistances};
 
 use crate::last::Last;
 use hs_bits::{WORD_BITS, contains_place, low_places, member_places, next_place, row_word};
@@ -39,7 +39,7 @@ impl Last {
     #[inline]
     fn kept_places(&self, distance: u32, class: u64) -> usize
         requires { distance ≤ self.now.nearest.bound }
-        ensures { IsKept self.now.nearest.bound distance (word_bit class) result }
+        ensures { GoesOnOver self.now.nearest.bound distance (word_bit class) result }
     {
         if distance == 0 {
             return 0;
