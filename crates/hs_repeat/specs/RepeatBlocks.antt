@@ -1,12 +1,12 @@
 -- How far the nearest entry of at most so many bytes of a set is away, over a byte and over a whole block.
-use Rattle.std.specs.Prelude.{◌≡◌, ◌≢◌, ℕ, ◌+◌, ◌<◌, ◌≤◌, Bool, true, false, not, ◌==◌, nat_lt, List, length, slice_index}
-use Rattle.std.specs.Prelude.{if◌then◌else◌}
+use Rattle.std.specs.Prelude.{◌≡◌, ◌≢◌, ℕ, ◌+◌, ◌<◌, ◌≤◌, Bool, true, false, not, ◌==◌, nat_lt, List, length}
+use Rattle.std.specs.Prelude.{slice_index, if◌then◌else◌}
 use Rattle.hs_base.specs.declared.byte_set.ByteSet.{ByteSet}
 use Rattle.hs_base.specs.ByteSets.{has}
 use Rattle.hs_bits.specs.WordBits.{word_bit}
 
--- The distance behind a byte: 0 where none lives. Outside of the set none does. An entry that is made before the byte is
--- 1 away. An older one is one farther, and lost at the bound.
+-- The distance behind a byte: 0 where none lives. Outside of the set none does. An entry that is made before the byte
+-- is 1 away. An older one is one farther, and lost at the bound.
 abbrev pub distance_behind : (bound distance : ℕ) (entered inside : Bool) → ℕ
 distance_behind bound distance entered inside =
     if not inside then 0 else (if entered then 1
