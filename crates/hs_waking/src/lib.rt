@@ -25,7 +25,7 @@ mod tests;
 mod wake_row;
 
 pub use befores::behind_of;
-pub use beginning::Beginning;
+pub use beginning::{Beginning, BeginningRows, Beginnings};
 pub use chunk_places::{ALL_PLACES, NO_PLACES, Places, is_none};
 pub use class_words::{ClassWords, MAX_CHUNK};
 pub use fit_stack::FitStack;

@@ -245,29 +245,31 @@ fn each_alternative_has_its_row(rt: HostRuntime) -> Result<(), Fail> {
     Ok(())
 }
 
-/// The automaton of that many single bytes, each of them a match.
-fn single_bytes(alloc: Global, count: usize) -> Result<Automaton, AllocError>
+/// The automaton of that many pairs of bytes, of which each byte stands in one: `(ab|cd|ef)`.
+fn pairs(alloc: Global, count: usize) -> Result<Automaton, AllocError>
     requires { count ≤ 32 }
 {
-    let mut sets = vec![in alloc; ByteSet::EMPTY; count]?;
-    for byte in 0..count {
-        sets[byte] = ByteSet::of(byte as u8);
+    let size = 2 * count;
+    let mut sets = vec![in alloc; ByteSet::EMPTY; size]?;
+    let mut enters = vec![in alloc; Mask::empty(); size]?;
+    let mut accepts = vec![in alloc; Mask::empty(); size]?;
+    let mut follows = FollowRows::new(alloc, size, false)?;
+    for pair in 0..count {
+        let first = 2 * pair;
+        sets[first] = ByteSet::of(first as u8);
+        sets[first + 1] = ByteSet::of((first + 1) as u8);
+        enters[first] = Mask::all();
+        accepts[first + 1] = Mask::all();
+        follows.insert(0, first, first + 1);
     }
-    Ok(Automaton::new(
-        sets,
-        vec![in alloc; Mask::all(); count]?,
-        vec![in alloc; Mask::all(); count]?,
-        FollowRows::new(alloc, count, false)?,
-        Mask::empty(),
-        false,
-    ))
+    Ok(Automaton::new(sets, enters, accepts, follows, Mask::empty(), false))
 }
 
 #[test]
 fn many_alternatives_have_one_row(rt: HostRuntime) -> Result<(), Fail> {
-    let most = rows_of(rt.alloc(), &single_bytes(rt.alloc(), 16)?)?;
-    assert!(rt; most.len() == 16);
-    let more = rows_of(rt.alloc(), &single_bytes(rt.alloc(), 17)?)?;
+    let most = rows_of(rt.alloc(), &pairs(rt.alloc(), 4)?)?;
+    assert!(rt; most.len() == 4);
+    let more = rows_of(rt.alloc(), &pairs(rt.alloc(), 5)?)?;
     assert!(rt; more.len() == 1);
     Ok(())
 }
