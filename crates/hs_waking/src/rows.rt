@@ -42,7 +42,7 @@ const SELDOM: u64 = 1 << 34;
 const COMMON_BYTES: u64 = 64;
 
 /// The bytes of the first levels of an automaton, up to one of which a position accepts.
-pub fn row_of(alloc: Global, automaton: &Automaton) -> Result<Vec<ByteSet>, AllocError>
+pub(crate) fn row_of(alloc: Global, automaton: &Automaton) -> Result<Vec<ByteSet>, AllocError>
     ensures row { IfOk result (λ row. IsRowOf automaton.now row.items) }
     ensures few { IfOk result (λ row. vec_len row ≤ 8) }
 {

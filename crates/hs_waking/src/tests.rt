@@ -245,31 +245,50 @@ fn each_alternative_has_its_row(rt: HostRuntime) -> Result<(), Fail> {
     Ok(())
 }
 
-/// The automaton of that many pairs of bytes, of which each byte stands in one: `(ab|cd|ef)`.
-fn pairs(alloc: Global, count: usize) -> Result<Automaton, AllocError>
-    requires { count ≤ 32 }
-{
-    let size = 2 * count;
-    let mut sets = vec![in alloc; ByteSet::EMPTY; size]?;
-    let mut enters = vec![in alloc; Mask::empty(); size]?;
-    let mut accepts = vec![in alloc; Mask::empty(); size]?;
-    let mut follows = FollowRows::new(alloc, size, false)?;
-    for pair in 0..count {
-        let first = 2 * pair;
-        sets[first] = ByteSet::of(first as u8);
-        sets[first + 1] = ByteSet::of((first + 1) as u8);
-        enters[first] = Mask::all();
-        accepts[first + 1] = Mask::all();
-        follows.insert(0, first, first + 1);
-    }
-    Ok(Automaton::new(sets, enters, accepts, follows, Mask::empty(), false))
+/// The automaton of `(ab|cd|ef|gh|ij)`, of which the last pair begins in a context of the mask alone.
+fn pairs(alloc: Global, last: Mask) -> Result<Automaton, AllocError> {
+    let (all, none) = (Mask::all(), Mask::empty());
+    let mut follows = FollowRows::new(alloc, 10, false)?;
+    follows.insert(0, 0, 5);
+    follows.insert(0, 1, 6);
+    follows.insert(0, 2, 7);
+    follows.insert(0, 3, 8);
+    follows.insert(0, 4, 9);
+    Ok(Automaton::new(
+        Vec::from_array(
+            alloc,
+            [
+                ByteSet::of(b'a'),
+                ByteSet::of(b'c'),
+                ByteSet::of(b'e'),
+                ByteSet::of(b'g'),
+                ByteSet::of(b'i'),
+                ByteSet::of(b'b'),
+                ByteSet::of(b'd'),
+                ByteSet::of(b'f'),
+                ByteSet::of(b'h'),
+                ByteSet::of(b'j'),
+            ],
+        )?,
+        Vec::from_array(
+            alloc,
+            [all, all, all, all, last, none, none, none, none, none],
+        )?,
+        Vec::from_array(
+            alloc,
+            [none, none, none, none, none, all, all, all, all, all],
+        )?,
+        follows,
+        none,
+        false,
+    ))
 }
 
 #[test]
 fn many_alternatives_have_one_row(rt: HostRuntime) -> Result<(), Fail> {
-    let most = rows_of(rt.alloc(), &pairs(rt.alloc(), 4)?)?;
+    let most = rows_of(rt.alloc(), &pairs(rt.alloc(), Mask::empty())?)?;
     assert!(rt; most.len() == 4);
-    let more = rows_of(rt.alloc(), &pairs(rt.alloc(), 5)?)?;
+    let more = rows_of(rt.alloc(), &pairs(rt.alloc(), Mask::all())?)?;
     assert!(rt; more.len() == 1);
     Ok(())
 }
