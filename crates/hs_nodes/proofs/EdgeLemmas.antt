@@ -1,5 +1,5 @@
 -- An expression that looks back is left nowhere where none of its matches can end.
-use Rattle.std.proofs.Common.{◌≡◌, ℕ, zero, suc, ◌+◌, ◌-◌, ◌<◌, ◌≤◌, ◌↔◌, Bool, true, false, List, [], ◌∷◌, ◌++◌, length, get_or, replicate, take, drop, slice_get, slice_index, Some, None, refl, sym, ap, subst, ◌∙◌, inl, inr, arith, length-append, length-drop}
+use Rattle.std.proofs.Common.{◌≡◌, ℕ, zero, suc, ◌+◌, ◌-◌, ◌<◌, ◌≤◌, ◌↔◌, Bool, true, false, List, [], ◌∷◌, ◌++◌, length, get_or, replicate, take, drop, slice_get, slice_index, Some, refl, sym, ap, subst, ◌∙◌, inl, inr, arith, length-drop}
 use Rattle.std.proofs.lemmas.List.{length-take-le, take-append-drop, get_or-drop}
 use Rattle.std.proofs.lemmas.Option.{slice_get_within}
 use Rattle.hs_base.specs.declared.byte_set.ByteSet.{ByteSet}
@@ -8,7 +8,7 @@ use Rattle.hs_base.specs.declared.context.Prev.{Prev}
 use Rattle.hs_base.specs.declared.context.Prev.TheVariants as before
 use Rattle.hs_base.specs.ByteSets.{has}
 use Rattle.hs_base.specs.Chains.{Piece, nfa, IsFitChain}
-use Rattle.hs_base.specs.Contexts.{prev_at, prev_behind, prev_by}
+use Rattle.hs_base.specs.Contexts.{prev_at, prev_by}
 use Rattle.hs_base.specs.Fields.{Leaves, entered_always}
 use Rattle.hs_base.specs.Leaving.{IsAtMostWide, IsEmptyAt, LeavesAt, LeavesBehind, entered_never}
 use Rattle.hs_base.specs.Lists.{Each}

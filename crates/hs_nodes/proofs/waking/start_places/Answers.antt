@@ -1,4 +1,4 @@
-use Rattle.std.proofs.Common.{◌≡◌, ◌+◌, ◌<◌, ◌≤◌, ◌∙◌, ◌||◌, suc, false, true, List, ℕ, length, refl, sym, ap, subst, arith}
+use Rattle.std.proofs.Common.{◌≡◌, ◌+◌, ◌<◌, ◌≤◌, ◌∙◌, suc, List, length, refl, sym, ap, subst, arith}
 use Rattle.std.specs.Prelude.{Some, slice_get, slice_index, vec_len}
 use Rattle.std.proofs.lemmas.Option.{slice_get_read}
 use Rattle.hs_base.specs.declared.byte_set.ByteSet.{ByteSet}
@@ -53,8 +53,8 @@ loop-i-preserved c =
             chunk = subst (λ ws. AreOfChunk ws sets bytes) (sym w.words-is) (subst (λ ss. AreOfChunk fit.new.words ss bytes) same fit.ensures.chunk);
             levels = subst (λ s. IsStackOf s sets prev bytes) (sym w.stack-is) (subst (λ ss. IsStackOf fit.new.self ss prev bytes) same fit.ensures.levels);
             places = subst (HavePlaces rows.items sets from (i + 1) prev bytes) (sym w.places-is)
-            (places-united rows.items sets prev bytes from i (i + 1) c.loop-i.places fit.result w.unite_words.new.words row refl c.requires.few at w.unite_words.ensures.bits
-            (λ own numbered. fit.ensures.places own (subst (λ ss. IsRowBy (row_numbers row) ss own) (sym same) numbered)) c.loop-i.invariant.places);
+                (places-united rows.items sets prev bytes from i (i + 1) c.loop-i.places fit.result w.unite_words.new.words row refl c.requires.few at w.unite_words.ensures.bits
+                (λ own numbered. fit.ensures.places own (subst (λ ss. IsRowBy (row_numbers row) ss own) (sym same) numbered)) c.loop-i.invariant.places);
           }
       | else-not-rules_out w ↦
           record {
@@ -62,8 +62,8 @@ loop-i-preserved c =
             chunk = subst (λ ws. AreOfChunk ws sets bytes) (sym w.words-is) c.loop-i.invariant.chunk;
             levels = subst (λ s. IsStackOf s sets prev bytes) (sym w.stack-is) c.loop-i.invariant.levels;
             places = subst (HavePlaces rows.items sets from (i + 1) prev bytes) (sym w.places-is)
-            (places-more rows.items sets prev bytes from i (i + 1) c.loop-i.places c.loop-i.places row refl at (λ p set. set)
-            (λ cut p numbered inside fits. absurd (c.rules_out.ensures w.if-not-rules_out.false sets cut prev bytes c.loop-i.invariant.levels c.requires.few numbered p inside fits)) c.loop-i.invariant.places);
+                (places-more rows.items sets prev bytes from i (i + 1) c.loop-i.places c.loop-i.places row refl at (λ p set. set)
+                (λ cut p numbered inside fits. absurd (c.rules_out.ensures w.if-not-rules_out.false sets cut prev bytes c.loop-i.invariant.levels c.requires.few numbered p inside fits)) c.loop-i.invariant.places);
           }
     ]
 
