@@ -1,16 +1,20 @@
 -- The nodes that a chunk may wake.
-use Rattle.std.specs.Prelude.{◌≡◌, ℕ, ◌<◌, Bool, true, false, List, length, map, Option, Some, None, slice_get}
+use Rattle.std.specs.Prelude.{◌≡◌, ℕ, ◌<◌, ◌≤◌, Bool, true, false, List, length, map, Option, Some, None, slice_get, slice_index}
 use Rattle.hs_base.specs.declared.byte_set.ByteSet.{ByteSet}
 use Rattle.hs_base.specs.declared.context.Mask.{Mask}
 use Rattle.hs_base.specs.Lists.{Each}
 use Rattle.hs_nodes.specs.declared.table.Node.{Node}
 use Rattle.hs_nodes.specs.declared.table.NodeKind.{NodeKind}
 use Rattle.hs_nodes.specs.declared.table.NodeKind.TheVariants.{Engine, Literal, FirstLiteral, LookBack}
-use Rattle.hs_nodes.specs.Waking.{IsListed, waking_literal}
+use Rattle.hs_nodes.specs.Waking.{CoversRow, IsListed, waking_literal}
 use Rattle.hs_rose.specs.declared.engine.PieceEngine.{PieceEngine}
 use Rattle.hs_rose.specs.PieceEngines.{piece_meaning}
 use Rattle.hs_waking.specs.declared.prev_set.PrevSet.{PrevSet}
-use Rattle.hs_waking.specs.EntryRows.{TellsBeginnings}
+use Rattle.hs_waking.specs.EntryRows.{TellBeginnings}
+use Rattle.hs_waking.specs.Fits.{IsBehindBy, row_numbers}
+use Rattle.hs_waking.specs.RowTables.{Extends}
+use Rattle.hs_waking.specs.declared.row_table.RowTable.{RowTable}
+use Rattle.hs_waking.specs.declared.wake_row.WakeRow.{WakeRow}
 
 -- the literals that wake the nodes
 abbrev pub waking_literals : List Node → List (Option ℕ)
@@ -40,11 +44,33 @@ pub record AreFirstEngines (nodes : List Node) (n : ℕ) (list : List ℕ) : Typ
   pub all : (k : ℕ) (node : Node) → k < n → slice_get nodes k ≡ Some node →
       is_first_engine node.kind node.parent ≡ true → IsListed list k
 
--- the row, which begins behind these, tells how matches of the engine of the node of that number begin, if it is one
-abbrev pub IsRowAt : List Node → List PieceEngine → (k : ℕ) → PrevSet → (row : List ByteSet) → Type 0
-IsRowAt nodes engines k behind row =
+-- The rows, which begin behind these, tell how matches of the engine of the node of that number begin, if it is one.
+abbrev pub AreRowsAt : List Node → List PieceEngine → (k : ℕ) → PrevSet → (rows : List (List ByteSet)) → Type 0
+AreRowsAt nodes engines k behind rows =
     (number : ℕ) (null : Option Mask) (node : Node) (e : PieceEngine) →
     slice_get nodes k ≡ Some node →
     node.kind ≡ Engine number null →
     slice_get engines number ≡ Some e →
-    TellsBeginnings (piece_meaning e) behind row
+    TellBeginnings (piece_meaning e) behind rows
+
+-- The rows of a table name sets that are there, and those of what may stand before them.
+pub record AreWithin (table : RowTable) : Type 0 where
+  pub numbers : (i d : ℕ) (row : WakeRow) → slice_get table.rows.items i ≡ Some row → d < length (row_numbers row) →
+      slice_index (row_numbers row) d < length table.sets.items
+  pub begins : (i : ℕ) (row : WakeRow) → slice_get table.rows.items i ≡ Some row → IsBehindBy row table.sets.items
+
+-- Such a row of a table stands behind the first so many, which names sets that are there, and fits where the own one
+-- does.
+pub record PutsOne (new : RowTable) (from : ℕ) (behind : PrevSet) (own : List ByteSet) : Type 0 where
+  pub place : ℕ
+  pub row : WakeRow
+  pub behind_all : from ≤ place
+  pub there : slice_get new.rows.items place ≡ Some row
+  pub covers : CoversRow new.sets.items behind own row
+
+-- Rows that begin behind these were put behind the others of a table, each of which stays, as do the sets.
+pub record PutsRows (old new : RowTable) (behind : PrevSet) (own : List (List ByteSet)) : Type 0 where
+  pub more : (i : ℕ) (row : WakeRow) → slice_get old.rows.items i ≡ Some row → slice_get new.rows.items i ≡ Some row
+  pub kept : Extends old.sets.items new.sets.items
+  pub within : AreWithin old → AreWithin new
+  pub each : (d : ℕ) (one : List ByteSet) → slice_get own d ≡ Some one → PutsOne new (length old.rows.items) behind one

@@ -72,7 +72,7 @@ pub(crate) fn kind_of(program: &Program, role: &Role) -> Result<NodeKind, AllocE
 fn edges_of(engine: &PieceEngine) -> (PrevSet, ByteSet)
     ensures { HasEdges (piece_meaning engine.now) result.0 result.1 }
 {
-    (engine.beginning().behind, engine.last_bytes())
+    (engine.beginnings().behind, engine.last_bytes())
 }
 
 /// The same of the engine of that number. Where there is none, it is all of them.

@@ -2,7 +2,9 @@
 
 ghost use Rattle.std.specs.Prelude.{◌≡◌, IfOk, length};
 ghost use Rattle.std.specs.List.Sorted.{IsPermutation};
-ghost use Rattle.hs_compile.specs.GraphWakes.{AreFirstEngines, AreWakeable, IsRowAt, is_first_engine, waking_literals};
+ghost use Rattle.hs_compile.specs.GraphWakes.{AreFirstEngines, AreRowsAt, AreWakeable, PutsRows};
+ghost use Rattle.hs_compile.specs.GraphWakes.{is_first_engine, waking_literals};
+ghost use Rattle.hs_waking.specs.BeginningRows.{rows_of_beginnings};
 ghost use Rattle.hs_nodes.specs.Waking.{AreRowsOf, AreWakesSound, waking_literal};
 ghost use Rattle.hs_rose.specs.PieceEngines.{piece_meaning};
 
@@ -11,7 +13,7 @@ use hs_base::{ByteSet, Prev};
 use hs_forest::group;
 use hs_nodes::{Node, NodeKind, WakeTable};
 use hs_rose::PieceEngine;
-use hs_waking::{Beginning, PrevSet, RowTable};
+use hs_waking::{Beginnings, PrevSet, RowTable};
 use std::alloc::{AllocError, Global};
 
 /// How many sets of a beginning tell which others are alike.
@@ -30,17 +32,18 @@ pub(crate) fn wake_table(
     requires { AreWakeable nodes.now literals }
     ensures sound { IfOk result (λ table. AreWakesSound nodes.now table literals) }
     ensures rows { IfOk result (λ table. AreRowsOf piece_meaning nodes.now engines.now table.first_engines.items
-        table.rows.items table.sets.items) }
+        table.row_starts.items table.rows.items table.sets.items) }
 {
     let wakers = literals_before(alloc, nodes)?;
     let groups = group(alloc, &wakers, literals)?;
     let listed = first_engines(alloc, nodes)?;
     let first_engines = alike_together(nodes, listed, engines)?;
-    let table = row_table(alloc, nodes, &first_engines, engines)?;
+    let (row_starts, table) = row_table(alloc, nodes, &first_engines, engines)?;
     Ok(WakeTable {
         literal_starts: groups.starts,
         literal_nodes: groups.list,
         first_engines,
+        row_starts,
         rows: table.rows,
         sets: table.sets,
     })
@@ -87,19 +90,19 @@ fn first_engines(alloc: Global, nodes: &[Node]) -> Result<Vec<u32>, AllocError>
     Ok(list)
 }
 
-/// How each match of the engine of the node of that number begins; where there is none, anyhow.
-fn beginning_at<'e>(nodes: &[Node], k: usize, engines: &'e [PieceEngine]) -> Beginning<'e>
-    ensures { IsRowAt nodes.now engines.now k result.behind result.row.now }
+/// How each match of the engine of the node of that number begins; where there is none, by no row.
+fn beginnings_at<'e>(nodes: &[Node], k: usize, engines: &'e [PieceEngine]) -> Beginnings<'e>
+    ensures { AreRowsAt nodes.now engines.now k result.behind (rows_of_beginnings result.rows) }
 {
     let Some(node) = nodes.get(k) else {
-        return Beginning::anyhow();
+        return Beginnings::none();
     };
     let NodeKind::Engine(number, _) = node.kind else {
-        return Beginning::anyhow();
+        return Beginnings::none();
     };
     match engines.get(number as usize) {
-        Some(engine) => engine.beginning(),
-        None => Beginning::anyhow(),
+        Some(engine) => engine.beginnings(),
+        None => Beginnings::none(),
     }
 }
 
@@ -112,17 +115,19 @@ fn alike_together(
 ) -> Result<Vec<u32>, AllocError>
     ensures { IfOk result (λ sorted. IsPermutation list.items sorted.items) }
 {
-    list.sort_by_cached_key(|k| start_key(&beginning_at(nodes, *k as usize, engines)))?;
+    list.sort_by_cached_key(|k| start_key(&beginnings_at(nodes, *k as usize, engines)))?;
     Ok(list)
 }
 
 /// A key that is equal where matches begin alike, and unequal nearly always where they don't: what may stand before
-/// them, and then each set.
-fn start_key(beginning: &Beginning<'_>) -> [u32; 1 + ALIKE_SETS] {
+/// them, and then each set of the first row.
+fn start_key(beginnings: &Beginnings<'_>) -> [u32; 1 + ALIKE_SETS] {
     let mut key = [0; 1 + ALIKE_SETS];
-    key[0] = behind_key(beginning.behind);
-    for depth in 0..beginning.row.len().min(ALIKE_SETS) {
-        key[1 + depth] = set_key(&beginning.row[depth]);
+    key[0] = behind_key(beginnings.behind);
+    if let Some(beginning) = beginnings.get(0) {
+        for depth in 0..beginning.row.len().min(ALIKE_SETS) {
+            key[1 + depth] = set_key(&beginning.row[depth]);
+        }
     }
     key
 }
@@ -146,19 +151,35 @@ fn set_key(set: &ByteSet) -> u32 {
     (mixed >> 32) as u32
 }
 
-/// What wakes each of the engines of these nodes.
+/// What wakes each of the engines of these nodes, and where the rows of each begin.
 fn row_table(
     alloc: Global,
     nodes: &[Node],
     list: &[u32],
     engines: &[PieceEngine],
-) -> Result<RowTable, AllocError>
-    ensures { IfOk result (λ table.
-        AreRowsOf piece_meaning nodes.now engines.now list.now table.rows.items table.sets.items) }
+) -> Result<(Vec<u32>, RowTable), AllocError>
+    ensures { IfOk result (λ made. AreRowsOf piece_meaning nodes.now engines.now list.now
+        made.0.items made.1.rows.items made.1.sets.items) }
 {
     let mut table = RowTable::new(alloc);
+    let mut starts = Vec::new(alloc);
+    starts.push(0)?;
     for i in 0..list.len() {
-        table.push(&beginning_at(nodes, list[i] as usize, engines))?;
+        push_rows(&mut table, &beginnings_at(nodes, list[i] as usize, engines))?;
+        starts.push(graph_number(table.rows.len())?)?;
     }
-    Ok(table)
+    Ok((starts, table))
+}
+
+/// Puts the rows by which matches begin behind the others.
+fn push_rows(table: &mut RowTable, beginnings: &Beginnings<'_>) -> Result<(), AllocError>
+    ensures { IfOk result (λ done. PutsRows table.old table.new beginnings.now.behind
+        (rows_of_beginnings beginnings.now.rows)) }
+{
+    let mut number = 0;
+    while let Some(beginning) = beginnings.get(number) {
+        table.push(&beginning)?;
+        number += 1;
+    }
+    Ok(())
 }

@@ -7,11 +7,11 @@ use Rattle.hs_base.specs.Fields.{Leaves}
 use Rattle.hs_base.specs.Trees.{Tree}
 use Rattle.hs_engine.specs.Engines.{Meaning}
 use Rattle.hs_waking.specs.declared.prev_set.PrevSet.{PrevSet}
-use Rattle.hs_waking.specs.EntryRows.{TellsBeginnings}
+use Rattle.hs_waking.specs.EntryRows.{TellBeginnings}
 
 -- Each match begins behind a member of the set, whatever its bytes are.
 abbrev pub BeginsBehind : Meaning → (behind : PrevSet) → Type 0
-BeginsBehind m behind = (row : List ByteSet) × TellsBeginnings m behind row
+BeginsBehind m behind = (rows : List (List ByteSet)) × TellBeginnings m behind rows
 
 -- The last byte of each match is a member of the set.
 abbrev pub EndsWith : Meaning → (last : ByteSet) → Type 0

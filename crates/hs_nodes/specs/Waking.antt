@@ -1,5 +1,5 @@
 -- Which nodes a chunk may wake though nothing is live in them.
-use Rattle.std.specs.Prelude.{◌≡◌, ◌↔◌, ℕ, suc, ◌<◌, ◌≤◌, Bool, true, false, List, length, Option, Some, None}
+use Rattle.std.specs.Prelude.{◌≡◌, ℕ, suc, ◌<◌, ◌≤◌, Bool, true, false, List, length, Option, Some, None}
 use Rattle.std.specs.Prelude.{replicate, slice_get, slice_index}
 use Rattle.hs_base.specs.declared.byte_set.ByteSet.{ByteSet}
 use Rattle.hs_base.specs.declared.context.Mask.{Mask}
@@ -15,7 +15,8 @@ use Rattle.hs_waking.specs.declared.wake_row.WakeRow.{WakeRow}
 use Rattle.hs_nodes.specs.declared.wake_table.WakeTable.{WakeTable}
 use Rattle.hs_base.specs.Bits.{has_word_bit}
 use Rattle.hs_waking.specs.Fits.{FitsAt, IsBehindBy, IsRowBy, row_numbers}
-use Rattle.hs_waking.specs.EntryRows.{TellsBeginnings}
+use Rattle.hs_waking.specs.EntryRows.{TellBeginnings}
+use Rattle.hs_waking.specs.declared.prev_set.PrevSet.{PrevSet}
 use Rattle.hs_nodes.specs.Resting.{SleepsThrough}
 
 -- the literal that wakes a node of that kind where it ends, if there is one
@@ -78,35 +79,58 @@ AreEnginesUnwoken meaning table marks prev bytes =
     is_marked marks k ≡ false →
     (null ≡ None) × ((e : _) → slice_get table.engines.items number ≡ Some e → SleepsThrough (meaning e) prev bytes)
 
--- The row tells how matches of an engine begin, by the numbers of its sets.
-pub record IsRowFor (m : Meaning) (sets : List ByteSet) (row : WakeRow) : Type 0 where
-  pub own : List ByteSet
-  pub numbered : IsRowBy (row_numbers row) sets own
-  pub tells : TellsBeginnings m row.behind own
+-- Where a row of an engine fits, behind these, there the row of a table does, whose sets have these numbers.
+pub record CoversRow (sets : List ByteSet) (behind : PrevSet) (own : List ByteSet) (row : WakeRow) : Type 0 where
+  pub cut : List ByteSet
+  pub numbered : IsRowBy (row_numbers row) sets cut
+  pub covers : (prev : Prev) (bytes : List ℕ) (i : ℕ) →
+      FitsAt behind own prev bytes i → FitsAt row.behind cut prev bytes i
 
--- The rows name sets that are there, and the one that stands beside an engine without a parent is one of its own.
-pub record AreRowsOf {E : Type 0} (meaning : E → Meaning) (nodes : List Node) (engines : List E) (first : List ℕ)
+-- From one row of a table up to another stands one for each of those that tell how matches of an engine begin.
+pub record AreRowsFor (m : Meaning) (sets : List ByteSet) (rows : List WakeRow) (from to : ℕ) : Type 0 where
+  pub behind : PrevSet
+  pub own : List (List ByteSet)
+  pub tell : TellBeginnings m behind own
+  pub each : (d : ℕ) (one : List ByteSet) → slice_get own d ≡ Some one →
+      (i : ℕ) × (row : WakeRow) × (from ≤ i) × (i < to) × (slice_get rows i ≡ Some row) × CoversRow sets behind one row
+
+-- The rows name sets that are there, and those that stand beside an engine without a parent are its own.
+pub record AreRowsOf {E : Type 0} (meaning : E → Meaning) (nodes : List Node) (engines : List E) (first starts : List ℕ)
     (rows : List WakeRow) (sets : List ByteSet) : Type 0 where
   pub within : (i d : ℕ) (row : WakeRow) → slice_get rows i ≡ Some row → d < length (row_numbers row) →
       slice_index (row_numbers row) d < length sets
   pub begins : (i : ℕ) (row : WakeRow) → slice_get rows i ≡ Some row → IsBehindBy row sets
-  pub are : (i k number : ℕ) (null : Option Mask) (node : Node) (row : WakeRow) (e : E) →
-      slice_get first i ≡ Some k → slice_get rows i ≡ Some row → slice_get nodes k ≡ Some node →
-      node.kind ≡ Engine number null → slice_get engines number ≡ Some e → IsRowFor (meaning e) sets row
+  pub starts_count : length starts ≡ suc (length first)
+  pub known : (i : ℕ) → i < length first → slice_index starts (suc i) ≤ length rows
+  pub are : (i k number : ℕ) (null : Option Mask) (node : Node) (e : E) →
+      slice_get first i ≡ Some k → slice_get nodes k ≡ Some node →
+      node.kind ≡ Engine number null → slice_get engines number ≡ Some e →
+      AreRowsFor (meaning e) sets rows (slice_index starts i) (slice_index starts (suc i))
 
 abbrev pub AreRowsSound : {E : Type 0} → (E → Meaning) → NodeTable E → WakeTable → Type 0
 AreRowsSound meaning table wakes =
-    AreRowsOf meaning table.nodes.items table.engines.items wakes.first_engines.items wakes.rows.items wakes.sets.items
+    AreRowsOf meaning table.nodes.items table.engines.items wakes.first_engines.items wakes.row_starts.items
+    wakes.rows.items wakes.sets.items
 
 -- no place of a chunk
 abbrev pub no_places : List ℕ
 no_places = replicate 8 0
 
--- The words are the places of a chunk behind `prev` at which the row fits that stands at that place, or all.
-pub data AreStartsBy (wakes : WakeTable) (place : ℕ) (prev : Prev) (bytes places : List ℕ) : Type 0 where
-  all : places ≡ replicate 8 18446744073709551615 → AreStartsBy wakes place prev bytes places
-  fits : (row : WakeRow) → slice_get wakes.rows.items place ≡ Some row →
-      ((own : List ByteSet) → IsRowBy (row_numbers row) wakes.sets.items own →
-      (p : ℕ) → p < 512 →
-      (has_word_bit places p ≡ true) ↔ ((p < length bytes) × FitsAt row.behind own prev bytes p)) →
-      AreStartsBy wakes place prev bytes places
+-- The words have each place of a chunk behind `prev` at which a row fits, of those from one of a table up to another.
+abbrev pub HavePlaces : (rows : List WakeRow) (sets : List ByteSet) (from to : ℕ) → Prev → (bytes places : List ℕ) →
+    Type 0
+HavePlaces rows sets from to prev bytes places =
+    (i : ℕ) (row : WakeRow) (cut : List ByteSet) (p : ℕ) →
+    from ≤ i →
+    i < to →
+    slice_get rows i ≡ Some row →
+    IsRowBy (row_numbers row) sets cut →
+    p < length bytes →
+    FitsAt row.behind cut prev bytes p →
+    has_word_bit places p ≡ true
+
+-- And so for the rows of the engine that stands at that place.
+abbrev pub AreStartsBy : WakeTable → (place : ℕ) → Prev → (bytes places : List ℕ) → Type 0
+AreStartsBy wakes place =
+    HavePlaces wakes.rows.items wakes.sets.items (slice_index wakes.row_starts.items place)
+    (slice_index wakes.row_starts.items (suc place))

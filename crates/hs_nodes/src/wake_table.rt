@@ -14,7 +14,9 @@ pub struct WakeTable {
     pub literal_nodes: Vec<u32>,
     /// The nodes of engines that have no parent.
     pub first_engines: Vec<u32>,
-    /// What wakes each of these engines.
+    /// Where in the list of rows those of each of these engines begin; behind these, where the last one's end.
+    pub row_starts: Vec<u32>,
+    /// What wakes these engines: one of an engine's rows.
     pub rows: Vec<WakeRow>,
     /// The sets of all rows.
     pub sets: Vec<ByteSet>,

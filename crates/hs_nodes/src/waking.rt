@@ -1,6 +1,6 @@
 //! Which nodes a chunk wakes.
 
-ghost use Rattle.std.specs.Prelude.{◌≡◌, ◌*◌, ◌<◌, ◌≤◌, ℕ, List, true, false, length, None, Some, slice_get};
+ghost use Rattle.std.specs.Prelude.{◌≡◌, ◌+◌, ◌*◌, ◌<◌, ◌≤◌, ℕ, List, true, false, length, None, Some, slice_get};
 ghost use Rattle.std.specs.Prelude.{slice_index};
 ghost use Rattle.hs_base.specs.Bits.{has_word_bit};
 ghost use Rattle.hs_base.specs.Lists.{Each};
@@ -25,10 +25,10 @@ use crate::table::NodeKind;
 use crate::wake_table::WakeTable;
 use crate::walking::{mark_all, node_at, start_of};
 use hs_base::Prev;
-use hs_bits::MarkSet;
+use hs_bits::{MarkSet, unite_words};
 use hs_engine::Engine;
 use hs_lazy::Cache;
-use hs_waking::{ALL_PLACES, ClassWords, FitStack, Places, Starts, is_none};
+use hs_waking::{ALL_PLACES, ClassWords, FitStack, NO_PLACES, Places, Starts, is_none};
 
 /// Marks the nodes that the literal of that number wakes.
 pub fn wake_literal<E>(graph: &Graph<E>, number: usize, marks: &mut MarkSet)
@@ -61,8 +61,9 @@ fn never_empty(kind: NodeKind) -> bool
     }
 }
 
-/// The places of a chunk behind `prev` at which the row fits that stands at that place, or all, if it can't be asked.
-/// The words are those of this chunk so far as they are known, and the levels those of a row in it.
+/// The places of a chunk behind `prev` at which a row fits of the engine that stands at that place among those without
+/// a parent; all, where the rows can't be asked. The words are those of this chunk so far as they are known, and the
+/// levels those of a row in it.
 fn start_places(
     wakes: &WakeTable,
     place: usize,
@@ -71,9 +72,11 @@ fn start_places(
     words: &mut ClassWords,
     stack: &mut FitStack,
 ) -> Places
-    requires numbers { (row : WakeRow) → slice_get wakes.now.rows.items place ≡ Some row → (d : ℕ) →
+    requires starts { place + 1 < length wakes.now.row_starts.items }
+    requires known { slice_index wakes.now.row_starts.items (place + 1) ≤ length wakes.now.rows.items }
+    requires numbers { (i d : ℕ) (row : WakeRow) → slice_get wakes.now.rows.items i ≡ Some row →
         d < length (row_numbers row) → slice_index (row_numbers row) d < length wakes.now.sets.items }
-    requires begins { (row : WakeRow) → slice_get wakes.now.rows.items place ≡ Some row →
+    requires begins { (i : ℕ) (row : WakeRow) → slice_get wakes.now.rows.items i ≡ Some row →
         IsBehindBy row wakes.now.sets.items }
     requires few { length bytes.now ≤ 512 }
     requires chunk { AreOfChunk words.old wakes.now.sets.items bytes.now }
@@ -82,16 +85,27 @@ fn start_places(
     ensures levels { IsStackOf stack.new wakes.now.sets.items prev bytes.now }
     ensures places { AreStartsBy wakes.now place prev bytes.now result }
 {
-    if place >= wakes.rows.len() || wakes.sets.len() > words.count() {
+    if wakes.sets.len() > words.count() {
         return ALL_PLACES;
     }
-    stack.fit_places(&wakes.rows[place], &wakes.sets, words, prev, bytes)
+    let mut places = NO_PLACES;
+    let to = start_of(&wakes.row_starts, place + 1);
+    for i in start_of(&wakes.row_starts, place)..to {
+        let row = &wakes.rows[i];
+        if !stack.rules_out(row) {
+            let fitting = stack.fit_places(row, &wakes.sets, words, prev, bytes);
+            unite_words(&mut places, &fitting);
+        }
+    }
+    places
 }
 
-/// Whether the row before rules out the one that stands at that place, of the node of that number, which has no empty
-/// span either.
+/// Whether the engine that stands at that place, of the node of that number, has one row, which the row before rules
+/// out, and no empty span either.
 fn is_ruled_out<E>(graph: &Graph<E>, place: usize, k: usize, stack: &FitStack) -> bool
     requires there { k < length graph.now.table.nodes.items }
+    requires starts { place + 1 < length graph.now.wakes.row_starts.items }
+    requires known { slice_index graph.now.wakes.row_starts.items (place + 1) ≤ length graph.now.wakes.rows.items }
     ensures never { (node : Node) → slice_get graph.now.table.nodes.items k ≡ Some node → result ≡ true →
         is_never_empty node.kind ≡ true }
     ensures places { (prev : Prev) (bytes : List ℕ) → result ≡ true →
@@ -99,10 +113,12 @@ fn is_ruled_out<E>(graph: &Graph<E>, place: usize, k: usize, stack: &FitStack) -
         length bytes ≤ 512 →
         AreStartsBy graph.now.wakes place prev bytes no_places }
 {
-    if place >= graph.wakes.rows.len() {
+    let from = start_of(&graph.wakes.row_starts, place);
+    let to = start_of(&graph.wakes.row_starts, place + 1);
+    if to.saturating_sub(from) != 1 {
         return false;
     }
-    if !stack.rules_out(&graph.wakes.rows[place]) {
+    if !stack.rules_out(&graph.wakes.rows[from]) {
         return false;
     }
     never_empty(node_at(&graph.table, k).kind)
@@ -168,8 +184,8 @@ fn wake_engine<E: Engine>(
     }
 }
 
-/// Marks the nodes of engines without a parent that a chunk wakes: those that have the empty span, and those whose row
-/// fits somewhere in its bytes. Tells of each where its matches may begin. Those of which a cache tells are left as
+/// Marks the nodes of engines without a parent that a chunk wakes: those that have the empty span, and those of which a
+/// row fits somewhere in its bytes. Tells of each where its matches may begin. Those of which a cache tells are left as
 /// they are.
 pub fn wake_engines<E: Engine>(
     graph: &Graph<E>,

@@ -8,7 +8,7 @@ use hs_block::{BlockEnds, BlockEngine, run_by_steps};
 use hs_engine::{Engine, Steps};
 use hs_lazy::{ByteEnds, TimelessEngine};
 use hs_repeat::{First, Last, Ring};
-use hs_waking::Beginning;
+use hs_waking::Beginnings;
 use std::sync::ledger::Ledger;
 
 /// Runs a piece that isn't a literal.
@@ -31,18 +31,19 @@ impl PieceEngine {
     ghost use Rattle.hs_base.specs.Fields.{Leaves};
     ghost use Rattle.hs_base.specs.Trees.{Tree};
     ghost use Rattle.hs_rose.specs.PieceEngines.{piece_meaning};
-    ghost use Rattle.hs_waking.specs.EntryRows.{TellsBeginnings};
+    ghost use Rattle.hs_waking.specs.BeginningRows.{rows_of_beginnings};
+    ghost use Rattle.hs_waking.specs.EntryRows.{TellBeginnings};
 
-    /// How each match begins: what may stand before it, and the sets of its first byte, the second and so on. Bytes in
-    /// which none begins so wake nothing, and where none begins so the engine needs no entry.
-    pub fn beginning(&self) -> Beginning<'_>
-        ensures { TellsBeginnings (piece_meaning self.now) result.behind result.row.now }
+    /// How each match begins: what may stand before it, and rows of the sets of its first byte, the second and so on.
+    /// Bytes in which none begins so wake nothing, and where none begins so the engine needs no entry.
+    pub fn beginnings(&self) -> Beginnings<'_>
+        ensures { TellBeginnings (piece_meaning self.now) result.behind (rows_of_beginnings result.rows) }
     {
         match self {
-            PieceEngine::Positions(positions) => positions.beginning(),
-            PieceEngine::First(first) => Beginning::with(first.wakers()),
-            PieceEngine::Last(last) => Beginning::with(last.wakers()),
-            PieceEngine::Ring(ring) => Beginning::with(ring.wakers()),
+            PieceEngine::Positions(positions) => positions.beginnings(),
+            PieceEngine::First(first) => Beginnings::with(first.wakers()),
+            PieceEngine::Last(last) => Beginnings::with(last.wakers()),
+            PieceEngine::Ring(ring) => Beginnings::with(ring.wakers()),
         }
     }
 

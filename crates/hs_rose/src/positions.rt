@@ -1,7 +1,7 @@
 //! The engine of an expression by its positions: byte by byte, and a block at once where that serves.
 
 ghost use Rattle.std.specs.Prelude.{◌≡◌, ℕ, ◌+◌, ◌<◌, ◌≤◌, Bool, true, Some, IfOk, MatchOption};
-ghost use Rattle.std.specs.Prelude.{List, [], ◌∷◌, ◌++◌, length, slice_get};
+ghost use Rattle.std.specs.Prelude.{List, [], ◌∷◌, ◌++◌, length, map, slice_get};
 ghost use Rattle.hs_base.specs.ByteSets.{has};
 ghost use Rattle.hs_base.specs.declared.context.Next.{Next};
 ghost use Rattle.hs_base.specs.declared.context.Prev.{Prev};
@@ -12,15 +12,16 @@ ghost use Rattle.hs_block.specs.declared.streams.Streams.{Streams};
 ghost use Rattle.hs_block.specs.StreamSets.{takes_byte};
 ghost use Rattle.hs_block.specs.StreamTables.{comes_before};
 ghost use Rattle.hs_limex.specs.LimexEngines.{moves_of_limex};
-ghost use Rattle.hs_rose.specs.MovesRows.{IsMovesLevel};
+ghost use Rattle.hs_rose.specs.MovesRows.{HasMovesRow};
 ghost use Rattle.hs_waking.specs.PrevSets.{has_prev};
+ghost use Rattle.hs_waking.specs.Rows.{row_sets};
 
 use hs_base::{ByteSet, Next, NextSet, Prev};
 use hs_block::{BlockEnds, BlockEngine, Streams, run_by_steps};
 use hs_engine::{Automaton, Engine, Steps, first_bytes};
 use hs_lazy::{ByteEnds, TimelessEngine};
 use hs_limex::Limex;
-use hs_waking::{Beginning, PrevSet, behind_of, row_of};
+use hs_waking::{BeginningRows, Beginnings, PrevSet, behind_of, rows_of};
 use std::alloc::{AllocError, Global};
 use std::sync::ledger::Ledger;
 
@@ -34,8 +35,8 @@ pub struct PositionEngine {
     streams: Option<Streams>,
     /// What may stand before a match.
     behind: PrevSet,
-    /// The bytes of the first levels of positions.
-    row: Vec<ByteSet>,
+    /// How matches begin, by the bytes of the first levels of positions.
+    rows: Vec<Vec<ByteSet>>,
     /// The bytes of the positions behind which a match may end.
     last: ByteSet,
     ghost size_is: { (s : Streams) → streams ≡ Some s → s.size ≡ (moves_of_limex limex).size },
@@ -50,11 +51,8 @@ pub struct PositionEngine {
     ghost behind_has: { (x b : ℕ) (prev : Prev) → b < 256 →
         (moves_of_limex limex).enters (between prev (class_of b)) x ≡ true → (moves_of_limex limex).reach b x ≡ true →
         has_prev behind prev ≡ true },
-    ghost row_some: { 0 < length row.items },
-    ghost row_sets: { (d x b : ℕ) → d < length row.items → IsMovesLevel (moves_of_limex limex) d x → b < 256 →
-        (moves_of_limex limex).reach b x ≡ true → in_set (slice_get row.items d) b ≡ true },
-    ghost row_ends: { (d x : ℕ) (c : Context) → d + 1 < length row.items → IsMovesLevel (moves_of_limex limex) d x →
-        (moves_of_limex limex).accepts c x ≡ true → ⊥ },
+    ghost rows_are: { (x : ℕ) (c : Context) → (moves_of_limex limex).enters c x ≡ true →
+        HasMovesRow (moves_of_limex limex) (map row_sets rows.items) x },
     ghost last_has: { (x b : ℕ) (c : Context) → b < 256 → (moves_of_limex limex).accepts c x ≡ true →
         (moves_of_limex limex).reach b x ≡ true → has last b ≡ true },
 }
@@ -66,7 +64,8 @@ impl PositionEngine {
     ghost use Rattle.hs_block.specs.Blocks.{TakesBlock};
     ghost use Rattle.hs_lazy.specs.Runs.{TakesEntered};
     ghost use Rattle.hs_rose.specs.PositionEngines.{meaning_of_positions};
-    ghost use Rattle.hs_waking.specs.EntryRows.{TellsBeginnings};
+    ghost use Rattle.hs_waking.specs.BeginningRows.{rows_of_beginnings};
+    ghost use Rattle.hs_waking.specs.EntryRows.{TellBeginnings};
 
     /// The engine of an automaton, of whose tables it makes its own.
     pub(crate) fn build(alloc: Global, automaton: &Automaton) -> Result<PositionEngine, AllocError>
@@ -76,25 +75,25 @@ impl PositionEngine {
         let limex = Limex::build(alloc, automaton)?;
         let streams = Streams::build(alloc, automaton)?;
         let behind = behind_of(automaton);
-        let row = row_of(alloc, automaton)?;
+        let rows = rows_of(alloc, automaton)?;
         // By the masks for accepting it gives the last bytes of matches, as by those for entering the first.
         let last = first_bytes(automaton.sets(), automaton.accepts());
         Ok(PositionEngine {
             limex,
             streams,
             behind,
-            row,
+            rows,
             last,
         })
     }
 
     /// How each match begins: what may stand before it, and the sets of its first bytes.
-    pub(crate) fn beginning(&self) -> Beginning<'_>
-        ensures { TellsBeginnings (meaning_of_positions self.now) result.behind result.row.now }
+    pub(crate) fn beginnings(&self) -> Beginnings<'_>
+        ensures { TellBeginnings (meaning_of_positions self.now) result.behind (rows_of_beginnings result.rows) }
     {
-        Beginning {
+        Beginnings {
             behind: self.behind,
-            row: &self.row,
+            rows: BeginningRows::Each(&self.rows),
         }
     }
 

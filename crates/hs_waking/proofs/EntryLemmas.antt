@@ -22,13 +22,12 @@ use Rattle.hs_engine.specs.Tables.{Runs}
 use Rattle.hs_engine.proofs.AgreementLemmas.{accepting-leaves, get-append, get-seam, leaves-accepting, reached-steps, steps-reached}
 use Rattle.hs_bits.proofs.ContextLemmas.{prev-there}
 use Rattle.hs_waking.proofs.AnyLemmas.{true-false, true-or-false}
-use Rattle.hs_waking.proofs.RowLemmas.{only-row, runs-one-row}
 use Rattle.hs_waking.proofs.WakeLemmas.{Stands, begins, bytes-next, entered-next, goes-on, stands-nowhere}
-use Rattle.hs_waking.specs.EntryRows.{AreEntryRows, IsEntryRow, KeepsSomeFits, entries_to}
-use Rattle.hs_waking.specs.Fits.{FitsAt, FitsTo}
+use Rattle.hs_waking.specs.EntryRows.{AreEntryRows, KeepsSomeFits, entries_to}
+use Rattle.hs_waking.specs.Fits.{FitsTo}
 use Rattle.hs_waking.specs.declared.prev_set.PrevSet.{PrevSet}
 use Rattle.hs_waking.specs.PrevSets.{has_prev}
-use Rattle.hs_waking.specs.Rows.{AreRowsOf, IsBehindOf, RunsByRow, RunsByRows}
+use Rattle.hs_waking.specs.Rows.{AreRowsOf, IsBehindOf, RunsByRows}
 
 -- the entries before these bytes alone, and those before each
 
@@ -176,8 +175,3 @@ entry-rows m behind rows by kept prev bytes small keeps = record {
         leaves-kept a behind rows are before prev bytes kept keeps small tree runs u entered len last i within next,
       );
 }
-
-pub entry-row : (m : Meaning) (behind : PrevSet) (row : List ByteSet) → RunsByRow m behind row → IsEntryRow m behind row
-entry-row m behind row by kept prev bytes small keeps =
-    entry-rows m behind (row ∷ []) (runs-one-row m behind row by) kept prev bytes small
-    (λ k i other at within fits. keeps i within (subst (λ r. FitsAt behind r prev bytes i) (sym (only-row row other k at)) fits))

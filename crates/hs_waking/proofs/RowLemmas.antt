@@ -16,7 +16,7 @@ use Rattle.hs_engine.proofs.AgreementLemmas.{get-append, get-seam}
 use Rattle.hs_waking.proofs.AnyLemmas.{true-false}
 use Rattle.hs_waking.specs.declared.prev_set.PrevSet.{PrevSet}
 use Rattle.hs_waking.specs.EntryRows.{TellBeginnings, TellsBeginnings}
-use Rattle.hs_waking.specs.Rows.{AddsRow, AreRowsOf, IsAtLevel, IsAtLevelFrom, IsRowFrom, IsRowFromEach, IsRowOf, RunsByRow, RunsByRows, row_sets}
+use Rattle.hs_waking.specs.Rows.{AddsRow, AreRowsOf, IsAtLevel, IsAtLevelFrom, IsRowFrom, IsRowFromEach, IsRowOf, row_sets}
 
 -- the levels from a position that is entered are among those of the automaton, and each position of these is of one of
 -- those
@@ -45,18 +45,8 @@ row-of-each a words row firsts is = record {
 
 -- one row
 
-pub only-row : (row other : List ByteSet) (k : ℕ) → slice_get (row ∷ []) k ≡ Some other → row ≡ other
-only-row row other zero at = same_Some row other at
-only-row row other (suc k) at = absurd (let within : suc k < 1 = slice_get_within (row ∷ []) (suc k) other at in omega (arith, within))
-
 pub one-row : (a : Automaton) (row : List ByteSet) → IsRowOf a row → AreRowsOf a (row ∷ [])
 one-row a row is x c enter = (0, row, refl, row-from a row is x c enter)
-
-pub runs-one-row : (m : Meaning) (behind : PrevSet) (row : List ByteSet) → RunsByRow m behind row → RunsByRows m behind (row ∷ [])
-runs-one-row m behind row by = record {
-  told = λ tree is. let (a, own, before, runs) = by.told tree is in (a, one-row a row own, before, runs);
-  field = by.field;
-}
 
 pub tells-one-row : (m : Meaning) (behind : PrevSet) (row : List ByteSet) → TellsBeginnings m behind row → TellBeginnings m behind (row ∷ [])
 tells-one-row m behind row tells = record {

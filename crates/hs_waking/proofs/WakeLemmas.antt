@@ -25,12 +25,11 @@ use Rattle.hs_engine.proofs.AgreementLemmas.{leaves-accepting, reached-steps}
 use Rattle.hs_engine.proofs.AutomatonLemmas.{start-clear}
 use Rattle.hs_bits.proofs.ContextLemmas.{prev-there}
 use Rattle.hs_waking.proofs.AnyLemmas.{true-false}
-use Rattle.hs_waking.proofs.RowLemmas.{only-row, runs-one-row}
 use Rattle.hs_waking.specs.Fits.{FitsNowhere, FitsTo}
 use Rattle.hs_waking.specs.declared.prev_set.PrevSet.{PrevSet}
 use Rattle.hs_waking.specs.PrevSets.{has_prev}
-use Rattle.hs_waking.specs.Rows.{AreRowsOf, IsAtLevelFrom, IsBehindOf, IsRowFrom, RunsByRow, RunsByRows}
-use Rattle.hs_waking.specs.WakeRows.{AreWakeRows, IsWakeRow}
+use Rattle.hs_waking.specs.Rows.{AreRowsOf, IsAtLevelFrom, IsBehindOf, IsRowFrom, RunsByRows}
+use Rattle.hs_waking.specs.WakeRows.{AreWakeRows}
 
 -- one more set has its byte
 pub fits-more : (row : ℕ → Option ByteSet) (bytes : List ℕ) (n p : ℕ) → FitsTo row bytes n p → (p + n < length bytes → in_set (row n) (get_or bytes (p + n) 0) ≡ true) → FitsTo row bytes (suc n) p
@@ -189,8 +188,3 @@ wake-rows m behind rows by region bytes prev start small nowhere = record {
       let here : IsField region (write_out tree) u entered = (by.field region tree u entered told).0 field in
       λ i some. left-nowhere a behind rows are before prev bytes nowhere small tree runs u entered len last (unreached-start (write_out tree) region u entered begun here) i;
 }
-
-pub wake-row : (m : Meaning) (behind : PrevSet) (row : List ByteSet) → RunsByRow m behind row → IsWakeRow m behind row
-wake-row m behind row by region bytes prev start small nowhere =
-    wake-rows m behind (row ∷ []) (runs-one-row m behind row by) region bytes prev start small
-    (λ k other at. subst (λ r. FitsNowhere behind r prev bytes) (only-row row other k at) nowhere)

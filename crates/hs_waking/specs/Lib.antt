@@ -8,3 +8,4 @@ pub mod RowTables
 pub mod EntryRows
 pub mod Starts
 pub mod FitStacks
+pub mod BeginningRows

@@ -97,15 +97,8 @@ IsBehindOf a behind =
     takes a x b ≡ true →
     has_prev behind prev ≡ true
 
--- The engine runs expressions by automata of which the row is one, which begins behind these alone; and its regions
+-- The engine runs expressions by automata of which these are the rows, which begin behind these alone; and its regions
 -- have a bit for each position.
-pub record RunsByRow (m : Meaning) (behind : PrevSet) (row : List ByteSet) : Type 0 where
-  pub told : (tree : Tree) → m.is_for tree → (a : Automaton) × IsRowOf a row × IsBehindOf a behind × Runs a tree
-  pub field : (region : List ℕ) (tree : Tree) (u : List ℕ) (entered : List Bool) →
-      m.is_for tree →
-      m.field region tree u entered ↔ IsField region (write_out tree) u entered
-
--- The same with a row for each position that is entered.
 pub record RunsByRows (m : Meaning) (behind : PrevSet) (rows : List (List ByteSet)) : Type 0 where
   pub told : (tree : Tree) → m.is_for tree → (a : Automaton) × AreRowsOf a rows × IsBehindOf a behind × Runs a tree
   pub field : (region : List ℕ) (tree : Tree) (u : List ℕ) (entered : List Bool) →

@@ -7,16 +7,9 @@ ghost use Rattle.hs_engine.specs.Engines.{AreWakers};
 ghost use Rattle.hs_waking.specs.declared.prev_set.PrevSet.{PrevSet};
 ghost use Rattle.hs_waking.specs.EntryRows.{RunsBySet, TellBeginnings, TellsBeginnings};
 ghost use Rattle.hs_waking.specs.PrevSets.{has_prev};
-ghost use Rattle.hs_waking.specs.Rows.{RunsByRow, RunsByRows};
+ghost use Rattle.hs_waking.specs.Rows.{RunsByRows};
 
 use hs_engine::Engine;
-
-/// The row of automata tells where an engine is to be entered that runs its expressions by them.
-pub fn rows_tell_beginnings<E: Engine>()
-    ensures { (engine : E) (behind : PrevSet) (row : List ByteSet) →
-        RunsByRow (E.meaning engine) behind row →
-        TellsBeginnings (E.meaning engine) behind row }
-{}
 
 /// Rows of automata, one for each position with which a match may begin, tell where such an engine is to be entered:
 /// where one of them fits.

@@ -1,9 +1,9 @@
 //! Where matches may begin in a chunk: a row of sets, of the first byte of a match, of the second and so on, keeps an
 //! engine asleep over a chunk in which it fits nowhere behind what may stand before a match, and elsewhere the engine
-//! needs to be entered only where it fits. `row_of` and `behind_of` make these of an automaton, and `rows_of` a row for
-//! each position with which a match may begin, so that it needs to be entered only where one of them fits. `fit_places`
-//! tells where a row fits, 64 places at a time, `fits` whether it does somewhere, and `fits_plain` is its slow twin;
-//! `Starts` keeps the places of many rows. `laws` says what rows are good for.
+//! needs to be entered only where it fits. Several rows do so together: where one of them fits. `behind_of` tells of an
+//! automaton what may stand before a match, and `rows_of` gives its row, or one for each position with which a match may
+//! begin. `fit_places` tells where a row fits, 64 places at a time, `fits` whether it does somewhere, and `fits_plain` is
+//! its slow twin; `Starts` keeps the places of many rows. `laws` says what rows are good for.
 #![tactic(auto)]
 
 mod befores;
@@ -25,7 +25,7 @@ mod tests;
 mod wake_row;
 
 pub use befores::behind_of;
-pub use beginning::Beginning;
+pub use beginning::{Beginning, BeginningRows, Beginnings};
 pub use chunk_places::{ALL_PLACES, NO_PLACES, Places, is_none};
 pub use class_words::{ClassWords, MAX_CHUNK};
 pub use fit_stack::FitStack;
@@ -33,6 +33,6 @@ pub use fitting::{fit_places, fits};
 pub use plain::fits_plain;
 pub use prev_set::PrevSet;
 pub use row_table::RowTable;
-pub use rows::{MAX_ROW, MAX_ROWS, row_of, rows_of};
+pub use rows::{MAX_ROW, MAX_ROWS, rows_of};
 pub use starts::Starts;
 pub use wake_row::WakeRow;

@@ -27,10 +27,22 @@ use std::alloc::{AllocError, Global};
 pub const MAX_ROW: usize = 8;
 
 /// How many rows there are at most.
-pub const MAX_ROWS: usize = 16;
+pub const MAX_ROWS: usize = 4;
+
+/// How many times as seldom as the one row of all matches the rows have to fit, to be asked in its place.
+const TIMES_AS_SELDOM: u64 = 2;
+
+/// So many places are told of.
+const ALWAYS: u64 = 1 << 48;
+
+/// At fewer of them a row fits seldom enough.
+const SELDOM: u64 = 1 << 34;
+
+/// How many bytes are common in a text.
+const COMMON_BYTES: u64 = 64;
 
 /// The bytes of the first levels of an automaton, up to one of which a position accepts.
-pub fn row_of(alloc: Global, automaton: &Automaton) -> Result<Vec<ByteSet>, AllocError>
+pub(crate) fn row_of(alloc: Global, automaton: &Automaton) -> Result<Vec<ByteSet>, AllocError>
     ensures row { IfOk result (λ row. IsRowOf automaton.now row.items) }
     ensures few { IfOk result (λ row. vec_len row ≤ 8) }
 {
@@ -38,14 +50,14 @@ pub fn row_of(alloc: Global, automaton: &Automaton) -> Result<Vec<ByteSet>, Allo
 }
 
 /// The rows from the positions with which a match may begin, one for each; rows that are equal stand there once. Where
-/// they would be more than `MAX_ROWS`, there is the one row of `row_of` alone.
+/// they would be more than `MAX_ROWS`, or fit hardly less often than the one row of `row_of`, there is that one alone.
 ///
 /// # Errors
 ///
 /// There may be no memory.
 pub fn rows_of(alloc: Global, automaton: &Automaton) -> Result<Vec<Vec<ByteSet>>, AllocError>
     ensures rows { IfOk result (λ rows. AreRowsOf automaton.now (map row_sets rows.items)) }
-    ensures few { IfOk result (λ rows. vec_len rows ≤ 16) }
+    ensures few { IfOk result (λ rows. vec_len rows ≤ 4) }
     ensures short { IfOk result (λ rows. AreShort (map row_sets rows.items)) }
 {
     let mut rows = Vec::new(alloc);
@@ -55,13 +67,18 @@ pub fn rows_of(alloc: Global, automaton: &Automaton) -> Result<Vec<Vec<ByteSet>>
             return one_row(alloc, automaton);
         }
     }
-    Ok(rows)
+    let one = one_row(alloc, automaton)?;
+    if fit_seldom(&rows, &one) {
+        Ok(rows)
+    } else {
+        Ok(one)
+    }
 }
 
 /// The one row of `row_of`.
 fn one_row(alloc: Global, automaton: &Automaton) -> Result<Vec<Vec<ByteSet>>, AllocError>
     ensures rows { IfOk result (λ rows. AreRowsOf automaton.now (map row_sets rows.items)) }
-    ensures few { IfOk result (λ rows. vec_len rows ≤ 16) }
+    ensures few { IfOk result (λ rows. vec_len rows ≤ 4) }
     ensures short { IfOk result (λ rows. AreShort (map row_sets rows.items)) }
 {
     let mut rows = Vec::new(alloc);
@@ -122,4 +139,39 @@ fn row_from(alloc: Global, automaton: &Automaton, first: &Level) -> Result<Vec<B
         row.push(bytes_of(automaton.sets(), &level))?;
     }
     Ok(row)
+}
+
+/// Whether these rows fit by far less often than those.
+fn fit_seldom(rows: &[Vec<ByteSet>], others: &[Vec<ByteSet>]) -> bool {
+    let often = how_often(others);
+    often > SELDOM && TIMES_AS_SELDOM.saturating_mul(how_often(rows)) <= often
+}
+
+/// How often one of the rows fits at a place, roughly, of `ALWAYS` places.
+fn how_often(rows: &[Vec<ByteSet>]) -> u64 {
+    let mut all: u64 = 0;
+    for row in rows {
+        all = all.saturating_add(how_often_fits(row));
+    }
+    all
+}
+
+/// How often the row fits at a place, roughly, of `ALWAYS` places: as if each byte were one of `COMMON_BYTES`, each as
+/// often as the others.
+fn how_often_fits(row: &[ByteSet]) -> u64 {
+    let mut often = ALWAYS;
+    for set in row {
+        often = (often / COMMON_BYTES).saturating_mul(size_of(set).min(COMMON_BYTES));
+    }
+    often
+}
+
+/// How many bytes the set has.
+fn size_of(set: &ByteSet) -> u64 {
+    let words = set.words();
+    let mut size: u64 = 0;
+    for i in 0..words.len() {
+        size = size.saturating_add(u64::from(words[i].count_ones()));
+    }
+    size
 }

@@ -245,29 +245,50 @@ fn each_alternative_has_its_row(rt: HostRuntime) -> Result<(), Fail> {
     Ok(())
 }
 
-/// The automaton of that many single bytes, each of them a match.
-fn single_bytes(alloc: Global, count: usize) -> Result<Automaton, AllocError>
-    requires { count ≤ 32 }
-{
-    let mut sets = vec![in alloc; ByteSet::EMPTY; count]?;
-    for byte in 0..count {
-        sets[byte] = ByteSet::of(byte as u8);
-    }
+/// The automaton of `(ab|cd|ef|gh|ij)`, of which the last pair begins in a context of the mask alone.
+fn pairs(alloc: Global, last: Mask) -> Result<Automaton, AllocError> {
+    let (all, none) = (Mask::all(), Mask::empty());
+    let mut follows = FollowRows::new(alloc, 10, false)?;
+    follows.insert(0, 0, 5);
+    follows.insert(0, 1, 6);
+    follows.insert(0, 2, 7);
+    follows.insert(0, 3, 8);
+    follows.insert(0, 4, 9);
     Ok(Automaton::new(
-        sets,
-        vec![in alloc; Mask::all(); count]?,
-        vec![in alloc; Mask::all(); count]?,
-        FollowRows::new(alloc, count, false)?,
-        Mask::empty(),
+        Vec::from_array(
+            alloc,
+            [
+                ByteSet::of(b'a'),
+                ByteSet::of(b'c'),
+                ByteSet::of(b'e'),
+                ByteSet::of(b'g'),
+                ByteSet::of(b'i'),
+                ByteSet::of(b'b'),
+                ByteSet::of(b'd'),
+                ByteSet::of(b'f'),
+                ByteSet::of(b'h'),
+                ByteSet::of(b'j'),
+            ],
+        )?,
+        Vec::from_array(
+            alloc,
+            [all, all, all, all, last, none, none, none, none, none],
+        )?,
+        Vec::from_array(
+            alloc,
+            [none, none, none, none, none, all, all, all, all, all],
+        )?,
+        follows,
+        none,
         false,
     ))
 }
 
 #[test]
 fn many_alternatives_have_one_row(rt: HostRuntime) -> Result<(), Fail> {
-    let most = rows_of(rt.alloc(), &single_bytes(rt.alloc(), 16)?)?;
-    assert!(rt; most.len() == 16);
-    let more = rows_of(rt.alloc(), &single_bytes(rt.alloc(), 17)?)?;
+    let most = rows_of(rt.alloc(), &pairs(rt.alloc(), Mask::empty())?)?;
+    assert!(rt; most.len() == 4);
+    let more = rows_of(rt.alloc(), &pairs(rt.alloc(), Mask::all())?)?;
     assert!(rt; more.len() == 1);
     Ok(())
 }

@@ -22,6 +22,6 @@ loop-position-preserved c =
       few = omega (arith, c.len.ensures, c.if-len-gt-MAX_ROWS.false);
     }
 
-pub returns-clause-rows : goal.returns-clause-rows
-returns-clause-rows c x h enter =
+pub returns-then-fit_seldom-clause-rows : goal.returns-then-fit_seldom-clause-rows
+returns-then-fit_seldom-clause-rows c x h enter =
     c.loop-position.invariant.rows x h (let within = entered-within c.args.automaton.now x h enter in omega (arith, within, c.size-position-end.ensures.size, c.loop-position-test.false)) enter
