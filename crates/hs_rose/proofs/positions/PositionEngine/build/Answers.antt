@@ -1,4 +1,5 @@
 use Rattle.std.proofs.Common.{slice_get, map, ◌∙◌, ap, sym}
+use Rattle.std.proofs.lemmas.Grind.{merely}
 use Rattle.hs_base.specs.Contexts.{class_of}
 use Rattle.hs_engine.specs.Automata.{in_mask, in_set}
 use Rattle.hs_engine.specs.Between.{between}
@@ -45,7 +46,7 @@ invariant_of-result-clause-behind_has c x b prev small enter member =
 
 pub invariant_of-result-clause-rows_are : goal.invariant_of-result-clause-rows_are
 invariant_of-result-clause-rows_are c =
-    rows-from (moves_of_limex c.in_ok-limex.limex) c.args.automaton.now c.in_ok-limex.ensures.fits (map row_sets c.in_ok-rows.rows.items) c.in_ok-rows.ensures.rows
+    merely (rows-from (moves_of_limex c.in_ok-limex.limex) c.args.automaton.now c.in_ok-limex.ensures.fits (map row_sets c.in_ok-rows.rows.items) c.in_ok-rows.ensures.rows)
 
 pub invariant_of-result-clause-last_has : goal.invariant_of-result-clause-last_has
 invariant_of-result-clause-last_has c x b h small accept member =
