@@ -27,16 +27,13 @@ use std::alloc::{AllocError, Global};
 pub const MAX_ROW: usize = 8;
 
 /// How many rows there are at most.
-pub const MAX_ROWS: usize = 4;
+pub const MAX_ROWS: usize = 16;
 
 /// How many times as seldom as the one row of all matches the rows have to fit, to be asked in its place.
 const TIMES_AS_SELDOM: u64 = 2;
 
 /// So many places are told of.
 const ALWAYS: u64 = 1 << 48;
-
-/// At fewer of them a row fits seldom enough.
-const SELDOM: u64 = 1 << 34;
 
 /// How many bytes are common in a text.
 const COMMON_BYTES: u64 = 64;
@@ -57,7 +54,7 @@ pub(crate) fn row_of(alloc: Global, automaton: &Automaton) -> Result<Vec<ByteSet
 /// There may be no memory.
 pub fn rows_of(alloc: Global, automaton: &Automaton) -> Result<Vec<Vec<ByteSet>>, AllocError>
     ensures rows { IfOk result (λ rows. AreRowsOf automaton.now (map row_sets rows.items)) }
-    ensures few { IfOk result (λ rows. vec_len rows ≤ 4) }
+    ensures few { IfOk result (λ rows. vec_len rows ≤ 16) }
     ensures short { IfOk result (λ rows. AreShort (map row_sets rows.items)) }
 {
     let mut rows = Vec::new(alloc);
@@ -78,7 +75,7 @@ pub fn rows_of(alloc: Global, automaton: &Automaton) -> Result<Vec<Vec<ByteSet>>
 /// The one row of `row_of`.
 fn one_row(alloc: Global, automaton: &Automaton) -> Result<Vec<Vec<ByteSet>>, AllocError>
     ensures rows { IfOk result (λ rows. AreRowsOf automaton.now (map row_sets rows.items)) }
-    ensures few { IfOk result (λ rows. vec_len rows ≤ 4) }
+    ensures few { IfOk result (λ rows. vec_len rows ≤ 16) }
     ensures short { IfOk result (λ rows. AreShort (map row_sets rows.items)) }
 {
     let mut rows = Vec::new(alloc);
@@ -143,8 +140,7 @@ fn row_from(alloc: Global, automaton: &Automaton, first: &Level) -> Result<Vec<B
 
 /// Whether these rows fit by far less often than those.
 fn fit_seldom(rows: &[Vec<ByteSet>], others: &[Vec<ByteSet>]) -> bool {
-    let often = how_often(others);
-    often > SELDOM && TIMES_AS_SELDOM.saturating_mul(how_often(rows)) <= often
+    TIMES_AS_SELDOM.saturating_mul(how_often(rows)) <= how_often(others)
 }
 
 /// How often one of the rows fits at a place, roughly, of `ALWAYS` places.
