@@ -20,4 +20,5 @@ pub mod StreamingLemmas
 pub mod TimelessLemmas
 pub mod MovesRowLemmas
 pub mod LastByteLemmas
+mod LastBlockLemmas
 mod RepeatEntryLemmas

@@ -2,6 +2,7 @@
 
 ghost use Rattle.std.specs.Prelude.{◌≡◌};
 
+use crate::last_blocks::run_last;
 use crate::positions::PositionEngine;
 use hs_base::{ByteSet, NextSet, Prev};
 use hs_block::{BlockEnds, BlockEngine, run_by_steps};
@@ -161,9 +162,7 @@ impl BlockEngine for PieceEngine {
             PieceEngine::First(first) => {
                 run_by_steps(first, region, prev, at, enters, bytes, steps)
             }
-            PieceEngine::Last(last) => {
-                run_by_steps(last, region, prev, at, enters, bytes, steps)
-            }
+            PieceEngine::Last(last) => run_last(last, region, prev, at, enters, bytes, steps),
             PieceEngine::Ring(ring) => {
                 run_by_steps(ring, region, prev, at, enters, bytes, steps)
             }

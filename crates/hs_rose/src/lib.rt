@@ -7,6 +7,7 @@ mod engine;
 mod identifiers;
 mod info;
 mod kind;
+mod last_blocks;
 mod laws;
 mod literal_index;
 mod literals;
