@@ -10,7 +10,7 @@ use Rattle.hs_base.specs.RepeatRows.IsLastDistance.{none}
 use Rattle.hs_bits.specs.WordBits.{bits_of, one_later, word_bit}
 use Rattle.hs_bits.proofs.BlockLemmas.{block-more, entered-more, length-block, length-entered}
 use Rattle.hs_repeat.specs.RepeatBlocks.{TakesDistances, distance_behind}
-use Rattle.hs_repeat.specs.RepeatLaws.{AreWithin, LastDistanceMoves, LastDistancesAreOfHistories, LastDistancesStayWithin, LastBlocksTellLeaving, LastIsLeftByDistance}
+use Rattle.hs_repeat.specs.RepeatLaws.{StayWithin, LastDistanceMoves, LastDistancesAreOfHistories, LastDistancesStayWithin, LastBlocksTellLeaving, LastIsLeftByDistance}
 use Rattle.hs_repeat.proofs.DistanceLemmas.{Moves, away-moves, away-none, positive}
 use Rattle.hs_repeat.proofs.LastLemmas.{last-entered, last-farther, last-leaves, last-lost, last-rests, leaves-last}
 use Rattle.hs_repeat.proofs.LastWalkLemmas.{behind-farther, behind-lost, behind-none, behind-within}
@@ -70,7 +70,7 @@ last-through set bound old new enters bytes left some fits takes u entered len l
 pub stay-within : LastDistancesStayWithin
 stay-within set bound old new enters bytes left some low takes i within = up-to i within
   where
-    up-to : (i : ℕ) → i ≤ length bytes → AreWithin bound old takes.distances i
+    up-to : (i : ℕ) → i ≤ length bytes → StayWithin bound old takes.distances i
     up-to zero within = record { bounded = omega (arith, takes.first); within = omega (arith, takes.first) }
     up-to (suc i) within =
         let before = up-to i (omega arith) in

@@ -37,7 +37,7 @@ LastDistancesAreOfHistories =
     IsLastDistance bound (IsAway (members set) (u ++ take i bytes) (entered ++ bits_of enters i)) (takes.distances i)
 
 -- They stay within the bound, and none grows by more than one a byte.
-pub record AreWithin (bound old : ℕ) (distances : ℕ → ℕ) (i : ℕ) : Type 0 where
+pub record StayWithin (bound old : ℕ) (distances : ℕ → ℕ) (i : ℕ) : Type 0 where
   pub bounded : distances i ≤ bound
   pub within : distances i ≤ old + i
 
@@ -49,7 +49,7 @@ LastDistancesStayWithin =
     (takes : TakesDistances set bound old new enters bytes left) →
     (i : ℕ) →
     i ≤ length bytes →
-    AreWithin bound old takes.distances i
+    StayWithin bound old takes.distances i
 
 -- The repeat is left just where the distance isn't 0, whatever comes next.
 abbrev pub LastIsLeftByDistance : Type 0
