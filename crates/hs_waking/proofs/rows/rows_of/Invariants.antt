@@ -8,5 +8,5 @@ abbrev pub invariant-loop-position : goal.invariant-loop-position
 invariant-loop-position l = record {
   rows : (x : ℕ) (c : Context) → x < l.position → enters l.automaton x c ≡ true → HasRowFrom l.automaton (map row_sets l.rows.items) x;
   short : AreShort (map row_sets l.rows.items);
-  few : length l.rows.items ≤ 4;
+  few : length l.rows.items ≤ 16;
 }
