@@ -1,21 +1,12 @@
 -- Nodes of which a cache tells.
-use Rattle.std.proofs.Common.{◌≡◌, ◌↔◌, ◌⊎◌, ℕ, zero, suc, ◌+◌, ◌*◌, ◌/◌, ◌%◌, ◌<◌, ◌≤◌, Bool, true, false, List, [], ◌∷◌, ◌++◌, length, take, drop, replicate, slice_get, slice_index, Option, Some, None, refl, sym, ap, subst, ◌∙◌, inl, inr, arith, length-append}
+use Rattle.std.proofs.Common.{◌≡◌, ℕ, Bool, true, false, List, ◌++◌, length, replicate, Option, Some, None, sym, subst, ◌∙◌}
 use Rattle.std.specs.Prelude.{MatchBool}
-use Rattle.hs_base.specs.declared.context.Next.TheVariants as after
 use Rattle.hs_base.specs.declared.context.Prev.{Prev}
-use Rattle.hs_base.specs.Bits.{AreZero, has_word_bit}
-use Rattle.hs_base.specs.Contexts.{class_of}
-use Rattle.hs_base.specs.Fields.{Leaves}
-use Rattle.hs_base.specs.Trees.{Tree}
-use Rattle.hs_bits.specs.WordBits.{bits_of, word_bit}
-use Rattle.hs_block.specs.Blocks.{IsFieldOf}
+use Rattle.hs_base.specs.Bits.{AreZero}
 use Rattle.hs_engine.specs.Engines.{Meaning}
 use Rattle.hs_lazy.specs.Caches.{IsSilent, TellsRun, Told}
-use Rattle.hs_lazy.specs.Runs.{IsRunThrough, RunsThrough}
-use Rattle.hs_waking.specs.EntryRows.{DoEntriesSuffice, entries_to}
 use Rattle.hs_nodes.specs.Nodes.{PassesOver}
-use Rattle.hs_nodes.specs.Resting.{IsIdleEngine, SleepsThrough}
-use Rattle.hs_nodes.specs.Starting.{is_place}
+use Rattle.hs_nodes.specs.Resting.{SleepsThrough}
 use Rattle.hs_nodes.proofs.LivingLemmas.{zeros-same}
 
 pub none-some : {A : Type 0} (o : Option A) (x : A) → o ≡ None → o ≡ Some x → ⊥

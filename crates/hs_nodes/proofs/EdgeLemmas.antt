@@ -1,5 +1,5 @@
 -- An expression that looks back is left nowhere where none of its matches can end.
-use Rattle.std.proofs.Common.{◌≡◌, ℕ, zero, suc, ◌+◌, ◌-◌, ◌<◌, ◌≤◌, ◌↔◌, Bool, true, false, List, [], ◌∷◌, ◌++◌, length, get_or, replicate, take, drop, slice_get, slice_index, Some, None, refl, sym, ap, subst, ◌∙◌, inl, inr, arith, length-append, length-drop}
+use Rattle.std.proofs.Common.{◌≡◌, ℕ, zero, suc, ◌+◌, ◌-◌, ◌<◌, ◌≤◌, ◌↔◌, Bool, true, false, List, [], ◌∷◌, ◌++◌, length, get_or, replicate, take, drop, slice_get, slice_index, Some, refl, sym, ap, subst, ◌∙◌, inl, inr, arith, length-drop}
 use Rattle.std.proofs.lemmas.List.{length-take-le, take-append-drop, get_or-drop}
 use Rattle.std.proofs.lemmas.Option.{slice_get_within}
 use Rattle.hs_base.specs.declared.byte_set.ByteSet.{ByteSet}
@@ -8,7 +8,7 @@ use Rattle.hs_base.specs.declared.context.Prev.{Prev}
 use Rattle.hs_base.specs.declared.context.Prev.TheVariants as before
 use Rattle.hs_base.specs.ByteSets.{has}
 use Rattle.hs_base.specs.Chains.{Piece, nfa, IsFitChain}
-use Rattle.hs_base.specs.Contexts.{prev_at, prev_behind, prev_by}
+use Rattle.hs_base.specs.Contexts.{prev_at, prev_by}
 use Rattle.hs_base.specs.Fields.{Leaves, entered_always}
 use Rattle.hs_base.specs.Leaving.{IsAtMostWide, IsEmptyAt, LeavesAt, LeavesBehind, entered_never}
 use Rattle.hs_base.specs.Lists.{Each}
@@ -18,7 +18,7 @@ use Rattle.hs_base.proofs.ChainStreamLemmas.{last-leaves, leaves-last, leaving-b
 use Rattle.hs_base.proofs.EntryLemmas.{first-entered, leaves-listed, window-enough}
 use Rattle.hs_engine.specs.Engines.{Meaning}
 use Rattle.hs_waking.specs.declared.prev_set.PrevSet.{PrevSet}
-use Rattle.hs_waking.specs.EntryRows.{TellsBeginnings, entries_to}
+use Rattle.hs_waking.specs.EntryRows.{entries_to}
 use Rattle.hs_waking.specs.PrevSets.{has_prev}
 use Rattle.hs_waking.proofs.PrevLemmas.{start-nowhere}
 use Rattle.hs_nodes.specs.Edges.{HasEdges}
@@ -70,10 +70,10 @@ module _ (m : Meaning) (tree : Tree) (behind : PrevSet) (last : ByteSet) (runs :
   -- no match begins behind a byte
   start-nothing : (front back : List ℕ) (next : Next) → ((p : Prev) → has_prev behind p ≡ true → p ≡ before.Start) → 1 ≤ length front → ((k : ℕ) → slice_index back k < 256) → Leaves tree (front ++ back) (entered_never front ++ entered_always back) next → ⊥
   start-nothing front back next start some small leaves =
-      let (row, tells) = edges.begins in
+      let (rows, tell) = edges.begins in
       let prev : Prev = prev_at front (length front) in
       let apart : has_prev behind prev ≡ false = no-member behind prev start (behind-byte front (length front) some (omega arith)) (has_prev behind prev) refl in
-      let law = tells.enters (λ n. false) prev back (λ k low. small k) (λ i low fits. absurd (start-nowhere behind row prev back start apart i low fits)) in
+      let law = tell.enters (λ n. false) prev back (λ k low. small k) (λ d i row at low fits. absurd (start-nowhere behind row prev back start apart i low fits)) in
       let all : Leaves tree (front ++ take (length back) back) (entered_never front ++ replicate (length back) true) next =
       subst (λ z. Leaves tree (front ++ z) (entered_never front ++ replicate (length back) true) next) (sym (take-whole back))
       (subst (λ es. Leaves tree (front ++ back) (entered_never front ++ es) next) (always-all back) leaves) in

@@ -1,5 +1,5 @@
 -- What is loaded of nodes into a cache, and what it then tells of them.
-use Rattle.std.proofs.Common.{◌≡◌, ◌⊎◌, ℕ, ◌+◌, ◌-◌, ◌<◌, ◌≤◌, Bool, true, false, List, length, slice_get, Option, Some, None, refl, sym, ap, subst, ◌∙◌, inl, inr, arith}
+use Rattle.std.proofs.Common.{◌≡◌, ℕ, ◌+◌, ◌-◌, ◌<◌, ◌≤◌, Bool, true, false, List, length, slice_get, Option, Some, None, refl, sym, ap, subst, ◌∙◌, inl, inr, arith}
 use Rattle.std.proofs.lemmas.Bool.{cases_eq, cases_lt}
 use Rattle.std.proofs.lemmas.Option.{slice_get_within}
 use Rattle.hs_base.specs.declared.context.Mask.{Mask}
@@ -11,7 +11,7 @@ use Rattle.hs_lazy.specs.Tables.{engine_at}
 use Rattle.hs_lazy.specs.declared.cache.Cache.{Cache}
 use Rattle.hs_bits.specs.Marks.{is_marked}
 use Rattle.hs_nodes.specs.Cached.{AreToldAsleep, IsCacheOf, IsCachedNode, TellsNodes}
-use Rattle.hs_nodes.specs.Loading.{AreUnloaded, IsLoadedTo}
+use Rattle.hs_nodes.specs.Loading.{IsLoadedTo}
 use Rattle.hs_nodes.specs.Nodes.{IsEngineSound, IsKindSound}
 use Rattle.hs_nodes.specs.Resting.{AreNodesResting, IsResting}
 use Rattle.hs_nodes.specs.Walks.{IsTableSound, node_part}

@@ -22,19 +22,19 @@ use Rattle.hs_lazy.specs.Caches.{told}
 use Rattle.hs_lazy.specs.declared.cache.Cache.{Cache}
 use Rattle.hs_nodes.specs.Left.{AreLeftIn}
 use Rattle.hs_nodes.specs.Starting.{AreStartsEnough, DoStartsSuffice, IsEnteredThroughout, ScansBlock}
-use Rattle.hs_nodes.specs.Waking.{AreRowsSound, AreStartsBy, AreWakesSound, IsKindAsleep, IsListed, is_never_empty, no_places}
+use Rattle.hs_nodes.specs.Waking.{AreRowsSound, AreStartsBy, AreWakesSound, HavePlaces, IsKindAsleep, IsListed, is_never_empty, no_places}
 use Rattle.hs_nodes.specs.declared.ends.ChunkEnds.{ChunkEnds}
 use Rattle.hs_nodes.specs.declared.table.Node.{Node}
 use Rattle.hs_nodes.specs.declared.table.NodeTable.{NodeTable}
 use Rattle.hs_nodes.specs.declared.wake_table.WakeTable.{WakeTable}
-use Rattle.hs_waking.specs.Fits.{FitsNowhere, IsRowBy, row_numbers}
+use Rattle.hs_waking.specs.Fits.{FitsAt, FitsNowhere, IsRowBy, row_numbers}
 use Rattle.hs_waking.specs.declared.wake_row.WakeRow.{WakeRow}
 use Rattle.hs_base.specs.declared.byte_set.ByteSet.{ByteSet}
 use Rattle.hs_waking.specs.EntryRows.{DoEntriesSuffice, entries_to}
 use Rattle.hs_waking.specs.Starts.{start_word, starts_at}
 use Rattle.hs_waking.specs.declared.starts.Starts.{Starts}
+use Rattle.hs_nodes.proofs.KindLemmas.{one-value}
 use Rattle.hs_nodes.proofs.WakeLemmas.{row-asleep}
-use Rattle.hs_waking.proofs.AnyLemmas.{true-false}
 use Rattle.hs_waking.proofs.StartLemmas.{told-starts}
 use Rattle.hs_waking.proofs.WordLemmas.{all-ones}
 use Rattle.std.proofs.lemmas.Bool.{lt-ltb}
@@ -120,13 +120,44 @@ zero-places places zero_words p small = ap (λ w. eqb (bit_at w (p % 64)) 1) (ze
 pub word-none : (j : ℕ) → j < 8 → slice_index no_places j ≡ 0
 word-none j small = get_or-replicate 8 j 0 0 small
 
--- a row that fits nowhere has no places
-pub none-starts : (wakes : WakeTable) (place : ℕ) (prev : Prev) (bytes : List ℕ) (row : WakeRow) → slice_get wakes.rows.items place ≡ Some row → ((own : List ByteSet) → IsRowBy (row_numbers row) wakes.sets.items own → FitsNowhere row.behind own prev bytes) → AreStartsBy wakes place prev bytes no_places
-none-starts wakes place prev bytes row at_row nowhere =
-    AreStartsBy.fits row at_row (λ own numbered p small. (
-      λ set. true-false (has_word_bit no_places p) set (zero-places no_places word-none p small),
-      λ all. absurd (nowhere own numbered p all.0 all.1),
-    ))
+-- the places at which rows fit, row by row
+module _ (rows : List WakeRow) (sets : List ByteSet) (prev : Prev) (bytes : List ℕ) where
+  pub places-none : (from : ℕ) (places : List ℕ) → HavePlaces rows sets from from prev bytes places
+  places-none from places i row cut p low high = absurd (omega (arith, low, high))
+
+  pub places-all : (from to : ℕ) (places : List ℕ) → places ≡ replicate 8 18446744073709551615 → length bytes ≤ 512 → HavePlaces rows sets from to prev bytes places
+  places-all from to places all few i row cut p low high at_row numbered inside fits = ap (λ ws. has_word_bit ws p) all ∙ (all-ones p 512 refl (omega (arith, inside, few)) ∙ lt-ltb p 512 (omega (arith, inside, few)))
+
+  pub places-more : (from n m : ℕ) (old new : List ℕ) (row : WakeRow) → m ≡ n + 1 → slice_get rows n ≡ Some row → ((p : ℕ) → has_word_bit old p ≡ true → has_word_bit new p ≡ true) →
+      ((cut : List ByteSet) (p : ℕ) → IsRowBy (row_numbers row) sets cut → p < length bytes → FitsAt row.behind cut prev bytes p → has_word_bit new p ≡ true) →
+      HavePlaces rows sets from n prev bytes old → HavePlaces rows sets from m prev bytes new
+  places-more from n m old new row next at kept own have i other cut p low high at_other numbered inside fits =
+      elim (cases_eq i n) [
+        | inl same ↦
+            let one : row ≡ other = one-value row other (slice_get rows n) at (ap (slice_get rows) (sym same) ∙ at_other) in
+            subst (λ (r : WakeRow). IsRowBy (row_numbers r) sets cut → FitsAt r.behind cut prev bytes p → has_word_bit new p ≡ true) one (λ is at_p. own cut p is inside at_p) numbered fits
+        | inr apart ↦ kept p (have i other cut p low (omega (arith, high, next, apart)) at_other numbered inside fits)
+      ]
+
+  -- of a row whose places are united with those so far
+  pub places-united : (from n m : ℕ) (old fitting new : List ℕ) (row : WakeRow) → m ≡ n + 1 → length bytes ≤ 512 → slice_get rows n ≡ Some row → ((p : ℕ) → has_word_bit new p ≡ (has_word_bit fitting p || has_word_bit old p)) →
+      ((own : List ByteSet) → IsRowBy (row_numbers row) sets own → (p : ℕ) → p < 512 → (has_word_bit fitting p ≡ true) ↔ ((p < length bytes) × FitsAt row.behind own prev bytes p)) →
+      HavePlaces rows sets from n prev bytes old → HavePlaces rows sets from m prev bytes new
+  places-united from n m old fitting new row next few at united fits_at =
+      places-more from n m old new row next at (λ p set. united p ∙ (ap (λ b. has_word_bit fitting p || b) set ∙ either (has_word_bit fitting p)))
+      (λ cut p numbered inside fits. united p ∙ ap (λ b. b || has_word_bit old p) ((fits_at cut numbered p (omega (arith, inside, few))).1 (inside, fits)))
+    where
+      either : (b : Bool) → (b || true) ≡ true
+      either true = refl
+      either false = refl
+
+  -- of one row that fits nowhere
+  pub none-starts : (from to : ℕ) (row : WakeRow) → to ≡ from + 1 → slice_get rows from ≡ Some row → ((own : List ByteSet) → IsRowBy (row_numbers row) sets own → FitsNowhere row.behind own prev bytes) → HavePlaces rows sets from to prev bytes no_places
+  none-starts from to row next at nowhere = places-more from from to no_places no_places row next at (λ p set. set) (λ cut p numbered inside fits. absurd (nowhere cut numbered p inside fits)) (places-none from no_places)
+
+-- the number behind one of a list
+pub start-behind : (xs : List ℕ) (i : ℕ) → slice_index xs (i + 1) ≡ slice_index xs (suc i)
+start-behind xs i = let next : i + 1 ≡ suc i = omega arith in ap (slice_index xs) next
 
 -- a number that stands in a list
 pub read-there : (xs : List ℕ) (i : ℕ) → i < length xs → slice_get xs i ≡ Some (slice_index xs i)
@@ -134,24 +165,20 @@ read-there [] i low = absurd (omega arith)
 read-there (x ∷ xs) zero low = refl
 read-there (x ∷ xs) (suc i) low = read-there xs i (omega arith)
 
--- the row of a node of an engine tells it
+-- the rows of a node of an engine tell it
 module _ {E : Type 0} (meaning : E → Meaning) (table : NodeTable E) (wakes : WakeTable) (place k : ℕ) (prev : Prev) (bytes places : List ℕ) (starts : Starts) (sound : AreRowsSound meaning table wakes) (few : length bytes ≤ 512) (small : EachIndex bytes (λ i. slice_index bytes i < 256))
     (at : slice_get wakes.first_engines.items place ≡ Some k) (told : k < starts.count → (j : ℕ) → j < 8 → start_word starts k j ≡ slice_index places j) where
   pub row-starts : (node : Node) → slice_get table.nodes.items k ≡ Some node → AreStartsBy wakes place prev bytes places → DoStartsSuffice meaning table.engines.items node.kind starts k prev bytes
-  row-starts node there (AreStartsBy.all is) number null e kind_is at_e =
-      suffice-all (meaning e) (starts_at starts k) prev bytes (λ p low.
-      told-starts starts k places told p (omega (arith, low, few)) (ap (λ ws. has_word_bit ws p) is ∙ (all-ones p 512 refl (omega (arith, low, few)) ∙ lt-ltb p 512 (omega (arith, low, few)))))
-  row-starts node there (AreStartsBy.fits row at_row exact) number null e kind_is at_e =
-      let own = sound.are place k number null node row e at at_row there kind_is at_e in
-      own.tells.enters (starts_at starts k) prev bytes small (λ p low fits. told-starts starts k places told p (omega (arith, low, few)) ((exact own.own own.numbered p (omega (arith, low, few))).1 (low, fits)))
+  row-starts node there have number null e kind_is at_e =
+      let own = sound.are place k number null node e at there kind_is at_e in
+      own.tell.enters (starts_at starts k) prev bytes small (λ d p one at_one low fits.
+      let (i, row, from, to, at_row, covers) = own.each d one at_one in
+      told-starts starts k places told p (omega (arith, low, few)) (have i row covers.cut p from to at_row covers.numbered low (covers.covers prev bytes p fits)))
 
   -- one that has no empty span, and whose matches begin nowhere, sleeps
   pub starts-asleep : (node : Node) → slice_get table.nodes.items k ≡ Some node → is_never_empty node.kind ≡ true → ((p : ℕ) → p < 512 → has_word_bit places p ≡ false) → AreStartsBy wakes place prev bytes places → IsKindAsleep meaning table.engines.items node.kind prev bytes
-  starts-asleep node there never none (AreStartsBy.all is) =
-      true-false (has_word_bit places 0) (ap (λ ws. has_word_bit ws 0) is ∙ (all-ones 0 512 refl (omega arith) ∙ lt-ltb 0 512 (omega arith))) (none 0 (omega arith))
-  starts-asleep node there never none (AreStartsBy.fits row at_row exact) =
-      row-asleep meaning table wakes place k node prev bytes sound small at there node.kind refl never row at_row
-      (λ own numbered p low fits. true-false (has_word_bit places p) ((exact own numbered p (omega (arith, low, few))).1 (low, fits)) (none p (omega (arith, low, few))))
+  starts-asleep node there never none have =
+      row-asleep meaning table wakes place k node prev bytes places sound small at there have (λ p low. none p (omega (arith, low, few))) node.kind refl never
 
 -- so many of the nodes of a list have been told
 abbrev pub AreStartsTo : {E : Type 0} (meaning : E → Meaning) (table : NodeTable E) (cache : Cache) (numbers : List ℕ) (prev : Prev) (bytes : List ℕ) (starts : Starts) (n : ℕ) → Type 0

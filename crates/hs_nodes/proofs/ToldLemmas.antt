@@ -2,7 +2,7 @@
 use Rattle.std.proofs.Common.{◌≡◌, ◌↔◌, ℕ, zero, suc, ◌+◌, ◌*◌, ◌/◌, ◌%◌, ◌<◌, ◌≤◌, Bool, true, false, ◌&&◌, List, [], ◌∷◌, ◌++◌, length, take, drop, replicate, slice_index, get_or, eqb, bit_and, refl, sym, ap, subst, ◌∙◌, arith}
 use Rattle.std.specs.Int.{bit_at}
 use Rattle.std.specs.Prelude.{nat_lt}
-use Rattle.std.proofs.lemmas.List.{get_or-drop, get_or-take, length-take, length-drop, replicate_more}
+use Rattle.std.proofs.lemmas.List.{get_or-drop, get_or-take, length-take, replicate_more}
 use Rattle.hs_base.specs.declared.context.Next.{Next}
 use Rattle.hs_base.specs.declared.context.Next.TheVariants as after
 use Rattle.hs_base.specs.declared.context.Prev.{Prev}
@@ -20,10 +20,9 @@ use Rattle.hs_lazy.specs.Caches.{TellsRun, Told}
 use Rattle.hs_lazy.specs.Runs.{IsRunThrough}
 use Rattle.hs_waking.specs.EntryRows.{DoEntriesSuffice, entries_to}
 use Rattle.hs_nodes.specs.Blocks.{block, front}
-use Rattle.hs_nodes.specs.Starting.{AreToldEnds, IsRunEntered, IsToldIn, RunsAlone, RunsEntered, entered_to, is_place}
+use Rattle.hs_nodes.specs.Starting.{AreToldEnds, IsRunEntered, IsToldIn, RunsAlone, entered_to, is_place}
 use Rattle.hs_nodes.specs.declared.ends.ChunkEnds.{ChunkEnds}
 use Rattle.hs_nodes.proofs.EnteredLemmas.{entered-place, length-block-few}
-use Rattle.hs_nodes.proofs.RunLemmas.{reach-upto}
 use Rattle.hs_nodes.proofs.SufficeLemmas.{place-front, reach-block, reach-place}
 
 bit-both : (x y i : ℕ) → word_bit (bit_and x y) i ≡ (word_bit x i && word_bit y i)

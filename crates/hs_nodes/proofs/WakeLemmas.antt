@@ -2,7 +2,7 @@
 use Rattle.std.proofs.Common.{◌≡◌, ℕ, ◌+◌, ◌<◌, ◌≤◌, Bool, true, false, List, length, Option, Some, None, slice_get, refl, sym, ap, subst, ◌∙◌, inl, inr, arith}
 use Rattle.std.specs.Prelude.{EachIndex, slice_index}
 use Rattle.std.proofs.lemmas.Bool.{cases_eq}
-use Rattle.hs_base.specs.declared.byte_set.ByteSet.{ByteSet}
+use Rattle.hs_base.specs.Bits.{has_word_bit}
 use Rattle.hs_base.specs.declared.context.Mask.{Mask}
 use Rattle.hs_base.specs.declared.context.Prev.{Prev}
 use Rattle.hs_engine.specs.Engines.{Meaning}
@@ -13,16 +13,15 @@ use Rattle.hs_nodes.specs.Nodes.{PassesOver}
 use Rattle.hs_nodes.specs.Hits.{is_hit_at}
 use Rattle.hs_bits.specs.Marks.{is_marked}
 use Rattle.hs_nodes.specs.Resting.{AreNodesResting, AreNodesUnwoken, IsUnwokenIn, SleepsThrough}
-use Rattle.hs_nodes.specs.Waking.{AreEnginesUnwoken, AreRowsSound, AreWakesSound, IsKindAsleep, IsListed, is_never_empty, waking_literal}
+use Rattle.hs_nodes.specs.Waking.{AreEnginesUnwoken, AreRowsSound, AreStartsBy, AreWakesSound, IsKindAsleep, IsListed, is_never_empty, waking_literal}
 use Rattle.hs_nodes.specs.Walks.{AreMoreMarks, IsAmongChildren}
 use Rattle.hs_nodes.specs.declared.hits.ChunkHits.{ChunkHits}
 use Rattle.hs_nodes.specs.declared.table.Node.{Node}
 use Rattle.hs_nodes.specs.declared.table.NodeKind.{NodeKind}
 use Rattle.hs_nodes.specs.declared.table.NodeKind.TheVariants.{Engine, Literal, FirstLiteral, LookBack}
 use Rattle.hs_nodes.specs.declared.table.NodeTable.{NodeTable}
-use Rattle.hs_waking.specs.declared.wake_row.WakeRow.{WakeRow}
 use Rattle.hs_nodes.specs.declared.wake_table.WakeTable.{WakeTable}
-use Rattle.hs_waking.specs.Fits.{FitsNowhere, IsRowBy, row_numbers}
+use Rattle.hs_waking.proofs.AnyLemmas.{true-false}
 use Rattle.hs_nodes.proofs.WalkLemmas.{unmarked-before}
 
 -- what sleeps over bytes passes over them
@@ -56,20 +55,22 @@ module _ {E : Type 0} (meaning : E → Meaning) (table : NodeTable E) where
   engines-unwoken wakes literals marks prev bytes sound asleep k number null node there kind_is no_parent none =
       kind-engine node.kind number null prev bytes kind_is (asleep k node (sound.entered k number null node there kind_is no_parent) there none)
 
-  -- the row of a node that has no empty span fits nowhere
-  pub row-asleep : (wakes : WakeTable) (place k : ℕ) (node : Node) (prev : Prev) (bytes : List ℕ) → AreRowsSound meaning table wakes → EachIndex bytes (λ i. slice_index bytes i < 256) → slice_get wakes.first_engines.items place ≡ Some k → slice_get table.nodes.items k ≡ Some node →
-      (kind : NodeKind) → node.kind ≡ kind → is_never_empty kind ≡ true → (row : WakeRow) → slice_get wakes.rows.items place ≡ Some row → ((own : List ByteSet) → IsRowBy (row_numbers row) wakes.sets.items own → FitsNowhere row.behind own prev bytes) →
-      IsKindAsleep meaning table.engines.items kind prev bytes
-  row-asleep wakes place k node prev bytes sound small at there (Engine number None) is never row at_row nowhere = (
+  -- no row of a node that has no empty span fits anywhere
+  pub row-asleep : (wakes : WakeTable) (place k : ℕ) (node : Node) (prev : Prev) (bytes places : List ℕ) → AreRowsSound meaning table wakes → EachIndex bytes (λ i. slice_index bytes i < 256) → slice_get wakes.first_engines.items place ≡ Some k → slice_get table.nodes.items k ≡ Some node →
+      AreStartsBy wakes place prev bytes places → ((p : ℕ) → p < length bytes → has_word_bit places p ≡ false) →
+      (kind : NodeKind) → node.kind ≡ kind → is_never_empty kind ≡ true → IsKindAsleep meaning table.engines.items kind prev bytes
+  row-asleep wakes place k node prev bytes places sound small at there starts none (Engine number None) is never = (
     refl,
     λ e at_e.
-        let own = sound.are place k number None node row e at at_row there is at_e in
-        λ region idle. sleeps-passes (meaning e) region prev bytes (own.tells.wakes region bytes prev idle.starts small (nowhere own.own own.numbered)),
+        let own = sound.are place k number None node e at there is at_e in
+        λ region idle. sleeps-passes (meaning e) region prev bytes (own.tell.wakes region bytes prev idle.starts small (λ d one at_one p low fits.
+        let (i, row, from, to, at_row, covers) = own.each d one at_one in
+        true-false (has_word_bit places p) (starts i row covers.cut p from to at_row covers.numbered low (covers.covers prev bytes p fits)) (none p low))),
   )
-  row-asleep wakes place k node prev bytes sound small at there (Engine number (Some mask)) is never row at_row nowhere = absurd (cc)
-  row-asleep wakes place k node prev bytes sound small at there (Literal number len) is never row at_row nowhere = absurd (cc)
-  row-asleep wakes place k node prev bytes sound small at there (FirstLiteral number len) is never row at_row nowhere = absurd (cc)
-  row-asleep wakes place k node prev bytes sound small at there (LookBack pair) is never row at_row nowhere = absurd (cc)
+  row-asleep wakes place k node prev bytes places sound small at there starts none (Engine number (Some mask)) is never = absurd (cc)
+  row-asleep wakes place k node prev bytes places sound small at there starts none (Literal number len) is never = absurd (cc)
+  row-asleep wakes place k node prev bytes places sound small at there starts none (FirstLiteral number len) is never = absurd (cc)
+  row-asleep wakes place k node prev bytes places sound small at there starts none (LookBack pair) is never = absurd (cc)
 
   module _ (wakes : WakeTable) (literals : ℕ) (sound : AreWakesSound table.nodes.items wakes literals) (hit : ℕ → Bool) (hits : List ChunkHits) (marks : List ℕ) (prev : Prev) (bytes : List ℕ)
       (woken : (number k : ℕ) → hit number ≡ true → IsAmongChildren wakes.literal_starts.items wakes.literal_nodes.items number k → is_marked marks k ≡ true)

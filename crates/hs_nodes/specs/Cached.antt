@@ -1,5 +1,5 @@
 -- What a cache tells of the nodes of a table over a chunk.
-use Rattle.std.specs.Prelude.{◌≡◌, ℕ, ◌+◌, false, List, length, Option, Some, None, slice_get}
+use Rattle.std.specs.Prelude.{◌≡◌, ℕ, false, List, Option, Some, None, slice_get}
 use Rattle.hs_base.specs.declared.context.Mask.{Mask}
 use Rattle.hs_base.specs.declared.context.Prev.{Prev}
 use Rattle.hs_engine.specs.Engines.{Meaning}

@@ -1,12 +1,10 @@
 -- What is loaded into a cache before a chunk.
-use Rattle.std.specs.Prelude.{◌≡◌, ◌⊎◌, ℕ, ◌<◌, ◌≤◌, true, false, List, length, Option, Some, None, slice_get}
+use Rattle.std.specs.Prelude.{◌≡◌, ℕ, ◌<◌, true, false, List, Some, slice_get}
 use Rattle.hs_base.specs.Bits.{AreZero}
-use Rattle.hs_engine.specs.Engines.{Meaning}
 use Rattle.hs_lazy.specs.Caches.{loaded}
 use Rattle.hs_lazy.specs.Tables.{engine_at}
 use Rattle.hs_lazy.specs.declared.cache.Cache.{Cache}
 use Rattle.hs_bits.specs.Marks.{is_marked}
-use Rattle.hs_nodes.specs.Cached.{IsCacheOf}
 use Rattle.hs_nodes.specs.Walks.{node_part}
 use Rattle.hs_nodes.specs.declared.table.Node.{Node}
 use Rattle.hs_nodes.specs.declared.table.NodeTable.{NodeTable}

@@ -1,5 +1,5 @@
 -- Which nodes a chunk may wake though nothing is live in them.
-use Rattle.std.specs.Prelude.{◌≡◌, ◌↔◌, ℕ, suc, ◌<◌, ◌≤◌, Bool, true, false, List, length, Option, Some, None}
+use Rattle.std.specs.Prelude.{◌≡◌, ℕ, suc, ◌<◌, ◌≤◌, Bool, true, false, List, length, Option, Some, None}
 use Rattle.std.specs.Prelude.{replicate, slice_get, slice_index}
 use Rattle.hs_base.specs.declared.byte_set.ByteSet.{ByteSet}
 use Rattle.hs_base.specs.declared.context.Mask.{Mask}
@@ -83,7 +83,8 @@ AreEnginesUnwoken meaning table marks prev bytes =
 pub record CoversRow (sets : List ByteSet) (behind : PrevSet) (own : List ByteSet) (row : WakeRow) : Type 0 where
   pub cut : List ByteSet
   pub numbered : IsRowBy (row_numbers row) sets cut
-  pub covers : (prev : Prev) (bytes : List ℕ) (i : ℕ) → FitsAt behind own prev bytes i → FitsAt row.behind cut prev bytes i
+  pub covers : (prev : Prev) (bytes : List ℕ) (i : ℕ) →
+      FitsAt behind own prev bytes i → FitsAt row.behind cut prev bytes i
 
 -- From one row of a table up to another stands one for each of those that tell how matches of an engine begin.
 pub record AreRowsFor (m : Meaning) (sets : List ByteSet) (rows : List WakeRow) (from to : ℕ) : Type 0 where
@@ -111,14 +112,25 @@ AreRowsSound meaning table wakes =
     AreRowsOf meaning table.nodes.items table.engines.items wakes.first_engines.items wakes.row_starts.items
     wakes.rows.items wakes.sets.items
 
--- The words have each place of a chunk behind `prev` at which a row of the engine that stands at that place fits.
-abbrev pub AreStartsBy : (wakes : WakeTable) (place : ℕ) (prev : Prev) (bytes places : List ℕ) → Type 0
-AreStartsBy wakes place prev bytes places =
+-- no place of a chunk
+abbrev pub no_places : List ℕ
+no_places = replicate 8 0
+
+-- The words have each place of a chunk behind `prev` at which a row fits, of those from one of a table up to another.
+abbrev pub HavePlaces : (rows : List WakeRow) (sets : List ByteSet) (from to : ℕ) → Prev → (bytes places : List ℕ) →
+    Type 0
+HavePlaces rows sets from to prev bytes places =
     (i : ℕ) (row : WakeRow) (cut : List ByteSet) (p : ℕ) →
-    slice_index wakes.row_starts.items place ≤ i →
-    i < slice_index wakes.row_starts.items (suc place) →
-    slice_get wakes.rows.items i ≡ Some row →
-    IsRowBy (row_numbers row) wakes.sets.items cut →
+    from ≤ i →
+    i < to →
+    slice_get rows i ≡ Some row →
+    IsRowBy (row_numbers row) sets cut →
     p < length bytes →
     FitsAt row.behind cut prev bytes p →
     has_word_bit places p ≡ true
+
+-- And so for the rows of the engine that stands at that place.
+abbrev pub AreStartsBy : WakeTable → (place : ℕ) → Prev → (bytes places : List ℕ) → Type 0
+AreStartsBy wakes place =
+    HavePlaces wakes.rows.items wakes.sets.items (slice_index wakes.row_starts.items place)
+    (slice_index wakes.row_starts.items (suc place))

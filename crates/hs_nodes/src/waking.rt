@@ -89,8 +89,8 @@ fn start_places(
         return ALL_PLACES;
     }
     let mut places = NO_PLACES;
-    let to = wakes.row_starts[place + 1] as usize;
-    for i in wakes.row_starts[place] as usize..to {
+    let to = start_of(&wakes.row_starts, place + 1);
+    for i in start_of(&wakes.row_starts, place)..to {
         let row = &wakes.rows[i];
         if !stack.rules_out(row) {
             let fitting = stack.fit_places(row, &wakes.sets, words, prev, bytes);
@@ -113,8 +113,9 @@ fn is_ruled_out<E>(graph: &Graph<E>, place: usize, k: usize, stack: &FitStack) -
         length bytes ≤ 512 →
         AreStartsBy graph.now.wakes place prev bytes no_places }
 {
-    let from = graph.wakes.row_starts[place] as usize;
-    if graph.wakes.row_starts[place + 1] as usize != from + 1 {
+    let from = start_of(&graph.wakes.row_starts, place);
+    let to = start_of(&graph.wakes.row_starts, place + 1);
+    if to.saturating_sub(from) != 1 {
         return false;
     }
     if !stack.rules_out(&graph.wakes.rows[from]) {
@@ -183,8 +184,8 @@ fn wake_engine<E: Engine>(
     }
 }
 
-/// Marks the nodes of engines without a parent that a chunk wakes: those that have the empty span, and those whose row
-/// fits somewhere in its bytes. Tells of each where its matches may begin. Those of which a cache tells are left as
+/// Marks the nodes of engines without a parent that a chunk wakes: those that have the empty span, and those of which a
+/// row fits somewhere in its bytes. Tells of each where its matches may begin. Those of which a cache tells are left as
 /// they are.
 pub fn wake_engines<E: Engine>(
     graph: &Graph<E>,

@@ -1,5 +1,4 @@
-use Rattle.std.proofs.Common.{◌≡◌, ◌<◌, ◌∙◌, Some, None, slice_get, length, sym, subst, ap}
-use Rattle.hs_nodes.specs.declared.table.NodeKind.TheVariants.{Engine}
+use Rattle.std.proofs.Common.{◌≡◌, ◌<◌, Some, slice_get, length, sym, subst}
 use Rattle.hs_nodes.proofs.LoadLemmas.{engine-sound}
 use Rattle.hs_nodes.proofs.cached.add_node.Goals as goal
 

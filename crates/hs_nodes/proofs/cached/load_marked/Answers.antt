@@ -1,5 +1,4 @@
-use Rattle.std.proofs.Common.{◌≡◌, ◌∙◌, Some, slice_get, ◌+◌, ◌<◌, true, false, refl, sym, subst, ap, arith, length}
-use Rattle.hs_lazy.specs.Caches.{loaded}
+use Rattle.std.proofs.Common.{◌≡◌, ◌∙◌, Some, slice_get, ◌+◌, refl, sym, subst, ap, arith, length}
 use Rattle.hs_lazy.specs.Tables.{engine_at}
 use Rattle.hs_nodes.proofs.LoadLemmas.{load-more, load-sized, loaded-past}
 use Rattle.hs_nodes.proofs.cached.load_marked.Goals as goal

@@ -1,4 +1,4 @@
-use Rattle.std.proofs.Common.{◌≡◌, ◌-◌, ◌≤◌, ◌<◌, ℕ, length}
+use Rattle.std.proofs.Common.{◌≡◌, ◌-◌, ◌≤◌, ℕ}
 use Rattle.hs_lazy.specs.Caches.{loaded}
 use Rattle.hs_bits.specs.Marks.{mark_room}
 use Rattle.hs_nodes.specs.Loading.{IsLoadedTo}

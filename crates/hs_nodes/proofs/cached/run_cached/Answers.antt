@@ -1,4 +1,4 @@
-use Rattle.std.proofs.Common.{◌≡◌, ◌∙◌, slice_get, ◌<◌, ◌≤◌, Some, refl, sym, subst, ap, arith, length}
+use Rattle.std.proofs.Common.{◌≡◌, ◌∙◌, slice_get, Some, sym, subst, ap, arith, length}
 use Rattle.hs_lazy.specs.Tables.{engine_at}
 use Rattle.hs_nodes.proofs.LoadLemmas.{cached-below, tells-nodes, told-asleep}
 use Rattle.hs_nodes.proofs.cached.run_cached.Goals as goal

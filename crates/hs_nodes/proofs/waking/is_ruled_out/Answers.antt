@@ -1,10 +1,10 @@
-use Rattle.std.proofs.Common.{sym, subst, ◌∙◌, ◌≡◌, true, arith}
-use Rattle.std.specs.Prelude.{vec_len}
+use Rattle.std.proofs.Common.{◌≡◌, ◌+◌, ◌∙◌, suc, true, sym, ap, subst, arith}
+use Rattle.std.specs.Prelude.{slice_index, vec_len}
 use Rattle.std.proofs.lemmas.Option.{slice_get_read}
-use Rattle.hs_nodes.specs.Waking.{is_never_empty}
+use Rattle.hs_nodes.specs.Waking.{HavePlaces, is_never_empty, no_places}
 use Rattle.hs_nodes.specs.declared.table.Node.{Node}
 use Rattle.hs_nodes.proofs.KindLemmas.{one-value}
-use Rattle.hs_nodes.proofs.StartingLemmas.{none-starts}
+use Rattle.hs_nodes.proofs.StartingLemmas.{none-starts, start-behind}
 use Rattle.hs_nodes.proofs.waking.is_ruled_out.Goals as goal
 
 pub returns-clause-never : goal.returns-clause-never
@@ -13,7 +13,15 @@ returns-clause-never g c node there told =
 
 pub returns-clause-places : goal.returns-clause-places
 returns-clause-places g c prev bytes told stack few =
-    let rows = c.args.graph.now.wakes.rows in
+    let wakes = c.args.graph.now.wakes in
+    let rows = wakes.rows in
+    let starts = wakes.row_starts.items in
+    let place = c.args.place in
     let row = c.index.result.now in
-    none-starts c.args.graph.now.wakes c.args.place prev bytes row (slice_get_read rows.items (vec_len rows) c.args.place row rows.ok.0 (omega (arith, c.len.ensures, c.if-place-len.false)) c.index.ensures)
-    (λ own numbered. c.rules_out.ensures c.if-not-rules_out.false c.args.graph.now.wakes.sets.items own prev bytes stack few numbered)
+    let from : c.start_of-from.result ≡ slice_index starts place = c.start_of-from.ensures ∙ ap (λ xs. slice_index xs place) c.deref.ensures.value in
+    let to : c.start_of-to.result ≡ slice_index starts (place + 1) = c.start_of-to.ensures ∙ ap (λ xs. slice_index xs (place + 1)) c.deref-2.ensures.value in
+    let behind : c.start_of-to.result ≡ c.start_of-from.result + 1 = omega (arith, c.saturating_sub.ensures, c.if-saturating_sub-ne1.false) in
+    subst (λ n. HavePlaces rows.items wakes.sets.items n (slice_index starts (suc place)) prev bytes no_places) from
+    (none-starts rows.items wakes.sets.items prev bytes c.start_of-from.result (slice_index starts (suc place)) row (sym (to ∙ start-behind starts place) ∙ behind)
+    (slice_get_read rows.items (vec_len rows) c.start_of-from.result row rows.ok.0 (omega (arith, behind, to, c.requires.known, rows.ok.0)) c.index.ensures)
+    (λ own numbered. c.rules_out.ensures c.if-not-rules_out.false wakes.sets.items own prev bytes stack few numbered))
