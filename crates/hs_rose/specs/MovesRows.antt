@@ -26,3 +26,7 @@ pub record IsMovesRow (m : PositionMoves) (first : ℕ) (row : List ByteSet) : T
 -- One of the rows is that of the matches that begin with the position.
 abbrev pub HasMovesRow : PositionMoves → (rows : List (List ByteSet)) → (first : ℕ) → Type 0
 HasMovesRow m rows x = (k : ℕ) × (row : List ByteSet) × (slice_get rows k ≡ Some row) × IsMovesRow m x row
+
+-- There is such a row for each position that is entered in some context.
+abbrev pub AreMovesRows : PositionMoves → (rows : List (List ByteSet)) → Type 0
+AreMovesRows m rows = (x : ℕ) (c : Context) → m.enters c x ≡ true → HasMovesRow m rows x

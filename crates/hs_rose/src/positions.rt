@@ -12,7 +12,7 @@ ghost use Rattle.hs_block.specs.declared.streams.Streams.{Streams};
 ghost use Rattle.hs_block.specs.StreamSets.{takes_byte};
 ghost use Rattle.hs_block.specs.StreamTables.{comes_before};
 ghost use Rattle.hs_limex.specs.LimexEngines.{moves_of_limex};
-ghost use Rattle.hs_rose.specs.MovesRows.{HasMovesRow};
+ghost use Rattle.hs_rose.specs.MovesRows.{AreMovesRows};
 ghost use Rattle.hs_waking.specs.PrevSets.{has_prev};
 ghost use Rattle.hs_waking.specs.Rows.{row_sets};
 
@@ -51,8 +51,7 @@ pub struct PositionEngine {
     ghost behind_has: { (x b : ℕ) (prev : Prev) → b < 256 →
         (moves_of_limex limex).enters (between prev (class_of b)) x ≡ true → (moves_of_limex limex).reach b x ≡ true →
         has_prev behind prev ≡ true },
-    ghost rows_are: { (x : ℕ) (c : Context) → (moves_of_limex limex).enters c x ≡ true →
-        HasMovesRow (moves_of_limex limex) (map row_sets rows.items) x },
+    ghost rows_are: { ∥ AreMovesRows (moves_of_limex limex) (map row_sets rows.items) ∥₁ },
     ghost last_has: { (x b : ℕ) (c : Context) → b < 256 → (moves_of_limex limex).accepts c x ≡ true →
         (moves_of_limex limex).reach b x ≡ true → has last b ≡ true },
 }

@@ -2,8 +2,10 @@
 use Rattle.std.proofs.Common.{◌≡◌, ◌⊎◌, ℕ, zero, suc, ◌+◌, ◌<◌, ◌≤◌, Bool, true, false, List, [], ◌∷◌, ◌++◌, length, take, replicate, get_or, Some, slice_get, refl, sym, subst, ◌∙◌, inl, inr, arith, length-append}
 use Rattle.std.specs.Prelude.{EachIndex, slice_index}
 use Rattle.std.proofs.lemmas.Bool.{cases_lt}
+use Rattle.std.proofs.lemmas.Grind.{not_there}
 use Rattle.std.proofs.lemmas.List.{append_assoc, length-replicate, length-take-le, take_all}
 use Rattle.std.proofs.lemmas.Option.{slice_get_within}
+use Rattle.std.proofs.Math.Logic.{∥∥₁_map, ∥∥₁_map₂}
 use Rattle.hs_base.specs.declared.byte_set.ByteSet.{ByteSet}
 use Rattle.hs_base.specs.declared.context.Next.{Next}
 use Rattle.hs_base.specs.declared.context.Prev.{Prev}
@@ -66,7 +68,7 @@ kept-all entered kept (suc i) q is =
           subst (λ k. slice_get ((entered ++ replicate i true) ++ true ∷ []) k ≡ Some true) last (get-seam (entered ++ replicate i true) true)
     ])
 
-module _ (a : Automaton) (behind : PrevSet) (rows : List (List ByteSet)) (are : AreRowsOf a rows) (before_is : IsBehindOf a behind) (prev : Prev) (bytes : List ℕ) (kept : ℕ → Bool) (keeps : KeepsSomeFits behind rows kept prev bytes) (small : EachIndex bytes (λ k. slice_index bytes k < 256))
+module _ (a : Automaton) (behind : PrevSet) (rows : List (List ByteSet)) (are : ∥ AreRowsOf a rows ∥₁) (before_is : IsBehindOf a behind) (prev : Prev) (bytes : List ℕ) (kept : ℕ → Bool) (keeps : KeepsSomeFits behind rows kept prev bytes) (small : EachIndex bytes (λ k. slice_index bytes k < 256))
     (tree : Tree) (runs : Runs a tree) (u : List ℕ) (entered : List Bool) (len : length entered ≡ length u) (last : prev ≡ prev_at u (length u)) where
   -- an entry that is left out
   abbrev Misses : ℕ → Type 0
@@ -83,7 +85,7 @@ module _ (a : Automaton) (behind : PrevSet) (rows : List (List ByteSet)) (are : 
 
   -- reached by an entry that isn't, or else standing behind one that is
   abbrev Known : ℕ → ℕ → Type 0
-  Known i y = IsReached (write_out tree) (Before i) (Kept i) y ⊎ Stands a Misses rows bytes i y
+  Known i y = IsReached (write_out tree) (Before i) (Kept i) y ⊎ ∥ Stands a Misses rows bytes i y ∥₁
 
   misses-whole : (k i : ℕ) (row : List ByteSet) → slice_get rows k ≡ Some row → i < length bytes → Misses i → FitsTo (slice_get row) bytes (length row) i → ⊥
   misses-whole k i row there within (begun, out) fits = true-false (kept i) (keeps k i row there within (begun, fits)) out
@@ -105,8 +107,8 @@ module _ (a : Automaton) (behind : PrevSet) (rows : List (List ByteSet)) (are : 
       elim (true-or-false (kept i)) [
         | inl stays ↦ inl (arrives i within y (steps_in member stays enter))
         | inr out ↦
-            inr (begins a rows are bytes Misses misses-whole i y (between (prev_before prev bytes i) (class_of b)) within (small i within)
-            (before_is y b (prev_before prev bytes i) (small i within) enters_it takes_it, out) enters_it takes_it)
+            inr (∥∥₁_map are (λ rows_are. begins a rows rows_are bytes Misses misses-whole i y (between (prev_before prev bytes i) (class_of b)) within (small i within)
+            (before_is y b (prev_before prev bytes i) (small i within) enters_it takes_it, out) enters_it takes_it))
       ]
   of-steps i within known y (steps_on x member reached follow) =
       let b : ℕ = get_or bytes i 0 in
@@ -114,8 +116,8 @@ module _ (a : Automaton) (behind : PrevSet) (rows : List (List ByteSet)) (are : 
       elim (known x reached) [
         | inl before ↦ inl (arrives i within y (steps_on x member before follow))
         | inr standing ↦
-            inr (goes-on a rows are bytes Misses misses-whole i x y here within (small i within) standing
-            (runs.tables.follows x y (prev_at (Before i) (length (Before i))) b ∙ follow) ((runs.tables.sets y b (small i within)).1 member))
+            inr (∥∥₁_map₂ are standing (λ rows_are stood. goes-on a rows rows_are bytes Misses misses-whole i x y here within (small i within) stood
+            (runs.tables.follows x y (prev_at (Before i) (length (Before i))) b ∙ follow) ((runs.tables.sets y b (small i within)).1 member)))
       ]
 
   known : (i : ℕ) → i ≤ length bytes → (y : ℕ) → IsReached (write_out tree) (Before i) (All i) y → Known i y
@@ -133,7 +135,7 @@ module _ (a : Automaton) (behind : PrevSet) (rows : List (List ByteSet)) (are : 
       let whole : take (length bytes) bytes ≡ bytes = take_all (length bytes) bytes (omega arith) in
       elim (known (length bytes) (omega arith) y (subst (λ v. IsReached (write_out tree) (u ++ v) (All (length bytes)) y) (sym whole) reached)) [
         | inl before ↦ subst (λ v. IsReached (write_out tree) (u ++ v) (Kept (length bytes)) y) whole before
-        | inr standing ↦ absurd (stands-nowhere a rows are bytes Misses misses-whole y standing)
+        | inr standing ↦ absurd (not_there are (λ rows_are. not_there standing (stands-nowhere a rows rows_are bytes Misses misses-whole y)))
       ]
 
   reached-all : (w : List ℕ) (i y : ℕ) → IsReached (write_out tree) w (Kept i) y → IsReached (write_out tree) w (All i) y
@@ -147,8 +149,8 @@ module _ (a : Automaton) (behind : PrevSet) (rows : List (List ByteSet)) (are : 
             accepting-leaves tree (Before i) (Kept i) next runs.plain runs.ends_last
             (record { position = accepting.position; reached = before; accepts = accepting.accepts })
         | inr standing ↦
-            absurd (standing.is.ends standing.level accepting.position (context_of (Before i) next) standing.further standing.at_level
-            (runs.tables.accepts accepting.position (context_of (Before i) next) ∙ accepting.accepts))
+            absurd (not_there standing (λ stood. stood.is.ends stood.level accepting.position (context_of (Before i) next) stood.further stood.at_level
+            (runs.tables.accepts accepting.position (context_of (Before i) next) ∙ accepting.accepts)))
       ]
 
   field-all : (region : List ℕ) → IsField region (write_out tree) (u ++ bytes) (Kept (length bytes)) → IsField region (write_out tree) (u ++ bytes) (All (length bytes))

@@ -3,6 +3,7 @@
 use Rattle.std.proofs.Common.{◌≡◌, ℕ, zero, suc, ◌+◌, ◌<◌, ◌≤◌, Bool, true, List, [], ◌∷◌, ◌++◌, length, take, replicate, get_or, Option, Some, slice_get, refl, sym, ap, subst, ◌∙◌, inl, inr, arith, length-append}
 use Rattle.std.specs.Prelude.{EachIndex, slice_index}
 use Rattle.std.proofs.lemmas.Bool.{cases_lt}
+use Rattle.std.proofs.lemmas.Grind.{not_there}
 use Rattle.std.proofs.lemmas.List.{append-nil, append_assoc, length-replicate, length-take-le, replicate-append-replicate, take_all}
 use Rattle.std.proofs.Math.Seq.{take-suc}
 use Rattle.hs_base.specs.declared.byte_set.ByteSet.{ByteSet}
@@ -181,10 +182,11 @@ wake-rows m behind rows by region bytes prev start small nowhere = record {
       let here : IsField region (write_out tree) u entered = (by.field region tree u entered told).0 field in
       (by.field region tree (u ++ bytes) (entered ++ replicate (length bytes) true) told).1
       (rests-behind (write_out tree) region (u ++ bytes) (entered ++ replicate (length bytes) true) begun
-      (unreached-behind a behind rows are before prev bytes nowhere small tree runs u entered len last (unreached-start (write_out tree) region u entered begun here)));
+      (λ y reached. not_there are (λ rows_are. unreached-behind a behind rows rows_are before prev bytes nowhere small tree runs u entered len last (unreached-start (write_out tree) region u entered begun here) y reached)));
   leaves_nothing = λ tree u entered told len last field.
       let (a, are, before, runs) = by.told tree told in
       let begun : IsField region (write_out tree) [] [] = (by.field region tree [] [] told).0 (start tree told) in
       let here : IsField region (write_out tree) u entered = (by.field region tree u entered told).0 field in
-      λ i some. left-nowhere a behind rows are before prev bytes nowhere small tree runs u entered len last (unreached-start (write_out tree) region u entered begun here) i;
+      λ i some within next leaves. not_there are
+      (λ rows_are. left-nowhere a behind rows rows_are before prev bytes nowhere small tree runs u entered len last (unreached-start (write_out tree) region u entered begun here) i within next leaves);
 }

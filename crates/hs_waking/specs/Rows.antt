@@ -97,10 +97,10 @@ IsBehindOf a behind =
     takes a x b ≡ true →
     has_prev behind prev ≡ true
 
--- The engine runs expressions by automata of which these are the rows, which begin behind these alone; and its regions
--- have a bit for each position.
+-- The engine runs expressions by automata of which these are the rows, whichever of them is whose, which begin behind
+-- these alone; and its regions have a bit for each position.
 pub record RunsByRows (m : Meaning) (behind : PrevSet) (rows : List (List ByteSet)) : Type 0 where
-  pub told : (tree : Tree) → m.is_for tree → (a : Automaton) × AreRowsOf a rows × IsBehindOf a behind × Runs a tree
+  pub told : (tree : Tree) → m.is_for tree → (a : Automaton) × ∥ AreRowsOf a rows ∥₁ × IsBehindOf a behind × Runs a tree
   pub field : (region : List ℕ) (tree : Tree) (u : List ℕ) (entered : List Bool) →
       m.is_for tree →
       m.field region tree u entered ↔ IsField region (write_out tree) u entered

@@ -1,10 +1,12 @@
-use Rattle.std.proofs.Common.{slice_get, ◌∙◌, ap, sym, arith}
+use Rattle.std.proofs.Common.{slice_get, map, ◌∙◌, ap, sym}
+use Rattle.std.proofs.lemmas.Grind.{merely}
 use Rattle.hs_base.specs.Contexts.{class_of}
 use Rattle.hs_engine.specs.Automata.{in_mask, in_set}
 use Rattle.hs_engine.specs.Between.{between}
 use Rattle.hs_limex.specs.LimexEngines.{moves_of_limex}
-use Rattle.hs_rose.proofs.MovesRowLemmas.{level-of}
+use Rattle.hs_rose.proofs.MovesRowLemmas.{rows-from}
 use Rattle.hs_rose.proofs.StreamingLemmas.{told-moves, told-some}
+use Rattle.hs_waking.specs.Rows.{row_sets}
 use Rattle.hs_rose.proofs.positions.PositionEngine.build.Goals as goal
 
 pub invariant_of-result-clause-size_is : goal.invariant_of-result-clause-size_is
@@ -42,18 +44,9 @@ invariant_of-result-clause-behind_has c x b prev small enter member =
     let fits = c.in_ok-limex.ensures.fits in
     c.behind_of-behind.ensures x b prev small (sym (fits.enters (between prev (class_of b)) x) ∙ enter) (sym (fits.reach b x small) ∙ member)
 
-pub invariant_of-result-clause-row_some : goal.invariant_of-result-clause-row_some
-invariant_of-result-clause-row_some c = c.in_ok-row.ensures.row.some
-
-pub invariant_of-result-clause-row_sets : goal.invariant_of-result-clause-row_sets
-invariant_of-result-clause-row_sets c d x b low at small member =
-    let fits = c.in_ok-limex.ensures.fits in
-    c.in_ok-row.ensures.row.sets d x b low (level-of _ _ fits d x at) small (sym (fits.reach b x small) ∙ member)
-
-pub invariant_of-result-clause-row_ends : goal.invariant_of-result-clause-row_ends
-invariant_of-result-clause-row_ends c d x h low at accept =
-    let fits = c.in_ok-limex.ensures.fits in
-    c.in_ok-row.ensures.row.ends d x h (omega (arith, low)) (level-of _ _ fits d x at) (sym (fits.accepts h x) ∙ accept)
+pub invariant_of-result-clause-rows_are : goal.invariant_of-result-clause-rows_are
+invariant_of-result-clause-rows_are c =
+    merely (rows-from (moves_of_limex c.in_ok-limex.limex) c.args.automaton.now c.in_ok-limex.ensures.fits (map row_sets c.in_ok-rows.rows.items) c.in_ok-rows.ensures.rows)
 
 pub invariant_of-result-clause-last_has : goal.invariant_of-result-clause-last_has
 invariant_of-result-clause-last_has c x b h small accept member =
