@@ -1,10 +1,10 @@
 //! Where matches may begin in a chunk: a row of sets, of the first byte of a match, of the second and so on, keeps an
 //! engine asleep over a chunk in which it fits nowhere behind what may stand before a match, and elsewhere the engine
 //! needs to be entered only where it fits. Several rows do so together, where none of them fits and where one does.
-//! `behind_of` tells of an automaton what may stand before a match, and `rows_of` gives its row, or one for each position
-//! with which a match may begin. `fit_places` tells where a row fits, 64 places at a time, `fits` whether it does
-//! somewhere, and `fits_plain` is its slow twin; `Starts` keeps the places of many rows. `laws` says what rows are good
-//! for.
+//! `behind_of` tells of an automaton what may stand before a match, and `rows_of` gives its row, or one for each
+//! position with which a match may begin. `fit_places` tells where a row fits, 64 places at a time, `fits` whether it
+//! does somewhere, and `fits_plain` is its slow twin; `Starts` keeps the places of many rows. `laws` says what rows are
+//! good for.
 #![tactic(auto)]
 
 mod befores;
