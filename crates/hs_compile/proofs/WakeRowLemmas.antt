@@ -216,6 +216,16 @@ module _ (nodes : List Node) (engines : List PieceEngine) (list : List ℕ) (n m
   pub rows-more : (start : ℕ) (starts' : List ℕ) → start ≡ length new.rows.items → starts' ≡ starts ++ start ∷ [] → AreRowsTo nodes engines list m starts' new
   rows-more start starts' is pushed = subst (λ ss. AreRowsTo nodes engines list m ss new) (sym (pushed ∙ ap (λ s. starts ++ s ∷ []) is)) rows-push
 
+-- the rows of all engines of the list
+pub rows-all : (nodes : List Node) (engines : List PieceEngine) (list starts : List ℕ) (table : RowTable) (n : ℕ) → n ≡ length list → AreRowsTo nodes engines list n starts table → AreRowsOf piece_meaning nodes engines list starts table.rows.items table.sets.items
+rows-all nodes engines list starts table n whole to = record {
+  within = to.within.numbers;
+  begins = to.within.begins;
+  starts_count = to.count ∙ ap suc whole;
+  known = λ i low. to.known (suc i) (omega (arith, low, whole));
+  are = λ i k number null node e listed. to.are i k number null node e (omega (arith, whole, slice_get_within list i k listed)) listed;
+}
+
 -- the same nodes, engines and rows
 pub rows-same : (nodes nodes' : List Node) (engines engines' : List PieceEngine) (wakes wakes' : WakeTable) → nodes ≡ nodes' → engines ≡ engines' → wakes ≡ wakes' →
     AreRowsOf piece_meaning nodes engines wakes.first_engines.items wakes.row_starts.items wakes.rows.items wakes.sets.items →

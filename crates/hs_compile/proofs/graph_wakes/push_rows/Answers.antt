@@ -1,4 +1,4 @@
-use Rattle.std.proofs.Common.{◌≡◌, ◌+◌, ◌<◌, ◌-◌, length, refl, subst, arith}
+use Rattle.std.proofs.Common.{subst, arith}
 use Rattle.std.proofs.lemmas.Option.{slice_get_within}
 use Rattle.hs_waking.specs.BeginningRows.{rows_of_beginnings}
 use Rattle.hs_waking.specs.RowTables.{PutsRow}
