@@ -176,10 +176,10 @@ fn push_rows(table: &mut RowTable, beginnings: &Beginnings<'_>) -> Result<(), Al
     ensures { IfOk result (λ done. PutsRows table.old table.new beginnings.now.behind
         (rows_of_beginnings beginnings.now.rows)) }
 {
-    let mut number = 0;
-    while let Some(beginning) = beginnings.get(number) {
+    let mut number: u32 = 0;
+    while let Some(beginning) = beginnings.get(number as usize) {
         table.push(&beginning)?;
-        number += 1;
+        number = graph_number(number as usize + 1)?;
     }
     Ok(())
 }
