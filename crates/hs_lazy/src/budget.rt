@@ -18,6 +18,9 @@ const MOST_CREDIT: u32 = 65536;
 /// After how many chunks in turn that were taken in vain an automaton rests.
 const MOST_VAIN: u32 = 64;
 
+/// After how many chunks in turn of which many bytes left members those are given up that were left most.
+const MOST_NOISY: u32 = 16;
+
 /// For how many chunks an automaton rests at first.
 const FIRST_REST: u32 = 256;
 
@@ -32,6 +35,8 @@ pub struct Budget {
     credit: u32,
     /// How many chunks in turn were taken in vain.
     vain: u32,
+    /// Of how many chunks in turn many bytes left members.
+    noisy: u32,
     /// For how many chunks it rests still.
     rest: u32,
     /// For how many it will rest next.
@@ -43,6 +48,7 @@ impl Budget {
     pub(crate) const FIRST: Budget = Budget {
         credit: FIRST_CREDIT,
         vain: 0,
+        noisy: 0,
         rest: 0,
         patience: FIRST_REST,
     };
@@ -79,6 +85,23 @@ impl Budget {
         if self.vain >= MOST_VAIN {
             self.begin_rest();
         }
+    }
+
+    /// Takes note of whether many bytes of a chunk left members. Answers whether it was so of too many chunks in turn,
+    /// and counts anew then.
+    pub(crate) fn hear(&mut self, is_noisy: bool) -> bool
+        ensures { is_noisy ≡ false → result ≡ false }
+    {
+        if !is_noisy {
+            self.noisy = 0;
+            return false;
+        }
+        self.noisy = self.noisy.saturating_add(1);
+        if self.noisy < MOST_NOISY {
+            return false;
+        }
+        self.noisy = 0;
+        true
     }
 
     /// Begins a rest, and gives what may be spent behind it.

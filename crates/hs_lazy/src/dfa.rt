@@ -11,7 +11,9 @@ use crate::budget::Budget;
 use crate::end_table::EndTable;
 use crate::parts::{EndSet, IMAGE_BYTES, MEMBER_WORDS, Member, Run, State};
 use hs_base::{ByteSet, Prev};
-use hs_bits::{clear_words, is_unset, is_zero, unite_words, word_at, write_word_bit};
+use hs_bits::{
+    clear_words, contains_word_bit, is_unset, is_zero, unite_words, word_at, write_word_bit,
+};
 use std::alloc::{AllocError, Global};
 
 /// How many engines an automaton has at most.
@@ -60,6 +62,8 @@ pub struct LazyDfa {
     pub budget: Budget,
     /// Whether there was no room for a state.
     pub is_full: bool,
+    /// The members that too many of the last bytes left: they are given up before the next chunk.
+    pub noisy: [u64; MEMBER_WORDS],
     ghost apart: { AreMembersApart members.items },
     ghost few: { length members.items ≤ 256 },
     ghost states_few: { length states.items ≤ 1024 },
@@ -73,6 +77,7 @@ pub struct LazyDfa {
     ghost ends_room: { 4096 ≤ vec_capacity ends },
     ghost ends_whole: { AreSetsWhole ends.items },
     ghost members_room: { 256 ≤ vec_capacity members },
+    ghost noisy_len: { length noisy ≡ 4 },
 }
 
 impl LazyDfa {
@@ -101,6 +106,7 @@ impl LazyDfa {
             slots: vec![in alloc; 0u16; SLOT_COUNT]?,
             budget: Budget::FIRST,
             is_full: false,
+            noisy: [0; MEMBER_WORDS],
         })
     }
 
@@ -125,9 +131,30 @@ impl LazyDfa {
     {
         let changes = self.changes();
         let most = greatest(&changes);
-        self.forget();
+        let changing = members_from(&changes, (most - most / 4).max(1));
         self.is_full = false;
-        drop_members(&mut self.members, &changes, (most - most / 4).max(1));
+        self.give_up(&changing);
+    }
+
+    /// Gives up the members that too many of the last bytes left, and forgets all states. It may spend as much as at
+    /// first.
+    pub fn shed_noisy(&mut self)
+        ensures members { AreFewer self.old.members.items self.new.members.items }
+        ensures states { self.new.states.items ≡ [] }
+    {
+        let noisy = self.noisy;
+        self.noisy = [0; MEMBER_WORDS];
+        self.budget = Budget::FIRST;
+        self.give_up(&noisy);
+    }
+
+    /// Gives up those members, and forgets all states.
+    fn give_up(&mut self, members: &[u64; MEMBER_WORDS])
+        ensures members { AreFewer self.old.members.items self.new.members.items }
+        ensures states { self.new.states.items ≡ [] }
+    {
+        self.forget();
+        drop_members(&mut self.members, members);
     }
 
     /// How often the region of each member changes from state to state.
@@ -502,14 +529,26 @@ fn greatest(numbers: &[u32; MAX_MEMBERS]) -> u32 {
     most
 }
 
-/// Gives up those members whose regions change at least so often.
-fn drop_members(members: &mut [Member], changes: &[u32; MAX_MEMBERS], least: u32)
+/// The members whose numbers are at least that.
+fn members_from(numbers: &[u32; MAX_MEMBERS], least: u32) -> [u64; MEMBER_WORDS]
+    ensures { length result ≡ 4 }
+{
+    let mut members = [0; MEMBER_WORDS];
+    for k in 0..MAX_MEMBERS {
+        write_word_bit(&mut members, k, numbers[k] >= least);
+    }
+    members
+}
+
+/// Gives up those members.
+fn drop_members(members: &mut [Member], dropped: &[u64; MEMBER_WORDS])
     requires few { length members.old ≤ 256 }
+    requires dropped_len { length dropped.now ≡ 4 }
     ensures len { length members.new ≡ length members.old }
     ensures fewer { AreFewer members.old members.new }
 {
     for k in 0..members.len() {
-        if changes[k] >= least {
+        if contains_word_bit(dropped, k) {
             members[k].is_dropped = true;
         }
     }

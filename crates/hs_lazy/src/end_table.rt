@@ -10,6 +10,9 @@ use crate::dfa::MAX_MEMBERS;
 use crate::parts::{EndSet, MEMBER_WORDS};
 use hs_bits::{contains_word_bit, next_bit_in, next_bit_in_either, unite_words, write_word_bit};
 
+/// How many words have a bit for each byte of a chunk.
+const ROW_WORDS: usize = 8;
+
 /// Where the members of an automaton are left in a chunk.
 #[derive(Clone, Copy, Debug)]
 pub struct EndTable {
@@ -67,6 +70,19 @@ impl EndTable {
         }
     }
 
+    /// The members that are left so many times or more, before a byte or behind it.
+    pub(crate) fn often_left(&self, least: u32) -> [u64; MEMBER_WORDS]
+        ensures { length result ≡ 4 }
+    {
+        let mut often = [0; MEMBER_WORDS];
+        let mut from = 0;
+        while let Some(member) = next_bit_in(&self.members, from, MAX_MEMBERS) {
+            write_word_bit(&mut often, member, times_left(&self.rows[member]) >= least);
+            from = member + 1;
+        }
+        often
+    }
+
     /// Where a member is left.
     pub(crate) fn of(&self, member: usize) -> ToldEnds
         requires { member < 256 }
@@ -75,6 +91,15 @@ impl EndTable {
     {
         self.rows[member]
     }
+}
+
+/// How often a member is left, before a byte or behind it.
+fn times_left(row: &ToldEnds) -> u32 {
+    let mut count = 0;
+    for word in 0..ROW_WORDS {
+        count += row.before[word].count_ones() + row.behind[word].count_ones();
+    }
+    count
 }
 
 /// Writes whether a member is left before the byte at that place, and behind it.

@@ -12,24 +12,27 @@ use crate::engine::TimelessEngine;
 use crate::parts::Run;
 use crate::steps::run_dfa;
 use hs_base::Prev;
+use hs_bits::is_unset;
 
-/// Has the automaton give up members, if it had no room for a state.
-fn shed_full(dfa: &mut LazyDfa)
+/// Has the automaton give up members, if it had no room for a state or too many bytes left some of them.
+fn shed_some(dfa: &mut LazyDfa)
     ensures { IsShed dfa.old dfa.new }
 {
     if dfa.is_full {
         dfa.shed();
+    } else if !is_unset(&dfa.noisy) {
+        dfa.shed_noisy();
     }
 }
 
-/// Has each automaton give up members that had no room for a state.
+/// Has each automaton give up members that had no room for a state, or of which too many bytes left some.
 pub(crate) fn shed_all(list: &mut [LazyDfa])
     ensures len { length list.new ≡ length list.old }
     ensures shed { (i : ℕ) (dfa : LazyDfa) → slice_get list.new i ≡ Some dfa →
         (old : LazyDfa) × (slice_get list.old i ≡ Some old) × IsShed old dfa }
 {
     for at in 0..list.len() {
-        shed_full(&mut list[at]);
+        shed_some(&mut list[at]);
     }
 }
 

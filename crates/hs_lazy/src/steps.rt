@@ -17,6 +17,9 @@ use crate::parts::{EndSet, IMAGE_BYTES, MEMBER_WORDS, Member, Run, State};
 use hs_base::Prev;
 use hs_bits::{contains_word_bit, is_unset, next_bit_in, write_word_bit};
 
+/// A member that an eighth of the bytes of a chunk leave is dearer in an automaton than by itself.
+const NOISY_PART: u32 = 8;
+
 /// Takes a chunk behind `prev` from the image that is loaded on, if the automaton doesn't rest and doesn't give up.
 pub fn run_dfa<E: TimelessEngine>(
     dfa: &mut LazyDfa,
@@ -42,8 +45,12 @@ pub fn run_dfa<E: TimelessEngine>(
     }
     run.is_done = take_chunk(dfa, engines, run, prev, bytes);
     if run.is_done {
-        let in_vain = dfa.is_idle(run.state) || has_many_ends(&run.trace, bytes.len());
+        let is_noisy = has_many_ends(&run.trace, bytes.len());
+        let in_vain = is_noisy || dfa.is_idle(run.state);
         dfa.budget.earn(in_vain);
+        if dfa.budget.hear(is_noisy) {
+            dfa.noisy = run.ends.often_left(bytes.len() as u32 / NOISY_PART);
+        }
         return;
     }
     if dfa.budget.is_spent() {

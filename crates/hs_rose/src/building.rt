@@ -70,7 +70,7 @@ fn finished(
     requires { AreNumbered builder }
     ensures { IfOk result (λ program. IsFinished infos.items identifiers.items builder program) }
 {
-    let literals = builder.literals.into_list();
+    let literals = builder.literals.list;
     let engines = engines_of(alloc, builder.made)?;
     Ok(Program::new(
         infos,

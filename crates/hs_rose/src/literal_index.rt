@@ -55,13 +55,6 @@ impl LiteralIndex {
     {
         self.numbers.get(key).copied()
     }
-
-    /// The literals alone.
-    pub fn into_list(self) -> Vec<Vec<LitByte>>
-        ensures { result ≡ self.list }
-    {
-        self.list
-    }
 }
 
 /// The literal as a list of numbers, which no other has.

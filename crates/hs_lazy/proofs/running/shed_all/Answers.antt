@@ -14,6 +14,6 @@ pub loop-at-preserved : goal.loop-at-preserved
 loop-at-preserved c =
     let low : c.loop-at.at < length c.loop-at.list = omega (arith, c.loop-at-test.true, c.loop-at.invariant.len) in
     record {
-      len = length-set c.loop-at.list c.loop-at.at c.shed_full.new.dfa ∙ c.loop-at.invariant.len;
-      shed = shed-set c.args.list.now c.loop-at.list c.loop-at.at _ c.shed_full.new.dfa (slice_get-get_or c.loop-at.list c.loop-at.at c.index-list-at.result low) c.shed_full.ensures c.loop-at.invariant.shed;
+      len = length-set c.loop-at.list c.loop-at.at c.shed_some.new.dfa ∙ c.loop-at.invariant.len;
+      shed = shed-set c.args.list.now c.loop-at.list c.loop-at.at _ c.shed_some.new.dfa (slice_get-get_or c.loop-at.list c.loop-at.at c.index-list-at.result low) c.shed_some.ensures c.loop-at.invariant.shed;
     }
