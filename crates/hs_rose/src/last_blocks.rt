@@ -1,13 +1,11 @@
 //! At most so many bytes of a set over a block: a whole one by words where that serves, else byte by byte.
 
-ghost use Rattle.std.specs.Prelude.{◌≡◌, ℕ, ◌+◌, ◌^◌, ◌≤◌, MatchOption, length};
-ghost use Rattle.hs_base.specs.declared.context.Prev.{Prev};
-ghost use Rattle.hs_base.specs.RepeatRows.{distance_of};
+ghost use Rattle.std.specs.Prelude.{◌≡◌, ◌+◌, ◌^◌, ◌≤◌, length};
 ghost use Rattle.hs_block.specs.Blocks.{IsEnteredThroughout, TakesBlock};
 ghost use Rattle.hs_repeat.specs.RepeatEngines.{meaning_of_last};
 
 use hs_base::Prev;
-use hs_bits::{WORD_BITS, count_places, one_later};
+use hs_bits::{WORD_BITS, one_later, place_count};
 use hs_block::{BlockEnds, run_by_steps};
 use hs_engine::{Engine, Steps};
 use hs_repeat::Last;
@@ -33,41 +31,17 @@ pub(crate) fn run_last<L: Ledger>(
     ensures takes { TakesBlock (meaning_of_last last.now) region.old region.new prev at enters bytes.now result
         steps.old steps.new }
 {
-    match take_whole(last, region, enters, bytes, steps) {
-        Some(ends) => ends,
-        None => run_by_steps(last, region, prev, at, enters, bytes, steps),
-    }
-}
-
-/// Takes a whole block by words; None where that doesn't serve, and then all is as before.
-fn take_whole<L: Ledger>(
-    last: &Last,
-    region: &mut [u8],
-    enters: u64,
-    bytes: &[u8],
-    steps: &mut Steps<L>,
-) -> Option<BlockEnds>
-    requires len { length region.old ≡ 2 }
-    requires bounded { distance_of region.old ≤ last.now.nearest.bound }
-    ensures len { length region.new ≡ 2 }
-    ensures takes { MatchOption result
-        ((region.new ≡ region.old) × (steps.new ≡ steps.old))
-        (λ ends. (prev : Prev) (at : ℕ) →
-        (meaning_of_last last.now).well region.old at →
-        TakesBlock (meaning_of_last last.now) region.old region.new prev at enters bytes.now ends
-        steps.old steps.new) }
-{
     if bytes.len() != WORD_BITS {
-        return None;
+        return run_by_steps(last, region, prev, at, enters, bytes, steps);
     }
     let live = !last.at_rest(region);
     let Some(left) = last.run_whole(region, enters, bytes) else {
-        return None;
+        return run_by_steps(last, region, prev, at, enters, bytes, steps);
     };
     let before = one_later(left, live);
-    steps.tick_by(count_places(enters | before, 0, WORD_BITS));
-    Some(BlockEnds {
+    steps.tick_by(place_count(enters | before));
+    BlockEnds {
         before,
         behind: left,
-    })
+    }
 }

@@ -1,7 +1,7 @@
 use Rattle.std.proofs.Common.{◌^◌, ◌<◌, refl, ap, ◌∙◌, arith}
 use Rattle.hs_bits.specs.WordBits.{one_later, word_bit}
 use Rattle.hs_rose.proofs.LastBlockLemmas.{live-is, words-take}
-use Rattle.hs_rose.proofs.last_blocks.take_whole.Goals as goal
+use Rattle.hs_rose.proofs.last_blocks.run_last.Goals as goal
 
 pub returns-clause-takes : goal.returns-clause-takes
 returns-clause-takes g c prev at well =
