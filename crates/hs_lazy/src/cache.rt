@@ -223,8 +223,8 @@ impl Cache {
         Ok(())
     }
 
-    /// Gives up, in each automaton that had no room for a state, the engines whose regions change most often: they run
-    /// for their numbers no more.
+    /// Gives up, in each automaton that had no room for a state, the engines whose regions change most often, and in
+    /// each of which too many bytes left some, those that are left most often: they run for their numbers no more.
     pub fn shed<E: TimelessEngine>(&mut self, engines: &[E])
         requires dfas { AreDfasOf E.meaning engines.now self.old.dfas }
         ensures dfas { AreDfasOf E.meaning engines.now self.new.dfas }

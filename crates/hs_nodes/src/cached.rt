@@ -86,7 +86,7 @@ fn load_marked<E: TimelessEngine>(
     }
 }
 
-/// Has a cache run those of its nodes no more for whose states it had no room.
+/// Has a cache run those of its nodes no more for whose states it had no room, or which too many bytes left.
 fn shed_cache<E: TimelessEngine>(table: &NodeTable<E>, cache: &mut Cache)
     requires { IsCacheOf E.meaning table.now cache.old }
     ensures { IsCacheOf E.meaning table.now cache.new }
