@@ -14,11 +14,13 @@ use Rattle.hs_base.specs.RepeatRows.{IsAway, IsDistanceAt, IsLastDistance, dista
 use Rattle.hs_base.specs.Trees.{Tree}
 use Rattle.hs_base.proofs.BitLemmas.{same-zero}
 use Rattle.hs_base.proofs.RepeatRowLemmas.{distance-zero, zero-distance}
+use Rattle.hs_engine.specs.Engines.{Meaning}
 use Rattle.hs_bits.specs.WordBits.{bits_of, count_below, count_set, one_later, word_bit}
 use Rattle.hs_bits.proofs.BlockLemmas.{count-same}
 use Rattle.hs_bits.proofs.PlaceLemmas.{bit-either}
 use Rattle.hs_block.specs.Blocks.{IsBlockRun, IsFieldOf, TakesBlock, is_blank, is_busy}
 use Rattle.hs_block.specs.Scans.{IsLeftBefore}
+use Rattle.hs_block.specs.declared.engine.BlockEnds.{BlockEnds}
 use Rattle.hs_block.proofs.StreamRunLemmas.{blank-is}
 use Rattle.hs_repeat.specs.RepeatBlocks.{TakesDistances, distance_behind}
 use Rattle.hs_repeat.specs.RepeatLaws.{row_of}
@@ -183,3 +185,8 @@ module _ (set : ByteSet) (bound : ℕ) (old new : List ℕ) (at enters : ℕ) (b
     pub words-take : (ticks steps_old steps_new : ℕ) → ticks ≡ count_set (bit_or enters before) 0 64 → steps_new ≡ steps_old + ticks →
         TakesBlock (last_meaning set bound) old new prev at enters bytes (record { before = before; behind = left }) steps_old steps_new
     words-take ticks steps_old steps_new counted grown = record { ticks = ticks; counted = grown; run = words-run ticks counted }
+
+-- what a block leaves is well formed behind it
+pub taken-well : {m : Meaning} {old new : List ℕ} {prev : Prev} {at enters : ℕ} {bytes : List ℕ} {ends : BlockEnds} {before after : ℕ} →
+    TakesBlock m old new prev at enters bytes ends before after → m.well new (at + length bytes)
+taken-well {m = m} {at = at} {bytes = bytes} taken = subst (λ row. m.well row (at + length bytes)) taken.run.last (taken.run.well (length bytes) (omega arith))

@@ -70,7 +70,8 @@ fn finished(
     requires { AreNumbered builder }
     ensures { IfOk result (λ program. IsFinished infos.items identifiers.items builder program) }
 {
-    let literals = builder.literals.list;
+    let index = builder.literals;
+    let literals = index.list;
     let engines = engines_of(alloc, builder.made)?;
     Ok(Program::new(
         infos,

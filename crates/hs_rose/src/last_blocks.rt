@@ -5,7 +5,7 @@ ghost use Rattle.hs_block.specs.Blocks.{IsEnteredThroughout, TakesBlock};
 ghost use Rattle.hs_repeat.specs.RepeatEngines.{meaning_of_last};
 
 use hs_base::Prev;
-use hs_bits::{WORD_BITS, one_later, place_count};
+use hs_bits::{WORD_BITS, count_places, one_later};
 use hs_block::{BlockEnds, run_by_steps};
 use hs_engine::{Engine, Steps};
 use hs_repeat::Last;
@@ -39,7 +39,7 @@ pub(crate) fn run_last<L: Ledger>(
         return run_by_steps(last, region, prev, at, enters, bytes, steps);
     };
     let before = one_later(left, live);
-    steps.tick_by(place_count(enters | before));
+    steps.tick_by(count_places(enters | before, 0, WORD_BITS));
     BlockEnds {
         before,
         behind: left,
