@@ -1,25 +1,15 @@
 -- Fields are packed one behind the other.
 use Rattle.std.proofs.Common.{◌≡◌, ℕ, suc, ◌+◌, ◌<◌, List, [], ◌∷◌, ◌++◌, length, take, drop, get_or, slice_range, sym, ap, subst, ◌∙◌, arith, length-append}
-use Rattle.std.specs.Prelude.{slice_index}
 use Rattle.std.proofs.lemmas.List.{length-drop, length-take-le}
 use Rattle.std.proofs.Math.Seq.{drop-append-add, take-append_seam}
 use Rattle.hs_base.specs.declared.context.Prev.{Prev}
-use Rattle.hs_base.specs.Lists.{Each}
 use Rattle.hs_kept.specs.StateFields.{AreFieldsApart, IsNextField, end_of}
-use Rattle.hs_kept.specs.Packing.{AreAlikeBetween, IsNumberFor, IsPackedOf, prev_in}
+use Rattle.hs_kept.specs.Groups.{IsNumbered, IsPackedUpTo}
+use Rattle.hs_kept.specs.Packing.{IsNumberFor, IsPackedOf, prev_in}
 use Rattle.hs_kept.specs.declared.packing.Packing.{Packing}
 use Rattle.hs_kept.specs.declared.packing.StateField.{StateField}
 use Rattle.hs_kept.proofs.FieldLemmas.{left-item}
 use Rattle.hs_kept.proofs.WritingLemmas.{byte-by_front, range-by_front, shorter-front}
-
--- what is kept at the field is the number for its set in the region
-abbrev pub IsNumbered : (region : List ℕ) (prev : Prev) (kept : List ℕ) → StateField → Type 0
-IsNumbered region prev kept f = IsNumberFor f.sets (slice_range region f.at (end_of f)) prev (slice_index kept f.place)
-
--- The first `place` bytes are kept: with whatever may stand behind, all fields are packed if those that are left are.
-pub record IsPackedUpTo (fields left : List StateField) (at place : ℕ) (region : List ℕ) (prev : Prev) (kept : List ℕ) : Type 0 where
-  pub same : (whole : List ℕ) → take place whole ≡ take place kept → AreAlikeBetween left at place region whole → AreAlikeBetween fields 0 0 region whole
-  pub numbers : (whole : List ℕ) → take place whole ≡ take place kept → Each (IsNumbered region prev whole) left → Each (IsNumbered region prev whole) fields
 
 pub packed-none : (fields : List StateField) (region : List ℕ) (prev : Prev) (kept : List ℕ) → IsPackedUpTo fields fields 0 0 region prev kept
 packed-none fields region prev kept = record { same = λ whole front alike. alike; numbers = λ whole front are. are }

@@ -2,6 +2,9 @@ mod ToldLemmas
 mod CandidateLemmas
 mod LayingLemmas
 pub mod CopyLemmas
+pub mod RestLemmas
+pub mod GroupLemmas
+pub mod RowLemmas
 pub mod FaultLemmas
 pub mod PartLemmas
 pub mod HeaderLemmas

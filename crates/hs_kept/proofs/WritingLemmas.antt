@@ -1,9 +1,8 @@
 -- What is written into a part of a list.
 use Rattle.std.proofs.Common.{suc, get_or, ◌≡◌, ℕ, ◌+◌, ◌-◌, ◌<◌, ◌≤◌, List, ◌++◌, length, take, drop, slice_range, sym, ap, ◌∙◌, arith, length-append, append_assoc}
-use Rattle.std.proofs.lemmas.List.{append-nil, drop-take, drop_all, get_or-take, length-drop, length-take-le, take-set, take-take}
+use Rattle.std.proofs.lemmas.List.{append-nil, drop-take, drop_all, get_or-take, length-drop, length-take-le, take-take}
 use Rattle.std.proofs.Math.Seq.{drop-append-add, take-append_seam}
 use Rattle.std.specs.Prelude.{slice_index}
-use Rattle.std.proofs.Math.ListN.{set}
 
 -- a range is the same where the fronts up to its end are
 pub range-by_front : (xs ys : List ℕ) (low high : ℕ) → low ≤ high → take high xs ≡ take high ys → slice_range xs low high ≡ slice_range ys low high
@@ -28,16 +27,6 @@ front-written xs w rest low high within wide =
     ap (λ l. take high l) (sym (append_assoc (take low xs) w rest))
     ∙ (ap (λ n. take n ((take low xs ++ w) ++ rest)) (sym size) ∙ take-append_seam (take low xs ++ w) rest)
 
--- two parts that are written one behind the other
-pub two-written : (xs v w : List ℕ) (low mid high : ℕ) (rest rest' : List ℕ) → low ≤ length xs → low + length v ≡ mid → mid + length w ≡ high →
-    take high (take mid (take low xs ++ (v ++ rest)) ++ (w ++ rest')) ≡ take low xs ++ (v ++ w)
-two-written xs v w low mid high rest rest' within wide wide' =
-    let ys : List ℕ = take low xs ++ (v ++ rest) in
-    let size : length ys ≡ length (take low xs) + (length v + length rest) = length-append (take low xs) (v ++ rest) ∙ ap (λ n. length (take low xs) + n) (length-append v rest) in
-    let size' : length (take low xs) ≡ low = length-take-le low xs within in
-    front-written ys w rest' mid high (omega (arith, size, size', wide)) wide'
-    ∙ (ap (λ l. l ++ w) (front-written xs v rest low mid within wide) ∙ append_assoc (take low xs) v w)
-
 -- what is written reads back
 pub range-written : (xs w rest : List ℕ) (low high : ℕ) → low ≤ length xs → low + length w ≡ high → slice_range (take low xs ++ (w ++ rest)) low high ≡ w
 range-written xs w rest low high within wide =
@@ -49,13 +38,6 @@ range-written xs w rest low high within wide =
     ∙ (ap (λ n. drop low (take n ys)) e
     ∙ (ap (λ l. drop low l) (front-written xs w rest low high within wide)
     ∙ (ap (λ n. drop n (take low xs ++ w)) e' ∙ drop-append-add (take low xs) w 0)))
-
--- also where the byte behind it is written then
-pub range-before_byte : (xs w rest : List ℕ) (low high byte : ℕ) → low ≤ length xs → low + length w ≡ high →
-    slice_range (set (take low xs ++ (w ++ rest)) high byte) low high ≡ w
-range-before_byte xs w rest low high byte within wide =
-    let ys : List ℕ = take low xs ++ (w ++ rest) in
-    range-by_front (set ys high byte) ys low high (omega arith) (take-set ys high byte) ∙ range-written xs w rest low high within wide
 
 -- what is written up to the end
 pub end-written : (xs w : List ℕ) (low : ℕ) → low ≤ length xs → take low xs ++ (w ++ drop (length xs - low) (drop low xs)) ≡ take low xs ++ w

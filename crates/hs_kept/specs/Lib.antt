@@ -1,7 +1,9 @@
 pub mod KeptRegions
 pub mod KeptLaws
 pub mod StateFields
+pub mod Rests
 pub mod Packing
+pub mod Groups
 pub mod Parts
 pub mod PackingLaws
 pub mod Builders

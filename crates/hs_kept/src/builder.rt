@@ -114,7 +114,8 @@ impl PackingBuilder {
             })?;
             saved += width - 1;
         }
-        Ok(Packing::new(fields, size, size - saved))
+        let packing = Packing::new(alloc, fields, size, size - saved).with_rests(alloc)?;
+        Ok(packing)
     }
 }
 

@@ -1,6 +1,6 @@
 //! The bytes of one field, in a region and in what is kept of it.
 
-ghost use Rattle.std.specs.Prelude.{◌≡◌, ◌^◌, ◌<◌, ◌≤◌, ◌++◌, length, slice_index, slice_range, take};
+ghost use Rattle.std.specs.Prelude.{◌≡◌, ◌^◌, ◌<◌, ◌≤◌, ◌+◌, ◌-◌, ◌++◌, length, slice_index, slice_range, take};
 ghost use Rattle.hs_base.specs.Regions.{region_offset};
 ghost use Rattle.hs_states.specs.StateSets.{set_bytes, set_width, state_count};
 ghost use Rattle.hs_kept.specs.Packing.{IsNumberFor, prev_in};
@@ -29,7 +29,7 @@ pub(crate) fn unpack_field(
         ++ (slice_range kept.now place field.now.place
         ++ set_bytes field.now.sets (slice_index kept.now field.now.place)) }
 {
-    region[at..field.at].copy_from_slice(&kept[place..field.place]);
+    copy_gap(kept, place, field.place, region, at);
     region[field.at..field.end()].copy_from_slice(field.sets.set(kept[field.place]));
 }
 
@@ -51,12 +51,28 @@ pub(crate) fn pack_field(
         (slice_index kept.new field.now.place) }
 {
     let number = number_for(&field.sets, &region[field.at..field.end()], prev);
-    kept[place..field.place].copy_from_slice(&region[at..field.at]);
+    copy_gap(region, at, field.at, kept, place);
     kept[field.place] = number;
 }
 
+/// Copies the bytes between two fields, if there are any: where there are none, a call would cost as much as one for
+/// some.
+fn copy_gap(from: &[u8], start: usize, end: usize, to: &mut [u8], at: usize)
+    requires order { start ≤ end }
+    requires within { end ≤ length from.now }
+    requires room { at + (end - start) ≤ length to.old }
+    ensures len { length to.new ≡ length to.old }
+    ensures before { take at to.new ≡ take at to.old }
+    ensures gap { slice_range to.new at (at + (end - start)) ≡ slice_range from.now start end }
+    ensures made { take (at + (end - start)) to.new ≡ take at to.old ++ slice_range from.now start end }
+{
+    if start < end {
+        to[at..at + (end - start)].copy_from_slice(&from[start..end]);
+    }
+}
+
 /// The number of the state with this set and with what stands before, or 0 where there is none.
-fn number_for(sets: &StateSets, set: &[u8], prev: Prev) -> u8
+pub(crate) fn number_for(sets: &StateSets, set: &[u8], prev: Prev) -> u8
     requires { length set.now ≡ set_width sets.now }
     ensures { IsNumberFor sets.now set.now prev result }
 {

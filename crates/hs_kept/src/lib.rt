@@ -6,6 +6,7 @@ mod field_bytes;
 pub mod laws;
 mod packing;
 pub mod packing_laws;
+mod rests;
 
 pub use builder::PackingBuilder;
 pub use packing::{Packing, StateField};

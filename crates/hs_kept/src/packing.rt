@@ -1,10 +1,27 @@
 //! What is kept of a region, and back: the number of a state for a set of positions.
 
 ghost use Rattle.std.specs.Prelude.{◌≡◌, ◌^◌, ◌≤◌, length};
+ghost use Rattle.hs_kept.specs.Rests.{AreRests, rests-prop};
 ghost use Rattle.hs_kept.specs.StateFields.{AreFieldsApart, apart-prop, IsFirstFrom, end_of};
 
 use crate::field_bytes::{pack_field, prev_behind, unpack_field};
+use crate::rests::{Rest, are_alike, copy_between, is_zero_between, rest_number, write_zeros};
+use hs_base::Prev;
 use hs_states::StateSets;
+use std::alloc::{AllocError, Global};
+
+/// How many fields are taken at once where they are at rest.
+const GROUP_FIELDS: usize = 16;
+
+/// Up to how many bytes are kept where rows of rest are made, which take four times as much memory.
+const MAX_REST_LEN: usize = 1 << 20;
+
+/// How many bytes may be kept for each field that has a number, where rows of rest are made: rows are compared whole,
+/// and where fields lie farther apart they are sooner taken one by one.
+const MOST_LEN_A_FIELD: usize = 64;
+
+/// The bytes of the header that tell what stands before.
+const HEADER_LEN: usize = 72;
 
 /// The field of a first piece with few states.
 #[derive(Debug, Drop)]
@@ -26,17 +43,28 @@ pub struct Packing {
     region_size: usize,
     /// How many of these are kept.
     size: usize,
+    /// What is kept of regions of zeros, where it is at most 1 MiB: a row for each `Prev`, if it serves.
+    rests: Vec<Rest>,
     ghost apart: { AreFieldsApart fields.items 0 0 region_size size } by { apart-prop fields.items _ _ _ _ },
     ghost header: { 72 ≤ region_size },
     ghost region_small: { region_size ≤ 2 ^ 24 },
     ghost small: { size ≤ 2 ^ 24 },
+    ghost rested: { AreRests fields.items size rests.items } by { rests-prop fields.items size rests.items },
 }
 
 impl Packing {
+    ghost use Rattle.std.specs.Prelude.{◌<◌, IfOk, IfSome, vec_len};
+    ghost use Rattle.hs_kept.specs.Groups.{IsPackedTo, IsUnpackedTo};
     ghost use Rattle.hs_kept.specs.Packing.{AreNumbers, IsPackedOf, packed_size, unpacked, unpacked_size};
+    ghost use Rattle.hs_kept.specs.Rests.{IsRestOf};
 
     /// The packing by these fields, of regions of one size to bytes of the other.
-    pub(crate) fn new(fields: Vec<StateField>, region_size: usize, size: usize) -> Packing
+    pub(crate) fn new(
+        alloc: Global,
+        fields: Vec<StateField>,
+        region_size: usize,
+        size: usize,
+    ) -> Packing
         requires apart { AreFieldsApart fields.items 0 0 region_size size }
         requires header { 72 ≤ region_size }
         requires region_small { region_size ≤ 2 ^ 24 }
@@ -49,7 +77,80 @@ impl Packing {
             fields,
             region_size,
             size,
+            rests: Vec::new(alloc),
         }
+    }
+
+    /// The same packing with the rows of rest, where they aren't too long and fields don't lie too far apart.
+    pub(crate) fn with_rests(self, alloc: Global) -> Result<Packing, AllocError>
+        ensures fields { IfOk result (λ made. made.fields ≡ self.fields) }
+        ensures region_size { IfOk result (λ made. unpacked_size made ≡ unpacked_size self) }
+        ensures size { IfOk result (λ made. packed_size made ≡ packed_size self) }
+    {
+        let most = self.fields.len().saturating_mul(MOST_LEN_A_FIELD);
+        if self.size > MAX_REST_LEN.min(most) {
+            return Ok(self);
+        }
+        let rests = self.rests_of(alloc)?;
+        Ok(Packing {
+            fields: self.fields,
+            region_size: self.region_size,
+            size: self.size,
+            rests,
+        })
+    }
+
+    /// The rows of rest.
+    fn rests_of(&self, alloc: Global) -> Result<Vec<Rest>, AllocError>
+        ensures { IfOk result (λ rests. AreRests self.now.fields.items self.now.size rests.items) }
+    {
+        let mut rests = Vec::new(alloc);
+        self.push_rest(alloc, Prev::Start, &mut rests)?;
+        self.push_rest(alloc, Prev::Word, &mut rests)?;
+        self.push_rest(alloc, Prev::Newline, &mut rests)?;
+        self.push_rest(alloc, Prev::Other, &mut rests)?;
+        Ok(rests)
+    }
+
+    /// Puts the row of rest for what stands before behind the others, if it serves.
+    fn push_rest(&self, alloc: Global, prev: Prev, rests: &mut Vec<Rest>) -> Result<(), AllocError>
+        requires { AreRests self.now.fields.items self.now.size rests.old.items }
+        ensures { IfOk result (λ done. AreRests self.now.fields.items self.now.size rests.new.items) }
+    {
+        if let Some(bytes) = self.rest_bytes(alloc, prev)? {
+            rests.push(Rest { prev, bytes })?;
+        }
+        Ok(())
+    }
+
+    /// What is kept of a region of zeros behind which that stands; None where a set isn't that of no position.
+    fn rest_bytes(&self, alloc: Global, prev: Prev) -> Result<Option<Vec<u8>>, AllocError>
+        ensures { IfOk result (λ found. IfSome found (λ row.
+            IsRestOf self.now.fields.items self.now.size prev row.items)) }
+    {
+        let mut row = vec![in alloc; 0u8; self.size]?;
+        for number in 0..self.fields.len() {
+            let field = &self.fields[number];
+            let Some(rested) = rest_number(&field.sets, prev) else {
+                return Ok(None);
+            };
+            row[field.place] = rested;
+        }
+        Ok(Some(row))
+    }
+
+    /// The row of rest for what stands before.
+    fn rest(&self, prev: Prev) -> Option<&Rest>
+        ensures prev { IfSome result (λ rest. rest.now.prev ≡ prev) }
+        ensures rests { IfSome result (λ rest.
+            IsRestOf self.now.fields.items self.now.size rest.now.prev rest.now.bytes.items) }
+    {
+        for rest in &self.rests {
+            if rest.prev == prev {
+                return Some(rest);
+            }
+        }
+        None
     }
 
     /// How many bytes are kept.
@@ -75,32 +176,190 @@ impl Packing {
         requires numbers { AreNumbers self.now kept.now }
         ensures { region.new ≡ unpacked self.now kept.now }
     {
+        let rest = self.rest_behind(kept);
         let mut at = 0;
         let mut place = 0;
-        for field in &self.fields {
-            unpack_field(field, kept, region, at, place);
-            at = field.end();
-            place = field.place + 1;
+        let mut first = 0;
+        while first < self.fields.len() {
+            let end = (first + GROUP_FIELDS).min(self.fields.len());
+            let (next_at, next_place) = self.unpack_group(
+                first,
+                end,
+                rest,
+                kept,
+                region,
+                (at, place),
+            );
+            at = next_at;
+            place = next_place;
+            first = end;
         }
         region[at..].copy_from_slice(&kept[place..]);
     }
 
+    /// The row of rest for what stands before the next byte of the stream, by the header.
+    fn rest_behind(&self, kept: &[u8]) -> Option<&Rest>
+        ensures { IfSome result (λ rest.
+            IsRestOf self.now.fields.items self.now.size rest.now.prev rest.now.bytes.items) }
+    {
+        if kept.len() < HEADER_LEN {
+            return None;
+        }
+        self.rest(prev_behind(kept))
+    }
+
+    /// Makes the part of a region up to the end of a group of fields, those from `first` to before `end`, and says
+    /// where the next group begins, in a region and in what is kept; this one begins at `begin`. Where it is kept as in
+    /// the row of rest, it makes zeros.
+    fn unpack_group(
+        &self,
+        first: usize,
+        end: usize,
+        rest: Option<&Rest>,
+        kept: &[u8],
+        region: &mut [u8],
+        begin: (usize, usize),
+    ) -> (usize, usize)
+        requires some { first < end }
+        requires within { end ≤ vec_len self.now.fields }
+        requires rests { IfSome rest (λ row.
+            IsRestOf self.now.fields.items self.now.size row.now.prev row.now.bytes.items) }
+        requires kept { length kept.now ≡ packed_size self.now }
+        requires so_far { IsUnpackedTo self.now kept.now first begin.0 begin.1 region.old }
+        ensures { IsUnpackedTo self.now kept.now end result.0 result.1 region.new }
+    {
+        let (at, place) = begin;
+        let last = &self.fields[end - 1];
+        let next_at = last.end();
+        let next_place = last.place + 1;
+        if let Some(row) = rest {
+            if are_alike(kept, &row.bytes, place, next_place) {
+                write_zeros(region, at, next_at);
+                return (next_at, next_place);
+            }
+        }
+        self.unpack_fields(first, end, kept, region, at, place)
+    }
+
+    /// The same, field by field.
+    fn unpack_fields(
+        &self,
+        first: usize,
+        end: usize,
+        kept: &[u8],
+        region: &mut [u8],
+        at: usize,
+        place: usize,
+    ) -> (usize, usize)
+        requires some { first < end }
+        requires within { end ≤ vec_len self.now.fields }
+        requires kept { length kept.now ≡ packed_size self.now }
+        requires so_far { IsUnpackedTo self.now kept.now first at place region.old }
+        ensures { IsUnpackedTo self.now kept.now end result.0 result.1 region.new }
+    {
+        let mut next_at = at;
+        let mut next_place = place;
+        for number in first..end {
+            let field = &self.fields[number];
+            unpack_field(field, kept, region, next_at, next_place);
+            next_at = field.end();
+            next_place = field.place + 1;
+        }
+        (next_at, next_place)
+    }
+
     /// Makes of a region what is kept of it. A set that is that of no state, which only a region leads to that no
-    /// stream has, is kept as the first one. Its time is that of the copies and of one look-up a field.
+    /// stream has, is kept as the first one. Its time is that of the copies, of one test of a row for each group of
+    /// fields at rest, and of one look-up for each other field.
     pub fn pack(&self, region: &[u8], kept: &mut [u8])
         requires region { length region.now ≡ unpacked_size self.now }
         requires kept { length kept.old ≡ packed_size self.now }
         ensures { IsPackedOf self.now region.now kept.new }
     {
         let prev = prev_behind(region);
+        let rest = self.rest(prev);
         let mut at = 0;
         let mut place = 0;
-        for field in &self.fields {
-            pack_field(field, region, prev, kept, at, place);
-            at = field.end();
-            place = field.place + 1;
+        let mut first = 0;
+        while first < self.fields.len() {
+            let end = (first + GROUP_FIELDS).min(self.fields.len());
+            let (next_at, next_place) = self.pack_group(
+                first,
+                end,
+                rest,
+                region,
+                prev,
+                kept,
+                (at, place),
+            );
+            at = next_at;
+            place = next_place;
+            first = end;
         }
         kept[place..].copy_from_slice(&region[at..]);
+    }
+
+    /// Makes the part of what is kept up to the last number of a group of fields, those from `first` to before `end`,
+    /// and says where the next group begins, in a region and in what is kept; this one begins at `begin`. Where it is
+    /// zeros, it copies the row of rest.
+    fn pack_group(
+        &self,
+        first: usize,
+        end: usize,
+        rest: Option<&Rest>,
+        region: &[u8],
+        prev: Prev,
+        kept: &mut [u8],
+        begin: (usize, usize),
+    ) -> (usize, usize)
+        requires some { first < end }
+        requires within { end ≤ vec_len self.now.fields }
+        requires prev { IfSome rest (λ row. row.now.prev ≡ prev) }
+        requires rests { IfSome rest (λ row.
+            IsRestOf self.now.fields.items self.now.size row.now.prev row.now.bytes.items) }
+        requires region { length region.now ≡ unpacked_size self.now }
+        requires so_far { IsPackedTo self.now region.now prev first begin.0 begin.1 kept.old }
+        ensures { IsPackedTo self.now region.now prev end result.0 result.1 kept.new }
+    {
+        let (at, place) = begin;
+        let last = &self.fields[end - 1];
+        let next_at = last.end();
+        let next_place = last.place + 1;
+        if let Some(row) = rest {
+            if is_zero_between(region, at, next_at) {
+                copy_between(&row.bytes, kept, place, next_place);
+                return (next_at, next_place);
+            }
+        }
+        self.pack_fields(first, end, region, prev, kept, at, place)
+    }
+
+    /// The same, field by field.
+    fn pack_fields(
+        &self,
+        first: usize,
+        end: usize,
+        region: &[u8],
+        prev: Prev,
+        kept: &mut [u8],
+        at: usize,
+        place: usize,
+    ) -> (usize, usize)
+        requires some { first < end }
+        requires within { end ≤ vec_len self.now.fields }
+        requires region { length region.now ≡ unpacked_size self.now }
+        requires so_far { IsPackedTo self.now region.now prev first at place kept.old }
+        ensures { IsPackedTo self.now region.now prev end result.0 result.1 kept.new }
+    {
+        let mut next_at = at;
+        let mut next_place = place;
+        for number in first..end {
+            let field = &self.fields[number];
+            pack_field(field, region, prev, kept, next_at, next_place);
+            next_at = field.end();
+            next_place = field.place + 1;
+        }
+        (next_at, next_place)
     }
 }
 

@@ -74,5 +74,6 @@ pub returns : goal.returns
 returns c plan is =
     let done = laying-all c.args.layout.now.starts c.args.self.candidates.items (into_iter_items c.loop-candidate.candidate-iterator) c.loop-candidate.fields.items c.loop-candidate.saved
     (sym c.loop-candidate.invariant.0 ∙ c.in-None.ensures.steps.0) c.loop-candidate.invariant.1 in
-    packing-for c.args.self c.args.layout.now plan is c.loop-candidate.fields.items c.loop-candidate.saved done c.new.result (ap (λ (v : Vec StateField Global). v.items) c.new.ensures.fields)
-    (c.new.ensures.region_size ∙ c.size-size.ensures.all) (c.new.ensures.size ∙ ap (λ n. n - c.loop-candidate.saved) c.size-size.ensures.all)
+    packing-for c.args.self c.args.layout.now plan is c.loop-candidate.fields.items c.loop-candidate.saved done c.in_ok-packing.packing
+    (ap (λ (v : Vec StateField Global). v.items) (c.in_ok-packing.ensures.fields ∙ c.new.ensures.fields)) (c.in_ok-packing.ensures.region_size ∙ (c.new.ensures.region_size ∙ c.size-size.ensures.all))
+    (c.in_ok-packing.ensures.size ∙ (c.new.ensures.size ∙ ap (λ n. n - c.loop-candidate.saved) c.size-size.ensures.all))

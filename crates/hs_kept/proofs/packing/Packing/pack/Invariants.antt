@@ -1,11 +1,12 @@
-use Rattle.std.proofs.Common.{◌≡◌, drop, length}
-use Rattle.hs_kept.specs.StateFields.{AreFieldsApart}
-use Rattle.hs_kept.proofs.CopyLemmas.{IsPackedUpTo}
+use Rattle.std.proofs.Common.{◌-◌, ◌≤◌, length}
+use Rattle.hs_kept.specs.Groups.{IsPackedTo}
 use Rattle.hs_kept.proofs.packing.Packing.pack.Given as goal
 
-abbrev pub invariant-loop-field : goal.invariant-loop-field
-invariant-loop-field l = record {
-  len : length l.kept ≡ l.self.size;
-  apart : AreFieldsApart (drop l.field-index l.self.fields.items) l.at l.place l.self.region_size l.self.size;
-  packed : IsPackedUpTo l.self.fields.items (drop l.field-index l.self.fields.items) l.at l.place l.region l.prev l.kept;
+abbrev pub invariant-loop-first : goal.invariant-loop-first
+invariant-loop-first l = record {
+  within : l.first ≤ length l.self.fields.items;
+  so_far : IsPackedTo l.self l.region l.prev l.first l.at l.place l.kept;
 }
+
+abbrev pub decreases-loop-first : goal.decreases-loop-first
+decreases-loop-first l = length l.self.fields.items - l.first

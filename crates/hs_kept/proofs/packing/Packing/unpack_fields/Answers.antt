@@ -1,0 +1,28 @@
+use Rattle.std.proofs.Common.{refl, arith}
+use Rattle.hs_kept.specs.StateFields.{IsNextField}
+use Rattle.hs_kept.proofs.FieldLemmas.{next-item}
+use Rattle.hs_kept.proofs.GroupLemmas.{left-next, unpacked-more}
+use Rattle.hs_kept.proofs.packing.Packing.unpack_fields.Goals as goal
+
+pub unpack_field-requires-clause-next : goal.unpack_field-requires-clause-next
+unpack_field-requires-clause-next c =
+    let fs = c.args.self.now.fields.items in
+    next-item fs fs c.loop-number.number c.index-field.result.now refl (omega (arith, c.loop-number-test.true, c.requires.within)) c.index-field.ensures c.loop-number.next_at c.loop-number.next_place _ _ _ _
+    c.loop-number.invariant.len c.requires.kept c.loop-number.invariant.left.apart
+
+pub end-next_at-requires : goal.end-next_at-requires
+end-next_at-requires c =
+    let next : IsNextField c.index-field.result.now c.loop-number.next_at c.loop-number.next_place c.args.self.now.region_size c.args.self.now.size =
+    left-next c.args.self.now c.loop-number.number c.index-field.result.now c.loop-number.next_at c.loop-number.next_place (omega (arith, c.loop-number-test.true, c.requires.within)) c.index-field.ensures c.loop-number.invariant.left in
+    record { small = omega (arith, next.within, c.args.self.now.region_small) }
+
+pub overflow_add-next_place : goal.overflow_add-next_place
+overflow_add-next_place c =
+    let next : IsNextField c.index-field.result.now c.loop-number.next_at c.loop-number.next_place c.args.self.now.region_size c.args.self.now.size =
+    left-next c.args.self.now c.loop-number.number c.index-field.result.now c.loop-number.next_at c.loop-number.next_place (omega (arith, c.loop-number-test.true, c.requires.within)) c.index-field.ensures c.loop-number.invariant.left in
+    omega (arith, next.place_within, c.args.self.now.small)
+
+pub loop-number-preserved : goal.loop-number-preserved
+loop-number-preserved c =
+    unpacked-more c.args.self.now c.args.kept.now c.loop-number.region c.unpack_field.new.region c.loop-number.number c.index-field.result.now c.loop-number.next_at c.loop-number.next_place _ _
+    (omega (arith, c.loop-number-test.true, c.requires.within)) c.index-field.ensures c.end-next_at.ensures refl c.unpack_field.ensures.len c.unpack_field.ensures.made c.loop-number.invariant
