@@ -31,3 +31,4 @@ pub mod SoundLemmas
 pub mod RunLemmas
 mod WakeRowLemmas
 mod PackingLemmas
+pub mod CopiedLemmas

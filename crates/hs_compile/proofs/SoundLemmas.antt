@@ -7,7 +7,7 @@ use Rattle.std.proofs.lemmas.Option.{same_Some, slice_get_within}
 use Rattle.hs_base.specs.Chains.{Piece}
 use Rattle.hs_base.specs.Regions.{place_size}
 use Rattle.hs_layout.specs.Layouts.{AreApart, Laid, laid_size}
-use Rattle.hs_nodes.specs.Graphs.{AreTerminalsSound, FitsLayout, IsCopySound, IsGraphSound}
+use Rattle.hs_nodes.specs.Graphs.{AreCopiesByNode, AreTerminalsSound, FitsLayout, IsCopySound, IsGraphSound}
 use Rattle.hs_nodes.specs.Graphs as nodes
 use Rattle.hs_nodes.specs.Resting.{AreEnginesIdle}
 use Rattle.hs_nodes.specs.Waking.{AreRowsSound, AreWakesSound}
@@ -154,8 +154,8 @@ module _ (t : Tables) (entries : List Asked) (chains : List (List (List Piece)))
           apart = copied-apart;
         }
 
-  fits-layout : FitsLayout graph l
-  fits-layout = record {
+  fits-layout : AreCopiesByNode graph.copies.items (length graph.table.nodes.items) graph.node_copies → FitsLayout graph l
+  fits-layout by_node = record {
     apart = apart;
     order = in-order;
     behind = behind-header;
@@ -165,6 +165,8 @@ module _ (t : Tables) (entries : List Asked) (chains : List (List (List Piece)))
     few_identifiers = omega (arith, ap (λ (x : Laid). x.identifiers) laid.laid, is.identifiers.few, is.few_entries);
     copies = copy-sound;
     rising = g.nodes.copies_rising;
+    by_node = by_node;
+    in_turn = in-turn;
   }
 
   known-terminal : (i : ℕ) (x : Terminal) → slice_get graph.terminals.items i ≡ Some x → (x.identifier < length graph.identifiers.items) × (x.node < length nodes_are + 1)
@@ -191,13 +193,14 @@ module _ (t : Tables) (entries : List Asked) (chains : List (List (List Piece)))
     of_node = λ k below. of-node graph.terminal_starts.items graph.terminals.items k g.by_node (omega (arith, below, g.start_count));
   }
 
-  pub graph-sound : length t.literals < 2 ^ 32 → AreWakesSound graph.table.nodes.items graph.wakes (length t.literals) → AreRowsSound piece_meaning graph.table graph.wakes → AreEnginesIdle piece_meaning graph.table.engines.items → IsGraphSound piece_meaning graph t.literals l
-  graph-sound few wakes rows idle = record {
+  pub graph-sound : length t.literals < 2 ^ 32 → AreWakesSound graph.table.nodes.items graph.wakes (length t.literals) → AreRowsSound piece_meaning graph.table graph.wakes → AreEnginesIdle piece_meaning graph.table.engines.items → AreCopiesByNode graph.copies.items (length graph.table.nodes.items) graph.node_copies →
+      IsGraphSound piece_meaning graph t.literals l
+  graph-sound few wakes rows idle by_node = record {
     table = table-sound;
     few = g.few;
     few_literals = few;
     short = (ready t entries chains is).short;
-    fits = fits-layout;
+    fits = fits-layout by_node;
     terminals = terminals-sound;
     wakes = wakes;
     rows = rows;

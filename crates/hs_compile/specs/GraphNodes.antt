@@ -1,6 +1,6 @@
 -- The nodes of roles: the node of a role is that of the keys of its chain up to it.
 use Rattle.std.specs.Prelude.{◌≡◌, ◌+◌, ◌<◌, ◌≤◌, ℕ, suc, true, false, List, [], ◌∷◌, ◌++◌, length, Option, Some, None}
-use Rattle.std.specs.Prelude.{slice_get, slice_index}
+use Rattle.std.specs.Prelude.{map, slice_get, slice_index}
 use Rattle.hs_layout.specs.Layouts.{Laid}
 use Rattle.hs_nodes.specs.declared.graph.FieldCopy.{FieldCopy}
 use Rattle.hs_nodes.specs.declared.table.Node.{Node}
@@ -89,6 +89,17 @@ AreRisingCopies copies =
     slice_get copies i ≡ Some a →
     slice_get copies j ≡ Some b →
     a.field < b.field
+
+-- the nodes that the copies are of
+abbrev pub nodes_copied : List FieldCopy → List (Option ℕ)
+nodes_copied copies = map (λ copy. Some copy.node) copies
+
+-- which are there
+abbrev pub AreCopiedNodesThere : NodeLists → Type 0
+AreCopiedNodesThere lists =
+    (i : ℕ) (copy : FieldCopy) →
+    slice_get lists.copies.items i ≡ Some copy →
+    copy.node < length lists.nodes.items
 
 -- The nodes are those of all roles, but of those that look back, each in the order of its first role.
 pub record AreNodes (t : Tables) (l : Laid) (paths : List (List ℕ)) (owned : List ℕ) (nodes : List Node)

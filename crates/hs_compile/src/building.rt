@@ -12,13 +12,13 @@ ghost use Rattle.hs_rose.specs.PieceEngines.{piece_meaning};
 use crate::graph_numbers::graph_number;
 use crate::graph_terminals::ChainEnds;
 use crate::graph_wakes::wake_table;
-use crate::node_lists::NodeLists;
+use crate::node_lists::{NodeLists, copies_by_node};
 use crate::step::Step;
 use crate::steps::Steps;
 use hs_base::LitByte;
 use hs_forest::Forest;
 use hs_layout::Layout;
-use hs_nodes::{Graph, NodeTable, WakeTable, idle_engines};
+use hs_nodes::{Graph, NodeCopies, NodeTable, WakeTable, idle_engines};
 use hs_reports::Identifier;
 use hs_rose::{PieceEngine, Program};
 use std::alloc::{AllocError, Global};
@@ -92,10 +92,12 @@ fn graph_of(
     parts: GraphParts,
     program: Program,
     identifiers: Vec<Identifier>,
+    node_copies: NodeCopies,
     wakes: WakeTable,
 ) -> (Graph<PieceEngine>, Vec<Vec<LitByte>>)
     requires { identifiers.items ≡ map same_identifier program.identifiers }
     ensures is { IsGraphOf program parts result.0 }
+    ensures node_copies { result.0.node_copies ≡ node_copies }
     ensures wakes { result.0.wakes ≡ wakes }
     ensures literals { map literal_bytes result.1.items ≡ program.literals }
 {
@@ -119,6 +121,7 @@ fn graph_of(
         terminals,
         terminal_starts: starts,
         copies,
+        node_copies,
         wakes,
     };
     (graph, literals)
@@ -148,7 +151,8 @@ pub(crate) fn build_graph(
         literals as usize,
         program.engines(),
     )?;
+    let node_copies = copies_by_node(alloc, &parts.nodes)?;
     let identifiers = report_identifiers(alloc, program.identifiers())?;
     idle_engines(alloc, program.engines())?;
-    Ok(graph_of(parts, program, identifiers, wakes))
+    Ok(graph_of(parts, program, identifiers, node_copies, wakes))
 }

@@ -2,19 +2,19 @@
 
 ghost use Rattle.std.specs.Prelude.{◌≡◌, ◌+◌, ◌<◌, ◌≤◌, ℕ, [], length, IfOk, Some, slice_get};
 ghost use Rattle.hs_compile.specs.GraphBuilding.{AreAllNodes};
-ghost use Rattle.hs_compile.specs.GraphNodes.{IsStepAdded};
+ghost use Rattle.hs_compile.specs.GraphNodes.{AreCopiedNodesThere, IsStepAdded, nodes_copied};
 ghost use Rattle.hs_compile.specs.GraphSteps.{IsForestFor};
 ghost use Rattle.hs_compile.specs.GraphTables.{IsLaidFor, IsReady};
 ghost use Rattle.hs_compile.specs.Sizes.{greatest_size};
 ghost use Rattle.hs_compile.specs.declared.step.Step.{Step};
 ghost use Rattle.hs_layout.specs.Layouts.{laid_size};
-ghost use Rattle.hs_nodes.specs.Graphs.{keeps_field};
+ghost use Rattle.hs_nodes.specs.Graphs.{AreCopiesByNode, keeps_field};
 ghost use Rattle.hs_rose.specs.Programs.{Tables};
 
 use crate::step::Step;
-use hs_forest::Forest;
+use hs_forest::{Forest, group};
 use hs_layout::Layout;
-use hs_nodes::{FieldCopy, Node, NodeKind};
+use hs_nodes::{FieldCopy, Node, NodeCopies, NodeKind};
 use std::alloc::{AllocError, Global};
 
 /// The nodes, each once for all roles that have it, and the fields of those roles that aren't the first ones.
@@ -103,4 +103,24 @@ impl NodeLists {
         }
         Ok(lists)
     }
+}
+
+/// The copies by the nodes that they are of.
+pub(crate) fn copies_by_node(alloc: Global, lists: &NodeLists) -> Result<NodeCopies, AllocError>
+    requires { AreCopiedNodesThere lists.now }
+    ensures { IfOk result (AreCopiesByNode lists.now.copies.items (length lists.now.nodes.items)) }
+{
+    let owners = copied_nodes(alloc, &lists.copies)?;
+    let groups = group(alloc, &owners, lists.nodes.len())?;
+    Ok(NodeCopies {
+        starts: groups.starts,
+        numbers: groups.list,
+    })
+}
+
+/// The nodes that the copies are of.
+fn copied_nodes(alloc: Global, copies: &[FieldCopy]) -> Result<Vec<Option<u32>>, AllocError>
+    ensures { IfOk result (λ nodes. nodes.items ≡ nodes_copied copies.now) }
+{
+    copies.iter().map(|copy| Some(copy.node)).collect(alloc)
 }

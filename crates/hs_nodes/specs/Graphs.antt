@@ -1,6 +1,6 @@
 -- Which graph of nodes runs the patterns of a plan.
 use Rattle.std.specs.Prelude.{◌≡◌, ◌↔◌, ◌⊎◌, ℕ, ◌+◌, ◌-◌, ◌^◌, ◌<◌, ◌≤◌, Bool, true, false, List, [], ◌∷◌, ◌++◌}
-use Rattle.std.specs.Prelude.{length, map, Some, slice_get, slice_index, slice_range}
+use Rattle.std.specs.Prelude.{suc, length, map, Some, slice_get, slice_index, slice_range}
 use Rattle.hs_base.specs.Chains.{Piece, piece_tree}
 use Rattle.hs_base.specs.KeptPieces.{Form, nothing, positions, literal, first, last, ring, form_size, IsFieldAt, Says}
 use Rattle.hs_base.specs.LeavingLaws.{HasSpansOfChains}
@@ -13,7 +13,7 @@ use Rattle.hs_engine.specs.Engines.{Meaning}
 use Rattle.hs_layout.specs.Layouts.{AreApart, Laid, laid_size, layout_of}
 use Rattle.hs_nodes.specs.Resting.{AreEnginesIdle}
 use Rattle.hs_nodes.specs.Waking.{AreRowsSound, AreWakesSound}
-use Rattle.hs_nodes.specs.Walks.{AreNodesOf, IsTableSound}
+use Rattle.hs_nodes.specs.Walks.{AreNodesOf, IsAmongChildren, IsTableSound}
 use Rattle.hs_nodes.specs.declared.table.Node.{Node}
 use Rattle.hs_nodes.specs.declared.table.NodeKind.{NodeKind}
 use Rattle.hs_nodes.specs.declared.table.NodeKind.TheVariants.{Engine, Literal, FirstLiteral, LookBack}
@@ -23,6 +23,7 @@ pub use Rattle.hs_reports.specs.Identifiers.{singles_of, with_single}
 use Rattle.hs_reports.specs.Terminals.{AreTerminals}
 use Rattle.hs_reports.specs.declared.identifier.Identifier.{Identifier}
 use Rattle.hs_nodes.specs.declared.graph.FieldCopy.{FieldCopy}
+use Rattle.hs_nodes.specs.declared.graph.NodeCopies.{NodeCopies}
 use Rattle.hs_nodes.specs.declared.graph.Graph.{Graph}
 
 -- something is kept of a piece of that form
@@ -115,6 +116,14 @@ module _ {E : Type 0} (meaning : E → Meaning) (graph : Graph E) where
     pub roles : (role : ℕ) (p : Place) → slice_get (list_places plan) role ≡ Some p →
         keeps (place_form p) ≡ true → HasNode plan pieces role p
 
+-- The numbers of the copies of so many nodes stand by node: those of each between two starts.
+pub record AreCopiesByNode (copies : List FieldCopy) (count : ℕ) (by_node : NodeCopies) : Type 0 where
+  pub count_is : length by_node.starts.items ≡ suc count
+  pub within : (k : ℕ) → k < count → slice_index by_node.starts.items (suc k) ≤ length by_node.numbers.items
+  pub there : (i : ℕ) → i < length by_node.numbers.items → slice_index by_node.numbers.items i < length copies
+  pub among : (i : ℕ) (copy : FieldCopy) → slice_get copies i ≡ Some copy →
+      IsAmongChildren by_node.starts.items by_node.numbers.items copy.node i
+
 module _ {E : Type 0} (graph : Graph E) where
   -- The copy names a node and a field that are there, of one size, and no node keeps a byte of the field.
   pub record IsCopySound (l : Laid) (copy : FieldCopy) : Type 0 where
@@ -126,7 +135,8 @@ module _ {E : Type 0} (graph : Graph E) where
     pub apart : (k : ℕ) (other : Node) → slice_get graph.table.nodes.items k ≡ Some other →
         (other.end ≤ slice_index l.starts copy.field) ⊎ (slice_index l.starts (copy.field + 1) ≤ other.start)
 
-  -- What the graph keeps fits regions of that layout: what nodes keep lies behind the header, and copies rise.
+  -- What the graph keeps fits regions of that layout: what nodes keep lies behind the header in their order, and
+  -- copies rise.
   pub record FitsLayout (l : Laid) : Type 0 where
     pub apart : AreApart l
     pub order : (k : ℕ) (node : Node) → slice_get graph.table.nodes.items k ≡ Some node → node.start ≤ node.end
@@ -139,6 +149,9 @@ module _ {E : Type 0} (graph : Graph E) where
     pub copies : (i : ℕ) (copy : FieldCopy) → slice_get graph.copies.items i ≡ Some copy → IsCopySound l copy
     pub rising : (i j : ℕ) (a b : FieldCopy) → i < j → slice_get graph.copies.items i ≡ Some a →
         slice_get graph.copies.items j ≡ Some b → a.field < b.field
+    pub by_node : AreCopiesByNode graph.copies.items (length graph.table.nodes.items) graph.node_copies
+    pub in_turn : (j k : ℕ) (a b : Node) → j < k → slice_get graph.table.nodes.items j ≡ Some a →
+        slice_get graph.table.nodes.items k ≡ Some b → a.end ≤ b.start
 
   -- The terminals name identifiers and nodes that are there, and lie by node.
   pub record AreTerminalsSound : Type 0 where

@@ -15,6 +15,15 @@ pub struct FieldCopy {
     pub field: u32,
 }
 
+/// Copies by the nodes that they are of.
+#[derive(Drop)]
+pub struct NodeCopies {
+    /// Where in the list those of each node begin; behind these, where the last one's end.
+    pub starts: Vec<u32>,
+    /// The numbers of all copies.
+    pub numbers: Vec<u32>,
+}
+
 /// The graph that runs a list: a node for each beginning of a chain, and what tells where matches end.
 #[derive(Drop)]
 pub struct Graph<E> {
@@ -29,6 +38,8 @@ pub struct Graph<E> {
     pub terminal_starts: Vec<u32>,
     /// The fields that are the same as a node's, by rising field: a node keeps its bytes in one field alone.
     pub copies: Vec<FieldCopy>,
+    /// The same copies by node.
+    pub node_copies: NodeCopies,
     /// The nodes that a chunk may wake.
     pub wakes: WakeTable,
 }

@@ -1,6 +1,6 @@
 //! Nodes in which something is live: the bytes of a region tell, and those that are 0 are passed over eight at a time.
 
-ghost use Rattle.std.specs.Prelude.{◌≡◌, ◌<◌, ◌≤◌, ℕ, List, IfOk, Some, true, false, length, slice_get};
+ghost use Rattle.std.specs.Prelude.{◌≡◌, ◌+◌, ◌<◌, ◌≤◌, ℕ, List, IfOk, Some, true, false, length, slice_get};
 ghost use Rattle.std.specs.Slice.Scan.{HoldsNowhere};
 ghost use Rattle.hs_bits.specs.NextBits.{IsNextBitIn};
 ghost use Rattle.hs_nodes.specs.Living.{AreInTurn, IsAround, is_live};
@@ -17,6 +17,9 @@ use std::alloc::{AllocError, Global};
 
 /// How many bytes are looked at together.
 const WORD_BYTES: usize = 8;
+
+/// How many bytes are passed over together, four words.
+const SPAN_BYTES: usize = 4 * WORD_BYTES;
 
 /// Sees to it that the engine's region of the empty stream is all 0. The only error is want of memory.
 fn idle_engine<E: Engine>(alloc: Global, engine: &E) -> Result<(), AllocError>
@@ -40,6 +43,34 @@ pub fn idle_engines<E: Engine>(alloc: Global, engines: &[E]) -> Result<(), Alloc
     Ok(())
 }
 
+/// Whether the next four words from a place on are 0.
+#[inline]
+fn is_zero_span(bytes: &[u8], at: usize) -> bool
+    requires { at + 32 ≤ length bytes.now }
+    ensures { result ≡ true → HoldsNowhere (is_live bytes.now) at (at + 32) }
+{
+    word_at(bytes, at) == 0
+        && word_at(bytes, at + WORD_BYTES) == 0
+        && word_at(bytes, at + 2 * WORD_BYTES) == 0
+        && word_at(bytes, at + 3 * WORD_BYTES) == 0
+}
+
+/// A place up to which all bytes from `from` on are 0: behind it fewer than 32 are left, or one of the next 32 is not
+/// 0.
+#[inline]
+fn pass_spans(bytes: &[u8], from: usize) -> usize
+    requires { from ≤ length bytes.now }
+    ensures low { from ≤ result }
+    ensures high { result ≤ length bytes.now }
+    ensures zero { HoldsNowhere (is_live bytes.now) from result }
+{
+    let mut at = from;
+    while SPAN_BYTES <= bytes.len() - at && is_zero_span(bytes, at) {
+        at += SPAN_BYTES;
+    }
+    at
+}
+
 /// A place up to which all bytes from `from` on are 0: behind it fewer than eight are left, or one of the next eight is
 /// not 0.
 fn pass_zeros(bytes: &[u8], from: usize) -> usize
@@ -48,7 +79,7 @@ fn pass_zeros(bytes: &[u8], from: usize) -> usize
     ensures high { result ≤ length bytes.now }
     ensures zero { HoldsNowhere (is_live bytes.now) from result }
 {
-    let mut at = from;
+    let mut at = pass_spans(bytes, from);
     while WORD_BYTES <= bytes.len() - at && word_at(bytes, at) == 0 {
         at += WORD_BYTES;
     }
@@ -70,7 +101,7 @@ pub fn next_live(bytes: &[u8], from: usize) -> Option<usize>
 
 /// The first node from `from` on that doesn't end up to the place, where nodes end in their order; or how many there
 /// are. It looks at the next nodes first, then farther and farther on.
-fn node_around(nodes: &[Node], from: usize, place: usize) -> usize
+pub fn node_around(nodes: &[Node], from: usize, place: usize) -> usize
     requires from { from ≤ length nodes.now }
     requires turn { (size : ℕ) × AreInTurn nodes.now size }
     ensures { IsAround nodes.now from place result }

@@ -109,7 +109,7 @@ fn run_node<E: BlockEngine, L: Ledger>(
 }
 
 /// The number at that place of a list.
-pub(crate) fn start_of(starts: &[u32], k: usize) -> usize
+pub fn start_of(starts: &[u32], k: usize) -> usize
     requires { k < length starts.now }
     ensures { result ≡ slice_index starts.now k }
 {

@@ -1,7 +1,6 @@
 -- Fields are copied one after the other.
-use Rattle.std.proofs.Common.{◌≡◌, ℕ, ◌+◌, ◌-◌, ◌<◌, ◌≤◌, List, length, get_or, Some, slice_get, refl, sym, ap, subst, ◌∙◌, inl, inr, arith}
+use Rattle.std.proofs.Common.{◌≡◌, ℕ, ◌+◌, ◌-◌, ◌<◌, ◌≤◌, List, length, get_or, Some, slice_get, sym, ap, subst, ◌∙◌, inl, inr, arith}
 use Rattle.std.specs.Prelude.{slice_index, slice_range}
-use Rattle.std.proofs.lemmas.Bool.{cases_eq}
 use Rattle.std.proofs.lemmas.Option.{same_Some}
 use Rattle.hs_base.specs.Regions.{fields_at}
 use Rattle.hs_base.proofs.BitLemmas.{same-places}
@@ -9,7 +8,7 @@ use Rattle.hs_base.proofs.RegionLemmas.{get-range, range-size}
 use Rattle.hs_layout.specs.Layouts.{AreApart, Laid, field_bytes, laid_size}
 use Rattle.hs_nodes.specs.Walks.{node_part}
 use Rattle.hs_nodes.specs.declared.table.Node.{Node}
-use Rattle.hs_scan.specs.Copying.{AreFieldsCopied, IsFieldCopied}
+use Rattle.hs_scan.specs.Copying.{IsFieldCopied}
 use Rattle.hs_nodes.specs.Graphs.{FitsLayout, IsCopySound}
 use Rattle.hs_nodes.specs.declared.graph.FieldCopy.{FieldCopy}
 use Rattle.hs_nodes.specs.declared.graph.Graph.{Graph}
@@ -36,48 +35,14 @@ module _ {E : Type 0} (graph : Graph E) (l : Laid) (fits : FitsLayout graph l) w
   abbrev laid : AreApart l
   laid = fits.apart
 
-  field-order : (k : ℕ) → k + 1 < length l.starts → slice_index l.starts k ≤ slice_index l.starts (k + 1)
+  pub field-order : (k : ℕ) → k + 1 < length l.starts → slice_index l.starts k ≤ slice_index l.starts (k + 1)
   field-order k there = laid.rising k (k + 1) (omega arith) there
 
-  field-within : (k : ℕ) → k + 1 < length l.starts → slice_index l.starts (k + 1) ≤ laid_size l
+  pub field-within : (k : ℕ) → k + 1 < length l.starts → slice_index l.starts (k + 1) ≤ laid_size l
   field-within k there = laid.rising (k + 1) (length l.starts - 1) (omega (arith, there)) (omega (arith, laid.some))
 
-  field-behind : (k : ℕ) → k + 1 < length l.starts → fields_at l.singles l.identifiers ≤ slice_index l.starts k
+  pub field-behind : (k : ℕ) → k + 1 < length l.starts → fields_at l.singles l.identifiers ≤ slice_index l.starts k
   field-behind k there = let first : slice_index l.starts 0 ≤ slice_index l.starts k = laid.rising 0 k (omega arith) (omega (arith, there)) in omega (arith, first, laid.first)
-
-  pub copied-none : (region : List ℕ) → AreFieldsCopied graph l 0 region region
-  copied-none region = record { len = refl; copied = λ i copy node below at there. absurd (omega arith); nodes = λ k node at. refl; header = λ i below. refl }
-
-  module _ (n : ℕ) (copy : FieldCopy) (old mid new : List ℕ) (at : slice_get graph.copies.items n ≡ Some copy) (size : length old ≡ laid_size l) (is : IsFieldCopied graph l copy mid new) (are : AreFieldsCopied graph l n old mid) where
-    own : IsCopySound graph l copy
-    own = fits.copies n copy at
-
-    node-stays : (k : ℕ) (node : Node) → slice_get graph.table.nodes.items k ≡ Some node → node_part new node ≡ node_part mid node
-    node-stays k node there =
-        range-same new mid node.start node.end is.len (fits.order k node there) (let w : node.end ≤ laid_size l = fits.within k node there in omega (arith, w, is.len, are.len, size))
-        (λ i low high. is.outside i (elim (own.apart k node there) [ inl before ↦ inl (omega (arith, before, high)) | inr behind ↦ inr (omega (arith, behind, low)) ]))
-
-    pub copied-more : AreFieldsCopied graph l (n + 1) old new
-    copied-more = record {
-      len = is.len ∙ are.len;
-      copied = λ i other node below at' there. elim (cases_eq i n) [
-        | inl same ↦
-            let one : copy ≡ other = same_Some copy other (sym at ∙ (ap (slice_get graph.copies.items) (sym same) ∙ at')) in
-            subst (λ f. field_bytes l new f.field ≡ node_part new node) one
-            (is.same node (subst (λ f. slice_get graph.table.nodes.items f.node ≡ Some node) (sym one) there) ∙ sym (node-stays other.node node there))
-        | inr apart ↦
-            let less : i < n = omega (arith, below, apart) in
-            let early : other.field < copy.field = fits.rising i n other copy less at' at in
-            let there_own = (fits.copies i other at').within in
-            let order : slice_index l.starts (other.field + 1) ≤ slice_index l.starts copy.field = laid.rising (other.field + 1) copy.field (omega (arith, early)) (omega (arith, own.within)) in
-            let within : slice_index l.starts (other.field + 1) ≤ laid_size l = field-within other.field there_own in
-            range-same new mid (slice_index l.starts other.field) (slice_index l.starts (other.field + 1)) is.len (field-order other.field there_own) (omega (arith, within, is.len, are.len, size))
-            (λ j low high. is.outside j (inl (omega (arith, high, order))))
-            ∙ (are.copied i other node less at' there ∙ sym (node-stays other.node node there))
-      ];
-      nodes = λ k node there. node-stays k node there ∙ are.nodes k node there;
-      header = λ i below. is.outside i (inl (let f : fields_at l.singles l.identifiers ≤ slice_index l.starts copy.field = field-behind copy.field own.within in omega (arith, f, below))) ∙ are.header i below;
-    }
 
   -- one copy
   pub field-copied : (copy : FieldCopy) (node : Node) (old new : List ℕ) (place : ℕ) → IsCopySound graph l copy → slice_get graph.table.nodes.items copy.node ≡ Some node → length old ≡ laid_size l → length new ≡ length old → place ≡ slice_index l.starts copy.field →
@@ -97,23 +62,3 @@ module _ {E : Type 0} (graph : Graph E) (l : Laid) (fits : FitsLayout graph l) w
             (λ i low. let e : slice_index l.starts copy.field + i ≡ place + i = omega (arith, at_place) in ap (λ n. get_or new n 0) e ∙ here i (omega (arith, low, same))));
         outside = λ i out. elim out [ inl low ↦ below i (omega (arith, low, at_place)) | inr high ↦ from i (omega (arith, high, at_place, same, order)) ];
       }
-
-  -- where all bytes of fields are 0, all copies are made
-  pub copied-zeros : (region : List ℕ) → length region ≡ laid_size l → ((i : ℕ) → fields_at l.singles l.identifiers ≤ i → i < length region → get_or region i 0 ≡ 0) → AreFieldsCopied graph l (length graph.copies.items) region region
-  copied-zeros region size zeros = record {
-    len = refl;
-    copied = λ i copy node below at there.
-        let own = fits.copies i copy at in
-        let one : own.node ≡ node = same_Some own.node node (sym own.there ∙ there) in
-        let same : node.end - node.start ≡ slice_index l.starts (copy.field + 1) - slice_index l.starts copy.field = subst (λ z. z.end - z.start ≡ slice_index l.starts (copy.field + 1) - slice_index l.starts copy.field) one own.same in
-        let order = field-order copy.field own.within in
-        let within : slice_index l.starts (copy.field + 1) ≤ laid_size l = field-within copy.field own.within in
-        let first : fields_at l.singles l.identifiers ≤ slice_index l.starts copy.field = field-behind copy.field own.within in
-        let order' : node.start ≤ node.end = fits.order copy.node node there in
-        let within' : node.end ≤ laid_size l = fits.within copy.node node there in
-        let behind : fields_at l.singles l.identifiers ≤ node.start = fits.behind copy.node node there in
-        ranges-same region region (slice_index l.starts copy.field) (slice_index l.starts (copy.field + 1)) node.start node.end order (omega (arith, within, size)) order' (omega (arith, within', size)) (sym same)
-        (λ j low. zeros (slice_index l.starts copy.field + j) (omega (arith, first)) (omega (arith, low, order, within, size)) ∙ sym (zeros (node.start + j) (omega (arith, behind)) (omega (arith, low, same, order', within', size))));
-    nodes = λ k node there. refl;
-    header = λ i below. refl;
-  }

@@ -16,3 +16,4 @@ pub mod FeedLemmas
 pub mod FinishLemmas
 pub mod TickLemmas
 pub mod WakingLemmas
+pub mod MadeLemmas

@@ -2,6 +2,7 @@ use Rattle.std.proofs.Common.{◌≡◌, length, ap, sym, subst, ◌∙◌, arit
 use Rattle.std.proofs.lemmas.List.{length-map}
 use Rattle.hs_base.specs.LiteralView.{literal_bytes}
 use Rattle.hs_compile.proofs.GraphLemmas.{graph-is}
+use Rattle.hs_compile.proofs.CopiedLemmas.{copied-there, copies-same}
 use Rattle.hs_compile.proofs.JoinLemmas.{ready}
 use Rattle.hs_compile.proofs.RunLemmas.{runs-plan}
 use Rattle.hs_nodes.specs.Resting.{AreEnginesIdle}
@@ -42,3 +43,7 @@ returns-clause-sound c =
     (wakes-same c.deref.result.now graph.table.nodes.items c.in_ok-literals.literals (length t.literals) c.in_ok-wakes.wakes graph.wakes (c.deref.ensures.value ∙ sym is.is.nodes) (sym is.wakes) count c.in_ok-wakes.ensures.sound)
     (rows-same c.deref.result.now graph.table.nodes.items _ graph.table.engines.items c.in_ok-wakes.wakes graph.wakes (c.deref.ensures.value ∙ sym is.is.nodes) (c.engines.ensures ∙ sym is.is.engines) (sym is.wakes) c.in_ok-wakes.ensures.rows)
     (subst (λ es. AreEnginesIdle piece_meaning es) (c.engines-2.ensures ∙ sym is.is.engines) c.in_ok-idle_engines.ensures)
+    (copies-same c.in_ok-parts.parts.nodes graph c.in_ok-node_copies.node_copies is.is.nodes is.is.copies is.node_copies c.in_ok-node_copies.ensures)
+
+pub copies_by_node-requires : goal.copies_by_node-requires
+copies_by_node-requires c = copied-there c.args.program c.args.layout.now c.in_ok-parts.parts c.in_ok-parts.ensures
