@@ -1,0 +1,9 @@
+pub mod FlagLemmas
+pub mod StepLemmas
+pub mod FollowLemmas
+pub mod TableLemmas
+pub mod BlankLemmas
+pub mod RunLemmas
+pub mod PoolLemmas
+pub mod AsleepLemmas
+pub mod PathLemmas
