@@ -14,8 +14,10 @@ use Rattle.hs_block.specs.declared.streams.Streams.{Streams}
 use Rattle.hs_engine.specs.Engines.{Meaning}
 use Rattle.hs_lazy.specs.declared.engine.ByteEnds.{ByteEnds}
 use Rattle.hs_lazy.specs.Runs.{TakesEntered}
-use Rattle.hs_limex.specs.Anywhere.{TakesAnywhere, TellsAnywhere}
+use Rattle.hs_limex.specs.Anywhere.{TakesAnywhere, TakesAnywhereBy, TellsAnywhere}
 use Rattle.hs_limex.specs.LimexEngines.{moves_of_limex}
+use Rattle.hs_pool.specs.declared.engine.StepEnds.{StepEnds}
+use Rattle.hs_pool.specs.Steps.{TakesStep}
 use Rattle.hs_rose.specs.declared.positions.PositionEngine.{PositionEngine}
 use Rattle.hs_rose.specs.Streaming.{TellsMoves}
 
@@ -56,5 +58,24 @@ byte-taken m old new prev behind byte before_set behind_set ends tells well take
                 (as-ended (λ w es. (ends.before ≡ true) ↔ Leaves tree w es (class_of byte)) u entered
                 (subst (λ b. (b ≡ true) ↔ Leaves tree u entered (class_of byte)) (sym before_told) left));
             behind_is = only-place _ (subst (λ b. (b ≡ true) ↔ Leaves tree (u ++ byte ∷ []) (entered ++ true ∷ []) after.Unknown) (sym behind_told) left');
+          };
+    }
+
+-- So is one before which the expression is entered or not.
+pub step-taken : (m : Meaning) (old new : List ℕ) (prev behind : Prev) (enters : Bool) (byte : ℕ) (before_set behind_set : NextSet) (ends : StepEnds) → TellsAnywhere m old prev before_set →
+    ((at : ℕ) → m.well new at) → TakesAnywhereBy m old new prev enters byte → TellsAnywhere m new behind behind_set → behind ≡ prev_by (eqb byte line_feed) (is_word_byte byte) →
+    ends.before ≡ has_next before_set (class_of byte) → ends.behind ≡ has_next behind_set after.Unknown → TakesStep m old new prev enters byte ends
+step-taken m old new prev behind enters byte before_set behind_set ends tells well takes tells' behind_is before_told behind_told =
+    record {
+      well = well;
+      takes = λ tree u entered is count prev_is field.
+          let field' = takes tree u entered is count prev_is field in
+          let count' : length (entered ++ enters ∷ []) ≡ length (u ++ byte ∷ []) = omega (arith, count, length-append entered (enters ∷ []), length-append u (byte ∷ [])) in
+          let left = tells tree u entered is count prev_is field (class_of byte) in
+          let left' = tells' tree (u ++ byte ∷ []) (entered ++ enters ∷ []) is count' (behind_is ∙ sym (prev-push u byte)) field' after.Unknown in
+          record {
+            field = field';
+            before_is = subst (λ b. (b ≡ true) ↔ Leaves tree u entered (class_of byte)) (sym before_told) left;
+            behind_is = subst (λ b. (b ≡ true) ↔ Leaves tree (u ++ byte ∷ []) (entered ++ enters ∷ []) after.Unknown) (sym behind_told) left';
           };
     }

@@ -8,6 +8,7 @@ use hs_base::{ByteSet, NextSet, Prev};
 use hs_block::{BlockEnds, BlockEngine, run_by_steps};
 use hs_engine::{Engine, Steps};
 use hs_lazy::{ByteEnds, TimelessEngine};
+use hs_pool::{PooledEngine, StepEnds};
 use hs_repeat::{First, Last, Ring};
 use hs_waking::Beginnings;
 use std::sync::ledger::Ledger;
@@ -181,6 +182,15 @@ impl TimelessEngine for PieceEngine {
     fn take_byte(&self, region: &mut [u8], prev: Prev, byte: u8) -> Option<ByteEnds> {
         match self {
             PieceEngine::Positions(positions) => positions.take_byte(region, prev, byte),
+            PieceEngine::First(_) | PieceEngine::Last(_) | PieceEngine::Ring(_) => None,
+        }
+    }
+}
+
+impl PooledEngine for PieceEngine {
+    fn take_step(&self, region: &mut [u8], prev: Prev, enters: bool, byte: u8) -> Option<StepEnds> {
+        match self {
+            PieceEngine::Positions(positions) => positions.take_step(region, prev, enters, byte),
             PieceEngine::First(_) | PieceEngine::Last(_) | PieceEngine::Ring(_) => None,
         }
     }

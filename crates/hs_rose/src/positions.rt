@@ -21,6 +21,7 @@ use hs_block::{BlockEnds, BlockEngine, Streams, run_by_steps};
 use hs_engine::{Automaton, Engine, Steps, first_bytes};
 use hs_lazy::{ByteEnds, TimelessEngine};
 use hs_limex::Limex;
+use hs_pool::{PooledEngine, StepEnds};
 use hs_waking::{BeginningRows, Beginnings, PrevSet, behind_of, rows_of};
 use std::alloc::{AllocError, Global};
 use std::sync::ledger::Ledger;
@@ -62,6 +63,7 @@ impl PositionEngine {
     ghost use Rattle.hs_engine.specs.Tables.{Runs};
     ghost use Rattle.hs_block.specs.Blocks.{TakesBlock};
     ghost use Rattle.hs_lazy.specs.Runs.{TakesEntered};
+    ghost use Rattle.hs_pool.specs.Steps.{TakesStep};
     ghost use Rattle.hs_rose.specs.PositionEngines.{meaning_of_positions};
     ghost use Rattle.hs_waking.specs.BeginningRows.{rows_of_beginnings};
     ghost use Rattle.hs_waking.specs.EntryRows.{TellBeginnings};
@@ -149,6 +151,24 @@ impl PositionEngine {
             .contains(Next::Unknown);
         ByteEnds { before, behind }
     }
+
+    /// Takes a byte behind `prev`, before which the expression is entered or not, wherever the stream stands.
+    fn take_by(&self, region: &mut [u8], prev: Prev, enters: bool, byte: u8) -> StepEnds
+        requires len { length region.old ≡ (meaning_of_positions self.now).width }
+        ensures len { length region.new ≡ length region.old }
+        ensures takes { TakesStep (meaning_of_positions self.now) region.old region.new prev enters byte result }
+    {
+        let before = self
+            .limex
+            .leaves(region, prev)
+            .contains(Next::class_of(byte));
+        self.limex.move_by(region, prev, enters, byte);
+        let behind = self
+            .limex
+            .leaves(region, Prev::behind(byte))
+            .contains(Next::Unknown);
+        StepEnds { before, behind }
+    }
 }
 
 impl Engine for PositionEngine {
@@ -217,5 +237,11 @@ impl TimelessEngine for PositionEngine {
 
     fn take_byte(&self, region: &mut [u8], prev: Prev, byte: u8) -> Option<ByteEnds> {
         Some(self.take_entered(region, prev, byte))
+    }
+}
+
+impl PooledEngine for PositionEngine {
+    fn take_step(&self, region: &mut [u8], prev: Prev, enters: bool, byte: u8) -> Option<StepEnds> {
+        Some(self.take_by(region, prev, enters, byte))
     }
 }
