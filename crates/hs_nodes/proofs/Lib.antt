@@ -33,3 +33,4 @@ pub mod SufficeLemmas
 pub mod CachedLemmas
 pub mod ToldLemmas
 pub mod LoadLemmas
+pub mod PooledLemmas

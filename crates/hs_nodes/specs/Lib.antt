@@ -19,3 +19,4 @@ pub mod Sparing
 pub mod Turning
 pub mod Cached
 pub mod Loading
+pub mod Pooled

@@ -7,6 +7,7 @@ ghost use Rattle.hs_lazy.specs.Caches.{Told, told};
 ghost use Rattle.hs_nodes.specs.Cached.{IsToldKind, TellsNodes};
 ghost use Rattle.hs_nodes.specs.Contexts.{AreChunkContexts, NeedsContexts};
 ghost use Rattle.hs_nodes.specs.Left.{AreLeftIn, nowhere};
+ghost use Rattle.hs_nodes.specs.Pooled.{ArePooled};
 ghost use Rattle.hs_nodes.specs.Resting.{AreEnginesIdle};
 ghost use Rattle.hs_nodes.specs.Sparing.{AreQuiet, IsLiteralThere, IsSpared};
 ghost use Rattle.hs_nodes.specs.Starting.{AreStartsEnough};
@@ -21,6 +22,7 @@ ghost use Rattle.hs_nodes.specs.declared.table.Node.{Node};
 use crate::chunk::{Chunk, MAX_BLOCKS};
 use crate::contexts::make_contexts;
 use crate::ends::ChunkEnds;
+use crate::engines::Entry;
 use crate::first::everywhere;
 use crate::foretold::Foretold;
 use crate::hits::ChunkHits;
@@ -30,6 +32,7 @@ use hs_base::Prev;
 use hs_bits::{Contexts, MarkSet};
 use hs_block::BlockEngine;
 use hs_engine::Steps;
+use hs_pool::{PooledEngine, StatePool};
 use std::sync::ledger::Ledger;
 
 /// The node of that number.
@@ -61,15 +64,15 @@ fn first_number(parent: Option<u32>, k: usize) -> Option<usize>
     }
 }
 
-/// Takes a chunk by the node of that number; `all` is everywhere.
-fn run_node<E: BlockEngine, L: Ledger>(
+/// Takes a chunk by the node of that number.
+fn run_node<E: BlockEngine + PooledEngine, L: Ledger>(
     table: &NodeTable<E>,
     k: usize,
     chunk: &Chunk,
     found: &Found,
-    all: &ChunkEnds,
     region: &mut [u8],
     ends: &mut [ChunkEnds],
+    pool: &mut Option<StatePool>,
     steps: &mut Steps<L>,
 )
     requires sound { IsTableSound E.meaning table.now (length found.now.foretold.now.hits.now) (length region.old) }
@@ -80,30 +83,35 @@ fn run_node<E: BlockEngine, L: Ledger>(
     requires contexts { (node : Node) → slice_get table.now.nodes.items k ≡ Some node → NeedsContexts node.kind →
         AreChunkContexts found.now.contexts.now chunk.now.prev chunk.now.at chunk.now.bytes.now }
     requires idle { AreEnginesIdle E.meaning table.now.engines.items }
+    requires pool { ArePooled E.meaning table.now.engines.items pool.old }
     requires told { (node : Node) (t : Told) → slice_get table.now.nodes.items k ≡ Some node →
         told found.now.foretold.now.cache.now k ≡ Some t → IsToldKind E.meaning table.now.engines.items node.kind
         (node_part region.old node) chunk.now.prev chunk.now.bytes.now t }
     requires starts { AreStartsEnough E.meaning table.now found.now.foretold.now.cache.now
         found.now.foretold.now.starts.now chunk.now.prev chunk.now.bytes.now }
-    requires everywhere { (u : List ℕ) → AreLeftIn [] u chunk.now.bytes.now all.now }
+    requires everywhere { (u : List ℕ) → AreLeftIn [] u chunk.now.bytes.now found.now.all.now }
     ensures len { length region.new ≡ length region.old }
     ensures ends { length ends.new ≡ length ends.old }
+    ensures pool { ArePooled E.meaning table.now.engines.items pool.new }
     ensures ticks { (node : Node) → slice_get table.now.nodes.items k ≡ Some node →
         steps.new ≤ steps.old + most_ticks node.kind found.now.foretold.now.hits.now (length chunk.now.bytes.now) }
     ensures runs { (node : Node) → slice_get table.now.nodes.items k ≡ Some node → IsNodeRun E.meaning table.now k node
         region.old region.new chunk.now.prev chunk.now.at chunk.now.past.now chunk.now.bytes.now
-        found.now.foretold.now.hits.now all.now ends.old ends.new }
+        found.now.foretold.now.hits.now found.now.all.now ends.old ends.new }
 {
     let node = node_at(table, k);
-    let enters = entering(node.parent, all, ends);
+    let enters = entering(node.parent, found.all, ends);
     ends[k] = run_kind(
         node.kind,
         &table.engines,
         &mut region[node.start as usize..node.end as usize],
         chunk,
         found,
-        enters,
-        first_number(node.parent, k),
+        &Entry {
+            enters,
+            first: first_number(node.parent, k),
+        },
+        pool,
         steps,
     );
 }
@@ -206,14 +214,16 @@ fn mark_children<E>(
 
 /// Takes a chunk by the nodes that are marked, in their order; where a node is left, its children are marked, but for
 /// literals of which nothing comes. So those that are marked then have been run, and no other one. Of engines without a
-/// parent the cache tells what they do, or it is said where their matches may begin.
-pub fn walk<E: BlockEngine, L: Ledger>(
+/// parent the cache tells what they do, or it is said where their matches may begin. Engines of which it tells nothing
+/// go by the states that the pool has of them, if there is one.
+pub fn walk<E: BlockEngine + PooledEngine, L: Ledger>(
     table: &NodeTable<E>,
     chunk: &Chunk,
     foretold: &Foretold,
     region: &mut [u8],
     ends: &mut [ChunkEnds],
     marks: &mut MarkSet,
+    pool: &mut Option<StatePool>,
     steps: &mut Steps<L>,
 )
     requires sound { IsTableSound E.meaning table.now (length foretold.now.hits.now) (length region.old) }
@@ -225,6 +235,7 @@ pub fn walk<E: BlockEngine, L: Ledger>(
     requires rests { MayNodesRest E.meaning table.now marks.old foretold.now.hits.now region.old chunk.now.prev
         chunk.now.bytes.now }
     requires idle { AreEnginesIdle E.meaning table.now.engines.items }
+    requires pool { ArePooled E.meaning table.now.engines.items pool.old }
     requires told { TellsNodes E.meaning table.now foretold.now.cache.now region.old chunk.now.prev
         chunk.now.bytes.now }
     requires starts { AreStartsEnough E.meaning table.now foretold.now.cache.now foretold.now.starts.now chunk.now.prev
@@ -233,6 +244,7 @@ pub fn walk<E: BlockEngine, L: Ledger>(
     ensures ends { length ends.new ≡ length ends.old }
     ensures marks { AreMoreMarks (length table.now.nodes.items) marks.old marks.new }
     ensures changes { ChangesMarked E.meaning table.now marks.new region.old region.new ends.new }
+    ensures pool { ArePooled E.meaning table.now.engines.items pool.new }
     ensures ticks { steps.new ≤
         steps.old + nodes_ticks table.now.nodes.items foretold.now.hits.now (length chunk.now.bytes.now) }
     ensures takes { TakesNodes E.meaning table.now region.old region.new chunk.now.prev chunk.now.at
@@ -247,8 +259,9 @@ pub fn walk<E: BlockEngine, L: Ledger>(
         let found = Found {
             contexts: &contexts,
             foretold: &*foretold,
+            all: &all,
         };
-        run_node(table, k, chunk, &found, &all, region, ends, steps);
+        run_node(table, k, chunk, &found, region, ends, pool, steps);
         if !ends[k].is_nowhere() {
             mark_children(table, k, foretold.hits, &ends[k], chunk.bytes.len(), marks);
         }

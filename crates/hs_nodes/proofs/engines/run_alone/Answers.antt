@@ -8,7 +8,7 @@ use Rattle.hs_nodes.proofs.engines.run_alone.Goals as goal
 
 pub returns-then-is_told-clause-runs : goal.returns-then-is_told-clause-runs
 returns-then-is_told-clause-runs g c =
-    let m = g.E.Engine.meaning c.args.engine.now in
+    let m = g.E.Engine.meaning c.args.numbered.now.engine.now in
     let chunk = c.args.chunk.now in
     let (t, is) = told-true (told c.args.foretold.now.cache.now c.args.k) c.is_told.result c.is_told.ensures c.if-is_told.true in
     subst (λ rs. RunsAlone m c.args.region.now rs chunk.prev chunk.at chunk.bytes.now c.take_told.result) (sym (c.take_told.ensures.part t is))

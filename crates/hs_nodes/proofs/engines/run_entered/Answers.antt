@@ -1,24 +1,27 @@
 use Rattle.std.proofs.Common.{◌+◌, ◌*◌, ◌<◌, length, refl, subst, arith, length-set}
 use Rattle.std.proofs.lemmas.List.{length-take-le}
 use Rattle.hs_nodes.proofs.EngineLemmas.{blocks-all, blocks-more, blocks-none}
+use Rattle.hs_nodes.proofs.PooledLemmas.{keeps-none, keeps-then}
 use Rattle.hs_nodes.proofs.RunLemmas.{ends-more, nowhere-more, nowhere-none, reach-all, reach-more, steps-more, word-through}
 use Rattle.hs_nodes.proofs.engines.run_entered.Goals as goal
 
 pub loop-j-init : goal.loop-j-init
 loop-j-init g c = record {
   len = c.requires.len;
-  well = subst (λ n. (g.E.Engine.meaning c.args.engine.now).well c.args.region.now n) (omega arith) c.requires.well;
+  well = subst (λ n. (g.E.Engine.meaning c.args.numbered.now.engine.now).well c.args.region.now n) (omega arith) c.requires.well;
   befores = refl;
   behinds = refl;
+  pool = c.requires.pool;
+  others = keeps-none g.E.Engine.meaning c.args.numbered.now.number c.args.pool.now;
   nowhere = nowhere-none;
   steps = omega arith;
-  takes = blocks-none (g.E.Engine.meaning c.args.engine.now) c.args.region.now c.args.chunk.now.prev c.args.chunk.now.at c.args.chunk.now.bytes.now c.args.enters.now c.args.null.now _;
+  takes = blocks-none (g.E.Engine.meaning c.args.numbered.now.engine.now) c.args.region.now c.args.chunk.now.prev c.args.chunk.now.at c.args.chunk.now.bytes.now c.args.enters.now c.args.null.now _;
 }
 
 pub run_block-own-requires-clause-well : goal.run_block-own-requires-clause-well
 run_block-own-requires-clause-well g c =
     let low : 64 * c.loop-j.j < length c.args.chunk.now.bytes.now = c.blocks-j-end.ensures.some c.loop-j.j c.loop-j-test.true in
-    subst (λ n. (g.E.Engine.meaning c.args.engine.now).well c.loop-j.region (c.args.chunk.now.at + n)) (length-take-le (64 * c.loop-j.j) c.args.chunk.now.bytes.now (omega (arith, low))) c.loop-j.invariant.well
+    subst (λ n. (g.E.Engine.meaning c.args.numbered.now.engine.now).well c.loop-j.region (c.args.chunk.now.at + n)) (length-take-le (64 * c.loop-j.j) c.args.chunk.now.bytes.now (omega (arith, low))) c.loop-j.invariant.well
 
 pub run_block-own-requires-clause-room : goal.run_block-own-requires-clause-room
 run_block-own-requires-clause-room g c = omega (arith, c.args.chunk.now.room, c.block-bytes.ensures.within)
@@ -29,26 +32,28 @@ loop-j-preserved g c =
     let inv = c.loop-j.invariant in
     let more = ends-more c.loop-j.ends.before c.loop-j.ends.behind j _ _ (omega (arith, inv.befores, c.blocks-j-end.ensures.few)) (omega (arith, inv.behinds, c.blocks-j-end.ensures.few)) in record {
       len = c.run_block-own.ensures.len;
-      well = subst (λ n. (g.E.Engine.meaning c.args.engine.now).well c.run_block-own.new.region n) (reach-more c.args.chunk.now.bytes.now c.block-bytes.result.now j (j + 1) c.args.chunk.now.at refl (omega arith) c.block-bytes.ensures.bytes) c.run_block-own.ensures.well;
+      well = subst (λ n. (g.E.Engine.meaning c.args.numbered.now.engine.now).well c.run_block-own.new.region n) (reach-more c.args.chunk.now.bytes.now c.block-bytes.result.now j (j + 1) c.args.chunk.now.at refl (omega arith) c.block-bytes.ensures.bytes) c.run_block-own.ensures.well;
       befores = simp length-set inv.befores;
       behinds = simp length-set inv.behinds;
+      pool = c.run_block-own.ensures.pool;
+      others = keeps-then g.E.Engine.meaning c.args.numbered.now.number c.args.pool.now c.loop-j.pool c.run_block-own.new.pool inv.others c.run_block-own.ensures.others;
       nowhere = nowhere-more _ _ j (j + 1) _ _ refl more inv.nowhere;
       steps =
           steps-more c.args.chunk.now.bytes.now c.block-bytes.result.now j (j + 1) c.args.steps.now c.loop-j.steps c.run_block-own.new.steps refl (omega arith) c.block-bytes.ensures.bytes c.run_block-own.ensures.ticks inv.steps;
       takes =
-          blocks-more (g.E.Engine.meaning c.args.engine.now) c.args.region.now c.loop-j.region c.run_block-own.new.region c.args.chunk.now.prev c.prev_before.result c.args.chunk.now.at (c.args.chunk.now.at + 64 * j) c.args.chunk.now.bytes.now c.block-bytes.result.now
+          blocks-more (g.E.Engine.meaning c.args.numbered.now.engine.now) c.args.region.now c.loop-j.region c.run_block-own.new.region c.args.chunk.now.prev c.prev_before.result c.args.chunk.now.at (c.args.chunk.now.at + 64 * j) c.args.chunk.now.bytes.now c.block-bytes.result.now
           c.args.enters.now c.args.null.now c.loop-j.ends _ j (j + 1) c.run_block-own.result _ _ (omega arith) refl c.block-bytes.ensures.bytes refl c.prev_before.ensures c.run_block-own.ensures.scans (word-through _ _ _) (word-through _ _ _) more (omega (arith, c.blocks-j-end.ensures.few))
           inv.takes;
     }
 
 pub returns-clause-takes : goal.returns-clause-takes
 returns-clause-takes g c =
-    blocks-all (g.E.Engine.meaning c.args.engine.now) c.args.region.now c.loop-j.region c.args.chunk.now.prev c.args.chunk.now.at c.args.chunk.now.bytes.now c.args.enters.now c.args.null.now c.loop-j.ends c.loop-j.j (omega (arith, c.blocks-j-end.ensures.count))
+    blocks-all (g.E.Engine.meaning c.args.numbered.now.engine.now) c.args.region.now c.loop-j.region c.args.chunk.now.prev c.args.chunk.now.at c.args.chunk.now.bytes.now c.args.enters.now c.args.null.now c.loop-j.ends c.loop-j.j (omega (arith, c.blocks-j-end.ensures.count))
     c.loop-j.invariant.nowhere c.loop-j.invariant.takes
 
 pub returns-clause-well : goal.returns-clause-well
 returns-clause-well g c =
-    subst (λ n. (g.E.Engine.meaning c.args.engine.now).well c.loop-j.region (c.args.chunk.now.at + n)) (reach-all c.args.chunk.now.bytes.now c.loop-j.j (omega (arith, c.loop-j-test.false, c.blocks-j-end.ensures.count))) c.loop-j.invariant.well
+    subst (λ n. (g.E.Engine.meaning c.args.numbered.now.engine.now).well c.loop-j.region (c.args.chunk.now.at + n)) (reach-all c.args.chunk.now.bytes.now c.loop-j.j (omega (arith, c.loop-j-test.false, c.blocks-j-end.ensures.count))) c.loop-j.invariant.well
 
 pub returns-clause-ticks : goal.returns-clause-ticks
 returns-clause-ticks g c = omega (arith, reach-all c.args.chunk.now.bytes.now c.loop-j.j (omega (arith, c.loop-j-test.false, c.blocks-j-end.ensures.count)), c.loop-j.invariant.steps)

@@ -1,16 +1,19 @@
 use Rattle.std.proofs.Common.{◌≡◌, ◌+◌, ◌*◌, ◌≤◌, length, take}
 use Rattle.hs_nodes.proofs.EngineLemmas.{TakesBlocks}
+use Rattle.hs_nodes.specs.Pooled.{IsPooled, KeepsPooled}
 use Rattle.hs_nodes.proofs.RunLemmas.{AreNowhereFrom}
 use Rattle.hs_nodes.proofs.engines.run_entered.Given as goal
 
 abbrev pub invariant-loop-j : goal.invariant-loop-j
 invariant-loop-j g l = record {
-  len : length l.region ≡ (g.E.Engine.meaning l.engine).width;
-  well : (g.E.Engine.meaning l.engine).well l.region (l.chunk.at + length (take (64 * l.j) l.chunk.bytes.now));
+  len : length l.region ≡ (g.E.Engine.meaning l.numbered.engine.now).width;
+  well : (g.E.Engine.meaning l.numbered.engine.now).well l.region (l.chunk.at + length (take (64 * l.j) l.chunk.bytes.now));
   befores : length l.ends.before ≡ 8;
   behinds : length l.ends.behind ≡ 8;
+  pool : IsPooled (g.E.Engine.meaning l.numbered.engine.now) l.numbered.number l.pool;
+  others : KeepsPooled g.E.Engine.meaning l.numbered.number l.fn.pool l.pool;
   nowhere : AreNowhereFrom l.j l.ends;
   steps : l.steps ≤ l.initial.steps + length (take (64 * l.j) l.chunk.bytes.now);
-  takes : TakesBlocks (g.E.Engine.meaning l.engine) l.fn.region l.region l.chunk.prev l.chunk.at l.chunk.bytes.now
+  takes : TakesBlocks (g.E.Engine.meaning l.numbered.engine.now) l.fn.region l.region l.chunk.prev l.chunk.at l.chunk.bytes.now
       l.enters l.null l.ends l.j;
 }

@@ -6,10 +6,11 @@ use Rattle.hs_nodes.specs.Hits.{hit_count, no_hits}
 use Rattle.hs_nodes.specs.declared.hits.ChunkHits.{ChunkHits}
 use Rattle.hs_nodes.specs.Nodes.{IsKindSound, IsWellPart, TakesPiece, most_ticks}
 use Rattle.hs_nodes.proofs.KindLemmas.{engine-takes, engine-well, first-takes, literal-takes, needed-contexts, pair-takes, same-default}
+use Rattle.hs_nodes.proofs.PooledLemmas.{pooled-all}
 use Rattle.hs_nodes.proofs.kinds.run_kind.Goals as goal
 
-pub null_ends-null-requires : goal.null_ends-null-requires
-null_ends-null-requires g c =
+pub null_ends-requires : goal.null_ends-requires
+null_ends-requires g c =
     needed-contexts c.in-Engine.number c.in-Engine.null (AreChunkContexts c.args.found.now.contexts.now c.args.chunk.now.prev c.args.chunk.now.at c.args.chunk.now.bytes.now)
     (λ needs. c.requires.contexts (subst (λ (k : NodeKind). NeedsContexts k) (sym c.in-Engine.is) needs))
 
@@ -85,9 +86,9 @@ returns-in-Engine-clause-takes g c =
     let m = g.E.Engine.meaning in
     let engines = c.args.engines.now in
     let sound = subst (λ (k : NodeKind). IsKindSound m engines (length c.args.found.now.foretold.now.hits.now) k (length c.args.part.now)) c.in-Engine.is c.requires.sound in
-    subst (λ (k : NodeKind). TakesPiece m engines k c.args.part.now c.run_engine.new.region c.args.chunk.now.prev c.args.chunk.now.at c.args.chunk.now.past.now c.args.chunk.now.bytes.now c.args.found.now.foretold.now.hits.now c.args.enters.now c.run_engine.result) (sym c.in-Engine.is)
-    (engine-takes m engines c.in-Engine.number c.in-Engine.null c.args.part.now c.run_engine.new.region c.args.chunk.now.prev c.args.chunk.now.at c.args.chunk.now.past.now c.args.chunk.now.bytes.now c.args.found.now.foretold.now.hits.now c.args.enters.now c.null_ends-null.result c.run_engine.result
-    c.index-engines-number.result (slice_get_read engines (length engines) c.in-Engine.number c.index-engines-number.result refl sound.there c.index-engines-number.is) c.null_ends-null.ensures c.run_engine.ensures.takes)
+    subst (λ (k : NodeKind). TakesPiece m engines k c.args.part.now c.run_engine.new.region c.args.chunk.now.prev c.args.chunk.now.at c.args.chunk.now.past.now c.args.chunk.now.bytes.now c.args.found.now.foretold.now.hits.now c.args.entry.now.enters.now c.run_engine.result) (sym c.in-Engine.is)
+    (engine-takes m engines c.in-Engine.number c.in-Engine.null c.args.part.now c.run_engine.new.region c.args.chunk.now.prev c.args.chunk.now.at c.args.chunk.now.past.now c.args.chunk.now.bytes.now c.args.found.now.foretold.now.hits.now c.args.entry.now.enters.now c.null_ends.result c.run_engine.result
+    c.index-engines-number.result (slice_get_read engines (length engines) c.in-Engine.number c.index-engines-number.result refl sound.there c.index-engines-number.is) c.null_ends.ensures c.run_engine.ensures.takes)
 
 pub returns-in-Literal-clause-len : goal.returns-in-Literal-clause-len
 returns-in-Literal-clause-len g c =
@@ -102,8 +103,8 @@ returns-in-Literal-clause-takes g c =
     let engines = c.args.engines.now in
     let hits = c.args.found.now.foretold.now.hits.now in
     let sound = subst (λ (k : NodeKind). IsKindSound m engines (length hits) k (length c.args.part.now)) c.in-Literal.is c.requires.sound in
-    subst (λ (k : NodeKind). TakesPiece m engines k c.args.part.now c.run_literal_part.new.part c.args.chunk.now.prev c.args.chunk.now.at c.args.chunk.now.past.now c.args.chunk.now.bytes.now hits c.args.enters.now c.run_literal_part.result) (sym c.in-Literal.is)
-    (literal-takes m engines c.in-Literal.number c.in-Literal.len c.args.part.now c.run_literal_part.new.part c.args.chunk.now.prev c.args.chunk.now.at c.args.chunk.now.past.now c.args.chunk.now.bytes.now hits c.args.enters.now c.run_literal_part.result
+    subst (λ (k : NodeKind). TakesPiece m engines k c.args.part.now c.run_literal_part.new.part c.args.chunk.now.prev c.args.chunk.now.at c.args.chunk.now.past.now c.args.chunk.now.bytes.now hits c.args.entry.now.enters.now c.run_literal_part.result) (sym c.in-Literal.is)
+    (literal-takes m engines c.in-Literal.number c.in-Literal.len c.args.part.now c.run_literal_part.new.part c.args.chunk.now.prev c.args.chunk.now.at c.args.chunk.now.past.now c.args.chunk.now.bytes.now hits c.args.entry.now.enters.now c.run_literal_part.result
     _ (slice_get-get_or hits c.in-Literal.number _ sound.0) c.run_literal_part.ensures.takes)
 
 pub returns-in-FirstLiteral-clause-well : goal.returns-in-FirstLiteral-clause-well
@@ -115,8 +116,8 @@ returns-in-FirstLiteral-clause-takes g c =
     let engines = c.args.engines.now in
     let hits = c.args.found.now.foretold.now.hits.now in
     let sound = subst (λ (k : NodeKind). IsKindSound m engines (length hits) k (length c.args.part.now)) c.in-FirstLiteral.is c.requires.sound in
-    subst (λ (k : NodeKind). TakesPiece m engines k c.args.part.now c.args.part.now c.args.chunk.now.prev c.args.chunk.now.at c.args.chunk.now.past.now c.args.chunk.now.bytes.now hits c.args.enters.now c.ends_of.result) (sym c.in-FirstLiteral.is)
-    (first-takes m engines c.in-FirstLiteral.number _ c.args.part.now c.args.part.now c.args.chunk.now.prev c.args.chunk.now.at c.args.chunk.now.past.now c.args.chunk.now.bytes.now hits c.args.enters.now c.ends_of.result
+    subst (λ (k : NodeKind). TakesPiece m engines k c.args.part.now c.args.part.now c.args.chunk.now.prev c.args.chunk.now.at c.args.chunk.now.past.now c.args.chunk.now.bytes.now hits c.args.entry.now.enters.now c.ends_of.result) (sym c.in-FirstLiteral.is)
+    (first-takes m engines c.in-FirstLiteral.number _ c.args.part.now c.args.part.now c.args.chunk.now.prev c.args.chunk.now.at c.args.chunk.now.past.now c.args.chunk.now.bytes.now hits c.args.entry.now.enters.now c.ends_of.result
     _ sound.1 (slice_get-get_or hits c.in-FirstLiteral.number _ sound.0) c.ends_of.ensures)
 
 pub returns-in-Engine-clause-ticks : goal.returns-in-Engine-clause-ticks
@@ -169,8 +170,8 @@ returns-in-LookBack-clause-takes g c =
     let engines = c.args.engines.now in
     let hits = c.args.found.now.foretold.now.hits.now in
     let sound = subst (λ (k : NodeKind). IsKindSound m engines (length hits) k (length c.args.part.now)) c.in-LookBack.is c.requires.sound in
-    subst (λ (k : NodeKind). TakesPiece m engines k c.args.part.now c.args.part.now c.args.chunk.now.prev c.args.chunk.now.at c.args.chunk.now.past.now c.args.chunk.now.bytes.now hits c.args.enters.now c.run_pair.result) (sym c.in-LookBack.is)
-    (pair-takes m engines c.in-LookBack.pair c.args.part.now c.args.part.now c.args.chunk.now.prev c.args.chunk.now.at c.args.chunk.now.past.now c.args.chunk.now.bytes.now hits c.args.enters.now c.run_pair.result
+    subst (λ (k : NodeKind). TakesPiece m engines k c.args.part.now c.args.part.now c.args.chunk.now.prev c.args.chunk.now.at c.args.chunk.now.past.now c.args.chunk.now.bytes.now hits c.args.entry.now.enters.now c.run_pair.result) (sym c.in-LookBack.is)
+    (pair-takes m engines c.in-LookBack.pair c.args.part.now c.args.part.now c.args.chunk.now.prev c.args.chunk.now.at c.args.chunk.now.past.now c.args.chunk.now.bytes.now hits c.args.entry.now.enters.now c.run_pair.result
     c.index-engines-pair.result _ (slice_get_read engines (length engines) c.in-LookBack.pair.engine c.index-engines-pair.result refl sound.0.there c.index-engines-pair.is) (slice_get-get_or hits c.in-LookBack.pair.literal _ sound.1) c.run_pair.ensures.takes)
 
 pub run_engine-requires-clause-told : goal.run_engine-requires-clause-told
@@ -178,3 +179,16 @@ run_engine-requires-clause-told g c k t is some =
     let engines = c.args.engines.now in
     let sound = subst (λ (k : NodeKind). IsKindSound g.E.Engine.meaning engines (length c.args.found.now.foretold.now.hits.now) k (length c.args.part.now)) c.in-Engine.is c.requires.sound in
     c.requires.told k t is some c.in-Engine.number c.in-Engine.null c.index-engines-number.result c.in-Engine.is (slice_get_read engines (length engines) c.in-Engine.number c.index-engines-number.result refl sound.there c.index-engines-number.is)
+
+pub run_engine-requires-clause-pool : goal.run_engine-requires-clause-pool
+run_engine-requires-clause-pool g c =
+    let engines = c.args.engines.now in
+    let sound = subst (λ (k : NodeKind). IsKindSound g.E.Engine.meaning engines (length c.args.found.now.foretold.now.hits.now) k (length c.args.part.now)) c.in-Engine.is c.requires.sound in
+    c.requires.pool c.in-Engine.number c.index-engines-number.result (slice_get_read engines (length engines) c.in-Engine.number c.index-engines-number.result refl sound.there c.index-engines-number.is)
+
+pub returns-in-Engine-clause-pool : goal.returns-in-Engine-clause-pool
+returns-in-Engine-clause-pool g c =
+    let engines = c.args.engines.now in
+    let sound = subst (λ (k : NodeKind). IsKindSound g.E.Engine.meaning engines (length c.args.found.now.foretold.now.hits.now) k (length c.args.part.now)) c.in-Engine.is c.requires.sound in
+    pooled-all g.E.Engine.meaning c.in-Engine.number engines c.index-engines-number.result c.args.pool.now c.run_engine.new.pool
+    (slice_get_read engines (length engines) c.in-Engine.number c.index-engines-number.result refl sound.there c.index-engines-number.is) c.run_engine.ensures.pool c.run_engine.ensures.others c.requires.pool

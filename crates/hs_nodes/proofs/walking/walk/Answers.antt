@@ -60,6 +60,7 @@ loop-k-preserved g c =
           let up = ticks-grow table.nodes.items c.loop-k.from k hits (length chunk.bytes.now) c.in-Some.ensures.low in
           let here = c.run_node.ensures.ticks own.0 own.1 in
           omega (arith, more, up, here, inv.steps);
+      pool = c.run_node.ensures.pool;
       walk = elim c.if-not-is_nowhere.branch [
         | then-not-is_nowhere w ↦
             subst (λ (ms : List ℕ). IsWalk m table c.args.region.now c.args.marks.now chunk.prev chunk.at chunk.past.now chunk.bytes.now hits c.run_node.new.region c.run_node.new.ends ms (k + 1)) (sym w.marks-is)
