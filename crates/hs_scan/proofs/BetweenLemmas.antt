@@ -2,13 +2,13 @@
 use Rattle.std.proofs.Common.{◌≡◌, ◌++◌, ℕ, List, length, drop, sym, ap, subst, ◌∙◌, arith, length-append, length-drop}
 use Rattle.hs_base.specs.Literals.{LiteralByte}
 use Rattle.hs_engine.specs.Engines.{Meaning}
-use Rattle.hs_lazy.specs.declared.cache.Cache.{Cache}
 use Rattle.hs_nodes.specs.Resting.{AreNodesResting}
 use Rattle.hs_nodes.specs.Walks.{AreNodesWell}
 use Rattle.hs_nodes.specs.declared.graph.Graph.{Graph}
 use Rattle.hs_scan.specs.Knowing.{FitsKnown, IsPending}
 use Rattle.hs_scan.specs.Scratches.{FindsHits, FitsRoom, IsBetweenChunks}
 use Rattle.hs_scan.specs.declared.chunk.Course.{Course}
+use Rattle.hs_scan.specs.declared.node_cache.NodeCache.{NodeCache}
 use Rattle.hs_scan.specs.declared.scratch.Scratch.{Scratch}
 
 -- What goes from chunk to chunk is the same, and there is room for as much.
@@ -21,9 +21,9 @@ pub record KeepsCourse (old new : Scratch) : Type 0 where
   pub last : length new.last.items ≡ length old.last.items
   pub past : length new.past ≡ length old.past
 
-pub between-kept : {E : Type 0} (meaning : E → Meaning) (graph : Graph E) (region : List ℕ) (states : Cache) {s t : Scratch} {at then : ℕ} → then ≡ at → KeepsCourse s t → IsBetweenChunks meaning graph at region states s →
-    IsBetweenChunks meaning graph then region states t
-between-kept meaning graph region states {s} {t} same kept before = record {
+pub between-kept : {E : Type 0} (meaning : E → Meaning) (graph : Graph E) (region : List ℕ) (cache : NodeCache) {s t : Scratch} {at then : ℕ} → then ≡ at → KeepsCourse s t → IsBetweenChunks meaning graph at region cache s →
+    IsBetweenChunks meaning graph then region cache t
+between-kept meaning graph region cache {s} {t} same kept before = record {
   well = subst (AreNodesWell meaning graph.table region) (sym same) before.well;
   room = record {
     room =
@@ -37,7 +37,7 @@ between-kept meaning graph region states {s} {t} same kept before = record {
   };
   pending = subst (λ (k : Course). IsPending k.known) (sym kept.course) before.pending;
   resting = subst (λ (k : Course). AreNodesResting meaning graph.table k.marks region) (sym kept.course) before.resting;
-  cache = before.cache;
+  cached = before.cached;
 }
 
 pub found-keeps : {literals : List (List LiteralByte)} {bytes : List ℕ} {s t : Scratch} → FindsHits literals bytes s t → KeepsCourse s t

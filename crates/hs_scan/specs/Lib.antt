@@ -10,3 +10,4 @@ pub mod Hits
 pub mod Copying
 pub mod Writing
 pub mod Finishing
+pub mod NodeCaches

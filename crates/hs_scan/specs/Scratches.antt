@@ -4,11 +4,9 @@ use Rattle.hs_base.specs.declared.context.Next.{Next}
 use Rattle.hs_base.specs.Bits.{word_count}
 use Rattle.hs_base.specs.Literals.{LiteralByte}
 use Rattle.hs_base.specs.Regions.{history_size}
-use Rattle.hs_lazy.specs.declared.cache.Cache.{Cache}
 use Rattle.hs_literals.specs.HitTables.{has_hit}
 use Rattle.hs_nodes.specs.Left.{nowhere}
 use Rattle.hs_bits.specs.Marks.{is_marked, mark_room}
-use Rattle.hs_nodes.specs.Cached.{IsCacheOf}
 use Rattle.hs_nodes.specs.Graphs.{AreTerminalsSound}
 use Rattle.hs_nodes.specs.Resting.{AreEnginesIdle, AreNodesResting}
 use Rattle.hs_nodes.specs.Waking.{AreRowsSound, AreWakesSound}
@@ -18,10 +16,12 @@ use Rattle.hs_reports.specs.EndTables.{HasNoEnds}
 use Rattle.hs_engine.specs.Engines.{Meaning}
 use Rattle.hs_scan.specs.Asking.{AsksTable}
 use Rattle.hs_scan.specs.Hits.{HasNowhere}
+use Rattle.hs_scan.specs.NodeCaches.{IsNodeCacheOf}
 use Rattle.hs_scan.specs.Knowing.{FitsKnown, IsPending}
 use Rattle.hs_scan.specs.Scans.{AreHitsBehind, Stand, stand}
 use Rattle.hs_nodes.specs.declared.graph.Graph.{Graph}
 use Rattle.hs_scan.specs.declared.chunk.Course.{Course}
+use Rattle.hs_scan.specs.declared.node_cache.NodeCache.{NodeCache}
 use Rattle.hs_scan.specs.declared.scratch.Scratch.{Scratch}
 
 -- There is room for so many nodes, none of which is left anywhere yet.
@@ -167,9 +167,9 @@ pub record MayRunNodes {E : Type 0} (meaning : E → Meaning) (graph : Graph E) 
 -- A scan is between two chunks, at that offset: what the region keeps of the nodes is well formed, nothing is live in
 -- those that aren't marked, and the cache is one of these nodes.
 pub record IsBetweenChunks {E : Type 0} (meaning : E → Meaning) (graph : Graph E) (at : ℕ) (region : List ℕ)
-    (states : Cache) (s : Scratch) : Type 0 where
+    (cache : NodeCache) (s : Scratch) : Type 0 where
   pub well : AreNodesWell meaning graph.table region at
   pub room : FitsGraph graph s
   pub pending : IsPending s.course.known
   pub resting : AreNodesResting meaning graph.table s.course.marks region
-  pub cache : IsCacheOf meaning graph.table states
+  pub cached : IsNodeCacheOf meaning graph.table cache

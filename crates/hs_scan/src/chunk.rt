@@ -3,6 +3,7 @@
 ghost use Rattle.std.specs.Prelude.{◌≡◌, ◌+◌, ◌*◌, ◌<◌, ◌≤◌, ◌^◌, ℕ, IfOk, length, slice_index};
 ghost use Rattle.hs_base.specs.Lists.{Each};
 ghost use Rattle.hs_nodes.specs.Cached.{TellsNodes};
+ghost use Rattle.hs_nodes.specs.Pooled.{ArePooled};
 ghost use Rattle.hs_nodes.specs.Resting.{AreEnginesIdle, AreNodesResting, AreNodesUnwoken};
 ghost use Rattle.hs_nodes.specs.Starting.{AreStartsEnough};
 ghost use Rattle.hs_nodes.specs.Walks.{AreNodesWell, IsOutside, IsTableSound};
@@ -17,6 +18,7 @@ use hs_bits::MarkSet;
 use hs_block::BlockEngine;
 use hs_engine::Steps;
 use hs_nodes::{Chunk, ChunkEnds, Foretold, Graph, everywhere, settle, walk};
+use hs_pool::{PooledEngine, StatePool};
 use hs_reports::Events;
 use std::alloc::{AllocError, Global};
 use std::sync::ledger::Ledger;
@@ -50,13 +52,14 @@ impl Course {
 /// kept behind it, what is known of the identifiers likewise, and the new reports of the chunk are told. Nothing is
 /// live then in the nodes that aren't marked. Of engines without a parent the cache tells what they do, or it is said
 /// where their matches may begin.
-pub(crate) fn take_chunk<E: BlockEngine, V: Events, L: Ledger>(
+pub(crate) fn take_chunk<E: BlockEngine + PooledEngine, V: Events, L: Ledger>(
     graph: &Graph<E>,
     chunk: &Chunk,
     foretold: &Foretold,
     region: &mut [u8],
     ends: &mut [ChunkEnds],
     course: &mut Course,
+    pool: &mut Option<StatePool>,
     events: &mut V,
     steps: &mut Steps<L>,
 )
@@ -72,6 +75,7 @@ pub(crate) fn take_chunk<E: BlockEngine, V: Events, L: Ledger>(
     requires resting { AreNodesResting E.meaning graph.now.table course.old.marks region.old }
     requires unwoken { AreNodesUnwoken E.meaning graph.now.table course.old.marks foretold.now.hits.now
         chunk.now.prev chunk.now.bytes.now }
+    requires pool { ArePooled E.meaning graph.now.table.engines.items pool.old }
     requires told { TellsNodes E.meaning graph.now.table foretold.now.cache.now region.old chunk.now.prev
         chunk.now.bytes.now }
     requires starts { AreStartsEnough E.meaning graph.now.table foretold.now.cache.now foretold.now.starts.now
@@ -85,6 +89,7 @@ pub(crate) fn take_chunk<E: BlockEngine, V: Events, L: Ledger>(
     ensures fits { FitsKnown (length graph.now.identifiers.items) course.new.known }
     ensures pending { IsPending course.new.known }
     ensures resting { AreNodesResting E.meaning graph.now.table course.new.marks region.new }
+    ensures pool { ArePooled E.meaning graph.now.table.engines.items pool.new }
     ensures ticks { steps.new ≤
         steps.old + 16 * (length graph.now.table.nodes.items * (length chunk.now.bytes.now + 1)) }
     ensures scans { Takes V.tells events.old events.new (ScansChunk E.meaning graph.now region.old region.new
@@ -93,7 +98,16 @@ pub(crate) fn take_chunk<E: BlockEngine, V: Events, L: Ledger>(
         course.new.known.here.items) }
 {
     let marks = &mut course.marks;
-    walk(&graph.table, chunk, foretold, region, ends, marks, steps);
+    walk(
+        &graph.table,
+        chunk,
+        foretold,
+        region,
+        ends,
+        marks,
+        pool,
+        steps,
+    );
     let all = everywhere(chunk);
     tell_chunk(
         graph,

@@ -4,29 +4,31 @@ ghost use Rattle.std.specs.Prelude.{◌≡◌, ◌+◌, ◌*◌, ◌≤◌, [], 
 ghost use Rattle.hs_base.specs.Offsets.{greatest_offset};
 ghost use Rattle.hs_base.specs.Regions.{region_offset};
 ghost use Rattle.hs_literals.specs.Held.{held};
-ghost use Rattle.hs_nodes.specs.Cached.{IsCacheOf};
 ghost use Rattle.hs_nodes.specs.Graphs.{IsGraphSound};
 ghost use Rattle.hs_reports.specs.Events.{Takes};
+ghost use Rattle.hs_scan.specs.NodeCaches.{IsNodeCacheOf};
 ghost use Rattle.hs_scan.specs.Feeding.{Feeds, GoesOnAlike};
 ghost use Rattle.hs_nodes.specs.WellRegions.{FitsRegion, IsWellRegion};
 ghost use Rattle.hs_scan.specs.Scratches.{IsIdle, ServesGraph};
 
 use crate::last_byte::scan_write;
+use crate::node_cache::NodeCache;
 use crate::scratch::Scratch;
 use crate::tables::Tables;
 use crate::writing::{begin_write, end_write, mark_nodes};
 use hs_block::BlockEngine;
 use hs_engine::Steps;
-use hs_lazy::{Cache, TimelessEngine};
+use hs_lazy::TimelessEngine;
+use hs_pool::PooledEngine;
 use hs_reports::Events;
 use std::sync::ledger::Ledger;
 
 /// Takes the next bytes of the stream of a region, and reports what they decide, in the order in which they do. The
 /// offset stays a number that a stream may have. No bytes leave the region as it is, and report nothing.
-pub fn scan<E: BlockEngine + TimelessEngine, V: Events, L: Ledger>(
+pub fn scan<E: BlockEngine + TimelessEngine + PooledEngine, V: Events, L: Ledger>(
     tables: &Tables<E>,
     region: &mut [u8],
-    cache: &mut Cache,
+    cache: &mut NodeCache,
     scratch: &mut Scratch,
     bytes: &[u8],
     events: &mut V,
@@ -37,8 +39,8 @@ pub fn scan<E: BlockEngine + TimelessEngine, V: Events, L: Ledger>(
     requires idle { IsIdle scratch.old }
     requires scratch { ServesGraph tables.now.graph.now (length (held tables.now.literals.now)) scratch.old }
     requires room { region_offset region.old + length bytes.now ≤ greatest_offset }
-    requires cache { IsCacheOf E.meaning tables.now.graph.now.table cache.old }
-    ensures cache { IsCacheOf E.meaning tables.now.graph.now.table cache.new }
+    requires cache { IsNodeCacheOf E.meaning tables.now.graph.now.table cache.old }
+    ensures cache { IsNodeCacheOf E.meaning tables.now.graph.now.table cache.new }
     ensures region { FitsRegion E.meaning tables.now.graph.now tables.now.layout.now region.new }
     ensures idle { IsIdle scratch.new }
     ensures scratch { ServesGraph tables.now.graph.now (length (held tables.now.literals.now)) scratch.new }

@@ -18,6 +18,7 @@ ghost use Rattle.hs_scan.specs.Writing.{LeavesToEnd};
 
 use crate::asking::ask_ends;
 use crate::line_feed::{LINE_FEED, forget_finals, run_line_feed};
+use crate::node_cache::NodeCache;
 use crate::past::{prev_of, push_past};
 use crate::scanning::scan_bytes;
 use crate::scratch::{Scratch, find_hits, forget};
@@ -25,16 +26,17 @@ use crate::tables::Tables;
 use hs_base::Next;
 use hs_block::BlockEngine;
 use hs_engine::Steps;
-use hs_lazy::{Cache, TimelessEngine};
+use hs_lazy::TimelessEngine;
 use hs_nodes::Chunk;
+use hs_pool::PooledEngine;
 use hs_reports::Events;
 use std::sync::ledger::Ledger;
 
 /// Takes a line feed of which is asked what would end before it, and writes which identifiers it leaves to the end.
-fn scan_asked<E: BlockEngine + TimelessEngine, V: Events, L: Ledger>(
+fn scan_asked<E: BlockEngine + TimelessEngine + PooledEngine, V: Events, L: Ledger>(
     tables: &Tables<E>,
     region: &mut [u8],
-    cache: &mut Cache,
+    cache: &mut NodeCache,
     scratch: &mut Scratch,
     events: &mut V,
     steps: &mut Steps<L>,
@@ -78,10 +80,10 @@ fn scan_asked<E: BlockEngine + TimelessEngine, V: Events, L: Ledger>(
 }
 
 /// Takes a line feed, and writes which identifiers it leaves to the end.
-fn scan_line_feed<E: BlockEngine + TimelessEngine, V: Events, L: Ledger>(
+fn scan_line_feed<E: BlockEngine + TimelessEngine + PooledEngine, V: Events, L: Ledger>(
     tables: &Tables<E>,
     region: &mut [u8],
-    cache: &mut Cache,
+    cache: &mut NodeCache,
     scratch: &mut Scratch,
     events: &mut V,
     steps: &mut Steps<L>,
@@ -125,10 +127,10 @@ fn leave_none(last: &mut [u64])
 }
 
 /// Takes bytes up to a line feed, which is the last one.
-fn scan_to_line_feed<E: BlockEngine + TimelessEngine, V: Events, L: Ledger>(
+fn scan_to_line_feed<E: BlockEngine + TimelessEngine + PooledEngine, V: Events, L: Ledger>(
     tables: &Tables<E>,
     region: &mut [u8],
-    cache: &mut Cache,
+    cache: &mut NodeCache,
     scratch: &mut Scratch,
     bytes: &[u8],
     events: &mut V,
@@ -172,10 +174,10 @@ fn scan_to_line_feed<E: BlockEngine + TimelessEngine, V: Events, L: Ledger>(
 }
 
 /// Takes bytes of which the last one is no line feed.
-fn scan_to_other<E: BlockEngine + TimelessEngine, V: Events, L: Ledger>(
+fn scan_to_other<E: BlockEngine + TimelessEngine + PooledEngine, V: Events, L: Ledger>(
     tables: &Tables<E>,
     region: &mut [u8],
-    cache: &mut Cache,
+    cache: &mut NodeCache,
     scratch: &mut Scratch,
     bytes: &[u8],
     events: &mut V,
@@ -210,10 +212,10 @@ fn scan_to_other<E: BlockEngine + TimelessEngine, V: Events, L: Ledger>(
 }
 
 /// Takes the bytes of a write, of which there are some, and writes which identifiers the last one leaves to the end.
-pub(crate) fn scan_write<E: BlockEngine + TimelessEngine, V: Events, L: Ledger>(
+pub(crate) fn scan_write<E: BlockEngine + TimelessEngine + PooledEngine, V: Events, L: Ledger>(
     tables: &Tables<E>,
     region: &mut [u8],
-    cache: &mut Cache,
+    cache: &mut NodeCache,
     scratch: &mut Scratch,
     bytes: &[u8],
     events: &mut V,

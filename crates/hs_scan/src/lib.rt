@@ -10,6 +10,7 @@ mod hits;
 mod known;
 mod last_byte;
 mod line_feed;
+mod node_cache;
 mod past;
 mod scanning;
 mod scratch;
@@ -19,5 +20,6 @@ mod writing;
 
 pub use feeding::scan;
 pub use finishing::finish;
+pub use node_cache::NodeCache;
 pub use scratch::Scratch;
 pub use tables::Tables;

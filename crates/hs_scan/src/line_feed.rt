@@ -20,13 +20,15 @@ ghost use Rattle.hs_scan.specs.Telling.{TellsBlock};
 ghost use Rattle.hs_scan.specs.Writing.{AreLeftByLineFeed, LeavesLineFeed, LeavesLineFeedChunk};
 
 use crate::known::{Known, settle_known};
+use crate::node_cache::NodeCache;
 use crate::scratch::Scratch;
 use crate::waking::wake;
 use hs_bits::{contains_word_bit, write_word_bit};
 use hs_block::BlockEngine;
 use hs_engine::Steps;
-use hs_lazy::{Cache, TimelessEngine};
+use hs_lazy::TimelessEngine;
 use hs_nodes::{Chunk, ChunkEnds, Foretold, Graph, everywhere, gather_block, settle, walk};
+use hs_pool::PooledEngine;
 use hs_reports::{Events, Identifier, IdentifierEnds, is_left_to_end};
 use std::sync::ledger::Ledger;
 
@@ -131,10 +133,10 @@ fn tell_line_feed<E: BlockEngine, V: Events>(
 
 /// Takes a chunk of one line feed, of which the scratch has where the literals end in it, and which matches would end
 /// before it were it the last byte.
-pub(crate) fn run_line_feed<E: BlockEngine + TimelessEngine, V: Events, L: Ledger>(
+pub(crate) fn run_line_feed<E: BlockEngine + TimelessEngine + PooledEngine, V: Events, L: Ledger>(
     graph: &Graph<E>,
     region: &mut [u8],
-    cache: &mut Cache,
+    cache: &mut NodeCache,
     scratch: &mut Scratch,
     chunk: &Chunk,
     events: &mut V,
@@ -165,14 +167,14 @@ pub(crate) fn run_line_feed<E: BlockEngine + TimelessEngine, V: Events, L: Ledge
         chunk,
         region,
         &mut scratch.words,
-        cache,
+        &mut cache.automata,
         &mut scratch.starts,
         &mut scratch.course.marks,
     );
     let foretold = Foretold {
         hits: &scratch.hits,
         starts: &scratch.starts,
-        cache: &*cache,
+        cache: &cache.automata,
     };
     walk(
         &graph.table,
@@ -181,6 +183,7 @@ pub(crate) fn run_line_feed<E: BlockEngine + TimelessEngine, V: Events, L: Ledge
         region,
         &mut scratch.ends,
         &mut scratch.course.marks,
+        &mut cache.pool,
         steps,
     );
     let all = everywhere(chunk);

@@ -15,22 +15,24 @@ ghost use Rattle.hs_scan.specs.Scratches.{HasNoHits, IsBetweenChunks, KeepsAll, 
 ghost use Rattle.hs_scan.specs.Scratches.{stand_of};
 
 use crate::chunk::take_chunk;
+use crate::node_cache::NodeCache;
 use crate::past::{prev_of, push_past};
 use crate::scratch::{Scratch, find_hits, forget};
 use crate::tables::Tables;
 use crate::waking::wake;
 use hs_block::BlockEngine;
 use hs_engine::Steps;
-use hs_lazy::{Cache, TimelessEngine};
+use hs_lazy::TimelessEngine;
 use hs_nodes::{Chunk, Foretold, Graph, MAX_CHUNK};
+use hs_pool::PooledEngine;
 use hs_reports::Events;
 use std::sync::ledger::Ledger;
 
 /// Takes a chunk, of which the scratch has where the literals end in it.
-fn run_chunk<E: BlockEngine + TimelessEngine, V: Events, L: Ledger>(
+fn run_chunk<E: BlockEngine + TimelessEngine + PooledEngine, V: Events, L: Ledger>(
     graph: &Graph<E>,
     region: &mut [u8],
-    cache: &mut Cache,
+    cache: &mut NodeCache,
     scratch: &mut Scratch,
     chunk: &Chunk,
     events: &mut V,
@@ -59,14 +61,14 @@ fn run_chunk<E: BlockEngine + TimelessEngine, V: Events, L: Ledger>(
         chunk,
         region,
         &mut scratch.words,
-        cache,
+        &mut cache.automata,
         &mut scratch.starts,
         &mut scratch.course.marks,
     );
     let foretold = Foretold {
         hits: &scratch.hits,
         starts: &scratch.starts,
-        cache: &*cache,
+        cache: &cache.automata,
     };
     take_chunk(
         graph,
@@ -75,16 +77,17 @@ fn run_chunk<E: BlockEngine + TimelessEngine, V: Events, L: Ledger>(
         region,
         &mut scratch.ends,
         &mut scratch.course,
+        &mut cache.pool,
         events,
         steps,
     );
 }
 
 /// Takes up to 512 bytes.
-pub(crate) fn scan_chunk<E: BlockEngine + TimelessEngine, V: Events, L: Ledger>(
+pub(crate) fn scan_chunk<E: BlockEngine + TimelessEngine + PooledEngine, V: Events, L: Ledger>(
     tables: &Tables<E>,
     region: &mut [u8],
-    cache: &mut Cache,
+    cache: &mut NodeCache,
     scratch: &mut Scratch,
     bytes: &[u8],
     events: &mut V,
@@ -125,10 +128,10 @@ pub(crate) fn scan_chunk<E: BlockEngine + TimelessEngine, V: Events, L: Ledger>(
 }
 
 /// Takes bytes, 512 at a time.
-pub(crate) fn scan_bytes<E: BlockEngine + TimelessEngine, V: Events, L: Ledger>(
+pub(crate) fn scan_bytes<E: BlockEngine + TimelessEngine + PooledEngine, V: Events, L: Ledger>(
     tables: &Tables<E>,
     region: &mut [u8],
-    cache: &mut Cache,
+    cache: &mut NodeCache,
     scratch: &mut Scratch,
     bytes: &[u8],
     events: &mut V,

@@ -120,5 +120,5 @@ scan_write-requires-clause-before g c =
       room = rest.room;
       pending = subst IsPending (sym rest.known) begun.pending;
       resting = rest.resting;
-      cache = c.requires.cache;
+      cached = c.requires.cache;
     }

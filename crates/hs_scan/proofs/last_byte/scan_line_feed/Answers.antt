@@ -50,7 +50,7 @@ scan_asked-requires-clause-before g c =
       room = c.ask_ends.ensures.room;
       pending = subst (λ (k : Course). IsPending k.known) (sym kept.course) before.pending;
       resting = subst (λ (k : Course). AreNodesResting m table k.marks region) (sym kept.course) before.resting;
-      cache = before.cache;
+      cached = before.cached;
     }
 
 pub returns-clause-behind : goal.returns-clause-behind
