@@ -4,10 +4,10 @@ use Rattle.hs_compile.specs.Databases.{Compiled, graph_of, literals_in, packing_
 use Rattle.hs_kept.specs.Packing.{IsPackedOf, packed_size, unpacked, unpacked_size}
 use Rattle.hs_kept.specs.declared.packing.Packing.{Packing}
 use Rattle.hs_literals.specs.Held.{held}
+use Rattle.hs_scan.specs.NodeCaches.{IsNodeCacheOf}
 use Rattle.hs_scan.specs.Scratches.{ServesGraph}
+use Rattle.hs_scan.specs.declared.node_cache.NodeCache.{NodeCache}
 use Rattle.hs_scan.specs.declared.scratch.Scratch as scan
-use Rattle.hs_lazy.specs.declared.cache.Cache as lazy
-use Rattle.hs_nodes.specs.Cached.{IsCacheOf}
 use Rattle.hs_rose.specs.PieceEngines.{piece_meaning}
 use Rattle.hs_stream.specs.declared.scratch.Scratch.{Scratch}
 
@@ -22,8 +22,8 @@ abbrev pub ServesDatabase : Compiled → scan.Scratch → Type 0
 ServesDatabase db room = ServesGraph (graph_of db) (length (held (literals_in db))) room
 
 -- the states are of the engines of the database
-abbrev pub AreStatesOf : Compiled → lazy.Cache → Type 0
-AreStatesOf db states = IsCacheOf piece_meaning (graph_of db).table states
+abbrev pub AreStatesOf : Compiled → NodeCache → Type 0
+AreStatesOf db states = IsNodeCacheOf piece_meaning (graph_of db).table states
 
 -- It has the room that the graph of the database takes, and a region of it.
 pub record IsScratchOf (db : Compiled) (scratch : Scratch) : Type 0 where

@@ -3,22 +3,22 @@ ghost use Rattle.std.specs.Prelude.{IfOk};
 
 use crate::scratch::Scratch;
 use hs_compile::Database;
-use hs_nodes::cache_for;
+use hs_scan::NodeCache;
 use std::alloc::{AllocError, Global};
 
 /// Memory that a call on a stream of one database uses, as a [`Scratch`] is, and the states in which the expressions of
 /// that database were seen, with what each byte was seen to make of them. What was seen once is looked up from then on,
-/// for many expressions at once: that serves where matches are few, and costs where they end at nearly every byte. What
-/// is reported is the same. Nothing of a stream outlives a call.
+/// for many expressions at once where matches are few, and for single ones. What is reported is the same. Nothing of a
+/// stream outlives a call.
 ///
 /// Beside the scratch it takes up to 2 MB for every 256 expressions, or 4,096 positions, that a chain of the database
-/// begins with.
+/// begins with, and up to 9 MB for the states of single expressions.
 #[derive(Drop)]
 pub struct Cache {
     /// What a call uses.
     pub(crate) scratch: Scratch,
     /// What was seen.
-    pub(crate) states: hs_lazy::Cache,
+    pub(crate) states: NodeCache,
 }
 
 impl Cache {
@@ -40,7 +40,7 @@ impl Cache {
     {
         Ok(Cache {
             scratch: Scratch::new(alloc, db)?,
-            states: cache_for(alloc, &db.graph().table)?,
+            states: NodeCache::new(alloc, &db.graph().table)?,
         })
     }
 }

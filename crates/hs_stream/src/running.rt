@@ -23,7 +23,7 @@ use std::sync::ledger::Ledger;
 pub(crate) fn run_bytes<V: Events, L: Ledger>(
     db: &Database,
     region: &mut [u8],
-    states: &mut hs_lazy::Cache,
+    states: &mut hs_scan::NodeCache,
     scratch: &mut hs_scan::Scratch,
     bytes: &[u8],
     events: &mut V,

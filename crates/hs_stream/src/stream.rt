@@ -16,9 +16,9 @@ use hs_base::MAX_OFFSET;
 use hs_bits::clear_bits;
 use hs_compile::Database;
 use hs_engine::Steps;
-use hs_nodes::no_cache;
 use hs_regions::offset_in;
 use hs_reports::Events;
+use hs_scan::NodeCache;
 use std::alloc::{AllocError, Global};
 use std::sync::ledger::Ledger;
 use thiserror::Error;
@@ -113,7 +113,7 @@ impl Stream {
         ensures idle { bytes.now ≡ [] → (events.new ≡ events.old) × (self.new ≡ self.old) }
         ensures ticks { steps.new ≤ steps.old + 48 * (length (nodes_of db.now) * length bytes.now) }
     {
-        let mut states = no_cache(scratch.alloc, &db.graph().table);
+        let mut states = NodeCache::none(scratch.alloc, &db.graph().table);
         self.write_by(db, &mut states, scratch, bytes, events, steps)
     }
 
@@ -125,8 +125,8 @@ impl Stream {
     ///
     /// # Cost
     ///
-    /// No memory. It is that of `write`, but for expressions that a chain begins with, of which many are looked up as
-    /// one where a byte was seen in the same states before.
+    /// No memory. It is that of `write`, but for expressions, which are looked up where a byte was seen in the same
+    /// states before: of those that a chain begins with many as one, and else each by itself.
     ///
     /// # Examples
     ///
@@ -169,7 +169,7 @@ impl Stream {
     fn write_by<V: Events, L: Ledger>(
         &mut self,
         db: &Database,
-        states: &mut hs_lazy::Cache,
+        states: &mut NodeCache,
         scratch: &mut Scratch,
         bytes: &[u8],
         events: &mut V,

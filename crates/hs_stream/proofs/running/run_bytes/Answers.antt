@@ -1,10 +1,10 @@
 use Rattle.std.proofs.Common.{◌+◌, ◌*◌, ◌≤◌, ◌∙◌, length, sym, ap}
 use Rattle.hs_layout.specs.Layouts.{laid_size}
-use Rattle.hs_nodes.specs.Cached.{IsCacheOf}
 use Rattle.hs_nodes.specs.Graphs.{IsGraphSound}
 use Rattle.hs_rose.specs.PieceEngines.{piece_meaning}
 use Rattle.hs_reports.specs.Events.{Takes}
 use Rattle.hs_scan.specs.Feeding.{Feeds}
+use Rattle.hs_scan.specs.NodeCaches.{IsNodeCacheOf}
 use Rattle.hs_nodes.specs.WellRegions.{FitsRegion, IsWellRegion}
 use Rattle.hs_scan.specs.Scratches.{ServesGraph}
 use Rattle.hs_stream.proofs.RunningLemmas.{as-lent, each-by, lent, lent-as, takes-scan}
@@ -48,8 +48,8 @@ returns-clause-ticks g c =
 
 pub scan-requires-clause-cache : goal.scan-requires-clause-cache
 scan-requires-clause-cache g c =
-    as-lent (lent c.args.db.now c.graph.ensures.graph c.literals.ensures.literals c.layout.ensures.layout) (λ x ls l. IsCacheOf piece_meaning x.table c.args.states.now) (c.requires.states)
+    as-lent (lent c.args.db.now c.graph.ensures.graph c.literals.ensures.literals c.layout.ensures.layout) (λ x ls l. IsNodeCacheOf piece_meaning x.table c.args.states.now) (c.requires.states)
 
 pub returns-clause-states : goal.returns-clause-states
 returns-clause-states g c =
-    lent-as (lent c.args.db.now c.graph.ensures.graph c.literals.ensures.literals c.layout.ensures.layout) (λ x ls l. IsCacheOf piece_meaning x.table c.scan.new.cache) (c.scan.ensures.cache)
+    lent-as (lent c.args.db.now c.graph.ensures.graph c.literals.ensures.literals c.layout.ensures.layout) (λ x ls l. IsNodeCacheOf piece_meaning x.table c.scan.new.cache) (c.scan.ensures.cache)
