@@ -3,7 +3,7 @@ use Rattle.std.specs.Prelude.{ℕ, List, length}
 use Rattle.hs_base.specs.declared.context.Prev.{Prev}
 use Rattle.hs_bits.specs.WordBits.{AreSet}
 use Rattle.hs_block.specs.Blocks.{IsBlockRun}
-use Rattle.hs_block.specs.declared.engine.BlockEnds.{BlockEnds}
+use Rattle.hs_engine.specs.declared.ends.BlockEnds.{BlockEnds}
 use Rattle.hs_engine.specs.Engines.{Meaning}
 
 -- The engine takes the block, entered before each of its bytes, and tells where the expression is left.

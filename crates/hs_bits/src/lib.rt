@@ -1,10 +1,11 @@
-//! Bits in rows of bytes and of words: single ones, ranges, the lowest and the next one, and whole rows at
-//! once; numbers that are marked; and the places of a block of up to 64 bytes as the bits of a word: where members of a
-//! set stand, and in which contexts.
+//! Bits in rows of bytes and of words: single ones, ranges, the lowest and the next one, and whole rows at once;
+//! numbers that are marked; a hash of bytes; and the places of a block of up to 64 bytes as the bits of a word: where
+//! members of a set stand, and in which contexts.
 #![tactic(auto)]
 
 mod bytes;
 mod contexts;
+mod hashing;
 mod lowest;
 mod marks;
 mod masks;
@@ -20,6 +21,7 @@ pub use bytes::{
     BYTE_BITS, clear_bits, clear_live, contains_bit, insert_bit, is_zero, unite_bits, write_bit,
 };
 pub use contexts::Contexts;
+pub use hashing::hash_of;
 pub use lowest::{lowest_bit, without_lowest_bit};
 pub use marks::MarkSet;
 pub use masks::{contexts_of, in_all_contexts, mask_before, mask_behind};

@@ -10,7 +10,7 @@ use Rattle.hs_base.specs.Contexts.{class_of, prev_at}
 use Rattle.hs_base.specs.Fields.{Leaves}
 use Rattle.hs_base.specs.Trees.{Tree}
 use Rattle.hs_engine.specs.Engines.{Meaning}
-use Rattle.hs_block.specs.declared.engine.BlockEnds.{BlockEnds}
+use Rattle.hs_engine.specs.declared.ends.BlockEnds.{BlockEnds}
 use Rattle.hs_bits.specs.WordBits.{word_bit, bits_of, Marks}
 use Rattle.hs_block.specs.Scans.{HandsOn, IsLeftBefore}
 use Rattle.hs_block.specs.Blocks.{IsFieldOf, IsBlockRun}

@@ -11,7 +11,7 @@ use Rattle.hs_base.proofs.BitLemmas.{same-zero, zero-bits}
 use Rattle.hs_base.proofs.ContextLemmas.{first_of_both, second_of_both, of_both}
 use Rattle.hs_bits.proofs.WordLemmas.{and-none, and-true, or-none}
 use Rattle.hs_engine.specs.AnyBelow.{any_below}
-use Rattle.hs_block.specs.declared.engine.BlockEnds.{BlockEnds}
+use Rattle.hs_engine.specs.declared.ends.BlockEnds.{BlockEnds}
 use Rattle.hs_block.specs.declared.streams.Streams.{Streams}
 use Rattle.hs_block.specs.Blocks.{is_blank, is_busy}
 use Rattle.hs_bits.specs.Packed.{packed}

@@ -17,7 +17,7 @@ use Rattle.hs_engine.specs.Automata.{in_mask}
 use Rattle.hs_engine.specs.Between.{between}
 use Rattle.hs_engine.specs.Engines.{Meaning}
 use Rattle.hs_engine.specs.Tables.{IsClearFrom, Runs}
-use Rattle.hs_block.specs.declared.engine.BlockEnds.{BlockEnds}
+use Rattle.hs_engine.specs.declared.ends.BlockEnds.{BlockEnds}
 use Rattle.hs_block.specs.declared.streams.Streams.{Streams}
 use Rattle.hs_bits.specs.BlockContexts.{context_before, context_behind, prev_before}
 use Rattle.hs_block.specs.Blocks.{IsFieldOf, TakesBlock, is_blank, is_busy}

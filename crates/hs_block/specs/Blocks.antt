@@ -5,7 +5,7 @@ use Rattle.hs_base.specs.declared.context.Prev.{Prev}
 use Rattle.hs_base.specs.Contexts.{prev_at}
 use Rattle.hs_base.specs.Trees.{Tree}
 use Rattle.hs_engine.specs.Engines.{Meaning}
-use Rattle.hs_block.specs.declared.engine.BlockEnds.{BlockEnds}
+use Rattle.hs_engine.specs.declared.ends.BlockEnds.{BlockEnds}
 use Rattle.hs_bits.specs.WordBits.{word_bit, bits_of, AreSet, count_below}
 use Rattle.hs_block.specs.Scans.{Scans}
 

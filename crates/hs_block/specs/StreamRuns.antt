@@ -11,7 +11,7 @@ use Rattle.hs_engine.specs.Automata.{in_mask}
 use Rattle.hs_engine.specs.declared.automaton.Automaton.{Automaton}
 use Rattle.hs_engine.specs.Engines.{Meaning}
 use Rattle.hs_engine.specs.Tables.{IsClearFrom, Runs}
-use Rattle.hs_block.specs.declared.engine.BlockEnds.{BlockEnds}
+use Rattle.hs_engine.specs.declared.ends.BlockEnds.{BlockEnds}
 use Rattle.hs_block.specs.declared.streams.Streams.{Streams}
 use Rattle.hs_bits.specs.BlockContexts.{context_before, context_behind}
 use Rattle.hs_block.specs.Blocks.{is_busy}

@@ -12,12 +12,11 @@ ghost use Rattle.hs_bits.specs.WordBits.{count_set, word_bit};
 ghost use Rattle.hs_block.specs.Blocks.{IsEnteredThroughout, TakesBlock};
 ghost use Rattle.hs_block.specs.Rests.{IsAsleepOver, is_busy_at};
 
-use crate::engine::BlockEnds;
 use hs_base::{ByteSet, Next, NextSet, Prev};
 use hs_bits::{
     clear_bits, contains_place, count_places, is_zero, member_places, next_place, with_place,
 };
-use hs_engine::{Engine, Steps};
+use hs_engine::{BlockEnds, Engine, Steps};
 use std::sync::ledger::Ledger;
 
 /// How far a block has been taken.

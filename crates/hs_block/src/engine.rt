@@ -5,17 +5,8 @@ ghost use Rattle.hs_block.specs.Blocks.{TakesBlock, IsEnteredThroughout};
 
 use crate::by_steps::run_by_steps;
 use hs_base::Prev;
-use hs_engine::{Engine, Steps};
+use hs_engine::{BlockEnds, Engine, Steps};
 use std::sync::ledger::Ledger;
-
-/// Where an expression is left in a block of bytes: a bit for each byte, none from its end on.
-#[derive(Clone, Copy, Debug, PartialEq, Eq)]
-pub struct BlockEnds {
-    /// It is left before the byte, where that byte comes next.
-    pub before: u64,
-    /// It is left behind the byte, where nothing is known of what comes next.
-    pub behind: u64,
-}
 
 /// An engine that takes a block of up to 64 bytes at once.
 pub trait BlockEngine: Engine {

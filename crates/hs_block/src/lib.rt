@@ -13,6 +13,6 @@ mod set_tables;
 mod streams;
 
 pub use by_steps::run_by_steps;
-pub use engine::{BlockEnds, BlockEngine};
+pub use engine::BlockEngine;
 pub use literal::{Hits, LiteralRun, carry_of, entries_from, keep_carry, run_literal};
 pub use streams::{MAX_STREAMS, Streams};

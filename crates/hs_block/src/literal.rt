@@ -16,10 +16,10 @@ ghost use Rattle.hs_base.specs.LiteralRows.{TellsEntries};
 ghost use Rattle.hs_block.specs.LiteralBlocks.{RunsLiteral, TellsCarried, is_hit, turned, was_entered};
 ghost use Rattle.hs_bits.specs.WordBits.{word_bit};
 
-use crate::engine::BlockEnds;
 use hs_bits::{
     clear_bits, contains_bit, contains_place, low_places, one_later, with_place, write_bit,
 };
+use hs_engine::BlockEnds;
 
 /// Where a literal ends in a block.
 #[derive(Clone, Copy, Debug, PartialEq, Eq)]

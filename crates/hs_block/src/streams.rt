@@ -24,7 +24,6 @@ ghost use Rattle.hs_bits.specs.WordBits.{one_later, word_bit};
 
 use crate::before_tables::{MAX_WIDTH, OrderTables, SQUARES, row_in, square_places};
 use crate::class_words::{ClassWords, MAX_SETS, class_word};
-use crate::engine::BlockEnds;
 use crate::mask_words::{has_mixed, some_row};
 use crate::position_words::{meet, united_rows};
 use crate::set_tables::SetTables;
@@ -34,7 +33,7 @@ use hs_bits::{
     keep_words, load, low_places, mask_before, mask_behind, next_bit_in, one_later, only_if,
     place_count, place_in, row_word, store, unite_words, write_word_bit,
 };
-use hs_engine::{Automaton, Steps, first_bytes};
+use hs_engine::{Automaton, BlockEnds, Steps, first_bytes};
 use std::alloc::{AllocError, Global};
 use std::sync::ledger::Ledger;
 

@@ -8,7 +8,7 @@ use Rattle.hs_base.specs.Contexts.{class_of, prev_by}
 use Rattle.hs_base.specs.ContextSets.{has_next}
 use Rattle.hs_base.specs.WrittenOut.{write_out}
 use Rattle.hs_engine.specs.Engines.{Meaning, TellsLeaves}
-use Rattle.hs_block.specs.declared.engine.BlockEnds.{BlockEnds}
+use Rattle.hs_engine.specs.declared.ends.BlockEnds.{BlockEnds}
 use Rattle.hs_block.specs.Blocks.{IsBlockRun, IsEnteredThroughout}
 use Rattle.hs_block.specs.Progress.{IsRunTo}
 use Rattle.hs_block.specs.Rests.{is_busy_at}

@@ -13,7 +13,7 @@ use Rattle.hs_base.specs.WrittenOut.{Core, count, write_out}
 use Rattle.hs_base.proofs.ContextSetLemmas.{bit-all}
 use Rattle.hs_bits.specs.WordBits.{bits_of, count_below, word_bit}
 use Rattle.hs_bits.proofs.BlockLemmas.{count-more}
-use Rattle.hs_block.specs.declared.engine.BlockEnds.{BlockEnds}
+use Rattle.hs_engine.specs.declared.ends.BlockEnds.{BlockEnds}
 use Rattle.hs_block.specs.Blocks.{IsFieldOf, TakesBlock, is_blank, is_busy}
 use Rattle.hs_states.specs.DfaHistories.{IsStateOf}
 use Rattle.hs_states.specs.DfaStates.{AreStatesOf, DfaState, first_state, is_led_to, is_live, kept_prev, move_by, tests_of}

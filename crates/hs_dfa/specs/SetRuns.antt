@@ -7,7 +7,7 @@ use Rattle.hs_base.specs.PositionRows.{IsField}
 use Rattle.hs_base.specs.Trees.{Tree}
 use Rattle.hs_base.specs.WrittenOut.{write_out}
 use Rattle.hs_bits.specs.WordBits.{bits_of}
-use Rattle.hs_block.specs.declared.engine.BlockEnds.{BlockEnds}
+use Rattle.hs_engine.specs.declared.ends.BlockEnds.{BlockEnds}
 use Rattle.hs_block.specs.Scans.{Scans}
 use Rattle.hs_engine.specs.Engines.{Meaning}
 use Rattle.hs_engine.specs.Tables.{IsClearFrom}

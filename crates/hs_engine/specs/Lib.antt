@@ -1,4 +1,5 @@
 pub mod Engines
+pub mod Timeless
 pub mod RowSizes
 pub mod Between
 pub mod Rows

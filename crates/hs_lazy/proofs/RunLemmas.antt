@@ -7,7 +7,7 @@ use Rattle.hs_base.specs.declared.context.Prev.{Prev}
 use Rattle.hs_base.specs.Contexts.{class_of, prev_at, prev_behind}
 use Rattle.hs_base.specs.Fields.{Leaves}
 use Rattle.hs_engine.specs.Engines.{IsAsleep, Meaning}
-use Rattle.hs_lazy.specs.declared.engine.ByteEnds.{ByteEnds}
+use Rattle.hs_engine.specs.declared.ends.ByteEnds.{ByteEnds}
 use Rattle.hs_lazy.specs.Runs.{IsBlankRegion, IsRunThrough, RunsThrough, TakesEntered}
 use Rattle.hs_lazy.proofs.TableLemmas.{get-last}
 

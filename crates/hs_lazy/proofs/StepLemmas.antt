@@ -9,7 +9,7 @@ use Rattle.hs_base.specs.Bits.{AreZero, has_word_bit}
 use Rattle.hs_base.specs.ByteSets.{has}
 use Rattle.hs_base.specs.Contexts.{prev_behind}
 use Rattle.hs_engine.specs.Engines.{Meaning}
-use Rattle.hs_lazy.specs.declared.engine.ByteEnds.{ByteEnds}
+use Rattle.hs_engine.specs.declared.ends.ByteEnds.{ByteEnds}
 use Rattle.hs_lazy.specs.declared.parts.Member.{Member}
 use Rattle.hs_lazy.specs.declared.parts.State.{State}
 use Rattle.hs_lazy.specs.declared.parts.EndSet.{EndSet}

@@ -8,7 +8,8 @@ use Rattle.hs_base.specs.Contexts.{class_of, prev_at}
 use Rattle.hs_base.specs.Fields.{Leaves}
 use Rattle.hs_base.specs.Trees.{Tree}
 use Rattle.hs_engine.specs.Engines.{IsStart, Meaning}
-use Rattle.hs_lazy.specs.declared.engine.ByteEnds.{ByteEnds}
+use Rattle.hs_engine.specs.Timeless.{TakesStep}
+use Rattle.hs_engine.specs.declared.ends.ByteEnds.{ByteEnds}
 
 -- The bytes behind u, before each of which the expression is entered, lead to its field behind them. It is left before
 -- the byte i, where that comes next, and behind it, where nothing is known of what comes next, just where that is told.
@@ -31,9 +32,8 @@ RunsThrough m old new prev bytes before behind =
     IsRunThrough (m.field new tree) tree u entered bytes before behind
 
 -- One byte does, and the new region may stand at any offset.
-pub record TakesEntered (m : Meaning) (old new : List ℕ) (prev : Prev) (byte : ℕ) (ends : ByteEnds) : Type 0 where
-  pub well : (at : ℕ) → m.well new at
-  pub runs : RunsThrough m old new prev (byte ∷ []) (λ i. ends.before) (λ i. ends.behind)
+abbrev pub TakesEntered : Meaning → (old new : List ℕ) → Prev → (byte : ℕ) → ByteEnds → Type 0
+TakesEntered m old new prev byte ends = TakesStep m old new prev true byte ends
 
 -- The region of each engine in which all bytes are 0 is that of the empty stream, and may stand at any offset.
 pub record IsBlankRegion (m : Meaning) (region : List ℕ) : Type 0 where

@@ -3,11 +3,11 @@
 ghost use Rattle.std.specs.Prelude.{◌≡◌, ◌≤◌, length};
 
 use crate::dfa::LazyDfa;
-use crate::engine::TimelessEngine;
 use crate::parts::{Member, Run};
 use crate::running::{run_all, shed_all};
 use hs_base::{ByteSet, Prev};
 use hs_bits::{MarkSet, clear_bits, next_bit_in};
+use hs_engine::TimelessEngine;
 use std::alloc::{AllocError, Global};
 
 /// Which member of which automaton runs for a number.

@@ -12,7 +12,7 @@ use crate::end_table::EndTable;
 use crate::parts::{EndSet, IMAGE_BYTES, MEMBER_WORDS, Member, Run, State};
 use hs_base::{ByteSet, Prev};
 use hs_bits::{
-    clear_words, contains_word_bit, is_unset, is_zero, unite_words, word_at, write_word_bit,
+    clear_words, contains_word_bit, hash_of, is_unset, is_zero, unite_words, write_word_bit,
 };
 use std::alloc::{AllocError, Global};
 
@@ -39,9 +39,6 @@ const SLOT_COUNT: usize = 4 * MAX_STATES;
 
 /// How many slots are looked at for a state.
 const MAX_PROBES: usize = 8;
-
-/// An odd number with about as many set bits as not, by which images are mixed.
-const IMAGE_MIXER: u64 = 0xD6E8_FEB8_6659_FD93;
 
 /// An automaton over the regions of its members, one behind the other: an image. Its states are images with what stands
 /// before the next byte.
@@ -186,7 +183,7 @@ impl LazyDfa {
         ensures states { AreStillThere self.old.states.items self.new.states.items }
         ensures found { IfSome result (λ s. IsState self.new.states.items s image.now prev) }
     {
-        let hash = hash_of(image, prev);
+        let hash = hash_of(prev as u64, image);
         if let Some(number) = self.known(hash, image, prev) {
             return Some(number);
         }
@@ -195,7 +192,7 @@ impl LazyDfa {
 
     /// The number of the state with that image and what stands before the next byte, if it is found by that hash.
     fn known(&self, hash: usize, image: &[u8; IMAGE_BYTES], prev: Prev) -> Option<usize>
-        requires { hash < 4096 }
+        requires { hash < 32768 }
         ensures { IfSome result (λ s. IsState self.now.states.items s image.now prev) }
     {
         for probe in 0..MAX_PROBES {
@@ -223,7 +220,7 @@ impl LazyDfa {
 
     /// Puts a state behind the others. None where there is no room for it.
     fn add_state(&mut self, hash: usize, image: &[u8; IMAGE_BYTES], prev: Prev) -> Option<usize>
-        requires { hash < 4096 }
+        requires { hash < 32768 }
         ensures members { self.new.members ≡ self.old.members }
         ensures rows { self.new.rows ≡ self.old.rows }
         ensures ends { self.new.ends ≡ self.old.ends }
@@ -557,7 +554,7 @@ fn drop_members(members: &mut [Member], dropped: &[u64; MEMBER_WORDS])
 /// The first free slot of a few from that one on.
 fn free_slot(slots: &[u16], hash: usize) -> Option<usize>
     requires len { length slots.now ≡ 4096 }
-    requires hash { hash < 4096 }
+    requires hash { hash < 32768 }
     ensures { IfSome result (λ slot. slot < 4096) }
 {
     for probe in 0..MAX_PROBES {
@@ -567,15 +564,4 @@ fn free_slot(slots: &[u16], hash: usize) -> Option<usize>
         }
     }
     None
-}
-
-/// The slot by which a state is looked for first.
-fn hash_of(image: &[u8; IMAGE_BYTES], prev: Prev) -> usize
-    ensures { result < 4096 }
-{
-    let mut mixed = prev as u64;
-    for word in 0..IMAGE_BYTES / 8 {
-        mixed = (mixed.rotate_left(29) ^ word_at(image, 8 * word)).wrapping_mul(IMAGE_MIXER);
-    }
-    (mixed >> 52) as usize
 }

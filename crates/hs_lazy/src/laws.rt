@@ -5,7 +5,7 @@ ghost use Rattle.hs_lazy.specs.Caches.{loaded};
 ghost use Rattle.hs_lazy.specs.Tables.{AreDfasOf, engine_at};
 
 use crate::cache::Cache;
-use crate::engine::TimelessEngine;
+use hs_engine::TimelessEngine;
 
 /// The region that is loaded for a number has the length of those of its engine.
 pub fn loaded_regions<E: TimelessEngine>(engines: &[E], cache: &Cache)

@@ -5,12 +5,10 @@ mod budget;
 mod cache;
 mod dfa;
 mod end_table;
-mod engine;
 mod laws;
 mod parts;
 mod running;
 mod steps;
 
 pub use cache::{Cache, ToldEnds};
-pub use engine::{ByteEnds, TimelessEngine};
 pub use laws::loaded_regions;

@@ -8,11 +8,11 @@ ghost use Rattle.hs_lazy.specs.Tables.{AreAllSound, member_in};
 ghost use Rattle.hs_lazy.specs.declared.dfa.LazyDfa.{LazyDfa};
 
 use crate::dfa::LazyDfa;
-use crate::engine::TimelessEngine;
 use crate::parts::Run;
 use crate::steps::run_dfa;
 use hs_base::Prev;
 use hs_bits::is_unset;
+use hs_engine::TimelessEngine;
 
 /// Has the automaton give up members, if it had no room for a state or too many bytes left some of them.
 fn shed_some(dfa: &mut LazyDfa)

@@ -12,10 +12,10 @@ ghost use Rattle.hs_lazy.specs.declared.parts.State.{State};
 ghost use Rattle.hs_lazy.specs.Walks.{IsChunkTaken, IsWalk};
 
 use crate::dfa::{ENDS_UNIT, LazyDfa, state_at};
-use crate::engine::{ByteEnds, TimelessEngine};
 use crate::parts::{EndSet, IMAGE_BYTES, MEMBER_WORDS, Member, Run, State};
 use hs_base::Prev;
 use hs_bits::{contains_word_bit, is_unset, next_bit_in, write_word_bit};
+use hs_engine::{ByteEnds, TimelessEngine};
 
 /// A member that an eighth of the bytes of a chunk leave is dearer in an automaton than by itself.
 const NOISY_PART: u32 = 8;
@@ -399,5 +399,5 @@ fn take_member<E: TimelessEngine>(
 {
     let region = &mut image[member.start as usize..member.end as usize];
     region.copy_from_slice(&old.image[member.start as usize..member.end as usize]);
-    engine.take_byte(region, old.prev, byte)
+    engine.take_byte(region, old.prev, true, byte)
 }

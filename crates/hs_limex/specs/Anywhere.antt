@@ -9,20 +9,16 @@ use Rattle.hs_base.specs.Trees.{Tree}
 use Rattle.hs_base.specs.Fields.{Leaves}
 use Rattle.hs_engine.specs.Engines.{Meaning}
 
--- The region that a byte behind `prev` leads to, before which the expression is entered or not: where the old one is the
--- field of a stream, wherever that ends, it is that of the stream with the byte.
-abbrev pub TakesAnywhereBy : Meaning → (old new : List ℕ) (prev : Prev) (enters : Bool) (byte : ℕ) → Type 0
-TakesAnywhereBy m old new prev enters byte =
+-- The region that a byte behind `prev` leads to, before which the expression is entered or not: where the old one is
+-- the field of a stream, wherever that ends, it is that of the stream with the byte.
+abbrev pub TakesAnywhere : Meaning → (old new : List ℕ) (prev : Prev) (enters : Bool) (byte : ℕ) → Type 0
+TakesAnywhere m old new prev enters byte =
     (tree : Tree) (u : List ℕ) (entered : List Bool) →
     m.is_for tree →
     length entered ≡ length u →
     prev ≡ prev_at u (length u) →
     m.field old tree u entered →
     m.field new tree (u ++ byte ∷ []) (entered ++ enters ∷ [])
-
--- before which it is entered
-abbrev pub TakesAnywhere : Meaning → (old new : List ℕ) (prev : Prev) (byte : ℕ) → Type 0
-TakesAnywhere m old new prev byte = TakesAnywhereBy m old new prev true byte
 
 -- Where the region is the field of a stream that ends behind `prev`, wherever that is, these are the contexts in which
 -- the expression is left there.

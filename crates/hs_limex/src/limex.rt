@@ -23,7 +23,7 @@ pub struct Limex {
 impl Limex {
     ghost use Rattle.hs_base.specs.Trees.{Tree};
     ghost use Rattle.hs_engine.specs.Tables.{Runs};
-    ghost use Rattle.hs_limex.specs.Anywhere.{TakesAnywhere, TakesAnywhereBy, TellsAnywhere};
+    ghost use Rattle.hs_limex.specs.Anywhere.{TakesAnywhere, TellsAnywhere};
     ghost use Rattle.hs_limex.specs.Fitting.{Fits};
     ghost use Rattle.hs_limex.specs.LimexEngines.{meaning_of_limex, moves_of_limex};
 
@@ -39,36 +39,13 @@ impl Limex {
         })
     }
 
-    /// Takes a byte behind `prev`, before which the expression is entered, wherever the stream stands, and counts no
-    /// step.
-    pub fn move_entered(&self, region: &mut [u8], prev: Prev, byte: u8)
-        requires len { length region.old ≡ (meaning_of_limex self.now).width }
-        ensures len { length region.new ≡ length region.old }
-        ensures well { (at : ℕ) → (meaning_of_limex self.now).well region.new at }
-        ensures takes { TakesAnywhere (meaning_of_limex self.now) region.old region.new prev byte }
-    {
-        self.move_anywhere(region, prev, true, byte)
-    }
-
-    /// Takes a byte behind `prev`, before which the expression is entered or not, wherever the stream stands, and counts
-    /// no step.
+    /// Takes a byte behind `prev`, before which the expression is entered or not, wherever the stream stands, and
+    /// counts no step.
     pub fn move_by(&self, region: &mut [u8], prev: Prev, entered: bool, byte: u8)
         requires len { length region.old ≡ (meaning_of_limex self.now).width }
         ensures len { length region.new ≡ length region.old }
         ensures well { (at : ℕ) → (meaning_of_limex self.now).well region.new at }
-        ensures takes { TakesAnywhereBy (meaning_of_limex self.now) region.old region.new prev entered byte }
-    {
-        self.move_anywhere(region, prev, entered, byte)
-    }
-
-    /// What `move_entered` and `move_by` do. It stands within each of them, so that the first one doesn't test whether the
-    /// expression is entered.
-    #[inline(always)]
-    fn move_anywhere(&self, region: &mut [u8], prev: Prev, entered: bool, byte: u8)
-        requires len { length region.old ≡ (meaning_of_limex self.now).width }
-        ensures len { length region.new ≡ length region.old }
-        ensures well { (at : ℕ) → (meaning_of_limex self.now).well region.new at }
-        ensures takes { TakesAnywhereBy (meaning_of_limex self.now) region.old region.new prev entered byte }
+        ensures takes { TakesAnywhere (meaning_of_limex self.now) region.old region.new prev entered byte }
     {
         if self.body.stays_at_rest(region, entered, byte) {
             return;

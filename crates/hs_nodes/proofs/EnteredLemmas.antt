@@ -8,7 +8,7 @@ use Rattle.hs_bits.specs.WordBits.{Marks, bits_of, word_bit}
 use Rattle.hs_bits.proofs.PlaceLemmas.{bit-none}
 use Rattle.hs_block.specs.Blocks.{IsFieldOf}
 use Rattle.hs_block.specs.Scans.{IsLeftBefore, IsLeftBehind, Scans}
-use Rattle.hs_block.specs.declared.engine.BlockEnds.{BlockEnds}
+use Rattle.hs_engine.specs.declared.ends.BlockEnds.{BlockEnds}
 use Rattle.hs_engine.specs.Engines.{Meaning}
 use Rattle.hs_waking.specs.EntryRows.{entries_to}
 use Rattle.hs_nodes.specs.Blocks.{block, front}

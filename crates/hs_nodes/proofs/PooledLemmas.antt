@@ -6,7 +6,7 @@ use Rattle.hs_engine.specs.Engines.{Meaning}
 use Rattle.hs_pool.specs.Blocks.{AreZerosIdle, TakesBlock}
 use Rattle.hs_pool.specs.Pools.{IsPoolAt, KeepsOthers}
 use Rattle.hs_pool.specs.declared.pool.StatePool.{StatePool}
-use Rattle.hs_pool.specs.declared.running.WordEnds.{WordEnds}
+use Rattle.hs_engine.specs.declared.ends.BlockEnds.{BlockEnds}
 use Rattle.hs_nodes.specs.Pooled.{ArePooled, IsPooled, KeepsPooled}
 use Rattle.hs_nodes.specs.Starting.{IsIdle, ScansBlock}
 use Rattle.hs_nodes.proofs.KindLemmas.{one-value}
@@ -16,7 +16,7 @@ pooled-idle m idle region len zero =
     let own = idle region len zero in record { starts = own.starts; quiet = own.rests.quiet; well = own.rests.well }
 
 -- what a pool tells of a block, wherever the stream stands
-pub pooled-scans : (m : Meaning) (old new : List ℕ) (prev : Prev) (enters : ℕ) (bytes : List ℕ) (ends : WordEnds) → TakesBlock m old new prev enters bytes ends → (at : ℕ) → ScansBlock m old new prev at enters bytes (record { before = ends.before; behind = ends.behind })
+pub pooled-scans : (m : Meaning) (old new : List ℕ) (prev : Prev) (enters : ℕ) (bytes : List ℕ) (ends : BlockEnds) → TakesBlock m old new prev enters bytes ends → (at : ℕ) → ScansBlock m old new prev at enters bytes (record { before = ends.before; behind = ends.behind })
 pooled-scans m old new prev enters bytes ends takes at tree u entered of =
     let own = takes.takes tree u entered of.runs of.count of.behind of.field in record { field = own.field; before_is = own.before_is; behind_is = own.behind_is }
 

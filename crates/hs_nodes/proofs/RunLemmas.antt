@@ -11,7 +11,7 @@ use Rattle.hs_base.proofs.ContextSetLemmas.{bit-and}
 use Rattle.hs_block.specs.Scans.{Scans}
 use Rattle.hs_base.specs.declared.context.Prev.{Prev}
 use Rattle.hs_engine.specs.Engines.{Meaning}
-use Rattle.hs_block.specs.declared.engine.BlockEnds.{BlockEnds}
+use Rattle.hs_engine.specs.declared.ends.BlockEnds.{BlockEnds}
 use Rattle.hs_block.specs.Blocks.{TakesBlock, is_busy}
 use Rattle.hs_bits.specs.WordBits.{word_bit, bits_of, count_below}
 use Rattle.hs_bits.proofs.PlaceLemmas.{bit-none}

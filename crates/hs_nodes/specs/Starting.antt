@@ -8,7 +8,7 @@ use Rattle.hs_base.specs.Trees.{Tree}
 use Rattle.hs_bits.specs.WordBits.{AreSet, Marks, word_bit}
 use Rattle.hs_block.specs.Blocks.{IsFieldOf}
 use Rattle.hs_block.specs.Scans.{IsLeftBefore, IsLeftBehind, Scans}
-use Rattle.hs_block.specs.declared.engine.BlockEnds.{BlockEnds}
+use Rattle.hs_engine.specs.declared.ends.BlockEnds.{BlockEnds}
 use Rattle.hs_engine.specs.Engines.{Meaning}
 use Rattle.hs_lazy.specs.Caches.{Told, told}
 use Rattle.hs_lazy.specs.declared.cache.Cache.{Cache}

@@ -12,7 +12,8 @@ use crate::table::{NodeKind, NodeTable};
 use crate::walking::node_at;
 use hs_base::Prev;
 use hs_bits::MarkSet;
-use hs_lazy::{Cache, TimelessEngine, loaded_regions};
+use hs_engine::TimelessEngine;
+use hs_lazy::{Cache, loaded_regions};
 use std::alloc::{AllocError, Global};
 
 /// A cache for the nodes of a table: those of timeless engines that have no parent and no empty span. The only error is

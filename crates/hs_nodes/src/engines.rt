@@ -14,10 +14,10 @@ use crate::ends::ChunkEnds;
 use crate::foretold::Foretold;
 use hs_base::Prev;
 use hs_bits::{is_zero, low_places};
-use hs_block::{BlockEnds, BlockEngine};
-use hs_engine::Steps;
+use hs_block::BlockEngine;
+use hs_engine::{BlockEnds, Steps, TimelessEngine};
 use hs_lazy::Cache;
-use hs_pool::{PooledEngine, StatePool};
+use hs_pool::StatePool;
 use hs_waking::Starts;
 use std::sync::ledger::Ledger;
 
@@ -42,7 +42,7 @@ pub(crate) struct Entry<'e> {
 /// Takes a chunk by an engine, where the piece has the empty span where `null` tells it. If its node has no parent, the
 /// cache tells what it does, or it needs to be entered where its matches may begin. Answers where the pieces up to it
 /// are left.
-pub(crate) fn run_engine<E: BlockEngine + PooledEngine, L: Ledger>(
+pub(crate) fn run_engine<E: BlockEngine + TimelessEngine, L: Ledger>(
     numbered: &Numbered<E>,
     region: &mut [u8],
     chunk: &Chunk,
@@ -83,7 +83,7 @@ pub(crate) fn run_engine<E: BlockEngine + PooledEngine, L: Ledger>(
 
 /// Takes a chunk by an engine without a parent, as the cache tells it or by itself. Answers where its expression is
 /// left.
-fn run_alone<E: BlockEngine + PooledEngine, L: Ledger>(
+fn run_alone<E: BlockEngine + TimelessEngine, L: Ledger>(
     numbered: &Numbered<E>,
     region: &mut [u8],
     chunk: &Chunk,
@@ -135,7 +135,7 @@ fn take_told(region: &mut [u8], chunk: &Chunk, cache: &Cache, k: usize) -> Chunk
 }
 
 /// Takes a chunk so by an engine that is entered where `enters` tell, block by block.
-fn run_entered<E: BlockEngine + PooledEngine, L: Ledger>(
+fn run_entered<E: BlockEngine + TimelessEngine, L: Ledger>(
     numbered: &Numbered<E>,
     region: &mut [u8],
     chunk: &Chunk,
@@ -179,7 +179,7 @@ fn run_entered<E: BlockEngine + PooledEngine, L: Ledger>(
 
 /// Takes a block by an engine that is entered where the word tells it. Where it is entered nowhere, and nothing is
 /// live, it isn't run.
-fn run_block<E: BlockEngine + PooledEngine, L: Ledger>(
+fn run_block<E: BlockEngine + TimelessEngine, L: Ledger>(
     numbered: &Numbered<E>,
     region: &mut [u8],
     prev: Prev,
@@ -218,7 +218,7 @@ fn run_block<E: BlockEngine + PooledEngine, L: Ledger>(
 
 /// Takes a block by the states that are kept of the engine; None where there is no pool, or it doesn't tell what the
 /// block does, and then the region is as before.
-fn run_pooled<E: PooledEngine>(
+fn run_pooled<E: TimelessEngine>(
     numbered: &Numbered<E>,
     region: &mut [u8],
     prev: Prev,
@@ -259,7 +259,7 @@ fn run_pooled<E: PooledEngine>(
 
 /// Takes a chunk by an engine without a parent, block by block, which is entered where a match of the node of that
 /// number may begin. Answers where its expression is left.
-fn run_first<E: BlockEngine + PooledEngine, L: Ledger>(
+fn run_first<E: BlockEngine + TimelessEngine, L: Ledger>(
     numbered: &Numbered<E>,
     region: &mut [u8],
     chunk: &Chunk,

@@ -19,8 +19,8 @@ use crate::nulls::null_ends;
 use crate::table::NodeKind;
 use hs_bits::Contexts;
 use hs_block::BlockEngine;
-use hs_engine::Steps;
-use hs_pool::{PooledEngine, StatePool};
+use hs_engine::{Steps, TimelessEngine};
+use hs_pool::StatePool;
 use std::sync::ledger::Ledger;
 
 /// What nodes ask in a chunk beside its bytes.
@@ -36,7 +36,7 @@ pub(crate) struct Found<'c, 'f, 'a> {
 
 /// Takes a chunk by a node of that kind. If it has no parent, the cache tells what it does, or it needs to be entered
 /// where its matches may begin. Answers where the pieces up to the node are left.
-pub(crate) fn run_kind<E: BlockEngine + PooledEngine, L: Ledger>(
+pub(crate) fn run_kind<E: BlockEngine + TimelessEngine, L: Ledger>(
     kind: NodeKind,
     engines: &[E],
     part: &mut [u8],

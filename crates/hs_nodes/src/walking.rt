@@ -31,8 +31,8 @@ use crate::table::{Node, NodeKind, NodeTable};
 use hs_base::Prev;
 use hs_bits::{Contexts, MarkSet};
 use hs_block::BlockEngine;
-use hs_engine::Steps;
-use hs_pool::{PooledEngine, StatePool};
+use hs_engine::{Steps, TimelessEngine};
+use hs_pool::StatePool;
 use std::sync::ledger::Ledger;
 
 /// The node of that number.
@@ -65,7 +65,7 @@ fn first_number(parent: Option<u32>, k: usize) -> Option<usize>
 }
 
 /// Takes a chunk by the node of that number.
-fn run_node<E: BlockEngine + PooledEngine, L: Ledger>(
+fn run_node<E: BlockEngine + TimelessEngine, L: Ledger>(
     table: &NodeTable<E>,
     k: usize,
     chunk: &Chunk,
@@ -216,7 +216,7 @@ fn mark_children<E>(
 /// literals of which nothing comes. So those that are marked then have been run, and no other one. Of engines without a
 /// parent the cache tells what they do, or it is said where their matches may begin. Engines of which it tells nothing
 /// go by the states that the pool has of them, if there is one.
-pub fn walk<E: BlockEngine + PooledEngine, L: Ledger>(
+pub fn walk<E: BlockEngine + TimelessEngine, L: Ledger>(
     table: &NodeTable<E>,
     chunk: &Chunk,
     foretold: &Foretold,

@@ -7,7 +7,7 @@ use Rattle.hs_bits.specs.WordBits.{word_bit}
 use Rattle.hs_pool.specs.Following.{AreFlagsAt, AreFollowed, FollowsTo, IsKnownRun, step_of}
 use Rattle.hs_pool.specs.Following.{state_to}
 use Rattle.hs_pool.specs.Rows.{AreLeading, IsSink, next_of, step_at, step_place}
-use Rattle.hs_pool.specs.declared.running.WordEnds.{WordEnds}
+use Rattle.hs_engine.specs.declared.ends.BlockEnds.{BlockEnds}
 use Rattle.hs_pool.proofs.StepLemmas.{low-first, low-second, no-bit}
 
 module _ (rows : List (List ℕ)) (first from enters : ℕ) (bytes start flags : List ℕ) (k step : ℕ)
@@ -41,7 +41,7 @@ module _ (rows : List (List ℕ)) (first from enters : ℕ) (bytes start flags :
   }
 
 -- where the flags that were followed tell all
-pub known-run : (rows : List (List ℕ)) (first from enters : ℕ) (bytes zeros flags : List ℕ) (state : ℕ) (ends : WordEnds) → ((i : ℕ) → slice_index zeros i ≡ 0) →
+pub known-run : (rows : List (List ℕ)) (first from enters : ℕ) (bytes zeros flags : List ℕ) (state : ℕ) (ends : BlockEnds) → ((i : ℕ) → slice_index zeros i ≡ 0) →
     from ≤ length bytes → length bytes ≤ 64 → (state ≡ 0 → ⊥) → FollowsTo rows first from enters bytes zeros flags state → AreFlagsAt flags 0 ends.before → AreFlagsAt flags 1 ends.behind →
     IsKnownRun rows first from enters bytes (record { state = state; ends = ends })
 known-run rows first from enters bytes zeros flags state ends none within few some follows befores behinds = record {

@@ -9,16 +9,16 @@ use Rattle.hs_pool.specs.Following.{IsKnownRun, state_to, step_of}
 use Rattle.hs_pool.specs.Pools.{IsPoolAt, IsStep}
 use Rattle.hs_pool.specs.Rows.{IsSink, ends_of_step}
 use Rattle.hs_pool.specs.Running.{IsPath, IsUnwokenTo, prev_to}
-use Rattle.hs_pool.specs.Steps.{TakesStep}
+use Rattle.hs_engine.specs.Timeless.{TakesStep}
 use Rattle.hs_pool.specs.declared.following.Taken.{Taken}
 use Rattle.hs_pool.specs.declared.pool.StatePool.{StatePool}
-use Rattle.hs_pool.specs.declared.running.WordEnds.{WordEnds}
+use Rattle.hs_engine.specs.declared.ends.BlockEnds.{BlockEnds}
 use Rattle.hs_pool.specs.declared.state.State.{State}
 use Rattle.hs_pool.proofs.FollowLemmas.{sinks}
 use Rattle.hs_pool.proofs.RunLemmas.{IsTakenTo, asleep-step, taken-all, taken-more, taken-none}
 use Rattle.hs_pool.proofs.StepLemmas.{no-bit}
 
-module _ (m : Meaning) (old : List ℕ) (prev : Prev) (enters : ℕ) (bytes : List ℕ) (ends : WordEnds) (from : ℕ) (listed : m.always ≡ false) (unwoken : IsUnwokenTo m enters bytes from)
+module _ (m : Meaning) (old : List ℕ) (prev : Prev) (enters : ℕ) (bytes : List ℕ) (ends : BlockEnds) (from : ℕ) (listed : m.always ≡ false) (unwoken : IsUnwokenTo m enters bytes from)
     (small : (i : ℕ) → slice_index bytes i < 256) (idle : 0 < from → IsIdleRegion m old)
     (befores : (i : ℕ) → i < from → word_bit ends.before i ≡ false) (behinds : (i : ℕ) → i < from → word_bit ends.behind i ≡ false) where
   -- bytes that wake nothing leave all as it is
@@ -31,7 +31,7 @@ module _ (m : Meaning) (old : List ℕ) (prev : Prev) (enters : ℕ) (bytes : Li
       (asleep-step m old (idle (omega (arith, low))) listed unwoken.wakers (prev_to prev bytes n) (word_bit enters n) (slice_index bytes n) unwoken.are (small n) (unwoken.none n (omega (arith, low))))
       (befores n (omega (arith, low))) (behinds n (omega (arith, low))))
 
-module _ (m : Meaning) (old : List ℕ) (prev : Prev) (enters : ℕ) (bytes : List ℕ) (ends : WordEnds) (pool : StatePool) (number first from : ℕ) (sound : IsPoolAt m number pool) where
+module _ (m : Meaning) (old : List ℕ) (prev : Prev) (enters : ℕ) (bytes : List ℕ) (ends : BlockEnds) (pool : StatePool) (number first from : ℕ) (sound : IsPoolAt m number pool) where
   abbrev at : ℕ → ℕ
   at k = state_to pool.rows.items first from enters bytes k
 
@@ -73,8 +73,8 @@ module _ (m : Meaning) (old : List ℕ) (prev : Prev) (enters : ℕ) (bytes : Li
   here-all start small taken same run sink (suc k) low =
       here-more k (omega (arith, low)) (small (from + k))
       (λ none. run.some (run.state_is ∙ sinks pool.rows.items first from enters bytes sink (suc k) (length bytes - from) (omega (arith, low)) none))
-      (ap (λ (e : WordEnds). word_bit e.before (from + k)) (sym same) ∙ run.before_is k (omega (arith, low)))
-      (ap (λ (e : WordEnds). word_bit e.behind (from + k)) (sym same) ∙ run.behind_is k (omega (arith, low)))
+      (ap (λ (e : BlockEnds). word_bit e.before (from + k)) (sym same) ∙ run.before_is k (omega (arith, low)))
+      (ap (λ (e : BlockEnds). word_bit e.behind (from + k)) (sym same) ∙ run.behind_is k (omega (arith, low)))
       (here-all start small taken same run sink k (omega (arith, low)))
 
 pub some-of : (n : ℕ) → (n == 0) ≡ false → 0 < n

@@ -10,8 +10,8 @@ use Rattle.hs_pool.specs.Growing.IsAlikeOrBlank.{alike, blank}
 use Rattle.hs_pool.specs.Pools.{AreStepsOf, IsPoolAt, IsStep, KeepsOthers}
 use Rattle.hs_pool.specs.Rows.{next_of, step_at}
 use Rattle.hs_pool.specs.Running.{AreStatesKept, IsStateFor}
-use Rattle.hs_pool.specs.Steps.{TakesStep}
-use Rattle.hs_pool.specs.declared.engine.StepEnds.{StepEnds}
+use Rattle.hs_engine.specs.Timeless.{TakesStep}
+use Rattle.hs_engine.specs.declared.ends.ByteEnds.{ByteEnds}
 use Rattle.hs_pool.specs.declared.pool.StatePool.{StatePool}
 use Rattle.hs_pool.specs.declared.state.State.{State}
 use Rattle.hs_pool.proofs.BlankLemmas.{blank-steps}
@@ -50,7 +50,7 @@ grown-at m n old new grows pool s state enters byte is of small known = elim (ca
 ]
 
 -- the step that was put is what the engine does, and all others are as before
-module _ (m : Meaning) (n state next : ℕ) (enters : Bool) (byte : ℕ) (ends : StepEnds) (old new : StatePool)
+module _ (m : Meaning) (n state next : ℕ) (enters : Bool) (byte : ℕ) (ends : ByteEnds) (old new : StatePool)
     (put : IsStepPut state enters byte next ends old new) where
   states-are : new.states.items ≡ old.states.items
   states-are = ap (λ v. v.items) put.states

@@ -14,11 +14,11 @@ use Rattle.hs_bits.proofs.BlockLemmas.{block-more, entered-more, length-block, l
 use Rattle.hs_engine.specs.Engines.{AreWakers, Meaning}
 use Rattle.hs_pool.specs.Blocks.{IsIdleRegion, TakesBlock}
 use Rattle.hs_pool.specs.Running.{prev_to}
-use Rattle.hs_pool.specs.Steps.{IsStepTaken, TakesStep}
-use Rattle.hs_pool.specs.declared.engine.StepEnds.{StepEnds}
-use Rattle.hs_pool.specs.declared.running.WordEnds.{WordEnds}
+use Rattle.hs_engine.specs.Timeless.{IsStepTaken, TakesStep}
+use Rattle.hs_engine.specs.declared.ends.ByteEnds.{ByteEnds}
+use Rattle.hs_engine.specs.declared.ends.BlockEnds.{BlockEnds}
 
-module _ (m : Meaning) (old : List ℕ) (prev : Prev) (enters : ℕ) (bytes : List ℕ) (ends : WordEnds) where
+module _ (m : Meaning) (old : List ℕ) (prev : Prev) (enters : ℕ) (bytes : List ℕ) (ends : BlockEnds) where
   -- behind so many bytes, for one history
   pub record IsTakenFor (region : List ℕ) (n : ℕ) (tree : Tree) (u : List ℕ) (entered : List Bool) : Type 0 where
     pub field : m.field region tree (u ++ take n bytes) (entered ++ bits_of enters n)
@@ -50,7 +50,7 @@ module _ (m : Meaning) (old : List ℕ) (prev : Prev) (enters : ℕ) (bytes : Li
       subst (λ n. prev_behind (Some (slice_index bytes p)) ≡ prev_at (u ++ take n bytes) (length (u ++ take n bytes))) next
       (prev-next bytes u p (prev_behind (Some (slice_index bytes p))) (omega (arith, within)) refl)
 
-  module _ (region new : List ℕ) (n : ℕ) (one : StepEnds) (low : n < length bytes) (taken : IsTakenTo region n)
+  module _ (region new : List ℕ) (n : ℕ) (one : ByteEnds) (low : n < length bytes) (taken : IsTakenTo region n)
       (step : TakesStep m region new (prev_to prev bytes n) (word_bit enters n) (slice_index bytes n) one)
       (before : word_bit ends.before n ≡ one.before) (behind : word_bit ends.behind n ≡ one.behind) where
     -- one more byte

@@ -3,7 +3,7 @@ use Rattle.std.proofs.Common.{◌≡◌, ℕ, ◌+◌, ◌*◌, ◌/◌, ◌%◌
 use Rattle.std.specs.Int.{bit_at}
 use Rattle.hs_bits.specs.WordBits.{word_bit}
 use Rattle.hs_pool.specs.Rows.{IsStepTo}
-use Rattle.hs_pool.specs.declared.engine.StepEnds.{StepEnds}
+use Rattle.hs_engine.specs.declared.ends.ByteEnds.{ByteEnds}
 use Rattle.std.proofs.lemmas.Nat.Bits.{bit_at-zero}
 use mir.Val.{bool_byte}
 
@@ -29,10 +29,10 @@ set-second : (n : ℕ) (x y : Bool) → word_bit (4 * n + 2 * bool_byte x + bool
 unfolding word_bit
 set-second n x y = ap (λ b. eqb b 1) (second-bit n (bool_byte x) (bool_byte y) (bool-small x) (bool-small y)) ∙ one-bit x
 
-both : (a b c d : Bool) → a ≡ c → b ≡ d → ◌≡◌ {A = StepEnds} (record { before = a; behind = b }) (record { before = c; behind = d })
+both : (a b c d : Bool) → a ≡ c → b ≡ d → ◌≡◌ {A = ByteEnds} (record { before = a; behind = b }) (record { before = c; behind = d })
 both a b c d e f = (λ i. record { before = e i; behind = f i })
 
-pub step-is : (next : ℕ) (ends : StepEnds) → IsStepTo (4 * next + 2 * bool_byte ends.behind + bool_byte ends.before) next ends
+pub step-is : (next : ℕ) (ends : ByteEnds) → IsStepTo (4 * next + 2 * bool_byte ends.behind + bool_byte ends.before) next ends
 step-is next ends = record {
   next_is =
       let x = bool-small ends.behind in

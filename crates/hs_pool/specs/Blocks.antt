@@ -8,13 +8,13 @@ use Rattle.hs_base.specs.Fields.{Leaves}
 use Rattle.hs_base.specs.Trees.{Tree}
 use Rattle.hs_bits.specs.WordBits.{Marks, bits_of}
 use Rattle.hs_engine.specs.Engines.{IsQuiet, IsStart, Meaning}
-use Rattle.hs_pool.specs.declared.running.WordEnds.{WordEnds}
+use Rattle.hs_engine.specs.declared.ends.BlockEnds.{BlockEnds}
 
--- The bytes behind u, before which the expression is entered where the word tells it, lead to its field behind them, and
--- the words of the ends tell where it is left: before a byte, where that comes next, and behind a byte, where nothing is
--- known of what comes next.
+-- The bytes behind u, before which the expression is entered where the word tells it, lead to its field behind them,
+-- and the words of the ends tell where it is left: before a byte, where that comes next, and behind a byte, where
+-- nothing is known of what comes next.
 pub record IsBlockTaken (Field : List ℕ → List Bool → Type 0) (tree : Tree) (u : List ℕ) (entered : List Bool)
-    (bytes : List ℕ) (enters : ℕ) (ends : WordEnds) : Type 0 where
+    (bytes : List ℕ) (enters : ℕ) (ends : BlockEnds) : Type 0 where
   pub field : Field (u ++ bytes) (entered ++ bits_of enters (length bytes))
   pub before_is : Marks (length bytes) ends.before
       (λ i. Leaves tree (u ++ take i bytes) (entered ++ bits_of enters i) (class_of (slice_index bytes i)))
@@ -23,7 +23,7 @@ pub record IsBlockTaken (Field : List ℕ → List Bool → Type 0) (tree : Tree
 
 -- They do so for each history of the old region behind which `prev` stands, wherever it ends; and the new region may
 -- stand at any offset.
-pub record TakesBlock (m : Meaning) (old new : List ℕ) (prev : Prev) (enters : ℕ) (bytes : List ℕ) (ends : WordEnds) :
+pub record TakesBlock (m : Meaning) (old new : List ℕ) (prev : Prev) (enters : ℕ) (bytes : List ℕ) (ends : BlockEnds) :
     Type 0 where
   pub len : length new ≡ length old
   pub well : (at : ℕ) → m.well new at

@@ -8,7 +8,8 @@ use Rattle.hs_pool.specs.Rows.{next_of, step_at}
 abbrev pub state_to : (rows : List (List ℕ)) (first from enters : ℕ) (bytes : List ℕ) → ℕ → ℕ
 state_to rows first from enters bytes zero = first
 state_to rows first from enters bytes (suc k) =
-    next_of (step_at rows (state_to rows first from enters bytes k) (word_bit enters (from + k)) (slice_index bytes (from + k)))
+    next_of (step_at rows (state_to rows first from enters bytes k) (word_bit enters (from + k))
+    (slice_index bytes (from + k)))
 
 -- the step of the byte so many places behind that one
 abbrev pub step_of : (rows : List (List ℕ)) (first from enters : ℕ) (bytes : List ℕ) → ℕ → ℕ

@@ -1,5 +1,5 @@
-pub mod Steps
 pub mod Blocks
+pub mod Credits
 pub mod Rows
 pub mod Pools
 pub mod Following

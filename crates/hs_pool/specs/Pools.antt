@@ -5,7 +5,7 @@ use Rattle.hs_engine.specs.Engines.{Meaning}
 use Rattle.hs_pool.specs.declared.pool.StatePool.{StatePool}
 use Rattle.hs_pool.specs.declared.state.State.{State}
 use Rattle.hs_pool.specs.Rows.{ends_of_step, next_of, step_at}
-use Rattle.hs_pool.specs.Steps.{TakesStep}
+use Rattle.hs_engine.specs.Timeless.{TakesStep}
 
 -- A step of a state by a byte is what the engine does.
 pub record IsStep (m : Meaning) (states : List State) (old : State) (enters : Bool) (byte step : ℕ) : Type 0 where

@@ -1,8 +1,9 @@
 -- The states of a pool, and how the rows of their steps are read.
-use Rattle.std.specs.Prelude.{◌≡◌, ℕ, ◌+◌, ◌/◌, ◌<◌, Bool, true, false, List, [], Some, slice_get, slice_index, slice_index_or}
+use Rattle.std.specs.Prelude.{◌≡◌, ℕ, ◌+◌, ◌/◌, ◌<◌, Bool, true, false, List, [], Some}
+use Rattle.std.specs.Prelude.{slice_get, slice_index, slice_index_or}
 use Rattle.hs_base.specs.declared.context.Prev.{Prev}
 use Rattle.hs_bits.specs.WordBits.{word_bit}
-use Rattle.hs_pool.specs.declared.engine.StepEnds.{StepEnds}
+use Rattle.hs_engine.specs.declared.ends.ByteEnds.{ByteEnds}
 use Rattle.hs_pool.specs.declared.state.State.{State}
 
 -- which of the steps of a state a byte makes, before which the expression is entered or not
@@ -19,11 +20,11 @@ abbrev pub next_of : ℕ → ℕ
 next_of step = step / 4
 
 -- where a step leaves the expression
-abbrev pub ends_of_step : ℕ → StepEnds
+abbrev pub ends_of_step : ℕ → ByteEnds
 ends_of_step step = record { before = word_bit step 0; behind = word_bit step 1 }
 
 -- the step leads to that state, and leaves the expression there
-pub record IsStepTo (step next : ℕ) (ends : StepEnds) : Type 0 where
+pub record IsStepTo (step next : ℕ) (ends : ByteEnds) : Type 0 where
   pub next_is : next_of step ≡ next
   pub ends_are : ends_of_step step ≡ ends
 

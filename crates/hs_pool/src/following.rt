@@ -4,9 +4,9 @@ ghost use Rattle.std.specs.Prelude.{◌≡◌, ◌<◌, ◌≤◌, ◌^◌, ℕ,
 ghost use Rattle.hs_pool.specs.Following.{AreFlagsAt, FollowsTo, IsKnownRun};
 ghost use Rattle.hs_pool.specs.Rows.{AreLeading};
 
-use crate::running::WordEnds;
 use crate::state::{ROW_LEN, next_of, step_place};
 use hs_bits::{WORD_BITS, contains_place};
+use hs_engine::BlockEnds;
 use std::simd::prelude::*;
 
 /// The flags of a step that leaves the expression before its byte, and of one that leaves it behind.
@@ -53,11 +53,11 @@ fn places_with(flags: &[u8; WORD_BITS], flag: u8) -> u64
 
 /// Where the flags tell that the expression is left.
 #[inline(always)]
-fn ends_of(flags: &[u8; WORD_BITS]) -> WordEnds
+fn ends_of(flags: &[u8; WORD_BITS]) -> BlockEnds
     ensures before { AreFlagsAt flags.now 0 result.before }
     ensures behind { AreFlagsAt flags.now 1 result.behind }
 {
-    WordEnds {
+    BlockEnds {
         before: places_with(flags, BEFORE),
         behind: places_with(flags, BEHIND),
     }
@@ -69,7 +69,7 @@ pub(crate) struct Taken {
     /// The state behind it.
     pub state: usize,
     /// Where the expression is left.
-    pub ends: WordEnds,
+    pub ends: BlockEnds,
 }
 
 /// Takes the bytes of a block from that place on by the steps of a state; None where one of them isn't known.

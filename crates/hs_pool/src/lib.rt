@@ -3,12 +3,9 @@
 #![tactic(auto)]
 
 mod credit;
-mod engine;
 mod following;
 mod pool;
 mod running;
 mod state;
 
-pub use engine::{PooledEngine, StepEnds};
 pub use pool::StatePool;
-pub use running::WordEnds;

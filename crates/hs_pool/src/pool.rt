@@ -4,9 +4,10 @@ ghost use Rattle.std.specs.Prelude.{◌≡◌, ◌<◌, ◌≤◌, IfOk, length,
 ghost use Rattle.hs_pool.specs.Rows.{AreLeading, AreUnknown, IsSink};
 
 use crate::credit::Credit;
-use crate::engine::{PooledEngine, StepEnds};
-use crate::state::{MAX_REGION, MAX_STATES, ROW_LEN, State, hash_of, next_of, step_place, step_to};
+use crate::state::{MAX_REGION, MAX_STATES, ROW_LEN, State, next_of, step_place, step_to};
 use hs_base::Prev;
+use hs_bits::hash_of;
+use hs_engine::{ByteEnds, TimelessEngine};
 use std::alloc::{AllocError, Global};
 
 /// How many slots there are by which states are found.
@@ -14,6 +15,9 @@ const SLOTS_FOR_STATES: usize = 4 * MAX_STATES;
 
 /// How many slots are looked at for a state.
 const SLOTS_TRIED: usize = 8;
+
+/// How many answers there are to what stands before a byte.
+const PREV_COUNT: u64 = 4;
 
 /// How many blocks are run between two times at which all states are forgotten for want of room.
 const BLOCKS_TO_FORGET: u32 = 1 << 20;
@@ -30,18 +34,18 @@ const SINK: State = State {
 #[derive(Debug, Drop)]
 pub struct StatePool {
     /// The states. The first one is that of no engine.
-    pub states: Vec<State>,
+    pub(crate) states: Vec<State>,
     /// The steps of each state, by byte and by whether the expression is entered before it: four times the number of
     /// the next state, and two flags, or less than four where it isn't known.
-    pub rows: Vec<[u16; ROW_LEN]>,
+    pub(crate) rows: Vec<[u16; ROW_LEN]>,
     /// By the hash of a state its number, or 0.
-    pub slots: Vec<u16>,
+    pub(crate) slots: Vec<u16>,
     /// For each engine the state behind its last block, or another one.
-    pub latest: Vec<u16>,
+    pub(crate) latest: Vec<u16>,
     /// For each engine what may be spent on it.
     pub(crate) credits: Vec<Credit>,
     /// How many blocks were run since all states were forgotten.
-    pub blocks: u32,
+    pub(crate) blocks: u32,
     ghost rows_len: { length rows.items ≡ length states.items },
     ghost some: { 0 < length states.items },
     ghost few: { length states.items ≤ 8192 },
@@ -59,7 +63,7 @@ impl StatePool {
     ghost use Rattle.hs_pool.specs.Growing.{Grows, IsAlike, IsAlikeOrBlank, IsStepPut};
 
     /// A pool for these engines, which knows no state. The only error is want of memory.
-    pub fn new<E: PooledEngine>(alloc: Global, engines: &[E]) -> Result<StatePool, AllocError>
+    pub fn new<E: TimelessEngine>(alloc: Global, engines: &[E]) -> Result<StatePool, AllocError>
         ensures { IfOk result (IsPoolOf E.meaning engines.now) }
     {
         let mut states = Vec::with_capacity(alloc, MAX_STATES)?;
@@ -104,7 +108,10 @@ impl StatePool {
         ensures found { IfSome result (λ slot. (slice_index self.now.slots.items slot ≡ 0 → ⊥) →
             IsStateAt self.now.states.items (slice_index self.now.slots.items slot) engine prev region.now) }
     {
-        let hash = hash_of(engine, prev, region);
+        let seed = (engine as u64)
+            .wrapping_mul(PREV_COUNT)
+            .wrapping_add(prev as u64);
+        let hash = hash_of(seed, region);
         for probe in 0..SLOTS_TRIED {
             let slot = slot_at(hash, probe);
             let state = self.slots[slot] as usize;
@@ -187,8 +194,8 @@ impl StatePool {
         self.credits[number].rests()
     }
 
-    /// Has the engine rest for some blocks. Where there is no room for more states, and enough blocks were run since they
-    /// were forgotten last, all are.
+    /// Has the engine rest for some blocks. Where there is no room for more states, and enough blocks were run since
+    /// they were forgotten last, all are.
     pub(crate) fn begin_rest(&mut self, number: usize)
         ensures { IsAlikeOrBlank self.old self.new }
     {
@@ -234,7 +241,7 @@ impl StatePool {
         enters: bool,
         byte: u8,
         next: usize,
-        ends: StepEnds,
+        ends: ByteEnds,
     )
         requires state { state < length self.old.states.items }
         requires some { state ≡ 0 → ⊥ }

@@ -3,34 +3,17 @@
 ghost use Rattle.std.specs.Prelude.{◌≡◌, ◌<◌, ◌≤◌, IfSome, length, take};
 ghost use Rattle.hs_base.specs.Bits.{AreZero};
 ghost use Rattle.hs_pool.specs.Running.{IsUnwokenTo, prev_to};
-ghost use Rattle.hs_pool.specs.Steps.{TakesStep};
+ghost use Rattle.hs_engine.specs.Timeless.{TakesStep};
 
-use crate::engine::{PooledEngine, StepEnds};
 use crate::following::{Taken, take_known};
 use crate::pool::StatePool;
 use crate::state::{MAX_REGION, padded};
 use hs_base::Prev;
 use hs_bits::{contains_place, is_zero, member_places, next_place};
+use hs_engine::{ByteEnds, TimelessEngine};
 
 /// How many bytes the region of an engine has at least: one of at most 64 positions takes a block sooner by itself.
 const MIN_REGION: usize = 9;
-
-/// Where an expression is left in a block of bytes: a bit for each byte.
-#[derive(Clone, Copy, Debug, PartialEq, Eq)]
-pub struct WordEnds {
-    /// It is left before the byte, where that byte comes next.
-    pub before: u64,
-    /// It is left behind the byte, where nothing is known of what comes next.
-    pub behind: u64,
-}
-
-impl WordEnds {
-    /// It is left nowhere.
-    const NOWHERE: WordEnds = WordEnds {
-        before: 0,
-        behind: 0,
-    };
-}
 
 impl StatePool {
     ghost use Rattle.std.specs.Prelude.{◌≡◌, ◌<◌, ◌≤◌, false, IfSome, MatchOption, Some, length, slice_get, take};
@@ -42,7 +25,7 @@ impl StatePool {
     /// Takes a block behind `prev` by the engine of that number, wherever its stream stands; the expression is entered
     /// before each byte whose bit is set. None where the engine has to take it by itself, and then the region is as
     /// before. No step is counted.
-    pub fn run<E: PooledEngine>(
+    pub fn run<E: TimelessEngine>(
         &mut self,
         engine: &E,
         number: usize,
@@ -50,7 +33,7 @@ impl StatePool {
         prev: Prev,
         enters: u64,
         bytes: &[u8],
-    ) -> Option<WordEnds>
+    ) -> Option<BlockEnds>
         requires len { length region.old ≡ (E.meaning engine.now).width }
         requires few { length bytes.now ≤ 64 }
         requires listed { (E.meaning engine.now).always ≡ false }
@@ -66,7 +49,7 @@ impl StatePool {
         }
         let from = first_busy(engine, region, enters, bytes);
         if from == bytes.len() {
-            return Some(WordEnds::NOWHERE);
+            return Some(BlockEnds::NOWHERE);
         }
         if self.rests(number) {
             return None;
@@ -81,7 +64,7 @@ impl StatePool {
     }
 
     /// Takes the bytes of a block from that place on; None where the engine has to.
-    fn take<E: PooledEngine>(
+    fn take<E: TimelessEngine>(
         &mut self,
         engine: &E,
         number: usize,
@@ -116,7 +99,7 @@ impl StatePool {
     /// Makes the steps that aren't known of those from a state on over the bytes of a block from that place on. Answers
     /// whether they are all known then.
     #[inline(never)]
-    fn learn<E: PooledEngine>(
+    fn learn<E: TimelessEngine>(
         &mut self,
         engine: &E,
         number: usize,
@@ -145,7 +128,7 @@ impl StatePool {
     }
 
     /// The state that a byte leads to; its step is made, if it isn't known.
-    fn step<E: PooledEngine>(
+    fn step<E: TimelessEngine>(
         &mut self,
         engine: &E,
         number: usize,
@@ -170,7 +153,7 @@ impl StatePool {
 
     /// Makes the step of a state by a byte, and answers the state that it leads to. None where there is no room or no
     /// credit for it, or where the engine doesn't tell it.
-    fn make<E: PooledEngine>(
+    fn make<E: TimelessEngine>(
         &mut self,
         engine: &E,
         number: usize,
@@ -215,24 +198,24 @@ impl StatePool {
 
 /// Has the engine take a byte in the region that a state has, with zeros behind it. None where it doesn't tell what the
 /// byte does.
-fn ask<E: PooledEngine>(
+fn ask<E: TimelessEngine>(
     engine: &E,
     region: &mut [u8; MAX_REGION],
     prev: Prev,
     enters: bool,
     byte: u8,
-) -> Option<StepEnds>
+) -> Option<ByteEnds>
     requires small { (E.meaning engine.now).width ≤ 64 }
     ensures { IfSome result (TakesStep (E.meaning engine.now) (take (E.meaning engine.now).width region.old)
         (take (E.meaning engine.now).width region.new) prev enters byte) }
 {
     let size = engine.size();
-    engine.take_step(&mut region[..size], prev, enters, byte)
+    engine.take_byte(&mut region[..size], prev, enters, byte)
 }
 
 /// The first place of a block before which an engine is busy: something is live in its region, or the expression is
 /// entered before a byte that may wake it. Where there is none, it is the end of the block.
-fn first_busy<E: PooledEngine>(engine: &E, region: &[u8], enters: u64, bytes: &[u8]) -> usize
+fn first_busy<E: TimelessEngine>(engine: &E, region: &[u8], enters: u64, bytes: &[u8]) -> usize
     requires few { length bytes.now ≤ 64 }
     ensures within { result ≤ length bytes.now }
     ensures idle { 0 < result → AreZero region.now }

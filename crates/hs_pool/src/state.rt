@@ -2,11 +2,10 @@
 
 ghost use Rattle.std.specs.Prelude.{◌≡◌, ◌<◌, ◌≤◌, ◌↔◌, IsTrue, length, slice_index, take};
 ghost use Rattle.hs_pool.specs.Rows.{IsStateOf, IsStepTo, next_of, step_place};
-ghost use Rattle.hs_pool.specs.declared.engine.StepEnds.{StepEnds};
+ghost use Rattle.hs_engine.specs.declared.ends.ByteEnds.{ByteEnds};
 
-use crate::engine::StepEnds;
 use hs_base::Prev;
-use hs_bits::word_at;
+use hs_engine::ByteEnds;
 
 /// How many bytes the region of an engine has at most.
 pub(crate) const MAX_REGION: usize = 64;
@@ -19,9 +18,6 @@ const ENTERED_AT: usize = 256;
 
 /// How many states there are at most.
 pub(crate) const MAX_STATES: usize = 8192;
-
-/// An odd number with about as many set bits as not, by which regions are mixed.
-const REGION_MIXER: u64 = 0xD6E8_FEB8_6659_FD93;
 
 /// A state in which an engine was met.
 #[derive(Clone, Copy, Debug)]
@@ -63,7 +59,7 @@ pub(crate) fn step_place(enters: bool, byte: u8) -> usize
 }
 
 /// A step: it leads to that state, and leaves the expression there.
-pub(crate) fn step_to(next: usize, ends: StepEnds) -> u16
+pub(crate) fn step_to(next: usize, ends: ByteEnds) -> u16
     requires { next < 8192 }
     ensures { IsStepTo result next ends }
 {
@@ -76,15 +72,4 @@ pub(crate) fn next_of(step: u16) -> usize
     ensures { result ≡ next_of step }
 {
     (step / 4) as usize
-}
-
-/// A number below 2^15 that is equal for equal states, and unequal nearly always for others.
-pub(crate) fn hash_of(engine: usize, prev: Prev, region: &[u8; MAX_REGION]) -> usize
-    ensures { result < 32768 }
-{
-    let mut mixed = (engine as u64).wrapping_mul(4).wrapping_add(prev as u64);
-    for word in 0..MAX_REGION / 8 {
-        mixed = (mixed.rotate_left(29) ^ word_at(region, 8 * word)).wrapping_mul(REGION_MIXER);
-    }
-    (mixed >> 49) as usize
 }

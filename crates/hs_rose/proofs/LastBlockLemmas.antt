@@ -20,7 +20,7 @@ use Rattle.hs_bits.proofs.BlockLemmas.{count-same}
 use Rattle.hs_bits.proofs.PlaceLemmas.{bit-either}
 use Rattle.hs_block.specs.Blocks.{IsBlockRun, IsFieldOf, TakesBlock, is_blank, is_busy}
 use Rattle.hs_block.specs.Scans.{IsLeftBefore}
-use Rattle.hs_block.specs.declared.engine.BlockEnds.{BlockEnds}
+use Rattle.hs_engine.specs.declared.ends.BlockEnds.{BlockEnds}
 use Rattle.hs_block.proofs.StreamRunLemmas.{blank-is}
 use Rattle.hs_repeat.specs.RepeatBlocks.{TakesDistances, distance_behind}
 use Rattle.hs_repeat.specs.RepeatLaws.{row_of}

@@ -5,7 +5,7 @@ use Rattle.hs_engine.specs.declared.automaton.Automaton.{Automaton}
 use Rattle.hs_engine.specs.Engines.{Meaning}
 use Rattle.hs_engine.specs.Tables.{IsClearFrom}
 use Rattle.hs_block.specs.declared.streams.Streams.{Streams}
-use Rattle.hs_block.specs.declared.engine.BlockEnds.{BlockEnds}
+use Rattle.hs_engine.specs.declared.ends.BlockEnds.{BlockEnds}
 use Rattle.hs_block.specs.Blocks.{TakesBlock}
 use Rattle.hs_block.specs.StreamRuns.{IsTried, RunsStreams}
 use Rattle.hs_block.specs.StreamTables.{TellsOf}

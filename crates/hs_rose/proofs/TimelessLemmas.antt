@@ -1,6 +1,5 @@
 -- What the tables for blocks tell, and that a byte is taken wherever the stream stands.
 use Rattle.std.proofs.Common.{◌≡◌, ◌↔◌, ℕ, zero, suc, ◌<◌, Bool, true, List, [], ◌∷◌, ◌++◌, length, Some, sym, subst, ◌∙◌, arith, length-append}
-use Rattle.std.proofs.lemmas.List.{append-nil}
 use Rattle.std.specs.Prelude.{eqb}
 use Rattle.hs_base.specs.declared.context.Prev.{Prev}
 use Rattle.hs_base.specs.declared.context.Next.TheVariants as after
@@ -12,12 +11,11 @@ use Rattle.hs_base.specs.Fields.{Leaves}
 use Rattle.hs_bits.proofs.BlockLemmas.{prev-push}
 use Rattle.hs_block.specs.declared.streams.Streams.{Streams}
 use Rattle.hs_engine.specs.Engines.{Meaning}
-use Rattle.hs_lazy.specs.declared.engine.ByteEnds.{ByteEnds}
-use Rattle.hs_lazy.specs.Runs.{TakesEntered}
-use Rattle.hs_limex.specs.Anywhere.{TakesAnywhere, TakesAnywhereBy, TellsAnywhere}
+use Rattle.hs_engine.specs.declared.ends.ByteEnds.{ByteEnds}
+use Rattle.hs_limex.specs.Anywhere.{TakesAnywhere, TellsAnywhere}
 use Rattle.hs_limex.specs.LimexEngines.{moves_of_limex}
-use Rattle.hs_pool.specs.declared.engine.StepEnds.{StepEnds}
-use Rattle.hs_pool.specs.Steps.{TakesStep}
+use Rattle.hs_engine.specs.declared.ends.ByteEnds.{ByteEnds}
+use Rattle.hs_engine.specs.Timeless.{TakesStep}
 use Rattle.hs_rose.specs.declared.positions.PositionEngine.{PositionEngine}
 use Rattle.hs_rose.specs.Streaming.{TellsMoves}
 
@@ -31,39 +29,9 @@ engine-tells e s is = record {
   follows_are = e.follows_are s is;
 }
 
--- what holds of the first place holds of each place of one byte
-only-place : (P : ℕ → Type 0) → P 0 → (i : ℕ) → i < 1 → P i
-only-place P first zero below = first
-only-place P first (suc i) below = absurd (omega arith)
-
--- with nothing behind them, a stream and its entries are the same
-as-ended : (P : List ℕ → List Bool → Type 0) (u : List ℕ) (entered : List Bool) → P u entered → P (u ++ []) (entered ++ [])
-as-ended P u entered is = subst (λ w. P w (entered ++ [])) (sym (append-nil u)) (subst (P u) (sym (append-nil entered)) is)
-
--- A byte is taken with what is told before it and behind it.
-pub byte-taken : (m : Meaning) (old new : List ℕ) (prev behind : Prev) (byte : ℕ) (before_set behind_set : NextSet) (ends : ByteEnds) → TellsAnywhere m old prev before_set →
-    ((at : ℕ) → m.well new at) → TakesAnywhere m old new prev byte → TellsAnywhere m new behind behind_set → behind ≡ prev_by (eqb byte line_feed) (is_word_byte byte) →
-    ends.before ≡ has_next before_set (class_of byte) → ends.behind ≡ has_next behind_set after.Unknown → TakesEntered m old new prev byte ends
-byte-taken m old new prev behind byte before_set behind_set ends tells well takes tells' behind_is before_told behind_told =
-    record {
-      well = well;
-      runs = λ tree u entered is count prev_is field.
-          let field' = takes tree u entered is count prev_is field in
-          let count' : length (entered ++ true ∷ []) ≡ length (u ++ byte ∷ []) = omega (arith, count, length-append entered (true ∷ []), length-append u (byte ∷ [])) in
-          let left = tells tree u entered is count prev_is field (class_of byte) in
-          let left' = tells' tree (u ++ byte ∷ []) (entered ++ true ∷ []) is count' (behind_is ∙ sym (prev-push u byte)) field' after.Unknown in
-          record {
-            field = field';
-            before_is = only-place _
-                (as-ended (λ w es. (ends.before ≡ true) ↔ Leaves tree w es (class_of byte)) u entered
-                (subst (λ b. (b ≡ true) ↔ Leaves tree u entered (class_of byte)) (sym before_told) left));
-            behind_is = only-place _ (subst (λ b. (b ≡ true) ↔ Leaves tree (u ++ byte ∷ []) (entered ++ true ∷ []) after.Unknown) (sym behind_told) left');
-          };
-    }
-
--- So is one before which the expression is entered or not.
-pub step-taken : (m : Meaning) (old new : List ℕ) (prev behind : Prev) (enters : Bool) (byte : ℕ) (before_set behind_set : NextSet) (ends : StepEnds) → TellsAnywhere m old prev before_set →
-    ((at : ℕ) → m.well new at) → TakesAnywhereBy m old new prev enters byte → TellsAnywhere m new behind behind_set → behind ≡ prev_by (eqb byte line_feed) (is_word_byte byte) →
+-- A byte is taken, before which the expression is entered or not, with what is told before it and behind it.
+pub step-taken : (m : Meaning) (old new : List ℕ) (prev behind : Prev) (enters : Bool) (byte : ℕ) (before_set behind_set : NextSet) (ends : ByteEnds) → TellsAnywhere m old prev before_set →
+    ((at : ℕ) → m.well new at) → TakesAnywhere m old new prev enters byte → TellsAnywhere m new behind behind_set → behind ≡ prev_by (eqb byte line_feed) (is_word_byte byte) →
     ends.before ≡ has_next before_set (class_of byte) → ends.behind ≡ has_next behind_set after.Unknown → TakesStep m old new prev enters byte ends
 step-taken m old new prev behind enters byte before_set behind_set ends tells well takes tells' behind_is before_told behind_told =
     record {

@@ -5,10 +5,8 @@ ghost use Rattle.std.specs.Prelude.{◌≡◌};
 use crate::last_blocks::run_last;
 use crate::positions::PositionEngine;
 use hs_base::{ByteSet, NextSet, Prev};
-use hs_block::{BlockEnds, BlockEngine, run_by_steps};
-use hs_engine::{Engine, Steps};
-use hs_lazy::{ByteEnds, TimelessEngine};
-use hs_pool::{PooledEngine, StepEnds};
+use hs_block::{BlockEngine, run_by_steps};
+use hs_engine::{BlockEnds, ByteEnds, Engine, Steps, TimelessEngine};
 use hs_repeat::{First, Last, Ring};
 use hs_waking::Beginnings;
 use std::sync::ledger::Ledger;
@@ -179,18 +177,9 @@ impl TimelessEngine for PieceEngine {
         }
     }
 
-    fn take_byte(&self, region: &mut [u8], prev: Prev, byte: u8) -> Option<ByteEnds> {
+    fn take_byte(&self, region: &mut [u8], prev: Prev, enters: bool, byte: u8) -> Option<ByteEnds> {
         match self {
-            PieceEngine::Positions(positions) => positions.take_byte(region, prev, byte),
-            PieceEngine::First(_) | PieceEngine::Last(_) | PieceEngine::Ring(_) => None,
-        }
-    }
-}
-
-impl PooledEngine for PieceEngine {
-    fn take_step(&self, region: &mut [u8], prev: Prev, enters: bool, byte: u8) -> Option<StepEnds> {
-        match self {
-            PieceEngine::Positions(positions) => positions.take_step(region, prev, enters, byte),
+            PieceEngine::Positions(positions) => positions.take_byte(region, prev, enters, byte),
             PieceEngine::First(_) | PieceEngine::Last(_) | PieceEngine::Ring(_) => None,
         }
     }

@@ -6,8 +6,8 @@ ghost use Rattle.hs_repeat.specs.RepeatEngines.{meaning_of_last};
 
 use hs_base::Prev;
 use hs_bits::{WORD_BITS, count_places, one_later};
-use hs_block::{BlockEnds, run_by_steps};
-use hs_engine::{Engine, Steps};
+use hs_block::run_by_steps;
+use hs_engine::{BlockEnds, Engine, Steps};
 use hs_repeat::Last;
 use std::sync::ledger::Ledger;
 

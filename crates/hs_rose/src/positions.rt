@@ -17,11 +17,9 @@ ghost use Rattle.hs_waking.specs.PrevSets.{has_prev};
 ghost use Rattle.hs_waking.specs.Rows.{row_sets};
 
 use hs_base::{ByteSet, Next, NextSet, Prev};
-use hs_block::{BlockEnds, BlockEngine, Streams, run_by_steps};
-use hs_engine::{Automaton, Engine, Steps, first_bytes};
-use hs_lazy::{ByteEnds, TimelessEngine};
+use hs_block::{BlockEngine, Streams, run_by_steps};
+use hs_engine::{Automaton, BlockEnds, ByteEnds, Engine, Steps, TimelessEngine, first_bytes};
 use hs_limex::Limex;
-use hs_pool::{PooledEngine, StepEnds};
 use hs_waking::{BeginningRows, Beginnings, PrevSet, behind_of, rows_of};
 use std::alloc::{AllocError, Global};
 use std::sync::ledger::Ledger;
@@ -62,8 +60,7 @@ impl PositionEngine {
     ghost use Rattle.hs_base.specs.Trees.{Tree};
     ghost use Rattle.hs_engine.specs.Tables.{Runs};
     ghost use Rattle.hs_block.specs.Blocks.{TakesBlock};
-    ghost use Rattle.hs_lazy.specs.Runs.{TakesEntered};
-    ghost use Rattle.hs_pool.specs.Steps.{TakesStep};
+    ghost use Rattle.hs_engine.specs.Timeless.{TakesStep};
     ghost use Rattle.hs_rose.specs.PositionEngines.{meaning_of_positions};
     ghost use Rattle.hs_waking.specs.BeginningRows.{rows_of_beginnings};
     ghost use Rattle.hs_waking.specs.EntryRows.{TellBeginnings};
@@ -134,26 +131,8 @@ impl PositionEngine {
         }
     }
 
-    /// Takes a byte behind `prev`, before which the expression is entered, wherever the stream stands.
-    fn take_entered(&self, region: &mut [u8], prev: Prev, byte: u8) -> ByteEnds
-        requires len { length region.old ≡ (meaning_of_positions self.now).width }
-        ensures len { length region.new ≡ length region.old }
-        ensures takes { TakesEntered (meaning_of_positions self.now) region.old region.new prev byte result }
-    {
-        let before = self
-            .limex
-            .leaves(region, prev)
-            .contains(Next::class_of(byte));
-        self.limex.move_entered(region, prev, byte);
-        let behind = self
-            .limex
-            .leaves(region, Prev::behind(byte))
-            .contains(Next::Unknown);
-        ByteEnds { before, behind }
-    }
-
     /// Takes a byte behind `prev`, before which the expression is entered or not, wherever the stream stands.
-    fn take_by(&self, region: &mut [u8], prev: Prev, enters: bool, byte: u8) -> StepEnds
+    fn take_by(&self, region: &mut [u8], prev: Prev, enters: bool, byte: u8) -> ByteEnds
         requires len { length region.old ≡ (meaning_of_positions self.now).width }
         ensures len { length region.new ≡ length region.old }
         ensures takes { TakesStep (meaning_of_positions self.now) region.old region.new prev enters byte result }
@@ -167,7 +146,7 @@ impl PositionEngine {
             .limex
             .leaves(region, Prev::behind(byte))
             .contains(Next::Unknown);
-        StepEnds { before, behind }
+        ByteEnds { before, behind }
     }
 }
 
@@ -235,13 +214,7 @@ impl TimelessEngine for PositionEngine {
         true
     }
 
-    fn take_byte(&self, region: &mut [u8], prev: Prev, byte: u8) -> Option<ByteEnds> {
-        Some(self.take_entered(region, prev, byte))
-    }
-}
-
-impl PooledEngine for PositionEngine {
-    fn take_step(&self, region: &mut [u8], prev: Prev, enters: bool, byte: u8) -> Option<StepEnds> {
+    fn take_byte(&self, region: &mut [u8], prev: Prev, enters: bool, byte: u8) -> Option<ByteEnds> {
         Some(self.take_by(region, prev, enters, byte))
     }
 }

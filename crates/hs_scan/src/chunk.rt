@@ -16,9 +16,9 @@ ghost use Rattle.hs_scan.specs.Scratches.{FitsRoom};
 use crate::known::{Known, tell_chunk};
 use hs_bits::MarkSet;
 use hs_block::BlockEngine;
-use hs_engine::Steps;
+use hs_engine::{Steps, TimelessEngine};
 use hs_nodes::{Chunk, ChunkEnds, Foretold, Graph, everywhere, settle, walk};
-use hs_pool::{PooledEngine, StatePool};
+use hs_pool::StatePool;
 use hs_reports::Events;
 use std::alloc::{AllocError, Global};
 use std::sync::ledger::Ledger;
@@ -52,7 +52,7 @@ impl Course {
 /// kept behind it, what is known of the identifiers likewise, and the new reports of the chunk are told. Nothing is
 /// live then in the nodes that aren't marked. Of engines without a parent the cache tells what they do, or it is said
 /// where their matches may begin.
-pub(crate) fn take_chunk<E: BlockEngine + PooledEngine, V: Events, L: Ledger>(
+pub(crate) fn take_chunk<E: BlockEngine + TimelessEngine, V: Events, L: Ledger>(
     graph: &Graph<E>,
     chunk: &Chunk,
     foretold: &Foretold,

@@ -17,15 +17,13 @@ use crate::scratch::Scratch;
 use crate::tables::Tables;
 use crate::writing::{begin_write, end_write, mark_nodes};
 use hs_block::BlockEngine;
-use hs_engine::Steps;
-use hs_lazy::TimelessEngine;
-use hs_pool::PooledEngine;
+use hs_engine::{Steps, TimelessEngine};
 use hs_reports::Events;
 use std::sync::ledger::Ledger;
 
 /// Takes the next bytes of the stream of a region, and reports what they decide, in the order in which they do. The
 /// offset stays a number that a stream may have. No bytes leave the region as it is, and report nothing.
-pub fn scan<E: BlockEngine + TimelessEngine + PooledEngine, V: Events, L: Ledger>(
+pub fn scan<E: BlockEngine + TimelessEngine, V: Events, L: Ledger>(
     tables: &Tables<E>,
     region: &mut [u8],
     cache: &mut NodeCache,

@@ -25,15 +25,13 @@ use crate::scratch::{Scratch, find_hits, forget};
 use crate::tables::Tables;
 use hs_base::Next;
 use hs_block::BlockEngine;
-use hs_engine::Steps;
-use hs_lazy::TimelessEngine;
+use hs_engine::{Steps, TimelessEngine};
 use hs_nodes::Chunk;
-use hs_pool::PooledEngine;
 use hs_reports::Events;
 use std::sync::ledger::Ledger;
 
 /// Takes a line feed of which is asked what would end before it, and writes which identifiers it leaves to the end.
-fn scan_asked<E: BlockEngine + TimelessEngine + PooledEngine, V: Events, L: Ledger>(
+fn scan_asked<E: BlockEngine + TimelessEngine, V: Events, L: Ledger>(
     tables: &Tables<E>,
     region: &mut [u8],
     cache: &mut NodeCache,
@@ -80,7 +78,7 @@ fn scan_asked<E: BlockEngine + TimelessEngine + PooledEngine, V: Events, L: Ledg
 }
 
 /// Takes a line feed, and writes which identifiers it leaves to the end.
-fn scan_line_feed<E: BlockEngine + TimelessEngine + PooledEngine, V: Events, L: Ledger>(
+fn scan_line_feed<E: BlockEngine + TimelessEngine, V: Events, L: Ledger>(
     tables: &Tables<E>,
     region: &mut [u8],
     cache: &mut NodeCache,
@@ -127,7 +125,7 @@ fn leave_none(last: &mut [u64])
 }
 
 /// Takes bytes up to a line feed, which is the last one.
-fn scan_to_line_feed<E: BlockEngine + TimelessEngine + PooledEngine, V: Events, L: Ledger>(
+fn scan_to_line_feed<E: BlockEngine + TimelessEngine, V: Events, L: Ledger>(
     tables: &Tables<E>,
     region: &mut [u8],
     cache: &mut NodeCache,
@@ -174,7 +172,7 @@ fn scan_to_line_feed<E: BlockEngine + TimelessEngine + PooledEngine, V: Events, 
 }
 
 /// Takes bytes of which the last one is no line feed.
-fn scan_to_other<E: BlockEngine + TimelessEngine + PooledEngine, V: Events, L: Ledger>(
+fn scan_to_other<E: BlockEngine + TimelessEngine, V: Events, L: Ledger>(
     tables: &Tables<E>,
     region: &mut [u8],
     cache: &mut NodeCache,
@@ -212,7 +210,7 @@ fn scan_to_other<E: BlockEngine + TimelessEngine + PooledEngine, V: Events, L: L
 }
 
 /// Takes the bytes of a write, of which there are some, and writes which identifiers the last one leaves to the end.
-pub(crate) fn scan_write<E: BlockEngine + TimelessEngine + PooledEngine, V: Events, L: Ledger>(
+pub(crate) fn scan_write<E: BlockEngine + TimelessEngine, V: Events, L: Ledger>(
     tables: &Tables<E>,
     region: &mut [u8],
     cache: &mut NodeCache,

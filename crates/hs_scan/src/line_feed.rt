@@ -25,10 +25,8 @@ use crate::scratch::Scratch;
 use crate::waking::wake;
 use hs_bits::{contains_word_bit, write_word_bit};
 use hs_block::BlockEngine;
-use hs_engine::Steps;
-use hs_lazy::TimelessEngine;
+use hs_engine::{Steps, TimelessEngine};
 use hs_nodes::{Chunk, ChunkEnds, Foretold, Graph, everywhere, gather_block, settle, walk};
-use hs_pool::PooledEngine;
 use hs_reports::{Events, Identifier, IdentifierEnds, is_left_to_end};
 use std::sync::ledger::Ledger;
 
@@ -133,7 +131,7 @@ fn tell_line_feed<E: BlockEngine, V: Events>(
 
 /// Takes a chunk of one line feed, of which the scratch has where the literals end in it, and which matches would end
 /// before it were it the last byte.
-pub(crate) fn run_line_feed<E: BlockEngine + TimelessEngine + PooledEngine, V: Events, L: Ledger>(
+pub(crate) fn run_line_feed<E: BlockEngine + TimelessEngine, V: Events, L: Ledger>(
     graph: &Graph<E>,
     region: &mut [u8],
     cache: &mut NodeCache,

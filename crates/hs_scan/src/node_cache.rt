@@ -4,9 +4,10 @@ ghost use Rattle.std.specs.Prelude.{◌<◌, ◌^◌, ℕ, IfOk, length};
 ghost use Rattle.hs_nodes.specs.Walks.{IsTableSound};
 ghost use Rattle.hs_scan.specs.NodeCaches.{IsNodeCacheOf};
 
-use hs_lazy::{Cache, TimelessEngine};
+use hs_engine::TimelessEngine;
+use hs_lazy::Cache;
 use hs_nodes::{NodeTable, cache_for, no_cache};
-use hs_pool::{PooledEngine, StatePool};
+use hs_pool::StatePool;
 use std::alloc::{AllocError, Global};
 
 /// The states in which the engines of nodes were seen, and the steps that bytes were seen to make of them.
@@ -20,7 +21,7 @@ pub struct NodeCache {
 
 impl NodeCache {
     /// For the nodes of a table. The only error is want of memory.
-    pub fn new<E: TimelessEngine + PooledEngine>(
+    pub fn new<E: TimelessEngine>(
         alloc: Global,
         table: &NodeTable<E>,
     ) -> Result<NodeCache, AllocError>

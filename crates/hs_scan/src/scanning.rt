@@ -21,15 +21,13 @@ use crate::scratch::{Scratch, find_hits, forget};
 use crate::tables::Tables;
 use crate::waking::wake;
 use hs_block::BlockEngine;
-use hs_engine::Steps;
-use hs_lazy::TimelessEngine;
+use hs_engine::{Steps, TimelessEngine};
 use hs_nodes::{Chunk, Foretold, Graph, MAX_CHUNK};
-use hs_pool::PooledEngine;
 use hs_reports::Events;
 use std::sync::ledger::Ledger;
 
 /// Takes a chunk, of which the scratch has where the literals end in it.
-fn run_chunk<E: BlockEngine + TimelessEngine + PooledEngine, V: Events, L: Ledger>(
+fn run_chunk<E: BlockEngine + TimelessEngine, V: Events, L: Ledger>(
     graph: &Graph<E>,
     region: &mut [u8],
     cache: &mut NodeCache,
@@ -84,7 +82,7 @@ fn run_chunk<E: BlockEngine + TimelessEngine + PooledEngine, V: Events, L: Ledge
 }
 
 /// Takes up to 512 bytes.
-pub(crate) fn scan_chunk<E: BlockEngine + TimelessEngine + PooledEngine, V: Events, L: Ledger>(
+pub(crate) fn scan_chunk<E: BlockEngine + TimelessEngine, V: Events, L: Ledger>(
     tables: &Tables<E>,
     region: &mut [u8],
     cache: &mut NodeCache,
@@ -128,7 +126,7 @@ pub(crate) fn scan_chunk<E: BlockEngine + TimelessEngine + PooledEngine, V: Even
 }
 
 /// Takes bytes, 512 at a time.
-pub(crate) fn scan_bytes<E: BlockEngine + TimelessEngine + PooledEngine, V: Events, L: Ledger>(
+pub(crate) fn scan_bytes<E: BlockEngine + TimelessEngine, V: Events, L: Ledger>(
     tables: &Tables<E>,
     region: &mut [u8],
     cache: &mut NodeCache,

@@ -13,7 +13,8 @@ ghost use Rattle.hs_nodes.specs.declared.hits.ChunkHits.{ChunkHits};
 ghost use Rattle.hs_scan.specs.Hits.{HasNowhere};
 
 use hs_bits::MarkSet;
-use hs_lazy::{Cache, TimelessEngine};
+use hs_engine::TimelessEngine;
+use hs_lazy::Cache;
 use hs_literals::HitRows;
 use hs_nodes::{Chunk, Graph, run_cached, wake_engines, wake_literal};
 use hs_waking::{ClassWords, Starts};

@@ -2,9 +2,9 @@
 ghost use Rattle.std.specs.Prelude.{◌≡◌, ◌≤◌, ◌<◌, ◌^◌, false, length};
 
 use hs_base::{Assertion, ByteSet, NextSet, Prev};
-use hs_block::{BlockEnds, run_by_steps};
+use hs_block::run_by_steps;
 use hs_dfa::{Dfa, SetDfa};
-use hs_engine::{Automaton, Engine, Steps};
+use hs_engine::{Automaton, BlockEnds, Engine, Steps};
 use hs_expr::{Expr, has_embedded_end, is_plain, positions};
 use hs_glushkov::build;
 use hs_limex::Limex;

@@ -1,6 +1,6 @@
 use Rattle.std.proofs.Common.{◌≡◌, Some, slice_get, take, sym, subst, ◌∙◌}
 use Rattle.std.proofs.lemmas.Option.{get_or_from_slice_get, slice_get_within}
-use Rattle.hs_pool.specs.Steps.{TakesStep}
+use Rattle.hs_engine.specs.Timeless.{TakesStep}
 use Rattle.hs_pool.specs.declared.state.State.{State}
 use Rattle.hs_pool.proofs.PoolLemmas.{alike-at, grown-at, kept-alike, put-other, put-own}
 use Rattle.hs_pool.proofs.pool.StatePool.make.Goals as goal

@@ -8,7 +8,7 @@ use Rattle.hs_limex.specs.LimexEngines.{moves_of_limex}
 use Rattle.hs_limex.proofs.BodyLemmas.{reach-few}
 use Rattle.hs_limex.proofs.PlainLemmas.{field-rests, not-true}
 use Rattle.hs_limex.proofs.StepLemmas.{field-step_in}
-use Rattle.hs_limex.proofs.limex.Limex.move_anywhere.Goals as goal
+use Rattle.hs_limex.proofs.limex.Limex.move_by.Goals as goal
 
 pub returns-then-stays_at_rest-clause-well : goal.returns-then-stays_at_rest-clause-well
 returns-then-stays_at_rest-clause-well c at k above = zero-bits c.args.region.now (c.stays_at_rest.ensures.zero c.if-stays_at_rest.true) k
