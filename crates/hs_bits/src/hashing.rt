@@ -2,10 +2,7 @@
 
 ghost use Rattle.std.specs.Prelude.{◌<◌};
 
-use crate::words::word_at;
-
-/// How many bytes a word has.
-const WORD_BYTES: usize = 8;
+use crate::words::{WORD_BYTES, word_at};
 
 /// An odd number with about as many set bits as not, by which words are mixed.
 const MIXER: u64 = 0xD6E8_FEB8_6659_FD93;

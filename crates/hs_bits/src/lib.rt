@@ -35,7 +35,7 @@ pub use ranges::{has_bit_in, has_bit_round};
 pub use rows::{column, load, place_in};
 pub use runs::{row_word, spread};
 pub use words::{
-    WORD_BITS, are_apart, clear_words, contains_word_bit, insert_word_bit, is_unset, keep_words,
-    put_word_bit, shift_in, store, unite_bytes, unite_words, word_at, word_count_for,
+    WORD_BITS, WORD_BYTES, are_apart, clear_words, contains_word_bit, insert_word_bit, is_unset,
+    keep_words, put_word_bit, shift_in, store, unite_bytes, unite_words, word_at, word_count_for,
     write_word_bit,
 };

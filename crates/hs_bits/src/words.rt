@@ -11,6 +11,9 @@ use crate::bytes::BYTE_BITS;
 
 /// How many bits a word has.
 pub const WORD_BITS: usize = 64;
+
+/// How many bytes a word has.
+pub const WORD_BYTES: usize = 8;
 /// How many bytes a word has.
 const WORD_LEN: usize = WORD_BITS / BYTE_BITS;
 

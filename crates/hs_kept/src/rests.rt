@@ -6,17 +6,14 @@ ghost use Rattle.hs_kept.specs.Rests.{IsRestNumber, IsZeroBetween};
 
 use crate::field_bytes::number_for;
 use hs_base::Prev;
-use hs_bits::{BYTE_BITS, WORD_BITS, is_zero, word_at};
+use hs_bits::{WORD_BYTES, is_zero, word_at};
 use hs_states::StateSets;
 
 /// The greatest set of no position.
 const NO_POSITION: [u8; 64] = [0; 64];
 
-/// How many bytes a word has.
-const BYTES_IN_WORD: usize = WORD_BITS / BYTE_BITS;
-
 /// How many bytes are looked at at once: four words.
-const BLOCK_LEN: usize = 4 * BYTES_IN_WORD;
+const BLOCK_LEN: usize = 4 * WORD_BYTES;
 
 /// What is kept of a region of zeros.
 #[derive(Debug, Drop)]
@@ -78,8 +75,8 @@ fn is_block_zero(bytes: &[u8], at: usize) -> bool
     requires { at + 32 ≤ length bytes.now }
     ensures { result ≡ true → IsZeroBetween bytes.now at (at + 32) }
 {
-    let first = word_at(bytes, at) | word_at(bytes, at + BYTES_IN_WORD);
-    let last = word_at(bytes, at + 2 * BYTES_IN_WORD) | word_at(bytes, at + 3 * BYTES_IN_WORD);
+    let first = word_at(bytes, at) | word_at(bytes, at + WORD_BYTES);
+    let last = word_at(bytes, at + 2 * WORD_BYTES) | word_at(bytes, at + 3 * WORD_BYTES);
     first | last == 0
 }
 
@@ -89,8 +86,8 @@ fn is_rest_zero(bytes: &[u8], at: usize, end: usize) -> bool
     requires within { end ≤ length bytes.now }
     ensures { result ≡ true → IsZeroBetween bytes.now at end }
 {
-    let words = (end - at) / BYTES_IN_WORD;
-    are_words_zero(bytes, at, words) && is_zero(&bytes[at + BYTES_IN_WORD * words..end])
+    let words = (end - at) / WORD_BYTES;
+    are_words_zero(bytes, at, words) && is_zero(&bytes[at + WORD_BYTES * words..end])
 }
 
 /// Whether so many words are 0.
@@ -99,7 +96,7 @@ fn are_words_zero(bytes: &[u8], at: usize, count: usize) -> bool
     ensures { result ≡ true → IsZeroBetween bytes.now at (at + 8 * count) }
 {
     for number in 0..count {
-        if word_at(bytes, at + BYTES_IN_WORD * number) != 0 {
+        if word_at(bytes, at + WORD_BYTES * number) != 0 {
             return false;
         }
     }

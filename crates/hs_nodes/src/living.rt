@@ -11,12 +11,9 @@ ghost use Rattle.hs_nodes.specs.declared.table.Node.{Node};
 ghost use Rattle.hs_base.specs.Bits.{AreZero};
 
 use crate::table::{Node, NodeTable};
-use hs_bits::{MarkSet, word_at};
+use hs_bits::{MarkSet, WORD_BYTES, word_at};
 use hs_engine::Engine;
 use std::alloc::{AllocError, Global};
-
-/// How many bytes are looked at together.
-const WORD_BYTES: usize = 8;
 
 /// How many bytes are passed over together, four words.
 const SPAN_BYTES: usize = 4 * WORD_BYTES;
