@@ -18,7 +18,7 @@ use Rattle.hs_lazy.specs.Sound.{IsDfaSound, IsStep}
 use Rattle.hs_lazy.specs.Tables.{member_by, member_in, own_member}
 use Rattle.hs_lazy.specs.Walks.{IsChunkTaken, IsWalk, state_before}
 use Rattle.hs_lazy.proofs.PartLemmas.{size-part}
-use Rattle.hs_lazy.proofs.RunLemmas.{StandsBehind, run-more, run-none, run-same, stands-more, stands-none}
+use Rattle.hs_lazy.proofs.RunLemmas.{StandsBehind, run-more, run-none, run-one, run-same, stands-more, stands-none}
 
 take-next : (xs : List ℕ) (i : ℕ) → i < length xs → take i xs ++ slice_index xs i ∷ [] ≡ take (suc i) xs
 take-next [] i low = absurd (omega (arith, low))
@@ -75,7 +75,8 @@ module _ {E : Type 0} (meaning : E → Meaning) (engines : List E) (members : Li
       runs = λ k m e is there kept. subst (λ xs. RunsThrough (meaning e) (part image m) (part one.next.image m) prev xs (before-by k) (behind-by k)) (take-next bytes i low)
           (run-more (meaning e) (part image m) (part prior.state.image m) (part one.next.image m) prev prior.state.prev (take i bytes) (slice_index bytes i) (before-by k) (behind-by k)
           (prior.runs k m e is there kept)
-          (subst (λ n. RunsThrough (meaning e) (part prior.state.image m) (part one.next.image m) prior.state.prev (slice_index bytes i ∷ []) (λ j. before-by k n) (λ j. behind-by k n)) (sym count) (one.takes k m e is there kept).runs)
+          (subst (λ n. RunsThrough (meaning e) (part prior.state.image m) (part one.next.image m) prior.state.prev (slice_index bytes i ∷ []) (λ j. before-by k n) (λ j. behind-by k n)) (sym count)
+          (run-one (meaning e) (part prior.state.image m) (part one.next.image m) prior.state.prev (slice_index bytes i) (record { before = before-by k i; behind = behind-by k i }) (one.takes k m e is there kept)))
           prior.stands);
       well = λ some k m e is there kept at. (one.takes k m e is there kept).well at;
     }

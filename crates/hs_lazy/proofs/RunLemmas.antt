@@ -6,8 +6,10 @@ use Rattle.hs_base.specs.declared.context.Next.TheVariants as after
 use Rattle.hs_base.specs.declared.context.Prev.{Prev}
 use Rattle.hs_base.specs.Contexts.{class_of, prev_at, prev_behind}
 use Rattle.hs_base.specs.Fields.{Leaves}
+use Rattle.hs_base.specs.Trees.{Tree}
 use Rattle.hs_engine.specs.Engines.{IsAsleep, Meaning}
 use Rattle.hs_engine.specs.declared.ends.ByteEnds.{ByteEnds}
+use Rattle.hs_engine.specs.Timeless.{IsStepTaken}
 use Rattle.hs_lazy.specs.Runs.{IsBlankRegion, IsRunThrough, RunsThrough, TakesEntered}
 use Rattle.hs_lazy.proofs.TableLemmas.{get-last}
 
@@ -128,28 +130,38 @@ pub asleep-takes : (m : Meaning) (region : List ℕ) (prev : Prev) (byte : ℕ) 
     ends.before ≡ false → ends.behind ≡ false → TakesEntered m region region prev byte ends
 asleep-takes m region prev byte ends asleep blank no-before no-behind = record {
   well = blank.well;
-  runs = runs;
+  takes = takes;
 }
   where
     never : (x : Bool) (P : Type 0) → x ≡ false → (P → ⊥) → (x ≡ true) ↔ P
     never x P unset none = (λ set. absurd (cc), λ p. absurd (none p))
 
-    runs : RunsThrough m region region prev (byte ∷ []) (λ i. ends.before) (λ i. ends.behind)
-    runs tree u entered is-for sized is field =
+    takes : (tree : Tree) (u : List ℕ) (entered : List Bool) → m.is_for tree → length entered ≡ length u → prev ≡ prev_at u (length u) → m.field region tree u entered →
+        IsStepTaken (m.field region tree) tree u entered true byte ends
+    takes tree u entered is-for sized is field =
         let stays : m.field region tree (u ++ byte ∷ []) (entered ++ true ∷ []) =
         subst (λ x. m.field region tree (u ++ byte ∷ []) (entered ++ x ∷ [])) (or-true m.always) (asleep.stays true tree u entered is-for sized field) in
         record {
           field = stays;
-          before_is = λ i low.
-              let first : 0 ≡ i = omega (arith, low) in
-              subst (λ k. (ends.before ≡ true) ↔ Leaves tree (u ++ take k (byte ∷ [])) (entered ++ replicate k true) (class_of (slice_index (byte ∷ []) k))) first
-              (never ends.before (Leaves tree (u ++ []) (entered ++ []) (class_of byte)) no-before
-              (λ leaves. asleep.leaves_nothing tree u entered is-for sized field (class_of byte)
-              (subst (λ w. Leaves tree w entered (class_of byte)) (append-nil u) (subst (λ es. Leaves tree (u ++ []) es (class_of byte)) (append-nil entered) leaves))));
-          behind_is = λ i low.
-              let first : 0 ≡ i = omega (arith, low) in
-              subst (λ k. (ends.behind ≡ true) ↔ Leaves tree (u ++ take (k + 1) (byte ∷ [])) (entered ++ replicate (k + 1) true) after.Unknown) first
-              (never ends.behind (Leaves tree (u ++ byte ∷ []) (entered ++ true ∷ []) after.Unknown) no-behind
+          before_is = never ends.before (Leaves tree u entered (class_of byte)) no-before (asleep.leaves_nothing tree u entered is-for sized field (class_of byte));
+          behind_is = never ends.behind (Leaves tree (u ++ byte ∷ []) (entered ++ true ∷ []) after.Unknown) no-behind
               (asleep.leaves_nothing tree (u ++ byte ∷ []) (entered ++ true ∷ []) is-for
-              (omega (arith, sized, length-append u (byte ∷ []), length-append entered (true ∷ []))) stays after.Unknown));
+              (omega (arith, sized, length-append u (byte ∷ []), length-append entered (true ∷ []))) stays after.Unknown);
         }
+
+-- One byte that is taken is a run.
+pub run-one : (m : Meaning) (old new : List ℕ) (prev : Prev) (byte : ℕ) (ends : ByteEnds) → TakesEntered m old new prev byte ends →
+    RunsThrough m old new prev (byte ∷ []) (λ i. ends.before) (λ i. ends.behind)
+run-one m old new prev byte ends taken tree u entered is-for sized is field =
+    let one = taken.takes tree u entered is-for sized is field in
+    record {
+      field = one.field;
+      before_is = λ i low.
+          let first : 0 ≡ i = omega (arith, low) in
+          subst (λ k. (ends.before ≡ true) ↔ Leaves tree (u ++ take k (byte ∷ [])) (entered ++ replicate k true) (class_of (slice_index (byte ∷ []) k))) first
+          (subst (λ w. (ends.before ≡ true) ↔ Leaves tree w (entered ++ []) (class_of byte)) (sym (append-nil u))
+          (subst (λ es. (ends.before ≡ true) ↔ Leaves tree u es (class_of byte)) (sym (append-nil entered)) one.before_is));
+      behind_is = λ i low.
+          let first : 0 ≡ i = omega (arith, low) in
+          subst (λ k. (ends.behind ≡ true) ↔ Leaves tree (u ++ take (k + 1) (byte ∷ [])) (entered ++ replicate (k + 1) true) after.Unknown) first one.behind_is;
+    }

@@ -32,10 +32,9 @@ neither-right false y none = none
 -- only what is told counts
 pub takes-ends : (m : Meaning) (old new : List ℕ) (prev : Prev) (byte : ℕ) (ends : ByteEnds) (before behind : Bool) →
     before ≡ ends.before → behind ≡ ends.behind → TakesEntered m old new prev byte ends → TakesEntered m old new prev byte (record { before = before; behind = behind })
-takes-ends m old new prev byte ends before behind befores behinds takes = record {
-  well = takes.well;
-  runs = run-same m old new prev (byte ∷ []) (λ i. ends.before) (λ i. ends.behind) (λ i. before) (λ i. behind) (λ i low. befores) (λ i low. behinds) takes.runs;
-}
+takes-ends m old new prev byte ends before behind befores behinds takes =
+    subst (λ b. TakesEntered m old new prev byte (record { before = b; behind = behind })) (sym befores)
+    (subst (λ b. TakesEntered m old new prev byte (record { before = ends.before; behind = b })) (sym behinds) takes)
 
 module _ {E : Type 0} (meaning : E → Meaning) (engines : List E) (members : List Member) (old : State) (byte : ℕ) where
   -- the members that aren't asked have taken the byte, and those that are before a place

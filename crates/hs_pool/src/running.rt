@@ -10,7 +10,7 @@ use crate::pool::StatePool;
 use crate::state::{MAX_REGION, padded};
 use hs_base::Prev;
 use hs_bits::{contains_place, is_zero, member_places, next_place};
-use hs_engine::{ByteEnds, TimelessEngine};
+use hs_engine::{BlockEnds, ByteEnds, TimelessEngine};
 
 /// How many bytes the region of an engine has at least: one of at most 64 positions takes a block sooner by itself.
 const MIN_REGION: usize = 9;
