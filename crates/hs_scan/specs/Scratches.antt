@@ -20,7 +20,7 @@ use Rattle.hs_scan.specs.NodeCaches.{IsNodeCacheOf}
 use Rattle.hs_scan.specs.Knowing.{FitsKnown, IsPending}
 use Rattle.hs_scan.specs.Scans.{AreHitsBehind, Stand, stand}
 use Rattle.hs_nodes.specs.declared.graph.Graph.{Graph}
-use Rattle.hs_scan.specs.declared.chunk.Course.{Course}
+use Rattle.hs_scan.specs.declared.course.Course.{Course}
 use Rattle.hs_scan.specs.declared.node_cache.NodeCache.{NodeCache}
 use Rattle.hs_scan.specs.declared.scratch.Scratch.{Scratch}
 
@@ -90,6 +90,22 @@ pub record ForgetsHits (old new : Scratch) : Type 0 where
   pub ends : new.ends ≡ old.ends
   pub starts : new.starts ≡ old.starts
   pub course : new.course ≡ old.course
+  pub finals : new.finals ≡ old.finals
+  pub last : new.last ≡ old.last
+  pub past : new.past ≡ old.past
+  pub at_is : new.at ≡ old.at
+
+-- There is room for so many nodes, each of which may be left anywhere.
+pub record HasRoomForNodes (nodes : ℕ) (s : Scratch) : Type 0 where
+  pub count : length s.ends.items ≡ nodes
+  pub room : nodes ≤ mark_room s.course.marks
+  pub below : (k : ℕ) → is_marked s.course.marks k ≡ true → k < nodes
+
+-- Only where nodes are left, where they may be entered, and which are marked are other ones.
+pub record KeepsKnown (old new : Scratch) : Type 0 where
+  pub hits : new.hits ≡ old.hits
+  pub rows : new.rows ≡ old.rows
+  pub known : new.course.known ≡ old.course.known
   pub finals : new.finals ≡ old.finals
   pub last : new.last ≡ old.last
   pub past : new.past ≡ old.past

@@ -2,8 +2,8 @@
 #![tactic(auto)]
 
 mod asking;
-mod chunk;
 mod copying;
+mod course;
 mod feeding;
 mod finishing;
 mod hits;
@@ -12,6 +12,7 @@ mod last_byte;
 mod line_feed;
 mod node_cache;
 mod past;
+mod running;
 mod scanning;
 mod scratch;
 mod tables;

@@ -21,12 +21,12 @@ ghost use Rattle.hs_scan.specs.Writing.{AreLeftByLineFeed, LeavesLineFeed, Leave
 
 use crate::known::{Known, settle_known};
 use crate::node_cache::NodeCache;
+use crate::running::run_nodes;
 use crate::scratch::Scratch;
-use crate::waking::wake;
 use hs_bits::{contains_word_bit, write_word_bit};
 use hs_block::BlockEngine;
 use hs_engine::{Steps, TimelessEngine};
-use hs_nodes::{Chunk, ChunkEnds, Foretold, Graph, everywhere, gather_block, settle, walk};
+use hs_nodes::{Chunk, ChunkEnds, Graph, everywhere, gather_block, settle};
 use hs_reports::{Events, Identifier, IdentifierEnds, is_left_to_end};
 use std::sync::ledger::Ledger;
 
@@ -159,31 +159,7 @@ pub(crate) fn run_line_feed<E: BlockEngine + TimelessEngine, V: Events, L: Ledge
         chunk.now.bytes.now scratch.old.hits.items scratch.old.course.known.told.items
         scratch.old.course.known.here.items scratch.old.finals scratch.new.last.items }
 {
-    wake(
-        graph,
-        &scratch.rows,
-        chunk,
-        region,
-        &mut scratch.words,
-        &mut cache.automata,
-        &mut scratch.starts,
-        &mut scratch.course.marks,
-    );
-    let foretold = Foretold {
-        hits: &scratch.hits,
-        starts: &scratch.starts,
-        cache: &cache.automata,
-    };
-    walk(
-        &graph.table,
-        chunk,
-        &foretold,
-        region,
-        &mut scratch.ends,
-        &mut scratch.course.marks,
-        &mut cache.pool,
-        steps,
-    );
+    run_nodes(graph, region, cache, scratch, chunk, steps);
     let all = everywhere(chunk);
     tell_line_feed(graph, scratch, chunk, &all, events);
     let marks = &mut scratch.course.marks;

@@ -14,19 +14,20 @@ ghost use Rattle.hs_scan.specs.Scans.{Scans, ScansChunk};
 ghost use Rattle.hs_scan.specs.Scratches.{HasNoHits, IsBetweenChunks, KeepsAll, KeepsTables, MayRunNodes};
 ghost use Rattle.hs_scan.specs.Scratches.{stand_of};
 
-use crate::chunk::take_chunk;
+use crate::known::tell_chunk;
 use crate::node_cache::NodeCache;
 use crate::past::{prev_of, push_past};
+use crate::running::run_nodes;
 use crate::scratch::{Scratch, find_hits, forget};
 use crate::tables::Tables;
-use crate::waking::wake;
 use hs_block::BlockEngine;
 use hs_engine::{Steps, TimelessEngine};
-use hs_nodes::{Chunk, Foretold, Graph, MAX_CHUNK};
+use hs_nodes::{Chunk, Graph, MAX_CHUNK, everywhere, settle};
 use hs_reports::Events;
 use std::sync::ledger::Ledger;
 
-/// Takes a chunk, of which the scratch has where the literals end in it.
+/// Takes a chunk, of which the scratch has where the literals end in it: the nodes, and then the reports. Nothing is
+/// live then in the nodes that aren't marked.
 fn run_chunk<E: BlockEngine + TimelessEngine, V: Events, L: Ledger>(
     graph: &Graph<E>,
     region: &mut [u8],
@@ -53,32 +54,19 @@ fn run_chunk<E: BlockEngine + TimelessEngine, V: Events, L: Ledger>(
         scratch.old.course.known.told.items scratch.old.course.known.here.items scratch.new.course.known.told.items
         scratch.new.course.known.here.items) }
 {
-    wake(
-        graph,
-        &scratch.rows,
-        chunk,
-        region,
-        &mut scratch.words,
-        &mut cache.automata,
-        &mut scratch.starts,
-        &mut scratch.course.marks,
-    );
-    let foretold = Foretold {
-        hits: &scratch.hits,
-        starts: &scratch.starts,
-        cache: &cache.automata,
-    };
-    take_chunk(
+    run_nodes(graph, region, cache, scratch, chunk, steps);
+    let all = everywhere(chunk);
+    tell_chunk(
         graph,
         chunk,
-        &foretold,
-        region,
-        &mut scratch.ends,
-        &mut scratch.course,
-        &mut cache.pool,
+        &scratch.course.marks,
+        &scratch.ends,
+        &all,
+        &mut scratch.course.known,
         events,
-        steps,
     );
+    let marks = &mut scratch.course.marks;
+    settle(&graph.table, region, &mut scratch.ends, marks);
 }
 
 /// Takes up to 512 bytes.

@@ -9,7 +9,7 @@ ghost use Rattle.hs_literals.specs.HitTables.{has_hit};
 ghost use Rattle.hs_scan.specs.Hits.{HasNowhere};
 ghost use Rattle.hs_scan.specs.Scratches.{FindsHits, ForgetsHits, HasNoHits, IsIdle, ServesGraph};
 
-use crate::chunk::Course;
+use crate::course::Course;
 use crate::hits::{forget_hits, show_hits};
 use crate::past::seen_of;
 use hs_bits::word_count_for;

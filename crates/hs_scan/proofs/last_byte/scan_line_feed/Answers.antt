@@ -4,7 +4,7 @@ use Rattle.hs_base.specs.Assertions.{line_feed}
 use Rattle.hs_literals.specs.Held.{held}
 use Rattle.hs_nodes.specs.Resting.{AreNodesResting}
 use Rattle.hs_scan.specs.Asking.{AsksEnds}
-use Rattle.hs_scan.specs.declared.chunk.Course.{Course}
+use Rattle.hs_scan.specs.declared.course.Course.{Course}
 use Rattle.hs_scan.specs.Scans.{stand}
 use Rattle.hs_scan.specs.Writing.{LeavesToEnd}
 use Rattle.hs_nodes.specs.Walks.{AreNodesWell}
