@@ -177,6 +177,7 @@ impl TimelessEngine for PieceEngine {
         }
     }
 
+    #[inline(always)]
     fn take_byte(&self, region: &mut [u8], prev: Prev, enters: bool, byte: u8) -> Option<ByteEnds> {
         match self {
             PieceEngine::Positions(positions) => positions.take_byte(region, prev, enters, byte),

@@ -132,6 +132,7 @@ impl PositionEngine {
     }
 
     /// Takes a byte behind `prev`, before which the expression is entered or not, wherever the stream stands.
+    #[inline(always)]
     fn take_by(&self, region: &mut [u8], prev: Prev, enters: bool, byte: u8) -> ByteEnds
         requires len { length region.old ≡ (meaning_of_positions self.now).width }
         ensures len { length region.new ≡ length region.old }
@@ -214,6 +215,7 @@ impl TimelessEngine for PositionEngine {
         true
     }
 
+    #[inline(always)]
     fn take_byte(&self, region: &mut [u8], prev: Prev, enters: bool, byte: u8) -> Option<ByteEnds> {
         Some(self.take_by(region, prev, enters, byte))
     }
