@@ -2,5 +2,6 @@
 #![tactic(auto)]
 
 mod keeping;
+mod row_words;
 
 pub use keeping::{read_rows, write_rows};
