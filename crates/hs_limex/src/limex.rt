@@ -41,6 +41,7 @@ impl Limex {
 
     /// Takes a byte behind `prev`, before which the expression is entered or not, wherever the stream stands, and
     /// counts no step.
+    #[inline(always)]
     pub fn move_by(&self, region: &mut [u8], prev: Prev, entered: bool, byte: u8)
         requires len { length region.old ≡ (meaning_of_limex self.now).width }
         ensures len { length region.new ≡ length region.old }

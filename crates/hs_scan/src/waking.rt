@@ -39,6 +39,7 @@ fn wake_literals<E>(graph: &Graph<E>, rows: &HitRows, marks: &mut MarkSet)
 /// Marks the nodes that a chunk wakes, in which just the literals end of which the rows tell it. Of the
 /// engines without a parent the cache tells what they do, from the region on, or it is said where their matches may
 /// begin.
+#[inline(never)]
 pub(crate) fn wake<E: TimelessEngine>(
     graph: &Graph<E>,
     rows: &HitRows,
