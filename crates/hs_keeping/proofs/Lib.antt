@@ -1,2 +1,1 @@
 pub mod KeepingLemmas
-pub mod RowWordLemmas

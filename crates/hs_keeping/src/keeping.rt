@@ -2,19 +2,15 @@
 
 ghost use Rattle.std.specs.Prelude.{◌≡◌, ℕ, ◌+◌, ◌*◌, ◌<◌, ◌≤◌, ◌^◌, [], true, length};
 ghost use Rattle.hs_base.specs.Bits.{has_bit, has_word_bit, word_count};
-ghost use Rattle.hs_base.specs.Regions.{fields_at, here_at, last_at, row_size, told_at};
+ghost use Rattle.hs_base.specs.Regions.{last_at, told_at};
 ghost use Rattle.hs_layout.specs.Layouts.{laid_size};
 ghost use Rattle.hs_keeping.specs.Keeping.{AreBitsRead, AreBitsWritten, AreEndsWritten, AreLast, AreRead, HasBits};
 ghost use Rattle.hs_keeping.specs.Keeping.{IsOneWritten};
 ghost use Rattle.hs_reports.specs.Identifiers.{with_single};
 
-use crate::row_words::write_row;
-use hs_bits::{BYTE_BITS, WORD_BYTES, contains_word_bit, write_word_bit};
-use hs_layout::{HISTORY_SIZE, Layout};
+use hs_bits::{contains_word_bit, write_word_bit};
+use hs_layout::Layout;
 use hs_reports::Identifier;
-
-/// Where the first row of bits begins: behind the offset, which is a word, and the history.
-const FIRST_ROW_AT: usize = WORD_BYTES + HISTORY_SIZE;
 
 /// How many single identifiers come up to that one, if so many come before it.
 fn singles_up_to(identifier: Identifier, before: usize) -> usize
@@ -183,38 +179,15 @@ fn write_each(
     }
 }
 
-/// Where the row begins of the pairs that end behind the last byte. That it and the row behind it lie within a region
-/// is what the calls tell whose results aren't taken.
-fn here_place(layout: &Layout) -> usize
-    ensures at { result ≡ here_at layout.now.singles }
-    ensures within { fields_at layout.now.singles layout.now.identifiers ≤ laid_size layout.now }
-    ensures small { laid_size layout.now ≤ 2 ^ 24 }
-{
-    let _ = layout.fields();
-    let _ = layout.size();
-    let _ = layout.place(0);
-    FIRST_ROW_AT + bytes_for(layout.singles())
-}
-
-/// How many bytes a row of so many bits has.
-fn bytes_for(bits: usize) -> usize
-    requires few { bits < 2 ^ 32 }
-    ensures { result ≡ row_size bits }
-{
-    (bits + (BYTE_BITS - 1)) / BYTE_BITS
-}
-
 /// Writes what is known of each identifier but whether it is told; all else stays.
-fn write_ends(layout: &Layout, region: &mut [u8], count: usize, here: &[u64], last: &[u64])
+fn write_ends(layout: &Layout, region: &mut [u8], here: &[u64], last: &[u64])
     requires sized { length region.old ≡ laid_size layout.now }
-    requires count { count ≡ layout.now.identifiers }
     requires here { layout.now.identifiers ≤ 64 * length here.now }
     requires last { layout.now.identifiers ≤ 64 * length last.now }
     ensures { AreEndsWritten layout.now here.now last.now region.old region.new }
 {
-    let from = here_place(layout);
-    write_row(region, from, count, here);
-    write_row(region, from + bytes_for(count), count, last);
+    layout.write_told_here(region, here);
+    layout.write_finals(region, last);
 }
 
 /// Writes what is known of each identifier; all else stays. It goes by words, where all are single or none is.
@@ -239,9 +212,9 @@ pub fn write_rows(
     let singles = layout.singles();
     if singles == identifiers.len() {
         layout.write_told_singles(region, told);
-        write_ends(layout, region, identifiers.len(), here, last);
+        write_ends(layout, region, here, last);
     } else if singles == 0 {
-        write_ends(layout, region, identifiers.len(), here, last);
+        write_ends(layout, region, here, last);
     } else {
         write_each(layout, region, identifiers, told, here, last);
     }

@@ -2,6 +2,5 @@
 #![tactic(auto)]
 
 mod keeping;
-mod row_words;
 
 pub use keeping::{read_rows, write_rows};

@@ -4,3 +4,4 @@ pub mod HistoryLemmas
 pub mod LendingLemmas
 pub mod FieldLemmas
 pub mod RowLemmas
+pub mod RowWordLemmas

@@ -120,7 +120,37 @@ fn fill(words: &mut [u64], number: usize, set: &ByteSet, bytes: &[u8])
 }
 
 /// The places of a block of 64 bytes that are in the set, and those behind the last byte.
+#[inline(always)]
 fn open_places(set: &ByteSet, bytes: &[u8], block: usize) -> u64
+    requires few { length bytes.now ≤ 512 }
+    requires block { block < 9 }
+    ensures { (i : ℕ) → i < 64 →
+        (bit_at result i == 1) ≡
+        (nat_le (length bytes.now) (64 * block + i) || has set.now (slice_index bytes.now (64 * block + i))) }
+{
+    if WORD_BITS * block + WORD_BITS <= bytes.len() {
+        return whole_places(set, bytes, block);
+    }
+    part_places(set, bytes, block)
+}
+
+/// The places of a whole block that are in the set. That its length is known spares what counts its lanes.
+#[inline(always)]
+fn whole_places(set: &ByteSet, bytes: &[u8], block: usize) -> u64
+    requires few { length bytes.now ≤ 512 }
+    requires within { 64 * block + 64 ≤ length bytes.now }
+    ensures { (i : ℕ) → i < 64 →
+        (bit_at result i == 1) ≡
+        (nat_le (length bytes.now) (64 * block + i) || has set.now (slice_index bytes.now (64 * block + i))) }
+{
+    let from = WORD_BITS * block;
+    member_places(set, &bytes[from..from + WORD_BITS])
+}
+
+/// The places of a block in which the bytes end, or behind their end, that are in the set, and those behind the last
+/// byte.
+#[inline(never)]
+fn part_places(set: &ByteSet, bytes: &[u8], block: usize) -> u64
     requires few { length bytes.now ≤ 512 }
     requires block { block < 9 }
     ensures { (i : ℕ) → i < 64 →

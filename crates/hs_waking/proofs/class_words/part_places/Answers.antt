@@ -1,6 +1,6 @@
 use Rattle.std.proofs.Common.{◌≡◌, ◌-◌, ◌*◌, ap, ◌∙◌, arith, nat_lt, min, length}
 use Rattle.hs_waking.proofs.WordLemmas.{open-bit}
-use Rattle.hs_waking.proofs.class_words.open_places.Goals as goal
+use Rattle.hs_waking.proofs.class_words.part_places.Goals as goal
 
 pub returns : goal.returns
 returns c i small =

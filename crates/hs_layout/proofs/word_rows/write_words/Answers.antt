@@ -1,7 +1,7 @@
 use Rattle.std.proofs.Common.{◌≡◌, [], ◌∷◌, ◌+◌, ◌*◌, get_or, subst, arith}
 use Rattle.hs_layout.specs.Rows.{IsRowWritten}
-use Rattle.hs_keeping.proofs.RowWordLemmas.{bits-there, none-written, rows-join}
-use Rattle.hs_keeping.proofs.row_words.write_words.Goals as goal
+use Rattle.hs_layout.proofs.RowWordLemmas.{bits-there, none-written, rows-join}
+use Rattle.hs_layout.proofs.word_rows.write_words.Goals as goal
 
 pub loop-number-init : goal.loop-number-init
 loop-number-init c = none-written c.args.from c.args.row.now c.args.region.now

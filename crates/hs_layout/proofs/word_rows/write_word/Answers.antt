@@ -1,8 +1,8 @@
 use Rattle.std.proofs.Common.{[], ◌∷◌, ◌+◌, subst, ◌∙◌, arith}
 use Rattle.hs_layout.specs.Rows.{IsRowWritten}
 use Rattle.hs_layout.proofs.WrittenLemmas.{part-mid}
-use Rattle.hs_keeping.proofs.RowWordLemmas.{word-stored}
-use Rattle.hs_keeping.proofs.row_words.write_word.Goals as goal
+use Rattle.hs_layout.proofs.RowWordLemmas.{word-stored}
+use Rattle.hs_layout.proofs.word_rows.write_word.Goals as goal
 
 pub returns : goal.returns
 returns c =

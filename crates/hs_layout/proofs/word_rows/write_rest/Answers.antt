@@ -4,7 +4,7 @@ use Rattle.hs_base.proofs.RegionLemmas.{range-size}
 use Rattle.hs_layout.specs.Rows.{IsRowWritten}
 use Rattle.hs_layout.proofs.RowLemmas.{one-more, stored}
 use Rattle.hs_layout.proofs.WrittenLemmas.{part-mid}
-use Rattle.hs_keeping.proofs.row_words.write_rest.Goals as goal
+use Rattle.hs_layout.proofs.word_rows.write_rest.Goals as goal
 
 pub loop-k-init : goal.loop-k-init
 loop-k-init c =
@@ -21,7 +21,7 @@ loop-k-init c =
 
 pub loop-k-preserved : goal.loop-k-preserved
 loop-k-preserved c =
-    one-more c.args.at c.loop-k.k c.contains_word_bit.result c.args.row.now c.args.region.now c.loop-k.region c.write_bit_of.new.region c.contains_word_bit.ensures c.loop-k.invariant c.write_bit_of.ensures
+    one-more c.args.at c.loop-k.k c.contains_word_bit.result c.args.row.now c.args.region.now c.loop-k.region c.set_bit.new.region c.contains_word_bit.ensures c.loop-k.invariant c.set_bit.ensures
 
 pub returns : goal.returns
 returns c =
