@@ -1,5 +1,5 @@
 -- Rows of bits of a region, as rows of words.
-use Rattle.std.proofs.Common.{◌≡◌, ◌⊎◌, ℕ, suc, ◌+◌, ◌*◌, ◌/◌, ◌%◌, ◌<◌, ◌≤◌, ◌-◌, Bool, true, false, ◌&&◌, ◌||◌, List, ◌++◌, take, drop, length, get_or, slice_range, ltb, refl, sym, ap, subst, ◌∙◌, inl, inr, arith, length-append, length-drop}
+use Rattle.std.proofs.Common.{◌≡◌, ◌⊎◌, ℕ, ◌+◌, ◌*◌, ◌/◌, ◌<◌, ◌≤◌, ◌-◌, Bool, true, false, ◌&&◌, ◌||◌, List, ◌++◌, take, drop, length, get_or, slice_range, ltb, refl, sym, ap, ◌∙◌, inl, inr, arith, length-append, length-drop}
 use Rattle.std.proofs.lemmas.List.{length-take-le, get_or_append_left, get_or-append-add, get_or-take, get_or-drop}
 use Rattle.std.proofs.lemmas.Bool.{cases_eq, lt-ltb}
 use Rattle.hs_base.specs.Bits.{has_bit, has_word_bit}

@@ -18,7 +18,7 @@ use Rattle.hs_lazy.specs.Parts.{AreMembersApart, AreLeading, AreLive, IsBeside, 
 use Rattle.hs_lazy.specs.Runs.{AreZerosBlank, IsBlankRegion, TakesEntered}
 use Rattle.hs_lazy.specs.Sound.{AreMembersOf, HaveTaken, IsDfaSound, IsIdleStep, IsStep, TakeEntered}
 use Rattle.hs_lazy.proofs.PartLemmas.{beside, beside-back, same-parts, size-part}
-use Rattle.hs_lazy.proofs.RunLemmas.{asleep-takes, run-same}
+use Rattle.hs_lazy.proofs.RunLemmas.{asleep-takes}
 use Rattle.hs_lazy.proofs.TableLemmas.{get-either, same-got}
 
 neither-left : (x y : Bool) → (x || y) ≡ false → x ≡ false

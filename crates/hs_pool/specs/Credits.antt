@@ -1,5 +1,5 @@
 -- What may be spent on steps that weren't met yet, as numbers.
-use Rattle.std.specs.Prelude.{ℕ, ◌+◌, ◌*◌, nat_lt, if◌then◌else◌}
+use Rattle.std.specs.Prelude.{ℕ, nat_lt, if◌then◌else◌}
 use Rattle.hs_pool.specs.declared.credit.Credit.{Credit}
 
 -- so many steps, so many blocks of rest, and so many the next time
