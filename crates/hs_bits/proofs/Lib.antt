@@ -13,3 +13,4 @@ pub mod CountLemmas
 pub mod RunLemmas
 pub mod PackedLemmas
 pub mod RowLemmas
+pub mod ZeroLemmas

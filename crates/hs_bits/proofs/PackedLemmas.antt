@@ -1,9 +1,9 @@
 -- Bytes made of a test of the numbers of their bits.
-use Rattle.std.proofs.Common.{◌≡◌, ℕ, zero, suc, ◌+◌, ◌*◌, ◌/◌, ◌%◌, ◌^◌, ◌<◌, ◌≤◌, Bool, true, false, nat_lt, ◌&&◌, ◌∷◌, List, length, get_or, set, eqb, bit_and, refl, sym, ap, ◌∙◌, inl, inr, arith}
+use Rattle.std.proofs.Common.{◌≡◌, ℕ, zero, suc, ◌+◌, ◌*◌, ◌/◌, ◌%◌, ◌^◌, ◌<◌, ◌≤◌, Bool, true, false, nat_lt, ◌&&◌, ◌∷◌, List, ◌-◌, ◌++◌, take, drop, length, length-append, length-drop, get_or, set, eqb, bit_and, w64, refl, sym, ap, ◌∙◌, inl, inr, arith}
 use Rattle.std.specs.Prelude.{if◌then◌else◌}
-use Rattle.std.specs.Int.{bit_at}
+use Rattle.std.specs.Int.{bit_at, to_le_bytes}
 use Rattle.std.proofs.lemmas.Bool.{cases_eq, cases_lt}
-use Rattle.std.proofs.lemmas.List.{get_or-set_same, get_or-set_other}
+use Rattle.std.proofs.lemmas.List.{get_or-append-add, get_or-set_other, get_or-set_same, get_or-take, get_or_append_left, length-take-le}
 use Rattle.std.proofs.lemmas.Nat.{and_mask, shr-shr}
 use Rattle.std.proofs.lemmas.Nat.Bits.{bit_at-lt, same_from_bits_below}
 use Rattle.std.proofs.Math.Nat.{pow-suc}
@@ -11,7 +11,7 @@ use Rattle.hs_base.specs.Bits.{AreZero, has_bit, has_word_bit}
 use Rattle.hs_base.proofs.BitLemmas.{bits-past, same-places}
 use Rattle.hs_bits.specs.Packed.{digits, packed}
 use Rattle.hs_bits.proofs.PlaceLemmas.{less-is, not-less}
-use Rattle.hs_bits.proofs.WordLemmas.{byte-bits}
+use Rattle.hs_bits.proofs.WordLemmas.{byte-bits, le-bits, le-fits}
 
 pub length-packed : (n : ℕ) (bit : ℕ → Bool) → length (packed n bit) ≡ n
 length-packed zero bit = refl
@@ -109,13 +109,11 @@ digits-below (suc n) f =
     one-most true = omega arith
     one-most false = omega arith
 
-pub low-byte : (row : List ℕ) (i : ℕ) → bit_and (get_or row (i / 8) 0 / 2 ^ (8 * (i % 8))) 255 ≡ digits 8 (λ k. has_word_bit row (8 * i + k))
-low-byte row i =
-    let byte : ℕ = bit_and (get_or row (i / 8) 0 / 2 ^ (8 * (i % 8))) 255 in
-    let small : byte < 2 ^ 8 = omega (arith, and_mask (get_or row (i / 8) 0 / 2 ^ (8 * (i % 8))) 8) in
-    same_from_bits_below 8 byte (digits 8 (λ k. has_word_bit row (8 * i + k))) small (digits-below 8 (λ k. has_word_bit row (8 * i + k))) (λ k below.
-    same-digit (bit_at byte k) (bit_at (digits 8 (λ k. has_word_bit row (8 * i + k))) k) (bit_at-lt byte k) (bit_at-lt (digits 8 (λ k. has_word_bit row (8 * i + k))) k)
-    (byte-bits row i k below ∙ sym (bit-digits 8 (λ k. has_word_bit row (8 * i + k)) k below)))
+-- a byte is made of its bits
+byte-is : (byte : ℕ) (f : ℕ → Bool) → byte < 2 ^ 8 → ((k : ℕ) → k < 8 → eqb (bit_at byte k) 1 ≡ f k) → byte ≡ digits 8 f
+byte-is byte f small bits =
+    same_from_bits_below 8 byte (digits 8 f) small (digits-below 8 f) (λ k below.
+    same-digit (bit_at byte k) (bit_at (digits 8 f) k) (bit_at-lt byte k) (bit_at-lt (digits 8 f) k) (bits k below ∙ sym (bit-digits 8 f k below)))
   where
     same-digit : (a b : ℕ) → a < 2 → b < 2 → eqb a 1 ≡ eqb b 1 → a ≡ b
     same-digit zero zero h k e = refl
@@ -124,6 +122,51 @@ low-byte row i =
     same-digit (suc zero) (suc zero) h k e = refl
     same-digit (suc (suc a)) b h k e = absurd (omega arith)
     same-digit a (suc (suc b)) h k e = absurd (omega arith)
+
+pub low-byte : (row : List ℕ) (i : ℕ) → bit_and (get_or row (i / 8) 0 / 2 ^ (8 * (i % 8))) 255 ≡ digits 8 (λ k. has_word_bit row (8 * i + k))
+low-byte row i =
+    let byte : ℕ = bit_and (get_or row (i / 8) 0 / 2 ^ (8 * (i % 8))) 255 in
+    byte-is byte (λ k. has_word_bit row (8 * i + k)) (omega (arith, and_mask (get_or row (i / 8) 0 / 2 ^ (8 * (i % 8))) 8)) (byte-bits row i)
+
+-- one of the eight bytes of a word
+byte-of_word : (row : List ℕ) (p j : ℕ) → get_or row p 0 < 2 ^ 64 → j < 8 → get_or (to_le_bytes w64 (get_or row p 0)) j 0 ≡ digits 8 (λ k. has_word_bit row (8 * (8 * p + j) + k))
+unfolding has_bit has_word_bit
+byte-of_word row p j fits inside =
+    let word : ℕ = get_or row p 0 in
+    byte-is (get_or (to_le_bytes w64 word) j 0) (λ k. has_word_bit row (8 * (8 * p + j) + k)) (le-fits word j) (λ k below.
+    let byte : (8 * j + k) / 8 ≡ j = omega (arith, below) in
+    let bit : (8 * j + k) % 8 ≡ k = omega (arith, below) in
+    let number : (8 * (8 * p + j) + k) / 64 ≡ p = omega (arith, below, inside) in
+    let place : (8 * (8 * p + j) + k) % 64 ≡ 8 * j + k = omega (arith, below, inside) in
+    sym (ap (λ n. eqb (bit_at (get_or (to_le_bytes w64 word) n 0) ((8 * j + k) % 8)) 1) byte ∙ ap (λ n. eqb (bit_at (get_or (to_le_bytes w64 word) j 0) n) 1) bit)
+    ∙ (le-bits word (8 * j + k) fits
+    ∙ sym (ap (λ n. eqb (bit_at (get_or row n 0) ((8 * (8 * p + j) + k) % 64)) 1) number ∙ ap (λ n. eqb (bit_at word n) 1) place)))
+
+-- eight bytes in the place of eight
+pub length-stored : (bytes w : List ℕ) (p : ℕ) → 8 * p + 8 ≤ length bytes → length w ≡ 8 → length (take (8 * p) bytes ++ (w ++ drop (8 * p + 8 - 8 * p) (drop (8 * p) bytes))) ≡ length bytes
+length-stored bytes w p room eight =
+    let back : List ℕ = drop (8 * p + 8 - 8 * p) (drop (8 * p) bytes) in
+    let start : length (take (8 * p) bytes) ≡ 8 * p = length-take-le (8 * p) bytes (omega (arith, room)) in
+    let left : length back ≡ length (drop (8 * p) bytes) - (8 * p + 8 - 8 * p) = length-drop (8 * p + 8 - 8 * p) (drop (8 * p) bytes) in
+    length-append (take (8 * p) bytes) (w ++ back) ∙ omega (arith, length-append w back, start, eight, left, length-drop (8 * p) bytes, room)
+
+-- a word more is stored
+pub word-stored : (row bytes w back : List ℕ) (p : ℕ) → get_or row p 0 < 2 ^ 64 → 8 * p ≤ length bytes → w ≡ to_le_bytes w64 (get_or row p 0) → ((i : ℕ) → i < 8 * p → get_or bytes i 0 ≡ digits 8 (λ k. has_word_bit row (8 * i + k))) →
+    (i : ℕ) → i < 8 * (p + 1) → get_or (take (8 * p) bytes ++ (w ++ back)) i 0 ≡ digits 8 (λ k. has_word_bit row (8 * i + k))
+word-stored row bytes w back p fits room are before i below =
+    let start : length (take (8 * p) bytes) ≡ 8 * p = length-take-le (8 * p) bytes room in
+    elim (cases_lt i (8 * p)) [
+      | inl under ↦ get_or_append_left (take (8 * p) bytes) (w ++ back) 0 i (omega arith) ∙ (get_or-take (8 * p) bytes i 0 under ∙ before i under)
+      | inr above ↦
+          let j : ℕ = i - 8 * p in
+          let inside : j < 8 = omega arith in
+          let size : length w ≡ 8 = ap length are in
+          let at : i ≡ length (take (8 * p) bytes) + j = omega arith in
+          let number : 8 * p + j ≡ i = omega arith in
+          ap (λ n. get_or (take (8 * p) bytes ++ (w ++ back)) n 0) at
+          ∙ (get_or-append-add (take (8 * p) bytes) (w ++ back) j 0
+          ∙ (get_or_append_left w back 0 j (omega arith) ∙ (ap (λ l. get_or l j 0) are ∙ (byte-of_word row p j fits inside ∙ ap (λ n. digits 8 (λ k. has_word_bit row (8 * n + k))) number))))
+    ]
 
 -- one byte more, and all of them
 pub byte-stored : (bytes : List ℕ) (p v : ℕ) (f : ℕ → Bool) → p < length bytes → v ≡ digits 8 (λ k. f (8 * p + k)) → ((i : ℕ) → i < p → get_or bytes i 0 ≡ digits 8 (λ k. f (8 * i + k))) →

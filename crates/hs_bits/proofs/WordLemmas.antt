@@ -492,7 +492,7 @@ bit-of_byte : (xs ys : List ℕ) (i j : ℕ) → i % 8 ≡ j % 8 → get_or xs (
 unfolding has_bit
 bit-of_byte xs ys i j bit read = ap (λ b. eqb (bit_at b (i % 8)) 1) read ∙ ap (λ n. eqb (bit_at (get_or ys (j / 8) 0) n) 1) bit
 
-le-fits : (n i : ℕ) → get_or (to_le_bytes w64 n) i 0 < 2 ^ 8
+pub le-fits : (n i : ℕ) → get_or (to_le_bytes w64 n) i 0 < 2 ^ 8
 le-fits n zero = omega arith
 le-fits n (suc zero) = omega arith
 le-fits n (suc (suc zero)) = omega arith
@@ -503,7 +503,7 @@ le-fits n (suc (suc (suc (suc (suc (suc zero)))))) = omega arith
 le-fits n (suc (suc (suc (suc (suc (suc (suc zero))))))) = omega arith
 le-fits n (suc (suc (suc (suc (suc (suc (suc (suc i)))))))) = omega arith
 
-le-bits : (n k : ℕ) → n < 2 ^ 64 → has_bit (to_le_bytes w64 n) k ≡ eqb (bit_at n k) 1
+pub le-bits : (n k : ℕ) → n < 2 ^ 64 → has_bit (to_le_bytes w64 n) k ≡ eqb (bit_at n k) 1
 le-bits n k small =
     sym (value-bits (to_le_bytes w64 n) (le-fits n) k)
     ∙ ap (λ m. eqb (bit_at m k) 1) (sym (eight-value (get_or (to_le_bytes w64 n) 0 0) (get_or (to_le_bytes w64 n) 1 0) (get_or (to_le_bytes w64 n) 2 0) (get_or (to_le_bytes w64 n) 3 0) (get_or (to_le_bytes w64 n) 4 0) (get_or (to_le_bytes w64 n) 5 0) (get_or (to_le_bytes w64 n) 6 0) (get_or (to_le_bytes w64 n) 7 0)) ∙ from_le_bytes-to_le_bytes_8 n small)

@@ -7,3 +7,4 @@ pub mod Shifts
 pub mod WordBits
 pub mod BlockContexts
 pub mod Packed
+pub mod Zeros

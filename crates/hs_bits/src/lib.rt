@@ -16,6 +16,7 @@ mod ranges;
 mod rows;
 mod runs;
 mod words;
+mod zeros;
 
 pub use bytes::{
     BYTE_BITS, clear_bits, clear_live, contains_bit, insert_bit, is_zero, unite_bits, write_bit,
@@ -39,3 +40,4 @@ pub use words::{
     keep_words, put_word_bit, shift_in, store, unite_bytes, unite_words, word_at, word_count_for,
     write_word_bit,
 };
+pub use zeros::{SPAN_BYTES, is_zero_span};

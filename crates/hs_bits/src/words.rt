@@ -1,7 +1,7 @@
 //! Bits in a row of words: 64 of them at a time.
 
 ghost use Rattle.std.specs.Prelude.{◌≡◌, ◌↔◌, ℕ, ◌+◌, ◌-◌, ◌*◌, ◌/◌, ◌%◌, ◌<◌, ◌≤◌, ◌^◌, true, false, IsTrue, ◌&&◌};
-ghost use Rattle.std.specs.Prelude.{◌||◌, ◌==◌, nat_lt, nat_le, length, take, drop};
+ghost use Rattle.std.specs.Prelude.{◌||◌, ◌==◌, nat_lt, nat_le, length, slice_index, take, drop};
 ghost use Rattle.std.specs.Int.{bit_at, from_le_bytes, w64};
 ghost use Rattle.hs_base.specs.Bits.{AreZero, has_bit, has_word_bit, word_count};
 ghost use Rattle.hs_bits.specs.Packed.{digits, packed};
@@ -13,9 +13,7 @@ use crate::bytes::BYTE_BITS;
 pub const WORD_BITS: usize = 64;
 
 /// How many bytes a word has.
-pub const WORD_BYTES: usize = 8;
-/// How many bytes a word has.
-const WORD_LEN: usize = WORD_BITS / BYTE_BITS;
+pub const WORD_BYTES: usize = WORD_BITS / BYTE_BITS;
 
 /// How many words hold a bit for each of so many.
 pub fn word_count_for(count: usize) -> usize
@@ -119,9 +117,9 @@ pub fn unite_bytes(words: &mut [u64], bytes: &[u8])
     ensures len { length words.new ≡ length words.old }
     ensures bits { (k : ℕ) → has_word_bit words.new k ≡ (has_bit bytes.now k || has_word_bit words.old k) }
 {
-    let whole = bytes.len() / WORD_LEN;
+    let whole = bytes.len() / WORD_BYTES;
     unite_whole_words(words, bytes, whole);
-    for place in WORD_LEN * whole..bytes.len() {
+    for place in WORD_BYTES * whole..bytes.len() {
         unite_byte(words, bytes, place);
     }
 }
@@ -135,7 +133,7 @@ fn unite_whole_words(words: &mut [u64], bytes: &[u8], count: usize)
         has_word_bit words.new k ≡ ((nat_lt k (64 * count) && has_bit bytes.now k) || has_word_bit words.old k) }
 {
     for place in 0..count {
-        words[place] |= word_at(bytes, WORD_LEN * place);
+        words[place] |= word_at(bytes, WORD_BYTES * place);
     }
 }
 
@@ -147,18 +145,37 @@ fn unite_byte(words: &mut [u64], bytes: &[u8], place: usize)
     ensures bits { (k : ℕ) →
         has_word_bit words.new k ≡ (((k / 8 == place) && has_bit bytes.now k) || has_word_bit words.old k) }
 {
-    words[place / WORD_LEN] |= (bytes[place] as u64) << (BYTE_BITS * (place % WORD_LEN));
+    words[place / WORD_BYTES] |= (bytes[place] as u64) << (BYTE_BITS * (place % WORD_BYTES));
 }
 
-/// Makes the bits of the bytes those of the words.
+/// Makes the bits of the bytes those of the words. It writes eight bytes at a time, and one by one those that are left.
+#[inline(always)]
 pub fn store(words: &[u64], bytes: &mut [u8])
     requires { length bytes.old ≤ 8 * length words.now }
     ensures len { length bytes.new ≡ length bytes.old }
     ensures bits { (k : ℕ) → has_bit bytes.new k ≡ (nat_lt k (8 * length bytes.old) && has_word_bit words.now k) }
     ensures packed { bytes.new ≡ packed (length bytes.old) (has_word_bit words.now) }
 {
-    for place in 0..bytes.len() {
+    let whole = bytes.len() / WORD_BYTES;
+    store_whole_words(words, bytes, whole);
+    for place in WORD_BYTES * whole..bytes.len() {
         bytes[place] = byte_of(words, place);
+    }
+}
+
+/// Makes the bits of the first so many times eight bytes those of the words.
+#[inline(always)]
+fn store_whole_words(words: &[u64], bytes: &mut [u8], count: usize)
+    requires bytes { 8 * count ≤ length bytes.old }
+    requires room { count ≤ length words.now }
+    ensures len { length bytes.new ≡ length bytes.old }
+    ensures are { (i : ℕ) →
+        i < 8 * count →
+        slice_index bytes.new i ≡ digits 8 (λ k. has_word_bit words.now (8 * i + k)) }
+{
+    for place in 0..count {
+        let start = WORD_BYTES * place;
+        bytes[start..start + WORD_BYTES].copy_from_slice(&words[place].to_le_bytes());
     }
 }
 
@@ -167,7 +184,7 @@ fn byte_of(words: &[u64], place: usize) -> u8
     requires { place < 8 * length words.now }
     ensures { result ≡ digits 8 (λ i. has_word_bit words.now (8 * place + i)) }
 {
-    ((words[place / WORD_LEN] >> (BYTE_BITS * (place % WORD_LEN))) & 0xff) as u8
+    ((words[place / WORD_BYTES] >> (BYTE_BITS * (place % WORD_BYTES))) & 0xff) as u8
 }
 
 /// Sets the bits that are set in the row too.

@@ -5,7 +5,8 @@ use Rattle.hs_base.specs.declared.context.Prev.{Prev}
 use Rattle.hs_base.specs.Lists.{Each}
 use Rattle.hs_states.specs.StateSets.{set_bytes, state_count}
 use Rattle.hs_kept.specs.StateFields.{AreFieldsApart, IsNextField, end_of}
-use Rattle.hs_kept.specs.Rests.{IsAtRest, IsRestOf, IsZeroBetween}
+use Rattle.hs_kept.specs.Rests.{IsAtRest, IsRestOf}
+use Rattle.hs_bits.specs.Zeros.{IsZeroBetween}
 use Rattle.hs_kept.specs.Packing.{region_from}
 use Rattle.hs_kept.specs.Groups.{AreLeftFrom, IsNumbered, IsPackedTo, IsPackedUpTo, IsUnpackedTo}
 use Rattle.hs_kept.specs.declared.packing.Packing.{Packing}

@@ -13,7 +13,8 @@ use Rattle.hs_states.specs.DfaStates.{kept_prev}
 use Rattle.hs_states.specs.StateSets.{prev_of, set_bytes, set_width, state_count}
 use Rattle.hs_states.specs.declared.state_sets.StateSets.{StateSets}
 use Rattle.hs_kept.specs.StateFields.{AreFieldsApart, IsNextField, end_of}
-use Rattle.hs_kept.specs.Rests.{IsAtRest, IsRestNumber, IsZeroBetween, prev-back, prev_by_number}
+use Rattle.hs_kept.specs.Rests.{IsAtRest, IsRestNumber, prev-back, prev_by_number}
+use Rattle.hs_bits.specs.Zeros.{IsZeroBetween}
 use Rattle.hs_kept.specs.Packing.{IsNumberFor, known, unknown, region_from}
 use Rattle.hs_kept.specs.Groups.{IsPackedUpTo}
 use Rattle.hs_kept.specs.declared.packing.StateField.{StateField}

@@ -13,7 +13,8 @@ use Rattle.hs_base.proofs.RegionLemmas.{get-range, range-size}
 use Rattle.hs_states.specs.StateSets.{state_count}
 use Rattle.hs_states.specs.declared.state_sets.StateSets.{StateSets}
 use Rattle.hs_kept.specs.StateFields.{IsNextField, end_of}
-use Rattle.hs_kept.specs.Rests.{IsAtRest, IsRestNumber, IsRestOf, IsZeroBetween}
+use Rattle.hs_kept.specs.Rests.{IsAtRest, IsRestNumber, IsRestOf}
+use Rattle.hs_bits.specs.Zeros.{IsZeroBetween}
 use Rattle.hs_kept.specs.Packing.{IsNumberFor, known, unknown}
 use Rattle.hs_kept.specs.Groups.{AreLeftFrom}
 use Rattle.hs_kept.specs.declared.packing.Packing.{Packing}
@@ -41,44 +42,6 @@ take-zeros w n within =
 pub number-within : (sets : StateSets) (xs : List ℕ) (prev : Prev) (n : ℕ) → 0 < state_count sets → IsNumberFor sets xs prev n → n < state_count sets
 number-within sets xs prev n some (known below set stands) = below
 number-within sets xs prev n some (unknown never first) = omega (arith, some, first)
-
--- eight bytes that are 0 as a word
-pub word-zero : (bytes : List ℕ) (at word : ℕ) → ((i : ℕ) → get_or bytes i 0 < 256) → at + 8 ≤ length bytes → word ≡ from_le_bytes w64 (take 8 (drop at bytes)) → word ≡ 0 → IsZeroBetween bytes at (at + 8)
-word-zero bytes at word small room is none i low high =
-    let own : List ℕ = take 8 (drop at bytes) in
-    let count : length own ≡ 8 = length-take-le 8 (drop at bytes) (omega (arith, length-drop at bytes)) in
-    let each : (k : ℕ) → get_or own k 0 < 256 = λ k. elim (cases_lt k 8) [
-      | inl below ↦ subst (λ n. n < 256) (sym (get_or-take 8 (drop at bytes) k 0 below ∙ get_or-drop at bytes k 0)) (small (at + k))
-      | inr past ↦ subst (λ n. n < 256) (sym (past-zero own k (omega (arith, past, count)))) (omega arith)
-    ] in
-    let zeros : to_le_bytes w64 0 ≡ own = le_bytes_8 own 0 count each (sym none ∙ is) in
-    let there : at + (i - at) ≡ i = omega (arith, low) in
-    ap (λ n. get_or bytes n 0) (sym there) ∙ (sym (get_or-drop at bytes (i - at) 0) ∙ (sym (get_or-take 8 (drop at bytes) (i - at) 0 (omega (arith, low, high))) ∙ (ap (λ xs. get_or xs (i - at) 0) (sym zeros) ∙ zero-at (i - at))))
-  where
-    past-zero : (xs : List ℕ) (k : ℕ) → length xs ≤ k → get_or xs k 0 ≡ 0
-    past-zero [] k past = refl
-    past-zero (x ∷ xs) zero past = absurd (omega arith)
-    past-zero (x ∷ xs) (suc k) past = past-zero xs k (omega arith)
-
-    zero-at : (k : ℕ) → get_or (to_le_bytes w64 0) k 0 ≡ 0
-    zero-at zero = refl
-    zero-at (suc zero) = refl
-    zero-at (suc (suc zero)) = refl
-    zero-at (suc (suc (suc zero))) = refl
-    zero-at (suc (suc (suc (suc zero)))) = refl
-    zero-at (suc (suc (suc (suc (suc zero))))) = refl
-    zero-at (suc (suc (suc (suc (suc (suc zero)))))) = refl
-    zero-at (suc (suc (suc (suc (suc (suc (suc zero))))))) = refl
-    zero-at (suc (suc (suc (suc (suc (suc (suc (suc k)))))))) = refl
-
-pub zero-none : (bytes : List ℕ) (at end : ℕ) → end ≡ at → IsZeroBetween bytes at end
-zero-none bytes at end is k low high = absurd (omega (arith, is, low, high))
-
-pub zero-then : (bytes : List ℕ) (at mid end : ℕ) → IsZeroBetween bytes at mid → IsZeroBetween bytes mid end → IsZeroBetween bytes at end
-zero-then bytes at mid end one other k low high = elim (cases_lt k mid) [
-  | inl before ↦ one k low before
-  | inr behind ↦ other k (omega (arith, behind)) high
-]
 
 -- The row has the numbers of rest for the fields before number `i`, and 0 behind them.
 pub record IsRestTo (packing : Packing) (prev : Prev) (i : ℕ) (row : List ℕ) : Type 0 where
@@ -142,16 +105,3 @@ zero-range bytes a b order within zeros k low high =
     let e : a + (k - a) ≡ k = omega (arith, low) in
     let size : length (slice_range bytes a b) ≡ b - a = range-size bytes a b order within in
     ap (λ n. get_or bytes n 0) (sym e) ∙ (sym (get-range bytes a b (k - a) (omega (arith, low, high))) ∙ zeros (k - a) (omega (arith, low, high, size)))
-
--- four words that are 0
-pub block-zero : (bytes : List ℕ) (at a b c d : ℕ) → ((i : ℕ) → get_or bytes i 0 < 256) → at + 32 ≤ length bytes → a ≡ from_le_bytes w64 (take 8 (drop at bytes)) → b ≡ from_le_bytes w64 (take 8 (drop (at + 8) bytes)) →
-    c ≡ from_le_bytes w64 (take 8 (drop (at + 16) bytes)) → d ≡ from_le_bytes w64 (take 8 (drop (at + 24) bytes)) → bit_or (bit_or a b) (bit_or c d) ≡ 0 → IsZeroBetween bytes at (at + 32)
-block-zero bytes at a b c d small room is_a is_b is_c is_d none =
-    let one : bit_or a b ≡ 0 = omega (arith, le_or_l (bit_or a b) (bit_or c d), none) in
-    let two : bit_or c d ≡ 0 = omega (arith, le_or_r (bit_or a b) (bit_or c d), none) in
-    zero-then bytes at (at + 8) (at + 32) (word-zero bytes at a small (omega (arith, room)) is_a (omega (arith, le_or_l a b, one)))
-    (zero-then bytes (at + 8) (at + 16) (at + 32)
-    (λ k low high. word-zero bytes (at + 8) b small (omega (arith, room)) is_b (omega (arith, le_or_r a b, one)) k low (omega (arith, high)))
-    (zero-then bytes (at + 16) (at + 24) (at + 32)
-    (λ k low high. word-zero bytes (at + 16) c small (omega (arith, room)) is_c (omega (arith, le_or_l c d, two)) k low (omega (arith, high)))
-    (λ k low high. word-zero bytes (at + 24) d small (omega (arith, room)) is_d (omega (arith, le_or_r c d, two)) k low (omega (arith, high)))))

@@ -8,15 +8,12 @@ use denote.Struct.Props.{≡_prop}
 use Rattle.hs_base.specs.Contexts.{prev_number}
 use Rattle.hs_base.specs.declared.context.Prev.{Prev}
 use Rattle.hs_base.specs.declared.context.Prev.TheVariants as before
+use Rattle.hs_bits.specs.Zeros.{IsZeroBetween}
 use Rattle.hs_states.specs.DfaStates.{kept_prev}
 use Rattle.hs_states.specs.StateSets.{prev_of, set_bytes, set_width, state_count}
 use Rattle.hs_states.specs.declared.state_sets.StateSets.{StateSets}
 use Rattle.hs_kept.specs.declared.packing.StateField.{StateField}
 use Rattle.hs_kept.specs.declared.rests.Rest.{Rest}
-
--- all bytes from one place to before the other are 0
-abbrev pub IsZeroBetween : (bytes : List ℕ) (at end : ℕ) → Type 0
-IsZeroBetween bytes at end = (k : ℕ) → at ≤ k → k < end → slice_index bytes k ≡ 0
 
 -- the state of that number keeps that what stands before
 abbrev pub StandsBefore : StateSets → Prev → (number : ℕ) → Type 0

@@ -2,18 +2,16 @@
 
 ghost use Rattle.std.specs.Prelude.{◌≡◌, ◌<◌, ◌≤◌, ◌+◌, ◌-◌, ◌*◌, ◌++◌, IfSome, true, length, replicate};
 ghost use Rattle.std.specs.Prelude.{slice_range, take};
-ghost use Rattle.hs_kept.specs.Rests.{IsRestNumber, IsZeroBetween};
+ghost use Rattle.hs_kept.specs.Rests.{IsRestNumber};
+ghost use Rattle.hs_bits.specs.Zeros.{IsZeroBetween};
 
 use crate::field_bytes::number_for;
 use hs_base::Prev;
-use hs_bits::{WORD_BYTES, is_zero, word_at};
+use hs_bits::{SPAN_BYTES, WORD_BYTES, is_zero, is_zero_span, word_at};
 use hs_states::StateSets;
 
 /// The greatest set of no position.
 const NO_POSITION: [u8; 64] = [0; 64];
-
-/// How many bytes are looked at at once: four words.
-const BLOCK_LEN: usize = 4 * WORD_BYTES;
 
 /// What is kept of a region of zeros.
 #[derive(Debug, Drop)]
@@ -52,35 +50,24 @@ pub(crate) fn is_zero_between(bytes: &[u8], at: usize, end: usize) -> bool
     requires within { end ≤ length bytes.now }
     ensures { result ≡ true → IsZeroBetween bytes.now at end }
 {
-    let blocks = (end - at) / BLOCK_LEN;
-    are_blocks_zero(bytes, at, blocks) && is_rest_zero(bytes, at + BLOCK_LEN * blocks, end)
+    let spans = (end - at) / SPAN_BYTES;
+    are_spans_zero(bytes, at, spans) && is_rest_zero(bytes, at + SPAN_BYTES * spans, end)
 }
 
-/// Whether so many blocks are 0.
-fn are_blocks_zero(bytes: &[u8], at: usize, count: usize) -> bool
+/// Whether so many times 32 bytes are 0.
+fn are_spans_zero(bytes: &[u8], at: usize, count: usize) -> bool
     requires { at + 32 * count ≤ length bytes.now }
     ensures { result ≡ true → IsZeroBetween bytes.now at (at + 32 * count) }
 {
     for number in 0..count {
-        if !is_block_zero(bytes, at + BLOCK_LEN * number) {
+        if !is_zero_span(bytes, at + SPAN_BYTES * number) {
             return false;
         }
     }
     true
 }
 
-/// Whether the four words of a block are 0.
-#[inline(always)]
-fn is_block_zero(bytes: &[u8], at: usize) -> bool
-    requires { at + 32 ≤ length bytes.now }
-    ensures { result ≡ true → IsZeroBetween bytes.now at (at + 32) }
-{
-    let first = word_at(bytes, at) | word_at(bytes, at + WORD_BYTES);
-    let last = word_at(bytes, at + 2 * WORD_BYTES) | word_at(bytes, at + 3 * WORD_BYTES);
-    first | last == 0
-}
-
-/// Whether the bytes are 0 that are less than a block.
+/// Whether the bytes are 0 that are less than 32.
 fn is_rest_zero(bytes: &[u8], at: usize, end: usize) -> bool
     requires order { at ≤ end }
     requires within { end ≤ length bytes.now }

@@ -4,4 +4,3 @@ pub mod HistoryLemmas
 pub mod LendingLemmas
 pub mod FieldLemmas
 pub mod RowLemmas
-pub mod RowWordLemmas

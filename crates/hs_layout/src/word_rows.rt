@@ -1,6 +1,6 @@
 //! The rows of bits of a region, many identifiers at a time: as rows of words.
 
-ghost use Rattle.std.specs.Prelude.{◌≡◌, ℕ, ◌+◌, ◌*◌, ◌<◌, ◌≤◌, ◌^◌, [], ◌∷◌, length};
+ghost use Rattle.std.specs.Prelude.{◌≡◌, ℕ, ◌+◌, ◌*◌, ◌<◌, ◌≤◌, ◌^◌, length};
 ghost use Rattle.hs_base.specs.Bits.{has_bit, has_word_bit};
 ghost use Rattle.hs_base.specs.Regions.{here_at, last_at, row_size, told_at};
 ghost use Rattle.hs_layout.specs.Layouts.{laid_size};
@@ -8,9 +8,7 @@ ghost use Rattle.hs_layout.specs.Rows.{IsRowRead, IsRowWritten};
 
 use crate::bits::set_bit;
 use crate::layout::{Layout, TOLD_AT, bytes_for};
-use hs_bits::{
-    BYTE_BITS, WORD_BITS, WORD_BYTES, clear_words, contains_word_bit, store, unite_bytes,
-};
+use hs_bits::{BYTE_BITS, clear_words, contains_word_bit, store, unite_bytes};
 
 impl Layout {
     /// Reads of each single identifier whether it is reported, a bit for each by its number among them.
@@ -76,7 +74,7 @@ fn read_row(region: &[u8], from: usize, bits: usize, row: &mut [u64])
     unite_bytes(row, &region[from..from + bytes_for(bits)]);
 }
 
-/// Writes so many bits of a row into a region, from the byte `from` on: whole words, and then what is left behind them.
+/// Writes so many bits of a row into a region, from the byte `from` on: whole bytes, and then each bit that is left.
 /// Every other bit stays.
 fn write_row(region: &mut [u8], from: usize, bits: usize, row: &[u64])
     requires room { from + row_size bits ≤ length region.old }
@@ -84,47 +82,9 @@ fn write_row(region: &mut [u8], from: usize, bits: usize, row: &[u64])
     requires few { length region.old ≤ 2 ^ 24 }
     ensures { IsRowWritten from bits row.now region.old region.new }
 {
-    let count = bits / WORD_BITS;
-    write_words(region, from, count, row);
-    write_rest(
-        region,
-        from + WORD_BYTES * count,
-        bits % WORD_BITS,
-        &row[count..],
-    );
-}
-
-/// Writes so many whole words of a row into a region, from the byte `from` on. Every other bit stays.
-fn write_words(region: &mut [u8], from: usize, count: usize, row: &[u64])
-    requires room { from + 8 * count ≤ length region.old }
-    requires words { count ≤ length row.now }
-    ensures { IsRowWritten from (64 * count) row.now region.old region.new }
-{
-    for number in 0..count {
-        write_word(region, from + WORD_BYTES * number, row[number]);
-    }
-}
-
-/// Writes a word into a region, at that byte. Every other bit stays.
-#[inline(always)]
-fn write_word(region: &mut [u8], at: usize, word: u64)
-    requires { at + 8 ≤ length region.old }
-    ensures { IsRowWritten at 64 (word ∷ []) region.old region.new }
-{
-    region[at..at + WORD_BYTES].copy_from_slice(&word.to_le_bytes());
-}
-
-/// Writes the first bits of a row into a region, from the byte `at` on: whole bytes, and then each bit. Every other bit
-/// stays.
-fn write_rest(region: &mut [u8], at: usize, bits: usize, row: &[u64])
-    requires room { at + row_size bits ≤ length region.old }
-    requires words { bits ≤ 64 * length row.now }
-    requires few { length region.old ≤ 2 ^ 24 }
-    ensures { IsRowWritten at bits row.now region.old region.new }
-{
     let bytes = bits / BYTE_BITS;
-    store(row, &mut region[at..at + bytes]);
+    store(row, &mut region[from..from + bytes]);
     for k in BYTE_BITS * bytes..bits {
-        set_bit(region, BYTE_BITS * at + k, contains_word_bit(row, k));
+        set_bit(region, BYTE_BITS * from + k, contains_word_bit(row, k));
     }
 }

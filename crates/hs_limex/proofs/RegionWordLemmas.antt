@@ -38,44 +38,6 @@ last-word bytes word at start shift i fits bits ends begins =
 pub words-all : (bytes : List ℕ) (k n : ℕ) → length bytes ≤ 8 * n → (nat_lt k (64 * n) && has_bit bytes k) ≡ has_bit bytes k
 words-all bytes k n room = all-under k (64 * n) (has_bit bytes k) (λ past. bits-past bytes k (omega arith))
 
--- where a part was written, the bits before it, and its own
-pub part-before : (bytes w back : List ℕ) (start k : ℕ) → start ≤ length bytes → k < 8 * start → has_bit (take start bytes ++ (w ++ back)) k ≡ has_bit bytes k
-unfolding has_bit
-part-before bytes w back start k within before =
-    let size : length (take start bytes) ≡ start = length-take-le start bytes within in
-    ap (λ n. eqb (bit_at n (k % 8)) 1) (get_or_append_left (take start bytes) (w ++ back) 0 (k / 8) (omega arith) ∙ get_or-take start bytes (k / 8) 0 (omega arith))
-
-pub part-here : (bytes w back : List ℕ) (start i : ℕ) → start ≤ length bytes → i < 8 * length w → has_bit (take start bytes ++ (w ++ back)) (8 * start + i) ≡ has_bit w i
-unfolding has_bit
-part-here bytes w back start i within below =
-    let size : length (take start bytes) ≡ start = length-take-le start bytes within in
-    let at : (8 * start + i) / 8 ≡ length (take start bytes) + i / 8 = omega arith in
-    let bit : (8 * start + i) % 8 ≡ i % 8 = omega arith in
-    ap (λ n. eqb (bit_at n ((8 * start + i) % 8)) 1)
-    (ap (λ n. get_or (take start bytes ++ (w ++ back)) n 0) at ∙ (get_or-append-add (take start bytes) (w ++ back) (i / 8) 0 ∙ get_or_append_left w back 0 (i / 8) (omega arith)))
-    ∙ ap (λ n. eqb (bit_at (get_or w (i / 8) 0) n) 1) bit
-
--- the bits of the part are those of the word
-pub part-stored : (bytes w back : List ℕ) (place count word i : ℕ) → 8 * place ≤ length bytes → length w ≡ count → ((k : ℕ) → has_bit w k ≡ (nat_lt k (8 * count) && is_set word k)) → i < 8 * count →
-    has_bit (take (8 * place) bytes ++ (w ++ back)) (64 * place + i) ≡ is_set word i
-part-stored bytes w back place count word i within len bits inside =
-    let same : 64 * place + i ≡ 8 * (8 * place) + i = omega arith in
-    ap (has_bit (take (8 * place) bytes ++ (w ++ back))) same
-    ∙ (part-here bytes w back (8 * place) i within (omega arith) ∙ (bits i ∙ ap (λ b. b && is_set word i) (lt-ltb i (8 * count) inside)))
-
--- one word more is stored
-pub stored-more : (words old new : List ℕ) (p count : ℕ) → ((k : ℕ) → k < 64 * p → has_bit new k ≡ has_bit old k) → ((i : ℕ) → i < 64 → 64 * p + i < count → has_bit new (64 * p + i) ≡ is_set (get_or words p 0) i) →
-    ((k : ℕ) → k < 64 * p → k < count → has_bit old k ≡ has_word_bit words k) → (k : ℕ) → k < 64 * (p + 1) → k < count → has_bit new k ≡ has_word_bit words k
-stored-more words old new p count before here known k below inside =
-    elim (cases_lt k (64 * p)) [
-      | inl under ↦ before k under ∙ known k under inside
-      | inr above ↦
-          let i : ℕ = k - 64 * p in
-          let small : i < 64 = omega arith in
-          let at : 64 * p + i ≡ k = omega arith in
-          ap (has_bit new) (sym at) ∙ (here i small (omega arith) ∙ (word-bit words p i small ∙ ap (has_word_bit words) at))
-    ]
-
 and-turned : (a b : Bool) → (a && b) ≡ (b && a)
 and-turned true true = refl
 and-turned true false = refl

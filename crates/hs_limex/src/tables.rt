@@ -12,10 +12,10 @@ use crate::contexts::{NEXT_COUNT, next_of, number_of};
 use crate::far_filling::{far_of, near_of};
 use crate::filling::{any_of, masks_of, reach_of};
 use crate::leading::{lead_far, lead_near, span_of};
-use crate::region_words::{is_apart_from, store_region, unite_region};
+use crate::region_words::{is_apart_from, unite_region};
 use crate::word_rows::WordRows;
 use hs_base::{ByteSet, MAX_POSITIONS, Next, NextSet, Prev};
-use hs_bits::{WORD_BITS, are_apart, is_zero, keep_words, unite_words, word_count_for};
+use hs_bits::{WORD_BITS, are_apart, is_zero, keep_words, store, unite_words, word_count_for};
 use hs_engine::{Automaton, FollowRows, first_bytes};
 use std::alloc::{AllocError, Global};
 
@@ -151,7 +151,7 @@ impl Tables {
         let mut led = [0u64; MAX_WIDTH];
         self.lead(&live, prev, next, entering, &mut led);
         keep_words(&mut led, self.reach.row(byte as usize));
-        store_region(&led, region);
+        store(&led, region);
     }
 
     /// Sets the bits of the positions that may follow those that are live, and of those that are entered.

@@ -11,6 +11,7 @@ use Rattle.hs_base.proofs.BitLemmas.{same-places}
 use Rattle.hs_engine.specs.Engines.{IsQuiet, IsStart, Meaning}
 use Rattle.hs_nodes.specs.Living.{AreInTurn, IsAround, is_live}
 use Rattle.hs_bits.specs.Marks.{is_marked}
+use Rattle.hs_bits.proofs.ZeroLemmas.{word-zero}
 use Rattle.hs_nodes.specs.Nodes.{IsKindSound}
 use Rattle.hs_nodes.specs.Resting.{AreEnginesIdle, AreNodesResting, IsIdleEngine, IsResting, IsUnset}
 use Rattle.hs_nodes.specs.Walks.{IsTableSound, node_part}
@@ -35,33 +36,7 @@ nonzero-live bytes i apart = ap not (ne_eqb (get_or bytes i 0) 0 apart)
 
 -- eight bytes that are 0 as a word
 pub word-dead : (bytes : List ℕ) (at word : ℕ) → ((i : ℕ) → get_or bytes i 0 < 256) → at + 8 ≤ length bytes → word ≡ from_le_bytes w64 (take 8 (drop at bytes)) → word ≡ 0 → (i : ℕ) → at ≤ i → i < at + 8 → is_live bytes i ≡ false
-word-dead bytes at word small room is none i low high =
-    let own : List ℕ = take 8 (drop at bytes) in
-    let count : length own ≡ 8 = length-take-le 8 (drop at bytes) (omega (arith, length-drop at bytes)) in
-    let each : (k : ℕ) → get_or own k 0 < 256 = λ k. elim (cases_lt k 8) [
-      | inl below ↦ subst (λ n. n < 256) (sym (get_or-take 8 (drop at bytes) k 0 below ∙ get_or-drop at bytes k 0)) (small (at + k))
-      | inr past ↦ subst (λ n. n < 256) (sym (past-zero own k (omega (arith, past, count)))) (omega arith)
-    ] in
-    let zeros : to_le_bytes w64 0 ≡ own = le_bytes_8 own 0 count each (sym none ∙ is) in
-    let there : at + (i - at) ≡ i = omega (arith, low) in
-    zero-dead bytes i
-    (ap (λ n. get_or bytes n 0) (sym there) ∙ (sym (get_or-drop at bytes (i - at) 0) ∙ (sym (get_or-take 8 (drop at bytes) (i - at) 0 (omega (arith, low, high))) ∙ (ap (λ xs. get_or xs (i - at) 0) (sym zeros) ∙ zero-at (i - at)))))
-  where
-    past-zero : (xs : List ℕ) (k : ℕ) → length xs ≤ k → get_or xs k 0 ≡ 0
-    past-zero [] k past = refl
-    past-zero (x ∷ xs) zero past = absurd (omega arith)
-    past-zero (x ∷ xs) (suc k) past = past-zero xs k (omega arith)
-
-    zero-at : (k : ℕ) → get_or (to_le_bytes w64 0) k 0 ≡ 0
-    zero-at zero = refl
-    zero-at (suc zero) = refl
-    zero-at (suc (suc zero)) = refl
-    zero-at (suc (suc (suc zero))) = refl
-    zero-at (suc (suc (suc (suc zero)))) = refl
-    zero-at (suc (suc (suc (suc (suc zero))))) = refl
-    zero-at (suc (suc (suc (suc (suc (suc zero)))))) = refl
-    zero-at (suc (suc (suc (suc (suc (suc (suc zero))))))) = refl
-    zero-at (suc (suc (suc (suc (suc (suc (suc (suc k)))))))) = refl
+word-dead bytes at word small room is none i low high = zero-dead bytes i (word-zero bytes at word small room is none i low high)
 
 pub nowhere-more : (test : ℕ → _) (from at end : ℕ) → HoldsNowhere test from at → ((i : ℕ) → at ≤ i → i < end → test i ≡ false) → HoldsNowhere test from end
 nowhere-more test from at end before more i low high = elim (cases_lt i at) [ inl below ↦ before i low below | inr past ↦ more i past high ]

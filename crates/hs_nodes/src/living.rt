@@ -11,12 +11,9 @@ ghost use Rattle.hs_nodes.specs.declared.table.Node.{Node};
 ghost use Rattle.hs_base.specs.Bits.{AreZero};
 
 use crate::table::{Node, NodeTable};
-use hs_bits::{MarkSet, WORD_BYTES, word_at};
+use hs_bits::{MarkSet, SPAN_BYTES, WORD_BYTES, is_zero_span, word_at};
 use hs_engine::Engine;
 use std::alloc::{AllocError, Global};
-
-/// How many bytes are passed over together, four words.
-const SPAN_BYTES: usize = 4 * WORD_BYTES;
 
 /// Sees to it that the engine's region of the empty stream is all 0. The only error is want of memory.
 fn idle_engine<E: Engine>(alloc: Global, engine: &E) -> Result<(), AllocError>
@@ -38,18 +35,6 @@ pub fn idle_engines<E: Engine>(alloc: Global, engines: &[E]) -> Result<(), Alloc
         idle_engine(alloc, &engines[k])?;
     }
     Ok(())
-}
-
-/// Whether the next four words from a place on are 0.
-#[inline]
-fn is_zero_span(bytes: &[u8], at: usize) -> bool
-    requires { at + 32 ≤ length bytes.now }
-    ensures { result ≡ true → HoldsNowhere (is_live bytes.now) at (at + 32) }
-{
-    word_at(bytes, at) == 0
-        && word_at(bytes, at + WORD_BYTES) == 0
-        && word_at(bytes, at + 2 * WORD_BYTES) == 0
-        && word_at(bytes, at + 3 * WORD_BYTES) == 0
 }
 
 /// A place up to which all bytes from `from` on are 0: behind it fewer than 32 are left, or one of the next 32 is not

@@ -4,6 +4,9 @@ use Rattle.hs_base.specs.Bits.{has_word_bit}
 use Rattle.hs_bits.proofs.PackedLemmas.{all-stored, bits-of_packed, byte-stored}
 use Rattle.hs_bits.proofs.words.store.Goals as goal
 
+pub loop-place-init : goal.loop-place-init
+loop-place-init c = record { len = c.store_whole_words.ensures.len; are = c.store_whole_words.ensures.are }
+
 pub loop-place-preserved : goal.loop-place-preserved
 loop-place-preserved c =
     record {

@@ -5,6 +5,6 @@ use Rattle.hs_bits.proofs.words.store.Given as goal
 
 abbrev pub invariant-loop-place : goal.invariant-loop-place
 invariant-loop-place l = record {
-  len : length l.bytes ≡ length l.initial.bytes;
+  len : length l.bytes ≡ length l.fn.bytes;
   are : (i : ℕ) → i < l.place → get_or l.bytes i 0 ≡ digits 8 (λ k. has_word_bit l.words (8 * i + k));
 }

@@ -1,5 +1,5 @@
 use Rattle.std.proofs.Common.{◌+◌, ◌*◌, ℕ, arith}
-use Rattle.hs_kept.proofs.RowLemmas.{word-zero, zero-then}
+use Rattle.hs_bits.proofs.ZeroLemmas.{word-zero, zero-then}
 use Rattle.hs_kept.proofs.rests.are_words_zero.Goals as goal
 
 pub loop-number-preserved : goal.loop-number-preserved

@@ -1,5 +1,5 @@
 use Rattle.std.proofs.Common.{◌+◌, ◌*◌}
-use Rattle.hs_kept.specs.Rests.{IsZeroBetween}
+use Rattle.hs_bits.specs.Zeros.{IsZeroBetween}
 use Rattle.hs_kept.proofs.rests.are_words_zero.Given as goal
 
 abbrev pub invariant-loop-number : goal.invariant-loop-number

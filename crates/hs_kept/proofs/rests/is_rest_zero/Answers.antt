@@ -1,5 +1,6 @@
 use Rattle.std.proofs.Common.{◌+◌, ◌-◌, ◌*◌, ◌/◌, ℕ, arith}
-use Rattle.hs_kept.proofs.RowLemmas.{zero-range, zero-then}
+use Rattle.hs_bits.proofs.ZeroLemmas.{zero-then}
+use Rattle.hs_kept.proofs.RowLemmas.{zero-range}
 use Rattle.hs_kept.proofs.rests.is_rest_zero.Goals as goal
 
 pub returns-then-are_words_zero : goal.returns-then-are_words_zero

@@ -22,7 +22,7 @@ returns-clause-sound c k set =
     let row = has_word_bit c.row.result.now k in
     let led = has_word_bit c.lead.new.led k in
     let kept = has_word_bit c.keep_words.new.words k in
-    let stored : (nat_lt k (8 * length old) && kept) ≡ true = sym (c.store_region.ensures.bits k) ∙ set in
+    let stored : (nat_lt k (8 * length old) && kept) ≡ true = sym (c.store.ensures.bits k) ∙ set in
     let below : k < 8 * length old = ltb-true k (8 * length old) (first_of_both (nat_lt k (8 * length old)) kept stored) in
     let inside : k < 64 * length c.row.result.now = omega (arith, below, c.requires, c.row.ensures.len, t.wide) in
     let both : (row && led) ≡ true = sym (c.keep_words.ensures.bits k inside) ∙ second_of_both (nat_lt k (8 * length old)) kept stored in (
@@ -45,4 +45,4 @@ returns-clause-whole c k below reach leads =
     c.lead.ensures.whole k (omega (arith, inside, c.row.ensures.len))
     (led-as (moves_of_tables t) (has_bit old) (has_word_bit live) here c.args.entering k (λ x. sym (read-bits (has_bit old x) (has_word_bit (replicate 8 0) x) (has_word_bit live x) (replicate-words 8 x) (c.unite_region.ensures.bits x))) leads) in
     let both : kept ≡ true = c.keep_words.ensures.bits k inside ∙ of_both row led (c.row.ensures.bits k ∙ reach) is_led in
-    c.store_region.ensures.bits k ∙ of_both (nat_lt k (8 * length old)) kept (lt-ltb k (8 * length old) below) both
+    c.store.ensures.bits k ∙ of_both (nat_lt k (8 * length old)) kept (lt-ltb k (8 * length old) below) both

@@ -1,5 +1,0 @@
-use Rattle.hs_layout.specs.Rows.{IsRowWritten}
-use Rattle.hs_layout.proofs.word_rows.write_rest.Given as goal
-
-abbrev pub invariant-loop-k : goal.invariant-loop-k
-invariant-loop-k l = IsRowWritten l.at l.k l.row l.fn.region l.region
