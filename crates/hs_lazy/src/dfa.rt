@@ -190,6 +190,25 @@ impl LazyDfa {
         self.add_state(hash, image, prev)
     }
 
+    /// The same, where it may well be the state of that number.
+    pub fn find_near(
+        &mut self,
+        number: usize,
+        image: &[u8; IMAGE_BYTES],
+        prev: Prev,
+    ) -> Option<usize>
+        ensures members { self.new.members ≡ self.old.members }
+        ensures rows { self.new.rows ≡ self.old.rows }
+        ensures ends { self.new.ends ≡ self.old.ends }
+        ensures states { AreStillThere self.old.states.items self.new.states.items }
+        ensures found { IfSome result (λ s. IsState self.new.states.items s image.now prev) }
+    {
+        if self.is_state(number, image, prev) {
+            return Some(number);
+        }
+        self.find(image, prev)
+    }
+
     /// The number of the state with that image and what stands before the next byte, if it is found by that hash.
     fn known(&self, hash: usize, image: &[u8; IMAGE_BYTES], prev: Prev) -> Option<usize>
         requires { hash < 32768 }

@@ -93,7 +93,7 @@ fn take_chunk<E: TimelessEngine>(
     ensures taken { result ≡ true → IsChunkTaken dfa.new.states.items dfa.new.rows.items dfa.new.ends.items
         run.new prev bytes.now }
 {
-    let Some(first) = dfa.find(&run.image, prev) else {
+    let Some(first) = dfa.find_near(run.state, &run.image, prev) else {
         return false;
     };
     if !follow(dfa, engines, first, bytes, &mut run.trace) {
