@@ -5,6 +5,7 @@ pub mod LiteralBlockLemmas
 pub mod ClassWordLemmas
 pub mod MaskLemmas
 pub mod AnyLemmas
+pub mod ColumnLemmas
 pub mod StreamRowLemmas
 pub mod PositionWordLemmas
 pub mod StreamSettleLemmas

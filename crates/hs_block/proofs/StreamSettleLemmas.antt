@@ -9,7 +9,7 @@ use Rattle.hs_base.specs.Bits.{has_word_bit}
 use Rattle.hs_base.specs.Contexts.{Context}
 use Rattle.hs_base.specs.ContextSets.{has_context}
 use Rattle.hs_base.proofs.ContextLemmas.{first_of_both, second_of_both, of_both, of_either, left_of_either, right_of_either}
-use Rattle.hs_bits.proofs.WordLemmas.{and-none, and-true, number-more, or-none, or-turned}
+use Rattle.hs_bits.proofs.WordLemmas.{and-none, and-true, number-more, or-none, or-turned, there-under}
 use Rattle.hs_engine.specs.AnyBelow.{any_below}
 use Rattle.hs_engine.specs.Automata.{in_mask, in_set}
 use Rattle.hs_engine.specs.Rows.{square_number}
@@ -118,6 +118,12 @@ squares-more i square here test first all more places more_is places_is all_is =
     and-turned true false = refl
     and-turned false true = refl
     and-turned false false = refl
+
+-- and one whose context no place has
+pub squares-passed : (i square here : ℕ) (test first now : Bool) (places : ℕ) → places ≡ 0 → word_bit places i ≡ eqb here square → now ≡ ((nat_lt here square && test) || first) → now ≡ ((nat_lt here (square + 1) && test) || first)
+squares-passed i square here test first now places none_ places_is now_is =
+    let apart : eqb here square ≡ false = sym places_is ∙ (ap (λ w. word_bit w i) none_ ∙ bit-none i) in
+    now_is ∙ ap (λ b. (b && test) || first) (there-under here square apart)
 
 pub squares-none : (here : ℕ) (test first now : Bool) → now ≡ first → now ≡ ((nat_lt here 0 && test) || first)
 squares-none here test first now is = is ∙ sym (ap (λ b. (b && test) || first) (not-less here 0 (omega arith)))

@@ -23,11 +23,12 @@ abbrev pub is_from : (size width : ℕ) (froms rests : List ℕ) (position other
 is_from size width froms rests x y c =
     nat_lt y size && (in_rows froms width x y || in_rows rests width (12 * x + square_number true c) y)
 
--- Rows of so many words stand in arrays of so many: there is room, and where an array has one word so has a row.
+-- Rows of so many words stand in arrays of so many: there is room, and where an array has three words or fewer a row
+-- has as many.
 pub record RowsFit (width words : ℕ) : Type 0 where
   pub room : width ≤ words
   pub few : words ≤ 8
-  pub single : words ≡ 1 → width ≡ 1
+  pub exact : words ≤ 3 → width ≡ words
 
 -- Tables of the sets of so many positions behind a set of first bytes: that one is the first of them.
 pub record AreSetTables (sets : List ByteSet) (numbers : List ℕ) (first : ByteSet) (given : List ByteSet) : Type 0 where

@@ -21,6 +21,8 @@ use std::alloc::{AllocError, Global};
 
 /// How many words a row has that has a bit for each of as many positions as there may be.
 pub(crate) const MAX_WIDTH: usize = 8;
+/// Up to so many words a program for rows of just as many is made.
+pub(crate) const EXACT_WIDTH: usize = 3;
 /// How many contexts there are in which a byte comes next: each class of bytes behind each of the four `Prev`.
 pub(crate) const SQUARES: usize = 12;
 
@@ -78,7 +80,7 @@ pub(crate) fn row_in<const W: usize>(rows: &[u64], width: usize, number: usize) 
     ensures len { length result.now ≡ width }
     ensures bits { (y : ℕ) → y < 64 * width → has_word_bit result.now y ≡ in_rows rows.now width number y }
 {
-    row_at(rows, if W == 1 { 1 } else { width }, number)
+    row_at(rows, if W <= EXACT_WIDTH { W } else { width }, number)
 }
 
 /// Puts the first words of a row behind the rows.

@@ -7,6 +7,7 @@ mod by_steps;
 mod class_words;
 mod engine;
 mod literal;
+mod mask_places;
 mod mask_words;
 mod position_words;
 mod set_tables;

@@ -1,11 +1,11 @@
-//! Words of 64 places, one for each position: united, and whether rows of positions meet.
+//! Words of 64 places, one for each position: united, read at one place, and whether rows of positions meet.
 
-ghost use Rattle.std.specs.Prelude.{◌≡◌, ℕ, ◌*◌, ◌≤◌, ◌&&◌, false, length, slice_index};
+ghost use Rattle.std.specs.Prelude.{◌≡◌, ℕ, ◌*◌, ◌<◌, ◌≤◌, ◌&&◌, false, length, slice_index};
 ghost use Rattle.hs_base.specs.Bits.{has_word_bit};
 ghost use Rattle.hs_engine.specs.AnyBelow.{any_below};
 ghost use Rattle.hs_bits.specs.WordBits.{word_bit};
 
-use hs_bits::{WORD_BITS, are_apart, lowest_bit, without_lowest_bit};
+use hs_bits::{WORD_BITS, are_apart, contains_place, lowest_bit, with_place, without_lowest_bit};
 
 /// Whether the two rows have a bit in common.
 #[inline(always)]
@@ -48,4 +48,38 @@ pub(crate) fn united_rows(words: &[u64], row: &[u64], live: &[u64]) -> u64
         all |= united(&words[from..from + WORD_BITS], row[place] & live[place]);
     }
     all
+}
+
+/// The row of the positions whose words have the bit of that place, where only those of `live` have a word that isn't 0.
+pub(crate) fn column<const W: usize>(words: &[u64], live: &[u64], place: usize) -> [u64; W]
+    requires place { place < 64 }
+    requires room { 64 * W ≤ length words.now }
+    requires live { length live.now ≡ W }
+    requires dark { (y : ℕ) → has_word_bit live.now y ≡ false → slice_index words.now y ≡ 0 }
+    ensures len { length result ≡ W }
+    ensures bits { (x : ℕ) → has_word_bit result x ≡ word_bit (slice_index words.now x) place }
+{
+    let mut row = [0u64; W];
+    for at in 0..W {
+        let from = WORD_BITS * at;
+        row[at] = column_word(&words[from..from + WORD_BITS], live[at], place);
+    }
+    row
+}
+
+/// Those of the numbers whose words have the bit of that place.
+#[inline(always)]
+fn column_word(words: &[u64], numbers: u64, place: usize) -> u64
+    requires words { length words.now ≡ 64 }
+    requires place { place < 64 }
+    ensures { (y : ℕ) → y < 64 → word_bit result y ≡ (word_bit (slice_index words.now y) place && word_bit numbers y) }
+{
+    let mut row = 0;
+    let mut left = numbers;
+    while left != 0 {
+        let number = lowest_bit(left);
+        row = with_place(row, number, contains_place(words[number], place));
+        left = without_lowest_bit(left);
+    }
+    row
 }

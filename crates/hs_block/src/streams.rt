@@ -17,21 +17,22 @@ ghost use Rattle.hs_base.specs.Bits.{AreZero, has_bit, has_word_bit, word_count}
 ghost use Rattle.hs_base.specs.Contexts.{Context};
 ghost use Rattle.hs_base.specs.ContextSets.{has_context};
 ghost use Rattle.hs_engine.specs.Automata.{in_mask, in_set};
-ghost use Rattle.hs_bits.specs.BlockContexts.{AreMade, context_before, context_behind};
+ghost use Rattle.hs_bits.specs.BlockContexts.{AreContexts, AreMade, context_before, context_behind};
 ghost use Rattle.hs_block.specs.Rows.{live_at};
 ghost use Rattle.hs_block.specs.StreamSets.{RowsFit, in_rows, is_from, takes_byte};
 ghost use Rattle.hs_bits.specs.WordBits.{one_later, word_bit};
 
-use crate::before_tables::{MAX_WIDTH, OrderTables, SQUARES, row_in, square_places};
+use crate::before_tables::{EXACT_WIDTH, MAX_WIDTH, OrderTables, SQUARES, row_in, square_places};
 use crate::class_words::{ClassWords, MAX_SETS, class_word};
+use crate::mask_places::{places_before, places_behind};
 use crate::mask_words::{has_mixed, some_row};
-use crate::position_words::{meet, united_rows};
+use crate::position_words::{column, meet, united_rows};
 use crate::set_tables::SetTables;
 use hs_base::{ByteSet, Mask, Prev};
 use hs_bits::{
-    Contexts, WORD_BITS, column, contains_place, contains_word_bit, contexts_of, is_zero,
-    keep_words, load, low_places, mask_before, mask_behind, next_bit_in, one_later, only_if,
-    place_count, place_in, row_word, store, unite_words, write_word_bit,
+    Contexts, WORD_BITS, contains_place, contains_word_bit, contexts_of, is_zero, keep_words, load,
+    low_places, next_bit_in, one_later, only_if, place_count, place_in, row_word, store,
+    unite_words, write_word_bit,
 };
 use hs_engine::{Automaton, BlockEnds, Steps, first_bytes};
 use std::alloc::{AllocError, Global};
@@ -39,10 +40,6 @@ use std::sync::ledger::Ledger;
 
 /// How many positions there may be.
 pub const MAX_STREAMS: usize = MAX_WIDTH * WORD_BITS;
-/// How many words of a row still ask for fewer words of positions.
-const MIDDLE_WIDTH: usize = 3;
-/// How many words of positions there are then.
-const MIDDLE_STREAMS: usize = MIDDLE_WIDTH * WORD_BITS;
 /// How many words are made for each position until all are given up: so often a group may come round in a block.
 const ROUNDS: usize = 8;
 
@@ -110,8 +107,6 @@ pub struct Streams {
 struct Setting {
     /// What stands before its first byte.
     prev: Prev,
-    /// The contexts of its places, if they are made.
-    contexts: Option<Contexts>,
     /// The places before whose bytes the expression is entered.
     enters: u64,
     /// Whether no position is live before it.
@@ -268,13 +263,11 @@ impl Streams {
         }
         let setting = Setting {
             prev,
-            contexts: self.contexts(prev, whole),
             enters,
             blank,
         };
         if self.width == 1 {
-            let mut words = [0u64; WORD_BITS];
-            return self.take::<L, 1>(region, &setting, whole, count, first, &mut words, steps);
+            return self.take::<L, 1, WORD_BITS>(region, &setting, whole, count, first, steps);
         }
         self.take_wide(region, &setting, whole, count, first, steps)
     }
@@ -294,7 +287,6 @@ impl Streams {
         requires len { length region.old ≡ (self.now.size + 7) / 8 }
         requires clear { IsClearFrom region.old self.now.size }
         requires whole { length whole.now ≡ 64 }
-        requires made { AreMade setting.now.contexts setting.now.prev whole.now }
         requires blank { setting.now.blank ≡ is_blank region.old }
         requires few { count ≤ 64 }
         requires many { self.now.width ≢ 1 }
@@ -303,54 +295,51 @@ impl Streams {
         ensures { IsTried self.now setting.now.prev region.old region.new setting.now.enters whole.now count result
             steps.old steps.new }
     {
-        if self.width <= MIDDLE_WIDTH {
-            let mut words = [0u64; MIDDLE_STREAMS];
-            return self.take::<L, MIDDLE_WIDTH>(
-                region, setting, whole, count, first, &mut words, steps,
-            );
+        if self.width == 2 {
+            return self.take::<L, 2, 128>(region, setting, whole, count, first, steps);
         }
-        let mut words = [0u64; MAX_STREAMS];
-        self.take::<L, MAX_WIDTH>(region, setting, whole, count, first, &mut words, steps)
+        if self.width == EXACT_WIDTH {
+            return self.take::<L, EXACT_WIDTH, 192>(region, setting, whole, count, first, steps);
+        }
+        self.take::<L, MAX_WIDTH, MAX_STREAMS>(region, setting, whole, count, first, steps)
     }
 
     /// Takes them by words that are 0 so far. The places of the first bytes are told.
-    fn take<L: Ledger, const W: usize>(
+    fn take<L: Ledger, const W: usize, const N: usize>(
         &self,
         region: &mut [u8],
         setting: &Setting,
         whole: &[u8],
         count: usize,
         first: u64,
-        words: &mut [u64],
         steps: &mut Steps<L>,
     ) -> Option<BlockEnds>
         requires fits { RowsFit self.now.width W }
         requires len { length region.old ≡ (self.now.size + 7) / 8 }
         requires clear { IsClearFrom region.old self.now.size }
         requires whole { length whole.now ≡ 64 }
-        requires made { AreMade setting.now.contexts setting.now.prev whole.now }
         requires blank { setting.now.blank ≡ is_blank region.old }
         requires few { count ≤ 64 }
         requires first { (i : ℕ) → i < 64 →
             word_bit first i ≡ in_set (slice_get self.now.sets.items 0) (slice_index whole.now i) }
-        requires room { 64 * self.now.width ≤ length words.old }
-        requires zero { (x : ℕ) → slice_index words.old x ≡ 0 }
+        requires room { N ≡ 64 * W }
         ensures { IsTried self.now setting.now.prev region.old region.new setting.now.enters whole.now count result
             steps.old steps.new }
     {
         let entry = Entry {
             prev: setting.prev,
-            contexts: setting.contexts,
+            contexts: self.contexts(setting.prev, whole),
             enters: setting.enters,
             state: load::<W>(region),
         };
-        let Some(live) = self.solve(&entry, whole, first, words) else {
+        let mut words = [0u64; N];
+        let Some(live) = self.solve(&entry, whole, first, &mut words) else {
             return None;
         };
-        let busy = self.busy_places(&entry, words, &live, count, setting.blank);
+        let busy = self.busy_places(&entry, &words, &live, count, setting.blank);
         steps.tick_by(place_count(busy));
-        let ends = self.ends(&entry, whole, words, &live, count);
-        self.keep::<W>(region, words, &live, count);
+        let ends = self.ends(&entry, whole, &words, &live, count);
+        self.keep::<W>(region, &words, &live, count);
         Some(ends)
     }
 
@@ -360,7 +349,7 @@ impl Streams {
         ensures { AreMade result prev whole.now }
     {
         if self.mixed {
-            Some(Contexts::new(prev, whole))
+            Some(contexts_made(prev, whole))
         } else {
             None
         }
@@ -565,6 +554,7 @@ impl Streams {
     }
 
     /// The same, with the arrivals that every context allows told.
+    #[inline(never)]
     fn by_context<const W: usize>(
         &self,
         always: Arrivals,
@@ -598,9 +588,12 @@ impl Streams {
         let contexts = contexts_of(entry.contexts, entry.prev, whole);
         let mut all = always;
         for square in 0..SQUARES {
+            let places = square_places(&contexts, square);
+            if places == 0 {
+                continue;
+            }
             let row = row_in::<W>(&self.rests, self.width, SQUARES * position + square);
             let more = arrive(row, position, entry, words, live);
-            let places = square_places(&contexts, square);
             all = Arrivals {
                 led: all.led | (more.led & places),
                 again: all.again | (more.again & places),
@@ -692,8 +685,8 @@ impl Streams {
         let word = words[position];
         let before = one_later(word, contains_word_bit(&entry.state, position));
         BlockEnds {
-            before: before & mask_before(entry.contexts, entry.prev, whole, accepts),
-            behind: word & mask_behind(entry.contexts, entry.prev, whole, accepts),
+            before: before & places_before(&entry.contexts, entry.prev, whole, accepts),
+            behind: word & places_behind(&entry.contexts, entry.prev, whole, accepts),
         }
     }
 
@@ -701,8 +694,9 @@ impl Streams {
     fn keep<const W: usize>(&self, region: &mut [u8], words: &[u64], live: &[u64], count: usize)
         requires fits { RowsFit self.now.width W }
         requires few { count ≤ 64 }
-        requires room { self.now.size ≤ length words.now }
+        requires room { 64 * W ≤ length words.now }
         requires live { length live.now ≡ W }
+        requires live_few { (y : ℕ) → self.now.size ≤ y → has_word_bit live.now y ≡ false }
         requires dark { (y : ℕ) → has_word_bit live.now y ≡ false → slice_index words.now y ≡ 0 }
         requires len { length region.old ≡ (self.now.size + 7) / 8 }
         ensures none { count ≡ 0 → region.new ≡ region.old }
@@ -711,7 +705,7 @@ impl Streams {
             (λ x. nat_lt x self.now.size && word_bit (slice_index words.now x) last) }
     {
         if count > 0 {
-            store(&column::<W>(words, live, self.size, count - 1), region);
+            store(&column::<W>(words, live, count - 1), region);
         }
     }
 
@@ -750,7 +744,7 @@ fn entered_places<const W: usize>(entry: &Entry<W>, whole: &[u8], mask: Mask) ->
     if entry.enters == 0 {
         return 0;
     }
-    entry.enters & mask_before(entry.contexts, entry.prev, whole, mask)
+    entry.enters & places_before(&entry.contexts, entry.prev, whole, mask)
 }
 
 /// Where positions that are live lead to one by a row of those that may come before it, and where it may follow itself.
@@ -779,4 +773,13 @@ fn arrive<const W: usize>(
         led: one_later(led, meet(&entry.state, row)),
         again: only_if(u64::MAX, contains_word_bit(row, position)),
     }
+}
+
+/// The contexts of a block behind `prev`.
+#[inline(never)]
+fn contexts_made(prev: Prev, whole: &[u8]) -> Contexts
+    requires { length whole.now ≡ 64 }
+    ensures { AreContexts result prev whole.now }
+{
+    Contexts::new(prev, whole)
 }

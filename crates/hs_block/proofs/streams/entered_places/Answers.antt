@@ -8,4 +8,4 @@ returns-then-entry-eq0 g c i below =
     entered-nowhere c.args.entry.now.enters (λ k. has_context c.args.mask (context_before c.args.entry.now.prev c.args.whole.now k)) c.if-entry-eq0.true i
 
 pub returns : goal.returns
-returns g c = entered-bit c.args.entry.now.enters c.mask_before.result (λ k. has_context c.args.mask (context_before c.args.entry.now.prev c.args.whole.now k)) c.mask_before.ensures
+returns g c = entered-bit c.args.entry.now.enters c.places_before.result (λ k. has_context c.args.mask (context_before c.args.entry.now.prev c.args.whole.now k)) c.places_before.ensures

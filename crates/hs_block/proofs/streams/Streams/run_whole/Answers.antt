@@ -1,7 +1,6 @@
 use Rattle.std.proofs.Common.{get_or, vec_len, arith, ap, sym, ◌∙◌}
 use Rattle.std.proofs.lemmas.Option.{slice_get_read}
 use Rattle.hs_engine.specs.Automata.{in_set}
-use Rattle.hs_bits.proofs.WordLemmas.{zero-words}
 use Rattle.hs_block.proofs.StreamRunLemmas.{blank-is, rest-run}
 use Rattle.hs_block.proofs.streams.Streams.run_whole.Goals as goal
 
@@ -26,18 +25,16 @@ take-requires g c =
     let s = c.args.self.now in
     let whole = c.args.whole.now in
     record {
-      fits = record { room = omega (arith, c.if-self-eq1.true); few = omega arith; single = λ is. c.if-self-eq1.true };
+      fits = record { room = omega (arith, c.if-self-eq1.true); few = omega arith; exact = λ few. c.if-self-eq1.true };
       len = c.requires.len;
       clear = c.requires.clear;
       whole = c.requires.whole;
-      made = c.contexts.ensures;
       blank = blank-is c.is_zero-blank.result c.args.region.now c.is_zero-blank.ensures;
       few = c.requires.few;
       first = λ i below.
           c.class_word-first.ensures i below
           ∙ ap (λ set. in_set set (get_or whole i 0)) (sym (slice_get_read s.sets.items (vec_len s.sets) 0 c.index.result.now s.sets.ok.0 s.some_sets c.index.ensures));
-      room = omega (arith, c.if-self-eq1.true);
-      zero = zero-words 64;
+      room = omega arith;
     }
 
 pub take_wide-requires-clause-blank : goal.take_wide-requires-clause-blank
