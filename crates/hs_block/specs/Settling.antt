@@ -9,6 +9,12 @@ abbrev pub Holds : Rules → (start : ℕ → Bool) (words : List ℕ) (position
 Holds rules start words x =
     (i : ℕ) → i < 64 → word_bit (slice_index words x) i ≡ is_next rules i (live_at start words i) x
 
+-- Of so many positions those are marked whose words may be other than 0, in a row of so many words.
+pub record AreLive (size width : ℕ) (words live : List ℕ) : Type 0 where
+  pub len : length live ≡ width
+  pub few : (y : ℕ) → size ≤ y → has_word_bit live y ≡ false
+  pub dark : (y : ℕ) → has_word_bit live y ≡ false → slice_index words y ≡ 0
+
 -- Each position holds of which nothing is to be done, and the words are 0 of those that aren't live.
 pub record IsSettled (rules : Rules) (start : ℕ → Bool) (words todo live : List ℕ) : Type 0 where
   pub room : rules.size ≤ length words

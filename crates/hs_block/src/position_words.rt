@@ -1,11 +1,13 @@
 //! Words of 64 places, one for each position: united, read at one place, and whether rows of positions meet.
 
-ghost use Rattle.std.specs.Prelude.{◌≡◌, ℕ, ◌*◌, ◌<◌, ◌≤◌, ◌&&◌, false, length, slice_index};
+ghost use Rattle.std.specs.Prelude.{◌≡◌, ℕ, ◌-◌, ◌*◌, ◌<◌, ◌≤◌, ◌&&◌, ◌||◌, IfSome, false, length, nat_le, slice_index};
 ghost use Rattle.hs_base.specs.Bits.{has_word_bit};
 ghost use Rattle.hs_engine.specs.AnyBelow.{any_below};
 ghost use Rattle.hs_bits.specs.WordBits.{word_bit};
 
-use hs_bits::{WORD_BITS, are_apart, contains_place, lowest_bit, with_place, without_lowest_bit};
+use hs_bits::{
+    WORD_BITS, are_apart, contains_place, lowest_bit, row_word, with_place, without_lowest_bit,
+};
 
 /// Whether the two rows have a bit in common.
 #[inline(always)]
@@ -16,6 +18,18 @@ pub(crate) fn meet(one: &[u64], other: &[u64]) -> bool
         result ≡ any_below size (λ y. has_word_bit one.now y && has_word_bit other.now y) }
 {
     !are_apart(one, other)
+}
+
+/// As `row_word`, which has no more to look at where the row may go on nowhere.
+#[inline(always)]
+pub(crate) fn word_behind(class: u64, reached: u64, again: u64) -> Option<u64>
+    ensures { IfSome result (λ word. (i : ℕ) → i < 64 → word_bit word i ≡ (word_bit class i
+        && (word_bit reached i || (nat_le 1 i && (word_bit word (i - 1) && word_bit again i))))) }
+{
+    if again == 0 {
+        return Some(class & reached);
+    }
+    row_word(class, reached, again)
 }
 
 /// The words of those numbers, united.
@@ -50,7 +64,8 @@ pub(crate) fn united_rows(words: &[u64], row: &[u64], live: &[u64]) -> u64
     all
 }
 
-/// The row of the positions whose words have the bit of that place, where only those of `live` have a word that isn't 0.
+/// The row of the positions whose words have the bit of that place, where only those of `live` have a word that isn't
+/// 0.
 pub(crate) fn column<const W: usize>(words: &[u64], live: &[u64], place: usize) -> [u64; W]
     requires place { place < 64 }
     requires room { 64 * W ≤ length words.now }

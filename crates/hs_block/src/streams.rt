@@ -17,8 +17,9 @@ ghost use Rattle.hs_base.specs.Bits.{AreZero, has_bit, has_word_bit, word_count}
 ghost use Rattle.hs_base.specs.Contexts.{Context};
 ghost use Rattle.hs_base.specs.ContextSets.{has_context};
 ghost use Rattle.hs_engine.specs.Automata.{in_mask, in_set};
-ghost use Rattle.hs_bits.specs.BlockContexts.{AreContexts, AreMade, context_before, context_behind};
+ghost use Rattle.hs_bits.specs.BlockContexts.{AreMade, context_before, context_behind};
 ghost use Rattle.hs_block.specs.Rows.{live_at};
+ghost use Rattle.hs_block.specs.Settling.{AreLive, IsSettled};
 ghost use Rattle.hs_block.specs.StreamSets.{RowsFit, in_rows, is_from, takes_byte};
 ghost use Rattle.hs_bits.specs.WordBits.{one_later, word_bit};
 
@@ -26,13 +27,13 @@ use crate::before_tables::{EXACT_WIDTH, MAX_WIDTH, OrderTables, SQUARES, row_in,
 use crate::class_words::{ClassWords, MAX_SETS, class_word};
 use crate::mask_places::{places_before, places_behind};
 use crate::mask_words::{has_mixed, some_row};
-use crate::position_words::{column, meet, united_rows};
+use crate::position_words::{column, meet, united_rows, word_behind};
 use crate::set_tables::SetTables;
 use hs_base::{ByteSet, Mask, Prev};
 use hs_bits::{
     Contexts, WORD_BITS, contains_place, contains_word_bit, contexts_of, is_zero, keep_words, load,
-    low_places, next_bit_in, one_later, only_if, place_count, place_in, row_word, store,
-    unite_words, write_word_bit,
+    low_places, next_bit_in, one_later, only_if, place_count, place_in, store, unite_words,
+    write_word_bit,
 };
 use hs_engine::{Automaton, BlockEnds, Steps, first_bytes};
 use std::alloc::{AllocError, Global};
@@ -154,7 +155,6 @@ impl Streams {
     ghost use Rattle.hs_block.specs.Blocks.{is_blank};
     ghost use Rattle.hs_bits.specs.Packed.{packed};
     ghost use Rattle.hs_block.specs.Rows.{is_next};
-    ghost use Rattle.hs_block.specs.Settling.{IsSettled};
     ghost use Rattle.hs_block.specs.StreamRuns.{IsTried};
     ghost use Rattle.hs_block.specs.StreamTables.{AreClassWords, TellsOf, comes_before, stream_rules};
 
@@ -349,7 +349,7 @@ impl Streams {
         ensures { AreMade result prev whole.now }
     {
         if self.mixed {
-            Some(contexts_made(prev, whole))
+            Some(Contexts::new(prev, whole))
         } else {
             None
         }
@@ -372,13 +372,10 @@ impl Streams {
         requires room { 64 * self.now.width ≤ length words.old }
         requires zero { (x : ℕ) → slice_index words.old x ≡ 0 }
         ensures len { length words.new ≡ length words.old }
-        ensures live { IfSome result (λ live. length live ≡ W) }
+        ensures lit { IfSome result (λ live. AreLive self.now.size W words.new live) }
         ensures settled { IfSome result (λ live. (x : ℕ) → x < self.now.size → (i : ℕ) → i < 64 →
             word_bit (slice_index words.new x) i ≡ is_next (stream_rules self.now entry.now.prev entry.now.enters
             whole.now) i (live_at (has_word_bit entry.now.state) words.new i) x) }
-        ensures few { IfSome result (λ live. (y : ℕ) → self.now.size ≤ y → has_word_bit live y ≡ false) }
-        ensures dark { IfSome result (λ live. (y : ℕ) → has_word_bit live y ≡ false →
-            slice_index words.new y ≡ 0) }
     {
         let mut classes = ClassWords::new(first);
         let todo = self.first_todo(entry, first);
@@ -499,9 +496,7 @@ impl Streams {
         requires known { AreClassWords classes.old self.now.sets.items whole.now }
         requires room { 64 * self.now.width ≤ length words.now }
         requires state { (y : ℕ) → self.now.size ≤ y → has_word_bit entry.now.state y ≡ false }
-        requires live { length live.now ≡ W }
-        requires live_few { (y : ℕ) → self.now.size ≤ y → has_word_bit live.now y ≡ false }
-        requires dark { (y : ℕ) → has_word_bit live.now y ≡ false → slice_index words.now y ≡ 0 }
+        requires lit { AreLive self.now.size W words.now live.now }
         requires none { slice_index words.now position ≡ 0 }
         ensures known { AreClassWords classes.new self.now.sets.items whole.now }
         ensures word { IfSome result (λ word. (i : ℕ) → i < 64 →
@@ -516,7 +511,7 @@ impl Streams {
             return Some(0);
         }
         let class = classes.of(&self.sets, self.numbers.as_slice()[position], whole);
-        row_word(class, reached, arrivals.again)
+        word_behind(class, reached, arrivals.again)
     }
 
     /// Where positions that are live lead to a position, and where it may follow itself.
@@ -535,9 +530,7 @@ impl Streams {
         requires made { AreMade entry.now.contexts entry.now.prev whole.now }
         requires room { 64 * self.now.width ≤ length words.now }
         requires state { (y : ℕ) → self.now.size ≤ y → has_word_bit entry.now.state y ≡ false }
-        requires live { length live.now ≡ W }
-        requires live_few { (y : ℕ) → self.now.size ≤ y → has_word_bit live.now y ≡ false }
-        requires dark { (y : ℕ) → has_word_bit live.now y ≡ false → slice_index words.now y ≡ 0 }
+        requires lit { AreLive self.now.size W words.now live.now }
         ensures led { (i : ℕ) → i < 64 → word_bit result.led i ≡ any_below self.now.size
             (λ y. live_at (has_word_bit entry.now.state) words.now i y
             && comes_before self.now position y (context_before entry.now.prev whole.now i)) }
@@ -571,9 +564,7 @@ impl Streams {
         requires room { 64 * self.now.width ≤ length words.now }
         requires asks { has_word_bit self.now.asks position ≡ true }
         requires state { (y : ℕ) → self.now.size ≤ y → has_word_bit entry.now.state y ≡ false }
-        requires live { length live.now ≡ W }
-        requires live_few { (y : ℕ) → self.now.size ≤ y → has_word_bit live.now y ≡ false }
-        requires dark { (y : ℕ) → has_word_bit live.now y ≡ false → slice_index words.now y ≡ 0 }
+        requires lit { AreLive self.now.size W words.now live.now }
         requires led { (i : ℕ) → i < 64 → word_bit always.led i ≡ any_below self.now.size
             (λ y. live_at (has_word_bit entry.now.state) words.now i y
             && in_rows self.now.froms.items self.now.width position y) }
@@ -616,8 +607,7 @@ impl Streams {
         requires whole { length whole.now ≡ 64 }
         requires made { AreMade entry.now.contexts entry.now.prev whole.now }
         requires room { self.now.size ≤ length words.now }
-        requires live { length live.now ≡ W }
-        requires dark { (y : ℕ) → has_word_bit live.now y ≡ false → slice_index words.now y ≡ 0 }
+        requires lit { AreLive self.now.size W words.now live.now }
         ensures before { (i : ℕ) → word_bit result.before i ≡ (nat_lt i count
             && any_below self.now.size
             (λ x. live_at (has_word_bit entry.now.state) words.now i x
@@ -695,9 +685,7 @@ impl Streams {
         requires fits { RowsFit self.now.width W }
         requires few { count ≤ 64 }
         requires room { 64 * W ≤ length words.now }
-        requires live { length live.now ≡ W }
-        requires live_few { (y : ℕ) → self.now.size ≤ y → has_word_bit live.now y ≡ false }
-        requires dark { (y : ℕ) → has_word_bit live.now y ≡ false → slice_index words.now y ≡ 0 }
+        requires lit { AreLive self.now.size W words.now live.now }
         requires len { length region.old ≡ (self.now.size + 7) / 8 }
         ensures none { count ≡ 0 → region.new ≡ region.old }
         ensures some { (last : ℕ) → count ≡ last + 1 → region.new ≡
@@ -721,9 +709,7 @@ impl Streams {
         requires fits { RowsFit self.now.width W }
         requires few { count ≤ 64 }
         requires room { 64 * self.now.width ≤ length words.now }
-        requires live { length live.now ≡ W }
-        requires live_few { (y : ℕ) → self.now.size ≤ y → has_word_bit live.now y ≡ false }
-        requires dark { (y : ℕ) → has_word_bit live.now y ≡ false → slice_index words.now y ≡ 0 }
+        requires lit { AreLive self.now.size W words.now live.now }
         ensures { (i : ℕ) → word_bit result i ≡ (nat_lt i count && (word_bit entry.now.enters i
             || one_later (not blank)
             (λ j. any_below self.now.size (λ x. word_bit (slice_index words.now x) j)) i)) }
@@ -773,13 +759,4 @@ fn arrive<const W: usize>(
         led: one_later(led, meet(&entry.state, row)),
         again: only_if(u64::MAX, contains_word_bit(row, position)),
     }
-}
-
-/// The contexts of a block behind `prev`.
-#[inline(never)]
-fn contexts_made(prev: Prev, whole: &[u8]) -> Contexts
-    requires { length whole.now ≡ 64 }
-    ensures { AreContexts result prev whole.now }
-{
-    Contexts::new(prev, whole)
 }

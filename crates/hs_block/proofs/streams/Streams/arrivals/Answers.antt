@@ -26,18 +26,12 @@ by_context-requires g c =
                   (
                     c.requires.state,
                     (
-                      c.requires.live,
+                      c.requires.lit,
                       (
-                        c.requires.live_few,
-                        (
-                          c.requires.dark,
-                          (
-                            λ i small.
-                                c.arrive-always.ensures.led s.size (omega (arith, s.wide, c.row_in-row.ensures.len)) c.requires.state c.requires.live_few i small
-                                ∙ read-row s c.args.entry.now.state c.args.words.now c.row_in-row.result.now c.args.position i read,
-                            λ i small. c.arrive-always.ensures.again i small ∙ read c.args.position (omega (arith, c.requires.position, s.wide)),
-                          ),
-                        ),
+                        λ i small.
+                            c.arrive-always.ensures.led s.size (omega (arith, s.wide, c.row_in-row.ensures.len)) c.requires.state c.requires.lit.few i small
+                            ∙ read-row s c.args.entry.now.state c.args.words.now c.row_in-row.result.now c.args.position i read,
+                        λ i small. c.arrive-always.ensures.again i small ∙ read c.args.position (omega (arith, c.requires.position, s.wide)),
                       ),
                     ),
                   ),
@@ -52,7 +46,7 @@ by_context-requires g c =
 pub returns-else-contains_word_bit-clause-led : goal.returns-else-contains_word_bit-clause-led
 returns-else-contains_word_bit-clause-led g c i small =
     let s = c.args.self.now in
-    c.arrive-always.ensures.led s.size (omega (arith, s.wide, c.row_in-row.ensures.len)) c.requires.state c.requires.live_few i small
+    c.arrive-always.ensures.led s.size (omega (arith, s.wide, c.row_in-row.ensures.len)) c.requires.state c.requires.lit.few i small
     ∙ (read-row s c.args.entry.now.state c.args.words.now c.row_in-row.result.now c.args.position i (λ y below. c.row_in-row.ensures.bits y below ∙ ap (λ items. in_rows items s.width c.args.position y) c.deref.ensures.value)
     ∙ led-always s c.args.entry.now.state c.args.words.now c.args.position i (context_before c.args.entry.now.prev c.args.whole.now i) c.requires.position (sym c.contains_word_bit.ensures ∙ c.if-contains_word_bit.false))
 

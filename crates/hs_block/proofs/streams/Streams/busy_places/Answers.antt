@@ -18,4 +18,4 @@ returns g c i =
     ∙ ap (λ b. word_bit enters i || b)
     (c.one_later.ensures i (omega (arith, below, c.requires.few))
     ∙ later-same first (word_bit c.united_rows-word.result) live
-    (λ j. busy-word s words c.args.live.now c.row_in.result.now c.united_rows-word.result j c.row_in.ensures.len c.row_in.ensures.bits c.requires.live_few c.requires.dark (c.united_rows-word.ensures j)) i))
+    (λ j. busy-word s words c.args.live.now c.row_in.result.now c.united_rows-word.result j c.row_in.ensures.len c.row_in.ensures.bits c.requires.lit.few c.requires.lit.dark (c.united_rows-word.ensures j)) i))

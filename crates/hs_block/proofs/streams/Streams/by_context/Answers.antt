@@ -61,7 +61,7 @@ loop-square-preserved g c =
     record {
       led = λ i small.
           squares-more i square (here i) (LedBy s entry.state c.args.words.now x i) (word_bit c.args.always.led i) c.loop-square.all.led more.led c.square_places-places.result
-          (c.arrive-more.ensures.led s.size (omega (arith, s.wide, c.row_in-row.ensures.len)) c.requires.state c.requires.live_few i small
+          (c.arrive-more.ensures.led s.size (omega (arith, s.wide, c.row_in-row.ensures.len)) c.requires.state c.requires.lit.few i small
           ∙ read-rest s entry.state c.args.words.now c.row_in-row.result.now (12 * x + square) i read)
           (c.square_places-places.ensures entry.prev whole c.contexts_of-contexts.ensures i (omega (arith, small, c.requires.whole))) (inv.led i small);
       again = λ i small.

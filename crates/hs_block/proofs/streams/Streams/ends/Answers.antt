@@ -25,10 +25,10 @@ loop-position-preserved g c =
     record {
       within = omega (arith, c.in-Some.ensures.high);
       ends_before = λ i small.
-          ends-more s entry.state live words c.ending-ending.result c.requires.dark c.ending-ending.ensures.bits i i (context_before entry.prev whole i) c.loop-position.from x c.loop-position.before more.before c.in-Some.ensures.high
+          ends-more s entry.state live words c.ending-ending.result c.requires.lit.dark c.ending-ending.ensures.bits i i (context_before entry.prev whole i) c.loop-position.from x c.loop-position.before more.before c.in-Some.ensures.high
           c.in-Some.ensures.least c.in-Some.ensures.low (c.ends_of-more.ensures.before i small) (inv.ends_before i small);
       ends_behind = λ i small.
-          ends-more s entry.state live words c.ending-ending.result c.requires.dark c.ending-ending.ensures.bits i (suc i) (context_behind entry.prev whole i) c.loop-position.from x c.loop-position.behind more.behind c.in-Some.ensures.high
+          ends-more s entry.state live words c.ending-ending.result c.requires.lit.dark c.ending-ending.ensures.bits i (suc i) (context_behind entry.prev whole i) c.loop-position.from x c.loop-position.behind more.behind c.in-Some.ensures.high
           c.in-Some.ensures.least c.in-Some.ensures.low (c.ends_of-more.ensures.behind i small) (inv.ends_behind i small);
     }
 
@@ -39,7 +39,7 @@ returns-clause-before g c i =
     let here = context_before entry.prev c.args.whole.now i in
     masked c.low_places-low.result c.loop-position.before c.args.count i (any_below s.size (Accepts s entry.state c.args.words.now i here)) c.low_places-low.ensures
     (λ below.
-    ends-all s entry.state c.args.live.now c.args.words.now c.ending-ending.result c.requires.dark c.ending-ending.ensures.bits i i here c.loop-position.from c.loop-position.before c.loop-position.invariant.within c.in_default.ensures
+    ends-all s entry.state c.args.live.now c.args.words.now c.ending-ending.result c.requires.lit.dark c.ending-ending.ensures.bits i i here c.loop-position.from c.loop-position.before c.loop-position.invariant.within c.in_default.ensures
     (c.loop-position.invariant.ends_before i (omega (arith, below, c.requires.few))))
 
 pub returns-clause-behind : goal.returns-clause-behind
@@ -49,5 +49,5 @@ returns-clause-behind g c i =
     let here = context_behind entry.prev c.args.whole.now i in
     masked c.low_places-low.result c.loop-position.behind c.args.count i (any_below s.size (Accepts s entry.state c.args.words.now (suc i) here)) c.low_places-low.ensures
     (λ below.
-    ends-all s entry.state c.args.live.now c.args.words.now c.ending-ending.result c.requires.dark c.ending-ending.ensures.bits i (suc i) here c.loop-position.from c.loop-position.behind c.loop-position.invariant.within c.in_default.ensures
+    ends-all s entry.state c.args.live.now c.args.words.now c.ending-ending.result c.requires.lit.dark c.ending-ending.ensures.bits i (suc i) here c.loop-position.from c.loop-position.behind c.loop-position.invariant.within c.in_default.ensures
     (c.loop-position.invariant.ends_behind i (omega (arith, below, c.requires.few))))

@@ -14,5 +14,5 @@ returns-then-count-gt0-clause-some g c last is =
     ∙ packed-same (length c.args.region.now) (has_word_bit c.column.result) (λ x. nat_lt x s.size && word_bit (get_or words x 0) last)
     (λ x below.
     c.column.ensures.bits x
-    ∙ (sym (all-under x s.size (word_bit (get_or words x 0) (c.args.count - 1)) (λ past. ap (λ w. word_bit w (c.args.count - 1)) (c.requires.dark x (c.requires.live_few x past)) ∙ bit-none (c.args.count - 1)))
+    ∙ (sym (all-under x s.size (word_bit (get_or words x 0) (c.args.count - 1)) (λ past. ap (λ w. word_bit w (c.args.count - 1)) (c.requires.lit.dark x (c.requires.lit.few x past)) ∙ bit-none (c.args.count - 1)))
     ∙ ap (λ k. nat_lt x s.size && word_bit (get_or words x 0) k) (omega arith)))

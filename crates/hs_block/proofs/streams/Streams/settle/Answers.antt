@@ -67,14 +67,8 @@ word_of-requires g c =
                   (
                     c.requires.state,
                     (
-                      c.args.work.now.live_len,
-                      (
-                        c.requires.settled.live_few,
-                        (
-                          set-none words c.args.work.now.live x below c.requires.settled.dark,
-                          get_or-set_same words x 0 0 below,
-                        ),
-                      ),
+                      record { len = c.args.work.now.live_len; few = c.requires.settled.live_few; dark = set-none words c.args.work.now.live x below c.requires.settled.dark },
+                      get_or-set_same words x 0 0 below,
                     ),
                   ),
                 ),

@@ -30,7 +30,7 @@ returns-clause-word g c =
     let x = c.args.position in
     let reached = bit_or c.entered_places-entered.result c.arrivals-arrivals.result.led in
     let again = c.arrivals-arrivals.result.again in
-    some-map c.row_word.result
+    some-map c.word_behind.result
     (λ word look.
     word-holds s entry.prev entry.state entry.enters whole words x word reached again c.requires.position (omega (arith, c.requires.position, c.requires.room, s.wide)) c.requires.none
     (reached-bit s entry.prev entry.state entry.enters whole words x _ c.entered_places-entered.result c.arrivals-arrivals.result.led
@@ -42,4 +42,4 @@ returns-clause-word g c =
     (c.of-class.ensures.word k below
     ∙ (ap (λ items. in_set (slice_get items (get_or c.as_slice.result.now x 0)) (get_or whole k 0)) c.deref.ensures.value
     ∙ ap (λ items. in_set (slice_get s.sets.items (get_or items x 0)) (get_or whole k 0)) c.as_slice.ensures.value))))
-    c.row_word.ensures
+    c.word_behind.ensures
