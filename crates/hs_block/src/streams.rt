@@ -11,14 +11,14 @@
 //! ```
 
 ghost use Rattle.std.specs.Prelude.{◌≡◌, ◌≢◌, ℕ, ◌+◌, ◌*◌, ◌/◌, ◌<◌, ◌≤◌, ◌&&◌, ◌||◌, ◌==◌, Bool, true, false, not};
-ghost use Rattle.std.specs.Prelude.{List, length, nat_lt, set, slice_get, slice_index, vec_len};
+ghost use Rattle.std.specs.Prelude.{IfOk, IfSome, IsTrue, List, length, nat_lt, set, slice_get, slice_index, vec_len};
 ghost use Rattle.hs_engine.specs.AnyBelow.{any_below};
 ghost use Rattle.hs_base.specs.Bits.{AreZero, has_bit, has_word_bit, word_count};
 ghost use Rattle.hs_base.specs.Contexts.{Context};
 ghost use Rattle.hs_base.specs.ContextSets.{has_context};
 ghost use Rattle.hs_engine.specs.Automata.{in_mask, in_set};
 ghost use Rattle.hs_bits.specs.BlockContexts.{AreMade, context_before, context_behind};
-ghost use Rattle.hs_block.specs.Rows.{live_at};
+ghost use Rattle.hs_block.specs.Rows.{is_next, live_at};
 ghost use Rattle.hs_block.specs.Settling.{AreLive, IsSettled};
 ghost use Rattle.hs_block.specs.StreamSets.{RowsFit, in_rows, is_from, takes_byte};
 ghost use Rattle.hs_bits.specs.WordBits.{one_later, word_bit};
@@ -150,11 +150,9 @@ struct Arrivals {
 }
 
 impl Streams {
-    ghost use Rattle.std.specs.Prelude.{IfOk, IfSome, IsTrue, ◌↔◌};
     ghost use Rattle.hs_engine.specs.Tables.{IsClearFrom};
     ghost use Rattle.hs_block.specs.Blocks.{is_blank};
     ghost use Rattle.hs_bits.specs.Packed.{packed};
-    ghost use Rattle.hs_block.specs.Rows.{is_next};
     ghost use Rattle.hs_block.specs.StreamRuns.{IsTried};
     ghost use Rattle.hs_block.specs.StreamTables.{AreClassWords, TellsOf, comes_before, stream_rules};
 
