@@ -51,7 +51,7 @@ by-byte true x e = absurd (cc)
 by-byte false true e = absurd (cc)
 by-byte false false e = absurd (cc)
 
-behind-byte : (front : List ℕ) (n : ℕ) → 1 ≤ n → n ≤ length front → prev_at front n ≡ before.Start → ⊥
+pub behind-byte : (front : List ℕ) (n : ℕ) → 1 ≤ n → n ≤ length front → prev_at front n ≡ before.Start → ⊥
 unfolding prev_at
 behind-byte front zero some within e = absurd (omega arith)
 behind-byte [] (suc n) some within e = absurd (omega arith)

@@ -2,7 +2,6 @@
 use Rattle.std.proofs.Common.{◌≡◌, ◌⊎◌, ℕ, zero, suc, ◌+◌, ◌*◌, ◌/◌, ◌%◌, ◌<◌, ◌≤◌, Bool, List, [], ◌∷◌, ◌++◌, length, take, drop, slice_index, refl, sym, ap, subst, ◌∙◌, inl, inr, arith, length-append}
 use Rattle.std.proofs.lemmas.List.{append-nil, append_assoc, length-take}
 use Rattle.hs_base.specs.declared.context.Prev.{Prev}
-use Rattle.hs_base.specs.Contexts.{prev_at}
 use Rattle.hs_base.specs.Trees.{Tree}
 use Rattle.hs_bits.specs.WordBits.{Marks, bits_of, word_bit}
 use Rattle.hs_bits.proofs.PlaceLemmas.{bit-none}
@@ -12,7 +11,7 @@ use Rattle.hs_engine.specs.declared.ends.BlockEnds.{BlockEnds}
 use Rattle.hs_engine.specs.Engines.{Meaning}
 use Rattle.hs_waking.specs.EntryRows.{entries_to}
 use Rattle.hs_nodes.specs.Blocks.{block, front}
-use Rattle.hs_nodes.specs.Starting.{RunsEntered, ScansBlock, entered_to, is_place}
+use Rattle.hs_nodes.specs.Starting.{RunsEntered, ScansBehind, entered_to, is_place}
 use Rattle.hs_nodes.specs.declared.ends.ChunkEnds.{ChunkEnds}
 use Rattle.hs_nodes.proofs.ChunkLemmas.{block-past, front-all, front-more, front-none, length-front}
 use Rattle.hs_nodes.proofs.RunLemmas.{AreMoreEnds, AreNowhereFrom, reach-all, reach-more, reach-upto}
@@ -70,24 +69,23 @@ entered-none m region prev at bytes words ends tree u entered of = record {
 cases : (i j n : ℕ) → n ≡ j + 1 → i < n → (i < j) ⊎ (i ≡ j)
 cases i j n next low = grind (arith, next)
 
-module _ (m : Meaning) (old region new : List ℕ) (prev here_prev : Prev) (at here : ℕ) (bytes own : List ℕ) (words : ℕ → ℕ) (enters : ℕ) (ends ends' : ChunkEnds) (j n : ℕ) (left : BlockEnds)
+module _ (m : Meaning) (old region new : List ℕ) (prev : Prev) (at here : ℕ) (bytes own : List ℕ) (words : ℕ → ℕ) (enters : ℕ) (ends ends' : ChunkEnds) (j n : ℕ) (left : BlockEnds)
     (below : 64 * j < length bytes) (next : n ≡ j + 1) (own_is : own ≡ block bytes j) (here_is : here ≡ at + 64 * j)
-    (prev_is : (u : List ℕ) → prev ≡ prev_at u (length u) → here_prev ≡ prev_at (front u bytes j) (length (front u bytes j)))
-    (word_is : enters ≡ words j) (scans : ScansBlock m region new here_prev here enters own left)
+    (word_is : enters ≡ words j) (scans : ScansBehind m region new prev bytes j here enters own left)
     (more : AreMoreEnds ends ends' j left.before left.behind) where
-  blocks : ScansBlock m region new here_prev here (words j) (block bytes j) left
-  blocks = subst (λ bs. ScansBlock m region new here_prev here (words j) bs left) own_is (subst (λ w. ScansBlock m region new here_prev here w own left) word_is scans)
+  blocks : ScansBehind m region new prev bytes j here (words j) (block bytes j) left
+  blocks = subst (λ bs. ScansBehind m region new prev bytes j here (words j) bs left) own_is (subst (λ w. ScansBehind m region new prev bytes j here w own left) word_is scans)
 
   module _ (tree : Tree) (u : List ℕ) (entered : List Bool) (of : IsFieldOf m old prev at tree u entered) (run : IsRunEnteredTo (m.field region tree) tree u entered bytes words ends j) where
     counted : length (entered_to entered words bytes j) ≡ length (front u bytes j)
     counted = omega (arith, of.count, length-front u bytes j (omega arith), length-append entered (entries_to (is_place words) (length (take (64 * j) bytes))), length-entries (is_place words) (length (take (64 * j) bytes)), reach-upto bytes j (omega arith))
 
     scan : Scans (m.field new tree) tree (front u bytes j) (entered_to entered words bytes j) (block bytes j) (words j) left.before left.behind
-    scan = blocks tree (front u bytes j) (entered_to entered words bytes j) (record {
+    scan = blocks u of.behind tree (front u bytes j) (entered_to entered words bytes j) (record {
       runs = of.runs;
       count = counted;
       offset = omega (arith, here_is, of.offset, length-front u bytes j (omega arith));
-      behind = prev_is u of.behind;
+      behind = refl;
       field = run.field;
     })
 

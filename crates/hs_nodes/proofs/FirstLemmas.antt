@@ -1,5 +1,5 @@
 -- Where pieces are entered everywhere, and where an expression has the empty span.
-use Rattle.std.proofs.Common.{◌≡◌, ◌⊎◌, ◌↔◌, ℕ, zero, suc, ◌+◌, ◌*◌, ◌<◌, ◌≤◌, true, false, List, [], ◌∷◌, ◌++◌, length, take, slice_get, slice_index, Some, refl, sym, ap, subst, ◌∙◌, inl, inr, arith}
+use Rattle.std.proofs.Common.{◌≡◌, ◌⊎◌, ◌↔◌, ℕ, zero, suc, ◌+◌, ◌*◌, ◌<◌, ◌≤◌, true, false, List, [], ◌∷◌, ◌++◌, length, take, slice_get, slice_index, Some, refl, sym, ap, subst, ◌∙◌, inl, inr, arith, length-append}
 use Rattle.std.specs.Prelude.{nat_lt}
 use Rattle.hs_base.specs.declared.context.Mask.{Mask}
 use Rattle.hs_base.specs.declared.context.Next.{Next}
@@ -17,7 +17,7 @@ use Rattle.hs_nodes.specs.declared.ends.ChunkEnds.{ChunkEnds}
 use Rattle.hs_nodes.specs.Blocks.{EndsBehind, block, front}
 use Rattle.hs_nodes.specs.Contexts.{AreChunkContexts, IsNull}
 use Rattle.hs_nodes.specs.Left.{AreLeft}
-use Rattle.hs_nodes.specs.Pieces.{AreEmpty}
+use Rattle.hs_nodes.specs.Pieces.{AreEmpty, AreEmptyAt}
 use Rattle.hs_nodes.proofs.ChunkLemmas.{block-past}
 use Rattle.hs_nodes.proofs.RunLemmas.{AreMoreEnds, AreNowhereFrom}
 
@@ -74,6 +74,33 @@ empty-never tree u bytes before behind none none' never = record {
   before_is = λ i low. ((λ set. absurd (let both : true ≡ false = sym set ∙ (ap (λ w. word_bit w i) none ∙ bit-none i) in cc)), (λ empty. absurd (never (u ++ take i bytes) (class_of (slice_index bytes i)) empty)));
   behind_is = λ i low. ((λ set. absurd (let both : true ≡ false = sym set ∙ (ap (λ w. word_bit w i) none' ∙ bit-none i) in cc)), (λ empty. absurd (never (u ++ take (i + 1) bytes) after.Unknown empty)));
 }
+
+-- what is told of all places is told of those that are asked
+pub empty-asked : {tree : Tree} {u bytes : List ℕ} {before behind : ℕ} → (asked asked' : ℕ) → AreEmpty tree u bytes before behind → AreEmptyAt tree u bytes asked asked' before behind
+empty-asked asked asked' are = record { before_is = λ i low set. are.before_is i low; behind_is = λ i low set. are.behind_is i low }
+
+-- where none is asked, any words tell it
+pub empty-unasked : (tree : Tree) (u bytes : List ℕ) (asked asked' before behind : ℕ) → asked ≡ 0 → asked' ≡ 0 → AreEmptyAt tree u bytes asked asked' before behind
+empty-unasked tree u bytes asked asked' before behind none none' = record {
+  before_is = λ i low set. absurd (let both : true ≡ false = sym set ∙ (ap (λ w. word_bit w i) none ∙ bit-none i) in cc);
+  behind_is = λ i low set. absurd (let both : true ≡ false = sym set ∙ (ap (λ w. word_bit w i) none' ∙ bit-none i) in cc);
+}
+
+-- where the expression is empty nowhere from there on
+pub empty-later : (tree : Tree) (u bytes : List ℕ) (j asked asked' before behind : ℕ) → before ≡ 0 → behind ≡ 0 → ((v : List ℕ) (next : Next) → length u ≤ length v → IsEmptyAt tree v next → ⊥) → AreEmptyAt tree (front u bytes j) (block bytes j) asked asked' before behind
+unfolding front
+empty-later tree u bytes j asked asked' before behind none none' never = record {
+  before_is = λ i low set. (
+    λ told. absurd (let both : true ≡ false = sym told ∙ (ap (λ w. word_bit w i) none ∙ bit-none i) in cc),
+    λ empty. absurd (never ((u ++ take (64 * j) bytes) ++ take i (block bytes j)) (class_of (slice_index (block bytes j) i)) (longer i) empty),
+  );
+  behind_is = λ i low set. (
+    λ told. absurd (let both : true ≡ false = sym told ∙ (ap (λ w. word_bit w i) none' ∙ bit-none i) in cc),
+    λ empty. absurd (never ((u ++ take (64 * j) bytes) ++ take (i + 1) (block bytes j)) after.Unknown (longer (i + 1)) empty),
+  );
+} where
+  longer : (i : ℕ) → length u ≤ length ((u ++ take (64 * j) bytes) ++ take i (block bytes j))
+  longer i = omega (arith, length-append (u ++ take (64 * j) bytes) (take i (block bytes j)), length-append u (take (64 * j) bytes))
 
 both-ways : {A B C : Type 0} → A ↔ B → B ↔ C → A ↔ C
 both-ways f g = (λ a. g.0 (f.0 a), λ c. f.1 (g.1 c))

@@ -45,7 +45,7 @@ needed-contexts number (Some own) P needs mask is = needs tt
 
 module _ {E : Type 0} (meaning : E → Meaning) (engines : List E) where
   pub engine-takes : (number : ℕ) (null : Option Mask) (old new : List ℕ) (prev : Prev) (at : ℕ) (past bytes : List ℕ) (hits : List ChunkHits) (enters empty ends : ChunkEnds) (e : E) → slice_get engines number ≡ Some e →
-      ((tree : Tree) (u : List ℕ) → IsNull null tree → EndsBehind u prev at → AreEmptyIn tree u bytes empty) → TakesChunk (meaning e) old new prev at bytes enters empty ends → TakesPiece meaning engines (Engine number null) old new prev at past bytes hits enters ends
+      ((tree : Tree) (u : List ℕ) → IsNull null tree → EndsBehind u prev at → AreEmptyIn tree u bytes enters empty) → TakesChunk (meaning e) old new prev at bytes enters empty ends → TakesPiece meaning engines (Engine number null) old new prev at past bytes hits enters ends
   engine-takes number null old new prev at past bytes hits enters empty ends e there empties takes literals pieces rest piece u of fit stands past_is bytes_are hits_are left held =
       let same : of.value ≡ e = one-value of.value e (slice_get engines number) of.there there in
       let runs : (meaning e).is_for (piece_tree piece) = subst (λ v. (meaning v).is_for (piece_tree piece)) same of.runs in

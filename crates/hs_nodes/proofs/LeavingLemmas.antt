@@ -78,7 +78,7 @@ engine-leaves m null part prev at next contexts entered empty tells empties piec
     left-through pieces rest piece u next fit (has_next contexts next) entered empty
     (both-ways (tells (piece_tree piece) u held.entered runs held.are.count stands.offset stands.behind held.field next) (back (leaves-listed pieces piece u held.entered next held.are)))
     enters
-    (empties (piece_tree piece) u null_is stands.behind)
+    (λ set. empties (piece_tree piece) u null_is stands.behind)
 
 -- a literal
 

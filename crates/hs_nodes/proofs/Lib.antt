@@ -14,6 +14,7 @@ pub mod NodeLemmas
 pub mod LookLemmas
 pub mod EdgeLemmas
 pub mod PairLemmas
+pub mod PastLemmas
 pub mod RestLemmas
 pub mod SpareLemmas
 pub mod TailLemmas

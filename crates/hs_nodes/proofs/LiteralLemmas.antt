@@ -29,11 +29,11 @@ use Rattle.hs_nodes.proofs.PieceLemmas.{IsThrough}
 use Rattle.hs_nodes.proofs.RunLemmas.{AreMoreEnds, AreNowhereFrom, IsRunTo, nowhere-none, run-all, run-more, run-none}
 
 -- a literal has no empty span
-pub literal-empty : (literal : List LiteralByte) (u bytes : List ℕ) → 1 ≤ length literal → (null : ChunkEnds) → AreNowhereFrom 0 null → AreEmptyIn (piece_tree (lit literal)) u bytes null
-literal-empty literal u bytes some null none = record {
+pub literal-empty : (literal : List LiteralByte) (u bytes : List ℕ) → 1 ≤ length literal → (enters null : ChunkEnds) → AreNowhereFrom 0 null → AreEmptyIn (piece_tree (lit literal)) u bytes enters null
+literal-empty literal u bytes some enters null none = record {
   each = λ j small. record {
-    before_is = λ i low. ((λ set. absurd (let both : true ≡ false = sym set ∙ (ap (λ w. word_bit w i) (none.before j (omega arith)) ∙ bit-none i) in cc)), (λ empty. absurd (never-empty literal (front u bytes j ++ take i (block bytes j)) (class_of (slice_index (block bytes j) i)) some empty)));
-    behind_is = λ i low. ((λ set. absurd (let both : true ≡ false = sym set ∙ (ap (λ w. word_bit w i) (none.behind j (omega arith)) ∙ bit-none i) in cc)), (λ empty. absurd (never-empty literal (front u bytes j ++ take (i + 1) (block bytes j)) after.Unknown some empty)));
+    before_is = λ i low asked. ((λ set. absurd (let both : true ≡ false = sym set ∙ (ap (λ w. word_bit w i) (none.before j (omega arith)) ∙ bit-none i) in cc)), (λ empty. absurd (never-empty literal (front u bytes j ++ take i (block bytes j)) (class_of (slice_index (block bytes j) i)) some empty)));
+    behind_is = λ i low asked. ((λ set. absurd (let both : true ≡ false = sym set ∙ (ap (λ w. word_bit w i) (none.behind j (omega arith)) ∙ bit-none i) in cc)), (λ empty. absurd (never-empty literal (front u bytes j ++ take (i + 1) (block bytes j)) after.Unknown some empty)));
   };
 }
 
@@ -95,7 +95,7 @@ module _ (len old carry : ℕ) (bytes own : List ℕ) (hits : ChunkHits) (own_hi
       let last : suc j ≡ j + 1 = omega arith in
       let upto : u ++ bytes ≡ (front u bytes j ++ block bytes j) ++ drop (64 * suc j) bytes = rest-of u bytes (suc j) ∙ ap (λ v. v ++ drop (64 * suc j) bytes) (front-more u bytes j (suc j) last) in
       run-more (CarriesEntries len carry) (CarriesEntries len run.carry) pieces rest (lit literal) u bytes enters nowhere ends ends' j n run.ends.before run.ends.behind run.ends.before run.ends.behind fit left
-      (literal-empty literal u bytes (omega (arith, count)) nowhere nowhere-none)
+      (literal-empty literal u bytes (omega (arith, count)) enters nowhere nowhere-none)
       (λ entered len_entered field.
       runs literal (front u bytes j) (block bytes j) entered count sized len_entered (each-left (λ b. b < 256) (front u bytes j ++ block bytes j) (drop (64 * suc j) bytes) (subst (λ v. Each (λ b. b < 256) v) upto bytes_are)) field
       (block-hits hits own_hits literal u bytes j hits_are below (omega (arith, sized)) (omega (arith, sized)) are))

@@ -13,7 +13,7 @@ use Rattle.hs_bits.specs.WordBits.{word_bit, bits_of}
 use Rattle.hs_block.specs.Scans.{Scans}
 use Rattle.hs_bits.proofs.BlockLemmas.{block-more, entered-more}
 use Rattle.hs_nodes.specs.Left.{AreLeft}
-use Rattle.hs_nodes.specs.Pieces.{AreEmpty}
+use Rattle.hs_nodes.specs.Pieces.{AreEmptyAt}
 
 -- the entries of the piece go on with the word
 pub entries-on : (pieces : List Piece) (u bytes : List ℕ) (entered : List Bool) (enters enters' : ℕ) → AreEntered pieces u entered → AreLeft pieces u bytes enters enters' → (i : ℕ) → i ≤ length bytes →
@@ -54,14 +54,14 @@ through-none true enters null e e' = e
 through-none false true null e e' = absurd (cc)
 
 module _ (pieces rest : List Piece) (piece : Piece) (u : List ℕ) (next : Next) (fit : IsFitChain (pieces ++ piece ∷ rest)) (out enters null : Bool)
-    (out_is : (out ≡ true) ↔ LeavesBehind pieces piece u next) (enters_is : (enters ≡ true) ↔ LeavesAt pieces u next) (null_is : (null ≡ true) ↔ IsEmptyAt (piece_tree piece) u next) where
+    (out_is : (out ≡ true) ↔ LeavesBehind pieces piece u next) (enters_is : (enters ≡ true) ↔ LeavesAt pieces u next) (null_is : enters ≡ true → (null ≡ true) ↔ IsEmptyAt (piece_tree piece) u next) where
   left-by : (out ≡ true) ⊎ ((enters ≡ true) × (null ≡ true)) → LeavesAt (pieces ++ piece ∷ []) u next
   left-by (inl e) = last-leaves pieces rest piece u next fit (inl (out_is.0 e))
-  left-by (inr e) = last-leaves pieces rest piece u next fit (inr (enters_is.0 e.0, null_is.0 e.1))
+  left-by (inr e) = last-leaves pieces rest piece u next fit (inr (enters_is.0 e.0, (null_is e.0).0 e.1))
 
   by-left : LeavesBehind pieces piece u next ⊎ (LeavesAt pieces u next × IsEmptyAt (piece_tree piece) u next) → (out || (enters && null)) ≡ true
   by-left (inl leaves) = through-left out enters null (out_is.1 leaves)
-  by-left (inr both) = through-both out enters null (enters_is.1 both.0) (null_is.1 both.1)
+  by-left (inr both) = through-both out enters null (enters_is.1 both.0) ((null_is (enters_is.1 both.0)).1 both.1)
 
   -- the pieces and one more are left where that one is, or where they are and it is empty
   pub left-through : ((out || (enters && null)) ≡ true) ↔ LeavesAt (pieces ++ piece ∷ []) u next
@@ -78,9 +78,9 @@ same-true a b e = (λ is. sym e ∙ is, λ is. e ∙ is)
 
 module _ (Field : List ℕ → List Bool → Type 0) (pieces rest : List Piece) (piece : Piece) (u bytes : List ℕ) (entered : List Bool) (enters enters' null null' out out' before behind : ℕ)
     (fit : IsFitChain (pieces ++ piece ∷ rest)) (left : AreLeft pieces u bytes enters enters') (are : AreEntered pieces u entered)
-    (empty : AreEmpty (piece_tree piece) u bytes null null') (scans : Scans Field (piece_tree piece) u entered bytes enters out out') (through : IsThrough before out enters null) (through' : IsThrough behind out' enters' null') where
+    (empty : AreEmptyAt (piece_tree piece) u bytes enters enters' null null') (scans : Scans Field (piece_tree piece) u entered bytes enters out out') (through : IsThrough before out enters null) (through' : IsThrough behind out' enters' null') where
   at : (i : ℕ) → i ≤ length bytes → (next : Next) → (o e n : Bool) → (o ≡ true) ↔ Leaves (piece_tree piece) (u ++ take i bytes) (entered ++ bits_of enters i) next → (e ≡ true) ↔ LeavesAt pieces (u ++ take i bytes) next →
-      (n ≡ true) ↔ IsEmptyAt (piece_tree piece) (u ++ take i bytes) next → ((o || (e && n)) ≡ true) ↔ LeavesAt (pieces ++ piece ∷ []) (u ++ take i bytes) next
+      (e ≡ true → (n ≡ true) ↔ IsEmptyAt (piece_tree piece) (u ++ take i bytes) next) → ((o || (e && n)) ≡ true) ↔ LeavesAt (pieces ++ piece ∷ []) (u ++ take i bytes) next
   at i within next o e n o_is e_is n_is =
       left-through pieces rest piece (u ++ take i bytes) next fit o e n
       (both-ways o_is (back (leaves-listed pieces piece (u ++ take i bytes) (entered ++ bits_of enters i) next (entries-on pieces u bytes entered enters enters' are left i within))))

@@ -66,7 +66,7 @@ nowhere-more old new j n before behind next more none = record {
 }
 
 module _ (Old New : Tree → List ℕ → List Bool → Type 0) (pieces rest : List Piece) (piece : Piece) (u bytes : List ℕ) (enters null ends ends' : ChunkEnds) (j n out out' before behind : ℕ) (fit : IsFitChain (pieces ++ piece ∷ rest)) (left : AreLeftIn pieces u bytes enters)
-    (empty : AreEmptyIn (piece_tree piece) u bytes null)
+    (empty : AreEmptyIn (piece_tree piece) u bytes enters null)
     (scans : (entered : List Bool) → length entered ≡ length (front u bytes j) → Old (piece_tree piece) (front u bytes j) entered → Scans (New (piece_tree piece)) (piece_tree piece) (front u bytes j) entered (block bytes j) (slice_index enters.before j) out out')
     (through : IsThrough before out (slice_index enters.before j) (slice_index null.before j)) (through' : IsThrough behind out' (slice_index enters.behind j) (slice_index null.behind j)) (more : AreMoreEnds ends ends' j before behind) (next : n ≡ j + 1) (small : j < 8)
     (run : IsRunTo Old pieces piece u bytes ends j) where

@@ -74,7 +74,7 @@ module _ (m : Meaning) (old new : List ℕ) (prev : Prev) (at : ℕ) (bytes : Li
     (before_is : (j : ℕ) → j < 8 → slice_index ends.before j ≡ bit_or (slice_index own.before j) (bit_and (slice_index enters.before j) (slice_index null.before j)))
     (behind_is : (j : ℕ) → j < 8 → slice_index ends.behind j ≡ bit_or (slice_index own.behind j) (bit_and (slice_index enters.behind j) (slice_index null.behind j)))
     (past : AreNowhereFrom 8 ends) where
-  module _ (pieces rest : List Piece) (piece : Piece) (u : List ℕ) (fit : IsFitChain (pieces ++ piece ∷ rest)) (runs : m.is_for (piece_tree piece)) (stands : EndsBehind u prev at) (empty : AreEmptyIn (piece_tree piece) u bytes null) (left : AreLeftIn pieces u bytes enters)
+  module _ (pieces rest : List Piece) (piece : Piece) (u : List ℕ) (fit : IsFitChain (pieces ++ piece ∷ rest)) (runs : m.is_for (piece_tree piece)) (stands : EndsBehind u prev at) (empty : AreEmptyIn (piece_tree piece) u bytes enters null) (left : AreLeftIn pieces u bytes enters)
       (held : IsHeld m pieces piece old u) where
     run : IsRunEntered (m.field new (piece_tree piece)) (piece_tree piece) u held.entered bytes words own
     run = runs_entered (piece_tree piece) u held.entered (record { runs = runs; count = held.are.count; offset = stands.offset; behind = stands.behind; field = held.field })

@@ -20,10 +20,17 @@ pub record AreEmpty (tree : Tree) (u bytes : List ℕ) (before behind : ℕ) : T
   pub behind_is : (i : ℕ) → i < length bytes →
       (word_bit behind i ≡ true) ↔ IsEmptyAt tree (u ++ take (i + 1) bytes) after.Unknown
 
--- The ends tell it of each block of a chunk behind u.
-pub record AreEmptyIn (tree : Tree) (u bytes : List ℕ) (ends : ChunkEnds) : Type 0 where
-  pub each : (j : ℕ) → j < 8 →
-      AreEmpty tree (front u bytes j) (block bytes j) (slice_index ends.before j) (slice_index ends.behind j)
+-- The words tell it of those places alone at which other words have a bit.
+pub record AreEmptyAt (tree : Tree) (u bytes : List ℕ) (asked asked_behind before behind : ℕ) : Type 0 where
+  pub before_is : (i : ℕ) → i < length bytes → word_bit asked i ≡ true →
+      (word_bit before i ≡ true) ↔ IsEmptyAt tree (u ++ take i bytes) (class_of (slice_index bytes i))
+  pub behind_is : (i : ℕ) → i < length bytes → word_bit asked_behind i ≡ true →
+      (word_bit behind i ≡ true) ↔ IsEmptyAt tree (u ++ take (i + 1) bytes) after.Unknown
+
+-- The ends tell it of each block of a chunk behind u, at those places alone at which `enters` have a bit.
+pub record AreEmptyIn (tree : Tree) (u bytes : List ℕ) (enters ends : ChunkEnds) : Type 0 where
+  pub each : (j : ℕ) → j < 8 → AreEmptyAt tree (front u bytes j) (block bytes j) (slice_index enters.before j)
+      (slice_index enters.behind j) (slice_index ends.before j) (slice_index ends.behind j)
 
 -- What is kept of a piece behind others is its field: it was entered where those were left.
 pub record IsHeldBy (Field : Tree → List ℕ → List Bool → Type 0) (pieces : List Piece) (piece : Piece) (u : List ℕ) :
@@ -43,7 +50,7 @@ pub record IsRunOver (Field : Tree → List ℕ → List Bool → Type 0) (piece
   pub left : AreLeftIn (pieces ++ piece ∷ []) u bytes ends
 
 -- The engine takes a chunk for any piece that it runs, where `enters` tell where the pieces before it are left, and
--- `null` where it has the empty span: its region goes from the old one to the new one, and the ends tell where the
+-- `null` where it has the empty span there: its region goes from the old one to the new one, and the ends tell where the
 -- pieces up to it are left.
 abbrev pub TakesChunk : Meaning → (old new : List ℕ) (prev : Prev) (at : ℕ) (bytes : List ℕ)
     (enters null ends : ChunkEnds) → Type 0
@@ -52,7 +59,7 @@ TakesChunk m old new prev at bytes enters null ends =
     IsFitChain (pieces ++ piece ∷ rest) →
     m.is_for (piece_tree piece) →
     EndsBehind u prev at →
-    AreEmptyIn (piece_tree piece) u bytes null →
+    AreEmptyIn (piece_tree piece) u bytes enters null →
     AreLeftIn pieces u bytes enters →
     IsHeld m pieces piece old u →
     IsRunOver (m.field new) pieces piece u bytes ends

@@ -4,6 +4,7 @@ use Rattle.std.specs.Prelude.{Option, Some, None, slice_get, slice_index}
 use Rattle.hs_base.specs.declared.context.Mask.{Mask}
 use Rattle.hs_base.specs.declared.context.Prev.{Prev}
 use Rattle.hs_base.specs.Bits.{AreZero}
+use Rattle.hs_base.specs.Contexts.{prev_at}
 use Rattle.hs_base.specs.Trees.{Tree}
 use Rattle.hs_bits.specs.WordBits.{AreSet, Marks, word_bit}
 use Rattle.hs_block.specs.Blocks.{IsFieldOf}
@@ -34,6 +35,14 @@ ScansBlock m old new prev at enters bytes ends =
     (tree : Tree) (u : List ℕ) (entered : List Bool) →
     IsFieldOf m old prev at tree u entered →
     Scans (m.field new tree) tree u entered bytes enters ends.before ends.behind
+
+-- And so the block of that number of a chunk behind `prev`, behind any stream that ends there.
+abbrev pub ScansBehind : Meaning → (old new : List ℕ) → Prev → (chunk : List ℕ) (number at enters : ℕ)
+    (bytes : List ℕ) → BlockEnds → Type 0
+ScansBehind m old new prev chunk number at enters bytes ends =
+    (u : List ℕ) →
+    prev ≡ prev_at u (length u) →
+    ScansBlock m old new (prev_at (front u chunk number) (length (front u chunk number))) at enters bytes ends
 
 -- the bit of that place of a chunk, by the words of its blocks
 abbrev pub is_place : (words : ℕ → ℕ) (place : ℕ) → Bool

@@ -6,7 +6,7 @@ use crate::chunk::MAX_BLOCKS;
 use hs_bits::next_bit_in;
 
 /// How many bytes a literal has at most.
-const MAX_LITERAL: usize = 32;
+pub(crate) const MAX_LITERAL: usize = 32;
 
 /// Where pieces are left in a chunk: for each of its blocks a word with a bit for each byte, none from its end on.
 #[derive(Clone, Copy, Debug, PartialEq, Eq)]

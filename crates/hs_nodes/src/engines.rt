@@ -1,11 +1,11 @@
 //! An engine over a chunk.
 
-ghost use Rattle.std.specs.Prelude.{◌≡◌, ℕ, ◌+◌, ◌≤◌, ◌^◌, false, MatchOption, None, Some, length};
+ghost use Rattle.std.specs.Prelude.{◌≡◌, ℕ, ◌+◌, ◌*◌, ◌<◌, ◌≤◌, ◌^◌, false, MatchOption, None, Some, length};
 ghost use Rattle.hs_nodes.specs.Pieces.{TakesChunk};
 ghost use Rattle.hs_nodes.specs.Pooled.{IsPooled, KeepsPooled};
 ghost use Rattle.hs_lazy.specs.Caches.{TellsRun, Told, told};
 ghost use Rattle.hs_nodes.specs.Starting.{AreToldEnds, IsEnteredThroughout, IsIdle, RunsAlone, RunsEntered};
-ghost use Rattle.hs_nodes.specs.Starting.{ScansBlock};
+ghost use Rattle.hs_nodes.specs.Starting.{ScansBehind, ScansBlock};
 ghost use Rattle.hs_waking.specs.EntryRows.{DoEntriesSuffice};
 ghost use Rattle.hs_waking.specs.Starts.{start_word, starts_at};
 
@@ -164,7 +164,8 @@ fn run_entered<E: BlockEngine + TimelessEngine, L: Ledger>(
         let own = run_block(
             numbered,
             region,
-            chunk.prev_before(j),
+            chunk,
+            j,
             at,
             enters.before[j],
             bytes,
@@ -177,12 +178,13 @@ fn run_entered<E: BlockEngine + TimelessEngine, L: Ledger>(
     ends
 }
 
-/// Takes a block by an engine that is entered where the word tells it. Where it is entered nowhere, and nothing is
-/// live, it isn't run.
+/// Takes the block of that number of a chunk by an engine that is entered where the word tells it. Where it is entered
+/// nowhere, and nothing is live, it isn't run, and what stands before the block isn't looked for.
 fn run_block<E: BlockEngine + TimelessEngine, L: Ledger>(
     numbered: &Numbered<E>,
     region: &mut [u8],
-    prev: Prev,
+    chunk: &Chunk,
+    number: usize,
     at: u64,
     enters: u64,
     bytes: &[u8],
@@ -191,6 +193,7 @@ fn run_block<E: BlockEngine + TimelessEngine, L: Ledger>(
 ) -> BlockEnds
     requires len { length region.old ≡ (E.meaning numbered.now.engine.now).width }
     requires well { (E.meaning numbered.now.engine.now).well region.old at }
+    requires there { 64 * number < length chunk.now.bytes.now }
     requires few { length bytes.now ≤ 64 }
     requires room { at + length bytes.now ≤ 2 ^ 63 }
     requires listed { (E.meaning numbered.now.engine.now).always ≡ false }
@@ -201,8 +204,8 @@ fn run_block<E: BlockEngine + TimelessEngine, L: Ledger>(
     ensures pool { IsPooled (E.meaning numbered.now.engine.now) numbered.now.number pool.new }
     ensures others { KeepsPooled E.meaning numbered.now.number pool.old pool.new }
     ensures ticks { steps.new ≤ steps.old + length bytes.now }
-    ensures scans { ScansBlock (E.meaning numbered.now.engine.now) region.old region.new prev at enters bytes.now
-        result }
+    ensures scans { ScansBehind (E.meaning numbered.now.engine.now) region.old region.new chunk.now.prev
+        chunk.now.bytes.now number at enters bytes.now result }
 {
     if enters == 0 && is_zero(region) {
         return BlockEnds {
@@ -210,6 +213,7 @@ fn run_block<E: BlockEngine + TimelessEngine, L: Ledger>(
             behind: 0,
         };
     }
+    let prev = chunk.prev_before(number);
     if let Some(ends) = run_pooled(numbered, region, prev, enters, bytes, pool) {
         return ends;
     }
@@ -288,7 +292,8 @@ fn run_first<E: BlockEngine + TimelessEngine, L: Ledger>(
         let own = run_block(
             numbered,
             region,
-            chunk.prev_before(j),
+            chunk,
+            j,
             at,
             starts.word(k, j),
             bytes,

@@ -78,7 +78,7 @@ pub(crate) fn run_kind<E: BlockEngine + TimelessEngine, L: Ledger>(
             part,
             chunk,
             entry,
-            &null_ends(null, chunk, found.contexts),
+            &null_ends(null, chunk, found.contexts, enters),
             found.foretold,
             pool,
             steps,

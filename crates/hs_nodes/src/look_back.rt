@@ -3,6 +3,7 @@
 ghost use Rattle.std.specs.Prelude.{◌≡◌, ◌*◌, ◌+◌, ◌-◌, ◌≤◌, ◌<◌, ℕ, List, ◌++◌, false, length, slice_index};
 ghost use Rattle.std.specs.Prelude.{◌↔◌, true};
 ghost use Rattle.hs_base.specs.Chains.{Piece};
+ghost use Rattle.hs_base.specs.declared.context.Next.{Next};
 ghost use Rattle.hs_base.specs.Contexts.{prev_at};
 ghost use Rattle.hs_base.specs.Leaving.{IsEmptyAt};
 ghost use Rattle.hs_base.specs.Trees.{Tree};
@@ -14,18 +15,23 @@ ghost use Rattle.hs_nodes.specs.Hits.{hit_count};
 ghost use Rattle.hs_nodes.specs.Left.{AreLeftIn};
 ghost use Rattle.hs_nodes.specs.LookBacks.{AreLeftAt, EndsNowhere, FindsPair, LeavesBack, LeavesPair, RunsBack};
 ghost use Rattle.hs_nodes.specs.LookBacks.{TakesPair, TellsPair};
-ghost use Rattle.hs_nodes.specs.Nodes.{window_room};
+ghost use Rattle.hs_nodes.specs.Nodes.{window_room, window_size};
 ghost use Rattle.hs_nodes.specs.declared.hits.ChunkHits.{ChunkHits};
 
 use crate::chunk::{Chunk, MAX_BLOCKS, PAST_BYTES};
-use crate::ends::ChunkEnds;
+use crate::ends::{ChunkEnds, MAX_LITERAL};
 use crate::hits::ChunkHits;
+use crate::nulls::is_empty_at_start;
 use crate::table::{LookBackPair, MAX_LOOK_BACK, MAX_LOOK_BACK_REGION};
-use hs_base::{Mask, Next, Prev};
+use hs_base::{ByteSet, Mask, Next, Prev};
 use hs_bits::{low_places, next_bit_in, write_word_bit};
 use hs_block::BlockEngine;
 use hs_engine::{Engine, Steps};
 use std::sync::ledger::Ledger;
+
+/// Behind more bytes than these no literal has its begin so near the start of the stream that a match which begins there
+/// may end before it.
+const FAR_BYTES: u64 = (MAX_LOOK_BACK + MAX_LITERAL) as u64;
 
 /// What stands where so many bytes have come, and that was the last one.
 fn prev_behind(count: u64, last: u8) -> Prev
@@ -129,6 +135,36 @@ fn ends_nowhere(pair: &LookBackPair, offset: u64, byte: u8) -> bool
     offset == 0
         || !pair.last.contains(byte)
         || (offset > MAX_LOOK_BACK as u64 && pair.behind.is_start())
+}
+
+/// Whether no match of a pair's expression ends behind more bytes than it has at most: it has none, or each begins where
+/// the stream does.
+fn ends_early(pair: &LookBackPair) -> bool
+    ensures { result ≡ true → (offset byte : ℕ) → byte < 256 → window_size < offset →
+        EndsNowhere pair.now.behind pair.now.last offset byte }
+{
+    if pair.behind.is_start() {
+        return true;
+    }
+    pair.last == ByteSet::EMPTY
+}
+
+/// Whether a chunk begins so far behind the start of the stream that a pair is left nowhere in it: no match of its
+/// expression ends behind more bytes than it has, and no literal that ends in the chunk begins nearer.
+fn is_past(pair: &LookBackPair, chunk: &Chunk) -> bool
+    ensures nowhere { result ≡ true → (offset byte : ℕ) → byte < 256 → chunk.now.at ≤ offset + 32 →
+        EndsNowhere pair.now.behind pair.now.last offset byte }
+    ensures empty { result ≡ true → (tree : Tree) (u : List ℕ) (next : Next) → IsNull pair.now.null tree →
+        1 ≤ length u → IsEmptyAt tree u next → ⊥ }
+    ensures far { result ≡ true → 48 < chunk.now.at }
+{
+    if chunk.at <= FAR_BYTES {
+        return false;
+    }
+    if !ends_early(pair) {
+        return false;
+    }
+    is_empty_at_start(pair.null)
 }
 
 /// Whether the expression is left before the byte of that number among the past ones and those of the chunk.
@@ -250,6 +286,9 @@ pub(crate) fn ends_of(chunk: &Chunk, left: &ChunkHits) -> ChunkEnds
     ensures { (pieces : List Piece) (u : List ℕ) → AreLeftAt left.now pieces u chunk.now.bytes.now →
         AreLeftIn pieces u chunk.now.bytes.now result }
 {
+    if left.is_nowhere() {
+        return ChunkEnds::NOWHERE;
+    }
     let mut ends = ChunkEnds::NOWHERE;
     for j in 0..chunk.blocks() {
         let all = low_places(chunk.block(j).len());
@@ -276,6 +315,9 @@ pub(crate) fn run_pair<E: BlockEngine, L: Ledger>(
     ensures takes { TakesPair (E.meaning engine.now) pair.now.null pair.now.len chunk.now.at chunk.now.past.now
         chunk.now.bytes.now hits.now result }
 {
+    if is_past(pair, chunk) {
+        return ChunkEnds::NOWHERE;
+    }
     let left = find_pair(engine, pair, chunk, hits, steps);
     ends_of(chunk, &left)
 }

@@ -124,6 +124,32 @@ fn is_ruled_out<E>(graph: &Graph<E>, place: usize, k: usize, stack: &FitStack) -
     never_empty(node_at(&graph.table, k).kind)
 }
 
+/// Whether the engine that stands at that place, of the node of that number, has one row, which begins where the stream
+/// does, where the chunk doesn't, and no empty span either.
+#[inline(always)]
+fn is_behind_start<E>(graph: &Graph<E>, place: usize, k: usize, prev: Prev) -> bool
+    requires there { k < length graph.now.table.nodes.items }
+    requires starts { place + 1 < length graph.now.wakes.row_starts.items }
+    requires known { slice_index graph.now.wakes.row_starts.items (place + 1) ≤ length graph.now.wakes.rows.items }
+    ensures never { (node : Node) → slice_get graph.now.table.nodes.items k ≡ Some node → result ≡ true →
+        is_never_empty node.kind ≡ true }
+    ensures places { (bytes : List ℕ) → result ≡ true → AreStartsBy graph.now.wakes place prev bytes no_places }
+{
+    let from = start_of(&graph.wakes.row_starts, place);
+    let to = start_of(&graph.wakes.row_starts, place + 1);
+    if to.saturating_sub(from) != 1 {
+        return false;
+    }
+    let row = &graph.wakes.rows[from];
+    if !row.behind.is_start() {
+        return false;
+    }
+    if row.behind.contains(prev) {
+        return false;
+    }
+    never_empty(node_at(&graph.table, k).kind)
+}
+
 /// Whether a chunk wakes the node of that number, in which its matches may begin at these places.
 fn is_woken<E>(graph: &Graph<E>, k: usize, places: &Places) -> bool
     requires there { k < length graph.now.table.nodes.items }
@@ -170,6 +196,10 @@ fn wake_engine<E: Engine>(
         start_word starts.new k j ≡ start_word starts.old k j }
 {
     let k = start_of(&graph.wakes.first_engines, place);
+    if is_behind_start(graph, place, k, chunk.prev) {
+        starts.tell_nowhere(k);
+        return;
+    }
     if cache.is_told(k) {
         return;
     }

@@ -1,13 +1,14 @@
 use Rattle.std.proofs.Common.{◌≡◌, ◌∙◌, List, ℕ, true, false, length, sym, ap, subst}
+use Rattle.hs_base.specs.declared.context.Prev.{Prev}
 use Rattle.hs_nodes.specs.Starting.{ScansBlock}
 use Rattle.hs_nodes.proofs.RunLemmas.{steps-few}
 use Rattle.hs_nodes.proofs.StartingLemmas.{quiet-scans}
 use Rattle.hs_nodes.proofs.engines.run_block.Goals as goal
 
 pub returns-then-is_zero-clause-scans : goal.returns-then-is_zero-clause-scans
-returns-then-is_zero-clause-scans g c =
+returns-then-is_zero-clause-scans g c u stands =
     let idle = c.requires.idle c.args.region.now c.requires.len (c.is_zero.ensures.0 c.if-is_zero.true) in
-    quiet-scans (g.E.Engine.meaning c.args.numbered.now.engine.now) c.args.region.now c.args.prev c.args.at c.args.enters c.args.bytes.now c.requires.listed idle.rests.quiet (λ i low. (c.type_inv.bytes i).fits) c.if-enters-eq0.true
+    quiet-scans (g.E.Engine.meaning c.args.numbered.now.engine.now) c.args.region.now _ c.args.at c.args.enters c.args.bytes.now c.requires.listed idle.rests.quiet (λ i low. (c.type_inv.bytes i).fits) c.if-enters-eq0.true
 
 pub returns-then-is_zero-clause-well : goal.returns-then-is_zero-clause-well
 returns-then-is_zero-clause-well g c = (c.requires.idle c.args.region.now c.requires.len (c.is_zero.ensures.0 c.if-is_zero.true)).rests.well _
@@ -19,7 +20,8 @@ pub returns-in-Some-clause-well : goal.returns-in-Some-clause-well
 returns-in-Some-clause-well g c = c.in-Some.ensures.scans.1 _
 
 pub returns-in-Some-clause-scans : goal.returns-in-Some-clause-scans
-returns-in-Some-clause-scans g c = c.in-Some.ensures.scans.2 c.args.at
+returns-in-Some-clause-scans g c u stands =
+    subst (λ (p : Prev). ScansBlock (g.E.Engine.meaning c.args.numbered.now.engine.now) c.args.region.now c.run_pooled.new.region p c.args.at c.args.enters c.args.bytes.now c.in-Some.ends) (c.prev_before-prev.ensures u stands) (c.in-Some.ensures.scans.2 c.args.at)
 
 pub run-requires-clause-len : goal.run-requires-clause-len
 run-requires-clause-len g c = ap length c.in_default.ensures.scans ∙ c.requires.len
@@ -34,5 +36,6 @@ pub returns-clause-ticks : goal.returns-clause-ticks
 returns-clause-ticks g c = steps-few (g.E.Engine.meaning c.args.numbered.now.engine.now) _ _ _ _ _ c.args.bytes.now c.run.result c.args.steps.now c.run.new.steps c.run.ensures.takes
 
 pub returns-clause-scans : goal.returns-clause-scans
-returns-clause-scans g c =
-    subst (λ (r : List ℕ). ScansBlock (g.E.Engine.meaning c.args.numbered.now.engine.now) r c.run.new.region c.args.prev c.args.at c.args.enters c.args.bytes.now c.run.result) c.in_default.ensures.scans c.run.ensures.takes.run.scans
+returns-clause-scans g c u stands =
+    subst (λ (p : Prev). ScansBlock (g.E.Engine.meaning c.args.numbered.now.engine.now) c.args.region.now c.run.new.region p c.args.at c.args.enters c.args.bytes.now c.run.result) (c.prev_before-prev.ensures u stands)
+    (subst (λ (r : List ℕ). ScansBlock (g.E.Engine.meaning c.args.numbered.now.engine.now) r c.run.new.region c.prev_before-prev.result c.args.at c.args.enters c.args.bytes.now c.run.result) c.in_default.ensures.scans c.run.ensures.takes.run.scans)

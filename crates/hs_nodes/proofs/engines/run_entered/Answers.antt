@@ -41,8 +41,8 @@ loop-j-preserved g c =
       steps =
           steps-more c.args.chunk.now.bytes.now c.block-bytes.result.now j (j + 1) c.args.steps.now c.loop-j.steps c.run_block-own.new.steps refl (omega arith) c.block-bytes.ensures.bytes c.run_block-own.ensures.ticks inv.steps;
       takes =
-          blocks-more (g.E.Engine.meaning c.args.numbered.now.engine.now) c.args.region.now c.loop-j.region c.run_block-own.new.region c.args.chunk.now.prev c.prev_before.result c.args.chunk.now.at (c.args.chunk.now.at + 64 * j) c.args.chunk.now.bytes.now c.block-bytes.result.now
-          c.args.enters.now c.args.null.now c.loop-j.ends _ j (j + 1) c.run_block-own.result _ _ (omega arith) refl c.block-bytes.ensures.bytes refl c.prev_before.ensures c.run_block-own.ensures.scans (word-through _ _ _) (word-through _ _ _) more (omega (arith, c.blocks-j-end.ensures.few))
+          blocks-more (g.E.Engine.meaning c.args.numbered.now.engine.now) c.args.region.now c.loop-j.region c.run_block-own.new.region c.args.chunk.now.prev c.args.chunk.now.at (c.args.chunk.now.at + 64 * j) c.args.chunk.now.bytes.now c.block-bytes.result.now
+          c.args.enters.now c.args.null.now c.loop-j.ends _ j (j + 1) c.run_block-own.result _ _ (omega arith) refl c.block-bytes.ensures.bytes refl c.run_block-own.ensures.scans (word-through _ _ _) (word-through _ _ _) more (omega (arith, c.blocks-j-end.ensures.few))
           inv.takes;
     }
 

@@ -42,8 +42,8 @@ loop-j-preserved g c =
       steps =
           steps-more c.args.chunk.now.bytes.now c.block-bytes.result.now j (j + 1) c.args.steps.now c.loop-j.steps c.run_block-own.new.steps refl (omega arith) c.block-bytes.ensures.bytes c.run_block-own.ensures.ticks inv.steps;
       runs =
-          entered-more (g.E.Engine.meaning c.args.numbered.now.engine.now) c.args.region.now c.loop-j.region c.run_block-own.new.region c.args.chunk.now.prev c.prev_before.result c.args.chunk.now.at (c.args.chunk.now.at + 64 * j) c.args.chunk.now.bytes.now c.block-bytes.result.now
-          (start_word c.args.starts.now c.args.k) c.word.result c.loop-j.ends _ j (j + 1) c.run_block-own.result (omega arith) refl c.block-bytes.ensures.bytes refl c.prev_before.ensures c.word.ensures c.run_block-own.ensures.scans more inv.runs;
+          entered-more (g.E.Engine.meaning c.args.numbered.now.engine.now) c.args.region.now c.loop-j.region c.run_block-own.new.region c.args.chunk.now.prev c.args.chunk.now.at (c.args.chunk.now.at + 64 * j) c.args.chunk.now.bytes.now c.block-bytes.result.now
+          (start_word c.args.starts.now c.args.k) c.word.result c.loop-j.ends _ j (j + 1) c.run_block-own.result (omega arith) refl c.block-bytes.ensures.bytes refl c.word.ensures c.run_block-own.ensures.scans more inv.runs;
     }
 
 pub returns-clause-runs : goal.returns-clause-runs

@@ -4,6 +4,7 @@ use Rattle.hs_nodes.specs.Left.{AreLeft}
 use Rattle.hs_nodes.proofs.FirstLemmas.{told-all, told-more}
 use Rattle.hs_nodes.proofs.PairLemmas.{block-left, past-left}
 use Rattle.hs_nodes.proofs.RunLemmas.{ends-more, nowhere-more, nowhere-none}
+use Rattle.hs_nodes.proofs.PastLemmas.{unhit-nowhere}
 use Rattle.hs_nodes.proofs.look_back.ends_of.Goals as goal
 
 pub loop-j-init : goal.loop-j-init
@@ -27,6 +28,9 @@ loop-j-preserved c =
           told-more (λ k before behind. AreLeft pieces (front u bytes k) (block bytes k) before behind) c.loop-j.ends _ j (j + 1) before behind refl more
           (block-left left pieces u bytes j (length c.block.result.now) all c.before_block.result (slice_index left.behind j) (ap length (sym c.block.ensures.bytes)) c.low_places-all.ensures c.before_block.ensures refl are) (inv.told pieces u are);
     }
+
+pub returns-then-is_nowhere : goal.returns-then-is_nowhere
+returns-then-is_nowhere c pieces u are = unhit-nowhere c.args.left.now pieces u c.args.chunk.now.bytes.now (c.is_nowhere.ensures c.if-is_nowhere.true) are
 
 pub returns : goal.returns
 returns c pieces u are = record {

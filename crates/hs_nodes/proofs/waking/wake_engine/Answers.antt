@@ -38,6 +38,29 @@ returns-else-is_woken-clause-asleep g c node there unmarked =
     (λ below j small. ap (λ i. start_word c.tell.new.self i j) (sym same) ∙ c.tell.ensures.own (omega (arith, below, same, c.tell.ensures.count)) j small)
     node there never none c.start_places-places.ensures.places
 
+pub returns-then-is_behind_start-clause-starts : goal.returns-then-is_behind_start-clause-starts
+returns-then-is_behind_start-clause-starts g c node there untold =
+    let graph = c.args.graph.now in
+    let list = graph.wakes.first_engines.items in
+    let k = slice_index list c.args.place in
+    let same : c.start_of-k.result ≡ k = c.start_of-k.ensures ∙ ap (λ xs. slice_index xs c.args.place) c.deref.ensures.value in
+    let places = c.is_behind_start.ensures.places c.args.chunk.now.bytes.now c.if-is_behind_start.true in
+    row-starts g.E.Engine.meaning graph.table graph.wakes c.args.place k c.args.chunk.now.prev c.args.chunk.now.bytes.now no_places c.tell_nowhere.new.self c.requires.rows c.args.chunk.now.few (λ i low. byte-small c.args.chunk.now.bytes.now i c.requires.small low) (read-there list c.args.place c.requires.place)
+    (λ below j small. ap (λ i. start_word c.tell_nowhere.new.self i j) (sym same) ∙ (c.tell_nowhere.ensures.own (omega (arith, below, same, c.tell_nowhere.ensures.count)) j small ∙ sym (word-none j small)))
+    node there places
+
+pub returns-then-is_behind_start-clause-asleep : goal.returns-then-is_behind_start-clause-asleep
+returns-then-is_behind_start-clause-asleep g c node there unmarked =
+    let graph = c.args.graph.now in
+    let list = graph.wakes.first_engines.items in
+    let k = slice_index list c.args.place in
+    let same : c.start_of-k.result ≡ k = c.start_of-k.ensures ∙ ap (λ xs. slice_index xs c.args.place) c.deref.ensures.value in
+    let places = c.is_behind_start.ensures.places c.args.chunk.now.bytes.now c.if-is_behind_start.true in
+    let never = c.is_behind_start.ensures.never node (ap (slice_get graph.table.nodes.items) same ∙ there) c.if-is_behind_start.true in
+    starts-asleep g.E.Engine.meaning graph.table graph.wakes c.args.place k c.args.chunk.now.prev c.args.chunk.now.bytes.now no_places c.tell_nowhere.new.self c.requires.rows c.args.chunk.now.few (λ i low. byte-small c.args.chunk.now.bytes.now i c.requires.small low) (read-there list c.args.place c.requires.place)
+    (λ below j small. ap (λ i. start_word c.tell_nowhere.new.self i j) (sym same) ∙ (c.tell_nowhere.ensures.own (omega (arith, below, same, c.tell_nowhere.ensures.count)) j small ∙ sym (word-none j small)))
+    node there never (zero-places no_places word-none) places
+
 pub returns-then-is_ruled_out-clause-starts : goal.returns-then-is_ruled_out-clause-starts
 returns-then-is_ruled_out-clause-starts g c node there untold =
     let graph = c.args.graph.now in
@@ -45,8 +68,8 @@ returns-then-is_ruled_out-clause-starts g c node there untold =
     let k = slice_index list c.args.place in
     let same : c.start_of-k.result ≡ k = c.start_of-k.ensures ∙ ap (λ xs. slice_index xs c.args.place) c.deref.ensures.value in
     let places = c.is_ruled_out.ensures.places c.args.chunk.now.prev c.args.chunk.now.bytes.now c.if-is_ruled_out.true c.requires.levels c.args.chunk.now.few in
-    row-starts g.E.Engine.meaning graph.table graph.wakes c.args.place k c.args.chunk.now.prev c.args.chunk.now.bytes.now no_places c.tell_nowhere.new.self c.requires.rows c.args.chunk.now.few (λ i low. byte-small c.args.chunk.now.bytes.now i c.requires.small low) (read-there list c.args.place c.requires.place)
-    (λ below j small. ap (λ i. start_word c.tell_nowhere.new.self i j) (sym same) ∙ (c.tell_nowhere.ensures.own (omega (arith, below, same, c.tell_nowhere.ensures.count)) j small ∙ sym (word-none j small)))
+    row-starts g.E.Engine.meaning graph.table graph.wakes c.args.place k c.args.chunk.now.prev c.args.chunk.now.bytes.now no_places c.tell_nowhere-then-is_ruled_out.new.self c.requires.rows c.args.chunk.now.few (λ i low. byte-small c.args.chunk.now.bytes.now i c.requires.small low) (read-there list c.args.place c.requires.place)
+    (λ below j small. ap (λ i. start_word c.tell_nowhere-then-is_ruled_out.new.self i j) (sym same) ∙ (c.tell_nowhere-then-is_ruled_out.ensures.own (omega (arith, below, same, c.tell_nowhere-then-is_ruled_out.ensures.count)) j small ∙ sym (word-none j small)))
     node there places
 
 pub returns-then-is_ruled_out-clause-asleep : goal.returns-then-is_ruled_out-clause-asleep
@@ -57,8 +80,8 @@ returns-then-is_ruled_out-clause-asleep g c node there unmarked =
     let same : c.start_of-k.result ≡ k = c.start_of-k.ensures ∙ ap (λ xs. slice_index xs c.args.place) c.deref.ensures.value in
     let places = c.is_ruled_out.ensures.places c.args.chunk.now.prev c.args.chunk.now.bytes.now c.if-is_ruled_out.true c.requires.levels c.args.chunk.now.few in
     let never = c.is_ruled_out.ensures.never node (ap (slice_get graph.table.nodes.items) same ∙ there) c.if-is_ruled_out.true in
-    starts-asleep g.E.Engine.meaning graph.table graph.wakes c.args.place k c.args.chunk.now.prev c.args.chunk.now.bytes.now no_places c.tell_nowhere.new.self c.requires.rows c.args.chunk.now.few (λ i low. byte-small c.args.chunk.now.bytes.now i c.requires.small low) (read-there list c.args.place c.requires.place)
-    (λ below j small. ap (λ i. start_word c.tell_nowhere.new.self i j) (sym same) ∙ (c.tell_nowhere.ensures.own (omega (arith, below, same, c.tell_nowhere.ensures.count)) j small ∙ sym (word-none j small)))
+    starts-asleep g.E.Engine.meaning graph.table graph.wakes c.args.place k c.args.chunk.now.prev c.args.chunk.now.bytes.now no_places c.tell_nowhere-then-is_ruled_out.new.self c.requires.rows c.args.chunk.now.few (λ i low. byte-small c.args.chunk.now.bytes.now i c.requires.small low) (read-there list c.args.place c.requires.place)
+    (λ below j small. ap (λ i. start_word c.tell_nowhere-then-is_ruled_out.new.self i j) (sym same) ∙ (c.tell_nowhere-then-is_ruled_out.ensures.own (omega (arith, below, same, c.tell_nowhere-then-is_ruled_out.ensures.count)) j small ∙ sym (word-none j small)))
     node there never (zero-places no_places word-none) places
 
 pub returns-then-is_told-clause-starts : goal.returns-then-is_told-clause-starts
