@@ -4,7 +4,7 @@ ghost use Rattle.std.specs.Prelude.{◌≡◌, ◌*◌, ◌+◌, ◌-◌, ◌≤
 ghost use Rattle.std.specs.Prelude.{◌↔◌, true};
 ghost use Rattle.hs_base.specs.Chains.{Piece};
 ghost use Rattle.hs_base.specs.declared.context.Next.{Next};
-ghost use Rattle.hs_base.specs.Contexts.{prev_at};
+ghost use Rattle.hs_base.specs.Contexts.{class_of, prev_at};
 ghost use Rattle.hs_base.specs.Leaving.{IsEmptyAt};
 ghost use Rattle.hs_base.specs.Trees.{Tree};
 ghost use Rattle.hs_engine.specs.Engines.{IsAsleep, IsStart};
@@ -127,8 +127,27 @@ fn is_empty_between(null: Option<Mask>, prev: Prev, next: Next) -> bool
     }
 }
 
+/// Whether an expression has the empty span before the byte of that number among the past ones and those of a chunk,
+/// where so many bytes have come, and that was the last one. What stands around is looked for only if it has one.
+#[inline(always)]
+fn is_empty_before(null: Option<Mask>, chunk: &Chunk, place: usize, offset: u64, last: u8) -> bool
+    requires high { place < 64 + length chunk.now.bytes.now }
+    ensures { (tree : Tree) (u : List ℕ) → IsNull null tree → prev_by_count offset last ≡ prev_at u (length u) →
+        (result ≡ true) ↔
+        IsEmptyAt tree u (class_of (slice_index (chunk.now.past.now ++ chunk.now.bytes.now) place)) }
+{
+    match null {
+        None => false,
+        Some(mask) => mask.contains(
+            prev_behind(offset, last),
+            Next::class_of(chunk.byte_at(place)),
+        ),
+    }
+}
+
 /// Whether no match of a pair's expression ends behind so many bytes, of which that is the last one: it ends none, or
 /// each begins where the stream does and has fewer bytes.
+#[inline(always)]
 fn ends_nowhere(pair: &LookBackPair, offset: u64, byte: u8) -> bool
     ensures { result ≡ true → EndsNowhere pair.now.behind pair.now.last offset byte }
 {
@@ -167,7 +186,38 @@ fn is_past(pair: &LookBackPair, chunk: &Chunk) -> bool
     is_empty_at_start(pair.null)
 }
 
-/// Whether the expression is left before the byte of that number among the past ones and those of the chunk.
+/// Whether the expression is left before the byte of that number among the past ones and those of the chunk, as its
+/// engine tells it.
+#[inline(never)]
+fn asks_back<E: BlockEngine, L: Ledger>(
+    engine: &E,
+    pair: &LookBackPair,
+    chunk: &Chunk,
+    place: usize,
+    window: &mut [u8],
+    steps: &mut Steps<L>,
+) -> bool
+    requires room { (E.meaning engine.now).width ≤ length window.old }
+    requires listed { (E.meaning engine.now).always ≡ false }
+    requires low { 32 ≤ place }
+    requires high { place < 64 + length chunk.now.bytes.now }
+    requires within { 64 ≤ chunk.now.at + place }
+    ensures window { length window.new ≡ length window.old }
+    ensures ticks { steps.new ≤ steps.old + 16 }
+    ensures leaves { LeavesBack (E.meaning engine.now) pair.now.null chunk.now.at chunk.now.past.now
+        chunk.now.bytes.now place result }
+{
+    let offset = chunk.at + place as u64 - PAST_BYTES as u64;
+    let next = Next::class_of(chunk.byte_at(place));
+    let part = &mut window[..engine.size()];
+    let prev = run_back(engine, part, chunk, place, steps);
+    let out = engine.out(part, prev, offset);
+    out.contains(next) | is_empty_between(pair.null, prev, next)
+}
+
+/// Whether the expression is left before the byte of that number among the past ones and those of the chunk. What rules
+/// out that a match ends there comes before all else: its engine is hardly ever asked.
+#[inline(always)]
 fn leaves_back<E: BlockEngine, L: Ledger>(
     engine: &E,
     pair: &LookBackPair,
@@ -189,17 +239,14 @@ fn leaves_back<E: BlockEngine, L: Ledger>(
 {
     let offset = chunk.at + place as u64 - PAST_BYTES as u64;
     let byte = chunk.byte_at(place - 1);
-    let next = Next::class_of(chunk.byte_at(place));
     if ends_nowhere(pair, offset, byte) {
-        return is_empty_between(pair.null, prev_behind(offset, byte), next);
+        return is_empty_before(pair.null, chunk, place, offset, byte);
     }
-    let part = &mut window[..engine.size()];
-    let prev = run_back(engine, part, chunk, place, steps);
-    let out = engine.out(part, prev, offset);
-    out.contains(next) | is_empty_between(pair.null, prev, next)
+    asks_back(engine, pair, chunk, place, window, steps)
 }
 
 /// Whether both pieces of the pair are left behind so many bytes of a chunk, where its literal ends there.
+#[inline(always)]
 fn leaves_pair<E: BlockEngine, L: Ledger>(
     engine: &E,
     pair: &LookBackPair,
