@@ -50,8 +50,8 @@ pub record IsRunOver (Field : Tree → List ℕ → List Bool → Type 0) (piece
   pub left : AreLeftIn (pieces ++ piece ∷ []) u bytes ends
 
 -- The engine takes a chunk for any piece that it runs, where `enters` tell where the pieces before it are left, and
--- `null` where it has the empty span there: its region goes from the old one to the new one, and the ends tell where the
--- pieces up to it are left.
+-- `null` where it has the empty span there: its region goes from the old one to the new one, and the ends tell where
+-- the pieces up to it are left.
 abbrev pub TakesChunk : Meaning → (old new : List ℕ) (prev : Prev) (at : ℕ) (bytes : List ℕ)
     (enters null ends : ChunkEnds) → Type 0
 TakesChunk m old new prev at bytes enters null ends =

@@ -160,13 +160,11 @@ fn run_entered<E: BlockEngine + TimelessEngine, L: Ledger>(
     let mut ends = ChunkEnds::NOWHERE;
     for j in 0..chunk.blocks() {
         let bytes = chunk.block(j);
-        let at = chunk.at + (BLOCK_BYTES * j) as u64;
         let own = run_block(
             numbered,
             region,
             chunk,
             j,
-            at,
             enters.before[j],
             bytes,
             pool,
@@ -185,27 +183,27 @@ fn run_block<E: BlockEngine + TimelessEngine, L: Ledger>(
     region: &mut [u8],
     chunk: &Chunk,
     number: usize,
-    at: u64,
     enters: u64,
     bytes: &[u8],
     pool: &mut Option<StatePool>,
     steps: &mut Steps<L>,
 ) -> BlockEnds
     requires len { length region.old ≡ (E.meaning numbered.now.engine.now).width }
-    requires well { (E.meaning numbered.now.engine.now).well region.old at }
+    requires well { (E.meaning numbered.now.engine.now).well region.old (chunk.now.at + 64 * number) }
     requires there { 64 * number < length chunk.now.bytes.now }
     requires few { length bytes.now ≤ 64 }
-    requires room { at + length bytes.now ≤ 2 ^ 63 }
+    requires room { chunk.now.at + 64 * number + length bytes.now ≤ 2 ^ 63 }
     requires listed { (E.meaning numbered.now.engine.now).always ≡ false }
     requires idle { IsIdle (E.meaning numbered.now.engine.now) }
     requires pool { IsPooled (E.meaning numbered.now.engine.now) numbered.now.number pool.old }
     ensures len { length region.new ≡ (E.meaning numbered.now.engine.now).width }
-    ensures well { (E.meaning numbered.now.engine.now).well region.new (at + length bytes.now) }
+    ensures well { (E.meaning numbered.now.engine.now).well region.new
+        (chunk.now.at + 64 * number + length bytes.now) }
     ensures pool { IsPooled (E.meaning numbered.now.engine.now) numbered.now.number pool.new }
     ensures others { KeepsPooled E.meaning numbered.now.number pool.old pool.new }
     ensures ticks { steps.new ≤ steps.old + length bytes.now }
     ensures scans { ScansBehind (E.meaning numbered.now.engine.now) region.old region.new chunk.now.prev
-        chunk.now.bytes.now number at enters bytes.now result }
+        chunk.now.bytes.now number (chunk.now.at + 64 * number) enters bytes.now result }
 {
     if enters == 0 && is_zero(region) {
         return BlockEnds {
@@ -217,6 +215,7 @@ fn run_block<E: BlockEngine + TimelessEngine, L: Ledger>(
     if let Some(ends) = run_pooled(numbered, region, prev, enters, bytes, pool) {
         return ends;
     }
+    let at = chunk.at + (BLOCK_BYTES * number) as u64;
     numbered.engine.run(region, prev, at, enters, bytes, steps)
 }
 
@@ -288,13 +287,11 @@ fn run_first<E: BlockEngine + TimelessEngine, L: Ledger>(
     let mut ends = ChunkEnds::NOWHERE;
     for j in 0..chunk.blocks() {
         let bytes = chunk.block(j);
-        let at = chunk.at + (BLOCK_BYTES * j) as u64;
         let own = run_block(
             numbered,
             region,
             chunk,
             j,
-            at,
             starts.word(k, j),
             bytes,
             pool,

@@ -29,8 +29,8 @@ use hs_block::BlockEngine;
 use hs_engine::{Engine, Steps};
 use std::sync::ledger::Ledger;
 
-/// Behind more bytes than these no literal has its begin so near the start of the stream that a match which begins there
-/// may end before it.
+/// Behind more bytes than these no literal begins so near the start of the stream that a match from there on may end
+/// before it.
 const FAR_BYTES: u64 = (MAX_LOOK_BACK + MAX_LITERAL) as u64;
 
 /// What stands where so many bytes have come, and that was the last one.
@@ -156,8 +156,8 @@ fn ends_nowhere(pair: &LookBackPair, offset: u64, byte: u8) -> bool
         || (offset > MAX_LOOK_BACK as u64 && pair.behind.is_start())
 }
 
-/// Whether no match of a pair's expression ends behind more bytes than it has at most: it has none, or each begins where
-/// the stream does.
+/// Whether no match of a pair's expression ends behind more bytes than it has at most: it has none, or each begins
+/// where the stream does.
 fn ends_early(pair: &LookBackPair) -> bool
     ensures { result ≡ true → (offset byte : ℕ) → byte < 256 → window_size < offset →
         EndsNowhere pair.now.behind pair.now.last offset byte }

@@ -1,4 +1,4 @@
-use Rattle.std.proofs.Common.{◌≡◌, ◌∙◌, List, ℕ, true, false, length, sym, ap, subst}
+use Rattle.std.proofs.Common.{◌+◌, ◌*◌, ◌≡◌, ◌∙◌, List, ℕ, true, false, length, sym, ap, subst}
 use Rattle.hs_base.specs.declared.context.Prev.{Prev}
 use Rattle.hs_nodes.specs.Starting.{ScansBlock}
 use Rattle.hs_nodes.proofs.RunLemmas.{steps-few}
@@ -8,7 +8,7 @@ use Rattle.hs_nodes.proofs.engines.run_block.Goals as goal
 pub returns-then-is_zero-clause-scans : goal.returns-then-is_zero-clause-scans
 returns-then-is_zero-clause-scans g c u stands =
     let idle = c.requires.idle c.args.region.now c.requires.len (c.is_zero.ensures.0 c.if-is_zero.true) in
-    quiet-scans (g.E.Engine.meaning c.args.numbered.now.engine.now) c.args.region.now _ c.args.at c.args.enters c.args.bytes.now c.requires.listed idle.rests.quiet (λ i low. (c.type_inv.bytes i).fits) c.if-enters-eq0.true
+    quiet-scans (g.E.Engine.meaning c.args.numbered.now.engine.now) c.args.region.now _ (c.args.chunk.now.at + 64 * c.args.number) c.args.enters c.args.bytes.now c.requires.listed idle.rests.quiet (λ i low. (c.type_inv.bytes i).fits) c.if-enters-eq0.true
 
 pub returns-then-is_zero-clause-well : goal.returns-then-is_zero-clause-well
 returns-then-is_zero-clause-well g c = (c.requires.idle c.args.region.now c.requires.len (c.is_zero.ensures.0 c.if-is_zero.true)).rests.well _
@@ -21,13 +21,13 @@ returns-in-Some-clause-well g c = c.in-Some.ensures.scans.1 _
 
 pub returns-in-Some-clause-scans : goal.returns-in-Some-clause-scans
 returns-in-Some-clause-scans g c u stands =
-    subst (λ (p : Prev). ScansBlock (g.E.Engine.meaning c.args.numbered.now.engine.now) c.args.region.now c.run_pooled.new.region p c.args.at c.args.enters c.args.bytes.now c.in-Some.ends) (c.prev_before-prev.ensures u stands) (c.in-Some.ensures.scans.2 c.args.at)
+    subst (λ (p : Prev). ScansBlock (g.E.Engine.meaning c.args.numbered.now.engine.now) c.args.region.now c.run_pooled.new.region p (c.args.chunk.now.at + 64 * c.args.number) c.args.enters c.args.bytes.now c.in-Some.ends) (c.prev_before-prev.ensures u stands) (c.in-Some.ensures.scans.2 (c.args.chunk.now.at + 64 * c.args.number))
 
 pub run-requires-clause-len : goal.run-requires-clause-len
 run-requires-clause-len g c = ap length c.in_default.ensures.scans ∙ c.requires.len
 
 pub run-requires-clause-well : goal.run-requires-clause-well
-run-requires-clause-well g c = subst (λ (r : List ℕ). (g.E.Engine.meaning c.args.numbered.now.engine.now).well r c.args.at) (sym c.in_default.ensures.scans) c.requires.well
+run-requires-clause-well g c = subst (λ (r : List ℕ). (g.E.Engine.meaning c.args.numbered.now.engine.now).well r (c.args.chunk.now.at + 64 * c.args.number)) (sym c.in_default.ensures.scans) c.requires.well
 
 pub run-requires-clause-throughout : goal.run-requires-clause-throughout
 run-requires-clause-throughout g c always = absurd (let both : true ≡ false = sym always ∙ c.requires.listed in cc)
@@ -37,5 +37,5 @@ returns-clause-ticks g c = steps-few (g.E.Engine.meaning c.args.numbered.now.eng
 
 pub returns-clause-scans : goal.returns-clause-scans
 returns-clause-scans g c u stands =
-    subst (λ (p : Prev). ScansBlock (g.E.Engine.meaning c.args.numbered.now.engine.now) c.args.region.now c.run.new.region p c.args.at c.args.enters c.args.bytes.now c.run.result) (c.prev_before-prev.ensures u stands)
-    (subst (λ (r : List ℕ). ScansBlock (g.E.Engine.meaning c.args.numbered.now.engine.now) r c.run.new.region c.prev_before-prev.result c.args.at c.args.enters c.args.bytes.now c.run.result) c.in_default.ensures.scans c.run.ensures.takes.run.scans)
+    subst (λ (p : Prev). ScansBlock (g.E.Engine.meaning c.args.numbered.now.engine.now) c.args.region.now c.run.new.region p (c.args.chunk.now.at + 64 * c.args.number) c.args.enters c.args.bytes.now c.run.result) (c.prev_before-prev.ensures u stands)
+    (subst (λ (r : List ℕ). ScansBlock (g.E.Engine.meaning c.args.numbered.now.engine.now) r c.run.new.region c.prev_before-prev.result (c.args.chunk.now.at + 64 * c.args.number) c.args.enters c.args.bytes.now c.run.result) c.in_default.ensures.scans c.run.ensures.takes.run.scans)
