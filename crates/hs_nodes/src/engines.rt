@@ -178,6 +178,7 @@ fn run_entered<E: BlockEngine + TimelessEngine, L: Ledger>(
 
 /// Takes the block of that number of a chunk by an engine that is entered where the word tells it. Where it is entered
 /// nowhere, and nothing is live, it isn't run, and what stands before the block isn't looked for.
+#[inline(never)]
 fn run_block<E: BlockEngine + TimelessEngine, L: Ledger>(
     numbered: &Numbered<E>,
     region: &mut [u8],
