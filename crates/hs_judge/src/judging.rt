@@ -1,6 +1,6 @@
 //! A row through all that is judged. It is `#[cfg(test)]`.
 
-use crate::always::{engine_of, judge_always};
+use crate::always::{Always, judge_always};
 use crate::cases::{Answer, Case, List, Verdict, ensure, written};
 use crate::chains;
 use crate::engines::{Question, ask_each, automaton_of};
@@ -10,7 +10,6 @@ use crate::spans::Spans;
 use crate::streaming::judge_streams;
 use hs_base::{Entry, ExprId, Refusal};
 use hs_compile::{CompileFault, compile};
-use hs_dfa::Dfa;
 use hs_expr::Expr;
 use hs_rows::{Row, Text, rows_of};
 use hs_text::{LINE_LEN, read_list, refusal_line};
@@ -46,14 +45,8 @@ fn judge_split(alloc: Global, name: &str, expr: &Expr, text: &[u8], spans: &Span
     ensure(split.lefts == spans.lefts, what)
 }
 
-/// Judges an expression that is entered anywhere, with its engine by states, if it has one.
-fn judge_entered(
-    alloc: Global,
-    name: &str,
-    expr: &Expr,
-    text: &[u8],
-    always: Option<&Dfa>,
-) -> Verdict {
+/// Judges an expression that is entered anywhere, with its engines that take blocks.
+fn judge_entered(alloc: Global, name: &str, expr: &Expr, text: &[u8], always: &Always) -> Verdict {
     let spans = Spans::of(alloc, name, expr, text)?;
     ask_each(alloc, Question::Spans(&spans))?;
     judge_always(alloc, always, &spans)?;
@@ -65,16 +58,16 @@ fn judge_entered(
 
 /// Judges an expression that is entered anywhere.
 pub(crate) fn judge_expression(alloc: Global, name: &str, expr: &Expr, text: &[u8]) -> Verdict {
-    let always = engine_of(alloc, expr)?;
-    judge_entered(alloc, name, expr, text, always.as_ref())
+    let always = Always::of(alloc, expr)?;
+    judge_entered(alloc, name, expr, text, &always)
 }
 
 /// Judges an expression that is entered anywhere, over each stream.
 fn judge_over(alloc: Global, expr: &Expr, cases: &[Case]) -> Verdict {
-    let always = engine_of(alloc, expr)?;
+    let always = Always::of(alloc, expr)?;
     for case in cases {
         let text = &case.stream.bytes;
-        judge_entered(alloc, &case.name, expr, text, always.as_ref())?;
+        judge_entered(alloc, &case.name, expr, text, &always)?;
     }
     Ok(())
 }

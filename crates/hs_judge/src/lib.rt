@@ -6,6 +6,8 @@
 #[cfg(test)]
 mod always;
 #[cfg(test)]
+mod blocks;
+#[cfg(test)]
 mod cases;
 #[cfg(test)]
 mod chains;
