@@ -12,5 +12,4 @@ pub mod ClassLaneLemmas
 pub mod CountLemmas
 pub mod RunLemmas
 pub mod PackedLemmas
-pub mod RowLemmas
 pub mod ZeroLemmas

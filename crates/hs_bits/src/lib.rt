@@ -25,7 +25,7 @@ pub use contexts::Contexts;
 pub use hashing::hash_of;
 pub use lowest::{lowest_bit, without_lowest_bit};
 pub use marks::MarkSet;
-pub use masks::{contexts_of, in_all_contexts, mask_before, mask_behind};
+pub use masks::{contexts_of, in_all_contexts};
 pub use members::member_places;
 pub use next::{next_bit_in, next_bit_in_either};
 pub use places::{
@@ -33,7 +33,7 @@ pub use places::{
     with_place,
 };
 pub use ranges::{has_bit_in, has_bit_round};
-pub use rows::{column, load, place_in};
+pub use rows::{load, place_in};
 pub use runs::{row_word, spread};
 pub use words::{
     WORD_BITS, WORD_BYTES, are_apart, clear_words, contains_word_bit, insert_word_bit, is_unset,
