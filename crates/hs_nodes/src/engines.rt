@@ -177,8 +177,8 @@ fn run_entered<E: BlockEngine + TimelessEngine, L: Ledger>(
 }
 
 /// Takes the block of that number of a chunk by an engine that is entered where the word tells it. Where it is entered
-/// nowhere, and nothing is live, it isn't run, and what stands before the block isn't looked for.
-#[inline(never)]
+/// nowhere, and nothing is live, it isn't run.
+#[inline(always)]
 fn run_block<E: BlockEngine + TimelessEngine, L: Ledger>(
     numbered: &Numbered<E>,
     region: &mut [u8],
@@ -212,6 +212,38 @@ fn run_block<E: BlockEngine + TimelessEngine, L: Ledger>(
             behind: 0,
         };
     }
+    run_busy(numbered, region, chunk, number, enters, bytes, pool, steps)
+}
+
+/// The same where the engine may be entered, or something be live: it is run, or the pool tells what it does.
+#[inline(never)]
+fn run_busy<E: BlockEngine + TimelessEngine, L: Ledger>(
+    numbered: &Numbered<E>,
+    region: &mut [u8],
+    chunk: &Chunk,
+    number: usize,
+    enters: u64,
+    bytes: &[u8],
+    pool: &mut Option<StatePool>,
+    steps: &mut Steps<L>,
+) -> BlockEnds
+    requires len { length region.old ≡ (E.meaning numbered.now.engine.now).width }
+    requires well { (E.meaning numbered.now.engine.now).well region.old (chunk.now.at + 64 * number) }
+    requires there { 64 * number < length chunk.now.bytes.now }
+    requires few { length bytes.now ≤ 64 }
+    requires room { chunk.now.at + 64 * number + length bytes.now ≤ 2 ^ 63 }
+    requires listed { (E.meaning numbered.now.engine.now).always ≡ false }
+    requires idle { IsIdle (E.meaning numbered.now.engine.now) }
+    requires pool { IsPooled (E.meaning numbered.now.engine.now) numbered.now.number pool.old }
+    ensures len { length region.new ≡ (E.meaning numbered.now.engine.now).width }
+    ensures well { (E.meaning numbered.now.engine.now).well region.new
+        (chunk.now.at + 64 * number + length bytes.now) }
+    ensures pool { IsPooled (E.meaning numbered.now.engine.now) numbered.now.number pool.new }
+    ensures others { KeepsPooled E.meaning numbered.now.number pool.old pool.new }
+    ensures ticks { steps.new ≤ steps.old + length bytes.now }
+    ensures scans { ScansBehind (E.meaning numbered.now.engine.now) region.old region.new chunk.now.prev
+        chunk.now.bytes.now number (chunk.now.at + 64 * number) enters bytes.now result }
+{
     let prev = chunk.prev_before(number);
     if let Some(ends) = run_pooled(numbered, region, prev, enters, bytes, pool) {
         return ends;
