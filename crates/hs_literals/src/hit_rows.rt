@@ -13,6 +13,7 @@
 ghost use Rattle.std.specs.Prelude.{◌≡◌, ℕ, ◌+◌, ◌*◌, ◌<◌, ◌≤◌, ◌^◌, ◌++◌, ◌&&◌, nat_lt, nat_le, IfOk, length};
 ghost use Rattle.std.specs.Prelude.{slice_index, if◌then◌else◌};
 ghost use Rattle.hs_base.specs.Bits.{has_word_bit};
+ghost use Rattle.hs_bits.specs.Marks.{is_marked, mark_room};
 ghost use Rattle.hs_bits.specs.NextBits.{IsNextBitIn};
 ghost use Rattle.hs_block.specs.LiteralBlocks.{is_hit};
 ghost use Rattle.hs_bits.specs.WordBits.{word_bit};
@@ -157,6 +158,14 @@ impl HitRows {
     {
         clear_words(&mut self.rows, ROW_WORDS * number, ROW_WORDS);
         self.marks.write(number, false);
+    }
+
+    /// The literals that end in the chunk.
+    pub fn ending(&self) -> &MarkSet
+        ensures room { self.now.count ≤ mark_room result.now }
+        ensures marks { (k : ℕ) → is_marked result.now k ≡ has_hit self.now k }
+    {
+        &self.marks
     }
 
     /// The least number from `from` on of a literal that ends in the chunk; None exactly where there is none.

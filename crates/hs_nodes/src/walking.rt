@@ -25,7 +25,6 @@ use crate::ends::ChunkEnds;
 use crate::engines::Entry;
 use crate::first::everywhere;
 use crate::foretold::Foretold;
-use crate::hits::ChunkHits;
 use crate::kinds::{Found, run_kind};
 use crate::table::{Node, NodeKind, NodeTable};
 use hs_base::Prev;
@@ -141,15 +140,16 @@ pub fn mark_all(numbers: &[u32], from: usize, end: usize, marks: &mut MarkSet)
 
 /// Whether a node of that kind, in which nothing is live, needs no run, where its parent is left before none of the
 /// last so many bytes of a chunk: it is a literal of no more bytes, which ends nowhere in the chunk.
-fn is_spared(kind: NodeKind, hits: &[ChunkHits], quiet: usize) -> bool
-    requires { IsLiteralThere (length hits.now) kind }
+#[inline(always)]
+fn is_spared(kind: NodeKind, foretold: &Foretold, quiet: usize) -> bool
+    requires { IsLiteralThere (length foretold.now.hits.now) kind }
     ensures { (count : ℕ) (enters : ChunkEnds) → AreQuiet quiet count enters → result ≡ true →
-        IsSpared kind hits.now count enters }
+        IsSpared kind foretold.now.hits.now count enters }
 {
     match kind {
         NodeKind::Engine(_, _) => false,
         NodeKind::Literal(number, len) => {
-            len as usize <= quiet && hits[number as usize].is_nowhere()
+            len as usize <= quiet && !foretold.ending.contains(number as usize)
         }
         NodeKind::FirstLiteral(_, _) => false,
         NodeKind::LookBack(_) => false,
@@ -161,21 +161,21 @@ fn is_spared(kind: NodeKind, hits: &[ChunkHits], quiet: usize) -> bool
 fn mark_child<E>(
     table: &NodeTable<E>,
     child: usize,
-    hits: &[ChunkHits],
+    foretold: &Foretold,
     quiet: usize,
     marks: &mut MarkSet,
 )
     requires there { child < length table.now.nodes.items }
     requires literal { (node : Node) → slice_get table.now.nodes.items child ≡ Some node →
-        IsLiteralThere (length hits.now) node.kind }
+        IsLiteralThere (length foretold.now.hits.now) node.kind }
     requires room { length table.now.nodes.items ≤ mark_room marks.old }
     requires below { (k : ℕ) → is_marked marks.old k ≡ true → k < length table.now.nodes.items }
     ensures more { AreMoreMarks (length table.now.nodes.items) marks.old marks.new }
     ensures needed { (count : ℕ) (enters : ChunkEnds) (node : Node) → AreQuiet quiet count enters →
         slice_get table.now.nodes.items child ≡ Some node →
-        (is_marked marks.new child ≡ true) ⊎ IsSpared node.kind hits.now count enters }
+        (is_marked marks.new child ≡ true) ⊎ IsSpared node.kind foretold.now.hits.now count enters }
 {
-    if is_spared(node_at(table, child).kind, hits, quiet) {
+    if is_spared(node_at(table, child).kind, foretold, quiet) {
         return;
     }
     marks.write(child, true);
@@ -186,7 +186,7 @@ fn mark_child<E>(
 fn mark_children<E>(
     table: &NodeTable<E>,
     k: usize,
-    hits: &[ChunkHits],
+    foretold: &Foretold,
     ends: &ChunkEnds,
     count: usize,
     marks: &mut MarkSet,
@@ -195,7 +195,7 @@ fn mark_children<E>(
     requires there { k + 1 < length table.now.child_starts.items }
     requires end { slice_index table.now.child_starts.items (k + 1) ≤ length table.now.children.items }
     requires literals { (child : ℕ) (node : Node) → slice_get table.now.nodes.items child ≡ Some node →
-        IsLiteralThere (length hits.now) node.kind }
+        IsLiteralThere (length foretold.now.hits.now) node.kind }
     requires room { length table.now.nodes.items ≤ mark_room marks.old }
     requires children { (i : ℕ) → i < length table.now.children.items →
         slice_index table.now.children.items i < length table.now.nodes.items }
@@ -204,11 +204,11 @@ fn mark_children<E>(
     ensures needed { (child : ℕ) (node : Node) →
         IsAmongChildren table.now.child_starts.items table.now.children.items k child →
         slice_get table.now.nodes.items child ≡ Some node →
-        (is_marked marks.new child ≡ true) ⊎ IsSpared node.kind hits.now count ends.now }
+        (is_marked marks.new child ≡ true) ⊎ IsSpared node.kind foretold.now.hits.now count ends.now }
 {
     let quiet = ends.quiet_end(count);
     for i in start_of(&table.child_starts, k)..start_of(&table.child_starts, k + 1) {
-        mark_child(table, start_of(&table.children, i), hits, quiet, marks);
+        mark_child(table, start_of(&table.children, i), foretold, quiet, marks);
     }
 }
 
@@ -263,7 +263,7 @@ pub fn walk<E: BlockEngine + TimelessEngine, L: Ledger>(
         };
         run_node(table, k, chunk, &found, region, ends, pool, steps);
         if !ends[k].is_nowhere() {
-            mark_children(table, k, foretold.hits, &ends[k], chunk.bytes.len(), marks);
+            mark_children(table, k, foretold, &ends[k], chunk.bytes.len(), marks);
         }
         from = k + 1;
     }

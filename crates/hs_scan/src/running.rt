@@ -57,6 +57,7 @@ pub(crate) fn run_nodes<E: BlockEngine + TimelessEngine, L: Ledger>(
     );
     let foretold = Foretold {
         hits: &scratch.hits,
+        ending: scratch.rows.ending(),
         starts: &scratch.starts,
         cache: &cache.automata,
     };

@@ -10,5 +10,5 @@ abbrev pub invariant-loop-i : goal.invariant-loop-i
 invariant-loop-i g l = record {
   more : AreMoreMarks (length l.table.nodes.items) l.initial.marks l.marks;
   needed : (i : ℕ) (node : Node) → slice_index l.table.child_starts.items l.k ≤ i → i < l.i → slice_get l.table.nodes.items (slice_index l.table.children.items i) ≡ Some node →
-      (is_marked l.marks (slice_index l.table.children.items i) ≡ true) ⊎ IsSpared node.kind l.hits l.count l.ends;
+      (is_marked l.marks (slice_index l.table.children.items i) ≡ true) ⊎ IsSpared node.kind l.foretold.hits.now l.count l.ends;
 }
