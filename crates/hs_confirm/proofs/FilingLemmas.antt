@@ -47,7 +47,7 @@ keyed-push widths (e ∷ entries) entry keyed is zero other found = keyed zero o
 keyed-push widths (e ∷ entries) entry keyed is (suc n) other found = keyed-push widths entries entry (λ k x here. keyed (suc k) x here) is n other found
 
 row-within : (count bucket key : ℕ) → 0 < count → key_row count bucket key < count
-row-within count bucket key some = omega (arith, and_le_r (key * 11400714819323198485 % 2 ^ 64 / 2 ^ 40 + bucket * 40503) (count - 1))
+row-within count bucket key some = omega (arith, and_le_r (key * 11400714819323198485 % 2 ^ 64 / 2 ^ 40 + bucket) (count - 1))
 
 -- each row is one of so many
 pub rows-within : (count : ℕ) (entries : List Entry) (k : ℕ) → 0 < count → k < length (rows_of_entries count entries) → get_or (rows_of_entries count entries) k 0 < count

@@ -54,4 +54,4 @@ AreMasks widths masks = (bucket : ℕ) → bucket < 8 → IsMask (slice_index wi
 
 -- in which of so many rows the literals of a bucket and a key stand
 abbrev pub key_row : (rows bucket key : ℕ) → ℕ
-key_row rows bucket key = bit_and (key * 11400714819323198485 % 2 ^ 64 / 2 ^ 40 + bucket * 40503) (rows - 1)
+key_row rows bucket key = bit_and (key * 11400714819323198485 % 2 ^ 64 / 2 ^ 40 + bucket) (rows - 1)

@@ -1,6 +1,6 @@
 //! Numbers in rows, as chains.
 
-ghost use Rattle.std.specs.Prelude.{◌≡◌, ◌<◌, ◌≤◌, ◌*◌, ℕ, IfOk, length, slice_index, vec_len};
+ghost use Rattle.std.specs.Prelude.{◌≡◌, ◌<◌, ◌≤◌, ◌*◌, ℕ, false, IfOk, length, slice_index, vec_len};
 ghost use Rattle.hs_confirm.specs.Rows.{AreChains, AreMarked};
 
 use hs_bits::{WORD_BITS, contains_word_bit, insert_word_bit};
@@ -55,13 +55,22 @@ impl Chains {
         self.heads.len()
     }
 
+    /// Whether a row may have a number.
+    #[inline(always)]
+    pub(crate) fn is_marked(&self, row: usize) -> bool
+        requires { row < vec_len self.now.heads }
+        ensures { result ≡ false → slice_index self.now.heads.items row ≡ vec_len self.now.nexts }
+    {
+        contains_word_bit(&self.marks, row)
+    }
+
     /// The first number of a row, or the count of all numbers.
     #[inline(always)]
     pub(crate) fn first(&self, row: usize) -> usize
         requires { row < vec_len self.now.heads }
         ensures { result ≡ slice_index self.now.heads.items row }
     {
-        if !contains_word_bit(&self.marks, row) {
+        if !self.is_marked(row) {
             return self.nexts.len();
         }
         self.heads[row]

@@ -1,16 +1,17 @@
 //! The table of all literals: by bucket and last bytes.
 
-ghost use Rattle.std.specs.Prelude.{◌≡◌, ◌<◌, ◌≤◌, ◌≢◌, ◌+◌, ℕ, [], ◌++◌, IfOk, MatchOption, length, map, slice_index};
+ghost use Rattle.std.specs.Prelude.{◌≡◌, ◌<◌, ◌≤◌, ◌≢◌, ◌+◌, ℕ, List, false, [], ◌++◌, IfOk, MatchOption, length, map, slice_index};
 ghost use Rattle.std.specs.Prelude.{vec_len};
 ghost use Rattle.hs_base.specs.LiteralView.{literal_byte};
 ghost use Rattle.hs_confirm.specs.Rows.{AreChains};
-ghost use Rattle.hs_confirm.specs.Keys.{AreMasks, key_at};
-ghost use Rattle.hs_confirm.specs.Entries.{AreKeyed, rows_of_entries};
+ghost use Rattle.hs_confirm.specs.Keys.{AreMasks, full_text_key, key_at};
+ghost use Rattle.hs_confirm.specs.Entries.{AreKeyed, ends_from, rows_of_entries};
 
 use crate::chains::Chains;
 use crate::ends::Ends;
 use crate::entry::Entry;
 use crate::filing::{entries_of, row_count, rows_of};
+use crate::keys::key_row;
 use crate::open_ends::OpenEnds;
 use crate::place_ends::PlaceEnds;
 use crate::widths::{masks_of, widths_of};
@@ -87,6 +88,17 @@ impl Confirm {
         ensures { result ≡ key_at (slice_index self.now.widths bucket) full }
     {
         full & self.masks[usize::from(bucket)]
+    }
+
+    /// Whether a literal of a bucket may end at a place, given the last eight bytes in front of it.
+    #[inline(always)]
+    pub(crate) fn may_end(&self, bucket: u8, full: u64) -> bool
+        requires { bucket < 8 }
+        ensures { result ≡ false → (text : List ℕ) (offset : ℕ) → full ≡ full_text_key text offset →
+            ends_from self.now.entries.items bucket text offset 0 ≡ [] }
+    {
+        let row = key_row(self.chains.rows(), bucket, self.key_at(bucket, full));
+        self.chains.is_marked(row)
     }
 
     /// The numbers of the literals of a bucket that end at `at`, an offset in bytes in `bytes`, behind their last byte.

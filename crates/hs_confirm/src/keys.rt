@@ -20,9 +20,6 @@ const KEY_SPREAD: u64 = 0x9E37_79B9_7F4A_7C15;
 /// How many of the product's bits are left out: those below hold too few of the key's bits.
 const LOW_BITS: u32 = 40;
 
-/// What a bucket adds, so that the buckets have rows of their own.
-const BUCKET_STRIDE: usize = 40_503;
-
 /// The byte, a capital letter as its small one.
 fn folded(byte: u8) -> u8
     ensures { result ≡ folded byte }
@@ -138,6 +135,5 @@ pub(crate) fn key_row(rows: usize, bucket: u8, key: u64) -> usize
     ensures row { result ≡ key_row rows bucket key }
     ensures within { result < rows }
 {
-    ((key.wrapping_mul(KEY_SPREAD) >> LOW_BITS) as usize + usize::from(bucket) * BUCKET_STRIDE)
-        & (rows - 1)
+    ((key.wrapping_mul(KEY_SPREAD) >> LOW_BITS) as usize + usize::from(bucket)) & (rows - 1)
 }

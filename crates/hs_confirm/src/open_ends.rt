@@ -53,6 +53,9 @@ pub(crate) fn first_head(
     while left != 0 {
         let bucket = lowest_bit(left) as u8;
         left = without_lowest_bit(left);
+        if !confirm.may_end(bucket, full) {
+            continue;
+        }
         if let Some(number) = Ends::with_key(confirm, bucket, full, history, bytes, at).next() {
             return Some(Head {
                 bucket,
@@ -95,6 +98,9 @@ fn next_head(
             number,
             left: head.left,
         });
+    }
+    if head.left == 0 {
+        return None;
     }
     first_head(confirm, head.left, full, history, bytes, at)
 }

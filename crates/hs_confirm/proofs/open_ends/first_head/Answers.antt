@@ -42,6 +42,22 @@ returns-in-Some-clause-found c head same =
       left = λ other is. c.requires.buckets other (l.invariant.among other ((behind other).0 is).1);
     })
 
+pub loop-left-preserved-then-not-may_end : goal.loop-left-preserved-then-not-may_end
+loop-left-preserved-then-not-may_end c =
+    let entries = c.args.confirm.now.entries.items in
+    let text = c.args.history.now ++ c.args.bytes.now in
+    let offset = length c.args.history.now + c.args.at in
+    let l = c.loop-left in
+    let bucket = c.lowest_bit-bucket.result in
+    let low = c.lowest_bit-bucket.ensures.lowest in
+    let less = c.without_lowest_bit-left.result in
+    let behind = c.without_lowest_bit-left.ensures.behind bucket low in
+    let none : ends_from entries bucket text offset 0 ≡ [] = c.may_end.ensures (c.if-not-may_end.true) text offset c.requires.full in
+    record {
+      among = λ other is. l.invariant.among other ((behind other).0 is).1;
+      all = sym (buckets_left-first entries l.left less bucket text offset (c.requires.buckets bucket (l.invariant.among bucket low.is)) low behind ∙ ap (λ xs. xs ++ buckets_left entries less text offset) none) ∙ l.invariant.all;
+    }
+
 pub loop-left-preserved : goal.loop-left-preserved
 loop-left-preserved c =
     let entries = c.args.confirm.now.entries.items in

@@ -1,9 +1,11 @@
 use Rattle.std.proofs.Common.{◌≡◌, ◌+◌, ◌++◌, [], ◌∙◌, length, sym, ap, subst}
+use Rattle.std.proofs.lemmas.Nat.Bits.{bit_at-zero}
 use Rattle.std.proofs.lemmas.Option.{same_Some}
+use Rattle.std.specs.Int.{bit_at}
 use Rattle.hs_confirm.specs.Entries.{ends_from}
 use Rattle.hs_confirm.specs.Found.{IsFound, buckets_left}
 use Rattle.hs_confirm.specs.Left.{ends_left}
-use Rattle.hs_confirm.proofs.FoundLemmas.{IsNextOf, next_of}
+use Rattle.hs_confirm.proofs.FoundLemmas.{IsNextOf, buckets_left-none, next_of}
 use Rattle.hs_confirm.proofs.open_ends.next_head.Goals as goal
 
 pub returns-in-Some-clause-all : goal.returns-in-Some-clause-all
@@ -30,6 +32,16 @@ returns-in-Some-clause-found c other same =
       passed = found.passed;
       left = found.left;
     })
+
+pub returns-then-head-eq0-clause-all : goal.returns-then-head-eq0-clause-all
+returns-then-head-eq0-clause-all c =
+    let entries = c.args.confirm.now.entries.items in
+    let text = c.args.history.now ++ c.args.bytes.now in
+    let offset = length c.args.history.now + c.args.at in
+    let head = c.args.head in
+    let none : ends_from entries head.bucket text offset (head.number + 1) ≡ [] = sym c.behind.ensures ∙ c.in_default.ensures.steps.0 in
+    sym (ap (λ xs. xs ++ buckets_left entries head.left text offset) none
+    ∙ buckets_left-none entries head.left text offset (λ bucket. ap (λ n. bit_at n bucket) c.if-head-eq0.true ∙ bit_at-zero bucket))
 
 pub returns-clause-all : goal.returns-clause-all
 returns-clause-all c =
