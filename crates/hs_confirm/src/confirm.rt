@@ -1,7 +1,7 @@
 //! The table of all literals: by bucket and last bytes.
 
-ghost use Rattle.std.specs.Prelude.{◌≡◌, ◌<◌, ◌≤◌, ◌≢◌, ◌+◌, ℕ, List, false, [], ◌++◌, IfOk, MatchOption, length, map, slice_index};
-ghost use Rattle.std.specs.Prelude.{vec_len};
+ghost use Rattle.std.specs.Prelude.{◌≡◌, ◌<◌, ◌≤◌, ◌≢◌, ◌+◌, ℕ, [], ◌++◌, IfOk, MatchOption, length, map, slice_index};
+ghost use Rattle.std.specs.Prelude.{List, false, vec_len};
 ghost use Rattle.hs_base.specs.LiteralView.{literal_byte};
 ghost use Rattle.hs_confirm.specs.Rows.{AreChains};
 ghost use Rattle.hs_confirm.specs.Keys.{AreMasks, full_text_key, key_at};

@@ -1,6 +1,6 @@
 //! Whether a literal ends at a place, byte by byte.
 
-ghost use Rattle.std.specs.Prelude.{◌≡◌, ◌≤◌, ◌+◌, ◌++◌, length, map};
+ghost use Rattle.std.specs.Prelude.{◌≡◌, ◌<◌, ◌≤◌, ◌+◌, ◌++◌, length, map};
 ghost use Rattle.hs_base.specs.LiteralView.{literal_byte};
 ghost use Rattle.hs_confirm.specs.Taking.{takes_all, ends_there};
 
@@ -19,18 +19,30 @@ fn takes_all(literal: &[LitByte], bytes: &[u8]) -> bool
     true
 }
 
-/// Whether the literal ends in `bytes` at `at`, behind its last byte; it may begin in `history`, which stands before.
-pub(crate) fn ends_there(literal: &[LitByte], history: &[u8], bytes: &[u8], at: usize) -> bool
-    requires { at ≤ length bytes.now }
+/// Whether the literal ends in `bytes` at `at`; it begins in `history`, which stands before.
+#[cold]
+#[inline(never)]
+fn ends_early(literal: &[LitByte], history: &[u8], bytes: &[u8], at: usize) -> bool
+    requires within { at ≤ length bytes.now }
+    requires early { at < length literal.now }
     ensures { result ≡ ends_there (map literal_byte literal.now) (history.now ++ bytes.now) (length history.now + at) }
 {
-    if literal.len() <= at {
-        return takes_all(literal, &bytes[at - literal.len()..at]);
-    }
     let early = literal.len() - at;
     if early > history.len() {
         return false;
     }
     takes_all(&literal[early..], &bytes[..at])
         && takes_all(&literal[..early], &history[history.len() - early..])
+}
+
+/// Whether the literal ends in `bytes` at `at`, behind its last byte; it may begin in `history`, which stands before.
+pub(crate) fn ends_there(literal: &[LitByte], history: &[u8], bytes: &[u8], at: usize) -> bool
+    requires { at ≤ length bytes.now }
+    ensures { result ≡ ends_there (map literal_byte literal.now) (history.now ++ bytes.now) (length history.now + at) }
+{
+    if literal.len() <= at {
+        takes_all(literal, &bytes[at - literal.len()..at])
+    } else {
+        ends_early(literal, history, bytes, at)
+    }
 }
