@@ -1,14 +1,15 @@
 -- The words of a region.
-use Rattle.std.proofs.Common.{◌≡◌, ℕ, ◌+◌, ◌-◌, ◌*◌, ◌/◌, ◌%◌, ◌^◌, ◌<◌, ◌≤◌, Bool, true, false, ◌&&◌, List, length, get_or, eqb, refl, sym, ap, ◌∙◌, inl, inr, arith}
+use Rattle.std.proofs.Common.{◌≡◌, ℕ, ◌+◌, ◌-◌, ◌*◌, ◌/◌, ◌%◌, ◌^◌, ◌<◌, ◌≤◌, Bool, true, false, ◌&&◌, [], ◌∷◌, List, length, get_or, eqb, bit_and, refl, sym, ap, ◌∙◌, inl, inr, arith}
 use Rattle.std.specs.Prelude.{nat_lt}
 use Rattle.std.specs.Int.{bit_at}
-use Rattle.std.proofs.lemmas.Bool.{cases_lt}
+use Rattle.std.proofs.lemmas.Bool.{cases_lt, le-ltb}
 use Rattle.std.proofs.lemmas.Nat.{shr-shr}
 use Rattle.hs_base.specs.Bits.{has_bit, has_word_bit}
 use Rattle.hs_base.proofs.BitLemmas.{bits-past}
-use Rattle.hs_bits.proofs.WordLemmas.{all-under}
+use Rattle.hs_base.proofs.ContextSetLemmas.{bit-and}
+use Rattle.hs_bits.proofs.WordLemmas.{all-under, words-past}
 use Rattle.hs_limex.specs.SingleWords.{is_set}
-use Rattle.hs_limex.proofs.SingleLemmas.{no-bit, past-word}
+use Rattle.hs_limex.proofs.SingleLemmas.{no-bit, one-word, past-word}
 
 -- the bits of one word of a row
 pub word-bit : (words : List ℕ) (place i : ℕ) → i < 64 → is_set (get_or words place 0) i ≡ has_word_bit words (64 * place + i)
@@ -56,4 +57,31 @@ apart-more bytes row p shared none bits known k below =
           and-turned (has_bit bytes k) (has_word_bit row k)
           ∙ (ap (λ n. has_word_bit row n && has_bit bytes n) (sym at)
           ∙ (ap (λ b. b && has_bit bytes (64 * p + i)) (sym (word-bit row p i small)) ∙ (sym (bits i small) ∙ (ap (λ w. is_set w i) none ∙ no-bit i))))
+    ]
+
+-- a row of one word has its bits
+pub one-row : (word k : ℕ) → word < 2 ^ 64 → has_word_bit (word ∷ []) k ≡ is_set word k
+one-row word k fits =
+    elim (cases_lt k 64) [
+      | inl below ↦ one-word (word ∷ []) k below
+      | inr past ↦ words-past (word ∷ []) k past ∙ sym (past-word word k fits past)
+    ]
+
+-- bytes that are those of the first word of a row
+pub one-kept : (row : List ℕ) (count k : ℕ) → count ≤ 8 → (nat_lt k (8 * count) && is_set (get_or row 0 0) k) ≡ (nat_lt k (8 * count) && has_word_bit row k)
+one-kept row count k few =
+    elim (cases_lt k (8 * count)) [
+      | inl below ↦ ap (λ b. nat_lt k (8 * count) && b) (sym (one-word row k (omega arith)))
+      | inr past ↦ ap (λ b. b && is_set (get_or row 0 0) k) (le-ltb k (8 * count) past) ∙ sym (ap (λ b. b && has_word_bit row k) (le-ltb k (8 * count) past))
+    ]
+
+-- a word that has no bit of the first word of a row
+pub apart-one : (bytes row : List ℕ) (word k : ℕ) → length bytes ≤ 8 → ((i : ℕ) → is_set word i ≡ has_bit bytes i) → bit_and word (get_or row 0 0) ≡ 0 → (has_bit bytes k && has_word_bit row k) ≡ false
+apart-one bytes row word k few bits none =
+    elim (cases_lt k 64) [
+      | inl below ↦
+          ap (λ b. has_bit bytes k && b) (one-word row k below)
+          ∙ (ap (λ b. b && is_set (get_or row 0 0) k) (sym (bits k))
+          ∙ (sym (bit-and word (get_or row 0 0) k) ∙ (ap (λ w. is_set w k) none ∙ no-bit k)))
+      | inr past ↦ ap (λ b. b && has_word_bit row k) (bits-past bytes k (omega arith))
     ]

@@ -4,12 +4,12 @@ ghost use Rattle.std.specs.Prelude.{◌≡◌, ℕ, ◌+◌, ◌*◌, ◌%◌, �
 ghost use Rattle.hs_engine.specs.AnyBelow.{any_below};
 ghost use Rattle.hs_base.specs.Bits.{has_word_bit};
 ghost use Rattle.hs_engine.specs.Between.{between};
-ghost use Rattle.hs_limex.specs.WordTables.{in_table};
+ghost use Rattle.hs_limex.specs.WordTables.{RowsFit, in_table};
 ghost use Rattle.hs_limex.specs.Leading.{far_leads, near_leads};
 
 use crate::far_filling::DISTANCE_COUNT;
 use crate::region_words::unite_region;
-use crate::word_rows::WordRows;
+use crate::word_rows::{MAX_WIDTH, WordRows};
 use hs_base::{Next, Prev};
 use hs_bits::{WORD_BITS, are_apart, lowest_bit, shift_in, without_lowest_bit};
 use hs_engine::FollowRows;
@@ -25,7 +25,7 @@ pub(crate) fn span_of(near: &WordRows) -> usize
 {
     let mut span = 0;
     for number in 0..ROW_COUNT {
-        if number % DISTANCE_COUNT >= span && !has_no_bit(near.row(number)) {
+        if number % DISTANCE_COUNT >= span && !has_no_bit(near.row_in::<MAX_WIDTH>(number)) {
             span = number % DISTANCE_COUNT + 1;
         }
     }
@@ -40,23 +40,32 @@ fn has_no_bit(row: &[u64]) -> bool
 }
 
 /// Sets the bits of the positions that follow near by those that are live, in the context of that number.
-pub(crate) fn lead_near(near: &WordRows, span: usize, number: usize, live: &[u64], led: &mut [u64])
+#[inline(always)]
+pub(crate) fn lead_near<const W: usize>(
+    near: &WordRows,
+    span: usize,
+    number: usize,
+    live: &[u64],
+    led: &mut [u64],
+)
+    requires fits { RowsFit near.now.width W }
     requires near { near.now.count ≡ 192 }
     requires span { span ≤ 8 }
     requires number { number < 24 }
-    requires live { length live.now ≡ 8 }
-    requires led { length led.old ≡ 8 }
+    requires live { near.now.width ≤ length live.now }
+    requires led { near.now.width ≤ length led.old }
     ensures len { length led.new ≡ length led.old }
     ensures bits { (k : ℕ) →
         has_word_bit led.new k ≡ (any_below span (near_leads near.now live.now number k) || has_word_bit led.old k) }
 {
     for distance in 0..span {
-        let row = near.row(DISTANCE_COUNT * number + distance);
+        let row = near.row_in::<W>(DISTANCE_COUNT * number + distance);
         shift_in(live, row, distance, led);
     }
 }
 
 /// Sets the bits of the positions that follow those that are live, of those in the row.
+#[inline(always)]
 pub(crate) fn lead_far(
     follows: &FollowRows,
     live: &[u64],
@@ -66,9 +75,9 @@ pub(crate) fn lead_far(
     led: &mut [u64],
 )
     requires few { (x : ℕ) → has_word_bit far.now x ≡ true → x < follows.now.size }
-    requires live { length live.now ≡ 8 }
+    requires live { length far.now ≤ length live.now }
     requires far { length far.now ≤ 8 }
-    requires led { length led.old ≡ 8 }
+    requires led { follows.now.size ≤ 64 * length led.old }
     ensures len { length led.new ≡ length led.old }
     ensures bits { (k : ℕ) →
         has_word_bit led.new k ≡
@@ -82,6 +91,7 @@ pub(crate) fn lead_far(
 }
 
 /// Sets the bits of the positions that follow those that are live, of those in one word of the row.
+#[inline(always)]
 fn lead_word(
     follows: &FollowRows,
     live: &[u64],
@@ -92,10 +102,10 @@ fn lead_word(
     led: &mut [u64],
 )
     requires few { (x : ℕ) → has_word_bit far.now x ≡ true → x < follows.now.size }
-    requires live { length live.now ≡ 8 }
+    requires live { length far.now ≤ length live.now }
     requires far { length far.now ≤ 8 }
     requires place { place < length far.now }
-    requires led { length led.old ≡ 8 }
+    requires led { follows.now.size ≤ 64 * length led.old }
     ensures len { length led.new ≡ length led.old }
     ensures bits { (k : ℕ) (first : Bool) →
         has_word_bit led.old k ≡

@@ -5,22 +5,19 @@ ghost use Rattle.std.specs.Prelude.{length, vec_len};
 ghost use Rattle.hs_base.specs.Contexts.{Context, context_number};
 ghost use Rattle.hs_engine.specs.Rows.{in_row};
 ghost use Rattle.hs_engine.specs.Between.{between};
-ghost use Rattle.hs_limex.specs.WordTables.{in_table};
+ghost use Rattle.hs_limex.specs.WordTables.{RowsFit, in_table};
 ghost use Rattle.hs_limex.specs.Near.{IsFew, IsNearFrom};
 
 use crate::contexts::{NEXT_COUNT, next_of, number_of};
 use crate::far_filling::{far_of, near_of};
 use crate::filling::{any_of, masks_of, reach_of};
 use crate::leading::{lead_far, lead_near, span_of};
-use crate::region_words::{is_apart_from, unite_region};
-use crate::word_rows::WordRows;
-use hs_base::{ByteSet, MAX_POSITIONS, Next, NextSet, Prev};
-use hs_bits::{WORD_BITS, are_apart, is_zero, keep_words, store, unite_words, word_count_for};
+use crate::region_words::{is_row_apart, load_row, store_row};
+use crate::word_rows::{MAX_WIDTH, WordRows};
+use hs_base::{ByteSet, Next, NextSet, Prev};
+use hs_bits::{are_apart, is_zero, keep_words, unite_words, word_count_for};
 use hs_engine::{Automaton, FollowRows, first_bytes};
 use std::alloc::{AllocError, Global};
-
-/// The words that hold a bit for each of the most positions.
-const MAX_WIDTH: usize = MAX_POSITIONS as usize / WORD_BITS;
 
 /// The tables of an automaton as rows of words, a bit for each position.
 #[derive(Debug, Drop)]
@@ -125,7 +122,7 @@ impl Tables {
     }
 
     /// Moves the region over the byte, before which the expression is entered or not.
-    #[inline(never)]
+    #[inline(always)]
     pub(crate) fn move_over(
         &self,
         region: &mut [u8],
@@ -146,18 +143,57 @@ impl Tables {
             IsLed (moves_of_tables self.now) (has_bit region.old) (between prev next) entering k →
             has_bit region.new k ≡ true }
     {
-        let mut live = [0u64; MAX_WIDTH];
-        unite_region(&mut live, region);
-        let mut led = [0u64; MAX_WIDTH];
-        self.lead(&live, prev, next, entering, &mut led);
-        keep_words(&mut led, self.reach.row(byte as usize));
-        store(&led, region);
+        match self.reach.width() {
+            1 => self.move_row::<1>(region, prev, next, entering, byte),
+            2 => self.move_row::<2>(region, prev, next, entering, byte),
+            3 => self.move_row::<3>(region, prev, next, entering, byte),
+            _ => self.move_row::<MAX_WIDTH>(region, prev, next, entering, byte),
+        }
+    }
+
+    /// The same, by rows of so many words.
+    #[inline(never)]
+    fn move_row<const W: usize>(
+        &self,
+        region: &mut [u8],
+        prev: Prev,
+        next: Next,
+        entering: bool,
+        byte: u8,
+    )
+        requires fits { RowsFit self.now.reach.width W }
+        requires len { length region.old ≡ row_len self.now.follows.size }
+        ensures len { length region.new ≡ length region.old }
+        ensures sound { (k : ℕ) →
+            has_bit region.new k ≡ true →
+            (in_table self.now.reach byte k ≡ true)
+            × IsLed (moves_of_tables self.now) (has_bit region.old) (between prev next) entering k }
+        ensures whole { (k : ℕ) →
+            k < 8 * length region.old →
+            in_table self.now.reach byte k ≡ true →
+            IsLed (moves_of_tables self.now) (has_bit region.old) (between prev next) entering k →
+            has_bit region.new k ≡ true }
+    {
+        let live = load_row::<W>(region);
+        let mut led = [0u64; W];
+        self.lead::<W>(&live, prev, next, entering, &mut led);
+        keep_words(&mut led, self.reach.row_in::<W>(byte as usize));
+        store_row::<W>(&led, region);
     }
 
     /// Sets the bits of the positions that may follow those that are live, and of those that are entered.
-    fn lead(&self, live: &[u64], prev: Prev, next: Next, entering: bool, led: &mut [u64])
-        requires live { length live.now ≡ 8 }
-        requires led { length led.old ≡ 8 }
+    #[inline(always)]
+    fn lead<const W: usize>(
+        &self,
+        live: &[u64],
+        prev: Prev,
+        next: Next,
+        entering: bool,
+        led: &mut [u64],
+    )
+        requires fits { RowsFit self.now.reach.width W }
+        requires live { length live.now ≡ W }
+        requires led { length led.old ≡ W }
         requires zero { (k : ℕ) → has_word_bit led.old k ≡ false }
         ensures len { length led.new ≡ length led.old }
         ensures sound { (k : ℕ) →
@@ -169,26 +205,28 @@ impl Tables {
             has_word_bit led.new k ≡ true }
     {
         let number = number_of(prev, next);
-        lead_near(&self.near, self.span, number, live, led);
-        lead_far(&self.follows, live, self.far.row(0), prev, next, led);
-        self.enter(number, entering, led);
+        lead_near::<W>(&self.near, self.span, number, live, led);
+        lead_far(&self.follows, live, self.far.row_in::<W>(0), prev, next, led);
+        self.enter::<W>(number, entering, led);
     }
 
     /// Sets the bits of the positions that are entered in the context of that number, if the expression is.
-    fn enter(&self, number: usize, entering: bool, led: &mut [u64])
+    #[inline(always)]
+    fn enter<const W: usize>(&self, number: usize, entering: bool, led: &mut [u64])
+        requires fits { RowsFit self.now.reach.width W }
         requires number { number < 24 }
-        requires led { length led.old ≡ 8 }
+        requires led { length led.old ≡ W }
         ensures len { length led.new ≡ length led.old }
         ensures bits { (k : ℕ) →
             has_word_bit led.new k ≡ ((entering && in_table self.now.enters number k) || has_word_bit led.old k) }
     {
         if entering {
-            unite_words(led, self.enters.row(number));
+            unite_words(led, self.enters.row_in::<W>(number));
         }
     }
 
     /// What may come next where a position that is live accepts.
-    #[inline(never)]
+    #[inline(always)]
     pub(crate) fn accepted(&self, region: &[u8], prev: Prev) -> NextSet
         requires { length region.now ≡ row_len self.now.follows.size }
         ensures sound { (next : Next) →
@@ -198,41 +236,64 @@ impl Tables {
             AcceptsIn (moves_of_tables self.now) (has_bit region.now) (between prev next) →
             has_next result next ≡ true }
     {
-        if is_apart_from(region, self.accepting.row(0)) {
-            return NextSet::empty();
+        match self.reach.width() {
+            1 => self.accepted_row::<1>(region, prev),
+            2 => self.accepted_row::<2>(region, prev),
+            3 => self.accepted_row::<3>(region, prev),
+            _ => self.accepted_row::<MAX_WIDTH>(region, prev),
         }
-        let mut live = [0u64; MAX_WIDTH];
-        unite_region(&mut live, region);
-        self.accepted_among(&live, prev)
     }
 
-    /// What may come next where one of those positions accepts.
-    fn accepted_among(&self, live: &[u64], prev: Prev) -> NextSet
-        requires { length live.now ≡ 8 }
+    /// The same, by rows of so many words.
+    #[inline(never)]
+    fn accepted_row<const W: usize>(&self, region: &[u8], prev: Prev) -> NextSet
+        requires fits { RowsFit self.now.reach.width W }
+        requires len { length region.now ≡ row_len self.now.follows.size }
         ensures sound { (next : Next) →
             has_next result next ≡ true →
-            AcceptsIn (moves_of_tables self.now) (has_word_bit live.now) (between prev next) }
+            AcceptsIn (moves_of_tables self.now) (has_bit region.now) (between prev next) }
         ensures whole { (next : Next) →
-            AcceptsIn (moves_of_tables self.now) (has_word_bit live.now) (between prev next) →
+            AcceptsIn (moves_of_tables self.now) (has_bit region.now) (between prev next) →
             has_next result next ≡ true }
     {
+        if is_row_apart::<W>(region, self.accepting.row_in::<W>(0)) {
+            return NextSet::empty();
+        }
+        self.accepted_among::<W>(region, prev)
+    }
+
+    /// The same, with each that may come next looked at.
+    #[inline(never)]
+    fn accepted_among<const W: usize>(&self, region: &[u8], prev: Prev) -> NextSet
+        requires fits { RowsFit self.now.reach.width W }
+        requires len { length region.now ≡ row_len self.now.follows.size }
+        ensures sound { (next : Next) →
+            has_next result next ≡ true →
+            AcceptsIn (moves_of_tables self.now) (has_bit region.now) (between prev next) }
+        ensures whole { (next : Next) →
+            AcceptsIn (moves_of_tables self.now) (has_bit region.now) (between prev next) →
+            has_next result next ≡ true }
+    {
+        let live = load_row::<W>(region);
         let mut all = NextSet::empty();
         for number in 0..NEXT_COUNT {
-            all = all.union(self.accepted_before(live, prev, next_of(number)));
+            all = all.union(self.accepted_before::<W>(&live, prev, next_of(number)));
         }
         all
     }
 
     /// That, if it may come next where one of those positions accepts.
-    fn accepted_before(&self, live: &[u64], prev: Prev, next: Next) -> NextSet
-        requires { length live.now ≡ 8 }
+    #[inline(always)]
+    fn accepted_before<const W: usize>(&self, live: &[u64], prev: Prev, next: Next) -> NextSet
+        requires fits { RowsFit self.now.reach.width W }
+        requires len { length live.now ≡ W }
         ensures sound { (other : Next) →
             has_next result other ≡ true →
             AcceptsIn (moves_of_tables self.now) (has_word_bit live.now) (between prev other) }
         ensures whole { AcceptsIn (moves_of_tables self.now) (has_word_bit live.now) (between prev next) →
             has_next result next ≡ true }
     {
-        if are_apart(live, self.accepts.row(number_of(prev, next))) {
+        if are_apart(live, self.accepts.row_in::<W>(number_of(prev, next))) {
             NextSet::empty()
         } else {
             NextSet::of(next)

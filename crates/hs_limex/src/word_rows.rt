@@ -2,8 +2,14 @@
 
 ghost use Rattle.std.specs.Prelude.{◌≡◌, ℕ, ◌+◌, ◌*◌, ◌<◌, ◌≤◌, false, ◌&&◌, ◌||◌, ◌==◌, IfOk, length, vec_len};
 
+use hs_base::MAX_POSITIONS;
 use hs_bits::{WORD_BITS, insert_word_bit};
 use std::alloc::{AllocError, Global};
+
+/// The words that hold a bit for each of the most positions.
+pub(crate) const MAX_WIDTH: usize = MAX_POSITIONS as usize / WORD_BITS;
+/// Up to so many words a program for rows of that width is for no narrower ones.
+const EXACT_WIDTH: usize = 3;
 
 /// Rows of bits, each so many words wide.
 #[derive(Debug, Drop)]
@@ -21,7 +27,7 @@ pub(crate) struct WordRows {
 
 impl WordRows {
     ghost use Rattle.hs_base.specs.Bits.{has_word_bit};
-    ghost use Rattle.hs_limex.specs.WordTables.{in_table};
+    ghost use Rattle.hs_limex.specs.WordTables.{RowsFit, in_table};
 
     /// So many rows with no bit set.
     pub(crate) fn new(alloc: Global, count: usize, width: usize) -> Result<WordRows, AllocError>
@@ -64,13 +70,34 @@ impl WordRows {
         }
     }
 
-    /// The row of that number.
-    pub(crate) fn row(&self, number: usize) -> &[u64]
-        requires { number < self.now.count }
+    /// How many words a row has.
+    #[inline(always)]
+    pub(crate) fn width(&self) -> usize
+        ensures width { result ≡ self.now.width }
+        ensures few { result ≤ 8 }
+    {
+        self.width
+    }
+
+    /// The same, which a program for rows of that width knows.
+    #[inline(always)]
+    fn width_in<const W: usize>(&self) -> usize
+        requires { RowsFit self.now.width W }
+        ensures { result ≡ self.now.width }
+    {
+        if W <= EXACT_WIDTH { W } else { self.width }
+    }
+
+    /// The row of that number, in a program for rows of that width.
+    #[inline(always)]
+    pub(crate) fn row_in<const W: usize>(&self, number: usize) -> &[u64]
+        requires fits { RowsFit self.now.width W }
+        requires number { number < self.now.count }
         ensures len { length result.now ≡ self.now.width }
         ensures bits { (k : ℕ) → has_word_bit result.now k ≡ in_table self.now number k }
     {
-        let start = self.width * number;
-        &self.words[start..start + self.width]
+        let width = self.width_in::<W>();
+        let start = width * number;
+        &self.words[start..start + width]
     }
 }

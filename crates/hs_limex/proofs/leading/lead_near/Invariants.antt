@@ -5,7 +5,7 @@ use Rattle.hs_limex.specs.Leading.{near_leads}
 use Rattle.hs_limex.proofs.leading.lead_near.Given as goal
 
 abbrev pub invariant-loop-distance : goal.invariant-loop-distance
-invariant-loop-distance l = record {
+invariant-loop-distance g l = record {
   len : length l.led ≡ length l.initial.led;
   bits : (k : ℕ) → has_word_bit l.led k ≡ (any_below l.distance (near_leads l.near l.live l.number k) || has_word_bit l.initial.led k);
 }

@@ -8,7 +8,7 @@ use Rattle.hs_limex.specs.TableMoves.{moves_of_tables}
 use Rattle.hs_limex.proofs.tables.Tables.accepted_among.Given as goal
 
 abbrev pub invariant-loop-number : goal.invariant-loop-number
-invariant-loop-number l = record {
+invariant-loop-number g l = record {
   sound : (next : Next) → has_next l.all next ≡ true → AcceptsIn (moves_of_tables l.self) (has_word_bit l.live) (record { prev = l.prev; next = next });
   whole : (next : Next) → next_number next < l.number → AcceptsIn (moves_of_tables l.self) (has_word_bit l.live) (record { prev = l.prev; next = next }) → has_next l.all next ≡ true;
 }
