@@ -1,5 +1,6 @@
 -- The positions that live ones lead to.
-use Rattle.std.proofs.Common.{◌≡◌, ℕ, ◌+◌, ◌-◌, ◌*◌, ◌/◌, ◌%◌, ◌<◌, Bool, true, false, ◌&&◌, ◌||◌, List, get_or, eqb, bit_and, refl, sym, ap, ◌∙◌, ◌⊎◌, inl, inr, arith}
+use Rattle.std.proofs.Common.{◌≡◌, ℕ, ◌+◌, ◌-◌, ◌*◌, ◌/◌, ◌%◌, ◌<◌, ◌≤◌, Bool, true, false, ◌&&◌, ◌||◌, List, get_or, eqb, bit_and, refl, sym, ap, ◌∙◌, ◌⊎◌, inl, inr, arith}
+use Rattle.std.specs.Prelude.{nat_lt, nat_le}
 use Rattle.std.specs.Int.{bit_at}
 use Rattle.std.proofs.lemmas.Bool.{cases_eq, cases_lt}
 use Rattle.hs_base.proofs.ContextLemmas.{first_of_both, second_of_both, of_both, of_either, left_of_either, right_of_either}
@@ -7,7 +8,10 @@ use Rattle.hs_base.proofs.ContextSetLemmas.{bit-and}
 use Rattle.hs_base.specs.Bits.{has_word_bit}
 use Rattle.hs_bits.specs.LowestBits.{IsLowestBit, AreBitsBehind}
 use Rattle.hs_engine.specs.AnyBelow.{any_below}
+use Rattle.hs_limex.specs.Leading.{near_leads}
 use Rattle.hs_limex.specs.SingleWords.{is_set}
+use Rattle.hs_limex.specs.WordTables.{in_table}
+use Rattle.hs_limex.specs.declared.word_rows.WordRows.{WordRows}
 use Rattle.hs_limex.proofs.PlainLemmas.{not-true, same-truth, some-any, true-false}
 use Rattle.hs_limex.proofs.SingleLemmas.{left-stays, no-bit}
 use Rattle.hs_limex.proofs.StepLemmas.{any-some_below}
@@ -93,3 +97,24 @@ leads-all test place old now first leads known = same-truth now (any_below (64 *
           ]
       | inr set ↦ leads.kept (known ∙ right_of_either (any_below (64 * place) test) first set)
     ]
+
+-- over a distance that isn't used nothing leads on
+pub near-used : (near : WordRows) (live : List ℕ) (span count number k : ℕ) → number < 24 → span ≤ count → count ≤ 8 → ((n i : ℕ) → n < 192 → in_table near n i ≡ true → n % 8 < span) →
+    any_below count (near_leads near live number k) ≡ any_below span (near_leads near live number k)
+near-used near live span count number k few least most used = same-truth (any_below count test) (any_below span test) there back
+  where
+    test : ℕ → Bool
+    test = near_leads near live number k
+
+    there : any_below count test ≡ true → any_below span test ≡ true
+    there some =
+        let (d, below, leads) = any-some_below count test some in
+        let bit : Bool = in_table near (8 * number + d) (k - d) in
+        let both : Bool = has_word_bit live (k - d) && bit in
+        let inside = second_of_both (nat_lt k (64 * near.width)) (nat_le d k && both) leads in
+        let set : bit ≡ true = second_of_both (has_word_bit live (k - d)) bit (second_of_both (nat_le d k) both inside) in
+        let place : (8 * number + d) % 8 ≡ d = omega arith in
+        some-any span test d (omega (arith, place, used (8 * number + d) (k - d) (omega arith) set)) leads
+
+    back : any_below span test ≡ true → any_below count test ≡ true
+    back some = let (d, below, leads) = any-some_below span test some in some-any count test d (omega arith) leads

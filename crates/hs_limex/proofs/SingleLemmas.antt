@@ -5,7 +5,7 @@ use Rattle.std.specs.Int.{bit_at, from_le_bytes, to_le_bytes}
 use Rattle.std.specs.Int.Count.{count_trailing_zeros}
 use Rattle.std.proofs.lemmas.Bool.{cases_lt, cases_eq, eq-eqb, ne_eqb, eqb-true, eqb-false, lt-ltb, le-ltb, le-leb, lt-leb, leb-true}
 use Rattle.std.proofs.lemmas.Nat.{from_le_bytes-to_le_bytes_8, shr-shr}
-use Rattle.std.proofs.lemmas.List.{get_or-set_same, length-set, take_all}
+use Rattle.std.proofs.lemmas.List.{get_or-set_other, get_or-set_same, take_all}
 use Rattle.std.proofs.lemmas.Nat.Bits.{bit_at-lt, bit_at-zero, bit_at_above, bit_at_set_same, bit_at_set_other, same_from_bits, same_from_bits_below}
 use Rattle.hs_base.specs.Bits.{AreZero, has_bit, has_word_bit}
 use Rattle.hs_base.proofs.BitLemmas.{bits-past, zero-bits}
@@ -14,7 +14,7 @@ use Rattle.hs_base.proofs.ContextLemmas.{first_of_both, second_of_both, of_both,
 use Rattle.hs_base.proofs.ContextSetLemmas.{bit-all, bit-and}
 use Rattle.hs_bits.specs.LowestBits.{IsLowestBit, AreBitsBehind}
 use Rattle.hs_bits.proofs.LowestLemmas.{lowest-is}
-use Rattle.hs_bits.proofs.WordLemmas.{and-none, and-true, eight-bits, eight-taken, eight_at, byte-more, bytes-all, or-none, or-turned, shl-bit}
+use Rattle.hs_bits.proofs.WordLemmas.{and-none, and-true, eight-bits, eight-taken, eight_at, or-turned, shl-bit}
 use Rattle.hs_limex.proofs.PlainLemmas.{not-true, true-false}
 use Rattle.hs_limex.specs.SingleWords.{IsLedBut, IsNearLed, IsOn, is_moved_on, is_set}
 
@@ -184,13 +184,41 @@ with-byte bytes word place k fits small =
           | inr apart ↦ rw (ne_eqb p place apart) refl
         ]
 
+-- one byte more of those whose bits a word has
+pub bytes-more : (bytes : List ℕ) (before now k place : ℕ) (known : Bool) → is_set before k ≡ (known && has_bit bytes k) → is_set now k ≡ ((eqb (k / 8) place && has_bit bytes k) || is_set before k) →
+    is_set now k ≡ ((eqb (k / 8) place || known) && has_bit bytes k)
+bytes-more bytes before now k place known was is = is ∙ (ap (λ b. (eqb (k / 8) place && has_bit bytes k) || b) was ∙ joined (eqb (k / 8) place) known (has_bit bytes k))
+  where
+    joined : (new old bit : Bool) → ((new && bit) || (old && bit)) ≡ ((new || old) && bit)
+    joined true old true = refl
+    joined true old false = and-none old
+    joined false old bit = refl
+
+-- all bytes
+pub bytes-known : (bytes : List ℕ) (now k : ℕ) (known : Bool) → is_set now k ≡ (known && has_bit bytes k) → (k < 8 * length bytes → known ≡ true) → is_set now k ≡ has_bit bytes k
+bytes-known bytes now k known is every =
+    is
+    ∙ elim (cases_lt k (8 * length bytes)) [
+      | inl below ↦ ap (λ b. b && has_bit bytes k) (every below)
+      | inr past ↦ ap (λ b. known && b) (bits-past bytes k past) ∙ (and-none known ∙ sym (bits-past bytes k past))
+    ]
+
+-- it is this one, or one of the rest
+pub this-or : (p place : ℕ) (rest : Bool) → (p ≢ place → rest ≡ true) → (eqb p place || rest) ≡ true
+this-or p place rest other =
+    elim (cases_eq p place) [
+      | inl same ↦ left_of_either (eqb p place) rest (eq-eqb p place same)
+      | inr apart ↦ right_of_either (eqb p place) rest (other apart)
+    ]
+
 -- the one byte
 pub one-byte : (bytes : List ℕ) (now k : ℕ) → length bytes ≡ 1 → is_set now k ≡ ((eqb (k / 8) 0 && has_bit bytes k) || is_set 0 k) → is_set now k ≡ has_bit bytes k
 one-byte bytes now k one is =
-    let none : is_set 0 k ≡ ((nat_lt k (8 * 0) && has_bit bytes k) || false) = no-bit k ∙ sym (ap (λ b. (b && has_bit bytes k) || false) (le-ltb k (8 * 0) (omega arith))) in
-    let whole : 8 * (0 + 1) ≡ 8 * length bytes = omega arith in
-    byte-more bytes 0 k (is_set 0 k) (is_set now k) false none is
-    ∙ (or-none (nat_lt k (8 * (0 + 1)) && has_bit bytes k) ∙ (ap (λ n. nat_lt k n && has_bit bytes k) whole ∙ bytes-all bytes k))
+    bytes-known bytes now k (eqb (k / 8) 0 || false) (bytes-more bytes 0 now k 0 false (no-bit k) is) (λ below. this-or (k / 8) 0 false (λ a. absurd (omega arith)))
+
+-- no byte
+pub no-byte : (bytes : List ℕ) (k : ℕ) → length bytes ≡ 0 → is_set 0 k ≡ has_bit bytes k
+no-byte bytes k none = no-bit k ∙ sym (bits-past bytes k (omega arith))
 
 -- the row of a word from a bit on
 pub row-bit : (word start all size k : ℕ) → is_set all k ≡ nat_lt k size → is_set (bit_and (word / 2 ^ start) all) k ≡ (nat_lt k size && is_set word (start + k))
@@ -238,21 +266,36 @@ eight-stored bytes word count k fits are counted len each =
       | inr past ↦ bits-past bytes k (omega arith) ∙ sym (ap (λ b. b && is_set word k) (le-ltb k (8 * count) (omega arith)))
     ]
 
--- the one byte that is the low one of the word has its bits
-pub one-stored : (bytes : List ℕ) (word k : ℕ) → length bytes ≡ 1 → has_bit (set bytes 0 (bit_and word 255)) k ≡ (nat_lt k (8 * length bytes) && is_set word k)
+-- a byte that is made that of the word
+pub put-here : (bytes : List ℕ) (word place k : ℕ) → place < length bytes → k / 8 ≡ place → has_bit (set bytes place (bit_and (word / 2 ^ (8 * place)) 255)) k ≡ is_set word k
 unfolding has_bit
-one-stored bytes word k len =
-    let within : 0 < length bytes = omega arith in
-    elim (cases_lt k 8) [
-      | inl below ↦
-          let inside : k < 8 * length bytes = omega arith in
-          let byte : k / 8 ≡ 0 = omega arith in
-          let bit : k % 8 ≡ k = omega arith in
-          ap (λ n. eqb (bit_at (get_or (set bytes 0 (bit_and word 255)) n 0) (k % 8)) 1) byte
-          ∙ (ap (λ n. eqb (bit_at n (k % 8)) 1) (get_or-set_same bytes 0 (bit_and word 255) 0 within)
-          ∙ (ap (is_set (bit_and word 255)) bit
-          ∙ (bit-and word 255 k ∙ (ap (λ b. is_set word k && b) (bit-all 8 k below) ∙ (and-true (is_set word k) ∙ sym (ap (λ b. b && is_set word k) (lt-ltb k (8 * length bytes) inside)))))))
-      | inr past ↦
-          bits-past (set bytes 0 (bit_and word 255)) k (omega (arith, length-set bytes 0 (bit_and word 255)))
-          ∙ sym (ap (λ b. b && is_set word k) (le-ltb k (8 * length bytes) (omega arith)))
+put-here bytes word place k within here =
+    let moved : ℕ = word / 2 ^ (8 * place) in
+    let byte : ℕ = bit_and moved 255 in
+    let at : 8 * place + k % 8 ≡ k = omega arith in
+    ap (λ n. eqb (bit_at (get_or (set bytes place byte) n 0) (k % 8)) 1) here
+    ∙ (ap (λ n. eqb (bit_at n (k % 8)) 1) (get_or-set_same bytes place byte 0 within)
+    ∙ (bit-and moved 255 (k % 8)
+    ∙ (ap (λ b. is_set moved (k % 8) && b) (bit-all 8 (k % 8) (omega arith))
+    ∙ (and-true (is_set moved (k % 8)) ∙ (ap (λ m. eqb (m % 2) 1) (shr-shr word (8 * place) (k % 8)) ∙ ap (is_set word) at)))))
+
+-- the bytes beside it stay
+put-beside : (bytes : List ℕ) (place byte k : ℕ) → k / 8 ≢ place → has_bit (set bytes place byte) k ≡ has_bit bytes k
+unfolding has_bit
+put-beside bytes place byte k apart = ap (λ n. eqb (bit_at n (k % 8)) 1) (get_or-set_other bytes place (k / 8) byte 0 apart)
+
+-- what is the word's already stays so
+pub put-kept : (bytes : List ℕ) (word place k : ℕ) → place < length bytes → has_bit bytes k ≡ is_set word k → has_bit (set bytes place (bit_and (word / 2 ^ (8 * place)) 255)) k ≡ is_set word k
+put-kept bytes word place k within was =
+    elim (cases_eq (k / 8) place) [
+      | inl here ↦ put-here bytes word place k within here
+      | inr apart ↦ put-beside bytes place (bit_and (word / 2 ^ (8 * place)) 255) k apart ∙ was
+    ]
+
+-- bytes that are all the word's
+pub bytes-stored : (bytes : List ℕ) (word count k : ℕ) → length bytes ≡ count → (k < 8 * count → has_bit bytes k ≡ is_set word k) → has_bit bytes k ≡ (nat_lt k (8 * count) && is_set word k)
+bytes-stored bytes word count k len every =
+    elim (cases_lt k (8 * count)) [
+      | inl below ↦ every below ∙ sym (ap (λ b. b && is_set word k) (lt-ltb k (8 * count) below))
+      | inr past ↦ bits-past bytes k (omega arith) ∙ sym (ap (λ b. b && is_set word k) (le-ltb k (8 * count) past))
     ]

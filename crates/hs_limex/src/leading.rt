@@ -9,7 +9,7 @@ ghost use Rattle.hs_limex.specs.Leading.{far_leads, near_leads};
 
 use crate::far_filling::DISTANCE_COUNT;
 use crate::region_words::unite_region;
-use crate::word_rows::{MAX_WIDTH, WordRows};
+use crate::word_rows::{EXACT_WIDTH, MAX_WIDTH, WordRows};
 use hs_base::{Next, Prev};
 use hs_bits::{WORD_BITS, are_apart, lowest_bit, shift_in, without_lowest_bit};
 use hs_engine::FollowRows;
@@ -51,6 +51,7 @@ pub(crate) fn lead_near<const W: usize>(
     requires fits { RowsFit near.now.width W }
     requires near { near.now.count ≡ 192 }
     requires span { span ≤ 8 }
+    requires used { (n k : ℕ) → n < 192 → in_table near.now n k ≡ true → n % 8 < span }
     requires number { number < 24 }
     requires live { near.now.width ≤ length live.now }
     requires led { near.now.width ≤ length led.old }
@@ -58,9 +59,24 @@ pub(crate) fn lead_near<const W: usize>(
     ensures bits { (k : ℕ) →
         has_word_bit led.new k ≡ (any_below span (near_leads near.now live.now number k) || has_word_bit led.old k) }
 {
-    for distance in 0..span {
+    for distance in 0..distances_in::<W>(span) {
         let row = near.row_in::<W>(DISTANCE_COUNT * number + distance);
         shift_in(live, row, distance, led);
+    }
+}
+
+/// How many distances are looked at: in a program for rows of few words all that there are, so that each shift is one by
+/// a number that it knows.
+#[inline(always)]
+fn distances_in<const W: usize>(span: usize) -> usize
+    requires { span ≤ 8 }
+    ensures least { span ≤ result }
+    ensures most { result ≤ 8 }
+{
+    if W <= EXACT_WIDTH {
+        DISTANCE_COUNT
+    } else {
+        span
     }
 }
 

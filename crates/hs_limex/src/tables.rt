@@ -206,7 +206,14 @@ impl Tables {
     {
         let number = number_of(prev, next);
         lead_near::<W>(&self.near, self.span, number, live, led);
-        lead_far(&self.follows, live, self.far.row_in::<W>(0), prev, next, led);
+        lead_far(
+            &self.follows,
+            live,
+            self.far.row_in::<W>(0),
+            prev,
+            next,
+            led,
+        );
         self.enter::<W>(number, entering, led);
     }
 

@@ -2,11 +2,8 @@ use Rattle.std.proofs.Common.{◌≡◌, ◌+◌, ◌*◌, sym, ap, ◌∙◌, i
 use Rattle.std.proofs.lemmas.Bool.{cases_lt}
 use Rattle.hs_base.specs.Bits.{has_bit}
 use Rattle.hs_base.proofs.BitLemmas.{bits-past}
-use Rattle.hs_limex.proofs.SingleLemmas.{one-byte, past-word}
+use Rattle.hs_limex.proofs.SingleLemmas.{past-word}
 use Rattle.hs_limex.proofs.single.load.Goals as goal
-
-pub returns-in-1 : goal.returns-in-1
-returns-in-1 c k = one-byte c.args.bytes.now c.with_byte.result k c.in-1.is (c.with_byte.ensures k)
 
 pub returns-in-8 : goal.returns-in-8
 returns-in-8 c k =
