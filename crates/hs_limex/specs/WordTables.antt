@@ -9,9 +9,9 @@ in_table rows n k =
     nat_lt n rows.count
     && (nat_lt k (64 * rows.width) && has_word_bit rows.words.items (64 * (rows.width * n) + k))
 
--- Rows of so many words stand in arrays of so many: there is room, and where an array has three words or fewer a row
+-- Rows of so many words stand in arrays of so many: there is room, and where an array has four words or fewer a row
 -- has as many.
 pub record RowsFit (width words : ℕ) : Type 0 where
   pub room : width ≤ words
   pub few : words ≤ 8
-  pub exact : words ≤ 3 → width ≡ words
+  pub exact : words ≤ 4 → width ≡ words

@@ -65,8 +65,8 @@ pub(crate) fn lead_near<const W: usize>(
     }
 }
 
-/// How many distances are looked at: in a program for rows of few words all that there are, so that each shift is one by
-/// a number that it knows.
+/// How many distances are looked at. In a program for rows of few words it is all that there are: it then knows by how
+/// much each shift is.
 #[inline(always)]
 fn distances_in<const W: usize>(span: usize) -> usize
     requires { span ≤ 8 }

@@ -50,7 +50,23 @@ pub(crate) fn store_row<const W: usize>(row: &[u64], bytes: &mut [u8])
     if W == 1 {
         store_word(row[0], bytes);
     } else {
-        store(row, bytes);
+        store_wide(row, bytes);
+    }
+}
+
+/// The same for a row of any width: whole words, and then what is left of one.
+#[inline(always)]
+fn store_wide(row: &[u64], bytes: &mut [u8])
+    requires { length bytes.old ≤ 8 * length row.now }
+    ensures len { length bytes.new ≡ length bytes.old }
+    ensures bits { (k : ℕ) → has_bit bytes.new k ≡ (nat_lt k (8 * length bytes.old) && has_word_bit row.now k) }
+{
+    let count = bytes.len() / WORD_BYTES;
+    let whole = WORD_BYTES * count;
+    store(row, &mut bytes[0..whole]);
+    if whole < bytes.len() {
+        let end = bytes.len();
+        store_word(row[count], &mut bytes[whole..end]);
     }
 }
 

@@ -147,6 +147,7 @@ impl Tables {
             1 => self.move_row::<1>(region, prev, next, entering, byte),
             2 => self.move_row::<2>(region, prev, next, entering, byte),
             3 => self.move_row::<3>(region, prev, next, entering, byte),
+            4 => self.move_row::<4>(region, prev, next, entering, byte),
             _ => self.move_row::<MAX_WIDTH>(region, prev, next, entering, byte),
         }
     }
@@ -247,6 +248,7 @@ impl Tables {
             1 => self.accepted_row::<1>(region, prev),
             2 => self.accepted_row::<2>(region, prev),
             3 => self.accepted_row::<3>(region, prev),
+            4 => self.accepted_row::<4>(region, prev),
             _ => self.accepted_row::<MAX_WIDTH>(region, prev),
         }
     }

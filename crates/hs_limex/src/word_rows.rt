@@ -9,7 +9,7 @@ use std::alloc::{AllocError, Global};
 /// The words that hold a bit for each of the most positions.
 pub(crate) const MAX_WIDTH: usize = MAX_POSITIONS as usize / WORD_BITS;
 /// Up to so many words a program for rows of that width is for no narrower ones.
-pub(crate) const EXACT_WIDTH: usize = 3;
+pub(crate) const EXACT_WIDTH: usize = 4;
 
 /// Rows of bits, each so many words wide.
 #[derive(Debug, Drop)]

@@ -1,4 +1,4 @@
-use Rattle.std.proofs.Common.{◌*◌, ◌∙◌, length, refl, arith}
+use Rattle.std.proofs.Common.{◌∙◌, length, refl, arith}
 use Rattle.hs_limex.proofs.SingleLemmas.{bytes-stored, eight-stored}
 use Rattle.hs_limex.proofs.single.store_word.Goals as goal
 
