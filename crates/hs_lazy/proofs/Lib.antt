@@ -11,3 +11,4 @@ pub mod ToldLemmas
 pub mod PutLemmas
 pub mod ShedLemmas
 pub mod TraceLemmas
+pub mod IdleLemmas

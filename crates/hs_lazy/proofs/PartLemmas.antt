@@ -47,7 +47,7 @@ size-put image bytes m order within long = omega (
 )
 
 -- a range of a list that is zero
-size-range : (xs : List ℕ) (a b i : ℕ) → i < length (slice_range xs a b) → i < b - a
+pub size-range : (xs : List ℕ) (a b i : ℕ) → i < length (slice_range xs a b) → i < b - a
 size-range xs a b i low = omega (arith, low, length-take (b - a) (drop a xs))
 
 pub zero-range : (xs : List ℕ) (a b : ℕ) → AreZero xs → AreZero (slice_range xs a b)
@@ -57,9 +57,9 @@ pub same-range : (xs ys : List ℕ) (a b : ℕ) → length xs ≡ length ys → 
 same-range xs ys a b same = omega (arith, same, length-take (b - a) (drop a xs), length-take (b - a) (drop a ys), length-drop a xs, length-drop a ys)
 
 -- the regions of a member in two images in which it has nothing live
-pub same-parts : (image other : List ℕ) (m : Member) → length image ≡ length other → AreZero image → AreZero (part other m) → part image m ≡ part other m
+pub same-parts : (image other : List ℕ) (m : Member) → length image ≡ length other → AreZero (part image m) → AreZero (part other m) → part image m ≡ part other m
 same-parts image other m long none none' =
-    same-zero (part image m) (part other m) (same-range image other m.start m.end long) (zero-range image m.start m.end none) none'
+    same-zero (part image m) (part other m) (same-range image other m.start m.end long) none none'
 
 -- two members lie one before the other
 pub beside : (members : List Member) (j k : ℕ) (a b : Member) → AreMembersApart members → slice_get members j ≡ Some a → slice_get members k ≡ Some b →

@@ -1,8 +1,7 @@
 -- Members that take a byte, one after the other.
-use Rattle.std.proofs.Common.{◌≡◌, ◌||◌, refl, ℕ, ◌+◌, ◌-◌, ◌<◌, ◌≤◌, inl, inr, Bool, true, false, List, [], ◌∷◌, ◌++◌, length, replicate, Option, None, Some, slice_get, sym, ap, subst, ◌∙◌, arith, length-append}
+use Rattle.std.proofs.Common.{◌≡◌, ◌||◌, refl, ℕ, ◌+◌, ◌-◌, ◌<◌, ◌≤◌, inl, inr, Bool, true, false, List, [], ◌∷◌, ◌++◌, length, Option, None, Some, slice_get, sym, ap, subst, ◌∙◌, arith, length-append}
 use Rattle.std.specs.Prelude.{if◌then◌else◌, IfSome}
 use Rattle.std.proofs.lemmas.Bool.{cases_eq, cases_lt}
-use Rattle.std.proofs.lemmas.List.{get_or-replicate, length-replicate}
 use Rattle.std.proofs.lemmas.Option.{slice_get_within}
 use Rattle.hs_base.specs.declared.context.Prev.{Prev}
 use Rattle.hs_base.specs.Bits.{AreZero, has_word_bit}
@@ -14,7 +13,7 @@ use Rattle.hs_lazy.specs.declared.parts.Member.{Member}
 use Rattle.hs_lazy.specs.declared.parts.State.{State}
 use Rattle.hs_lazy.specs.declared.parts.EndSet.{EndSet}
 use Rattle.hs_lazy.specs.Images.{IsSameSets}
-use Rattle.hs_lazy.specs.Parts.{AreMembersApart, AreLeading, AreLive, IsBeside, IsState, IsStepMade, IsStepTo, IsStateWhole, before_of, behind_of, ends_of, entry, next_of, part, set_of}
+use Rattle.hs_lazy.specs.Parts.{AreMembersApart, AreLeading, AreLive, IsBeside, IsIdleState, IsState, IsStepMade, IsStepTo, IsStateWhole, before_of, behind_of, ends_of, entry, next_of, part, set_of}
 use Rattle.hs_lazy.specs.Runs.{AreZerosBlank, IsBlankRegion, TakesEntered}
 use Rattle.hs_lazy.specs.Sound.{AreMembersOf, HaveTaken, IsDfaSound, IsIdleStep, IsStep, TakeEntered}
 use Rattle.hs_lazy.proofs.PartLemmas.{beside, beside-back, same-parts, size-part}
@@ -111,7 +110,7 @@ module _ {E : Type 0} (meaning : E → Meaning) (engines : List E) (members : Li
       HaveTaken meaning engines members old image byte old.live ends
   others-idle states sets step image ends idle whole image-is same k m e is there kept unasked =
       let it : IsStep meaning engines members states sets idle.idle byte step = idle.is in
-      let parts : part idle.idle.image m ≡ part old.image m = same-parts idle.idle.image old.image m (idle.long ∙ sym whole.image_len) idle.zero (whole.live k m is unasked) in
+      let parts : part idle.idle.image m ≡ part old.image m = same-parts idle.idle.image old.image m (idle.long ∙ sym whole.image_len) (idle.zero k m is) (whole.live k m is unasked) in
       let told : ByteEnds = record { before = before_of (set_of sets (ends_of step)) k; behind = behind_of (set_of sets (ends_of step)) k } in
       takes-ends (meaning e) (part old.image m) (part image m) old.prev byte told (has_word_bit ends.before k) (has_word_bit ends.behind k) (sym (same.before k)) (sym (same.behind k))
       (subst (λ i. TakesEntered (meaning e) (part old.image m) (part i m) old.prev byte told) (sym (image-is it.next it.next_is))
@@ -135,26 +134,24 @@ module _ {E : Type 0} (meaning : E → Meaning) (engines : List E) (members : Li
   }
 
 -- the step by a byte of a state in which nothing is live
-pub idle-step : {E : Type 0} (meaning : E → Meaning) (engines : List E) (members : List Member) (states : List State) (rows : List ℕ) (ends : List EndSet) (s : ℕ) (image : List ℕ) (prev : Prev) (byte step : ℕ) →
-    IsDfaSound meaning engines members states rows ends → IsState states s image prev → image ≡ replicate 512 0 → byte < 256 →
+pub idle-step : {E : Type 0} (meaning : E → Meaning) (engines : List E) (members : List Member) (states : List State) (rows : List ℕ) (ends : List EndSet) (s : ℕ) (prev : Prev) (byte step : ℕ) →
+    IsDfaSound meaning engines members states rows ends → IsIdleState members states s prev → byte < 256 →
     step ≡ entry rows s byte → (step ≡ 0 → ⊥) → IsIdleStep meaning engines members states ends prev byte step
-idle-step meaning engines members states rows ends s image prev byte step sound state zeros small is known =
-    let all : state.state.image ≡ replicate 512 0 = state.image_is ∙ zeros in
-    record {
-      idle = state.state;
-      zero = subst AreZero (sym all) (λ i low. get_or-replicate 512 i 0 0 (omega (arith, low, length-replicate {A = ℕ} 512 0)));
-      long = ap length all ∙ length-replicate {A = ℕ} 512 0;
-      prev_is = state.prev_is;
-      is = subst (IsStep meaning engines members states ends state.state byte) (sym is) (sound.steps s byte state.state state.is small (λ none. known (is ∙ none)));
-    }
+idle-step meaning engines members states rows ends s prev byte step sound state small is known = record {
+  idle = state.state;
+  zero = state.zero;
+  long = state.whole.image_len;
+  prev_is = state.prev_is;
+  is = subst (IsStep meaning engines members states ends state.state byte) (sym is) (sound.steps s byte state.state state.is small (λ none. known (is ∙ none)));
+}
 
 -- the same of a step that may have been made
-pub idle-made : {E : Type 0} (meaning : E → Meaning) (engines : List E) (members : List Member) (states : List State) (rows : List ℕ) (ends : List EndSet) (s : ℕ) (image : List ℕ) (prev : Prev) (byte : ℕ) (step : Option ℕ) →
-    IsDfaSound meaning engines members states rows ends → IsState states s image prev → image ≡ replicate 512 0 → byte < 256 →
+pub idle-made : {E : Type 0} (meaning : E → Meaning) (engines : List E) (members : List Member) (states : List State) (rows : List ℕ) (ends : List EndSet) (s : ℕ) (prev : Prev) (byte : ℕ) (step : Option ℕ) →
+    IsDfaSound meaning engines members states rows ends → IsIdleState members states s prev → byte < 256 →
     IfSome step (IsStepMade rows s byte) → IfSome step (IsIdleStep meaning engines members states ends prev byte)
-idle-made meaning engines members states rows ends s image prev byte None sound state zeros small made = made
-idle-made meaning engines members states rows ends s image prev byte (Some step) sound state zeros small made =
-    idle-step meaning engines members states rows ends s image prev byte step sound state zeros small made.is made.known
+idle-made meaning engines members states rows ends s prev byte None sound state small made = made
+idle-made meaning engines members states rows ends s prev byte (Some step) sound state small made =
+    idle-step meaning engines members states rows ends s prev byte step sound state small made.is made.known
 
 -- states where one may have been put behind
 pub live-pushed : (members : List Member) (old new : List State) (st : State) (b : Bool) → new ≡ (if b then old ++ st ∷ [] else old) →

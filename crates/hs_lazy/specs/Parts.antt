@@ -32,6 +32,24 @@ pub record IsStateWhole (members : List Member) (st : State) : Type 0 where
 abbrev pub AreLive : (members : List Member) (states : List State) → Type 0
 AreLive members states = (s : ℕ) (st : State) → slice_get states s ≡ Some st → IsStateWhole members st
 
+-- each byte of a member's region is told to be that member's
+abbrev pub AreOwned : (members : List Member) (owners : List ℕ) → Type 0
+AreOwned members owners =
+    (k i : ℕ) (m : Member) → slice_get members k ≡ Some m → m.start ≤ i → i < m.end → slice_index owners i ≡ k
+
+-- Of the first so many bytes each whose owner has no bit is 0.
+abbrev pub AreOwnersLive : (owners image live : List ℕ) (count : ℕ) → Type 0
+AreOwnersLive owners image live count =
+    (i : ℕ) → i < count → has_word_bit live (slice_index owners i) ≡ false → slice_index image i ≡ 0
+
+-- the state of that number has nothing live in any member, and that stands before the next byte
+pub record IsIdleState (members : List Member) (states : List State) (s : ℕ) (prev : Prev) : Type 0 where
+  pub state : State
+  pub is : slice_get states s ≡ Some state
+  pub whole : IsStateWhole members state
+  pub zero : (k : ℕ) (m : Member) → slice_get members k ≡ Some m → AreZero (part state.image m)
+  pub prev_is : state.prev ≡ prev
+
 -- Each set of ends has a bit for each member.
 pub record IsSetWhole (set : EndSet) : Type 0 where
   pub before_len : length set.before ≡ 4

@@ -51,11 +51,11 @@ pub record IsStep {E : Type 0} (meaning : E → Meaning) (engines : List E) (mem
   pub takes : TakeEntered meaning engines members old next.image byte (before_of (set_of ends (ends_of step)))
       (behind_of (set_of ends (ends_of step)))
 
--- The step by a byte where nothing is live and that stands before it.
+-- The step by a byte where nothing is live in any member and that stands before it.
 pub record IsIdleStep {E : Type 0} (meaning : E → Meaning) (engines : List E) (members : List Member)
     (states : List State) (ends : List EndSet) (prev : Prev) (byte step : ℕ) : Type 0 where
   pub idle : State
-  pub zero : AreZero idle.image
+  pub zero : (k : ℕ) (m : Member) → slice_get members k ≡ Some m → AreZero (part idle.image m)
   pub long : length idle.image ≡ 512
   pub prev_is : idle.prev ≡ prev
   pub is : IsStep meaning engines members states ends idle byte step

@@ -2,8 +2,8 @@
 
 ghost use Rattle.std.specs.Prelude.{◌≡◌, ◌+◌, ◌<◌, ◌≤◌, ℕ, true, IfSome, MatchOption};
 ghost use Rattle.std.specs.Prelude.{length, slice_index, vec_capacity};
-ghost use Rattle.hs_lazy.specs.Parts.{AreFewer, AreMembersApart, AreLeading, AreLive, AreUnknownFrom, IsLive};
-ghost use Rattle.hs_lazy.specs.Parts.{AreSetsWhole};
+ghost use Rattle.hs_lazy.specs.Parts.{AreFewer, AreMembersApart, AreLeading, AreLive, AreOwnersLive, AreUnknownFrom};
+ghost use Rattle.hs_lazy.specs.Parts.{AreOwned, AreSetsWhole};
 ghost use Rattle.hs_lazy.specs.Ends.{AreSilent, IsNextEnding};
 ghost use Rattle.hs_lazy.specs.Walks.{state_before};
 
@@ -12,7 +12,8 @@ use crate::end_table::EndTable;
 use crate::parts::{EndSet, IMAGE_BYTES, MEMBER_WORDS, Member, Run, State};
 use hs_base::{ByteSet, Prev};
 use hs_bits::{
-    clear_words, contains_word_bit, hash_of, is_unset, is_zero, unite_words, write_word_bit,
+    WORD_BYTES, clear_words, contains_word_bit, hash_of, is_unset, put_word_bit, unite_words,
+    word_at, write_word_bit,
 };
 use std::alloc::{AllocError, Global};
 
@@ -36,6 +37,9 @@ const GROUP_STEPS: usize = 16;
 
 /// How many slots there are by which states are found.
 const SLOT_COUNT: usize = 4 * MAX_STATES;
+
+/// How many idle states are kept: one for each of what may stand before a byte.
+const IDLE_STATES: usize = 4;
 
 /// How many slots are looked at for a state.
 const MAX_PROBES: usize = 8;
@@ -61,6 +65,11 @@ pub struct LazyDfa {
     pub is_full: bool,
     /// The members that too many of the last bytes left: they are given up before the next chunk.
     pub noisy: [u64; MEMBER_WORDS],
+    /// Of each byte of an image the member in whose region it lies.
+    pub owners: Vec<u8>,
+    /// By what stands before the next byte the number of a state in which nothing was live: it may not be there any
+    /// more.
+    pub idle: [usize; IDLE_STATES],
     ghost apart: { AreMembersApart members.items },
     ghost few: { length members.items ≤ 256 },
     ghost states_few: { length states.items ≤ 1024 },
@@ -75,13 +84,16 @@ pub struct LazyDfa {
     ghost ends_whole: { AreSetsWhole ends.items },
     ghost members_room: { 256 ≤ vec_capacity members },
     ghost noisy_len: { length noisy ≡ 4 },
+    ghost owners_len: { length owners.items ≡ 512 },
+    ghost idle_len: { length idle ≡ 4 },
+    ghost owned: { AreOwned members.items owners.items },
 }
 
 impl LazyDfa {
     ghost use Rattle.std.specs.Prelude.{◌≡◌, ◌+◌, ◌*◌, ◌<◌, ◌≤◌, ℕ, [], true, false, length};
     ghost use Rattle.std.specs.Prelude.{IfOk, IfSome, MatchOption, Some, None, slice_get, slice_index, slice_set};
     ghost use Rattle.hs_base.specs.Bits.{AreZero, has_word_bit};
-    ghost use Rattle.hs_lazy.specs.Parts.{AreStillThere, AreUnknownFrom, IsLive, IsState, IsStepTo};
+    ghost use Rattle.hs_lazy.specs.Parts.{AreStillThere, AreUnknownFrom, IsIdleState, IsState, IsStepTo};
     ghost use Rattle.hs_lazy.specs.Parts.{ends_of, entry, next_of, set_of};
     ghost use Rattle.hs_lazy.specs.Walks.{IsWalk, state_before};
     ghost use Rattle.hs_lazy.specs.declared.parts.Member.{Member};
@@ -104,6 +116,8 @@ impl LazyDfa {
             budget: Budget::FIRST,
             is_full: false,
             noisy: [0; MEMBER_WORDS],
+            owners: vec![in alloc; 0u8; IMAGE_BYTES]?,
+            idle: [0; IDLE_STATES],
         })
     }
 
@@ -183,14 +197,53 @@ impl LazyDfa {
         ensures states { AreStillThere self.old.states.items self.new.states.items }
         ensures found { IfSome result (λ s. IsState self.new.states.items s image.now prev) }
     {
-        let hash = hash_of(prev as u64, image);
+        let hash = hash_of(prev as u64, &image[..self.hashed_bytes()]);
         if let Some(number) = self.known(hash, image, prev) {
             return Some(number);
         }
         self.add_state(hash, image, prev)
     }
 
-    /// The same, where it may well be the state of that number.
+    /// How many bytes of an image its hash is of: whole words, behind which no member has its region.
+    fn hashed_bytes(&self) -> usize
+        ensures { result ≤ 512 }
+    {
+        let end = self.end() as usize;
+        (end + (WORD_BYTES - 1)) / WORD_BYTES * WORD_BYTES
+    }
+
+    /// The number of a state in which nothing is live, with what stands before the next byte; it may be a new one. None
+    /// where there is no room for it.
+    pub fn find_idle(&mut self, prev: Prev) -> Option<usize>
+        ensures members { self.new.members ≡ self.old.members }
+        ensures rows { self.new.rows ≡ self.old.rows }
+        ensures ends { self.new.ends ≡ self.old.ends }
+        ensures states { AreStillThere self.old.states.items self.new.states.items }
+        ensures found { IfSome result (λ s. IsIdleState self.new.members.items self.new.states.items s prev) }
+    {
+        let near = self.idle[prev as usize];
+        if self.is_idle_behind(near, prev) {
+            return Some(near);
+        }
+        let Some(number) = self.find(&[0; IMAGE_BYTES], prev) else {
+            return None;
+        };
+        self.idle[prev as usize] = number;
+        Some(number)
+    }
+
+    /// Whether the state of that number is there, nothing is live in it, and that stands before the next byte.
+    fn is_idle_behind(&self, number: usize, prev: Prev) -> bool
+        ensures { result ≡ true → IsIdleState self.now.members.items self.now.states.items number prev }
+    {
+        match self.states.get(number) {
+            Some(state) => state.prev == prev && is_unset(&state.live),
+            None => false,
+        }
+    }
+
+    /// The number of the state with that image and what stands before the next byte, which may well be the number that
+    /// is given, or a new one. None where there is no room for it.
     pub fn find_near(
         &mut self,
         number: usize,
@@ -253,7 +306,7 @@ impl LazyDfa {
         let Some(slot) = free_slot(&self.slots, hash) else {
             return None;
         };
-        let live = live_members(&self.members, image);
+        let live = live_members(&self.owners, image);
         self.slots[slot] = number as u16 + 1;
         self.states
             .push(State {
@@ -353,6 +406,12 @@ impl LazyDfa {
             return None;
         }
         self.forget();
+        write_owner(
+            &mut self.owners,
+            member as u8,
+            start as usize,
+            size as usize,
+        );
         self.members
             .push(Member {
                 number,
@@ -519,21 +578,46 @@ pub fn state_at(first: usize, trace: &[u32], place: usize) -> usize
     }
 }
 
-/// The members in whose regions something is live.
-fn live_members(members: &[Member], image: &[u8; IMAGE_BYTES]) -> [u64; MEMBER_WORDS]
-    requires apart { AreMembersApart members.now }
-    requires few { length members.now ≤ 256 }
-    ensures live { IsLive members.now image.now result }
+/// The members in whose regions something is live, where each byte's member is told.
+fn live_members(owners: &[u8], image: &[u8; IMAGE_BYTES]) -> [u64; MEMBER_WORDS]
+    requires owners_len { length owners.now ≡ 512 }
+    ensures live { AreOwnersLive owners.now image.now result 512 }
     ensures len { length result ≡ 4 }
     ensures image_len { length image.now ≡ 512 }
 {
     let mut live = [0; MEMBER_WORDS];
-    for k in 0..members.len() {
-        let member = members[k];
-        let is_asleep = is_zero(&image[member.start as usize..member.end as usize]);
-        write_word_bit(&mut live, k, !is_asleep);
+    for word in 0..IMAGE_BYTES / WORD_BYTES {
+        insert_owners(owners, image, WORD_BYTES * word, &mut live);
     }
     live
+}
+
+/// Takes in the members of those of eight bytes that aren't 0.
+#[inline(always)]
+fn insert_owners(owners: &[u8], image: &[u8], at: usize, live: &mut [u64])
+    requires within { at + 8 ≤ length image.now }
+    requires owners_len { length owners.now ≡ length image.now }
+    requires live_len { length live.old ≡ 4 }
+    requires live { AreOwnersLive owners.now image.now live.old at }
+    ensures len { length live.new ≡ 4 }
+    ensures live { AreOwnersLive owners.now image.now live.new (at + 8) }
+{
+    if word_at(image, at) == 0 {
+        return;
+    }
+    for place in at..at + WORD_BYTES {
+        put_word_bit(live, owners[place] as usize, image[place] != 0);
+    }
+}
+
+/// Has the bytes of a region be a member's.
+fn write_owner(owners: &mut [u8], member: u8, start: usize, size: usize)
+    requires { start + size ≤ length owners.old }
+    ensures len { length owners.new ≡ length owners.old }
+    ensures own { (i : ℕ) → start ≤ i → i < start + size → slice_index owners.new i ≡ member }
+    ensures before { (i : ℕ) → i < start → slice_index owners.new i ≡ slice_index owners.old i }
+{
+    owners[start..start + size].fill(member);
 }
 
 /// The greatest of the numbers.

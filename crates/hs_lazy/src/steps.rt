@@ -186,7 +186,7 @@ fn idle_step<E: TimelessEngine>(
     ensures step { IfSome result (IsIdleStep E.meaning engines.now dfa.new.members.items dfa.new.states.items
         dfa.new.ends.items prev byte) }
 {
-    let Some(idle) = dfa.find(&[0; IMAGE_BYTES], prev) else {
+    let Some(idle) = dfa.find_idle(prev) else {
         return None;
     };
     let step = dfa.step(idle, byte);

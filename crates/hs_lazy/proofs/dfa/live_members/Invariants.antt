@@ -1,11 +1,9 @@
-use Rattle.std.proofs.Common.{◌≡◌, ℕ, ◌<◌, false, length, Some, slice_get}
-use Rattle.hs_base.specs.Bits.{AreZero, has_word_bit}
-use Rattle.hs_lazy.specs.declared.parts.Member.{Member}
-use Rattle.hs_lazy.specs.Parts.{part}
+use Rattle.std.proofs.Common.{◌≡◌, ◌*◌, length}
+use Rattle.hs_lazy.specs.Parts.{AreOwnersLive}
 use Rattle.hs_lazy.proofs.dfa.live_members.Given as goal
 
-abbrev pub invariant-loop-k : goal.invariant-loop-k
-invariant-loop-k l = record {
+abbrev pub invariant-loop-word : goal.invariant-loop-word
+invariant-loop-word l = record {
   len : length l.live ≡ 4;
-  done : (j : ℕ) (m : Member) → j < l.k → slice_get l.members j ≡ Some m → has_word_bit l.live j ≡ false → AreZero (part l.image m);
+  live : AreOwnersLive l.owners l.image l.live (8 * l.word);
 }

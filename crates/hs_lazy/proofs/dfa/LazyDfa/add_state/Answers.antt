@@ -1,7 +1,8 @@
-use Rattle.std.proofs.Common.{◌≡◌, length, List, Some, slice_get, ◌∷◌, [], ◌++◌, sym, subst, ◌∙◌, refl, length-set}
+use Rattle.std.proofs.Common.{◌≡◌, length, List, Some, slice_get, ◌∷◌, [], ◌++◌, sym, subst, ◌∙◌, refl, arith, length-set}
 use Rattle.std.specs.Prelude.{is_ok}
 use Rattle.hs_lazy.specs.declared.parts.State.{State}
-use Rattle.hs_lazy.specs.Parts.{AreStillThere, IsLive}
+use Rattle.hs_lazy.specs.Parts.{AreOwnersLive, AreStillThere}
+use Rattle.hs_lazy.proofs.IdleLemmas.{owners-live}
 use Rattle.hs_lazy.proofs.StepLemmas.{leading-more, live-pushed}
 use Rattle.hs_lazy.proofs.TableLemmas.{get-last, kept-pushed, more-pushed, pushed}
 use Rattle.hs_lazy.proofs.dfa.LazyDfa.add_state.Goals as goal
@@ -12,7 +13,8 @@ invariant_of-self-clause-live c =
     (record {
       image_len = c.live_members-live.ensures.image_len;
       live_len = c.live_members-live.ensures.len;
-      live = subst (λ l. IsLive l c.args.image.now c.live_members-live.result) c.deref-2.ensures.value c.live_members-live.ensures.live;
+      live = owners-live c.args.self.now.members.items c.args.self.now.owners.items c.args.image.now c.live_members-live.result c.args.self.now.owned c.args.self.now.apart
+          (subst (λ l. AreOwnersLive l c.args.image.now c.live_members-live.result 512) c.deref-2.ensures.value c.live_members-live.ensures.live);
     })
 
 pub invariant_of-self-clause-leading : goal.invariant_of-self-clause-leading
@@ -42,3 +44,8 @@ returns-clause-found c =
       image_is = refl;
       prev_is = refl;
     }
+
+pub invariant_of-self-clause-unknown : goal.invariant_of-self-clause-unknown
+invariant_of-self-clause-unknown c k high =
+    let more = more-pushed c.args.self.now.states.items c.push.new.self.items (record { image = c.args.image.now; prev = c.args.prev; live = c.live_members-live.result }) (is_ok c.push.result) c.push.ensures.items in
+    c.args.self.now.unknown k (omega (arith, high, more))
