@@ -86,12 +86,6 @@ fn meaning_of_chain(alloc: Global, chain: &Chain) -> Result<Expr, Fail> {
     Ok(Expr::Cat(items))
 }
 
-/// Whether the chains of the expression are one of one piece.
-pub(crate) fn is_one_piece(alloc: Global, expr: &Expr) -> Result<bool, Fail> {
-    let chains = chains_of(alloc, expr)?;
-    Ok(chains.len() == 1 && chains[0].0.len() == 1)
-}
-
 /// The expression that the chains of an expression stand for together.
 pub(crate) fn together(alloc: Global, expr: &Expr) -> Result<Expr, Fail> {
     let mut alternatives = Vec::new(alloc);

@@ -1,12 +1,9 @@
 //! A row through all that is judged. It is `#[cfg(test)]`.
 
-use crate::always::{Always, judge_always};
 use crate::cases::{Answer, Case, List, Verdict, ensure, written};
 use crate::chains;
-use crate::engines::{Question, ask_each, automaton_of};
 use crate::reading::{lines_of, numbered, streams_of};
 use crate::running::judge_roles;
-use crate::spans::Spans;
 use crate::streaming::judge_streams;
 use hs_base::{Entry, ExprId, Refusal};
 use hs_compile::{CompileFault, compile};
@@ -38,48 +35,10 @@ fn judge_list(alloc: Global, list: &List, is_mixed: bool) -> Verdict {
     judge_streams(alloc, list)
 }
 
-/// Compares the spans of an expression's chains with those of the expression.
-fn judge_split(alloc: Global, name: &str, expr: &Expr, text: &[u8], spans: &Spans) -> Verdict {
-    let split = Spans::of(alloc, name, &chains::together(alloc, expr)?, text)?;
-    let what = format_args!("the chains in {text:?}, of {name}");
-    ensure(split.lefts == spans.lefts, what)
-}
-
-/// Judges an expression that is entered anywhere, with its engines that take blocks.
-fn judge_entered(alloc: Global, name: &str, expr: &Expr, text: &[u8], always: &Always) -> Verdict {
-    let spans = Spans::of(alloc, name, expr, text)?;
-    ask_each(alloc, Question::Spans(&spans))?;
-    judge_always(alloc, always, &spans)?;
-    if chains::is_one_piece(alloc, expr)? {
-        return Ok(());
-    }
-    judge_split(alloc, name, expr, text, &spans)
-}
-
-/// Judges an expression that is entered anywhere.
-pub(crate) fn judge_expression(alloc: Global, name: &str, expr: &Expr, text: &[u8]) -> Verdict {
-    let always = Always::of(alloc, expr)?;
-    judge_entered(alloc, name, expr, text, &always)
-}
-
-/// Judges an expression that is entered anywhere, over each stream.
-fn judge_over(alloc: Global, expr: &Expr, cases: &[Case]) -> Verdict {
-    let always = Always::of(alloc, expr)?;
-    for case in cases {
-        let text = &case.stream.bytes;
-        judge_entered(alloc, &case.name, expr, text, &always)?;
-    }
-    Ok(())
-}
-
-/// Judges an expression as a list of its own, and entered anywhere.
+/// Judges an expression as a list of its own.
 fn judge_alone(alloc: Global, word: &[Vec<u8>], streams: &[Text]) -> Verdict {
     let list = List::of(alloc, &numbered(alloc, word, 0, b"V")?, streams)?;
-    judge_list(alloc, &list, false)?;
-    for pattern in &list.patterns {
-        judge_over(alloc, &lower(alloc, &pattern.expr)?, &list.cases)?;
-    }
-    Ok(())
+    judge_list(alloc, &list, false)
 }
 
 /// Judges each expression of the row alone.
@@ -108,15 +67,6 @@ fn expression_of(alloc: Global, words: &[Vec<u8>]) -> Result<Expr, Fail> {
     Ok(lower(alloc, &pattern.expr)?)
 }
 
-/// Judges whether each engine that takes the row's expression ends behind its streams, as it is wanted.
-fn judge_leaves(alloc: Global, words: &[Vec<u8>], streams: &[Text], wanted: bool) -> Verdict {
-    let expr = expression_of(alloc, words)?;
-    for stream in streams {
-        ask_each(alloc, Question::Leaving(&expr, stream, wanted))?;
-    }
-    Ok(())
-}
-
 /// The entry, the identifier and the reason of a list's refusal, if it is refused.
 fn refusal_of(alloc: Global, entries: &[Entry]) -> Option<(u32, ExprId, Refusal)> {
     match compile(alloc, entries) {
@@ -141,27 +91,12 @@ fn refusal_in(alloc: Global, lines: &[u8]) -> Result<String, Fail> {
     }
 }
 
-/// How many positions the automaton of an expression has, or how many bytes its tables.
-fn count_of(alloc: Global, expr: &Expr, is_of_tables: bool) -> Result<usize, Fail> {
-    let automaton = automaton_of(alloc, expr)?.ok_or("no automaton")?;
-    if is_of_tables {
-        Ok(automaton.tables_len())
-    } else {
-        Ok(automaton.size())
-    }
-}
-
 /// What is found of the row's list or expression, as a row has it.
 fn found(alloc: Global, head: &[u8], words: &[Vec<u8>]) -> Result<String, Fail> {
     if head == b"refused".as_slice() {
         return refusal_in(alloc, &lines_of(alloc, words)?);
     }
-    let expr = expression_of(alloc, words)?;
-    if head == b"split".as_slice() {
-        return chains::written(alloc, &expr);
-    }
-    let count = count_of(alloc, &expr, head == b"tables".as_slice())?;
-    Ok(format!(in alloc; " {count}")?)
+    chains::written(alloc, &expression_of(alloc, words)?)
 }
 
 /// Fails where the text isn't the one that is wanted.
@@ -204,9 +139,10 @@ enum Kind {
     Each,
     Same,
     Vary,
-    Leaves,
     Found,
     Written,
+    /// What `hs_judge_engines` judges.
+    OfEngines,
 }
 
 impl Kind {
@@ -216,8 +152,8 @@ impl Kind {
             b"each" => Kind::Each,
             b"same" => Kind::Same,
             b"vary" => Kind::Vary,
-            b"leaves" => Kind::Leaves,
-            b"refused" | b"split" | b"positions" | b"tables" => Kind::Found,
+            b"refused" | b"split" => Kind::Found,
+            b"leaves" | b"positions" | b"tables" => Kind::OfEngines,
             _ => Kind::Written,
         }
     }
@@ -232,9 +168,9 @@ fn judge_row(alloc: Global, row: &Row, streams: &[Text]) -> Verdict {
         Kind::Each => judge_each(alloc, words, streams),
         Kind::Same => judge_steps(alloc, words, 0, streams),
         Kind::Vary => judge_varied(alloc, words, streams),
-        Kind::Leaves => judge_leaves(alloc, words, streams, wanted == Some(b" yes".as_slice())),
         Kind::Found => same(&found(alloc, head, words)?, wanted.unwrap_or(b""), words),
         Kind::Written => judge_written(alloc, words, head == b"mixed".as_slice(), streams, wanted),
+        Kind::OfEngines => Ok(()),
     }
 }
 

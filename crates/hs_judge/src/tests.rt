@@ -1,8 +1,7 @@
 //! The rows, table by table.
 
 use crate::chains::written;
-use crate::judging::{judge, judge_expression};
-use crate::regions::judge_regions;
+use crate::judging::judge;
 use hs_expr::Expr;
 use hs_rows::stream_rows as rows;
 use std::alloc::Global;
@@ -25,14 +24,13 @@ fn assertions_hold_as_defined(rt: HostRuntime) -> Result<(), Fail> {
 }
 
 #[test]
-fn expressions_span_as_defined(rt: HostRuntime) -> Result<(), Fail> {
+fn expressions_end_as_defined(rt: HostRuntime) -> Result<(), Fail> {
     judge(rt.alloc(), rows::EXPRESSIONS)
 }
 
 #[test]
-fn repeats_are_as_defined(rt: HostRuntime) -> Result<(), Fail> {
-    judge(rt.alloc(), rows::REPEATS)?;
-    judge(rt.alloc(), rows::LONG_REPEATS)
+fn repeats_end_as_defined(rt: HostRuntime) -> Result<(), Fail> {
+    judge(rt.alloc(), rows::REPEATS)
 }
 
 #[test]
@@ -48,32 +46,14 @@ fn random_lists_are_as_defined(rt: HostRuntime) -> Result<(), Fail> {
 }
 
 #[test]
-fn refuses_and_sizes_as_stated(rt: HostRuntime) -> Result<(), Fail> {
-    for table in [rows::REFUSALS, rows::SUPPORT, rows::SIZES] {
-        judge(rt.alloc(), table)?;
-    }
-    Ok(())
-}
-
-/// Judges the alternation of nothing, and rounds of it, over the text.
-fn judge_nothing(alloc: Global, text: &str) -> Result<(), Fail> {
-    let nothing = Expr::Alt(Vec::new(alloc));
-    judge_expression(alloc, "nothing", &nothing, text.as_bytes())?;
-    let rounds = Expr::Repeat(Box::new(alloc, nothing)?, 0, None);
-    judge_expression(alloc, "rounds of nothing", &rounds, text.as_bytes())
+fn refuses_as_stated(rt: HostRuntime) -> Result<(), Fail> {
+    judge(rt.alloc(), rows::REFUSALS)?;
+    judge(rt.alloc(), rows::SUPPORT)
 }
 
 #[test]
-fn nothing_matches_an_alternation_of_nothing(rt: HostRuntime) -> Result<(), Fail> {
+fn an_alternation_of_nothing_has_no_chain(rt: HostRuntime) -> Result<(), Fail> {
     let alloc = rt.alloc();
     assert_eq!(rt; written(alloc, &Expr::Alt(Vec::new(alloc)))?.as_str(), " ");
-    for text in ["", "ab", "a b", "\na\n", "ba\nab"] {
-        judge_nothing(alloc, text)?;
-    }
     Ok(())
-}
-
-#[test]
-fn regions_of_repeats_are_well_formed() -> Result<(), Fail> {
-    judge_regions()
 }

@@ -3,7 +3,7 @@ use Rattle.hs_base.specs.WrittenOut.{IsPlain, count, write_out}
 use Rattle.hs_expr.specs.Counts.{positions}
 use Rattle.hs_expr.specs.Meaning.{tree_of}
 use Rattle.hs_glushkov.proofs.CountLemmas.{count-written}
-use Rattle.hs_judge.proofs.engines.automaton_of.Goals as goal
+use Rattle.hs_judge_engines.proofs.engines.automaton_of.Goals as goal
 
 pub build-requires-clause-few : goal.build-requires-clause-few
 build-requires-clause-few c =

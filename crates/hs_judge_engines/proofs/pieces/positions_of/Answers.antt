@@ -3,7 +3,7 @@ use Rattle.hs_base.specs.WrittenOut.{IsPlain, count, write_out}
 use Rattle.hs_expr.specs.Counts.{positions}
 use Rattle.hs_expr.specs.Meaning.{tree_of}
 use Rattle.hs_glushkov.proofs.CountLemmas.{count-written}
-use Rattle.hs_judge.proofs.blocks.positions_of.Goals as goal
+use Rattle.hs_judge_engines.proofs.pieces.positions_of.Goals as goal
 
 pub by_positions-requires-clause-few : goal.by_positions-requires-clause-few
 by_positions-requires-clause-few c =

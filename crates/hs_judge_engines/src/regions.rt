@@ -1,7 +1,7 @@
 //! Which bytes may be a region of a repeat, and which bytes wake it. It is `#[cfg(test)]`.
 
-use crate::cases::{Verdict, ensure};
 use crate::spans::is_at_rest;
+use crate::verdicts::{Verdict, ensure};
 use hs_base::ByteSet;
 use hs_engine::Engine;
 use hs_repeat::{First, Last, Ring};

@@ -1,8 +1,8 @@
 //! Engines that are entered at some offsets alone, beside the spans of their expressions. It is `#[cfg(test)]`.
 ghost use Rattle.std.specs.Prelude.{◌≡◌, ◌≤◌, ◌<◌, ◌^◌, length};
 
-use crate::cases::{Verdict, ensure};
 use crate::engines::Judged;
+use crate::verdicts::{Verdict, ensure};
 use hs_base::{Mask, Next, NextSet, Prev};
 use hs_engine::{Engine, Steps};
 use hs_expr::Expr;

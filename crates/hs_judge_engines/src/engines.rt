@@ -4,8 +4,8 @@ ghost use Rattle.hs_base.specs.EndAssertions.{has_embedded_end};
 ghost use Rattle.hs_base.specs.WrittenOut.{IsPlain, count, write_out};
 ghost use Rattle.hs_expr.specs.Meaning.{tree_of};
 
-use crate::cases::Verdict;
 use crate::spans::{Spans, judge_leaving, judge_spans};
+use crate::verdicts::Verdict;
 use hs_base::{ByteSet, Mask};
 use hs_engine::{Automaton, Engine};
 use hs_expr::{Expr, has_embedded_end, is_plain, positions};

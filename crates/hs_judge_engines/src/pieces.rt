@@ -6,8 +6,8 @@ ghost use Rattle.hs_base.specs.WrittenOut.{IsPlain, count, write_out};
 ghost use Rattle.hs_expr.specs.Meaning.{tree_of};
 ghost use Rattle.hs_rose.specs.Listing.{plain_chains};
 
-use crate::cases::Verdict;
 use crate::engines::Judged;
+use crate::verdicts::Verdict;
 use hs_base::{Entry, ExprId, Ext, Flags};
 use hs_expr::{Expr, has_embedded_end, is_plain, positions};
 use hs_pieces::{Chain, Piece};

@@ -1,5 +1,5 @@
 use Rattle.std.proofs.Common.{◌≡◌, length}
-use Rattle.hs_judge.proofs.spans.step_through.Given as goal
+use Rattle.hs_judge_engines.proofs.spans.step_through.Given as goal
 
 abbrev pub invariant-loop-byte : goal.invariant-loop-byte
 invariant-loop-byte g l = record {
