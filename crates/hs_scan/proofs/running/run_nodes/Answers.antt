@@ -1,10 +1,20 @@
-use Rattle.std.proofs.Common.{◌≡◌, ◌++◌, length, take, drop, sym, ap, subst, ◌∙◌, arith}
+use Rattle.std.proofs.Common.{◌≡◌, ◌++◌, List, length, slice_get, take, drop, sym, ap, subst, ◌∙◌, arith}
 use Rattle.hs_nodes.proofs.FillLemmas.{whole}
 use Rattle.hs_nodes.proofs.SettleLemmas.{resting-may, resting-stay}
 use Rattle.hs_nodes.proofs.TickLemmas.{nodes-most}
 use Rattle.hs_nodes.proofs.WakeLemmas.{resting-more}
+use Rattle.hs_nodes.specs.declared.hits.ChunkHits.{ChunkHits}
 use Rattle.hs_nodes.specs.Walks.{ChangesMarked, MayNodesRest, TakesNodes}
+use Rattle.hs_scan.proofs.WakingLemmas.{nowhere-ends}
 use Rattle.hs_scan.proofs.running.run_nodes.Goals as goal
+
+pub invariant_of-foretold : goal.invariant_of-foretold
+invariant_of-foretold g c = record {
+  room = omega (arith, ap length c.deref.ensures.value, c.requires.before.room.hits, c.ending.ensures.room);
+  unhit = λ number unmarked own at i.
+      let hits = c.args.scratch.now.hits.items in
+      nowhere-ends hits number own (c.requires.others number (sym (c.ending.ensures.marks number) ∙ unmarked)) (ap (λ (hs : List ChunkHits). slice_get hs number) (sym c.deref.ensures.value) ∙ at) i;
+}
 
 pub walk-requires-clause-rests : goal.walk-requires-clause-rests
 walk-requires-clause-rests g c =
