@@ -5,11 +5,11 @@ use Rattle.std.proofs.lemmas.Bool.{cases_eq, cases_lt, ne_eqb, le-leb}
 use Rattle.std.proofs.lemmas.List.{get_or-set_same, get_or-set_other}
 use Rattle.hs_base.specs.declared.context.Mask.{Mask}
 use Rattle.hs_base.specs.declared.context.Prev.{Prev}
-use Rattle.hs_base.specs.Bits.{has_word_bit}
+use Rattle.hs_base.specs.Bits.{AreZero, has_word_bit}
 use Rattle.hs_base.specs.Contexts.{Context}
 use Rattle.hs_base.specs.ContextSets.{has_context}
 use Rattle.hs_base.proofs.ContextLemmas.{first_of_both, second_of_both, of_both, of_either, left_of_either, right_of_either}
-use Rattle.hs_bits.proofs.WordLemmas.{and-none, and-true, number-more, or-none, or-turned, there-under}
+use Rattle.hs_bits.proofs.WordLemmas.{and-none, and-true, number-more, or-none, or-turned, unset-bits}
 use Rattle.hs_engine.specs.AnyBelow.{any_below}
 use Rattle.hs_engine.specs.Automata.{in_mask, in_set}
 use Rattle.hs_engine.specs.Rows.{square_number}
@@ -119,11 +119,18 @@ squares-more i square here test first all more places more_is places_is all_is =
     and-turned false true = refl
     and-turned false false = refl
 
--- and one whose context no place has
-pub squares-passed : (i square here : ℕ) (test first now : Bool) (places : ℕ) → places ≡ 0 → word_bit places i ≡ eqb here square → now ≡ ((nat_lt here square && test) || first) → now ≡ ((nat_lt here (square + 1) && test) || first)
-squares-passed i square here test first now places none_ places_is now_is =
-    let apart : eqb here square ≡ false = sym places_is ∙ (ap (λ w. word_bit w i) none_ ∙ bit-none i) in
-    now_is ∙ ap (λ b. (b && test) || first) (there-under here square apart)
+-- and one by which none comes
+pub squares-empty : (here square : ℕ) (test : ℕ → Bool) (first now : Bool) → test square ≡ false → now ≡ ((nat_lt here square && test here) || first) → now ≡ ((nat_lt here (square + 1) && test here) || first)
+squares-empty here square test first now none_ now_is =
+    number-more test here square (test square) now now first (λ same. ap test (sym same)) now_is
+    (sym (ap (λ b. (eqb here square && b) || now) none_ ∙ ap (λ b. b || now) (and-none (eqb here square))))
+
+-- none comes by a row that is 0
+pub none-led : (s : Streams) (state words row : List ℕ) (x i q : ℕ) → AreZero row → ((y : ℕ) → y < 64 * s.width → has_word_bit row y ≡ in_rows s.rests.items s.width (12 * x + q) y) → LedBy s state words x i q ≡ false
+none-led s state words row x i q unset bits =
+    sym (read-rest s state words row (12 * x + q) i bits)
+    ∙ any-none s.size (λ y. live_at (has_word_bit state) words i y && has_word_bit row y)
+    (λ y inside. ap (λ b. live_at (has_word_bit state) words i y && b) (unset-bits row unset y) ∙ and-none (live_at (has_word_bit state) words i y))
 
 pub squares-none : (here : ℕ) (test first now : Bool) → now ≡ first → now ≡ ((nat_lt here 0 && test) || first)
 squares-none here test first now is = is ∙ sym (ap (λ b. (b && test) || first) (not-less here 0 (omega arith)))

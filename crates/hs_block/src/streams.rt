@@ -31,9 +31,9 @@ use crate::position_words::{column, meet, united_rows, word_behind};
 use crate::set_tables::SetTables;
 use hs_base::{ByteSet, Mask, Prev};
 use hs_bits::{
-    Contexts, WORD_BITS, contains_place, contains_word_bit, contexts_of, is_zero, keep_words, load,
-    low_places, next_bit_in, one_later, only_if, place_count, place_in, store, unite_words,
-    write_word_bit,
+    Contexts, WORD_BITS, contains_place, contains_word_bit, contexts_of, is_unset, is_zero,
+    keep_words, load, low_places, next_bit_in, one_later, only_if, place_count, place_in, store,
+    unite_words, write_word_bit,
 };
 use hs_engine::{Automaton, BlockEnds, Steps, first_bytes};
 use std::alloc::{AllocError, Global};
@@ -577,11 +577,11 @@ impl Streams {
         let contexts = contexts_of(entry.contexts, entry.prev, whole);
         let mut all = always;
         for square in 0..SQUARES {
-            let places = square_places(&contexts, square);
-            if places == 0 {
+            let row = row_in::<W>(&self.rests, self.width, SQUARES * position + square);
+            if is_unset(row) {
                 continue;
             }
-            let row = row_in::<W>(&self.rests, self.width, SQUARES * position + square);
+            let places = square_places(&contexts, square);
             let more = arrive(row, position, entry, words, live);
             all = Arrivals {
                 led: all.led | (more.led & places),
