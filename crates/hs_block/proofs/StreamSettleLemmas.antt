@@ -1,15 +1,15 @@
 -- The words of positions, made one at a time until they come to rest.
 use Rattle.std.proofs.Common.{◌≡◌, ◌≢◌, ℕ, zero, suc, ◌+◌, ◌-◌, ◌*◌, ◌<◌, ◌≤◌, Bool, true, false, not, nat_lt, ◌&&◌, ◌||◌, List, length, get_or, set, slice_get, Option, Some, None, IfSome, eqb, bit_and, bit_or, refl, sym, ap, subst, ◌∙◌, inl, inr, arith}
 use Rattle.std.specs.Prelude.{nat_le}
-use Rattle.std.proofs.lemmas.Bool.{cases_eq, cases_lt, ne_eqb, le-leb}
+use Rattle.std.proofs.lemmas.Bool.{cases_eq, cases_lt, eq-eqb, ne_eqb, le-leb}
 use Rattle.std.proofs.lemmas.List.{get_or-set_same, get_or-set_other}
 use Rattle.hs_base.specs.declared.context.Mask.{Mask}
 use Rattle.hs_base.specs.declared.context.Prev.{Prev}
-use Rattle.hs_base.specs.Bits.{AreZero, has_word_bit}
+use Rattle.hs_base.specs.Bits.{has_word_bit}
 use Rattle.hs_base.specs.Contexts.{Context}
 use Rattle.hs_base.specs.ContextSets.{has_context}
 use Rattle.hs_base.proofs.ContextLemmas.{first_of_both, second_of_both, of_both, of_either, left_of_either, right_of_either}
-use Rattle.hs_bits.proofs.WordLemmas.{and-none, and-true, number-more, or-none, or-turned, unset-bits}
+use Rattle.hs_bits.proofs.WordLemmas.{and-none, and-true, or-none, or-turned}
 use Rattle.hs_engine.specs.AnyBelow.{any_below}
 use Rattle.hs_engine.specs.Automata.{in_mask, in_set}
 use Rattle.hs_engine.specs.Rows.{square_number}
@@ -19,9 +19,11 @@ use Rattle.hs_block.specs.Rows.{Rules, is_next, live_at}
 use Rattle.hs_block.specs.Settling.{Holds, IsSettled}
 use Rattle.hs_block.specs.StreamSets.{in_rows, takes_byte}
 use Rattle.hs_block.specs.StreamTables.{comes_before, stream_rules}
+use Rattle.hs_bits.specs.LowestBits.{IsLowestBit, AreBitsBehind}
 use Rattle.hs_bits.specs.WordBits.{one_later, word_bit}
 use Rattle.hs_block.proofs.AnyLemmas.{any-none, any-or, any-same, any-skip, any-some, same-truth, some-any, true-false, true-or-false}
 use Rattle.hs_bits.proofs.PlaceLemmas.{bit-both, bit-either, bit-none, less-is, not-less}
+use Rattle.hs_block.proofs.PositionWordLemmas.{gone, is-left, stays}
 use Rattle.hs_block.proofs.TableLemmas.{square-few}
 
 -- the words of those that aren't live are 0
@@ -77,8 +79,16 @@ module _ (s : Streams) (x y : ℕ) (c : Context) (below : x < s.size) (inside : 
   pub from-either : comes_before s x y c ≡ (Always || Rest)
   from-either = ap (λ b. b && (Always || Rest)) (less-is y s.size inside)
 
-  pub from-always : has_word_bit s.asks x ≡ false → comes_before s x y c ≡ Always
-  from-always unset = from-either ∙ (ap (λ b. Always || b) (s.unasked x (square_number true c) y below (square-few c) inside unset) ∙ or-none Always)
+  pub from-always : get_or s.asks.items x 0 ≡ 0 → comes_before s x y c ≡ Always
+  from-always unset = from-either ∙ (ap (λ b. Always || b) (s.unasked x (square_number true c) y below (square-few c) inside (ap (λ w. word_bit w (square_number true c)) unset ∙ bit-none (square_number true c))) ∙ or-none Always)
+
+-- where one position asks, contexts matter
+pub asking-then : (s : Streams) (x : ℕ) → get_or s.asks.items x 0 ≢ 0 → s.asking ≡ true
+asking-then s x some =
+    elim (true-or-false s.asking) [
+      | inl on ↦ on
+      | inr off ↦ absurd (some (s.still off x))
+    ]
 
 -- the bits of a row that is read
 pub read-row : (s : Streams) (state words row : List ℕ) (x i : ℕ) → ((y : ℕ) → y < 64 * s.width → has_word_bit row y ≡ in_rows s.froms.items s.width x y) →
@@ -94,7 +104,7 @@ read-rest s state words row r i bits =
     (λ y inside. ap (λ b. live_at (has_word_bit state) words i y && b) (bits y (omega (arith, inside, s.wide))))
 
 -- those that come by every context
-pub led-always : (s : Streams) (state words : List ℕ) (x i : ℕ) (c : Context) → x < s.size → has_word_bit s.asks x ≡ false →
+pub led-always : (s : Streams) (state words : List ℕ) (x i : ℕ) (c : Context) → x < s.size → get_or s.asks.items x 0 ≡ 0 →
     any_below s.size (λ y. live_at (has_word_bit state) words i y && in_rows s.froms.items s.width x y) ≡ any_below s.size (λ y. live_at (has_word_bit state) words i y && comes_before s x y c)
 led-always s state words x i c below unset =
     any-same s.size (λ y. live_at (has_word_bit state) words i y && in_rows s.froms.items s.width x y) (λ y. live_at (has_word_bit state) words i y && comes_before s x y c)
@@ -104,40 +114,53 @@ led-always s state words x i c below unset =
 abbrev pub LedBy : Streams → (state words : List ℕ) (x i q : ℕ) → Bool
 LedBy s state words x i q = any_below s.size (λ y. live_at (has_word_bit state) words i y && in_rows s.rests.items s.width (12 * x + q) y)
 
-pub squares-more : (i square here : ℕ) (test : ℕ → Bool) (first : Bool) (all more places : ℕ) → word_bit more i ≡ test square → word_bit places i ≡ eqb here square →
-    word_bit all i ≡ ((nat_lt here square && test here) || first) → word_bit (bit_or all (bit_and more places)) i ≡ ((nat_lt here (square + 1) && test here) || first)
-squares-more i square here test first all more places more_is places_is all_is =
-    number-more test here square (test square) (word_bit all i) (word_bit (bit_or all (bit_and more places)) i) first (λ same. ap test (sym same)) all_is
-    (bit-either all (bit_and more places) i
-    ∙ (or-turned (word_bit all i) (word_bit (bit_and more places) i)
-    ∙ ap (λ b. b || word_bit all i)
-    (bit-both more places i ∙ (ap (λ b. b && word_bit places i) more_is ∙ (ap (λ b. test square && b) places_is ∙ and-turned (test square) (eqb here square))))))
-  where
-    and-turned : (a b : Bool) → (a && b) ≡ (b && a)
-    and-turned true true = refl
-    and-turned true false = refl
-    and-turned false true = refl
-    and-turned false false = refl
-
--- and one by which none comes
-pub squares-empty : (here square : ℕ) (test : ℕ → Bool) (first now : Bool) → test square ≡ false → now ≡ ((nat_lt here square && test here) || first) → now ≡ ((nat_lt here (square + 1) && test here) || first)
-squares-empty here square test first now none_ now_is =
-    number-more test here square (test square) now now first (λ same. ap test (sym same)) now_is
-    (sym (ap (λ b. (eqb here square && b) || now) none_ ∙ ap (λ b. b || now) (and-none (eqb here square))))
-
 -- none comes by a row that is 0
-pub none-led : (s : Streams) (state words row : List ℕ) (x i q : ℕ) → AreZero row → ((y : ℕ) → y < 64 * s.width → has_word_bit row y ≡ in_rows s.rests.items s.width (12 * x + q) y) → LedBy s state words x i q ≡ false
-none-led s state words row x i q unset bits =
-    sym (read-rest s state words row (12 * x + q) i bits)
-    ∙ any-none s.size (λ y. live_at (has_word_bit state) words i y && has_word_bit row y)
-    (λ y inside. ap (λ b. live_at (has_word_bit state) words i y && b) (unset-bits row unset y) ∙ and-none (live_at (has_word_bit state) words i y))
+pub led-none : (s : Streams) (state words : List ℕ) (x i q : ℕ) → ((y : ℕ) → y < s.size → in_rows s.rests.items s.width (12 * x + q) y ≡ false) → LedBy s state words x i q ≡ false
+led-none s state words x i q unset =
+    any-none s.size (λ y. live_at (has_word_bit state) words i y && in_rows s.rests.items s.width (12 * x + q) y)
+    (λ y inside. ap (λ b. live_at (has_word_bit state) words i y && b) (unset y inside) ∙ and-none (live_at (has_word_bit state) words i y))
 
-pub squares-none : (here : ℕ) (test first now : Bool) → now ≡ first → now ≡ ((nat_lt here 0 && test) || first)
-squares-none here test first now is = is ∙ sym (ap (λ b. (b && test) || first) (not-less here 0 (omega arith)))
+-- the squares that are left: one of them is taken
+pub squares-more : (i square here left rest : ℕ) (test : ℕ → Bool) (told : Bool) (all more places : ℕ) → IsLowestBit left square → AreBitsBehind left square rest → word_bit more i ≡ test square → word_bit places i ≡ eqb here square →
+    (word_bit all i || (word_bit left here && test here)) ≡ told → (word_bit (bit_or all (bit_and more places)) i || (word_bit rest here && test here)) ≡ told
+squares-more i square here left rest test told all more places low behind more_is places_is is =
+    elim (cases_eq here square) [
+      | inl same ↦
+          let at : eqb here square ≡ true = eq-eqb here square same in
+          let gone : word_bit rest here ≡ false = ap (λ k. word_bit rest k) same ∙ gone (square + 1) left square rest low behind (omega arith) test in
+          let there : word_bit left here ≡ true = ap (λ k. word_bit left k) same ∙ is-left (square + 1) left square rest low behind (omega arith) test in
+          let new : word_bit (bit_or all (bit_and more places)) i ≡ (word_bit all i || test here) =
+          bit-either all (bit_and more places) i
+          ∙ ap (λ b. word_bit all i || b) (bit-both more places i ∙ (ap (λ b. b && word_bit places i) more_is ∙ (ap (λ b. test square && b) (places_is ∙ at) ∙ (and-true (test square) ∙ ap test (sym same))))) in
+          ap (λ b. b || (word_bit rest here && test here)) new
+          ∙ (ap (λ b. (word_bit all i || test here) || (b && test here)) gone
+          ∙ (or-none (word_bit all i || test here) ∙ (sym (ap (λ b. word_bit all i || (b && test here)) there) ∙ is)))
+      | inr apart ↦
+          let off : eqb here square ≡ false = ne_eqb here square apart in
+          let new : word_bit (bit_or all (bit_and more places)) i ≡ word_bit all i =
+          bit-either all (bit_and more places) i ∙ (ap (λ b. word_bit all i || b) (bit-both more places i ∙ (ap (λ b. word_bit more i && b) (places_is ∙ off) ∙ and-none (word_bit more i))) ∙ or-none (word_bit all i)) in
+          ap (λ b. b || (word_bit rest here && test here)) new ∙ (ap (λ b. word_bit all i || (b && test here)) (stays (square + 1) left square rest low behind (omega arith) test here apart) ∙ is)
+    ]
 
-pub squares-all : (here square : ℕ) (test : ℕ → Bool) (first now : Bool) → square ≡ 12 → here < 12 → now ≡ ((nat_lt here square && test here) || first) → now ≡ (first || test here)
-squares-all here square test first now all few is =
-    is ∙ (ap (λ b. (b && test here) || first) (less-is here square (omega arith)) ∙ or-turned (test here) first)
+-- and one whose context no place has
+pub squares-passed : (i square here left rest : ℕ) (test : ℕ → Bool) (told now : Bool) (places : ℕ) → IsLowestBit left square → AreBitsBehind left square rest → places ≡ 0 → word_bit places i ≡ eqb here square →
+    (now || (word_bit left here && test here)) ≡ told → (now || (word_bit rest here && test here)) ≡ told
+squares-passed i square here left rest test told now places low behind none_ places_is is =
+    let apart : here ≢ square = λ same. true-false (eqb here square) (eq-eqb here square same) (sym places_is ∙ (ap (λ w. word_bit w i) none_ ∙ bit-none i)) in
+    ap (λ b. now || (b && test here)) (stays (square + 1) left square rest low behind (omega arith) test here apart) ∙ is
+
+-- none is left
+pub squares-all : (here left asks : ℕ) (test : ℕ → Bool) (first now : Bool) → left ≡ 0 → (word_bit asks here ≡ false → test here ≡ false) → (now || (word_bit left here && test here)) ≡ ((word_bit asks here && test here) || first) →
+    now ≡ (first || test here)
+squares-all here left asks test first now none_ unasked is =
+    sym (ap (λ w. now || (word_bit w here && test here)) none_ ∙ (ap (λ b. now || (b && test here)) (bit-none here) ∙ or-none now))
+    ∙ (is
+    ∙ (ap (λ b. b || first)
+    (elim (true-or-false (word_bit asks here)) [
+      | inl on ↦ ap (λ b. b && test here) on
+      | inr off ↦ ap (λ b. b && test here) off ∙ sym (unasked off)
+    ])
+    ∙ or-turned (test here) first))
 
 pub led-all : (s : Streams) (state words : List ℕ) (x i : ℕ) (c : Context) (word : ℕ) (first : Bool) → x < s.size →
     first ≡ any_below s.size (λ y. live_at (has_word_bit state) words i y && in_rows s.froms.items s.width x y) → word_bit word i ≡ (first || LedBy s state words x i (square_number true c)) →

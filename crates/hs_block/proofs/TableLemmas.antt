@@ -1,22 +1,23 @@
 -- Rows of bits, one behind the other, and which positions may follow each other.
 use prog.Memory.{up}
-use Rattle.std.proofs.Common.{◌≡◌, ◌≢◌, ◌↔◌, ℕ, ◌+◌, ◌-◌, ◌*◌, ◌/◌, ◌%◌, ◌<◌, ◌≤◌, Bool, true, false, not, nat_lt, ◌&&◌, ◌||◌, List, [], ◌++◌, length, get_or, take, drop, eqb, refl, sym, ap, subst, ◌∙◌, inl, inr, arith}
+use Rattle.std.proofs.Common.{◌≡◌, ◌≢◌, ℕ, ◌+◌, ◌-◌, ◌*◌, ◌/◌, ◌%◌, ◌<◌, ◌≤◌, Bool, true, false, not, nat_lt, ◌&&◌, ◌||◌, List, [], ◌++◌, length, get_or, take, drop, eqb, refl, sym, ap, subst, ◌∙◌, inl, inr, arith}
 use Rattle.std.specs.Int.{bit_at}
-use Rattle.std.proofs.lemmas.Bool.{cases_eq, cases_lt, eq-eqb, le-ltb, ne_eqb}
+use Rattle.std.proofs.lemmas.Bool.{cases_eq, cases_lt, le-ltb}
 use Rattle.std.proofs.lemmas.List.{get_or-take, get_or-drop, get_or_append_left, get_or-append-add, length-append, length-take-le}
 use Rattle.hs_base.specs.declared.context.Next.{Next}
 use Rattle.hs_base.specs.declared.context.Next.TheVariants as after
 use Rattle.hs_base.specs.declared.context.Prev.{Prev}
 use Rattle.hs_base.specs.declared.context.Prev.TheVariants as behind
-use Rattle.hs_base.specs.Bits.{AreZero, has_bit, has_word_bit, word_count}
+use Rattle.hs_base.specs.Bits.{has_bit, has_word_bit, word_count}
 use Rattle.hs_base.specs.Contexts.{Context, prev_number}
-use Rattle.hs_bits.proofs.WordLemmas.{and-none, or-none, unset-bits, words-past}
+use Rattle.hs_bits.specs.WordBits.{word_bit}
+use Rattle.hs_bits.proofs.WordLemmas.{and-none, or-none, words-past}
 use Rattle.hs_engine.specs.declared.follow_rows.FollowRows.{FollowRows}
 use Rattle.hs_engine.specs.RowSizes.{class_number, row_len, square_count}
 use Rattle.hs_engine.specs.Rows.{in_square, row_start, square_number}
 use Rattle.hs_block.specs.StreamSets.{AreOrders, in_rows}
 use Rattle.hs_block.proofs.AnyLemmas.{true-false}
-use Rattle.hs_bits.proofs.PlaceLemmas.{less-is, not-less}
+use Rattle.hs_bits.proofs.PlaceLemmas.{bit-none, less-is, not-less}
 
 -- a row has its room among so many
 pub row-room : (w x n : ℕ) → x < n → w * x + w ≤ w * n
@@ -90,17 +91,6 @@ rows-more Bit width count rows row new are room bits is =
           ];
     }
 
--- twelve rows as one
-pub part-of : (rows : List ℕ) (width x q y : ℕ) → in_rows rows (12 * width) x (64 * (width * q) + y) ≡ in_rows rows width (12 * x + q) y
-part-of rows width x q y =
-    let e : 64 * (12 * width * x) + (64 * (width * q) + y) ≡ 64 * (width * (12 * x + q)) + y = omega arith in
-    ap (λ k. has_word_bit rows k) e
-
-pub part-unset : (rows part : List ℕ) (width x q y : ℕ) → q < 12 → y < 64 * width → ((k : ℕ) → k < 64 * (12 * width) → has_word_bit part k ≡ in_rows rows (12 * width) x k) → AreZero part →
-    in_rows rows width (12 * x + q) y ≡ false
-part-unset rows part width x q y few below bits clear =
-    sym (part-of rows width x q y) ∙ (sym (bits (64 * (width * q) + y) (omega (arith, below, row-room width q 12 few))) ∙ unset-bits part clear (64 * (width * q) + y))
-
 -- beyond the positions nothing follows
 pub square-past : (rows : FollowRows) (k x y : ℕ) → rows.size ≤ x → in_square rows k x y ≡ false
 unfolding in_square
@@ -152,16 +142,18 @@ more-squares false is = absurd (is refl)
 
 -- what holds of the rows where one square is for all contexts
 pub orders-one : (rows : FollowRows) (width : ℕ) (froms rests successors asks : List ℕ) → square_count rows.by_context ≡ 1 → length rests ≡ 0 → width ≡ word_count rows.size → length froms ≡ width * rows.size → length successors ≡ width * rows.size →
-    length asks ≡ 8 → ((k : ℕ) → has_word_bit asks k ≡ false) →
+    length asks ≡ rows.size → ((x : ℕ) → get_or asks x 0 ≡ 0) →
     (rows.by_context ≡ false → (x y : ℕ) → x < rows.size → y < 64 * width → in_rows froms width x y ≡ in_square rows 0 y x) →
     ((x k y : ℕ) → x < rows.size → y < 64 * width → k < square_count rows.by_context → in_square rows k x y ≡ true → y ≢ x → in_rows successors width x y ≡ true) →
     AreOrders rows width froms rests successors asks
-orders-one rows width froms rests successors asks single empty_ wide froms_count successors_count asks_len none_ are have = record {
+orders-one rows width froms rests successors asks single empty_ wide froms_count successors_count asks_count none_ are have = record {
   wide = wide;
   froms_count = froms_count;
   successors_count = successors_count;
-  asks_len = asks_len;
-  asked = λ x is. true-false (has_word_bit asks x) is (none_ x);
+  asks_count = asks_count;
+  asked = λ is. true-false rows.by_context is (one-square rows.by_context single);
+  still = λ is. none_;
+  few_asked = λ x q past. ap (λ w. word_bit w q) (none_ x) ∙ bit-none q;
   froms_are = λ x y c below.
       let square : square_number rows.by_context c ≡ 0 = ap (λ b. square_number b c) (one-square rows.by_context single) in
       let empty : in_rows rests width (12 * x + square_number true c) y ≡ false = words-past rests (64 * (width * (12 * x + square_number true c)) + y) (omega (arith, empty_)) in
@@ -180,18 +172,20 @@ orders-one rows width froms rests successors asks single empty_ wide froms_count
 
 -- and where each context has its own
 pub orders-more : (rows : FollowRows) (width : ℕ) (froms rests successors asks : List ℕ) → rows.by_context ≡ true → width ≡ word_count rows.size → length froms ≡ width * rows.size → length successors ≡ width * rows.size →
-    length asks ≡ 8 → length rests ≡ width * (12 * rows.size) →
-    ((x q y : ℕ) → x < rows.size → q < 12 → y < 64 * width → has_word_bit asks x ≡ false → in_rows rests width (12 * x + q) y ≡ false) →
+    length asks ≡ rows.size → length rests ≡ width * (12 * rows.size) → ((x q : ℕ) → 12 ≤ q → word_bit (get_or asks x 0) q ≡ false) →
+    ((x q y : ℕ) → x < rows.size → q < 12 → y < 64 * width → word_bit (get_or asks x 0) q ≡ false → in_rows rests width (12 * x + q) y ≡ false) →
     ((x y k : ℕ) → x < rows.size → y < 64 * width → in_rows froms width x y ≡ true → k < square_count rows.by_context → in_square rows k y x ≡ true) →
     ((x q y : ℕ) → x < rows.size → q < 12 → y < 64 * width → in_rows rests width (12 * x + q) y ≡ (in_square rows q y x && not (in_rows froms width x y))) →
     ((x k y : ℕ) → x < rows.size → y < 64 * width → k < square_count rows.by_context → in_square rows k x y ≡ true → y ≢ x → in_rows successors width x y ≡ true) →
     AreOrders rows width froms rests successors asks
-orders-more rows width froms rests successors asks more wide froms_count successors_count asks_len rests_count unasked each bits have = record {
+orders-more rows width froms rests successors asks more wide froms_count successors_count asks_count rests_count few_asked unasked each bits have = record {
   wide = wide;
   froms_count = froms_count;
   successors_count = successors_count;
-  asks_len = asks_len;
-  asked = λ x is. omega (arith, rests_count);
+  asks_count = asks_count;
+  asked = λ is. omega (arith, rests_count);
+  still = λ is. true-false rows.by_context more is;
+  few_asked = few_asked;
   froms_are = λ x y c below.
       let q : ℕ = square_number true c in
       let square : square_number rows.by_context c ≡ q = ap (λ b. square_number b c) more in
@@ -219,25 +213,6 @@ with-all from size k test now all past is =
       | inl below ↦ ap (λ b. b && test) (less-is k from below)
       | inr above ↦ ap (λ b. b && test) (not-less k from above) ∙ sym (past (omega arith))
     ]
-
--- one position more that asks, or doesn't
-pub asks-more : (rests part asks new : List ℕ) (width p : ℕ) (unset : Bool) → ((k : ℕ) → k < 64 * (12 * width) → has_word_bit part k ≡ in_rows rests (12 * width) p k) → (unset ≡ true) ↔ AreZero part →
-    ((k : ℕ) → has_word_bit new k ≡ ((eqb k p && not unset) || has_word_bit asks k)) →
-    ((x q y : ℕ) → x < p → q < 12 → y < 64 * width → has_word_bit asks x ≡ false → in_rows rests width (12 * x + q) y ≡ false) →
-    (x q y : ℕ) → x < p + 1 → q < 12 → y < 64 * width → has_word_bit new x ≡ false → in_rows rests width (12 * x + q) y ≡ false
-asks-more rests part asks new width p unset bits is new_is unasked x q y below few inside off =
-    elim (cases_eq x p) [
-      | inl same ↦
-          let both : (not unset || has_word_bit asks x) ≡ false = sym (new_is x ∙ ap (λ b. (b && not unset) || has_word_bit asks x) (eq-eqb x p same)) ∙ off in
-          let clear : unset ≡ true = left-unset unset (has_word_bit asks x) both in
-          subst (λ k. in_rows rests width (12 * k + q) y ≡ false) (sym same) (part-unset rests part width p q y few inside bits (is.0 clear))
-      | inr apart ↦
-          unasked x q y (omega arith) few inside (sym (new_is x ∙ ap (λ b. (b && not unset) || has_word_bit asks x) (ne_eqb x p apart)) ∙ off)
-    ]
-  where
-    left-unset : (a b : Bool) → (not a || b) ≡ false → a ≡ true
-    left-unset true b is = refl
-    left-unset false b is = absurd (let e : true ≡ false = is in cc)
 
 -- what few bytes take, up to the next multiple of eight
 pub small-size : (bytes : ℕ) → bytes ≤ 1024 → up 8 bytes < 9223372036854775808

@@ -1,13 +1,16 @@
 -- What tables of sets and of positions say, by their lists.
-use Rattle.std.specs.Prelude.{◌≡◌, ◌≢◌, ℕ, ◌+◌, ◌*◌, ◌<◌, ◌≤◌, ◌&&◌, ◌||◌, Bool, true, false, nat_lt, List, length}
+use Rattle.std.specs.Prelude.{◌≡◌, ◌≢◌, ℕ, ◌+◌, ◌*◌, ◌<◌, ◌≤◌, ◌&&◌, ◌||◌, ◌==◌, Bool, true, false, nat_lt, List, length}
 use Rattle.std.specs.Prelude.{slice_get, slice_index}
 use Rattle.hs_base.specs.declared.byte_set.ByteSet.{ByteSet}
+use Rattle.hs_base.specs.declared.context.Prev.{Prev}
 use Rattle.hs_base.specs.Bits.{has_word_bit, word_count}
 use Rattle.hs_base.specs.ByteSets.{has}
 use Rattle.hs_base.specs.Contexts.{Context}
 use Rattle.hs_engine.specs.Automata.{in_set}
 use Rattle.hs_engine.specs.declared.follow_rows.FollowRows.{FollowRows}
 use Rattle.hs_engine.specs.Rows.{in_row, square_number}
+use Rattle.hs_bits.specs.BlockContexts.{context_before}
+use Rattle.hs_bits.specs.WordBits.{word_bit}
 
 -- the position takes the byte, by the number of its set
 abbrev pub takes_byte : (sets : List ByteSet) (numbers : List ℕ) (position byte : ℕ) → Bool
@@ -22,6 +25,14 @@ in_rows rows width r y = has_word_bit rows (64 * (width * r) + y)
 abbrev pub is_from : (size width : ℕ) (froms rests : List ℕ) (position other : ℕ) → Context → Bool
 is_from size width froms rests x y c =
     nat_lt y size && (in_rows froms width x y || in_rows rests width (12 * x + square_number true c) y)
+
+-- the words tell at which places of the block behind `prev` the context has which number of the twelve
+abbrev pub AreSquares : (words : List ℕ) → Prev → (bytes : List ℕ) → Type 0
+AreSquares words prev bytes =
+    (q i : ℕ) →
+    q < 12 →
+    i < length bytes →
+    word_bit (slice_index words q) i ≡ (square_number true (context_before prev bytes i) == q)
 
 -- Rows of so many words stand in arrays of so many: there is room, and where an array has three words or fewer a row
 -- has as many.
@@ -43,11 +54,13 @@ pub record AreOrders (rows : FollowRows) (width : ℕ) (froms rests successors a
   pub wide : width ≡ word_count rows.size
   pub froms_count : length froms ≡ width * rows.size
   pub successors_count : length successors ≡ width * rows.size
-  pub asks_len : length asks ≡ 8
-  pub asked : (x : ℕ) → has_word_bit asks x ≡ true → width * (12 * rows.size) ≤ length rests
+  pub asks_count : length asks ≡ rows.size
+  pub asked : rows.by_context ≡ true → width * (12 * rows.size) ≤ length rests
+  pub still : rows.by_context ≡ false → (x : ℕ) → slice_index asks x ≡ 0
   pub froms_are : (x y : ℕ) (c : Context) → x < rows.size →
       is_from rows.size width froms rests x y c ≡ in_row rows y x c
-  pub unasked : (x q y : ℕ) → x < rows.size → q < 12 → y < rows.size → has_word_bit asks x ≡ false →
+  pub few_asked : (x q : ℕ) → 12 ≤ q → word_bit (slice_index asks x) q ≡ false
+  pub unasked : (x q y : ℕ) → x < rows.size → q < 12 → y < rows.size → word_bit (slice_index asks x) q ≡ false →
       in_rows rests width (12 * x + q) y ≡ false
   pub successors_have : (x y : ℕ) (c : Context) → x < rows.size → y < rows.size → in_row rows x y c ≡ true → y ≢ x →
       in_rows successors width x y ≡ true

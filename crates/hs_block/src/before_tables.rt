@@ -1,7 +1,7 @@
 //! Which positions may come before each other, as rows of bits.
 
 ghost use Rattle.std.specs.Prelude.{◌≡◌, ◌≢◌, ℕ, ◌+◌, ◌*◌, ◌/◌, ◌%◌, ◌<◌, ◌≤◌, ◌++◌, ◌&&◌, ◌||◌, ◌==◌, not, IfOk};
-ghost use Rattle.std.specs.Prelude.{true, false, List, length, take, vec_len};
+ghost use Rattle.std.specs.Prelude.{true, false, List, length, slice_index, take, vec_len};
 ghost use Rattle.hs_base.specs.Bits.{has_bit, has_word_bit, word_count};
 ghost use Rattle.hs_base.specs.Contexts.{next_number, prev_number};
 ghost use Rattle.hs_engine.specs.RowSizes.{class_number, row_len, square_count};
@@ -9,12 +9,12 @@ ghost use Rattle.hs_base.specs.declared.context.Prev.{Prev};
 ghost use Rattle.hs_engine.specs.Rows.{in_square, square_number};
 ghost use Rattle.hs_bits.specs.BlockContexts.{AreContexts, context_before};
 ghost use Rattle.hs_bits.specs.WordBits.{word_bit};
-ghost use Rattle.hs_block.specs.StreamSets.{RowsFit, in_rows};
+ghost use Rattle.hs_block.specs.StreamSets.{AreSquares, RowsFit, in_rows};
 
 use hs_base::{Next, NextSet, Prev};
 use hs_bits::{
     BYTE_BITS, Contexts, WORD_BITS, contains_bit, contains_word_bit, is_unset, put_word_bit,
-    unite_bytes, word_count_for, write_word_bit,
+    unite_bytes, with_place, word_count_for, write_word_bit,
 };
 use hs_engine::{CLASS_COUNT, FollowRows};
 use std::alloc::{AllocError, Global};
@@ -53,13 +53,35 @@ pub(crate) fn class_of(number: usize) -> Next
 }
 
 /// The places whose context, where the byte there comes next, has that number of the twelve.
-pub(crate) fn square_places(contexts: &Contexts, square: usize) -> u64
+#[inline(always)]
+fn square_places(contexts: &Contexts, square: usize) -> u64
     requires { square < 12 }
     ensures { (prev : Prev) (bytes : List ℕ) → AreContexts contexts.now prev bytes → (i : ℕ) → i < length bytes →
         word_bit result i ≡ (square_number true (context_before prev bytes i) == square) }
 {
     let class = NextSet::of(class_of(square % CLASS_COUNT));
     contexts.behind_prev(prev_of(square / CLASS_COUNT)) & contexts.among(class)
+}
+
+/// The same of each of the twelve.
+pub(crate) fn places_by_square(contexts: &Contexts) -> [u64; SQUARES]
+    ensures { (prev : Prev) (bytes : List ℕ) → AreContexts contexts.now prev bytes →
+        AreSquares result prev bytes }
+{
+    [
+        square_places(contexts, 0),
+        square_places(contexts, 1),
+        square_places(contexts, 2),
+        square_places(contexts, 3),
+        square_places(contexts, 4),
+        square_places(contexts, 5),
+        square_places(contexts, 6),
+        square_places(contexts, 7),
+        square_places(contexts, 8),
+        square_places(contexts, 9),
+        square_places(contexts, 10),
+        square_places(contexts, 11),
+    ]
 }
 
 /// The row of that number.
@@ -229,20 +251,41 @@ fn rests_of(
     Ok(rows)
 }
 
-/// The positions of whose rows for squares one has a bit.
-fn asks_of(rests: &[u64], width: usize, size: usize) -> [u64; MAX_WIDTH]
+/// The squares in whose rows of a position a bit is set.
+fn asked_squares(rests: &[u64], width: usize, position: usize) -> u64
+    requires few { position < 512 }
+    requires room { width * (12 * position) + width * 12 ≤ length rests.now }
+    ensures few { (q : ℕ) → 12 ≤ q → word_bit result q ≡ false }
+    ensures unasked { (q y : ℕ) → q < 12 → y < 64 * width → word_bit result q ≡ false →
+        in_rows rests.now width (12 * position + q) y ≡ false }
+{
+    let mut squares = 0;
+    for square in 0..SQUARES {
+        let row = row_at(rests, width, SQUARES * position + square);
+        squares = with_place(squares, square, !is_unset(row));
+    }
+    squares
+}
+
+/// For each position the squares in whose rows a bit is set.
+fn asks_of(
+    alloc: Global,
+    rests: &[u64],
+    width: usize,
+    size: usize,
+) -> Result<Vec<u64>, AllocError>
     requires few { size ≤ 512 }
     requires rests { length rests.now ≡ width * (12 * size) }
-    ensures len { length result ≡ 8 }
-    ensures unasked { (x q y : ℕ) → x < size → q < 12 → y < 64 * width → has_word_bit result x ≡ false →
-        in_rows rests.now width (12 * x + q) y ≡ false }
+    ensures count { IfOk result (λ asks. vec_len asks ≡ size) }
+    ensures few { IfOk result (λ asks. (x q : ℕ) → 12 ≤ q → word_bit (slice_index asks.items x) q ≡ false) }
+    ensures unasked { IfOk result (λ asks. (x q y : ℕ) → x < size → q < 12 → y < 64 * width →
+        word_bit (slice_index asks.items x) q ≡ false → in_rows rests.now width (12 * x + q) y ≡ false) }
 {
-    let mut asks = [0u64; MAX_WIDTH];
+    let mut asks = Vec::with_capacity(alloc, size)?;
     for position in 0..size {
-        let part = row_at(rests, SQUARES * width, position);
-        put_word_bit(&mut asks, position, !is_unset(part));
+        asks.push(asked_squares(rests, width, position))?;
     }
-    asks
+    Ok(asks)
 }
 
 /// For each position the row of those that may come behind it in some context, without itself.
@@ -273,8 +316,8 @@ pub(crate) struct OrderTables {
     pub rests: Vec<u64>,
     /// For each position the row of those that may come behind it in some context, without itself.
     pub successors: Vec<u64>,
-    /// The positions for which contexts matter.
-    pub asks: [u64; MAX_WIDTH],
+    /// For each position a bit for each of these contexts in which others may come before it than in each.
+    pub asks: Vec<u64>,
 }
 
 impl OrderTables {
@@ -284,14 +327,14 @@ impl OrderTables {
     pub(crate) fn build(alloc: Global, follows: &FollowRows) -> Result<OrderTables, AllocError>
         requires { follows.now.size ≤ 512 }
         ensures { IfOk result (λ tables. AreOrders follows.now tables.width tables.froms.items tables.rests.items
-            tables.successors.items tables.asks) }
+            tables.successors.items tables.asks.items) }
     {
         let width = word_count_for(follows.size());
         let froms = froms_of(alloc, follows, width)?;
         let successors = successors_of(alloc, follows, width)?;
         if follows.square_count() == 1 {
             let rests = Vec::new(alloc);
-            let asks = [0u64; MAX_WIDTH];
+            let asks = vec![in alloc; 0u64; follows.size()]?;
             return Ok(OrderTables {
                 width,
                 froms,
@@ -301,7 +344,7 @@ impl OrderTables {
             });
         }
         let rests = rests_of(alloc, follows, width, &froms)?;
-        let asks = asks_of(&rests, width, follows.size());
+        let asks = asks_of(alloc, &rests, width, follows.size())?;
         Ok(OrderTables {
             width,
             froms,

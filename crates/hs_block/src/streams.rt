@@ -20,10 +20,12 @@ ghost use Rattle.hs_engine.specs.Automata.{in_mask, in_set};
 ghost use Rattle.hs_bits.specs.BlockContexts.{AreMade, context_before, context_behind};
 ghost use Rattle.hs_block.specs.Rows.{is_next, live_at};
 ghost use Rattle.hs_block.specs.Settling.{AreLive, IsSettled};
-ghost use Rattle.hs_block.specs.StreamSets.{RowsFit, in_rows, is_from, takes_byte};
+ghost use Rattle.hs_block.specs.StreamSets.{AreSquares, RowsFit, in_rows, is_from, takes_byte};
 ghost use Rattle.hs_bits.specs.WordBits.{one_later, word_bit};
 
-use crate::before_tables::{EXACT_WIDTH, MAX_WIDTH, OrderTables, SQUARES, row_in, square_places};
+use crate::before_tables::{
+    EXACT_WIDTH, MAX_WIDTH, OrderTables, SQUARES, places_by_square, row_in,
+};
 use crate::class_words::{ClassWords, MAX_SETS, class_word};
 use crate::mask_places::{places_before, places_behind};
 use crate::mask_words::{has_mixed, some_row};
@@ -31,9 +33,9 @@ use crate::position_words::{column, meet, united_rows, word_behind};
 use crate::set_tables::SetTables;
 use hs_base::{ByteSet, Mask, Prev};
 use hs_bits::{
-    Contexts, WORD_BITS, contains_place, contains_word_bit, contexts_of, is_unset, is_zero,
-    keep_words, load, low_places, next_bit_in, one_later, only_if, place_count, place_in, store,
-    unite_words, write_word_bit,
+    Contexts, WORD_BITS, contains_place, contains_word_bit, contexts_of, is_zero, keep_words, load,
+    low_places, lowest_bit, next_bit_in, one_later, only_if, place_count, place_in, store,
+    unite_words, without_lowest_bit, write_word_bit,
 };
 use hs_engine::{Automaton, BlockEnds, Steps, first_bytes};
 use std::alloc::{AllocError, Global};
@@ -45,7 +47,7 @@ pub const MAX_STREAMS: usize = MAX_WIDTH * WORD_BITS;
 const ROUNDS: usize = 8;
 
 /// The tables of an automaton of at most 512 positions, for whole blocks: 32 bytes for each set, and for each position
-/// 24 bytes and two rows of bits, with a bit for each position; where contexts matter between positions twelve more.
+/// 32 bytes and two rows of bits, with a bit for each position; where contexts matter between positions twelve more.
 #[derive(Debug, Drop)]
 pub struct Streams {
     /// How many positions there are.
@@ -61,8 +63,8 @@ pub struct Streams {
     /// For each position and each context in which a byte comes next the row of those that may come before it there,
     /// but not in each; none at all where contexts don't matter.
     pub(crate) rests: Vec<u64>,
-    /// The positions for which contexts matter.
-    pub(crate) asks: [u64; MAX_WIDTH],
+    /// For each position a bit for each of these contexts in which others may come before it than in each.
+    pub(crate) asks: Vec<u64>,
     /// For each position the row of those that may come behind it, without itself.
     pub(crate) successors: Vec<u64>,
     /// For each position the contexts in which it is entered.
@@ -75,12 +77,15 @@ pub struct Streams {
     pub(crate) accepting: [u64; MAX_WIDTH],
     /// Whether a context matters anywhere.
     mixed: bool,
+    /// Whether one matters between positions.
+    pub(crate) asking: bool,
     ghost few: { size ≤ 512 },
     ghost wide: { width ≡ word_count size },
     ghost numbered: { vec_len numbers ≡ size },
     ghost froms_whole: { vec_len froms ≡ width * size },
     ghost succeeded: { vec_len successors ≡ width * size },
-    ghost asks_len: { length asks ≡ 8 },
+    ghost asks_count: { vec_len asks ≡ size },
+    ghost still: { asking ≡ false → (x : ℕ) → slice_index asks.items x ≡ 0 },
     ghost entered_len: { length entered ≡ 8 },
     ghost accepting_len: { length accepting ≡ 8 },
     ghost entered_all: { vec_len enters ≡ size },
@@ -88,8 +93,9 @@ pub struct Streams {
     ghost few_sets: { vec_len sets ≤ 64 },
     ghost some_sets: { 0 < vec_len sets },
     ghost in_sets: { (x : ℕ) → slice_index numbers.items x < vec_len sets },
-    ghost asked: { (x : ℕ) → has_word_bit asks x ≡ true → width * (12 * size) ≤ vec_len rests },
-    ghost unasked: { (x q y : ℕ) → x < size → q < 12 → y < size → has_word_bit asks x ≡ false →
+    ghost few_asked: { (x q : ℕ) → 12 ≤ q → word_bit (slice_index asks.items x) q ≡ false },
+    ghost asked: { asking ≡ true → width * (12 * size) ≤ vec_len rests },
+    ghost unasked: { (x q y : ℕ) → x < size → q < 12 → y < size → word_bit (slice_index asks.items x) q ≡ false →
         in_rows rests.items width (12 * x + q) y ≡ false },
     ghost successors_have: { (x y : ℕ) (c : Context) → x < size → y < size →
         is_from size width froms.items rests.items y x c ≡ true → y ≢ x →
@@ -122,11 +128,14 @@ struct Entry<const W: usize> {
     prev: Prev,
     /// The contexts of its places, if they are made.
     contexts: Option<Contexts>,
+    /// Its places by the twelve contexts in which a byte comes next, if positions ask for them.
+    squares: [u64; SQUARES],
     /// The places before whose bytes the expression is entered.
     enters: u64,
     /// The positions that are live before it.
     state: [u64; W],
     ghost state_len: { length state ≡ W },
+    ghost squares_len: { length squares ≡ 12 },
 }
 
 /// What is still to be done for the words of a block.
@@ -154,7 +163,7 @@ impl Streams {
     ghost use Rattle.hs_block.specs.Blocks.{is_blank};
     ghost use Rattle.hs_bits.specs.Packed.{packed};
     ghost use Rattle.hs_block.specs.StreamRuns.{IsTried};
-    ghost use Rattle.hs_block.specs.StreamTables.{AreClassWords, TellsOf, comes_before, stream_rules};
+    ghost use Rattle.hs_block.specs.StreamTables.{AreClassWords, AreSquaresFor, TellsOf, comes_before, stream_rules};
 
     /// The tables of an automaton; None where it has too many sets.
     pub fn build(alloc: Global, automaton: &Automaton) -> Result<Option<Streams>, AllocError>
@@ -190,7 +199,6 @@ impl Streams {
         let mixed = asking | has_mixed(automaton.enters()) | has_mixed(automaton.accepts());
         let entered = some_row(automaton.enters());
         let accepting = some_row(automaton.accepts());
-        let asks = orders.asks;
         Ok(Streams {
             size: automaton.size(),
             width: orders.width,
@@ -198,13 +206,14 @@ impl Streams {
             numbers: tables.numbers,
             froms: orders.froms,
             rests: orders.rests,
-            asks,
+            asks: orders.asks,
             successors: orders.successors,
             enters,
             accepts,
             entered,
             accepting,
             mixed,
+            asking,
         })
     }
 
@@ -302,7 +311,7 @@ impl Streams {
         self.take::<L, MAX_WIDTH, MAX_STREAMS>(region, setting, whole, count, first, steps)
     }
 
-    /// Takes them by words that are 0 so far. The places of the first bytes are told.
+    /// Takes them by rows of just so many words, or of as many as there may be. The places of the first bytes are told.
     fn take<L: Ledger, const W: usize, const N: usize>(
         &self,
         region: &mut [u8],
@@ -324,9 +333,11 @@ impl Streams {
         ensures { IsTried self.now setting.now.prev region.old region.new setting.now.enters whole.now count result
             steps.old steps.new }
     {
+        let contexts = self.contexts(setting.prev, whole);
         let entry = Entry {
             prev: setting.prev,
-            contexts: self.contexts(setting.prev, whole),
+            squares: self.squares(&contexts, setting.prev, whole),
+            contexts,
             enters: setting.enters,
             state: load::<W>(region),
         };
@@ -353,6 +364,19 @@ impl Streams {
         }
     }
 
+    /// The places of a block by the twelve contexts in which a byte comes next, where a position asks for them.
+    #[inline(always)]
+    fn squares(&self, contexts: &Option<Contexts>, prev: Prev, whole: &[u8]) -> [u64; SQUARES]
+        requires whole { length whole.now ≡ 64 }
+        requires made { AreMade contexts.now prev whole.now }
+        ensures { AreSquaresFor self.now result prev whole.now }
+    {
+        if !self.asking {
+            return [0; SQUARES];
+        }
+        places_by_square(&contexts_of(*contexts, prev, whole))
+    }
+
     /// Makes the words of the positions until they come to rest, and tells which aren't 0; None where they don't.
     fn solve<const W: usize>(
         &self,
@@ -364,6 +388,7 @@ impl Streams {
         requires fits { RowsFit self.now.width W }
         requires whole { length whole.now ≡ 64 }
         requires made { AreMade entry.now.contexts entry.now.prev whole.now }
+        requires squares { AreSquaresFor self.now entry.now.squares entry.now.prev whole.now }
         requires first { (i : ℕ) → i < 64 →
             word_bit first i ≡ in_set (slice_get self.now.sets.items 0) (slice_index whole.now i) }
         requires state { (y : ℕ) → self.now.size ≤ y → has_word_bit entry.now.state y ≡ false }
@@ -446,6 +471,7 @@ impl Streams {
         requires position { position < self.now.size }
         requires whole { length whole.now ≡ 64 }
         requires made { AreMade entry.now.contexts entry.now.prev whole.now }
+        requires squares { AreSquaresFor self.now entry.now.squares entry.now.prev whole.now }
         requires state { (y : ℕ) → self.now.size ≤ y → has_word_bit entry.now.state y ≡ false }
         requires known { AreClassWords classes.old self.now.sets.items whole.now }
         requires room { 64 * self.now.width ≤ length words.old }
@@ -491,6 +517,7 @@ impl Streams {
         requires position { position < self.now.size }
         requires whole { length whole.now ≡ 64 }
         requires made { AreMade entry.now.contexts entry.now.prev whole.now }
+        requires squares { AreSquaresFor self.now entry.now.squares entry.now.prev whole.now }
         requires known { AreClassWords classes.old self.now.sets.items whole.now }
         requires room { 64 * self.now.width ≤ length words.now }
         requires state { (y : ℕ) → self.now.size ≤ y → has_word_bit entry.now.state y ≡ false }
@@ -503,7 +530,7 @@ impl Streams {
             (live_at (has_word_bit entry.now.state) (set words.now position word) i) position) }
     {
         let entered = entered_places(entry, whole, self.enters[position]);
-        let arrivals = self.arrivals(position, entry, whole, words, live);
+        let arrivals = self.arrivals(position, entry, words, live);
         let reached = entered | arrivals.led;
         if reached == 0 {
             return Some(0);
@@ -518,49 +545,49 @@ impl Streams {
         &self,
         position: usize,
         entry: &Entry<W>,
-        whole: &[u8],
         words: &[u64],
         live: &[u64],
     ) -> Arrivals
         requires fits { RowsFit self.now.width W }
         requires position { position < self.now.size }
-        requires whole { length whole.now ≡ 64 }
-        requires made { AreMade entry.now.contexts entry.now.prev whole.now }
         requires room { 64 * self.now.width ≤ length words.now }
         requires state { (y : ℕ) → self.now.size ≤ y → has_word_bit entry.now.state y ≡ false }
         requires lit { AreLive self.now.size W words.now live.now }
-        ensures led { (i : ℕ) → i < 64 → word_bit result.led i ≡ any_below self.now.size
+        ensures led { (bytes : List ℕ) → length bytes ≡ 64 →
+            AreSquaresFor self.now entry.now.squares entry.now.prev bytes →
+            (i : ℕ) → i < 64 → word_bit result.led i ≡ any_below self.now.size
             (λ y. live_at (has_word_bit entry.now.state) words.now i y
-            && comes_before self.now position y (context_before entry.now.prev whole.now i)) }
-        ensures again { (i : ℕ) → i < 64 → word_bit result.again i
-            ≡ comes_before self.now position position (context_before entry.now.prev whole.now i) }
+            && comes_before self.now position y (context_before entry.now.prev bytes i)) }
+        ensures again { (bytes : List ℕ) → length bytes ≡ 64 →
+            AreSquaresFor self.now entry.now.squares entry.now.prev bytes →
+            (i : ℕ) → i < 64 → word_bit result.again i
+            ≡ comes_before self.now position position (context_before entry.now.prev bytes i) }
     {
         let row = row_in::<W>(&self.froms, self.width, position);
         let always = arrive(row, position, entry, words, live);
-        if contains_word_bit(&self.asks, position) {
-            self.by_context(always, position, entry, whole, words, live)
-        } else {
-            always
+        let asks = self.asks.as_slice()[position];
+        if asks == 0 {
+            return always;
         }
+        self.by_context(always, asks, position, entry, words, live)
     }
 
-    /// The same, with the arrivals that every context allows told.
+    /// The same, with the arrivals that every context allows told, and the contexts in which there may be others.
     #[inline(never)]
     fn by_context<const W: usize>(
         &self,
         always: Arrivals,
+        asks: u64,
         position: usize,
         entry: &Entry<W>,
-        whole: &[u8],
         words: &[u64],
         live: &[u64],
     ) -> Arrivals
         requires fits { RowsFit self.now.width W }
         requires position { position < self.now.size }
-        requires whole { length whole.now ≡ 64 }
-        requires made { AreMade entry.now.contexts entry.now.prev whole.now }
         requires room { 64 * self.now.width ≤ length words.now }
-        requires asks { has_word_bit self.now.asks position ≡ true }
+        requires asks { asks ≡ slice_index self.now.asks.items position }
+        requires asking { self.now.asking ≡ true }
         requires state { (y : ℕ) → self.now.size ≤ y → has_word_bit entry.now.state y ≡ false }
         requires lit { AreLive self.now.size W words.now live.now }
         requires led { (i : ℕ) → i < 64 → word_bit always.led i ≡ any_below self.now.size
@@ -568,20 +595,24 @@ impl Streams {
             && in_rows self.now.froms.items self.now.width position y) }
         requires again { (i : ℕ) → i < 64 → word_bit always.again i
             ≡ in_rows self.now.froms.items self.now.width position position }
-        ensures led { (i : ℕ) → i < 64 → word_bit result.led i ≡ any_below self.now.size
+        ensures led { (bytes : List ℕ) → length bytes ≡ 64 → AreSquares entry.now.squares entry.now.prev bytes →
+            (i : ℕ) → i < 64 → word_bit result.led i ≡ any_below self.now.size
             (λ y. live_at (has_word_bit entry.now.state) words.now i y
-            && comes_before self.now position y (context_before entry.now.prev whole.now i)) }
-        ensures again { (i : ℕ) → i < 64 → word_bit result.again i
-            ≡ comes_before self.now position position (context_before entry.now.prev whole.now i) }
+            && comes_before self.now position y (context_before entry.now.prev bytes i)) }
+        ensures again { (bytes : List ℕ) → length bytes ≡ 64 → AreSquares entry.now.squares entry.now.prev bytes →
+            (i : ℕ) → i < 64 → word_bit result.again i
+            ≡ comes_before self.now position position (context_before entry.now.prev bytes i) }
     {
-        let contexts = contexts_of(entry.contexts, entry.prev, whole);
         let mut all = always;
-        for square in 0..SQUARES {
-            let row = row_in::<W>(&self.rests, self.width, SQUARES * position + square);
-            if is_unset(row) {
+        let mut left = asks;
+        while left != 0 {
+            let square = lowest_bit(left);
+            left = without_lowest_bit(left);
+            let places = entry.squares[square];
+            if places == 0 {
                 continue;
             }
-            let places = square_places(&contexts, square);
+            let row = row_in::<W>(&self.rests, self.width, SQUARES * position + square);
             let more = arrive(row, position, entry, words, live);
             all = Arrivals {
                 led: all.led | (more.led & places),

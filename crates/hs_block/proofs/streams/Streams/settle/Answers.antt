@@ -51,7 +51,7 @@ word_of-requires g c =
     let words = c.args.words.now in
     let x = c.args.position in
     let below : x < length words = omega (arith, c.requires.position, c.requires.room, s.wide) in (
-      small-size (56 + g.row.W * 8) (omega (arith, c.requires.fits.few)),
+      small-size (152 + g.row.W * 8) (omega (arith, c.requires.fits.few)),
       (
         c.requires.fits,
         (
@@ -61,14 +61,17 @@ word_of-requires g c =
             (
               c.requires.made,
               (
-                c.requires.known,
+                c.requires.squares,
                 (
-                  omega (arith, c.requires.room, length-set words x 0),
+                  c.requires.known,
                   (
-                    c.requires.state,
+                    omega (arith, c.requires.room, length-set words x 0),
                     (
-                      record { len = c.args.work.now.live_len; few = c.requires.settled.live_few; dark = set-none words c.args.work.now.live x below c.requires.settled.dark },
-                      get_or-set_same words x 0 0 below,
+                      c.requires.state,
+                      (
+                        record { len = c.args.work.now.live_len; few = c.requires.settled.live_few; dark = set-none words c.args.work.now.live x below c.requires.settled.dark },
+                        get_or-set_same words x 0 0 below,
+                      ),
                     ),
                   ),
                 ),
