@@ -72,17 +72,6 @@ turned-twice n word bit is k below =
     let back : n - suc (n - suc k) ≡ k = omega arith in
     sym (ap bit back) ∙ (sym (turned-below n bit (n - suc k) (omega arith)) ∙ (sym (is (n - suc k)) ∙ sym (turned-below n (word_bit word) k below)))
 
--- a bit that is written, all above being unset
-pub put-more : (test : ℕ → Bool) (k p : ℕ) (bit before now : Bool) → (k ≡ p → bit ≡ test k) → before ≡ (nat_lt k p && test k) → now ≡ (if eqb k p then bit else before) → now ≡ (nat_lt k (p + 1) && test k)
-put-more test k p bit before now here old put =
-    elim (cases_eq k p) [
-      | inl same ↦
-          put ∙ (ap (λ b. if b then bit else before) (eq-eqb k p same) ∙ (here same ∙ ap (λ b. b && test k) (sym (less-is k (p + 1) (omega arith)))))
-      | inr apart ↦
-          let under : nat_lt k p ≡ nat_lt k (p + 1) = grind (arith, nat_tests) in
-          put ∙ (ap (λ b. if b then bit else before) (ne_eqb k p apart) ∙ (old ∙ ap (λ b. b && test k) under))
-    ]
-
 -- two words, of which the lowest bits are kept
 
 pub words-below : (low x y count i : ℕ) (a b : Bool) → ((k : ℕ) → word_bit low k ≡ nat_lt k count) → i < count → word_bit x i ≡ a → word_bit y i ≡ b → word_bit (bit_and low (bit_and x y)) i ≡ (a && b)

@@ -21,18 +21,3 @@ BlocksHandOn =
 -- Without a byte it is left nowhere.
 abbrev pub HandingOnBegins : Type 0
 HandingOnBegins = (tree : Tree) → HandsOn tree [] [] []
-
--- Whether a literal ends at an offset of a text is told by the bytes before it.
-abbrev pub LiteralEndsStay : Type 0
-LiteralEndsStay =
-    (literal : List LiteralByte) (w v : List ℕ) (offset : ℕ) →
-    offset ≤ length w →
-    EndsAt literal w offset ↔ EndsAt literal (w ++ v) offset
-
--- A literal has no empty span.
-abbrev pub LiteralsAreNeverEmpty : Type 0
-LiteralsAreNeverEmpty =
-    (literal : List LiteralByte) (u : List ℕ) (next : Next) →
-    1 ≤ length literal →
-    IsEmptyAt (piece_tree (lit literal)) u next →
-    ⊥

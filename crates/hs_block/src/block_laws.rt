@@ -1,6 +1,6 @@
 //! Laws of blocks of bytes: each is the contract of a function that does nothing.
 
-ghost use Rattle.hs_block.specs.BlockLaws.{BlocksHandOn, HandingOnBegins, LiteralEndsStay, LiteralsAreNeverEmpty};
+ghost use Rattle.hs_block.specs.BlockLaws.{BlocksHandOn, HandingOnBegins};
 
 /// Blocks follow each other: what is told of a block goes on with what is told of the bytes before it.
 pub fn blocks_hand_on()
@@ -10,14 +10,4 @@ pub fn blocks_hand_on()
 /// Before the first block nothing is told.
 pub fn handing_on_begins()
     ensures { HandingOnBegins }
-{}
-
-/// Bytes behind an offset don't change whether a literal ends there.
-pub fn literal_ends_stay()
-    ensures { LiteralEndsStay }
-{}
-
-/// A literal is left nowhere without a byte.
-pub fn literals_are_never_empty()
-    ensures { LiteralsAreNeverEmpty }
 {}

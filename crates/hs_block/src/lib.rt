@@ -15,5 +15,5 @@ mod streams;
 
 pub use by_steps::run_by_steps;
 pub use engine::BlockEngine;
-pub use literal::{Hits, LiteralRun, carry_of, entries_from, keep_carry, run_literal};
+pub use literal::{Hits, LiteralRun, entries_from, run_literal};
 pub use streams::{MAX_STREAMS, Streams};

@@ -10,15 +10,11 @@
 //! left here          . . . . . 1 . . . .
 //! ```
 
-ghost use Rattle.std.specs.Prelude.{◌≡◌, ◌↔◌, ℕ, ◌+◌, ◌*◌, ◌<◌, ◌≤◌, Bool, List, length};
-ghost use Rattle.hs_base.specs.Bits.{has_bit};
-ghost use Rattle.hs_base.specs.LiteralRows.{TellsEntries};
-ghost use Rattle.hs_block.specs.LiteralBlocks.{RunsLiteral, TellsCarried, is_hit, turned, was_entered};
+ghost use Rattle.std.specs.Prelude.{◌≡◌, ℕ, ◌+◌, ◌<◌, ◌≤◌};
+ghost use Rattle.hs_block.specs.LiteralBlocks.{RunsLiteral, is_hit, was_entered};
 ghost use Rattle.hs_bits.specs.WordBits.{word_bit};
 
-use hs_bits::{
-    clear_bits, contains_bit, contains_place, low_places, one_later, with_place, write_bit,
-};
+use hs_bits::{low_places, one_later};
 use hs_engine::BlockEnds;
 
 /// Where a literal ends in a block.
@@ -79,37 +75,5 @@ pub fn run_literal(len: usize, hits: Hits, enters: u64, carry: u64, count: usize
             behind: block & (hits.behind & entries_from(len, enters, carry, 1)),
         },
         carry: entries_from(len, enters, carry, count),
-    }
-}
-
-/// The word for a block, from the bytes that are kept of a literal: there the nearest entry comes first.
-pub fn carry_of(row: &[u8], len: usize) -> u64
-    requires short { len ≤ 32 }
-    requires room { len ≤ 8 * length row.now }
-    ensures bits { (i : ℕ) → word_bit result i ≡ turned len (has_bit row.now) i }
-    ensures tells { (u : List ℕ) (entered : List Bool) →
-        TellsEntries len (has_bit row.now) u entered → TellsCarried len result u entered }
-{
-    let mut carry = 0;
-    for place in 0..len {
-        let kept = contains_bit(row, len - 1 - place);
-        carry = with_place(carry, place, kept);
-    }
-    carry
-}
-
-/// Makes the bytes that are kept of a literal those of the word.
-pub fn keep_carry(row: &mut [u8], len: usize, carry: u64)
-    requires short { len ≤ 32 }
-    requires room { len ≤ 8 * length row.old }
-    ensures len { length row.new ≡ length row.old }
-    ensures bits { (k : ℕ) → has_bit row.new k ≡ turned len (word_bit carry) k }
-    ensures tells { (u : List ℕ) (entered : List Bool) →
-        TellsCarried len carry u entered → TellsEntries len (has_bit row.new) u entered }
-{
-    clear_bits(row);
-    for bit in 0..len {
-        let carried = contains_place(carry, len - 1 - bit);
-        write_bit(row, bit, carried);
     }
 }

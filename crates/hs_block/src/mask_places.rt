@@ -41,16 +41,6 @@ pub(crate) fn places_behind(made: &Option<Contexts>, prev: Prev, whole: &[u8], m
 {
     match in_all_contexts(mask) {
         Some(everywhere) => only_if(u64::MAX, everywhere),
-        None => some_behind(made, prev, whole, mask),
+        None => contexts_of(*made, prev, whole).places_behind(mask),
     }
-}
-
-/// The same for a mask that has some contexts alone.
-#[inline(never)]
-fn some_behind(made: &Option<Contexts>, prev: Prev, whole: &[u8], mask: Mask) -> u64
-    requires whole { length whole.now ≡ 64 }
-    requires made { AreMade made.now prev whole.now }
-    ensures { (i : ℕ) → i < 64 → word_bit result i ≡ has_context mask (context_behind prev whole.now i) }
-{
-    contexts_of(*made, prev, whole).places_behind(mask)
 }

@@ -15,23 +15,11 @@ pub(crate) fn has_mixed(masks: &[Mask]) -> bool
         in_mask (slice_get masks.now k) c ≡ in_mask (slice_get masks.now k) d }
 {
     for position in 0..masks.len() {
-        if is_mixed(masks, position) {
+        if in_all_contexts(masks[position]).is_none() {
             return true;
         }
     }
     false
-}
-
-/// Whether the mask of that number has some contexts alone.
-fn is_mixed(masks: &[Mask], number: usize) -> bool
-    requires { number < length masks.now }
-    ensures { result ≡ false → (c d : Context) →
-        in_mask (slice_get masks.now number) c ≡ in_mask (slice_get masks.now number) d }
-{
-    match in_all_contexts(masks[number]) {
-        Some(_) => false,
-        None => true,
-    }
 }
 
 /// The row of the positions whose mask has some context.
@@ -43,18 +31,8 @@ pub(crate) fn some_row(masks: &[Mask]) -> [u64; MAX_WIDTH]
 {
     let mut row = [0u64; MAX_WIDTH];
     for position in 0..masks.len() {
-        put_word_bit(&mut row, position, has_some(masks, position));
+        let some = in_all_contexts(masks[position]).unwrap_or(true);
+        put_word_bit(&mut row, position, some);
     }
     row
-}
-
-/// Whether the mask of that number has some context.
-fn has_some(masks: &[Mask], number: usize) -> bool
-    requires { number < length masks.now }
-    ensures { (c : Context) → in_mask (slice_get masks.now number) c ≡ true → result ≡ true }
-{
-    match in_all_contexts(masks[number]) {
-        Some(everywhere) => everywhere,
-        None => true,
-    }
 }

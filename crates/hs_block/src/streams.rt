@@ -342,9 +342,7 @@ impl Streams {
             state: load::<W>(region),
         };
         let mut words = [0u64; N];
-        let Some(live) = self.solve(&entry, whole, first, &mut words) else {
-            return None;
-        };
+        let live = self.solve(&entry, whole, first, &mut words)?;
         let busy = self.busy_places(&entry, &words, &live, count, setting.blank);
         steps.tick_by(place_count(busy));
         let ends = self.ends(&entry, whole, &words, &live, count);
