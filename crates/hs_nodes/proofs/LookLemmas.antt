@@ -3,6 +3,8 @@ use Rattle.std.proofs.Common.{◌≡◌, ℕ, zero, suc, ◌+◌, ◌-◌, ◌<�
 use Rattle.std.proofs.lemmas.List.{length-map, map-append, append-nil, take_more, length-take-le, take-append-drop, length-replicate, get_or-drop, get_or-take, get_or-append-add}
 use Rattle.std.proofs.lemmas.Option.{slice_get-get_or}
 use Rattle.std.proofs.Math.Seq.{take-add}
+use Rattle.std.proofs.Common.{Option}
+use Rattle.std.specs.Option.{is_some}
 use Rattle.hs_base.specs.declared.context.Mask.{Mask}
 use Rattle.hs_base.specs.declared.context.Next.{Next}
 use Rattle.hs_base.specs.declared.context.NextSet.{NextSet}
@@ -233,6 +235,10 @@ second-true false b e = e
 -- where the expression has the empty span
 pub never-between : (tree : Tree) (u : List ℕ) (next : Next) → IsNull None tree → (false ≡ true) ↔ IsEmptyAt tree u next
 never-between tree u next never = (λ set. absurd (cc), λ empty. absurd (never u next empty))
+
+pub no-mask : (null : Option Mask) (tree : Tree) (u : List ℕ) (next : Next) → is_some null ≡ false → IsNull null tree → (false ≡ true) ↔ IsEmptyAt tree u next
+no-mask None tree u next is never = never-between tree u next never
+no-mask (Some mask) tree u next is null = absurd (let both : true ≡ false = is in cc)
 
 pub mask-between : (tree : Tree) (mask : Mask) (u : List ℕ) (prev : Prev) (next : Next) (holds : Bool) → IsNull (Some mask) tree → prev ≡ prev_at u (length u) → holds ≡ has_context mask (record { prev = prev; next = next }) → (holds ≡ true) ↔ IsEmptyAt tree u next
 mask-between tree mask u prev next holds null stands is =

@@ -2,10 +2,6 @@
 
 ghost use Rattle.std.specs.Prelude.{◌≡◌, ◌↔◌, ◌+◌, ◌*◌, ◌<◌, ◌≤◌, ◌^◌, ℕ, List, [], Some, false, length, true};
 ghost use Rattle.std.specs.Prelude.{slice_get};
-ghost use Rattle.hs_base.specs.Contexts.{prev_at};
-ghost use Rattle.hs_base.specs.Leaving.{IsEmptyAt};
-ghost use Rattle.hs_base.specs.Trees.{Tree};
-ghost use Rattle.hs_nodes.specs.Contexts.{IsNull};
 ghost use Rattle.hs_nodes.specs.LookBacks.{TellsPair};
 ghost use Rattle.hs_nodes.specs.Edges.{HasEdges};
 ghost use Rattle.hs_nodes.specs.Nodes.{IsKindSound, IsWellPart, window_room};
@@ -19,6 +15,7 @@ use crate::chunk::Chunk;
 use crate::ends::ChunkEnds;
 use crate::hits::ChunkHits;
 use crate::look_back::leaves_at_start;
+use crate::nulls::is_empty_between;
 use crate::table::{LookBackPair, MAX_LOOK_BACK_REGION, NodeKind, NodeTable};
 use crate::walking::node_at;
 use hs_base::{Mask, Next, Prev};
@@ -42,17 +39,6 @@ pub struct Stop<'h, 'p> {
     pub hits: &'h [ChunkHits],
     ghost whole: { length past.now ≡ 64 },
     ghost room: { at < 2 ^ 63 },
-}
-
-/// Whether an expression has the empty span where that stands before and that comes next.
-fn is_empty_between(null: Option<Mask>, prev: Prev, next: Next) -> bool
-    ensures { (tree : Tree) (u : List ℕ) → IsNull null tree → prev ≡ prev_at u (length u) →
-        (result ≡ true) ↔ IsEmptyAt tree u next }
-{
-    match null {
-        None => false,
-        Some(mask) => mask.contains(prev, next),
-    }
 }
 
 /// Whether an engine and the pieces before it are left, if those are or not.

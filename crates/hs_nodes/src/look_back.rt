@@ -21,7 +21,7 @@ ghost use Rattle.hs_nodes.specs.declared.hits.ChunkHits.{ChunkHits};
 use crate::chunk::{Chunk, MAX_BLOCKS, PAST_BYTES};
 use crate::ends::{ChunkEnds, MAX_LITERAL};
 use crate::hits::ChunkHits;
-use crate::nulls::is_empty_at_start;
+use crate::nulls::{is_empty_at_start, is_empty_between};
 use crate::table::{LookBackPair, MAX_LOOK_BACK, MAX_LOOK_BACK_REGION};
 use hs_base::{ByteSet, Mask, Next, Prev};
 use hs_bits::{low_places, next_bit_in, write_word_bit};
@@ -116,17 +116,6 @@ fn run_back<E: BlockEngine, L: Ledger>(
     prev_behind(offset, chunk.byte_at(place - 1))
 }
 
-/// Whether an expression has the empty span where that stands before and that comes next.
-fn is_empty_between(null: Option<Mask>, prev: Prev, next: Next) -> bool
-    ensures { (tree : Tree) (u : List ℕ) → IsNull null tree → prev ≡ prev_at u (length u) →
-        (result ≡ true) ↔ IsEmptyAt tree u next }
-{
-    match null {
-        None => false,
-        Some(mask) => mask.contains(prev, next),
-    }
-}
-
 /// Whether an expression has the empty span before the byte of that number among the past ones and those of a chunk,
 /// where so many bytes have come, and that was the last one. What stands around is looked for only if it has one.
 #[inline(always)]
@@ -136,13 +125,12 @@ fn is_empty_before(null: Option<Mask>, chunk: &Chunk, place: usize, offset: u64,
         (result ≡ true) ↔
         IsEmptyAt tree u (class_of (slice_index (chunk.now.past.now ++ chunk.now.bytes.now) place)) }
 {
-    match null {
-        None => false,
-        Some(mask) => mask.contains(
+    null.is_some()
+        && is_empty_between(
+            null,
             prev_behind(offset, last),
             Next::class_of(chunk.byte_at(place)),
-        ),
-    }
+        )
 }
 
 /// Whether no match of a pair's expression ends behind so many bytes, of which that is the last one: it ends none, or

@@ -1,8 +1,9 @@
 //! Where the piece of a node has the empty span in a chunk.
 
-ghost use Rattle.std.specs.Prelude.{◌≡◌, ℕ, ◌*◌, ◌<◌, ◌≤◌, List, IfOk, Some, length, true};
+ghost use Rattle.std.specs.Prelude.{◌≡◌, ◌↔◌, ℕ, ◌*◌, ◌<◌, ◌≤◌, List, IfOk, Some, length, true};
 ghost use Rattle.std.specs.Option.{ForSome};
 ghost use Rattle.hs_base.specs.declared.context.Next.{Next};
+ghost use Rattle.hs_base.specs.Contexts.{prev_at};
 ghost use Rattle.hs_base.specs.Leaving.{IsEmptyAt};
 ghost use Rattle.hs_base.specs.Trees.{Tree};
 ghost use Rattle.hs_nodes.specs.Blocks.{EndsBehind, block, front};
@@ -11,7 +12,7 @@ ghost use Rattle.hs_nodes.specs.Pieces.{AreEmptyAt, AreEmptyIn};
 
 use crate::chunk::Chunk;
 use crate::ends::ChunkEnds;
-use hs_base::{Assertion, Mask};
+use hs_base::{Assertion, Mask, Next, Prev};
 use hs_bits::Contexts;
 use hs_engine::BlockEnds;
 use std::alloc::{AllocError, Global};
@@ -36,6 +37,17 @@ pub(crate) fn is_empty_at_start(null: Option<Mask>) -> bool
     match null {
         None => true,
         Some(mask) => mask.intersection(Mask::of(Assertion::StreamStart)) == mask,
+    }
+}
+
+/// Whether an expression has the empty span where that stands before and that comes next.
+pub(crate) fn is_empty_between(null: Option<Mask>, prev: Prev, next: Next) -> bool
+    ensures { (tree : Tree) (u : List ℕ) → IsNull null tree → prev ≡ prev_at u (length u) →
+        (result ≡ true) ↔ IsEmptyAt tree u next }
+{
+    match null {
+        None => false,
+        Some(mask) => mask.contains(prev, next),
     }
 }
 

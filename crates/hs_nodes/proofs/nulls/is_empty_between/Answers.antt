@@ -2,7 +2,7 @@ use Rattle.std.proofs.Common.{Option, subst}
 use Rattle.hs_base.specs.declared.context.Mask.{Mask}
 use Rattle.hs_nodes.specs.Contexts.{IsNull}
 use Rattle.hs_nodes.proofs.LookLemmas.{mask-between, never-between}
-use Rattle.hs_nodes.proofs.look_back.is_empty_between.Goals as goal
+use Rattle.hs_nodes.proofs.nulls.is_empty_between.Goals as goal
 
 pub returns-in-None : goal.returns-in-None
 returns-in-None c tree u null stands = never-between tree u c.args.next (subst (λ (n : Option Mask). IsNull n tree) c.in-None.is null)
