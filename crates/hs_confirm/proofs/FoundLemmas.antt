@@ -166,9 +166,6 @@ open-told widths entries mask buckets text offset numbers keyed fits inside are 
     subst (AreOpenEnds (map literal_in entries) (map (λ entry. entry.bucket) entries) mask text offset) (ap (λ b. buckets_left entries b text offset) (sym are) ∙ sym all)
     (open-exact widths entries mask text offset keyed fits inside)
 
-pub some_first : (x : ℕ) (xs : List ℕ) → x ∷ xs ≢ []
-some_first x xs none = subst (IsMember x) none (inl refl)
-
 -- where an end stands to the first one that was found
 behind_first : (entries : List Entry) (buckets : ℕ) (text : List ℕ) (offset : ℕ) (head : Head) → head.number ∷ behind_head entries text offset head ≡ buckets_left entries buckets text offset → IsFound entries text offset head → (bucket number : ℕ) → bucket < 8 → bit_at buckets bucket ≡ 1
     → number_ends entries bucket text offset number ≡ true → ((bucket ≡ head.bucket) × (head.number ≤ number)) ⊎ (bit_at head.left bucket ≡ 1)

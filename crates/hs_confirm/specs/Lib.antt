@@ -12,4 +12,3 @@ pub mod Heads
 pub mod PlaceLeft
 pub mod OpenEnds
 pub mod Found
-pub mod OpenLeft

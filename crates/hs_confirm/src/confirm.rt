@@ -12,7 +12,6 @@ use crate::ends::Ends;
 use crate::entry::Entry;
 use crate::filing::{entries_of, row_count, rows_of};
 use crate::keys::key_row;
-use crate::open_ends::OpenEnds;
 use crate::place_ends::PlaceEnds;
 use crate::widths::{masks_of, widths_of};
 use hs_base::{BUCKETS, LitByte};
@@ -40,8 +39,6 @@ impl Confirm {
     ghost use Rattle.hs_confirm.specs.BucketEnds.{AreBucketEnds};
     ghost use Rattle.hs_confirm.specs.Filed.{literals_of, buckets_of};
     ghost use Rattle.hs_confirm.specs.Left.{ends_left};
-    ghost use Rattle.hs_confirm.specs.OpenEnds.{AreOpenEnds};
-    ghost use Rattle.hs_confirm.specs.OpenLeft.{open_left};
     ghost use Rattle.hs_confirm.specs.PlaceEnds.{ArePlaceEnds};
     ghost use Rattle.hs_confirm.specs.PlaceLeft.{place_left};
 
@@ -90,12 +87,16 @@ impl Confirm {
         full & self.masks[usize::from(bucket)]
     }
 
-    /// Whether a literal of a bucket may end at a place, given the last eight bytes in front of it.
+    /// Whether a literal of a bucket may end at a place, given the last eight bytes in front of it: where it is false,
+    /// none does.
     #[inline(always)]
-    pub(crate) fn may_end(&self, bucket: u8, full: u64) -> bool
+    pub fn may_end(&self, bucket: u8, full: u64) -> bool
         requires { bucket < 8 }
-        ensures { result ≡ false → (text : List ℕ) (offset : ℕ) → full ≡ full_text_key text offset →
+        ensures passed { result ≡ false → (text : List ℕ) (offset : ℕ) → full ≡ full_text_key text offset →
             ends_from self.now.entries.items bucket text offset 0 ≡ [] }
+        ensures none { result ≡ false → (text : List ℕ) (offset : ℕ) → offset ≤ length text →
+            full ≡ full_text_key text offset →
+            AreBucketEnds (literals_of self.now) (buckets_of self.now) bucket text offset [] }
     {
         let row = key_row(self.chains.rows(), bucket, self.key_at(bucket, full));
         self.chains.is_marked(row)
@@ -116,6 +117,25 @@ impl Confirm {
             (length history.now + at) (ends_left result) }
     {
         Ends::new(self, bucket, history, bytes, at)
+    }
+
+    /// As `ends_at`, given the last eight bytes in front of `at`.
+    #[inline(always)]
+    pub fn keyed_ends<'a>(
+        &'a self,
+        bucket: u8,
+        full: u64,
+        history: &'a [u8],
+        bytes: &'a [u8],
+        at: usize,
+    ) -> Ends<'a>
+        requires bucket { bucket < 8 }
+        requires within { at ≤ length bytes.now }
+        requires full { full ≡ full_text_key (history.now ++ bytes.now) (length history.now + at) }
+        ensures { AreBucketEnds (literals_of self.now) (buckets_of self.now) bucket (history.now ++ bytes.now)
+            (length history.now + at) (ends_left result) }
+    {
+        Ends::with_key(self, bucket, full, history, bytes, at)
     }
 
     /// The numbers of the literals that end at `at`, of all buckets whose bit in the mask is 0; else as `ends_at`.
@@ -151,25 +171,5 @@ impl Confirm {
             (length history.now + at) (place_left ends)) }
     {
         PlaceEnds::some(self, mask, history, bytes, at)
-    }
-
-    /// As `some_place_ends`, in no order that is promised: less work where literals of several buckets end.
-    #[inline(always)]
-    pub fn open_ends<'a>(
-        &'a self,
-        mask: u8,
-        history: &'a [u8],
-        bytes: &'a [u8],
-        at: usize,
-    ) -> Option<OpenEnds<'a>>
-        requires within { at ≤ length bytes.now }
-        ensures { MatchOption result
-            (AreOpenEnds (literals_of self.now) (buckets_of self.now) mask (history.now ++ bytes.now)
-            (length history.now + at) [])
-            (λ ends. (open_left ends ≢ []) ×
-            AreOpenEnds (literals_of self.now) (buckets_of self.now) mask (history.now ++ bytes.now)
-            (length history.now + at) (open_left ends)) }
-    {
-        OpenEnds::some(self, mask, history, bytes, at)
     }
 }

@@ -100,7 +100,7 @@ fn eight_bytes(bytes: &[u8], from: usize) -> u64
 
 /// The last eight bytes in front of `at`, the first ones of them perhaps in `history`.
 #[inline(always)]
-pub(crate) fn full_text_key(history: &[u8], bytes: &[u8], at: usize) -> u64
+pub fn full_text_key(history: &[u8], bytes: &[u8], at: usize) -> u64
     requires { at ≤ length bytes.now }
     ensures { result ≡ full_text_key (history.now ++ bytes.now) (length history.now + at) }
 {

@@ -1,6 +1,5 @@
 //! Which literals end at a place: exact answers where a faster search says that some may. `confirm` has the table,
-//! `ends` the iteration over its answers for one bucket, `open_ends` that for several buckets, `place_ends` the same in
-//! order, `plain` the slow twin. `specs/BucketEnds.antt` says what an end is.
+//! `ends` the iteration over its answers for one bucket, `place_ends` that for several buckets in order, `plain` the slow twin. `specs/BucketEnds.antt` says what an end is.
 #![tactic(auto)]
 
 mod chains;
@@ -10,7 +9,6 @@ mod entry;
 mod filing;
 mod head;
 mod keys;
-mod open_ends;
 mod place_ends;
 mod plain;
 mod taking;
@@ -18,6 +16,6 @@ mod widths;
 
 pub use confirm::Confirm;
 pub use ends::Ends;
-pub use open_ends::OpenEnds;
+pub use keys::full_text_key;
 pub use place_ends::PlaceEnds;
 pub use plain::plain_ends;

@@ -8,9 +8,8 @@ ghost use Rattle.hs_confirm.specs.Keys.{full_text_key};
 
 use crate::confirm::Confirm;
 use crate::ends::Ends;
-use crate::head::Head;
+use crate::head::{Head, first_head};
 use crate::keys::full_text_key;
-use crate::open_ends::first_head;
 use hs_base::BUCKETS;
 use hs_bits::{lowest_bit, without_lowest_bit};
 

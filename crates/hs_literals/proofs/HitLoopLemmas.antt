@@ -1,18 +1,21 @@
 -- Ends that a loop adds, one by one, and all of a chunk.
-use Rattle.std.proofs.Common.{◌≡◌, ◌↔◌, ◌⊎◌, ℕ, zero, suc, ◌+◌, ◌<◌, ◌≤◌, Bool, true, false, ◌&&◌, ◌||◌, List, [], ◌∷◌, ◌++◌, length, eqb, refl, sym, ap, subst, ◌∙◌, inl, inr, arith}
+use Rattle.std.proofs.Common.{◌≡◌, ◌↔◌, ◌⊎◌, ℕ, zero, suc, ◌+◌, ◌-◌, ◌<◌, ◌≤◌, Bool, true, false, ◌&&◌, ◌||◌, List, [], ◌∷◌, ◌++◌, length, get_or, Some, eqb, refl, sym, ap, subst, ◌∙◌, inl, inr, arith}
 use Rattle.std.proofs.lemmas.Bool.{cases_eq, cases_lt, eq-eqb, eqb-true, false≢true}
-use Rattle.std.proofs.lemmas.Nat.Bits.{bit_at-zero}
-use Rattle.std.proofs.lemmas.Option.{slice_get_within, slice_get-get_or}
+use Rattle.std.specs.Prelude.{slice_get}
+use Rattle.std.specs.Int.{bit_at, w8}
+use Rattle.std.proofs.lemmas.Nat.Bits.{bit_at-zero, bit_at_not}
+use Rattle.std.proofs.lemmas.Option.{slice_get_within, slice_get-get_or, same_Some}
 use Rattle.hs_base.specs.Lists.{IsMember}
 use Rattle.hs_base.specs.Literals.{LiteralByte}
 use Rattle.hs_base.specs.LiteralEnds.{EndsAt}
 use Rattle.hs_base.proofs.ListLemmas.{member-map, map-member}
-use Rattle.hs_confirm.specs.OpenEnds.{AreOpenEnds}
-use Rattle.hs_confirm.specs.PlaceEnds.{IsPlaceEnd}
-use Rattle.hs_literals.specs.Masking.{HidesNone}
+use Rattle.hs_bits.specs.LowestBits.{IsLowestBit, AreBitsBehind}
+use Rattle.hs_bits.proofs.LowestLemmas.{lowest-gone, others-stay}
+use Rattle.hs_confirm.specs.BucketEnds.{IsBucketEnd, AreBucketEnds}
+use Rattle.hs_literals.specs.Masking.{AreFew, HidesNone}
 use Rattle.hs_literals.specs.Places.{NoneBetween}
 use Rattle.hs_literals.specs.AllEnds.{pairs_of_place}
-use Rattle.hs_literals.specs.HitTables.{HitTable, IsHit, IsBlank, TellsHits, AddsHit, AddsHits, IsHitAt, IsHitInside, IsHitUpTo, is_hit_at, has_hit}
+use Rattle.hs_literals.specs.HitTables.{HitTable, IsHit, IsBlank, TellsHits, AddsHit, AddsHits, IsHitAt, IsHitBut, IsHitInside, IsHitOf, IsHitUpTo, is_hit_at, has_hit}
 
 -- Of the new ends some are added, and those of a list are left.
 pub record StillAdds (IsNew : (number place : ℕ) → Type 0) (left : List (ℕ × ℕ)) (old now : HitTable) : Type 0 where
@@ -114,31 +117,31 @@ module _ (IsNew : (number place : ℕ) → Type 0) (old now new : HitTable) (lef
 pub next-new : (IsNew : (number place : ℕ) → Type 0) (old now : HitTable) (left rest : List (ℕ × ℕ)) (place number : ℕ) → StillAdds IsNew left old now → left ≡ (place, number) ∷ rest → IsNew number place
 next-new IsNew old now left rest place number adds next = adds.each number place (subst (IsMember (place, number)) (sym next) (inl refl))
 
--- The ends at one place, given a mask that hides none of them.
-pub place-ends : (literals : List (List LiteralByte)) (buckets before bytes : List ℕ) (mask place : ℕ) (numbers : List ℕ) → length buckets ≡ length literals → place ≤ length bytes → HidesNone mask literals buckets (before ++ bytes) (length before + place)
-    → AreOpenEnds literals buckets mask (before ++ bytes) (length before + place) numbers → (n p : ℕ) → IsHitAt literals before bytes place n p ↔ IsMember (p, n) (pairs_of_place place numbers)
-place-ends literals buckets before bytes mask place numbers same within hides are n p = (
+-- The ends of one bucket at one place.
+pub bucket-ends : (literals : List (List LiteralByte)) (buckets before bytes : List ℕ) (bucket place : ℕ) (numbers : List ℕ) → place ≤ length bytes → AreBucketEnds literals buckets bucket (before ++ bytes) (length before + place) numbers
+    → (n p : ℕ) → IsHitOf literals buckets bucket before bytes place n p ↔ IsMember (p, n) (pairs_of_place place numbers)
+bucket-ends literals buckets before bytes bucket place numbers within are n p = (
   (λ hit.
-      let is = hit.1 in
-      let filed = slice_get-get_or buckets n 0 (let below : n < length literals = slice_get_within literals n is.literal is.numbered in omega arith) in
-      let ends : EndsAt is.literal (before ++ bytes) (length before + place) = subst (λ k. EndsAt is.literal (before ++ bytes) (length before + k)) hit.0 is.ends in
-      let member : IsMember n numbers = (are n).1 (record { literal = is.literal; bucket = _; numbered = is.numbered; filed = filed; unmasked = hides n _ is.literal is.numbered filed ends; ends = ends }) in
-      subst (λ q. IsMember (q, n) (pairs_of_place place numbers)) (sym hit.0) (member-map (λ m. (place, m)) numbers n member)),
+      let is = hit.1.1 in
+      let ends : EndsAt is.literal (before ++ bytes) (length before + place) = subst (λ k. EndsAt is.literal (before ++ bytes) (length before + k)) hit.1.0 is.ends in
+      let member : IsMember n numbers = (are.exact n).1 (record { literal = is.literal; numbered = is.numbered; filed = hit.0; ends = ends }) in
+      subst (λ q. IsMember (q, n) (pairs_of_place place numbers)) (sym hit.1.0) (member-map (λ m. (place, m)) numbers n member)),
   (λ member.
       let from = map-member (λ m. (place, m)) numbers (p, n) member in
       let there : p ≡ place = ap (λ x. x.0) from.2 in
       let own : n ≡ from.0 = ap (λ x. x.1) from.2 in
-      let is : IsPlaceEnd literals buckets mask (before ++ bytes) (length before + place) n = (are n).0 (subst (λ m. IsMember m numbers) (sym own) from.1) in (
-        there,
-        record { literal = is.literal; numbered = is.numbered; within = omega (arith, there, within); ends = subst (λ k. EndsAt is.literal (before ++ bytes) (length before + k)) (sym there) is.ends },
+      let is : IsBucketEnd literals buckets bucket (before ++ bytes) (length before + place) n = (are.exact n).0 (subst (λ m. IsMember m numbers) (sym own) from.1) in (
+        is.filed,
+        (there,
+        record { literal = is.literal; numbered = is.numbered; within = omega (arith, there, within); ends = subst (λ k. EndsAt is.literal (before ++ bytes) (length before + k)) (sym there) is.ends }),
       )),
 )
 
-pub place-none : (literals : List (List LiteralByte)) (buckets before bytes : List ℕ) (mask place : ℕ) (table : HitTable) → length buckets ≡ length literals → place ≤ length bytes → HidesNone mask literals buckets (before ++ bytes) (length before + place)
-    → AreOpenEnds literals buckets mask (before ++ bytes) (length before + place) [] → AddsHits table table (IsHitAt literals before bytes place)
-place-none literals buckets before bytes mask place table same within hides are =
-    let none : (n p : ℕ) → IsHitAt literals before bytes place n p ↔ IsMember {A = ℕ × ℕ} (p, n) [] = place-ends literals buckets before bytes mask place [] same within hides are in
-    adds-all (IsHitAt literals before bytes place) table [] table (adds-start (IsHitAt literals before bytes place) table [] none) refl
+pub bucket-none : (literals : List (List LiteralByte)) (buckets before bytes : List ℕ) (bucket place : ℕ) (table : HitTable) → place ≤ length bytes → AreBucketEnds literals buckets bucket (before ++ bytes) (length before + place) []
+    → AddsHits table table (IsHitOf literals buckets bucket before bytes place)
+bucket-none literals buckets before bytes bucket place table within are =
+    let none : (n p : ℕ) → IsHitOf literals buckets bucket before bytes place n p ↔ IsMember {A = ℕ × ℕ} (p, n) [] = bucket-ends literals buckets before bytes bucket place [] within are in
+    adds-all (IsHitOf literals buckets bucket before bytes place) table [] table (adds-start (IsHitOf literals buckets bucket before bytes place) table [] none) refl
 
 -- a mask that leaves each bucket open
 pub hides-nothing : (literals : List (List LiteralByte)) (buckets text : List ℕ) (offset : ℕ) → HidesNone 0 literals buckets text offset
@@ -183,6 +186,49 @@ adds-alike P R old new adds are = record {
     (λ is. elim is [ inl one ↦ (adds.numbers n).1 (inl (one.0, (are n one.0).0 one.1)) | inr before ↦ (adds.numbers n).1 (inr before) ]),
   );
 }
+
+-- Bucket by bucket, at one place.
+
+module _ (literals : List (List LiteralByte)) (buckets before bytes : List ℕ) (place : ℕ) (same : length buckets ≡ length literals) where
+  -- the bucket of a literal that ends there
+  filed-in : (n p : ℕ) (hit : IsHitAt literals before bytes place n p) → slice_get buckets n ≡ Some (get_or buckets n 0)
+  filed-in n p hit = slice_get-get_or buckets n 0 (let below : n < length literals = slice_get_within literals n hit.1.literal hit.1.numbered in omega arith)
+
+  -- a mask that hides none leaves the buckets of all open
+  pub but-start : (mask left : ℕ) (table : HitTable) → AreFew buckets → mask < 256 → left ≡ 255 - mask → HidesNone mask literals buckets (before ++ bytes) (length before + place) → AddsHits table table (IsHitBut literals buckets left before bytes place)
+  but-start mask left table few fits are hides =
+      adds-all (IsHitBut literals buckets left before bytes place) table [] table (adds-start (IsHitBut literals buckets left before bytes place) table [] (λ n p. ((λ hit. absurd (hidden n p hit)), (λ member. absurd member)))) refl where
+    hidden : (n p : ℕ) → IsHitBut literals buckets left before bytes place n p → ⊥
+    hidden n p hit =
+        let is = hit.1.1 in
+        let bucket = get_or buckets n 0 in
+        let filed = filed-in n p hit.1 in
+        let ends : EndsAt is.literal (before ++ bytes) (length before + place) = subst (λ k. EndsAt is.literal (before ++ bytes) (length before + k)) hit.1.0 is.ends in
+        let open : bit_at mask bucket ≡ 0 = hides n bucket is.literal is.numbered filed ends in
+        let closed : bit_at (255 - mask) bucket ≡ 0 = ap (λ m. bit_at m bucket) (sym are) ∙ hit.0 bucket filed in
+        omega (arith, bit_at_not w8 mask bucket fits (few n bucket filed), open, closed)
+
+  -- one bucket more
+  pub but-next : (left less bucket : ℕ) (old now new : HitTable) → IsLowestBit left bucket → AreBitsBehind left bucket less → AddsHits old now (IsHitBut literals buckets left before bytes place) → AddsHits now new (IsHitOf literals buckets bucket before bytes place)
+      → AddsHits old new (IsHitBut literals buckets less before bytes place)
+  but-next left less bucket old now new low behind first second =
+      adds-joined (IsHitBut literals buckets left before bytes place) (IsHitOf literals buckets bucket before bytes place) (IsHitBut literals buckets less before bytes place) old now new first second (λ n p. (
+        (λ hit. elim (cases_eq (get_or buckets n 0) bucket) [
+          | inl own ↦ inr (filed-in n p hit.1 ∙ ap (λ b. Some b) own, hit.1)
+          | inr apart ↦ inl ((λ b filed. sym (others-stay left bucket less low behind b (λ is. apart (same_Some (get_or buckets n 0) b (sym (filed-in n p hit.1) ∙ filed) ∙ is))) ∙ hit.0 b filed), hit.1)
+        ]),
+        (λ is. elim is [
+          | inl hit ↦ ((λ b filed. others-stay left bucket less low behind b (λ own. zero_not_one (bit_at left bucket) (ap (bit_at left) (sym own) ∙ hit.0 b filed) low.is) ∙ hit.0 b filed), hit.1)
+          | inr hit ↦ ((λ b filed. ap (bit_at less) (same_Some b bucket (sym filed ∙ hit.0)) ∙ lowest-gone left bucket less behind), hit.1)
+        ]),
+      )) where
+    zero_not_one : (bit : ℕ) → bit ≡ 0 → bit ≡ 1 → ⊥
+    zero_not_one bit none one = omega (arith, none, one)
+
+  -- all of them
+  pub but-all : (left : ℕ) (old now : HitTable) → left ≡ 0 → AddsHits old now (IsHitBut literals buckets left before bytes place) → AddsHits old now (IsHitAt literals before bytes place)
+  but-all left old now none adds =
+      adds-alike (IsHitBut literals buckets left before bytes place) (IsHitAt literals before bytes place) old now adds (λ n p. ((λ hit. ((λ b filed. ap (λ m. bit_at m b) none ∙ bit_at-zero b), hit)), (λ hit. hit.1)))
 
 -- none so far
 pub upto-start : (literals : List (List LiteralByte)) (before bytes : List ℕ) (table : HitTable) (at : ℕ) → at ≡ 0 → AddsHits table table (IsHitUpTo literals before bytes at)

@@ -1,6 +1,7 @@
 -- Where the literals of a list end in a chunk of bytes, as a table of bits.
 use Rattle.std.specs.Prelude.{◌≡◌, ◌↔◌, ℕ, ◌+◌, ◌*◌, ◌^◌, ◌<◌, ◌≤◌, ◌⊎◌, Bool, true, false, not, ◌&&◌, ◌||◌, ◌==◌}
 use Rattle.std.specs.Prelude.{nat_lt, List, ◌++◌, length, Some, slice_get}
+use Rattle.std.specs.Int.{bit_at}
 use Rattle.hs_base.specs.Bits.{has_word_bit}
 use Rattle.hs_base.specs.LiteralEnds.{EndsAt}
 use Rattle.hs_base.specs.Literals.{LiteralByte}
@@ -74,6 +75,19 @@ pub record AddsHits (old new : HitTable) (IsNew : (number place : ℕ) → Type 
 -- A literal ends behind so many bytes of the chunk.
 abbrev pub IsHitAt : List (List LiteralByte) → (before bytes : List ℕ) → (end : ℕ) → (number place : ℕ) → Type 0
 IsHitAt literals before bytes end number place = (place ≡ end) × IsHit literals before bytes number place
+
+-- A literal of that bucket does.
+abbrev pub IsHitOf : List (List LiteralByte) → (buckets : List ℕ) → (bucket : ℕ) → (before bytes : List ℕ) →
+    (end : ℕ) → (number place : ℕ) → Type 0
+IsHitOf literals buckets bucket before bytes end number place =
+    (slice_get buckets number ≡ Some bucket) × IsHitAt literals before bytes end number place
+
+-- A literal does whose bucket's bit is 0.
+abbrev pub IsHitBut : List (List LiteralByte) → (buckets : List ℕ) → (left : ℕ) → (before bytes : List ℕ) →
+    (end : ℕ) → (number place : ℕ) → Type 0
+IsHitBut literals buckets left before bytes end number place =
+    ((bucket : ℕ) → slice_get buckets number ≡ Some bucket → bit_at left bucket ≡ 0)
+    × IsHitAt literals before bytes end number place
 
 -- A literal ends behind a byte of the chunk.
 abbrev pub IsHitInside : List (List LiteralByte) → (before bytes : List ℕ) → (number place : ℕ) → Type 0

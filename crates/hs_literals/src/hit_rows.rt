@@ -17,14 +17,17 @@ ghost use Rattle.hs_bits.specs.Marks.{is_marked, mark_room};
 ghost use Rattle.hs_bits.specs.NextBits.{IsNextBitIn};
 ghost use Rattle.hs_block.specs.LiteralBlocks.{is_hit};
 ghost use Rattle.hs_bits.specs.WordBits.{word_bit};
-ghost use Rattle.hs_literals.specs.HitTables.{AddsHit, AddsHits, AreMarked, Forgets, IsBlank, IsHitAt};
+ghost use Rattle.hs_literals.specs.HitTables.{AddsHit, AddsHits, AreMarked, Forgets, IsBlank, IsHitAt, IsHitOf};
+ghost use Rattle.hs_confirm.specs.Keys.{full_text_key};
 ghost use Rattle.hs_literals.specs.HitTables.{IsHitInside, TellsHits, has_hit, is_hit_at};
 ghost use Rattle.hs_literals.specs.Masking.{HidesNone};
 
 use crate::literals::Literals;
 use crate::places::Places;
 use hs_bits::{MarkSet, WORD_BITS, contains_place, insert_word_bit};
+use hs_bits::{lowest_bit, without_lowest_bit};
 use hs_block::Hits;
+use hs_confirm::full_text_key;
 use std::alloc::{AllocError, Global};
 use std::marker::Model;
 
@@ -119,10 +122,38 @@ impl HitRows {
             (length before.now + place) }
         ensures { AddsHits self.old self.new (IsHitAt (held literals.now) before.now bytes.now place) }
     {
-        let ends = match literals.confirm.open_ends(mask, before, bytes, place) {
-            Some(ends) => ends,
-            None => return,
-        };
+        let full = full_text_key(before, bytes, place);
+        let mut left = u64::from(!mask);
+        while left != 0 {
+            let bucket = lowest_bit(left) as u8;
+            left = without_lowest_bit(left);
+            self.add_bucket(literals, before, bytes, place, bucket, full);
+        }
+    }
+
+    /// Adds the literals of a bucket that end at a place, given the last eight bytes in front of it.
+    #[inline]
+    fn add_bucket(
+        &mut self,
+        literals: &Literals,
+        before: &[u8],
+        bytes: &[u8],
+        place: usize,
+        bucket: u8,
+        full: u64,
+    )
+        requires known { length (held literals.now) ≤ self.old.count }
+        requires few { length bytes.now ≤ 512 }
+        requires within { place ≤ length bytes.now }
+        requires bucket { bucket < 8 }
+        requires full { full ≡ full_text_key (before.now ++ bytes.now) (length before.now + place) }
+        ensures { AddsHits self.old self.new
+            (IsHitOf (held literals.now) (held_buckets literals.now) bucket before.now bytes.now place) }
+    {
+        if !literals.confirm.may_end(bucket, full) {
+            return;
+        }
+        let ends = literals.confirm.keyed_ends(bucket, full, before, bytes, place);
         for number in ends {
             self.add(number, place);
         }

@@ -1,6 +1,6 @@
 use Rattle.std.proofs.Common.{◌≡◌, ◌++◌, ◌+◌, length}
 use Rattle.hs_confirm.specs.Found.{AreAmong, buckets_left}
-use Rattle.hs_confirm.proofs.open_ends.first_head.Given as goal
+use Rattle.hs_confirm.proofs.head.first_head.Given as goal
 
 abbrev pub invariant-loop-left : goal.invariant-loop-left
 invariant-loop-left l = record {

@@ -7,7 +7,7 @@ use Rattle.hs_confirm.specs.Entries.{ends_from}
 use Rattle.hs_confirm.specs.Found.{IsFound, buckets_left}
 use Rattle.hs_confirm.specs.Left.{ends_left}
 use Rattle.hs_confirm.proofs.FoundLemmas.{IsNextOf, buckets_left-first, buckets_left-none, next_of}
-use Rattle.hs_confirm.proofs.open_ends.first_head.Goals as goal
+use Rattle.hs_confirm.proofs.head.first_head.Goals as goal
 
 pub returns-in-Some-clause-all : goal.returns-in-Some-clause-all
 returns-in-Some-clause-all c =
@@ -52,7 +52,7 @@ loop-left-preserved-then-not-may_end c =
     let low = c.lowest_bit-bucket.ensures.lowest in
     let less = c.without_lowest_bit-left.result in
     let behind = c.without_lowest_bit-left.ensures.behind bucket low in
-    let none : ends_from entries bucket text offset 0 ≡ [] = c.may_end.ensures (c.if-not-may_end.true) text offset c.requires.full in
+    let none : ends_from entries bucket text offset 0 ≡ [] = c.may_end.ensures.passed (c.if-not-may_end.true) text offset c.requires.full in
     record {
       among = λ other is. l.invariant.among other ((behind other).0 is).1;
       all = sym (buckets_left-first entries l.left less bucket text offset (c.requires.buckets bucket (l.invariant.among bucket low.is)) low behind ∙ ap (λ xs. xs ++ buckets_left entries less text offset) none) ∙ l.invariant.all;
