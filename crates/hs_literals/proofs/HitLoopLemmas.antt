@@ -132,8 +132,10 @@ bucket-ends literals buckets before bytes bucket place numbers within are n p = 
       let own : n ≡ from.0 = ap (λ x. x.1) from.2 in
       let is : IsBucketEnd literals buckets bucket (before ++ bytes) (length before + place) n = (are.exact n).0 (subst (λ m. IsMember m numbers) (sym own) from.1) in (
         is.filed,
-        (there,
-        record { literal = is.literal; numbered = is.numbered; within = omega (arith, there, within); ends = subst (λ k. EndsAt is.literal (before ++ bytes) (length before + k)) (sym there) is.ends }),
+        (
+          there,
+          record { literal = is.literal; numbered = is.numbered; within = omega (arith, there, within); ends = subst (λ k. EndsAt is.literal (before ++ bytes) (length before + k)) (sym there) is.ends },
+        ),
       )),
 )
 
@@ -198,15 +200,15 @@ module _ (literals : List (List LiteralByte)) (buckets before bytes : List ℕ) 
   pub but-start : (mask left : ℕ) (table : HitTable) → AreFew buckets → mask < 256 → left ≡ 255 - mask → HidesNone mask literals buckets (before ++ bytes) (length before + place) → AddsHits table table (IsHitBut literals buckets left before bytes place)
   but-start mask left table few fits are hides =
       adds-all (IsHitBut literals buckets left before bytes place) table [] table (adds-start (IsHitBut literals buckets left before bytes place) table [] (λ n p. ((λ hit. absurd (hidden n p hit)), (λ member. absurd member)))) refl where
-    hidden : (n p : ℕ) → IsHitBut literals buckets left before bytes place n p → ⊥
-    hidden n p hit =
-        let is = hit.1.1 in
-        let bucket = get_or buckets n 0 in
-        let filed = filed-in n p hit.1 in
-        let ends : EndsAt is.literal (before ++ bytes) (length before + place) = subst (λ k. EndsAt is.literal (before ++ bytes) (length before + k)) hit.1.0 is.ends in
-        let open : bit_at mask bucket ≡ 0 = hides n bucket is.literal is.numbered filed ends in
-        let closed : bit_at (255 - mask) bucket ≡ 0 = ap (λ m. bit_at m bucket) (sym are) ∙ hit.0 bucket filed in
-        omega (arith, bit_at_not w8 mask bucket fits (few n bucket filed), open, closed)
+        hidden : (n p : ℕ) → IsHitBut literals buckets left before bytes place n p → ⊥
+        hidden n p hit =
+            let is = hit.1.1 in
+            let bucket = get_or buckets n 0 in
+            let filed = filed-in n p hit.1 in
+            let ends : EndsAt is.literal (before ++ bytes) (length before + place) = subst (λ k. EndsAt is.literal (before ++ bytes) (length before + k)) hit.1.0 is.ends in
+            let unmasked : bit_at mask bucket ≡ 0 = hides n bucket is.literal is.numbered filed ends in
+            let closed : bit_at (255 - mask) bucket ≡ 0 = ap (λ m. bit_at m bucket) (sym are) ∙ hit.0 bucket filed in
+            omega (arith, bit_at_not w8 mask bucket fits (few n bucket filed), unmasked, closed)
 
   -- one bucket more
   pub but-next : (left less bucket : ℕ) (old now new : HitTable) → IsLowestBit left bucket → AreBitsBehind left bucket less → AddsHits old now (IsHitBut literals buckets left before bytes place) → AddsHits now new (IsHitOf literals buckets bucket before bytes place)
@@ -222,8 +224,8 @@ module _ (literals : List (List LiteralByte)) (buckets before bytes : List ℕ) 
           | inr hit ↦ ((λ b filed. ap (bit_at less) (same_Some b bucket (sym filed ∙ hit.0)) ∙ lowest-gone left bucket less behind), hit.1)
         ]),
       )) where
-    zero_not_one : (bit : ℕ) → bit ≡ 0 → bit ≡ 1 → ⊥
-    zero_not_one bit none one = omega (arith, none, one)
+        zero_not_one : (bit : ℕ) → bit ≡ 0 → bit ≡ 1 → ⊥
+        zero_not_one bit none one = omega (arith, none, one)
 
   -- all of them
   pub but-all : (left : ℕ) (old now : HitTable) → left ≡ 0 → AddsHits old now (IsHitBut literals buckets left before bytes place) → AddsHits old now (IsHitAt literals before bytes place)

@@ -17,15 +17,16 @@ ghost use Rattle.hs_bits.specs.Marks.{is_marked, mark_room};
 ghost use Rattle.hs_bits.specs.NextBits.{IsNextBitIn};
 ghost use Rattle.hs_block.specs.LiteralBlocks.{is_hit};
 ghost use Rattle.hs_bits.specs.WordBits.{word_bit};
-ghost use Rattle.hs_literals.specs.HitTables.{AddsHit, AddsHits, AreMarked, Forgets, IsBlank, IsHitAt, IsHitOf};
 ghost use Rattle.hs_confirm.specs.Keys.{full_text_key};
+ghost use Rattle.hs_literals.specs.HitTables.{AddsHit, AddsHits, AreMarked, Forgets, IsBlank, IsHitAt, IsHitOf};
 ghost use Rattle.hs_literals.specs.HitTables.{IsHitInside, TellsHits, has_hit, is_hit_at};
 ghost use Rattle.hs_literals.specs.Masking.{HidesNone};
 
 use crate::literals::Literals;
 use crate::places::Places;
-use hs_bits::{MarkSet, WORD_BITS, contains_place, insert_word_bit};
-use hs_bits::{lowest_bit, without_lowest_bit};
+use hs_bits::{
+    MarkSet, WORD_BITS, contains_place, insert_word_bit, lowest_bit, without_lowest_bit,
+};
 use hs_block::Hits;
 use hs_confirm::full_text_key;
 use std::alloc::{AllocError, Global};
@@ -106,7 +107,7 @@ impl HitRows {
     }
 
     /// Adds the literals that end at a place, given a mask that hides none of them.
-    #[inline]
+    #[inline(always)]
     fn add_place(
         &mut self,
         literals: &Literals,
@@ -153,7 +154,9 @@ impl HitRows {
         if !literals.confirm.may_end(bucket, full) {
             return;
         }
-        let ends = literals.confirm.keyed_ends(bucket, full, before, bytes, place);
+        let ends = literals
+            .confirm
+            .keyed_ends(bucket, full, before, bytes, place);
         for number in ends {
             self.add(number, place);
         }

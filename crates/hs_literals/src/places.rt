@@ -64,6 +64,7 @@ impl<'a> Places<'a> {
 
     /// Passes the rest of the block, where no place has a bucket left open, and makes the masks of the next block. It
     /// is false where the block was the last one.
+    #[inline(never)]
     fn enter_block(&mut self) -> bool
         requires { self.old.marks ≡ 0 }
         ensures literals { self.new.literals ≡ self.old.literals }
@@ -91,7 +92,7 @@ impl<'a> Places<'a> {
     }
 
     /// Goes on to the next place of the block that has a bucket left open, and gives its mask.
-    #[inline]
+    #[inline(always)]
     fn pass_closed(&mut self) -> u8
         requires { self.old.marks ≢ 0 }
         ensures literals { self.new.literals ≡ self.old.literals }
@@ -111,7 +112,7 @@ impl<'a> Places<'a> {
     }
 
     /// Goes on to the next place that has a bucket left open, and gives its mask; None where there is no more.
-    #[inline]
+    #[inline(always)]
     pub(crate) fn next_open(&mut self) -> Option<u8>
         ensures literals { self.new.literals ≡ self.old.literals }
         ensures history { self.new.history ≡ self.old.history }

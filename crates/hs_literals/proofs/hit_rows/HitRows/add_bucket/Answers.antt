@@ -33,11 +33,11 @@ pub add-requires : goal.add-requires
 add-requires c =
     let literals = held c.args.literals.now in
     let place = c.args.place in
-    let (filed, there, hit) =
+    let (filed, (there, hit)) =
     next-new (IsHitOf literals (held_buckets c.args.literals.now) c.args.bucket c.args.before.now c.args.bytes.now place) c.args.self.now c.loop-number.self (pairs_of_place place (ends_left c.loop-number.number-iterator)) (pairs_of_place place (ends_left c.next.new.self)) place
-    c.in-Some-number.number c.loop-number.invariant (ap (pairs_of_place place) c.in-Some-number.ensures.steps) in
+    c.in-Some.number c.loop-number.invariant (ap (pairs_of_place place) c.in-Some.ensures.steps) in
     record {
-      known = omega (arith, slice_get_within literals c.in-Some-number.number hit.literal hit.numbered, c.loop-number.invariant.count, c.requires.known);
+      known = omega (arith, slice_get_within literals c.in-Some.number hit.literal hit.numbered, c.loop-number.invariant.count, c.requires.known);
       within = omega (arith, c.requires.within, c.requires.few);
     }
 
@@ -45,10 +45,10 @@ pub loop-number-preserved : goal.loop-number-preserved
 loop-number-preserved c =
     let place = c.args.place in
     adds-next (IsHitOf (held c.args.literals.now) (held_buckets c.args.literals.now) c.args.bucket c.args.before.now c.args.bytes.now place) c.args.self.now c.loop-number.self c.add.new.self (pairs_of_place place (ends_left c.loop-number.number-iterator)) (pairs_of_place place (ends_left c.next.new.self)) place
-    c.in-Some-number.number c.loop-number.invariant (ap (pairs_of_place place) c.in-Some-number.ensures.steps) c.add.ensures
+    c.in-Some.number c.loop-number.invariant (ap (pairs_of_place place) c.in-Some.ensures.steps) c.add.ensures
 
 pub returns : goal.returns
 returns c =
     let place = c.args.place in
     adds-all (IsHitOf (held c.args.literals.now) (held_buckets c.args.literals.now) c.args.bucket c.args.before.now c.args.bytes.now place) c.args.self.now (pairs_of_place place (ends_left c.loop-number.number-iterator)) c.loop-number.self c.loop-number.invariant
-    (ap (pairs_of_place place) c.in-None-number.ensures.steps.0)
+    (ap (pairs_of_place place) c.in-None.ensures.steps.0)

@@ -11,8 +11,8 @@ loop-left-init c =
     let literals = c.args.literals.now in
     let fits : c.args.mask < 256 = omega (arith, c.ranges.mask.fits) in
     record {
-      few = subst AreBuckets (sym c.from.ensures) (λ bucket is. (open-all c.args.mask fits bucket is).0);
-      adds = but-start (held literals) (held_buckets literals) c.args.before.now c.args.bytes.now c.args.place (as_many literals.confirm) c.args.mask c.from.result c.args.self.now literals.few fits c.from.ensures c.requires.hides;
+      few = subst AreBuckets (sym c.from-left.ensures) (λ bucket is. (open-all c.args.mask fits bucket is).0);
+      adds = but-start (held literals) (held_buckets literals) c.args.before.now c.args.bytes.now c.args.place (as_many literals.confirm) c.args.mask c.from-left.result c.args.self.now literals.few fits c.from-left.ensures c.requires.hides;
     }
 
 pub add_bucket-requires : goal.add_bucket-requires
