@@ -1,4 +1,4 @@
-use Rattle.std.proofs.Common.{◌<◌, ◌≤◌, ◌∙◌, length, sym, subst, arith}
+use Rattle.std.proofs.Common.{◌<◌, sym, subst, arith}
 use Rattle.hs_confirm.specs.Found.{AreBuckets}
 use Rattle.hs_confirm.proofs.HeadLemmas.{open-all}
 use Rattle.hs_literals.specs.Held.{held, held_buckets}
