@@ -268,12 +268,7 @@ fn asked_squares(rests: &[u64], width: usize, position: usize) -> u64
 }
 
 /// For each position the squares in whose rows a bit is set.
-fn asks_of(
-    alloc: Global,
-    rests: &[u64],
-    width: usize,
-    size: usize,
-) -> Result<Vec<u64>, AllocError>
+fn asks_of(alloc: Global, rests: &[u64], width: usize, size: usize) -> Result<Vec<u64>, AllocError>
     requires few { size ≤ 512 }
     requires rests { length rests.now ≡ width * (12 * size) }
     ensures count { IfOk result (λ asks. vec_len asks ≡ size) }
