@@ -1,5 +1,6 @@
 //! Which literals end at a place: exact answers where a faster search says that some may. `confirm` has the table,
-//! `ends` the iteration over its answers for one bucket, `place_ends` that for several buckets in order, `plain` the slow twin. `specs/BucketEnds.antt` says what an end is.
+//! `ends` the iteration over its answers for one bucket, `place_ends` that for several buckets in order, `plain` the
+//! slow twin. `specs/BucketEnds.antt` says what an end is.
 #![tactic(auto)]
 
 mod chains;
