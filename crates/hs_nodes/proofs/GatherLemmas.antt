@@ -1,5 +1,5 @@
 -- Ends are gathered node by node.
-use Rattle.std.proofs.Common.{◌≡◌, ℕ, zero, suc, ◌+◌, ◌<◌, ◌≤◌, Bool, true, false, List, [], ◌∷◌, length, Some, bit_or, slice_get, slice_set, refl, sym, ap, subst, ◌∙◌, inl, inr, arith}
+use Rattle.std.proofs.Common.{◌≡◌, ℕ, zero, suc, ◌+◌, ◌<◌, ◌≤◌, ◌||◌, Bool, true, false, List, [], ◌∷◌, length, Some, bit_or, slice_get, slice_set, refl, sym, ap, subst, ◌∙◌, inl, inr, arith}
 use Rattle.std.specs.Prelude.{slice_index, slice_index_or}
 use Rattle.std.proofs.lemmas.Bool.{cases_eq, cases_lt}
 use Rattle.std.proofs.lemmas.List.{get_or-set_other, get_or-set_same, get_or_past}
@@ -10,12 +10,13 @@ use Rattle.hs_nodes.specs.Left.{nowhere}
 use Rattle.hs_nodes.specs.Walks.{node_ends}
 use Rattle.hs_nodes.specs.declared.ends.ChunkEnds.{ChunkEnds}
 use Rattle.hs_nodes.proofs.RunLemmas.{nowhere-none}
-use Rattle.hs_reports.specs.EndTables.{AddsEnds, EndTable, HasNoEnds, is_noted}
+use Rattle.hs_reports.specs.EndTables.{AddsEnds, EndTable, HasNoEnds, is_noted, words_of}
+use Rattle.hs_reports.specs.WordBits.{word_bit}
 use Rattle.hs_reports.specs.Gathering.{AreEndsBelow}
 use Rattle.hs_reports.specs.declared.terminal.Terminal.{Terminal}
 use Rattle.hs_reports.proofs.GatheringLemmas.{gathering-begins, gathering-goes_on, gathering-passes}
 use Rattle.hs_nodes.specs.Graphs.{AreTerminalsSound}
-use Rattle.hs_nodes.specs.Gathering.{AddsBusy, AreBusy, GathersNode, IsPassed, left_before, left_behind, ends_or_all, terminals_of}
+use Rattle.hs_nodes.specs.Gathering.{AddsBusy, AddsTold, AreBusy, GathersNode, IsPassed, IsUntold, left_before, left_behind, ends_or_all, terminals_of}
 use Rattle.hs_nodes.specs.declared.graph.Graph.{Graph}
 
 -- the ends of a node by its number
@@ -30,6 +31,19 @@ ends-past [] all zero same = refl
 ends-past [] all (suc k) same = absurd (omega arith)
 ends-past (x ∷ ends) all zero same = absurd (omega arith)
 ends-past (x ∷ ends) all (suc k) same = ends-past ends all k (omega arith)
+
+-- no terminal adds no end
+or-none : (b : Bool) → b ≡ (b || false)
+or-none true = refl
+or-none false = refl
+
+adds-none : (table : EndTable) (at before behind : ℕ) → AddsEnds table table [] at before behind
+adds-none table at before behind = record {
+  count = refl;
+  before_is = λ p i low. or-none (word_bit (words_of table p).before i);
+  behind_is = λ p i low. or-none (word_bit (words_of table p).behind i);
+  noted = λ p is. is;
+}
 
 -- the ends of the nodes before one are gathered, and no noted identifier is forgotten
 pub record IsGatheredTo {E : Type 0} (graph : Graph E) (ends : List ChunkEnds) (all : ChunkEnds) (block at from : ℕ) (first table : EndTable) : Type 0 where
@@ -66,18 +80,33 @@ module _ {E : Type 0} (graph : Graph E) (ends : List ChunkEnds) (all : ChunkEnds
       let is : ends_or_all ends all k ≡ nowhere = ends-at ends all nowhere k (omega (arith, count)) ∙ none in
       (ap (λ e. slice_index e.before block) is ∙ nowhere-none.before block (omega arith), ap (λ e. slice_index e.behind block) is ∙ nowhere-none.behind block (omega arith))
 
-  -- nodes that are left nowhere in the block are passed over
-  pub gathered-past : (at from to : ℕ) (first table : EndTable) → from ≤ to → to ≤ length graph.table.nodes.items → ((k : ℕ) → from ≤ k → k < to → IsPassed (node_ends ends k) block) → IsGatheredTo graph ends all block at from first table → IsGatheredTo graph ends all block at to first table
-  gathered-past at from to first table order inside none is = record {
-    within = inside;
-    counted = is.counted;
-    noted = is.noted;
-    gathered =
-        gathering-passes graph.terminals.items (left_before ends all block) (left_behind ends all block) at from to table order
-        (λ k low high.
-        let same : ends_or_all ends all k ≡ node_ends ends k = ends-at ends all nowhere k (omega (arith, count, high, inside)) in
-        (ap (λ e. slice_index e.before block) same ∙ (none k low high).before_is, ap (λ e. slice_index e.behind block) same ∙ (none k low high).behind_is)) is.gathered;
-  }
+  -- nodes of which nothing is told in the block are passed over
+  pub gathered-untold : AreTerminalsSound graph → (at from n : ℕ) (first table : EndTable) → from + n ≤ length graph.table.nodes.items → ((k : ℕ) → from ≤ k → k < from + n → IsUntold graph k (node_ends ends k) block) → IsGatheredTo graph ends all block at from first table →
+      IsGatheredTo graph ends all block at (from + n) first table
+  gathered-untold sound at from zero first table inside none is = subst (λ m. IsGatheredTo graph ends all block at m first table) (omega arith) is
+  gathered-untold sound at from (suc n) first table inside none is =
+      subst (λ m. IsGatheredTo graph ends all block at m first table) (omega arith)
+      (gathered-untold sound at (from + 1) n first table (omega (arith, inside)) (λ k low high. none k (omega (arith, low)) (omega (arith, high))) (one (none from (omega arith) (omega arith)))) where
+        one : IsUntold graph from (node_ends ends from) block → IsGatheredTo graph ends all block at (from + 1) first table
+        one (inl own) = record {
+          within = omega (arith, inside);
+          counted = is.counted;
+          noted = is.noted;
+          gathered =
+              gathering-goes_on graph.terminals.items (terminals_of graph from) (left_before ends all block) (left_behind ends all block) at from table table is.gathered (sound.of_node from (omega (arith, inside)))
+              (subst (λ ts. AddsEnds table table ts at (left_before ends all block from) (left_behind ends all block from)) (sym own) (adds-none table at (left_before ends all block from) (left_behind ends all block from)));
+        }
+        one (inr passed) = record {
+          within = omega (arith, inside);
+          counted = is.counted;
+          noted = is.noted;
+          gathered =
+              gathering-passes graph.terminals.items (left_before ends all block) (left_behind ends all block) at from (from + 1) table (omega arith)
+              (λ k low high.
+              let here : k ≡ from = omega arith in
+              let same : ends_or_all ends all k ≡ node_ends ends from = ends-at ends all nowhere k (omega (arith, count, here, inside)) ∙ ap (λ n. node_ends ends n) here in
+              (ap (λ e. slice_index e.before block) same ∙ passed.before_is, ap (λ e. slice_index e.behind block) same ∙ passed.behind_is)) is.gathered;
+        }
 
   pub gathered-passed : (at from to : ℕ) (first table : EndTable) → from ≤ to → to ≤ length graph.table.nodes.items → ((k : ℕ) → from ≤ k → k < to → node_ends ends k ≡ nowhere) → IsGatheredTo graph ends all block at from first table → IsGatheredTo graph ends all block at to first table
   gathered-passed at from to first table order inside none is = record {
@@ -151,34 +180,42 @@ busy-more own old mid j before behind word there before_is behind_is word_is add
       let all = none-of (slice_index mid j) before behind (sym word_is ∙ none) in
       (sym (adds.above j (omega arith)) ∙ all.0, record { before_is = sym before_is ∙ all.1; behind_is = sym behind_is ∙ all.2 })
 
--- In a block whose word is 0 no node before that number is left anywhere.
-pub record AreBusyTo (ends : List ChunkEnds) (words : List ℕ) (from : ℕ) : Type 0 where
+-- In a block whose word is 0 no node before that number that has a terminal is left anywhere.
+pub record AreBusyTo {E : Type 0} (graph : Graph E) (ends : List ChunkEnds) (words : List ℕ) (from : ℕ) : Type 0 where
   pub within : from ≤ length ends
-  pub passed : (block k : ℕ) → block < 8 → k < from → slice_index words block ≡ 0 → IsPassed (node_ends ends k) block
+  pub untold : (block k : ℕ) → block < 8 → k < from → slice_index words block ≡ 0 → IsUntold graph k (node_ends ends k) block
 
-pub busy-begins : (ends : List ChunkEnds) (words : List ℕ) → AreBusyTo ends words 0
-busy-begins ends words = record { within = omega arith; passed = λ block k few low. absurd (omega arith) }
+module _ {E : Type 0} (graph : Graph E) where
+  pub busy-begins : (ends : List ChunkEnds) (words : List ℕ) → AreBusyTo graph ends words 0
+  busy-begins ends words = record { within = omega arith; untold = λ block k few low. absurd (omega arith) }
 
--- up to the next one that is marked, and that one
-pub busy-next : (ends : List ChunkEnds) (own : ChunkEnds) (mid new : List ℕ) (from k : ℕ) → k < length ends → slice_get ends k ≡ Some own → ((j : ℕ) → from ≤ j → j < k → node_ends ends j ≡ nowhere) → AddsBusy own 8 mid new → AreBusyTo ends mid from → AreBusyTo ends new (k + 1)
-busy-next ends own mid new from k there is rest adds are = record {
-  within = omega arith;
-  passed = λ block j few low none.
-      let both = adds.below block few none in
-      elim (cases_lt j from) [
-        | inl inner ↦ are.passed block j few inner both.0
-        | inr past ↦ elim (cases_eq j k) [
-          | inl same ↦ subst (λ e. IsPassed e block) (sym (ap (λ n. node_ends ends n) same ∙ get_or_from_slice_get ends k own nowhere is)) both.1
-          | inr apart ↦ subst (λ e. IsPassed e block) (sym (rest j past (omega (arith, low, apart)))) (passed-nowhere block)
-        ]
-      ];
-}
+  pub told-none : (node : ℕ) (own : ChunkEnds) (words : List ℕ) → terminals_of graph node ≡ [] → AddsTold graph node own words words
+  told-none node own words none j few is = (is, inl none)
 
-pub busy-all : (ends : List ChunkEnds) (words : List ℕ) (from : ℕ) → ((j : ℕ) → from ≤ j → j < length ends → node_ends ends j ≡ nowhere) → AreBusyTo ends words from → AreBusy ends words
-busy-all ends words from rest are block k few none = elim (cases_lt k from) [
-  | inl inner ↦ are.passed block k few inner none
-  | inr past ↦ elim (cases_lt k (length ends)) [
-    | inl inside ↦ subst (λ e. IsPassed e block) (sym (rest k past inside)) (passed-nowhere block)
-    | inr beyond ↦ subst (λ e. IsPassed e block) (sym (get_or_past ends k nowhere beyond)) (passed-nowhere block)
+  pub told-added : (node : ℕ) (own : ChunkEnds) (old new : List ℕ) → AddsBusy own 8 old new → AddsTold graph node own old new
+  told-added node own old new adds j few is = let both = adds.below j few is in (both.0, inr both.1)
+
+  -- up to the next one that is marked, and that one
+  pub busy-next : (ends : List ChunkEnds) (own : ChunkEnds) (mid new : List ℕ) (from k : ℕ) → k < length ends → slice_get ends k ≡ Some own → ((j : ℕ) → from ≤ j → j < k → node_ends ends j ≡ nowhere) → AddsTold graph k own mid new → AreBusyTo graph ends mid from →
+      AreBusyTo graph ends new (k + 1)
+  busy-next ends own mid new from k there is rest adds are = record {
+    within = omega arith;
+    untold = λ block j few low none.
+        let both = adds block few none in
+        elim (cases_lt j from) [
+          | inl inner ↦ are.untold block j few inner both.0
+          | inr past ↦ elim (cases_eq j k) [
+            | inl same ↦ subst (λ n. IsUntold graph n (node_ends ends n) block) (sym same) (subst (λ e. IsUntold graph k e block) (sym (get_or_from_slice_get ends k own nowhere is)) both.1)
+            | inr apart ↦ inr (subst (λ e. IsPassed e block) (sym (rest j past (omega (arith, low, apart)))) (passed-nowhere block))
+          ]
+        ];
+  }
+
+  pub busy-all : (ends : List ChunkEnds) (words : List ℕ) (from : ℕ) → ((j : ℕ) → from ≤ j → j < length ends → node_ends ends j ≡ nowhere) → AreBusyTo graph ends words from → AreBusy graph ends words
+  busy-all ends words from rest are block k few none = elim (cases_lt k from) [
+    | inl inner ↦ are.untold block k few inner none
+    | inr past ↦ elim (cases_lt k (length ends)) [
+      | inl inside ↦ inr (subst (λ e. IsPassed e block) (sym (rest k past inside)) (passed-nowhere block))
+      | inr beyond ↦ inr (subst (λ e. IsPassed e block) (sym (get_or_past ends k nowhere beyond)) (passed-nowhere block))
+    ]
   ]
-]

@@ -1,5 +1,5 @@
 -- The ends of identifiers in a block, from where the nodes are left.
-use Rattle.std.specs.Prelude.{◌≡◌, ℕ, ◌+◌, ◌*◌, ◌<◌, ◌≤◌, List, slice_index, slice_index_or, slice_range}
+use Rattle.std.specs.Prelude.{◌≡◌, ℕ, ◌+◌, ◌*◌, ◌<◌, ◌≤◌, ◌⊎◌, List, [], slice_index, slice_index_or, slice_range}
 use Rattle.hs_engine.specs.Engines.{Meaning}
 use Rattle.hs_reports.specs.EndTables.{EndTable}
 use Rattle.hs_reports.specs.Gathering.{AreEndsBelow}
@@ -24,11 +24,6 @@ pub record IsPassed (ends : ChunkEnds) (block : ℕ) : Type 0 where
   pub before_is : slice_index ends.before block ≡ 0
   pub behind_is : slice_index ends.behind block ≡ 0
 
--- In a block whose word is 0 no node is left anywhere.
-abbrev pub AreBusy : List ChunkEnds → (words : List ℕ) → Type 0
-AreBusy ends words =
-    (block k : ℕ) → block < 8 → slice_index words block ≡ 0 → IsPassed (node_ends ends k) block
-
 -- A word of the first so many blocks is 0 then only if it was and the node is left nowhere in the block; the others
 -- stay.
 pub record AddsBusy (own : ChunkEnds) (count : ℕ) (old new : List ℕ) : Type 0 where
@@ -40,6 +35,20 @@ abbrev pub terminals_of : {E : Type 0} → Graph E → ℕ → List Terminal
 terminals_of graph node =
     slice_range graph.terminals.items (slice_index graph.terminal_starts.items node)
     (slice_index graph.terminal_starts.items (node + 1))
+
+-- The node of that number has no terminal, or it is left nowhere in that block.
+abbrev pub IsUntold : {E : Type 0} → Graph E → (node : ℕ) → ChunkEnds → (block : ℕ) → Type 0
+IsUntold graph node ends block = (terminals_of graph node ≡ []) ⊎ IsPassed ends block
+
+-- In a block whose word is 0 no node that has a terminal is left anywhere.
+abbrev pub AreBusy : {E : Type 0} → Graph E → List ChunkEnds → (words : List ℕ) → Type 0
+AreBusy graph ends words =
+    (block k : ℕ) → block < 8 → slice_index words block ≡ 0 → IsUntold graph k (node_ends ends k) block
+
+-- A word is 0 then only if it was and nothing is told of the node in its block.
+abbrev pub AddsTold : {E : Type 0} → Graph E → (node : ℕ) → ChunkEnds → (old new : List ℕ) → Type 0
+AddsTold graph node own old new =
+    (j : ℕ) → j < 8 → slice_index new j ≡ 0 → (slice_index old j ≡ 0) × IsUntold graph node own j
 
 -- What one node adds to the ends that those before it give in a block at that offset.
 abbrev pub GathersNode : {E : Type 0} → Graph E → (node at before behind : ℕ) → EndTable → EndTable → Type 0

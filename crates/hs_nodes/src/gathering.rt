@@ -7,7 +7,7 @@ ghost use Rattle.hs_nodes.specs.Walks.{node_ends};
 ghost use Rattle.hs_reports.specs.EndTables.{HasNoEnds, is_noted};
 ghost use Rattle.hs_reports.specs.Gathering.{AreEndsBelow};
 ghost use Rattle.hs_nodes.specs.Graphs.{AreTerminalsSound};
-ghost use Rattle.hs_nodes.specs.Gathering.{AddsBusy, AreBusy, AreGathered, GathersNode, terminals_of};
+ghost use Rattle.hs_nodes.specs.Gathering.{AddsBusy, AddsTold, AreBusy, AreGathered, GathersNode, terminals_of};
 
 use crate::chunk::{BLOCK_BYTES, MAX_BLOCKS};
 use crate::ends::ChunkEnds;
@@ -25,12 +25,11 @@ pub struct NodeEnds<'m, 'e, 'a> {
     pub ends: &'e [ChunkEnds],
     /// Everywhere: there no pieces are left.
     pub all: &'a ChunkEnds,
-    /// For each block a word that is 0 where no node is left anywhere in it.
+    /// For each block a word that is 0 where no node that has a terminal is left anywhere in it.
     pub busy: [u64; MAX_BLOCKS],
     ghost room: { length ends.now ≤ mark_room marks.now },
     ghost known: { (k : ℕ) → is_marked marks.now k ≡ true → k < length ends.now },
     ghost rest: { (k : ℕ) → k < length ends.now → is_marked marks.now k ≡ false → node_ends ends.now k ≡ nowhere },
-    ghost are_busy: { AreBusy ends.now busy },
 }
 
 /// Where the node of that number is left.
@@ -119,7 +118,7 @@ pub fn gather_block<E: BlockEngine>(
     );
 }
 
-/// The same, with no look at the nodes in a block in which none is left.
+/// The same, with no look at the nodes in a block in which none is left that has a terminal.
 pub fn gather_left<E: BlockEngine>(
     graph: &Graph<E>,
     left: &NodeEnds,
@@ -134,6 +133,7 @@ pub fn gather_left<E: BlockEngine>(
     requires count { length table.old.words ≡ length graph.now.identifiers.items }
     requires none { HasNoEnds table.old }
     requires room { at + 64 * block < 2 ^ 63 }
+    requires busy { AreBusy graph.now left.now.ends.now left.now.busy }
     ensures count { length table.new.words ≡ length table.old.words }
     ensures noted { (p : ℕ) → is_noted table.old p ≡ true → is_noted table.new p ≡ true }
     ensures gathered { AreGathered E.meaning graph.now left.now.ends.now left.now.all.now at block
@@ -162,19 +162,42 @@ fn add_busy(busy: &mut [u64; MAX_BLOCKS], own: &ChunkEnds)
     }
 }
 
-/// For each block of a chunk a word that is 0 where no node is left anywhere in it. Nodes that aren't marked are left
-/// nowhere.
-pub fn busy_words(marks: &MarkSet, ends: &[ChunkEnds]) -> [u64; MAX_BLOCKS]
+/// The same, if the node of that number has a terminal.
+fn add_told<E: BlockEngine>(
+    graph: &Graph<E>,
+    node: usize,
+    busy: &mut [u64; MAX_BLOCKS],
+    own: &ChunkEnds,
+)
+    requires sound { AreTerminalsSound graph.now }
+    requires there { node < length graph.now.table.nodes.items }
+    ensures { AddsTold graph.now node own.now busy.old busy.new }
+{
+    if terminals_of(graph, node).is_empty() {
+        return;
+    }
+    add_busy(busy, own);
+}
+
+/// For each block of a chunk a word that is 0 where no node that has a terminal is left anywhere in it. Nodes that
+/// aren't marked are left nowhere.
+pub fn busy_words<E: BlockEngine>(
+    graph: &Graph<E>,
+    marks: &MarkSet,
+    ends: &[ChunkEnds],
+) -> [u64; MAX_BLOCKS]
+    requires sound { AreTerminalsSound graph.now }
+    requires ends { length ends.now ≡ length graph.now.table.nodes.items }
     requires room { length ends.now ≤ mark_room marks.now }
     requires known { (k : ℕ) → is_marked marks.now k ≡ true → k < length ends.now }
     requires rest { (k : ℕ) → k < length ends.now → is_marked marks.now k ≡ false →
         node_ends ends.now k ≡ nowhere }
-    ensures { AreBusy ends.now result }
+    ensures { AreBusy graph.now ends.now result }
 {
     let mut busy = [0; MAX_BLOCKS];
     let mut from = 0;
     while let Some(k) = marks.next(from) {
-        add_busy(&mut busy, ends_at(ends, k));
+        add_told(graph, k, &mut busy, ends_at(ends, k));
         from = k + 1;
     }
     busy

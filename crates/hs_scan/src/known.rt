@@ -8,6 +8,7 @@ ghost use Rattle.hs_nodes.specs.Walks.{node_ends};
 ghost use Rattle.hs_reports.specs.EndTables.{HasNoEnds};
 ghost use Rattle.hs_reports.specs.Events.{Takes};
 ghost use Rattle.hs_scan.specs.Knowing.{FitsKnown, IsPending, SettlesKnown};
+ghost use Rattle.hs_nodes.specs.Gathering.{AreBusy};
 ghost use Rattle.hs_nodes.specs.Graphs.{AreTerminalsSound};
 ghost use Rattle.hs_scan.specs.Telling.{TellsBlock, TellsChunk};
 
@@ -78,6 +79,7 @@ fn tell_known<E: BlockEngine, V: Events>(
     requires few { length graph.now.table.nodes.items < 2 ^ 32 }
     requires ends { length left.now.ends.now ≡ length graph.now.table.nodes.items }
     requires there { 64 * number < length chunk.now.bytes.now }
+    requires busy { AreBusy graph.now left.now.ends.now left.now.busy }
     requires fits { FitsKnown (length graph.now.identifiers.items) known.old }
     requires pending { IsPending known.old }
     ensures fits { FitsKnown (length graph.now.identifiers.items) known.new }
@@ -124,7 +126,7 @@ pub(crate) fn tell_chunk<E: BlockEngine, V: Events>(
         marks,
         ends,
         all,
-        busy: busy_words(marks, ends),
+        busy: busy_words(graph, marks, ends),
     };
     for j in 0..chunk.blocks() {
         tell_known(graph, chunk, &left, j, known, events);
