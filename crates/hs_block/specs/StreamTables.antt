@@ -8,7 +8,7 @@ use Rattle.hs_base.specs.declared.byte_set.ByteSet.{ByteSet}
 use Rattle.hs_block.specs.declared.class_words.ClassWords.{ClassWords}
 use Rattle.hs_block.specs.declared.streams.Streams.{Streams}
 use Rattle.hs_bits.specs.BlockContexts.{context_before}
-use Rattle.hs_block.specs.StreamSets.{AreSquares, is_from, takes_byte}
+use Rattle.hs_block.specs.StreamSets.{is_from, takes_byte}
 use Rattle.hs_bits.specs.WordBits.{word_bit}
 use Rattle.hs_block.specs.Rows.{Rules}
 
@@ -38,10 +38,6 @@ stream_rules s prev entered bytes = record {
   begins = λ i x. word_bit entered i && in_mask (slice_get s.enters.items x) (context_before prev bytes i);
   follows = λ i y x. comes_before s x y (context_before prev bytes i);
 }
-
--- where contexts matter between positions, the words are those of the twelve contexts
-abbrev pub AreSquaresFor : Streams → (words : List ℕ) → Prev → (bytes : List ℕ) → Type 0
-AreSquaresFor s words prev bytes = s.asking ≡ true → AreSquares words prev bytes
 
 -- the words that are made tell at which places of a block the bytes of their sets stand
 abbrev pub AreClassWords : ClassWords → (sets : List ByteSet) (bytes : List ℕ) → Type 0

@@ -20,7 +20,7 @@ ghost use Rattle.hs_engine.specs.Automata.{in_mask, in_set};
 ghost use Rattle.hs_bits.specs.BlockContexts.{AreMade, context_before, context_behind};
 ghost use Rattle.hs_block.specs.Rows.{is_next, live_at};
 ghost use Rattle.hs_block.specs.Settling.{AreLive, IsSettled};
-ghost use Rattle.hs_block.specs.StreamSets.{AreSquares, RowsFit, in_rows, is_from, takes_byte};
+ghost use Rattle.hs_block.specs.StreamSets.{RowsFit, in_rows, is_from, takes_byte};
 ghost use Rattle.hs_bits.specs.WordBits.{one_later, word_bit};
 
 use crate::before_tables::{
@@ -128,14 +128,11 @@ struct Entry<const W: usize> {
     prev: Prev,
     /// The contexts of its places, if they are made.
     contexts: Option<Contexts>,
-    /// Its places by the twelve contexts in which a byte comes next, if positions ask for them.
-    squares: [u64; SQUARES],
     /// The places before whose bytes the expression is entered.
     enters: u64,
     /// The positions that are live before it.
     state: [u64; W],
     ghost state_len: { length state ≡ W },
-    ghost squares_len: { length squares ≡ 12 },
 }
 
 /// What is still to be done for the words of a block.
@@ -163,7 +160,7 @@ impl Streams {
     ghost use Rattle.hs_block.specs.Blocks.{is_blank};
     ghost use Rattle.hs_bits.specs.Packed.{packed};
     ghost use Rattle.hs_block.specs.StreamRuns.{IsTried};
-    ghost use Rattle.hs_block.specs.StreamTables.{AreClassWords, AreSquaresFor, TellsOf, comes_before, stream_rules};
+    ghost use Rattle.hs_block.specs.StreamTables.{AreClassWords, TellsOf, comes_before, stream_rules};
 
     /// The tables of an automaton; None where it has too many sets.
     pub fn build(alloc: Global, automaton: &Automaton) -> Result<Option<Streams>, AllocError>
@@ -333,11 +330,9 @@ impl Streams {
         ensures { IsTried self.now setting.now.prev region.old region.new setting.now.enters whole.now count result
             steps.old steps.new }
     {
-        let contexts = self.contexts(setting.prev, whole);
         let entry = Entry {
             prev: setting.prev,
-            squares: self.squares(&contexts, setting.prev, whole),
-            contexts,
+            contexts: self.contexts(setting.prev, whole),
             enters: setting.enters,
             state: load::<W>(region),
         };
@@ -362,19 +357,6 @@ impl Streams {
         }
     }
 
-    /// The places of a block by the twelve contexts in which a byte comes next, where a position asks for them.
-    #[inline(always)]
-    fn squares(&self, contexts: &Option<Contexts>, prev: Prev, whole: &[u8]) -> [u64; SQUARES]
-        requires whole { length whole.now ≡ 64 }
-        requires made { AreMade contexts.now prev whole.now }
-        ensures { AreSquaresFor self.now result prev whole.now }
-    {
-        if !self.asking {
-            return [0; SQUARES];
-        }
-        places_by_square(&contexts_of(*contexts, prev, whole))
-    }
-
     /// Makes the words of the positions until they come to rest, and tells which aren't 0; None where they don't.
     fn solve<const W: usize>(
         &self,
@@ -386,7 +368,6 @@ impl Streams {
         requires fits { RowsFit self.now.width W }
         requires whole { length whole.now ≡ 64 }
         requires made { AreMade entry.now.contexts entry.now.prev whole.now }
-        requires squares { AreSquaresFor self.now entry.now.squares entry.now.prev whole.now }
         requires first { (i : ℕ) → i < 64 →
             word_bit first i ≡ in_set (slice_get self.now.sets.items 0) (slice_index whole.now i) }
         requires state { (y : ℕ) → self.now.size ≤ y → has_word_bit entry.now.state y ≡ false }
@@ -469,7 +450,6 @@ impl Streams {
         requires position { position < self.now.size }
         requires whole { length whole.now ≡ 64 }
         requires made { AreMade entry.now.contexts entry.now.prev whole.now }
-        requires squares { AreSquaresFor self.now entry.now.squares entry.now.prev whole.now }
         requires state { (y : ℕ) → self.now.size ≤ y → has_word_bit entry.now.state y ≡ false }
         requires known { AreClassWords classes.old self.now.sets.items whole.now }
         requires room { 64 * self.now.width ≤ length words.old }
@@ -515,7 +495,6 @@ impl Streams {
         requires position { position < self.now.size }
         requires whole { length whole.now ≡ 64 }
         requires made { AreMade entry.now.contexts entry.now.prev whole.now }
-        requires squares { AreSquaresFor self.now entry.now.squares entry.now.prev whole.now }
         requires known { AreClassWords classes.old self.now.sets.items whole.now }
         requires room { 64 * self.now.width ≤ length words.now }
         requires state { (y : ℕ) → self.now.size ≤ y → has_word_bit entry.now.state y ≡ false }
@@ -528,7 +507,7 @@ impl Streams {
             (live_at (has_word_bit entry.now.state) (set words.now position word) i) position) }
     {
         let entered = entered_places(entry, whole, self.enters[position]);
-        let arrivals = self.arrivals(position, entry, words, live);
+        let arrivals = self.arrivals(position, entry, whole, words, live);
         let reached = entered | arrivals.led;
         if reached == 0 {
             return Some(0);
@@ -543,23 +522,22 @@ impl Streams {
         &self,
         position: usize,
         entry: &Entry<W>,
+        whole: &[u8],
         words: &[u64],
         live: &[u64],
     ) -> Arrivals
         requires fits { RowsFit self.now.width W }
         requires position { position < self.now.size }
+        requires whole { length whole.now ≡ 64 }
+        requires made { AreMade entry.now.contexts entry.now.prev whole.now }
         requires room { 64 * self.now.width ≤ length words.now }
         requires state { (y : ℕ) → self.now.size ≤ y → has_word_bit entry.now.state y ≡ false }
         requires lit { AreLive self.now.size W words.now live.now }
-        ensures led { (bytes : List ℕ) → length bytes ≡ 64 →
-            AreSquaresFor self.now entry.now.squares entry.now.prev bytes →
-            (i : ℕ) → i < 64 → word_bit result.led i ≡ any_below self.now.size
+        ensures led { (i : ℕ) → i < 64 → word_bit result.led i ≡ any_below self.now.size
             (λ y. live_at (has_word_bit entry.now.state) words.now i y
-            && comes_before self.now position y (context_before entry.now.prev bytes i)) }
-        ensures again { (bytes : List ℕ) → length bytes ≡ 64 →
-            AreSquaresFor self.now entry.now.squares entry.now.prev bytes →
-            (i : ℕ) → i < 64 → word_bit result.again i
-            ≡ comes_before self.now position position (context_before entry.now.prev bytes i) }
+            && comes_before self.now position y (context_before entry.now.prev whole.now i)) }
+        ensures again { (i : ℕ) → i < 64 → word_bit result.again i
+            ≡ comes_before self.now position position (context_before entry.now.prev whole.now i) }
     {
         let row = row_in::<W>(&self.froms, self.width, position);
         let always = arrive(row, position, entry, words, live);
@@ -567,7 +545,7 @@ impl Streams {
         if asks == 0 {
             return always;
         }
-        self.by_context(always, asks, position, entry, words, live)
+        self.by_context(always, asks, position, entry, whole, words, live)
     }
 
     /// The same, with the arrivals that every context allows told, and the contexts in which there may be others.
@@ -578,11 +556,14 @@ impl Streams {
         asks: u64,
         position: usize,
         entry: &Entry<W>,
+        whole: &[u8],
         words: &[u64],
         live: &[u64],
     ) -> Arrivals
         requires fits { RowsFit self.now.width W }
         requires position { position < self.now.size }
+        requires whole { length whole.now ≡ 64 }
+        requires made { AreMade entry.now.contexts entry.now.prev whole.now }
         requires room { 64 * self.now.width ≤ length words.now }
         requires asks { asks ≡ slice_index self.now.asks.items position }
         requires asking { self.now.asking ≡ true }
@@ -593,20 +574,19 @@ impl Streams {
             && in_rows self.now.froms.items self.now.width position y) }
         requires again { (i : ℕ) → i < 64 → word_bit always.again i
             ≡ in_rows self.now.froms.items self.now.width position position }
-        ensures led { (bytes : List ℕ) → length bytes ≡ 64 → AreSquares entry.now.squares entry.now.prev bytes →
-            (i : ℕ) → i < 64 → word_bit result.led i ≡ any_below self.now.size
+        ensures led { (i : ℕ) → i < 64 → word_bit result.led i ≡ any_below self.now.size
             (λ y. live_at (has_word_bit entry.now.state) words.now i y
-            && comes_before self.now position y (context_before entry.now.prev bytes i)) }
-        ensures again { (bytes : List ℕ) → length bytes ≡ 64 → AreSquares entry.now.squares entry.now.prev bytes →
-            (i : ℕ) → i < 64 → word_bit result.again i
-            ≡ comes_before self.now position position (context_before entry.now.prev bytes i) }
+            && comes_before self.now position y (context_before entry.now.prev whole.now i)) }
+        ensures again { (i : ℕ) → i < 64 → word_bit result.again i
+            ≡ comes_before self.now position position (context_before entry.now.prev whole.now i) }
     {
+        let squares = places_by_square(&contexts_of(entry.contexts, entry.prev, whole));
         let mut all = always;
         let mut left = asks;
         while left != 0 {
             let square = lowest_bit(left);
             left = without_lowest_bit(left);
-            let places = entry.squares[square];
+            let places = squares[square];
             if places == 0 {
                 continue;
             }

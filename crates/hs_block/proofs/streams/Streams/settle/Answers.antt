@@ -51,7 +51,7 @@ word_of-requires g c =
     let words = c.args.words.now in
     let x = c.args.position in
     let below : x < length words = omega (arith, c.requires.position, c.requires.room, s.wide) in (
-      small-size (152 + g.row.W * 8) (omega (arith, c.requires.fits.few)),
+      small-size (56 + g.row.W * 8) (omega (arith, c.requires.fits.few)),
       (
         c.requires.fits,
         (
@@ -61,17 +61,14 @@ word_of-requires g c =
             (
               c.requires.made,
               (
-                c.requires.squares,
+                c.requires.known,
                 (
-                  c.requires.known,
+                  omega (arith, c.requires.room, length-set words x 0),
                   (
-                    omega (arith, c.requires.room, length-set words x 0),
+                    c.requires.state,
                     (
-                      c.requires.state,
-                      (
-                        record { len = c.args.work.now.live_len; few = c.requires.settled.live_few; dark = set-none words c.args.work.now.live x below c.requires.settled.dark },
-                        get_or-set_same words x 0 0 below,
-                      ),
+                      record { len = c.args.work.now.live_len; few = c.requires.settled.live_few; dark = set-none words c.args.work.now.live x below c.requires.settled.dark },
+                      get_or-set_same words x 0 0 below,
                     ),
                   ),
                 ),

@@ -17,8 +17,8 @@ returns-then-reached-eq0-clause-word g c =
     let reached = bit_or c.entered_places-entered.result c.arrivals-arrivals.result.led in
     word-holds s entry.prev entry.state entry.enters whole words x 0 reached c.arrivals-arrivals.result.again c.requires.position (omega (arith, c.requires.position, c.requires.room, s.wide)) c.requires.none
     (reached-bit s entry.prev entry.state entry.enters whole words x _ c.entered_places-entered.result c.arrivals-arrivals.result.led
-    (slice_get_read s.enters.items (length s.enters.items) x c.index.result.now refl (omega (arith, c.requires.position, s.entered_all, s.enters.ok.0)) c.index.ensures) c.entered_places-entered.ensures (c.arrivals-arrivals.ensures.led whole c.requires.whole c.requires.squares))
-    (c.arrivals-arrivals.ensures.again whole c.requires.whole c.requires.squares)
+    (slice_get_read s.enters.items (length s.enters.items) x c.index.result.now refl (omega (arith, c.requires.position, s.entered_all, s.enters.ok.0)) c.index.ensures) c.entered_places-entered.ensures c.arrivals-arrivals.ensures.led)
+    c.arrivals-arrivals.ensures.again
     (λ i small. look-none reached c.arrivals-arrivals.result.again i (takes_byte s.sets.items s.numbers.items x (get_or whole i 0)) c.if-reached-eq0.true)
 
 pub returns-clause-word : goal.returns-clause-word
@@ -34,8 +34,8 @@ returns-clause-word g c =
     (λ word look.
     word-holds s entry.prev entry.state entry.enters whole words x word reached again c.requires.position (omega (arith, c.requires.position, c.requires.room, s.wide)) c.requires.none
     (reached-bit s entry.prev entry.state entry.enters whole words x _ c.entered_places-entered.result c.arrivals-arrivals.result.led
-    (slice_get_read s.enters.items (length s.enters.items) x c.index.result.now refl (omega (arith, c.requires.position, s.entered_all, s.enters.ok.0)) c.index.ensures) c.entered_places-entered.ensures (c.arrivals-arrivals.ensures.led whole c.requires.whole c.requires.squares))
-    (c.arrivals-arrivals.ensures.again whole c.requires.whole c.requires.squares)
+    (slice_get_read s.enters.items (length s.enters.items) x c.index.result.now refl (omega (arith, c.requires.position, s.entered_all, s.enters.ok.0)) c.index.ensures) c.entered_places-entered.ensures c.arrivals-arrivals.ensures.led)
+    c.arrivals-arrivals.ensures.again
     (λ k below.
     look k below
     ∙ ap (λ b. b && (word_bit reached k || (nat_le 1 k && (word_bit word (k - 1) && word_bit again k))))
