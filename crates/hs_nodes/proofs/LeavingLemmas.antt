@@ -27,6 +27,7 @@ use Rattle.hs_base.proofs.EntryLemmas.{leaves-listed}
 use Rattle.hs_base.proofs.LiteralRowLemmas.{literal-spans_end, literals-leave, literals-leave_behind}
 use Rattle.hs_block.proofs.LiteralBlockLemmas.{never-empty}
 use Rattle.hs_engine.specs.Engines.{Meaning, TellsLeaves}
+use Rattle.hs_nodes.proofs.NodeLemmas.{there}
 use Rattle.hs_nodes.specs.Contexts.{IsNull}
 use Rattle.hs_nodes.specs.Hits.{AreChunkHits, KeepsEntries}
 use Rattle.hs_nodes.specs.LookBacks.{TellsPair}
@@ -44,7 +45,6 @@ use Rattle.hs_nodes.proofs.PieceLemmas.{left-through}
 use Rattle.hs_reports.specs.WordBits.{word_bit}
 use Rattle.hs_reports.proofs.WordBitLemmas.{bit-asked}
 use Rattle.hs_nodes.specs.Leaving.{LeavesEngine, LeavesFirst, LeavesLiteral, LeavesNodes, LeavesPiece, TellsEntered, TellsLeft, is_entered, is_left}
-use Rattle.hs_nodes.proofs.WalkLemmas.{there}
 
 -- the first bit of a word
 

@@ -16,6 +16,7 @@ pub mod EdgeLemmas
 pub mod PairLemmas
 pub mod PastLemmas
 pub mod RestLemmas
+pub mod OverLemmas
 pub mod SpareLemmas
 pub mod TailLemmas
 pub mod WalkLemmas

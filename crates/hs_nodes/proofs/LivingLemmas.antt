@@ -1,10 +1,8 @@
 -- Bytes that aren't 0 and the nodes that they are kept of, and what holds of engines whose bytes are 0.
-use Rattle.std.proofs.Common.{◌≡◌, ℕ, zero, suc, ◌+◌, ◌-◌, ◌<◌, ◌≤◌, true, false, not, List, [], ◌∷◌, length, get_or, take, drop, Some, slice_get, refl, sym, ap, subst, ◌∙◌, inl, inr, arith, w64}
-use Rattle.std.specs.Int.{from_le_bytes, to_le_bytes}
+use Rattle.std.proofs.Common.{◌≡◌, ℕ, ◌+◌, ◌-◌, ◌<◌, ◌≤◌, true, false, not, List, length, get_or, take, drop, Some, slice_get, sym, ap, subst, ◌∙◌, inl, inr, arith, w64}
+use Rattle.std.specs.Int.{from_le_bytes}
 use Rattle.std.specs.Slice.Scan.{HoldsNowhere}
 use Rattle.std.proofs.lemmas.Bool.{cases_eq, cases_lt, eq-eqb, ne_eqb, false≢true}
-use Rattle.std.proofs.lemmas.List.{get_or-drop, get_or-take, length-drop, length-take-le}
-use Rattle.std.proofs.lemmas.Nat.{le_bytes_8}
 use Rattle.std.proofs.lemmas.Option.{same_Some, slice_get_within}
 use Rattle.hs_base.specs.Bits.{AreZero}
 use Rattle.hs_base.proofs.BitLemmas.{same-places}

@@ -10,6 +10,7 @@ use Rattle.hs_lazy.specs.Caches.{IsSilent, TellsRun, Told, loaded, told}
 use Rattle.hs_lazy.specs.Tables.{engine_at}
 use Rattle.hs_lazy.specs.declared.cache.Cache.{Cache}
 use Rattle.hs_bits.specs.Marks.{is_marked}
+use Rattle.hs_nodes.proofs.NodeLemmas.{there, unmarked-before}
 use Rattle.hs_nodes.specs.Cached.{AreToldAsleep, IsCacheOf, IsCachedNode, TellsNodes}
 use Rattle.hs_nodes.specs.Loading.{IsLoadedTo}
 use Rattle.hs_nodes.specs.Nodes.{IsEngineSound, IsKindSound}
@@ -24,7 +25,6 @@ use Rattle.hs_nodes.proofs.CachedLemmas.{told-sleeps}
 use Rattle.hs_nodes.proofs.KindLemmas.{one-value}
 use Rattle.hs_nodes.proofs.LivingLemmas.{zeros-same}
 use Rattle.hs_nodes.proofs.RangeLemmas.{range-length}
-use Rattle.hs_nodes.proofs.WalkLemmas.{there, unmarked-before}
 
 same-engine : (a b : ℕ) (n m : Option Mask) → Engine a n ≡ Engine b m → a ≡ b
 same-engine a b n m e = cc

@@ -1,5 +1,5 @@
 -- One node of a table over a chunk: what it changes.
-use Rattle.std.proofs.Common.{◌≡◌, ◌⊎◌, ℕ, ◌+◌, ◌-◌, ◌<◌, ◌≤◌, true, List, ◌++◌, length, take, drop, slice_get, slice_set, Some, refl, sym, ap, subst, ◌∙◌, inl, inr, arith}
+use Rattle.std.proofs.Common.{◌≡◌, ◌⊎◌, ℕ, zero, suc, ◌+◌, ◌-◌, ◌<◌, ◌≤◌, Bool, true, false, List, [], ◌∷◌, ◌++◌, length, take, drop, slice_get, slice_set, Some, refl, sym, ap, subst, ◌∙◌, inl, inr, arith}
 use Rattle.std.proofs.lemmas.Bool.{cases_eq, cases_lt}
 use Rattle.std.proofs.lemmas.List.{get_or-set_same, get_or-set_other}
 use Rattle.std.proofs.lemmas.Option.{slice_get_within}
@@ -69,3 +69,16 @@ marks-none count marks below = record { room = refl; kept = λ k set. set; below
 -- a mark that stays
 pub mark-stays : (old new : List ℕ) (n k : ℕ) → is_marked new n ≡ true → ((j : ℕ) → (j ≡ n → ⊥) → is_marked new j ≡ is_marked old j) → is_marked old k ≡ true → is_marked new k ≡ true
 mark-stays old new n k put others set = elim (cases_eq k n) [ inl same ↦ ap (λ i. is_marked new i) same ∙ put | inr apart ↦ others k apart ∙ set ]
+
+-- what wasn't marked before
+pub unmarked-before : (old new : List ℕ) (k : ℕ) → ((j : ℕ) → is_marked old j ≡ true → is_marked new j ≡ true) → is_marked new k ≡ false → is_marked old k ≡ false
+unmarked-before old new k kept none = by (is_marked old k) refl where
+  by : (b : Bool) → is_marked old k ≡ b → is_marked old k ≡ false
+  by true e = absurd (let both : true ≡ false = sym (kept k e) ∙ none in cc)
+  by false e = e
+
+-- the member of a number
+pub there : {A : Type 0} (xs : List A) (k : ℕ) → k < length xs → (x : A) × (slice_get xs k ≡ Some x)
+there [] k below = absurd (omega arith)
+there (x ∷ xs) zero below = (x, refl)
+there (x ∷ xs) (suc k) below = there xs k (omega arith)

@@ -1,5 +1,5 @@
 -- A pair of which each match begins where the stream does is left nowhere in a chunk that begins far behind.
-use Rattle.std.proofs.Common.{◌≡◌, ℕ, ◌+◌, ◌-◌, ◌≤◌, ◌<◌, Bool, true, false, ◌&&◌, List, [], ◌∷◌, ◌++◌, length, get_or, take, Option, Some, eqb, nat_eq, refl, sym, ap, subst, ◌∙◌, inl, inr, arith}
+use Rattle.std.proofs.Common.{◌≡◌, ℕ, ◌+◌, ◌-◌, ◌≤◌, ◌<◌, Bool, true, false, ◌&&◌, List, [], ◌∷◌, ◌++◌, length, get_or, take, Some, eqb, nat_eq, refl, sym, ap, ◌∙◌, inl, inr, arith}
 use Rattle.std.specs.Cmp.Lexicographic.{pointwise, same_text}
 use Rattle.std.specs.Int.{bit_at}
 use Rattle.std.proofs.lemmas.Bool.{eqb-true}
@@ -12,26 +12,27 @@ use Rattle.hs_base.specs.declared.context.Prev.{Prev}
 use Rattle.hs_base.specs.declared.context.Prev.TheVariants as before
 use Rattle.hs_base.specs.ByteSets.{has}
 use Rattle.hs_base.specs.Chains.{Piece, lit, nfa, IsFitChain}
-use Rattle.hs_base.specs.Contexts.{Context, class_of, context_number, context_of, is_start, prev_at}
+use Rattle.hs_base.specs.Contexts.{Context, class_of, context_number, context_of, is_start}
 use Rattle.hs_base.specs.ContextSets.{has_context}
-use Rattle.hs_base.specs.Leaving.{IsEmptyAt, LeavesAt}
+use Rattle.hs_base.specs.Leaving.{IsAtMostWide, IsEmptyAt, LeavesAt}
 use Rattle.hs_base.specs.Lists.{Each}
-use Rattle.hs_base.specs.LiteralEnds.{EndsAt}
 use Rattle.hs_base.specs.Literals.{LiteralByte}
 use Rattle.hs_base.specs.Trees.{Tree}
 use Rattle.hs_base.proofs.BitOnceLemmas.{each-below}
 use Rattle.hs_base.proofs.ChainStreamLemmas.{leaves-last}
 use Rattle.hs_bits.proofs.BlockLemmas.{length-block}
 use Rattle.hs_engine.specs.Engines.{Meaning}
-use Rattle.hs_waking.specs.declared.prev_set.PrevSet.{PrevSet}
 use Rattle.hs_waking.proofs.PrevLemmas.{empty-has}
 use Rattle.hs_nodes.specs.declared.hits.ChunkHits.{ChunkHits}
+use Rattle.hs_nodes.specs.declared.table.LookBackPair.{LookBackPair}
 use Rattle.hs_nodes.specs.Contexts.{IsNull}
 use Rattle.hs_nodes.specs.Edges.{HasEdges}
 use Rattle.hs_nodes.specs.Left.{nowhere}
 use Rattle.hs_nodes.specs.Left.{AreLeftIn}
 use Rattle.hs_nodes.specs.Hits.{is_hit_at}
-use Rattle.hs_nodes.specs.LookBacks.{AreLeftAt, EndsNowhere, IsPair, TakesPair}
+use Rattle.hs_nodes.specs.LookBacks.{AreLeftAt, TakesPair}
+use Rattle.hs_nodes.specs.Nodes.{window_size}
+use Rattle.hs_nodes.specs.Openings.{BeginsAtStart}
 use Rattle.hs_nodes.proofs.EdgeLemmas.{behind-byte, nowhere-ends}
 use Rattle.hs_nodes.proofs.FlatLemmas.{AreLeftNowhere, nowhere-left}
 use Rattle.hs_nodes.proofs.PairLemmas.{ends-within, pair-leaves, small-to}
@@ -76,31 +77,33 @@ mask-apart tree mask both start u next null start_is both_is same some empty =
     let first : is_start c.prev ≡ true = sym (start_is c) ∙ both-left (has_context mask c) (has_context start c) (has_context mask c) so set in
     behind-byte u (length u) some (omega arith) (start-is c.prev first)
 
-module _ (m : Meaning) (null : Option Mask) (len at : ℕ) (past bytes : List ℕ) (hits : ChunkHits) (some : 1 ≤ len) (short : len ≤ 32) (behind : PrevSet) (last : ByteSet) (edges : HasEdges m behind last) (far : 48 < at)
-    (none : (offset byte : ℕ) → byte < 256 → at ≤ offset + 32 → EndsNowhere behind last offset byte) (empty : (tree : Tree) (u : List ℕ) (next : Next) → IsNull null tree → 1 ≤ length u → IsEmptyAt tree u next → ⊥) where
-  module _ (tree : Tree) (xs : List LiteralByte) (u : List ℕ) (is : IsPair m null len at past bytes hits tree xs u) where
-    before-literal : (w : List ℕ) (n : ℕ) (next : Next) → Each (λ b. b < 256) w → n ≤ length w → at ≤ n + 32 → LeavesAt (nfa tree ∷ []) (take n w) next → ⊥
-    before-literal w n next small within near left = elim (leaves-last [] (lit xs ∷ is.rest) (nfa tree) (take n w) next is.fit left) [
-      | inl ends ↦
-          nowhere-ends m tree behind last is.runs is.narrow edges w n (get_or w (n - 1) 0) next small within
-          (λ k same. let one : k ≡ n - 1 = omega (arith, same) in ap (λ j. get_or w j 0) one) (none n (get_or w (n - 1) 0) (each-below w small (n - 1)) near) ends
-      | inr both ↦ empty tree (take n w) next is.null_is (omega (arith, near, far, length-take-le n w within)) both.1
-    ]
+-- a pair of which each match begins where the stream does is left nowhere
+module _ (m : Meaning) (pair : LookBackPair) (edges : HasEdges m pair.behind pair.last) (begins : BeginsAtStart pair) (tree : Tree) (xs : List LiteralByte) (rest : List Piece) (u bytes : List ℕ) (runs : m.is_for tree) (null_is : IsNull pair.null tree) (narrow : IsAtMostWide window_size tree) (some : 1 ≤ length xs) (short : length xs ≤ 32)
+    (fit : IsFitChain (nfa tree ∷ lit xs ∷ rest)) (far : 48 < length u) (small_all : Each (λ b. b < 256) (u ++ bytes)) where
+  before-literal : (w : List ℕ) (n : ℕ) (next : Next) → Each (λ b. b < 256) w → n ≤ length w → 16 < n → LeavesAt (nfa tree ∷ []) (take n w) next → ⊥
+  before-literal w n next small within far_off left = elim (leaves-last [] (lit xs ∷ rest) (nfa tree) (take n w) next fit left) [
+    | inl ends ↦
+        nowhere-ends m tree pair.behind pair.last runs narrow edges w n (get_or w (n - 1) 0) next small within
+        (λ k same. let one : k ≡ n - 1 = omega (arith, same) in ap (λ j. get_or w j 0) one) (begins.matches n (get_or w (n - 1) 0) (each-below w small (n - 1)) far_off) ends
+    | inr both ↦ begins.empty tree (take n w) next null_is (omega (arith, far_off, length-take-le n w within)) both.1
+  ]
 
-    refuted : (i : ℕ) (next : Next) → i ≤ length bytes → LeavesAt (nfa tree ∷ lit xs ∷ []) (u ++ take i bytes) next → ⊥
-    refuted i next within leaves =
-        let w : List ℕ = u ++ take i bytes in
-        let small : Each (λ b. b < 256) w = small-to u bytes i is.stream.small in
-        let both = (pair-leaves tree xs is.rest w (omega (arith, some, is.count)) small is.fit next).0 leaves in
-        let size : length w ≡ length u + i = length-block u bytes i within in
-        let room : length xs ≤ length w = ends-within xs w (length w) both.0 in
-        before-literal w (length w - length xs) (class_of both.1.byte) small (omega arith) (omega (arith, size, room, short, is.count, is.stream.offset)) both.1.entered
+  refuted : (i : ℕ) (next : Next) → i ≤ length bytes → LeavesAt (nfa tree ∷ lit xs ∷ []) (u ++ take i bytes) next → ⊥
+  refuted i next within leaves =
+      let w : List ℕ = u ++ take i bytes in
+      let small : Each (λ b. b < 256) w = small-to u bytes i small_all in
+      let both = (pair-leaves tree xs rest w some small fit next).0 leaves in
+      let size : length w ≡ length u + i = length-block u bytes i within in
+      let room : length xs ≤ length w = ends-within xs w (length w) both.0 in
+      before-literal w (length w - length xs) (class_of both.1.byte) small (omega arith) (omega (arith, size, room, short, far)) both.1.entered
 
-    past-none : AreLeftNowhere (nfa tree ∷ lit xs ∷ []) u bytes
-    past-none = record {
-      before = λ i low leaves. refuted i (class_of (get_or bytes i 0)) (omega (arith, low)) leaves;
-      behind = λ i low leaves. refuted (i + 1) after.Unknown (omega (arith, low)) leaves;
-    }
+  pub past-none : AreLeftNowhere (nfa tree ∷ lit xs ∷ []) u bytes
+  past-none = record {
+    before = λ i low leaves. refuted i (class_of (get_or bytes i 0)) (omega (arith, low)) leaves;
+    behind = λ i low leaves. refuted (i + 1) after.Unknown (omega (arith, low)) leaves;
+  }
 
-  pub pair-past : TakesPair m null len at past bytes hits nowhere
-  pair-past tree xs u is = nowhere-left (nfa tree ∷ lit xs ∷ []) u bytes nowhere nowhere-none (past-none tree xs u is)
+pub pair-past : (m : Meaning) (pair : LookBackPair) (at : ℕ) (past bytes : List ℕ) (hits : ChunkHits) → 1 ≤ pair.len → pair.len ≤ 32 → HasEdges m pair.behind pair.last → BeginsAtStart pair → 48 < at → TakesPair m pair.null pair.len at past bytes hits nowhere
+pair-past m pair at past bytes hits some short edges begins far tree xs u is =
+    nowhere-left (nfa tree ∷ lit xs ∷ []) u bytes nowhere nowhere-none
+    (past-none m pair edges begins tree xs is.rest u bytes is.runs is.null_is is.narrow (omega (arith, some, is.count)) (omega (arith, short, is.count)) is.fit (omega (arith, far, is.stream.offset)) is.stream.small)

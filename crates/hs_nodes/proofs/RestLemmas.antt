@@ -196,7 +196,7 @@ module _ {E : Type 0} (meaning : E → Meaning) (engines : List E) where
     pub held : HoldsPiece meaning engines kind pieces piece part (u ++ bytes)
     pub left : AreLeftNowhere (pieces ++ piece ∷ []) u bytes
 
-  literal-rests : (number len : ℕ) (parent : Option ℕ) (literals : List (List LiteralByte)) (hits : List ChunkHits) (pieces rest : List Piece) (piece : Piece) (part u : List ℕ) (prev : Prev) (bytes : List ℕ) (len' : ℕ) → len ≡ suc len' → IsLiteralOf literals number len piece → IsFitChain (pieces ++ piece ∷ rest) →
+  pub literal-rests : (number len : ℕ) (parent : Option ℕ) (literals : List (List LiteralByte)) (hits : List ChunkHits) (pieces rest : List Piece) (piece : Piece) (part u : List ℕ) (prev : Prev) (bytes : List ℕ) (len' : ℕ) → len ≡ suc len' → IsLiteralOf literals number len piece → IsFitChain (pieces ++ piece ∷ rest) →
       MayRest meaning engines (Literal number len) parent hits part prev bytes → ArePassed parent pieces u bytes → HoldsPiece meaning engines (Literal number len) pieces piece part u → IsPassed (Literal number len) pieces piece part u bytes
   literal-rests number len parent literals hits pieces rest piece part u prev bytes m long of fit may (root no_parent no_pieces) held = absurd (may.1 no_parent)
   literal-rests number len parent literals hits pieces rest piece part u prev bytes m long of fit may (behind some none) held =

@@ -6,6 +6,7 @@ use Rattle.std.proofs.lemmas.Option.{slice_get_within}
 use Rattle.hs_base.specs.Lists.{Each}
 use Rattle.hs_base.proofs.BitLemmas.{zero-bits}
 use Rattle.hs_engine.specs.Engines.{Meaning}
+use Rattle.hs_nodes.proofs.NodeLemmas.{unmarked-before}
 use Rattle.hs_nodes.specs.Left.{nowhere}
 use Rattle.hs_bits.specs.Marks.{is_marked}
 use Rattle.hs_nodes.specs.Nodes.{MayRest}
@@ -18,7 +19,6 @@ use Rattle.hs_nodes.specs.declared.table.NodeKind.{NodeKind}
 use Rattle.hs_nodes.specs.declared.table.NodeKind.TheVariants.{Engine, Literal, FirstLiteral, LookBack}
 use Rattle.hs_nodes.specs.declared.table.NodeTable.{NodeTable}
 use Rattle.hs_nodes.proofs.KindLemmas.{one-value}
-use Rattle.hs_nodes.proofs.WalkLemmas.{unmarked-before}
 
 module _ {E : Type 0} (meaning : E → Meaning) (table : NodeTable E) where
   -- The marks of the nodes before one of them are settled.

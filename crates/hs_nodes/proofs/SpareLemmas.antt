@@ -31,10 +31,9 @@ use Rattle.hs_nodes.specs.Hits.{AreChunkHits, KeepsEntries, is_hit_at}
 use Rattle.hs_nodes.specs.Left.{AreLeftIn}
 use Rattle.hs_nodes.specs.Nodes.{AreHitsOf, HoldsPiece, IsKindSound, MayRest, RunsPiece}
 use Rattle.hs_nodes.specs.Pieces.{IsHeldBy}
-use Rattle.hs_nodes.specs.Sparing.{AreQuiet, IsLiteralThere, IsSpared}
+use Rattle.hs_nodes.specs.Sparing.{AreQuiet, IsLiteralThere, IsSpared, IsUnhit}
 use Rattle.hs_nodes.specs.Walks.{StandsBehind}
 use Rattle.hs_nodes.proofs.FlatLemmas.{AreLeftNowhere, left-flat}
-use Rattle.hs_nodes.proofs.KindLemmas.{one-value}
 use Rattle.hs_nodes.proofs.PairLemmas.{behind-ends, ends-to, small-to}
 use Rattle.hs_nodes.proofs.RestLemmas.{IsPassed}
 use Rattle.hs_waking.specs.EntryRows.{entries_to}
@@ -61,10 +60,8 @@ both-set false b both = absurd (let no : false ≡ true = both in cc)
 pub less-quiet : (len last count : ℕ) (enters : ChunkEnds) → len ≤ last → AreQuiet last count enters → AreQuiet len count enters
 less-quiet len last count enters few quiet i low late = quiet i low (omega (arith, few, late))
 
-pub spared-literal : (hits : List ChunkHits) (kind : NodeKind) (number len last count : ℕ) (enters : ChunkEnds) (own : ChunkHits) → kind ≡ Literal number len → slice_get hits number ≡ Some own → len ≤ last → AreQuiet last count enters → ((i : ℕ) → is_hit_at own i ≡ false) → IsSpared kind hits count enters
-spared-literal hits kind number len last count enters own is there few quiet none =
-    subst (λ (k : NodeKind). IsSpared k hits count enters) (sym is)
-    (less-quiet len last count enters few quiet, λ other there' i. subst (λ (h : ChunkHits). is_hit_at h i ≡ false) (one-value own other (slice_get hits number) there there') (none i))
+pub spared-literal : (hits : List ChunkHits) (kind : NodeKind) (number len last count : ℕ) (enters : ChunkEnds) → kind ≡ Literal number len → len ≤ last → AreQuiet last count enters → IsUnhit number hits → IsSpared kind hits count enters
+spared-literal hits kind number len last count enters is few quiet none = subst (λ (k : NodeKind). IsSpared k hits count enters) (sym is) (less-quiet len last count enters few quiet, none)
 
 -- pieces over a chunk, at places of which they are entered
 module _ (pieces : List Piece) (u bytes : List ℕ) (enters : ChunkEnds) (few : length bytes ≤ 512) (left : AreLeftIn pieces u bytes enters) (entered : List Bool) (are : AreEntered pieces u entered) where
@@ -147,11 +144,11 @@ module _ (pieces rest : List Piece) (literal : List LiteralByte) (u bytes : List
 
 -- a node that is spared
 module _ {E : Type 0} (meaning : E → Meaning) (engines : List E) where
-  pub literal-there : (kind : NodeKind) (literals size : ℕ) → IsKindSound meaning engines literals kind size → IsLiteralThere literals kind
-  literal-there (Engine number null) literals size sound = tt
-  literal-there (Literal number len) literals size sound = sound.0
-  literal-there (FirstLiteral number len) literals size sound = tt
-  literal-there (LookBack pair) literals size sound = tt
+  pub literal-there : (kind : NodeKind) (literals size room : ℕ) → literals ≤ room → IsKindSound meaning engines literals kind size → IsLiteralThere room kind
+  literal-there (Engine number null) literals size room more sound = tt
+  literal-there (Literal number len) literals size room more sound = omega (arith, more, sound.0)
+  literal-there (FirstLiteral number len) literals size room more sound = tt
+  literal-there (LookBack pair) literals size room more sound = tt
 
   pub node-spared : (kind : NodeKind) (count size : ℕ) (parent : Option ℕ) (literals : List (List LiteralByte)) (hits : List ChunkHits) (pieces before rest : List Piece) (piece : Piece) (part u : List ℕ) (prev : Prev) (bytes : List ℕ) (enters : ChunkEnds) → IsKindSound meaning engines count kind size → count ≡ length hits → RunsPiece meaning engines literals kind before piece →
       StandsBehind kind parent pieces before → IsFitChain (before ++ piece ∷ rest) → length bytes ≤ 512 → Each (λ b. b < 256) (u ++ bytes) → AreHitsOf literals hits u bytes → MayRest meaning engines kind parent hits part prev bytes → IsSpared kind hits (length bytes) enters → AreLeftIn pieces u bytes enters →

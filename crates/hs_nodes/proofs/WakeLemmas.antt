@@ -9,6 +9,7 @@ use Rattle.hs_engine.specs.Engines.{Meaning}
 use Rattle.hs_base.specs.Contexts.{class_of}
 use Rattle.hs_base.specs.declared.context.Next.TheVariants as after
 use Rattle.hs_waking.specs.WakeRows.{SleepsOver}
+use Rattle.hs_nodes.proofs.NodeLemmas.{unmarked-before}
 use Rattle.hs_nodes.specs.Nodes.{PassesOver}
 use Rattle.hs_nodes.specs.Hits.{is_hit_at}
 use Rattle.hs_bits.specs.Marks.{is_marked}
@@ -22,7 +23,6 @@ use Rattle.hs_nodes.specs.declared.table.NodeKind.TheVariants.{Engine, Literal, 
 use Rattle.hs_nodes.specs.declared.table.NodeTable.{NodeTable}
 use Rattle.hs_nodes.specs.declared.wake_table.WakeTable.{WakeTable}
 use Rattle.hs_waking.proofs.AnyLemmas.{true-false}
-use Rattle.hs_nodes.proofs.WalkLemmas.{unmarked-before}
 
 -- what sleeps over bytes passes over them
 pub sleeps-passes : (m : Meaning) (region : List ℕ) (prev : Prev) (bytes : List ℕ) → SleepsOver m region prev bytes → PassesOver m region prev bytes

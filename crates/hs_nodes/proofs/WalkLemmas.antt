@@ -3,7 +3,6 @@ use Rattle.std.proofs.Common.{◌≡◌, ◌⊎◌, ℕ, zero, suc, ◌+◌, ◌
 use Rattle.std.proofs.lemmas.Option.{same_Some, slice_get_within}
 use Rattle.hs_base.specs.declared.context.Prev.{Prev}
 use Rattle.hs_base.specs.Chains.{Piece}
-use Rattle.hs_base.specs.Contexts.{prev_at}
 use Rattle.hs_base.specs.Lists.{Each}
 use Rattle.hs_base.specs.Literals.{LiteralByte}
 use Rattle.hs_engine.specs.Engines.{Meaning}
@@ -17,30 +16,20 @@ use Rattle.hs_nodes.specs.Blocks.{EndsBehind, IsPast}
 use Rattle.hs_nodes.specs.Left.{AreLeftIn, nowhere}
 use Rattle.hs_bits.specs.Marks.{is_marked}
 use Rattle.hs_nodes.specs.Nodes.{AreHitsOf, HoldsPiece, IsWellPart, MayRest, most_ticks}
+use Rattle.hs_nodes.specs.Openings.{AreOthersSound, MayNodesBePassed}
 use Rattle.hs_nodes.specs.Sparing.{IsSpared, IsUntouched}
 use Rattle.hs_nodes.specs.Walks.{AreMoreMarks, AreNodesHeld, AreNodesOf, AreNodesWell, ChangesMarked, IsAmongChildren, IsNodeHeld, IsNodeOf, IsNodeRun, IsTableSound, MayNodesRest, TakesNodes, node_ends, entering_ends, node_part, nodes_ticks, parent_pieces}
 use Rattle.hs_nodes.proofs.FlatLemmas.{AreLeftNowhere, left-nowhere, nowhere-left}
 use Rattle.hs_nodes.proofs.KindLemmas.{held-stands, one-value, stands-entered, stands-held}
-use Rattle.hs_nodes.proofs.NodeLemmas.{marks-none}
+use Rattle.hs_nodes.proofs.NodeLemmas.{marks-none, there, unmarked-before}
+use Rattle.hs_nodes.proofs.OverLemmas.{node-over, over-well}
 use Rattle.hs_nodes.proofs.RestLemmas.{ArePassed, IsPassed, root, behind, node-rests, stands-passed}
 use Rattle.hs_nodes.proofs.RunLemmas.{nowhere-none}
 use Rattle.hs_nodes.proofs.SpareLemmas.{node-spared}
 
--- the member of a number
-pub there : {A : Type 0} (xs : List A) (k : ℕ) → k < length xs → (x : A) × (slice_get xs k ≡ Some x)
-there [] k below = absurd (omega arith)
-there (x ∷ xs) zero below = (x, refl)
-there (x ∷ xs) (suc k) below = there xs k (omega arith)
-
 parent-cases : (parent : Option ℕ) → (parent ≡ None) ⊎ ((p : ℕ) × (parent ≡ Some p))
 parent-cases None = inl refl
 parent-cases (Some p) = inr (p, refl)
-
-pub unmarked-before : (old new : List ℕ) (k : ℕ) → ((j : ℕ) → is_marked old j ≡ true → is_marked new j ≡ true) → is_marked new k ≡ false → is_marked old k ≡ false
-unmarked-before old new k kept none = by (is_marked old k) refl where
-  by : (b : Bool) → is_marked old k ≡ b → is_marked old k ≡ false
-  by true e = absurd (let both : true ≡ false = sym (kept k e) ∙ none in cc)
-  by false e = e
 
 module _ {E : Type 0} (meaning : E → Meaning) (table : NodeTable E) where
   abbrev pub nodes : List Node
@@ -79,33 +68,35 @@ module _ {E : Type 0} (meaning : E → Meaning) (table : NodeTable E) where
       (is_marked marks k ≡ true) ⊎ IsSpared node.kind hits (length bytes) left
 
   -- how far a walk has come
-  pub record IsWalk (first : List ℕ) (marks_first : List ℕ) (prev : Prev) (at : ℕ) (past bytes : List ℕ) (hits : List ChunkHits) (region : List ℕ) (ends : List ChunkEnds) (marks : List ℕ) (n : ℕ) : Type 0 where
+  pub record IsWalk (pass : ℕ → Bool) (first : List ℕ) (marks_first : List ℕ) (prev : Prev) (at : ℕ) (past bytes : List ℕ) (hits : List ChunkHits) (region : List ℕ) (ends : List ChunkEnds) (marks : List ℕ) (n : ℕ) : Type 0 where
     pub within : n ≤ length table.nodes.items
     pub more : AreMoreMarks (length table.nodes.items) marks_first marks
     pub changes : ChangesMarked meaning table marks first region ends
     pub later : (k : ℕ) (node : Node) → n ≤ k → slice_get table.nodes.items k ≡ Some node → (node_ends ends k ≡ nowhere) × (node_part region node ≡ node_part first node)
+    pub passed : (k : ℕ) → pass k ≡ true → node_ends ends k ≡ nowhere
     pub parents : (k p : ℕ) (node : Node) → n ≤ k → slice_get table.nodes.items k ≡ Some node → is_marked marks k ≡ false → node.parent ≡ Some p → p < n → IsUntouched node.kind hits (length bytes) (node_ends ends p)
     pub well : (k : ℕ) (node : Node) → k < n → slice_get table.nodes.items k ≡ Some node → IsWellPart meaning table.engines.items node.kind (node_part region node) (at + length bytes)
     pub takes : TakesTo first region prev at past bytes hits ends n
 
-  module _ (first : List ℕ) (marks_first : List ℕ) (prev : Prev) (at : ℕ) (past bytes : List ℕ) (hits : List ChunkHits) (sound : IsTableSound meaning table (length hits) (length first)) (few : length bytes ≤ 512) where
+  module _ (first : List ℕ) (marks_first : List ℕ) (prev : Prev) (at : ℕ) (past bytes : List ℕ) (hits : List ChunkHits) (literals_count : ℕ) (sound : IsTableSound meaning table literals_count (length first)) (few : length bytes ≤ 512) (pass : ℕ → Bool) where
     -- nothing is done yet
-    pub walk-none : (ends : List ChunkEnds) → ((k : ℕ) → node_ends ends k ≡ nowhere) → ((k : ℕ) → is_marked marks_first k ≡ true → k < length table.nodes.items) → IsWalk first marks_first prev at past bytes hits first ends marks_first 0
+    pub walk-none : (ends : List ChunkEnds) → ((k : ℕ) → node_ends ends k ≡ nowhere) → ((k : ℕ) → is_marked marks_first k ≡ true → k < length table.nodes.items) → IsWalk pass first marks_first prev at past bytes hits first ends marks_first 0
     walk-none ends clear below = record {
       within = omega arith;
       more = marks-none (length table.nodes.items) marks_first below;
       changes = record { len = refl; unmarked = λ k node there' none. (clear k, refl); outside = λ i out. refl };
       later = λ k node high there'. (clear k, refl);
+      passed = λ k set. clear k;
       parents = λ k p node high there' none of low. absurd (omega arith);
       well = λ k node low there'. absurd (omega arith);
       takes = λ literals pieces u of stands past_is small hits_are held. record { left = λ k low. absurd (omega arith); held = λ k node low there'. absurd (omega arith) };
     }
 
-    module _ (rests : MayNodesRest meaning table marks_first hits first prev bytes) (region : List ℕ) (ends : List ChunkEnds) (marks : List ℕ) where
+    module _ (rests : MayNodesRest meaning table marks_first hits first prev bytes) (others : AreOthersSound meaning table pass (length hits)) (over : MayNodesBePassed meaning table pass first at) (region : List ℕ) (ends : List ChunkEnds) (marks : List ℕ) where
       -- the pieces before a node that is passed over
-      passed-before : (n : ℕ) (node : Node) (pieces : ℕ → List Piece) (u : List ℕ) → slice_get table.nodes.items n ≡ Some node → is_marked marks n ≡ false → ((p : ℕ) → node.parent ≡ Some p → node_ends ends p ≡ nowhere) → ((p : ℕ) → p < n → AreLeftIn (pieces p) u bytes (node_ends ends p)) →
+      passed-before : (n : ℕ) (node : Node) (pieces : ℕ → List Piece) (u : List ℕ) → slice_get table.nodes.items n ≡ Some node → ((p : ℕ) → node.parent ≡ Some p → node_ends ends p ≡ nowhere) → ((p : ℕ) → p < n → AreLeftIn (pieces p) u bytes (node_ends ends p)) →
           ArePassed node.parent (parent_pieces pieces node.parent) u bytes
-      passed-before n node pieces u at_n none zeros left = by (parent-cases node.parent) where
+      passed-before n node pieces u at_n zeros left = by (parent-cases node.parent) where
         by : (node.parent ≡ None) ⊎ ((p : ℕ) × (node.parent ≡ Some p)) → ArePassed node.parent (parent_pieces pieces node.parent) u bytes
         by (inl no_parent) = root no_parent (ap (λ (q : Option ℕ). parent_pieces pieces q) no_parent)
         by (inr (p, is)) =
@@ -117,13 +108,14 @@ module _ {E : Type 0} (meaning : E → Meaning) (table : NodeTable E) where
       below-or : (n k : ℕ) → k < n + 1 → (k < n) ⊎ (k ≡ n)
       below-or n k low = grind arith
 
-      -- a node that isn't marked is passed over
-      pub walk-pass : (n m : ℕ) → m ≡ n + 1 → n < length table.nodes.items → is_marked marks n ≡ false → IsWalk first marks_first prev at past bytes hits region ends marks n → IsWalk first marks_first prev at past bytes hits region ends marks m
-      walk-pass n m next below none walk = subst (λ k. IsWalk first marks_first prev at past bytes hits region ends marks k) (sym next) (record {
+      -- a node is passed over that isn't marked, or is one of those that are
+      pub walk-pass : (n m : ℕ) → m ≡ n + 1 → n < length table.nodes.items → ((pass n ≡ false) × (is_marked marks n ≡ false)) ⊎ (pass n ≡ true) → IsWalk pass first marks_first prev at past bytes hits region ends marks n → IsWalk pass first marks_first prev at past bytes hits region ends marks m
+      walk-pass n m next below why walk = subst (λ k. IsWalk pass first marks_first prev at past bytes hits region ends marks k) (sym next) (record {
         within = omega arith;
         more = walk.more;
         changes = walk.changes;
         later = λ k other high at_k. walk.later k other (omega arith) at_k;
+        passed = walk.passed;
         parents = λ k p other high at_k none' of low. parent-zero k p other high at_k none' of (below-or n p low);
         well = λ k other low at_k. well-by k other at_k (below-or n k low);
         takes = λ literals pieces u of stands past_is small hits_are held. done-more literals pieces u of stands past_is small hits_are held;
@@ -131,8 +123,8 @@ module _ {E : Type 0} (meaning : E → Meaning) (table : NodeTable E) where
         own : (x : Node) × (slice_get table.nodes.items n ≡ Some x)
         own = there table.nodes.items n below
 
-        may : MayRest meaning table.engines.items own.0.kind own.0.parent hits (node_part first own.0) prev bytes
-        may = rests n own.0 own.1 (unmarked-before marks_first marks n walk.more.kept none)
+        may : is_marked marks n ≡ false → MayRest meaning table.engines.items own.0.kind own.0.parent hits (node_part first own.0) prev bytes
+        may none = rests n own.0 own.1 (unmarked-before marks_first marks n walk.more.kept none)
 
         later_own : (node_ends ends n ≡ nowhere) × (node_part region own.0 ≡ node_part first own.0)
         later_own = walk.later n own.0 (omega arith) own.1
@@ -141,31 +133,44 @@ module _ {E : Type 0} (meaning : E → Meaning) (table : NodeTable E) where
         parent-zero k p other high at_k none' of (inl low) = walk.parents k p other (omega arith) at_k none' of low
         parent-zero k p other high at_k none' of (inr same) = inl (ap (λ i. node_ends ends i) same ∙ later_own.0)
 
-        own-passed : (literals : List (List LiteralByte)) (pieces : ℕ → List Piece) (u : List ℕ) (is : IsNodeOf meaning table literals pieces n own.0) → Each (λ b. b < 256) (u ++ bytes) → AreHitsOf literals hits u bytes → IsNodeHeld meaning table pieces first u n own.0 → prev ≡ prev_at u (length u) →
+        own-passed : (literals : List (List LiteralByte)) (pieces : ℕ → List Piece) (u : List ℕ) (is : IsNodeOf meaning table literals pieces n own.0) → Each (λ b. b < 256) (u ++ bytes) → AreHitsOf literals hits u bytes → IsNodeHeld meaning table pieces first u n own.0 → EndsBehind u prev at →
             ((p : ℕ) → p < n → AreLeftIn (pieces p) u bytes (node_ends ends p)) → IsPassed meaning table.engines.items own.0.kind is.before is.piece (node_part first own.0) u bytes
-        own-passed literals pieces u is small hits_are held last left = by (parent-cases own.0.parent) where
+        own-passed literals pieces u is small hits_are held stands left = by why where
           own_held : HoldsPiece meaning table.engines.items own.0.kind is.before is.piece (node_part first own.0) u
           own_held = stands-held meaning table.engines.items own.0.kind own.0.parent (pieces n) (parent_pieces pieces own.0.parent) is.before is.piece (node_part first own.0) u is.behind is.own held
 
-          rests-by : ((p : ℕ) → own.0.parent ≡ Some p → node_ends ends p ≡ nowhere) → IsPassed meaning table.engines.items own.0.kind is.before is.piece (node_part first own.0) u bytes
-          rests-by zeros =
-              node-rests meaning table.engines.items own.0.kind (length hits) (own.0.end - own.0.start) own.0.parent literals hits is.before is.rest is.piece (node_part first own.0) u prev bytes last (sound.kinds n own.0 own.1) refl is.runs is.fit small hits_are may
-              (stands-passed own.0.kind own.0.parent (parent_pieces pieces own.0.parent) is.before u bytes is.behind (passed-before n own.0 pieces u own.1 none zeros left)) own_held
+          rests-by : pass n ≡ false → is_marked marks n ≡ false → ((p : ℕ) → own.0.parent ≡ Some p → node_ends ends p ≡ nowhere) → IsPassed meaning table.engines.items own.0.kind is.before is.piece (node_part first own.0) u bytes
+          rests-by other none zeros =
+              node-rests meaning table.engines.items own.0.kind (length hits) (own.0.end - own.0.start) own.0.parent literals hits is.before is.rest is.piece (node_part first own.0) u prev bytes stands.behind (others n own.0 own.1 other) refl is.runs is.fit small hits_are (may none)
+              (stands-passed own.0.kind own.0.parent (parent_pieces pieces own.0.parent) is.before u bytes is.behind (passed-before n own.0 pieces u own.1 zeros left)) own_held
 
-          spared-by : (p : ℕ) → own.0.parent ≡ Some p → IsSpared own.0.kind hits (length bytes) (node_ends ends p) → IsPassed meaning table.engines.items own.0.kind is.before is.piece (node_part first own.0) u bytes
-          spared-by p of spared =
-              node-spared meaning table.engines.items own.0.kind (length hits) (own.0.end - own.0.start) own.0.parent literals hits (parent_pieces pieces own.0.parent) is.before is.rest is.piece (node_part first own.0) u prev bytes (node_ends ends p) (sound.kinds n own.0 own.1) refl is.runs is.behind is.fit few small hits_are may
+          spared-by : pass n ≡ false → is_marked marks n ≡ false → (p : ℕ) → own.0.parent ≡ Some p → IsSpared own.0.kind hits (length bytes) (node_ends ends p) → IsPassed meaning table.engines.items own.0.kind is.before is.piece (node_part first own.0) u bytes
+          spared-by other none p of spared =
+              node-spared meaning table.engines.items own.0.kind (length hits) (own.0.end - own.0.start) own.0.parent literals hits (parent_pieces pieces own.0.parent) is.before is.rest is.piece (node_part first own.0) u prev bytes (node_ends ends p) (others n own.0 own.1 other) refl is.runs is.behind is.fit few small hits_are (may none)
               spared (subst (λ (q : Option ℕ). AreLeftIn (parent_pieces pieces q) u bytes (node_ends ends p)) (sym of) (left p (sound.earlier n p own.0 own.1 of))) own_held
 
-          by : (own.0.parent ≡ None) ⊎ ((p : ℕ) × (own.0.parent ≡ Some p)) → IsPassed meaning table.engines.items own.0.kind is.before is.piece (node_part first own.0) u bytes
-          by (inl no_parent) = rests-by (λ p of. let both : None ≡ Some p = sym no_parent ∙ of in absurd (cc))
-          by (inr (p, of)) = elim (walk.parents n p own.0 (omega arith) own.1 none of (sound.earlier n p own.0 own.1 of)) [
-            | inl zero_ends ↦ rests-by (λ q of'. let same : p ≡ q = same_Some p q (sym of ∙ of') in subst (λ i. node_ends ends i ≡ nowhere) same zero_ends)
-            | inr spared ↦ spared-by p of spared
+          unmarked-by : pass n ≡ false → is_marked marks n ≡ false → (own.0.parent ≡ None) ⊎ ((p : ℕ) × (own.0.parent ≡ Some p)) → IsPassed meaning table.engines.items own.0.kind is.before is.piece (node_part first own.0) u bytes
+          unmarked-by other none (inl no_parent) = rests-by other none (λ p of. let both : None ≡ Some p = sym no_parent ∙ of in absurd (cc))
+          unmarked-by other none (inr (p, of)) = elim (walk.parents n p own.0 (omega arith) own.1 none of (sound.earlier n p own.0 own.1 of)) [
+            | inl zero_ends ↦ rests-by other none (λ q of'. let same : p ≡ q = same_Some p q (sym of ∙ of') in subst (λ i. node_ends ends i ≡ nowhere) same zero_ends)
+            | inr spared ↦ spared-by other none p of spared
           ]
 
+          over-by : pass n ≡ true → IsPassed meaning table.engines.items own.0.kind is.before is.piece (node_part first own.0) u bytes
+          over-by set =
+              node-over meaning table.engines.items own.0.kind literals_count (own.0.end - own.0.start) at own.0.parent literals (parent_pieces pieces own.0.parent) is.before is.rest is.piece (node_part first own.0) u bytes stands.offset (sound.kinds n own.0 own.1) is.runs is.behind is.fit small (over.each n own.0 own.1 set)
+              (stands-passed own.0.kind own.0.parent (parent_pieces pieces own.0.parent) is.before u bytes is.behind (passed-before n own.0 pieces u own.1 (λ p of. walk.passed p (over.behind n p own.0 own.1 set of)) left)) own_held
+
+          by : ((pass n ≡ false) × (is_marked marks n ≡ false)) ⊎ (pass n ≡ true) → IsPassed meaning table.engines.items own.0.kind is.before is.piece (node_part first own.0) u bytes
+          by (inl (other, none)) = unmarked-by other none (parent-cases own.0.parent)
+          by (inr set) = over-by set
+
+        well-first : ((pass n ≡ false) × (is_marked marks n ≡ false)) ⊎ (pass n ≡ true) → IsWellPart meaning table.engines.items own.0.kind (node_part first own.0) (at + length bytes)
+        well-first (inl (other, none)) = rest-well own.0.kind own.0.parent hits (node_part first own.0) prev bytes (at + length bytes) (may none)
+        well-first (inr set) = over-well meaning table.engines.items own.0.kind own.0.parent (node_part first own.0) at (at + length bytes) (over.each n own.0 own.1 set)
+
         own-well : IsWellPart meaning table.engines.items own.0.kind (node_part region own.0) (at + length bytes)
-        own-well = subst (λ ps. IsWellPart meaning table.engines.items own.0.kind ps (at + length bytes)) (sym later_own.1) (rest-well own.0.kind own.0.parent hits (node_part first own.0) prev bytes (at + length bytes) may)
+        own-well = subst (λ ps. IsWellPart meaning table.engines.items own.0.kind ps (at + length bytes)) (sym later_own.1) (well-first why)
 
         well-by : (k : ℕ) (other : Node) → slice_get table.nodes.items k ≡ Some other → (k < n) ⊎ (k ≡ n) → IsWellPart meaning table.engines.items other.kind (node_part region other) (at + length bytes)
         well-by k other at_k (inl low) = walk.well k other low at_k
@@ -178,7 +183,7 @@ module _ {E : Type 0} (meaning : E → Meaning) (table : NodeTable E) where
         done-more literals pieces u of stands past_is small hits_are held =
             let done = walk.takes literals pieces u of stands past_is small hits_are held in
             let is = of n own.0 own.1 in
-            let passed = own-passed literals pieces u is small hits_are (held n own.0 own.1) stands.behind done.left in
+            let passed = own-passed literals pieces u is small hits_are (held n own.0 own.1) stands done.left in
             let zero_left : AreLeftIn (pieces n) u bytes (node_ends ends n) = subst (λ (e : ChunkEnds). AreLeftIn (pieces n) u bytes e) (sym later_own.0) (subst (λ ps. AreLeftIn ps u bytes nowhere) (sym is.own) (nowhere-left (is.before ++ is.piece ∷ []) u bytes nowhere nowhere-none passed.left)) in
             let own_held : IsNodeHeld meaning table pieces region (u ++ bytes) n own.0 =
             held-stands meaning table.engines.items own.0.kind own.0.parent (pieces n) (parent_pieces pieces own.0.parent) is.before is.piece (node_part region own.0) (u ++ bytes) is.behind is.own
@@ -192,16 +197,20 @@ module _ {E : Type 0} (meaning : E → Meaning) (table : NodeTable E) where
               ];
             }
 
-      -- and so are all up to one of them
-      pub walk-to : (n d m : ℕ) → m ≡ n + d → m ≤ length table.nodes.items → ((k : ℕ) → n ≤ k → k < m → is_marked marks k ≡ false) → IsWalk first marks_first prev at past bytes hits region ends marks n → IsWalk first marks_first prev at past bytes hits region ends marks m
-      walk-to n zero m same within none walk = let is : n ≡ m = omega arith in subst (λ k. IsWalk first marks_first prev at past bytes hits region ends marks k) is walk
-      walk-to n (suc d) m same within none walk =
-          let before : IsWalk first marks_first prev at past bytes hits region ends marks (n + d) = walk-to n d (n + d) refl (omega arith) (λ k low high. none k low (omega arith)) walk in
-          walk-pass (n + d) m (omega arith) (omega arith) (none (n + d) (omega arith) (omega arith)) before
+      why-by : (n : ℕ) → is_marked marks n ≡ false → (b : Bool) → pass n ≡ b → ((pass n ≡ false) × (is_marked marks n ≡ false)) ⊎ (pass n ≡ true)
+      why-by n none true is = inr is
+      why-by n none false is = inl (is, none)
 
-    module _ (all : ChunkEnds) (everywhere : (u : List ℕ) → AreLeftIn [] u bytes all) (region region' : List ℕ) (ends ends' : List ChunkEnds) (marks marks' : List ℕ) (n m : ℕ) (next : m ≡ n + 1) (own : Node) (at_n : slice_get table.nodes.items n ≡ Some own) (marked : is_marked marks n ≡ true)
+      -- and so are all up to one of them
+      pub walk-to : (n d m : ℕ) → m ≡ n + d → m ≤ length table.nodes.items → ((k : ℕ) → n ≤ k → k < m → is_marked marks k ≡ false) → IsWalk pass first marks_first prev at past bytes hits region ends marks n → IsWalk pass first marks_first prev at past bytes hits region ends marks m
+      walk-to n zero m same within none walk = let is : n ≡ m = omega arith in subst (λ k. IsWalk pass first marks_first prev at past bytes hits region ends marks k) is walk
+      walk-to n (suc d) m same within none walk =
+          let before : IsWalk pass first marks_first prev at past bytes hits region ends marks (n + d) = walk-to n d (n + d) refl (omega arith) (λ k low high. none k low (omega arith)) walk in
+          walk-pass (n + d) m (omega arith) (omega arith) (why-by (n + d) (none (n + d) (omega arith) (omega arith)) (pass (n + d)) refl) before
+
+    module _ (all : ChunkEnds) (everywhere : (u : List ℕ) → AreLeftIn [] u bytes all) (region region' : List ℕ) (ends ends' : List ChunkEnds) (marks marks' : List ℕ) (n m : ℕ) (next : m ≡ n + 1) (own : Node) (at_n : slice_get table.nodes.items n ≡ Some own) (marked : is_marked marks n ≡ true) (other : pass n ≡ false)
         (run : IsNodeRun meaning table n own region region' prev at past bytes hits all ends ends') (sized : length region' ≡ length region) (grown : AreMoreMarks (length table.nodes.items) marks marks')
-        (children : (node_ends ends' n ≡ nowhere) ⊎ ChildrenMarked marks' hits bytes n (node_ends ends' n)) (walk : IsWalk first marks_first prev at past bytes hits region ends marks n) where
+        (children : (node_ends ends' n ≡ nowhere) ⊎ ChildrenMarked marks' hits bytes n (node_ends ends' n)) (walk : IsWalk pass first marks_first prev at past bytes hits region ends marks n) where
       below-next : (k : ℕ) → k < m → (k < n) ⊎ (k ≡ n)
       below-next k low = grind (arith, next)
 
@@ -260,7 +269,7 @@ module _ {E : Type 0} (meaning : E → Meaning) (table : NodeTable E) where
           }
 
       -- the node is run
-      pub walk-visit : IsWalk first marks_first prev at past bytes hits region' ends' marks' m
+      pub walk-visit : IsWalk pass first marks_first prev at past bytes hits region' ends' marks' m
       walk-visit =
           let low = slice_get_within table.nodes.items n own at_n in record {
             within = omega arith;
@@ -277,16 +286,17 @@ module _ {E : Type 0} (meaning : E → Meaning) (table : NodeTable E) where
                 let ne : k ≡ n → ⊥ = λ same. absurd (omega arith) in
                 let old = walk.later k node (omega arith) at_k in
                 (run.ends_stay k ne ∙ old.0, run.parts_stay k node ne at_k ∙ old.1);
+            passed = λ k set. run.ends_stay k (λ same. let both : true ≡ false = sym set ∙ (ap pass same ∙ other) in absurd (cc)) ∙ walk.passed k set;
             parents = λ k p node high at_k none of under. parent-by k p node at_k (omega arith) none of (below-next p under) children;
             well = λ k node under at_k. well-by k node at_k (below-next k under);
             takes = done-next;
           }
 
     -- all nodes
-    pub walk-well : (region : List ℕ) (ends : List ChunkEnds) (marks : List ℕ) → IsWalk first marks_first prev at past bytes hits region ends marks (length table.nodes.items) → AreNodesWell meaning table region (at + length bytes)
+    pub walk-well : (region : List ℕ) (ends : List ChunkEnds) (marks : List ℕ) → IsWalk pass first marks_first prev at past bytes hits region ends marks (length table.nodes.items) → AreNodesWell meaning table region (at + length bytes)
     walk-well region ends marks walk k node at_k = walk.well k node (slice_get_within table.nodes.items k node at_k) at_k
 
-    pub walk-takes : (region : List ℕ) (ends : List ChunkEnds) (marks : List ℕ) → IsWalk first marks_first prev at past bytes hits region ends marks (length table.nodes.items) → TakesNodes meaning table first region prev at past bytes hits ends
+    pub walk-takes : (region : List ℕ) (ends : List ChunkEnds) (marks : List ℕ) → IsWalk pass first marks_first prev at past bytes hits region ends marks (length table.nodes.items) → TakesNodes meaning table first region prev at past bytes hits ends
     walk-takes region ends marks walk literals pieces u of stands past_is small hits_are held =
         let done = walk.takes literals pieces u of stands past_is small hits_are held in record {
           held = λ k node at_k. done.held k node (slice_get_within table.nodes.items k node at_k) at_k;

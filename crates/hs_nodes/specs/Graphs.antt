@@ -11,6 +11,7 @@ use Rattle.hs_base.specs.Regions.{Place, Plan, IsPlan, list_places, place_form, 
 use Rattle.hs_base.specs.Trees.{Tree}
 use Rattle.hs_engine.specs.Engines.{Meaning}
 use Rattle.hs_layout.specs.Layouts.{AreApart, Laid, laid_size, layout_of}
+use Rattle.hs_nodes.specs.Openings.{AreOpenings}
 use Rattle.hs_nodes.specs.Resting.{AreEnginesIdle}
 use Rattle.hs_nodes.specs.Waking.{AreRowsSound, AreWakesSound}
 use Rattle.hs_nodes.specs.Walks.{AreNodesOf, IsAmongChildren, IsTableSound}
@@ -181,3 +182,4 @@ pub record IsGraphSound {E : Type 0} (meaning : E → Meaning) (graph : Graph E)
   pub wakes : AreWakesSound graph.table.nodes.items graph.wakes (length literals)
   pub rows : AreRowsSound meaning graph.table graph.wakes
   pub idle : AreEnginesIdle meaning graph.table.engines.items
+  pub openings : AreOpenings graph.table.nodes.items (length literals) graph.openings

@@ -7,6 +7,7 @@ pub mod Edges
 pub mod Nodes
 pub mod LookBacks
 pub mod Walks
+pub mod Openings
 pub mod Resting
 pub mod Living
 pub mod Waking

@@ -1,17 +1,19 @@
 //! What is known of a chunk before its nodes are run.
 
-ghost use Rattle.std.specs.Prelude.{◌≡◌, ◌≤◌, ℕ, false, length};
+ghost use Rattle.std.specs.Prelude.{◌≡◌, ◌<◌, ℕ, false};
 ghost use Rattle.hs_bits.specs.Marks.{is_marked, mark_room};
+ghost use Rattle.hs_nodes.specs.Openings.{is_passed};
 ghost use Rattle.hs_nodes.specs.Sparing.{IsUnhit};
 
 use crate::hits::ChunkHits;
+use crate::openings::Openings;
 use hs_bits::MarkSet;
 use hs_lazy::Cache;
 use hs_waking::Starts;
 
 /// What is known of a chunk before its nodes are run.
 #[derive(Clone, Copy, Debug)]
-pub struct Foretold<'h, 'e, 's, 'c> {
+pub struct Foretold<'h, 'e, 's, 'c, 'o> {
     /// Where each literal ends in it.
     pub hits: &'h [ChunkHits],
     /// The literals that end somewhere in it: one that isn't marked ends nowhere.
@@ -20,6 +22,20 @@ pub struct Foretold<'h, 'e, 's, 'c> {
     pub starts: &'s Starts,
     /// What a cache tells of its nodes.
     pub cache: &'c Cache,
-    ghost room: { length hits.now ≤ mark_room ending.now },
+    /// The chains that begin where the stream does.
+    pub openings: &'o Openings,
+    /// Whether these are over: their nodes are passed over, whatever is marked.
+    pub are_over: bool,
     ghost unhit: { (number : ℕ) → is_marked ending.now number ≡ false → IsUnhit number hits.now },
+}
+
+impl Foretold<'_, '_, '_, '_, '_> {
+    /// Whether the node of that number is passed over.
+    #[inline(always)]
+    pub(crate) fn passes(&self, k: usize) -> bool
+        requires { k < mark_room self.now.openings.now.nodes }
+        ensures { result ≡ is_passed self.now.are_over self.now.openings.now k }
+    {
+        self.are_over && self.openings.nodes.contains(k)
+    }
 }

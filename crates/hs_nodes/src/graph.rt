@@ -2,6 +2,7 @@
 
 ghost use Rattle.std.specs.Prelude.{◌≡◌, ◌<◌, length, Some, slice_get};
 
+use crate::openings::Openings;
 use crate::table::NodeTable;
 use crate::wake_table::WakeTable;
 use hs_reports::{Identifier, Terminal};
@@ -42,6 +43,8 @@ pub struct Graph<E> {
     pub node_copies: NodeCopies,
     /// The nodes that a chunk may wake.
     pub wakes: WakeTable,
+    /// The chains that begin where the stream does.
+    pub openings: Openings,
 }
 
 /// The copy of that number.

@@ -13,6 +13,7 @@ ghost use Rattle.hs_nodes.specs.Contexts.{IsNull};
 ghost use Rattle.hs_nodes.specs.Edges.{HasEdges};
 ghost use Rattle.hs_nodes.specs.Hits.{hit_count};
 ghost use Rattle.hs_nodes.specs.Left.{AreLeftIn};
+ghost use Rattle.hs_nodes.specs.Openings.{BeginsAtStart};
 ghost use Rattle.hs_nodes.specs.LookBacks.{AreLeftAt, EndsNowhere, FindsPair, LeavesBack, LeavesPair, RunsBack};
 ghost use Rattle.hs_nodes.specs.LookBacks.{TakesPair, TellsPair};
 ghost use Rattle.hs_nodes.specs.Nodes.{window_room, window_size};
@@ -31,7 +32,7 @@ use std::sync::ledger::Ledger;
 
 /// Behind more bytes than these no literal begins so near the start of the stream that a match from there on may end
 /// before it.
-const FAR_BYTES: u64 = (MAX_LOOK_BACK + MAX_LITERAL) as u64;
+pub(crate) const FAR_BYTES: u64 = (MAX_LOOK_BACK + MAX_LITERAL) as u64;
 
 /// What stands where so many bytes have come, and that was the last one.
 fn prev_behind(count: u64, last: u8) -> Prev
@@ -156,22 +157,20 @@ fn ends_early(pair: &LookBackPair) -> bool
     pair.last == ByteSet::EMPTY
 }
 
+/// Whether each match of a pair's expression, and each empty span of it, begins where the stream does.
+pub fn begins_at_start(pair: &LookBackPair) -> bool
+    ensures { result ≡ true → BeginsAtStart pair.now }
+{
+    ends_early(pair) && is_empty_at_start(pair.null)
+}
+
 /// Whether a chunk begins so far behind the start of the stream that a pair is left nowhere in it: no match of its
 /// expression ends behind more bytes than it has, and no literal that ends in the chunk begins nearer.
 fn is_past(pair: &LookBackPair, chunk: &Chunk) -> bool
-    ensures nowhere { result ≡ true → (offset byte : ℕ) → byte < 256 → chunk.now.at ≤ offset + 32 →
-        EndsNowhere pair.now.behind pair.now.last offset byte }
-    ensures empty { result ≡ true → (tree : Tree) (u : List ℕ) (next : Next) → IsNull pair.now.null tree →
-        1 ≤ length u → IsEmptyAt tree u next → ⊥ }
+    ensures begins { result ≡ true → BeginsAtStart pair.now }
     ensures far { result ≡ true → 48 < chunk.now.at }
 {
-    if chunk.at <= FAR_BYTES {
-        return false;
-    }
-    if !ends_early(pair) {
-        return false;
-    }
-    is_empty_at_start(pair.null)
+    chunk.at > FAR_BYTES && begins_at_start(pair)
 }
 
 /// Whether the expression is left before the byte of that number among the past ones and those of the chunk, as its

@@ -1,18 +1,19 @@
 //! A walk over the nodes of a table, over a chunk.
 
-ghost use Rattle.std.specs.Prelude.{◌≡◌, ℕ, ◌+◌, ◌*◌, ◌<◌, ◌≤◌, ◌⊎◌, true, false, List, [], length, slice_get};
+ghost use Rattle.std.specs.Prelude.{◌≡◌, ℕ, ◌+◌, ◌-◌, ◌*◌, ◌<◌, ◌≤◌, ◌⊎◌, true, false, List, [], length, slice_get};
 ghost use Rattle.std.specs.Prelude.{slice_index};
 ghost use Rattle.std.specs.Prelude.{EachIndex, None, Some};
 ghost use Rattle.hs_lazy.specs.Caches.{Told, told};
 ghost use Rattle.hs_nodes.specs.Cached.{IsToldKind, TellsNodes};
 ghost use Rattle.hs_nodes.specs.Contexts.{AreChunkContexts, NeedsContexts};
 ghost use Rattle.hs_nodes.specs.Left.{AreLeftIn, nowhere};
+ghost use Rattle.hs_nodes.specs.Openings.{AreOthersSound, MayNodesBePassed, is_passed};
 ghost use Rattle.hs_nodes.specs.Pooled.{ArePooled};
 ghost use Rattle.hs_nodes.specs.Resting.{AreEnginesIdle};
 ghost use Rattle.hs_nodes.specs.Sparing.{AreQuiet, IsLiteralThere, IsSpared};
 ghost use Rattle.hs_nodes.specs.Starting.{AreStartsEnough};
 ghost use Rattle.hs_bits.specs.Marks.{is_marked, mark_room};
-ghost use Rattle.hs_nodes.specs.Nodes.{IsWellPart, most_ticks};
+ghost use Rattle.hs_nodes.specs.Nodes.{IsKindSound, IsWellPart, most_ticks};
 ghost use Rattle.hs_nodes.specs.Walks.{AreMoreMarks, AreNodesWell, ChangesMarked, IsAmongChildren, IsNodeRun};
 ghost use Rattle.hs_nodes.specs.Walks.{IsTableSound, MayNodesRest, TakesNodes, entering_ends, node_ends, node_part};
 ghost use Rattle.hs_nodes.specs.Walks.{nodes_ticks};
@@ -74,7 +75,9 @@ fn run_node<E: BlockEngine + TimelessEngine, L: Ledger>(
     pool: &mut Option<StatePool>,
     steps: &mut Steps<L>,
 )
-    requires sound { IsTableSound E.meaning table.now (length found.now.foretold.now.hits.now) (length region.old) }
+    requires sound { (literals : ℕ) × IsTableSound E.meaning table.now literals (length region.old) }
+    requires kind { (node : Node) → slice_get table.now.nodes.items k ≡ Some node → IsKindSound E.meaning
+        table.now.engines.items (length found.now.foretold.now.hits.now) node.kind (node.end - node.start) }
     requires there { k < length table.now.nodes.items }
     requires ends { length ends.old ≡ length table.now.nodes.items }
     requires well { (node : Node) → slice_get table.now.nodes.items k ≡ Some node →
@@ -142,7 +145,7 @@ pub fn mark_all(numbers: &[u32], from: usize, end: usize, marks: &mut MarkSet)
 /// last so many bytes of a chunk: it is a literal of no more bytes, which ends nowhere in the chunk.
 #[inline(always)]
 fn is_spared(kind: NodeKind, foretold: &Foretold, quiet: usize) -> bool
-    requires { IsLiteralThere (length foretold.now.hits.now) kind }
+    requires { IsLiteralThere (mark_room foretold.now.ending.now) kind }
     ensures { (count : ℕ) (enters : ChunkEnds) → AreQuiet quiet count enters → result ≡ true →
         IsSpared kind foretold.now.hits.now count enters }
 {
@@ -167,7 +170,7 @@ fn mark_child<E>(
 )
     requires there { child < length table.now.nodes.items }
     requires literal { (node : Node) → slice_get table.now.nodes.items child ≡ Some node →
-        IsLiteralThere (length foretold.now.hits.now) node.kind }
+        IsLiteralThere (mark_room foretold.now.ending.now) node.kind }
     requires room { length table.now.nodes.items ≤ mark_room marks.old }
     requires below { (k : ℕ) → is_marked marks.old k ≡ true → k < length table.now.nodes.items }
     ensures more { AreMoreMarks (length table.now.nodes.items) marks.old marks.new }
@@ -195,7 +198,7 @@ fn mark_children<E>(
     requires there { k + 1 < length table.now.child_starts.items }
     requires end { slice_index table.now.child_starts.items (k + 1) ≤ length table.now.children.items }
     requires literals { (child : ℕ) (node : Node) → slice_get table.now.nodes.items child ≡ Some node →
-        IsLiteralThere (length foretold.now.hits.now) node.kind }
+        IsLiteralThere (mark_room foretold.now.ending.now) node.kind }
     requires room { length table.now.nodes.items ≤ mark_room marks.old }
     requires children { (i : ℕ) → i < length table.now.children.items →
         slice_index table.now.children.items i < length table.now.nodes.items }
@@ -215,7 +218,8 @@ fn mark_children<E>(
 /// Takes a chunk by the nodes that are marked, in their order; where a node is left, its children are marked, but for
 /// literals of which nothing comes. So those that are marked then have been run, and no other one. Of engines without a
 /// parent the cache tells what they do, or it is said where their matches may begin. Engines of which it tells nothing
-/// go by the states that the pool has of them, if there is one.
+/// go by the states that the pool has of them, if there is one. Where the chains are over that begin where the stream
+/// does, their nodes are passed over, and only the literals of the others need to be known.
 pub fn walk<E: BlockEngine + TimelessEngine, L: Ledger>(
     table: &NodeTable<E>,
     chunk: &Chunk,
@@ -226,7 +230,13 @@ pub fn walk<E: BlockEngine + TimelessEngine, L: Ledger>(
     pool: &mut Option<StatePool>,
     steps: &mut Steps<L>,
 )
-    requires sound { IsTableSound E.meaning table.now (length foretold.now.hits.now) (length region.old) }
+    requires sound { (literals : ℕ) × IsTableSound E.meaning table.now literals (length region.old)
+        × (literals ≤ mark_room foretold.now.ending.now) }
+    requires others { AreOthersSound E.meaning table.now (is_passed foretold.now.are_over foretold.now.openings.now)
+        (length foretold.now.hits.now) }
+    requires passed { MayNodesBePassed E.meaning table.now (is_passed foretold.now.are_over foretold.now.openings.now)
+        region.old chunk.now.at }
+    requires openings { length table.now.nodes.items ≤ mark_room foretold.now.openings.now.nodes }
     requires well { AreNodesWell E.meaning table.now region.old chunk.now.at }
     requires ends { length ends.old ≡ length table.now.nodes.items }
     requires clear { (k : ℕ) → node_ends ends.old k ≡ nowhere }
@@ -255,16 +265,18 @@ pub fn walk<E: BlockEngine + TimelessEngine, L: Ledger>(
     let mut are_made = false;
     let mut from = 0;
     while let Some(k) = marks.next(from) {
-        are_made = make_contexts(node_at(table, k).kind, chunk, &mut contexts, are_made);
-        let found = Found {
-            contexts: &contexts,
-            foretold: &*foretold,
-            all: &all,
-        };
-        run_node(table, k, chunk, &found, region, ends, pool, steps);
-        if !ends[k].is_nowhere() {
-            mark_children(table, k, foretold, &ends[k], chunk.bytes.len(), marks);
-        }
         from = k + 1;
+        if !foretold.passes(k) {
+            are_made = make_contexts(node_at(table, k).kind, chunk, &mut contexts, are_made);
+            let found = Found {
+                contexts: &contexts,
+                foretold: &*foretold,
+                all: &all,
+            };
+            run_node(table, k, chunk, &found, region, ends, pool, steps);
+            if !ends[k].is_nowhere() {
+                mark_children(table, k, foretold, &ends[k], chunk.bytes.len(), marks);
+            }
+        }
     }
 }

@@ -25,7 +25,7 @@ use Rattle.hs_nodes.specs.WellRegions.{AreCopiesWell, FitsRegion, IsWellRegion, 
 use Rattle.hs_regions.specs.RegionLaws.{GraphRegionsAreWellFormed}
 use Rattle.hs_nodes.proofs.FieldLemmas.{placed, plan_field}
 use Rattle.hs_nodes.proofs.PlanLemmas.{plan-size}
-use Rattle.hs_nodes.proofs.WalkLemmas.{there}
+use Rattle.hs_nodes.proofs.NodeLemmas.{there}
 
 -- a form of which nothing is kept has no bytes, and no rule
 pub unkept-at : (form : Form) (bytes : List ℕ) (at : ℕ) → keeps form ≡ false → IsFieldAt form bytes at

@@ -1,7 +1,7 @@
 use Rattle.std.proofs.Common.{ℕ, ◌<◌, length, subst, ap, ◌∙◌, arith}
+use Rattle.hs_nodes.proofs.NodeLemmas.{there}
 use Rattle.hs_nodes.specs.Leaving.{LeavesNodes}
 use Rattle.hs_nodes.specs.Walks.{node_ends}
-use Rattle.hs_nodes.proofs.WalkLemmas.{there}
 use Rattle.hs_nodes.proofs.LeavingLemmas.{leaves-more, leaves-none, loop-done, none-either}
 use Rattle.hs_nodes.proofs.leaving.leave_nodes.Goals as goal
 

@@ -10,4 +10,4 @@ pub returns-then-is_past-clause-takes : goal.returns-then-is_past-clause-takes
 returns-then-is_past-clause-takes g c =
     let chunk = c.args.chunk.now in
     let pair = c.args.pair.now in
-    pair-past (g.E.Engine.meaning c.args.engine.now) pair.null pair.len chunk.at chunk.past.now chunk.bytes.now c.args.hits.now c.requires.some c.requires.short pair.behind pair.last c.requires.edges (c.is_past.ensures.far c.if-is_past.true) (c.is_past.ensures.nowhere c.if-is_past.true) (c.is_past.ensures.empty c.if-is_past.true)
+    pair-past (g.E.Engine.meaning c.args.engine.now) pair chunk.at chunk.past.now chunk.bytes.now c.args.hits.now c.requires.some c.requires.short c.requires.edges (c.is_past.ensures.begins c.if-is_past.true) (c.is_past.ensures.far c.if-is_past.true)

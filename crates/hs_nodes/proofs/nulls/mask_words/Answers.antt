@@ -1,4 +1,3 @@
-use Rattle.std.proofs.Common.{refl}
 use Rattle.std.proofs.lemmas.Option.{slice_get-get_or, slice_get_within}
 use Rattle.hs_nodes.specs.Blocks.{block, front}
 use Rattle.hs_nodes.proofs.FirstLemmas.{empty-asked, empty-unasked, mask-empty}

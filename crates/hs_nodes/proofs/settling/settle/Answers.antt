@@ -1,9 +1,9 @@
 use Rattle.std.proofs.Common.{◌≡◌, slice_set, ◌<◌, ◌+◌, ℕ, List, length, true, false, refl, sym, subst, ◌∙◌, arith}
 use Rattle.std.proofs.lemmas.List.{length-set}
+use Rattle.hs_nodes.proofs.NodeLemmas.{there}
 use Rattle.hs_nodes.specs.Left.{nowhere}
 use Rattle.hs_nodes.proofs.LivingLemmas.{node-rests}
 use Rattle.hs_nodes.proofs.SettleLemmas.{IsSettledTo, settled-all, settled-none, settled-pass, settled-visit}
-use Rattle.hs_nodes.proofs.WalkLemmas.{there}
 use Rattle.hs_nodes.proofs.settling.settle.Goals as goal
 use Rattle.hs_nodes.proofs.settling.settle.Goals.{then-node_rests, else-node_rests}
 

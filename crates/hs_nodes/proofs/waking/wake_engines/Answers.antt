@@ -1,6 +1,6 @@
 use Rattle.std.proofs.Common.{◌+◌, refl, arith}
+use Rattle.hs_nodes.proofs.NodeLemmas.{unmarked-before}
 use Rattle.hs_nodes.proofs.StartingLemmas.{starts-all, starts-more, starts-none}
-use Rattle.hs_nodes.proofs.WalkLemmas.{unmarked-before}
 use Rattle.hs_nodes.proofs.WakeLemmas.{engines-unwoken, looked-all, looked-more, looked-none}
 use Rattle.hs_nodes.proofs.waking.wake_engines.Goals as goal
 

@@ -29,8 +29,8 @@ run_kind-requires-clause-entered g c k is =
 
 pub returns-clause-runs : goal.returns-clause-runs
 returns-clause-runs g c =
-    node-run g.E.Engine.meaning c.args.table.now c.args.k (length c.args.found.now.foretold.now.hits.now) (length c.args.region.now) c.node_at-node.result c.args.region.now c.run_kind.new.part c.args.chunk.now.prev c.args.chunk.now.at c.args.chunk.now.past.now c.args.chunk.now.bytes.now
-    c.args.found.now.foretold.now.hits.now c.args.found.now.all.now c.entering-enters.result.now c.run_kind.result c.args.ends.now c.deref.result.now c.requires.sound refl c.node_at-node.ensures c.run_kind.ensures.len c.requires.ends c.entering-enters.ensures c.deref.ensures.value
+    node-run g.E.Engine.meaning c.args.table.now c.args.k c.requires.sound.0 (length c.args.region.now) c.node_at-node.result c.args.region.now c.run_kind.new.part c.args.chunk.now.prev c.args.chunk.now.at c.args.chunk.now.past.now c.args.chunk.now.bytes.now
+    c.args.found.now.foretold.now.hits.now c.args.found.now.all.now c.entering-enters.result.now c.run_kind.result c.args.ends.now c.deref.result.now c.requires.sound.1 refl c.node_at-node.ensures c.run_kind.ensures.len c.requires.ends c.entering-enters.ensures c.deref.ensures.value
     c.run_kind.ensures.well c.run_kind.ensures.takes
 
 pub returns-clause-ticks : goal.returns-clause-ticks

@@ -1,18 +1,18 @@
-use Rattle.std.proofs.Common.{◌≡◌, ◌⊎◌, ◌≤◌, ◌<◌, ◌+◌, ◌-◌, ℕ, List, length, slice_index, true, refl, suc, inl, inr, sym, subst, ◌∙◌, arith}
+use Rattle.std.proofs.Common.{◌≡◌, ◌⊎◌, ◌≤◌, ◌<◌, ◌+◌, ◌-◌, length, slice_index, true, refl, suc, inl, inr, sym, subst, ◌∙◌, arith}
 use Rattle.hs_nodes.specs.Cached.{IsToldKind}
 use Rattle.hs_nodes.specs.Contexts.{NeedsContexts}
 use Rattle.hs_nodes.specs.Left.{nowhere}
-use Rattle.hs_bits.specs.Marks.{is_marked}
+use Rattle.hs_bits.specs.Marks.{is_marked, mark_room}
+use Rattle.hs_nodes.specs.Openings.{is_passed}
 use Rattle.hs_nodes.specs.Nodes.{IsWellPart}
 use Rattle.hs_nodes.specs.Sparing.{IsSpared}
 use Rattle.hs_nodes.specs.declared.ends.ChunkEnds.{ChunkEnds}
 use Rattle.hs_nodes.specs.declared.table.Node.{Node}
 use Rattle.hs_nodes.proofs.KindLemmas.{one-value, same-default}
-use Rattle.hs_nodes.proofs.NodeLemmas.{marks-none}
+use Rattle.hs_nodes.proofs.NodeLemmas.{marks-none, there}
 use Rattle.hs_nodes.proofs.SpareLemmas.{literal-there}
-use Rattle.hs_nodes.proofs.WalkLemmas.{IsWalk, there, ticks-all, ticks-grow, ticks-more, walk-takes, walk-to, walk-visit, walk-well}
+use Rattle.hs_nodes.proofs.WalkLemmas.{ticks-all, ticks-grow, ticks-more, walk-pass, walk-takes, walk-to, walk-visit, walk-well}
 use Rattle.hs_nodes.proofs.walking.walk.Goals as goal
-use Rattle.hs_nodes.proofs.walking.walk.Goals.{then-not-is_nowhere, else-not-is_nowhere}
 
 pub run_node-requires-clause-well : goal.run_node-requires-clause-well
 run_node-requires-clause-well g c node at =
@@ -31,15 +31,15 @@ pub mark_children-requires-clause-end : goal.mark_children-requires-clause-end
 mark_children-requires-clause-end g c =
     let below : c.in-Some.k < length c.args.table.now.nodes.items = c.loop-k.invariant.walk.more.below c.in-Some.k c.in-Some.ensures.is in
     let next : suc c.in-Some.k ≡ c.in-Some.k + 1 = omega arith in
-    subst (λ n. slice_index c.args.table.now.child_starts.items n ≤ length c.args.table.now.children.items) next (c.requires.sound.starts_end c.in-Some.k below)
+    subst (λ n. slice_index c.args.table.now.child_starts.items n ≤ length c.args.table.now.children.items) next (c.requires.sound.1.starts_end c.in-Some.k below)
 
 pub mark_children-requires-clause-literals : goal.mark_children-requires-clause-literals
 mark_children-requires-clause-literals g c child node at =
     let table = c.args.table.now in
-    literal-there g.E.Engine.meaning table.engines.items node.kind (length c.args.foretold.now.hits.now) (node.end - node.start) (c.requires.sound.kinds child node at)
+    literal-there g.E.Engine.meaning table.engines.items node.kind c.requires.sound.0 (node.end - node.start) (mark_room c.args.foretold.now.ending.now) c.requires.sound.2 (c.requires.sound.1.kinds child node at)
 
-pub loop-k-preserved : goal.loop-k-preserved
-loop-k-preserved g c =
+pub loop-k-preserved-then-not-is_nowhere : goal.loop-k-preserved-then-not-is_nowhere
+loop-k-preserved-then-not-is_nowhere g c =
     let m = g.E.Engine.meaning in
     let table = c.args.table.now in
     let chunk = c.args.chunk.now in
@@ -48,9 +48,9 @@ loop-k-preserved g c =
     let inv = c.loop-k.invariant in
     let below : k < length table.nodes.items = inv.walk.more.below k c.in-Some.ensures.is in
     let own = there table.nodes.items k below in
-    let next : suc k ≡ k + 1 = omega arith in
-    let here = walk-to m table c.args.region.now c.args.marks.now chunk.prev chunk.at chunk.past.now chunk.bytes.now hits c.requires.sound chunk.few c.requires.rests c.loop-k.region c.loop-k.ends c.loop-k.marks c.loop-k.from (k - c.loop-k.from) k (omega (arith, c.in-Some.ensures.low)) (omega (arith, below))
-    c.in-Some.ensures.least inv.walk in record {
+    let pass = is_passed c.args.foretold.now.are_over c.args.foretold.now.openings.now in
+    let here = walk-to m table c.args.region.now c.args.marks.now chunk.prev chunk.at chunk.past.now chunk.bytes.now hits c.requires.sound.0 c.requires.sound.1 chunk.few pass c.requires.rests c.requires.others c.requires.passed c.loop-k.region c.loop-k.ends c.loop-k.marks c.loop-k.from (k - c.loop-k.from) k
+    (omega (arith, c.in-Some.ensures.low)) (omega (arith, below)) c.in-Some.ensures.least inv.walk in record {
       len = c.run_node.ensures.len ∙ inv.len;
       ends = c.run_node.ensures.ends ∙ inv.ends;
       contexts = c.make_contexts-are_made.ensures.len ∙ inv.contexts;
@@ -61,17 +61,63 @@ loop-k-preserved g c =
           let here = c.run_node.ensures.ticks own.0 own.1 in
           omega (arith, more, up, here, inv.steps);
       pool = c.run_node.ensures.pool;
-      walk = elim c.if-not-is_nowhere.branch [
-        | then-not-is_nowhere w ↦
-            subst (λ (ms : List ℕ). IsWalk m table c.args.region.now c.args.marks.now chunk.prev chunk.at chunk.past.now chunk.bytes.now hits c.run_node.new.region c.run_node.new.ends ms (k + 1)) (sym w.marks-is)
-            (walk-visit m table c.args.region.now c.args.marks.now chunk.prev chunk.at chunk.past.now chunk.bytes.now hits c.requires.sound chunk.few c.everywhere-all.result c.everywhere-all.ensures c.loop-k.region c.run_node.new.region c.loop-k.ends c.run_node.new.ends c.loop-k.marks w.mark_children.new.marks
-            k (k + 1) refl own.0 own.1 c.in-Some.ensures.is (c.run_node.ensures.runs own.0 own.1) c.run_node.ensures.len w.mark_children.ensures.more (inr (λ j node among at.
-            subst (λ (e : ChunkEnds). (is_marked w.mark_children.new.marks j ≡ true) ⊎ IsSpared node.kind hits (length chunk.bytes.now) e) (same-default c.run_node.new.ends k _ nowhere (omega (arith, below, c.run_node.ensures.ends, inv.ends))) (w.mark_children.ensures.needed j node among at))) here)
-        | else-not-is_nowhere w ↦
-            subst (λ (ms : List ℕ). IsWalk m table c.args.region.now c.args.marks.now chunk.prev chunk.at chunk.past.now chunk.bytes.now hits c.run_node.new.region c.run_node.new.ends ms (k + 1)) (sym w.marks-is)
-            (walk-visit m table c.args.region.now c.args.marks.now chunk.prev chunk.at chunk.past.now chunk.bytes.now hits c.requires.sound chunk.few c.everywhere-all.result c.everywhere-all.ensures c.loop-k.region c.run_node.new.region c.loop-k.ends c.run_node.new.ends c.loop-k.marks c.loop-k.marks
-            k (k + 1) refl own.0 own.1 c.in-Some.ensures.is (c.run_node.ensures.runs own.0 own.1) c.run_node.ensures.len (marks-none (length table.nodes.items) c.loop-k.marks inv.walk.more.below) (inl (same-default c.run_node.new.ends k nowhere _ (omega (arith, below, c.run_node.ensures.ends, inv.ends)) ∙ c.is_nowhere.ensures.0 w.if-not-is_nowhere.false)) here)
-      ];
+      walk =
+          walk-visit m table c.args.region.now c.args.marks.now chunk.prev chunk.at chunk.past.now chunk.bytes.now hits c.requires.sound.0 c.requires.sound.1 chunk.few pass c.everywhere-all.result c.everywhere-all.ensures c.loop-k.region c.run_node.new.region c.loop-k.ends c.run_node.new.ends c.loop-k.marks c.mark_children.new.marks
+          k (k + 1) refl own.0 own.1 c.in-Some.ensures.is (sym c.passes.ensures ∙ c.if-not-passes.true) (c.run_node.ensures.runs own.0 own.1) c.run_node.ensures.len c.mark_children.ensures.more (inr (λ j node among at.
+          subst (λ (e : ChunkEnds). (is_marked c.mark_children.new.marks j ≡ true) ⊎ IsSpared node.kind hits (length chunk.bytes.now) e) (same-default c.run_node.new.ends k _ nowhere (omega (arith, below, c.run_node.ensures.ends, inv.ends))) (c.mark_children.ensures.needed j node among at))) here;
+    }
+
+pub loop-k-preserved-else-not-is_nowhere : goal.loop-k-preserved-else-not-is_nowhere
+loop-k-preserved-else-not-is_nowhere g c =
+    let m = g.E.Engine.meaning in
+    let table = c.args.table.now in
+    let chunk = c.args.chunk.now in
+    let hits = c.args.foretold.now.hits.now in
+    let k = c.in-Some.k in
+    let inv = c.loop-k.invariant in
+    let below : k < length table.nodes.items = inv.walk.more.below k c.in-Some.ensures.is in
+    let own = there table.nodes.items k below in
+    let pass = is_passed c.args.foretold.now.are_over c.args.foretold.now.openings.now in
+    let here = walk-to m table c.args.region.now c.args.marks.now chunk.prev chunk.at chunk.past.now chunk.bytes.now hits c.requires.sound.0 c.requires.sound.1 chunk.few pass c.requires.rests c.requires.others c.requires.passed c.loop-k.region c.loop-k.ends c.loop-k.marks c.loop-k.from (k - c.loop-k.from) k
+    (omega (arith, c.in-Some.ensures.low)) (omega (arith, below)) c.in-Some.ensures.least inv.walk in record {
+      len = c.run_node.ensures.len ∙ inv.len;
+      ends = c.run_node.ensures.ends ∙ inv.ends;
+      contexts = c.make_contexts-are_made.ensures.len ∙ inv.contexts;
+      made = c.make_contexts-are_made.ensures.made;
+      steps =
+          let more = ticks-more table.nodes.items k hits (length chunk.bytes.now) own.0 own.1 in
+          let up = ticks-grow table.nodes.items c.loop-k.from k hits (length chunk.bytes.now) c.in-Some.ensures.low in
+          let here = c.run_node.ensures.ticks own.0 own.1 in
+          omega (arith, more, up, here, inv.steps);
+      pool = c.run_node.ensures.pool;
+      walk =
+          walk-visit m table c.args.region.now c.args.marks.now chunk.prev chunk.at chunk.past.now chunk.bytes.now hits c.requires.sound.0 c.requires.sound.1 chunk.few pass c.everywhere-all.result c.everywhere-all.ensures c.loop-k.region c.run_node.new.region c.loop-k.ends c.run_node.new.ends c.loop-k.marks c.loop-k.marks
+          k (k + 1) refl own.0 own.1 c.in-Some.ensures.is (sym c.passes.ensures ∙ c.if-not-passes.true) (c.run_node.ensures.runs own.0 own.1) c.run_node.ensures.len (marks-none (length table.nodes.items) c.loop-k.marks inv.walk.more.below) (inl (same-default c.run_node.new.ends k nowhere _ (omega (arith, below, c.run_node.ensures.ends, inv.ends)) ∙ c.is_nowhere.ensures.0 c.if-not-is_nowhere.false)) here;
+    }
+
+pub loop-k-preserved : goal.loop-k-preserved
+loop-k-preserved g c =
+    let m = g.E.Engine.meaning in
+    let table = c.args.table.now in
+    let chunk = c.args.chunk.now in
+    let hits = c.args.foretold.now.hits.now in
+    let k = c.in-Some.k in
+    let inv = c.loop-k.invariant in
+    let below : k < length table.nodes.items = inv.walk.more.below k c.in-Some.ensures.is in
+    let pass = is_passed c.args.foretold.now.are_over c.args.foretold.now.openings.now in
+    let here = walk-to m table c.args.region.now c.args.marks.now chunk.prev chunk.at chunk.past.now chunk.bytes.now hits c.requires.sound.0 c.requires.sound.1 chunk.few pass c.requires.rests c.requires.others c.requires.passed c.loop-k.region c.loop-k.ends c.loop-k.marks c.loop-k.from (k - c.loop-k.from) k
+    (omega (arith, c.in-Some.ensures.low)) (omega (arith, below)) c.in-Some.ensures.least inv.walk in record {
+      len = inv.len;
+      ends = inv.ends;
+      contexts = inv.contexts;
+      made = inv.made;
+      steps =
+          let up = ticks-grow table.nodes.items c.loop-k.from (k + 1) hits (length chunk.bytes.now) (omega (arith, c.in-Some.ensures.low)) in
+          omega (arith, up, inv.steps);
+      pool = inv.pool;
+      walk =
+          walk-pass m table c.args.region.now c.args.marks.now chunk.prev chunk.at chunk.past.now chunk.bytes.now hits c.requires.sound.0 c.requires.sound.1 chunk.few pass c.requires.rests c.requires.others c.requires.passed c.loop-k.region c.loop-k.ends c.loop-k.marks
+          k (k + 1) refl below (inr (sym c.passes.ensures ∙ c.if-not-passes.false)) here;
     }
 
 pub returns-clause-ticks : goal.returns-clause-ticks
@@ -85,8 +131,8 @@ returns-clause-well g c =
     let chunk = c.args.chunk.now in
     let inv = c.loop-k.invariant in
     let room = inv.walk.more.room in
-    walk-well g.E.Engine.meaning table c.args.region.now c.args.marks.now chunk.prev chunk.at chunk.past.now chunk.bytes.now c.args.foretold.now.hits.now c.requires.sound chunk.few c.loop-k.region c.loop-k.ends c.loop-k.marks
-    (walk-to g.E.Engine.meaning table c.args.region.now c.args.marks.now chunk.prev chunk.at chunk.past.now chunk.bytes.now c.args.foretold.now.hits.now c.requires.sound chunk.few c.requires.rests c.loop-k.region c.loop-k.ends c.loop-k.marks c.loop-k.from (length table.nodes.items - c.loop-k.from) (length table.nodes.items)
+    walk-well g.E.Engine.meaning table c.args.region.now c.args.marks.now chunk.prev chunk.at chunk.past.now chunk.bytes.now c.args.foretold.now.hits.now c.requires.sound.0 c.requires.sound.1 chunk.few (is_passed c.args.foretold.now.are_over c.args.foretold.now.openings.now) c.loop-k.region c.loop-k.ends c.loop-k.marks
+    (walk-to g.E.Engine.meaning table c.args.region.now c.args.marks.now chunk.prev chunk.at chunk.past.now chunk.bytes.now c.args.foretold.now.hits.now c.requires.sound.0 c.requires.sound.1 chunk.few (is_passed c.args.foretold.now.are_over c.args.foretold.now.openings.now) c.requires.rests c.requires.others c.requires.passed c.loop-k.region c.loop-k.ends c.loop-k.marks c.loop-k.from (length table.nodes.items - c.loop-k.from) (length table.nodes.items)
     (omega (arith, inv.walk.within)) (omega arith) (λ j low high. c.in_default.ensures j low (omega (arith, room, c.requires.room))) inv.walk)
 
 pub returns-clause-takes : goal.returns-clause-takes
@@ -95,6 +141,6 @@ returns-clause-takes g c =
     let chunk = c.args.chunk.now in
     let inv = c.loop-k.invariant in
     let room = inv.walk.more.room in
-    walk-takes g.E.Engine.meaning table c.args.region.now c.args.marks.now chunk.prev chunk.at chunk.past.now chunk.bytes.now c.args.foretold.now.hits.now c.requires.sound chunk.few c.loop-k.region c.loop-k.ends c.loop-k.marks
-    (walk-to g.E.Engine.meaning table c.args.region.now c.args.marks.now chunk.prev chunk.at chunk.past.now chunk.bytes.now c.args.foretold.now.hits.now c.requires.sound chunk.few c.requires.rests c.loop-k.region c.loop-k.ends c.loop-k.marks c.loop-k.from (length table.nodes.items - c.loop-k.from) (length table.nodes.items)
+    walk-takes g.E.Engine.meaning table c.args.region.now c.args.marks.now chunk.prev chunk.at chunk.past.now chunk.bytes.now c.args.foretold.now.hits.now c.requires.sound.0 c.requires.sound.1 chunk.few (is_passed c.args.foretold.now.are_over c.args.foretold.now.openings.now) c.loop-k.region c.loop-k.ends c.loop-k.marks
+    (walk-to g.E.Engine.meaning table c.args.region.now c.args.marks.now chunk.prev chunk.at chunk.past.now chunk.bytes.now c.args.foretold.now.hits.now c.requires.sound.0 c.requires.sound.1 chunk.few (is_passed c.args.foretold.now.are_over c.args.foretold.now.openings.now) c.requires.rests c.requires.others c.requires.passed c.loop-k.region c.loop-k.ends c.loop-k.marks c.loop-k.from (length table.nodes.items - c.loop-k.from) (length table.nodes.items)
     (omega (arith, inv.walk.within)) (omega arith) (λ j low high. c.in_default.ensures j low (omega (arith, room, c.requires.room))) inv.walk)
