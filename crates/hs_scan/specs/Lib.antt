@@ -1,0 +1,13 @@
+pub mod Telling
+pub mod Knowing
+pub mod Scans
+pub mod Feeding
+pub mod Asking
+pub mod Ending
+pub mod Past
+pub mod Scratches
+pub mod Hits
+pub mod Copying
+pub mod Writing
+pub mod Finishing
+pub mod NodeCaches

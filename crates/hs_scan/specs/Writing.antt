@@ -1,0 +1,94 @@
+-- The beginning of a write, and what its last byte leaves to the end.
+use Rattle.std.specs.Prelude.{◌≡◌, ℕ, ◌<◌, List, ◌++◌, length, Some, slice_get, slice_range}
+use Rattle.hs_base.specs.declared.context.Next.TheVariants as after
+use Rattle.hs_base.specs.declared.context.Prev.{Prev}
+use Rattle.hs_base.specs.Bits.{has_word_bit}
+use Rattle.hs_base.specs.Lists.{Each}
+use Rattle.hs_base.specs.Literals.{LiteralByte}
+use Rattle.hs_base.specs.Regions.{Plan, history_at, region_offset, told_at}
+use Rattle.hs_base.specs.Told.{Pair, IsTold}
+use Rattle.hs_engine.specs.Engines.{Meaning}
+use Rattle.hs_layout.specs.Layouts.{Laid}
+use Rattle.hs_nodes.specs.Graphs.{RunsPlan}
+use Rattle.hs_nodes.specs.Blocks.{EndsBehind, IsPast}
+use Rattle.hs_nodes.specs.Nodes.{AreHitsOf}
+use Rattle.hs_nodes.specs.Walks.{AreNodesHeld}
+use Rattle.hs_nodes.specs.declared.hits.ChunkHits.{ChunkHits}
+use Rattle.hs_nodes.specs.declared.ends.ChunkEnds.{ChunkEnds}
+use Rattle.hs_nodes.specs.declared.graph.Graph.{Graph}
+use Rattle.hs_reports.specs.EndTables.{EndTable, words_of}
+use Rattle.hs_reports.specs.Settlement.{AreKnown}
+use Rattle.hs_reports.specs.Telling.{leaves_to_end}
+use Rattle.hs_reports.specs.WordBits.{word_bit}
+use Rattle.hs_reports.specs.declared.identifier.Identifier.{Identifier}
+use Rattle.hs_scan.specs.Asking.{AreEndsBehind}
+use Rattle.hs_keeping.specs.Keeping.{AreRead}
+use Rattle.hs_scan.specs.Knowing.{FitsKnown, IsPending}
+use Rattle.hs_scan.specs.Scans.{AreLeftToEnd, IsReached, Stand}
+use Rattle.hs_scan.specs.Scratches.{FitsGraph}
+use Rattle.hs_scan.specs.Telling.{AreChunkEnds}
+use Rattle.hs_scan.specs.declared.known.Known.{Known}
+use Rattle.hs_scan.specs.declared.scratch.Scratch.{Scratch}
+
+-- What the region keeps of the identifiers is known, and those are noted of which a pair ends behind the last byte.
+pub record BeginsKnown (l : Laid) (region : List ℕ) (identifiers : List Identifier) (known : Known) : Type 0 where
+  pub fits : FitsKnown (length identifiers) known
+  pub pending : IsPending known
+  pub read : AreRead l region identifiers known.told.items known.here.items
+
+-- The scratch has where the stream of the region stands and what is known of it; all else is as before.
+pub record BeginsWrite {E : Type 0} (graph : Graph E) (l : Laid) (region : List ℕ) (old new : Scratch) : Type 0 where
+  pub room : FitsGraph graph new
+  pub pending : IsPending new.course.known
+  pub read : AreRead l region graph.identifiers.items new.course.known.told.items new.course.known.here.items
+  pub at_is : new.at ≡ region_offset region
+  pub past : new.past ≡ slice_range region history_at told_at
+  pub hits : new.hits ≡ old.hits
+  pub rows : new.rows ≡ old.rows
+  pub finals : new.finals ≡ old.finals
+
+-- The row tells which identifiers a line feed leaves to the end: by what is known before it, by the ends about it, and
+-- by the ends before it were it the last byte.
+abbrev pub AreLeftByLineFeed : List Identifier → (told here : List ℕ) (table finals : EndTable) (last : List ℕ) → Type 0
+AreLeftByLineFeed identifiers told here table finals last =
+    (p : ℕ) (x : Identifier) →
+    slice_get identifiers p ≡ Some x →
+    has_word_bit last p
+    ≡ leaves_to_end x.single (has_word_bit told p) (has_word_bit here p) (word_bit (words_of table p).before 0)
+    (word_bit (words_of table p).behind 0) (word_bit (words_of finals p).before 0)
+
+module _ {E : Type 0} (meaning : E → Meaning) (graph : Graph E) where
+  -- Whatever plan the graph runs, and behind whatever stream: by where the nodes are left about a line feed, and by
+  -- what would end before it, the row has those identifiers that the line feed leaves to the end.
+  abbrev pub LeavesLineFeed : (bytes : List ℕ) (at : ℕ) (ends : List ChunkEnds) (all : ChunkEnds) (told here : List ℕ)
+      (finals : EndTable) (last : List ℕ) → Type 0
+  LeavesLineFeed bytes at ends all told here finals last =
+      (literals : List (List LiteralByte)) (plan : Plan) (runs : RunsPlan meaning graph literals plan) (u : List ℕ) →
+      at ≡ length u →
+      AreChunkEnds meaning graph runs.pieces u bytes ends all →
+      AreKnown plan.patterns u graph.identifiers.items told here →
+      AreEndsBehind graph.identifiers.items plan.patterns u after.FinalNewline finals →
+      AreLeftToEnd graph plan.patterns (u ++ bytes) last
+
+  -- The same by what is kept of the nodes, where the literals end as the hits tell.
+  abbrev pub LeavesLineFeedChunk : (region : List ℕ) (prev : Prev) (at : ℕ) (past bytes : List ℕ)
+      (hits : List ChunkHits) (told here : List ℕ) (finals : EndTable) (last : List ℕ) → Type 0
+  LeavesLineFeedChunk region prev at past bytes hits told here finals last =
+      (literals : List (List LiteralByte)) (plan : Plan) (runs : RunsPlan meaning graph literals plan) (u : List ℕ) →
+      EndsBehind u prev at →
+      IsPast past u →
+      Each (λ b. b < 256) (u ++ bytes) →
+      AreHitsOf literals hits u bytes →
+      AreNodesHeld meaning graph.table runs.pieces region u →
+      AreKnown plan.patterns u graph.identifiers.items told here →
+      AreEndsBehind graph.identifiers.items plan.patterns u after.FinalNewline finals →
+      AreLeftToEnd graph plan.patterns (u ++ bytes) last
+
+  -- Whatever plan the graph runs, and behind whatever stream behind which the scan was where it began: the row has the
+  -- identifiers that the bytes leave to the end.
+  abbrev pub LeavesToEnd : (literals : List (List LiteralByte)) (old : Stand) (bytes last : List ℕ) → Type 0
+  LeavesToEnd literals old bytes last =
+      (plan : Plan) (runs : RunsPlan meaning graph literals plan) (u : List ℕ) (list : List Pair) →
+      IsReached meaning graph literals plan runs u old →
+      IsTold plan.patterns u list →
+      AreLeftToEnd graph plan.patterns (u ++ bytes) last
