@@ -1,0 +1,16 @@
+pub mod Sizes
+pub mod Lists
+pub mod Databases
+pub mod Counting
+pub mod Answers
+pub mod Remembered
+pub mod GraphTables
+pub mod GraphLists
+pub mod GraphKinds
+pub mod GraphSteps
+pub mod GraphNodes
+pub mod GraphEnds
+pub mod GraphWakes
+pub mod GraphBuilding
+pub mod GraphLaws
+pub mod Arranging
