@@ -1,0 +1,12 @@
+pub mod RunningLemmas
+pub mod PackedLemmas
+pub mod EmptyLemmas
+pub mod JoinLemmas
+pub mod WriteLemmas
+pub mod StandLemmas
+pub mod SavingLemmas
+pub mod VecLemmas
+pub mod DrawingLemmas
+pub mod TallyLemmas
+pub mod CutRunLemmas
+pub mod SummaryLemmas

@@ -1,0 +1,16 @@
+pub mod Collecting
+pub mod Scratches
+pub mod Telling
+pub mod Scanning
+pub mod Leading
+pub mod Streams
+pub mod Writing
+pub mod Standing
+pub mod Foreign
+pub mod Saving
+pub mod SavingLaws
+pub mod Drawing
+pub mod Tallies
+pub mod CutRuns
+pub mod Summaries
+pub mod Caches
