@@ -6,8 +6,6 @@ mod compiling;
 #[cfg(test)]
 mod lists;
 #[cfg(test)]
-mod openings;
-#[cfg(test)]
 mod saving;
 #[cfg(test)]
 mod soaking;
