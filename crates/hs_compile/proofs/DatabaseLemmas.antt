@@ -16,7 +16,9 @@ use Rattle.hs_layout.specs.Layouts.{Laid, laid_size, layout_of as layout_for}
 use Rattle.hs_literals.specs.declared.literals.Literals.{Literals}
 use Rattle.hs_literals.specs.Held.{held}
 use Rattle.hs_nodes.specs.declared.graph.Graph.{Graph}
+use Rattle.hs_nodes.specs.declared.lone.LoneNodes.{LoneNodes}
 use Rattle.hs_nodes.specs.Graphs.{IsGraphSound, RunsPlan, plan_layout}
+use Rattle.hs_nodes.specs.Lone.{AreLoneNodes}
 use Rattle.hs_rose.specs.declared.engine.PieceEngine.{PieceEngine}
 use Rattle.hs_rose.specs.PieceEngines.{piece_meaning}
 use Rattle.hs_rose.specs.Listing.{asked_of}
@@ -59,9 +61,9 @@ pub plan-laid-size : (plan : Plan) → laid_size (plan_layout plan) ≡ plan_siz
 plan-laid-size plan = laid-sums (length plan.singles) (length plan.identifiers) (map place_size (list_places plan))
 
 -- the database of a program is that of the plans whose program that is, where its graph runs these with its literals
-pub database-plans : (t : Tables) (graph : Graph PieceEngine) (texts : List (List LiteralByte)) (literals : Literals) (lasting : Option Literals) (l : Laid) (packing : Packing) (digest : List ℕ) → IsLaidFor t l → held literals ≡ texts → OfPlans t (RunsPlan piece_meaning graph texts) → IsGraphSound piece_meaning graph texts l →
-    IfSome lasting (λ own. held own ≡ take graph.openings.others texts) → IsDatabaseOfPlans t (compiled graph literals lasting l packing digest)
-database-plans t graph texts literals lasting l packing digest laid same runs sound lasts P is packs =
+pub database-plans : (t : Tables) (graph : Graph PieceEngine) (texts : List (List LiteralByte)) (literals : Literals) (lasting : Option Literals) (lone : LoneNodes) (l : Laid) (packing : Packing) (digest : List ℕ) → IsLaidFor t l → held literals ≡ texts → OfPlans t (RunsPlan piece_meaning graph texts) → IsGraphSound piece_meaning graph texts l →
+    IfSome lasting (λ own. held own ≡ take graph.openings.others texts) → AreLoneNodes piece_meaning graph lone → IsDatabaseOfPlans t (compiled graph literals lasting lone l packing digest)
+database-plans t graph texts literals lasting lone l packing digest laid same runs sound lasts are_lone P is packs =
     let plan = plan_of t P in
     let own : l ≡ plan_layout plan = laid.laid ∙ plan-laid t is.entries P is.program is.asks in
     record {
@@ -72,6 +74,7 @@ database-plans t graph texts literals lasting l packing digest laid same runs so
       small = laid.small;
       packing = packs;
       lasting = subst (λ xs. IfSome lasting (λ own. held own ≡ take graph.openings.others xs)) (sym same) lasts;
+      lone = are_lone;
     }
 
 module _ (entries : List Entry) (P : List Pattern) (chains : List (List (List Piece))) (split : AreSplit (map listed entries) P chains) (t : Tables) (is : IsProgramOf t (map asked_of entries) chains) where

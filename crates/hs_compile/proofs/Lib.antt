@@ -10,6 +10,7 @@ pub mod SeenLemmas
 pub mod KnownLemmas
 pub mod LengthLemmas
 pub mod DatabaseLemmas
+mod LivingLemmas
 pub mod LayingLemmas
 pub mod DoneLemmas
 pub mod GraphListLemmas

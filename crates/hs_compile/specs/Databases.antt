@@ -7,28 +7,32 @@ use Rattle.hs_layout.specs.Layouts.{Laid, laid_size}
 use Rattle.hs_literals.specs.declared.literals.Literals.{Literals}
 use Rattle.hs_literals.specs.Held.{held}
 use Rattle.hs_nodes.specs.declared.graph.Graph.{Graph}
+use Rattle.hs_nodes.specs.declared.lone.LoneNodes.{LoneNodes}
 use Rattle.hs_nodes.specs.declared.table.Node.{Node}
+use Rattle.hs_nodes.specs.Lone.{AreLoneNodes}
 use Rattle.hs_nodes.specs.Openings.{lasting_literals}
 use Rattle.hs_nodes.specs.Graphs.{IsGraphSound, RunsPlan, plan_layout}
 use Rattle.hs_rose.specs.declared.engine.PieceEngine.{PieceEngine}
 use Rattle.hs_rose.specs.PieceEngines.{piece_meaning}
 use Rattle.hs_compile.specs.Sizes.{greatest_size}
 
--- What a database has: the graph of nodes and the literals that a scan runs, where the parts of a region lie, how a
--- stream keeps its region, and the digest of the list.
+-- What a database has: the graph of nodes and the literals that a scan runs, those that last and the lone nodes, where
+-- the parts of a region lie, how a stream keeps its region, and the digest of the list.
 pub record Compiled : Type 0 where
   pub graph : Graph PieceEngine
   pub literals : Literals
   pub lasting : Option Literals
+  pub lone : LoneNodes
   pub layout : Laid
   pub packing : Packing
   pub digest : List ℕ
 
-abbrev pub compiled : Graph PieceEngine → Literals → Option Literals → Laid → Packing → List ℕ → Compiled
-compiled graph literals lasting layout packing digest = record {
+abbrev pub compiled : Graph PieceEngine → Literals → Option Literals → LoneNodes → Laid → Packing → List ℕ → Compiled
+compiled graph literals lasting lone layout packing digest = record {
   graph = graph;
   literals = literals;
   lasting = lasting;
+  lone = lone;
   layout = layout;
   packing = packing;
   digest = digest;
@@ -46,6 +50,10 @@ literals_in database = database.literals
 abbrev pub lasting_in : Compiled → Option Literals
 lasting_in database = database.lasting
 
+-- nodes of which it plays no part where they are left once a pair of their one identifier is told
+abbrev pub lone_in : Compiled → LoneNodes
+lone_in database = database.lone
+
 -- where the parts of a region lie
 abbrev pub layout_of : Compiled → Laid
 layout_of database = database.layout
@@ -60,7 +68,7 @@ digest_of database = database.digest
 
 -- The database is that of the plan: its graph can be run with its literals over regions of its layout, it runs the
 -- plan, the layout is that of the plan's regions, which are small enough, and so is the packing. The literals that last
--- are those that nodes name which aren't openings.
+-- are those that nodes name which aren't openings, and the lone nodes are such.
 pub record IsDatabaseOf (database : Compiled) (plan : Plan) : Type 0 where
   pub sound : IsGraphSound piece_meaning (graph_of database) (held (literals_in database)) (layout_of database)
   pub runs : RunsPlan piece_meaning (graph_of database) (held (literals_in database)) plan
@@ -70,6 +78,7 @@ pub record IsDatabaseOf (database : Compiled) (plan : Plan) : Type 0 where
   pub packing : IsPackingFor (packing_of database) plan
   pub lasting : IfSome (lasting_in database) (λ own.
       held own ≡ lasting_literals (graph_of database).openings (held (literals_in database)))
+  pub lone : AreLoneNodes piece_meaning (graph_of database) (lone_in database)
 
 -- So each database is, of some plan.
 pub record IsWholeDatabase (database : Compiled) : Type 0 where

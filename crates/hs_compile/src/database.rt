@@ -4,15 +4,17 @@ ghost use Rattle.std.specs.Prelude.{◌≡◌, ◌+◌, ◌^◌, ◌≤◌, IfOk
 ghost use Rattle.hs_base.specs.LiteralView.{literal_bytes};
 ghost use Rattle.hs_literals.specs.Held.{held};
 ghost use Rattle.hs_kept.specs.Packing.{packed_size};
+ghost use Rattle.hs_nodes.specs.Lone.{AreLiving};
+ghost use Rattle.hs_rose.specs.PieceEngines.{piece_meaning};
 ghost use Rattle.hs_compile.specs.GraphTables.{IsLaidFor};
 
 use crate::arranging::arrange;
 use crate::building::build_graph;
-use hs_base::LitByte;
+use hs_base::{ByteSet, LitByte};
 use hs_kept::Packing;
 use hs_layout::Layout;
 use hs_literals::Literals;
-use hs_nodes::Graph;
+use hs_nodes::{Graph, LoneNodes};
 use hs_rose::{PieceEngine, Program};
 use std::alloc::{AllocError, Global};
 use std::marker::Model;
@@ -33,6 +35,7 @@ pub struct Database {
     graph: Graph<PieceEngine>,
     literals: Literals,
     lasting: Option<Literals>,
+    lone: LoneNodes,
     layout: Layout,
     packing: Packing,
     digest: [u8; 32],
@@ -54,6 +57,17 @@ fn lasting_of(
     Ok(Some(Literals::build(alloc, &literals[..others])?))
 }
 
+/// By engine, the bytes behind which something of it may be live.
+fn living_bytes(alloc: Global, engines: &[PieceEngine]) -> Result<Vec<ByteSet>, AllocError>
+    ensures { IfOk result (λ sets. AreLiving piece_meaning engines.now sets.items) }
+{
+    let mut sets = Vec::new(alloc);
+    for k in 0..engines.len() {
+        sets.push(engines[k].living_bytes())?;
+    }
+    Ok(sets)
+}
+
 impl Model for Database {
     ghost use Rattle.std.specs.Coded.{codes};
     ghost use Rattle.hs_kept.specs.contracts.packing.Packing as packing_row;
@@ -63,14 +77,15 @@ impl Model for Database {
 
     ghost coded = { Prim.hlevel (codes, packing_row.the_row.coded) };
 
-    ghost view = { λ d. compiled d.graph d.literals d.lasting d.layout d.packing d.digest };
+    ghost view = { λ d. compiled d.graph d.literals d.lasting d.lone d.layout d.packing d.digest };
 
-    ghost invariant = { λ d. IsWholeDatabase (compiled d.graph d.literals d.lasting d.layout d.packing d.digest) };
+    ghost invariant = { λ d.
+        IsWholeDatabase (compiled d.graph d.literals d.lasting d.lone d.layout d.packing d.digest) };
 }
 
 impl Database {
     ghost use Rattle.hs_compile.specs.Databases.{IsWholeDatabase, compiled, digest_of, graph_of, layout_of};
-    ghost use Rattle.hs_compile.specs.Databases.{lasting_in, literals_in, packing_of};
+    ghost use Rattle.hs_compile.specs.Databases.{lasting_in, literals_in, lone_in, packing_of};
     ghost use Rattle.hs_compile.specs.GraphLaws.{IsDatabaseOfPlans, IsPackedProgram};
 
     /// The database of a graph with these literals, of the layout and the packing of its regions, and of the digest of
@@ -79,17 +94,19 @@ impl Database {
         graph: Graph<PieceEngine>,
         literals: Literals,
         lasting: Option<Literals>,
+        lone: LoneNodes,
         layout: Layout,
         packing: Packing,
         digest: [u8; 32],
     ) -> Database
-        requires { IsWholeDatabase (compiled graph literals lasting layout packing digest) }
-        ensures { result ≡ compiled graph literals lasting layout packing digest }
+        requires { IsWholeDatabase (compiled graph literals lasting lone layout packing digest) }
+        ensures { result ≡ compiled graph literals lasting lone layout packing digest }
     {
         Database {
             graph,
             literals,
             lasting,
+            lone,
             layout,
             packing,
             digest,
@@ -115,7 +132,9 @@ impl Database {
         let arranged = arrange(alloc, &mut graph, &named)?;
         let literals = Literals::build(alloc, &arranged)?;
         let lasting = lasting_of(alloc, &arranged, graph.openings.others as usize)?;
-        Ok(Database::new(graph, literals, lasting, layout, packing, digest))
+        let living = living_bytes(alloc, &graph.table.engines)?;
+        let lone = LoneNodes::of_graph(alloc, &graph, living)?;
+        Ok(Database::new(graph, literals, lasting, lone, layout, packing, digest))
     }
 
     /// The graph of nodes that a scan runs.
@@ -142,6 +161,14 @@ impl Database {
         ensures whole { IsWholeDatabase self.now }
     {
         self.lasting.as_ref()
+    }
+
+    /// The nodes of which it plays no part where they are left, once a pair of their one identifier is told.
+    pub fn lone(&self) -> &LoneNodes
+        ensures lone { result.now ≡ lone_in self.now }
+        ensures whole { IsWholeDatabase self.now }
+    {
+        &self.lone
     }
 
     /// Where the parts of a stream's region lie.

@@ -36,3 +36,5 @@ pub mod CachedLemmas
 pub mod ToldLemmas
 pub mod LoadLemmas
 pub mod PooledLemmas
+pub mod CatchLemmas
+pub mod LoneLemmas

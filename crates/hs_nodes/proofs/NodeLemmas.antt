@@ -16,6 +16,13 @@ use Rattle.hs_nodes.specs.Walks.{AreMoreMarks, IsNodeRun, IsTableSound, node_end
 use Rattle.hs_nodes.proofs.KindLemmas.{one-value}
 use Rattle.hs_nodes.proofs.RangeLemmas.{range-length, written-beside, written-here, written-outside}
 
+-- another node's range lies beside
+pub beside-own : {E : Type 0} (meaning : E → Meaning) (table : NodeTable E) (k literals size : ℕ) (own : Node) → IsTableSound meaning table literals size → slice_get table.nodes.items k ≡ Some own → (j : ℕ) (other : Node) → (j ≡ k → ⊥) → slice_get table.nodes.items j ≡ Some other → (other.end ≤ own.start) ⊎ (own.end ≤ other.start)
+beside-own meaning table k literals size own sound there j other apart at' = elim (cases_lt j k) [
+  | inl low ↦ inl (sound.apart j k other own low at' there)
+  | inr high ↦ inr (sound.apart k j own other (let more : (j ≡ k → ⊥) → k < j = λ ne. elim (cases_eq j k) [ inl same ↦ absurd (ne same) | inr ne' ↦ omega arith ] in more apart) there at')
+]
+
 module _ {E : Type 0} (meaning : E → Meaning) (table : NodeTable E) (k literals size : ℕ) (own : Node) (region part : List ℕ) (prev : Prev) (at : ℕ) (past bytes : List ℕ) (hits : List ChunkHits) (all enters result : ChunkEnds) (ends : List ChunkEnds) (engines : List E)
     (sound : IsTableSound meaning table literals size) (sized : length region ≡ size) (there : slice_get table.nodes.items k ≡ Some own) (wide : length part ≡ length (node_part region own)) (counts : length ends ≡ length table.nodes.items)
     (enters_is : enters ≡ entering_ends own.parent all ends) (engines_are : engines ≡ table.engines.items) (well : IsWellPart meaning engines own.kind part (at + length bytes)) (takes : TakesPiece meaning engines own.kind (node_part region own) part prev at past bytes hits enters result) where
@@ -34,12 +41,6 @@ module _ {E : Type 0} (meaning : E → Meaning) (table : NodeTable E) (k literal
   here : node_part (take own.start region ++ (part ++ drop (own.end - own.start) (drop own.start region))) own ≡ part
   here = written-here region part own.start own.end order within range
 
-  beside : (j : ℕ) (other : Node) → (j ≡ k → ⊥) → slice_get table.nodes.items j ≡ Some other → (other.end ≤ own.start) ⊎ (own.end ≤ other.start)
-  beside j other apart at' = elim (cases_lt j k) [
-    | inl low ↦ inl (sound.apart j k other own low at' there)
-    | inr high ↦ inr (sound.apart k j own other (let more : (j ≡ k → ⊥) → k < j = λ ne. elim (cases_eq j k) [ inl same ↦ absurd (ne same) | inr ne' ↦ omega arith ] in more apart) there at')
-  ]
-
   own-run : IsNodeRun meaning table k own region (take own.start region ++ (part ++ drop (own.end - own.start) (drop own.start region))) prev at past bytes hits all ends (slice_set ends k result)
   own-run = record {
     well = subst (λ ps. IsWellPart meaning table.engines.items own.kind ps (at + length bytes)) (sym here) (subst (λ es. IsWellPart meaning es own.kind part (at + length bytes)) engines_are well);
@@ -48,7 +49,7 @@ module _ {E : Type 0} (meaning : E → Meaning) (table : NodeTable E) (k literal
         (subst (λ (e : ChunkEnds). TakesPiece meaning table.engines.items own.kind (node_part region own) part prev at past bytes hits (entering_ends own.parent all ends) e) (sym (get_or-set_same ends k result nowhere (omega (arith, counts, slice_get_within table.nodes.items k own there))))
         (subst (λ (e : ChunkEnds). TakesPiece meaning table.engines.items own.kind (node_part region own) part prev at past bytes hits e result) enters_is (subst (λ es. TakesPiece meaning es own.kind (node_part region own) part prev at past bytes hits enters result) engines_are takes)));
     ends_stay = λ j apart. get_or-set_other ends k j result nowhere apart;
-    parts_stay = λ j other apart at'. written-beside region part own.start own.end order within range other.start other.end (sound.order j other at') (omega (arith, sound.within j other at')) (beside j other apart at');
+    parts_stay = λ j other apart at'. written-beside region part own.start own.end order within range other.start other.end (sound.order j other at') (omega (arith, sound.within j other at')) (beside-own meaning table k literals size own sound there j other apart at');
     outside = λ i out. written-outside region part own.start own.end order within range i out;
   }
 

@@ -1,6 +1,7 @@
 -- A walk over nodes, up to one of them.
 use Rattle.std.proofs.Common.{◌≡◌, ◌⊎◌, ℕ, zero, suc, ◌+◌, ◌-◌, ◌<◌, ◌≤◌, Bool, true, false, List, [], ◌∷◌, ◌++◌, length, take, slice_get, Option, Some, None, refl, sym, ap, subst, ◌∙◌, inl, inr, arith}
 use Rattle.std.proofs.lemmas.Option.{same_Some, slice_get_within}
+use Rattle.hs_base.specs.declared.context.Mask.{Mask}
 use Rattle.hs_base.specs.declared.context.Prev.{Prev}
 use Rattle.hs_base.specs.Chains.{Piece}
 use Rattle.hs_base.specs.Lists.{Each}
@@ -15,10 +16,12 @@ use Rattle.hs_nodes.specs.declared.table.NodeTable.{NodeTable}
 use Rattle.hs_nodes.specs.Blocks.{EndsBehind, IsPast}
 use Rattle.hs_nodes.specs.Left.{AreLeftIn, nowhere}
 use Rattle.hs_bits.specs.Marks.{is_marked}
-use Rattle.hs_nodes.specs.Nodes.{AreHitsOf, HoldsPiece, IsWellPart, MayRest, most_ticks}
+use Rattle.hs_nodes.specs.Nodes.{AreHitsOf, HoldsPiece, IsWellPart, MayRest, RunsPiece, most_ticks}
+use Rattle.hs_nodes.specs.declared.lone.LoneNodes.{LoneNodes}
+use Rattle.hs_nodes.specs.Lone.{AreLoneIn, IsLoneNode, is_spent_node, is_told_of}
 use Rattle.hs_nodes.specs.Openings.{AreOthersSound, MayNodesBePassed}
 use Rattle.hs_nodes.specs.Sparing.{IsSpared, IsUntouched}
-use Rattle.hs_nodes.specs.Walks.{AreMoreMarks, AreNodesHeld, AreNodesOf, AreNodesWell, ChangesMarked, IsAmongChildren, IsNodeHeld, IsNodeOf, IsNodeRun, IsTableSound, MayNodesRest, TakesNodes, node_ends, entering_ends, node_part, nodes_ticks, parent_pieces}
+use Rattle.hs_nodes.specs.Walks.{AreMoreMarks, AreNodesHeld, AreNodesOf, AreNodesWell, ChangesMarked, IsAmongChildren, IsNodeHeld, IsNodeCaughtUp, IsNodeOf, IsNodeRun, IsTableSound, StandsBehind, MayNodesRest, TakesNodes, node_ends, entering_ends, node_part, nodes_ticks, parent_pieces}
 use Rattle.hs_nodes.proofs.FlatLemmas.{AreLeftNowhere, left-nowhere, nowhere-left}
 use Rattle.hs_nodes.proofs.KindLemmas.{held-stands, one-value, stands-entered, stands-held}
 use Rattle.hs_nodes.proofs.NodeLemmas.{marks-none, there, unmarked-before}
@@ -30,6 +33,33 @@ use Rattle.hs_nodes.proofs.SpareLemmas.{node-spared}
 parent-cases : (parent : Option ℕ) → (parent ≡ None) ⊎ ((p : ℕ) × (parent ≡ Some p))
 parent-cases None = inl refl
 parent-cases (Some p) = inr (p, refl)
+
+-- an engine without a parent stands behind no pieces
+stands-none : (kind : NodeKind) (number : ℕ) (null : Option Mask) → kind ≡ Engine number null → (parent : Option ℕ) → parent ≡ None → (pieces : ℕ → List Piece) (before : List Piece) → StandsBehind kind parent (parent_pieces pieces parent) before → before ≡ []
+stands-none kind number null kind_is parent none pieces before stands =
+    let behind : StandsBehind (Engine number null) None [] before = subst (λ (k : NodeKind). StandsBehind k None [] before) kind_is (subst (λ (q : Option ℕ). StandsBehind kind q (parent_pieces pieces q) before) none stands) in
+    behind
+
+-- the parent of a node isn't spent
+pub parent-asked : {E : Type 0} (meaning : E → Meaning) (table : NodeTable E) (lone : LoneNodes) (told : List ℕ) → AreLoneIn meaning table lone → (k p : ℕ) (node : Node) → slice_get table.nodes.items k ≡ Some node → node.parent ≡ Some p → is_spent_node lone told p ≡ false
+parent-asked meaning table lone told are k p node at_k of = by (slice_get lone.identifiers.items p) refl where
+  by : (i : Option (Option ℕ)) → slice_get lone.identifiers.items p ≡ i → is_told_of told i ≡ false
+  by None is = refl
+  by (Some None) is = refl
+  by (Some (Some id)) is = absurd ((are.each p id is).childless k node at_k of)
+
+-- the steps of a lone node
+pub lone-ticks : {E : Type 0} (table : NodeTable E) (k : ℕ) (own : Node) → slice_get table.nodes.items k ≡ Some own → IsLoneNode table k → (hits : List ChunkHits) (count : ℕ) → most_ticks own.kind hits count ≡ count
+lone-ticks table k own at lone hits count =
+    ap (λ (kind : NodeKind). most_ticks kind hits count) (ap (λ (node : Node). node.kind) (one-value own lone.node (slice_get table.nodes.items k) at lone.there) ∙ lone.kind_is)
+
+-- and one that is spent is a lone one
+pub spent-lone : {E : Type 0} (meaning : E → Meaning) (table : NodeTable E) (lone : LoneNodes) (told : List ℕ) → AreLoneIn meaning table lone → (k : ℕ) → is_spent_node lone told k ≡ true → IsLoneNode table k
+spent-lone meaning table lone told are k over = by (slice_get lone.identifiers.items k) refl over where
+  by : (i : Option (Option ℕ)) → slice_get lone.identifiers.items k ≡ i → is_told_of told i ≡ true → IsLoneNode table k
+  by None is set = absurd (cc)
+  by (Some None) is set = absurd (cc)
+  by (Some (Some id)) is set = are.each k id is
 
 module _ {E : Type 0} (meaning : E → Meaning) (table : NodeTable E) where
   abbrev pub nodes : List Node
@@ -43,13 +73,13 @@ module _ {E : Type 0} (meaning : E → Meaning) (table : NodeTable E) where
   rest-well (LookBack pair) parent hits part prev bytes at may = tt
 
   -- the nodes before one of them are done
-  pub record AreDone (pieces : ℕ → List Piece) (region u bytes : List ℕ) (ends : List ChunkEnds) (n : ℕ) : Type 0 where
-    pub left : (k : ℕ) → k < n → AreLeftIn (pieces k) u bytes (node_ends ends k)
+  pub record AreDone (spent : ℕ → Bool) (pieces : ℕ → List Piece) (region u bytes : List ℕ) (ends : List ChunkEnds) (n : ℕ) : Type 0 where
+    pub left : (k : ℕ) → k < n → spent k ≡ false → AreLeftIn (pieces k) u bytes (node_ends ends k)
     pub held : (k : ℕ) (node : Node) → k < n → slice_get table.nodes.items k ≡ Some node → IsNodeHeld meaning table pieces region (u ++ bytes) k node
 
   -- and so for all pieces, behind any stream
-  abbrev pub TakesTo : (old new : List ℕ) (prev : Prev) (at : ℕ) (past bytes : List ℕ) (hits : List ChunkHits) (ends : List ChunkEnds) (n : ℕ) → Type 0
-  TakesTo old new prev at past bytes hits ends n =
+  abbrev pub TakesTo : (spent : ℕ → Bool) (old new : List ℕ) (prev : Prev) (at : ℕ) (past bytes : List ℕ) (hits : List ChunkHits) (ends : List ChunkEnds) (n : ℕ) → Type 0
+  TakesTo spent old new prev at past bytes hits ends n =
       (literals : List (List LiteralByte)) (pieces : ℕ → List Piece) (u : List ℕ) →
       AreNodesOf meaning table literals pieces →
       EndsBehind u prev at →
@@ -57,7 +87,7 @@ module _ {E : Type 0} (meaning : E → Meaning) (table : NodeTable E) where
       Each (λ b. b < 256) (u ++ bytes) →
       AreHitsOf literals hits u bytes →
       AreNodesHeld meaning table pieces old u →
-      AreDone pieces new u bytes ends n
+      AreDone spent pieces new u bytes ends n
 
   -- the children of a node that is left are marked, but for those that need no run
   abbrev pub ChildrenMarked : (marks : List ℕ) (hits : List ChunkHits) (bytes : List ℕ) (n : ℕ) (left : ChunkEnds) → Type 0
@@ -68,7 +98,7 @@ module _ {E : Type 0} (meaning : E → Meaning) (table : NodeTable E) where
       (is_marked marks k ≡ true) ⊎ IsSpared node.kind hits (length bytes) left
 
   -- how far a walk has come
-  pub record IsWalk (pass : ℕ → Bool) (first : List ℕ) (marks_first : List ℕ) (prev : Prev) (at : ℕ) (past bytes : List ℕ) (hits : List ChunkHits) (region : List ℕ) (ends : List ChunkEnds) (marks : List ℕ) (n : ℕ) : Type 0 where
+  pub record IsWalk (spent pass : ℕ → Bool) (first : List ℕ) (marks_first : List ℕ) (prev : Prev) (at : ℕ) (past bytes : List ℕ) (hits : List ChunkHits) (region : List ℕ) (ends : List ChunkEnds) (marks : List ℕ) (n : ℕ) : Type 0 where
     pub within : n ≤ length table.nodes.items
     pub more : AreMoreMarks (length table.nodes.items) marks_first marks
     pub changes : ChangesMarked meaning table marks first region ends
@@ -76,11 +106,11 @@ module _ {E : Type 0} (meaning : E → Meaning) (table : NodeTable E) where
     pub passed : (k : ℕ) → pass k ≡ true → node_ends ends k ≡ nowhere
     pub parents : (k p : ℕ) (node : Node) → n ≤ k → slice_get table.nodes.items k ≡ Some node → is_marked marks k ≡ false → node.parent ≡ Some p → p < n → IsUntouched node.kind hits (length bytes) (node_ends ends p)
     pub well : (k : ℕ) (node : Node) → k < n → slice_get table.nodes.items k ≡ Some node → IsWellPart meaning table.engines.items node.kind (node_part region node) (at + length bytes)
-    pub takes : TakesTo first region prev at past bytes hits ends n
+    pub takes : TakesTo spent first region prev at past bytes hits ends n
 
-  module _ (first : List ℕ) (marks_first : List ℕ) (prev : Prev) (at : ℕ) (past bytes : List ℕ) (hits : List ChunkHits) (literals_count : ℕ) (sound : IsTableSound meaning table literals_count (length first)) (few : length bytes ≤ 512) (pass : ℕ → Bool) where
+  module _ (first : List ℕ) (marks_first : List ℕ) (prev : Prev) (at : ℕ) (past bytes : List ℕ) (hits : List ChunkHits) (literals_count : ℕ) (sound : IsTableSound meaning table literals_count (length first)) (few : length bytes ≤ 512) (pass spent : ℕ → Bool) (asked : (k p : ℕ) (node : Node) → slice_get table.nodes.items k ≡ Some node → node.parent ≡ Some p → spent p ≡ false) where
     -- nothing is done yet
-    pub walk-none : (ends : List ChunkEnds) → ((k : ℕ) → node_ends ends k ≡ nowhere) → ((k : ℕ) → is_marked marks_first k ≡ true → k < length table.nodes.items) → IsWalk pass first marks_first prev at past bytes hits first ends marks_first 0
+    pub walk-none : (ends : List ChunkEnds) → ((k : ℕ) → node_ends ends k ≡ nowhere) → ((k : ℕ) → is_marked marks_first k ≡ true → k < length table.nodes.items) → IsWalk spent pass first marks_first prev at past bytes hits first ends marks_first 0
     walk-none ends clear below = record {
       within = omega arith;
       more = marks-none (length table.nodes.items) marks_first below;
@@ -89,19 +119,19 @@ module _ {E : Type 0} (meaning : E → Meaning) (table : NodeTable E) where
       passed = λ k set. clear k;
       parents = λ k p node high there' none of low. absurd (omega arith);
       well = λ k node low there'. absurd (omega arith);
-      takes = λ literals pieces u of stands past_is small hits_are held. record { left = λ k low. absurd (omega arith); held = λ k node low there'. absurd (omega arith) };
+      takes = λ literals pieces u of stands past_is small hits_are held. record { left = λ k low asked_for. absurd (omega arith); held = λ k node low there'. absurd (omega arith) };
     }
 
     module _ (rests : MayNodesRest meaning table marks_first hits first prev bytes) (others : AreOthersSound meaning table pass (length hits)) (over : MayNodesBePassed meaning table pass first at) (region : List ℕ) (ends : List ChunkEnds) (marks : List ℕ) where
       -- the pieces before a node that is passed over
-      passed-before : (n : ℕ) (node : Node) (pieces : ℕ → List Piece) (u : List ℕ) → slice_get table.nodes.items n ≡ Some node → ((p : ℕ) → node.parent ≡ Some p → node_ends ends p ≡ nowhere) → ((p : ℕ) → p < n → AreLeftIn (pieces p) u bytes (node_ends ends p)) →
+      passed-before : (n : ℕ) (node : Node) (pieces : ℕ → List Piece) (u : List ℕ) → slice_get table.nodes.items n ≡ Some node → ((p : ℕ) → node.parent ≡ Some p → node_ends ends p ≡ nowhere) → ((p : ℕ) → p < n → spent p ≡ false → AreLeftIn (pieces p) u bytes (node_ends ends p)) →
           ArePassed node.parent (parent_pieces pieces node.parent) u bytes
       passed-before n node pieces u at_n zeros left = by (parent-cases node.parent) where
         by : (node.parent ≡ None) ⊎ ((p : ℕ) × (node.parent ≡ Some p)) → ArePassed node.parent (parent_pieces pieces node.parent) u bytes
         by (inl no_parent) = root no_parent (ap (λ (q : Option ℕ). parent_pieces pieces q) no_parent)
         by (inr (p, is)) =
             let low : p < n = sound.earlier n p node at_n is in
-            let zero_left : AreLeftIn (pieces p) u bytes nowhere = subst (λ (e : ChunkEnds). AreLeftIn (pieces p) u bytes e) (zeros p is) (left p low) in
+            let zero_left : AreLeftIn (pieces p) u bytes nowhere = subst (λ (e : ChunkEnds). AreLeftIn (pieces p) u bytes e) (zeros p is) (left p low (asked n p node at_n is)) in
             behind (λ no_parent. let both : None ≡ Some p = sym no_parent ∙ is in absurd (cc))
             (subst (λ (q : Option ℕ). AreLeftNowhere (parent_pieces pieces q) u bytes) (sym is) (left-nowhere (pieces p) u bytes nowhere few nowhere-none zero_left))
 
@@ -109,8 +139,8 @@ module _ {E : Type 0} (meaning : E → Meaning) (table : NodeTable E) where
       below-or n k low = grind arith
 
       -- a node is passed over that isn't marked, or is one of those that are
-      pub walk-pass : (n m : ℕ) → m ≡ n + 1 → n < length table.nodes.items → ((pass n ≡ false) × (is_marked marks n ≡ false)) ⊎ (pass n ≡ true) → IsWalk pass first marks_first prev at past bytes hits region ends marks n → IsWalk pass first marks_first prev at past bytes hits region ends marks m
-      walk-pass n m next below why walk = subst (λ k. IsWalk pass first marks_first prev at past bytes hits region ends marks k) (sym next) (record {
+      pub walk-pass : (n m : ℕ) → m ≡ n + 1 → n < length table.nodes.items → ((pass n ≡ false) × (is_marked marks n ≡ false)) ⊎ (pass n ≡ true) → IsWalk spent pass first marks_first prev at past bytes hits region ends marks n → IsWalk spent pass first marks_first prev at past bytes hits region ends marks m
+      walk-pass n m next below why walk = subst (λ k. IsWalk spent pass first marks_first prev at past bytes hits region ends marks k) (sym next) (record {
         within = omega arith;
         more = walk.more;
         changes = walk.changes;
@@ -134,7 +164,7 @@ module _ {E : Type 0} (meaning : E → Meaning) (table : NodeTable E) where
         parent-zero k p other high at_k none' of (inr same) = inl (ap (λ i. node_ends ends i) same ∙ later_own.0)
 
         own-passed : (literals : List (List LiteralByte)) (pieces : ℕ → List Piece) (u : List ℕ) (is : IsNodeOf meaning table literals pieces n own.0) → Each (λ b. b < 256) (u ++ bytes) → AreHitsOf literals hits u bytes → IsNodeHeld meaning table pieces first u n own.0 → EndsBehind u prev at →
-            ((p : ℕ) → p < n → AreLeftIn (pieces p) u bytes (node_ends ends p)) → IsPassed meaning table.engines.items own.0.kind is.before is.piece (node_part first own.0) u bytes
+            ((p : ℕ) → p < n → spent p ≡ false → AreLeftIn (pieces p) u bytes (node_ends ends p)) → IsPassed meaning table.engines.items own.0.kind is.before is.piece (node_part first own.0) u bytes
         own-passed literals pieces u is small hits_are held stands left = by why where
           own_held : HoldsPiece meaning table.engines.items own.0.kind is.before is.piece (node_part first own.0) u
           own_held = stands-held meaning table.engines.items own.0.kind own.0.parent (pieces n) (parent_pieces pieces own.0.parent) is.before is.piece (node_part first own.0) u is.behind is.own held
@@ -147,7 +177,7 @@ module _ {E : Type 0} (meaning : E → Meaning) (table : NodeTable E) where
           spared-by : pass n ≡ false → is_marked marks n ≡ false → (p : ℕ) → own.0.parent ≡ Some p → IsSpared own.0.kind hits (length bytes) (node_ends ends p) → IsPassed meaning table.engines.items own.0.kind is.before is.piece (node_part first own.0) u bytes
           spared-by other none p of spared =
               node-spared meaning table.engines.items own.0.kind (length hits) (own.0.end - own.0.start) own.0.parent literals hits (parent_pieces pieces own.0.parent) is.before is.rest is.piece (node_part first own.0) u prev bytes (node_ends ends p) (others n own.0 own.1 other) refl is.runs is.behind is.fit few small hits_are (may none)
-              spared (subst (λ (q : Option ℕ). AreLeftIn (parent_pieces pieces q) u bytes (node_ends ends p)) (sym of) (left p (sound.earlier n p own.0 own.1 of))) own_held
+              spared (subst (λ (q : Option ℕ). AreLeftIn (parent_pieces pieces q) u bytes (node_ends ends p)) (sym of) (left p (sound.earlier n p own.0 own.1 of) (asked n p own.0 own.1 of))) own_held
 
           unmarked-by : pass n ≡ false → is_marked marks n ≡ false → (own.0.parent ≡ None) ⊎ ((p : ℕ) × (own.0.parent ≡ Some p)) → IsPassed meaning table.engines.items own.0.kind is.before is.piece (node_part first own.0) u bytes
           unmarked-by other none (inl no_parent) = rests-by other none (λ p of. let both : None ≡ Some p = sym no_parent ∙ of in absurd (cc))
@@ -179,7 +209,7 @@ module _ {E : Type 0} (meaning : E → Meaning) (table : NodeTable E) where
             subst (λ (nd : Node). IsWellPart meaning table.engines.items nd.kind (node_part region nd) (at + length bytes)) is own-well
 
         done-more : (literals : List (List LiteralByte)) (pieces : ℕ → List Piece) (u : List ℕ) → AreNodesOf meaning table literals pieces → EndsBehind u prev at → IsPast past u → Each (λ b. b < 256) (u ++ bytes) → AreHitsOf literals hits u bytes → AreNodesHeld meaning table pieces first u →
-            AreDone pieces region u bytes ends (n + 1)
+            AreDone spent pieces region u bytes ends (n + 1)
         done-more literals pieces u of stands past_is small hits_are held =
             let done = walk.takes literals pieces u of stands past_is small hits_are held in
             let is = of n own.0 own.1 in
@@ -188,7 +218,7 @@ module _ {E : Type 0} (meaning : E → Meaning) (table : NodeTable E) where
             let own_held : IsNodeHeld meaning table pieces region (u ++ bytes) n own.0 =
             held-stands meaning table.engines.items own.0.kind own.0.parent (pieces n) (parent_pieces pieces own.0.parent) is.before is.piece (node_part region own.0) (u ++ bytes) is.behind is.own
             (subst (λ ps. HoldsPiece meaning table.engines.items own.0.kind is.before is.piece ps (u ++ bytes)) (sym later_own.1) passed.held) in record {
-              left = λ k low. elim (below-or n k low) [ inl under ↦ done.left k under | inr same ↦ subst (λ i. AreLeftIn (pieces i) u bytes (node_ends ends i)) (sym same) zero_left ];
+              left = λ k low asked_for. elim (below-or n k low) [ inl under ↦ done.left k under asked_for | inr same ↦ subst (λ i. AreLeftIn (pieces i) u bytes (node_ends ends i)) (sym same) zero_left ];
               held = λ k other low at_k. elim (below-or n k low) [
                 | inl under ↦ done.held k other under at_k
                 | inr same ↦
@@ -202,15 +232,15 @@ module _ {E : Type 0} (meaning : E → Meaning) (table : NodeTable E) where
       why-by n none false is = inl (is, none)
 
       -- and so are all up to one of them
-      pub walk-to : (n d m : ℕ) → m ≡ n + d → m ≤ length table.nodes.items → ((k : ℕ) → n ≤ k → k < m → is_marked marks k ≡ false) → IsWalk pass first marks_first prev at past bytes hits region ends marks n → IsWalk pass first marks_first prev at past bytes hits region ends marks m
-      walk-to n zero m same within none walk = let is : n ≡ m = omega arith in subst (λ k. IsWalk pass first marks_first prev at past bytes hits region ends marks k) is walk
+      pub walk-to : (n d m : ℕ) → m ≡ n + d → m ≤ length table.nodes.items → ((k : ℕ) → n ≤ k → k < m → is_marked marks k ≡ false) → IsWalk spent pass first marks_first prev at past bytes hits region ends marks n → IsWalk spent pass first marks_first prev at past bytes hits region ends marks m
+      walk-to n zero m same within none walk = let is : n ≡ m = omega arith in subst (λ k. IsWalk spent pass first marks_first prev at past bytes hits region ends marks k) is walk
       walk-to n (suc d) m same within none walk =
-          let before : IsWalk pass first marks_first prev at past bytes hits region ends marks (n + d) = walk-to n d (n + d) refl (omega arith) (λ k low high. none k low (omega arith)) walk in
+          let before : IsWalk spent pass first marks_first prev at past bytes hits region ends marks (n + d) = walk-to n d (n + d) refl (omega arith) (λ k low high. none k low (omega arith)) walk in
           walk-pass (n + d) m (omega arith) (omega arith) (why-by (n + d) (none (n + d) (omega arith) (omega arith)) (pass (n + d)) refl) before
 
     module _ (all : ChunkEnds) (everywhere : (u : List ℕ) → AreLeftIn [] u bytes all) (region region' : List ℕ) (ends ends' : List ChunkEnds) (marks marks' : List ℕ) (n m : ℕ) (next : m ≡ n + 1) (own : Node) (at_n : slice_get table.nodes.items n ≡ Some own) (marked : is_marked marks n ≡ true) (other : pass n ≡ false)
         (run : IsNodeRun meaning table n own region region' prev at past bytes hits all ends ends') (sized : length region' ≡ length region) (grown : AreMoreMarks (length table.nodes.items) marks marks')
-        (children : (node_ends ends' n ≡ nowhere) ⊎ ChildrenMarked marks' hits bytes n (node_ends ends' n)) (walk : IsWalk pass first marks_first prev at past bytes hits region ends marks n) where
+        (children : (node_ends ends' n ≡ nowhere) ⊎ ChildrenMarked marks' hits bytes n (node_ends ends' n)) (walk : IsWalk spent pass first marks_first prev at past bytes hits region ends marks n) where
       below-next : (k : ℕ) → k < m → (k < n) ⊎ (k ≡ n)
       below-next k low = grind (arith, next)
 
@@ -239,11 +269,11 @@ module _ {E : Type 0} (meaning : E → Meaning) (table : NodeTable E) where
           let is : own ≡ node = one-value own node (slice_get table.nodes.items n) at_n (ap (λ i. slice_get table.nodes.items i) (sym same) ∙ at_k) in
           subst (λ (nd : Node). IsWellPart meaning table.engines.items nd.kind (node_part region' nd) (at + length bytes)) is run.well
 
-      entering-left : (pieces : ℕ → List Piece) (u : List ℕ) → ((p : ℕ) → p < n → AreLeftIn (pieces p) u bytes (node_ends ends p)) → (parent : Option ℕ) → own.parent ≡ parent → AreLeftIn (parent_pieces pieces parent) u bytes (entering_ends parent all ends)
+      entering-left : (pieces : ℕ → List Piece) (u : List ℕ) → ((p : ℕ) → p < n → spent p ≡ false → AreLeftIn (pieces p) u bytes (node_ends ends p)) → (parent : Option ℕ) → own.parent ≡ parent → AreLeftIn (parent_pieces pieces parent) u bytes (entering_ends parent all ends)
       entering-left pieces u left None is = everywhere u
-      entering-left pieces u left (Some p) is = left p (sound.earlier n p own at_n is)
+      entering-left pieces u left (Some p) is = left p (sound.earlier n p own at_n is) (asked n p own at_n is)
 
-      done-next : TakesTo first region' prev at past bytes hits ends' m
+      done-next : TakesTo spent first region' prev at past bytes hits ends' m
       done-next literals pieces u of stands past_is small hits_are held =
           let done = walk.takes literals pieces u of stands past_is small hits_are held in
           let is = of n own at_n in
@@ -256,8 +286,8 @@ module _ {E : Type 0} (meaning : E → Meaning) (table : NodeTable E) where
           let own_left : AreLeftIn (pieces n) u bytes (node_ends ends' n) = subst (λ ps. AreLeftIn ps u bytes (node_ends ends' n)) (sym is.own) result.left in
           let own_held : IsNodeHeld meaning table pieces region' (u ++ bytes) n own =
           held-stands meaning table.engines.items own.kind own.parent (pieces n) (parent_pieces pieces own.parent) is.before is.piece (node_part region' own) (u ++ bytes) is.behind is.own result.held in record {
-            left = λ k low. elim (below-next k low) [
-              | inl under ↦ subst (λ (e : ChunkEnds). AreLeftIn (pieces k) u bytes e) (sym (run.ends_stay k (λ same. absurd (omega arith)))) (done.left k under)
+            left = λ k low asked_for. elim (below-next k low) [
+              | inl under ↦ subst (λ (e : ChunkEnds). AreLeftIn (pieces k) u bytes e) (sym (run.ends_stay k (λ same. absurd (omega arith)))) (done.left k under asked_for)
               | inr same ↦ subst (λ i. AreLeftIn (pieces i) u bytes (node_ends ends' i)) (sym same) own_left
             ];
             held = λ k node low at_k. elim (below-next k low) [
@@ -269,7 +299,7 @@ module _ {E : Type 0} (meaning : E → Meaning) (table : NodeTable E) where
           }
 
       -- the node is run
-      pub walk-visit : IsWalk pass first marks_first prev at past bytes hits region' ends' marks' m
+      pub walk-visit : IsWalk spent pass first marks_first prev at past bytes hits region' ends' marks' m
       walk-visit =
           let low = slice_get_within table.nodes.items n own at_n in record {
             within = omega arith;
@@ -292,11 +322,82 @@ module _ {E : Type 0} (meaning : E → Meaning) (table : NodeTable E) where
             takes = done-next;
           }
 
+    -- one that is spent catches up
+    module _ (region region' : List ℕ) (ends : List ChunkEnds) (marks : List ℕ) (n m : ℕ) (next : m ≡ n + 1) (own : Node) (at_n : slice_get table.nodes.items n ≡ Some own) (marked : is_marked marks n ≡ true) (over : spent n ≡ true) (lone : IsLoneNode table n)
+        (run : IsNodeCaughtUp meaning table n own region region' prev at bytes) (sized : length region' ≡ length region) (walk : IsWalk spent pass first marks_first prev at past bytes hits region ends marks n) where
+      under-next : (k : ℕ) → k < m → (k < n) ⊎ (k ≡ n)
+      under-next k low = grind (arith, next)
+
+      not-spent : (k : ℕ) → spent k ≡ false → k ≡ n → ⊥
+      not-spent k asked_for same = let both : true ≡ false = sym over ∙ (ap spent (sym same) ∙ asked_for) in absurd (cc)
+
+      own_node : lone.node ≡ own
+      own_node = one-value lone.node own (slice_get table.nodes.items n) lone.there at_n
+
+      before-none : (pieces : ℕ → List Piece) (before : List Piece) → StandsBehind own.kind own.parent (parent_pieces pieces own.parent) before → before ≡ []
+      before-none pieces before stands = stands-none own.kind lone.number lone.null (ap (λ (nd : Node). nd.kind) (sym own_node) ∙ lone.kind_is) own.parent (ap (λ (nd : Node). nd.parent) (sym own_node) ∙ lone.no_parent) pieces before stands
+
+      part-same : (k : ℕ) (node : Node) → (k ≡ n → ⊥) → slice_get table.nodes.items k ≡ Some node → node_part region' node ≡ node_part region node
+      part-same k node apart at_k = run.parts_stay k node apart at_k
+
+      well-at : (k : ℕ) (node : Node) → slice_get table.nodes.items k ≡ Some node → (k < n) ⊎ (k ≡ n) → IsWellPart meaning table.engines.items node.kind (node_part region' node) (at + length bytes)
+      well-at k node at_k (inl low) = subst (λ ps. IsWellPart meaning table.engines.items node.kind ps (at + length bytes)) (sym (part-same k node (λ same. absurd (omega arith)) at_k)) (walk.well k node low at_k)
+      well-at k node at_k (inr same) =
+          let is : own ≡ node = one-value own node (slice_get table.nodes.items n) at_n (ap (λ i. slice_get table.nodes.items i) (sym same) ∙ at_k) in
+          subst (λ (nd : Node). IsWellPart meaning table.engines.items nd.kind (node_part region' nd) (at + length bytes)) is run.well
+
+      done-caught : TakesTo spent first region' prev at past bytes hits ends m
+      done-caught literals pieces u of stands past_is small hits_are held =
+          let done = walk.takes literals pieces u of stands past_is small hits_are held in
+          let is = of n own at_n in
+          let none : is.before ≡ [] = before-none pieces is.before is.behind in
+          let start : HoldsPiece meaning table.engines.items own.kind is.before is.piece (node_part region own) u =
+          subst (λ ps. HoldsPiece meaning table.engines.items own.kind is.before is.piece ps u) (sym (walk.later n own (omega arith) at_n).1)
+          (stands-held meaning table.engines.items own.kind own.parent (pieces n) (parent_pieces pieces own.parent) is.before is.piece (node_part first own) u is.behind is.own (held n own at_n)) in
+          let carried : HoldsPiece meaning table.engines.items own.kind [] is.piece (node_part region' own) (u ++ bytes) =
+          run.carries literals is.piece u (subst (λ ps. RunsPiece meaning table.engines.items literals own.kind ps is.piece) none is.runs) stands (subst (λ ps. HoldsPiece meaning table.engines.items own.kind ps is.piece (node_part region own) u) none start) in
+          let own_held : IsNodeHeld meaning table pieces region' (u ++ bytes) n own =
+          held-stands meaning table.engines.items own.kind own.parent (pieces n) (parent_pieces pieces own.parent) is.before is.piece (node_part region' own) (u ++ bytes) is.behind is.own
+          (subst (λ ps. HoldsPiece meaning table.engines.items own.kind ps is.piece (node_part region' own) (u ++ bytes)) (sym none) carried) in record {
+            left = λ k low asked_for. elim (under-next k low) [ inl under ↦ done.left k under asked_for | inr same ↦ absurd (not-spent k asked_for same) ];
+            held = λ k node low at_k. elim (under-next k low) [
+              | inl under ↦ λ piece ends_with. subst (λ ps. HoldsPiece meaning table.engines.items node.kind (parent_pieces pieces node.parent) piece ps (u ++ bytes)) (sym (part-same k node (λ same. absurd (omega arith)) at_k)) (done.held k node under at_k piece ends_with)
+              | inr same ↦
+                  let same_node : own ≡ node = one-value own node (slice_get table.nodes.items n) at_n (ap (λ i. slice_get table.nodes.items i) (sym same) ∙ at_k) in
+                  subst (λ i. IsNodeHeld meaning table pieces region' (u ++ bytes) i node) (sym same) (subst (λ (nd : Node). IsNodeHeld meaning table pieces region' (u ++ bytes) n nd) same_node own_held)
+            ];
+          }
+
+      pub walk-caught : IsWalk spent pass first marks_first prev at past bytes hits region' ends marks m
+      walk-caught =
+          let low = slice_get_within table.nodes.items n own at_n in record {
+            within = omega arith;
+            more = walk.more;
+            changes = record {
+              len = sized ∙ walk.changes.len;
+              unmarked = λ k node at_k none.
+                  let ne : k ≡ n → ⊥ = λ same. let both : true ≡ false = sym marked ∙ (ap (λ i. is_marked marks i) (sym same) ∙ none) in absurd (cc) in
+                  let old = walk.changes.unmarked k node at_k none in
+                  (old.0, part-same k node ne at_k ∙ old.1);
+              outside = λ i out. run.outside i (out n own at_n) ∙ walk.changes.outside i out;
+            };
+            later = λ k node high at_k.
+                let old = walk.later k node (omega arith) at_k in
+                (old.0, part-same k node (λ same. absurd (omega arith)) at_k ∙ old.1);
+            passed = walk.passed;
+            parents = λ k p node high at_k none of under. elim (under-next p under) [
+              | inl before ↦ walk.parents k p node (omega arith) at_k none of before
+              | inr same ↦ absurd (not-spent p (asked k p node at_k of) same)
+            ];
+            well = λ k node under at_k. well-at k node at_k (under-next k under);
+            takes = done-caught;
+          }
+
     -- all nodes
-    pub walk-well : (region : List ℕ) (ends : List ChunkEnds) (marks : List ℕ) → IsWalk pass first marks_first prev at past bytes hits region ends marks (length table.nodes.items) → AreNodesWell meaning table region (at + length bytes)
+    pub walk-well : (region : List ℕ) (ends : List ChunkEnds) (marks : List ℕ) → IsWalk spent pass first marks_first prev at past bytes hits region ends marks (length table.nodes.items) → AreNodesWell meaning table region (at + length bytes)
     walk-well region ends marks walk k node at_k = walk.well k node (slice_get_within table.nodes.items k node at_k) at_k
 
-    pub walk-takes : (region : List ℕ) (ends : List ChunkEnds) (marks : List ℕ) → IsWalk pass first marks_first prev at past bytes hits region ends marks (length table.nodes.items) → TakesNodes meaning table first region prev at past bytes hits ends
+    pub walk-takes : (region : List ℕ) (ends : List ChunkEnds) (marks : List ℕ) → IsWalk spent pass first marks_first prev at past bytes hits region ends marks (length table.nodes.items) → TakesNodes meaning table spent first region prev at past bytes hits ends
     walk-takes region ends marks walk literals pieces u of stands past_is small hits_are held =
         let done = walk.takes literals pieces u of stands past_is small hits_are held in record {
           held = λ k node at_k. done.held k node (slice_get_within table.nodes.items k node at_k) at_k;

@@ -8,6 +8,7 @@ pub mod Nodes
 pub mod LookBacks
 pub mod Walks
 pub mod Openings
+pub mod Lone
 pub mod Resting
 pub mod Living
 pub mod Waking

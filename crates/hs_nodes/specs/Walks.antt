@@ -1,6 +1,6 @@
 -- A walk over the nodes of a table, over a chunk.
-use Rattle.std.specs.Prelude.{◌≡◌, ◌⊎◌, ℕ, suc, ◌+◌, ◌-◌, ◌<◌, ◌≤◌, true, false, List, [], ◌∷◌, ◌++◌, length, Option}
-use Rattle.std.specs.Prelude.{Some, None, slice_get, slice_index, slice_index_or, slice_range}
+use Rattle.std.specs.Prelude.{◌≡◌, ◌⊎◌, ℕ, suc, ◌+◌, ◌-◌, ◌<◌, ◌≤◌, Bool, true, false, List, [], ◌∷◌, ◌++◌, length}
+use Rattle.std.specs.Prelude.{Option, Some, None, slice_get, slice_index, slice_index_or, slice_range}
 use Rattle.hs_base.specs.declared.context.Prev.{Prev}
 use Rattle.hs_base.specs.Chains.{Piece, IsFitChain}
 use Rattle.hs_base.specs.Lists.{Each}
@@ -90,6 +90,19 @@ module _ {E : Type 0} (meaning : E → Meaning) (table : NodeTable E) where
         node_part new other ≡ node_part old other
     pub outside : (i : ℕ) → (i < node.start) ⊎ (node.end ≤ i) → slice_index new i ≡ slice_index old i
 
+  -- The same of a node without a parent, but that it isn't told where it is left.
+  pub record IsNodeCaughtUp (k : ℕ) (node : Node) (old new : List ℕ) (prev : Prev) (at : ℕ) (bytes : List ℕ) : Type 0
+    where
+      pub well : IsWellPart meaning table.engines.items node.kind (node_part new node) (at + length bytes)
+      pub carries : (literals : List (List LiteralByte)) (piece : Piece) (u : List ℕ) →
+          RunsPiece meaning table.engines.items literals node.kind [] piece →
+          EndsBehind u prev at →
+          HoldsPiece meaning table.engines.items node.kind [] piece (node_part old node) u →
+          HoldsPiece meaning table.engines.items node.kind [] piece (node_part new node) (u ++ bytes)
+      pub parts_stay : (j : ℕ) (other : Node) → (j ≡ k → ⊥) → slice_get table.nodes.items j ≡ Some other →
+          node_part new other ≡ node_part old other
+      pub outside : (i : ℕ) → (i < node.start) ⊎ (node.end ≤ i) → slice_index new i ≡ slice_index old i
+
   -- The node runs a piece behind others, as a rule those of its parent; `pieces` are those of each node, its own one
   -- last.
   pub record IsNodeOf (literals : List (List LiteralByte)) (pieces : ℕ → List Piece) (k : ℕ) (node : Node) :
@@ -135,15 +148,18 @@ module _ {E : Type 0} (meaning : E → Meaning) (table : NodeTable E) where
       is_marked marks k ≡ false →
       MayRest meaning table.engines.items node.kind node.parent hits (node_part region node) prev bytes
 
-  -- A chunk leads to what is kept of each node behind it, and tells where the pieces of each node are left.
-  pub record AreNodesRun (pieces : ℕ → List Piece) (region u bytes : List ℕ) (ends : List ChunkEnds) : Type 0 where
+  -- A chunk leads to what is kept of each node behind it, and tells where the pieces of each node are left that isn't
+  -- spent.
+  pub record AreNodesRun (spent : ℕ → Bool) (pieces : ℕ → List Piece) (region u bytes : List ℕ)
+      (ends : List ChunkEnds) : Type 0 where
     pub held : AreNodesHeld pieces region (u ++ bytes)
-    pub left : (k : ℕ) → k < length table.nodes.items → AreLeftIn (pieces k) u bytes (node_ends ends k)
+    pub left : (k : ℕ) → k < length table.nodes.items → spent k ≡ false →
+        AreLeftIn (pieces k) u bytes (node_ends ends k)
 
   -- The nodes take a chunk, for all pieces that they run and behind any stream that ends there.
-  abbrev pub TakesNodes : (old new : List ℕ) (prev : Prev) (at : ℕ) (past bytes : List ℕ) (hits : List ChunkHits)
-      (ends : List ChunkEnds) → Type 0
-  TakesNodes old new prev at past bytes hits ends =
+  abbrev pub TakesNodes : (spent : ℕ → Bool) (old new : List ℕ) (prev : Prev) (at : ℕ) (past bytes : List ℕ)
+      (hits : List ChunkHits) (ends : List ChunkEnds) → Type 0
+  TakesNodes spent old new prev at past bytes hits ends =
       (literals : List (List LiteralByte)) (pieces : ℕ → List Piece) (u : List ℕ) →
       AreNodesOf literals pieces →
       EndsBehind u prev at →
@@ -151,7 +167,7 @@ module _ {E : Type 0} (meaning : E → Meaning) (table : NodeTable E) where
       Each (λ b. b < 256) (u ++ bytes) →
       AreHitsOf literals hits u bytes →
       AreNodesHeld pieces old u →
-      AreNodesRun pieces new u bytes ends
+      AreNodesRun spent pieces new u bytes ends
 
   -- What a chunk changes: of the nodes that aren't marked nothing, and they are left nowhere; and no byte that no node
   -- keeps.

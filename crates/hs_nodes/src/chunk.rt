@@ -1,6 +1,6 @@
 //! A chunk of the bytes of a stream, block by block.
 
-ghost use Rattle.std.specs.Prelude.{◌≡◌, ◌+◌, ◌*◌, ◌^◌, ◌<◌, ◌≤◌, ◌++◌, ℕ, List, length, slice_index};
+ghost use Rattle.std.specs.Prelude.{◌≡◌, ◌+◌, ◌*◌, ◌^◌, ◌<◌, ◌≤◌, ◌++◌, ℕ, List, length, slice_index, take};
 ghost use Rattle.hs_base.specs.Contexts.{prev_at};
 ghost use Rattle.hs_nodes.specs.Blocks.{block, block_count, front};
 
@@ -64,6 +64,18 @@ impl Chunk<'_, '_> {
             return self.prev;
         }
         Prev::behind(self.bytes[BLOCK_BYTES * number - 1])
+    }
+
+    /// What stands before the byte at that place.
+    pub(crate) fn prev_at(&self, place: usize) -> Prev
+        requires { place ≤ length self.now.bytes.now }
+        ensures { (u : List ℕ) → self.now.prev ≡ prev_at u (length u) →
+            result ≡ prev_at (u ++ take place self.now.bytes.now) (length u + place) }
+    {
+        if place == 0 {
+            return self.prev;
+        }
+        Prev::behind(self.bytes[place - 1])
     }
 
     /// The byte of that number among the past ones and those of the chunk.

@@ -41,7 +41,7 @@ fn ends_at(ends: &[ChunkEnds], k: usize) -> &ChunkEnds
 }
 
 /// The terminals of the node of that number.
-fn terminals_of<E: BlockEngine>(graph: &Graph<E>, node: usize) -> &[Terminal]
+pub(crate) fn terminals_of<E: BlockEngine>(graph: &Graph<E>, node: usize) -> &[Terminal]
     requires sound { AreTerminalsSound graph.now }
     requires there { node < length graph.now.table.nodes.items + 1 }
     ensures { result.now ≡ terminals_of graph.now node }

@@ -2,6 +2,7 @@
 #![tactic(auto)]
 
 mod cached;
+mod catching_up;
 mod chunk;
 mod contexts;
 mod ends;
@@ -16,6 +17,7 @@ mod laws;
 mod leaving;
 mod literals;
 mod living;
+mod lone;
 mod look_back;
 mod nulls;
 mod openings;
@@ -37,6 +39,7 @@ pub use hits::ChunkHits;
 pub use laws::resting_nodes;
 pub use leaving::{Stop, ends_if, leave_nodes};
 pub use living::{idle_engines, mark_live, next_live, node_around};
+pub use lone::{LoneNodes, Spent};
 pub use look_back::begins_at_start;
 pub use nulls::chunk_contexts;
 pub use openings::Openings;

@@ -21,6 +21,7 @@ ghost use Rattle.hs_waking.specs.Starts.{start_word};
 
 use crate::chunk::Chunk;
 use crate::graph::Graph;
+use crate::lone::Spent;
 use crate::table::NodeKind;
 use crate::wake_table::WakeTable;
 use crate::walking::{mark_all, node_at, start_of};
@@ -168,6 +169,7 @@ fn wake_engine<E: Engine>(
     words: &mut ClassWords,
     stack: &mut FitStack,
     cache: &Cache,
+    spent: &Spent,
     starts: &mut Starts,
     marks: &mut MarkSet,
 )
@@ -207,6 +209,11 @@ fn wake_engine<E: Engine>(
         starts.tell_nowhere(k);
         return;
     }
+    if spent.is_left(&graph.table, k, chunk.bytes) {
+        starts.tell(k, &ALL_PLACES);
+        marks.write(k, true);
+        return;
+    }
     let places = start_places(&graph.wakes, place, chunk.prev, chunk.bytes, words, stack);
     starts.tell(k, &places);
     if is_woken(graph, k, &places) {
@@ -222,6 +229,7 @@ pub fn wake_engines<E: Engine>(
     chunk: &Chunk,
     words: &mut ClassWords,
     cache: &Cache,
+    spent: &Spent,
     starts: &mut Starts,
     marks: &mut MarkSet,
 )
@@ -238,6 +246,8 @@ pub fn wake_engines<E: Engine>(
     words.begin();
     let mut stack = FitStack::new();
     for i in 0..graph.wakes.first_engines.len() {
-        wake_engine(graph, i, chunk, words, &mut stack, cache, starts, marks);
+        wake_engine(
+            graph, i, chunk, words, &mut stack, cache, spent, starts, marks,
+        );
     }
 }

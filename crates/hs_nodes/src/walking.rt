@@ -7,6 +7,7 @@ ghost use Rattle.hs_lazy.specs.Caches.{Told, told};
 ghost use Rattle.hs_nodes.specs.Cached.{IsToldKind, TellsNodes};
 ghost use Rattle.hs_nodes.specs.Contexts.{AreChunkContexts, NeedsContexts};
 ghost use Rattle.hs_nodes.specs.Left.{AreLeftIn, nowhere};
+ghost use Rattle.hs_nodes.specs.Lone.{AreLoneIn, IsLoneNode, is_spent_node};
 ghost use Rattle.hs_nodes.specs.Openings.{AreOthersSound, MayNodesBePassed, is_passed};
 ghost use Rattle.hs_nodes.specs.Pooled.{ArePooled};
 ghost use Rattle.hs_nodes.specs.Resting.{AreEnginesIdle};
@@ -14,12 +15,14 @@ ghost use Rattle.hs_nodes.specs.Sparing.{AreQuiet, IsLiteralThere, IsSpared};
 ghost use Rattle.hs_nodes.specs.Starting.{AreStartsEnough};
 ghost use Rattle.hs_bits.specs.Marks.{is_marked, mark_room};
 ghost use Rattle.hs_nodes.specs.Nodes.{IsKindSound, IsWellPart, most_ticks};
-ghost use Rattle.hs_nodes.specs.Walks.{AreMoreMarks, AreNodesWell, ChangesMarked, IsAmongChildren, IsNodeRun};
+ghost use Rattle.hs_nodes.specs.Walks.{AreMoreMarks, AreNodesWell, ChangesMarked, IsAmongChildren, IsNodeCaughtUp};
+ghost use Rattle.hs_nodes.specs.Walks.{IsNodeRun};
 ghost use Rattle.hs_nodes.specs.Walks.{IsTableSound, MayNodesRest, TakesNodes, entering_ends, node_ends, node_part};
 ghost use Rattle.hs_nodes.specs.Walks.{nodes_ticks};
 ghost use Rattle.hs_nodes.specs.declared.ends.ChunkEnds.{ChunkEnds};
 ghost use Rattle.hs_nodes.specs.declared.table.Node.{Node};
 
+use crate::catching_up::catch_up;
 use crate::chunk::{Chunk, MAX_BLOCKS};
 use crate::contexts::make_contexts;
 use crate::ends::ChunkEnds;
@@ -27,6 +30,7 @@ use crate::engines::Entry;
 use crate::first::everywhere;
 use crate::foretold::Foretold;
 use crate::kinds::{Found, run_kind};
+use crate::lone::LoneNodes;
 use crate::table::{Node, NodeKind, NodeTable};
 use hs_base::Prev;
 use hs_bits::{Contexts, MarkSet};
@@ -116,6 +120,40 @@ fn run_node<E: BlockEngine + TimelessEngine, L: Ledger>(
         pool,
         steps,
     );
+}
+
+/// Takes a chunk by the node of that number, which is a lone one, without regard to where it is left.
+#[inline(never)]
+fn catch_up_node<E: BlockEngine, L: Ledger>(
+    table: &NodeTable<E>,
+    k: usize,
+    chunk: &Chunk,
+    lone: &LoneNodes,
+    region: &mut [u8],
+    steps: &mut Steps<L>,
+)
+    requires sound { (literals : ℕ) × IsTableSound E.meaning table.now literals (length region.old) }
+    requires lone { AreLoneIn E.meaning table.now lone.now }
+    requires own { IsLoneNode table.now k }
+    requires well { (node : Node) → slice_get table.now.nodes.items k ≡ Some node →
+        IsWellPart E.meaning table.now.engines.items node.kind (node_part region.old node) chunk.now.at }
+    requires idle { AreEnginesIdle E.meaning table.now.engines.items }
+    ensures len { length region.new ≡ length region.old }
+    ensures ticks { steps.new ≤ steps.old + length chunk.now.bytes.now }
+    ensures catches { (node : Node) → slice_get table.now.nodes.items k ≡ Some node → IsNodeCaughtUp E.meaning table.now
+        k node region.old region.new chunk.now.prev chunk.now.at chunk.now.bytes.now }
+{
+    let node = node_at(table, k);
+    if let NodeKind::Engine(number, _) = node.kind {
+        let number = number as usize;
+        catch_up(
+            &table.engines[number],
+            &mut region[node.start as usize..node.end as usize],
+            chunk,
+            &lone.living(&table.engines, number),
+            steps,
+        );
+    }
 }
 
 /// The number at that place of a list.
@@ -219,7 +257,8 @@ fn mark_children<E>(
 /// literals of which nothing comes. So those that are marked then have been run, and no other one. Of engines without a
 /// parent the cache tells what they do, or it is said where their matches may begin. Engines of which it tells nothing
 /// go by the states that the pool has of them, if there is one. Where the chains are over that begin where the stream
-/// does, their nodes are passed over, and only the literals of the others need to be known.
+/// does, their nodes are passed over, and only the literals of the others need to be known. Of nodes that are spent it
+/// isn't told where they are left.
 pub fn walk<E: BlockEngine + TimelessEngine, L: Ledger>(
     table: &NodeTable<E>,
     chunk: &Chunk,
@@ -237,6 +276,7 @@ pub fn walk<E: BlockEngine + TimelessEngine, L: Ledger>(
     requires passed { MayNodesBePassed E.meaning table.now (is_passed foretold.now.are_over foretold.now.openings.now)
         region.old chunk.now.at }
     requires openings { length table.now.nodes.items ≤ mark_room foretold.now.openings.now.nodes }
+    requires lone { AreLoneIn E.meaning table.now foretold.now.spent.lone.now }
     requires well { AreNodesWell E.meaning table.now region.old chunk.now.at }
     requires ends { length ends.old ≡ length table.now.nodes.items }
     requires clear { (k : ℕ) → node_ends ends.old k ≡ nowhere }
@@ -257,8 +297,9 @@ pub fn walk<E: BlockEngine + TimelessEngine, L: Ledger>(
     ensures pool { ArePooled E.meaning table.now.engines.items pool.new }
     ensures ticks { steps.new ≤
         steps.old + nodes_ticks table.now.nodes.items foretold.now.hits.now (length chunk.now.bytes.now) }
-    ensures takes { TakesNodes E.meaning table.now region.old region.new chunk.now.prev chunk.now.at
-        chunk.now.past.now chunk.now.bytes.now foretold.now.hits.now ends.new }
+    ensures takes { TakesNodes E.meaning table.now
+        (is_spent_node foretold.now.spent.lone.now foretold.now.spent.told.now) region.old region.new chunk.now.prev
+        chunk.now.at chunk.now.past.now chunk.now.bytes.now foretold.now.hits.now ends.new }
 {
     let all = everywhere(chunk);
     let mut contexts = [Contexts::new(Prev::Start, &[]); MAX_BLOCKS];
@@ -266,7 +307,9 @@ pub fn walk<E: BlockEngine + TimelessEngine, L: Ledger>(
     let mut from = 0;
     while let Some(k) = marks.next(from) {
         from = k + 1;
-        if !foretold.passes(k) {
+        if foretold.is_left_behind(table, k, chunk.bytes) {
+            catch_up_node(table, k, chunk, foretold.spent.lone, region, steps);
+        } else if !foretold.passes(k) {
             are_made = make_contexts(node_at(table, k).kind, chunk, &mut contexts, are_made);
             let found = Found {
                 contexts: &contexts,

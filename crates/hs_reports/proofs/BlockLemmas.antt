@@ -12,7 +12,7 @@ use Rattle.hs_base.proofs.PairListLemmas.{values_by, value-at, tell-by, pairs-of
 use Rattle.hs_reports.specs.Chunks.{late_at, early_at, pairs_where, chunk_pairs, pairs_of_chunk, AreChunkOf}
 use Rattle.hs_reports.specs.Telling.{AreBlockWords}
 use Rattle.hs_reports.specs.WordBits.{row_bit}
-use Rattle.hs_reports.proofs.ChunkLemmas.{chunk-new}
+use Rattle.hs_reports.proofs.ChunkLemmas.{IsChunkOf, chunk-is, chunk-new_but_spent}
 
 -- values that are the same for each identifier
 values-same : (f g : ℕ → Bool) (n : ℕ) → ((k : ℕ) → k < n → f k ≡ g k) → values_by f n ≡ values_by g n
@@ -76,12 +76,17 @@ chunk-passed ids late early at m (suc n) within none = elim (cases_lt n m) [
 ]
 
 -- what the words of a block tell are its new reports
-pub block-new : (P : List Pattern) (u bytes ids : List ℕ) (single : ℕ → Bool) (old : ℕ → Kept) (ends : ℕ → ℕ → Ends) (lates earlies : List ℕ) (told : List Pair) → length bytes ≤ 64 →
-    AreChunkOf P u bytes ids single old ends → AreBlockWords ids single old ends lates earlies → IsTold P u told → IsNew P u bytes (chunk_pairs ids (row_bit lates) (row_bit earlies) (length u) (length bytes))
-block-new P u bytes ids single old ends lates earlies told few chunk are is =
-    subst (IsNew P u bytes) (sym same) (chunk-new P u bytes ids single old ends told chunk is)
+pub block-new_but_spent : (P : List Pattern) (u bytes ids : List ℕ) (single : ℕ → Bool) (old : ℕ → Kept) (ends : ℕ → ℕ → Ends) (lates earlies : List ℕ) (told : List Pair) → length bytes ≤ 64 →
+    IsChunkOf P u bytes ids single old ends → AreBlockWords ids single old ends lates earlies → IsTold P u told → IsNew P u bytes (chunk_pairs ids (row_bit lates) (row_bit earlies) (length u) (length bytes))
+block-new_but_spent P u bytes ids single old ends lates earlies told few chunk are is =
+    subst (IsNew P u bytes) (sym same) (chunk-new_but_spent P u bytes ids single old ends told chunk is)
   where
     same : chunk_pairs ids (row_bit lates) (row_bit earlies) (length u) (length bytes) ≡ pairs_of_chunk ids single old ends (length u) (length bytes)
     same =
         chunk-same ids (row_bit lates) (row_bit earlies) (λ k. late_at (single k) (old k) (ends k)) (λ k. early_at (single k) (old k) (ends k)) (length u) (length bytes)
         (λ k i inside below. ((are k inside).late_is i (omega arith), (are k inside).early_is i (omega arith)))
+
+pub block-new : (P : List Pattern) (u bytes ids : List ℕ) (single : ℕ → Bool) (old : ℕ → Kept) (ends : ℕ → ℕ → Ends) (lates earlies : List ℕ) (told : List Pair) → length bytes ≤ 64 →
+    AreChunkOf P u bytes ids single old ends → AreBlockWords ids single old ends lates earlies → IsTold P u told → IsNew P u bytes (chunk_pairs ids (row_bit lates) (row_bit earlies) (length u) (length bytes))
+block-new P u bytes ids single old ends lates earlies told few chunk are is =
+    block-new_but_spent P u bytes ids single old ends lates earlies told few (chunk-is P u bytes ids single old ends chunk) are is

@@ -1,5 +1,5 @@
 -- What bytes in a row tell, by an induction on their places.
-use Rattle.std.proofs.Common.{◌≡◌, ℕ, zero, suc, ◌+◌, ◌*◌, ◌<◌, ◌≤◌, ◌↔◌, Bool, true, false, not, ◌||◌, ◌&&◌, List, [], ◌∷◌, ◌++◌, length, take, drop, get_or, Some, slice_get, refl, sym, ap, subst, ◌∙◌, inl, inr, arith, append_assoc, length-append, cond}
+use Rattle.std.proofs.Common.{◌≡◌, ℕ, zero, suc, ◌+◌, ◌*◌, ◌<◌, ◌≤◌, ◌⊎◌, ◌↔◌, Bool, true, false, not, ◌||◌, ◌&&◌, List, [], ◌∷◌, ◌++◌, length, take, drop, get_or, Some, slice_get, slice_index, refl, sym, ap, subst, ◌∙◌, inl, inr, arith, append_assoc, length-append, cond}
 use Rattle.std.proofs.lemmas.Bool.{and_left}
 use Rattle.std.proofs.lemmas.List.{append-nil, take_all, take_more, length-take-le}
 use Rattle.std.proofs.Math.Seq.{take-add}
@@ -20,7 +20,7 @@ use Rattle.hs_base.proofs.ToldLemmas.{new-joins}
 use Rattle.hs_base.proofs.PairListLemmas.{IsToldAt, pairs-member, pairs-rising_two, values_by, Tell, tell-by, IsNewBefore, IsNewBehind}
 use Rattle.hs_reports.specs.Heard.{IsHeard, IsToldBy}
 use Rattle.hs_reports.specs.Chunks.{kept_behind, late_at, early_at, pairs_where, chunk_pairs, pairs_of_chunk, AreChunkEnds, AreChunkOf, pairs_of_blocks}
-use Rattle.hs_reports.proofs.HeardLemmas.{byte-tells}
+use Rattle.hs_reports.proofs.HeardLemmas.{byte-tells, IsSpent, spent-longer, spent-earlier, spent-none, spent-tells}
 
 -- beginnings of the bytes
 
@@ -33,20 +33,34 @@ stream-more u bytes i below = ap (λ xs. u ++ xs) (begun-more bytes i below) ∙
 length-begun : (u bytes : List ℕ) (i : ℕ) → i ≤ length bytes → length (u ++ take i bytes) ≡ length u + i
 length-begun u bytes i within = omega (arith, length-append u (take i bytes), length-take-le i bytes within)
 
+-- the ends of the identifier are known, or it is spent, and they may be any
+abbrev pub AreEndsOrSpent : List Pattern → (u bytes : List ℕ) → (id : ℕ) → (ℕ → Ends) → Type 0
+AreEndsOrSpent P u bytes id ends = AreChunkEnds P u bytes id ends ⊎ IsSpent P u id
+
+-- what one byte tells
+tells-at : (P : List Pattern) (u bytes : List ℕ) (id : ℕ) (kept : Kept) (ends : ℕ → Ends) → AreEndsOrSpent P u bytes id ends → (i : ℕ) → i < length bytes → IsHeard P (u ++ take i bytes) id kept →
+    IsToldBy P (u ++ take i bytes) (get_or bytes i 0) id (is_single P id) kept (ends i)
+tells-at P u bytes id kept ends (inl are) i below is = byte-tells P (u ++ take i bytes) (get_or bytes i 0) id kept (ends i) is (are i below)
+tells-at P u bytes id kept ends (inr spent) i below is = spent-tells P (u ++ take i bytes) (get_or bytes i 0) id kept (ends i) is (spent-longer P u (take i bytes) id spent)
+
 -- what is known of an identifier behind the first bytes
-pub heard-behind : (P : List Pattern) (u bytes : List ℕ) (id : ℕ) (kept : Kept) (ends : ℕ → Ends) → IsHeard P u id kept → AreChunkEnds P u bytes id ends →
+heard-behind : (P : List Pattern) (u bytes : List ℕ) (id : ℕ) (kept : Kept) (ends : ℕ → Ends) → IsHeard P u id kept → AreEndsOrSpent P u bytes id ends →
     (i : ℕ) → i ≤ length bytes → IsHeard P (u ++ take i bytes) id (kept_behind (is_single P id) kept ends i)
 heard-behind P u bytes id kept ends is are zero within = subst (λ w. IsHeard P w id kept) (sym (append-nil u)) is
 heard-behind P u bytes id kept ends is are (suc i) within =
     subst (λ w. IsHeard P w id (kept_behind (is_single P id) kept ends (suc i))) (sym (stream-more u bytes i within))
-    (byte-tells P (u ++ take i bytes) (get_or bytes i 0) id (kept_behind (is_single P id) kept ends i) (ends i)
-    (heard-behind P u bytes id kept ends is are i (omega arith)) (are i within)).heard
+    (tells-at P u bytes id (kept_behind (is_single P id) kept ends i) ends are i within
+    (heard-behind P u bytes id kept ends is are i (omega arith))).heard
+
+pub chunk-heard_or_spent : (P : List Pattern) (u bytes : List ℕ) (id : ℕ) (kept : Kept) (ends : ℕ → Ends) → IsHeard P u id kept → AreEndsOrSpent P u bytes id ends →
+    IsHeard P (u ++ bytes) id (kept_behind (is_single P id) kept ends (length bytes))
+chunk-heard_or_spent P u bytes id kept ends is are =
+    subst (λ xs. IsHeard P (u ++ xs) id (kept_behind (is_single P id) kept ends (length bytes))) (take_all (length bytes) bytes (omega arith))
+    (heard-behind P u bytes id kept ends is are (length bytes) (omega arith))
 
 pub chunk-heard : (P : List Pattern) (u bytes : List ℕ) (id : ℕ) (kept : Kept) (ends : ℕ → Ends) → IsHeard P u id kept → AreChunkEnds P u bytes id ends →
     IsHeard P (u ++ bytes) id (kept_behind (is_single P id) kept ends (length bytes))
-chunk-heard P u bytes id kept ends is are =
-    subst (λ xs. IsHeard P (u ++ xs) id (kept_behind (is_single P id) kept ends (length bytes))) (take_all (length bytes) bytes (omega arith))
-    (heard-behind P u bytes id kept ends is are (length bytes) (omega arith))
+chunk-heard P u bytes id kept ends is are = chunk-heard_or_spent P u bytes id kept ends is (inl are)
 
 -- an identifier without an end
 
@@ -72,20 +86,24 @@ quiet-behind single kept ends (suc n) quiet =
     let (told, here) = quiet-byte single (kept_behind single kept ends n) (ends n) before behind in
     (told ∙ (quiet-behind single kept ends n (λ i below. quiet i (omega arith))).0, λ some. here)
 
-pub chunk-stays : (P : List Pattern) (u bytes : List ℕ) (id : ℕ) (kept : Kept) (ends : ℕ → Ends) → 0 < length bytes → IsHeard P u id kept → AreChunkEnds P u bytes id ends →
+pub chunk-stays_or_spent : (P : List Pattern) (u bytes : List ℕ) (id : ℕ) (kept : Kept) (ends : ℕ → Ends) → 0 < length bytes → IsHeard P u id kept → AreEndsOrSpent P u bytes id ends →
     ((i : ℕ) → i < length bytes → ((ends i).before ≡ false) × ((ends i).behind ≡ false)) → IsHeard P (u ++ bytes) id (record kept { here = false })
-chunk-stays P u bytes id kept ends some is are quiet =
+chunk-stays_or_spent P u bytes id kept ends some is are quiet =
     let (told, here) = quiet-behind (is_single P id) kept ends (length bytes) quiet in
     heard-same P (u ++ bytes) id (kept_behind (is_single P id) kept ends (length bytes)) (record kept { here = false }) told (here some)
-    (chunk-heard P u bytes id kept ends is are)
+    (chunk-heard_or_spent P u bytes id kept ends is are)
+
+pub chunk-stays : (P : List Pattern) (u bytes : List ℕ) (id : ℕ) (kept : Kept) (ends : ℕ → Ends) → 0 < length bytes → IsHeard P u id kept → AreChunkEnds P u bytes id ends →
+    ((i : ℕ) → i < length bytes → ((ends i).before ≡ false) × ((ends i).behind ≡ false)) → IsHeard P (u ++ bytes) id (record kept { here = false })
+chunk-stays P u bytes id kept ends some is are quiet = chunk-stays_or_spent P u bytes id kept ends some is (inl are) quiet
 
 -- the reports of one byte
 
--- the identifiers that have an end about a byte are among these, which rise
+-- the identifiers of which the byte decides a pair are among these, which rise
 record AreNamed (P : List Pattern) (u : List ℕ) (b : ℕ) (ids : List ℕ) : Type 0 where
   rising : AreRising ids
-  before : (id : ℕ) → HasEndHere P id u (class_of b) → IsMember id ids
-  behind : (id : ℕ) → HasEndHere P id (u ++ b ∷ []) after.Unknown → IsMember id ids
+  before : (id : ℕ) → IsNewBefore P u b id → IsMember id ids
+  behind : (id : ℕ) → IsNewBehind P u b id → IsMember id ids
 
 told-member : (ids : List ℕ) (values : List Bool) (Q : ℕ → Type 0) (to : ℕ) → Tell ids values Q → (p : Pair) → IsMember p (pairs_told ids values to) ↔ ((p.to ≡ to) × IsMember p.id ids × Q p.id)
 told-member ids values Q to tell p = (
@@ -117,43 +135,75 @@ named-reports P u b ids befores behinds are tell tell' = record {
           )
     ],
     λ (report, fresh).
-        let pair : IsPair P (u ++ b ∷ []) false p.id p.to = report-pair_now P (u ++ b ∷ []) false p.id p.to report in
         elim (only-two P u b p.id p.to report fresh) [
           | inl here ↦
+              let new : IsNewBefore P u b p.id = (subst (IsReport P (u ++ b ∷ []) false p.id) here report, λ earlier. fresh (subst (IsReport P u false p.id) (sym here) earlier)) in
               member-left (pairs_told ids befores (length u)) (pairs_told ids behinds (length u + 1)) p
-              ((told-member ids befores (IsNewBefore P u b) (length u) tell p).1 (
-                here,
-                are.before p.id ((pair-before_byte P u b p.id).0 (subst (IsPair P (u ++ b ∷ []) false p.id) here pair)),
-                (subst (IsReport P (u ++ b ∷ []) false p.id) here report, λ earlier. fresh (subst (IsReport P u false p.id) (sym here) earlier)),
-              ))
+              ((told-member ids befores (IsNewBefore P u b) (length u) tell p).1 (here, are.before p.id new, new))
           | inr here ↦
+              let new : IsNewBehind P u b p.id = subst (IsReport P (u ++ b ∷ []) false p.id) here report in
               member-right (pairs_told ids befores (length u)) (pairs_told ids behinds (length u + 1)) p
-              ((told-member ids behinds (IsNewBehind P u b) (length u + 1) tell' p).1 (
-                here,
-                are.behind p.id ((pair-behind_byte P u b p.id).0 (subst (IsPair P (u ++ b ∷ []) false p.id) here pair)),
-                subst (IsReport P (u ++ b ∷ []) false p.id) here report,
-              ))
+              ((told-member ids behinds (IsNewBehind P u b) (length u + 1) tell' p).1 (here, are.behind p.id new, new))
         ],
   );
   rising = pairs-rising_two ids befores behinds (length u) (length u + 1) are.rising (omega arith);
 }
 
+-- What is known of identifiers as in AreChunkOf, but for those that are spent: none of them has to be there, and where
+-- one is its ends may be any.
+pub record IsChunkOf (P : List Pattern) (u bytes ids : List ℕ) (single : ℕ → Bool) (old : ℕ → Kept)
+    (ends : ℕ → ℕ → Ends) : Type 0 where
+  pub rising : AreRising ids
+  pub before : (i id : ℕ) → i < length bytes → HasEndHere P id (u ++ take i bytes) (class_of (slice_index bytes i)) →
+      IsMember id ids ⊎ IsSpent P u id
+  pub behind : (i id : ℕ) → i < length bytes →
+      HasEndHere P id (u ++ take i bytes ++ slice_index bytes i ∷ []) after.Unknown →
+      IsMember id ids ⊎ IsSpent P u id
+  pub singles : (k id : ℕ) → slice_get ids k ≡ Some id → is_single P id ≡ single k
+  pub heard : (k id : ℕ) → slice_get ids k ≡ Some id → IsHeard P u id (old k)
+  pub ends_are : (k id : ℕ) → slice_get ids k ≡ Some id → AreEndsOrSpent P u bytes id (ends k)
+
+pub chunk-is : (P : List Pattern) (u bytes ids : List ℕ) (single : ℕ → Bool) (old : ℕ → Kept) (ends : ℕ → ℕ → Ends) → AreChunkOf P u bytes ids single old ends → IsChunkOf P u bytes ids single old ends
+chunk-is P u bytes ids single old ends chunk = record {
+  rising = chunk.concerned.rising;
+  before = λ i id below found. inl (chunk.concerned.before i id below found);
+  behind = λ i id below found. inl (chunk.concerned.behind i id below found);
+  singles = chunk.singles;
+  heard = chunk.heard;
+  ends_are = λ k id named. inl (chunk.ends_are k id named);
+}
+
 -- the reports of bytes in a row
-module _ (P : List Pattern) (u bytes ids : List ℕ) (single : ℕ → Bool) (old : ℕ → Kept) (ends : ℕ → ℕ → Ends) (chunk : AreChunkOf P u bytes ids single old ends) where
+module _ (P : List Pattern) (u bytes ids : List ℕ) (single : ℕ → Bool) (old : ℕ → Kept) (ends : ℕ → ℕ → Ends) (chunk : IsChunkOf P u bytes ids single old ends) where
   told-by : (k id i : ℕ) → slice_get ids k ≡ Some id → i < length bytes →
       IsToldBy P (u ++ take i bytes) (get_or bytes i 0) id (single k) (kept_behind (single k) (old k) (ends k) i) (ends k i)
   told-by k id i named below =
       subst (λ s. IsToldBy P (u ++ take i bytes) (get_or bytes i 0) id s (kept_behind s (old k) (ends k) i) (ends k i)) (chunk.singles k id named)
-      (byte-tells P (u ++ take i bytes) (get_or bytes i 0) id (kept_behind (is_single P id) (old k) (ends k) i) (ends k i)
-      (heard-behind P u bytes id (old k) (ends k) (chunk.heard k id named) (chunk.ends_are k id named) i (omega arith))
-      (chunk.ends_are k id named i below))
+      (tells-at P u bytes id (kept_behind (is_single P id) (old k) (ends k) i) (ends k) (chunk.ends_are k id named) i below
+      (heard-behind P u bytes id (old k) (ends k) (chunk.heard k id named) (chunk.ends_are k id named) i (omega arith)))
 
   named-at : (i : ℕ) → i < length bytes → AreNamed P (u ++ take i bytes) (get_or bytes i 0) ids
   named-at i below = record {
-    rising = chunk.concerned.rising;
-    before = λ id here. chunk.concerned.before i id below here;
-    behind = λ id here. chunk.concerned.behind i id below here;
+    rising = chunk.rising;
+    before = λ id (report, fresh). elim (chunk.before i id below (before-found i id report)) [
+      | inl member ↦ member
+      | inr spent ↦ absurd (fresh (spent-earlier P (u ++ take i bytes) (get_or bytes i 0 ∷ []) id (length (u ++ take i bytes)) (spent-longer P u (take i bytes) id spent) report))
+    ];
+    behind = λ id report. elim (chunk.behind i id below (behind-found i id report)) [
+      | inl member ↦ member
+      | inr spent ↦ absurd (spent-none P (u ++ take i bytes) (get_or bytes i 0) id (spent-longer P u (take i bytes) id spent) report)
+    ];
   }
+    where
+      before-found : (i id : ℕ) → IsReport P ((u ++ take i bytes) ++ get_or bytes i 0 ∷ []) false id (length (u ++ take i bytes)) → HasEndHere P id (u ++ take i bytes) (class_of (get_or bytes i 0))
+      before-found i id report =
+          (pair-before_byte P (u ++ take i bytes) (get_or bytes i 0) id).0
+          (report-pair_now P ((u ++ take i bytes) ++ get_or bytes i 0 ∷ []) false id (length (u ++ take i bytes)) report)
+
+      behind-found : (i id : ℕ) → IsReport P ((u ++ take i bytes) ++ get_or bytes i 0 ∷ []) false id (length (u ++ take i bytes) + 1) → HasEndHere P id ((u ++ take i bytes) ++ get_or bytes i 0 ∷ []) after.Unknown
+      behind-found i id report =
+          (pair-behind_byte P (u ++ take i bytes) (get_or bytes i 0) id).0
+          (report-pair_now P ((u ++ take i bytes) ++ get_or bytes i 0 ∷ []) false id (length (u ++ take i bytes) + 1) report)
 
   abbrev late : ℕ → ℕ → Bool
   late i k = late_at (single k) (old k) (ends k) i
@@ -183,11 +233,15 @@ module _ (P : List Pattern) (u bytes ids : List ℕ) (single : ℕ → Bool) (ol
       subst (λ xs. IsNew P u xs (earlier ++ here)) (sym (begun-more bytes i within))
       (new-joins P u (take i bytes) (b ∷ []) earlier here begun new)
 
-pub chunk-new : (P : List Pattern) (u bytes ids : List ℕ) (single : ℕ → Bool) (old : ℕ → Kept) (ends : ℕ → ℕ → Ends) (told : List Pair) → AreChunkOf P u bytes ids single old ends → IsTold P u told →
+pub chunk-new_but_spent : (P : List Pattern) (u bytes ids : List ℕ) (single : ℕ → Bool) (old : ℕ → Kept) (ends : ℕ → ℕ → Ends) (told : List Pair) → IsChunkOf P u bytes ids single old ends → IsTold P u told →
     IsNew P u bytes (pairs_of_chunk ids single old ends (length u) (length bytes))
-chunk-new P u bytes ids single old ends told chunk is =
+chunk-new_but_spent P u bytes ids single old ends told chunk is =
     subst (λ xs. IsNew P u xs (pairs_of_chunk ids single old ends (length u) (length bytes))) (take_all (length bytes) bytes (omega arith))
     (chunk-begun P u bytes ids single old ends chunk told is (length bytes) (omega arith))
+
+pub chunk-new : (P : List Pattern) (u bytes ids : List ℕ) (single : ℕ → Bool) (old : ℕ → Kept) (ends : ℕ → ℕ → Ends) (told : List Pair) → AreChunkOf P u bytes ids single old ends → IsTold P u told →
+    IsNew P u bytes (pairs_of_chunk ids single old ends (length u) (length bytes))
+chunk-new P u bytes ids single old ends told chunk is = chunk-new_but_spent P u bytes ids single old ends told (chunk-is P u bytes ids single old ends chunk) is
 
 -- blocks in a row
 pub blocks-new : (P : List Pattern) (u bytes : List ℕ) (size n : ℕ) (pairs : ℕ → List Pair) (told : List Pair) → IsTold P u told →

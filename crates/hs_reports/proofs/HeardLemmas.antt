@@ -1,6 +1,6 @@
 -- What one more byte tells of an identifier, from what is known of it and its ends about the byte.
 use Rattle.std.proofs.Common.{◌≡◌, ℕ, zero, suc, ◌+◌, ◌<◌, ◌≤◌, ◌⊎◌, ◌↔◌, Bool, true, false, not, ◌||◌, ◌&&◌, List, [], ◌∷◌, ◌++◌, length, refl, sym, subst, inl, inr, arith, length-append}
-use Rattle.std.proofs.lemmas.Bool.{both_ways, not-true, and_parts, and_from, or_cases, or_parts, or_from, or_left, or_right, not_from_false, false_from_ne_true, cases_Bool, cases_lt, cases_eq}
+use Rattle.std.proofs.lemmas.Bool.{both_ways, not-true, and_parts, and_from, and_right, or_cases, or_parts, or_from, or_left, or_right, not_from_false, not_from_true, false_from_ne_true, cases_Bool, cases_lt, cases_eq}
 use Rattle.hs_base.specs.Assertions.{line_feed}
 use Rattle.hs_base.specs.Patterns.{Pattern, is_single, IsPair}
 use Rattle.hs_base.specs.Reports.{IsLeast, IsReport, each, first, first_at_end}
@@ -289,6 +289,61 @@ module _ (P : List Pattern) (u : List ℕ) (b id : ℕ) (kept : Kept) (ends : En
     last-told : (single : Bool) → is_single P id ≡ single → ((settled single kept ends).last ≡ true) ↔ IsLeftToEnd P (u ++ b ∷ []) id
     last-told true single = last-single single
     last-told false many = last-many many
+
+-- The identifier is single, and a pair of it is reported: no other is, wherever its matches end.
+pub record IsSpent (P : List Pattern) (u : List ℕ) (id : ℕ) : Type 0 where
+  pub single : is_single P id ≡ true
+  pub to : ℕ
+  pub reported : IsReport P u false id to
+
+pub spent-longer : (P : List Pattern) (u v : List ℕ) (id : ℕ) → IsSpent P u id → IsSpent P (u ++ v) id
+spent-longer P u v id spent = record { single = spent.single; to = spent.to; reported = reports-longer P u v false id spent.to spent.reported }
+
+-- what is reported of it was reported already
+pub spent-earlier : (P : List Pattern) (u v : List ℕ) (id to : ℕ) → IsSpent P u id → IsReport P (u ++ v) false id to → IsReport P u false id to
+spent-earlier P u v id to spent report =
+    subst (IsReport P u false id) (report-once P id spent.single (u ++ v) spent.to to (reports-longer P u v false id spent.to spent.reported) report) spent.reported
+
+pub spent-none : (P : List Pattern) (u : List ℕ) (b id : ℕ) → IsSpent P u id → IsReport P (u ++ b ∷ []) false id (length u + 1) → ⊥
+spent-none P u b id spent report =
+    let pair : IsPair P u false id (length u + 1) = report-pair_now P u false id (length u + 1) (spent-earlier P u (b ∷ []) id (length u + 1) spent report) in
+    omega (arith, pair.within)
+
+-- One byte tells nothing of it, whatever its ends are said to be.
+pub spent-tells : (P : List Pattern) (u : List ℕ) (b id : ℕ) (kept : Kept) (ends : Ends) → IsHeard P u id kept → IsSpent P u id → IsToldBy P u b id (is_single P id) kept ends
+spent-tells P u b id kept ends is spent =
+    subst (λ s. IsToldBy P u b id s kept ends) (sym spent.single)
+    (record {
+      heard = record {
+        told = λ single. (
+          λ told. (spent.to, reports-longer P u (b ∷ []) false id spent.to spent.reported),
+          λ some. or_left kept.told (tells_before true kept ends || tells_behind true kept ends) told,
+        );
+        here = (
+          λ tells. absurd (both_ways (tells_behind true kept ends) no-behind tells),
+          λ report. absurd (spent-none P u b id spent (subst (IsReport P (u ++ b ∷ []) false id) (length-append u (b ∷ [])) report)),
+        );
+      };
+      before = (
+        λ tells. absurd (both_ways (tells_before true kept ends) no-before tells),
+        λ (report, fresh). absurd (fresh (spent-earlier P u (b ∷ []) id (length u) spent report)),
+      );
+      behind = (
+        λ tells. absurd (both_ways (tells_behind true kept ends) no-behind tells),
+        λ report. absurd (spent-none P u b id spent report),
+      );
+    })
+  where
+    told : kept.told ≡ true
+    told = (is.told spent.single).1 (spent.to, spent.reported)
+
+    no-before : tells_before true kept ends ≡ false
+    no-before = and_right ends.before (not kept.told) (not_from_true kept.told told)
+
+    no-behind : tells_behind true kept ends ≡ false
+    no-behind =
+        and_right ends.behind (not (kept.told || tells_before true kept ends))
+        (not_from_true (kept.told || tells_before true kept ends) (or_left kept.told (tells_before true kept ends) told))
 
 -- What one byte tells of an identifier.
 pub byte-tells : (P : List Pattern) (u : List ℕ) (b id : ℕ) (kept : Kept) (ends : Ends) → IsHeard P u id kept → AreSureEnds P u b id ends → IsToldBy P u b id (is_single P id) kept ends

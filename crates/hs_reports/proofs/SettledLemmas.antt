@@ -1,7 +1,7 @@
 -- Where all noted identifiers are settled, what is known and what is told is that of the longer stream.
-use Rattle.std.proofs.Common.{◌≡◌, ◌↔◌, ℕ, zero, suc, ◌+◌, ◌-◌, ◌<◌, ◌≤◌, Bool, true, false, ◌||◌, ◌&&◌, List, [], ◌∷◌, ◌++◌, length, take, get_or, Some, slice_get, refl, sym, ap, subst, ◌∙◌, inl, inr, arith}
+use Rattle.std.proofs.Common.{◌≡◌, ◌↔◌, ℕ, zero, suc, ◌+◌, ◌-◌, ◌<◌, ◌≤◌, ◌⊎◌, Bool, true, false, ◌||◌, ◌&&◌, List, [], ◌∷◌, ◌++◌, length, take, get_or, Some, slice_get, refl, sym, ap, subst, ◌∙◌, inl, inr, arith}
 use Rattle.std.specs.Prelude.{option_map}
-use Rattle.std.proofs.lemmas.Bool.{both_ways, cases_Bool, and_left, false_from_ne_true, true_from_ne_false}
+use Rattle.std.proofs.lemmas.Bool.{both_ways, cases_Bool, cases_lt, or_left, and_left, and_parts, false_from_ne_true, true_from_ne_false}
 use Rattle.std.proofs.lemmas.List.{length-map}
 use Rattle.std.proofs.lemmas.Option.{same_Some, slice_get-map, slice_get_within, slice_get-get_or, get_or_from_slice_get}
 use Rattle.hs_base.specs.declared.context.Next.{Next}
@@ -15,19 +15,20 @@ use Rattle.hs_base.specs.Told.{Pair, IsTold, IsNew}
 use Rattle.hs_base.specs.Settling.{HasEndHere, Kept, Ends, AreRising}
 use Rattle.hs_base.proofs.ListLemmas.{each-member, each-of_members, place-member, member-place}
 use Rattle.hs_reports.specs.declared.identifier.Identifier.{Identifier}
-use Rattle.hs_reports.specs.Chunks.{kept_behind, AreChunkEnds, AreConcerned, AreChunkOf}
+use Rattle.hs_reports.specs.Chunks.{kept_behind}
 use Rattle.hs_reports.specs.EndTables.{EndTable, words_of, is_noted, IsQuiet}
 use Rattle.hs_reports.specs.Heard.{IsHeard}
 use Rattle.hs_reports.specs.Identifiers.{id_numbers, numbers_of}
-use Rattle.hs_reports.specs.Settlement.{known_at, AreKnown, ArePending, AreBlockEnds, SettlesBlock}
+use Rattle.hs_reports.specs.Settlement.{known_at, AreKnown, ArePending, is_spent, AreBlockEnds, SettlesBlock}
 use Rattle.hs_reports.proofs.SettlementLemmas.{IsSettledAt, IsSettledTo}
 use Rattle.hs_reports.specs.Telling.{AreTellingWords, IsToldBefore, AreBlockWords, is_telling}
 use Rattle.hs_reports.specs.Tellings.{TellingTable, pairs_of_tellings}
 use Rattle.hs_reports.specs.Terminals.{ends_by_words}
 use Rattle.hs_reports.specs.WordBits.{word_bit}
-use Rattle.hs_reports.proofs.BlockLemmas.{block-new}
-use Rattle.hs_reports.proofs.ChunkLemmas.{chunk-heard, chunk-stays}
-use Rattle.hs_reports.proofs.TellingLemmas.{words-kept}
+use Rattle.hs_reports.proofs.BlockLemmas.{block-new_but_spent}
+use Rattle.hs_reports.proofs.ChunkLemmas.{AreEndsOrSpent, IsChunkOf, chunk-heard_or_spent, chunk-stays_or_spent}
+use Rattle.hs_reports.proofs.HeardLemmas.{IsSpent}
+use Rattle.hs_reports.proofs.TellingLemmas.{words-kept, told-before}
 use Rattle.hs_reports.proofs.WordBitLemmas.{bit-zero}
 
 abbrev pub no_identifier : Identifier
@@ -105,9 +106,38 @@ none-told single kept before behind late early n words none i above below = (
     and_none : (a b : Bool) → a ≡ false → (a && b) ≡ false
     and_none a b is = and_left a b is
 
+-- what was told stays told
+pub told-grows : (identifiers : List Identifier) (last : ℕ) (table table' : EndTable) (told here told' here' : List ℕ) (tellings : TellingTable) (n : ℕ) → IsSettledTo identifiers last table told here table' told' here' tellings n →
+    (p : ℕ) → has_word_bit told p ≡ true → has_word_bit told' p ≡ true
+told-grows identifiers last table table' told here told' here' tellings n is p set = elim (cases_Bool (is_noted table p)) [
+  | inl noted ↦ elim (cases_lt p n) [
+    | inl below ↦
+        let (k, at) = member-place is.places p (is.noted p below noted) in
+        let s : IsSettledAt identifiers last table told here told' here' tellings k p = is.each k p at in
+        s.told_is ∙ or_left (has_word_bit told p) (s.x.single && is_telling (get_or tellings.lates k 0) (get_or tellings.earlies k 0)) set
+    | inr above ↦ let (same, _, _, _) = is.others p (inl above) in same ∙ set
+  ]
+  | inr none ↦ let (same, _, _, _) = is.others p (inr none) in same ∙ set
+]
+
 module _ (identifiers : List Identifier) (last : ℕ) (table table' : EndTable) (told here told' here' : List ℕ) (tellings : TellingTable) (n : ℕ)
     (small : last < 64) (quiet : IsQuiet table) (whole : length identifiers ≤ n) (is : IsSettledTo identifiers last table told here table' told' here' tellings n)
-    (P : List Pattern) (u bytes : List ℕ) (count : length bytes ≡ last + 1) (block : AreBlockEnds P u bytes identifiers table) (known : AreKnown P u identifiers told here) (pending : ArePending here table) where
+    (P : List Pattern) (u bytes : List ℕ) (count : length bytes ≡ last + 1) (block : AreBlockEnds P u bytes identifiers told table) (known : AreKnown P u identifiers told here) (pending : ArePending here table) where
+  -- an identifier that is spent by the bits is spent
+  spent : (p : ℕ) (x : Identifier) → slice_get identifiers p ≡ Some x → is_spent x told p ≡ true → IsSpent P u x.id.0
+  spent p x there is-spent =
+      let (one, told-p) = and_parts x.single (has_word_bit told p) is-spent in
+      let single : is_single P x.id.0 ≡ true = known.single p x there ∙ one in
+      let (to, report) = ((known.heard p x there).told single).0 told-p in
+      record { single = single; to = to; reported = report }
+
+  -- and of each other one the ends are known
+  ends-or_spent : (p : ℕ) (x : Identifier) → slice_get identifiers p ≡ Some x → AreEndsOrSpent P u bytes x.id.0 (ends_by_words (words_of table p).before (words_of table p).behind)
+  ends-or_spent p x there = elim (cases_Bool (is_spent x told p)) [
+    | inl is-spent ↦ inr (spent p x there is-spent)
+    | inr not-spent ↦ inl (block.ends p x there not-spent)
+  ]
+
   -- what is settled of a noted identifier
   settled-words : (k p : ℕ) (s : IsSettledAt identifiers last table told here told' here' tellings k p) →
       AreTellingWords s.x.single (known_at told here p) (ends_by_words (words_of table p).before (words_of table p).behind) (get_or tellings.lates k 0) (get_or tellings.earlies k 0)
@@ -116,9 +146,15 @@ module _ (identifiers : List Identifier) (last : ℕ) (table table' : EndTable) 
       (record { before_is = λ i below. refl; behind_is = λ i below. refl })
 
   settled-within : (k p : ℕ) (s : IsSettledAt identifiers last table told here told' here' tellings k p) → IsToldBefore (length bytes) (get_or tellings.lates k 0) (get_or tellings.earlies k 0)
-  settled-within k p s =
-      none-told s.x.single (known_at told here p) (words_of table p).before (words_of table p).behind (get_or tellings.lates k 0) (get_or tellings.earlies k 0) (length bytes)
-      (settled-words k p s) (block.within p)
+  settled-within k p s = elim (cases_Bool (is_spent s.x told p)) [
+    | inl is-spent ↦
+        let (one, told-p) = and_parts s.x.single (has_word_bit told p) is-spent in
+        told-before (known_at told here p) (ends_by_words (words_of table p).before (words_of table p).behind) (get_or tellings.lates k 0) (get_or tellings.earlies k 0) (length bytes) told-p
+        (subst (λ b. AreTellingWords b (known_at told here p) (ends_by_words (words_of table p).before (words_of table p).behind) (get_or tellings.lates k 0) (get_or tellings.earlies k 0)) one (settled-words k p s))
+    | inr not-spent ↦
+        none-told s.x.single (known_at told here p) (words_of table p).before (words_of table p).behind (get_or tellings.lates k 0) (get_or tellings.earlies k 0) (length bytes)
+        (settled-words k p s) (λ i above below. block.within p i s.x s.there not-spent above below)
+  ]
 
   heard-settled : (k p : ℕ) (s : IsSettledAt identifiers last table told here told' here' tellings k p) → IsHeard P (u ++ bytes) s.x.id.0 (known_at told' here' p)
   heard-settled k p s =
@@ -134,7 +170,7 @@ module _ (identifiers : List Identifier) (last : ℕ) (table table' : EndTable) 
       told-is ∙ sym (s.told_is ∙ ap (λ b. has_word_bit told p || (b && is_telling (get_or tellings.lates k 0) (get_or tellings.earlies k 0))) yes))
       (here-is ∙ (ap (λ i. word_bit (get_or tellings.earlies k 0) i) last-is ∙ sym s.here_is))
       (subst (λ b. IsHeard P (u ++ bytes) s.x.id.0 (kept_behind b kept ends (length bytes))) single
-      (chunk-heard P u bytes s.x.id.0 kept ends (known.heard p s.x s.there) (block.ends p s.x s.there)))
+      (chunk-heard_or_spent P u bytes s.x.id.0 kept ends (known.heard p s.x s.there) (ends-or_spent p s.x s.there)))
 
   -- of one that isn't noted nothing ends
   heard-quiet : (p : ℕ) (x : Identifier) → slice_get identifiers p ≡ Some x → is_noted table p ≡ false → IsHeard P (u ++ bytes) x.id.0 (known_at told' here' p)
@@ -144,7 +180,7 @@ module _ (identifiers : List Identifier) (last : ℕ) (table table' : EndTable) 
       let not-here : has_word_bit here p ≡ false = false_from_ne_true (has_word_bit here p) (λ set. both_ways (is_noted table p) none (pending p set)) in
       heard-alike P (u ++ bytes) x.id.0 (record { told = has_word_bit told p; here = false; last = false }) (known_at told' here' p)
       (λ single. sym same-told) (sym (same-here ∙ not-here))
-      (chunk-stays P u bytes x.id.0 (known_at told here p) ends (omega arith) (known.heard p x there) (block.ends p x there)
+      (chunk-stays_or_spent P u bytes x.id.0 (known_at told here p) ends (omega arith) (known.heard p x there) (ends-or_spent p x there)
       (λ i below. (ap (λ w. word_bit w.before i) (quiet p none) ∙ bit-zero i, ap (λ w. word_bit w.behind i) (quiet p none) ∙ bit-zero i)))
 
   known-behind : AreKnown P (u ++ bytes) identifiers told' here'
@@ -196,27 +232,19 @@ module _ (identifiers : List Identifier) (last : ℕ) (table table' : EndTable) 
       subst (λ y. IsMember y.id.0 (id_numbers tellings.ids)) (same_Some s.x x (sym s.there ∙ there))
       (place-member (id_numbers tellings.ids) s.x.id.0 k (told-number k p s))
 
-  -- what ends behind some bytes is told, where its bit is set
+  -- what ends behind some bytes is told, where its bit is set, or spent
   ending-told : (id : ℕ) (w : List ℕ) (next : Next) → HasEndHere P id w next →
-      ((p : ℕ) (x : Identifier) → slice_get identifiers p ≡ Some x → HasEndHere P x.id.0 w next → is_noted table p ≡ false → ⊥) → IsMember id (id_numbers tellings.ids)
+      ((p : ℕ) (x : Identifier) → slice_get identifiers p ≡ Some x → is_spent x told p ≡ false → HasEndHere P x.id.0 w next → is_noted table p ≡ false → ⊥) →
+      IsMember id (id_numbers tellings.ids) ⊎ IsSpent P u id
   ending-told id w next found bit =
       let (p, number) = member-place (numbers_of identifiers) id (ending-named P (numbers_of identifiers) id w next block.identifiers_are.each found) in
       let (x, there, own) = at-number identifiers p id number in
-      subst (λ k. IsMember k (id_numbers tellings.ids)) own
-      (noted-told p x there (bit p x there (subst (λ k. HasEndHere P k w next) (sym own) found)))
-
-  concerned : AreConcerned P u bytes (id_numbers tellings.ids)
-  concerned = record {
-    rising = rising-told;
-    before = λ i id below found.
-        ending-told id (u ++ take i bytes) (class_of (get_or bytes i 0)) found
-        (λ p x there end none.
-        both_ways (word_bit (words_of table p).before i) (ap (λ w. word_bit w.before i) (quiet p none) ∙ bit-zero i) ((block.ends p x there i below).before.1 end));
-    behind = λ i id below found.
-        ending-told id ((u ++ take i bytes) ++ get_or bytes i 0 ∷ []) after.Unknown found
-        (λ p x there end none.
-        both_ways (word_bit (words_of table p).behind i) (ap (λ w. word_bit w.behind i) (quiet p none) ∙ bit-zero i) ((block.ends p x there i below).behind.1 end));
-  }
+      elim (cases_Bool (is_spent x told p)) [
+        | inl is-spent ↦ inr (subst (IsSpent P u) own (spent p x there is-spent))
+        | inr not-spent ↦
+            inl (subst (λ k. IsMember k (id_numbers tellings.ids)) own
+            (noted-told p x there (bit p x there not-spent (subst (λ k. HasEndHere P k w next) (sym own) found))))
+      ]
 
   abbrev single-at : ℕ → Bool
   single-at k = (get_or identifiers (get_or is.places k 0) no_identifier).single
@@ -230,9 +258,17 @@ module _ (identifiers : List Identifier) (last : ℕ) (table table' : EndTable) 
   own-identifier : (k : ℕ) (s : IsSettledAt identifiers last table told here told' here' tellings k (get_or is.places k 0)) → get_or identifiers (get_or is.places k 0) no_identifier ≡ s.x
   own-identifier k s = get_or_from_slice_get identifiers (get_or is.places k 0) s.x no_identifier s.there
 
-  chunk : AreChunkOf P u bytes (id_numbers tellings.ids) single-at kept-at ends-at
+  chunk : IsChunkOf P u bytes (id_numbers tellings.ids) single-at kept-at ends-at
   chunk = record {
-    concerned = concerned;
+    rising = rising-told;
+    before = λ i id below found.
+        ending-told id (u ++ take i bytes) (class_of (get_or bytes i 0)) found
+        (λ p x there not-spent end none.
+        both_ways (word_bit (words_of table p).before i) (ap (λ w. word_bit w.before i) (quiet p none) ∙ bit-zero i) ((block.ends p x there not-spent i below).before.1 end));
+    behind = λ i id below found.
+        ending-told id ((u ++ take i bytes) ++ get_or bytes i 0 ∷ []) after.Unknown found
+        (λ p x there not-spent end none.
+        both_ways (word_bit (words_of table p).behind i) (ap (λ w. word_bit w.behind i) (quiet p none) ∙ bit-zero i) ((block.ends p x there not-spent i below).behind.1 end));
     singles = λ k id named.
         let s = is.each k (get_or is.places k 0) (place-at k (number-within k id named)) in
         let own : s.x.id.0 ≡ id = same_Some s.x.id.0 id (sym (told-number k (get_or is.places k 0) s) ∙ named) in
@@ -244,7 +280,7 @@ module _ (identifiers : List Identifier) (last : ℕ) (table table' : EndTable) 
     ends_are = λ k id named.
         let s = is.each k (get_or is.places k 0) (place-at k (number-within k id named)) in
         let own : s.x.id.0 ≡ id = same_Some s.x.id.0 id (sym (told-number k (get_or is.places k 0) s) ∙ named) in
-        subst (λ n. AreChunkEnds P u bytes n (ends-at k)) own (block.ends (get_or is.places k 0) s.x s.there);
+        subst (λ n. AreEndsOrSpent P u bytes n (ends-at k)) own (ends-or_spent (get_or is.places k 0) s.x s.there);
   }
 
   words-at : (k : ℕ) → k < length (id_numbers tellings.ids) → k < length is.places
@@ -259,7 +295,7 @@ module _ (identifiers : List Identifier) (last : ℕ) (table table' : EndTable) 
   told-behind : (list : List Pair) → IsTold P u list → IsNew P u bytes (pairs_of_tellings tellings (length u) (last + 1))
   told-behind list told-list =
       subst (λ n. IsNew P u bytes (pairs_of_tellings tellings (length u) n)) count
-      (block-new P u bytes (id_numbers tellings.ids) single-at kept-at ends-at tellings.lates tellings.earlies list (omega arith) chunk words told-list)
+      (block-new_but_spent P u bytes (id_numbers tellings.ids) single-at kept-at ends-at tellings.lates tellings.earlies list (omega arith) chunk words told-list)
 
 pub settles-block : (identifiers : List Identifier) (last : ℕ) (table table' : EndTable) (told here told' here' : List ℕ) (tellings : TellingTable) (n : ℕ) → last < 64 → IsQuiet table → length identifiers ≤ n →
     IsSettledTo identifiers last table told here table' told' here' tellings n → SettlesBlock identifiers (last + 1) table told here told' here' tellings

@@ -66,6 +66,11 @@ words-told kept ends told = record {
         (not_from_true ((kept_behind true kept ends i).told || late_at true kept ends i)
         (or_left (kept_behind true kept ends i).told (late_at true kept ends i) (told-on true kept ends 0 i (omega arith) told)))
 
+pub told-before : (kept : Kept) (ends : ℕ → Ends) (late early n : ℕ) → kept.told ≡ true → AreTellingWords true kept ends late early → IsToldBefore n late early
+told-before kept ends late early n told words i above below =
+    let nothing = words-told kept ends told in
+    (words.late_is i below ∙ (sym (nothing.late_is i below) ∙ bit-zero i), words.early_is i below ∙ (sym (nothing.early_is i below) ∙ bit-zero i))
+
 -- nor of one without an end
 pub none-either : (before behind : ℕ) → bit_or before behind ≡ 0 → (i : ℕ) → i < 64 → (word_bit before i ≡ false) × (word_bit behind i ≡ false)
 none-either before behind none i below =

@@ -1,5 +1,5 @@
 -- What a block settles of all identifiers: what is known of each, in rows of bits, and what the block tells.
-use Rattle.std.specs.Prelude.{◌≡◌, ℕ, ◌^◌, ◌<◌, ◌≤◌, true, false, ◌||◌, ◌&&◌, List, ◌++◌, length}
+use Rattle.std.specs.Prelude.{◌≡◌, ℕ, ◌^◌, ◌<◌, ◌≤◌, Bool, true, false, ◌||◌, ◌&&◌, List, ◌++◌, length}
 use Rattle.std.specs.Prelude.{Some, slice_get}
 use Rattle.hs_base.specs.Bits.{has_word_bit}
 use Rattle.hs_base.specs.Patterns.{Pattern, is_single}
@@ -35,13 +35,19 @@ abbrev pub AreOnlyPending : (here : List ℕ) → EndTable → Type 0
 AreOnlyPending here table =
     (p : ℕ) → p < length table.words → is_noted table p ≡ true → has_word_bit here p ≡ true
 
--- The identifiers are those of the patterns, and the table has the ends of each about the bytes behind u.
-pub record AreBlockEnds (P : List Pattern) (u bytes : List ℕ) (identifiers : List Identifier) (table : EndTable) :
-    Type 0 where
+-- A single identifier of which a pair is told is spent: nothing more of it is reported, wherever its matches end.
+abbrev pub is_spent : Identifier → (told : List ℕ) → (p : ℕ) → Bool
+is_spent x told p = x.single && has_word_bit told p
+
+-- The identifiers are those of the patterns, and the table has the ends of each about the bytes behind u, but for those
+-- that are spent.
+pub record AreBlockEnds (P : List Pattern) (u bytes : List ℕ) (identifiers : List Identifier) (told : List ℕ)
+    (table : EndTable) : Type 0 where
   pub identifiers_are : AreIdentifiers P (numbers_of identifiers)
-  pub ends : (p : ℕ) (x : Identifier) → slice_get identifiers p ≡ Some x →
+  pub ends : (p : ℕ) (x : Identifier) → slice_get identifiers p ≡ Some x → is_spent x told p ≡ false →
       AreChunkEnds P u bytes x.id.0 (ends_by_words (words_of table p).before (words_of table p).behind)
-  pub within : (p i : ℕ) → length bytes ≤ i → i < 64 →
+  pub within : (p i : ℕ) (x : Identifier) → slice_get identifiers p ≡ Some x → is_spent x told p ≡ false →
+      length bytes ≤ i → i < 64 →
       (word_bit (words_of table p).before i ≡ false) × (word_bit (words_of table p).behind i ≡ false)
 
 -- Whatever the patterns and the stream of which the table has the ends about a block of so many bytes: where the bits
@@ -51,7 +57,7 @@ abbrev pub SettlesBlock : List Identifier → (count : ℕ) → EndTable → (to
 SettlesBlock identifiers count table told here told' here' tellings =
     (P : List Pattern) (u bytes : List ℕ) →
     length bytes ≡ count →
-    AreBlockEnds P u bytes identifiers table →
+    AreBlockEnds P u bytes identifiers told table →
     AreKnown P u identifiers told here →
     ArePending here table →
     AreKnown P (u ++ bytes) identifiers told' here'

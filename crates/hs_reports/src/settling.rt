@@ -1,7 +1,7 @@
 //! What a block settles of the identifiers that it concerns.
 
-ghost use Rattle.std.specs.Prelude.{◌≡◌, ◌+◌, ◌<◌, ◌≤◌, ◌*◌, length};
-ghost use Rattle.hs_base.specs.Bits.{word_count};
+ghost use Rattle.std.specs.Prelude.{◌≡◌, ℕ, true, ◌+◌, ◌<◌, ◌≤◌, ◌*◌, length};
+ghost use Rattle.hs_base.specs.Bits.{has_word_bit, word_count};
 ghost use Rattle.hs_base.specs.Lists.{Each, IsMember};
 ghost use Rattle.hs_reports.specs.EndTables.{HasNoEnds};
 ghost use Rattle.hs_reports.specs.Identifiers.{id_numbers, numbers_of};
@@ -17,8 +17,8 @@ use hs_bits::{contains_word_bit, write_word_bit};
 /// Settles each noted identifier by its ends about a block, of which `last` is the place of the last byte. The bits
 /// `told` and `here` say of each identifier whether a pair of it is told, if it is single, and whether one is that ends
 /// before the block. Behind the call they say it of the bytes up to the block's last, and what is told of the block
-/// waits in `tellings`, with identifiers of the list alone. Identifiers of which a pair ends behind the block stay
-/// noted, and no other.
+/// waits in `tellings`, with identifiers of the list alone; of an identifier that is single and told nothing is told,
+/// and its ends may be any. Identifiers of which a pair ends behind the block stay noted, and no other.
 pub fn settle_block(
     identifiers: &[Identifier],
     ends: &mut IdentifierEnds,
@@ -33,6 +33,7 @@ pub fn settle_block(
     requires last { last < 64 }
     requires room { length identifiers.now ≤ tellings.old.room }
     ensures ends { length ends.new.words ≡ length ends.old.words }
+    ensures grows { (p : ℕ) → has_word_bit told.old p ≡ true → has_word_bit told.new p ≡ true }
     ensures emptied { HasNoEnds ends.new }
     ensures room { tellings.new.room ≡ tellings.old.room }
     ensures pending { ArePending here.old ends.old → ArePending here.new ends.new }

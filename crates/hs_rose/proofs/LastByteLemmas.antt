@@ -24,7 +24,8 @@ arrived-last r u b q x (arrives p end (byte, there, member) from) =
     let same : byte ≡ b = (cc) in
     subst (λ k. slice_get (set_of r x) k ≡ Some true) same member
 
-reached-last : (r : Core) (u : List ℕ) (b q x : ℕ) → IsReachedFrom r (u ++ b ∷ []) q x → slice_get (set_of r x) b ≡ Some true
+-- so has one that is reached
+pub reached-last : (r : Core) (u : List ℕ) (b q x : ℕ) → IsReachedFrom r (u ++ b ∷ []) q x → slice_get (set_of r x) b ≡ Some true
 reached-last r u b q x reached =
     arrived-last r u b q x
     (reach-arrives (context_at (u ++ b ∷ []) false) (λ set k. IsByteOf set (u ++ b ∷ []) k) r x q (length (u ++ b ∷ [])) reached)

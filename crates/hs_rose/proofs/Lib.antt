@@ -20,5 +20,6 @@ pub mod StreamingLemmas
 pub mod TimelessLemmas
 pub mod MovesRowLemmas
 pub mod LastByteLemmas
+pub mod LivingByteLemmas
 mod LastBlockLemmas
 mod RepeatEntryLemmas

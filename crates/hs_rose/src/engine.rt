@@ -25,7 +25,8 @@ pub enum PieceEngine {
 }
 
 impl PieceEngine {
-    ghost use Rattle.std.specs.Prelude.{ℕ, ◌<◌, Bool, true, List, [], ◌∷◌, ◌++◌};
+    ghost use Rattle.std.specs.Prelude.{ℕ, ◌+◌, ◌<◌, Bool, true, false, List, [], ◌∷◌, ◌++◌, length};
+    ghost use Rattle.hs_base.specs.Bits.{AreZero};
     ghost use Rattle.hs_base.specs.ByteSets.{has};
     ghost use Rattle.hs_base.specs.declared.context.Next.{Next};
     ghost use Rattle.hs_base.specs.Fields.{Leaves};
@@ -61,6 +62,24 @@ impl PieceEngine {
             PieceEngine::First(_) | PieceEngine::Last(_) | PieceEngine::Ring(_) => {
                 ByteSet::EMPTY.complement()
             }
+        }
+    }
+
+    /// The bytes behind which something of it may be live: behind each other one its region is all 0. Of a repeat it
+    /// tells all bytes.
+    pub fn living_bytes(&self) -> ByteSet
+        ensures { (region : List ℕ) (tree : Tree) (u : List ℕ) (b : ℕ) (entered : List Bool) →
+            (piece_meaning self.now).is_for tree →
+            length entered ≡ length u + 1 →
+            b < 256 →
+            has result b ≡ false →
+            length region ≡ (piece_meaning self.now).width →
+            AreZero region →
+            (piece_meaning self.now).field region tree (u ++ b ∷ []) entered }
+    {
+        match self {
+            PieceEngine::Positions(positions) => positions.living_bytes(),
+            PieceEngine::First(_) | PieceEngine::Last(_) | PieceEngine::Ring(_) => ByteSet::ALL,
         }
     }
 }

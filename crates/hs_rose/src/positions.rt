@@ -1,6 +1,6 @@
 //! The engine of an expression by its positions: byte by byte, and a block at once where that serves.
 
-ghost use Rattle.std.specs.Prelude.{◌≡◌, ℕ, ◌+◌, ◌<◌, ◌≤◌, Bool, true, Some, IfOk, MatchOption};
+ghost use Rattle.std.specs.Prelude.{◌≡◌, ℕ, ◌+◌, ◌<◌, ◌≤◌, Bool, true, false, Some, IfOk, MatchOption};
 ghost use Rattle.std.specs.Prelude.{List, [], ◌∷◌, ◌++◌, length, map, slice_get};
 ghost use Rattle.hs_base.specs.ByteSets.{has};
 ghost use Rattle.hs_base.specs.declared.context.Next.{Next};
@@ -38,6 +38,8 @@ pub struct PositionEngine {
     rows: Vec<Vec<ByteSet>>,
     /// The bytes of the positions behind which a match may end.
     last: ByteSet,
+    /// The bytes of all positions.
+    living: ByteSet,
     ghost size_is: { (s : Streams) → streams ≡ Some s → s.size ≡ (moves_of_limex limex).size },
     ghost takes_are: { (s : Streams) → streams ≡ Some s → (x b : ℕ) → x < (moves_of_limex limex).size → b < 256 →
         takes_byte s.sets.items s.numbers.items x b ≡ (moves_of_limex limex).reach b x },
@@ -53,9 +55,22 @@ pub struct PositionEngine {
     ghost rows_are: { ∥ AreMovesRows (moves_of_limex limex) (map row_sets rows.items) ∥₁ },
     ghost last_has: { (x b : ℕ) (c : Context) → b < 256 → (moves_of_limex limex).accepts c x ≡ true →
         (moves_of_limex limex).reach b x ≡ true → has last b ≡ true },
+    ghost living_has: { (x b : ℕ) → b < 256 → (moves_of_limex limex).reach b x ≡ true → has living b ≡ true },
+}
+
+/// The bytes of all the sets.
+fn bytes_of_any(sets: &[ByteSet]) -> ByteSet
+    ensures { (x b : ℕ) → b < 256 → in_set (slice_get sets.now x) b ≡ true → has result b ≡ true }
+{
+    let mut any = ByteSet::EMPTY;
+    for set in sets {
+        any = any.union(set);
+    }
+    any
 }
 
 impl PositionEngine {
+    ghost use Rattle.hs_base.specs.Bits.{AreZero};
     ghost use Rattle.hs_base.specs.Fields.{Leaves};
     ghost use Rattle.hs_base.specs.Trees.{Tree};
     ghost use Rattle.hs_engine.specs.Tables.{Runs};
@@ -76,12 +91,14 @@ impl PositionEngine {
         let rows = rows_of(alloc, automaton)?;
         // By the masks for accepting it gives the last bytes of matches, as by those for entering the first.
         let last = first_bytes(automaton.sets(), automaton.accepts());
+        let living = bytes_of_any(automaton.sets());
         Ok(PositionEngine {
             limex,
             streams,
             behind,
             rows,
             last,
+            living,
         })
     }
 
@@ -104,6 +121,20 @@ impl PositionEngine {
             has result b ≡ true }
     {
         self.last
+    }
+
+    /// The bytes behind which something of it may be live: behind each other one its region is all 0.
+    pub fn living_bytes(&self) -> ByteSet
+        ensures { (region : List ℕ) (tree : Tree) (u : List ℕ) (b : ℕ) (entered : List Bool) →
+            (meaning_of_positions self.now).is_for tree →
+            length entered ≡ length u + 1 →
+            b < 256 →
+            has result b ≡ false →
+            length region ≡ (meaning_of_positions self.now).width →
+            AreZero region →
+            (meaning_of_positions self.now).field region tree (u ++ b ∷ []) entered }
+    {
+        self.living
     }
 
     /// Takes a block at once; None where that doesn't serve, and then all is as before.

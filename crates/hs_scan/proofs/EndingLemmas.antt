@@ -13,7 +13,9 @@ use Rattle.hs_base.specs.Settling.{Ends, HasEndHere, IsLeftToEnd, settled}
 use Rattle.hs_engine.specs.Engines.{Meaning}
 use Rattle.hs_reports.specs.EndTables.{EndTable, words_of}
 use Rattle.hs_reports.specs.Heard.{AreSureEnds}
-use Rattle.hs_reports.specs.Settlement.{AreBlockEnds, AreKnown, known_at}
+use Rattle.hs_reports.specs.Chunks.{AreChunkEnds as AreEndsAbout}
+use Rattle.hs_reports.specs.Settlement.{AreKnown, known_at}
+use Rattle.hs_reports.specs.Terminals.{ends_by_words}
 use Rattle.hs_reports.specs.WordBits.{word_bit}
 use Rattle.hs_reports.specs.declared.identifier.Identifier.{Identifier}
 use Rattle.hs_reports.proofs.HeardLemmas.{byte-leaves}
@@ -37,19 +39,19 @@ module _ {E : Type 0} (meaning : E → Meaning) (graph : Graph E) (sound : AreTe
       (is_ended graph lefts at p ≡ true) ↔ HasEndHere plan.patterns x.id.0 u next
   ended-tells u next lefts at p x offset are there =
       let left =
-      each-map (λ t. (t.identifier < length graph.identifiers.items) × (t.node < length graph.table.nodes.items + 1)) (λ t. (word_bit (lefts t.node) 0 ≡ true) ↔ LeavesAt (runs.pieces t.node) u next) graph.terminals.items
-      (λ t known. are t.node known.1) sound.known in (
-        told-end runs.pieces plan.identifiers plan.patterns graph.terminals.items runs.is_plan.identifiers runs.terminals runs.spans lefts u next at 0 offset left p x.id.0 (named p x there),
-        end-told runs.pieces plan.identifiers plan.patterns graph.terminals.items runs.is_plan.identifiers runs.terminals runs.spans lefts u next at 0 offset left p x.id.0 (named p x there),
+      each-map (λ t. (t.identifier < length graph.identifiers.items) × (t.node < length graph.table.nodes.items + 1)) (λ t. true ≡ true → (word_bit (lefts t.node) 0 ≡ true) ↔ LeavesAt (runs.pieces t.node) u next) graph.terminals.items
+      (λ t known all. are t.node known.1) sound.known in (
+        told-end runs.pieces plan.identifiers plan.patterns graph.terminals.items runs.is_plan.identifiers runs.terminals runs.spans lefts u next at 0 offset (λ q. true) left p x.id.0 refl (named p x there),
+        end-told runs.pieces plan.identifiers plan.patterns graph.terminals.items runs.is_plan.identifiers runs.terminals runs.spans lefts u next at 0 offset (λ q. true) left p x.id.0 refl (named p x there),
       )
 
   -- A line feed leaves to the end what the row tells.
-  pub line_feed-left : (u told here last : List ℕ) (table finals : EndTable) → AreKnown plan.patterns u graph.identifiers.items told here → AreBlockEnds plan.patterns u (line_feed ∷ []) graph.identifiers.items table →
+  pub line_feed-left : (u told here last : List ℕ) (table finals : EndTable) → AreKnown plan.patterns u graph.identifiers.items told here → ((p : ℕ) (x : Identifier) → slice_get graph.identifiers.items p ≡ Some x → AreEndsAbout plan.patterns u (line_feed ∷ []) x.id.0 (ends_by_words (words_of table p).before (words_of table p).behind)) →
       AreEndsBehind graph.identifiers.items plan.patterns u after.FinalNewline finals → AreLeftByLineFeed graph.identifiers.items told here table finals last → AreLeftToEnd graph plan.patterns (u ++ line_feed ∷ []) last
   line_feed-left u told here last table finals known about ended row p x there =
       let id : ℕ = x.id.0 in
       let ends : Ends = record { before = word_bit (words_of table p).before 0; before_last = word_bit (words_of finals p).before 0; behind = word_bit (words_of table p).behind 0 } in
-      let own = about.ends p x there 0 (omega arith) in
+      let own = about p x there 0 (omega arith) in
       let sure : AreSureEnds plan.patterns u line_feed id ends = subst (λ v. AreSureEnds plan.patterns v line_feed id ends) (append-nil u) (record { before = own.before; behind = own.behind }) in
       let final = ended p x there in
       let leaves = byte-leaves plan.patterns u line_feed id (known_at told here p) ends (known.heard p x there) sure (λ set. (refl, final.0 set), λ (same, found). final.1 found) in

@@ -15,6 +15,7 @@ pub mod LineFeedLemmas
 pub mod ScratchLemmas
 pub mod FeedLemmas
 pub mod FinishLemmas
+pub mod SpendingLemmas
 pub mod TickLemmas
 pub mod WakingLemmas
 pub mod MadeLemmas

@@ -1,10 +1,11 @@
 -- A chunk of one line feed, and what it leaves to the end.
-use Rattle.std.proofs.Common.{◌≡◌, ℕ, ◌+◌, ◌*◌, ◌<◌, ◌≤◌, Bool, false, get_or, List, [], ◌∷◌, ◌++◌, length, take, sym, ap, subst, ◌∙◌, arith, append_assoc}
+use Rattle.std.proofs.Common.{◌≡◌, ℕ, ◌+◌, ◌*◌, ◌<◌, ◌≤◌, Bool, true, false, get_or, Some, slice_get, refl, List, [], ◌∷◌, ◌++◌, length, take, sym, ap, subst, ◌∙◌, arith, append_assoc}
 use Rattle.std.proofs.lemmas.List.{take_all, take_more}
 use Rattle.hs_base.specs.declared.context.Next.TheVariants as after
 use Rattle.hs_base.specs.declared.context.Prev.{Prev}
 use Rattle.hs_base.specs.Assertions.{line_feed}
 use Rattle.hs_base.specs.Bits.{has_word_bit}
+use Rattle.hs_base.specs.Lists.{Each}
 use Rattle.hs_base.specs.Literals.{LiteralByte}
 use Rattle.hs_base.specs.Told.{Pair, IsTold}
 use Rattle.hs_base.proofs.ListLemmas.{each-append}
@@ -18,17 +19,21 @@ use Rattle.hs_nodes.specs.declared.ends.ChunkEnds.{ChunkEnds}
 use Rattle.hs_nodes.specs.declared.graph.Graph.{Graph}
 use Rattle.hs_nodes.specs.declared.hits.ChunkHits.{ChunkHits}
 use Rattle.hs_nodes.proofs.ChunkLemmas.{front-none}
-use Rattle.hs_reports.specs.EndTables.{EndTable}
+use Rattle.hs_reports.specs.EndTables.{EndTable, words_of}
 use Rattle.hs_reports.specs.Identifiers.{numbers_of}
 use Rattle.hs_reports.specs.Pairs.{ArePairsOf}
 use Rattle.hs_reports.specs.Telling.{leaves_to_end}
-use Rattle.hs_reports.specs.Settlement.{AreBlockEnds, AreKnown}
+use Rattle.hs_reports.specs.Chunks.{AreChunkEnds as AreEndsAbout}
+use Rattle.hs_reports.specs.Settlement.{AreKnown}
+use Rattle.hs_reports.specs.Terminals.{ends_by_words}
+use Rattle.hs_reports.specs.declared.identifier.Identifier.{Identifier}
+use Rattle.hs_reports.specs.declared.terminal.Terminal.{Terminal}
 use Rattle.hs_scan.specs.Asking.{AsksEnds}
 use Rattle.hs_scan.specs.Scans.{AreHitsBehind, AreLeftToEnd, Scans, Stand, stand}
 use Rattle.hs_scan.specs.Telling.{IsTelling, TellsBlock, TellsChunk}
 use Rattle.hs_nodes.specs.Gathering.{AreGathered}
 use Rattle.hs_scan.specs.Writing.{AreLeftByLineFeed, LeavesLineFeed, LeavesLineFeedChunk, LeavesToEnd}
-use Rattle.hs_scan.proofs.BlockLemmas.{block-ends}
+use Rattle.hs_scan.proofs.BlockLemmas.{ends-of}
 use Rattle.hs_scan.proofs.EndingLemmas.{line_feed-left, other-left}
 use Rattle.hs_scan.proofs.ScanLemmas.{Stands, scans-join}
 
@@ -43,6 +48,10 @@ pub block-first : (bytes : List ℕ) → length bytes ≤ 64 → block bytes 0 �
 unfolding block
 block-first bytes few = take_all 64 bytes few
 
+each-always : (ts : List Terminal) → Each (λ t. true ≡ true → false ≡ false) ts
+each-always [] = tt
+each-always (t ∷ ts) = (λ same. refl, each-always ts)
+
 module _ {E : Type 0} (meaning : E → Meaning) (graph : Graph E) where
   -- by the ends that the nodes give
   pub line_feed-leaves : (sound : AreTerminalsSound graph) (bytes : List ℕ) (at : ℕ) (ends : List ChunkEnds) (all : ChunkEnds) (told here : List ℕ) (table finals : EndTable) (last : List ℕ) → bytes ≡ line_feed ∷ [] → AreGathered meaning graph ends all at 0 (length graph.table.nodes.items + 1) table →
@@ -50,13 +59,15 @@ module _ {E : Type 0} (meaning : E → Meaning) (graph : Graph E) where
   line_feed-leaves sound bytes at ends all told here table finals last is gathered row literals plan runs u offset are known final =
       let few : length bytes ≤ 64 = omega (arith, ap length is) in
       let own : block bytes 0 ≡ line_feed ∷ [] = block-first bytes few ∙ is in
-      let about : AreBlockEnds plan.patterns (front u bytes 0) (block bytes 0) graph.identifiers.items table = block-ends meaning graph sound literals plan runs u bytes ends all are 0 (omega arith) (omega (arith, ap length own)) at table offset (omega arith) gathered in
-      let about' : AreBlockEnds plan.patterns u (line_feed ∷ []) graph.identifiers.items table = subst (λ v. AreBlockEnds plan.patterns v (line_feed ∷ []) graph.identifiers.items table) (front-none u bytes) (subst (λ bs. AreBlockEnds plan.patterns (front u bytes 0) bs graph.identifiers.items table) own about) in
-      subst (λ bs. AreLeftToEnd graph plan.patterns (u ++ bs) last) (sym is) (line_feed-left meaning graph sound literals plan runs u told here last table finals known about' final row)
+      let about : (p : ℕ) (x : Identifier) → slice_get graph.identifiers.items p ≡ Some x → AreEndsAbout plan.patterns u (line_feed ∷ []) x.id.0 (ends_by_words (words_of table p).before (words_of table p).behind) =
+      λ p x there. subst (λ v. AreEndsAbout plan.patterns v (line_feed ∷ []) x.id.0 (ends_by_words (words_of table p).before (words_of table p).behind)) (front-none u bytes)
+      (subst (λ bs. AreEndsAbout plan.patterns (front u bytes 0) bs x.id.0 (ends_by_words (words_of table p).before (words_of table p).behind)) own
+      (ends-of meaning graph sound literals plan runs u bytes ends all (λ k. false) are 0 (omega arith) (omega (arith, ap length own)) (λ q. true) (each-always graph.terminals.items) at table offset (omega arith) gathered p x there refl)) in
+      subst (λ bs. AreLeftToEnd graph plan.patterns (u ++ bs) last) (sym is) (line_feed-left meaning graph sound literals plan runs u told here last table finals known about final row)
 
   -- by what is kept of the nodes
   pub line_feed-chunk : (at : ℕ) (old new told here : List ℕ) (prev : Prev) (past bytes : List ℕ) (hits : List ChunkHits) (ends : List ChunkEnds) (all : ChunkEnds) (finals : EndTable) (last : List ℕ) → length ends ≡ length graph.table.nodes.items → ((u : List ℕ) → AreLeftIn [] u bytes all) →
-      TakesNodes meaning graph.table old new prev at past bytes hits ends → LeavesLineFeed meaning graph bytes at ends all told here finals last → LeavesLineFeedChunk meaning graph old prev at past bytes hits told here finals last
+      TakesNodes meaning graph.table (λ k. false) old new prev at past bytes hits ends → LeavesLineFeed meaning graph bytes at ends all told here finals last → LeavesLineFeedChunk meaning graph old prev at past bytes hits told here finals last
   line_feed-chunk at old new told here prev past bytes hits ends all finals last count everywhere takes leaves literals plan runs u stands past_is small are before known final =
       let run = takes literals runs.pieces u runs.nodes stands past_is small are before in
       leaves literals plan runs u stands.offset (record { count = count; left = run.left; everywhere = everywhere u }) known final
@@ -85,9 +96,9 @@ first-tells meaning graph bytes at ends all told here told' here' pairs is first
       pairs_are =
           subst (λ bs. ArePairsOf ids at (at + length bs) pairs) (block-first bytes few)
           (subst (λ n. ArePairsOf ids n (n + length (block bytes 0)) pairs) at_is first.pairs_are);
-      tells = λ literals plan runs u list offset are known told_is.
+      tells = λ literals plan runs u list spent offset of are known told_is.
           let front_is : front u bytes 0 ≡ u = front-none u bytes in
-          let one = first.tells literals plan runs u list offset are (subst (λ v. AreKnown plan.patterns v graph.identifiers.items told here) (sym front_is) known) (subst (λ v. IsTold plan.patterns v list) (sym front_is) told_is) in
+          let one = first.tells literals plan runs u list spent offset of are (subst (λ v. AreKnown plan.patterns v graph.identifiers.items told here) (sym front_is) known) (subst (λ v. IsTold plan.patterns v list) (sym front_is) told_is) in
           subst (λ bs. IsTelling plan.patterns u bs pairs (λ v. AreKnown plan.patterns v graph.identifiers.items told' here')) (block-first bytes few)
           (subst (λ v. IsTelling plan.patterns v (block bytes 0) pairs (λ w. AreKnown plan.patterns w graph.identifiers.items told' here')) front_is one);
     }

@@ -1,5 +1,5 @@
 -- Scans join, and lead from the region of a stream to that of the longer one.
-use Rattle.std.proofs.Common.{◌≡◌, ℕ, ◌+◌, ◌-◌, ◌<◌, ◌≤◌, List, [], ◌++◌, length, take, drop, sym, ap, subst, ◌∙◌, arith, append_assoc, length-append}
+use Rattle.std.proofs.Common.{◌≡◌, ℕ, ◌+◌, ◌-◌, ◌<◌, ◌≤◌, Bool, List, [], ◌++◌, length, take, drop, sym, ap, subst, ◌∙◌, arith, append_assoc, length-append}
 use Rattle.std.specs.Prelude.{slice_range}
 use Rattle.std.proofs.Math.Seq.{take-add}
 use Rattle.std.proofs.lemmas.List.{append-nil}
@@ -28,7 +28,7 @@ use Rattle.hs_scan.specs.Feeding.{Feeds}
 use Rattle.hs_keeping.specs.Keeping.{AreRead, IsSpareBit}
 use Rattle.hs_nodes.specs.Graphs.{RunsPlan, plan_layout}
 use Rattle.hs_scan.specs.Scans.{AreHitsBehind, AreLeftToEnd, IsReached, IsWritten, Scans, ScansChunk, Stand, stand}
-use Rattle.hs_scan.specs.Telling.{TellsChunk}
+use Rattle.hs_scan.specs.Telling.{AreOfSpent, TellsChunk}
 use Rattle.hs_nodes.specs.declared.graph.Graph.{Graph}
 use Rattle.hs_scan.proofs.RegionLemmas.{reached-begin, region-end, spares-unset}
 
@@ -38,14 +38,14 @@ Stands at past prev = (u : List ℕ) → at ≡ length u → past ≡ last_bytes
 
 module _ {E : Type 0} (meaning : E → Meaning) (graph : Graph E) where
   -- A chunk, by the nodes and then by what it tells.
-  pub chunk-takes : (at : ℕ) (old new told here told' here' : List ℕ) (prev : Prev) (past bytes : List ℕ) (hits : List ChunkHits) (ends : List ChunkEnds) (all : ChunkEnds) (pairs : List Pair) →
-      length ends ≡ length graph.table.nodes.items → ((u : List ℕ) → AreLeftIn [] u bytes all) → TakesNodes meaning graph.table old new prev at past bytes hits ends → TellsChunk meaning graph bytes at ends all told here told' here' pairs →
+  pub chunk-takes : (at : ℕ) (old new told here told' here' : List ℕ) (prev : Prev) (past bytes : List ℕ) (hits : List ChunkHits) (ends : List ChunkEnds) (all : ChunkEnds) (pairs : List Pair) (spent : ℕ → Bool) → AreOfSpent graph told spent →
+      length ends ≡ length graph.table.nodes.items → ((u : List ℕ) → AreLeftIn [] u bytes all) → TakesNodes meaning graph.table spent old new prev at past bytes hits ends → TellsChunk meaning graph bytes at ends all told here told' here' pairs →
       ScansChunk meaning graph old new prev at past bytes hits told here told' here' pairs
-  chunk-takes at old new told here told' here' prev past bytes hits ends all pairs count everywhere takes chunk = record {
+  chunk-takes at old new told here told' here' prev past bytes hits ends all pairs spent of count everywhere takes chunk = record {
     pairs_are = chunk.pairs_are;
     scans = λ literals plan runs u list stands past_is small are before known told_is.
         let run = takes literals runs.pieces u runs.nodes stands past_is small are before in
-        let telling = chunk.tells literals plan runs u list stands.offset (record { count = count; left = run.left; everywhere = everywhere u }) known told_is in
+        let telling = chunk.tells literals plan runs u list spent stands.offset of (record { count = count; left = run.left; everywhere = everywhere u }) known told_is in
         record { held = run.held; known = telling.known; new_are = telling.new };
   }
 

@@ -1,6 +1,6 @@
 -- What is known of the identifiers within a write, and room for it.
-use Rattle.std.specs.Prelude.{◌≡◌, ℕ, ◌+◌, ◌≤◌, List, length}
-use Rattle.hs_base.specs.Bits.{word_count}
+use Rattle.std.specs.Prelude.{◌≡◌, ℕ, ◌+◌, ◌≤◌, true, List, length}
+use Rattle.hs_base.specs.Bits.{has_word_bit, word_count}
 use Rattle.hs_base.specs.Lists.{Each, IsMember}
 use Rattle.hs_reports.specs.EndTables.{HasNoEnds}
 use Rattle.hs_reports.specs.Identifiers.{id_numbers, numbers_of}
@@ -27,3 +27,4 @@ pub record SettlesKnown (identifiers : List Identifier) (last : ℕ) (old new : 
   pub named : Each (λ id. IsMember id (numbers_of identifiers)) (id_numbers new.tellings.ids)
   pub settles : SettlesBlock identifiers (last + 1) old.ends old.told.items old.here.items new.told.items new.here.items
       new.tellings
+  pub keeps : (p : ℕ) → has_word_bit old.told.items p ≡ true → has_word_bit new.told.items p ≡ true

@@ -6,6 +6,7 @@ pub mod Asking
 pub mod Ending
 pub mod Past
 pub mod Scratches
+pub mod Spending
 pub mod Hits
 pub mod Copying
 pub mod Writing

@@ -1,5 +1,5 @@
 -- The beginning of a write, and what its last byte leaves to the end.
-use Rattle.std.specs.Prelude.{◌≡◌, ℕ, ◌<◌, List, ◌++◌, length, Some, slice_get, slice_range}
+use Rattle.std.specs.Prelude.{◌≡◌, ℕ, ◌<◌, false, List, ◌++◌, length, Some, slice_get, slice_range}
 use Rattle.hs_base.specs.declared.context.Next.TheVariants as after
 use Rattle.hs_base.specs.declared.context.Prev.{Prev}
 use Rattle.hs_base.specs.Bits.{has_word_bit}
@@ -65,7 +65,7 @@ module _ {E : Type 0} (meaning : E → Meaning) (graph : Graph E) where
   LeavesLineFeed bytes at ends all told here finals last =
       (literals : List (List LiteralByte)) (plan : Plan) (runs : RunsPlan meaning graph literals plan) (u : List ℕ) →
       at ≡ length u →
-      AreChunkEnds meaning graph runs.pieces u bytes ends all →
+      AreChunkEnds meaning graph (λ k. false) runs.pieces u bytes ends all →
       AreKnown plan.patterns u graph.identifiers.items told here →
       AreEndsBehind graph.identifiers.items plan.patterns u after.FinalNewline finals →
       AreLeftToEnd graph plan.patterns (u ++ bytes) last

@@ -5,6 +5,7 @@ ghost use Rattle.hs_base.specs.Offsets.{greatest_offset};
 ghost use Rattle.hs_base.specs.Regions.{region_offset};
 ghost use Rattle.hs_literals.specs.Held.{held};
 ghost use Rattle.hs_nodes.specs.Graphs.{IsGraphSound};
+ghost use Rattle.hs_nodes.specs.Lone.{AreLoneNodes};
 ghost use Rattle.hs_reports.specs.Events.{Takes};
 ghost use Rattle.hs_scan.specs.NodeCaches.{IsNodeCacheOf};
 ghost use Rattle.hs_scan.specs.Feeding.{Feeds, GoesOnAlike};
@@ -33,6 +34,7 @@ pub fn scan<E: BlockEngine + TimelessEngine, V: Events, L: Ledger>(
     steps: &mut Steps<L>,
 )
     requires sound { IsGraphSound E.meaning tables.now.graph.now (held tables.now.literals.now) tables.now.layout.now }
+    requires lone { AreLoneNodes E.meaning tables.now.graph.now tables.now.lone.now }
     requires region { FitsRegion E.meaning tables.now.graph.now tables.now.layout.now region.old }
     requires idle { IsIdle scratch.old }
     requires scratch { ServesGraph tables.now.graph.now (length (held tables.now.literals.now)) scratch.old }

@@ -7,6 +7,7 @@ ghost use Rattle.hs_base.specs.Bits.{has_word_bit};
 ghost use Rattle.hs_layout.specs.Layouts.{laid_size};
 ghost use Rattle.hs_literals.specs.Held.{held};
 ghost use Rattle.hs_nodes.specs.Graphs.{IsGraphSound};
+ghost use Rattle.hs_nodes.specs.Lone.{AreLoneNodes};
 ghost use Rattle.hs_nodes.specs.Walks.{IsOutside};
 ghost use Rattle.hs_reports.specs.EndTables.{HasNoEnds};
 ghost use Rattle.hs_reports.specs.Events.{Takes};
@@ -40,6 +41,7 @@ fn scan_asked<E: BlockEngine + TimelessEngine, V: Events, L: Ledger>(
     steps: &mut Steps<L>,
 )
     requires sound { IsGraphSound E.meaning tables.now.graph.now (held tables.now.literals.now) tables.now.layout.now }
+    requires lone { AreLoneNodes E.meaning tables.now.graph.now tables.now.lone.now }
     requires sized { length region.old ≡ laid_size tables.now.layout.now }
     requires before { IsBetweenChunks E.meaning tables.now.graph.now scratch.old.at region.old cache.old scratch.old }
     requires rows { scratch.old.rows.count ≡ length (held tables.now.literals.now) }
@@ -71,7 +73,16 @@ fn scan_asked<E: BlockEngine + TimelessEngine, V: Events, L: Ledger>(
         prev: prev_of(scratch.at, &past),
         at: scratch.at,
     };
-    run_line_feed(tables.graph, region, cache, scratch, &chunk, events, steps);
+    run_line_feed(
+        tables.graph,
+        region,
+        cache,
+        scratch,
+        tables.lone,
+        &chunk,
+        events,
+        steps,
+    );
     forget(scratch);
     push_past(&mut scratch.past, &LINE_FEED);
     scratch.at += 1;
@@ -87,6 +98,7 @@ fn scan_line_feed<E: BlockEngine + TimelessEngine, V: Events, L: Ledger>(
     steps: &mut Steps<L>,
 )
     requires sound { IsGraphSound E.meaning tables.now.graph.now (held tables.now.literals.now) tables.now.layout.now }
+    requires lone { AreLoneNodes E.meaning tables.now.graph.now tables.now.lone.now }
     requires sized { length region.old ≡ laid_size tables.now.layout.now }
     requires before { IsBetweenChunks E.meaning tables.now.graph.now scratch.old.at region.old cache.old scratch.old }
     requires rows { scratch.old.rows.count ≡ length (held tables.now.literals.now) }
@@ -135,6 +147,7 @@ fn scan_to_line_feed<E: BlockEngine + TimelessEngine, V: Events, L: Ledger>(
     steps: &mut Steps<L>,
 )
     requires sound { IsGraphSound E.meaning tables.now.graph.now (held tables.now.literals.now) tables.now.layout.now }
+    requires lone { AreLoneNodes E.meaning tables.now.graph.now tables.now.lone.now }
     requires sized { length region.old ≡ laid_size tables.now.layout.now }
     requires before { IsBetweenChunks E.meaning tables.now.graph.now scratch.old.at region.old cache.old scratch.old }
     requires rows { scratch.old.rows.count ≡ length (held tables.now.literals.now) }
@@ -182,6 +195,7 @@ fn scan_to_other<E: BlockEngine + TimelessEngine, V: Events, L: Ledger>(
     steps: &mut Steps<L>,
 )
     requires sound { IsGraphSound E.meaning tables.now.graph.now (held tables.now.literals.now) tables.now.layout.now }
+    requires lone { AreLoneNodes E.meaning tables.now.graph.now tables.now.lone.now }
     requires sized { length region.old ≡ laid_size tables.now.layout.now }
     requires before { IsBetweenChunks E.meaning tables.now.graph.now scratch.old.at region.old cache.old scratch.old }
     requires rows { scratch.old.rows.count ≡ length (held tables.now.literals.now) }
@@ -220,6 +234,7 @@ pub(crate) fn scan_write<E: BlockEngine + TimelessEngine, V: Events, L: Ledger>(
     steps: &mut Steps<L>,
 )
     requires sound { IsGraphSound E.meaning tables.now.graph.now (held tables.now.literals.now) tables.now.layout.now }
+    requires lone { AreLoneNodes E.meaning tables.now.graph.now tables.now.lone.now }
     requires sized { length region.old ≡ laid_size tables.now.layout.now }
     requires before { IsBetweenChunks E.meaning tables.now.graph.now scratch.old.at region.old cache.old scratch.old }
     requires rows { scratch.old.rows.count ≡ length (held tables.now.literals.now) }

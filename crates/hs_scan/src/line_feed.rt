@@ -6,6 +6,7 @@ ghost use Rattle.hs_base.specs.Bits.{has_word_bit, word_count};
 ghost use Rattle.hs_literals.specs.HitTables.{has_hit};
 ghost use Rattle.hs_nodes.specs.Graphs.{AreTerminalsSound};
 ghost use Rattle.hs_nodes.specs.Left.{nowhere};
+ghost use Rattle.hs_nodes.specs.Lone.{AreLoneNodes};
 ghost use Rattle.hs_bits.specs.Marks.{is_marked, mark_room};
 ghost use Rattle.hs_nodes.specs.Walks.{IsOutside, node_ends};
 ghost use Rattle.hs_reports.specs.EndTables.{HasNoEnds, words_of};
@@ -26,7 +27,7 @@ use crate::scratch::Scratch;
 use hs_bits::{contains_word_bit, write_word_bit};
 use hs_block::BlockEngine;
 use hs_engine::{Steps, TimelessEngine};
-use hs_nodes::{Chunk, ChunkEnds, Graph, everywhere, gather_block, settle};
+use hs_nodes::{Chunk, ChunkEnds, Graph, LoneNodes, everywhere, gather_block, settle};
 use hs_reports::{Events, Identifier, IdentifierEnds, is_left_to_end};
 use std::sync::ledger::Ledger;
 
@@ -136,12 +137,14 @@ pub(crate) fn run_line_feed<E: BlockEngine + TimelessEngine, V: Events, L: Ledge
     region: &mut [u8],
     cache: &mut NodeCache,
     scratch: &mut Scratch,
+    lone: &LoneNodes,
     chunk: &Chunk,
     events: &mut V,
     steps: &mut Steps<L>,
 )
     requires runs { MayRunNodes E.meaning graph.now scratch.old.rows.count (length region.old) }
     requires before { IsBetweenChunks E.meaning graph.now chunk.now.at region.old cache.old scratch.old }
+    requires lone { AreLoneNodes E.meaning graph.now lone.now }
     requires bytes { chunk.now.bytes.now ≡ line_feed ∷ [] }
     requires others { (k : ℕ) → has_hit scratch.old.rows k ≡ false → HasNowhere scratch.old.hits.items k }
     ensures len { length region.new ≡ length region.old }
@@ -159,7 +162,7 @@ pub(crate) fn run_line_feed<E: BlockEngine + TimelessEngine, V: Events, L: Ledge
         chunk.now.bytes.now scratch.old.hits.items scratch.old.course.known.told.items
         scratch.old.course.known.here.items scratch.old.finals scratch.new.last.items }
 {
-    run_nodes(graph, region, cache, scratch, false, chunk, steps);
+    run_nodes(graph, region, cache, scratch, false, lone, chunk, steps);
     let all = everywhere(chunk);
     tell_line_feed(graph, scratch, chunk, &all, events);
     let marks = &mut scratch.course.marks;

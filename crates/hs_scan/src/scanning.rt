@@ -5,6 +5,7 @@ ghost use Rattle.hs_base.specs.Lists.{Each};
 ghost use Rattle.hs_layout.specs.Layouts.{laid_size};
 ghost use Rattle.hs_literals.specs.Held.{held};
 ghost use Rattle.hs_literals.specs.HitTables.{has_hit};
+ghost use Rattle.hs_nodes.specs.Lone.{AreLoneNodes};
 ghost use Rattle.hs_nodes.specs.Walks.{IsOutside};
 ghost use Rattle.hs_nodes.specs.Openings.{AreOver};
 ghost use Rattle.hs_reports.specs.Events.{Takes};
@@ -23,14 +24,14 @@ use crate::scratch::{Scratch, find_hits, forget};
 use crate::tables::Tables;
 use hs_block::BlockEngine;
 use hs_engine::{Steps, TimelessEngine};
-use hs_nodes::{Chunk, Graph, MAX_CHUNK, everywhere, settle};
+use hs_nodes::{Chunk, MAX_CHUNK, everywhere, settle};
 use hs_reports::Events;
 use std::sync::ledger::Ledger;
 
 /// Takes a chunk, of which the scratch has where the literals end in it: the nodes, and then the reports. Nothing is
 /// live then in the nodes that aren't marked.
 fn run_chunk<E: BlockEngine + TimelessEngine, V: Events, L: Ledger>(
-    graph: &Graph<E>,
+    tables: &Tables<E>,
     region: &mut [u8],
     cache: &mut NodeCache,
     scratch: &mut Scratch,
@@ -39,26 +40,37 @@ fn run_chunk<E: BlockEngine + TimelessEngine, V: Events, L: Ledger>(
     events: &mut V,
     steps: &mut Steps<L>,
 )
-    requires runs { MayRunNodes E.meaning graph.now scratch.old.rows.count (length region.old) }
-    requires before { IsBetweenChunks E.meaning graph.now chunk.now.at region.old cache.old scratch.old }
+    requires runs { MayRunNodes E.meaning tables.now.graph.now scratch.old.rows.count (length region.old) }
+    requires before { IsBetweenChunks E.meaning tables.now.graph.now chunk.now.at region.old cache.old scratch.old }
     requires small { Each (λ b. b < 256) chunk.now.bytes.now }
     requires others { (k : ℕ) → has_hit scratch.old.rows k ≡ false → HasNowhere scratch.old.hits.items k }
-    requires over { are_over ≡ true → AreOver graph.now.openings chunk.now.at scratch.old.course.marks }
+    requires lone { AreLoneNodes E.meaning tables.now.graph.now tables.now.lone.now }
+    requires over { are_over ≡ true → AreOver tables.now.graph.now.openings chunk.now.at scratch.old.course.marks }
     ensures len { length region.new ≡ length region.old }
-    ensures outside { (i : ℕ) → IsOutside graph.now.table.nodes.items i →
+    ensures outside { (i : ℕ) → IsOutside tables.now.graph.now.table.nodes.items i →
         slice_index region.new i ≡ slice_index region.old i }
-    ensures behind { IsBetweenChunks E.meaning graph.now (chunk.now.at + length chunk.now.bytes.now) region.new
-        cache.new scratch.new }
+    ensures behind { IsBetweenChunks E.meaning tables.now.graph.now (chunk.now.at + length chunk.now.bytes.now)
+        region.new cache.new scratch.new }
     ensures ticks { steps.new ≤
-        steps.old + 16 * (length graph.now.table.nodes.items * (length chunk.now.bytes.now + 1)) }
+        steps.old + 16 * (length tables.now.graph.now.table.nodes.items * (length chunk.now.bytes.now + 1)) }
     ensures keeps { KeepsTables scratch.old scratch.new }
-    ensures scans { Takes V.tells events.old events.new (ScansChunk E.meaning graph.now region.old region.new
+    ensures scans { Takes V.tells events.old events.new (ScansChunk E.meaning tables.now.graph.now region.old region.new
         chunk.now.prev chunk.now.at chunk.now.past.now chunk.now.bytes.now
-        (sought are_over graph.now.openings scratch.old.hits.items) scratch.old.course.known.told.items
+        (sought are_over tables.now.graph.now.openings scratch.old.hits.items) scratch.old.course.known.told.items
         scratch.old.course.known.here.items scratch.new.course.known.told.items
         scratch.new.course.known.here.items) }
 {
-    run_nodes(graph, region, cache, scratch, are_over, chunk, steps);
+    let graph = tables.graph;
+    run_nodes(
+        graph,
+        region,
+        cache,
+        scratch,
+        are_over,
+        tables.lone,
+        chunk,
+        steps,
+    );
     let all = everywhere(chunk);
     tell_chunk(
         graph,
@@ -84,6 +96,7 @@ pub(crate) fn scan_chunk<E: BlockEngine + TimelessEngine, V: Events, L: Ledger>(
     steps: &mut Steps<L>,
 )
     requires sound { IsGraphSound E.meaning tables.now.graph.now (held tables.now.literals.now) tables.now.layout.now }
+    requires lone { AreLoneNodes E.meaning tables.now.graph.now tables.now.lone.now }
     requires sized { length region.old ≡ laid_size tables.now.layout.now }
     requires before { IsBetweenChunks E.meaning tables.now.graph.now scratch.old.at region.old cache.old scratch.old }
     requires rows { scratch.old.rows.count ≡ length (held tables.now.literals.now) }
@@ -113,14 +126,7 @@ pub(crate) fn scan_chunk<E: BlockEngine + TimelessEngine, V: Events, L: Ledger>(
         at: scratch.at,
     };
     run_chunk(
-        tables.graph,
-        region,
-        cache,
-        scratch,
-        are_over,
-        &chunk,
-        events,
-        steps,
+        tables, region, cache, scratch, are_over, &chunk, events, steps,
     );
     forget(scratch);
     push_past(&mut scratch.past, bytes);
@@ -138,6 +144,7 @@ pub(crate) fn scan_bytes<E: BlockEngine + TimelessEngine, V: Events, L: Ledger>(
     steps: &mut Steps<L>,
 )
     requires sound { IsGraphSound E.meaning tables.now.graph.now (held tables.now.literals.now) tables.now.layout.now }
+    requires lone { AreLoneNodes E.meaning tables.now.graph.now tables.now.lone.now }
     requires sized { length region.old ≡ laid_size tables.now.layout.now }
     requires before { IsBetweenChunks E.meaning tables.now.graph.now scratch.old.at region.old cache.old scratch.old }
     requires rows { scratch.old.rows.count ≡ length (held tables.now.literals.now) }

@@ -10,11 +10,11 @@ ghost use Rattle.hs_scan.specs.Hits.{sought};
 use hs_bits::MarkSet;
 use hs_layout::Layout;
 use hs_literals::Literals;
-use hs_nodes::Graph;
+use hs_nodes::{Graph, LoneNodes};
 
 /// What a scan reads and never writes.
 #[derive(Drop)]
-pub struct Tables<'g, 'l, 'o, 'p, E> {
+pub struct Tables<'g, 'l, 'o, 'n, 'p, E> {
     /// The nodes, and what tells where matches end.
     pub graph: &'g Graph<E>,
     /// The literals that are looked for.
@@ -22,13 +22,15 @@ pub struct Tables<'g, 'l, 'o, 'p, E> {
     /// Those of them that last: that are looked for where the chains are over that begin where the stream does. None
     /// where all do.
     pub lasting: Option<&'o Literals>,
+    /// The nodes that one single identifier has for itself.
+    pub lone: &'n LoneNodes,
     /// Where the parts of a region lie.
     pub layout: &'p Layout,
     ghost lasting_are: { ForSome lasting
         (λ own. held own.now ≡ lasting_literals graph.now.openings (held literals.now)) },
 }
 
-impl<E> Tables<'_, '_, '_, '_, E> {
+impl<E> Tables<'_, '_, '_, '_, '_, E> {
     /// Whether the chains are over that begin where the stream does, behind so many bytes, where nothing is live in the
     /// nodes that aren't marked; never where all literals last.
     pub(crate) fn are_over(&self, at: u64, marks: &MarkSet) -> bool

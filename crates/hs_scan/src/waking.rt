@@ -16,7 +16,7 @@ use hs_bits::MarkSet;
 use hs_engine::TimelessEngine;
 use hs_lazy::Cache;
 use hs_literals::HitRows;
-use hs_nodes::{Chunk, Graph, run_cached, wake_engines, wake_literal};
+use hs_nodes::{Chunk, Graph, Spent, run_cached, wake_engines, wake_literal};
 use hs_waking::{ClassWords, Starts};
 
 /// Marks the nodes that the literals wake that end in a chunk.
@@ -47,6 +47,7 @@ pub(crate) fn wake<E: TimelessEngine>(
     region: &[u8],
     words: &mut ClassWords,
     cache: &mut Cache,
+    spent: &Spent,
     starts: &mut Starts,
     marks: &mut MarkSet,
 )
@@ -68,5 +69,5 @@ pub(crate) fn wake<E: TimelessEngine>(
 {
     run_cached(&graph.table, chunk.prev, chunk.bytes, region, cache, marks);
     wake_literals(graph, rows, marks);
-    wake_engines(graph, chunk, words, cache, starts, marks);
+    wake_engines(graph, chunk, words, cache, spent, starts, marks);
 }

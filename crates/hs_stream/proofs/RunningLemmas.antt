@@ -6,12 +6,14 @@ use Rattle.hs_base.specs.Literals.{LiteralByte}
 use Rattle.hs_base.specs.Regions.{Plan, IsWellFormed, region_offset}
 use Rattle.hs_base.specs.Told.{Pair}
 use Rattle.hs_base.proofs.ListLemmas.{each-append}
-use Rattle.hs_compile.specs.Databases.{Compiled, IsDatabaseOf, IsWholeDatabase, graph_of, lasting_in, layout_of, literals_in, packing_of}
+use Rattle.hs_compile.specs.Databases.{Compiled, IsDatabaseOf, IsWholeDatabase, graph_of, lasting_in, layout_of, literals_in, lone_in, packing_of}
 use Rattle.hs_layout.specs.Layouts.{Laid}
 use Rattle.hs_literals.specs.Held.{held}
 use Rattle.hs_literals.specs.declared.literals.Literals.{Literals}
+use Rattle.hs_nodes.specs.Lone.{AreLoneNodes}
 use Rattle.hs_nodes.specs.Openings.{lasting_literals}
 use Rattle.hs_nodes.specs.declared.graph.Graph.{Graph}
+use Rattle.hs_nodes.specs.declared.lone.LoneNodes.{LoneNodes}
 use Rattle.hs_reports.specs.Events.{Takes}
 use Rattle.hs_reports.specs.Identifiers.{numbers_of}
 use Rattle.hs_reports.specs.Pairs.{ArePairsOf}
@@ -44,6 +46,11 @@ lasting-lent db lasting graph literals graph_is literals_are whole some own is =
     let at : lasting_in db ≡ Some own.now = subst (λ (o : Option (Bor Literals)). IfSome o (λ x. lasting_in db ≡ Some x.now)) is some in
     let are = subst (λ (o : Option Literals). IfSome o (λ x. held x ≡ lasting_literals (graph_of db).openings (held (literals_in db)))) at whole.is_of.lasting in
     are ∙ (ap (λ (x : Graph PieceEngine). lasting_literals x.openings (held (literals_in db))) (sym graph_is) ∙ ap (λ ls. lasting_literals graph.openings (held ls)) (sym literals_are))
+
+-- The lone nodes are those of the database, too.
+pub lone-lent : (db : Compiled) (lone : LoneNodes) (graph : Graph PieceEngine) → graph ≡ graph_of db → lone ≡ lone_in db → IsWholeDatabase db → AreLoneNodes piece_meaning graph lone
+lone-lent db lone graph graph_is lone_is whole =
+    subst (λ (x : Graph PieceEngine). AreLoneNodes piece_meaning x lone) (sym graph_is) (subst (λ (x : LoneNodes). AreLoneNodes piece_meaning (graph_of db) x) (sym lone_is) whole.is_of.lone)
 
 -- The same of what is lent as of the database.
 pub as-lent : {db : Compiled} {graph : Graph PieceEngine} {literals : Literals} {l : Laid} → AreLent db graph literals l →

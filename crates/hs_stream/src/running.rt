@@ -48,6 +48,7 @@ pub(crate) fn run_bytes<V: Events, L: Ledger>(
         graph: db.graph(),
         literals: db.literals(),
         lasting: db.lasting(),
+        lone: db.lone(),
         layout: db.layout(),
     };
     scan(&tables, region, states, scratch, bytes, events, steps);
@@ -73,6 +74,7 @@ pub(crate) fn run_end<V: Events, L: Ledger>(
         graph: db.graph(),
         literals: db.literals(),
         lasting: db.lasting(),
+        lone: db.lone(),
         layout: db.layout(),
     };
     finish(&tables, region, scratch, events, steps);

@@ -3,6 +3,7 @@ use Rattle.hs_nodes.specs.Cached.{IsToldKind}
 use Rattle.hs_nodes.specs.Contexts.{NeedsContexts}
 use Rattle.hs_nodes.specs.Left.{nowhere}
 use Rattle.hs_bits.specs.Marks.{is_marked, mark_room}
+use Rattle.hs_nodes.specs.Lone.{is_spent_node}
 use Rattle.hs_nodes.specs.Openings.{is_passed}
 use Rattle.hs_nodes.specs.Nodes.{IsWellPart}
 use Rattle.hs_nodes.specs.Sparing.{IsSpared}
@@ -11,7 +12,7 @@ use Rattle.hs_nodes.specs.declared.table.Node.{Node}
 use Rattle.hs_nodes.proofs.KindLemmas.{one-value, same-default}
 use Rattle.hs_nodes.proofs.NodeLemmas.{marks-none, there}
 use Rattle.hs_nodes.proofs.SpareLemmas.{literal-there}
-use Rattle.hs_nodes.proofs.WalkLemmas.{ticks-all, ticks-grow, ticks-more, walk-pass, walk-takes, walk-to, walk-visit, walk-well}
+use Rattle.hs_nodes.proofs.WalkLemmas.{lone-ticks, parent-asked, spent-lone, ticks-all, ticks-grow, ticks-more, walk-caught, walk-pass, walk-takes, walk-to, walk-visit, walk-well}
 use Rattle.hs_nodes.proofs.walking.walk.Goals as goal
 
 pub run_node-requires-clause-well : goal.run_node-requires-clause-well
@@ -49,7 +50,11 @@ loop-k-preserved-then-not-is_nowhere g c =
     let below : k < length table.nodes.items = inv.walk.more.below k c.in-Some.ensures.is in
     let own = there table.nodes.items k below in
     let pass = is_passed c.args.foretold.now.are_over c.args.foretold.now.openings.now in
-    let here = walk-to m table c.args.region.now c.args.marks.now chunk.prev chunk.at chunk.past.now chunk.bytes.now hits c.requires.sound.0 c.requires.sound.1 chunk.few pass c.requires.rests c.requires.others c.requires.passed c.loop-k.region c.loop-k.ends c.loop-k.marks c.loop-k.from (k - c.loop-k.from) k
+    let lone = c.args.foretold.now.spent.lone.now in
+    let told = c.args.foretold.now.spent.told.now in
+    let spent = is_spent_node lone told in
+    let asked = parent-asked m table lone told c.requires.lone in
+    let here = walk-to m table c.args.region.now c.args.marks.now chunk.prev chunk.at chunk.past.now chunk.bytes.now hits c.requires.sound.0 c.requires.sound.1 chunk.few pass spent asked c.requires.rests c.requires.others c.requires.passed c.loop-k.region c.loop-k.ends c.loop-k.marks c.loop-k.from (k - c.loop-k.from) k
     (omega (arith, c.in-Some.ensures.low)) (omega (arith, below)) c.in-Some.ensures.least inv.walk in record {
       len = c.run_node.ensures.len ∙ inv.len;
       ends = c.run_node.ensures.ends ∙ inv.ends;
@@ -62,7 +67,7 @@ loop-k-preserved-then-not-is_nowhere g c =
           omega (arith, more, up, here, inv.steps);
       pool = c.run_node.ensures.pool;
       walk =
-          walk-visit m table c.args.region.now c.args.marks.now chunk.prev chunk.at chunk.past.now chunk.bytes.now hits c.requires.sound.0 c.requires.sound.1 chunk.few pass c.everywhere-all.result c.everywhere-all.ensures c.loop-k.region c.run_node.new.region c.loop-k.ends c.run_node.new.ends c.loop-k.marks c.mark_children.new.marks
+          walk-visit m table c.args.region.now c.args.marks.now chunk.prev chunk.at chunk.past.now chunk.bytes.now hits c.requires.sound.0 c.requires.sound.1 chunk.few pass spent asked c.everywhere-all.result c.everywhere-all.ensures c.loop-k.region c.run_node.new.region c.loop-k.ends c.run_node.new.ends c.loop-k.marks c.mark_children.new.marks
           k (k + 1) refl own.0 own.1 c.in-Some.ensures.is (sym c.passes.ensures ∙ c.if-not-passes.true) (c.run_node.ensures.runs own.0 own.1) c.run_node.ensures.len c.mark_children.ensures.more (inr (λ j node among at.
           subst (λ (e : ChunkEnds). (is_marked c.mark_children.new.marks j ≡ true) ⊎ IsSpared node.kind hits (length chunk.bytes.now) e) (same-default c.run_node.new.ends k _ nowhere (omega (arith, below, c.run_node.ensures.ends, inv.ends))) (c.mark_children.ensures.needed j node among at))) here;
     }
@@ -78,7 +83,11 @@ loop-k-preserved-else-not-is_nowhere g c =
     let below : k < length table.nodes.items = inv.walk.more.below k c.in-Some.ensures.is in
     let own = there table.nodes.items k below in
     let pass = is_passed c.args.foretold.now.are_over c.args.foretold.now.openings.now in
-    let here = walk-to m table c.args.region.now c.args.marks.now chunk.prev chunk.at chunk.past.now chunk.bytes.now hits c.requires.sound.0 c.requires.sound.1 chunk.few pass c.requires.rests c.requires.others c.requires.passed c.loop-k.region c.loop-k.ends c.loop-k.marks c.loop-k.from (k - c.loop-k.from) k
+    let lone = c.args.foretold.now.spent.lone.now in
+    let told = c.args.foretold.now.spent.told.now in
+    let spent = is_spent_node lone told in
+    let asked = parent-asked m table lone told c.requires.lone in
+    let here = walk-to m table c.args.region.now c.args.marks.now chunk.prev chunk.at chunk.past.now chunk.bytes.now hits c.requires.sound.0 c.requires.sound.1 chunk.few pass spent asked c.requires.rests c.requires.others c.requires.passed c.loop-k.region c.loop-k.ends c.loop-k.marks c.loop-k.from (k - c.loop-k.from) k
     (omega (arith, c.in-Some.ensures.low)) (omega (arith, below)) c.in-Some.ensures.least inv.walk in record {
       len = c.run_node.ensures.len ∙ inv.len;
       ends = c.run_node.ensures.ends ∙ inv.ends;
@@ -91,7 +100,7 @@ loop-k-preserved-else-not-is_nowhere g c =
           omega (arith, more, up, here, inv.steps);
       pool = c.run_node.ensures.pool;
       walk =
-          walk-visit m table c.args.region.now c.args.marks.now chunk.prev chunk.at chunk.past.now chunk.bytes.now hits c.requires.sound.0 c.requires.sound.1 chunk.few pass c.everywhere-all.result c.everywhere-all.ensures c.loop-k.region c.run_node.new.region c.loop-k.ends c.run_node.new.ends c.loop-k.marks c.loop-k.marks
+          walk-visit m table c.args.region.now c.args.marks.now chunk.prev chunk.at chunk.past.now chunk.bytes.now hits c.requires.sound.0 c.requires.sound.1 chunk.few pass spent asked c.everywhere-all.result c.everywhere-all.ensures c.loop-k.region c.run_node.new.region c.loop-k.ends c.run_node.new.ends c.loop-k.marks c.loop-k.marks
           k (k + 1) refl own.0 own.1 c.in-Some.ensures.is (sym c.passes.ensures ∙ c.if-not-passes.true) (c.run_node.ensures.runs own.0 own.1) c.run_node.ensures.len (marks-none (length table.nodes.items) c.loop-k.marks inv.walk.more.below) (inl (same-default c.run_node.new.ends k nowhere _ (omega (arith, below, c.run_node.ensures.ends, inv.ends)) ∙ c.is_nowhere.ensures.0 c.if-not-is_nowhere.false)) here;
     }
 
@@ -105,7 +114,11 @@ loop-k-preserved g c =
     let inv = c.loop-k.invariant in
     let below : k < length table.nodes.items = inv.walk.more.below k c.in-Some.ensures.is in
     let pass = is_passed c.args.foretold.now.are_over c.args.foretold.now.openings.now in
-    let here = walk-to m table c.args.region.now c.args.marks.now chunk.prev chunk.at chunk.past.now chunk.bytes.now hits c.requires.sound.0 c.requires.sound.1 chunk.few pass c.requires.rests c.requires.others c.requires.passed c.loop-k.region c.loop-k.ends c.loop-k.marks c.loop-k.from (k - c.loop-k.from) k
+    let lone = c.args.foretold.now.spent.lone.now in
+    let told = c.args.foretold.now.spent.told.now in
+    let spent = is_spent_node lone told in
+    let asked = parent-asked m table lone told c.requires.lone in
+    let here = walk-to m table c.args.region.now c.args.marks.now chunk.prev chunk.at chunk.past.now chunk.bytes.now hits c.requires.sound.0 c.requires.sound.1 chunk.few pass spent asked c.requires.rests c.requires.others c.requires.passed c.loop-k.region c.loop-k.ends c.loop-k.marks c.loop-k.from (k - c.loop-k.from) k
     (omega (arith, c.in-Some.ensures.low)) (omega (arith, below)) c.in-Some.ensures.least inv.walk in record {
       len = inv.len;
       ends = inv.ends;
@@ -116,7 +129,7 @@ loop-k-preserved g c =
           omega (arith, up, inv.steps);
       pool = inv.pool;
       walk =
-          walk-pass m table c.args.region.now c.args.marks.now chunk.prev chunk.at chunk.past.now chunk.bytes.now hits c.requires.sound.0 c.requires.sound.1 chunk.few pass c.requires.rests c.requires.others c.requires.passed c.loop-k.region c.loop-k.ends c.loop-k.marks
+          walk-pass m table c.args.region.now c.args.marks.now chunk.prev chunk.at chunk.past.now chunk.bytes.now hits c.requires.sound.0 c.requires.sound.1 chunk.few pass spent asked c.requires.rests c.requires.others c.requires.passed c.loop-k.region c.loop-k.ends c.loop-k.marks
           k (k + 1) refl below (inr (sym c.passes.ensures ∙ c.if-not-passes.false)) here;
     }
 
@@ -131,8 +144,8 @@ returns-clause-well g c =
     let chunk = c.args.chunk.now in
     let inv = c.loop-k.invariant in
     let room = inv.walk.more.room in
-    walk-well g.E.Engine.meaning table c.args.region.now c.args.marks.now chunk.prev chunk.at chunk.past.now chunk.bytes.now c.args.foretold.now.hits.now c.requires.sound.0 c.requires.sound.1 chunk.few (is_passed c.args.foretold.now.are_over c.args.foretold.now.openings.now) c.loop-k.region c.loop-k.ends c.loop-k.marks
-    (walk-to g.E.Engine.meaning table c.args.region.now c.args.marks.now chunk.prev chunk.at chunk.past.now chunk.bytes.now c.args.foretold.now.hits.now c.requires.sound.0 c.requires.sound.1 chunk.few (is_passed c.args.foretold.now.are_over c.args.foretold.now.openings.now) c.requires.rests c.requires.others c.requires.passed c.loop-k.region c.loop-k.ends c.loop-k.marks c.loop-k.from (length table.nodes.items - c.loop-k.from) (length table.nodes.items)
+    walk-well g.E.Engine.meaning table c.args.region.now c.args.marks.now chunk.prev chunk.at chunk.past.now chunk.bytes.now c.args.foretold.now.hits.now c.requires.sound.0 c.requires.sound.1 chunk.few (is_passed c.args.foretold.now.are_over c.args.foretold.now.openings.now) (is_spent_node c.args.foretold.now.spent.lone.now c.args.foretold.now.spent.told.now) (parent-asked g.E.Engine.meaning table c.args.foretold.now.spent.lone.now c.args.foretold.now.spent.told.now c.requires.lone) c.loop-k.region c.loop-k.ends c.loop-k.marks
+    (walk-to g.E.Engine.meaning table c.args.region.now c.args.marks.now chunk.prev chunk.at chunk.past.now chunk.bytes.now c.args.foretold.now.hits.now c.requires.sound.0 c.requires.sound.1 chunk.few (is_passed c.args.foretold.now.are_over c.args.foretold.now.openings.now) (is_spent_node c.args.foretold.now.spent.lone.now c.args.foretold.now.spent.told.now) (parent-asked g.E.Engine.meaning table c.args.foretold.now.spent.lone.now c.args.foretold.now.spent.told.now c.requires.lone) c.requires.rests c.requires.others c.requires.passed c.loop-k.region c.loop-k.ends c.loop-k.marks c.loop-k.from (length table.nodes.items - c.loop-k.from) (length table.nodes.items)
     (omega (arith, inv.walk.within)) (omega arith) (λ j low high. c.in_default.ensures j low (omega (arith, room, c.requires.room))) inv.walk)
 
 pub returns-clause-takes : goal.returns-clause-takes
@@ -141,6 +154,46 @@ returns-clause-takes g c =
     let chunk = c.args.chunk.now in
     let inv = c.loop-k.invariant in
     let room = inv.walk.more.room in
-    walk-takes g.E.Engine.meaning table c.args.region.now c.args.marks.now chunk.prev chunk.at chunk.past.now chunk.bytes.now c.args.foretold.now.hits.now c.requires.sound.0 c.requires.sound.1 chunk.few (is_passed c.args.foretold.now.are_over c.args.foretold.now.openings.now) c.loop-k.region c.loop-k.ends c.loop-k.marks
-    (walk-to g.E.Engine.meaning table c.args.region.now c.args.marks.now chunk.prev chunk.at chunk.past.now chunk.bytes.now c.args.foretold.now.hits.now c.requires.sound.0 c.requires.sound.1 chunk.few (is_passed c.args.foretold.now.are_over c.args.foretold.now.openings.now) c.requires.rests c.requires.others c.requires.passed c.loop-k.region c.loop-k.ends c.loop-k.marks c.loop-k.from (length table.nodes.items - c.loop-k.from) (length table.nodes.items)
+    walk-takes g.E.Engine.meaning table c.args.region.now c.args.marks.now chunk.prev chunk.at chunk.past.now chunk.bytes.now c.args.foretold.now.hits.now c.requires.sound.0 c.requires.sound.1 chunk.few (is_passed c.args.foretold.now.are_over c.args.foretold.now.openings.now) (is_spent_node c.args.foretold.now.spent.lone.now c.args.foretold.now.spent.told.now) (parent-asked g.E.Engine.meaning table c.args.foretold.now.spent.lone.now c.args.foretold.now.spent.told.now c.requires.lone) c.loop-k.region c.loop-k.ends c.loop-k.marks
+    (walk-to g.E.Engine.meaning table c.args.region.now c.args.marks.now chunk.prev chunk.at chunk.past.now chunk.bytes.now c.args.foretold.now.hits.now c.requires.sound.0 c.requires.sound.1 chunk.few (is_passed c.args.foretold.now.are_over c.args.foretold.now.openings.now) (is_spent_node c.args.foretold.now.spent.lone.now c.args.foretold.now.spent.told.now) (parent-asked g.E.Engine.meaning table c.args.foretold.now.spent.lone.now c.args.foretold.now.spent.told.now c.requires.lone) c.requires.rests c.requires.others c.requires.passed c.loop-k.region c.loop-k.ends c.loop-k.marks c.loop-k.from (length table.nodes.items - c.loop-k.from) (length table.nodes.items)
     (omega (arith, inv.walk.within)) (omega arith) (λ j low high. c.in_default.ensures j low (omega (arith, room, c.requires.room))) inv.walk)
+
+pub catch_up_node-requires-clause-own : goal.catch_up_node-requires-clause-own
+catch_up_node-requires-clause-own g c = spent-lone g.E.Engine.meaning c.args.table.now c.args.foretold.now.spent.lone.now c.args.foretold.now.spent.told.now c.requires.lone c.in-Some.k (c.is_left_behind.ensures c.if-is_left_behind.true)
+
+pub catch_up_node-requires-clause-well : goal.catch_up_node-requires-clause-well
+catch_up_node-requires-clause-well g c node at =
+    subst (λ ps. IsWellPart g.E.Engine.meaning c.args.table.now.engines.items node.kind ps c.args.chunk.now.at) (sym (c.loop-k.invariant.walk.later c.in-Some.k node c.in-Some.ensures.low at).1) (c.requires.well c.in-Some.k node at)
+
+pub loop-k-preserved-then-is_left_behind : goal.loop-k-preserved-then-is_left_behind
+loop-k-preserved-then-is_left_behind g c =
+    let m = g.E.Engine.meaning in
+    let table = c.args.table.now in
+    let chunk = c.args.chunk.now in
+    let hits = c.args.foretold.now.hits.now in
+    let k = c.in-Some.k in
+    let inv = c.loop-k.invariant in
+    let below : k < length table.nodes.items = inv.walk.more.below k c.in-Some.ensures.is in
+    let own = there table.nodes.items k below in
+    let pass = is_passed c.args.foretold.now.are_over c.args.foretold.now.openings.now in
+    let lone = c.args.foretold.now.spent.lone.now in
+    let told = c.args.foretold.now.spent.told.now in
+    let spent = is_spent_node lone told in
+    let asked = parent-asked m table lone told c.requires.lone in
+    let over = c.is_left_behind.ensures c.if-is_left_behind.true in
+    let here = walk-to m table c.args.region.now c.args.marks.now chunk.prev chunk.at chunk.past.now chunk.bytes.now hits c.requires.sound.0 c.requires.sound.1 chunk.few pass spent asked c.requires.rests c.requires.others c.requires.passed c.loop-k.region c.loop-k.ends c.loop-k.marks c.loop-k.from (k - c.loop-k.from) k
+    (omega (arith, c.in-Some.ensures.low)) (omega (arith, below)) c.in-Some.ensures.least inv.walk in record {
+      len = c.catch_up_node.ensures.len ∙ inv.len;
+      ends = inv.ends;
+      contexts = inv.contexts;
+      made = inv.made;
+      steps =
+          let more = ticks-more table.nodes.items k hits (length chunk.bytes.now) own.0 own.1 in
+          let up = ticks-grow table.nodes.items c.loop-k.from k hits (length chunk.bytes.now) c.in-Some.ensures.low in
+          let own_ticks = lone-ticks table k own.0 own.1 (spent-lone m table lone told c.requires.lone k over) hits (length chunk.bytes.now) in
+          omega (arith, more, up, own_ticks, c.catch_up_node.ensures.ticks, inv.steps);
+      pool = inv.pool;
+      walk =
+          walk-caught m table c.args.region.now c.args.marks.now chunk.prev chunk.at chunk.past.now chunk.bytes.now hits c.requires.sound.0 c.requires.sound.1 chunk.few pass spent asked c.loop-k.region c.catch_up_node.new.region c.loop-k.ends c.loop-k.marks
+          k (k + 1) refl own.0 own.1 c.in-Some.ensures.is over (spent-lone m table lone told c.requires.lone k over) (c.catch_up_node.ensures.catches own.0 own.1) c.catch_up_node.ensures.len here;
+    }

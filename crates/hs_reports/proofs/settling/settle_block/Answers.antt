@@ -3,7 +3,7 @@ use Rattle.std.proofs.lemmas.Option.{slice_get-get_or}
 use Rattle.hs_base.specs.Bits.{has_word_bit}
 use Rattle.hs_bits.specs.NextBits.{IsNextBitIn}
 use Rattle.hs_reports.proofs.SettlementLemmas.{IsSettledTo, IsWalkedTo, walked-next, walked-all, all-emptied}
-use Rattle.hs_reports.proofs.SettledLemmas.{no_identifier, settled-named, settles-block}
+use Rattle.hs_reports.proofs.SettledLemmas.{no_identifier, settled-named, told-grows, settles-block}
 use Rattle.hs_reports.proofs.settling.settle_block.Goals as goal
 
 pub loop-noted-preserved : goal.loop-noted-preserved
@@ -32,6 +32,10 @@ all-settled : (c : goal.In_default) →
 all-settled c =
     walked-all c.args.identifiers.now c.args.last c.args.ends.now c.args.told.now c.args.here.now c.loop-noted.ends c.loop-noted.told c.loop-noted.here c.loop-noted.tellings
     (subst (IsWalkedTo c.args.identifiers.now c.args.last c.args.ends.now c.args.told.now c.args.here.now c.loop-noted.ends c.loop-noted.told c.loop-noted.here c.loop-noted.tellings) c.in_default.is c.loop-noted.invariant.walked)
+
+pub returns-clause-grows : goal.returns-clause-grows
+returns-clause-grows c =
+    told-grows c.args.identifiers.now c.args.last c.args.ends.now c.loop-noted.ends c.args.told.now c.args.here.now c.loop-noted.told c.loop-noted.here c.loop-noted.tellings (length c.args.identifiers.now) (all-settled c)
 
 pub returns-clause-emptied : goal.returns-clause-emptied
 returns-clause-emptied c =

@@ -1,4 +1,5 @@
-use Rattle.std.proofs.Common.{◌≡◌, ◌+◌, ◌≤◌, ◌++◌, length, take, drop, sym, ap, subst, ◌∙◌, arith}
+use Rattle.std.proofs.Common.{◌≡◌, ◌+◌, ◌≤◌, true, ◌++◌, length, take, drop, sym, ap, subst, ◌∙◌, arith}
+use Rattle.hs_base.specs.Bits.{has_word_bit}
 use Rattle.hs_bits.proofs.MarkLemmas.{whole-written}
 use Rattle.hs_reports.specs.Settlement.{ArePending, SettlesBlock}
 use Rattle.hs_scan.proofs.known.settle_known.Goals as goal
@@ -32,5 +33,6 @@ returns c =
             (subst (λ xs. SettlesBlock ids (c.args.last + 1) known.ends known.told.items known.here.items s.new.told xs s.new.tellings) (sym here_now)
             (subst (λ xs. SettlesBlock ids (c.args.last + 1) known.ends known.told.items xs s.new.told s.new.here s.new.tellings) here_is
             (subst (λ xs. SettlesBlock ids (c.args.last + 1) known.ends xs c.deref_mut-2.result.now s.new.told s.new.here s.new.tellings) told_is s.ensures.settled)));
+        keeps = λ p set. subst (λ ws. has_word_bit ws p ≡ true) (sym told_now) (s.ensures.grows p (subst (λ ws. has_word_bit ws p ≡ true) (sym told_is) set));
       };
     }

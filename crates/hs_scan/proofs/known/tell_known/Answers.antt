@@ -32,5 +32,5 @@ returns-clause-told g c =
           block-tells g.E.Engine.meaning c.args.graph.now c.requires.sound bytes chunk.at c.args.left.now.ends.now c.args.left.now.all.now known.told.items known.here.items then.told.items then.here.items j c.gather_left.new.table then.tellings (length own - 1 + 1)
           (omega (arith, c.requires.there, chunk.few)) c.requires.there (omega (arith, some, size)) (omega (arith, size, c.block-own.ensures.few)) c.gather_left.ensures.gathered (subst (λ xs. SettlesBlock xs (length own - 1 + 1) c.gather_left.new.table known.told.items known.here.items then.told.items then.here.items then.tellings) ids_is c.settle_known.ensures.settled.settles)
           (subst (λ xs. Each (λ id. IsMember id (numbers_of xs)) (id_numbers then.tellings.ids)) ids_is c.settle_known.ensures.settled.named)
-          (λ p set. c.gather_left.ensures.noted p (c.requires.pending.pending p set));
+          (λ p set. c.gather_left.ensures.noted p (c.requires.pending.pending p set)) c.settle_known.ensures.settled.keeps;
     }

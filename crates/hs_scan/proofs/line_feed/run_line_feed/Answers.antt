@@ -1,12 +1,14 @@
-use Rattle.std.proofs.Common.{◌≡◌, ◌+◌, ◌*◌, ◌<◌, ◌≤◌, false, length, sym, ap, subst, ◌∙◌, arith}
+use Rattle.std.proofs.Common.{◌≡◌, ◌+◌, ◌*◌, ◌<◌, ◌≤◌, false, refl, length, sym, ap, subst, ◌∙◌, arith}
 use Rattle.hs_base.specs.Lists.{Each}
 use Rattle.hs_bits.specs.Marks.{is_marked}
 use Rattle.hs_nodes.specs.Left.{nowhere}
 use Rattle.hs_nodes.specs.Resting.{AreNodesResting}
 use Rattle.hs_nodes.specs.Walks.{IsTableSound, node_ends}
+use Rattle.hs_scan.proofs.SpendingLemmas.{spent-told, takes-fewer}
 use Rattle.hs_scan.proofs.WakingLemmas.{passed-nowhere}
 use Rattle.hs_scan.specs.Scans.{ScansChunk}
-use Rattle.hs_scan.specs.Telling.{TellsBlock}
+use Rattle.hs_scan.specs.Spending.{spent_in}
+use Rattle.hs_scan.specs.Telling.{AreOfSpent, TellsBlock}
 use Rattle.hs_scan.specs.Writing.{LeavesLineFeed, LeavesLineFeedChunk}
 use Rattle.hs_scan.proofs.BlockLemmas.{takes-as}
 use Rattle.hs_scan.proofs.LineFeedLemmas.{first-tells, line_feed-chunk}
@@ -54,11 +56,13 @@ returns-clause-scans g c =
     let all = c.everywhere-all.result in
     let old = c.args.region.now in
     let new = c.run_nodes.new.region in
+    let lone = c.args.lone.now in
+    let spent = spent_in lone c.args.scratch.now.course.known.told.items bytes in
     takes-as g.V.Events.tells c.args.events.now c.tell_line_feed.new.events
     (TellsBlock m graph bytes chunk.at s.ends.items all 0 known.told.items known.here.items then.told.items then.here.items)
     (ScansChunk m graph old new chunk.prev chunk.at chunk.past.now bytes hits c.args.scratch.now.course.known.told.items c.args.scratch.now.course.known.here.items then.told.items then.here.items)
     (λ ps tells. subst (λ ks. ScansChunk m graph old new chunk.prev chunk.at chunk.past.now bytes hits ks.told.items ks.here.items then.told.items then.here.items ps) c.run_nodes.ensures.keeps.known
-    (chunk-takes m graph chunk.at old new known.told.items known.here.items then.told.items then.here.items chunk.prev chunk.past.now bytes hits s.ends.items all ps c.run_nodes.ensures.room.count c.everywhere-all.ensures
+    (chunk-takes m graph chunk.at old new known.told.items known.here.items then.told.items then.here.items chunk.prev chunk.past.now bytes hits s.ends.items all ps spent (subst (λ ks. AreOfSpent graph ks.told.items spent) (sym c.run_nodes.ensures.keeps.known) (spent-told m graph lone c.args.scratch.now.course.known.told.items bytes c.requires.lone)) c.run_nodes.ensures.room.count c.everywhere-all.ensures
     c.run_nodes.ensures.takes (first-tells m graph bytes chunk.at s.ends.items all known.told.items known.here.items then.told.items then.here.items ps c.requires.bytes tells))) c.tell_line_feed.ensures.told
 
 pub returns-clause-left : goal.returns-clause-left
@@ -71,9 +75,13 @@ returns-clause-left g c =
     let s = c.run_nodes.new.scratch in
     let last = c.tell_line_feed.new.scratch.last.items in
     let old = c.args.region.now in
+    let lone = c.args.lone.now in
+    let ks = c.args.scratch.now.course.known.told.items in
+    let spent = spent_in lone ks bytes in
     let finals = c.args.scratch.now.finals in
     let told : LeavesLineFeed m graph bytes chunk.at s.ends.items c.everywhere-all.result s.course.known.told.items s.course.known.here.items finals last =
     subst (λ fs. LeavesLineFeed m graph bytes chunk.at s.ends.items c.everywhere-all.result s.course.known.told.items s.course.known.here.items fs last) c.run_nodes.ensures.keeps.finals c.tell_line_feed.ensures.left in
     subst (λ ks. LeavesLineFeedChunk m graph old chunk.prev chunk.at chunk.past.now bytes hits ks.told.items ks.here.items finals last) c.run_nodes.ensures.keeps.known
     (line_feed-chunk m graph chunk.at old c.run_nodes.new.region s.course.known.told.items s.course.known.here.items chunk.prev chunk.past.now bytes hits s.ends.items c.everywhere-all.result finals last
-    c.run_nodes.ensures.room.count c.everywhere-all.ensures c.run_nodes.ensures.takes told)
+    c.run_nodes.ensures.room.count c.everywhere-all.ensures
+    (takes-fewer m graph.table spent (λ k. false) chunk.at old c.run_nodes.new.region chunk.prev chunk.past.now bytes hits s.ends.items (λ k asked. subst (λ bs. spent_in lone ks bs k ≡ false) (sym c.requires.bytes) refl) c.run_nodes.ensures.takes) told)

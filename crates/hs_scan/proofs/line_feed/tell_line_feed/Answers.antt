@@ -36,7 +36,7 @@ returns-clause-told g c =
           (block-tells m graph c.requires.sound bytes chunk.at s.ends.items all known.told.items known.here.items then.told.items then.here.items 0 table then.tellings 1
           (omega arith) (omega (arith, one)) size (omega (arith, size)) gathered (subst (λ xs. SettlesBlock xs 1 table known.told.items known.here.items then.told.items then.here.items then.tellings) ids_is c.settle_known.ensures.settled.settles)
           (subst (λ xs. Each (λ id. IsMember id (numbers_of xs)) (id_numbers then.tellings.ids)) ids_is c.settle_known.ensures.settled.named)
-          (λ p set. c.gather_block.ensures.noted p (c.requires.pending.pending p set)));
+          (λ p set. c.gather_block.ensures.noted p (c.requires.pending.pending p set)) c.settle_known.ensures.settled.keeps);
     }
 
 pub returns-clause-left : goal.returns-clause-left

@@ -1,13 +1,16 @@
-use Rattle.std.proofs.Common.{◌≡◌, ◌++◌, List, length, slice_get, take, drop, sym, ap, subst, ◌∙◌, arith}
+use Rattle.std.proofs.Common.{◌≡◌, false, ◌++◌, List, length, slice_get, take, drop, sym, ap, subst, ◌∙◌, arith}
 use Rattle.hs_nodes.proofs.FillLemmas.{whole}
 use Rattle.hs_nodes.proofs.SettleLemmas.{resting-may, resting-stay}
 use Rattle.hs_nodes.proofs.TickLemmas.{nodes-most}
 use Rattle.hs_nodes.proofs.WakeLemmas.{resting-more}
 use Rattle.hs_nodes.specs.declared.hits.ChunkHits.{ChunkHits}
 use Rattle.hs_nodes.specs.Walks.{ChangesMarked, MayNodesRest, TakesNodes}
+use Rattle.hs_nodes.specs.Lone.{is_spent_node}
 use Rattle.hs_nodes.specs.Openings.{AreOthersSound, is_passed}
 use Rattle.hs_scan.specs.Hits.{sought}
 use Rattle.hs_scan.proofs.OpeningLemmas.{may-pass, others-sound, sought-get, sought-nowhere}
+use Rattle.hs_scan.specs.Spending.{spent_in}
+use Rattle.hs_scan.proofs.SpendingLemmas.{takes-fewer}
 use Rattle.hs_scan.proofs.WakingLemmas.{nowhere-ends}
 use Rattle.hs_scan.proofs.running.run_nodes.Goals as goal
 
@@ -16,7 +19,7 @@ invariant_of-foretold g c = record {
   unhit = λ number unmarked own at i.
       let hits = c.args.scratch.now.hits.items in
       let openings = c.args.graph.now.openings in
-      let same : c.sought_hits.result.now ≡ sought c.args.are_over openings hits = c.sought_hits.ensures ∙ ap (sought c.args.are_over openings) c.deref.ensures.value in
+      let same : c.sought_hits.result.now ≡ sought c.args.are_over openings hits = c.sought_hits.ensures ∙ ap (sought c.args.are_over openings) c.deref-2.ensures.value in
       nowhere-ends hits number own (c.requires.others number (sym (c.ending.ensures.marks number) ∙ unmarked)) (sought-get c.args.are_over openings hits number own (ap (λ (hs : List ChunkHits). slice_get hs number) (sym same) ∙ at)) i;
 }
 
@@ -27,7 +30,7 @@ walk-requires-clause-rests g c =
     let graph = c.args.graph.now in
     let bytes = c.args.chunk.now.bytes.now in
     let hits = sought c.args.are_over graph.openings s.hits.items in
-    let same : c.sought_hits.result.now ≡ hits = c.sought_hits.ensures ∙ ap (sought c.args.are_over graph.openings) c.deref.ensures.value in
+    let same : c.sought_hits.result.now ≡ hits = c.sought_hits.ensures ∙ ap (sought c.args.are_over graph.openings) c.deref-2.ensures.value in
     let rests = resting-more m graph.table (length graph.table.nodes.items) s.course.marks c.wake.new.marks c.args.region.now c.wake.ensures.more c.requires.before.resting in
     subst (λ hs. MayNodesRest m graph.table c.wake.new.marks hs c.args.region.now c.args.chunk.now.prev bytes) (sym same)
     (resting-may m graph.table c.wake.new.marks hits c.args.region.now bytes c.args.chunk.now.prev c.requires.small rests (c.wake.ensures.unwoken hits (λ k none. sought-nowhere c.args.are_over graph.openings s.hits.items k (c.requires.others k none))))
@@ -38,7 +41,7 @@ walk-requires-clause-others g c =
     let s = c.args.scratch.now in
     let graph = c.args.graph.now in
     let hits = sought c.args.are_over graph.openings s.hits.items in
-    let same : c.sought_hits.result.now ≡ hits = c.sought_hits.ensures ∙ ap (sought c.args.are_over graph.openings) c.deref.ensures.value in
+    let same : c.sought_hits.result.now ≡ hits = c.sought_hits.ensures ∙ ap (sought c.args.are_over graph.openings) c.deref-2.ensures.value in
     subst (λ (hs : List ChunkHits). AreOthersSound m graph.table (is_passed c.args.are_over graph.openings) (length hs)) (sym same)
     (others-sound m graph.table s.rows.count (length c.args.region.now) c.requires.runs.table graph.openings c.requires.runs.openings c.args.are_over s.hits.items c.requires.before.room.hits)
 
@@ -94,6 +97,12 @@ returns-clause-takes g c =
     let ends = take s.ends.len (left ++ drop (length left) s.ends.items) in
     let now : ends ≡ left = whole left s.ends.items s.ends.len len (omega (arith, s.ends.ok)) in
     let hits = sought c.args.are_over graph.openings s.hits.items in
-    let same : c.sought_hits.result.now ≡ hits = c.sought_hits.ensures ∙ ap (sought c.args.are_over graph.openings) c.deref.ensures.value in
-    let took = subst (λ es. TakesNodes m graph.table c.args.region.now c.walk.new.region chunk.prev chunk.at chunk.past.now bytes c.sought_hits.result.now es) (sym now) c.walk.ensures.takes in
-    subst (λ hs. TakesNodes m graph.table c.args.region.now c.walk.new.region chunk.prev chunk.at chunk.past.now bytes hs ends) same took
+    let same : c.sought_hits.result.now ≡ hits = c.sought_hits.ensures ∙ ap (sought c.args.are_over graph.openings) c.deref-2.ensures.value in
+    let told = c.told_in.result.now in
+    let lone = c.args.lone.now in
+    let spent = is_spent_node lone told in
+    let fewer = spent_in lone s.course.known.told.items bytes in
+    let took = subst (λ es. TakesNodes m graph.table spent c.args.region.now c.walk.new.region chunk.prev chunk.at chunk.past.now bytes c.sought_hits.result.now es) (sym now) c.walk.ensures.takes in
+    takes-fewer m graph.table spent fewer chunk.at c.args.region.now c.walk.new.region chunk.prev chunk.past.now bytes hits ends
+    (λ k asked_for. c.told_in.ensures k (subst (λ ws. spent_in lone ws bytes k ≡ false) (sym c.deref.ensures.value) asked_for))
+    (subst (λ hs. TakesNodes m graph.table spent c.args.region.now c.walk.new.region chunk.prev chunk.at chunk.past.now bytes hs ends) same took)

@@ -7,12 +7,16 @@ use Rattle.hs_scan.specs.Feeding.{Feeds}
 use Rattle.hs_scan.specs.NodeCaches.{IsNodeCacheOf}
 use Rattle.hs_nodes.specs.WellRegions.{FitsRegion, IsWellRegion}
 use Rattle.hs_scan.specs.Scratches.{ServesGraph}
-use Rattle.hs_stream.proofs.RunningLemmas.{as-lent, each-by, lasting-lent, lent, lent-as, takes-scan}
+use Rattle.hs_stream.proofs.RunningLemmas.{as-lent, each-by, lasting-lent, lent, lent-as, lone-lent, takes-scan}
 use Rattle.hs_stream.proofs.running.run_bytes.Goals as goal
 
 pub scan-requires-clause-sound : goal.scan-requires-clause-sound
 scan-requires-clause-sound g c =
     as-lent (lent c.args.db.now c.graph.ensures.graph c.literals.ensures.literals c.layout.ensures.layout) (λ x ls l. IsGraphSound piece_meaning x ls l) (c.graph.ensures.whole.is_of.sound)
+
+pub scan-requires-clause-lone : goal.scan-requires-clause-lone
+scan-requires-clause-lone g c =
+    lone-lent c.args.db.now c.lone.result.now c.graph.result.now c.graph.ensures.graph c.lone.ensures.lone c.graph.ensures.whole
 
 pub scan-requires-clause-region : goal.scan-requires-clause-region
 scan-requires-clause-region g c =

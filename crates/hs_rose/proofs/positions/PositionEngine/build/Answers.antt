@@ -54,3 +54,9 @@ invariant_of-result-clause-last_has c x b h small accept member =
     c.first_bytes-last.ensures x b h small
     (ap (λ items. in_mask (slice_get items x) h) c.accepts.ensures ∙ (sym (fits.accepts h x) ∙ accept))
     (ap (λ items. in_set (slice_get items x) b) c.sets.ensures ∙ (sym (fits.reach b x small) ∙ member))
+
+pub invariant_of-result-clause-living_has : goal.invariant_of-result-clause-living_has
+invariant_of-result-clause-living_has c x b small member =
+    let fits = c.in_ok-limex.ensures.fits in
+    c.bytes_of_any-living.ensures x b small
+    (ap (λ items. in_set (slice_get items x) b) c.sets-2.ensures ∙ (sym (fits.reach b x small) ∙ member))
