@@ -11,3 +11,5 @@ mod saving;
 mod soaking;
 #[cfg(test)]
 mod streams;
+#[cfg(test)]
+mod telling;

@@ -14,13 +14,24 @@ pub(crate) fn entry(alloc: Global, id: u32, text: &str) -> Result<Entry, AllocEr
     })
 }
 
-/// The entries of a list, in words: each is `ID:/TEXT/`.
+/// The flags behind an expression: `H`, or none.
+fn flags_of(letters: &str) -> Flags {
+    if letters == "H" {
+        Flags::SINGLEMATCH
+    } else {
+        Flags::NONE
+    }
+}
+
+/// The entries of a list, in words: each is `ID:/TEXT/` or `ID:/TEXT/H`.
 fn entries_of(alloc: Global, list: &str) -> Result<Vec<Entry>, AllocError> {
     let mut entries = Vec::new(alloc);
     for word in list.split(' ') {
         let (id, rest) = word.split_once(":/").unwrap_or((word, ""));
-        let (text, _end) = rest.split_once('/').unwrap_or((rest, ""));
-        entries.push(entry(alloc, id.parse().unwrap_or(0), text)?)?;
+        let (text, letters) = rest.split_once('/').unwrap_or((rest, ""));
+        let mut entry = entry(alloc, id.parse().unwrap_or(0), text)?;
+        entry.flags = flags_of(letters);
+        entries.push(entry)?;
     }
     Ok(entries)
 }
