@@ -118,7 +118,14 @@ fn seen_in<L: Ledger>(
     let mut told = Collected::new(alloc, ROOM)?;
     let mut steps = Steps::<L>::open(blank);
     if is_cut {
-        write_each(&mut stream, database, &mut scratch, bytes, &mut told, &mut steps)?;
+        write_each(
+            &mut stream,
+            database,
+            &mut scratch,
+            bytes,
+            &mut told,
+            &mut steps,
+        )?;
     } else {
         stream.write(database, &mut scratch, bytes, &mut told, &mut steps)?;
     }
