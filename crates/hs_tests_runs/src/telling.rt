@@ -81,12 +81,13 @@ fn bytes_of(alloc: Global, before: &str, behind: &str) -> Result<Vec<u8>, AllocE
     Ok(bytes)
 }
 
-/// Writes each byte by itself.
-fn write_each<L: Ledger>(
+/// Writes the bytes in one, or each by itself.
+fn write_all<L: Ledger>(
     stream: &mut Stream,
     database: &Database,
     scratch: &mut Scratch,
     bytes: &[u8],
+    is_cut: bool,
     told: &mut Collected,
     steps: &mut Steps<L>,
 ) -> Result<(), StreamFull>
@@ -95,6 +96,9 @@ fn write_each<L: Ledger>(
     ensures fits { IsStreamOf database.now stream.new }
     ensures scratch { IsScratchOf database.now scratch.new }
 {
+    if !is_cut {
+        return stream.write(database, scratch, bytes, told, steps);
+    }
     for at in 0..bytes.len() {
         stream.write(database, scratch, &bytes[at..at + 1], told, steps)?;
     }
@@ -117,18 +121,15 @@ fn seen_in<L: Ledger>(
     let mut scratch = Scratch::new(alloc, database)?;
     let mut told = Collected::new(alloc, ROOM)?;
     let mut steps = Steps::<L>::open(blank);
-    if is_cut {
-        write_each(
-            &mut stream,
-            database,
-            &mut scratch,
-            bytes,
-            &mut told,
-            &mut steps,
-        )?;
-    } else {
-        stream.write(database, &mut scratch, bytes, &mut told, &mut steps)?;
-    }
+    write_all(
+        &mut stream,
+        database,
+        &mut scratch,
+        bytes,
+        is_cut,
+        &mut told,
+        &mut steps,
+    )?;
     let region = Vec::from_slice(alloc, stream.region())?;
     stream.close(database, &mut scratch, &mut told, &mut steps);
     Ok(Seen { told, region })

@@ -1,6 +1,6 @@
 use Rattle.hs_stream.specs.Scratches.{IsScratchOf}
 use Rattle.hs_stream.specs.Streams.{IsStreamOf}
-use Rattle.hs_tests_runs.proofs.telling.write_each.Given as goal
+use Rattle.hs_tests_runs.proofs.telling.write_all.Given as goal
 
 abbrev pub invariant-loop-at : goal.invariant-loop-at
 invariant-loop-at g l = record {
