@@ -247,8 +247,6 @@ pub fn wake_engines<E: Engine>(
     words.begin();
     let mut stack = FitStack::new();
     for i in 0..graph.wakes.first_engines.len() {
-        wake_engine(
-            graph, i, words, &mut stack, cache, spent, starts, marks,
-        );
+        wake_engine(graph, i, words, &mut stack, cache, spent, starts, marks);
     }
 }
