@@ -6,3 +6,4 @@ pub mod SpanLemmas
 pub mod EndLemmas
 pub mod FitLemmas
 pub mod PositionLemmas
+pub mod SameLemmas

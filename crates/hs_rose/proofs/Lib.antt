@@ -1,6 +1,5 @@
 pub mod IdLemmas
 pub mod ListLemmas
-pub mod SameLemmas
 pub mod KeyLemmas
 pub mod IndexLemmas
 pub mod NamingLemmas

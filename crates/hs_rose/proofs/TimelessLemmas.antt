@@ -1,5 +1,5 @@
 -- What the tables for blocks tell, and that a byte is taken wherever the stream stands.
-use Rattle.std.proofs.Common.{◌≡◌, ◌↔◌, ℕ, zero, suc, ◌<◌, Bool, true, List, [], ◌∷◌, ◌++◌, length, Some, sym, subst, ◌∙◌, arith, length-append}
+use Rattle.std.proofs.Common.{◌≡◌, ◌↔◌, ℕ, Bool, true, List, [], ◌∷◌, ◌++◌, length, Some, sym, subst, ◌∙◌, arith, length-append}
 use Rattle.std.specs.Prelude.{eqb}
 use Rattle.hs_base.specs.declared.context.Prev.{Prev}
 use Rattle.hs_base.specs.declared.context.Next.TheVariants as after

@@ -16,7 +16,6 @@ mod marks;
 mod positions;
 mod program;
 mod role;
-mod same;
 mod shape;
 mod sizing;
 mod splitting;

@@ -19,11 +19,10 @@ ghost use Rattle.hs_rose.specs.Runnable.{IsRunnable, IsRun};
 use crate::engine::PieceEngine;
 use crate::marks::mark_of;
 use crate::positions::PositionEngine;
-use crate::same::same_piece;
 use hs_base::{ByteSet, Mask};
 use hs_expr::Expr;
 use hs_glushkov::build;
-use hs_pieces::Piece;
+use hs_pieces::{Piece, same_piece};
 use hs_repeat::{First, Last, Ring};
 use std::alloc::{AllocError, Global};
 

@@ -4,9 +4,8 @@ use Rattle.hs_base.specs.Trees.{cat, alt, trees_of}
 use Rattle.hs_expr.specs.Meaning.{tree_of}
 use Rattle.hs_expr.specs.declared.expr.Expr.{Expr}
 use Rattle.hs_expr.proofs.TreeLemmas.{tree_of-Alt, tree_of-Cat}
-use Rattle.hs_rose.proofs.ListLemmas.{read-get}
-use Rattle.hs_rose.proofs.SameLemmas.{agree-along, alt-agree, cat-agree, same-at, same-more}
-use Rattle.hs_rose.proofs.same.+same_tree.Goals as goal
+use Rattle.hs_pieces.proofs.SameLemmas.{agree-along, alt-agree, cat-agree, same-at, same-more}
+use Rattle.hs_pieces.proofs.same.+same_tree.Goals as goal
 
 pub same_tree-returns-in-Cat-Cat : goal.same_tree-returns-in-Cat-Cat
 same_tree-returns-in-Cat-Cat t c =
@@ -30,10 +29,10 @@ pub same_trees-returns-then-not-same_tree : goal.same_trees-returns-then-not-sam
 same_trees-returns-then-not-same_tree t c = (
   λ is. absurd (false≢true is),
   λ same. absurd (false≢true (sym c.if-not-same_tree.true ∙ c.same_tree.ensures.1 (same-at tree_of c.args.xs.now c.args.ys.now c.loop-k.k c.index-xs-k.result c.index-ys-k.result
-      (read-get c.args.xs.now c.loop-k.k c.index-xs-k.result (omega arith) c.index-xs-k.is) (read-get c.args.ys.now c.loop-k.k c.index-ys-k.result (omega arith) c.index-ys-k.is) same))),
+      (omega arith) (omega arith) c.index-xs-k.is c.index-ys-k.is same))),
 )
 
 pub same_trees-loop-k-preserved : goal.same_trees-loop-k-preserved
 same_trees-loop-k-preserved t c =
     same-more tree_of c.args.xs.now c.args.ys.now c.loop-k.k c.index-xs-k.result c.index-ys-k.result
-    (read-get c.args.xs.now c.loop-k.k c.index-xs-k.result (omega arith) c.index-xs-k.is) (read-get c.args.ys.now c.loop-k.k c.index-ys-k.result (omega arith) c.index-ys-k.is) c.loop-k.invariant (c.same_tree.ensures.0 c.if-not-same_tree.false)
+    (omega arith) (omega arith) c.index-xs-k.is c.index-ys-k.is c.loop-k.invariant (c.same_tree.ensures.0 c.if-not-same_tree.false)

@@ -1,7 +1,7 @@
 use Rattle.std.proofs.Common.{refl, sym, ◌∙◌, arith}
 use Rattle.std.proofs.lemmas.Bool.{false≢true}
-use Rattle.hs_rose.proofs.SameLemmas.{sets-same, word-same, words-more}
-use Rattle.hs_rose.proofs.same.same_set.Goals as goal
+use Rattle.hs_pieces.proofs.SameLemmas.{sets-same, word-same, words-more}
+use Rattle.hs_pieces.proofs.same.same_set.Goals as goal
 
 pub returns-then-not-same_word : goal.returns-then-not-same_word
 returns-then-not-same_word c = (

@@ -7,12 +7,12 @@ ghost use Rattle.hs_base.specs.LiteralView.{literal_byte};
 ghost use Rattle.hs_expr.specs.Meaning.{tree_of};
 ghost use Rattle.hs_pieces.specs.Meaning.{plain_piece};
 
+use crate::piece::Piece;
 use hs_base::{ByteSet, LitByte};
 use hs_expr::Expr;
-use hs_pieces::Piece;
 
 /// Whether the two pieces are equal.
-pub(crate) fn same_piece(a: &Piece, b: &Piece) -> bool
+pub fn same_piece(a: &Piece, b: &Piece) -> bool
     ensures { IsTrue result ↔ (plain_piece a.now ≡ plain_piece b.now) }
 {
     match (a, b) {
@@ -24,7 +24,7 @@ pub(crate) fn same_piece(a: &Piece, b: &Piece) -> bool
 }
 
 /// Whether the two literals are equal.
-pub(crate) fn same_literal(xs: &[LitByte], ys: &[LitByte]) -> bool
+fn same_literal(xs: &[LitByte], ys: &[LitByte]) -> bool
     ensures { IsTrue result ↔ (map literal_byte xs.now ≡ map literal_byte ys.now) }
 {
     if xs.len() != ys.len() {

@@ -1,16 +1,16 @@
 -- Lists and trees that are equal.
-use Rattle.std.proofs.Common.{◌≡◌, ◌↔◌, ℕ, zero, suc, ◌+◌, ◌-◌, ◌*◌, ◌/◌, ◌%◌, ◌^◌, ◌<◌, ◌≤◌, Bool, IsTrue, List, [], ◌∷◌, ◌++◌, length, map, take, slice_get, get_or, eqb, Some, refl, sym, ap, subst, ◌∙◌, inl, inr, arith}
+use Rattle.std.proofs.Common.{◌≡◌, ◌↔◌, ℕ, zero, suc, ◌+◌, ◌-◌, ◌*◌, ◌/◌, ◌%◌, ◌^◌, ◌<◌, ◌≤◌, Bool, IsTrue, List, [], ◌∷◌, length, map, take, slice_get, get_or, eqb, Some, refl, sym, ap, subst, ◌∙◌, inl, inr, arith}
 use Rattle.std.specs.Int.{bit_at}
 use Rattle.std.proofs.lemmas.Bool.{cases_lt, false≢true}
 use Rattle.std.proofs.lemmas.Nat.Bits.{bit_at-lt, same_from_bits_below}
-use Rattle.std.proofs.lemmas.List.{take_all, length-map}
+use Rattle.std.proofs.lemmas.List.{take_all, take_more_same, get_or-map, length-map}
+use Rattle.std.proofs.lemmas.Option.{slice_get_within, get_or_from_slice_get}
 use Rattle.hs_base.specs.declared.byte_set.ByteSet.{ByteSet}
 use Rattle.hs_base.specs.Bits.{has_word_bit}
 use Rattle.hs_base.specs.ByteSets.{has, members}
 use Rattle.hs_base.specs.Trees.{Tree, cat, alt, trees_of}
 use Rattle.hs_base.proofs.ByteSetLemmas.{members-at}
 use Rattle.hs_base.proofs.LiteralLemmas.{members-where}
-use Rattle.hs_rose.proofs.ListLemmas.{get-map, take-get}
 
 pub trees-same : (xs ys : List Tree) → trees_of xs ≡ trees_of ys → xs ≡ ys
 trees-same [] [] e = refl
@@ -22,12 +22,11 @@ trees-same (x ∷ xs) (y ∷ ys) e =
     ap (λ z. z ∷ xs) h ∙ ap (λ zs. y ∷ zs) (trees-same xs ys t)
 
 -- two mapped lists are equal as far as one more member
-pub same-more : {A B : Type 0} (f : A → B) (xs ys : List A) (k : ℕ) (x y : A) → slice_get xs k ≡ Some x → slice_get ys k ≡ Some y → take k (map f xs) ≡ take k (map f ys) → f x ≡ f y → take (k + 1) (map f xs) ≡ take (k + 1) (map f ys)
-same-more f xs ys k x y at at' same one =
-    let next : suc k ≡ k + 1 = omega arith in
-    let step : take (suc k) (map f xs) ≡ take (suc k) (map f ys) =
-    take-get (map f xs) k (f x) (get-map f xs k x at) ∙ ap (λ zs. zs ++ f x ∷ []) same ∙ ap (λ z. take k (map f ys) ++ z ∷ []) one ∙ sym (take-get (map f ys) k (f y) (get-map f ys k y at')) in
-    subst (λ n. take n (map f xs) ≡ take n (map f ys)) next step
+pub same-more : {A B : Type 0} (f : A → B) (xs ys : List A) (k : ℕ) (x y : A) → k < length xs → k < length ys → x ≡ get_or xs k x → y ≡ get_or ys k y →
+    take k (map f xs) ≡ take k (map f ys) → f x ≡ f y → take (k + 1) (map f xs) ≡ take (k + 1) (map f ys)
+same-more f xs ys k x y below below' is is' same one =
+    take_more_same (map f xs) (map f ys) k (f x) (omega (arith, below, length-map xs f)) (omega (arith, below', length-map ys f)) same
+    (get_or-map f xs k x (f x) below ∙ ap f (sym is) ∙ one ∙ ap f is' ∙ sym (get_or-map f ys k y (f x) below'))
 
 -- as far as all
 pub same-all : {A B : Type 0} (f : A → B) (xs ys : List A) (k : ℕ) → length xs ≤ k → length ys ≤ k → take k (map f xs) ≡ take k (map f ys) → map f xs ≡ map f ys
@@ -35,10 +34,10 @@ same-all f xs ys k long long' same =
     sym (take_all k (map f xs) (omega (arith, length-map xs f))) ∙ same ∙ take_all k (map f ys) (omega (arith, length-map ys f))
 
 -- equal mapped lists have equal members and one length
-pub same-at : {A B : Type 0} (f : A → B) (xs ys : List A) (k : ℕ) (x y : A) → slice_get xs k ≡ Some x → slice_get ys k ≡ Some y → map f xs ≡ map f ys → f x ≡ f y
-same-at f xs ys k x y at at' same =
-    let e : Some (f x) ≡ Some (f y) = sym (get-map f xs k x at) ∙ ap (λ zs. slice_get zs k) same ∙ get-map f ys k y at' in
-    cc
+pub same-at : {A B : Type 0} (f : A → B) (xs ys : List A) (k : ℕ) (x y : A) → k < length xs → k < length ys → x ≡ get_or xs k x → y ≡ get_or ys k y →
+    map f xs ≡ map f ys → f x ≡ f y
+same-at f xs ys k x y below below' is is' same =
+    ap f is ∙ sym (get_or-map f xs k x (f x) below) ∙ ap (λ zs. get_or zs k (f x)) same ∙ get_or-map f ys k y (f x) below' ∙ ap f (sym is')
 
 pub same-length : {A B : Type 0} (f : A → B) (xs ys : List A) → map f xs ≡ map f ys → length xs ≡ length ys
 same-length f xs ys same = sym (length-map xs f) ∙ ap (λ zs. length zs) same ∙ length-map ys f
@@ -46,9 +45,8 @@ same-length f xs ys same = sym (length-map xs f) ∙ ap (λ zs. length zs) same 
 -- two lists are equal as far as one more member
 pub same-next : {A : Type 0} (xs ys : List A) (k : ℕ) (x y : A) → slice_get xs k ≡ Some x → slice_get ys k ≡ Some y → take k xs ≡ take k ys → x ≡ y → take (k + 1) xs ≡ take (k + 1) ys
 same-next xs ys k x y at at' same one =
-    let next : suc k ≡ k + 1 = omega arith in
-    let step : take (suc k) xs ≡ take (suc k) ys = take-get xs k x at ∙ ap (λ zs. zs ++ x ∷ []) same ∙ ap (λ z. take k ys ++ z ∷ []) one ∙ sym (take-get ys k y at') in
-    subst (λ n. take n xs ≡ take n ys) next step
+    take_more_same xs ys k x (slice_get_within xs k x at) (slice_get_within ys k y at') same
+    (get_or_from_slice_get xs k x x at ∙ one ∙ sym (get_or_from_slice_get ys k y x at'))
 
 pub same-whole : {A : Type 0} (xs ys : List A) (k : ℕ) → length xs ≤ k → length ys ≤ k → take k xs ≡ take k ys → xs ≡ ys
 same-whole xs ys k long long' same = sym (take_all k xs long) ∙ same ∙ take_all k ys long'

@@ -2,8 +2,8 @@ use Rattle.std.proofs.Common.{◌≡◌, ap, arith}
 use Rattle.std.proofs.lemmas.Bool.{eq-eqb, eqb-true}
 use Rattle.std.specs.Int.{bit_at}
 use Rattle.std.proofs.Common.{eqb}
-use Rattle.hs_rose.proofs.SameLemmas.{bits-same}
-use Rattle.hs_rose.proofs.same.same_word.Goals as goal
+use Rattle.hs_pieces.proofs.SameLemmas.{bits-same}
+use Rattle.hs_pieces.proofs.same.same_word.Goals as goal
 
 pub returns : goal.returns
 returns c =

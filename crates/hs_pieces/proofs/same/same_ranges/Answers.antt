@@ -1,8 +1,8 @@
 use Rattle.std.proofs.Common.{sym, ◌∙◌, arith}
 use Rattle.std.proofs.lemmas.Bool.{false≢true}
 use Rattle.std.proofs.lemmas.Option.{slice_get-get_or}
-use Rattle.hs_rose.proofs.SameLemmas.{same-there, same-next}
-use Rattle.hs_rose.proofs.same.same_ranges.Goals as goal
+use Rattle.hs_pieces.proofs.SameLemmas.{same-there, same-next}
+use Rattle.hs_pieces.proofs.same.same_ranges.Goals as goal
 
 pub returns-then-not-same_range : goal.returns-then-not-same_range
 returns-then-not-same_range c = (
