@@ -33,7 +33,8 @@ pub(crate) fn unpack_field(
     region[field.at..field.end()].copy_from_slice(field.sets.set(kept[field.place]));
 }
 
-/// Makes the part of what is kept up to the number of a field, behind what is made already.
+/// Makes the part of what is kept up to the number of a field, behind what is made already. The number of the field
+/// before is asked first: where many expressions begin alike, their fields have the same one.
 pub(crate) fn pack_field(
     field: &StateField,
     region: &[u8],
@@ -50,7 +51,8 @@ pub(crate) fn pack_field(
     ensures number { IsNumberFor field.now.sets (slice_range region.now field.now.at (end_of field.now)) prev
         (slice_index kept.new field.now.place) }
 {
-    let number = number_for(&field.sets, &region[field.at..field.end()], prev);
+    let guess = if place == 0 { 0 } else { kept[place - 1] };
+    let number = number_for(&field.sets, &region[field.at..field.end()], prev, guess);
     copy_gap(region, at, field.at, kept, place);
     kept[field.place] = number;
 }
@@ -71,12 +73,13 @@ fn copy_gap(from: &[u8], start: usize, end: usize, to: &mut [u8], at: usize)
     }
 }
 
-/// The number of the state with this set and with what stands before, or 0 where there is none.
-pub(crate) fn number_for(sets: &StateSets, set: &[u8], prev: Prev) -> u8
+/// The number of the state with this set and with what stands before, or 0 where there is none. That of the guess is
+/// asked first.
+pub(crate) fn number_for(sets: &StateSets, set: &[u8], prev: Prev, guess: u8) -> u8
     requires { length set.now ≡ set_width sets.now }
     ensures { IsNumberFor sets.now set.now prev result }
 {
-    match sets.number_of(set, prev) {
+    match sets.number_near(guess, set, prev) {
         Some(number) => number,
         None => 0,
     }

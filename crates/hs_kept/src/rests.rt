@@ -26,7 +26,7 @@ pub struct Rest {
 pub(crate) fn rest_number(sets: &StateSets, prev: Prev) -> Option<u8>
     ensures { IfSome result (λ number. IsRestNumber sets.now prev number) }
 {
-    let number = number_for(sets, &NO_POSITION[..sets.width()], prev);
+    let number = number_for(sets, &NO_POSITION[..sets.width()], prev, 0);
     if is_zero(sets.set(number)) {
         Some(number)
     } else {

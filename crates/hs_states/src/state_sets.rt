@@ -122,6 +122,18 @@ impl StateSets {
         None
     }
 
+    /// The same, where the state of one number is asked first: if that is the one, the others aren't looked at.
+    pub fn number_near(&self, guess: u8, set: &[u8], prev: Prev) -> Option<u8>
+        requires { length set.now ≡ set_width self.now }
+        ensures { IsNumberOfSet self.now set.now prev result }
+    {
+        let kept = kept_prev(self.has_assertion, prev);
+        if (guess as usize) < self.prevs.len() && self.is_at(guess, set, kept) {
+            return Some(guess);
+        }
+        self.number_of(set, prev)
+    }
+
     /// Whether the state of that number has that set, and this stands before.
     fn is_at(&self, number: u8, set: &[u8], kept: Prev) -> bool
         requires { number < state_count self.now }
