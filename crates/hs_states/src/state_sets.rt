@@ -127,8 +127,8 @@ impl StateSets {
         requires { length set.now ≡ set_width self.now }
         ensures { IsNumberOfSet self.now set.now prev result }
     {
-        let kept = kept_prev(self.has_assertion, prev);
-        if (guess as usize) < self.prevs.len() && self.is_at(guess, set, kept) {
+        let is_known = (guess as usize) < self.prevs.len();
+        if is_known && self.is_at(guess, set, kept_prev(self.has_assertion, prev)) {
             return Some(guess);
         }
         self.number_of(set, prev)
