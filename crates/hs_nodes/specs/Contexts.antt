@@ -10,6 +10,7 @@ use Rattle.hs_base.specs.Trees.{Tree}
 use Rattle.hs_bits.specs.BlockContexts.{AreContexts}
 use Rattle.hs_bits.specs.declared.contexts.Contexts.{Contexts}
 use Rattle.hs_nodes.specs.Blocks.{EndsBehind, block, front}
+use Rattle.hs_nodes.specs.declared.contexts.ChunkContexts.{ChunkContexts}
 use Rattle.hs_nodes.specs.declared.table.NodeKind.{NodeKind}
 use Rattle.hs_nodes.specs.declared.table.NodeKind.TheVariants.{Engine, Literal, FirstLiteral, LookBack}
 
@@ -24,6 +25,11 @@ pub record AreChunkContexts (contexts : List Contexts) (prev : Prev) (at : ℕ) 
   pub each : (j : ℕ) → 64 * j < length bytes → (c : Contexts) × (slice_get contexts j ≡ Some c)
       × ((u : List ℕ) → EndsBehind u prev at →
       AreContexts c (prev_at (front u bytes j) (length (front u bytes j))) (block bytes j))
+
+-- There are eight blocks, and if their contexts are made, they are those of that chunk.
+pub record AreRightIfMade (contexts : ChunkContexts) (prev : Prev) (at : ℕ) (bytes : List ℕ) : Type 0 where
+  pub count : length contexts.blocks ≡ 8
+  pub made : contexts.are_made ≡ true → AreChunkContexts contexts.blocks prev at bytes
 
 -- a node of that kind asks for contexts
 abbrev pub NeedsContexts : NodeKind → Type 0

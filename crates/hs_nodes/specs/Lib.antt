@@ -9,6 +9,7 @@ pub mod LookBacks
 pub mod Walks
 pub mod Openings
 pub mod Lone
+pub mod Foretelling
 pub mod Resting
 pub mod Living
 pub mod Waking

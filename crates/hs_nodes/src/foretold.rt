@@ -2,8 +2,6 @@
 
 ghost use Rattle.std.specs.Prelude.{◌≡◌, ◌<◌, ℕ, true, false, length};
 ghost use Rattle.hs_bits.specs.Marks.{is_marked, mark_room};
-ghost use Rattle.hs_nodes.specs.Lone.{is_spent_node};
-ghost use Rattle.hs_nodes.specs.Openings.{is_passed};
 ghost use Rattle.hs_nodes.specs.Sparing.{IsUnhit};
 
 use crate::hits::ChunkHits;
@@ -16,7 +14,7 @@ use hs_waking::Starts;
 
 /// What is known of a chunk before its nodes are run.
 #[derive(Clone, Copy, Debug)]
-pub struct Foretold<'h, 'e, 's, 'c, 'o, 'l> {
+pub struct Foretold<'h, 'e, 's, 'c, 'o, 'l, 'b, 'p> {
     /// Where each literal ends in it.
     pub hits: &'h [ChunkHits],
     /// The literals that end somewhere in it: one that isn't marked ends nowhere.
@@ -30,26 +28,28 @@ pub struct Foretold<'h, 'e, 's, 'c, 'o, 'l> {
     /// Whether these are over: their nodes are passed over, whatever is marked.
     pub are_over: bool,
     /// The nodes of which it plays no part where they are left.
-    pub spent: Spent<'l, 'l>,
+    pub spent: Spent<'l, 'l, 'l, 'b, 'p>,
     ghost unhit: { (number : ℕ) → is_marked ending.now number ≡ false → IsUnhit number hits.now },
 }
 
-impl Foretold<'_, '_, '_, '_, '_, '_> {
+impl Foretold<'_, '_, '_, '_, '_, '_, '_, '_> {
+    ghost use Rattle.hs_nodes.specs.Foretelling.{passes, spends};
+
     /// Whether the node of that number is spent, the cache doesn't tell what it does, and it is worth while to catch up
-    /// with a chunk at its end.
+    /// with the chunk at its end.
     #[inline(always)]
-    pub(crate) fn is_left_behind<E>(&self, table: &NodeTable<E>, k: usize, bytes: &[u8]) -> bool
+    pub(crate) fn is_left_behind<E>(&self, table: &NodeTable<E>, k: usize) -> bool
         requires { k < length table.now.nodes.items }
-        ensures { result ≡ true → is_spent_node self.now.spent.lone.now self.now.spent.told.now k ≡ true }
+        ensures { result ≡ true → spends self.now k ≡ true }
     {
-        self.spent.is_left(table, k, bytes) && !self.cache.is_told(k)
+        self.spent.is_left(table, k) && !self.cache.is_told(k)
     }
 
     /// Whether the node of that number is passed over.
     #[inline(always)]
     pub(crate) fn passes(&self, k: usize) -> bool
         requires { k < mark_room self.now.openings.now.nodes }
-        ensures { result ≡ is_passed self.now.are_over self.now.openings.now k }
+        ensures { result ≡ passes self.now k }
     {
         self.are_over && self.openings.nodes.contains(k)
     }

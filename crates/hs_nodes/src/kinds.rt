@@ -29,7 +29,7 @@ pub(crate) struct Found<'c, 'f, 'a> {
     /// The contexts of its blocks, if a node has a mask.
     pub contexts: &'c [Contexts],
     /// What is known of it before.
-    pub foretold: &'f Foretold<'f, 'f, 'f, 'f, 'f, 'f>,
+    pub foretold: &'f Foretold<'f, 'f, 'f, 'f, 'f, 'f, 'f, 'f>,
     /// Everywhere: where no pieces are left.
     pub all: &'a ChunkEnds,
 }

@@ -8,7 +8,7 @@ ghost use Rattle.hs_nodes.specs.Lone.{IsOfOneIdentifier, is_spent_node};
 ghost use Rattle.hs_nodes.specs.Walks.{IsTableSound};
 ghost use Rattle.hs_nodes.specs.declared.table.Node.{Node};
 
-use crate::chunk::BLOCK_BYTES;
+use crate::chunk::{BLOCK_BYTES, Chunk};
 use crate::gathering::terminals_of;
 use crate::graph::Graph;
 use crate::table::{Node, NodeKind, NodeTable};
@@ -164,16 +164,18 @@ fn only_identifier<E: BlockEngine>(graph: &Graph<E>, k: usize) -> Option<u32>
     }
 }
 
-/// The lone nodes, and of which identifiers a pair is told: the nodes of these are spent.
+/// The lone nodes, and of which identifiers a pair is told before a chunk: the nodes of these are spent in it.
 #[derive(Clone, Copy, Debug)]
-pub struct Spent<'l, 't> {
+pub struct Spent<'l, 't, 'c, 'b, 'p> {
     /// The lone nodes.
     pub lone: &'l LoneNodes,
     /// A bit for each identifier, by its number: it is single, and a pair of it is told.
     pub told: &'t [u64],
+    /// The chunk.
+    pub chunk: &'c Chunk<'b, 'p>,
 }
 
-impl Spent<'_, '_> {
+impl Spent<'_, '_, '_, '_, '_> {
     /// Whether the node of that number is a lone one of whose identifier a pair is told.
     #[inline(always)]
     pub(crate) fn contains(&self, k: usize) -> bool
@@ -186,22 +188,23 @@ impl Spent<'_, '_> {
         place / WORD_BITS < self.told.len() && contains_word_bit(self.told, place)
     }
 
-    /// Whether the node of that number is spent, and it is worth while to catch up with a chunk at its end: behind one
-    /// of the last bytes nothing of it is live.
+    /// Whether the node of that number is spent, and it is worth while to catch up with the chunk at its end: behind
+    /// one of the last bytes nothing of it is live.
     #[inline(always)]
-    pub(crate) fn is_left<E>(&self, table: &NodeTable<E>, k: usize, bytes: &[u8]) -> bool
+    pub(crate) fn is_left<E>(&self, table: &NodeTable<E>, k: usize) -> bool
         requires { k < length table.now.nodes.items }
         ensures { result ≡ true → is_spent_node self.now.lone.now self.now.told.now k ≡ true }
     {
-        !self.told.is_empty() && self.is_soon_clear(table, k, bytes)
+        !self.told.is_empty() && self.is_soon_clear(table, k)
     }
 
     /// The same where a pair of some identifier may be told.
     #[inline(never)]
-    fn is_soon_clear<E>(&self, table: &NodeTable<E>, k: usize, bytes: &[u8]) -> bool
+    fn is_soon_clear<E>(&self, table: &NodeTable<E>, k: usize) -> bool
         requires { k < length table.now.nodes.items }
         ensures { result ≡ true → is_spent_node self.now.lone.now self.now.told.now k ≡ true }
     {
-        self.contains(k) && self.lone.is_soon_clear(node_at(table, k).kind, bytes)
+        let kind = node_at(table, k).kind;
+        self.contains(k) && self.lone.is_soon_clear(kind, self.chunk.bytes)
     }
 }

@@ -62,14 +62,14 @@ fn never_empty(kind: NodeKind) -> bool
     }
 }
 
-/// The places of a chunk behind `prev` at which a row fits of the engine that stands at that place among those without
-/// a parent; all, where the rows can't be asked. The words are those of this chunk so far as they are known, and the
+/// The places of a chunk at which a row fits of the engine that stands at that place among those without a parent; all,
+/// where all will do or the rows can't be asked. The words are those of this chunk so far as they are known, and the
 /// levels those of a row in it.
 fn start_places(
     wakes: &WakeTable,
     place: usize,
-    prev: Prev,
-    bytes: &[u8],
+    chunk: &Chunk,
+    will_all_do: bool,
     words: &mut ClassWords,
     stack: &mut FitStack,
 ) -> Places
@@ -79,14 +79,13 @@ fn start_places(
         d < length (row_numbers row) → slice_index (row_numbers row) d < length wakes.now.sets.items }
     requires begins { (i : ℕ) (row : WakeRow) → slice_get wakes.now.rows.items i ≡ Some row →
         IsBehindBy row wakes.now.sets.items }
-    requires few { length bytes.now ≤ 512 }
-    requires chunk { AreOfChunk words.old wakes.now.sets.items bytes.now }
-    requires levels { IsStackOf stack.old wakes.now.sets.items prev bytes.now }
-    ensures chunk { AreOfChunk words.new wakes.now.sets.items bytes.now }
-    ensures levels { IsStackOf stack.new wakes.now.sets.items prev bytes.now }
-    ensures places { AreStartsBy wakes.now place prev bytes.now result }
+    requires chunk { AreOfChunk words.old wakes.now.sets.items chunk.now.bytes.now }
+    requires levels { IsStackOf stack.old wakes.now.sets.items chunk.now.prev chunk.now.bytes.now }
+    ensures chunk { AreOfChunk words.new wakes.now.sets.items chunk.now.bytes.now }
+    ensures levels { IsStackOf stack.new wakes.now.sets.items chunk.now.prev chunk.now.bytes.now }
+    ensures places { AreStartsBy wakes.now place chunk.now.prev chunk.now.bytes.now result }
 {
-    if wakes.sets.len() > words.count() {
+    if will_all_do || wakes.sets.len() > words.count() {
         return ALL_PLACES;
     }
     let mut places = NO_PLACES;
@@ -94,7 +93,7 @@ fn start_places(
     for i in start_of(&wakes.row_starts, place)..to {
         let row = &wakes.rows[i];
         if !stack.rules_out(row) {
-            let fitting = stack.fit_places(row, &wakes.sets, words, prev, bytes);
+            let fitting = stack.fit_places(row, &wakes.sets, words, chunk.prev, chunk.bytes);
             unite_words(&mut places, &fitting);
         }
     }
@@ -160,12 +159,11 @@ fn is_woken<E>(graph: &Graph<E>, k: usize, places: &Places) -> bool
     !is_none(places) | !never_empty(node_at(&graph.table, k).kind)
 }
 
-/// Marks the node that stands at that place among those of engines without a parent, if a chunk wakes it, and tells
-/// where its matches may begin.
+/// Marks the node that stands at that place among those of engines without a parent, if the chunk wakes it in which
+/// nodes are spent, and tells where its matches may begin.
 fn wake_engine<E: Engine>(
     graph: &Graph<E>,
     place: usize,
-    chunk: &Chunk,
     words: &mut ClassWords,
     stack: &mut FitStack,
     cache: &Cache,
@@ -178,27 +176,32 @@ fn wake_engine<E: Engine>(
     requires there { slice_index graph.now.wakes.first_engines.items place < length graph.now.table.nodes.items }
     requires room { length graph.now.table.nodes.items ≤ mark_room marks.old }
     requires below { (k : ℕ) → is_marked marks.old k ≡ true → k < length graph.now.table.nodes.items }
-    requires small { Each (λ b. b < 256) chunk.now.bytes.now }
-    requires chunk { AreOfChunk words.old graph.now.wakes.sets.items chunk.now.bytes.now }
-    requires levels { IsStackOf stack.old graph.now.wakes.sets.items chunk.now.prev chunk.now.bytes.now }
-    requires told { AreToldAsleep E.meaning graph.now.table cache.now marks.old chunk.now.prev chunk.now.bytes.now }
-    ensures chunk { AreOfChunk words.new graph.now.wakes.sets.items chunk.now.bytes.now }
-    ensures levels { IsStackOf stack.new graph.now.wakes.sets.items chunk.now.prev chunk.now.bytes.now }
+    requires small { Each (λ b. b < 256) spent.now.chunk.now.bytes.now }
+    requires chunk { AreOfChunk words.old graph.now.wakes.sets.items spent.now.chunk.now.bytes.now }
+    requires levels { IsStackOf stack.old graph.now.wakes.sets.items spent.now.chunk.now.prev
+        spent.now.chunk.now.bytes.now }
+    requires told { AreToldAsleep E.meaning graph.now.table cache.now marks.old spent.now.chunk.now.prev
+        spent.now.chunk.now.bytes.now }
+    ensures chunk { AreOfChunk words.new graph.now.wakes.sets.items spent.now.chunk.now.bytes.now }
+    ensures levels { IsStackOf stack.new graph.now.wakes.sets.items spent.now.chunk.now.prev
+        spent.now.chunk.now.bytes.now }
     ensures more { AreMoreMarks (length graph.now.table.nodes.items) marks.old marks.new }
     ensures asleep { (node : Node) →
         slice_get graph.now.table.nodes.items (slice_index graph.now.wakes.first_engines.items place) ≡ Some node →
         is_marked marks.new (slice_index graph.now.wakes.first_engines.items place) ≡ false →
-        IsKindAsleep E.meaning graph.now.table.engines.items node.kind chunk.now.prev chunk.now.bytes.now }
+        IsKindAsleep E.meaning graph.now.table.engines.items node.kind spent.now.chunk.now.prev
+        spent.now.chunk.now.bytes.now }
     ensures starts { (node : Node) →
         slice_get graph.now.table.nodes.items (slice_index graph.now.wakes.first_engines.items place) ≡ Some node →
         told cache.now (slice_index graph.now.wakes.first_engines.items place) ≡ None →
         DoStartsSuffice E.meaning graph.now.table.engines.items node.kind starts.new
-        (slice_index graph.now.wakes.first_engines.items place) chunk.now.prev chunk.now.bytes.now }
+        (slice_index graph.now.wakes.first_engines.items place) spent.now.chunk.now.prev
+        spent.now.chunk.now.bytes.now }
     ensures others { (k j : ℕ) → (k ≡ slice_index graph.now.wakes.first_engines.items place → ⊥) → j < 8 →
         start_word starts.new k j ≡ start_word starts.old k j }
 {
     let k = start_of(&graph.wakes.first_engines, place);
-    if is_behind_start(graph, place, k, chunk.prev) {
+    if is_behind_start(graph, place, k, spent.chunk.prev) {
         starts.tell_nowhere(k);
         return;
     }
@@ -209,24 +212,19 @@ fn wake_engine<E: Engine>(
         starts.tell_nowhere(k);
         return;
     }
-    if spent.is_left(&graph.table, k, chunk.bytes) {
-        starts.tell(k, &ALL_PLACES);
-        marks.write(k, true);
-        return;
-    }
-    let places = start_places(&graph.wakes, place, chunk.prev, chunk.bytes, words, stack);
+    let is_left = spent.is_left(&graph.table, k);
+    let places = start_places(&graph.wakes, place, spent.chunk, is_left, words, stack);
     starts.tell(k, &places);
     if is_woken(graph, k, &places) {
         marks.write(k, true);
     }
 }
 
-/// Marks the nodes of engines without a parent that a chunk wakes: those that have the empty span, and those of which a
-/// row fits somewhere in its bytes. Tells of each where its matches may begin. Those of which a cache tells are left as
-/// they are.
+/// Marks the nodes of engines without a parent that the chunk wakes in which nodes are spent: those that have the empty
+/// span, and those of which a row fits somewhere in its bytes. Tells of each where its matches may begin. Those of
+/// which a cache tells are left as they are.
 pub fn wake_engines<E: Engine>(
     graph: &Graph<E>,
-    chunk: &Chunk,
     words: &mut ClassWords,
     cache: &Cache,
     spent: &Spent,
@@ -237,17 +235,20 @@ pub fn wake_engines<E: Engine>(
     requires rows { AreRowsSound E.meaning graph.now.table graph.now.wakes }
     requires room { length graph.now.table.nodes.items ≤ mark_room marks.old }
     requires below { (k : ℕ) → is_marked marks.old k ≡ true → k < length graph.now.table.nodes.items }
-    requires small { Each (λ b. b < 256) chunk.now.bytes.now }
-    requires told { AreToldAsleep E.meaning graph.now.table cache.now marks.old chunk.now.prev chunk.now.bytes.now }
-    ensures starts { AreStartsEnough E.meaning graph.now.table cache.now starts.new chunk.now.prev chunk.now.bytes.now }
+    requires small { Each (λ b. b < 256) spent.now.chunk.now.bytes.now }
+    requires told { AreToldAsleep E.meaning graph.now.table cache.now marks.old spent.now.chunk.now.prev
+        spent.now.chunk.now.bytes.now }
+    ensures starts { AreStartsEnough E.meaning graph.now.table cache.now starts.new spent.now.chunk.now.prev
+        spent.now.chunk.now.bytes.now }
     ensures more { AreMoreMarks (length graph.now.table.nodes.items) marks.old marks.new }
-    ensures asleep { AreEnginesUnwoken E.meaning graph.now.table marks.new chunk.now.prev chunk.now.bytes.now }
+    ensures asleep { AreEnginesUnwoken E.meaning graph.now.table marks.new spent.now.chunk.now.prev
+        spent.now.chunk.now.bytes.now }
 {
     words.begin();
     let mut stack = FitStack::new();
     for i in 0..graph.wakes.first_engines.len() {
         wake_engine(
-            graph, i, chunk, words, &mut stack, cache, spent, starts, marks,
+            graph, i, words, &mut stack, cache, spent, starts, marks,
         );
     }
 }

@@ -7,8 +7,9 @@ ghost use Rattle.hs_lazy.specs.Caches.{Told, told};
 ghost use Rattle.hs_nodes.specs.Cached.{IsToldKind, TellsNodes};
 ghost use Rattle.hs_nodes.specs.Contexts.{AreChunkContexts, NeedsContexts};
 ghost use Rattle.hs_nodes.specs.Left.{AreLeftIn, nowhere};
-ghost use Rattle.hs_nodes.specs.Lone.{AreLoneIn, IsLoneNode, is_spent_node};
-ghost use Rattle.hs_nodes.specs.Openings.{AreOthersSound, MayNodesBePassed, is_passed};
+ghost use Rattle.hs_nodes.specs.Foretelling.{passes, spends};
+ghost use Rattle.hs_nodes.specs.Lone.{AreLoneIn, IsLoneNode};
+ghost use Rattle.hs_nodes.specs.Openings.{AreOthersSound, MayNodesBePassed};
 ghost use Rattle.hs_nodes.specs.Pooled.{ArePooled};
 ghost use Rattle.hs_nodes.specs.Resting.{AreEnginesIdle};
 ghost use Rattle.hs_nodes.specs.Sparing.{AreQuiet, IsLiteralThere, IsSpared};
@@ -23,8 +24,8 @@ ghost use Rattle.hs_nodes.specs.declared.ends.ChunkEnds.{ChunkEnds};
 ghost use Rattle.hs_nodes.specs.declared.table.Node.{Node};
 
 use crate::catching_up::catch_up;
-use crate::chunk::{Chunk, MAX_BLOCKS};
-use crate::contexts::make_contexts;
+use crate::chunk::Chunk;
+use crate::contexts::ChunkContexts;
 use crate::ends::ChunkEnds;
 use crate::engines::Entry;
 use crate::first::everywhere;
@@ -32,8 +33,7 @@ use crate::foretold::Foretold;
 use crate::kinds::{Found, run_kind};
 use crate::lone::LoneNodes;
 use crate::table::{Node, NodeKind, NodeTable};
-use hs_base::Prev;
-use hs_bits::{Contexts, MarkSet};
+use hs_bits::MarkSet;
 use hs_block::BlockEngine;
 use hs_engine::{Steps, TimelessEngine};
 use hs_pool::StatePool;
@@ -271,10 +271,8 @@ pub fn walk<E: BlockEngine + TimelessEngine, L: Ledger>(
 )
     requires sound { (literals : ℕ) × IsTableSound E.meaning table.now literals (length region.old)
         × (literals ≤ mark_room foretold.now.ending.now) }
-    requires others { AreOthersSound E.meaning table.now (is_passed foretold.now.are_over foretold.now.openings.now)
-        (length foretold.now.hits.now) }
-    requires passed { MayNodesBePassed E.meaning table.now (is_passed foretold.now.are_over foretold.now.openings.now)
-        region.old chunk.now.at }
+    requires others { AreOthersSound E.meaning table.now (passes foretold.now) (length foretold.now.hits.now) }
+    requires passed { MayNodesBePassed E.meaning table.now (passes foretold.now) region.old chunk.now.at }
     requires openings { length table.now.nodes.items ≤ mark_room foretold.now.openings.now.nodes }
     requires lone { AreLoneIn E.meaning table.now foretold.now.spent.lone.now }
     requires well { AreNodesWell E.meaning table.now region.old chunk.now.at }
@@ -297,22 +295,20 @@ pub fn walk<E: BlockEngine + TimelessEngine, L: Ledger>(
     ensures pool { ArePooled E.meaning table.now.engines.items pool.new }
     ensures ticks { steps.new ≤
         steps.old + nodes_ticks table.now.nodes.items foretold.now.hits.now (length chunk.now.bytes.now) }
-    ensures takes { TakesNodes E.meaning table.now
-        (is_spent_node foretold.now.spent.lone.now foretold.now.spent.told.now) region.old region.new chunk.now.prev
+    ensures takes { TakesNodes E.meaning table.now (spends foretold.now) region.old region.new chunk.now.prev
         chunk.now.at chunk.now.past.now chunk.now.bytes.now foretold.now.hits.now ends.new }
 {
     let all = everywhere(chunk);
-    let mut contexts = [Contexts::new(Prev::Start, &[]); MAX_BLOCKS];
-    let mut are_made = false;
+    let mut contexts = ChunkContexts::unmade();
     let mut from = 0;
     while let Some(k) = marks.next(from) {
         from = k + 1;
-        if foretold.is_left_behind(table, k, chunk.bytes) {
+        if foretold.is_left_behind(table, k) {
             catch_up_node(table, k, chunk, foretold.spent.lone, region, steps);
         } else if !foretold.passes(k) {
-            are_made = make_contexts(node_at(table, k).kind, chunk, &mut contexts, are_made);
+            contexts.make_for(node_at(table, k).kind, chunk);
             let found = Found {
-                contexts: &contexts,
+                contexts: &contexts.blocks,
                 foretold: &*foretold,
                 all: &all,
             };

@@ -21,16 +21,20 @@ use hs_engine::{Steps, TimelessEngine};
 use hs_nodes::{BLOCK_BYTES, Chunk, Foretold, Graph, LoneNodes, Spent, walk};
 use std::sync::ledger::Ledger;
 
-/// Of which identifiers it counts that a pair is told: of none in a chunk that is shorter than a block, or where no
-/// node is a lone one.
-fn told_in<'t>(told: &'t [u64], lone: &LoneNodes, chunk: &Chunk) -> &'t [u64]
-    ensures { (k : ℕ) → spent_in lone.now told.now chunk.now.bytes.now k ≡ false →
-        is_spent_node lone.now result.now k ≡ false }
+/// The nodes that are spent in a chunk, by what is told before it: none in one that is shorter than a block.
+fn spent_in<'l, 't, 'c, 'b, 'p>(
+    lone: &'l LoneNodes,
+    told: &'t [u64],
+    chunk: &'c Chunk<'b, 'p>,
+) -> Spent<'l, 't, 'c, 'b, 'p>
+    ensures chunk { result.chunk.now ≡ chunk.now }
+    ensures lone { result.lone.now ≡ lone.now }
+    ensures fewer { (k : ℕ) → spent_in lone.now told.now chunk.now.bytes.now k ≡ false →
+        is_spent_node lone.now result.told.now k ≡ false }
 {
-    if lone.is_empty() || chunk.bytes.len() < BLOCK_BYTES {
-        return &[];
-    }
-    told
+    let is_short = lone.is_empty() || chunk.bytes.len() < BLOCK_BYTES;
+    let told = if is_short { &[] } else { told };
+    Spent { lone, told, chunk }
 }
 
 /// Runs the nodes that a chunk concerns, of which the scratch has where the literals end in it: the region goes from
@@ -54,8 +58,7 @@ pub(crate) fn run_nodes<E: BlockEngine + TimelessEngine, L: Ledger>(
     requires others { (k : ℕ) → has_hit scratch.old.rows k ≡ false → HasNowhere scratch.old.hits.items k }
     requires lone { AreLoneNodes E.meaning graph.now lone.now }
     requires over { are_over ≡ true → AreOver graph.now.openings chunk.now.at scratch.old.course.marks }
-    ensures well { AreNodesWell E.meaning graph.now.table region.new
-        (chunk.now.at + length chunk.now.bytes.now) }
+    ensures well { AreNodesWell E.meaning graph.now.table region.new (chunk.now.at + length chunk.now.bytes.now) }
     ensures room { HasRoomForNodes (length graph.now.table.nodes.items) scratch.new }
     ensures changes { ChangesMarked E.meaning graph.now.table scratch.new.course.marks region.old region.new
         scratch.new.ends.items }
@@ -64,19 +67,14 @@ pub(crate) fn run_nodes<E: BlockEngine + TimelessEngine, L: Ledger>(
     ensures keeps { KeepsKnown scratch.old scratch.new }
     ensures ticks { steps.new ≤
         steps.old + 16 * (length graph.now.table.nodes.items * (length chunk.now.bytes.now + 1)) }
-    ensures takes { TakesNodes E.meaning graph.now.table
-        (spent_in lone.now scratch.old.course.known.told.items chunk.now.bytes.now) region.old region.new chunk.now.prev
-        chunk.now.at chunk.now.past.now chunk.now.bytes.now (sought are_over graph.now.openings scratch.old.hits.items)
-        scratch.new.ends.items }
+    ensures takes { TakesNodes E.meaning graph.now.table (spent_in lone.now scratch.old.course.known.told.items
+        chunk.now.bytes.now) region.old region.new chunk.now.prev chunk.now.at chunk.now.past.now chunk.now.bytes.now
+        (sought are_over graph.now.openings scratch.old.hits.items) scratch.new.ends.items }
 {
-    let spent = Spent {
-        lone,
-        told: told_in(&scratch.course.known.told, lone, chunk),
-    };
+    let spent = spent_in(lone, &scratch.course.known.told, chunk);
     wake(
         graph,
         &scratch.rows,
-        chunk,
         region,
         &mut scratch.words,
         &mut cache.automata,

@@ -16,7 +16,7 @@ use hs_bits::MarkSet;
 use hs_engine::TimelessEngine;
 use hs_lazy::Cache;
 use hs_literals::HitRows;
-use hs_nodes::{Chunk, Graph, Spent, run_cached, wake_engines, wake_literal};
+use hs_nodes::{Graph, Spent, run_cached, wake_engines, wake_literal};
 use hs_waking::{ClassWords, Starts};
 
 /// Marks the nodes that the literals wake that end in a chunk.
@@ -36,14 +36,13 @@ fn wake_literals<E>(graph: &Graph<E>, rows: &HitRows, marks: &mut MarkSet)
     }
 }
 
-/// Marks the nodes that a chunk wakes, in which just the literals end of which the rows tell it. Of the
-/// engines without a parent the cache tells what they do, from the region on, or it is said where their matches may
-/// begin.
+/// Marks the nodes that the chunk wakes in which nodes are spent, and in which just the literals end of which the rows
+/// tell it. Of the engines without a parent the cache tells what they do, from the region on, or it is said where their
+/// matches may begin.
 #[inline(never)]
 pub(crate) fn wake<E: TimelessEngine>(
     graph: &Graph<E>,
     rows: &HitRows,
-    chunk: &Chunk,
     region: &[u8],
     words: &mut ClassWords,
     cache: &mut Cache,
@@ -59,15 +58,19 @@ pub(crate) fn wake<E: TimelessEngine>(
     requires wakes { AreWakesSound graph.now.table.nodes.items graph.now.wakes rows.now.count }
     requires room { length graph.now.table.nodes.items ≤ mark_room marks.old }
     requires below { (k : ℕ) → is_marked marks.old k ≡ true → k < length graph.now.table.nodes.items }
-    requires small { Each (λ b. b < 256) chunk.now.bytes.now }
+    requires small { Each (λ b. b < 256) spent.now.chunk.now.bytes.now }
     ensures more { AreMoreMarks (length graph.now.table.nodes.items) marks.old marks.new }
     ensures cache { IsCacheOf E.meaning graph.now.table cache.new }
-    ensures told { TellsNodes E.meaning graph.now.table cache.new region.now chunk.now.prev chunk.now.bytes.now }
-    ensures starts { AreStartsEnough E.meaning graph.now.table cache.new starts.new chunk.now.prev chunk.now.bytes.now }
+    ensures told { TellsNodes E.meaning graph.now.table cache.new region.now spent.now.chunk.now.prev
+        spent.now.chunk.now.bytes.now }
+    ensures starts { AreStartsEnough E.meaning graph.now.table cache.new starts.new spent.now.chunk.now.prev
+        spent.now.chunk.now.bytes.now }
     ensures unwoken { (hits : List ChunkHits) → ((k : ℕ) → has_hit rows.now k ≡ false → HasNowhere hits k) →
-        AreNodesUnwoken E.meaning graph.now.table marks.new hits chunk.now.prev chunk.now.bytes.now }
+        AreNodesUnwoken E.meaning graph.now.table marks.new hits spent.now.chunk.now.prev
+        spent.now.chunk.now.bytes.now }
 {
+    let chunk = spent.chunk;
     run_cached(&graph.table, chunk.prev, chunk.bytes, region, cache, marks);
     wake_literals(graph, rows, marks);
-    wake_engines(graph, chunk, words, cache, spent, starts, marks);
+    wake_engines(graph, words, cache, spent, starts, marks);
 }

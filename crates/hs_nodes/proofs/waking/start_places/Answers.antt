@@ -14,7 +14,7 @@ use Rattle.hs_nodes.proofs.waking.start_places.Goals.{then-not-rules_out, else-n
 pub returns-then-len-count-clause-places : goal.returns-then-len-count-clause-places
 returns-then-len-count-clause-places c =
     let wakes = c.args.wakes.now in
-    places-all wakes.rows.items wakes.sets.items c.args.prev c.args.bytes.now (slice_index wakes.row_starts.items c.args.place) (slice_index wakes.row_starts.items (suc c.args.place)) _ refl c.requires.few
+    places-all wakes.rows.items wakes.sets.items c.args.chunk.now.prev c.args.chunk.now.bytes.now (slice_index wakes.row_starts.items c.args.place) (slice_index wakes.row_starts.items (suc c.args.place)) _ refl c.args.chunk.now.few
 
 pub fit_places-fitting-requires-clause-numbers : goal.fit_places-fitting-requires-clause-numbers
 fit_places-fitting-requires-clause-numbers c d low =
@@ -37,8 +37,8 @@ loop-i-preserved c =
     let rows = c.args.wakes.now.rows in
     let sets = c.args.wakes.now.sets.items in
     let starts = c.args.wakes.now.row_starts.items in
-    let prev = c.args.prev in
-    let bytes = c.args.bytes.now in
+    let prev = c.args.chunk.now.prev in
+    let bytes = c.args.chunk.now.bytes.now in
     let row = c.index-row.result.now in
     let i = c.loop-i.i in
     let from = slice_index starts c.args.place in
@@ -53,7 +53,7 @@ loop-i-preserved c =
             chunk = subst (λ ws. AreOfChunk ws sets bytes) (sym w.words-is) (subst (λ ss. AreOfChunk fit.new.words ss bytes) same fit.ensures.chunk);
             levels = subst (λ s. IsStackOf s sets prev bytes) (sym w.stack-is) (subst (λ ss. IsStackOf fit.new.self ss prev bytes) same fit.ensures.levels);
             places = subst (HavePlaces rows.items sets from (i + 1) prev bytes) (sym w.places-is)
-                (places-united rows.items sets prev bytes from i (i + 1) c.loop-i.places fit.result w.unite_words.new.words row refl c.requires.few at w.unite_words.ensures.bits
+                (places-united rows.items sets prev bytes from i (i + 1) c.loop-i.places fit.result w.unite_words.new.words row refl c.args.chunk.now.few at w.unite_words.ensures.bits
                 (λ own numbered. fit.ensures.places own (subst (λ ss. IsRowBy (row_numbers row) ss own) (sym same) numbered)) c.loop-i.invariant.places);
           }
       | else-not-rules_out w ↦
@@ -63,7 +63,7 @@ loop-i-preserved c =
             levels = subst (λ s. IsStackOf s sets prev bytes) (sym w.stack-is) c.loop-i.invariant.levels;
             places = subst (HavePlaces rows.items sets from (i + 1) prev bytes) (sym w.places-is)
                 (places-more rows.items sets prev bytes from i (i + 1) c.loop-i.places c.loop-i.places row refl at (λ p set. set)
-                (λ cut p numbered inside fits. absurd (c.rules_out.ensures w.if-not-rules_out.false sets cut prev bytes c.loop-i.invariant.levels c.requires.few numbered p inside fits)) c.loop-i.invariant.places);
+                (λ cut p numbered inside fits. absurd (c.rules_out.ensures w.if-not-rules_out.false sets cut prev bytes c.loop-i.invariant.levels c.args.chunk.now.few numbered p inside fits)) c.loop-i.invariant.places);
           }
     ]
 

@@ -13,7 +13,7 @@ returns-then-is_woken-clause-starts g c node there untold =
     let list = graph.wakes.first_engines.items in
     let k = slice_index list c.args.place in
     let same : c.start_of-k.result ≡ k = c.start_of-k.ensures ∙ ap (λ xs. slice_index xs c.args.place) c.deref.ensures.value in
-    row-starts g.E.Engine.meaning graph.table graph.wakes c.args.place k c.args.chunk.now.prev c.args.chunk.now.bytes.now c.start_places-places.result c.tell-2.new.self c.requires.rows c.args.chunk.now.few (λ i low. byte-small c.args.chunk.now.bytes.now i c.requires.small low) (read-there list c.args.place c.requires.place)
+    row-starts g.E.Engine.meaning graph.table graph.wakes c.args.place k c.args.spent.now.chunk.now.prev c.args.spent.now.chunk.now.bytes.now c.start_places-places.result c.tell-2.new.self c.requires.rows c.args.spent.now.chunk.now.few (λ i low. byte-small c.args.spent.now.chunk.now.bytes.now i c.requires.small low) (read-there list c.args.place c.requires.place)
     (λ below j small. ap (λ i. start_word c.tell-2.new.self i j) (sym same) ∙ c.tell-2.ensures.own (omega (arith, below, same, c.tell-2.ensures.count)) j small)
     node there c.start_places-places.ensures.places
 
@@ -23,7 +23,7 @@ returns-else-is_woken-clause-starts g c node there untold =
     let list = graph.wakes.first_engines.items in
     let k = slice_index list c.args.place in
     let same : c.start_of-k.result ≡ k = c.start_of-k.ensures ∙ ap (λ xs. slice_index xs c.args.place) c.deref.ensures.value in
-    row-starts g.E.Engine.meaning graph.table graph.wakes c.args.place k c.args.chunk.now.prev c.args.chunk.now.bytes.now c.start_places-places.result c.tell-2.new.self c.requires.rows c.args.chunk.now.few (λ i low. byte-small c.args.chunk.now.bytes.now i c.requires.small low) (read-there list c.args.place c.requires.place)
+    row-starts g.E.Engine.meaning graph.table graph.wakes c.args.place k c.args.spent.now.chunk.now.prev c.args.spent.now.chunk.now.bytes.now c.start_places-places.result c.tell-2.new.self c.requires.rows c.args.spent.now.chunk.now.few (λ i low. byte-small c.args.spent.now.chunk.now.bytes.now i c.requires.small low) (read-there list c.args.place c.requires.place)
     (λ below j small. ap (λ i. start_word c.tell-2.new.self i j) (sym same) ∙ c.tell-2.ensures.own (omega (arith, below, same, c.tell-2.ensures.count)) j small)
     node there c.start_places-places.ensures.places
 
@@ -34,7 +34,7 @@ returns-else-is_woken-clause-asleep g c node there unmarked =
     let k = slice_index list c.args.place in
     let same : c.start_of-k.result ≡ k = c.start_of-k.ensures ∙ ap (λ xs. slice_index xs c.args.place) c.deref.ensures.value in
     let (never, none) = c.is_woken.ensures.asleep node (ap (slice_get graph.table.nodes.items) same ∙ there) c.if-is_woken.false in
-    starts-asleep g.E.Engine.meaning graph.table graph.wakes c.args.place k c.args.chunk.now.prev c.args.chunk.now.bytes.now c.start_places-places.result c.tell-2.new.self c.requires.rows c.args.chunk.now.few (λ i low. byte-small c.args.chunk.now.bytes.now i c.requires.small low) (read-there list c.args.place c.requires.place)
+    starts-asleep g.E.Engine.meaning graph.table graph.wakes c.args.place k c.args.spent.now.chunk.now.prev c.args.spent.now.chunk.now.bytes.now c.start_places-places.result c.tell-2.new.self c.requires.rows c.args.spent.now.chunk.now.few (λ i low. byte-small c.args.spent.now.chunk.now.bytes.now i c.requires.small low) (read-there list c.args.place c.requires.place)
     (λ below j small. ap (λ i. start_word c.tell-2.new.self i j) (sym same) ∙ c.tell-2.ensures.own (omega (arith, below, same, c.tell-2.ensures.count)) j small)
     node there never none c.start_places-places.ensures.places
 
@@ -44,8 +44,8 @@ returns-then-is_behind_start-clause-starts g c node there untold =
     let list = graph.wakes.first_engines.items in
     let k = slice_index list c.args.place in
     let same : c.start_of-k.result ≡ k = c.start_of-k.ensures ∙ ap (λ xs. slice_index xs c.args.place) c.deref.ensures.value in
-    let places = c.is_behind_start.ensures.places c.args.chunk.now.bytes.now c.if-is_behind_start.true in
-    row-starts g.E.Engine.meaning graph.table graph.wakes c.args.place k c.args.chunk.now.prev c.args.chunk.now.bytes.now no_places c.tell_nowhere.new.self c.requires.rows c.args.chunk.now.few (λ i low. byte-small c.args.chunk.now.bytes.now i c.requires.small low) (read-there list c.args.place c.requires.place)
+    let places = c.is_behind_start.ensures.places c.args.spent.now.chunk.now.bytes.now c.if-is_behind_start.true in
+    row-starts g.E.Engine.meaning graph.table graph.wakes c.args.place k c.args.spent.now.chunk.now.prev c.args.spent.now.chunk.now.bytes.now no_places c.tell_nowhere.new.self c.requires.rows c.args.spent.now.chunk.now.few (λ i low. byte-small c.args.spent.now.chunk.now.bytes.now i c.requires.small low) (read-there list c.args.place c.requires.place)
     (λ below j small. ap (λ i. start_word c.tell_nowhere.new.self i j) (sym same) ∙ (c.tell_nowhere.ensures.own (omega (arith, below, same, c.tell_nowhere.ensures.count)) j small ∙ sym (word-none j small)))
     node there places
 
@@ -55,9 +55,9 @@ returns-then-is_behind_start-clause-asleep g c node there unmarked =
     let list = graph.wakes.first_engines.items in
     let k = slice_index list c.args.place in
     let same : c.start_of-k.result ≡ k = c.start_of-k.ensures ∙ ap (λ xs. slice_index xs c.args.place) c.deref.ensures.value in
-    let places = c.is_behind_start.ensures.places c.args.chunk.now.bytes.now c.if-is_behind_start.true in
+    let places = c.is_behind_start.ensures.places c.args.spent.now.chunk.now.bytes.now c.if-is_behind_start.true in
     let never = c.is_behind_start.ensures.never node (ap (slice_get graph.table.nodes.items) same ∙ there) c.if-is_behind_start.true in
-    starts-asleep g.E.Engine.meaning graph.table graph.wakes c.args.place k c.args.chunk.now.prev c.args.chunk.now.bytes.now no_places c.tell_nowhere.new.self c.requires.rows c.args.chunk.now.few (λ i low. byte-small c.args.chunk.now.bytes.now i c.requires.small low) (read-there list c.args.place c.requires.place)
+    starts-asleep g.E.Engine.meaning graph.table graph.wakes c.args.place k c.args.spent.now.chunk.now.prev c.args.spent.now.chunk.now.bytes.now no_places c.tell_nowhere.new.self c.requires.rows c.args.spent.now.chunk.now.few (λ i low. byte-small c.args.spent.now.chunk.now.bytes.now i c.requires.small low) (read-there list c.args.place c.requires.place)
     (λ below j small. ap (λ i. start_word c.tell_nowhere.new.self i j) (sym same) ∙ (c.tell_nowhere.ensures.own (omega (arith, below, same, c.tell_nowhere.ensures.count)) j small ∙ sym (word-none j small)))
     node there never (zero-places no_places word-none) places
 
@@ -67,8 +67,8 @@ returns-then-is_ruled_out-clause-starts g c node there untold =
     let list = graph.wakes.first_engines.items in
     let k = slice_index list c.args.place in
     let same : c.start_of-k.result ≡ k = c.start_of-k.ensures ∙ ap (λ xs. slice_index xs c.args.place) c.deref.ensures.value in
-    let places = c.is_ruled_out.ensures.places c.args.chunk.now.prev c.args.chunk.now.bytes.now c.if-is_ruled_out.true c.requires.levels c.args.chunk.now.few in
-    row-starts g.E.Engine.meaning graph.table graph.wakes c.args.place k c.args.chunk.now.prev c.args.chunk.now.bytes.now no_places c.tell_nowhere-then-is_ruled_out.new.self c.requires.rows c.args.chunk.now.few (λ i low. byte-small c.args.chunk.now.bytes.now i c.requires.small low) (read-there list c.args.place c.requires.place)
+    let places = c.is_ruled_out.ensures.places c.args.spent.now.chunk.now.prev c.args.spent.now.chunk.now.bytes.now c.if-is_ruled_out.true c.requires.levels c.args.spent.now.chunk.now.few in
+    row-starts g.E.Engine.meaning graph.table graph.wakes c.args.place k c.args.spent.now.chunk.now.prev c.args.spent.now.chunk.now.bytes.now no_places c.tell_nowhere-then-is_ruled_out.new.self c.requires.rows c.args.spent.now.chunk.now.few (λ i low. byte-small c.args.spent.now.chunk.now.bytes.now i c.requires.small low) (read-there list c.args.place c.requires.place)
     (λ below j small. ap (λ i. start_word c.tell_nowhere-then-is_ruled_out.new.self i j) (sym same) ∙ (c.tell_nowhere-then-is_ruled_out.ensures.own (omega (arith, below, same, c.tell_nowhere-then-is_ruled_out.ensures.count)) j small ∙ sym (word-none j small)))
     node there places
 
@@ -78,9 +78,9 @@ returns-then-is_ruled_out-clause-asleep g c node there unmarked =
     let list = graph.wakes.first_engines.items in
     let k = slice_index list c.args.place in
     let same : c.start_of-k.result ≡ k = c.start_of-k.ensures ∙ ap (λ xs. slice_index xs c.args.place) c.deref.ensures.value in
-    let places = c.is_ruled_out.ensures.places c.args.chunk.now.prev c.args.chunk.now.bytes.now c.if-is_ruled_out.true c.requires.levels c.args.chunk.now.few in
+    let places = c.is_ruled_out.ensures.places c.args.spent.now.chunk.now.prev c.args.spent.now.chunk.now.bytes.now c.if-is_ruled_out.true c.requires.levels c.args.spent.now.chunk.now.few in
     let never = c.is_ruled_out.ensures.never node (ap (slice_get graph.table.nodes.items) same ∙ there) c.if-is_ruled_out.true in
-    starts-asleep g.E.Engine.meaning graph.table graph.wakes c.args.place k c.args.chunk.now.prev c.args.chunk.now.bytes.now no_places c.tell_nowhere-then-is_ruled_out.new.self c.requires.rows c.args.chunk.now.few (λ i low. byte-small c.args.chunk.now.bytes.now i c.requires.small low) (read-there list c.args.place c.requires.place)
+    starts-asleep g.E.Engine.meaning graph.table graph.wakes c.args.place k c.args.spent.now.chunk.now.prev c.args.spent.now.chunk.now.bytes.now no_places c.tell_nowhere-then-is_ruled_out.new.self c.requires.rows c.args.spent.now.chunk.now.few (λ i low. byte-small c.args.spent.now.chunk.now.bytes.now i c.requires.small low) (read-there list c.args.place c.requires.place)
     (λ below j small. ap (λ i. start_word c.tell_nowhere-then-is_ruled_out.new.self i j) (sym same) ∙ (c.tell_nowhere-then-is_ruled_out.ensures.own (omega (arith, below, same, c.tell_nowhere-then-is_ruled_out.ensures.count)) j small ∙ sym (word-none j small)))
     node there never (zero-places no_places word-none) places
 
@@ -101,18 +101,6 @@ returns-then-is_told-clause-asleep g c node there unmarked =
     let same : c.start_of-k.result ≡ k = c.start_of-k.ensures ∙ ap (λ xs. slice_index xs c.args.place) c.deref.ensures.value in
     let some = told-true (told c.args.cache.now c.start_of-k.result) c.is_told.result c.is_told.ensures c.if-is_told.true in
     c.requires.told k some.0 node (ap (told c.args.cache.now) (sym same) ∙ some.1) there unmarked
-
-pub returns-then-is_left-clause-starts : goal.returns-then-is_left-clause-starts
-returns-then-is_left-clause-starts g c node there untold =
-    let graph = c.args.graph.now in
-    let wakes = graph.wakes in
-    let list = wakes.first_engines.items in
-    let k = slice_index list c.args.place in
-    let same : c.start_of-k.result ≡ k = c.start_of-k.ensures ∙ ap (λ xs. slice_index xs c.args.place) c.deref.ensures.value in
-    let all : List ℕ = replicate 8 18446744073709551615 in
-    row-starts g.E.Engine.meaning graph.table wakes c.args.place k c.args.chunk.now.prev c.args.chunk.now.bytes.now all c.tell.new.self c.requires.rows c.args.chunk.now.few (λ i low. byte-small c.args.chunk.now.bytes.now i c.requires.small low) (read-there list c.args.place c.requires.place)
-    (λ below j small. ap (λ i. start_word c.tell.new.self i j) (sym same) ∙ c.tell.ensures.own (omega (arith, below, same, c.tell.ensures.count)) j small)
-    node there (places-all wakes.rows.items wakes.sets.items c.args.chunk.now.prev c.args.chunk.now.bytes.now (slice_index wakes.row_starts.items c.args.place) (slice_index wakes.row_starts.items (suc c.args.place)) all refl c.args.chunk.now.few)
 
 pub is_ruled_out-requires-clause-known : goal.is_ruled_out-requires-clause-known
 is_ruled_out-requires-clause-known g c =

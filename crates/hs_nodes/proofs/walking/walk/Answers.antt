@@ -21,7 +21,7 @@ run_node-requires-clause-well g c node at =
 
 pub run_node-requires-clause-contexts : goal.run_node-requires-clause-contexts
 run_node-requires-clause-contexts g c node at needs =
-    c.make_contexts-are_made.ensures.asked (subst (λ (n : Node). NeedsContexts n.kind) (one-value node c.node_at.result _ at c.node_at.ensures) needs)
+    c.make_for.ensures.asked (subst (λ (n : Node). NeedsContexts n.kind) (one-value node c.node_at.result _ at c.node_at.ensures) needs)
 
 pub run_node-requires-clause-told : goal.run_node-requires-clause-told
 run_node-requires-clause-told g c node t at some =
@@ -58,8 +58,7 @@ loop-k-preserved-then-not-is_nowhere g c =
     (omega (arith, c.in-Some.ensures.low)) (omega (arith, below)) c.in-Some.ensures.least inv.walk in record {
       len = c.run_node.ensures.len ∙ inv.len;
       ends = c.run_node.ensures.ends ∙ inv.ends;
-      contexts = c.make_contexts-are_made.ensures.len ∙ inv.contexts;
-      made = c.make_contexts-are_made.ensures.made;
+      contexts = c.make_for.ensures.right;
       steps =
           let more = ticks-more table.nodes.items k hits (length chunk.bytes.now) own.0 own.1 in
           let up = ticks-grow table.nodes.items c.loop-k.from k hits (length chunk.bytes.now) c.in-Some.ensures.low in
@@ -91,8 +90,7 @@ loop-k-preserved-else-not-is_nowhere g c =
     (omega (arith, c.in-Some.ensures.low)) (omega (arith, below)) c.in-Some.ensures.least inv.walk in record {
       len = c.run_node.ensures.len ∙ inv.len;
       ends = c.run_node.ensures.ends ∙ inv.ends;
-      contexts = c.make_contexts-are_made.ensures.len ∙ inv.contexts;
-      made = c.make_contexts-are_made.ensures.made;
+      contexts = c.make_for.ensures.right;
       steps =
           let more = ticks-more table.nodes.items k hits (length chunk.bytes.now) own.0 own.1 in
           let up = ticks-grow table.nodes.items c.loop-k.from k hits (length chunk.bytes.now) c.in-Some.ensures.low in
@@ -123,7 +121,6 @@ loop-k-preserved g c =
       len = inv.len;
       ends = inv.ends;
       contexts = inv.contexts;
-      made = inv.made;
       steps =
           let up = ticks-grow table.nodes.items c.loop-k.from (k + 1) hits (length chunk.bytes.now) (omega (arith, c.in-Some.ensures.low)) in
           omega (arith, up, inv.steps);
@@ -186,7 +183,6 @@ loop-k-preserved-then-is_left_behind g c =
       len = c.catch_up_node.ensures.len ∙ inv.len;
       ends = inv.ends;
       contexts = inv.contexts;
-      made = inv.made;
       steps =
           let more = ticks-more table.nodes.items k hits (length chunk.bytes.now) own.0 own.1 in
           let up = ticks-grow table.nodes.items c.loop-k.from k hits (length chunk.bytes.now) c.in-Some.ensures.low in

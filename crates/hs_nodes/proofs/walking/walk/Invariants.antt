@@ -1,5 +1,5 @@
 use Rattle.std.proofs.Common.{◌≡◌, ◌+◌, ◌-◌, ◌≤◌, true, length, take}
-use Rattle.hs_nodes.specs.Contexts.{AreChunkContexts}
+use Rattle.hs_nodes.specs.Contexts.{AreRightIfMade}
 use Rattle.hs_nodes.specs.Lone.{is_spent_node}
 use Rattle.hs_nodes.specs.Openings.{is_passed}
 use Rattle.hs_nodes.specs.Pooled.{ArePooled}
@@ -11,8 +11,7 @@ abbrev pub invariant-loop-k : goal.invariant-loop-k
 invariant-loop-k g l = record {
   len : length l.region ≡ length l.initial.region;
   ends : length l.ends ≡ length l.table.nodes.items;
-  contexts : length l.contexts ≡ 8;
-  made : l.are_made ≡ true → AreChunkContexts l.contexts l.chunk.prev l.chunk.at l.chunk.bytes.now;
+  contexts : AreRightIfMade l.contexts l.chunk.prev l.chunk.at l.chunk.bytes.now;
   steps : l.steps ≤ l.initial.steps + nodes_ticks (take l.from l.table.nodes.items) l.foretold.hits.now (length l.chunk.bytes.now);
   pool : ArePooled g.E.Engine.meaning l.table.engines.items l.pool;
   walk : IsWalk g.E.Engine.meaning l.table (is_spent_node l.foretold.spent.lone.now l.foretold.spent.told.now) (is_passed l.foretold.are_over l.foretold.openings.now) l.fn.region l.fn.marks l.chunk.prev l.chunk.at l.chunk.past.now l.chunk.bytes.now l.foretold.hits.now l.region l.ends l.marks l.from;

@@ -98,11 +98,12 @@ returns-clause-takes g c =
     let now : ends ≡ left = whole left s.ends.items s.ends.len len (omega (arith, s.ends.ok)) in
     let hits = sought c.args.are_over graph.openings s.hits.items in
     let same : c.sought_hits.result.now ≡ hits = c.sought_hits.ensures ∙ ap (sought c.args.are_over graph.openings) c.deref-2.ensures.value in
-    let told = c.told_in.result.now in
+    let told = c.spent_in.result.told.now in
     let lone = c.args.lone.now in
     let spent = is_spent_node lone told in
     let fewer = spent_in lone s.course.known.told.items bytes in
-    let took = subst (λ es. TakesNodes m graph.table spent c.args.region.now c.walk.new.region chunk.prev chunk.at chunk.past.now bytes c.sought_hits.result.now es) (sym now) c.walk.ensures.takes in
+    let walked = subst (λ l. TakesNodes m graph.table (is_spent_node l told) c.args.region.now c.walk.new.region chunk.prev chunk.at chunk.past.now bytes c.sought_hits.result.now left) c.spent_in.ensures.lone c.walk.ensures.takes in
+    let took = subst (λ es. TakesNodes m graph.table spent c.args.region.now c.walk.new.region chunk.prev chunk.at chunk.past.now bytes c.sought_hits.result.now es) (sym now) walked in
     takes-fewer m graph.table spent fewer chunk.at c.args.region.now c.walk.new.region chunk.prev chunk.past.now bytes hits ends
-    (λ k asked_for. c.told_in.ensures k (subst (λ ws. spent_in lone ws bytes k ≡ false) (sym c.deref.ensures.value) asked_for))
+    (λ k asked_for. c.spent_in.ensures.fewer k (subst (λ ws. spent_in lone ws bytes k ≡ false) (sym c.deref.ensures.value) asked_for))
     (subst (λ hs. TakesNodes m graph.table spent c.args.region.now c.walk.new.region chunk.prev chunk.at chunk.past.now bytes hs ends) same took)
