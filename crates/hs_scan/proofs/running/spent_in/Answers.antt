@@ -2,4 +2,3 @@ use Rattle.std.proofs.Common.{◌≡◌, ◌<◌, ◌≤◌, true, false, length
 use Rattle.hs_nodes.specs.Lone.{is_spent_node}
 use Rattle.hs_scan.proofs.SpendingLemmas.{none-spent, open-long}
 use Rattle.hs_scan.proofs.running.spent_in.Goals as goal
-
