@@ -1,4 +1,4 @@
-use Rattle.std.proofs.Common.{◌≡◌, ◌+◌, ℕ, refl, subst, arith}
+use Rattle.std.proofs.Common.{◌+◌, refl, subst, arith}
 use Rattle.std.specs.Prelude.{slice_range}
 use Rattle.hs_base.specs.declared.context.Prev.{Prev}
 use Rattle.hs_nodes.specs.Lone.{CatchesUp}

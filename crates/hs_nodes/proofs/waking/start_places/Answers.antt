@@ -11,8 +11,8 @@ use Rattle.hs_nodes.proofs.StartingLemmas.{places-all, places-more, places-unite
 use Rattle.hs_nodes.proofs.waking.start_places.Goals as goal
 use Rattle.hs_nodes.proofs.waking.start_places.Goals.{then-not-rules_out, else-not-rules_out}
 
-pub returns-then-len-count-clause-places : goal.returns-then-len-count-clause-places
-returns-then-len-count-clause-places c =
+pub returns-then-will_all_do-clause-places : goal.returns-then-will_all_do-clause-places
+returns-then-will_all_do-clause-places c =
     let wakes = c.args.wakes.now in
     places-all wakes.rows.items wakes.sets.items c.args.chunk.now.prev c.args.chunk.now.bytes.now (slice_index wakes.row_starts.items c.args.place) (slice_index wakes.row_starts.items (suc c.args.place)) _ refl c.args.chunk.now.few
 

@@ -1,5 +1,5 @@
-use Rattle.std.proofs.Common.{◌≡◌, ◌∙◌, ◌≤◌, List, ℕ, arith, length, refl, replicate, slice_get, slice_index, suc, sym, ap, subst}
-use Rattle.hs_nodes.proofs.StartingLemmas.{places-all, read-there, row-starts, start-behind, starts-asleep, word-none, zero-places}
+use Rattle.std.proofs.Common.{◌≡◌, ◌∙◌, ◌≤◌, arith, length, slice_get, slice_index, sym, ap, subst}
+use Rattle.hs_nodes.proofs.StartingLemmas.{read-there, row-starts, start-behind, starts-asleep, word-none, zero-places}
 use Rattle.hs_waking.specs.Starts.{start_word}
 use Rattle.hs_lazy.specs.Caches.{told}
 use Rattle.hs_nodes.specs.Waking.{no_places}
@@ -13,8 +13,8 @@ returns-then-is_woken-clause-starts g c node there untold =
     let list = graph.wakes.first_engines.items in
     let k = slice_index list c.args.place in
     let same : c.start_of-k.result ≡ k = c.start_of-k.ensures ∙ ap (λ xs. slice_index xs c.args.place) c.deref.ensures.value in
-    row-starts g.E.Engine.meaning graph.table graph.wakes c.args.place k c.args.spent.now.chunk.now.prev c.args.spent.now.chunk.now.bytes.now c.start_places-places.result c.tell-2.new.self c.requires.rows c.args.spent.now.chunk.now.few (λ i low. byte-small c.args.spent.now.chunk.now.bytes.now i c.requires.small low) (read-there list c.args.place c.requires.place)
-    (λ below j small. ap (λ i. start_word c.tell-2.new.self i j) (sym same) ∙ c.tell-2.ensures.own (omega (arith, below, same, c.tell-2.ensures.count)) j small)
+    row-starts g.E.Engine.meaning graph.table graph.wakes c.args.place k c.args.spent.now.chunk.now.prev c.args.spent.now.chunk.now.bytes.now c.start_places-places.result c.tell.new.self c.requires.rows c.args.spent.now.chunk.now.few (λ i low. byte-small c.args.spent.now.chunk.now.bytes.now i c.requires.small low) (read-there list c.args.place c.requires.place)
+    (λ below j small. ap (λ i. start_word c.tell.new.self i j) (sym same) ∙ c.tell.ensures.own (omega (arith, below, same, c.tell.ensures.count)) j small)
     node there c.start_places-places.ensures.places
 
 pub returns-else-is_woken-clause-starts : goal.returns-else-is_woken-clause-starts
@@ -23,8 +23,8 @@ returns-else-is_woken-clause-starts g c node there untold =
     let list = graph.wakes.first_engines.items in
     let k = slice_index list c.args.place in
     let same : c.start_of-k.result ≡ k = c.start_of-k.ensures ∙ ap (λ xs. slice_index xs c.args.place) c.deref.ensures.value in
-    row-starts g.E.Engine.meaning graph.table graph.wakes c.args.place k c.args.spent.now.chunk.now.prev c.args.spent.now.chunk.now.bytes.now c.start_places-places.result c.tell-2.new.self c.requires.rows c.args.spent.now.chunk.now.few (λ i low. byte-small c.args.spent.now.chunk.now.bytes.now i c.requires.small low) (read-there list c.args.place c.requires.place)
-    (λ below j small. ap (λ i. start_word c.tell-2.new.self i j) (sym same) ∙ c.tell-2.ensures.own (omega (arith, below, same, c.tell-2.ensures.count)) j small)
+    row-starts g.E.Engine.meaning graph.table graph.wakes c.args.place k c.args.spent.now.chunk.now.prev c.args.spent.now.chunk.now.bytes.now c.start_places-places.result c.tell.new.self c.requires.rows c.args.spent.now.chunk.now.few (λ i low. byte-small c.args.spent.now.chunk.now.bytes.now i c.requires.small low) (read-there list c.args.place c.requires.place)
+    (λ below j small. ap (λ i. start_word c.tell.new.self i j) (sym same) ∙ c.tell.ensures.own (omega (arith, below, same, c.tell.ensures.count)) j small)
     node there c.start_places-places.ensures.places
 
 pub returns-else-is_woken-clause-asleep : goal.returns-else-is_woken-clause-asleep
@@ -34,8 +34,8 @@ returns-else-is_woken-clause-asleep g c node there unmarked =
     let k = slice_index list c.args.place in
     let same : c.start_of-k.result ≡ k = c.start_of-k.ensures ∙ ap (λ xs. slice_index xs c.args.place) c.deref.ensures.value in
     let (never, none) = c.is_woken.ensures.asleep node (ap (slice_get graph.table.nodes.items) same ∙ there) c.if-is_woken.false in
-    starts-asleep g.E.Engine.meaning graph.table graph.wakes c.args.place k c.args.spent.now.chunk.now.prev c.args.spent.now.chunk.now.bytes.now c.start_places-places.result c.tell-2.new.self c.requires.rows c.args.spent.now.chunk.now.few (λ i low. byte-small c.args.spent.now.chunk.now.bytes.now i c.requires.small low) (read-there list c.args.place c.requires.place)
-    (λ below j small. ap (λ i. start_word c.tell-2.new.self i j) (sym same) ∙ c.tell-2.ensures.own (omega (arith, below, same, c.tell-2.ensures.count)) j small)
+    starts-asleep g.E.Engine.meaning graph.table graph.wakes c.args.place k c.args.spent.now.chunk.now.prev c.args.spent.now.chunk.now.bytes.now c.start_places-places.result c.tell.new.self c.requires.rows c.args.spent.now.chunk.now.few (λ i low. byte-small c.args.spent.now.chunk.now.bytes.now i c.requires.small low) (read-there list c.args.place c.requires.place)
+    (λ below j small. ap (λ i. start_word c.tell.new.self i j) (sym same) ∙ c.tell.ensures.own (omega (arith, below, same, c.tell.ensures.count)) j small)
     node there never none c.start_places-places.ensures.places
 
 pub returns-then-is_behind_start-clause-starts : goal.returns-then-is_behind_start-clause-starts

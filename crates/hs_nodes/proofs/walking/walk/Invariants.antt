@@ -1,4 +1,4 @@
-use Rattle.std.proofs.Common.{◌≡◌, ◌+◌, ◌-◌, ◌≤◌, true, length, take}
+use Rattle.std.proofs.Common.{◌≡◌, ◌+◌, ◌-◌, ◌≤◌, length, take}
 use Rattle.hs_nodes.specs.Contexts.{AreRightIfMade}
 use Rattle.hs_nodes.specs.Lone.{is_spent_node}
 use Rattle.hs_nodes.specs.Openings.{is_passed}
