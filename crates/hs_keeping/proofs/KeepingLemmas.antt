@@ -109,10 +109,6 @@ singles-count (y ∷ xs) = with-count y.single y (singles_of xs) (length xs) (si
 pub singles-few : (xs : List Identifier) (p : ℕ) → p ≤ length xs → singles_before xs p ≤ p
 singles-few xs p within = omega (arith, singles-count (take p xs), length-take-le p xs within)
 
--- no identifier
-abbrev pub no_identifier : Identifier
-no_identifier = record { id = record { 0 = 0 }; single = false }
-
 -- what is read and written, one by one
 
 abbrev pub AreReadTo : Laid → (region : List ℕ) → List Identifier → (told here : List ℕ) → ℕ → Type 0

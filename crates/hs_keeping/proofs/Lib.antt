@@ -1,1 +1,4 @@
 pub mod KeepingLemmas
+pub mod LeavingLemmas
+pub mod ForgetLemmas
+pub mod FinishingLemmas

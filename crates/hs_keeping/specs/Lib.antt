@@ -1,1 +1,4 @@
 pub mod Keeping
+pub mod Knowing
+pub mod Leaving
+pub mod Finishing

@@ -5,7 +5,7 @@ use Rattle.hs_engine.specs.Engines.{Meaning}
 use Rattle.hs_nodes.specs.Resting.{AreNodesResting}
 use Rattle.hs_nodes.specs.Walks.{AreNodesWell}
 use Rattle.hs_nodes.specs.declared.graph.Graph.{Graph}
-use Rattle.hs_scan.specs.Knowing.{FitsKnown, IsPending}
+use Rattle.hs_keeping.specs.Knowing.{FitsKnown, IsPending}
 use Rattle.hs_scan.specs.Scratches.{FindsHits, FitsRoom, IsBetweenChunks}
 use Rattle.hs_scan.specs.declared.course.Course.{Course}
 use Rattle.hs_scan.specs.declared.node_cache.NodeCache.{NodeCache}

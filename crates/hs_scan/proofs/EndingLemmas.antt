@@ -24,7 +24,7 @@ use Rattle.hs_scan.specs.Ending.{AreLeftAt, is_ended}
 use Rattle.hs_nodes.specs.Graphs.{AreTerminalsSound, RunsPlan}
 use Rattle.hs_scan.specs.Scans.{AreLeftToEnd}
 use Rattle.hs_scan.specs.Asking.{AreEndsBehind}
-use Rattle.hs_scan.specs.Writing.{AreLeftByLineFeed}
+use Rattle.hs_keeping.specs.Leaving.{AreLeftByLineFeed}
 use Rattle.hs_nodes.specs.declared.graph.Graph.{Graph}
 use Rattle.hs_scan.proofs.BlockLemmas.{each-map, value-tells}
 use Rattle.hs_keeping.proofs.KeepingLemmas.{number-at}

@@ -1,5 +1,5 @@
 -- What only the end of a stream decides, from what its region keeps.
-use Rattle.std.proofs.Common.{◌≡◌, ◌↔◌, ℕ, ◌+◌, ◌-◌, ◌*◌, ◌<◌, ◌≤◌, Bool, true, List, ◌++◌, length, take, Some, slice_get, sym, ap, subst, ◌∙◌, arith}
+use Rattle.std.proofs.Common.{◌≡◌, ◌↔◌, ℕ, ◌+◌, ◌-◌, ◌*◌, ◌<◌, Bool, true, List, ◌++◌, length, Some, slice_get, sym, ap, subst, ◌∙◌, arith}
 use Rattle.std.specs.Prelude.{slice_index_or, slice_range}
 use Rattle.std.specs.Option.{option_map}
 use Rattle.std.proofs.lemmas.List.{length-map}
@@ -13,7 +13,7 @@ use Rattle.hs_base.specs.Settling.{AreIdentifiers, AreRising, IsKept, IsLeftToEn
 use Rattle.hs_base.specs.Settling.{pairs_told}
 use Rattle.hs_base.specs.Told.{IsLast}
 use Rattle.hs_base.proofs.ListLemmas.{each-of_members, one_of-map}
-use Rattle.hs_base.proofs.PairListLemmas.{IsNewAtEnd, last-reports, one_told, pairs-all, pairs-next_by, tell-by, values_by}
+use Rattle.hs_base.proofs.PairListLemmas.{IsNewAtEnd, last-reports, tell-by, values_by}
 use Rattle.hs_base.proofs.SettlingLemmas.{end-settled}
 use Rattle.hs_engine.specs.Engines.{Meaning}
 use Rattle.hs_layout.specs.Layouts.{Laid}
@@ -21,34 +21,19 @@ use Rattle.hs_nodes.specs.Graphs.{RunsPlan, plan_layout}
 use Rattle.hs_nodes.specs.declared.graph.Graph.{Graph}
 use Rattle.hs_reports.specs.Chunks.{pairs_where}
 use Rattle.hs_reports.specs.EndTables.{EndTable, words_of}
-use Rattle.hs_reports.specs.Events.{Through}
 use Rattle.hs_reports.specs.Identifiers.{numbers_of}
 use Rattle.hs_reports.specs.Pairs.{ArePairsOf}
 use Rattle.hs_reports.specs.WordBits.{word_bit}
 use Rattle.hs_reports.specs.declared.identifier.Identifier.{Identifier}
-use Rattle.hs_reports.proofs.EventLemmas.{through-join}
 use Rattle.hs_reports.proofs.PairsLemmas.{pairs-join, pairs-one, pairs-widen}
 use Rattle.hs_scan.specs.Asking.{AsksEnds}
 use Rattle.hs_scan.specs.Feeding.{Finishes}
 use Rattle.hs_nodes.specs.WellRegions.{RunsLaid}
-use Rattle.hs_scan.specs.Finishing.{due_at_end, is_due, kept_at, no_identifier}
+use Rattle.hs_keeping.specs.Finishing.{due_at_end, is_due, kept_at, no_identifier}
 use Rattle.hs_keeping.specs.Keeping.{AreRead}
 use Rattle.hs_scan.specs.Scans.{IsReached, stand}
 use Rattle.hs_nodes.proofs.NodeLemmas.{there}
 use Rattle.hs_scan.proofs.RegionLemmas.{reached-begin}
-
--- one identifier more
-pub through-identifier : {V : Type 0} (Tells : V → ℕ → ℕ → V → Type 0) {start before now : V} (xs : List Identifier) (f : ℕ → Bool) (to k : ℕ) (x : Identifier) (value : Bool) → slice_get xs k ≡ Some x → value ≡ f k →
-    Through Tells start (pairs_told (take k (numbers_of xs)) (values_by f (length (numbers_of xs))) to) before → Through Tells before (one_told value x.id.0 to) now → Through Tells start (pairs_told (take (k + 1) (numbers_of xs)) (values_by f (length (numbers_of xs))) to) now
-through-identifier Tells {start} {before} {now} xs f to k x value named is told one =
-    subst (λ ps. Through Tells start ps now)
-    (sym (pairs-next_by (numbers_of xs) f to k x.id.0 (slice_get-map (λ (y : Identifier). y.id.0) xs k ∙ ap (option_map (λ (y : Identifier). y.id.0)) named)))
-    (through-join Tells told (subst (λ v. Through Tells before (one_told v x.id.0 to) now) is one))
-
-pub through-identifiers : {V : Type 0} (Tells : V → ℕ → ℕ → V → Type 0) {start now : V} (xs : List Identifier) (f : ℕ → Bool) (to k : ℕ) → length xs ≤ k →
-    Through Tells start (pairs_told (take k (numbers_of xs)) (values_by f (length (numbers_of xs))) to) now → Through Tells start (pairs_where (numbers_of xs) f to) now
-through-identifiers Tells {start} {now} xs f to k whole told =
-    subst (λ ps. Through Tells start ps now) (pairs-all (numbers_of xs) (values_by f (length (numbers_of xs))) to k (omega (arith, whole, length-map xs (λ (x : Identifier). x.id.0)))) told
 
 -- with two ends, whatever is told of the identifiers
 told-two : (ids : List ℕ) (values values' : List Bool) (at offset : ℕ) → at ≡ offset → ArePairsOf ids (offset - 1) offset (pairs_told ids values (at - 1) ++ pairs_told ids values' at)

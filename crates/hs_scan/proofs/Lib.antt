@@ -8,8 +8,6 @@ pub mod HitLemmas
 pub mod OpeningLemmas
 pub mod CopyLemmas
 pub mod WritingLemmas
-pub mod LastLemmas
-pub mod ForgetLemmas
 pub mod AskLemmas
 pub mod LineFeedLemmas
 pub mod ScratchLemmas

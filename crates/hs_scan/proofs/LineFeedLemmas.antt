@@ -1,5 +1,5 @@
 -- A chunk of one line feed, and what it leaves to the end.
-use Rattle.std.proofs.Common.{◌≡◌, ℕ, ◌+◌, ◌*◌, ◌<◌, ◌≤◌, Bool, true, false, get_or, Some, slice_get, refl, List, [], ◌∷◌, ◌++◌, length, take, sym, ap, subst, ◌∙◌, arith, append_assoc}
+use Rattle.std.proofs.Common.{◌≡◌, ℕ, ◌+◌, ◌*◌, ◌<◌, ◌≤◌, true, false, get_or, Some, slice_get, refl, List, [], ◌∷◌, ◌++◌, length, take, sym, ap, subst, ◌∙◌, arith, append_assoc}
 use Rattle.std.proofs.lemmas.List.{take_all, take_more}
 use Rattle.hs_base.specs.declared.context.Next.TheVariants as after
 use Rattle.hs_base.specs.declared.context.Prev.{Prev}
@@ -22,7 +22,6 @@ use Rattle.hs_nodes.proofs.ChunkLemmas.{front-none}
 use Rattle.hs_reports.specs.EndTables.{EndTable, words_of}
 use Rattle.hs_reports.specs.Identifiers.{numbers_of}
 use Rattle.hs_reports.specs.Pairs.{ArePairsOf}
-use Rattle.hs_reports.specs.Telling.{leaves_to_end}
 use Rattle.hs_reports.specs.Chunks.{AreChunkEnds as AreEndsAbout}
 use Rattle.hs_reports.specs.Settlement.{AreKnown}
 use Rattle.hs_reports.specs.Terminals.{ends_by_words}
@@ -32,17 +31,11 @@ use Rattle.hs_scan.specs.Asking.{AsksEnds}
 use Rattle.hs_scan.specs.Scans.{AreHitsBehind, AreLeftToEnd, Scans, Stand, stand}
 use Rattle.hs_scan.specs.Telling.{IsTelling, TellsBlock, TellsChunk}
 use Rattle.hs_nodes.specs.Gathering.{AreGathered}
-use Rattle.hs_scan.specs.Writing.{AreLeftByLineFeed, LeavesLineFeed, LeavesLineFeedChunk, LeavesToEnd}
+use Rattle.hs_keeping.specs.Leaving.{AreLeftByLineFeed}
+use Rattle.hs_scan.specs.Writing.{LeavesLineFeed, LeavesLineFeedChunk, LeavesToEnd}
 use Rattle.hs_scan.proofs.BlockLemmas.{ends-of}
 use Rattle.hs_scan.proofs.EndingLemmas.{line_feed-left, other-left}
 use Rattle.hs_scan.proofs.ScanLemmas.{Stands, scans-join}
-
--- what a line feed leaves, by values that are the same
-pub same-left : {told told' here here' before before' behind behind' last last' : Bool} (single : Bool) → told ≡ told' → here ≡ here' → before ≡ before' → behind ≡ behind' → last ≡ last' → leaves_to_end single told here before behind last ≡ leaves_to_end single told' here' before' behind' last'
-same-left {told = told} {told' = told'} {here = here} {here' = here'} {before = before} {before' = before'} {behind = behind} {behind' = behind'} {last = last} single t h b e l =
-    ap (λ x. leaves_to_end single x here before behind last) t
-    ∙ (ap (λ x. leaves_to_end single told' x before behind last) h
-    ∙ (ap (λ x. leaves_to_end single told' here' x behind last) b ∙ (ap (λ x. leaves_to_end single told' here' before' x last) e ∙ ap (λ x. leaves_to_end single told' here' before' behind' x) l)))
 
 pub block-first : (bytes : List ℕ) → length bytes ≤ 64 → block bytes 0 ≡ bytes
 unfolding block

@@ -1,5 +1,4 @@
 pub mod Telling
-pub mod Knowing
 pub mod Scans
 pub mod Feeding
 pub mod Asking
@@ -10,5 +9,4 @@ pub mod Spending
 pub mod Hits
 pub mod Copying
 pub mod Writing
-pub mod Finishing
 pub mod NodeCaches

@@ -18,7 +18,7 @@ use Rattle.hs_engine.specs.Engines.{Meaning}
 use Rattle.hs_scan.specs.Asking.{AsksTable}
 use Rattle.hs_scan.specs.Hits.{HasNowhere}
 use Rattle.hs_scan.specs.NodeCaches.{IsNodeCacheOf}
-use Rattle.hs_scan.specs.Knowing.{FitsKnown, IsPending}
+use Rattle.hs_keeping.specs.Knowing.{FitsKnown, IsPending}
 use Rattle.hs_scan.specs.Scans.{AreHitsBehind, Stand, stand}
 use Rattle.hs_nodes.specs.declared.graph.Graph.{Graph}
 use Rattle.hs_scan.specs.declared.course.Course.{Course}

@@ -1,8 +1,7 @@
 -- The beginning of a write, and what its last byte leaves to the end.
-use Rattle.std.specs.Prelude.{◌≡◌, ℕ, ◌<◌, false, List, ◌++◌, length, Some, slice_get, slice_range}
+use Rattle.std.specs.Prelude.{◌≡◌, ℕ, ◌<◌, false, List, ◌++◌, length, slice_range}
 use Rattle.hs_base.specs.declared.context.Next.TheVariants as after
 use Rattle.hs_base.specs.declared.context.Prev.{Prev}
-use Rattle.hs_base.specs.Bits.{has_word_bit}
 use Rattle.hs_base.specs.Lists.{Each}
 use Rattle.hs_base.specs.Literals.{LiteralByte}
 use Rattle.hs_base.specs.Regions.{Plan, history_at, region_offset, told_at}
@@ -16,25 +15,15 @@ use Rattle.hs_nodes.specs.Walks.{AreNodesHeld}
 use Rattle.hs_nodes.specs.declared.hits.ChunkHits.{ChunkHits}
 use Rattle.hs_nodes.specs.declared.ends.ChunkEnds.{ChunkEnds}
 use Rattle.hs_nodes.specs.declared.graph.Graph.{Graph}
-use Rattle.hs_reports.specs.EndTables.{EndTable, words_of}
+use Rattle.hs_reports.specs.EndTables.{EndTable}
 use Rattle.hs_reports.specs.Settlement.{AreKnown}
-use Rattle.hs_reports.specs.Telling.{leaves_to_end}
-use Rattle.hs_reports.specs.WordBits.{word_bit}
-use Rattle.hs_reports.specs.declared.identifier.Identifier.{Identifier}
 use Rattle.hs_scan.specs.Asking.{AreEndsBehind}
 use Rattle.hs_keeping.specs.Keeping.{AreRead}
-use Rattle.hs_scan.specs.Knowing.{FitsKnown, IsPending}
+use Rattle.hs_keeping.specs.Knowing.{IsPending}
 use Rattle.hs_scan.specs.Scans.{AreLeftToEnd, IsReached, Stand}
 use Rattle.hs_scan.specs.Scratches.{FitsGraph}
 use Rattle.hs_scan.specs.Telling.{AreChunkEnds}
-use Rattle.hs_scan.specs.declared.known.Known.{Known}
 use Rattle.hs_scan.specs.declared.scratch.Scratch.{Scratch}
-
--- What the region keeps of the identifiers is known, and those are noted of which a pair ends behind the last byte.
-pub record BeginsKnown (l : Laid) (region : List ℕ) (identifiers : List Identifier) (known : Known) : Type 0 where
-  pub fits : FitsKnown (length identifiers) known
-  pub pending : IsPending known
-  pub read : AreRead l region identifiers known.told.items known.here.items
 
 -- The scratch has where the stream of the region stands and what is known of it; all else is as before.
 pub record BeginsWrite {E : Type 0} (graph : Graph E) (l : Laid) (region : List ℕ) (old new : Scratch) : Type 0 where
@@ -46,16 +35,6 @@ pub record BeginsWrite {E : Type 0} (graph : Graph E) (l : Laid) (region : List 
   pub hits : new.hits ≡ old.hits
   pub rows : new.rows ≡ old.rows
   pub finals : new.finals ≡ old.finals
-
--- The row tells which identifiers a line feed leaves to the end: by what is known before it, by the ends about it, and
--- by the ends before it were it the last byte.
-abbrev pub AreLeftByLineFeed : List Identifier → (told here : List ℕ) (table finals : EndTable) (last : List ℕ) → Type 0
-AreLeftByLineFeed identifiers told here table finals last =
-    (p : ℕ) (x : Identifier) →
-    slice_get identifiers p ≡ Some x →
-    has_word_bit last p
-    ≡ leaves_to_end x.single (has_word_bit told p) (has_word_bit here p) (word_bit (words_of table p).before 0)
-    (word_bit (words_of table p).behind 0) (word_bit (words_of finals p).before 0)
 
 module _ {E : Type 0} (meaning : E → Meaning) (graph : Graph E) where
   -- Whatever plan the graph runs, and behind whatever stream: by where the nodes are left about a line feed, and by

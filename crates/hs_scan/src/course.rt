@@ -2,8 +2,8 @@
 
 ghost use Rattle.std.specs.Prelude.{◌<◌, ◌^◌, IfOk};
 
-use crate::known::Known;
 use hs_bits::MarkSet;
+use hs_keeping::Known;
 use std::alloc::{AllocError, Global};
 
 /// What goes from chunk to chunk beside the region.

@@ -1,9 +1,8 @@
 //! The bytes of a write, and what its last one leaves to the end.
 
-ghost use Rattle.std.specs.Prelude.{◌≡◌, ◌+◌, ◌-◌, ◌*◌, ◌<◌, ◌≤◌, ◌^◌, ℕ, [], ◌∷◌, false, length, slice_index};
+ghost use Rattle.std.specs.Prelude.{◌≡◌, ◌+◌, ◌-◌, ◌*◌, ◌<◌, ◌≤◌, ◌^◌, ℕ, [], ◌∷◌, length, slice_index};
 ghost use Rattle.hs_base.specs.declared.context.Next.TheVariants as after;
 ghost use Rattle.hs_base.specs.Assertions.{line_feed};
-ghost use Rattle.hs_base.specs.Bits.{has_word_bit};
 ghost use Rattle.hs_layout.specs.Layouts.{laid_size};
 ghost use Rattle.hs_literals.specs.Held.{held};
 ghost use Rattle.hs_nodes.specs.Graphs.{IsGraphSound};
@@ -18,7 +17,7 @@ ghost use Rattle.hs_scan.specs.Scratches.{IsBetweenChunks, HasNoHits, stand_of};
 ghost use Rattle.hs_scan.specs.Writing.{LeavesToEnd};
 
 use crate::asking::ask_ends;
-use crate::line_feed::{LINE_FEED, forget_finals, run_line_feed};
+use crate::line_feed::{LINE_FEED, run_line_feed};
 use crate::node_cache::NodeCache;
 use crate::past::{prev_of, push_past};
 use crate::scanning::scan_bytes;
@@ -27,6 +26,7 @@ use crate::tables::Tables;
 use hs_base::Next;
 use hs_block::BlockEngine;
 use hs_engine::{Steps, TimelessEngine};
+use hs_keeping::{forget_finals, leave_none};
 use hs_nodes::Chunk;
 use hs_reports::Events;
 use std::sync::ledger::Ledger;
@@ -124,16 +124,6 @@ fn scan_line_feed<E: BlockEngine + TimelessEngine, V: Events, L: Ledger>(
     ask_ends(tables, region, scratch, Next::FinalNewline, steps);
     scan_asked(tables, region, cache, scratch, events, steps);
     forget_finals(&mut scratch.finals);
-}
-
-/// No identifier is left to the end.
-fn leave_none(last: &mut [u64])
-    ensures len { length last.new ≡ length last.old }
-    ensures none { (p : ℕ) → has_word_bit last.new p ≡ false }
-{
-    for word in last.iter_mut() {
-        *word = 0;
-    }
 }
 
 /// Takes bytes up to a line feed, which is the last one.

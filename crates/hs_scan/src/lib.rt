@@ -7,7 +7,6 @@ mod course;
 mod feeding;
 mod finishing;
 mod hits;
-mod known;
 mod last_byte;
 mod line_feed;
 mod node_cache;
@@ -16,6 +15,7 @@ mod running;
 mod scanning;
 mod scratch;
 mod tables;
+mod telling;
 mod waking;
 mod writing;
 

@@ -2,81 +2,33 @@
 
 ghost use Rattle.std.specs.Prelude.{◌≡◌, ◌+◌, ◌*◌, ◌<◌, ◌≤◌, ◌^◌, ℕ, [], ◌∷◌, length, slice_index, false, true};
 ghost use Rattle.hs_base.specs.Assertions.{line_feed};
-ghost use Rattle.hs_base.specs.Bits.{has_word_bit, word_count};
+ghost use Rattle.hs_base.specs.Bits.{word_count};
 ghost use Rattle.hs_literals.specs.HitTables.{has_hit};
 ghost use Rattle.hs_nodes.specs.Graphs.{AreTerminalsSound};
 ghost use Rattle.hs_nodes.specs.Left.{nowhere};
 ghost use Rattle.hs_nodes.specs.Lone.{AreLoneNodes};
 ghost use Rattle.hs_bits.specs.Marks.{is_marked, mark_room};
 ghost use Rattle.hs_nodes.specs.Walks.{IsOutside, node_ends};
-ghost use Rattle.hs_reports.specs.EndTables.{HasNoEnds, words_of};
 ghost use Rattle.hs_reports.specs.Events.{Takes};
-ghost use Rattle.hs_reports.specs.Telling.{leaves_to_end};
-ghost use Rattle.hs_reports.specs.WordBits.{word_bit};
 ghost use Rattle.hs_scan.specs.Hits.{HasNowhere};
-ghost use Rattle.hs_scan.specs.Knowing.{FitsKnown, IsPending};
+ghost use Rattle.hs_keeping.specs.Knowing.{FitsKnown, IsPending};
 ghost use Rattle.hs_scan.specs.Scans.{ScansChunk};
 ghost use Rattle.hs_scan.specs.Scratches.{IsBetweenChunks, KeepsLast, KeepsNodes, MayRunNodes};
 ghost use Rattle.hs_scan.specs.Telling.{TellsBlock};
-ghost use Rattle.hs_scan.specs.Writing.{AreLeftByLineFeed, LeavesLineFeed, LeavesLineFeedChunk};
+ghost use Rattle.hs_scan.specs.Writing.{LeavesLineFeed, LeavesLineFeedChunk};
 
-use crate::known::{Known, settle_known};
 use crate::node_cache::NodeCache;
 use crate::running::run_nodes;
 use crate::scratch::Scratch;
-use hs_bits::{contains_word_bit, write_word_bit};
 use hs_block::BlockEngine;
 use hs_engine::{Steps, TimelessEngine};
+use hs_keeping::fill_last;
 use hs_nodes::{Chunk, ChunkEnds, Graph, LoneNodes, everywhere, gather_block, settle};
-use hs_reports::{Events, Identifier, IdentifierEnds, is_left_to_end};
+use hs_reports::Events;
 use std::sync::ledger::Ledger;
 
 /// The one byte.
 pub(crate) const LINE_FEED: [u8; 1] = [b'\n'];
-
-/// Whether the end before the byte of the identifier of that number is set.
-pub(crate) fn is_final(finals: &IdentifierEnds, p: usize) -> bool
-    requires { p < length finals.now.words }
-    ensures { result ≡ word_bit (words_of finals.now p).before 0 }
-{
-    let words = finals.words(p);
-    words.before & 1 == 1
-}
-
-/// Whether a line feed leaves the identifier of that number to the end, by its ends about it.
-fn leaves_one(identifier: Identifier, known: &Known, finals: &IdentifierEnds, p: usize) -> bool
-    requires there { p < length finals.now.words }
-    requires ends { p < length known.now.ends.words }
-    requires told { p < 64 * length known.now.told.items }
-    requires here { p < 64 * length known.now.here.items }
-    ensures { result ≡ leaves_to_end identifier.single (has_word_bit known.now.told.items p)
-        (has_word_bit known.now.here.items p) (word_bit (words_of known.now.ends p).before 0)
-        (word_bit (words_of known.now.ends p).behind 0) (word_bit (words_of finals.now p).before 0) }
-{
-    let words = known.ends.words(p);
-    is_left_to_end(
-        identifier.single,
-        contains_word_bit(&known.told, p),
-        contains_word_bit(&known.here, p),
-        words.before & 1 == 1,
-        words.behind & 1 == 1,
-        is_final(finals, p),
-    )
-}
-
-/// Writes which identifiers a line feed leaves to the end.
-fn fill_last(identifiers: &[Identifier], known: &Known, finals: &IdentifierEnds, last: &mut [u64])
-    requires fits { FitsKnown (length identifiers.now) known.now }
-    requires finals { length finals.now.words ≡ length identifiers.now }
-    requires last { length last.old ≡ word_count (length identifiers.now) }
-    ensures len { length last.new ≡ length last.old }
-    ensures left { AreLeftByLineFeed identifiers.now known.now.told.items known.now.here.items known.now.ends
-        finals.now last.new }
-{
-    for p in 0..identifiers.len() {
-        write_word_bit(last, p, leaves_one(identifiers[p], known, finals, p));
-    }
-}
 
 /// Reports what a chunk of one line feed decides, by where the nodes are left, and writes which identifiers it leaves
 /// to the end.
@@ -126,7 +78,7 @@ fn tell_line_feed<E: BlockEngine, V: Events>(
         &scratch.finals,
         &mut scratch.last,
     );
-    settle_known(&graph.identifiers, &mut scratch.course.known, 0);
+    scratch.course.known.settle(&graph.identifiers, 0);
     scratch.course.known.tellings.tell(chunk.at, 0, events);
 }
 
@@ -167,17 +119,4 @@ pub(crate) fn run_line_feed<E: BlockEngine + TimelessEngine, V: Events, L: Ledge
     tell_line_feed(graph, scratch, chunk, &all, events);
     let marks = &mut scratch.course.marks;
     settle(&graph.table, region, &mut scratch.ends, marks);
-}
-
-/// Forgets the ends of all identifiers.
-pub(crate) fn forget_finals(finals: &mut IdentifierEnds)
-    ensures count { length finals.new.words ≡ length finals.old.words }
-    ensures none { HasNoEnds finals.new }
-{
-    let _ = finals.count();
-    let mut from = 0;
-    while let Some(p) = finals.next(from) {
-        finals.reset(p, false);
-        from = p + 1;
-    }
 }

@@ -16,12 +16,12 @@ ghost use Rattle.hs_scan.specs.Scans.{Scans, ScansChunk};
 ghost use Rattle.hs_scan.specs.Scratches.{HasNoHits, IsBetweenChunks, KeepsAll, KeepsTables, MayRunNodes};
 ghost use Rattle.hs_scan.specs.Scratches.{stand_of};
 
-use crate::known::tell_chunk;
 use crate::node_cache::NodeCache;
 use crate::past::{prev_of, push_past};
 use crate::running::run_nodes;
 use crate::scratch::{Scratch, find_hits, forget};
 use crate::tables::Tables;
+use crate::telling::tell_chunk;
 use hs_block::BlockEngine;
 use hs_engine::{Steps, TimelessEngine};
 use hs_nodes::{Chunk, MAX_CHUNK, everywhere, settle};

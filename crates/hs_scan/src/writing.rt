@@ -1,44 +1,20 @@
 //! The beginning and the end of a write: what the region keeps goes into the scratch, and comes back.
 
-ghost use Rattle.std.specs.Prelude.{◌≡◌, ◌^◌, ◌<◌, ℕ, length};
+ghost use Rattle.std.specs.Prelude.{◌≡◌, ℕ, length};
 ghost use Rattle.hs_layout.specs.Layouts.{laid_size};
 ghost use Rattle.hs_nodes.specs.Graphs.{FitsLayout};
 ghost use Rattle.hs_nodes.specs.Resting.{AreEnginesIdle, AreNodesResting};
 ghost use Rattle.hs_nodes.specs.Walks.{IsTableSound};
 ghost use Rattle.hs_reports.specs.EndTables.{HasNoEnds};
-ghost use Rattle.hs_keeping.specs.Keeping.{HasBits};
-ghost use Rattle.hs_scan.specs.Knowing.{FitsKnown};
 ghost use Rattle.hs_scan.specs.Scans.{IsWritten};
 ghost use Rattle.hs_scan.specs.Scratches.{FitsGraph, KeepsTables, stand_of};
-ghost use Rattle.hs_scan.specs.Writing.{BeginsKnown, BeginsWrite};
+ghost use Rattle.hs_scan.specs.Writing.{BeginsWrite};
 
 use crate::copying::copy_fields;
-use crate::known::Known;
 use crate::scratch::Scratch;
 use hs_block::BlockEngine;
-use hs_keeping::{read_rows, write_rows};
 use hs_layout::Layout;
 use hs_nodes::{Graph, mark_live};
-use hs_reports::Identifier;
-
-/// Reads what the region keeps of the identifiers, and notes those of which a pair ends behind the last byte.
-fn begin_known(layout: &Layout, region: &[u8], identifiers: &[Identifier], known: &mut Known)
-    requires sized { length region.now ≡ laid_size layout.now }
-    requires bits { HasBits layout.now identifiers.now }
-    requires few { length identifiers.now < 2 ^ 32 }
-    requires fits { FitsKnown (length identifiers.now) known.old }
-    requires none { HasNoEnds known.old.ends }
-    ensures { BeginsKnown layout.now region.now identifiers.now known.new }
-{
-    read_rows(
-        layout,
-        region,
-        identifiers,
-        &mut known.told,
-        &mut known.here,
-    );
-    known.ends.note_all(&known.here);
-}
 
 /// Reads where the stream of a region stands, and what is known of it.
 pub(crate) fn begin_write<E: BlockEngine>(
@@ -55,12 +31,8 @@ pub(crate) fn begin_write<E: BlockEngine>(
 {
     scratch.at = layout.offset(region);
     scratch.past.copy_from_slice(layout.history(region));
-    begin_known(
-        layout,
-        region,
-        &graph.identifiers,
-        &mut scratch.course.known,
-    );
+    let known = &mut scratch.course.known;
+    known.begin(layout, region, &graph.identifiers);
 }
 
 /// Marks the nodes in which something is live: the first chunk passes over all others, if it doesn't wake them.
@@ -88,14 +60,8 @@ pub(crate) fn end_write<E: BlockEngine>(
     requires room { FitsGraph graph.now scratch.now }
     ensures { IsWritten graph.now layout.now (stand_of scratch.now region.old) scratch.now.last.items region.new }
 {
-    write_rows(
-        layout,
-        region,
-        &graph.identifiers,
-        &scratch.course.known.told,
-        &scratch.course.known.here,
-        &scratch.last,
-    );
+    let known = &scratch.course.known;
+    known.write(layout, region, &graph.identifiers, &scratch.last);
     copy_fields(graph, layout, region);
     layout.set_history(region, &scratch.past);
     layout.set_offset(region, scratch.at);

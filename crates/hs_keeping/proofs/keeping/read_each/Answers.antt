@@ -1,7 +1,8 @@
 use Rattle.std.proofs.Common.{◌≡◌, ℕ, get_or, Some, slice_get, ◌∙◌, arith}
 use Rattle.std.proofs.lemmas.Option.{slice_get-get_or, slice_get_within}
 use Rattle.hs_reports.specs.declared.identifier.Identifier.{Identifier}
-use Rattle.hs_keeping.proofs.KeepingLemmas.{no_identifier, read-more, single-below, singles-few, singles-next}
+use Rattle.hs_keeping.specs.Finishing.{no_identifier}
+use Rattle.hs_keeping.proofs.KeepingLemmas.{read-more, single-below, singles-few, singles-next}
 use Rattle.hs_keeping.proofs.keeping.read_each.Goals as goal
 
 pub read_one-requires-clause-single : goal.read_one-requires-clause-single

@@ -3,7 +3,8 @@ use Rattle.std.proofs.lemmas.Option.{slice_get-get_or, slice_get_within}
 use Rattle.hs_base.specs.Bits.{has_word_bit}
 use Rattle.hs_reports.specs.declared.identifier.Identifier.{Identifier}
 use Rattle.hs_keeping.specs.Keeping.{AreBitsRead}
-use Rattle.hs_keeping.proofs.KeepingLemmas.{bits-join, last-more, no_identifier, single-below, singles-few, singles-next, write-more}
+use Rattle.hs_keeping.specs.Finishing.{no_identifier}
+use Rattle.hs_keeping.proofs.KeepingLemmas.{bits-join, last-more, single-below, singles-few, singles-next, write-more}
 use Rattle.hs_keeping.proofs.keeping.write_each.Goals as goal
 
 pub write_one-requires-clause-single : goal.write_one-requires-clause-single

@@ -6,8 +6,8 @@ use Rattle.hs_reports.specs.EndTables.{HasNoEnds}
 use Rattle.hs_scan.specs.Feeding.{Feeds}
 use Rattle.hs_scan.specs.Hits.{HasNowhere}
 use Rattle.hs_keeping.specs.Keeping.{AreRead}
-use Rattle.hs_scan.specs.Knowing.{IsPending}
-use Rattle.hs_scan.specs.declared.known.Known.{Known}
+use Rattle.hs_keeping.specs.Knowing.{IsPending}
+use Rattle.hs_keeping.specs.declared.known.Known.{Known}
 use Rattle.hs_scan.specs.Scans.{Scans}
 use Rattle.hs_scan.specs.Scratches.{stand_of}
 use Rattle.hs_scan.proofs.BlockLemmas.{takes-as, takes-none}

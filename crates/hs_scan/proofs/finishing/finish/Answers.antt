@@ -10,7 +10,7 @@ use Rattle.hs_reports.specs.Events.{Through}
 use Rattle.hs_reports.specs.Identifiers.{numbers_of}
 use Rattle.hs_reports.proofs.EventLemmas.{through-join}
 use Rattle.hs_scan.specs.Asking.{AsksEnds}
-use Rattle.hs_scan.specs.Finishing.{due_at_end}
+use Rattle.hs_keeping.specs.Finishing.{due_at_end}
 use Rattle.hs_scan.specs.Hits.{HasNowhere}
 use Rattle.hs_keeping.specs.Keeping.{AreRead}
 use Rattle.hs_scan.proofs.FeedLemmas.{finishes-alike}

@@ -8,7 +8,7 @@ use Rattle.hs_scan.specs.declared.course.Course.{Course}
 use Rattle.hs_scan.specs.Scans.{stand}
 use Rattle.hs_scan.specs.Writing.{LeavesToEnd}
 use Rattle.hs_nodes.specs.Walks.{AreNodesWell}
-use Rattle.hs_scan.specs.Knowing.{IsPending}
+use Rattle.hs_keeping.specs.Knowing.{IsPending}
 use Rattle.hs_scan.proofs.BetweenLemmas.{between-kept}
 use Rattle.hs_scan.proofs.last_byte.scan_line_feed.Goals as goal
 

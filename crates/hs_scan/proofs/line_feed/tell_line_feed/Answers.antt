@@ -6,7 +6,8 @@ use Rattle.hs_reports.specs.Settlement.{SettlesBlock}
 use Rattle.hs_reports.specs.Tellings.{pairs_of_tellings}
 use Rattle.hs_scan.specs.Telling.{TellsBlock}
 use Rattle.hs_nodes.specs.Gathering.{AreGathered}
-use Rattle.hs_scan.specs.Writing.{AreLeftByLineFeed, LeavesLineFeed}
+use Rattle.hs_keeping.specs.Leaving.{AreLeftByLineFeed}
+use Rattle.hs_scan.specs.Writing.{LeavesLineFeed}
 use Rattle.hs_scan.proofs.BlockLemmas.{block-tells}
 use Rattle.hs_nodes.proofs.FillLemmas.{whole}
 use Rattle.hs_scan.proofs.LineFeedLemmas.{block-first, line_feed-leaves}
@@ -20,7 +21,7 @@ returns-clause-told g c =
     let bytes = chunk.bytes.now in
     let s = c.args.scratch.now in
     let known = s.course.known in
-    let then = c.settle_known.new.known in
+    let then = c.settle.new.self in
     let table = c.gather_block.new.table in
     let all = c.args.all.now in
     let ids_is : c.deref-3.result.now ≡ graph.identifiers.items = c.deref-3.ensures.value in
@@ -34,9 +35,9 @@ returns-clause-told g c =
       holds =
           subst (λ n. TellsBlock m graph bytes chunk.at s.ends.items all 0 known.told.items known.here.items then.told.items then.here.items (pairs_of_tellings then.tellings n 1)) (sym at_is)
           (block-tells m graph c.requires.sound bytes chunk.at s.ends.items all known.told.items known.here.items then.told.items then.here.items 0 table then.tellings 1
-          (omega arith) (omega (arith, one)) size (omega (arith, size)) gathered (subst (λ xs. SettlesBlock xs 1 table known.told.items known.here.items then.told.items then.here.items then.tellings) ids_is c.settle_known.ensures.settled.settles)
-          (subst (λ xs. Each (λ id. IsMember id (numbers_of xs)) (id_numbers then.tellings.ids)) ids_is c.settle_known.ensures.settled.named)
-          (λ p set. c.gather_block.ensures.noted p (c.requires.pending.pending p set)) c.settle_known.ensures.settled.keeps);
+          (omega arith) (omega (arith, one)) size (omega (arith, size)) gathered (subst (λ xs. SettlesBlock xs 1 table known.told.items known.here.items then.told.items then.here.items then.tellings) ids_is c.settle.ensures.settled.settles)
+          (subst (λ xs. Each (λ id. IsMember id (numbers_of xs)) (id_numbers then.tellings.ids)) ids_is c.settle.ensures.settled.named)
+          (λ p set. c.gather_block.ensures.noted p (c.requires.pending.pending p set)) c.settle.ensures.settled.keeps);
     }
 
 pub returns-clause-left : goal.returns-clause-left

@@ -2,7 +2,7 @@ use Rattle.std.proofs.Common.{◌≡◌, ◌≤◌, ◌-◌, length, refl, sym, 
 use Rattle.std.specs.Prelude.{slice_range}
 use Rattle.hs_base.proofs.RegionLemmas.{range-size}
 use Rattle.hs_keeping.specs.Keeping.{AreRead}
-use Rattle.hs_scan.specs.Knowing.{FitsKnown}
+use Rattle.hs_keeping.specs.Knowing.{FitsKnown}
 use Rattle.hs_scan.proofs.writing.begin_write.Goals as goal
 
 pub copy_from_slice-requires : goal.copy_from_slice-requires
@@ -15,19 +15,19 @@ copy_from_slice-requires g c =
 pub returns : goal.returns
 returns g c =
     let room = c.requires.room in
-    let known = c.begin_known.new.known in
+    let known = c.begin.new.self in
     let identifiers = c.args.graph.now.identifiers.items in
     record {
       room = record {
         room = room.room;
         hits = room.hits;
-        known = subst (λ xs. FitsKnown (length xs) known) c.deref.ensures.value c.begin_known.ensures.fits;
+        known = subst (λ xs. FitsKnown (length xs) known) c.deref.ensures.value c.begin.ensures.fits;
         finals = room.finals;
         last = room.last;
         past = c.copy_from_slice.ensures.len ∙ room.past;
       };
-      pending = c.begin_known.ensures.pending;
-      read = subst (λ xs. AreRead c.args.layout.now c.args.region.now xs known.told.items known.here.items) c.deref.ensures.value c.begin_known.ensures.read;
+      pending = c.begin.ensures.pending;
+      read = subst (λ xs. AreRead c.args.layout.now c.args.region.now xs known.told.items known.here.items) c.deref.ensures.value c.begin.ensures.read;
       at_is = c.offset-scratch.ensures;
       past = c.copy_from_slice.ensures.after ∙ c.history.ensures;
       hits = refl;

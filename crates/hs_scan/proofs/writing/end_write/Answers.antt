@@ -13,20 +13,18 @@ returns g c =
     let s = c.args.scratch.now in
     let fits = c.requires.fits in
     let r0 = c.args.region.now in
-    let r1 = c.write_rows.new.region in
+    let r1 = c.write.new.region in
     let r4 = c.set_offset.new.region in
     let known = s.course.known in
     let read =
-    subst (λ xs. AreRead l r1 xs known.told.items known.here.items) c.deref.ensures.value
-    (subst (λ told. AreRead l r1 c.deref.result.now told known.here.items) c.deref-2.ensures.value
-    (subst (λ here. AreRead l r1 c.deref.result.now c.deref-2.result.now here) c.deref-3.ensures.value c.write_rows.ensures.read)) in
+    subst (λ xs. AreRead l r1 xs known.told.items known.here.items) c.deref.ensures.value c.write.ensures.read in
     let last =
-    subst (λ xs. AreLast l r1 xs s.last.items) c.deref.ensures.value (subst (λ row. AreLast l r1 c.deref.result.now row) c.deref-4.ensures.value c.write_rows.ensures.last) in
+    subst (λ xs. AreLast l r1 xs s.last.items) c.deref.ensures.value (subst (λ row. AreLast l r1 c.deref.result.now row) c.deref-2.ensures.value c.write.ensures.last) in
     let writes : AreWrites graph l r0 r1 c.copy_fields.new.region c.set_history.new.region r4 s.past (to_le_bytes w64 s.at) = record {
       sized = c.requires.sized;
       room = omega arith;
       header = fits.apart.header;
-      bits = c.write_rows.ensures.written;
+      bits = c.write.ensures.written;
       copies = c.copy_fields.ensures;
       third = c.set_history.ensures.written;
       wide = c.requires.room.past;

@@ -1,9 +1,0 @@
-use Rattle.std.proofs.Common.{◌≡◌, length}
-use Rattle.hs_scan.proofs.LastLemmas.{AreLeftTo}
-use Rattle.hs_scan.proofs.line_feed.fill_last.Given as goal
-
-abbrev pub invariant-loop-p : goal.invariant-loop-p
-invariant-loop-p l = record {
-  len : length l.last ≡ length l.fn.last;
-  left : AreLeftTo l.identifiers l.known.told.items l.known.here.items l.known.ends l.finals l.last l.p;
-}
