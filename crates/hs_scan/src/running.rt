@@ -32,8 +32,13 @@ fn spent_in<'l, 't, 'c, 'b, 'p>(
     ensures fewer { (k : ℕ) → spent_in lone.now told.now chunk.now.bytes.now k ≡ false →
         is_spent_node lone.now result.told.now k ≡ false }
 {
-    let is_short = lone.is_empty() || chunk.bytes.len() < BLOCK_BYTES;
-    let told = if is_short { &[] } else { told };
+    if lone.is_empty() || chunk.bytes.len() < BLOCK_BYTES {
+        return Spent {
+            lone,
+            told: &[],
+            chunk,
+        };
+    }
     Spent { lone, told, chunk }
 }
 

@@ -3,7 +3,11 @@ use Rattle.hs_nodes.proofs.FillLemmas.{whole}
 use Rattle.hs_nodes.proofs.SettleLemmas.{resting-may, resting-stay}
 use Rattle.hs_nodes.proofs.TickLemmas.{nodes-most}
 use Rattle.hs_nodes.proofs.WakeLemmas.{resting-more}
+use Rattle.hs_nodes.specs.declared.chunk.Chunk.{Chunk}
 use Rattle.hs_nodes.specs.declared.hits.ChunkHits.{ChunkHits}
+use Rattle.hs_nodes.specs.Resting.{AreNodesUnwoken}
+use Rattle.hs_nodes.specs.Cached.{TellsNodes}
+use Rattle.hs_nodes.specs.Starting.{AreStartsEnough}
 use Rattle.hs_nodes.specs.Walks.{ChangesMarked, MayNodesRest, TakesNodes}
 use Rattle.hs_nodes.specs.Lone.{is_spent_node}
 use Rattle.hs_nodes.specs.Openings.{AreOthersSound, is_passed}
@@ -33,7 +37,16 @@ walk-requires-clause-rests g c =
     let same : c.sought_hits.result.now ≡ hits = c.sought_hits.ensures ∙ ap (sought c.args.are_over graph.openings) c.deref-2.ensures.value in
     let rests = resting-more m graph.table (length graph.table.nodes.items) s.course.marks c.wake.new.marks c.args.region.now c.wake.ensures.more c.requires.before.resting in
     subst (λ hs. MayNodesRest m graph.table c.wake.new.marks hs c.args.region.now c.args.chunk.now.prev bytes) (sym same)
-    (resting-may m graph.table c.wake.new.marks hits c.args.region.now bytes c.args.chunk.now.prev c.requires.small rests (c.wake.ensures.unwoken hits (λ k none. sought-nowhere c.args.are_over graph.openings s.hits.items k (c.requires.others k none))))
+    (resting-may m graph.table c.wake.new.marks hits c.args.region.now bytes c.args.chunk.now.prev c.requires.small rests (subst (λ (chunk : Chunk). AreNodesUnwoken m graph.table c.wake.new.marks hits chunk.prev chunk.bytes.now) c.spent_in-spent.ensures.chunk
+    (c.wake.ensures.unwoken hits (λ k none. sought-nowhere c.args.are_over graph.openings s.hits.items k (c.requires.others k none)))))
+
+pub walk-requires-clause-told : goal.walk-requires-clause-told
+walk-requires-clause-told g c =
+    subst (λ (chunk : Chunk). TellsNodes g.E.Engine.meaning c.args.graph.now.table c.wake.new.cache c.args.region.now chunk.prev chunk.bytes.now) c.spent_in-spent.ensures.chunk c.wake.ensures.told
+
+pub walk-requires-clause-starts : goal.walk-requires-clause-starts
+walk-requires-clause-starts g c =
+    subst (λ (chunk : Chunk). AreStartsEnough g.E.Engine.meaning c.args.graph.now.table c.wake.new.cache c.wake.new.starts chunk.prev chunk.bytes.now) c.spent_in-spent.ensures.chunk c.wake.ensures.starts
 
 pub walk-requires-clause-others : goal.walk-requires-clause-others
 walk-requires-clause-others g c =
@@ -98,12 +111,12 @@ returns-clause-takes g c =
     let now : ends ≡ left = whole left s.ends.items s.ends.len len (omega (arith, s.ends.ok)) in
     let hits = sought c.args.are_over graph.openings s.hits.items in
     let same : c.sought_hits.result.now ≡ hits = c.sought_hits.ensures ∙ ap (sought c.args.are_over graph.openings) c.deref-2.ensures.value in
-    let told = c.spent_in.result.told.now in
+    let told = c.spent_in-spent.result.told.now in
     let lone = c.args.lone.now in
     let spent = is_spent_node lone told in
     let fewer = spent_in lone s.course.known.told.items bytes in
-    let walked = subst (λ l. TakesNodes m graph.table (is_spent_node l told) c.args.region.now c.walk.new.region chunk.prev chunk.at chunk.past.now bytes c.sought_hits.result.now left) c.spent_in.ensures.lone c.walk.ensures.takes in
+    let walked = subst (λ l. TakesNodes m graph.table (is_spent_node l told) c.args.region.now c.walk.new.region chunk.prev chunk.at chunk.past.now bytes c.sought_hits.result.now left) c.spent_in-spent.ensures.lone c.walk.ensures.takes in
     let took = subst (λ es. TakesNodes m graph.table spent c.args.region.now c.walk.new.region chunk.prev chunk.at chunk.past.now bytes c.sought_hits.result.now es) (sym now) walked in
     takes-fewer m graph.table spent fewer chunk.at c.args.region.now c.walk.new.region chunk.prev chunk.past.now bytes hits ends
-    (λ k asked_for. c.spent_in.ensures.fewer k (subst (λ ws. spent_in lone ws bytes k ≡ false) (sym c.deref.ensures.value) asked_for))
+    (λ k asked_for. c.spent_in-spent.ensures.fewer k (subst (λ ws. spent_in lone ws bytes k ≡ false) (sym c.deref.ensures.value) asked_for))
     (subst (λ hs. TakesNodes m graph.table spent c.args.region.now c.walk.new.region chunk.prev chunk.at chunk.past.now bytes hs ends) same took)
