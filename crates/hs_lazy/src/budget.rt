@@ -18,6 +18,9 @@ const MOST_CREDIT: u32 = 65536;
 /// After how many chunks in turn that were taken in vain an automaton rests.
 const MOST_VAIN: u32 = 64;
 
+/// With how many members it doesn't rest so: to ask for each of as many takes longer than its steps.
+const MANY_MEMBERS: usize = 32;
+
 /// After how many chunks in turn of which many bytes left members those are given up that were left most.
 const MOST_NOISY: u32 = 16;
 
@@ -72,8 +75,9 @@ impl Budget {
         self.credit == 0
     }
 
-    /// Gives what a chunk earns that was taken, and begins a rest where too many were taken in vain.
-    pub(crate) fn earn(&mut self, in_vain: bool)
+    /// Gives what a chunk earns that was taken by so many members, and begins a rest where these are few and too many
+    /// chunks were taken in vain.
+    pub(crate) fn earn(&mut self, in_vain: bool, members: usize)
         ensures { in_vain ≡ false → self.new.rest ≡ self.old.rest }
     {
         self.credit = self.credit.saturating_add(CHUNK_CREDIT).min(MOST_CREDIT);
@@ -82,7 +86,7 @@ impl Budget {
             return;
         }
         self.vain = self.vain.saturating_add(1);
-        if self.vain >= MOST_VAIN {
+        if self.vain >= MOST_VAIN && members < MANY_MEMBERS {
             self.begin_rest();
         }
     }

@@ -47,7 +47,7 @@ pub fn run_dfa<E: TimelessEngine>(
     if run.is_done {
         let is_noisy = has_many_ends(&run.trace, bytes.len());
         let in_vain = is_noisy || dfa.is_idle(run.state);
-        dfa.budget.earn(in_vain);
+        dfa.budget.earn(in_vain, dfa.members.len());
         if dfa.budget.hear(is_noisy) {
             dfa.noisy = run.ends.often_left(bytes.len() as u32 / NOISY_PART);
         }
