@@ -1,4 +1,4 @@
-use Rattle.std.proofs.Common.{replicate, sym, ◌∙◌}
+use Rattle.std.proofs.Common.{sym, ◌∙◌}
 use Rattle.hs_base.proofs.BitLemmas.{zero-bits}
 use Rattle.hs_bits.proofs.WordLemmas.{zero-row}
 use Rattle.hs_block.proofs.RunLemmas.{blank-zero}

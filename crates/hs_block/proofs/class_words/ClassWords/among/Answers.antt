@@ -1,7 +1,6 @@
 use Rattle.std.proofs.Common.{◌&&◌, [], ap, sym, ◌∙◌}
 use Rattle.std.specs.Prelude.{slice_index}
 use Rattle.std.proofs.lemmas.Option.{slice_get-get_or}
-use Rattle.hs_base.specs.declared.byte_set.ByteSet.{ByteSet}
 use Rattle.hs_engine.specs.Automata.{in_set}
 use Rattle.hs_bits.specs.WordBits.{word_bit}
 use Rattle.hs_bits.proofs.PlaceLemmas.{bit-both}
