@@ -308,8 +308,8 @@ impl Streams {
         self.take::<L, MAX_WIDTH, MAX_STREAMS>(region, setting, whole, count, first, steps)
     }
 
-    /// Takes them by rows of just so many words, or of as many as there may be. The places are told at which the expression
-    /// is entered and whose bytes may be the first ones of a match.
+    /// Takes them by rows of just so many words, or of as many as there may be. The places are told at which the
+    /// expression is entered and whose bytes may be the first ones of a match.
     fn take<L: Ledger, const W: usize, const N: usize>(
         &self,
         region: &mut [u8],
@@ -692,8 +692,8 @@ impl Streams {
         }
     }
 
-    /// Keeps the positions that are live behind the last of so many bytes. Where there are none, as before the block, the
-    /// region stays as it is.
+    /// Keeps the positions that are live behind the last of so many bytes. Where there are none, as before the block,
+    /// the region stays as it is.
     fn keep<const W: usize>(
         &self,
         region: &mut [u8],
